@@ -1,0 +1,13 @@
+pub mod Tokens
+pub mod Reading
+pub mod Identifiers
+pub mod Trees
+pub mod Substitution
+pub mod StandardNames
+pub mod Meaning
+pub mod Cores
+pub mod Steps
+pub mod Shapes
+pub mod Expression
+pub mod UnitExpansion
+pub mod Arrows

@@ -1,0 +1,2 @@
+//! Trees of data, and the arrows of small programs.
+#![tactic(auto)]
