@@ -1,11 +1,13 @@
 -- What the walk over a small program finds: for each use the innermost binder of its symbol.
-use Rattle.std.specs.Prelude.{◌≡◌, ℕ, ◌-◌, ◌<◌, ◌≤◌, List, [], ◌∷◌, ◌++◌, true, map, take, drop, Option, Some, None, codes, if◌then◌else◌, ◌⊎◌, AllPairs, IsPermutation, slice_index_or}
+use Rattle.std.specs.Prelude.{◌≡◌, ℕ, zero, suc, ◌+◌, ◌-◌, ◌<◌, ◌≤◌, List, [], ◌∷◌, ◌++◌, true, map, take, drop, Option, Some, None, codes, if◌then◌else◌, ◌⊎◌, AllPairs, IsPermutation, slice_index_or}
 use Rattle.std.specs.Str.{bytes_eq}
 use Rattle.ls_base.specs.Positions.{position_of}
 use Rattle.ls_base.specs.declared.answers.Arrow.{Arrow}
 use Rattle.ls_base.specs.declared.places.Place.{Place}
+use Rattle.scheme_model.specs.declared.Occ.{Occ}
 use Rattle.scheme_model.specs.Tokens.{Leaf, Name, Numeral, Token, Paren}
-use Rattle.scheme_model.specs.Reading.{Datum, Data, atom, list, marked, none, datum, data_depth, IsReading}
+use Rattle.scheme_model.specs.Reading.{Datum, Data, atom, list, marked, none, datum, first_of, data_depth, IsReading}
+use Rattle.scheme_model.specs.Arrows.{Pair, program_arrows}
 use Rattle.syntax_tree.specs.Small.{Bound, bound_leaf, bound_names, is_named, definitions, is_program}
 
 -- the numbers of a binder's token and of a use's token
@@ -81,6 +83,20 @@ program_links ds = forms_links (definitions ds) ds
 abbrev pub IsBefore : Link → Link → Type 0
 IsBefore a b = (a.binder < b.binder) ⊎ ((a.binder ≡ b.binder) × (a.target < b.target))
 
+-- the number of a form's first token
+abbrev pub form_first : Data → ℕ → ℕ
+form_first none k = 0
+form_first (datum d ds) zero = first_of d
+form_first (datum d ds) (suc k) = form_first ds k
+
+-- the number of an occurrence's token in the text
+abbrev pub number_of : Data → Occ → ℕ
+number_of ds o = form_first ds o.form + o.token
+
+-- a pair of occurrences, by the numbers of their tokens
+abbrev pub link_of : Data → Pair → Link
+link_of ds p = record { binder = number_of ds p.binder; target = number_of ds p.target }
+
 -- the token with a number
 abbrev pub token_at : List Token → ℕ → Token
 token_at ts n = slice_index_or ts n (record { kind = Paren; start = 0; end = 0 })
@@ -105,5 +121,16 @@ pub record AreWalked (text : List ℕ) (arrows : List Arrow) : Type 0 where
   pub program : is_program forms ≡ true
   pub ordered : List Link
   pub same : IsPermutation (program_links forms) ordered
+  pub sorted : AllPairs IsBefore ordered
+  pub printed : arrows ≡ map (arrow_at text tokens) ordered
+
+-- the arrows of a small text: those of its program's expansion, each once, by the places of their tokens and sorted by
+-- binder and then use
+pub record HasArrows (text : List ℕ) (arrows : List Arrow) : Type 0 where
+  pub tokens : List Token
+  pub forms : Data
+  pub read : IsReading text tokens forms
+  pub ordered : List Link
+  pub same : IsPermutation (map (link_of forms) (program_arrows forms)) ordered
   pub sorted : AllPairs IsBefore ordered
   pub printed : arrows ≡ map (arrow_at text tokens) ordered
