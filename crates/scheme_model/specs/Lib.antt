@@ -11,3 +11,5 @@ pub mod Shapes
 pub mod Expression
 pub mod UnitExpansion
 pub mod Arrows
+pub mod Texts
+pub mod Session
