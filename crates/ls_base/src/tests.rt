@@ -1,7 +1,7 @@
 //! Each public call once, with its answer.
 ghost use Rattle.std.specs.Prelude.{◌≡◌, ◌<◌};
 
-use crate::{Items, Steps, Text};
+use crate::{Items, Steps, Text, split_char};
 use std::cmp::Ordering;
 use std::marker::Brand;
 use std::sync::ledger::Blank;
@@ -44,4 +44,13 @@ fn count<L: std::sync::ledger::Ledger>(blank: Blank)
 #[test]
 fn counts_a_step() {
     count::<Brand>(Blank::new(1));
+}
+
+#[test]
+fn splits_a_character_off(rt: HostRuntime) -> Result<(), Fail> {
+    let (first, rest) = split_char("λx").ok_or("none")?;
+    assert_eq!(rt; first, 'λ');
+    assert_eq!(rt; rest, "x");
+    assert!(rt; split_char("").is_none());
+    Ok(())
 }
