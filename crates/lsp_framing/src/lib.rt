@@ -1,0 +1,6 @@
+//! Bodies out of a byte stream, and frames round bodies (LSP 3.17, base protocol). It knows bytes alone: no JSON and no
+//! Scheme.
+#![tactic(auto)]
+
+mod header;
+
