@@ -1,1 +1,3 @@
 pub mod Machine
+pub mod Standing
+pub mod Taken

@@ -1,7 +1,7 @@
 -- What the machine does at each byte before a body, and what it makes of bytes.
 use Rattle.std.specs.Prelude.{ℕ, ◌+◌, nat_le, nat_lt, ◌==◌, ◌&&◌, Bool, false, List, [], ◌∷◌, Option, Some, None, Result, Ok, Err, if◌then◌else◌, slice_index, codes}
 use Rattle.std.specs.Char.{is_ascii_digit, to_ascii_lowercase}
-use Rattle.ls_base.specs.Frames.{is_name_byte, is_blank, with_digit, max_body, Fault, bad_header, no_length, bad_length, long_header, long_body}
+use Rattle.ls_base.specs.Frames.{is_name_byte, is_blank, with_digit, max_header, max_body, Fault, bad_header, no_length, bad_length, long_header, long_body}
 use Rattle.lsp_framing.specs.declared.header.Place.{Place}
 use Rattle.lsp_framing.specs.declared.header.Place.TheVariants.{Line, Name, Value, BeforeDigits, Digits, AfterDigits, LineFeed, LastLineFeed}
 use Rattle.lsp_framing.specs.declared.header.State.{State}
@@ -80,6 +80,10 @@ step (Digits length) byte = onto (in_digits length byte)
 step (AfterDigits length) byte = onto (after_digits length byte)
 step (LineFeed told) byte = onto (at_line_feed told byte)
 step (LastLineFeed length) byte = at_last_line_feed length byte
+
+-- a byte before the body, of which so many came
+abbrev pub next : Place → ℕ → ℕ → Result State Wrong
+next place count byte = if nat_lt count max_header then step place byte else Err LongHeader
 
 -- what bytes hold that follow a place: the rest of what stands before a body of this length, and what follows; a part
 -- of it; or a byte that is wrong

@@ -2,9 +2,9 @@
 ghost use Rattle.std.specs.Prelude.{◌≡◌, true};
 ghost use Rattle.std.specs.Char.{is_ascii_digit};
 ghost use Rattle.ls_base.specs.Frames.{is_name_byte, is_blank, fault_number};
-ghost use Rattle.lsp_framing.specs.Machine.{kind_of, letter, is_length, at_empty_line, at_length, at_colon, at_digit, at_line, in_name, in_value, before_digits, in_digits, after_digits, at_line_feed, at_last_line_feed, step};
+ghost use Rattle.lsp_framing.specs.Machine.{kind_of, letter, is_length, at_empty_line, at_length, at_colon, at_digit, at_line, in_name, in_value, before_digits, in_digits, after_digits, at_line_feed, at_last_line_feed, step, next};
 
-use ls_base::limits::MAX_BODY;
+use ls_base::limits::{MAX_BODY, MAX_HEADER};
 
 /// The name of the field that tells the length of a body, in small letters.
 const LENGTH_NAME: [u8; 14] = *b"content-length";
@@ -248,7 +248,7 @@ fn at_last_line_feed(length: u32, byte: u8) -> Result<State, Wrong>
 }
 
 /// Takes a byte before a body.
-pub fn step(place: Place, byte: u8) -> Result<State, Wrong>
+fn step(place: Place, byte: u8) -> Result<State, Wrong>
     ensures { result ≡ step place byte }
 {
     match place {
@@ -260,5 +260,16 @@ pub fn step(place: Place, byte: u8) -> Result<State, Wrong>
         Place::AfterDigits { length } => Ok(State::Header(after_digits(length, byte)?)),
         Place::LineFeed { told } => Ok(State::Header(at_line_feed(told, byte)?)),
         Place::LastLineFeed { length } => Ok(at_last_line_feed(length, byte)?),
+    }
+}
+
+/// Takes a byte before a body, of which this many came.
+pub fn next(place: Place, count: usize, byte: u8) -> Result<State, Wrong>
+    ensures { result ≡ next place count byte }
+{
+    if count < MAX_HEADER {
+        Ok(step(place, byte)?)
+    } else {
+        Err(Wrong::LongHeader)
     }
 }

@@ -3,4 +3,5 @@
 #![tactic(auto)]
 
 mod header;
+mod partial;
 
