@@ -1,2 +1,4 @@
 pub mod Reading
 pub mod Held
+pub mod Peels
+pub mod Streams
