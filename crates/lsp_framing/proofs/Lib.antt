@@ -2,3 +2,4 @@ pub mod Reading
 pub mod Held
 pub mod Peels
 pub mod Streams
+pub mod FirstFits
