@@ -3,3 +3,5 @@ pub mod Held
 pub mod Peels
 pub mod Streams
 pub mod FirstFits
+pub mod Stands
+pub mod Going
