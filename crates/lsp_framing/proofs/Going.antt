@@ -4,7 +4,7 @@ use Rattle.std.specs.List.{AllByRecursion}
 use Rattle.std.proofs.lemmas.List.{map-append}
 use Rattle.std.proofs.Math.Seq.{take-add}
 use Rattle.ls_base.specs.Frames.{Frame, IsFrame, stream, bodies_of}
-use Rattle.lsp_framing.specs.Standing.{kept_bytes}
+use Rattle.lsp_framing.specs.Standing.{Stands, kept_bytes}
 use Rattle.lsp_framing.specs.Taken.{Goes}
 use Rattle.lsp_framing.specs.declared.partial.Partial.{Partial}
 use Rattle.lsp_framing.proofs.Streams.{stream_append}
@@ -19,6 +19,14 @@ stream_both (f ∷ fs) gs x = ap (λ (q : List ℕ). f.header ++ (f.body ++ q)) 
 
 pub bodies_both : (fs gs : List Frame) → bodies_of (fs ++ gs) ≡ bodies_of fs ++ bodies_of gs
 bodies_both fs gs = map-append (λ f. f.body) fs gs
+
+-- a whole body is given
+pub given : (old new : Partial) (body : List ℕ) → IsFrame (record { header = old.header.items; body = body }) → body ≡ old.body.items → Stands new → kept_bytes new ≡ [] → Goes old [] (record { header = old.header.items; body = body } ∷ []) new
+given old new body f e s none = record {
+  each = (f, tt);
+  text = append-nil (kept_bytes old) ∙ ap (λ (q : List ℕ). old.header.items ++ q) (sym e ∙ sym (append-nil body) ∙ ap (λ (q : List ℕ). body ++ q) (sym none));
+  stands = s;
+}
 
 -- after some bytes, and a few more that may complete a frame
 pub goes_on : (old mid full new : Partial) (more few : List ℕ) (gs hs : List Frame) → Goes old more gs mid → kept_bytes full ≡ kept_bytes mid ++ few → Goes full [] hs new → Goes old (more ++ few) (gs ++ hs) new

@@ -67,6 +67,7 @@ impl Partial {
     }
 
     /// How many bytes are kept.
+    #[tactic(auto, using(crate::proofs::Stands::kept_most))]
     pub fn kept(&self) -> u32
         requires { Stands self.now }
         ensures size { result ≡ length (kept_bytes self.now) }
