@@ -5,3 +5,5 @@ pub mod Streams
 pub mod FirstFits
 pub mod Stands
 pub mod Going
+pub mod Feeding
+pub mod One

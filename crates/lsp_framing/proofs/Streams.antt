@@ -52,7 +52,7 @@ not_empty f x a e = let w = sym (at_header f.header x (length f.body) a) ∙ ap 
 abbrev pub NoFrame : List ℕ → Type 0
 NoFrame tail = (f : Frame) (more : List ℕ) → IsFrame f → tail ≡ f.header ++ (f.body ++ more) → ⊥
 
-longest : (tail : List ℕ) (fs others : List Frame) (more : List ℕ) → NoFrame tail → AllByRecursion IsFrame fs → AllByRecursion IsFrame others → stream fs tail ≡ stream others more → length others ≤ length fs
+pub longest : (tail : List ℕ) (fs others : List Frame) (more : List ℕ) → NoFrame tail → AllByRecursion IsFrame fs → AllByRecursion IsFrame others → stream fs tail ≡ stream others more → length others ≤ length fs
 longest tail fs [] more n a b e = omega arith
 longest tail [] (f ∷ os) more n a b e = absurd (n f (stream os more) b.0 e)
 longest tail (g ∷ gs) (f ∷ os) more n a b e =
