@@ -7,3 +7,4 @@ pub mod Stands
 pub mod Going
 pub mod Feeding
 pub mod One
+pub mod FeedLaws

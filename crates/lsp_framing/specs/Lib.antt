@@ -1,3 +1,5 @@
 pub mod Machine
 pub mod Standing
 pub mod Taken
+pub mod Deframed
+pub mod Feeds

@@ -2,6 +2,9 @@
 //! Scheme.
 #![tactic(auto)]
 
+mod deframer;
 mod header;
 mod partial;
+
+pub use deframer::{Deframer, FrameFault};
 
