@@ -49,13 +49,13 @@ pub data Field : Type 0 where
 
 -- a field as it is written, with a colon and a line end, and what follows it
 abbrev pub field_text : Field → List ℕ → List ℕ
-field_text (other name value) rest = name ++ (58 ∷ (value ++ (13 ∷ 10 ∷ rest)))
-field_text (sized name left digits right) rest = name ++ (58 ∷ (left ++ (digits ++ (right ++ (13 ∷ 10 ∷ rest)))))
+field_text (other name value) after = name ++ (58 ∷ (value ++ (13 ∷ 10 ∷ after)))
+field_text (sized name left digits right) after = name ++ (58 ∷ (left ++ (digits ++ (right ++ (13 ∷ 10 ∷ after)))))
 
 -- fields as they are written, and what follows them
 abbrev pub fields_text : List Field → List ℕ → List ℕ
-fields_text [] rest = rest
-fields_text (f ∷ fs) rest = field_text f (fields_text fs rest)
+fields_text [] after = after
+fields_text (f ∷ fs) after = field_text f (fields_text fs after)
 
 -- a field that is passed over
 abbrev pub IsOther : List ℕ → List ℕ → Type 0
@@ -96,8 +96,8 @@ IsFrameOf bytes body = (header : List ℕ) × IsFrame (record { header = header;
 
 -- the bytes of frames, and what follows them
 abbrev pub stream : List Frame → List ℕ → List ℕ
-stream [] rest = rest
-stream (f ∷ fs) rest = f.header ++ (f.body ++ stream fs rest)
+stream [] after = after
+stream (f ∷ fs) after = f.header ++ (f.body ++ stream fs after)
 
 -- the bodies of frames
 abbrev pub bodies_of : List Frame → List (List ℕ)
@@ -118,9 +118,9 @@ pub record IsGood (bytes : List ℕ) : Type 0 where
   pub limit : WithinLimit frames bytes
 
 -- these are the whole frames that the bytes begin with, as many as there are, and this follows them
-pub record IsWhole (bytes : List ℕ) (frames : List Frame) (rest : List ℕ) : Type 0 where
+pub record IsWhole (bytes : List ℕ) (frames : List Frame) (after : List ℕ) : Type 0 where
   pub each : AllByRecursion IsFrame frames
-  pub begins : bytes ≡ stream frames rest
+  pub begins : bytes ≡ stream frames after
   pub longest : (others : List Frame) (more : List ℕ) → AllByRecursion IsFrame others → bytes ≡ stream others more → length others ≤ length frames
 
 -- what may be wrong with a byte

@@ -8,7 +8,7 @@ use Rattle.lsp_framing.specs.Standing.{kept_bytes}
 use Rattle.lsp_framing.specs.Taken.{Goes, Breaks}
 use Rattle.lsp_framing.specs.declared.header.Wrong.{Wrong}
 use Rattle.lsp_framing.specs.declared.partial.Partial.{Partial}
-use Rattle.lsp_framing.proofs.Streams.{stream_append, starts, good_front, good_before, NoFrame, longest, below, above}
+use Rattle.lsp_framing.proofs.Streams.{stream_append, starts, good_start, good_front, good_before, NoFrame, longest, below, above}
 use Rattle.lsp_framing.proofs.Stands.{stands_rest, refused_fault}
 use Rattle.lsp_framing.proofs.Going.{each_append, stream_both, bodies_both}
 
@@ -40,7 +40,7 @@ wrong_law past piece bodies at w gs old x l g =
     (subst (λ (q : List ℕ). IsFrames q (bodies_of (fs ++ gs)) (fault (kind_of w) (length (past ++ front)))) text f))
 
 good_frame : (f : Frame) → IsFrame f → IsGood (f.header ++ (f.body ++ []))
-good_frame f a = good_front (f ∷ []) [] (a, tt) (record { frames = []; more = []; each = tt; begins = refl; limit = tt })
+good_frame f a = good_front (f ∷ []) [] (a, tt) good_start
 
 -- how many bytes there are up to a fault, and after it
 pub fault_size : (past : List ℕ) (fs : List Frame) (kind : Fault) (at : ℕ) (y : IsFault past fs kind at) → length past ≡ at + suc (length y.after)

@@ -8,3 +8,5 @@ pub mod Going
 pub mod Feeding
 pub mod One
 pub mod FeedLaws
+pub mod Written
+pub mod Every

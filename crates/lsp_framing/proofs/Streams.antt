@@ -52,6 +52,12 @@ not_empty f x a e = let w = sym (at_header f.header x (length f.body) a) ∙ ap 
 abbrev pub NoFrame : List ℕ → Type 0
 NoFrame tail = (f : Frame) (more : List ℕ) → IsFrame f → tail ≡ f.header ++ (f.body ++ more) → ⊥
 
+pub no_frame : NoFrame []
+no_frame f more a e = not_empty f (f.body ++ more) a.0 (sym e)
+
+pub good_start : IsGood []
+good_start = record { frames = []; more = []; each = tt; begins = refl; limit = tt }
+
 pub longest : (tail : List ℕ) (fs others : List Frame) (more : List ℕ) → NoFrame tail → AllByRecursion IsFrame fs → AllByRecursion IsFrame others → stream fs tail ≡ stream others more → length others ≤ length fs
 longest tail fs [] more n a b e = omega arith
 longest tail [] (f ∷ os) more n a b e = absurd (n f (stream os more) b.0 e)

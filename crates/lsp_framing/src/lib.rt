@@ -5,6 +5,8 @@
 mod deframer;
 mod header;
 mod partial;
+mod writing;
 
 pub use deframer::{Deframer, FrameFault};
+pub use writing::frame;
 
