@@ -10,3 +10,4 @@ pub mod One
 pub mod FeedLaws
 pub mod Written
 pub mod Every
+pub mod Cuts

@@ -3,3 +3,4 @@ pub mod Standing
 pub mod Taken
 pub mod Deframed
 pub mod Feeds
+pub mod Runs

@@ -4,6 +4,7 @@
 
 mod deframer;
 mod header;
+pub mod laws;
 mod partial;
 mod writing;
 
