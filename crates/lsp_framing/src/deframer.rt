@@ -114,7 +114,7 @@ impl Deframer {
     {
         let start = self.taken;
         self.taken = start + piece.len() as u64;
-        let alloc = self.partial.alloc();
+        let alloc = self.partial.alloc;
         if let Some(halt) = self.halt {
             return Err(halt.again(alloc));
         }

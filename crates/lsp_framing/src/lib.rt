@@ -11,3 +11,6 @@ mod writing;
 pub use deframer::{Deframer, FrameFault};
 pub use writing::frame;
 
+
+#[cfg(test)]
+mod tests;

@@ -15,7 +15,7 @@ use std::mem;
 /// The bytes of a frame that isn't whole.
 #[derive(Drop)]
 pub struct Partial {
-    alloc: Global,
+    pub alloc: Global,
     /// What came before the body, with the empty line.
     header: Vec<u8>,
     state: State,
@@ -74,11 +74,6 @@ impl Partial {
         ensures most { result < 8392704 }
     {
         self.header.len() as u32 + self.body.len() as u32
-    }
-
-    /// What it takes its memory from.
-    pub fn alloc(&self) -> Global {
-        self.alloc
     }
 
     /// Takes a byte before the body, which stands here in the piece.
