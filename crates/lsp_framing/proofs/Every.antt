@@ -36,27 +36,32 @@ not_less m n h = grind (arith, nat_tests)
 
 -- a frame whose body may be whole
 close_body : (b : Bool) (past : List ℕ) (fs : List Frame) (n : ℕ) (header body : List ℕ) → AllByRecursion IsFrame fs → past ≡ stream fs (header ++ body) → OpenIn (Body n) header body → nat_lt (length body) n ≡ b → (t : State) × At past t
-close_body true past fs n header body a e o l = (Body n, record {
-  frames = fs;
-  header = header;
-  body = body;
-  each = a;
-  begins = e;
-  stands = (o.0, o.1, less (length body) n l);
-})
+close_body true past fs n header body a e o l = (
+  Body n,
+  record {
+    frames = fs;
+    header = header;
+    body = body;
+    each = a;
+    begins = e;
+    stands = (o.0, o.1, less (length body) n l);
+  },
+)
 close_body false past fs n header body a e o l =
     let long = not_less (length body) n l in
     let short = o.2 in
     let size : n ≡ length body = omega arith in
-    let f : Frame = record { header = header; body = body } in
-    (Header (Line None), record {
-      frames = fs ++ f ∷ [];
-      header = [];
-      body = [];
-      each = each_append IsFrame fs (f ∷ []) a ((subst (IsHeader header) size o.0, o.1), tt);
-      begins = e ∙ ap (λ (q : List ℕ). stream fs (header ++ q)) (sym (append-nil body)) ∙ sym (stream_both fs (f ∷ []) []);
-      stands = nothing;
-    })
+    let f : Frame = record { header = header; body = body } in (
+      Header (Line None),
+      record {
+        frames = fs ++ f ∷ [];
+        header = [];
+        body = [];
+        each = each_append IsFrame fs (f ∷ []) a ((subst (IsHeader header) size o.0, o.1), tt);
+        begins = e ∙ ap (λ (q : List ℕ). stream fs (header ++ q)) (sym (append-nil body)) ∙ sym (stream_both fs (f ∷ []) []);
+        stands = nothing;
+      },
+    )
 
 close : (past : List ℕ) (fs : List Frame) (s : State) (header body : List ℕ) → AllByRecursion IsFrame fs → past ≡ stream fs (header ++ body) → OpenIn s header body → (t : State) × At past t
 close past fs (Header p) header body a e o = (Header p, record { frames = fs; header = header; body = body; each = a; begins = e; stands = o })

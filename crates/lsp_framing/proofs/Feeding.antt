@@ -95,13 +95,17 @@ more_whole past more fs kind at y =
 -- a fault stays, whatever comes
 pub fault_stays : (past more : List ℕ) (bodies : List (List ℕ)) (kind : Fault) (at : ℕ) → IsFrames past bodies (fault kind at) → IsFrames (past ++ more) bodies (fault kind at)
 fault_stays past more bodies kind at x =
-    let y = x.2 in (x.0, x.1, record {
-      part = y.part;
-      byte = y.byte;
-      after = y.after ++ more;
-      whole = more_whole past more x.0 kind at y;
-      place = y.place;
-      good = y.good;
-      longest = λ front m k g. good_still (nat_le (length front) (length past)) past more x.0 kind at y front m k g refl;
-      kind_is = y.kind_is;
-    })
+    let y = x.2 in (
+      x.0,
+      x.1,
+      record {
+        part = y.part;
+        byte = y.byte;
+        after = y.after ++ more;
+        whole = more_whole past more x.0 kind at y;
+        place = y.place;
+        good = y.good;
+        longest = λ front m k g. good_still (nat_le (length front) (length past)) past more x.0 kind at y front m k g refl;
+        kind_is = y.kind_is;
+      },
+    )

@@ -238,14 +238,18 @@ good_within false past longer c after more h e g n =
 -- whole frames, a part of one, and a byte that can't follow
 pub fault_law : (past : List ℕ) (fs : List Frame) (header : List ℕ) (c : ℕ) (kind : Fault) (after : List ℕ) → AllByRecursion IsFrame fs → past ≡ stream fs header → NoFrame (header ++ (c ∷ after)) → IsGood header
     → (IsGood (header ++ c ∷ []) → ⊥) → FirstFit fault_order header c kind → IsFrames (past ++ (c ∷ after)) (bodies_of fs) (fault kind (length past))
-fault_law past fs header c kind after a e n g b f = (fs, refl, record {
-  part = header;
-  byte = c;
-  after = after;
-  whole = whole_of (past ++ (c ∷ after)) fs (header ++ (c ∷ after)) a (ap (λ (q : List ℕ). q ++ (c ∷ after)) e ∙ stream_append fs header (c ∷ after)) n;
-  place = ap length e;
-  good = good_front fs header a g;
-  longest = λ front more k good. good_within (nat_le (length front) (length past)) past front c after more refl k good
-      (λ x. bad_front fs (header ++ c ∷ []) a b (subst IsGood (ap (λ (q : List ℕ). q ++ c ∷ []) e ∙ stream_append fs header (c ∷ [])) x));
-  kind_is = f;
-})
+fault_law past fs header c kind after a e n g b f = (
+  fs,
+  refl,
+  record {
+    part = header;
+    byte = c;
+    after = after;
+    whole = whole_of (past ++ (c ∷ after)) fs (header ++ (c ∷ after)) a (ap (λ (q : List ℕ). q ++ (c ∷ after)) e ∙ stream_append fs header (c ∷ after)) n;
+    place = ap length e;
+    good = good_front fs header a g;
+    longest = λ front more k good. good_within (nat_le (length front) (length past)) past front c after more refl k good
+        (λ x. bad_front fs (header ++ c ∷ []) a b (subst IsGood (ap (λ (q : List ℕ). q ++ c ∷ []) e ∙ stream_append fs header (c ∷ [])) x));
+    kind_is = f;
+  },
+)

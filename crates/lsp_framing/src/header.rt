@@ -28,24 +28,36 @@ pub enum Wrong {
 #[derive(Clone, Copy)]
 pub enum Place {
     /// At the first byte of a line.
-    Line { told: Option<u32> },
+    Line {
+        told: Option<u32>,
+    },
     /// In a name. `spelled` bytes of it spell the length's name, or one differed.
     Name {
         told: Option<u32>,
         spelled: Option<usize>,
     },
     /// In the value of a field that is passed over.
-    Value { told: Option<u32> },
+    Value {
+        told: Option<u32>,
+    },
     /// Before the first digit of a length.
     BeforeDigits,
     /// After a digit of a length, which is this so far.
-    Digits { length: u32 },
+    Digits {
+        length: u32,
+    },
     /// After a blank behind a length.
-    AfterDigits { length: u32 },
+    AfterDigits {
+        length: u32,
+    },
     /// At the line feed of a field.
-    LineFeed { told: Option<u32> },
+    LineFeed {
+        told: Option<u32>,
+    },
     /// At the line feed of the empty line.
-    LastLineFeed { length: u32 },
+    LastLineFeed {
+        length: u32,
+    },
 }
 
 /// What the next byte of a frame belongs to.

@@ -10,8 +10,7 @@ pub fn one_reading()
     ensures some { (bytes : List ℕ) → (bodies : List (List ℕ)) × (end : End) × IsFrames bytes bodies end }
     ensures only { (bytes : List ℕ) (bodies others : List (List ℕ)) (end other : End) →
         IsFrames bytes bodies end → IsFrames bytes others other → (bodies ≡ others) × (end ≡ other) }
-{
-}
+{}
 
 /// However a stream is cut into pieces, its bodies, its rest and its fault are the same.
 pub fn any_cut()
@@ -22,12 +21,10 @@ pub fn any_cut()
     // Deframers that took the same bytes gave the same bodies and are alike.
     ensures same { (past : List ℕ) (bodies others : List (List ℕ)) (one other : Deframed) →
         After past bodies one → After past others other → (bodies ≡ others) × (one ≡ other) }
-{
-}
+{}
 
 /// Frames that are written one after another are read again.
 pub fn written_again()
     ensures { (bodies : List (List ℕ)) → AllByRecursion (λ body. length body ≤ max_body) bodies →
         IsFrames (flat_map frame_text bodies) bodies (rest []) }
-{
-}
+{}

@@ -11,6 +11,5 @@ mod writing;
 pub use deframer::{Deframer, FrameFault};
 pub use writing::frame;
 
-
 #[cfg(test)]
 mod tests;

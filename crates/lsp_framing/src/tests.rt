@@ -31,12 +31,7 @@ fn keep(seen: &mut Seen, items: Items<Vec<u8>>) -> Result<(), Fail> {
 }
 
 /// Feeds a piece. After a fault the same fault has to come again, with no bodies.
-fn feed(
-    rt: &impl Abort,
-    deframer: &mut Deframer,
-    piece: &[u8],
-    seen: &mut Seen,
-) -> Result<(), Fail>
+fn feed(rt: &impl Abort, deframer: &mut Deframer, piece: &[u8], seen: &mut Seen) -> Result<(), Fail>
     requires { deframer.old.taken + length piece.now < 2 ^ 64 }
     ensures { deframer.new.taken ≡ deframer.old.taken + length piece.now }
 {
@@ -46,11 +41,13 @@ fn feed(
             keep(seen, items)
         }
         Err(FrameFault::Memory) => Err(Fail::new("memory ran out")),
-        Err(FrameFault::At {
-            number,
-            offset,
-            done,
-        }) => {
+        Err(
+            FrameFault::At {
+                number,
+                offset,
+                done,
+            },
+        ) => {
             if let Some(fault) = seen.fault {
                 assert_eq!(rt; fault, (number, offset));
                 assert_eq!(rt; done.as_slice().len(), 0);
@@ -171,7 +168,13 @@ fn header_parts_that_are_fine(rt: HostRuntime) -> Result<(), Fail> {
     let alloc = rt.alloc();
     good(&rt, alloc, b"", &[], 0)?;
     good(&rt, alloc, b"Content-Length: 2\r\n\r\n{}", &[b"{}"], 0)?;
-    good(&rt, alloc, b"cOntent-lengtH:\t 002 \t\r\n\r\nhi", &[b"hi"], 0)?;
+    good(
+        &rt,
+        alloc,
+        b"cOntent-lengtH:\t 002 \t\r\n\r\nhi",
+        &[b"hi"],
+        0,
+    )?;
     let others = b"Content-Type: x\r\nContent-Length:0\r\nA:\r\n\r\n";
     good(&rt, alloc, others, &[b""], 0)?;
     let longer = b"Content-Lengthy: 9\r\nContent-Length: 1\r\n\r\nz";
@@ -194,26 +197,37 @@ fn bodies_before_a_rest_or_a_fault(rt: HostRuntime) -> Result<(), Fail> {
     check(&rt, alloc, row, 0)
 }
 
+fn long_header(alloc: Global, letters: usize) -> Result<Vec<u8>, Fail> {
+    let mut bytes = Vec::from_slice(alloc, b"A:")?;
+    for _ in 0..letters {
+        bytes.push(b'x')?;
+    }
+    Ok(bytes)
+}
+
+/// `rt try --test --seconds 300` runs it; built, it takes less than a second.
+#[test]
+fn the_4097th_byte_in_any_cut(rt: HostRuntime) -> Result<(), Fail> {
+    let alloc = rt.alloc();
+    fault(&rt, alloc, &long_header(alloc, 4095)?, 4, 4096)
+}
+
 #[test]
 fn at_most_4096_bytes_before_a_body(rt: HostRuntime) -> Result<(), Fail> {
     let alloc = rt.alloc();
-    let mut long = Vec::from_slice(alloc, b"A:")?;
-    for _ in 0..4095 {
-        long.push(b'x')?;
-    }
-    fault(&rt, alloc, &long, 4, 4096)?;
-    long.truncate(4073);
-    long.extend_from_slice(b"\r\nContent-Length: 1\r\n\r\nb")?;
+    let mut most = long_header(alloc, 4071)?;
+    most.extend_from_slice(b"\r\nContent-Length: 1\r\n\r\nb")?;
     let row = Row {
-        stream: &long,
+        stream: &most,
         bodies: &[b"b"],
         fault: None,
         kept: 0,
     };
     check(&rt, alloc, row, 4050)?;
-    long.insert(2, b'x')?;
+    let mut more = long_header(alloc, 4072)?;
+    more.extend_from_slice(b"\r\nContent-Length: 1\r\n\r\nb")?;
     let row = Row {
-        stream: &long,
+        stream: &more,
         bodies: &[],
         fault: Some((4, 4096)),
         kept: 0,

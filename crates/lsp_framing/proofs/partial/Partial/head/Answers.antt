@@ -7,4 +7,4 @@ pub returns-in_ok-push-in-Ok-clause-open : goal.returns-in_ok-push-in-Ok-clause-
 returns-in_ok-push-in-Ok-clause-open c =
     let size : length c.args.self.now.header.items ≡ c.len.result = omega arith in
     rw c.in_ok-push-in-Ok.ensures.items (header_more c.args.place c.in-Ok.state c.args.self.now.header.items c.args.self.now.body.items c.args.byte c.requires
-        (ap (λ (n : ℕ). next c.args.place n c.args.byte) size ∙ sym c.in-Ok.ensures))
+    (ap (λ (n : ℕ). next c.args.place n c.args.byte) size ∙ sym c.in-Ok.ensures))
