@@ -1,6 +1,6 @@
 -- What callers see of a deframer.
-use Rattle.std.specs.Prelude.{◌≡◌, ℕ, ◌<◌, List, [], ◌∷◌, Option, Some, None, IsSomeAnd, length}
-use Rattle.ls_base.specs.Frames.{End, rest, fault, IsFrames}
+use Rattle.std.specs.Prelude.{◌≡◌, ℕ, ◌+◌, ◌<◌, List, [], ◌∷◌, Option, Some, None, IsSomeAnd, length}
+use Rattle.ls_base.specs.Frames.{max_header, max_body, End, rest, fault, IsFrames}
 use Rattle.lsp_framing.specs.Machine.{kind_of}
 use Rattle.lsp_framing.specs.declared.deframer.Halt.{Halt}
 use Rattle.lsp_framing.specs.declared.deframer.Halt.TheVariants as halt
@@ -23,6 +23,6 @@ end_of (Some (halt.Fault wrong offset)) kept = Some (fault (kind_of wrong) offse
 
 -- so many bytes of an unfinished frame are kept
 abbrev pub Keeps : Option End → ℕ → Type 0
-Keeps (Some (rest kept)) count = (count ≡ length kept) × (count < 8392704)
+Keeps (Some (rest kept)) count = (count ≡ length kept) × (count < max_header + max_body)
 Keeps (Some (fault kind offset)) count = count ≡ 0
 Keeps None count = count ≡ 0

@@ -10,7 +10,7 @@ use ls_base::Items;
 use std::alloc::Global;
 use std::marker::Model;
 
-/// Why a piece of a stream was not taken whole.
+/// Why a piece of a stream was not taken whole (LSP 3.17, base protocol).
 #[derive(Debug, Drop)]
 pub enum FrameFault {
     /// Memory ran out. Bodies that the piece completed are lost.
@@ -49,7 +49,8 @@ impl Halt {
     }
 }
 
-/// Reads a byte stream in pieces, and gives the bodies of its frames.
+/// Reads a byte stream in pieces, and gives the bodies of its frames (LSP 3.17, base protocol). A body is copied once,
+/// into a `Vec` of its length.
 #[derive(Drop)]
 pub struct Deframer {
     partial: Partial,
@@ -82,7 +83,8 @@ impl Deframer {
         }
     }
 
-    /// How many bytes are kept of a frame that isn't whole. It takes no memory.
+    /// How many bytes are kept of a frame that isn't whole: fewer than 8,392,704, and none after a fault or `Memory`. It
+    /// takes no memory.
     pub fn kept(&self) -> u32
         ensures { Keeps self.now.end result }
     {

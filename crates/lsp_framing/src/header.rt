@@ -83,12 +83,14 @@ impl Wrong {
     }
 }
 
+/// A visible character other than the colon.
 fn is_name_byte(byte: u8) -> bool
     ensures { result ≡ is_name_byte byte }
 {
     byte.is_ascii_graphic() && byte != b':'
 }
 
+/// A space or a tab.
 fn is_blank(byte: u8) -> bool
     ensures { result ≡ is_blank byte }
 {
@@ -119,6 +121,7 @@ fn is_length(spelled: Option<usize>) -> bool
     }
 }
 
+/// At the carriage return of the empty line.
 fn at_empty_line(told: Option<u32>) -> Result<Place, Wrong>
     ensures { result ≡ at_empty_line told }
 {
@@ -138,6 +141,7 @@ fn at_length(told: Option<u32>) -> Result<Place, Wrong>
     }
 }
 
+/// At the colon behind a name.
 fn at_colon(told: Option<u32>, spelled: Option<usize>) -> Result<Place, Wrong>
     ensures { result ≡ at_colon told spelled }
 {
@@ -163,6 +167,7 @@ fn at_digit(length: u32, byte: u8) -> Result<Place, Wrong>
     }
 }
 
+/// At the first byte of a line.
 fn at_line(told: Option<u32>, byte: u8) -> Result<Place, Wrong>
     ensures { result ≡ at_line told byte }
 {
@@ -178,6 +183,7 @@ fn at_line(told: Option<u32>, byte: u8) -> Result<Place, Wrong>
     }
 }
 
+/// Behind the first byte of a name.
 fn in_name(told: Option<u32>, spelled: Option<usize>, byte: u8) -> Result<Place, Wrong>
     ensures { result ≡ in_name told spelled byte }
 {
@@ -193,6 +199,7 @@ fn in_name(told: Option<u32>, spelled: Option<usize>, byte: u8) -> Result<Place,
     }
 }
 
+/// In the value of a field that is passed over.
 fn in_value(told: Option<u32>, byte: u8) -> Result<Place, Wrong>
     ensures { result ≡ in_value told byte }
 {
@@ -205,6 +212,7 @@ fn in_value(told: Option<u32>, byte: u8) -> Result<Place, Wrong>
     }
 }
 
+/// Before the first digit of a length.
 fn before_digits(byte: u8) -> Result<Place, Wrong>
     ensures { result ≡ before_digits byte }
 {
@@ -217,6 +225,7 @@ fn before_digits(byte: u8) -> Result<Place, Wrong>
     }
 }
 
+/// After a digit of a length.
 fn in_digits(length: u32, byte: u8) -> Result<Place, Wrong>
     ensures { result ≡ in_digits length byte }
 {
@@ -227,6 +236,7 @@ fn in_digits(length: u32, byte: u8) -> Result<Place, Wrong>
     }
 }
 
+/// After a blank behind a length.
 fn after_digits(length: u32, byte: u8) -> Result<Place, Wrong>
     ensures { result ≡ after_digits length byte }
 {
@@ -239,6 +249,7 @@ fn after_digits(length: u32, byte: u8) -> Result<Place, Wrong>
     }
 }
 
+/// At the line feed of a field.
 fn at_line_feed(told: Option<u32>, byte: u8) -> Result<Place, Wrong>
     ensures { result ≡ at_line_feed told byte }
 {
@@ -249,6 +260,7 @@ fn at_line_feed(told: Option<u32>, byte: u8) -> Result<Place, Wrong>
     }
 }
 
+/// At the line feed of the empty line.
 fn at_last_line_feed(length: u32, byte: u8) -> Result<State, Wrong>
     ensures { result ≡ at_last_line_feed length byte }
 {

@@ -1,11 +1,9 @@
 //! The frame that is being read.
 ghost use Rattle.std.specs.Prelude.{◌≡◌, ◌++◌, ◌∷◌, [], ◌+◌, ◌≤◌, ◌<◌, length, take, OnOk, IfOk, List};
-ghost use Rattle.ls_base.specs.Frames.{Frame, bodies_of};
+ghost use Rattle.ls_base.specs.Frames.{Frame, bodies_of, max_header, max_body};
 ghost use Rattle.lsp_framing.specs.Standing.{InHeader, Open, Stands, kept_bytes};
-ghost use Rattle.lsp_framing.specs.Taken.{contents, Goes, Advances, Finishes, Takes};
+ghost use Rattle.lsp_framing.specs.Taken.{contents, Goes, IfWrong, Advances, Finishes, Takes};
 ghost use Rattle.lsp_framing.specs.Machine.{next};
-ghost use Rattle.lsp_framing.specs.Taken.{IfWrong};
-ghost use Rattle.lsp_framing.specs.declared.header.State.TheVariants as state;
 
 use crate::header::{Place, State, Wrong, next};
 use ls_base::{Items, Mem, Memory};
@@ -66,12 +64,12 @@ impl Partial {
         }
     }
 
-    /// How many bytes are kept.
+    /// How many bytes are kept. They are fewer than 8,392,704.
     #[tactic(auto, using(crate::proofs::Stands::kept_most))]
     pub fn kept(&self) -> u32
         requires { Stands self.now }
         ensures size { result ≡ length (kept_bytes self.now) }
-        ensures most { result < 8392704 }
+        ensures most { result < max_header + max_body }
     {
         self.header.len() as u32 + self.body.len() as u32
     }
@@ -96,7 +94,6 @@ impl Partial {
     /// Takes bytes of a body of this size, as many as are there and wanted, and says how many.
     fn fill(&mut self, size: u32, bytes: &[u8]) -> Mem<usize>
         requires some { 0 < length bytes.now }
-        requires state { self.old.state ≡ state.Body size }
         requires room { length self.old.body.items < size }
         ensures taken { IfOk result (λ count. (0 < count) × (count ≤ length bytes.now)) }
         ensures body { IfOk result (λ count. self.new.body.items ≡ self.old.body.items ++ take count bytes.now) }
