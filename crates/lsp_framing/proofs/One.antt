@@ -56,3 +56,25 @@ one_reading bytes bodies others (rest k) (rest l) x y = let p = one_whole bytes 
 one_reading bytes bodies others (rest k) (fault j to) x y = absurd (faulty bytes y.0 j to y.2 x.3)
 one_reading bytes bodies others (fault j at) (rest l) x y = absurd (faulty bytes x.0 j at x.2 y.3)
 one_reading bytes bodies others (fault j at) (fault k to) x y = let p = one_fault bytes x.0 y.0 j k at to x.2 y.2 in (x.1 ∙ p.0 ∙ sym y.1, p.1)
+
+front_bodies : (fs gs : List Frame) (x y : List ℕ) → length fs ≤ length gs → AllByRecursion IsFrame fs → AllByRecursion IsFrame gs → stream fs x ≡ stream gs y → (new : List (List ℕ)) × (bodies_of gs ≡ bodies_of fs ++ new)
+front_bodies [] gs x y l a b e = (bodies_of gs, refl)
+front_bodies (f ∷ fs) [] x y l a b e = absurd (omega arith)
+front_bodies (f ∷ fs) (g ∷ gs) x y l a b e =
+    let s = same_frame f g (stream fs x) (stream gs y) a.0.0 b.0.0 e in
+    let r = front_bodies fs gs x y (omega arith) a.1 b.1 s.2 in
+    (r.0, ap (λ (q : List (List ℕ)). g.body ∷ q) r.1 ∙ ap (λ (q : List ℕ). q ∷ (bodies_of fs ++ r.0)) (sym s.1))
+
+-- the whole frames of a reading
+whole_frames : (bytes : List ℕ) (bodies : List (List ℕ)) (end : End) → IsFrames bytes bodies end → (fs : List Frame) × (bodies ≡ bodies_of fs) × (after : List ℕ) × IsWhole bytes fs after
+whole_frames bytes bodies (rest kept) x = (x.0, x.1, kept, x.2)
+whole_frames bytes bodies (fault kind at) x = (x.0, x.1, x.2.part ++ (x.2.byte ∷ x.2.after), x.2.whole)
+
+-- the bodies of more bytes begin with those of the bytes
+pub bodies_grow : (bytes more : List ℕ) (bodies all : List (List ℕ)) (end other : End) → IsFrames bytes bodies end → IsFrames (bytes ++ more) all other → (new : List (List ℕ)) × (all ≡ bodies ++ new)
+bodies_grow bytes more bodies all end other x y =
+    let w = whole_frames bytes bodies end x in
+    let v = whole_frames (bytes ++ more) all other y in
+    let begins : bytes ++ more ≡ stream w.0 (w.2 ++ more) = ap (λ (q : List ℕ). q ++ more) w.3.begins ∙ stream_append w.0 w.2 more in
+    let r = front_bodies w.0 v.0 (w.2 ++ more) v.2 (v.3.longest w.0 (w.2 ++ more) w.3.each begins) w.3.each v.3.each (sym begins ∙ v.3.begins) in
+    (r.0, v.1 ∙ r.1 ∙ ap (λ (q : List (List ℕ)). q ++ r.0) (sym w.1))

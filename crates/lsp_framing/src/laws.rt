@@ -1,7 +1,7 @@
 //! Laws of frames, each the contract of a function that does nothing.
-ghost use Rattle.std.specs.Prelude.{◌≡◌, ◌≤◌, [], List, ℕ, length};
+ghost use Rattle.std.specs.Prelude.{◌≡◌, ◌≤◌, ◌++◌, [], List, ℕ, length};
 ghost use Rattle.std.specs.List.{flat_map, AllByRecursion};
-ghost use Rattle.ls_base.specs.Frames.{End, rest, IsFrames, frame_text, max_body};
+ghost use Rattle.ls_base.specs.Frames.{Fault, End, rest, fault, IsFrames, frame_text, max_body};
 ghost use Rattle.lsp_framing.specs.Deframed.{Deframed, After};
 ghost use Rattle.lsp_framing.specs.Runs.{Fed, Runs, all_pieces, all_given};
 
@@ -21,6 +21,14 @@ pub fn any_cut()
     // Deframers that took the same bytes gave the same bodies and are alike.
     ensures same { (past : List ℕ) (bodies others : List (List ℕ)) (one other : Deframed) →
         After past bodies one → After past others other → (bodies ≡ others) × (one ≡ other) }
+{}
+
+/// More bytes take nothing back.
+pub fn more_bytes()
+    ensures bodies { (bytes more : List ℕ) (bodies all : List (List ℕ)) (end other : End) →
+        IsFrames bytes bodies end → IsFrames (bytes ++ more) all other → (new : List (List ℕ)) × (all ≡ bodies ++ new) }
+    ensures fault { (bytes more : List ℕ) (bodies : List (List ℕ)) (kind : Fault) (offset : ℕ) →
+        IsFrames bytes bodies (fault kind offset) → IsFrames (bytes ++ more) bodies (fault kind offset) }
 {}
 
 /// Frames that are written one after another are read again.
