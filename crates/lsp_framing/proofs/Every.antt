@@ -3,7 +3,7 @@ use Rattle.std.proofs.Common.{◌≡◌, ℕ, ◌<◌, ◌≤◌, List, [], ◌�
 use Rattle.std.specs.List.{AllByRecursion}
 use Rattle.std.proofs.lemmas.List.{length-append}
 use Rattle.std.proofs.lemmas.Bool.Decides.{nat_tests}
-use Rattle.ls_base.specs.Frames.{Frame, IsFrame, IsHeader, max_header, stream, bodies_of, End, rest, fault, IsFrames}
+use Rattle.ls_base.specs.Frames.{Frame, IsFrame, IsHeader, stream, bodies_of, End, rest, fault, IsFrames}
 use Rattle.lsp_framing.specs.Machine.{kind_of, next}
 use Rattle.lsp_framing.specs.Standing.{InHeader, OpenIn, StandsIn}
 use Rattle.lsp_framing.specs.declared.header.Place.{Place}

@@ -1,5 +1,5 @@
 -- Which fault a wrong byte is.
-use Rattle.std.proofs.Common.{◌≡◌, ℕ, ◌+◌, ◌<◌, ◌≤◌, List, [], ◌∷◌, ◌++◌, refl, sym, ap, ◌∙◌, arith, length, Bool, true, false, if◌then◌else◌, ◌==◌, not, subst, Option, Some, None, Result, Ok, Err, append-nil, nat_le, inl, inr}
+use Rattle.std.proofs.Common.{◌≡◌, ℕ, ◌<◌, ◌≤◌, List, [], ◌∷◌, ◌++◌, refl, sym, ap, ◌∙◌, arith, length, Bool, true, false, if◌then◌else◌, ◌==◌, not, subst, Option, Some, None, Result, Ok, Err, append-nil, nat_le, inl, inr}
 use Rattle.std.specs.List.{list_all}
 use Rattle.std.specs.Char.{is_ascii_digit}
 use Rattle.std.proofs.lemmas.Bool.Decides.{nat_tests}
@@ -8,8 +8,7 @@ use Rattle.lsp_framing.specs.Machine.{kind_of, letter, is_length, at_empty_line,
 use Rattle.lsp_framing.specs.Standing.{Reads}
 use Rattle.lsp_framing.specs.declared.header.Place.{Place}
 use Rattle.lsp_framing.specs.declared.header.Place.TheVariants.{Line, Name, Value, BeforeDigits, Digits, AfterDigits, LineFeed, LastLineFeed}
-use Rattle.lsp_framing.specs.declared.header.State.{State}
-use Rattle.lsp_framing.specs.declared.header.State.TheVariants.{Header, Body}
+use Rattle.lsp_framing.specs.declared.header.State.TheVariants.{Body}
 use Rattle.lsp_framing.specs.declared.header.Wrong.{Wrong}
 use Rattle.lsp_framing.specs.declared.header.Wrong.TheVariants.{LongHeader, NoLength, BadLength, LongBody, BadHeader}
 use Rattle.lsp_framing.proofs.Reading.{both, at_fields, at_length_name, in_left, at_digits}

@@ -1,8 +1,7 @@
 -- Pieces go in one after another.
-use Rattle.std.proofs.Common.{◌≡◌, ℕ, ◌+◌, ◌-◌, ◌≤◌, List, [], ◌∷◌, ◌++◌, refl, sym, ap, ◌∙◌, length, append_assoc, append-nil, take, drop}
+use Rattle.std.proofs.Common.{◌≡◌, ℕ, List, [], ◌∷◌, ◌++◌, refl, sym, ap, ◌∙◌, append_assoc, append-nil}
 use Rattle.std.specs.List.{AllByRecursion}
 use Rattle.std.proofs.lemmas.List.{map-append}
-use Rattle.std.proofs.Math.Seq.{take-add}
 use Rattle.ls_base.specs.Frames.{Frame, IsFrame, stream, bodies_of}
 use Rattle.lsp_framing.specs.Standing.{Stands, kept_bytes}
 use Rattle.lsp_framing.specs.Taken.{Goes}

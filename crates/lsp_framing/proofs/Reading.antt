@@ -6,7 +6,7 @@ use Rattle.std.specs.Str.{str_to_ascii_lowercase}
 use Rattle.std.proofs.Math.Seq.{drop-cons}
 use Rattle.std.proofs.lemmas.Bool.Decides.{nat_tests}
 use Rattle.ls_base.specs.Frames.{is_name_byte, is_value_byte, is_blank, with_digit, number, max_body, Field, other, sized, field_text, fields_text, IsName, IsLengthName, IsOther, IsSized, Tell, IsHeader}
-use Rattle.lsp_framing.specs.Machine.{letter, is_length, at_length, step, whole, onward, peel}
+use Rattle.lsp_framing.specs.Machine.{letter, is_length, step, whole, onward, peel}
 use Rattle.lsp_framing.specs.Standing.{spelled_by}
 use Rattle.lsp_framing.specs.declared.header.Place.{Place}
 use Rattle.lsp_framing.specs.declared.header.Place.TheVariants.{Line, Name, Value, BeforeDigits, Digits, AfterDigits}

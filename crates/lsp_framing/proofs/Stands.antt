@@ -1,10 +1,10 @@
 -- Where a deframer stands, the reading of the bytes so far is what it gave and keeps.
-use Rattle.std.proofs.Common.{◌≡◌, ℕ, ◌+◌, ◌<◌, ◌≤◌, List, [], ◌∷◌, ◌++◌, refl, sym, ap, ◌∙◌, arith, length, Bool, true, false, if◌then◌else◌, subst, Some, None, Result, Ok, Err, append-nil, nat_lt}
+use Rattle.std.proofs.Common.{◌≡◌, ℕ, ◌+◌, ◌<◌, ◌≤◌, List, [], ◌∷◌, ◌++◌, refl, sym, ap, ◌∙◌, arith, length, Bool, true, false, if◌then◌else◌, subst, Some, None, Ok, Err, append-nil, nat_lt}
 use Rattle.std.specs.List.{AllByRecursion}
 use Rattle.std.proofs.lemmas.List.{length-append}
 use Rattle.std.proofs.lemmas.Bool.Decides.{nat_tests}
-use Rattle.ls_base.specs.Frames.{Field, other, sized, Tell, number, IsHeader, Frame, IsFrame, max_header, max_body, stream, bodies_of, IsGood, FirstFit, fault_order, rest, fault, IsFrames}
-use Rattle.lsp_framing.specs.Machine.{kind_of, next, step, part, peel}
+use Rattle.ls_base.specs.Frames.{Field, other, sized, Tell, number, Frame, IsFrame, max_header, max_body, stream, bodies_of, IsGood, FirstFit, fault_order, rest, fault, IsFrames}
+use Rattle.lsp_framing.specs.Machine.{kind_of, next, step}
 use Rattle.lsp_framing.specs.Standing.{InHeader, OpenIn, StandsIn}
 use Rattle.lsp_framing.specs.declared.header.Place.{Place}
 use Rattle.lsp_framing.specs.declared.header.Place.TheVariants.{Line}

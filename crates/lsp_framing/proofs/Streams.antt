@@ -4,7 +4,7 @@ use Rattle.std.specs.List.{AllByRecursion}
 use Rattle.std.proofs.lemmas.List.{length-append, append_cancel_right}
 use Rattle.std.proofs.lemmas.Bool.Decides.{nat_tests}
 use Rattle.std.proofs.Math.Seq.{drop-append-add, drop-append_seam}
-use Rattle.ls_base.specs.Frames.{IsHeader, Frame, IsAnyFrame, IsFrame, max_header, stream, bodies_of, WithinLimit, IsGood, IsWhole, Fault, FirstFit, fault_order, IsFault, rest, fault, IsFrames}
+use Rattle.ls_base.specs.Frames.{IsHeader, Frame, IsAnyFrame, IsFrame, max_header, stream, bodies_of, WithinLimit, IsGood, IsWhole, Fault, FirstFit, fault_order, rest, fault, IsFrames}
 use Rattle.lsp_framing.specs.Machine.{step, whole, part, wrong, peel}
 use Rattle.lsp_framing.specs.Standing.{Reads}
 use Rattle.lsp_framing.specs.declared.header.Place.{Place}

@@ -1,5 +1,5 @@
 -- What callers see of a deframer.
-use Rattle.std.specs.Prelude.{◌≡◌, ℕ, ◌+◌, ◌<◌, List, [], ◌∷◌, Option, Some, None, IsSomeAnd, length}
+use Rattle.std.specs.Prelude.{◌≡◌, ℕ, ◌+◌, ◌<◌, List, Option, Some, None, IsSomeAnd, length}
 use Rattle.ls_base.specs.Frames.{max_header, max_body, End, rest, fault, IsFrames}
 use Rattle.lsp_framing.specs.Machine.{kind_of}
 use Rattle.lsp_framing.specs.declared.deframer.Halt.{Halt}

@@ -1,5 +1,5 @@
 -- What a deframer answers to a piece, and what it is then.
-use Rattle.std.specs.Prelude.{◌≡◌, ℕ, List, [], ◌∷◌, ◌++◌, Option, Some, None, Result, Ok, Err, Vec}
+use Rattle.std.specs.Prelude.{◌≡◌, ℕ, List, [], ◌++◌, Option, Some, None, Result, Ok, Err, Vec}
 use Rattle.std.specs.Global.{Global}
 use Rattle.ls_base.specs.Frames.{End, rest, fault, Fault, fault_number}
 use Rattle.lsp_framing.specs.Taken.{contents}

@@ -1,7 +1,7 @@
 -- Where a deframer stands in a stream: what it read of the frame that isn't whole.
 use Rattle.std.specs.Prelude.{◌≡◌, ℕ, ◌<◌, ◌≤◌, true, List, [], ◌∷◌, ◌++◌, Option, Some, None, length}
-use Rattle.std.specs.List.{list_all, AllByRecursion}
-use Rattle.ls_base.specs.Frames.{Field, Frame, IsName, IsLengthName, IsOther, IsSized, IsHeader, IsFrame, Tell, fields_text, stream, is_blank, number, max_header}
+use Rattle.std.specs.List.{list_all}
+use Rattle.ls_base.specs.Frames.{Field, IsName, IsLengthName, IsOther, IsSized, IsHeader, Tell, fields_text, is_blank, number, max_header}
 use Rattle.lsp_framing.specs.Machine.{letter, part, peel}
 use Rattle.lsp_framing.specs.declared.header.Place.{Place}
 use Rattle.lsp_framing.specs.declared.header.Place.TheVariants.{Line, Name, Value, BeforeDigits, Digits, AfterDigits, LineFeed, LastLineFeed}

@@ -6,7 +6,6 @@ use Rattle.ls_base.specs.Frames.{Frame, IsFrame, stream, bodies_of}
 use Rattle.lsp_framing.specs.Machine.{next}
 use Rattle.lsp_framing.specs.Standing.{InHeader, Open, Stands, kept_bytes}
 use Rattle.lsp_framing.specs.declared.header.Place.{Place}
-use Rattle.lsp_framing.specs.declared.header.State.TheVariants.{Header}
 use Rattle.lsp_framing.specs.declared.header.Wrong.{Wrong}
 use Rattle.lsp_framing.specs.declared.partial.Partial.{Partial}
 use Rattle.lsp_framing.specs.declared.partial.Stop.{Stop}

@@ -1,4 +1,4 @@
-use Rattle.std.proofs.Common.{List, ℕ, ◌++◌, ◌∙◌, ap, sym, subst}
+use Rattle.std.proofs.Common.{List, ℕ, ◌∙◌, ap, sym, subst}
 use Rattle.ls_base.specs.Frames.{IsFrameOf}
 use Rattle.lsp_framing.proofs.Written.{put_together, written_frame}
 use Rattle.lsp_framing.proofs.writing.frame.Goals as goal
