@@ -1,0 +1,13 @@
+pub mod Reading
+pub mod Held
+pub mod Peels
+pub mod Streams
+pub mod FirstFits
+pub mod Stands
+pub mod Going
+pub mod Feeding
+pub mod One
+pub mod FeedLaws
+pub mod Written
+pub mod Every
+pub mod Cuts
