@@ -3,6 +3,7 @@
 #![tactic(auto)]
 
 pub mod answers;
+pub mod chars;
 pub mod items;
 pub mod limits;
 pub mod memory;
@@ -11,6 +12,7 @@ pub mod steps;
 pub mod text;
 
 pub use answers::{Answer, Arrow, Change, Diagnostic, DocEdits, Highlight, Query, TextEdit};
+pub use chars::split_char;
 pub use items::Items;
 pub use memory::{Mem, Memory};
 pub use places::{Place, Pos, Range, Span};
