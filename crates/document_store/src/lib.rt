@@ -1,13 +1,10 @@
-// A library with one function.
+//! The texts of the open documents, changed as an editor says (LSP 3.17, text synchronisation).
 #![tactic(auto)]
 
-ghost use Rattle.std.specs.Prelude.{◌≡◌};
-ghost use Rattle.document_store.specs.Echo.{echo_of};
+mod edit;
+pub mod faults;
+mod kept;
+pub mod store;
 
-// The `ensures` clause is the contract: what `echo` returns is `echo_of` of its argument, a definition
-// in `specs/Echo.antt`, which a caller's clause can cite too.
-pub fn echo(x: usize) -> usize
-    ensures { result ≡ echo_of x }
-{
-    x
-}
+pub use faults::StoreFault;
+pub use store::Store;
