@@ -1,12 +1,10 @@
 -- The finite map that the entries of a store make.
-use Rattle.std.proofs.Common.{◌≡◌, ◌≤◌, ℕ, arith, Bor, slice_get, List, [], ◌∷◌, map, length, Option, Some, None, is_some, cond, Bool, true, false, ◌&&◌, refl, sym, ap, ◌∙◌, subst, String, Global}
+use Rattle.std.proofs.Common.{◌≡◌, ◌≤◌, ℕ, arith, Bor, slice_get, List, [], ◌∷◌, map, length, Option, Some, None, is_some, cond, Bool, true, false, refl, sym, ap, ◌∙◌, String, Global}
 use Rattle.std.specs.Option.{option_map}
 use Rattle.std.proofs.lemmas.Option.{slice_get-map}
 use Rattle.ls_base.specs.declared.limits.TheConstants.{MAX_DOCUMENTS}
 use Rattle.std.specs.String.{string_bytes, string_cmp}
-use Rattle.std.specs.Ordering.{nat_cmp, is_eq, is_lt, eq_by_cmp}
-use Rattle.std.specs.declared.cmp.Ordering.{Ordering}
-use Rattle.std.specs.declared.cmp.Ordering.TheVariants.{Less, Equal, Greater}
+use Rattle.std.specs.Ordering.{nat_cmp, is_eq, eq_by_cmp}
 use Rattle.std.specs.Cmp.Lexicographic.{slice_cmp, nat_list_cmp_total}
 use Rattle.std.specs.Cmp.{eq_by_cmp_equiv}
 use Rattle.std.specs.Map.{lookup, keys_of}
@@ -15,7 +13,7 @@ use Rattle.std.specs.FinMap.Entries.{by_order}
 use Rattle.std.proofs.lemmas.List.{length-map, nil_from_length}
 use Rattle.std.specs.BTreeMap.{BTreeMap, is_at, get_by_text, UpdatesBy, IsOrdered}
 use Rattle.std.specs.BTreeMap as tree
-use Rattle.std.specs.FinMap.{get, contains_key, insert, remove, len, keys, entries, find, put, from_entries, entries-insert, len-entries, len-empty, get-from_entries, get-insert, get-remove, same_map, slice_cmp-IsAntisymmetric, nat_cmp-IsAntisymmetric}
+use Rattle.std.specs.FinMap.{get, insert, remove, len, keys, entries, find, put, entries-insert, len-entries, len-empty, get-from_entries, get-insert, get-remove, same_map, slice_cmp-IsAntisymmetric, nat_cmp-IsAntisymmetric}
 use Rattle.std.proofs.lemmas.Map.Text.{is_eq-slice_cmp, btree_map_updates_text}
 use Rattle.std.specs.Str.{bytes_eq}
 use Rattle.document_store.specs.declared.kept.Kept.{Kept}

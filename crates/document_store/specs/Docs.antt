@@ -1,5 +1,5 @@
 -- How the store keeps its texts.
-use Rattle.std.specs.Prelude.{ℕ, ℤ, List, map, string_bytes}
+use Rattle.std.specs.Prelude.{List, map, string_bytes}
 use Rattle.std.specs.Coded.{Coded, coded×, coded_ℕ, coded_ℤ, coded_list}
 use Rattle.std.specs.FinMap.{from_entries, code}
 use Rattle.std.specs.declared.string.String.{String}

@@ -72,6 +72,34 @@ impl Store {
         Ok(())
     }
 
+    /// Changes a document that is open, and gives it a new version: each change applies to what the one before left.
+    /// A range whose start stands after its end is refused as `BadRange`, tested before any of it is clamped. Where the
+    /// text is too long after a change, also between two changes, the document is gone.
+    pub fn change(
+        &mut self,
+        uri: &str,
+        version: i64,
+        changes: &[Change],
+    ) -> Result<(), StoreFault>
+        ensures { Follows result self.old self.new (after self.old (texts.Changed uri.now version changes.now)) }
+    {
+        let Some(doc) = self.docs.get_mut(uri) else {
+            return Err(StoreFault::NotOpen);
+        };
+        match edits(self.alloc, doc.text.as_str(), changes) {
+            Ok(text) => {
+                *doc = Kept { version, text };
+                Ok(())
+            }
+            Err(fault) => {
+                if fault == StoreFault::TooLong {
+                    self.close(uri);
+                }
+                Err(fault)
+            }
+        }
+    }
+
     /// Closes a document. False exactly where the uri isn't open.
     pub fn close(&mut self, uri: &str) -> bool
         ensures was_open { result ≡ is_open self.old uri.now }

@@ -1,12 +1,12 @@
 -- Offsets and positions by the starts of lines.
-use Rattle.std.proofs.Common.{◌≡◌, ℕ, zero, suc, ◌+◌, ◌-◌, ◌<◌, ◌≤◌, Bool, true, false, cond, ltb, leb, List, [], ◌∷◌, length, get_or, drop, length-drop, slice_get, Option, Some, None, refl, sym, subst, ap, ◌∙◌, arith}
-use Rattle.std.proofs.lemmas.Bool.{lt-ltb, le-ltb, leb-true, leb-false, false≢true}
+use Rattle.std.proofs.Common.{◌≡◌, ℕ, zero, suc, ◌+◌, ◌-◌, ◌<◌, ◌≤◌, Bool, true, false, cond, ltb, leb, List, [], ◌∷◌, length, get_or, drop, length-drop, slice_get, Some, refl, sym, subst, ap, ◌∙◌, arith}
+use Rattle.std.proofs.lemmas.Bool.{lt-ltb, le-ltb, leb-true, leb-false}
 use Rattle.std.proofs.lemmas.List.{get_or_read}
 use Rattle.std.proofs.lemmas.List.Sums.{sum_by-cons}
 use Rattle.std.proofs.lemmas.Str.{encodes-chars, length-le-encodes}
 use Rattle.std.specs.List.{sum_by}
 use Rattle.std.specs.List.Sorted.{IsNonDecreasingBy, IsPartitionPoint}
-use Rattle.std.specs.Str.{chars, IsUtf8, encode_utf8_all as encodes}
+use Rattle.std.specs.Str.{chars, IsUtf8}
 use Rattle.std.specs.Char.{len_utf8}
 use Rattle.ls_base.specs.declared.places.Pos.{Pos}
 use Rattle.ls_base.specs.Positions.{Line, lines_of, full_bytes, byte_count, bytes_within, units_within, offset_in, offset_of, position_in, position_of, below}

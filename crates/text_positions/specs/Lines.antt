@@ -1,5 +1,5 @@
 -- Where the lines of a text begin.
-use Rattle.std.specs.Prelude.{◌≡◌, ◌<◌, ◌≤◌, ◌^◌, ◌⊎◌, ◌==◌, ◌||◌, ◌&&◌, ℕ, suc, ◌+◌, Bool, true, false, not, List, [], ◌∷◌, length, slice_index}
+use Rattle.std.specs.Prelude.{◌≡◌, ◌<◌, ◌≤◌, ◌^◌, ◌⊎◌, ◌==◌, ◌||◌, ◌&&◌, ℕ, suc, ◌+◌, Bool, false, not, List, [], ◌∷◌, length, slice_index}
 use Rattle.std.specs.Str.{chars}
 use Rattle.ls_base.specs.Positions.{Line, lines_of, full_bytes}
 

@@ -1,7 +1,7 @@
-use Rattle.std.proofs.Common.{◌≡◌, ◌+◌, ℕ, List, ◌∷◌, ◌++◌, length, drop, sym, ap, ◌∙◌, arith, subst, zero-add}
+use Rattle.std.proofs.Common.{◌≡◌, ℕ, List, ◌∷◌, ◌++◌, drop, sym, ap, ◌∙◌, arith, subst, zero-add}
 use Rattle.std.specs.Str.{chars, IsCharBoundary, IsUtf8}
 use Rattle.std.specs.Char.{len_utf8, encode_utf8}
-use Rattle.std.proofs.lemmas.Str.{chars_past_char, IsCharBoundary-past_char, drop_past_char, IsUtf8-past_char}
+use Rattle.std.proofs.lemmas.Str.{chars_past_char, IsCharBoundary-past_char, drop_past_char}
 use Rattle.ls_base.proofs.chars.split_char.Goals as goal
 
 -- after the first character a text may be cut

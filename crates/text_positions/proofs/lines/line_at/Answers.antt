@@ -1,7 +1,6 @@
-use Rattle.std.proofs.Common.{◌≡◌, ◌<◌, ℕ, List, leb, true, false, arith, rules}
+use Rattle.std.proofs.Common.{◌≡◌, leb, true, false, rules}
 use Rattle.std.specs.List.Sorted.{IsPartitionPoint}
 use Rattle.std.proofs.lemmas.List.Sorted.{IsPartitionPoint-from_clause, IsPartitionedBy-leb}
-use Rattle.text_positions.specs.Lines.{IsLineAt}
 use Rattle.text_positions.proofs.Places.{searched}
 use Rattle.text_positions.proofs.lines.line_at.Goals as goal
 use Rattle.text_positions.proofs.lines.line_at.Goals.{After-partition_point}

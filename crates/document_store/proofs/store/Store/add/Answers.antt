@@ -1,8 +1,8 @@
-use Rattle.std.proofs.Common.{◌≡◌, ◌+◌, ap, sym, ◌∙◌, List, ℕ, ℤ, Bool, true, Option, Some, None, is_some, nat_lt, cond, length, ◌||◌, string_bytes, w64, to_z, of_z, refl, arith, subst}
+use Rattle.std.proofs.Common.{◌≡◌, ap, sym, ◌∙◌, List, ℕ, ℤ, None, is_some, nat_lt, length, ◌||◌, string_bytes, w64, to_z, of_z, refl}
 use Rattle.std.proofs.lemmas.Int.{to_z-of_z}
 use Rattle.std.specs.FinMap.{insert, len}
-use Rattle.document_store.specs.Texts.{Texts, Document, has_room, is_open}
-use Rattle.document_store.specs.Docs.{texts_of, document}
+use Rattle.document_store.specs.Texts.{Texts, is_open}
+use Rattle.document_store.specs.Docs.{texts_of}
 use Rattle.document_store.proofs.Events.{adds, still_few}
 use Rattle.document_store.proofs.TextsOf.{open_texts, len_texts, texts_put}
 use Rattle.document_store.proofs.store.Store.add.Goals as goal

@@ -1,4 +1,4 @@
-use Rattle.std.proofs.Common.{◌≡◌, ap, sym, ◌∙◌, List, ℕ, Option, Some, None, is_some, refl}
+use Rattle.std.proofs.Common.{◌≡◌, ap, sym, ◌∙◌, None, is_some, refl}
 use Rattle.std.specs.FinMap.{remove}
 use Rattle.document_store.specs.Texts.{Texts, is_open}
 use Rattle.document_store.specs.Docs.{texts_of}

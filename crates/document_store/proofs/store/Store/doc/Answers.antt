@@ -1,9 +1,8 @@
-use Rattle.std.proofs.Common.{◌≡◌, ap, sym, ◌∙◌, List, ℕ, Option, Some, None, Bor, String, Global, string_bytes, slice_get, refl}
+use Rattle.std.proofs.Common.{◌≡◌, ap, sym, ◌∙◌, Some, string_bytes, slice_get}
 use Rattle.std.specs.BTreeMap as tree
 use Rattle.std.specs.FinMap.{keys}
 use Rattle.std.specs.Option.{option_map}
 use Rattle.std.proofs.lemmas.Iterator.Consumers.{nth_from_yields_List, YieldsList-from_rest}
-use Rattle.document_store.specs.Texts.{Texts}
 use Rattle.document_store.proofs.TextsOf.{nth_seen, few_seen}
 use Rattle.document_store.proofs.store.Store.doc.Goals as goal
 use Rattle.document_store.proofs.store.Store.doc.Goals.{After-nth}

@@ -1,7 +1,6 @@
-use Rattle.std.proofs.Common.{◌≡◌, ap, sym, ◌∙◌, List, ℕ, Bool, true, false, is_some, nat_lt, ◌||◌, length}
+use Rattle.std.proofs.Common.{◌≡◌, ap, sym, ◌∙◌, nat_lt, ◌||◌}
 use Rattle.std.specs.FinMap.{len}
-use Rattle.document_store.specs.Texts.{Texts, has_room, is_open}
-use Rattle.document_store.specs.Docs.{texts_of}
+use Rattle.document_store.specs.Texts.{Texts, is_open}
 use Rattle.document_store.proofs.TextsOf.{open_texts, len_texts}
 use Rattle.document_store.proofs.store.Store.has_room.Goals as goal
 use Rattle.document_store.proofs.store.Store.has_room.Goals.{After-contains_key}

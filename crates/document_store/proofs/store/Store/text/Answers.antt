@@ -1,6 +1,5 @@
-use Rattle.std.proofs.Common.{◌≡◌, ap, sym, ◌∙◌, List, ℕ, Option, Some, None}
+use Rattle.std.proofs.Common.{ap, sym, ◌∙◌, Some, None}
 use Rattle.std.specs.Option.{option_map}
-use Rattle.document_store.specs.Texts.{text_at}
 use Rattle.document_store.proofs.TextsOf.{get_seen}
 use Rattle.document_store.proofs.store.Store.text.Goals as goal
 

@@ -1,8 +1,7 @@
-use Rattle.std.proofs.Common.{◌≡◌, ap, sym, ◌∙◌, List, ℕ, Option, Some, None, w64, rules}
+use Rattle.std.proofs.Common.{ap, sym, ◌∙◌, Some, None, w64, rules}
 use mir.Val.{SFits}
 use Rattle.std.proofs.lemmas.Int.{to_z-of_z}
 use Rattle.std.specs.Option.{option_map}
-use Rattle.document_store.specs.Texts.{version_at}
 use Rattle.document_store.proofs.TextsOf.{get_seen}
 use Rattle.document_store.proofs.store.Store.version.Goals as goal
 

@@ -1,10 +1,6 @@
-use Rattle.std.proofs.Common.{◌≡◌, ◌^◌, ◌<◌, ◌+◌, ◌-◌, ◌≤◌, ℕ, List, [], ◌∷◌, ◌++◌, length, sym, ap, ◌∙◌, arith}
+use Rattle.std.proofs.Common.{◌≡◌, ◌-◌, [], ◌∷◌, ◌++◌, length, sym, ap, ◌∙◌, arith}
 use Rattle.std.proofs.lemmas.List.{append-nil}
-use Rattle.std.specs.Char.{len_utf8}
-use Rattle.std.specs.Str.{chars}
-use Rattle.ls_base.specs.Positions.{lines_of}
-use Rattle.text_positions.specs.Lines.{line_starts}
-use Rattle.text_positions.proofs.LineStarts.{later_starts, starts_pushed, starts_kept, later_starts-nil, starts_begun}
+use Rattle.text_positions.proofs.LineStarts.{starts_pushed, starts_kept, later_starts-nil, starts_begun}
 use Rattle.text_positions.proofs.lines.Lines.of.Goals as goal
 
 pub loop-c-init : goal.loop-c-init

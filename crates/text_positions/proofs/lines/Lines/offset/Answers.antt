@@ -1,7 +1,7 @@
-use Rattle.std.proofs.Common.{◌≡◌, ℕ, ◌+◌, ◌<◌, ◌≤◌, List, length, get_or, drop, sym, ap, ◌∙◌, subst, arith}
+use Rattle.std.proofs.Common.{◌≡◌, length, get_or, drop, sym, ap, ◌∙◌, subst, arith}
 use Rattle.std.proofs.lemmas.List.{get_or_read}
 use Rattle.std.specs.Str.{IsCharBoundary}
-use Rattle.ls_base.specs.Positions.{offset_of, bytes_within}
+use Rattle.ls_base.specs.Positions.{bytes_within}
 use Rattle.text_positions.specs.Lines.{line_starts, first_line}
 use Rattle.text_positions.proofs.Cuts.{IsLineStart, line_start}
 use Rattle.text_positions.proofs.Places.{offset_of-start, offset_of-past}
