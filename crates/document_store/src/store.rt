@@ -1,5 +1,5 @@
 //! The open documents, by their uris.
-ghost use Rattle.std.specs.Prelude.{◌≡◌, ◌≤◌, length, slice_get, Some, None, if◌then◌else◌, IfSome};
+ghost use Rattle.std.specs.Prelude.{◌≡◌, ◌≢◌, ◌≤◌, length, slice_get, if◌then◌else◌, IfSome, IfErr, OnErr, IsErrOf};
 ghost use Rattle.std.specs.Option.{option_map};
 ghost use Rattle.std.specs.FinMap.{empty, keys, len, remove};
 ghost use Rattle.document_store.specs.Texts as texts;
@@ -17,7 +17,7 @@ use std::marker::Model;
 
 /// The open documents, at most 64, each with a text of at most 1,048,576 bytes. Contracts see them as a finite map
 /// from uris to versions and texts.
-#[derive(Drop)]
+#[derive(Debug, Drop)]
 pub struct Store {
     docs: BTreeMap<String, Kept>,
     alloc: Global,
@@ -58,7 +58,8 @@ impl Store {
 
     /// Opens a document, or gives one that is open a new version and text.
     pub fn add(&mut self, uri: &str, version: i64, text: &str) -> Result<(), StoreFault>
-        ensures { Follows result self.old self.new (after self.old (texts.Added uri.now version text.now)) }
+        ensures event { Follows result self.old self.new (after self.old (texts.Added uri.now version text.now)) }
+        ensures kept { OnErr result (self.new ≡ self.old) }
     {
         if !self.has_room(uri) {
             return Err(StoreFault::TooMany);
@@ -81,7 +82,9 @@ impl Store {
         version: i64,
         changes: &[Change],
     ) -> Result<(), StoreFault>
-        ensures { Follows result self.old self.new (after self.old (texts.Changed uri.now version changes.now)) }
+        ensures event { Follows result self.old self.new (after self.old (texts.Changed uri.now version changes.now)) }
+        ensures kept { IfErr result (λ fault. fault ≢ StoreFault.TooLong → self.new ≡ self.old) }
+        ensures gone { IsErrOf result StoreFault.TooLong → self.new ≡ remove self.old uri.now }
     {
         let Some(doc) = self.docs.get_mut(uri) else {
             return Err(StoreFault::NotOpen);

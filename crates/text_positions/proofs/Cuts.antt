@@ -41,8 +41,8 @@ cut_ended c cs k at e later =
       whole = ap (λ xs. c ∷ xs) later.whole;
       rest = later.rest ∙ ap (drop k) (sym (g.rest ∙ ap (λ b. cond b (lines_of cs) (drop 1 (lines_of cs))) e)) ∙ sym (drop_suc k (lines_of (c ∷ cs)));
       start = ap (λ xs. get_or xs (suc k) 0) (starts_from-cons at (lines_of (c ∷ cs)) (length-lines_of (c ∷ cs)))
-        ∙ ap (λ xs. get_or xs k 0) (later_starts_more at c cs ∙ ap (λ b. cond b ((at + len_utf8 c) ∷ later_starts (at + len_utf8 c) (lines_of cs)) (later_starts (at + len_utf8 c) (lines_of cs))) e ∙ sym (starts_from-cons (at + len_utf8 c) (lines_of cs) (length-lines_of cs)))
-        ∙ omega (arith, later.start, sum_by-cons len_utf8 c later.front);
+          ∙ ap (λ xs. get_or xs k 0) (later_starts_more at c cs ∙ ap (λ b. cond b ((at + len_utf8 c) ∷ later_starts (at + len_utf8 c) (lines_of cs)) (later_starts (at + len_utf8 c) (lines_of cs))) e ∙ sym (starts_from-cons (at + len_utf8 c) (lines_of cs) (length-lines_of cs)))
+          ∙ omega (arith, later.start, sum_by-cons len_utf8 c later.front);
     }
 
 -- or it doesn't
@@ -55,9 +55,9 @@ cut_longer c cs k at e later =
       whole = ap (λ xs. c ∷ xs) later.whole;
       rest = later.rest ∙ drop_suc k (lines_of cs) ∙ ap (drop k) (sym (g.rest ∙ ap (λ b. cond b (lines_of cs) (drop 1 (lines_of cs))) e)) ∙ sym (drop_suc k (lines_of (c ∷ cs)));
       start = ap (λ xs. get_or xs (suc k) 0) (starts_from-cons at (lines_of (c ∷ cs)) (length-lines_of (c ∷ cs)))
-        ∙ ap (λ xs. get_or xs k 0) (later_starts_more at c cs ∙ ap (λ b. cond b ((at + len_utf8 c) ∷ later_starts (at + len_utf8 c) (lines_of cs)) (later_starts (at + len_utf8 c) (lines_of cs))) e)
-        ∙ ap (λ xs. get_or xs (suc k) 0) (sym (starts_from-cons (at + len_utf8 c) (lines_of cs) (length-lines_of cs)))
-        ∙ omega (arith, later.start, sum_by-cons len_utf8 c later.front);
+          ∙ ap (λ xs. get_or xs k 0) (later_starts_more at c cs ∙ ap (λ b. cond b ((at + len_utf8 c) ∷ later_starts (at + len_utf8 c) (lines_of cs)) (later_starts (at + len_utf8 c) (lines_of cs))) e)
+          ∙ ap (λ xs. get_or xs (suc k) 0) (sym (starts_from-cons (at + len_utf8 c) (lines_of cs) (length-lines_of cs)))
+          ∙ omega (arith, later.start, sum_by-cons len_utf8 c later.front);
     }
 
 -- how many lines are left
@@ -73,12 +73,12 @@ cut_on c cs k at false e left later = cut_longer c cs k at e (later (suc k) (at 
 
 pub cut : (cs : List ℕ) (k at : ℕ) → k < length (lines_of cs) → Cut cs k at
 cut cs zero at h = record {
-    front = [];
-    back = cs;
-    whole = refl;
-    rest = refl;
-    start = ap (λ xs. get_or xs 0 0) (starts_from-cons at (lines_of cs) (length-lines_of cs)) ∙ omega arith;
-  }
+  front = [];
+  back = cs;
+  whole = refl;
+  rest = refl;
+  start = ap (λ xs. get_or xs 0 0) (starts_from-cons at (lines_of cs) (length-lines_of cs)) ∙ omega arith;
+}
 cut [] (suc k) at h = absurd (omega arith)
 cut (c ∷ cs) (suc k) at h = cut_on c cs k at (ends_behind c cs) refl (lines_left c cs k h) (λ j at h. cut cs j at h)
 

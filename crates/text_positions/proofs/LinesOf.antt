@@ -43,8 +43,8 @@ grow_returned (d ∷ ds) = elim (cases_eq d 10) [
   | inl feed ↦ subst (λ d. Grow 13 (not (begins_with_feed (d ∷ ds))) (lines_of (d ∷ ds)) (returned (d ∷ ds) (lines_of (d ∷ ds)))) (sym feed)
       (record { some = omega arith; first = refl; rest = refl })
   | inr other ↦
-    let alone : begins_with_feed (d ∷ ds) ≡ false = grind (arith, nat_tests) in
-    grow_same 13 _ true (lines_of (d ∷ ds)) _ _ (ap not alone) (returned_alone (d ∷ ds) (lines_of (d ∷ ds)) alone) (grow_ended 13 (lines_of (d ∷ ds)) refl)
+      let alone : begins_with_feed (d ∷ ds) ≡ false = grind (arith, nat_tests) in
+      grow_same 13 _ true (lines_of (d ∷ ds)) _ _ (ap not alone) (returned_alone (d ∷ ds) (lines_of (d ∷ ds)) alone) (grow_ended 13 (lines_of (d ∷ ds)) refl)
 ]
 
 pub grow : (c : ℕ) (cs : List ℕ) → Grow c (ends_behind c cs) (lines_of cs) (lines_of (c ∷ cs))
@@ -53,9 +53,9 @@ grow c cs = elim (cases_eq c 10) [
   | inr n ↦ elim (cases_eq c 13) [
     | inl return ↦ subst (λ c. Grow c (ends_behind c cs) (lines_of cs) (lines_of (c ∷ cs))) (sym return) (grow_returned cs)
     | inr r ↦
-      let behind : ends_behind c cs ≡ false = grind (arith, nat_tests) in
-      let lines : lines_of (c ∷ cs) ≡ longer c (lines_of cs) = grind (arith, nat_tests) in
-      grow_same c _ false (lines_of cs) _ _ behind lines (grow_longer c (lines_of cs))
+        let behind : ends_behind c cs ≡ false = grind (arith, nat_tests) in
+        let lines : lines_of (c ∷ cs) ≡ longer c (lines_of cs) = grind (arith, nat_tests) in
+        grow_same c _ false (lines_of cs) _ _ behind lines (grow_longer c (lines_of cs))
   ]
 ]
 

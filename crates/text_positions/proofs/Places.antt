@@ -111,16 +111,18 @@ few_lines (c ∷ cs) =
 -- what a search by halves finds, one behind that line
 pub searched : (starts : List ℕ) (offset i : ℕ) → slice_get starts 0 ≡ Some 0 → IsPartitionPoint (λ y. leb y offset ≡ true) (λ y. leb y offset ≡ false) starts i → i ≤ length starts → (0 < i) × IsLineAt starts offset (i - 1)
 searched [] offset i first parted le = absurd (cc first)
-searched (x ∷ starts) offset zero first parted le = 
+searched (x ∷ starts) offset zero first parted le =
     let zero : x ≡ 0 = cc first in
     absurd (omega (arith, leb-false x offset (parted.1 0 0 (omega arith) (omega arith))))
 searched (x ∷ starts) offset (suc i) first parted le =
-    let here : suc i - 1 ≡ i = omega arith in
-    (omega arith, subst (IsLineAt (x ∷ starts) offset) (sym here) (record {
-      there = omega arith;
-      begun = leb-true _ _ (parted.0 i 0 (omega arith) (omega arith));
-      last = λ more. leb-false _ _ (parted.1 (suc i) 0 (omega arith) more);
-    }))
+    let here : suc i - 1 ≡ i = omega arith in (
+      omega arith,
+      subst (IsLineAt (x ∷ starts) offset) (sym here) (record {
+        there = omega arith;
+        begun = leb-true _ _ (parted.0 i 0 (omega arith) (omega arith));
+        last = λ more. leb-false _ _ (parted.1 (suc i) 0 (omega arith) more);
+      }),
+    )
 
 -- a text has no more lines than bytes and one
 pub length-line_starts : (text : List ℕ) → IsUtf8 text → length (line_starts text) ≤ length text + 1

@@ -5,3 +5,6 @@ pub mod lines;
 mod within;
 
 pub use lines::Lines;
+
+#[cfg(test)]
+mod tests;

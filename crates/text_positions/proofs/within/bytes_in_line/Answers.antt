@@ -12,7 +12,7 @@ pub loop-c-preserved : goal.loop-c-preserved
 loop-c-preserved c =
     let width : c.len_utf16-width.result ≡ units_of c.in-Some.c = units_of_is _ _ c.len_utf16-width.ensures.bmp c.len_utf16-width.ensures.surrogate_pair in
     let taken : bytes_within c.loop-c.left (first_line c.loop-c.rest.now) ≡ len_utf8 c.in-Some.c + bytes_within (c.loop-c.left - units_of c.in-Some.c) (first_line c.in-Some.more.now) =
-        bytes_more _ c.in-Some.more.now c.in-Some.c _ c.in-Some.ensures.some c.ends_line.ensures _ c.if-ends_line.false (omega arith) in
+    bytes_more _ c.in-Some.more.now c.in-Some.c _ c.in-Some.ensures.some c.ends_line.ensures _ c.if-ends_line.false (omega arith) in
     record {
       text = c.in-Some.ensures.text;
       within = omega (arith, c.in-Some.ensures.within);
@@ -24,7 +24,7 @@ pub returns-clause-bytes : goal.returns-clause-bytes
 returns-clause-bytes c =
     let stops : bytes_within c.loop-c.left (first_line c.loop-c.rest.now) ≡ 0 = elim c.match-split_char.branch [
       | in-Some+then-ends_line w ↦
-        bytes_stop _ w.in-Some.more.now w.in-Some.c _ w.in-Some.ensures.some w.ends_line.ensures _
+          bytes_stop _ w.in-Some.more.now w.in-Some.c _ w.in-Some.ensures.some w.ends_line.ensures _
           (rw (units_of_is _ _ w.len_utf16-width.ensures.bmp w.len_utf16-width.ensures.surrogate_pair) at w.then-ends_line.either)
       | in_default w ↦ ap (bytes_within c.loop-c.left) (first_line-nil _ w.in_default.ensures.none)
     ] in

@@ -8,5 +8,5 @@ use Rattle.text_positions.proofs.within.ends_behind.Goals as goal
 pub returns-then-c-eq13 : goal.returns-then-c-eq13
 returns-then-c-eq13 c =
     let feed : c.starts_with.result ≡ begins_with_feed (chars c.args.more.now) =
-        c.starts_with.ensures.byte (omega arith) (omega arith) (λ w o h. h) ∙ sym (begins_with_feed-chars c.args.more.now c.utf8.more) in
+    c.starts_with.ensures.byte (omega arith) (omega arith) (λ w o h. h) ∙ sym (begins_with_feed-chars c.args.more.now c.utf8.more) in
     ap not feed ∙ grind (arith, nat_tests)

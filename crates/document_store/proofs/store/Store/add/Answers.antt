@@ -15,8 +15,8 @@ invariant_of-self-2 c =
     still_few (length c.self.inside.docs.entries) _ (is_some c.in_ok-insert.field-0) c.in_ok-insert.ensures.len c.self.invariant
       (ap (λ b. b || nat_lt (length c.self.inside.docs.entries) 64) there ∙ ap (λ n. is_open c.args.self.now c.args.uri.now || nat_lt n 64) (sym count) ∙ sym c.has_room.ensures ∙ c.if-not-has_room.false)
 
-pub returns : goal.returns
-returns c =
+pub returns-clause-event : goal.returns-clause-event
+returns-clause-event c =
     let put : texts_of c.insert.new.self.entries ≡ insert (texts_of c.self.inside.docs.entries) (string_bytes c.in_ok-key.key) (to_z w64 (of_z w64 c.args.version), c.in_ok-text.text) =
         texts_put c.self.inside.docs c.insert.new.self (string_bytes c.in_ok-key.key) _ c.in_ok-insert.ensures.updates _ refl in
     adds c.args.self.now c.args.uri.now c.args.version c.args.text.now (sym c.has_room.ensures ∙ c.if-not-has_room.false) c.if-text-gt-MAX_TEXT.false

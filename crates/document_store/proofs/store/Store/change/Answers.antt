@@ -12,8 +12,8 @@ use Rattle.document_store.proofs.TextsOf.{get_seen, texts_put}
 use Rattle.document_store.proofs.store.Store.change.Goals as goal
 use Rattle.document_store.proofs.store.Store.change.Goals.{In-Some}
 
-pub returns-in_default : goal.returns-in_default
-returns-in_default c =
+pub returns-in_default-clause-event : goal.returns-in_default-clause-event
+returns-in_default-clause-event c =
     let absent : get c.args.self.now c.args.uri.now ≡ None = get_seen c.self.inside.docs c.args.self.now c.args.uri.now None c.self.view_is c.in_default.ensures.value in
     ap (λ o. changed c.args.self.now c.args.uri.now c.args.version c.args.changes.now (option_map (λ d. d.1) o)) absent
     ∙ ap (λ (m : Texts). (m, Some NotOpen)) (sym (ap (λ docs. texts_of docs.entries) c.get_mut.follows.holds-at-none ∙ c.self.view_is))
@@ -42,28 +42,43 @@ put c w d is =
     ∙ ap (λ (m : Texts). insert m c.args.uri.now (document w)) c.self.view_is
     ∙ ap (insert c.args.self.now c.args.uri.now) is
 
-pub returns-in-Ok : goal.returns-in-Ok
-returns-in-Ok c =
+pub returns-in-Ok-clause-event : goal.returns-in-Ok-clause-event
+returns-in-Ok-clause-event c =
     let outcome : Option (List ℕ) → Texts × Option Refusal = changed c.args.self.now c.args.uri.now c.args.version c.args.changes.now in
-    ap outcome (text_is (goal.at.returns-in-Ok c).In-Some)
+    ap outcome (text_is (goal.at.returns-in-Ok-clause-event c).In-Some)
     ∙ ap (λ t. outcome (Some t)) (sym c.as_str.ensures)
     ∙ ap (changed_to c.args.self.now c.args.uri.now c.args.version) c.in-Ok.ensures.edits
-    ∙ ap (λ (m : Texts). (m, None)) (sym (put (goal.at.returns-in-Ok c).In-Some _ _ (ap (λ v. (v, c.in-Ok.text)) (to_z-of_z w64 c.args.version c.ranges.version))))
+    ∙ ap (λ (m : Texts). (m, None)) (sym (put (goal.at.returns-in-Ok-clause-event c).In-Some _ _ (ap (λ v. (v, c.in-Ok.text)) (to_z-of_z w64 c.args.version c.ranges.version))))
 
-pub returns-then-eq : goal.returns-then-eq
-returns-then-eq c =
+pub returns-then-eq-clause-event : goal.returns-then-eq-clause-event
+returns-then-eq-clause-event c =
     let too_long : c.in-Err.fault ≡ fault.TooLong = search rules in
     let outcome : Option (List ℕ) → Texts × Option Refusal = changed c.args.self.now c.args.uri.now c.args.version c.args.changes.now in
     let left : c.close.new.self ≡ left_after c.in-Err.fault c.args.self.now c.args.uri.now =
-        c.close.ensures.closed ∙ ap (λ (m : Texts). remove m c.args.uri.now) (kept (goal.at.returns-then-eq c).In-Some) ∙ ap (λ f. left_after f c.args.self.now c.args.uri.now) (sym too_long) in
-    subst (Refused c.in-Err.fault c.args.self.now c.close.new.self) (ap (λ t. outcome (Some t)) c.as_str.ensures ∙ sym (ap outcome (text_is (goal.at.returns-then-eq c).In-Some)))
+        c.close.ensures.closed ∙ ap (λ (m : Texts). remove m c.args.uri.now) (kept (goal.at.returns-then-eq-clause-event c).In-Some) ∙ ap (λ f. left_after f c.args.self.now c.args.uri.now) (sym too_long) in
+    subst (Refused c.in-Err.fault c.args.self.now c.close.new.self) (ap (λ t. outcome (Some t)) c.as_str.ensures ∙ sym (ap outcome (text_is (goal.at.returns-then-eq-clause-event c).In-Some)))
       (change_refused c.in-Err.fault c.args.self.now c.close.new.self c.args.uri.now c.args.version (edits c.args.changes.now c.as_str.result.now) c.in-Err.ensures.edits left)
 
-pub returns-else-eq : goal.returns-else-eq
-returns-else-eq c =
+pub returns-else-eq-clause-event : goal.returns-else-eq-clause-event
+returns-else-eq-clause-event c =
     let other : c.in-Err.fault ≢ fault.TooLong = λ e. search rules in
     let outcome : Option (List ℕ) → Texts × Option Refusal = changed c.args.self.now c.args.uri.now c.args.version c.args.changes.now in
     let left : texts_of (c.get_mut.follows.lender c.in-Some.doc.now).entries ≡ left_after c.in-Err.fault c.args.self.now c.args.uri.now =
-        kept (goal.at.returns-else-eq c).In-Some ∙ sym (left_others c.in-Err.fault c.args.self.now c.args.uri.now other) in
-    subst (Refused c.in-Err.fault c.args.self.now (texts_of (c.get_mut.follows.lender c.in-Some.doc.now).entries)) (ap (λ t. outcome (Some t)) c.as_str.ensures ∙ sym (ap outcome (text_is (goal.at.returns-else-eq c).In-Some)))
+        kept (goal.at.returns-else-eq-clause-event c).In-Some ∙ sym (left_others c.in-Err.fault c.args.self.now c.args.uri.now other) in
+    subst (Refused c.in-Err.fault c.args.self.now (texts_of (c.get_mut.follows.lender c.in-Some.doc.now).entries)) (ap (λ t. outcome (Some t)) c.as_str.ensures ∙ sym (ap outcome (text_is (goal.at.returns-else-eq-clause-event c).In-Some)))
       (change_refused c.in-Err.fault c.args.self.now _ c.args.uri.now c.args.version (edits c.args.changes.now c.as_str.result.now) c.in-Err.ensures.edits left)
+
+pub returns-in_default-clause-kept : goal.returns-in_default-clause-kept
+returns-in_default-clause-kept c = λ other. ap (λ docs. texts_of docs.entries) c.get_mut.follows.holds-at-none ∙ c.self.view_is
+
+pub returns-then-eq-clause-kept : goal.returns-then-eq-clause-kept
+returns-then-eq-clause-kept c = λ other. absurd (other (search rules))
+
+pub returns-then-eq-clause-gone : goal.returns-then-eq-clause-gone
+returns-then-eq-clause-gone c = λ long. c.close.ensures.closed ∙ ap (λ (m : Texts). remove m c.args.uri.now) (kept (goal.at.returns-then-eq-clause-gone c).In-Some)
+
+pub returns-else-eq-clause-kept : goal.returns-else-eq-clause-kept
+returns-else-eq-clause-kept c = λ other. kept (goal.at.returns-else-eq-clause-kept c).In-Some
+
+pub returns-else-eq-clause-gone : goal.returns-else-eq-clause-gone
+returns-else-eq-clause-gone c = λ long. search rules

@@ -14,20 +14,20 @@ loop-c-init c =
 
 pub loop-c-preserved-in_ok-push-2 : goal.loop-c-preserved-in_ok-push-2
 loop-c-preserved-in_ok-push-2 c = record {
-    text = c.in-Some.ensures.text;
-    within = omega (arith, c.in-Some.ensures.within);
-    so_far = rw c.in_ok-push-2.ensures.items (starts_pushed c.loop-c.rest.now c.in-Some.more.now c.loop-c.starts.items _ c.in-Some.c (length c.args.text.now - length c.loop-c.rest.now) _ c.in-Some.ensures.some (omega (arith, c.in-Some.ensures.within)) c.loop-c.invariant.so_far _ c.ends_behind.ensures c.if-ends_behind.true);
-  }
+  text = c.in-Some.ensures.text;
+  within = omega (arith, c.in-Some.ensures.within);
+  so_far = rw c.in_ok-push-2.ensures.items (starts_pushed c.loop-c.rest.now c.in-Some.more.now c.loop-c.starts.items _ c.in-Some.c (length c.args.text.now - length c.loop-c.rest.now) _ c.in-Some.ensures.some (omega (arith, c.in-Some.ensures.within)) c.loop-c.invariant.so_far _ c.ends_behind.ensures c.if-ends_behind.true);
+}
 
 pub loop-c-preserved : goal.loop-c-preserved
 loop-c-preserved c = record {
-    text = c.in-Some.ensures.text;
-    within = omega (arith, c.in-Some.ensures.within);
-    so_far = starts_kept c.loop-c.rest.now c.in-Some.more.now c.loop-c.starts.items _ c.in-Some.c (length c.args.text.now - length c.loop-c.rest.now) _ c.in-Some.ensures.some (omega (arith, c.in-Some.ensures.within)) c.loop-c.invariant.so_far _ c.ends_behind.ensures c.if-ends_behind.false;
-  }
+  text = c.in-Some.ensures.text;
+  within = omega (arith, c.in-Some.ensures.within);
+  so_far = starts_kept c.loop-c.rest.now c.in-Some.more.now c.loop-c.starts.items _ c.in-Some.c (length c.args.text.now - length c.loop-c.rest.now) _ c.in-Some.ensures.some (omega (arith, c.in-Some.ensures.within)) c.loop-c.invariant.so_far _ c.ends_behind.ensures c.if-ends_behind.false;
+}
 
 pub returns : goal.returns
 returns c = record {
-    short = c.requires;
-    starts = sym (append-nil c.loop-c.starts.items) ∙ ap (λ xs. c.loop-c.starts.items ++ xs) (sym (later_starts-nil _ _ c.in_default.ensures.none)) ∙ c.loop-c.invariant.so_far;
-  }
+  short = c.requires;
+  starts = sym (append-nil c.loop-c.starts.items) ∙ ap (λ xs. c.loop-c.starts.items ++ xs) (sym (later_starts-nil _ _ c.in_default.ensures.none)) ∙ c.loop-c.invariant.so_far;
+}

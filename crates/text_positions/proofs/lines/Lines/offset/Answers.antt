@@ -16,16 +16,16 @@ pub range_from-requires : goal.range_from-requires
 range_from-requires c = λ some.
     let starts : c.self.inside.starts.items ≡ line_starts c.args.text.now = c.self.view_is ∙ c.requires.starts in
     let at : c.index.result.now ≡ get_or (line_starts c.args.text.now) c.args.pos.line 0 =
-        get_or_read c.self.inside.starts.items _ _ (omega (arith, c.self.inside.starts.ok.0)) c.index.ensures 0 ∙ ap (λ xs. get_or xs c.args.pos.line 0) starts in
+    get_or_read c.self.inside.starts.items _ _ (omega (arith, c.self.inside.starts.ok.0)) c.index.ensures 0 ∙ ap (λ xs. get_or xs c.args.pos.line 0) starts in
     let there : IsLineStart c.args.text.now c.args.pos.line (get_or (line_starts c.args.text.now) c.args.pos.line 0) =
-        line_start c.args.text.now c.args.pos.line c.utf8.text (omega (arith, ap length starts, c.self.inside.starts.ok.0)) in
+    line_start c.args.text.now c.args.pos.line c.utf8.text (omega (arith, ap length starts, c.self.inside.starts.ok.0)) in
     subst (IsCharBoundary c.args.text.now) (sym at) there.boundary
 
 pub returns-clause-exact : goal.returns-clause-exact
 returns-clause-exact c =
     let starts : c.self.inside.starts.items ≡ line_starts c.args.text.now = c.self.view_is ∙ c.requires.starts in
     let at : c.index.result.now ≡ get_or (line_starts c.args.text.now) c.args.pos.line 0 =
-        get_or_read c.self.inside.starts.items _ _ (omega (arith, c.self.inside.starts.ok.0)) c.index.ensures 0 ∙ ap (λ xs. get_or xs c.args.pos.line 0) starts in
+    get_or_read c.self.inside.starts.items _ _ (omega (arith, c.self.inside.starts.ok.0)) c.index.ensures 0 ∙ ap (λ xs. get_or xs c.args.pos.line 0) starts in
     let there = offset_of-start c.args.text.now c.args.pos c.utf8.text (omega (arith, ap length starts, c.self.inside.starts.ok.0)) in
     let rest : c.range_from.result.now ≡ drop (get_or (line_starts c.args.text.now) c.args.pos.line 0) c.args.text.now = c.range_from.ensures.value ∙ ap (λ n. drop n c.args.text.now) at in
     omega (arith, at, there, c.bytes_in_line.ensures.bytes, ap (λ t. bytes_within c.args.pos.character (first_line t)) rest)
