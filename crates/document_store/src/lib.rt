@@ -8,3 +8,6 @@ pub mod store;
 
 pub use faults::StoreFault;
 pub use store::Store;
+
+#[cfg(test)]
+mod tests;

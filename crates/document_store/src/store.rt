@@ -76,12 +76,7 @@ impl Store {
     /// Changes a document that is open, and gives it a new version: each change applies to what the one before left.
     /// A range whose start stands after its end is refused as `BadRange`, tested before any of it is clamped. Where the
     /// text is too long after a change, also between two changes, the document is gone.
-    pub fn change(
-        &mut self,
-        uri: &str,
-        version: i64,
-        changes: &[Change],
-    ) -> Result<(), StoreFault>
+    pub fn change(&mut self, uri: &str, version: i64, changes: &[Change]) -> Result<(), StoreFault>
         ensures event { Follows result self.old self.new (after self.old (texts.Changed uri.now version changes.now)) }
         ensures kept { IfErr result (λ fault. fault ≢ StoreFault.TooLong → self.new ≡ self.old) }
         ensures gone { IsErrOf result StoreFault.TooLong → self.new ≡ remove self.old uri.now }

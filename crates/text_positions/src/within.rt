@@ -10,7 +10,7 @@ use ls_base::split_char;
 pub fn ends_line(c: char) -> bool
     ensures { IsTrue result ↔ EndsLine c }
 {
-    c == '\n' || c == '\r'
+    matches!(c, '\n' | '\r')
 }
 
 /// Whether a line ends behind this character: a carriage return before a line feed ends none.
@@ -47,11 +47,11 @@ pub fn units_in_line(text: &str, bytes: usize) -> u32
     let mut left = bytes;
     let mut units = 0;
     while let Some((c, more)) = split_char(rest) {
-        let width = c.len_utf8();
-        if ends_line(c) || width > left {
+        let size = c.len_utf8();
+        if ends_line(c) || size > left {
             break;
         }
-        left -= width;
+        left -= size;
         units += c.len_utf16() as u32;
         rest = more;
     }

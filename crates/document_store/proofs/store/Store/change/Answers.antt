@@ -55,18 +55,18 @@ returns-then-eq-clause-event c =
     let too_long : c.in-Err.fault ≡ fault.TooLong = search rules in
     let outcome : Option (List ℕ) → Texts × Option Refusal = changed c.args.self.now c.args.uri.now c.args.version c.args.changes.now in
     let left : c.close.new.self ≡ left_after c.in-Err.fault c.args.self.now c.args.uri.now =
-        c.close.ensures.closed ∙ ap (λ (m : Texts). remove m c.args.uri.now) (kept (goal.at.returns-then-eq-clause-event c).In-Some) ∙ ap (λ f. left_after f c.args.self.now c.args.uri.now) (sym too_long) in
+    c.close.ensures.closed ∙ ap (λ (m : Texts). remove m c.args.uri.now) (kept (goal.at.returns-then-eq-clause-event c).In-Some) ∙ ap (λ f. left_after f c.args.self.now c.args.uri.now) (sym too_long) in
     subst (Refused c.in-Err.fault c.args.self.now c.close.new.self) (ap (λ t. outcome (Some t)) c.as_str.ensures ∙ sym (ap outcome (text_is (goal.at.returns-then-eq-clause-event c).In-Some)))
-      (change_refused c.in-Err.fault c.args.self.now c.close.new.self c.args.uri.now c.args.version (edits c.args.changes.now c.as_str.result.now) c.in-Err.ensures.edits left)
+    (change_refused c.in-Err.fault c.args.self.now c.close.new.self c.args.uri.now c.args.version (edits c.args.changes.now c.as_str.result.now) c.in-Err.ensures.edits left)
 
 pub returns-else-eq-clause-event : goal.returns-else-eq-clause-event
 returns-else-eq-clause-event c =
     let other : c.in-Err.fault ≢ fault.TooLong = λ e. search rules in
     let outcome : Option (List ℕ) → Texts × Option Refusal = changed c.args.self.now c.args.uri.now c.args.version c.args.changes.now in
     let left : texts_of (c.get_mut.follows.lender c.in-Some.doc.now).entries ≡ left_after c.in-Err.fault c.args.self.now c.args.uri.now =
-        kept (goal.at.returns-else-eq-clause-event c).In-Some ∙ sym (left_others c.in-Err.fault c.args.self.now c.args.uri.now other) in
+    kept (goal.at.returns-else-eq-clause-event c).In-Some ∙ sym (left_others c.in-Err.fault c.args.self.now c.args.uri.now other) in
     subst (Refused c.in-Err.fault c.args.self.now (texts_of (c.get_mut.follows.lender c.in-Some.doc.now).entries)) (ap (λ t. outcome (Some t)) c.as_str.ensures ∙ sym (ap outcome (text_is (goal.at.returns-else-eq-clause-event c).In-Some)))
-      (change_refused c.in-Err.fault c.args.self.now _ c.args.uri.now c.args.version (edits c.args.changes.now c.as_str.result.now) c.in-Err.ensures.edits left)
+    (change_refused c.in-Err.fault c.args.self.now _ c.args.uri.now c.args.version (edits c.args.changes.now c.as_str.result.now) c.in-Err.ensures.edits left)
 
 pub returns-in_default-clause-kept : goal.returns-in_default-clause-kept
 returns-in_default-clause-kept c = λ other. ap (λ docs. texts_of docs.entries) c.get_mut.follows.holds-at-none ∙ c.self.view_is
