@@ -1,0 +1,13 @@
+//! A document as the store keeps it.
+ghost use Rattle.std.specs.Prelude.{◌≤◌, length};
+ghost use Rattle.ls_base.specs.declared.limits.TheConstants.{MAX_TEXT};
+
+use ls_base::Text;
+
+/// The version of an open document, and its text, which isn't longer than the limit.
+#[derive(Debug, Drop)]
+pub struct Kept {
+    pub version: i64,
+    pub text: Text,
+    pub ghost short: { length text ≤ MAX_TEXT },
+}

@@ -1,0 +1,5 @@
+pub mod FirstLine
+pub mod LinesOf
+pub mod LineStarts
+pub mod Cuts
+pub mod Places

@@ -1,0 +1,83 @@
+//! The table of line starts of a text.
+ghost use Rattle.std.specs.Prelude.{◌≡◌, ◌^◌, ◌<◌, length, IfOk, slice_get};
+ghost use Rattle.std.specs.List.Sorted.{IsNonDecreasing};
+ghost use Rattle.std.specs.Str.{IsCharBoundary};
+ghost use Rattle.ls_base.specs.Positions.{offset_of, position_of};
+ghost use Rattle.text_positions.specs.Lines.{line_starts, AreLinesOf, IsLineAt};
+
+use crate::within::{bytes_in_line, ends_behind, units_in_line};
+use ls_base::{Mem, Pos, split_char};
+use std::alloc::Global;
+use std::marker::Model;
+
+/// Where the lines of a text begin, in bytes. Contracts see it as the list of these offsets.
+#[derive(Debug, Drop)]
+pub struct Lines {
+    starts: Vec<u32>,
+}
+
+impl Model for Lines {
+    ghost use Rattle.std.specs.Prelude.{List, ℕ};
+
+    ghost Value = { List ℕ };
+
+    ghost view = { λ l. l.starts.items };
+}
+
+/// The last line that begins at an offset or before it, found by halves.
+fn line_at(starts: &[u32], offset: u32) -> usize
+    requires first { slice_get starts.now 0 ≡ Some 0 }
+    requires rise { IsNonDecreasing starts.now }
+    ensures { IsLineAt starts.now offset result }
+{
+    starts.partition_point(|start| *start <= offset) - 1
+}
+
+impl Lines {
+    /// The lines of a text that is shorter than 2^32 bytes. They end with `\n`, `\r\n` or `\r` (LSP 3.17, Position).
+    pub fn of(alloc: Global, text: &str) -> Mem<Lines>
+        requires { length text.now < 2 ^ 32 }
+        ensures { IfOk result (λ lines. AreLinesOf lines text.now) }
+    {
+        let mut starts = Vec::new(alloc);
+        starts.push(0)?;
+        let mut rest = text;
+        while let Some((c, more)) = split_char(rest) {
+            if ends_behind(c, more) {
+                starts.push((text.len() - more.len()) as u32)?;
+            }
+            rest = more;
+        }
+        Ok(Lines { starts })
+    }
+
+    /// The offset of a position in bytes. A character past its line means the end of the line, before its line end;
+    /// a line past the last means the end of the text; the middle of a surrogate pair means the character's start.
+    pub fn offset(&self, text: &str, pos: Pos) -> u32
+        requires { AreLinesOf self.now text.now }
+        ensures exact { result ≡ offset_of text.now pos }
+        // A text may be cut there: a character begins there, or the text ends.
+        ensures boundary { IsCharBoundary text.now result }
+    {
+        let line = pos.line as usize;
+        if line >= self.starts.len() {
+            return text.len() as u32;
+        }
+        let start = self.starts[line] as usize;
+        (start + bytes_in_line(&text[start..], pos.character)) as u32
+    }
+
+    /// The position of an offset in bytes. An offset inside a line end means the end of its line, one inside a
+    /// character the character's start, one past the text the end of the text.
+    pub fn position(&self, text: &str, offset: u32) -> Pos
+        requires { AreLinesOf self.now text.now }
+        ensures { result ≡ position_of text.now offset }
+    {
+        let line = line_at(&self.starts, offset);
+        let start = self.starts[line];
+        Pos {
+            line: line as u32,
+            character: units_in_line(&text[start as usize..], (offset - start) as usize),
+        }
+    }
+}
