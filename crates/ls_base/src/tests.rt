@@ -1,7 +1,7 @@
 //! Each public call once, with its answer.
 ghost use Rattle.std.specs.Prelude.{◌≡◌, ◌<◌};
 
-use crate::{Items, Steps, Text};
+use crate::{Items, Steps, Text, split_char};
 use std::cmp::Ordering;
 use std::marker::Brand;
 use std::sync::ledger::Blank;
@@ -29,6 +29,15 @@ fn keeps_items_in_order(rt: HostRuntime) -> Result<(), Fail> {
     assert_eq!(rt; items.as_slice(), [3u8, 1].as_slice());
     let again = Items::from_vec(items.into_vec());
     assert_eq!(rt; again.as_slice(), [3u8, 1].as_slice());
+    Ok(())
+}
+
+#[test]
+fn splits_a_text_behind_its_first_character(rt: HostRuntime) -> Result<(), Fail> {
+    let (first, rest) = split_char("λ😀x").ok_or("empty")?;
+    assert_eq!(rt; first, 'λ');
+    assert_eq!(rt; rest, "😀x");
+    assert!(rt; split_char("").is_none());
     Ok(())
 }
 
