@@ -1,12 +1,12 @@
 -- Offsets rise with positions.
-use Rattle.std.proofs.Common.{◌≡◌, ℕ, zero, suc, ◌+◌, ◌-◌, ◌<◌, ◌≤◌, ◌⊎◌, inl, inr, false, List, [], ◌∷◌, arith}
+use Rattle.std.proofs.Common.{◌≡◌, ℕ, zero, suc, ◌-◌, ◌<◌, ◌≤◌, ◌⊎◌, inl, inr, false, List, [], ◌∷◌, arith}
 use Rattle.std.proofs.lemmas.Bool.{cases_lt}
 use Rattle.std.proofs.lemmas.Bool.Decides.{nat_tests}
 use Rattle.std.proofs.lemmas.List.Sums.{sum_by-cons}
 use Rattle.std.specs.Char.{len_utf8}
 use Rattle.std.specs.Str.{chars}
 use Rattle.ls_base.specs.declared.places.Pos.{Pos}
-use Rattle.ls_base.specs.Positions.{Line, lines_of, units_of, byte_count, full_bytes, bytes_within, offset_in, offset_of}
+use Rattle.ls_base.specs.Positions.{Line, lines_of, units_of, byte_count, bytes_within, offset_in, offset_of}
 use Rattle.document_store.specs.Texts.{is_before}
 
 bytes_within-mono : (cs : List ℕ) (u v : ℕ) → u ≤ v → bytes_within u cs ≤ bytes_within v cs

@@ -7,5 +7,4 @@ ghost use Rattle.document_store.specs.Texts.{is_before};
 /// The offsets of a range that isn't refused stand in order, so that a change replaces the bytes between them.
 pub fn offsets_rise()
     ensures { (text : List ℕ) (p q : Pos) → is_before q p ≡ false → offset_of text p ≤ offset_of text q }
-{
-}
+{}
