@@ -1,2 +1,3 @@
 pub mod TextsOf
 pub mod Events
+pub mod Rising

@@ -4,6 +4,7 @@
 mod edit;
 pub mod faults;
 mod kept;
+pub mod laws;
 pub mod store;
 
 pub use faults::StoreFault;

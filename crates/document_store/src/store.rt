@@ -56,7 +56,8 @@ impl Store {
         self.docs.contains_key(uri) || self.docs.len() < MAX_DOCUMENTS
     }
 
-    /// Opens a document, or gives one that is open a new version and text.
+    /// Opens a document, or gives one that is open a new version and text. A 65th document is refused as `TooMany`,
+    /// and else a text over the limit as `TooLong`.
     pub fn add(&mut self, uri: &str, version: i64, text: &str) -> Result<(), StoreFault>
         ensures event { Follows result self.old self.new (after self.old (texts.Added uri.now version text.now)) }
         ensures kept { OnErr result (self.new ≡ self.old) }
@@ -73,9 +74,9 @@ impl Store {
         Ok(())
     }
 
-    /// Changes a document that is open, and gives it a new version: each change applies to what the one before left.
-    /// A range whose start stands after its end is refused as `BadRange`, tested before any of it is clamped. Where the
-    /// text is too long after a change, also between two changes, the document is gone.
+    /// Changes a document, and gives it a new version: each change applies to what the one before left. A uri that
+    /// isn't open is refused as `NotOpen`; then, change by change, a range whose start stands after its end as
+    /// `BadRange`, before any of it is clamped, and a text over the limit as `TooLong`, which takes the document away.
     pub fn change(&mut self, uri: &str, version: i64, changes: &[Change]) -> Result<(), StoreFault>
         ensures event { Follows result self.old self.new (after self.old (texts.Changed uri.now version changes.now)) }
         ensures kept { IfErr result (λ fault. fault ≢ StoreFault.TooLong → self.new ≡ self.old) }

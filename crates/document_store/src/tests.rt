@@ -167,7 +167,7 @@ fn keeps_texts_up_to_the_limit(rt: HostRuntime) -> Result<(), Fail> {
     change_gives(&rt, &mut store, 2, &[same], Ok(()));
     let longer = between(rt.alloc(), (0, 5), (0, 5), "y")?;
     let backward = between(rt.alloc(), (0, 5), (0, 4), "y")?;
-    changes(
+    change_gives(
         &rt,
         &mut store,
         3,
@@ -184,7 +184,7 @@ fn drops_a_text_that_is_too_long_between_two_changes(rt: HostRuntime) -> Result<
     let mut store = one(rt.alloc(), most.as_str())?;
     let longer = between(rt.alloc(), (0, 5), (0, 5), "y")?;
     let anew = whole(rt.alloc(), "")?;
-    changes(
+    change_gives(
         &rt,
         &mut store,
         2,

@@ -32,6 +32,15 @@ fn keeps_items_in_order(rt: HostRuntime) -> Result<(), Fail> {
     Ok(())
 }
 
+#[test]
+fn splits_a_text_behind_its_first_character(rt: HostRuntime) -> Result<(), Fail> {
+    let (first, rest) = split_char("λ😀x").ok_or("empty")?;
+    assert_eq!(rt; first, 'λ');
+    assert_eq!(rt; rest, "😀x");
+    assert!(rt; split_char("").is_none());
+    Ok(())
+}
+
 fn count<L: std::sync::ledger::Ledger>(blank: Blank)
     requires name { blank.name ≡ L.name }
     requires parts { blank.parts ≡ L.parts }

@@ -6,7 +6,8 @@ use Rattle.std.proofs.lemmas.Str.{length-encode, encodes-chars, scalars-chars, e
 use Rattle.std.specs.Str.{chars, IsUtf8, IsCharBoundary, encode_utf8_all as encodes, all_scalars as scalars}
 use Rattle.std.specs.Char.{len_utf8, encode_utf8}
 use Rattle.ls_base.specs.Positions.{Line, lines_of, byte_count, full_bytes}
-use Rattle.text_positions.specs.Lines.{starts_from, line_starts, ends_behind}
+use Rattle.text_positions.specs.Lines.{starts_from, line_starts}
+use Rattle.text_positions.specs.Walks.{ends_behind}
 use Rattle.text_positions.proofs.LinesOf.{grow, length-lines_of}
 use Rattle.text_positions.proofs.LineStarts.{later_starts, later_starts_more, starts_from-cons}
 

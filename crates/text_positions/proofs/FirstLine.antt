@@ -7,7 +7,7 @@ use Rattle.std.proofs.lemmas.Str.{chars-nil}
 use Rattle.std.specs.Str.{chars}
 use Rattle.std.specs.Char.{len_utf8}
 use Rattle.ls_base.specs.Positions.{Line, lines_of, returned, longer, units_of, bytes_within, units_within}
-use Rattle.text_positions.specs.Lines.{EndsLine, first_chars, first_line}
+use Rattle.text_positions.specs.Walks.{EndsLine, first_chars, first_line}
 
 -- how `len_utf16` answers
 pub units_of_is : (c n : ℕ) → (c < 65536 → n ≡ 1) → (65536 ≤ c → n ≡ 2) → n ≡ units_of c

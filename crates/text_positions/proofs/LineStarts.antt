@@ -6,7 +6,8 @@ use Rattle.std.specs.Str.{chars, IsUtf8, encode_utf8_all as encodes}
 use Rattle.std.specs.Char.{len_utf8, encode_utf8}
 use Rattle.ls_base.specs.Positions.{Line, lines_of}
 use Rattle.text_positions.proofs.LinesOf.{first_bytes, grow, length-lines_of}
-use Rattle.text_positions.specs.Lines.{starts_from, line_starts, begins_with_feed, ends_behind}
+use Rattle.text_positions.specs.Lines.{starts_from, line_starts}
+use Rattle.text_positions.specs.Walks.{begins_with_feed, ends_behind}
 
 -- where the lines behind the first begin
 abbrev pub later_starts : ℕ → List Line → List ℕ

@@ -5,7 +5,7 @@ use Rattle.std.proofs.lemmas.Bool.{cases_eq}
 use Rattle.std.proofs.lemmas.List.Sums.{sum_by-cons}
 use Rattle.std.specs.Char.{len_utf8}
 use Rattle.ls_base.specs.Positions.{Line, ended, lines_of, returned, longer, full_bytes, byte_count}
-use Rattle.text_positions.specs.Lines.{begins_with_feed, ends_behind}
+use Rattle.text_positions.specs.Walks.{begins_with_feed, ends_behind}
 
 -- the bytes of the first line with its end
 abbrev pub first_bytes : List Line → ℕ

@@ -10,7 +10,8 @@ use Rattle.std.specs.Str.{chars, IsUtf8}
 use Rattle.std.specs.Char.{len_utf8}
 use Rattle.ls_base.specs.declared.places.Pos.{Pos}
 use Rattle.ls_base.specs.Positions.{Line, lines_of, full_bytes, byte_count, bytes_within, units_within, offset_in, offset_of, position_in, position_of, below}
-use Rattle.text_positions.specs.Lines.{starts_from, line_starts, first_chars, first_line, ends_behind, IsLineAt}
+use Rattle.text_positions.specs.Lines.{starts_from, line_starts}
+use Rattle.text_positions.specs.Walks.{first_chars, first_line, ends_behind, IsLineAt}
 use Rattle.text_positions.proofs.LinesOf.{first_bytes, grow, length-lines_of}
 use Rattle.text_positions.proofs.LineStarts.{starts_from-cons}
 use Rattle.text_positions.proofs.Cuts.{length-starts_from, length-encodes, IsLineStart, line_start}

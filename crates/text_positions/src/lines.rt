@@ -3,7 +3,8 @@ ghost use Rattle.std.specs.Prelude.{◌≡◌, ◌^◌, ◌<◌, length, IfOk, s
 ghost use Rattle.std.specs.List.Sorted.{IsNonDecreasing};
 ghost use Rattle.std.specs.Str.{IsCharBoundary};
 ghost use Rattle.ls_base.specs.Positions.{offset_of, position_of};
-ghost use Rattle.text_positions.specs.Lines.{line_starts, AreLinesOf, IsLineAt};
+ghost use Rattle.text_positions.specs.Lines.{line_starts, AreLinesOf};
+ghost use Rattle.text_positions.specs.Walks.{IsLineAt};
 
 use crate::within::{bytes_in_line, ends_behind, units_in_line};
 use ls_base::{Mem, Pos, split_char};
@@ -51,8 +52,9 @@ impl Lines {
         Ok(Lines { starts })
     }
 
-    /// The offset of a position in bytes. A character past its line means the end of the line, before its line end;
-    /// a line past the last means the end of the text; the middle of a surrogate pair means the character's start.
+    /// The offset of a position in bytes, in the text that the lines are of. A character past its line means the end
+    /// of the line, before its line end; a line past the last means the end of the text; the middle of a surrogate
+    /// pair means the character's start (LSP 3.17, Position).
     pub fn offset(&self, text: &str, pos: Pos) -> u32
         requires { AreLinesOf self.now text.now }
         ensures exact { result ≡ offset_of text.now pos }
@@ -67,8 +69,8 @@ impl Lines {
         (start + bytes_in_line(&text[start..], pos.character)) as u32
     }
 
-    /// The position of an offset in bytes. An offset inside a line end means the end of its line, one inside a
-    /// character the character's start, one past the text the end of the text.
+    /// The position of an offset in bytes, in the text that the lines are of. An offset inside a line end means the
+    /// end of its line, one inside a character the character's start, one past the text the end of the text.
     pub fn position(&self, text: &str, offset: u32) -> Pos
         requires { AreLinesOf self.now text.now }
         ensures { result ≡ position_of text.now offset }

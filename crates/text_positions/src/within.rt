@@ -2,7 +2,7 @@
 ghost use Rattle.std.specs.Prelude.{◌≡◌, ◌^◌, ◌<◌, ◌↔◌, ◌⊎◌, length, IsTrue};
 ghost use Rattle.std.specs.Str.{chars, IsCharBoundary};
 ghost use Rattle.ls_base.specs.Positions.{bytes_within, units_within};
-ghost use Rattle.text_positions.specs.Lines.{EndsLine, ends_behind, first_line};
+ghost use Rattle.text_positions.specs.Walks.{EndsLine, ends_behind, first_line};
 
 use ls_base::split_char;
 

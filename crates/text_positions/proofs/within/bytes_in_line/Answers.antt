@@ -3,7 +3,7 @@ use Rattle.std.specs.Str.{IsUtf8}
 use Rattle.std.specs.Char.{len_utf8}
 use Rattle.std.proofs.lemmas.Str.{IsCharBoundary-from_drop}
 use Rattle.ls_base.specs.Positions.{bytes_within, units_of}
-use Rattle.text_positions.specs.Lines.{first_line}
+use Rattle.text_positions.specs.Walks.{first_line}
 use Rattle.text_positions.proofs.FirstLine.{units_of_is, bytes_more, bytes_stop, first_line-nil, rest_more}
 use Rattle.text_positions.proofs.within.bytes_in_line.Goals as goal
 use Rattle.text_positions.proofs.within.bytes_in_line.Goals.{in-Some+then-ends_line, in_default}

@@ -1,7 +1,7 @@
 use Rattle.std.proofs.Common.{◌≡◌, not, sym, ap, ◌∙◌, arith}
 use Rattle.std.proofs.lemmas.Bool.Decides.{nat_tests}
 use Rattle.std.specs.Str.{chars}
-use Rattle.text_positions.specs.Lines.{begins_with_feed}
+use Rattle.text_positions.specs.Walks.{begins_with_feed}
 use Rattle.text_positions.proofs.LineStarts.{begins_with_feed-chars}
 use Rattle.text_positions.proofs.within.ends_behind.Goals as goal
 

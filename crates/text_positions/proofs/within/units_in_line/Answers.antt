@@ -1,7 +1,7 @@
 use Rattle.std.proofs.Common.{◌≡◌, ◌+◌, ◌-◌, ap, arith}
 use Rattle.std.specs.Char.{len_utf8}
 use Rattle.ls_base.specs.Positions.{units_within, units_of}
-use Rattle.text_positions.specs.Lines.{first_line}
+use Rattle.text_positions.specs.Walks.{first_line}
 use Rattle.text_positions.proofs.FirstLine.{units_of_is, units_of-le-len_utf8, units_more, units_stop, first_line-nil}
 use Rattle.text_positions.proofs.within.units_in_line.Goals as goal
 

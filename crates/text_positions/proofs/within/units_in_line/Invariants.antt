@@ -2,7 +2,7 @@ use Rattle.std.proofs.Common.{◌≡◌, ◌+◌, ◌≤◌, length}
 use denote.Text.{Utf8}
 use denote.Shadow.{shadow}
 use Rattle.ls_base.specs.Positions.{units_within}
-use Rattle.text_positions.specs.Lines.{first_line}
+use Rattle.text_positions.specs.Walks.{first_line}
 use Rattle.text_positions.proofs.within.units_in_line.Given as goal
 
 abbrev pub invariant-loop-c : goal.invariant-loop-c

@@ -2,7 +2,8 @@ use Rattle.std.proofs.Common.{◌≡◌, length, get_or, drop, sym, ap, ◌∙�
 use Rattle.std.proofs.lemmas.List.{get_or_read}
 use Rattle.std.specs.Str.{IsCharBoundary}
 use Rattle.ls_base.specs.Positions.{bytes_within}
-use Rattle.text_positions.specs.Lines.{line_starts, first_line}
+use Rattle.text_positions.specs.Lines.{line_starts}
+use Rattle.text_positions.specs.Walks.{first_line}
 use Rattle.text_positions.proofs.Cuts.{IsLineStart, line_start}
 use Rattle.text_positions.proofs.Places.{offset_of-start, offset_of-past}
 use Rattle.text_positions.proofs.lines.Lines.offset.Goals as goal

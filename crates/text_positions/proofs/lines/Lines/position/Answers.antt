@@ -3,7 +3,8 @@ use Rattle.std.specs.List.Sorted.{IsNonDecreasing}
 use Rattle.std.specs.Str.{IsCharBoundary}
 use Rattle.ls_base.specs.declared.places.Pos.{Pos}
 use Rattle.ls_base.specs.Positions.{units_within}
-use Rattle.text_positions.specs.Lines.{IsLineAt, line_starts, first_line}
+use Rattle.text_positions.specs.Lines.{line_starts}
+use Rattle.text_positions.specs.Walks.{IsLineAt, first_line}
 use Rattle.text_positions.proofs.Cuts.{IsLineStart, line_start}
 use Rattle.text_positions.proofs.Places.{position_of-start, line_starts-rise, length-line_starts, first_start, start_read}
 use Rattle.text_positions.proofs.lines.Lines.position.Goals as goal
