@@ -54,12 +54,3 @@ fn count<L: std::sync::ledger::Ledger>(blank: Blank)
 fn counts_a_step() {
     count::<Brand>(Blank::new(1));
 }
-
-#[test]
-fn splits_a_character_off(rt: HostRuntime) -> Result<(), Fail> {
-    let (first, rest) = split_char("λx").ok_or("none")?;
-    assert_eq!(rt; first, 'λ');
-    assert_eq!(rt; rest, "x");
-    assert!(rt; split_char("").is_none());
-    Ok(())
-}
