@@ -1,0 +1,105 @@
+-- What a body says (JSON-RPC 2.0 section 4). Its reading as JSON is judged first, then its shape, then its method, then its parameters.
+use Rattle.std.specs.Prelude.{◌≡◌, ◌||◌, ℕ, List, Bool, true, false, Option, Some, None, Result, Ok, Err, option_map, option_and_then, is_some, if◌then◌else◌, codes}
+use Rattle.std.specs.Str.{bytes_eq, is_utf8}
+use Rattle.serde_json.specs.Data.{Data, null, boolean, number, string, array, object}
+use Rattle.serde_json.specs.Read.{read}
+use Rattle.serde_json.specs.Find.{get, as_str, as_i64}
+use Rattle.lsp_messages.specs.declared.fault.Fault.{Fault}
+use Rattle.lsp_messages.specs.declared.fault.Fault.TheVariants.{Unknown, Bad}
+use Rattle.lsp_messages.specs.declared.message.Id.{Id}
+use Rattle.lsp_messages.specs.declared.message.Id.TheVariants.{Number, Name}
+use Rattle.lsp_messages.specs.declared.message.Call.{Call}
+use Rattle.lsp_messages.specs.declared.message.Note.{Note}
+use Rattle.lsp_messages.specs.declared.message.Note.TheVariants.{BadParams, Other}
+use Rattle.lsp_messages.specs.declared.message.Message.{Message}
+use Rattle.lsp_messages.specs.declared.message.Message.TheVariants.{Request, Notice, Response}
+use Rattle.lsp_messages.specs.declared.message.Reject.{Reject}
+use Rattle.lsp_messages.specs.declared.message.Reject.TheVariants.{Parse, Invalid, Method, Params}
+use Rattle.lsp_messages.specs.declared.message.Reject.TheVariants as rejects
+use Rattle.lsp_messages.specs.Parameters.{call_of, note_of}
+
+-- a JSON text is UTF-8 (RFC 8259 section 8.1)
+abbrev pub json_of : List ℕ → Option Data
+json_of body = if is_utf8 body then read body else None
+
+-- whether a message is of version 2.0
+abbrev pub is_version : Option (List ℕ) → Bool
+is_version None = false
+is_version (Some version) = bytes_eq version (codes "2.0")
+
+abbrev pub is_rpc : Data → Bool
+is_rpc d = is_version (option_and_then as_str (get (codes "jsonrpc") d))
+
+-- a valid id: a whole number that fits 64 bits with its sign, or a string
+abbrev pub id_of : Data → Option Id
+id_of null = None
+id_of (boolean b) = None
+id_of (number n) = option_map Number (as_i64 n)
+id_of (string s) = Some (Name s)
+id_of (array ds) = None
+id_of (object ms) = None
+
+-- the field id, where it is a valid one
+abbrev pub valid_id : Data → Option Id
+valid_id d = option_and_then id_of (get (codes "id") d)
+
+-- what isn't a message
+abbrev pub invalid : Data → Result Message Reject
+invalid d = Err (Invalid (valid_id d))
+
+-- a request, which has an id
+abbrev pub request_of : Id → Result Call Fault → Result Message Reject
+request_of id (Ok call) = Ok (Request id call)
+request_of id (Err Unknown) = Err (Method id)
+request_of id (Err Bad) = Err (Params id)
+
+-- a notification, which has none
+abbrev pub notice_of : List ℕ → Result Note Fault → Result Message Reject
+notice_of method (Ok note) = Ok (Notice note)
+notice_of method (Err Unknown) = Ok (Notice Other)
+notice_of method (Err Bad) = Ok (Notice (BadParams method))
+
+-- a message with a method and a field id: a request where the id is valid
+abbrev pub asked_by : List ℕ → Data → Option Id → Result Message Reject
+asked_by method d None = invalid d
+asked_by method d (Some id) = request_of id (call_of method d)
+
+-- a message with a method, by its field id
+abbrev pub sent_by : List ℕ → Data → Option Data → Result Message Reject
+sent_by method d None = notice_of method (note_of method d)
+sent_by method d (Some id) = asked_by method d (id_of id)
+
+-- a message with a field method, which must be a string
+abbrev pub named_by : Option (List ℕ) → Data → Result Message Reject
+named_by None d = invalid d
+named_by (Some method) d = sent_by method d (get (codes "id") d)
+
+-- a message without a field method: a response has a result or an error
+abbrev pub response_of : Data → Result Message Reject
+response_of d = if is_some (get (codes "result") d) || is_some (get (codes "error") d) then Ok Response else invalid d
+
+-- a message of version 2.0, by its field method
+abbrev pub shape_of : Option Data → Data → Result Message Reject
+shape_of None d = response_of d
+shape_of (Some method) d = named_by (as_str method) d
+
+-- what JSON says
+abbrev pub said_by : Option Data → Result Message Reject
+said_by None = Err Parse
+said_by (Some d) = if is_rpc d then shape_of (get (codes "method") d) d else invalid d
+
+-- what a body says
+abbrev pub message_of : List ℕ → Result Message Reject
+message_of body = said_by (json_of body)
+
+-- What a function answered is what the definition gives, unless memory ran out.
+abbrev pub Refuses : Reject → Result Message Reject → Type 0
+Refuses rejects.Memory given = Unit {0}
+Refuses Parse given = given ≡ Err Parse
+Refuses (Invalid id) given = given ≡ Err (Invalid id)
+Refuses (Method id) given = given ≡ Err (Method id)
+Refuses (Params id) given = given ≡ Err (Params id)
+
+abbrev pub Answers : Result Message Reject → Result Message Reject → Type 0
+Answers (Ok message) given = given ≡ Ok message
+Answers (Err reject) given = Refuses reject given
