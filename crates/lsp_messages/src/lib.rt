@@ -4,11 +4,14 @@
 
 mod fault;
 mod fields;
+mod json;
 mod message;
 mod parameters;
 mod reading;
 mod reply;
+mod writing;
 
 pub use message::{At, Call, Id, Message, Note, Reject};
 pub use reading::read_message;
 pub use reply::Reply;
+pub use writing::reply_bytes;
