@@ -25,32 +25,32 @@ Gives view (Ok x) given = given ≡ Ok (view x)
 Gives view (Err e) given = Fails e given
 
 -- what must be there
-abbrev pub needed : {A : Type 0} → Option A → Result A Fault
-needed None = Err Bad
-needed (Some x) = Ok x
+abbrev pub needed_value : {A : Type 0} → Option A → Result A Fault
+needed_value None = Err Bad
+needed_value (Some x) = Ok x
 
 -- a field of an object
 abbrev pub field_at : List ℕ → Data → Result Data Fault
-field_at key d = needed (get key d)
+field_at key d = needed_value (get key d)
 
 -- a string
 abbrev pub text_at : List ℕ → Data → Result (List ℕ) Fault
-text_at key d = field_at key d >>= λ value. needed (as_str value)
+text_at key d = field_at key d >>= λ value. needed_value (as_str value)
 
 -- a list
 abbrev pub list_at : List ℕ → Data → Result Items Fault
-list_at key d = field_at key d >>= λ value. needed (as_array value)
+list_at key d = field_at key d >>= λ value. needed_value (as_array value)
 
 -- a whole number that fits 64 bits with its sign
 abbrev pub integer_at : List ℕ → Data → Result ℤ Fault
-integer_at key d = field_at key d >>= λ value. needed (option_and_then as_i64 (as_number value))
+integer_at key d = field_at key d >>= λ value. needed_value (option_and_then as_i64 (as_number value))
 
 -- a number of a position: whole, from 0 to 2147483647 (LSP 3.17, uinteger)
 abbrev pub at_most : ℕ → ℕ → Result ℕ Fault
 at_most limit n = if nat_le n limit then Ok n else Err Bad
 
 abbrev pub uinteger_at : List ℕ → Data → Result ℕ Fault
-uinteger_at key d = field_at key d >>= λ value. needed (option_and_then as_u64 (as_number value)) >>= at_most 2147483647
+uinteger_at key d = field_at key d >>= λ value. needed_value (option_and_then as_u64 (as_number value)) >>= at_most 2147483647
 
 abbrev pub position_at : List ℕ → Data → Result Pos Fault
 position_at key d = do

@@ -59,38 +59,38 @@ notice_of method (Ok note) = Ok (Notice note)
 notice_of method (Err Unknown) = Ok (Notice Other)
 notice_of method (Err Bad) = Ok (Notice (BadParams method))
 
--- a message with a method and a field id: a request where the id is valid
-abbrev pub asked_by : List ℕ → Data → Option Id → Result Message Reject
-asked_by method d None = invalid d
-asked_by method d (Some id) = request_of id (call_of method d)
-
--- a message with a method, by its field id
-abbrev pub sent_by : List ℕ → Data → Option Data → Result Message Reject
-sent_by method d None = notice_of method (note_of method d)
-sent_by method d (Some id) = asked_by method d (id_of id)
-
--- a message with a field method, which must be a string
-abbrev pub named_by : Option (List ℕ) → Data → Result Message Reject
-named_by None d = invalid d
-named_by (Some method) d = sent_by method d (get (codes "id") d)
-
 -- a message without a field method: a response has a result or an error
 abbrev pub response_of : Data → Result Message Reject
 response_of d = if is_some (get (codes "result") d) || is_some (get (codes "error") d) then Ok Response else invalid d
 
--- a message of version 2.0, by its field method
-abbrev pub shape_of : Option Data → Data → Result Message Reject
-shape_of None d = response_of d
-shape_of (Some method) d = named_by (as_str method) d
+-- a message with a method and a field id, by the valid id
+abbrev pub message_by_valid_id : List ℕ → Data → Option Id → Result Message Reject
+message_by_valid_id method d None = invalid d
+message_by_valid_id method d (Some id) = request_of id (call_of method d)
 
--- what JSON says
-abbrev pub said_by : Option Data → Result Message Reject
-said_by None = Err Parse
-said_by (Some d) = if is_rpc d then shape_of (get (codes "method") d) d else invalid d
+-- a message with a method, by its field id
+abbrev pub message_by_id : List ℕ → Data → Option Data → Result Message Reject
+message_by_id method d None = notice_of method (note_of method d)
+message_by_id method d (Some id) = message_by_valid_id method d (id_of id)
+
+-- a message with a field method, by the string that it must be
+abbrev pub message_by_name : Data → Option (List ℕ) → Result Message Reject
+message_by_name d None = invalid d
+message_by_name d (Some method) = message_by_id method d (get (codes "id") d)
+
+-- a message, by its field method
+abbrev pub message_by_method : Data → Option Data → Result Message Reject
+message_by_method d None = response_of d
+message_by_method d (Some method) = message_by_name d (as_str method)
+
+-- what the JSON of a body says
+abbrev pub message_in : Option Data → Result Message Reject
+message_in None = Err Parse
+message_in (Some d) = if is_rpc d then message_by_method d (get (codes "method") d) else invalid d
 
 -- what a body says
 abbrev pub message_of : List ℕ → Result Message Reject
-message_of body = said_by (json_of body)
+message_of body = message_in (json_of body)
 
 -- What a function answered is what the definition gives, unless memory ran out.
 abbrev pub Refuses : Reject → Result Message Reject → Type 0

@@ -59,14 +59,14 @@ opened_in message = do
   Ok (Opened uri version text)
 
 -- the range that a change replaces, or none where the change is of the whole text
-abbrev pub replaced : Option Data → Result (Option Range) Fault
-replaced None = Ok None
-replaced (Some d) = range_of d >>= λ range. Ok (Some range)
+abbrev pub replaced_range : Option Data → Result (Option Range) Fault
+replaced_range None = Ok None
+replaced_range (Some d) = range_of d >>= λ range. Ok (Some range)
 
 -- a change (TextDocumentContentChangeEvent)
 abbrev pub change_of : Data → Result Change Fault
 change_of d = do
-  range ← replaced (get (codes "range") d)
+  range ← replaced_range (get (codes "range") d)
   text ← text_at (codes "text") d
   Ok (record { range = range; text = text })
 

@@ -1,7 +1,8 @@
 //! Readers of the fields of an object (LSP 3.17, "Basic JSON Structures").
 ghost use Rattle.std.specs.Prelude.{◌≡◌};
 ghost use Rattle.serde_json.specs.View.{view, items_view};
-ghost use Rattle.lsp_messages.specs.Fields.{Gives, field_at, text_at, list_at, integer_at, uinteger_at, position_at, range_of};
+ghost use Rattle.lsp_messages.specs.Fields as spec;
+ghost use Rattle.lsp_messages.specs.Fields.{Gives};
 
 use crate::fault::{Fault, ReadError};
 use ls_base::{Pos, Range};
@@ -12,35 +13,35 @@ const MAX_UINTEGER: u64 = 2_147_483_647;
 
 /// A field of an object.
 pub(crate) fn field<'v>(value: &'v Value, key: &str) -> Result<&'v Value, ReadError>
-    ensures { Gives (λ v. view v.now) result (field_at key.now (view value.now)) }
+    ensures { Gives (λ v. view v.now) result (spec.field_at key.now (view value.now)) }
 {
     Ok(value.get(key).ok_or(Fault::Bad)?)
 }
 
 /// A field that is a string.
 pub(crate) fn text<'v>(value: &'v Value, key: &str) -> Result<&'v str, ReadError>
-    ensures { Gives (λ s. s.now) result (text_at key.now (view value.now)) }
+    ensures { Gives (λ s. s.now) result (spec.text_at key.now (view value.now)) }
 {
     Ok(field(value, key)?.as_str().ok_or(Fault::Bad)?)
 }
 
 /// A field that is a list.
 pub(crate) fn list<'v>(value: &'v Value, key: &str) -> Result<&'v Vec<Value>, ReadError>
-    ensures { Gives (λ v. items_view v.now.items) result (list_at key.now (view value.now)) }
+    ensures { Gives (λ v. items_view v.now.items) result (spec.list_at key.now (view value.now)) }
 {
     Ok(field(value, key)?.as_array().ok_or(Fault::Bad)?)
 }
 
 /// A field that is a whole number.
 pub(crate) fn integer(value: &Value, key: &str) -> Result<i64, ReadError>
-    ensures { Gives (λ n. n) result (integer_at key.now (view value.now)) }
+    ensures { Gives (λ n. n) result (spec.integer_at key.now (view value.now)) }
 {
     Ok(field(value, key)?.as_i64().ok_or(Fault::Bad)?)
 }
 
 /// A field that is a number of a position.
 pub(crate) fn uinteger(value: &Value, key: &str) -> Result<u32, ReadError>
-    ensures { Gives (λ n. n) result (uinteger_at key.now (view value.now)) }
+    ensures { Gives (λ n. n) result (spec.uinteger_at key.now (view value.now)) }
 {
     let number = field(value, key)?.as_u64().ok_or(Fault::Bad)?;
     if number > MAX_UINTEGER {
@@ -51,7 +52,7 @@ pub(crate) fn uinteger(value: &Value, key: &str) -> Result<u32, ReadError>
 
 /// A field that is a position.
 pub(crate) fn position(value: &Value, key: &str) -> Result<Pos, ReadError>
-    ensures { Gives (λ p. p) result (position_at key.now (view value.now)) }
+    ensures { Gives (λ p. p) result (spec.position_at key.now (view value.now)) }
 {
     let position = field(value, key)?;
     let line = uinteger(position, "line")?;
@@ -61,7 +62,7 @@ pub(crate) fn position(value: &Value, key: &str) -> Result<Pos, ReadError>
 
 /// A range.
 pub(crate) fn range(value: &Value) -> Result<Range, ReadError>
-    ensures { Gives (λ r. r) result (range_of (view value.now)) }
+    ensures { Gives (λ r. r) result (spec.range_of (view value.now)) }
 {
     let start = position(value, "start")?;
     let end = position(value, "end")?;

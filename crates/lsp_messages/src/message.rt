@@ -22,18 +22,10 @@ pub struct At {
 #[derive(Debug, Drop)]
 pub enum Call {
     /// `prepare` says that the client states prepare support for renames.
-    Initialize {
-        prepare: bool,
-    },
+    Initialize { prepare: bool },
     Shutdown,
-    Ask {
-        at: At,
-        query: Query,
-    },
-    Rename {
-        at: At,
-        new_name: Text,
-    },
+    Ask { at: At, query: Query },
+    Rename { at: At, new_name: Text },
 }
 
 /// What a notification tells (LSP 3.17).

@@ -3,7 +3,7 @@
 ghost use Rattle.std.specs.Prelude.{◌≡◌, option_map};
 ghost use Rattle.serde_json.specs.View.{view, items_view};
 ghost use Rattle.lsp_messages.specs.Fields.{Gives};
-ghost use Rattle.lsp_messages.specs.Parameters.{document_in, prepare_support, arrows_asked, call_of, opened_in, replaced, change_of, changes_of, changed_in, closed_in, note_of};
+ghost use Rattle.lsp_messages.specs.Parameters as spec;
 
 use crate::fault::{Fault, ReadError};
 use crate::fields::{field, integer, list, range, text};
@@ -14,7 +14,7 @@ use std::alloc::Global;
 
 /// What a request asks, by its method.
 pub(crate) fn call(alloc: Global, method: &str, message: &Value) -> Result<Call, ReadError>
-    ensures { Gives (λ c. c) result (call_of method.now (view message.now)) }
+    ensures { Gives (λ c. c) result (spec.call_of method.now (view message.now)) }
 {
     match method {
         "initialize" => Ok(Call::Initialize {
@@ -28,7 +28,7 @@ pub(crate) fn call(alloc: Global, method: &str, message: &Value) -> Result<Call,
 
 /// What a notification tells, by its method.
 pub(crate) fn note(alloc: Global, method: &str, message: &Value) -> Result<Note, ReadError>
-    ensures { Gives (λ n. n) result (note_of method.now (view message.now)) }
+    ensures { Gives (λ n. n) result (spec.note_of method.now (view message.now)) }
 {
     match method {
         "exit" => Ok(Note::Exit),
@@ -41,14 +41,14 @@ pub(crate) fn note(alloc: Global, method: &str, message: &Value) -> Result<Note,
 
 /// The document that a message's parameters name.
 fn document(message: &Value) -> Result<&Value, ReadError>
-    ensures { Gives (λ v. view v.now) result (document_in (view message.now)) }
+    ensures { Gives (λ v. view v.now) result (spec.document_in (view message.now)) }
 {
     Ok(field(field(message, "params")?, "textDocument")?)
 }
 
 /// What a client states of prepare support, where it states anything.
 fn prepare(message: &Value) -> Option<bool>
-    ensures { result ≡ prepare_support (view message.now) }
+    ensures { result ≡ spec.prepare_support (view message.now) }
 {
     let capabilities = message.get("params")?.get("capabilities")?;
     let rename = capabilities.get("textDocument")?.get("rename")?;
@@ -57,7 +57,7 @@ fn prepare(message: &Value) -> Option<bool>
 
 /// The arrows of a document.
 fn arrows(alloc: Global, message: &Value) -> Result<Call, ReadError>
-    ensures { Gives (λ c. c) result (arrows_asked (view message.now)) }
+    ensures { Gives (λ c. c) result (spec.arrows_asked (view message.now)) }
 {
     let uri = Text::of(alloc, text(document(message)?, "uri")?)?;
     let pos = Pos {
@@ -72,7 +72,7 @@ fn arrows(alloc: Global, message: &Value) -> Result<Call, ReadError>
 
 /// An opened document.
 fn opened(alloc: Global, message: &Value) -> Result<Note, ReadError>
-    ensures { Gives (λ n. n) result (opened_in (view message.now)) }
+    ensures { Gives (λ n. n) result (spec.opened_in (view message.now)) }
 {
     let document = document(message)?;
     let uri = Text::of(alloc, text(document, "uri")?)?;
@@ -83,7 +83,7 @@ fn opened(alloc: Global, message: &Value) -> Result<Note, ReadError>
 
 /// The range that a change replaces, or none where it is of the whole text.
 fn replaced_range(value: Option<&Value>) -> Result<Option<Range>, ReadError>
-    ensures { Gives (λ r. r) result (replaced (option_map (λ v. view v.now) value.entry)) }
+    ensures { Gives (λ r. r) result (spec.replaced_range (option_map (λ v. view v.now) value.entry)) }
 {
     match value {
         None => Ok(None),
@@ -93,7 +93,7 @@ fn replaced_range(value: Option<&Value>) -> Result<Option<Range>, ReadError>
 
 /// A change of a document.
 fn change(alloc: Global, value: &Value) -> Result<Change, ReadError>
-    ensures { Gives (λ c. c) result (change_of (view value.now)) }
+    ensures { Gives (λ c. c) result (spec.change_of (view value.now)) }
 {
     let range = replaced_range(value.get("range"))?;
     let text = Text::of(alloc, text(value, "text")?)?;
@@ -102,7 +102,7 @@ fn change(alloc: Global, value: &Value) -> Result<Change, ReadError>
 
 /// A list of changes.
 fn changes(alloc: Global, values: &Vec<Value>) -> Result<Items<Change>, ReadError>
-    ensures { Gives (λ c. c) result (changes_of (items_view values.now.items)) }
+    ensures { Gives (λ c. c) result (spec.changes_of (items_view values.now.items)) }
 {
     let mut changes = Items::new(alloc);
     for value in values {
@@ -113,7 +113,7 @@ fn changes(alloc: Global, values: &Vec<Value>) -> Result<Items<Change>, ReadErro
 
 /// A changed document.
 fn changed(alloc: Global, message: &Value) -> Result<Note, ReadError>
-    ensures { Gives (λ n. n) result (changed_in (view message.now)) }
+    ensures { Gives (λ n. n) result (spec.changed_in (view message.now)) }
 {
     let params = field(message, "params")?;
     let document = field(params, "textDocument")?;
@@ -129,7 +129,7 @@ fn changed(alloc: Global, message: &Value) -> Result<Note, ReadError>
 
 /// A closed document.
 fn closed(alloc: Global, message: &Value) -> Result<Note, ReadError>
-    ensures { Gives (λ n. n) result (closed_in (view message.now)) }
+    ensures { Gives (λ n. n) result (spec.closed_in (view message.now)) }
 {
     let uri = Text::of(alloc, text(document(message)?, "uri")?)?;
     Ok(Note::Closed { uri })

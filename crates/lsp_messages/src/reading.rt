@@ -84,7 +84,7 @@ fn response(alloc: Global, message: &Value) -> Result<Message, Reject>
 
 /// A message with a field `method`, which must be a string.
 fn named(alloc: Global, method: Option<&str>, message: &Value) -> Result<Message, Reject>
-    ensures { Answers result (spec.named_by (option_map (λ s. s.now) method.entry) (view message.now)) }
+    ensures { Answers result (spec.message_by_name (view message.now) (option_map (λ s. s.now) method.entry)) }
 {
     let Some(method) = method else {
         return Err(Reject::Invalid(valid_id(alloc, message)?));
@@ -96,13 +96,8 @@ fn named(alloc: Global, method: Option<&str>, message: &Value) -> Result<Message
 }
 
 /// A message with a method and a field `id`.
-fn asked(
-    alloc: Global,
-    id: Option<Id>,
-    method: &str,
-    message: &Value,
-) -> Result<Message, Reject>
-    ensures { Answers result (spec.asked_by method.now (view message.now) id) }
+fn asked(alloc: Global, id: Option<Id>, method: &str, message: &Value) -> Result<Message, Reject>
+    ensures { Answers result (spec.message_by_valid_id method.now (view message.now) id) }
 {
     match id {
         None => Err(Reject::Invalid(valid_id(alloc, message)?)),

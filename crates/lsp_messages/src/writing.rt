@@ -51,12 +51,7 @@ fn answered(alloc: Global, id: &Id, answer: Value) -> Result<Value, AllocError>
 }
 
 /// An error reply.
-fn error(
-    alloc: Global,
-    id: &Option<Id>,
-    code: i32,
-    text: &str,
-) -> Result<Value, AllocError>
+fn error(alloc: Global, id: &Option<Id>, code: i32, text: &str) -> Result<Value, AllocError>
     ensures { IfOk result (λ v. view v ≡ spec.error_json id.now code text.now) }
 {
     let id = match id {
