@@ -2,3 +2,4 @@ pub mod Fields
 pub mod Parameters
 pub mod Messages
 pub mod Replies
+pub mod Shapes

@@ -53,11 +53,15 @@ request_of id (Ok call) = Ok (Request id call)
 request_of id (Err Unknown) = Err (Method id)
 request_of id (Err Bad) = Err (Params id)
 
--- a notification, which has none
+-- what a notification tells in the end: an unknown method is passed over
+abbrev pub resulting_note : List ℕ → Result Note Fault → Note
+resulting_note method (Ok note) = note
+resulting_note method (Err Unknown) = Other
+resulting_note method (Err Bad) = BadParams method
+
+-- a notification, which has no id
 abbrev pub notice_of : List ℕ → Result Note Fault → Result Message Reject
-notice_of method (Ok note) = Ok (Notice note)
-notice_of method (Err Unknown) = Ok (Notice Other)
-notice_of method (Err Bad) = Ok (Notice (BadParams method))
+notice_of method told = Ok (Notice (resulting_note method told))
 
 -- a message without a field method: a response has a result or an error
 abbrev pub response_of : Data → Result Message Reject

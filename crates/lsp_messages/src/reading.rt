@@ -5,6 +5,7 @@ ghost use Rattle.serde_json.specs.View.{view};
 ghost use Rattle.lsp_messages.specs.Parameters.{call_of, note_of};
 ghost use Rattle.lsp_messages.specs.Messages as spec;
 ghost use Rattle.lsp_messages.specs.Messages.{Answers};
+ghost use Rattle.lsp_messages.specs.Shapes.{HasCause};
 
 use crate::fault::{Fault, ReadError};
 use crate::parameters::{call, note};
@@ -17,6 +18,16 @@ use std::alloc::Global;
 /// and at most 127 lists and objects nest (`Parse`), must have the shape of a message (`Invalid`), and a request must
 /// have a known method (`Method`) and the fields that this needs (`Params`). What fails first is the answer.
 pub fn read_message(alloc: Global, body: &[u8]) -> Result<Message, Reject>
+    // The answer is what the body says.
+    ensures exact { Answers result (spec.message_of body.now) }
+    // A message has the shape of one, and a refusal its cause.
+    ensures cause { HasCause body.now result }
+{
+    Ok(message(alloc, body)?)
+}
+
+/// The message that a body says, judged in order.
+fn message(alloc: Global, body: &[u8]) -> Result<Message, Reject>
     ensures { Answers result (spec.message_of body.now) }
 {
     let Some(value) = json(alloc, body)? else {

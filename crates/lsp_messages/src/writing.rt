@@ -1,7 +1,8 @@
 //! The body of each message to the client (JSON-RPC 2.0 section 5; LSP 3.17).
-ghost use Rattle.std.specs.Prelude.{◌≡◌, IfOk};
+ghost use Rattle.std.specs.Prelude.{◌≡◌, Some, IfOk};
 ghost use Rattle.serde_json.specs.Data.{no_members, object};
 ghost use Rattle.serde_json.specs.View.{view, members_view};
+ghost use Rattle.lsp_messages.specs.Messages.{json_of};
 ghost use Rattle.lsp_messages.specs.Replies as spec;
 
 use crate::json::{ToJson, list};
@@ -13,7 +14,11 @@ use std::alloc::{AllocError, Global};
 /// The body of a message to the client: compact JSON, with the keys of each object in byte order. Of edits for equal uris
 /// the last count.
 pub fn reply_bytes(alloc: Global, reply: &Reply) -> Mem<Vec<u8>>
-    ensures { IfOk result (λ bytes. bytes.items ≡ spec.reply_text reply.now) }
+    // The text of the reply's JSON.
+    ensures text { IfOk result (λ bytes. bytes.items ≡ spec.reply_text reply.now) }
+    // It reads as this JSON.
+    ensures reads_back { IfOk result (λ bytes. json_of bytes.items
+        ≡ Some (spec.reply_json reply.now)) }
 {
     Ok(reply.to_json(alloc)?.to_vec(alloc)?)
 }
