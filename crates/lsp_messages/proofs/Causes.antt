@@ -1,7 +1,6 @@
 -- What a body says has the shape that the standard gives it, and each refusal has its cause.
 use Rattle.std.proofs.Common.{◌≡◌, ℕ, List, Bool, true, false, Option, Some, None, Result, Ok, Err, option_and_then, codes, refl, sym, ap, ◌∙◌, true≢false, inl, inr, IsSome, subst}
-use Rattle.std.specs.Prelude.{◌⊎◌, ◌||◌, is_some, if◌then◌else◌}
-use Rattle.std.specs.Str.{bytes_eq}
+use Rattle.std.specs.Prelude.{◌||◌, is_some, if◌then◌else◌}
 use Rattle.std.proofs.lemmas.Slice.Eq.{bytes_eq-Decides}
 use Rattle.serde_json.specs.Data.{Data}
 use Rattle.serde_json.specs.Find.{get, as_str}
@@ -10,17 +9,18 @@ use Rattle.lsp_messages.specs.declared.fault.Fault.TheVariants.{Unknown, Bad}
 use Rattle.lsp_messages.specs.declared.message.Id.{Id}
 use Rattle.lsp_messages.specs.declared.message.Call.{Call}
 use Rattle.lsp_messages.specs.declared.message.Message.{Message}
-use Rattle.lsp_messages.specs.declared.message.Message.TheVariants.{Request, Notice, Response}
+use Rattle.lsp_messages.specs.declared.message.Message.TheVariants.{Response}
 use Rattle.lsp_messages.specs.declared.message.Reject.{Reject}
 use Rattle.lsp_messages.specs.declared.message.Reject.TheVariants as rejects
-use Rattle.lsp_messages.specs.Parameters.{call_of, note_of}
-use Rattle.lsp_messages.specs.Messages.{json_of, is_version, is_rpc, id_of, valid_id, invalid, request_of, resulting_note, response_of, message_by_valid_id, message_by_id, message_by_name, message_by_method, message_in, message_of, Answers}
-use Rattle.lsp_messages.specs.Shapes.{text_in, HasVersion, IsRequest, IsNotification, IsResponse, IsMessage, request, notification, response, Says, Fails, HasCause}
+use Rattle.lsp_messages.specs.Fields.{id_of}
+use Rattle.lsp_messages.specs.Parameters.{call_of}
+use Rattle.lsp_messages.specs.Messages.{json_of, is_version, is_rpc, invalid, request_of, message_by_valid_id, message_by_id, message_by_name, message_by_method, message_in, message_of, Answers}
+use Rattle.lsp_messages.specs.Shapes.{text_in, HasVersion, IsRequest, IsMessage, request, notification, response, Says, IsRejected, HasCause}
 
 -- the message that JSON is, or why it is none
 abbrev pub Judged : Data → Result Message Reject → Type 0
 Judged d (Ok message) = Says d message
-Judged d (Err reject) = Fails d reject
+Judged d (Err reject) = IsRejected d reject
 
 -- ---- the version
 

@@ -1,5 +1,5 @@
 -- Reading changes one after the other, as a loop does.
-use Rattle.std.proofs.Common.{◌≡◌, List, ◌++◌, Result, Ok, Err}
+use Rattle.std.proofs.Common.{List, ◌++◌, Result, Ok}
 use Rattle.ls_base.specs.declared.answers.Change.{Change}
 use Rattle.lsp_messages.specs.declared.fault.Fault.{Fault}
 use Rattle.lsp_messages.specs.Fields.{◌>>=◌}

@@ -1,14 +1,15 @@
 -- The fields of an object, and what each may hold (LSP 3.17, "Base types" and "Basic JSON Structures").
-use Rattle.std.specs.Prelude.{◌≡◌, ℕ, ℤ, List, Option, Some, None, Result, Ok, Err, option_and_then, nat_le, if◌then◌else◌, codes}
-use Rattle.serde_json.specs.Data.{Data}
+use Rattle.std.specs.Prelude.{◌≡◌, ℕ, ℤ, List, Option, Some, None, Result, Ok, Err, option_map, option_and_then, nat_le, if◌then◌else◌, codes}
+use Rattle.serde_json.specs.Data.{Data, null, boolean, number, string, array, object, Items}
 use Rattle.serde_json.specs.Find.{get, as_number, as_str, as_array, as_i64, as_u64}
-use Rattle.serde_json.specs.Data.{Items}
 use Rattle.ls_base.specs.declared.places.Pos.{Pos}
 use Rattle.ls_base.specs.declared.places.Range.{Range}
 use Rattle.lsp_messages.specs.declared.fault.Fault.{Fault}
 use Rattle.lsp_messages.specs.declared.fault.Fault.TheVariants.{Bad}
 use Rattle.lsp_messages.specs.declared.fault.ReadError.{ReadError}
 use Rattle.lsp_messages.specs.declared.fault.ReadError.TheVariants as errors
+use Rattle.lsp_messages.specs.declared.message.Id.{Id}
+use Rattle.lsp_messages.specs.declared.message.Id.TheVariants.{Number, Name}
 
 infixl 10 ◌>>=◌
 abbrev pub ◌>>=◌ : {A B : Type 0} → Result A Fault → (A → Result B Fault) → Result B Fault
@@ -64,3 +65,12 @@ range_of d = do
   start ← position_at (codes "start") d
   end ← position_at (codes "end") d
   Ok (record { start = start; end = end })
+
+-- an id: a whole number that fits 64 bits with its sign, or a string
+abbrev pub id_of : Data → Option Id
+id_of null = None
+id_of (boolean b) = None
+id_of (number n) = option_map Number (as_i64 n)
+id_of (string s) = Some (Name s)
+id_of (array ds) = None
+id_of (object ms) = None

@@ -1,13 +1,12 @@
 -- What a body says (JSON-RPC 2.0 section 4). Its reading as JSON is judged first, then its shape, then its method, then its parameters.
-use Rattle.std.specs.Prelude.{◌≡◌, ◌||◌, ℕ, List, Bool, true, false, Option, Some, None, Result, Ok, Err, option_map, option_and_then, is_some, if◌then◌else◌, codes}
+use Rattle.std.specs.Prelude.{◌≡◌, ◌||◌, ℕ, List, Bool, false, Option, Some, None, Result, Ok, Err, option_and_then, is_some, if◌then◌else◌, codes}
 use Rattle.std.specs.Str.{bytes_eq, is_utf8}
-use Rattle.serde_json.specs.Data.{Data, null, boolean, number, string, array, object}
+use Rattle.serde_json.specs.Data.{Data}
 use Rattle.serde_json.specs.Read.{read}
-use Rattle.serde_json.specs.Find.{get, as_str, as_i64}
+use Rattle.serde_json.specs.Find.{get, as_str}
 use Rattle.lsp_messages.specs.declared.fault.Fault.{Fault}
 use Rattle.lsp_messages.specs.declared.fault.Fault.TheVariants.{Unknown, Bad}
 use Rattle.lsp_messages.specs.declared.message.Id.{Id}
-use Rattle.lsp_messages.specs.declared.message.Id.TheVariants.{Number, Name}
 use Rattle.lsp_messages.specs.declared.message.Call.{Call}
 use Rattle.lsp_messages.specs.declared.message.Note.{Note}
 use Rattle.lsp_messages.specs.declared.message.Note.TheVariants.{BadParams, Other}
@@ -16,6 +15,7 @@ use Rattle.lsp_messages.specs.declared.message.Message.TheVariants.{Request, Not
 use Rattle.lsp_messages.specs.declared.message.Reject.{Reject}
 use Rattle.lsp_messages.specs.declared.message.Reject.TheVariants.{Parse, Invalid, Method, Params}
 use Rattle.lsp_messages.specs.declared.message.Reject.TheVariants as rejects
+use Rattle.lsp_messages.specs.Fields.{id_of}
 use Rattle.lsp_messages.specs.Parameters.{call_of, note_of}
 
 -- a JSON text is UTF-8 (RFC 8259 section 8.1)
@@ -29,15 +29,6 @@ is_version (Some version) = bytes_eq version (codes "2.0")
 
 abbrev pub is_rpc : Data → Bool
 is_rpc d = is_version (option_and_then as_str (get (codes "jsonrpc") d))
-
--- a valid id: a whole number that fits 64 bits with its sign, or a string
-abbrev pub id_of : Data → Option Id
-id_of null = None
-id_of (boolean b) = None
-id_of (number n) = option_map Number (as_i64 n)
-id_of (string s) = Some (Name s)
-id_of (array ds) = None
-id_of (object ms) = None
 
 -- the field id, where it is a valid one
 abbrev pub valid_id : Data → Option Id

@@ -48,19 +48,19 @@ Says d (Request id call) = (method : List ℕ) × IsRequest d id method × (call
 Says d (Notice note) = (method : List ℕ) × IsNotification d method × (resulting_note method (note_of method d) ≡ note)
 Says d Response = IsResponse d
 
--- the JSON isn't such a message
-abbrev pub Fails : Data → Reject → Type 0
-Fails d rejects.Memory = ⊥
-Fails d rejects.Parse = ⊥
-Fails d (rejects.Invalid id) = (valid_id d ≡ id) × (IsMessage d → ⊥)
-Fails d (rejects.Method id) = (method : List ℕ) × IsRequest d id method × (call_of method d ≡ Err Unknown)
-Fails d (rejects.Params id) = (method : List ℕ) × IsRequest d id method × (call_of method d ≡ Err Bad)
+-- the JSON is no message, or a request that can't be answered
+abbrev pub IsRejected : Data → Reject → Type 0
+IsRejected d rejects.Memory = ⊥
+IsRejected d rejects.Parse = ⊥
+IsRejected d (rejects.Invalid id) = (valid_id d ≡ id) × (IsMessage d → ⊥)
+IsRejected d (rejects.Method id) = (method : List ℕ) × IsRequest d id method × (call_of method d ≡ Err Unknown)
+IsRejected d (rejects.Params id) = (method : List ℕ) × IsRequest d id method × (call_of method d ≡ Err Bad)
 
 -- The cause of each answer. Memory has none.
 abbrev pub HasCause : List ℕ → Result Message Reject → Type 0
 HasCause body (Ok message) = (d : Data) × (json_of body ≡ Some d) × Says d message
 HasCause body (Err rejects.Memory) = Unit {0}
 HasCause body (Err rejects.Parse) = json_of body ≡ None
-HasCause body (Err (rejects.Invalid id)) = (d : Data) × (json_of body ≡ Some d) × Fails d (rejects.Invalid id)
-HasCause body (Err (rejects.Method id)) = (d : Data) × (json_of body ≡ Some d) × Fails d (rejects.Method id)
-HasCause body (Err (rejects.Params id)) = (d : Data) × (json_of body ≡ Some d) × Fails d (rejects.Params id)
+HasCause body (Err (rejects.Invalid id)) = (d : Data) × (json_of body ≡ Some d) × IsRejected d (rejects.Invalid id)
+HasCause body (Err (rejects.Method id)) = (d : Data) × (json_of body ≡ Some d) × IsRejected d (rejects.Method id)
+HasCause body (Err (rejects.Params id)) = (d : Data) × (json_of body ≡ Some d) × IsRejected d (rejects.Params id)

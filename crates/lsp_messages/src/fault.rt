@@ -16,7 +16,9 @@ pub enum Fault {
 /// Why a method or its parameters can't be taken.
 #[derive(Debug, Drop)]
 pub enum ReadError {
+    /// Memory ran out.
     Memory,
+    /// They are wrong.
     Fault(Fault),
 }
 

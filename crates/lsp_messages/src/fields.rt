@@ -1,12 +1,14 @@
 //! Readers of the fields of an object (LSP 3.17, "Basic JSON Structures").
-ghost use Rattle.std.specs.Prelude.{◌≡◌};
+ghost use Rattle.std.specs.Prelude.{◌≡◌, IfOk};
 ghost use Rattle.serde_json.specs.View.{view, items_view};
 ghost use Rattle.lsp_messages.specs.Fields as spec;
 ghost use Rattle.lsp_messages.specs.Fields.{Gives};
 
+use crate::Id;
 use crate::fault::{Fault, ReadError};
-use ls_base::{Pos, Range};
+use ls_base::{Mem, Pos, Range, Text};
 use serde_json::Value;
+use std::alloc::Global;
 
 /// The largest number of a position (LSP 3.17, uinteger).
 const MAX_UINTEGER: u64 = 2_147_483_647;
@@ -26,10 +28,10 @@ pub(crate) fn text<'v>(value: &'v Value, key: &str) -> Result<&'v str, ReadError
 }
 
 /// A field that is a list.
-pub(crate) fn list<'v>(value: &'v Value, key: &str) -> Result<&'v Vec<Value>, ReadError>
-    ensures { Gives (λ v. items_view v.now.items) result (spec.list_at key.now (view value.now)) }
+pub(crate) fn list<'v>(value: &'v Value, key: &str) -> Result<&'v [Value], ReadError>
+    ensures { Gives (λ v. items_view v.now) result (spec.list_at key.now (view value.now)) }
 {
-    Ok(field(value, key)?.as_array().ok_or(Fault::Bad)?)
+    Ok(field(value, key)?.as_array().ok_or(Fault::Bad)?.as_slice())
 }
 
 /// A field that is a whole number.
@@ -67,4 +69,17 @@ pub(crate) fn range(value: &Value) -> Result<Range, ReadError>
     let start = position(value, "start")?;
     let end = position(value, "end")?;
     Ok(Range { start, end })
+}
+
+/// The id that a value is, or `None` where it is none.
+pub(crate) fn id(alloc: Global, value: &Value) -> Mem<Option<Id>>
+    ensures { IfOk result (λ id. id ≡ spec.id_of (view value.now)) }
+{
+    if let Some(number) = value.as_i64() {
+        return Ok(Some(Id::Number(number)));
+    }
+    match value.as_str() {
+        None => Ok(None),
+        Some(name) => Ok(Some(Id::Name(Text::of(alloc, name)?))),
+    }
 }

@@ -11,7 +11,7 @@ pub enum Id {
     Name(Text),
 }
 
-/// A position in a document.
+/// A position in a document (LSP 3.17, TextDocumentPositionParams).
 #[derive(Debug, Drop)]
 pub struct At {
     pub uri: Text,
@@ -21,27 +21,34 @@ pub struct At {
 /// What a request asks (LSP 3.17).
 #[derive(Debug, Drop)]
 pub enum Call {
-    /// `prepare` says that the client states prepare support for renames.
+    /// `initialize`. `prepare` says that the client states prepare support for renames.
     Initialize { prepare: bool },
+    /// `shutdown`.
     Shutdown,
+    /// A question about a position. The arrows of a document are asked at line 0, character 0.
     Ask { at: At, query: Query },
+    /// A rename of what stands at a position.
     Rename { at: At, new_name: Text },
 }
 
 /// What a notification tells (LSP 3.17).
 #[derive(Debug, Drop)]
 pub enum Note {
+    /// `exit`.
     Exit,
+    /// `textDocument/didOpen`.
     Opened {
         uri: Text,
         version: i64,
         text: Text,
     },
+    /// `textDocument/didChange`. Each change applies to what the one before left.
     Changed {
         uri: Text,
         version: i64,
         changes: Items<Change>,
     },
+    /// `textDocument/didClose`.
     Closed {
         uri: Text,
     },
@@ -53,15 +60,19 @@ pub enum Note {
     Other,
 }
 
-/// A message that has the shape of one.
+/// A message of the client.
 #[derive(Debug, Drop)]
 pub enum Message {
+    /// A request with a known method and its parameters.
     Request { id: Id, call: Call },
+    /// A notification, which is never replied to.
     Notice(Note),
+    /// A response, of which nothing is kept, since the server asks nothing.
     Response,
 }
 
-/// Why a body is no message, or a request that can't be answered. The id is that of the body, where it has a valid one.
+/// Why a body is no message, or a request that can't be answered (JSON-RPC 2.0 section 5.1). The id is that of the body,
+/// where it has a valid one.
 #[derive(Debug, Drop)]
 pub enum Reject {
     /// Memory ran out.

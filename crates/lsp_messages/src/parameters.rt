@@ -101,8 +101,8 @@ fn change(alloc: Global, value: &Value) -> Result<Change, ReadError>
 }
 
 /// A list of changes.
-fn changes(alloc: Global, values: &Vec<Value>) -> Result<Items<Change>, ReadError>
-    ensures { Gives (λ c. c) result (spec.changes_of (items_view values.now.items)) }
+fn changes(alloc: Global, values: &[Value]) -> Result<Items<Change>, ReadError>
+    ensures { Gives (λ c. c) result (spec.changes_of (items_view values.now)) }
 {
     let mut changes = Items::new(alloc);
     for value in values {

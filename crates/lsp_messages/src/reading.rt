@@ -8,6 +8,7 @@ ghost use Rattle.lsp_messages.specs.Messages.{Answers};
 ghost use Rattle.lsp_messages.specs.Shapes.{HasCause};
 
 use crate::fault::{Fault, ReadError};
+use crate::fields::id;
 use crate::parameters::{call, note};
 use crate::{Id, Message, Note, Reject};
 use ls_base::{Mem, Memory, Text};
@@ -58,19 +59,6 @@ fn is_rpc(message: &Value) -> bool
     ensures { result ≡ spec.is_rpc (view message.now) }
 {
     message.get("jsonrpc").and_then(Value::as_str) == Some("2.0")
-}
-
-/// The id that a value is.
-fn id(alloc: Global, value: &Value) -> Mem<Option<Id>>
-    ensures { IfOk result (λ id. id ≡ spec.id_of (view value.now)) }
-{
-    if let Some(number) = value.as_i64() {
-        return Ok(Some(Id::Number(number)));
-    }
-    match value.as_str() {
-        None => Ok(None),
-        Some(name) => Ok(Some(Id::Name(Text::of(alloc, name)?))),
-    }
 }
 
 /// The id of a message, where it has a valid one.

@@ -10,6 +10,7 @@ pub enum Reply {
         id: Id,
         prepare: bool,
     },
+    /// The reply to any other request.
     Result {
         id: Id,
         answer: Answer,

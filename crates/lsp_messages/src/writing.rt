@@ -1,7 +1,6 @@
 //! The body of each message to the client (JSON-RPC 2.0 section 5; LSP 3.17).
 ghost use Rattle.std.specs.Prelude.{◌≡◌, Some, IfOk};
-ghost use Rattle.serde_json.specs.Data.{no_members, object};
-ghost use Rattle.serde_json.specs.View.{view, members_view};
+ghost use Rattle.serde_json.specs.View.{view};
 ghost use Rattle.lsp_messages.specs.Messages.{json_of};
 ghost use Rattle.lsp_messages.specs.Replies as spec;
 

@@ -6,4 +6,4 @@ use Rattle.lsp_messages.proofs.parameters.changes.Given as goal
 
 -- the changes so far, and those of the values that are left
 abbrev pub invariant-loop-value : goal.invariant-loop-value
-invariant-loop-value l = with_front l.changes (changes_of (items_view (drop l.value-index l.value-items))) ≡ changes_of (items_view l.values.items)
+invariant-loop-value l = with_front l.changes (changes_of (items_view (drop l.value-index l.values))) ≡ changes_of (items_view l.values)

@@ -1,7 +1,6 @@
 use Rattle.std.proofs.Common.{◌≤◌, Some, sym, ap, subst, ◌∙◌}
 use Rattle.serde_json.specs.Data.{depth}
 use Rattle.serde_json.specs.Written.{compact_text, has_float}
-use Rattle.lsp_messages.specs.Replies.{reply_json}
 use Rattle.lsp_messages.proofs.Bodies.{json_of-utf8}
 use Rattle.lsp_messages.proofs.Depths.{depth-reply_json}
 use Rattle.lsp_messages.proofs.NoFloats.{has_float-reply_json}
