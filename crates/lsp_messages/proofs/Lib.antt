@@ -1,0 +1,5 @@
+pub mod Bodies
+pub mod Causes
+pub mod Changes
+pub mod Depths
+pub mod NoFloats

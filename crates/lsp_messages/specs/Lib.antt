@@ -1,0 +1,5 @@
+pub mod Fields
+pub mod Parameters
+pub mod Messages
+pub mod Replies
+pub mod Shapes

@@ -1,0 +1,20 @@
+//! The messages of the protocol: what a body says, and the body of each reply (LSP 3.17 over JSON-RPC 2.0).
+//! It reads and writes JSON through `serde_json`'s `Value` alone, and knows no session and no Scheme.
+#![tactic(auto)]
+
+mod fault;
+mod fields;
+mod json;
+mod message;
+mod parameters;
+mod reading;
+mod reply;
+mod writing;
+
+pub use message::{At, Call, Id, Message, Note, Reject};
+pub use reading::read_message;
+pub use reply::Reply;
+pub use writing::reply_bytes;
+
+#[cfg(test)]
+mod tests;
