@@ -1,2 +1,4 @@
 //! Trees of data, and the arrows of small programs.
 #![tactic(auto)]
+
+pub mod small;

@@ -1,0 +1,91 @@
+//! The tokens of a text of ASCII bytes, with their places (R7RS 7.1.1).
+use crate::small::SmallFault;
+use crate::small::leaf::{Leaf, is_gap, leaf_of, word_len};
+use ls_base::Pos;
+use std::alloc::Global;
+
+#[derive(Clone, Copy, Debug)]
+pub enum TokenKind<'a> {
+    Open,
+    Close,
+    Quote,
+    Atom(Leaf<'a>),
+}
+
+/// A token, its bytes in the text, and the position of the first. No token has a line end in it.
+#[derive(Clone, Copy, Debug)]
+pub struct Token<'a> {
+    pub kind: TokenKind<'a>,
+    pub start: u32,
+    pub end: u32,
+    pub pos: Pos,
+}
+
+/// The token at the front of a text.
+fn first_kind(text: &str) -> Option<TokenKind<'_>> {
+    match text.as_bytes() {
+        [] => None,
+        [b'(', ..] => Some(TokenKind::Open),
+        [b')', ..] => Some(TokenKind::Close),
+        [b'\'', ..] => Some(TokenKind::Quote),
+        bytes => {
+            let leaf = leaf_of(&text[..word_len(bytes)])?;
+            Some(TokenKind::Atom(leaf))
+        }
+    }
+}
+
+/// The bytes that spell a token.
+fn size(kind: TokenKind<'_>) -> usize {
+    match kind {
+        TokenKind::Open | TokenKind::Close | TokenKind::Quote => 1,
+        TokenKind::Atom(Leaf::Name(word)) | TokenKind::Atom(Leaf::Numeral(word)) => word.len(),
+    }
+}
+
+/// The position after a space or a line end.
+fn after_gap(pos: Pos, c: u8) -> Pos {
+    if c == b'\n' {
+        Pos {
+            line: pos.line + 1,
+            character: 0,
+        }
+    } else {
+        Pos {
+            line: pos.line,
+            character: pos.character + 1,
+        }
+    }
+}
+
+/// The tokens of a text.
+pub fn tokens(alloc: Global, text: &str) -> Result<Vec<Token<'_>>, SmallFault> {
+    let bytes = text.as_bytes();
+    let mut tokens = Vec::new(alloc);
+    let mut at = 0;
+    let mut pos = Pos {
+        line: 0,
+        character: 0,
+    };
+    while at < bytes.len() {
+        let c = bytes[at];
+        if is_gap(c) {
+            pos = after_gap(pos, c);
+            at += 1;
+        } else {
+            let Some(kind) = first_kind(&text[at..]) else {
+                return Err(SmallFault::NotSmall);
+            };
+            let end = at + size(kind);
+            tokens.push(Token {
+                kind,
+                start: at as u32,
+                end: end as u32,
+                pos,
+            })?;
+            pos.character += (end - at) as u32;
+            at = end;
+        }
+    }
+    Ok(tokens)
+}
