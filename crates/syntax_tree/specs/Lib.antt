@@ -1,2 +1,4 @@
 pub mod Small
 pub mod Walked
+pub mod Views
+pub mod Scanned

@@ -30,17 +30,14 @@ fn name_of<'a>(datum: &Datum<'a>) -> Option<Defined<'a>> {
 
 /// The name that follows `define`.
 fn defined_name<'a>(parts: &[Datum<'a>]) -> Option<Defined<'a>> {
-    match parts {
-        [
-            Datum::List {
-                first: _,
-                last: _,
-                parts,
-            },
-            ..
-        ] => name_of(parts.first()?),
-        [first, ..] => name_of(first),
-        [] => None,
+    let first = parts.first()?;
+    match first {
+        Datum::List {
+            first: _,
+            last: _,
+            parts,
+        } => name_of(parts.first()?),
+        Datum::Atom { .. } | Datum::Quoted { .. } => name_of(first),
     }
 }
 
@@ -96,6 +93,26 @@ fn walk_procedure<'a>(
     Ok(())
 }
 
+/// Walks over `(define name e)`, from the name on.
+fn walk_variable<'a>(
+    alloc: Global,
+    name: &Datum<'a>,
+    body: &[Datum<'a>],
+    env: &mut Vec<Scope<'a>>,
+    links: &mut Vec<Link>,
+) -> Result<(), SmallFault> {
+    let Some(defined) = name_of(name) else {
+        return Err(SmallFault::NotSmall);
+    };
+    if !is_free(defined.name) {
+        return Err(SmallFault::NotSmall);
+    }
+    let [value] = body else {
+        return Err(SmallFault::NotSmall);
+    };
+    walk_one(alloc, value, env, links)
+}
+
 /// Walks over what follows `define`.
 fn walk_definition<'a>(
     alloc: Global,
@@ -103,25 +120,16 @@ fn walk_definition<'a>(
     env: &mut Vec<Scope<'a>>,
     links: &mut Vec<Link>,
 ) -> Result<(), SmallFault> {
-    match parts {
-        [
-            Datum::List {
-                first: _,
-                last: _,
-                parts,
-            },
-            body @ ..,
-        ] => walk_procedure(alloc, parts, body, env, links),
-        [name, value] => {
-            let Some(defined) = name_of(name) else {
-                return Err(SmallFault::NotSmall);
-            };
-            if !is_free(defined.name) {
-                return Err(SmallFault::NotSmall);
-            }
-            walk_one(alloc, value, env, links)
-        }
-        _ => Err(SmallFault::NotSmall),
+    let [first, body @ ..] = parts else {
+        return Err(SmallFault::NotSmall);
+    };
+    match first {
+        Datum::List {
+            first: _,
+            last: _,
+            parts,
+        } => walk_procedure(alloc, parts, body, env, links),
+        Datum::Atom { .. } | Datum::Quoted { .. } => walk_variable(alloc, first, body, env, links),
     }
 }
 

@@ -29,7 +29,7 @@ impl<'a> Scope<'a> {
     }
 
     /// The number of the token that binds a name.
-    pub fn binder(&self, name: &str) -> Option<u32> {
+    pub fn binder(&self, name: &'a str) -> Option<u32> {
         self.binders.get(&name).copied()
     }
 }
@@ -66,7 +66,7 @@ pub fn parameter_list<'a>(alloc: Global, datum: &Datum<'a>) -> Result<Scope<'a>,
 }
 
 /// The number of the token that binds a name, innermost first.
-pub fn find_binder(env: &[Scope<'_>], name: &str) -> Option<u32> {
+pub fn find_binder<'a>(env: &[Scope<'a>], name: &'a str) -> Option<u32> {
     let mut at = env.len();
     while at > 0 {
         at -= 1;

@@ -45,10 +45,10 @@ pub fn walk_one<'a>(
     }
 }
 
-fn walk_leaf(
+fn walk_leaf<'a>(
     number: u32,
-    leaf: Leaf<'_>,
-    env: &[Scope<'_>],
+    leaf: Leaf<'a>,
+    env: &[Scope<'a>],
     links: &mut Vec<Link>,
 ) -> Result<(), SmallFault> {
     let name = match leaf {
