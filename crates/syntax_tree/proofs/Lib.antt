@@ -1,3 +1,5 @@
 pub mod Words
 pub mod Spelling
 pub mod Scanning
+pub mod PositionLaws
+pub mod ArrowLaws

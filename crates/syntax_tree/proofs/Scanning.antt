@@ -151,12 +151,13 @@ after_made text so_far at n k p h g f e r =
     (after_token text (tokens_of so_far) at (kind_of k) h g f r))
 
 pub placed_made : (text : List ℕ) (so_far : List code.Token) (at n : ℕ) (k : code_kind.TokenKind) (p : Pos) → at < length text → front (drop at text) ≡ Some (kind_of k) →
-    n ≡ size_of (kind_of k) → place_of text at ≡ p → All (IsPlaced text) so_far → All (IsPlaced text) (so_far ++ made k at (at + n) p ∷ [])
-placed_made text so_far at n k p h f e place all =
+    n ≡ size_of (kind_of k) → place_of text at ≡ p → p.character ≤ at → All (IsPlaced text) so_far → All (IsPlaced text) (so_far ++ made k at (at + n) p ∷ [])
+placed_made text so_far at n k p h f e place narrow all =
     let within = token_within text at (kind_of k) (omega arith) f in
     All-push (IsPlaced text) so_far (made k at (at + n) p) all
     (record {
       ordered = omega arith;
+      narrow = narrow;
       inside = omega (arith, within, e);
       starts = place;
       ends = place_made text at n k p f e place;

@@ -10,8 +10,8 @@ use Rattle.std.proofs.lemmas.Bool.{and_parts, and_from}
 use Rattle.std.proofs.lemmas.Bool.Decides.{nat_tests}
 use Rattle.std.proofs.lemmas.Str.{len_utf8_ascii}
 use Rattle.scheme_model.specs.Tokens.{TokenKind, Token, First, IsSpelled, IsToken, is_gap, byte_count}
-use Rattle.syntax_tree.specs.Scanned.{front, size_of}
-use Rattle.syntax_tree.proofs.Words.{is_plain, is_glyph, gap_plain, glyph_plain, glyph_no_gap, list_all-weaker, glyphs_are, length-glyphs, some_glyph, front_is, Found, found}
+use Rattle.syntax_tree.specs.Scanned.{is_plain, front, size_of}
+use Rattle.syntax_tree.proofs.Words.{is_glyph, gap_plain, glyph_plain, glyph_no_gap, list_all-weaker, glyphs_are, length-glyphs, some_glyph, front_is, Found, found}
 
 plain_ascii : (c : ℕ) → is_plain c ≡ true → c < 128
 plain_ascii c h = grind (arith, nat_tests)

@@ -9,7 +9,7 @@ use Rattle.std.proofs.lemmas.Bool.{and_parts, and_from, eqb-true}
 use Rattle.std.proofs.lemmas.Bool.Decides.{nat_tests}
 use Rattle.std.proofs.lemmas.Str.{len_utf8_ascii}
 use Rattle.scheme_model.specs.Tokens.{Leaf, Name, Numeral, TokenKind, Paren, Close, Marked, Atomic, Quote, is_gap, is_delimiter, is_letter, is_digit, is_subsequent, is_peculiar, is_name, is_numeral, Delimits, IsLeaf, IsToken, byte_count}
-use Rattle.syntax_tree.specs.Scanned.{is_inside, leaf_in, atomic, front, size_of, leaf_size}
+use Rattle.syntax_tree.specs.Scanned.{is_plain, is_inside, leaf_in, atomic, front, size_of, leaf_size}
 
 some_same : (j k : TokenKind) → Some j ≡ Some k → j ≡ k
 some_same j k h = cc
@@ -28,10 +28,6 @@ is_in_word c = is_subsequent c || is_peculiar c
 -- a character of a token
 abbrev pub is_glyph : ℕ → Bool
 is_glyph c = is_in_word c || (c == 40 || (c == 41 || c == 39))
-
--- ASCII without a carriage return
-abbrev pub is_plain : ℕ → Bool
-is_plain c = nat_lt c 128 && not (c == 13)
 
 pub gap_plain : (c : ℕ) → is_gap c ≡ true → is_plain c ≡ true
 gap_plain c h = grind (arith, nat_tests)

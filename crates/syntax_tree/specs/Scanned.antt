@@ -1,8 +1,12 @@
 -- What the scanner finds at the front of a text, and where it stands.
-use Rattle.std.specs.Prelude.{◌≡◌, ℕ, ◌+◌, ◌-◌, ◌≤◌, List, [], ◌∷◌, length, take, take_while, Bool, not, ◌==◌, Option, Some, None, if◌then◌else◌}
+use Rattle.std.specs.Prelude.{◌≡◌, ℕ, ◌+◌, ◌-◌, ◌≤◌, List, [], ◌∷◌, length, take, take_while, Bool, not, ◌&&◌, ◌==◌, nat_lt, Option, Some, None, if◌then◌else◌}
 use Rattle.ls_base.specs.declared.places.Pos.{Pos}
 use Rattle.scheme_model.specs.Tokens.{Leaf, Name, Numeral, TokenKind, Paren, Close, Marked, Atomic, Quote, is_name, is_numeral, is_delimiter}
 use Rattle.syntax_tree.specs.declared.small.token.Token as code
+
+-- an ASCII byte that is no carriage return
+abbrev pub is_plain : ℕ → Bool
+is_plain c = nat_lt c 128 && not (c == 13)
 
 -- a byte that goes on a word
 abbrev pub is_inside : ℕ → Bool
@@ -56,6 +60,7 @@ further p n = record { line = p.line; character = p.character + n }
 -- a token stands in the text at its position, on one line
 pub record IsPlaced (text : List ℕ) (t : code.Token) : Type 0 where
   pub ordered : t.start ≤ t.end
+  pub narrow : t.pos.character ≤ t.start
   pub inside : t.end ≤ length text
   pub starts : place_of text t.start ≡ t.pos
   pub ends : place_of text t.end ≡ further t.pos (t.end - t.start)

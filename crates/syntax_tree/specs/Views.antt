@@ -1,5 +1,5 @@
 -- What the values of the code stand for.
-use Rattle.std.specs.Prelude.{ℕ, List, [], ◌∷◌, map}
+use Rattle.std.specs.Prelude.{ℕ, ◌<◌, List, [], ◌∷◌, map}
 use Rattle.scheme_model.specs.Tokens as model
 use Rattle.scheme_model.specs.Reading.{Data, atom, list, marked, none, datum}
 use Rattle.scheme_model.specs.Reading as reading
@@ -51,3 +51,8 @@ link_of l = record { binder = l.binder; target = l.target }
 
 abbrev pub links_of : List Link → List walked.Link
 links_of ls = map link_of ls
+
+-- both ends are numbers of tokens
+pub record IsLinkWithin (count : ℕ) (l : Link) : Type 0 where
+  pub binder : l.binder < count
+  pub target : l.target < count

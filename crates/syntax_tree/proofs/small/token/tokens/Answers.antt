@@ -57,7 +57,7 @@ loop-at-preserved c =
     record {
       inside = omega (arith, within, c.size.ensures);
       reads = rw c.in_ok-push.ensures.items (after_made bs c.loop-at.tokens.items at c.size.result k p c.loop-at-test.true gap tells c.size.ensures i.reads);
-      placed = rw c.in_ok-push.ensures.items (placed_made bs c.loop-at.tokens.items at c.size.result k p c.loop-at-test.true tells c.size.ensures i.pos i.placed);
+      placed = rw c.in_ok-push.ensures.items (placed_made bs c.loop-at.tokens.items at c.size.result k p c.loop-at-test.true tells c.size.ensures i.pos i.character i.placed);
       pos = place_made bs at c.size.result k p tells c.size.ensures i.pos;
       line = omega arith;
       character = omega arith;
