@@ -2,3 +2,4 @@ pub mod Small
 pub mod Walked
 pub mod Views
 pub mod Scanned
+pub mod Opened
