@@ -5,4 +5,7 @@ pub mod PositionLaws
 pub mod ArrowLaws
 pub mod Opening
 pub mod Stacked
+pub mod OneReading
+pub mod ScopeLaws
+pub mod RowLaws
 pub mod FaultLaws

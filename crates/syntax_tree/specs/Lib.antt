@@ -3,3 +3,4 @@ pub mod Walked
 pub mod Views
 pub mod Scanned
 pub mod Opened
+pub mod Scopes

@@ -1,5 +1,5 @@
 -- What the values of the code stand for.
-use Rattle.std.specs.Prelude.{ℕ, ◌<◌, List, [], ◌∷◌, map}
+use Rattle.std.specs.Prelude.{ℕ, ◌<◌, List, [], ◌∷◌, map, Option, Some, None}
 use Rattle.scheme_model.specs.Tokens as model
 use Rattle.scheme_model.specs.Reading.{Data, atom, list, marked, none, datum}
 use Rattle.scheme_model.specs.Reading as reading
@@ -11,6 +11,8 @@ use Rattle.syntax_tree.specs.declared.small.token.TokenKind.TheVariants.{Open, C
 use Rattle.syntax_tree.specs.declared.small.token.Token.{Token}
 use Rattle.syntax_tree.specs.declared.small.datum.Datum.{Datum, fold-Datum}
 use Rattle.syntax_tree.specs.declared.small.datum.Datum.TheOpen.{Datum-F}
+use Rattle.syntax_tree.specs.Small.{Bound}
+use Rattle.syntax_tree.specs.declared.small.datum.Named.{Named}
 use Rattle.syntax_tree.specs.declared.small.walk.Link.{Link}
 
 abbrev pub leaf_of : Leaf → model.Leaf
@@ -45,6 +47,19 @@ datum_of = fold-Datum reading.Datum datum_step
 
 abbrev pub data_of : List Datum → Data
 data_of ds = data_from (map datum_of ds)
+
+-- the name that a datum is
+abbrev pub leaf_name : ℕ → model.Leaf → Option Bound
+leaf_name n (model.Name s) = Some (record { symbol = s; number = n })
+leaf_name n (model.Numeral text) = None
+
+abbrev pub name_part : reading.Datum → Option Bound
+name_part (atom n leaf) = leaf_name n leaf
+name_part (list first last ds) = None
+name_part (marked n mark d) = None
+
+abbrev pub bound_as : Named → Bound
+bound_as n = record { symbol = n.name.now; number = n.number }
 
 abbrev pub link_of : Link → walked.Link
 link_of l = record { binder = l.binder; target = l.target }

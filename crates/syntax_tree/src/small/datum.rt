@@ -1,8 +1,8 @@
 //! Data, with the numbers of their tokens (R7RS 7.1.2).
-ghost use Rattle.std.specs.Prelude.{◌≡◌, IfOk};
+ghost use Rattle.std.specs.Prelude.{◌≡◌, IfOk, option_map};
 ghost use Rattle.scheme_model.specs.Tokens as model;
 ghost use Rattle.scheme_model.specs.Reading.{atom, list, marked};
-ghost use Rattle.syntax_tree.specs.Views.{leaf_of, datum_of, data_of};
+ghost use Rattle.syntax_tree.specs.Views.{leaf_of, datum_of, data_of, name_part, bound_as};
 
 use crate::small::leaf::Leaf;
 use ls_base::Mem;
@@ -48,4 +48,27 @@ pub fn make_quoted<'a>(alloc: Global, number: u32, datum: Datum<'a>) -> Mem<Datu
         number,
         datum: Box::new(alloc, datum)?,
     })
+}
+
+/// A name and the number of its token.
+#[derive(Clone, Copy, Debug)]
+pub struct Named<'a> {
+    pub name: &'a str,
+    pub number: u32,
+}
+
+/// The name that a datum is.
+pub fn name_of<'a>(datum: &Datum<'a>) -> Option<Named<'a>>
+    ensures { option_map bound_as result ≡ name_part (datum_of datum.now) }
+{
+    match datum {
+        Datum::Atom {
+            number,
+            leaf: Leaf::Name(name),
+        } => Some(Named {
+            name,
+            number: *number,
+        }),
+        Datum::Atom { .. } | Datum::List { .. } | Datum::Quoted { .. } => None,
+    }
 }

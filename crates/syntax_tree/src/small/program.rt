@@ -1,35 +1,13 @@
 //! Programs (R7RS 5.3): definitions and expressions, where a definition is bound in all forms.
 use crate::small::SmallFault;
-use crate::small::datum::Datum;
+use crate::small::datum::{Datum, Named, name_of};
 use crate::small::keyword::{is_free, is_named};
-use crate::small::leaf::Leaf;
 use crate::small::scope::{Scope, parameters};
 use crate::small::walk::{Link, walk_all, walk_one};
 use std::alloc::Global;
 
-/// A defined name and the number of its token.
-#[derive(Clone, Copy, Debug)]
-pub struct Defined<'a> {
-    pub name: &'a str,
-    pub number: u32,
-}
-
-/// The name that a datum is.
-fn name_of<'a>(datum: &Datum<'a>) -> Option<Defined<'a>> {
-    match datum {
-        Datum::Atom {
-            number,
-            leaf: Leaf::Name(name),
-        } => Some(Defined {
-            name,
-            number: *number,
-        }),
-        Datum::Atom { .. } | Datum::List { .. } | Datum::Quoted { .. } => None,
-    }
-}
-
 /// The name that follows `define`.
-fn defined_name<'a>(parts: &[Datum<'a>]) -> Option<Defined<'a>> {
+fn defined_name<'a>(parts: &[Datum<'a>]) -> Option<Named<'a>> {
     let first = parts.first()?;
     match first {
         Datum::List {
