@@ -8,4 +8,5 @@ pub mod Stacked
 pub mod OneReading
 pub mod ScopeLaws
 pub mod RowLaws
+pub mod LinkLaws
 pub mod FaultLaws

@@ -29,7 +29,7 @@ bytes_eq_comm (x ∷ xs) [] = refl
 bytes_eq_comm (x ∷ xs) (y ∷ ys) = λ i. eqb_comm x y i && bytes_eq_comm xs ys i
 
 -- an entry of a map under text keys
-same_bytes : (xs ys : List ℕ) → bytes_eq xs ys ≡ true → xs ≡ ys
+pub same_bytes : (xs ys : List ℕ) → bytes_eq xs ys ≡ true → xs ≡ ys
 same_bytes xs ys h = (bytes_eq-Decides xs ys).0 h
 
 pub lookup-looked : (es : List (Bor (List ℕ) × ℕ)) (s : List ℕ) → lookup (λ k. is_eq (slice_cmp nat_cmp s k.now)) es ≡ looked (map bound_of es) s

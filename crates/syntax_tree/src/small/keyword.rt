@@ -3,7 +3,8 @@ ghost use Rattle.std.specs.Prelude.{◌≡◌};
 ghost use Rattle.std.specs.List.{list_any};
 ghost use Rattle.std.specs.Str.{bytes_eq};
 ghost use Rattle.syntax_tree.specs.Small.{is_free, is_named};
-ghost use Rattle.syntax_tree.specs.Views.{datum_of};
+ghost use Rattle.syntax_tree.specs.Scopes.{is_headed};
+ghost use Rattle.syntax_tree.specs.Views.{datum_of, data_of};
 
 use crate::small::datum::Datum;
 use crate::small::leaf::Leaf;
@@ -75,5 +76,15 @@ pub fn is_named(word: &str, datum: &Datum<'_>) -> bool
             leaf: Leaf::Name(name),
         } => *name == word,
         Datum::Atom { .. } | Datum::List { .. } | Datum::Quoted { .. } => false,
+    }
+}
+
+/// Whether a list begins with this name.
+pub fn is_headed(word: &str, parts: &[Datum<'_>]) -> bool
+    ensures { result ≡ is_headed word.now (data_of parts.now) }
+{
+    match parts {
+        [head, ..] => is_named(word, head),
+        [] => false,
     }
 }
