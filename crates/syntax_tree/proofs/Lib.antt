@@ -9,4 +9,5 @@ pub mod OneReading
 pub mod ScopeLaws
 pub mod RowLaws
 pub mod LinkLaws
+pub mod ProgramLaws
 pub mod FaultLaws

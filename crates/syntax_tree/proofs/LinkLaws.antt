@@ -14,7 +14,7 @@ use Rattle.syntax_tree.specs.Scopes.{bounds_in, bounds_of, is_headed}
 use Rattle.syntax_tree.specs.Views.{datum_of, data_of}
 use Rattle.syntax_tree.proofs.ScopeLaws.{same_bytes, Stands, or_else, looked-append, bounds_of-push}
 
-Stands-under : (ps qs a b : List Bound) → Stands ps qs → Stands a b → Stands (ps ++ a) (qs ++ b)
+pub Stands-under : (ps qs a b : List Bound) → Stands ps qs → Stands a b → Stands (ps ++ a) (qs ++ b)
 Stands-under ps qs a b h k s = looked-append ps a s ∙ (λ i. or_else (h s i) (k s i)) ∙ sym (looked-append qs b s)
 
 same_leaf : (a b : List Bound) (n : ℕ) (leaf : Leaf) → Stands a b → leaf_links a n leaf ≡ leaf_links b n leaf

@@ -1,5 +1,5 @@
 -- Look-ups in scopes are look-ups in lists of bound symbols.
-use Rattle.std.proofs.Common.{◌≡◌, ℕ, ◌+◌, ◌-◌, ◌<◌, ◌≤◌, suc, zero, List, [], ◌∷◌, ◌++◌, Option, Some, None, refl, sym, ap, ◌∙◌, arith, append_assoc, append-nil, length, take, drop, get_or, Bool, true, false, cond, not, ◌&&◌, ◌||◌, map, add-one, inl, inr, eqb}
+use Rattle.std.proofs.Common.{◌≡◌, ℕ, ◌+◌, ◌-◌, ◌<◌, ◌≤◌, suc, zero, List, [], ◌∷◌, ◌++◌, Option, Some, None, refl, sym, ap, ◌∙◌, arith, append_assoc, append-nil, length, take, drop, get_or, Bool, true, false, cond, not, ◌&&◌, ◌||◌, map, add-one, inl, inr, eqb, subst}
 use Rattle.std.specs.Option.{is_some}
 use Rattle.std.specs.Str.{bytes_eq}
 use Rattle.std.specs.Map.{lookup}
@@ -154,33 +154,56 @@ are_names-other (atom n (Numeral text)) ds h = refl
 are_names-other (list first last parts) ds h = refl
 are_names-other (marked n mark d) ds h = refl
 
--- the names of a list up to a place, and the scope that they make
-pub record Seen (all rest : Data) (bounds : List Bound) : Type 0 where
+-- the names up to a place of a list, which differ, and the scope that they make
+pub record Gathered (all rest bounds : List Bound) : Type 0 where
   pub seen : List Bound
-  pub names : bound_names all ≡ seen ++ bound_names rest
-  pub shapes : are_names all ≡ are_names rest
+  pub names : all ≡ seen ++ rest
   pub apart : differ seen ≡ true
   pub stands : Stands bounds seen
 
-pub nothing_seen : (all : Data) (bounds : List Bound) → bounds ≡ [] → Seen all all bounds
-nothing_seen all bounds e = record { seen = []; names = refl; shapes = refl; apart = refl; stands = λ s. ap (λ (q : List Bound). looked q s) e }
+pub nothing_gathered : (all bounds : List Bound) → bounds ≡ [] → Gathered all all bounds
+nothing_gathered all bounds e = record { seen = []; names = refl; apart = refl; stands = λ s. ap (λ (q : List Bound). looked q s) e }
 
-pub seen_more : (all ds : Data) (d : Datum) (old new : List Bound) (b : Bound) → Seen all (datum d ds) old → name_part d ≡ Some b → is_free b.symbol ≡ true → looked old b.symbol ≡ None →
-    ((s : List ℕ) → looked new s ≡ cond (bytes_eq b.symbol s) (Some b.number) (looked old s)) → Seen all ds new
-seen_more all ds d old new b h name free absent binds = record {
+pub gathered_more : (all rest old new : List Bound) (b : Bound) → Gathered all (b ∷ rest) old → looked old b.symbol ≡ None →
+    ((s : List ℕ) → looked new s ≡ cond (bytes_eq b.symbol s) (Some b.number) (looked old s)) → Gathered all rest new
+gathered_more all rest old new b h absent binds = record {
   seen = h.seen ++ b ∷ [];
-  names = h.names ∙ ap (λ (q : List Bound). h.seen ++ q) (bound_names-name d ds b name) ∙ sym (append_assoc h.seen (b ∷ []) (bound_names ds));
-  shapes = h.shapes ∙ are_names-name d ds b name ∙ ap (λ (q : Bool). q && are_names ds) free;
+  names = h.names ∙ sym (append_assoc h.seen (b ∷ []) rest);
   apart = differ-push h.seen b h.apart (not_bound h.seen b.symbol (sym (h.stands b.symbol) ∙ absent));
   stands = Stands-push old new h.seen b h.stands absent binds;
 }
 
-pub all_seen : (all : Data) (bounds : List Bound) → Seen all none bounds → are_parameters all ≡ true
-all_seen all bounds h =
-    and_from (are_names all) (differ (bound_names all)) h.shapes (ap differ (h.names ∙ append-nil h.seen) ∙ h.apart)
+pub gathered_twice : (all rest bounds : List Bound) (b : Bound) → Gathered all (b ∷ rest) bounds → is_bound b.symbol bounds ≡ true → differ all ≡ false
+gathered_twice all rest bounds b h taken =
+    let bound : is_bound b.symbol h.seen ≡ true = sym (is_some-looked h.seen b.symbol) ∙ ap is_some (sym (h.stands b.symbol)) ∙ is_some-looked bounds b.symbol ∙ taken in
+    ap differ h.names ∙ differ-taken h.seen b rest bound
 
-pub all_stand : (all : Data) (bounds : List Bound) → Seen all none bounds → Stands bounds (bound_names all)
+pub all_differ : (all bounds : List Bound) → Gathered all [] bounds → differ all ≡ true
+all_differ all bounds h = ap differ (h.names ∙ append-nil h.seen) ∙ h.apart
+
+pub all_stand : (all bounds : List Bound) → Gathered all [] bounds → Stands bounds all
 all_stand all bounds h s = h.stands s ∙ ap (λ (q : List Bound). looked q s) (sym (h.names ∙ append-nil h.seen))
+
+-- the same for parameters, which are names that may stand anywhere
+pub record Seen (all rest : Data) (bounds : List Bound) : Type 0 where
+  pub gathered : Gathered (bound_names all) (bound_names rest) bounds
+  pub shapes : are_names all ≡ are_names rest
+
+pub nothing_seen : (all : Data) (bounds : List Bound) → bounds ≡ [] → Seen all all bounds
+nothing_seen all bounds e = record { gathered = nothing_gathered (bound_names all) bounds e; shapes = refl }
+
+named : (all ds : Data) (d : Datum) (bounds : List Bound) (b : Bound) → Seen all (datum d ds) bounds → name_part d ≡ Some b → Gathered (bound_names all) (b ∷ bound_names ds) bounds
+named all ds d bounds b h name = subst (λ (q : List Bound). Gathered (bound_names all) q bounds) (bound_names-name d ds b name) h.gathered
+
+pub seen_more : (all ds : Data) (d : Datum) (old new : List Bound) (b : Bound) → Seen all (datum d ds) old → name_part d ≡ Some b → is_free b.symbol ≡ true → looked old b.symbol ≡ None →
+    ((s : List ℕ) → looked new s ≡ cond (bytes_eq b.symbol s) (Some b.number) (looked old s)) → Seen all ds new
+seen_more all ds d old new b h name free absent binds = record {
+  gathered = gathered_more (bound_names all) (bound_names ds) old new b (named all ds d old b h name) absent binds;
+  shapes = h.shapes ∙ are_names-name d ds b name ∙ ap (λ (q : Bool). q && are_names ds) free;
+}
+
+pub all_seen : (all : Data) (bounds : List Bound) → Seen all none bounds → are_parameters all ≡ true
+all_seen all bounds h = and_from (are_names all) (differ (bound_names all)) h.shapes (all_differ (bound_names all) bounds h.gathered)
 
 pub other_seen : (all ds : Data) (d : Datum) (bounds : List Bound) → Seen all (datum d ds) bounds → name_part d ≡ None → are_parameters all ≡ false
 other_seen all ds d bounds h name = and_left (are_names all) (differ (bound_names all)) (h.shapes ∙ are_names-other d ds name)
@@ -191,6 +214,4 @@ keyword_seen all ds d bounds b h name free =
 
 pub twice_seen : (all ds : Data) (d : Datum) (bounds : List Bound) (b : Bound) → Seen all (datum d ds) bounds → name_part d ≡ Some b → is_bound b.symbol bounds ≡ true → are_parameters all ≡ false
 twice_seen all ds d bounds b h name taken =
-    let bound : is_bound b.symbol h.seen ≡ true = sym (is_some-looked h.seen b.symbol) ∙ ap is_some (sym (h.stands b.symbol)) ∙ is_some-looked bounds b.symbol ∙ taken in
-    and_right (are_names all) (differ (bound_names all))
-    (ap differ (h.names ∙ ap (λ (q : List Bound). h.seen ++ q) (bound_names-name d ds b name)) ∙ differ-taken h.seen b (bound_names ds) bound)
+    and_right (are_names all) (differ (bound_names all)) (gathered_twice (bound_names all) (bound_names ds) bounds b (named all ds d bounds b h name) taken)
