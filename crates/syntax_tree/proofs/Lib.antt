@@ -10,4 +10,7 @@ pub mod ScopeLaws
 pub mod RowLaws
 pub mod LinkLaws
 pub mod ProgramLaws
+pub mod NumberLaws
+pub mod AscentLaws
+pub mod SmallLaws
 pub mod FaultLaws
