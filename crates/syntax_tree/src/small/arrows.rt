@@ -1,11 +1,24 @@
 //! Arrows from links: where their tokens stand, and how the use is written.
+ghost use Rattle.std.specs.Prelude.{◌≡◌, ◌<◌, ◌≤◌, ◌+◌, ◌-◌, ◌^◌, length, true, map, codes, IfOk};
+ghost use Rattle.std.specs.List.{All, list_all};
+ghost use Rattle.syntax_tree.specs.Scanned.{is_plain, further, IsPlaced};
+ghost use Rattle.syntax_tree.specs.Views.{tokens_of, link_of, IsLinkWithin};
+ghost use Rattle.syntax_tree.specs.Walked.{arrow_at};
+
 use crate::small::token::Token;
 use crate::small::walk::Link;
 use ls_base::{Arrow, Mem, Place, Pos, Range, Text};
 use std::alloc::Global;
 
 /// A token's place in the document `input`.
-fn place(alloc: Global, token: &Token<'_>) -> Mem<Place> {
+fn place(alloc: Global, token: &Token<'_>) -> Mem<Place>
+    requires ordered { token.now.start ≤ token.now.end }
+    requires fits { token.now.pos.character + (token.now.end - token.now.start) < 2 ^ 32 }
+    ensures { IfOk result (λ p. p ≡ record {
+        uri = codes "input";
+        range = record { start = token.now.pos; end = further token.now.pos (token.now.end - token.now.start) };
+    }) }
+{
     let start = token.pos;
     let end = Pos {
         line: start.line,
@@ -17,22 +30,39 @@ fn place(alloc: Global, token: &Token<'_>) -> Mem<Place> {
     })
 }
 
-/// The arrow from one token to another.
-fn arrow(alloc: Global, text: &str, binder: &Token<'_>, target: &Token<'_>) -> Mem<Arrow> {
-    Ok(Arrow {
-        from: place(alloc, binder)?,
-        to: place(alloc, target)?,
-        name: Text::of(alloc, &text[target.start as usize..target.end as usize])?,
-    })
+/// The arrow of a link.
+fn arrow(alloc: Global, text: &str, tokens: &[Token<'_>], link: Link) -> Mem<Arrow>
+    requires short { length text.now < 2 ^ 32 }
+    requires plain { list_all is_plain text.now ≡ true }
+    requires placed { All (IsPlaced text.now) tokens.now }
+    requires within { IsLinkWithin (length tokens.now) link }
+    ensures { IfOk result (λ a. a ≡ arrow_at text.now (tokens_of tokens.now) (link_of link)) }
+{
+    let binder = tokens[link.binder as usize];
+    let target = tokens[link.target as usize];
+    let from = place(alloc, &binder)?;
+    let to = place(alloc, &target)?;
+    let name = Text::of(alloc, &text[target.start as usize..target.end as usize])?;
+    Ok(Arrow { from, to, name })
 }
 
 /// The arrow of each link.
-pub fn arrows(alloc: Global, text: &str, tokens: &[Token<'_>], links: &[Link]) -> Mem<Vec<Arrow>> {
+pub fn arrows(
+    alloc: Global,
+    text: &str,
+    tokens: &[Token<'_>],
+    links: &[Link],
+) -> Mem<Vec<Arrow>>
+    requires short { length text.now < 2 ^ 32 }
+    requires plain { list_all is_plain text.now ≡ true }
+    requires placed { All (IsPlaced text.now) tokens.now }
+    requires within { All (IsLinkWithin (length tokens.now)) links.now }
+    ensures { IfOk result (λ v. v.items ≡ map (λ l. arrow_at text.now (tokens_of tokens.now) (link_of l)) links.now) }
+{
     let mut arrows = Vec::new(alloc);
     for link in links {
-        let binder = &tokens[link.binder as usize];
-        let target = &tokens[link.target as usize];
-        arrows.push(arrow(alloc, text, binder, target)?)?;
+        let arrow = arrow(alloc, text, tokens, *link)?;
+        arrows.push(arrow)?;
     }
     Ok(arrows)
 }

@@ -1,6 +1,10 @@
 //! The arrows of small programs: texts of names, numerals, quoted data, procedures, calls and definitions
 //! (R7RS 4.1, 5.3). Reading goes from the text to tokens and on to data; a walk over the data finds the uses.
 
+ghost use Rattle.std.specs.Prelude.{OnOk, IfOk, IsErrOf};
+ghost use Rattle.syntax_tree.specs.Small.{IsSmall};
+ghost use Rattle.syntax_tree.specs.Walked.{AreWalked, HasArrows};
+
 use crate::small::arrows::arrows;
 use crate::small::program::program_links;
 use crate::small::reader::data;
@@ -63,9 +67,27 @@ impl<T: Drop> From<AllocFailed<T>> for SmallFault {
     }
 }
 
-/// The arrows of a small text, sorted by binder and then by use, each once.
-pub fn small_arrows(alloc: Global, text: &str) -> Result<Items<Arrow>, SmallFault> {
-    if text.len() > MAX_SMALL_TEXT || !text.is_ascii() {
+/// The arrows of a small text: those that the expansion of its program by substitution has, each once, sorted by binder
+/// and then by use. Any text may be asked about.
+pub fn small_arrows(alloc: Global, text: &str) -> Result<Items<Arrow>, SmallFault>
+    ensures small { OnOk result (IsSmall text.now) }
+    ensures arrows { IfOk result (λ arrows. HasArrows text.now arrows) }
+    ensures not_small { IsErrOf result SmallFault.NotSmall → ¬ IsSmall text.now }
+{
+    let arrows = walked_arrows(alloc, text)?;
+    Ok(arrows)
+}
+
+/// The arrows that the walk through scopes finds.
+fn walked_arrows(alloc: Global, text: &str) -> Result<Items<Arrow>, SmallFault>
+    ensures small { OnOk result (IsSmall text.now) }
+    ensures arrows { IfOk result (λ arrows. AreWalked text.now arrows) }
+    ensures not_small { IsErrOf result SmallFault.NotSmall → ¬ IsSmall text.now }
+{
+    if text.len() > MAX_SMALL_TEXT {
+        return Err(SmallFault::NotSmall);
+    }
+    if !text.is_ascii() {
         return Err(SmallFault::NotSmall);
     }
     let tokens = tokens(alloc, text)?;

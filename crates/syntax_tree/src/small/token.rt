@@ -1,4 +1,12 @@
 //! The tokens of a text of ASCII bytes, with their places (R7RS 7.1.1).
+ghost use Rattle.std.specs.Prelude.{◌≡◌, ◌≤◌, ◌<◌, ◌+◌, ◌^◌, length, List, IfOk, IsErrOf, option_map};
+ghost use Rattle.std.specs.List.{All};
+ghost use Rattle.std.specs.Str.{IsAscii};
+ghost use Rattle.scheme_model.specs.Tokens as model;
+ghost use Rattle.scheme_model.specs.Tokens.{IsSpelled};
+ghost use Rattle.syntax_tree.specs.Scanned.{front, size_of, stepped, IsPlaced};
+ghost use Rattle.syntax_tree.specs.Views.{kind_of, tokens_of};
+
 use crate::small::SmallFault;
 use crate::small::leaf::{Leaf, is_gap, leaf_of, word_len};
 use ls_base::Pos;
@@ -22,7 +30,10 @@ pub struct Token<'a> {
 }
 
 /// The token at the front of a text.
-fn first_kind(text: &str) -> Option<TokenKind<'_>> {
+fn first_kind(text: &str) -> Option<TokenKind<'_>>
+    requires { IsAscii text.now }
+    ensures { option_map kind_of result ≡ front text.now }
+{
     match text.as_bytes() {
         [] => None,
         [b'(', ..] => Some(TokenKind::Open),
@@ -36,7 +47,9 @@ fn first_kind(text: &str) -> Option<TokenKind<'_>> {
 }
 
 /// The bytes that spell a token.
-fn size(kind: TokenKind<'_>) -> usize {
+fn size(kind: TokenKind<'_>) -> usize
+    ensures { result ≡ size_of (kind_of kind.entry) }
+{
     match kind {
         TokenKind::Open | TokenKind::Close | TokenKind::Quote => 1,
         TokenKind::Atom(Leaf::Name(word)) | TokenKind::Atom(Leaf::Numeral(word)) => word.len(),
@@ -44,7 +57,11 @@ fn size(kind: TokenKind<'_>) -> usize {
 }
 
 /// The position after a space or a line end.
-fn after_gap(pos: Pos, c: u8) -> Pos {
+fn after_gap(pos: Pos, c: u8) -> Pos
+    requires line { pos.line + 1 < 2 ^ 32 }
+    requires character { pos.character + 1 < 2 ^ 32 }
+    ensures { result ≡ stepped pos c }
+{
     if c == b'\n' {
         Pos {
             line: pos.line + 1,
@@ -59,7 +76,13 @@ fn after_gap(pos: Pos, c: u8) -> Pos {
 }
 
 /// The tokens of a text.
-pub fn tokens(alloc: Global, text: &str) -> Result<Vec<Token<'_>>, SmallFault> {
+pub fn tokens(alloc: Global, text: &str) -> Result<Vec<Token<'_>>, SmallFault>
+    requires short { length text.now < 2 ^ 32 }
+    requires ascii { IsAscii text.now }
+    ensures spelled { IfOk result (λ ts. IsSpelled 0 (tokens_of ts.items) text.now) }
+    ensures placed { IfOk result (λ ts. All (IsPlaced text.now) ts.items) }
+    ensures none { IsErrOf result SmallFault.NotSmall → (ts : List model.Token) → IsSpelled 0 ts text.now → ⊥ }
+{
     let bytes = text.as_bytes();
     let mut tokens = Vec::new(alloc);
     let mut at = 0;
