@@ -1,0 +1,27 @@
+//! The calls of an object in memory that are to fail.
+ghost use Rattle.std.specs.Prelude.{◌↔◌, ◌≡◌, IsTrue};
+
+/// Which calls are to fail, by their numbers: the first call is number 1.
+#[derive(Debug, Drop)]
+pub struct Plan {
+    failing: Vec<u64>,
+    calls: u64,
+}
+
+impl Plan {
+    ghost use Rattle.ls_outside.specs.Plans.{IsNextToFail, CountsCall};
+
+    /// No call was made so far. A call whose number is in `failing` is to fail.
+    pub fn new(failing: Vec<u64>) -> Plan {
+        Plan { failing, calls: 0 }
+    }
+
+    /// Counts a call, and says whether it is to fail.
+    pub fn next_fails(&mut self) -> bool
+        ensures fails { IsTrue result ↔ IsNextToFail self.old }
+        ensures counted { CountsCall self.old self.new }
+    {
+        self.calls = self.calls.saturating_add(1);
+        self.failing.contains(&self.calls)
+    }
+}
