@@ -1,0 +1,2 @@
+//! STAND-IN, to be replaced by the crate of the definitions.
+#![tactic(auto)]
