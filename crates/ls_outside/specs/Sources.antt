@@ -1,5 +1,5 @@
 -- What a read takes and answers, and when it may say that it failed.
-use Rattle.std.specs.Prelude.{◌≡◌, ℕ, ◌≤◌, min, List, [], ◌∷◌, ◌++◌, length, take, drop, Some, None, Bool, true, nat_lt, nat_le, ◌&&◌}
+use Rattle.std.specs.Prelude.{◌≡◌, ℕ, ◌<◌, ◌≤◌, min, List, [], ◌∷◌, ◌++◌, length, take, drop, Some, None, Bool, true, nat_lt, nat_le, ◌&&◌}
 use Rattle.std.specs.List.{list_all}
 use Rattle.std.specs.declared.option.Option.{Option}
 use Rattle.ls_outside.specs.Counts.{Fails}
@@ -10,6 +10,11 @@ use Rattle.ls_outside.specs.declared.source.Got.TheVariants as got
 abbrev pub bytes_of : List (List ℕ) → List ℕ
 bytes_of [] = []
 bytes_of (piece ∷ pieces) = piece ++ bytes_of pieces
+
+-- the pieces are the bytes, cut after each `size` of them
+abbrev pub AreCuts : ℕ → List ℕ → List (List ℕ) → Type 0
+AreCuts size bytes [] = bytes ≡ []
+AreCuts size bytes (piece ∷ pieces) = (0 < length bytes) × (piece ≡ take size bytes) × AreCuts size (drop size bytes) pieces
 
 -- the rest of a piece, where it has any byte, before the others
 abbrev pub left_over : List ℕ → List (List ℕ) → List (List ℕ)

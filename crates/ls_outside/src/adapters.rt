@@ -17,7 +17,9 @@ pub struct StdSource<R: Read> {
 }
 
 impl<R: Read> StdSource<R> {
-    pub fn new(reader: R) -> StdSource<R> {
+    pub fn new(reader: R) -> StdSource<R>
+        ensures { ⟦<StdSource<R> as Source>⟧.faults result ≡ 0 }
+    {
         StdSource { reader, failed: 0 }
     }
 }
@@ -49,7 +51,9 @@ pub struct StdSink<W: Write> {
 }
 
 impl<W: Write> StdSink<W> {
-    pub fn new(writer: W) -> StdSink<W> {
+    pub fn new(writer: W) -> StdSink<W>
+        ensures { ⟦<StdSink<W> as Sink>⟧.faults result ≡ 0 }
+    {
         StdSink { writer, failed: 0 }
     }
 }
@@ -79,7 +83,9 @@ pub struct StdFiles<R: std::rt::Files> {
 }
 
 impl<R: std::rt::Files> StdFiles<R> {
-    pub fn new(runtime: R) -> StdFiles<R> {
+    pub fn new(runtime: R) -> StdFiles<R>
+        ensures { ⟦<StdFiles<R> as Files>⟧.faults result ≡ 0 }
+    {
         StdFiles { runtime, failed: 0 }
     }
 }

@@ -1,5 +1,5 @@
 //! The outside in memory, as tests want it: it tells what is left, taken and held, and fails where it is to.
-ghost use Rattle.std.specs.Prelude.{◌≡◌, ◌<◌, ◌↔◌, Some, length, map};
+ghost use Rattle.std.specs.Prelude.{◌≡◌, ◌+◌, ◌<◌, ◌≤◌, ◌↔◌, Some, length, map, vec_capacity, vec_len};
 ghost use Rattle.std.specs.String.{string_bytes};
 ghost use Rattle.ls_outside.specs.Sources.{GotCounts, GotTakes, GotWithin};
 ghost use Rattle.ls_outside.specs.Sinks.{PutCounts, PutTakes, PutWithin};
@@ -20,10 +20,12 @@ pub struct MemSource {
 
 impl MemSource {
     ghost use Rattle.ls_outside.specs.Left.{pieces_left};
-    ghost use Rattle.ls_outside.specs.Told.{source_left};
+    ghost use Rattle.ls_outside.specs.Told.{source_faults, source_left, source_plan};
 
     pub fn new(pieces: Pieces, plan: Plan) -> MemSource
-        ensures { source_left result ≡ Some (pieces_left pieces) }
+        ensures left { source_left result ≡ Some (pieces_left pieces) }
+        ensures plan { source_plan result ≡ plan }
+        ensures calm { source_faults result ≡ 0 }
     {
         MemSource {
             pieces,
@@ -34,7 +36,8 @@ impl MemSource {
 }
 
 impl Source for MemSource {
-    ghost use Rattle.ls_outside.specs.Told.{SourceIsToFail, source_faults, source_left};
+    ghost use Rattle.ls_outside.specs.Plans.{CountsCall, IsNextToFail};
+    ghost use Rattle.ls_outside.specs.Told.{source_faults, source_left, source_plan};
     ghost use Rattle.ls_outside.specs.LeftLaws.{sized_left};
 
     ghost left = { source_left };
@@ -48,7 +51,8 @@ impl Source for MemSource {
         ensures within { GotWithin result buf.new }
         ensures takes { GotTakes (source_left self.old) (source_left self.new) result buf.new }
         ensures counts { GotCounts (source_faults self.old) (source_faults self.new) result }
-        ensures planned { (result ≡ Got.Failed) ↔ SourceIsToFail self.old }
+        ensures planned { (result ≡ Got.Failed) ↔ IsNextToFail (source_plan self.old) }
+        ensures plan { CountsCall (source_plan self.old) (source_plan self.new) }
     {
         if self.plan.next_fails() {
             count_fault(&mut self.failed);
@@ -62,21 +66,28 @@ impl Source for MemSource {
 #[derive(Drop)]
 pub struct MemSink {
     taken: Vec<u8>,
+    room: usize,
     most: usize,
     plan: Plan,
     failed: u64,
+    ghost has_room: { vec_len taken + room ≤ vec_capacity taken },
 }
 
 impl MemSink {
     ghost use Rattle.std.specs.Prelude.{IfOk, []};
-    ghost use Rattle.ls_outside.specs.Told.{sink_taken};
+    ghost use Rattle.ls_outside.specs.Told.{sink_faults, sink_most, sink_plan, sink_room, sink_taken};
 
     /// A sink with room for so many bytes, which takes at most `most` of them in one write.
     pub fn new(alloc: Global, room: usize, most: usize, plan: Plan) -> Mem<MemSink>
-        ensures { IfOk result (λ sink. sink_taken sink ≡ Some []) }
+        ensures taken { IfOk result (λ sink. sink_taken sink ≡ Some []) }
+        ensures room { IfOk result (λ sink. sink_room sink ≡ room) }
+        ensures most { IfOk result (λ sink. sink_most sink ≡ most) }
+        ensures plan { IfOk result (λ sink. sink_plan sink ≡ plan) }
+        ensures calm { IfOk result (λ sink. sink_faults sink ≡ 0) }
     {
         Ok(MemSink {
             taken: Vec::with_capacity(alloc, room)?,
+            room,
             most,
             plan,
             failed: 0,
@@ -92,7 +103,8 @@ impl MemSink {
 }
 
 impl Sink for MemSink {
-    ghost use Rattle.ls_outside.specs.Told.{SinkAnswers, sink_faults, sink_taken};
+    ghost use Rattle.ls_outside.specs.Plans.{CountsCall};
+    ghost use Rattle.ls_outside.specs.Told.{room_after, SinkAnswers, sink_faults, sink_most, sink_plan, sink_room, sink_taken};
 
     ghost taken = { sink_taken };
 
@@ -104,13 +116,16 @@ impl Sink for MemSink {
         ensures takes { PutTakes (sink_taken self.old) (sink_taken self.new) result bytes.now }
         ensures counts { PutCounts (sink_faults self.old) (sink_faults self.new) result }
         ensures planned { SinkAnswers self.old bytes.now result }
+        ensures plan { CountsCall (sink_plan self.old) (sink_plan self.new) }
+        ensures room { sink_room self.new ≡ room_after self.old result }
+        ensures most { sink_most self.new ≡ sink_most self.old }
     {
-        let room = self.taken.capacity() - self.taken.len();
-        let count = bytes.len().min(self.most).min(room);
+        let count = bytes.len().min(self.most).min(self.room);
         if self.plan.next_fails() || count == 0 {
             count_fault(&mut self.failed);
             return Put::Failed;
         }
+        self.room -= count;
         self.taken.extend_from_slice(&bytes[..count]).unwrap();
         Put::Some(count)
     }
@@ -126,11 +141,13 @@ pub struct MemFiles {
 
 impl MemFiles {
     ghost use Rattle.ls_outside.specs.Shelves.{asked_of, content_in};
-    ghost use Rattle.ls_outside.specs.Told.{files_asked, files_held};
+    ghost use Rattle.ls_outside.specs.Told.{files_asked, files_faults, files_held, files_plan};
 
     pub fn new(shelf: Shelf, plan: Plan) -> MemFiles
         ensures held { files_held result ≡ Some (content_in shelf) }
         ensures asked { files_asked result ≡ Some (asked_of shelf) }
+        ensures plan { files_plan result ≡ plan }
+        ensures calm { files_faults result ≡ 0 }
     {
         MemFiles {
             shelf,
@@ -149,7 +166,8 @@ impl MemFiles {
 
 impl Files for MemFiles {
     ghost use Rattle.std.specs.Prelude.{refl};
-    ghost use Rattle.ls_outside.specs.Told.{FilesAnswer, files_asked, files_faults, files_held};
+    ghost use Rattle.ls_outside.specs.Plans.{CountsCall};
+    ghost use Rattle.ls_outside.specs.Told.{FilesAnswer, files_asked, files_faults, files_held, files_plan};
 
     ghost held = { files_held };
 
@@ -166,11 +184,13 @@ impl Files for MemFiles {
         ensures asks { FetchAsks (files_asked self.old) (files_asked self.new) name.now result }
         ensures counts { FetchCounts (files_faults self.old) (files_faults self.new) result }
         ensures planned { FilesAnswer self.old name.now result }
+        ensures plan { CountsCall (files_plan self.old) (files_plan self.new) }
     {
-        if self.shelf.ask(alloc, name).is_err() {
+        let fails = self.plan.next_fails();
+        if self.shelf.ask(name).is_err() {
             return Fetch::Memory;
         }
-        if self.plan.next_fails() {
+        if fails {
             count_fault(&mut self.failed);
             return Fetch::Failed;
         }

@@ -19,6 +19,7 @@ pub struct Pieces {
 
 impl Pieces {
     ghost use Rattle.ls_outside.specs.Left.{pieces_left};
+    ghost use Rattle.ls_outside.specs.Sources.{AreCuts};
 
     /// No pieces, which takes no memory.
     pub fn new(alloc: Global) -> Pieces
@@ -30,14 +31,30 @@ impl Pieces {
         }
     }
 
+    /// Bytes in pieces of `size`, of which the last may be shorter.
+    pub fn cut(alloc: Global, bytes: &[u8], size: usize) -> Mem<Pieces>
+        requires some { 0 < size }
+        requires small { size ≤ 65536 }
+        ensures { IfOk result (λ pieces. AreCuts size bytes.now (pieces_left pieces)) }
+    {
+        let mut pieces = Pieces::new(alloc);
+        let mut rest = bytes;
+        while !rest.is_empty() {
+            let count = rest.len().min(size);
+            pieces.add(&rest[..count])?;
+            rest = &rest[count..];
+        }
+        Ok(pieces)
+    }
+
     /// Adds a piece at the end. Where memory runs out the pieces stay.
-    pub fn add(&mut self, alloc: Global, piece: &[u8]) -> Mem<()>
+    pub fn add(&mut self, piece: &[u8]) -> Mem<()>
         requires some { 0 < length piece.now }
         requires small { length piece.now ≤ 65536 }
         ensures ok { OnOk result (pieces_left self.new ≡ pieces_left self.old ++ piece.now ∷ []) }
         ensures err { OnErr result (pieces_left self.new ≡ pieces_left self.old) }
     {
-        let piece = Vec::from_slice(alloc, piece)?;
+        let piece = Vec::from_slice(*self.pieces.allocator(), piece)?;
         self.pieces.push_back(piece)?;
         Ok(())
     }

@@ -9,10 +9,13 @@ pub struct Plan {
 }
 
 impl Plan {
-    ghost use Rattle.ls_outside.specs.Plans.{IsNextToFail, CountsCall};
+    ghost use Rattle.ls_outside.specs.Plans.{calls_made, calls_to_fail, CountsCall, IsNextToFail};
 
     /// No call was made so far. A call whose number is in `failing` is to fail.
-    pub fn new(failing: Vec<u64>) -> Plan {
+    pub fn new(failing: Vec<u64>) -> Plan
+        ensures failing { calls_to_fail result ≡ failing.items }
+        ensures made { calls_made result ≡ 0 }
+    {
         Plan { failing, calls: 0 }
     }
 

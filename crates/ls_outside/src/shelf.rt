@@ -28,12 +28,12 @@ impl Shelf {
     }
 
     /// Adds a name to those asked. Where memory runs out they stay.
-    pub fn ask(&mut self, alloc: Global, name: &str) -> Mem<()>
+    pub fn ask(&mut self, name: &str) -> Mem<()>
         ensures same { content_in self.new ≡ content_in self.old }
         ensures ok { OnOk result (asked_of self.new ≡ asked_of self.old ++ name.now ∷ []) }
         ensures err { OnErr result (asked_of self.new ≡ asked_of self.old) }
     {
-        let name = String::from_str(alloc, name)?;
+        let name = String::from_str(*self.asked.allocator(), name)?;
         self.asked.push(name)?;
         Ok(())
     }

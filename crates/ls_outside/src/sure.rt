@@ -81,7 +81,7 @@ impl Files for SureFiles {
     ghost tells_asked = { λ s told. refl };
 
     fn fetch(&mut self, alloc: Global, name: &str, max: u32) -> Fetch {
-        if self.shelf.ask(alloc, name).is_err() {
+        if self.shelf.ask(name).is_err() {
             return Fetch::Memory;
         }
         match self.shelf.copy_of(alloc, name, max) {

@@ -8,8 +8,9 @@ use crate::{
 use ls_base::Mem;
 use std::alloc::{AllocError, Global};
 use std::collections::{BTreeMap, VecDeque};
-use std::fs;
+use std::io::{ErrorKind, Read, Write};
 use std::test::Fail;
+use std::{fs, io};
 
 fn next<S: Source>(source: &mut S, buf: &mut [u8]) -> Got
     requires { 0 < length buf.old }
@@ -27,12 +28,44 @@ fn ask<F: Files>(files: &mut F, alloc: Global, name: &str) -> Fetch {
     files.fetch(alloc, name, 4)
 }
 
+/// A writer that counts how often it is flushed.
+#[derive(Drop)]
+struct Flushed<'a>(&'a mut u64);
+
+impl Write for Flushed<'_> {
+    fn write(&mut self, buf: &[u8]) -> io::Result<usize> {
+        Ok(buf.len())
+    }
+
+    fn flush(&mut self) -> io::Result<()> {
+        *self.0 = self.0.saturating_add(1);
+        Ok(())
+    }
+}
+
+/// A reader and writer of which no call succeeds.
+#[derive(Drop)]
+struct Broken;
+
+impl Read for Broken {
+    fn read(&mut self, _: &mut [u8]) -> io::Result<usize> {
+        Err(io::Error::from(ErrorKind::Other))
+    }
+}
+
+impl Write for Broken {
+    fn write(&mut self, _: &[u8]) -> io::Result<usize> {
+        Ok(0)
+    }
+
+    fn flush(&mut self) -> io::Result<()> {
+        Ok(())
+    }
+}
+
 /// The pieces `abc` and `d`.
 fn two_pieces(alloc: Global) -> Mem<Pieces> {
-    let mut pieces = Pieces::new(alloc);
-    pieces.add(alloc, b"abc")?;
-    pieces.add(alloc, b"d")?;
-    Ok(pieces)
+    Pieces::cut(alloc, b"abcd", 3)
 }
 
 /// The files `short`, of 3 bytes, and `long`, of 5.
@@ -127,7 +160,20 @@ fn adapters_pass_bytes_on(rt: HostRuntime) -> Result<(), Fail> {
     let mut written = Vec::new(rt.alloc());
     assert_eq!(rt; give(&mut StdSink::new(&mut written), b"ab"), Put::Some(2));
     assert_eq!(rt; written.as_slice(), b"ab".as_slice());
+    let mut flushes = 0;
+    assert_eq!(rt;
+        give(&mut StdSink::new(Flushed(&mut flushes)), b"ab"),
+        Put::Some(2)
+    );
+    assert_eq!(rt; flushes, 1);
     Ok(())
+}
+
+#[test]
+fn adapters_answer_failed(rt: HostRuntime) {
+    let mut buf = [0u8; 2];
+    assert_eq!(rt; next(&mut StdSource::new(Broken), &mut buf), Got::Failed);
+    assert_eq!(rt; give(&mut StdSink::new(Broken), b"ab"), Put::Failed);
 }
 
 #[test]
