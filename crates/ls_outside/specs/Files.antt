@@ -1,7 +1,6 @@
 -- What a fetch answers, which names were asked, and when it may say that it failed.
 use Rattle.std.specs.Prelude.{◌≡◌, ◌⊎◌, ℕ, ◌<◌, ◌≤◌, List, [], ◌∷◌, ◌++◌, length, Some, None, vec_len}
 use Rattle.std.specs.declared.option.Option.{Option}
-use Rattle.std.specs.Io.KnownBytes.{Keeps}
 use Rattle.ls_outside.specs.Counts.{Fails}
 use Rattle.ls_outside.specs.declared.files.Fetch.{Fetch}
 use Rattle.ls_outside.specs.declared.files.Fetch.TheVariants as fetch

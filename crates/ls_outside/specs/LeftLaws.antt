@@ -1,5 +1,5 @@
 -- What pieces in memory have left is pieces of 1 to 65,536 bytes.
-use Rattle.std.proofs.Common.{◌≡◌, ℕ, ◌-◌, ◌<◌, ◌≤◌, List, [], ◌∷◌, length, drop, map, refl, ap, ◌∙◌, arith, Bool, true, false, IsTrue, ◌&&◌, ltb, leb}
+use Rattle.std.proofs.Common.{◌≡◌, ℕ, List, [], ◌∷◌, drop, map, refl, ap, ◌∙◌, arith, Bool, true, false, IsTrue, ◌&&◌}
 use Rattle.std.specs.List.{list_all}
 use Rattle.std.proofs.lemmas.List.{length-drop}
 use Rattle.std.proofs.lemmas.Bool.Decides.{nat_tests}

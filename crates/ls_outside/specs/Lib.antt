@@ -9,3 +9,4 @@ pub mod LeftLaws
 pub mod Shelves
 pub mod Told
 pub mod SureTold
+pub mod Adapters

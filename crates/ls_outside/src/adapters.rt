@@ -1,6 +1,8 @@
 //! The outside itself, over the readers, writers and files of std. What it gives, takes and holds isn't told, and
 //! its counts of faults stop at the last value of 64 bits.
-ghost use Rattle.std.specs.Prelude.{◌≡◌, ◌≤◌, None};
+ghost use Rattle.std.specs.Prelude.{◌≡◌, ◌<◌, None, length};
+ghost use Rattle.ls_outside.specs.Sources.{GotCounts, GotWithin};
+ghost use Rattle.ls_outside.specs.Sinks.{PutCounts, PutWithin};
 ghost use Rattle.ls_outside.specs.Files.{FetchWithin, GivesRest};
 
 use crate::faults::count_fault;
@@ -17,21 +19,31 @@ pub struct StdSource<R: Read> {
 }
 
 impl<R: Read> StdSource<R> {
+    ghost use Rattle.ls_outside.specs.Adapters.{reader_of, std_source_faults};
+
     pub fn new(reader: R) -> StdSource<R>
-        ensures { ⟦<StdSource<R> as Source>⟧.faults result ≡ 0 }
+        ensures reader { reader_of result ≡ reader }
+        ensures calm { std_source_faults result ≡ 0 }
     {
         StdSource { reader, failed: 0 }
     }
 }
 
 impl<R: Read> Source for StdSource<R> {
+    ghost use Rattle.ls_outside.specs.Adapters.{GotPasses, reader_of, std_source_faults};
+
     ghost left = { λ _. None };
 
-    ghost faults = { λ s. s.failed };
+    ghost faults = { std_source_faults };
 
     ghost sized = { λ _. tt };
 
-    fn read(&mut self, buf: &mut [u8]) -> Got {
+    fn read(&mut self, buf: &mut [u8]) -> Got
+        requires { 0 < length buf.old }
+        ensures within { GotWithin result buf.new }
+        ensures counts { GotCounts (std_source_faults self.old) (std_source_faults self.new) result }
+        ensures passes { GotPasses (R.remaining (reader_of self.old)) (R.remaining (reader_of self.new)) result buf.new }
+    {
         match self.reader.read(buf) {
             Ok(0) => Got::End,
             Ok(count) => Got::Some(count),
@@ -51,19 +63,29 @@ pub struct StdSink<W: Write> {
 }
 
 impl<W: Write> StdSink<W> {
+    ghost use Rattle.ls_outside.specs.Adapters.{std_sink_faults, writer_of};
+
     pub fn new(writer: W) -> StdSink<W>
-        ensures { ⟦<StdSink<W> as Sink>⟧.faults result ≡ 0 }
+        ensures writer { writer_of result ≡ writer }
+        ensures calm { std_sink_faults result ≡ 0 }
     {
         StdSink { writer, failed: 0 }
     }
 }
 
 impl<W: Write> Sink for StdSink<W> {
+    ghost use Rattle.ls_outside.specs.Adapters.{PutPasses, std_sink_faults, writer_of};
+
     ghost taken = { λ _. None };
 
-    ghost faults = { λ s. s.failed };
+    ghost faults = { std_sink_faults };
 
-    fn write(&mut self, bytes: &[u8]) -> Put {
+    fn write(&mut self, bytes: &[u8]) -> Put
+        requires { 0 < length bytes.now }
+        ensures within { PutWithin result bytes.now }
+        ensures counts { PutCounts (std_sink_faults self.old) (std_sink_faults self.new) result }
+        ensures passes { PutPasses (W.contents (writer_of self.old)) (W.contents (writer_of self.new)) result bytes.now }
+    {
         if let Ok(count) = self.writer.write(bytes)
             && count > 0
             && self.writer.flush().is_ok()

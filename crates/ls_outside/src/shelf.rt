@@ -15,11 +15,12 @@ pub struct Shelf {
 }
 
 impl Shelf {
-    ghost use Rattle.ls_outside.specs.Shelves.{asked_of, content_in, IsCopy};
+    ghost use Rattle.ls_outside.specs.Shelves.{asked_of, content_in, content_of, IsCopy};
 
     /// Files of these contents, of which none was asked.
     pub fn new(alloc: Global, contents: BTreeMap<String, Vec<u8>>) -> Shelf
-        ensures { asked_of result ≡ [] }
+        ensures held { content_in result ≡ content_of contents }
+        ensures asked { asked_of result ≡ [] }
     {
         Shelf {
             contents,

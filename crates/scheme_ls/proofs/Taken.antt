@@ -1,9 +1,9 @@
 -- Bytes taken from the front of what is left, read by read.
 use Rattle.std.proofs.Common.{◌≡◌, ℕ, List, [], ◌∷◌, ◌++◌, take, drop, refl, sym, ap, ◌∙◌, append_assoc, Some, None, Option}
-use Rattle.std.proofs.lemmas.List.{take-append-drop, append-nil}
+use Rattle.std.proofs.lemmas.List.{take-append-drop}
 use Rattle.ls_outside.specs.Sources.{bytes_of, left_over, GotTakes}
 use Rattle.ls_outside.specs.declared.source.Got.TheVariants as got
-use Rattle.scheme_ls.specs.Reading.{TakesAll, TakesBytes}
+use Rattle.scheme_ls.specs.Reading.{TakesBytes}
 
 bytes_of-left_over : (rest : List ℕ) (pieces : List (List ℕ)) → bytes_of (left_over rest pieces) ≡ rest ++ bytes_of pieces
 bytes_of-left_over [] pieces = refl
@@ -23,18 +23,3 @@ TakesBytes-more (Some old) (Some mid) None bytes buffer n front takes = absurd t
 TakesBytes-more (Some old) (Some []) (Some new) bytes buffer n front takes = absurd takes
 TakesBytes-more (Some old) (Some (piece ∷ pieces)) (Some new) bytes buffer n front takes =
     takes_more (bytes_of old) bytes buffer piece pieces new n front takes.bytes takes.rest
-
--- nothing more was left
-pub TakesAll-end : (old mid new : Option (List (List ℕ))) (bytes buffer : List ℕ) → TakesBytes old mid bytes → GotTakes mid new got.End buffer → TakesAll old new bytes
-TakesAll-end None mid new bytes buffer front takes = tt
-TakesAll-end (Some old) None new bytes buffer front takes = absurd front
-TakesAll-end (Some old) (Some mid) None bytes buffer front takes = absurd takes
-TakesAll-end (Some old) (Some []) (Some new) bytes buffer front takes = (sym (front ∙ append-nil bytes), takes)
-TakesAll-end (Some old) (Some (piece ∷ pieces)) (Some new) bytes buffer front takes = absurd takes
-
--- a read that failed took nothing
-pub TakesBytes-failed : (old mid new : Option (List (List ℕ))) (bytes buffer : List ℕ) → TakesBytes old mid bytes → GotTakes mid new got.Failed buffer → TakesBytes old new bytes
-TakesBytes-failed None mid new bytes buffer front takes = tt
-TakesBytes-failed (Some old) None new bytes buffer front takes = absurd front
-TakesBytes-failed (Some old) (Some mid) None bytes buffer front takes = absurd takes
-TakesBytes-failed (Some old) (Some mid) (Some new) bytes buffer front takes = front ∙ ap (λ (pieces : List (List ℕ)). bytes ++ bytes_of pieces) (sym takes)
