@@ -1,11 +1,11 @@
 #!/bin/sh
-# Times the built `scheme_ls arrows` on texts of doubling length, and prints for each its status, the seconds of a run
-# and the ratio to the run before. Where the time is linear in the text, no ratio is much above 2.
-# Run it by hand: bench/arrows.sh [RUNS], with 20 runs of each text unless RUNS says otherwise.
+# Times the built `scheme_ls arrows` on texts of doubling length, and prints for each its status, the seconds of the fastest
+# run beyond those of the empty text, and the ratio to the text before. Where the time is linear in the text, no ratio is
+# much above 2. Run it by hand: bench/arrows.sh [RUNS], with 50 runs of each text unless RUNS says otherwise.
 
 top=$(cd "$(dirname "$0")/.." && pwd) || exit 1
 program=$top/crates/scheme_ls/out/scheme_ls
-runs=${1:-20}
+runs=${1:-50}
 
 if [ ! -x "$program" ]; then
     echo "bench/arrows.sh: $program is missing: run bin/scheme_ls first" >&2
@@ -40,7 +40,19 @@ deep() {
         }'
 }
 
-# Times the runs of a text of a kind at four lengths, from $2 on.
+# The seconds of the fastest run on the text.
+seconds() {
+    count=0
+    while [ "$count" -lt "$runs" ]; do
+        start=$(date +%s.%N)
+        "$program" arrows <"$text" >/dev/null
+        end=$(date +%s.%N)
+        echo "$start $end"
+        count=$((count + 1))
+    done | awk '{ run = $2 - $1; if (NR == 1 || run < least) least = run } END { printf "%.6f", least }'
+}
+
+# Times a kind of text at four lengths, from $2 bytes on.
 measure() {
     kind=$1
     bytes=$2
@@ -49,21 +61,17 @@ measure() {
         "$kind" "$bytes" >"$text"
         "$program" arrows <"$text" >/dev/null
         status=$?
-        start=$(date +%s.%N)
-        count=0
-        while [ "$count" -lt "$runs" ]; do
-            "$program" arrows <"$text" >/dev/null
-            count=$((count + 1))
-        done
-        end=$(date +%s.%N)
-        seconds=$(echo "$start $end $runs" | awk '{ printf "%.6f", ($2 - $1) / $3 }')
-        ratio=$(echo "$before $seconds" | awk '{ if ($1 > 0) printf "%.2f", $2 / $1; else printf "-" }')
-        printf '%-6s %8d bytes   status %d   %s seconds   ratio %s\n' "$kind" "$(wc -c <"$text")" "$status" "$seconds" "$ratio"
-        before=$seconds
+        now=$(echo "$(seconds) $base" | awk '{ printf "%.6f", ($1 > $2 ? $1 - $2 : 0) }')
+        ratio=$(echo "$before $now" | awk '{ if ($1 > 0) printf "%.2f", $2 / $1; else printf "-" }')
+        printf '%-6s %8d bytes   status %d   %s seconds   ratio %s\n' "$kind" "$(wc -c <"$text")" "$status" "$now" "$ratio"
+        before=$now
         bytes=$((bytes * 2))
     done
 }
 
+: >"$text"
+base=$(seconds)
+echo "The empty text: $base seconds"
 echo "Small texts, whose arrows are printed:"
 measure flat 8192
 measure deep 8192
