@@ -1,0 +1,12 @@
+pub mod Counts
+pub mod Sources
+pub mod Sinks
+pub mod Files
+pub mod Plans
+pub mod Places
+pub mod Left
+pub mod LeftLaws
+pub mod Shelves
+pub mod Told
+pub mod SureTold
+pub mod Adapters

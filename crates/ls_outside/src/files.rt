@@ -1,0 +1,41 @@
+//! The files that words name.
+ghost use Rattle.std.specs.Prelude.{◌≡◌, Option, List, ℕ, IsSome};
+ghost use Rattle.ls_outside.specs.Files.{FetchAsks, FetchCounts, FetchTells, FetchWithin};
+
+use std::alloc::Global;
+
+/// What a fetch answers.
+#[derive(Debug, Drop, PartialEq, Eq)]
+pub enum Fetch {
+    /// The content of the file.
+    Bytes(Vec<u8>),
+    /// The file is longer than was asked for.
+    Long,
+    /// There is no such file, or it can't be read.
+    Failed,
+    /// Memory ran out.
+    Memory,
+}
+
+/// Files, by name.
+pub trait Files {
+    /// What each name holds, where the files tell it: a content, or none, and then its fetch fails.
+    ghost held: { Self → Option (List ℕ → Option (List ℕ)) };
+
+    /// The names asked so far in their order, where the files tell what they hold.
+    ghost asked: { Self → Option (List (List ℕ)) };
+
+    /// How often a fetch has failed.
+    ghost faults: { Self → ℕ };
+
+    /// The content of the file of this name, which has at most `max` bytes.
+    fn fetch(&mut self, alloc: Global, name: &str, max: u32) -> Fetch
+        ensures within { FetchWithin result max }
+        ensures tells { FetchTells (held self.old) name.now max result }
+        ensures stays { held self.new ≡ held self.old }
+        ensures asks { FetchAsks (asked self.old) (asked self.new) name.now result }
+        ensures counts { FetchCounts (faults self.old) (faults self.new) result };
+
+    /// Files that tell what they hold tell the names asked.
+    ghost tells_asked: { (files : Self) → IsSome (held files) → IsSome (asked files) };
+}

@@ -1,0 +1,32 @@
+-- What was printed to a sink.
+use Rattle.std.specs.Prelude.{◌≡◌, ℕ, ◌<◌, List, length, take, Ok, Err}
+use Rattle.std.specs.declared.option.Option.{Option}
+use Rattle.std.specs.declared.result.Result.{Result}
+use Rattle.std.specs.Io.KnownBytes.{Appends}
+use Rattle.ls_outside.specs.Counts.{Fails}
+use Rattle.scheme_ls.specs.declared.printing.SinkFailed.{SinkFailed}
+
+-- what a sink shows at a moment: the bytes that it took, where it tells them, and how often a write has failed
+pub record SinkSeen : Type 0 where
+  pub taken : Option (List ℕ)
+  pub faults : ℕ
+
+abbrev pub sink_seen : Option (List ℕ) → ℕ → SinkSeen
+sink_seen taken faults = record { taken = taken; faults = faults }
+
+-- these bytes were printed, and no write failed
+pub record Prints (old new : SinkSeen) (output : List ℕ) : Type 0 where
+  pub printed : Appends old.taken new.taken output
+  pub calm : new.faults ≡ old.faults
+
+-- a write failed, and a front of these bytes was printed, but not all
+pub record PrintsFront (old new : SinkSeen) (output : List ℕ) : Type 0 where
+  pub count : ℕ
+  pub part : count < length output
+  pub printed : Appends old.taken new.taken (take count output)
+  pub failed : Fails old.faults new.faults
+
+-- how printing bytes ends
+abbrev pub PrintingEndsAs : SinkSeen → SinkSeen → List ℕ → Result (Unit {0}) SinkFailed → Type 0
+PrintingEndsAs old new output (Ok done) = Prints old new output
+PrintingEndsAs old new output (Err fault) = PrintsFront old new output
