@@ -71,8 +71,8 @@ pub enum Message {
     Response,
 }
 
-/// Why a body is no message, or a request that can't be answered (JSON-RPC 2.0 section 5.1). The id is that of the body,
-/// where it has a valid one.
+/// Why a body is no message, or a request that can't be answered (JSON-RPC 2.0 section 5.1). The id is that of
+/// the body, where it has a valid one.
 #[derive(Debug, Drop)]
 pub enum Reject {
     /// Memory ran out.

@@ -83,7 +83,8 @@ fn opened(alloc: Global, message: &Value) -> Result<Note, ReadError>
 
 /// The range that a change replaces, or none where it is of the whole text.
 fn replaced_range(value: Option<&Value>) -> Result<Option<Range>, ReadError>
-    ensures { Gives (λ r. r) result (spec.replaced_range (option_map (λ v. view v.now) value.entry)) }
+    ensures { Gives (λ r. r) result
+        (spec.replaced_range (option_map (λ v. view v.now) value.entry)) }
 {
     match value {
         None => Ok(None),

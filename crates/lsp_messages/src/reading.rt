@@ -1,5 +1,5 @@
-//! What a body says (JSON-RPC 2.0 section 4). Its reading as JSON is judged first, then its shape, then its method, then
-//! its parameters.
+//! What a body says (JSON-RPC 2.0 section 4). Its reading as JSON is judged first, then its shape, then its
+//! method, then its parameters.
 ghost use Rattle.std.specs.Prelude.{◌≡◌, option_map, IfOk};
 ghost use Rattle.serde_json.specs.View.{view};
 ghost use Rattle.lsp_messages.specs.Parameters.{call_of, note_of};
@@ -15,9 +15,10 @@ use ls_base::{Mem, Memory, Text};
 use serde_json::Value;
 use std::alloc::Global;
 
-/// The message that a body says, or why it is none. A body must be UTF-8 and JSON, in which the last of equal keys counts
-/// and at most 127 lists and objects nest (`Parse`), must have the shape of a message (`Invalid`), and a request must
-/// have a known method (`Method`) and the fields that this needs (`Params`). What fails first is the answer.
+/// The message that a body says, or why it is none. A body must be UTF-8 and JSON, in which the last of equal
+/// keys counts and at most 127 lists and objects nest (`Parse`); it must have the shape of a message (`Invalid`);
+/// a request must have a known method (`Method`) and the fields that this needs (`Params`). What fails first is
+/// the answer.
 pub fn read_message(alloc: Global, body: &[u8]) -> Result<Message, Reject>
     // The answer is what the body says.
     ensures exact { Answers result (spec.message_of body.now) }
@@ -83,7 +84,8 @@ fn response(alloc: Global, message: &Value) -> Result<Message, Reject>
 
 /// A message with a field `method`, which must be a string.
 fn named(alloc: Global, method: Option<&str>, message: &Value) -> Result<Message, Reject>
-    ensures { Answers result (spec.message_by_name (view message.now) (option_map (λ s. s.now) method.entry)) }
+    ensures { Answers result
+        (spec.message_by_name (view message.now) (option_map (λ s. s.now) method.entry)) }
 {
     let Some(method) = method else {
         return Err(Reject::Invalid(valid_id(alloc, message)?));

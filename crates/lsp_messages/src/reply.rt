@@ -5,7 +5,8 @@ use ls_base::{Answer, Diagnostic, Items, Text};
 /// A message to the client (JSON-RPC 2.0 section 5; LSP 3.17).
 #[derive(Debug, Drop)]
 pub enum Reply {
-    /// What the server can do, in reply to `initialize`. `prepare` says that the client states prepare support.
+    /// What the server can do, in reply to `initialize`. `prepare` says that the client states prepare
+    /// support for renames.
     Capabilities {
         id: Id,
         prepare: bool,

@@ -10,8 +10,8 @@ use ls_base::{Answer, Diagnostic, DocEdits, Mem};
 use serde_json::{Map, Value, json};
 use std::alloc::{AllocError, Global};
 
-/// The body of a message to the client: compact JSON, with the keys of each object in byte order. Of edits for equal uris
-/// the last count.
+/// The body of a message to the client: compact JSON, with the keys of each object in byte order. Of edits for
+/// equal uris the last count.
 pub fn reply_bytes(alloc: Global, reply: &Reply) -> Mem<Vec<u8>>
     // The text of the reply's JSON.
     ensures text { IfOk result (λ bytes. bytes.items ≡ spec.reply_text reply.now) }
