@@ -1,5 +1,5 @@
 -- What a fetch answers, which names were asked, and when it may say that it failed.
-use Rattle.std.specs.Prelude.{◌≡◌, ◌⊎◌, ℕ, ◌<◌, ◌≤◌, List, [], ◌∷◌, ◌++◌, length, Some, None, vec_len}
+use Rattle.std.specs.Prelude.{◌≡◌, ℕ, ◌<◌, ◌≤◌, List, [], ◌∷◌, ◌++◌, length, Some, None, vec_len}
 use Rattle.std.specs.declared.option.Option.{Option}
 use Rattle.ls_outside.specs.Counts.{Fails}
 use Rattle.ls_outside.specs.declared.files.Fetch.{Fetch}
@@ -31,17 +31,11 @@ abbrev pub FetchTells : Option (List ℕ → Option (List ℕ)) → List ℕ →
 FetchTells None name max answer = Unit {0}
 FetchTells (Some held) name max answer = Gives (held name) max answer
 
--- the names asked, where they are told, grow by this one; where memory ran out it may be missing
-abbrev pub Asks : List (List ℕ) → List (List ℕ) → List ℕ → Fetch → Type 0
-Asks old new name (fetch.Bytes content) = new ≡ old ++ name ∷ []
-Asks old new name fetch.Long = new ≡ old ++ name ∷ []
-Asks old new name fetch.Failed = new ≡ old ++ name ∷ []
-Asks old new name fetch.Memory = (new ≡ old) ⊎ (new ≡ old ++ name ∷ [])
-
-abbrev pub FetchAsks : Option (List (List ℕ)) → Option (List (List ℕ)) → List ℕ → Fetch → Type 0
-FetchAsks None new name answer = Unit {0}
-FetchAsks (Some old) None name answer = ⊥
-FetchAsks (Some old) (Some new) name answer = Asks old new name answer
+-- the names asked, where they are told, grow by this one, whatever the answer is
+abbrev pub FetchAsks : Option (List (List ℕ)) → Option (List (List ℕ)) → List ℕ → Type 0
+FetchAsks None new name = Unit {0}
+FetchAsks (Some old) None name = ⊥
+FetchAsks (Some old) (Some new) name = new ≡ old ++ name ∷ []
 
 -- the count of faults rises with a fetch that fails, and with no other
 abbrev pub FetchCounts : ℕ → ℕ → Fetch → Type 0

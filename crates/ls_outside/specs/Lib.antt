@@ -6,7 +6,7 @@ pub mod Plans
 pub mod Places
 pub mod Left
 pub mod LeftLaws
-pub mod Shelves
+pub mod Held
 pub mod Told
 pub mod SureTold
 pub mod Adapters

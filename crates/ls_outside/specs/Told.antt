@@ -3,7 +3,7 @@ use Rattle.std.specs.Prelude.{◌≡◌, ◌⊎◌, ℕ, ◌-◌, min, List, len
 use Rattle.std.specs.declared.option.Option.{Option}
 use Rattle.ls_outside.specs.Left.{pieces_left}
 use Rattle.ls_outside.specs.Plans.{IsNextToFail}
-use Rattle.ls_outside.specs.Shelves.{asked_of, content_in}
+use Rattle.ls_outside.specs.Held.{content_of}
 use Rattle.ls_outside.specs.declared.plan.Plan.{Plan}
 use Rattle.ls_outside.specs.declared.sink.Put.{Put}
 use Rattle.ls_outside.specs.declared.sink.Put.TheVariants as put
@@ -54,10 +54,10 @@ room_after sink (put.Some n) = sink_room sink - n
 room_after sink put.Failed = sink_room sink
 
 abbrev pub files_held : MemFiles → Option (List ℕ → Option (List ℕ))
-files_held files = Some (content_in files.shelf)
+files_held files = Some (content_of files.contents)
 
 abbrev pub files_asked : MemFiles → Option (List (List ℕ))
-files_asked files = Some (asked_of files.shelf)
+files_asked files = Some files.asked.pieces
 
 abbrev pub files_plan : MemFiles → Plan
 files_plan files = files.plan
@@ -69,5 +69,5 @@ files_faults files = files.failed
 abbrev pub FilesAnswer : MemFiles → List ℕ → Fetch → Type 0
 FilesAnswer files name (fetch.Bytes content) = ¬ IsNextToFail (files_plan files)
 FilesAnswer files name fetch.Long = ¬ IsNextToFail (files_plan files)
-FilesAnswer files name fetch.Failed = IsNextToFail (files_plan files) ⊎ (content_in files.shelf name ≡ None)
+FilesAnswer files name fetch.Failed = IsNextToFail (files_plan files) ⊎ (content_of files.contents name ≡ None)
 FilesAnswer files name fetch.Memory = Unit {0}

@@ -33,7 +33,7 @@ pub trait Files {
         ensures within { FetchWithin result max }
         ensures tells { FetchTells (held self.old) name.now max result }
         ensures stays { held self.new ≡ held self.old }
-        ensures asks { FetchAsks (asked self.old) (asked self.new) name.now result }
+        ensures asks { FetchAsks (asked self.old) (asked self.new) name.now }
         ensures counts { FetchCounts (faults self.old) (faults self.new) result };
 
     /// Files that tell what they hold tell the names asked.

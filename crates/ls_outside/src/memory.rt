@@ -1,12 +1,12 @@
 //! The outside in memory, as tests want it: it tells what is left, taken and held, and fails where it is to.
-ghost use Rattle.std.specs.Prelude.{◌≡◌, ◌+◌, ◌<◌, ◌≤◌, ◌↔◌, Some, length, map, vec_capacity, vec_len};
-ghost use Rattle.std.specs.String.{string_bytes};
+ghost use Rattle.std.specs.Prelude.{◌≡◌, ◌+◌, ◌<◌, ◌≤◌, ◌↔◌, Some, length, vec_capacity, vec_len};
 ghost use Rattle.ls_outside.specs.Sources.{GotCounts, GotTakes, GotWithin};
 ghost use Rattle.ls_outside.specs.Sinks.{PutCounts, PutTakes, PutWithin};
 ghost use Rattle.ls_outside.specs.Files.{FetchAsks, FetchCounts, FetchTells, FetchWithin};
 
 use crate::faults::count_fault;
-use crate::{Fetch, Files, Got, Pieces, Plan, Put, Shelf, Sink, Source};
+use crate::held::copy_of;
+use crate::{Contents, Fetch, Files, Got, Pieces, Plan, Put, Record, Sink, Source};
 use ls_base::{Mem, Memory};
 use std::alloc::Global;
 
@@ -134,33 +134,29 @@ impl Sink for MemSink {
 /// Files that are held by name, and fail at the calls of a plan. A name that isn't held is a fault.
 #[derive(Drop)]
 pub struct MemFiles {
-    shelf: Shelf,
+    contents: Contents,
+    asked: Record,
     plan: Plan,
     failed: u64,
 }
 
 impl MemFiles {
-    ghost use Rattle.ls_outside.specs.Shelves.{asked_of, content_in};
+    ghost use Rattle.std.specs.Prelude.{[]};
+    ghost use Rattle.ls_outside.specs.Held.{content_of};
     ghost use Rattle.ls_outside.specs.Told.{files_asked, files_faults, files_held, files_plan};
 
-    pub fn new(shelf: Shelf, plan: Plan) -> MemFiles
-        ensures held { files_held result ≡ Some (content_in shelf) }
-        ensures asked { files_asked result ≡ Some (asked_of shelf) }
+    pub fn new(contents: Contents, plan: Plan) -> MemFiles
+        ensures held { files_held result ≡ Some (content_of contents) }
+        ensures asked { files_asked result ≡ Some [] }
         ensures plan { files_plan result ≡ plan }
         ensures calm { files_faults result ≡ 0 }
     {
         MemFiles {
-            shelf,
+            contents,
+            asked: Record::new(),
             plan,
             failed: 0,
         }
-    }
-
-    /// The names asked, in their order.
-    pub fn asked(&self) -> &[String]
-        ensures { files_asked self.now ≡ Some (map string_bytes result.now) }
-    {
-        self.shelf.asked()
     }
 }
 
@@ -181,20 +177,17 @@ impl Files for MemFiles {
         ensures within { FetchWithin result max }
         ensures tells { FetchTells (files_held self.old) name.now max result }
         ensures stays { files_held self.new ≡ files_held self.old }
-        ensures asks { FetchAsks (files_asked self.old) (files_asked self.new) name.now result }
+        ensures asks { FetchAsks (files_asked self.old) (files_asked self.new) name.now }
         ensures counts { FetchCounts (files_faults self.old) (files_faults self.new) result }
         ensures planned { FilesAnswer self.old name.now result }
         ensures plan { CountsCall (files_plan self.old) (files_plan self.new) }
     {
-        let fails = self.plan.next_fails();
-        if self.shelf.ask(name).is_err() {
-            return Fetch::Memory;
-        }
-        if fails {
+        self.asked.note(name.as_bytes());
+        if self.plan.next_fails() {
             count_fault(&mut self.failed);
             return Fetch::Failed;
         }
-        match self.shelf.copy_of(alloc, name, max) {
+        match copy_of(alloc, &self.contents, name, max) {
             Some(copy) => copy,
             None => {
                 count_fault(&mut self.failed);

@@ -1,7 +1,8 @@
 //! The outside in memory that never fails: its counts of faults are always 0.
-ghost use Rattle.std.specs.Prelude.{◌≡◌, Some, None};
+ghost use Rattle.std.specs.Prelude.{◌≡◌, Some};
 
-use crate::{Fetch, Files, Got, Pieces, Put, Shelf, Sink, Source};
+use crate::held::copy_of;
+use crate::{Contents, Fetch, Files, Got, Pieces, Put, Record, Sink, Source};
 use std::alloc::Global;
 
 /// A source that gives pieces in their order.
@@ -36,16 +37,34 @@ impl Source for SureSource {
     }
 }
 
-/// A sink that takes all bytes at once. It keeps none of them, and tells nothing of them.
+/// A sink that takes all bytes at once. It keeps none of them at run time: what it took is told to clauses alone.
 #[derive(Drop)]
-pub struct SureSink;
+pub struct SureSink {
+    taken: Record,
+}
+
+impl SureSink {
+    ghost use Rattle.std.specs.Prelude.{[]};
+    ghost use Rattle.ls_outside.specs.SureTold.{sure_taken};
+
+    pub fn new() -> SureSink
+        ensures { sure_taken result ≡ Some [] }
+    {
+        SureSink {
+            taken: Record::new(),
+        }
+    }
+}
 
 impl Sink for SureSink {
-    ghost taken = { λ _. None };
+    ghost use Rattle.ls_outside.specs.SureTold.{sure_taken};
+
+    ghost taken = { sure_taken };
 
     ghost faults = { λ _. 0 };
 
     fn write(&mut self, bytes: &[u8]) -> Put {
+        self.taken.note(bytes);
         Put::Some(bytes.len())
     }
 }
@@ -53,18 +72,23 @@ impl Sink for SureSink {
 /// Files that are held by name. A name that isn't held has an empty content.
 #[derive(Drop)]
 pub struct SureFiles {
-    shelf: Shelf,
+    contents: Contents,
+    asked: Record,
 }
 
 impl SureFiles {
-    ghost use Rattle.ls_outside.specs.Shelves.{asked_of, content_in};
-    ghost use Rattle.ls_outside.specs.SureTold.{or_empty, sure_asked, sure_held};
+    ghost use Rattle.std.specs.Prelude.{[]};
+    ghost use Rattle.ls_outside.specs.Held.{content_or_empty};
+    ghost use Rattle.ls_outside.specs.SureTold.{sure_asked, sure_held};
 
-    pub fn new(shelf: Shelf) -> SureFiles
-        ensures held { sure_held result ≡ Some (or_empty (content_in shelf)) }
-        ensures asked { sure_asked result ≡ Some (asked_of shelf) }
+    pub fn new(contents: Contents) -> SureFiles
+        ensures held { sure_held result ≡ Some (content_or_empty contents) }
+        ensures asked { sure_asked result ≡ Some [] }
     {
-        SureFiles { shelf }
+        SureFiles {
+            contents,
+            asked: Record::new(),
+        }
     }
 }
 
@@ -81,10 +105,8 @@ impl Files for SureFiles {
     ghost tells_asked = { λ s told. refl };
 
     fn fetch(&mut self, alloc: Global, name: &str, max: u32) -> Fetch {
-        if self.shelf.ask(name).is_err() {
-            return Fetch::Memory;
-        }
-        match self.shelf.copy_of(alloc, name, max) {
+        self.asked.note(name.as_bytes());
+        match copy_of(alloc, &self.contents, name, max) {
             Some(copy) => copy,
             None => Fetch::Bytes(Vec::new(alloc)),
         }

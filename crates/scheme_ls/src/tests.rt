@@ -2,9 +2,7 @@
 use crate::printing::lines;
 use crate::run_counted;
 use ls_base::{Arrow, Mem, Place, Pos, Range, Text};
-use ls_outside::{
-    MemFiles, MemSink, MemSource, Pieces, Plan, Shelf, SureFiles, SureSink, SureSource,
-};
+use ls_outside::{MemFiles, MemSink, MemSource, Pieces, Plan, SureFiles, SureSink, SureSource};
 use std::alloc::{AllocError, Global};
 use std::collections::BTreeMap;
 use std::marker::Brand;
@@ -61,10 +59,7 @@ fn outcome(alloc: Global, run: Run<'_>) -> Result<(u8, Vec<u8>), Fail> {
     let mut input = MemSource::new(Pieces::cut(alloc, run.text.as_bytes(), size)?, reads);
     let writes = Plan::new(vec![in alloc; run.failing_write]?);
     let mut output = MemSink::new(alloc, 1_000, run.step, writes)?;
-    let mut files = MemFiles::new(
-        Shelf::new(alloc, BTreeMap::new(alloc)),
-        Plan::new(Vec::new(alloc)),
-    );
+    let mut files = MemFiles::new(BTreeMap::new(alloc), Plan::new(Vec::new(alloc)));
     let status = run_counted::<_, _, _, Brand>(
         alloc,
         Blank::new(1),
@@ -205,8 +200,8 @@ fn sure_status(alloc: Global) -> Result<u8, Fail> {
         Blank::new(1),
         &words,
         &mut SureSource::new(Pieces::cut(alloc, b"(if a b c)", 3)?),
-        &mut SureSink,
-        &mut SureFiles::new(Shelf::new(alloc, BTreeMap::new(alloc))),
+        &mut SureSink::new(),
+        &mut SureFiles::new(BTreeMap::new(alloc)),
     );
     Ok(status)
 }

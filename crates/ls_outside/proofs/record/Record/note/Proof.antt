@@ -1,0 +1,42 @@
+-- `Record::note` meets its contract: a walk of its MIR by hand, which sets the ghost pieces where it gives the value back.
+use Rattle.std.proofs.Common.{[], ◌∷◌, ◌++◌, refl}
+use Rattle.std.proofs.raw_atomic.Walks.{proved}
+use base.Fml.{ftrue, flft}
+use mir.Syntax.{named}
+use mir.Val.{vunit}
+use types.Kit.{‵, ◌⊛◌, ◌$◌, ◌∵◌, !, qed, done, move, keep, split, join, fsplit3, feq_i, suffices, frame, group}
+use types.Run.{enter, of_opd, unit_lit, returns}
+use types.ByLocal.{alloc_all, pass_all, free_all, look_at, sets}
+use denote.Builtin.{u8}
+use denote.Exit.{yes}
+use denote.Ref.{MutRef, mut_vals, mut_Tells}
+use denote.Signature.{plain}
+use denote.Slice.{ShrSlice, shr_slice_vals, shr_slice_Tells}
+use denote.Steps.{opens, closes}
+use denote.Triple.Walked.{Stays, walk_of, says, stay_none_slice, Goes-none_slice, stay_ref, Goes-ref, ends_at}
+use Rattle.ls_outside.specs.contracts.record.Record.note as f
+use Rattle.ls_outside.proofs.record.Record.note.Statement.{statement}
+use Rattle.ls_outside.proofs.record.Record.note.Code as code
+use Rattle.ls_outside.specs.contracts.record.Record.{the_row as R}
+
+abbrev stayed : Stays f.ended.signature.params f.ended.kept
+stayed = (stay_ref (0 ∷ []) tt (plain (λ _. R)), (stay_none_slice (1 ∷ []) tt (plain (λ _. u8)) yes, tt))
+
+pub note_spec : {M : Type 1} → statement M
+note_spec 𝓤 𝓛 𝓜 𝓡 wired =
+    let c = f.clauses 𝓛 𝓜.mem 𝓡.returns in let W = walk_of 𝓛 f.ended stayed c in
+    proved 𝓛 f.ended stayed c 𝓜 𝓡 (Goes-ref 𝓛 2 0 tt (plain (λ _. R)), (Goes-none_slice 𝓛 2 (1 ∷ []) tt (plain (λ _. u8)) yes, tt))
+    f.Key.name code.function (code.unfolded 𝓤 𝓛.H 𝓜 𝓡 wired)
+    (λ κs. (mut_vals, (shr_slice_vals, tt))) (λ κs. (mut_Tells (named 0) κs.0 R, (shr_slice_Tells (named 1) κs.1.0 u8, tt))) (λ κs qs bounds a _ are.
+    let b = a.0.ref_ptr.0 in let o = a.0.ref_ptr.1 in let h = a.0.now in let s = a.1.0 in let vs = mut_vals a.0 in
+    let h' = record h { pieces = h.pieces ++ s.now ∷ [] } in
+    let y : W.Ghost = ((κs, qs, bounds, a, (vs, (shr_slice_vals s, tt))), tt) in
+    qed 𝓛 (((‵ (flft κs.0 qs.0) ⊛ ‵ (flft κs.1.0 qs.1.0) ⊛ ‵ ftrue) ⊛ ‵ ((MutRef (named 0) κs.0 R).own_val a.0 vs) ⊛ ‵ ((ShrSlice (named 1) κs.1.0 u8).own_val s (shr_slice_vals s)) ⊛ ‵ ftrue) ∷ ‵ ftrue ∷ []) ∵
+    split ! $ split ! $ move ! (2 ∷ []) $ split ! $ keep ! (0 ∷ 2 ∷ 1 ∷ 3 ∷ []) $
+    -- [self; its token; the slice; its token]
+    enter ! _ _ _ _ _ $ alloc_all ! (λ l. pass_all ! refl ((tt, tt), ((tt, (tt, (record { fits = are.1.0.0.1.0 }, tt))), tt)) $
+    fsplit3 ! $ move ! (1 ∷ 2 ∷ 3 ∷ []) $ opens ! tt R b o (λ us.
+    closes ! tt R h' us b o $ sets ! (of_opd ! (unit_lit !)) refl (tt, tt) $ returns ! (look_at ! 0 refl) $ free_all ! refl $ move ! (3 ∷ []) $
+    suffices ! _ (ends_at 𝓛 f.ended stayed c y vunit tt (h', (tt, tt)) (tt, (tt, tt))) $ says ! refl $
+    group ! 3 $ move ! (0 ∷ 2 ∷ []) $ join ! $ move ! (1 ∷ 2 ∷ 0 ∷ []) $ join ! $ frame ! $ frame ! $
+    feq_i ! _ (vunit ∷ []) _ refl $ done !)))
