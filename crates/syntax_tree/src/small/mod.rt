@@ -15,6 +15,7 @@ use std::alloc::{AllocError, AllocFailed, Global};
 pub mod arrows;
 pub mod datum;
 pub mod keyword;
+pub mod laws;
 pub mod leaf;
 pub mod program;
 pub mod reader;
