@@ -1,5 +1,5 @@
 -- The arrow of a link is made of the places of its tokens.
-use Rattle.std.proofs.Common.{◌≡◌, ℕ, ◌-◌, ◌<◌, ◌≤◌, List, length, refl, sym, ap, ◌∙◌, arith, true, codes, get_or, map, take, drop}
+use Rattle.std.proofs.Common.{◌≡◌, ℕ, ◌-◌, ◌<◌, List, length, sym, ap, ◌∙◌, arith, true, codes, get_or, take, drop}
 use Rattle.std.specs.List.{list_all, All}
 use Rattle.std.proofs.lemmas.List.{get_or-map}
 use Rattle.ls_base.specs.declared.places.Pos.{Pos}

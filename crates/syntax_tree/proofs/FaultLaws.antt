@@ -1,5 +1,5 @@
 -- The fault of a call that passes one on.
-use Rattle.std.proofs.Common.{◌≡◌, Result, Ok, Err, ap}
+use Rattle.std.proofs.Common.{◌≡◌, Err, ap}
 use Rattle.std.specs.Result.{IsErrOf}
 use Rattle.syntax_tree.specs.declared.small.SmallFault.{SmallFault}
 

@@ -1,13 +1,13 @@
 -- The links of expressions depend on what is looked up alone.
-use Rattle.std.proofs.Common.{◌≡◌, ℕ, ◌+◌, ◌<◌, ◌≤◌, suc, zero, List, [], ◌∷◌, ◌++◌, refl, sym, ap, ◌∙◌, arith, length, take, drop, get_or, ◌-◌, Bool, true, false, cond, ◌&&◌, codes, Option, append_assoc, subst}
+use Rattle.std.proofs.Common.{◌≡◌, ℕ, ◌<◌, ◌≤◌, List, [], ◌∷◌, ◌++◌, refl, sym, ap, ◌∙◌, arith, length, take, drop, get_or, ◌-◌, Bool, true, false, cond, ◌&&◌, codes, Option}
 use Rattle.std.specs.Str.{bytes_eq}
 use Rattle.std.proofs.lemmas.List.{take_all, take_at, length-drop, length-append}
-use Rattle.std.proofs.lemmas.Bool.{and_from, and_left, and_right}
+use Rattle.std.proofs.lemmas.Bool.{and_from}
 use Rattle.scheme_model.specs.Tokens.{Leaf, Name, Numeral}
 use Rattle.scheme_model.specs.Reading.{Data, none, datum, atom, list, marked}
 use Rattle.scheme_model.specs.Reading as model
 use Rattle.syntax_tree.specs.Small.{Bound, is_named, is_single, is_expression, is_list_expression, is_parameter_list, are_expressions, is_body, is_procedure}
-use Rattle.syntax_tree.specs.Walked.{Link, looked, link_from, leaf_links, parameters_in, links, list_links, procedure_links, all_links}
+use Rattle.syntax_tree.specs.Walked.{Link, link_from, leaf_links, parameters_in, links, list_links, procedure_links, all_links}
 use Rattle.syntax_tree.specs.declared.small.datum.Datum.{Datum}
 use Rattle.syntax_tree.specs.declared.small.scope.Scope.{Scope}
 use Rattle.syntax_tree.specs.Scopes.{bounds_in, bounds_of, is_headed}
@@ -99,12 +99,14 @@ pub lambda_right_in : (parts : List Datum) (head p : Datum) → 2 ≤ length par
 lambda_right_in parts head p two h k named right some body =
     ap is_list_expression (two_parts parts head p two h k) ∙ lambda_right (datum_of head) (datum_of p) (data_of (drop 2 parts)) named right (some_body (drop 2 parts) some body)
 
-pub lambda_links_in : (parts : List Datum) (head p : Datum) (env : List Scope) (scope : Scope) → 2 ≤ length parts → head ≡ get_or parts 0 head → p ≡ get_or parts 1 p →
-    is_named (codes "lambda") (datum_of head) ≡ true → Stands (bounds_in scope) (parameters_in (datum_of p)) →
-    all_links (bounds_of (env ++ scope ∷ [])) (data_of (drop 2 parts)) ≡ list_links (bounds_of env) (data_of parts)
-lambda_links_in parts head p env scope two h k named stands =
-    body_links env scope (parameters_in (datum_of p)) (data_of (drop 2 parts)) stands
-    ∙ sym (ap (list_links (bounds_of env)) (two_parts parts head p two h k) ∙ lambda_links (bounds_of env) (datum_of head) (datum_of p) (data_of (drop 2 parts)) named)
+pub lambda_links_in : (parts tail : List Datum) (head p : Datum) (env inner : List Scope) (scope : Scope) (old new : List Link) → 2 ≤ length parts → head ≡ get_or parts 0 head → p ≡ get_or parts 1 p →
+    is_named (codes "lambda") (datum_of head) ≡ true → Stands (bounds_in scope) (parameters_in (datum_of p)) → tail ≡ drop 2 parts → inner ≡ env ++ scope ∷ [] →
+    new ≡ old ++ all_links (bounds_of inner) (data_of tail) → new ≡ old ++ list_links (bounds_of env) (data_of parts)
+lambda_links_in parts tail head p env inner scope old new two h k named stands e f found =
+    found ∙ ap (λ (q : List Link). old ++ q)
+    (ap (λ (q : List Scope). all_links (bounds_of q) (data_of tail)) f ∙ ap (λ (q : List Datum). all_links (bounds_of (env ++ scope ∷ [])) (data_of q)) e
+    ∙ body_links env scope (parameters_in (datum_of p)) (data_of (drop 2 parts)) stands
+    ∙ sym (ap (list_links (bounds_of env)) (two_parts parts head p two h k) ∙ lambda_links (bounds_of env) (datum_of head) (datum_of p) (data_of (drop 2 parts)) named))
 
 -- a scope is left
 pub popped : (env with_scope left : List Scope) (scope : Scope) (n : ℕ) → with_scope ≡ env ++ scope ∷ [] → n ≡ length with_scope → left ≡ take (n - 1) with_scope → left ≡ env

@@ -1,7 +1,7 @@
 -- Tokens form one list of data at most, and a text has one reading at most.
 use Rattle.std.proofs.Common.{◌≡◌, ℕ, List, [], ◌∷◌, refl, sym, ap, ◌∙◌}
 use Rattle.std.specs.Str.{chars}
-use Rattle.scheme_model.specs.Tokens.{TokenKind, Token, Paren, Close, Marked, Atomic, Quote}
+use Rattle.scheme_model.specs.Tokens.{Token, Close, Quote}
 use Rattle.scheme_model.specs.Reading.{Datum, Data, atom, list, marked, none, datum, Numbered, numbered, number_from, datum_tokens, data_tokens, IsReading}
 use Rattle.syntax_tree.proofs.Spelling.{one_spelling}
 

@@ -1,12 +1,11 @@
 -- What is open after the tokens of data, which are no deeper than that allows.
-use Rattle.std.proofs.Common.{◌≡◌, ℕ, ◌+◌, ◌<◌, ◌≤◌, suc, zero, List, [], ◌∷◌, Option, Some, None, cond, ltb, refl, sym, ap, ◌∙◌, arith, inl, inr, length, Bool, true, false}
+use Rattle.std.proofs.Common.{◌≡◌, ◌+◌, ◌<◌, ◌≤◌, List, [], ◌∷◌, Option, Some, None, cond, refl, sym, ap, ◌∙◌, arith, inl, inr, length, Bool}
 use Rattle.std.proofs.lemmas.Bool.{cases_lt, lt-ltb, le-ltb}
-use Rattle.std.proofs.lemmas.Bool.Decides.{nat_tests}
-use Rattle.scheme_model.specs.Tokens.{TokenKind, Paren, Close, Marked, Atomic, Quote}
+use Rattle.scheme_model.specs.Tokens.{Close, Quote}
 use Rattle.scheme_model.specs.Reading.{Datum, Data, atom, list, marked, none, datum, Numbered, numbered, datum_tokens, data_tokens, datum_depth, data_depth}
 use Rattle.syntax_tree.specs.declared.small.reader.Opener.{Opener}
 use Rattle.syntax_tree.specs.declared.small.reader.Opener.TheVariants as opener
-use Rattle.syntax_tree.specs.Opened.{released, pushed, closed, after, after_all}
+use Rattle.syntax_tree.specs.Opened.{released, pushed, after_all}
 
 pub stays_none : (ts : List Numbered) → after_all None ts ≡ None
 stays_none [] = refl

@@ -1,15 +1,15 @@
 -- In a text of ASCII without carriage returns a position counts the line feeds before it and the bytes since the last.
-use Rattle.std.proofs.Common.{◌≡◌, ℕ, ◌+◌, ◌-◌, ◌<◌, ◌≤◌, suc, zero, List, [], ◌∷◌, refl, sym, ap, ◌∙◌, arith, length, take, Bool, true, false, cond, ltb, leb, not, ◌&&◌, ◌==◌, subst, one-add}
+use Rattle.std.proofs.Common.{◌≡◌, ℕ, ◌+◌, ◌-◌, ◌<◌, ◌≤◌, suc, zero, List, [], ◌∷◌, refl, sym, ap, ◌∙◌, arith, length, take, Bool, true, false, cond, ltb, leb, ◌==◌, one-add}
 use Rattle.std.specs.List.{list_all}
 use Rattle.std.specs.Char.{len_utf8}
-use Rattle.std.specs.Str.{chars, IsAscii}
-use Rattle.std.proofs.lemmas.List.Sums.{sum_by-cons, AllPass-from_list_all}
+use Rattle.std.specs.Str.{IsAscii}
+use Rattle.std.proofs.lemmas.List.Sums.{sum_by-cons}
 use Rattle.std.proofs.lemmas.Bool.{and_parts}
 use Rattle.std.proofs.lemmas.Bool.Decides.{nat_tests}
 use Rattle.std.proofs.lemmas.Str.{len_utf8_ascii, chars-IsAscii}
 use Rattle.std.proofs.lemmas.Str.Ascii.{IsAscii-nil, IsAscii-cons}
 use Rattle.ls_base.specs.declared.places.Pos.{Pos}
-use Rattle.ls_base.specs.Positions.{Line, lines_of, ended, returned, longer, units_of, units_within, full_bytes, below, position_in, position_of, byte_count}
+use Rattle.ls_base.specs.Positions.{Line, lines_of, ended, returned, longer, units_of, units_within, full_bytes, below, position_in, position_of}
 use Rattle.syntax_tree.specs.Scanned.{is_plain, stepped, moved, place_of}
 
 plain_ascii : (c : ℕ) → is_plain c ≡ true → c < 128

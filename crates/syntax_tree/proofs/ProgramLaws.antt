@@ -1,7 +1,6 @@
 -- Definitions and programs.
-use Rattle.std.proofs.Common.{◌≡◌, ℕ, ◌+◌, ◌<◌, ◌≤◌, suc, zero, List, [], ◌∷◌, ◌++◌, refl, sym, ap, ◌∙◌, arith, length, take, drop, get_or, Bool, true, false, cond, ◌&&◌, codes, Option, Some, None, Result, Ok, Err, append-nil, subst}
-use Rattle.std.proofs.lemmas.Bool.{and_from, and_left, and_right}
-use Rattle.scheme_model.specs.Tokens.{Leaf, Name, Numeral}
+use Rattle.std.proofs.Common.{◌≡◌, ◌<◌, ◌≤◌, List, [], ◌∷◌, ◌++◌, refl, sym, ap, ◌∙◌, arith, length, drop, get_or, Bool, true, false, cond, ◌&&◌, codes, Some, None, append-nil, subst}
+use Rattle.scheme_model.specs.Tokens.{Name, Numeral}
 use Rattle.scheme_model.specs.Reading.{Data, none, datum, atom, list, marked}
 use Rattle.scheme_model.specs.Reading as model
 use Rattle.syntax_tree.specs.Small.{Bound, is_named, is_free, is_body, is_value, is_definition, is_form, is_expression, are_parameters, are_expressions, bound_names, defined_in, definitions}
@@ -10,10 +9,10 @@ use Rattle.syntax_tree.specs.declared.small.SmallFault.{SmallFault}
 use Rattle.syntax_tree.specs.declared.small.SmallFault.TheVariants as fault
 use Rattle.syntax_tree.specs.declared.small.datum.Datum.{Datum}
 use Rattle.syntax_tree.specs.declared.small.scope.Scope.{Scope}
-use Rattle.syntax_tree.specs.Scopes.{bounds_in, bounds_of, defining, is_variable, procedure, Fails}
+use Rattle.syntax_tree.specs.Scopes.{bounds_in, bounds_of, defining, procedure, Fails}
 use Rattle.syntax_tree.specs.Views.{datum_of, data_of, name_part}
-use Rattle.syntax_tree.proofs.ScopeLaws.{Stands, Gathered, bounds_of-push}
-use Rattle.syntax_tree.proofs.LinkLaws.{Stands-under, same_links, same_all, body_links, some_body}
+use Rattle.syntax_tree.proofs.ScopeLaws.{Stands, Gathered}
+use Rattle.syntax_tree.proofs.LinkLaws.{Stands-under, same_links, same_all, body_links}
 
 -- a fault says that a shape is wrong, of a part as of the whole
 pub fails : (right whole : Bool) (x : SmallFault) → whole ≡ right → Fails right x → Fails whole x
@@ -71,10 +70,10 @@ procedure_found head body name env scope h e stands =
     body_links env scope (bound_names (data_of (drop 1 head))) (data_of body) stands
     ∙ sym (ap (λ (q : Data). definition_links (bounds_of env) (procedure q (data_of body))) (one_part head name h e))
 
--- more than one value
-pub values_wrong : (ds : List Datum) → 2 ≤ length ds → is_value (data_of ds) ≡ false
-values_wrong [] h = absurd (omega arith)
-values_wrong (d ∷ []) h = absurd (omega arith)
+-- no value, or more than one
+pub values_wrong : (ds : List Datum) → (length ds ≡ 1 → ⊥) → is_value (data_of ds) ≡ false
+values_wrong [] h = refl
+values_wrong (d ∷ []) h = absurd (h refl)
 values_wrong (d ∷ e ∷ ds) h = refl
 
 -- one definition more

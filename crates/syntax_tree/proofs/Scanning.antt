@@ -1,19 +1,19 @@
 -- The scanner's steps.
-use Rattle.std.proofs.Common.{◌≡◌, ℕ, ◌+◌, ◌-◌, ◌<◌, ◌≤◌, suc, zero, List, [], ◌∷◌, ◌++◌, Option, Some, None, refl, sym, ap, ◌∙◌, arith, append_assoc, append-nil, length, take, drop, get_or, add-one, Bool, true, false, cond, not, ◌&&◌, ◌||◌, ◌==◌, subst, map}
+use Rattle.std.proofs.Common.{◌≡◌, ℕ, ◌+◌, ◌-◌, ◌<◌, ◌≤◌, List, [], ◌∷◌, ◌++◌, Some, None, refl, sym, ap, ◌∙◌, arith, append_assoc, append-nil, length, take, drop, get_or, add-one, Bool, true, false, cond, ◌==◌, subst}
 use Rattle.std.specs.List.{list_all, All}
 use Rattle.std.proofs.Math.Seq.{drop-cons, take-add}
-use Rattle.std.proofs.lemmas.List.{length-append, length-drop, drop-drop, drop_all, drop_at, take_at, take_more, map-append}
+use Rattle.std.proofs.lemmas.List.{length-append, length-drop, drop-drop, drop_all, take_at, take_more, map-append}
 use Rattle.std.proofs.lemmas.List.Elements.{All-push}
 use Rattle.std.proofs.lemmas.Bool.{and_parts}
 use Rattle.std.proofs.lemmas.Bool.Decides.{nat_tests}
 use Rattle.ls_base.specs.declared.places.Pos.{Pos}
-use Rattle.scheme_model.specs.Tokens.{TokenKind, Token, IsSpelled, IsToken, is_gap}
+use Rattle.scheme_model.specs.Tokens.{TokenKind, Token, IsSpelled, is_gap}
 use Rattle.syntax_tree.specs.declared.small.token.Token as code
 use Rattle.syntax_tree.specs.declared.small.token.TokenKind as code_kind
 use Rattle.syntax_tree.specs.Scanned.{front, size_of, stepped, moved, place_of, further, IsPlaced}
 use Rattle.syntax_tree.specs.Views.{kind_of, token_of, tokens_of}
-use Rattle.syntax_tree.proofs.Words.{is_glyph, glyphs_are, length-glyphs, some_glyph, Found, found}
-use Rattle.syntax_tree.proofs.Spelling.{wider, here, narrower, Splits, splits}
+use Rattle.syntax_tree.proofs.Words.{is_glyph, glyphs_are, length-glyphs, some_glyph, found}
+use Rattle.syntax_tree.proofs.Spelling.{wider, here, narrower, splits}
 
 -- the tokens so far are those of the text up to a place
 pub record ReadsTo (text : List ℕ) (so_far : List Token) (at : ℕ) : Type 0 where
@@ -49,16 +49,16 @@ after_token text so_far at k h g f r =
     let next : drop (size_of k) (drop at text) ≡ drop (at + size_of k) text = drop-drop (size_of k) at text in
     record {
       whole = λ more s.
-      subst (λ (q : List Token). IsSpelled 0 q text) (sym (append_assoc so_far (token_from at k ∷ []) more))
-      (r.whole (token_from at k ∷ more) (here at k (drop at text) more f (subst (IsSpelled (at + size_of k) more) (sym next) s)));
+          subst (λ (q : List Token). IsSpelled 0 q text) (sym (append_assoc so_far (token_from at k ∷ []) more))
+          (r.whole (token_from at k ∷ more) (here at k (drop at text) more f (subst (IsSpelled (at + size_of k) more) (sym next) s)));
       only = λ ts s.
-      let m = r.only ts s in
-      let t = splits at (get_or text at 0) (drop (at + 1) text) m.0 g (subst (IsSpelled at m.0) e m.1) in
-      let same : t.first.kind ≡ k = some_kind t.first.kind k (sym t.tells ∙ ap front (sym e) ∙ f) in
-      let ends : t.first.end ≡ at + size_of k = t.ends ∙ ap (λ (j : TokenKind). at + size_of j) same in
-      let rest : drop (size_of t.first.kind) (get_or text at 0 ∷ drop (at + 1) text) ≡ drop (at + size_of k) text =
-      ap (λ (j : TokenKind). drop (size_of j) (get_or text at 0 ∷ drop (at + 1) text)) same ∙ ap (drop (size_of k)) (sym e) ∙ next in
-      (t.more, subst (λ (n : ℕ). IsSpelled n t.more (drop (at + size_of k) text)) ends (subst (IsSpelled t.first.end t.more) rest t.spelled));
+          let m = r.only ts s in
+          let t = splits at (get_or text at 0) (drop (at + 1) text) m.0 g (subst (IsSpelled at m.0) e m.1) in
+          let same : t.first.kind ≡ k = some_kind t.first.kind k (sym t.tells ∙ ap front (sym e) ∙ f) in
+          let ends : t.first.end ≡ at + size_of k = t.ends ∙ ap (λ (j : TokenKind). at + size_of j) same in
+          let rest : drop (size_of t.first.kind) (get_or text at 0 ∷ drop (at + 1) text) ≡ drop (at + size_of k) text =
+          ap (λ (j : TokenKind). drop (size_of j) (get_or text at 0 ∷ drop (at + 1) text)) same ∙ ap (drop (size_of k)) (sym e) ∙ next in
+          (t.more, subst (λ (n : ℕ). IsSpelled n t.more (drop (at + size_of k) text)) ends (subst (IsSpelled t.first.end t.more) rest t.spelled));
     }
 
 none_some : (k : TokenKind) → None ≡ Some k → ⊥

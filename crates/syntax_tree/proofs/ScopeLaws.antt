@@ -1,5 +1,5 @@
 -- Look-ups in scopes are look-ups in lists of bound symbols.
-use Rattle.std.proofs.Common.{◌≡◌, ℕ, ◌+◌, ◌-◌, ◌<◌, ◌≤◌, suc, zero, List, [], ◌∷◌, ◌++◌, Option, Some, None, refl, sym, ap, ◌∙◌, arith, append_assoc, append-nil, length, take, drop, get_or, Bool, true, false, cond, not, ◌&&◌, ◌||◌, map, add-one, inl, inr, eqb, subst}
+use Rattle.std.proofs.Common.{◌≡◌, ℕ, ◌+◌, ◌<◌, List, [], ◌∷◌, ◌++◌, Option, Some, None, refl, sym, ap, ◌∙◌, arith, append_assoc, append-nil, length, take, get_or, Bool, true, false, cond, not, ◌&&◌, ◌||◌, map, inl, inr, eqb, subst}
 use Rattle.std.specs.Option.{is_some}
 use Rattle.std.specs.Str.{bytes_eq}
 use Rattle.std.specs.Map.{lookup}
@@ -7,17 +7,17 @@ use Rattle.std.specs.Ordering.{is_eq, nat_cmp}
 use Rattle.std.specs.Cmp.Lexicographic.{slice_cmp}
 use Rattle.std.specs.Borrow.{Bor}
 use Rattle.std.proofs.lemmas.List.{take_more}
-use Rattle.std.proofs.lemmas.Bool.{and_parts, and_from, and_left, and_right, or_cases, or_left, or_right, or_parts, cases_Bool}
+use Rattle.std.proofs.lemmas.Bool.{and_parts, and_from, and_left, and_right, or_cases, or_left, or_right, or_parts}
 use Rattle.std.proofs.lemmas.Map.Text.{is_eq-slice_cmp}
 use Rattle.std.proofs.lemmas.Slice.Eq.{bytes_eq-Decides}
 use Rattle.std.proofs.lemmas.Bool.Decides.{nat_tests}
 use Rattle.scheme_model.specs.Reading.{Datum, Data, none, datum, atom, list, marked}
-use Rattle.scheme_model.specs.Tokens.{Leaf, Name, Numeral}
+use Rattle.scheme_model.specs.Tokens.{Name, Numeral}
 use Rattle.syntax_tree.specs.Small.{Bound, is_bound, differ, is_free, are_names, bound_names, are_parameters}
 use Rattle.syntax_tree.specs.Walked.{looked}
 use Rattle.syntax_tree.specs.declared.small.scope.Scope.{Scope}
 use Rattle.syntax_tree.specs.Scopes.{bound_of, bounds_in, bounds_of}
-use Rattle.syntax_tree.specs.Views.{leaf_name, name_part}
+use Rattle.syntax_tree.specs.Views.{name_part}
 
 eqb_comm : (x y : ℕ) → eqb x y ≡ eqb y x
 eqb_comm x y = grind (arith, nat_tests)

@@ -1,6 +1,6 @@
 -- Small texts: what they are made of, and when one is not small.
-use Rattle.std.proofs.Common.{◌≡◌, ℕ, ◌+◌, ◌<◌, ◌≤◌, suc, List, [], ◌∷◌, ◌++◌, refl, sym, ap, ◌∙◌, arith, length, Bool, true, false, map, subst, inl, inr, get_or, Ordering, ◌==◌, zero-add}
-use Rattle.std.specs.List.{All, AllPairs, IsDistinct, list_all}
+use Rattle.std.proofs.Common.{◌≡◌, ℕ, ◌<◌, ◌≤◌, List, [], ◌∷◌, ◌++◌, refl, sym, ap, ◌∙◌, arith, length, Bool, true, false, map, subst, inl, inr, get_or, Ordering, ◌==◌, zero-add}
+use Rattle.std.specs.List.{All, AllPairs, IsDistinct}
 use Rattle.std.specs.List.Sorted.{IsPermutation, IsSorted}
 use Rattle.std.specs.Cmp.{IsTotalOrder}
 use Rattle.std.specs.Ordering.{nat_cmp, ordering_then, is_lt}
@@ -9,22 +9,20 @@ use Rattle.std.proofs.lemmas.Bool.{cases_order}
 use Rattle.std.proofs.lemmas.Bool.Decides.{nat_tests}
 use Rattle.std.proofs.lemmas.Cmp.{on_total, then_total, nat_cmp_total}
 use Rattle.std.proofs.lemmas.List.{length-append, length-map, get_or-map}
-use Rattle.std.proofs.lemmas.List.Elements.{All-from_recursion, All-map}
-use Rattle.std.proofs.lemmas.List.Sorted.{ranks_by, sorted_far, IsPermutation-map, IsPermutation-sym, All-permutation}
+use Rattle.std.proofs.lemmas.List.Elements.{All-from_recursion}
+use Rattle.std.proofs.lemmas.List.Sorted.{ranks_by, sorted_far, IsPermutation-map, All-permutation}
 use Rattle.std.proofs.lemmas.Map.Keys.{IsDistinct-IsPermutation, apart_from_distinct}
 use Rattle.std.proofs.lemmas.Str.{encodes-chars, encodes-IsAscii, chars-IsAscii}
 use Rattle.ls_base.specs.declared.answers.Arrow.{Arrow}
 use Rattle.scheme_model.specs.Tokens as model
 use Rattle.scheme_model.specs.Tokens.{IsSpelled}
-use Rattle.scheme_model.specs.Reading.{Data, number_from, data_tokens, data_depth, IsReading}
+use Rattle.scheme_model.specs.Reading.{Data, number_from, data_tokens, data_depth}
 use Rattle.syntax_tree.specs.Small.{is_program, IsSmall}
 use Rattle.syntax_tree.specs.Walked as walked
 use Rattle.syntax_tree.specs.Walked.{IsBefore, program_links, arrow_at, AreWalked}
 use Rattle.syntax_tree.specs.declared.small.token.Token.{Token}
-use Rattle.syntax_tree.specs.declared.small.datum.Datum.{Datum}
 use Rattle.syntax_tree.specs.declared.small.walk.Link.{Link}
-use Rattle.syntax_tree.specs.Scanned.{is_plain}
-use Rattle.syntax_tree.specs.Views.{token_of, tokens_of, data_of, link_of, links_of, IsLinkWithin}
+use Rattle.syntax_tree.specs.Views.{token_of, tokens_of, link_of, links_of, IsLinkWithin}
 use Rattle.syntax_tree.proofs.Words.{some_glyph, length-glyphs}
 use Rattle.syntax_tree.proofs.Spelling.{one_spelling, spelled_plain}
 use Rattle.syntax_tree.proofs.PositionLaws.{ascii_from_plain}

@@ -1,17 +1,16 @@
 -- A text has one list of tokens at most, all of its characters are ASCII, and what one more token or gap adds.
-use Rattle.std.proofs.Common.{◌≡◌, ℕ, ◌+◌, ◌<◌, ◌≤◌, suc, zero, List, [], ◌∷◌, ◌++◌, Option, Some, None, refl, sym, ap, ◌∙◌, arith, length, take, drop, Bool, true, false, cond, not, ◌&&◌, ◌||◌, ◌==◌, subst}
+use Rattle.std.proofs.Common.{◌≡◌, ℕ, ◌+◌, ◌<◌, List, [], ◌∷◌, ◌++◌, Some, refl, sym, ap, ◌∙◌, arith, length, drop, Bool, true, false, cond, subst}
 use Rattle.std.specs.List.{list_all, take_while}
 use Rattle.std.proofs.lemmas.List.Sums.{take_while-cons, sum_by-cons}
-use Rattle.std.specs.Prelude.{nat_lt}
 use Rattle.std.specs.Char.{len_utf8}
-use Rattle.std.proofs.lemmas.List.{length-append, take_at, drop_at}
+use Rattle.std.proofs.lemmas.List.{drop_at}
 use Rattle.std.proofs.lemmas.List.Folds.{list_all-append}
 use Rattle.std.proofs.lemmas.Bool.{and_parts, and_from}
 use Rattle.std.proofs.lemmas.Bool.Decides.{nat_tests}
 use Rattle.std.proofs.lemmas.Str.{len_utf8_ascii}
 use Rattle.scheme_model.specs.Tokens.{TokenKind, Token, First, IsSpelled, IsToken, is_gap, byte_count}
 use Rattle.syntax_tree.specs.Scanned.{is_plain, front, size_of}
-use Rattle.syntax_tree.proofs.Words.{is_glyph, gap_plain, glyph_plain, glyph_no_gap, list_all-weaker, glyphs_are, length-glyphs, some_glyph, front_is, Found, found}
+use Rattle.syntax_tree.proofs.Words.{is_glyph, gap_plain, glyph_plain, glyph_no_gap, list_all-weaker, glyphs_are, length-glyphs, some_glyph, front_is, found}
 
 plain_ascii : (c : ℕ) → is_plain c ≡ true → c < 128
 plain_ascii c h = grind (arith, nat_tests)

@@ -1,7 +1,7 @@
 -- The tokens of the frames that are open.
-use Rattle.std.proofs.Common.{◌≡◌, ℕ, ◌+◌, ◌<◌, ◌≤◌, suc, zero, List, [], ◌∷◌, ◌++◌, Option, Some, None, refl, sym, ap, ◌∙◌, arith, length, drop, get_or, subst, add-one, ◌-◌}
+use Rattle.std.proofs.Common.{◌≡◌, ℕ, ◌+◌, ◌<◌, ◌≤◌, suc, List, [], ◌∷◌, ◌++◌, Option, Some, None, refl, sym, ap, ◌∙◌, arith, length, drop, get_or, subst, add-one, ◌-◌}
 use Rattle.std.specs.List.{slice_get}
-use Rattle.scheme_model.specs.Tokens.{TokenKind, Paren, Close, Marked, Atomic, Quote}
+use Rattle.scheme_model.specs.Tokens.{TokenKind, Close, Quote}
 use Rattle.scheme_model.specs.Reading.{Data, none, datum, Numbered, numbered, number_from, datum_tokens, data_tokens, data_depth}
 use Rattle.scheme_model.specs.Reading as model
 use Rattle.syntax_tree.specs.declared.small.datum.Datum.{Datum}
@@ -84,11 +84,11 @@ pub reads_open : (fs : List Frame) (f : Frame) (ds es : List Datum) (gs : List F
     Reads fs ds (λ rest. numbered f.number (opening f.opener) ∷ rest) (pushed f.opener (openers fs)) gs es
 reads_open fs f ds es gs pushes before empty few fresh = record {
   spelled = λ rest.
-  same_reads gs (fs ++ f ∷ []) es pushes rest ∙ ap (λ (q : List Datum). read_tokens (fs ++ f ∷ []) q rest) empty ∙ read_tokens-push fs f [] rest
-  ∙ ap (λ (q : List Datum). read_tokens fs q (numbered f.number (opening f.opener) ∷ rest)) before;
+      same_reads gs (fs ++ f ∷ []) es pushes rest ∙ ap (λ (q : List Datum). read_tokens (fs ++ f ∷ []) q rest) empty ∙ read_tokens-push fs f [] rest
+      ∙ ap (λ (q : List Datum). read_tokens fs q (numbered f.number (opening f.opener) ∷ rest)) before;
   opens = opens f.opener (openers fs) (omega (arith, length-opened [] fs)) ∙ ap (λ (q : List Opener). Some q) (sym (ap openers pushes ∙ opened-push [] fs f));
   fresh = subst (λ (q : List Frame). IsFresh opener.List q es) (sym pushes)
-  (subst (IsFresh opener.List (fs ++ f ∷ [])) (sym empty) (IsFresh-push opener.List fs f [] (subst (IsFresh opener.List fs) (sym before) fresh) (may_follow_nothing f.opener)));
+      (subst (IsFresh opener.List (fs ++ f ∷ [])) (sym empty) (IsFresh-push opener.List fs f [] (subst (IsFresh opener.List fs) (sym before) fresh) (may_follow_nothing f.opener)));
 }
 
 pub full : (fs : List Frame) (o : Opener) → 100 ≤ length fs → pushed o (openers fs) ≡ None
@@ -122,9 +122,9 @@ pub reads_close : (fs gs : List Frame) (f : Frame) (ds : List Datum) (n : ℕ) (
     Reads fs ds (λ rest. numbered n Close ∷ rest) (closed (openers fs)) hs es
 reads_close fs gs f ds n d hs es pushes list is r = record {
   spelled = λ rest.
-  r.spelled rest ∙ ap (λ (q : model.Datum). read_tokens gs f.before.items (datum_tokens q rest)) is
-  ∙ ap (λ (o : Opener). read_tokens gs f.before.items (numbered f.number (opening o) ∷ data_tokens (data_of ds) (numbered n Close ∷ rest))) (sym list)
-  ∙ sym (same_reads fs (gs ++ f ∷ []) ds pushes (numbered n Close ∷ rest) ∙ read_tokens-push gs f ds (numbered n Close ∷ rest));
+      r.spelled rest ∙ ap (λ (q : model.Datum). read_tokens gs f.before.items (datum_tokens q rest)) is
+      ∙ ap (λ (o : Opener). read_tokens gs f.before.items (numbered f.number (opening o) ∷ data_tokens (data_of ds) (numbered n Close ∷ rest))) (sym list)
+      ∙ sym (same_reads fs (gs ++ f ∷ []) ds pushes (numbered n Close ∷ rest) ∙ read_tokens-push gs f ds (numbered n Close ∷ rest));
   opens = ap (λ (q : List Frame). closed (openers q)) pushes ∙ ap closed (opened-push [] gs f) ∙ ap (λ (o : Opener). closed (o ∷ openers gs)) list ∙ r.opens;
   fresh = r.fresh;
 }
@@ -138,7 +138,7 @@ pub reads_complete : (fs fs' gs : List Frame) (ds ds' : List Datum) (d d' : Datu
     Reads fs' ds' (datum_tokens (datum_of d')) (Some (released (openers fs'))) gs es
 reads_complete fs fs' gs ds ds' d d' es same list pushes fresh spelled same_open = record {
   spelled = λ rest.
-  same_reads gs fs es same rest ∙ ap (λ (q : List Datum). read_tokens fs q rest) pushes ∙ ap (frames_tokens fs) (data_tokens-push ds d rest) ∙ spelled rest;
+      same_reads gs fs es same rest ∙ ap (λ (q : List Datum). read_tokens fs q rest) pushes ∙ ap (frames_tokens fs) (data_tokens-push ds d rest) ∙ spelled rest;
   opens = ap (λ (q : List Opener). Some q) (sym same_open ∙ released_top fs list ∙ ap openers (sym same));
   fresh = subst (λ (q : List Frame). IsFresh opener.List q es) (sym same) (IsFresh-more opener.List fs ds es list fresh);
 }

@@ -1,15 +1,11 @@
 -- The characters of tokens, and the one token at the front of a text.
-use Rattle.std.proofs.Common.{◌≡◌, ℕ, ◌+◌, ◌<◌, ◌≤◌, suc, zero, List, [], ◌∷◌, ◌++◌, Option, Some, None, refl, sym, ap, ◌∙◌, arith, length, take, drop, Bool, true, false, cond, not, ◌&&◌, ◌||◌, ◌==◌, inl, inr, subst}
+use Rattle.std.proofs.Common.{◌≡◌, ℕ, ◌<◌, List, [], ◌∷◌, ◌++◌, Option, Some, None, refl, sym, ap, ◌∙◌, arith, length, Bool, true, false, cond, not, ◌||◌, ◌==◌, subst}
 use Rattle.std.specs.List.{take_while, list_all}
-use Rattle.std.specs.Prelude.{nat_lt, sum_by}
-use Rattle.std.specs.Char.{len_utf8}
-use Rattle.std.proofs.lemmas.List.{length-append, take_at, drop_at}
 use Rattle.std.proofs.lemmas.List.Sums.{take_while-cons}
 use Rattle.std.proofs.lemmas.Bool.{and_parts, and_from, eqb-true}
 use Rattle.std.proofs.lemmas.Bool.Decides.{nat_tests}
-use Rattle.std.proofs.lemmas.Str.{len_utf8_ascii}
-use Rattle.scheme_model.specs.Tokens.{Leaf, Name, Numeral, TokenKind, Paren, Close, Marked, Atomic, Quote, is_gap, is_delimiter, is_letter, is_digit, is_subsequent, is_peculiar, is_name, is_numeral, Delimits, IsLeaf, IsToken, byte_count}
-use Rattle.syntax_tree.specs.Scanned.{is_plain, is_inside, leaf_in, atomic, front, size_of, leaf_size}
+use Rattle.scheme_model.specs.Tokens.{Name, Numeral, TokenKind, Paren, Close, Marked, Atomic, Quote, is_gap, is_delimiter, is_letter, is_digit, is_subsequent, is_peculiar, is_name, is_numeral, Delimits, IsToken}
+use Rattle.syntax_tree.specs.Scanned.{is_plain, is_inside, leaf_in, atomic, front, size_of}
 
 some_same : (j k : TokenKind) → Some j ≡ Some k → j ≡ k
 some_same j k h = cc

@@ -8,7 +8,7 @@ use Rattle.scheme_model.specs.declared.Occ.{Occ}
 use Rattle.scheme_model.specs.Tokens.{Leaf, Name, Numeral, Token, Paren}
 use Rattle.scheme_model.specs.Reading.{Datum, Data, atom, list, marked, none, datum, first_of, data_depth, IsReading}
 use Rattle.scheme_model.specs.Arrows.{Pair, program_arrows}
-use Rattle.syntax_tree.specs.Small.{Bound, bound_leaf, bound_names, is_named, definitions, is_program}
+use Rattle.syntax_tree.specs.Small.{Bound, bound_names, is_named, definitions, is_program}
 
 -- the numbers of a binder's token and of a use's token
 pub record Link : Type 0 where

@@ -15,8 +15,8 @@ fn place(alloc: Global, token: &Token<'_>) -> Mem<Place>
     requires ordered { token.now.start ≤ token.now.end }
     requires fits { token.now.pos.character + (token.now.end - token.now.start) < 2 ^ 32 }
     ensures { IfOk result (λ p. p ≡ record {
-        uri = codes "input";
-        range = record { start = token.now.pos; end = further token.now.pos (token.now.end - token.now.start) };
+      uri = codes "input";
+      range = record { start = token.now.pos; end = further token.now.pos (token.now.end - token.now.start) };
     }) }
 {
     let start = token.pos;
@@ -47,12 +47,7 @@ fn arrow(alloc: Global, text: &str, tokens: &[Token<'_>], link: Link) -> Mem<Arr
 }
 
 /// The arrow of each link.
-pub fn arrows(
-    alloc: Global,
-    text: &str,
-    tokens: &[Token<'_>],
-    links: &[Link],
-) -> Mem<Vec<Arrow>>
+pub fn arrows(alloc: Global, text: &str, tokens: &[Token<'_>], links: &[Link]) -> Mem<Vec<Arrow>>
     requires short { length text.now < 2 ^ 32 }
     requires plain { list_all is_plain text.now ≡ true }
     requires placed { All (IsPlaced text.now) tokens.now }

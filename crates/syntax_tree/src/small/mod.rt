@@ -12,15 +12,16 @@ use crate::small::token::tokens;
 use ls_base::{Arrow, Items, Memory};
 use std::alloc::{AllocError, AllocFailed, Global};
 
-pub mod arrows;
-pub mod datum;
-pub mod keyword;
-pub mod leaf;
-pub mod program;
-pub mod reader;
-pub mod scope;
-pub mod token;
-pub mod walk;
+mod arrows;
+mod datum;
+mod keyword;
+pub mod laws;
+mod leaf;
+mod program;
+mod reader;
+mod scope;
+mod token;
+mod walk;
 
 /// The most bytes that a small text has.
 pub const MAX_SMALL_TEXT: usize = 65_536;

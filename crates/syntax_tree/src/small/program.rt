@@ -111,10 +111,10 @@ fn walk_variable<'a>(
     if !is_free(named.name) {
         return Err(SmallFault::NotSmall);
     }
-    let [value] = body else {
+    if body.len() != 1 {
         return Err(SmallFault::NotSmall);
-    };
-    walk_one(alloc, value, env, found)?;
+    }
+    walk_one(alloc, &body[0], env, found)?;
     Ok(())
 }
 

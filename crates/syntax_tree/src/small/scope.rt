@@ -1,5 +1,5 @@
 //! The names that one list of parameters, or the program, binds.
-ghost use Rattle.std.specs.Prelude.{◌≡◌, [], ◌↔◌, true, false, List, ℕ, None, Some, IfOk, OnOk, IsErrOf, if◌then◌else◌};
+ghost use Rattle.std.specs.Prelude.{◌≡◌, [], true, false, List, ℕ, None, Some, IfOk, OnOk, IsErrOf, if◌then◌else◌};
 ghost use Rattle.std.specs.Str.{bytes_eq};
 ghost use Rattle.syntax_tree.specs.Small.{is_bound, are_parameters, is_parameter_list, bound_names};
 ghost use Rattle.syntax_tree.specs.Walked.{looked, parameters_in};
@@ -28,7 +28,7 @@ impl<'a> Scope<'a> {
         }
     }
 
-    /// Adds a name, unless it is there.
+    /// Adds a name. One that is there already is a fault, which leaves the scope unfinished.
     pub fn bind(&mut self, name: &'a str, number: u32) -> Result<(), SmallFault>
         ensures absent { OnOk result (looked (bounds_in self.old) name.now ≡ None) }
         ensures bound { OnOk result ((s : List ℕ) → looked (bounds_in self.new) s ≡

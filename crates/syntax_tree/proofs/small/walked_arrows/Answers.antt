@@ -1,4 +1,4 @@
-use Rattle.std.proofs.Common.{◌∙◌, ◌≡◌, ◌<◌, ◌≤◌, ap, sym, subst, arith, List, length, map, [], true}
+use Rattle.std.proofs.Common.{◌∙◌, ◌≡◌, ap, sym, subst, arith, List, length, map, [], true}
 use Rattle.std.specs.Str.{IsAscii, IsNotAscii}
 use Rattle.std.specs.List.{All}
 use Rattle.std.proofs.lemmas.Bool.{MatchBool-at_true, MatchBool-at_false}

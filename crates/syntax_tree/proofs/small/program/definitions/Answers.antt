@@ -1,4 +1,4 @@
-use Rattle.std.proofs.Common.{◌∙◌, ◌≡◌, ◌+◌, ap, sym, drop, subst}
+use Rattle.std.proofs.Common.{◌+◌, sym, drop, subst}
 use Rattle.std.proofs.lemmas.Result.{err_from_is_err_and}
 use Rattle.scheme_model.specs.Reading.{Data}
 use Rattle.syntax_tree.specs.declared.small.scope.Scope.{Scope}

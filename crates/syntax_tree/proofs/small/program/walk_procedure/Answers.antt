@@ -1,4 +1,4 @@
-use Rattle.std.proofs.Common.{◌∙◌, ◌≡◌, ◌<◌, ◌-◌, ◌++◌, ◌∷◌, [], ap, sym, List, arith, length, take, drop, true}
+use Rattle.std.proofs.Common.{◌∙◌, ◌≡◌, ◌<◌, ◌++◌, ap, sym, List, arith, length, drop, true}
 use Rattle.std.proofs.lemmas.Result.{err_from_is_err_and}
 use Rattle.std.proofs.lemmas.Bool.Decides.{nat_tests}
 use Rattle.syntax_tree.specs.declared.small.datum.Datum.{Datum}
@@ -34,10 +34,9 @@ returns c =
     let pushes = c.in_ok-push.ensures.items in
     let params : are_parameters (data_of (drop 1 head)) ≡ true = ap (λ (q : List Datum). are_parameters (data_of q)) (sym (rest_is head 1)) ∙ c.in_ok-scope.ensures.differ in
     let some : 0 < length body = grind (arith, nat_tests, c.is_empty.ensures, c.if-is_empty.false) in
-    let stands : Stands (bounds_in scope) (bound_names (data_of (drop 1 head))) = λ s. c.in_ok-scope.ensures.scope s ∙ ap (λ (q : List Datum). looked (bound_names (data_of q)) s) (rest_is head 1) in
-    (
+    let stands : Stands (bounds_in scope) (bound_names (data_of (drop 1 head))) = λ s. c.in_ok-scope.ensures.scope s ∙ ap (λ (q : List Datum). looked (bound_names (data_of q)) s) (rest_is head 1) in (
       procedure_right head body name (bound_as c.in-Some.named) c.in-len1-up.len_at_least c.name-item.is (sym c.in-Some.ensures) (sym c.is_free.ensures ∙ c.if-not-is_free.false) params some ∙ walked.0,
       popped env c.walk_all.new.env.items c.pop.new.self.items scope _ (walked.1 ∙ pushes) c.walk_all.new.env.ok.0 c.pop.ensures.rest,
       walked.2 ∙ ap (λ (q : List Scope). links_of c.args.found.now.items ++ all_links (bounds_of q) (data_of body)) pushes
-      ∙ ap (λ (q : List Link). links_of c.args.found.now.items ++ q) (procedure_found head body name env scope c.in-len1-up.len_at_least c.name-item.is stands),
+          ∙ ap (λ (q : List Link). links_of c.args.found.now.items ++ q) (procedure_found head body name env scope c.in-len1-up.len_at_least c.name-item.is stands),
     )

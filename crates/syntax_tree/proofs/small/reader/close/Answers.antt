@@ -1,4 +1,4 @@
-use Rattle.std.proofs.Common.{◌∙◌, ap, refl, arith, subst, sym, List, Some}
+use Rattle.std.proofs.Common.{◌∙◌, ap, subst, sym, List, Some}
 use Rattle.syntax_tree.specs.declared.small.datum.Datum.{Datum}
 use Rattle.syntax_tree.specs.declared.small.reader.Opener.TheVariants as opener
 use Rattle.scheme_model.specs.Reading.{list, datum_tokens}

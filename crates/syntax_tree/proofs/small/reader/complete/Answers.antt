@@ -1,4 +1,4 @@
-use Rattle.std.proofs.Common.{◌∙◌, ap, refl, arith}
+use Rattle.std.proofs.Common.{◌∙◌}
 use Rattle.syntax_tree.proofs.Stacked.{mark_spelled, mark_opens, mark_fresh, reads_complete}
 use Rattle.syntax_tree.proofs.small.reader.complete.Goals as goal
 

@@ -1,8 +1,8 @@
-use Rattle.std.proofs.Common.{◌∙◌, ap, refl, arith, sym, List, length, ◌<◌, ◌≡◌, Some, get_or, drop, ◌+◌}
+use Rattle.std.proofs.Common.{◌∙◌, ap, arith, sym, length, ◌<◌, ◌≡◌, Some, drop, ◌+◌}
 use Rattle.std.proofs.lemmas.Result.{err_from_is_err_and}
 use Rattle.std.proofs.lemmas.Bool.Decides.{nat_tests}
 use Rattle.scheme_model.specs.Reading.{number_from}
-use Rattle.syntax_tree.specs.Views.{kind_of, tokens_of}
+use Rattle.syntax_tree.specs.Views.{tokens_of}
 use Rattle.syntax_tree.specs.Opened.{after_all, openers, read_tokens}
 use Rattle.syntax_tree.proofs.FaultLaws.{passed_on}
 use Rattle.syntax_tree.proofs.Stacked.{at_token, no_token, spelled_more, opens_more, refuses_token, refuses_open, within}

@@ -1,4 +1,4 @@
-use Rattle.std.proofs.Common.{◌∙◌, ap, refl, arith}
+use Rattle.std.proofs.Common.{◌∙◌, ap, arith}
 use Rattle.syntax_tree.proofs.Stacked.{reads_open, full}
 use Rattle.syntax_tree.proofs.small.reader.open.Goals as goal
 

@@ -1,4 +1,4 @@
-use Rattle.std.proofs.Common.{◌∙◌, ◌≡◌, ◌-◌, ◌+◌, ap, sym, arith, Option, ℕ, Some, take, List}
+use Rattle.std.proofs.Common.{◌∙◌, ◌≡◌, ◌-◌, ◌+◌, ap, sym, arith, Option, ℕ, take}
 use Rattle.syntax_tree.specs.Walked.{looked}
 use Rattle.syntax_tree.specs.declared.small.scope.Scope.{Scope}
 use Rattle.syntax_tree.specs.Scopes.{bounds_in, bounds_of}
@@ -24,6 +24,6 @@ loop-at-preserved c =
     record {
       inside = omega arith;
       outer = c.loop-at.invariant.outer ∙ ap (λ (n : ℕ). looked (bounds_of (take n env)) name) next ∙ looked-inner env at c.index-env-at.result name (omega arith)
-      ∙ ap (λ (s : Scope). or_else (looked (bounds_in s) name) (looked (bounds_of (take at env)) name)) (sym c.index-env-at.is)
-      ∙ ap (λ (o : Option ℕ). or_else o (looked (bounds_of (take at env)) name)) (sym c.in_default.ensures);
+          ∙ ap (λ (s : Scope). or_else (looked (bounds_in s) name) (looked (bounds_of (take at env)) name)) (sym c.index-env-at.is)
+          ∙ ap (λ (o : Option ℕ). or_else o (looked (bounds_of (take at env)) name)) (sym c.in_default.ensures);
     }

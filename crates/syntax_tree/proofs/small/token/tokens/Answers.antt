@@ -1,9 +1,8 @@
-use Rattle.std.proofs.Common.{arith, ◌≡◌, ◌+◌, ◌≤◌, length, Some, sym, ap, ◌∙◌, subst, drop, refl, List, ℕ, get_or}
-use Rattle.std.specs.List.{All}
+use Rattle.std.proofs.Common.{arith, ◌≡◌, Some, sym, ap, ◌∙◌, subst, drop, List, ℕ, get_or}
 use Rattle.scheme_model.specs.Tokens.{IsSpelled}
-use Rattle.syntax_tree.specs.Scanned.{front, size_of, IsPlaced, place_of, further}
+use Rattle.syntax_tree.specs.Scanned.{front}
 use Rattle.syntax_tree.specs.Views.{kind_of, tokens_of}
-use Rattle.syntax_tree.proofs.Scanning.{ReadsTo, after_gap, place_after_gap, stepped_line, stepped_character, no_token, token_within, after_made, placed_made, place_made, at_end}
+use Rattle.syntax_tree.proofs.Scanning.{after_gap, place_after_gap, stepped_line, stepped_character, no_token, token_within, after_made, placed_made, place_made, at_end}
 use Rattle.syntax_tree.proofs.small.token.tokens.Goals as goal
 
 pub loop-at-preserved-then-is_gap : goal.loop-at-preserved-then-is_gap

@@ -1,11 +1,8 @@
-use Rattle.std.proofs.Common.{◌∙◌, ◌≡◌, ◌<◌, ◌++◌, ◌∷◌, [], ◌-◌, take, ap, sym, drop, length, subst, List, arith, true}
+use Rattle.std.proofs.Common.{◌∙◌, ◌≡◌, ◌<◌, ap, sym, drop, length, List, arith, true}
 use Rattle.std.proofs.lemmas.Bool.Decides.{nat_tests}
 use Rattle.syntax_tree.specs.declared.small.datum.Datum.{Datum}
-use Rattle.syntax_tree.specs.declared.small.scope.Scope.{Scope}
 use Rattle.syntax_tree.specs.Small.{are_expressions}
-use Rattle.syntax_tree.specs.Walked.{Link, all_links}
-use Rattle.syntax_tree.specs.Scopes.{bounds_of}
-use Rattle.syntax_tree.specs.Views.{data_of, links_of}
+use Rattle.syntax_tree.specs.Views.{data_of}
 use Rattle.syntax_tree.proofs.LinkLaws.{quote_wrong, rest_is, lambda_right_in, lambda_links_in, popped}
 use Rattle.syntax_tree.proofs.small.walk.+walk.Goals as goal
 
@@ -21,14 +18,10 @@ walk_list-returns-in_ok-walk_all-in-len2-up t c =
     let named = sym c.is_named-2.ensures ∙ c.if-is_named-2.true in
     let right : are_expressions (data_of (drop 2 parts)) ≡ true = ap (λ (q : List Datum). are_expressions (data_of q)) (sym rest) ∙ walked.0 in
     let some : 0 < length (drop 2 parts) = grind (arith, nat_tests, ap length rest, c.is_empty.ensures, c.if-is_empty.false) in
-    let pushes = c.in_ok-push-in-len2-up.ensures.items in
-    (
+    let pushes = c.in_ok-push-in-len2-up.ensures.items in (
       lambda_right_in parts head p c.in-len2-up.len_at_least c.head-item-2.is c.parameters-item.is named c.in_ok-scope-in-len2-up.ensures.differ some right,
       popped env c.walk_all.new.env.items c.pop.new.self.items scope _ (walked.1 ∙ pushes) c.walk_all.new.env.ok.0 c.pop.ensures.rest,
-      walked.2 ∙ ap (λ (q : List Scope). links_of c.args.found.now.items ++ all_links (bounds_of q) (data_of (take (length parts - 2) (drop 2 parts)))) pushes
-      ∙ ap (λ (q : List Datum). links_of c.args.found.now.items ++ all_links (bounds_of (env ++ scope ∷ [])) (data_of q)) rest
-      ∙ ap (λ (q : List Link). links_of c.args.found.now.items ++ q)
-      (lambda_links_in parts head p env scope c.in-len2-up.len_at_least c.head-item-2.is c.parameters-item.is named c.in_ok-scope-in-len2-up.ensures.scope),
+      lambda_links_in parts _ head p env c.push.new.self.items scope _ _ c.in-len2-up.len_at_least c.head-item-2.is c.parameters-item.is named c.in_ok-scope-in-len2-up.ensures.scope rest pushes walked.2,
     )
 
 pub walk_list-returns-else-parts-eq2 : goal.walk_list-returns-else-parts-eq2

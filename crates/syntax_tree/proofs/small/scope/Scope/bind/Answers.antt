@@ -1,4 +1,4 @@
-use Rattle.std.proofs.Common.{◌∙◌, ap, sym, Option, Some, Bool, List, ℕ, cond, ◌≡◌}
+use Rattle.std.proofs.Common.{◌∙◌, ap, sym, Option, Some, ℕ, cond}
 use Rattle.std.specs.Option.{is_some}
 use Rattle.std.specs.Str.{bytes_eq}
 use Rattle.std.proofs.lemmas.Map.Text.{btree_map_updates_str}
