@@ -1,3 +1,11 @@
+pub mod Serves
+pub mod Goings
+pub mod PieceLaws
+pub mod ExitCodes
+pub mod Items
+pub mod Sessions
+pub mod AnswerLaws
+pub mod Writes
 pub mod Fronts
 pub mod Taken
 pub mod WordLists

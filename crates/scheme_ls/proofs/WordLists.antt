@@ -1,9 +1,10 @@
--- Lists of one or two words, and whether they are the command `arrows`.
-use Rattle.std.proofs.Common.{◌≡◌, ◌<◌, ◌≤◌, ◌∙◌, sym, ap, arith, List, ℕ, [], ◌∷◌, length, get_or, Bool, true, IsTrue, String, Global, inl, inr, codes}
+-- Lists of one or two words, and whether they are a command.
+use Rattle.std.proofs.Common.{◌≡◌, ◌<◌, ◌≤◌, ◌∙◌, sym, ap, arith, List, ℕ, [], ◌∷◌, length, get_or, Bool, true, false, refl, IsTrue, String, Global, inl, inr, codes}
 use Rattle.std.specs.String.{string_bytes}
 use Rattle.std.specs.Str.{bytes_eq}
 use Rattle.std.proofs.lemmas.Slice.Eq.{bytes_eq-Decides}
-use Rattle.scheme_ls.specs.Words.{IsArrows, texts}
+use Rattle.std.proofs.lemmas.Bool.{false≢true}
+use Rattle.scheme_ls.specs.Words.{IsAlone, IsArrows, IsServe, texts}
 
 pub one_text : (words : List (String Global)) (word : String Global) → 1 ≤ length words → length words < 2 → word ≡ get_or words 0 word → texts words ≡ string_bytes word ∷ []
 one_text [] word some few first = absurd (omega arith)
@@ -30,22 +31,49 @@ second_same : (x y z w : List ℕ) → x ∷ y ∷ [] ≡ z ∷ w ∷ [] → y �
 second_same x y z w h = cc
 
 -- one word
-pub one_is_arrows : (words : List (List ℕ)) (word : List ℕ) (r : Bool) → words ≡ word ∷ [] → r ≡ bytes_eq word (codes "arrows") → (IsTrue r → IsArrows words) × (IsArrows words → IsTrue r)
-one_is_arrows words word r one tested = (
-  λ t. inl (one ∙ ap (λ (w : List ℕ). w ∷ []) ((bytes_eq-Decides word (codes "arrows")).0 (sym tested ∙ t))),
+pub one_is_command : (command : List ℕ) (words : List (List ℕ)) (word : List ℕ) (r : Bool) → words ≡ word ∷ [] → r ≡ bytes_eq word command → (IsTrue r → IsAlone command words) × (IsAlone command words → IsTrue r)
+one_is_command command words word r one tested = (
+  λ t. inl (one ∙ ap (λ (w : List ℕ). w ∷ []) ((bytes_eq-Decides word command).0 (sym tested ∙ t))),
   λ a. elim a [
-    | inl h ↦ tested ∙ (bytes_eq-Decides word (codes "arrows")).1 (head_same _ _ (sym one ∙ h))
+    | inl h ↦ tested ∙ (bytes_eq-Decides word command).1 (head_same _ _ (sym one ∙ h))
     | inr h ↦ absurd (one_two _ _ _ (sym one ∙ h))
   ],
 )
 
--- two words, of which the first is `arrows`
-pub two_are_arrows : (words : List (List ℕ)) (word dashes : List ℕ) (r : Bool) → words ≡ word ∷ dashes ∷ [] → bytes_eq word (codes "arrows") ≡ true → r ≡ bytes_eq dashes (codes "--") →
-    (IsTrue r → IsArrows words) × (IsArrows words → IsTrue r)
-two_are_arrows words word dashes r two first tested = (
-  λ t. inr (two ∙ λ j. (bytes_eq-Decides word (codes "arrows")).0 first j ∷ (bytes_eq-Decides dashes (codes "--")).0 (sym tested ∙ t) j ∷ []),
+-- two words, of which the first is the command
+pub two_are_command : (command : List ℕ) (words : List (List ℕ)) (word dashes : List ℕ) (r : Bool) → words ≡ word ∷ dashes ∷ [] → bytes_eq word command ≡ true → r ≡ bytes_eq dashes (codes "--") →
+    (IsTrue r → IsAlone command words) × (IsAlone command words → IsTrue r)
+two_are_command command words word dashes r two first tested = (
+  λ t. inr (two ∙ λ j. (bytes_eq-Decides word command).0 first j ∷ (bytes_eq-Decides dashes (codes "--")).0 (sym tested ∙ t) j ∷ []),
   λ a. elim a [
     | inl h ↦ absurd (two_one _ _ _ (sym two ∙ h))
     | inr h ↦ tested ∙ (bytes_eq-Decides dashes (codes "--")).1 (second_same _ _ _ _ (sym two ∙ h))
+  ],
+)
+
+-- words aren't two commands
+apart : (a b : List ℕ) → bytes_eq a b ≡ false → a ≡ b → ⊥
+apart a b tested same = false≢true (sym tested ∙ (bytes_eq-Decides a b).1 same)
+
+first_same : (x y z w : List ℕ) → x ∷ y ∷ [] ≡ z ∷ w ∷ [] → x ≡ z
+first_same x y z w h = cc
+
+pub not_two_commands : (a b : List ℕ) (words : List (List ℕ)) → bytes_eq a b ≡ false → IsAlone a words → IsAlone b words → ⊥
+not_two_commands a b words tested (inl h) (inl k) = apart a b tested (head_same a b (sym h ∙ k))
+not_two_commands a b words tested (inl h) (inr k) = one_two a b (codes "--") (sym h ∙ k)
+not_two_commands a b words tested (inr h) (inl k) = two_one a (codes "--") b (sym h ∙ k)
+not_two_commands a b words tested (inr h) (inr k) = apart a b tested (first_same a (codes "--") b (codes "--") (sym h ∙ k))
+
+pub not_arrows_and_serve : (words : List (List ℕ)) → IsArrows words → IsServe words → ⊥
+not_arrows_and_serve words a s = not_two_commands (codes "arrows") (codes "serve") words refl a s
+
+-- two words, of which the first isn't the command
+pub two_are_other : (command : List ℕ) (words : List (List ℕ)) (word dashes : List ℕ) (r : Bool) → words ≡ word ∷ dashes ∷ [] → r ≡ bytes_eq word command → r ≡ false →
+    (IsTrue r → IsAlone command words) × (IsAlone command words → IsTrue r)
+two_are_other command words word dashes r two tested other = (
+  λ t. absurd (false≢true (sym other ∙ t)),
+  λ a. elim a [
+    | inl h ↦ absurd (two_one _ _ _ (sym two ∙ h))
+    | inr h ↦ tested ∙ (bytes_eq-Decides word command).1 (first_same word dashes command (codes "--") (sym two ∙ h))
   ],
 )

@@ -7,7 +7,7 @@ use Rattle.scheme_ls.specs.Prints.{Prints, PrintsFront, SinkSeen, sink_seen}
 use Rattle.scheme_ls.specs.Printed.{AreLines, IsRefusal}
 use Rattle.scheme_ls.specs.declared.run.TheConstants.{USAGE}
 use Rattle.scheme_ls.specs.declared.status.Status.{Status}
-use Rattle.scheme_ls.specs.declared.status.Status.TheVariants.{Done, Refused, BadWords, SourceFault, NoMemory, SinkFault, TooLong}
+use Rattle.scheme_ls.specs.declared.status.Status.TheVariants.{Done, Refused, BadWords, SourceFault, NoMemory, SinkFault, FrameFault, TooLong, Endless}
 
 -- what the source and the sink show at a moment
 pub record Seen : Type 0 where
@@ -41,7 +41,9 @@ TextEndsAs text old new BadWords = ⊥
 TextEndsAs text old new SourceFault = ⊥
 TextEndsAs text old new NoMemory = new ≡ old
 TextEndsAs text old new SinkFault = PrintsFrontOfSuch (λ output. AreLines text output ⊎ IsRefusal text output) old new
+TextEndsAs text old new FrameFault = ⊥
 TextEndsAs text old new TooLong = ⊥
+TextEndsAs text old new Endless = ⊥
 
 -- the whole text was read, and the answer to it ended so
 pub record AnswersText (old new : Seen) (status : Status) : Type 0 where
@@ -57,7 +59,9 @@ ArrowsEndsAs old new BadWords = ⊥
 ArrowsEndsAs old new SourceFault = FailsToRead old.source new.source × (new.sink ≡ old.sink)
 ArrowsEndsAs old new NoMemory = (new.source.faults ≡ old.source.faults) × (new.sink ≡ old.sink)
 ArrowsEndsAs old new SinkFault = AnswersText old new SinkFault
+ArrowsEndsAs old new FrameFault = ⊥
 ArrowsEndsAs old new TooLong = PassesLimit old.source new.source × (new.sink ≡ old.sink)
+ArrowsEndsAs old new Endless = ⊥
 
 -- how a run ends whose words are no command: nothing is read, and the usage is printed
 abbrev pub UsageEndsAs : Seen → Seen → Status → Type 0
@@ -67,7 +71,9 @@ UsageEndsAs old new BadWords = (new.source ≡ old.source) × Prints old.sink ne
 UsageEndsAs old new SourceFault = ⊥
 UsageEndsAs old new NoMemory = new ≡ old
 UsageEndsAs old new SinkFault = (new.source ≡ old.source) × PrintsFront old.sink new.sink USAGE.now
+UsageEndsAs old new FrameFault = ⊥
 UsageEndsAs old new TooLong = ⊥
+UsageEndsAs old new Endless = ⊥
 
 -- the number is that of a status that the run ends with
 abbrev pub Ends : (Status → Type 0) → ℕ → Type 0

@@ -3,4 +3,9 @@ pub mod Words
 pub mod Reading
 pub mod Printed
 pub mod Prints
+pub mod Output
 pub mod Ends
+pub mod Serving
+pub mod Served
+pub mod Answering
+pub mod Taking

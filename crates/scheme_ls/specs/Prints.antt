@@ -1,10 +1,12 @@
 -- What was printed to a sink.
-use Rattle.std.specs.Prelude.{◌≡◌, ℕ, ◌<◌, List, length, take, Ok, Err}
+use Rattle.std.specs.Prelude.{◌≡◌, ℕ, ◌<◌, ◌≤◌, List, length, take, Ok, Err}
 use Rattle.std.specs.declared.option.Option.{Option}
 use Rattle.std.specs.declared.result.Result.{Result}
 use Rattle.std.specs.Io.KnownBytes.{Appends}
 use Rattle.ls_outside.specs.Counts.{Fails}
 use Rattle.scheme_ls.specs.declared.printing.SinkFailed.{SinkFailed}
+use Rattle.scheme_ls.specs.declared.replies.WriteStop.{WriteStop}
+use Rattle.scheme_ls.specs.declared.replies.WriteStop.TheVariants as stop
 
 -- what a sink shows at a moment: the bytes that it took, where it tells them, and how often a write has failed
 pub record SinkSeen : Type 0 where
@@ -26,7 +28,20 @@ pub record PrintsFront (old new : SinkSeen) (output : List ℕ) : Type 0 where
   pub printed : Appends old.taken new.taken (take count output)
   pub failed : Fails old.faults new.faults
 
+-- a front of these bytes was printed, perhaps all, and no write failed
+pub record PrintsPart (old new : SinkSeen) (output : List ℕ) : Type 0 where
+  pub count : ℕ
+  pub part : count ≤ length output
+  pub printed : Appends old.taken new.taken (take count output)
+  pub calm : new.faults ≡ old.faults
+
 -- how printing bytes ends
 abbrev pub PrintingEndsAs : SinkSeen → SinkSeen → List ℕ → Result (Unit {0}) SinkFailed → Type 0
 PrintingEndsAs old new output (Ok done) = Prints old new output
 PrintingEndsAs old new output (Err fault) = PrintsFront old new output
+
+-- how writing bytes ends that are made on the way
+abbrev pub WritingEndsAs : SinkSeen → SinkSeen → List ℕ → Result (Unit {0}) WriteStop → Type 0
+WritingEndsAs old new output (Ok done) = Prints old new output
+WritingEndsAs old new output (Err stop.Failed) = PrintsFront old new output
+WritingEndsAs old new output (Err stop.Memory) = PrintsPart old new output

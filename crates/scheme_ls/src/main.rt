@@ -3,9 +3,12 @@
 
 ghost use Rattle.std.specs.Prelude.{◌≡◌, ◌<◌};
 
+mod answering;
 mod printing;
 mod reading;
+mod replies;
 pub mod run;
+mod serve;
 mod status;
 mod words;
 

@@ -1,13 +1,15 @@
 //! The top call, which the program is.
 ghost use Rattle.std.specs.Prelude.{◌≡◌};
-ghost use Rattle.scheme_ls.specs.Words.{IsArrows, texts};
+ghost use Rattle.scheme_ls.specs.Words.{IsArrows, IsServe, texts};
 ghost use Rattle.scheme_ls.specs.Ends.{ArrowsEndsAs, Ends, EndsWith, TextEndsAs, UsageEndsAs, seen};
 ghost use Rattle.scheme_ls.specs.Prints.{sink_seen};
+ghost use Rattle.scheme_ls.specs.Served.{ServeEndsAs};
 
 use crate::printing::{SinkFailed, lines, print_all};
 use crate::reading::{ReadStop, read_all};
+use crate::serve::serve;
 use crate::status::Status;
-use crate::words::is_arrows;
+use crate::words::{Command, command_of};
 use ls_base::Steps;
 use ls_outside::{Files, Sink, Source};
 use std::alloc::{AllocError, Global};
@@ -38,16 +40,19 @@ pub fn run<I: Source, O: Sink, F: Files, L: Ledger>(
     ensures arrows { IsArrows (texts words.now) → Ends (ArrowsEndsAs
         (seen (I.left input.old) (I.faults input.old) (O.taken output.old) (O.faults output.old))
         (seen (I.left input.new) (I.faults input.new) (O.taken output.new) (O.faults output.new))) result }
-    ensures usage { (¬ IsArrows (texts words.now)) → Ends (UsageEndsAs
+    ensures serve { IsServe (texts words.now) → Ends (ServeEndsAs
+        (seen (I.left input.old) (I.faults input.old) (O.taken output.old) (O.faults output.old))
+        (seen (I.left input.new) (I.faults input.new) (O.taken output.new) (O.faults output.new))) result }
+    ensures usage { (¬ IsArrows (texts words.now)) → (¬ IsServe (texts words.now)) → Ends (UsageEndsAs
         (seen (I.left input.old) (I.faults input.old) (O.taken output.old) (O.faults output.old))
         (seen (I.left input.new) (I.faults input.new) (O.taken output.new) (O.faults output.new))) result }
     ensures files { files.new ≡ files.old }
     ensures steps { steps.new ≡ steps.old }
 {
-    let status = if is_arrows(words) {
-        arrows(alloc, input, output)
-    } else {
-        print_and_end(output, USAGE, Status::BadWords)
+    let status = match command_of(words) {
+        Command::Arrows => arrows(alloc, input, output),
+        Command::Serve => serve(alloc, input, output, steps),
+        Command::Unknown => print_and_end(output, USAGE, Status::BadWords),
     };
     status.code()
 }

@@ -2,12 +2,15 @@
 ghost use Rattle.std.specs.Prelude.{◌≡◌};
 ghost use Rattle.scheme_ls.specs.Statuses.{code_of};
 
+use crate::replies::WriteStop;
+use ls_base::Memory;
+
 /// How a run ends. Each has a cause, which the contract of `run` states.
 #[derive(Clone, Copy, Debug, PartialEq, Eq)]
 pub enum Status {
     /// The command did its work.
     Done,
-    /// The text was refused.
+    /// The text was refused, or the session ended without `exit` after `shutdown`.
     Refused,
     /// The words aren't a command.
     BadWords,
@@ -17,8 +20,12 @@ pub enum Status {
     NoMemory,
     /// A write failed.
     SinkFault,
+    /// The input has a fault of frames.
+    FrameFault,
     /// The text is longer than the limit.
     TooLong,
+    /// A session took as many bytes as one may.
+    Endless,
 }
 
 impl Status {
@@ -33,7 +40,32 @@ impl Status {
             Status::SourceFault => 3,
             Status::NoMemory => 4,
             Status::SinkFault => 5,
+            Status::FrameFault => 6,
             Status::TooLong => 7,
+            Status::Endless => 8,
+        }
+    }
+}
+
+impl From<Memory> for Status {
+    ghost use Rattle.scheme_ls.specs.declared.status.Status.TheVariants as statuses;
+
+    ghost from_gives = { λ _ e. e ≡ statuses.NoMemory };
+
+    fn from(_: Memory) -> Self {
+        Status::NoMemory
+    }
+}
+
+impl From<WriteStop> for Status {
+    ghost use Rattle.scheme_ls.specs.Statuses.{status_of};
+
+    ghost from_gives = { λ stop e. e ≡ status_of stop };
+
+    fn from(stop: WriteStop) -> Self {
+        match stop {
+            WriteStop::Failed => Status::SinkFault,
+            WriteStop::Memory => Status::NoMemory,
         }
     }
 }

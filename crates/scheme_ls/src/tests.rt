@@ -1,4 +1,6 @@
 //! Runs over the outside in memory.
+mod serving;
+
 use crate::printing::lines;
 use crate::run_counted;
 use ls_base::{Arrow, Mem, Place, Pos, Range, Text};
@@ -58,7 +60,7 @@ fn outcome(alloc: Global, run: Run<'_>) -> Result<(u8, Vec<u8>), Fail> {
     let size = usize::from(run.piece).max(1);
     let mut input = MemSource::new(Pieces::cut(alloc, run.text.as_bytes(), size)?, reads);
     let writes = Plan::new(vec![in alloc; run.failing_write]?);
-    let mut output = MemSink::new(alloc, 1_000, run.step, writes)?;
+    let mut output = MemSink::new(alloc, 10_000, run.step, writes)?;
     let mut files = MemFiles::new(BTreeMap::new(alloc), Plan::new(Vec::new(alloc)));
     let status = run_counted::<_, _, _, Brand>(
         alloc,
@@ -109,7 +111,10 @@ fn other_words_print_the_usage(rt: HostRuntime) -> Result<(), Fail> {
         ("arrows x", 2, USAGE),
         ("-- arrows", 2, USAGE),
         ("arrows -- --", 2, USAGE),
+        ("serve x", 2, USAGE),
+        ("serve -- --", 2, USAGE),
         ("arrows --", 0, ""),
+        ("serve --", 1, ""),
     ] {
         let (ended, out) = outcome(rt.alloc(), plain(words, ""))?;
         assert_eq!(rt; ended, status, "at {words}");

@@ -1,14 +1,38 @@
 //! What the words after the program's name ask for.
 ghost use Rattle.std.specs.Prelude.{◌↔◌, IsTrue};
-ghost use Rattle.scheme_ls.specs.Words.{IsArrows, texts};
+ghost use Rattle.scheme_ls.specs.Words.{CommandOf, IsAlone, texts};
 
-/// Whether the words are the command `arrows`. It has no words of its own, and the first `--` is dropped.
-pub fn is_arrows(words: &[String]) -> bool
-    ensures { IsTrue result ↔ IsArrows (texts words.now) }
+/// What the program can be asked to do.
+#[derive(Clone, Copy, Debug, PartialEq, Eq)]
+pub enum Command {
+    /// `arrows`.
+    Arrows,
+    /// `serve`.
+    Serve,
+    /// No command.
+    Unknown,
+}
+
+/// Whether the words are this command alone. The first `--` is dropped.
+fn is_alone(command: &str, words: &[String]) -> bool
+    ensures { IsTrue result ↔ IsAlone command.now (texts words.now) }
 {
     match words {
-        [word] => word.as_str() == "arrows",
-        [word, dashes] => word.as_str() == "arrows" && dashes.as_str() == "--",
+        [word] => word.as_str() == command,
+        [word, dashes] => word.as_str() == command && dashes.as_str() == "--",
         [] | [_, _, _, ..] => false,
+    }
+}
+
+/// The command that the words ask for.
+pub fn command_of(words: &[String]) -> Command
+    ensures { CommandOf (texts words.now) result }
+{
+    if is_alone("arrows", words) {
+        Command::Arrows
+    } else if is_alone("serve", words) {
+        Command::Serve
+    } else {
+        Command::Unknown
     }
 }

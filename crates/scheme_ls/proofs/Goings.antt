@@ -1,0 +1,209 @@
+-- A session that goes on, read by read.
+use Rattle.std.proofs.Common.{◌≡◌, ℕ, ◌+◌, ◌-◌, ◌<◌, ◌≤◌, List, [], ◌∷◌, ◌++◌, length, min, take, drop, refl, sym, ap, ◌∙◌, arith, append_assoc, append-nil, Some, None, Option, subst, true, Bool, false, ◌&&◌, length-append, inl, inr, ◌⊎◌, nat_lt, nat_le}
+use Rattle.std.proofs.lemmas.List.{take_all, length-take, drop_all}
+use Rattle.std.proofs.lemmas.Bool.{cases_lt}
+use Rattle.std.proofs.lemmas.Bool.Decides.{nat_tests}
+use Rattle.std.specs.List.{list_all}
+use Rattle.std.specs.Option.{IsSomeAnd}
+use Rattle.ls_base.specs.Frames.{End, IsFrames, rest}
+use Rattle.lsp_framing.specs.Deframed.{Deframed, After}
+use Rattle.lsp_framing.specs.Feeds.{Feeds}
+use Rattle.ls_outside.specs.Counts.{Fails}
+use Rattle.ls_outside.specs.Sources.{ArePieces, GotTakes, bytes_of, is_piece, left_over}
+use Rattle.ls_outside.specs.declared.source.Got.TheVariants as got
+use Rattle.std.specs.FinMap.{empty}
+use Rattle.scheme_model.specs.Session.{State, begin}
+use Rattle.scheme_ls.specs.Output.{frames_of}
+use Rattle.scheme_ls.specs.Prints.{Prints, SinkSeen}
+use Rattle.scheme_ls.specs.Reading.{TakesAll, TakesBytes}
+use Rattle.scheme_ls.specs.Answering.{AnswersBodies}
+use Rattle.scheme_ls.specs.Ends.{Seen}
+use Rattle.scheme_ls.specs.Served.{AreBefore, AreBeforeLast, Answers, GoesOn, InputEnds, IsCalm, ReadFails, TakesMost}
+use Rattle.scheme_ls.specs.Serving.{AnswersAll}
+use Rattle.scheme_ls.specs.Taking.{Serving, TakesPiece}
+use Rattle.scheme_ls.specs.declared.serve.TheConstants.{MAX_STREAM}
+use Rattle.scheme_ls.proofs.Taken.{TakesBytes-more}
+use Rattle.scheme_ls.proofs.AnswerLaws.{none_yet, answers_then}
+
+-- what was taken is whole pieces
+pub record AreWhole (old new : List (List ℕ)) (bytes : List ℕ) : Type 0 where
+  pub before : List (List ℕ)
+  pub split : old ≡ before ++ new
+  pub whole : bytes ≡ bytes_of before
+
+abbrev pub TakesWhole : Option (List (List ℕ)) → Option (List (List ℕ)) → List ℕ → Type 0
+TakesWhole None new bytes = Unit {0}
+TakesWhole (Some old) None bytes = ⊥
+TakesWhole (Some old) (Some new) bytes = AreWhole old new bytes
+
+-- a session that took bytes, answered all their bodies and goes on
+pub record Going (old now : Seen) (server : Serving) (taken most : ℕ) : Type 0 where
+  pub bytes : List ℕ
+  pub bodies : List (List ℕ)
+  pub takes : TakesBytes old.source.left now.source.left bytes
+  pub pieces : taken < most → TakesWhole old.source.left now.source.left bytes
+  pub after : After bytes bodies server.frames
+  pub kept : List ℕ
+  pub open_end : server.frames.end ≡ Some (rest kept)
+  pub answers : AnswersBodies (begin empty) bodies server.state old.sink now.sink
+  pub count : length bytes ≡ taken
+  pub calm : IsCalm old now
+
+pub takes_none : (left : Option (List (List ℕ))) → TakesBytes left left []
+takes_none None = tt
+takes_none (Some pieces) = refl
+
+whole_none : (left : Option (List (List ℕ))) → TakesWhole left left []
+whole_none None = tt
+whole_none (Some pieces) = record { before = []; split = refl; whole = refl }
+
+pub going_first : (a : Seen) (server : Serving) (most : ℕ) (kept : List ℕ) → After [] [] server.frames → server.frames.end ≡ Some (rest kept) → server.state ≡ begin empty → Going a a server 0 most
+going_first a server most kept after end state = record {
+    bytes = [];
+    bodies = [];
+    takes = takes_none a.source.left;
+    pieces = λ _. whole_none a.source.left;
+    after = after;
+    kept = kept;
+    open_end = end;
+    answers = subst (λ (s : State). AnswersBodies (begin empty) [] s a.sink a.sink) (sym state) (none_yet (begin empty) a.sink);
+    count = refl;
+    calm = refl;
+  }
+
+-- ---- the bytes so far
+
+pub frames_so_far : (bytes : List ℕ) (bodies : List (List ℕ)) (d : Deframed) (end : End) → After bytes bodies d → d.end ≡ Some end → IsFrames bytes bodies end
+frames_so_far bytes bodies d end after is = subst (λ (e : Option End). IsSomeAnd e (IsFrames bytes bodies)) is after.frames
+
+pub going_frames : (old now : Seen) (server : Serving) (taken most : ℕ) (w : Going old now server taken most) → IsFrames w.bytes w.bodies (rest w.kept)
+going_frames old now server taken most w = frames_so_far w.bytes w.bodies server.frames (rest w.kept) w.after w.open_end
+
+abbrev pub all_answered : (old now : Seen) (server : Serving) (taken most : ℕ) (w : Going old now server taken most) → AnswersAll w.bytes
+all_answered old now server taken most w = record {
+    bodies = w.bodies;
+    rest = rest w.kept;
+    frames = going_frames old now server taken most w;
+    messages = w.answers.session.messages;
+    answered = w.answers.session.answered;
+  }
+
+-- ---- one read more
+
+both : (a b : Bool) → (a && b) ≡ true → (a ≡ true) × (b ≡ true)
+both true true h = (refl, refl)
+both true false h = cc
+both false b h = cc
+
+piece_short : (piece : List ℕ) → is_piece piece ≡ true → length piece ≤ 65536
+piece_short piece sized =
+    let short : nat_le (length piece) 65536 ≡ true = (both (nat_lt 0 (length piece)) (nat_le (length piece) 65536) sized).1 in
+    grind (arith, nat_tests)
+
+bytes_more : (a b : List (List ℕ)) → bytes_of (a ++ b) ≡ bytes_of a ++ bytes_of b
+bytes_more [] b = refl
+bytes_more (piece ∷ a) b = ap (λ (rest : List ℕ). piece ++ rest) (bytes_more a b) ∙ sym (append_assoc piece (bytes_of a) (bytes_of b))
+
+-- a read of as many bytes as the first piece has takes it whole
+whole_piece : (piece buffer : List ℕ) (pieces new : List (List ℕ)) (n : ℕ) → n ≡ length piece → take n buffer ≡ take n piece → new ≡ left_over (drop n piece) pieces → (take n buffer ≡ piece) × (new ≡ pieces)
+whole_piece piece buffer pieces new n count same left =
+    let all : length piece ≤ n = omega arith in
+    (same ∙ take_all n piece all, left ∙ ap (λ (rest : List ℕ). left_over rest pieces) (drop_all n piece all))
+
+-- where pieces are told, a read that takes a whole piece
+pub whole_more : (old mid new : Option (List (List ℕ))) (bytes buffer : List ℕ) (n room : ℕ) → ArePieces mid → length buffer ≡ room → (n < room) ⊎ (65536 ≤ room) → TakesWhole old mid bytes → GotTakes mid new (got.Some n) buffer →
+    TakesWhole old new (bytes ++ take n buffer)
+whole_more None mid new bytes buffer n room sized size wide w takes = tt
+whole_more (Some old) None new bytes buffer n room sized size wide w takes = absurd w
+whole_more (Some old) (Some mid) None bytes buffer n room sized size wide w takes = absurd takes
+whole_more (Some old) (Some []) (Some new) bytes buffer n room sized size wide w takes = absurd takes
+whole_more (Some old) (Some (piece ∷ pieces)) (Some new) bytes buffer n room sized size wide w takes =
+    let short = piece_short piece (both (is_piece piece) (list_all is_piece pieces) sized).0 in
+    let count : n ≡ length piece = elim wide as (λ _. n ≡ length piece) [
+      | inl below ↦ omega (arith, takes.count)
+      | inr above ↦ omega (arith, takes.count)
+    ] in
+    let p = whole_piece piece buffer pieces new n count takes.bytes takes.rest in
+    record {
+      before = w.before ++ (piece ∷ []);
+      split = w.split ∙ sym (append_assoc w.before (piece ∷ []) pieces) ∙ ap (λ (rest : List (List ℕ)). (w.before ++ (piece ∷ [])) ++ rest) (sym p.1);
+      whole = (λ j. w.whole j ++ p.0 j) ∙ ap (λ (last : List ℕ). bytes_of w.before ++ last) (sym (append-nil piece)) ∙ sym (bytes_more w.before (piece ∷ []));
+    }
+
+-- a read that doesn't take the last byte that a session may take has room for a whole piece, or fills none
+wide_read : (n room taken most : ℕ) → taken + n < most → taken < most → n ≤ room → room ≡ min 65536 (most - taken) → (n < room) ⊎ (65536 ≤ room)
+wide_read n room taken most more below within space = elim (cases_lt room 65536) as (λ _. (n < room) ⊎ (65536 ≤ room)) [
+      | inl narrow ↦ inl (omega arith)
+      | inr wide ↦ inr wide
+    ]
+
+-- the pieces before the one that a read takes from
+pub before_last : (old mid new : Option (List (List ℕ))) (bytes buffer : List ℕ) (n : ℕ) → TakesWhole old mid bytes → GotTakes mid new (got.Some n) buffer → AreBeforeLast old bytes
+before_last None mid new bytes buffer n w takes = tt
+before_last (Some old) None new bytes buffer n w takes = absurd w
+before_last (Some old) (Some mid) None bytes buffer n w takes = absurd takes
+before_last (Some old) (Some []) (Some new) bytes buffer n w takes = absurd takes
+before_last (Some old) (Some (piece ∷ pieces)) (Some new) bytes buffer n w takes = record { before = w.before; piece = piece; after = pieces; split = w.split; whole = w.whole }
+
+-- a read, and what answers it: the session goes on
+pub going_more : (old mid new : Seen) (server next : Serving) (taken most n room : ℕ) (buffer : List ℕ) (w : Going old mid server taken most) → taken < most → ArePieces mid.source.left → length buffer ≡ room → n ≤ room →
+    room ≡ min 65536 (most - taken) → GotTakes mid.source.left new.source.left (got.Some n) buffer → IsCalm mid new → TakesPiece server next (take n buffer) mid.sink new.sink → Going old new next (taken + n) most
+going_more old mid new server next taken most n room buffer w below sized size within space takes calm answered = record {
+    bytes = w.bytes ++ take n buffer;
+    bodies = w.bodies ++ answered.given;
+    takes = TakesBytes-more old.source.left mid.source.left new.source.left w.bytes buffer n w.takes takes;
+    pieces = λ more. whole_more old.source.left mid.source.left new.source.left w.bytes buffer n room sized size (wide_read n room taken most more below within space) (w.pieces below) takes;
+    after = answered.feeds w.bytes w.bodies w.after;
+    kept = answered.kept;
+    open_end = answered.open_end;
+    answers = answers_then (begin empty) server.state next.state w.bodies answered.given old.sink mid.sink new.sink w.answers answered.answers;
+    count = length-append w.bytes (take n buffer) ∙ (let l = length-take n buffer in omega (arith, w.count));
+    calm = calm ∙ w.calm;
+  }
+
+-- what was taken so far is answered, and the session goes on after a read that takes nothing
+abbrev pub goes_on : (old mid new : Seen) (server : Serving) (taken most : ℕ) (w : Going old mid server taken most) → TakesBytes old.source.left new.source.left w.bytes → new.sink ≡ mid.sink → taken ≤ MAX_STREAM → GoesOn old new
+goes_on old mid new server taken most w takes same few = record {
+    session = record {
+      bytes = w.bytes;
+      taken = takes;
+      few = omega (arith, w.count);
+      answers = all_answered old mid server taken most w;
+      prints = subst (λ (sink : SinkSeen). Prints old.sink sink (frames_of w.answers.session.messages)) (sym same) w.answers.prints;
+    };
+    goes_on = w.answers.session.ends;
+    unfinished = tt;
+  }
+
+takes_all : (old mid new : Option (List (List ℕ))) (bytes buffer : List ℕ) → TakesBytes old mid bytes → GotTakes mid new got.End buffer → TakesAll old new bytes × TakesBytes old new bytes
+takes_all None mid new bytes buffer front takes = (tt, tt)
+takes_all (Some old) None new bytes buffer front takes = absurd front
+takes_all (Some old) (Some mid) None bytes buffer front takes = absurd takes
+takes_all (Some old) (Some []) (Some new) bytes buffer front takes =
+    ((sym (append-nil bytes) ∙ sym front, takes), front ∙ ap (λ (left : List (List ℕ)). bytes ++ bytes_of left) (sym takes))
+takes_all (Some old) (Some (piece ∷ pieces)) (Some new) bytes buffer front takes = absurd takes
+
+takes_same : (old mid new : Option (List (List ℕ))) (bytes buffer : List ℕ) → TakesBytes old mid bytes → GotTakes mid new got.Failed buffer → TakesBytes old new bytes
+takes_same None mid new bytes buffer front takes = tt
+takes_same (Some old) None new bytes buffer front takes = absurd front
+takes_same (Some old) (Some mid) None bytes buffer front takes = absurd takes
+takes_same (Some old) (Some []) (Some new) bytes buffer front takes = front ∙ ap (λ (left : List (List ℕ)). bytes ++ bytes_of left) (sym takes)
+takes_same (Some old) (Some (piece ∷ pieces)) (Some new) bytes buffer front takes = front ∙ ap (λ (left : List (List ℕ)). bytes ++ bytes_of left) (sym takes)
+
+-- the input ends
+pub input_ends : (old mid new : Seen) (server : Serving) (taken most : ℕ) (buffer : List ℕ) → Going old mid server taken most → taken ≤ MAX_STREAM → GotTakes mid.source.left new.source.left got.End buffer → IsCalm mid new → new.sink ≡ mid.sink → InputEnds old new
+input_ends old mid new server taken most buffer w few takes calm same =
+    let p = takes_all old.source.left mid.source.left new.source.left w.bytes buffer w.takes takes in
+    record { going = goes_on old mid new server taken most w p.1 same few; all = p.0; calm = calm ∙ w.calm }
+
+-- a read fails
+pub read_fails : (old mid new : Seen) (server : Serving) (taken most : ℕ) (buffer : List ℕ) → Going old mid server taken most → taken ≤ MAX_STREAM → GotTakes mid.source.left new.source.left got.Failed buffer → Fails mid.source.faults new.source.faults → new.sink ≡ mid.sink → ReadFails old new
+read_fails old mid new server taken most buffer w few takes failed same = record {
+    going = goes_on old mid new server taken most w (takes_same old.source.left mid.source.left new.source.left w.bytes buffer w.takes takes) same few;
+    failed = subst (λ (n : ℕ). Fails n new.source.faults) w.calm failed;
+  }
+
+-- a session has taken all that one may
+pub takes_most : (old now : Seen) (server : Serving) (taken most : ℕ) → Going old now server taken most → taken ≡ MAX_STREAM → TakesMost old now
+takes_most old now server taken most w all =
+    record { going = goes_on old now now server taken most w w.takes refl (omega arith); most = w.count ∙ all; calm = w.calm }
