@@ -5,3 +5,5 @@ pub mod Asked
 pub mod Answered
 pub mod Stepped
 pub mod Agreement
+pub mod Built
+pub mod Events

@@ -1,5 +1,5 @@
 -- What the messages of a client are in the words of a session (JSON-RPC 2.0 sections 4 and 5; LSP 3.17).
-use Rattle.std.specs.Prelude.{ℕ, List, Option, Result, Ok, Err, map}
+use Rattle.std.specs.Prelude.{Result, Ok, Err, map}
 use Rattle.std.specs.Option.{option_map}
 use Rattle.ls_base.specs.Positions.{offset_of}
 use Rattle.ls_base.specs.declared.places.Pos.{Pos}

@@ -1,7 +1,7 @@
 -- One step of a session, from the bytes of a body to the messages that answer it.
-use Rattle.std.specs.Prelude.{◌≡◌, ℕ, List}
+use Rattle.std.specs.Prelude.{◌≡◌, ℕ, List, None}
 use Rattle.lsp_messages.specs.Messages.{message_of}
-use Rattle.scheme_model.specs.Session.{State, Stepped, step}
+use Rattle.scheme_model.specs.Session.{Reply, State, Stepped, step}
 use Rattle.session_core.specs.declared.out.Out.{Out}
 use Rattle.session_core.specs.Said.{offsets, said_by}
 use Rattle.session_core.specs.Asked.{Question, questions}
@@ -16,3 +16,7 @@ pub record IsOutcome (stepped : Stepped Question) (out : Out) (next : State) : T
 -- the body leads from one state to the next, with these messages and this end
 abbrev pub IsStep : State → List ℕ → Out → State → Type 0
 IsStep state body out next = IsOutcome (step offsets questions state (said_by (message_of body))) out next
+
+-- nothing ends, and the messages are these replies
+abbrev pub Says : Out → List (Reply Question) → Type 0
+Says out replies = AreReplies replies out.replies × (out.end ≡ None)
