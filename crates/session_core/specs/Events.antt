@@ -1,5 +1,5 @@
 -- What the server does with a document event (LSP 3.17, text synchronisation).
-use Rattle.std.specs.Prelude.{◌≡◌, ℕ, List, []}
+use Rattle.std.specs.Prelude.{◌≡◌, ℕ, List, [], ◌∷◌}
 use Rattle.document_store.specs.declared.faults.StoreFault.{StoreFault}
 use Rattle.document_store.specs.declared.faults.StoreFault.TheVariants as faults
 use Rattle.scheme_model.specs.Session.{Log, logged, refusal_text, uri_of}
@@ -7,7 +7,6 @@ use Rattle.scheme_model.specs.Texts.{Event, Texts, Refusal, NotOpen, BadRange, T
 use Rattle.session_core.specs.declared.out.Out.{Out}
 use Rattle.session_core.specs.Said.{offsets}
 use Rattle.session_core.specs.Stepped.{Says}
-use Rattle.std.specs.Prelude.{◌∷◌}
 
 -- the texts after an event, and the log of its refusal
 pub record IsEvented (old : Texts) (event : Event) (new : Texts) (out : Out) : Type 0 where
