@@ -1,0 +1,9 @@
+pub mod Said
+pub mod States
+pub mod Arrows
+pub mod Asked
+pub mod Answered
+pub mod Stepped
+pub mod Agreement
+pub mod Built
+pub mod Events

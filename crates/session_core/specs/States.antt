@@ -1,0 +1,45 @@
+-- The state of a session as contracts see it.
+use Rattle.std.specs.Prelude.{◌≡◌, ℕ, zero, suc, refl}
+use Rattle.std.specs.Coded.{Coded, code_by, coded×, coded_ℕ, coded_ℤ, coded_list}
+use Rattle.std.specs.FinMap.{code}
+use Rattle.scheme_model.specs.Session.{State}
+use Rattle.scheme_model.specs.Session as session
+use Rattle.scheme_model.specs.Texts.{Texts}
+use Rattle.session_core.specs.declared.mode.Mode.{Mode}
+use Rattle.session_core.specs.declared.mode.Mode.TheVariants as modes
+
+abbrev pub said_mode : Mode → session.Mode
+said_mode modes.Fresh = session.Fresh
+said_mode modes.Running = session.Running
+said_mode modes.Shut = session.Shut
+
+-- the mode, and the texts of the open documents
+abbrev pub state_of : Mode → Texts → State
+state_of mode texts = record { mode = said_mode mode; texts = texts }
+
+-- ---- how a state is stored
+
+abbrev pub number_of : session.Mode → ℕ
+number_of session.Fresh = 0
+number_of session.Running = 1
+number_of session.Shut = 2
+
+abbrev pub mode_at : ℕ → session.Mode
+mode_at zero = session.Fresh
+mode_at (suc zero) = session.Running
+mode_at (suc (suc n)) = session.Shut
+
+pub mode_at-number_of : (mode : session.Mode) → mode_at (number_of mode) ≡ mode
+mode_at-number_of session.Fresh = refl
+mode_at-number_of session.Running = refl
+mode_at-number_of session.Shut = refl
+
+abbrev pub coded_mode : Coded session.Mode
+coded_mode = code_by ℕ coded_ℕ number_of mode_at mode_at-number_of
+
+abbrev pub coded_texts : Coded Texts
+coded_texts = code (coded_list coded_ℕ) (coded× coded_ℤ (coded_list coded_ℕ))
+
+abbrev pub coded_state : Coded State
+coded_state =
+    code_by (session.Mode × Texts) (coded× coded_mode coded_texts) (λ s. (s.mode, s.texts)) (λ p. record { mode = p.0; texts = p.1 }) (λ _. refl)

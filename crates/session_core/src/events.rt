@@ -1,0 +1,73 @@
+//! Documents are opened, changed and closed, and refusals logged (LSP 3.17, text synchronisation).
+ghost use Rattle.std.specs.Prelude.{◌≡◌, IfOk, OnErr, map};
+ghost use Rattle.scheme_model.specs.Texts as spec;
+ghost use Rattle.session_core.specs.Said.{said_change};
+ghost use Rattle.session_core.specs.Events.{IsEvented, LogsFault};
+
+use crate::Out;
+use crate::out::silent;
+use crate::replies::logged;
+use document_store::{Store, StoreFault};
+use ls_base::{Change, Mem, Memory};
+use std::alloc::Global;
+
+/// Opens a document, or gives an open one a new version and text. Where memory runs out the texts are as before.
+pub fn opened(alloc: Global, texts: &mut Store, uri: &str, version: i64, text: &str) -> Mem<Out>
+    ensures event { IfOk result
+        (IsEvented texts.old (spec.Added uri.now version text.now) texts.new) }
+    ensures kept { OnErr result (texts.new ≡ texts.old) }
+{
+    match texts.add(uri, version, text) {
+        Ok(()) => Ok(silent(alloc)),
+        Err(fault) => Ok(refused(alloc, fault, uri)?),
+    }
+}
+
+/// Changes a document. Where memory runs out the texts are as before: the one refusal that takes a document away
+/// has its log before that.
+pub fn changed(
+    alloc: Global,
+    texts: &mut Store,
+    uri: &str,
+    version: i64,
+    changes: &[Change],
+) -> Mem<Out>
+    ensures event { IfOk result
+        (IsEvented texts.old (spec.Changed uri.now version (map said_change changes.now)) texts.new) }
+    ensures kept { OnErr result (texts.new ≡ texts.old) }
+{
+    let too_long = refused(alloc, StoreFault::TooLong, uri)?;
+    match texts.change(uri, version, changes) {
+        Ok(()) => Ok(silent(alloc)),
+        Err(fault) => {
+            if fault == StoreFault::TooLong {
+                return Ok(too_long);
+            }
+            Ok(refused(alloc, fault, uri)?)
+        }
+    }
+}
+
+/// Closes a document. Where memory runs out the texts are as before.
+pub fn closed(alloc: Global, texts: &mut Store, uri: &str) -> Mem<Out>
+    ensures event { IfOk result (IsEvented texts.old (spec.Closed uri.now) texts.new) }
+    ensures kept { OnErr result (texts.new ≡ texts.old) }
+{
+    if texts.close(uri) {
+        return Ok(silent(alloc));
+    }
+    Ok(refused(alloc, StoreFault::NotOpen, uri)?)
+}
+
+/// The log of a refusal.
+fn refused(alloc: Global, fault: StoreFault, uri: &str) -> Mem<Out>
+    ensures { IfOk result (LogsFault fault uri.now) }
+{
+    match fault {
+        StoreFault::Memory => Err(Memory),
+        StoreFault::NotOpen => Ok(logged(alloc, "not open: ", uri)?),
+        StoreFault::BadRange => Ok(logged(alloc, "bad range: ", uri)?),
+        StoreFault::TooLong => Ok(logged(alloc, "text too long: ", uri)?),
+        StoreFault::TooMany => Ok(logged(alloc, "too many documents: ", uri)?),
+    }
+}

@@ -1,0 +1,31 @@
+//! What follows from the definitions alone.
+ghost use Rattle.std.specs.Prelude.{◌≡◌, ◌≢◌, ℕ, List, Ok, Err};
+ghost use Rattle.ls_base.specs.declared.answers.Query.{Query};
+ghost use Rattle.ls_base.specs.declared.answers.Query.TheVariants as queries;
+ghost use Rattle.lsp_messages.specs.declared.message.At.{At};
+ghost use Rattle.lsp_messages.specs.declared.message.Id.{Id};
+ghost use Rattle.lsp_messages.specs.declared.message.Call.TheVariants as calls;
+ghost use Rattle.lsp_messages.specs.declared.message.Message.TheVariants as messages;
+ghost use Rattle.lsp_messages.specs.declared.message.Reject.TheVariants as rejects;
+ghost use Rattle.lsp_messages.specs.Messages.{message_of};
+ghost use Rattle.document_store.specs.Texts as store;
+ghost use Rattle.scheme_model.specs.Texts as texts;
+ghost use Rattle.session_core.specs.Said.{offsets};
+ghost use Rattle.session_core.specs.Agreement.{said_event, said_after};
+
+/// Events make the same of the texts by the store's definition as by a session's.
+pub fn events_agree()
+    ensures { (old : texts.Texts) (event : store.Event)
+        → texts.after offsets old (said_event event) ≡ said_after (store.after old event) }
+{}
+
+/// Of all queries, a body asks for the arrows of a document alone.
+pub fn only_arrows_are_asked()
+    ensures { (body : List ℕ) (id : Id) (place : At) (query : Query)
+        → message_of body ≡ Ok (messages.Request id (calls.Ask place query)) → query ≡ queries.Arrows }
+{}
+
+/// No body is refused for want of memory by the definition of what it says.
+pub fn no_body_wants_memory()
+    ensures { (body : List ℕ) → message_of body ≢ Err rejects.Memory }
+{}

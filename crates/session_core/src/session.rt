@@ -1,0 +1,245 @@
+//! A session: what the server keeps, and what it does with each message (LSP 3.17, "Lifecycle Messages").
+ghost use Rattle.std.specs.Prelude.{◌≡◌, ◌≢◌, IfOk, OnOk, OnErr};
+ghost use Rattle.std.specs.FinMap.{empty};
+ghost use Rattle.scheme_model.specs.Session.{begin, step};
+ghost use Rattle.scheme_model.specs.Session as spec;
+ghost use Rattle.session_core.specs.Asked.{questions};
+ghost use Rattle.session_core.specs.Built.{AsksArrows, IsBuilt};
+ghost use Rattle.session_core.specs.Said.{offsets, said_id, said_call, said_note, said_message, said_reject};
+ghost use Rattle.session_core.specs.Stepped.{IsOutcome, IsStep};
+
+use crate::Out;
+use crate::events::{changed, closed, opened};
+use crate::mode::Mode;
+use crate::out::{ended, silent};
+use crate::questions::answer;
+use crate::replies::{
+    answered, capabilities, invalid_params, invalid_request, logged, method_not_found,
+    not_initialized, parse_error,
+};
+use document_store::Store;
+use ls_base::{Answer, Mem, Memory, Query, Steps};
+use lsp_messages::{At, Call, Id, Message, Note, Reject, read_message};
+use std::alloc::Global;
+use std::marker::Model;
+use std::sync::ledger::Ledger;
+
+/// A session: its mode, and the texts of the open documents, which contracts see as the state of a session.
+#[derive(Debug, Drop)]
+pub struct Session {
+    mode: Mode,
+    texts: Store,
+    alloc: Global,
+}
+
+impl Model for Session {
+    ghost use Rattle.scheme_model.specs.Session.{State};
+    ghost use Rattle.session_core.specs.States.{coded_state, state_of};
+
+    ghost Value = { State };
+
+    ghost coded = { coded_state };
+
+    ghost view = { λ s. state_of s.mode s.texts };
+}
+
+impl Session {
+    /// A session before its first message, without documents.
+    pub fn new(alloc: Global) -> Mem<Session>
+        ensures { IfOk result (λ session. session ≡ begin empty) }
+    {
+        Ok(Session {
+            mode: Mode::Fresh,
+            texts: Store::new(alloc),
+            alloc,
+        })
+    }
+
+    /// Takes the body of a message. Its shape is judged first, then the mode, then the method, then the parameters.
+    /// The steps of macro uses are counted, of which there are none as yet. Where memory runs out nothing has changed.
+    pub fn on_body<L: Ledger>(&mut self, body: &[u8], steps: &mut Steps<L>) -> Mem<Out>
+        ensures step { IfOk result (λ out. IsStep self.old body.now out self.new) }
+        ensures kept { OnErr result (self.new ≡ self.old) }
+        ensures steps { steps.new ≡ steps.old }
+    {
+        match read_message(self.alloc, body) {
+            Ok(message) => Ok(self.on_message(message)?),
+            Err(reject) => Ok(self.on_reject(reject)?),
+        }
+    }
+
+    /// A message.
+    fn on_message(&mut self, message: Message) -> Mem<Out>
+        requires { IsBuilt message }
+        ensures step { IfOk result (λ out. IsOutcome
+            (step offsets questions self.old (said_message message)) out self.new) }
+        ensures kept { OnErr result (self.new ≡ self.old) }
+    {
+        match message {
+            Message::Request { id, call } => Ok(self.on_request(id, call)?),
+            Message::Notice(note) => Ok(self.on_notice(note)?),
+            Message::Response => Ok(silent(self.alloc)),
+        }
+    }
+
+    /// A body that is no message, or a request that can't be answered. Want of memory is passed on.
+    fn on_reject(&self, reject: Reject) -> Mem<Out>
+        ensures step { IfOk result (λ out. IsOutcome
+            (step offsets questions self.now (said_reject reject)) out self.now) }
+        ensures memory { OnOk result (reject ≢ Reject.Memory) }
+    {
+        match reject {
+            Reject::Memory => Err(Memory),
+            Reject::Parse => Ok(parse_error(self.alloc)?),
+            Reject::Invalid(id) => Ok(invalid_request(self.alloc, id)?),
+            Reject::Method(id) => Ok(self.on_unknown_method(id)?),
+            Reject::Params(id) => Ok(self.on_bad_params(id)?),
+        }
+    }
+
+    /// A request of an unknown method.
+    fn on_unknown_method(&self, id: Id) -> Mem<Out>
+        ensures { IfOk result (λ out. IsOutcome
+            (step offsets questions self.now (spec.UnknownMethod (said_id id))) out self.now) }
+    {
+        match self.mode {
+            Mode::Fresh => Ok(not_initialized(self.alloc, id)?),
+            Mode::Running => Ok(method_not_found(self.alloc, id)?),
+            Mode::Shut => Ok(invalid_request(self.alloc, Some(id))?),
+        }
+    }
+
+    /// A request of a known method with bad parameters.
+    fn on_bad_params(&self, id: Id) -> Mem<Out>
+        ensures { IfOk result (λ out. IsOutcome
+            (step offsets questions self.now (spec.BadRequest (said_id id))) out self.now) }
+    {
+        match self.mode {
+            Mode::Fresh => Ok(not_initialized(self.alloc, id)?),
+            Mode::Running => Ok(invalid_params(self.alloc, id)?),
+            Mode::Shut => Ok(invalid_request(self.alloc, Some(id))?),
+        }
+    }
+
+    /// A request.
+    fn on_request(&mut self, id: Id, call: Call) -> Mem<Out>
+        requires { AsksArrows call }
+        ensures step { IfOk result (λ out. IsOutcome
+            (step offsets questions self.old (spec.Request (said_id id) (said_call call))) out self.new) }
+        ensures kept { OnErr result (self.new ≡ self.old) }
+    {
+        match self.mode {
+            Mode::Fresh => Ok(self.on_fresh_call(id, call)?),
+            Mode::Running => Ok(self.on_call(id, call)?),
+            Mode::Shut => Ok(invalid_request(self.alloc, Some(id))?),
+        }
+    }
+
+    /// A request in the mode fresh: `initialize` leads on.
+    fn on_fresh_call(&mut self, id: Id, call: Call) -> Mem<Out>
+        ensures step { IfOk result (λ out. IsOutcome
+            (spec.called_fresh self.old (said_id id) (said_call call)) out self.new) }
+        ensures kept { OnErr result (self.new ≡ self.old) }
+    {
+        match call {
+            Call::Initialize { prepare } => {
+                let out = capabilities(self.alloc, id, prepare)?;
+                self.mode = Mode::Running;
+                Ok(out)
+            }
+            Call::Shutdown | Call::Ask { .. } | Call::Rename { .. } => {
+                Ok(not_initialized(self.alloc, id)?)
+            }
+        }
+    }
+
+    /// A request while running. A rename isn't built, so its method is unknown.
+    fn on_call(&mut self, id: Id, call: Call) -> Mem<Out>
+        requires { AsksArrows call }
+        ensures step { IfOk result (λ out. IsOutcome
+            (spec.called questions self.old (said_id id) (said_call call)) out self.new) }
+        ensures kept { OnErr result (self.new ≡ self.old) }
+    {
+        match call {
+            Call::Initialize { .. } => Ok(invalid_request(self.alloc, Some(id))?),
+            Call::Shutdown => {
+                let out = answered(self.alloc, id, Answer::Nothing)?;
+                self.mode = Mode::Shut;
+                Ok(out)
+            }
+            Call::Ask { at, query } => Ok(self.on_question(id, &at, query)?),
+            Call::Rename { .. } => Ok(method_not_found(self.alloc, id)?),
+        }
+    }
+
+    /// A question about a document while running.
+    fn on_question(&self, id: Id, at: &At, query: Query) -> Mem<Out>
+        requires { query ≡ Query.Arrows }
+        ensures { IfOk result (λ out. IsOutcome
+            (spec.called questions self.now (said_id id) (said_call (Call.Ask at.now query))) out self.now) }
+    {
+        let answer = answer(self.alloc, &self.texts, at.uri.as_str(), query)?;
+        Ok(answered(self.alloc, id, answer)?)
+    }
+
+    /// A notification.
+    fn on_notice(&mut self, note: Note) -> Mem<Out>
+        ensures step { IfOk result (λ out. IsOutcome
+            (step offsets questions self.old (spec.Notice (said_note note))) out self.new) }
+        ensures kept { OnErr result (self.new ≡ self.old) }
+    {
+        match self.mode {
+            Mode::Fresh | Mode::Shut => Ok(self.on_dropped(&note)),
+            Mode::Running => Ok(self.on_note(&note)?),
+        }
+    }
+
+    /// A notification in another mode than running: all but `exit` are dropped.
+    fn on_dropped(&self, note: &Note) -> Out
+        ensures { IsOutcome (spec.dropped self.now (said_note note.now)) result self.now }
+    {
+        match note {
+            Note::Exit => ended(self.alloc, self.mode.exit_status()),
+            Note::Opened { .. }
+            | Note::Changed { .. }
+            | Note::Closed { .. }
+            | Note::BadParams { .. }
+            | Note::Other => silent(self.alloc),
+        }
+    }
+
+    /// A notification while running.
+    fn on_note(&mut self, note: &Note) -> Mem<Out>
+        requires { self.old.mode ≡ spec.Running }
+        ensures step { IfOk result (λ out. IsOutcome
+            (spec.noticed offsets self.old (said_note note.now)) out self.new) }
+        ensures kept { OnErr result (self.new ≡ self.old) }
+    {
+        let texts = &mut self.texts;
+        match note {
+            Note::Exit => Ok(ended(self.alloc, self.mode.exit_status())),
+            Note::Opened { uri, version, text } => {
+                Ok(opened(self.alloc, texts, uri.as_str(), *version, text.as_str())?)
+            }
+            Note::Changed {
+                uri,
+                version,
+                changes,
+            } => {
+                Ok(changed(
+                    self.alloc,
+                    texts,
+                    uri.as_str(),
+                    *version,
+                    changes.as_slice(),
+                )?)
+            }
+            Note::Closed { uri } => Ok(closed(self.alloc, texts, uri.as_str())?),
+            Note::BadParams { method } => Ok(logged(self.alloc, "bad params: ", method.as_str())?),
+            Note::Other => Ok(silent(self.alloc)),
+        }
+    }
+}
+
+#[cfg(test)]
+mod tests;
