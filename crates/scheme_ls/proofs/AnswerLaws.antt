@@ -27,17 +27,17 @@ answered_one state next body out s = subst (λ rs. AreReplies rs out.replies) (s
 
 abbrev session_one : (state next : State) (body : List ℕ) (out : Out) (end : Option ℕ) → IsStep state body out next → out.end ≡ end → Answered state (body ∷ []) end
 session_one state next body out end s e = record {
-    messages = out.replies;
-    answered = answered_one state next body out s;
-    ends = end_of_one state body ∙ sym s.end ∙ e;
-  }
+  messages = out.replies;
+  answered = answered_one state next body out s;
+  ends = end_of_one state body ∙ sym s.end ∙ e;
+}
 
 pub one_answered : (state next : State) (body : List ℕ) (out : Out) (old new : SinkSeen) → IsStep state body out next → out.end ≡ None → Prints old new (frames_of out.replies) → AnswersBodies state (body ∷ []) next old new
 one_answered state next body out old new s e p = record {
-    session = session_one state next body out None s e;
-    prints = p;
-    now = s.state ∙ sym (state_of_one state body);
-  }
+  session = session_one state next body out None s e;
+  prints = p;
+  now = s.state ∙ sym (state_of_one state body);
+}
 
 pub one_ends : (state next : State) (body : List ℕ) (out : Out) (status : ℕ) (old new : SinkSeen) → IsStep state body out next → out.end ≡ Some status → Prints old new (frames_of out.replies) → EndsSession state (body ∷ []) status old new
 one_ends state next body out status old new s e p = record { session = session_one state next body out (Some status) s e; prints = p }
@@ -59,13 +59,13 @@ one_stops state next body out stop.Memory old new s p =
 -- memory runs out before anything is printed
 pub none_answered : (state : State) (bodies : List (List ℕ)) (a : SinkSeen) → StopsAs state bodies a a NoMemory
 none_answered state bodies a = record {
-    first = [];
-    later = bodies;
-    split = refl;
-    messages = [];
-    answered = tt;
-    prints = record { count = 0; part = omega arith; printed = (prints_nothing a).printed; calm = refl };
-  }
+  first = [];
+  later = bodies;
+  split = refl;
+  messages = [];
+  answered = tt;
+  prints = record { count = 0; part = omega arith; printed = (prints_nothing a).printed; calm = refl };
+}
 
 -- ---- several bodies
 
@@ -80,14 +80,15 @@ session_then state mid a b end first now second =
     let whole = more_bodies a b state first.ends in
     let from : session_from mid b ≡ session_from r.state b = ap (λ (s : State). session_from s b) now in
     let replies : AreReplies (r.replies ++ (session_from r.state b).replies) (first.messages ++ second.messages) =
-        are_more r.replies _ first.messages second.messages first.answered (subst (λ (run : Run Question). AreReplies run.replies second.messages) from second.answered) in
-    (record {
+    are_more r.replies _ first.messages second.messages first.answered (subst (λ (run : Run Question). AreReplies run.replies second.messages) from second.answered) in (
+      record {
         messages = first.messages ++ second.messages;
         answered = subst (λ (run : Run Question). AreReplies run.replies (first.messages ++ second.messages)) (sym whole) replies;
         ends = ap (λ (run : Run Question). run.end) whole ∙ ap (λ (run : Run Question). run.end) (sym from) ∙ second.ends;
       },
       refl,
-      ap (λ (run : Run Question). run.state) whole ∙ ap (λ (run : Run Question). run.state) (sym from))
+      ap (λ (run : Run Question). run.state) whole ∙ ap (λ (run : Run Question). run.state) (sym from),
+    )
 
 prints_both : (a b c : SinkSeen) (x y : List Reply) → Prints a b (frames_of x) → Prints b c (frames_of y) → Prints a c (frames_of (x ++ y))
 prints_both a b c x y first second = subst (Prints a c) (sym (frames_more x y)) (prints_then a b c (frames_of x) (frames_of y) first second)
@@ -96,19 +97,19 @@ pub answers_then : (state mid next : State) (a b : List (List ℕ)) (old between
 answers_then state mid next a b old between new first second =
     let w = session_then state mid a b None first.session first.now second.session in
     record {
-        session = w.0;
-        prints = prints_both old between new first.session.messages second.session.messages first.prints second.prints;
-        now = second.now ∙ sym w.2;
-      }
+      session = w.0;
+      prints = prints_both old between new first.session.messages second.session.messages first.prints second.prints;
+      now = second.now ∙ sym w.2;
+    }
 
 ends_then : (state mid : State) (a b more : List (List ℕ)) (status : ℕ) (old between new : SinkSeen) → AnswersBodies state a mid old between → EndsSession mid b status between new → EndsSession state (a ++ (b ++ more)) status old new
 ends_then state mid a b more status old between new first second =
     let over = ended_session b more mid status second.session.ends in
     let longer : Answered mid (b ++ more) (Some status) = record {
-        messages = second.session.messages;
-        answered = subst (λ (run : Run Question). AreReplies run.replies second.session.messages) (sym over) second.session.answered;
-        ends = ap (λ (run : Run Question). run.end) over ∙ second.session.ends;
-      } in
+      messages = second.session.messages;
+      answered = subst (λ (run : Run Question). AreReplies run.replies second.session.messages) (sym over) second.session.answered;
+      ends = ap (λ (run : Run Question). run.end) over ∙ second.session.ends;
+    } in
     let w = session_then state mid a (b ++ more) (Some status) first.session first.now longer in
     record { session = w.0; prints = prints_both old between new first.session.messages second.session.messages first.prints second.prints }
 
@@ -120,7 +121,7 @@ are_first state mid a b old between messages first second =
     let whole = more_bodies a b state first.session.ends in
     let from : session_from mid b ≡ session_from r.state b = ap (λ (s : State). session_from s b) first.now in
     let replies : AreReplies (r.replies ++ (session_from r.state b).replies) (first.session.messages ++ messages) =
-        are_more r.replies _ first.session.messages messages first.session.answered (subst (λ (run : Run Question). AreReplies run.replies messages) from second) in
+    are_more r.replies _ first.session.messages messages first.session.answered (subst (λ (run : Run Question). AreReplies run.replies messages) from second) in
     subst (λ (run : Run Question). AreReplies run.replies (first.session.messages ++ messages)) (sym whole) replies
 
 -- first bodies that are answered whole, and of the next a part
@@ -128,13 +129,13 @@ some_then : (state mid : State) (a b more : List (List ℕ)) (old between new : 
     ((x y : List ℕ) → Prints old between x → IsPrinted y → IsPrintedThen (x ++ y)) → AnswersSome state (a ++ (b ++ more)) IsPrintedThen
 some_then state mid a b more old between new IsPrinted IsPrintedThen first second joined =
     record {
-        first = a ++ second.first;
-        later = second.later ++ more;
-        split = ap (λ (rest : List (List ℕ)). a ++ (rest ++ more)) second.split ∙ ap (λ (rest : List (List ℕ)). a ++ rest) (append_assoc second.first second.later more) ∙ sym (append_assoc a second.first (second.later ++ more));
-        messages = first.session.messages ++ second.messages;
-        answered = are_first state mid a second.first old between second.messages first second.answered;
-        prints = subst IsPrintedThen (sym (frames_more first.session.messages second.messages)) (joined (frames_of first.session.messages) (frames_of second.messages) first.prints second.prints);
-      }
+      first = a ++ second.first;
+      later = second.later ++ more;
+      split = ap (λ (rest : List (List ℕ)). a ++ (rest ++ more)) second.split ∙ ap (λ (rest : List (List ℕ)). a ++ rest) (append_assoc second.first second.later more) ∙ sym (append_assoc a second.first (second.later ++ more));
+      messages = first.session.messages ++ second.messages;
+      answered = are_first state mid a second.first old between second.messages first second.answered;
+      prints = subst IsPrintedThen (sym (frames_more first.session.messages second.messages)) (joined (frames_of first.session.messages) (frames_of second.messages) first.prints second.prints);
+    }
 
 pub stops_then : (state mid : State) (a b more : List (List ℕ)) (old between new : SinkSeen) (status : Status) → AnswersBodies state a mid old between → StopsAs mid b between new status → StopsAs state (a ++ (b ++ more)) old new status
 stops_then state mid a b more old between new Done first second = ends_then state mid a b more 0 old between new first second
@@ -173,10 +174,10 @@ so_far_none state all a = record { first = []; split = refl; answers = none_yet 
 
 pub so_far_more : (state mid next : State) (all rest : List (List ℕ)) (body : List ℕ) (old between new : SinkSeen) → AnsweredSoFar state all (body ∷ rest) mid old between → AnswersBodies mid (body ∷ []) next between new → AnsweredSoFar state all rest next old new
 so_far_more state mid next all rest body old between new w one = record {
-    first = w.first ++ (body ∷ []);
-    split = append_assoc w.first (body ∷ []) rest ∙ w.split;
-    answers = answers_then state mid next w.first (body ∷ []) old between new w.answers one;
-  }
+  first = w.first ++ (body ∷ []);
+  split = append_assoc w.first (body ∷ []) rest ∙ w.split;
+  answers = answers_then state mid next w.first (body ∷ []) old between new w.answers one;
+}
 
 pub so_far_all : (state now : State) (all : List (List ℕ)) (old new : SinkSeen) → AnsweredSoFar state all [] now old new → AnswersBodies state all now old new
 so_far_all state now all old new w = subst (λ (bodies : List (List ℕ)). AnswersBodies state bodies now old new) (sym (append-nil w.first) ∙ w.split) w.answers

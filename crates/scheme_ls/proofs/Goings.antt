@@ -59,17 +59,17 @@ whole_none (Some pieces) = record { before = []; split = refl; whole = refl }
 
 pub going_first : (a : Seen) (server : Serving) (most : ℕ) (kept : List ℕ) → After [] [] server.frames → server.frames.end ≡ Some (rest kept) → server.state ≡ begin empty → Going a a server 0 most
 going_first a server most kept after end state = record {
-    bytes = [];
-    bodies = [];
-    takes = takes_none a.source.left;
-    pieces = λ _. whole_none a.source.left;
-    after = after;
-    kept = kept;
-    open_end = end;
-    answers = subst (λ (s : State). AnswersBodies (begin empty) [] s a.sink a.sink) (sym state) (none_yet (begin empty) a.sink);
-    count = refl;
-    calm = refl;
-  }
+  bytes = [];
+  bodies = [];
+  takes = takes_none a.source.left;
+  pieces = λ _. whole_none a.source.left;
+  after = after;
+  kept = kept;
+  open_end = end;
+  answers = subst (λ (s : State). AnswersBodies (begin empty) [] s a.sink a.sink) (sym state) (none_yet (begin empty) a.sink);
+  count = refl;
+  calm = refl;
+}
 
 -- ---- the bytes so far
 
@@ -81,12 +81,12 @@ going_frames old now server taken most w = frames_so_far w.bytes w.bodies server
 
 abbrev pub all_answered : (old now : Seen) (server : Serving) (taken most : ℕ) (w : Going old now server taken most) → AnswersAll w.bytes
 all_answered old now server taken most w = record {
-    bodies = w.bodies;
-    rest = rest w.kept;
-    frames = going_frames old now server taken most w;
-    messages = w.answers.session.messages;
-    answered = w.answers.session.answered;
-  }
+  bodies = w.bodies;
+  rest = rest w.kept;
+  frames = going_frames old now server taken most w;
+  messages = w.answers.session.messages;
+  answered = w.answers.session.answered;
+}
 
 -- ---- one read more
 
@@ -133,9 +133,9 @@ whole_more (Some old) (Some (piece ∷ pieces)) (Some new) bytes buffer n room s
 -- a read that doesn't take the last byte that a session may take has room for a whole piece, or fills none
 wide_read : (n room taken most : ℕ) → taken + n < most → taken < most → n ≤ room → room ≡ min 65536 (most - taken) → (n < room) ⊎ (65536 ≤ room)
 wide_read n room taken most more below within space = elim (cases_lt room 65536) as (λ _. (n < room) ⊎ (65536 ≤ room)) [
-      | inl narrow ↦ inl (omega arith)
-      | inr wide ↦ inr wide
-    ]
+  | inl narrow ↦ inl (omega arith)
+  | inr wide ↦ inr wide
+]
 
 -- the pieces before the one that a read takes from
 pub before_last : (old mid new : Option (List (List ℕ))) (bytes buffer : List ℕ) (n : ℕ) → TakesWhole old mid bytes → GotTakes mid new (got.Some n) buffer → AreBeforeLast old bytes
@@ -149,31 +149,31 @@ before_last (Some old) (Some (piece ∷ pieces)) (Some new) bytes buffer n w tak
 pub going_more : (old mid new : Seen) (server next : Serving) (taken most n room : ℕ) (buffer : List ℕ) (w : Going old mid server taken most) → taken < most → ArePieces mid.source.left → length buffer ≡ room → n ≤ room →
     room ≡ min 65536 (most - taken) → GotTakes mid.source.left new.source.left (got.Some n) buffer → IsCalm mid new → TakesPiece server next (take n buffer) mid.sink new.sink → Going old new next (taken + n) most
 going_more old mid new server next taken most n room buffer w below sized size within space takes calm answered = record {
-    bytes = w.bytes ++ take n buffer;
-    bodies = w.bodies ++ answered.given;
-    takes = TakesBytes-more old.source.left mid.source.left new.source.left w.bytes buffer n w.takes takes;
-    pieces = λ more. whole_more old.source.left mid.source.left new.source.left w.bytes buffer n room sized size (wide_read n room taken most more below within space) (w.pieces below) takes;
-    after = answered.feeds w.bytes w.bodies w.after;
-    kept = answered.kept;
-    open_end = answered.open_end;
-    answers = answers_then (begin empty) server.state next.state w.bodies answered.given old.sink mid.sink new.sink w.answers answered.answers;
-    count = length-append w.bytes (take n buffer) ∙ (let l = length-take n buffer in omega (arith, w.count));
-    calm = calm ∙ w.calm;
-  }
+  bytes = w.bytes ++ take n buffer;
+  bodies = w.bodies ++ answered.given;
+  takes = TakesBytes-more old.source.left mid.source.left new.source.left w.bytes buffer n w.takes takes;
+  pieces = λ more. whole_more old.source.left mid.source.left new.source.left w.bytes buffer n room sized size (wide_read n room taken most more below within space) (w.pieces below) takes;
+  after = answered.feeds w.bytes w.bodies w.after;
+  kept = answered.kept;
+  open_end = answered.open_end;
+  answers = answers_then (begin empty) server.state next.state w.bodies answered.given old.sink mid.sink new.sink w.answers answered.answers;
+  count = length-append w.bytes (take n buffer) ∙ (let l = length-take n buffer in omega (arith, w.count));
+  calm = calm ∙ w.calm;
+}
 
 -- what was taken so far is answered, and the session goes on after a read that takes nothing
 abbrev pub goes_on : (old mid new : Seen) (server : Serving) (taken most : ℕ) (w : Going old mid server taken most) → TakesBytes old.source.left new.source.left w.bytes → new.sink ≡ mid.sink → taken ≤ MAX_STREAM → GoesOn old new
 goes_on old mid new server taken most w takes same few = record {
-    session = record {
-      bytes = w.bytes;
-      taken = takes;
-      few = omega (arith, w.count);
-      answers = all_answered old mid server taken most w;
-      prints = subst (λ (sink : SinkSeen). Prints old.sink sink (frames_of w.answers.session.messages)) (sym same) w.answers.prints;
-    };
-    goes_on = w.answers.session.ends;
-    unfinished = tt;
-  }
+  session = record {
+    bytes = w.bytes;
+    taken = takes;
+    few = omega (arith, w.count);
+    answers = all_answered old mid server taken most w;
+    prints = subst (λ (sink : SinkSeen). Prints old.sink sink (frames_of w.answers.session.messages)) (sym same) w.answers.prints;
+  };
+  goes_on = w.answers.session.ends;
+  unfinished = tt;
+}
 
 takes_all : (old mid new : Option (List (List ℕ))) (bytes buffer : List ℕ) → TakesBytes old mid bytes → GotTakes mid new got.End buffer → TakesAll old new bytes × TakesBytes old new bytes
 takes_all None mid new bytes buffer front takes = (tt, tt)
@@ -199,9 +199,9 @@ input_ends old mid new server taken most buffer w few takes calm same =
 -- a read fails
 pub read_fails : (old mid new : Seen) (server : Serving) (taken most : ℕ) (buffer : List ℕ) → Going old mid server taken most → taken ≤ MAX_STREAM → GotTakes mid.source.left new.source.left got.Failed buffer → Fails mid.source.faults new.source.faults → new.sink ≡ mid.sink → ReadFails old new
 read_fails old mid new server taken most buffer w few takes failed same = record {
-    going = goes_on old mid new server taken most w (takes_same old.source.left mid.source.left new.source.left w.bytes buffer w.takes takes) same few;
-    failed = subst (λ (n : ℕ). Fails n new.source.faults) w.calm failed;
-  }
+  going = goes_on old mid new server taken most w (takes_same old.source.left mid.source.left new.source.left w.bytes buffer w.takes takes) same few;
+  failed = subst (λ (n : ℕ). Fails n new.source.faults) w.calm failed;
+}
 
 -- a session has taken all that one may
 pub takes_most : (old now : Seen) (server : Serving) (taken most : ℕ) → Going old now server taken most → taken ≡ MAX_STREAM → TakesMost old now

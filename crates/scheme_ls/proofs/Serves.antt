@@ -43,12 +43,12 @@ pub record Read (old mid new : Seen) (server : Serving) (taken most n : ℕ) (bu
 pub read_piece : (old mid new : Seen) (server : Serving) (taken n room : ℕ) (buffer : List ℕ) → Going old mid server taken MAX_STREAM → taken < MAX_STREAM → n ≤ room → room ≡ min 65536 (MAX_STREAM - taken) →
     GotTakes mid.source.left new.source.left (got.Some n) buffer → IsCalm mid new → Read old mid new server taken MAX_STREAM n buffer
 read_piece old mid new server taken n room buffer w below within space takes calm = record {
-    going = w;
-    takes = TakesBytes-more old.source.left mid.source.left new.source.left w.bytes buffer n w.takes takes;
-    pieces = before_last old.source.left mid.source.left new.source.left w.bytes buffer n (w.pieces below) takes;
-    few = omega arith;
-    calm = calm ∙ w.calm;
-  }
+  going = w;
+  takes = TakesBytes-more old.source.left mid.source.left new.source.left w.bytes buffer n w.takes takes;
+  pieces = before_last old.source.left mid.source.left new.source.left w.bytes buffer n (w.pieces below) takes;
+  few = omega arith;
+  calm = calm ∙ w.calm;
+}
 
 -- all of a print is a part of it
 whole_part : (a b : SinkSeen) (x : List ℕ) → Prints a b x → PrintsPart a b x
@@ -193,9 +193,9 @@ piece_stops_serving old mid new server next taken most n buffer Refused r stops 
 piece_stops_serving old mid new server next taken most n buffer BadWords r stops = absurd stops
 piece_stops_serving old mid new server next taken most n buffer SourceFault r stops = absurd stops
 piece_stops_serving old mid new server next taken most n buffer NoMemory r stops = elim stops as (λ _. MemoryEnds old new) [
-      | inl some ↦ piece_memory old mid new server next taken most n buffer r some
-      | inr same ↦ no_memory old mid new server taken most n buffer r same
-    ]
+  | inl some ↦ piece_memory old mid new server next taken most n buffer r some
+  | inr same ↦ no_memory old mid new server taken most n buffer r same
+]
 piece_stops_serving old mid new server next taken most n buffer SinkFault r stops = piece_unwritten old mid new server next taken most n buffer r stops
 piece_stops_serving old mid new server next taken most n buffer FrameFault r stops = piece_fails old mid new server next taken most n buffer r stops
 piece_stops_serving old mid new server next taken most n buffer TooLong r stops = absurd stops

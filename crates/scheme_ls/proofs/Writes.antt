@@ -34,21 +34,21 @@ prints_then a b c x y first second = record { printed = Appends-trans a.taken b.
 
 pub prints_then_part : (a b c : SinkSeen) (x y z : List ℕ) → Prints a b x → PrintsPart b c y → PrintsPart a c (x ++ (y ++ z))
 prints_then_part a b c x y z first second = record {
-    count = length x + second.count;
-    part = omega (arith, second.part, length-append {A = ℕ});
-    printed = subst (Appends a.taken c.taken) (sym (second_front x y z second.count second.part)) (Appends-trans a.taken b.taken c.taken _ _ first.printed second.printed);
-    calm = second.calm ∙ first.calm;
-  }
+  count = length x + second.count;
+  part = omega (arith, second.part, length-append {A = ℕ});
+  printed = subst (Appends a.taken c.taken) (sym (second_front x y z second.count second.part)) (Appends-trans a.taken b.taken c.taken _ _ first.printed second.printed);
+  calm = second.calm ∙ first.calm;
+}
 
 abbrev pub prints_then_front : (a b c : SinkSeen) (x y z : List ℕ) → Prints a b x → PrintsFront b c y → PrintsFront a c (x ++ (y ++ z))
 prints_then_front a b c x y z first second = record {
-    count = length x + second.count;
-    part = omega (arith, second.part, length-append {A = ℕ});
-    printed =
-        let within : second.count ≤ length y = omega (arith, second.part) in
-        subst (Appends a.taken c.taken) (sym (second_front x y z second.count within)) (Appends-trans a.taken b.taken c.taken _ _ first.printed second.printed);
-    failed = subst (λ (n : ℕ). Fails n c.faults) first.calm second.failed;
-  }
+  count = length x + second.count;
+  part = omega (arith, second.part, length-append {A = ℕ});
+  printed =
+      let within : second.count ≤ length y = omega (arith, second.part) in
+      subst (Appends a.taken c.taken) (sym (second_front x y z second.count within)) (Appends-trans a.taken b.taken c.taken _ _ first.printed second.printed);
+  failed = subst (λ (n : ℕ). Fails n c.faults) first.calm second.failed;
+}
 
 -- the frames of the first of these replies are written, and those of the rest aren't
 pub record WroteFirst (old new : SinkSeen) (replies rest : List Reply) : Type 0 where
@@ -63,10 +63,10 @@ wrote_none a replies = record { done = []; prints = prints_nothing a; split = re
 -- one reply more
 pub wrote_more : (old mid new : SinkSeen) (replies rest : List Reply) (reply : Reply) → WroteFirst old mid replies (reply ∷ rest) → Prints mid new (frame_of_reply reply) → WroteFirst old new replies rest
 wrote_more old mid new replies rest reply w p = record {
-    done = w.done ++ frame_of_reply reply;
-    prints = prints_then old mid new w.done (frame_of_reply reply) w.prints p;
-    split = append_assoc w.done (frame_of_reply reply) (frames_of rest) ∙ w.split;
-  }
+  done = w.done ++ frame_of_reply reply;
+  prints = prints_then old mid new w.done (frame_of_reply reply) w.prints p;
+  split = append_assoc w.done (frame_of_reply reply) (frames_of rest) ∙ w.split;
+}
 
 -- what was printed where writing stops
 abbrev pub PrintsStop : SinkSeen → SinkSeen → List ℕ → WriteStop → Type 0

@@ -45,11 +45,23 @@ impl Server {
     {
         match self.deframer.feed(piece) {
             Ok(bodies) => {
-                answer_bodies(self.alloc, &mut self.session, bodies.as_slice(), output, steps)?;
+                answer_bodies(
+                    self.alloc,
+                    &mut self.session,
+                    bodies.as_slice(),
+                    output,
+                    steps,
+                )?;
                 Ok(())
             }
             Err(FrameFault::At { done, .. }) => {
-                answer_bodies(self.alloc, &mut self.session, done.as_slice(), output, steps)?;
+                answer_bodies(
+                    self.alloc,
+                    &mut self.session,
+                    done.as_slice(),
+                    output,
+                    steps,
+                )?;
                 Err(Status::FrameFault)
             }
             Err(FrameFault::Memory) => Err(Status::NoMemory),

@@ -4,26 +4,46 @@ use std::alloc::{AllocError, Global};
 use std::test::Fail;
 
 const EARLY: &str = r#"{"jsonrpc":"2.0","id":1,"method":"textDocument/definition"}"#;
+
 const INITIALIZE: &str = r#"{"jsonrpc":"2.0","id":1,"method":"initialize","params":{}}"#;
+
 const SHUTDOWN: &str = r#"{"jsonrpc":"2.0","id":2,"method":"shutdown"}"#;
+
 const SHUTDOWN_AGAIN: &str = r#"{"jsonrpc":"2.0","id":3,"method":"shutdown"}"#;
+
 const EXIT: &str = r#"{"jsonrpc":"2.0","method":"exit"}"#;
-const OPEN: &str = r#"{"jsonrpc":"2.0","method":"textDocument/didOpen","params":{"textDocument":{"uri":"file:///a.scm","version":1,"text":"(define x 1) x"}}}"#;
-const CHANGE: &str = r#"{"jsonrpc":"2.0","method":"textDocument/didChange","params":{"textDocument":{"uri":"file:///a.scm","version":2},"contentChanges":[{"text":"x"},{"range":{"start":{"line":0,"character":1},"end":{"line":0,"character":1}},"text":" (define x 2)"}]}}"#;
-const ASK: &str = r#"{"jsonrpc":"2.0","id":2,"method":"scheme/arrows","params":{"textDocument":{"uri":"file:///a.scm"}}}"#;
+
+const OPEN: &str =
+    r#"{"jsonrpc":"2.0","method":"textDocument/didOpen","params":{"textDocument":{"uri":"file:///a.scm","version":1,"text":"(define x 1) x"}}}"#;
+
+const CHANGE: &str =
+    r#"{"jsonrpc":"2.0","method":"textDocument/didChange","params":{"textDocument":{"uri":"file:///a.scm","version":2},"contentChanges":[{"text":"x"},{"range":{"start":{"line":0,"character":1},"end":{"line":0,"character":1}},"text":" (define x 2)"}]}}"#;
+
+const ASK: &str =
+    r#"{"jsonrpc":"2.0","id":2,"method":"scheme/arrows","params":{"textDocument":{"uri":"file:///a.scm"}}}"#;
 
 const EARLY_REPLY: &str =
     r#"{"error":{"code":-32002,"message":"server not initialized"},"id":1,"jsonrpc":"2.0"}"#;
-const INITIALIZE_REPLY: &str = r#"{"id":1,"jsonrpc":"2.0","result":{"capabilities":{"definitionProvider":true,"documentHighlightProvider":true,"positionEncoding":"utf-16","referencesProvider":true,"renameProvider":true,"textDocumentSync":{"change":2,"openClose":true}},"serverInfo":{"name":"scheme_ls"}}}"#;
+
+const INITIALIZE_REPLY: &str =
+    r#"{"id":1,"jsonrpc":"2.0","result":{"capabilities":{"definitionProvider":true,"documentHighlightProvider":true,"positionEncoding":"utf-16","referencesProvider":true,"renameProvider":true,"textDocumentSync":{"change":2,"openClose":true}},"serverInfo":{"name":"scheme_ls"}}}"#;
+
 const SHUTDOWN_REPLY: &str = r#"{"id":2,"jsonrpc":"2.0","result":null}"#;
+
 const SHUTDOWN_AGAIN_REPLY: &str =
     r#"{"error":{"code":-32600,"message":"invalid request"},"id":3,"jsonrpc":"2.0"}"#;
-const ARROWS: &str = r#"{"id":2,"jsonrpc":"2.0","result":[{"from":{"range":{"end":{"character":9,"line":0},"start":{"character":8,"line":0}},"uri":"file:///a.scm"},"to":{"range":{"end":{"character":14,"line":0},"start":{"character":13,"line":0}},"uri":"file:///a.scm"}}]}"#;
-const ARROWS_CHANGED: &str = r#"{"id":2,"jsonrpc":"2.0","result":[{"from":{"range":{"end":{"character":11,"line":0},"start":{"character":10,"line":0}},"uri":"file:///a.scm"},"to":{"range":{"end":{"character":1,"line":0},"start":{"character":0,"line":0}},"uri":"file:///a.scm"}}]}"#;
+
+const ARROWS: &str =
+    r#"{"id":2,"jsonrpc":"2.0","result":[{"from":{"range":{"end":{"character":9,"line":0},"start":{"character":8,"line":0}},"uri":"file:///a.scm"},"to":{"range":{"end":{"character":14,"line":0},"start":{"character":13,"line":0}},"uri":"file:///a.scm"}}]}"#;
+
+const ARROWS_CHANGED: &str =
+    r#"{"id":2,"jsonrpc":"2.0","result":[{"from":{"range":{"end":{"character":11,"line":0},"start":{"character":10,"line":0}},"uri":"file:///a.scm"},"to":{"range":{"end":{"character":1,"line":0},"start":{"character":0,"line":0}},"uri":"file:///a.scm"}}]}"#;
+
 const NO_ARROWS: &str = r#"{"id":2,"jsonrpc":"2.0","result":[]}"#;
 
 /// A session from `initialize` to `exit`, with a request before it and one after `shutdown`.
 const SESSION: [&str; 5] = [EARLY, INITIALIZE, SHUTDOWN, SHUTDOWN_AGAIN, EXIT];
+
 const REPLIES: [&str; 4] = [
     EARLY_REPLY,
     INITIALIZE_REPLY,
@@ -60,11 +80,7 @@ fn sessions_and_their_replies(rt: HostRuntime) -> Result<(), Fail> {
             1,
             &[INITIALIZE_REPLY, ARROWS_CHANGED],
         ),
-        (
-            &[INITIALIZE, ASK, EXIT],
-            1,
-            &[INITIALIZE_REPLY, NO_ARROWS],
-        ),
+        (&[INITIALIZE, ASK, EXIT], 1, &[INITIALIZE_REPLY, NO_ARROWS]),
         (
             &[INITIALIZE, SHUTDOWN, EXIT, ASK],
             0,

@@ -22,7 +22,7 @@ loop-body-preserved g c =
     let mid = sink_seen (g.O.Sink.taken c.loop-body.output) (g.O.Sink.faults c.loop-body.output) in
     let new = sink_seen (g.O.Sink.taken c.answer_body.new.output) (g.O.Sink.faults c.answer_body.new.output) in
     let now = subst (λ (rest : List (Vec ℕ Global)). AnsweredSoFar c.args.session.now (contents all) (contents rest) c.loop-body.session old mid)
-        (at_item all i c.body-item.result c.loop-body-test.true c.body-item.is) c.loop-body.invariant.answered in
+    (at_item all i c.body-item.result c.loop-body-test.true c.body-item.is) c.loop-body.invariant.answered in
     let one = subst (λ (body : List ℕ). AnswersBodies c.loop-body.session (body ∷ []) c.answer_body.new.session mid new) c.deref.ensures.value c.in_ok-answer_body.ensures.answers in
     record {
       answered = so_far_more _ _ _ (contents all) (contents (drop (i + 1) all)) c.body-item.result.items old mid new now one;
@@ -37,7 +37,7 @@ returns-in_err-answer_body-clause-answers g c =
     let mid = sink_seen (g.O.Sink.taken c.loop-body.output) (g.O.Sink.faults c.loop-body.output) in
     let new = sink_seen (g.O.Sink.taken c.answer_body.new.output) (g.O.Sink.faults c.answer_body.new.output) in
     let now = subst (λ (rest : List (Vec ℕ Global)). AnsweredSoFar c.args.session.now (contents all) (contents rest) c.loop-body.session old mid)
-        (at_item all i c.body-item.result c.loop-body-test.true c.body-item.is) c.loop-body.invariant.answered in
+    (at_item all i c.body-item.result c.loop-body-test.true c.body-item.is) c.loop-body.invariant.answered in
     let status = c.in_err-answer_body.field-0.0 in
     let one = subst (λ (body : List ℕ). StopsAs c.loop-body.session (body ∷ []) mid new status) c.deref.ensures.value c.in_err-answer_body.ensures.answers in
     let p = err_from_is_err_and c.from_residual.result c.from_residual.ensures.1 in

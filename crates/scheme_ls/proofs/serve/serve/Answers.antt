@@ -12,11 +12,11 @@ returns-in_default-clause-serves g c = nothing_served _
 
 pub loop-taken-init : goal.loop-taken-init
 loop-taken-init g c = record {
-    going = going_first _ (serving c.new-deframer.result c.in-Ok.session) 1099511627776 [] c.new-deframer.ensures.start c.new-deframer.ensures.end c.in-Ok.ensures;
-    few = omega arith;
-    wide = refl;
-    same = refl;
-  }
+  going = going_first _ (serving c.new-deframer.result c.in-Ok.session) 1099511627776 [] c.new-deframer.ensures.start c.new-deframer.ensures.end c.in-Ok.ensures;
+  few = omega arith;
+  wide = refl;
+  same = refl;
+}
 
 -- the room that a read has is filled to its end
 filled : (all buffer : List ℕ) (room left : ℕ) → length all ≡ 65536 → room ≡ min 65536 left → length buffer ≡ length (take room all) → length buffer ≡ room

@@ -31,7 +31,7 @@ returns-in_err-answer_bodies-in-Ok-clause-takes g c =
     let stops = subst (λ (bodies : List (Vec ℕ Global)). StopsAs c.args.self.now.session (contents bodies) seen now status) c.as_slice.ensures c.in_err-answer_bodies-in-Ok.ensures.answers in
     let p = err_from_is_err_and c.from_residual.result c.from_residual.ensures.1 in
     rw (p.1, p.2) (piece_stops (serving c.args.self.now.deframer c.args.self.now.session) (serving c.feed.new.self c.answer_bodies.new.session) c.args.piece.now
-      (contents c.in-Ok.bodies) seen now status c.in-Ok.ensures.reading stops)
+    (contents c.in-Ok.bodies) seen now status c.in-Ok.ensures.reading stops)
 
 pub returns-in_ok-answer_bodies-in-Err-At-clause-takes : goal.returns-in_ok-answer_bodies-in-Err-At-clause-takes
 returns-in_ok-answer_bodies-in-Err-At-clause-takes g c =
@@ -57,4 +57,4 @@ returns-in_err-answer_bodies-in-Err-At-clause-takes g c =
     let stops = subst (λ (bodies : List (Vec ℕ Global)). StopsAs c.args.self.now.session (contents bodies) seen now status) c.as_slice-in-Err-At.ensures c.in_err-answer_bodies-in-Err-At.ensures.answers in
     let p = err_from_is_err_and c.from_residual-in_err-answer_bodies-in-Err-At.result c.from_residual-in_err-answer_bodies-in-Err-At.ensures.1 in
     rw (p.1, p.2) (piece_stops (serving c.args.self.now.deframer c.args.self.now.session) (serving c.feed.new.self c.answer_bodies-in-Err-At.new.session) c.args.piece.now
-      (contents c.in-Err-At.done) seen now status feeds stops)
+    (contents c.in-Err-At.done) seen now status feeds stops)
