@@ -1,0 +1,87 @@
+//! Gaps between tokens (R7RS 2.2, 7.1.1).
+ghost use Rattle.std.specs.Prelude.{◌≡◌, ◌≤◌, ℕ, List, Ok, Err, MatchResult, IfSome, IfNone, IfOk, length};
+ghost use Rattle.std.specs.Str.{chars};
+ghost use Rattle.scheme_tokens.specs.Gaps.{between, line, block, behind_gap};
+
+use crate::character::is_line_end;
+use ls_base::split_char;
+
+/// The text behind a line comment.
+fn skip_line(text: &str) -> &str
+    ensures rest { behind_gap line (chars text.now) ≡ behind_gap between (chars result.now) }
+    ensures within { length result.now ≤ length text.now }
+{
+    let mut rest = text;
+    while let Some((c, more)) = split_char(rest) {
+        rest = more;
+        if is_line_end(c) {
+            break;
+        }
+    }
+    rest
+}
+
+/// The text behind a block comment, whose opening mark stands before the text.
+fn skip_block(text: &str) -> Option<&str>
+    ensures some { IfSome result (λ rest. (start : List ℕ) →
+        behind_gap (block start 0) (chars text.now) ≡ behind_gap between (chars rest.now)) }
+    ensures none { IfNone result ((start : List ℕ) → behind_gap (block start 0) (chars text.now) ≡ Err start) }
+    ensures within { IfSome result (λ rest. length rest.now ≤ length text.now) }
+{
+    let mut rest = text;
+    let mut outer = 0usize;
+    while let Some((c, more)) = split_char(rest) {
+        let (d, behind) = split_char(more)?;
+        if c == '#' && d == '|' {
+            outer += 1;
+            rest = behind;
+        } else if c == '|' && d == '#' {
+            if outer == 0 {
+                return Some(behind);
+            }
+            outer -= 1;
+            rest = behind;
+        } else {
+            rest = more;
+        }
+    }
+    None
+}
+
+/// The text behind the opening mark of a block comment.
+fn behind_opening(text: &str) -> Option<&str> {
+    let (c, more) = split_char(text)?;
+    let (d, behind) = split_char(more)?;
+    if c == '#' && d == '|' {
+        Some(behind)
+    } else {
+        None
+    }
+}
+
+/// The text behind the gap at its front, or the text from a block comment on that nothing closes.
+pub fn skip_gap(text: &str) -> Result<&str, &str>
+    ensures gap { MatchResult result
+        (λ rest. behind_gap between (chars text.now) ≡ Ok (chars rest.now))
+        (λ start. behind_gap between (chars text.now) ≡ Err (chars start.now)) }
+    ensures within { MatchResult result (λ rest. length rest.now ≤ length text.now)
+        (λ start. length start.now ≤ length text.now) }
+{
+    let mut rest = text;
+    while let Some((c, more)) = split_char(rest) {
+        if c.is_whitespace() {
+            rest = more;
+        } else if c == ';' {
+            rest = skip_line(more);
+        } else {
+            let Some(body) = behind_opening(rest) else {
+                return Ok(rest);
+            };
+            let Some(behind) = skip_block(body) else {
+                return Err(rest);
+            };
+            rest = behind;
+        }
+    }
+    Ok(rest)
+}

@@ -1,0 +1,159 @@
+//! What stands between quotation marks or bars (R7RS 7.1.1, string element and symbol element).
+ghost use Rattle.std.specs.Prelude.{◌≡◌, ◌≤◌, ◌<◌, Some, None, IfOk, length, option_to_list};
+ghost use Rattle.std.specs.Str.{chars};
+ghost use Rattle.std.specs.String.{string_bytes};
+ghost use Rattle.scheme_tokens.specs.Quoted.{open_at, escaped, hex_value, is_hex_scalar, hex_end, behind_line_end, fold_end, letter, escape, element, quoted};
+ghost use Rattle.scheme_tokens.specs.Views.{fault_of, Gives, Is};
+
+use crate::character::{Class, is_blank, is_line_end};
+use crate::fault::{Fault, ScanFault};
+use crate::word::split_front;
+use ls_base::split_char;
+use std::alloc::Global;
+
+/// Why a text that ends before this mark isn't read.
+fn open_at(close: char) -> Fault
+    ensures { fault_of result ≡ open_at close }
+{
+    if close == '"' {
+        Fault::OpenString
+    } else {
+        Fault::OpenBar
+    }
+}
+
+/// What a letter behind a backslash means.
+fn escaped(c: char) -> Option<char>
+    ensures { result ≡ escaped c }
+{
+    match c {
+        'a' => Some('\u{7}'),
+        'b' => Some('\u{8}'),
+        't' => Some('\t'),
+        'n' => Some('\n'),
+        'r' => Some('\r'),
+        '"' | '\\' | '|' => Some(c),
+        _ => None,
+    }
+}
+
+/// The number that hex digits write, or some number past the last character.
+fn hex_value(digits: &str) -> u32 {
+    let mut value = 0u32;
+    for digit in digits.chars() {
+        if value < 0x11_0000 {
+            value = 16 * value + digit.to_digit(16).unwrap_or(0);
+        }
+    }
+    value
+}
+
+/// The character whose code these hex digits write, where they are some and write one.
+pub fn hex_char(digits: &str) -> Option<char> {
+    if digits.is_empty() {
+        return None;
+    }
+    char::from_u32(hex_value(digits))
+}
+
+/// An escape's end behind its hex digits.
+fn hex_end<'a>(close: char, digits: &str, rest: &'a str) -> Result<(Option<char>, &'a str), Fault>
+    ensures gives { Is (λ x. (option_to_list x.0, chars x.1.now)) result (hex_end close (chars digits.now) (chars rest.now)) }
+    ensures within { IfOk result (λ x. length x.1.now ≤ length rest.now) }
+{
+    let Some((c, more)) = split_char(rest) else {
+        return Err(open_at(close));
+    };
+    match hex_char(digits) {
+        Some(value) if c == ';' => Ok((Some(value), more)),
+        Some(_) | None => Err(Fault::BadToken),
+    }
+}
+
+/// The text behind a line end, whose first character stands before the text.
+fn behind_line_end(c: char, text: &str) -> &str
+    ensures rest { chars result.now ≡ behind_line_end c (chars text.now) }
+    ensures within { length result.now ≤ length text.now }
+{
+    match split_char(text) {
+        Some((d, rest)) if c == '\r' && d == '\n' => rest,
+        Some(_) | None => text,
+    }
+}
+
+/// A folded line end, behind its backslash and blanks.
+fn fold_end(close: char, text: &str) -> Result<(Option<char>, &str), Fault>
+    ensures gives { Is (λ x. (option_to_list x.0, chars x.1.now)) result (fold_end close (chars text.now)) }
+    ensures within { IfOk result (λ x. length x.1.now ≤ length text.now) }
+{
+    let Some((c, rest)) = split_char(text) else {
+        return Err(open_at(close));
+    };
+    if is_line_end(c) {
+        let (_, behind) = split_front(behind_line_end(c, rest), Class::Blank);
+        Ok((None, behind))
+    } else {
+        Err(Fault::BadToken)
+    }
+}
+
+/// An escape, behind its backslash: what it means, and the text behind it.
+#[tactic(auto, unfolding(crate::specs::Quoted::escape))]
+fn escape(close: char, text: &str) -> Result<(Option<char>, &str), Fault>
+    ensures gives { Is (λ x. (option_to_list x.0, chars x.1.now)) result (escape close (chars text.now)) }
+    ensures within { IfOk result (λ x. length x.1.now ≤ length text.now) }
+{
+    let Some((c, rest)) = split_char(text) else {
+        return Err(open_at(close));
+    };
+    if c == 'x' || c == 'X' {
+        let (digits, behind) = split_front(rest, Class::HexDigit);
+        hex_end(close, digits, behind)
+    } else if close == '"' && (is_blank(c) || is_line_end(c)) {
+        let (_, behind) = split_front(text, Class::Blank);
+        fold_end(close, behind)
+    } else {
+        match escaped(c) {
+            Some(value) => Ok((Some(value), rest)),
+            None => Err(Fault::BadToken),
+        }
+    }
+}
+
+/// One element, whose first character is given: what it means, and the text behind it.
+#[tactic(auto, unfolding(crate::specs::Quoted::element))]
+fn element(close: char, c: char, rest: &str) -> Result<(Option<char>, &str), Fault>
+    ensures gives { Is (λ x. (option_to_list x.0, chars x.1.now)) result (element close c (chars rest.now)) }
+    ensures within { IfOk result (λ x. length x.1.now ≤ length rest.now) }
+{
+    if c == '\\' {
+        escape(close, rest)
+    } else if close == '"' && is_line_end(c) {
+        Ok((Some('\n'), behind_line_end(c, rest)))
+    } else {
+        Ok((Some(c), rest))
+    }
+}
+
+/// What is meant up to the mark that closes, and the text behind it.
+pub fn quoted(alloc: Global, close: char, text: &str) -> Result<(String, &str), ScanFault>
+    ensures gives { Gives (λ x. (chars (string_bytes x.0), chars x.1.now)) result (quoted close (chars text.now)) }
+    ensures within { IfOk result (λ x. length x.1.now ≤ length text.now) }
+{
+    let mut value = String::new(alloc);
+    let mut rest = text;
+    while let Some((c, more)) = split_char(rest) {
+        if c == close {
+            return Ok((value, more));
+        }
+        match element(close, c, more) {
+            Ok((Some(meant), behind)) => {
+                value.push(meant)?;
+                rest = behind;
+            }
+            Ok((None, behind)) => rest = behind,
+            Err(fault) => return Err(ScanFault::Fault(fault)),
+        }
+    }
+    Err(ScanFault::Fault(open_at(close)))
+}
