@@ -1,10 +1,22 @@
 //! Gaps between tokens (R7RS 2.2, 7.1.1).
-ghost use Rattle.std.specs.Prelude.{◌≡◌, ◌≤◌, ℕ, List, Ok, Err, MatchResult, IfSome, IfNone, IfOk, length};
+ghost use Rattle.std.specs.Prelude.{◌≡◌, ◌≤◌, ◌<◌, ◌∷◌, true, false, ℕ, List, Ok, Err, MatchResult, IfSome, IfNone, length};
 ghost use Rattle.std.specs.Str.{chars};
-ghost use Rattle.scheme_tokens.specs.Gaps.{between, line, block, behind_gap};
+ghost use Rattle.scheme_tokens.specs.Gaps.{between, line, block, opens, closes, behind_gap};
 
 use crate::character::is_line_end;
-use ls_base::split_char;
+use crate::front::split_first;
+
+fn opens(c: char, d: char) -> bool
+    ensures { result ≡ opens c d }
+{
+    c == '#' && d == '|'
+}
+
+fn closes(c: char, d: char) -> bool
+    ensures { result ≡ closes c d }
+{
+    c == '|' && d == '#'
+}
 
 /// The text behind a line comment.
 fn skip_line(text: &str) -> &str
@@ -12,11 +24,11 @@ fn skip_line(text: &str) -> &str
     ensures within { length result.now ≤ length text.now }
 {
     let mut rest = text;
-    while let Some((c, more)) = split_char(rest) {
-        rest = more;
+    while let Some((c, more)) = split_first(rest) {
         if is_line_end(c) {
-            break;
+            return more;
         }
+        rest = more;
     }
     rest
 }
@@ -30,12 +42,12 @@ fn skip_block(text: &str) -> Option<&str>
 {
     let mut rest = text;
     let mut outer = 0usize;
-    while let Some((c, more)) = split_char(rest) {
-        let (d, behind) = split_char(more)?;
-        if c == '#' && d == '|' {
+    while let Some((c, more)) = split_first(rest) {
+        let (d, behind) = split_first(more)?;
+        if opens(c, d) {
             outer += 1;
             rest = behind;
-        } else if c == '|' && d == '#' {
+        } else if closes(c, d) {
             if outer == 0 {
                 return Some(behind);
             }
@@ -48,15 +60,14 @@ fn skip_block(text: &str) -> Option<&str>
     None
 }
 
-/// The text behind the opening mark of a block comment.
-fn behind_opening(text: &str) -> Option<&str> {
-    let (c, more) = split_char(text)?;
-    let (d, behind) = split_char(more)?;
-    if c == '#' && d == '|' {
-        Some(behind)
-    } else {
-        None
-    }
+/// The text behind the opening mark of a block comment, of which the first character is given.
+fn behind_opening(c: char, text: &str) -> Option<&str>
+    ensures some { IfSome result (λ body. (d : ℕ) × (chars text.now ≡ d ∷ chars body.now) × (opens c d ≡ true)) }
+    ensures none { IfNone result ((d : ℕ) (cs : List ℕ) → chars text.now ≡ d ∷ cs → opens c d ≡ false) }
+    ensures within { IfSome result (λ body. length body.now < length text.now) }
+{
+    let (d, body) = split_first(text)?;
+    if opens(c, d) { Some(body) } else { None }
 }
 
 /// The text behind the gap at its front, or the text from a block comment on that nothing closes.
@@ -68,13 +79,13 @@ pub fn skip_gap(text: &str) -> Result<&str, &str>
         (λ start. length start.now ≤ length text.now) }
 {
     let mut rest = text;
-    while let Some((c, more)) = split_char(rest) {
+    while let Some((c, more)) = split_first(rest) {
         if c.is_whitespace() {
             rest = more;
         } else if c == ';' {
             rest = skip_line(more);
         } else {
-            let Some(body) = behind_opening(rest) else {
+            let Some(body) = behind_opening(c, more) else {
                 return Ok(rest);
             };
             let Some(behind) = skip_block(body) else {

@@ -3,6 +3,7 @@
 
 mod character;
 pub mod fault;
+mod front;
 mod gap;
 mod name;
 mod quoted;

@@ -7,8 +7,7 @@ ghost use Rattle.scheme_tokens.specs.Views.{fault_of, Gives, Is};
 
 use crate::character::{Class, is_blank, is_line_end};
 use crate::fault::{Fault, ScanFault};
-use crate::word::split_front;
-use ls_base::split_char;
+use crate::front::{skip, split_first, split_front};
 use std::alloc::Global;
 
 /// Why a text that ends before this mark isn't read.
@@ -61,7 +60,7 @@ fn hex_end<'a>(close: char, digits: &str, rest: &'a str) -> Result<(Option<char>
     ensures gives { Is (λ x. (option_to_list x.0, chars x.1.now)) result (hex_end close (chars digits.now) (chars rest.now)) }
     ensures within { IfOk result (λ x. length x.1.now ≤ length rest.now) }
 {
-    let Some((c, more)) = split_char(rest) else {
+    let Some((c, more)) = split_first(rest) else {
         return Err(open_at(close));
     };
     match hex_char(digits) {
@@ -75,10 +74,10 @@ fn behind_line_end(c: char, text: &str) -> &str
     ensures rest { chars result.now ≡ behind_line_end c (chars text.now) }
     ensures within { length result.now ≤ length text.now }
 {
-    match split_char(text) {
-        Some((d, rest)) if c == '\r' && d == '\n' => rest,
-        Some(_) | None => text,
-    }
+    let Some((d, rest)) = split_first(text) else {
+        return text;
+    };
+    if c == '\r' && d == '\n' { rest } else { text }
 }
 
 /// A folded line end, behind its backslash and blanks.
@@ -86,12 +85,11 @@ fn fold_end(close: char, text: &str) -> Result<(Option<char>, &str), Fault>
     ensures gives { Is (λ x. (option_to_list x.0, chars x.1.now)) result (fold_end close (chars text.now)) }
     ensures within { IfOk result (λ x. length x.1.now ≤ length text.now) }
 {
-    let Some((c, rest)) = split_char(text) else {
+    let Some((c, rest)) = split_first(text) else {
         return Err(open_at(close));
     };
     if is_line_end(c) {
-        let (_, behind) = split_front(behind_line_end(c, rest), Class::Blank);
-        Ok((None, behind))
+        Ok((None, skip(behind_line_end(c, rest), Class::Blank)))
     } else {
         Err(Fault::BadToken)
     }
@@ -103,15 +101,16 @@ fn escape(close: char, text: &str) -> Result<(Option<char>, &str), Fault>
     ensures gives { Is (λ x. (option_to_list x.0, chars x.1.now)) result (escape close (chars text.now)) }
     ensures within { IfOk result (λ x. length x.1.now ≤ length text.now) }
 {
-    let Some((c, rest)) = split_char(text) else {
+    let Some((c, rest)) = split_first(text) else {
         return Err(open_at(close));
     };
     if c == 'x' || c == 'X' {
         let (digits, behind) = split_front(rest, Class::HexDigit);
-        hex_end(close, digits, behind)
+        let (meant, behind) = hex_end(close, digits, behind)?;
+        Ok((meant, behind))
     } else if close == '"' && (is_blank(c) || is_line_end(c)) {
-        let (_, behind) = split_front(text, Class::Blank);
-        fold_end(close, behind)
+        let (meant, behind) = fold_end(close, skip(text, Class::Blank))?;
+        Ok((meant, behind))
     } else {
         match escaped(c) {
             Some(value) => Ok((Some(value), rest)),
@@ -127,7 +126,8 @@ fn element(close: char, c: char, rest: &str) -> Result<(Option<char>, &str), Fau
     ensures within { IfOk result (λ x. length x.1.now ≤ length rest.now) }
 {
     if c == '\\' {
-        escape(close, rest)
+        let (meant, behind) = escape(close, rest)?;
+        Ok((meant, behind))
     } else if close == '"' && is_line_end(c) {
         Ok((Some('\n'), behind_line_end(c, rest)))
     } else {
@@ -142,7 +142,7 @@ pub fn quoted(alloc: Global, close: char, text: &str) -> Result<(String, &str), 
 {
     let mut value = String::new(alloc);
     let mut rest = text;
-    while let Some((c, more)) = split_char(rest) {
+    while let Some((c, more)) = split_first(rest) {
         if c == close {
             return Ok((value, more));
         }

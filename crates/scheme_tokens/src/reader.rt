@@ -3,16 +3,16 @@ ghost use Rattle.std.specs.Prelude.{◌≡◌, ◌^◌, ◌<◌, ◌≤◌, leng
 
 use crate::character::Class;
 use crate::fault::{Fault, ReadFault, ScanFault};
+use crate::front::{skip, split_first};
 use crate::gap::skip_gap;
 use crate::scan::token;
 use crate::token::Token;
-use crate::word::split_front;
-use ls_base::{Items, Span, split_char};
+use ls_base::{Items, Span};
 use std::alloc::Global;
 
 /// The text behind its first character.
 fn behind_first(text: &str) -> &str {
-    match split_char(text) {
+    match split_first(text) {
         Some((_, rest)) => rest,
         None => text,
     }
@@ -24,8 +24,7 @@ fn behind_fault(fault: Fault, text: &str) -> &str {
         Fault::OpenString | Fault::OpenBar => behind_first(text),
         Fault::OpenComment => behind_first(behind_first(text)),
         Fault::BadToken | Fault::Label | Fault::Directive => {
-            let (_, rest) = split_front(behind_first(text), Class::Inside);
-            rest
+            skip(behind_first(text), Class::Inside)
         }
     }
 }
@@ -76,7 +75,7 @@ fn next(alloc: Global, size: usize, text: &str) -> Result<Option<(Token, &str)>,
 
 /// The text behind a byte order mark.
 fn behind_mark(text: &str) -> &str {
-    match split_char(text) {
+    match split_first(text) {
         Some(('\u{FEFF}', rest)) => rest,
         Some(_) | None => text,
     }

@@ -7,10 +7,11 @@ ghost use Rattle.scheme_tokens.specs.Views.{kind_of, Gives};
 
 use crate::character::Class;
 use crate::fault::{Fault, ScanFault};
+use crate::front::{split_first, split_front};
 use crate::quoted::{hex_char, quoted};
 use crate::token::TokenKind;
-use crate::word::{all_hex_digits, is_identifier, is_numeral, is_text, spells, split_front};
-use ls_base::{Text, split_char};
+use crate::word::{all_hex_digits, is_identifier, is_numeral, is_text, spells};
+use ls_base::Text;
 use std::alloc::Global;
 
 /// A word that begins with no `#`.
@@ -99,7 +100,7 @@ fn character_token(text: &str) -> Result<(TokenKind, &str), ScanFault>
     ensures gives { Gives (λ x. (kind_of x.0, chars x.1.now)) result (behind_hash_slash (chars text.now)) }
     ensures within { IfOk result (λ x. length x.1.now ≤ length text.now) }
 {
-    let Some((first, rest)) = split_char(text) else {
+    let Some((first, rest)) = split_first(text) else {
         return Err(ScanFault::Fault(Fault::BadToken));
     };
     let (word, behind) = split_front(rest, Class::Inside);
@@ -111,7 +112,7 @@ fn character_token(text: &str) -> Result<(TokenKind, &str), ScanFault>
 
 /// The text behind the parenthesis that opens a bytevector, where a word and what follows it do.
 fn behind_bytes<'a>(word: &str, rest: &'a str) -> Option<&'a str> {
-    let (c, behind) = split_char(rest)?;
+    let (c, behind) = split_first(rest)?;
     if c == '(' && spells(word, b"#u8") {
         Some(behind)
     } else {
@@ -143,7 +144,7 @@ fn hash_token<'a>(
     text: &'a str,
     behind: &'a str,
 ) -> Result<(TokenKind, &'a str), ScanFault> {
-    let Some((c, rest)) = split_char(behind) else {
+    let Some((c, rest)) = split_first(behind) else {
         return Err(ScanFault::Fault(Fault::BadToken));
     };
     match c {
@@ -161,7 +162,7 @@ fn hash_token<'a>(
 
 /// What begins with `,`, given what follows it.
 fn unquote_token(text: &str) -> (TokenKind, &str) {
-    match split_char(text) {
+    match split_first(text) {
         Some(('@', rest)) => (TokenKind::Splice, rest),
         Some(_) | None => (TokenKind::Unquote, text),
     }
@@ -200,7 +201,7 @@ pub fn token(alloc: Global, text: &str) -> Result<(TokenKind, &str), ScanFault>
     ensures gives { Gives (λ x. (kind_of x.0, chars x.1.now)) result (token (chars text.now)) }
     ensures within { IfOk result (λ x. length x.1.now ≤ length text.now) }
 {
-    let Some((c, rest)) = split_char(text) else {
+    let Some((c, rest)) = split_first(text) else {
         return Err(ScanFault::Fault(Fault::BadToken));
     };
     match c {

@@ -1,29 +1,14 @@
 //! Words: what runs up to a delimiter (R7RS 7.1.1).
-ghost use Rattle.std.specs.Prelude.{◌≡◌, ◌≤◌, length};
+ghost use Rattle.std.specs.Prelude.{◌≡◌};
 ghost use Rattle.std.specs.List.{list_all};
 ghost use Rattle.std.specs.Str.{chars};
 ghost use Rattle.scheme_tokens.specs.Characters.{is_subsequent, is_hex_digit};
-ghost use Rattle.scheme_tokens.specs.Words.{front_of, behind, is_text, begins_with, spells, starts_digit, starts_fraction, is_signed, starts_prefix, is_numeral, goes_on_dot, goes_on_sign, is_identifier};
-ghost use Rattle.scheme_tokens.specs.Views.{test_of};
+ghost use Rattle.scheme_tokens.specs.Words.{is_text, begins_with, spells, starts_digit, starts_fraction, is_signed, starts_prefix, is_numeral, goes_on_dot, goes_on_sign, is_identifier};
 
-use crate::character::{Class, is_dot_subsequent, is_hex_digit, is_initial, is_sign, is_sign_subsequent, is_subsequent};
-use ls_base::split_char;
-
-/// The longest front of a text in a class, and what follows it.
-pub fn split_front(text: &str, class: Class) -> (&str, &str)
-    ensures front { chars result.0.now ≡ front_of (test_of class) (chars text.now) }
-    ensures rest { chars result.1.now ≡ behind (test_of class) (chars text.now) }
-    ensures within { length result.1.now ≤ length text.now }
-{
-    let mut rest = text;
-    while let Some((c, more)) = split_char(rest) {
-        if !class.contains(c) {
-            break;
-        }
-        rest = more;
-    }
-    (&text[..text.len() - rest.len()], rest)
-}
+use crate::character::{
+    is_dot_subsequent, is_hex_digit, is_initial, is_sign, is_sign_subsequent, is_subsequent,
+};
+use crate::front::split_first;
 
 /// Whether a text is these ASCII characters.
 pub fn is_text(text: &str, letters: &[u8]) -> bool
@@ -31,7 +16,7 @@ pub fn is_text(text: &str, letters: &[u8]) -> bool
 {
     let mut rest = text;
     for letter in letters {
-        let Some((c, more)) = split_char(rest) else {
+        let Some((c, more)) = split_first(rest) else {
             return false;
         };
         if c != *letter as char {
@@ -48,7 +33,7 @@ fn begins_with(text: &str, letters: &[u8]) -> bool
 {
     let mut rest = text;
     for letter in letters {
-        let Some((c, more)) = split_char(rest) else {
+        let Some((c, more)) = split_first(rest) else {
             return false;
         };
         if c.to_ascii_lowercase() != *letter as char {
@@ -65,7 +50,7 @@ pub fn spells(text: &str, letters: &[u8]) -> bool
 {
     let mut rest = text;
     for letter in letters {
-        let Some((c, more)) = split_char(rest) else {
+        let Some((c, more)) = split_first(rest) else {
             return false;
         };
         if c.to_ascii_lowercase() != *letter as char {
@@ -79,7 +64,7 @@ pub fn spells(text: &str, letters: &[u8]) -> bool
 fn starts_digit(text: &str) -> bool
     ensures { result ≡ starts_digit (chars text.now) }
 {
-    match split_char(text) {
+    match split_first(text) {
         None => false,
         Some((c, _)) => c.is_ascii_digit(),
     }
@@ -89,7 +74,7 @@ fn starts_digit(text: &str) -> bool
 fn starts_fraction(text: &str) -> bool
     ensures { result ≡ starts_fraction (chars text.now) }
 {
-    match split_char(text) {
+    match split_first(text) {
         None => false,
         Some((c, rest)) => c == '.' && starts_digit(rest),
     }
@@ -110,7 +95,7 @@ fn is_signed(text: &str) -> bool
 fn starts_prefix(text: &str) -> bool
     ensures { result ≡ starts_prefix (chars text.now) }
 {
-    match split_char(text) {
+    match split_first(text) {
         None => false,
         Some((c, _)) => {
             let c = c.to_ascii_lowercase();
@@ -124,7 +109,7 @@ fn starts_prefix(text: &str) -> bool
 pub fn is_numeral(word: &str) -> bool
     ensures { result ≡ is_numeral (chars word.now) }
 {
-    let Some((c, rest)) = split_char(word) else {
+    let Some((c, rest)) = split_first(word) else {
         return false;
     };
     if is_sign(c) {
@@ -155,7 +140,7 @@ pub fn all_hex_digits(text: &str) -> bool
 fn goes_on_dot(text: &str) -> bool
     ensures { result ≡ goes_on_dot (chars text.now) }
 {
-    match split_char(text) {
+    match split_first(text) {
         None => false,
         Some((c, rest)) => is_dot_subsequent(c) && all_subsequent(rest),
     }
@@ -165,7 +150,7 @@ fn goes_on_dot(text: &str) -> bool
 fn goes_on_sign(text: &str) -> bool
     ensures { result ≡ goes_on_sign (chars text.now) }
 {
-    let Some((c, rest)) = split_char(text) else {
+    let Some((c, rest)) = split_first(text) else {
         return true;
     };
     if c == '.' {
@@ -180,7 +165,7 @@ fn goes_on_sign(text: &str) -> bool
 pub fn is_identifier(word: &str) -> bool
     ensures { result ≡ is_identifier (chars word.now) }
 {
-    let Some((c, rest)) = split_char(word) else {
+    let Some((c, rest)) = split_first(word) else {
         return false;
     };
     if is_sign(c) {
