@@ -1,2 +1,3 @@
 pub mod Fronts
 pub mod GapLaws
+pub mod WordLaws

@@ -1,6 +1,6 @@
 //! Gaps between tokens (R7RS 2.2, 7.1.1).
 ghost use Rattle.std.specs.Prelude.{◌≡◌, ◌≤◌, ◌<◌, ◌∷◌, true, false, ℕ, List, Ok, Err, MatchResult, IfSome, IfNone, length};
-ghost use Rattle.std.specs.Str.{chars};
+ghost use Rattle.std.specs.Str.{chars, IsUtf8};
 ghost use Rattle.scheme_tokens.specs.Gaps.{between, line, block, opens, closes, behind_gap};
 
 use crate::character::is_line_end;
@@ -39,6 +39,7 @@ fn skip_block(text: &str) -> Option<&str>
         behind_gap (block start 0) (chars text.now) ≡ behind_gap between (chars rest.now)) }
     ensures none { IfNone result ((start : List ℕ) → behind_gap (block start 0) (chars text.now) ≡ Err start) }
     ensures within { IfSome result (λ rest. length rest.now ≤ length text.now) }
+    ensures utf8 { IfSome result (λ rest. IsUtf8 rest.now) }
 {
     let mut rest = text;
     let mut outer = 0usize;
@@ -65,6 +66,7 @@ fn behind_opening(c: char, text: &str) -> Option<&str>
     ensures some { IfSome result (λ body. (d : ℕ) × (chars text.now ≡ d ∷ chars body.now) × (opens c d ≡ true)) }
     ensures none { IfNone result ((d : ℕ) (cs : List ℕ) → chars text.now ≡ d ∷ cs → opens c d ≡ false) }
     ensures within { IfSome result (λ body. length body.now < length text.now) }
+    ensures utf8 { IfSome result (λ body. IsUtf8 body.now) }
 {
     let (d, body) = split_first(text)?;
     if opens(c, d) { Some(body) } else { None }
@@ -77,6 +79,7 @@ pub fn skip_gap(text: &str) -> Result<&str, &str>
         (λ start. behind_gap between (chars text.now) ≡ Err (chars start.now)) }
     ensures within { MatchResult result (λ rest. length rest.now ≤ length text.now)
         (λ start. length start.now ≤ length text.now) }
+    ensures utf8 { MatchResult result (λ rest. IsUtf8 rest.now) (λ start. IsUtf8 start.now) }
 {
     let mut rest = text;
     while let Some((c, more)) = split_first(rest) {
