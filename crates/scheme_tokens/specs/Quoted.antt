@@ -1,10 +1,10 @@
 -- What stands between quotation marks or bars (R7RS 7.1.1, string element and symbol element). A reading gives what is
 -- meant and the text behind it, or the first fault.
-use Rattle.std.specs.Prelude.{ℕ, zero, suc, ◌+◌, ◌*◌, Bool, false, ◌&&◌, ◌||◌, ◌==◌, nat_lt, List, [], ◌∷◌, ◌++◌, Option, Some, None, Result, Ok, Err, codes, length, if◌then◌else◌}
+use Rattle.std.specs.Prelude.{ℕ, zero, suc, ◌+◌, ◌*◌, Bool, false, ◌&&◌, ◌||◌, ◌==◌, nat_lt, List, [], ◌∷◌, ◌++◌, Option, Some, None, Result, Ok, Err, if◌then◌else◌}
 use Rattle.std.specs.List.{fold}
 use Rattle.std.specs.Char.{digit_value, to_ascii_lowercase}
 use Rattle.scheme_tokens.specs.Characters.{is_one_of, is_line_end, is_blank, is_hex_digit, is_scalar}
-use Rattle.scheme_tokens.specs.Words.{front_of, behind}
+use Rattle.scheme_tokens.specs.Words.{front_of, behind, byte_count}
 
 -- why no token goes on here
 pub data Fault : Type 0 where
@@ -39,15 +39,20 @@ escaped c =
 abbrev pub hex_value : List ℕ → ℕ
 hex_value digits = fold (λ n c. 16 * n + digit_value c) 0 digits
 
--- hex digits, at least one, that write a character's code
-abbrev pub is_hex_scalar : List ℕ → Bool
-is_hex_scalar [] = false
-is_hex_scalar (d ∷ ds) = is_scalar (hex_value (d ∷ ds))
+-- the character whose code hex digits write, of which there is one at least
+abbrev pub hex_scalar : List ℕ → Option ℕ
+hex_scalar [] = None
+hex_scalar (d ∷ ds) = if is_scalar (hex_value (d ∷ ds)) then Some (hex_value (d ∷ ds)) else None
+
+-- an element that means one character, if any
+abbrev pub letter : Option ℕ → List ℕ → Result (List ℕ × List ℕ) Fault
+letter None rest = Err bad_token
+letter (Some c) rest = Ok (c ∷ [], rest)
 
 -- behind the hex digits of an escape: `;`
 abbrev pub hex_end : ℕ → List ℕ → List ℕ → Result (List ℕ × List ℕ) Fault
 hex_end close digits [] = Err (open_at close)
-hex_end close digits (c ∷ cs) = if c == 59 && is_hex_scalar digits then Ok (hex_value digits ∷ [], cs) else Err bad_token
+hex_end close digits (c ∷ cs) = if c == 59 then letter (hex_scalar digits) cs else Err bad_token
 
 -- a line end, whose first character this is: `\n`, `\r` or both, `\r` first
 abbrev pub behind_line_end : ℕ → List ℕ → List ℕ
@@ -58,10 +63,6 @@ behind_line_end c (d ∷ ds) = if c == 13 && d == 10 then ds else d ∷ ds
 abbrev pub fold_end : ℕ → List ℕ → Result (List ℕ × List ℕ) Fault
 fold_end close [] = Err (open_at close)
 fold_end close (c ∷ cs) = if is_line_end c then Ok ([], behind is_blank (behind_line_end c cs)) else Err bad_token
-
-abbrev pub letter : Option ℕ → List ℕ → Result (List ℕ × List ℕ) Fault
-letter None rest = Err bad_token
-letter (Some c) rest = Ok (c ∷ [], rest)
 
 -- an escape, behind its `\`; lines are folded in strings alone
 unfoldable pub escape : ℕ → List ℕ → Result (List ℕ × List ℕ) Fault
@@ -86,6 +87,6 @@ elements (suc most) close (c ∷ cs) =
     if c == close then Ok ([], cs)
     else (element close c cs >>= λ first. elements most close first.1 >>= λ more. Ok (first.0 ++ more.0, more.1))
 
--- all elements up to the mark that closes; each takes a character at least
+-- all elements up to the mark that closes; each takes a byte at least
 abbrev pub quoted : ℕ → List ℕ → Result (List ℕ × List ℕ) Fault
-quoted close text = elements (length text) close text
+quoted close text = elements (byte_count text) close text

@@ -1,8 +1,7 @@
 -- How a text is read as tokens, with gaps before, between and behind them (R7RS 7.1.1). A text is a list of characters;
 -- places in it count bytes.
-use Rattle.std.specs.Prelude.{◌≡◌, ℕ, ◌-◌, ◌==◌, Bool, List, [], ◌∷◌, Option, Some, None, Result, Ok, Err, sum_by, drop, if◌then◌else◌}
-use Rattle.std.specs.Char.{len_utf8}
-use Rattle.scheme_tokens.specs.Words.{behind_word}
+use Rattle.std.specs.Prelude.{◌≡◌, ℕ, ◌-◌, ◌==◌, Bool, List, [], ◌∷◌, Option, Some, None, Result, Ok, Err, drop, if◌then◌else◌}
+use Rattle.scheme_tokens.specs.Words.{byte_count, behind_word}
 use Rattle.scheme_tokens.specs.Quoted.{Fault, bad_token, open_string, open_bar, open_comment, label, directive}
 use Rattle.scheme_tokens.specs.Gaps.{between, behind_gap}
 use Rattle.scheme_tokens.specs.Tokens.{TokenKind, Atomic, Name, token}
@@ -19,17 +18,13 @@ pub record FaultAt : Type 0 where
   pub start : ℕ
   pub end : ℕ
 
-abbrev pub byte_count : List ℕ → ℕ
-byte_count cs = sum_by len_utf8 cs
-
 -- where the rest of a text of so many bytes begins
 abbrev pub place : ℕ → List ℕ → ℕ
 place size rest = size - byte_count rest
 
 -- behind the first character of a text, up to the next delimiter
 abbrev pub behind_bad : List ℕ → List ℕ
-behind_bad [] = []
-behind_bad (c ∷ cs) = behind_word cs
+behind_bad text = behind_word (drop 1 text)
 
 -- behind the characters that a fault at the front of a text is shown at: the opening mark, or up to a delimiter
 abbrev pub behind_fault : Fault → List ℕ → List ℕ

@@ -4,7 +4,7 @@ use Rattle.std.specs.List.{list_all}
 use Rattle.std.specs.Char.{is_ascii_digit, to_ascii_lowercase}
 use Rattle.scheme_tokens.specs.Characters.{is_hex_digit}
 use Rattle.scheme_tokens.specs.Words.{word_of, behind_word, is_text, spells, is_numeral, is_identifier}
-use Rattle.scheme_tokens.specs.Quoted.{Fault, bad_token, open_string, open_bar, label, directive, ◌>>=◌, hex_value, is_hex_scalar, quoted}
+use Rattle.scheme_tokens.specs.Quoted.{Fault, bad_token, open_string, open_bar, label, directive, ◌>>=◌, hex_scalar, quoted}
 
 -- an atom that one token spells; `bars` tells of a name that it stands between bars
 pub data Leaf : Type 0 where
@@ -62,31 +62,40 @@ named name =
     else if is_text name (codes "tab") then Some 9
     else None
 
+-- the character that is told behind `#\`: by itself, by its code or by its name
+unfoldable pub character_of : ℕ → List ℕ → Option ℕ
+character_of c [] = Some c
+character_of c (d ∷ ds) =
+    if to_ascii_lowercase c == 120 && list_all is_hex_digit (d ∷ ds) then hex_scalar (d ∷ ds)
+    else named (c ∷ d ∷ ds)
+
 abbrev pub character : Option ℕ → Result TokenKind Fault
 character None = Err bad_token
 character (Some c) = Ok (Atomic (Character c))
-
--- behind `#\`: a character, and the word that follows it
-unfoldable pub character_kind : ℕ → List ℕ → Result TokenKind Fault
-character_kind c [] = character (Some c)
-character_kind c (d ∷ ds) =
-    if to_ascii_lowercase c == 120 && (list_all is_hex_digit (d ∷ ds) && is_hex_scalar (d ∷ ds)) then character (Some (hex_value (d ∷ ds)))
-    else character (named (c ∷ d ∷ ds))
 
 -- a kind, with the text behind it
 abbrev pub before : List ℕ → Result TokenKind Fault → Result (TokenKind × List ℕ) Fault
 before rest kind = kind >>= λ k. Ok (k, rest)
 
+-- behind `#\`: a character, and the word that follows it
 abbrev pub behind_hash_slash : List ℕ → Result (TokenKind × List ℕ) Fault
 behind_hash_slash [] = Err bad_token
-behind_hash_slash (c ∷ cs) = before (behind_word cs) (character_kind c (word_of cs))
+behind_hash_slash (c ∷ cs) = before (behind_word cs) (character (character_of c (word_of cs)))
 
--- a bytevector's opening, whose parenthesis delimits the word before it
-abbrev pub bytes_or : List ℕ → List ℕ → Result (TokenKind × List ℕ) Fault
-bytes_or word [] = before [] (hash_kind word)
-bytes_or word (c ∷ cs) = if c == 40 && spells (codes "#u8") word then Ok (BytesParen, cs) else before (c ∷ cs) (hash_kind word)
+-- the text behind a bytevector's opening, whose parenthesis delimits the word before it
+abbrev pub behind_bytes : List ℕ → List ℕ → Option (List ℕ)
+behind_bytes word [] = None
+behind_bytes word (c ∷ cs) = if c == 40 && spells (codes "#u8") word then Some cs else None
 
--- what begins with `#`
+abbrev pub bytes_or : Option (List ℕ) → Result (TokenKind × List ℕ) Fault → Result (TokenKind × List ℕ) Fault
+bytes_or None other = other
+bytes_or (Some rest) other = Ok (BytesParen, rest)
+
+-- a word that begins with `#`, before the rest of the text
+abbrev pub hash_word : List ℕ → List ℕ → Result (TokenKind × List ℕ) Fault
+hash_word word rest = bytes_or (behind_bytes word rest) (before rest (hash_kind word))
+
+-- what begins with `#`, behind it
 unfoldable pub hash_token : List ℕ → Result (TokenKind × List ℕ) Fault
 hash_token [] = Err bad_token
 hash_token (c ∷ cs) =
@@ -95,9 +104,9 @@ hash_token (c ∷ cs) =
     else if c == 92 then behind_hash_slash cs
     else if c == 33 then Err directive
     else if is_ascii_digit c then Err label
-    else bytes_or (35 ∷ word_of (c ∷ cs)) (behind_word (c ∷ cs))
+    else hash_word (word_of (35 ∷ c ∷ cs)) (behind_word (35 ∷ c ∷ cs))
 
--- what begins with `,`
+-- what begins with `,`, behind it
 abbrev pub unquote_token : List ℕ → Result (TokenKind × List ℕ) Fault
 unquote_token [] = Ok (Marked Unquote, [])
 unquote_token (c ∷ cs) = if c == 64 then Ok (Marked Splice, cs) else Ok (Marked Unquote, c ∷ cs)
@@ -107,6 +116,10 @@ string_token text = quoted 34 text >>= λ found. Ok (Atomic (Quoted found.0), fo
 
 abbrev pub bar_token : List ℕ → Result (TokenKind × List ℕ) Fault
 bar_token text = quoted 124 text >>= λ found. Ok (Atomic (Name found.0 true), found.1)
+
+-- any other word
+abbrev pub word_token : List ℕ → Result (TokenKind × List ℕ) Fault
+word_token text = before (behind_word text) (word_kind (word_of text))
 
 -- the token that begins a text, and the text behind it; or why none does
 unfoldable pub token : List ℕ → Result (TokenKind × List ℕ) Fault
@@ -120,4 +133,4 @@ token (c ∷ cs) =
     else if c == 34 then string_token cs
     else if c == 124 then bar_token cs
     else if c == 35 then hash_token cs
-    else before (behind_word (c ∷ cs)) (word_kind (word_of (c ∷ cs)))
+    else word_token (c ∷ cs)

@@ -1,12 +1,13 @@
 -- What the code's values stand for. Its texts are UTF-8.
-use Rattle.std.specs.Prelude.{◌≡◌, ℕ, List, [], ◌∷◌, Option, Some, None, Result, Ok, Err, map, Bool}
+use Rattle.std.specs.Prelude.{◌≡◌, ◌≤◌, ◌⊎◌, ℕ, List, Option, Some, None, Result, Ok, Err, map, Bool}
+use Rattle.std.specs.Borrow.{Bor}
 use Rattle.std.specs.Str.{chars}
-use Rattle.ls_base.specs.declared.memory.Memory.{Memory}
+use Rattle.ls_base.specs.declared.places.Span.{Span}
 use Rattle.scheme_tokens.specs.Characters.{is_hex_digit, is_blank}
 use Rattle.scheme_tokens.specs.Words.{is_inside}
 use Rattle.scheme_tokens.specs.Quoted.{Fault, bad_token, open_string, open_bar, open_comment, label, directive}
 use Rattle.scheme_tokens.specs.Tokens.{TokenKind, Paren, VectorParen, BytesParen, Close, Dot, Skip, Marked, Quote, Quasi, Unquote, Splice, Atomic, Name, Numeral, Quoted, Character, Truth}
-use Rattle.scheme_tokens.specs.Reading.{Token, FaultAt}
+use Rattle.scheme_tokens.specs.Reading.{Token, FaultAt, Next, found, ended, Stops}
 use Rattle.scheme_tokens.specs.declared.fault.Fault as code_fault
 use Rattle.scheme_tokens.specs.declared.fault.Fault.TheVariants as faults
 use Rattle.scheme_tokens.specs.declared.fault.ScanFault as code_scan
@@ -63,6 +64,26 @@ token_of t = record { kind = kind_of t.kind; start = t.span.start; end = t.span.
 
 abbrev pub tokens_of : List code.Token → List Token
 tokens_of ts = map token_of ts
+
+-- a fault as callers are told it
+abbrev pub read_fault : FaultAt → code_read.ReadFault
+read_fault f = reads.At (number_of f.fault) (record { start = f.start; end = f.end })
+
+-- a number up to the last character's is told exactly, and of a greater one that it is greater
+abbrev pub IsCapped : ℕ → ℕ → Type 0
+IsCapped told n = (told ≡ n) ⊎ ((0x11_0000 ≤ told) × (0x11_0000 ≤ n))
+
+-- what comes next, as the code tells it
+abbrev pub IsNext : Result (Option (code.Token × Bor (List ℕ))) code_read.ReadFault → Next → Type 0
+IsNext (Ok None) n = n ≡ ended None
+IsNext (Ok (Some t)) n = n ≡ found (token_of t.0) (chars t.1.now)
+IsNext (Err reads.Memory) n = Unit {0}
+IsNext (Err (reads.At number span)) n = (f : FaultAt) × (n ≡ ended (Some f)) × (reads.At number span ≡ read_fault f)
+
+-- this fault, if it is one, is where the text stops
+abbrev pub Explains : code_read.ReadFault → List ℕ → Type 0
+Explains reads.Memory text = Unit {0}
+Explains (reads.At number span) text = (f : FaultAt) × Stops f text × (reads.At number span ≡ read_fault f)
 
 -- what a function answered, seen by view, is what reading gives, unless memory ran out
 abbrev pub Fails : {Y : Type 0} → code_scan.ScanFault → Result Y Fault → Type 0

@@ -1,8 +1,11 @@
 -- Words: what runs up to a delimiter (R7RS 7.1.1).
-use Rattle.std.specs.Prelude.{ℕ, Bool, true, false, ◌&&◌, ◌||◌, ◌==◌, List, [], ◌∷◌, codes, if◌then◌else◌}
+use Rattle.std.specs.Prelude.{ℕ, Bool, true, false, ◌&&◌, ◌||◌, ◌==◌, List, [], ◌∷◌, codes, sum_by, if◌then◌else◌}
 use Rattle.std.specs.List.{list_all}
-use Rattle.std.specs.Char.{is_ascii_digit, to_ascii_lowercase}
+use Rattle.std.specs.Char.{len_utf8, is_ascii_digit, to_ascii_lowercase}
 use Rattle.scheme_tokens.specs.Characters.{is_one_of, is_delimiter, is_sign, is_initial, is_subsequent, is_sign_subsequent, is_dot_subsequent}
+
+abbrev pub byte_count : List ℕ → ℕ
+byte_count cs = sum_by len_utf8 cs
 
 -- the longest front of characters that pass a test, and what follows it
 abbrev pub front_of : (ℕ → Bool) → List ℕ → List ℕ

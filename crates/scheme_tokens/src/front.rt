@@ -1,5 +1,5 @@
 //! The front of a text: its first character, or its first characters of a class.
-ghost use Rattle.std.specs.Prelude.{◌≡◌, ◌≤◌, ◌<◌, ◌-◌, [], ◌∷◌, IfSome, IfNone, length, drop};
+ghost use Rattle.std.specs.Prelude.{◌≡◌, ◌≤◌, ◌<◌, ◌+◌, ◌-◌, [], ◌∷◌, IfSome, IfNone, length, drop};
 ghost use Rattle.std.specs.Str.{chars, IsUtf8};
 ghost use Rattle.scheme_tokens.specs.Words.{front_of, behind};
 ghost use Rattle.scheme_tokens.specs.Views.{test_of};
@@ -39,7 +39,7 @@ pub fn skip(text: &str, class: Class) -> &str
 pub fn split_front(text: &str, class: Class) -> (&str, &str)
     ensures front { chars result.0.now ≡ front_of (test_of class) (chars text.now) }
     ensures rest { chars result.1.now ≡ behind (test_of class) (chars text.now) }
-    ensures within { length result.1.now ≤ length text.now }
+    ensures sizes { length result.0.now + length result.1.now ≡ length text.now }
 {
     let rest = skip(text, class);
     (&text[..text.len() - rest.len()], rest)

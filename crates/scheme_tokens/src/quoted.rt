@@ -1,13 +1,18 @@
 //! What stands between quotation marks or bars (R7RS 7.1.1, string element and symbol element).
-ghost use Rattle.std.specs.Prelude.{◌≡◌, ◌≤◌, ◌<◌, Some, None, IfOk, length, option_to_list};
+ghost use Rattle.std.specs.Prelude.{◌≡◌, ◌≤◌, ◌+◌, ◌*◌, ◌++◌, [], ◌∷◌, ℕ, true, IfOk, OnOk, length};
+ghost use Rattle.std.specs.Option.{option_to_list};
+ghost use Rattle.std.specs.List.{list_all};
+ghost use Rattle.std.specs.Char.{digit_value};
 ghost use Rattle.std.specs.Str.{chars};
 ghost use Rattle.std.specs.String.{string_bytes};
-ghost use Rattle.scheme_tokens.specs.Quoted.{open_at, escaped, hex_value, is_hex_scalar, hex_end, behind_line_end, fold_end, letter, escape, element, quoted};
-ghost use Rattle.scheme_tokens.specs.Views.{fault_of, Gives, Is};
+ghost use Rattle.scheme_tokens.specs.Characters.{is_hex_digit};
+ghost use Rattle.scheme_tokens.specs.Quoted.{open_at, escaped, hex_value, hex_scalar, hex_end, behind_line_end, fold_end, escape, element, quoted};
+ghost use Rattle.scheme_tokens.specs.Views.{fault_of, IsCapped, Gives, Is};
 
 use crate::character::{Class, is_blank, is_line_end};
 use crate::fault::{Fault, ScanFault};
 use crate::front::{skip, split_first, split_front};
+use ls_base::Mem;
 use std::alloc::Global;
 
 /// Why a text that ends before this mark isn't read.
@@ -36,19 +41,37 @@ fn escaped(c: char) -> Option<char>
     }
 }
 
-/// The number that hex digits write, or some number past the last character.
-fn hex_value(digits: &str) -> u32 {
-    let mut value = 0u32;
-    for digit in digits.chars() {
-        if value < 0x11_0000 {
-            value = 16 * value + digit.to_digit(16).unwrap_or(0);
-        }
+/// A number with a digit more, where it is that of a character or less.
+fn with_digit(value: u32, digit: char) -> u32
+    requires { is_hex_digit digit ≡ true }
+    ensures { (n : ℕ) → IsCapped value n → IsCapped result (16 * n + digit_value digit) }
+{
+    if value < 0x11_0000 {
+        16 * value + digit.to_digit(16).unwrap_or(0)
+    } else {
+        value
+    }
+}
+
+/// The number that hex digits write, or some number past the last character's.
+fn hex_value(digits: &str) -> u32
+    requires { list_all is_hex_digit (chars digits.now) ≡ true }
+    ensures { IsCapped result (hex_value (chars digits.now)) }
+{
+    let mut value = 0;
+    let mut rest = digits;
+    while let Some((digit, more)) = split_first(rest) {
+        value = with_digit(value, digit);
+        rest = more;
     }
     value
 }
 
-/// The character whose code these hex digits write, where they are some and write one.
-pub fn hex_char(digits: &str) -> Option<char> {
+/// The character whose code hex digits write, of which there is one at least.
+pub fn hex_char(digits: &str) -> Option<char>
+    requires { list_all is_hex_digit (chars digits.now) ≡ true }
+    ensures { result ≡ hex_scalar (chars digits.now) }
+{
     if digits.is_empty() {
         return None;
     }
@@ -57,15 +80,19 @@ pub fn hex_char(digits: &str) -> Option<char> {
 
 /// An escape's end behind its hex digits.
 fn hex_end<'a>(close: char, digits: &str, rest: &'a str) -> Result<(Option<char>, &'a str), Fault>
+    requires { list_all is_hex_digit (chars digits.now) ≡ true }
     ensures gives { Is (λ x. (option_to_list x.0, chars x.1.now)) result (hex_end close (chars digits.now) (chars rest.now)) }
     ensures within { IfOk result (λ x. length x.1.now ≤ length rest.now) }
 {
     let Some((c, more)) = split_first(rest) else {
         return Err(open_at(close));
     };
+    if c != ';' {
+        return Err(Fault::BadToken);
+    }
     match hex_char(digits) {
-        Some(value) if c == ';' => Ok((Some(value), more)),
-        Some(_) | None => Err(Fault::BadToken),
+        Some(value) => Ok((Some(value), more)),
+        None => Err(Fault::BadToken),
     }
 }
 
@@ -104,7 +131,7 @@ fn escape(close: char, text: &str) -> Result<(Option<char>, &str), Fault>
     let Some((c, rest)) = split_first(text) else {
         return Err(open_at(close));
     };
-    if c == 'x' || c == 'X' {
+    if c.to_ascii_lowercase() == 'x' {
         let (digits, behind) = split_front(rest, Class::HexDigit);
         let (meant, behind) = hex_end(close, digits, behind)?;
         Ok((meant, behind))
@@ -135,6 +162,24 @@ fn element(close: char, c: char, rest: &str) -> Result<(Option<char>, &str), Fau
     }
 }
 
+/// Adds a character.
+fn push(value: &mut String, c: char) -> Mem<()>
+    ensures { OnOk result (chars (string_bytes value.new) ≡ chars (string_bytes value.old) ++ c ∷ []) }
+{
+    value.push(c)?;
+    Ok(())
+}
+
+/// Adds what an element means.
+fn push_meant(value: &mut String, meant: Option<char>) -> Mem<()>
+    ensures { OnOk result (chars (string_bytes value.new) ≡ chars (string_bytes value.old) ++ option_to_list meant) }
+{
+    if let Some(c) = meant {
+        push(value, c)?;
+    }
+    Ok(())
+}
+
 /// What is meant up to the mark that closes, and the text behind it.
 pub fn quoted(alloc: Global, close: char, text: &str) -> Result<(String, &str), ScanFault>
     ensures gives { Gives (λ x. (chars (string_bytes x.0), chars x.1.now)) result (quoted close (chars text.now)) }
@@ -147,11 +192,10 @@ pub fn quoted(alloc: Global, close: char, text: &str) -> Result<(String, &str), 
             return Ok((value, more));
         }
         match element(close, c, more) {
-            Ok((Some(meant), behind)) => {
-                value.push(meant)?;
+            Ok((meant, behind)) => {
+                push_meant(&mut value, meant)?;
                 rest = behind;
             }
-            Ok((None, behind)) => rest = behind,
             Err(fault) => return Err(ScanFault::Fault(fault)),
         }
     }

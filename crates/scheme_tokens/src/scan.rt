@@ -1,8 +1,11 @@
 //! The token at the front of a text (R7RS 7.1.1).
-ghost use Rattle.std.specs.Prelude.{◌≡◌, ◌≤◌, IfOk, length};
+ghost use Rattle.std.specs.Prelude.{◌≡◌, ◌≤◌, ◌<◌, ◌∷◌, ◌==◌, ◌&&◌, Ok, IfOk, IfSome, option_map, length};
+ghost use Rattle.std.specs.Char.{to_ascii_lowercase};
+ghost use Rattle.std.specs.List.{list_all};
 ghost use Rattle.std.specs.Str.{chars};
+ghost use Rattle.scheme_tokens.specs.Characters.{is_hex_digit};
 ghost use Rattle.scheme_tokens.specs.Words.{is_text};
-ghost use Rattle.scheme_tokens.specs.Tokens.{word_kind, hash_kind, named, character_kind, behind_hash_slash, bytes_or, hash_token, unquote_token, string_token, bar_token, token};
+ghost use Rattle.scheme_tokens.specs.Tokens.{word_kind, hash_kind, named, character_of, behind_hash_slash, behind_bytes, hash_word, hash_token, word_token, unquote_token, string_token, bar_token, token};
 ghost use Rattle.scheme_tokens.specs.Views.{kind_of, Gives};
 
 use crate::character::Class;
@@ -50,7 +53,9 @@ fn hash_kind(alloc: Global, word: &str) -> Result<TokenKind, ScanFault>
 }
 
 /// Whether a character and a word behind it are these ASCII characters.
-fn is_name(first: char, word: &str, letters: &[u8]) -> bool {
+fn is_name(first: char, word: &str, letters: &[u8]) -> bool
+    ensures { result ≡ is_text (first ∷ chars word.now) letters.now }
+{
     match letters {
         [] => false,
         [letter, more @ ..] => first == *letter as char && is_text(word, more),
@@ -58,7 +63,10 @@ fn is_name(first: char, word: &str, letters: &[u8]) -> bool {
 }
 
 /// The character that a name tells, of which the first character is given.
-fn named(first: char, word: &str) -> Option<char> {
+#[tactic(auto, unfolding(crate::specs::Tokens::named))]
+fn named(first: char, word: &str) -> Option<char>
+    ensures { result ≡ named (first ∷ chars word.now) }
+{
     if is_name(first, word, b"alarm") {
         Some('\u{7}')
     } else if is_name(first, word, b"backspace") {
@@ -82,17 +90,25 @@ fn named(first: char, word: &str) -> Option<char> {
     }
 }
 
+/// Whether a character and the word behind it are `x` and hex digits.
+fn tells_code(first: char, word: &str) -> bool
+    ensures { result ≡ (to_ascii_lowercase first == 120 && list_all is_hex_digit (chars word.now)) }
+{
+    first.to_ascii_lowercase() == 'x' && all_hex_digits(word)
+}
+
 /// The character that is told behind `#\` by a first character and the word behind it.
-fn character(first: char, word: &str) -> Option<char> {
+#[tactic(auto, unfolding(crate::specs::Tokens::character_of))]
+fn character(first: char, word: &str) -> Option<char>
+    ensures { result ≡ character_of first (chars word.now) }
+{
     if word.is_empty() {
-        return Some(first);
+        Some(first)
+    } else if tells_code(first, word) {
+        hex_char(word)
+    } else {
+        named(first, word)
     }
-    if (first == 'x' || first == 'X') && all_hex_digits(word) {
-        if let Some(value) = hex_char(word) {
-            return Some(value);
-        }
-    }
-    named(first, word)
 }
 
 /// A character, behind its `#\`.
@@ -111,7 +127,10 @@ fn character_token(text: &str) -> Result<(TokenKind, &str), ScanFault>
 }
 
 /// The text behind the parenthesis that opens a bytevector, where a word and what follows it do.
-fn behind_bytes<'a>(word: &str, rest: &'a str) -> Option<&'a str> {
+fn behind_bytes<'a>(word: &str, rest: &'a str) -> Option<&'a str>
+    ensures gives { option_map (λ behind. chars behind.now) result ≡ behind_bytes (chars word.now) (chars rest.now) }
+    ensures within { IfSome result (λ behind. length behind.now ≤ length rest.now) }
+{
     let (c, behind) = split_first(rest)?;
     if c == '(' && spells(word, b"#u8") {
         Some(behind)
@@ -126,7 +145,7 @@ fn hash_word<'a>(
     word: &str,
     rest: &'a str,
 ) -> Result<(TokenKind, &'a str), ScanFault>
-    ensures gives { Gives (λ x. (kind_of x.0, chars x.1.now)) result (bytes_or (chars word.now) (chars rest.now)) }
+    ensures gives { Gives (λ x. (kind_of x.0, chars x.1.now)) result (hash_word (chars word.now) (chars rest.now)) }
     ensures within { IfOk result (λ x. length x.1.now ≤ length rest.now) }
 {
     if let Some(behind) = behind_bytes(word, rest) {
@@ -139,11 +158,17 @@ fn hash_word<'a>(
 }
 
 /// What begins with `#`, given the text and what follows its `#`.
+#[tactic(auto, unfolding(crate::specs::Tokens::hash_token))]
 fn hash_token<'a>(
     alloc: Global,
     text: &'a str,
     behind: &'a str,
-) -> Result<(TokenKind, &'a str), ScanFault> {
+) -> Result<(TokenKind, &'a str), ScanFault>
+    requires hash { chars text.now ≡ 35 ∷ chars behind.now }
+    requires shorter { length behind.now < length text.now }
+    ensures gives { Gives (λ x. (kind_of x.0, chars x.1.now)) result (hash_token (chars behind.now)) }
+    ensures within { IfOk result (λ x. length x.1.now < length text.now) }
+{
     let Some((c, rest)) = split_first(behind) else {
         return Err(ScanFault::Fault(Fault::BadToken));
     };
@@ -161,10 +186,17 @@ fn hash_token<'a>(
 }
 
 /// What begins with `,`, given what follows it.
-fn unquote_token(text: &str) -> (TokenKind, &str) {
-    match split_first(text) {
-        Some(('@', rest)) => (TokenKind::Splice, rest),
-        Some(_) | None => (TokenKind::Unquote, text),
+fn unquote_token(text: &str) -> (TokenKind, &str)
+    ensures gives { unquote_token (chars text.now) ≡ Ok (kind_of result.0, chars result.1.now) }
+    ensures within { length result.1.now ≤ length text.now }
+{
+    let Some((c, rest)) = split_first(text) else {
+        return (TokenKind::Unquote, text);
+    };
+    if c == '@' {
+        (TokenKind::Splice, rest)
+    } else {
+        (TokenKind::Unquote, text)
     }
 }
 
@@ -188,7 +220,10 @@ fn bar_token(alloc: Global, text: &str) -> Result<(TokenKind, &str), ScanFault>
 }
 
 /// A word that begins with no `#`, and what follows it.
-fn word_token(alloc: Global, text: &str) -> Result<(TokenKind, &str), ScanFault> {
+fn word_token(alloc: Global, text: &str) -> Result<(TokenKind, &str), ScanFault>
+    ensures gives { Gives (λ x. (kind_of x.0, chars x.1.now)) result (word_token (chars text.now)) }
+    ensures within { IfOk result (λ x. length x.1.now < length text.now) }
+{
     let (word, rest) = split_front(text, Class::Inside);
     match word_kind(alloc, word) {
         Ok(kind) => Ok((kind, rest)),
@@ -197,9 +232,10 @@ fn word_token(alloc: Global, text: &str) -> Result<(TokenKind, &str), ScanFault>
 }
 
 /// The token at the front of a text, and the text behind it.
+#[tactic(auto, unfolding(crate::specs::Tokens::token))]
 pub fn token(alloc: Global, text: &str) -> Result<(TokenKind, &str), ScanFault>
     ensures gives { Gives (λ x. (kind_of x.0, chars x.1.now)) result (token (chars text.now)) }
-    ensures within { IfOk result (λ x. length x.1.now ≤ length text.now) }
+    ensures within { IfOk result (λ x. length x.1.now < length text.now) }
 {
     let Some((c, rest)) = split_first(text) else {
         return Err(ScanFault::Fault(Fault::BadToken));

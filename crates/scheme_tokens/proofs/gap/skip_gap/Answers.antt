@@ -32,7 +32,7 @@ returns-in_default-skip_block-clause-gap c =
     let body = c.in-Some-behind_opening.ensures.some in
     sym c.loop-c.invariant.goes
     ∙ sym (between_opens c.in-Some.c body.0 (chars c.loop-c.rest.now) (chars c.in-Some.more.now) (chars c.in-Some-behind_opening.body.now)
-      c.in-Some.ensures.some body.1 (sym c.is_whitespace.ensures ∙ c.if-is_whitespace.false) (ne_eqb c.in-Some.c 59 c.if-c-eq59.false) body.2)
+    c.in-Some.ensures.some body.1 (sym c.is_whitespace.ensures ∙ c.if-is_whitespace.false) (ne_eqb c.in-Some.c 59 c.if-c-eq59.false) body.2)
     ∙ c.in_default-skip_block.ensures.none (chars c.loop-c.rest.now)
 
 pub loop-c-preserved : goal.loop-c-preserved

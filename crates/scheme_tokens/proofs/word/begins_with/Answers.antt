@@ -7,4 +7,3 @@ pub returns-in_default : goal.returns-in_default
 returns-in_default c =
     sym (begins_with-short (chars c.loop-letter.rest.now) c.args.letters.now c.loop-letter.letter-index c.in_default.ensures.none c.loop-letter-test.true)
     ∙ c.loop-letter.invariant.goes
-
