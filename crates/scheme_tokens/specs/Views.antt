@@ -59,6 +59,21 @@ kind_of (kinds.Quoted text) = Atomic (Quoted (chars text))
 kind_of (kinds.Char c) = Atomic (Character c)
 kind_of (kinds.Bool b) = Atomic (Truth b)
 
+-- the symbol that a token names, if any
+abbrev pub symbol_of : TokenKind → Option (List ℕ)
+symbol_of Paren = None
+symbol_of VectorParen = None
+symbol_of BytesParen = None
+symbol_of Close = None
+symbol_of Dot = None
+symbol_of Skip = None
+symbol_of (Marked mark) = None
+symbol_of (Atomic (Name name bars)) = Some name
+symbol_of (Atomic (Numeral text)) = None
+symbol_of (Atomic (Quoted text)) = None
+symbol_of (Atomic (Character c)) = None
+symbol_of (Atomic (Truth b)) = None
+
 abbrev pub token_of : code.Token → Token
 token_of t = record { kind = kind_of t.kind; start = t.span.start; end = t.span.end }
 

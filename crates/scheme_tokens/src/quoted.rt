@@ -163,7 +163,7 @@ fn element(close: char, c: char, rest: &str) -> Result<(Option<char>, &str), Fau
 }
 
 /// Adds a character.
-fn push(value: &mut String, c: char) -> Mem<()>
+pub fn push(value: &mut String, c: char) -> Mem<()>
     ensures { OnOk result (chars (string_bytes value.new) ≡ chars (string_bytes value.old) ++ c ∷ []) }
 {
     value.push(c)?;

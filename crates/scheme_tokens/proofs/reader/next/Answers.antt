@@ -1,9 +1,9 @@
-use Rattle.std.proofs.Common.{◌≡◌, List, ℕ, Ok, Err, ap, ◌∙◌, sym, refl}
+use Rattle.std.proofs.Common.{◌≡◌, List, ℕ, Ok, Err, ap, ◌∙◌, sym, refl, subst}
 use Rattle.std.specs.Str.{chars}
 use Rattle.scheme_tokens.specs.Gaps.{between, behind_gap}
 use Rattle.scheme_tokens.specs.Tokens.{token}
 use Rattle.scheme_tokens.specs.Reading.{Next, found, ended, next, next_behind, next_token, at_front, fault_at}
-use Rattle.scheme_tokens.specs.Views.{kind_of, token_of, fault_of, read_fault, IsNext}
+use Rattle.scheme_tokens.specs.Views.{kind_of, token_of, fault_of, Fails}
 use Rattle.scheme_tokens.proofs.Fronts.{no_chars, first_char}
 use Rattle.scheme_tokens.proofs.TokenLaws.{next-front}
 use Rattle.scheme_tokens.proofs.reader.next.Goals as goal
@@ -24,5 +24,5 @@ pub returns-in-Err-Fault-clause-next : goal.returns-in-Err-Fault-clause-next
 returns-in-Err-Fault-clause-next c =
     let some = first_char c.in-Ok.front.now c.in-Ok.ensures.utf8 (sym c.is_empty.ensures ∙ c.if-is_empty.false) in
     let stops = next-front c.args.size some.0 (chars c.args.text.now) (chars c.in-Ok.front.now) some.1 c.in-Ok.ensures.gap some.2
-    ∙ ap (next_token c.args.size (chars c.in-Ok.front.now)) c.in-Err-Fault.ensures.gives in
+    ∙ ap (next_token c.args.size (chars c.in-Ok.front.now)) (subst (λ e. Fails e (token (chars c.in-Ok.front.now))) c.in-Err-Fault.field-0-is c.in-Err-Fault.ensures.gives) in
     rw c.fault_at-in-Err-Fault.ensures (fault_at c.args.size (fault_of c.in-Err-Fault.fault) (chars c.in-Ok.front.now), stops, refl)
