@@ -5,3 +5,4 @@ pub mod QuotedLaws
 pub mod HexLaws
 pub mod TokenLaws
 pub mod Readings
+pub mod NameLaws

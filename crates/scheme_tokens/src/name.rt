@@ -119,6 +119,7 @@ fn is_bare(name: &str) -> bool
 
 /// How a symbol is written: between bars where `bars` asks for them or the symbol needs them, and else as it is
 /// (R7RS 7.1.1, identifier and symbol element).
+#[tactic(auto, unfolding(crate::specs::Spelled::spelled))]
 pub fn spell(alloc: Global, name: &str, bars: bool) -> Mem<Text>
     ensures { IfOk result (λ text. chars text ≡ spelled (chars name.now) bars) }
 {
