@@ -5,6 +5,7 @@ mod character;
 pub mod fault;
 mod front;
 mod gap;
+pub mod laws;
 mod name;
 mod quoted;
 mod reader;

@@ -277,23 +277,31 @@ fn a_symbol_is_one_identifier_and_nothing_else(rt: HostRuntime) -> Result<(), Fa
     Ok(())
 }
 
+/// How a symbol is spelled, and the symbol that this text spells.
+fn spelled(alloc: Global, name: &str, bars: bool) -> Result<String, Memory> {
+    let text = spell(alloc, name, bars)?;
+    let again = symbol(alloc, text.as_str())?;
+    let mut out = text.into_string();
+    out.push_str(" is ")?;
+    out.push_str(again.as_str())?;
+    Ok(out)
+}
+
 #[test]
 fn a_spelled_symbol_is_read_back(rt: HostRuntime) -> Result<(), Fail> {
     for (name, bars, want) in [
-        ("a b", false, "|a b|"),
-        ("ab", true, "|ab|"),
-        ("ab", false, "ab"),
-        ("", false, "||"),
-        ("1", false, "|1|"),
-        ("+i", false, "|+i|"),
-        ("a|b\\c", false, "|a\\|b\\x5c;c|"),
-        ("\n\u{7F}", false, "|\\xa;\\x7f;|"),
-        ("λ", false, "λ"),
-        ("\"\u{A0}", false, "|\"\u{A0}|"),
+        ("a b", false, "|a b| is a b"),
+        ("ab", true, "|ab| is ab"),
+        ("ab", false, "ab is ab"),
+        ("", false, "|| is "),
+        ("1", false, "|1| is 1"),
+        ("+i", false, "|+i| is +i"),
+        ("a|b\\c", false, "|a\\|b\\x5c;c| is a|b\\c"),
+        ("\n\u{7F}", false, "|\\xa;\\x7f;| is \n\u{7F}"),
+        ("λ", false, "λ is λ"),
+        ("\"\u{A0}", false, "|\"\u{A0}| is \"\u{A0}"),
     ] {
-        let text = spell(rt.alloc(), name, bars)?;
-        assert_eq!(rt; text.as_str(), want, "{name}");
-        assert_eq!(rt; symbol(rt.alloc(), text.as_str())?.as_str(), name, "{want}");
+        assert_eq!(rt; spelled(rt.alloc(), name, bars)?.as_str(), want, "{name}");
     }
     Ok(())
 }
