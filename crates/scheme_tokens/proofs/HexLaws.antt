@@ -1,5 +1,5 @@
 -- Hex digits and the character whose code they write.
-use Rattle.std.proofs.Common.{◌≡◌, ℕ, ◌+◌, ◌*◌, ◌<◌, ◌≤◌, ◌⊎◌, inl, inr, List, [], ◌∷◌, Option, Some, None, Bool, true, false, cond, refl, sym, ap, ◌∙◌, arith, MatchOption, ◌==◌}
+use Rattle.std.proofs.Common.{◌≡◌, ℕ, ◌<◌, ◌≤◌, inl, inr, List, ◌∷◌, Option, Some, None, true, false, sym, ap, ◌∙◌, arith, MatchOption}
 use Rattle.std.specs.Option.{SomeIff}
 use Rattle.std.specs.Char.{InScalarRange, OutOfScalarRange, IsScalar}
 use Rattle.std.proofs.lemmas.Bool.{cond-true, cond-false}

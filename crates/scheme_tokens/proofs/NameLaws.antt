@@ -1,5 +1,5 @@
 -- Names and the tokens that spell them.
-use Rattle.std.proofs.Common.{◌≡◌, ℕ, List, [], ◌∷◌, Option, Some, None, Result, Ok, Err, Bool, refl, sym, ap, ◌∙◌, option_map, IfSome, ◌++◌, append_assoc}
+use Rattle.std.proofs.Common.{◌≡◌, ℕ, List, [], ◌∷◌, Option, Some, None, Result, Ok, Err, Bool, sym, ap, ◌∙◌, option_map, IfSome, ◌++◌, append_assoc}
 use Rattle.std.specs.Str.{chars}
 use Rattle.scheme_tokens.specs.Quoted.{Fault}
 use Rattle.scheme_tokens.specs.Tokens.{TokenKind, Paren, VectorParen, BytesParen, Close, Dot, Skip, Marked, Atomic, Name, Numeral, Quoted, Character, Truth, token}

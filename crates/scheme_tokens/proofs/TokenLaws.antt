@@ -1,12 +1,12 @@
 -- Words as tokens, and what comes next in a text.
-use Rattle.std.proofs.Common.{◌≡◌, ℕ, ◌<◌, List, [], ◌∷◌, Option, Some, None, Result, Ok, Err, Bool, true, false, cond, refl, sym, ap, ◌∙◌, arith, length, ◌==◌, ◌&&◌}
+use Rattle.std.proofs.Common.{◌≡◌, ℕ, ◌<◌, List, [], ◌∷◌, Some, Result, Ok, Err, true, false, refl, sym, ap, ◌∙◌, arith, length, ◌==◌, ◌&&◌}
 use Rattle.std.specs.List.{list_all}
 use Rattle.std.specs.Str.{chars}
 use Rattle.std.proofs.lemmas.Str.{chars-nil}
 use Rattle.std.specs.Char.{to_ascii_lowercase}
 use Rattle.std.proofs.lemmas.Bool.{cond-true, cond-false}
 use Rattle.scheme_tokens.specs.Characters.{is_hex_digit, is_delimiter}
-use Rattle.scheme_tokens.specs.Words.{is_numeral, is_identifier, is_text, is_inside, word_of}
+use Rattle.scheme_tokens.specs.Words.{is_numeral, is_identifier, is_inside}
 use Rattle.scheme_tokens.specs.Quoted.{Fault, bad_token, hex_scalar}
 use Rattle.scheme_tokens.specs.Tokens.{TokenKind, word_kind, named, character_of, token}
 use Rattle.scheme_tokens.specs.Reading.{next, next_behind, at_front, next_token}

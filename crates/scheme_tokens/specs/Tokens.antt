@@ -4,7 +4,7 @@ use Rattle.std.specs.List.{list_all}
 use Rattle.std.specs.Char.{is_ascii_digit, to_ascii_lowercase}
 use Rattle.scheme_tokens.specs.Characters.{is_hex_digit}
 use Rattle.scheme_tokens.specs.Words.{word_of, behind_word, is_text, spells, is_numeral, is_identifier}
-use Rattle.scheme_tokens.specs.Quoted.{Fault, bad_token, open_string, open_bar, label, directive, ◌>>=◌, hex_scalar, quoted}
+use Rattle.scheme_tokens.specs.Quoted.{Fault, bad_token, label, directive, ◌>>=◌, hex_scalar, quoted}
 
 -- an atom that one token spells; `bars` tells of a name that it stands between bars
 pub data Leaf : Type 0 where

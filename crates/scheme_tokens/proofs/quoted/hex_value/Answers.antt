@@ -1,4 +1,4 @@
-use Rattle.std.proofs.Common.{ℕ, ◌+◌, ◌*◌, List, ap, ◌∙◌, sym, fold}
+use Rattle.std.proofs.Common.{◌+◌, ◌*◌, ap, ◌∙◌, sym, fold}
 use Rattle.std.specs.List.{list_all}
 use Rattle.std.specs.Char.{digit_value}
 use Rattle.std.specs.Str.{chars}

@@ -1,9 +1,8 @@
-use Rattle.std.proofs.Common.{◌≡◌, List, ℕ, Ok, Err, ap, ◌∙◌, sym, refl, subst}
+use Rattle.std.proofs.Common.{ap, ◌∙◌, sym, refl, subst}
 use Rattle.std.specs.Str.{chars}
-use Rattle.scheme_tokens.specs.Gaps.{between, behind_gap}
 use Rattle.scheme_tokens.specs.Tokens.{token}
-use Rattle.scheme_tokens.specs.Reading.{Next, found, ended, next, next_behind, next_token, at_front, fault_at}
-use Rattle.scheme_tokens.specs.Views.{kind_of, token_of, fault_of, Fails}
+use Rattle.scheme_tokens.specs.Reading.{found, next, next_behind, next_token, at_front, fault_at}
+use Rattle.scheme_tokens.specs.Views.{kind_of, fault_of, Fails}
 use Rattle.scheme_tokens.proofs.Fronts.{no_chars, first_char}
 use Rattle.scheme_tokens.proofs.TokenLaws.{next-front}
 use Rattle.scheme_tokens.proofs.reader.next.Goals as goal

@@ -1,4 +1,4 @@
-use Rattle.std.proofs.Common.{◌≡◌, ℕ, ◌-◌, ap, ◌∙◌, sym, arith}
+use Rattle.std.proofs.Common.{ℕ, ◌-◌, ap, sym}
 use Rattle.scheme_tokens.proofs.Fronts.{byte_count-chars}
 use Rattle.scheme_tokens.proofs.reader.span.Goals as goal
 

@@ -1,4 +1,4 @@
-use Rattle.std.proofs.Common.{None, Ok, Option, length, subst}
+use Rattle.std.proofs.Common.{None, Ok, length, subst}
 use Rattle.std.specs.Str.{chars}
 use Rattle.scheme_tokens.specs.Reading.{next}
 use Rattle.scheme_tokens.specs.Views.{tokens_of, IsNext}
