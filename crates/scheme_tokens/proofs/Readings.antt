@@ -1,0 +1,79 @@
+-- A text has one reading at most, and how one is put together.
+use Rattle.std.proofs.Common.{◌≡◌, ℕ, List, [], ◌∷◌, ◌++◌, Option, Some, None, Err, refl, sym, ap, ◌∙◌, subst, append_assoc, append-nil, ◌⊎◌, inl, inr}
+use Rattle.std.proofs.lemmas.List.{map-append}
+use Rattle.scheme_tokens.specs.Words.{byte_count}
+use Rattle.scheme_tokens.specs.Reading.{Token, FaultAt, Next, found, ended, next, Reads, behind_mark, IsRead, IsSpelled, Stops}
+use Rattle.scheme_tokens.specs.Views.{token_of, tokens_of, read_fault, IsNext, Explains}
+use Rattle.scheme_tokens.specs.declared.token.Token as code
+use Rattle.scheme_tokens.specs.declared.fault.ReadFault as code_read
+use Rattle.scheme_tokens.specs.declared.fault.ReadFault.TheVariants as told
+
+same_end : (n : Next) (end fin : Option FaultAt) → n ≡ ended end → n ≡ ended fin → end ≡ fin
+same_end n end fin h k = cc
+
+no_end : (n : Next) (t : Token) (rest : List ℕ) (end : Option FaultAt) → n ≡ found t rest → n ≡ ended end → ⊥
+no_end n t rest end h k = cc
+
+same_token : (n : Next) (t u : Token) (rest others : List ℕ) → n ≡ found t rest → n ≡ found u others → t ≡ u
+same_token n t u rest others h k = cc
+
+same_rest : (n : Next) (t u : Token) (rest others : List ℕ) → n ≡ found t rest → n ≡ found u others → rest ≡ others
+same_rest n t u rest others h k = cc
+
+pub one_reading_from : (size : ℕ) (ts us : List Token) (end fin : Option FaultAt) (text : List ℕ) → Reads size ts end text → Reads size us fin text → (ts ≡ us) × (end ≡ fin)
+one_reading_from size [] [] end fin text h k = (refl, same_end (next size text) end fin h k)
+one_reading_from size [] (u ∷ us) end fin text h k = absurd (no_end (next size text) u k.0 end k.1 h)
+one_reading_from size (t ∷ ts) [] end fin text h k = absurd (no_end (next size text) t h.0 fin h.1 k)
+one_reading_from size (t ∷ ts) (u ∷ us) end fin text h k =
+    let first = same_token (next size text) t u h.0 k.0 h.1 k.1 in
+    let rest = same_rest (next size text) t u h.0 k.0 h.1 k.1 in
+    let more = one_reading_from size ts us end fin h.0 h.2 (subst (Reads size us fin) (sym rest) k.2) in
+    ((λ i. first i ∷ more.0 i), more.1)
+
+pub one_reading : (ts us : List Token) (end fin : Option FaultAt) (text : List ℕ) → IsRead ts end text → IsRead us fin text → (ts ≡ us) × (end ≡ fin)
+one_reading ts us end fin text h k = one_reading_from (byte_count text) ts us end fin (behind_mark text) h k
+
+-- with these tokens before, what is read of the rest is read of the whole
+abbrev pub GoesOn : ℕ → List ℕ → List code.Token → List ℕ → Type 0
+GoesOn size text so_far rest = (more : List Token) (end : Option FaultAt) → Reads size more end rest → Reads size (tokens_of so_far ++ more) end text
+
+pub one_more : (size : ℕ) (text rest behind : List ℕ) (so_far : List code.Token) (t : code.Token) → GoesOn size text so_far rest → next size rest ≡ found (token_of t) behind →
+    GoesOn size text (so_far ++ t ∷ []) behind
+one_more size text rest behind so_far t goes h more end r =
+    subst (λ (q : List Token). Reads size q end text) (sym (append_assoc (tokens_of so_far) (token_of t ∷ []) more) ∙ ap (λ (q : List Token). q ++ more) (sym (map-append token_of so_far (t ∷ []))))
+    (goes (token_of t ∷ more) end (behind, h, r))
+
+pub read_whole : (size : ℕ) (text : List ℕ) (so_far : List code.Token) (rest : List ℕ) (end : Option FaultAt) → GoesOn size (behind_mark text) so_far rest → next size rest ≡ ended end →
+    byte_count text ≡ size → IsRead (tokens_of so_far) end text
+read_whole size text so_far rest end goes h e =
+    subst (λ (n : ℕ). Reads n (tokens_of so_far) end (behind_mark text)) (sym e) (subst (λ (q : List Token). Reads size q end (behind_mark text)) (append-nil (tokens_of so_far)) (goes [] end h))
+
+none_some : (f : FaultAt) → None ≡ Some f → ⊥
+none_some f e = cc
+
+some_same : (f g : FaultAt) → Some f ≡ Some g → f ≡ g
+some_same f g e = cc
+
+-- what is read is all that can be
+pub only_tokens : (read us : List Token) (text : List ℕ) → IsSpelled read text → IsSpelled us text → read ≡ us
+only_tokens read us text h k = (one_reading read us None None text h k).0
+
+pub never_stops : (read : List Token) (f : FaultAt) (text : List ℕ) → IsSpelled read text → Stops f text → ⊥
+never_stops read f text h k = none_some f (one_reading read k.0 None (Some f) text h k.1).1
+
+pub one_stop : (f g : FaultAt) (text : List ℕ) → Stops f text → Stops g text → f ≡ g
+one_stop f g text h k = some_same f g (one_reading h.0 k.0 (Some f) (Some g) text h.1 k.1).1
+
+-- what the code tells of the next is where the text stops
+pub explained : (fault : code_read.ReadFault) (size : ℕ) (text : List ℕ) (so_far : List code.Token) (rest : List ℕ) → GoesOn size (behind_mark text) so_far rest → byte_count text ≡ size →
+    IsNext (Err fault) (next size rest) → Explains fault text
+explained told.Memory size text so_far rest goes e h = tt
+explained (told.At number span) size text so_far rest goes e h = (h.0, (tokens_of so_far, read_whole size text so_far rest (Some h.0) goes h.1 e), h.2)
+
+pub only_memory : (fault : code_read.ReadFault) (us : List Token) (text : List ℕ) → Explains fault text → IsSpelled us text → fault ≡ told.Memory
+only_memory told.Memory us text h k = refl
+only_memory (told.At number span) us text h k = absurd (never_stops us h.0 text k h.1)
+
+pub stop_told : (fault : code_read.ReadFault) (f : FaultAt) (text : List ℕ) → Explains fault text → Stops f text → (fault ≡ told.Memory) ⊎ (fault ≡ read_fault f)
+stop_told told.Memory f text h k = inl refl
+stop_told (told.At number span) f text h k = inr (h.2 ∙ ap read_fault (one_stop h.0 f text h.1 k))

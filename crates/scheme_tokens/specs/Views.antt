@@ -1,0 +1,114 @@
+-- What the code's values stand for. Its texts are UTF-8.
+use Rattle.std.specs.Prelude.{◌≡◌, ◌≤◌, ◌⊎◌, ℕ, List, Option, Some, None, Result, Ok, Err, map, Bool}
+use Rattle.std.specs.Borrow.{Bor}
+use Rattle.std.specs.Str.{chars}
+use Rattle.scheme_tokens.specs.Characters.{is_hex_digit, is_blank}
+use Rattle.scheme_tokens.specs.Words.{is_inside}
+use Rattle.scheme_tokens.specs.Quoted.{Fault, bad_token, open_string, open_bar, open_comment, label, directive}
+use Rattle.scheme_tokens.specs.Tokens.{TokenKind, Paren, VectorParen, BytesParen, Close, Dot, Skip, Marked, Quote, Quasi, Unquote, Splice, Atomic, Name, Numeral, Quoted, Character, Truth}
+use Rattle.scheme_tokens.specs.Reading.{Token, FaultAt, Next, found, ended, Stops}
+use Rattle.scheme_tokens.specs.declared.fault.Fault as code_fault
+use Rattle.scheme_tokens.specs.declared.fault.Fault.TheVariants as faults
+use Rattle.scheme_tokens.specs.declared.fault.ScanFault as code_scan
+use Rattle.scheme_tokens.specs.declared.fault.ScanFault.TheVariants as scans
+use Rattle.scheme_tokens.specs.declared.fault.ReadFault as code_read
+use Rattle.scheme_tokens.specs.declared.fault.ReadFault.TheVariants as reads
+use Rattle.scheme_tokens.specs.declared.character.Class as code_class
+use Rattle.scheme_tokens.specs.declared.character.Class.TheVariants as classes
+use Rattle.scheme_tokens.specs.declared.token.TokenKind as code_kind
+use Rattle.scheme_tokens.specs.declared.token.TokenKind.TheVariants as kinds
+use Rattle.scheme_tokens.specs.declared.token.Token as code
+
+abbrev pub test_of : code_class.Class → ℕ → Bool
+test_of classes.Inside c = is_inside c
+test_of classes.HexDigit c = is_hex_digit c
+test_of classes.Blank c = is_blank c
+
+abbrev pub fault_of : code_fault.Fault → Fault
+fault_of faults.BadToken = bad_token
+fault_of faults.OpenString = open_string
+fault_of faults.OpenBar = open_bar
+fault_of faults.OpenComment = open_comment
+fault_of faults.Label = label
+fault_of faults.Directive = directive
+
+-- the number by which a fault is told
+abbrev pub number_of : Fault → ℕ
+number_of bad_token = 1
+number_of open_string = 2
+number_of open_bar = 3
+number_of open_comment = 4
+number_of label = 9
+number_of directive = 10
+
+abbrev pub kind_of : code_kind.TokenKind → TokenKind
+kind_of kinds.Paren = Paren
+kind_of kinds.VectorParen = VectorParen
+kind_of kinds.BytesParen = BytesParen
+kind_of kinds.Close = Close
+kind_of kinds.Dot = Dot
+kind_of kinds.Quote = Marked Quote
+kind_of kinds.Quasi = Marked Quasi
+kind_of kinds.Unquote = Marked Unquote
+kind_of kinds.Splice = Marked Splice
+kind_of kinds.Skip = Skip
+kind_of (kinds.Name name bars) = Atomic (Name (chars name) bars)
+kind_of (kinds.Numeral text) = Atomic (Numeral (chars text))
+kind_of (kinds.Quoted text) = Atomic (Quoted (chars text))
+kind_of (kinds.Char c) = Atomic (Character c)
+kind_of (kinds.Bool b) = Atomic (Truth b)
+
+-- the symbol that a token names, if any
+abbrev pub symbol_of : TokenKind → Option (List ℕ)
+symbol_of Paren = None
+symbol_of VectorParen = None
+symbol_of BytesParen = None
+symbol_of Close = None
+symbol_of Dot = None
+symbol_of Skip = None
+symbol_of (Marked mark) = None
+symbol_of (Atomic (Name name bars)) = Some name
+symbol_of (Atomic (Numeral text)) = None
+symbol_of (Atomic (Quoted text)) = None
+symbol_of (Atomic (Character c)) = None
+symbol_of (Atomic (Truth b)) = None
+
+abbrev pub token_of : code.Token → Token
+token_of t = record { kind = kind_of t.kind; start = t.span.start; end = t.span.end }
+
+abbrev pub tokens_of : List code.Token → List Token
+tokens_of ts = map token_of ts
+
+-- a fault as callers are told it
+abbrev pub read_fault : FaultAt → code_read.ReadFault
+read_fault f = reads.At (number_of f.fault) (record { start = f.start; end = f.end })
+
+-- a number up to the last character's is told exactly, and of a greater one that it is greater
+abbrev pub IsCapped : ℕ → ℕ → Type 0
+IsCapped told n = (told ≡ n) ⊎ ((0x11_0000 ≤ told) × (0x11_0000 ≤ n))
+
+-- what comes next, as the code tells it
+abbrev pub IsNext : Result (Option (code.Token × Bor (List ℕ))) code_read.ReadFault → Next → Type 0
+IsNext (Ok None) n = n ≡ ended None
+IsNext (Ok (Some t)) n = n ≡ found (token_of t.0) (chars t.1.now)
+IsNext (Err reads.Memory) n = Unit {0}
+IsNext (Err (reads.At number span)) n = (f : FaultAt) × (n ≡ ended (Some f)) × (reads.At number span ≡ read_fault f)
+
+-- this fault, if it is one, is where the text stops
+abbrev pub Explains : code_read.ReadFault → List ℕ → Type 0
+Explains reads.Memory text = Unit {0}
+Explains (reads.At number span) text = (f : FaultAt) × Stops f text × (reads.At number span ≡ read_fault f)
+
+-- what a function answered, seen by view, is what reading gives, unless memory ran out
+abbrev pub Fails : {Y : Type 0} → code_scan.ScanFault → Result Y Fault → Type 0
+Fails scans.Memory read = Unit {0}
+Fails (scans.Fault f) read = read ≡ Err (fault_of f)
+
+abbrev pub Gives : {X Y : Type 0} → (X → Y) → Result X code_scan.ScanFault → Result Y Fault → Type 0
+Gives view (Ok x) read = read ≡ Ok (view x)
+Gives view (Err e) read = Fails e read
+
+-- the same where memory can't run out
+abbrev pub Is : {X Y : Type 0} → (X → Y) → Result X code_fault.Fault → Result Y Fault → Type 0
+Is view (Ok x) read = read ≡ Ok (view x)
+Is view (Err f) read = read ≡ Err (fault_of f)

@@ -1,0 +1,130 @@
+//! The tokens of a text (R7RS 7.1.1).
+ghost use Rattle.std.specs.Prelude.{◌≡◌, ◌^◌, ◌<◌, ◌≤◌, ◌⊎◌, List, length, drop, IfOk, IfErr, IfSome, MatchResult};
+ghost use Rattle.std.specs.Str.{chars, IsUtf8};
+ghost use Rattle.scheme_tokens.specs.Reading as model;
+ghost use Rattle.scheme_tokens.specs.Reading.{FaultAt, place, behind_fault, fault_at, next, behind_mark, IsSpelled, Stops};
+ghost use Rattle.scheme_tokens.specs.Views.{fault_of, read_fault, tokens_of, IsNext, Explains};
+
+use crate::character::Class;
+use crate::fault::{Fault, ReadFault, ScanFault};
+use crate::front::{skip, split_first};
+use crate::gap::skip_gap;
+use crate::scan::token;
+use crate::token::Token;
+use ls_base::{Items, Span};
+use std::alloc::Global;
+
+/// The text behind its first character.
+fn behind_first(text: &str) -> &str
+    ensures rest { chars result.now ≡ drop 1 (chars text.now) }
+    ensures within { length result.now ≤ length text.now }
+{
+    match split_first(text) {
+        Some((_, rest)) => rest,
+        None => text,
+    }
+}
+
+/// The text behind what is shown of a fault at its front.
+fn behind_fault(fault: Fault, text: &str) -> &str
+    ensures rest { chars result.now ≡ behind_fault (fault_of fault) (chars text.now) }
+    ensures within { length result.now ≤ length text.now }
+{
+    match fault {
+        Fault::OpenString | Fault::OpenBar => behind_first(text),
+        Fault::OpenComment => behind_first(behind_first(text)),
+        Fault::BadToken | Fault::Label | Fault::Directive => {
+            skip(behind_first(text), Class::Inside)
+        }
+    }
+}
+
+/// The bytes between two rests of a text of so many bytes.
+fn span(size: usize, from: &str, to: &str) -> Span
+    requires short { size < 2 ^ 32 }
+    requires from { length from.now ≤ size }
+    requires to { length to.now ≤ size }
+    ensures start { result.start ≡ place size (chars from.now) }
+    ensures end { result.end ≡ place size (chars to.now) }
+{
+    Span {
+        start: (size - from.len()) as u32,
+        end: (size - to.len()) as u32,
+    }
+}
+
+fn fault_at(size: usize, fault: Fault, text: &str) -> ReadFault
+    requires short { size < 2 ^ 32 }
+    requires within { length text.now ≤ size }
+    ensures { result ≡ read_fault (fault_at size (fault_of fault) (chars text.now)) }
+{
+    ReadFault::At {
+        number: fault.number(),
+        span: span(size, text, behind_fault(fault, text)),
+    }
+}
+
+/// The next token of the rest of a text of so many bytes, and what follows it.
+#[tactic(auto, unfolding(crate::specs::Reading::next))]
+fn next(alloc: Global, size: usize, text: &str) -> Result<Option<(Token, &str)>, ReadFault>
+    requires short { size < 2 ^ 32 }
+    requires within { length text.now ≤ size }
+    ensures next { IsNext result (next size (chars text.now)) }
+    ensures within { IfOk result (λ found. IfSome found (λ t. length t.1.now < length text.now)) }
+    ensures utf8 { IfOk result (λ found. IfSome found (λ t. IsUtf8 t.1.now)) }
+{
+    let front = match skip_gap(text) {
+        Ok(front) => front,
+        Err(start) => return Err(fault_at(size, Fault::OpenComment, start)),
+    };
+    if front.is_empty() {
+        return Ok(None);
+    }
+    match token(alloc, front) {
+        Ok((kind, rest)) => {
+            let span = span(size, front, rest);
+            Ok(Some((Token { kind, span }, rest)))
+        }
+        Err(ScanFault::Memory) => Err(ReadFault::Memory),
+        Err(ScanFault::Fault(fault)) => Err(fault_at(size, fault, front)),
+    }
+}
+
+/// The text behind a byte order mark.
+fn behind_mark(text: &str) -> &str
+    ensures rest { chars result.now ≡ behind_mark (chars text.now) }
+    ensures within { length result.now ≤ length text.now }
+{
+    let Some((c, rest)) = split_first(text) else {
+        return text;
+    };
+    if c == '\u{FEFF}' { rest } else { text }
+}
+
+/// The tokens of a text with their places in bytes, or the first fault (R7RS 7.1.1).
+pub fn tokens(alloc: Global, text: &str) -> Result<Items<Token>, ReadFault>
+    requires { length text.now < 2 ^ 32 }
+
+    // What is read are the tokens of the text, and no others are.
+    ensures found { IfOk result (λ ts. IsSpelled (tokens_of ts) (chars text.now)) }
+    ensures only { (ts : List model.Token) → IsSpelled ts (chars text.now) →
+        MatchResult result (λ items. tokens_of items ≡ ts) (λ e. e ≡ ReadFault.Memory) }
+
+    // A fault is answered where the text stops at it, and only there.
+    ensures fault { IfErr result (λ e. Explains e (chars text.now)) }
+    ensures stops { (f : FaultAt) → Stops f (chars text.now) →
+        MatchResult result (λ _. ⊥) (λ e. (e ≡ ReadFault.Memory) ⊎ (e ≡ read_fault f)) }
+{
+    let mut tokens = Items::new(alloc);
+    let mut rest = behind_mark(text);
+    loop {
+        match next(alloc, text.len(), rest) {
+            Ok(Some((token, behind))) => {
+                tokens.push(token)?;
+                rest = behind;
+            }
+            Ok(None) => return Ok(tokens),
+            Err(fault) => return Err(fault),
+        }
+    }
+}
