@@ -22,3 +22,6 @@ pub mod NumberLaws
 pub mod AscentLaws
 pub mod SmallLaws
 pub mod FaultLaws
+pub mod Places
+pub mod TableLaws
+pub mod TableSteps
