@@ -25,3 +25,8 @@ pub mod FaultLaws
 pub mod Places
 pub mod TableLaws
 pub mod TableSteps
+pub mod PartLaws
+pub mod StandingLaws
+pub mod KeptLaws
+pub mod AddedLaws
+pub mod WorkLaws

@@ -73,7 +73,7 @@ module _ {A : Type 0} where
       let p = get_within xs i lt in
       h i j p.0 p.1 (sym same ∙ p.1)
 
-map_get : {K A : Type 0} (show : K → A) (ks : List K) (i : ℕ) (a : A) → slice_get (map show ks) i ≡ Some a → (k : K) × (slice_get ks i ≡ Some k) × (show k ≡ a)
+pub map_get : {K A : Type 0} (show : K → A) (ks : List K) (i : ℕ) (a : A) → slice_get (map show ks) i ≡ Some a → (k : K) × (slice_get ks i ≡ Some k) × (show k ≡ a)
 map_get show [] i a h = none_some a h
 map_get show (k ∷ ks) zero a h = (k, refl, same_Some (show k) a h)
 map_get show (k ∷ ks) (suc i) a h = map_get show ks i a h

@@ -1,5 +1,5 @@
 -- The invariant of the tables of symbols and identifiers, kept at each call.
-use Rattle.std.proofs.Common.{◌≡◌, ℕ, ◌+◌, ◌<◌, ◌≤◌, Bool, true, false, cond, List, [], ◌∷◌, ◌++◌, map, length, slice_get, Option, Some, None, is_some, refl, sym, ap, ◌∙◌, subst, inl, inr, arith, String, ltb}
+use Rattle.std.proofs.Common.{◌≡◌, ℕ, ◌+◌, ◌<◌, ◌≤◌, Bool, true, false, cond, List, [], ◌∷◌, ◌++◌, map, length, slice_get, Option, Some, None, is_some, refl, sym, ap, ◌∙◌, subst, inl, inr, arith, String, ltb, append-nil}
 use Rattle.std.specs.Global.{Global}
 use Rattle.std.specs.List.{position, position_or_len, list_any}
 use Rattle.std.specs.Map.{keys_of, values_of}
@@ -14,7 +14,7 @@ use Rattle.indexmap.specs.IndexMap.{keys, values}
 use Rattle.indexmap.specs.IndexSet.{insert_key}
 use Rattle.scheme_model.specs.Identifiers.{Number}
 use Rattle.syntax_tree.specs.Identifiers.{Identifier, Written, Inserted, strip}
-use Rattle.syntax_tree.specs.Names.{Names, AreToldApart, GainsAtMost}
+use Rattle.syntax_tree.specs.Names.{Names, AreToldApart, GainsAtMost, KeepsNames}
 use Rattle.syntax_tree.specs.Numbered.{number_of, ident_of, IsBelow, IsPlaced, next_ident, idents_after, AreBefore, Strings, Entries, symbols_of, names_of, AreTables}
 use Rattle.syntax_tree.specs.declared.symbols.Ident.{Ident}
 use Rattle.syntax_tree.specs.declared.symbols.Ident.TheVariants as code
@@ -250,3 +250,25 @@ ident_read names idents now i x k t view h =
     let before : IsBelow (length symbols) (0 + i) x = before-at (length symbols) 0 (keys idents) i x t.before at in
     let placed : IsBelow (length symbols) (length is) x = below-more (length symbols) (length symbols) (0 + i) (length is) x (omega arith) (omega (arith, slice_get_within (keys idents) i x at, length-after symbols [] (keys idents))) before in
     subst (λ (n : Names). (slice_get n.idents i ≡ ident_of n x) × IsPlaced n x) view (entry_is symbols (keys idents) i x t.before at, placed)
+
+-- ---- numbers are kept
+
+pub keeps_grown : (old new : Names) (ss : List (List ℕ)) (is : List Identifier) → new.symbols ≡ old.symbols ++ ss → new.idents ≡ old.idents ++ is → KeepsNames old new
+keeps_grown old new ss is p q = record {
+  symbols = λ n s h. ap (λ (l : List (List ℕ)). slice_get l n) p ∙ get_front old.symbols ss n s h;
+  idents = λ n i h. ap (λ (l : List Identifier). slice_get l n) q ∙ get_front old.idents is n i h;
+}
+
+pub symbol_keeps : (names names' : Strings) (idents : Entries) (now : Names) (s : List ℕ) → AreTables names idents → names_of names idents ≡ now → symbols_of names' ≡ symbols_of names ++ s ∷ [] →
+    KeepsNames now (names_of names' idents)
+symbol_keeps names names' idents now s t view e =
+    subst (λ (n : Names). KeepsNames n (names_of names' idents)) view
+    (keeps_grown (names_of names idents) (names_of names' idents) (s ∷ []) [] e (idents_stay names names' idents s t e ∙ sym (append-nil (names_of names idents).idents)))
+
+pub ident_keeps : (names : Strings) (idents idents' : Entries) (now : Names) (x : Ident) → names_of names idents ≡ now → keys idents' ≡ keys idents ++ x ∷ [] →
+    KeepsNames now (names_of names idents')
+ident_keeps names idents idents' now x view e =
+    let symbols = symbols_of names in
+    let is = idents_after symbols [] (keys idents) in
+    subst (λ (n : Names). KeepsNames n (names_of names idents')) view
+    (keeps_grown (names_of names idents) (names_of names idents') [] (next_ident symbols is x ∷ []) (sym (append-nil symbols)) (idents_pushed symbols (keys idents) (keys idents') x e))

@@ -1,5 +1,5 @@
 -- What contracts see of the tables of symbols and identifiers. A number is a place in one of these lists.
-use Rattle.std.specs.Prelude.{◌≡◌, ◌⊎◌, ℕ, ◌<◌, List, [], ◌∷◌, ◌++◌, length, slice_get, refl}
+use Rattle.std.specs.Prelude.{◌≡◌, ◌⊎◌, ℕ, ◌<◌, List, [], ◌∷◌, ◌++◌, length, slice_get, Some, refl}
 use Rattle.std.proofs.Common.{ap}
 use Rattle.std.specs.Coded.{Coded, code_by, coded×, coded_ℕ, coded_list}
 use Rattle.syntax_tree.specs.Identifiers.{Identifier, Written, Inserted}
@@ -16,6 +16,11 @@ AreToldApart xs = (i j : ℕ) → i < length xs → slice_get xs i ≡ slice_get
 -- a list stays, or has one thing more at its end
 abbrev pub GainsAtMost : {A : Type 0} → List A → List A → A → Type 0
 GainsAtMost old new x = (new ≡ old) ⊎ (new ≡ old ++ x ∷ [])
+
+-- each symbol and each identifier keeps its number
+pub record KeepsNames (old new : Names) : Type 0 where
+  pub symbols : (n : ℕ) (s : List ℕ) → slice_get old.symbols n ≡ Some s → slice_get new.symbols n ≡ Some s
+  pub idents : (n : ℕ) (i : Identifier) → slice_get old.idents n ≡ Some i → slice_get new.idents n ≡ Some i
 
 -- an identifier is stored as its numbers of uses, the last use first, with its unit and its symbol
 abbrev uses : Identifier → List (ℕ × (ℕ × ℕ))

@@ -3,3 +3,4 @@
 
 pub mod small;
 pub mod symbols;
+pub mod trees;

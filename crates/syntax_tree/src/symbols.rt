@@ -3,7 +3,7 @@
 ghost use Rattle.std.specs.Prelude.{◌≡◌, ◌<◌, [], length, slice_get, Some, IfOk, OnErr};
 ghost use Rattle.std.specs.Option.{option_map};
 ghost use Rattle.syntax_tree.specs.Identifiers.{Identifier, strip};
-ghost use Rattle.syntax_tree.specs.Names.{Names, AreToldApart, GainsAtMost};
+ghost use Rattle.syntax_tree.specs.Names.{Names, AreToldApart, GainsAtMost, KeepsNames};
 ghost use Rattle.syntax_tree.specs.Numbered.{ident_of, IsPlaced};
 
 use indexmap::{IndexMap, IndexSet};
@@ -72,6 +72,7 @@ impl Symbols {
         ensures ok { IfOk result (λ n. slice_get self.new.symbols n ≡ Some name.now) }
         ensures grows { GainsAtMost self.old.symbols self.new.symbols name.now }
         ensures idents { self.new.idents ≡ self.old.idents }
+        ensures keeps { KeepsNames self.old self.new }
         ensures err { OnErr result (self.new ≡ self.old) }
     {
         if let Some(number) = self.names.get_index_of(name) {
@@ -97,6 +98,7 @@ impl Symbols {
         ensures grows { (i : Identifier) → ident_of self.old ident ≡ Some i →
             GainsAtMost self.old.idents self.new.idents i }
         ensures symbols { self.new.symbols ≡ self.old.symbols }
+        ensures keeps { KeepsNames self.old self.new }
         ensures err { OnErr result (self.new ≡ self.old) }
     {
         if let Some(number) = self.idents.get_index_of(&ident) {
@@ -144,3 +146,6 @@ impl Symbols {
         }
     }
 }
+
+#[cfg(test)]
+mod tests;

@@ -12,7 +12,7 @@ use Rattle.syntax_tree.specs.declared.symbols.Ident.{Ident}
 use Rattle.syntax_tree.specs.declared.symbols.Ident.TheVariants.{Written, Inserted}
 use Rattle.syntax_tree.specs.contracts.symbols.IdentPartialEq.TheImpl.{eq-value}
 use Rattle.syntax_tree.proofs.Places.{keys_told_apart}
-use Rattle.syntax_tree.proofs.TableSteps.{no_some, ident_found, ident_tables, ident_added, ident_grows, keys_pushed, new_place}
+use Rattle.syntax_tree.proofs.TableSteps.{no_some, ident_found, ident_tables, ident_added, ident_grows, ident_keeps, keys_pushed, new_place}
 use Rattle.syntax_tree.proofs.symbols.Symbols.ident.Goals as goal
 
 same_ident : (x y : Ident) → eq-value.it x y ≡ true → x ≡ y
@@ -56,3 +56,11 @@ returns-clause-grows c =
     let entries = c.in_ok-number.ensures.entries ∙ insert_entry-new eq-value.it idents x c.innermost-symbol.result (no_some _ c.in_default.ensures.found) in
     let pushed : keys c.insert_full.new.self ≡ keys idents ++ x ∷ [] = ap keys_of entries ∙ keys_pushed idents.entries x c.innermost-symbol.result in
     ident_grows c.self.inside.names idents (keys c.insert_full.new.self) c.args.self.now x c.self.view_is c.requires pushed
+
+pub returns-clause-keeps : goal.returns-clause-keeps
+returns-clause-keeps c =
+    let idents = c.self.inside.idents in
+    let x = c.args.ident in
+    let entries = c.in_ok-number.ensures.entries ∙ insert_entry-new eq-value.it idents x c.innermost-symbol.result (no_some _ c.in_default.ensures.found) in
+    let pushed : keys c.insert_full.new.self ≡ keys idents ++ x ∷ [] = ap keys_of entries ∙ keys_pushed idents.entries x c.innermost-symbol.result in
+    ident_keeps c.self.inside.names idents c.insert_full.new.self c.args.self.now x c.self.view_is pushed

@@ -4,7 +4,7 @@ use Rattle.std.specs.String.{string_bytes}
 use Rattle.syntax_tree.specs.Names.{Names}
 use Rattle.std.proofs.lemmas.Slice.Eq.{bytes_eq-Decides}
 use Rattle.syntax_tree.proofs.Places.{map_told_apart}
-use Rattle.syntax_tree.proofs.TableSteps.{symbol_at, symbol_found, symbol_pushed, symbol_tables, idents_stay, same_text}
+use Rattle.syntax_tree.proofs.TableSteps.{symbol_at, symbol_found, symbol_pushed, symbol_tables, idents_stay, symbol_keeps, same_text}
 use Rattle.syntax_tree.proofs.symbols.Symbols.symbol.Goals as goal
 
 pub returns-in-Some-clause-ok : goal.returns-in-Some-clause-ok
@@ -28,3 +28,8 @@ pub returns-clause-idents : goal.returns-clause-idents
 returns-clause-idents c =
     let pushed = symbol_pushed c.self.inside.names.keys c.insert_full.new.self.keys c.in_ok-owned.owned c.args.name.now c.in_ok-owned.ensures.ok c.in_ok-number.ensures.keys c.in_default.ensures.found in
     idents_stay c.self.inside.names c.insert_full.new.self c.self.inside.idents c.args.name.now c.self.invariant pushed ∙ ap (λ (n : Names). n.idents) c.self.view_is
+
+pub returns-clause-keeps : goal.returns-clause-keeps
+returns-clause-keeps c =
+    let pushed = symbol_pushed c.self.inside.names.keys c.insert_full.new.self.keys c.in_ok-owned.owned c.args.name.now c.in_ok-owned.ensures.ok c.in_ok-number.ensures.keys c.in_default.ensures.found in
+    symbol_keeps c.self.inside.names c.insert_full.new.self c.self.inside.idents c.args.self.now c.args.name.now c.self.invariant c.self.view_is pushed
