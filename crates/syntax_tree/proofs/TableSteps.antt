@@ -272,3 +272,9 @@ ident_keeps names idents idents' now x view e =
     let is = idents_after symbols [] (keys idents) in
     subst (λ (n : Names). KeepsNames n (names_of names idents')) view
     (keeps_grown (names_of names idents) (names_of names idents') [] (next_ident symbols is x ∷ []) (sym (append-nil symbols)) (idents_pushed symbols (keys idents) (keys idents') x e))
+
+-- a place stays one
+pub place_kept : (old new : Names) (n : ℕ) → KeepsNames old new → n < length old.idents → n < length new.idents
+place_kept old new n keeps h =
+    let p = get_within old.idents n h in
+    slice_get_within new.idents n p.0 (keeps.idents n p.0 p.1)

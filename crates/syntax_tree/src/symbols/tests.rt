@@ -33,18 +33,19 @@ fn inserted_identifiers_keep_their_symbol(rt: HostRuntime) -> Result<(), Fail> {
         id: written,
         number: first,
     })?;
-    let twice = symbols.ident(Ident::Inserted {
-        id: inserted,
-        number: second,
-    })?;
     let again = symbols.ident(Ident::Inserted {
         id: written,
         number: first,
     })?;
     assert_eq!(rt; again, inserted);
-    assert_ne!(rt; twice, inserted);
+    let twice = symbols.ident(Ident::Inserted {
+        id: again,
+        number: second,
+    })?;
+    assert_ne!(rt; twice, again);
     assert_eq!(rt; symbols.strip(twice), symbol);
-    assert_eq!(rt; symbols.ident_at(twice), Ident::Inserted { id: inserted, number: second });
+    let outer = symbols.ident_at(twice);
+    assert_eq!(rt; outer, Ident::Inserted { id: again, number: second });
     symbols.told_apart();
     Ok(())
 }

@@ -1,45 +1,34 @@
 //! Trees by number, with their measures.
 use super::*;
-use crate::symbols::Ident;
 use std::test::Fail;
 
-/// The trees `f`, `(f #\x . #\x)` and `#((f #\x . #\x) f)`.
+/// The trees `#\x`, `(#\x #\x . #\x)` and `#((#\x #\x . #\x))`.
 #[test]
 fn trees_are_measured(rt: HostRuntime) -> Result<(), Fail> {
     let alloc = rt.alloc();
     let mut work = Work::new(alloc);
     let region = work.open_region()?;
-    let symbol = work.symbols.symbol("f")?;
-    let id = work.symbols.ident(Ident::Written { unit: 0, symbol })?;
-    let name = work.add(&region, Node::Atom {
-        leaf: Leaf::Name(id),
-        occ: None,
-    })?;
     let letter = work.add(&region, Node::Atom {
         leaf: Leaf::Char('x'),
         occ: None,
     })?;
+    assert_eq!(rt; work.size(letter), 1);
+    assert_eq!(rt; work.depth(letter), 1);
+    let items = vec![in alloc; letter, letter]?;
     let list = work.add(&region, Node::List {
-        items: vec![in alloc; name, letter]?,
+        items,
         tail: Some(letter),
         occ: None,
     })?;
-    let vector = work.add(&region, Node::Vector {
-        items: vec![in alloc; list, name]?,
-        occ: None,
-    })?;
-    assert_eq!(rt; work.size(name), 1);
-    assert_eq!(rt; work.depth(name), 1);
     assert_eq!(rt; work.size(list), 4);
     assert_eq!(rt; work.depth(list), 2);
-    assert_eq!(rt; work.size(vector), 6);
+    let items = vec![in alloc; list]?;
+    let vector = work.add(&region, Node::Vector { items, occ: None })?;
+    assert_eq!(rt; work.size(vector), 5);
     assert_eq!(rt; work.depth(vector), 3);
-    match work.node(list) {
-        Node::List { items, tail, occ: _ } => {
-            assert_eq!(rt; items.as_slice(), [name, letter].as_slice());
-            assert_eq!(rt; *tail, Some(letter));
-        }
-        Node::Atom { .. } | Node::Vector { .. } => assert!(rt; false),
+    match work.node(vector) {
+        Node::Vector { items, occ: _ } => assert_eq!(rt; items.as_slice(), [list].as_slice()),
+        Node::Atom { .. } | Node::List { .. } => assert!(rt; false),
     }
     Ok(())
 }
