@@ -131,22 +131,22 @@ module _ (nodes : List Shape) (names : Names) where
     stands_once (list ts tail o) (atom b p) n g h = same_node n (list_shape g.0 g.1 o) (leaf_shape h.0 h.1) g.2 h.2 (λ e. absurd cc)
     stands_once (list ts tail o) (list us tail' p) n g h =
         same_node n (list_shape g.0 g.1 o) (list_shape h.0 h.1 p) g.2 h.2 (λ e.
-            let items : h.0 ≡ g.0 = cc in
-            let end : h.1 ≡ g.1 = cc in
-            let place : o ≡ p = cc in
-            let parts : ts ≡ us = all_once ts us g.0 g.3 (subst (λ (ns : List ℕ). AllStand nodes names us ns) items h.3) in
-            let tails : tail ≡ tail' = tail_once tail tail' g.1 g.4 (subst (λ (m : Option ℕ). TailStands nodes names tail' m) end h.4) in
-            λ j. list (parts j) (tails j) (place j))
+        let items : h.0 ≡ g.0 = cc in
+        let end : h.1 ≡ g.1 = cc in
+        let place : o ≡ p = cc in
+        let parts : ts ≡ us = all_once ts us g.0 g.3 (subst (λ (ns : List ℕ). AllStand nodes names us ns) items h.3) in
+        let tails : tail ≡ tail' = tail_once tail tail' g.1 g.4 (subst (λ (m : Option ℕ). TailStands nodes names tail' m) end h.4) in
+        λ j. list (parts j) (tails j) (place j))
     stands_once (list ts tail o) (vector us p) n g h = same_node n (list_shape g.0 g.1 o) (vector_shape h.0 p) g.2 h.1 (λ e. absurd cc)
     stands_once (vector ts o) (name j p) n g h = same_node n (vector_shape g.0 o) (leaf_shape h.0 h.1) g.1 h.2 (λ e. absurd cc)
     stands_once (vector ts o) (atom b p) n g h = same_node n (vector_shape g.0 o) (leaf_shape h.0 h.1) g.1 h.2 (λ e. absurd cc)
     stands_once (vector ts o) (list us tail p) n g h = same_node n (vector_shape g.0 o) (list_shape h.0 h.1 p) g.1 h.2 (λ e. absurd cc)
     stands_once (vector ts o) (vector us p) n g h =
         same_node n (vector_shape g.0 o) (vector_shape h.0 p) g.1 h.1 (λ e.
-            let items : h.0 ≡ g.0 = cc in
-            let place : o ≡ p = cc in
-            let parts : ts ≡ us = all_once ts us g.0 g.2 (subst (λ (ns : List ℕ). AllStand nodes names us ns) items h.2) in
-            λ j. vector (parts j) (place j))
+        let items : h.0 ≡ g.0 = cc in
+        let place : o ≡ p = cc in
+        let parts : ts ≡ us = all_once ts us g.0 g.2 (subst (λ (ns : List ℕ). AllStand nodes names us ns) items h.2) in
+        λ j. vector (parts j) (place j))
 
     pub all_once : (ts us : Trees Identifier) (ns : List ℕ) → AllStand nodes names ts ns → AllStand nodes names us ns → ts ≡ us
     all_once no_trees no_trees ns g h = refl

@@ -45,7 +45,13 @@ fn inserted_identifiers_keep_their_symbol(rt: HostRuntime) -> Result<(), Fail> {
     assert_ne!(rt; twice, again);
     assert_eq!(rt; symbols.strip(twice), symbol);
     let outer = symbols.ident_at(twice);
-    assert_eq!(rt; outer, Ident::Inserted { id: again, number: second });
+    assert_eq!(rt;
+        outer,
+        Ident::Inserted {
+            id: again,
+            number: second
+        }
+    );
     symbols.told_apart();
     Ok(())
 }

@@ -8,18 +8,24 @@ fn trees_are_measured(rt: HostRuntime) -> Result<(), Fail> {
     let alloc = rt.alloc();
     let mut work = Work::new(alloc);
     let region = work.open_region()?;
-    let letter = work.add(&region, Node::Atom {
-        leaf: Leaf::Char('x'),
-        occ: None,
-    })?;
+    let letter = work.add(
+        &region,
+        Node::Atom {
+            leaf: Leaf::Char('x'),
+            occ: None,
+        },
+    )?;
     assert_eq!(rt; work.size(letter), 1);
     assert_eq!(rt; work.depth(letter), 1);
     let items = vec![in alloc; letter, letter]?;
-    let list = work.add(&region, Node::List {
-        items,
-        tail: Some(letter),
-        occ: None,
-    })?;
+    let list = work.add(
+        &region,
+        Node::List {
+            items,
+            tail: Some(letter),
+            occ: None,
+        },
+    )?;
     assert_eq!(rt; work.size(list), 4);
     assert_eq!(rt; work.depth(list), 2);
     let items = vec![in alloc; list]?;

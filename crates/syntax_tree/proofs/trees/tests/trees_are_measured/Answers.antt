@@ -25,14 +25,14 @@ list_node : (work : Work) (items : List code.Tree) (n : code.Tree) → items ≡
     IsNode work.trees.nodes work.symbols (list_shape (numbers items) (Some n.number) None) dotted_list
 list_node work items n e s =
     let all : AllStand work.trees.nodes work.symbols letters (numbers items) =
-        subst (λ (l : List code.Tree). AllStand work.trees.nodes work.symbols letters (numbers l)) (sym e) (s, (s, tt)) in
+    subst (λ (l : List code.Tree). AllStand work.trees.nodes work.symbols letters (numbers l)) (sym e) (s, (s, tt)) in
     (letters, dotted letter, refl, all, (refl, s))
 
 vector_node : (work : Work) (items : List code.Tree) (n : code.Tree) → items ≡ n ∷ [] → StandsFor work n dotted_list →
     IsNode work.trees.nodes work.symbols (vector_shape (numbers items) None) outer
 vector_node work items n e s =
     let all : AllStand work.trees.nodes work.symbols (tree dotted_list no_trees) (numbers items) =
-        subst (λ (l : List code.Tree). AllStand work.trees.nodes work.symbols (tree dotted_list no_trees) (numbers l)) (sym e) (s, tt) in
+    subst (λ (l : List code.Tree). AllStand work.trees.nodes work.symbols (tree dotted_list no_trees) (numbers l)) (sym e) (s, tt) in
     (tree dotted_list no_trees, refl, all)
 
 pub add-requires-clause-small : goal.add-requires-clause-small

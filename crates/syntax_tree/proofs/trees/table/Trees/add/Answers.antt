@@ -27,9 +27,9 @@ invariant_of-self-2 c =
     let k : Kept = record { node = c.args.node; size = c.node_size-size.result; depth = c.node_depth-depth.result } in
     let m = can_measure ks ks c.self.inside.opened.items c.args.self.now (shape_of c.args.node) c.self.invariant refl c.self.view_is c.requires in
     let size : k.size ≡ shape_size (size_at ks) (shape_of k.node) =
-        c.node_size-size.ensures ∙ ap (λ (l : List Kept). shape_size (size_at l) (shape_of c.args.node)) c.deref.ensures.value in
+    c.node_size-size.ensures ∙ ap (λ (l : List Kept). shape_size (size_at l) (shape_of c.args.node)) c.deref.ensures.value in
     let depth : k.depth ≡ shape_depth (depth_at ks) (shape_of k.node) =
-        c.node_depth-depth.ensures ∙ ap (λ (l : List Kept). shape_depth (depth_at l) (shape_of c.args.node)) c.deref-2.ensures.value in
+    c.node_depth-depth.ensures ∙ ap (λ (l : List Kept). shape_depth (depth_at l) (shape_of c.args.node)) c.deref-2.ensures.value in
     let room : length ks < 2 ^ 31 = omega (arith, c.self.invariant.few, c.len-number.ensures, c.self.inside.nodes.ok.0, c.if-number-eq-MAX_LIVE.false) in
     subst AreKept (sym c.in_ok-push.ensures.items) (kept_pushed ks k c.self.invariant room m.within size depth)
 
