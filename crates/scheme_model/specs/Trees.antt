@@ -1,13 +1,18 @@
 -- Trees whose leaves are names of a kind, with the occurrences that they were read at.
-use Rattle.std.specs.Prelude.{ℕ, ◌-◌, List, codes, Option, Some, None}
+use Rattle.std.specs.Prelude.{ℕ, ◌-◌, Bool, List, codes, Option, Some, None}
 use Rattle.scheme_model.specs.declared.Occ.{Occ}
 use Rattle.scheme_model.specs.Tokens.{Leaf, Mark, Name as NameLeaf, Numeral as NumeralLeaf, Quote}
 use Rattle.scheme_model.specs.Reading.{Datum, Data, atom as atom_datum, list as list_datum, marked, none, datum, first_of}
 use Rattle.scheme_model.specs.Identifiers.{Name, Written}
 
--- an atom that isn't an identifier
+-- an atom that isn't an identifier (R7RS 7.1.2): a numeral as written, a string by its characters in UTF-8, a character by
+-- its code, a truth value, or a bytevector by its numerals as written, with one space between each two
 pub data Atom : Type 0 where
   Numeral : (text : List ℕ) → Atom
+  Quoted : (characters : List ℕ) → Atom
+  Character : (code : ℕ) → Atom
+  Boolean : Bool → Atom
+  Bytes : (numerals : List ℕ) → Atom
 
 -- an identifier, another atom, a list with its tail, or a vector; each with its place, where it was read from a text
 mutual

@@ -22,3 +22,11 @@ pub mod NumberLaws
 pub mod AscentLaws
 pub mod SmallLaws
 pub mod FaultLaws
+pub mod Places
+pub mod TableLaws
+pub mod TableSteps
+pub mod PartLaws
+pub mod StandingLaws
+pub mod KeptLaws
+pub mod AddedLaws
+pub mod WorkLaws

@@ -1,0 +1,10 @@
+use Rattle.syntax_tree.specs.Kept.{shape_of}
+use Rattle.syntax_tree.proofs.WorkLaws.{standing_within, node_read}
+use Rattle.syntax_tree.proofs.trees.Work.node.Goals as goal
+
+pub node-requires : goal.node-requires
+node-requires c = standing_within c.args.self.now c.args.tree c.requires
+
+pub returns-clause-tree : goal.returns-clause-tree
+returns-clause-tree c =
+    node_read c.args.self.now.trees.nodes c.args.self.now.symbols c.args.tree.number (shape_of c.node.result.now) c.node.ensures

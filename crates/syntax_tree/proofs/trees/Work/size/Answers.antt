@@ -1,0 +1,5 @@
+use Rattle.syntax_tree.proofs.WorkLaws.{standing_within}
+use Rattle.syntax_tree.proofs.trees.Work.size.Goals as goal
+
+pub size-requires : goal.size-requires
+size-requires c = standing_within c.args.self.now c.args.tree c.requires

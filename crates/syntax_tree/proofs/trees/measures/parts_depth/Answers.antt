@@ -1,0 +1,20 @@
+use Rattle.std.proofs.Common.{◌≡◌, ◌+◌, ◌<◌, length, drop, max, slice_index_or, arith}
+use Rattle.syntax_tree.specs.Kept.{depth_at, deepest, numbers}
+use Rattle.syntax_tree.proofs.PartLaws.{next_within, rest_within, deepest-next}
+use Rattle.syntax_tree.proofs.trees.measures.parts_depth.Goals as goal
+
+pub bounds-kept-part : goal.bounds-kept-part
+bounds-kept-part c =
+    next_within (length c.args.kept.now) c.args.parts.now c.loop-part.part-index (record { number = 0 }) c.loop-part-test.true c.loop-part.invariant.within
+
+pub bounds-kept-part-in-loop-part : goal.bounds-kept-part-in-loop-part
+bounds-kept-part-in-loop-part c =
+    next_within (length c.args.kept.now) c.args.parts.now c.loop-part.part-index (record { number = 0 }) c.loop-part-test.true c.loop-part.invariant.within
+
+pub loop-part-preserved : goal.loop-part-preserved
+loop-part-preserved c =
+    let lt = next_within (length c.args.kept.now) c.args.parts.now c.loop-part.part-index (record { number = 0 }) c.loop-part-test.true c.loop-part.invariant.within in
+    record {
+      within = rest_within (length c.args.kept.now) c.args.parts.now c.loop-part.part-index (record { number = 0 }) c.loop-part-test.true c.loop-part.invariant.within;
+      most = omega (arith, c.loop-part.invariant.most, c.max-most.ensures, deepest-next c.args.kept.now c.args.parts.now c.loop-part.part-index (record { number = 0 }) c.index-kept-part.result c.loop-part-test.true lt);
+    }

@@ -1,0 +1,68 @@
+-- The nodes of the code with their measures, and what they are as shapes.
+use Rattle.std.specs.Prelude.{◌≡◌, ℕ, ◌+◌, ◌^◌, ◌<◌, ◌≤◌, max, List, [], ◌∷◌, map, length, sum_by, slice_get, Option, Some, None}
+use Rattle.std.specs.Option.{option_map, option_map_or}
+use Rattle.syntax_tree.specs.Standing.{Shape, leaf_shape, list_shape, vector_shape, Forest}
+use Rattle.syntax_tree.specs.declared.trees.nodes.Tree.{Tree}
+use Rattle.syntax_tree.specs.declared.trees.nodes.Node.{Node}
+use Rattle.syntax_tree.specs.declared.trees.nodes.Node.TheVariants as code
+use Rattle.syntax_tree.specs.declared.trees.measures.Kept.{Kept}
+
+abbrev pub numbers : List Tree → List ℕ
+numbers ts = map (λ t. t.number) ts
+
+abbrev pub shape_of : Node → Shape
+shape_of (code.Atom leaf o) = leaf_shape leaf o
+shape_of (code.List items tail o) = list_shape (numbers items.items) (option_map (λ t. t.number) tail) o
+shape_of (code.Vector items o) = vector_shape (numbers items.items) o
+
+abbrev pub shapes : List Kept → List Shape
+shapes ks = map (λ k. shape_of k.node) ks
+
+-- the size and the depth that are kept at a number
+abbrev pub size_at : List Kept → ℕ → ℕ
+size_at ks n = option_map_or (λ (k : Kept). k.size) (slice_get ks n) 0
+
+abbrev pub depth_at : List Kept → ℕ → ℕ
+depth_at ks n = option_map_or (λ (k : Kept). k.depth) (slice_get ks n) 0
+
+-- the size of a node by the sizes of its parts
+abbrev pub shape_size : (ℕ → ℕ) → Shape → ℕ
+shape_size size (leaf_shape leaf o) = 1
+shape_size size (list_shape items None o) = 1 + sum_by size items
+shape_size size (list_shape items (Some n) o) = 1 + sum_by size items + size n
+shape_size size (vector_shape items o) = 1 + sum_by size items
+
+-- the greatest depth of some nodes
+abbrev pub deepest : (ℕ → ℕ) → List ℕ → ℕ
+deepest depth [] = 0
+deepest depth (n ∷ ns) = max (depth n) (deepest depth ns)
+
+-- the depth of a node by the depths of its parts
+abbrev pub shape_depth : (ℕ → ℕ) → Shape → ℕ
+shape_depth depth (leaf_shape leaf o) = 1
+shape_depth depth (list_shape items None o) = 1 + deepest depth items
+shape_depth depth (list_shape items (Some n) o) = 1 + max (deepest depth items) (depth n)
+shape_depth depth (vector_shape items o) = 1 + deepest depth items
+
+-- all of these are numbers of nodes
+abbrev pub AreWithin : ℕ → List ℕ → Type 0
+AreWithin count [] = Unit {0}
+AreWithin count (n ∷ ns) = (n < count) × AreWithin count ns
+
+-- the parts of a node are numbers of nodes
+abbrev pub IsWithin : ℕ → Shape → Type 0
+IsWithin count (leaf_shape leaf o) = Unit {0}
+IsWithin count (list_shape items None o) = AreWithin count items
+IsWithin count (list_shape items (Some n) o) = AreWithin count items × (n < count)
+IsWithin count (vector_shape items o) = AreWithin count items
+
+-- what contracts see of the nodes and the regions
+abbrev pub forest_of : List Kept → List ℕ → Forest
+forest_of ks regions = record { nodes = shapes ks; regions = length regions }
+
+-- the invariant of the nodes: the parts of each are nodes, and its measures are those of its parts
+pub record AreKept (ks : List Kept) : Type 0 where
+  pub few : length ks ≤ 2 ^ 31
+  pub within : (n : ℕ) (k : Kept) → slice_get ks n ≡ Some k → IsWithin (length ks) (shape_of k.node)
+  pub sizes : (n : ℕ) (k : Kept) → slice_get ks n ≡ Some k → k.size ≡ shape_size (size_at ks) (shape_of k.node)
+  pub depths : (n : ℕ) (k : Kept) → slice_get ks n ≡ Some k → k.depth ≡ shape_depth (depth_at ks) (shape_of k.node)

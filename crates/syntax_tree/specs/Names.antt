@@ -1,0 +1,48 @@
+-- What contracts see of the tables of symbols and identifiers. A number is a place in one of these lists.
+use Rattle.std.specs.Prelude.{◌≡◌, ◌⊎◌, ℕ, ◌<◌, List, [], ◌∷◌, ◌++◌, length, slice_get, Some, refl}
+use Rattle.std.proofs.Common.{ap}
+use Rattle.std.specs.Coded.{Coded, code_by, coded×, coded_ℕ, coded_list}
+use Rattle.syntax_tree.specs.Identifiers.{Identifier, Written, Inserted}
+
+-- the symbols, each as its characters in UTF-8, and the identifiers
+pub record Names : Type 0 where
+  pub symbols : List (List ℕ)
+  pub idents : List Identifier
+
+-- different places hold different things
+abbrev pub AreToldApart : {A : Type 0} → List A → Type 0
+AreToldApart xs = (i j : ℕ) → i < length xs → slice_get xs i ≡ slice_get xs j → i ≡ j
+
+-- a list stays, or has one thing more at its end
+abbrev pub GainsAtMost : {A : Type 0} → List A → List A → A → Type 0
+GainsAtMost old new x = (new ≡ old) ⊎ (new ≡ old ++ x ∷ [])
+
+-- each symbol and each identifier keeps its number
+pub record KeepsNames (old new : Names) : Type 0 where
+  pub symbols : (n : ℕ) (s : List ℕ) → slice_get old.symbols n ≡ Some s → slice_get new.symbols n ≡ Some s
+  pub idents : (n : ℕ) (i : Identifier) → slice_get old.idents n ≡ Some i → slice_get new.idents n ≡ Some i
+
+-- an identifier is stored as its numbers of uses, the last use first, with its unit and its symbol
+abbrev uses : Identifier → List (ℕ × (ℕ × ℕ))
+uses (Written u s) = []
+uses (Inserted i k) = (k.unit, (k.form, k.count)) ∷ uses i
+
+abbrev written : Identifier → ℕ × List ℕ
+written (Written u s) = (u, s)
+written (Inserted i k) = written i
+
+abbrev inserted : List (ℕ × (ℕ × ℕ)) → ℕ × List ℕ → Identifier
+inserted [] w = Written w.0 w.1
+inserted (k ∷ ks) w = Inserted (inserted ks w) (record { unit = k.0; form = k.1.0; count = k.1.1 })
+
+pub inserted-uses : (i : Identifier) → inserted (uses i) (written i) ≡ i
+inserted-uses (Written u s) = refl
+inserted-uses (Inserted i k) = ap (λ (j : Identifier). Inserted j k) (inserted-uses i)
+
+abbrev pub identifier_code : Coded Identifier
+identifier_code =
+    code_by (List (ℕ × (ℕ × ℕ)) × (ℕ × List ℕ)) (coded× (coded_list (coded× coded_ℕ (coded× coded_ℕ coded_ℕ))) (coded× coded_ℕ (coded_list coded_ℕ))) (λ i. (uses i, written i)) (λ p. inserted p.0 p.1) inserted-uses
+
+abbrev pub names_code : Coded Names
+names_code =
+    code_by (List (List ℕ) × List Identifier) (coded× (coded_list (coded_list coded_ℕ)) (coded_list identifier_code)) (λ n. (n.symbols, n.idents)) (λ p. record { symbols = p.0; idents = p.1 }) (λ _. refl)

@@ -1,0 +1,151 @@
+//! Symbols and identifiers by number. A number is a place in a table, so equal symbols have one number, and so do
+//! equal identifiers (R7RS 4.3).
+ghost use Rattle.std.specs.Prelude.{◌≡◌, ◌<◌, [], length, slice_get, Some, IfOk, OnErr};
+ghost use Rattle.std.specs.Option.{option_map};
+ghost use Rattle.syntax_tree.specs.Identifiers.{Identifier, strip};
+ghost use Rattle.syntax_tree.specs.Names.{Names, AreToldApart, GainsAtMost, KeepsNames};
+ghost use Rattle.syntax_tree.specs.Numbered.{ident_of, IsPlaced};
+
+use indexmap::{IndexMap, IndexSet};
+use ls_base::{Mem, Memory};
+use std::alloc::Global;
+use std::marker::Model;
+
+/// A symbol's number: its place in the table of symbols.
+pub type SymNo = usize;
+
+/// An identifier's number: its place in the table of identifiers.
+pub type IdNo = usize;
+
+/// The number of a macro use: the unit, the form in the unit, and how many uses of the form came before.
+#[derive(Clone, Copy, Debug, PartialEq, Eq, PartialOrd, Ord, Hash)]
+pub struct UseNo {
+    pub unit: u32,
+    pub form: u32,
+    pub count: u32,
+}
+
+/// An identifier: a symbol written in a unit, or an identifier that a macro use inserted.
+#[derive(Clone, Copy, Debug, PartialEq, Eq, PartialOrd, Ord, Hash)]
+pub enum Ident {
+    Written { unit: u32, symbol: SymNo },
+    Inserted { id: IdNo, number: UseNo },
+}
+
+/// The tables of symbols and of identifiers, which only grow. Beside each identifier stands its innermost symbol.
+#[derive(Drop)]
+pub struct Symbols {
+    alloc: Global,
+    names: IndexSet<String>,
+    idents: IndexMap<Ident, SymNo>,
+}
+
+impl Model for Symbols {
+    ghost use Rattle.syntax_tree.specs.Names.{Names, names_code};
+
+    ghost Value = { Names };
+
+    ghost coded = { names_code };
+
+    ghost use Rattle.syntax_tree.specs.Numbered.{names_of, AreTables};
+
+    ghost view = { λ s. names_of s.names s.idents };
+
+    ghost invariant = { λ s. AreTables s.names s.idents };
+}
+
+impl Symbols {
+    /// Empty tables, which take no memory.
+    pub fn new(alloc: Global) -> Symbols
+        ensures symbols { result.symbols ≡ [] }
+        ensures idents { result.idents ≡ [] }
+    {
+        Symbols {
+            alloc,
+            names: IndexSet::new(alloc),
+            idents: IndexMap::new(alloc),
+        }
+    }
+
+    /// The number of a symbol, which is added at the end where it is new. The name is the symbol's characters in UTF-8.
+    pub fn symbol(&mut self, name: &str) -> Mem<SymNo>
+        ensures ok { IfOk result (λ n. slice_get self.new.symbols n ≡ Some name.now) }
+        ensures grows { GainsAtMost self.old.symbols self.new.symbols name.now }
+        ensures idents { self.new.idents ≡ self.old.idents }
+        ensures keeps { KeepsNames self.old self.new }
+        ensures err { OnErr result (self.new ≡ self.old) }
+    {
+        if let Some(number) = self.names.get_index_of(name) {
+            return Ok(number);
+        }
+        let owned = String::from_str(self.alloc, name)?;
+        let (number, _) = self.names.insert_full(owned)?;
+        Ok(number)
+    }
+
+    /// The characters of a symbol. It takes no memory.
+    pub fn name(&self, symbol: SymNo) -> &str
+        requires { symbol < length self.now.symbols }
+        ensures { slice_get self.now.symbols symbol ≡ Some result.now }
+    {
+        self.names.get_index(symbol).unwrap().as_str()
+    }
+
+    /// The number of an identifier, which is added at the end where it is new.
+    pub fn ident(&mut self, ident: Ident) -> Mem<IdNo>
+        requires { IsPlaced self.old ident }
+        ensures ok { IfOk result (λ n. slice_get self.new.idents n ≡ ident_of self.old ident) }
+        ensures grows { (i : Identifier) → ident_of self.old ident ≡ Some i →
+            GainsAtMost self.old.idents self.new.idents i }
+        ensures symbols { self.new.symbols ≡ self.old.symbols }
+        ensures keeps { KeepsNames self.old self.new }
+        ensures err { OnErr result (self.new ≡ self.old) }
+    {
+        if let Some(number) = self.idents.get_index_of(&ident) {
+            return Ok(number);
+        }
+        let symbol = self.innermost(ident);
+        let (number, _) = self.idents.insert_full(ident, symbol)?;
+        Ok(number)
+    }
+
+    /// The identifier of a number. It takes no memory.
+    pub fn ident_at(&self, id: IdNo) -> Ident
+        requires { id < length self.now.idents }
+        ensures ident { slice_get self.now.idents id ≡ ident_of self.now result }
+        ensures placed { IsPlaced self.now result }
+    {
+        let (ident, _) = self.idents.get_index(id).unwrap();
+        *ident
+    }
+
+    /// The symbol innermost in an identifier, in constant time. It takes no memory.
+    pub fn strip(&self, id: IdNo) -> SymNo
+        requires { id < length self.now.idents }
+        ensures { slice_get self.now.symbols result ≡ option_map strip (slice_get self.now.idents id) }
+    {
+        self.idents[id]
+    }
+
+    /// Different numbers are different symbols, and different numbers are different identifiers.
+    pub fn told_apart(&self)
+        ensures symbols { AreToldApart self.now.symbols }
+        ensures idents { AreToldApart self.now.idents }
+    {
+        let _names = &self.names;
+    }
+
+    /// The symbol innermost in an identifier that may be new.
+    fn innermost(&self, ident: Ident) -> SymNo
+        requires { IsPlaced self.now ident }
+        ensures { slice_get self.now.symbols result ≡ option_map strip (ident_of self.now ident) }
+    {
+        match ident {
+            Ident::Written { unit: _, symbol } => symbol,
+            Ident::Inserted { id, number: _ } => self.strip(id),
+        }
+    }
+}
+
+#[cfg(test)]
+mod tests;

@@ -1,0 +1,40 @@
+//! Nodes, whose parts are trees by number.
+use crate::symbols::{IdNo, SymNo};
+use scheme_model::Occ;
+
+/// A tree: the number of its outermost node.
+#[derive(Clone, Copy, Debug, PartialEq, Eq, PartialOrd, Ord, Hash)]
+pub struct Tree {
+    pub number: u32,
+}
+
+/// A datum without parts (R7RS 7.1.2). The text of a numeral, the characters of a string and the numerals of a
+/// bytevector, with one space between each two, are kept as symbols.
+#[derive(Clone, Copy, Debug, PartialEq, Eq)]
+pub enum Leaf {
+    Name(IdNo),
+    Numeral(SymNo),
+    Quoted(SymNo),
+    Char(char),
+    Bool(bool),
+    Bytes(SymNo),
+}
+
+/// A node. The tail of a list is never a list itself. The place is that of a name, or of the first token of anything
+/// else, and there is none where the node was built.
+#[derive(Debug, Drop)]
+pub enum Node {
+    Atom {
+        leaf: Leaf,
+        occ: Option<Occ>,
+    },
+    List {
+        items: Vec<Tree>,
+        tail: Option<Tree>,
+        occ: Option<Occ>,
+    },
+    Vector {
+        items: Vec<Tree>,
+        occ: Option<Occ>,
+    },
+}
