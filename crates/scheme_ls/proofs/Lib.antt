@@ -1,3 +1,4 @@
+pub mod OneOutput
 pub mod Serves
 pub mod Goings
 pub mod PieceLaws

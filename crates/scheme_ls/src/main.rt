@@ -4,6 +4,7 @@
 ghost use Rattle.std.specs.Prelude.{◌≡◌, ◌<◌};
 
 mod answering;
+pub mod laws;
 mod printing;
 mod reading;
 mod replies;

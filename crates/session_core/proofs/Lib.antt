@@ -1,3 +1,5 @@
 pub mod EventLaws
 pub mod Sayings
 pub mod Evented
+pub mod Sorted
+pub mod OneAnswer

@@ -11,6 +11,11 @@ ghost use Rattle.lsp_messages.specs.Messages.{message_of};
 ghost use Rattle.document_store.specs.Texts as store;
 ghost use Rattle.scheme_model.specs.Texts as texts;
 ghost use Rattle.session_core.specs.Said.{offsets};
+ghost use Rattle.ls_base.specs.declared.answers.Answer.{Answer};
+ghost use Rattle.lsp_messages.specs.declared.reply.Reply.{Reply};
+ghost use Rattle.scheme_model.specs.Session as session;
+ghost use Rattle.session_core.specs.Answered.{AreReplies};
+ghost use Rattle.session_core.specs.Asked.{Question, IsAnswerTo};
 ghost use Rattle.session_core.specs.Agreement.{said_event, said_after};
 
 /// Events make the same of the texts by the store's definition as by a session's.
@@ -28,4 +33,12 @@ pub fn only_arrows_are_asked()
 /// No body is refused for want of memory by the definition of what it says.
 pub fn no_body_wants_memory()
     ensures { (body : List ℕ) → message_of body ≢ Err rejects.Memory }
+{}
+
+/// A question has one answer at most, and a reply of a session is one message at most.
+pub fn one_answer()
+    ensures answer { (question : Question) (one other : Answer) →
+        IsAnswerTo question one → IsAnswerTo question other → one ≡ other }
+    ensures replies { (replies : List (session.Reply Question)) (ones others : List Reply) →
+        AreReplies replies ones → AreReplies replies others → ones ≡ others }
 {}

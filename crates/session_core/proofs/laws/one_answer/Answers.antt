@@ -1,0 +1,5 @@
+use Rattle.session_core.proofs.OneAnswer.{one_answer, one_replies}
+use Rattle.session_core.proofs.laws.one_answer.Goals as goal
+
+pub returns : goal.returns
+returns c = record { answer = one_answer; replies = one_replies }
