@@ -1,19 +1,18 @@
 -- A spelled name is read back.
-use Rattle.std.proofs.Common.{◌≡◌, ℕ, zero, suc, ◌+◌, ◌*◌, ◌/◌, ◌%◌, ◌<◌, ◌≤◌, ◌-◌, inl, inr, List, [], ◌∷◌, ◌++◌, Option, Some, None, Result, Ok, Err, Bool, true, false, cond, not, refl, sym, ap, ◌∙◌, subst, arith, length, append_assoc, ◌==◌, nat_lt, ◌&&◌, ◌||◌}
+use Rattle.std.proofs.Common.{◌≡◌, ℕ, zero, suc, ◌+◌, ◌*◌, ◌/◌, ◌%◌, ◌<◌, ◌≤◌, inl, inr, List, [], ◌∷◌, ◌++◌, Option, Some, Result, Ok, Bool, true, false, cond, not, refl, sym, ap, ◌∙◌, arith, length, append_assoc, ◌==◌, nat_lt, ◌&&◌, ◌||◌}
 use Rattle.std.specs.List.{list_all, flat_map}
 use Rattle.std.specs.Char.{is_whitespace, is_ascii, digit_value, digit_char}
-use Rattle.std.specs.Str.{encode_utf8_all}
 use Rattle.std.proofs.lemmas.Bool.{cond-true, cond-false, or_cases, or_left, or_right, cond_both, and_parts, and_from, eqb-true, lt-ltb, ltb-true, cases_eq, eq-eqb, not-true, false_from_ne_true, false≢true, or_parts}
 use Rattle.std.proofs.lemmas.Bool.Decides.{nat_tests}
 use Rattle.std.proofs.lemmas.List.{length-append}
 use Rattle.std.proofs.lemmas.Str.{digit_value-digit_char, length-le-encodes}
 use Rattle.unicode.proofs.CategoryComputing.{ucd_category}
 use Rattle.scheme_tokens.specs.Characters.{is_one_of, is_delimiter, is_sign, is_initial, is_subsequent, is_sign_subsequent, is_dot_subsequent, is_hex_digit, is_scalar}
-use Rattle.scheme_tokens.specs.Words.{byte_count, front_of, behind, is_inside, word_of, behind_word, is_numeral, is_identifier, goes_on_sign, goes_on_dot}
-use Rattle.scheme_tokens.specs.Quoted.{Fault, ◌>>=◌, element, elements, escape, quoted, hex_value, hex_scalar, hex_end, letter}
+use Rattle.scheme_tokens.specs.Words.{byte_count, front_of, behind, is_inside, is_numeral, is_identifier, goes_on_sign, goes_on_dot}
+use Rattle.scheme_tokens.specs.Quoted.{Fault, ◌>>=◌, element, elements, escape, quoted, hex_value, hex_end, letter}
 use Rattle.scheme_tokens.specs.Tokens.{TokenKind, Atomic, Name, word_kind, word_token, token}
 use Rattle.scheme_tokens.specs.Reading.{IsIdentifier}
-use Rattle.scheme_tokens.specs.Spelled.{is_bare, hex_digits, hex_escape, in_bars, barred, spelled}
+use Rattle.scheme_tokens.specs.Spelled.{hex_digits, hex_escape, in_bars, barred, spelled}
 use Rattle.scheme_tokens.proofs.Fronts.{front_of-cons, byte_count-encodes}
 
 -- no character of an identifier ends a word
@@ -96,7 +95,7 @@ white_end : (c : ℕ) → is_whitespace c ≡ true → is_subsequent c ≡ false
 white_end c =
     either c 12288 ((((more_spaces c || c == 8232) || c == 8233) || c == 8239) || c == 8287)
     (either c 8287 (((more_spaces c || c == 8232) || c == 8233) || c == 8239)
-      (either c 8239 ((more_spaces c || c == 8232) || c == 8233) (either c 8233 (more_spaces c || c == 8232) (either c 8232 (more_spaces c) (more_spaces_end c) refl) refl) refl) refl)
+    (either c 8239 ((more_spaces c || c == 8232) || c == 8233) (either c 8233 (more_spaces c || c == 8232) (either c 8232 (more_spaces c) (more_spaces_end c) refl) refl) refl) refl)
     refl
 
 marks_end : (c : ℕ) → is_one_of (34 ∷ 124 ∷ 40 ∷ 41 ∷ 59 ∷ []) c ≡ true → is_subsequent c ≡ false

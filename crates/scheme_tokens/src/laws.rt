@@ -12,5 +12,4 @@ pub fn one_reading()
 /// A symbol, spelled with or without bars asked for, is one identifier that names it again.
 pub fn spelled_back()
     ensures { (name : List ℕ) (bars : Bool) → IsIdentifier name (spelled name bars) }
-{
-}
+{}
