@@ -37,7 +37,7 @@ list_all-front_of p (c ∷ cs) = all_more p c cs (p c) refl (list_all-front_of p
 pub front_of-cons : (p : ℕ → Bool) (c : ℕ) (cs : List ℕ) → p c ≡ true → front_of p (c ∷ cs) ≡ c ∷ front_of p cs
 front_of-cons p c cs h = ap (λ (b : Bool). cond b (c ∷ front_of p cs) []) h
 
-byte_count-encodes : (cs : List ℕ) → byte_count cs ≡ length (encode_utf8_all cs)
+pub byte_count-encodes : (cs : List ℕ) → byte_count cs ≡ length (encode_utf8_all cs)
 byte_count-encodes [] = refl
 byte_count-encodes (c ∷ cs) =
     omega (arith, sum_by-cons len_utf8 c cs, length-append (encode_utf8 c) (encode_utf8_all cs), length-encode c, byte_count-encodes cs)

@@ -6,3 +6,4 @@ pub mod HexLaws
 pub mod TokenLaws
 pub mod Readings
 pub mod NameLaws
+pub mod SpellLaws

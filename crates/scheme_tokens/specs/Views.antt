@@ -1,7 +1,11 @@
 -- What the code's values stand for. Its texts are UTF-8.
-use Rattle.std.specs.Prelude.{◌≡◌, ◌≤◌, ◌⊎◌, ℕ, List, Option, Some, None, Result, Ok, Err, map, Bool}
+use Rattle.std.specs.Prelude.{◌≡◌, ◌<◌, ◌≤◌, String, ◌⊎◌, ℕ, List, Option, Some, None, Result, Ok, Err, map, Bool}
 use Rattle.std.specs.Borrow.{Bor}
+use Rattle.std.specs.Option.{option_to_list}
+use Rattle.std.specs.String.{string_bytes}
+use Rattle.std.specs.Global.{Global}
 use Rattle.std.specs.Str.{chars}
+use Rattle.ls_base.specs.declared.places.Span.{Span}
 use Rattle.scheme_tokens.specs.Characters.{is_hex_digit, is_blank}
 use Rattle.scheme_tokens.specs.Words.{is_inside}
 use Rattle.scheme_tokens.specs.Quoted.{Fault, bad_token, open_string, open_bar, open_comment, label, directive}
@@ -98,6 +102,22 @@ IsNext (Err (reads.At number span)) n = (f : FaultAt) × (n ≡ ended (Some f)) 
 abbrev pub Explains : code_read.ReadFault → List ℕ → Type 0
 Explains reads.Memory text = Unit {0}
 Explains (reads.At number span) text = (f : FaultAt) × Stops f text × (reads.At number span ≡ read_fault f)
+
+-- what an element means, and the text behind it
+abbrev pub meant_at : Option ℕ × Bor (List ℕ) → List ℕ × List ℕ
+meant_at x = (option_to_list x.0, chars x.1.now)
+
+-- what stands between marks, and the text behind it
+abbrev pub quoted_at : String Global × Bor (List ℕ) → List ℕ × List ℕ
+quoted_at x = (chars (string_bytes x.0), chars x.1.now)
+
+-- a token, and the text behind it
+abbrev pub token_at : code_kind.TokenKind × Bor (List ℕ) → TokenKind × List ℕ
+token_at x = (kind_of x.0, chars x.1.now)
+
+-- some bytes of a text of so many
+abbrev pub IsWithin : ℕ → Span → Type 0
+IsWithin size span = (span.start < span.end) × (span.end ≤ size)
 
 -- what a function answered, seen by view, is what reading gives, unless memory ran out
 abbrev pub Fails : {Y : Type 0} → code_scan.ScanFault → Result Y Fault → Type 0

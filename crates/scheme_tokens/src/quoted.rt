@@ -7,7 +7,7 @@ ghost use Rattle.std.specs.Str.{chars};
 ghost use Rattle.std.specs.String.{string_bytes};
 ghost use Rattle.scheme_tokens.specs.Characters.{is_hex_digit};
 ghost use Rattle.scheme_tokens.specs.Quoted.{open_at, escaped, hex_value, hex_scalar, hex_end, behind_line_end, fold_end, escape, element, quoted};
-ghost use Rattle.scheme_tokens.specs.Views.{fault_of, IsCapped, Gives, Is};
+ghost use Rattle.scheme_tokens.specs.Views.{fault_of, IsCapped, Gives, Is, meant_at, quoted_at};
 
 use crate::character::{Class, is_blank, is_line_end};
 use crate::fault::{Fault, ScanFault};
@@ -81,7 +81,7 @@ pub fn hex_char(digits: &str) -> Option<char>
 /// An escape's end behind its hex digits.
 fn hex_end<'a>(close: char, digits: &str, rest: &'a str) -> Result<(Option<char>, &'a str), Fault>
     requires { list_all is_hex_digit (chars digits.now) ≡ true }
-    ensures gives { Is (λ x. (option_to_list x.0, chars x.1.now)) result (hex_end close (chars digits.now) (chars rest.now)) }
+    ensures gives { Is meant_at result (hex_end close (chars digits.now) (chars rest.now)) }
     ensures within { IfOk result (λ x. length x.1.now ≤ length rest.now) }
 {
     let Some((c, more)) = split_first(rest) else {
@@ -109,7 +109,7 @@ fn behind_line_end(c: char, text: &str) -> &str
 
 /// A folded line end, behind its backslash and blanks.
 fn fold_end(close: char, text: &str) -> Result<(Option<char>, &str), Fault>
-    ensures gives { Is (λ x. (option_to_list x.0, chars x.1.now)) result (fold_end close (chars text.now)) }
+    ensures gives { Is meant_at result (fold_end close (chars text.now)) }
     ensures within { IfOk result (λ x. length x.1.now ≤ length text.now) }
 {
     let Some((c, rest)) = split_first(text) else {
@@ -125,7 +125,7 @@ fn fold_end(close: char, text: &str) -> Result<(Option<char>, &str), Fault>
 /// An escape, behind its backslash: what it means, and the text behind it.
 #[tactic(auto, unfolding(crate::specs::Quoted::escape))]
 fn escape(close: char, text: &str) -> Result<(Option<char>, &str), Fault>
-    ensures gives { Is (λ x. (option_to_list x.0, chars x.1.now)) result (escape close (chars text.now)) }
+    ensures gives { Is meant_at result (escape close (chars text.now)) }
     ensures within { IfOk result (λ x. length x.1.now ≤ length text.now) }
 {
     let Some((c, rest)) = split_first(text) else {
@@ -149,7 +149,7 @@ fn escape(close: char, text: &str) -> Result<(Option<char>, &str), Fault>
 /// One element, whose first character is given: what it means, and the text behind it.
 #[tactic(auto, unfolding(crate::specs::Quoted::element))]
 fn element(close: char, c: char, rest: &str) -> Result<(Option<char>, &str), Fault>
-    ensures gives { Is (λ x. (option_to_list x.0, chars x.1.now)) result (element close c (chars rest.now)) }
+    ensures gives { Is meant_at result (element close c (chars rest.now)) }
     ensures within { IfOk result (λ x. length x.1.now ≤ length rest.now) }
 {
     if c == '\\' {
@@ -182,7 +182,7 @@ fn push_meant(value: &mut String, meant: Option<char>) -> Mem<()>
 
 /// What is meant up to the mark that closes, and the text behind it.
 pub fn quoted(alloc: Global, close: char, text: &str) -> Result<(String, &str), ScanFault>
-    ensures gives { Gives (λ x. (chars (string_bytes x.0), chars x.1.now)) result (quoted close (chars text.now)) }
+    ensures gives { Gives quoted_at result (quoted close (chars text.now)) }
     ensures within { IfOk result (λ x. length x.1.now ≤ length text.now) }
 {
     let mut value = String::new(alloc);

@@ -1,9 +1,10 @@
 //! The tokens of a text (R7RS 7.1.1).
-ghost use Rattle.std.specs.Prelude.{◌≡◌, ◌^◌, ◌<◌, ◌≤◌, ◌⊎◌, List, length, drop, IfOk, IfErr, IfSome, MatchResult};
+ghost use Rattle.std.specs.Prelude.{◌≡◌, ◌+◌, ◌^◌, ◌<◌, ◌≤◌, ◌⊎◌, List, length, drop, IfOk, IfErr, IfSome, MatchResult};
+ghost use Rattle.std.specs.List.{All};
 ghost use Rattle.std.specs.Str.{chars, IsUtf8};
 ghost use Rattle.scheme_tokens.specs.Reading as model;
 ghost use Rattle.scheme_tokens.specs.Reading.{FaultAt, place, behind_fault, fault_at, next, behind_mark, IsSpelled, Stops};
-ghost use Rattle.scheme_tokens.specs.Views.{fault_of, read_fault, tokens_of, IsNext, Explains};
+ghost use Rattle.scheme_tokens.specs.Views.{fault_of, read_fault, tokens_of, IsNext, Explains, IsWithin};
 
 use crate::character::Class;
 use crate::fault::{Fault, ReadFault, ScanFault};
@@ -46,6 +47,8 @@ fn span(size: usize, from: &str, to: &str) -> Span
     requires to { length to.now ≤ size }
     ensures start { result.start ≡ place size (chars from.now) }
     ensures end { result.end ≡ place size (chars to.now) }
+    ensures start_left { result.start + length from.now ≡ size }
+    ensures end_left { result.end + length to.now ≡ size }
 {
     Span {
         start: (size - from.len()) as u32,
@@ -72,6 +75,7 @@ fn next(alloc: Global, size: usize, text: &str) -> Result<Option<(Token, &str)>,
     ensures next { IsNext result (next size (chars text.now)) }
     ensures within { IfOk result (λ found. IfSome found (λ t. length t.1.now < length text.now)) }
     ensures utf8 { IfOk result (λ found. IfSome found (λ t. IsUtf8 t.1.now)) }
+    ensures place { IfOk result (λ found. IfSome found (λ t. IsWithin size t.0.span)) }
 {
     let front = match skip_gap(text) {
         Ok(front) => front,
@@ -109,6 +113,9 @@ pub fn tokens(alloc: Global, text: &str) -> Result<Items<Token>, ReadFault>
     ensures found { IfOk result (λ ts. IsSpelled (tokens_of ts) (chars text.now)) }
     ensures only { (ts : List model.Token) → IsSpelled ts (chars text.now) →
         MatchResult result (λ items. tokens_of items ≡ ts) (λ e. e ≡ ReadFault.Memory) }
+
+    // Each has some bytes of the text.
+    ensures places { IfOk result (λ ts. All (λ t. IsWithin (length text.now) t.span) ts) }
 
     // A fault is answered where the text stops at it, and only there.
     ensures fault { IfErr result (λ e. Explains e (chars text.now)) }

@@ -6,7 +6,7 @@ ghost use Rattle.std.specs.Str.{chars};
 ghost use Rattle.scheme_tokens.specs.Characters.{is_hex_digit};
 ghost use Rattle.scheme_tokens.specs.Words.{is_text};
 ghost use Rattle.scheme_tokens.specs.Tokens.{word_kind, hash_kind, named, character_of, behind_hash_slash, behind_bytes, hash_word, hash_token, word_token, unquote_token, string_token, bar_token, token};
-ghost use Rattle.scheme_tokens.specs.Views.{kind_of, Gives};
+ghost use Rattle.scheme_tokens.specs.Views.{kind_of, token_at, Gives};
 
 use crate::character::Class;
 use crate::fault::{Fault, ScanFault};
@@ -113,7 +113,7 @@ fn character(first: char, word: &str) -> Option<char>
 
 /// A character, behind its `#\`.
 fn character_token(text: &str) -> Result<(TokenKind, &str), ScanFault>
-    ensures gives { Gives (λ x. (kind_of x.0, chars x.1.now)) result (behind_hash_slash (chars text.now)) }
+    ensures gives { Gives token_at result (behind_hash_slash (chars text.now)) }
     ensures within { IfOk result (λ x. length x.1.now ≤ length text.now) }
 {
     let Some((first, rest)) = split_first(text) else {
@@ -145,7 +145,7 @@ fn hash_word<'a>(
     word: &str,
     rest: &'a str,
 ) -> Result<(TokenKind, &'a str), ScanFault>
-    ensures gives { Gives (λ x. (kind_of x.0, chars x.1.now)) result (hash_word (chars word.now) (chars rest.now)) }
+    ensures gives { Gives token_at result (hash_word (chars word.now) (chars rest.now)) }
     ensures within { IfOk result (λ x. length x.1.now ≤ length rest.now) }
 {
     if let Some(behind) = behind_bytes(word, rest) {
@@ -166,7 +166,7 @@ fn hash_token<'a>(
 ) -> Result<(TokenKind, &'a str), ScanFault>
     requires hash { chars text.now ≡ 35 ∷ chars behind.now }
     requires shorter { length behind.now < length text.now }
-    ensures gives { Gives (λ x. (kind_of x.0, chars x.1.now)) result (hash_token (chars behind.now)) }
+    ensures gives { Gives token_at result (hash_token (chars behind.now)) }
     ensures within { IfOk result (λ x. length x.1.now < length text.now) }
 {
     let Some((c, rest)) = split_first(behind) else {
@@ -202,7 +202,7 @@ fn unquote_token(text: &str) -> (TokenKind, &str)
 
 /// A string, behind its quotation mark.
 fn string_token(alloc: Global, text: &str) -> Result<(TokenKind, &str), ScanFault>
-    ensures gives { Gives (λ x. (kind_of x.0, chars x.1.now)) result (string_token (chars text.now)) }
+    ensures gives { Gives token_at result (string_token (chars text.now)) }
     ensures within { IfOk result (λ x. length x.1.now ≤ length text.now) }
 {
     let (value, rest) = quoted(alloc, '"', text)?;
@@ -211,7 +211,7 @@ fn string_token(alloc: Global, text: &str) -> Result<(TokenKind, &str), ScanFaul
 
 /// A name between bars, behind the first.
 fn bar_token(alloc: Global, text: &str) -> Result<(TokenKind, &str), ScanFault>
-    ensures gives { Gives (λ x. (kind_of x.0, chars x.1.now)) result (bar_token (chars text.now)) }
+    ensures gives { Gives token_at result (bar_token (chars text.now)) }
     ensures within { IfOk result (λ x. length x.1.now ≤ length text.now) }
 {
     let (value, rest) = quoted(alloc, '|', text)?;
@@ -221,7 +221,7 @@ fn bar_token(alloc: Global, text: &str) -> Result<(TokenKind, &str), ScanFault>
 
 /// A word that begins with no `#`, and what follows it.
 fn word_token(alloc: Global, text: &str) -> Result<(TokenKind, &str), ScanFault>
-    ensures gives { Gives (λ x. (kind_of x.0, chars x.1.now)) result (word_token (chars text.now)) }
+    ensures gives { Gives token_at result (word_token (chars text.now)) }
     ensures within { IfOk result (λ x. length x.1.now < length text.now) }
 {
     let (word, rest) = split_front(text, Class::Inside);
@@ -234,7 +234,7 @@ fn word_token(alloc: Global, text: &str) -> Result<(TokenKind, &str), ScanFault>
 /// The token at the front of a text, and the text behind it.
 #[tactic(auto, unfolding(crate::specs::Tokens::token))]
 pub fn token(alloc: Global, text: &str) -> Result<(TokenKind, &str), ScanFault>
-    ensures gives { Gives (λ x. (kind_of x.0, chars x.1.now)) result (token (chars text.now)) }
+    ensures gives { Gives token_at result (token (chars text.now)) }
     ensures within { IfOk result (λ x. length x.1.now < length text.now) }
 {
     let Some((c, rest)) = split_first(text) else {
