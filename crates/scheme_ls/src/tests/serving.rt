@@ -1,6 +1,7 @@
 //! Sessions over the outside in memory.
 use super::{Run, outcome, plain};
 use std::alloc::{AllocError, Global};
+use std::process::Abort;
 use std::test::Fail;
 
 const EARLY: &str = r#"{"jsonrpc":"2.0","id":1,"method":"textDocument/definition"}"#;
@@ -62,70 +63,64 @@ fn frames(alloc: Global, bodies: &[&str]) -> Result<String, AllocError> {
     Ok(text)
 }
 
-#[test]
-fn sessions_and_their_replies(rt: HostRuntime) -> Result<(), Fail> {
-    let table: [(&[&str], u8, &[&str]); 9] = [
-        (&[], 1, &[]),
-        (&SESSION, 0, &REPLIES),
-        (&[EARLY, INITIALIZE, EXIT], 1, &REPLIES[..2]),
-        (&[EXIT, INITIALIZE], 1, &[]),
-        (&[INITIALIZE], 1, &[INITIALIZE_REPLY]),
-        (
-            &[INITIALIZE, OPEN, ASK, EXIT],
-            1,
-            &[INITIALIZE_REPLY, ARROWS],
-        ),
-        (
-            &[INITIALIZE, OPEN, CHANGE, ASK, EXIT],
-            1,
-            &[INITIALIZE_REPLY, ARROWS_CHANGED],
-        ),
-        (&[INITIALIZE, ASK, EXIT], 1, &[INITIALIZE_REPLY, NO_ARROWS]),
-        (
-            &[INITIALIZE, SHUTDOWN, EXIT, ASK],
-            0,
-            &[INITIALIZE_REPLY, SHUTDOWN_REPLY],
-        ),
-    ];
-    for (bodies, status, replies) in table {
-        let input = frames(rt.alloc(), bodies)?;
-        let expected = frames(rt.alloc(), replies)?;
-        for (piece, step) in [(u16::MAX, 10_000), (1, 10_000), (64, 1)] {
-            let run = Run {
-                piece,
-                step,
-                ..plain("serve", &input)
-            };
-            let (ended, out) = outcome(rt.alloc(), run)?;
-            assert_eq!(rt; ended, status, "at {input}");
-            assert_eq!(rt; out.as_slice(), expected.as_bytes(), "at {input}");
-        }
+/// Whether a stream of these bodies and some more bytes ends so and gives these replies, in pieces of any size.
+fn answers(
+    rt: &impl Abort,
+    alloc: Global,
+    bodies: &[&str],
+    rest: &str,
+    status: u8,
+    replies: &[&str],
+) -> Result<(), Fail> {
+    let mut input = frames(alloc, bodies)?;
+    input.push_str(rest)?;
+    let expected = frames(alloc, replies)?;
+    for (piece, step) in [(u16::MAX, 10_000), (1, 10_000), (64, 1)] {
+        let run = Run {
+            piece,
+            step,
+            ..plain("serve", &input)
+        };
+        let (ended, out) = outcome(alloc, run)?;
+        assert_eq!(rt; ended, status, "at {input}");
+        assert_eq!(rt; out.as_slice(), expected.as_bytes(), "at {input}");
     }
     Ok(())
 }
 
 #[test]
+fn sessions_and_their_replies(rt: HostRuntime) -> Result<(), Fail> {
+    let a = rt.alloc();
+    answers(&rt, a, &[], "", 1, &[])?;
+    answers(&rt, a, &SESSION, "", 0, &REPLIES)?;
+    answers(&rt, a, &[EARLY, INITIALIZE, EXIT], "", 1, &REPLIES[..2])?;
+    answers(&rt, a, &[EXIT, INITIALIZE], "", 1, &[])?;
+    answers(&rt, a, &[INITIALIZE], "", 1, &[INITIALIZE_REPLY])?;
+    let clean = [INITIALIZE, SHUTDOWN, EXIT, ASK];
+    answers(&rt, a, &clean, "", 0, &[INITIALIZE_REPLY, SHUTDOWN_REPLY])?;
+    Ok(())
+}
+
+#[test]
+fn documents_and_their_arrows(rt: HostRuntime) -> Result<(), Fail> {
+    let a = rt.alloc();
+    let opened = [INITIALIZE, OPEN, ASK, EXIT];
+    answers(&rt, a, &opened, "", 1, &[INITIALIZE_REPLY, ARROWS])?;
+    let changed = [INITIALIZE, OPEN, CHANGE, ASK, EXIT];
+    answers(&rt, a, &changed, "", 1, &[INITIALIZE_REPLY, ARROWS_CHANGED])?;
+    let missing = [INITIALIZE, ASK, EXIT];
+    answers(&rt, a, &missing, "", 1, &[INITIALIZE_REPLY, NO_ARROWS])?;
+    Ok(())
+}
+
+#[test]
 fn a_fault_of_frames_ends_with_6_unless_exit_came(rt: HostRuntime) -> Result<(), Fail> {
-    let table: [(&[&str], &str, u8, &[&str]); 4] = [
-        (&[], "Content-Length: +5\r\n", 6, &[]),
-        (&[EARLY], "\r\n", 6, &[EARLY_REPLY]),
-        (&[EARLY, EXIT], "\r\n", 1, &[EARLY_REPLY]),
-        (&[EARLY], "Content-Length: 9\r\n\r\n{}", 1, &[EARLY_REPLY]),
-    ];
-    for (bodies, rest, status, replies) in table {
-        let mut input = frames(rt.alloc(), bodies)?;
-        input.push_str(rest)?;
-        let expected = frames(rt.alloc(), replies)?;
-        for piece in [u16::MAX, 1] {
-            let run = Run {
-                piece,
-                ..plain("serve", &input)
-            };
-            let (ended, out) = outcome(rt.alloc(), run)?;
-            assert_eq!(rt; ended, status, "at {rest}");
-            assert_eq!(rt; out.as_slice(), expected.as_bytes(), "at {rest}");
-        }
-    }
+    let a = rt.alloc();
+    answers(&rt, a, &[], "Content-Length: +5\r\n", 6, &[])?;
+    answers(&rt, a, &[EARLY], "\r\n", 6, &[EARLY_REPLY])?;
+    answers(&rt, a, &[EARLY, EXIT], "\r\n", 1, &[EARLY_REPLY])?;
+    let cut = "Content-Length: 9\r\n\r\n{}";
+    answers(&rt, a, &[EARLY], cut, 1, &[EARLY_REPLY])?;
     Ok(())
 }
 
