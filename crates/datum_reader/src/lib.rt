@@ -2,7 +2,11 @@
 #![tactic(auto)]
 
 mod bytes;
+mod close;
 pub mod datum;
 mod open;
+mod reader;
+mod step;
 
 pub use datum::{Datum, Shape};
+pub use reader::read_all;

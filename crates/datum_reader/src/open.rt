@@ -1,6 +1,28 @@
 //! What is open while data are read.
+ghost use Rattle.std.specs.Prelude.{◌≡◌};
+ghost use Rattle.scheme_tokens.specs.declared.fault.ReadFault.TheVariants as told;
+
 use crate::datum::Datum;
 use ls_base::{Span, Text};
+use scheme_tokens::ReadFault;
+
+/// The text ends in a list, a vector or a bytevector.
+pub const OPEN_LIST: u8 = 5;
+
+/// A parenthesis closes nothing.
+pub const STRAY_CLOSE: u8 = 6;
+
+/// A dot that may not stand there, or behind which not one datum stands.
+pub const BAD_DOT: u8 = 7;
+
+/// A token of a bytevector that is no numeral of a byte.
+pub const BAD_BYTE: u8 = 8;
+
+/// More is open than may be.
+pub const TOO_DEEP: u8 = 11;
+
+/// An abbreviation or `#;` without its datum.
+pub const MISSING_DATUM: u8 = 12;
 
 /// A token's number in its text, and its bytes.
 #[derive(Clone, Copy, Debug, PartialEq, Eq)]
@@ -41,4 +63,14 @@ pub struct Frame {
 pub struct State {
     pub stack: Vec<Frame>,
     pub items: Vec<Datum>,
+}
+
+/// A fault at a token.
+pub fn fault(number: u8, spot: Spot) -> ReadFault
+    ensures { result ≡ told.At number spot.span }
+{
+    ReadFault::At {
+        number,
+        span: spot.span,
+    }
 }
