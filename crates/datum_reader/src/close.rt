@@ -52,15 +52,42 @@ fn with_tail(alloc: Global, parts: Vec<Datum>, tail: Datum) -> Mem<Shape>
         }
         Shape::Atom(kind) => {
             let shape = Shape::Atom(kind);
-            dotted(alloc, parts, Datum { shape, first, last, span })
+            dotted(
+                alloc,
+                parts,
+                Datum {
+                    shape,
+                    first,
+                    last,
+                    span,
+                },
+            )
         }
         Shape::Vector(items) => {
             let shape = Shape::Vector(items);
-            dotted(alloc, parts, Datum { shape, first, last, span })
+            dotted(
+                alloc,
+                parts,
+                Datum {
+                    shape,
+                    first,
+                    last,
+                    span,
+                },
+            )
         }
         Shape::Bytes(texts) => {
             let shape = Shape::Bytes(texts);
-            dotted(alloc, parts, Datum { shape, first, last, span })
+            dotted(
+                alloc,
+                parts,
+                Datum {
+                    shape,
+                    first,
+                    last,
+                    span,
+                },
+            )
         }
     }
 }

@@ -4,6 +4,7 @@
 mod bytes;
 mod close;
 pub mod datum;
+pub mod laws;
 mod open;
 mod reader;
 mod step;

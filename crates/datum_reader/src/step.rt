@@ -62,12 +62,7 @@ fn push(state: &mut State, opener: Opener, depth: usize, spot: Spot, items: Vec<
 }
 
 /// Opens one more of those that are counted.
-fn open(
-    state: &mut State,
-    opener: Opener,
-    spot: Spot,
-    items: Vec<Datum>,
-) -> Result<(), ReadFault>
+fn open(state: &mut State, opener: Opener, spot: Spot, items: Vec<Datum>) -> Result<(), ReadFault>
     ensures { Moves (state_of state.new) result (model.opened (opener_of opener) (spot_of spot) (data_of items.items) (state_of state.old)) }
 {
     let depth = depth(state.stack.as_slice());
@@ -332,12 +327,7 @@ fn behind(state: &mut State, frame: Frame, kind: TokenKind, spot: Spot) -> Mem<(
 }
 
 /// An atom: in a bytevector a numeral, and elsewhere a datum.
-fn atom(
-    alloc: Global,
-    state: &mut State,
-    kind: TokenKind,
-    spot: Spot,
-) -> Result<(), ReadFault>
+fn atom(alloc: Global, state: &mut State, kind: TokenKind, spot: Spot) -> Result<(), ReadFault>
     ensures { Moves (state_of state.new) result (model.atoms (kind_of kind) (spot_of spot) (data_of state.old.items.items) (stack_of state.old.stack.items)) }
 {
     let Some(frame) = state.stack.pop() else {
@@ -375,7 +365,13 @@ fn open_bytes(alloc: Global, state: &mut State, spot: Spot) -> Result<(), ReadFa
 {
     begin(state.stack.as_slice(), spot)?;
     let depth = depth(state.stack.as_slice());
-    push(state, Opener::Bytes(Vec::new(alloc)), depth, spot, Vec::new(alloc))?;
+    push(
+        state,
+        Opener::Bytes(Vec::new(alloc)),
+        depth,
+        spot,
+        Vec::new(alloc),
+    )?;
     Ok(())
 }
 
@@ -398,12 +394,7 @@ fn mark(alloc: Global, state: &mut State, kind: TokenKind, spot: Spot) -> Result
 }
 
 /// Reads one token more.
-pub fn step(
-    alloc: Global,
-    state: &mut State,
-    token: Token,
-    number: u32,
-) -> Result<(), ReadFault>
+pub fn step(alloc: Global, state: &mut State, token: Token, number: u32) -> Result<(), ReadFault>
     ensures { Moves (state_of state.new) result (model.after (kind_of token.kind) (spot_of (record { number = number; span = token.span })) (state_of state.old)) }
 {
     let spot = Spot {
