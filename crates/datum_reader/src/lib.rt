@@ -11,3 +11,6 @@ mod step;
 
 pub use datum::{Datum, Shape};
 pub use reader::read_all;
+
+#[cfg(test)]
+mod tests;
