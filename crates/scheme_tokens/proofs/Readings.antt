@@ -3,7 +3,7 @@ use Rattle.std.proofs.Common.{◌≡◌, ℕ, List, [], ◌∷◌, ◌++◌, Opt
 use Rattle.std.proofs.lemmas.List.{map-append}
 use Rattle.scheme_tokens.specs.Words.{byte_count}
 use Rattle.scheme_tokens.specs.Reading.{Token, FaultAt, Next, found, ended, next, Reads, behind_mark, IsRead, IsSpelled, Stops}
-use Rattle.scheme_tokens.specs.Views.{token_of, tokens_of, read_fault, IsNext, Explains}
+use Rattle.scheme_tokens.specs.Views.{token_of, tokens_of, read_fault, told_end, IsNext, IsFront, Explains}
 use Rattle.scheme_tokens.specs.declared.token.Token as code
 use Rattle.scheme_tokens.specs.declared.fault.ReadFault as code_read
 use Rattle.scheme_tokens.specs.declared.fault.ReadFault.TheVariants as told
@@ -69,6 +69,35 @@ pub explained : (fault : code_read.ReadFault) (size : ℕ) (text : List ℕ) (so
     IsNext (Err fault) (next size rest) → Explains fault text
 explained told.Memory size text so_far rest goes e h = tt
 explained (told.At number span) size text so_far rest goes e h = (h.0, (tokens_of so_far, read_whole size text so_far rest (Some h.0) goes h.1 e), h.2)
+
+-- a fault that the code tells of the next, as a front tells it
+pub front_fault : (fault : code_read.ReadFault) (size : ℕ) (text : List ℕ) (so_far : List code.Token) (rest : List ℕ) → GoesOn size (behind_mark text) so_far rest → byte_count text ≡ size →
+    (fault ≡ told.Memory → ⊥) → IsNext (Err fault) (next size rest) → IsFront so_far (Some fault) text
+front_fault told.Memory size text so_far rest goes e apart h = absurd (apart refl)
+front_fault (told.At number span) size text so_far rest goes e apart h =
+    (Some h.0, read_whole size text so_far rest (Some h.0) goes h.1 e, ap (λ (f : code_read.ReadFault). Some f) h.2)
+
+-- a front without a fault is the whole text, and one with a fault stops there
+told_none : (end : Option FaultAt) → None ≡ told_end end → end ≡ None
+told_none None h = refl
+told_none (Some f) h = cc
+
+told_some : (fault : code_read.ReadFault) (end : Option FaultAt) → Some fault ≡ told_end end → (f : FaultAt) × (end ≡ Some f) × (fault ≡ read_fault f)
+told_some fault None h = cc
+told_some fault (Some f) h = (f, refl, cc)
+
+pub front_whole : (ts : List code.Token) (fault : Option code_read.ReadFault) (text : List ℕ) → fault ≡ None → IsFront ts fault text → IsSpelled (tokens_of ts) text
+front_whole ts fault text none h = subst (λ (e : Option FaultAt). IsRead (tokens_of ts) e text) (told_none h.0 (sym none ∙ h.2)) h.1
+
+pub front_stops : (ts : List code.Token) (fault : code_read.ReadFault) (end : Option code_read.ReadFault) (text : List ℕ) → end ≡ Some fault → IsFront ts end text →
+    (f : FaultAt) × Stops f text × (fault ≡ read_fault f)
+front_stops ts fault end text some h =
+    let s = told_some fault h.0 (sym some ∙ h.2) in
+    (s.0, (tokens_of ts, subst (λ (e : Option FaultAt). IsRead (tokens_of ts) e text) s.1 h.1), s.2)
+
+pub front_explains : (ts : List code.Token) (fault : code_read.ReadFault) (end : Option code_read.ReadFault) (text : List ℕ) → end ≡ Some fault → IsFront ts end text → Explains fault text
+front_explains ts told.Memory end text some h = tt
+front_explains ts (told.At number span) end text some h = front_stops ts (told.At number span) end text some h
 
 pub only_memory : (fault : code_read.ReadFault) (us : List Token) (text : List ℕ) → Explains fault text → IsSpelled us text → fault ≡ told.Memory
 only_memory told.Memory us text h k = refl

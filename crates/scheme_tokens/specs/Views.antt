@@ -10,7 +10,7 @@ use Rattle.scheme_tokens.specs.Characters.{is_hex_digit, is_blank}
 use Rattle.scheme_tokens.specs.Words.{is_inside}
 use Rattle.scheme_tokens.specs.Quoted.{Fault, bad_token, open_string, open_bar, open_comment, label, directive}
 use Rattle.scheme_tokens.specs.Tokens.{TokenKind, Paren, VectorParen, BytesParen, Close, Dot, Skip, Marked, Quote, Quasi, Unquote, Splice, Atomic, Name, Numeral, Quoted, Character, Truth}
-use Rattle.scheme_tokens.specs.Reading.{Token, FaultAt, Next, found, ended, Stops}
+use Rattle.scheme_tokens.specs.Reading.{Token, FaultAt, Next, found, ended, IsRead, Stops}
 use Rattle.scheme_tokens.specs.declared.fault.Fault as code_fault
 use Rattle.scheme_tokens.specs.declared.fault.Fault.TheVariants as faults
 use Rattle.scheme_tokens.specs.declared.fault.ScanFault as code_scan
@@ -97,6 +97,15 @@ IsNext (Ok None) n = n ≡ ended None
 IsNext (Ok (Some t)) n = n ≡ found (token_of t.0) (chars t.1.now)
 IsNext (Err reads.Memory) n = Unit {0}
 IsNext (Err (reads.At number span)) n = (f : FaultAt) × (n ≡ ended (Some f)) × (reads.At number span ≡ read_fault f)
+
+-- the fault that a text stops at, as callers are told it
+abbrev pub told_end : Option FaultAt → Option code_read.ReadFault
+told_end None = None
+told_end (Some f) = Some (read_fault f)
+
+-- the text has these tokens, and then it ends, or this fault comes
+abbrev pub IsFront : List code.Token → Option code_read.ReadFault → List ℕ → Type 0
+IsFront ts fault text = (end : Option FaultAt) × IsRead (tokens_of ts) end text × (fault ≡ told_end end)
 
 -- this fault, if it is one, is where the text stops
 abbrev pub Explains : code_read.ReadFault → List ℕ → Type 0

@@ -15,7 +15,7 @@ mod word;
 
 pub use fault::ReadFault;
 pub use name::{ident_of, spell};
-pub use reader::tokens;
+pub use reader::{Front, front_tokens, tokens};
 pub use token::{Token, TokenKind};
 
 #[cfg(test)]

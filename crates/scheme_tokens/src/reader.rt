@@ -1,10 +1,10 @@
 //! The tokens of a text (R7RS 7.1.1).
-ghost use Rattle.std.specs.Prelude.{◌≡◌, ◌+◌, ◌^◌, ◌<◌, ◌≤◌, ◌⊎◌, List, length, drop, IfOk, IfErr, IfSome, MatchResult};
+ghost use Rattle.std.specs.Prelude.{◌≡◌, ◌≢◌, ◌+◌, ◌^◌, ◌<◌, ◌≤◌, ◌⊎◌, List, length, drop, IfOk, IfErr, IfSome, MatchResult};
 ghost use Rattle.std.specs.List.{All};
 ghost use Rattle.std.specs.Str.{chars, IsUtf8};
 ghost use Rattle.scheme_tokens.specs.Reading as model;
 ghost use Rattle.scheme_tokens.specs.Reading.{FaultAt, place, behind_fault, fault_at, next, behind_mark, IsSpelled, Stops};
-ghost use Rattle.scheme_tokens.specs.Views.{fault_of, read_fault, tokens_of, IsNext, Explains, IsWithin};
+ghost use Rattle.scheme_tokens.specs.Views.{fault_of, read_fault, tokens_of, IsNext, IsFront, Explains, IsWithin};
 
 use crate::character::Class;
 use crate::fault::{Fault, ReadFault, ScanFault};
@@ -12,7 +12,7 @@ use crate::front::{skip, split_first};
 use crate::gap::skip_gap;
 use crate::scan::token;
 use crate::token::Token;
-use ls_base::{Items, Span};
+use ls_base::{Items, Mem, Memory, Span};
 use std::alloc::Global;
 
 /// The text behind its first character.
@@ -105,6 +105,53 @@ fn behind_mark(text: &str) -> &str
     if c == '\u{FEFF}' { rest } else { text }
 }
 
+/// What is read of a text: its tokens, and the fault that it stops at, if it stops at one.
+#[derive(Debug, Drop)]
+pub struct Front {
+    pub tokens: Items<Token>,
+    pub fault: Option<ReadFault>,
+}
+
+/// A fault of the text, unless memory ran out.
+fn of_text(fault: ReadFault) -> Mem<ReadFault>
+    ensures same { IfOk result (λ f. f ≡ fault) }
+    ensures told { IfOk result (λ f. f ≢ ReadFault.Memory) }
+{
+    match fault {
+        ReadFault::Memory => Err(Memory),
+        ReadFault::At { number, span } => Ok(ReadFault::At { number, span }),
+    }
+}
+
+/// The tokens of a text up to its end or to the first fault (R7RS 7.1.1).
+pub fn front_tokens(alloc: Global, text: &str) -> Mem<Front>
+    requires { length text.now < 2 ^ 32 }
+    ensures front { IfOk result (λ front. IsFront front.tokens front.fault (chars text.now)) }
+    ensures few { IfOk result (λ front. length front.tokens ≤ length text.now) }
+    ensures places { IfOk result (λ front. All (λ t. IsWithin (length text.now) t.span) front.tokens) }
+{
+    let mut tokens = Items::new(alloc);
+    let mut rest = behind_mark(text);
+    loop {
+        match next(alloc, text.len(), rest) {
+            Ok(Some((token, behind))) => {
+                tokens.push(token)?;
+                rest = behind;
+            }
+            Ok(None) => {
+                return Ok(Front {
+                    tokens,
+                    fault: None,
+                });
+            }
+            Err(fault) => {
+                let fault = Some(of_text(fault)?);
+                return Ok(Front { tokens, fault });
+            }
+        }
+    }
+}
+
 /// The tokens of a text with their places in bytes, or the first fault (R7RS 7.1.1).
 pub fn tokens(alloc: Global, text: &str) -> Result<Items<Token>, ReadFault>
     requires { length text.now < 2 ^ 32 }
@@ -122,16 +169,9 @@ pub fn tokens(alloc: Global, text: &str) -> Result<Items<Token>, ReadFault>
     ensures stops { (f : FaultAt) → Stops f (chars text.now) →
         MatchResult result (λ _. ⊥) (λ e. (e ≡ ReadFault.Memory) ⊎ (e ≡ read_fault f)) }
 {
-    let mut tokens = Items::new(alloc);
-    let mut rest = behind_mark(text);
-    loop {
-        match next(alloc, text.len(), rest) {
-            Ok(Some((token, behind))) => {
-                tokens.push(token)?;
-                rest = behind;
-            }
-            Ok(None) => return Ok(tokens),
-            Err(fault) => return Err(fault),
-        }
+    let front = front_tokens(alloc, text)?;
+    match front.fault {
+        None => Ok(front.tokens),
+        Some(fault) => Err(fault),
     }
 }

@@ -1,4 +1,4 @@
-use Rattle.std.proofs.Common.{◌≤◌, length}
+use Rattle.std.proofs.Common.{◌≤◌, ◌+◌, length}
 use Rattle.std.specs.Str.{chars}
 use denote.Text.{Utf8}
 use denote.Shadow.{shadow}
@@ -6,12 +6,12 @@ use Rattle.std.specs.List.{All}
 use Rattle.scheme_tokens.specs.Views.{IsWithin}
 use Rattle.scheme_tokens.specs.Reading.{behind_mark}
 use Rattle.scheme_tokens.proofs.Readings.{GoesOn}
-use Rattle.scheme_tokens.proofs.reader.tokens.Given as goal
+use Rattle.scheme_tokens.proofs.reader.front_tokens.Given as goal
 
 abbrev pub invariant-loop-token : goal.invariant-loop-token
 invariant-loop-token l = record {
   utf8 : shadow (Utf8 l.rest);
-  within : length l.rest ≤ length l.text;
+  few : length l.tokens + length l.rest ≤ length l.text;
   places : All (λ t. IsWithin (length l.text) t.span) l.tokens;
   goes : GoesOn (length l.text) (behind_mark (chars l.text)) l.tokens (chars l.rest);
 }

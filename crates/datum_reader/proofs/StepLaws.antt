@@ -1,0 +1,115 @@
+-- What one token changes, with the frame on top taken off.
+use Rattle.std.proofs.Common.{◌≡◌, ◌==◌, ◌+◌, add-one, ℕ, suc, length, subst, List, [], ◌∷◌, ◌++◌, Bool, true, false, Option, Some, None, Result, Ok, Err, refl, sym, ap, ◌∙◌, cond}
+use Rattle.datum_reader.specs.declared.datum.Datum as code
+use Rattle.datum_reader.specs.declared.open.Frame as code_frame
+use Rattle.datum_reader.specs.declared.open.Opener as code_opener
+use Rattle.datum_reader.specs.declared.open.Opener.TheVariants as openers
+use Rattle.scheme_tokens.specs.declared.fault.ReadFault.{ReadFault}
+use Rattle.scheme_tokens.specs.declared.fault.ReadFault.TheVariants as told
+use Rattle.scheme_tokens.specs.Tokens.{TokenKind}
+use Rattle.scheme_tokens.specs.declared.token.Token as code_token
+use Rattle.scheme_tokens.specs.Views.{kind_of, tokens_of}
+use Rattle.datum_reader.specs.Data.{Datum}
+use Rattle.datum_reader.specs.Faults.{Spot, Stop, Numbered, number_from, bad_dot}
+use Rattle.datum_reader.specs.Open.{Frame, State, state, Opener, in_list, in_vector, in_bytes, dotted, reopened, byte_of, byte_added, abbreviation, completed, completed_by, completes, closed, closed_by, dots, dotted_by, atoms, atoms_by, after, after_all}
+use Rattle.datum_reader.specs.Views.{datum_of, data_of, spot_of, opener_of, frame_of, stack_of, Fails}
+use Rattle.datum_reader.proofs.StackLaws.{stack_push}
+
+pub completed_top : (d : Datum) (items : List Datum) (fs gs : List code_frame.Frame) (f : code_frame.Frame) (o : code_opener.Opener) → fs ≡ gs ++ f ∷ [] → f.opener ≡ o →
+    completed d items (stack_of fs) ≡ completed_by (opener_of o) (frame_of f) d items (stack_of gs) (completed (abbreviation (spot_of f.spot) items d) (data_of f.before.items) (stack_of gs))
+completed_top d items fs gs f o e is =
+    ap (completed d items) (stack_push gs fs f e)
+    ∙ ap (λ (v : code_opener.Opener). completed_by (opener_of v) (frame_of f) d items (stack_of gs) (completed (abbreviation (spot_of f.spot) items d) (data_of f.before.items) (stack_of gs))) is
+
+-- an abbreviation is complete, in place of its datum
+pub mark_step : (d d' : code.Datum) (ws xs ys : List code.Datum) (fs gs : List code_frame.Frame) (f : code_frame.Frame) → fs ≡ gs ++ f ∷ [] → f.opener ≡ openers.Mark → ws ≡ xs → ys ≡ f.before.items →
+    datum_of d' ≡ abbreviation (spot_of f.spot) (data_of ws) (datum_of d) → completed (datum_of d') (data_of ys) (stack_of gs) ≡ completed (datum_of d) (data_of xs) (stack_of fs)
+mark_step d d' ws xs ys fs gs f e is had before made =
+    ap (λ (q : Datum). completed q (data_of ys) (stack_of gs)) (made ∙ ap (λ (q : List code.Datum). abbreviation (spot_of f.spot) (data_of q) (datum_of d)) had)
+    ∙ ap (λ (q : List code.Datum). completed (abbreviation (spot_of f.spot) (data_of xs) (datum_of d)) (data_of q) (stack_of gs)) before
+    ∙ sym (completed_top (datum_of d) (data_of xs) fs gs f openers.Mark e is)
+
+pub fails_completes : (e : ReadFault) (r : Result Datum Stop) (items : List Datum) (fs : List Frame) → Fails e r → Fails e (completes r items fs)
+fails_completes told.Memory r items fs h = tt
+fails_completes (told.At n s) r items fs h = ap (λ (q : Result Datum Stop). completes q items fs) h
+
+pub closed_top : (t : Spot) (items : List Datum) (fs gs : List code_frame.Frame) (f : code_frame.Frame) → fs ≡ gs ++ f ∷ [] →
+    closed t items (stack_of fs) ≡ completes (closed_by (opener_of f.opener) (spot_of f.spot) t items) (data_of f.before.items) (stack_of gs)
+closed_top t items fs gs f e = ap (closed t items) (stack_push gs fs f e)
+
+pub dots_top : (t : Spot) (items : List Datum) (fs gs : List code_frame.Frame) (f : code_frame.Frame) (o : code_opener.Opener) → fs ≡ gs ++ f ∷ [] → f.opener ≡ o →
+    dots t items (stack_of fs) ≡ dotted_by (opener_of o) t (frame_of f) items (stack_of gs)
+dots_top t items fs gs f o e is = ap (dots t items) (stack_push gs fs f e) ∙ ap (λ (v : code_opener.Opener). dotted_by (opener_of v) t (frame_of f) items (stack_of gs)) is
+
+pub atoms_top : (k : TokenKind) (t : Spot) (items : List Datum) (fs gs : List code_frame.Frame) (f : code_frame.Frame) (o : code_opener.Opener) → fs ≡ gs ++ f ∷ [] → f.opener ≡ o →
+    atoms k t items (stack_of fs) ≡ atoms_by (opener_of o) k t (frame_of f) items (stack_of gs)
+atoms_top k t items fs gs f o e is = ap (atoms k t items) (stack_push gs fs f e) ∙ ap (λ (v : code_opener.Opener). atoms_by (opener_of v) k t (frame_of f) items (stack_of gs)) is
+
+same_length : (xs : List code.Datum) → length (data_of xs) ≡ length xs
+same_length [] = refl
+same_length (x ∷ xs) = ap suc (same_length xs)
+
+-- whether there is a part before a dot
+pub none_before : (xs : List code.Datum) (b : Bool) → (length xs == 0) ≡ b → (length (data_of xs) == 0) ≡ b
+none_before xs b h = ap (λ (n : ℕ). n == 0) (same_length xs) ∙ h
+
+pub first_dot : (b : Bool) (items : List Datum) (t : Spot) (f : Frame) (fs : List Frame) → (length items == 0) ≡ b →
+    dotted_by in_list t f items fs ≡ cond b (Err (bad_dot t)) (Ok (state items (reopened (dotted t) f ∷ fs)))
+first_dot b items t f fs h = ap (λ (c : Bool). cond c (Err (bad_dot t)) (Ok (state items (reopened (dotted t) f ∷ fs)))) h
+
+pub close_fails : (e : ReadFault) (t : Spot) (ws xs : List code.Datum) (fs gs : List code_frame.Frame) (f : code_frame.Frame) → fs ≡ gs ++ f ∷ [] → ws ≡ xs →
+    Fails e (closed_by (opener_of f.opener) (spot_of f.spot) t (data_of ws)) → Fails e (closed t (data_of xs) (stack_of fs))
+close_fails e t ws xs fs gs f joins had h =
+    subst (λ (q : Result State Stop). Fails e q) (sym (closed_top t (data_of xs) fs gs f joins))
+    (fails_completes e (closed_by (opener_of f.opener) (spot_of f.spot) t (data_of xs)) (data_of f.before.items) (stack_of gs)
+    (subst (λ (q : List code.Datum). Fails e (closed_by (opener_of f.opener) (spot_of f.spot) t (data_of q))) had h))
+
+pub close_gives : (d : code.Datum) (t : Spot) (ws xs ys : List code.Datum) (fs gs : List code_frame.Frame) (f : code_frame.Frame) (s : State) → fs ≡ gs ++ f ∷ [] → ws ≡ xs → ys ≡ f.before.items →
+    closed_by (opener_of f.opener) (spot_of f.spot) t (data_of ws) ≡ Ok (datum_of d) → s ≡ completed (datum_of d) (data_of ys) (stack_of gs) → closed t (data_of xs) (stack_of fs) ≡ Ok s
+close_gives d t ws xs ys fs gs f s joins had before h k =
+    closed_top t (data_of xs) fs gs f joins
+    ∙ ap (λ (q : List code.Datum). completes (closed_by (opener_of f.opener) (spot_of f.spot) t (data_of q)) (data_of f.before.items) (stack_of gs)) (sym had)
+    ∙ ap (λ (q : Result Datum Stop). completes q (data_of f.before.items) (stack_of gs)) h
+    ∙ ap (λ (q : List code.Datum). Ok (completed (datum_of d) (data_of q) (stack_of gs))) (sym before)
+    ∙ ap (λ (q : State). Ok q) (sym k)
+
+-- a bytevector with a numeral more, whatever its frame was
+byte_shell : (o : Option (List ℕ)) (bs : List (List ℕ)) (t : Spot) (f : Frame) (items : List Datum) (fs : List Frame) → byte_added o bs t (reopened in_vector f) items fs ≡ byte_added o bs t f items fs
+byte_shell None bs t f items fs = refl
+byte_shell (Some text) bs t f items fs = refl
+
+pub byte_same : (o : Option (List ℕ)) (bs cs : List (List ℕ)) (t : Spot) (f g : Frame) (items : List Datum) (fs : List Frame) → bs ≡ cs → g ≡ reopened in_vector f →
+    byte_added o bs t g items fs ≡ byte_added o cs t f items fs
+byte_same o bs cs t f g items fs h k =
+    ap (λ (q : List (List ℕ)). byte_added o q t g items fs) h ∙ ap (λ (q : Frame). byte_added o cs t q items fs) k ∙ byte_shell o cs t f items fs
+
+pub bytes_opener : (o : code_opener.Opener) (k : TokenKind) (t : Spot) (items : List Datum) (fs : List Frame) (f : Frame) (bs : List (List ℕ)) → opener_of o ≡ in_bytes bs →
+    atoms_by (opener_of o) k t f items fs ≡ byte_added (byte_of k) bs t f items fs
+bytes_opener o k t items fs f bs h = ap (λ (q : Opener). atoms_by q k t f items fs) h
+
+-- behind a fault nothing more is read
+pub stays_err : (e : Stop) (ts : List Numbered) → after_all (Err e) ts ≡ Err e
+stays_err e [] = refl
+stays_err e (t ∷ ts) = stays_err e ts
+
+pub fails_all : (e : ReadFault) (r : Result State Stop) (ts : List Numbered) → Fails e r → Fails e (after_all r ts)
+fails_all told.Memory r ts h = tt
+fails_all (told.At n s) r ts h = ap (λ (q : Result State Stop). after_all q ts) h ∙ stays_err (record { number = n; start = s.start; end = s.end }) ts
+
+-- one token more
+pub one_token : (s : State) (n : ℕ) (t : code_token.Token) (xs ys : List code_token.Token) → xs ≡ t ∷ ys →
+    after_all (Ok s) (number_from n (tokens_of xs)) ≡ after_all (after (kind_of t.kind) (record { number = n; start = t.span.start; end = t.span.end }) s) (number_from (n + 1) (tokens_of ys))
+one_token s n t xs ys e =
+    ap (λ (q : List code_token.Token). after_all (Ok s) (number_from n (tokens_of q))) e
+    ∙ ap (λ (m : ℕ). after_all (after (kind_of t.kind) (record { number = n; start = t.span.start; end = t.span.end }) s) (number_from m (tokens_of ys))) (sym (add-one n))
+
+pub read_more : (all : Result State Stop) (s s' : State) (n : ℕ) (t : code_token.Token) (xs ys : List code_token.Token) → xs ≡ t ∷ ys → after_all (Ok s) (number_from n (tokens_of xs)) ≡ all →
+    after (kind_of t.kind) (record { number = n; start = t.span.start; end = t.span.end }) s ≡ Ok s' → after_all (Ok s') (number_from (n + 1) (tokens_of ys)) ≡ all
+read_more all s s' n t xs ys e inv h =
+    ap (λ (r : Result State Stop). after_all r (number_from (n + 1) (tokens_of ys))) (sym h) ∙ sym (one_token s n t xs ys e) ∙ inv
+
+pub read_fails : (e : ReadFault) (all : Result State Stop) (s : State) (n : ℕ) (t : code_token.Token) (xs ys : List code_token.Token) → xs ≡ t ∷ ys → after_all (Ok s) (number_from n (tokens_of xs)) ≡ all →
+    Fails e (after (kind_of t.kind) (record { number = n; start = t.span.start; end = t.span.end }) s) → Fails e all
+read_fails e all s n t xs ys joins inv h =
+    subst (λ (r : Result State Stop). Fails e r) (sym (one_token s n t xs ys joins) ∙ inv)
+    (fails_all e (after (kind_of t.kind) (record { number = n; start = t.span.start; end = t.span.end }) s) (number_from (n + 1) (tokens_of ys)) h)

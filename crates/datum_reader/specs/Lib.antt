@@ -1,0 +1,5 @@
+pub mod Data
+pub mod Faults
+pub mod Open
+pub mod Views
+pub mod Written

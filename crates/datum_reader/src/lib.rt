@@ -1,0 +1,16 @@
+//! The data of Scheme texts (R7RS 7.1.2), read from their tokens.
+#![tactic(auto)]
+
+mod bytes;
+mod close;
+pub mod datum;
+pub mod laws;
+mod open;
+mod reader;
+mod step;
+
+pub use datum::{Datum, Shape};
+pub use reader::read_all;
+
+#[cfg(test)]
+mod tests;

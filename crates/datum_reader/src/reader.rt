@@ -1,0 +1,90 @@
+//! The data of a text (R7RS 7.1.2).
+ghost use Rattle.std.specs.Prelude.{◌≡◌, ◌^◌, ◌<◌, [], length, List, Option, Ok, MatchResult, vec_len};
+ghost use Rattle.std.specs.Str.{chars};
+ghost use Rattle.scheme_tokens.specs.Reading as tokens;
+ghost use Rattle.scheme_tokens.specs.Views.{tokens_of};
+ghost use Rattle.datum_reader.specs.Data as spec;
+ghost use Rattle.datum_reader.specs.Faults.{number_from};
+ghost use Rattle.datum_reader.specs.Open as model;
+ghost use Rattle.datum_reader.specs.Written.{IsReading};
+ghost use Rattle.datum_reader.specs.Views.{data_of, spot_of, opener_of, stack_of, state_of, told_of, Gives};
+
+use crate::datum::Datum;
+use crate::open::{Frame, MISSING_DATUM, OPEN_LIST, Opener, State, fault};
+use crate::step::step;
+use ls_base::Items;
+use scheme_tokens::{ReadFault, Token, front_tokens};
+use std::alloc::Global;
+
+/// What is open behind tokens, with the data so far.
+fn open_after(alloc: Global, tokens: Vec<Token>) -> Result<State, ReadFault>
+    requires { vec_len tokens < 2 ^ 32 }
+    ensures { Gives state_of result (model.after_all (Ok (model.state [] [])) (number_from 0 (tokens_of tokens.items))) }
+{
+    let mut state = State {
+        stack: Vec::new(alloc),
+        items: Vec::new(alloc),
+    };
+    let mut number = 0;
+    for token in tokens {
+        step(alloc, &mut state, token, number)?;
+        number += 1;
+    }
+    Ok(state)
+}
+
+/// The fault of a text that ends in this.
+fn left_open(frame: Frame) -> ReadFault
+    ensures { result ≡ told_of (model.left_open (opener_of frame.opener) (spot_of frame.spot)) }
+{
+    match frame.opener {
+        Opener::List => fault(OPEN_LIST, frame.spot),
+        Opener::Dotted(_) => fault(OPEN_LIST, frame.spot),
+        Opener::Ended(..) => fault(OPEN_LIST, frame.spot),
+        Opener::Vector => fault(OPEN_LIST, frame.spot),
+        Opener::Bytes(_) => fault(OPEN_LIST, frame.spot),
+        Opener::Mark => fault(MISSING_DATUM, frame.spot),
+        Opener::Skip => fault(MISSING_DATUM, frame.spot),
+    }
+}
+
+/// The data, where nothing is open.
+fn finished(state: State) -> Result<Items<Datum>, ReadFault>
+    ensures { Gives data_of result (model.finished (data_of state.items.items) (stack_of state.stack.items)) }
+{
+    let mut stack = state.stack;
+    match stack.pop() {
+        Some(frame) => Err(left_open(frame)),
+        None => Ok(Items::from_vec(state.items)),
+    }
+}
+
+/// The data that a text's tokens form, or the first fault.
+fn read_text(alloc: Global, text: &str) -> Result<Items<Datum>, ReadFault>
+    requires { length text.now < 2 ^ 32 }
+    ensures { (ts : List tokens.Token) (end : Option tokens.FaultAt) → tokens.IsRead ts end (chars text.now) → Gives data_of result (model.read ts end) }
+{
+    let front = front_tokens(alloc, text)?;
+    let state = open_after(alloc, front.tokens.into_vec())?;
+    match front.fault {
+        Some(fault) => Err(fault),
+        None => Ok(finished(state)?),
+    }
+}
+
+/// The data of a text (R7RS 7.1.2), or the first fault, by its number: 5 the text ends in a list, a vector or a bytevector; 6 a
+/// parenthesis closes nothing; 7 a dot that may not stand there; 8 no numeral of a byte; 11 more than 400 lists, vectors,
+/// abbreviations and `#;` are open; 12 no datum behind an abbreviation or `#;`; and those of tokens. Reading goes token by token: the
+/// fault is at the first token that can't go on, or at the end.
+pub fn read_all(alloc: Global, text: &str) -> Result<Items<Datum>, ReadFault>
+    requires { length text.now < 2 ^ 32 }
+
+    // The data, or the fault, that the text's tokens give.
+    ensures exact { (ts : List tokens.Token) (end : Option tokens.FaultAt) → tokens.IsRead ts end (chars text.now) → Gives data_of result (model.read ts end) }
+
+    // Where the text is data as they are written, what they mean is read.
+    ensures only { (ds : List spec.Datum) → IsReading (chars text.now) ds → MatchResult result (λ items. data_of items ≡ ds) (λ e. e ≡ ReadFault.Memory) }
+{
+    let data = read_text(alloc, text)?;
+    Ok(data)
+}

@@ -1,0 +1,423 @@
+//! How a token changes what is open (R7RS 7.1.2).
+ghost use Rattle.std.specs.Prelude.{◌≡◌, ◌++◌, ℕ, List, [], ◌∷◌, OnOk, IfOk, map};
+ghost use Rattle.std.specs.Str.{chars};
+ghost use Rattle.scheme_tokens.specs.Tokens.{BytesParen};
+ghost use Rattle.scheme_tokens.specs.Views.{kind_of};
+ghost use Rattle.datum_reader.specs.Data.{list, atom, row, none};
+ghost use Rattle.datum_reader.specs.Open as model;
+ghost use Rattle.datum_reader.specs.Views.{datum_of, data_of, spot_of, opener_of, frame_of, stack_of, state_of, Moves, Refuses, IsNumeral};
+
+use crate::bytes::is_byte;
+use crate::close::{closed, make_datum};
+use crate::datum::{Datum, Shape};
+use crate::open::{BAD_BYTE, BAD_DOT, Frame, Opener, STRAY_CLOSE, Spot, State, TOO_DEEP, fault};
+use ls_base::{Mem, Span, Text};
+use scheme_tokens::{ReadFault, Token, TokenKind};
+use std::alloc::Global;
+use std::mem;
+
+/// How many lists, vectors, abbreviations and `#;` may be open.
+const MAX_OPEN: usize = 400;
+
+/// Whether a datum may begin at a token: not behind a tail, and not in a bytevector.
+fn begin(stack: &[Frame], spot: Spot) -> Result<(), ReadFault>
+    ensures { Refuses result (model.refused (stack_of stack.now) (spot_of spot)) }
+{
+    let Some(frame) = stack.last() else {
+        return Ok(());
+    };
+    match &frame.opener {
+        Opener::Ended(dot, _) => Err(fault(BAD_DOT, *dot)),
+        Opener::Bytes(_) => Err(fault(BAD_BYTE, spot)),
+        Opener::List => Ok(()),
+        Opener::Dotted(_) => Ok(()),
+        Opener::Vector => Ok(()),
+        Opener::Mark => Ok(()),
+        Opener::Skip => Ok(()),
+    }
+}
+
+/// How many lists, vectors, abbreviations and `#;` are open.
+fn depth(stack: &[Frame]) -> usize
+    ensures { result ≡ model.depth_of (stack_of stack.now) }
+{
+    match stack.last() {
+        Some(frame) => frame.depth,
+        None => 0,
+    }
+}
+
+/// Opens one more, at a depth; its first data may be there already.
+fn push(state: &mut State, opener: Opener, depth: usize, spot: Spot, items: Vec<Datum>) -> Mem<()>
+    ensures { OnOk result (state_of state.new ≡ model.pushed (opener_of opener) depth (spot_of spot) (data_of items.items) (state_of state.old)) }
+{
+    let before = mem::replace(&mut state.items, items);
+    state.stack.push(Frame {
+        opener,
+        spot,
+        before,
+        depth,
+    })?;
+    Ok(())
+}
+
+/// Opens one more of those that are counted.
+fn open(state: &mut State, opener: Opener, spot: Spot, items: Vec<Datum>) -> Result<(), ReadFault>
+    ensures { Moves (state_of state.new) result (model.opened (opener_of opener) (spot_of spot) (data_of items.items) (state_of state.old)) }
+{
+    let depth = depth(state.stack.as_slice());
+    if depth < MAX_OPEN {
+        push(state, opener, depth + 1, spot, items)?;
+        Ok(())
+    } else {
+        Err(fault(TOO_DEEP, spot))
+    }
+}
+
+/// Puts back what was open, as something else.
+fn reopen(state: &mut State, opener: Opener, frame: Frame) -> Mem<()>
+    ensures { OnOk result (state_of state.new
+        ≡ model.state (data_of state.old.items.items) (model.reopened (opener_of opener) (frame_of frame) ∷ stack_of state.old.stack.items)) }
+{
+    let Frame {
+        opener: _,
+        spot,
+        before,
+        depth,
+    } = frame;
+    state.stack.push(Frame {
+        opener,
+        spot,
+        before,
+        depth,
+    })?;
+    Ok(())
+}
+
+/// The list from a mark's token up to where a datum ends.
+fn make_marked(spot: Spot, parts: Vec<Datum>, last: u32, end: u32) -> Datum
+    ensures { datum_of result ≡ list (record { first = spot.number; last = last; start = spot.span.start; end = end }) (row (data_of parts.items) none) }
+{
+    Datum {
+        shape: Shape::List(parts, None),
+        first: spot.number,
+        last,
+        span: Span {
+            start: spot.span.start,
+            end,
+        },
+    }
+}
+
+/// The abbreviation of a mark's token and what stands behind it.
+fn abbreviation(spot: Spot, items: Vec<Datum>, datum: Datum) -> Mem<Datum>
+    ensures { IfOk result (λ d. datum_of d ≡ model.abbreviation (spot_of spot) (data_of items.items) (datum_of datum)) }
+{
+    let last = datum.last;
+    let end = datum.span.end;
+    let mut parts = items;
+    parts.push(datum)?;
+    Ok(make_marked(spot, parts, last, end))
+}
+
+/// Adds a datum, and puts back what is open.
+fn keep(state: &mut State, frame: Frame, datum: Datum) -> Mem<()>
+    ensures { OnOk result (state_of state.new
+        ≡ model.state (data_of state.old.items.items ++ datum_of datum ∷ []) (frame_of frame ∷ stack_of state.old.stack.items)) }
+{
+    state.items.push(datum)?;
+    state.stack.push(frame)?;
+    Ok(())
+}
+
+/// Adds a datum on the innermost level. An abbreviation that it completes is added in its place; `#;` drops it.
+fn complete(state: &mut State, datum: Datum) -> Mem<()>
+    ensures { OnOk result (state_of state.new ≡ model.completed (datum_of datum) (data_of state.old.items.items) (stack_of state.old.stack.items)) }
+{
+    let mut datum = datum;
+    while let Some(frame) = state.stack.pop() {
+        match &frame.opener {
+            Opener::Mark => {
+                let items = mem::replace(&mut state.items, frame.before);
+                datum = abbreviation(frame.spot, items, datum)?;
+            }
+            Opener::Skip => {
+                state.items = frame.before;
+                return Ok(());
+            }
+            Opener::Dotted(dot) => {
+                let opener = Opener::Ended(*dot, datum);
+                return Ok(reopen(state, opener, frame)?);
+            }
+            Opener::List => return Ok(keep(state, frame, datum)?),
+            Opener::Ended(..) => return Ok(keep(state, frame, datum)?),
+            Opener::Vector => return Ok(keep(state, frame, datum)?),
+            Opener::Bytes(_) => return Ok(keep(state, frame, datum)?),
+        }
+    }
+    state.items.push(datum)?;
+    Ok(())
+}
+
+/// Closes the innermost.
+fn close(alloc: Global, state: &mut State, spot: Spot) -> Result<(), ReadFault>
+    ensures { Moves (state_of state.new) result (model.closed (spot_of spot) (data_of state.old.items.items) (stack_of state.old.stack.items)) }
+{
+    let Some(frame) = state.stack.pop() else {
+        return Err(fault(STRAY_CLOSE, spot));
+    };
+    let items = mem::replace(&mut state.items, frame.before);
+    let datum = closed(alloc, frame.opener, frame.spot, spot, items)?;
+    complete(state, datum)?;
+    Ok(())
+}
+
+/// A dot, which stands behind a part of a list, once.
+fn dot(state: &mut State, spot: Spot) -> Result<(), ReadFault>
+    ensures { Moves (state_of state.new) result (model.dots (spot_of spot) (data_of state.old.items.items) (stack_of state.old.stack.items)) }
+{
+    let Some(frame) = state.stack.pop() else {
+        return Err(fault(BAD_DOT, spot));
+    };
+    match &frame.opener {
+        Opener::List => {
+            if state.items.as_slice().is_empty() {
+                return Err(fault(BAD_DOT, spot));
+            }
+            reopen(state, Opener::Dotted(spot), frame)?;
+            Ok(())
+        }
+        Opener::Bytes(_) => Err(fault(BAD_BYTE, spot)),
+        Opener::Dotted(_) => Err(fault(BAD_DOT, spot)),
+        Opener::Ended(..) => Err(fault(BAD_DOT, spot)),
+        Opener::Vector => Err(fault(BAD_DOT, spot)),
+        Opener::Mark => Err(fault(BAD_DOT, spot)),
+        Opener::Skip => Err(fault(BAD_DOT, spot)),
+    }
+}
+
+fn make_atom(kind: TokenKind, spot: Spot) -> Datum
+    ensures { datum_of result ≡ atom (model.at (spot_of spot)) (kind_of kind) }
+{
+    make_datum(Shape::Atom(kind), spot, spot)
+}
+
+/// The numeral of a byte.
+fn numeral(kind: TokenKind, spot: Spot) -> Result<Text, ReadFault>
+    ensures { IsNumeral result (model.byte_of (kind_of kind)) (spot_of spot) }
+{
+    match kind {
+        TokenKind::Numeral(text) => {
+            if is_byte(text.as_str()) {
+                Ok(text)
+            } else {
+                Err(fault(BAD_BYTE, spot))
+            }
+        }
+        TokenKind::Paren
+        | TokenKind::VectorParen
+        | TokenKind::BytesParen
+        | TokenKind::Close
+        | TokenKind::Dot
+        | TokenKind::Quote
+        | TokenKind::Quasi
+        | TokenKind::Unquote
+        | TokenKind::Splice
+        | TokenKind::Skip
+        | TokenKind::Name { .. }
+        | TokenKind::Quoted(_)
+        | TokenKind::Char(_)
+        | TokenKind::Bool(_) => Err(fault(BAD_BYTE, spot)),
+    }
+}
+
+fn added(texts: Vec<Text>, text: Text) -> Mem<Vec<Text>>
+    ensures { IfOk result (λ all. all.items ≡ texts.items ++ text ∷ []) }
+{
+    let mut texts = texts;
+    texts.push(text)?;
+    Ok(texts)
+}
+
+/// A numeral more in a bytevector.
+fn byte(
+    state: &mut State,
+    frame: Frame,
+    texts: Vec<Text>,
+    kind: TokenKind,
+    spot: Spot,
+) -> Result<(), ReadFault>
+    ensures { Moves (state_of state.new) result (model.byte_added (model.byte_of (kind_of kind)) (map chars texts.items) (spot_of spot)
+        (frame_of frame) (data_of state.old.items.items) (stack_of state.old.stack.items)) }
+{
+    let text = numeral(kind, spot)?;
+    let all = added(texts, text)?;
+    reopen(state, Opener::Bytes(all), frame)?;
+    Ok(())
+}
+
+/// The numerals so far of a bytevector.
+fn texts_in(alloc: Global, opener: Opener) -> Vec<Text>
+    ensures { (texts : List (List ℕ)) → opener_of opener ≡ model.in_bytes texts → map chars result.items ≡ texts }
+{
+    match opener {
+        Opener::Bytes(texts) => texts,
+        Opener::List => Vec::new(alloc),
+        Opener::Dotted(_) => Vec::new(alloc),
+        Opener::Ended(..) => Vec::new(alloc),
+        Opener::Vector => Vec::new(alloc),
+        Opener::Mark => Vec::new(alloc),
+        Opener::Skip => Vec::new(alloc),
+    }
+}
+
+/// A bytevector without its numerals, and these.
+fn split_bytes(alloc: Global, frame: Frame) -> (Frame, Vec<Text>)
+    ensures rest { frame_of result.0 ≡ model.reopened model.in_vector (frame_of frame) }
+    ensures texts { (texts : List (List ℕ)) → opener_of frame.opener ≡ model.in_bytes texts → map chars result.1.items ≡ texts }
+{
+    let Frame {
+        opener,
+        spot,
+        before,
+        depth,
+    } = frame;
+    let texts = texts_in(alloc, opener);
+    let rest = Frame {
+        opener: Opener::Vector,
+        spot,
+        before,
+        depth,
+    };
+    (rest, texts)
+}
+
+/// A token in a bytevector.
+fn byte_in(
+    alloc: Global,
+    state: &mut State,
+    frame: Frame,
+    kind: TokenKind,
+    spot: Spot,
+) -> Result<(), ReadFault>
+    ensures { (texts : List (List ℕ)) → opener_of frame.opener ≡ model.in_bytes texts → Moves (state_of state.new) result
+        (model.byte_added (model.byte_of (kind_of kind)) texts (spot_of spot) (frame_of frame) (data_of state.old.items.items) (stack_of state.old.stack.items)) }
+{
+    let (rest, texts) = split_bytes(alloc, frame);
+    byte(state, rest, texts, kind, spot)?;
+    Ok(())
+}
+
+/// An atom that is a datum of its own.
+fn whole(state: &mut State, kind: TokenKind, spot: Spot) -> Mem<()>
+    ensures { OnOk result (state_of state.new ≡ model.completed (atom (model.at (spot_of spot)) (kind_of kind)) (data_of state.old.items.items) (stack_of state.old.stack.items)) }
+{
+    complete(state, make_atom(kind, spot))?;
+    Ok(())
+}
+
+/// An atom behind what is open.
+fn behind(state: &mut State, frame: Frame, kind: TokenKind, spot: Spot) -> Mem<()>
+    ensures { OnOk result (state_of state.new
+        ≡ model.completed (atom (model.at (spot_of spot)) (kind_of kind)) (data_of state.old.items.items) (frame_of frame ∷ stack_of state.old.stack.items)) }
+{
+    state.stack.push(frame)?;
+    whole(state, kind, spot)?;
+    Ok(())
+}
+
+/// An atom: in a bytevector a numeral, and elsewhere a datum.
+fn atom(alloc: Global, state: &mut State, kind: TokenKind, spot: Spot) -> Result<(), ReadFault>
+    ensures { Moves (state_of state.new) result (model.atoms (kind_of kind) (spot_of spot) (data_of state.old.items.items) (stack_of state.old.stack.items)) }
+{
+    let Some(frame) = state.stack.pop() else {
+        return Ok(whole(state, kind, spot)?);
+    };
+    match &frame.opener {
+        Opener::Ended(dot, _) => Err(fault(BAD_DOT, *dot)),
+        Opener::Bytes(_) => Ok(byte_in(alloc, state, frame, kind, spot)?),
+        Opener::List => Ok(behind(state, frame, kind, spot)?),
+        Opener::Dotted(_) => Ok(behind(state, frame, kind, spot)?),
+        Opener::Vector => Ok(behind(state, frame, kind, spot)?),
+        Opener::Mark => Ok(behind(state, frame, kind, spot)?),
+        Opener::Skip => Ok(behind(state, frame, kind, spot)?),
+    }
+}
+
+/// Opens one more of those that are data, where one may begin.
+fn open_datum(
+    state: &mut State,
+    opener: Opener,
+    spot: Spot,
+    items: Vec<Datum>,
+) -> Result<(), ReadFault>
+    ensures { Moves (state_of state.new) result (model.unless (model.refused (stack_of state.old.stack.items) (spot_of spot))
+        (model.opened (opener_of opener) (spot_of spot) (data_of items.items) (state_of state.old))) }
+{
+    begin(state.stack.as_slice(), spot)?;
+    open(state, opener, spot, items)?;
+    Ok(())
+}
+
+/// Opens a bytevector, which isn't counted.
+fn open_bytes(alloc: Global, state: &mut State, spot: Spot) -> Result<(), ReadFault>
+    ensures { Moves (state_of state.new) result (model.after BytesParen (spot_of spot) (state_of state.old)) }
+{
+    begin(state.stack.as_slice(), spot)?;
+    let depth = depth(state.stack.as_slice());
+    push(
+        state,
+        Opener::Bytes(Vec::new(alloc)),
+        depth,
+        spot,
+        Vec::new(alloc),
+    )?;
+    Ok(())
+}
+
+fn one(alloc: Global, datum: Datum) -> Mem<Vec<Datum>>
+    ensures { IfOk result (λ all. all.items ≡ datum ∷ []) }
+{
+    let mut all = Vec::new(alloc);
+    all.push(datum)?;
+    Ok(all)
+}
+
+/// Opens an abbreviation.
+fn mark(alloc: Global, state: &mut State, kind: TokenKind, spot: Spot) -> Result<(), ReadFault>
+    ensures { Moves (state_of state.new) result (model.unless (model.refused (stack_of state.old.stack.items) (spot_of spot))
+        (model.opened model.marked (spot_of spot) (atom (model.at (spot_of spot)) (kind_of kind) ∷ []) (state_of state.old))) }
+{
+    let items = one(alloc, make_atom(kind, spot))?;
+    open_datum(state, Opener::Mark, spot, items)?;
+    Ok(())
+}
+
+/// Reads one token more.
+pub fn step(alloc: Global, state: &mut State, token: Token, number: u32) -> Result<(), ReadFault>
+    ensures { Moves (state_of state.new) result (model.after (kind_of token.kind) (spot_of (record { number = number; span = token.span })) (state_of state.old)) }
+{
+    let spot = Spot {
+        number,
+        span: token.span,
+    };
+    match token.kind {
+        TokenKind::Paren => Ok(open_datum(state, Opener::List, spot, Vec::new(alloc))?),
+        TokenKind::VectorParen => Ok(open_datum(state, Opener::Vector, spot, Vec::new(alloc))?),
+        TokenKind::BytesParen => Ok(open_bytes(alloc, state, spot)?),
+        TokenKind::Close => Ok(close(alloc, state, spot)?),
+        TokenKind::Dot => Ok(dot(state, spot)?),
+        TokenKind::Skip => Ok(open(state, Opener::Skip, spot, Vec::new(alloc))?),
+        TokenKind::Quote => Ok(mark(alloc, state, TokenKind::Quote, spot)?),
+        TokenKind::Quasi => Ok(mark(alloc, state, TokenKind::Quasi, spot)?),
+        TokenKind::Unquote => Ok(mark(alloc, state, TokenKind::Unquote, spot)?),
+        TokenKind::Splice => Ok(mark(alloc, state, TokenKind::Splice, spot)?),
+        TokenKind::Name { name, bars } => {
+            Ok(atom(alloc, state, TokenKind::Name { name, bars }, spot)?)
+        }
+        TokenKind::Numeral(text) => Ok(atom(alloc, state, TokenKind::Numeral(text), spot)?),
+        TokenKind::Quoted(text) => Ok(atom(alloc, state, TokenKind::Quoted(text), spot)?),
+        TokenKind::Char(c) => Ok(atom(alloc, state, TokenKind::Char(c), spot)?),
+        TokenKind::Bool(b) => Ok(atom(alloc, state, TokenKind::Bool(b), spot)?),
+    }
+}

@@ -1,0 +1,258 @@
+//! Data of texts, worked out by hand from R7RS: F-L@S-E are the first and the last token and the bytes of a datum.
+use crate::{Datum, Shape, read_all};
+use scheme_tokens::{ReadFault, TokenKind};
+use std::alloc::{AllocError, Global};
+use std::test::Fail;
+
+fn atom(alloc: Global, kind: &TokenKind) -> Result<String, AllocError> {
+    String::from_str(
+        alloc,
+        match kind {
+            TokenKind::Quote => "'",
+            TokenKind::Quasi => "`",
+            TokenKind::Unquote => ",",
+            TokenKind::Splice => ",@",
+            TokenKind::Name { name, .. } => name.as_str(),
+            TokenKind::Numeral(text) | TokenKind::Quoted(text) => text.as_str(),
+            TokenKind::Char(_) => "char",
+            TokenKind::Bool(true) => "#t",
+            TokenKind::Bool(false) => "#f",
+            TokenKind::Paren
+            | TokenKind::VectorParen
+            | TokenKind::BytesParen
+            | TokenKind::Close
+            | TokenKind::Dot
+            | TokenKind::Skip => "no atom",
+        },
+    )
+}
+
+fn range(alloc: Global, from: u32, to: u32) -> Result<String, AllocError> {
+    format!(in alloc; "{from}-{to}")
+}
+
+fn show_place(alloc: Global, out: &mut String, datum: &Datum) -> Result<(), AllocError> {
+    out.push_str(range(alloc, datum.first, datum.last)?.as_str())?;
+    out.push_str("@")?;
+    out.push_str(range(alloc, datum.span.start, datum.span.end)?.as_str())?;
+    Ok(())
+}
+
+fn show(alloc: Global, out: &mut String, datum: &Datum) -> Result<(), AllocError> {
+    show_place(alloc, out, datum)?;
+    match &datum.shape {
+        Shape::Atom(kind) => {
+            out.push_str("=")?;
+            out.push_str(atom(alloc, kind)?.as_str())?;
+        }
+        Shape::List(parts, tail) => {
+            out.push_str("(")?;
+            for part in parts {
+                show(alloc, out, part)?;
+            }
+            if let Some(tail) = tail {
+                out.push_str(".")?;
+                show(alloc, out, tail)?;
+            }
+            out.push_str(")")?;
+        }
+        Shape::Vector(parts) => {
+            out.push_str("[")?;
+            for part in parts {
+                show(alloc, out, part)?;
+            }
+            out.push_str("]")?;
+        }
+        Shape::Bytes(texts) => {
+            out.push_str("{")?;
+            for text in texts {
+                out.push_str(text.as_str())?;
+                out.push_str(";")?;
+            }
+            out.push_str("}")?;
+        }
+    }
+    out.push_str("/")
+}
+
+/// The data of a text, each before a `/`; or the fault's number and its bytes.
+fn read(alloc: Global, text: &str) -> Result<String, AllocError> {
+    let mut out = String::new(alloc);
+    if text.len() >= 65_536 {
+        return Ok(out);
+    }
+    match read_all(alloc, text) {
+        Ok(data) => {
+            for datum in data.as_slice() {
+                show(alloc, &mut out, datum)?;
+            }
+        }
+        Err(ReadFault::At { number, span }) => {
+            let number = u32::from(number);
+            out.push_str(format!(in alloc; "{number} ")?.as_str())?;
+            out.push_str(range(alloc, span.start, span.end)?.as_str())?;
+        }
+        Err(ReadFault::Memory) => out.push_str("memory")?,
+    }
+    Ok(out)
+}
+
+#[test]
+fn data(rt: HostRuntime) -> Result<(), Fail> {
+    for (text, want) in [
+        ("", ""),
+        (" a", "0-0@1-2=a/"),
+        ("(a b)", "0-3@0-5(1-1@1-2=a/2-2@3-4=b/)/"),
+        ("() 1", "0-1@0-2()/2-2@3-4=1/"),
+        ("(a . b)", "0-4@0-7(1-1@1-2=a/.3-3@5-6=b/)/"),
+        ("#(a #(b))", "0-5@0-9[1-1@2-3=a/2-4@4-8[3-3@6-7=b/]/]/"),
+        ("#u8(1 255)", "0-3@0-10{1;255;}/"),
+        ("#u8(#xfff 1x)", "0-3@0-13{#xfff;1x;}/"),
+        ("'a", "0-1@0-2(0-0@0-1='/1-1@1-2=a/)/"),
+        (
+            "`b ,c",
+            "0-1@0-2(0-0@0-1=`/1-1@1-2=b/)/2-3@3-5(2-2@3-4=,/3-3@4-5=c/)/",
+        ),
+        (",@(a)", "0-3@0-5(0-0@0-2=,@/1-3@2-5(2-2@3-4=a/)/)/"),
+        ("''a", "0-2@0-3(0-0@0-1='/1-2@1-3(1-1@1-2='/2-2@2-3=a/)/)/"),
+    ] {
+        assert_eq!(rt; read(rt.alloc(), text)?.as_str(), want, "{text}");
+    }
+    Ok(())
+}
+
+#[test]
+fn merged_tails_and_skipped_data(rt: HostRuntime) -> Result<(), Fail> {
+    for (text, want) in [
+        ("(a . (b c))", "0-7@0-11(1-1@1-2=a/4-4@6-7=b/5-5@8-9=c/)/"),
+        ("(a . ())", "0-5@0-8(1-1@1-2=a/)/"),
+        (
+            "(a . (b . c))",
+            "0-8@0-13(1-1@1-2=a/4-4@6-7=b/.6-6@10-11=c/)/",
+        ),
+        ("(a . 'b)", "0-5@0-8(1-1@1-2=a/3-3@5-6='/4-4@6-7=b/)/"),
+        ("(a . #(b))", "0-6@0-10(1-1@1-2=a/.3-5@5-9[4-4@7-8=b/]/)/"),
+        ("a #;b c", "0-0@0-1=a/3-3@6-7=c/"),
+        ("#;#;a b c", "4-4@8-9=c/"),
+        ("'#;a b", "0-3@0-6(0-0@0-1='/3-3@5-6=b/)/"),
+        ("(a #;b . #;c d #;e)", "0-10@0-19(1-1@1-2=a/.7-7@13-14=d/)/"),
+        ("#u8(1 #;x 2)", "0-5@0-12{1;2;}/"),
+        ("#;'a", ""),
+    ] {
+        assert_eq!(rt; read(rt.alloc(), text)?.as_str(), want, "{text}");
+    }
+    Ok(())
+}
+
+#[test]
+fn faults_of_lists_and_dots(rt: HostRuntime) -> Result<(), Fail> {
+    for (text, want) in [
+        ("(a", "5 0-1"),
+        ("(a #(b", "5 3-5"),
+        ("(a . b", "5 0-1"),
+        ("#u8(1", "5 0-4"),
+        (")", "6 0-1"),
+        ("a ) b", "6 2-3"),
+        ("(a)) \"b", "6 3-4"),
+        ("(a . b c)", "7 3-4"),
+        ("(a . b 'c)", "7 3-4"),
+        ("(. a)", "7 1-2"),
+        ("(#;a . b)", "7 5-6"),
+        (".", "7 0-1"),
+        ("(a . )", "7 3-4"),
+        ("#(a . b)", "7 4-5"),
+        ("(a . b . c)", "7 7-8"),
+        ("(a . . b)", "7 5-6"),
+        ("'.", "7 1-2"),
+    ] {
+        assert_eq!(rt; read(rt.alloc(), text)?.as_str(), want, "{text}");
+    }
+    Ok(())
+}
+
+#[test]
+fn faults_of_bytes_marks_and_tokens(rt: HostRuntime) -> Result<(), Fail> {
+    for (text, want) in [
+        ("#u8(256)", "8 4-7"),
+        ("#u8(0300)", "8 4-8"),
+        ("#u8(a)", "8 4-5"),
+        ("#u8((1))", "8 4-5"),
+        ("#u8(1 . 2)", "8 6-7"),
+        ("#u8('1)", "8 4-5"),
+        ("(a #;)", "12 3-5"),
+        ("'", "12 0-1"),
+        ("(')", "12 1-2"),
+        ("(a #;", "12 3-5"),
+        ("#;(a", "5 2-3"),
+        ("(a . ')", "12 5-6"),
+        ("#u8(1 #;)", "12 6-8"),
+        ("#|a #|b|# c", "4 0-2"),
+        ("(a #!x", "10 3-6"),
+        ("(a \"b", "2 3-4"),
+        ("(#0=a)", "9 1-5"),
+        ("(a |b", "3 3-4"),
+    ] {
+        assert_eq!(rt; read(rt.alloc(), text)?.as_str(), want, "{text}");
+    }
+    Ok(())
+}
+
+/// So many times a text.
+fn times(alloc: Global, count: usize, text: &str) -> Result<String, AllocError> {
+    let mut out = String::new(alloc);
+    for _ in 0..count {
+        out.push_str(text)?;
+    }
+    Ok(out)
+}
+
+fn nested(alloc: Global, count: usize, inside: &str) -> Result<String, AllocError> {
+    let mut out = times(alloc, count, "(")?;
+    out.push_str(inside)?;
+    out.push_str(times(alloc, count, ")")?.as_str())?;
+    Ok(out)
+}
+
+#[test]
+fn at_most_400_are_open(rt: HostRuntime) -> Result<(), Fail> {
+    let alloc = rt.alloc();
+    let deep = nested(alloc, 400, "#u8(1)")?;
+    let read_deep = read(alloc, deep.as_str())?;
+    assert_eq!(rt; read_deep.as_str().contains("{1;}"), true);
+    let deeper = nested(alloc, 401, "")?;
+    assert_eq!(rt; read(alloc, deeper.as_str())?.as_str(), "11 400-401");
+    let marks = times(alloc, 401, "'")?;
+    assert_eq!(rt; read(alloc, marks.as_str())?.as_str(), "11 400-401");
+    let skipped = nested(alloc, 400, "#;a")?;
+    assert_eq!(rt; read(alloc, skipped.as_str())?.as_str(), "11 400-402");
+    Ok(())
+}
+
+/// How many parts the first datum has.
+fn part_count(alloc: Global, text: &str) -> usize {
+    if text.len() >= 1_000_000 {
+        return 0;
+    }
+    let Ok(data) = read_all(alloc, text) else {
+        return 0;
+    };
+    match data.as_slice().first() {
+        Some(
+            Datum {
+                shape: Shape::List(parts, None),
+                ..
+            },
+        ) => parts.len(),
+        _ => 0,
+    }
+}
+
+#[test]
+fn long_lists(rt: HostRuntime) -> Result<(), Fail> {
+    let alloc = rt.alloc();
+    let mut text = String::from_str(alloc, "(")?;
+    text.push_str(times(alloc, 100_000, "a ")?.as_str())?;
+    text.push_str(")")?;
+    assert_eq!(rt; part_count(alloc, text.as_str()), 100_000);
+    Ok(())
+}
