@@ -10,9 +10,12 @@ use Rattle.scheme_tokens.proofs.reader.front_tokens.Goals as goal
 pub returns-in-Ok-None-clause-front : goal.returns-in-Ok-None-clause-front
 returns-in-Ok-None-clause-front c =
     let text = c.args.text.now in
-    let rest = chars c.loop-token.rest.now in
-    (None, read_whole (length text) (chars text) c.loop-token.tokens rest None c.loop-token.invariant.goes
-    (subst (λ o. IsNext (Ok o) (next (length text) rest)) c.in-Ok-None.field-0-is c.in-Ok-None.ensures.next) (byte_count-chars text c.utf8.text), refl)
+    let rest = chars c.loop-token.rest.now in (
+      None,
+      read_whole (length text) (chars text) c.loop-token.tokens rest None c.loop-token.invariant.goes
+          (subst (λ o. IsNext (Ok o) (next (length text) rest)) c.in-Ok-None.field-0-is c.in-Ok-None.ensures.next) (byte_count-chars text c.utf8.text),
+      refl,
+    )
 
 pub returns-in-Err-clause-front : goal.returns-in-Err-clause-front
 returns-in-Err-clause-front c =
