@@ -19,10 +19,15 @@ trap 'rm -f "$stream"' EXIT
 session() {
     awk -v changes="$1" '
         function frame(body) { printf "Content-Length: %d\r\n\r\n%s", length(body), body }
+        function repeated(text, count, half) {
+            if (count <= 1) return count ? text : ""
+            half = repeated(text, int(count / 2))
+            return half half (count % 2 ? text : "")
+        }
         BEGIN {
             line = "(define (square x) (* x x))"
             lines = int(1048576 / (length(line) + 1)) - 1000
-            for (n = 0; n < lines; n++) text = text line "\\n"
+            text = repeated(line "\\n", lines)
             frame("{\"jsonrpc\":\"2.0\",\"id\":1,\"method\":\"initialize\",\"params\":{}}")
             frame("{\"jsonrpc\":\"2.0\",\"method\":\"textDocument/didOpen\",\"params\":{\"textDocument\":{\"uri\":\"file:///a.scm\",\"version\":0,\"text\":\"" text "\"}}}")
             for (n = 1; n <= changes; n++) {
