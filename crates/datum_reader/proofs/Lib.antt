@@ -3,4 +3,9 @@ pub mod StackLaws
 pub mod DatumLaws
 pub mod StepLaws
 pub mod Passing
+pub mod Begun
+pub mod Completing
+pub mod Reaching
+pub mod Ending
+pub mod Stops
 pub mod ReadLaws
