@@ -1,5 +1,7 @@
 pub mod Data
 pub mod Faults
 pub mod Open
+pub mod Right
+pub mod Seeded
 pub mod Views
 pub mod Written
