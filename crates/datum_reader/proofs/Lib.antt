@@ -4,3 +4,6 @@ pub mod DatumLaws
 pub mod StepLaws
 pub mod Passing
 pub mod ReadLaws
+pub mod Sizes
+pub mod Depths
+pub mod Rights
