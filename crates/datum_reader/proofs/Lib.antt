@@ -9,3 +9,6 @@ pub mod Reaching
 pub mod Ending
 pub mod Stops
 pub mod ReadLaws
+pub mod Sizes
+pub mod Depths
+pub mod Rights

@@ -1,6 +1,8 @@
 pub mod Data
 pub mod Faults
 pub mod Open
+pub mod Right
+pub mod Seeded
 pub mod Stopping
 pub mod Views
 pub mod Written

@@ -1,0 +1,89 @@
+-- Data as reading gives them: what a tree can be made of.
+use Rattle.std.specs.Prelude.{◌≡◌, ◌⊎◌, ℕ, ◌+◌, ◌≤◌, max, Bool, true, false, List}
+use Rattle.ls_base.specs.declared.limits.TheConstants.{MAX_TEXT, MAX_TREE_NODES, MAX_TREE_DEPTH}
+use Rattle.scheme_tokens.specs.Tokens.{TokenKind, Paren, VectorParen, BytesParen, Close, Dot, Skip, Marked, Atomic}
+use Rattle.scheme_tokens.specs.Words.{byte_count}
+use Rattle.datum_reader.specs.Data.{Datum, atom, list, vector, bytes, Data, none, part, tail, row}
+use Rattle.datum_reader.specs.Written.{IsReading}
+
+-- the datum stands in this one, or in these
+abbrev mutual
+  pub IsIn : Datum → Datum → Type 0
+  IsIn d (atom p kind) = d ≡ atom p kind
+  IsIn d (list p ds) = (d ≡ list p ds) ⊎ IsAmong d ds
+  IsIn d (vector p ds) = (d ≡ vector p ds) ⊎ IsAmong d ds
+  IsIn d (bytes p texts) = d ≡ bytes p texts
+
+  pub IsAmong : Datum → Data → Type 0
+  IsAmong d none = ⊥
+  IsAmong d (part e ds) = IsIn d e ⊎ IsAmong d ds
+  IsAmong d (tail e) = IsIn d e
+
+-- a datum that is read from a text of at most 1,048,576 bytes, or a part of one
+pub record WasRead (d : Datum) : Type 0 where
+  pub text : List ℕ
+  pub all : List Datum
+  pub fits : byte_count text ≤ MAX_TEXT
+  pub reading : IsReading text all
+  pub among : IsAmong d (row all none)
+
+-- an atom by itself, or a mark
+abbrev pub is_atom : TokenKind → Bool
+is_atom Paren = false
+is_atom VectorParen = false
+is_atom BytesParen = false
+is_atom Close = false
+is_atom Dot = false
+is_atom Skip = false
+is_atom (Marked mark) = true
+is_atom (Atomic leaf) = true
+
+abbrev pub is_list : Datum → Bool
+is_list (atom p kind) = false
+is_list (list p ds) = true
+is_list (vector p ds) = false
+is_list (bytes p texts) = false
+
+-- its atoms are atoms, and no tail is a list
+abbrev mutual
+  pub IsRight : Datum → Type 0
+  IsRight (atom p kind) = is_atom kind ≡ true
+  IsRight (list p ds) = AreRight ds
+  IsRight (vector p ds) = AreRight ds
+  IsRight (bytes p texts) = Unit {0}
+
+  pub AreRight : Data → Type 0
+  AreRight none = Unit {0}
+  AreRight (part d ds) = IsRight d × AreRight ds
+  AreRight (tail d) = (is_list d ≡ false) × IsRight d
+
+-- how many nodes and how deep the datum's tree is
+abbrev mutual
+  pub datum_size : Datum → ℕ
+  datum_size (atom p kind) = 1
+  datum_size (list p ds) = 1 + data_size ds
+  datum_size (vector p ds) = 1 + data_size ds
+  datum_size (bytes p texts) = 1
+
+  pub data_size : Data → ℕ
+  data_size none = 0
+  data_size (part d ds) = datum_size d + data_size ds
+  data_size (tail d) = datum_size d
+
+abbrev mutual
+  pub datum_depth : Datum → ℕ
+  datum_depth (atom p kind) = 1
+  datum_depth (list p ds) = 1 + data_depth ds
+  datum_depth (vector p ds) = 1 + data_depth ds
+  datum_depth (bytes p texts) = 1
+
+  pub data_depth : Data → ℕ
+  data_depth none = 0
+  data_depth (part d ds) = max (datum_depth d) (data_depth ds)
+  data_depth (tail d) = datum_depth d
+
+-- what a tree can be made of: the datum is right, and small and shallow enough
+pub record CanSeed (d : Datum) : Type 0 where
+  pub right : IsRight d
+  pub small : datum_size d ≤ MAX_TREE_NODES
+  pub shallow : datum_depth d ≤ MAX_TREE_DEPTH
