@@ -11,4 +11,5 @@ pub mod Stops
 pub mod ReadLaws
 pub mod Sizes
 pub mod Depths
+pub mod ReadParts
 pub mod Rights
