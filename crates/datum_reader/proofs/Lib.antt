@@ -4,3 +4,8 @@ pub mod DatumLaws
 pub mod StepLaws
 pub mod Passing
 pub mod ReadLaws
+pub mod Rights
+pub mod Growing
+pub mod Joining
+pub mod Rows
+pub mod SeedLaws
