@@ -6,6 +6,7 @@ pub mod Passing
 pub mod ReadLaws
 pub mod Rights
 pub mod Growing
+pub mod LeafLaws
 pub mod Joining
 pub mod Rows
 pub mod SeedLaws

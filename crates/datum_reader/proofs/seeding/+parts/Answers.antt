@@ -8,7 +8,7 @@ use Rattle.syntax_tree.specs.declared.trees.faults.PoolFault.TheVariants as faul
 use Rattle.datum_reader.specs.declared.datum.Datum.{Datum}
 use Rattle.datum_reader.specs.declared.datum.Shape.TheViews.{the_lemmas}
 use Rattle.datum_reader.specs.Seeding.{part_tree, parts_trees, tail_tree, CanBeSeeded}
-use Rattle.datum_reader.proofs.Growing.{grows_on, grows_names, put_last, not_put, part_failed, handed_on, all_handed_on, all_kept, node_of}
+use Rattle.datum_reader.proofs.Growing.{grows_itself, grows_on, grows_names, put_last, not_put, part_failed, handed_on, all_handed_on, all_kept, node_of}
 use Rattle.datum_reader.proofs.SeedLaws.{list_parts, vector_parts, atom_whole, atom_part-size, bytes_whole, bytes-size, small_tree, shallow_tree, atom_right}
 use Rattle.datum_reader.proofs.Rows.{parts_more, parts_failed, parts_grown}
 use Rattle.datum_reader.proofs.seeding.+parts.Goals as goal
@@ -21,6 +21,20 @@ seed_datum-returns-in_err-node-in-Atom t c =
     let names = c.atom_node.new.symbols in
     let whole = part_tree c.args.start.unit c.args.start.form c.args.start.first c.args.datum.now in
     handed_on w (with_names w names) whole c.from_residual.result fault.Memory c.from_residual.ensures.1 (grows_names w names (tree_size whole) c.atom_node.ensures.names, tt)
+
+pub seed_datum-add-requires-clause-small : goal.seed_datum-add-requires-clause-small
+seed_datum-add-requires-clause-small t c =
+    let w = c.args.work.now in
+    let s = c.args.start in
+    let d = c.args.datum.now in
+    let whole = part_tree s.unit s.form s.first d in
+    let made = with_names w c.atom_node.new.symbols in
+    let node = c.in_ok-node-in-Atom.node in (
+      whole,
+      node_of made node _ whole (atom_whole s.unit s.form s.first d c.place-occ.result c.in-Atom.kind c.in-Atom.is c.place-occ.ensures) (c.in_ok-node-in-Atom.ensures.node w.trees.nodes),
+      small_tree s.unit s.form s.first d c.requires.read,
+      shallow_tree s.unit s.form s.first d c.requires.read,
+    )
 
 pub seed_datum-returns-in_err-add-in-Atom : goal.seed_datum-returns-in_err-add-in-Atom
 seed_datum-returns-in_err-add-in-Atom t c =
@@ -55,6 +69,21 @@ seed_datum-returns-in_err-node-in-Bytes t c =
     let whole = part_tree c.args.start.unit c.args.start.form c.args.start.first c.args.datum.now in
     handed_on w (with_names w names) whole c.from_residual-in_err-node-in-Bytes.result fault.Memory c.from_residual-in_err-node-in-Bytes.ensures.1 (grows_names w names (tree_size whole) c.bytes_node.ensures.names, tt)
 
+pub seed_datum-add-requires-in-Bytes-clause-small : goal.seed_datum-add-requires-in-Bytes-clause-small
+seed_datum-add-requires-in-Bytes-clause-small t c =
+    let w = c.args.work.now in
+    let s = c.args.start in
+    let d = c.args.datum.now in
+    let whole = part_tree s.unit s.form s.first d in
+    let made = with_names w c.bytes_node.new.symbols in
+    let node = c.in_ok-node-in-Bytes.node in (
+      whole,
+      node_of made node _ whole (bytes_whole s.unit s.form s.first d c.place-occ.result c.in-Bytes.numerals c.deref.result.now c.in-Bytes.is c.deref.ensures.value c.place-occ.ensures)
+          (c.in_ok-node-in-Bytes.ensures.node w.trees.nodes),
+      small_tree s.unit s.form s.first d c.requires.read,
+      shallow_tree s.unit s.form s.first d c.requires.read,
+    )
+
 pub seed_datum-returns-in_err-add-in-Bytes : goal.seed_datum-returns-in_err-add-in-Bytes
 seed_datum-returns-in_err-add-in-Bytes t c =
     let w = c.args.work.now in
@@ -88,6 +117,43 @@ seed_datum-seed_parts-requires t c =
     let seen = c.deref-in-Vector.ensures.value in
     (first_of (search (rules, the_lemmas), search (rules, the_lemmas, c.in-Vector.is, seen), grind (arith, the_lemmas)), (c.requires.region, p.parts))
 
+pub seed_datum-returns-in_err-items-in-Vector : goal.seed_datum-returns-in_err-items-in-Vector
+seed_datum-returns-in_err-items-in-Vector t c =
+    let w = c.args.work.now in
+    let s = c.args.start in
+    let d = c.args.datum.now in
+    let ds = c.deref-in-Vector.result.now in
+    let p = vector_parts s.unit s.form s.first d c.place-occ.result c.in-Vector.parts ds c.in-Vector.is c.deref-in-Vector.ensures.value c.place-occ.ensures c.requires.read in
+    let ts = parts_trees s.unit s.form s.first ds in
+    let whole = part_tree s.unit s.form s.first d in
+    let e = c.in_err-items-in-Vector.field-0.0 in
+    let size = p.size in
+    handed_on w c.seed_parts.new.work whole c.from_residual-in_err-items-in-Vector.result e c.from_residual-in_err-items-in-Vector.ensures.1
+    (part_failed w w c.seed_parts.new.work 0 (trees_size ts) (tree_size whole) e (omega (arith, size)) (grows_itself w 0) c.in_err-items-in-Vector.ensures)
+
+pub seed_datum-add-requires-in-Vector-clause-small : goal.seed_datum-add-requires-in-Vector-clause-small
+seed_datum-add-requires-in-Vector-clause-small t c =
+    let s = c.args.start in
+    let d = c.args.datum.now in
+    let ds = c.deref-in-Vector.result.now in
+    let p = vector_parts s.unit s.form s.first d c.place-occ.result c.in-Vector.parts ds c.in-Vector.is c.deref-in-Vector.ensures.value c.place-occ.ensures c.requires.read in
+    let ts = parts_trees s.unit s.form s.first ds in
+    let whole = part_tree s.unit s.form s.first d in
+    (whole, (ts, p.whole, c.in_ok-items-in-Vector.ensures.1), small_tree s.unit s.form s.first d c.requires.read, shallow_tree s.unit s.form s.first d c.requires.read)
+
+pub seed_datum-returns-in_err-add-in-Vector : goal.seed_datum-returns-in_err-add-in-Vector
+seed_datum-returns-in_err-add-in-Vector t c =
+    let w = c.args.work.now in
+    let s = c.args.start in
+    let d = c.args.datum.now in
+    let ds = c.deref-in-Vector.result.now in
+    let p = vector_parts s.unit s.form s.first d c.place-occ.result c.in-Vector.parts ds c.in-Vector.is c.deref-in-Vector.ensures.value c.place-occ.ensures c.requires.read in
+    let ts = parts_trees s.unit s.form s.first ds in
+    let whole = part_tree s.unit s.form s.first d in
+    let e = c.in_err-add-in-Vector.field-0.0 in
+    handed_on w c.add-in-Vector.new.self whole c.from_residual-in_err-add-in-Vector.result e c.from_residual-in_err-add-in-Vector.ensures.1
+    (not_put w c.seed_parts.new.work c.add-in-Vector.new.self whole (trees_size ts) e p.size c.in_ok-items-in-Vector.ensures.0 c.in_err-add-in-Vector.ensures.err (λ q. c.in_err-add-in-Vector.ensures.full.0 (ap Err q)))
+
 pub seed_datum-returns-in_ok-add-in-Vector : goal.seed_datum-returns-in_ok-add-in-Vector
 seed_datum-returns-in_ok-add-in-Vector t c =
     let w = c.args.work.now in
@@ -109,6 +175,27 @@ seed_datum-seed_parts-requires-in-List t c =
     let p = list_parts s.unit s.form s.first c.args.datum.now c.place-occ.result c.in-List.parts c.deref-in-List.result.now c.in-List.end c.in-List.is c.deref-in-List.ensures.value c.place-occ.ensures c.requires.read in
     let seen = c.deref-in-List.ensures.value in
     (first_of (search (rules, the_lemmas), search (rules, the_lemmas, c.in-List.is, seen), grind (arith, the_lemmas)), (c.requires.region, p.parts))
+
+pub seed_datum-returns-in_err-items-in-List : goal.seed_datum-returns-in_err-items-in-List
+seed_datum-returns-in_err-items-in-List t c =
+    let w = c.args.work.now in
+    let s = c.args.start in
+    let d = c.args.datum.now in
+    let ds = c.deref-in-List.result.now in
+    let p = list_parts s.unit s.form s.first d c.place-occ.result c.in-List.parts ds c.in-List.end c.in-List.is c.deref-in-List.ensures.value c.place-occ.ensures c.requires.read in
+    let whole = part_tree s.unit s.form s.first d in
+    let e = c.in_err-items-in-List.field-0.0 in
+    let size = p.size in
+    handed_on w c.seed_parts-in-List.new.work whole c.from_residual-in_err-items-in-List.result e c.from_residual-in_err-items-in-List.ensures.1
+    (part_failed w w c.seed_parts-in-List.new.work 0 (trees_size (parts_trees s.unit s.form s.first ds)) (tree_size whole) e (omega (arith, size)) (grows_itself w 0) c.in_err-items-in-List.ensures)
+
+pub seed_datum-seed_tail-requires : goal.seed_datum-seed_tail-requires
+seed_datum-seed_tail-requires t c =
+    let s = c.args.start in
+    let d = c.args.datum.now in
+    let ds = c.deref-in-List.result.now in
+    let p = list_parts s.unit s.form s.first d c.place-occ.result c.in-List.parts ds c.in-List.end c.in-List.is c.deref-in-List.ensures.value c.place-occ.ensures c.requires.read in
+    (first_of (search (rules, the_lemmas), search (rules, the_lemmas, c.in-List.is), grind (arith, the_lemmas)), (c.in_ok-items-in-List.ensures.0.trees.regions c.args.region.now c.requires.region, p.tail))
 
 pub seed_datum-returns-in_err-tail-in-List : goal.seed_datum-returns-in_err-tail-in-List
 seed_datum-returns-in_err-tail-in-List t c =
