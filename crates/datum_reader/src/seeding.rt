@@ -143,3 +143,6 @@ fn seed_tail(
     }
 }
 
+
+#[cfg(test)]
+mod tests;
