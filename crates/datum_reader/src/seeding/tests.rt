@@ -1,13 +1,15 @@
 //! Trees of data, worked out by hand from R7RS 7.1.2: behind `@` stands the number of a token in form 2 of unit 3.
-ghost use Rattle.std.specs.Prelude.{◌≡◌, All, IfOk, IfSome, Option, Some, map, chars};
+ghost use Rattle.std.specs.Prelude.{◌≡◌, ℕ, List, All, IfOk, IfSome, Option, Some, map, chars};
 ghost use Rattle.scheme_model.specs.Trees.{Tree as ModelTree};
+ghost use Rattle.scheme_tokens.specs.Tokens.{Atomic, Numeral};
 ghost use Rattle.scheme_tokens.specs.Views.{kind_of};
 ghost use Rattle.syntax_tree.specs.Identifiers.{Identifier};
 ghost use Rattle.syntax_tree.specs.Numbered.{IsPlaced};
 ghost use Rattle.syntax_tree.specs.Standing.{leaf_tree};
 ghost use Rattle.syntax_tree.specs.Works.{IsStanding};
-ghost use Rattle.datum_reader.specs.Data.{atom as atom_of, list, vector as vector_of, bytes as bytes_of, none, tail, row};
-ghost use Rattle.datum_reader.specs.Views.{placed, data_of};
+ghost use Rattle.datum_reader.specs.Data.{atom as atom_of, list, vector as vector_of, bytes as bytes_of, none, part, tail, row};
+ghost use Rattle.datum_reader.specs.Seeding.{CanBeSeeded};
+ghost use Rattle.datum_reader.specs.Views.{placed, datum_of, data_of};
 
 use super::*;
 use ls_base::{Mem, Span, Text};
@@ -168,15 +170,17 @@ fn placed_at(shape: Shape, first: u32) -> Datum
     }
 }
 
-/// `'#(1 #u8(7 255))`, from token 12 on.
-fn quoted(alloc: Global) -> Mem<Datum> {
+/// `#(1 #u8(7 255))`, from token 13 on.
+fn numbers(alloc: Global) -> Mem<Datum>
+    ensures { IfOk result (λ d. (one : List ℕ) × ((octets : List (List ℕ)) × (datum_of d ≡ vector_of (placed 13 13 (record { start = 0; end = 0 }))
+        (part (atom_of (placed 14 14 (record { start = 0; end = 0 })) (Atomic (Numeral one))) (part (bytes_of (placed 15 15 (record { start = 0; end = 0 })) octets) none))))) }
+{
     let one = Text::of(alloc, "1")?;
     let seven = Text::of(alloc, "7")?;
     let most = Text::of(alloc, "255")?;
     let octets = vec![in alloc; seven, most]?;
-    let numbers = vec![in alloc; atom(TokenKind::Numeral(one), 14), bytes(octets, 15)]?;
-    let parts = vec![in alloc; atom(TokenKind::Quote, 12), vector(numbers, 13)]?;
-    Ok(proper(parts, 12))
+    let parts = vec![in alloc; atom(TokenKind::Numeral(one), 14), bytes(octets, 15)]?;
+    Ok(vector(parts, 13))
 }
 
 /// `(f '#(1 #u8(7 255)) . "s")`, from token 10 on.
@@ -185,9 +189,11 @@ fn sample(alloc: Global) -> Mem<Datum>
 {
     let name = Text::of(alloc, "f")?;
     let text = Text::of(alloc, "s")?;
-    let inner = quoted(alloc)?;
+    let vector = numbers(alloc)?;
+    let mark = atom(TokenKind::Quote, 12);
+    let quoted = proper(vec![in alloc; mark, vector]?, 12);
     let head = atom(TokenKind::Name { name, bars: false }, 11);
-    let parts = vec![in alloc; head, inner]?;
+    let parts = vec![in alloc; head, quoted]?;
     let end = Box::new(alloc, atom(TokenKind::Quoted(text), 21))?;
     Ok(dotted(parts, end, 10))
 }
