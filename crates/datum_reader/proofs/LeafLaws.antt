@@ -31,7 +31,7 @@ module _ (names : Names) (unit : ℕ) (o : Occ) (kind : TokenKind) (text bytes :
   pub name_of : (bars : Bool) (n : Node) → kind ≡ kinds.Name text bars → bytes ≡ text → IsUtf8 bytes → IsLeafOf names n (name (Written unit bytes) (Some o)) → IsLeafOf names n (atom_tree unit (kind_of kind) o)
   name_of bars n is same utf8 h =
       let meant : IsLeafOf names n (name (Written unit (encode_utf8_all (chars text))) (Some o)) =
-          subst (λ (s : List ℕ). IsLeafOf names n (name (Written unit s) (Some o))) (encoded-same text bytes same utf8) h in
+      subst (λ (s : List ℕ). IsLeafOf names n (name (Written unit s) (Some o))) (encoded-same text bytes same utf8) h in
       subst (λ (x : TokenKind). IsLeafOf names n (atom_tree unit (kind_of x) o)) (sym is) meant
 
   pub numeral_of : (k : ℕ) (n : Node) → kind ≡ kinds.Numeral text → bytes ≡ text → IsUtf8 bytes → slice_get names.symbols k ≡ Some bytes → n ≡ node.Atom (leaf.Numeral k) (Some o) →

@@ -20,7 +20,7 @@ use Rattle.datum_reader.specs.declared.datum.Shape.TheVariants as shape
 use Rattle.datum_reader.specs.declared.datum.Shape.TheOpen.{Shape-F}
 use Rattle.datum_reader.specs.declared.datum.Shape.TheFolds.{fold-roll-Shape}
 use Rattle.datum_reader.specs.Data.{Place, Datum, atom, list, vector, bytes, Data, none, part, tail, row, place_of}
-use Rattle.datum_reader.specs.Right.{is_atom, is_list, IsRight, AreRight, datum_size, data_size, datum_depth, data_depth, CanSeed}
+use Rattle.datum_reader.specs.Right.{is_list, AreRight, datum_size, data_size, datum_depth, data_depth, CanSeed}
 use Rattle.datum_reader.specs.Seeded.{atom_tree, tree_of, parts_of, end_of, seeded}
 use Rattle.datum_reader.specs.Seeding.{trees_from, part_tree, parts_trees, tail_tree, CanBeSeeded, TailCanBeSeeded}
 use Rattle.datum_reader.specs.Views.{shape_step, datum_step, placed, shape_of, datum_of, data_of}
@@ -190,9 +190,9 @@ module _ (unit form first : ℕ) where
       o ≡ place d → CanBeSeeded d → ListParts d o ds end
   list_parts d o xs ds end e same here h =
       let is : datum_of d ≡ list (at d) (row (data_of ds) (end_data end)) =
-          datum-list d xs end e ∙ ap (λ (l : List code.Datum). list (at d) (row (data_of l) (end_data end))) (sym same) in
+      datum-list d xs end e ∙ ap (λ (l : List code.Datum). list (at d) (row (data_of l) (end_data end))) (sym same) in
       let t : part_tree unit form first d ≡ list_of (parts_trees unit form first ds) (tail_tree unit form first end) (Some o) =
-          ap tree_at is ∙ (λ j. list_of (parts-row ds end j) (end-row ds end j) (Some (sym here j))) in
+      ap tree_at is ∙ (λ j. list_of (parts-row ds end j) (end-row ds end j) (Some (sym here j))) in
       let size : tree_size (part_tree unit form first d) ≡ 1 + (trees_size (parts_trees unit form first ds) + tail_size (tail_tree unit form first end)) = ap (λ (x : Tree Identifier). tree_size x) t in
       let whole : CanSeed (list (at d) (row (data_of ds) (end_data end))) = subst CanSeed is h in
       let all : CanSeedAll (row (data_of ds) (end_data end)) = record { right = whole.right; small = omega (arith, whole.small); shallow = omega (arith, whole.shallow) } in
@@ -213,9 +213,9 @@ module _ (unit form first : ℕ) where
       CanBeSeeded d → VectorParts d o ds
   vector_parts d o xs ds e same here h =
       let is : datum_of d ≡ vector (at d) (row (data_of ds) none) =
-          datum-vector d xs e ∙ ap (λ (l : List code.Datum). vector (at d) (row (data_of l) none)) (sym same) in
+      datum-vector d xs e ∙ ap (λ (l : List code.Datum). vector (at d) (row (data_of l) none)) (sym same) in
       let t : part_tree unit form first d ≡ vector_of (parts_trees unit form first ds) (Some o) =
-          ap tree_at is ∙ (λ j. vector_of (parts-row ds None j) (Some (sym here j))) in
+      ap tree_at is ∙ (λ j. vector_of (parts-row ds None j) (Some (sym here j))) in
       let size : tree_size (part_tree unit form first d) ≡ 1 + trees_size (parts_trees unit form first ds) = ap (λ (x : Tree Identifier). tree_size x) t in
       let whole : CanSeed (vector (at d) (row (data_of ds) none)) = subst CanSeed is h in
       record {
@@ -238,11 +238,3 @@ module _ (unit form first : ℕ) where
 
   pub bytes-size : (d : code.Datum) (texts : Vec (List ℕ) Global) → d.shape ≡ shape.Bytes texts → 0 + 1 ≡ tree_size (part_tree unit form first d)
   bytes-size d texts e = let size = ap (λ (x : Datum). tree_size (tree_at x)) (datum-bytes d texts e) in omega (arith, size)
-
--- an atom by itself is one, or a mark
-pub atom_right : (d : code.Datum) (kind : code_kind.TokenKind) → d.shape ≡ shape.Atom kind → CanBeSeeded d → is_atom (kind_of kind) ≡ true
-atom_right d kind e h = let right : IsRight (atom (at d) (kind_of kind)) = subst IsRight (datum-atom d kind e) h.right in right
-
--- a form begins with its datum's first token
-pub seeded_is : (unit form : ℕ) (d : code.Datum) → part_tree unit form d.first d ≡ seeded unit form (datum_of d)
-seeded_is unit form d = ap (λ (p : Place). tree_of unit (placed_in unit form p.first) (datum_of d)) (sym (place-datum d))

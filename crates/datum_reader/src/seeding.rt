@@ -143,6 +143,5 @@ fn seed_tail(
     }
 }
 
-
 #[cfg(test)]
 mod tests;

@@ -21,11 +21,13 @@ use syntax_tree::trees::Leaf;
 fn show_place(alloc: Global, out: &mut String, occ: Option<Occ>) -> Mem<()> {
     match occ {
         None => {}
-        Some(Occ {
-            unit: 3,
-            form: 2,
-            token,
-        }) => out.push_str(format!(in alloc; "@{token}")?.as_str())?,
+        Some(
+            Occ {
+                unit: 3,
+                form: 2,
+                token,
+            },
+        ) => out.push_str(format!(in alloc; "@{token}")?.as_str())?,
         Some(_) => out.push_str("@elsewhere")?,
     }
     Ok(())
@@ -214,6 +216,9 @@ fn list_has_its_parts_and_tail(rt: HostRuntime) -> Result<(), Fail> {
     assert_eq!(rt; work.depth(tree), 4);
     let mut out = String::new(alloc);
     show(alloc, &mut out, &work, tree, 9)?;
-    assert_eq!(rt; out.as_str(), "( f@1 ( quote #( 1@4 {7 255}@5 )@3 )@2 . \"s\"@11 )@0");
+    assert_eq!(rt;
+        out.as_str(),
+        "( f@1 ( quote #( 1@4 {7 255}@5 )@3 )@2 . \"s\"@11 )@0"
+    );
     Ok(())
 }

@@ -1,15 +1,12 @@
-use Rattle.std.proofs.Common.{◌≡◌, ◌+◌, ◌<◌, List, Option, Some, Err, All, length, rules, arith, sym, ap, ◌∙◌, subst}
-use Rattle.scheme_model.specs.Trees.{Tree}
-use Rattle.syntax_tree.specs.Identifiers.{Identifier}
+use Rattle.std.proofs.Common.{◌+◌, ◌<◌, Err, length, rules, arith, sym, ap, subst}
 use Rattle.syntax_tree.specs.Measures.{tree_size, trees_size, tail_size}
 use Rattle.syntax_tree.specs.Works.{with_names}
 use Rattle.syntax_tree.specs.Kept.{numbers}
 use Rattle.syntax_tree.specs.declared.trees.faults.PoolFault.TheVariants as fault
-use Rattle.datum_reader.specs.declared.datum.Datum.{Datum}
 use Rattle.datum_reader.specs.declared.datum.Shape.TheViews.{the_lemmas}
 use Rattle.datum_reader.specs.Seeding.{part_tree, parts_trees, tail_tree, CanBeSeeded}
 use Rattle.datum_reader.proofs.Growing.{grows_itself, grows_on, grows_names, put_last, not_put, part_failed, handed_on, all_handed_on, all_kept, node_of}
-use Rattle.datum_reader.proofs.SeedLaws.{list_parts, vector_parts, atom_whole, atom_part-size, bytes_whole, bytes-size, small_tree, shallow_tree, atom_right}
+use Rattle.datum_reader.proofs.SeedLaws.{list_parts, vector_parts, atom_whole, atom_part-size, bytes_whole, bytes-size, small_tree, shallow_tree}
 use Rattle.datum_reader.proofs.Rows.{parts_more, parts_failed, parts_grown}
 use Rattle.datum_reader.proofs.seeding.+parts.Goals as goal
 

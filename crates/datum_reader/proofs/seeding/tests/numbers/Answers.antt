@@ -13,6 +13,6 @@ returns c =
       (
         map chars c.in_ok-octets.octets.items,
         c.vector.ensures ∙ ap (λ (ds : List code.Datum). vector (here 13) (row (data_of ds) none)) c.in_ok-parts.ensures.items
-        ∙ (λ j. vector (here 13) (part (c.atom.ensures j) (part (c.bytes.ensures j) none))),
+            ∙ (λ j. vector (here 13) (part (c.atom.ensures j) (part (c.bytes.ensures j) none))),
       ),
     )
