@@ -3,7 +3,15 @@ pub mod StackLaws
 pub mod DatumLaws
 pub mod StepLaws
 pub mod Passing
+pub mod Begun
+pub mod Completing
+pub mod Reaching
+pub mod Ending
+pub mod Stops
 pub mod ReadLaws
+pub mod Sizes
+pub mod Depths
+pub mod ReadParts
 pub mod Rights
 pub mod Growing
 pub mod LeafLaws

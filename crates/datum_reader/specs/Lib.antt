@@ -4,5 +4,6 @@ pub mod Open
 pub mod Right
 pub mod Seeded
 pub mod Seeding
+pub mod Stopping
 pub mod Views
 pub mod Written

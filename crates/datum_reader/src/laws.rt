@@ -1,9 +1,40 @@
 //! Laws of reading (R7RS 7.1.2).
-ghost use Rattle.std.specs.Prelude.{◌≡◌, List, ℕ};
+ghost use Rattle.std.specs.Prelude.{◌≡◌, ◌≤◌, List, ℕ, Some, slice_get};
+ghost use Rattle.ls_base.specs.declared.limits.TheConstants.{MAX_TEXT};
+ghost use Rattle.scheme_tokens.specs.Words.{byte_count};
 ghost use Rattle.datum_reader.specs.Data.{Datum};
+ghost use Rattle.datum_reader.specs.Faults.{Stop};
+ghost use Rattle.datum_reader.specs.Right.{IsIn, WasRead, CanSeed};
+ghost use Rattle.datum_reader.specs.Stopping.{StopsAt};
 ghost use Rattle.datum_reader.specs.Written.{IsReading};
 
 /// A text has one list of data at most.
 pub fn one_reading()
     ensures { (text : List ℕ) (ds es : List Datum) → IsReading text ds → IsReading text es → ds ≡ es }
+{}
+
+/// A text stops at one place at most, for one reason.
+pub fn one_stop()
+    ensures { (text : List ℕ) (e f : Stop) → StopsAt text e → StopsAt text f → e ≡ f }
+{}
+
+/// A text that is data stops nowhere.
+pub fn reads_or_stops()
+    ensures { (text : List ℕ) (ds : List Datum) (e : Stop) → IsReading text ds → ¬ StopsAt text e }
+{}
+
+/// The data of a text of at most 1,048,576 bytes were read.
+pub fn data_were_read()
+    ensures { (text : List ℕ) (ds : List Datum) (n : ℕ) (d : Datum) →
+        byte_count text ≤ MAX_TEXT → IsReading text ds → slice_get ds n ≡ Some d → WasRead d }
+{}
+
+/// A part of what was read was read.
+pub fn parts_were_read()
+    ensures { (d e : Datum) → IsIn d e → WasRead e → WasRead d }
+{}
+
+/// A tree can be made of what was read: it has at most 4,194,304 nodes and a depth of at most 1,000.
+pub fn read_data_have_trees()
+    ensures { (d : Datum) → WasRead d → CanSeed d }
 {}

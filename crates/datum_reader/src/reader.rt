@@ -1,11 +1,12 @@
 //! The data of a text (R7RS 7.1.2).
-ghost use Rattle.std.specs.Prelude.{◌≡◌, ◌^◌, ◌<◌, [], length, List, Option, Ok, MatchResult, vec_len};
+ghost use Rattle.std.specs.Prelude.{◌≡◌, ◌⊎◌, ◌^◌, ◌<◌, [], length, List, Option, Ok, IfOk, IfErr, MatchResult, vec_len};
 ghost use Rattle.std.specs.Str.{chars};
 ghost use Rattle.scheme_tokens.specs.Reading as tokens;
 ghost use Rattle.scheme_tokens.specs.Views.{tokens_of};
 ghost use Rattle.datum_reader.specs.Data as spec;
-ghost use Rattle.datum_reader.specs.Faults.{number_from};
+ghost use Rattle.datum_reader.specs.Faults.{number_from, Stop};
 ghost use Rattle.datum_reader.specs.Open as model;
+ghost use Rattle.datum_reader.specs.Stopping.{StopsAt, Explains};
 ghost use Rattle.datum_reader.specs.Written.{IsReading};
 ghost use Rattle.datum_reader.specs.Views.{data_of, spot_of, opener_of, stack_of, state_of, told_of, Gives};
 
@@ -62,7 +63,9 @@ fn finished(state: State) -> Result<Items<Datum>, ReadFault>
 /// The data that a text's tokens form, or the first fault.
 fn read_text(alloc: Global, text: &str) -> Result<Items<Datum>, ReadFault>
     requires { length text.now < 2 ^ 32 }
-    ensures { (ts : List tokens.Token) (end : Option tokens.FaultAt) → tokens.IsRead ts end (chars text.now) → Gives data_of result (model.read ts end) }
+    ensures exact { (ts : List tokens.Token) (end : Option tokens.FaultAt) → tokens.IsRead ts end (chars text.now) → Gives data_of result (model.read ts end) }
+    ensures found { IfOk result (λ items. IsReading (chars text.now) (data_of items)) }
+    ensures fault { IfErr result (λ e. Explains e (chars text.now)) }
 {
     let front = front_tokens(alloc, text)?;
     let state = open_after(alloc, front.tokens.into_vec())?;
@@ -75,15 +78,19 @@ fn read_text(alloc: Global, text: &str) -> Result<Items<Datum>, ReadFault>
 /// The data of a text (R7RS 7.1.2), or the first fault, by its number: 5 the text ends in a list, a vector or a bytevector; 6 a
 /// parenthesis closes nothing; 7 a dot that may not stand there; 8 no numeral of a byte; 11 more than 400 lists, vectors,
 /// abbreviations and `#;` are open; 12 no datum behind an abbreviation or `#;`; and those of tokens. Reading goes token by token: the
-/// fault is at the first token that can't go on, or at the end.
+/// fault is at the first token that can't go on, or at the end. Its place is in bytes of the text.
 pub fn read_all(alloc: Global, text: &str) -> Result<Items<Datum>, ReadFault>
     requires { length text.now < 2 ^ 32 }
 
-    // The data, or the fault, that the text's tokens give.
-    ensures exact { (ts : List tokens.Token) (end : Option tokens.FaultAt) → tokens.IsRead ts end (chars text.now) → Gives data_of result (model.read ts end) }
+    // What is read is what the text means, which is data as they are written with at most 400 open.
+    ensures found { IfOk result (λ items. IsReading (chars text.now) (data_of items)) }
 
-    // Where the text is data as they are written, what they mean is read.
+    // Where the text is such data, what they mean is read.
     ensures only { (ds : List spec.Datum) → IsReading (chars text.now) ds → MatchResult result (λ items. data_of items ≡ ds) (λ e. e ≡ ReadFault.Memory) }
+
+    // A fault is answered where the text stops, and only there: at the first token with which no data go on, or at the end.
+    ensures fault { IfErr result (λ e. Explains e (chars text.now)) }
+    ensures stops { (f : Stop) → StopsAt (chars text.now) f → MatchResult result (λ _. ⊥) (λ e. (e ≡ ReadFault.Memory) ⊎ (e ≡ told_of f)) }
 {
     let data = read_text(alloc, text)?;
     Ok(data)

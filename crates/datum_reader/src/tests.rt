@@ -171,7 +171,7 @@ fn faults_of_lists_and_dots(rt: HostRuntime) -> Result<(), Fail> {
 }
 
 #[test]
-fn faults_of_bytes_marks_and_tokens(rt: HostRuntime) -> Result<(), Fail> {
+fn faults_of_bytes_and_marks(rt: HostRuntime) -> Result<(), Fail> {
     for (text, want) in [
         ("#u8(256)", "8 4-7"),
         ("#u8(0300)", "8 4-8"),
@@ -186,11 +186,33 @@ fn faults_of_bytes_marks_and_tokens(rt: HostRuntime) -> Result<(), Fail> {
         ("#;(a", "5 2-3"),
         ("(a . ')", "12 5-6"),
         ("#u8(1 #;)", "12 6-8"),
-        ("#|a #|b|# c", "4 0-2"),
-        ("(a #!x", "10 3-6"),
+    ] {
+        assert_eq!(rt; read(rt.alloc(), text)?.as_str(), want, "{text}");
+    }
+    Ok(())
+}
+
+#[test]
+fn faults_of_tokens(rt: HostRuntime) -> Result<(), Fail> {
+    for (text, want) in [
+        ("(a #z)", "1 3-5"),
+        ("[a]", "1 0-3"),
+        ("(\"a\\qb\" c)", "1 1-6"),
+        ("\"a", "2 0-1"),
         ("(a \"b", "2 3-4"),
-        ("(#0=a)", "9 1-5"),
+        ("'\"a\\", "2 1-2"),
+        ("|a", "3 0-1"),
         ("(a |b", "3 3-4"),
+        ("'|a\\x4", "3 1-2"),
+        ("#|a", "4 0-2"),
+        ("#|a #|b|# c", "4 0-2"),
+        ("(a #| #|b|#", "4 3-5"),
+        ("#0=a", "9 0-4"),
+        ("(#0=a)", "9 1-5"),
+        ("'#1# b", "9 1-4"),
+        ("#!fold-case", "10 0-11"),
+        ("(a #!x", "10 3-6"),
+        ("#;#!(", "10 2-4"),
     ] {
         assert_eq!(rt; read(rt.alloc(), text)?.as_str(), want, "{text}");
     }
@@ -254,5 +276,34 @@ fn long_lists(rt: HostRuntime) -> Result<(), Fail> {
     text.push_str(times(alloc, 100_000, "a ")?.as_str())?;
     text.push_str(")")?;
     assert_eq!(rt; part_count(alloc, text.as_str()), 100_000);
+    Ok(())
+}
+
+/// How many bytes the first datum has, where it is a string.
+fn string_bytes(alloc: Global, text: &str) -> usize {
+    if text.len() >= 1_000_000 {
+        return 0;
+    }
+    let Ok(data) = read_all(alloc, text) else {
+        return 0;
+    };
+    match data.as_slice().first() {
+        Some(
+            Datum {
+                shape: Shape::Atom(TokenKind::Quoted(told)),
+                ..
+            },
+        ) => told.as_str().len(),
+        _ => 0,
+    }
+}
+
+#[test]
+fn long_strings(rt: HostRuntime) -> Result<(), Fail> {
+    let alloc = rt.alloc();
+    let mut text = String::from_str(alloc, "\"")?;
+    text.push_str(times(alloc, 100_000, "a\\n")?.as_str())?;
+    text.push_str("\"")?;
+    assert_eq!(rt; string_bytes(alloc, text.as_str()), 200_000);
     Ok(())
 }

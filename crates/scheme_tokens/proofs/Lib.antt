@@ -7,3 +7,7 @@ pub mod TokenLaws
 pub mod Readings
 pub mod NameLaws
 pub mod SpellLaws
+pub mod GapLengths
+pub mod QuotedLengths
+pub mod TokenLengths
+pub mod TokenCounts
