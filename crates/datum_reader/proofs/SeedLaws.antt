@@ -1,11 +1,13 @@
 -- The tree of a datum of the code by its shape, and what its parts are.
-use Rattle.std.proofs.Common.{◌≡◌, ℕ, zero, suc, ◌+◌, ◌<◌, ◌≤◌, Bool, true, false, List, [], ◌∷◌, map, length, Option, Some, None, All, refl, sym, ap, ◌∙◌, subst, arith}
+use Rattle.std.proofs.Common.{◌≡◌, ℕ, zero, suc, ◌+◌, ◌<◌, ◌≤◌, Bool, true, false, List, [], ◌∷◌, map, length, slice_get, Option, Some, None, All, refl, sym, ap, ◌∙◌, subst, arith}
 use Rattle.std.specs.Prelude.{Vec, max}
 use Rattle.std.specs.Global.{Box}
 use Rattle.std.specs.List.{join_with_byte}
-use Rattle.std.specs.Str.{chars, encode_utf8_all}
+use Rattle.std.specs.Option.{option_map}
+use Rattle.std.specs.Str.{chars, IsUtf8, encode_utf8_all}
 use Rattle.std.specs.declared.alloc.Global.{Global}
-use Rattle.ls_base.specs.declared.limits.TheConstants.{MAX_TREE_NODES, MAX_TREE_DEPTH}
+use Rattle.ls_base.specs.declared.limits.TheConstants.{MAX_TEXT, MAX_TREE_NODES, MAX_TREE_DEPTH}
+use Rattle.std.proofs.lemmas.Option.{slice_get-map}
 use Rattle.scheme_model.specs.declared.Occ.{Occ}
 use Rattle.scheme_model.specs.Trees.{Bytes, Tree, name, atom as atom_of, list as list_of, vector as vector_of, Trees, no_trees, tree, Tail, proper, dotted, placed_in}
 use Rattle.scheme_tokens.specs.declared.token.TokenKind as code_kind
@@ -20,10 +22,13 @@ use Rattle.datum_reader.specs.declared.datum.Shape.TheVariants as shape
 use Rattle.datum_reader.specs.declared.datum.Shape.TheOpen.{Shape-F}
 use Rattle.datum_reader.specs.declared.datum.Shape.TheFolds.{fold-roll-Shape}
 use Rattle.datum_reader.specs.Data.{Place, Datum, atom, list, vector, bytes, Data, none, part, tail, row, place_of}
-use Rattle.datum_reader.specs.Right.{is_list, AreRight, datum_size, data_size, datum_depth, data_depth, CanSeed}
+use Rattle.datum_reader.specs.Right.{is_list, AreRight, datum_size, data_size, datum_depth, data_depth, WasRead, CanSeed}
 use Rattle.datum_reader.specs.Seeded.{atom_tree, tree_of, parts_of, end_of, seeded}
 use Rattle.datum_reader.specs.Seeding.{trees_from, part_tree, parts_trees, tail_tree, CanBeSeeded, TailCanBeSeeded}
+use Rattle.datum_reader.specs.Written.{IsReading}
 use Rattle.datum_reader.specs.Views.{shape_step, datum_step, placed, shape_of, datum_of, data_of}
+use Rattle.scheme_tokens.proofs.Fronts.{byte_count-chars}
+use Rattle.datum_reader.proofs.ReadParts.{datum_was_read}
 use Rattle.datum_reader.proofs.DatumLaws.{datum_is, place-datum, end_data, list-shape}
 
 -- ---- what data are, by their shapes
@@ -238,3 +243,11 @@ module _ (unit form first : ℕ) where
 
   pub bytes-size : (d : code.Datum) (texts : Vec (List ℕ) Global) → d.shape ≡ shape.Bytes texts → 0 + 1 ≡ tree_size (part_tree unit form first d)
   bytes-size d texts e = let size = ap (λ (x : Datum). tree_size (tree_at x)) (datum-bytes d texts e) in omega (arith, size)
+
+-- ---- what may be seeded
+
+-- the data that are read from a text of at most 1,048,576 bytes
+pub item_was_read : (text : List ℕ) (items : List code.Datum) (n : ℕ) (d : code.Datum) → IsUtf8 text → length text ≤ MAX_TEXT → IsReading (chars text) (data_of items) → slice_get items n ≡ Some d →
+    WasRead (datum_of d)
+item_was_read text items n d utf8 fits reading at =
+    datum_was_read (chars text) (data_of items) n (datum_of d) (omega (arith, byte_count-chars text utf8, fits)) reading (slice_get-map datum_of items n ∙ ap (option_map datum_of) at)

@@ -1,19 +1,14 @@
 //! Trees of data, worked out by hand from R7RS 7.1.2: behind `@` stands the number of a token in form 2 of unit 3.
-ghost use Rattle.std.specs.Prelude.{◌≡◌, ℕ, List, All, IfOk, IfSome, Option, Some, map, chars};
+ghost use Rattle.std.specs.Prelude.{◌≡◌, ◌<◌, All, IfOk, IfSome, Option, Some, length};
 ghost use Rattle.scheme_model.specs.Trees.{Tree as ModelTree};
-ghost use Rattle.scheme_tokens.specs.Tokens.{Atomic, Numeral};
-ghost use Rattle.scheme_tokens.specs.Views.{kind_of};
 ghost use Rattle.syntax_tree.specs.Identifiers.{Identifier};
 ghost use Rattle.syntax_tree.specs.Numbered.{IsPlaced};
 ghost use Rattle.syntax_tree.specs.Standing.{leaf_tree};
 ghost use Rattle.syntax_tree.specs.Works.{IsStanding};
-ghost use Rattle.datum_reader.specs.Data.{atom as atom_of, list, vector as vector_of, bytes as bytes_of, none, part, tail, row};
-ghost use Rattle.datum_reader.specs.Seeding.{CanBeSeeded};
-ghost use Rattle.datum_reader.specs.Views.{placed, datum_of, data_of};
 
 use super::*;
-use ls_base::{Mem, Span, Text};
-use scheme_tokens::TokenKind;
+use crate::read_all;
+use ls_base::Mem;
 use std::test::Fail;
 use syntax_tree::symbols::{Ident, Symbols};
 use syntax_tree::trees::Leaf;
@@ -127,98 +122,99 @@ fn show(alloc: Global, out: &mut String, work: &Work, tree: Tree, depth: u32) ->
     show_foot(alloc, out, work, tree)
 }
 
-/// An atom, a bytevector, a vector and lists by the number of their first token.
-fn atom(kind: TokenKind, token: u32) -> Datum
-    ensures { datum_of result ≡ atom_of (placed token token (record { start = 0; end = 0 })) (kind_of kind) }
+/// The tree of the last datum of a text, as form 2 of unit 3.
+fn plant(alloc: Global, work: &mut Work, text: &str) -> Result<Option<Tree>, Fail>
+    requires { length text.now < 65_536 }
+    ensures { IfOk result (λ tree. IfSome tree (IsStanding work.new)) }
 {
-    placed_at(Shape::Atom(kind), token)
-}
-
-fn bytes(numerals: Vec<Text>, token: u32) -> Datum
-    ensures { datum_of result ≡ bytes_of (placed token token (record { start = 0; end = 0 })) (map chars numerals.items) }
-{
-    placed_at(Shape::Bytes(numerals), token)
-}
-
-fn vector(parts: Vec<Datum>, token: u32) -> Datum
-    ensures { datum_of result
-        ≡ vector_of (placed token token (record { start = 0; end = 0 })) (row (data_of parts.items) none) }
-{
-    placed_at(Shape::Vector(parts), token)
-}
-
-fn proper(parts: Vec<Datum>, token: u32) -> Datum
-    ensures { datum_of result
-        ≡ list (placed token token (record { start = 0; end = 0 })) (row (data_of parts.items) none) }
-{
-    placed_at(Shape::List(parts, None), token)
-}
-
-fn dotted(parts: Vec<Datum>, end: Box<Datum>, token: u32) -> Datum
-    ensures { datum_of result ≡ list (placed token token (record { start = 0; end = 0 }))
-        (row (data_of parts.items) (tail (datum_of end.value))) }
-{
-    placed_at(Shape::List(parts, Some(end)), token)
-}
-
-fn placed_at(shape: Shape, first: u32) -> Datum
-    ensures { result ≡ record { shape = shape; first = first; last = first; span = record { start = 0; end = 0 } } }
-{
-    Datum {
-        shape,
-        first,
-        last: first,
-        span: Span { start: 0, end: 0 },
+    let region = work.open_region()?;
+    let data = read_all(alloc, text)?;
+    match data.as_slice().last() {
+        Some(datum) => Ok(Some(seed(alloc, work, &region, datum, 3, 2)?)),
+        None => Ok(None),
     }
 }
 
-/// `#(1 #u8(7 255))`, from token 13 on.
-fn numbers(alloc: Global) -> Mem<Datum>
-    ensures { IfOk result (λ d. (one : List ℕ) × ((octets : List (List ℕ)) × (datum_of d ≡ vector_of (placed 13 13 (record { start = 0; end = 0 }))
-        (part (atom_of (placed 14 14 (record { start = 0; end = 0 })) (Atomic (Numeral one))) (part (bytes_of (placed 15 15 (record { start = 0; end = 0 })) octets) none))))) }
-{
-    let one = Text::of(alloc, "1")?;
-    let seven = Text::of(alloc, "7")?;
-    let most = Text::of(alloc, "255")?;
-    let octets = vec![in alloc; seven, most]?;
-    let parts = vec![in alloc; atom(TokenKind::Numeral(one), 14), bytes(octets, 15)]?;
-    Ok(vector(parts, 13))
-}
-
-/// `(f '#(1 #u8(7 255)) . "s")`, from token 10 on.
-fn sample(alloc: Global) -> Mem<Datum>
-    ensures { IfOk result CanBeSeeded }
-{
-    let name = Text::of(alloc, "f")?;
-    let text = Text::of(alloc, "s")?;
-    let vector = numbers(alloc)?;
-    let mark = atom(TokenKind::Quote, 12);
-    let quoted = proper(vec![in alloc; mark, vector]?, 12);
-    let head = atom(TokenKind::Name { name, bars: false }, 11);
-    let parts = vec![in alloc; head, quoted]?;
-    let end = Box::new(alloc, atom(TokenKind::Quoted(text), 21))?;
-    Ok(dotted(parts, end, 10))
+/// The size and the depth of the tree of the last datum of a text, and the tree.
+fn planted(alloc: Global, text: &str) -> Result<String, Fail> {
+    let mut out = String::new(alloc);
+    if text.len() >= 65_536 {
+        return Ok(out);
+    }
+    let mut work = Work::new(alloc);
+    if let Some(tree) = plant(alloc, &mut work, text)? {
+        let size = work.size(tree);
+        let depth = work.depth(tree);
+        out.push_str(format!(in alloc; "{size} {depth} ")?.as_str())?;
+        show(alloc, &mut out, &work, tree, 9)?;
+    }
+    Ok(out)
 }
 
 #[test]
-fn list_has_its_parts_and_tail(rt: HostRuntime) -> Result<(), Fail> {
-    let alloc = rt.alloc();
-    let mut work = Work::new(alloc);
-    let region = work.open_region()?;
-    let datum = sample(alloc)?;
-    let start = Start {
-        unit: 3,
-        form: 2,
-        first: datum.first,
-    };
-    let tree = seed_datum(alloc, &mut work, &region, &datum, start)?;
-    assert_eq!(rt; work.size(tree), 8);
-    assert_eq!(rt; work.depth(tree), 4);
-    let mut out = String::new(alloc);
-    show(alloc, &mut out, &work, tree, 9)?;
-    assert_eq!(rt;
-        out.as_str(),
-        "( f@1 ( quote #( 1@4 {7 255}@5 )@3 )@2 . \"s\"@11 )@0"
-    );
+fn atoms(rt: HostRuntime) -> Result<(), Fail> {
+    for (text, want) in [
+        ("x", "1 1 x@0"),
+        ("|a b|", "1 1 a b@0"),
+        ("λé", "1 1 λé@0"),
+        ("#xFF", "1 1 #xFF@0"),
+        ("\"a\\\"b\"", "1 1 \"a\"b\"@0"),
+        ("#\\x", "1 1 #\\x@0"),
+        ("#\\space", "1 1 #\\ @0"),
+        ("#true", "1 1 #t@0"),
+        ("#f", "1 1 #f@0"),
+        ("#u8(7 255 #x10)", "1 1 {7 255 #x10}@0"),
+        ("#u8()", "1 1 {}@0"),
+    ] {
+        assert_eq!(rt; planted(rt.alloc(), text)?.as_str(), want, "{text}");
+    }
+    Ok(())
+}
+
+#[test]
+fn lists_and_vectors(rt: HostRuntime) -> Result<(), Fail> {
+    for (text, want) in [
+        ("()", "1 1 ( )@0"),
+        ("(f x)", "3 2 ( f@1 x@2 )@0"),
+        ("(a . b)", "3 2 ( a@1 . b@3 )@0"),
+        ("(a . (b . c))", "4 2 ( a@1 b@4 . c@6 )@0"),
+        ("(a . ())", "2 2 ( a@1 )@0"),
+        ("(a . #(b))", "4 3 ( a@1 . #( b@4 )@3 )@0"),
+        ("#()", "1 1 #( )@0"),
+        ("#(1 (a))", "4 3 #( 1@1 ( a@3 )@2 )@0"),
+    ] {
+        assert_eq!(rt; planted(rt.alloc(), text)?.as_str(), want, "{text}");
+    }
+    Ok(())
+}
+
+#[test]
+fn identifiers_of_marks_have_no_place(rt: HostRuntime) -> Result<(), Fail> {
+    for (text, want) in [
+        ("'a", "3 2 ( quote a@1 )@0"),
+        ("`a", "3 2 ( quasiquote a@1 )@0"),
+        (",a", "3 2 ( unquote a@1 )@0"),
+        (",@a", "3 2 ( unquote-splicing a@1 )@0"),
+        ("(quote a)", "3 2 ( quote@1 a@2 )@0"),
+        ("''a", "5 3 ( quote ( quote a@2 )@1 )@0"),
+    ] {
+        assert_eq!(rt; planted(rt.alloc(), text)?.as_str(), want, "{text}");
+    }
+    Ok(())
+}
+
+#[test]
+fn tokens_count_from_the_forms_first(rt: HostRuntime) -> Result<(), Fail> {
+    for (text, want) in [
+        ("x (a b)", "3 2 ( a@1 b@2 )@0"),
+        ("(a) #;b 'c", "3 2 ( quote c@1 )@0"),
+        ("x (a #;b c)", "3 2 ( a@1 c@4 )@0"),
+        (
+            "x (f '#(1 #u8(7 255)) . \"s\")",
+            "8 4 ( f@1 ( quote #( 1@4 {7 255}@5 )@3 )@2 . \"s\"@11 )@0",
+        ),
+    ] {
+        assert_eq!(rt; planted(rt.alloc(), text)?.as_str(), want, "{text}");
+    }
     Ok(())
 }
