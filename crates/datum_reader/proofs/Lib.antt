@@ -13,3 +13,8 @@ pub mod Sizes
 pub mod Depths
 pub mod ReadParts
 pub mod Rights
+pub mod Growing
+pub mod LeafLaws
+pub mod Joining
+pub mod Rows
+pub mod SeedLaws

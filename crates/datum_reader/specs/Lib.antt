@@ -3,6 +3,7 @@ pub mod Faults
 pub mod Open
 pub mod Right
 pub mod Seeded
+pub mod Seeding
 pub mod Stopping
 pub mod Views
 pub mod Written

@@ -1,4 +1,4 @@
-//! The data of Scheme texts (R7RS 7.1.2), read from their tokens.
+//! The data of Scheme texts (R7RS 7.1.2), read from their tokens, and their trees.
 #![tactic(auto)]
 
 mod bytes;
@@ -7,10 +7,12 @@ pub mod datum;
 pub mod laws;
 mod open;
 mod reader;
+mod seeding;
 mod step;
 
 pub use datum::{Datum, Shape};
 pub use reader::read_all;
+pub use seeding::seed;
 
 #[cfg(test)]
 mod tests;

@@ -1,0 +1,253 @@
+-- The tree of a datum of the code by its shape, and what its parts are.
+use Rattle.std.proofs.Common.{◌≡◌, ℕ, zero, suc, ◌+◌, ◌<◌, ◌≤◌, Bool, true, false, List, [], ◌∷◌, map, length, slice_get, Option, Some, None, All, refl, sym, ap, ◌∙◌, subst, arith}
+use Rattle.std.specs.Prelude.{Vec, max}
+use Rattle.std.specs.Global.{Box}
+use Rattle.std.specs.List.{join_with_byte}
+use Rattle.std.specs.Option.{option_map}
+use Rattle.std.specs.Str.{chars, IsUtf8, encode_utf8_all}
+use Rattle.std.specs.declared.alloc.Global.{Global}
+use Rattle.ls_base.specs.declared.limits.TheConstants.{MAX_TEXT, MAX_TREE_NODES, MAX_TREE_DEPTH}
+use Rattle.std.proofs.lemmas.Option.{slice_get-map}
+use Rattle.scheme_model.specs.declared.Occ.{Occ}
+use Rattle.scheme_model.specs.Trees.{Bytes, Tree, name, atom as atom_of, list as list_of, vector as vector_of, Trees, no_trees, tree, Tail, proper, dotted, placed_in}
+use Rattle.scheme_tokens.specs.declared.token.TokenKind as code_kind
+use Rattle.scheme_tokens.specs.Views.{kind_of}
+use Rattle.scheme_tokens.specs.Tokens.{TokenKind, Paren, VectorParen, BytesParen, Close, Dot, Skip, Marked, Atomic, Name, Numeral, Quoted, Character, Truth}
+use Rattle.syntax_tree.specs.Identifiers.{Identifier}
+use Rattle.syntax_tree.specs.Measures.{tree_size, trees_size, tail_size, tree_depth, trees_depth, tail_depth}
+use Rattle.syntax_tree.specs.Standing as standing
+use Rattle.datum_reader.specs.declared.datum.Datum as code
+use Rattle.datum_reader.specs.declared.datum.Shape.{Shape}
+use Rattle.datum_reader.specs.declared.datum.Shape.TheVariants as shape
+use Rattle.datum_reader.specs.declared.datum.Shape.TheOpen.{Shape-F}
+use Rattle.datum_reader.specs.declared.datum.Shape.TheFolds.{fold-roll-Shape}
+use Rattle.datum_reader.specs.Data.{Place, Datum, atom, list, vector, bytes, Data, none, part, tail, row, place_of}
+use Rattle.datum_reader.specs.Right.{is_list, AreRight, datum_size, data_size, datum_depth, data_depth, WasRead, CanSeed}
+use Rattle.datum_reader.specs.Seeded.{atom_tree, tree_of, parts_of, end_of, seeded}
+use Rattle.datum_reader.specs.Seeding.{trees_from, part_tree, parts_trees, tail_tree, CanBeSeeded, TailCanBeSeeded}
+use Rattle.datum_reader.specs.Written.{IsReading}
+use Rattle.datum_reader.specs.Views.{shape_step, datum_step, placed, shape_of, datum_of, data_of}
+use Rattle.scheme_tokens.proofs.Fronts.{byte_count-chars}
+use Rattle.datum_reader.proofs.ReadParts.{datum_was_read}
+use Rattle.datum_reader.proofs.DatumLaws.{datum_is, place-datum, end_data, list-shape}
+
+-- ---- what data are, by their shapes
+
+abbrev at : code.Datum → Place
+at d = placed d.first d.last d.span
+
+datum-at : (d : code.Datum) (s : Shape) → d.shape ≡ s → datum_of d ≡ shape_of s (at d)
+datum-at d s e = datum_is d ∙ ap (λ (x : Shape). shape_of x (at d)) e
+
+pub datum-atom : (d : code.Datum) (kind : code_kind.TokenKind) → d.shape ≡ shape.Atom kind → datum_of d ≡ atom (at d) (kind_of kind)
+datum-atom d kind e =
+    datum-at d (shape.Atom kind) e ∙ ap (λ (s : Shape). shape_of s (at d)) (sym (shape.rolls-Atom kind))
+    ∙ ap (λ (g : Place → Datum). g (at d)) (fold-roll-Shape (Place → Datum) Datum shape_step datum_step (Shape-F.Atom kind))
+
+pub datum-bytes : (d : code.Datum) (texts : Vec (List ℕ) Global) → d.shape ≡ shape.Bytes texts → datum_of d ≡ bytes (at d) (map chars texts.items)
+datum-bytes d texts e =
+    datum-at d (shape.Bytes texts) e ∙ ap (λ (s : Shape). shape_of s (at d)) (sym (shape.rolls-Bytes texts))
+    ∙ ap (λ (g : Place → Datum). g (at d)) (fold-roll-Shape (Place → Datum) Datum shape_step datum_step (Shape-F.Bytes texts))
+
+pub datum-vector : (d : code.Datum) (xs : Vec code.Datum Global) → d.shape ≡ shape.Vector xs → datum_of d ≡ vector (at d) (row (data_of xs.items) none)
+datum-vector d xs e =
+    datum-at d (shape.Vector xs) e ∙ ap (λ (s : Shape). shape_of s (at d)) (sym (shape.rolls-Vector xs))
+    ∙ ap (λ (g : Place → Datum). g (at d)) (fold-roll-Shape (Place → Datum) Datum shape_step datum_step (Shape-F.Vector xs))
+
+pub datum-list : (d : code.Datum) (xs : Vec code.Datum Global) (end : Option (Box code.Datum)) → d.shape ≡ shape.List xs end → datum_of d ≡ list (at d) (row (data_of xs.items) (end_data end))
+datum-list d xs end e = datum-at d (shape.List xs end) e ∙ list-shape xs end (at d)
+
+-- ---- how many nodes, how deep, and what is a list
+
+atom-size : (unit : ℕ) (kind : TokenKind) (o : Occ) → tree_size (atom_tree unit kind o) ≡ 1
+atom-size unit (Atomic (Name s bars)) o = refl
+atom-size unit (Atomic (Numeral text)) o = refl
+atom-size unit (Atomic (Quoted text)) o = refl
+atom-size unit (Atomic (Character c)) o = refl
+atom-size unit (Atomic (Truth b)) o = refl
+atom-size unit (Marked mark) o = refl
+atom-size unit Paren o = refl
+atom-size unit VectorParen o = refl
+atom-size unit BytesParen o = refl
+atom-size unit Close o = refl
+atom-size unit Dot o = refl
+atom-size unit Skip o = refl
+
+atom-depth : (unit : ℕ) (kind : TokenKind) (o : Occ) → tree_depth (atom_tree unit kind o) ≡ 1
+atom-depth unit (Atomic (Name s bars)) o = refl
+atom-depth unit (Atomic (Numeral text)) o = refl
+atom-depth unit (Atomic (Quoted text)) o = refl
+atom-depth unit (Atomic (Character c)) o = refl
+atom-depth unit (Atomic (Truth b)) o = refl
+atom-depth unit (Marked mark) o = refl
+atom-depth unit Paren o = refl
+atom-depth unit VectorParen o = refl
+atom-depth unit BytesParen o = refl
+atom-depth unit Close o = refl
+atom-depth unit Dot o = refl
+atom-depth unit Skip o = refl
+
+atom-is_list : (unit : ℕ) (kind : TokenKind) (o : Occ) → standing.is_list (atom_tree unit kind o) ≡ false
+atom-is_list unit (Atomic (Name s bars)) o = refl
+atom-is_list unit (Atomic (Numeral text)) o = refl
+atom-is_list unit (Atomic (Quoted text)) o = refl
+atom-is_list unit (Atomic (Character c)) o = refl
+atom-is_list unit (Atomic (Truth b)) o = refl
+atom-is_list unit (Marked mark) o = refl
+atom-is_list unit Paren o = refl
+atom-is_list unit VectorParen o = refl
+atom-is_list unit BytesParen o = refl
+atom-is_list unit Close o = refl
+atom-is_list unit Dot o = refl
+atom-is_list unit Skip o = refl
+
+module _ (unit : ℕ) (place : ℕ → Occ) where
+  mutual
+    pub size_fits : (d : Datum) → tree_size (tree_of unit place d) ≤ datum_size d
+    size_fits (atom p kind) = omega (arith, atom-size unit kind (place p.first))
+    size_fits (list p ds) = omega (arith, sizes_fit ds)
+    size_fits (vector p ds) = omega (arith, sizes_fit ds)
+    size_fits (bytes p texts) = omega arith
+
+    sizes_fit : (ds : Data) → trees_size (parts_of unit place ds) + tail_size (end_of unit place ds) ≤ data_size ds
+    sizes_fit none = omega arith
+    sizes_fit (part d ds) = omega (arith, size_fits d, sizes_fit ds)
+    sizes_fit (tail d) = omega (arith, size_fits d)
+
+  mutual
+    pub depth_fits : (d : Datum) → tree_depth (tree_of unit place d) ≤ datum_depth d
+    depth_fits (atom p kind) = omega (arith, atom-depth unit kind (place p.first))
+    depth_fits (list p ds) = omega (arith, depths_fit ds)
+    depth_fits (vector p ds) = omega (arith, depths_fit ds)
+    depth_fits (bytes p texts) = omega arith
+
+    depths_fit : (ds : Data) → max (trees_depth (parts_of unit place ds)) (tail_depth (end_of unit place ds)) ≤ data_depth ds
+    depths_fit none = omega arith
+    depths_fit (part d ds) = omega (arith, depth_fits d, depths_fit ds)
+    depths_fit (tail d) = omega (arith, depth_fits d)
+
+  pub tree-is_list : (d : Datum) → standing.is_list (tree_of unit place d) ≡ is_list d
+  tree-is_list (atom p kind) = atom-is_list unit kind (place p.first)
+  tree-is_list (list p ds) = refl
+  tree-is_list (vector p ds) = refl
+  tree-is_list (bytes p texts) = refl
+
+-- ---- parts of what trees can be made of
+
+all_cons : {X : Type 0} (P : X → Type 0) (x : X) (xs : List X) → P x → All P xs → All P (x ∷ xs)
+all_cons P x xs p q zero d lt = p
+all_cons P x xs p q (suc k) d lt = q k d (omega arith)
+
+-- trees can be made of these data
+record CanSeedAll (ds : Data) : Type 0 where
+  right : AreRight ds
+  small : data_size ds ≤ MAX_TREE_NODES
+  shallow : data_depth ds ≤ MAX_TREE_DEPTH
+
+parts_can : (ds : List code.Datum) (end : Data) → CanSeedAll (row (data_of ds) end) → All CanBeSeeded ds
+parts_can [] end h = λ k d lt. absurd (omega arith)
+parts_can (d ∷ ds) end h =
+    all_cons CanBeSeeded d ds
+    (record { right = h.right.0; small = omega (arith, h.small); shallow = omega (arith, h.shallow) })
+    (parts_can ds end (record { right = h.right.1; small = omega (arith, h.small); shallow = omega (arith, h.shallow) }))
+
+end_can : (ds : List code.Datum) (end : Data) → CanSeedAll (row (data_of ds) end) → CanSeedAll end
+end_can [] end h = h
+end_can (d ∷ ds) end h = end_can ds end (record { right = h.right.1; small = omega (arith, h.small); shallow = omega (arith, h.shallow) })
+
+tail_can : (end : Option (Box code.Datum)) → CanSeedAll (end_data end) → TailCanBeSeeded end
+tail_can None h = tt
+tail_can (Some d) h = (h.right.0, record { right = h.right.1; small = h.small; shallow = h.shallow })
+
+-- ---- the tree
+
+module _ (unit form first : ℕ) where
+  abbrev tree_at : Datum → Tree Identifier
+  tree_at = tree_of unit (placed_in unit form first)
+
+  abbrev place : code.Datum → Occ
+  place d = placed_in unit form first d.first
+
+  parts-row : (ds : List code.Datum) (end : Option (Box code.Datum)) → parts_of unit (placed_in unit form first) (row (data_of ds) (end_data end)) ≡ parts_trees unit form first ds
+  parts-row [] None = refl
+  parts-row [] (Some d) = refl
+  parts-row (d ∷ ds) end = ap (tree (part_tree unit form first d)) (parts-row ds end)
+
+  end-row : (ds : List code.Datum) (end : Option (Box code.Datum)) → end_of unit (placed_in unit form first) (row (data_of ds) (end_data end)) ≡ tail_tree unit form first end
+  end-row [] None = refl
+  end-row [] (Some d) = refl
+  end-row (d ∷ ds) end = end-row ds end
+
+  pub small_tree : (d : code.Datum) → CanBeSeeded d → tree_size (part_tree unit form first d) ≤ MAX_TREE_NODES
+  small_tree d h = omega (arith, size_fits unit (placed_in unit form first) (datum_of d), h.small)
+
+  pub shallow_tree : (d : code.Datum) → CanBeSeeded d → tree_depth (part_tree unit form first d) ≤ MAX_TREE_DEPTH
+  shallow_tree d h = omega (arith, depth_fits unit (placed_in unit form first) (datum_of d), h.shallow)
+
+  -- what the parts of a list are, and its tree
+  pub record ListParts (d : code.Datum) (o : Occ) (ds : List code.Datum) (end : Option (Box code.Datum)) : Type 0 where
+    pub parts : All CanBeSeeded ds
+    pub tail : TailCanBeSeeded end
+    pub whole : part_tree unit form first d ≡ list_of (parts_trees unit form first ds) (tail_tree unit form first end) (Some o)
+    pub size : (trees_size (parts_trees unit form first ds) + tail_size (tail_tree unit form first end)) + 1 ≡ tree_size (part_tree unit form first d)
+
+  pub list_parts : (d : code.Datum) (o : Occ) (xs : Vec code.Datum Global) (ds : List code.Datum) (end : Option (Box code.Datum)) → d.shape ≡ shape.List xs end → ds ≡ xs.items →
+      o ≡ place d → CanBeSeeded d → ListParts d o ds end
+  list_parts d o xs ds end e same here h =
+      let is : datum_of d ≡ list (at d) (row (data_of ds) (end_data end)) =
+      datum-list d xs end e ∙ ap (λ (l : List code.Datum). list (at d) (row (data_of l) (end_data end))) (sym same) in
+      let t : part_tree unit form first d ≡ list_of (parts_trees unit form first ds) (tail_tree unit form first end) (Some o) =
+      ap tree_at is ∙ (λ j. list_of (parts-row ds end j) (end-row ds end j) (Some (sym here j))) in
+      let size : tree_size (part_tree unit form first d) ≡ 1 + (trees_size (parts_trees unit form first ds) + tail_size (tail_tree unit form first end)) = ap (λ (x : Tree Identifier). tree_size x) t in
+      let whole : CanSeed (list (at d) (row (data_of ds) (end_data end))) = subst CanSeed is h in
+      let all : CanSeedAll (row (data_of ds) (end_data end)) = record { right = whole.right; small = omega (arith, whole.small); shallow = omega (arith, whole.shallow) } in
+      record {
+        parts = parts_can ds (end_data end) all;
+        tail = tail_can end (end_can ds (end_data end) all);
+        whole = t;
+        size = omega (arith, size);
+      }
+
+  -- the same of a vector
+  pub record VectorParts (d : code.Datum) (o : Occ) (ds : List code.Datum) : Type 0 where
+    pub parts : All CanBeSeeded ds
+    pub whole : part_tree unit form first d ≡ vector_of (parts_trees unit form first ds) (Some o)
+    pub size : trees_size (parts_trees unit form first ds) + 1 ≡ tree_size (part_tree unit form first d)
+
+  pub vector_parts : (d : code.Datum) (o : Occ) (xs : Vec code.Datum Global) (ds : List code.Datum) → d.shape ≡ shape.Vector xs → ds ≡ xs.items → o ≡ place d →
+      CanBeSeeded d → VectorParts d o ds
+  vector_parts d o xs ds e same here h =
+      let is : datum_of d ≡ vector (at d) (row (data_of ds) none) =
+      datum-vector d xs e ∙ ap (λ (l : List code.Datum). vector (at d) (row (data_of l) none)) (sym same) in
+      let t : part_tree unit form first d ≡ vector_of (parts_trees unit form first ds) (Some o) =
+      ap tree_at is ∙ (λ j. vector_of (parts-row ds None j) (Some (sym here j))) in
+      let size : tree_size (part_tree unit form first d) ≡ 1 + trees_size (parts_trees unit form first ds) = ap (λ (x : Tree Identifier). tree_size x) t in
+      let whole : CanSeed (vector (at d) (row (data_of ds) none)) = subst CanSeed is h in
+      record {
+        parts = parts_can ds none (record { right = whole.right; small = omega (arith, whole.small); shallow = omega (arith, whole.shallow) });
+        whole = t;
+        size = omega (arith, size);
+      }
+
+  -- an atom and a bytevector have one node
+  pub atom_whole : (d : code.Datum) (o : Occ) (kind : code_kind.TokenKind) → d.shape ≡ shape.Atom kind → o ≡ place d → part_tree unit form first d ≡ atom_tree unit (kind_of kind) o
+  atom_whole d o kind e here = ap tree_at (datum-atom d kind e) ∙ ap (atom_tree unit (kind_of kind)) (sym here)
+
+  pub atom_part-size : (d : code.Datum) (kind : code_kind.TokenKind) → d.shape ≡ shape.Atom kind → 0 + 1 ≡ tree_size (part_tree unit form first d)
+  atom_part-size d kind e = let size = ap (λ (x : Datum). tree_size (tree_at x)) (datum-atom d kind e) ∙ atom-size unit (kind_of kind) (place d) in omega (arith, size)
+
+  pub bytes_whole : (d : code.Datum) (o : Occ) (xs : Vec (List ℕ) Global) (texts : List (List ℕ)) → d.shape ≡ shape.Bytes xs → texts ≡ xs.items → o ≡ place d →
+      part_tree unit form first d ≡ atom_of (Bytes (join_with_byte 32 (map encode_utf8_all (map chars texts)))) (Some o)
+  bytes_whole d o xs texts e same here =
+      ap tree_at (datum-bytes d xs e) ∙ (λ j. atom_of (Bytes (join_with_byte 32 (map encode_utf8_all (map chars (sym same j))))) (Some (sym here j)))
+
+  pub bytes-size : (d : code.Datum) (texts : Vec (List ℕ) Global) → d.shape ≡ shape.Bytes texts → 0 + 1 ≡ tree_size (part_tree unit form first d)
+  bytes-size d texts e = let size = ap (λ (x : Datum). tree_size (tree_at x)) (datum-bytes d texts e) in omega (arith, size)
+
+-- ---- what may be seeded
+
+-- the data that are read from a text of at most 1,048,576 bytes
+pub item_was_read : (text : List ℕ) (items : List code.Datum) (n : ℕ) (d : code.Datum) → IsUtf8 text → length text ≤ MAX_TEXT → IsReading (chars text) (data_of items) → slice_get items n ≡ Some d →
+    WasRead (datum_of d)
+item_was_read text items n d utf8 fits reading at =
+    datum_was_read (chars text) (data_of items) n (datum_of d) (omega (arith, byte_count-chars text utf8, fits)) reading (slice_get-map datum_of items n ∙ ap (option_map datum_of) at)

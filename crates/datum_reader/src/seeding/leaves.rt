@@ -1,0 +1,100 @@
+//! Nodes without parts: identifiers, other atoms and bytevectors (R7RS 7.1.2).
+ghost use Rattle.std.specs.Prelude.{◌≡◌, IfOk, true, map, Some, chars, string_bytes, encode_utf8_all};
+ghost use Rattle.std.specs.List.{join_with_byte};
+ghost use Rattle.scheme_model.specs.Trees.{name as name_tree, atom, Bytes};
+ghost use Rattle.syntax_tree.specs.Identifiers.{Written};
+ghost use Rattle.syntax_tree.specs.Names.{KeepsNames};
+ghost use Rattle.scheme_tokens.specs.Views.{kind_of};
+ghost use Rattle.datum_reader.specs.Right.{is_atom};
+ghost use Rattle.datum_reader.specs.Seeded.{atom_tree};
+ghost use Rattle.datum_reader.specs.Seeding.{IsLeafOf};
+
+use ls_base::{Mem, Text};
+use scheme_model::Occ;
+use scheme_tokens::TokenKind;
+use std::alloc::Global;
+use syntax_tree::symbols::{Ident, Symbols};
+use syntax_tree::trees::{Leaf, Node};
+
+/// The node of an atom or of the identifier that a mark implies, which has no place.
+pub fn atom_node(symbols: &mut Symbols, kind: &TokenKind, unit: u32, occ: Occ) -> Mem<Node>
+    requires { is_atom (kind_of kind.now) ≡ true }
+    ensures node { IfOk result (λ node. IsLeafOf symbols.new node (atom_tree unit (kind_of kind.now) occ)) }
+    ensures names { KeepsNames symbols.old symbols.new }
+{
+    match kind {
+        TokenKind::Name { name, bars: _ } => {
+            Ok(name_node(symbols, name.as_str(), unit, Some(occ))?)
+        }
+        TokenKind::Numeral(text) => {
+            let symbol = symbols.symbol(text.as_str())?;
+            Ok(leaf_node(Leaf::Numeral(symbol), occ))
+        }
+        TokenKind::Quoted(text) => {
+            let symbol = symbols.symbol(text.as_str())?;
+            Ok(leaf_node(Leaf::Quoted(symbol), occ))
+        }
+        TokenKind::Char(c) => Ok(leaf_node(Leaf::Char(*c), occ)),
+        TokenKind::Bool(b) => Ok(leaf_node(Leaf::Bool(*b), occ)),
+        TokenKind::Quote => Ok(name_node(symbols, "quote", unit, None)?),
+        TokenKind::Quasi => Ok(name_node(symbols, "quasiquote", unit, None)?),
+        TokenKind::Unquote => Ok(name_node(symbols, "unquote", unit, None)?),
+        TokenKind::Splice => Ok(name_node(symbols, "unquote-splicing", unit, None)?),
+        TokenKind::Paren
+        | TokenKind::VectorParen
+        | TokenKind::BytesParen
+        | TokenKind::Close
+        | TokenKind::Dot
+        | TokenKind::Skip => unreachable!(),
+    }
+}
+
+/// The node of a bytevector, which keeps its numerals with one space between each two.
+pub fn bytes_node(alloc: Global, symbols: &mut Symbols, numerals: &[Text], occ: Occ) -> Mem<Node>
+    ensures node { IfOk result (λ node. IsLeafOf symbols.new node (atom (Bytes (join_with_byte 32 (map encode_utf8_all (map chars numerals.now)))) (Some occ))) }
+    ensures names { KeepsNames symbols.old symbols.new }
+{
+    let text = joined(alloc, numerals)?;
+    let symbol = symbols.symbol(text.as_str())?;
+    Ok(leaf_node(Leaf::Bytes(symbol), occ))
+}
+
+/// The node of a leaf that was read from a token.
+fn leaf_node(leaf: Leaf, occ: Occ) -> Node
+    ensures { result ≡ Node.Atom leaf (Some occ) }
+{
+    Node::Atom {
+        leaf,
+        occ: Some(occ),
+    }
+}
+
+/// The node of an identifier that is written in a unit.
+fn name_node(symbols: &mut Symbols, name: &str, unit: u32, occ: Option<Occ>) -> Mem<Node>
+    ensures node { IfOk result (λ node. IsLeafOf symbols.new node (name_tree (Written unit name.now) occ)) }
+    ensures names { KeepsNames symbols.old symbols.new }
+{
+    let symbol = symbols.symbol(name)?;
+    let number = symbols.ident(Ident::Written { unit, symbol })?;
+    Ok(Node::Atom {
+        leaf: Leaf::Name(number),
+        occ,
+    })
+}
+
+/// Texts with one space between each two.
+fn joined(alloc: Global, texts: &[Text]) -> Mem<String>
+    ensures { IfOk result (λ text. string_bytes text ≡ join_with_byte 32 (map encode_utf8_all (map chars texts.now))) }
+{
+    match texts {
+        [] => Ok(String::new(alloc)),
+        [first, rest @ ..] => {
+            let mut text = String::from_str(alloc, first.as_str())?;
+            for more in rest {
+                text.push(' ')?;
+                text.push_str(more.as_str())?;
+            }
+            Ok(text)
+        }
+    }
+}
