@@ -12,7 +12,7 @@ use Rattle.datum_reader.specs.declared.datum.Shape.TheFolds.{fold_out-Datum, fol
 use Rattle.datum_reader.specs.Data.{Place, Datum, Data, list, row, part, tail, tail_of, none, place_of}
 use Rattle.datum_reader.specs.declared.open.Spot.{Spot}
 use Rattle.datum_reader.specs.Open.{up_to, abbreviation}
-use Rattle.datum_reader.specs.Views.{spot_of, shape_step, datum_step, placed, shape_of, datum_of, data_of}
+use Rattle.datum_reader.specs.Views.{spot_of, shape_step, datum_step, placed, shape_of, datum_of, data_of, end_data}
 
 -- a datum is its shape at its place
 pub datum_is : (d : code.Datum) → datum_of d ≡ shape_of d.shape (placed d.first d.last d.span)
@@ -29,11 +29,6 @@ place-shape s p = ap (λ (g : Place → Datum). place_of (g p)) (fold_out-Shape 
 
 pub place-datum : (d : code.Datum) → place_of (datum_of d) ≡ placed d.first d.last d.span
 place-datum d = ap place_of (datum_is d) ∙ place-shape d.shape (placed d.first d.last d.span)
-
--- what ends a list
-abbrev pub end_data : Option (Box code.Datum) → Data
-end_data None = none
-end_data (Some d) = tail (datum_of d.value)
 
 pub list-shape : (v : Vec code.Datum Global) (end : Option (Box code.Datum)) (p : Place) → shape_of (shape.List v end) p ≡ list p (row (data_of v.items) (end_data end))
 list-shape v None p =

@@ -8,6 +8,7 @@ pub mod laws;
 mod open;
 mod reader;
 mod step;
+mod tail;
 
 pub use datum::{Datum, Shape};
 pub use reader::read_all;
