@@ -1,7 +1,7 @@
 //! What a parenthesis closes (R7RS 7.1.2).
 ghost use Rattle.std.specs.Prelude.{◌≡◌};
 ghost use Rattle.datum_reader.specs.Open as model;
-ghost use Rattle.datum_reader.specs.Views.{datum_of, tail_datum, data_of, shape_of, placed, spot_of, opener_of, Gives};
+ghost use Rattle.datum_reader.specs.Views.{datum_of, tail_datum, data_of, shape_of, spot_of, opener_of, Gives};
 
 use crate::datum::{Datum, Shape};
 use crate::open::{BAD_DOT, MISSING_DATUM, Opener, Spot, fault};
@@ -25,12 +25,6 @@ pub fn make_datum(shape: Shape, first: Spot, last: Spot) -> Datum
     }
 }
 
-fn kept(shape: Shape, first: Spot, last: Spot) -> Tail
-    ensures { tail_datum result ≡ shape_of shape (model.between (spot_of first) (spot_of last)) }
-{
-    Tail::Datum(make_datum(shape, first, last))
-}
-
 /// The datum that a parenthesis closes.
 pub fn closed(
     alloc: Global,
@@ -42,10 +36,10 @@ pub fn closed(
     ensures { Gives tail_datum result (model.closed_by (opener_of opener) (spot_of first) (spot_of last) (data_of parts.items)) }
 {
     match opener {
-        Opener::List => Ok(kept(Shape::List(parts, None), first, last)),
+        Opener::List => Ok(Tail::Datum(make_datum(Shape::List(parts, None), first, last))),
         Opener::Ended(_, tail) => Ok(with_tail(alloc, parts, tail, first, last)?),
-        Opener::Vector => Ok(kept(Shape::Vector(parts), first, last)),
-        Opener::Bytes(texts) => Ok(kept(Shape::Bytes(texts), first, last)),
+        Opener::Vector => Ok(Tail::Datum(make_datum(Shape::Vector(parts), first, last))),
+        Opener::Bytes(texts) => Ok(Tail::Datum(make_datum(Shape::Bytes(texts), first, last))),
         Opener::Dotted(dot) => Err(fault(BAD_DOT, dot)),
         Opener::Mark | Opener::Skip => Err(fault(MISSING_DATUM, first)),
     }

@@ -127,7 +127,8 @@ fn keep(state: &mut State, frame: Frame, read: Tail) -> Mem<()>
     ensures { OnOk result (state_of state.new
         ≡ model.state (data_of state.old.items.items ++ tail_datum read ∷ []) (frame_of frame ∷ stack_of state.old.stack.items)) }
 {
-    state.items.push(joined_datum(read)?)?;
+    let datum = joined_datum(read)?;
+    state.items.push(datum)?;
     state.stack.push(frame)?;
     Ok(())
 }
@@ -157,7 +158,8 @@ fn complete(state: &mut State, read: Tail) -> Mem<()>
             Opener::Bytes(_) => return Ok(keep(state, frame, read)?),
         }
     }
-    state.items.push(joined_datum(read)?)?;
+    let datum = joined_datum(read)?;
+    state.items.push(datum)?;
     Ok(())
 }
 

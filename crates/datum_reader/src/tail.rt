@@ -106,13 +106,7 @@ fn rest_of(alloc: Global, tail: Tail) -> Mem<Rest>
 }
 
 /// A list with a tail, from one token up to another. Its parts are the list's own where the tail is a list.
-pub fn with_tail(
-    alloc: Global,
-    parts: Vec<Datum>,
-    tail: Tail,
-    first: Spot,
-    last: Spot,
-) -> Mem<Tail>
+pub fn with_tail(alloc: Global, parts: Vec<Datum>, tail: Tail, first: Spot, last: Spot) -> Mem<Tail>
     ensures { IfOk result (λ t. tail_datum t ≡ list (model.between (spot_of first) (spot_of last)) (row (data_of parts.items) (tail_of (tail_datum tail)))) }
 {
     let rest = rest_of(alloc, tail)?;
@@ -134,8 +128,7 @@ fn joined(parts: Vec<Datum>, runs: Vec<Vec<Datum>>) -> Mem<Vec<Datum>>
 {
     let mut parts = parts;
     let mut runs = runs;
-    while let Some(run) = runs.pop() {
-        let mut run = run;
+    while let Some(mut run) = runs.pop() {
         parts.append(&mut run)?;
     }
     Ok(parts)
