@@ -11,7 +11,7 @@ use Rattle.datum_reader.specs.Open.{State, state, after, after_all, goes_on, fin
 use Rattle.datum_reader.specs.Views.{data_of, told_of, Fails, Gives}
 use Rattle.datum_reader.specs.declared.datum.Datum as code
 use Rattle.datum_reader.specs.Written.{nothing, Parts, last, parts_tokens, parts_meant, parts_depth, IsReading}
-use Rattle.datum_reader.specs.Stopping.{AreData, CanGoOn, IsRefused, IsUnfinished, StopsAt, at_token, at_end, at_fault, Explains}
+use Rattle.datum_reader.specs.Stopping.{AreData, CanGoOn, StopsAt, at_token, at_end, at_fault, Explains}
 use Rattle.scheme_tokens.proofs.Readings as readings
 use Rattle.datum_reader.proofs.StepLaws.{stays_err}
 use Rattle.datum_reader.proofs.ReadLaws.{reading_reads}
@@ -112,7 +112,7 @@ refused : (text : List ℕ) (ts : List Token) (end : Option FaultAt) (e : Stop) 
 refused text ts end e reads h =
     let c = cut (number_from 0 ts) (state [] []) e h in
     let whole : after_all (Ok (state [] [])) (c.before ++ c.token ∷ []) ≡ Err e =
-        after_all-append c.before (c.token ∷ []) (Ok (state [] [])) ∙ ap (λ (r : Result State Stop). after_all r (c.token ∷ [])) c.reads ∙ c.refuses in
+    after_all-append c.before (c.token ∷ []) (Ok (state [] [])) ∙ ap (λ (r : Result State Stop). after_all r (c.token ∷ [])) c.reads ∙ c.refuses in
     at_token ts end c.before c.token c.behind e reads c.joins
     (record { goes_on = can_go_on c.before c.standing c.reads; stops = never_goes_on (c.before ++ c.token ∷ []) e whole; standing = c.standing; behind = c.reads; refuses = c.refuses })
 
@@ -168,10 +168,14 @@ at_fault_read ts f (Ok s) is goes = refl
 at_fault_read ts f (Err e) is goes = absurd (never_goes_on (number_from 0 ts) e is goes)
 
 stop_read : (text : List ℕ) (e : Stop) → StopsAt text e → (ts : List Token) × (end : Option FaultAt) × IsRead ts end text × (read ts end ≡ Err e)
-stop_read text e (at_token ts end before t behind fault reads joins r) =
-    (ts, end, reads, read_of ts end fault
-        (ap (after_all (Ok (state [] []))) joins ∙ after_all-append before (t ∷ behind) (Ok (state [] [])) ∙ ap (λ (q : Result State Stop). after_all q (t ∷ behind)) r.behind
-        ∙ ap (λ (q : Result State Stop). after_all q behind) r.refuses ∙ stays_err fault behind))
+stop_read text e (at_token ts end before t behind fault reads joins r) = (
+  ts,
+  end,
+  reads,
+  read_of ts end fault
+      (ap (after_all (Ok (state [] []))) joins ∙ after_all-append before (t ∷ behind) (Ok (state [] [])) ∙ ap (λ (q : Result State Stop). after_all q (t ∷ behind)) r.behind
+      ∙ ap (λ (q : Result State Stop). after_all q behind) r.refuses ∙ stays_err fault behind),
+)
 stop_read text e (at_end ts fault reads r) = (ts, None, reads, ap (λ (q : Result State Stop). ends q None) r.behind ∙ r.unfinished)
 stop_read text e (at_fault ts f reads goes) = (ts, Some f, reads, at_fault_read ts f (after_all (Ok (state [] [])) (number_from 0 ts)) refl goes)
 

@@ -16,8 +16,8 @@ returns-in_err-state c =
     let front = c.in_ok-front.front in
     let e = c.in_err-state.field-0.0 in
     let exact : (ts : List Token) (end : Option FaultAt) → IsRead ts end text → Fails e (read ts end) = λ ts end h.
-        let o = one_front text front.tokens c.into_vec.result.items front.fault ts end c.in_ok-front.ensures.front c.into_vec.ensures h in
-        fails_within e (tokens_of c.into_vec.result.items) ts end o.0 c.in_err-state.ensures in
+    let o = one_front text front.tokens c.into_vec.result.items front.fault ts end c.in_ok-front.ensures.front c.into_vec.ensures h in
+    fails_within e (tokens_of c.into_vec.result.items) ts end o.0 c.in_err-state.ensures in
     rw (p.1, p.2) (record { exact = exact; found = tt; fault = stops.told text front.tokens front.fault e c.in_ok-front.ensures.front exact })
 
 pub returns-in_err-finished-in-None : goal.returns-in_err-finished-in-None
@@ -27,8 +27,8 @@ returns-in_err-finished-in-None c =
     let front = c.in_ok-front.front in
     let e = c.in_err-finished-in-None.field-0.0 in
     let exact : (ts : List Token) (end : Option FaultAt) → IsRead ts end text → Fails e (read ts end) = λ ts end h.
-        let o = one_front text front.tokens c.into_vec.result.items front.fault ts end c.in_ok-front.ensures.front c.into_vec.ensures h in
-        fails_end e (state_of c.in_ok-state.state) (tokens_of c.into_vec.result.items) ts front.fault end o.0 c.in_ok-state.ensures o.1 c.in-None.is c.in_err-finished-in-None.ensures in
+    let o = one_front text front.tokens c.into_vec.result.items front.fault ts end c.in_ok-front.ensures.front c.into_vec.ensures h in
+    fails_end e (state_of c.in_ok-state.state) (tokens_of c.into_vec.result.items) ts front.fault end o.0 c.in_ok-state.ensures o.1 c.in-None.is c.in_err-finished-in-None.ensures in
     rw (p.1, p.2) (record { exact = exact; found = tt; fault = stops.told text front.tokens front.fault e c.in_ok-front.ensures.front exact })
 
 pub returns-in-Some : goal.returns-in-Some
@@ -37,8 +37,8 @@ returns-in-Some c =
     let front = c.in_ok-front.front in
     let e = c.in-Some.fault in
     let exact : (ts : List Token) (end : Option FaultAt) → IsRead ts end text → Fails e (read ts end) = λ ts end h.
-        let o = one_front text front.tokens c.into_vec.result.items front.fault ts end c.in_ok-front.ensures.front c.into_vec.ensures h in
-        fails_token e (state_of c.in_ok-state.state) (tokens_of c.into_vec.result.items) ts front.fault end o.0 c.in_ok-state.ensures o.1 c.in-Some.is in
+    let o = one_front text front.tokens c.into_vec.result.items front.fault ts end c.in_ok-front.ensures.front c.into_vec.ensures h in
+    fails_token e (state_of c.in_ok-state.state) (tokens_of c.into_vec.result.items) ts front.fault end o.0 c.in_ok-state.ensures o.1 c.in-Some.is in
     record { exact = exact; found = tt; fault = stops.told text front.tokens front.fault e c.in_ok-front.ensures.front exact }
 
 pub returns-in_ok-finished-in-None : goal.returns-in_ok-finished-in-None
@@ -47,6 +47,6 @@ returns-in_ok-finished-in-None c =
     let front = c.in_ok-front.front in
     let ds = data_of c.in_ok-finished-in-None.field-0 in
     let exact : (ts : List Token) (end : Option FaultAt) → IsRead ts end text → read ts end ≡ Ok ds = λ ts end h.
-        let o = one_front text front.tokens c.into_vec.result.items front.fault ts end c.in_ok-front.ensures.front c.into_vec.ensures h in
-        reads_end ds (state_of c.in_ok-state.state) (tokens_of c.into_vec.result.items) ts front.fault end o.0 c.in_ok-state.ensures o.1 c.in-None.is c.in_ok-finished-in-None.ensures in
+    let o = one_front text front.tokens c.into_vec.result.items front.fault ts end c.in_ok-front.ensures.front c.into_vec.ensures h in
+    reads_end ds (state_of c.in_ok-state.state) (tokens_of c.into_vec.result.items) ts front.fault end o.0 c.in_ok-state.ensures o.1 c.in-None.is c.in_ok-finished-in-None.ensures in
     record { exact = exact; found = stops.found text front.tokens front.fault ds c.in_ok-front.ensures.front exact; fault = tt }
