@@ -5,7 +5,7 @@ use Rattle.scheme_tokens.specs.Tokens.{Mark, TokenKind}
 use Rattle.datum_reader.specs.Data.{Datum, atom}
 use Rattle.datum_reader.specs.Faults.{Spot, Numbered, is_byte}
 use Rattle.datum_reader.specs.Open.{Opener, in_list, dotted, ended, in_vector, in_bytes, marked, skipping, Frame, State, state, depth_of, at}
-use Rattle.datum_reader.specs.Written.{Written, abbreviated, Gap, nothing, skipped, Parts, last, next, Bytes, byte, token, written_tokens, gap_tokens, parts_tokens, meant, parts_meant, depth, gap_depth, parts_depth}
+use Rattle.datum_reader.specs.Written.{Written, abbreviated, Gap, nothing, skipped, Parts, next, Bytes, byte, token, written_tokens, gap_tokens, parts_tokens, meant, parts_meant, depth, gap_depth, parts_depth}
 
 -- data on one level so far, each behind a gap
 pub data Row : Type 0 where

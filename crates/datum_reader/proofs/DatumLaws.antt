@@ -9,10 +9,10 @@ use Rattle.datum_reader.specs.declared.datum.Shape.{Shape}
 use Rattle.datum_reader.specs.declared.datum.Shape.TheVariants as shape
 use Rattle.datum_reader.specs.declared.datum.Shape.TheOpen.{Shape-F}
 use Rattle.datum_reader.specs.declared.datum.Shape.TheFolds.{fold_out-Datum, fold_out-Shape, fold-roll-Shape}
-use Rattle.datum_reader.specs.Data.{Place, Datum, Data, list, row, part, tail, tail_of, none, place_of}
+use Rattle.datum_reader.specs.Data.{Place, Datum, Data, list, row, part, none, place_of}
 use Rattle.datum_reader.specs.declared.open.Spot.{Spot}
 use Rattle.datum_reader.specs.Open.{up_to, abbreviation}
-use Rattle.datum_reader.specs.Views.{spot_of, shape_step, datum_step, placed, shape_of, datum_of, data_of}
+use Rattle.datum_reader.specs.Views.{spot_of, shape_step, datum_step, placed, shape_of, datum_of, data_of, end_data, chained}
 
 -- a datum is its shape at its place
 pub datum_is : (d : code.Datum) → datum_of d ≡ shape_of d.shape (placed d.first d.last d.span)
@@ -30,11 +30,6 @@ place-shape s p = ap (λ (g : Place → Datum). place_of (g p)) (fold_out-Shape 
 pub place-datum : (d : code.Datum) → place_of (datum_of d) ≡ placed d.first d.last d.span
 place-datum d = ap place_of (datum_is d) ∙ place-shape d.shape (placed d.first d.last d.span)
 
--- what ends a list
-abbrev pub end_data : Option (Box code.Datum) → Data
-end_data None = none
-end_data (Some d) = tail (datum_of d.value)
-
 pub list-shape : (v : Vec code.Datum Global) (end : Option (Box code.Datum)) (p : Place) → shape_of (shape.List v end) p ≡ list p (row (data_of v.items) (end_data end))
 list-shape v None p =
     ap (λ (s : Shape). shape_of s p) (sym (shape.rolls-List v None)) ∙ ap (λ (g : Place → Datum). g p) (fold-roll-Shape (Place → Datum) Datum shape_step datum_step (Shape-F.List v None))
@@ -49,15 +44,27 @@ row-append (x ∷ xs) ys end = ap (λ (q : Data). part x q) (row-append xs ys en
 pub data_of-append : (xs ys zs : List code.Datum) → zs ≡ xs ++ ys → data_of zs ≡ data_of xs ++ data_of ys
 data_of-append xs ys zs e = ap data_of e ∙ map-append datum_of xs ys
 
--- a tail that is a list is the list's own
-pub merged : (d : code.Datum) (more : Vec code.Datum Global) (end : Option (Box code.Datum)) (xs : List code.Datum) (v : Vec code.Datum Global) (p : Place) →
-    d.shape ≡ shape.List more end → v.items ≡ xs ++ more.items → shape_of (shape.List v end) p ≡ list p (row (data_of xs) (tail_of (datum_of d)))
-merged d more end xs v p is joins =
+-- the run that was added last comes first
+pub chained-push : (end : Data) (vs : List (Vec code.Datum Global)) (v : Vec code.Datum Global) → chained end (vs ++ v ∷ []) ≡ row (data_of v.items) (chained end vs)
+chained-push end [] v = refl
+chained-push end (w ∷ vs) v = chained-push (row (data_of w.items) end) vs v
+
+pub run_pushed : (end : Data) (vs ws : List (Vec code.Datum Global)) (v : Vec code.Datum Global) → ws ≡ vs ++ v ∷ [] → chained end ws ≡ row (data_of v.items) (chained end vs)
+run_pushed end vs ws v e = ap (chained end) e ∙ chained-push end vs v
+
+-- parts with one run more, before the runs that are left
+pub run_joined : (end : Data) (vs ws : List (Vec code.Datum Global)) (v : Vec code.Datum Global) (xs zs : List code.Datum) → ws ≡ vs ++ v ∷ [] → zs ≡ xs ++ v.items →
+    row (data_of zs) (chained end vs) ≡ row (data_of xs) (chained end ws)
+run_joined end vs ws v xs zs pops joins =
+    ap (λ (q : List Datum). row q (chained end vs)) (data_of-append xs v.items zs joins) ∙ row-append (data_of xs) (data_of v.items) (chained end vs)
+    ∙ ap (row (data_of xs)) (sym (run_pushed end vs ws v pops))
+
+-- a list whose parts are joined
+pub list_joined : (d : code.Datum) (v : Vec code.Datum Global) (end : Option (Box code.Datum)) (all : Data) → d.shape ≡ shape.List v end → row (data_of v.items) (end_data end) ≡ all →
+    datum_of d ≡ list (placed d.first d.last d.span) all
+list_joined d v end all is joins =
     let at = placed d.first d.last d.span in
-    let tail_is : datum_of d ≡ list at (row (data_of more.items) (end_data end)) = datum_is d ∙ ap (λ (s : Shape). shape_of s at) is ∙ list-shape more end at in
-    list-shape v end p
-    ∙ ap (list p) (ap (λ (q : List Datum). row q (end_data end)) (data_of-append xs more.items v.items joins) ∙ row-append (data_of xs) (data_of more.items) (end_data end))
-    ∙ ap (λ (q : Datum). list p (row (data_of xs) (tail_of q))) (sym tail_is)
+    datum_is d ∙ ap (λ (s : Shape). shape_of s at) is ∙ list-shape v end at ∙ ap (list at) joins
 
 -- a datum behind a mark
 pub abbreviated : (d : code.Datum) (t : Spot) (xs zs : List code.Datum) (r : code.Datum) → zs ≡ xs ++ d ∷ [] →

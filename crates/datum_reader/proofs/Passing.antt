@@ -1,13 +1,13 @@
 -- What is open behind data as they are written.
-use Rattle.std.proofs.Common.{◌≡◌, ◌≤◌, ◌<◌, ◌+◌, ◌==◌, ℕ, suc, length, List, [], ◌∷◌, ◌++◌, Bool, true, false, cond, Option, Some, None, Result, Ok, Err, refl, sym, ap, ◌∙◌, arith, append_assoc, append-nil}
+use Rattle.std.proofs.Common.{◌≡◌, ◌≤◌, ◌<◌, ◌+◌, ◌==◌, ℕ, length, List, [], ◌∷◌, ◌++◌, Bool, true, false, cond, Option, Some, None, Result, Ok, Err, refl, sym, ap, ◌∙◌, arith, append_assoc, append-nil}
 use Rattle.std.proofs.lemmas.Bool.{lt-ltb}
 use Rattle.std.proofs.lemmas.Bool.Decides.{nat_tests}
 use Rattle.scheme_tokens.specs.Tokens as kinds
 use Rattle.scheme_tokens.specs.Tokens.{TokenKind}
 use Rattle.scheme_tokens.specs.Reading.{Token}
-use Rattle.datum_reader.specs.Data.{Datum, atom, list, none, row, tail_of}
-use Rattle.datum_reader.specs.Faults.{Spot, Stop, Numbered, number_from, is_byte, bad_byte, bad_dot, too_deep}
-use Rattle.datum_reader.specs.Open.{Opener, in_list, dotted, ended, in_vector, in_bytes, marked, skipping, Frame, State, state, depth_of, reopened, at, refused, refused_by, unless, pushed, opened, completed, atoms, atoms_by, whole, byte_added, dotted_by, after, after_all, goes_on, finished, ends, read}
+use Rattle.datum_reader.specs.Data.{Datum, atom}
+use Rattle.datum_reader.specs.Faults.{Spot, Stop, Numbered, number_from, is_byte, bad_dot, too_deep}
+use Rattle.datum_reader.specs.Open.{Opener, in_list, dotted, ended, in_vector, in_bytes, marked, skipping, Frame, State, state, depth_of, reopened, at, refused, refused_by, unless, pushed, opened, completed, atoms, atoms_by, whole, byte_added, dotted_by, after_all, ends, read}
 use Rattle.datum_reader.specs.Written.{Written, alone, listed, tailed, vectored, byted, abbreviated, Gap, nothing, skipped, Parts, last, next, Bytes, last_byte, byte, token, written_tokens, gap_tokens, parts_tokens, bytes_tokens, meant, parts_meant, bytes_meant, depth, gap_depth, parts_depth, bytes_depth}
 
 -- a datum may begin; and it is added to the others

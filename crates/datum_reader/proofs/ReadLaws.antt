@@ -1,5 +1,5 @@
 -- What reading a text answers, by the tokens that it has.
-use Rattle.std.proofs.Common.{◌≡◌, ℕ, List, [], ◌∷◌, Option, Some, None, Result, Ok, Err, refl, sym, ap, ◌∙◌, subst, MatchResult}
+use Rattle.std.proofs.Common.{◌≡◌, ℕ, List, [], Option, Some, None, Result, Ok, Err, refl, sym, ap, ◌∙◌, subst, MatchResult}
 use Rattle.scheme_tokens.specs.Reading.{Token, FaultAt, IsRead}
 use Rattle.scheme_tokens.specs.Views.{tokens_of, read_fault, told_end, IsFront}
 use Rattle.scheme_tokens.specs.declared.token.Token as code_token

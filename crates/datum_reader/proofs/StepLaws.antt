@@ -1,6 +1,7 @@
 -- What one token changes, with the frame on top taken off.
-use Rattle.std.proofs.Common.{◌≡◌, ◌==◌, ◌+◌, add-one, ℕ, suc, length, subst, List, [], ◌∷◌, ◌++◌, Bool, true, false, Option, Some, None, Result, Ok, Err, refl, sym, ap, ◌∙◌, cond}
+use Rattle.std.proofs.Common.{◌≡◌, ◌==◌, ◌+◌, add-one, ℕ, suc, length, subst, List, [], ◌∷◌, ◌++◌, Bool, Option, Some, None, Result, Ok, Err, refl, sym, ap, ◌∙◌, cond}
 use Rattle.datum_reader.specs.declared.datum.Datum as code
+use Rattle.datum_reader.specs.declared.tail.Tail as code_tail
 use Rattle.datum_reader.specs.declared.open.Frame as code_frame
 use Rattle.datum_reader.specs.declared.open.Opener as code_opener
 use Rattle.datum_reader.specs.declared.open.Opener.TheVariants as openers
@@ -12,7 +13,7 @@ use Rattle.scheme_tokens.specs.Views.{kind_of, tokens_of}
 use Rattle.datum_reader.specs.Data.{Datum}
 use Rattle.datum_reader.specs.Faults.{Spot, Stop, Numbered, number_from, bad_dot}
 use Rattle.datum_reader.specs.Open.{Frame, State, state, Opener, in_list, in_vector, in_bytes, dotted, reopened, byte_of, byte_added, abbreviation, completed, completed_by, completes, closed, closed_by, dots, dotted_by, atoms, atoms_by, after, after_all}
-use Rattle.datum_reader.specs.Views.{datum_of, data_of, spot_of, opener_of, frame_of, stack_of, Fails}
+use Rattle.datum_reader.specs.Views.{tail_datum, data_of, spot_of, opener_of, frame_of, stack_of, Fails}
 use Rattle.datum_reader.proofs.StackLaws.{stack_push}
 
 pub completed_top : (d : Datum) (items : List Datum) (fs gs : List code_frame.Frame) (f : code_frame.Frame) (o : code_opener.Opener) → fs ≡ gs ++ f ∷ [] → f.opener ≡ o →
@@ -22,12 +23,12 @@ completed_top d items fs gs f o e is =
     ∙ ap (λ (v : code_opener.Opener). completed_by (opener_of v) (frame_of f) d items (stack_of gs) (completed (abbreviation (spot_of f.spot) items d) (data_of f.before.items) (stack_of gs))) is
 
 -- an abbreviation is complete, in place of its datum
-pub mark_step : (d d' : code.Datum) (ws xs ys : List code.Datum) (fs gs : List code_frame.Frame) (f : code_frame.Frame) → fs ≡ gs ++ f ∷ [] → f.opener ≡ openers.Mark → ws ≡ xs → ys ≡ f.before.items →
-    datum_of d' ≡ abbreviation (spot_of f.spot) (data_of ws) (datum_of d) → completed (datum_of d') (data_of ys) (stack_of gs) ≡ completed (datum_of d) (data_of xs) (stack_of fs)
+pub mark_step : (d d' : code_tail.Tail) (ws xs ys : List code.Datum) (fs gs : List code_frame.Frame) (f : code_frame.Frame) → fs ≡ gs ++ f ∷ [] → f.opener ≡ openers.Mark → ws ≡ xs → ys ≡ f.before.items →
+    tail_datum d' ≡ abbreviation (spot_of f.spot) (data_of ws) (tail_datum d) → completed (tail_datum d') (data_of ys) (stack_of gs) ≡ completed (tail_datum d) (data_of xs) (stack_of fs)
 mark_step d d' ws xs ys fs gs f e is had before made =
-    ap (λ (q : Datum). completed q (data_of ys) (stack_of gs)) (made ∙ ap (λ (q : List code.Datum). abbreviation (spot_of f.spot) (data_of q) (datum_of d)) had)
-    ∙ ap (λ (q : List code.Datum). completed (abbreviation (spot_of f.spot) (data_of xs) (datum_of d)) (data_of q) (stack_of gs)) before
-    ∙ sym (completed_top (datum_of d) (data_of xs) fs gs f openers.Mark e is)
+    ap (λ (q : Datum). completed q (data_of ys) (stack_of gs)) (made ∙ ap (λ (q : List code.Datum). abbreviation (spot_of f.spot) (data_of q) (tail_datum d)) had)
+    ∙ ap (λ (q : List code.Datum). completed (abbreviation (spot_of f.spot) (data_of xs) (tail_datum d)) (data_of q) (stack_of gs)) before
+    ∙ sym (completed_top (tail_datum d) (data_of xs) fs gs f openers.Mark e is)
 
 pub fails_completes : (e : ReadFault) (r : Result Datum Stop) (items : List Datum) (fs : List Frame) → Fails e r → Fails e (completes r items fs)
 fails_completes told.Memory r items fs h = tt
@@ -64,13 +65,13 @@ close_fails e t ws xs fs gs f joins had h =
     (fails_completes e (closed_by (opener_of f.opener) (spot_of f.spot) t (data_of xs)) (data_of f.before.items) (stack_of gs)
     (subst (λ (q : List code.Datum). Fails e (closed_by (opener_of f.opener) (spot_of f.spot) t (data_of q))) had h))
 
-pub close_gives : (d : code.Datum) (t : Spot) (ws xs ys : List code.Datum) (fs gs : List code_frame.Frame) (f : code_frame.Frame) (s : State) → fs ≡ gs ++ f ∷ [] → ws ≡ xs → ys ≡ f.before.items →
-    closed_by (opener_of f.opener) (spot_of f.spot) t (data_of ws) ≡ Ok (datum_of d) → s ≡ completed (datum_of d) (data_of ys) (stack_of gs) → closed t (data_of xs) (stack_of fs) ≡ Ok s
+pub close_gives : (d : code_tail.Tail) (t : Spot) (ws xs ys : List code.Datum) (fs gs : List code_frame.Frame) (f : code_frame.Frame) (s : State) → fs ≡ gs ++ f ∷ [] → ws ≡ xs → ys ≡ f.before.items →
+    closed_by (opener_of f.opener) (spot_of f.spot) t (data_of ws) ≡ Ok (tail_datum d) → s ≡ completed (tail_datum d) (data_of ys) (stack_of gs) → closed t (data_of xs) (stack_of fs) ≡ Ok s
 close_gives d t ws xs ys fs gs f s joins had before h k =
     closed_top t (data_of xs) fs gs f joins
     ∙ ap (λ (q : List code.Datum). completes (closed_by (opener_of f.opener) (spot_of f.spot) t (data_of q)) (data_of f.before.items) (stack_of gs)) (sym had)
     ∙ ap (λ (q : Result Datum Stop). completes q (data_of f.before.items) (stack_of gs)) h
-    ∙ ap (λ (q : List code.Datum). Ok (completed (datum_of d) (data_of q) (stack_of gs))) (sym before)
+    ∙ ap (λ (q : List code.Datum). Ok (completed (tail_datum d) (data_of q) (stack_of gs))) (sym before)
     ∙ ap (λ (q : State). Ok q) (sym k)
 
 -- a bytevector with a numeral more, whatever its frame was

@@ -11,7 +11,7 @@ use Rattle.datum_reader.specs.Open.{State, state, after, after_all, goes_on, fin
 use Rattle.datum_reader.specs.Views.{data_of, told_of, Fails, Gives}
 use Rattle.datum_reader.specs.declared.datum.Datum as code
 use Rattle.datum_reader.specs.Written.{nothing, Parts, last, parts_tokens, parts_meant, parts_depth, IsReading}
-use Rattle.datum_reader.specs.Stopping.{AreData, CanGoOn, IsRefused, IsUnfinished, StopsAt, at_token, at_end, at_fault, Explains}
+use Rattle.datum_reader.specs.Stopping.{AreData, CanGoOn, StopsAt, at_token, at_end, at_fault, Explains}
 use Rattle.scheme_tokens.proofs.Readings as readings
 use Rattle.datum_reader.proofs.StepLaws.{stays_err}
 use Rattle.datum_reader.proofs.ReadLaws.{reading_reads}

@@ -1,6 +1,7 @@
 -- What the values of the code stand for.
-use Rattle.std.specs.Prelude.{◌≡◌, ℕ, List, [], ◌∷◌, map, Option, Some, None, Result, Ok, Err, Bool, true, false}
+use Rattle.std.specs.Prelude.{◌≡◌, ℕ, List, [], ◌∷◌, Vec, map, Option, Some, None, Result, Ok, Err}
 use Rattle.std.specs.Global.{Box}
+use Rattle.std.specs.declared.alloc.Global.{Global}
 use Rattle.std.specs.Str.{chars}
 use Rattle.ls_base.specs.declared.places.Span.{Span}
 use Rattle.scheme_tokens.specs.Views.{kind_of}
@@ -10,6 +11,9 @@ use Rattle.datum_reader.specs.declared.datum.Datum as code
 use Rattle.datum_reader.specs.declared.datum.Shape.{Shape}
 use Rattle.datum_reader.specs.declared.datum.Shape.TheOpen.{Datum-F, Shape-F}
 use Rattle.datum_reader.specs.declared.datum.Shape.TheFolds.{fold-Datum, fold-Shape}
+use Rattle.datum_reader.specs.declared.tail.Rest as code_rest
+use Rattle.datum_reader.specs.declared.tail.Tail as code_tail
+use Rattle.datum_reader.specs.declared.tail.Tail.TheVariants as tails
 use Rattle.datum_reader.specs.declared.open.Spot as code_spot
 use Rattle.datum_reader.specs.declared.open.Opener as code_opener
 use Rattle.datum_reader.specs.declared.open.Opener.TheVariants as openers
@@ -47,13 +51,31 @@ datum_of = fold-Datum (Place → Datum) Datum shape_step datum_step
 abbrev pub data_of : List code.Datum → List Datum
 data_of ds = map datum_of ds
 
+-- what ends a list
+abbrev pub end_data : Option (Box code.Datum) → Data
+end_data None = none
+end_data (Some d) = tail (datum_of d.value)
+
+-- runs of parts before what ends them, the last run first
+abbrev pub chained : Data → List (Vec code.Datum Global) → Data
+chained end [] = end
+chained end (v ∷ vs) = chained (row (data_of v.items) end) vs
+
+abbrev pub rest_data : code_rest.Rest → Data
+rest_data r = chained (end_data r.end) r.runs.items
+
+-- the datum that a tail stands for
+abbrev pub tail_datum : code_tail.Tail → Datum
+tail_datum (tails.Datum d) = datum_of d
+tail_datum (tails.List c) = list (placed c.first c.last c.span) (row (data_of c.parts.items) (rest_data c.rest))
+
 abbrev pub spot_of : code_spot.Spot → Spot
 spot_of t = record { number = t.number; start = t.span.start; end = t.span.end }
 
 abbrev pub opener_of : code_opener.Opener → Opener
 opener_of openers.List = in_list
 opener_of (openers.Dotted dot) = dotted (spot_of dot)
-opener_of (openers.Ended dot d) = ended (spot_of dot) (datum_of d)
+opener_of (openers.Ended dot t) = ended (spot_of dot) (tail_datum t)
 opener_of openers.Vector = in_vector
 opener_of (openers.Bytes texts) = in_bytes (map chars texts.items)
 opener_of openers.Mark = marked

@@ -9,6 +9,7 @@ mod open;
 mod reader;
 mod seeding;
 mod step;
+mod tail;
 
 pub use datum::{Datum, Shape};
 pub use reader::read_all;

@@ -3,6 +3,7 @@ ghost use Rattle.std.specs.Prelude.{◌≡◌};
 ghost use Rattle.scheme_tokens.specs.declared.fault.ReadFault.TheVariants as told;
 
 use crate::datum::Datum;
+use crate::tail::Tail;
 use ls_base::{Span, Text};
 use scheme_tokens::ReadFault;
 
@@ -39,7 +40,7 @@ pub enum Opener {
     /// A list behind its dot.
     Dotted(Spot),
     /// A list behind its tail, with its dot.
-    Ended(Spot, Datum),
+    Ended(Spot, Tail),
     Vector,
     /// A bytevector, with its numerals so far.
     Bytes(Vec<Text>),

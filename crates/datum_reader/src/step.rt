@@ -5,12 +5,13 @@ ghost use Rattle.scheme_tokens.specs.Tokens.{BytesParen};
 ghost use Rattle.scheme_tokens.specs.Views.{kind_of};
 ghost use Rattle.datum_reader.specs.Data.{list, atom, row, none};
 ghost use Rattle.datum_reader.specs.Open as model;
-ghost use Rattle.datum_reader.specs.Views.{datum_of, data_of, spot_of, opener_of, frame_of, stack_of, state_of, Moves, Refuses, IsNumeral};
+ghost use Rattle.datum_reader.specs.Views.{datum_of, tail_datum, data_of, spot_of, opener_of, frame_of, stack_of, state_of, Moves, Refuses, IsNumeral};
 
 use crate::bytes::is_byte;
 use crate::close::{closed, make_datum};
 use crate::datum::{Datum, Shape};
 use crate::open::{BAD_BYTE, BAD_DOT, Frame, Opener, STRAY_CLOSE, Spot, State, TOO_DEEP, fault};
+use crate::tail::{Tail, joined_datum};
 use ls_base::{Mem, Span, Text};
 use scheme_tokens::{ReadFault, Token, TokenKind};
 use std::alloc::Global;
@@ -110,51 +111,54 @@ fn make_marked(spot: Spot, parts: Vec<Datum>, last: u32, end: u32) -> Datum
 }
 
 /// The abbreviation of a mark's token and what stands behind it.
-fn abbreviation(spot: Spot, items: Vec<Datum>, datum: Datum) -> Mem<Datum>
-    ensures { IfOk result (λ d. datum_of d ≡ model.abbreviation (spot_of spot) (data_of items.items) (datum_of datum)) }
+fn abbreviation(spot: Spot, items: Vec<Datum>, read: Tail) -> Mem<Tail>
+    ensures { IfOk result (λ t. tail_datum t ≡ model.abbreviation (spot_of spot) (data_of items.items) (tail_datum read)) }
 {
+    let datum = joined_datum(read)?;
     let last = datum.last;
     let end = datum.span.end;
     let mut parts = items;
     parts.push(datum)?;
-    Ok(make_marked(spot, parts, last, end))
+    Ok(Tail::Datum(make_marked(spot, parts, last, end)))
 }
 
 /// Adds a datum, and puts back what is open.
-fn keep(state: &mut State, frame: Frame, datum: Datum) -> Mem<()>
+fn keep(state: &mut State, frame: Frame, read: Tail) -> Mem<()>
     ensures { OnOk result (state_of state.new
-        ≡ model.state (data_of state.old.items.items ++ datum_of datum ∷ []) (frame_of frame ∷ stack_of state.old.stack.items)) }
+        ≡ model.state (data_of state.old.items.items ++ tail_datum read ∷ []) (frame_of frame ∷ stack_of state.old.stack.items)) }
 {
+    let datum = joined_datum(read)?;
     state.items.push(datum)?;
     state.stack.push(frame)?;
     Ok(())
 }
 
 /// Adds a datum on the innermost level. An abbreviation that it completes is added in its place; `#;` drops it.
-fn complete(state: &mut State, datum: Datum) -> Mem<()>
-    ensures { OnOk result (state_of state.new ≡ model.completed (datum_of datum) (data_of state.old.items.items) (stack_of state.old.stack.items)) }
+fn complete(state: &mut State, read: Tail) -> Mem<()>
+    ensures { OnOk result (state_of state.new ≡ model.completed (tail_datum read) (data_of state.old.items.items) (stack_of state.old.stack.items)) }
 {
-    let mut datum = datum;
+    let mut read = read;
     while let Some(frame) = state.stack.pop() {
         match &frame.opener {
             Opener::Mark => {
                 let items = mem::replace(&mut state.items, frame.before);
-                datum = abbreviation(frame.spot, items, datum)?;
+                read = abbreviation(frame.spot, items, read)?;
             }
             Opener::Skip => {
                 state.items = frame.before;
                 return Ok(());
             }
             Opener::Dotted(dot) => {
-                let opener = Opener::Ended(*dot, datum);
+                let opener = Opener::Ended(*dot, read);
                 return Ok(reopen(state, opener, frame)?);
             }
-            Opener::List => return Ok(keep(state, frame, datum)?),
-            Opener::Ended(..) => return Ok(keep(state, frame, datum)?),
-            Opener::Vector => return Ok(keep(state, frame, datum)?),
-            Opener::Bytes(_) => return Ok(keep(state, frame, datum)?),
+            Opener::List => return Ok(keep(state, frame, read)?),
+            Opener::Ended(..) => return Ok(keep(state, frame, read)?),
+            Opener::Vector => return Ok(keep(state, frame, read)?),
+            Opener::Bytes(_) => return Ok(keep(state, frame, read)?),
         }
     }
+    let datum = joined_datum(read)?;
     state.items.push(datum)?;
     Ok(())
 }
@@ -167,8 +171,8 @@ fn close(alloc: Global, state: &mut State, spot: Spot) -> Result<(), ReadFault>
         return Err(fault(STRAY_CLOSE, spot));
     };
     let items = mem::replace(&mut state.items, frame.before);
-    let datum = closed(alloc, frame.opener, frame.spot, spot, items)?;
-    complete(state, datum)?;
+    let read = closed(alloc, frame.opener, frame.spot, spot, items)?;
+    complete(state, read)?;
     Ok(())
 }
 
@@ -312,7 +316,7 @@ fn byte_in(
 fn whole(state: &mut State, kind: TokenKind, spot: Spot) -> Mem<()>
     ensures { OnOk result (state_of state.new ≡ model.completed (atom (model.at (spot_of spot)) (kind_of kind)) (data_of state.old.items.items) (stack_of state.old.stack.items)) }
 {
-    complete(state, make_atom(kind, spot))?;
+    complete(state, Tail::Datum(make_atom(kind, spot)))?;
     Ok(())
 }
 

@@ -145,6 +145,91 @@ fn merged_tails_and_skipped_data(rt: HostRuntime) -> Result<(), Fail> {
 }
 
 #[test]
+fn three_tails(rt: HostRuntime) -> Result<(), Fail> {
+    let parts = "1-1@1-2=a/4-4@6-7=b/7-7@11-12=c/";
+    for (text, place, behind) in [
+        (
+            "(a . (b . (c . (d e))))",
+            "0-15@0-23",
+            "10-10@16-17=d/11-11@18-19=e/",
+        ),
+        ("(a . (b . (c . ())))", "0-13@0-20", ""),
+        ("(a . (b . (c . d)))", "0-12@0-19", ".9-9@15-16=d/"),
+        (
+            "(a . (b . (c . #(d))))",
+            "0-14@0-22",
+            ".9-11@15-19[10-10@17-18=d/]/",
+        ),
+        ("(a . (b . (c . #u8(1))))", "0-14@0-24", ".9-11@15-21{1;}/"),
+        (
+            "(a . (b . (c . 'd)))",
+            "0-13@0-20",
+            "9-9@15-16='/10-10@16-17=d/",
+        ),
+        ("(a . (b . (c . #;(e) (d))))", "0-18@0-27", "14-14@22-23=d/"),
+    ] {
+        let want = format!(in rt.alloc(); "{place}({parts}{behind})/")?;
+        assert_eq!(rt; read(rt.alloc(), text)?.as_str(), want.as_str(), "{text}");
+    }
+    Ok(())
+}
+
+#[test]
+fn four_tails(rt: HostRuntime) -> Result<(), Fail> {
+    let parts = "1-1@1-2=a/4-4@6-7=b/5-5@8-9=c/8-8@13-14=d/11-11@18-19=e/";
+    for (text, place, behind) in [
+        (
+            "(a . (b c . (d . (e . (f g)))))",
+            "0-20@0-31",
+            "14-14@23-24=f/15-15@25-26=g/",
+        ),
+        ("(a . (b c . (d . (e . ()))))", "0-18@0-28", ""),
+        (
+            "(a . (b c . (d . (e . f))))",
+            "0-17@0-27",
+            ".13-13@22-23=f/",
+        ),
+        (
+            "(a . (b c . (d . (e . #(f)))))",
+            "0-19@0-30",
+            ".13-15@22-26[14-14@24-25=f/]/",
+        ),
+        (
+            "(a . (b c . (d . (e . 'f))))",
+            "0-18@0-28",
+            "13-13@22-23='/14-14@23-24=f/",
+        ),
+    ] {
+        let want = format!(in rt.alloc(); "{place}({parts}{behind})/")?;
+        assert_eq!(rt; read(rt.alloc(), text)?.as_str(), want.as_str(), "{text}");
+    }
+    Ok(())
+}
+
+#[test]
+fn tails_inside_data(rt: HostRuntime) -> Result<(), Fail> {
+    for (text, want) in [
+        (
+            "((a . (b . (c))) d)",
+            "0-13@0-19(1-11@1-16(2-2@2-3=a/5-5@7-8=b/8-8@12-13=c/)/12-12@17-18=d/)/",
+        ),
+        (
+            "(a . '(b . (c)))",
+            "0-11@0-16(1-1@1-2=a/3-3@5-6='/4-10@6-15(5-5@7-8=b/8-8@12-13=c/)/)/",
+        ),
+        ("#((a . (b)))", "0-8@0-12[1-7@2-11(2-2@3-4=a/5-5@8-9=b/)/]/"),
+        ("#;(a . (b . (c))) d", "12-12@18-19=d/"),
+        (
+            "(a . (b . #;(x) (c) #;(y)))",
+            "0-18@0-27(1-1@1-2=a/4-4@6-7=b/11-11@17-18=c/)/",
+        ),
+    ] {
+        assert_eq!(rt; read(rt.alloc(), text)?.as_str(), want, "{text}");
+    }
+    Ok(())
+}
+
+#[test]
 fn faults_of_lists_and_dots(rt: HostRuntime) -> Result<(), Fail> {
     for (text, want) in [
         ("(a", "5 0-1"),
@@ -305,5 +390,16 @@ fn long_strings(rt: HostRuntime) -> Result<(), Fail> {
     text.push_str(times(alloc, 100_000, "a\\n")?.as_str())?;
     text.push_str("\"")?;
     assert_eq!(rt; string_bytes(alloc, text.as_str()), 200_000);
+    Ok(())
+}
+
+#[test]
+fn a_long_list_behind_many_tails(rt: HostRuntime) -> Result<(), Fail> {
+    let alloc = rt.alloc();
+    let mut text = times(alloc, 399, "(a . ")?;
+    text.push_str("(")?;
+    text.push_str(times(alloc, 100_000, "x ")?.as_str())?;
+    text.push_str(times(alloc, 400, ")")?.as_str())?;
+    assert_eq!(rt; part_count(alloc, text.as_str()), 100_399);
     Ok(())
 }

@@ -1,8 +1,7 @@
-use Rattle.std.proofs.Common.{◌∙◌, ◌≡◌, ◌+◌, ◌*◌, ◌-◌, ap, sym, arith, min}
+use Rattle.std.proofs.Common.{◌∙◌, ◌+◌, ◌*◌, ap, sym, arith}
 use Rattle.std.specs.Str.{chars}
 use Rattle.std.specs.Char.{digit_value}
-use Rattle.std.proofs.lemmas.Str.{chars-nil, digit_value_digit}
-use Rattle.std.proofs.lemmas.Bool.Decides.{nat_tests}
+use Rattle.std.proofs.lemmas.Str.{chars-nil}
 use Rattle.datum_reader.specs.Faults.{is_byte}
 use Rattle.datum_reader.proofs.ByteLaws.{capped_byte, digit_more, digit_of}
 use Rattle.datum_reader.proofs.bytes.is_byte.Goals as goal

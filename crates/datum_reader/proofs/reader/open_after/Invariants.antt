@@ -1,5 +1,5 @@
 use Rattle.std.proofs.Common.{◌≡◌, ◌+◌, [], Ok, length}
-use Rattle.std.specs.Vec.Iter.{into_iter_items, into_iter_len}
+use Rattle.std.specs.Vec.Iter.{into_iter_items}
 use Rattle.scheme_tokens.specs.Views.{tokens_of}
 use Rattle.datum_reader.specs.Faults.{number_from}
 use Rattle.datum_reader.specs.Open.{state, after_all}

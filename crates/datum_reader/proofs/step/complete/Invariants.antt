@@ -1,12 +1,12 @@
 use Rattle.std.proofs.Common.{◌≡◌, vec_len}
 use Rattle.datum_reader.specs.Open.{completed}
-use Rattle.datum_reader.specs.Views.{datum_of, data_of, stack_of}
+use Rattle.datum_reader.specs.Views.{tail_datum, data_of, stack_of}
 use Rattle.datum_reader.proofs.step.complete.Given as goal
 
 abbrev pub invariant-loop-frame : goal.invariant-loop-frame
 invariant-loop-frame l =
-    completed (datum_of l.datum) (data_of l.state.items.items) (stack_of l.state.stack.items)
-    ≡ completed (datum_of l.initial.datum) (data_of l.initial.state.items.items) (stack_of l.initial.state.stack.items)
+    completed (tail_datum l.read) (data_of l.state.items.items) (stack_of l.state.stack.items)
+    ≡ completed (tail_datum l.initial.read) (data_of l.initial.state.items.items) (stack_of l.initial.state.stack.items)
 
 abbrev pub decreases-loop-frame : goal.decreases-loop-frame
 decreases-loop-frame l = vec_len l.state.stack
