@@ -26,10 +26,10 @@ use Rattle.datum_reader.specs.Right.{is_list, AreRight, datum_size, data_size, d
 use Rattle.datum_reader.specs.Seeded.{atom_tree, tree_of, parts_of, end_of, seeded}
 use Rattle.datum_reader.specs.Seeding.{trees_from, part_tree, parts_trees, tail_tree, CanBeSeeded, TailCanBeSeeded}
 use Rattle.datum_reader.specs.Written.{IsReading}
-use Rattle.datum_reader.specs.Views.{shape_step, datum_step, placed, shape_of, datum_of, data_of}
+use Rattle.datum_reader.specs.Views.{shape_step, datum_step, placed, shape_of, datum_of, data_of, end_data}
 use Rattle.scheme_tokens.proofs.Fronts.{byte_count-chars}
 use Rattle.datum_reader.proofs.ReadParts.{datum_was_read}
-use Rattle.datum_reader.proofs.DatumLaws.{datum_is, place-datum, end_data, list-shape}
+use Rattle.datum_reader.proofs.DatumLaws.{datum_is, place-datum, list-shape}
 
 -- ---- what data are, by their shapes
 
