@@ -3,7 +3,7 @@ use Rattle.std.proofs.Common.{◌≡◌, ℕ, ◌+◌, ◌*◌, ◌≤◌, List,
 use Rattle.std.specs.Char.{is_ascii_digit, digit_value}
 use Rattle.std.proofs.lemmas.Bool.{cases_lt}
 use Rattle.std.proofs.lemmas.Bool.Decides.{nat_tests}
-use Rattle.datum_reader.specs.Faults.{is_byte}
+use Rattle.scheme_model.specs.Numbered.{is_byte}
 
 -- above 255 one number is as good as another
 by_digit : (b : Bool) (m n : Bool) → m ≡ n → cond b m true ≡ cond b n true

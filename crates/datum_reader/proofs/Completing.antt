@@ -1,10 +1,11 @@
 -- A datum that is complete, among data that are partly written.
 use Rattle.std.proofs.Common.{◌≡◌, ◌+◌, ◌≤◌, max, List, [], ◌∷◌, ◌++◌, refl, sym, ap, ◌∙◌, arith, append_assoc}
-use Rattle.scheme_tokens.specs.Tokens as kinds
-use Rattle.datum_reader.specs.Faults.{Spot, Numbered}
+use Rattle.scheme_model.specs.Kinds as kinds
+use Rattle.scheme_model.specs.Numbered.{Spot, Numbered}
 use Rattle.datum_reader.specs.Open.{completed, depth_of}
-use Rattle.datum_reader.specs.Written.{Written, abbreviated, Gap, nothing, skipped, Parts, next, Bytes, byte, token, written_tokens, gap_tokens, parts_tokens, bytes_tokens, meant, parts_meant, bytes_meant, depth, gap_depth, parts_depth, bytes_depth}
-use Rattle.datum_reader.proofs.Begun.{Row, start, more, ByteRow, no_bytes, one_byte, Inside, listing, behind_dot, behind_tail, vectoring, byting, behind_mark, behind_skip, Begun, top, inside, row_tokens, bytes_before, begun_tokens, row_meant, numerals_of, inside_items, begun_items, begun_stack, begun_state, Takes, Sound, row_depth, byte_row_depth, gap_more, skip_in, skip_more, complete, parts_from, bytes_from}
+use Rattle.scheme_model.specs.Written.{Written, abbreviated, Gap, nothing, skipped, Parts, next, Bytes, byte, token, written_tokens, gap_tokens, parts_tokens, bytes_tokens, meant, parts_meant, bytes_meant, depth, gap_depth, parts_depth, bytes_depth}
+use Rattle.scheme_model.specs.Begun.{Row, start, more, ByteRow, no_bytes, one_byte, Inside, listing, behind_dot, behind_tail, vectoring, byting, behind_mark, behind_skip, Begun, top, inside, row_tokens, bytes_before, begun_tokens, Takes, row_depth, byte_row_depth}
+use Rattle.datum_reader.proofs.Begun.{row_meant, numerals_of, inside_items, begun_items, begun_stack, begun_state, Sound, gap_more, skip_in, skip_more, complete, parts_from, bytes_from}
 
 -- ---- gaps
 

@@ -9,9 +9,10 @@ use Rattle.datum_reader.specs.declared.datum.Shape.{Shape}
 use Rattle.datum_reader.specs.declared.datum.Shape.TheVariants as shape
 use Rattle.datum_reader.specs.declared.datum.Shape.TheOpen.{Shape-F}
 use Rattle.datum_reader.specs.declared.datum.Shape.TheFolds.{fold_out-Datum, fold_out-Shape, fold-roll-Shape}
-use Rattle.datum_reader.specs.Data.{Place, Datum, Data, list, row, part, none, place_of}
+use Rattle.scheme_model.specs.Data.{Place, Datum, Data, list, row, part, none, place_of}
 use Rattle.datum_reader.specs.declared.open.Spot.{Spot}
-use Rattle.datum_reader.specs.Open.{up_to, abbreviation}
+use Rattle.scheme_model.specs.Numbered.{up_to}
+use Rattle.datum_reader.specs.Open.{abbreviation}
 use Rattle.datum_reader.specs.Views.{spot_of, shape_step, datum_step, placed, shape_of, datum_of, data_of, end_data, chained}
 
 -- a datum is its shape at its place

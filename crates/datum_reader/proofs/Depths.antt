@@ -1,7 +1,7 @@
 -- A datum is at most one deeper than what is open while it is read.
 use Rattle.std.proofs.Common.{◌+◌, ◌≤◌, max, arith}
-use Rattle.datum_reader.specs.Data.{Datum, atom, list, vector, bytes, Data, none, row, tail_of}
-use Rattle.datum_reader.specs.Written.{Written, alone, listed, tailed, vectored, byted, abbreviated, Parts, last, next, meant, parts_meant, depth, parts_depth}
+use Rattle.scheme_model.specs.Data.{Datum, atom, list, vector, bytes, Data, none, row, tail_of}
+use Rattle.scheme_model.specs.Written.{Written, alone, listed, tailed, vectored, byted, abbreviated, Parts, last, next, meant, parts_meant, depth, parts_depth}
 use Rattle.datum_reader.specs.Right.{datum_depth, data_depth}
 
 tail_depth : (d : Datum) → data_depth (tail_of d) ≤ datum_depth d

@@ -1,12 +1,13 @@
 -- Data that are partly written can be written to an end.
 use Rattle.std.proofs.Common.{◌≡◌, ℕ, zero, suc, ◌+◌, ◌≤◌, true, List, [], ◌∷◌, ◌++◌, Ok, refl, ap, ◌∙◌, arith}
-use Rattle.scheme_tokens.specs.Tokens as kinds
-use Rattle.scheme_tokens.specs.Tokens.{Leaf}
-use Rattle.datum_reader.specs.Faults.{Spot, Numbered}
+use Rattle.scheme_model.specs.Kinds as kinds
+use Rattle.scheme_model.specs.Kinds.{Leaf}
+use Rattle.scheme_model.specs.Numbered.{Spot, Numbered}
 use Rattle.datum_reader.specs.Open.{State, state, depth_of, after_all}
-use Rattle.datum_reader.specs.Written.{Written, alone, listed, tailed, vectored, byted, abbreviated, Gap, nothing, last, last_byte, token, depth, written_tokens}
-use Rattle.datum_reader.specs.Stopping.{AreData, CanGoOn}
-use Rattle.datum_reader.proofs.Begun.{start, Inside, listing, behind_dot, behind_tail, vectoring, byting, behind_mark, behind_skip, Begun, top, inside, begun_tokens, begun_stack, Takes, Sound, skip_more, complete, parts_from, bytes_from}
+use Rattle.scheme_model.specs.Written.{Written, alone, listed, tailed, vectored, byted, abbreviated, Gap, nothing, last, last_byte, token, depth, written_tokens}
+use Rattle.scheme_model.specs.Stopping.{AreData, CanGoOn}
+use Rattle.scheme_model.specs.Begun.{start, Inside, listing, behind_dot, behind_tail, vectoring, byting, behind_mark, behind_skip, Begun, top, inside, begun_tokens, Takes}
+use Rattle.datum_reader.proofs.Begun.{begun_stack, Sound, skip_more, complete, parts_from, bytes_from}
 use Rattle.datum_reader.proofs.Completing.{parts_from-tokens, parts_from-depth, bytes_from-tokens, bytes_from-depth, skip_more-tokens, skip_more-sound, complete-tokens, complete-sound}
 use Rattle.datum_reader.proofs.Reaching.{through}
 

@@ -1,12 +1,12 @@
 -- What added nodes and names leave, and how that adds up.
-use Rattle.std.proofs.Common.{◌≡◌, ℕ, ◌+◌, ◌^◌, ◌<◌, ◌≤◌, ◌↔◌, List, [], ◌∷◌, Result, Ok, Err, refl, sym, ap, ◌∙◌, subst, arith}
-use Rattle.scheme_model.specs.Trees.{Tree, Trees, no_trees, tree, Tail, proper, dotted}
+use Rattle.std.proofs.Common.{◌≡◌, ℕ, ◌+◌, ◌^◌, ◌≤◌, List, [], ◌∷◌, Result, Ok, Err, refl, sym, subst, arith}
+use Rattle.scheme_model.specs.Trees.{Tree, Trees, no_trees, tree}
 use Rattle.std.specs.Prelude.{Vec, IsErrAnd}
 use Rattle.std.specs.declared.alloc.Global.{Global}
 use Rattle.syntax_tree.specs.Identifiers.{Identifier}
 use Rattle.syntax_tree.specs.Names.{Names, KeepsNames}
 use Rattle.syntax_tree.specs.Measures.{tree_size, trees_size}
-use Rattle.syntax_tree.specs.Standing.{AllStand, TailStands}
+use Rattle.syntax_tree.specs.Standing.{AllStand}
 use Rattle.syntax_tree.specs.Works.{StandsFor, IsNodeOf, KeepsTrees, live_count, with_names}
 use Rattle.syntax_tree.specs.declared.trees.nodes.Node.{Node}
 use Rattle.syntax_tree.specs.declared.trees.Work.{Work}

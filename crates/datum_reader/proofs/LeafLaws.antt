@@ -1,17 +1,15 @@
 -- Nodes without parts, and the trees that they are of.
-use Rattle.std.proofs.Common.{◌≡◌, ℕ, Bool, List, slice_get, Option, Some, sym, ap, ◌∙◌, subst}
+use Rattle.std.proofs.Common.{◌≡◌, ℕ, Bool, List, slice_get, Some, sym, ap, ◌∙◌, subst}
 use Rattle.std.specs.Option.{option_map}
 use Rattle.std.specs.Str.{chars, IsUtf8, encode_utf8_all}
 use Rattle.std.proofs.lemmas.Str.{encodes-chars}
 use Rattle.scheme_model.specs.declared.Occ.{Occ}
-use Rattle.scheme_model.specs.Trees.{Tree, name, atom, Numeral, Quoted}
+use Rattle.scheme_model.specs.Trees.{name, atom, Numeral, Quoted}
 use Rattle.scheme_tokens.specs.declared.token.TokenKind.{TokenKind}
 use Rattle.scheme_tokens.specs.declared.token.TokenKind.TheVariants as kinds
-use Rattle.scheme_tokens.specs.Views.{kind_of}
-use Rattle.syntax_tree.specs.Identifiers.{Identifier, Written}
+use Rattle.datum_reader.specs.Views.{kind_of}
+use Rattle.syntax_tree.specs.Identifiers.{Written}
 use Rattle.syntax_tree.specs.Names.{Names}
-use Rattle.syntax_tree.specs.Standing.{Shape, IsNode}
-use Rattle.syntax_tree.specs.Kept.{shape_of}
 use Rattle.syntax_tree.specs.declared.trees.nodes.Leaf.TheVariants as leaf
 use Rattle.syntax_tree.specs.declared.trees.nodes.Node.{Node}
 use Rattle.syntax_tree.specs.declared.trees.nodes.Node.TheVariants as node

@@ -2,13 +2,16 @@ pub mod ByteLaws
 pub mod StackLaws
 pub mod DatumLaws
 pub mod StepLaws
+pub mod Seen
 pub mod Passing
 pub mod Begun
 pub mod Completing
 pub mod Reaching
 pub mod Ending
-pub mod Stops
+pub mod Refusing
+pub mod PassingBegun
 pub mod ReadLaws
+pub mod Stops
 pub mod Sizes
 pub mod Depths
 pub mod ReadParts

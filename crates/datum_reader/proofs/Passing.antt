@@ -2,29 +2,29 @@
 use Rattle.std.proofs.Common.{◌≡◌, ◌≤◌, ◌<◌, ◌+◌, ◌==◌, ℕ, length, List, [], ◌∷◌, ◌++◌, Bool, true, false, cond, Option, Some, None, Result, Ok, Err, refl, sym, ap, ◌∙◌, arith, append_assoc, append-nil}
 use Rattle.std.proofs.lemmas.Bool.{lt-ltb}
 use Rattle.std.proofs.lemmas.Bool.Decides.{nat_tests}
-use Rattle.scheme_tokens.specs.Tokens as kinds
-use Rattle.scheme_tokens.specs.Tokens.{TokenKind}
-use Rattle.scheme_tokens.specs.Reading.{Token}
-use Rattle.datum_reader.specs.Data.{Datum, atom}
-use Rattle.datum_reader.specs.Faults.{Spot, Stop, Numbered, number_from, is_byte, bad_dot, too_deep}
-use Rattle.datum_reader.specs.Open.{Opener, in_list, dotted, ended, in_vector, in_bytes, marked, skipping, Frame, State, state, depth_of, reopened, at, refused, refused_by, unless, pushed, opened, completed, atoms, atoms_by, whole, byte_added, dotted_by, after_all, ends, read}
-use Rattle.datum_reader.specs.Written.{Written, alone, listed, tailed, vectored, byted, abbreviated, Gap, nothing, skipped, Parts, last, next, Bytes, last_byte, byte, token, written_tokens, gap_tokens, parts_tokens, bytes_tokens, meant, parts_meant, bytes_meant, depth, gap_depth, parts_depth, bytes_depth}
+use Rattle.scheme_model.specs.Kinds as kinds
+use Rattle.scheme_model.specs.Kinds.{TokenKind, Token}
+use Rattle.scheme_model.specs.Data.{Datum, atom}
+use Rattle.scheme_model.specs.Numbered.{Spot, Numbered, number_from, is_byte, at}
+use Rattle.scheme_model.specs.Faults.{Stop, bad_dot, too_deep}
+use Rattle.datum_reader.specs.Open.{Opener, in_list, dotted, ended, in_vector, in_bytes, marked, skipping, Frame, State, state, depth_of, reopened, refused, refused_by, unless, pushed, opened, completed, atoms, atoms_by, whole, byte_added, dotted_by, after_all, ends, read}
+use Rattle.scheme_model.specs.Written.{Written, alone, listed, tailed, vectored, byted, abbreviated, Gap, nothing, skipped, Parts, last, next, Bytes, last_byte, byte, token, written_tokens, gap_tokens, parts_tokens, bytes_tokens, meant, parts_meant, bytes_meant, depth, gap_depth, parts_depth, bytes_depth}
 
 -- a datum may begin; and it is added to the others
-abbrev Free : List Frame → Type 0
+abbrev pub Free : List Frame → Type 0
 Free fs = (t : Spot) → refused fs t ≡ None
 
-abbrev Plain : List Frame → Type 0
+abbrev pub Plain : List Frame → Type 0
 Plain fs = (d : Datum) (items : List Datum) → completed d items fs ≡ state (items ++ d ∷ []) fs
 
-opens : (o : Opener) (t : Spot) (xs : List Datum) (s : State) → depth_of s.stack < 400 → opened o t xs s ≡ Ok (pushed o (depth_of s.stack + 1) t xs s)
+pub opens : (o : Opener) (t : Spot) (xs : List Datum) (s : State) → depth_of s.stack < 400 → opened o t xs s ≡ Ok (pushed o (depth_of s.stack + 1) t xs s)
 opens o t xs s h = ap (λ (b : Bool). cond b (Ok (pushed o (depth_of s.stack + 1) t xs s)) (Err (too_deep t))) (lt-ltb (depth_of s.stack) 400 h)
 
-allowed : (o : Option Stop) (r : Result State Stop) → o ≡ None → unless o r ≡ r
+pub allowed : (o : Option Stop) (r : Result State Stop) → o ≡ None → unless o r ≡ r
 allowed None r h = refl
 allowed (Some e) r h = cc
 
-opens_free : (o : Opener) (t : Spot) (xs : List Datum) (s : State) → Free s.stack → depth_of s.stack < 400 → unless (refused s.stack t) (opened o t xs s) ≡ Ok (pushed o (depth_of s.stack + 1) t xs s)
+pub opens_free : (o : Opener) (t : Spot) (xs : List Datum) (s : State) → Free s.stack → depth_of s.stack < 400 → unless (refused s.stack t) (opened o t xs s) ≡ Ok (pushed o (depth_of s.stack + 1) t xs s)
 opens_free o t xs s free h = allowed (refused s.stack t) (opened o t xs s) (free t) ∙ opens o t xs s h
 
 atom_by : (o : Opener) (k : TokenKind) (t : Spot) (f : Frame) (items : List Datum) (fs : List Frame) → refused_by o t ≡ None → atoms_by o k t f items fs ≡ whole k t items (f ∷ fs)
@@ -40,22 +40,22 @@ atom_free : (k : TokenKind) (t : Spot) (items : List Datum) (fs : List Frame) �
 atom_free k t items [] free = refl
 atom_free k t items (f ∷ fs) free = atom_by f.opener k t f items fs (free t)
 
-some_part : (d : Datum) (ds : List Datum) → (length (d ∷ ds) == 0) ≡ false
+pub some_part : (d : Datum) (ds : List Datum) → (length (d ∷ ds) == 0) ≡ false
 some_part d ds = grind (arith, nat_tests)
 
-first_dot : (b : Bool) (items : List Datum) (t : Spot) (f : Frame) (fs : List Frame) → (length items == 0) ≡ b →
+pub first_dot : (b : Bool) (items : List Datum) (t : Spot) (f : Frame) (fs : List Frame) → (length items == 0) ≡ b →
     dotted_by in_list t f items fs ≡ cond b (Err (bad_dot t)) (Ok (state items (reopened (dotted t) f ∷ fs)))
 first_dot b items t f fs h = ap (λ (c : Bool). cond c (Err (bad_dot t)) (Ok (state items (reopened (dotted t) f ∷ fs)))) h
 
-a_byte : (text : List ℕ) (bs : List (List ℕ)) (t : Spot) (f : Frame) (items : List Datum) (fs : List Frame) → is_byte 0 text ≡ true →
+pub a_byte : (text : List ℕ) (bs : List (List ℕ)) (t : Spot) (f : Frame) (items : List Datum) (fs : List Frame) → is_byte 0 text ≡ true →
     byte_added (cond (is_byte 0 text) (Some text) None) bs t f items fs ≡ Ok (state items (reopened (in_bytes (bs ++ text ∷ [])) f ∷ fs))
 a_byte text bs t f items fs h = ap (λ (b : Bool). byte_added (cond b (Some text) None) bs t f items fs) h
 
-abbrev frame : Opener → Spot → List Datum → ℕ → Frame
+abbrev pub frame : Opener → Spot → List Datum → ℕ → Frame
 frame o t before n = record { opener = o; spot = t; before = before; depth = n }
 
 -- reading goes on
-run : (r q : Result State Stop) (ts : List Numbered) → r ≡ q → after_all r ts ≡ after_all q ts
+pub run : (r q : Result State Stop) (ts : List Numbered) → r ≡ q → after_all r ts ≡ after_all q ts
 run r q ts h = ap (λ (s : Result State Stop). after_all s ts) h
 
 mutual

@@ -1,14 +1,16 @@
 -- What reading goes through are data that are partly written: one token more, and all tokens.
 use Rattle.std.proofs.Common.{◌≡◌, ℕ, ◌+◌, ◌≤◌, ◌<◌, ◌==◌, length, List, [], ◌∷◌, ◌++◌, Bool, true, false, cond, nat_lt, Option, Some, None, Result, Ok, Err, refl, sym, ap, ◌∙◌, arith, append-nil}
 use Rattle.std.proofs.lemmas.Bool.Decides.{nat_tests}
-use Rattle.scheme_tokens.specs.Tokens as kinds
-use Rattle.scheme_tokens.specs.Tokens.{TokenKind, Leaf}
-use Rattle.datum_reader.specs.Data.{Datum, list, vector, bytes, row, none, atom}
-use Rattle.datum_reader.specs.Faults.{Spot, Stop, Numbered, is_byte, bad_dot, bad_byte, too_deep, stray_close, missing_datum}
-use Rattle.datum_reader.specs.Open.{Opener, in_list, in_vector, in_bytes, marked, skipping, dotted, Frame, State, state, depth_of, reopened, between, at, refused, unless, pushed, opened, completed, whole, byte_added, after, after_all}
-use Rattle.datum_reader.specs.Written.{Written, alone, listed, tailed, vectored, byted, Gap, nothing, Parts, last, next, last_byte, token, written_tokens, parts_tokens, meant, parts_meant, depth, parts_depth}
+use Rattle.scheme_model.specs.Kinds as kinds
+use Rattle.scheme_model.specs.Kinds.{TokenKind, Leaf}
+use Rattle.scheme_model.specs.Data.{Datum, list, vector, bytes, row, none, atom}
+use Rattle.scheme_model.specs.Numbered.{Spot, Numbered, is_byte, between, at}
+use Rattle.scheme_model.specs.Faults.{Stop, bad_dot, bad_byte, too_deep, stray_close, missing_datum}
+use Rattle.datum_reader.specs.Open.{Opener, in_list, in_vector, in_bytes, marked, skipping, dotted, Frame, State, state, depth_of, reopened, refused, unless, pushed, opened, completed, whole, byte_added, after, after_all}
+use Rattle.scheme_model.specs.Written.{Written, alone, listed, tailed, vectored, byted, Gap, nothing, Parts, last, next, last_byte, token, written_tokens, parts_tokens, meant, parts_meant, depth, parts_depth}
 use Rattle.datum_reader.proofs.StepLaws.{stays_err}
-use Rattle.datum_reader.proofs.Begun.{Row, start, more, ByteRow, no_bytes, one_byte, listing, behind_dot, behind_tail, vectoring, byting, behind_mark, behind_skip, Begun, top, inside, begun_tokens, row_meant, numerals_of, begun_items, begun_stack, begun_state, Takes, Sound, complete, parts_from, bytes_from}
+use Rattle.scheme_model.specs.Begun.{Row, start, more, ByteRow, no_bytes, one_byte, listing, behind_dot, behind_tail, vectoring, byting, behind_mark, behind_skip, Begun, top, inside, begun_tokens, Takes}
+use Rattle.datum_reader.proofs.Begun.{row_meant, numerals_of, begun_items, begun_stack, begun_state, Sound, complete, parts_from, bytes_from}
 use Rattle.datum_reader.proofs.Completing.{parts_from-tokens, parts_from-meant, parts_from-depth, bytes_from-tokens, bytes_from-meant, bytes_from-depth, complete-state, complete-tokens, complete-sound}
 
 -- with one token more, reading is in this state: that of data that are partly written by the token more

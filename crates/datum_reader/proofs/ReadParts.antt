@@ -2,8 +2,8 @@
 use Rattle.std.proofs.Common.{◌≡◌, ℕ, zero, suc, ◌≤◌, List, [], ◌∷◌, Some, slice_get, refl, sym, subst, inl, inr}
 use Rattle.ls_base.specs.declared.limits.TheConstants.{MAX_TEXT}
 use Rattle.scheme_tokens.specs.Words.{byte_count}
-use Rattle.datum_reader.specs.Data.{Datum, atom, list, vector, bytes, Data, none, part, tail, row}
-use Rattle.datum_reader.specs.Written.{IsReading}
+use Rattle.scheme_model.specs.Data.{Datum, atom, list, vector, bytes, Data, none, part, tail, row}
+use Rattle.datum_reader.specs.Texts.{IsReading}
 use Rattle.datum_reader.specs.Right.{IsIn, IsAmong, WasRead}
 
 in_self : (d : Datum) → IsIn d d

@@ -1,9 +1,9 @@
 -- What is read from a text of at most 1,048,576 bytes is what a tree can be made of.
 use Rattle.std.proofs.Common.{ℕ, ◌+◌, ◌*◌, ◌≤◌, length, List, refl, sym, ap, subst, arith, inl, inr}
-use Rattle.scheme_tokens.proofs.TokenCounts.{few_tokens}
+use Rattle.datum_reader.proofs.Seen.{few_seen}
 use Rattle.scheme_tokens.specs.Words.{byte_count}
-use Rattle.datum_reader.specs.Data.{Datum, atom, list, vector, bytes, Data, none, part, tail, row, tail_of}
-use Rattle.datum_reader.specs.Written.{Written, alone, listed, tailed, vectored, byted, abbreviated, Parts, last, next, meant, parts_meant, parts_depth}
+use Rattle.scheme_model.specs.Data.{Datum, atom, list, vector, bytes, Data, none, part, tail, row, tail_of}
+use Rattle.scheme_model.specs.Written.{Written, alone, listed, tailed, vectored, byted, abbreviated, Parts, last, next, meant, parts_meant, parts_depth}
 use Rattle.datum_reader.specs.Right.{IsIn, IsAmong, WasRead, IsRight, AreRight, datum_size, data_size, datum_depth, data_depth, CanSeed}
 use Rattle.datum_reader.proofs.Sizes.{all_size}
 use Rattle.datum_reader.proofs.Depths.{all_depth}
@@ -89,6 +89,6 @@ can_seed d w =
     record {
       right = among_right d ds among (parts_right ps none tt);
       small = small_enough (datum_size d) (data_size ds) (length w.reading.tokens) (byte_count w.text) (among_size d ds among) (all_size ps w.reading.tokens w.reading.formed)
-          (few_tokens w.reading.tokens w.text w.reading.spelled) w.fits;
+          (few_seen w.text w.reading.tokens w.reading.spelled) w.fits;
       shallow = shallow_enough (datum_depth d) (data_depth ds) (parts_depth ps) (among_depth d ds among) (all_depth ps) w.reading.shallow;
     }

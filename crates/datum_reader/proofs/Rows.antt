@@ -1,7 +1,7 @@
 -- Trees in a row, one more at a time.
-use Rattle.std.proofs.Common.{◌≡◌, ℕ, zero, suc, ◌+◌, ◌<◌, ◌≤◌, List, [], ◌∷◌, ◌++◌, map, length, get_or, take, refl, sym, ap, ◌∙◌, subst, arith, add_assoc}
+use Rattle.std.proofs.Common.{◌≡◌, ℕ, zero, suc, ◌+◌, ◌<◌, ◌≤◌, List, [], ◌∷◌, ◌++◌, map, length, get_or, take, sym, ap, ◌∙◌, subst, arith}
 use Rattle.std.proofs.lemmas.List.{take_more, map-append}
-use Rattle.scheme_model.specs.Trees.{Tree, Trees, no_trees, tree}
+use Rattle.scheme_model.specs.Trees.{Tree, Trees}
 use Rattle.syntax_tree.specs.Identifiers.{Identifier}
 use Rattle.syntax_tree.specs.Names.{Names}
 use Rattle.syntax_tree.specs.Measures.{tree_size, trees_size}
@@ -13,7 +13,7 @@ use Rattle.syntax_tree.specs.declared.trees.nodes.Tree as code
 use Rattle.syntax_tree.specs.declared.trees.faults.PoolFault.{PoolFault}
 use Rattle.datum_reader.specs.declared.datum.Datum.{Datum}
 use Rattle.datum_reader.specs.Seeding.{trees_from, Grows, Fails}
-use Rattle.datum_reader.proofs.Growing.{grows_on, grows_more, part_failed, all_kept}
+use Rattle.datum_reader.proofs.Growing.{grows_on, part_failed, all_kept}
 
 trees_size-push : (ts : List (Tree Identifier)) (t : Tree Identifier) → trees_size (trees_from (ts ++ t ∷ [])) ≡ trees_size (trees_from ts) + tree_size t
 trees_size-push [] t = omega arith

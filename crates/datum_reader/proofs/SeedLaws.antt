@@ -1,5 +1,5 @@
 -- The tree of a datum of the code by its shape, and what its parts are.
-use Rattle.std.proofs.Common.{◌≡◌, ℕ, zero, suc, ◌+◌, ◌<◌, ◌≤◌, Bool, true, false, List, [], ◌∷◌, map, length, slice_get, Option, Some, None, All, refl, sym, ap, ◌∙◌, subst, arith}
+use Rattle.std.proofs.Common.{◌≡◌, ℕ, zero, suc, ◌+◌, ◌≤◌, false, List, [], ◌∷◌, map, length, slice_get, Option, Some, None, All, refl, sym, ap, ◌∙◌, subst, arith}
 use Rattle.std.specs.Prelude.{Vec, max}
 use Rattle.std.specs.Global.{Box}
 use Rattle.std.specs.List.{join_with_byte}
@@ -9,10 +9,10 @@ use Rattle.std.specs.declared.alloc.Global.{Global}
 use Rattle.ls_base.specs.declared.limits.TheConstants.{MAX_TEXT, MAX_TREE_NODES, MAX_TREE_DEPTH}
 use Rattle.std.proofs.lemmas.Option.{slice_get-map}
 use Rattle.scheme_model.specs.declared.Occ.{Occ}
-use Rattle.scheme_model.specs.Trees.{Bytes, Tree, name, atom as atom_of, list as list_of, vector as vector_of, Trees, no_trees, tree, Tail, proper, dotted, placed_in}
+use Rattle.scheme_model.specs.Trees.{Bytes, Tree, atom as atom_of, list as list_of, vector as vector_of, tree, placed_in}
 use Rattle.scheme_tokens.specs.declared.token.TokenKind as code_kind
-use Rattle.scheme_tokens.specs.Views.{kind_of}
-use Rattle.scheme_tokens.specs.Tokens.{TokenKind, Paren, VectorParen, BytesParen, Close, Dot, Skip, Marked, Atomic, Name, Numeral, Quoted, Character, Truth}
+use Rattle.datum_reader.specs.Views.{kind_of, shape_step, datum_step, placed, shape_of, datum_of, data_of, end_data}
+use Rattle.scheme_model.specs.Kinds.{TokenKind, Paren, VectorParen, BytesParen, Close, Dot, Skip, Marked, Atomic, Name, Numeral, Quoted, Character, Truth}
 use Rattle.syntax_tree.specs.Identifiers.{Identifier}
 use Rattle.syntax_tree.specs.Measures.{tree_size, trees_size, tail_size, tree_depth, trees_depth, tail_depth}
 use Rattle.syntax_tree.specs.Standing as standing
@@ -21,15 +21,14 @@ use Rattle.datum_reader.specs.declared.datum.Shape.{Shape}
 use Rattle.datum_reader.specs.declared.datum.Shape.TheVariants as shape
 use Rattle.datum_reader.specs.declared.datum.Shape.TheOpen.{Shape-F}
 use Rattle.datum_reader.specs.declared.datum.Shape.TheFolds.{fold-roll-Shape}
-use Rattle.datum_reader.specs.Data.{Place, Datum, atom, list, vector, bytes, Data, none, part, tail, row, place_of}
+use Rattle.scheme_model.specs.Data.{Place, Datum, atom, list, vector, bytes, Data, none, part, tail, row}
 use Rattle.datum_reader.specs.Right.{is_list, AreRight, datum_size, data_size, datum_depth, data_depth, WasRead, CanSeed}
-use Rattle.datum_reader.specs.Seeded.{atom_tree, tree_of, parts_of, end_of, seeded}
-use Rattle.datum_reader.specs.Seeding.{trees_from, part_tree, parts_trees, tail_tree, CanBeSeeded, TailCanBeSeeded}
-use Rattle.datum_reader.specs.Written.{IsReading}
-use Rattle.datum_reader.specs.Views.{shape_step, datum_step, placed, shape_of, datum_of, data_of, end_data}
+use Rattle.datum_reader.specs.Seeded.{atom_tree, tree_of, parts_of, end_of}
+use Rattle.datum_reader.specs.Seeding.{part_tree, parts_trees, tail_tree, CanBeSeeded, TailCanBeSeeded}
+use Rattle.datum_reader.specs.Texts.{IsReading}
 use Rattle.scheme_tokens.proofs.Fronts.{byte_count-chars}
 use Rattle.datum_reader.proofs.ReadParts.{datum_was_read}
-use Rattle.datum_reader.proofs.DatumLaws.{datum_is, place-datum, list-shape}
+use Rattle.datum_reader.proofs.DatumLaws.{datum_is, list-shape}
 
 -- ---- what data are, by their shapes
 

@@ -1,10 +1,10 @@
 -- A datum has at most twice as many nodes as tokens.
 use Rattle.std.proofs.Common.{◌≡◌, ℕ, suc, ◌+◌, ◌*◌, ◌≤◌, length, List, [], ◌∷◌, refl, ap, arith}
-use Rattle.scheme_tokens.specs.Tokens as kinds
-use Rattle.scheme_tokens.specs.Reading.{Token}
-use Rattle.datum_reader.specs.Data.{Datum, atom, list, vector, bytes, Data, none, row, tail_of}
-use Rattle.datum_reader.specs.Faults.{Numbered, number_from}
-use Rattle.datum_reader.specs.Written.{Written, alone, listed, tailed, vectored, byted, abbreviated, Gap, nothing, skipped, Parts, last, next, Bytes, last_byte, byte, token, written_tokens, gap_tokens, parts_tokens, bytes_tokens, meant, parts_meant}
+use Rattle.scheme_model.specs.Kinds as kinds
+use Rattle.scheme_model.specs.Kinds.{Token}
+use Rattle.scheme_model.specs.Data.{Datum, atom, list, vector, bytes, Data, none, row, tail_of}
+use Rattle.scheme_model.specs.Numbered.{Numbered, number_from}
+use Rattle.scheme_model.specs.Written.{Written, alone, listed, tailed, vectored, byted, abbreviated, Gap, nothing, skipped, Parts, last, next, Bytes, last_byte, byte, token, written_tokens, gap_tokens, parts_tokens, bytes_tokens, meant, parts_meant}
 use Rattle.datum_reader.specs.Right.{datum_size, data_size}
 
 -- a tail that is a list loses its node

@@ -5,8 +5,9 @@ use Rattle.datum_reader.specs.declared.open.Frame.{Frame}
 use Rattle.datum_reader.specs.declared.open.Spot as code_spot
 use Rattle.scheme_tokens.specs.declared.fault.ReadFault.{ReadFault}
 use Rattle.scheme_tokens.specs.declared.fault.ReadFault.TheVariants as told
-use Rattle.datum_reader.specs.Data.{Datum}
-use Rattle.datum_reader.specs.Faults.{Spot, Stop, stop}
+use Rattle.scheme_model.specs.Data.{Datum}
+use Rattle.scheme_model.specs.Numbered.{Spot}
+use Rattle.scheme_model.specs.Faults.{Stop, stop}
 use Rattle.datum_reader.specs.Open as model
 use Rattle.datum_reader.specs.Views.{spot_of, opener_of, frame_of, stacked, stack_of, told_of, Fails, Refuses}
 

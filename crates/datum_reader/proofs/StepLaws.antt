@@ -7,13 +7,13 @@ use Rattle.datum_reader.specs.declared.open.Opener as code_opener
 use Rattle.datum_reader.specs.declared.open.Opener.TheVariants as openers
 use Rattle.scheme_tokens.specs.declared.fault.ReadFault.{ReadFault}
 use Rattle.scheme_tokens.specs.declared.fault.ReadFault.TheVariants as told
-use Rattle.scheme_tokens.specs.Tokens.{TokenKind}
+use Rattle.scheme_model.specs.Kinds.{TokenKind}
 use Rattle.scheme_tokens.specs.declared.token.Token as code_token
-use Rattle.scheme_tokens.specs.Views.{kind_of, tokens_of}
-use Rattle.datum_reader.specs.Data.{Datum}
-use Rattle.datum_reader.specs.Faults.{Spot, Stop, Numbered, number_from, bad_dot}
+use Rattle.datum_reader.specs.Views.{kind_of, tokens_of, tail_datum, data_of, spot_of, opener_of, frame_of, stack_of, Fails}
+use Rattle.scheme_model.specs.Data.{Datum}
+use Rattle.scheme_model.specs.Numbered.{Spot, Numbered, number_from}
+use Rattle.scheme_model.specs.Faults.{Stop, bad_dot}
 use Rattle.datum_reader.specs.Open.{Frame, State, state, Opener, in_list, in_vector, in_bytes, dotted, reopened, byte_of, byte_added, abbreviation, completed, completed_by, completes, closed, closed_by, dots, dotted_by, atoms, atoms_by, after, after_all}
-use Rattle.datum_reader.specs.Views.{tail_datum, data_of, spot_of, opener_of, frame_of, stack_of, Fails}
 use Rattle.datum_reader.proofs.StackLaws.{stack_push}
 
 pub completed_top : (d : Datum) (items : List Datum) (fs gs : List code_frame.Frame) (f : code_frame.Frame) (o : code_opener.Opener) → fs ≡ gs ++ f ∷ [] → f.opener ≡ o →

@@ -1,24 +1,29 @@
 -- A text is data exactly where reading says so, and else it stops where reading stops.
 use Rattle.std.proofs.Common.{◌≡◌, ℕ, ◌≤◌, List, [], ◌∷◌, ◌++◌, Option, Some, None, Result, Ok, Err, refl, sym, ap, ◌∙◌, subst, arith, append-nil, inl, inr, ◌⊎◌, MatchResult}
-use Rattle.scheme_tokens.specs.Reading.{Token, FaultAt, IsRead, IsSpelled}
+use Rattle.scheme_model.specs.Kinds.{Token}
 use Rattle.scheme_tokens.specs.declared.fault.ReadFault.{ReadFault}
 use Rattle.scheme_tokens.specs.declared.fault.ReadFault.TheVariants as faults
 use Rattle.scheme_tokens.specs.declared.token.Token as code_token
-use Rattle.scheme_tokens.specs.Views.{tokens_of, IsFront}
-use Rattle.datum_reader.specs.Data.{Datum}
-use Rattle.datum_reader.specs.Faults.{Stop, Numbered, number_from, token_stop}
+use Rattle.datum_reader.specs.Views.{tokens_of, data_of, told_of, Fails, Gives}
+use Rattle.scheme_tokens.specs.Views.{IsFront}
+use Rattle.scheme_model.specs.Data.{Datum}
+use Rattle.scheme_model.specs.Faults.{Stop}
+use Rattle.scheme_model.specs.Numbered.{Numbered, number_from}
+use Rattle.datum_reader.specs.Texts.{TextReads, IsReading, StopsAt, Explains}
 use Rattle.datum_reader.specs.Open.{State, state, after, after_all, goes_on, finished, left_open, ends, read}
-use Rattle.datum_reader.specs.Views.{data_of, told_of, Fails, Gives}
 use Rattle.datum_reader.specs.declared.datum.Datum as code
-use Rattle.datum_reader.specs.Written.{nothing, Parts, last, parts_tokens, parts_meant, parts_depth, IsReading}
-use Rattle.datum_reader.specs.Stopping.{AreData, CanGoOn, StopsAt, at_token, at_end, at_fault, Explains}
-use Rattle.scheme_tokens.proofs.Readings as readings
+use Rattle.scheme_model.specs.Written.{nothing, Parts, last, parts_tokens, parts_meant, parts_depth}
+use Rattle.scheme_model.specs.Stopping.{AreData, CanGoOn, at_token, at_end, at_fault}
+use Rattle.datum_reader.proofs.Seen.{text_once, front_reads}
 use Rattle.datum_reader.proofs.StepLaws.{stays_err}
 use Rattle.datum_reader.proofs.ReadLaws.{reading_reads}
 use Rattle.datum_reader.proofs.Passing.{pass_parts}
-use Rattle.datum_reader.proofs.Begun.{Begun, top, inside, start, opener_in, begun_items, begun_stack, begun_tokens, Sound, parts_from}
+use Rattle.scheme_model.specs.Begun.{Begun, top, inside, start, begun_tokens}
+use Rattle.datum_reader.proofs.Begun.{opener_in, begun_items, begun_stack, begun_state, Sound, parts_from}
 use Rattle.datum_reader.proofs.Completing.{parts_from-tokens, parts_from-meant, parts_from-depth}
 use Rattle.datum_reader.proofs.Reaching.{through}
+use Rattle.datum_reader.proofs.Refusing.{sound_is, is_sound, refused_of, refuses, end_refused_of, end_refuses}
+use Rattle.datum_reader.proofs.PassingBegun.{pass_begun}
 use Rattle.datum_reader.proofs.Ending.{can_go_on}
 
 -- ---- what is read is written so
@@ -38,7 +43,7 @@ same_state s u r h k = cc
 same_stop : (e f : Stop) (r : Result State Stop) → r ≡ Err e → r ≡ Err f → e ≡ f
 same_stop e f r h k = cc
 
-closed_reading : (b : Begun) (text : List ℕ) (ts : List Token) (ds : List Datum) → Sound b → IsSpelled ts text → ((rest : List Numbered) → begun_tokens b rest ≡ number_from 0 ts ++ rest) →
+closed_reading : (b : Begun) (text : List ℕ) (ts : List Token) (ds : List Datum) → Sound b → TextReads text ts None → ((rest : List Numbered) → begun_tokens b rest ≡ number_from 0 ts ++ rest) →
     finished (begun_items b) (begun_stack b) ≡ Ok ds → IsReading text ds
 closed_reading (top r g) text ts ds ok spelled joins h = record {
   tokens = ts;
@@ -50,14 +55,14 @@ closed_reading (top r g) text ts ds ok spelled joins h = record {
 }
 closed_reading (inside b s i) text ts ds ok spelled joins h = never_ok (left_open (opener_in i) s) ds (Err (left_open (opener_in i) s)) refl h
 
-read_reading : (text : List ℕ) (ts : List Token) (ds : List Datum) (r : Result State Stop) → after_all (Ok (state [] [])) (number_from 0 ts) ≡ r → IsSpelled ts text → ends r None ≡ Ok ds → IsReading text ds
+read_reading : (text : List ℕ) (ts : List Token) (ds : List Datum) (r : Result State Stop) → after_all (Ok (state [] [])) (number_from 0 ts) ≡ r → TextReads text ts None → ends r None ≡ Ok ds → IsReading text ds
 read_reading text ts ds (Ok s) e spelled h =
     let t = through (number_from 0 ts) (top start nothing) s (omega arith) e in
     closed_reading t.now text ts ds t.sound spelled t.tokens (ap (λ (q : State). finished q.items q.stack) t.is ∙ h)
 read_reading text ts ds (Err f) e spelled h = never_ok f ds (Err f) refl h
 
 -- the data that reading the tokens of a text gives are those of the text
-pub reading_of : (text : List ℕ) (ts : List Token) (ds : List Datum) → IsSpelled ts text → read ts None ≡ Ok ds → IsReading text ds
+pub reading_of : (text : List ℕ) (ts : List Token) (ds : List Datum) → TextReads text ts None → read ts None ≡ Ok ds → IsReading text ds
 reading_of text ts ds spelled h = read_reading text ts ds (after_all (Ok (state [] [])) (number_from 0 ts)) refl spelled h
 
 -- ---- where reading stops, no data go on
@@ -108,82 +113,107 @@ cut : (ts : List Numbered) (s : State) (e : Stop) → after_all (Ok s) ts ≡ Er
 cut [] s e h = never_state e s (Ok s) h refl
 cut (t ∷ ts) s e h = cut_from t ts s e (after t.kind t.spot s) (λ u k. cut ts u e k) refl h
 
-refused : (text : List ℕ) (ts : List Token) (end : Option FaultAt) (e : Stop) → IsRead ts end text → after_all (Ok (state [] [])) (number_from 0 ts) ≡ Err e → StopsAt text e
+refused : (text : List ℕ) (ts : List Token) (end : Option Stop) (e : Stop) → TextReads text ts end → after_all (Ok (state [] [])) (number_from 0 ts) ≡ Err e → StopsAt text e
 refused text ts end e reads h =
     let c = cut (number_from 0 ts) (state [] []) e h in
+    let t = through c.before (top start nothing) c.standing (omega arith) c.reads in
     let whole : after_all (Ok (state [] [])) (c.before ++ c.token ∷ []) ≡ Err e =
     after_all-append c.before (c.token ∷ []) (Ok (state [] [])) ∙ ap (λ (r : Result State Stop). after_all r (c.token ∷ [])) c.reads ∙ c.refuses in
     at_token ts end c.before c.token c.behind e reads c.joins
-    (record { goes_on = can_go_on c.before c.standing c.reads; stops = never_goes_on (c.before ++ c.token ∷ []) e whole; standing = c.standing; behind = c.reads; refuses = c.refuses })
+    (record {
+      goes_on = can_go_on c.before c.standing c.reads;
+      stops = never_goes_on (c.before ++ c.token ∷ []) e whole;
+      begun = t.now;
+      sound = sound_is t.now t.sound;
+      written = t.tokens [] ∙ append-nil c.before;
+      because = refused_of t.now c.token.kind c.token.spot e (ap (after c.token.kind c.token.spot) t.is ∙ c.refuses);
+    })
 
 same_end : (e f : Stop) (r : Result (List Datum) Stop) → r ≡ Err e → r ≡ Err f → e ≡ f
 same_end e f r h k = cc
 
-again : (f e : Stop) (end : Option FaultAt) (r : Result State Stop) → r ≡ Err f → ends r end ≡ Err e → r ≡ Err e
+again : (f e : Stop) (end : Option Stop) (r : Result State Stop) → r ≡ Err f → ends r end ≡ Err e → r ≡ Err e
 again f e None r is h = is ∙ ap (λ (q : Stop). Err q) (same_end f e (ends r None) (ap (λ (q : Result State Stop). ends q None) is) h)
 again f e (Some g) r is h = is ∙ ap (λ (q : Stop). Err q) (same_end f e (ends r (Some g)) (ap (λ (q : Result State Stop). ends q (Some g)) is) h)
 
-stops_from : (text : List ℕ) (ts : List Token) (end : Option FaultAt) (e : Stop) (r : Result State Stop) → IsRead ts end text → after_all (Ok (state [] [])) (number_from 0 ts) ≡ r → ends r end ≡ Err e → StopsAt text e
+stops_from : (text : List ℕ) (ts : List Token) (end : Option Stop) (e : Stop) (r : Result State Stop) → TextReads text ts end → after_all (Ok (state [] [])) (number_from 0 ts) ≡ r → ends r end ≡ Err e → StopsAt text e
 stops_from text ts None e (Ok s) reads is h =
-    at_end ts e reads (record { goes_on = can_go_on (number_from 0 ts) s is; stops = never_data (number_from 0 ts) s e is h; standing = s; behind = is; unfinished = h })
+    let t = through (number_from 0 ts) (top start nothing) s (omega arith) is in
+    at_end ts e reads
+    (record {
+      goes_on = can_go_on (number_from 0 ts) s is;
+      stops = never_data (number_from 0 ts) s e is h;
+      begun = t.now;
+      sound = sound_is t.now t.sound;
+      written = t.tokens [] ∙ append-nil (number_from 0 ts);
+      because = end_refused_of t.now e (ap (λ (q : State). finished q.items q.stack) t.is ∙ h);
+    })
 stops_from text ts (Some f) e (Ok s) reads is h =
-    subst (StopsAt text) (same_end (token_stop f) e (ends (Ok s) (Some f)) refl h) (at_fault ts f reads (can_go_on (number_from 0 ts) s is))
+    subst (StopsAt text) (same_end f e (ends (Ok s) (Some f)) refl h) (at_fault ts f reads (can_go_on (number_from 0 ts) s is))
 stops_from text ts None e (Err f) reads is h = refused text ts None e reads (is ∙ again f e None (Err f) refl h)
 stops_from text ts (Some g) e (Err f) reads is h = refused text ts (Some g) e reads (is ∙ again f e (Some g) (Err f) refl h)
 
 -- where reading the tokens of a text gives a fault, the text stops there
-pub stops_at : (text : List ℕ) (ts : List Token) (end : Option FaultAt) (e : Stop) → IsRead ts end text → read ts end ≡ Err e → StopsAt text e
+pub stops_at : (text : List ℕ) (ts : List Token) (end : Option Stop) (e : Stop) → TextReads text ts end → read ts end ≡ Err e → StopsAt text e
 stops_at text ts end e reads h = stops_from text ts end e (after_all (Ok (state [] [])) (number_from 0 ts)) reads refl h
 
-pub explained : (text : List ℕ) (ts : List Token) (end : Option FaultAt) (e : ReadFault) → IsRead ts end text → Fails e (read ts end) → Explains e text
+pub explained : (text : List ℕ) (ts : List Token) (end : Option Stop) (e : ReadFault) → TextReads text ts end → Fails e (read ts end) → Explains e text
 explained text ts end faults.Memory reads h = tt
 explained text ts end (faults.At number span) reads h = stops_at text ts end (record { number = number; start = span.start; end = span.end }) reads h
 
-ends_ok : (end : Option FaultAt) (r : Result State Stop) (ds : List Datum) → ends r end ≡ Ok ds → end ≡ None
+ends_ok : (end : Option Stop) (r : Result State Stop) (ds : List Datum) → ends r end ≡ Ok ds → end ≡ None
 ends_ok None r ds h = refl
-ends_ok (Some f) (Ok s) ds h = never_ok (token_stop f) ds (Err (token_stop f)) refl h
+ends_ok (Some f) (Ok s) ds h = never_ok f ds (Err f) refl h
 ends_ok (Some f) (Err e) ds h = never_ok e ds (Err e) refl h
 
 -- what is answered is what the text means
 pub found : (text : List ℕ) (tks : List code_token.Token) (fault : Option ReadFault) (ds : List Datum) → IsFront tks fault text →
-    ((ts : List Token) (end : Option FaultAt) → IsRead ts end text → read ts end ≡ Ok ds) → IsReading text ds
+    ((ts : List Token) (end : Option Stop) → TextReads text ts end → read ts end ≡ Ok ds) → IsReading text ds
 found text tks fault ds front exact =
-    let h = exact (tokens_of tks) front.0 front.1 in
-    let whole = ends_ok front.0 (after_all (Ok (state [] [])) (number_from 0 (tokens_of tks))) ds h in
-    reading_of text (tokens_of tks) ds (subst (λ (end : Option FaultAt). IsRead (tokens_of tks) end text) whole front.1) (ap (read (tokens_of tks)) (sym whole) ∙ h)
+    let f = front_reads text tks fault front in
+    let h = exact (tokens_of tks) f.0 f.1 in
+    let whole = ends_ok f.0 (after_all (Ok (state [] [])) (number_from 0 (tokens_of tks))) ds h in
+    reading_of text (tokens_of tks) ds (subst (λ (end : Option Stop). TextReads text (tokens_of tks) end) whole f.1) (ap (read (tokens_of tks)) (sym whole) ∙ h)
 
 -- a fault that is answered is where the text stops
 pub told : (text : List ℕ) (tks : List code_token.Token) (fault : Option ReadFault) (e : ReadFault) → IsFront tks fault text →
-    ((ts : List Token) (end : Option FaultAt) → IsRead ts end text → Fails e (read ts end)) → Explains e text
-told text tks fault e front exact = explained text (tokens_of tks) front.0 e front.1 (exact (tokens_of tks) front.0 front.1)
+    ((ts : List Token) (end : Option Stop) → TextReads text ts end → Fails e (read ts end)) → Explains e text
+told text tks fault e front exact =
+    let f = front_reads text tks fault front in
+    explained text (tokens_of tks) f.0 e f.1 (exact (tokens_of tks) f.0 f.1)
 
 -- ---- reading stops wherever a text does
 
-read_of : (ts : List Token) (end : Option FaultAt) (e : Stop) → after_all (Ok (state [] [])) (number_from 0 ts) ≡ Err e → read ts end ≡ Err e
+read_of : (ts : List Token) (end : Option Stop) (e : Stop) → after_all (Ok (state [] [])) (number_from 0 ts) ≡ Err e → read ts end ≡ Err e
 read_of ts None e h = ap (λ (r : Result State Stop). ends r None) h
 read_of ts (Some f) e h = ap (λ (r : Result State Stop). ends r (Some f)) h
 
-at_fault_read : (ts : List Token) (f : FaultAt) (r : Result State Stop) → after_all (Ok (state [] [])) (number_from 0 ts) ≡ r → CanGoOn (number_from 0 ts) → ends r (Some f) ≡ Err (token_stop f)
+at_fault_read : (ts : List Token) (f : Stop) (r : Result State Stop) → after_all (Ok (state [] [])) (number_from 0 ts) ≡ r → CanGoOn (number_from 0 ts) → ends r (Some f) ≡ Err f
 at_fault_read ts f (Ok s) is goes = refl
 at_fault_read ts f (Err e) is goes = absurd (never_goes_on (number_from 0 ts) e is goes)
 
-stop_read : (text : List ℕ) (e : Stop) → StopsAt text e → (ts : List Token) × (end : Option FaultAt) × IsRead ts end text × (read ts end ≡ Err e)
+begun_read : (b : Begun) (ts : List Numbered) → begun_tokens b [] ≡ ts → Sound b → after_all (Ok (state [] [])) ts ≡ Ok (begun_state b)
+begun_read b ts e ok = ap (after_all (Ok (state [] []))) (sym e) ∙ pass_begun b [] ok
+
+stop_read : (text : List ℕ) (e : Stop) → StopsAt text e → (ts : List Token) × (end : Option Stop) × TextReads text ts end × (read ts end ≡ Err e)
 stop_read text e (at_token ts end before t behind fault reads joins r) = (
   ts,
   end,
   reads,
   read_of ts end fault
-      (ap (after_all (Ok (state [] []))) joins ∙ after_all-append before (t ∷ behind) (Ok (state [] [])) ∙ ap (λ (q : Result State Stop). after_all q (t ∷ behind)) r.behind
-      ∙ ap (λ (q : Result State Stop). after_all q behind) r.refuses ∙ stays_err fault behind),
+      (ap (after_all (Ok (state [] []))) joins ∙ after_all-append before (t ∷ behind) (Ok (state [] []))
+      ∙ ap (λ (q : Result State Stop). after_all q (t ∷ behind)) (begun_read r.begun before r.written (is_sound r.begun r.sound))
+      ∙ ap (λ (q : Result State Stop). after_all q behind) (refuses r.begun t.kind t.spot fault r.because) ∙ stays_err fault behind),
 )
-stop_read text e (at_end ts fault reads r) = (ts, None, reads, ap (λ (q : Result State Stop). ends q None) r.behind ∙ r.unfinished)
+stop_read text e (at_end ts fault reads r) =
+    (ts, None, reads, ap (λ (q : Result State Stop). ends q None) (begun_read r.begun (number_from 0 ts) r.written (is_sound r.begun r.sound)) ∙ end_refuses r.begun fault r.because)
 stop_read text e (at_fault ts f reads goes) = (ts, Some f, reads, at_fault_read ts f (after_all (Ok (state [] [])) (number_from 0 ts)) refl goes)
 
 same_fault : (e f : Stop) (r : Result (List Datum) Stop) → r ≡ Err e → r ≡ Err f → e ≡ f
 same_fault e f r h k = cc
 
 -- where a text stops, the answer is this fault
-pub stops : (result : Result (List code.Datum) ReadFault) (text : List ℕ) (f : Stop) → ((ts : List Token) (end : Option FaultAt) → IsRead ts end text → Gives data_of result (read ts end)) → StopsAt text f →
+pub stops : (result : Result (List code.Datum) ReadFault) (text : List ℕ) (f : Stop) → ((ts : List Token) (end : Option Stop) → TextReads text ts end → Gives data_of result (read ts end)) → StopsAt text f →
     MatchResult result (λ _. ⊥) (λ e. (e ≡ faults.Memory) ⊎ (e ≡ told_of f))
 stops (Ok items) text f exact h = let s = stop_read text f h in never_ok f (data_of items) (read s.0 s.1) s.3 (exact s.0 s.1 s.2)
 stops (Err faults.Memory) text f exact h = inl refl
@@ -196,11 +226,11 @@ pub one_stop : (text : List ℕ) (e f : Stop) → StopsAt text e → StopsAt tex
 one_stop text e f h k =
     let s = stop_read text e h in
     let t = stop_read text f k in
-    let o = readings.one_reading s.0 t.0 s.1 t.1 text s.2 t.2 in
+    let o = text_once text s.0 t.0 s.1 t.1 s.2 t.2 in
     same_fault e f (read s.0 s.1) s.3 ((λ i. read (o.0 i) (o.1 i)) ∙ t.3)
 
 pub reads_or_stops : (text : List ℕ) (ds : List Datum) (e : Stop) → IsReading text ds → ¬ StopsAt text e
 reads_or_stops text ds e h k =
     let s = stop_read text e k in
-    let o = readings.one_reading h.tokens s.0 None s.1 text h.spelled s.2 in
+    let o = text_once text h.tokens s.0 None s.1 h.spelled s.2 in
     never_ok e ds (read h.tokens None) ((λ i. read (o.0 i) (o.1 i)) ∙ s.3) (reading_reads text ds h)

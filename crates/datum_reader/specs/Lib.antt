@@ -1,9 +1,6 @@
-pub mod Data
-pub mod Faults
 pub mod Open
 pub mod Right
 pub mod Seeded
 pub mod Seeding
-pub mod Stopping
+pub mod Texts
 pub mod Views
-pub mod Written

@@ -1,9 +1,10 @@
--- What is open while data are read from tokens, and why a token can't go on (R7RS 7.1.2).
+-- What is open while data are read from tokens, and how each token changes it (R7RS 7.1.2).
 use Rattle.std.specs.Prelude.{ℕ, ◌+◌, ◌==◌, List, [], ◌∷◌, ◌++◌, length, Option, Some, None, Result, Ok, Err, nat_lt, if◌then◌else◌}
-use Rattle.scheme_tokens.specs.Tokens.{TokenKind, Paren, VectorParen, BytesParen, Close, Dot, Skip, Marked, Atomic, Leaf, Name, Numeral, Quoted, Character, Truth}
-use Rattle.scheme_tokens.specs.Reading.{Token, FaultAt}
-use Rattle.datum_reader.specs.Data.{Datum, Place, atom, list, vector, bytes, none, row, tail_of, place_of}
-use Rattle.datum_reader.specs.Faults.{Spot, Numbered, number_from, Stop, open_list, stray_close, bad_dot, bad_byte, too_deep, missing_datum, token_stop, is_byte}
+use Rattle.scheme_model.specs.Kinds.{TokenKind, Paren, VectorParen, BytesParen, Close, Dot, Skip, Marked, Atomic, Name, Numeral, Quoted, Character, Truth, Token}
+use Rattle.scheme_model.specs.Data.{Datum, atom, list, vector, bytes, none, row, tail_of, place_of}
+use Rattle.scheme_model.specs.Numbered.{Spot, Numbered, number_from, is_byte}
+pub use Rattle.scheme_model.specs.Numbered.{at, between, up_to}
+use Rattle.scheme_model.specs.Faults.{Stop, open_list, stray_close, bad_dot, bad_byte, too_deep, missing_datum}
 
 -- what is open: a list, before or behind its dot, or behind its tail; a vector; a bytevector with its numerals so far; an
 -- abbreviation; a datum that is skipped
@@ -37,17 +38,6 @@ depth_of (f ∷ fs) = f.depth
 
 abbrev pub reopened : Opener → Frame → Frame
 reopened o f = record f { opener = o }
-
--- one token's place, and from one up to another
-abbrev pub at : Spot → Place
-at t = record { first = t.number; last = t.number; start = t.start; end = t.end }
-
-abbrev pub between : Spot → Spot → Place
-between t u = record { first = t.number; last = u.number; start = t.start; end = u.end }
-
--- a mark's token up to the end of its datum
-abbrev pub up_to : Spot → Place → Place
-up_to t p = record { first = t.number; last = p.last; start = t.start; end = p.end }
 
 -- why no datum may begin there, if none may: behind a tail, and in a bytevector
 abbrev pub refused_by : Opener → Spot → Option Stop
@@ -193,11 +183,11 @@ abbrev pub finished : List Datum → List Frame → Result (List Datum) Stop
 finished items [] = Ok items
 finished items (f ∷ fs) = Err (left_open f.opener f.spot)
 
-abbrev pub ends : Result State Stop → Option FaultAt → Result (List Datum) Stop
+abbrev pub ends : Result State Stop → Option Stop → Result (List Datum) Stop
 ends (Ok s) None = finished s.items s.stack
-ends (Ok s) (Some f) = Err (token_stop f)
+ends (Ok s) (Some f) = Err f
 ends (Err e) end = Err e
 
 -- the data that tokens form, behind which their text ends or a fault of tokens comes; or the first fault
-abbrev pub read : List Token → Option FaultAt → Result (List Datum) Stop
+abbrev pub read : List Token → Option Stop → Result (List Datum) Stop
 read ts end = ends (after_all (Ok (state [] [])) (number_from 0 ts)) end

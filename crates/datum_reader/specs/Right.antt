@@ -1,10 +1,10 @@
 -- Data as reading gives them: what a tree can be made of.
 use Rattle.std.specs.Prelude.{◌≡◌, ◌⊎◌, ℕ, ◌+◌, ◌≤◌, max, Bool, true, false, List}
 use Rattle.ls_base.specs.declared.limits.TheConstants.{MAX_TEXT, MAX_TREE_NODES, MAX_TREE_DEPTH}
-use Rattle.scheme_tokens.specs.Tokens.{TokenKind, Paren, VectorParen, BytesParen, Close, Dot, Skip, Marked, Atomic}
+use Rattle.scheme_model.specs.Kinds.{TokenKind, Paren, VectorParen, BytesParen, Close, Dot, Skip, Marked, Atomic}
 use Rattle.scheme_tokens.specs.Words.{byte_count}
-use Rattle.datum_reader.specs.Data.{Datum, atom, list, vector, bytes, Data, none, part, tail, row}
-use Rattle.datum_reader.specs.Written.{IsReading}
+use Rattle.scheme_model.specs.Data.{Datum, atom, list, vector, bytes, Data, none, part, tail, row}
+use Rattle.datum_reader.specs.Texts.{IsReading}
 
 -- the datum stands in this one, or in these
 abbrev mutual

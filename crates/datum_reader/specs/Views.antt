@@ -4,7 +4,9 @@ use Rattle.std.specs.Global.{Box}
 use Rattle.std.specs.declared.alloc.Global.{Global}
 use Rattle.std.specs.Str.{chars}
 use Rattle.ls_base.specs.declared.places.Span.{Span}
-use Rattle.scheme_tokens.specs.Views.{kind_of}
+use Rattle.scheme_tokens.specs.declared.token.TokenKind as code_kind
+use Rattle.scheme_tokens.specs.declared.token.TokenKind.TheVariants as kinds
+use Rattle.scheme_tokens.specs.declared.token.Token as code_token
 use Rattle.scheme_tokens.specs.declared.fault.ReadFault as told
 use Rattle.scheme_tokens.specs.declared.fault.ReadFault.TheVariants as faults
 use Rattle.datum_reader.specs.declared.datum.Datum as code
@@ -19,9 +21,34 @@ use Rattle.datum_reader.specs.declared.open.Opener as code_opener
 use Rattle.datum_reader.specs.declared.open.Opener.TheVariants as openers
 use Rattle.datum_reader.specs.declared.open.Frame as code_frame
 use Rattle.datum_reader.specs.declared.open.State as code_state
-use Rattle.datum_reader.specs.Data.{Place, Datum, atom, list, vector, bytes, Data, none, tail, row}
-use Rattle.datum_reader.specs.Faults.{Spot, Stop, bad_byte}
+use Rattle.scheme_model.specs.Kinds.{TokenKind, Paren, VectorParen, BytesParen, Close, Dot, Skip, Marked, Quote, Quasi, Unquote, Splice, Atomic, Name, Numeral, Quoted, Character, Truth, Token}
+use Rattle.scheme_model.specs.Data.{Place, Datum, atom, list, vector, bytes, Data, none, tail, row}
+use Rattle.scheme_model.specs.Numbered.{Spot}
+use Rattle.scheme_model.specs.Faults.{Stop, bad_byte}
 use Rattle.datum_reader.specs.Open.{Opener, in_list, dotted, ended, in_vector, in_bytes, marked, skipping, Frame, State}
+
+abbrev pub kind_of : code_kind.TokenKind → TokenKind
+kind_of kinds.Paren = Paren
+kind_of kinds.VectorParen = VectorParen
+kind_of kinds.BytesParen = BytesParen
+kind_of kinds.Close = Close
+kind_of kinds.Dot = Dot
+kind_of kinds.Quote = Marked Quote
+kind_of kinds.Quasi = Marked Quasi
+kind_of kinds.Unquote = Marked Unquote
+kind_of kinds.Splice = Marked Splice
+kind_of kinds.Skip = Skip
+kind_of (kinds.Name name bars) = Atomic (Name (chars name) bars)
+kind_of (kinds.Numeral text) = Atomic (Numeral (chars text))
+kind_of (kinds.Quoted text) = Atomic (Quoted (chars text))
+kind_of (kinds.Char c) = Atomic (Character c)
+kind_of (kinds.Bool b) = Atomic (Truth b)
+
+abbrev pub token_of : code_token.Token → Token
+token_of t = record { kind = kind_of t.kind; start = t.span.start; end = t.span.end }
+
+abbrev pub tokens_of : List code_token.Token → List Token
+tokens_of ts = map token_of ts
 
 -- what a list ends with, whose tail is seen already
 abbrev pub end_of : Option (Box Datum) → Data
@@ -124,3 +151,8 @@ Refuses (Err (faults.At number span)) o = o ≡ Some (record { number = number; 
 abbrev pub IsNumeral : Result (List ℕ) told.ReadFault → Option (List ℕ) → Spot → Type 0
 IsNumeral (Ok text) o t = o ≡ Some (chars text)
 IsNumeral (Err e) o t = (o ≡ None) × (e ≡ told_of (bad_byte t))
+
+-- how a text ends, as callers are told it
+abbrev pub told_end : Option Stop → Option told.ReadFault
+told_end None = None
+told_end (Some s) = Some (told_of s)

@@ -1,7 +1,7 @@
 //! The numerals of bytevectors (R7RS 7.1.2).
 ghost use Rattle.std.specs.Prelude.{◌≡◌};
 ghost use Rattle.std.specs.Str.{chars};
-ghost use Rattle.datum_reader.specs.Faults.{is_byte};
+ghost use Rattle.scheme_model.specs.Numbered.{is_byte};
 
 use ls_base::split_char;
 

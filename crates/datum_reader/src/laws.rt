@@ -2,11 +2,10 @@
 ghost use Rattle.std.specs.Prelude.{◌≡◌, ◌≤◌, List, ℕ, Some, slice_get};
 ghost use Rattle.ls_base.specs.declared.limits.TheConstants.{MAX_TEXT};
 ghost use Rattle.scheme_tokens.specs.Words.{byte_count};
-ghost use Rattle.datum_reader.specs.Data.{Datum};
-ghost use Rattle.datum_reader.specs.Faults.{Stop};
+ghost use Rattle.scheme_model.specs.Data.{Datum};
+ghost use Rattle.scheme_model.specs.Faults.{Stop};
 ghost use Rattle.datum_reader.specs.Right.{IsIn, WasRead, CanSeed};
-ghost use Rattle.datum_reader.specs.Stopping.{StopsAt};
-ghost use Rattle.datum_reader.specs.Written.{IsReading};
+ghost use Rattle.datum_reader.specs.Texts.{StopsAt, IsReading};
 
 /// A text has one list of data at most.
 pub fn one_reading()

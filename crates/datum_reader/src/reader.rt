@@ -1,14 +1,13 @@
 //! The data of a text (R7RS 7.1.2).
 ghost use Rattle.std.specs.Prelude.{◌≡◌, ◌⊎◌, ◌^◌, ◌<◌, [], length, List, Option, Ok, IfOk, IfErr, MatchResult, vec_len};
 ghost use Rattle.std.specs.Str.{chars};
-ghost use Rattle.scheme_tokens.specs.Reading as tokens;
-ghost use Rattle.scheme_tokens.specs.Views.{tokens_of};
-ghost use Rattle.datum_reader.specs.Data as spec;
-ghost use Rattle.datum_reader.specs.Faults.{number_from, Stop};
+ghost use Rattle.scheme_model.specs.Kinds as kinds;
+ghost use Rattle.datum_reader.specs.Views.{tokens_of, data_of, spot_of, opener_of, stack_of, state_of, told_of, Gives};
+ghost use Rattle.scheme_model.specs.Data as spec;
+ghost use Rattle.scheme_model.specs.Numbered.{number_from};
+ghost use Rattle.scheme_model.specs.Faults.{Stop};
 ghost use Rattle.datum_reader.specs.Open as model;
-ghost use Rattle.datum_reader.specs.Stopping.{StopsAt, Explains};
-ghost use Rattle.datum_reader.specs.Written.{IsReading};
-ghost use Rattle.datum_reader.specs.Views.{data_of, spot_of, opener_of, stack_of, state_of, told_of, Gives};
+ghost use Rattle.datum_reader.specs.Texts.{TextReads, IsReading, StopsAt, Explains};
 
 use crate::datum::Datum;
 use crate::open::{Frame, MISSING_DATUM, OPEN_LIST, Opener, State, fault};
@@ -63,7 +62,7 @@ fn finished(state: State) -> Result<Items<Datum>, ReadFault>
 /// The data that a text's tokens form, or the first fault.
 fn read_text(alloc: Global, text: &str) -> Result<Items<Datum>, ReadFault>
     requires { length text.now < 2 ^ 32 }
-    ensures exact { (ts : List tokens.Token) (end : Option tokens.FaultAt) → tokens.IsRead ts end (chars text.now) → Gives data_of result (model.read ts end) }
+    ensures exact { (ts : List kinds.Token) (end : Option Stop) → TextReads (chars text.now) ts end → Gives data_of result (model.read ts end) }
     ensures found { IfOk result (λ items. IsReading (chars text.now) (data_of items)) }
     ensures fault { IfErr result (λ e. Explains e (chars text.now)) }
 {

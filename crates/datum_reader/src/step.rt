@@ -1,11 +1,10 @@
 //! How a token changes what is open (R7RS 7.1.2).
 ghost use Rattle.std.specs.Prelude.{◌≡◌, ◌++◌, ℕ, List, [], ◌∷◌, OnOk, IfOk, map};
 ghost use Rattle.std.specs.Str.{chars};
-ghost use Rattle.scheme_tokens.specs.Tokens.{BytesParen};
-ghost use Rattle.scheme_tokens.specs.Views.{kind_of};
-ghost use Rattle.datum_reader.specs.Data.{list, atom, row, none};
+ghost use Rattle.scheme_model.specs.Kinds.{BytesParen};
+ghost use Rattle.datum_reader.specs.Views.{kind_of, datum_of, tail_datum, data_of, spot_of, opener_of, frame_of, stack_of, state_of, Moves, Refuses, IsNumeral};
+ghost use Rattle.scheme_model.specs.Data.{list, atom, row, none};
 ghost use Rattle.datum_reader.specs.Open as model;
-ghost use Rattle.datum_reader.specs.Views.{datum_of, tail_datum, data_of, spot_of, opener_of, frame_of, stack_of, state_of, Moves, Refuses, IsNumeral};
 
 use crate::bytes::is_byte;
 use crate::close::{closed, make_datum};

@@ -1,6 +1,6 @@
 //! Data that are read, of which a list's parts may not be joined yet: lists that are each other's tails (R7RS 6.4) are joined once.
 ghost use Rattle.std.specs.Prelude.{◌≡◌, IfOk};
-ghost use Rattle.datum_reader.specs.Data.{Data, list, row, tail, tail_of};
+ghost use Rattle.scheme_model.specs.Data.{Data, list, row, tail, tail_of};
 ghost use Rattle.datum_reader.specs.Open as model;
 ghost use Rattle.datum_reader.specs.Views.{data_of, datum_of, shape_of, placed, spot_of, chained, rest_data, tail_datum};
 

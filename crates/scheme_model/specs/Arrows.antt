@@ -1,9 +1,9 @@
 -- Arrows: the pairs of a binder and one of its uses (DrRacket's Check Syntax), here those of references.
 use Rattle.std.specs.Prelude.{ℕ, suc, List, [], ◌∷◌, ◌++◌, Option, Some, None, if◌then◌else◌}
 use Rattle.scheme_model.specs.declared.Occ.{Occ}
-use Rattle.scheme_model.specs.Reading.{Datum, Data, none, datum}
+use Rattle.scheme_model.specs.Reading.{Data, none, datum}
 use Rattle.scheme_model.specs.Identifiers.{Number, Name, same_number, same_name}
-use Rattle.scheme_model.specs.Trees.{Atom, Tree, form_tree}
+use Rattle.scheme_model.specs.Trees.{Tree, form_tree}
 use Rattle.scheme_model.specs.Meaning.{Meaning, Local, Global, Standard, Free}
 use Rattle.scheme_model.specs.Cores.{Target, Binder, Definition, Core, Ref, Const, Quote, Lambda, Call, Body, Cores, no_cores, core, Item, Expression, Define}
 use Rattle.scheme_model.specs.UnitExpansion.{UnitForm, ExpandedUnit, expand_unit}

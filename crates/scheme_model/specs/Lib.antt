@@ -11,5 +11,13 @@ pub mod Shapes
 pub mod Expression
 pub mod UnitExpansion
 pub mod Arrows
+pub mod Kinds
+pub mod Data
+pub mod Numbered
+pub mod Faults
+pub mod Written
+pub mod Begun
+pub mod Stopping
+pub mod DataTrees
 pub mod Texts
 pub mod Session

@@ -1,5 +1,5 @@
 -- Data, and how tokens form them (R7RS 7.1.2).
-use Rattle.std.specs.Prelude.{◌≡◌, ℕ, zero, suc, ◌+◌, max, List, [], ◌∷◌, Option, Some, None}
+use Rattle.std.specs.Prelude.{◌≡◌, ℕ, suc, max, List, [], ◌∷◌}
 use Rattle.std.specs.Str.{chars}
 use Rattle.scheme_model.specs.Tokens.{Leaf, Mark, TokenKind, Paren, Close, Marked, Atomic, Token, IsSpelled}
 

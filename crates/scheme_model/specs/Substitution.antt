@@ -1,5 +1,5 @@
 -- Shallow substitution: each leaf that is exactly one identifier becomes another.
-use Rattle.std.specs.Prelude.{ℕ, suc, List, [], ◌∷◌, if◌then◌else◌}
+use Rattle.std.specs.Prelude.{List, [], ◌∷◌, if◌then◌else◌}
 use Rattle.scheme_model.specs.Identifiers.{Name, Number, Var, same_name}
 use Rattle.scheme_model.specs.Trees.{Trees, map_trees}
 

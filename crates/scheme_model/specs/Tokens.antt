@@ -1,6 +1,6 @@
 -- Tokens, and how a text is made of them (R7RS 7.1.1). A text is a list of characters; spans count bytes. The kinds
 -- that stand here are those of small programs.
-use Rattle.std.specs.Prelude.{◌≡◌, ℕ, ◌+◌, List, [], ◌∷◌, ◌++◌, Bool, true, false, ◌||◌, ◌&&◌, not, ◌==◌, nat_le, sum_by}
+use Rattle.std.specs.Prelude.{◌≡◌, ℕ, ◌+◌, List, [], ◌∷◌, ◌++◌, Bool, true, false, ◌||◌, ◌&&◌, ◌==◌, nat_le, sum_by}
 use Rattle.std.specs.List.{list_all}
 use Rattle.std.specs.Char.{len_utf8}
 

@@ -1,14 +1,13 @@
 -- The expansion of a program's forms (R7RS 5.1, 5.3). First the forms are gone through in order: a definition takes
 -- effect at once for all forms, and anything else is set aside. Then what was set aside is expanded in order.
 use Rattle.std.specs.Prelude.{ℕ, suc, List, [], ◌∷◌, ◌++◌, Bool, false, ◌||◌, ◌&&◌, ◌==◌, Option, Some, None, Result, Ok, Err, if◌then◌else◌}
-use Rattle.scheme_model.specs.declared.Occ.{Occ}
 use Rattle.scheme_model.specs.Identifiers.{Name, same_name}
-use Rattle.scheme_model.specs.Trees.{Atom, Tree, name, atom, list, vector, Trees, Tail}
+use Rattle.scheme_model.specs.Trees.{Tree, name, atom, list, vector, Trees, Tail}
 use Rattle.scheme_model.specs.StandardNames.{Keyword, IsQuote, IsLambda, IsDefine, is_base}
 use Rattle.scheme_model.specs.Meaning.{Meaning, Standard, World}
-use Rattle.scheme_model.specs.Cores.{Core, Definition, Item, Expression, Define}
-use Rattle.scheme_model.specs.Steps.{Fault, State, Outcome, done, failed, Step, ◌>>=◌}
-use Rattle.scheme_model.specs.Shapes.{NamePart, Clause, DefinitionShape, Variable, Procedure, definition_of}
+use Rattle.scheme_model.specs.Cores.{Definition, Item, Expression, Define}
+use Rattle.scheme_model.specs.Steps.{Fault, Outcome, done, failed, Step, ◌>>=◌}
+use Rattle.scheme_model.specs.Shapes.{NamePart, DefinitionShape, Variable, Procedure, definition_of}
 use Rattle.scheme_model.specs.Expression.{Setting, head_keyword, expand, procedure}
 
 -- a form that was gone through: a definition with what is to be expanded, or an expression

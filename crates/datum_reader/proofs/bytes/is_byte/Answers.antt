@@ -2,7 +2,7 @@ use Rattle.std.proofs.Common.{◌∙◌, ◌+◌, ◌*◌, ap, sym, arith}
 use Rattle.std.specs.Str.{chars}
 use Rattle.std.specs.Char.{digit_value}
 use Rattle.std.proofs.lemmas.Str.{chars-nil}
-use Rattle.datum_reader.specs.Faults.{is_byte}
+use Rattle.scheme_model.specs.Numbered.{is_byte}
 use Rattle.datum_reader.proofs.ByteLaws.{capped_byte, digit_more, digit_of}
 use Rattle.datum_reader.proofs.bytes.is_byte.Goals as goal
 

@@ -2,7 +2,7 @@ use Rattle.std.proofs.Common.{◌≡◌, ◌≤◌, length}
 use denote.Text.{Utf8}
 use denote.Shadow.{shadow}
 use Rattle.std.specs.Str.{chars}
-use Rattle.datum_reader.specs.Faults.{is_byte}
+use Rattle.scheme_model.specs.Numbered.{is_byte}
 use Rattle.datum_reader.proofs.bytes.is_byte.Given as goal
 
 abbrev pub invariant-loop-c : goal.invariant-loop-c

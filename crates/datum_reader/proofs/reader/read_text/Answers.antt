@@ -1,10 +1,11 @@
 use Rattle.std.proofs.Common.{◌≡◌, List, Option, Ok}
 use Rattle.std.specs.Str.{chars}
 use Rattle.std.proofs.lemmas.Result.{err_from_is_err_and}
-use Rattle.scheme_tokens.specs.Reading.{Token, FaultAt, IsRead}
-use Rattle.scheme_tokens.specs.Views.{tokens_of}
+use Rattle.scheme_model.specs.Kinds.{Token}
+use Rattle.scheme_model.specs.Faults.{Stop}
+use Rattle.datum_reader.specs.Texts.{TextReads}
+use Rattle.datum_reader.specs.Views.{tokens_of, state_of, data_of, Fails}
 use Rattle.datum_reader.specs.Open.{read}
-use Rattle.datum_reader.specs.Views.{state_of, data_of, Fails}
 use Rattle.datum_reader.proofs.ReadLaws.{one_front, fails_within, fails_end, reads_end, fails_token}
 use Rattle.datum_reader.proofs.Stops as stops
 use Rattle.datum_reader.proofs.reader.read_text.Goals as goal
@@ -15,7 +16,7 @@ returns-in_err-state c =
     let text = chars c.args.text.now in
     let front = c.in_ok-front.front in
     let e = c.in_err-state.field-0.0 in
-    let exact : (ts : List Token) (end : Option FaultAt) → IsRead ts end text → Fails e (read ts end) = λ ts end h.
+    let exact : (ts : List Token) (end : Option Stop) → TextReads text ts end → Fails e (read ts end) = λ ts end h.
     let o = one_front text front.tokens c.into_vec.result.items front.fault ts end c.in_ok-front.ensures.front c.into_vec.ensures h in
     fails_within e (tokens_of c.into_vec.result.items) ts end o.0 c.in_err-state.ensures in
     rw (p.1, p.2) (record { exact = exact; found = tt; fault = stops.told text front.tokens front.fault e c.in_ok-front.ensures.front exact })
@@ -26,7 +27,7 @@ returns-in_err-finished-in-None c =
     let text = chars c.args.text.now in
     let front = c.in_ok-front.front in
     let e = c.in_err-finished-in-None.field-0.0 in
-    let exact : (ts : List Token) (end : Option FaultAt) → IsRead ts end text → Fails e (read ts end) = λ ts end h.
+    let exact : (ts : List Token) (end : Option Stop) → TextReads text ts end → Fails e (read ts end) = λ ts end h.
     let o = one_front text front.tokens c.into_vec.result.items front.fault ts end c.in_ok-front.ensures.front c.into_vec.ensures h in
     fails_end e (state_of c.in_ok-state.state) (tokens_of c.into_vec.result.items) ts front.fault end o.0 c.in_ok-state.ensures o.1 c.in-None.is c.in_err-finished-in-None.ensures in
     rw (p.1, p.2) (record { exact = exact; found = tt; fault = stops.told text front.tokens front.fault e c.in_ok-front.ensures.front exact })
@@ -36,7 +37,7 @@ returns-in-Some c =
     let text = chars c.args.text.now in
     let front = c.in_ok-front.front in
     let e = c.in-Some.fault in
-    let exact : (ts : List Token) (end : Option FaultAt) → IsRead ts end text → Fails e (read ts end) = λ ts end h.
+    let exact : (ts : List Token) (end : Option Stop) → TextReads text ts end → Fails e (read ts end) = λ ts end h.
     let o = one_front text front.tokens c.into_vec.result.items front.fault ts end c.in_ok-front.ensures.front c.into_vec.ensures h in
     fails_token e (state_of c.in_ok-state.state) (tokens_of c.into_vec.result.items) ts front.fault end o.0 c.in_ok-state.ensures o.1 c.in-Some.is in
     record { exact = exact; found = tt; fault = stops.told text front.tokens front.fault e c.in_ok-front.ensures.front exact }
@@ -46,7 +47,7 @@ returns-in_ok-finished-in-None c =
     let text = chars c.args.text.now in
     let front = c.in_ok-front.front in
     let ds = data_of c.in_ok-finished-in-None.field-0 in
-    let exact : (ts : List Token) (end : Option FaultAt) → IsRead ts end text → read ts end ≡ Ok ds = λ ts end h.
+    let exact : (ts : List Token) (end : Option Stop) → TextReads text ts end → read ts end ≡ Ok ds = λ ts end h.
     let o = one_front text front.tokens c.into_vec.result.items front.fault ts end c.in_ok-front.ensures.front c.into_vec.ensures h in
     reads_end ds (state_of c.in_ok-state.state) (tokens_of c.into_vec.result.items) ts front.fault end o.0 c.in_ok-state.ensures o.1 c.in-None.is c.in_ok-finished-in-None.ensures in
     record { exact = exact; found = stops.found text front.tokens front.fault ds c.in_ok-front.ensures.front exact; fault = tt }

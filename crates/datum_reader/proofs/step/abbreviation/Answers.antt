@@ -1,5 +1,5 @@
 use Rattle.std.proofs.Common.{◌∙◌, ap}
-use Rattle.datum_reader.specs.Data.{Datum}
+use Rattle.scheme_model.specs.Data.{Datum}
 use Rattle.datum_reader.specs.Open as model
 use Rattle.datum_reader.specs.Views.{spot_of, data_of}
 use Rattle.datum_reader.proofs.DatumLaws.{abbreviated}

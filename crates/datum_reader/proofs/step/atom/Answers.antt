@@ -1,7 +1,6 @@
 use Rattle.std.proofs.Common.{◌∙◌, ap, sym, Ok, subst}
-use Rattle.scheme_tokens.specs.Views.{kind_of}
+use Rattle.datum_reader.specs.Views.{kind_of, spot_of, opener_of, data_of, Fails}
 use Rattle.std.proofs.lemmas.Result.{err_from_is_err_and}
-use Rattle.datum_reader.specs.Views.{spot_of, opener_of, data_of, Fails}
 use Rattle.datum_reader.proofs.StackLaws.{told_fails}
 use Rattle.datum_reader.proofs.StepLaws.{atoms_top}
 use Rattle.datum_reader.proofs.step.atom.Goals as goal

@@ -1,5 +1,5 @@
 use Rattle.std.proofs.Common.{[], ◌∷◌, ◌++◌, ap, ◌∙◌}
-use Rattle.datum_reader.specs.Data.{Datum}
+use Rattle.scheme_model.specs.Data.{Datum}
 use Rattle.datum_reader.specs.Views.{data_of}
 use Rattle.datum_reader.proofs.DatumLaws.{data_of-append}
 use Rattle.datum_reader.proofs.StackLaws.{stack_push, same_state}

@@ -1,5 +1,5 @@
 use Rattle.std.proofs.Common.{◌≡◌, vec_len}
-use Rattle.datum_reader.specs.Data.{Data, row}
+use Rattle.scheme_model.specs.Data.{Data, row}
 use Rattle.datum_reader.specs.Views.{data_of, chained}
 use Rattle.datum_reader.proofs.tail.joined.Given as goal
 

@@ -1,11 +1,9 @@
 -- Data as they are written (R7RS 7.1.2): by their tokens, with `#;` and the data that it skips between any two of them.
-use Rattle.std.specs.Prelude.{◌≡◌, ◌≤◌, ◌+◌, ℕ, suc, max, true, List, [], ◌∷◌}
-use Rattle.scheme_tokens.specs.Tokens as kinds
-use Rattle.scheme_tokens.specs.Tokens.{Leaf, Mark, TokenKind}
-use Rattle.scheme_tokens.specs.Reading.{Token, IsSpelled}
-use Rattle.datum_reader.specs.Data.{Datum, atom, list, vector, bytes, none, part, row, tail_of, place_of}
-use Rattle.datum_reader.specs.Faults.{Spot, Numbered, number_from, is_byte}
-use Rattle.datum_reader.specs.Open.{at, between, up_to}
+use Rattle.std.specs.Prelude.{◌≡◌, ◌+◌, ℕ, max, true, List, [], ◌∷◌}
+use Rattle.scheme_model.specs.Kinds as kinds
+use Rattle.scheme_model.specs.Kinds.{Leaf, Mark, TokenKind}
+use Rattle.scheme_model.specs.Data.{Datum, atom, list, vector, bytes, none, part, row, tail_of, place_of}
+use Rattle.scheme_model.specs.Numbered.{Spot, Numbered, at, between, up_to, is_byte}
 
 -- an atom; a list; a list with a dotted tail, `( first more . tail )`, with gaps; a vector; a bytevector; an abbreviation
 mutual
@@ -97,12 +95,3 @@ abbrev mutual
   pub bytes_depth : Bytes → ℕ
   bytes_depth (last_byte g) = gap_depth g
   bytes_depth (byte g s text fits bs) = max (gap_depth g) (bytes_depth bs)
-
--- the text's tokens are those of data as they are written, and these mean the data; at most 400 are open
-pub record IsReading (text : List ℕ) (ds : List Datum) : Type 0 where
-  pub tokens : List Token
-  pub written : Parts
-  pub spelled : IsSpelled tokens text
-  pub formed : parts_tokens written [] ≡ number_from 0 tokens
-  pub shallow : parts_depth written ≤ 400
-  pub means : ds ≡ parts_meant written

@@ -1,6 +1,6 @@
 -- Data (R7RS 7.1.2), with the numbers and the bytes of their tokens.
 use Rattle.std.specs.Prelude.{ℕ, List, [], ◌∷◌}
-use Rattle.scheme_tokens.specs.Tokens.{TokenKind}
+use Rattle.scheme_model.specs.Kinds.{TokenKind}
 
 -- the numbers of the first and the last token of a datum, and its bytes
 pub record Place : Type 0 where
