@@ -11,13 +11,11 @@ use crate::close::{closed, make_datum};
 use crate::datum::{Datum, Shape};
 use crate::open::{BAD_BYTE, BAD_DOT, Frame, Opener, STRAY_CLOSE, Spot, State, TOO_DEEP, fault};
 use crate::tail::{Tail, joined_datum};
+use ls_base::limits::MAX_DATA_DEPTH;
 use ls_base::{Mem, Span, Text};
 use scheme_tokens::{ReadFault, Token, TokenKind};
 use std::alloc::Global;
 use std::mem;
-
-/// How many lists, vectors, abbreviations and `#;` may be open.
-const MAX_OPEN: usize = 400;
 
 /// Whether a datum may begin at a token: not behind a tail, and not in a bytevector.
 fn begin(stack: &[Frame], spot: Spot) -> Result<(), ReadFault>
@@ -66,7 +64,7 @@ fn open(state: &mut State, opener: Opener, spot: Spot, items: Vec<Datum>) -> Res
     ensures { Moves (state_of state.new) result (model.opened (opener_of opener) (spot_of spot) (data_of items.items) (state_of state.old)) }
 {
     let depth = depth(state.stack.as_slice());
-    if depth < MAX_OPEN {
+    if depth < MAX_DATA_DEPTH {
         push(state, opener, depth + 1, spot, items)?;
         Ok(())
     } else {
