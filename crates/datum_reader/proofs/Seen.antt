@@ -4,37 +4,18 @@ use Rattle.std.specs.Option.{option_map}
 use Rattle.scheme_tokens.specs.Words.{byte_count}
 use Rattle.scheme_tokens.specs.Reading as texts
 use Rattle.scheme_tokens.specs.Views as views
-use Rattle.scheme_tokens.specs.declared.token.TokenKind as code_kind
-use Rattle.scheme_tokens.specs.declared.token.TokenKind.TheVariants as kinds
 use Rattle.scheme_tokens.specs.declared.token.Token as code_token
 use Rattle.scheme_tokens.specs.declared.fault.ReadFault.{ReadFault}
 use Rattle.scheme_tokens.proofs.Readings as readings
 use Rattle.scheme_tokens.proofs.TokenCounts.{few_tokens}
 use Rattle.scheme_model.specs.Kinds.{Token}
 use Rattle.scheme_model.specs.Faults.{Stop}
-use Rattle.datum_reader.specs.Texts.{kind_seen, token_seen, stop_seen, TextReads}
-use Rattle.datum_reader.specs.Views.{kind_of, tokens_of, told_end}
-
-kind_same : (k : code_kind.TokenKind) → kind_seen (views.kind_of k) ≡ kind_of k
-kind_same kinds.Paren = refl
-kind_same kinds.VectorParen = refl
-kind_same kinds.BytesParen = refl
-kind_same kinds.Close = refl
-kind_same kinds.Dot = refl
-kind_same kinds.Quote = refl
-kind_same kinds.Quasi = refl
-kind_same kinds.Unquote = refl
-kind_same kinds.Splice = refl
-kind_same kinds.Skip = refl
-kind_same (kinds.Name name bars) = refl
-kind_same (kinds.Numeral text) = refl
-kind_same (kinds.Quoted text) = refl
-kind_same (kinds.Char c) = refl
-kind_same (kinds.Bool b) = refl
+use Rattle.datum_reader.specs.Texts.{token_seen, stop_seen, TextReads}
+use Rattle.datum_reader.specs.Views.{token_of, tokens_of, told_end}
 
 tokens_same : (ts : List code_token.Token) → map token_seen (views.tokens_of ts) ≡ tokens_of ts
 tokens_same [] = refl
-tokens_same (t ∷ ts) = λ i. record { kind = kind_same t.kind i; start = t.span.start; end = t.span.end } ∷ tokens_same ts i
+tokens_same (t ∷ ts) = ap (λ (us : List Token). token_of t ∷ us) (tokens_same ts)
 
 end_same : (fin : Option texts.FaultAt) → views.told_end fin ≡ told_end (option_map stop_seen fin)
 end_same None = refl

@@ -5,7 +5,7 @@ use Rattle.std.specs.declared.alloc.Global.{Global}
 use Rattle.std.specs.Str.{chars}
 use Rattle.ls_base.specs.declared.places.Span.{Span}
 use Rattle.scheme_tokens.specs.declared.token.TokenKind as code_kind
-use Rattle.scheme_tokens.specs.declared.token.TokenKind.TheVariants as kinds
+use Rattle.scheme_tokens.specs.Views as spelled
 use Rattle.scheme_tokens.specs.declared.token.Token as code_token
 use Rattle.scheme_tokens.specs.declared.fault.ReadFault as told
 use Rattle.scheme_tokens.specs.declared.fault.ReadFault.TheVariants as faults
@@ -21,28 +21,15 @@ use Rattle.datum_reader.specs.declared.open.Opener as code_opener
 use Rattle.datum_reader.specs.declared.open.Opener.TheVariants as openers
 use Rattle.datum_reader.specs.declared.open.Frame as code_frame
 use Rattle.datum_reader.specs.declared.open.State as code_state
-use Rattle.scheme_model.specs.Kinds.{TokenKind, Paren, VectorParen, BytesParen, Close, Dot, Skip, Marked, Quote, Quasi, Unquote, Splice, Atomic, Name, Numeral, Quoted, Character, Truth, Token}
+use Rattle.scheme_model.specs.Kinds.{TokenKind, Token}
 use Rattle.scheme_model.specs.Data.{Place, Datum, atom, list, vector, bytes, Data, none, tail, row}
 use Rattle.scheme_model.specs.Numbered.{Spot}
 use Rattle.scheme_model.specs.Faults.{Stop, bad_byte}
+use Rattle.datum_reader.specs.Texts.{kind_seen}
 use Rattle.datum_reader.specs.Open.{Opener, in_list, dotted, ended, in_vector, in_bytes, marked, skipping, Frame, State}
 
 abbrev pub kind_of : code_kind.TokenKind → TokenKind
-kind_of kinds.Paren = Paren
-kind_of kinds.VectorParen = VectorParen
-kind_of kinds.BytesParen = BytesParen
-kind_of kinds.Close = Close
-kind_of kinds.Dot = Dot
-kind_of kinds.Quote = Marked Quote
-kind_of kinds.Quasi = Marked Quasi
-kind_of kinds.Unquote = Marked Unquote
-kind_of kinds.Splice = Marked Splice
-kind_of kinds.Skip = Skip
-kind_of (kinds.Name name bars) = Atomic (Name (chars name) bars)
-kind_of (kinds.Numeral text) = Atomic (Numeral (chars text))
-kind_of (kinds.Quoted text) = Atomic (Quoted (chars text))
-kind_of (kinds.Char c) = Atomic (Character c)
-kind_of (kinds.Bool b) = Atomic (Truth b)
+kind_of k = kind_seen (spelled.kind_of k)
 
 abbrev pub token_of : code_token.Token → Token
 token_of t = record { kind = kind_of t.kind; start = t.span.start; end = t.span.end }
