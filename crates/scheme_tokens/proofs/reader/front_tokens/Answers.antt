@@ -1,4 +1,4 @@
-use Rattle.std.proofs.Common.{None, Some, Ok, Err, length, subst, refl, sym, ◌∙◌}
+use Rattle.std.proofs.Common.{None, Some, Ok, length, subst, refl, sym, ◌∙◌}
 use Rattle.std.specs.Str.{chars}
 use Rattle.scheme_tokens.specs.Reading.{next}
 use Rattle.scheme_tokens.specs.Views.{IsNext, IsFront}

@@ -1,4 +1,3 @@
-use Rattle.std.proofs.Common.{Some, ap}
 use Rattle.std.specs.Str.{chars}
 use Rattle.scheme_tokens.specs.Views.{tokens_of}
 use Rattle.scheme_tokens.proofs.Readings.{only_tokens, never_stops, only_memory, stop_told, front_whole, front_explains}

@@ -1,6 +1,6 @@
-use Rattle.std.proofs.Common.{◌≡◌, ℕ, zero, suc, ◌<◌, List, [], ◌∷◌, All, Option, Some, None, IfSome, subst, sym, arith}
+use Rattle.std.proofs.Common.{zero, suc, List, [], ◌∷◌, All, Option, Some, None, IfSome, subst, sym, arith}
 use Rattle.std.specs.Option.{option_map}
-use Rattle.scheme_model.specs.Trees.{Tree, Trees, no_trees, tree, Tail, proper, dotted}
+use Rattle.scheme_model.specs.Trees.{Trees, no_trees, tree, Tail, proper, dotted}
 use Rattle.syntax_tree.specs.Identifiers.{Identifier}
 use Rattle.syntax_tree.specs.Standing.{AllStand, TailStands}
 use Rattle.syntax_tree.specs.Kept.{numbers}

@@ -1,4 +1,4 @@
-use Rattle.std.proofs.Common.{◌≡◌, ◌-◌, ◌∙◌, List, length, slice_get, ap, sym, arith}
+use Rattle.std.proofs.Common.{◌-◌, ◌∙◌, List, length, slice_get, ap, sym, arith}
 use Rattle.datum_reader.specs.declared.datum.Datum.{Datum}
 use Rattle.datum_reader.proofs.SeedLaws.{item_was_read}
 use Rattle.datum_reader.proofs.seeding.tests.plant.Goals as goal
