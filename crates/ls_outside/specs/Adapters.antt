@@ -15,11 +15,17 @@ reader_of source = source.reader
 abbrev pub std_source_faults : {R : Type 0} → StdSource R → ℕ
 std_source_faults source = source.failed
 
+abbrev pub std_source_reads : {R : Type 0} → StdSource R → List (List ℕ)
+std_source_reads source = source.reads.pieces
+
 abbrev pub writer_of : {W : Type 0} → StdSink W → W
 writer_of sink = sink.writer
 
 abbrev pub std_sink_faults : {W : Type 0} → StdSink W → ℕ
 std_sink_faults sink = sink.failed
+
+abbrev pub std_sink_writes : {W : Type 0} → StdSink W → List (List ℕ)
+std_sink_writes sink = sink.writes.pieces
 
 -- a read passes on the next bytes of the reader, and its end
 abbrev pub GotPasses : Option (List ℕ) → Option (List ℕ) → Got → List ℕ → Type 0

@@ -1,4 +1,5 @@
 pub mod Counts
+pub mod Calls
 pub mod Sources
 pub mod Sinks
 pub mod Files

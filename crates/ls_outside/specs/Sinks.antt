@@ -1,5 +1,5 @@
 -- What a write takes and answers, and when it may say that it failed.
-use Rattle.std.specs.Prelude.{◌≡◌, ℕ, ◌≤◌, List, length, take}
+use Rattle.std.specs.Prelude.{◌≡◌, ℕ, ◌≤◌, List, [], ◌∷◌, ◌++◌, length, take}
 use Rattle.std.specs.declared.option.Option.{Option}
 use Rattle.std.specs.Io.KnownBytes.{Appends, Keeps}
 use Rattle.ls_outside.specs.Counts.{Fails}
@@ -20,3 +20,8 @@ PutTakes old new put.Failed bytes = Keeps old new
 abbrev pub PutCounts : ℕ → ℕ → Put → Type 0
 PutCounts before now (put.Some n) = now ≡ before
 PutCounts before now put.Failed = Fails before now
+
+-- what a write took is noted behind what earlier writes took
+abbrev pub PutNotes : List (List ℕ) → List (List ℕ) → Put → List ℕ → Type 0
+PutNotes old new (put.Some n) bytes = new ≡ old ++ take n bytes ∷ []
+PutNotes old new put.Failed bytes = new ≡ old ++ [] ∷ []

@@ -61,3 +61,9 @@ is_piece piece = nat_lt 0 (length piece) && nat_le (length piece) 65536
 abbrev pub ArePieces : Option (List (List ℕ)) → Type 0
 ArePieces None = Unit {0}
 ArePieces (Some pieces) = list_all is_piece pieces ≡ true
+
+-- what a read took is noted behind what earlier reads took
+abbrev pub GotNotes : List (List ℕ) → List (List ℕ) → Got → List ℕ → Type 0
+GotNotes old new (got.Some n) buffer = new ≡ old ++ take n buffer ∷ []
+GotNotes old new got.End buffer = new ≡ old ++ [] ∷ []
+GotNotes old new got.Failed buffer = new ≡ old ++ [] ∷ []

@@ -11,8 +11,14 @@ use Rattle.ls_outside.specs.declared.sure.SureFiles.{SureFiles}
 abbrev pub sure_left : SureSource → Option (List (List ℕ))
 sure_left source = Some (pieces_left source.pieces)
 
+abbrev pub sure_reads : SureSource → List (List ℕ)
+sure_reads source = source.reads.pieces
+
 abbrev pub sure_taken : SureSink → Option (List ℕ)
 sure_taken sink = Some (bytes_of sink.taken.pieces)
+
+abbrev pub sure_writes : SureSink → List (List ℕ)
+sure_writes sink = sink.taken.pieces
 
 abbrev pub sure_held : SureFiles → Option (List ℕ → Option (List ℕ))
 sure_held files = Some (content_or_empty files.contents)

@@ -16,6 +16,9 @@ use Rattle.ls_outside.specs.declared.memory.MemFiles.{MemFiles}
 abbrev pub source_left : MemSource → Option (List (List ℕ))
 source_left source = Some (pieces_left source.pieces)
 
+abbrev pub source_reads : MemSource → List (List ℕ)
+source_reads source = source.reads.pieces
+
 abbrev pub source_plan : MemSource → Plan
 source_plan source = source.plan
 
@@ -24,6 +27,9 @@ source_faults source = source.failed
 
 abbrev pub sink_taken : MemSink → Option (List ℕ)
 sink_taken sink = Some sink.taken.items
+
+abbrev pub sink_writes : MemSink → List (List ℕ)
+sink_writes sink = sink.writes.pieces
 
 -- how many bytes a sink still has room for
 abbrev pub sink_room : MemSink → ℕ

@@ -1,12 +1,13 @@
 //! The outside itself, over the readers, writers and files of std. What it gives, takes and holds isn't told, and
 //! its counts of faults stop at the last value of 64 bits.
 ghost use Rattle.std.specs.Prelude.{◌≡◌, ◌<◌, None, length};
-ghost use Rattle.ls_outside.specs.Sources.{GotCounts, GotWithin};
-ghost use Rattle.ls_outside.specs.Sinks.{PutCounts, PutWithin};
+ghost use Rattle.ls_outside.specs.Sources.{GotCounts, GotNotes, GotWithin};
+ghost use Rattle.ls_outside.specs.Sinks.{PutCounts, PutNotes, PutWithin};
 ghost use Rattle.ls_outside.specs.Files.{FetchWithin, GivesRest};
 
 use crate::faults::count_fault;
-use crate::{Fetch, Files, Got, Put, Sink, Source};
+use crate::record::{note_read, note_write};
+use crate::{Fetch, Files, Got, Put, Record, Sink, Source};
 use std::alloc::Global;
 use std::fs;
 use std::io::{Read, Write};
@@ -16,33 +17,30 @@ use std::io::{Read, Write};
 pub struct StdSource<R: Read> {
     reader: R,
     failed: u64,
+    reads: Record,
 }
 
 impl<R: Read> StdSource<R> {
-    ghost use Rattle.ls_outside.specs.Adapters.{reader_of, std_source_faults};
+    ghost use Rattle.ls_outside.specs.Adapters.{GotPasses, reader_of, std_source_faults, std_source_reads};
 
     pub fn new(reader: R) -> StdSource<R>
         ensures reader { reader_of result ≡ reader }
         ensures calm { std_source_faults result ≡ 0 }
     {
-        StdSource { reader, failed: 0 }
+        StdSource {
+            reader,
+            failed: 0,
+            reads: Record::new(),
+        }
     }
-}
 
-impl<R: Read> Source for StdSource<R> {
-    ghost use Rattle.ls_outside.specs.Adapters.{GotPasses, reader_of, std_source_faults};
-
-    ghost left = { λ _. None };
-
-    ghost faults = { std_source_faults };
-
-    ghost sized = { λ _. tt };
-
-    fn read(&mut self, buf: &mut [u8]) -> Got
+    /// Reads, and counts a fault.
+    fn attempt(&mut self, buf: &mut [u8]) -> Got
         requires { 0 < length buf.old }
         ensures within { GotWithin result buf.new }
         ensures counts { GotCounts (std_source_faults self.old) (std_source_faults self.new) result }
         ensures passes { GotPasses (R.remaining (reader_of self.old)) (R.remaining (reader_of self.new)) result buf.new }
+        ensures unnoted { std_source_reads self.new ≡ std_source_reads self.old }
     {
         match self.reader.read(buf) {
             Ok(0) => Got::End,
@@ -55,11 +53,36 @@ impl<R: Read> Source for StdSource<R> {
     }
 }
 
+impl<R: Read> Source for StdSource<R> {
+    ghost use Rattle.ls_outside.specs.Adapters.{GotPasses, reader_of, std_source_faults, std_source_reads};
+
+    ghost left = { λ _. None };
+
+    ghost faults = { std_source_faults };
+
+    ghost reads = { std_source_reads };
+
+    ghost sized = { λ _. tt };
+
+    fn read(&mut self, buf: &mut [u8]) -> Got
+        requires { 0 < length buf.old }
+        ensures within { GotWithin result buf.new }
+        ensures counts { GotCounts (std_source_faults self.old) (std_source_faults self.new) result }
+        ensures notes { GotNotes (std_source_reads self.old) (std_source_reads self.new) result buf.new }
+        ensures passes { GotPasses (R.remaining (reader_of self.old)) (R.remaining (reader_of self.new)) result buf.new }
+    {
+        let got = self.attempt(buf);
+        note_read(&mut self.reads, got, buf);
+        got
+    }
+}
+
 /// A writer as a sink. It is flushed after each write.
 #[derive(Drop)]
 pub struct StdSink<W: Write> {
     writer: W,
     failed: u64,
+    writes: Record,
 }
 
 impl<W: Write> StdSink<W> {
@@ -69,30 +92,39 @@ impl<W: Write> StdSink<W> {
         ensures writer { writer_of result ≡ writer }
         ensures calm { std_sink_faults result ≡ 0 }
     {
-        StdSink { writer, failed: 0 }
+        StdSink {
+            writer,
+            failed: 0,
+            writes: Record::new(),
+        }
     }
 }
 
 impl<W: Write> Sink for StdSink<W> {
-    ghost use Rattle.ls_outside.specs.Adapters.{PutPasses, std_sink_faults, writer_of};
+    ghost use Rattle.ls_outside.specs.Adapters.{PutPasses, std_sink_faults, std_sink_writes, writer_of};
 
     ghost taken = { λ _. None };
 
     ghost faults = { std_sink_faults };
 
+    ghost writes = { std_sink_writes };
+
     fn write(&mut self, bytes: &[u8]) -> Put
         requires { 0 < length bytes.now }
         ensures within { PutWithin result bytes.now }
         ensures counts { PutCounts (std_sink_faults self.old) (std_sink_faults self.new) result }
+        ensures notes { PutNotes (std_sink_writes self.old) (std_sink_writes self.new) result bytes.now }
         ensures passes { PutPasses (W.contents (writer_of self.old)) (W.contents (writer_of self.new)) result bytes.now }
     {
         if let Ok(count) = self.writer.write(bytes)
             && count > 0
             && self.writer.flush().is_ok()
         {
+            note_write(&mut self.writes, Put::Some(count), bytes);
             return Put::Some(count);
         }
         count_fault(&mut self.failed);
+        note_write(&mut self.writes, Put::Failed, bytes);
         Put::Failed
     }
 }

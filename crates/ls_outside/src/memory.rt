@@ -1,11 +1,12 @@
 //! The outside in memory, as tests want it: it tells what is left, taken and held, and fails where it is to.
 ghost use Rattle.std.specs.Prelude.{◌≡◌, ◌+◌, ◌<◌, ◌≤◌, ◌↔◌, Some, length, vec_capacity, vec_len};
-ghost use Rattle.ls_outside.specs.Sources.{GotCounts, GotTakes, GotWithin};
-ghost use Rattle.ls_outside.specs.Sinks.{PutCounts, PutTakes, PutWithin};
+ghost use Rattle.ls_outside.specs.Sources.{GotCounts, GotNotes, GotTakes, GotWithin};
+ghost use Rattle.ls_outside.specs.Sinks.{PutCounts, PutNotes, PutTakes, PutWithin};
 ghost use Rattle.ls_outside.specs.Files.{FetchAsks, FetchCounts, FetchTells, FetchWithin};
 
 use crate::faults::count_fault;
 use crate::held::copy_of;
+use crate::record::{note_read, note_write};
 use crate::{Contents, Fetch, Files, Got, Pieces, Plan, Put, Record, Sink, Source};
 use ls_base::{Mem, Memory};
 use std::alloc::Global;
@@ -16,33 +17,39 @@ pub struct MemSource {
     pieces: Pieces,
     plan: Plan,
     failed: u64,
+    reads: Record,
 }
 
 impl MemSource {
     ghost use Rattle.ls_outside.specs.Left.{pieces_left};
-    ghost use Rattle.ls_outside.specs.Told.{source_faults, source_left, source_plan};
+    ghost use Rattle.ls_outside.specs.Told.{source_faults, source_left, source_plan, source_reads};
+    ghost use Rattle.std.specs.Prelude.{[]};
 
     pub fn new(pieces: Pieces, plan: Plan) -> MemSource
         ensures left { source_left result ≡ Some (pieces_left pieces) }
         ensures plan { source_plan result ≡ plan }
         ensures calm { source_faults result ≡ 0 }
+        ensures unread { source_reads result ≡ [] }
     {
         MemSource {
             pieces,
             plan,
             failed: 0,
+            reads: Record::new(),
         }
     }
 }
 
 impl Source for MemSource {
     ghost use Rattle.ls_outside.specs.Plans.{CountsCall, IsNextToFail};
-    ghost use Rattle.ls_outside.specs.Told.{source_faults, source_left, source_plan};
+    ghost use Rattle.ls_outside.specs.Told.{source_faults, source_left, source_plan, source_reads};
     ghost use Rattle.ls_outside.specs.LeftLaws.{sized_left};
 
     ghost left = { source_left };
 
     ghost faults = { source_faults };
+
+    ghost reads = { source_reads };
 
     ghost sized = { λ s. sized_left s.pieces };
 
@@ -51,14 +58,18 @@ impl Source for MemSource {
         ensures within { GotWithin result buf.new }
         ensures takes { GotTakes (source_left self.old) (source_left self.new) result buf.new }
         ensures counts { GotCounts (source_faults self.old) (source_faults self.new) result }
+        ensures notes { GotNotes (source_reads self.old) (source_reads self.new) result buf.new }
         ensures planned { (result ≡ Got.Failed) ↔ IsNextToFail (source_plan self.old) }
         ensures plan { CountsCall (source_plan self.old) (source_plan self.new) }
     {
         if self.plan.next_fails() {
             count_fault(&mut self.failed);
+            note_read(&mut self.reads, Got::Failed, buf);
             return Got::Failed;
         }
-        self.pieces.read(buf)
+        let got = self.pieces.read(buf);
+        note_read(&mut self.reads, got, buf);
+        got
     }
 }
 
@@ -70,12 +81,13 @@ pub struct MemSink {
     most: usize,
     plan: Plan,
     failed: u64,
+    writes: Record,
     ghost has_room: { vec_len taken + room ≤ vec_capacity taken },
 }
 
 impl MemSink {
     ghost use Rattle.std.specs.Prelude.{IfOk, []};
-    ghost use Rattle.ls_outside.specs.Told.{sink_faults, sink_most, sink_plan, sink_room, sink_taken};
+    ghost use Rattle.ls_outside.specs.Told.{sink_faults, sink_most, sink_plan, sink_room, sink_taken, sink_writes};
 
     /// A sink with room for so many bytes, which takes at most `most` of them in one write.
     pub fn new(alloc: Global, room: usize, most: usize, plan: Plan) -> Mem<MemSink>
@@ -84,6 +96,7 @@ impl MemSink {
         ensures most { IfOk result (λ sink. sink_most sink ≡ most) }
         ensures plan { IfOk result (λ sink. sink_plan sink ≡ plan) }
         ensures calm { IfOk result (λ sink. sink_faults sink ≡ 0) }
+        ensures unwritten { IfOk result (λ sink. sink_writes sink ≡ []) }
     {
         Ok(MemSink {
             taken: Vec::with_capacity(alloc, room)?,
@@ -91,6 +104,7 @@ impl MemSink {
             most,
             plan,
             failed: 0,
+            writes: Record::new(),
         })
     }
 
@@ -104,17 +118,20 @@ impl MemSink {
 
 impl Sink for MemSink {
     ghost use Rattle.ls_outside.specs.Plans.{CountsCall};
-    ghost use Rattle.ls_outside.specs.Told.{room_after, SinkAnswers, sink_faults, sink_most, sink_plan, sink_room, sink_taken};
+    ghost use Rattle.ls_outside.specs.Told.{room_after, SinkAnswers, sink_faults, sink_most, sink_plan, sink_room, sink_taken, sink_writes};
 
     ghost taken = { sink_taken };
 
     ghost faults = { sink_faults };
+
+    ghost writes = { sink_writes };
 
     fn write(&mut self, bytes: &[u8]) -> Put
         requires { 0 < length bytes.now }
         ensures within { PutWithin result bytes.now }
         ensures takes { PutTakes (sink_taken self.old) (sink_taken self.new) result bytes.now }
         ensures counts { PutCounts (sink_faults self.old) (sink_faults self.new) result }
+        ensures notes { PutNotes (sink_writes self.old) (sink_writes self.new) result bytes.now }
         ensures planned { SinkAnswers self.old bytes.now result }
         ensures plan { CountsCall (sink_plan self.old) (sink_plan self.new) }
         ensures room { sink_room self.new ≡ room_after self.old result }
@@ -123,10 +140,12 @@ impl Sink for MemSink {
         let count = bytes.len().min(self.most).min(self.room);
         if self.plan.next_fails() || count == 0 {
             count_fault(&mut self.failed);
+            note_write(&mut self.writes, Put::Failed, bytes);
             return Put::Failed;
         }
         self.room -= count;
         self.taken.extend_from_slice(&bytes[..count]).unwrap();
+        note_write(&mut self.writes, Put::Some(count), bytes);
         Put::Some(count)
     }
 }

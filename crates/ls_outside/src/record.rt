@@ -1,7 +1,10 @@
 //! Pieces of bytes that only clauses read.
 ghost use Rattle.std.specs.Prelude.{◌≡◌, ◌++◌, ◌∷◌, [], List, ℕ};
 ghost use Rattle.std.specs.Borrow.{ftrue};
+ghost use Rattle.ls_outside.specs.Sources.{GotNotes, GotWithin};
+ghost use Rattle.ls_outside.specs.Sinks.{PutNotes, PutWithin};
 
+use crate::{Got, Put};
 use std::marker::{Model, PhantomData};
 
 /// Pieces of bytes in their order. Nothing of them is kept at run time, so to note one takes no memory.
@@ -29,4 +32,26 @@ impl Record {
     pub fn note(&mut self, _piece: &[u8])
         ensures { self.new.pieces ≡ self.old.pieces ++ _piece.now ∷ [] }
     {}
+}
+
+/// Notes what a read took.
+pub(crate) fn note_read(reads: &mut Record, got: Got, buf: &[u8])
+    requires { GotWithin got buf.now }
+    ensures { GotNotes reads.old.pieces reads.new.pieces got buf.now }
+{
+    match got {
+        Got::Some(count) => reads.note(&buf[..count]),
+        Got::End | Got::Failed => reads.note(&[]),
+    }
+}
+
+/// Notes what a write took.
+pub(crate) fn note_write(writes: &mut Record, put: Put, bytes: &[u8])
+    requires { PutWithin put bytes.now }
+    ensures { PutNotes writes.old.pieces writes.new.pieces put bytes.now }
+{
+    match put {
+        Put::Some(count) => writes.note(&bytes[..count]),
+        Put::Failed => writes.note(&[]),
+    }
 }

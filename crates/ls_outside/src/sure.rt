@@ -2,6 +2,7 @@
 ghost use Rattle.std.specs.Prelude.{◌≡◌, Some};
 
 use crate::held::copy_of;
+use crate::record::note_read;
 use crate::{Contents, Fetch, Files, Got, Pieces, Put, Record, Sink, Source};
 use std::alloc::Global;
 
@@ -9,6 +10,7 @@ use std::alloc::Global;
 #[derive(Drop)]
 pub struct SureSource {
     pieces: Pieces,
+    reads: Record,
 }
 
 impl SureSource {
@@ -18,22 +20,29 @@ impl SureSource {
     pub fn new(pieces: Pieces) -> SureSource
         ensures { sure_left result ≡ Some (pieces_left pieces) }
     {
-        SureSource { pieces }
+        SureSource {
+            pieces,
+            reads: Record::new(),
+        }
     }
 }
 
 impl Source for SureSource {
-    ghost use Rattle.ls_outside.specs.SureTold.{sure_left};
+    ghost use Rattle.ls_outside.specs.SureTold.{sure_left, sure_reads};
     ghost use Rattle.ls_outside.specs.LeftLaws.{sized_left};
 
     ghost left = { sure_left };
 
     ghost faults = { λ _. 0 };
 
+    ghost reads = { sure_reads };
+
     ghost sized = { λ s. sized_left s.pieces };
 
     fn read(&mut self, buf: &mut [u8]) -> Got {
-        self.pieces.read(buf)
+        let got = self.pieces.read(buf);
+        note_read(&mut self.reads, got, buf);
+        got
     }
 }
 
@@ -57,11 +66,13 @@ impl SureSink {
 }
 
 impl Sink for SureSink {
-    ghost use Rattle.ls_outside.specs.SureTold.{sure_taken};
+    ghost use Rattle.ls_outside.specs.SureTold.{sure_taken, sure_writes};
 
     ghost taken = { sure_taken };
 
     ghost faults = { λ _. 0 };
+
+    ghost writes = { sure_writes };
 
     fn write(&mut self, bytes: &[u8]) -> Put {
         self.taken.note(bytes);
