@@ -1,80 +1,62 @@
 -- Bodies that are answered one after another.
-use Rattle.std.proofs.Common.{◌≡◌, ℕ, List, [], ◌∷◌, ◌++◌, refl, sym, ap, ◌∙◌, arith, append_assoc, append-nil, Some, None, Option, subst, inl, inr, Ok, Err}
-use Rattle.scheme_model.specs.Session.{Run, State, after_replies}
-use Rattle.session_core.specs.Said.{offsets}
-use Rattle.session_core.specs.Asked.{Question, questions}
+use Rattle.std.proofs.Common.{◌≡◌, ℕ, List, [], ◌∷◌, ◌++◌, refl, sym, ap, ◌∙◌, arith, append_assoc, append-nil, Some, None, Option, subst}
+use Rattle.std.specs.Option.{option_map}
+use Rattle.scheme_model.specs.Session.{Clean, Early, Ending, Run, State}
+use Rattle.session_core.specs.Asked.{Question}
 use Rattle.session_core.specs.Answered.{AreReplies}
+use Rattle.session_core.specs.States.{exit_code}
 use Rattle.session_core.specs.Stepped.{IsStep}
 use Rattle.session_core.specs.declared.out.Out.{Out}
 use Rattle.lsp_messages.specs.declared.reply.Reply.{Reply}
+use Rattle.scheme_ls.specs.BodiesOutcome.{AreAnswered, AnswersBodies, AnswersSome, BodiesEndAs, EndsSession, body_end_of}
 use Rattle.scheme_ls.specs.Prints.{SinkSeen, Prints, PrintsFront, PrintsPart}
-use Rattle.scheme_ls.specs.Output.{frames_of}
-use Rattle.scheme_ls.specs.Serving.{said, session_from}
-use Rattle.scheme_ls.specs.Answering.{Answered, AnswersBodies, EndsSession, AnswersSome, StopsAs}
-use Rattle.scheme_ls.specs.Statuses.{ended_status, status_of}
-use Rattle.scheme_ls.specs.declared.replies.WriteStop.{WriteStop}
-use Rattle.scheme_ls.specs.declared.replies.WriteStop.TheVariants as stop
-use Rattle.scheme_ls.specs.declared.status.Status.{Status}
-use Rattle.scheme_ls.specs.declared.status.Status.TheVariants.{Done, Refused, BadWords, SourceFault, NoMemory, SinkFault, FrameFault, TooLong, Endless}
-use Rattle.scheme_ls.proofs.ExitCodes.{step_code}
+use Rattle.scheme_ls.specs.ReplyFrames.{frames_of}
+use Rattle.scheme_ls.specs.SessionOutput.{session_from}
 use Rattle.scheme_ls.proofs.Sessions.{one_step, replies_of_one, end_of_one, state_of_one, more_bodies, ended_session, are_more, frames_more}
-use Rattle.scheme_ls.proofs.Writes.{prints_nothing, prints_then, part_after, front_after, PrintsStop}
+use Rattle.scheme_ls.proofs.Writes.{prints_nothing, prints_then, part_after, front_after}
 
 -- ---- one body
 
 answered_one : (state next : State) (body : List ℕ) (out : Out) → IsStep state body out next → AreReplies (session_from state (body ∷ [])).replies out.replies
 answered_one state next body out s = subst (λ rs. AreReplies rs out.replies) (sym (replies_of_one state body)) s.replies
 
-abbrev session_one : (state next : State) (body : List ℕ) (out : Out) (end : Option ℕ) → IsStep state body out next → out.end ≡ end → Answered state (body ∷ []) end
-session_one state next body out end s e = record {
-  messages = out.replies;
-  answered = answered_one state next body out s;
-  ends = end_of_one state body ∙ sym s.end ∙ e;
-}
+abbrev session_one : (state next : State) (body : List ℕ) (out : Out) (end : Option Ending) → IsStep state body out next → (one_step state body).end ≡ end → AreAnswered state (body ∷ []) end
+session_one state next body out end s e = record { messages = out.replies; answered = answered_one state next body out s; ends = end_of_one state body ∙ e }
 
-pub one_answered : (state next : State) (body : List ℕ) (out : Out) (old new : SinkSeen) → IsStep state body out next → out.end ≡ None → Prints old new (frames_of out.replies) → AnswersBodies state (body ∷ []) next old new
-one_answered state next body out old new s e p = record {
-  session = session_one state next body out None s e;
-  prints = p;
-  now = s.state ∙ sym (state_of_one state body);
-}
+one_ends : (state next : State) (body : List ℕ) (out : Out) (old new : SinkSeen) (end : Option Ending) → IsStep state body out next → Prints old new (frames_of out.replies) → (one_step state body).end ≡ end →
+    BodiesEndAs state (body ∷ []) next old new (body_end_of (option_map exit_code end))
+one_ends state next body out old new None s p e = record { session = session_one state next body out None s e; prints = p; now = s.state ∙ sym (state_of_one state body) }
+one_ends state next body out old new (Some Clean) s p e = record { session = session_one state next body out (Some Clean) s e; prints = p }
+one_ends state next body out old new (Some Early) s p e = record { session = session_one state next body out (Some Early) s e; prints = p }
 
-pub one_ends : (state next : State) (body : List ℕ) (out : Out) (status : ℕ) (old new : SinkSeen) → IsStep state body out next → out.end ≡ Some status → Prints old new (frames_of out.replies) → EndsSession state (body ∷ []) status old new
-one_ends state next body out status old new s e p = record { session = session_one state next body out (Some status) s e; prints = p }
+-- a body that is answered whole
+pub one_answered : (state next : State) (body : List ℕ) (out : Out) (old new : SinkSeen) → IsStep state body out next → Prints old new (frames_of out.replies) → BodiesEndAs state (body ∷ []) next old new (body_end_of out.end)
+one_answered state next body out old new s p =
+    subst (λ (n : Option ℕ). BodiesEndAs state (body ∷ []) next old new (body_end_of n)) (sym s.end) (one_ends state next body out old new (one_step state body).end s p refl)
 
--- `exit` ends the session with its code
-pub one_exits : (state next : State) (body : List ℕ) (out : Out) (code : ℕ) (old new : SinkSeen) → IsStep state body out next → out.end ≡ Some code → Prints old new (frames_of out.replies) → StopsAs state (body ∷ []) old new (ended_status code)
-one_exits state next body out code old new s e p =
-    elim (step_code offsets questions state (said body) code (sym s.end ∙ e)) as (λ _. StopsAs state (body ∷ []) old new (ended_status code)) [
-      | inl zero ↦ subst (λ (n : ℕ). StopsAs state (body ∷ []) old new (ended_status n)) (sym zero) (one_ends state next body out 0 old new s (e ∙ ap Some zero) p)
-      | inr one ↦ subst (λ (n : ℕ). StopsAs state (body ∷ []) old new (ended_status n)) (sym one) (one_ends state next body out 1 old new s (e ∙ ap Some one) p)
-    ]
-
-pub one_stops : (state next : State) (body : List ℕ) (out : Out) (stopped : WriteStop) (old new : SinkSeen) → IsStep state body out next → PrintsStop old new (frames_of out.replies) stopped → StopsAs state (body ∷ []) old new (status_of stopped)
-one_stops state next body out stop.Failed old new s p =
-    record { first = body ∷ []; later = []; split = refl; messages = out.replies; answered = answered_one state next body out s; prints = p }
-one_stops state next body out stop.Memory old new s p =
-    record { first = body ∷ []; later = []; split = refl; messages = out.replies; answered = answered_one state next body out s; prints = p }
+-- a body that is answered in part
+pub one_some : (state next : State) (body : List ℕ) (out : Out) (IsPrinted : List ℕ → Type 0) → IsStep state body out next → IsPrinted (frames_of out.replies) → AnswersSome state (body ∷ []) IsPrinted
+one_some state next body out IsPrinted s p = record { first = body ∷ []; later = []; split = refl; messages = out.replies; answered = answered_one state next body out s; prints = p }
 
 -- memory runs out before anything is printed
-pub none_answered : (state : State) (bodies : List (List ℕ)) (a : SinkSeen) → StopsAs state bodies a a NoMemory
+pub none_answered : (state : State) (bodies : List (List ℕ)) (a : SinkSeen) → AnswersSome state bodies (PrintsPart a a)
 none_answered state bodies a = record {
   first = [];
   later = bodies;
   split = refl;
   messages = [];
-  answered = tt;
-  prints = record { count = 0; part = omega arith; printed = (prints_nothing a).printed; calm = refl };
+  answered = refl;
+  prints = record { count = 0; part = omega arith; printed = (prints_nothing a).printed; no_fault = refl; calls = (prints_nothing a).calls };
 }
 
 -- ---- several bodies
 
 pub none_yet : (state : State) (a : SinkSeen) → AnswersBodies state [] state a a
-none_yet state a = record { session = record { messages = []; answered = tt; ends = refl }; prints = prints_nothing a; now = refl }
+none_yet state a = record { session = record { messages = []; answered = refl; ends = refl }; prints = prints_nothing a; now = refl }
 
 -- the session after some bodies that don't end it, and after more
-abbrev session_then : (state mid : State) (a b : List (List ℕ)) (end : Option ℕ) (first : Answered state a None) → mid ≡ (session_from state a).state → (second : Answered mid b end) →
-    (whole : Answered state (a ++ b) end) × (whole.messages ≡ first.messages ++ second.messages) × ((session_from state (a ++ b)).state ≡ (session_from mid b).state)
+abbrev session_then : (state mid : State) (a b : List (List ℕ)) (end : Option Ending) (first : AreAnswered state a None) → mid ≡ (session_from state a).state → (second : AreAnswered mid b end) →
+    (whole : AreAnswered state (a ++ b) end) × (whole.messages ≡ first.messages ++ second.messages) × ((session_from state (a ++ b)).state ≡ (session_from mid b).state)
 session_then state mid a b end first now second =
     let r = session_from state a in
     let whole = more_bodies a b state first.ends in
@@ -102,15 +84,15 @@ answers_then state mid next a b old between new first second =
       now = second.now ∙ sym w.2;
     }
 
-ends_then : (state mid : State) (a b more : List (List ℕ)) (status : ℕ) (old between new : SinkSeen) → AnswersBodies state a mid old between → EndsSession mid b status between new → EndsSession state (a ++ (b ++ more)) status old new
-ends_then state mid a b more status old between new first second =
-    let over = ended_session b more mid status second.session.ends in
-    let longer : Answered mid (b ++ more) (Some status) = record {
+pub ends_then : (state mid : State) (a b more : List (List ℕ)) (exit : Ending) (old between new : SinkSeen) → AnswersBodies state a mid old between → EndsSession mid b exit between new → EndsSession state (a ++ (b ++ more)) exit old new
+ends_then state mid a b more exit old between new first second =
+    let over = ended_session b more mid exit second.session.ends in
+    let longer : AreAnswered mid (b ++ more) (Some exit) = record {
       messages = second.session.messages;
       answered = subst (λ (run : Run Question). AreReplies run.replies second.session.messages) (sym over) second.session.answered;
       ends = ap (λ (run : Run Question). run.end) over ∙ second.session.ends;
     } in
-    let w = session_then state mid a (b ++ more) (Some status) first.session first.now longer in
+    let w = session_then state mid a (b ++ more) (Some exit) first.session first.now longer in
     record { session = w.0; prints = prints_both old between new first.session.messages second.session.messages first.prints second.prints }
 
 -- messages to some first bodies that follow bodies
@@ -137,29 +119,23 @@ some_then state mid a b more old between new IsPrinted IsPrintedThen first secon
       prints = subst IsPrintedThen (sym (frames_more first.session.messages second.messages)) (joined (frames_of first.session.messages) (frames_of second.messages) first.prints second.prints);
     }
 
-pub stops_then : (state mid : State) (a b more : List (List ℕ)) (old between new : SinkSeen) (status : Status) → AnswersBodies state a mid old between → StopsAs mid b between new status → StopsAs state (a ++ (b ++ more)) old new status
-stops_then state mid a b more old between new Done first second = ends_then state mid a b more 0 old between new first second
-stops_then state mid a b more old between new Refused first second = ends_then state mid a b more 1 old between new first second
-stops_then state mid a b more old between new BadWords first second = absurd second
-stops_then state mid a b more old between new SourceFault first second = absurd second
-stops_then state mid a b more old between new NoMemory first second =
+pub part_then : (state mid : State) (a b more : List (List ℕ)) (old between new : SinkSeen) → AnswersBodies state a mid old between → AnswersSome mid b (PrintsPart between new) → AnswersSome state (a ++ (b ++ more)) (PrintsPart old new)
+part_then state mid a b more old between new first second =
     some_then state mid a b more old between new (PrintsPart between new) (PrintsPart old new) first second (λ x y p q. part_after old between new x y p q)
-stops_then state mid a b more old between new SinkFault first second =
+
+pub front_then : (state mid : State) (a b more : List (List ℕ)) (old between new : SinkSeen) → AnswersBodies state a mid old between → AnswersSome mid b (PrintsFront between new) → AnswersSome state (a ++ (b ++ more)) (PrintsFront old new)
+front_then state mid a b more old between new first second =
     some_then state mid a b more old between new (PrintsFront between new) (PrintsFront old new) first second (λ x y p q. front_after old between new x y p q)
-stops_then state mid a b more old between new FrameFault first second = absurd second
-stops_then state mid a b more old between new TooLong first second = absurd second
-stops_then state mid a b more old between new Endless first second = absurd second
 
 -- ---- the bodies of a piece
 
-pub ends_after : (state mid : State) (a b : List (List ℕ)) (status : ℕ) (old between new : SinkSeen) → AnswersBodies state a mid old between → EndsSession mid b status between new → EndsSession state (a ++ b) status old new
-ends_after state mid a b status old between new first second =
-    subst (λ (rest : List (List ℕ)). EndsSession state (a ++ rest) status old new) (append-nil b) (ends_then state mid a b [] status old between new first second)
+pub ends_after : (state mid : State) (a b : List (List ℕ)) (exit : Ending) (old between new : SinkSeen) → AnswersBodies state a mid old between → EndsSession mid b exit between new → EndsSession state (a ++ b) exit old new
+ends_after state mid a b exit old between new first second =
+    subst (λ (rest : List (List ℕ)). EndsSession state (a ++ rest) exit old new) (append-nil b) (ends_then state mid a b [] exit old between new first second)
 
 pub part_follows : (state mid : State) (a b : List (List ℕ)) (old between new : SinkSeen) → AnswersBodies state a mid old between → AnswersSome mid b (PrintsPart between new) → AnswersSome state (a ++ b) (PrintsPart old new)
 part_follows state mid a b old between new first second =
-    subst (λ (rest : List (List ℕ)). AnswersSome state (a ++ rest) (PrintsPart old new)) (append-nil b)
-    (some_then state mid a b [] old between new (PrintsPart between new) (PrintsPart old new) first second (λ x y p q. part_after old between new x y p q))
+    subst (λ (rest : List (List ℕ)). AnswersSome state (a ++ rest) (PrintsPart old new)) (append-nil b) (part_then state mid a b [] old between new first second)
 
 -- ---- the loop over bodies
 
@@ -182,6 +158,14 @@ so_far_more state mid next all rest body old between new w one = record {
 pub so_far_all : (state now : State) (all : List (List ℕ)) (old new : SinkSeen) → AnsweredSoFar state all [] now old new → AnswersBodies state all now old new
 so_far_all state now all old new w = subst (λ (bodies : List (List ℕ)). AnswersBodies state bodies now old new) (sym (append-nil w.first) ∙ w.split) w.answers
 
-pub so_far_stops : (state mid : State) (all rest : List (List ℕ)) (body : List ℕ) (old between new : SinkSeen) (status : Status) → AnsweredSoFar state all (body ∷ rest) mid old between → StopsAs mid (body ∷ []) between new status → StopsAs state all old new status
-so_far_stops state mid all rest body old between new status w one =
-    subst (λ (bodies : List (List ℕ)). StopsAs state bodies old new status) w.split (stops_then state mid w.first (body ∷ []) rest old between new status w.answers one)
+pub so_far_ends : (state mid : State) (all rest : List (List ℕ)) (body : List ℕ) (exit : Ending) (old between new : SinkSeen) → AnsweredSoFar state all (body ∷ rest) mid old between → EndsSession mid (body ∷ []) exit between new → EndsSession state all exit old new
+so_far_ends state mid all rest body exit old between new w one =
+    subst (λ (bodies : List (List ℕ)). EndsSession state bodies exit old new) w.split (ends_then state mid w.first (body ∷ []) rest exit old between new w.answers one)
+
+pub so_far_part : (state mid : State) (all rest : List (List ℕ)) (body : List ℕ) (old between new : SinkSeen) → AnsweredSoFar state all (body ∷ rest) mid old between → AnswersSome mid (body ∷ []) (PrintsPart between new) → AnswersSome state all (PrintsPart old new)
+so_far_part state mid all rest body old between new w one =
+    subst (λ (bodies : List (List ℕ)). AnswersSome state bodies (PrintsPart old new)) w.split (part_then state mid w.first (body ∷ []) rest old between new w.answers one)
+
+pub so_far_front : (state mid : State) (all rest : List (List ℕ)) (body : List ℕ) (old between new : SinkSeen) → AnsweredSoFar state all (body ∷ rest) mid old between → AnswersSome mid (body ∷ []) (PrintsFront between new) → AnswersSome state all (PrintsFront old new)
+so_far_front state mid all rest body old between new w one =
+    subst (λ (bodies : List (List ℕ)). AnswersSome state bodies (PrintsFront old new)) w.split (front_then state mid w.first (body ∷ []) rest old between new w.answers one)

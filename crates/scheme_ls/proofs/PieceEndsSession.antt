@@ -1,137 +1,241 @@
 -- How a session ends in a piece.
-use Rattle.std.proofs.Common.{◌≡◌, ℕ, ◌+◌, ◌-◌, ◌<◌, ◌≤◌, List, [], ◌∷◌, ◌++◌, length, min, take, refl, sym, ap, ◌∙◌, arith, append_assoc, append-nil, Some, None, Option, subst, inl, inr, ◌⊎◌, length-append}
-use Rattle.std.proofs.lemmas.List.{take_all, length-take}
+use Rattle.std.proofs.Common.{◌≡◌, ℕ, ◌+◌, ◌-◌, ◌<◌, ◌≤◌, List, [], ◌∷◌, ◌++◌, length, min, take, drop, refl, sym, ap, ◌∙◌, arith, append_assoc, append-nil, Some, None, Option, subst, inl, inr, ◌⊎◌, length-append}
+use Rattle.std.proofs.lemmas.List.{take_all, length-take, take-append-drop}
 use Rattle.std.proofs.KnownBytes.{Appends-trans}
 use Rattle.std.specs.Io.KnownBytes.{Appends}
 use Rattle.std.specs.FinMap.{empty}
 use Rattle.std.specs.Option.{IsSomeAnd}
-use Rattle.ls_base.specs.Frames.{End, IsFrames, fault, rest}
-use Rattle.lsp_framing.specs.Deframed.{Deframed, After}
+use Rattle.ls_base.specs.Frames.{End, Fault, IsFrames, fault, fault_number, rest}
 use Rattle.lsp_framing.specs.Feeds.{Feeds}
 use Rattle.lsp_framing.proofs.Every.{every_reading}
 use Rattle.lsp_framing.proofs.One.{bodies_grow}
 use Rattle.lsp_messages.specs.declared.reply.Reply.{Reply}
-use Rattle.ls_outside.specs.Counts.{Fails}
 use Rattle.ls_outside.specs.Sources.{GotTakes}
 use Rattle.ls_outside.specs.declared.source.Got.TheVariants as got
 use Rattle.scheme_model.specs.Session.{State, begin}
-use Rattle.scheme_ls.specs.Answering.{AnswersBodies, AnswersSome, EndsSession, StopsAs}
-use Rattle.scheme_ls.specs.Ends.{Seen}
-use Rattle.scheme_ls.specs.Output.{frames_of}
+use Rattle.scheme_ls.specs.BodiesOutcome.{AnswersBodies, AnswersSome, EndsSession}
+use Rattle.scheme_ls.specs.PieceOutcome.{AnswersInPiece, EndsInPiece, HasFault, Serving, TakesPiece}
 use Rattle.scheme_ls.specs.Prints.{SinkSeen, Prints, PrintsFront, PrintsPart}
-use Rattle.scheme_ls.specs.Reading.{TakesBytes}
-use Rattle.scheme_ls.specs.Served.{AreBeforeLast, Answers, Exits, FramesFail, IsCalm, MemoryEnds, ServeEndsAs, WriteFails}
-use Rattle.scheme_ls.specs.Serving.{AnswersAll, AnswersFirst}
-use Rattle.scheme_ls.specs.Taking.{AnswersInPiece, EndsInPiece, FailsInPiece, PieceStopsAs, Serving}
-use Rattle.scheme_ls.specs.declared.serve.TheConstants.{MAX_STREAM}
-use Rattle.scheme_ls.specs.declared.status.Status.{Status}
-use Rattle.scheme_ls.specs.declared.status.Status.TheVariants.{Done, Refused, BadWords, SourceFault, NoMemory, SinkFault, FrameFault, TooLong, Endless}
+use Rattle.scheme_ls.specs.Reading.{ReadsOn, TakesBytes}
+use Rattle.scheme_ls.specs.ReplyFrames.{frame_of_reply, frames_of}
+use Rattle.scheme_ls.specs.ServeOutcome.{AnswersPiecesBefore, AreBeforeLast, ServeEndsAs}
+use Rattle.scheme_ls.specs.SessionOutput.{AnswerFirst, IsOutputOf, Output, fault_log, written}
+use Rattle.scheme_ls.specs.Statuses.{said_exit}
+use Rattle.scheme_ls.specs.Streams.{Streams}
+use Rattle.scheme_ls.specs.declared.answering.Exit.{Exit}
+use Rattle.scheme_ls.specs.declared.server.FaultAt.{FaultAt}
+use Rattle.scheme_ls.specs.declared.serve.SessionEnd.TheVariants.{Exited, FrameFault, NoMemory, WriteFailed}
 use Rattle.scheme_ls.proofs.AnswerLaws.{answers_then, are_first, ends_after, part_follows}
-use Rattle.scheme_ls.proofs.Goings.{Going, all_answered, before_last, frames_so_far, going_frames, takes_none}
+use Rattle.scheme_ls.proofs.SessionSoFar.{Going, before_last, frames_so_far, going_frames, is_output_so_far, output_so_far, takes_none, without_farewell}
+use Rattle.scheme_ls.proofs.ReadLaws.{reads_none, reads_then}
 use Rattle.scheme_ls.proofs.Sessions.{frames_more}
 use Rattle.scheme_ls.proofs.Taken.{TakesBytes-more}
-use Rattle.scheme_ls.proofs.Writes.{prints_nothing, prints_then_front}
+use Rattle.scheme_ls.proofs.Writes.{front_after, part_after, prints_nothing, prints_then}
 
 -- a read, before what it completes is answered
-pub record Read (old mid new : Seen) (server : Serving) (taken most n : ℕ) (buffer : List ℕ) : Type 0 where
+pub record Read (old mid new : Streams) (server : Serving) (taken most n : ℕ) (buffer : List ℕ) : Type 0 where
   pub going : Going old mid server taken most
   pub takes : TakesBytes old.source.left new.source.left (going.bytes ++ take n buffer)
-  pub pieces : AreBeforeLast old.source.left going.bytes
-  pub few : taken + n ≤ MAX_STREAM
-  pub calm : IsCalm old new
+  pub pieces : AreBeforeLast old.source.left going.bytes (take n buffer)
+  pub few : taken + n ≤ 1099511627776
+  pub on : ReadsOn old.source new.source
 
-pub read_piece : (old mid new : Seen) (server : Serving) (taken n room : ℕ) (buffer : List ℕ) → Going old mid server taken MAX_STREAM → taken < MAX_STREAM → n ≤ room → room ≡ min 65536 (MAX_STREAM - taken) →
-    GotTakes mid.source.left new.source.left (got.Some n) buffer → IsCalm mid new → Read old mid new server taken MAX_STREAM n buffer
-read_piece old mid new server taken n room buffer w below within space takes calm = record {
+pub read_piece : (old mid new : Streams) (server : Serving) (taken n room : ℕ) (buffer : List ℕ) → Going old mid server taken 1099511627776 → taken < 1099511627776 → 1 ≤ n → n ≤ length buffer → length buffer ≡ room →
+    room ≡ min 65536 (1099511627776 - taken) → GotTakes mid.source.left new.source.left (got.Some n) buffer → ReadsOn mid.source new.source → Read old mid new server taken 1099511627776 n buffer
+read_piece old mid new server taken n room buffer w below some within size space takes on = record {
   going = w;
   takes = TakesBytes-more old.source.left mid.source.left new.source.left w.bytes buffer n w.takes takes;
-  pieces = before_last old.source.left mid.source.left new.source.left w.bytes buffer n (w.pieces below) takes;
+  pieces = before_last old.source.left mid.source.left new.source.left w.bytes buffer n some within (w.pieces below) takes;
   few = omega arith;
-  calm = calm ∙ w.calm;
+  on = reads_then old.source mid.source new.source w.on on;
 }
 
 -- all of a print is a part of it
 whole_part : (a b : SinkSeen) (x : List ℕ) → Prints a b x → PrintsPart a b x
-whole_part a b x p = record { count = length x; part = omega arith; printed = subst (Appends a.taken b.taken) (sym (take_all (length x) x (omega arith))) p.printed; calm = p.calm }
+whole_part a b x p = record { count = length x; part = omega arith; printed = subst (Appends a.taken b.taken) (sym (take_all (length x) x (omega arith))) p.printed; no_fault = p.no_fault; calls = p.calls }
 
 some_end : (e : Option End) (bytes : List ℕ) (bodies : List (List ℕ)) → IsSomeAnd e (IsFrames bytes bodies) → (end : End) × IsFrames bytes bodies end
 some_end None bytes bodies h = absurd h
 some_end (Some end) bytes bodies h = (end, h)
 
 -- the frames of all bytes, however they end
-frames_then : (old mid new : Seen) (server next : Serving) (taken most n : ℕ) (buffer : List ℕ) (given : List (List ℕ)) (r : Read old mid new server taken most n buffer) → Feeds server.frames (take n buffer) given next.frames →
+frames_then : (old mid new : Streams) (server next : Serving) (taken most n : ℕ) (buffer : List ℕ) (given : List (List ℕ)) (r : Read old mid new server taken most n buffer) → Feeds server.frames (take n buffer) given next.frames →
     (end : End) × IsFrames (r.going.bytes ++ take n buffer) (r.going.bodies ++ given) end
 frames_then old mid new server next taken most n buffer given r feeds = some_end next.frames.end _ _ (feeds r.going.bytes r.going.bodies r.going.after).frames
 
-few_bytes : (old mid new : Seen) (server : Serving) (taken most n : ℕ) (buffer : List ℕ) (r : Read old mid new server taken most n buffer) → length (r.going.bytes ++ take n buffer) ≤ MAX_STREAM
+few_bytes : (old mid new : Streams) (server : Serving) (taken most n : ℕ) (buffer : List ℕ) (r : Read old mid new server taken most n buffer) → length (r.going.bytes ++ take n buffer) ≤ 1099511627776
 few_bytes old mid new server taken most n buffer r =
     let l = length-take n buffer in
     let m = length-append r.going.bytes (take n buffer) in
     omega (arith, r.going.count, r.few)
 
 -- `exit` stands in the piece
-piece_exits : (old mid new : Seen) (server next : Serving) (taken most n status : ℕ) (buffer : List ℕ) → Read old mid new server taken most n buffer → EndsInPiece server next (take n buffer) status mid.sink new.sink → Exits status old new
-piece_exits old mid new server next taken most n status buffer r e =
+pub piece_exits : (old mid new : Streams) (server next : Serving) (taken most n : ℕ) (exit : Exit) (buffer : List ℕ) → Read old mid new server taken most n buffer → EndsInPiece server next (take n buffer) (said_exit exit) mid.sink new.sink → ServeEndsAs old new (Exited exit)
+piece_exits old mid new server next taken most n exit buffer r e =
     let all = frames_then old mid new server next taken most n buffer e.given r e.feeds in
-    let ended = ends_after (begin empty) server.state r.going.bodies e.given status old.sink mid.sink new.sink r.going.answers e.ends in
+    let ended = ends_after (begin empty) server.state r.going.bodies e.given (said_exit exit) old.sink mid.sink new.sink r.going.answers e.ends in
     record {
-      session = record {
-        bytes = r.going.bytes ++ take n buffer;
-        taken = r.takes;
-        few = few_bytes old mid new server taken most n buffer r;
-        answers = record { bodies = r.going.bodies ++ e.given; rest = all.0; frames = all.1; messages = ended.session.messages; answered = ended.session.answered };
-        prints = ended.prints;
-      };
-      exits = ended.session.ends;
-      calm = r.calm;
+      bytes = r.going.bytes ++ take n buffer;
+      taken = r.takes;
+      source = r.on;
+      session = (
+        few_bytes old mid new server taken most n buffer r,
+        record {
+          writes = record {
+            output = record { messages = ended.session.messages; exit = Some (said_exit exit); end = all.0 };
+            is = record { bodies = r.going.bodies ++ e.given; frames = all.1; answered = ended.session.answered; exits = sym ended.session.ends };
+            prints = without_farewell old.sink new.sink ended.session.messages ended.prints;
+          };
+          exits = refl;
+        },
+      );
     }
 
--- a fault stands in the piece
-piece_fails : (old mid new : Seen) (server next : Serving) (taken most n : ℕ) (buffer : List ℕ) → Read old mid new server taken most n buffer → FailsInPiece server next (take n buffer) mid.sink new.sink → FramesFail old new
-piece_fails old mid new server next taken most n buffer r e =
-    let answers = answers_then (begin empty) server.state next.state r.going.bodies e.given old.sink mid.sink new.sink r.going.answers e.answers in
-    let after = e.feeds r.going.bytes r.going.bodies r.going.after in
+-- ---- a fault stands in the piece
+
+-- the answers to all bodies before the fault
+abbrev all_answers : (old mid seen : Streams) (server next : Serving) (taken most n : ℕ) (buffer : List ℕ) (at : FaultAt) (r : Read old mid seen server taken most n buffer) (e : TakesPiece server next (take n buffer) (HasFault at) mid.sink seen.sink) →
+    AnswersBodies (begin empty) (r.going.bodies ++ e.given) next.state old.sink seen.sink
+all_answers old mid seen server next taken most n buffer at r e =
+    answers_then (begin empty) server.state next.state r.going.bodies e.given old.sink mid.sink seen.sink r.going.answers e.answers
+
+-- the output of the bytes up to the fault
+abbrev faulty_output : (old mid seen : Streams) (server next : Serving) (taken most n : ℕ) (buffer : List ℕ) (at : FaultAt) (r : Read old mid seen server taken most n buffer) (e : TakesPiece server next (take n buffer) (HasFault at) mid.sink seen.sink) → Output
+faulty_output old mid seen server next taken most n buffer at r e =
+    record { messages = (all_answers old mid seen server next taken most n buffer at r e).session.messages; exit = None; end = fault e.end.0 at.offset }
+
+is_faulty_output : (old mid seen : Streams) (server next : Serving) (taken most n : ℕ) (buffer : List ℕ) (at : FaultAt) (r : Read old mid seen server taken most n buffer) (e : TakesPiece server next (take n buffer) (HasFault at) mid.sink seen.sink) →
+    IsOutputOf (r.going.bytes ++ take n buffer) (faulty_output old mid seen server next taken most n buffer at r e)
+is_faulty_output old mid seen server next taken most n buffer at r e =
+    let answers = all_answers old mid seen server next taken most n buffer at r e in
     record {
-      session = record {
-        bytes = r.going.bytes ++ take n buffer;
-        taken = r.takes;
-        few = few_bytes old mid new server taken most n buffer r;
-        answers = record {
-          bodies = r.going.bodies ++ e.given;
-          rest = fault e.kind e.at;
-          frames = frames_so_far (r.going.bytes ++ take n buffer) (r.going.bodies ++ e.given) next.frames (fault e.kind e.at) after e.faulty_end;
-          messages = answers.session.messages;
-          answered = answers.session.answered;
-        };
-        prints = answers.prints;
-      };
-      goes_on = answers.session.ends;
-      faulty = tt;
-      calm = r.calm;
+      bodies = r.going.bodies ++ e.given;
+      frames = frames_so_far (r.going.bytes ++ take n buffer) (r.going.bodies ++ e.given) next.frames (fault e.end.0 at.offset) (e.feeds r.going.bytes r.going.bodies r.going.after) e.end.1;
+      answered = answers.session.answered;
+      exits = sym answers.session.ends;
     }
+
+-- the frames of messages and of the farewell
+farewell_frames : (messages : List Reply) (number offset : ℕ) (kind : Fault) → number ≡ fault_number kind → frames_of messages ++ frame_of_reply (fault_log number offset) ≡ frames_of (messages ++ fault_log (fault_number kind) offset ∷ [])
+farewell_frames messages number offset kind is =
+    ap (λ (k : ℕ). frames_of messages ++ frame_of_reply (fault_log k offset)) is
+    ∙ ap (λ (last : List ℕ). frames_of messages ++ last) (sym (append-nil (frame_of_reply (fault_log (fault_number kind) offset))))
+    ∙ sym (frames_more messages (fault_log (fault_number kind) offset ∷ []))
+
+-- what was printed before the piece, and after it
+before_written : (old mid new : Streams) (server : Serving) (taken most n : ℕ) (buffer : List ℕ) (r : Read old mid new server taken most n buffer) (more : List ℕ) (sink : SinkSeen) → Appends mid.sink.taken sink.taken more →
+    AnswersPiecesBefore old (record { source = new.source; sink = sink }) (r.going.bytes ++ take n buffer)
+before_written old mid new server taken most n buffer r more sink printed = record {
+  before = r.going.bytes;
+  last = take n buffer;
+  split = refl;
+  pieces = r.pieces;
+  output = output_so_far old mid server taken most r.going;
+  is = is_output_so_far old mid server taken most r.going;
+  no_exit = refl;
+  unfinished = tt;
+  more = more;
+  printed = Appends-trans old.sink.taken mid.sink.taken sink.taken _ more r.going.answers.prints.printed printed;
+}
+
+-- the farewell is written
+pub farewell_written : (old mid seen : Streams) (sink : SinkSeen) (server next : Serving) (taken most n : ℕ) (buffer : List ℕ) (at : FaultAt) → Read old mid seen server taken most n buffer →
+    TakesPiece server next (take n buffer) (HasFault at) mid.sink seen.sink → Prints seen.sink sink (frame_of_reply (fault_log at.number at.offset)) → ServeEndsAs old (record { source = seen.source; sink = sink }) FrameFault
+farewell_written old mid seen sink server next taken most n buffer at r e p =
+    let answers = all_answers old mid seen server next taken most n buffer at r e in
+    record {
+      bytes = r.going.bytes ++ take n buffer;
+      taken = r.takes;
+      source = r.on;
+      session = (
+        few_bytes old mid seen server taken most n buffer r,
+        record {
+          writes = record {
+            output = faulty_output old mid seen server next taken most n buffer at r e;
+            is = is_faulty_output old mid seen server next taken most n buffer at r e;
+            prints = subst (Prints old.sink sink) (farewell_frames answers.session.messages at.number at.offset e.end.0 e.end.2)
+                (prints_then old.sink seen.sink sink (frames_of answers.session.messages) (frame_of_reply (fault_log at.number at.offset)) answers.prints p);
+          };
+          no_exit = refl;
+          faulty = tt;
+        },
+      );
+    }
+
+-- a write of the farewell fails
+pub farewell_cut : (old mid seen : Streams) (sink : SinkSeen) (server next : Serving) (taken most n : ℕ) (buffer : List ℕ) (at : FaultAt) → Read old mid seen server taken most n buffer →
+    TakesPiece server next (take n buffer) (HasFault at) mid.sink seen.sink → PrintsFront seen.sink sink (frame_of_reply (fault_log at.number at.offset)) → ServeEndsAs old (record { source = seen.source; sink = sink }) WriteFailed
+farewell_cut old mid seen sink server next taken most n buffer at r e p =
+    let answers = all_answers old mid seen server next taken most n buffer at r e in
+    let output = faulty_output old mid seen server next taken most n buffer at r e in
+    record {
+      bytes = r.going.bytes ++ take n buffer;
+      taken = r.takes;
+      source = (
+        r.on,
+        before_written old mid seen server taken most n buffer r _ sink (Appends-trans mid.sink.taken seen.sink.taken sink.taken _ _ e.answers.prints.printed p.printed),
+      );
+      session = (
+        few_bytes old mid seen server taken most n buffer r,
+        record {
+          messages = written output;
+          begin = inr (output, is_faulty_output old mid seen server next taken most n buffer at r e, refl);
+          prints = subst (PrintsFront old.sink sink) (farewell_frames answers.session.messages at.number at.offset e.end.0 e.end.2)
+              (front_after old.sink seen.sink sink (frames_of answers.session.messages) (frame_of_reply (fault_log at.number at.offset)) answers.prints p);
+        },
+      );
+    }
+
+-- memory runs out in the farewell
+pub farewell_lost : (old mid seen : Streams) (sink : SinkSeen) (server next : Serving) (taken most n : ℕ) (buffer : List ℕ) (at : FaultAt) → Read old mid seen server taken most n buffer →
+    TakesPiece server next (take n buffer) (HasFault at) mid.sink seen.sink → PrintsPart seen.sink sink (frame_of_reply (fault_log at.number at.offset)) → ServeEndsAs old (record { source = seen.source; sink = sink }) NoMemory
+farewell_lost old mid seen sink server next taken most n buffer at r e p =
+    let answers = all_answers old mid seen server next taken most n buffer at r e in
+    let output = faulty_output old mid seen server next taken most n buffer at r e in
+    record {
+      bytes = r.going.bytes ++ take n buffer;
+      taken = r.takes;
+      source = r.on;
+      session = (
+        few_bytes old mid seen server taken most n buffer r,
+        record {
+          messages = written output;
+          begin = inr (output, is_faulty_output old mid seen server next taken most n buffer at r e, refl);
+          prints = subst (PrintsPart old.sink sink) (farewell_frames answers.session.messages at.number at.offset e.end.0 e.end.2)
+              (part_after old.sink seen.sink sink (frames_of answers.session.messages) (frame_of_reply (fault_log at.number at.offset)) answers.prints p);
+        },
+      );
+    }
+
+-- ---- a part of the piece is answered
 
 -- memory runs out while a body of the piece is answered
-piece_memory : (old mid new : Seen) (server next : Serving) (taken most n : ℕ) (buffer : List ℕ) → Read old mid new server taken most n buffer → AnswersInPiece server next (take n buffer) (PrintsPart mid.sink new.sink) → MemoryEnds old new
+piece_memory : (old mid new : Streams) (server next : Serving) (taken most n : ℕ) (buffer : List ℕ) → Read old mid new server taken most n buffer → AnswersInPiece server next (take n buffer) (PrintsPart mid.sink new.sink) → ServeEndsAs old new NoMemory
 piece_memory old mid new server next taken most n buffer r e =
     let all = frames_then old mid new server next taken most n buffer e.given r e.feeds in
     let some = part_follows (begin empty) server.state r.going.bodies e.given old.sink mid.sink new.sink r.going.answers e.answers in
     record {
       bytes = r.going.bytes ++ take n buffer;
       taken = r.takes;
-      messages = record {
-        bodies = some.first;
-        later = some.later;
-        rest = all.0;
-        frames = subst (λ (bodies : List (List ℕ)). IsFrames (r.going.bytes ++ take n buffer) bodies all.0) some.split all.1;
-        messages = some.messages;
-        answered = some.answered;
-      };
-      prints = some.prints;
-      calm = r.calm;
+      source = r.on;
+      session = (
+        few_bytes old mid new server taken most n buffer r,
+        record {
+          messages = some.messages;
+          begin = inl (record {
+            bodies = some.first;
+            later = some.later;
+            end = all.0;
+            frames = subst (λ (bodies : List (List ℕ)). IsFrames (r.going.bytes ++ take n buffer) bodies all.0) some.split all.1;
+            answered = some.answered;
+          });
+          prints = some.prints;
+        },
+      );
     }
 
 -- memory runs out before a body of the piece is answered
-no_memory : (old mid new : Seen) (server : Serving) (taken most n : ℕ) (buffer : List ℕ) → Read old mid new server taken most n buffer → new.sink ≡ mid.sink → MemoryEnds old new
+no_memory : (old mid new : Streams) (server : Serving) (taken most n : ℕ) (buffer : List ℕ) → Read old mid new server taken most n buffer → new.sink ≡ mid.sink → ServeEndsAs old new NoMemory
 no_memory old mid new server taken most n buffer r same =
     let w = r.going in
     let all = every_reading (w.bytes ++ take n buffer) in
@@ -139,76 +243,68 @@ no_memory old mid new server taken most n buffer r same =
     record {
       bytes = w.bytes ++ take n buffer;
       taken = r.takes;
-      messages = record {
-        bodies = w.bodies;
-        later = more.0;
-        rest = all.1;
-        frames = subst (λ (bodies : List (List ℕ)). IsFrames (w.bytes ++ take n buffer) bodies all.1) more.1 all.2;
-        messages = w.answers.session.messages;
-        answered = w.answers.session.answered;
-      };
-      prints = subst (λ (sink : SinkSeen). PrintsPart old.sink sink (frames_of w.answers.session.messages)) (sym same) (whole_part old.sink mid.sink (frames_of w.answers.session.messages) w.answers.prints);
-      calm = r.calm;
+      source = r.on;
+      session = (
+        few_bytes old mid new server taken most n buffer r,
+        record {
+          messages = w.answers.session.messages;
+          begin = inl (record {
+            bodies = w.bodies;
+            later = more.0;
+            end = all.1;
+            frames = subst (λ (bodies : List (List ℕ)). IsFrames (w.bytes ++ take n buffer) bodies all.1) more.1 all.2;
+            answered = w.answers.session.answered;
+          });
+          prints = subst (λ (sink : SinkSeen). PrintsPart old.sink sink (frames_of w.answers.session.messages)) (sym same) (whole_part old.sink mid.sink (frames_of w.answers.session.messages) w.answers.prints);
+        },
+      );
     }
 
--- a front that holds at least all that was printed before
-both_fronts : (a b c : SinkSeen) (x y : List Reply) → Prints a b (frames_of x) → PrintsFront b c (frames_of y) → (p : PrintsFront a c (frames_of (x ++ y))) × (length (frames_of x) ≤ p.count)
-both_fronts a b c x y first second =
-    subst (λ (all : List ℕ). (p : PrintsFront a c all) × (length (frames_of x) ≤ p.count)) (ap (λ (last : List ℕ). frames_of x ++ last) (append-nil (frames_of y)) ∙ sym (frames_more x y))
-    (prints_then_front a b c (frames_of x) (frames_of y) [] first second, omega arith)
+pub piece_lost : (old mid new : Streams) (server next : Serving) (taken most n : ℕ) (buffer : List ℕ) → Read old mid new server taken most n buffer → AnswersInPiece server next (take n buffer) (PrintsPart mid.sink new.sink) ⊎ (new.sink ≡ mid.sink) → ServeEndsAs old new NoMemory
+piece_lost old mid new server next taken most n buffer r (inl some) = piece_memory old mid new server next taken most n buffer r some
+piece_lost old mid new server next taken most n buffer r (inr same) = no_memory old mid new server taken most n buffer r same
 
 -- a write fails while a body of the piece is answered
-piece_unwritten : (old mid new : Seen) (server next : Serving) (taken most n : ℕ) (buffer : List ℕ) → Read old mid new server taken most n buffer → AnswersInPiece server next (take n buffer) (PrintsFront mid.sink new.sink) → WriteFails old new
-piece_unwritten old mid new server next taken most n buffer r e =
+pub piece_cut : (old mid new : Streams) (server next : Serving) (taken most n : ℕ) (buffer : List ℕ) → Read old mid new server taken most n buffer → AnswersInPiece server next (take n buffer) (PrintsFront mid.sink new.sink) → ServeEndsAs old new WriteFailed
+piece_cut old mid new server next taken most n buffer r e =
     let w = r.going in
     let all = frames_then old mid new server next taken most n buffer e.given r e.feeds in
     let first = w.answers.session.messages in
     let some = e.answers in
-    let p = both_fronts old.sink mid.sink new.sink first some.messages w.answers.prints some.prints in
     record {
-      before = w.bytes;
-      last = take n buffer;
+      bytes = w.bytes ++ take n buffer;
       taken = r.takes;
-      pieces = r.pieces;
-      answers = all_answered old mid server taken most w;
-      goes_on = w.answers.session.ends;
-      messages = record {
-        bodies = w.bodies ++ some.first;
-        later = some.later;
-        rest = all.0;
-        frames = subst (λ (bodies : List (List ℕ)). IsFrames (w.bytes ++ take n buffer) bodies all.0) (ap (λ (given : List (List ℕ)). w.bodies ++ given) some.split ∙ sym (append_assoc w.bodies some.first some.later)) all.1;
-        messages = first ++ some.messages;
-        answered = are_first (begin empty) server.state w.bodies some.first old.sink mid.sink some.messages w.answers some.answered;
-      };
-      later = some.messages;
-      more = refl;
-      prints = p.0;
-      prompt = p.1;
-      calm = r.calm;
+      source = (r.on, before_written old mid new server taken most n buffer r _ new.sink some.prints.printed);
+      session = (
+        few_bytes old mid new server taken most n buffer r,
+        record {
+          messages = first ++ some.messages;
+          begin = inl (record {
+            bodies = w.bodies ++ some.first;
+            later = some.later;
+            end = all.0;
+            frames = subst (λ (bodies : List (List ℕ)). IsFrames (w.bytes ++ take n buffer) bodies all.0) (ap (λ (given : List (List ℕ)). w.bodies ++ given) some.split ∙ sym (append_assoc w.bodies some.first some.later)) all.1;
+            answered = are_first (begin empty) server.state w.bodies some.first old.sink mid.sink some.messages w.answers some.answered;
+          });
+          prints = subst (PrintsFront old.sink new.sink) (sym (frames_more first some.messages)) (front_after old.sink mid.sink new.sink (frames_of first) (frames_of some.messages) w.answers.prints some.prints);
+        },
+      );
     }
 
-pub piece_stops_serving : (old mid new : Seen) (server next : Serving) (taken most n : ℕ) (buffer : List ℕ) (status : Status) → Read old mid new server taken most n buffer → PieceStopsAs server next (take n buffer) mid.sink new.sink status → ServeEndsAs old new status
-piece_stops_serving old mid new server next taken most n buffer Done r stops = piece_exits old mid new server next taken most n 0 buffer r stops
-piece_stops_serving old mid new server next taken most n buffer Refused r stops = inl (piece_exits old mid new server next taken most n 1 buffer r stops)
-piece_stops_serving old mid new server next taken most n buffer BadWords r stops = absurd stops
-piece_stops_serving old mid new server next taken most n buffer SourceFault r stops = absurd stops
-piece_stops_serving old mid new server next taken most n buffer NoMemory r stops = elim stops as (λ _. MemoryEnds old new) [
-  | inl some ↦ piece_memory old mid new server next taken most n buffer r some
-  | inr same ↦ no_memory old mid new server taken most n buffer r same
-]
-piece_stops_serving old mid new server next taken most n buffer SinkFault r stops = piece_unwritten old mid new server next taken most n buffer r stops
-piece_stops_serving old mid new server next taken most n buffer FrameFault r stops = piece_fails old mid new server next taken most n buffer r stops
-piece_stops_serving old mid new server next taken most n buffer TooLong r stops = absurd stops
-piece_stops_serving old mid new server next taken most n buffer Endless r stops = absurd stops
-
 -- memory runs out before anything is read
-pub nothing_served : (a : Seen) → MemoryEnds a a
+pub nothing_served : (a : Streams) → ServeEndsAs a a NoMemory
 nothing_served a =
     let all = every_reading [] in
     record {
       bytes = [];
       taken = takes_none a.source.left;
-      messages = record { bodies = []; later = all.0; rest = all.1; frames = all.2; messages = []; answered = tt };
-      prints = whole_part a.sink a.sink [] (prints_nothing a.sink);
-      calm = refl;
+      source = reads_none a.source;
+      session = (
+        omega arith,
+        record {
+          messages = [];
+          begin = inl (record { bodies = []; later = all.0; end = all.1; frames = all.2; answered = refl });
+          prints = whole_part a.sink a.sink [] (prints_nothing a.sink);
+        },
+      );
     }

@@ -1,29 +1,30 @@
 -- A session that goes on, read by read.
 use Rattle.std.proofs.Common.{◌≡◌, ℕ, ◌+◌, ◌-◌, ◌<◌, ◌≤◌, List, [], ◌∷◌, ◌++◌, length, min, take, drop, refl, sym, ap, ◌∙◌, arith, append_assoc, append-nil, Some, None, Option, subst, true, Bool, false, ◌&&◌, length-append, inl, inr, ◌⊎◌, nat_lt, nat_le}
-use Rattle.std.proofs.lemmas.List.{take_all, length-take, drop_all}
+use Rattle.std.proofs.lemmas.List.{take_all, length-take, drop_all, take-append-drop}
 use Rattle.std.proofs.lemmas.Bool.{cases_lt}
 use Rattle.std.proofs.lemmas.Bool.Decides.{nat_tests}
 use Rattle.std.specs.List.{list_all}
 use Rattle.std.specs.Option.{IsSomeAnd}
 use Rattle.ls_base.specs.Frames.{End, IsFrames, rest}
 use Rattle.lsp_framing.specs.Deframed.{Deframed, After}
-use Rattle.lsp_framing.specs.Feeds.{Feeds}
+use Rattle.lsp_messages.specs.declared.reply.Reply.{Reply}
 use Rattle.ls_outside.specs.Counts.{Fails}
 use Rattle.ls_outside.specs.Sources.{ArePieces, GotTakes, bytes_of, is_piece, left_over}
 use Rattle.ls_outside.specs.declared.source.Got.TheVariants as got
 use Rattle.std.specs.FinMap.{empty}
 use Rattle.scheme_model.specs.Session.{State, begin}
-use Rattle.scheme_ls.specs.Output.{frames_of}
+use Rattle.scheme_ls.specs.BodiesOutcome.{AnswersBodies}
+use Rattle.scheme_ls.specs.PieceOutcome.{IsOpen, Serving, TakesPiece}
 use Rattle.scheme_ls.specs.Prints.{Prints, SinkSeen}
-use Rattle.scheme_ls.specs.Reading.{TakesAll, TakesBytes}
-use Rattle.scheme_ls.specs.Answering.{AnswersBodies}
-use Rattle.scheme_ls.specs.Ends.{Seen}
-use Rattle.scheme_ls.specs.Served.{AreBefore, AreBeforeLast, Answers, GoesOn, InputEnds, IsCalm, ReadFails, TakesMost}
-use Rattle.scheme_ls.specs.Serving.{AnswersAll}
-use Rattle.scheme_ls.specs.Taking.{Serving, TakesPiece}
-use Rattle.scheme_ls.specs.declared.serve.TheConstants.{MAX_STREAM}
-use Rattle.scheme_ls.proofs.Taken.{TakesBytes-more}
+use Rattle.scheme_ls.specs.Reading.{ReadsOn, TakesAll, TakesBytes}
+use Rattle.scheme_ls.specs.ReplyFrames.{frames_of}
+use Rattle.scheme_ls.specs.ServeOutcome.{AreBefore, AreBeforeLast, GoesOn, ServeEndsAs}
+use Rattle.scheme_ls.specs.SessionOutput.{IsOutputOf, Output}
+use Rattle.scheme_ls.specs.Streams.{Streams}
+use Rattle.scheme_ls.specs.declared.serve.SessionEnd.TheVariants.{InputEnded, ReadFailed, Endless}
 use Rattle.scheme_ls.proofs.AnswerLaws.{none_yet, answers_then}
+use Rattle.scheme_ls.proofs.ReadLaws.{read_fails_then, read_to_end, reads_none, reads_then}
+use Rattle.scheme_ls.proofs.Taken.{TakesBytes-more}
 
 -- what was taken is whole pieces
 pub record AreWhole (old new : List (List ℕ)) (bytes : List ℕ) : Type 0 where
@@ -37,7 +38,7 @@ TakesWhole (Some old) None bytes = ⊥
 TakesWhole (Some old) (Some new) bytes = AreWhole old new bytes
 
 -- a session that took bytes, answered all their bodies and goes on
-pub record Going (old now : Seen) (server : Serving) (taken most : ℕ) : Type 0 where
+pub record Going (old now : Streams) (server : Serving) (taken most : ℕ) : Type 0 where
   pub bytes : List ℕ
   pub bodies : List (List ℕ)
   pub takes : TakesBytes old.source.left now.source.left bytes
@@ -47,7 +48,7 @@ pub record Going (old now : Seen) (server : Serving) (taken most : ℕ) : Type 0
   pub open_end : server.frames.end ≡ Some (rest kept)
   pub answers : AnswersBodies (begin empty) bodies server.state old.sink now.sink
   pub count : length bytes ≡ taken
-  pub calm : IsCalm old now
+  pub on : ReadsOn old.source now.source
 
 pub takes_none : (left : Option (List (List ℕ))) → TakesBytes left left []
 takes_none None = tt
@@ -57,7 +58,7 @@ whole_none : (left : Option (List (List ℕ))) → TakesWhole left left []
 whole_none None = tt
 whole_none (Some pieces) = record { before = []; split = refl; whole = refl }
 
-pub going_first : (a : Seen) (server : Serving) (most : ℕ) (kept : List ℕ) → After [] [] server.frames → server.frames.end ≡ Some (rest kept) → server.state ≡ begin empty → Going a a server 0 most
+pub going_first : (a : Streams) (server : Serving) (most : ℕ) (kept : List ℕ) → After [] [] server.frames → server.frames.end ≡ Some (rest kept) → server.state ≡ begin empty → Going a a server 0 most
 going_first a server most kept after end state = record {
   bytes = [];
   bodies = [];
@@ -68,7 +69,7 @@ going_first a server most kept after end state = record {
   open_end = end;
   answers = subst (λ (s : State). AnswersBodies (begin empty) [] s a.sink a.sink) (sym state) (none_yet (begin empty) a.sink);
   count = refl;
-  calm = refl;
+  on = reads_none a.source;
 }
 
 -- ---- the bytes so far
@@ -76,17 +77,24 @@ going_first a server most kept after end state = record {
 pub frames_so_far : (bytes : List ℕ) (bodies : List (List ℕ)) (d : Deframed) (end : End) → After bytes bodies d → d.end ≡ Some end → IsFrames bytes bodies end
 frames_so_far bytes bodies d end after is = subst (λ (e : Option End). IsSomeAnd e (IsFrames bytes bodies)) is after.frames
 
-pub going_frames : (old now : Seen) (server : Serving) (taken most : ℕ) (w : Going old now server taken most) → IsFrames w.bytes w.bodies (rest w.kept)
+pub going_frames : (old now : Streams) (server : Serving) (taken most : ℕ) (w : Going old now server taken most) → IsFrames w.bytes w.bodies (rest w.kept)
 going_frames old now server taken most w = frames_so_far w.bytes w.bodies server.frames (rest w.kept) w.after w.open_end
 
-abbrev pub all_answered : (old now : Seen) (server : Serving) (taken most : ℕ) (w : Going old now server taken most) → AnswersAll w.bytes
-all_answered old now server taken most w = record {
+-- the output of the bytes so far
+abbrev pub output_so_far : (old now : Streams) (server : Serving) (taken most : ℕ) (w : Going old now server taken most) → Output
+output_so_far old now server taken most w = record { messages = w.answers.session.messages; exit = None; end = rest w.kept }
+
+pub is_output_so_far : (old now : Streams) (server : Serving) (taken most : ℕ) (w : Going old now server taken most) → IsOutputOf w.bytes (output_so_far old now server taken most w)
+is_output_so_far old now server taken most w = record {
   bodies = w.bodies;
-  rest = rest w.kept;
   frames = going_frames old now server taken most w;
-  messages = w.answers.session.messages;
   answered = w.answers.session.answered;
+  exits = sym w.answers.session.ends;
 }
+
+-- no farewell follows these messages
+pub without_farewell : (a b : SinkSeen) (messages : List Reply) → Prints a b (frames_of messages) → Prints a b (frames_of (messages ++ []))
+without_farewell a b messages p = subst (λ (all : List Reply). Prints a b (frames_of all)) (sym (append-nil messages)) p
 
 -- ---- one read more
 
@@ -138,40 +146,47 @@ wide_read n room taken most more below within space = elim (cases_lt room 65536)
 ]
 
 -- the pieces before the one that a read takes from
-pub before_last : (old mid new : Option (List (List ℕ))) (bytes buffer : List ℕ) (n : ℕ) → TakesWhole old mid bytes → GotTakes mid new (got.Some n) buffer → AreBeforeLast old bytes
-before_last None mid new bytes buffer n w takes = tt
-before_last (Some old) None new bytes buffer n w takes = absurd w
-before_last (Some old) (Some mid) None bytes buffer n w takes = absurd takes
-before_last (Some old) (Some []) (Some new) bytes buffer n w takes = absurd takes
-before_last (Some old) (Some (piece ∷ pieces)) (Some new) bytes buffer n w takes = record { before = w.before; piece = piece; after = pieces; split = w.split; whole = w.whole }
+pub before_last : (old mid new : Option (List (List ℕ))) (bytes buffer : List ℕ) (n : ℕ) → 1 ≤ n → n ≤ length buffer → TakesWhole old mid bytes → GotTakes mid new (got.Some n) buffer → AreBeforeLast old bytes (take n buffer)
+before_last None mid new bytes buffer n some within w takes = tt
+before_last (Some old) None new bytes buffer n some within w takes = absurd w
+before_last (Some old) (Some mid) None bytes buffer n some within w takes = absurd takes
+before_last (Some old) (Some []) (Some new) bytes buffer n some within w takes = absurd takes
+before_last (Some old) (Some (piece ∷ pieces)) (Some new) bytes buffer n some within w takes =
+    let front : take n buffer ++ drop n piece ≡ piece = ap (λ (first : List ℕ). first ++ drop n piece) takes.bytes ∙ take-append-drop n piece in
+    record {
+      before = w.before;
+      unread = drop n piece;
+      after = pieces;
+      split = w.split ∙ ap (λ (first : List ℕ). w.before ++ (first ∷ pieces)) (sym front);
+      whole = w.whole;
+      some = let l = length-take n buffer in omega arith;
+    }
 
 -- a read, and what answers it: the session goes on
-pub going_more : (old mid new : Seen) (server next : Serving) (taken most n room : ℕ) (buffer : List ℕ) (w : Going old mid server taken most) → taken < most → ArePieces mid.source.left → length buffer ≡ room → n ≤ room →
-    room ≡ min 65536 (most - taken) → GotTakes mid.source.left new.source.left (got.Some n) buffer → IsCalm mid new → TakesPiece server next (take n buffer) mid.sink new.sink → Going old new next (taken + n) most
-going_more old mid new server next taken most n room buffer w below sized size within space takes calm answered = record {
+pub going_more : (old mid new : Streams) (server next : Serving) (taken most n room : ℕ) (buffer : List ℕ) (w : Going old mid server taken most) → taken < most → ArePieces mid.source.left → length buffer ≡ room → n ≤ room →
+    room ≡ min 65536 (most - taken) → GotTakes mid.source.left new.source.left (got.Some n) buffer → ReadsOn mid.source new.source → TakesPiece server next (take n buffer) IsOpen mid.sink new.sink → Going old new next (taken + n) most
+going_more old mid new server next taken most n room buffer w below sized size within space takes on answered = record {
   bytes = w.bytes ++ take n buffer;
   bodies = w.bodies ++ answered.given;
   takes = TakesBytes-more old.source.left mid.source.left new.source.left w.bytes buffer n w.takes takes;
   pieces = λ more. whole_more old.source.left mid.source.left new.source.left w.bytes buffer n room sized size (wide_read n room taken most more below within space) (w.pieces below) takes;
   after = answered.feeds w.bytes w.bodies w.after;
-  kept = answered.kept;
-  open_end = answered.open_end;
+  kept = answered.end.0;
+  open_end = answered.end.1;
   answers = answers_then (begin empty) server.state next.state w.bodies answered.given old.sink mid.sink new.sink w.answers answered.answers;
   count = length-append w.bytes (take n buffer) ∙ (let l = length-take n buffer in omega (arith, w.count));
-  calm = calm ∙ w.calm;
+  on = reads_then old.source mid.source new.source w.on on;
 }
 
--- what was taken so far is answered, and the session goes on after a read that takes nothing
-abbrev pub goes_on : (old mid new : Seen) (server : Serving) (taken most : ℕ) (w : Going old mid server taken most) → TakesBytes old.source.left new.source.left w.bytes → new.sink ≡ mid.sink → taken ≤ MAX_STREAM → GoesOn old new
-goes_on old mid new server taken most w takes same few = record {
-  session = record {
-    bytes = w.bytes;
-    taken = takes;
-    few = omega (arith, w.count);
-    answers = all_answered old mid server taken most w;
-    prints = subst (λ (sink : SinkSeen). Prints old.sink sink (frames_of w.answers.session.messages)) (sym same) w.answers.prints;
+-- what was taken so far is answered, and the session goes on
+goes_on : (old mid : Streams) (sink : SinkSeen) (server : Serving) (taken most : ℕ) (w : Going old mid server taken most) → sink ≡ mid.sink → GoesOn (IsOutputOf w.bytes) old.sink sink
+goes_on old mid sink server taken most w same = record {
+  writes = record {
+    output = output_so_far old mid server taken most w;
+    is = is_output_so_far old mid server taken most w;
+    prints = subst (λ (s : SinkSeen). Prints old.sink s (frames_of (w.answers.session.messages ++ []))) (sym same) (without_farewell old.sink mid.sink w.answers.session.messages w.answers.prints);
   };
-  goes_on = w.answers.session.ends;
+  no_exit = refl;
   unfinished = tt;
 }
 
@@ -191,19 +206,28 @@ takes_same (Some old) (Some []) (Some new) bytes buffer front takes = front ∙ 
 takes_same (Some old) (Some (piece ∷ pieces)) (Some new) bytes buffer front takes = front ∙ ap (λ (left : List (List ℕ)). bytes ++ bytes_of left) (sym takes)
 
 -- the input ends
-pub input_ends : (old mid new : Seen) (server : Serving) (taken most : ℕ) (buffer : List ℕ) → Going old mid server taken most → taken ≤ MAX_STREAM → GotTakes mid.source.left new.source.left got.End buffer → IsCalm mid new → new.sink ≡ mid.sink → InputEnds old new
-input_ends old mid new server taken most buffer w few takes calm same =
+pub input_ends : (old mid new : Streams) (server : Serving) (taken most : ℕ) (buffer : List ℕ) → Going old mid server taken most → taken < 1099511627776 → GotTakes mid.source.left new.source.left got.End buffer →
+    new.source.faults ≡ mid.source.faults → new.source.reads ≡ mid.source.reads ++ [] ∷ [] → new.sink ≡ mid.sink → ServeEndsAs old new InputEnded
+input_ends old mid new server taken most buffer w fewer takes counts notes same =
     let p = takes_all old.source.left mid.source.left new.source.left w.bytes buffer w.takes takes in
-    record { going = goes_on old mid new server taken most w p.1 same few; all = p.0; calm = calm ∙ w.calm }
+    record {
+      bytes = w.bytes;
+      taken = p.1;
+      source = read_to_end old.source mid.source new.source w.bytes w.on p.0 counts notes;
+      session = (omega (arith, w.count), goes_on old mid new.sink server taken most w same);
+    }
 
 -- a read fails
-pub read_fails : (old mid new : Seen) (server : Serving) (taken most : ℕ) (buffer : List ℕ) → Going old mid server taken most → taken ≤ MAX_STREAM → GotTakes mid.source.left new.source.left got.Failed buffer → Fails mid.source.faults new.source.faults → new.sink ≡ mid.sink → ReadFails old new
-read_fails old mid new server taken most buffer w few takes failed same = record {
-  going = goes_on old mid new server taken most w (takes_same old.source.left mid.source.left new.source.left w.bytes buffer w.takes takes) same few;
-  failed = subst (λ (n : ℕ). Fails n new.source.faults) w.calm failed;
+pub read_fails : (old mid new : Streams) (server : Serving) (taken most : ℕ) (buffer : List ℕ) → Going old mid server taken most → taken < 1099511627776 → GotTakes mid.source.left new.source.left got.Failed buffer →
+    Fails mid.source.faults new.source.faults → new.source.reads ≡ mid.source.reads ++ [] ∷ [] → new.sink ≡ mid.sink → ServeEndsAs old new ReadFailed
+read_fails old mid new server taken most buffer w fewer takes failed notes same = record {
+  bytes = w.bytes;
+  taken = takes_same old.source.left mid.source.left new.source.left w.bytes buffer w.takes takes;
+  source = read_fails_then old.source mid.source new.source w.on failed notes;
+  session = (omega (arith, w.count), goes_on old mid new.sink server taken most w same);
 }
 
 -- a session has taken all that one may
-pub takes_most : (old now : Seen) (server : Serving) (taken most : ℕ) → Going old now server taken most → taken ≡ MAX_STREAM → TakesMost old now
+pub takes_most : (old now : Streams) (server : Serving) (taken most : ℕ) → Going old now server taken most → taken ≡ 1099511627776 → ServeEndsAs old now Endless
 takes_most old now server taken most w all =
-    record { going = goes_on old now now server taken most w w.takes refl (omega arith); most = w.count ∙ all; calm = w.calm }
+    record { bytes = w.bytes; taken = w.takes; source = w.on; session = (w.count ∙ all, goes_on old now now.sink server taken most w refl) }

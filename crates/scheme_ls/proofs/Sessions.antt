@@ -1,13 +1,13 @@
 -- Sessions over bodies that come one after another.
-use Rattle.std.proofs.Common.{◌≡◌, ℕ, List, [], ◌∷◌, ◌++◌, refl, sym, ap, ◌∙◌, append_assoc, append-nil, Some, None, Option}
+use Rattle.std.proofs.Common.{◌≡◌, ℕ, List, [], ◌∷◌, ◌++◌, refl, sym, ap, ◌∙◌, append_assoc, append-nil, subst, Some, None, Option}
 use Rattle.scheme_model.specs.Session as model
-use Rattle.scheme_model.specs.Session.{Run, State, Stepped, after_replies, followed, step}
+use Rattle.scheme_model.specs.Session.{Ending, Run, State, Stepped, after_replies, followed, step}
 use Rattle.session_core.specs.Said.{offsets}
 use Rattle.session_core.specs.Asked.{Question, questions}
 use Rattle.session_core.specs.Answered.{AreReplies}
 use Rattle.lsp_messages.specs.declared.reply.Reply.{Reply}
-use Rattle.scheme_ls.specs.Output.{frame_of_reply, frames_of}
-use Rattle.scheme_ls.specs.Serving.{said, session_from}
+use Rattle.scheme_ls.specs.ReplyFrames.{frame_of_reply, frames_of}
+use Rattle.scheme_ls.specs.SessionOutput.{said, session_from}
 
 -- what one body leads to
 abbrev pub one_step : State → List ℕ → Stepped Question
@@ -19,17 +19,17 @@ one_step state body = step offsets questions state (said body)
 abbrev last : State → Run Question
 last next = record { replies = []; state = next; end = None }
 
-replies_followed : (end : Option ℕ) (s : Stepped Question) → (followed end s last).replies ≡ s.replies
+replies_followed : (end : Option Ending) (s : Stepped Question) → (followed end s last).replies ≡ s.replies
 replies_followed None s = append-nil s.replies
-replies_followed (Some status) s = refl
+replies_followed (Some exit) s = refl
 
-end_followed : (end : Option ℕ) (s : Stepped Question) → (followed end s last).end ≡ end
+end_followed : (end : Option Ending) (s : Stepped Question) → (followed end s last).end ≡ end
 end_followed None s = refl
-end_followed (Some status) s = refl
+end_followed (Some exit) s = refl
 
-state_followed : (end : Option ℕ) (s : Stepped Question) → (followed end s last).state ≡ s.state
+state_followed : (end : Option Ending) (s : Stepped Question) → (followed end s last).state ≡ s.state
 state_followed None s = refl
-state_followed (Some status) s = refl
+state_followed (Some exit) s = refl
 
 pub replies_of_one : (state : State) (body : List ℕ) → (session_from state (body ∷ [])).replies ≡ (one_step state body).replies
 replies_of_one state body = replies_followed (one_step state body).end (one_step state body)
@@ -48,11 +48,11 @@ GoesOnWith first later state = (session_from state first).end ≡ None →
     session_from state (first ++ later) ≡ after_replies (session_from state first).replies (session_from (session_from state first).state later)
 
 -- one body before them
-step_on : (end : Option ℕ) (s : Stepped Question) (first later : List (List ℕ)) → GoesOnWith first later s.state →
+step_on : (end : Option Ending) (s : Stepped Question) (first later : List (List ℕ)) → GoesOnWith first later s.state →
     (followed end s (λ next. session_from next first)).end ≡ None →
     followed end s (λ next. session_from next (first ++ later)) ≡
     after_replies (followed end s (λ next. session_from next first)).replies (session_from (followed end s (λ next. session_from next first)).state later)
-step_on (Some status) s first later on going = cc
+step_on (Some exit) s first later on going = cc
 step_on None s first later on going =
     let r = session_from s.state first in
     let more = session_from r.state later in
@@ -65,25 +65,41 @@ more_bodies (body ∷ first) later state going =
     step_on (one_step state body).end (one_step state body) first later (more_bodies first later (one_step state body).state) going
 
 -- a session that has ended looks at nothing more
-step_over : (end : Option ℕ) (s : Stepped Question) (first later : List (List ℕ)) (status : ℕ) →
-    ((session_from s.state first).end ≡ Some status → session_from s.state (first ++ later) ≡ session_from s.state first) →
-    (followed end s (λ next. session_from next first)).end ≡ Some status →
+step_over : (end : Option Ending) (s : Stepped Question) (first later : List (List ℕ)) (exit : Ending) →
+    ((session_from s.state first).end ≡ Some exit → session_from s.state (first ++ later) ≡ session_from s.state first) →
+    (followed end s (λ next. session_from next first)).end ≡ Some exit →
     followed end s (λ next. session_from next (first ++ later)) ≡ followed end s (λ next. session_from next first)
-step_over (Some e) s first later status over ended = refl
-step_over None s first later status over ended = ap (after_replies s.replies) (over ended)
+step_over (Some e) s first later exit over ended = refl
+step_over None s first later exit over ended = ap (after_replies s.replies) (over ended)
 
-pub ended_session : (first later : List (List ℕ)) (state : State) (status : ℕ) → (session_from state first).end ≡ Some status → session_from state (first ++ later) ≡ session_from state first
-ended_session [] later state status ended = cc
-ended_session (body ∷ first) later state status ended =
-    step_over (one_step state body).end (one_step state body) first later status (ended_session first later (one_step state body).state status) ended
+pub ended_session : (first later : List (List ℕ)) (state : State) (exit : Ending) → (session_from state first).end ≡ Some exit → session_from state (first ++ later) ≡ session_from state first
+ended_session [] later state exit ended = cc
+ended_session (body ∷ first) later state exit ended =
+    step_over (one_step state body).end (one_step state body) first later exit (ended_session first later (one_step state body).state exit) ended
 
 -- ---- replies
 
 pub are_more : (a b : List (model.Reply Question)) (x y : List Reply) → AreReplies a x → AreReplies b y → AreReplies (a ++ b) (x ++ y)
-are_more [] b [] y first second = second
-are_more [] b (m ∷ x) y first second = absurd first
-are_more (r ∷ a) b [] y first second = absurd first
-are_more (r ∷ a) b (m ∷ x) y first second = (first.0, are_more a b x y first.1 second)
+are_more [] b x y first second = subst (λ (front : List Reply). AreReplies b (front ++ y)) (sym first) second
+are_more (r ∷ a) b x y first second = record {
+  first = first.first;
+  rest = first.rest ++ y;
+  split = ap (λ (messages : List Reply). messages ++ y) first.split ∙ append_assoc first.first first.rest y;
+  are_first = first.are_first;
+  are_rest = are_more a b first.rest y first.are_rest second;
+}
+
+-- the messages of more replies are those of the first and those of the rest
+pub are_split : (a b : List (model.Reply Question)) (z : List Reply) → AreReplies (a ++ b) z → (x : List Reply) × (y : List Reply) × (z ≡ x ++ y) × AreReplies a x × AreReplies b y
+are_split [] b z all = ([], z, refl, refl, all)
+are_split (r ∷ a) b z all =
+    let w = are_split a b all.rest all.are_rest in (
+      all.first ++ w.0,
+      w.1,
+      all.split ∙ ap (λ (rest : List Reply). all.first ++ rest) w.2 ∙ sym (append_assoc all.first w.0 w.1),
+      record { first = all.first; rest = w.0; split = refl; are_first = all.are_first; are_rest = w.3 },
+      w.4,
+    )
 
 pub frames_more : (x y : List Reply) → frames_of (x ++ y) ≡ frames_of x ++ frames_of y
 frames_more [] y = refl

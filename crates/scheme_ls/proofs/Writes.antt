@@ -9,7 +9,8 @@ use Rattle.std.specs.Prelude.{Err}
 use Rattle.scheme_ls.specs.declared.replies.WriteStop.{WriteStop}
 use Rattle.scheme_ls.specs.declared.replies.WriteStop.TheVariants as stop
 use Rattle.scheme_ls.specs.Prints.{SinkSeen, Prints, PrintsPart, PrintsFront, WritingEndsAs}
-use Rattle.scheme_ls.specs.Output.{frame_of_reply, frames_of}
+use Rattle.scheme_ls.specs.ReplyFrames.{frame_of_reply, frames_of}
+use Rattle.scheme_ls.proofs.CallLaws.{take_none, take_then, last_then}
 
 -- a front of what comes second is a longer front of both
 pub take_second : (first second : List ℕ) (count : ℕ) → take (length first + count) (first ++ second) ≡ first ++ take count second
@@ -27,17 +28,18 @@ second_front x y z count within = take_second x (y ++ z) count ∙ ap (λ (rest 
 
 -- nothing is printed
 pub prints_nothing : (a : SinkSeen) → Prints a a []
-prints_nothing a = record { printed = Appends-nil a.taken; calm = refl }
+prints_nothing a = record { printed = Appends-nil a.taken; no_fault = refl; calls = take_none a.writes }
 
 pub prints_then : (a b c : SinkSeen) (x y : List ℕ) → Prints a b x → Prints b c y → Prints a c (x ++ y)
-prints_then a b c x y first second = record { printed = Appends-trans a.taken b.taken c.taken x y first.printed second.printed; calm = second.calm ∙ first.calm }
+prints_then a b c x y first second = record { printed = Appends-trans a.taken b.taken c.taken x y first.printed second.printed; no_fault = second.no_fault ∙ first.no_fault; calls = take_then a.writes b.writes c.writes first.calls second.calls }
 
 pub prints_then_part : (a b c : SinkSeen) (x y z : List ℕ) → Prints a b x → PrintsPart b c y → PrintsPart a c (x ++ (y ++ z))
 prints_then_part a b c x y z first second = record {
   count = length x + second.count;
   part = omega (arith, second.part, length-append {A = ℕ});
   printed = subst (Appends a.taken c.taken) (sym (second_front x y z second.count second.part)) (Appends-trans a.taken b.taken c.taken _ _ first.printed second.printed);
-  calm = second.calm ∙ first.calm;
+  no_fault = second.no_fault ∙ first.no_fault;
+  calls = take_then a.writes b.writes c.writes first.calls second.calls;
 }
 
 abbrev pub prints_then_front : (a b c : SinkSeen) (x y z : List ℕ) → Prints a b x → PrintsFront b c y → PrintsFront a c (x ++ (y ++ z))
@@ -47,7 +49,8 @@ prints_then_front a b c x y z first second = record {
   printed =
       let within : second.count ≤ length y = omega (arith, second.part) in
       subst (Appends a.taken c.taken) (sym (second_front x y z second.count within)) (Appends-trans a.taken b.taken c.taken _ _ first.printed second.printed);
-  failed = subst (λ (n : ℕ). Fails n c.faults) first.calm second.failed;
+  failed = subst (λ (n : ℕ). Fails n c.faults) first.no_fault second.failed;
+  calls = last_then a.writes b.writes c.writes first.calls second.calls;
 }
 
 -- the frames of the first of these replies are written, and those of the rest aren't

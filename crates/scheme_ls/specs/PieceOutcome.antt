@@ -1,13 +1,17 @@
 -- What a server makes of a piece of its input.
-use Rattle.std.specs.Prelude.{◌≡◌, ◌⊎◌, ℕ, List, Some, Result, Ok, Err}
-use Rattle.ls_base.specs.Frames.{Fault, rest, fault}
+use Rattle.std.specs.Prelude.{◌≡◌, ◌⊎◌, ℕ, List, Option, Some, None}
+use Rattle.ls_base.specs.Frames.{End, Fault, fault_number, rest, fault}
 use Rattle.lsp_framing.specs.Deframed.{Deframed}
 use Rattle.lsp_framing.specs.Feeds.{Feeds}
-use Rattle.scheme_model.specs.Session.{State}
-use Rattle.scheme_ls.specs.Answering.{AnswersBodies, EndsSession, AnswersSome}
+use Rattle.lsp_framing.specs.Taken.{contents}
+use Rattle.scheme_model.specs.Session.{Ending, State}
+use Rattle.scheme_ls.specs.BodiesOutcome.{AnswersBodies, EndsSession, AnswersSome}
 use Rattle.scheme_ls.specs.Prints.{SinkSeen, PrintsFront, PrintsPart}
-use Rattle.scheme_ls.specs.declared.status.Status.{Status}
-use Rattle.scheme_ls.specs.declared.status.Status.TheVariants.{Done, Refused, BadWords, SourceFault, NoMemory, SinkFault, FrameFault, TooLong, Endless}
+use Rattle.scheme_ls.specs.Statuses.{said_exit}
+use Rattle.scheme_ls.specs.declared.server.Cut.{Cut}
+use Rattle.scheme_ls.specs.declared.server.FaultAt.{FaultAt}
+use Rattle.scheme_ls.specs.declared.server.PieceEnd.{PieceEnd}
+use Rattle.scheme_ls.specs.declared.server.PieceEnd.TheVariants.{Answered, Exited, Faulty, WriteFailed, NoMemory}
 
 -- what a server is: how the frames that it took end, and the state of its session
 pub record Serving : Type 0 where
@@ -17,28 +21,36 @@ pub record Serving : Type 0 where
 abbrev pub serving : Deframed → State → Serving
 serving frames state = record { frames = frames; state = state }
 
--- the piece completes these bodies, which are all answered, and the frames go on
-pub record TakesPiece (old new : Serving) (piece : List ℕ) (seen now : SinkSeen) : Type 0 where
-  pub given : List (List ℕ)
-  pub feeds : Feeds old.frames piece given new.frames
-  pub kept : List ℕ
-  pub open_end : new.frames.end ≡ Some (rest kept)
-  pub answers : AnswersBodies old.state given new.state seen now
+-- the frames go on
+abbrev pub IsOpen : Option End → Type 0
+IsOpen end = (kept : List ℕ) × (end ≡ Some (rest kept))
 
--- the piece completes these bodies, which are all answered, and then has a fault
-pub record FailsInPiece (old new : Serving) (piece : List ℕ) (seen now : SinkSeen) : Type 0 where
+-- the frames end in this fault
+abbrev pub HasFault : FaultAt → Option End → Type 0
+HasFault at end = (kind : Fault) × (end ≡ Some (fault kind at.offset)) × (at.number ≡ fault_number kind)
+
+-- the frames end so behind the bodies of a piece
+abbrev pub EndsCut : Option FaultAt → Option End → Type 0
+EndsCut None end = IsOpen end
+EndsCut (Some at) end = HasFault at end
+
+-- the bodies that a piece completes, and how the frames then end
+pub record Cuts (old : Deframed) (piece : List ℕ) (cut : Cut) (new : Deframed) : Type 0 where
+  pub feeds : Feeds old piece (contents cut.bodies) new
+  pub end : EndsCut cut.fault new.end
+
+-- the piece completes these bodies, which are all answered, and then its frames end so
+pub record TakesPiece (old new : Serving) (piece : List ℕ) (Ends : Option End → Type 0) (seen now : SinkSeen) : Type 0 where
   pub given : List (List ℕ)
   pub feeds : Feeds old.frames piece given new.frames
-  pub kind : Fault
-  pub at : ℕ
-  pub faulty_end : new.frames.end ≡ Some (fault kind at)
+  pub end : Ends new.frames.end
   pub answers : AnswersBodies old.state given new.state seen now
 
 -- the piece completes these bodies, of which one ends the session
-pub record EndsInPiece (old new : Serving) (piece : List ℕ) (status : ℕ) (seen now : SinkSeen) : Type 0 where
+pub record EndsInPiece (old new : Serving) (piece : List ℕ) (exit : Ending) (seen now : SinkSeen) : Type 0 where
   pub given : List (List ℕ)
   pub feeds : Feeds old.frames piece given new.frames
-  pub ends : EndsSession old.state given status seen now
+  pub ends : EndsSession old.state given exit seen now
 
 -- the piece completes these bodies, of which some are answered
 pub record AnswersInPiece (old new : Serving) (piece : List ℕ) (IsPrinted : List ℕ → Type 0) : Type 0 where
@@ -46,18 +58,10 @@ pub record AnswersInPiece (old new : Serving) (piece : List ℕ) (IsPrinted : Li
   pub feeds : Feeds old.frames piece given new.frames
   pub answers : AnswersSome old.state given IsPrinted
 
-abbrev pub PieceStopsAs : Serving → Serving → List ℕ → SinkSeen → SinkSeen → Status → Type 0
-PieceStopsAs old new piece seen now Done = EndsInPiece old new piece 0 seen now
-PieceStopsAs old new piece seen now Refused = EndsInPiece old new piece 1 seen now
-PieceStopsAs old new piece seen now BadWords = ⊥
-PieceStopsAs old new piece seen now SourceFault = ⊥
-PieceStopsAs old new piece seen now NoMemory = AnswersInPiece old new piece (PrintsPart seen now) ⊎ (now ≡ seen)
-PieceStopsAs old new piece seen now SinkFault = AnswersInPiece old new piece (PrintsFront seen now)
-PieceStopsAs old new piece seen now FrameFault = FailsInPiece old new piece seen now
-PieceStopsAs old new piece seen now TooLong = ⊥
-PieceStopsAs old new piece seen now Endless = ⊥
-
 -- how taking a piece ends
-abbrev pub TakingEndsAs : Serving → Serving → List ℕ → SinkSeen → SinkSeen → Result (Unit {0}) Status → Type 0
-TakingEndsAs old new piece seen now (Ok done) = TakesPiece old new piece seen now
-TakingEndsAs old new piece seen now (Err status) = PieceStopsAs old new piece seen now status
+abbrev pub PieceEndsAs : Serving → Serving → List ℕ → SinkSeen → SinkSeen → PieceEnd → Type 0
+PieceEndsAs old new piece seen now Answered = TakesPiece old new piece IsOpen seen now
+PieceEndsAs old new piece seen now (Faulty at) = TakesPiece old new piece (HasFault at) seen now
+PieceEndsAs old new piece seen now (Exited exit) = EndsInPiece old new piece (said_exit exit) seen now
+PieceEndsAs old new piece seen now WriteFailed = AnswersInPiece old new piece (PrintsFront seen now)
+PieceEndsAs old new piece seen now NoMemory = AnswersInPiece old new piece (PrintsPart seen now) ⊎ (now ≡ seen)

@@ -5,7 +5,7 @@ use Rattle.ls_base.specs.declared.answers.Arrow.{Arrow}
 use Rattle.ls_base.specs.declared.places.Pos.{Pos}
 use Rattle.syntax_tree.specs.Small.{IsSmall}
 use Rattle.syntax_tree.specs.Walked.{HasArrows}
-use Rattle.scheme_ls.specs.declared.run.TheConstants.{NOT_BUILT}
+use Rattle.scheme_ls.specs.Wording.{not_built_text}
 
 -- `LINE:COLUMN`
 abbrev pub place_text : Pos → List ℕ
@@ -30,4 +30,4 @@ pub record AreLines (text output : List ℕ) : Type 0 where
 -- the text isn't small, and this is the line for such texts
 pub record IsRefusal (text output : List ℕ) : Type 0 where
   pub not_small : ¬ IsSmall text
-  pub line : output ≡ NOT_BUILT.now
+  pub line : output ≡ not_built_text

@@ -1,17 +1,22 @@
 -- How the command `serve` ends, and why.
-use Rattle.std.specs.Prelude.{◌≡◌, ◌⊎◌, ℕ, ◌≤◌, List, [], ◌∷◌, ◌++◌, length, Option, Some, None}
+use Rattle.std.specs.Prelude.{◌≡◌, ℕ, ◌<◌, ◌≤◌, ◌^◌, List, [], ◌∷◌, ◌++◌, length, Option, Some, None}
+use Rattle.std.specs.Io.KnownBytes.{Appends}
 use Rattle.ls_base.specs.Frames.{End, rest, fault}
 use Rattle.lsp_messages.specs.declared.reply.Reply.{Reply}
-use Rattle.ls_outside.specs.Counts.{Fails}
 use Rattle.ls_outside.specs.Sources.{bytes_of}
-use Rattle.scheme_ls.specs.Reading.{TakesAll, TakesBytes}
+use Rattle.scheme_model.specs.Session.{Ending}
+use Rattle.scheme_ls.specs.ReplyFrames.{frames_of}
 use Rattle.scheme_ls.specs.Prints.{SinkSeen, Prints, PrintsFront, PrintsPart}
-use Rattle.scheme_ls.specs.Output.{frames_of}
-use Rattle.scheme_ls.specs.Serving.{AnswersAll, AnswersFirst, exit_of}
-use Rattle.scheme_ls.specs.Ends.{Seen}
-use Rattle.scheme_ls.specs.declared.serve.TheConstants.{MAX_STREAM}
-use Rattle.scheme_ls.specs.declared.status.Status.{Status}
-use Rattle.scheme_ls.specs.declared.status.Status.TheVariants.{Done, Refused, BadWords, SourceFault, NoMemory, SinkFault, FrameFault, TooLong, Endless}
+use Rattle.scheme_ls.specs.Reading.{FailsToRead, ReadsOn, ReadsToEnd, SourceSeen, TakesBytes}
+use Rattle.scheme_ls.specs.SessionOutput.{BeginOutput, IsOutputOf, Output, written}
+use Rattle.scheme_ls.specs.Statuses.{said_exit}
+use Rattle.scheme_ls.specs.Streams.{Streams}
+use Rattle.scheme_ls.specs.declared.serve.SessionEnd.{SessionEnd}
+use Rattle.scheme_ls.specs.declared.serve.SessionEnd.TheVariants.{Exited, InputEnded, ReadFailed, WriteFailed, NoMemory, FrameFault, Endless}
+
+-- how many bytes a session takes, at most
+abbrev pub max_stream : ℕ
+max_stream = 2 ^ 40
 
 -- the frames end within a frame or at its end, and not in a fault
 abbrev pub IsUnfinished : End → Type 0
@@ -23,98 +28,95 @@ abbrev pub IsFaulty : End → Type 0
 IsFaulty (rest kept) = ⊥
 IsFaulty (fault kind offset) = Unit {0}
 
--- bytes were taken, and all messages that answer their bodies were written
-pub record Answers (old new : Seen) : Type 0 where
-  pub bytes : List ℕ
-  pub taken : TakesBytes old.source.left new.source.left bytes
-  pub few : length bytes ≤ MAX_STREAM
-  pub answers : AnswersAll bytes
-  pub prints : Prints old.sink new.sink (frames_of answers.messages)
+-- ---- what was written, by the outputs of what was taken
 
--- no read failed
-abbrev pub IsCalm : Seen → Seen → Type 0
-IsCalm old new = new.source.faults ≡ old.source.faults
+-- an output was written whole
+pub record WritesWhole (IsOutput : Output → Type 0) (old new : SinkSeen) : Type 0 where
+  pub output : Output
+  pub is : IsOutput output
+  pub prints : Prints old new (frames_of (written output))
 
--- a session that `exit` ends with a status
-pub record Exits (status : ℕ) (old new : Seen) : Type 0 where
-  pub session : Answers old new
-  pub exits : exit_of session.answers ≡ Some status
-  pub calm : IsCalm old new
+-- the output was written of a session that `exit` ends so
+pub record Exits (IsOutput : Output → Type 0) (exit : Ending) (old new : SinkSeen) : Type 0 where
+  pub writes : WritesWhole IsOutput old new
+  pub exits : writes.output.exit ≡ Some exit
 
--- a session that nothing has ended yet
-pub record GoesOn (old new : Seen) : Type 0 where
-  pub session : Answers old new
-  pub goes_on : exit_of session.answers ≡ None
-  pub unfinished : IsUnfinished session.answers.rest
+-- the output was written of a session that nothing in it ends
+pub record GoesOn (IsOutput : Output → Type 0) (old new : SinkSeen) : Type 0 where
+  pub writes : WritesWhole IsOutput old new
+  pub no_exit : writes.output.exit ≡ None
+  pub unfinished : IsUnfinished writes.output.end
 
--- a session whose input ends
-pub record InputEnds (old new : Seen) : Type 0 where
-  pub going : GoesOn old new
-  pub all : TakesAll old.source.left new.source.left going.session.bytes
-  pub calm : IsCalm old new
+-- the output was written of a session whose frames end in a fault
+pub record FramesFail (IsOutput : Output → Type 0) (old new : SinkSeen) : Type 0 where
+  pub writes : WritesWhole IsOutput old new
+  pub no_exit : writes.output.exit ≡ None
+  pub faulty : IsFaulty writes.output.end
 
--- a session in which a read fails
-pub record ReadFails (old new : Seen) : Type 0 where
-  pub going : GoesOn old new
-  pub failed : Fails old.source.faults new.source.faults
+-- a write failed within messages that begin the output
+pub record WritesFront (Begin : List Reply → Type 0) (old new : SinkSeen) : Type 0 where
+  pub messages : List Reply
+  pub begin : Begin messages
+  pub prints : PrintsFront old new (frames_of messages)
 
--- a session that took as many bytes as one may
-pub record TakesMost (old new : Seen) : Type 0 where
-  pub going : GoesOn old new
-  pub most : length going.session.bytes ≡ MAX_STREAM
-  pub calm : IsCalm old new
+-- a front was written of messages that begin the output
+pub record WritesPart (Begin : List Reply → Type 0) (old new : SinkSeen) : Type 0 where
+  pub messages : List Reply
+  pub begin : Begin messages
+  pub prints : PrintsPart old new (frames_of messages)
 
--- a session whose bytes have a fault of frames
-pub record FramesFail (old new : Seen) : Type 0 where
-  pub session : Answers old new
-  pub goes_on : exit_of session.answers ≡ None
-  pub faulty : IsFaulty session.answers.rest
-  pub calm : IsCalm old new
+-- how a session ends that took so many bytes, by their outputs and the messages that begin these
+abbrev pub SessionEndsAs : ℕ → (Output → Type 0) → (List Reply → Type 0) → SinkSeen → SinkSeen → SessionEnd → Type 0
+SessionEndsAs taken IsOutput Begin old new (Exited exit) = (taken ≤ max_stream) × Exits IsOutput (said_exit exit) old new
+SessionEndsAs taken IsOutput Begin old new InputEnded = (taken < max_stream) × GoesOn IsOutput old new
+SessionEndsAs taken IsOutput Begin old new ReadFailed = (taken < max_stream) × GoesOn IsOutput old new
+SessionEndsAs taken IsOutput Begin old new WriteFailed = (taken ≤ max_stream) × WritesFront Begin old new
+SessionEndsAs taken IsOutput Begin old new NoMemory = (taken ≤ max_stream) × WritesPart Begin old new
+SessionEndsAs taken IsOutput Begin old new FrameFault = (taken ≤ max_stream) × FramesFail IsOutput old new
+SessionEndsAs taken IsOutput Begin old new Endless = (taken ≡ max_stream) × GoesOn IsOutput old new
 
--- the bytes are those of the pieces before one
-pub record AreBefore (pieces : List (List ℕ)) (bytes : List ℕ) : Type 0 where
+-- ---- where the bytes come from
+
+-- the bytes are those of the first of these pieces, and the last bytes are a front, not empty, of the next one
+pub record AreBefore (pieces : List (List ℕ)) (bytes last : List ℕ) : Type 0 where
   pub before : List (List ℕ)
-  pub piece : List ℕ
+  pub unread : List ℕ
   pub after : List (List ℕ)
-  pub split : pieces ≡ before ++ (piece ∷ after)
+  pub split : pieces ≡ before ++ ((last ++ unread) ∷ after)
   pub whole : bytes ≡ bytes_of before
+  pub some : 0 < length last
 
--- where the pieces are told, the bytes are those before the one that is taken last
-abbrev pub AreBeforeLast : Option (List (List ℕ)) → List ℕ → Type 0
-AreBeforeLast None bytes = Unit {0}
-AreBeforeLast (Some pieces) bytes = AreBefore pieces bytes
+-- the same where the pieces are told
+abbrev pub AreBeforeLast : Option (List (List ℕ)) → List ℕ → List ℕ → Type 0
+AreBeforeLast None bytes last = Unit {0}
+AreBeforeLast (Some pieces) bytes last = AreBefore pieces bytes last
 
--- a session in which a write fails: what answers the pieces before the one that was taken last was written before
-pub record WriteFails (old new : Seen) : Type 0 where
+-- what answers the pieces before the one that holds the last byte taken was written
+pub record AnswersPiecesBefore (old new : Streams) (bytes : List ℕ) : Type 0 where
   pub before : List ℕ
   pub last : List ℕ
-  pub taken : TakesBytes old.source.left new.source.left (before ++ last)
-  pub pieces : AreBeforeLast old.source.left before
-  pub answers : AnswersAll before
-  pub goes_on : exit_of answers ≡ None
-  pub messages : AnswersFirst (before ++ last)
-  pub later : List Reply
-  pub more : messages.messages ≡ answers.messages ++ later
-  pub prints : PrintsFront old.sink new.sink (frames_of messages.messages)
-  pub prompt : length (frames_of answers.messages) ≤ prints.count
-  pub calm : IsCalm old new
+  pub split : bytes ≡ before ++ last
+  pub pieces : AreBeforeLast old.source.left before last
+  pub output : Output
+  pub is : IsOutputOf before output
+  pub no_exit : output.exit ≡ None
+  pub unfinished : IsUnfinished output.end
+  pub more : List ℕ
+  pub printed : Appends old.sink.taken new.sink.taken (frames_of output.messages ++ more)
 
--- a session in which memory runs out: a front was written of what answers the first bodies
-pub record MemoryEnds (old new : Seen) : Type 0 where
+-- what became of the source of these bytes
+abbrev pub SourceEndsAs : Streams → Streams → List ℕ → SessionEnd → Type 0
+SourceEndsAs old new bytes (Exited exit) = ReadsOn old.source new.source
+SourceEndsAs old new bytes InputEnded = ReadsToEnd old.source new.source bytes
+SourceEndsAs old new bytes ReadFailed = FailsToRead old.source new.source
+SourceEndsAs old new bytes WriteFailed = ReadsOn old.source new.source × AnswersPiecesBefore old new bytes
+SourceEndsAs old new bytes NoMemory = ReadsOn old.source new.source
+SourceEndsAs old new bytes FrameFault = ReadsOn old.source new.source
+SourceEndsAs old new bytes Endless = ReadsOn old.source new.source
+
+-- how `serve` ends: bytes were taken of the source, and the session over them ended so
+pub record ServeEndsAs (old new : Streams) (end : SessionEnd) : Type 0 where
   pub bytes : List ℕ
   pub taken : TakesBytes old.source.left new.source.left bytes
-  pub messages : AnswersFirst bytes
-  pub prints : PrintsPart old.sink new.sink (frames_of messages.messages)
-  pub calm : IsCalm old new
-
--- how the command `serve` ends
-abbrev pub ServeEndsAs : Seen → Seen → Status → Type 0
-ServeEndsAs old new Done = Exits 0 old new
-ServeEndsAs old new Refused = Exits 1 old new ⊎ InputEnds old new
-ServeEndsAs old new BadWords = ⊥
-ServeEndsAs old new SourceFault = ReadFails old new
-ServeEndsAs old new NoMemory = MemoryEnds old new
-ServeEndsAs old new SinkFault = WriteFails old new
-ServeEndsAs old new FrameFault = FramesFail old new
-ServeEndsAs old new TooLong = ⊥
-ServeEndsAs old new Endless = TakesMost old new
+  pub source : SourceEndsAs old new bytes end
+  pub session : SessionEndsAs (length bytes) (IsOutputOf bytes) (BeginOutput bytes) old.sink new.sink end

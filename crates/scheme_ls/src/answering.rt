@@ -1,11 +1,11 @@
 //! Answers the bodies of a session.
 ghost use Rattle.std.specs.Prelude.{◌≡◌, [], ◌∷◌};
 ghost use Rattle.lsp_framing.specs.Taken.{contents};
-ghost use Rattle.scheme_ls.specs.Answering.{AnsweringEndsAs};
+ghost use Rattle.scheme_ls.specs.BodiesOutcome.{BodiesEndAs, body_end_of};
 ghost use Rattle.scheme_ls.specs.Prints.{sink_seen};
-ghost use Rattle.scheme_ls.specs.Statuses.{ended_status};
+ghost use Rattle.scheme_ls.specs.Statuses.{exit_status};
 
-use crate::replies::write_replies;
+use crate::replies::{WriteStop, write_replies};
 use crate::status::Status;
 use ls_base::Steps;
 use ls_outside::Sink;
@@ -13,35 +13,71 @@ use session_core::Session;
 use std::alloc::Global;
 use std::sync::ledger::Ledger;
 
-/// The status of a session that `exit` ends.
-fn exit_status(code: u8) -> Status
-    ensures { result ≡ ended_status code }
-{
-    if code == 0 {
-        Status::Done
-    } else {
-        Status::Refused
+/// How `exit` ends a session.
+#[derive(Clone, Copy, Debug, PartialEq, Eq)]
+pub enum Exit {
+    /// After `shutdown`.
+    Clean,
+    /// Without `shutdown` before it.
+    Early,
+}
+
+impl Exit {
+    /// The status of a session that ends so.
+    pub fn status(self) -> Status
+        ensures { result ≡ exit_status self }
+    {
+        match self {
+            Exit::Clean => Status::Done,
+            Exit::Early => Status::Refused,
+        }
     }
 }
 
-/// Takes a body and writes what answers it. `Err` has the status with which the session ends here.
+/// How answering bodies ends.
+#[derive(Clone, Copy, Debug, PartialEq, Eq)]
+pub enum BodiesEnd {
+    /// All are answered, and the session goes on.
+    Answered,
+    /// One of them is an `exit`, and those before it are answered.
+    Exited(Exit),
+    /// A write failed.
+    WriteFailed,
+    /// Memory ran out.
+    NoMemory,
+}
+
+/// How a body that was answered leaves the session, by the status with which it ends the process.
+fn body_end(exit: Option<u8>) -> BodiesEnd
+    ensures { result ≡ body_end_of exit }
+{
+    match exit {
+        None => BodiesEnd::Answered,
+        Some(0) => BodiesEnd::Exited(Exit::Clean),
+        Some(_) => BodiesEnd::Exited(Exit::Early),
+    }
+}
+
+/// Takes a body and writes what answers it.
 fn answer_body<O: Sink, L: Ledger>(
     alloc: Global,
     session: &mut Session,
     body: &[u8],
     output: &mut O,
     steps: &mut Steps<L>,
-) -> Result<(), Status>
-    ensures answers { AnsweringEndsAs session.old (body.now ∷ []) session.new
-        (sink_seen (O.taken output.old) (O.faults output.old))
-        (sink_seen (O.taken output.new) (O.faults output.new)) result }
+) -> BodiesEnd
+    ensures answers { BodiesEndAs session.old (body.now ∷ []) session.new
+        (sink_seen (O.taken output.old) (O.faults output.old) (O.writes output.old))
+        (sink_seen (O.taken output.new) (O.faults output.new) (O.writes output.new)) result }
     ensures steps { steps.new ≡ steps.old }
 {
-    let out = session.on_body(body, steps)?;
-    write_replies(alloc, out.replies.as_slice(), output)?;
-    match out.end {
-        Some(code) => Err(exit_status(code)),
-        None => Ok(()),
+    let Ok(out) = session.on_body(body, steps) else {
+        return BodiesEnd::NoMemory;
+    };
+    match write_replies(alloc, out.replies.as_slice(), output) {
+        Ok(()) => body_end(out.end),
+        Err(WriteStop::Failed) => BodiesEnd::WriteFailed,
+        Err(WriteStop::Memory) => BodiesEnd::NoMemory,
     }
 }
 
@@ -52,14 +88,19 @@ pub fn answer_bodies<O: Sink, L: Ledger>(
     bodies: &[Vec<u8>],
     output: &mut O,
     steps: &mut Steps<L>,
-) -> Result<(), Status>
-    ensures answers { AnsweringEndsAs session.old (contents bodies.now) session.new
-        (sink_seen (O.taken output.old) (O.faults output.old))
-        (sink_seen (O.taken output.new) (O.faults output.new)) result }
+) -> BodiesEnd
+    ensures answers { BodiesEndAs session.old (contents bodies.now) session.new
+        (sink_seen (O.taken output.old) (O.faults output.old) (O.writes output.old))
+        (sink_seen (O.taken output.new) (O.faults output.new) (O.writes output.new)) result }
     ensures steps { steps.new ≡ steps.old }
 {
     for body in bodies {
-        answer_body(alloc, session, body, output, steps)?;
+        match answer_body(alloc, session, body, output, steps) {
+            BodiesEnd::Answered => {}
+            BodiesEnd::Exited(exit) => return BodiesEnd::Exited(exit),
+            BodiesEnd::WriteFailed => return BodiesEnd::WriteFailed,
+            BodiesEnd::NoMemory => return BodiesEnd::NoMemory,
+        }
     }
-    Ok(())
+    BodiesEnd::Answered
 }

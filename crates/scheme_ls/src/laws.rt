@@ -1,11 +1,13 @@
 //! Laws of what is written, each the contract of a function that does nothing.
-ghost use Rattle.std.specs.Prelude.{◌≡◌, List, ℕ};
-ghost use Rattle.scheme_ls.specs.Serving.{AnswersAll, exit_of};
+ghost use Rattle.std.specs.Prelude.{◌≡◌, ◌++◌, List, ℕ};
+ghost use Rattle.lsp_messages.specs.declared.reply.Reply.{Reply};
+ghost use Rattle.scheme_ls.specs.SessionOutput.{BeginOutput, IsOutputOf, Output, written};
 
-/// Bytes tell what a session writes in answer to all of them, how they end, and the status with which `exit` ends the
-/// session, where it does.
+/// A stream of bytes has one output: no stream is without one, and none has two. Messages that begin it are a front of
+/// what is written.
 pub fn one_output()
-    ensures messages { (bytes : List ℕ) (one other : AnswersAll bytes) → one.messages ≡ other.messages }
-    ensures rest { (bytes : List ℕ) (one other : AnswersAll bytes) → one.rest ≡ other.rest }
-    ensures exit { (bytes : List ℕ) (one other : AnswersAll bytes) → exit_of one ≡ exit_of other }
+    ensures some { (bytes : List ℕ) → ¬ ¬ ((output : Output) × IsOutputOf bytes output) }
+    ensures only { (bytes : List ℕ) (one other : Output) → IsOutputOf bytes one → IsOutputOf bytes other → one ≡ other }
+    ensures front { (bytes : List ℕ) (messages : List Reply) (output : Output) → BeginOutput bytes messages
+        → IsOutputOf bytes output → (rest : List Reply) × (written output ≡ messages ++ rest) }
 {}

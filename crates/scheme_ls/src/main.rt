@@ -1,16 +1,23 @@
 //! The program `scheme_ls`: it makes the real outside, calls `run` and ends with its answer.
 #![tactic(auto)]
 
-ghost use Rattle.std.specs.Prelude.{◌≡◌, ◌<◌};
+ghost use Rattle.std.specs.Prelude.{◌≡◌, ◌<◌, ℕ, drop};
+ghost use Rattle.scheme_ls.specs.Prints.{sink_seen};
+ghost use Rattle.scheme_ls.specs.Reading.{source_seen};
+ghost use Rattle.scheme_ls.specs.RunOutcome.{RunEnds, files_seen, seen};
+ghost use Rattle.scheme_ls.specs.Words.{texts};
 
 mod answering;
+mod arrows;
 pub mod laws;
 mod printing;
 mod reading;
 mod replies;
 pub mod run;
 mod serve;
+mod server;
 mod status;
+mod wording;
 mod words;
 
 use ls_base::Steps;
@@ -23,20 +30,30 @@ use std::process::ExitCode;
 use std::sync::ledger::{Blank, Ledger};
 use std::{env, io};
 
-/// The words after the program's name.
-fn words_of<R: std::rt::Env + AllocGlobal>(rt: &R) -> io::Result<Vec<String>> {
-    let mut words = Vec::new(rt.alloc());
-    for word in env::args(rt)?.skip(1) {
-        words.push(word)?;
+/// The program's arguments, of which the first is its name.
+fn arguments_of<R: std::rt::Env + AllocGlobal>(rt: &R) -> io::Result<Vec<String>> {
+    let mut arguments = Vec::new(rt.alloc());
+    for argument in env::args(rt)? {
+        arguments.push(argument)?;
     }
-    Ok(words)
+    Ok(arguments)
 }
 
-/// Calls `run` with a counter of steps at 0.
+/// The words after the program's name.
+fn words_of(arguments: &[String]) -> &[String]
+    ensures { result.now ≡ drop 1 arguments.now }
+{
+    match arguments {
+        [] => &[],
+        [_, words @ ..] => words,
+    }
+}
+
+/// Calls `run` with the words after the program's name, and a counter of steps at 0.
 fn run_counted<I: Source, O: Sink, F: Files, L: Ledger>(
     alloc: Global,
     blank: Blank,
-    words: &[String],
+    arguments: &[String],
     input: &mut I,
     output: &mut O,
     files: &mut F,
@@ -44,14 +61,21 @@ fn run_counted<I: Source, O: Sink, F: Files, L: Ledger>(
     requires name { blank.name ≡ L.name }
     requires parts { blank.parts ≡ L.parts }
     requires some { 0 < blank.parts }
+    ensures { (steps : ℕ) × RunEnds (texts (drop 1 arguments.now))
+        (seen (source_seen (I.left input.old) (I.faults input.old) (I.reads input.old))
+            (sink_seen (O.taken output.old) (O.faults output.old) (O.writes output.old))
+            (files_seen (F.held files.old) (F.asked files.old) (F.faults files.old)) 0)
+        (seen (source_seen (I.left input.new) (I.faults input.new) (I.reads input.new))
+            (sink_seen (O.taken output.new) (O.faults output.new) (O.writes output.new))
+            (files_seen (F.held files.new) (F.asked files.new) (F.faults files.new)) steps) result }
 {
     let mut steps = Steps::<L>::new(blank);
-    run::run(alloc, words, input, output, files, &mut steps)
+    run::run(alloc, words_of(arguments), input, output, files, &mut steps)
 }
 
 fn main(rt: HostRuntime) -> ExitCode {
-    let words = match words_of(&rt) {
-        Ok(words) => words,
+    let arguments = match arguments_of(&rt) {
+        Ok(arguments) => arguments,
         Err(error) if error.kind() == ErrorKind::OutOfMemory => {
             return ExitCode::from(Status::NoMemory.code());
         }
@@ -64,7 +88,7 @@ fn main(rt: HostRuntime) -> ExitCode {
     let status = run_counted::<_, _, _, Brand>(
         rt.alloc(),
         Blank::new(1),
-        &words,
+        &arguments,
         &mut input,
         &mut output,
         &mut files,

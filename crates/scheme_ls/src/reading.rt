@@ -32,8 +32,8 @@ impl From<AllocError> for ReadStop {
 
 /// Reads to the end, or past the limit of a text and no further.
 pub fn read_all<I: Source>(alloc: Global, input: &mut I) -> Result<Vec<u8>, ReadStop>
-    ensures { ReadingEndsAs (source_seen (I.left input.old) (I.faults input.old))
-        (source_seen (I.left input.new) (I.faults input.new)) result }
+    ensures { ReadingEndsAs (source_seen (I.left input.old) (I.faults input.old) (I.reads input.old))
+        (source_seen (I.left input.new) (I.faults input.new) (I.reads input.new)) result }
 {
     let mut text = Vec::new(alloc);
     let mut buf = [0u8; BUFFER];

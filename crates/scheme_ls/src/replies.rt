@@ -1,5 +1,5 @@
 //! Writes replies, each in its frame.
-ghost use Rattle.scheme_ls.specs.Output.{frame_of_reply, frames_of};
+ghost use Rattle.scheme_ls.specs.ReplyFrames.{frame_of_reply, frames_of};
 ghost use Rattle.scheme_ls.specs.Prints.{WritingEndsAs, sink_seen};
 
 use crate::printing::{SinkFailed, print_all};
@@ -7,7 +7,7 @@ use ls_base::Memory;
 use ls_outside::Sink;
 use lsp_framing::frame;
 use lsp_messages::{Reply, reply_bytes};
-use std::alloc::Global;
+use std::alloc::{AllocError, Global};
 
 /// Why replies weren't written whole.
 #[derive(Clone, Copy, Debug, PartialEq, Eq)]
@@ -29,6 +29,17 @@ impl From<Memory> for WriteStop {
     }
 }
 
+impl From<AllocError> for WriteStop {
+    ghost use Rattle.std.specs.Prelude.{◌≡◌};
+    ghost use Rattle.scheme_ls.specs.declared.replies.WriteStop.TheVariants as stop;
+
+    ghost from_gives = { λ _ e. e ≡ stop.Memory };
+
+    fn from(_: AllocError) -> Self {
+        WriteStop::Memory
+    }
+}
+
 impl From<SinkFailed> for WriteStop {
     ghost use Rattle.std.specs.Prelude.{◌≡◌};
     ghost use Rattle.scheme_ls.specs.declared.replies.WriteStop.TheVariants as stop;
@@ -41,9 +52,9 @@ impl From<SinkFailed> for WriteStop {
 }
 
 /// Writes the frame of a reply.
-fn write_reply<O: Sink>(alloc: Global, reply: &Reply, output: &mut O) -> Result<(), WriteStop>
-    ensures { WritingEndsAs (sink_seen (O.taken output.old) (O.faults output.old))
-        (sink_seen (O.taken output.new) (O.faults output.new)) (frame_of_reply reply.now) result }
+pub fn write_reply<O: Sink>(alloc: Global, reply: &Reply, output: &mut O) -> Result<(), WriteStop>
+    ensures { WritingEndsAs (sink_seen (O.taken output.old) (O.faults output.old) (O.writes output.old))
+        (sink_seen (O.taken output.new) (O.faults output.new) (O.writes output.new)) (frame_of_reply reply.now) result }
 {
     let body = reply_bytes(alloc, reply)?;
     let frame = frame(alloc, &body)?;
@@ -57,8 +68,8 @@ pub fn write_replies<O: Sink>(
     replies: &[Reply],
     output: &mut O,
 ) -> Result<(), WriteStop>
-    ensures { WritingEndsAs (sink_seen (O.taken output.old) (O.faults output.old))
-        (sink_seen (O.taken output.new) (O.faults output.new)) (frames_of replies.now) result }
+    ensures { WritingEndsAs (sink_seen (O.taken output.old) (O.faults output.old) (O.writes output.old))
+        (sink_seen (O.taken output.new) (O.faults output.new) (O.writes output.new)) (frames_of replies.now) result }
 {
     for reply in replies {
         write_reply(alloc, reply, output)?;

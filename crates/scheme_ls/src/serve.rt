@@ -1,15 +1,18 @@
 //! One session over a source and a sink.
-ghost use Rattle.std.specs.Prelude.{◌≡◌, ◌+◌, ◌<◌, ◌^◌, length};
-ghost use Rattle.scheme_ls.specs.Ends.{seen};
+ghost use Rattle.std.specs.Prelude.{◌≡◌};
 ghost use Rattle.scheme_ls.specs.Prints.{sink_seen};
-ghost use Rattle.scheme_ls.specs.Served.{ServeEndsAs};
-ghost use Rattle.scheme_ls.specs.Taking.{TakingEndsAs, serving};
+ghost use Rattle.scheme_ls.specs.Reading.{source_seen};
+ghost use Rattle.scheme_ls.specs.ServeOutcome.{ServeEndsAs};
+ghost use Rattle.scheme_ls.specs.Statuses.{session_status};
+ghost use Rattle.scheme_ls.specs.Streams.{streams};
 
-use crate::answering::answer_bodies;
+use crate::answering::Exit;
+use crate::replies::WriteStop;
+use crate::server::{PieceEnd, Server, say_farewell};
 use crate::status::Status;
 use ls_base::Steps;
 use ls_outside::{Got, Sink, Source};
-use lsp_framing::{Deframer, FrameFault};
+use lsp_framing::Deframer;
 use session_core::Session;
 use std::alloc::Global;
 use std::sync::ledger::Ledger;
@@ -20,51 +23,38 @@ const BUFFER: usize = 65_536;
 /// How many bytes a session takes, at most.
 const MAX_STREAM: u64 = 1 << 40;
 
-/// A session, and the frames that it gets its bodies from.
-#[derive(Drop)]
-struct Server {
-    deframer: Deframer,
-    session: Session,
-    alloc: Global,
+/// How a session ends.
+#[derive(Clone, Copy, Debug, PartialEq, Eq)]
+pub enum SessionEnd {
+    /// By an `exit`.
+    Exited(Exit),
+    /// The input ended without `exit`.
+    InputEnded,
+    /// A read failed.
+    ReadFailed,
+    /// A write failed.
+    WriteFailed,
+    /// Memory ran out.
+    NoMemory,
+    /// The input has a fault of frames, which was logged.
+    FrameFault,
+    /// It took as many bytes as a session may.
+    Endless,
 }
 
-impl Server {
-    /// Takes bytes of the input and writes what answers the bodies that they complete. `Err` has the status with which
-    /// the session ends here.
-    fn take<O: Sink, L: Ledger>(
-        &mut self,
-        piece: &[u8],
-        output: &mut O,
-        steps: &mut Steps<L>,
-    ) -> Result<(), Status>
-        requires { self.old.deframer.taken + length piece.now < 2 ^ 64 }
-        ensures takes { TakingEndsAs (serving self.old.deframer self.old.session) (serving self.new.deframer self.new.session)
-            piece.now (sink_seen (O.taken output.old) (O.faults output.old))
-            (sink_seen (O.taken output.new) (O.faults output.new)) result }
-        ensures steps { steps.new ≡ steps.old }
+impl SessionEnd {
+    /// The status of a run that ends so.
+    pub fn status(self) -> Status
+        ensures { result ≡ session_status self }
     {
-        match self.deframer.feed(piece) {
-            Ok(bodies) => {
-                answer_bodies(
-                    self.alloc,
-                    &mut self.session,
-                    bodies.as_slice(),
-                    output,
-                    steps,
-                )?;
-                Ok(())
-            }
-            Err(FrameFault::At { done, .. }) => {
-                answer_bodies(
-                    self.alloc,
-                    &mut self.session,
-                    done.as_slice(),
-                    output,
-                    steps,
-                )?;
-                Err(Status::FrameFault)
-            }
-            Err(FrameFault::Memory) => Err(Status::NoMemory),
+        match self {
+            Self::Exited(exit) => exit.status(),
+            Self::InputEnded => Status::Refused,
+            Self::ReadFailed => Status::SourceFault,
+            Self::WriteFailed => Status::SinkFault,
+            Self::NoMemory => Status::NoMemory,
+            Self::FrameFault => Status::FrameFault,
+            Self::Endless => Status::Endless,
         }
     }
 }
@@ -76,14 +66,16 @@ pub fn serve<I: Source, O: Sink, L: Ledger>(
     input: &mut I,
     output: &mut O,
     steps: &mut Steps<L>,
-) -> Status
+) -> SessionEnd
     ensures serves { ServeEndsAs
-        (seen (I.left input.old) (I.faults input.old) (O.taken output.old) (O.faults output.old))
-        (seen (I.left input.new) (I.faults input.new) (O.taken output.new) (O.faults output.new)) result }
+        (streams (source_seen (I.left input.old) (I.faults input.old) (I.reads input.old))
+            (sink_seen (O.taken output.old) (O.faults output.old) (O.writes output.old)))
+        (streams (source_seen (I.left input.new) (I.faults input.new) (I.reads input.new))
+            (sink_seen (O.taken output.new) (O.faults output.new) (O.writes output.new))) result }
     ensures steps { steps.new ≡ steps.old }
 {
     let Ok(session) = Session::new(alloc) else {
-        return Status::NoMemory;
+        return SessionEnd::NoMemory;
     };
     let deframer = Deframer::new(alloc);
     let mut server = Server {
@@ -98,13 +90,23 @@ pub fn serve<I: Source, O: Sink, L: Ledger>(
         match input.read(&mut buf[..room]) {
             Got::Some(count) => {
                 taken += count as u64;
-                if let Err(status) = server.take(&buf[..count], output, steps) {
-                    return status;
+                match server.take(&buf[..count], output, steps) {
+                    PieceEnd::Answered => {}
+                    PieceEnd::Faulty(fault) => {
+                        return match say_farewell(alloc, fault, output) {
+                            Ok(()) => SessionEnd::FrameFault,
+                            Err(WriteStop::Failed) => SessionEnd::WriteFailed,
+                            Err(WriteStop::Memory) => SessionEnd::NoMemory,
+                        };
+                    }
+                    PieceEnd::Exited(exit) => return SessionEnd::Exited(exit),
+                    PieceEnd::WriteFailed => return SessionEnd::WriteFailed,
+                    PieceEnd::NoMemory => return SessionEnd::NoMemory,
                 }
             }
-            Got::End => return Status::Refused,
-            Got::Failed => return Status::SourceFault,
+            Got::End => return SessionEnd::InputEnded,
+            Got::Failed => return SessionEnd::ReadFailed,
         }
     }
-    Status::Endless
+    SessionEnd::Endless
 }

@@ -2,9 +2,6 @@
 ghost use Rattle.std.specs.Prelude.{◌≡◌};
 ghost use Rattle.scheme_ls.specs.Statuses.{code_of};
 
-use crate::replies::WriteStop;
-use ls_base::Memory;
-
 /// How a run ends. Each has a cause, which the contract of `run` states.
 #[derive(Clone, Copy, Debug, PartialEq, Eq)]
 pub enum Status {
@@ -43,29 +40,6 @@ impl Status {
             Status::FrameFault => 6,
             Status::TooLong => 7,
             Status::Endless => 8,
-        }
-    }
-}
-
-impl From<Memory> for Status {
-    ghost use Rattle.scheme_ls.specs.declared.status.Status.TheVariants as statuses;
-
-    ghost from_gives = { λ _ e. e ≡ statuses.NoMemory };
-
-    fn from(_: Memory) -> Self {
-        Status::NoMemory
-    }
-}
-
-impl From<WriteStop> for Status {
-    ghost use Rattle.scheme_ls.specs.Statuses.{status_of};
-
-    ghost from_gives = { λ stop e. e ≡ status_of stop };
-
-    fn from(stop: WriteStop) -> Self {
-        match stop {
-            WriteStop::Failed => Status::SinkFault,
-            WriteStop::Memory => Status::NoMemory,
         }
     }
 }

@@ -1,4 +1,5 @@
 //! Runs over the outside in memory.
+mod broken;
 mod serving;
 
 use crate::printing::lines;
@@ -26,7 +27,7 @@ const USAGE: &str = "usage: scheme_ls serve
 #[derive(Clone, Copy)]
 struct Run<'a> {
     words: &'a str,
-    text: &'a str,
+    text: &'a [u8],
     piece: u16,
     step: usize,
     failing_read: u64,
@@ -37,7 +38,7 @@ struct Run<'a> {
 fn plain<'a>(words: &'a str, text: &'a str) -> Run<'a> {
     Run {
         words,
-        text,
+        text: text.as_bytes(),
         piece: u16::MAX,
         step: 1_000,
         failing_read: 0,
@@ -45,8 +46,10 @@ fn plain<'a>(words: &'a str, text: &'a str) -> Run<'a> {
     }
 }
 
-fn words_of(alloc: Global, words: &str) -> Result<Vec<String>, AllocError> {
+/// The arguments of the program with these words after its name.
+fn arguments(alloc: Global, words: &str) -> Result<Vec<String>, AllocError> {
     let mut all = Vec::new(alloc);
+    all.push(String::from_str(alloc, "scheme_ls")?)?;
     for word in words.split_whitespace() {
         all.push(String::from_str(alloc, word)?)?;
     }
@@ -55,17 +58,17 @@ fn words_of(alloc: Global, words: &str) -> Result<Vec<String>, AllocError> {
 
 /// The status of a run, and what it printed.
 fn outcome(alloc: Global, run: Run<'_>) -> Result<(u8, Vec<u8>), Fail> {
-    let words = words_of(alloc, run.words)?;
+    let arguments = arguments(alloc, run.words)?;
     let reads = Plan::new(vec![in alloc; run.failing_read]?);
     let size = usize::from(run.piece).max(1);
-    let mut input = MemSource::new(Pieces::cut(alloc, run.text.as_bytes(), size)?, reads);
+    let mut input = MemSource::new(Pieces::cut(alloc, run.text, size)?, reads);
     let writes = Plan::new(vec![in alloc; run.failing_write]?);
     let mut output = MemSink::new(alloc, 10_000, run.step, writes)?;
     let mut files = MemFiles::new(BTreeMap::new(alloc), Plan::new(Vec::new(alloc)));
     let status = run_counted::<_, _, _, Brand>(
         alloc,
         Blank::new(1),
-        &words,
+        &arguments,
         &mut input,
         &mut output,
         &mut files,
@@ -199,11 +202,11 @@ fn the_line_of_an_arrow(rt: HostRuntime) -> Result<(), Fail> {
 
 /// The status of `arrows` over an outside that never fails.
 fn sure_status(alloc: Global) -> Result<u8, Fail> {
-    let words = words_of(alloc, "arrows")?;
+    let arguments = arguments(alloc, "arrows")?;
     let status = run_counted::<_, _, _, Brand>(
         alloc,
         Blank::new(1),
-        &words,
+        &arguments,
         &mut SureSource::new(Pieces::cut(alloc, b"(if a b c)", 3)?),
         &mut SureSink::new(),
         &mut SureFiles::new(BTreeMap::new(alloc)),

@@ -20,4 +20,5 @@ pub mod Begun
 pub mod Stopping
 pub mod DataTrees
 pub mod Texts
+pub mod Wording
 pub mod Session

@@ -1,7 +1,8 @@
 -- A session (JSON-RPC 2.0; LSP 3.17, lifecycle): what a server answers to each message, and what it keeps. Which answer
 -- a query has in given texts is given, and what a message is that a body reads as.
-use Rattle.std.specs.Prelude.{ℕ, ℤ, neg_ℤ, pos, Bool, List, [], ◌∷◌, ◌++◌, Option, Some, None, codes}
-use Rattle.scheme_model.specs.Texts.{Position, Offsets, Texts, Event, Added, Changed, Closed, Refusal, NotOpen, BadRange, TooLong, TooMany, after}
+use Rattle.std.specs.Prelude.{ℕ, ℤ, neg_ℤ, pos, Bool, List, [], ◌∷◌, ◌++◌, Option, Some, None}
+use Rattle.scheme_model.specs.Texts.{Position, Offsets, Texts, Event, Added, Changed, Closed, Refusal, after}
+use Rattle.scheme_model.specs.Wording.{parse_error_text, invalid_request_text, method_not_found_text, invalid_params_text, not_initialized_text, refusal_text, bad_params_text}
 
 -- a request's id
 pub data Id : Type 0 where
@@ -56,19 +57,34 @@ pub record State : Type 0 where
   pub mode : Mode
   pub texts : Texts
 
+-- how `exit` ends a session: after `shutdown`, or before it
+pub data Ending : Type 0 where
+  Clean : Ending
+  Early : Ending
+
 -- what answers queries and renames in given texts
 pub record Answers (A : Type 0) : Type 0 where
   pub null : A
   pub query : Texts → List ℕ → Position → Query → A
 
--- what one message leads to: the state after it, the replies, and the status where it ends the session
+-- what one message leads to: the state after it, the replies, and how it ends the session, where it does
 pub record Stepped (A : Type 0) : Type 0 where
   pub state : State
   pub replies : List (Reply A)
-  pub end : Option ℕ
+  pub end : Option Ending
+
+-- ---- states
 
 abbrev pub begin : Texts → State
 begin none = record { mode = Fresh; texts = none }
+
+abbrev pub with_mode : Mode → State → State
+with_mode mode state = record { mode = mode; texts = state.texts }
+
+abbrev pub with_texts : Texts → State → State
+with_texts texts state = record { mode = state.mode; texts = texts }
+
+-- ---- replies
 
 abbrev pub stays : {A : Type 0} → State → List (Reply A) → Stepped A
 stays state replies = record { state = state; replies = replies; end = None }
@@ -78,40 +94,49 @@ minus n = neg_ℤ (pos n)
 
 -- the errors of JSON-RPC 2.0, section 5.1, and of the protocol
 abbrev pub parse_error : {A : Type 0} → Reply A
-parse_error = Error None (minus 32700) (codes "parse error")
+parse_error = Error None (minus 32700) parse_error_text
 
 abbrev pub invalid_request : {A : Type 0} → Option Id → Reply A
-invalid_request id = Error id (minus 32600) (codes "invalid request")
+invalid_request id = Error id (minus 32600) invalid_request_text
 
 abbrev pub method_not_found : {A : Type 0} → Id → Reply A
-method_not_found id = Error (Some id) (minus 32601) (codes "method not found")
+method_not_found id = Error (Some id) (minus 32601) method_not_found_text
 
 abbrev pub invalid_params : {A : Type 0} → Id → Reply A
-invalid_params id = Error (Some id) (minus 32602) (codes "invalid params")
+invalid_params id = Error (Some id) (minus 32602) invalid_params_text
 
 abbrev pub not_initialized : {A : Type 0} → Id → Reply A
-not_initialized id = Error (Some id) (minus 32002) (codes "server not initialized")
+not_initialized id = Error (Some id) (minus 32002) not_initialized_text
+
+-- ---- requests
 
 -- a request while running: a second `initialize` is invalid, `shutdown` is answered with null
 abbrev pub called : {A : Type 0} → Answers A → State → Id → Call → Stepped A
 called answers state id (Initialize prepare) = stays state (invalid_request (Some id) ∷ [])
-called answers state id Shutdown = stays (record { mode = Shut; texts = state.texts }) (Result id answers.null ∷ [])
+called answers state id Shutdown = stays (with_mode Shut state) (Result id answers.null ∷ [])
 called answers state id (Ask uri position query) = stays state (Result id (answers.query state.texts uri position query) ∷ [])
 called answers state id (Rename uri position new_name) = stays state (method_not_found id ∷ [])
 
 -- a request in the mode fresh
 abbrev pub called_fresh : {A : Type 0} → State → Id → Call → Stepped A
-called_fresh state id (Initialize prepare) = stays (record { mode = Running; texts = state.texts }) (Capabilities id prepare ∷ [])
+called_fresh state id (Initialize prepare) = stays (with_mode Running state) (Capabilities id prepare ∷ [])
 called_fresh state id Shutdown = stays state (not_initialized id ∷ [])
 called_fresh state id (Ask uri position query) = stays state (not_initialized id ∷ [])
 called_fresh state id (Rename uri position new_name) = stays state (not_initialized id ∷ [])
 
--- the text that is logged for a refused event
-abbrev pub refusal_text : Refusal → List ℕ → List ℕ
-refusal_text NotOpen uri = codes "not open: " ++ uri
-refusal_text BadRange uri = codes "bad range: " ++ uri
-refusal_text TooLong uri = codes "text too long: " ++ uri
-refusal_text TooMany uri = codes "too many documents: " ++ uri
+-- a request by the mode
+abbrev pub requested : {A : Type 0} → Mode → Answers A → State → Id → Call → Stepped A
+requested Fresh answers state id call = called_fresh state id call
+requested Running answers state id call = called answers state id call
+requested Shut answers state id call = stays state (invalid_request (Some id) ∷ [])
+
+-- the error of a request by the mode: while running it is its own
+abbrev pub refused : {A : Type 0} → Mode → Id → Reply A → Reply A
+refused Fresh id own = not_initialized id
+refused Running id own = own
+refused Shut id own = invalid_request (Some id)
+
+-- ---- notifications
 
 abbrev pub uri_of : Event → List ℕ
 uri_of (Added uri version text) = uri
@@ -124,76 +149,60 @@ logged uri None = []
 logged uri (Some refusal) = Log (refusal_text refusal uri) ∷ []
 
 abbrev pub evented : {A : Type 0} → Offsets → State → Event → Stepped A
-evented offset state event =
-    stays (record { mode = Running; texts = (after offset state.texts event).0 }) (logged (uri_of event) (after offset state.texts event).1)
+evented offset state event = stays (with_texts (after offset state.texts event).0 state) (logged (uri_of event) (after offset state.texts event).1)
 
--- the status with which `exit` ends a session
-abbrev pub exit_status : Mode → ℕ
-exit_status Fresh = 1
-exit_status Running = 1
-exit_status Shut = 0
+-- how `exit` ends a session, by its mode
+abbrev pub exit_in : Mode → Ending
+exit_in Fresh = Early
+exit_in Running = Early
+exit_in Shut = Clean
+
+abbrev pub ended : {A : Type 0} → State → Stepped A
+ended state = record { state = state; replies = []; end = Some (exit_in state.mode) }
 
 -- a notification while running
 abbrev pub noticed : {A : Type 0} → Offsets → State → Note → Stepped A
-noticed offset state Exit = record { state = state; replies = []; end = Some (exit_status Running) }
+noticed offset state Exit = ended state
 noticed offset state (Document event) = evented offset state event
-noticed offset state (BadParams method) = stays state (Log (codes "bad params: " ++ method) ∷ [])
+noticed offset state (BadParams method) = stays state (Log (bad_params_text method) ∷ [])
 noticed offset state Other = stays state []
 
 -- a notification in another mode: all but `exit` are dropped
 abbrev pub dropped : {A : Type 0} → State → Note → Stepped A
-dropped state Exit = record { state = state; replies = []; end = Some (exit_status state.mode) }
+dropped state Exit = ended state
 dropped state (Document event) = stays state []
 dropped state (BadParams method) = stays state []
 dropped state Other = stays state []
 
--- one message in each mode: the shape of a body is judged first, then the mode, the method and the parameters
-abbrev pub step_fresh : {A : Type 0} → State → Message → Stepped A
-step_fresh state Unreadable = stays state (parse_error ∷ [])
-step_fresh state (Invalid id) = stays state (invalid_request id ∷ [])
-step_fresh state (UnknownMethod id) = stays state (not_initialized id ∷ [])
-step_fresh state (BadRequest id) = stays state (not_initialized id ∷ [])
-step_fresh state (Request id call) = called_fresh state id call
-step_fresh state (Notice note) = dropped state note
-step_fresh state Response = stays state []
+-- a notification by the mode
+abbrev pub notified : {A : Type 0} → Mode → Offsets → State → Note → Stepped A
+notified Fresh offset state note = dropped state note
+notified Running offset state note = noticed offset state note
+notified Shut offset state note = dropped state note
 
-abbrev pub step_running : {A : Type 0} → Offsets → Answers A → State → Message → Stepped A
-step_running offset answers state Unreadable = stays state (parse_error ∷ [])
-step_running offset answers state (Invalid id) = stays state (invalid_request id ∷ [])
-step_running offset answers state (UnknownMethod id) = stays state (method_not_found id ∷ [])
-step_running offset answers state (BadRequest id) = stays state (invalid_params id ∷ [])
-step_running offset answers state (Request id call) = called answers state id call
-step_running offset answers state (Notice note) = noticed offset state note
-step_running offset answers state Response = stays state []
+-- ---- messages
 
-abbrev pub step_shut : {A : Type 0} → State → Message → Stepped A
-step_shut state Unreadable = stays state (parse_error ∷ [])
-step_shut state (Invalid id) = stays state (invalid_request id ∷ [])
-step_shut state (UnknownMethod id) = stays state (invalid_request (Some id) ∷ [])
-step_shut state (BadRequest id) = stays state (invalid_request (Some id) ∷ [])
-step_shut state (Request id call) = stays state (invalid_request (Some id) ∷ [])
-step_shut state (Notice note) = dropped state note
-step_shut state Response = stays state []
-
-abbrev pub step_in : {A : Type 0} → Mode → Offsets → Answers A → State → Message → Stepped A
-step_in Fresh offset answers state message = step_fresh state message
-step_in Running offset answers state message = step_running offset answers state message
-step_in Shut offset answers state message = step_shut state message
-
+-- one message: the shape of a body is judged first, then the mode, then the method, then the parameters
 abbrev pub step : {A : Type 0} → Offsets → Answers A → State → Message → Stepped A
-step offset answers state message = step_in state.mode offset answers state message
+step offset answers state Unreadable = stays state (parse_error ∷ [])
+step offset answers state (Invalid id) = stays state (invalid_request id ∷ [])
+step offset answers state (UnknownMethod id) = stays state (refused state.mode id (method_not_found id) ∷ [])
+step offset answers state (BadRequest id) = stays state (refused state.mode id (invalid_params id) ∷ [])
+step offset answers state (Request id call) = requested state.mode answers state id call
+step offset answers state (Notice note) = notified state.mode offset state note
+step offset answers state Response = stays state []
 
--- a whole run: the replies to messages in order up to the first that ends the session, and the status where one does
+-- a whole run: the replies to messages in order up to the first that ends the session, and how it ends where one does
 pub record Run (A : Type 0) : Type 0 where
   pub replies : List (Reply A)
   pub state : State
-  pub end : Option ℕ
+  pub end : Option Ending
 
 abbrev pub after_replies : {A : Type 0} → List (Reply A) → Run A → Run A
 after_replies replies r = record { replies = replies ++ r.replies; state = r.state; end = r.end }
 
-abbrev pub followed : {A : Type 0} → Option ℕ → Stepped A → (State → Run A) → Run A
-followed (Some status) s more = record { replies = s.replies; state = s.state; end = Some status }
+abbrev pub followed : {A : Type 0} → Option Ending → Stepped A → (State → Run A) → Run A
+followed (Some exit) s more = record { replies = s.replies; state = s.state; end = Some exit }
 followed None s more = after_replies s.replies (more s.state)
 
 abbrev pub run_from : {A : Type 0} → Offsets → Answers A → List Message → State → Run A

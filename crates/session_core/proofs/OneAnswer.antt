@@ -1,5 +1,5 @@
 -- A question has one answer.
-use Rattle.std.proofs.Common.{◌≡◌, ℕ, List, [], ◌∷◌, map, refl, sym, ap, ◌∙◌, subst, inl, inr, None, Some, Option}
+use Rattle.std.proofs.Common.{◌≡◌, ℕ, List, [], ◌∷◌, ◌++◌, map, refl, sym, ap, ◌∙◌, subst, inl, inr, None, Some, Option}
 use Rattle.std.specs.Prelude.{IsPermutation}
 use Rattle.ls_base.specs.declared.answers.Answer.{Answer}
 use Rattle.ls_base.specs.declared.answers.Answer.TheVariants as answers
@@ -14,7 +14,7 @@ use Rattle.session_core.specs.Arrows.{AreArrowsOf, arrow_in}
 use Rattle.session_core.specs.Asked.{IsAnswerTo, Nothing, About, Question}
 use Rattle.lsp_messages.specs.declared.reply.Reply.{Reply}
 use Rattle.lsp_messages.specs.declared.reply.Reply.TheVariants as replies
-use Rattle.session_core.specs.Answered.{AreReplies, IsReply, sent_id}
+use Rattle.session_core.specs.Answered.{AreMessages, AreReplies, sent_id}
 use Rattle.session_core.proofs.Sorted.{one_order}
 
 pub one_arrows : (text : List ℕ) (a b : List Arrow) → HasArrows text a → HasArrows text b → a ≡ b
@@ -40,16 +40,14 @@ one_answer (About texts uri position session.Prepare) a b h k = absurd h
 one_answer (About texts uri position session.Arrows) a b h k =
     h.2 ∙ ap answers.Arrows (one_arrows_of uri (text_at texts uri) h.0 k.0 h.1 k.1) ∙ sym k.2
 
-one_reply : (reply : session.Reply Question) (a b : Reply) → IsReply reply a → IsReply reply b → a ≡ b
-one_reply (session.Capabilities id prepare) a b h k = h ∙ sym k
-one_reply (session.Result id question) a b h k = h.2 ∙ ap (replies.Result (sent_id id)) (one_answer question h.0 k.0 h.1 k.1) ∙ sym k.2
-one_reply (session.Error id code text) a b h k = h ∙ sym k
-one_reply (session.Log text) a b h k = h ∙ sym k
+one_message : (reply : session.Reply Question) (a b : List Reply) → AreMessages reply a → AreMessages reply b → a ≡ b
+one_message (session.Capabilities id prepare) a b h k = h ∙ sym k
+one_message (session.Result id question) a b h k =
+    h.2 ∙ ap (λ (answer : Answer). replies.Result (sent_id id) answer ∷ []) (one_answer question h.0 k.0 h.1 k.1) ∙ sym k.2
+one_message (session.Error id code text) a b h k = h ∙ sym k
+one_message (session.Log text) a b h k = h ∙ sym k
 
 pub one_replies : (rs : List (session.Reply Question)) (a b : List Reply) → AreReplies rs a → AreReplies rs b → a ≡ b
-one_replies [] [] [] h k = refl
-one_replies [] [] (y ∷ b) h k = absurd k
-one_replies [] (x ∷ a) b h k = absurd h
-one_replies (r ∷ rs) [] b h k = absurd h
-one_replies (r ∷ rs) (x ∷ a) [] h k = absurd k
-one_replies (r ∷ rs) (x ∷ a) (y ∷ b) h k = λ j. one_reply r x y h.0 k.0 j ∷ one_replies rs a b h.1 k.1 j
+one_replies [] a b h k = h ∙ sym k
+one_replies (r ∷ rs) a b h k =
+    h.split ∙ (λ j. one_message r h.first k.first h.are_first k.are_first j ++ one_replies rs h.rest k.rest h.are_rest k.are_rest j) ∙ sym k.split

@@ -1,5 +1,5 @@
 -- The messages to the client that are the replies of a session (JSON-RPC 2.0 section 5; LSP 3.17).
-use Rattle.std.specs.Prelude.{◌≡◌, List, [], ◌∷◌}
+use Rattle.std.specs.Prelude.{◌≡◌, List, [], ◌∷◌, ◌++◌}
 use Rattle.std.specs.Option.{option_map}
 use Rattle.ls_base.specs.declared.answers.Answer.{Answer}
 use Rattle.lsp_messages.specs.declared.message.Id.{Id}
@@ -14,16 +14,22 @@ abbrev pub sent_id : session.Id → Id
 sent_id (session.Number n) = ids.Number n
 sent_id (session.Name s) = ids.Name s
 
--- the message is this reply of a session, with an answer to what it asks
-abbrev pub IsReply : session.Reply Question → Reply → Type 0
-IsReply (session.Capabilities id prepare) message = message ≡ replies.Capabilities (sent_id id) prepare
-IsReply (session.Result id question) message = (answer : Answer) × IsAnswerTo question answer × (message ≡ replies.Result (sent_id id) answer)
-IsReply (session.Error id code text) message = message ≡ replies.Error (option_map sent_id id) code text
-IsReply (session.Log text) message = message ≡ replies.Log text
+-- the messages that are this reply of a session, with an answer to what it asks
+abbrev pub AreMessages : session.Reply Question → List Reply → Type 0
+AreMessages (session.Capabilities id prepare) messages = messages ≡ replies.Capabilities (sent_id id) prepare ∷ []
+AreMessages (session.Result id question) messages = (answer : Answer) × IsAnswerTo question answer × (messages ≡ replies.Result (sent_id id) answer ∷ [])
+AreMessages (session.Error id code text) messages = messages ≡ replies.Error (option_map sent_id id) code text ∷ []
+AreMessages (session.Log text) messages = messages ≡ replies.Log text ∷ []
 
--- the messages are these replies, one by one
+-- the first of the messages are such, and the rest is such
+pub record Follow (AreFirst AreRest : List Reply → Type 0) (messages : List Reply) : Type 0 where
+  pub first : List Reply
+  pub rest : List Reply
+  pub split : messages ≡ first ++ rest
+  pub are_first : AreFirst first
+  pub are_rest : AreRest rest
+
+-- the messages are those of these replies, one reply after another
 abbrev pub AreReplies : List (session.Reply Question) → List Reply → Type 0
-AreReplies [] [] = Unit {0}
-AreReplies [] (m ∷ ms) = ⊥
-AreReplies (r ∷ rs) [] = ⊥
-AreReplies (r ∷ rs) (m ∷ ms) = IsReply r m × AreReplies rs ms
+AreReplies [] messages = messages ≡ []
+AreReplies (r ∷ rs) messages = Follow (AreMessages r) (AreReplies rs) messages

@@ -13,6 +13,11 @@ said_mode modes.Fresh = session.Fresh
 said_mode modes.Running = session.Running
 said_mode modes.Shut = session.Shut
 
+-- the status with which `exit` ends the process (LSP 3.17, exit)
+abbrev pub exit_code : session.Ending → ℕ
+exit_code session.Clean = 0
+exit_code session.Early = 1
+
 -- the mode, and the texts of the open documents
 abbrev pub state_of : Mode → Texts → State
 state_of mode texts = record { mode = said_mode mode; texts = texts }

@@ -7,6 +7,7 @@ ghost use Rattle.session_core.specs.Events.{IsEvented, LogsFault};
 use crate::Out;
 use crate::out::silent;
 use crate::replies::logged;
+use crate::wording::{BAD_RANGE, NOT_OPEN, TOO_LONG, TOO_MANY};
 use document_store::{Store, StoreFault};
 use ls_base::{Change, Mem, Memory};
 use std::alloc::Global;
@@ -65,9 +66,9 @@ fn refused(alloc: Global, fault: StoreFault, uri: &str) -> Mem<Out>
 {
     match fault {
         StoreFault::Memory => Err(Memory),
-        StoreFault::NotOpen => Ok(logged(alloc, "not open: ", uri)?),
-        StoreFault::BadRange => Ok(logged(alloc, "bad range: ", uri)?),
-        StoreFault::TooLong => Ok(logged(alloc, "text too long: ", uri)?),
-        StoreFault::TooMany => Ok(logged(alloc, "too many documents: ", uri)?),
+        StoreFault::NotOpen => Ok(logged(alloc, NOT_OPEN, uri)?),
+        StoreFault::BadRange => Ok(logged(alloc, BAD_RANGE, uri)?),
+        StoreFault::TooLong => Ok(logged(alloc, TOO_LONG, uri)?),
+        StoreFault::TooMany => Ok(logged(alloc, TOO_MANY, uri)?),
     }
 }

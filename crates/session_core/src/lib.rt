@@ -8,6 +8,7 @@ mod out;
 mod questions;
 mod replies;
 mod session;
+mod wording;
 
 pub use out::Out;
 pub use session::Session;

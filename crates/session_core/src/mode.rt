@@ -13,12 +13,12 @@ pub enum Mode {
 }
 
 impl Mode {
-    ghost use Rattle.scheme_model.specs.Session.{exit_status};
-    ghost use Rattle.session_core.specs.States.{said_mode};
+    ghost use Rattle.scheme_model.specs.Session.{exit_in};
+    ghost use Rattle.session_core.specs.States.{exit_code, said_mode};
 
-    /// The status with which `exit` ends a session: 0 only after `shutdown`.
-    pub fn exit_status(self) -> u8
-        ensures { result ≡ exit_status (said_mode self) }
+    /// The status with which `exit` ends the process: 0 only after `shutdown`.
+    pub fn exit_code(self) -> u8
+        ensures { result ≡ exit_code (exit_in (said_mode self)) }
     {
         match self {
             Mode::Fresh | Mode::Running => 1,

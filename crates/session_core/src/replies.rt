@@ -8,6 +8,7 @@ ghost use Rattle.session_core.specs.Stepped.{Says};
 
 use crate::Out;
 use crate::out::said;
+use crate::wording;
 use ls_base::{Answer, Mem, Text};
 use lsp_messages::{Id, Reply};
 use std::alloc::Global;
@@ -35,28 +36,28 @@ fn error(alloc: Global, id: Option<Id>, code: i32, text: &str) -> Mem<Out>
 pub fn parse_error(alloc: Global) -> Mem<Out>
     ensures { IfOk result (λ out. Says out (session.parse_error ∷ [])) }
 {
-    Ok(error(alloc, None, PARSE_ERROR, "parse error")?)
+    Ok(error(alloc, None, PARSE_ERROR, wording::PARSE_ERROR)?)
 }
 
 /// The reply to what isn't a message, or to a request that mustn't come now.
 pub fn invalid_request(alloc: Global, id: Option<Id>) -> Mem<Out>
     ensures { IfOk result (λ out. Says out (session.invalid_request (option_map said_id id) ∷ [])) }
 {
-    Ok(error(alloc, id, INVALID_REQUEST, "invalid request")?)
+    Ok(error(alloc, id, INVALID_REQUEST, wording::INVALID_REQUEST)?)
 }
 
 /// The reply to a request of an unknown method.
 pub fn method_not_found(alloc: Global, id: Id) -> Mem<Out>
     ensures { IfOk result (λ out. Says out (session.method_not_found (said_id id) ∷ [])) }
 {
-    Ok(error(alloc, Some(id), METHOD_NOT_FOUND, "method not found")?)
+    Ok(error(alloc, Some(id), METHOD_NOT_FOUND, wording::METHOD_NOT_FOUND)?)
 }
 
 /// The reply to a request whose parameters lack a field, or have one of another type.
 pub fn invalid_params(alloc: Global, id: Id) -> Mem<Out>
     ensures { IfOk result (λ out. Says out (session.invalid_params (said_id id) ∷ [])) }
 {
-    Ok(error(alloc, Some(id), INVALID_PARAMS, "invalid params")?)
+    Ok(error(alloc, Some(id), INVALID_PARAMS, wording::INVALID_PARAMS)?)
 }
 
 /// The reply to a request before `initialize`.
@@ -67,7 +68,7 @@ pub fn not_initialized(alloc: Global, id: Id) -> Mem<Out>
         alloc,
         Some(id),
         SERVER_NOT_INITIALIZED,
-        "server not initialized",
+        wording::SERVER_NOT_INITIALIZED,
     )?)
 }
 

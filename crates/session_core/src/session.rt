@@ -17,6 +17,7 @@ use crate::replies::{
     answered, capabilities, invalid_params, invalid_request, logged, method_not_found,
     not_initialized, parse_error,
 };
+use crate::wording::BAD_PARAMS;
 use document_store::Store;
 use ls_base::{Answer, Mem, Memory, Query, Steps};
 use lsp_messages::{At, Call, Id, Message, Note, Reject, read_message};
@@ -199,7 +200,7 @@ impl Session {
         ensures { IsOutcome (spec.dropped self.now (said_note note.now)) result self.now }
     {
         match note {
-            Note::Exit => ended(self.alloc, self.mode.exit_status()),
+            Note::Exit => ended(self.alloc, self.mode.exit_code()),
             Note::Opened { .. }
             | Note::Changed { .. }
             | Note::Closed { .. }
@@ -210,14 +211,13 @@ impl Session {
 
     /// A notification while running.
     fn on_note(&mut self, note: &Note) -> Mem<Out>
-        requires { self.old.mode ≡ spec.Running }
         ensures step { IfOk result (λ out. IsOutcome
             (spec.noticed offsets self.old (said_note note.now)) out self.new) }
         ensures kept { OnErr result (self.new ≡ self.old) }
     {
         let texts = &mut self.texts;
         match note {
-            Note::Exit => Ok(ended(self.alloc, self.mode.exit_status())),
+            Note::Exit => Ok(ended(self.alloc, self.mode.exit_code())),
             Note::Opened { uri, version, text } => {
                 Ok(opened(self.alloc, texts, uri.as_str(), *version, text.as_str())?)
             }
@@ -235,7 +235,7 @@ impl Session {
                 )?)
             }
             Note::Closed { uri } => Ok(closed(self.alloc, texts, uri.as_str())?),
-            Note::BadParams { method } => Ok(logged(self.alloc, "bad params: ", method.as_str())?),
+            Note::BadParams { method } => Ok(logged(self.alloc, BAD_PARAMS, method.as_str())?),
             Note::Other => Ok(silent(self.alloc)),
         }
     }

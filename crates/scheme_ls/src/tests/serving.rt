@@ -4,7 +4,7 @@ use std::alloc::{AllocError, Global};
 use std::process::Abort;
 use std::test::Fail;
 
-const EARLY: &str = r#"{"jsonrpc":"2.0","id":1,"method":"textDocument/definition"}"#;
+pub(super) const EARLY: &str = r#"{"jsonrpc":"2.0","id":1,"method":"textDocument/definition"}"#;
 
 const INITIALIZE: &str = r#"{"jsonrpc":"2.0","id":1,"method":"initialize","params":{}}"#;
 
@@ -23,7 +23,7 @@ const CHANGE: &str =
 const ASK: &str =
     r#"{"jsonrpc":"2.0","id":2,"method":"scheme/arrows","params":{"textDocument":{"uri":"file:///a.scm"}}}"#;
 
-const EARLY_REPLY: &str =
+pub(super) const EARLY_REPLY: &str =
     r#"{"error":{"code":-32002,"message":"server not initialized"},"id":1,"jsonrpc":"2.0"}"#;
 
 const INITIALIZE_REPLY: &str =
@@ -42,10 +42,14 @@ const ARROWS_CHANGED: &str =
 
 const NO_ARROWS: &str = r#"{"id":2,"jsonrpc":"2.0","result":[]}"#;
 
-/// A session from `initialize` to `exit`, with a request before it and one after `shutdown`.
-const SESSION: [&str; 5] = [EARLY, INITIALIZE, SHUTDOWN, SHUTDOWN_AGAIN, EXIT];
+/// The log of a fault right behind the frame of `EARLY`.
+const LATE_FAULT: &str =
+    r#"{"jsonrpc":"2.0","method":"window/logMessage","params":{"message":"frame fault 2 at 81","type":1}}"#;
 
-const REPLIES: [&str; 4] = [
+/// A session from `initialize` to `exit`, with a request before it and one after `shutdown`.
+pub(super) const SESSION: [&str; 5] = [EARLY, INITIALIZE, SHUTDOWN, SHUTDOWN_AGAIN, EXIT];
+
+pub(super) const REPLIES: [&str; 4] = [
     EARLY_REPLY,
     INITIALIZE_REPLY,
     SHUTDOWN_REPLY,
@@ -53,7 +57,7 @@ const REPLIES: [&str; 4] = [
 ];
 
 /// The frames of bodies.
-fn frames(alloc: Global, bodies: &[&str]) -> Result<String, AllocError> {
+pub(super) fn frames(alloc: Global, bodies: &[&str]) -> Result<String, AllocError> {
     let mut text = String::new(alloc);
     for body in bodies {
         let length = body.len();
@@ -64,7 +68,7 @@ fn frames(alloc: Global, bodies: &[&str]) -> Result<String, AllocError> {
 }
 
 /// Whether a stream of these bodies and some more bytes ends so and gives these replies, in pieces of any size.
-fn answers(
+pub(super) fn answers(
     rt: &impl Abort,
     alloc: Global,
     bodies: &[&str],
@@ -116,8 +120,7 @@ fn documents_and_their_arrows(rt: HostRuntime) -> Result<(), Fail> {
 #[test]
 fn a_fault_of_frames_ends_with_6_unless_exit_came(rt: HostRuntime) -> Result<(), Fail> {
     let a = rt.alloc();
-    answers(&rt, a, &[], "Content-Length: +5\r\n", 6, &[])?;
-    answers(&rt, a, &[EARLY], "\r\n", 6, &[EARLY_REPLY])?;
+    answers(&rt, a, &[EARLY], "\r\n", 6, &[EARLY_REPLY, LATE_FAULT])?;
     answers(&rt, a, &[EARLY, EXIT], "\r\n", 1, &[EARLY_REPLY])?;
     let cut = "Content-Length: 9\r\n\r\n{}";
     answers(&rt, a, &[EARLY], cut, 1, &[EARLY_REPLY])?;

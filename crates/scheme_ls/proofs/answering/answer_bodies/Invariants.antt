@@ -8,7 +8,7 @@ use Rattle.scheme_ls.proofs.answering.answer_bodies.Given as goal
 abbrev pub invariant-loop-body : goal.invariant-loop-body
 invariant-loop-body g l = record {
   answered : AnsweredSoFar l.fn.session (contents l.bodies) (contents (drop l.body-index l.bodies)) l.session
-      (sink_seen (g.O.Sink.taken l.fn.output) (g.O.Sink.faults l.fn.output))
-      (sink_seen (g.O.Sink.taken l.output) (g.O.Sink.faults l.output));
+      (sink_seen (g.O.Sink.taken l.fn.output) (g.O.Sink.faults l.fn.output) (g.O.Sink.writes l.fn.output))
+      (sink_seen (g.O.Sink.taken l.output) (g.O.Sink.faults l.output) (g.O.Sink.writes l.output));
   same : l.steps ≡ l.fn.steps;
 }

@@ -1,5 +1,6 @@
-use Rattle.scheme_ls.proofs.OneOutput.{one_messages, one_rest, one_exit}
+use Rattle.scheme_ls.proofs.OneOutput.{one_output, front_of_output}
+use Rattle.scheme_ls.proofs.SomeOutput.{some_output}
 use Rattle.scheme_ls.proofs.laws.one_output.Goals as goal
 
 pub returns : goal.returns
-returns c = record { messages = one_messages; rest = one_rest; exit = one_exit }
+returns c = record { some = some_output; only = one_output; front = front_of_output }

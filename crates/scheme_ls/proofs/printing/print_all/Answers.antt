@@ -1,7 +1,12 @@
-use Rattle.std.proofs.Common.{◌∙◌, arith}
-use Rattle.std.proofs.KnownBytes.{Appends-trans}
+use Rattle.std.proofs.Common.{◌∙◌, arith, ℕ, subst}
+use Rattle.std.proofs.KnownBytes.{Appends-nil, Appends-trans}
+use Rattle.ls_outside.specs.Counts.{Fails}
+use Rattle.scheme_ls.proofs.CallLaws.{last_one, last_then, take_none, take_one, take_then}
 use Rattle.scheme_ls.proofs.Fronts.{front_more}
 use Rattle.scheme_ls.proofs.printing.print_all.Goals as goal
+
+pub loop-at-init : goal.loop-at-init
+loop-at-init g c = record { within = omega arith; printed = Appends-nil _; no_fault = refl; calls = take_none _ }
 
 pub loop-at-preserved : goal.loop-at-preserved
 loop-at-preserved g c =
@@ -9,5 +14,6 @@ loop-at-preserved g c =
     record {
       within = omega (arith, c.in-Some.ensures.within.1);
       printed = rw (← front_more c.args.bytes.now c.loop-at.at c.in-Some.count) (Appends-trans _ _ _ _ _ i.printed c.in-Some.ensures.takes);
-      calm = c.in-Some.ensures.counts ∙ i.calm;
+      no_fault = c.in-Some.ensures.counts ∙ i.no_fault;
+      calls = take_then _ _ _ i.calls (take_one _ _ _ c.in-Some.count c.in-Some.ensures.notes c.in-Some.ensures.within.0 c.in-Some.ensures.within.1);
     }

@@ -1,11 +1,12 @@
 use Rattle.std.proofs.Common.{◌≡◌, ◌+◌, ◌-◌, ◌≤◌, length, vec_len}
-use Rattle.scheme_ls.specs.Reading.{TakesBytes}
+use Rattle.scheme_ls.specs.Reading.{ReadsOn, TakesBytes, source_seen}
 use Rattle.scheme_ls.proofs.reading.read_all.Given as goal
 
 abbrev pub invariant-loop-buf : goal.invariant-loop-buf
 invariant-loop-buf g l = record {
   front : TakesBytes (g.I.Source.left l.fn.input) (g.I.Source.left l.input) l.text.items;
-  calm : g.I.Source.faults l.input ≡ g.I.Source.faults l.fn.input;
+  on : ReadsOn (source_seen (g.I.Source.left l.fn.input) (g.I.Source.faults l.fn.input) (g.I.Source.reads l.fn.input))
+      (source_seen (g.I.Source.left l.input) (g.I.Source.faults l.input) (g.I.Source.reads l.input));
   wide : length l.buf ≡ 4096;
   stops : vec_len l.text ≤ 1048576 + 4096;
 }

@@ -5,6 +5,6 @@ use Rattle.scheme_ls.proofs.replies.write_reply.Goals as goal
 
 pub returns : goal.returns
 returns g c =
-    subst (λ (bytes : List ℕ). Prints (sink_seen (g.O.Sink.taken c.args.output.now) (g.O.Sink.faults c.args.output.now)) (sink_seen (g.O.Sink.taken c.print_all.new.output) (g.O.Sink.faults c.print_all.new.output)) bytes)
+    subst (λ (bytes : List ℕ). Prints (sink_seen (g.O.Sink.taken c.args.output.now) (g.O.Sink.faults c.args.output.now) (g.O.Sink.writes c.args.output.now)) (sink_seen (g.O.Sink.taken c.print_all.new.output) (g.O.Sink.faults c.print_all.new.output) (g.O.Sink.writes c.print_all.new.output)) bytes)
     (c.deref-2.ensures.value ∙ c.in_ok-frame.ensures.written ∙ ap frame_text (c.deref.ensures.value ∙ c.in_ok-body.ensures.text))
     c.in_ok-print_all.ensures

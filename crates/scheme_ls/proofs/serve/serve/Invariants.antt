@@ -1,13 +1,18 @@
 use Rattle.std.proofs.Common.{◌≡◌, ◌-◌, ◌≤◌, length}
-use Rattle.scheme_ls.specs.Ends.{seen}
-use Rattle.scheme_ls.specs.Taking.{serving}
-use Rattle.scheme_ls.proofs.Goings.{Going}
+use Rattle.scheme_ls.specs.PieceOutcome.{serving}
+use Rattle.scheme_ls.specs.Prints.{sink_seen}
+use Rattle.scheme_ls.specs.Reading.{source_seen}
+use Rattle.scheme_ls.specs.Streams.{streams}
+use Rattle.scheme_ls.proofs.SessionSoFar.{Going}
 use Rattle.scheme_ls.proofs.serve.serve.Given as goal
 
 abbrev pub invariant-loop-taken : goal.invariant-loop-taken
 invariant-loop-taken g l = record {
-  going : Going (seen (g.I.Source.left l.fn.input) (g.I.Source.faults l.fn.input) (g.O.Sink.taken l.fn.output) (g.O.Sink.faults l.fn.output))
-      (seen (g.I.Source.left l.input) (g.I.Source.faults l.input) (g.O.Sink.taken l.output) (g.O.Sink.faults l.output))
+  going : Going
+      (streams (source_seen (g.I.Source.left l.fn.input) (g.I.Source.faults l.fn.input) (g.I.Source.reads l.fn.input))
+      (sink_seen (g.O.Sink.taken l.fn.output) (g.O.Sink.faults l.fn.output) (g.O.Sink.writes l.fn.output)))
+      (streams (source_seen (g.I.Source.left l.input) (g.I.Source.faults l.input) (g.I.Source.reads l.input))
+      (sink_seen (g.O.Sink.taken l.output) (g.O.Sink.faults l.output) (g.O.Sink.writes l.output)))
       (serving l.server.deframer l.server.session) l.taken 1099511627776;
   few : l.taken ≤ 1099511627776;
   wide : length l.buf ≡ 65536;

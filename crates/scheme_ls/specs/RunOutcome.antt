@@ -1,0 +1,75 @@
+-- How a run ends, by the command that its words ask for.
+use Rattle.std.specs.Prelude.{◌≡◌, ◌⊎◌, ℕ, List}
+use Rattle.std.specs.declared.option.Option.{Option}
+use Rattle.scheme_ls.specs.ArrowsOutcome.{ArrowsEndsAs}
+use Rattle.scheme_ls.specs.Prints.{Prints, PrintsFront, SinkSeen}
+use Rattle.scheme_ls.specs.Reading.{SourceSeen}
+use Rattle.scheme_ls.specs.ServeOutcome.{ServeEndsAs}
+use Rattle.scheme_ls.specs.Statuses.{arrows_status, code_of, session_status}
+use Rattle.scheme_ls.specs.Streams.{Streams}
+use Rattle.scheme_ls.specs.Wording.{usage_text}
+use Rattle.scheme_ls.specs.Words.{CommandOf}
+use Rattle.scheme_ls.specs.declared.arrows.ArrowsEnd.{ArrowsEnd}
+use Rattle.scheme_ls.specs.declared.serve.SessionEnd.{SessionEnd}
+use Rattle.scheme_ls.specs.declared.status.Status.{Status}
+use Rattle.scheme_ls.specs.declared.status.Status.TheVariants.{BadWords, SinkFault}
+use Rattle.scheme_ls.specs.declared.words.Command.{Command}
+use Rattle.scheme_ls.specs.declared.words.Command.TheVariants.{Arrows, Serve, Unknown}
+
+-- what files show at a moment: what names hold, where they tell it, the names asked, and how often a fetch has failed
+pub record FilesSeen : Type 0 where
+  pub held : Option (List ℕ → Option (List ℕ))
+  pub asked : Option (List (List ℕ))
+  pub faults : ℕ
+
+abbrev pub files_seen : Option (List ℕ → Option (List ℕ)) → Option (List (List ℕ)) → ℕ → FilesSeen
+files_seen held asked faults = record { held = held; asked = asked; faults = faults }
+
+-- what the outside and the counter of steps show at a moment
+pub record Seen : Type 0 where
+  pub streams : Streams
+  pub files : FilesSeen
+  pub steps : ℕ
+
+abbrev pub seen : SourceSeen → SinkSeen → FilesSeen → ℕ → Seen
+seen source sink files steps = record { streams = record { source = source; sink = sink }; files = files; steps = steps }
+
+-- no file was asked for, and no macro use was worked
+pub record AsksNothing (old new : Seen) : Type 0 where
+  pub files : new.files ≡ old.files
+  pub steps : new.steps ≡ old.steps
+
+-- `arrows` ended with a status
+pub record ArrowsDone (old new : Streams) (status : Status) : Type 0 where
+  pub end : ArrowsEnd
+  pub ends : ArrowsEndsAs old new end
+  pub status_is : status ≡ arrows_status end
+
+-- `serve` ended with a status
+pub record ServeDone (old new : Streams) (status : Status) : Type 0 where
+  pub end : SessionEnd
+  pub ends : ServeEndsAs old new end
+  pub status_is : status ≡ session_status end
+
+-- the usage was printed, or a write of it failed
+abbrev pub PrintsUsage : SinkSeen → SinkSeen → Status → Type 0
+PrintsUsage old new status = ((status ≡ BadWords) × Prints old new usage_text) ⊎ ((status ≡ SinkFault) × PrintsFront old new usage_text)
+
+-- nothing was read, and the usage was printed
+pub record UsageDone (old new : Streams) (status : Status) : Type 0 where
+  pub unread : new.source ≡ old.source
+  pub prints : PrintsUsage old.sink new.sink status
+
+-- how a command ends
+abbrev pub CommandEndsAs : Command → Seen → Seen → Status → Type 0
+CommandEndsAs Arrows old new status = ArrowsDone old.streams new.streams status × AsksNothing old new
+CommandEndsAs Serve old new status = ServeDone old.streams new.streams status × AsksNothing old new
+CommandEndsAs Unknown old new status = UsageDone old.streams new.streams status × AsksNothing old new
+
+-- how a run ends: as the command does that its words ask for
+pub record RunEnds (words : List (List ℕ)) (old new : Seen) (code : ℕ) : Type 0 where
+  pub command : Command
+  pub asked : CommandOf words command
+  pub status : Status
+  pub ends : CommandEndsAs command old new status
+  pub number : code ≡ code_of status

@@ -1,0 +1,65 @@
+-- A step of a session asks for the arrows of a document alone.
+use Rattle.std.proofs.Common.{◌≡◌, ℕ, List, [], ◌∷◌, ap, Option, None, Some, Result, Ok, Err}
+use Rattle.std.specs.List.{AllByRecursion}
+use Rattle.lsp_messages.specs.declared.message.Call.{Call}
+use Rattle.lsp_messages.specs.declared.message.Call.TheVariants as calls
+use Rattle.lsp_messages.specs.declared.message.Message.{Message}
+use Rattle.lsp_messages.specs.declared.message.Message.TheVariants as messages
+use Rattle.lsp_messages.specs.declared.message.Note.{Note}
+use Rattle.lsp_messages.specs.declared.message.Reject.{Reject}
+use Rattle.lsp_messages.specs.declared.message.Reject.TheVariants as rejects
+use Rattle.scheme_model.specs.Session as session
+use Rattle.scheme_model.specs.Session.{Mode, Fresh, Running, Shut, State, dropped, logged, noticed, notified, refused, requested, step}
+use Rattle.scheme_model.specs.Texts.{Refusal}
+use Rattle.session_core.specs.Asked.{Question, questions}
+use Rattle.session_core.specs.Built.{AsksArrows, IsSaying}
+use Rattle.session_core.specs.Said.{offsets, said_by, said_call, said_query}
+use Rattle.session_core.proofs.SomeAnswer.{AsksThat}
+
+requested_asks : (mode : Mode) (state : State) (id : session.Id) (call : Call) → AsksArrows call → AllByRecursion AsksThat (requested mode questions state id (said_call call)).replies
+requested_asks Fresh state id (calls.Initialize prepare) asks = (tt, tt)
+requested_asks Fresh state id calls.Shutdown asks = (tt, tt)
+requested_asks Fresh state id (calls.Ask place query) asks = (tt, tt)
+requested_asks Fresh state id (calls.Rename place new_name) asks = (tt, tt)
+requested_asks Running state id (calls.Initialize prepare) asks = (tt, tt)
+requested_asks Running state id calls.Shutdown asks = (tt, tt)
+requested_asks Running state id (calls.Ask place query) asks = (ap said_query asks, tt)
+requested_asks Running state id (calls.Rename place new_name) asks = (tt, tt)
+requested_asks Shut state id call asks = (tt, tt)
+
+refused_asks : (mode : Mode) (id : session.Id) (own : session.Reply Question) → AsksThat own → AsksThat (refused mode id own)
+refused_asks Fresh id own asks = tt
+refused_asks Running id own asks = asks
+refused_asks Shut id own asks = tt
+
+logged_asks : (uri : List ℕ) (refusal : Option Refusal) → AllByRecursion AsksThat (logged {A = Question} uri refusal)
+logged_asks uri None = tt
+logged_asks uri (Some refusal) = (tt, tt)
+
+dropped_asks : (state : State) (note : session.Note) → AllByRecursion AsksThat (dropped {A = Question} state note).replies
+dropped_asks state session.Exit = tt
+dropped_asks state (session.Document event) = tt
+dropped_asks state (session.BadParams method) = tt
+dropped_asks state session.Other = tt
+
+noticed_asks : (state : State) (note : session.Note) → AllByRecursion AsksThat (noticed {A = Question} offsets state note).replies
+noticed_asks state session.Exit = tt
+noticed_asks state (session.Document event) = logged_asks _ _
+noticed_asks state (session.BadParams method) = (tt, tt)
+noticed_asks state session.Other = tt
+
+notified_asks : (mode : Mode) (state : State) (note : session.Note) → AllByRecursion AsksThat (notified {A = Question} mode offsets state note).replies
+notified_asks Fresh state note = dropped_asks state note
+notified_asks Running state note = noticed_asks state note
+notified_asks Shut state note = dropped_asks state note
+
+-- what a step asks at a body that is a message, or none
+pub step_asks : (state : State) (read : Result Message Reject) → IsSaying read → AllByRecursion AsksThat (step offsets questions state (said_by read)).replies
+step_asks state (Ok (messages.Request id call)) says = requested_asks state.mode state _ call says
+step_asks state (Ok (messages.Notice note)) says = notified_asks state.mode state _
+step_asks state (Ok messages.Response) says = tt
+step_asks state (Err rejects.Memory) says = (tt, tt)
+step_asks state (Err rejects.Parse) says = (tt, tt)
+step_asks state (Err (rejects.Invalid id)) says = (tt, tt)
+step_asks state (Err (rejects.Method id)) says = (refused_asks state.mode _ _ tt, tt)
+step_asks state (Err (rejects.Params id)) says = (refused_asks state.mode _ _ tt, tt)
