@@ -1,5 +1,3 @@
-pub mod Tokens
-pub mod Reading
 pub mod Identifiers
 pub mod Trees
 pub mod Substitution
@@ -21,3 +19,7 @@ pub mod Stopping
 pub mod DataTrees
 pub mod Texts
 pub mod Session
+pub mod SmallTokens
+pub mod SmallReading
+pub mod SmallTrees
+pub mod SmallArrows

@@ -4,10 +4,11 @@ use Rattle.std.specs.Prelude.{◌&&◌, ◌||◌, codes, option_map}
 use Rattle.std.specs.Str.{bytes_eq}
 use Rattle.std.proofs.lemmas.List.{map-append}
 use Rattle.scheme_model.specs.declared.Occ.{Occ}
-use Rattle.scheme_model.specs.Tokens.{Leaf, Name as NameLeaf, Numeral as NumeralLeaf, Mark, Quote as QuoteMark}
-use Rattle.scheme_model.specs.Reading.{Datum, Data, atom as atom_datum, list as list_datum, marked, none, datum, datum_depth, data_depth}
+use Rattle.scheme_model.specs.SmallTokens.{Leaf, Name as NameLeaf, Numeral as NumeralLeaf, Mark, Quote as QuoteMark}
+use Rattle.scheme_model.specs.SmallReading.{Datum, Data, atom as atom_datum, list as list_datum, marked, none, datum, datum_depth, data_depth}
 use Rattle.scheme_model.specs.Identifiers.{Number, Name, Written, Inner, same_name, strip}
-use Rattle.scheme_model.specs.Trees.{Atom, Numeral, Tree, name, atom, list, vector, Trees, no_trees, tree, Tail, proper, dotted, map_tree, map_trees, tree_of, trees_of, mark_symbol, leaf_tree}
+use Rattle.scheme_model.specs.Trees.{Atom, Numeral, Tree, name, atom, list, vector, Trees, no_trees, tree, Tail, proper, dotted, map_tree, map_trees}
+use Rattle.scheme_model.specs.SmallTrees.{tree_of, trees_of, mark_symbol, leaf_tree}
 use Rattle.scheme_model.specs.Substitution.{bind_all}
 use Rattle.scheme_model.specs.StandardNames.{Keyword, IsQuote, IsLambda, IsDefine, keyword_named}
 use Rattle.scheme_model.specs.Meaning.{Meaning, meaning, keyword_of}

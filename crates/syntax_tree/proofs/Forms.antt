@@ -3,10 +3,11 @@ use Rattle.std.proofs.Common.{◌≡◌, ℕ, zero, suc, ◌+◌, ◌*◌, ◌�
 use Rattle.std.specs.Prelude.{◌&&◌, ◌||◌, codes, option_map}
 use Rattle.std.specs.Str.{bytes_eq}
 use Rattle.scheme_model.specs.declared.Occ.{Occ}
-use Rattle.scheme_model.specs.Tokens.{Leaf, Name as NameLeaf, Numeral as NumeralLeaf, Mark, Quote as QuoteMark}
-use Rattle.scheme_model.specs.Reading.{Datum, Data, atom as atom_datum, list as list_datum, marked, none, datum, datum_depth, data_depth}
+use Rattle.scheme_model.specs.SmallTokens.{Leaf, Name as NameLeaf, Numeral as NumeralLeaf, Mark, Quote as QuoteMark}
+use Rattle.scheme_model.specs.SmallReading.{Datum, Data, atom as atom_datum, list as list_datum, marked, none, datum, datum_depth, data_depth}
 use Rattle.scheme_model.specs.Identifiers.{Number, Name, Written, same_name}
-use Rattle.scheme_model.specs.Trees.{Atom, Numeral, Tree, name, atom, list, vector, Trees, no_trees, tree, Tail, proper, dotted, tree_of, trees_of, leaf_tree, mark_symbol}
+use Rattle.scheme_model.specs.Trees.{Atom, Numeral, Tree, name, atom, list, vector, Trees, no_trees, tree, Tail, proper, dotted}
+use Rattle.scheme_model.specs.SmallTrees.{tree_of, trees_of, leaf_tree, mark_symbol}
 use Rattle.scheme_model.specs.StandardNames.{Keyword, IsQuote, IsLambda, IsDefine}
 use Rattle.scheme_model.specs.Meaning.{Meaning, meaning, keyword_of}
 use Rattle.scheme_model.specs.Cores.{Binder, Definition, Core, Item, Expression, Define}
