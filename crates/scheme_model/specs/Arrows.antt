@@ -2,9 +2,9 @@
 use Rattle.std.specs.Prelude.{List, [], ◌∷◌, ◌++◌, Option, Some, None, if◌then◌else◌}
 use Rattle.scheme_model.specs.declared.Occ.{Occ}
 use Rattle.scheme_model.specs.Identifiers.{Number, Name, same_number, same_name}
-use Rattle.scheme_model.specs.Meaning.{Meaning, Local, Global, Standard, Free}
-use Rattle.scheme_model.specs.Cores.{Target, Binder, Definition, Core, Ref, Const, Quote, Lambda, Call, Body, Cores, no_cores, core, Item, Expression, Define}
-use Rattle.scheme_model.specs.UnitExpansion.{UnitForm, ExpandedUnit}
+use Rattle.scheme_model.specs.SmallMeaning.{Meaning, Local, Global, Standard, Free}
+use Rattle.scheme_model.specs.SmallCores.{Target, Binder, Definition, Core, Ref, Const, Quote, Lambda, Call, Body, Cores, no_cores, core, Item, Expression, Define}
+use Rattle.scheme_model.specs.SmallUnits.{UnitForm, ExpandedUnit}
 
 -- a binder and a use
 pub record Pair : Type 0 where

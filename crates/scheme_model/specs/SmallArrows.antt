@@ -4,7 +4,7 @@ use Rattle.scheme_model.specs.SmallReading.{Data, none, datum}
 use Rattle.scheme_model.specs.Identifiers.{Name}
 use Rattle.scheme_model.specs.Trees.{Tree}
 use Rattle.scheme_model.specs.SmallTrees.{form_tree}
-use Rattle.scheme_model.specs.UnitExpansion.{expand_unit}
+use Rattle.scheme_model.specs.SmallUnits.{expand_unit}
 use Rattle.scheme_model.specs.Arrows.{Pair, unit_arrows}
 
 -- the forms of a text's program

@@ -9,9 +9,9 @@ use Rattle.scheme_model.specs.SmallReading.{Datum, Data, atom as atom_datum, lis
 use Rattle.scheme_model.specs.Identifiers.{Number, Name, Written, same_name}
 use Rattle.scheme_model.specs.Trees.{Tree, placed_in}
 use Rattle.scheme_model.specs.SmallTrees.{form_tree, tree_of}
-use Rattle.scheme_model.specs.Cores.{Definition, Item}
-use Rattle.scheme_model.specs.Steps.{Fault, Outcome, done, failed}
-use Rattle.scheme_model.specs.UnitExpansion.{Declared, world_of, declare, declare_all, definition_in, definitions_of, expand_declared, UnitForm, form_result, expand_from, is_defined, unit_of_declared, expand_unit}
+use Rattle.scheme_model.specs.SmallCores.{Definition, Item}
+use Rattle.scheme_model.specs.SmallSteps.{Fault, Outcome, done, failed}
+use Rattle.scheme_model.specs.SmallUnits.{Declared, world_of, declare, declare_all, definition_in, definitions_of, expand_declared, UnitForm, form_result, expand_from, is_defined, unit_of_declared, expand_unit}
 use Rattle.scheme_model.specs.Arrows.{Pair, item_core, core_arrows, item_arrows, form_arrows, unit_arrows, definition_occ}
 use Rattle.scheme_model.specs.SmallArrows.{forms_from, program_arrows}
 use Rattle.syntax_tree.specs.Small.{is_free, Bound, is_named, is_free_leaf, bound_leaf, bound_names, are_parameters, is_body, is_value, is_definition, is_expression, is_list_expression, is_form, are_forms, differ, definitions, defined_in, defined_name, is_program}
