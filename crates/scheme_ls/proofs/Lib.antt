@@ -11,3 +11,4 @@ pub mod Fronts
 pub mod Taken
 pub mod WordLists
 pub mod SomeOutput
+pub mod OneCommand

@@ -2,6 +2,8 @@
 ghost use Rattle.std.specs.Prelude.{◌≡◌, ◌++◌, List, ℕ};
 ghost use Rattle.lsp_messages.specs.declared.reply.Reply.{Reply};
 ghost use Rattle.scheme_ls.specs.SessionOutput.{BeginOutput, IsOutputOf, Output, written};
+ghost use Rattle.scheme_ls.specs.Words.{CommandOf};
+ghost use Rattle.scheme_ls.specs.declared.words.Command.{Command};
 
 /// A stream of bytes has one output: no stream is without one, and none has two. Messages that begin it are a front of
 /// what is written.
@@ -10,4 +12,9 @@ pub fn one_output()
     ensures only { (bytes : List ℕ) (one other : Output) → IsOutputOf bytes one → IsOutputOf bytes other → one ≡ other }
     ensures front { (bytes : List ℕ) (messages : List Reply) (output : Output) → BeginOutput bytes messages
         → IsOutputOf bytes output → (rest : List Reply) × (written output ≡ messages ++ rest) }
+{}
+
+/// Words ask for one command.
+pub fn one_command()
+    ensures { (words : List (List ℕ)) (one other : Command) → CommandOf words one → CommandOf words other → one ≡ other }
 {}

@@ -3,7 +3,6 @@ pub mod Sayings
 pub mod Evented
 pub mod Sorted
 pub mod OneAnswer
-pub mod OneMessage
 pub mod SortedLinks
 pub mod SomeAnswer
 pub mod StepAsks

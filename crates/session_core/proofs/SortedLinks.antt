@@ -4,6 +4,7 @@ use Rattle.std.specs.Prelude.{AllPairs, IsPermutation, slice_index_or}
 use Rattle.std.specs.List.{AllByRecursion, IsDistinct}
 use Rattle.std.proofs.lemmas.Bool.{cases_order}
 use Rattle.std.proofs.lemmas.Bool.Decides.{nat_tests}
+use Rattle.std.proofs.lemmas.Map.Keys.{IsDistinct-head, IsDistinct-tail}
 use Rattle.std.proofs.lemmas.List.Sorted.{IsPermutation-refl, IsPermutation-sym, IsPermutation-cons, IsPermutation-trans, IsPermutation-middle}
 use Rattle.syntax_tree.specs.Walked.{Link, IsBefore}
 use Rattle.syntax_tree.proofs.AscentLaws.{same_target}
@@ -75,8 +76,8 @@ record Sorted (xs : List Link) : Type 0 where
 sort : (xs : List Link) → IsDistinct same_target xs → Sorted xs
 sort [] distinct = record { all = []; same = IsPermutation-refl []; order = tt; apart = λ w h. tt }
 sort (x ∷ xs) distinct =
-    let r = sort xs distinct.1 in
-    let p = put x r.all r.order (r.apart x distinct.0) in
+    let r = sort xs (IsDistinct-tail same_target x xs distinct) in
+    let p = put x r.all r.order (r.apart x (IsDistinct-head same_target x xs distinct)) in
     record {
       all = p.all;
       same = IsPermutation-trans (x ∷ xs) (x ∷ r.all) p.all (IsPermutation-cons x xs r.all r.same) p.same;

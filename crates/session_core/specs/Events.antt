@@ -2,7 +2,8 @@
 use Rattle.std.specs.Prelude.{◌≡◌, ℕ, List, [], ◌∷◌}
 use Rattle.document_store.specs.declared.faults.StoreFault.{StoreFault}
 use Rattle.document_store.specs.declared.faults.StoreFault.TheVariants as faults
-use Rattle.scheme_model.specs.Session.{Log, logged, refusal_text, uri_of}
+use Rattle.scheme_model.specs.Session.{Log, logged, uri_of}
+use Rattle.scheme_model.specs.Wording.{refusal_text}
 use Rattle.scheme_model.specs.Texts.{Event, Texts, Refusal, NotOpen, BadRange, TooLong, TooMany, after}
 use Rattle.session_core.specs.declared.out.Out.{Out}
 use Rattle.session_core.specs.Said.{offsets}

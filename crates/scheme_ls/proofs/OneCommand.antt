@@ -1,0 +1,34 @@
+-- Words ask for one command.
+use Rattle.std.proofs.Common.{◌≡◌, ℕ, List, [], ◌∷◌, length, refl, sym, ap, ◌∙◌, arith, inl, inr, codes}
+use Rattle.scheme_ls.specs.Words.{CommandOf, IsArrows, IsServe}
+use Rattle.scheme_ls.specs.declared.words.Command.{Command}
+use Rattle.scheme_ls.specs.declared.words.Command.TheVariants.{Arrows, Serve, Unknown}
+
+differ : codes "arrows" ≡ codes "serve" → ⊥
+differ same = let counts : 6 ≡ 5 = ap length same in omega arith
+
+firsts : (x y : List ℕ) → x ∷ [] ≡ y ∷ [] → x ≡ y
+firsts x y same = cc
+
+firsts_of_two : (x y z w : List ℕ) → x ∷ z ∷ [] ≡ y ∷ w ∷ [] → x ≡ y
+firsts_of_two x y z w same = cc
+
+one_or_two : (x y z : List ℕ) → x ∷ [] ≡ y ∷ z ∷ [] → ⊥
+one_or_two x y z same = cc
+
+apart : (words : List (List ℕ)) → IsArrows words → IsServe words → ⊥
+apart words (inl a) (inl b) = differ (firsts _ _ (sym a ∙ b))
+apart words (inl a) (inr b) = one_or_two _ _ _ (sym a ∙ b)
+apart words (inr a) (inl b) = one_or_two _ _ _ (sym b ∙ a)
+apart words (inr a) (inr b) = differ (firsts_of_two _ _ _ _ (sym a ∙ b))
+
+pub one_command : (words : List (List ℕ)) (one other : Command) → CommandOf words one → CommandOf words other → one ≡ other
+one_command words Arrows Arrows h k = refl
+one_command words Arrows Serve h k = absurd (apart words h k)
+one_command words Arrows Unknown h k = absurd (k.0 h)
+one_command words Serve Arrows h k = absurd (apart words k h)
+one_command words Serve Serve h k = refl
+one_command words Serve Unknown h k = absurd (k.1 h)
+one_command words Unknown Arrows h k = absurd (h.0 k)
+one_command words Unknown Serve h k = absurd (h.1 k)
+one_command words Unknown Unknown h k = refl
