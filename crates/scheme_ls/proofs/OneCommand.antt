@@ -4,8 +4,11 @@ use Rattle.scheme_ls.specs.Words.{CommandOf, IsArrows, IsServe}
 use Rattle.scheme_ls.specs.declared.words.Command.{Command}
 use Rattle.scheme_ls.specs.declared.words.Command.TheVariants.{Arrows, Serve, Unknown}
 
+counts_differ : (m n : ℕ) → m ≡ 6 → n ≡ 5 → m ≡ n → ⊥
+counts_differ m n six five same = omega arith
+
 differ : codes "arrows" ≡ codes "serve" → ⊥
-differ same = let counts : 6 ≡ 5 = ap length same in omega arith
+differ same = counts_differ (length (codes "arrows")) (length (codes "serve")) refl refl (ap (λ (word : List ℕ). length word) same)
 
 firsts : (x y : List ℕ) → x ∷ [] ≡ y ∷ [] → x ≡ y
 firsts x y same = cc

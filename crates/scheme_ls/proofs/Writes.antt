@@ -30,6 +30,10 @@ second_front x y z count within = take_second x (y ++ z) count ∙ ap (λ (rest 
 pub prints_nothing : (a : SinkSeen) → Prints a a []
 prints_nothing a = record { printed = Appends-nil a.taken; no_fault = refl; calls = take_none a.writes }
 
+-- memory runs out before anything is printed
+pub nothing_printed : (a : SinkSeen) (output : List ℕ) → PrintsPart a a output
+nothing_printed a output = record { count = 0; part = omega arith; printed = Appends-nil a.taken; no_fault = refl; calls = take_none a.writes }
+
 pub prints_then : (a b c : SinkSeen) (x y : List ℕ) → Prints a b x → Prints b c y → Prints a c (x ++ y)
 prints_then a b c x y first second = record { printed = Appends-trans a.taken b.taken c.taken x y first.printed second.printed; no_fault = second.no_fault ∙ first.no_fault; calls = take_then a.writes b.writes c.writes first.calls second.calls }
 

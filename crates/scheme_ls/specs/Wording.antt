@@ -13,4 +13,4 @@ not_built_text = codes "input:0:0: error 99 form not built\n"
 
 -- a fault of frames, by its number, at an offset of the stream
 abbrev pub fault_text : ℕ → ℕ → List ℕ
-fault_text number offset = codes "frame fault " ++ decimal number ++ codes " at " ++ decimal offset
+fault_text number offset = (codes "frame fault " ++ decimal number) ++ (codes " at " ++ decimal offset)

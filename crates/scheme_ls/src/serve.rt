@@ -92,13 +92,11 @@ pub fn serve<I: Source, O: Sink, L: Ledger>(
                 taken += count as u64;
                 match server.take(&buf[..count], output, steps) {
                     PieceEnd::Answered => {}
-                    PieceEnd::Faulty(fault) => {
-                        return match say_farewell(alloc, fault, output) {
-                            Ok(()) => SessionEnd::FrameFault,
-                            Err(WriteStop::Failed) => SessionEnd::WriteFailed,
-                            Err(WriteStop::Memory) => SessionEnd::NoMemory,
-                        };
-                    }
+                    PieceEnd::Faulty(fault) => match say_farewell(alloc, fault, output) {
+                        Ok(()) => return SessionEnd::FrameFault,
+                        Err(WriteStop::Failed) => return SessionEnd::WriteFailed,
+                        Err(WriteStop::Memory) => return SessionEnd::NoMemory,
+                    },
                     PieceEnd::Exited(exit) => return SessionEnd::Exited(exit),
                     PieceEnd::WriteFailed => return SessionEnd::WriteFailed,
                     PieceEnd::NoMemory => return SessionEnd::NoMemory,

@@ -46,7 +46,7 @@ pub enum PieceEnd {
 }
 
 /// Cuts bodies out of a piece of the stream.
-fn cut(deframer: &mut Deframer, piece: &[u8]) -> Mem<Cut>
+fn cut_piece(deframer: &mut Deframer, piece: &[u8]) -> Mem<Cut>
     requires { deframer.old.taken + length piece.now < 2 ^ 64 }
     ensures { IfOk result (λ cut. Cuts deframer.old piece.now cut deframer.new) }
 {
@@ -91,12 +91,12 @@ impl Server {
             (sink_seen (O.taken output.new) (O.faults output.new) (O.writes output.new)) result }
         ensures steps { steps.new ≡ steps.old }
     {
-        let Ok(Cut { bodies, fault }) = cut(&mut self.deframer, piece) else {
+        let Ok(cut) = cut_piece(&mut self.deframer, piece) else {
             return PieceEnd::NoMemory;
         };
-        let bodies = bodies.as_slice();
+        let bodies = cut.bodies.as_slice();
         match answer_bodies(self.alloc, &mut self.session, bodies, output, steps) {
-            BodiesEnd::Answered => match fault {
+            BodiesEnd::Answered => match cut.fault {
                 None => PieceEnd::Answered,
                 Some(fault) => PieceEnd::Faulty(fault),
             },

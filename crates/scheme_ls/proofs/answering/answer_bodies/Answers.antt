@@ -3,14 +3,66 @@ use Rattle.std.proofs.lemmas.List.{drop_all}
 use Rattle.std.specs.declared.vec.Vec.{Vec}
 use Rattle.std.specs.declared.alloc.Global.{Global}
 use Rattle.lsp_framing.specs.Taken.{contents}
-use Rattle.scheme_ls.specs.BodiesOutcome.{AnswersBodies}
-use Rattle.scheme_ls.specs.Prints.{sink_seen}
+use Rattle.scheme_ls.specs.BodiesOutcome.{AnswersBodies, AnswersSome, EndsSession}
+use Rattle.scheme_ls.specs.Prints.{PrintsFront, PrintsPart, sink_seen}
+use Rattle.scheme_ls.specs.Statuses.{said_exit}
 use Rattle.scheme_ls.proofs.Items.{at_item}
-use Rattle.scheme_ls.proofs.AnswerLaws.{AnsweredSoFar, so_far_none, so_far_more, so_far_all}
+use Rattle.scheme_ls.proofs.AnswerLaws.{AnsweredSoFar, so_far_all, so_far_ends, so_far_front, so_far_more, so_far_none, so_far_part}
 use Rattle.scheme_ls.proofs.answering.answer_bodies.Goals as goal
 
 pub loop-body-init : goal.loop-body-init
 loop-body-init g c = record { answered = so_far_none _ _ _; same = search rules }
+
+pub loop-body-preserved : goal.loop-body-preserved
+loop-body-preserved g c =
+    let all = c.args.bodies.now in
+    let i = c.loop-body.body-index in
+    let old = sink_seen (g.O.Sink.taken c.args.output.now) (g.O.Sink.faults c.args.output.now) (g.O.Sink.writes c.args.output.now) in
+    let mid = sink_seen (g.O.Sink.taken c.loop-body.output) (g.O.Sink.faults c.loop-body.output) (g.O.Sink.writes c.loop-body.output) in
+    let new = sink_seen (g.O.Sink.taken c.answer_body.new.output) (g.O.Sink.faults c.answer_body.new.output) (g.O.Sink.writes c.answer_body.new.output) in
+    let now = subst (λ (rest : List (Vec ℕ Global)). AnsweredSoFar c.args.session.now (contents all) (contents rest) c.loop-body.session old mid)
+    (at_item all i c.body-item.result c.loop-body-test.true c.body-item.is) c.loop-body.invariant.answered in
+    let one = subst (λ (body : List ℕ). AnswersBodies c.loop-body.session (body ∷ []) c.answer_body.new.session mid new) c.deref.ensures.value c.in-Answered.ensures.answers in
+    record {
+      answered = so_far_more _ _ _ (contents all) (contents (drop (i + 1) all)) c.body-item.result.items old mid new now one;
+      same = c.in-Answered.ensures.steps ∙ c.loop-body.invariant.same;
+    }
+
+pub returns-in-Exited-clause-answers : goal.returns-in-Exited-clause-answers
+returns-in-Exited-clause-answers g c =
+    let all = c.args.bodies.now in
+    let i = c.loop-body.body-index in
+    let old = sink_seen (g.O.Sink.taken c.args.output.now) (g.O.Sink.faults c.args.output.now) (g.O.Sink.writes c.args.output.now) in
+    let mid = sink_seen (g.O.Sink.taken c.loop-body.output) (g.O.Sink.faults c.loop-body.output) (g.O.Sink.writes c.loop-body.output) in
+    let new = sink_seen (g.O.Sink.taken c.answer_body.new.output) (g.O.Sink.faults c.answer_body.new.output) (g.O.Sink.writes c.answer_body.new.output) in
+    let now = subst (λ (rest : List (Vec ℕ Global)). AnsweredSoFar c.args.session.now (contents all) (contents rest) c.loop-body.session old mid)
+    (at_item all i c.body-item.result c.loop-body-test.true c.body-item.is) c.loop-body.invariant.answered in
+    let one = subst (λ (body : List ℕ). EndsSession c.loop-body.session (body ∷ []) (said_exit c.in-Exited.exit) mid new) c.deref.ensures.value c.in-Exited.ensures.answers in
+    so_far_ends _ _ (contents all) (contents (drop (i + 1) all)) c.body-item.result.items (said_exit c.in-Exited.exit) old mid new now one
+
+pub returns-in-WriteFailed-clause-answers : goal.returns-in-WriteFailed-clause-answers
+returns-in-WriteFailed-clause-answers g c =
+    let all = c.args.bodies.now in
+    let i = c.loop-body.body-index in
+    let old = sink_seen (g.O.Sink.taken c.args.output.now) (g.O.Sink.faults c.args.output.now) (g.O.Sink.writes c.args.output.now) in
+    let mid = sink_seen (g.O.Sink.taken c.loop-body.output) (g.O.Sink.faults c.loop-body.output) (g.O.Sink.writes c.loop-body.output) in
+    let new = sink_seen (g.O.Sink.taken c.answer_body.new.output) (g.O.Sink.faults c.answer_body.new.output) (g.O.Sink.writes c.answer_body.new.output) in
+    let now = subst (λ (rest : List (Vec ℕ Global)). AnsweredSoFar c.args.session.now (contents all) (contents rest) c.loop-body.session old mid)
+    (at_item all i c.body-item.result c.loop-body-test.true c.body-item.is) c.loop-body.invariant.answered in
+    let one = subst (λ (body : List ℕ). AnswersSome c.loop-body.session (body ∷ []) (PrintsFront mid new)) c.deref.ensures.value c.in-WriteFailed.ensures.answers in
+    so_far_front _ _ (contents all) (contents (drop (i + 1) all)) c.body-item.result.items old mid new now one
+
+pub returns-in-NoMemory-clause-answers : goal.returns-in-NoMemory-clause-answers
+returns-in-NoMemory-clause-answers g c =
+    let all = c.args.bodies.now in
+    let i = c.loop-body.body-index in
+    let old = sink_seen (g.O.Sink.taken c.args.output.now) (g.O.Sink.faults c.args.output.now) (g.O.Sink.writes c.args.output.now) in
+    let mid = sink_seen (g.O.Sink.taken c.loop-body.output) (g.O.Sink.faults c.loop-body.output) (g.O.Sink.writes c.loop-body.output) in
+    let new = sink_seen (g.O.Sink.taken c.answer_body.new.output) (g.O.Sink.faults c.answer_body.new.output) (g.O.Sink.writes c.answer_body.new.output) in
+    let now = subst (λ (rest : List (Vec ℕ Global)). AnsweredSoFar c.args.session.now (contents all) (contents rest) c.loop-body.session old mid)
+    (at_item all i c.body-item.result c.loop-body-test.true c.body-item.is) c.loop-body.invariant.answered in
+    let one = subst (λ (body : List ℕ). AnswersSome c.loop-body.session (body ∷ []) (PrintsPart mid new)) c.deref.ensures.value c.in-NoMemory.ensures.answers in
+    so_far_part _ _ (contents all) (contents (drop (i + 1) all)) c.body-item.result.items old mid new now one
 
 pub returns-clause-answers : goal.returns-clause-answers
 returns-clause-answers g c =

@@ -1,7 +1,6 @@
-use Rattle.std.proofs.Common.{◌∙◌, arith, ℕ, subst}
+use Rattle.std.proofs.Common.{◌∙◌, arith, refl}
 use Rattle.std.proofs.KnownBytes.{Appends-nil, Appends-trans}
-use Rattle.ls_outside.specs.Counts.{Fails}
-use Rattle.scheme_ls.proofs.CallLaws.{last_one, last_then, take_none, take_one, take_then}
+use Rattle.scheme_ls.proofs.CallLaws.{take_none, take_one, take_then}
 use Rattle.scheme_ls.proofs.Fronts.{front_more}
 use Rattle.scheme_ls.proofs.printing.print_all.Goals as goal
 

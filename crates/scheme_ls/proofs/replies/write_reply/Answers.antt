@@ -1,7 +1,19 @@
 use Rattle.std.proofs.Common.{List, ℕ, ◌∙◌, ap, subst}
+use Rattle.std.proofs.lemmas.Result.{err_from_is_err_and}
 use Rattle.ls_base.specs.Frames.{frame_text}
 use Rattle.scheme_ls.specs.Prints.{Prints, sink_seen}
+use Rattle.scheme_ls.proofs.Writes.{nothing_printed}
 use Rattle.scheme_ls.proofs.replies.write_reply.Goals as goal
+
+pub returns-in_err-body : goal.returns-in_err-body
+returns-in_err-body g c =
+    let p = err_from_is_err_and c.from_residual.result c.from_residual.ensures.1 in
+    rw (p.1, p.2) (nothing_printed _ _)
+
+pub returns-in_err-frame : goal.returns-in_err-frame
+returns-in_err-frame g c =
+    let p = err_from_is_err_and c.from_residual-in_err-frame.result c.from_residual-in_err-frame.ensures.1 in
+    rw (p.1, p.2) (nothing_printed _ _)
 
 pub returns : goal.returns
 returns g c =

@@ -1,10 +1,13 @@
-use Rattle.std.proofs.Common.{◌≡◌, ℕ, ◌-◌, ◌≤◌, List, [], ◌++◌, min, take, drop, length, length-append, ◌∙◌, refl, subst, arith, ◌⊎◌}
+use Rattle.std.proofs.Common.{◌≡◌, ℕ, ◌-◌, ◌≤◌, List, [], ◌++◌, min, take, drop, length, length-append, ◌∙◌, refl, subst, arith, ◌⊎◌, Err}
 use Rattle.std.proofs.lemmas.List.{length-take, length-drop}
 use Rattle.scheme_ls.specs.PieceOutcome.{AnswersInPiece, EndsInPiece, HasFault, IsOpen, TakesPiece, serving}
-use Rattle.scheme_ls.specs.Prints.{PrintsFront, PrintsPart, sink_seen}
+use Rattle.scheme_ls.specs.Prints.{PrintsFront, PrintsPart, WritingEndsAs, sink_seen}
 use Rattle.scheme_ls.specs.Reading.{source_seen}
+use Rattle.scheme_ls.specs.ReplyFrames.{frame_of_reply}
+use Rattle.scheme_ls.specs.SessionOutput.{fault_log}
 use Rattle.scheme_ls.specs.Statuses.{said_exit}
 use Rattle.scheme_ls.specs.Streams.{streams}
+use Rattle.scheme_ls.specs.declared.replies.WriteStop.{WriteStop}
 use Rattle.scheme_ls.proofs.PieceEndsSession.{farewell_cut, farewell_lost, farewell_written, nothing_served, piece_cut, piece_exits, piece_lost, read_piece}
 use Rattle.scheme_ls.proofs.ReadLaws.{read_some}
 use Rattle.scheme_ls.proofs.SessionSoFar.{going_first, going_more, input_ends, read_fails, takes_most}
@@ -92,8 +95,8 @@ returns-in-NoMemory-clause-serves g c =
     piece_lost old mid new server next c.loop-taken.taken 1099511627776 n buffer read
     (subst (λ (piece : List ℕ). AnswersInPiece server next piece (PrintsPart mid.sink new.sink) ⊎ (new.sink ≡ mid.sink)) whole c.in-NoMemory.ensures.takes)
 
-pub returns-in-Ok-in-Faulty-clause-serves : goal.returns-in-Ok-in-Faulty-clause-serves
-returns-in-Ok-in-Faulty-clause-serves g c =
+pub returns-in-Ok-say_farewell-clause-serves : goal.returns-in-Ok-say_farewell-clause-serves
+returns-in-Ok-say_farewell-clause-serves g c =
     let old = streams (source_seen (g.I.Source.left c.args.input.now) (g.I.Source.faults c.args.input.now) (g.I.Source.reads c.args.input.now))
     (sink_seen (g.O.Sink.taken c.args.output.now) (g.O.Sink.faults c.args.output.now) (g.O.Sink.writes c.args.output.now)) in
     let mid = streams (source_seen (g.I.Source.left c.loop-taken.input) (g.I.Source.faults c.loop-taken.input) (g.I.Source.reads c.loop-taken.input))
@@ -111,7 +114,7 @@ returns-in-Ok-in-Faulty-clause-serves g c =
     let read = read_piece old mid new server c.loop-taken.taken n room buffer c.loop-taken.invariant.going c.loop-taken-test.true c.in-Some.ensures.within.0 c.in-Some.ensures.within.1 size c.min-room.ensures c.in-Some.ensures.takes on in
     let sink = sink_seen (g.O.Sink.taken c.say_farewell.new.output) (g.O.Sink.faults c.say_farewell.new.output) (g.O.Sink.writes c.say_farewell.new.output) in
     farewell_written old mid new sink server next c.loop-taken.taken 1099511627776 n buffer c.in-Faulty.fault read
-    (subst (λ (piece : List ℕ). TakesPiece server next piece (HasFault c.in-Faulty.fault) mid.sink new.sink) whole c.in-Faulty.ensures.takes) c.in-Ok-in-Faulty.ensures
+    (subst (λ (piece : List ℕ). TakesPiece server next piece (HasFault c.in-Faulty.fault) mid.sink new.sink) whole c.in-Faulty.ensures.takes) c.in-Ok-say_farewell.ensures
 
 pub returns-in-Err-Failed-clause-serves : goal.returns-in-Err-Failed-clause-serves
 returns-in-Err-Failed-clause-serves g c =
@@ -132,7 +135,8 @@ returns-in-Err-Failed-clause-serves g c =
     let read = read_piece old mid new server c.loop-taken.taken n room buffer c.loop-taken.invariant.going c.loop-taken-test.true c.in-Some.ensures.within.0 c.in-Some.ensures.within.1 size c.min-room.ensures c.in-Some.ensures.takes on in
     let sink = sink_seen (g.O.Sink.taken c.say_farewell.new.output) (g.O.Sink.faults c.say_farewell.new.output) (g.O.Sink.writes c.say_farewell.new.output) in
     farewell_cut old mid new sink server next c.loop-taken.taken 1099511627776 n buffer c.in-Faulty.fault read
-    (subst (λ (piece : List ℕ). TakesPiece server next piece (HasFault c.in-Faulty.fault) mid.sink new.sink) whole c.in-Faulty.ensures.takes) c.in-Err-Failed.ensures
+    (subst (λ (piece : List ℕ). TakesPiece server next piece (HasFault c.in-Faulty.fault) mid.sink new.sink) whole c.in-Faulty.ensures.takes)
+    (subst (λ (stop : WriteStop). WritingEndsAs new.sink sink (frame_of_reply (fault_log c.in-Faulty.fault.number c.in-Faulty.fault.offset)) (Err stop)) c.in-Err-Failed.field-0-is c.in-Err-Failed.ensures)
 
 pub returns-in-Err-Memory-clause-serves : goal.returns-in-Err-Memory-clause-serves
 returns-in-Err-Memory-clause-serves g c =
@@ -153,7 +157,8 @@ returns-in-Err-Memory-clause-serves g c =
     let read = read_piece old mid new server c.loop-taken.taken n room buffer c.loop-taken.invariant.going c.loop-taken-test.true c.in-Some.ensures.within.0 c.in-Some.ensures.within.1 size c.min-room.ensures c.in-Some.ensures.takes on in
     let sink = sink_seen (g.O.Sink.taken c.say_farewell.new.output) (g.O.Sink.faults c.say_farewell.new.output) (g.O.Sink.writes c.say_farewell.new.output) in
     farewell_lost old mid new sink server next c.loop-taken.taken 1099511627776 n buffer c.in-Faulty.fault read
-    (subst (λ (piece : List ℕ). TakesPiece server next piece (HasFault c.in-Faulty.fault) mid.sink new.sink) whole c.in-Faulty.ensures.takes) c.in-Err-Memory.ensures
+    (subst (λ (piece : List ℕ). TakesPiece server next piece (HasFault c.in-Faulty.fault) mid.sink new.sink) whole c.in-Faulty.ensures.takes)
+    (subst (λ (stop : WriteStop). WritingEndsAs new.sink sink (frame_of_reply (fault_log c.in-Faulty.fault.number c.in-Faulty.fault.offset)) (Err stop)) c.in-Err-Memory.field-0-is c.in-Err-Memory.ensures)
 
 pub loop-taken-preserved : goal.loop-taken-preserved
 loop-taken-preserved g c =

@@ -1,11 +1,65 @@
-use Rattle.std.proofs.Common.{List, ℕ, subst, inl, inr, refl}
+use Rattle.std.proofs.Common.{List, ℕ, Option, subst, inl, inr, refl}
 use Rattle.std.specs.declared.vec.Vec.{Vec}
 use Rattle.std.specs.declared.alloc.Global.{Global}
 use Rattle.lsp_framing.specs.Taken.{contents}
 use Rattle.scheme_ls.specs.BodiesOutcome.{AnswersBodies, AnswersSome, EndsSession}
+use Rattle.scheme_ls.specs.PieceOutcome.{EndsCut}
 use Rattle.scheme_ls.specs.Prints.{PrintsFront, PrintsPart, sink_seen}
 use Rattle.scheme_ls.specs.Statuses.{said_exit}
+use Rattle.scheme_ls.specs.declared.server.FaultAt.{FaultAt}
 use Rattle.scheme_ls.proofs.server.Server.take.Goals as goal
 
 pub returns-in_default-clause-takes : goal.returns-in_default-clause-takes
 returns-in_default-clause-takes g c = inr refl
+
+pub returns-in-None-clause-takes : goal.returns-in-None-clause-takes
+returns-in-None-clause-takes g c =
+    let seen = sink_seen (g.O.Sink.taken c.args.output.now) (g.O.Sink.faults c.args.output.now) (g.O.Sink.writes c.args.output.now) in
+    let now = sink_seen (g.O.Sink.taken c.answer_bodies.new.output) (g.O.Sink.faults c.answer_bodies.new.output) (g.O.Sink.writes c.answer_bodies.new.output) in
+    record {
+      given = contents c.in-Ok.cut.bodies;
+      feeds = c.in-Ok.ensures.feeds;
+      end = subst (λ (fault : Option FaultAt). EndsCut fault c.cut_piece.new.deframer.end) c.in-None.is c.in-Ok.ensures.end;
+      answers = subst (λ (bodies : List (Vec ℕ Global)). AnswersBodies c.args.self.now.session (contents bodies) c.answer_bodies.new.session seen now) c.as_slice-bodies.ensures c.in-Answered.ensures.answers;
+    }
+
+pub returns-in-Answered-clause-takes : goal.returns-in-Answered-clause-takes
+returns-in-Answered-clause-takes g c =
+    let seen = sink_seen (g.O.Sink.taken c.args.output.now) (g.O.Sink.faults c.args.output.now) (g.O.Sink.writes c.args.output.now) in
+    let now = sink_seen (g.O.Sink.taken c.answer_bodies.new.output) (g.O.Sink.faults c.answer_bodies.new.output) (g.O.Sink.writes c.answer_bodies.new.output) in
+    record {
+      given = contents c.in-Ok.cut.bodies;
+      feeds = c.in-Ok.ensures.feeds;
+      end = subst (λ (fault : Option FaultAt). EndsCut fault c.cut_piece.new.deframer.end) c.in-Some.is c.in-Ok.ensures.end;
+      answers = subst (λ (bodies : List (Vec ℕ Global)). AnswersBodies c.args.self.now.session (contents bodies) c.answer_bodies.new.session seen now) c.as_slice-bodies.ensures c.in-Answered.ensures.answers;
+    }
+
+pub returns-in-Exited-clause-takes : goal.returns-in-Exited-clause-takes
+returns-in-Exited-clause-takes g c =
+    let seen = sink_seen (g.O.Sink.taken c.args.output.now) (g.O.Sink.faults c.args.output.now) (g.O.Sink.writes c.args.output.now) in
+    let now = sink_seen (g.O.Sink.taken c.answer_bodies.new.output) (g.O.Sink.faults c.answer_bodies.new.output) (g.O.Sink.writes c.answer_bodies.new.output) in
+    record {
+      given = contents c.in-Ok.cut.bodies;
+      feeds = c.in-Ok.ensures.feeds;
+      ends = subst (λ (bodies : List (Vec ℕ Global)). EndsSession c.args.self.now.session (contents bodies) (said_exit c.in-Exited.exit) seen now) c.as_slice-bodies.ensures c.in-Exited.ensures.answers;
+    }
+
+pub returns-in-WriteFailed-clause-takes : goal.returns-in-WriteFailed-clause-takes
+returns-in-WriteFailed-clause-takes g c =
+    let seen = sink_seen (g.O.Sink.taken c.args.output.now) (g.O.Sink.faults c.args.output.now) (g.O.Sink.writes c.args.output.now) in
+    let now = sink_seen (g.O.Sink.taken c.answer_bodies.new.output) (g.O.Sink.faults c.answer_bodies.new.output) (g.O.Sink.writes c.answer_bodies.new.output) in
+    record {
+      given = contents c.in-Ok.cut.bodies;
+      feeds = c.in-Ok.ensures.feeds;
+      answers = subst (λ (bodies : List (Vec ℕ Global)). AnswersSome c.args.self.now.session (contents bodies) (PrintsFront seen now)) c.as_slice-bodies.ensures c.in-WriteFailed.ensures.answers;
+    }
+
+pub returns-clause-takes : goal.returns-clause-takes
+returns-clause-takes g c =
+    let seen = sink_seen (g.O.Sink.taken c.args.output.now) (g.O.Sink.faults c.args.output.now) (g.O.Sink.writes c.args.output.now) in
+    let now = sink_seen (g.O.Sink.taken c.answer_bodies.new.output) (g.O.Sink.faults c.answer_bodies.new.output) (g.O.Sink.writes c.answer_bodies.new.output) in
+    inl (record {
+      given = contents c.in-Ok.cut.bodies;
+      feeds = c.in-Ok.ensures.feeds;
+      answers = subst (λ (bodies : List (Vec ℕ Global)). AnswersSome c.args.self.now.session (contents bodies) (PrintsPart seen now)) c.as_slice-bodies.ensures c.in-NoMemory.ensures.answers;
+    })
