@@ -1,7 +1,7 @@
 -- A session (JSON-RPC 2.0; LSP 3.17, lifecycle): what a server answers to each message, and what it keeps. Which answer
 -- a query has in given texts is given, and what a message is that a body reads as.
 use Rattle.std.specs.Prelude.{ℕ, ℤ, neg_ℤ, pos, Bool, List, [], ◌∷◌, ◌++◌, Option, Some, None}
-use Rattle.scheme_model.specs.Texts.{Position, Offsets, Texts, Event, Added, Changed, Closed, Refusal, after}
+use Rattle.scheme_model.specs.Texts.{Position, Utf16, Offsets, Texts, Event, Added, Changed, Closed, Refusal, after}
 use Rattle.scheme_model.specs.Wording.{parse_error_text, invalid_request_text, method_not_found_text, invalid_params_text, not_initialized_text, refusal_text, bad_params_text}
 
 -- a request's id
@@ -149,7 +149,7 @@ logged uri None = []
 logged uri (Some refusal) = Log (refusal_text refusal uri) ∷ []
 
 abbrev pub evented : {A : Type 0} → Offsets → State → Event → Stepped A
-evented offset state event = stays (with_texts (after offset state.texts event).0 state) (logged (uri_of event) (after offset state.texts event).1)
+evented offset state event = stays (with_texts (after offset Utf16 state.texts event).0 state) (logged (uri_of event) (after offset Utf16 state.texts event).1)
 
 -- how `exit` ends a session, by its mode
 abbrev pub exit_in : Mode → Ending

@@ -9,7 +9,7 @@ use crate::out::silent;
 use crate::replies::logged;
 use crate::wording::{BAD_RANGE, NOT_OPEN, TOO_LONG, TOO_MANY};
 use document_store::{Store, StoreFault};
-use ls_base::{Change, Mem, Memory};
+use ls_base::{Change, Encoding, Mem, Memory};
 use std::alloc::Global;
 
 /// Opens a document, or gives an open one a new version and text. Where memory runs out the texts are as before.
@@ -38,7 +38,7 @@ pub fn changed(
     ensures kept { OnErr result (texts.new ≡ texts.old) }
 {
     let too_long = refused(alloc, StoreFault::TooLong, uri)?;
-    match texts.change(uri, version, changes) {
+    match texts.change(uri, version, changes, Encoding::Utf16) {
         Ok(()) => Ok(silent(alloc)),
         Err(fault) => {
             if fault == StoreFault::TooLong {

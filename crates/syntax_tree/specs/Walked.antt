@@ -1,6 +1,7 @@
 -- What the walk over a small program finds: for each use the innermost binder of its symbol.
 use Rattle.std.specs.Prelude.{◌≡◌, ℕ, zero, suc, ◌+◌, ◌-◌, ◌<◌, ◌≤◌, List, [], ◌∷◌, ◌++◌, true, map, take, drop, Option, Some, None, codes, if◌then◌else◌, ◌⊎◌, AllPairs, IsPermutation, slice_index_or}
 use Rattle.std.specs.Str.{bytes_eq}
+use Rattle.ls_base.specs.declared.encoding.Encoding.TheVariants.{Utf16}
 use Rattle.ls_base.specs.Positions.{position_of}
 use Rattle.ls_base.specs.declared.answers.Arrow.{Arrow}
 use Rattle.ls_base.specs.declared.places.Place.{Place}
@@ -104,7 +105,7 @@ token_at ts n = slice_index_or ts n (record { kind = Paren; start = 0; end = 0 }
 
 -- a token's place in the text, whose document is called `input`
 abbrev pub place_at : List ℕ → Token → Place
-place_at text t = record { uri = codes "input"; range = record { start = position_of text t.start; end = position_of text t.end } }
+place_at text t = record { uri = codes "input"; range = record { start = position_of Utf16 text t.start; end = position_of Utf16 text t.end } }
 
 -- a token as it is written
 abbrev pub written_at : List ℕ → Token → List ℕ
