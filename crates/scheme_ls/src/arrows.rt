@@ -73,9 +73,9 @@ impl ArrowsEnd {
 pub fn arrows<I: Source, O: Sink>(alloc: Global, input: &mut I, output: &mut O) -> ArrowsEnd
     ensures { ArrowsEndsAs
         (streams (source_seen (I.left input.old) (I.faults input.old) (I.reads input.old))
-            (sink_seen (O.taken output.old) (O.faults output.old) (O.writes output.old)))
+        (sink_seen (O.taken output.old) (O.faults output.old) (O.writes output.old)))
         (streams (source_seen (I.left input.new) (I.faults input.new) (I.reads input.new))
-            (sink_seen (O.taken output.new) (O.faults output.new) (O.writes output.new))) result }
+        (sink_seen (O.taken output.new) (O.faults output.new) (O.writes output.new))) result }
 {
     match read_all(alloc, input) {
         Ok(text) => ArrowsEnd::Answered(print_arrows(alloc, &text, output)),

@@ -27,11 +27,11 @@ pub fn run<I: Source, O: Sink, F: Files, L: Ledger>(
 ) -> u8
     ensures { RunEnds (texts words.now)
         (seen (source_seen (I.left input.old) (I.faults input.old) (I.reads input.old))
-            (sink_seen (O.taken output.old) (O.faults output.old) (O.writes output.old))
-            (files_seen (F.held files.old) (F.asked files.old) (F.faults files.old)) steps.old)
+        (sink_seen (O.taken output.old) (O.faults output.old) (O.writes output.old))
+        (files_seen (F.held files.old) (F.asked files.old) (F.faults files.old)) steps.old)
         (seen (source_seen (I.left input.new) (I.faults input.new) (I.reads input.new))
-            (sink_seen (O.taken output.new) (O.faults output.new) (O.writes output.new))
-            (files_seen (F.held files.new) (F.asked files.new) (F.faults files.new)) steps.new) result }
+        (sink_seen (O.taken output.new) (O.faults output.new) (O.writes output.new))
+        (files_seen (F.held files.new) (F.asked files.new) (F.faults files.new)) steps.new) result }
 {
     let status = match command_of(words) {
         Command::Arrows => arrows(alloc, input, output).status(),

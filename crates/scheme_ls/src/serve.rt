@@ -69,9 +69,9 @@ pub fn serve<I: Source, O: Sink, L: Ledger>(
 ) -> SessionEnd
     ensures serves { ServeEndsAs
         (streams (source_seen (I.left input.old) (I.faults input.old) (I.reads input.old))
-            (sink_seen (O.taken output.old) (O.faults output.old) (O.writes output.old)))
+        (sink_seen (O.taken output.old) (O.faults output.old) (O.writes output.old)))
         (streams (source_seen (I.left input.new) (I.faults input.new) (I.reads input.new))
-            (sink_seen (O.taken output.new) (O.faults output.new) (O.writes output.new))) result }
+        (sink_seen (O.taken output.new) (O.faults output.new) (O.writes output.new))) result }
     ensures steps { steps.new ≡ steps.old }
 {
     let Ok(session) = Session::new(alloc) else {

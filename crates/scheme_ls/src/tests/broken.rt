@@ -12,12 +12,7 @@ const INVALID: &str =
     r#"{"error":{"code":-32600,"message":"invalid request"},"id":null,"jsonrpc":"2.0"}"#;
 
 /// So many times one text, and then so many times another.
-fn repeated(
-    alloc: Global,
-    first: &str,
-    second: &str,
-    count: usize,
-) -> Result<String, AllocError> {
+fn repeated(alloc: Global, first: &str, second: &str, count: usize) -> Result<String, AllocError> {
     let mut text = String::new(alloc);
     for _ in 0..count {
         text.push_str(first)?;
@@ -30,8 +25,10 @@ fn repeated(
 
 /// Whether the stream has this fault of frames, which is then the only message.
 fn faults(rt: &impl Abort, alloc: Global, stream: &str, fault: &str) -> Result<(), Fail> {
-    let mut log =
-        String::from_str(alloc, r#"{"jsonrpc":"2.0","method":"window/logMessage","params":{"message":"frame fault "#)?;
+    let mut log = String::from_str(
+        alloc,
+        r#"{"jsonrpc":"2.0","method":"window/logMessage","params":{"message":"frame fault "#,
+    )?;
     log.push_str(fault)?;
     log.push_str(r#"","type":1}}"#)?;
     answers(rt, alloc, &[], stream, 6, &[log.as_str()])?;
@@ -109,9 +106,19 @@ fn any_read_may_fail(rt: HostRuntime) -> Result<(), Fail> {
             ..plain("serve", "")
         };
         let (ended, out) = outcome(a, run)?;
-        let (_, expected) = outcome(a, Run { text: &bytes[..at], ..plain("serve", "") })?;
+        let (_, expected) = outcome(
+            a,
+            Run {
+                text: &bytes[..at],
+                ..plain("serve", "")
+            },
+        )?;
         assert_eq!(rt; ended, 3, "at read {failing_read}");
-        assert_eq!(rt; out.as_slice(), expected.as_slice(), "at read {failing_read}");
+        assert_eq!(rt;
+            out.as_slice(),
+            expected.as_slice(),
+            "at read {failing_read}"
+        );
     }
     Ok(())
 }
@@ -130,7 +137,10 @@ fn any_write_may_fail(rt: HostRuntime) -> Result<(), Fail> {
         };
         let (ended, out) = outcome(a, run)?;
         assert_eq!(rt; ended, 5, "at write {failing_write}");
-        assert!(rt; whole.as_bytes().starts_with(out.as_slice()), "at write {failing_write}");
+        assert!(rt;
+            whole.as_bytes().starts_with(out.as_slice()),
+            "at write {failing_write}"
+        );
     }
     Ok(())
 }
