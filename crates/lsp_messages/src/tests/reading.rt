@@ -113,13 +113,13 @@ fn judges_the_method(rt: HostRuntime) -> Result<(), Fail> {
 fn reads_prepare_support(rt: HostRuntime) -> Result<(), Fail> {
     let frame = r#"{"jsonrpc":"2.0","id":1,"method":"initialize","params":@}"#;
     let table =
-        r#"{"capabilities":{"textDocument":{"rename":{"prepareSupport":true}}}} -> Ok(Request { id: Number(1), call: Initialize { prepare: true } })
-{"capabilities":{"textDocument":{"rename":{"prepareSupport":false}}}} -> Ok(Request { id: Number(1), call: Initialize { prepare: false } })
-{"capabilities":{"textDocument":{"rename":{"prepareSupport":"true"}}}} -> Ok(Request { id: Number(1), call: Initialize { prepare: false } })
-{"capabilities":{"textDocument":{"rename":true}}} -> Ok(Request { id: Number(1), call: Initialize { prepare: false } })
-{"capabilities":[]} -> Ok(Request { id: Number(1), call: Initialize { prepare: false } })
-{} -> Ok(Request { id: Number(1), call: Initialize { prepare: false } })
-null -> Ok(Request { id: Number(1), call: Initialize { prepare: false } })"#;
+        r#"{"capabilities":{"textDocument":{"rename":{"prepareSupport":true}}}} -> Ok(Request { id: Number(1), call: Initialize { prepare: true, encoding: Utf16 } })
+{"capabilities":{"textDocument":{"rename":{"prepareSupport":false}}}} -> Ok(Request { id: Number(1), call: Initialize { prepare: false, encoding: Utf16 } })
+{"capabilities":{"textDocument":{"rename":{"prepareSupport":"true"}}}} -> Ok(Request { id: Number(1), call: Initialize { prepare: false, encoding: Utf16 } })
+{"capabilities":{"textDocument":{"rename":true}}} -> Ok(Request { id: Number(1), call: Initialize { prepare: false, encoding: Utf16 } })
+{"capabilities":[]} -> Ok(Request { id: Number(1), call: Initialize { prepare: false, encoding: Utf16 } })
+{} -> Ok(Request { id: Number(1), call: Initialize { prepare: false, encoding: Utf16 } })
+null -> Ok(Request { id: Number(1), call: Initialize { prepare: false, encoding: Utf16 } })"#;
     says(&rt, rt.alloc(), frame, table)
 }
 

@@ -1,7 +1,8 @@
 //! Replies, and the body of each.
 use crate::{Id, Reply, reply_bytes};
 use ls_base::{
-    Answer, Arrow, Diagnostic, DocEdits, Highlight, Items, Place, Pos, Range, Text, TextEdit,
+    Answer, Arrow, Diagnostic, DocEdits, Encoding, Highlight, Items, Place, Pos, Range, Text,
+    TextEdit,
 };
 use std::alloc::Global;
 use std::process::Abort;
@@ -66,7 +67,11 @@ fn replies_to_initialize(rt: HostRuntime) -> Result<(), Fail> {
         sends(
             &rt,
             rt.alloc(),
-            &Reply::Capabilities { id, prepare },
+            &Reply::Capabilities {
+                id,
+                prepare,
+                encoding: Encoding::Utf16,
+            },
             want,
             len,
         )?;
