@@ -35,7 +35,7 @@ pub fn changed(
 ) -> Mem<Out>
     ensures event { IfOk result
         (IsEvented (spec.after offsets (said_encoding encoding) texts.old
-            (spec.Changed uri.now version (map said_change changes.now))) uri.now texts.new) }
+        (spec.Changed uri.now version (map said_change changes.now))) uri.now texts.new) }
     ensures kept { OnErr result (texts.new ≡ texts.old) }
 {
     let too_long = refused(alloc, StoreFault::TooLong, uri)?;

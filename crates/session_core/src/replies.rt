@@ -73,14 +73,17 @@ pub fn not_initialized(alloc: Global, id: Id) -> Mem<Out>
 
 /// What the server can do.
 pub fn capabilities(alloc: Global, id: Id, prepare: bool, encoding: Encoding) -> Mem<Out>
-    ensures { IfOk result (λ out. Says out 
+    ensures { IfOk result (λ out. Says out
         (session.Capabilities (said_id id) prepare (said_encoding encoding) ∷ [])) }
 {
-    Ok(said(alloc, Reply::Capabilities {
-        id,
-        prepare,
-        encoding,
-    })?)
+    Ok(said(
+        alloc,
+        Reply::Capabilities {
+            id,
+            prepare,
+            encoding,
+        },
+    )?)
 }
 
 /// The reply with an answer.

@@ -23,14 +23,22 @@ fn check(
             line: *line,
             character: *character,
         };
-        assert_eq!(rt; lines.offset(text, pos, Encoding::Utf16), *offset, "at {line}:{character}");
+        assert_eq!(rt;
+            lines.offset(text, pos, Encoding::Utf16),
+            *offset,
+            "at {line}:{character}"
+        );
     }
     for (offset, line, character) in positions {
         let pos = Pos {
             line: *line,
             character: *character,
         };
-        assert_eq!(rt; lines.position(text, *offset, Encoding::Utf16), pos, "at {offset}");
+        assert_eq!(rt;
+            lines.position(text, *offset, Encoding::Utf16),
+            pos,
+            "at {offset}"
+        );
     }
     Ok(())
 }
