@@ -23,8 +23,8 @@ pub fn opened(alloc: Global, texts: &mut Store, uri: &str, version: i64, text: &
     }
 }
 
-/// Changes a document, by positions in the encoding. Where memory runs out the texts are as before: the one refusal that takes a document away
-/// has its log before that.
+/// Changes a document, by positions in the encoding. Where memory runs out the texts are as before: the one refusal
+/// that takes a document away has its log before that.
 pub fn changed(
     alloc: Global,
     texts: &mut Store,
