@@ -6,7 +6,7 @@ use Rattle.ls_base.specs.declared.encoding.Encoding.{Encoding}
 use Rattle.ls_base.specs.declared.places.Pos.{Pos}
 use Rattle.ls_base.specs.declared.places.Place.{Place}
 use Rattle.ls_base.specs.Positions.{position_of}
-use Rattle.scheme_model.specs.Tokens as model
+use Rattle.scheme_model.specs.SmallTokens as model
 use Rattle.syntax_tree.specs.declared.small.token.Token.{Token}
 use Rattle.syntax_tree.specs.Scanned.{is_plain, further, IsPlaced}
 use Rattle.syntax_tree.specs.Views.{token_of, tokens_of}

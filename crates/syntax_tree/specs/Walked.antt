@@ -6,9 +6,10 @@ use Rattle.ls_base.specs.Positions.{position_of}
 use Rattle.ls_base.specs.declared.answers.Arrow.{Arrow}
 use Rattle.ls_base.specs.declared.places.Place.{Place}
 use Rattle.scheme_model.specs.declared.Occ.{Occ}
-use Rattle.scheme_model.specs.Tokens.{Leaf, Name, Numeral, Token, Paren}
-use Rattle.scheme_model.specs.Reading.{Datum, Data, atom, list, marked, none, datum, first_of, data_depth, IsReading}
-use Rattle.scheme_model.specs.Arrows.{Pair, program_arrows}
+use Rattle.scheme_model.specs.SmallTokens.{Leaf, Name, Numeral, Token, Paren}
+use Rattle.scheme_model.specs.SmallReading.{Datum, Data, atom, list, marked, none, datum, first_of, data_depth, IsReading}
+use Rattle.scheme_model.specs.Arrows.{Pair}
+use Rattle.scheme_model.specs.SmallArrows.{program_arrows}
 use Rattle.syntax_tree.specs.Small.{Bound, bound_names, is_named, definitions, is_program}
 
 -- the numbers of a binder's token and of a use's token
