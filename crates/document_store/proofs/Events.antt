@@ -9,7 +9,7 @@ use Rattle.std.proofs.lemmas.Bool.{ltb-true, le-ltb}
 use Rattle.ls_base.specs.declared.limits.TheConstants.{MAX_DOCUMENTS, MAX_TEXT}
 use Rattle.document_store.specs.declared.faults.StoreFault.{StoreFault}
 use Rattle.document_store.specs.declared.faults.StoreFault.TheVariants as fault
-use Rattle.document_store.specs.Texts.{Texts, Document, Refusal, NotOpen, BadRange, TooLong, TooMany, Added, Closed, after, changed_to, has_room, is_open, is_long}
+use Rattle.document_store.specs.Texts.{Texts, Document, Refusal, NotOpen, BadRange, TooLong, TooMany, added, closed, changed_to, has_room, is_open, is_long}
 use Rattle.document_store.specs.Faults.{EditFails, Refused}
 
 nothing : {X : Type 0} (o : Option X) → is_some o ≡ false → o ≡ None
@@ -32,13 +32,13 @@ remove_absent texts uri absent = same_map nat_list_cmp_total (slice_cmp-IsAntisy
     ∙ taken (eq_by_cmp (slice_cmp nat_cmp) q uri) (get texts q) (λ same. sym (get_tied nat_list_cmp_total texts q uri (equal (slice_cmp nat_cmp q uri) same)) ∙ nothing (get texts uri) absent))
 
 -- how closing ends
-pub closes : (old new : Texts) (uri : List ℕ) (b : Bool) → b ≡ is_open old uri → new ≡ remove old uri → after old (Closed uri) ≡ (new, cond b None (Some NotOpen))
+pub closes : (old new : Texts) (uri : List ℕ) (b : Bool) → b ≡ is_open old uri → new ≡ remove old uri → closed old uri ≡ (new, cond b None (Some NotOpen))
 closes old new uri true there gone = ap (λ b. cond b (remove old uri, None) (old, Some NotOpen)) (sym there) ∙ ap (λ texts. (texts, None)) (sym gone)
 closes old new uri false there gone =
     ap (λ b. cond b (remove old uri, None) (old, Some NotOpen)) (sym there) ∙ ap (λ texts. (texts, Some NotOpen)) (sym (gone ∙ remove_absent old uri (sym there)))
 
 -- how adding ends where it isn't refused
-pub adds : (old : Texts) (uri : List ℕ) (version : ℤ) (text : List ℕ) → has_room old uri ≡ true → length text ≤ MAX_TEXT → after old (Added uri version text) ≡ (insert old uri (version, text), None)
+pub adds : (old : Texts) (uri : List ℕ) (version : ℤ) (text : List ℕ) → has_room old uri ≡ true → length text ≤ MAX_TEXT → added old uri version text ≡ (insert old uri (version, text), None)
 adds old uri version text room short =
     let not_long : is_long text ≡ false = le-ltb MAX_TEXT (length text) short in
     ap (λ b. cond (not b) (old, Some TooMany) (cond (is_long text) (old, Some TooLong) (insert old uri (version, text), None))) room

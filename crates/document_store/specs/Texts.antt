@@ -1,9 +1,11 @@
--- The texts of the open documents, and what a document event makes of them (LSP 3.17, text synchronisation).
+-- The texts of the open documents, and what a document event makes of them (LSP 3.17, text synchronisation). The
+-- positions of changes count in an encoding.
 use Rattle.std.specs.Prelude.{ℕ, ℤ, Bool, false, ◌||◌, ◌&&◌, ◌==◌, not, nat_lt, if◌then◌else◌, List, [], ◌∷◌, ◌++◌, length, take, drop, Option, Some, None, Result, Ok, Err}
 use Rattle.std.specs.Option.{option_map}
 use Rattle.std.specs.Ordering.{nat_cmp}
 use Rattle.std.specs.Cmp.Lexicographic.{slice_cmp}
 use Rattle.std.specs.FinMap.{FinMap, get, contains_key, insert, remove, len}
+use Rattle.ls_base.specs.declared.encoding.Encoding.{Encoding}
 use Rattle.ls_base.specs.declared.places.Pos.{Pos}
 use Rattle.ls_base.specs.declared.places.Range.{Range}
 use Rattle.ls_base.specs.declared.answers.Change.{Change}
@@ -54,9 +56,10 @@ is_backward None = false
 is_backward (Some range) = is_before range.end range.start
 
 -- new text for the bytes of a range, or for all of a text
-abbrev pub replaced : List ℕ → Option Range → List ℕ → List ℕ
-replaced text None new = new
-replaced text (Some range) new = take (offset_of text range.start) text ++ new ++ drop (offset_of text range.end) text
+abbrev pub replaced : Encoding → List ℕ → Option Range → List ℕ → List ℕ
+replaced encoding text None new = new
+replaced encoding text (Some range) new =
+    take (offset_of encoding text range.start) text ++ new ++ drop (offset_of encoding text range.end) text
 
 abbrev pub is_long : List ℕ → Bool
 is_long text = nat_lt MAX_TEXT (length text)
@@ -66,8 +69,9 @@ abbrev pub within_limit : List ℕ → Result (List ℕ) Refusal
 within_limit text = if is_long text then Err TooLong else Ok text
 
 -- a text after one change, or why the change is refused
-abbrev pub edited : List ℕ → Change → Result (List ℕ) Refusal
-edited text change = if is_backward change.range then Err BadRange else within_limit (replaced text change.range change.text)
+abbrev pub edited : Encoding → List ℕ → Change → Result (List ℕ) Refusal
+edited encoding text change =
+    if is_backward change.range then Err BadRange else within_limit (replaced encoding text change.range change.text)
 
 infixl 10 ◌>>=◌
 -- the first refusal, or what comes of the text
@@ -76,9 +80,9 @@ abbrev pub ◌>>=◌ : Result (List ℕ) Refusal → (List ℕ → Result (List 
 (Err refusal) >>= next = Err refusal
 
 -- a text after changes, each applied to what the one before left, or the first refusal
-abbrev pub edits : List Change → List ℕ → Result (List ℕ) Refusal
-edits [] text = Ok text
-edits (change ∷ changes) text = edited text change >>= edits changes
+abbrev pub edits : Encoding → List Change → List ℕ → Result (List ℕ) Refusal
+edits encoding [] text = Ok text
+edits encoding (change ∷ changes) text = edited encoding text change >>= edits encoding changes
 
 -- what a refused change leaves: a document whose text would be too long is gone
 abbrev pub left_by : Refusal → Texts → List ℕ → Texts
@@ -93,15 +97,23 @@ changed_to texts uri version (Ok text) = (insert texts uri (version, text), None
 changed_to texts uri version (Err refusal) = (left_by refusal texts uri, Some refusal)
 
 -- what changes leave of a document that is open or isn't
-abbrev pub changed : Texts → List ℕ → ℤ → List Change → Option (List ℕ) → Texts × Option Refusal
-changed texts uri version changes None = (texts, Some NotOpen)
-changed texts uri version changes (Some text) = changed_to texts uri version (edits changes text)
+abbrev pub changed : Encoding → Texts → List ℕ → ℤ → List Change → Option (List ℕ) → Texts × Option Refusal
+changed encoding texts uri version changes None = (texts, Some NotOpen)
+changed encoding texts uri version changes (Some text) = changed_to texts uri version (edits encoding changes text)
 
--- what an event leaves, and its refusal where it is refused
-abbrev pub after : Texts → Event → Texts × Option Refusal
-after texts (Added uri version text) =
+-- what is left where a document is opened, or one that is open gets a new version and text
+abbrev pub added : Texts → List ℕ → ℤ → List ℕ → Texts × Option Refusal
+added texts uri version text =
     if not (has_room texts uri) then (texts, Some TooMany)
     else if is_long text then (texts, Some TooLong)
     else (insert texts uri (version, text), None)
-after texts (Changed uri version changes) = changed texts uri version changes (text_at texts uri)
-after texts (Closed uri) = if is_open texts uri then (remove texts uri, None) else (texts, Some NotOpen)
+
+-- what is left where a document is closed
+abbrev pub closed : Texts → List ℕ → Texts × Option Refusal
+closed texts uri = if is_open texts uri then (remove texts uri, None) else (texts, Some NotOpen)
+
+-- what an event leaves, and its refusal where it is refused
+abbrev pub after : Encoding → Texts → Event → Texts × Option Refusal
+after encoding texts (Added uri version text) = added texts uri version text
+after encoding texts (Changed uri version changes) = changed encoding texts uri version changes (text_at texts uri)
+after encoding texts (Closed uri) = closed texts uri

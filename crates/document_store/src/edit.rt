@@ -5,7 +5,7 @@ ghost use Rattle.document_store.specs.Faults.{Edits};
 
 use crate::StoreFault;
 use ls_base::limits::MAX_TEXT;
-use ls_base::{Change, Pos, Text};
+use ls_base::{Change, Encoding, Pos, Text};
 use std::alloc::Global;
 use text_positions::Lines;
 
@@ -33,10 +33,15 @@ fn joined(alloc: Global, front: &str, middle: &str, back: &str) -> Result<Text, 
     Ok(Text::from_string(text))
 }
 
-/// A text after one change.
-fn edited(alloc: Global, text: &str, change: &Change) -> Result<Text, StoreFault>
+/// A text after one change, whose positions count in the encoding.
+fn edited(
+    alloc: Global,
+    text: &str,
+    change: &Change,
+    encoding: Encoding,
+) -> Result<Text, StoreFault>
     requires { length text.now ≤ MAX_TEXT }
-    ensures edits { Edits result (edited text.now change.now) }
+    ensures edits { Edits result (edited encoding text.now change.now) }
     ensures short { IfOk result (λ text. length text ≤ MAX_TEXT) }
 {
     let new = change.text.as_str();
@@ -47,20 +52,25 @@ fn edited(alloc: Global, text: &str, change: &Change) -> Result<Text, StoreFault
         return Err(StoreFault::BadRange);
     }
     let lines = Lines::of(alloc, text)?;
-    let front = &text[..lines.offset(text, range.start) as usize];
-    let back = &text[lines.offset(text, range.end) as usize..];
+    let front = &text[..lines.offset(text, range.start, encoding) as usize];
+    let back = &text[lines.offset(text, range.end, encoding) as usize..];
     Ok(joined(alloc, front, new, back)?)
 }
 
 /// A text after changes, each applied to what the one before left.
-pub fn edits(alloc: Global, text: &str, changes: &[Change]) -> Result<Text, StoreFault>
+pub fn edits(
+    alloc: Global,
+    text: &str,
+    changes: &[Change],
+    encoding: Encoding,
+) -> Result<Text, StoreFault>
     requires { length text.now ≤ MAX_TEXT }
-    ensures edits { Edits result (edits changes.now text.now) }
+    ensures edits { Edits result (edits encoding changes.now text.now) }
     ensures short { IfOk result (λ text. length text ≤ MAX_TEXT) }
 {
     let mut now = Text::of(alloc, text)?;
     for change in changes {
-        now = edited(alloc, now.as_str(), change)?;
+        now = edited(alloc, now.as_str(), change, encoding)?;
     }
     Ok(now)
 }

@@ -3,14 +3,14 @@ ghost use Rattle.std.specs.Prelude.{◌≡◌, ◌≢◌, ◌≤◌, length, sli
 ghost use Rattle.std.specs.Option.{option_map};
 ghost use Rattle.std.specs.FinMap.{empty, keys, len, remove};
 ghost use Rattle.document_store.specs.Texts as texts;
-ghost use Rattle.document_store.specs.Texts.{after, has_room, is_open, text_at, version_at};
+ghost use Rattle.document_store.specs.Texts.{added, after, closed, has_room, is_open, text_at, version_at};
 ghost use Rattle.document_store.specs.Faults.{Follows};
 
 use crate::StoreFault;
 use crate::edit::edits;
 use crate::kept::Kept;
 use ls_base::limits::{MAX_DOCUMENTS, MAX_TEXT};
-use ls_base::{Change, Text};
+use ls_base::{Change, Encoding, Text};
 use std::alloc::Global;
 use std::collections::BTreeMap;
 use std::marker::Model;
@@ -59,7 +59,7 @@ impl Store {
     /// Opens a document, or gives one that is open a new version and text. A 65th document is refused as `TooMany`,
     /// and else a text over the limit as `TooLong`.
     pub fn add(&mut self, uri: &str, version: i64, text: &str) -> Result<(), StoreFault>
-        ensures event { Follows result self.old self.new (after self.old (texts.Added uri.now version text.now)) }
+        ensures event { Follows result self.old self.new (added self.old uri.now version text.now) }
         ensures kept { OnErr result (self.new ≡ self.old) }
     {
         if !self.has_room(uri) {
@@ -74,18 +74,26 @@ impl Store {
         Ok(())
     }
 
-    /// Changes a document, and gives it a new version: each change applies to what the one before left. A uri that
-    /// isn't open is refused as `NotOpen`; then, change by change, a range whose start stands after its end as
-    /// `BadRange`, before any of it is clamped, and a text over the limit as `TooLong`, which takes the document away.
-    pub fn change(&mut self, uri: &str, version: i64, changes: &[Change]) -> Result<(), StoreFault>
-        ensures event { Follows result self.old self.new (after self.old (texts.Changed uri.now version changes.now)) }
+    /// Changes a document, and gives it a new version: each change applies to what the one before left, its positions
+    /// counted in the encoding. A uri that isn't open is refused as `NotOpen`; then, change by change, a range whose
+    /// start stands after its end as `BadRange`, before any of it is clamped, and a text over the limit as `TooLong`,
+    /// which takes the document away.
+    pub fn change(
+        &mut self,
+        uri: &str,
+        version: i64,
+        changes: &[Change],
+        encoding: Encoding,
+    ) -> Result<(), StoreFault>
+        ensures event { Follows result self.old self.new
+            (after encoding self.old (texts.Changed uri.now version changes.now)) }
         ensures kept { IfErr result (λ fault. fault ≢ StoreFault.TooLong → self.new ≡ self.old) }
         ensures gone { IsErrOf result StoreFault.TooLong → self.new ≡ remove self.old uri.now }
     {
         let Some(doc) = self.docs.get_mut(uri) else {
             return Err(StoreFault::NotOpen);
         };
-        match edits(self.alloc, doc.text.as_str(), changes) {
+        match edits(self.alloc, doc.text.as_str(), changes, encoding) {
             Ok(text) => {
                 *doc = Kept { version, text };
                 Ok(())
@@ -103,7 +111,7 @@ impl Store {
     pub fn close(&mut self, uri: &str) -> bool
         ensures was_open { result ≡ is_open self.old uri.now }
         ensures closed { self.new ≡ remove self.old uri.now }
-        ensures event { after self.old (texts.Closed uri.now) ≡ (self.new, (if result then None else Some texts.NotOpen)) }
+        ensures event { closed self.old uri.now ≡ (self.new, (if result then None else Some texts.NotOpen)) }
     {
         self.docs.remove(uri).is_some()
     }

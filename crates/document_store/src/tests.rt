@@ -1,6 +1,6 @@
 //! Events one after another, each answer and text worked out by hand.
 use crate::{Store, StoreFault};
-use ls_base::{Change, Mem, Pos, Range, Text};
+use ls_base::{Change, Encoding, Mem, Pos, Range, Text};
 use std::alloc::{AllocError, Global};
 use std::process::Abort;
 use std::test::Fail;
@@ -53,7 +53,10 @@ fn change_gives(
     changes: &[Change],
     answer: Result<(), StoreFault>,
 ) {
-    assert_eq!(rt; store.change("a", version, changes), answer);
+    assert_eq!(rt;
+        store.change("a", version, changes, Encoding::Utf16),
+        answer
+    );
 }
 
 /// Checks what the document holds.

@@ -1,8 +1,11 @@
 -- Positions in a text (LSP 3.17, Position): lines end with a line feed, a carriage return, or both in this order;
--- a position counts the UTF-16 units before a place in its line; offsets count bytes.
+-- a position counts the units before a place in its line, which are those of the encoding that was agreed
+-- (LSP 3.17, PositionEncodingKind); offsets count bytes.
 use Rattle.std.specs.Prelude.{ℕ, zero, suc, ◌+◌, ◌-◌, List, [], ◌∷◌, sum_by, nat_le, nat_lt, ◌==◌, if◌then◌else◌}
 use Rattle.std.specs.Char.{len_utf8}
 use Rattle.std.specs.Str.{chars}
+use Rattle.ls_base.specs.declared.encoding.Encoding.{Encoding}
+use Rattle.ls_base.specs.declared.encoding.Encoding.TheVariants.{Utf8, Utf16, Utf32}
 use Rattle.ls_base.specs.declared.places.Pos.{Pos}
 
 -- a line: its characters, and those that end it, of which the last line has none
@@ -33,9 +36,11 @@ lines_of (c ∷ cs) =
     else if c == 13 then returned cs (lines_of cs)
     else longer c (lines_of cs)
 
--- the UTF-16 units of a character
-abbrev pub units_of : ℕ → ℕ
-units_of c = if nat_lt c 65536 then 1 else 2
+-- the units of a character: its UTF-8 bytes, its UTF-16 length, or one
+abbrev pub units_of : Encoding → ℕ → ℕ
+units_of Utf8 c = len_utf8 c
+units_of Utf16 c = if nat_lt c 65536 then 1 else 2
+units_of Utf32 c = 1
 
 abbrev pub byte_count : List ℕ → ℕ
 byte_count cs = sum_by len_utf8 cs
@@ -45,20 +50,20 @@ abbrev pub full_bytes : Line → ℕ
 full_bytes l = byte_count l.chars + byte_count l.ending
 
 -- the bytes of the longest front of a line with at most so many units
-abbrev pub bytes_within : ℕ → List ℕ → ℕ
-bytes_within units [] = 0
-bytes_within units (c ∷ cs) = if nat_le (units_of c) units then len_utf8 c + bytes_within (units - units_of c) cs else 0
+abbrev pub bytes_within : (ℕ → ℕ) → ℕ → List ℕ → ℕ
+bytes_within units n [] = 0
+bytes_within units n (c ∷ cs) = if nat_le (units c) n then len_utf8 c + bytes_within units (n - units c) cs else 0
 
 -- the units of the longest front of a line with at most so many bytes
-abbrev pub units_within : ℕ → List ℕ → ℕ
-units_within bytes [] = 0
-units_within bytes (c ∷ cs) = if nat_le (len_utf8 c) bytes then units_of c + units_within (bytes - len_utf8 c) cs else 0
+abbrev pub units_within : (ℕ → ℕ) → ℕ → List ℕ → ℕ
+units_within units bytes [] = 0
+units_within units bytes (c ∷ cs) = if nat_le (len_utf8 c) bytes then units c + units_within units (bytes - len_utf8 c) cs else 0
 
 -- the offset of a line and a character; a line past the last means the end of the text
-abbrev pub offset_in : List Line → ℕ → ℕ → ℕ
-offset_in [] line character = 0
-offset_in (l ∷ lines) zero character = bytes_within character l.chars
-offset_in (l ∷ lines) (suc line) character = full_bytes l + offset_in lines line character
+abbrev pub offset_in : (ℕ → ℕ) → List Line → ℕ → ℕ → ℕ
+offset_in units [] line character = 0
+offset_in units (l ∷ lines) zero character = bytes_within units character l.chars
+offset_in units (l ∷ lines) (suc line) character = full_bytes l + offset_in units lines line character
 
 -- the position one line further down
 abbrev pub below : Pos → Pos
@@ -66,17 +71,17 @@ below p = record { line = 1 + p.line; character = p.character }
 
 -- the position of an offset: inside a line end it is the end of the line, inside a character the character's start,
 -- past the text the end of the text
-abbrev pub position_in : List Line → ℕ → Pos
-position_in [] offset = record { line = 0; character = 0 }
-position_in (l ∷ []) offset = record { line = 0; character = units_within offset l.chars }
-position_in (l ∷ m ∷ lines) offset =
-    if nat_lt offset (full_bytes l) then record { line = 0; character = units_within offset l.chars }
-    else below (position_in (m ∷ lines) (offset - full_bytes l))
+abbrev pub position_in : (ℕ → ℕ) → List Line → ℕ → Pos
+position_in units [] offset = record { line = 0; character = 0 }
+position_in units (l ∷ []) offset = record { line = 0; character = units_within units offset l.chars }
+position_in units (l ∷ m ∷ lines) offset =
+    if nat_lt offset (full_bytes l) then record { line = 0; character = units_within units offset l.chars }
+    else below (position_in units (m ∷ lines) (offset - full_bytes l))
 
 -- the offset of a position in a text of UTF-8 bytes
-abbrev pub offset_of : List ℕ → Pos → ℕ
-offset_of text pos = offset_in (lines_of (chars text)) pos.line pos.character
+abbrev pub offset_of : Encoding → List ℕ → Pos → ℕ
+offset_of encoding text pos = offset_in (units_of encoding) (lines_of (chars text)) pos.line pos.character
 
 -- the position of an offset in a text of UTF-8 bytes
-abbrev pub position_of : List ℕ → ℕ → Pos
-position_of text offset = position_in (lines_of (chars text)) offset
+abbrev pub position_of : Encoding → List ℕ → ℕ → Pos
+position_of encoding text offset = position_in (units_of encoding) (lines_of (chars text)) offset

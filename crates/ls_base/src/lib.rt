@@ -4,6 +4,7 @@
 
 pub mod answers;
 pub mod chars;
+pub mod encoding;
 pub mod items;
 pub mod limits;
 pub mod memory;
@@ -13,6 +14,7 @@ pub mod text;
 
 pub use answers::{Answer, Arrow, Change, Diagnostic, DocEdits, Highlight, Query, TextEdit};
 pub use chars::split_char;
+pub use encoding::Encoding;
 pub use items::Items;
 pub use memory::{Mem, Memory};
 pub use places::{Place, Pos, Range, Span};

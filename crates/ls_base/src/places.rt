@@ -8,7 +8,7 @@ pub struct Span {
     pub end: u32,
 }
 
-/// A zero-based line and the UTF-16 units before a place in it (LSP 3.17, Position).
+/// A zero-based line and the units before a place in it (LSP 3.17, Position), which are those of an encoding.
 #[derive(Clone, Copy, Debug, PartialEq, Eq)]
 pub struct Pos {
     pub line: u32,

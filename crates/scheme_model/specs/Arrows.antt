@@ -1,12 +1,10 @@
 -- Arrows: the pairs of a binder and one of its uses (DrRacket's Check Syntax), here those of references.
-use Rattle.std.specs.Prelude.{ℕ, suc, List, [], ◌∷◌, ◌++◌, Option, Some, None, if◌then◌else◌}
+use Rattle.std.specs.Prelude.{List, [], ◌∷◌, ◌++◌, Option, Some, None, if◌then◌else◌}
 use Rattle.scheme_model.specs.declared.Occ.{Occ}
-use Rattle.scheme_model.specs.Reading.{Data, none, datum}
 use Rattle.scheme_model.specs.Identifiers.{Number, Name, same_number, same_name}
-use Rattle.scheme_model.specs.Trees.{Tree, form_tree}
-use Rattle.scheme_model.specs.Meaning.{Meaning, Local, Global, Standard, Free}
-use Rattle.scheme_model.specs.Cores.{Target, Binder, Definition, Core, Ref, Const, Quote, Lambda, Call, Body, Cores, no_cores, core, Item, Expression, Define}
-use Rattle.scheme_model.specs.UnitExpansion.{UnitForm, ExpandedUnit, expand_unit}
+use Rattle.scheme_model.specs.SmallMeaning.{Meaning, Local, Global, Standard, Free}
+use Rattle.scheme_model.specs.SmallCores.{Target, Binder, Definition, Core, Ref, Const, Quote, Lambda, Call, Body, Cores, no_cores, core, Item, Expression, Define}
+use Rattle.scheme_model.specs.SmallUnits.{UnitForm, ExpandedUnit}
 
 -- a binder and a use
 pub record Pair : Type 0 where
@@ -85,12 +83,3 @@ form_arrows definitions (f ∷ fs) = item_arrows definitions f.items ++ form_arr
 
 abbrev pub unit_arrows : ExpandedUnit → List Pair
 unit_arrows u = form_arrows u.definitions u.forms
-
--- the forms of a text's program
-abbrev pub forms_from : ℕ → ℕ → Data → List (Tree Name)
-forms_from unit form none = []
-forms_from unit form (datum d ds) = form_tree unit form d ∷ forms_from unit (suc form) ds
-
--- the arrows of a program whose text has these data: those of its one unit
-abbrev pub program_arrows : Data → List Pair
-program_arrows ds = unit_arrows (expand_unit 0 (forms_from 0 0 ds))

@@ -1,7 +1,7 @@
 -- A session (JSON-RPC 2.0; LSP 3.17, lifecycle): what a server answers to each message, and what it keeps. Which answer
 -- a query has in given texts is given, and what a message is that a body reads as.
 use Rattle.std.specs.Prelude.{ℕ, ℤ, neg_ℤ, pos, Bool, List, [], ◌∷◌, ◌++◌, Option, Some, None, codes}
-use Rattle.scheme_model.specs.Texts.{Position, Offsets, Texts, Event, Added, Changed, Closed, Refusal, NotOpen, BadRange, TooLong, TooMany, after}
+use Rattle.scheme_model.specs.Texts.{Position, Encoding, Utf16, Offsets, Texts, Event, Added, Changed, Closed, Refusal, NotOpen, BadRange, TooLong, TooMany, after}
 
 -- a request's id
 pub data Id : Type 0 where
@@ -125,7 +125,7 @@ logged uri (Some refusal) = Log (refusal_text refusal uri) ∷ []
 
 abbrev pub evented : {A : Type 0} → Offsets → State → Event → Stepped A
 evented offset state event =
-    stays (record { mode = Running; texts = (after offset state.texts event).0 }) (logged (uri_of event) (after offset state.texts event).1)
+    stays (record { mode = Running; texts = (after offset Utf16 state.texts event).0 }) (logged (uri_of event) (after offset Utf16 state.texts event).1)
 
 -- the status with which `exit` ends a session
 abbrev pub exit_status : Mode → ℕ

@@ -1,10 +1,16 @@
 -- The texts of the open documents, and what a document event makes of them (LSP 3.17, text synchronisation). Which
--- offset a position of a text has is given.
+-- offset a position of a text has in an encoding is given.
 use Rattle.std.specs.Prelude.{ℕ, ℤ, Bool, false, ◌||◌, ◌&&◌, ◌==◌, not, nat_lt, nat_le, if◌then◌else◌, List, [], ◌∷◌, ◌++◌, length, take, drop, Option, Some, None, Result, Ok, Err}
 use Rattle.std.specs.Option.{option_map}
 use Rattle.std.specs.Ordering.{nat_cmp}
 use Rattle.std.specs.Cmp.Lexicographic.{slice_cmp}
 use Rattle.std.specs.FinMap.{FinMap, get, contains_key, insert, remove, len}
+
+-- what positions count: bytes of UTF-8, units of UTF-16, or characters (LSP 3.17, PositionEncodingKind)
+pub data Encoding : Type 0 where
+  Utf8 : Encoding
+  Utf16 : Encoding
+  Utf32 : Encoding
 
 -- a line and the units before a place in it (LSP 3.17, Position)
 pub record Position : Type 0 where
@@ -21,9 +27,9 @@ pub record Change : Type 0 where
   pub range : Option Span
   pub text : List ℕ
 
--- the offset of a position in a text, in bytes
+-- the offset of a position in a text, in bytes, by the encoding
 abbrev pub Offsets : Type 0
-Offsets = List ℕ → Position → ℕ
+Offsets = Encoding → List ℕ → Position → ℕ
 
 -- a document: its version, and its text as UTF-8 bytes
 abbrev pub Document : Type 0
@@ -62,9 +68,10 @@ is_backward None = false
 is_backward (Some range) = is_before range.end range.start
 
 -- new text for the bytes of a range, or for all of a text
-abbrev pub replaced : Offsets → List ℕ → Option Span → List ℕ → List ℕ
-replaced offset text None new = new
-replaced offset text (Some range) new = take (offset text range.start) text ++ new ++ drop (offset text range.end) text
+abbrev pub replaced : Offsets → Encoding → List ℕ → Option Span → List ℕ → List ℕ
+replaced offset encoding text None new = new
+replaced offset encoding text (Some range) new =
+    take (offset encoding text range.start) text ++ new ++ drop (offset encoding text range.end) text
 
 -- the most bytes of a text, and the most documents
 abbrev pub max_text : ℕ
@@ -81,8 +88,9 @@ abbrev pub within_limit : List ℕ → Result (List ℕ) Refusal
 within_limit text = if is_long text then Err TooLong else Ok text
 
 -- a text after one change, or why the change is refused
-abbrev pub edited : Offsets → List ℕ → Change → Result (List ℕ) Refusal
-edited offset text change = if is_backward change.range then Err BadRange else within_limit (replaced offset text change.range change.text)
+abbrev pub edited : Offsets → Encoding → List ℕ → Change → Result (List ℕ) Refusal
+edited offset encoding text change =
+    if is_backward change.range then Err BadRange else within_limit (replaced offset encoding text change.range change.text)
 
 infixl 10 ◌>>=◌
 -- the first refusal, or what comes of the text
@@ -91,9 +99,9 @@ abbrev pub ◌>>=◌ : Result (List ℕ) Refusal → (List ℕ → Result (List 
 (Err refusal) >>= next = Err refusal
 
 -- a text after changes, each applied to what the one before left, or the first refusal
-abbrev pub edits : Offsets → List Change → List ℕ → Result (List ℕ) Refusal
-edits offset [] text = Ok text
-edits offset (change ∷ changes) text = edited offset text change >>= edits offset changes
+abbrev pub edits : Offsets → Encoding → List Change → List ℕ → Result (List ℕ) Refusal
+edits offset encoding [] text = Ok text
+edits offset encoding (change ∷ changes) text = edited offset encoding text change >>= edits offset encoding changes
 
 -- what a refused change leaves: a document whose text would be too long is gone
 abbrev pub left_by : Refusal → Texts → List ℕ → Texts
@@ -108,15 +116,15 @@ changed_to texts uri version (Ok text) = (insert texts uri (version, text), None
 changed_to texts uri version (Err refusal) = (left_by refusal texts uri, Some refusal)
 
 -- what changes leave of a document that is open or isn't
-abbrev pub changed : Offsets → Texts → List ℕ → ℤ → List Change → Option (List ℕ) → Texts × Option Refusal
-changed offset texts uri version changes None = (texts, Some NotOpen)
-changed offset texts uri version changes (Some text) = changed_to texts uri version (edits offset changes text)
+abbrev pub changed : Offsets → Encoding → Texts → List ℕ → ℤ → List Change → Option (List ℕ) → Texts × Option Refusal
+changed offset encoding texts uri version changes None = (texts, Some NotOpen)
+changed offset encoding texts uri version changes (Some text) = changed_to texts uri version (edits offset encoding changes text)
 
 -- what an event leaves, and its refusal where it is refused
-abbrev pub after : Offsets → Texts → Event → Texts × Option Refusal
-after offset texts (Added uri version text) =
+abbrev pub after : Offsets → Encoding → Texts → Event → Texts × Option Refusal
+after offset encoding texts (Added uri version text) =
     if not (is_open texts uri) && nat_le max_documents (len texts) then (texts, Some TooMany)
     else if is_long text then (texts, Some TooLong)
     else (insert texts uri (version, text), None)
-after offset texts (Changed uri version changes) = changed offset texts uri version changes (text_at texts uri)
-after offset texts (Closed uri) = if is_open texts uri then (remove texts uri, None) else (texts, Some NotOpen)
+after offset encoding texts (Changed uri version changes) = changed offset encoding texts uri version changes (text_at texts uri)
+after offset encoding texts (Closed uri) = if is_open texts uri then (remove texts uri, None) else (texts, Some NotOpen)

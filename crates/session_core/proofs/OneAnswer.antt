@@ -4,8 +4,8 @@ use Rattle.std.specs.Prelude.{IsPermutation}
 use Rattle.ls_base.specs.declared.answers.Answer.{Answer}
 use Rattle.ls_base.specs.declared.answers.Answer.TheVariants as answers
 use Rattle.ls_base.specs.declared.answers.Arrow.{Arrow}
-use Rattle.scheme_model.specs.Arrows.{program_arrows}
-use Rattle.scheme_model.specs.Reading.{Data}
+use Rattle.scheme_model.specs.SmallArrows.{program_arrows}
+use Rattle.scheme_model.specs.SmallReading.{Data}
 use Rattle.scheme_model.specs.Session as session
 use Rattle.scheme_model.specs.Texts.{text_at}
 use Rattle.syntax_tree.specs.Walked.{HasArrows, arrow_at, link_of}

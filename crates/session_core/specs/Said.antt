@@ -2,6 +2,8 @@
 use Rattle.std.specs.Prelude.{Result, Ok, Err, map}
 use Rattle.std.specs.Option.{option_map}
 use Rattle.ls_base.specs.Positions.{offset_of}
+use Rattle.ls_base.specs.declared.encoding.Encoding.{Encoding}
+use Rattle.ls_base.specs.declared.encoding.Encoding.TheVariants as encodings
 use Rattle.ls_base.specs.declared.places.Pos.{Pos}
 use Rattle.ls_base.specs.declared.places.Range.{Range}
 use Rattle.ls_base.specs.declared.answers.Change.{Change}
@@ -31,9 +33,15 @@ said_range r = record { start = said_position r.start; end = said_position r.end
 abbrev pub said_change : Change → texts.Change
 said_change c = record { range = option_map said_range c.range; text = c.text }
 
--- the offset of a position, in UTF-16 units
+-- what positions count
+abbrev pub encoding_of : texts.Encoding → Encoding
+encoding_of texts.Utf8 = encodings.Utf8
+encoding_of texts.Utf16 = encodings.Utf16
+encoding_of texts.Utf32 = encodings.Utf32
+
+-- the offset of a position in an encoding
 abbrev pub offsets : texts.Offsets
-offsets text p = offset_of text (record { line = p.line; character = p.character })
+offsets encoding text p = offset_of (encoding_of encoding) text (record { line = p.line; character = p.character })
 
 -- ---- requests and notifications
 

@@ -8,7 +8,7 @@ use crate::Out;
 use crate::out::silent;
 use crate::replies::logged;
 use document_store::{Store, StoreFault};
-use ls_base::{Change, Mem, Memory};
+use ls_base::{Change, Encoding, Mem, Memory};
 use std::alloc::Global;
 
 /// Opens a document, or gives an open one a new version and text. Where memory runs out the texts are as before.
@@ -37,7 +37,7 @@ pub fn changed(
     ensures kept { OnErr result (texts.new ≡ texts.old) }
 {
     let too_long = refused(alloc, StoreFault::TooLong, uri)?;
-    match texts.change(uri, version, changes) {
+    match texts.change(uri, version, changes, Encoding::Utf16) {
         Ok(()) => Ok(silent(alloc)),
         Err(fault) => {
             if fault == StoreFault::TooLong {

@@ -10,7 +10,7 @@ ghost use Rattle.lsp_messages.specs.declared.message.Reject.TheVariants as rejec
 ghost use Rattle.lsp_messages.specs.Messages.{message_of};
 ghost use Rattle.document_store.specs.Texts as store;
 ghost use Rattle.scheme_model.specs.Texts as texts;
-ghost use Rattle.session_core.specs.Said.{offsets};
+ghost use Rattle.session_core.specs.Said.{encoding_of, offsets};
 ghost use Rattle.ls_base.specs.declared.answers.Answer.{Answer};
 ghost use Rattle.lsp_messages.specs.declared.reply.Reply.{Reply};
 ghost use Rattle.scheme_model.specs.Session as session;
@@ -18,10 +18,11 @@ ghost use Rattle.session_core.specs.Answered.{AreReplies};
 ghost use Rattle.session_core.specs.Asked.{Question, IsAnswerTo};
 ghost use Rattle.session_core.specs.Agreement.{said_event, said_after};
 
-/// Events make the same of the texts by the store's definition as by a session's.
+/// Events make the same of the texts by the store's definition as by a session's, in each encoding.
 pub fn events_agree()
-    ensures { (old : texts.Texts) (event : store.Event)
-        → texts.after offsets old (said_event event) ≡ said_after (store.after old event) }
+    ensures { (encoding : texts.Encoding) (old : texts.Texts) (event : store.Event)
+        → texts.after offsets encoding old (said_event event)
+            ≡ said_after (store.after (encoding_of encoding) old event) }
 {}
 
 /// Of all queries, a body asks for the arrows of a document alone.

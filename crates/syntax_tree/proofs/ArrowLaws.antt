@@ -2,10 +2,11 @@
 use Rattle.std.proofs.Common.{◌≡◌, ℕ, ◌-◌, ◌<◌, List, length, sym, ap, ◌∙◌, arith, true, codes, get_or, take, drop}
 use Rattle.std.specs.List.{list_all, All}
 use Rattle.std.proofs.lemmas.List.{get_or-map}
+use Rattle.ls_base.specs.declared.encoding.Encoding.TheVariants.{Utf16}
 use Rattle.ls_base.specs.declared.places.Pos.{Pos}
 use Rattle.ls_base.specs.declared.places.Place.{Place}
 use Rattle.ls_base.specs.Positions.{position_of}
-use Rattle.scheme_model.specs.Tokens as model
+use Rattle.scheme_model.specs.SmallTokens as model
 use Rattle.syntax_tree.specs.declared.small.token.Token.{Token}
 use Rattle.syntax_tree.specs.Scanned.{is_plain, further, IsPlaced}
 use Rattle.syntax_tree.specs.Views.{token_of, tokens_of}
@@ -19,8 +20,8 @@ same_place uri a b c d e f = λ i. record { uri = uri; range = record { start = 
 pub placed_at : (text : List ℕ) (t : Token) → list_all is_plain text ≡ true → IsPlaced text t →
     record { uri = codes "input"; range = record { start = t.pos; end = further t.pos (t.end - t.start) } } ≡ place_at text (token_of t)
 placed_at text t h p =
-    same_place (codes "input") t.pos (position_of text t.start) (further t.pos (t.end - t.start)) (position_of text t.end)
-    (sym p.starts ∙ place_is text t.start h (omega (arith, p.ordered, p.inside))) (sym p.ends ∙ place_is text t.end h p.inside)
+    same_place (codes "input") t.pos (position_of Utf16 text t.start) (further t.pos (t.end - t.start)) (position_of Utf16 text t.end)
+    (sym p.starts ∙ place_is Utf16 text t.start h (omega (arith, p.ordered, p.inside))) (sym p.ends ∙ place_is Utf16 text t.end h p.inside)
 
 -- the token with a number
 pub token_found : (ts : List Token) (n : ℕ) (d : Token) → n < length ts → token_of (get_or ts n d) ≡ token_at (tokens_of ts) n

@@ -3,8 +3,8 @@ use Rattle.std.proofs.Common.{◌≡◌, ℕ, ◌+◌, ◌<◌, ◌≤◌, suc, 
 use Rattle.std.specs.List.{AllByRecursion, IsDistinct}
 use Rattle.std.proofs.lemmas.Bool.Decides.{nat_tests}
 use Rattle.std.proofs.lemmas.Map.Keys.{IsDistinct-cons}
-use Rattle.scheme_model.specs.Tokens.{Leaf, Name, Numeral, Close, Quote}
-use Rattle.scheme_model.specs.Reading.{Datum, Data, none, datum, atom, list, marked, Numbered, numbered, datum_tokens, data_tokens}
+use Rattle.scheme_model.specs.SmallTokens.{Leaf, Name, Numeral, Close, Quote}
+use Rattle.scheme_model.specs.SmallReading.{Datum, Data, none, datum, atom, list, marked, Numbered, numbered, datum_tokens, data_tokens}
 use Rattle.syntax_tree.specs.Small.{Bound, is_named, bound_names, definitions}
 use Rattle.syntax_tree.specs.Walked.{Link, looked, link_from, leaf_links, parameters_in, links, list_links, procedure_links, all_links, definition_links, form_links, forms_links, program_links}
 use Rattle.syntax_tree.proofs.NumberLaws.{InOrder, datum_size, data_size, after_datum, after_data, Bounded, Bounded-append, looked_below, bounded_names, bounded_parameters, bounded_definitions}

@@ -3,9 +3,9 @@ use Rattle.std.proofs.Common.{◌≡◌, ℕ, ◌<◌, ◌≤◌, List, [], ◌�
 use Rattle.std.specs.Str.{bytes_eq}
 use Rattle.std.proofs.lemmas.List.{take_all, take_at, length-drop, length-append}
 use Rattle.std.proofs.lemmas.Bool.{and_from}
-use Rattle.scheme_model.specs.Tokens.{Leaf, Name, Numeral}
-use Rattle.scheme_model.specs.Reading.{Data, none, datum, atom, list, marked}
-use Rattle.scheme_model.specs.Reading as model
+use Rattle.scheme_model.specs.SmallTokens.{Leaf, Name, Numeral}
+use Rattle.scheme_model.specs.SmallReading.{Data, none, datum, atom, list, marked}
+use Rattle.scheme_model.specs.SmallReading as model
 use Rattle.syntax_tree.specs.Small.{Bound, is_named, is_single, is_expression, is_list_expression, is_parameter_list, are_expressions, is_body, is_procedure}
 use Rattle.syntax_tree.specs.Walked.{Link, link_from, leaf_links, parameters_in, links, list_links, procedure_links, all_links}
 use Rattle.syntax_tree.specs.declared.small.datum.Datum.{Datum}

@@ -6,10 +6,10 @@ use Rattle.std.proofs.lemmas.Bool.{or_parts}
 use Rattle.scheme_model.specs.declared.Occ.{Occ}
 use Rattle.scheme_model.specs.Identifiers.{Number, Name, Written, same_name}
 use Rattle.scheme_model.specs.StandardNames.{Keyword, IsQuote, IsLambda, IsDefine, keyword_named, is_base, base_names}
-use Rattle.scheme_model.specs.Meaning.{Meaning, Local, Global, Standard, Free, World, meaning, imported, keyword_of}
-use Rattle.scheme_model.specs.Cores.{Binder, Definition}
-use Rattle.scheme_model.specs.Expression.{Setting}
-use Rattle.scheme_model.specs.UnitExpansion.{is_defined, base_entry, world_of}
+use Rattle.scheme_model.specs.SmallMeaning.{Meaning, Local, Global, Standard, Free, World, meaning, imported, keyword_of}
+use Rattle.scheme_model.specs.SmallCores.{Binder, Definition}
+use Rattle.scheme_model.specs.SmallExpression.{Setting}
+use Rattle.scheme_model.specs.SmallUnits.{is_defined, base_entry, world_of}
 use Rattle.scheme_model.specs.Arrows.{local_occ, definition_occ, binder_of}
 use Rattle.syntax_tree.specs.Small.{is_free, keywords, Bound}
 use Rattle.syntax_tree.specs.Walked.{looked}

@@ -6,9 +6,9 @@ use Rattle.std.specs.Str.{bytes_eq}
 use Rattle.std.proofs.lemmas.Bool.{eqb-true, eq-eqb, or_parts, not-true}
 use Rattle.std.proofs.lemmas.Slice.Eq.{bytes_eq-Decides}
 use Rattle.scheme_model.specs.Identifiers.{Number, Name, Written, Inserted, Inner, Var, same_number, same_name, strip}
-use Rattle.scheme_model.specs.Substitution.{bound_as}
+use Rattle.scheme_model.specs.SmallSubstitution.{bound_as}
 use Rattle.scheme_model.specs.StandardNames.{Keyword, IsQuote, IsLambda, IsDefine, keyword_named}
-use Rattle.scheme_model.specs.Meaning.{Meaning, Local, Global, Standard, Free, World, meaning, imported, keyword_of}
+use Rattle.scheme_model.specs.SmallMeaning.{Meaning, Local, Global, Standard, Free, World, meaning, imported, keyword_of}
 use Rattle.syntax_tree.specs.Small.{is_free, keywords, Bound}
 
 -- ---- tests

@@ -1,8 +1,8 @@
 -- The links of a program whose tokens are numbered: their uses ascend, and both ends are numbers of tokens.
 use Rattle.std.proofs.Common.{◌≡◌, ℕ, ◌+◌, ◌<◌, ◌≤◌, suc, List, [], ◌∷◌, ◌++◌, refl, arith, length, Bool, true, false, cond, codes, Option, Some, subst}
 use Rattle.std.specs.Str.{bytes_eq}
-use Rattle.scheme_model.specs.Tokens.{Leaf, Name, Numeral, Token, Close, Quote}
-use Rattle.scheme_model.specs.Reading.{Datum, Data, none, datum, atom, list, marked, Numbered, numbered, number_from, datum_tokens, data_tokens}
+use Rattle.scheme_model.specs.SmallTokens.{Leaf, Name, Numeral, Token, Close, Quote}
+use Rattle.scheme_model.specs.SmallReading.{Datum, Data, none, datum, atom, list, marked, Numbered, numbered, number_from, datum_tokens, data_tokens}
 use Rattle.syntax_tree.specs.Small.{Bound, is_named, bound_leaf, bound_names, defined_name, defined_in, definitions}
 use Rattle.syntax_tree.specs.Walked.{looked, parameters_in}
 

@@ -1,8 +1,8 @@
 -- Tokens form one list of data at most, and a text has one reading at most.
 use Rattle.std.proofs.Common.{◌≡◌, ℕ, List, [], ◌∷◌, refl, sym, ap, ◌∙◌}
 use Rattle.std.specs.Str.{chars}
-use Rattle.scheme_model.specs.Tokens.{Token, Close, Quote}
-use Rattle.scheme_model.specs.Reading.{Datum, Data, atom, list, marked, none, datum, Numbered, numbered, number_from, datum_tokens, data_tokens, IsReading}
+use Rattle.scheme_model.specs.SmallTokens.{Token, Close, Quote}
+use Rattle.scheme_model.specs.SmallReading.{Datum, Data, atom, list, marked, none, datum, Numbered, numbered, number_from, datum_tokens, data_tokens, IsReading}
 use Rattle.syntax_tree.proofs.Spelling.{one_spelling}
 
 -- what may follow data: nothing, or the end of a list

@@ -1,8 +1,8 @@
 -- What is open after the tokens of data, which are no deeper than that allows.
 use Rattle.std.proofs.Common.{◌≡◌, ◌+◌, ◌<◌, ◌≤◌, List, [], ◌∷◌, Option, Some, None, cond, refl, sym, ap, ◌∙◌, arith, inl, inr, length, Bool}
 use Rattle.std.proofs.lemmas.Bool.{cases_lt, lt-ltb, le-ltb}
-use Rattle.scheme_model.specs.Tokens.{Close, Quote}
-use Rattle.scheme_model.specs.Reading.{Datum, Data, atom, list, marked, none, datum, Numbered, numbered, datum_tokens, data_tokens, datum_depth, data_depth}
+use Rattle.scheme_model.specs.SmallTokens.{Close, Quote}
+use Rattle.scheme_model.specs.SmallReading.{Datum, Data, atom, list, marked, none, datum, Numbered, numbered, datum_tokens, data_tokens, datum_depth, data_depth}
 use Rattle.syntax_tree.specs.declared.small.reader.Opener.{Opener}
 use Rattle.syntax_tree.specs.declared.small.reader.Opener.TheVariants as opener
 use Rattle.syntax_tree.specs.Opened.{released, pushed, after_all}

@@ -1,8 +1,8 @@
 -- Definitions and programs.
 use Rattle.std.proofs.Common.{◌≡◌, ◌<◌, ◌≤◌, List, [], ◌∷◌, ◌++◌, refl, sym, ap, ◌∙◌, arith, length, drop, get_or, Bool, true, false, cond, ◌&&◌, codes, Some, None, append-nil, subst}
-use Rattle.scheme_model.specs.Tokens.{Name, Numeral}
-use Rattle.scheme_model.specs.Reading.{Data, none, datum, atom, list, marked}
-use Rattle.scheme_model.specs.Reading as model
+use Rattle.scheme_model.specs.SmallTokens.{Name, Numeral}
+use Rattle.scheme_model.specs.SmallReading.{Data, none, datum, atom, list, marked}
+use Rattle.scheme_model.specs.SmallReading as model
 use Rattle.syntax_tree.specs.Small.{Bound, is_named, is_free, is_body, is_value, is_definition, is_form, is_expression, are_parameters, are_expressions, bound_names, defined_in, definitions}
 use Rattle.syntax_tree.specs.Walked.{Link, looked, links, all_links, definition_links, form_links, forms_links, program_links}
 use Rattle.syntax_tree.specs.declared.small.SmallFault.{SmallFault}

@@ -2,7 +2,7 @@
 use Rattle.std.proofs.Common.{◌≡◌, ℕ, suc, ◌+◌, ◌<◌, ◌≤◌, List, length, drop, get_or, ap, ◌∙◌, sym, add-one}
 use Rattle.std.proofs.Math.Seq.{drop-cons}
 use Rattle.std.proofs.lemmas.List.{drop_all}
-use Rattle.scheme_model.specs.Reading.{none, datum}
+use Rattle.scheme_model.specs.SmallReading.{none, datum}
 use Rattle.syntax_tree.specs.declared.small.datum.Datum.{Datum}
 use Rattle.syntax_tree.specs.Views.{datum_of, data_of}
 

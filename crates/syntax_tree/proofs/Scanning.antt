@@ -7,7 +7,7 @@ use Rattle.std.proofs.lemmas.List.Elements.{All-push}
 use Rattle.std.proofs.lemmas.Bool.{and_parts}
 use Rattle.std.proofs.lemmas.Bool.Decides.{nat_tests}
 use Rattle.ls_base.specs.declared.places.Pos.{Pos}
-use Rattle.scheme_model.specs.Tokens.{TokenKind, Token, IsSpelled, is_gap}
+use Rattle.scheme_model.specs.SmallTokens.{TokenKind, Token, IsSpelled, is_gap}
 use Rattle.syntax_tree.specs.declared.small.token.Token as code
 use Rattle.syntax_tree.specs.declared.small.token.TokenKind as code_kind
 use Rattle.syntax_tree.specs.Scanned.{front, size_of, stepped, moved, place_of, further, IsPlaced}

@@ -11,8 +11,8 @@ use Rattle.std.proofs.lemmas.Bool.{and_parts, and_from, and_left, and_right, or_
 use Rattle.std.proofs.lemmas.Map.Text.{is_eq-slice_cmp}
 use Rattle.std.proofs.lemmas.Slice.Eq.{bytes_eq-Decides}
 use Rattle.std.proofs.lemmas.Bool.Decides.{nat_tests}
-use Rattle.scheme_model.specs.Reading.{Datum, Data, none, datum, atom, list, marked}
-use Rattle.scheme_model.specs.Tokens.{Name, Numeral}
+use Rattle.scheme_model.specs.SmallReading.{Datum, Data, none, datum, atom, list, marked}
+use Rattle.scheme_model.specs.SmallTokens.{Name, Numeral}
 use Rattle.syntax_tree.specs.Small.{Bound, is_bound, differ, is_free, are_names, bound_names, are_parameters}
 use Rattle.syntax_tree.specs.Walked.{looked}
 use Rattle.syntax_tree.specs.declared.small.scope.Scope.{Scope}

@@ -14,9 +14,9 @@ use Rattle.std.proofs.lemmas.List.Sorted.{ranks_by, sorted_far, IsPermutation-ma
 use Rattle.std.proofs.lemmas.Map.Keys.{IsDistinct-IsPermutation, apart_from_distinct}
 use Rattle.std.proofs.lemmas.Str.{encodes-chars, encodes-IsAscii, chars-IsAscii}
 use Rattle.ls_base.specs.declared.answers.Arrow.{Arrow}
-use Rattle.scheme_model.specs.Tokens as model
-use Rattle.scheme_model.specs.Tokens.{IsSpelled}
-use Rattle.scheme_model.specs.Reading.{Data, number_from, data_tokens, data_depth}
+use Rattle.scheme_model.specs.SmallTokens as model
+use Rattle.scheme_model.specs.SmallTokens.{IsSpelled}
+use Rattle.scheme_model.specs.SmallReading.{Data, number_from, data_tokens, data_depth}
 use Rattle.syntax_tree.specs.Small.{is_program, IsSmall}
 use Rattle.syntax_tree.specs.Walked as walked
 use Rattle.syntax_tree.specs.Walked.{IsBefore, program_links, arrow_at, AreWalked}

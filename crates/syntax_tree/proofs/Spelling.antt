@@ -8,7 +8,7 @@ use Rattle.std.proofs.lemmas.List.Folds.{list_all-append}
 use Rattle.std.proofs.lemmas.Bool.{and_parts, and_from}
 use Rattle.std.proofs.lemmas.Bool.Decides.{nat_tests}
 use Rattle.std.proofs.lemmas.Str.{len_utf8_ascii}
-use Rattle.scheme_model.specs.Tokens.{TokenKind, Token, First, IsSpelled, IsToken, is_gap, byte_count}
+use Rattle.scheme_model.specs.SmallTokens.{TokenKind, Token, First, IsSpelled, IsToken, is_gap, byte_count}
 use Rattle.syntax_tree.specs.Scanned.{is_plain, front, size_of}
 use Rattle.syntax_tree.proofs.Words.{is_glyph, gap_plain, glyph_plain, glyph_no_gap, list_all-weaker, glyphs_are, length-glyphs, some_glyph, front_is, found}
 

@@ -1,9 +1,9 @@
 -- The tokens of the frames that are open.
 use Rattle.std.proofs.Common.{◌≡◌, ℕ, ◌+◌, ◌<◌, ◌≤◌, suc, List, [], ◌∷◌, ◌++◌, Option, Some, None, refl, sym, ap, ◌∙◌, arith, length, drop, get_or, subst, add-one, ◌-◌}
 use Rattle.std.specs.List.{slice_get}
-use Rattle.scheme_model.specs.Tokens.{TokenKind, Close, Quote}
-use Rattle.scheme_model.specs.Reading.{Data, none, datum, Numbered, numbered, number_from, datum_tokens, data_tokens, data_depth}
-use Rattle.scheme_model.specs.Reading as model
+use Rattle.scheme_model.specs.SmallTokens.{TokenKind, Close, Quote}
+use Rattle.scheme_model.specs.SmallReading.{Data, none, datum, Numbered, numbered, number_from, datum_tokens, data_tokens, data_depth}
+use Rattle.scheme_model.specs.SmallReading as model
 use Rattle.syntax_tree.specs.declared.small.datum.Datum.{Datum}
 use Rattle.syntax_tree.specs.declared.small.reader.Frame.{Frame}
 use Rattle.syntax_tree.specs.declared.small.reader.Opener.{Opener}

@@ -4,7 +4,7 @@ use Rattle.std.specs.List.{take_while, list_all}
 use Rattle.std.proofs.lemmas.List.Sums.{take_while-cons}
 use Rattle.std.proofs.lemmas.Bool.{and_parts, and_from, eqb-true}
 use Rattle.std.proofs.lemmas.Bool.Decides.{nat_tests}
-use Rattle.scheme_model.specs.Tokens.{Name, Numeral, TokenKind, Paren, Close, Marked, Atomic, Quote, is_gap, is_delimiter, is_letter, is_digit, is_subsequent, is_peculiar, is_name, is_numeral, Delimits, IsToken}
+use Rattle.scheme_model.specs.SmallTokens.{Name, Numeral, TokenKind, Paren, Close, Marked, Atomic, Quote, is_gap, is_delimiter, is_letter, is_digit, is_subsequent, is_peculiar, is_name, is_numeral, Delimits, IsToken}
 use Rattle.syntax_tree.specs.Scanned.{is_plain, is_inside, leaf_in, atomic, front, size_of}
 
 some_same : (j k : TokenKind) → Some j ≡ Some k → j ≡ k

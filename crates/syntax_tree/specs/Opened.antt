@@ -1,7 +1,7 @@
 -- What is open while data are read from tokens, and the tokens that were read so far.
 use Rattle.std.specs.Prelude.{◌≡◌, List, [], ◌∷◌, length, Option, Some, None, nat_lt, if◌then◌else◌, option_and_then}
-use Rattle.scheme_model.specs.Tokens.{TokenKind, Paren, Close, Marked, Atomic, Quote}
-use Rattle.scheme_model.specs.Reading.{Numbered, numbered, data_tokens}
+use Rattle.scheme_model.specs.SmallTokens.{TokenKind, Paren, Close, Marked, Atomic, Quote}
+use Rattle.scheme_model.specs.SmallReading.{Numbered, numbered, data_tokens}
 use Rattle.syntax_tree.specs.declared.small.datum.Datum.{Datum}
 use Rattle.syntax_tree.specs.declared.small.reader.Frame.{Frame}
 use Rattle.syntax_tree.specs.declared.small.reader.Opener.{Opener}

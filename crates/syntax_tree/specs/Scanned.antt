@@ -1,7 +1,7 @@
 -- What the scanner finds at the front of a text, and where it stands.
 use Rattle.std.specs.Prelude.{◌≡◌, ℕ, ◌+◌, ◌-◌, ◌≤◌, List, [], ◌∷◌, length, take, take_while, Bool, not, ◌&&◌, ◌==◌, nat_lt, Option, Some, None, if◌then◌else◌}
 use Rattle.ls_base.specs.declared.places.Pos.{Pos}
-use Rattle.scheme_model.specs.Tokens.{Leaf, Name, Numeral, TokenKind, Paren, Close, Marked, Atomic, Quote, is_name, is_numeral, is_delimiter}
+use Rattle.scheme_model.specs.SmallTokens.{Leaf, Name, Numeral, TokenKind, Paren, Close, Marked, Atomic, Quote, is_name, is_numeral, is_delimiter}
 use Rattle.syntax_tree.specs.declared.small.token.Token as code
 
 -- an ASCII byte that is no carriage return

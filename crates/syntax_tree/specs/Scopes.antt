@@ -1,7 +1,7 @@
 -- The names that scopes bind, as the definitions see them, and what a walk leaves.
 use Rattle.std.specs.Prelude.{◌≡◌, ℕ, List, [], ◌∷◌, ◌++◌, Bool, true, false, map, Option, Some, None, Result, Ok, Err, if◌then◌else◌, codes, ◌&&◌}
 use Rattle.std.specs.Borrow.{Bor}
-use Rattle.scheme_model.specs.Reading.{Datum, Data, none, datum, atom, list, marked}
+use Rattle.scheme_model.specs.SmallReading.{Datum, Data, none, datum, atom, list, marked}
 use Rattle.syntax_tree.specs.Small.{Bound, is_named, is_free, is_value}
 use Rattle.syntax_tree.specs.declared.small.datum.Named.{Named}
 use Rattle.syntax_tree.specs.Views.{bound_as}

@@ -3,8 +3,8 @@
 use Rattle.std.specs.Prelude.{◌≡◌, ℕ, ◌≤◌, List, [], ◌∷◌, ◌++◌, length, Bool, true, false, ◌||◌, ◌&&◌, not, codes, if◌then◌else◌}
 use Rattle.std.specs.List.{list_any}
 use Rattle.std.specs.Str.{bytes_eq, IsUtf8}
-use Rattle.scheme_model.specs.Tokens.{Leaf, Name, Numeral, Token}
-use Rattle.scheme_model.specs.Reading.{Datum, Data, atom, list, marked, none, datum, data_depth, IsReading}
+use Rattle.scheme_model.specs.SmallTokens.{Leaf, Name, Numeral, Token}
+use Rattle.scheme_model.specs.SmallReading.{Datum, Data, atom, list, marked, none, datum, data_depth, IsReading}
 
 -- the names that may stand only at the head of their shapes, or nowhere
 unfoldable pub keywords : List (List ℕ)

@@ -1,8 +1,8 @@
 -- What the values of the code stand for.
 use Rattle.std.specs.Prelude.{ℕ, ◌<◌, List, [], ◌∷◌, map, Option, Some, None}
-use Rattle.scheme_model.specs.Tokens as model
-use Rattle.scheme_model.specs.Reading.{Data, atom, list, marked, none, datum}
-use Rattle.scheme_model.specs.Reading as reading
+use Rattle.scheme_model.specs.SmallTokens as model
+use Rattle.scheme_model.specs.SmallReading.{Data, atom, list, marked, none, datum}
+use Rattle.scheme_model.specs.SmallReading as reading
 use Rattle.syntax_tree.specs.Walked as walked
 use Rattle.syntax_tree.specs.declared.small.leaf.Leaf.{Leaf}
 use Rattle.syntax_tree.specs.declared.small.leaf.Leaf.TheVariants.{Name, Numeral}

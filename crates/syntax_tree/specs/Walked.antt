@@ -1,13 +1,15 @@
 -- What the walk over a small program finds: for each use the innermost binder of its symbol.
 use Rattle.std.specs.Prelude.{◌≡◌, ℕ, zero, suc, ◌+◌, ◌-◌, ◌<◌, ◌≤◌, List, [], ◌∷◌, ◌++◌, true, map, take, drop, Option, Some, None, codes, if◌then◌else◌, ◌⊎◌, AllPairs, IsPermutation, slice_index_or}
 use Rattle.std.specs.Str.{bytes_eq}
+use Rattle.ls_base.specs.declared.encoding.Encoding.TheVariants.{Utf16}
 use Rattle.ls_base.specs.Positions.{position_of}
 use Rattle.ls_base.specs.declared.answers.Arrow.{Arrow}
 use Rattle.ls_base.specs.declared.places.Place.{Place}
 use Rattle.scheme_model.specs.declared.Occ.{Occ}
-use Rattle.scheme_model.specs.Tokens.{Leaf, Name, Numeral, Token, Paren}
-use Rattle.scheme_model.specs.Reading.{Datum, Data, atom, list, marked, none, datum, first_of, data_depth, IsReading}
-use Rattle.scheme_model.specs.Arrows.{Pair, program_arrows}
+use Rattle.scheme_model.specs.SmallTokens.{Leaf, Name, Numeral, Token, Paren}
+use Rattle.scheme_model.specs.SmallReading.{Datum, Data, atom, list, marked, none, datum, first_of, data_depth, IsReading}
+use Rattle.scheme_model.specs.Arrows.{Pair}
+use Rattle.scheme_model.specs.SmallArrows.{program_arrows}
 use Rattle.syntax_tree.specs.Small.{Bound, bound_names, is_named, definitions, is_program}
 
 -- the numbers of a binder's token and of a use's token
@@ -103,7 +105,7 @@ token_at ts n = slice_index_or ts n (record { kind = Paren; start = 0; end = 0 }
 
 -- a token's place in the text, whose document is called `input`
 abbrev pub place_at : List ℕ → Token → Place
-place_at text t = record { uri = codes "input"; range = record { start = position_of text t.start; end = position_of text t.end } }
+place_at text t = record { uri = codes "input"; range = record { start = position_of Utf16 text t.start; end = position_of Utf16 text t.end } }
 
 -- a token as it is written
 abbrev pub written_at : List ℕ → Token → List ℕ

@@ -3,19 +3,22 @@ use Rattle.std.proofs.Common.{◌≡◌, ◌≢◌, ◌↔◌, ℕ, ◌+◌, ◌
 use Rattle.std.proofs.lemmas.List.{drop-drop}
 use Rattle.std.proofs.lemmas.Bool.Decides.{nat_tests}
 use Rattle.std.proofs.lemmas.Bool.{false≢true}
-use Rattle.std.proofs.lemmas.Str.{chars-nil}
+use Rattle.std.proofs.lemmas.Str.{chars-nil, len_utf8_bounds}
 use Rattle.std.specs.Str.{chars}
 use Rattle.std.specs.Char.{len_utf8}
 use Rattle.ls_base.specs.Positions.{Line, lines_of, returned, longer, units_of, bytes_within, units_within}
+use Rattle.ls_base.specs.declared.encoding.Encoding.{Encoding}
+use Rattle.ls_base.specs.declared.encoding.Encoding.TheVariants.{Utf8, Utf16, Utf32}
 use Rattle.text_positions.specs.Walks.{EndsLine, first_chars, first_line}
 
--- how `len_utf16` answers
-pub units_of_is : (c n : ℕ) → (c < 65536 → n ≡ 1) → (65536 ≤ c → n ≡ 2) → n ≡ units_of c
-units_of_is c n small large = grind (arith, nat_tests)
+pair_few : (c : ℕ) → units_of Utf16 c ≤ len_utf8 c
+pair_few c = grind (arith, nat_tests)
 
 -- a character has no more units than bytes
-pub units_of-le-len_utf8 : (c : ℕ) → units_of c ≤ len_utf8 c
-units_of-le-len_utf8 c = grind (arith, nat_tests)
+pub units_of-le-len_utf8 : (e : Encoding) (c : ℕ) → units_of e c ≤ len_utf8 c
+units_of-le-len_utf8 Utf8 c = omega arith
+units_of-le-len_utf8 Utf16 c = pair_few c
+units_of-le-len_utf8 Utf32 c = omega (arith, len_utf8_bounds c)
 
 first_chars-returned : (cs : List ℕ) (lines : List Line) → first_chars (returned cs lines) ≡ []
 first_chars-returned [] lines = refl
@@ -39,7 +42,7 @@ first_chars_more c cs other =
     grind (arith, nat_tests, first_chars-longer c (lines_of cs))
 
 -- the text begins with the character c, and the test b says whether it ends a line
-module _ (text more : List ℕ) (c : ℕ) (b : Bool) (is : chars text ≡ c ∷ chars more) (tells : IsTrue b ↔ EndsLine c) where
+module _ (units : ℕ → ℕ) (text more : List ℕ) (c : ℕ) (b : Bool) (is : chars text ≡ c ∷ chars more) (tells : IsTrue b ↔ EndsLine c) where
   first_line_end : b ≡ true → first_line text ≡ []
   first_line_end t = ap (λ cs. first_chars (lines_of cs)) is ∙ first_chars_end c (chars more) (tells.0 t)
 
@@ -47,20 +50,20 @@ module _ (text more : List ℕ) (c : ℕ) (b : Bool) (is : chars text ≡ c ∷ 
   first_line_more f = ap (λ cs. first_chars (lines_of cs)) is ∙ first_chars_more c (chars more) (λ e. false≢true (sym f ∙ tells.1 e))
 
   -- a character that fits is taken
-  pub bytes_more : (units : ℕ) → b ≡ false → units_of c ≤ units → bytes_within units (first_line text) ≡ len_utf8 c + bytes_within (units - units_of c) (first_line more)
-  bytes_more units f fits = ap (bytes_within units) (first_line_more f) ∙ grind (arith, nat_tests)
+  pub bytes_more : (n : ℕ) → b ≡ false → units c ≤ n → bytes_within units n (first_line text) ≡ len_utf8 c + bytes_within units (n - units c) (first_line more)
+  bytes_more n f fits = ap (bytes_within units n) (first_line_more f) ∙ grind (arith, nat_tests)
 
-  pub units_more : (bytes : ℕ) → b ≡ false → len_utf8 c ≤ bytes → units_within bytes (first_line text) ≡ units_of c + units_within (bytes - len_utf8 c) (first_line more)
-  units_more bytes f fits = ap (units_within bytes) (first_line_more f) ∙ grind (arith, nat_tests)
+  pub units_more : (bytes : ℕ) → b ≡ false → len_utf8 c ≤ bytes → units_within units bytes (first_line text) ≡ units c + units_within units (bytes - len_utf8 c) (first_line more)
+  units_more bytes f fits = ap (units_within units bytes) (first_line_more f) ∙ grind (arith, nat_tests)
 
   -- a line end, or a character that doesn't fit, is where the walk ends
-  pub bytes_stop : (units : ℕ) → (b ≡ true) ⊎ ((b ≡ false) × (units < units_of c)) → bytes_within units (first_line text) ≡ 0
-  bytes_stop units (inl t) = ap (bytes_within units) (first_line_end t)
-  bytes_stop units (inr h) = ap (bytes_within units) (first_line_more h.0) ∙ grind (arith, nat_tests, h.1)
+  pub bytes_stop : (n : ℕ) → (b ≡ true) ⊎ ((b ≡ false) × (n < units c)) → bytes_within units n (first_line text) ≡ 0
+  bytes_stop n (inl t) = ap (bytes_within units n) (first_line_end t)
+  bytes_stop n (inr h) = ap (bytes_within units n) (first_line_more h.0) ∙ grind (arith, nat_tests, h.1)
 
-  pub units_stop : (bytes : ℕ) → (b ≡ true) ⊎ ((b ≡ false) × (bytes < len_utf8 c)) → units_within bytes (first_line text) ≡ 0
-  units_stop bytes (inl t) = ap (units_within bytes) (first_line_end t)
-  units_stop bytes (inr h) = ap (units_within bytes) (first_line_more h.0) ∙ grind (arith, nat_tests, h.1)
+  pub units_stop : (bytes : ℕ) → (b ≡ true) ⊎ ((b ≡ false) × (bytes < len_utf8 c)) → units_within units bytes (first_line text) ≡ 0
+  units_stop bytes (inl t) = ap (units_within units bytes) (first_line_end t)
+  units_stop bytes (inr h) = ap (units_within units bytes) (first_line_more h.0) ∙ grind (arith, nat_tests, h.1)
 
 -- so is the end of the text
 pub first_line-nil : (text : List ℕ) → text ≡ [] → first_line text ≡ []

@@ -7,7 +7,7 @@ ghost use Rattle.text_positions.specs.Lines.{line_starts, AreLinesOf};
 ghost use Rattle.text_positions.specs.Walks.{IsLineAt};
 
 use crate::within::{bytes_in_line, ends_behind, units_in_line};
-use ls_base::{Mem, Pos, split_char};
+use ls_base::{Encoding, Mem, Pos, split_char};
 use std::alloc::Global;
 use std::marker::Model;
 
@@ -52,12 +52,12 @@ impl Lines {
         Ok(Lines { starts })
     }
 
-    /// The offset of a position in bytes, in the text that the lines are of. A character past its line means the end
-    /// of the line, before its line end; a line past the last means the end of the text; the middle of a surrogate
-    /// pair means the character's start (LSP 3.17, Position).
-    pub fn offset(&self, text: &str, pos: Pos) -> u32
+    /// The offset in bytes of a position in the encoding given, in the text that the lines are of. A character past
+    /// its line means the end of the line, before its line end; a line past the last means the end of the text; the
+    /// middle of a character means the character's start (LSP 3.17, Position).
+    pub fn offset(&self, text: &str, pos: Pos, encoding: Encoding) -> u32
         requires { AreLinesOf self.now text.now }
-        ensures exact { result ≡ offset_of text.now pos }
+        ensures exact { result ≡ offset_of encoding text.now pos }
         // A text may be cut there: a character begins there, or the text ends.
         ensures boundary { IsCharBoundary text.now result }
     {
@@ -66,20 +66,21 @@ impl Lines {
             return text.len() as u32;
         }
         let start = self.starts[line] as usize;
-        (start + bytes_in_line(&text[start..], pos.character)) as u32
+        (start + bytes_in_line(&text[start..], pos.character, encoding)) as u32
     }
 
-    /// The position of an offset in bytes, in the text that the lines are of. An offset inside a line end means the
-    /// end of its line, one inside a character the character's start, one past the text the end of the text.
-    pub fn position(&self, text: &str, offset: u32) -> Pos
+    /// The position in the encoding given of an offset in bytes, in the text that the lines are of. An offset inside a
+    /// line end means the end of its line, one inside a character the character's start, one past the text the end of
+    /// the text.
+    pub fn position(&self, text: &str, offset: u32, encoding: Encoding) -> Pos
         requires { AreLinesOf self.now text.now }
-        ensures { result ≡ position_of text.now offset }
+        ensures { result ≡ position_of encoding text.now offset }
     {
         let line = line_at(&self.starts, offset);
         let start = self.starts[line];
         Pos {
             line: line as u32,
-            character: units_in_line(&text[start as usize..], (offset - start) as usize),
+            character: units_in_line(&text[start as usize..], (offset - start) as usize, encoding),
         }
     }
 }

@@ -2,7 +2,7 @@
 ghost use Rattle.std.specs.Prelude.{◌<◌, ◌^◌, length};
 
 use crate::Lines;
-use ls_base::Pos;
+use ls_base::{Encoding, Pos};
 use std::alloc::Global;
 use std::process::Abort;
 use std::test::Fail;
@@ -23,14 +23,14 @@ fn check(
             line: *line,
             character: *character,
         };
-        assert_eq!(rt; lines.offset(text, pos), *offset, "at {line}:{character}");
+        assert_eq!(rt; lines.offset(text, pos, Encoding::Utf16), *offset, "at {line}:{character}");
     }
     for (offset, line, character) in positions {
         let pos = Pos {
             line: *line,
             character: *character,
         };
-        assert_eq!(rt; lines.position(text, *offset), pos, "at {offset}");
+        assert_eq!(rt; lines.position(text, *offset, Encoding::Utf16), pos, "at {offset}");
     }
     Ok(())
 }

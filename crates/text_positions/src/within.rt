@@ -1,10 +1,10 @@
-//! Walks over the first line of a text: the bytes of so many UTF-16 units, and the units of so many bytes.
+//! Walks over the first line of a text: the bytes of so many units of an encoding, and the units of so many bytes.
 ghost use Rattle.std.specs.Prelude.{◌≡◌, ◌^◌, ◌<◌, ◌↔◌, ◌⊎◌, length, IsTrue};
 ghost use Rattle.std.specs.Str.{chars, IsCharBoundary};
-ghost use Rattle.ls_base.specs.Positions.{bytes_within, units_within};
+ghost use Rattle.ls_base.specs.Positions.{bytes_within, units_of, units_within};
 ghost use Rattle.text_positions.specs.Walks.{EndsLine, ends_behind, first_line};
 
-use ls_base::split_char;
+use ls_base::{Encoding, split_char};
 
 /// Whether the character ends a line, alone or with another (LSP 3.17, Position).
 pub fn ends_line(c: char) -> bool
@@ -20,15 +20,15 @@ pub fn ends_behind(c: char, more: &str) -> bool
     c == '\n' || c == '\r' && !more.starts_with('\n')
 }
 
-/// The bytes of the longest front of the first line with at most so many UTF-16 units.
-pub fn bytes_in_line(text: &str, units: u32) -> usize
-    ensures bytes { result ≡ bytes_within units (first_line text.now) }
+/// The bytes of the longest front of the first line with at most so many units.
+pub fn bytes_in_line(text: &str, units: u32, encoding: Encoding) -> usize
+    ensures bytes { result ≡ bytes_within (units_of encoding) units (first_line text.now) }
     ensures boundary { IsCharBoundary text.now result }
 {
     let mut rest = text;
     let mut left = units as usize;
     while let Some((c, more)) = split_char(rest) {
-        let width = c.len_utf16();
+        let width = encoding.units(c);
         if ends_line(c) || width > left {
             break;
         }
@@ -38,10 +38,10 @@ pub fn bytes_in_line(text: &str, units: u32) -> usize
     text.len() - rest.len()
 }
 
-/// The UTF-16 units of the longest front of the first line with at most so many bytes.
-pub fn units_in_line(text: &str, bytes: usize) -> u32
+/// The units of the longest front of the first line with at most so many bytes.
+pub fn units_in_line(text: &str, bytes: usize, encoding: Encoding) -> u32
     requires { length text.now < 2 ^ 32 }
-    ensures { result ≡ units_within bytes (first_line text.now) }
+    ensures { result ≡ units_within (units_of encoding) bytes (first_line text.now) }
 {
     let mut rest = text;
     let mut left = bytes;
@@ -52,7 +52,7 @@ pub fn units_in_line(text: &str, bytes: usize) -> u32
             break;
         }
         left -= size;
-        units += c.len_utf16() as u32;
+        units += encoding.units(c) as u32;
         rest = more;
     }
     units

@@ -1,7 +1,7 @@
 //! Data, with the numbers of their tokens (R7RS 7.1.2).
 ghost use Rattle.std.specs.Prelude.{◌≡◌, IfOk, option_map};
-ghost use Rattle.scheme_model.specs.Tokens as model;
-ghost use Rattle.scheme_model.specs.Reading.{atom, list, marked};
+ghost use Rattle.scheme_model.specs.SmallTokens as model;
+ghost use Rattle.scheme_model.specs.SmallReading.{atom, list, marked};
 ghost use Rattle.syntax_tree.specs.Views.{leaf_of, datum_of, data_of, name_part, bound_as};
 
 use crate::small::leaf::Leaf;

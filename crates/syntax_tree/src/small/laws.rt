@@ -1,7 +1,7 @@
 //! Laws about the readings of texts (R7RS 7.1.1, 7.1.2).
 ghost use Rattle.std.specs.Prelude.{◌≡◌, List, [], ℕ};
-ghost use Rattle.scheme_model.specs.Tokens.{Token};
-ghost use Rattle.scheme_model.specs.Reading.{Data, data_tokens, IsReading};
+ghost use Rattle.scheme_model.specs.SmallTokens.{Token};
+ghost use Rattle.scheme_model.specs.SmallReading.{Data, data_tokens, IsReading};
 
 /// Tokens form one list of data at most.
 pub fn one_data()

@@ -1,7 +1,7 @@
 //! Words: names and numerals (R7RS 7.1.1).
 ghost use Rattle.std.specs.Prelude.{◌≡◌, length, take_while, option_map};
 ghost use Rattle.std.specs.List.{list_all};
-ghost use Rattle.scheme_model.specs.Tokens.{is_gap, is_delimiter, is_letter, is_digit, is_subsequent, is_peculiar, is_name, is_numeral};
+ghost use Rattle.scheme_model.specs.SmallTokens.{is_gap, is_delimiter, is_letter, is_digit, is_subsequent, is_peculiar, is_name, is_numeral};
 ghost use Rattle.syntax_tree.specs.Scanned.{is_inside, leaf_in};
 ghost use Rattle.syntax_tree.specs.Views.{leaf_of};
 

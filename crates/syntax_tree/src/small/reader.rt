@@ -1,7 +1,7 @@
 //! The data that tokens form, by a stack of what is open.
 ghost use Rattle.std.specs.Prelude.{◌≡◌, ◌≤◌, ◌<◌, ◌^◌, ◌∷◌, ◌++◌, [], length, None, Some, IfOk, OnOk, IfSome, IfNone, IsErrOf};
-ghost use Rattle.scheme_model.specs.Tokens as model;
-ghost use Rattle.scheme_model.specs.Reading.{Data, numbered, number_from, datum_tokens, data_tokens, data_depth};
+ghost use Rattle.scheme_model.specs.SmallTokens as model;
+ghost use Rattle.scheme_model.specs.SmallReading.{Data, numbered, number_from, datum_tokens, data_tokens, data_depth};
 ghost use Rattle.syntax_tree.specs.Views.{kind_of, datum_of, data_of, tokens_of};
 ghost use Rattle.syntax_tree.specs.Opened.{opening, openers, released, pushed, closed, after, top, IsFresh, Reads};
 

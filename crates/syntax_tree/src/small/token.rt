@@ -2,8 +2,8 @@
 ghost use Rattle.std.specs.Prelude.{◌≡◌, ◌≤◌, ◌<◌, ◌+◌, ◌^◌, length, List, IfOk, IsErrOf, option_map};
 ghost use Rattle.std.specs.List.{All};
 ghost use Rattle.std.specs.Str.{IsAscii};
-ghost use Rattle.scheme_model.specs.Tokens as model;
-ghost use Rattle.scheme_model.specs.Tokens.{IsSpelled};
+ghost use Rattle.scheme_model.specs.SmallTokens as model;
+ghost use Rattle.scheme_model.specs.SmallTokens.{IsSpelled};
 ghost use Rattle.syntax_tree.specs.Scanned.{front, size_of, stepped, IsPlaced};
 ghost use Rattle.syntax_tree.specs.Views.{kind_of, tokens_of};
 

@@ -7,5 +7,5 @@ use Rattle.document_store.proofs.edit.edits.Given as goal
 abbrev pub invariant-loop-change : goal.invariant-loop-change
 invariant-loop-change l = record {
   short : length l.now ≤ MAX_TEXT;
-  so_far : edits (drop l.change-index l.changes) l.now ≡ edits l.changes l.text;
+  so_far : edits l.encoding (drop l.change-index l.changes) l.now ≡ edits l.encoding l.changes l.text;
 }

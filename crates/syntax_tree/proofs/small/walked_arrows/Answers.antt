@@ -4,7 +4,7 @@ use Rattle.std.specs.List.{All}
 use Rattle.std.proofs.lemmas.Bool.{MatchBool-at_true, MatchBool-at_false}
 use Rattle.std.proofs.lemmas.List.{length-map}
 use Rattle.std.proofs.lemmas.Result.{err_from_is_err_and}
-use Rattle.scheme_model.specs.Reading.{data_tokens, number_from}
+use Rattle.scheme_model.specs.SmallReading.{data_tokens, number_from}
 use Rattle.syntax_tree.specs.Small.{is_program}
 use Rattle.syntax_tree.specs.Walked.{arrow_at, program_links}
 use Rattle.syntax_tree.specs.Views.{token_of, tokens_of, data_of, link_of, links_of, IsLinkWithin}

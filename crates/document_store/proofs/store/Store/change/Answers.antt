@@ -15,7 +15,7 @@ use Rattle.document_store.proofs.store.Store.change.Goals.{In-Some}
 pub returns-in_default-clause-event : goal.returns-in_default-clause-event
 returns-in_default-clause-event c =
     let absent : get c.args.self.now c.args.uri.now ≡ None = get_seen c.self.inside.docs c.args.self.now c.args.uri.now None c.self.view_is c.in_default.ensures.value in
-    ap (λ o. changed c.args.self.now c.args.uri.now c.args.version c.args.changes.now (option_map (λ d. d.1) o)) absent
+    ap (λ o. changed c.args.encoding c.args.self.now c.args.uri.now c.args.version c.args.changes.now (option_map (λ d. d.1) o)) absent
     ∙ ap (λ (m : Texts). (m, Some NotOpen)) (sym (ap (λ docs. texts_of docs.entries) c.get_mut.follows.holds-at-none ∙ c.self.view_is))
 
 -- what is there
@@ -44,7 +44,7 @@ put c w d is =
 
 pub returns-in-Ok-clause-event : goal.returns-in-Ok-clause-event
 returns-in-Ok-clause-event c =
-    let outcome : Option (List ℕ) → Texts × Option Refusal = changed c.args.self.now c.args.uri.now c.args.version c.args.changes.now in
+    let outcome : Option (List ℕ) → Texts × Option Refusal = changed c.args.encoding c.args.self.now c.args.uri.now c.args.version c.args.changes.now in
     ap outcome (text_is (goal.at.returns-in-Ok-clause-event c).In-Some)
     ∙ ap (λ t. outcome (Some t)) (sym c.as_str.ensures)
     ∙ ap (changed_to c.args.self.now c.args.uri.now c.args.version) c.in-Ok.ensures.edits
@@ -53,20 +53,20 @@ returns-in-Ok-clause-event c =
 pub returns-then-eq-clause-event : goal.returns-then-eq-clause-event
 returns-then-eq-clause-event c =
     let too_long : c.in-Err.fault ≡ fault.TooLong = search rules in
-    let outcome : Option (List ℕ) → Texts × Option Refusal = changed c.args.self.now c.args.uri.now c.args.version c.args.changes.now in
+    let outcome : Option (List ℕ) → Texts × Option Refusal = changed c.args.encoding c.args.self.now c.args.uri.now c.args.version c.args.changes.now in
     let left : c.close.new.self ≡ left_after c.in-Err.fault c.args.self.now c.args.uri.now =
     c.close.ensures.closed ∙ ap (λ (m : Texts). remove m c.args.uri.now) (kept (goal.at.returns-then-eq-clause-event c).In-Some) ∙ ap (λ f. left_after f c.args.self.now c.args.uri.now) (sym too_long) in
     subst (Refused c.in-Err.fault c.args.self.now c.close.new.self) (ap (λ t. outcome (Some t)) c.as_str.ensures ∙ sym (ap outcome (text_is (goal.at.returns-then-eq-clause-event c).In-Some)))
-    (change_refused c.in-Err.fault c.args.self.now c.close.new.self c.args.uri.now c.args.version (edits c.args.changes.now c.as_str.result.now) c.in-Err.ensures.edits left)
+    (change_refused c.in-Err.fault c.args.self.now c.close.new.self c.args.uri.now c.args.version (edits c.args.encoding c.args.changes.now c.as_str.result.now) c.in-Err.ensures.edits left)
 
 pub returns-else-eq-clause-event : goal.returns-else-eq-clause-event
 returns-else-eq-clause-event c =
     let other : c.in-Err.fault ≢ fault.TooLong = λ e. search rules in
-    let outcome : Option (List ℕ) → Texts × Option Refusal = changed c.args.self.now c.args.uri.now c.args.version c.args.changes.now in
+    let outcome : Option (List ℕ) → Texts × Option Refusal = changed c.args.encoding c.args.self.now c.args.uri.now c.args.version c.args.changes.now in
     let left : texts_of (c.get_mut.follows.lender c.in-Some.doc.now).entries ≡ left_after c.in-Err.fault c.args.self.now c.args.uri.now =
     kept (goal.at.returns-else-eq-clause-event c).In-Some ∙ sym (left_others c.in-Err.fault c.args.self.now c.args.uri.now other) in
     subst (Refused c.in-Err.fault c.args.self.now (texts_of (c.get_mut.follows.lender c.in-Some.doc.now).entries)) (ap (λ t. outcome (Some t)) c.as_str.ensures ∙ sym (ap outcome (text_is (goal.at.returns-else-eq-clause-event c).In-Some)))
-    (change_refused c.in-Err.fault c.args.self.now _ c.args.uri.now c.args.version (edits c.args.changes.now c.as_str.result.now) c.in-Err.ensures.edits left)
+    (change_refused c.in-Err.fault c.args.self.now _ c.args.uri.now c.args.version (edits c.args.encoding c.args.changes.now c.as_str.result.now) c.in-Err.ensures.edits left)
 
 pub returns-in_default-clause-kept : goal.returns-in_default-clause-kept
 returns-in_default-clause-kept c = λ other. ap (λ docs. texts_of docs.entries) c.get_mut.follows.holds-at-none ∙ c.self.view_is

@@ -1,6 +1,6 @@
 use Rattle.std.proofs.Common.{◌+◌, sym, drop, subst}
 use Rattle.std.proofs.lemmas.Result.{err_from_is_err_and}
-use Rattle.scheme_model.specs.Reading.{Data}
+use Rattle.scheme_model.specs.SmallReading.{Data}
 use Rattle.syntax_tree.specs.declared.small.scope.Scope.{Scope}
 use Rattle.syntax_tree.specs.Small.{definitions}
 use Rattle.syntax_tree.specs.Scopes.{bounds_in}

@@ -1,7 +1,7 @@
 use Rattle.std.proofs.Common.{◌∙◌, ap, subst, sym, List, Some}
 use Rattle.syntax_tree.specs.declared.small.datum.Datum.{Datum}
 use Rattle.syntax_tree.specs.declared.small.reader.Opener.TheVariants as opener
-use Rattle.scheme_model.specs.Reading.{list, datum_tokens}
+use Rattle.scheme_model.specs.SmallReading.{list, datum_tokens}
 use Rattle.syntax_tree.specs.Opened.{IsFresh, Reads, released, openers}
 use Rattle.syntax_tree.specs.Views.{datum_of, data_of}
 use Rattle.syntax_tree.proofs.Stacked.{mark_fresh, close_mark, reads_close}

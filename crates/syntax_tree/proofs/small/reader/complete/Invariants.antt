@@ -1,5 +1,5 @@
 use Rattle.std.proofs.Common.{◌≡◌, List, vec_len}
-use Rattle.scheme_model.specs.Reading.{Numbered, datum_tokens}
+use Rattle.scheme_model.specs.SmallReading.{Numbered, datum_tokens}
 use Rattle.syntax_tree.specs.declared.small.reader.Opener.TheVariants as opener
 use Rattle.syntax_tree.specs.Views.{datum_of}
 use Rattle.syntax_tree.specs.Opened.{openers, released, read_tokens, IsFresh}

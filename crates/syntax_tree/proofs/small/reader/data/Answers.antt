@@ -1,7 +1,7 @@
 use Rattle.std.proofs.Common.{◌∙◌, ap, arith, sym, length, ◌<◌, ◌≡◌, Some, drop, ◌+◌}
 use Rattle.std.proofs.lemmas.Result.{err_from_is_err_and}
 use Rattle.std.proofs.lemmas.Bool.Decides.{nat_tests}
-use Rattle.scheme_model.specs.Reading.{number_from}
+use Rattle.scheme_model.specs.SmallReading.{number_from}
 use Rattle.syntax_tree.specs.Views.{tokens_of}
 use Rattle.syntax_tree.specs.Opened.{after_all, openers, read_tokens}
 use Rattle.syntax_tree.proofs.FaultLaws.{passed_on}

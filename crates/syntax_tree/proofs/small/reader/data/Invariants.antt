@@ -1,5 +1,5 @@
 use Rattle.std.proofs.Common.{◌≡◌, [], Some, drop}
-use Rattle.scheme_model.specs.Reading.{number_from}
+use Rattle.scheme_model.specs.SmallReading.{number_from}
 use Rattle.syntax_tree.specs.declared.small.reader.Opener.TheVariants as opener
 use Rattle.syntax_tree.specs.Views.{tokens_of}
 use Rattle.syntax_tree.specs.Opened.{openers, after_all, read_tokens, IsFresh}

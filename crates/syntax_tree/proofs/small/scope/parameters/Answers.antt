@@ -1,6 +1,6 @@
 use Rattle.std.proofs.Common.{◌∙◌, ◌+◌, sym, subst, drop}
 use Rattle.std.proofs.lemmas.Result.{err_from_is_err_and}
-use Rattle.scheme_model.specs.Reading.{Data}
+use Rattle.scheme_model.specs.SmallReading.{Data}
 use Rattle.syntax_tree.specs.Scopes.{bounds_in}
 use Rattle.syntax_tree.specs.Views.{data_of, datum_of, bound_as}
 use Rattle.syntax_tree.proofs.FaultLaws.{passed_on}

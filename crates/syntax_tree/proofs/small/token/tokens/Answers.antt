@@ -1,5 +1,5 @@
 use Rattle.std.proofs.Common.{arith, ◌≡◌, Some, sym, ap, ◌∙◌, subst, drop, List, ℕ, get_or}
-use Rattle.scheme_model.specs.Tokens.{IsSpelled}
+use Rattle.scheme_model.specs.SmallTokens.{IsSpelled}
 use Rattle.syntax_tree.specs.Scanned.{front}
 use Rattle.syntax_tree.specs.Views.{kind_of, tokens_of}
 use Rattle.syntax_tree.proofs.Scanning.{after_gap, place_after_gap, stepped_line, stepped_character, no_token, token_within, after_made, placed_made, place_made, at_end}

@@ -2,7 +2,7 @@ use Rattle.std.proofs.Common.{◌≡◌, ℕ, ◌-◌, length, get_or, slice_get
 use Rattle.std.specs.List.Sorted.{IsNonDecreasing}
 use Rattle.std.specs.Str.{IsCharBoundary}
 use Rattle.ls_base.specs.declared.places.Pos.{Pos}
-use Rattle.ls_base.specs.Positions.{units_within}
+use Rattle.ls_base.specs.Positions.{units_of, units_within}
 use Rattle.text_positions.specs.Lines.{line_starts}
 use Rattle.text_positions.specs.Walks.{IsLineAt, first_line}
 use Rattle.text_positions.proofs.Cuts.{IsLineStart, line_start}
@@ -39,7 +39,7 @@ pub returns : goal.returns
 returns c =
     let at : c.index-start.result.now ≡ get_or (line_starts c.args.text.now) c.line_at-line.result 0 = at_start (goal.at.returns c).After-index-start in
     let place : ℕ → Pos = λ n. record { line = c.line_at-line.result; character = n } in
-    let here : ℕ → Pos = λ start. place (units_within (c.args.offset - start) (first_line (drop start c.args.text.now))) in
-    ap place (c.units_in_line.ensures ∙ ap (λ t. units_within (c.args.offset - c.index-start.result.now) (first_line t)) c.range_from.ensures.value)
+    let here : ℕ → Pos = λ start. place (units_within (units_of c.args.encoding) (c.args.offset - start) (first_line (drop start c.args.text.now))) in
+    ap place (c.units_in_line.ensures ∙ ap (λ t. units_within (units_of c.args.encoding) (c.args.offset - c.index-start.result.now) (first_line t)) c.range_from.ensures.value)
     ∙ ap here at
-    ∙ sym (position_of-start c.args.text.now c.args.offset c.line_at-line.result c.utf8.text (found (goal.at.returns c).After-index-start))
+    ∙ sym (position_of-start c.args.encoding c.args.text.now c.args.offset c.line_at-line.result c.utf8.text (found (goal.at.returns c).After-index-start))

@@ -1,5 +1,5 @@
--- Tokens, and how a text is made of them (R7RS 7.1.1). A text is a list of characters; spans count bytes. The kinds
--- that stand here are those of small programs.
+-- The tokens of small programs, and how a text is made of them (R7RS 7.1.1). A text is a list of characters; spans count
+-- bytes.
 use Rattle.std.specs.Prelude.{◌≡◌, ℕ, ◌+◌, List, [], ◌∷◌, ◌++◌, Bool, true, false, ◌||◌, ◌&&◌, ◌==◌, nat_le, sum_by}
 use Rattle.std.specs.List.{list_all}
 use Rattle.std.specs.Char.{len_utf8}

@@ -1,15 +1,15 @@
--- The core of an expression, by substitution (R7RS 4.1). Each binder is replaced throughout its region. The depth that
+-- The core of an expression of a small program, by substitution (R7RS 4.1). Each binder is replaced throughout its region. The depth that
 -- a core may have is a budget, which each node lowers for its parts; the turns bound the recursion alone.
 use Rattle.std.specs.Prelude.{ℕ, zero, suc, List, [], ◌∷◌, map, Option, Some, None}
 use Rattle.scheme_model.specs.declared.Occ.{Occ}
 use Rattle.scheme_model.specs.Identifiers.{Name, Inner, same_name, strip}
 use Rattle.scheme_model.specs.Trees.{Tree, name, atom, list, vector, Trees, no_trees, tree, Tail, proper, dotted, map_tree, map_trees}
-use Rattle.scheme_model.specs.Substitution.{bind_all}
+use Rattle.scheme_model.specs.SmallSubstitution.{bind_all}
 use Rattle.scheme_model.specs.StandardNames.{Keyword, IsQuote, IsLambda, IsDefine}
-use Rattle.scheme_model.specs.Meaning.{World, meaning, keyword_of}
-use Rattle.scheme_model.specs.Cores.{Target, Binder, Core, Ref, Const, Quote, Lambda, Call, Body, Cores, no_cores, core}
-use Rattle.scheme_model.specs.Steps.{BadForm, BadPlace, KeywordAsValue, DepthBudget, OutOfTurns, done, failed, Step, ◌>>=◌, given}
-use Rattle.scheme_model.specs.Shapes.{NamePart, Clause, lambda_of, quoted_of, definition_of}
+use Rattle.scheme_model.specs.SmallMeaning.{World, meaning, keyword_of}
+use Rattle.scheme_model.specs.SmallCores.{Target, Binder, Core, Ref, Const, Quote, Lambda, Call, Body, Cores, no_cores, core}
+use Rattle.scheme_model.specs.SmallSteps.{BadForm, BadPlace, KeywordAsValue, DepthBudget, OutOfTurns, done, failed, Step, ◌>>=◌, given}
+use Rattle.scheme_model.specs.SmallShapes.{NamePart, Clause, lambda_of, quoted_of, definition_of}
 
 -- where an expression stands
 pub record Setting : Type 0 where

@@ -2,7 +2,7 @@
 use Rattle.std.specs.Prelude.{List, [], ◌∷◌, ◌++◌, Bool, true, false, ◌||◌, Option, Result, Ok, Err, if◌then◌else◌}
 use Rattle.scheme_model.specs.declared.Occ.{Occ}
 use Rattle.scheme_model.specs.Trees.{Tree, name, atom, list, vector, Trees, no_trees, tree, Tail, proper, dotted}
-use Rattle.scheme_model.specs.Steps.{Fault, BadForm, DuplicateBinder}
+use Rattle.scheme_model.specs.SmallSteps.{Fault, BadForm, DuplicateBinder}
 
 -- an identifier and its place
 pub record NamePart (A : Type 0) : Type 0 where

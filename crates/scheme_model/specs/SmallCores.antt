@@ -2,7 +2,7 @@
 use Rattle.std.specs.Prelude.{ℕ, List, Bool, Option}
 use Rattle.scheme_model.specs.declared.Occ.{Occ}
 use Rattle.scheme_model.specs.Identifiers.{Number, Name}
-use Rattle.scheme_model.specs.Meaning.{Meaning}
+use Rattle.scheme_model.specs.SmallMeaning.{Meaning}
 use Rattle.scheme_model.specs.Trees.{Atom, Tree}
 
 -- an identifier where it is used, and what it means there

@@ -4,11 +4,11 @@ use Rattle.std.specs.Prelude.{ℕ, suc, List, [], ◌∷◌, ◌++◌, Bool, fal
 use Rattle.scheme_model.specs.Identifiers.{Name, same_name}
 use Rattle.scheme_model.specs.Trees.{Tree, name, atom, list, vector, Trees, Tail}
 use Rattle.scheme_model.specs.StandardNames.{Keyword, IsQuote, IsLambda, IsDefine, is_base}
-use Rattle.scheme_model.specs.Meaning.{Meaning, Standard, World}
-use Rattle.scheme_model.specs.Cores.{Definition, Item, Expression, Define}
-use Rattle.scheme_model.specs.Steps.{Fault, Outcome, done, failed, Step, ◌>>=◌}
-use Rattle.scheme_model.specs.Shapes.{NamePart, DefinitionShape, Variable, Procedure, definition_of}
-use Rattle.scheme_model.specs.Expression.{Setting, head_keyword, expand, procedure}
+use Rattle.scheme_model.specs.SmallMeaning.{Meaning, Standard, World}
+use Rattle.scheme_model.specs.SmallCores.{Definition, Item, Expression, Define}
+use Rattle.scheme_model.specs.SmallSteps.{Fault, Outcome, done, failed, Step, ◌>>=◌}
+use Rattle.scheme_model.specs.SmallShapes.{NamePart, DefinitionShape, Variable, Procedure, definition_of}
+use Rattle.scheme_model.specs.SmallExpression.{Setting, head_keyword, expand, procedure}
 
 -- a form that was gone through: a definition with what is to be expanded, or an expression
 pub data Declared : Type 0 where

@@ -1,7 +1,7 @@
--- Data, and how tokens form them (R7RS 7.1.2).
+-- The data of small programs, and how tokens form them (R7RS 7.1.2).
 use Rattle.std.specs.Prelude.{◌≡◌, ℕ, suc, max, List, [], ◌∷◌}
 use Rattle.std.specs.Str.{chars}
-use Rattle.scheme_model.specs.Tokens.{Leaf, Mark, TokenKind, Paren, Close, Marked, Atomic, Token, IsSpelled}
+use Rattle.scheme_model.specs.SmallTokens.{Leaf, Mark, TokenKind, Paren, Close, Marked, Atomic, Token, IsSpelled}
 
 -- a datum with the numbers of its tokens in the text: an atom's, the first and last of a list, and the mark's
 mutual
