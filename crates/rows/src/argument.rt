@@ -2,7 +2,7 @@
 ghost use Rattle.std.specs.Prelude.{◌<◌, ◌^◌, IfOk, vec_len};
 
 use crate::fault::{Row, RowFault};
-use ls_base::{Pos, Range};
+use ls_base::{Encoding, Pos, Range};
 use serde_json::Value;
 use std::alloc::Global;
 use std::str::from_utf8;
@@ -64,6 +64,16 @@ pub fn range(value: &Value) -> Row<Range> {
     let start = position(item(value, 0)?)?;
     let end = position(item(value, 1)?)?;
     Ok(Range { start, end })
+}
+
+/// An encoding by its name in the protocol (LSP 3.17, PositionEncodingKind).
+pub fn encoding(value: &Value) -> Row<Encoding> {
+    match text(value)? {
+        "utf-8" => Ok(Encoding::Utf8),
+        "utf-16" => Ok(Encoding::Utf16),
+        "utf-32" => Ok(Encoding::Utf32),
+        _ => Err(RowFault::BadArgument),
+    }
 }
 
 /// Adds a text so many times.

@@ -9,6 +9,9 @@ use serde_json::{Value, json};
 use std::alloc::Global;
 
 pub fn answer(alloc: Global, call: &str, argument: &Value) -> Row<Value> {
+    if !matches!(call, "of" | "innermost" | "size") {
+        return Err(RowFault::NoCall);
+    }
     let bytes = made_bytes(alloc, argument)?;
     match read_all(alloc, made(&bytes)?) {
         Ok(data) => Ok(asked(alloc, call, data.as_slice())?),

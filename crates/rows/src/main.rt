@@ -8,8 +8,8 @@
 //! Arguments and answers are compact JSON, the keys of objects in byte order, but where this says otherwise. A TEXT (and a
 //! STREAM, a PIECE, a BODY) is a string, or a list of parts one behind another: strings, `{"repeat":[STRING,TIMES]}` and
 //! `{"bytes":[NUMBER,..]}`. A NAME, a URI or a VERSION is a plain string or number. POSITION is `[LINE,CHARACTER]`, RANGE
-//! `[POSITION,POSITION]`. A fault of reading is `{"at":[START,END],"fault":NUMBER}`, in bytes. Examples stand below their
-//! calls, the argument before `->` and the answer behind it.
+//! `[POSITION,POSITION]`, ENCODING "utf-8", "utf-16" or "utf-32". A fault of reading is `{"at":[START,END],"fault":NUMBER}`,
+//! in bytes. Examples stand below their calls, the argument before `->` and the answer behind it.
 //!
 //! Tokens: `[KIND,START,END]` and behind that the value where the kind has one: of a name its symbol and whether it stands
 //! in bars, of a numeral, a string and a character their text, of a boolean its value.
@@ -85,12 +85,12 @@
 //!     messages/reply REPLY        the body of a reply, as it stands
 //!         ["nothing",2]           -> {"id":2,"jsonrpc":"2.0","result":null}
 //!
-//! Positions in UTF-16 units.
+//! Positions, whose characters are counted in an encoding.
 //!
-//!     positions/offset [TEXT,POSITION]   the offset in bytes of a position
-//!         ["é!",[0,1]]            -> 2
-//!     positions/position [TEXT,OFFSET]   the position of an offset
-//!         ["é!",2]                -> [0,1]
+//!     positions/offset [TEXT,POSITION,ENCODING]   the offset in bytes of a position
+//!         ["é!",[0,1],"utf-16"]   -> 2
+//!     positions/position [TEXT,OFFSET,ENCODING]   the position of an offset
+//!         ["é!",2,"utf-32"]       -> [0,1]
 //!
 //! Open documents: one store, which each call finds as the rows before left it. A call that may be refused answers "ok",
 //! "not open", "bad range", "too long" or "too many".
@@ -99,8 +99,8 @@
 //!         null                    -> "ok"
 //!     store/add [URI,VERSION,TEXT]   opens a document
 //!         ["a",1,"x"]             -> "ok"
-//!     store/change [URI,VERSION,[[RANGE or null,STRING],..]]   changes a document
-//!         ["a",2,[[[[0,0],[0,1]],"y"]]]   -> "ok"
+//!     store/change [URI,VERSION,[[RANGE or null,STRING],..],ENCODING]   changes a document
+//!         ["a",2,[[[[0,0],[0,1]],"y"]],"utf-16"]   -> "ok"
 //!     store/text URI              its text, or null
 //!         "a"                     -> "y"
 //!     store/version URI           its version, or null

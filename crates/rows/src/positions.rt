@@ -1,5 +1,5 @@
 //! Rows of text_positions.
-use crate::argument::{item, made, made_bytes, number, position};
+use crate::argument::{encoding, item, made, made_bytes, number, position};
 use crate::fault::{Row, RowFault};
 use serde_json::{Value, json};
 use std::alloc::Global;
@@ -10,10 +10,11 @@ pub fn answer(alloc: Global, call: &str, argument: &Value) -> Row<Value> {
     let text = made(&bytes)?;
     let lines = Lines::of(alloc, text)?;
     let place = item(argument, 1)?;
+    let encoding = encoding(item(argument, 2)?)?;
     match call {
-        "offset" => Ok(Value::from(lines.offset(text, position(place)?))),
+        "offset" => Ok(Value::from(lines.offset(text, position(place)?, encoding))),
         "position" => {
-            let pos = lines.position(text, number(place)?);
+            let pos = lines.position(text, number(place)?, encoding);
             Ok(json!(in alloc; [pos.line, pos.character])?)
         }
         _ => Err(RowFault::NoCall),

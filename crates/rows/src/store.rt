@@ -1,5 +1,5 @@
 //! Rows of document_store, whose calls follow one another.
-use crate::argument::{integer, item, list, made, made_bytes, number, range, text};
+use crate::argument::{encoding, integer, item, list, made, made_bytes, number, range, text};
 use crate::fault::{Row, RowFault};
 use document_store::{Store, StoreFault};
 use ls_base::{Change, Text};
@@ -74,7 +74,7 @@ fn read_change(alloc: Global, value: &Value) -> Row<Change> {
     Ok(Change { range, text })
 }
 
-/// `[URI, VERSION, [CHANGE, ..]]`.
+/// `[URI, VERSION, [CHANGE, ..], ENCODING]`.
 fn change(alloc: Global, store: &mut Store, argument: &Value) -> Row<Value> {
     let uri = text(item(argument, 0)?)?;
     let version = integer(item(argument, 1)?)?;
@@ -82,6 +82,7 @@ fn change(alloc: Global, store: &mut Store, argument: &Value) -> Row<Value> {
     for value in list(item(argument, 2)?)? {
         changes.push(read_change(alloc, value)?)?;
     }
-    let changed = store.change(uri, version, &changes);
+    let encoding = encoding(item(argument, 3)?)?;
+    let changed = store.change(uri, version, &changes, encoding);
     Ok(outcome(alloc, changed)?)
 }

@@ -12,6 +12,7 @@ use crate::tokens::letter;
 use datum_reader::{read_all, seed};
 use ls_base::limits::MAX_TEXT;
 use scheme_model::Occ;
+use scheme_tokens::ReadFault;
 use serde_json::{Value, json};
 use std::alloc::Global;
 use syntax_tree::symbols::{Ident, Symbols};
@@ -39,13 +40,22 @@ impl From<PoolFault> for RowFault {
     }
 }
 
+impl From<ReadFault> for RowFault {
+    fn from(fault: ReadFault) -> Self {
+        match fault {
+            ReadFault::Memory => RowFault::Memory,
+            ReadFault::At { .. } => RowFault::NotShown,
+        }
+    }
+}
+
 /// The tree of the last datum of a text, as this form of this unit.
 fn plant(alloc: Global, work: &mut Work, text: &str, unit: u32, form: u32) -> Row<Tree>
     requires { length text.now ≤ MAX_TEXT }
     ensures { IfOk result (IsStanding work.new) }
 {
     let region = work.open_region()?;
-    let data = read_all(alloc, text).ok().ok_or(RowFault::NotShown)?;
+    let data = read_all(alloc, text)?;
     match data.as_slice().last() {
         Some(datum) => Ok(seed(alloc, work, &region, datum, unit, form)?),
         None => Err(RowFault::NotShown),

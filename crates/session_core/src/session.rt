@@ -240,6 +240,3 @@ impl Session {
         }
     }
 }
-
-#[cfg(test)]
-mod tests;

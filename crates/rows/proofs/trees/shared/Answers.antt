@@ -1,4 +1,4 @@
--- The trees of the test, and that the numbers stand for them.
+-- The trees that are made, and that the numbers stand for them.
 use Rattle.std.proofs.Common.{◌≡◌, ◌≤◌, List, [], ◌∷◌, Some, None, refl, sym, subst, arith}
 use Rattle.scheme_model.specs.Trees.{Character, Tree, atom, list, vector, Trees, no_trees, tree, dotted}
 use Rattle.syntax_tree.specs.Identifiers.{Identifier}
@@ -7,7 +7,7 @@ use Rattle.syntax_tree.specs.Kept.{numbers}
 use Rattle.syntax_tree.specs.Works.{StandsFor}
 use Rattle.syntax_tree.specs.declared.trees.Work.{Work}
 use Rattle.syntax_tree.specs.declared.trees.nodes.Tree as code
-use Rattle.syntax_tree.proofs.trees.tests.trees_are_measured.Goals as goal
+use Rattle.rows.proofs.trees.shared.Goals as goal
 
 abbrev letter : Tree Identifier
 letter = atom (Character 120) None
@@ -36,51 +36,51 @@ vector_node work items n e s =
     (tree dotted_list no_trees, refl, all)
 
 pub add-requires-clause-small : goal.add-requires-clause-small
-add-requires-clause-small g c = (letter, refl, omega arith, omega arith)
+add-requires-clause-small c = (letter, refl, omega arith, omega arith)
 
 pub size-requires : goal.size-requires
-size-requires g c = (letter, c.in_ok-letter.ensures.tree letter refl)
+size-requires c = (letter, c.in_ok-letter.ensures.tree letter refl)
 
 pub depth-requires : goal.depth-requires
-depth-requires g c = (letter, c.in_ok-letter.ensures.tree letter refl)
+depth-requires c = (letter, c.in_ok-letter.ensures.tree letter refl)
 
 pub add-requires-2-clause-region : goal.add-requires-2-clause-region
-add-requires-2-clause-region g c = c.in_ok-letter.ensures.keeps.regions c.in_ok-region.region c.in_ok-region.ensures.opened
+add-requires-2-clause-region c = c.in_ok-letter.ensures.keeps.regions c.in_ok-region.region c.in_ok-region.ensures.opened
 
 pub add-requires-2-clause-small : goal.add-requires-2-clause-small
-add-requires-2-clause-small g c =
+add-requires-2-clause-small c =
     let node = list_node c.add.new.self c.in_ok-items.items.items c.in_ok-letter.letter c.in_ok-items.ensures.items (c.in_ok-letter.ensures.tree letter refl) in
     (dotted_list, node, omega arith, omega arith)
 
 pub size-requires-2 : goal.size-requires-2
-size-requires-2 g c =
+size-requires-2 c =
     (dotted_list, c.in_ok-list.ensures.tree dotted_list (list_node c.add.new.self c.in_ok-items.items.items c.in_ok-letter.letter c.in_ok-items.ensures.items (c.in_ok-letter.ensures.tree letter refl)))
 
 pub depth-requires-2 : goal.depth-requires-2
-depth-requires-2 g c =
+depth-requires-2 c =
     (dotted_list, c.in_ok-list.ensures.tree dotted_list (list_node c.add.new.self c.in_ok-items.items.items c.in_ok-letter.letter c.in_ok-items.ensures.items (c.in_ok-letter.ensures.tree letter refl)))
 
 pub add-requires-3-clause-region : goal.add-requires-3-clause-region
-add-requires-3-clause-region g c =
+add-requires-3-clause-region c =
     c.in_ok-list.ensures.keeps.regions c.in_ok-region.region (c.in_ok-letter.ensures.keeps.regions c.in_ok-region.region c.in_ok-region.ensures.opened)
 
 pub add-requires-3-clause-small : goal.add-requires-3-clause-small
-add-requires-3-clause-small g c =
+add-requires-3-clause-small c =
     let below = list_node c.add.new.self c.in_ok-items.items.items c.in_ok-letter.letter c.in_ok-items.ensures.items (c.in_ok-letter.ensures.tree letter refl) in
     let node = vector_node c.add-2.new.self c.in_ok-items-2.items.items c.in_ok-list.list c.in_ok-items-2.ensures.items (c.in_ok-list.ensures.tree dotted_list below) in
     (outer, node, omega arith, omega arith)
 
 pub size-requires-3 : goal.size-requires-3
-size-requires-3 g c =
+size-requires-3 c =
     let below = list_node c.add.new.self c.in_ok-items.items.items c.in_ok-letter.letter c.in_ok-items.ensures.items (c.in_ok-letter.ensures.tree letter refl) in
     (outer, c.in_ok-vector.ensures.tree outer (vector_node c.add-2.new.self c.in_ok-items-2.items.items c.in_ok-list.list c.in_ok-items-2.ensures.items (c.in_ok-list.ensures.tree dotted_list below)))
 
 pub depth-requires-3 : goal.depth-requires-3
-depth-requires-3 g c =
+depth-requires-3 c =
     let below = list_node c.add.new.self c.in_ok-items.items.items c.in_ok-letter.letter c.in_ok-items.ensures.items (c.in_ok-letter.ensures.tree letter refl) in
     (outer, c.in_ok-vector.ensures.tree outer (vector_node c.add-2.new.self c.in_ok-items-2.items.items c.in_ok-list.list c.in_ok-items-2.ensures.items (c.in_ok-list.ensures.tree dotted_list below)))
 
-pub node-requires : goal.node-requires
-node-requires g c =
+pub is_only_part-requires : goal.is_only_part-requires
+is_only_part-requires c =
     let below = list_node c.add.new.self c.in_ok-items.items.items c.in_ok-letter.letter c.in_ok-items.ensures.items (c.in_ok-letter.ensures.tree letter refl) in
     (outer, c.in_ok-vector.ensures.tree outer (vector_node c.add-2.new.self c.in_ok-items-2.items.items c.in_ok-list.list c.in_ok-items-2.ensures.items (c.in_ok-list.ensures.tree dotted_list below)))
