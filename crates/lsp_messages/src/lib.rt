@@ -2,6 +2,7 @@
 //! It reads and writes JSON through `serde_json`'s `Value` alone, and knows no session and no Scheme.
 #![tactic(auto)]
 
+mod encodings;
 mod fault;
 mod fields;
 mod json;

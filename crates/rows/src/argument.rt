@@ -1,5 +1,5 @@
 //! Readers of arguments.
-ghost use Rattle.std.specs.Prelude.{◌<◌, ◌^◌, IfOk, vec_len};
+ghost use Rattle.std.specs.Prelude.{◌≡◌, ◌<◌, ◌^◌, IfOk, vec_len};
 
 use crate::fault::{Row, RowFault};
 use ls_base::{Encoding, Pos, Range};
@@ -129,6 +129,8 @@ pub fn made_bytes(alloc: Global, value: &Value) -> Row<Vec<u8>>
 }
 
 /// A text of such bytes.
-pub fn made(bytes: &[u8]) -> Row<&str> {
+pub fn made(bytes: &[u8]) -> Row<&str>
+    ensures { IfOk result (λ text. text.now ≡ bytes.now) }
+{
     Ok(from_utf8(bytes)?)
 }

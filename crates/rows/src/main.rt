@@ -69,7 +69,7 @@
 //!     frames/around BODY          the frame round a body
 //!         "{}"                    -> "Content-Length: 2\r\n\r\n{}"
 //!
-//! Messages. The ARGUMENT of `messages/read` is the body itself, as it stands. A reply is `["capabilities",ID,PREPARE]`,
+//! Messages. The ARGUMENT of `messages/read` is the body itself, as it stands. A reply is `["capabilities",ID,PREPARE,ENCODING]`,
 //! `["error",ID or null,CODE,STRING]`, `["log",STRING]`, `["publish",URI,VERSION or null,[[RANGE,CODE,SEVERITY,STRING],..]]`, or
 //! a result: `["nothing",ID]`, `["places",ID,[PLACE,..]]`, `["highlights",ID,[[RANGE,KIND],..]]`, `["prepared",ID,RANGE,STRING]`,
 //! `["arrows",ID,[[PLACE,PLACE,NAME],..]]`, `["edits",ID,[[URI,[[RANGE,STRING],..]],..]]`, where PLACE is `[URI,RANGE]`.

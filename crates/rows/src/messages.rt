@@ -2,7 +2,7 @@
 use crate::argument::{json, made_bytes};
 use crate::fault::{Row, RowFault};
 use crate::replies::reply;
-use ls_base::{Change, Pos, Query, Range};
+use ls_base::{Change, Encoding, Pos, Query, Range};
 use lsp_messages::{At, Call, Id, Message, Note, Reject, read_message, reply_bytes};
 use serde_json::{Value, json};
 use std::alloc::Global;
@@ -67,8 +67,10 @@ fn shown_id(alloc: Global, id: &Id) -> Row<Value> {
 fn shown_call(alloc: Global, id: &Id, call: &Call) -> Row<Value> {
     let id = shown_id(alloc, id)?;
     match call {
-        Call::Initialize { prepare } => {
-            Ok(json!(in alloc; ["request", id, "initialize", {"prepare": *prepare}])?)
+        Call::Initialize { prepare, encoding } => {
+            let stated =
+                json!(in alloc; {"encoding": encoding_name(*encoding), "prepare": *prepare})?;
+            Ok(json!(in alloc; ["request", id, "initialize", stated])?)
         }
         Call::Shutdown => Ok(json!(in alloc; ["request", id, "shutdown"])?),
         Call::Ask { at, query } => {
@@ -80,6 +82,15 @@ fn shown_call(alloc: Global, id: &Id, call: &Call) -> Row<Value> {
             let at = shown_at(alloc, at)?;
             Ok(json!(in alloc; ["request", id, "rename", at, new_name.as_str()])?)
         }
+    }
+}
+
+/// An encoding by its name in the protocol.
+fn encoding_name(encoding: Encoding) -> &'static str {
+    match encoding {
+        Encoding::Utf8 => "utf-8",
+        Encoding::Utf16 => "utf-16",
+        Encoding::Utf32 => "utf-32",
     }
 }
 

@@ -1,5 +1,5 @@
 //! Replies, as rows of lsp_messages give them.
-use crate::argument::{integer, item, list, number, range, small, text};
+use crate::argument::{encoding, flag, integer, item, list, number, range, small, text};
 use crate::fault::{Row, RowFault};
 use ls_base::{Answer, Arrow, Diagnostic, DocEdits, Highlight, Items, Place, Text, TextEdit};
 use lsp_messages::{Id, Reply};
@@ -12,7 +12,8 @@ pub fn reply(alloc: Global, argument: &Value) -> Row<Reply> {
     match kind {
         "capabilities" => Ok(Reply::Capabilities {
             id: id(alloc, item(argument, 1)?)?,
-            prepare: crate::argument::flag(item(argument, 2)?)?,
+            prepare: flag(item(argument, 2)?)?,
+            encoding: encoding(item(argument, 3)?)?,
         }),
         "error" => Ok(error(alloc, argument)?),
         "publish" => Ok(publish(alloc, argument)?),
@@ -58,11 +59,16 @@ fn publish(alloc: Global, argument: &Value) -> Row<Reply> {
         Value::Null => None,
         _ => Some(integer(given)?),
     };
-    let mut list = Items::new(alloc);
-    for value in crate::argument::list(item(argument, 3)?)? {
-        list.push(diagnostic(alloc, value)?)?;
-    }
+    let list = diagnostics(alloc, item(argument, 3)?)?;
     Ok(Reply::Publish { uri, version, list })
+}
+
+fn diagnostics(alloc: Global, values: &Value) -> Row<Items<Diagnostic>> {
+    let mut diagnostics = Items::new(alloc);
+    for value in list(values)? {
+        diagnostics.push(diagnostic(alloc, value)?)?;
+    }
+    Ok(diagnostics)
 }
 
 fn diagnostic(alloc: Global, value: &Value) -> Row<Diagnostic> {

@@ -30,13 +30,13 @@ noticed_code A offset state (model.BadParams method) = tt
 noticed_code A offset state model.Other = tt
 
 called_fresh_code : (A : Type 0) (state : State) (id : model.Id) (call : model.Call) → HasCode (model.called_fresh {A = A} state id call).end
-called_fresh_code A state id (model.Initialize prepare) = tt
+called_fresh_code A state id (model.Initialize prepare encoding) = tt
 called_fresh_code A state id model.Shutdown = tt
 called_fresh_code A state id (model.Ask uri position query) = tt
 called_fresh_code A state id (model.Rename uri position new_name) = tt
 
 called_code : {A : Type 0} (answers : Answers A) (state : State) (id : model.Id) (call : model.Call) → HasCode (model.called answers state id call).end
-called_code answers state id (model.Initialize prepare) = tt
+called_code answers state id (model.Initialize prepare encoding) = tt
 called_code answers state id model.Shutdown = tt
 called_code answers state id (model.Ask uri position query) = tt
 called_code answers state id (model.Rename uri position new_name) = tt
