@@ -143,6 +143,3 @@ fn seed_tail(
         Some(datum) => Ok(Some(seed_datum(alloc, work, region, datum, start)?)),
     }
 }
-
-#[cfg(test)]
-mod tests;

@@ -16,6 +16,3 @@ pub use message::{At, Call, Id, Message, Note, Reject};
 pub use reading::read_message;
 pub use reply::Reply;
 pub use writing::reply_bytes;
-
-#[cfg(test)]
-mod tests;

@@ -245,6 +245,3 @@ impl Session {
         }
     }
 }
-
-#[cfg(test)]
-mod tests;

@@ -146,6 +146,3 @@ impl Symbols {
         }
     }
 }
-
-#[cfg(test)]
-mod tests;

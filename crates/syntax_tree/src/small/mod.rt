@@ -99,6 +99,3 @@ fn walked_arrows(alloc: Global, text: &str) -> Result<Items<Arrow>, SmallFault>
     let arrows = arrows(alloc, text, &tokens, &links)?;
     Ok(Items::from_vec(arrows))
 }
-
-#[cfg(test)]
-mod tests;

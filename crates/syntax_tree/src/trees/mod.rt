@@ -95,6 +95,3 @@ impl Work {
         self.trees.depth(tree)
     }
 }
-
-#[cfg(test)]
-mod tests;
