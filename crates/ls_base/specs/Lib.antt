@@ -1,2 +1,3 @@
 pub mod Frames
 pub mod Positions
+pub mod Limits
