@@ -49,3 +49,4 @@ pub mod Program
 pub mod Live
 pub mod ProgramArrows
 pub mod Diagnostics
+pub mod Spelling
