@@ -672,4 +672,27 @@ offsets encoding text position = position.character
         return f"edits offsets x.Utf16 ({terms.many(map(change, row['changes']))}) {terms.utf8(row['before'])} ≡ {told}", "refl"
 
 
-KINDS = [Written(), Trees(), Cores(), Workspaces(), Arrows(), Diagnostics(), SmallArrows(), Positions(), Changes()]
+class Classes(Arrows):
+    """Documents with the class of an occurrence."""
+
+    module = "ClassRows"
+    says = "Open documents, and the occurrences that are spelled together with one of them, each with its prefix."
+    head = Arrows.head.replace("{ArrowRow, arrow_rows, diagnostic_rows}", "{PartRow, class_rows}").replace("{Span, Bytes, Diagnostic}", "{Span, Bytes}")
+    head = head[:head.index("abbrev a :")] + """abbrev a : Bytes → List ℕ → PartRow
+a place prefix = record { place = place; prefixes = prefix ∷ [] }
+
+abbrev o : ℕ → ℕ → ℕ → Occ
+o unit form token = record { unit = unit; form = form; token = token }
+"""
+
+    def fits(self, row):
+        return "class" in row
+
+    def lemma(self, row):
+        data, spans = document_terms(row)
+        uris = [uri for uri, _, _ in documents(row)]
+        told = terms.many(f"a (b {uris.index(uri)} {start} {end}) {terms.utf8(prefix) if prefix else '[]'}" for uri, start, end, prefix in row["class"])
+        return f"class_rows {spans} {data} (o {' '.join(map(str, row['at']))}) ≡ ({told})", "refl"
+
+
+KINDS = [Written(), Trees(), Cores(), Workspaces(), Arrows(), Diagnostics(), SmallArrows(), Positions(), Changes(), Classes()]

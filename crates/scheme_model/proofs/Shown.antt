@@ -17,6 +17,7 @@ use Rattle.scheme_model.specs.UnitExpansion.{Formed, unit}
 use Rattle.scheme_model.specs.Declarations.{UnitForm}
 use Rattle.scheme_model.specs.Program.{Document, Placed, UnitResult, WholeFault, TooMany, BadDeclaration, DefinedTwice, ImportCycle, TooLarge, Program, program_of, units_of}
 use Rattle.scheme_model.specs.ProgramArrows.{Arrow, arrows_of}
+use Rattle.scheme_model.specs.Spelling.{Link, links_of, class_of, prefixes_of}
 use Rattle.scheme_model.specs.Diagnostics.{Span, Bytes, bytes_of, Diagnostic, diagnostics_of}
 use Rattle.scheme_model.specs.Expression.{no_rules}
 
@@ -226,3 +227,23 @@ arrow_rows spans ds = let p = program_of ds in
 
 abbrev pub diagnostic_rows : List (List Span) → List Document → List Diagnostic
 diagnostic_rows spans ds = diagnostics_of spans (program_of ds)
+
+-- a member of a class, with its prefixes
+pub record PartRow : Type 0 where
+  pub place : Bytes
+  pub prefixes : List (List ℕ)
+
+abbrev put_part : PartRow → List PartRow → List PartRow
+put_part a [] = a ∷ []
+put_part a (b ∷ bs) = if before_bytes a.place b.place then a ∷ b ∷ bs else b ∷ put_part a bs
+
+abbrev sort_parts : List PartRow → List PartRow
+sort_parts [] = []
+sort_parts (a ∷ bs) = put_part a (sort_parts bs)
+
+abbrev parts_with : List (List Span) → List UnitResult → List Link → List Occ → List PartRow
+parts_with spans rs ls ms = sort_parts (map (λ o. record { place = bytes_of spans rs o; prefixes = prefixes_of ls o [] }) ms)
+
+-- the class of an occurrence
+abbrev pub class_rows : List (List Span) → List Document → Occ → List PartRow
+class_rows spans ds o = let p = program_of ds in let ls = links_of (units_of ds) p in parts_with spans p.units ls (class_of ls o)

@@ -6,3 +6,4 @@ pub mod ArrowRows
 pub mod DiagnosticRows
 pub mod SmallArrowRows
 pub mod ChangeRows
+pub mod ClassRows
