@@ -5,7 +5,7 @@ use Rattle.std.specs.Prelude.{Vec, IsErrAnd}
 use Rattle.std.specs.declared.alloc.Global.{Global}
 use Rattle.syntax_tree.specs.Identifiers.{Identifier}
 use Rattle.syntax_tree.specs.Names.{Names, KeepsNames}
-use Rattle.syntax_tree.specs.Measures.{tree_size, trees_size}
+use Rattle.scheme_model.specs.Measures.{tree_size, trees_size}
 use Rattle.syntax_tree.specs.Standing.{AllStand}
 use Rattle.syntax_tree.specs.Works.{StandsFor, IsNodeOf, KeepsTrees, live_count, with_names}
 use Rattle.syntax_tree.specs.declared.trees.nodes.Node.{Node}

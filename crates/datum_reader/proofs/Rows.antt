@@ -4,7 +4,7 @@ use Rattle.std.proofs.lemmas.List.{take_more, map-append}
 use Rattle.scheme_model.specs.Trees.{Tree, Trees}
 use Rattle.syntax_tree.specs.Identifiers.{Identifier}
 use Rattle.syntax_tree.specs.Names.{Names}
-use Rattle.syntax_tree.specs.Measures.{tree_size, trees_size}
+use Rattle.scheme_model.specs.Measures.{tree_size, trees_size}
 use Rattle.syntax_tree.specs.Standing.{Shape, Stands, AllStand}
 use Rattle.syntax_tree.specs.Kept.{numbers}
 use Rattle.syntax_tree.specs.Works.{StandsFor}

@@ -6,7 +6,7 @@ use Rattle.std.specs.Option.{option_map}
 use Rattle.scheme_model.specs.Trees.{Tree, Trees, no_trees, tree, Tail, proper, dotted, placed_in}
 use Rattle.syntax_tree.specs.Identifiers.{Identifier}
 use Rattle.syntax_tree.specs.Names.{Names, KeepsNames}
-use Rattle.syntax_tree.specs.Measures.{tree_size, trees_size, tail_size}
+use Rattle.scheme_model.specs.Measures.{tree_size, trees_size, tail_size}
 use Rattle.syntax_tree.specs.Standing.{Shape, AllStand, TailStands, IsNode}
 use Rattle.syntax_tree.specs.Kept.{numbers, shape_of}
 use Rattle.syntax_tree.specs.Works.{StandsFor, KeepsTrees, live_count}

@@ -2,7 +2,7 @@
 ghost use Rattle.std.specs.Prelude.{◌≡◌, ◌+◌, ◌^◌, ◌<◌, ◌≤◌, All, IfOk, Err};
 ghost use Rattle.scheme_model.specs.Trees.{placed_in};
 ghost use Rattle.syntax_tree.specs.Names.{KeepsNames};
-ghost use Rattle.syntax_tree.specs.Measures.{tree_size};
+ghost use Rattle.scheme_model.specs.Measures.{tree_size};
 ghost use Rattle.syntax_tree.specs.Works.{StandsFor, IsOpened, KeepsTrees, live_count};
 ghost use Rattle.datum_reader.specs.Right.{WasRead};
 ghost use Rattle.datum_reader.specs.Seeded.{seeded};

@@ -23,3 +23,4 @@ pub mod SmallTokens
 pub mod SmallReading
 pub mod SmallTrees
 pub mod SmallArrows
+pub mod Measures

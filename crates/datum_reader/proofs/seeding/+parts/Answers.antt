@@ -1,5 +1,5 @@
 use Rattle.std.proofs.Common.{◌+◌, ◌<◌, Err, length, rules, arith, sym, ap, subst}
-use Rattle.syntax_tree.specs.Measures.{tree_size, trees_size, tail_size}
+use Rattle.scheme_model.specs.Measures.{tree_size, trees_size, tail_size}
 use Rattle.syntax_tree.specs.Works.{with_names}
 use Rattle.syntax_tree.specs.Kept.{numbers}
 use Rattle.syntax_tree.specs.declared.trees.faults.PoolFault.TheVariants as fault

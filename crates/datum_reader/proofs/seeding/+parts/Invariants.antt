@@ -1,5 +1,5 @@
 use Rattle.std.proofs.Common.{take}
-use Rattle.syntax_tree.specs.Measures.{trees_size}
+use Rattle.scheme_model.specs.Measures.{trees_size}
 use Rattle.syntax_tree.specs.Standing.{AllStand}
 use Rattle.syntax_tree.specs.Kept.{numbers}
 use Rattle.datum_reader.specs.Seeding.{parts_trees, Grows}
