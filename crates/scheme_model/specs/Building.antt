@@ -2,7 +2,8 @@
 use Rattle.std.specs.Prelude.{ℕ, zero, suc, ◌+◌, ◌==◌, nat_le, List, [], ◌∷◌, ◌++◌, Bool, true, false, ◌||◌, ◌&&◌, Option, Some, None, Result, Ok, Err, if◌then◌else◌}
 use Rattle.scheme_model.specs.declared.Occ.{Occ}
 use Rattle.scheme_model.specs.Trees.{Tree, name, atom, list, vector, Trees, no_trees, tree, Tail, proper, dotted}
-use Rattle.scheme_model.specs.TreeParts.{append, size, depth}
+use Rattle.scheme_model.specs.TreeParts.{append}
+use Rattle.scheme_model.specs.Measures.{tree_size, tree_depth}
 use Rattle.scheme_model.specs.ExpansionFaults.{Fault, EllipsisLength, NodeBudget, DepthBudget, ◌>>◌}
 use Rattle.scheme_model.specs.RulesShape.{Names, Rules, dots_of, is_dots, leading, nowhere}
 use Rattle.scheme_model.specs.Matching.{Value, One, Many, Values, no_values, value, Binding, ◌>>=◌, chosen}
@@ -171,7 +172,7 @@ max_depth = 1000
 
 abbrev pub within : {A B : Type 0} → ℕ → Built (Tree B) → Result (Built (Tree B)) (Fault A)
 within left b =
-    if nat_le b.count left && nat_le (size b.value) max_nodes then (if nat_le (depth b.value) max_depth then Ok b else Err DepthBudget)
+    if nat_le b.count left && nat_le (tree_size b.value) max_nodes then (if nat_le (tree_depth b.value) max_depth then Ok b else Err DepthBudget)
     else Err NodeBudget
 
 abbrev pub or_lengths : {A X : Type 0} → Option X → Result X (Fault A)

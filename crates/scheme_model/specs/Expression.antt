@@ -6,7 +6,7 @@ use Rattle.scheme_model.specs.Identifiers.{Number}
 use Rattle.scheme_model.specs.Ident.{Ident}
 use Rattle.scheme_model.specs.Keywords.{CoreKeyword, IsQuote, IsQuasiquote, IsLambda, IsCaseLambda, IsIf, IsSet, IsBegin, IsDefine, IsDefineValues, IsDefineRecordType, IsDefineSyntax, IsLetSyntax, IsLetrecSyntax, IsCondExpand, IsSyntaxError, IsInclude, Auxiliary, IsSyntaxRules, IsUnquote, IsUnquoteSplicing, IsOther}
 use Rattle.scheme_model.specs.Trees.{Tree, name, atom, list, vector, Trees, no_trees, tree, Tail, proper, dotted, map_tree}
-use Rattle.scheme_model.specs.TreeParts.{size}
+use Rattle.scheme_model.specs.Measures.{tree_size}
 use Rattle.scheme_model.specs.ExpansionFaults.{Named, named, BadForm, BadPlace, KeywordAsValue, DepthBudget, SyntaxError, IncludeRefused, OutOfTurns, ◌>>◌}
 use Rattle.scheme_model.specs.Meaning.{Meaning, Local, Global, Head, IsCore, IsAuxiliary, IsMacro, IsNone, is_keyword}
 use Rattle.scheme_model.specs.Shapes.{Formals, Clause, lambda_of, case_lambda_of, if_of, named_tree_of, some_of, one_of, error_text_of, definition_of, values_of, LocalMacros, local_macros_of}
@@ -205,7 +205,7 @@ quasi f ops depth here e p s =
     node ops here (1 + outside p.datum) depth (λ below t. each_of (λ u. f below here e (whole u)) p.holes t >>= λ cs. done (Quasi (map_tree (symbol_or_hole ops.names.strip) p.datum) cs)) s
 
 abbrev pub quote : {E A L S : Type 0} → Ops E A L S → ℕ → Here → Tree A → Step S Core
-quote ops depth here t s = node ops here (1 + size t) depth (λ below. done (Quote (map_tree ops.names.strip t))) s
+quote ops depth here t s = node ops here (1 + tree_size t) depth (λ below. done (Quote (map_tree ops.names.strip t))) s
 
 -- a variable that is assigned isn't a keyword
 abbrev pub unless_keyword : {E A L S B : Type 0} → Ops E A L S → Here → Head → Named A → Step S B → Step S B

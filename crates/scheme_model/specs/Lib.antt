@@ -23,6 +23,7 @@ pub mod SmallTokens
 pub mod SmallReading
 pub mod SmallTrees
 pub mod SmallArrows
+pub mod Measures
 pub mod TreeParts
 pub mod Ident
 pub mod Keywords

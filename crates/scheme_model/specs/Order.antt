@@ -6,7 +6,8 @@ use Rattle.scheme_model.specs.Identifiers.{Number}
 use Rattle.scheme_model.specs.Ident.{Ident, Written, Inserted}
 use Rattle.scheme_model.specs.Keywords.{CoreKeyword, IsQuote, IsQuasiquote, IsLambda, IsCaseLambda, IsIf, IsSet, IsBegin, IsDefine, IsDefineValues, IsDefineRecordType, IsDefineSyntax, IsLetSyntax, IsLetrecSyntax, IsCondExpand, IsSyntaxError, IsInclude, Auxiliary, IsSyntaxRules, IsUnquote, IsUnquoteSplicing, IsOther}
 use Rattle.scheme_model.specs.Trees.{Tree, name, atom, list, vector, Trees, no_trees, tree, Tail, proper, dotted}
-use Rattle.scheme_model.specs.TreeParts.{size, occ_of}
+use Rattle.scheme_model.specs.TreeParts.{occ_of}
+use Rattle.scheme_model.specs.Measures.{tree_size}
 use Rattle.scheme_model.specs.ExpansionFaults.{Named, named, named_map, Fault, fault_map, NoRule, BadForm, UseBudget, NodeBudget, OutOfTurns}
 use Rattle.scheme_model.specs.Meaning.{Meaning, same_meaning, Head, IsCore, IsAuxiliary, IsMacro, IsNone, is_keyword, head_as}
 use Rattle.scheme_model.specs.Shapes.{Formals, Clause, DefinitionShape, Variable, Procedure, definition_of, values_of, FieldShape, RecordShape, record_of, named_tree_of, proper_of, list_of}
@@ -345,7 +346,7 @@ rules_note ops e s (Some r) = LookedUp (ops.place e r.head) false (is_keyword (h
 
 -- rules are counted before they are checked
 abbrev pub rules_at : {E A L S : Type 0} → Ops E A L S → Here → Tree A → RulesParts A → Step S (Rules A)
-rules_at ops here t r s = counting ops here (size t) s >>= λ u. given ops.plain here (rules_of ops.names r.parts r.tail)
+rules_at ops here t r s = counting ops here (tree_size t) s >>= λ u. given ops.plain here (rules_of ops.names r.parts r.tail)
 
 abbrev pub run_syntax : {E A L S : Type 0} → Ops E A L S → Going A L S → Here → E → Pending A L → Named A × Tree A → S → Pass A L × S
 run_syntax ops go here e p d s = defined_by ops go here e d s (noted (rules_note ops e s (rules_parts_of d.1)) p)

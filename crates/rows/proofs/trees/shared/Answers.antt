@@ -1,8 +1,10 @@
 -- The trees that are made, and that the numbers stand for them.
-use Rattle.std.proofs.Common.{◌≡◌, ◌≤◌, List, [], ◌∷◌, Some, None, refl, sym, subst, arith}
+use Rattle.std.proofs.Common.{◌≡◌, ℕ, ◌≤◌, List, [], ◌∷◌, Some, None, refl, sym, subst, arith}
 use Rattle.scheme_model.specs.Trees.{Character, Tree, atom, list, vector, Trees, no_trees, tree, dotted}
 use Rattle.syntax_tree.specs.Identifiers.{Identifier}
-use Rattle.syntax_tree.specs.Standing.{list_shape, vector_shape, AllStand, IsNode}
+use Rattle.syntax_tree.specs.Nodes.{list_shape, vector_shape, region_at}
+use Rattle.syntax_tree.specs.Regions.{MayName, MayNameParts, itself}
+use Rattle.syntax_tree.specs.Standing.{AllStand, IsNode}
 use Rattle.syntax_tree.specs.Kept.{numbers}
 use Rattle.syntax_tree.specs.Works.{StandsFor}
 use Rattle.syntax_tree.specs.declared.trees.Work.{Work}
@@ -34,6 +36,28 @@ vector_node work items n e s =
     let all : AllStand work.trees.nodes work.symbols (tree dotted_list no_trees) (numbers items) =
     subst (λ (l : List code.Tree). AllStand work.trees.nodes work.symbols (tree dotted_list no_trees) (numbers l)) (sym e) (s, tt) in
     (tree dotted_list no_trees, refl, all)
+
+-- the nodes of a region may name what lies in it, and still after others were added
+named : (work : Work) (r : ℕ) (n : code.Tree) → region_at work.trees.nodes n.number ≡ Some r → MayName work.trees.nodes work.trees.regions r n.number
+named work r n h = (r, h, itself)
+
+list_named : (work : Work) (r : ℕ) (items : List code.Tree) (n : code.Tree) → items ≡ n ∷ n ∷ [] → region_at work.trees.nodes n.number ≡ Some r →
+    MayNameParts work.trees.nodes work.trees.regions r (list_shape (numbers items) (Some n.number) None)
+list_named work r items n e h =
+    let one = named work r n h in
+    subst (λ (l : List code.Tree). MayNameParts work.trees.nodes work.trees.regions r (list_shape (numbers l) (Some n.number) None)) (sym e) (one, (one, (one, tt)))
+
+vector_named : (work : Work) (r : ℕ) (items : List code.Tree) (n : code.Tree) → items ≡ n ∷ [] → region_at work.trees.nodes n.number ≡ Some r →
+    MayNameParts work.trees.nodes work.trees.regions r (vector_shape (numbers items) None)
+vector_named work r items n e h = subst (λ (l : List code.Tree). MayNameParts work.trees.nodes work.trees.regions r (vector_shape (numbers l) None)) (sym e) (named work r n h, tt)
+
+pub add-requires-2-clause-names : goal.add-requires-2-clause-names
+add-requires-2-clause-names c =
+    list_named c.add.new.self c.in_ok-region.region.number c.in_ok-items.items.items c.in_ok-letter.letter c.in_ok-items.ensures.items c.in_ok-letter.ensures.region
+
+pub add-requires-3-clause-names : goal.add-requires-3-clause-names
+add-requires-3-clause-names c =
+    vector_named c.add-2.new.self c.in_ok-region.region.number c.in_ok-items-2.items.items c.in_ok-list.list c.in_ok-items-2.ensures.items c.in_ok-list.ensures.region
 
 pub add-requires-clause-small : goal.add-requires-clause-small
 add-requires-clause-small c = (letter, refl, omega arith, omega arith)
