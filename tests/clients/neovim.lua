@@ -29,6 +29,11 @@ if not vim.wait(10000, function() return client.initialized end, 10) then
   fail('the server did not answer initialize')
 end
 
+-- Positions count in the first encoding that Neovim offers, or in utf-16 where it offers none.
+local general = vim.lsp.protocol.make_client_capabilities().general or {}
+local offered = general.positionEncodings or { 'utf-16' }
+expect('the agreed encoding', client.server_capabilities.positionEncoding, offered[1])
+
 -- The lines and characters of the starts of each arrow's ends.
 local function arrows()
   local params = { textDocument = { uri = vim.uri_from_bufnr(buffer) } }
@@ -45,6 +50,14 @@ local function arrows()
 end
 
 expect('arrows of the opened document', arrows(), { { 0, 8, 0, 13 } })
+
+-- Behind wide characters the columns differ by the encoding; Neovim's own count bytes.
+vim.api.nvim_buf_set_text(buffer, 0, 12, 0, 12, { ' "é😀"' })
+vim.wait(500)
+expect('arrows of a document with wide characters', arrows(), {})
+vim.api.nvim_buf_set_text(buffer, 0, 12, 0, 21, { '' })
+vim.wait(500)
+expect('arrows without them again', arrows(), { { 0, 8, 0, 13 } })
 
 vim.api.nvim_buf_set_text(buffer, 0, 13, 0, 14, { '(lambda (y)', ' (x y))' })
 vim.wait(500)

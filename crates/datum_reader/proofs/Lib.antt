@@ -21,3 +21,5 @@ pub mod LeafLaws
 pub mod Joining
 pub mod Rows
 pub mod SeedLaws
+pub mod FormLaws
+pub mod Preparing

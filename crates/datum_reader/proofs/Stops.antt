@@ -229,8 +229,18 @@ one_stop text e f h k =
     let o = text_once text s.0 t.0 s.1 t.1 s.2 t.2 in
     same_fault e f (read s.0 s.1) s.3 ((λ i. read (o.0 i) (o.1 i)) ∙ t.3)
 
-pub reads_or_stops : (text : List ℕ) (ds : List Datum) (e : Stop) → IsReading text ds → ¬ StopsAt text e
-reads_or_stops text ds e h k =
+pub never_reads_and_stops : (text : List ℕ) (ds : List Datum) (e : Stop) → IsReading text ds → ¬ StopsAt text e
+never_reads_and_stops text ds e h k =
     let s = stop_read text e k in
     let o = text_once text h.tokens s.0 None s.1 h.spelled s.2 in
     never_ok e ds (read h.tokens None) ((λ i. read (o.0 i) (o.1 i)) ∙ s.3) (reading_reads text ds h)
+
+-- a text that has tokens is data, or it stops
+pub reads_or_stops : (text : List ℕ) (ts : List Token) (end : Option Stop) → TextReads text ts end → ((ds : List Datum) × IsReading text ds) ⊎ ((e : Stop) × StopsAt text e)
+reads_or_stops text ts end reads = answered (read ts end) refl
+  where
+    answered : (r : Result (List Datum) Stop) → read ts end ≡ r → ((ds : List Datum) × IsReading text ds) ⊎ ((e : Stop) × StopsAt text e)
+    answered (Ok ds) h =
+        let whole = ends_ok end (after_all (Ok (state [] [])) (number_from 0 ts)) ds h in
+        inl (ds, reading_of text ts ds (subst (λ (fin : Option Stop). TextReads text ts fin) whole reads) (ap (read ts) (sym whole) ∙ h))
+    answered (Err e) h = inr (e, stops_at text ts end e reads h)

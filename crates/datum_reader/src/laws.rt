@@ -1,11 +1,12 @@
 //! Laws of reading (R7RS 7.1.2).
-ghost use Rattle.std.specs.Prelude.{◌≡◌, ◌≤◌, List, ℕ, Some, slice_get};
+ghost use Rattle.std.specs.Prelude.{◌≡◌, ◌⊎◌, ◌≤◌, List, ℕ, Option, Some, slice_get};
 ghost use Rattle.ls_base.specs.declared.limits.TheConstants.{MAX_TEXT};
 ghost use Rattle.scheme_tokens.specs.Words.{byte_count};
+ghost use Rattle.scheme_model.specs.Kinds.{Token};
 ghost use Rattle.scheme_model.specs.Data.{Datum};
 ghost use Rattle.scheme_model.specs.Faults.{Stop};
 ghost use Rattle.datum_reader.specs.Right.{IsIn, WasRead, CanSeed};
-ghost use Rattle.datum_reader.specs.Texts.{StopsAt, IsReading};
+ghost use Rattle.datum_reader.specs.Texts.{TextReads, StopsAt, IsReading};
 
 /// A text has one list of data at most.
 pub fn one_reading()
@@ -18,8 +19,14 @@ pub fn one_stop()
 {}
 
 /// A text that is data stops nowhere.
-pub fn reads_or_stops()
+pub fn never_reads_and_stops()
     ensures { (text : List ℕ) (ds : List Datum) (e : Stop) → IsReading text ds → ¬ StopsAt text e }
+{}
+
+/// A text that has tokens, behind which it ends or a fault of tokens comes, is data or stops somewhere.
+pub fn reads_or_stops()
+    ensures { (text : List ℕ) (ts : List Token) (end : Option Stop) → TextReads text ts end →
+        ((ds : List Datum) × IsReading text ds) ⊎ ((e : Stop) × StopsAt text e) }
 {}
 
 /// The data of a text of at most 1,048,576 bytes were read.

@@ -14,6 +14,3 @@ mod tail;
 pub use datum::{Datum, Shape};
 pub use reader::read_all;
 pub use seeding::seed;
-
-#[cfg(test)]
-mod tests;

@@ -1,12 +1,15 @@
 //! The tree of a datum (R7RS 7.1.2), with the places of its tokens.
-ghost use Rattle.std.specs.Prelude.{◌≡◌, ◌+◌, ◌^◌, ◌<◌, ◌≤◌, All, IfOk, Err};
-ghost use Rattle.scheme_model.specs.Trees.{placed_in};
+ghost use Rattle.std.specs.Prelude.{◌≡◌, ◌+◌, ◌^◌, ◌<◌, ◌≤◌, All, MatchResult, IfOk, OnOk, Err};
+ghost use Rattle.scheme_model.specs.Trees.{map_tree, placed_in};
+ghost use Rattle.scheme_model.specs.Measures.{tree_size};
+ghost use Rattle.scheme_model.specs.DataTrees.{form_of};
+ghost use Rattle.syntax_tree.specs.Identifiers.{as_name};
 ghost use Rattle.syntax_tree.specs.Names.{KeepsNames};
-ghost use Rattle.syntax_tree.specs.Measures.{tree_size};
-ghost use Rattle.syntax_tree.specs.Works.{StandsFor, IsOpened, KeepsTrees, live_count};
+ghost use Rattle.syntax_tree.specs.Interned.{interned};
+ghost use Rattle.syntax_tree.specs.Works.{StandsFor, IsOpened, LiesIn, KeepsTrees, SameRegions, AddsIn, live_count};
 ghost use Rattle.datum_reader.specs.Right.{WasRead};
 ghost use Rattle.datum_reader.specs.Seeded.{seeded};
-ghost use Rattle.datum_reader.specs.Seeding.{part_tree, parts_trees, tail_tree, CanBeSeeded, TailCanBeSeeded, Seeds, SeedsAll, SeedsTail};
+ghost use Rattle.datum_reader.specs.Seeding.{part_tree, parts_trees, tail_tree, CanBeSeeded, TailCanBeSeeded, Seeds, SeedsAll, SeedsTail, Prepares};
 ghost use Rattle.datum_reader.specs.Views.{datum_of};
 
 use crate::datum::{Datum, Shape};
@@ -20,8 +23,9 @@ mod leaves;
 /// Adds the tree of a datum, the form `form` of the unit `unit`, which was read from a text of at most 1,048,576 bytes. Its names
 /// are written in this unit. What was read from a token has that token's place, whose number counts from the datum's first token;
 /// the identifier that a mark implies (R7RS 4.1.2, 4.2.8) has none. A bytevector is one atom, its numerals with one space
-/// between each two. `Full` comes only where the nodes that live and those of the tree are together more than 2^31. What a fault
-/// leaves of the tree stays.
+/// between each two. All its nodes lie in the region; one is added for each node of the tree, and of the tree's names those that
+/// are new. `Full` comes only where the nodes that live and those of the tree are together more than 2^31. What a fault leaves of
+/// the tree stays.
 pub fn seed(
     alloc: Global,
     work: &mut Work,
@@ -33,9 +37,16 @@ pub fn seed(
     requires region { IsOpened work.old region.now }
     requires read { WasRead (datum_of datum.now) }
     ensures tree { IfOk result (λ tree. StandsFor work.new tree (seeded unit form (datum_of datum.now))) }
+    ensures form { map_tree as_name (seeded unit form (datum_of datum.now)) ≡ form_of unit form (datum_of datum.now) }
+    ensures region { IfOk result (λ tree. LiesIn work.new region.now tree) }
     ensures keeps { KeepsTrees work.old work.new }
-    ensures names { KeepsNames work.old.symbols work.new.symbols }
-    ensures nodes { live_count work.new ≤ live_count work.old + tree_size (seeded unit form (datum_of datum.now)) }
+    ensures added { AddsIn work.old work.new region.now }
+    ensures regions { SameRegions work.old work.new }
+    ensures names { MatchResult result (λ _. work.new.symbols ≡ interned (seeded unit form (datum_of datum.now)) work.old.symbols)
+        (λ _. KeepsNames work.new.symbols (interned (seeded unit form (datum_of datum.now)) work.old.symbols)) }
+    ensures old_names { KeepsNames work.old.symbols work.new.symbols }
+    ensures nodes { MatchResult result (λ _. live_count work.new ≡ live_count work.old + tree_size (seeded unit form (datum_of datum.now)))
+        (λ _. live_count work.new < live_count work.old + tree_size (seeded unit form (datum_of datum.now))) }
     ensures full { result ≡ Err PoolFault.Full → 2 ^ 31 < live_count work.old + tree_size (seeded unit form (datum_of datum.now)) }
 {
     let start = Start {
@@ -78,28 +89,39 @@ fn seed_datum(
 ) -> Result<Tree, PoolFault>
     requires region { IsOpened work.old region.now }
     requires read { CanBeSeeded datum.now }
-    ensures { Seeds work.old work.new (part_tree start.unit start.form start.first datum.now) result }
+    ensures { Seeds work.old work.new region.now (part_tree start.unit start.form start.first datum.now) result }
+{
+    let node = seed_node(alloc, work, region, datum, start)?;
+    Ok(work.add(region, node)?)
+}
+
+/// Adds the trees below a part of a form, and makes the part's own node.
+#[cycle(parts)]
+fn seed_node(
+    alloc: Global,
+    work: &mut Work,
+    region: &Region,
+    datum: &Datum,
+    start: Start,
+) -> Result<Node, PoolFault>
+    requires region { IsOpened work.old region.now }
+    requires read { CanBeSeeded datum.now }
+    ensures { Prepares work.old work.new region.now (part_tree start.unit start.form start.first datum.now) result }
 {
     let occ = start.place(datum.first);
     match &datum.shape {
-        Shape::Atom(kind) => {
-            let node = atom_node(&mut work.symbols, kind, start.unit, occ)?;
-            Ok(work.add(region, node)?)
-        }
-        Shape::Bytes(numerals) => {
-            let node = bytes_node(alloc, &mut work.symbols, numerals, occ)?;
-            Ok(work.add(region, node)?)
-        }
+        Shape::Atom(kind) => Ok(atom_node(&mut work.symbols, kind, start.unit, occ)?),
+        Shape::Bytes(numerals) => Ok(bytes_node(alloc, &mut work.symbols, numerals, occ)?),
         Shape::Vector(parts) => {
             let items = seed_parts(alloc, work, region, parts, start)?;
             let occ = Some(occ);
-            Ok(work.add(region, Node::Vector { items, occ })?)
+            Ok(Node::Vector { items, occ })
         }
         Shape::List(parts, end) => {
             let items = seed_parts(alloc, work, region, parts, start)?;
             let tail = seed_tail(alloc, work, region, end, start)?;
             let occ = Some(occ);
-            Ok(work.add(region, Node::List { items, tail, occ })?)
+            Ok(Node::List { items, tail, occ })
         }
     }
 }
@@ -115,7 +137,7 @@ fn seed_parts(
 ) -> Result<Vec<Tree>, PoolFault>
     requires region { IsOpened work.old region.now }
     requires read { All CanBeSeeded parts.now }
-    ensures { SeedsAll work.old work.new (parts_trees start.unit start.form start.first parts.now) result }
+    ensures { SeedsAll work.old work.new region.now (parts_trees start.unit start.form start.first parts.now) result }
 {
     let mut trees = Vec::new(alloc);
     for part in parts {
@@ -136,13 +158,10 @@ fn seed_tail(
 ) -> Result<Option<Tree>, PoolFault>
     requires region { IsOpened work.old region.now }
     requires read { TailCanBeSeeded tail.now }
-    ensures { SeedsTail work.old work.new (tail_tree start.unit start.form start.first tail.now) result }
+    ensures { SeedsTail work.old work.new region.now (tail_tree start.unit start.form start.first tail.now) result }
 {
     match tail {
         None => Ok(None),
         Some(datum) => Ok(Some(seed_datum(alloc, work, region, datum, start)?)),
     }
 }
-
-#[cfg(test)]
-mod tests;

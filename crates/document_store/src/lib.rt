@@ -9,6 +9,3 @@ pub mod store;
 
 pub use faults::StoreFault;
 pub use store::Store;
-
-#[cfg(test)]
-mod tests;

@@ -20,6 +20,3 @@ pub use memory::{Mem, Memory};
 pub use places::{Place, Pos, Range, Span};
 pub use steps::Steps;
 pub use text::Text;
-
-#[cfg(test)]
-mod tests;

@@ -10,6 +10,3 @@ mod writing;
 
 pub use deframer::{Deframer, FrameFault};
 pub use writing::frame;
-
-#[cfg(test)]
-mod tests;

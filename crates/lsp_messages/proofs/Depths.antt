@@ -63,7 +63,7 @@ depth-answer_json (answers.Arrows arrows) = omega (arith, items_depth-map 4 arro
 depth-answer_json (answers.Edits edits) = omega (arith, members_depth-with_documents no_members edits (lit≤ tt))
 
 pub depth-reply_json : (reply : Reply) → depth (reply_json reply) ≤ 127
-depth-reply_json (replies.Capabilities id prepare) = omega (arith, depth-id_json id, depth-rename_json prepare)
+depth-reply_json (replies.Capabilities id prepare encoding) = omega (arith, depth-id_json id, depth-rename_json prepare)
 depth-reply_json (replies.Result id answer) = omega (arith, depth-id_json id, depth-answer_json answer)
 depth-reply_json (replies.Error id code text) = omega (arith, depth-optional_id_json id)
 depth-reply_json (replies.Publish uri version list) = omega (arith, items_depth-map 3 diagnostic_json list (λ d. lit≤ tt), members_depth-version_member version)

@@ -73,7 +73,7 @@ has_float-answer_json (answers.Arrows arrows) = items_have_float-map arrow_json 
 has_float-answer_json (answers.Edits edits) = rw members_have_float-with_documents refl
 
 pub has_float-reply_json : (reply : Reply) → has_float (reply_json reply) ≡ false
-has_float-reply_json (replies.Capabilities id prepare) = rw (has_float-id_json id, has_float-rename_json prepare) refl
+has_float-reply_json (replies.Capabilities id prepare encoding) = rw (has_float-id_json id, has_float-rename_json prepare) refl
 has_float-reply_json (replies.Result id answer) = rw (has_float-id_json id, has_float-answer_json answer) refl
 has_float-reply_json (replies.Error id code text) = rw (is_float-of_integer code, has_float-optional_id_json id) refl
 has_float-reply_json (replies.Publish uri version list) = rw (items_have_float-map diagnostic_json list (λ d. refl), members_have_float-version_member version) refl

@@ -12,6 +12,7 @@ use Rattle.lsp_messages.specs.declared.message.Call.{Call}
 use Rattle.lsp_messages.specs.declared.message.Call.TheVariants.{Initialize, Shutdown, Ask}
 use Rattle.lsp_messages.specs.declared.message.Note.{Note}
 use Rattle.lsp_messages.specs.declared.message.Note.TheVariants.{Exit, Opened, Changed, Closed}
+use Rattle.lsp_messages.specs.Encodings.{agreed_encoding}
 use Rattle.lsp_messages.specs.Fields.{◌>>=◌, field_at, text_at, list_at, integer_at, range_of}
 
 -- the document that a message's parameters name (TextDocumentIdentifier, TextDocumentItem)
@@ -42,7 +43,7 @@ arrows_asked message = do
 -- what a request asks, by its method
 abbrev pub call_of : List ℕ → Data → Result Call Fault
 call_of method message =
-    if bytes_eq method (codes "initialize") then Ok (Initialize (states_prepare message))
+    if bytes_eq method (codes "initialize") then Ok (Initialize (states_prepare message) (agreed_encoding message))
     else if bytes_eq method (codes "shutdown") then Ok Shutdown
     else if bytes_eq method (codes "scheme/arrows") then arrows_asked message
     else Err Unknown

@@ -5,6 +5,7 @@ use Rattle.serde_json.specs.Data.{Data, null, boolean, number, unsigned, string,
 use Rattle.serde_json.specs.Find.{of_integer}
 use Rattle.serde_json.specs.View.{items_of}
 use Rattle.serde_json.specs.Written.{compact_text}
+use Rattle.ls_base.specs.declared.encoding.Encoding.{Encoding}
 use Rattle.ls_base.specs.declared.places.Pos.{Pos}
 use Rattle.ls_base.specs.declared.places.Range.{Range}
 use Rattle.ls_base.specs.declared.places.Place.{Place}
@@ -19,6 +20,7 @@ use Rattle.lsp_messages.specs.declared.message.Id.{Id}
 use Rattle.lsp_messages.specs.declared.message.Id.TheVariants.{Number, Name}
 use Rattle.lsp_messages.specs.declared.reply.Reply.{Reply}
 use Rattle.lsp_messages.specs.declared.reply.Reply.TheVariants as replies
+use Rattle.lsp_messages.specs.Encodings.{encoding_name}
 
 -- ---- numbers and lists
 
@@ -90,19 +92,19 @@ abbrev pub sync_json : Data
 sync_json = object (member (codes "change") (natural_json 2) (member (codes "openClose") (boolean true) no_members))
 
 -- ServerCapabilities
-abbrev pub capabilities_json : Bool → Data
-capabilities_json prepare = object
+abbrev pub capabilities_json : Bool → Encoding → Data
+capabilities_json prepare encoding = object
     (member (codes "definitionProvider") (boolean true)
     (member (codes "documentHighlightProvider") (boolean true)
-    (member (codes "positionEncoding") (string (codes "utf-16"))
+    (member (codes "positionEncoding") (string (encoding_name encoding))
     (member (codes "referencesProvider") (boolean true)
     (member (codes "renameProvider") (rename_json prepare)
     (member (codes "textDocumentSync") sync_json no_members))))))
 
 -- InitializeResult
-abbrev pub initialized_json : Bool → Data
-initialized_json prepare = object
-    (member (codes "capabilities") (capabilities_json prepare)
+abbrev pub initialized_json : Bool → Encoding → Data
+initialized_json prepare encoding = object
+    (member (codes "capabilities") (capabilities_json prepare encoding)
     (member (codes "serverInfo") (object (member (codes "name") (string (codes "scheme_ls")) no_members)) no_members))
 
 -- ---- diagnostics
@@ -159,7 +161,7 @@ abbrev pub log_json : List ℕ → Data
 log_json text = object (member (codes "message") (string text) (member (codes "type") (natural_json 1) no_members))
 
 abbrev pub reply_json : Reply → Data
-reply_json (replies.Capabilities id prepare) = result_json id (initialized_json prepare)
+reply_json (replies.Capabilities id prepare encoding) = result_json id (initialized_json prepare encoding)
 reply_json (replies.Result id answer) = result_json id (answer_json answer)
 reply_json (replies.Error id code text) = error_json id code text
 reply_json (replies.Publish uri version list) = notification_json (codes "textDocument/publishDiagnostics") (publish_json uri version list)

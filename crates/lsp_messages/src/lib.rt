@@ -2,6 +2,7 @@
 //! It reads and writes JSON through `serde_json`'s `Value` alone, and knows no session and no Scheme.
 #![tactic(auto)]
 
+mod encodings;
 mod fault;
 mod fields;
 mod json;
@@ -15,6 +16,3 @@ pub use message::{At, Call, Id, Message, Note, Reject};
 pub use reading::read_message;
 pub use reply::Reply;
 pub use writing::reply_bytes;
-
-#[cfg(test)]
-mod tests;

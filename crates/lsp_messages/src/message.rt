@@ -2,7 +2,7 @@
 ghost use Rattle.std.specs.Prelude.{◌≡◌};
 ghost use Rattle.lsp_messages.specs.declared.message.Reject.TheVariants.{Memory as OutOfMemory};
 
-use ls_base::{Change, Items, Memory, Pos, Query, Text};
+use ls_base::{Change, Encoding, Items, Memory, Pos, Query, Text};
 
 /// What a request goes by: a whole number that fits an `i64`, or a string.
 #[derive(Debug, Drop)]
@@ -21,8 +21,9 @@ pub struct At {
 /// What a request asks (LSP 3.17).
 #[derive(Debug, Drop)]
 pub enum Call {
-    /// `initialize`. `prepare` says that the client states prepare support for renames.
-    Initialize { prepare: bool },
+    /// `initialize`. `prepare` says that the client states prepare support for renames, `encoding` in what positions
+    /// are to count.
+    Initialize { prepare: bool, encoding: Encoding },
     /// `shutdown`.
     Shutdown,
     /// A question about a position. The arrows of a document are asked at line 0, character 0.

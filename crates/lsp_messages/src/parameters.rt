@@ -5,6 +5,7 @@ ghost use Rattle.serde_json.specs.View.{view, items_view};
 ghost use Rattle.lsp_messages.specs.Fields.{Gives};
 ghost use Rattle.lsp_messages.specs.Parameters as spec;
 
+use crate::encodings::agreed_encoding;
 use crate::fault::{Fault, ReadError};
 use crate::fields::{field, integer, list, range, text};
 use crate::{At, Call, Note};
@@ -19,6 +20,7 @@ pub(crate) fn call(alloc: Global, method: &str, message: &Value) -> Result<Call,
     match method {
         "initialize" => Ok(Call::Initialize {
             prepare: prepare(message).unwrap_or(false),
+            encoding: agreed_encoding(message),
         }),
         "shutdown" => Ok(Call::Shutdown),
         "scheme/arrows" => Ok(arrows(alloc, message)?),

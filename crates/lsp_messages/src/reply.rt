@@ -1,15 +1,16 @@
 //! What the server sends: replies to requests, and notifications of its own.
 use crate::Id;
-use ls_base::{Answer, Diagnostic, Items, Text};
+use ls_base::{Answer, Diagnostic, Encoding, Items, Text};
 
 /// A message to the client (JSON-RPC 2.0 section 5; LSP 3.17).
 #[derive(Debug, Drop)]
 pub enum Reply {
     /// What the server can do, in reply to `initialize`. `prepare` says that the client states prepare
-    /// support for renames.
+    /// support for renames, `encoding` in what positions count.
     Capabilities {
         id: Id,
         prepare: bool,
+        encoding: Encoding,
     },
     /// The reply to any other request.
     Result {

@@ -4,9 +4,10 @@ ghost use Rattle.serde_json.specs.View.{view};
 ghost use Rattle.lsp_messages.specs.Messages.{json_of};
 ghost use Rattle.lsp_messages.specs.Replies as spec;
 
+use crate::encodings::encoding_name;
 use crate::json::{ToJson, list};
 use crate::{Id, Reply};
-use ls_base::{Answer, Diagnostic, DocEdits, Mem};
+use ls_base::{Answer, Diagnostic, DocEdits, Encoding, Mem};
 use serde_json::{Map, Value, json};
 use std::alloc::{AllocError, Global};
 
@@ -29,9 +30,11 @@ impl ToJson for Reply {
 
     fn to_json(&self, alloc: Global) -> Result<Value, AllocError> {
         match self {
-            Reply::Capabilities { id, prepare } => {
-                Ok(answered(alloc, id, initialized(alloc, *prepare)?)?)
-            }
+            Reply::Capabilities {
+                id,
+                prepare,
+                encoding,
+            } => Ok(answered(alloc, id, initialized(alloc, *prepare, *encoding)?)?),
             Reply::Result { id, answer } => Ok(answered(alloc, id, answer.to_json(alloc)?)?),
             Reply::Error { id, code, text } => Ok(error(alloc, id, *code, text.as_str())?),
             Reply::Publish { uri, version, list } => {
@@ -92,22 +95,23 @@ fn published(
 }
 
 /// What the server can do.
-fn initialized(alloc: Global, prepare: bool) -> Result<Value, AllocError>
-    ensures { IfOk result (λ v. view v ≡ spec.initialized_json prepare) }
+fn initialized(alloc: Global, prepare: bool, encoding: Encoding) -> Result<Value, AllocError>
+    ensures { IfOk result (λ v. view v ≡ spec.initialized_json prepare encoding) }
 {
-    let capabilities = capabilities(alloc, prepare)?;
+    let capabilities = capabilities(alloc, prepare, encoding)?;
     json!(in alloc; {"capabilities": capabilities, "serverInfo": {"name": "scheme_ls"}})
 }
 
 /// The capabilities.
-fn capabilities(alloc: Global, prepare: bool) -> Result<Value, AllocError>
-    ensures { IfOk result (λ v. view v ≡ spec.capabilities_json prepare) }
+fn capabilities(alloc: Global, prepare: bool, encoding: Encoding) -> Result<Value, AllocError>
+    ensures { IfOk result (λ v. view v ≡ spec.capabilities_json prepare encoding) }
 {
     let renames = renames(alloc, prepare)?;
+    let encoding = encoding_name(encoding);
     json!(in alloc; {
         "definitionProvider": true,
         "documentHighlightProvider": true,
-        "positionEncoding": "utf-16",
+        "positionEncoding": encoding,
         "referencesProvider": true,
         "renameProvider": renames,
         "textDocumentSync": {"change": 2u8, "openClose": true}

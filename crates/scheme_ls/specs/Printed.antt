@@ -2,6 +2,7 @@
 use Rattle.std.specs.Prelude.{◌≡◌, ℕ, List, [], ◌∷◌, ◌++◌, codes}
 use Rattle.std.specs.Fmt.{decimal}
 use Rattle.ls_base.specs.declared.answers.Arrow.{Arrow}
+use Rattle.ls_base.specs.declared.encoding.Encoding.TheVariants.{Utf16}
 use Rattle.ls_base.specs.declared.places.Pos.{Pos}
 use Rattle.syntax_tree.specs.Small.{IsSmall}
 use Rattle.syntax_tree.specs.Walked.{HasArrows}
@@ -20,11 +21,11 @@ abbrev pub lines_of : List Arrow → List ℕ
 lines_of [] = []
 lines_of (arrow ∷ arrows) = line_of arrow ++ lines_of arrows
 
--- the text is small, and these are the lines of its arrows
+-- the text is small, and these are the lines of its arrows, with columns in UTF-16
 pub record AreLines (text output : List ℕ) : Type 0 where
   pub small : IsSmall text
   pub arrows : List Arrow
-  pub has : HasArrows text arrows
+  pub has : HasArrows Utf16 text arrows
   pub lines : output ≡ lines_of arrows
 
 -- the text isn't small, and this is the line for such texts

@@ -1,7 +1,7 @@
 -- A session (JSON-RPC 2.0; LSP 3.17, lifecycle): what a server answers to each message, and what it keeps. Which answer
 -- a query has in given texts is given, and what a message is that a body reads as.
 use Rattle.std.specs.Prelude.{ℕ, ℤ, neg_ℤ, pos, Bool, List, [], ◌∷◌, ◌++◌, Option, Some, None}
-use Rattle.scheme_model.specs.Texts.{Position, Utf16, Offsets, Texts, Event, Added, Changed, Closed, Refusal, after}
+use Rattle.scheme_model.specs.Texts.{Position, Encoding, Utf16, Offsets, Texts, Event, Added, Changed, Closed, Refusal, after}
 use Rattle.scheme_model.specs.Wording.{parse_error_text, invalid_request_text, method_not_found_text, invalid_params_text, not_initialized_text, refusal_text, bad_params_text}
 
 -- a request's id
@@ -19,7 +19,7 @@ pub data Query : Type 0 where
 
 -- what a request wants
 pub data Call : Type 0 where
-  Initialize : (prepare : Bool) → Call
+  Initialize : (prepare : Bool) → Encoding → Call
   Shutdown : Call
   Ask : (uri : List ℕ) → Position → Query → Call
   Rename : (uri : List ℕ) → Position → (new_name : List ℕ) → Call
@@ -43,7 +43,7 @@ pub data Message : Type 0 where
 
 -- what is answered
 pub data Reply (A : Type 0) : Type 0 where
-  Capabilities : Id → (prepare : Bool) → Reply A
+  Capabilities : Id → (prepare : Bool) → Encoding → Reply A
   Result : Id → A → Reply A
   Error : Option Id → ℤ → List ℕ → Reply A
   Log : List ℕ → Reply A
@@ -53,8 +53,10 @@ pub data Mode : Type 0 where
   Running : Mode
   Shut : Mode
 
+-- the mode, what positions count in, and the texts of the open documents
 pub record State : Type 0 where
   pub mode : Mode
+  pub encoding : Encoding
   pub texts : Texts
 
 -- how `exit` ends a session: after `shutdown`, or before it
@@ -62,10 +64,10 @@ pub data Ending : Type 0 where
   Clean : Ending
   Early : Ending
 
--- what answers queries and renames in given texts
+-- what answers queries and renames in given texts, whose positions count in an encoding
 pub record Answers (A : Type 0) : Type 0 where
   pub null : A
-  pub query : Texts → List ℕ → Position → Query → A
+  pub query : Encoding → Texts → List ℕ → Position → Query → A
 
 -- what one message leads to: the state after it, the replies, and how it ends the session, where it does
 pub record Stepped (A : Type 0) : Type 0 where
@@ -75,14 +77,18 @@ pub record Stepped (A : Type 0) : Type 0 where
 
 -- ---- states
 
+-- before its first message a session counts in UTF-16
 abbrev pub begin : Texts → State
-begin none = record { mode = Fresh; texts = none }
+begin none = record { mode = Fresh; encoding = Utf16; texts = none }
 
 abbrev pub with_mode : Mode → State → State
-with_mode mode state = record { mode = mode; texts = state.texts }
+with_mode mode state = record { mode = mode; encoding = state.encoding; texts = state.texts }
+
+abbrev pub with_encoding : Encoding → State → State
+with_encoding encoding state = record { mode = state.mode; encoding = encoding; texts = state.texts }
 
 abbrev pub with_texts : Texts → State → State
-with_texts texts state = record { mode = state.mode; texts = texts }
+with_texts texts state = record { mode = state.mode; encoding = state.encoding; texts = texts }
 
 -- ---- replies
 
@@ -112,14 +118,15 @@ not_initialized id = Error (Some id) (minus 32002) not_initialized_text
 
 -- a request while running: a second `initialize` is invalid, `shutdown` is answered with null
 abbrev pub called : {A : Type 0} → Answers A → State → Id → Call → Stepped A
-called answers state id (Initialize prepare) = stays state (invalid_request (Some id) ∷ [])
+called answers state id (Initialize prepare encoding) = stays state (invalid_request (Some id) ∷ [])
 called answers state id Shutdown = stays (with_mode Shut state) (Result id answers.null ∷ [])
-called answers state id (Ask uri position query) = stays state (Result id (answers.query state.texts uri position query) ∷ [])
+called answers state id (Ask uri position query) = stays state (Result id (answers.query state.encoding state.texts uri position query) ∷ [])
 called answers state id (Rename uri position new_name) = stays state (method_not_found id ∷ [])
 
--- a request in the mode fresh
+-- a request in the mode fresh: `initialize` fixes what positions count in
 abbrev pub called_fresh : {A : Type 0} → State → Id → Call → Stepped A
-called_fresh state id (Initialize prepare) = stays (with_mode Running state) (Capabilities id prepare ∷ [])
+called_fresh state id (Initialize prepare encoding) =
+    stays (with_mode Running (with_encoding encoding state)) (Capabilities id prepare encoding ∷ [])
 called_fresh state id Shutdown = stays state (not_initialized id ∷ [])
 called_fresh state id (Ask uri position query) = stays state (not_initialized id ∷ [])
 called_fresh state id (Rename uri position new_name) = stays state (not_initialized id ∷ [])
@@ -149,7 +156,8 @@ logged uri None = []
 logged uri (Some refusal) = Log (refusal_text refusal uri) ∷ []
 
 abbrev pub evented : {A : Type 0} → Offsets → State → Event → Stepped A
-evented offset state event = stays (with_texts (after offset Utf16 state.texts event).0 state) (logged (uri_of event) (after offset Utf16 state.texts event).1)
+evented offset state event =
+    stays (with_texts (after offset state.encoding state.texts event).0 state) (logged (uri_of event) (after offset state.encoding state.texts event).1)
 
 -- how `exit` ends a session, by its mode
 abbrev pub exit_in : Mode → Ending

@@ -120,11 +120,19 @@ abbrev pub changed : Offsets → Encoding → Texts → List ℕ → ℤ → Lis
 changed offset encoding texts uri version changes None = (texts, Some NotOpen)
 changed offset encoding texts uri version changes (Some text) = changed_to texts uri version (edits offset encoding changes text)
 
--- what an event leaves, and its refusal where it is refused
-abbrev pub after : Offsets → Encoding → Texts → Event → Texts × Option Refusal
-after offset encoding texts (Added uri version text) =
+-- what is left where a document is opened, or one that is open gets a new version and text
+abbrev pub added : Texts → List ℕ → ℤ → List ℕ → Texts × Option Refusal
+added texts uri version text =
     if not (is_open texts uri) && nat_le max_documents (len texts) then (texts, Some TooMany)
     else if is_long text then (texts, Some TooLong)
     else (insert texts uri (version, text), None)
+
+-- what is left where a document is closed
+abbrev pub closed : Texts → List ℕ → Texts × Option Refusal
+closed texts uri = if is_open texts uri then (remove texts uri, None) else (texts, Some NotOpen)
+
+-- what an event leaves, and its refusal where it is refused
+abbrev pub after : Offsets → Encoding → Texts → Event → Texts × Option Refusal
+after offset encoding texts (Added uri version text) = added texts uri version text
 after offset encoding texts (Changed uri version changes) = changed offset encoding texts uri version changes (text_at texts uri)
-after offset encoding texts (Closed uri) = if is_open texts uri then (remove texts uri, None) else (texts, Some NotOpen)
+after offset encoding texts (Closed uri) = closed texts uri

@@ -17,6 +17,3 @@ pub use fault::ReadFault;
 pub use name::{ident_of, spell};
 pub use reader::{Front, front_tokens, tokens};
 pub use token::{Token, TokenKind};
-
-#[cfg(test)]
-mod tests;

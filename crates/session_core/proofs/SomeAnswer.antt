@@ -1,6 +1,7 @@
 -- No question that a body asks is without an answer.
 use Rattle.std.proofs.Common.{◌≡◌, ℕ, List, [], ◌∷◌, ◌++◌, length, map, refl, sym, ap, subst, inl, inr, Option, None, Some}
 use Rattle.std.specs.List.{AllByRecursion}
+use Rattle.ls_base.specs.declared.encoding.Encoding.{Encoding}
 use Rattle.ls_base.specs.declared.answers.Answer.{Answer}
 use Rattle.ls_base.specs.declared.answers.Answer.TheVariants as answers
 use Rattle.ls_base.specs.declared.answers.Arrow.{Arrow}
@@ -16,17 +17,18 @@ use Rattle.syntax_tree.proofs.SmallLaws.{links_ascend}
 use Rattle.session_core.specs.Answered.{AreMessages, AreReplies, sent_id}
 use Rattle.session_core.specs.Arrows.{AreArrowsOf, arrow_in}
 use Rattle.session_core.specs.Asked.{About, AnswersQuery, IsAnswerTo, Nothing, Question}
+use Rattle.session_core.specs.Said.{encoding_of}
 use Rattle.session_core.proofs.SortedLinks.{sorted_links}
 
 -- a small text has arrows
-some_arrows : (text : List ℕ) → IsSmall text → (arrows : List Arrow) × HasArrows text arrows
-some_arrows text small =
+some_arrows : (e : Encoding) (text : List ℕ) → IsSmall text → (arrows : List Arrow) × HasArrows e text arrows
+some_arrows e text small =
     let links = program_links small.forms in
     let count = length small.tokens in
     let sorted = sorted_links links (distinct_targets count 0 count links (links_ascend small.tokens small.forms small.read.formed)) in
-    let arrows = map (arrow_at text small.tokens) sorted.0 in (
+    let arrows = map (arrow_at e text small.tokens) sorted.0 in (
       arrows,
-      walked_arrows text arrows
+      walked_arrows e text arrows
       (record {
         tokens = small.tokens;
         forms = small.forms;
@@ -40,34 +42,34 @@ some_arrows text small =
       }),
     )
 
-some_arrows_of : (uri : List ℕ) (text : Option (List ℕ)) → ¬ ¬ ((arrows : List Arrow) × AreArrowsOf uri text arrows)
-some_arrows_of uri None none = none ([], refl)
-some_arrows_of uri (Some text) none =
+some_arrows_of : (e : Encoding) (uri : List ℕ) (text : Option (List ℕ)) → ¬ ¬ ((arrows : List Arrow) × AreArrowsOf e uri text arrows)
+some_arrows_of e uri None none = none ([], refl)
+some_arrows_of e uri (Some text) none =
     none (
       [],
-      inr (λ small. let a = some_arrows text small in none (map (arrow_in uri) a.0, inl (record { small = small; found = a.0; has = a.1; placed = refl })), refl),
+      inr (λ small. let a = some_arrows e text small in none (map (arrow_in uri) a.0, inl (record { small = small; found = a.0; has = a.1; placed = refl })), refl),
     )
 
 -- a question about arrows, or none
 abbrev pub AsksArrowsAlone : Question → Type 0
 AsksArrowsAlone Nothing = Unit {0}
-AsksArrowsAlone (About texts uri position query) = query ≡ session.Arrows
+AsksArrowsAlone (About encoding texts uri position query) = query ≡ session.Arrows
 
 pub some_answer : (question : Question) → AsksArrowsAlone question → ¬ ¬ ((answer : Answer) × IsAnswerTo question answer)
 some_answer Nothing asks none = none (answers.Nothing, refl)
-some_answer (About texts uri position query) asks none =
-    some_arrows_of uri (text_at texts uri)
-    (λ found. none (answers.Arrows found.0, subst (λ q. AnswersQuery q texts uri (answers.Arrows found.0)) (sym asks) (found.0, found.1, refl)))
+some_answer (About encoding texts uri position query) asks none =
+    some_arrows_of (encoding_of encoding) uri (text_at texts uri)
+    (λ found. none (answers.Arrows found.0, subst (λ q. AnswersQuery q encoding texts uri (answers.Arrows found.0)) (sym asks) (found.0, found.1, refl)))
 
 -- a reply that asks such a question, or none
 abbrev pub AsksThat : session.Reply Question → Type 0
-AsksThat (session.Capabilities id prepare) = Unit {0}
+AsksThat (session.Capabilities id prepare encoding) = Unit {0}
 AsksThat (session.Result id question) = AsksArrowsAlone question
 AsksThat (session.Error id code text) = Unit {0}
 AsksThat (session.Log text) = Unit {0}
 
 some_messages : (reply : session.Reply Question) → AsksThat reply → ¬ ¬ ((messages : List Reply) × AreMessages reply messages)
-some_messages (session.Capabilities id prepare) asks none = none (_, refl)
+some_messages (session.Capabilities id prepare encoding) asks none = none (_, refl)
 some_messages (session.Result id question) asks none = some_answer question asks (λ found. none (replies.Result (sent_id id) found.0 ∷ [], (found.0, found.1, refl)))
 some_messages (session.Error id code text) asks none = none (_, refl)
 some_messages (session.Log text) asks none = none (_, refl)

@@ -17,11 +17,11 @@ use Rattle.session_core.specs.Said.{offsets, said_by, said_call, said_query}
 use Rattle.session_core.proofs.SomeAnswer.{AsksThat}
 
 requested_asks : (mode : Mode) (state : State) (id : session.Id) (call : Call) → AsksArrows call → AllByRecursion AsksThat (requested mode questions state id (said_call call)).replies
-requested_asks Fresh state id (calls.Initialize prepare) asks = (tt, tt)
+requested_asks Fresh state id (calls.Initialize prepare encoding) asks = (tt, tt)
 requested_asks Fresh state id calls.Shutdown asks = (tt, tt)
 requested_asks Fresh state id (calls.Ask place query) asks = (tt, tt)
 requested_asks Fresh state id (calls.Rename place new_name) asks = (tt, tt)
-requested_asks Running state id (calls.Initialize prepare) asks = (tt, tt)
+requested_asks Running state id (calls.Initialize prepare encoding) asks = (tt, tt)
 requested_asks Running state id calls.Shutdown asks = (tt, tt)
 requested_asks Running state id (calls.Ask place query) asks = (ap said_query asks, tt)
 requested_asks Running state id (calls.Rename place new_name) asks = (tt, tt)

@@ -7,6 +7,7 @@ use Rattle.lsp_messages.specs.declared.message.Id.TheVariants as ids
 use Rattle.lsp_messages.specs.declared.reply.Reply.{Reply}
 use Rattle.lsp_messages.specs.declared.reply.Reply.TheVariants as replies
 use Rattle.scheme_model.specs.Session as session
+use Rattle.session_core.specs.Said.{encoding_of}
 use Rattle.session_core.specs.Asked.{Question, IsAnswerTo}
 
 -- an id as it is sent
@@ -16,7 +17,7 @@ sent_id (session.Name s) = ids.Name s
 
 -- the messages that are this reply of a session, with an answer to what it asks
 abbrev pub AreMessages : session.Reply Question → List Reply → Type 0
-AreMessages (session.Capabilities id prepare) messages = messages ≡ replies.Capabilities (sent_id id) prepare ∷ []
+AreMessages (session.Capabilities id prepare encoding) messages = messages ≡ replies.Capabilities (sent_id id) prepare (encoding_of encoding) ∷ []
 AreMessages (session.Result id question) messages = (answer : Answer) × IsAnswerTo question answer × (messages ≡ replies.Result (sent_id id) answer ∷ [])
 AreMessages (session.Error id code text) messages = messages ≡ replies.Error (option_map sent_id id) code text ∷ []
 AreMessages (session.Log text) messages = messages ≡ replies.Log text ∷ []

@@ -10,7 +10,7 @@ use Rattle.lsp_messages.specs.declared.message.Reject.TheVariants as rejects
 
 -- a query asks for arrows
 abbrev pub AsksArrows : Call → Type 0
-AsksArrows (calls.Initialize prepare) = Unit {0}
+AsksArrows (calls.Initialize prepare encoding) = Unit {0}
 AsksArrows calls.Shutdown = Unit {0}
 AsksArrows (calls.Ask place query) = query ≡ queries.Arrows
 AsksArrows (calls.Rename place new_name) = Unit {0}

@@ -1,18 +1,17 @@
 -- What the server does with a document event (LSP 3.17, text synchronisation).
-use Rattle.std.specs.Prelude.{◌≡◌, ℕ, List, [], ◌∷◌}
+use Rattle.std.specs.Prelude.{◌≡◌, ℕ, List, [], ◌∷◌, Option}
 use Rattle.document_store.specs.declared.faults.StoreFault.{StoreFault}
 use Rattle.document_store.specs.declared.faults.StoreFault.TheVariants as faults
-use Rattle.scheme_model.specs.Session.{Log, logged, uri_of}
+use Rattle.scheme_model.specs.Session.{Log, logged}
 use Rattle.scheme_model.specs.Wording.{refusal_text}
-use Rattle.scheme_model.specs.Texts.{Event, Utf16, Texts, Refusal, NotOpen, BadRange, TooLong, TooMany, after}
+use Rattle.scheme_model.specs.Texts.{Texts, Refusal, NotOpen, BadRange, TooLong, TooMany}
 use Rattle.session_core.specs.declared.out.Out.{Out}
-use Rattle.session_core.specs.Said.{offsets}
 use Rattle.session_core.specs.Stepped.{Says}
 
--- the texts after an event, and the log of its refusal
-pub record IsEvented (old : Texts) (event : Event) (new : Texts) (out : Out) : Type 0 where
-  pub texts : new ≡ (after offsets Utf16 old event).0
-  pub says : Says out (logged (uri_of event) (after offsets Utf16 old event).1)
+-- the texts that an event about a document leaves, and the log of its refusal
+pub record IsEvented (left : Texts × Option Refusal) (uri : List ℕ) (new : Texts) (out : Out) : Type 0 where
+  pub texts : new ≡ left.0
+  pub says : Says out (logged uri left.1)
 
 -- a refusal is logged
 abbrev pub LogsRefusal : Refusal → List ℕ → Out → Type 0

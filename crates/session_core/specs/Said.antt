@@ -22,7 +22,7 @@ use Rattle.lsp_messages.specs.declared.message.Reject.TheVariants as rejects
 use Rattle.scheme_model.specs.Session as session
 use Rattle.scheme_model.specs.Texts as texts
 
--- ---- positions and changes
+-- ---- encodings, positions and changes
 
 abbrev pub said_position : Pos → texts.Position
 said_position p = record { line = p.line; character = p.character }
@@ -33,7 +33,12 @@ said_range r = record { start = said_position r.start; end = said_position r.end
 abbrev pub said_change : Change → texts.Change
 said_change c = record { range = option_map said_range c.range; text = c.text }
 
--- what positions count
+abbrev pub said_encoding : Encoding → texts.Encoding
+said_encoding encodings.Utf8 = texts.Utf8
+said_encoding encodings.Utf16 = texts.Utf16
+said_encoding encodings.Utf32 = texts.Utf32
+
+-- and back
 abbrev pub encoding_of : texts.Encoding → Encoding
 encoding_of texts.Utf8 = encodings.Utf8
 encoding_of texts.Utf16 = encodings.Utf16
@@ -57,7 +62,7 @@ said_query queries.Prepare = session.Prepare
 said_query queries.Arrows = session.Arrows
 
 abbrev pub said_call : Call → session.Call
-said_call (calls.Initialize prepare) = session.Initialize prepare
+said_call (calls.Initialize prepare encoding) = session.Initialize prepare (said_encoding encoding)
 said_call calls.Shutdown = session.Shutdown
 said_call (calls.Ask place query) = session.Ask place.uri (said_position place.pos) (said_query query)
 said_call (calls.Rename place new_name) = session.Rename place.uri (said_position place.pos) new_name

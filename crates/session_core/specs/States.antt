@@ -4,9 +4,12 @@ use Rattle.std.specs.Coded.{Coded, code_by, coded×, coded_ℕ, coded_ℤ, coded
 use Rattle.std.specs.FinMap.{code}
 use Rattle.scheme_model.specs.Session.{State}
 use Rattle.scheme_model.specs.Session as session
+use Rattle.ls_base.specs.declared.encoding.Encoding.{Encoding}
+use Rattle.scheme_model.specs.Texts as texts
 use Rattle.scheme_model.specs.Texts.{Texts}
 use Rattle.session_core.specs.declared.mode.Mode.{Mode}
 use Rattle.session_core.specs.declared.mode.Mode.TheVariants as modes
+use Rattle.session_core.specs.Said.{said_encoding}
 
 abbrev pub said_mode : Mode → session.Mode
 said_mode modes.Fresh = session.Fresh
@@ -18,9 +21,9 @@ abbrev pub exit_code : session.Ending → ℕ
 exit_code session.Clean = 0
 exit_code session.Early = 1
 
--- the mode, and the texts of the open documents
-abbrev pub state_of : Mode → Texts → State
-state_of mode texts = record { mode = said_mode mode; texts = texts }
+-- the mode, what positions count in, and the texts of the open documents
+abbrev pub state_of : Mode → Encoding → Texts → State
+state_of mode encoding texts = record { mode = said_mode mode; encoding = said_encoding encoding; texts = texts }
 
 -- ---- how a state is stored
 
@@ -42,9 +45,28 @@ mode_at-number_of session.Shut = refl
 abbrev pub coded_mode : Coded session.Mode
 coded_mode = code_by ℕ coded_ℕ number_of mode_at mode_at-number_of
 
+abbrev pub encoding_number : texts.Encoding → ℕ
+encoding_number texts.Utf8 = 0
+encoding_number texts.Utf16 = 1
+encoding_number texts.Utf32 = 2
+
+abbrev pub encoding_at : ℕ → texts.Encoding
+encoding_at zero = texts.Utf8
+encoding_at (suc zero) = texts.Utf16
+encoding_at (suc (suc n)) = texts.Utf32
+
+pub encoding_at-encoding_number : (encoding : texts.Encoding) → encoding_at (encoding_number encoding) ≡ encoding
+encoding_at-encoding_number texts.Utf8 = refl
+encoding_at-encoding_number texts.Utf16 = refl
+encoding_at-encoding_number texts.Utf32 = refl
+
+abbrev pub coded_encoding : Coded texts.Encoding
+coded_encoding = code_by ℕ coded_ℕ encoding_number encoding_at encoding_at-encoding_number
+
 abbrev pub coded_texts : Coded Texts
 coded_texts = code (coded_list coded_ℕ) (coded× coded_ℤ (coded_list coded_ℕ))
 
 abbrev pub coded_state : Coded State
 coded_state =
-    code_by (session.Mode × Texts) (coded× coded_mode coded_texts) (λ s. (s.mode, s.texts)) (λ p. record { mode = p.0; texts = p.1 }) (λ _. refl)
+    code_by (session.Mode × (texts.Encoding × Texts)) (coded× coded_mode (coded× coded_encoding coded_texts)) (λ s. (s.mode, (s.encoding, s.texts)))
+    (λ p. record { mode = p.0; encoding = p.1.0; texts = p.1.1 }) (λ _. refl)

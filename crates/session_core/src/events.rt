@@ -1,7 +1,7 @@
 //! Documents are opened, changed and closed, and refusals logged (LSP 3.17, text synchronisation).
 ghost use Rattle.std.specs.Prelude.{◌≡◌, IfOk, OnErr, map};
 ghost use Rattle.scheme_model.specs.Texts as spec;
-ghost use Rattle.session_core.specs.Said.{said_change};
+ghost use Rattle.session_core.specs.Said.{offsets, said_change, said_encoding};
 ghost use Rattle.session_core.specs.Events.{IsEvented, LogsFault};
 
 use crate::Out;
@@ -15,7 +15,7 @@ use std::alloc::Global;
 /// Opens a document, or gives an open one a new version and text. Where memory runs out the texts are as before.
 pub fn opened(alloc: Global, texts: &mut Store, uri: &str, version: i64, text: &str) -> Mem<Out>
     ensures event { IfOk result
-        (IsEvented texts.old (spec.Added uri.now version text.now) texts.new) }
+        (IsEvented (spec.added texts.old uri.now version text.now) uri.now texts.new) }
     ensures kept { OnErr result (texts.new ≡ texts.old) }
 {
     match texts.add(uri, version, text) {
@@ -24,21 +24,23 @@ pub fn opened(alloc: Global, texts: &mut Store, uri: &str, version: i64, text: &
     }
 }
 
-/// Changes a document. Where memory runs out the texts are as before: the one refusal that takes a document away
-/// has its log before that.
+/// Changes a document, by positions in the encoding. Where memory runs out the texts are as before: the one refusal
+/// that takes a document away has its log before that.
 pub fn changed(
     alloc: Global,
     texts: &mut Store,
     uri: &str,
     version: i64,
     changes: &[Change],
+    encoding: Encoding,
 ) -> Mem<Out>
     ensures event { IfOk result
-        (IsEvented texts.old (spec.Changed uri.now version (map said_change changes.now)) texts.new) }
+        (IsEvented (spec.after offsets (said_encoding encoding) texts.old
+        (spec.Changed uri.now version (map said_change changes.now))) uri.now texts.new) }
     ensures kept { OnErr result (texts.new ≡ texts.old) }
 {
     let too_long = refused(alloc, StoreFault::TooLong, uri)?;
-    match texts.change(uri, version, changes, Encoding::Utf16) {
+    match texts.change(uri, version, changes, encoding) {
         Ok(()) => Ok(silent(alloc)),
         Err(fault) => {
             if fault == StoreFault::TooLong {
@@ -51,7 +53,7 @@ pub fn changed(
 
 /// Closes a document. Where memory runs out the texts are as before.
 pub fn closed(alloc: Global, texts: &mut Store, uri: &str) -> Mem<Out>
-    ensures event { IfOk result (IsEvented texts.old (spec.Closed uri.now) texts.new) }
+    ensures event { IfOk result (IsEvented (spec.closed texts.old uri.now) uri.now texts.new) }
     ensures kept { OnErr result (texts.new ≡ texts.old) }
 {
     if texts.close(uri) {

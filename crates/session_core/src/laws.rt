@@ -22,7 +22,7 @@ ghost use Rattle.session_core.specs.Agreement.{said_event, said_after};
 pub fn events_agree()
     ensures { (encoding : texts.Encoding) (old : texts.Texts) (event : store.Event)
         → texts.after offsets encoding old (said_event event)
-            ≡ said_after (store.after (encoding_of encoding) old event) }
+        ≡ said_after (store.after (encoding_of encoding) old event) }
 {}
 
 /// Of all queries, a body asks for the arrows of a document alone.

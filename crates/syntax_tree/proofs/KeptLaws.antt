@@ -1,33 +1,35 @@
 -- The measures that are kept are those of the trees that numbers stand for.
 use Rattle.std.proofs.Common.{◌≡◌, ℕ, zero, suc, ◌+◌, ◌^◌, ◌<◌, ◌≤◌, List, [], ◌∷◌, ◌++◌, map, max, length, slice_get, sum_by, Option, Some, None, refl, sym, ap, ◌∙◌, subst, inl, inr, arith}
 use Rattle.std.specs.Option.{option_map, option_map_or}
-use Rattle.std.proofs.lemmas.List.{length-append, length-map, map-append}
+use Rattle.std.proofs.lemmas.List.{length-append}
 use Rattle.std.proofs.lemmas.List.Sums.{sum_by-cons}
 use Rattle.std.proofs.lemmas.Option.{slice_get_within, same_Some}
 use Rattle.scheme_model.specs.declared.Occ.{Occ}
 use Rattle.scheme_model.specs.Trees.{Tree, name, atom, list, vector, Trees, no_trees, tree, Tail, proper, dotted}
 use Rattle.syntax_tree.specs.Identifiers.{Identifier}
 use Rattle.syntax_tree.specs.Names.{Names}
-use Rattle.syntax_tree.specs.Measures.{tree_size, trees_size, tail_size, tree_depth, trees_depth, tail_depth}
-use Rattle.syntax_tree.specs.Standing.{Shape, leaf_shape, list_shape, vector_shape, Stands, AllStand, TailStands, IsNode}
-use Rattle.syntax_tree.specs.Kept.{shape_of, shapes, size_at, depth_at, shape_size, deepest, shape_depth, AreWithin, IsWithin, AreKept}
+use Rattle.scheme_model.specs.Measures.{tree_size, trees_size, tail_size, tree_depth, trees_depth, tail_depth}
+use Rattle.syntax_tree.specs.Nodes.{Shape, leaf_shape, list_shape, vector_shape, shape_at}
+use Rattle.syntax_tree.specs.Standing.{Stands, AllStand, TailStands, IsNode}
+use Rattle.syntax_tree.specs.Kept.{shape_of, nodes_of, size_at, depth_at, shape_size, deepest, shape_depth, AreWithin, IsWithin, AreKept}
 use Rattle.syntax_tree.specs.declared.trees.measures.Kept.{Kept}
-use Rattle.syntax_tree.proofs.Places.{none_some, get_front, get_same, get_next, get_within, push_cases, map_get}
+use Rattle.syntax_tree.proofs.Places.{get_same, push_cases}
+use Rattle.syntax_tree.proofs.NodeLaws.{kept_at}
 use Rattle.syntax_tree.proofs.StandingLaws.{IsLeafy, leafy}
 
 -- what is kept at a number is by the shape there
-size_is : (ks : List Kept) → AreKept ks → (n : ℕ) (s : Shape) → slice_get (shapes ks) n ≡ Some s → size_at ks n ≡ shape_size (size_at ks) s
+size_is : (ks : List Kept) → AreKept ks → (n : ℕ) (s : Shape) → shape_at (nodes_of ks) n ≡ Some s → size_at ks n ≡ shape_size (size_at ks) s
 size_is ks kept n s h =
-    let p = map_get (λ (k : Kept). shape_of k.node) ks n s h in
+    let p = kept_at ks n s h in
     ap (λ (o : Option Kept). option_map_or (λ (k : Kept). k.size) o 0) p.1 ∙ kept.sizes n p.0 p.1 ∙ ap (shape_size (size_at ks)) p.2
 
-depth_is : (ks : List Kept) → AreKept ks → (n : ℕ) (s : Shape) → slice_get (shapes ks) n ≡ Some s → depth_at ks n ≡ shape_depth (depth_at ks) s
+depth_is : (ks : List Kept) → AreKept ks → (n : ℕ) (s : Shape) → shape_at (nodes_of ks) n ≡ Some s → depth_at ks n ≡ shape_depth (depth_at ks) s
 depth_is ks kept n s h =
-    let p = map_get (λ (k : Kept). shape_of k.node) ks n s h in
+    let p = kept_at ks n s h in
     ap (λ (o : Option Kept). option_map_or (λ (k : Kept). k.depth) o 0) p.1 ∙ kept.depths n p.0 p.1 ∙ ap (shape_depth (depth_at ks)) p.2
 
-within_is : (ks : List Kept) (n : ℕ) (s : Shape) → slice_get (shapes ks) n ≡ Some s → n < length ks
-within_is ks n s h = omega (arith, slice_get_within (shapes ks) n s h, length-map ks (λ (k : Kept). shape_of k.node))
+within_is : (ks : List Kept) (n : ℕ) (s : Shape) → shape_at (nodes_of ks) n ≡ Some s → n < length ks
+within_is ks n s h = let p = kept_at ks n s h in slice_get_within ks n p.0 p.1
 
 -- the measures of a number are those of its tree
 pub record IsMeasured (ks : List Kept) (t : Tree Identifier) (n : ℕ) : Type 0 where
@@ -63,7 +65,7 @@ list_within count items None o h e = h
 list_within count items (Some n) o h e = (h, e)
 
 module _ (ks : List Kept) (kept : AreKept ks) (names : Names) where
-  leaf_measured : (t : Tree Identifier) (n : ℕ) (s : Shape) → slice_get (shapes ks) n ≡ Some s → shape_size (size_at ks) s ≡ tree_size t → shape_depth (depth_at ks) s ≡ tree_depth t → IsMeasured ks t n
+  leaf_measured : (t : Tree Identifier) (n : ℕ) (s : Shape) → shape_at (nodes_of ks) n ≡ Some s → shape_size (size_at ks) s ≡ tree_size t → shape_depth (depth_at ks) s ≡ tree_depth t → IsMeasured ks t n
   leaf_measured t n s at size depth = record {
     within = within_is ks n s at;
     size = size_is ks kept n s at ∙ size;
@@ -81,7 +83,7 @@ module _ (ks : List Kept) (kept : AreKept ks) (names : Names) where
       list_depth (depth_at ks) items end o ∙ (λ j. 1 + max (m.depths j) (e.depth j))
 
   mutual
-    pub measured : (t : Tree Identifier) (n : ℕ) → Stands (shapes ks) names t n → IsMeasured ks t n
+    pub measured : (t : Tree Identifier) (n : ℕ) → Stands (nodes_of ks) names t n → IsMeasured ks t n
     measured (name i o) n h = leaf_measured (name i o) n (leaf_shape h.0 h.1) h.2 refl refl
     measured (atom a o) n h = leaf_measured (atom a o) n (leaf_shape h.0 h.1) h.2 refl refl
     measured (list ts tail o) n h =
@@ -92,7 +94,7 @@ module _ (ks : List Kept) (kept : AreKept ks) (names : Names) where
         let m = all_measured ts h.0 h.2 in
         leaf_measured (vector ts o) n (vector_shape h.0 o) h.1 (ap (λ (k : ℕ). 1 + k) m.sizes) (ap (λ (k : ℕ). 1 + k) m.depths)
 
-    pub all_measured : (ts : Trees Identifier) (ns : List ℕ) → AllStand (shapes ks) names ts ns → AreMeasured ks ts ns
+    pub all_measured : (ts : Trees Identifier) (ns : List ℕ) → AllStand (nodes_of ks) names ts ns → AreMeasured ks ts ns
     all_measured no_trees [] h = record { within = tt; sizes = refl; depths = refl }
     all_measured no_trees (n ∷ ns) h = absurd h
     all_measured (tree t ts) [] h = absurd h
@@ -105,7 +107,7 @@ module _ (ks : List Kept) (kept : AreKept ks) (names : Names) where
           depths = λ j. max (first.depth j) (rest.depths j);
         }
 
-    pub tail_measured : (tail : Tail Identifier) (end : Option ℕ) → TailStands (shapes ks) names tail end → TailMeasured ks tail end
+    pub tail_measured : (tail : Tail Identifier) (end : Option ℕ) → TailStands (nodes_of ks) names tail end → TailMeasured ks tail end
     tail_measured proper None h = record { within = tt; size = refl; depth = refl }
     tail_measured proper (Some n) h = absurd h
     tail_measured (dotted t) None h = absurd h
@@ -125,7 +127,7 @@ one_node (atom a o) l = (refl, refl)
 one_node (list ts tail o) l = absurd l
 one_node (vector ts o) l = absurd l
 
-pub node_measured : (ks : List Kept) → AreKept ks → (names : Names) (s : Shape) (t : Tree Identifier) → IsNode (shapes ks) names s t → NodeMeasured ks s t
+pub node_measured : (ks : List Kept) → AreKept ks → (names : Names) (s : Shape) (t : Tree Identifier) → IsNode (nodes_of ks) names s t → NodeMeasured ks s t
 node_measured ks kept names (leaf_shape leaf o) t h =
     let one = one_node t (leafy names leaf o t h) in
     record { within = tt; size = one.0; depth = one.1 }
@@ -203,6 +205,3 @@ kept_pushed ks k kept room within size depth =
         | inr new ↦ subst (λ (y : Kept). y.depth ≡ shape_depth (depth_at (ks ++ k ∷ [])) (shape_of y.node)) (sym new.1) (depth ∙ shape_depth_same (depth_at ks) (depth_at (ks ++ k ∷ [])) (length ks) (depths_stay ks (k ∷ [])) (shape_of k.node) within)
       ];
     }
-
-pub shapes_pushed : (ks : List Kept) (k : Kept) → shapes (ks ++ k ∷ []) ≡ shapes ks ++ shape_of k.node ∷ []
-shapes_pushed ks k = map-append (λ (x : Kept). shape_of x.node) ks (k ∷ [])

@@ -25,8 +25,11 @@ pub mod FaultLaws
 pub mod Places
 pub mod TableLaws
 pub mod TableSteps
+pub mod InternLaws
 pub mod PartLaws
 pub mod StandingLaws
+pub mod NodeLaws
+pub mod RegionLaws
 pub mod KeptLaws
 pub mod AddedLaws
 pub mod WorkLaws

@@ -13,6 +13,7 @@ use Rattle.std.proofs.lemmas.List.Elements.{All-from_recursion}
 use Rattle.std.proofs.lemmas.List.Sorted.{ranks_by, sorted_far, IsPermutation-map, All-permutation}
 use Rattle.std.proofs.lemmas.Map.Keys.{IsDistinct-IsPermutation, apart_from_distinct}
 use Rattle.std.proofs.lemmas.Str.{encodes-chars, encodes-IsAscii, chars-IsAscii}
+use Rattle.ls_base.specs.declared.encoding.Encoding.{Encoding}
 use Rattle.ls_base.specs.declared.answers.Arrow.{Arrow}
 use Rattle.scheme_model.specs.SmallTokens as model
 use Rattle.scheme_model.specs.SmallTokens.{IsSpelled}
@@ -98,10 +99,10 @@ map-map f g [] = refl
 map-map f g (x ∷ xs) = ap (λ ys. f (g x) ∷ ys) (map-map f g xs)
 
 -- the walk's arrows
-pub walked_text : (text : List ℕ) (ts : List Token) (ds : Data) (ls sorted : List Link) (arrows : List Arrow) →
+pub walked_text : (e : Encoding) (text : List ℕ) (ts : List Token) (ds : Data) (ls sorted : List Link) (arrows : List Arrow) →
     IsAscii text → IsSpelled 0 (tokens_of ts) text → data_tokens ds [] ≡ number_from 0 (tokens_of ts) → data_depth ds ≤ 100 → is_program ds ≡ true → links_of ls ≡ program_links ds →
-    IsPermutation ls sorted → IsSorted link_cmp sorted → arrows ≡ map (λ l. arrow_at text (tokens_of ts) (link_of l)) sorted → AreWalked text arrows
-walked_text text ts ds ls sorted arrows ascii spelled formed shallow program found moved order printed =
+    IsPermutation ls sorted → IsSorted link_cmp sorted → arrows ≡ map (λ l. arrow_at e text (tokens_of ts) (link_of l)) sorted → AreWalked e text arrows
+walked_text e text ts ds ls sorted arrows ascii spelled formed shallow program found moved order printed =
     let permuted : IsPermutation (program_links ds) (links_of sorted) = subst (λ (q : List walked.Link). IsPermutation q (links_of sorted)) found (IsPermutation-map link_of ls sorted moved) in
     let distinct = IsDistinct-IsPermutation same_target target_flips (program_links ds) (links_of sorted) permuted
     (distinct_targets (length (tokens_of ts)) 0 (length (tokens_of ts)) (program_links ds) (links_ascend (tokens_of ts) ds formed)) in
@@ -114,7 +115,7 @@ walked_text text ts ds ls sorted arrows ascii spelled formed shallow program fou
       ordered = links_of sorted;
       same = permuted;
       sorted = sorted_strictly sorted order distinct;
-      printed = printed ∙ sym (map-map (arrow_at text (tokens_of ts)) link_of sorted);
+      printed = printed ∙ sym (map-map (arrow_at e text (tokens_of ts)) link_of sorted);
     }
 
 -- and the text is small

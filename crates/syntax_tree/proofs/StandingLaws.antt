@@ -1,25 +1,24 @@
 -- What numbers stand for: one tree at most, and the same tree as long as nodes and names stay.
-use Rattle.std.proofs.Common.{◌≡◌, ℕ, zero, suc, ◌+◌, ◌<◌, ◌≤◌, Bool, true, false, List, [], ◌∷◌, ◌++◌, map, length, slice_get, Option, Some, None, refl, sym, ap, ◌∙◌, subst, arith}
+use Rattle.std.proofs.Common.{◌≡◌, ℕ, zero, suc, ◌+◌, ◌<◌, ◌≤◌, Bool, true, false, List, [], ◌∷◌, ◌++◌, length, slice_get, Option, Some, None, refl, sym, ap, ◌∙◌, subst, arith}
 use Rattle.std.specs.Option.{option_map}
+use Rattle.std.specs.FinMap as map
 use Rattle.std.proofs.lemmas.Option.{same_Some}
 use Rattle.scheme_model.specs.declared.Occ.{Occ}
 use Rattle.scheme_model.specs.Trees.{Atom, Numeral, Quoted, Character, Boolean, Bytes, Tree, name, atom, list, vector, Trees, no_trees, tree, Tail, proper, dotted}
 use Rattle.syntax_tree.specs.Identifiers.{Identifier}
 use Rattle.syntax_tree.specs.Names.{Names, KeepsNames}
-use Rattle.syntax_tree.specs.Standing.{Shape, leaf_shape, list_shape, vector_shape, is_list, leaf_tree, LeafStands, Stands, AllStand, TailStands, IsNode}
+use Rattle.syntax_tree.specs.Nodes.{Shape, leaf_shape, list_shape, vector_shape, Lived, Nodes, shape_at, KeepsNodes}
+use Rattle.syntax_tree.specs.Standing.{is_list, leaf_tree, LeafStands, Stands, AllStand, TailStands, IsNode}
 use Rattle.syntax_tree.specs.declared.trees.nodes.Leaf.{Leaf}
 use Rattle.syntax_tree.specs.declared.trees.nodes.Leaf.TheVariants as code
 use Rattle.syntax_tree.proofs.Places.{none_some}
-
-map_some : {A B : Type 0} (f : A → B) (o : Option A) (y : B) → option_map f o ≡ Some y → (x : A) × (o ≡ Some x) × (f x ≡ y)
-map_some f None y h = none_some y h
-map_some f (Some x) y h = (x, refl, same_Some (f x) y h)
+use Rattle.syntax_tree.proofs.NodeLaws.{map_some}
 
 -- ---- nodes and numbers
 
 -- what stands has a node
-pub node_there : (nodes : List Shape) (names : Names) (t : Tree Identifier) (n : ℕ) → Stands nodes names t n →
-    (s : Shape) × (slice_get nodes n ≡ Some s) × IsNode nodes names s t
+pub node_there : (nodes : Nodes) (names : Names) (t : Tree Identifier) (n : ℕ) → Stands nodes names t n →
+    (s : Shape) × (shape_at nodes n ≡ Some s) × IsNode nodes names s t
 node_there nodes names (name i o) n h = (leaf_shape h.0 h.1, h.2, h.3)
 node_there nodes names (atom a o) n h = (leaf_shape h.0 h.1, h.2, h.3)
 node_there nodes names (list ts tail o) n h = (list_shape h.0 h.1 o, h.2, (ts, tail, refl, h.3, h.4))
@@ -40,7 +39,7 @@ leafy names (code.Char c) o t h = subst IsLeafy (same_Some (atom (Character c) o
 leafy names (code.Bool b) o t h = subst IsLeafy (same_Some (atom (Boolean b) o) t h) tt
 leafy names (code.Bytes k) o t h = let p = map_some (λ (s : List ℕ). atom (Bytes s) o) (slice_get names.symbols k) t h in subst IsLeafy p.2 tt
 
-leaf_there : (nodes : List Shape) (names : Names) (leaf : Leaf) (o : Option Occ) (t : Tree Identifier) (n : ℕ) → slice_get nodes n ≡ Some (leaf_shape leaf o) →
+leaf_there : (nodes : Nodes) (names : Names) (leaf : Leaf) (o : Option Occ) (t : Tree Identifier) (n : ℕ) → shape_at nodes n ≡ Some (leaf_shape leaf o) →
     leaf_tree names leaf o ≡ Some t → IsLeafy t → Stands nodes names t n
 leaf_there nodes names leaf o (name i p) n at h l = (leaf, o, at, h)
 leaf_there nodes names leaf o (atom a p) n at h l = (leaf, o, at, h)
@@ -48,7 +47,7 @@ leaf_there nodes names leaf o (list ts tail p) n at h l = absurd l
 leaf_there nodes names leaf o (vector ts p) n at h l = absurd l
 
 -- a node that lives at a number makes the number stand
-pub node_stands : (nodes : List Shape) (names : Names) (s : Shape) (t : Tree Identifier) (n : ℕ) → slice_get nodes n ≡ Some s → IsNode nodes names s t → Stands nodes names t n
+pub node_stands : (nodes : Nodes) (names : Names) (s : Shape) (t : Tree Identifier) (n : ℕ) → shape_at nodes n ≡ Some s → IsNode nodes names s t → Stands nodes names t n
 node_stands nodes names (leaf_shape leaf o) t n at h = leaf_there nodes names leaf o t n at h (leafy names leaf o t h)
 node_stands nodes names (list_shape items end o) t n at h =
     subst (λ (u : Tree Identifier). Stands nodes names u n) (sym h.2) (items, end, at, h.3, h.4)
@@ -69,17 +68,18 @@ leaf_kept names names' keeps (code.Char c) o t h = h
 leaf_kept names names' keeps (code.Bool b) o t h = h
 leaf_kept names names' keeps (code.Bytes k) o t h = map_kept (λ (s : List ℕ). atom (Bytes s) o) (slice_get names.symbols k) (slice_get names'.symbols k) t (keeps.symbols k) h
 
--- each node that lives keeps its number
-pub record KeepsNodes (old new : List Shape) : Type 0 where
-  pub nodes : (n : ℕ) (s : Shape) → slice_get old n ≡ Some s → slice_get new n ≡ Some s
+pub shape_kept : (old new : Nodes) → KeepsNodes old new → (n : ℕ) (s : Shape) → shape_at old n ≡ Some s → shape_at new n ≡ Some s
+shape_kept old new keeps n s h =
+    let p = map_some (λ (l : Lived). l.shape) (map.get old n) s h in
+    ap (option_map (λ (l : Lived). l.shape)) (keeps n p.0 p.1) ∙ ap Some p.2
 
-module _ (old new : List Shape) (names names' : Names) (stay : KeepsNodes old new) (keeps : KeepsNames names names') where
+module _ (old new : Nodes) (names names' : Names) (stay : KeepsNodes old new) (keeps : KeepsNames names names') where
   mutual
     pub stands_kept : (t : Tree Identifier) (n : ℕ) → Stands old names t n → Stands new names' t n
-    stands_kept (name i o) n h = (h.0, h.1, stay.nodes n (leaf_shape h.0 h.1) h.2, leaf_kept names names' keeps h.0 h.1 (name i o) h.3)
-    stands_kept (atom a o) n h = (h.0, h.1, stay.nodes n (leaf_shape h.0 h.1) h.2, leaf_kept names names' keeps h.0 h.1 (atom a o) h.3)
-    stands_kept (list ts tail o) n h = (h.0, h.1, stay.nodes n (list_shape h.0 h.1 o) h.2, all_kept ts h.0 h.3, tail_kept tail h.1 h.4)
-    stands_kept (vector ts o) n h = (h.0, stay.nodes n (vector_shape h.0 o) h.1, all_kept ts h.0 h.2)
+    stands_kept (name i o) n h = (h.0, h.1, shape_kept old new stay n (leaf_shape h.0 h.1) h.2, leaf_kept names names' keeps h.0 h.1 (name i o) h.3)
+    stands_kept (atom a o) n h = (h.0, h.1, shape_kept old new stay n (leaf_shape h.0 h.1) h.2, leaf_kept names names' keeps h.0 h.1 (atom a o) h.3)
+    stands_kept (list ts tail o) n h = (h.0, h.1, shape_kept old new stay n (list_shape h.0 h.1 o) h.2, all_kept ts h.0 h.3, tail_kept tail h.1 h.4)
+    stands_kept (vector ts o) n h = (h.0, shape_kept old new stay n (vector_shape h.0 o) h.1, all_kept ts h.0 h.2)
 
     pub all_kept : (ts : Trees Identifier) (ns : List ℕ) → AllStand old names ts ns → AllStand new names' ts ns
     all_kept no_trees [] h = tt
@@ -101,13 +101,13 @@ module _ (old new : List Shape) (names names' : Names) (stay : KeepsNodes old ne
 pub names_itself : (names : Names) → KeepsNames names names
 names_itself names = record { symbols = λ n s h. h; idents = λ n i h. h }
 
-pub nodes_itself : (nodes : List Shape) → KeepsNodes nodes nodes
-nodes_itself nodes = record { nodes = λ n s h. h }
+pub nodes_itself : (nodes : Nodes) → KeepsNodes nodes nodes
+nodes_itself nodes n l h = h
 
 -- ---- one tree at most
 
-module _ (nodes : List Shape) (names : Names) where
-  same_node : {P : Type 0} (n : ℕ) (s u : Shape) → slice_get nodes n ≡ Some s → slice_get nodes n ≡ Some u → (s ≡ u → P) → P
+module _ (nodes : Nodes) (names : Names) where
+  same_node : {P : Type 0} (n : ℕ) (s u : Shape) → shape_at nodes n ≡ Some s → shape_at nodes n ≡ Some u → (s ≡ u → P) → P
   same_node n s u p q k = k (same_Some s u (sym p ∙ q))
 
   leaf_once : (t u : Tree Identifier) (n : ℕ) → LeafStands nodes names t n → LeafStands nodes names u n → t ≡ u

@@ -1,5 +1,5 @@
 -- The invariant of the tables of symbols and identifiers, kept at each call.
-use Rattle.std.proofs.Common.{◌≡◌, ℕ, ◌+◌, ◌<◌, ◌≤◌, Bool, true, false, cond, List, [], ◌∷◌, ◌++◌, map, length, slice_get, Option, Some, None, is_some, refl, sym, ap, ◌∙◌, subst, inl, inr, arith, String, ltb, append-nil}
+use Rattle.std.proofs.Common.{◌≡◌, ◌⊎◌, ℕ, ◌+◌, ◌<◌, ◌≤◌, Bool, true, false, cond, List, [], ◌∷◌, ◌++◌, map, length, slice_get, Option, Some, None, is_some, refl, sym, ap, ◌∙◌, subst, inl, inr, arith, String, ltb, append-nil}
 use Rattle.std.specs.Global.{Global}
 use Rattle.std.specs.List.{position, position_or_len, list_any}
 use Rattle.std.specs.Map.{keys_of, values_of}
@@ -14,7 +14,7 @@ use Rattle.indexmap.specs.IndexMap.{keys, values}
 use Rattle.indexmap.specs.IndexSet.{insert_key}
 use Rattle.scheme_model.specs.Identifiers.{Number}
 use Rattle.syntax_tree.specs.Identifiers.{Identifier, Written, Inserted, strip}
-use Rattle.syntax_tree.specs.Names.{Names, AreToldApart, GainsAtMost, KeepsNames}
+use Rattle.syntax_tree.specs.Names.{Names, AreToldApart, KeepsNames}
 use Rattle.syntax_tree.specs.Numbered.{number_of, ident_of, IsBelow, IsPlaced, next_ident, idents_after, AreBefore, Strings, Entries, symbols_of, names_of, AreTables}
 use Rattle.syntax_tree.specs.declared.symbols.Ident.{Ident}
 use Rattle.syntax_tree.specs.declared.symbols.Ident.TheVariants as code
@@ -152,6 +152,10 @@ ident_added names idents new now i x view placed e at =
     subst P view (λ (h : IsPlaced (names_of names idents) x).
     ap (λ (l : List Identifier). slice_get l i) (idents_pushed symbols (keys idents) new x e)
     ∙ ap (slice_get (is ++ next_ident symbols is x ∷ [])) place ∙ get_next is [] (next_ident symbols is x) ∙ sym (next-is symbols is x h)) placed
+
+-- a list stays, or has one thing more at its end
+abbrev pub GainsAtMost : {A : Type 0} → List A → List A → A → Type 0
+GainsAtMost old new x = (new ≡ old) ⊎ (new ≡ old ++ x ∷ [])
 
 pub ident_grows : (names : Strings) (idents : Entries) (new : List Ident) (now : Names) (x : Ident) → names_of names idents ≡ now → IsPlaced now x →
     new ≡ keys idents ++ x ∷ [] → (d : Identifier) → ident_of now x ≡ Some d → GainsAtMost now.idents (idents_after (symbols_of names) [] new) d

@@ -1,7 +1,9 @@
 -- The nodes of the code with their measures, and what they are as shapes.
-use Rattle.std.specs.Prelude.{◌≡◌, ℕ, ◌+◌, ◌^◌, ◌<◌, ◌≤◌, max, List, [], ◌∷◌, map, length, sum_by, slice_get, Option, Some, None}
+use Rattle.std.specs.Prelude.{◌≡◌, ℕ, suc, ◌+◌, ◌^◌, ◌<◌, ◌≤◌, max, List, [], ◌∷◌, map, length, sum_by, slice_get, Option, Some, None}
 use Rattle.std.specs.Option.{option_map, option_map_or}
-use Rattle.syntax_tree.specs.Standing.{Shape, leaf_shape, list_shape, vector_shape, Forest}
+use Rattle.std.specs.FinMap as finite
+use Rattle.syntax_tree.specs.Nodes.{Shape, leaf_shape, list_shape, vector_shape, Lived, Nodes}
+use Rattle.syntax_tree.specs.Regions.{IsClosed}
 use Rattle.syntax_tree.specs.declared.trees.nodes.Tree.{Tree}
 use Rattle.syntax_tree.specs.declared.trees.nodes.Node.{Node}
 use Rattle.syntax_tree.specs.declared.trees.nodes.Node.TheVariants as code
@@ -15,8 +17,16 @@ shape_of (code.Atom leaf o) = leaf_shape leaf o
 shape_of (code.List items tail o) = list_shape (numbers items.items) (option_map (λ t. t.number) tail) o
 shape_of (code.Vector items o) = vector_shape (numbers items.items) o
 
-abbrev pub shapes : List Kept → List Shape
-shapes ks = map (λ k. shape_of k.node) ks
+abbrev pub lived_as : Kept → Lived
+lived_as k = record { shape = shape_of k.node; region = k.region }
+
+-- each node with its number: its place in the vector of the code
+abbrev pub entries_from : ℕ → List Kept → List (ℕ × Lived)
+entries_from i [] = []
+entries_from i (k ∷ ks) = (i, lived_as k) ∷ entries_from (suc i) ks
+
+abbrev pub nodes_of : List Kept → Nodes
+nodes_of ks = finite.from_entries (entries_from 0 ks)
 
 -- the size and the depth that are kept at a number
 abbrev pub size_at : List Kept → ℕ → ℕ
@@ -56,13 +66,14 @@ IsWithin count (list_shape items None o) = AreWithin count items
 IsWithin count (list_shape items (Some n) o) = AreWithin count items × (n < count)
 IsWithin count (vector_shape items o) = AreWithin count items
 
--- what contracts see of the nodes and the regions
-abbrev pub forest_of : List Kept → List ℕ → Forest
-forest_of ks regions = record { nodes = shapes ks; regions = length regions }
-
 -- the invariant of the nodes: the parts of each are nodes, and its measures are those of its parts
 pub record AreKept (ks : List Kept) : Type 0 where
   pub few : length ks ≤ 2 ^ 31
   pub within : (n : ℕ) (k : Kept) → slice_get ks n ≡ Some k → IsWithin (length ks) (shape_of k.node)
   pub sizes : (n : ℕ) (k : Kept) → slice_get ks n ≡ Some k → k.size ≡ shape_size (size_at ks) (shape_of k.node)
   pub depths : (n : ℕ) (k : Kept) → slice_get ks n ≡ Some k → k.depth ≡ shape_depth (depth_at ks) (shape_of k.node)
+
+-- and of the regions: each node names only what the nodes of its region may name
+pub record IsTable (ks : List Kept) (regions : List (List ℕ)) : Type 0 where
+  pub kept : AreKept ks
+  pub closed : IsClosed (nodes_of ks) regions

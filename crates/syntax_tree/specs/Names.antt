@@ -1,8 +1,11 @@
 -- What contracts see of the tables of symbols and identifiers. A number is a place in one of these lists.
-use Rattle.std.specs.Prelude.{◌≡◌, ◌⊎◌, ℕ, ◌<◌, List, [], ◌∷◌, ◌++◌, length, slice_get, Some, refl}
+use Rattle.std.specs.Prelude.{◌≡◌, ℕ, ◌<◌, Bool, List, [], ◌∷◌, ◌++◌, length, slice_get, Some, if◌then◌else◌, refl}
+use Rattle.std.specs.List.{list_any}
+use Rattle.std.specs.Str.{bytes_eq}
 use Rattle.std.proofs.Common.{ap}
 use Rattle.std.specs.Coded.{Coded, code_by, coded×, coded_ℕ, coded_list}
-use Rattle.syntax_tree.specs.Identifiers.{Identifier, Written, Inserted}
+use Rattle.scheme_model.specs.Identifiers.{same_name}
+use Rattle.syntax_tree.specs.Identifiers.{Identifier, Written, Inserted, as_name}
 
 -- the symbols, each as its characters in UTF-8, and the identifiers
 pub record Names : Type 0 where
@@ -13,9 +16,15 @@ pub record Names : Type 0 where
 abbrev pub AreToldApart : {A : Type 0} → List A → Type 0
 AreToldApart xs = (i j : ℕ) → i < length xs → slice_get xs i ≡ slice_get xs j → i ≡ j
 
--- a list stays, or has one thing more at its end
-abbrev pub GainsAtMost : {A : Type 0} → List A → List A → A → Type 0
-GainsAtMost old new x = (new ≡ old) ⊎ (new ≡ old ++ x ∷ [])
+-- a list with a thing at its end, where it isn't in the list yet
+abbrev pub with_new : {A : Type 0} → (A → A → Bool) → List A → A → List A
+with_new same xs x = if list_any (same x) xs then xs else (xs ++ x ∷ [])
+
+abbrev pub with_symbol : List (List ℕ) → List ℕ → List (List ℕ)
+with_symbol symbols s = with_new bytes_eq symbols s
+
+abbrev pub with_ident : List Identifier → Identifier → List Identifier
+with_ident idents i = with_new (λ a b. same_name (as_name a) (as_name b)) idents i
 
 -- each symbol and each identifier keeps its number
 pub record KeepsNames (old new : Names) : Type 0 where

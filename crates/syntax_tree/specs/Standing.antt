@@ -6,19 +6,9 @@ use Rattle.scheme_model.specs.declared.Occ.{Occ}
 use Rattle.scheme_model.specs.Trees.{Numeral, Quoted, Character, Boolean, Bytes, Tree, name, atom, list, vector, Trees, no_trees, tree, Tail, proper, dotted}
 use Rattle.syntax_tree.specs.Identifiers.{Identifier}
 use Rattle.syntax_tree.specs.Names.{Names}
+use Rattle.syntax_tree.specs.Nodes.{Shape, leaf_shape, list_shape, vector_shape, Nodes, shape_at}
 use Rattle.syntax_tree.specs.declared.trees.nodes.Leaf.{Leaf}
 use Rattle.syntax_tree.specs.declared.trees.nodes.Leaf.TheVariants as code
-
--- a node: a leaf, a list with its tail, or a vector. The parts are numbers of nodes
-pub data Shape : Type 0 where
-  leaf_shape : Leaf → Option Occ → Shape
-  list_shape : List ℕ → Option ℕ → Option Occ → Shape
-  vector_shape : List ℕ → Option Occ → Shape
-
--- the nodes that live, each at its number, and how many regions were opened
-pub record Forest : Type 0 where
-  pub nodes : List Shape
-  pub regions : ℕ
 
 abbrev pub is_list : {A : Type 0} → Tree A → Bool
 is_list (name i o) = false
@@ -36,34 +26,34 @@ leaf_tree names (code.Bool b) o = Some (atom (Boolean b) o)
 leaf_tree names (code.Bytes k) o = option_map (λ (s : List ℕ). atom (Bytes s) o) (slice_get names.symbols k)
 
 -- a leaf lives at this number, and stands for the tree
-abbrev pub LeafStands : List Shape → Names → Tree Identifier → ℕ → Type 0
+abbrev pub LeafStands : Nodes → Names → Tree Identifier → ℕ → Type 0
 LeafStands nodes names t n =
-    (leaf : Leaf) × (o : Option Occ) × (slice_get nodes n ≡ Some (leaf_shape leaf o)) × (leaf_tree names leaf o ≡ Some t)
+    (leaf : Leaf) × (o : Option Occ) × (shape_at nodes n ≡ Some (leaf_shape leaf o)) × (leaf_tree names leaf o ≡ Some t)
 
 -- the node of this number lives, and is of this tree: its parts stand for the tree's parts, and a tail is no list
 abbrev mutual
-  pub Stands : List Shape → Names → Tree Identifier → ℕ → Type 0
+  pub Stands : Nodes → Names → Tree Identifier → ℕ → Type 0
   Stands nodes names (name i o) n = LeafStands nodes names (name i o) n
   Stands nodes names (atom a o) n = LeafStands nodes names (atom a o) n
   Stands nodes names (list ts tail o) n =
-      (items : List ℕ) × (end : Option ℕ) × (slice_get nodes n ≡ Some (list_shape items end o)) × AllStand nodes names ts items × TailStands nodes names tail end
+      (items : List ℕ) × (end : Option ℕ) × (shape_at nodes n ≡ Some (list_shape items end o)) × AllStand nodes names ts items × TailStands nodes names tail end
   Stands nodes names (vector ts o) n =
-      (items : List ℕ) × (slice_get nodes n ≡ Some (vector_shape items o)) × AllStand nodes names ts items
+      (items : List ℕ) × (shape_at nodes n ≡ Some (vector_shape items o)) × AllStand nodes names ts items
 
-  pub AllStand : List Shape → Names → Trees Identifier → List ℕ → Type 0
+  pub AllStand : Nodes → Names → Trees Identifier → List ℕ → Type 0
   AllStand nodes names no_trees [] = Unit {0}
   AllStand nodes names no_trees (n ∷ ns) = ⊥
   AllStand nodes names (tree t ts) [] = ⊥
   AllStand nodes names (tree t ts) (n ∷ ns) = Stands nodes names t n × AllStand nodes names ts ns
 
-  pub TailStands : List Shape → Names → Tail Identifier → Option ℕ → Type 0
+  pub TailStands : Nodes → Names → Tail Identifier → Option ℕ → Type 0
   TailStands nodes names proper None = Unit {0}
   TailStands nodes names proper (Some n) = ⊥
   TailStands nodes names (dotted t) None = ⊥
   TailStands nodes names (dotted t) (Some n) = (is_list t ≡ false) × Stands nodes names t n
 
 -- a node is of this tree: its parts stand for the tree's parts
-abbrev pub IsNode : List Shape → Names → Shape → Tree Identifier → Type 0
+abbrev pub IsNode : Nodes → Names → Shape → Tree Identifier → Type 0
 IsNode nodes names (leaf_shape leaf o) t = leaf_tree names leaf o ≡ Some t
 IsNode nodes names (list_shape items end o) t =
     (ts : Trees Identifier) × (tail : Tail Identifier) × (t ≡ list ts tail o) × AllStand nodes names ts items × TailStands nodes names tail end

@@ -1,7 +1,7 @@
 -- What the walk over a small program finds: for each use the innermost binder of its symbol.
 use Rattle.std.specs.Prelude.{◌≡◌, ℕ, zero, suc, ◌+◌, ◌-◌, ◌<◌, ◌≤◌, List, [], ◌∷◌, ◌++◌, true, map, take, drop, Option, Some, None, codes, if◌then◌else◌, ◌⊎◌, AllPairs, IsPermutation, slice_index_or}
 use Rattle.std.specs.Str.{bytes_eq}
-use Rattle.ls_base.specs.declared.encoding.Encoding.TheVariants.{Utf16}
+use Rattle.ls_base.specs.declared.encoding.Encoding.{Encoding}
 use Rattle.ls_base.specs.Positions.{position_of}
 use Rattle.ls_base.specs.declared.answers.Arrow.{Arrow}
 use Rattle.ls_base.specs.declared.places.Place.{Place}
@@ -103,19 +103,19 @@ link_of ds p = record { binder = number_of ds p.binder; target = number_of ds p.
 abbrev pub token_at : List Token → ℕ → Token
 token_at ts n = slice_index_or ts n (record { kind = Paren; start = 0; end = 0 })
 
--- a token's place in the text, whose document is called `input`
-abbrev pub place_at : List ℕ → Token → Place
-place_at text t = record { uri = codes "input"; range = record { start = position_of Utf16 text t.start; end = position_of Utf16 text t.end } }
+-- a token's place in the text, in an encoding; the document is called `input`
+abbrev pub place_at : Encoding → List ℕ → Token → Place
+place_at e text t = record { uri = codes "input"; range = record { start = position_of e text t.start; end = position_of e text t.end } }
 
 -- a token as it is written
 abbrev pub written_at : List ℕ → Token → List ℕ
 written_at text t = take (t.end - t.start) (drop t.start text)
 
-abbrev pub arrow_at : List ℕ → List Token → Link → Arrow
-arrow_at text ts l = record { from = place_at text (token_at ts l.binder); to = place_at text (token_at ts l.target); name = written_at text (token_at ts l.target) }
+abbrev pub arrow_at : Encoding → List ℕ → List Token → Link → Arrow
+arrow_at e text ts l = record { from = place_at e text (token_at ts l.binder); to = place_at e text (token_at ts l.target); name = written_at text (token_at ts l.target) }
 
 -- the arrows that the walk over a small text finds, sorted by binder and then use, each once
-pub record AreWalked (text : List ℕ) (arrows : List Arrow) : Type 0 where
+pub record AreWalked (encoding : Encoding) (text : List ℕ) (arrows : List Arrow) : Type 0 where
   pub tokens : List Token
   pub forms : Data
   pub read : IsReading text tokens forms
@@ -124,15 +124,15 @@ pub record AreWalked (text : List ℕ) (arrows : List Arrow) : Type 0 where
   pub ordered : List Link
   pub same : IsPermutation (program_links forms) ordered
   pub sorted : AllPairs IsBefore ordered
-  pub printed : arrows ≡ map (arrow_at text tokens) ordered
+  pub printed : arrows ≡ map (arrow_at encoding text tokens) ordered
 
 -- the arrows of a small text: those of its program's expansion, each once, by the places of their tokens and sorted by
 -- binder and then use
-pub record HasArrows (text : List ℕ) (arrows : List Arrow) : Type 0 where
+pub record HasArrows (encoding : Encoding) (text : List ℕ) (arrows : List Arrow) : Type 0 where
   pub tokens : List Token
   pub forms : Data
   pub read : IsReading text tokens forms
   pub ordered : List Link
   pub same : IsPermutation (map (link_of forms) (program_arrows forms)) ordered
   pub sorted : AllPairs IsBefore ordered
-  pub printed : arrows ≡ map (arrow_at text tokens) ordered
+  pub printed : arrows ≡ map (arrow_at encoding text tokens) ordered

@@ -1,9 +1,12 @@
 -- What contracts say of the trees in a work.
-use Rattle.std.specs.Prelude.{ℕ, ◌<◌, List, length, slice_get, Option}
+use Rattle.std.specs.Prelude.{◌≡◌, ◌⊎◌, ℕ, ◌<◌, List, length, Option, Some, None}
+use Rattle.std.specs.FinMap as map
 use Rattle.scheme_model.specs.Trees.{Tree}
 use Rattle.syntax_tree.specs.Identifiers.{Identifier}
 use Rattle.syntax_tree.specs.Names.{Names}
-use Rattle.syntax_tree.specs.Standing.{Shape, Stands, IsNode}
+use Rattle.syntax_tree.specs.Nodes.{Shape, Lived, shape_at, region_at}
+use Rattle.syntax_tree.specs.Regions.{Outlives, MayName, MayNameParts}
+use Rattle.syntax_tree.specs.Standing.{Stands, IsNode}
 use Rattle.syntax_tree.specs.Kept.{shape_of}
 use Rattle.syntax_tree.specs.Added.{IsNodeOfSmall}
 use Rattle.syntax_tree.specs.declared.trees.Work.{Work}
@@ -29,20 +32,56 @@ CanAdd work node = IsNodeOfSmall work.trees.nodes work.symbols (shape_of node)
 
 -- how many nodes live
 abbrev pub live_count : Work → ℕ
-live_count work = length work.trees.nodes
+live_count work = map.len work.trees.nodes
 
 -- the node that lives at a number
 abbrev pub node_at : Work → code.Tree → Option Shape
-node_at work n = slice_get work.trees.nodes n.number
+node_at work n = shape_at work.trees.nodes n.number
 
--- the work opened this region
+-- ---- regions
+
+-- the work opened this region, and no other work did
 abbrev pub IsOpened : Work → Region → Type 0
-IsOpened work region = region.number < work.trees.regions
+IsOpened work region = (work.trees.identity ≡ Some region.work.value.name) × (region.number < length work.trees.regions)
 
--- what stood before still stands for the same tree, and regions stay open
+-- the tree's outermost node lies in the region
+abbrev pub LiesIn : Work → Region → code.Tree → Type 0
+LiesIn work region n = region_at work.trees.nodes n.number ≡ Some region.number
+
+-- the first region is to be let go only after the second
+abbrev pub OutlivesIn : Work → Region → Region → Type 0
+OutlivesIn work outer inner = Outlives work.trees.regions outer.number inner.number
+
+-- nodes of the region may name the tree: it lies in this region or in one that outlives it
+abbrev pub CanName : Work → Region → code.Tree → Type 0
+CanName work region n = MayName work.trees.nodes work.trees.regions region.number n.number
+
+-- nodes of the region may name all parts of this node
+abbrev pub CanNameParts : Work → Region → Node → Type 0
+CanNameParts work region node = MayNameParts work.trees.nodes work.trees.regions region.number (shape_of node)
+
+-- the node as it lives in the region
+abbrev pub lived_in : Region → Node → Lived
+lived_in region node = record { shape = shape_of node; region = region.number }
+
+-- ---- what a call leaves
+
+-- what stood before still stands for the same tree, each node in its region; regions stay open and outlive those that they outlived
 pub record KeepsTrees (old new : Work) : Type 0 where
   pub trees : (n : code.Tree) (t : Tree Identifier) → StandsFor old n t → StandsFor new n t
+  pub places : (n : code.Tree) (r : ℕ) → region_at old.trees.nodes n.number ≡ Some r → region_at new.trees.nodes n.number ≡ Some r
   pub regions : (region : Region) → IsOpened old region → IsOpened new region
+  pub outlives : (a b : ℕ) → Outlives old.trees.regions a b → Outlives new.trees.regions a b
+
+-- no region was opened, and none outlives more than before
+pub record SameRegions (old new : Work) : Type 0 where
+  pub identity : new.trees.identity ≡ old.trees.identity
+  pub regions : new.trees.regions ≡ old.trees.regions
+
+-- each node that lives did so before, or was added in this region
+abbrev pub AddsIn : Work → Work → Region → Type 0
+AddsIn old new region =
+    (n : ℕ) (l : Lived) → map.get new.trees.nodes n ≡ Some l → (map.get old.trees.nodes n ≡ Some l) ⊎ ((map.get old.trees.nodes n ≡ None) × (l.region ≡ region.number))
 
 -- the same nodes over other names
 abbrev pub with_names : Work → Names → Work

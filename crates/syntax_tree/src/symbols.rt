@@ -1,9 +1,9 @@
 //! Symbols and identifiers by number. A number is a place in a table, so equal symbols have one number, and so do
 //! equal identifiers (R7RS 4.3).
-ghost use Rattle.std.specs.Prelude.{◌≡◌, ◌<◌, [], length, slice_get, Some, IfOk, OnErr};
+ghost use Rattle.std.specs.Prelude.{◌≡◌, ◌<◌, [], length, slice_get, Some, IfOk, OnOk, OnErr};
 ghost use Rattle.std.specs.Option.{option_map};
 ghost use Rattle.syntax_tree.specs.Identifiers.{Identifier, strip};
-ghost use Rattle.syntax_tree.specs.Names.{Names, AreToldApart, GainsAtMost, KeepsNames};
+ghost use Rattle.syntax_tree.specs.Names.{Names, AreToldApart, KeepsNames, with_symbol, with_ident};
 ghost use Rattle.syntax_tree.specs.Numbered.{ident_of, IsPlaced};
 
 use indexmap::{IndexMap, IndexSet};
@@ -70,7 +70,7 @@ impl Symbols {
     /// The number of a symbol, which is added at the end where it is new. The name is the symbol's characters in UTF-8.
     pub fn symbol(&mut self, name: &str) -> Mem<SymNo>
         ensures ok { IfOk result (λ n. slice_get self.new.symbols n ≡ Some name.now) }
-        ensures grows { GainsAtMost self.old.symbols self.new.symbols name.now }
+        ensures symbols { OnOk result (self.new.symbols ≡ with_symbol self.old.symbols name.now) }
         ensures idents { self.new.idents ≡ self.old.idents }
         ensures keeps { KeepsNames self.old self.new }
         ensures err { OnErr result (self.new ≡ self.old) }
@@ -95,8 +95,8 @@ impl Symbols {
     pub fn ident(&mut self, ident: Ident) -> Mem<IdNo>
         requires { IsPlaced self.old ident }
         ensures ok { IfOk result (λ n. slice_get self.new.idents n ≡ ident_of self.old ident) }
-        ensures grows { (i : Identifier) → ident_of self.old ident ≡ Some i →
-            GainsAtMost self.old.idents self.new.idents i }
+        ensures idents { (i : Identifier) → ident_of self.old ident ≡ Some i →
+            OnOk result (self.new.idents ≡ with_ident self.old.idents i) }
         ensures symbols { self.new.symbols ≡ self.old.symbols }
         ensures keeps { KeepsNames self.old self.new }
         ensures err { OnErr result (self.new ≡ self.old) }
@@ -146,6 +146,3 @@ impl Symbols {
         }
     }
 }
-
-#[cfg(test)]
-mod tests;

@@ -5,6 +5,3 @@ pub mod lines;
 mod within;
 
 pub use lines::Lines;
-
-#[cfg(test)]
-mod tests;

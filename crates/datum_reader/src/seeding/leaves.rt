@@ -3,11 +3,10 @@ ghost use Rattle.std.specs.Prelude.{◌≡◌, IfOk, true, map, Some, chars, str
 ghost use Rattle.std.specs.List.{join_with_byte};
 ghost use Rattle.scheme_model.specs.Trees.{name as name_tree, atom, Bytes};
 ghost use Rattle.syntax_tree.specs.Identifiers.{Written};
-ghost use Rattle.syntax_tree.specs.Names.{KeepsNames};
 ghost use Rattle.datum_reader.specs.Views.{kind_of};
 ghost use Rattle.datum_reader.specs.Right.{is_atom};
 ghost use Rattle.datum_reader.specs.Seeded.{atom_tree};
-ghost use Rattle.datum_reader.specs.Seeding.{IsLeafOf};
+ghost use Rattle.datum_reader.specs.Seeding.{Interns};
 
 use ls_base::{Mem, Text};
 use scheme_model::Occ;
@@ -19,8 +18,7 @@ use syntax_tree::trees::{Leaf, Node};
 /// The node of an atom or of the identifier that a mark implies, which has no place.
 pub fn atom_node(symbols: &mut Symbols, kind: &TokenKind, unit: u32, occ: Occ) -> Mem<Node>
     requires { is_atom (kind_of kind.now) ≡ true }
-    ensures node { IfOk result (λ node. IsLeafOf symbols.new node (atom_tree unit (kind_of kind.now) occ)) }
-    ensures names { KeepsNames symbols.old symbols.new }
+    ensures { Interns symbols.old symbols.new (atom_tree unit (kind_of kind.now) occ) result }
 {
     match kind {
         TokenKind::Name { name, bars: _ } => {
@@ -51,8 +49,7 @@ pub fn atom_node(symbols: &mut Symbols, kind: &TokenKind, unit: u32, occ: Occ) -
 
 /// The node of a bytevector, which keeps its numerals with one space between each two.
 pub fn bytes_node(alloc: Global, symbols: &mut Symbols, numerals: &[Text], occ: Occ) -> Mem<Node>
-    ensures node { IfOk result (λ node. IsLeafOf symbols.new node (atom (Bytes (join_with_byte 32 (map encode_utf8_all (map chars numerals.now)))) (Some occ))) }
-    ensures names { KeepsNames symbols.old symbols.new }
+    ensures { Interns symbols.old symbols.new (atom (Bytes (join_with_byte 32 (map encode_utf8_all (map chars numerals.now)))) (Some occ)) result }
 {
     let text = joined(alloc, numerals)?;
     let symbol = symbols.symbol(text.as_str())?;
@@ -71,8 +68,7 @@ fn leaf_node(leaf: Leaf, occ: Occ) -> Node
 
 /// The node of an identifier that is written in a unit.
 fn name_node(symbols: &mut Symbols, name: &str, unit: u32, occ: Option<Occ>) -> Mem<Node>
-    ensures node { IfOk result (λ node. IsLeafOf symbols.new node (name_tree (Written unit name.now) occ)) }
-    ensures names { KeepsNames symbols.old symbols.new }
+    ensures { Interns symbols.old symbols.new (name_tree (Written unit name.now) occ) result }
 {
     let symbol = symbols.symbol(name)?;
     let number = symbols.ident(Ident::Written { unit, symbol })?;

@@ -1,6 +1,7 @@
 //! Arrows from links: where their tokens stand, and how the use is written.
 ghost use Rattle.std.specs.Prelude.{◌≡◌, ◌<◌, ◌≤◌, ◌+◌, ◌-◌, ◌^◌, length, true, map, codes, IfOk};
 ghost use Rattle.std.specs.List.{All, list_all};
+ghost use Rattle.ls_base.specs.declared.encoding.Encoding.{Encoding};
 ghost use Rattle.syntax_tree.specs.Scanned.{is_plain, further, IsPlaced};
 ghost use Rattle.syntax_tree.specs.Views.{tokens_of, link_of, IsLinkWithin};
 ghost use Rattle.syntax_tree.specs.Walked.{arrow_at};
@@ -30,13 +31,13 @@ fn place(alloc: Global, token: &Token<'_>) -> Mem<Place>
     })
 }
 
-/// The arrow of a link.
+/// The arrow of a link, which is the same in each encoding.
 fn arrow(alloc: Global, text: &str, tokens: &[Token<'_>], link: Link) -> Mem<Arrow>
     requires short { length text.now < 2 ^ 32 }
     requires plain { list_all is_plain text.now ≡ true }
     requires placed { All (IsPlaced text.now) tokens.now }
     requires within { IsLinkWithin (length tokens.now) link }
-    ensures { IfOk result (λ a. a ≡ arrow_at text.now (tokens_of tokens.now) (link_of link)) }
+    ensures { IfOk result (λ a. (encoding : Encoding) → a ≡ arrow_at encoding text.now (tokens_of tokens.now) (link_of link)) }
 {
     let binder = tokens[link.binder as usize];
     let target = tokens[link.target as usize];
@@ -46,13 +47,13 @@ fn arrow(alloc: Global, text: &str, tokens: &[Token<'_>], link: Link) -> Mem<Arr
     Ok(Arrow { from, to, name })
 }
 
-/// The arrow of each link.
+/// The arrow of each link, which is the same in each encoding.
 pub fn arrows(alloc: Global, text: &str, tokens: &[Token<'_>], links: &[Link]) -> Mem<Vec<Arrow>>
     requires short { length text.now < 2 ^ 32 }
     requires plain { list_all is_plain text.now ≡ true }
     requires placed { All (IsPlaced text.now) tokens.now }
     requires within { All (IsLinkWithin (length tokens.now)) links.now }
-    ensures { IfOk result (λ v. v.items ≡ map (λ l. arrow_at text.now (tokens_of tokens.now) (link_of l)) links.now) }
+    ensures { IfOk result (λ v. (encoding : Encoding) → v.items ≡ map (λ l. arrow_at encoding text.now (tokens_of tokens.now) (link_of l)) links.now) }
 {
     let mut arrows = Vec::new(alloc);
     for link in links {

@@ -3,6 +3,7 @@
 
 ghost use Rattle.std.specs.Prelude.{OnOk, IfOk, IsErrOf};
 ghost use Rattle.syntax_tree.specs.Small.{IsSmall};
+ghost use Rattle.ls_base.specs.declared.encoding.Encoding.{Encoding};
 ghost use Rattle.syntax_tree.specs.Walked.{AreWalked, HasArrows};
 
 use crate::small::arrows::arrows;
@@ -69,10 +70,10 @@ impl<T: Drop> From<AllocFailed<T>> for SmallFault {
 }
 
 /// The arrows of a small text: those that the expansion of its program by substitution has, each once, sorted by binder
-/// and then by use. Any text may be asked about.
+/// and then by use. Their positions are the same in each encoding. Any text may be asked about.
 pub fn small_arrows(alloc: Global, text: &str) -> Result<Items<Arrow>, SmallFault>
     ensures small { OnOk result (IsSmall text.now) }
-    ensures arrows { IfOk result (λ arrows. HasArrows text.now arrows) }
+    ensures arrows { IfOk result (λ arrows. (encoding : Encoding) → HasArrows encoding text.now arrows) }
     ensures not_small { IsErrOf result SmallFault.NotSmall → ¬ IsSmall text.now }
 {
     let arrows = walked_arrows(alloc, text)?;
@@ -82,7 +83,7 @@ pub fn small_arrows(alloc: Global, text: &str) -> Result<Items<Arrow>, SmallFaul
 /// The arrows that the walk through scopes finds.
 fn walked_arrows(alloc: Global, text: &str) -> Result<Items<Arrow>, SmallFault>
     ensures small { OnOk result (IsSmall text.now) }
-    ensures arrows { IfOk result (λ arrows. AreWalked text.now arrows) }
+    ensures arrows { IfOk result (λ arrows. (encoding : Encoding) → AreWalked encoding text.now arrows) }
     ensures not_small { IsErrOf result SmallFault.NotSmall → ¬ IsSmall text.now }
 {
     if text.len() > MAX_SMALL_TEXT {
@@ -98,6 +99,3 @@ fn walked_arrows(alloc: Global, text: &str) -> Result<Items<Arrow>, SmallFault>
     let arrows = arrows(alloc, text, &tokens, &links)?;
     Ok(Items::from_vec(arrows))
 }
-
-#[cfg(test)]
-mod tests;

@@ -1,15 +1,17 @@
-//! Nodes with the size and the depth of their trees, by which walks are measured.
+//! Nodes with the size and the depth of their trees, by which walks are measured, and with their regions.
 ghost use Rattle.std.specs.Prelude.{◌≡◌, ◌+◌, ◌^◌, ◌<◌, ◌≤◌, length, sum_by};
 ghost use Rattle.syntax_tree.specs.Kept.{size_at, depth_at, numbers, shape_of, shape_size, shape_depth, deepest, AreWithin, IsWithin};
 
 use crate::trees::nodes::{Node, Tree};
 
-/// A node with the number of nodes and the depth of its tree. A part that stands twice counts twice.
+/// A node with the number of nodes and the depth of its tree, and the number of its region. A part that stands twice counts
+/// twice.
 #[derive(Debug, Drop)]
 pub struct Kept {
     pub node: Node,
     pub size: u32,
     pub depth: u32,
+    pub region: usize,
 }
 
 /// The nodes of some trees together.

@@ -1,11 +1,14 @@
 //! Trees by number. A node is kept with the size and the depth of its tree, and trees may share parts.
-ghost use Rattle.std.specs.Prelude.{◌≡◌, ◌+◌, ◌^◌, ◌↔◌, [], Err, Some, IfOk, OnOk, OnErr};
+ghost use Rattle.std.specs.Prelude.{◌≡◌, ◌≢◌, ℕ, ◌+◌, ◌^◌, ◌≤◌, ◌↔◌, [], Err, Some, IfOk, OnOk, OnErr};
+ghost use Rattle.std.specs.FinMap as map;
 ghost use Rattle.scheme_model.specs.Trees.{Tree as ModelTree};
+ghost use Rattle.scheme_model.specs.Measures.{tree_size, tree_depth};
 ghost use Rattle.syntax_tree.specs.Identifiers.{Identifier};
-ghost use Rattle.syntax_tree.specs.Measures.{tree_size, tree_depth};
+ghost use Rattle.syntax_tree.specs.Nodes.{Lived, IsPut};
+ghost use Rattle.syntax_tree.specs.Regions.{IsClosed, CanRelease, NamesNone};
 ghost use Rattle.syntax_tree.specs.Kept.{shape_of};
-ghost use Rattle.syntax_tree.specs.Added.{IsPut};
-ghost use Rattle.syntax_tree.specs.Works.{StandsFor, IsStanding, IsNodeOf, CanAdd, IsOpened, KeepsTrees, live_count, node_at};
+ghost use Rattle.syntax_tree.specs.Works.{StandsFor, IsStanding, IsNodeOf, CanAdd, IsOpened, LiesIn, OutlivesIn, CanName, CanNameParts, lived_in, KeepsTrees, SameRegions, live_count, node_at};
+ghost use Rattle.syntax_tree.specs.declared.trees.table.Region.{Region as AnyRegion};
 
 use crate::symbols::Symbols;
 use ls_base::Mem;
@@ -53,18 +56,36 @@ impl Work {
         Ok(self.trees.open_region()?)
     }
 
-    /// Adds a node. `Full` comes exactly where 2^31 nodes live.
+    /// From now on nodes of the second region may name nodes of the first, which is to be let go only after it.
+    pub fn outlive(&mut self, outer: &Region, inner: &Region) -> Mem<()>
+        requires outer { IsOpened self.old outer.now }
+        requires inner { IsOpened self.old inner.now }
+        ensures outlives { OnOk result (OutlivesIn self.new outer.now inner.now) }
+        ensures keeps { KeepsTrees self.old self.new }
+        ensures nodes { self.new.trees.nodes ≡ self.old.trees.nodes }
+        ensures symbols { self.new.symbols ≡ self.old.symbols }
+        ensures err { OnErr result (self.new ≡ self.old) }
+    {
+        self.trees.outlive(outer, inner)?;
+        Ok(())
+    }
+
+    /// Adds a node to a region. `Full` comes exactly where 2^31 nodes live.
     pub fn add(&mut self, region: &Region, node: Node) -> Result<Tree, PoolFault>
         requires region { IsOpened self.old region.now }
         requires small { CanAdd self.old node }
+        requires names { CanNameParts self.old region.now node }
         ensures tree { IfOk result (λ tree. (t : ModelTree Identifier) → IsNodeOf self.old node t →
             StandsFor self.new tree t) }
         ensures put { IfOk result (λ tree. IsPut self.old.trees.nodes self.new.trees.nodes tree.number
-            (shape_of node)) }
+            (lived_in region.now node)) }
+        ensures region { IfOk result (λ tree. LiesIn self.new region.now tree) }
         ensures keeps { KeepsTrees self.old self.new }
+        ensures regions { SameRegions self.old self.new }
         ensures symbols { self.new.symbols ≡ self.old.symbols }
         ensures one_more { OnOk result (live_count self.new ≡ live_count self.old + 1) }
         ensures full { (result ≡ Err PoolFault.Full) ↔ (live_count self.old ≡ 2 ^ 31) }
+        ensures room { OnOk result (live_count self.new ≤ 2 ^ 31) }
         ensures err { OnErr result (self.new ≡ self.old) }
     {
         Ok(self.trees.add(region, node)?)
@@ -75,6 +96,7 @@ impl Work {
         requires { IsStanding self.now tree }
         ensures node { node_at self.now tree ≡ Some (shape_of result.now) }
         ensures tree { (t : ModelTree Identifier) → StandsFor self.now tree t → IsNodeOf self.now result.now t }
+        ensures names { (region : AnyRegion) → CanName self.now region tree → CanNameParts self.now region result.now }
     {
         self.trees.node(tree)
     }
@@ -94,7 +116,14 @@ impl Work {
     {
         self.trees.depth(tree)
     }
-}
 
-#[cfg(test)]
-mod tests;
+    /// Each node names only nodes of its region or of regions that outlive it. So a region that may be let go is named by no node
+    /// of another.
+    pub fn named_while_they_live(&self)
+        ensures closed { IsClosed self.now.trees.nodes self.now.trees.regions }
+        ensures unnamed { (r n : ℕ) (l : Lived) → CanRelease self.now.trees r →
+            map.get self.now.trees.nodes n ≡ Some l → l.region ≢ r → NamesNone self.now.trees.nodes r l.shape }
+    {
+        self.trees.closed();
+    }
+}

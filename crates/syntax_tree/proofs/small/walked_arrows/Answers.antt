@@ -71,7 +71,7 @@ returns-clause-small c =
     small_text text ts ds c.utf8.text c.if-text-gt-MAX_SMALL_TEXT.false ascii c.in_ok-tokens.ensures.spelled formed c.in_ok-forms.ensures.shallow program
 
 pub returns-clause-arrows : goal.returns-clause-arrows
-returns-clause-arrows c =
+returns-clause-arrows c = λ e.
     let text = c.args.text.now in
     let ts = c.in_ok-tokens.tokens.items in
     let ds = data_of c.in_ok-forms.forms.items in
@@ -80,7 +80,7 @@ returns-clause-arrows c =
     let program : is_program ds ≡ true = ap (λ (q : List Datum). is_program (data_of q)) (sym c.deref-2.ensures.value) ∙ c.in_ok-links.ensures.program in
     let found : links_of c.in_ok-links.links.items ≡ program_links ds = c.in_ok-links.ensures.found ∙ ap (λ (q : List Datum). program_links (data_of q)) c.deref-2.ensures.value in
     let ascii = MatchBool-at_true (IsAscii text) (IsNotAscii text) c.if-not-is_ascii.false c.is_ascii.ensures.cases in
-    let printed = c.from_vec.ensures ∙ c.in_ok-arrows.ensures ∙ ap (λ (q : List Token). map (λ l. arrow_at text (tokens_of q) (link_of l)) c.deref-4.result.now) c.deref-3.ensures.value
-    ∙ ap (λ (q : List Link). map (λ l. arrow_at text (tokens_of ts) (link_of l)) q) c.deref-4.ensures.value in
-    walked_text text ts ds c.in_ok-links.links.items sorted c.from_vec.result ascii c.in_ok-tokens.ensures.spelled formed c.in_ok-forms.ensures.shallow program found
+    let printed = c.from_vec.ensures ∙ c.in_ok-arrows.ensures e ∙ ap (λ (q : List Token). map (λ l. arrow_at e text (tokens_of q) (link_of l)) c.deref-4.result.now) c.deref-3.ensures.value
+    ∙ ap (λ (q : List Link). map (λ l. arrow_at e text (tokens_of ts) (link_of l)) q) c.deref-4.ensures.value in
+    walked_text e text ts ds c.in_ok-links.links.items sorted c.from_vec.result ascii c.in_ok-tokens.ensures.spelled formed c.in_ok-forms.ensures.shallow program found
     c.in_ok-sort.ensures.permutation c.in_ok-sort.ensures.sorted printed

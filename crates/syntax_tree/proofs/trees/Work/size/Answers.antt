@@ -1,5 +1,5 @@
-use Rattle.syntax_tree.proofs.WorkLaws.{standing_within}
+use Rattle.syntax_tree.proofs.WorkLaws.{standing_lives}
 use Rattle.syntax_tree.proofs.trees.Work.size.Goals as goal
 
 pub size-requires : goal.size-requires
-size-requires c = standing_within c.args.self.now c.args.tree c.requires
+size-requires c = standing_lives c.args.self.now c.args.tree c.requires

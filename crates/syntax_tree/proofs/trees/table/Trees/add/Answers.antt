@@ -1,40 +1,72 @@
-use Rattle.std.proofs.Common.{◌≡◌, ◌≢◌, ℕ, ◌∙◌, ◌+◌, ◌<◌, ◌^◌, List, [], ◌∷◌, ◌++◌, length, ap, sym, subst, arith, refl}
-use Rattle.syntax_tree.specs.Kept.{shape_of, size_at, depth_at, shape_size, shape_depth, AreKept}
+use Rattle.std.proofs.Common.{◌≡◌, ℕ, ◌+◌, ◌^◌, ◌<◌, ◌∙◌, List, ◌∷◌, [], ◌++◌, length, map, Some, ap, sym, subst, rules, arith, refl}
+use Rattle.std.proofs.lemmas.List.{length-append}
+use Rattle.syntax_tree.specs.Nodes.{Nodes, IsPut}
+use Rattle.syntax_tree.specs.Regions.{Forest, MayNameParts, IsClosed}
+use Rattle.syntax_tree.specs.Kept.{shape_of, lived_as, nodes_of, size_at, depth_at, shape_size, shape_depth, AreKept, IsTable}
 use Rattle.syntax_tree.specs.declared.trees.measures.Kept.{Kept}
+use Rattle.syntax_tree.proofs.NodeLaws.{count_kept, push_puts}
+use Rattle.syntax_tree.proofs.RegionLaws.{closed_put}
 use Rattle.syntax_tree.proofs.KeptLaws.{kept_pushed}
-use Rattle.syntax_tree.proofs.AddedLaws.{can_measure, node_put}
+use Rattle.syntax_tree.proofs.AddedLaws.{can_measure, node_put, counted}
 use Rattle.syntax_tree.proofs.trees.table.Trees.add.Goals as goal
 
 pub node_size-size-requires-clause-within : goal.node_size-size-requires-clause-within
 node_size-size-requires-clause-within c =
-    (can_measure c.self.inside.nodes.items c.deref.result.now c.self.inside.opened.items c.args.self.now (shape_of c.args.node) c.self.invariant c.deref.ensures.value c.self.view_is c.requires).within
+    (can_measure c.self.inside.nodes.items c.deref.result.now c.args.self.now.nodes (shape_of c.args.node) c.self.invariant.kept c.deref.ensures.value (ap (λ (f : Forest). f.nodes) c.self.view_is) c.requires.fits).within
 
 pub node_size-size-requires-clause-fits : goal.node_size-size-requires-clause-fits
 node_size-size-requires-clause-fits c =
-    (can_measure c.self.inside.nodes.items c.deref.result.now c.self.inside.opened.items c.args.self.now (shape_of c.args.node) c.self.invariant c.deref.ensures.value c.self.view_is c.requires).size
+    (can_measure c.self.inside.nodes.items c.deref.result.now c.args.self.now.nodes (shape_of c.args.node) c.self.invariant.kept c.deref.ensures.value (ap (λ (f : Forest). f.nodes) c.self.view_is) c.requires.fits).size
 
 pub node_depth-depth-requires-clause-within : goal.node_depth-depth-requires-clause-within
 node_depth-depth-requires-clause-within c =
-    (can_measure c.self.inside.nodes.items c.deref-2.result.now c.self.inside.opened.items c.args.self.now (shape_of c.args.node) c.self.invariant c.deref-2.ensures.value c.self.view_is c.requires).within
+    (can_measure c.self.inside.nodes.items c.deref-2.result.now c.args.self.now.nodes (shape_of c.args.node) c.self.invariant.kept c.deref-2.ensures.value (ap (λ (f : Forest). f.nodes) c.self.view_is) c.requires.fits).within
 
 pub node_depth-depth-requires-clause-fits : goal.node_depth-depth-requires-clause-fits
 node_depth-depth-requires-clause-fits c =
-    (can_measure c.self.inside.nodes.items c.deref-2.result.now c.self.inside.opened.items c.args.self.now (shape_of c.args.node) c.self.invariant c.deref-2.ensures.value c.self.view_is c.requires).depth
+    (can_measure c.self.inside.nodes.items c.deref-2.result.now c.args.self.now.nodes (shape_of c.args.node) c.self.invariant.kept c.deref-2.ensures.value (ap (λ (f : Forest). f.nodes) c.self.view_is) c.requires.fits).depth
 
 pub invariant_of-self-2 : goal.invariant_of-self-2
 invariant_of-self-2 c =
     let ks = c.self.inside.nodes.items in
-    let k : Kept = record { node = c.args.node; size = c.node_size-size.result; depth = c.node_depth-depth.result } in
-    let m = can_measure ks ks c.self.inside.opened.items c.args.self.now (shape_of c.args.node) c.self.invariant refl c.self.view_is c.requires in
+    let regions = map (λ outer. outer.items) c.self.inside.regions.items in
+    let view = c.self.view_is in
+    let k : Kept = record { node = c.args.node; size = c.node_size-size.result; depth = c.node_depth-depth.result; region = c.args.region.now.number } in
+    let m = can_measure ks ks c.args.self.now.nodes (shape_of c.args.node) c.self.invariant.kept refl (ap (λ (f : Forest). f.nodes) view) c.requires.fits in
     let size : k.size ≡ shape_size (size_at ks) (shape_of k.node) =
     c.node_size-size.ensures ∙ ap (λ (l : List Kept). shape_size (size_at l) (shape_of c.args.node)) c.deref.ensures.value in
     let depth : k.depth ≡ shape_depth (depth_at ks) (shape_of k.node) =
     c.node_depth-depth.ensures ∙ ap (λ (l : List Kept). shape_depth (depth_at l) (shape_of c.args.node)) c.deref-2.ensures.value in
-    let room : length ks < 2 ^ 31 = omega (arith, c.self.invariant.few, c.len-number.ensures, c.self.inside.nodes.ok.0, c.if-number-eq-MAX_LIVE.false) in
-    subst AreKept (sym c.in_ok-push.ensures.items) (kept_pushed ks k c.self.invariant room m.within size depth)
+    let room : length ks < 2 ^ 31 = omega (arith, c.self.invariant.kept.few, c.len-number.ensures, c.self.inside.nodes.ok.0, c.if-number-eq-MAX_LIVE.false) in
+    let names = subst (λ (f : Forest). MayNameParts f.nodes f.regions c.args.region.now.number (shape_of c.args.node)) (sym view) c.requires.names in
+    subst (λ (l : List Kept). IsTable l regions) (sym c.in_ok-push.ensures.items) (record {
+      kept = kept_pushed ks k c.self.invariant.kept room m.within size depth;
+      closed = closed_put (nodes_of ks) (nodes_of (ks ++ k ∷ [])) regions (length ks) (lived_as k) c.self.invariant.closed (push_puts ks k) names;
+    })
 
 pub returns-clause-put : goal.returns-clause-put
 returns-clause-put c =
     let ks = c.self.inside.nodes.items in
-    let k : Kept = record { node = c.args.node; size = c.node_size-size.result; depth = c.node_depth-depth.result } in
-    node_put ks c.push.new.self.items c.self.inside.opened.items c.args.self.now k c.len-number.result c.self.view_is c.in_ok-push.ensures.items (omega (arith, c.len-number.ensures, c.self.inside.nodes.ok.0))
+    let k : Kept = record { node = c.args.node; size = c.node_size-size.result; depth = c.node_depth-depth.result; region = c.args.region.now.number } in
+    node_put ks c.push.new.self.items c.args.self.now.nodes k c.len-number.result (ap (λ (f : Forest). f.nodes) c.self.view_is) c.in_ok-push.ensures.items (omega (arith, c.len-number.ensures, c.self.inside.nodes.ok.0))
+
+pub returns-then-number-eq-MAX_LIVE-clause-full : goal.returns-then-number-eq-MAX_LIVE-clause-full
+returns-then-number-eq-MAX_LIVE-clause-full c =
+    let n = counted c.self.inside.nodes.items c.args.self.now.nodes (ap (λ (f : Forest). f.nodes) c.self.view_is) in
+    (λ e. omega (arith, n, c.len-number.ensures, c.self.inside.nodes.ok.0, c.if-number-eq-MAX_LIVE.true), λ e. refl)
+
+pub returns-in_err-push-clause-full : goal.returns-in_err-push-clause-full
+returns-in_err-push-clause-full c =
+    let n = counted c.self.inside.nodes.items c.args.self.now.nodes (ap (λ (f : Forest). f.nodes) c.self.view_is) in
+    first_of (search (rules, n), grind (arith, rules, n))
+
+pub returns-clause-full : goal.returns-clause-full
+returns-clause-full c =
+    let n = counted c.self.inside.nodes.items c.args.self.now.nodes (ap (λ (f : Forest). f.nodes) c.self.view_is) in
+    (λ e. absurd cc, λ e. absurd (omega (arith, n, e, c.len-number.ensures, c.self.inside.nodes.ok.0, c.if-number-eq-MAX_LIVE.false)))
+
+pub returns-clause-room : goal.returns-clause-room
+returns-clause-room c =
+    let n = counted c.self.inside.nodes.items c.args.self.now.nodes (ap (λ (f : Forest). f.nodes) c.self.view_is) in
+    let more = ap (λ (l : List Kept). length l) c.in_ok-push.ensures.items ∙ length-append c.self.inside.nodes.items (_ ∷ []) in
+    omega (arith, n, count_kept c.push.new.self.items, more, c.self.invariant.kept.few, c.len-number.ensures, c.self.inside.nodes.ok.0, c.if-number-eq-MAX_LIVE.false)

@@ -1,0 +1,45 @@
+-- The tree of a datum with its names changed is its tree with the changed names.
+use Rattle.std.proofs.Common.{◌≡◌, ℕ, List, Some, refl, ap}
+use Rattle.scheme_model.specs.declared.Occ.{Occ}
+use Rattle.scheme_model.specs.Trees.{Tree, list as list_of, vector as vector_of, Trees, tree, Tail, dotted, map_tree, map_trees, map_tail, placed_in}
+use Rattle.scheme_model.specs.Kinds.{TokenKind, Paren, VectorParen, BytesParen, Close, Dot, Skip, Marked, Atomic, Name, Numeral, Quoted, Character, Truth}
+use Rattle.scheme_model.specs.Data.{Datum, atom, list, vector, bytes, Data, none, part, tail, place_of}
+use Rattle.scheme_model.specs.DataTrees.{atom_tree, tree_of, parts_of, end_of, form_of}
+use Rattle.syntax_tree.specs.Identifiers.{Identifier, Written, as_name}
+use Rattle.datum_reader.specs.Seeded.{seeded}
+
+module _ {A B : Type 0} (f : A → B) (written : List ℕ → A) (place : ℕ → Occ) where
+  atom_mapped : (kind : TokenKind) (o : Occ) → map_tree f (atom_tree written kind o) ≡ atom_tree (λ s. f (written s)) kind o
+  atom_mapped (Atomic (Name s bars)) o = refl
+  atom_mapped (Atomic (Numeral text)) o = refl
+  atom_mapped (Atomic (Quoted text)) o = refl
+  atom_mapped (Atomic (Character c)) o = refl
+  atom_mapped (Atomic (Truth b)) o = refl
+  atom_mapped (Marked mark) o = refl
+  atom_mapped Paren o = refl
+  atom_mapped VectorParen o = refl
+  atom_mapped BytesParen o = refl
+  atom_mapped Close o = refl
+  atom_mapped Dot o = refl
+  atom_mapped Skip o = refl
+
+  mutual
+    pub tree_mapped : (d : Datum) → map_tree f (tree_of written place d) ≡ tree_of (λ s. f (written s)) place d
+    tree_mapped (atom p kind) = atom_mapped kind (place p.first)
+    tree_mapped (list p ds) = λ j. list_of (parts_mapped ds j) (end_mapped ds j) (Some (place p.first))
+    tree_mapped (vector p ds) = ap (λ (ts : Trees B). vector_of ts (Some (place p.first))) (parts_mapped ds)
+    tree_mapped (bytes p texts) = refl
+
+    parts_mapped : (ds : Data) → map_trees f (parts_of written place ds) ≡ parts_of (λ s. f (written s)) place ds
+    parts_mapped none = refl
+    parts_mapped (part d ds) = λ j. tree (tree_mapped d j) (parts_mapped ds j)
+    parts_mapped (tail d) = refl
+
+    end_mapped : (ds : Data) → map_tail f (end_of written place ds) ≡ end_of (λ s. f (written s)) place ds
+    end_mapped none = refl
+    end_mapped (part d ds) = end_mapped ds
+    end_mapped (tail d) = ap (λ (t : Tree B). dotted t) (tree_mapped d)
+
+-- the tree that a datum becomes is its form's tree in the definitions
+pub seeded_is_form : (unit form : ℕ) (d : Datum) → map_tree as_name (seeded unit form d) ≡ form_of unit form d
+seeded_is_form unit form d = tree_mapped as_name (Written unit) (placed_in unit form (place_of d).first) d

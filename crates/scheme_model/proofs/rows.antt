@@ -1,0 +1,9 @@
+pub mod WrittenRows
+pub mod TreeRows
+pub mod CoreRows
+pub mod WorkspaceRows
+pub mod ArrowRows
+pub mod DiagnosticRows
+pub mod SmallArrowRows
+pub mod ChangeRows
+pub mod ClassRows

@@ -1,0 +1,229 @@
+-- The diagnostics of a program: each with its number, the bytes of its document and its text.
+use Rattle.std.specs.Prelude.{ℕ, zero, suc, ◌+◌, ◌==◌, nat_lt, List, [], ◌∷◌, ◌++◌, map, Bool, true, false, not, ◌&&◌, ◌||◌, Option, Some, None, Result, Ok, Err, codes, if◌then◌else◌}
+use Rattle.std.specs.Str.{bytes_eq}
+use Rattle.scheme_model.specs.declared.Occ.{Occ}
+use Rattle.scheme_model.specs.Ident.{Ident, Written, Inserted, symbol_of}
+use Rattle.scheme_model.specs.Data.{Datum, Place, place_of}
+use Rattle.scheme_model.specs.ExpansionFaults.{Named, Fault, fault_code, fault_name, BadRules, TwoEllipses, DuplicateVariable, EllipsisDepth, IdleEllipsis, NoRule, EllipsisLength, BadForm, DuplicateBinder, BadPlace, BadRecord, BadQuasi, KeywordRedefined, Duplicate, KeywordAsValue, UseBudget, NodeBudget, DepthBudget, SyntaxError, IncludeRefused, OutOfTurns}
+use Rattle.scheme_model.specs.Meaning.{Meaning, Local, Global, Standard, Free}
+use Rattle.scheme_model.specs.Cores.{Target, Parts}
+use Rattle.scheme_model.specs.Steps.{Broken}
+use Rattle.scheme_model.specs.UnitExpansion.{Formed}
+use Rattle.scheme_model.specs.Substitution.{Table, Defined}
+use Rattle.scheme_model.specs.Entries.{Entry, entry_at, ImportFault, NotThere, Clash, BadSet, is_below}
+use Rattle.scheme_model.specs.Declarations.{UnitForm}
+use Rattle.scheme_model.specs.Program.{Placed, Prepared, UnitResult, Program, ImportSpec, ExportSpec, WholeFault, TooMany, BadDeclaration, DefinedTwice, ImportCycle, TooLarge, SetResult, Unknown, Faulty, Gives, ExportFault, NotDefined, SameExport, imports_nothing}
+use Rattle.scheme_model.specs.Live.{CoreLeaf, Binds, Uses, Assigns, Quotes, Defines, unit_leaves}
+
+pub record Diagnostic : Type 0 where
+  pub document : ℕ
+  pub start : ℕ
+  pub end : ℕ
+  pub code : ℕ
+  pub text : List ℕ
+
+-- the bytes of a token
+pub record Span : Type 0 where
+  pub start : ℕ
+  pub end : ℕ
+
+-- ---- places
+
+abbrev pub span_at : List Span → ℕ → Span
+span_at [] n = record { start = 0; end = 0 }
+span_at (s ∷ ss) zero = s
+span_at (s ∷ ss) (suc n) = span_at ss n
+
+abbrev pub spans_at : List (List Span) → ℕ → List Span
+spans_at [] n = []
+spans_at (s ∷ ss) zero = s
+spans_at (s ∷ ss) (suc n) = spans_at ss n
+
+abbrev pub unit_at : List UnitResult → ℕ → Option UnitResult
+unit_at [] n = None
+unit_at (r ∷ rs) n = if r.unit.number == n then Some r else unit_at rs n
+
+abbrev pub first_token : List UnitForm → ℕ → ℕ
+first_token [] n = 0
+first_token (f ∷ fs) zero = (place_of f.datum).first
+first_token (f ∷ fs) (suc n) = first_token fs n
+
+-- a document and bytes in it
+pub record Bytes : Type 0 where
+  pub document : ℕ
+  pub span : Span
+
+abbrev pub in_unit : List (List Span) → Option UnitResult → Occ → Bytes
+in_unit spans None o = record { document = 0; span = record { start = 0; end = 0 } }
+in_unit spans (Some r) o = record {
+  document = r.unit.placed.document;
+  span = span_at (spans_at spans r.unit.placed.document) (first_token r.unit.forms o.form + o.token);
+}
+
+-- where an occurrence stands
+abbrev pub bytes_of : List (List Span) → List UnitResult → Occ → Bytes
+bytes_of spans rs o = in_unit spans (unit_at rs o.unit) o
+
+abbrev pub at_bytes : Bytes → ℕ → List ℕ → Diagnostic
+at_bytes b code text = record { document = b.document; start = b.span.start; end = b.span.end; code = code; text = text }
+
+-- ---- texts
+
+abbrev pub fault_text : Fault Ident → List ℕ
+fault_text BadRules = codes "bad syntax-rules"
+fault_text TwoEllipses = codes "two ellipses"
+fault_text (DuplicateVariable n) = codes "duplicate pattern variable " ++ symbol_of n.name
+fault_text (EllipsisDepth n) = codes "ellipsis depth of " ++ symbol_of n.name
+fault_text IdleEllipsis = codes "idle ellipsis"
+fault_text (NoRule n) = codes "no rule of " ++ symbol_of n.name ++ codes " matches"
+fault_text EllipsisLength = codes "ellipsis lengths differ"
+fault_text BadForm = codes "bad form"
+fault_text (DuplicateBinder n) = codes "duplicate binder " ++ symbol_of n.name
+fault_text BadPlace = codes "definition in expression place"
+fault_text BadRecord = codes "bad record"
+fault_text BadQuasi = codes "bad quasiquote"
+fault_text (KeywordRedefined n) = codes "keyword redefined " ++ symbol_of n.name
+fault_text (Duplicate n) = codes "duplicate definition " ++ symbol_of n.name
+fault_text (KeywordAsValue n) = codes "keyword used as value " ++ symbol_of n.name
+fault_text UseBudget = codes "more than 10000 macro uses"
+fault_text NodeBudget = codes "more than 200000 nodes"
+fault_text DepthBudget = codes "too deep expansion"
+fault_text (SyntaxError text) = codes "syntax error: " ++ text
+fault_text IncludeRefused = codes "include is refused"
+fault_text OutOfTurns = codes ""
+
+-- ---- the diagnostics of a unit
+
+-- what a fault names stands in its own form, or the fault stands where the form was read
+abbrev pub fault_occ : ℕ → ℕ → Option (Named Ident) → Option Occ → Option Occ
+fault_occ unit form None here = here
+fault_occ unit form (Some n) here = in_form unit form n.occ here
+  where
+    in_form : ℕ → ℕ → Option Occ → Option Occ → Option Occ
+    in_form unit form None here = here
+    in_form unit form (Some o) here = if (o.unit == unit) && (o.form == form) then Some o else here
+
+abbrev pub or_start : ℕ → ℕ → Option Occ → Occ
+or_start unit form (Some o) = o
+or_start unit form None = record { unit = unit; form = form; token = 0 }
+
+abbrev pub form_diagnostics : (Occ → Bytes) → ℕ → List Formed → List Diagnostic
+form_diagnostics bytes unit [] = []
+form_diagnostics bytes unit (f ∷ fs) = of_result bytes unit f.result f.form ++ form_diagnostics bytes unit fs
+  where
+    of_result : (Occ → Bytes) → ℕ → Result Parts Broken → ℕ → List Diagnostic
+    of_result bytes unit (Ok ps) form = []
+    of_result bytes unit (Err e) form = at_bytes (bytes (or_start unit form (fault_occ unit form (fault_name e.fault) e.here))) (fault_code e.fault) (fault_text e.fault) ∷ []
+
+abbrev pub datum_bytes : ℕ → Datum → Bytes
+datum_bytes document d = record { document = document; span = record { start = (place_of d).start; end = (place_of d).end } }
+
+abbrev pub clash_diagnostics : Bytes → List (List ℕ) → List Diagnostic
+clash_diagnostics b [] = []
+clash_diagnostics b (s ∷ ss) = at_bytes b 52 (codes "import clash " ++ s) ∷ clash_diagnostics b ss
+
+abbrev pub at_name : (Occ → Bytes) → Option Occ → ℕ → List ℕ → List Diagnostic
+at_name bytes None code text = []
+at_name bytes (Some o) code text = at_bytes (bytes o) code text ∷ []
+
+abbrev pub import_fault : (Occ → Bytes) → Bytes → ImportFault → List Diagnostic
+import_fault bytes set (NotThere n) = at_name bytes n.occ 51 (codes "not exported " ++ n.name)
+import_fault bytes set (Clash s) = at_bytes set 52 (codes "import clash " ++ s) ∷ []
+import_fault bytes set BadSet = at_bytes set 53 (codes "bad import set") ∷ []
+
+abbrev pub set_diagnostics : (Occ → Bytes) → ℕ → List ImportSpec → List SetResult → List Diagnostic
+set_diagnostics bytes document [] rs = []
+set_diagnostics bytes document (s ∷ ss) [] = []
+set_diagnostics bytes document (s ∷ ss) (Unknown ∷ rs) = at_bytes (datum_bytes document s.library) 102 (codes "library not known") ∷ set_diagnostics bytes document ss rs
+set_diagnostics bytes document (s ∷ ss) (Faulty f ∷ rs) = import_fault bytes (datum_bytes document s.whole) f ++ set_diagnostics bytes document ss rs
+set_diagnostics bytes document (s ∷ ss) (Gives es clashes ∷ rs) = clash_diagnostics (datum_bytes document s.whole) clashes ++ set_diagnostics bytes document ss rs
+
+abbrev pub export_diagnostics : (Occ → Bytes) → List ExportFault → List Diagnostic
+export_diagnostics bytes [] = []
+export_diagnostics bytes (NotDefined x ∷ xs) = at_name bytes x.outer.occ 64 (codes "not defined " ++ x.inner.name) ++ export_diagnostics bytes xs
+export_diagnostics bytes (SameExport x ∷ xs) = at_name bytes x.outer.occ 65 (codes "exported twice " ++ x.outer.name) ++ export_diagnostics bytes xs
+
+-- a definition of a symbol that the unit imports
+abbrev pub hides : List Entry → Ident → Bool
+hides es (Inserted i k) = false
+hides es (Written u s) = is_there (entry_at es s)
+  where
+    is_there : Option Entry → Bool
+    is_there None = false
+    is_there (Some e) = true
+
+abbrev pub hiding_diagnostics : (Occ → Bytes) → ℕ → List Entry → Table → List Diagnostic
+hiding_diagnostics bytes unit es [] = []
+hiding_diagnostics bytes unit es (d ∷ ds) =
+    (if (d.unit == unit) && hides es d.ident then at_bytes (bytes (or_start unit d.form d.occ)) 101 (codes "definition hides import " ++ symbol_of d.ident) ∷ [] else [])
+    ++ hiding_diagnostics bytes unit es ds
+
+abbrev pub unbound_at : (Occ → Bytes) → Target → List Diagnostic
+unbound_at bytes t = of_meaning bytes t.meaning t.occ
+  where
+    of_meaning : (Occ → Bytes) → Meaning → Option Occ → List Diagnostic
+    of_meaning bytes (Local v) o = []
+    of_meaning bytes (Global u i) o = []
+    of_meaning bytes (Standard s) o = []
+    of_meaning bytes (Free s) None = []
+    of_meaning bytes (Free s) (Some o) = at_bytes (bytes o) 103 (codes "unbound " ++ s) ∷ []
+
+abbrev pub unbound_diagnostics : (Occ → Bytes) → List CoreLeaf → List Diagnostic
+unbound_diagnostics bytes [] = []
+unbound_diagnostics bytes (Binds b ∷ ls) = unbound_diagnostics bytes ls
+unbound_diagnostics bytes (Uses t ∷ ls) = unbound_at bytes t ++ unbound_diagnostics bytes ls
+unbound_diagnostics bytes (Assigns t ∷ ls) = unbound_at bytes t ++ unbound_diagnostics bytes ls
+unbound_diagnostics bytes (Quotes o ∷ ls) = unbound_diagnostics bytes ls
+unbound_diagnostics bytes (Defines m ∷ ls) = unbound_diagnostics bytes ls
+
+abbrev pub is_empty : {A : Type 0} → List A → Bool
+is_empty [] = true
+is_empty (x ∷ xs) = false
+
+-- the bytes of a unit's first token
+abbrev pub unit_start : List (List Span) → Prepared → Bytes
+unit_start spans p = record { document = p.placed.document; span = span_at (spans_at spans p.placed.document) p.placed.source.start.first }
+
+abbrev pub whole_fault : List (List Span) → Prepared → WholeFault → Diagnostic
+whole_fault spans p TooMany = at_bytes (unit_start spans p) 67 (codes "too many units")
+whole_fault spans p (BadDeclaration d) = at_bytes (datum_bytes p.placed.document d) 61 (codes "bad declaration")
+whole_fault spans p DefinedTwice = at_bytes (unit_start spans p) 63 (codes "library defined twice")
+whole_fault spans p ImportCycle = at_bytes (unit_start spans p) 62 (codes "import cycle")
+whole_fault spans p TooLarge = at_bytes (unit_start spans p) 66 (codes "unit too large")
+
+abbrev pub inner_diagnostics : List (List Span) → Program → UnitResult → List Diagnostic → List Diagnostic
+inner_diagnostics spans p r sets =
+    sets ++ export_diagnostics (bytes_of spans p.units) r.export_faults ++ form_diagnostics (bytes_of spans p.units) r.unit.number r.forms ++
+    hiding_diagnostics (bytes_of spans p.units) r.unit.number r.entries p.table ++
+    (if is_empty sets then unbound_diagnostics (bytes_of spans p.units) (unit_leaves r.forms) else []) ++
+    (if imports_nothing r.unit then at_bytes (unit_start spans r.unit) 104 (codes "no import, (scheme base) is used") ∷ [] else [])
+
+abbrev pub unit_diagnostics : List (List Span) → Program → UnitResult → Option WholeFault → List Diagnostic
+unit_diagnostics spans p r (Some f) = whole_fault spans r.unit f ∷ []
+unit_diagnostics spans p r None = inner_diagnostics spans p r (set_diagnostics (bytes_of spans p.units) r.unit.placed.document r.unit.specs r.sets)
+
+abbrev pub all_diagnostics : List (List Span) → Program → List UnitResult → List Diagnostic
+all_diagnostics spans p [] = []
+all_diagnostics spans p (r ∷ rs) = unit_diagnostics spans p r r.fault ++ all_diagnostics spans p rs
+
+-- ---- in order, each once
+
+abbrev pub is_before : Diagnostic → Diagnostic → Bool
+is_before a b =
+    nat_lt a.document b.document || (a.document == b.document &&
+    (nat_lt a.start b.start || (a.start == b.start && (nat_lt a.code b.code || (a.code == b.code && is_below a.text b.text)))))
+
+abbrev pub same_diagnostic : Diagnostic → Diagnostic → Bool
+same_diagnostic a b = not (is_before a b) && not (is_before b a)
+
+abbrev pub put_in : Diagnostic → List Diagnostic → List Diagnostic
+put_in d [] = d ∷ []
+put_in d (e ∷ es) = if is_before d e then d ∷ e ∷ es else if same_diagnostic d e then e ∷ es else e ∷ put_in d es
+
+abbrev pub sorted : List Diagnostic → List Diagnostic
+sorted [] = []
+sorted (d ∷ ds) = put_in d (sorted ds)
+
+-- the diagnostics of documents that read, by the bytes of their tokens
+abbrev pub diagnostics_of : List (List Span) → Program → List Diagnostic
+diagnostics_of spans p = sorted (all_diagnostics spans p p.units)

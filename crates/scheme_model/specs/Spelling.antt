@@ -1,0 +1,151 @@
+-- What spells an identifier: its links to the occurrences that its characters come from, and the classes of occurrences that
+-- such links join. Occurrences of a class are renamed together, each behind its prefix.
+use Rattle.std.specs.Prelude.{ℕ, zero, suc, ◌==◌, nat_lt, List, [], ◌∷◌, ◌++◌, map, filter, length, Bool, true, false, not, ◌&&◌, ◌||◌, Option, Some, None, if◌then◌else◌}
+use Rattle.std.specs.Str.{bytes_eq}
+use Rattle.scheme_model.specs.declared.Occ.{Occ}
+use Rattle.scheme_model.specs.Ident.{Ident, Written, Inserted}
+use Rattle.scheme_model.specs.Meaning.{Meaning, Local, Global, Standard, Free}
+use Rattle.scheme_model.specs.Cores.{Target, RuleLeaf, MacroDef}
+use Rattle.scheme_model.specs.Substitution.{Table, Defined, defined_in}
+use Rattle.scheme_model.specs.Entries.{Source, At, StandardName, Origin, Entry, entry_at, same_source, same_occ, place_origin}
+use Rattle.scheme_model.specs.Program.{Placed, UnitResult, Program, result_at, is_standard, prelude_unit}
+use Rattle.scheme_model.specs.Live.{CoreLeaf, Binds, Uses, Assigns, Quotes, Defines, NameUse}
+use Rattle.scheme_model.specs.ProgramArrows.{Arrow, local_at, core_targets, is_live_at, rule_arrows, program_leaves, program_keywords, program_names}
+
+-- an occurrence takes its characters, behind a prefix, from an occurrence or from a standard name
+pub record Link : Type 0 where
+  pub origin : Source
+  pub target : Occ
+  pub prefix : List ℕ
+
+-- ---- origins of identifiers
+
+abbrev pub entries_at : Option UnitResult → List Entry
+entries_at None = []
+entries_at (Some r) = r.entries
+
+abbrev pub entry_origins : Option Entry → List Origin
+entry_origins None = []
+entry_origins (Some e) = e.origins
+
+-- in the prelude's unit a standard name is its own origin
+abbrev pub imported_origins : Program → ℕ → List ℕ → List Origin
+imported_origins p u s =
+    if u == prelude_unit then (if is_standard s then record { source = StandardName s; prefix = [] } ∷ [] else [])
+    else entry_origins (entry_at (entries_at (result_at p.units u)) s)
+
+abbrev pub defined_or : Option Defined → List Origin → List Origin
+defined_or None other = other
+defined_or (Some d) other = place_origin d.occ
+
+-- by the definition that an identifier has, or the entry that gives it a meaning
+abbrev pub ident_origins : Program → Ident → List Origin
+ident_origins p (Written u s) = defined_or (defined_in p.table u (Written u s)) (imported_origins p u s)
+ident_origins p (Inserted i k) = defined_or (defined_in p.table k.unit (Inserted i k)) (ident_origins p i)
+
+-- a local has its binder's occurrence
+abbrev pub target_origins : List CoreLeaf → Program → Target → List Origin
+target_origins leaves p t = by_meaning leaves p t.meaning t.ident
+  where
+    by_meaning : List CoreLeaf → Program → Meaning → Ident → List Origin
+    by_meaning leaves p (Local v) i = place_origin (local_at leaves v)
+    by_meaning leaves p (Global u j) i = ident_origins p i
+    by_meaning leaves p (Standard s) i = ident_origins p i
+    by_meaning leaves p (Free s) i = ident_origins p i
+
+-- ---- links
+
+abbrev pub links_at : Option Occ → List Origin → List Link
+links_at None os = []
+links_at (Some o) [] = []
+links_at (Some o) (g ∷ gs) = record { origin = g.source; target = o; prefix = g.prefix } ∷ links_at (Some o) gs
+
+abbrev pub link_to_itself : Option Occ → List Link
+link_to_itself None = []
+link_to_itself (Some o) = record { origin = At o; target = o; prefix = [] } ∷ []
+
+abbrev pub target_links : List CoreLeaf → Program → List Target → List Link
+target_links leaves p [] = []
+target_links leaves p (t ∷ ts) = links_at t.occ (target_origins leaves p t) ++ target_links leaves p ts
+
+-- the second name of a pair is its own origin already
+abbrev pub name_links : List NameUse → List Link
+name_links [] = []
+name_links (n ∷ ns) = links_at n.occ n.origins ++ name_links ns
+
+abbrev pub arrow_links : List Arrow → List Link
+arrow_links [] = []
+arrow_links (a ∷ more) = record { origin = At a.binder; target = a.target; prefix = [] } ∷ record { origin = At a.binder; target = a.binder; prefix = [] } ∷ arrow_links more
+
+abbrev pub leaf_targets : (Option Occ → Bool) → List RuleLeaf → List Target
+leaf_targets live [] = []
+leaf_targets live (l ∷ ls) = if l.literal || not (live l.target.occ) then l.target ∷ leaf_targets live ls else leaf_targets live ls
+
+-- binders, pattern variables and leaves of rules
+abbrev pub core_links : (Option Occ → Bool) → List CoreLeaf → Program → List CoreLeaf → List Link
+core_links live leaves p [] = []
+core_links live leaves p (Binds b ∷ ls) = link_to_itself b.occ ++ core_links live leaves p ls
+core_links live leaves p (Uses t ∷ ls) = core_links live leaves p ls
+core_links live leaves p (Assigns t ∷ ls) = core_links live leaves p ls
+core_links live leaves p (Quotes o ∷ ls) = core_links live leaves p ls
+core_links live leaves p (Defines m ∷ ls) =
+    arrow_links (rule_arrows m.rules m.rules.rules) ++ target_links leaves p (leaf_targets live m.leaves) ++ core_links live leaves p ls
+
+-- each definition, also one of a broken form, is a binder
+abbrev pub definition_links : Table → List Link
+definition_links [] = []
+definition_links (d ∷ ds) = link_to_itself d.occ ++ definition_links ds
+
+abbrev pub links_with : List CoreLeaf → List Target → List NameUse → Program → List Link
+links_with leaves keywords names p =
+    target_links leaves p (core_targets leaves ++ keywords) ++ name_links names ++ definition_links p.table ++
+    core_links (is_live_at leaves keywords names) leaves p leaves
+
+-- the links of a program
+abbrev pub links_of : List Placed → Program → List Link
+links_of all p = links_with (program_leaves p.units) (program_keywords p.units) (program_names all p p.units) p
+
+-- ---- classes
+
+abbrev pub is_member : List Occ → Occ → Bool
+is_member [] o = false
+is_member (p ∷ ps) o = same_occ p o || is_member ps o
+
+abbrev pub with_member : Occ → List Occ → List Occ
+with_member o ms = if is_member ms o then ms else o ∷ ms
+
+-- a link with an end in the class brings its other end in
+abbrev pub across : Source → Occ → List Occ → List Occ
+across (At o) t ms = if is_member ms o then with_member t ms else if is_member ms t then with_member o ms else ms
+across (StandardName s) t ms = ms
+
+abbrev pub joined : List Link → List Occ → List Occ
+joined [] ms = ms
+joined (l ∷ ls) ms = joined ls (across l.origin l.target ms)
+
+abbrev pub closed : List Link → ℕ → List Occ → List Occ
+closed ls zero ms = ms
+closed ls (suc n) ms = closed ls n (joined ls ms)
+
+-- the least set that holds an occurrence and is closed under links both ways
+abbrev pub class_of : List Link → Occ → List Occ
+class_of ls o = closed ls (length ls) (o ∷ [])
+
+-- the prefixes of an occurrence
+abbrev pub has_prefix : List (List ℕ) → List ℕ → Bool
+has_prefix [] s = false
+has_prefix (t ∷ ts) s = bytes_eq t s || has_prefix ts s
+
+abbrev pub prefixes_of : List Link → Occ → List (List ℕ) → List (List ℕ)
+prefixes_of [] o seen = seen
+prefixes_of (l ∷ ls) o seen = if same_occ l.target o && not (has_prefix seen l.prefix) then prefixes_of ls o (seen ++ l.prefix ∷ []) else prefixes_of ls o seen
+
+-- the standard names among the origins of a class
+abbrev pub standard_origins : List Link → List Occ → List (List ℕ)
+standard_origins [] ms = []
+standard_origins (l ∷ ls) ms = of_source l.origin (is_member ms l.target) (standard_origins ls ms)
+  where
+    of_source : Source → Bool → List (List ℕ) → List (List ℕ)
+    of_source (At o) member rest = rest
+    of_source (StandardName s) true rest = s ∷ rest
+    of_source (StandardName s) false rest = rest
