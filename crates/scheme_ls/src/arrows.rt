@@ -1,7 +1,9 @@
 //! The command `arrows`: reads a text and prints its arrows.
-ghost use Rattle.std.specs.Prelude.{◌≡◌, List, ℕ};
+ghost use Rattle.std.specs.Prelude.{◌≡◌, List, ℕ, IfOk, IsErrOf};
+ghost use Rattle.std.specs.String.{string_bytes};
 ghost use Rattle.syntax_tree.specs.Small.{IsSmall};
 ghost use Rattle.scheme_ls.specs.ArrowsOutcome.{ArrowsEndsAs, TextEndsAs};
+ghost use Rattle.scheme_ls.specs.Printed.{AreLines};
 ghost use Rattle.scheme_ls.specs.Prints.{sink_seen};
 ghost use Rattle.scheme_ls.specs.Reading.{source_seen};
 ghost use Rattle.scheme_ls.specs.Statuses.{arrows_status, text_status};
@@ -94,15 +96,30 @@ fn print_arrows<O: Sink>(alloc: Global, text: &[u8], output: &mut O) -> TextEnd
     let Ok(text) = str::from_utf8(text) else {
         return print_refusal(output);
     };
-    let arrows = match small_arrows(alloc, text) {
-        Ok(arrows) => arrows,
-        Err(SmallFault::NotSmall) => return print_refusal(output),
-        Err(SmallFault::Memory) => return TextEnd::NoMemory,
-    };
-    let Ok(lines) = lines(alloc, arrows.as_slice()) else {
-        return TextEnd::NoMemory;
-    };
-    match print_all(output, lines.as_str().as_bytes()) {
+    match arrow_lines(alloc, text) {
+        Ok(lines) => print_lines(lines.as_str(), output),
+        Err(SmallFault::NotSmall) => print_refusal(output),
+        Err(SmallFault::Memory) => TextEnd::NoMemory,
+    }
+}
+
+/// The lines of the arrows of a text.
+fn arrow_lines(alloc: Global, text: &str) -> Result<String, SmallFault>
+    ensures lines { IfOk result (λ lines. AreLines text.now (string_bytes lines)) }
+    ensures not_small { IsErrOf result SmallFault.NotSmall → ¬ IsSmall text.now }
+{
+    let arrows = small_arrows(alloc, text)?;
+    let lines = lines(alloc, arrows.as_slice())?;
+    Ok(lines)
+}
+
+/// Prints the lines of the arrows of a text.
+fn print_lines<O: Sink>(lines: &str, output: &mut O) -> TextEnd
+    ensures { (text : List ℕ) → AreLines text lines.now → TextEndsAs result text
+        (sink_seen (O.taken output.old) (O.faults output.old) (O.writes output.old))
+        (sink_seen (O.taken output.new) (O.faults output.new) (O.writes output.new)) }
+{
+    match print_all(output, lines.as_bytes()) {
         Ok(()) => TextEnd::Printed,
         Err(SinkFailed) => TextEnd::WriteFailed,
     }
