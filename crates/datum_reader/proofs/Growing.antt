@@ -147,7 +147,8 @@ module _ (a b : Work) (region : Region) (t : Tree Identifier) (node : Node) (h :
       names = symbols ∙ h.2.names;
       nodes = omega (arith, more, h.2.nodes, h.1);
     },
-    stands, lies,
+    stands,
+    lies,
   )
 
   -- there was no room
@@ -188,7 +189,8 @@ pub leaf_prepared : (w : Work) (names : Names) (region : Region) (t u : Tree Ide
     Prepares w (with_names w names) region u (Ok node)
 leaf_prepared w names region t u node same size keeps h =
     let made = with_names w names in (
-      0, size,
+      0,
+      size,
       record { grows = grows_names w names region keeps; names = h.1 ∙ ap (λ (x : Tree Identifier). interned x w.symbols) (sym same); nodes = omega arith },
       subst (λ (x : Tree Identifier). IsNodeOf made node x) (sym same) (h.0.tree w.trees.nodes),
       subst (λ (ns : List ℕ). AllByRecursion (MayName made.trees.nodes made.trees.regions region.number) ns) (sym h.0.alone) tt,

@@ -36,7 +36,8 @@ module _ (a b : Work) (region : Region) (ts : Trees Identifier) (o : Option Occ)
       Prepares a b region whole (Ok (node.Vector items o))
   vector_prepared items h stand lie =
       let size : trees_size ts + 1 ≡ tree_size whole = let e = ap (λ (t : Tree Identifier). tree_size t) is in omega (arith, e) in (
-        trees_size ts, size,
+        trees_size ts,
+        size,
         record { grows = h.grows; names = h.names ∙ ap (λ (t : Tree Identifier). interned t a.symbols) (sym is); nodes = h.nodes },
         (ts, is, stand),
         may_name b region (numbers items.items) lie,
@@ -82,7 +83,8 @@ module _ (a b : Work) (region : Region) (ts : Trees Identifier) (tail : Tail Ide
         let size : trees_size ts + tail_size tail + 1 ≡ tree_size whole = let e = ap (λ (t : Tree Identifier). tree_size t) is in omega (arith, e) in
         let kept = all_kept b c k.grows.trees ts (numbers items.items) stand in
         let here = lie_kept b c region k.grows.trees (numbers items.items) lie in (
-          trees_size ts + tail_size tail, size,
+          trees_size ts + tail_size tail,
+          size,
           record {
             grows = grows_on a b c region h.grows k.grows;
             names = k.names ∙ together ∙ ap (λ (t : Tree Identifier). interned t a.symbols) (sym is);

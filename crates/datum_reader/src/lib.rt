@@ -3,6 +3,7 @@
 
 mod bytes;
 mod close;
+mod copy;
 pub mod datum;
 pub mod laws;
 mod open;

@@ -1,0 +1,109 @@
+//! Copies of data with all their parts, in time that is linear in them.
+ghost use Rattle.std.specs.Prelude.{◌≡◌, IfOk};
+ghost use Rattle.datum_reader.specs.Views.{data_of, datum_of, shape_of, end_data};
+ghost use Rattle.scheme_model.specs.Data.{Place};
+
+use crate::datum::{Datum, Shape};
+use ls_base::{Mem, Text};
+use scheme_tokens::TokenKind;
+use std::alloc::Global;
+
+impl Datum {
+    /// A copy, which stands for the same datum.
+    pub fn copy(&self, alloc: Global) -> Mem<Datum>
+        ensures { IfOk result (λ copy. datum_of copy ≡ datum_of self.now) }
+    {
+        Ok(copy_datum(alloc, self)?)
+    }
+}
+
+#[cycle(copies)]
+fn copy_datum(alloc: Global, datum: &Datum) -> Mem<Datum>
+    ensures { IfOk result (λ copy. datum_of copy ≡ datum_of datum.now) }
+{
+    let shape = copy_shape(alloc, &datum.shape)?;
+    Ok(Datum {
+        shape,
+        first: datum.first,
+        last: datum.last,
+        span: datum.span,
+    })
+}
+
+#[cycle(copies)]
+fn copy_shape(alloc: Global, shape: &Shape) -> Mem<Shape>
+    ensures { IfOk result (λ copy. (p : Place) → shape_of copy p ≡ shape_of shape.now p) }
+{
+    match shape {
+        Shape::Atom(kind) => Ok(Shape::Atom(copy_kind(kind)?)),
+        Shape::Bytes(numerals) => Ok(Shape::Bytes(copy_texts(alloc, numerals)?)),
+        Shape::Vector(parts) => Ok(Shape::Vector(copy_parts(alloc, parts)?)),
+        Shape::List(parts, end) => {
+            let parts = copy_parts(alloc, parts)?;
+            let end = copy_end(alloc, end)?;
+            Ok(Shape::List(parts, end))
+        }
+    }
+}
+
+/// Copies of the parts of a list or a vector.
+#[cycle(copies)]
+fn copy_parts(alloc: Global, parts: &[Datum]) -> Mem<Vec<Datum>>
+    ensures { IfOk result (λ copies. data_of copies.items ≡ data_of parts.now) }
+{
+    let mut copies = Vec::new(alloc);
+    for part in parts {
+        let copy = copy_datum(alloc, part)?;
+        copies.push(copy)?;
+    }
+    Ok(copies)
+}
+
+/// A copy of a list's tail, where it has one.
+#[cycle(copies)]
+fn copy_end(alloc: Global, end: &Option<Box<Datum>>) -> Mem<Option<Box<Datum>>>
+    ensures { IfOk result (λ copy. end_data copy ≡ end_data end.now) }
+{
+    match end {
+        None => Ok(None),
+        Some(datum) => {
+            let copy = copy_datum(alloc, datum)?;
+            Ok(Some(Box::new(alloc, copy)?))
+        }
+    }
+}
+
+fn copy_texts(alloc: Global, texts: &[Text]) -> Mem<Vec<Text>>
+    ensures { IfOk result (λ copies. copies.items ≡ texts.now) }
+{
+    let mut copies = Vec::new(alloc);
+    for text in texts {
+        copies.push(text.clone()?)?;
+    }
+    Ok(copies)
+}
+
+fn copy_kind(kind: &TokenKind) -> Mem<TokenKind>
+    ensures { IfOk result (λ copy. copy ≡ kind.now) }
+{
+    match kind {
+        TokenKind::Paren => Ok(TokenKind::Paren),
+        TokenKind::VectorParen => Ok(TokenKind::VectorParen),
+        TokenKind::BytesParen => Ok(TokenKind::BytesParen),
+        TokenKind::Close => Ok(TokenKind::Close),
+        TokenKind::Dot => Ok(TokenKind::Dot),
+        TokenKind::Quote => Ok(TokenKind::Quote),
+        TokenKind::Quasi => Ok(TokenKind::Quasi),
+        TokenKind::Unquote => Ok(TokenKind::Unquote),
+        TokenKind::Splice => Ok(TokenKind::Splice),
+        TokenKind::Skip => Ok(TokenKind::Skip),
+        TokenKind::Name { name, bars } => Ok(TokenKind::Name {
+            name: name.clone()?,
+            bars: *bars,
+        }),
+        TokenKind::Numeral(text) => Ok(TokenKind::Numeral(text.clone()?)),
+        TokenKind::Quoted(text) => Ok(TokenKind::Quoted(text.clone()?)),
+        TokenKind::Char(c) => Ok(TokenKind::Char(*c)),
+        TokenKind::Bool(b) => Ok(TokenKind::Bool(*b)),
+    }
+}
