@@ -29,17 +29,17 @@ some_arrows e text small =
     let arrows = map (arrow_at e text small.tokens) sorted.0 in (
       arrows,
       walked_arrows e text arrows
-      (record {
-        tokens = small.tokens;
-        forms = small.forms;
-        read = small.read;
-        shallow = small.shallow;
-        program = small.program;
-        ordered = sorted.0;
-        same = sorted.1;
-        sorted = sorted.2;
-        printed = refl;
-      }),
+          (record {
+            tokens = small.tokens;
+            forms = small.forms;
+            read = small.read;
+            shallow = small.shallow;
+            program = small.program;
+            ordered = sorted.0;
+            same = sorted.1;
+            sorted = sorted.2;
+            printed = refl;
+          }),
     )
 
 some_arrows_of : (e : Encoding) (uri : List ℕ) (text : Option (List ℕ)) → ¬ ¬ ((arrows : List Arrow) × AreArrowsOf e uri text arrows)

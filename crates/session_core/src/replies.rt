@@ -6,9 +6,8 @@ ghost use Rattle.session_core.specs.Said.{said_encoding, said_id};
 ghost use Rattle.session_core.specs.Asked.{Question, IsAnswerTo};
 ghost use Rattle.session_core.specs.Stepped.{Says};
 
-use crate::Out;
 use crate::out::said;
-use crate::wording;
+use crate::{Out, wording};
 use ls_base::{Answer, Encoding, Mem, Text};
 use lsp_messages::{Id, Reply};
 use std::alloc::Global;
