@@ -1,5 +1,5 @@
 -- Regions of nodes, which are to be let go together, and which of them outlive others.
-use Rattle.std.specs.Prelude.{◌≡◌, ◌≢◌, ℕ, List, slice_get, Option, Some, Contains}
+use Rattle.std.specs.Prelude.{◌≡◌, ◌≢◌, ℕ, List, [], ◌∷◌, ◌++◌, slice_get, slice_set, slice_index_or, Option, Some, Contains}
 use Rattle.std.specs.List.{AllByRecursion}
 use Rattle.std.specs.FinMap as map
 use Rattle.syntax_tree.specs.Nodes.{Shape, Lived, Nodes, parts_of, region_at}
@@ -15,6 +15,10 @@ pub record Forest : Type 0 where
 pub data Outlives (regions : List (List ℕ)) (a : ℕ) : ℕ → Type 0 where
   itself : Outlives regions a a
   behind : (b c : ℕ) (outer : List ℕ) → Outlives regions a b → slice_get regions c ≡ Some outer → Contains outer b → Outlives regions a c
+
+-- besides, the first region outlives the second
+abbrev pub with_outer : List (List ℕ) → ℕ → ℕ → List (List ℕ)
+with_outer regions outer inner = slice_set regions inner (slice_index_or regions inner [] ++ outer ∷ [])
 
 -- nodes of the region may name the node of a number: it lives in this region or in one that outlives it
 abbrev pub MayName : Nodes → List (List ℕ) → ℕ → ℕ → Type 0

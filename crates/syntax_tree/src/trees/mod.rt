@@ -1,11 +1,11 @@
 //! Trees by number. A node is kept with the size and the depth of its tree, and trees may share parts.
-ghost use Rattle.std.specs.Prelude.{◌≡◌, ◌≢◌, ℕ, ◌+◌, ◌^◌, ◌≤◌, ◌↔◌, [], Err, Some, IfOk, OnOk, OnErr};
+ghost use Rattle.std.specs.Prelude.{◌≡◌, ◌≢◌, ℕ, ◌+◌, ◌^◌, ◌≤◌, ◌↔◌, [], ◌∷◌, ◌++◌, Err, Some, IfOk, OnOk, OnErr};
 ghost use Rattle.std.specs.FinMap as map;
 ghost use Rattle.scheme_model.specs.Trees.{Tree as ModelTree};
 ghost use Rattle.scheme_model.specs.Measures.{tree_size, tree_depth};
 ghost use Rattle.syntax_tree.specs.Identifiers.{Identifier};
 ghost use Rattle.syntax_tree.specs.Nodes.{Lived, IsPut};
-ghost use Rattle.syntax_tree.specs.Regions.{IsClosed, CanRelease, NamesNone};
+ghost use Rattle.syntax_tree.specs.Regions.{with_outer, IsClosed, CanRelease, NamesNone};
 ghost use Rattle.syntax_tree.specs.Kept.{shape_of};
 ghost use Rattle.syntax_tree.specs.Works.{StandsFor, IsStanding, IsNodeOf, CanAdd, IsOpened, LiesIn, OutlivesIn, CanName, CanNameParts, lived_in, KeepsTrees, SameRegions, live_count, node_at};
 ghost use Rattle.syntax_tree.specs.declared.trees.table.Region.{Region as AnyRegion};
@@ -48,6 +48,7 @@ impl Work {
     pub fn open_region(&mut self) -> Mem<Region>
         ensures opened { IfOk result (λ region. IsOpened self.new region) }
         ensures fresh { IfOk result (λ region. ¬ IsOpened self.old region) }
+        ensures regions { OnOk result (self.new.trees.regions ≡ self.old.trees.regions ++ [] ∷ []) }
         ensures keeps { KeepsTrees self.old self.new }
         ensures nodes { self.new.trees.nodes ≡ self.old.trees.nodes }
         ensures symbols { self.new.symbols ≡ self.old.symbols }
@@ -61,6 +62,7 @@ impl Work {
         requires outer { IsOpened self.old outer.now }
         requires inner { IsOpened self.old inner.now }
         ensures outlives { OnOk result (OutlivesIn self.new outer.now inner.now) }
+        ensures regions { OnOk result (self.new.trees.regions ≡ with_outer self.old.trees.regions outer.now.number inner.now.number) }
         ensures keeps { KeepsTrees self.old self.new }
         ensures nodes { self.new.trees.nodes ≡ self.old.trees.nodes }
         ensures symbols { self.new.symbols ≡ self.old.symbols }
