@@ -11,3 +11,4 @@ pub mod GapLengths
 pub mod QuotedLengths
 pub mod TokenLengths
 pub mod TokenCounts
+pub mod Same

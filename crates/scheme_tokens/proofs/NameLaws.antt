@@ -1,9 +1,9 @@
 -- Names and the tokens that spell them.
 use Rattle.std.proofs.Common.{◌≡◌, ℕ, List, [], ◌∷◌, Option, Some, None, Result, Ok, Err, Bool, sym, ap, ◌∙◌, option_map, IfSome, ◌++◌, append_assoc}
 use Rattle.std.specs.Str.{chars}
-use Rattle.scheme_tokens.specs.Quoted.{Fault}
-use Rattle.scheme_tokens.specs.Tokens.{TokenKind, Paren, VectorParen, BytesParen, Close, Dot, Skip, Marked, Atomic, Name, Numeral, Quoted, Character, Truth, token}
-use Rattle.scheme_tokens.specs.Reading.{IsIdentifier}
+use Rattle.scheme_tokens.specs.Mirror.Quoted.{Fault}
+use Rattle.scheme_tokens.specs.Mirror.Tokens.{TokenKind, Paren, VectorParen, BytesParen, Close, Dot, Skip, Marked, Atomic, Name, Numeral, Quoted, Character, Truth, token}
+use Rattle.scheme_tokens.specs.Mirror.Reading.{IsIdentifier}
 use Rattle.scheme_tokens.specs.Views.{symbol_of}
 
 some_none : (name : List ℕ) → Some name ≡ None → ⊥

@@ -2,8 +2,8 @@
 use Rattle.std.proofs.Common.{ℕ, zero, suc, ◌≤◌, length, List, [], ◌∷◌, ◌++◌, Bool, true, false, cond, Option, Some, None, Result, Ok, Err, arith, ◌==◌, ◌&&◌, ◌||◌}
 use Rattle.std.specs.Char.{to_ascii_lowercase}
 use Rattle.scheme_tokens.specs.Characters.{is_line_end, is_blank, is_hex_digit}
-use Rattle.scheme_tokens.specs.Words.{front_of, behind}
-use Rattle.scheme_tokens.specs.Quoted.{Fault, ◌>>=◌, letter, hex_scalar, hex_end, fold_end, behind_line_end, escape, element, elements, escaped}
+use Rattle.scheme_tokens.specs.Mirror.Words.{front_of, behind}
+use Rattle.scheme_tokens.specs.Mirror.Quoted.{Fault, ◌>>=◌, letter, hex_scalar, hex_end, fold_end, behind_line_end, escape, element, elements, escaped}
 
 -- what is read leaves at most so many characters
 abbrev pub Rests : {A : Type 0} → ℕ → Result (A × List ℕ) Fault → Type 0

@@ -1,8 +1,8 @@
 -- A text has one reading at most, and how one is put together.
 use Rattle.std.proofs.Common.{◌≡◌, ℕ, List, [], ◌∷◌, ◌++◌, Option, Some, None, Err, refl, sym, ap, ◌∙◌, subst, append_assoc, append-nil, ◌⊎◌, inl, inr}
 use Rattle.std.proofs.lemmas.List.{map-append}
-use Rattle.scheme_tokens.specs.Words.{byte_count}
-use Rattle.scheme_tokens.specs.Reading.{Token, FaultAt, Next, found, ended, next, Reads, behind_mark, IsRead, IsSpelled, Stops}
+use Rattle.scheme_tokens.specs.Mirror.Words.{byte_count}
+use Rattle.scheme_tokens.specs.Mirror.Reading.{Token, FaultAt, Next, found, ended, next, Reads, behind_mark, IsRead, IsSpelled, Stops}
 use Rattle.scheme_tokens.specs.Views.{token_of, tokens_of, read_fault, told_end, IsNext, IsFront, Explains}
 use Rattle.scheme_tokens.specs.declared.token.Token as code
 use Rattle.scheme_tokens.specs.declared.fault.ReadFault as code_read

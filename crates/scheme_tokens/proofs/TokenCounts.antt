@@ -1,11 +1,11 @@
 -- A text has no more tokens than bytes.
 use Rattle.std.proofs.Common.{◌≡◌, ℕ, ◌≤◌, ◌<◌, length, List, [], ◌∷◌, Bool, true, false, cond, Option, None, Result, Ok, Err, subst, arith, ◌==◌}
 use Rattle.std.proofs.lemmas.Str.{length-le-encodes}
-use Rattle.scheme_tokens.specs.Words.{byte_count}
-use Rattle.scheme_tokens.specs.Quoted.{Fault}
-use Rattle.scheme_tokens.specs.Gaps.{between, behind_gap}
-use Rattle.scheme_tokens.specs.Tokens.{TokenKind, token}
-use Rattle.scheme_tokens.specs.Reading.{Token, FaultAt, Next, found, ended, next_token, at_front, next_behind, next, Reads, behind_mark, IsSpelled}
+use Rattle.scheme_tokens.specs.Mirror.Words.{byte_count}
+use Rattle.scheme_tokens.specs.Mirror.Quoted.{Fault}
+use Rattle.scheme_tokens.specs.Mirror.Gaps.{between, behind_gap}
+use Rattle.scheme_tokens.specs.Mirror.Tokens.{TokenKind, token}
+use Rattle.scheme_tokens.specs.Mirror.Reading.{Token, FaultAt, Next, found, ended, next_token, at_front, next_behind, next, Reads, behind_mark, IsSpelled}
 use Rattle.scheme_tokens.proofs.Fronts.{byte_count-encodes}
 use Rattle.scheme_tokens.proofs.GapLengths.{Leaves, gap_leaves}
 use Rattle.scheme_tokens.proofs.QuotedLengths.{Rests}

@@ -1,7 +1,7 @@
 //! Laws of reading (R7RS 7.1.1).
 ghost use Rattle.std.specs.Prelude.{◌≡◌, Bool, List, ℕ, Option};
-ghost use Rattle.scheme_tokens.specs.Reading.{Token, FaultAt, IsRead, IsIdentifier};
-ghost use Rattle.scheme_tokens.specs.Spelled.{spelled};
+ghost use Rattle.scheme_tokens.specs.Mirror.Reading.{Token, FaultAt, IsRead, IsIdentifier};
+ghost use Rattle.scheme_tokens.specs.Mirror.Spelled.{spelled};
 
 /// A text is read in one way at most: it has one list of tokens, and it ends or stops at one fault.
 pub fn one_reading()

@@ -6,7 +6,7 @@ ghost use Rattle.std.specs.Char.{digit_value};
 ghost use Rattle.std.specs.Str.{chars};
 ghost use Rattle.std.specs.String.{string_bytes};
 ghost use Rattle.scheme_tokens.specs.Characters.{is_hex_digit};
-ghost use Rattle.scheme_tokens.specs.Quoted.{open_at, escaped, hex_value, hex_scalar, hex_end, behind_line_end, fold_end, escape, element, quoted};
+ghost use Rattle.scheme_tokens.specs.Mirror.Quoted.{open_at, escaped, hex_value, hex_scalar, hex_end, behind_line_end, fold_end, escape, element, quoted};
 ghost use Rattle.scheme_tokens.specs.Views.{fault_of, IsCapped, Gives, Is, meant_at, quoted_at};
 
 use crate::character::{Class, is_blank, is_line_end};
@@ -123,7 +123,7 @@ fn fold_end(close: char, text: &str) -> Result<(Option<char>, &str), Fault>
 }
 
 /// An escape, behind its backslash: what it means, and the text behind it.
-#[tactic(auto, unfolding(crate::specs::Quoted::escape))]
+#[tactic(auto, unfolding(crate::specs::Mirror::Quoted::escape))]
 fn escape(close: char, text: &str) -> Result<(Option<char>, &str), Fault>
     ensures gives { Is meant_at result (escape close (chars text.now)) }
     ensures within { IfOk result (λ x. length x.1.now ≤ length text.now) }
@@ -147,7 +147,7 @@ fn escape(close: char, text: &str) -> Result<(Option<char>, &str), Fault>
 }
 
 /// One element, whose first character is given: what it means, and the text behind it.
-#[tactic(auto, unfolding(crate::specs::Quoted::element))]
+#[tactic(auto, unfolding(crate::specs::Mirror::Quoted::element))]
 fn element(close: char, c: char, rest: &str) -> Result<(Option<char>, &str), Fault>
     ensures gives { Is meant_at result (element close c (chars rest.now)) }
     ensures within { IfOk result (λ x. length x.1.now ≤ length rest.now) }

@@ -1,4 +1,6 @@
 use Rattle.scheme_tokens.proofs.Readings as readings
+use Rattle.scheme_tokens.proofs.Same.Gaps.{space_passed}
+use Rattle.scheme_tokens.proofs.Same.GapsFound.{Told}
 use Rattle.scheme_tokens.proofs.laws.one_reading.Goals as goal
 
 pub returns : goal.returns

@@ -1,19 +1,11 @@
 -- What stands between quotation marks or bars (R7RS 7.1.1, string element and symbol element). A reading gives what is
 -- meant and the text behind it, or the first fault.
 use Rattle.std.specs.Prelude.{ℕ, zero, suc, ◌+◌, ◌*◌, ◌&&◌, ◌||◌, ◌==◌, List, [], ◌∷◌, ◌++◌, Option, Some, None, Result, Ok, Err, if◌then◌else◌}
-use Rattle.std.specs.List.{fold}
-use Rattle.std.specs.Char.{digit_value, to_ascii_lowercase}
+use Rattle.std.specs.Char.{to_ascii_lowercase}
 use Rattle.scheme_tokens.specs.Characters.{is_one_of, is_line_end, is_blank, is_hex_digit, is_scalar}
-use Rattle.scheme_tokens.specs.Words.{front_of, behind, byte_count}
-
--- why no token goes on here
-pub data Fault : Type 0 where
-  bad_token : Fault
-  open_string : Fault
-  open_bar : Fault
-  open_comment : Fault
-  label : Fault
-  directive : Fault
+use Rattle.scheme_tokens.specs.Mirror.Words.{front_of, behind, byte_count}
+pub use Rattle.scheme_tokens.specs.Tokens.{hex_value}
+pub use Rattle.scheme_tokens.specs.Reading.{Fault, bad_token, open_string, open_bar, open_comment, label, directive}
 
 infixl 10 ◌>>=◌
 abbrev pub ◌>>=◌ : {A B : Type 0} → Result A Fault → (A → Result B Fault) → Result B Fault
@@ -34,10 +26,6 @@ escaped c =
     else if c == 114 then Some 13
     else if is_one_of (34 ∷ 92 ∷ 124 ∷ []) c then Some c
     else None
-
--- the number that hex digits write
-abbrev pub hex_value : List ℕ → ℕ
-hex_value digits = fold (λ n c. 16 * n + digit_value c) 0 digits
 
 -- the character whose code hex digits write, of which there is one at least
 abbrev pub hex_scalar : List ℕ → Option ℕ

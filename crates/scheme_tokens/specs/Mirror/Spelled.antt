@@ -2,7 +2,7 @@
 use Rattle.std.specs.Prelude.{ℕ, ◌/◌, ◌%◌, Bool, not, ◌||◌, ◌&&◌, ◌==◌, nat_lt, List, [], ◌∷◌, ◌++◌, if◌then◌else◌}
 use Rattle.std.specs.List.{flat_map}
 use Rattle.std.specs.Char.{digit_char}
-use Rattle.scheme_tokens.specs.Words.{is_numeral, is_identifier}
+use Rattle.scheme_tokens.specs.Mirror.Words.{is_numeral, is_identifier}
 
 -- characters that are an identifier token as they are
 abbrev pub is_bare : List ℕ → Bool

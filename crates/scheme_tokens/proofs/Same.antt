@@ -1,0 +1,4 @@
+-- What the code computes is what the grammar says.
+pub mod Ends
+pub mod Gaps
+pub mod GapsFound
