@@ -2,3 +2,5 @@
 pub mod Ends
 pub mod Gaps
 pub mod GapsFound
+pub mod Elements
+pub mod ElementsRead

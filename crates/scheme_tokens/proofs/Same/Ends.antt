@@ -35,3 +35,23 @@ ends_when p c cs false e h = e
 pub ends-behind : (p : ℕ → Bool) (cs : List ℕ) → Ends p (behind p cs)
 ends-behind p [] = tt
 ends-behind p (c ∷ cs) = ends_when p c cs (p c) refl (ends-behind p cs)
+
+-- ---- what follows counts by its first character alone
+
+-- what ends before one rest ends before another
+abbrev pub EndsLike : List ℕ → List ℕ → Type 0
+EndsLike cs ds = (p : ℕ → Bool) → Ends p cs → Ends p ds
+
+pub like_nothing : (cs : List ℕ) → EndsLike cs []
+like_nothing cs p h = tt
+
+pub like_first : (c : ℕ) (cs ds : List ℕ) → EndsLike (c ∷ cs) (c ∷ ds)
+like_first c cs ds p h = h
+
+pub like_front : (cs ds : List ℕ) → EndsLike (cs ++ ds) cs
+like_front [] ds p h = tt
+like_front (c ∷ cs) ds p h = h
+
+pub like_behind : (front cs ds : List ℕ) → EndsLike cs ds → EndsLike (front ++ cs) (front ++ ds)
+like_behind [] cs ds like p h = like p h
+like_behind (c ∷ front) cs ds like p h = h
