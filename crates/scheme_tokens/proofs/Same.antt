@@ -4,3 +4,4 @@ pub mod Gaps
 pub mod GapsFound
 pub mod Elements
 pub mod ElementsRead
+pub mod Words
