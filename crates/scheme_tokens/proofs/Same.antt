@@ -5,3 +5,4 @@ pub mod GapsFound
 pub mod Elements
 pub mod ElementsRead
 pub mod Words
+pub mod Tokens

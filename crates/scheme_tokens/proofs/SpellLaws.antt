@@ -24,7 +24,7 @@ none_subsequent : list_all (λ c. not (is_subsequent c)) ends ≡ true
 unfolding is_subsequent is_initial ucd_category
 none_subsequent = refl
 
-member : (p : ℕ → Bool) (cs : List ℕ) (c : ℕ) → is_one_of cs c ≡ true → list_all p cs ≡ true → p c ≡ true
+pub member : (p : ℕ → Bool) (cs : List ℕ) (c : ℕ) → is_one_of cs c ≡ true → list_all p cs ≡ true → p c ≡ true
 member p [] c h k = absurd (false≢true h)
 member p (d ∷ ds) c h k =
     let parts = and_parts (p d) (list_all p ds) k in
@@ -194,13 +194,13 @@ goes_when c cs false false e f h =
     let parts = and_parts (is_initial c) (list_all is_subsequent cs) h in
     and_from (is_subsequent c) (list_all is_subsequent cs) (initial_follows c parts.0) parts.1
 
-all_follow : (c : ℕ) (cs : List ℕ) → is_identifier (c ∷ cs) ≡ true → list_all is_subsequent (c ∷ cs) ≡ true
+pub all_follow : (c : ℕ) (cs : List ℕ) → is_identifier (c ∷ cs) ≡ true → list_all is_subsequent (c ∷ cs) ≡ true
 unfolding is_identifier
 all_follow c cs h = goes_when c cs (is_sign c) (c == 46) refl refl h
 
 -- so an identifier is one word and begins with no mark
 
-abbrev marks : List ℕ
+abbrev pub marks : List ℕ
 marks = 40 ∷ 41 ∷ 39 ∷ 96 ∷ 44 ∷ 34 ∷ 124 ∷ 35 ∷ []
 
 no_marks : list_all (λ c. not (is_subsequent c)) marks ≡ true
@@ -211,7 +211,7 @@ no_mark : (c d : ℕ) → is_subsequent c ≡ true → is_one_of marks d ≡ tru
 no_mark c d h m =
     false_from_ne_true (c == d) (λ e. not_both (is_subsequent c) h (ap is_subsequent (eqb-true c d e) ∙ not-true (is_subsequent d) (member (λ q. not (is_subsequent q)) marks d m no_marks)))
 
-as_word : (c : ℕ) (cs : List ℕ) → is_subsequent c ≡ true → token (c ∷ cs) ≡ word_token (c ∷ cs)
+pub as_word : (c : ℕ) (cs : List ℕ) → is_subsequent c ≡ true → token (c ∷ cs) ≡ word_token (c ∷ cs)
 unfolding token
 as_word c cs h =
     cond-false (c == 40) _ _ (no_mark c 40 h refl) ∙ cond-false (c == 41) _ _ (no_mark c 41 h refl) ∙ cond-false (c == 39) _ _ (no_mark c 39 h refl)
