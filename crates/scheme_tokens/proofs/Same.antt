@@ -6,3 +6,4 @@ pub mod Elements
 pub mod ElementsRead
 pub mod Words
 pub mod Tokens
+pub mod TokensRead
