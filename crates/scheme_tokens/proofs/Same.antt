@@ -7,3 +7,4 @@ pub mod ElementsRead
 pub mod Words
 pub mod Tokens
 pub mod TokensRead
+pub mod Reading
