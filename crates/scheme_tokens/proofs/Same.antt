@@ -8,3 +8,4 @@ pub mod Words
 pub mod Tokens
 pub mod TokensRead
 pub mod Reading
+pub mod Spelling

@@ -11,8 +11,7 @@ use Rattle.scheme_tokens.specs.Characters.{is_one_of, is_delimiter, is_sign, is_
 use Rattle.scheme_tokens.specs.Mirror.Words.{byte_count, front_of, behind, is_inside, is_numeral, is_identifier, goes_on_sign, goes_on_dot}
 use Rattle.scheme_tokens.specs.Mirror.Quoted.{Fault, ◌>>=◌, element, elements, escape, quoted, hex_value, hex_end, letter}
 use Rattle.scheme_tokens.specs.Mirror.Tokens.{TokenKind, Atomic, Name, word_kind, word_token, token}
-use Rattle.scheme_tokens.specs.Mirror.Reading.{IsIdentifier}
-use Rattle.scheme_tokens.specs.Mirror.Spelled.{hex_digits, hex_escape, in_bars, barred, spelled}
+use Rattle.scheme_tokens.specs.Spelling.{hex_digits, hex_escape, in_bars, barred}
 use Rattle.scheme_tokens.proofs.Fronts.{front_of-cons, byte_count-encodes}
 
 -- no character of an identifier ends a word
@@ -230,7 +229,7 @@ no_identifier = refl
 abbrev before_word : List ℕ → List ℕ → Result (TokenKind × List ℕ) Fault
 before_word rest word = word_kind word >>= λ k. Ok (k, rest)
 
-bare_read : (name : List ℕ) → is_numeral name ≡ false → is_identifier name ≡ true → token name ≡ Ok (Atomic (Name name false), [])
+pub bare_read : (name : List ℕ) → is_numeral name ≡ false → is_identifier name ≡ true → token name ≡ Ok (Atomic (Name name false), [])
 bare_read [] h k = absurd (not_both (is_identifier []) k no_identifier)
 bare_read (c ∷ cs) h k =
     let all = all_follow c cs k in
@@ -336,17 +335,6 @@ barred_token : (text : List ℕ) → token (124 ∷ text) ≡ (quoted 124 text >
 unfolding token
 barred_token text = refl
 
-barred_read : (name : List ℕ) → token (barred name) ≡ Ok (Atomic (Name name true), [])
+pub barred_read : (name : List ℕ) → token (barred name) ≡ Ok (Atomic (Name name true), [])
 barred_read name =
     barred_token (flat_map in_bars name ++ 124 ∷ []) ∙ ap (λ (r : Result (List ℕ × List ℕ) Fault). r >>= λ found. Ok (Atomic (Name found.0 true), found.1)) (barred_text name)
-
-read_when : (name : List ℕ) (bars numeral identifier : Bool) → is_numeral name ≡ numeral → is_identifier name ≡ identifier →
-    IsIdentifier name (cond (bars || not (not numeral && identifier)) (barred name) name)
-read_when name true numeral identifier e f = (true, barred_read name)
-read_when name false true identifier e f = (true, barred_read name)
-read_when name false false true e f = (false, bare_read name e f)
-read_when name false false false e f = (true, barred_read name)
-
-pub spelled_back : (name : List ℕ) (bars : Bool) → IsIdentifier name (spelled name bars)
-unfolding spelled
-spelled_back name bars = read_when name bars (is_numeral name) (is_identifier name) refl refl

@@ -3,5 +3,8 @@ pub mod Words
 pub mod Gaps
 pub mod Tokens
 pub mod Reading
+pub mod Faults
+pub mod Stopping
+pub mod Spelling
 pub mod Mirror
 pub mod Views

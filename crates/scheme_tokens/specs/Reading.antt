@@ -1,5 +1,5 @@
--- Texts (R7RS 7.1.1): tokens with intertoken space before, between and behind them, and where a text stops. Places count bytes.
-use Rattle.std.specs.Prelude.{◌≡◌, ◌≢◌, ℕ, ◌+◌, Bool, ◌==◌, List, [], ◌∷◌, ◌++◌, if◌then◌else◌}
+-- Texts (R7RS 7.1.1): tokens with intertoken space before, between and behind them. Places count bytes.
+use Rattle.std.specs.Prelude.{◌≡◌, ℕ, ◌+◌, Bool, ◌==◌, List, [], ◌∷◌, ◌++◌, if◌then◌else◌}
 use Rattle.scheme_tokens.specs.Words.{byte_count}
 use Rattle.scheme_tokens.specs.Gaps.{IsSpace}
 use Rattle.scheme_tokens.specs.Tokens.{TokenKind, Atomic, Name, IsToken}
@@ -42,18 +42,3 @@ IsSpelled ts text = IsSpelledFrom (mark_bytes text) ts (behind_mark text)
 -- a text that is one identifier token and nothing else
 abbrev pub IsIdentifier : List ℕ → List ℕ → Type 0
 IsIdentifier name text = (bars : Bool) × IsToken (Atomic (Name name bars)) text []
-
--- why no token goes on
-pub data Fault : Type 0 where
-  bad_token : Fault
-  open_string : Fault
-  open_bar : Fault
-  open_comment : Fault
-  label : Fault
-  directive : Fault
-
--- a fault and the bytes that it is shown at
-pub record FaultAt : Type 0 where
-  pub fault : Fault
-  pub start : ℕ
-  pub end : ℕ

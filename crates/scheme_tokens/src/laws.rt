@@ -1,7 +1,9 @@
 //! Laws of reading (R7RS 7.1.1).
 ghost use Rattle.std.specs.Prelude.{◌≡◌, Bool, List, ℕ, Option};
-ghost use Rattle.scheme_tokens.specs.Mirror.Reading.{Token, FaultAt, IsRead, IsIdentifier};
-ghost use Rattle.scheme_tokens.specs.Mirror.Spelled.{spelled};
+ghost use Rattle.scheme_tokens.specs.Reading.{Token, IsIdentifier};
+ghost use Rattle.scheme_tokens.specs.Faults.{FaultAt};
+ghost use Rattle.scheme_tokens.specs.Stopping.{IsRead};
+ghost use Rattle.scheme_tokens.specs.Spelling.{IsSpelling};
 
 /// A text is read in one way at most: it has one list of tokens, and it ends or stops at one fault.
 pub fn one_reading()
@@ -9,7 +11,7 @@ pub fn one_reading()
         IsRead ts end text → IsRead us fin text → (ts ≡ us) × (end ≡ fin) }
 {}
 
-/// A symbol, spelled with or without bars asked for, is one identifier that names it again.
+/// A symbol, spelled with or without bars asked for, is one identifier, which names it again.
 pub fn spelled_back()
-    ensures { (name : List ℕ) (bars : Bool) → IsIdentifier name (spelled name bars) }
+    ensures { (name text : List ℕ) (bars : Bool) → IsSpelling name bars text → IsIdentifier name text }
 {}

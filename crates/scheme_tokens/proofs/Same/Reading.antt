@@ -7,7 +7,8 @@ use Rattle.scheme_tokens.specs.Characters.{is_delimiter}
 use Rattle.scheme_tokens.specs.Words.{byte_count, is_inside}
 use Rattle.scheme_tokens.specs.Gaps.{IsSpace}
 use Rattle.scheme_tokens.specs.Tokens.{TokenKind, Atomic, Name, IsToken}
-use Rattle.scheme_tokens.specs.Reading.{Token, First, IsSpelledFrom, mark_bytes, behind_mark, IsSpelled, IsIdentifier, Fault, FaultAt}
+use Rattle.scheme_tokens.specs.Reading.{Token, First, IsSpelledFrom, mark_bytes, behind_mark, IsSpelled, IsIdentifier}
+use Rattle.scheme_tokens.specs.Faults.{Fault, FaultAt}
 use Rattle.scheme_tokens.specs.Mirror.Words.{word_of, behind_word, front_of, behind, is_numeral, is_identifier}
 use Rattle.scheme_tokens.specs.Mirror.Gaps.{between, behind_gap, opens}
 use Rattle.scheme_tokens.specs.Mirror.Tokens.{token, word_token, word_kind, hash_token, hash_kind, before}
@@ -184,7 +185,7 @@ read_spelled ts text h = reads_spelled (mark_bytes text) (byte_count text) ts (b
 
 -- ---- one identifier
 
-same_kind : (k : TokenKind) (rest : List ℕ) (r : Result (TokenKind × List ℕ) Fault) → tokens.Told rest r → r ≡ Ok (k, []) → IsToken k rest []
+pub same_kind : (k : TokenKind) (rest : List ℕ) (r : Result (TokenKind × List ℕ) Fault) → tokens.Told rest r → r ≡ Ok (k, []) → IsToken k rest []
 same_kind k rest r told e = let t = subst (tokens.Told rest) e told in subst (λ (q : List ℕ). IsToken k q []) (sym (t.1 ∙ append-nil t.0)) t.2
 
 pub identifier_told : (name text : List ℕ) → mirror.IsIdentifier name text → IsIdentifier name text

@@ -5,7 +5,7 @@ use Rattle.std.specs.Char.{to_ascii_lowercase}
 use Rattle.scheme_tokens.specs.Characters.{is_one_of, is_line_end, is_blank, is_hex_digit, is_scalar}
 use Rattle.scheme_tokens.specs.Mirror.Words.{front_of, behind, byte_count}
 pub use Rattle.scheme_tokens.specs.Tokens.{hex_value}
-pub use Rattle.scheme_tokens.specs.Reading.{Fault, bad_token, open_string, open_bar, open_comment, label, directive}
+pub use Rattle.scheme_tokens.specs.Faults.{Fault, bad_token, open_string, open_bar, open_comment, label, directive}
 
 infixl 10 ◌>>=◌
 abbrev pub ◌>>=◌ : {A B : Type 0} → Result A Fault → (A → Result B Fault) → Result B Fault

@@ -1,30 +1,11 @@
 -- How a name is written (R7RS 7.1.1, identifier and symbol element).
-use Rattle.std.specs.Prelude.{ℕ, ◌/◌, ◌%◌, Bool, not, ◌||◌, ◌&&◌, ◌==◌, nat_lt, List, [], ◌∷◌, ◌++◌, if◌then◌else◌}
-use Rattle.std.specs.List.{flat_map}
-use Rattle.std.specs.Char.{digit_char}
+use Rattle.std.specs.Prelude.{ℕ, Bool, not, ◌||◌, ◌&&◌, List, if◌then◌else◌}
 use Rattle.scheme_tokens.specs.Mirror.Words.{is_numeral, is_identifier}
+use Rattle.scheme_tokens.specs.Spelling.{barred}
 
 -- characters that are an identifier token as they are
 abbrev pub is_bare : List ℕ → Bool
 is_bare name = not (is_numeral name) && is_identifier name
-
--- the shortest small hex digits of a number below 256
-abbrev pub hex_digits : ℕ → List ℕ
-hex_digits n = if nat_lt n 16 then digit_char n ∷ [] else digit_char (n / 16) ∷ digit_char (n % 16) ∷ []
-
--- `\x`, the digits of a code, and `;`
-abbrev pub hex_escape : ℕ → List ℕ
-hex_escape code = 92 ∷ 120 ∷ (hex_digits code ++ 59 ∷ [])
-
--- a character between bars: a bar, a backslash and what has no shape are escaped
-abbrev pub in_bars : ℕ → List ℕ
-in_bars c =
-    if c == 124 then 92 ∷ 124 ∷ []
-    else if c == 92 || (nat_lt c 32 || c == 127) then hex_escape c
-    else c ∷ []
-
-abbrev pub barred : List ℕ → List ℕ
-barred name = 124 ∷ (flat_map in_bars name ++ 124 ∷ [])
 
 -- a name, between bars where they are asked for or needed
 unfoldable pub spelled : List ℕ → Bool → List ℕ

@@ -1,9 +1,4 @@
 use Rattle.scheme_tokens.proofs.Readings as readings
-use Rattle.scheme_tokens.proofs.Same.Gaps.{space_passed}
-use Rattle.scheme_tokens.proofs.Same.GapsFound.{Told}
-use Rattle.scheme_tokens.proofs.Same.Elements.{AllTold}
-use Rattle.scheme_tokens.proofs.Same.ElementsRead.{Reads}
-use Rattle.scheme_tokens.proofs.Same.Reading.{token_here}
 use Rattle.scheme_tokens.proofs.laws.one_reading.Goals as goal
 
 pub returns : goal.returns
