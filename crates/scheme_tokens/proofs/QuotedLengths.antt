@@ -58,7 +58,7 @@ escape_rests close (c ∷ cs) =
     (rests_if n (close == 34 && (is_blank c || is_line_end c)) _ _ (rests_more (length (behind is_blank (c ∷ cs))) n (fold_end close (behind is_blank (c ∷ cs))) (behind_shorter is_blank (c ∷ cs)) (fold_end_rests close (behind is_blank (c ∷ cs))))
     (rests_more (length cs) n (letter (escaped c) cs) (omega arith) (letter_rests (escaped c) cs)))
 
-element_rests : (close c : ℕ) (cs : List ℕ) → Rests (length cs) (element close c cs)
+pub element_rests : (close c : ℕ) (cs : List ℕ) → Rests (length cs) (element close c cs)
 unfolding element
 element_rests close c cs =
     rests_if (length cs) (c == 92) (escape close cs) _ (escape_rests close cs)

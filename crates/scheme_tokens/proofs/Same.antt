@@ -9,3 +9,9 @@ pub mod Tokens
 pub mod TokensRead
 pub mod Reading
 pub mod Spelling
+pub mod Scanned
+pub mod BadWords
+pub mod BadHashes
+pub mod BadCharacters
+pub mod BadElements
+pub mod BadTokens

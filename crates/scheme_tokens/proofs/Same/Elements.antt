@@ -174,6 +174,24 @@ element_frame (IsElement.line_end ending cs str h) ds like = IsElement.line_end 
 element_frame (IsElement.folded before ending behind cs str h k l m) ds like =
     IsElement.folded before ending behind ds str h (line_end_frame k (behind ++ ds) (like_behind behind cs ds like)) l (like is_blank m)
 
+-- the same where the text ended behind it, before the mark that closes
+mark_line_end : {ending cs : List ℕ} → IsLineEnd ending cs → (ds : List ℕ) → (Ends (λ c. c == 10) cs → Ends (λ c. c == 10) ds) → IsLineEnd ending ds
+mark_line_end (IsLineEnd.feed cs) ds like = IsLineEnd.feed ds
+mark_line_end (IsLineEnd.return_feed cs) ds like = IsLineEnd.return_feed ds
+mark_line_end (IsLineEnd.return cs h) ds like = IsLineEnd.return ds (like h)
+
+blanks_like : (blanks cs ds : List ℕ) → (Ends (λ c. c == 10) cs → Ends (λ c. c == 10) ds) → Ends (λ c. c == 10) (blanks ++ cs) → Ends (λ c. c == 10) (blanks ++ ds)
+blanks_like [] cs ds like h = like h
+blanks_like (b ∷ bs) cs ds like h = h
+
+pub element_to_mark : {close : ℕ} {one meant cs : List ℕ} → IsElement close one meant cs → IsElement close one meant (close ∷ [])
+element_to_mark {close} (IsElement.itself c cs h) = IsElement.itself c (close ∷ []) h
+element_to_mark {close} (IsElement.letter c m cs h) = IsElement.letter c m (close ∷ []) h
+element_to_mark {close} (IsElement.code x c digits cs lower h) = IsElement.code x c digits (close ∷ []) lower h
+element_to_mark {close} (IsElement.line_end ending cs str h) = IsElement.line_end ending (close ∷ []) str (mark_line_end h (close ∷ []) (λ _. ap (λ (q : ℕ). q == 10) str))
+element_to_mark {close} (IsElement.folded before ending blanks cs str h k l m) =
+    IsElement.folded before ending blanks (close ∷ []) str h (mark_line_end k (blanks ++ close ∷ []) (blanks_like blanks cs (close ∷ []) (λ _. ap (λ (q : ℕ). q == 10) str))) l (ap is_blank str)
+
 joined : (close : ℕ) (text : List ℕ) (first : List ℕ × List ℕ) (r : Result (List ℕ × List ℕ) Fault) → OneTold close text (Ok first) → AllTold close first.1 r → AllTold close text (r >>= λ more. Ok (first.0 ++ more.0, more.1))
 joined close text first (Err f) h k = tt
 joined close text first (Ok more) h k =

@@ -16,7 +16,7 @@ use Rattle.scheme_tokens.proofs.Same.Elements.{code_scalar, element_frame}
 abbrev pub Reads : ℕ → List ℕ → List ℕ → List ℕ → Type 0
 Reads close one meant rest = (c : ℕ) × (cs : List ℕ) × (one ≡ c ∷ cs) × ((c == close) ≡ false) × (element close c (cs ++ rest) ≡ Ok (meant, rest))
 
-escape_step : (close : ℕ) (cs : List ℕ) → element close 92 cs ≡ escape close cs
+pub escape_step : (close : ℕ) (cs : List ℕ) → element close 92 cs ≡ escape close cs
 unfolding element
 escape_step close cs = refl
 
@@ -31,7 +31,7 @@ mnemonic_read IsMnemonic.mark close rest = cond-false (close == 34 && false) _ _
 mnemonic_read IsMnemonic.backslash close rest = cond-false (close == 34 && false) _ _ (and_right (close == 34) false refl)
 mnemonic_read IsMnemonic.bar close rest = cond-false (close == 34 && false) _ _ (and_right (close == 34) false refl)
 
-hex_step : (close x : ℕ) (cs : List ℕ) → to_ascii_lowercase x ≡ 120 → escape close (x ∷ cs) ≡ hex_end close (front_of is_hex_digit cs) (behind is_hex_digit cs)
+pub hex_step : (close x : ℕ) (cs : List ℕ) → to_ascii_lowercase x ≡ 120 → escape close (x ∷ cs) ≡ hex_end close (front_of is_hex_digit cs) (behind is_hex_digit cs)
 unfolding escape
 hex_step close x cs h = cond-true (to_ascii_lowercase x == 120) _ _ (eq-eqb (to_ascii_lowercase x) 120 h)
 
@@ -71,7 +71,7 @@ no_x c h = elim (or_cases (is_blank c) (is_line_end c) h) [
   | inr e ↦ of_line_end c (λ q. to_ascii_lowercase q == 120) e refl refl
 ]
 
-fold_step : (c : ℕ) (cs : List ℕ) → (is_blank c || is_line_end c) ≡ true → escape 34 (c ∷ cs) ≡ fold_end 34 (behind is_blank (c ∷ cs))
+pub fold_step : (c : ℕ) (cs : List ℕ) → (is_blank c || is_line_end c) ≡ true → escape 34 (c ∷ cs) ≡ fold_end 34 (behind is_blank (c ∷ cs))
 unfolding escape
 fold_step c cs h = cond-false (to_ascii_lowercase c == 120) _ _ (no_x c h) ∙ cond-true (is_blank c || is_line_end c) _ _ h
 
@@ -122,7 +122,7 @@ element_read {close} (IsElement.folded before ending blanks rest str h k l m) ap
 
 -- ---- elements
 
-elements_step : (most close c : ℕ) (cs : List ℕ) → elements (suc most) close (c ∷ cs) ≡ cond (c == close) (Ok ([], cs)) (element close c cs >>= λ first. elements most close first.1 >>= λ more. Ok (first.0 ++ more.0, more.1))
+pub elements_step : (most close c : ℕ) (cs : List ℕ) → elements (suc most) close (c ∷ cs) ≡ cond (c == close) (Ok ([], cs)) (element close c cs >>= λ first. elements most close first.1 >>= λ more. Ok (first.0 ++ more.0, more.1))
 unfolding elements
 elements_step most close c cs = refl
 

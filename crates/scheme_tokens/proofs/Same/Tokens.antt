@@ -74,7 +74,7 @@ lower_u a =
 
 -- ---- bytevectors
 
-u8_is : (word : List ℕ) → Spells (codes "#u8") word → (word ≡ codes "#u8") ⊎ (word ≡ codes "#U8")
+pub u8_is : (word : List ℕ) → Spells (codes "#u8") word → (word ≡ codes "#u8") ⊎ (word ≡ codes "#U8")
 u8_is [] h = cc
 u8_is (a ∷ []) h = cc
 u8_is (a ∷ b ∷ []) h = cc
