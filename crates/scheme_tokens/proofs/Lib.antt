@@ -4,6 +4,7 @@ pub mod WordLaws
 pub mod QuotedLaws
 pub mod HexLaws
 pub mod TokenLaws
+pub mod OneReading
 pub mod Readings
 pub mod NameLaws
 pub mod SpellLaws

@@ -6,34 +6,13 @@ use Rattle.scheme_tokens.specs.Reading.{Token, behind_mark, IsSpelled}
 use Rattle.scheme_tokens.specs.Faults.{FaultAt}
 use Rattle.scheme_tokens.specs.Stopping.{IsRead, Stops}
 use Rattle.scheme_tokens.specs.Mirror.Reading as mirror
-use Rattle.scheme_tokens.specs.Mirror.Reading.{Next, found, ended, next, Reads}
+use Rattle.scheme_tokens.specs.Mirror.Reading.{found, ended, next, Reads}
+use Rattle.scheme_tokens.proofs.OneReading.{one_reading_from}
 use Rattle.scheme_tokens.specs.Views.{token_of, tokens_of, read_fault, told_end, IsNext, IsFront, Explains}
 use Rattle.scheme_tokens.specs.declared.token.Token as code
 use Rattle.scheme_tokens.proofs.Same.Reading.{spelled_read, read_spelled}
 use Rattle.scheme_tokens.specs.declared.fault.ReadFault as code_read
 use Rattle.scheme_tokens.specs.declared.fault.ReadFault.TheVariants as told
-
-same_end : (n : Next) (end fin : Option FaultAt) → n ≡ ended end → n ≡ ended fin → end ≡ fin
-same_end n end fin h k = cc
-
-no_end : (n : Next) (t : Token) (rest : List ℕ) (end : Option FaultAt) → n ≡ found t rest → n ≡ ended end → ⊥
-no_end n t rest end h k = cc
-
-same_token : (n : Next) (t u : Token) (rest others : List ℕ) → n ≡ found t rest → n ≡ found u others → t ≡ u
-same_token n t u rest others h k = cc
-
-same_rest : (n : Next) (t u : Token) (rest others : List ℕ) → n ≡ found t rest → n ≡ found u others → rest ≡ others
-same_rest n t u rest others h k = cc
-
-pub one_reading_from : (size : ℕ) (ts us : List Token) (end fin : Option FaultAt) (text : List ℕ) → Reads size ts end text → Reads size us fin text → (ts ≡ us) × (end ≡ fin)
-one_reading_from size [] [] end fin text h k = (refl, same_end (next size text) end fin h k)
-one_reading_from size [] (u ∷ us) end fin text h k = absurd (no_end (next size text) u k.0 end k.1 h)
-one_reading_from size (t ∷ ts) [] end fin text h k = absurd (no_end (next size text) t h.0 fin h.1 k)
-one_reading_from size (t ∷ ts) (u ∷ us) end fin text h k =
-    let first = same_token (next size text) t u h.0 k.0 h.1 k.1 in
-    let rest = same_rest (next size text) t u h.0 k.0 h.1 k.1 in
-    let more = one_reading_from size ts us end fin h.0 h.2 (subst (Reads size us fin) (sym rest) k.2) in
-    ((λ i. first i ∷ more.0 i), more.1)
 
 -- what the code reads is what the grammar says, both ways
 pub is_read : (ts : List Token) (end : Option FaultAt) (text : List ℕ) → mirror.IsRead ts end text → IsRead ts end text

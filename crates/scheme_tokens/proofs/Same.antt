@@ -15,3 +15,5 @@ pub mod BadHashes
 pub mod BadCharacters
 pub mod BadElements
 pub mod BadTokens
+pub mod Frames
+pub mod Stops

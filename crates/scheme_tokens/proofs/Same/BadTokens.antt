@@ -9,21 +9,15 @@ use Rattle.scheme_tokens.specs.Characters.{is_delimiter}
 use Rattle.scheme_tokens.specs.Words.{is_inside}
 use Rattle.scheme_tokens.specs.Faults.{Fault, bad_token, label, directive}
 use Rattle.scheme_tokens.specs.Stopping.{because}
-use Rattle.scheme_tokens.specs.Mirror.Gaps.{opens}
 use Rattle.scheme_tokens.specs.Mirror.Tokens.{token, hash_token, unquote_token, string_token, bar_token, word_token, behind_hash_slash, hash_word}
 use Rattle.scheme_tokens.specs.Mirror.Words.{word_of, behind_word}
 use Rattle.scheme_tokens.proofs.Same.Words.{is_no}
+use Rattle.scheme_tokens.proofs.Same.GapsFound.{Dark}
 use Rattle.scheme_tokens.proofs.Same.Scanned.{Goes, Halts, Refused}
 use Rattle.scheme_tokens.proofs.Same.BadWords.{OrRefused, BeginsWord, word_refused}
 use Rattle.scheme_tokens.proofs.Same.BadHashes.{GoesOn, hash_refused}
 use Rattle.scheme_tokens.proofs.Same.BadCharacters.{slash_refused}
 use Rattle.scheme_tokens.proofs.Same.BadElements.{string_refused, bar_refused}
-
--- no space stands first
-abbrev pub Dark : List ℕ → Type 0
-Dark [] = Unit {0}
-Dark (c ∷ []) = (is_whitespace c ≡ false) × ((c == 59) ≡ false)
-Dark (c ∷ d ∷ ds) = (is_whitespace c ≡ false) × ((c == 59) ≡ false) × (opens c d ≡ false)
 
 inside_t : list_all is_inside (codes "#t") ≡ true
 unfolding is_delimiter

@@ -70,9 +70,20 @@ abbrev pub target : Result (List ℕ) (List ℕ) → List ℕ
 target (Ok front) = front
 target (Err start) = start
 
+-- no space stands first
+abbrev pub Dark : List ℕ → Type 0
+Dark [] = Unit {0}
+Dark (c ∷ []) = (is_whitespace c ≡ false) × ((c == 59) ≡ false)
+Dark (c ∷ d ∷ ds) = (is_whitespace c ≡ false) × ((c == 59) ≡ false) × (opens c d ≡ false)
+
+pub dark_gap : (text : List ℕ) → Dark text → behind_gap between text ≡ Ok text
+dark_gap [] h = between_none
+dark_gap (c ∷ []) h = between_one c ∙ cond-false (is_whitespace c || c == 59) _ _ (or_from (is_whitespace c) (c == 59) h.0 h.1)
+dark_gap (c ∷ d ∷ ds) h = between_step c d ds ∙ cond-false (is_whitespace c) _ _ h.0 ∙ cond-false (c == 59) _ _ h.1 ∙ cond-false (opens c d) _ _ h.2
+
 -- no space stands first, or only a comment that can still be closed
 abbrev pub Halts : Result (List ℕ) (List ℕ) → Type 0
-Halts (Ok front) = behind_gap between front ≡ Ok front
+Halts (Ok front) = Dark front
 Halts (Err start) = (cs : List ℕ) × (start ≡ 35 ∷ 124 ∷ cs) × IsOpen 0 cs
 
 abbrev pub Ended : List ℕ → Result (List ℕ) (List ℕ) → Type 0
@@ -106,7 +117,7 @@ block_told c d text r h (inl p) =
 block_told c d text r h (inr o) =
     subst (λ (q : Result (List ℕ) (List ℕ)). Ended (c ∷ d ∷ text) q) (sym o.0) (([], refl, none (c ∷ d ∷ text)), (text, opening c d text h, o.1))
 
-here : (text : List ℕ) (r : Result (List ℕ) (List ℕ)) → r ≡ Ok text → behind_gap between text ≡ Ok text → Ended text r
+here : (text : List ℕ) (r : Result (List ℕ) (List ℕ)) → r ≡ Ok text → Dark text → Ended text r
 here text r e h = subst (λ (q : Result (List ℕ) (List ℕ)). Ended text q) (sym e) (([], refl, none text), h)
 
 line_end_told : (c : ℕ) (text : List ℕ) (r : Result (List ℕ) (List ℕ)) → is_line_end c ≡ true → is_whitespace c ≡ true → Ended text r → Lined (c ∷ text) (target r) × Halts r
@@ -169,22 +180,22 @@ closes_told outer c d start text r h (inr o) =
 
 one_between : (c : ℕ) (b : Bool) → (is_whitespace c || c == 59) ≡ b → Told between (c ∷ []) (cond b (Ok []) (Ok (c ∷ [])))
 one_between c true h = elim (or_cases (is_whitespace c) (c == 59) h) [
-  | inl e ↦ white_told c [] (Ok []) e (here [] (Ok []) refl between_none)
-  | inr e ↦ line_told c [] (Ok []) e (([], [], refl, refl, tt, none []), between_none)
+  | inl e ↦ white_told c [] (Ok []) e (here [] (Ok []) refl tt)
+  | inr e ↦ line_told c [] (Ok []) e (([], [], refl, refl, tt, none []), tt)
 ]
-one_between c false h = here (c ∷ []) (Ok (c ∷ [])) refl (between_one c ∙ cond-false (is_whitespace c || c == 59) _ _ h)
+one_between c false h = here (c ∷ []) (Ok (c ∷ [])) refl (or_parts (is_whitespace c) (c == 59) h)
 
 -- what the code tells of a gap
 pub gap_told : (w : Within) (text : List ℕ) → Told w text (behind_gap w text)
 unfolding behind_gap
-gap_told between [] = here [] (Ok []) refl between_none
+gap_told between [] = here [] (Ok []) refl tt
 gap_told between (c ∷ []) = one_between c (is_whitespace c || c == 59) refl
 gap_told between (c ∷ d ∷ cs) =
     cond_both (is_whitespace c) _ _ (Told between (c ∷ d ∷ cs)) (λ white. white_told c (d ∷ cs) (behind_gap between (d ∷ cs)) white (gap_told between (d ∷ cs)))
     (λ dark. cond_both (c == 59) _ _ (Told between (c ∷ d ∷ cs)) (λ line. line_told c (d ∷ cs) (behind_gap mirror.line (d ∷ cs)) line (gap_told mirror.line (d ∷ cs)))
     (λ word. cond_both (opens c d) _ _ (Told between (c ∷ d ∷ cs)) (λ opening. block_told c d cs (behind_gap (block (c ∷ d ∷ cs) 0) cs) opening (gap_told (block (c ∷ d ∷ cs) 0) cs))
-    (λ none. here (c ∷ d ∷ cs) (Ok (c ∷ d ∷ cs)) refl (between_step c d cs ∙ cond-false (is_whitespace c) _ _ dark ∙ cond-false (c == 59) _ _ word ∙ cond-false (opens c d) _ _ none))))
-gap_told mirror.line [] = (([], [], refl, refl, tt, none []), between_none)
+    (λ none. here (c ∷ d ∷ cs) (Ok (c ∷ d ∷ cs)) refl (dark, word, none))))
+gap_told mirror.line [] = (([], [], refl, refl, tt, none []), tt)
 gap_told mirror.line (c ∷ cs) =
     cond_both (is_line_end c) _ _ (Told mirror.line (c ∷ cs)) (λ e. line_end_told c cs (behind_gap between cs) e (line_end_white c e) (gap_told between cs))
     (λ e. in_line_told c cs (behind_gap mirror.line cs) e (gap_told mirror.line cs))

@@ -79,13 +79,13 @@ NextTold at size text (ended None) = IsSpace text []
 NextTold at size text (ended (Some f)) = Unit {0}
 
 -- a text that begins at a place: the bytes before it and its own are those of all
-two_counts : (at size : ℕ) (text front : List ℕ) (gap : List ℕ) → at + byte_count text ≡ size → text ≡ gap ++ front → place size front ≡ at + byte_count gap
+pub two_counts : (at size : ℕ) (text front : List ℕ) (gap : List ℕ) → at + byte_count text ≡ size → text ≡ gap ++ front → place size front ≡ at + byte_count gap
 two_counts at size text front gap e w =
     let sum = byte_count-append gap front in
     let whole = ap byte_count w in
     omega (arith, e, sum, whole)
 
-end_count : (at size : ℕ) (text front glyphs rest gap : List ℕ) → at + byte_count text ≡ size → text ≡ gap ++ front → front ≡ glyphs ++ rest → place size rest ≡ place size front + byte_count glyphs
+pub end_count : (at size : ℕ) (text front glyphs rest gap : List ℕ) → at + byte_count text ≡ size → text ≡ gap ++ front → front ≡ glyphs ++ rest → place size rest ≡ place size front + byte_count glyphs
 end_count at size text front glyphs rest gap e w v =
     let sum = byte_count-append gap front in
     let whole = ap byte_count w in
@@ -93,7 +93,7 @@ end_count at size text front glyphs rest gap e w v =
     let part = ap byte_count v in
     omega (arith, e, sum, whole, more, part)
 
-rest_count : (at size : ℕ) (text front glyphs rest gap : List ℕ) → at + byte_count text ≡ size → text ≡ gap ++ front → front ≡ glyphs ++ rest → place size rest + byte_count rest ≡ size
+pub rest_count : (at size : ℕ) (text front glyphs rest gap : List ℕ) → at + byte_count text ≡ size → text ≡ gap ++ front → front ≡ glyphs ++ rest → place size rest + byte_count rest ≡ size
 rest_count at size text front glyphs rest gap e w v =
     let sum = byte_count-append gap front in
     let whole = ap byte_count w in
