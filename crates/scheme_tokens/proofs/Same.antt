@@ -17,3 +17,4 @@ pub mod BadElements
 pub mod BadTokens
 pub mod Frames
 pub mod Stops
+pub mod OneStop

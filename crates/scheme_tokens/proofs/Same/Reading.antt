@@ -44,22 +44,22 @@ semicolon_outside : (c : ℕ) → (c == 59) ≡ true → is_inside c ≡ false
 unfolding is_delimiter
 semicolon_outside c h = ap is_inside (eqb-true c 59 h)
 
-not_white : (c : ℕ) (cs : List ℕ) (t : TokenKind × List ℕ) → token (c ∷ cs) ≡ Ok t → is_whitespace c ≡ false
+pub not_white : (c : ℕ) (cs : List ℕ) (t : TokenKind × List ℕ) → token (c ∷ cs) ≡ Ok t → is_whitespace c ≡ false
 not_white c cs t h = false_from_ne_true (is_whitespace c) (λ e. at_delimiter c cs t (white_outside c e) (sym (word_first is_whitespace c cs e refl) ∙ h))
 
-not_semicolon : (c : ℕ) (cs : List ℕ) (t : TokenKind × List ℕ) → token (c ∷ cs) ≡ Ok t → (c == 59) ≡ false
+pub not_semicolon : (c : ℕ) (cs : List ℕ) (t : TokenKind × List ℕ) → token (c ∷ cs) ≡ Ok t → (c == 59) ≡ false
 not_semicolon c cs t h = false_from_ne_true (c == 59) (λ e. at_delimiter c cs t (semicolon_outside c e) (sym (word_first (λ q. q == 59) c cs e refl) ∙ h))
 
-comment_no_token : (cs : List ℕ) → token (35 ∷ 124 ∷ cs) ≡ Err Fault.bad_token
+pub comment_no_token : (cs : List ℕ) → token (35 ∷ 124 ∷ cs) ≡ Err Fault.bad_token
 unfolding token hash_token hash_kind is_delimiter is_numeral
 comment_no_token cs = refl
 
-not_opening : (c d : ℕ) (cs ds : List ℕ) (t : TokenKind × List ℕ) → token (c ∷ cs) ≡ Ok t → cs ≡ d ∷ ds → opens c d ≡ false
+pub not_opening : (c d : ℕ) (cs ds : List ℕ) (t : TokenKind × List ℕ) → token (c ∷ cs) ≡ Ok t → cs ≡ d ∷ ds → opens c d ≡ false
 not_opening c d cs ds t h e = false_from_ne_true (opens c d) (λ o.
     let parts = and_parts (c == 35) (d == 124) o in
     no_token (token (c ∷ cs)) Fault.bad_token t ((λ i. token (eqb-true c 35 parts.0 i ∷ (e ∙ ap (λ (q : ℕ). q ∷ ds) (eqb-true d 124 parts.1)) i)) ∙ comment_no_token ds) h)
 
-none_token : token [] ≡ Err Fault.bad_token
+pub none_token : token [] ≡ Err Fault.bad_token
 unfolding token
 none_token = refl
 

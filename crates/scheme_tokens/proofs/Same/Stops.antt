@@ -107,7 +107,7 @@ shows size open_comment c cs begun behind e h =
 whole_nested : (cs : List ℕ) → Passed 0 cs (λ rest. rest ≡ []) → IsNested cs
 whole_nested cs h = subst IsNested (sym (append-nil h.0) ∙ ap (λ (q : List ℕ). h.0 ++ q) (sym h.4) ∙ sym h.2) h.3
 
-comment_space : (cs : List ℕ) → IsNested cs → IsSpace (35 ∷ 124 ∷ cs) []
+pub comment_space : (cs : List ℕ) → IsNested cs → IsSpace (35 ∷ 124 ∷ cs) []
 comment_space cs h = subst (λ (q : List ℕ). IsSpace (35 ∷ 124 ∷ q) []) (append-nil cs) (IsSpace.nested cs [] [] h (IsSpace.none []))
 
 comment_halted : (at size : ℕ) (last gap start cs : List ℕ) → at + byte_count last ≡ size → last ≡ gap ++ start → IsSpace gap start → start ≡ 35 ∷ 124 ∷ cs → IsOpen 0 cs → Halted at last (fault_at size open_comment start)
@@ -148,7 +148,7 @@ dark_more [] c (d ∷ ds) (y ∷ ys) h k = (h.0, h.1, and_left (c == 35) (y == 1
 dark_more (b ∷ []) c cs x h k = h
 dark_more (b ∷ d ∷ ds) c cs x h k = h
 
-like_same : (begun : List ℕ) (c : ℕ) (cs x : List ℕ) → EndsLike (begun ++ c ∷ cs) (begun ++ c ∷ x)
+pub like_same : (begun : List ℕ) (c : ℕ) (cs x : List ℕ) → EndsLike (begun ++ c ∷ cs) (begun ++ c ∷ x)
 like_same begun c cs x = like_behind begun (c ∷ cs) (c ∷ x) (like_first c cs x)
 
 front_err : (size : ℕ) (front : List ℕ) (g : Fault) → ((c : ℕ) × (cs : List ℕ) × (front ≡ c ∷ cs)) → token front ≡ Err g → at_front size front ≡ ended (Some (fault_at size g front))
@@ -176,7 +176,7 @@ halts_behind gap begun (c ∷ cs) s dark hash h = λ x size.
 abbrev GoesOn : List ℕ → List ℕ → List ℕ → Type 0
 GoesOn last gap begun = (more : List ℕ) × EndsLike last (gap ++ (begun ++ more)) × ((place : ℕ) → (us : List Token) × IsSpelledFrom place us (gap ++ (begun ++ more)))
 
-one_token : (gap glyphs : List ℕ) (k : TokenKind) → IsSpace gap glyphs → IsToken k glyphs [] → (place : ℕ) → (us : List Token) × IsSpelledFrom place us (gap ++ glyphs)
+pub one_token : (gap glyphs : List ℕ) (k : TokenKind) → IsSpace gap glyphs → IsToken k glyphs [] → (place : ℕ) → (us : List Token) × IsSpelledFrom place us (gap ++ glyphs)
 one_token gap glyphs k s t place =
     let tok : Token = record { kind = k; start = place + byte_count gap; end = (place + byte_count gap) + byte_count glyphs } in
     (tok ∷ [], (record {
@@ -256,7 +256,7 @@ gap_stop at size last (Err start) e h =
     let o = h.1 in
     comment_halted at size last s.0 start o.0 e s.1 s.2 o.1 o.2
 
-next_stop : (at size : ℕ) (last : List ℕ) → at + byte_count last ≡ size → StopTold at last (next size last)
+pub next_stop : (at size : ℕ) (last : List ℕ) → at + byte_count last ≡ size → StopTold at last (next size last)
 unfolding next
 next_stop at size last e = gap_stop at size last (behind_gap between last) e (gap_told between last)
 
@@ -284,13 +284,13 @@ begins_reads at size (t ∷ ts) end text place last e h k =
 none_some : (f : FaultAt) → None ≡ Some f → ⊥
 none_some f e = cc
 
-regroup : (mark front gap begun behind : List ℕ) → (mark ++ (front ++ (gap ++ begun))) ++ behind ≡ mark ++ (front ++ (gap ++ (begun ++ behind)))
+pub regroup : (mark front gap begun behind : List ℕ) → (mark ++ (front ++ (gap ++ begun))) ++ behind ≡ mark ++ (front ++ (gap ++ (begun ++ behind)))
 regroup mark front gap begun behind =
     append_assoc mark (front ++ (gap ++ begun)) behind
     ∙ ap (λ (q : List ℕ). mark ++ q) (append_assoc front (gap ++ begun) behind ∙ ap (λ (q : List ℕ). front ++ q) (append_assoc gap begun behind))
 
 -- a text behind its mark that goes on elsewhere
-like_text : (body front last others : List ℕ) → body ≡ front ++ last → EndsLike last others → EndsLike body (front ++ others)
+pub like_text : (body front last others : List ℕ) → body ≡ front ++ last → EndsLike last others → EndsLike body (front ++ others)
 like_text body front last others e like p h = like_behind front last others like p (subst (Ends p) e h)
 
 module _ (text : List ℕ) (ts : List Token) (f : FaultAt) (at : ℕ) (last : List ℕ) (begins : Begins (mark_bytes text) ts (behind_mark text) at last) (halted : Halted at last f) (read : Reads (byte_count text) ts (Some f) (behind_mark text)) where
@@ -345,8 +345,8 @@ module _ (text : List ℕ) (ts : List Token) (f : FaultAt) (at : ℕ) (last : Li
 
   stops_when : (gap begun behind : List ℕ) → halted.gap ≡ gap → halted.begun ≡ begun → last ≡ gap ++ (begun ++ behind) → text ≡ (mark ++ (front ++ (gap ++ begun))) ++ behind → HaltsBehind gap begun behind → CanGoOn (mark ++ (front ++ (gap ++ begun))) →
       StopsBetween (mark ++ (front ++ (gap ++ begun))) behind
-  stops_when gap begun [] e k w whole h can = (can, λ us spelled. not_text us (subst (IsSpelled us) (sym (whole ∙ append-nil (mark ++ (front ++ (gap ++ begun))))) spelled))
-  stops_when gap begun (c ∷ cs) e k w whole h can = (can, λ on.
+  stops_when gap begun [] e k w all h can = (can, λ us spelled. not_text us (subst (IsSpelled us) (sym (all ∙ append-nil (mark ++ (front ++ (gap ++ begun))))) spelled))
+  stops_when gap begun (c ∷ cs) e k w all h can = (can, λ on.
       let x = on.0 in
       let others = gap ++ (begun ++ c ∷ x) in
       let like = λ (p : ℕ → Bool) (q : Ends p last). like_behind gap (begun ++ c ∷ cs) (begun ++ c ∷ x) (like_same begun c cs x) p (subst (Ends p) w q) in

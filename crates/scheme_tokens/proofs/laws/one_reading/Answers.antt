@@ -1,5 +1,5 @@
 use Rattle.scheme_tokens.proofs.Same.BadHashes.{hash_refused}
-use Rattle.scheme_tokens.proofs.Same.Stops.{Halted}
+use Rattle.scheme_tokens.proofs.Same.OneStop.{stop_read}
 use Rattle.scheme_tokens.proofs.Same.Frames.{mark_split}
 use Rattle.scheme_tokens.proofs.Same.BadElements.{elements_refused}
 use Rattle.scheme_tokens.proofs.laws.one_reading.Goals as goal
