@@ -12,4 +12,6 @@ pub mod GapLengths
 pub mod QuotedLengths
 pub mod TokenLengths
 pub mod TokenCounts
+pub mod EveryText
+pub mod Examples
 pub mod Same

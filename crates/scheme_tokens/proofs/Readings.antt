@@ -11,17 +11,19 @@ use Rattle.scheme_tokens.proofs.OneReading.{one_reading_from}
 use Rattle.scheme_tokens.specs.Views.{token_of, tokens_of, read_fault, told_end, IsNext, IsFront, Explains}
 use Rattle.scheme_tokens.specs.declared.token.Token as code
 use Rattle.scheme_tokens.proofs.Same.Reading.{spelled_read, read_spelled}
+use Rattle.scheme_tokens.proofs.Same.Stops.{read_stops}
+use Rattle.scheme_tokens.proofs.Same.OneStop.{stop_read}
 use Rattle.scheme_tokens.specs.declared.fault.ReadFault as code_read
 use Rattle.scheme_tokens.specs.declared.fault.ReadFault.TheVariants as told
 
 -- what the code reads is what the grammar says, both ways
 pub is_read : (ts : List Token) (end : Option FaultAt) (text : List ℕ) → mirror.IsRead ts end text → IsRead ts end text
 is_read ts None text h = read_spelled ts text h
-is_read ts (Some fault) text h = h
+is_read ts (Some fault) text h = read_stops ts fault text h
 
 pub read_is : (ts : List Token) (end : Option FaultAt) (text : List ℕ) → IsRead ts end text → mirror.IsRead ts end text
 read_is ts None text h = spelled_read ts text h
-read_is ts (Some fault) text h = h
+read_is ts (Some fault) text h = stop_read ts fault text h
 
 pub one_reading : (ts us : List Token) (end fin : Option FaultAt) (text : List ℕ) → IsRead ts end text → IsRead us fin text → (ts ≡ us) × (end ≡ fin)
 one_reading ts us end fin text h k = one_reading_from (byte_count text) ts us end fin (behind_mark text) (read_is ts end text h) (read_is us fin text k)

@@ -5,10 +5,16 @@ ghost use Rattle.scheme_tokens.specs.Faults.{FaultAt};
 ghost use Rattle.scheme_tokens.specs.Stopping.{IsRead};
 ghost use Rattle.scheme_tokens.specs.Spelling.{IsSpelling};
 
-/// A text is read in one way at most: it has one list of tokens, and it ends or stops at one fault.
+/// A text has one reading at most: one list of tokens, and then it ends, or stops at one fault. So a text that stops isn't
+/// spelled by any tokens.
 pub fn one_reading()
     ensures { (text : List ℕ) (ts us : List Token) (end fin : Option FaultAt) →
         IsRead ts end text → IsRead us fin text → (ts ≡ us) × (end ≡ fin) }
+{}
+
+/// Each text has a reading: it is tokens up to its end, or it stops.
+pub fn every_text()
+    ensures { (text : List ℕ) → (ts : List Token) × (end : Option FaultAt) × IsRead ts end text }
 {}
 
 /// A symbol, spelled with or without bars asked for, is one identifier, which names it again.

@@ -61,10 +61,6 @@ IsRead ts end text = Reads (byte_count text) ts end (behind_mark text)
 abbrev pub IsSpelled : List Token → List ℕ → Type 0
 IsSpelled ts text = IsRead ts None text
 
--- the text begins with tokens and gaps, and then no rule goes on, for this reason
-abbrev pub Stops : FaultAt → List ℕ → Type 0
-Stops fault text = (ts : List Token) × IsRead ts (Some fault) text
-
 -- a text that is one identifier token and nothing else
 abbrev pub IsIdentifier : List ℕ → List ℕ → Type 0
 IsIdentifier name text = (bars : Bool) × (token text ≡ Ok (Atomic (Name name bars), []))
