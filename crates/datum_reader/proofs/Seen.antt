@@ -3,6 +3,8 @@ use Rattle.std.proofs.Common.{◌≡◌, ℕ, suc, ◌≤◌, length, List, [], 
 use Rattle.std.specs.Option.{option_map}
 use Rattle.scheme_tokens.specs.Words.{byte_count}
 use Rattle.scheme_tokens.specs.Reading as texts
+use Rattle.scheme_tokens.specs.Faults as faulty
+use Rattle.scheme_tokens.specs.Stopping as stopping
 use Rattle.scheme_tokens.specs.Views as views
 use Rattle.scheme_tokens.specs.declared.token.Token as code_token
 use Rattle.scheme_tokens.specs.declared.fault.ReadFault.{ReadFault}
@@ -17,7 +19,7 @@ tokens_same : (ts : List code_token.Token) → map token_seen (views.tokens_of t
 tokens_same [] = refl
 tokens_same (t ∷ ts) = ap (λ (us : List Token). token_of t ∷ us) (tokens_same ts)
 
-end_same : (fin : Option texts.FaultAt) → views.told_end fin ≡ told_end (option_map stop_seen fin)
+end_same : (fin : Option faulty.FaultAt) → views.told_end fin ≡ told_end (option_map stop_seen fin)
 end_same None = refl
 end_same (Some f) = refl
 
@@ -31,7 +33,7 @@ text_once text ts us end fin h k =
 pub front_reads : (text : List ℕ) (tks : List code_token.Token) (fault : Option ReadFault) → views.IsFront tks fault text → (end : Option Stop) × TextReads text (tokens_of tks) end × (fault ≡ told_end end)
 front_reads text tks fault front = (option_map stop_seen front.0, (views.tokens_of tks, front.0, front.1, sym (tokens_same tks), refl), front.2 ∙ end_same front.0)
 
-none_end : (fin : Option texts.FaultAt) → None ≡ option_map stop_seen fin → fin ≡ None
+none_end : (fin : Option faulty.FaultAt) → None ≡ option_map stop_seen fin → fin ≡ None
 none_end None h = refl
 none_end (Some f) h = cc
 
@@ -42,5 +44,5 @@ length_seen (u ∷ us) = ap suc (length_seen us)
 -- a text has no more tokens than bytes
 pub few_seen : (text : List ℕ) (ts : List Token) → TextReads text ts None → length ts ≤ byte_count text
 few_seen text ts h =
-    let spelled = subst (λ (e : Option texts.FaultAt). texts.IsRead h.0 e text) (none_end h.1 h.4) h.2 in
+    let spelled = subst (λ (e : Option faulty.FaultAt). stopping.IsRead h.0 e text) (none_end h.1 h.4) h.2 in
     omega (arith, few_tokens h.0 text spelled, ap length h.3, length_seen h.0)

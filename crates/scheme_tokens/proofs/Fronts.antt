@@ -7,7 +7,7 @@ use Rattle.std.proofs.lemmas.List.Sums.{sum_by-cons}
 use Rattle.std.specs.List.{list_all}
 use Rattle.std.specs.Char.{len_utf8, encode_utf8, IsScalar}
 use Rattle.std.specs.Str.{chars, IsUtf8, encode_utf8_all}
-use Rattle.scheme_tokens.specs.Words.{front_of, behind, byte_count}
+use Rattle.scheme_tokens.specs.Mirror.Words.{front_of, behind, byte_count}
 
 one_more : (p : ℕ → Bool) (c : ℕ) (cs : List ℕ) (b : Bool) → front_of p cs ++ behind p cs ≡ cs → cond b (c ∷ front_of p cs) [] ++ cond b (behind p cs) (c ∷ cs) ≡ c ∷ cs
 one_more p c cs true h = ap (λ (q : List ℕ). c ∷ q) h

@@ -2,7 +2,7 @@
 use Rattle.std.proofs.Common.{ℕ, zero, suc, ◌≤◌, length, List, [], ◌∷◌, Bool, true, false, cond, Result, Ok, Err, arith, ◌==◌, ◌||◌}
 use Rattle.std.specs.Char.{is_whitespace}
 use Rattle.scheme_tokens.specs.Characters.{is_line_end}
-use Rattle.scheme_tokens.specs.Gaps.{Within, between, line, block, opens, closes, behind_gap}
+use Rattle.scheme_tokens.specs.Mirror.Gaps.{Within, between, line, block, opens, closes, behind_gap}
 
 -- a gap leaves at most so many characters
 abbrev pub Leaves : ℕ → Result (List ℕ) (List ℕ) → Type 0

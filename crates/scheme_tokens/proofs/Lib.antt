@@ -4,6 +4,7 @@ pub mod WordLaws
 pub mod QuotedLaws
 pub mod HexLaws
 pub mod TokenLaws
+pub mod OneReading
 pub mod Readings
 pub mod NameLaws
 pub mod SpellLaws
@@ -11,3 +12,6 @@ pub mod GapLengths
 pub mod QuotedLengths
 pub mod TokenLengths
 pub mod TokenCounts
+pub mod EveryText
+pub mod Examples
+pub mod Same

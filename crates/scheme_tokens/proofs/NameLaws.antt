@@ -1,10 +1,11 @@
 -- Names and the tokens that spell them.
-use Rattle.std.proofs.Common.{◌≡◌, ℕ, List, [], ◌∷◌, Option, Some, None, Result, Ok, Err, Bool, sym, ap, ◌∙◌, option_map, IfSome, ◌++◌, append_assoc}
+use Rattle.std.proofs.Common.{◌≡◌, ℕ, List, [], ◌∷◌, Option, Some, None, Result, Ok, Err, Bool, sym, ap, ◌∙◌, option_map, IfSome, IfNone, ◌++◌, append_assoc}
 use Rattle.std.specs.Str.{chars}
-use Rattle.scheme_tokens.specs.Quoted.{Fault}
-use Rattle.scheme_tokens.specs.Tokens.{TokenKind, Paren, VectorParen, BytesParen, Close, Dot, Skip, Marked, Atomic, Name, Numeral, Quoted, Character, Truth, token}
+use Rattle.scheme_tokens.specs.Mirror.Quoted.{Fault}
+use Rattle.scheme_tokens.specs.Mirror.Tokens.{TokenKind, Paren, VectorParen, BytesParen, Close, Dot, Skip, Marked, Atomic, Name, Numeral, Quoted, Character, Truth, token}
 use Rattle.scheme_tokens.specs.Reading.{IsIdentifier}
 use Rattle.scheme_tokens.specs.Views.{symbol_of}
+use Rattle.scheme_tokens.proofs.Same.Reading.{identifier_told, identifier_read}
 
 some_none : (name : List ℕ) → Some name ≡ None → ⊥
 some_none name e = cc
@@ -32,7 +33,7 @@ pub identifier : (symbol : Option (List ℕ)) (k : TokenKind) (text rest : List 
 identifier None k text rest s t e = tt
 identifier (Some name) k text rest s t e =
     let n = names k (chars name) s in
-    (n.0, t ∙ (λ i. Ok (n.1 i, e i)))
+    identifier_told (chars name) text (n.0, t ∙ (λ i. Ok (n.1 i, e i)))
 
 rest_of : Result (TokenKind × List ℕ) Fault → List ℕ
 rest_of (Ok t) = t.1
@@ -47,8 +48,32 @@ no_chars_left c cs e = cc
 
 -- a token before more is no text of its own
 pub more_left : (k : TokenKind) (text rest : List ℕ) (c : ℕ) (cs : List ℕ) → token text ≡ Ok (k, rest) → rest ≡ c ∷ cs → (name : List ℕ) → IsIdentifier name text → ⊥
-more_left k text rest c cs t e name h = no_chars_left c cs (sym e ∙ same_rest k (Atomic (Name name h.0)) rest (token text) t h.1)
+more_left k text rest c cs t e name h = let read = identifier_read name text h in no_chars_left c cs (sym e ∙ same_rest k (Atomic (Name name read.0)) rest (token text) t read.1)
 
 -- a character more before the closing bar
 pub one_more : (front one more tail : List ℕ) → (front ++ one) ++ (more ++ tail) ≡ front ++ ((one ++ more) ++ tail)
 one_more front one more tail = append_assoc front one (more ++ tail) ∙ ap (λ (q : List ℕ). front ++ q) (sym (append_assoc one more tail))
+
+kind_or : TokenKind → Result (TokenKind × List ℕ) Fault → TokenKind
+kind_or k (Ok t) = t.0
+kind_or k (Err fault) = k
+
+same_kind : (k j : TokenKind) (rest others : List ℕ) (read : Result (TokenKind × List ℕ) Fault) → read ≡ Ok (k, rest) → read ≡ Ok (j, others) → k ≡ j
+unfolding kind_or
+same_kind k j rest others read e f = ap (kind_or k) (sym e ∙ f)
+
+-- a token that tells no symbol is no identifier, nor is a fault
+pub no_symbol : (symbol : Option (List ℕ)) (k : TokenKind) (text rest : List ℕ) → option_map (λ name. chars name) symbol ≡ symbol_of k → token text ≡ Ok (k, rest) →
+    IfNone symbol ((name : List ℕ) → IsIdentifier name text → ⊥)
+no_symbol None k text rest s t = λ name h.
+    let read = identifier_read name text h in
+    some_none name (sym (s ∙ ap symbol_of (same_kind k (Atomic (Name name read.0)) rest [] (token text) t read.1)))
+no_symbol (Some other) k text rest s t = tt
+
+no_read : (read : Result (TokenKind × List ℕ) Fault) (f : Fault) (t : TokenKind × List ℕ) → read ≡ Err f → read ≡ Ok t → ⊥
+no_read read f t e h = cc
+
+pub no_identifier : (text : List ℕ) (f : Fault) → token text ≡ Err f → (name : List ℕ) → IsIdentifier name text → ⊥
+no_identifier text f e name h =
+    let read = identifier_read name text h in
+    no_read (token text) f (Atomic (Name name read.0), []) e read.1

@@ -1,7 +1,7 @@
 -- Elements between marks, one after another.
 use Rattle.std.proofs.Common.{◌≡◌, ℕ, zero, suc, ◌-◌, ◌<◌, List, [], ◌∷◌, ◌++◌, Result, Ok, Err, true, false, cond, refl, sym, ap, ◌∙◌, arith, append_assoc, append-nil, ◌==◌}
 use Rattle.std.proofs.lemmas.Bool.{cond-true, cond-false}
-use Rattle.scheme_tokens.specs.Quoted.{Fault, ◌>>=◌, open_at, element, elements}
+use Rattle.scheme_tokens.specs.Mirror.Quoted.{Fault, ◌>>=◌, open_at, element, elements}
 
 -- characters before those that reading gives
 abbrev pub onto : List ℕ → Result (List ℕ × List ℕ) Fault → Result (List ℕ × List ℕ) Fault

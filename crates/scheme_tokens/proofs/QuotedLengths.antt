@@ -2,8 +2,8 @@
 use Rattle.std.proofs.Common.{ℕ, zero, suc, ◌≤◌, length, List, [], ◌∷◌, ◌++◌, Bool, true, false, cond, Option, Some, None, Result, Ok, Err, arith, ◌==◌, ◌&&◌, ◌||◌}
 use Rattle.std.specs.Char.{to_ascii_lowercase}
 use Rattle.scheme_tokens.specs.Characters.{is_line_end, is_blank, is_hex_digit}
-use Rattle.scheme_tokens.specs.Words.{front_of, behind}
-use Rattle.scheme_tokens.specs.Quoted.{Fault, ◌>>=◌, letter, hex_scalar, hex_end, fold_end, behind_line_end, escape, element, elements, escaped}
+use Rattle.scheme_tokens.specs.Mirror.Words.{front_of, behind}
+use Rattle.scheme_tokens.specs.Mirror.Quoted.{Fault, ◌>>=◌, letter, hex_scalar, hex_end, fold_end, behind_line_end, escape, element, elements, escaped}
 
 -- what is read leaves at most so many characters
 abbrev pub Rests : {A : Type 0} → ℕ → Result (A × List ℕ) Fault → Type 0
@@ -58,7 +58,7 @@ escape_rests close (c ∷ cs) =
     (rests_if n (close == 34 && (is_blank c || is_line_end c)) _ _ (rests_more (length (behind is_blank (c ∷ cs))) n (fold_end close (behind is_blank (c ∷ cs))) (behind_shorter is_blank (c ∷ cs)) (fold_end_rests close (behind is_blank (c ∷ cs))))
     (rests_more (length cs) n (letter (escaped c) cs) (omega arith) (letter_rests (escaped c) cs)))
 
-element_rests : (close c : ℕ) (cs : List ℕ) → Rests (length cs) (element close c cs)
+pub element_rests : (close c : ℕ) (cs : List ℕ) → Rests (length cs) (element close c cs)
 unfolding element
 element_rests close c cs =
     rests_if (length cs) (c == 92) (escape close cs) _ (escape_rests close cs)

@@ -2,36 +2,31 @@
 use Rattle.std.proofs.Common.{◌≡◌, ℕ, List, [], ◌∷◌, ◌++◌, Option, Some, None, Err, refl, sym, ap, ◌∙◌, subst, append_assoc, append-nil, ◌⊎◌, inl, inr}
 use Rattle.std.proofs.lemmas.List.{map-append}
 use Rattle.scheme_tokens.specs.Words.{byte_count}
-use Rattle.scheme_tokens.specs.Reading.{Token, FaultAt, Next, found, ended, next, Reads, behind_mark, IsRead, IsSpelled, Stops}
+use Rattle.scheme_tokens.specs.Reading.{Token, behind_mark, IsSpelled}
+use Rattle.scheme_tokens.specs.Faults.{FaultAt}
+use Rattle.scheme_tokens.specs.Stopping.{IsRead, Stops}
+use Rattle.scheme_tokens.specs.Mirror.Reading as mirror
+use Rattle.scheme_tokens.specs.Mirror.Reading.{found, ended, next, Reads}
+use Rattle.scheme_tokens.proofs.OneReading.{one_reading_from}
 use Rattle.scheme_tokens.specs.Views.{token_of, tokens_of, read_fault, told_end, IsNext, IsFront, Explains}
 use Rattle.scheme_tokens.specs.declared.token.Token as code
+use Rattle.scheme_tokens.proofs.Same.Reading.{spelled_read, read_spelled}
+use Rattle.scheme_tokens.proofs.Same.Stops.{read_stops}
+use Rattle.scheme_tokens.proofs.Same.OneStop.{stop_read}
 use Rattle.scheme_tokens.specs.declared.fault.ReadFault as code_read
 use Rattle.scheme_tokens.specs.declared.fault.ReadFault.TheVariants as told
 
-same_end : (n : Next) (end fin : Option FaultAt) → n ≡ ended end → n ≡ ended fin → end ≡ fin
-same_end n end fin h k = cc
+-- what the code reads is what the grammar says, both ways
+pub is_read : (ts : List Token) (end : Option FaultAt) (text : List ℕ) → mirror.IsRead ts end text → IsRead ts end text
+is_read ts None text h = read_spelled ts text h
+is_read ts (Some fault) text h = read_stops ts fault text h
 
-no_end : (n : Next) (t : Token) (rest : List ℕ) (end : Option FaultAt) → n ≡ found t rest → n ≡ ended end → ⊥
-no_end n t rest end h k = cc
-
-same_token : (n : Next) (t u : Token) (rest others : List ℕ) → n ≡ found t rest → n ≡ found u others → t ≡ u
-same_token n t u rest others h k = cc
-
-same_rest : (n : Next) (t u : Token) (rest others : List ℕ) → n ≡ found t rest → n ≡ found u others → rest ≡ others
-same_rest n t u rest others h k = cc
-
-pub one_reading_from : (size : ℕ) (ts us : List Token) (end fin : Option FaultAt) (text : List ℕ) → Reads size ts end text → Reads size us fin text → (ts ≡ us) × (end ≡ fin)
-one_reading_from size [] [] end fin text h k = (refl, same_end (next size text) end fin h k)
-one_reading_from size [] (u ∷ us) end fin text h k = absurd (no_end (next size text) u k.0 end k.1 h)
-one_reading_from size (t ∷ ts) [] end fin text h k = absurd (no_end (next size text) t h.0 fin h.1 k)
-one_reading_from size (t ∷ ts) (u ∷ us) end fin text h k =
-    let first = same_token (next size text) t u h.0 k.0 h.1 k.1 in
-    let rest = same_rest (next size text) t u h.0 k.0 h.1 k.1 in
-    let more = one_reading_from size ts us end fin h.0 h.2 (subst (Reads size us fin) (sym rest) k.2) in
-    ((λ i. first i ∷ more.0 i), more.1)
+pub read_is : (ts : List Token) (end : Option FaultAt) (text : List ℕ) → IsRead ts end text → mirror.IsRead ts end text
+read_is ts None text h = spelled_read ts text h
+read_is ts (Some fault) text h = stop_read ts fault text h
 
 pub one_reading : (ts us : List Token) (end fin : Option FaultAt) (text : List ℕ) → IsRead ts end text → IsRead us fin text → (ts ≡ us) × (end ≡ fin)
-one_reading ts us end fin text h k = one_reading_from (byte_count text) ts us end fin (behind_mark text) h k
+one_reading ts us end fin text h k = one_reading_from (byte_count text) ts us end fin (behind_mark text) (read_is ts end text h) (read_is us fin text k)
 
 -- with these tokens before, what is read of the rest is read of the whole
 abbrev pub GoesOn : ℕ → List ℕ → List code.Token → List ℕ → Type 0
@@ -46,7 +41,7 @@ one_more size text rest behind so_far t goes h more end r =
 pub read_whole : (size : ℕ) (text : List ℕ) (so_far : List code.Token) (rest : List ℕ) (end : Option FaultAt) → GoesOn size (behind_mark text) so_far rest → next size rest ≡ ended end →
     byte_count text ≡ size → IsRead (tokens_of so_far) end text
 read_whole size text so_far rest end goes h e =
-    subst (λ (n : ℕ). Reads n (tokens_of so_far) end (behind_mark text)) (sym e) (subst (λ (q : List Token). Reads size q end (behind_mark text)) (append-nil (tokens_of so_far)) (goes [] end h))
+    is_read (tokens_of so_far) end text (subst (λ (n : ℕ). Reads n (tokens_of so_far) end (behind_mark text)) (sym e) (subst (λ (q : List Token). Reads size q end (behind_mark text)) (append-nil (tokens_of so_far)) (goes [] end h)))
 
 none_some : (f : FaultAt) → None ≡ Some f → ⊥
 none_some f e = cc

@@ -8,11 +8,10 @@ use Rattle.std.proofs.lemmas.List.{length-append}
 use Rattle.std.proofs.lemmas.Str.{digit_value-digit_char, length-le-encodes}
 use Rattle.unicode.proofs.CategoryComputing.{ucd_category}
 use Rattle.scheme_tokens.specs.Characters.{is_one_of, is_delimiter, is_sign, is_initial, is_subsequent, is_sign_subsequent, is_dot_subsequent, is_hex_digit, is_scalar}
-use Rattle.scheme_tokens.specs.Words.{byte_count, front_of, behind, is_inside, is_numeral, is_identifier, goes_on_sign, goes_on_dot}
-use Rattle.scheme_tokens.specs.Quoted.{Fault, ◌>>=◌, element, elements, escape, quoted, hex_value, hex_end, letter}
-use Rattle.scheme_tokens.specs.Tokens.{TokenKind, Atomic, Name, word_kind, word_token, token}
-use Rattle.scheme_tokens.specs.Reading.{IsIdentifier}
-use Rattle.scheme_tokens.specs.Spelled.{hex_digits, hex_escape, in_bars, barred, spelled}
+use Rattle.scheme_tokens.specs.Mirror.Words.{byte_count, front_of, behind, is_inside, is_numeral, is_identifier, goes_on_sign, goes_on_dot}
+use Rattle.scheme_tokens.specs.Mirror.Quoted.{Fault, ◌>>=◌, element, elements, escape, quoted, hex_value, hex_end, letter}
+use Rattle.scheme_tokens.specs.Mirror.Tokens.{TokenKind, Atomic, Name, word_kind, word_token, token}
+use Rattle.scheme_tokens.specs.Spelling.{hex_digits, hex_escape, in_bars, barred}
 use Rattle.scheme_tokens.proofs.Fronts.{front_of-cons, byte_count-encodes}
 
 -- no character of an identifier ends a word
@@ -24,7 +23,7 @@ none_subsequent : list_all (λ c. not (is_subsequent c)) ends ≡ true
 unfolding is_subsequent is_initial ucd_category
 none_subsequent = refl
 
-member : (p : ℕ → Bool) (cs : List ℕ) (c : ℕ) → is_one_of cs c ≡ true → list_all p cs ≡ true → p c ≡ true
+pub member : (p : ℕ → Bool) (cs : List ℕ) (c : ℕ) → is_one_of cs c ≡ true → list_all p cs ≡ true → p c ≡ true
 member p [] c h k = absurd (false≢true h)
 member p (d ∷ ds) c h k =
     let parts = and_parts (p d) (list_all p ds) k in
@@ -194,13 +193,13 @@ goes_when c cs false false e f h =
     let parts = and_parts (is_initial c) (list_all is_subsequent cs) h in
     and_from (is_subsequent c) (list_all is_subsequent cs) (initial_follows c parts.0) parts.1
 
-all_follow : (c : ℕ) (cs : List ℕ) → is_identifier (c ∷ cs) ≡ true → list_all is_subsequent (c ∷ cs) ≡ true
+pub all_follow : (c : ℕ) (cs : List ℕ) → is_identifier (c ∷ cs) ≡ true → list_all is_subsequent (c ∷ cs) ≡ true
 unfolding is_identifier
 all_follow c cs h = goes_when c cs (is_sign c) (c == 46) refl refl h
 
 -- so an identifier is one word and begins with no mark
 
-abbrev marks : List ℕ
+abbrev pub marks : List ℕ
 marks = 40 ∷ 41 ∷ 39 ∷ 96 ∷ 44 ∷ 34 ∷ 124 ∷ 35 ∷ []
 
 no_marks : list_all (λ c. not (is_subsequent c)) marks ≡ true
@@ -211,7 +210,7 @@ no_mark : (c d : ℕ) → is_subsequent c ≡ true → is_one_of marks d ≡ tru
 no_mark c d h m =
     false_from_ne_true (c == d) (λ e. not_both (is_subsequent c) h (ap is_subsequent (eqb-true c d e) ∙ not-true (is_subsequent d) (member (λ q. not (is_subsequent q)) marks d m no_marks)))
 
-as_word : (c : ℕ) (cs : List ℕ) → is_subsequent c ≡ true → token (c ∷ cs) ≡ word_token (c ∷ cs)
+pub as_word : (c : ℕ) (cs : List ℕ) → is_subsequent c ≡ true → token (c ∷ cs) ≡ word_token (c ∷ cs)
 unfolding token
 as_word c cs h =
     cond-false (c == 40) _ _ (no_mark c 40 h refl) ∙ cond-false (c == 41) _ _ (no_mark c 41 h refl) ∙ cond-false (c == 39) _ _ (no_mark c 39 h refl)
@@ -230,7 +229,7 @@ no_identifier = refl
 abbrev before_word : List ℕ → List ℕ → Result (TokenKind × List ℕ) Fault
 before_word rest word = word_kind word >>= λ k. Ok (k, rest)
 
-bare_read : (name : List ℕ) → is_numeral name ≡ false → is_identifier name ≡ true → token name ≡ Ok (Atomic (Name name false), [])
+pub bare_read : (name : List ℕ) → is_numeral name ≡ false → is_identifier name ≡ true → token name ≡ Ok (Atomic (Name name false), [])
 bare_read [] h k = absurd (not_both (is_identifier []) k no_identifier)
 bare_read (c ∷ cs) h k =
     let all = all_follow c cs k in
@@ -336,17 +335,6 @@ barred_token : (text : List ℕ) → token (124 ∷ text) ≡ (quoted 124 text >
 unfolding token
 barred_token text = refl
 
-barred_read : (name : List ℕ) → token (barred name) ≡ Ok (Atomic (Name name true), [])
+pub barred_read : (name : List ℕ) → token (barred name) ≡ Ok (Atomic (Name name true), [])
 barred_read name =
     barred_token (flat_map in_bars name ++ 124 ∷ []) ∙ ap (λ (r : Result (List ℕ × List ℕ) Fault). r >>= λ found. Ok (Atomic (Name found.0 true), found.1)) (barred_text name)
-
-read_when : (name : List ℕ) (bars numeral identifier : Bool) → is_numeral name ≡ numeral → is_identifier name ≡ identifier →
-    IsIdentifier name (cond (bars || not (not numeral && identifier)) (barred name) name)
-read_when name true numeral identifier e f = (true, barred_read name)
-read_when name false true identifier e f = (true, barred_read name)
-read_when name false false true e f = (false, bare_read name e f)
-read_when name false false false e f = (true, barred_read name)
-
-pub spelled_back : (name : List ℕ) (bars : Bool) → IsIdentifier name (spelled name bars)
-unfolding spelled
-spelled_back name bars = read_when name bars (is_numeral name) (is_identifier name) refl refl

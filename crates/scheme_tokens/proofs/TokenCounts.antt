@@ -1,15 +1,17 @@
 -- A text has no more tokens than bytes.
 use Rattle.std.proofs.Common.{◌≡◌, ℕ, ◌≤◌, ◌<◌, length, List, [], ◌∷◌, Bool, true, false, cond, Option, None, Result, Ok, Err, subst, arith, ◌==◌}
 use Rattle.std.proofs.lemmas.Str.{length-le-encodes}
-use Rattle.scheme_tokens.specs.Words.{byte_count}
-use Rattle.scheme_tokens.specs.Quoted.{Fault}
-use Rattle.scheme_tokens.specs.Gaps.{between, behind_gap}
-use Rattle.scheme_tokens.specs.Tokens.{TokenKind, token}
-use Rattle.scheme_tokens.specs.Reading.{Token, FaultAt, Next, found, ended, next_token, at_front, next_behind, next, Reads, behind_mark, IsSpelled}
+use Rattle.scheme_tokens.specs.Mirror.Words.{byte_count}
+use Rattle.scheme_tokens.specs.Mirror.Quoted.{Fault}
+use Rattle.scheme_tokens.specs.Mirror.Gaps.{between, behind_gap}
+use Rattle.scheme_tokens.specs.Mirror.Tokens.{TokenKind, token}
+use Rattle.scheme_tokens.specs.Mirror.Reading.{Token, FaultAt, Next, found, ended, next_token, at_front, next_behind, next, Reads, behind_mark}
+use Rattle.scheme_tokens.specs.Reading.{IsSpelled}
 use Rattle.scheme_tokens.proofs.Fronts.{byte_count-encodes}
 use Rattle.scheme_tokens.proofs.GapLengths.{Leaves, gap_leaves}
 use Rattle.scheme_tokens.proofs.QuotedLengths.{Rests}
 use Rattle.scheme_tokens.proofs.TokenLengths.{token_rests}
+use Rattle.scheme_tokens.proofs.Same.Reading.{spelled_read}
 
 -- what comes next leaves fewer characters
 abbrev Fewer : ℕ → Next → Type 0
@@ -50,4 +52,4 @@ unmarked_shorter (c ∷ cs) = mark_shorter (c == 0xFEFF) c cs
 
 -- and as bytes
 pub few_tokens : (ts : List Token) (text : List ℕ) → IsSpelled ts text → length ts ≤ byte_count text
-few_tokens ts text h = omega (arith, reads_few (byte_count text) ts None (behind_mark text) h, unmarked_shorter text, length-le-encodes text, byte_count-encodes text)
+few_tokens ts text h = omega (arith, reads_few (byte_count text) ts None (behind_mark text) (spelled_read ts text h), unmarked_shorter text, length-le-encodes text, byte_count-encodes text)

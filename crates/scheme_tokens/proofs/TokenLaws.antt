@@ -6,11 +6,11 @@ use Rattle.std.proofs.lemmas.Str.{chars-nil}
 use Rattle.std.specs.Char.{to_ascii_lowercase}
 use Rattle.std.proofs.lemmas.Bool.{cond-true, cond-false}
 use Rattle.scheme_tokens.specs.Characters.{is_hex_digit, is_delimiter}
-use Rattle.scheme_tokens.specs.Words.{is_numeral, is_identifier, is_inside}
-use Rattle.scheme_tokens.specs.Quoted.{Fault, bad_token, hex_scalar}
-use Rattle.scheme_tokens.specs.Tokens.{TokenKind, word_kind, named, character_of, token}
-use Rattle.scheme_tokens.specs.Reading.{next, next_behind, at_front, next_token}
-use Rattle.scheme_tokens.specs.Gaps.{between, behind_gap}
+use Rattle.scheme_tokens.specs.Mirror.Words.{is_numeral, is_identifier, is_inside}
+use Rattle.scheme_tokens.specs.Mirror.Quoted.{Fault, bad_token, hex_scalar}
+use Rattle.scheme_tokens.specs.Mirror.Tokens.{TokenKind, word_kind, named, character_of, token}
+use Rattle.scheme_tokens.specs.Mirror.Reading.{next, next_behind, at_front, next_token}
+use Rattle.scheme_tokens.specs.Mirror.Gaps.{between, behind_gap}
 
 bad_no_token : (read : Result TokenKind Fault) (k : TokenKind) → read ≡ Err bad_token → read ≡ Ok k → ⊥
 bad_no_token read k e h = cc

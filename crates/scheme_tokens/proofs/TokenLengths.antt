@@ -3,9 +3,9 @@ use Rattle.std.proofs.Common.{◌≡◌, ℕ, ◌≤◌, length, List, [], ◌�
 use Rattle.std.proofs.lemmas.Bool.{cond-true}
 use Rattle.std.specs.Char.{is_ascii_digit}
 use Rattle.std.specs.Prelude.{codes}
-use Rattle.scheme_tokens.specs.Words.{byte_count, behind_word, word_of, is_inside, spells}
-use Rattle.scheme_tokens.specs.Quoted.{Fault, ◌>>=◌, quoted}
-use Rattle.scheme_tokens.specs.Tokens.{TokenKind, word_kind, hash_kind, character, character_of, before, behind_hash_slash, behind_bytes, bytes_or, hash_word, hash_token, unquote_token, string_token, bar_token, word_token, token}
+use Rattle.scheme_tokens.specs.Mirror.Words.{byte_count, behind_word, word_of, is_inside, spells}
+use Rattle.scheme_tokens.specs.Mirror.Quoted.{Fault, ◌>>=◌, quoted}
+use Rattle.scheme_tokens.specs.Mirror.Tokens.{TokenKind, word_kind, hash_kind, character, character_of, before, behind_hash_slash, behind_bytes, bytes_or, hash_word, hash_token, unquote_token, string_token, bar_token, word_token, token}
 use Rattle.scheme_tokens.proofs.QuotedLengths.{Rests, rests_more, rests_if, behind_shorter, elements_rest}
 use Rattle.scheme_tokens.proofs.TokenLaws.{word_kind-none, hash_inside}
 

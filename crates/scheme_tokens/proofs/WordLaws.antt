@@ -4,7 +4,7 @@ use Rattle.std.proofs.lemmas.List.{drop_more, drop_all}
 use Rattle.std.proofs.lemmas.Bool.{ne_eqb}
 use Rattle.std.proofs.lemmas.Str.{length-le-encodes, encodes-chars}
 use Rattle.std.specs.Str.{chars, IsUtf8, encode_utf8_all}
-use Rattle.scheme_tokens.specs.Words.{is_text, begins_with, spells}
+use Rattle.scheme_tokens.specs.Mirror.Words.{is_text, begins_with, spells}
 
 no_bytes : (bs cs : List ℕ) → encode_utf8_all cs ≡ bs → (length bs == 0) ≡ is_text cs []
 no_bytes bs [] e = ap (λ (q : List ℕ). length q == 0) (sym e)

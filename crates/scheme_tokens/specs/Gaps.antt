@@ -1,40 +1,26 @@
--- Gaps between tokens: white space, line comments and nested block comments (R7RS 2.2, 7.1.1).
-use Rattle.std.specs.Prelude.{ℕ, zero, suc, ◌&&◌, ◌||◌, ◌==◌, Bool, List, [], ◌∷◌, Result, Ok, Err, if◌then◌else◌}
+-- Intertoken space (R7RS 7.1.1): white space, comments to the end of a line, and nested comments.
+use Rattle.std.specs.Prelude.{◌≡◌, ℕ, Bool, true, false, not, ◌&&◌, ◌||◌, ◌==◌, List, [], ◌∷◌, ◌++◌}
+use Rattle.std.specs.List.{list_all}
 use Rattle.std.specs.Char.{is_whitespace}
 use Rattle.scheme_tokens.specs.Characters.{is_line_end}
+use Rattle.scheme_tokens.specs.Words.{Ends}
 
--- where in a gap a text goes on: before a token, in a line comment, or in a block comment that began with a text and
--- lies in so many others
-pub data Within : Type 0 where
-  between : Within
-  line : Within
-  block : (start : List ℕ) (outer : ℕ) → Within
+-- two characters that open a nested comment, `#|`, or close one, `|#`
+abbrev pub is_mark : ℕ → ℕ → Bool
+is_mark c d = (c == 35 && d == 124) || (c == 124 && d == 35)
 
--- the marks of a block comment: `#|` opens, and `|#` closes
-abbrev pub opens : ℕ → ℕ → Bool
-opens c d = c == 35 && d == 124
+-- behind the `#|` of a comment: characters of which none begins a mark, other such comments, and `|#`
+pub data IsNested : List ℕ → Type 0 where
+  closed : IsNested (124 ∷ 35 ∷ [])
+  plain : (c d : ℕ) (cs : List ℕ) → is_mark c d ≡ false → IsNested (d ∷ cs) → IsNested (c ∷ d ∷ cs)
+  inner : (cs ds : List ℕ) → IsNested cs → IsNested ds → IsNested (35 ∷ 124 ∷ (cs ++ ds))
 
-abbrev pub closes : ℕ → ℕ → Bool
-closes c d = c == 124 && d == 35
+abbrev pub is_in_line : ℕ → Bool
+is_in_line c = not (is_line_end c)
 
--- the text behind the gap; or the text from a block comment on that nothing closes
-unfoldable pub behind_gap : Within → List ℕ → Result (List ℕ) (List ℕ)
-behind_gap between [] = Ok []
-behind_gap between (c ∷ []) = if is_whitespace c || c == 59 then Ok [] else Ok (c ∷ [])
-behind_gap between (c ∷ d ∷ cs) =
-    if is_whitespace c then behind_gap between (d ∷ cs)
-    else if c == 59 then behind_gap line (d ∷ cs)
-    else if opens c d then behind_gap (block (c ∷ d ∷ cs) 0) cs
-    else Ok (c ∷ d ∷ cs)
-behind_gap line [] = Ok []
-behind_gap line (c ∷ cs) = if is_line_end c then behind_gap between cs else behind_gap line cs
-behind_gap (block start outer) [] = Err start
-behind_gap (block start outer) (c ∷ []) = Err start
-behind_gap (block start zero) (c ∷ d ∷ cs) =
-    if opens c d then behind_gap (block start 1) cs
-    else if closes c d then behind_gap between cs
-    else behind_gap (block start 0) (d ∷ cs)
-behind_gap (block start (suc outer)) (c ∷ d ∷ cs) =
-    if opens c d then behind_gap (block start (suc (suc outer))) cs
-    else if closes c d then behind_gap (block start outer) cs
-    else behind_gap (block start (suc outer)) (d ∷ cs)
+-- these characters are intertoken space, before the rest of the text
+pub data IsSpace : List ℕ → List ℕ → Type 0 where
+  none : (rest : List ℕ) → IsSpace [] rest
+  white : (c : ℕ) (gap rest : List ℕ) → is_whitespace c ≡ true → IsSpace gap rest → IsSpace (c ∷ gap) rest
+  line : (comment gap rest : List ℕ) → list_all is_in_line comment ≡ true → Ends is_in_line (gap ++ rest) → IsSpace gap rest → IsSpace (59 ∷ (comment ++ gap)) rest
+  nested : (comment gap rest : List ℕ) → IsNested comment → IsSpace gap rest → IsSpace (35 ∷ 124 ∷ (comment ++ gap)) rest

@@ -1,8 +1,10 @@
 pub mod Characters
 pub mod Words
-pub mod Quoted
 pub mod Gaps
 pub mod Tokens
 pub mod Reading
-pub mod Spelled
+pub mod Faults
+pub mod Stopping
+pub mod Spelling
+pub mod Mirror
 pub mod Views

@@ -1,10 +1,8 @@
--- How a text is read as tokens, with gaps before, between and behind them (R7RS 7.1.1). A text is a list of characters;
--- places in it count bytes.
-use Rattle.std.specs.Prelude.{◌≡◌, ℕ, ◌-◌, ◌==◌, Bool, List, [], ◌∷◌, Option, Some, None, Result, Ok, Err, drop, if◌then◌else◌}
-use Rattle.scheme_tokens.specs.Words.{byte_count, behind_word}
-use Rattle.scheme_tokens.specs.Quoted.{Fault, bad_token, open_string, open_bar, open_comment, label, directive}
-use Rattle.scheme_tokens.specs.Gaps.{between, behind_gap}
-use Rattle.scheme_tokens.specs.Tokens.{TokenKind, Atomic, Name, token}
+-- Texts (R7RS 7.1.1): tokens with intertoken space before, between and behind them. Places count bytes.
+use Rattle.std.specs.Prelude.{◌≡◌, ℕ, ◌+◌, Bool, ◌==◌, List, [], ◌∷◌, ◌++◌, if◌then◌else◌}
+use Rattle.scheme_tokens.specs.Words.{byte_count}
+use Rattle.scheme_tokens.specs.Gaps.{IsSpace}
+use Rattle.scheme_tokens.specs.Tokens.{TokenKind, Atomic, Name, IsToken}
 
 -- a token and its bytes in the text
 pub record Token : Type 0 where
@@ -12,74 +10,35 @@ pub record Token : Type 0 where
   pub start : ℕ
   pub end : ℕ
 
--- a fault and the bytes that it is shown at
-pub record FaultAt : Type 0 where
-  pub fault : Fault
-  pub start : ℕ
-  pub end : ℕ
+-- the first token of a text that begins at a place: intertoken space, the token's characters, and the rest of the text
+pub record First (at : ℕ) (t : Token) (text : List ℕ) : Type 0 where
+  pub gap : List ℕ
+  pub glyphs : List ℕ
+  pub rest : List ℕ
+  pub whole : text ≡ gap ++ (glyphs ++ rest)
+  pub space : IsSpace gap (glyphs ++ rest)
+  pub token : IsToken t.kind glyphs rest
+  pub starts : t.start ≡ at + byte_count gap
+  pub ends : t.end ≡ t.start + byte_count glyphs
 
--- where the rest of a text of so many bytes begins
-abbrev pub place : ℕ → List ℕ → ℕ
-place size rest = size - byte_count rest
+-- a text that begins at a place is these tokens with intertoken space
+abbrev pub IsSpelledFrom : ℕ → List Token → List ℕ → Type 0
+IsSpelledFrom at [] text = IsSpace text []
+IsSpelledFrom at (t ∷ ts) text = (first : First at t text) × IsSpelledFrom t.end ts first.rest
 
--- behind the first character of a text, up to the next delimiter
-abbrev pub behind_bad : List ℕ → List ℕ
-behind_bad text = behind_word (drop 1 text)
+-- a byte order mark at the front of a text is space: its bytes, and what follows it
+abbrev pub mark_bytes : List ℕ → ℕ
+mark_bytes [] = 0
+mark_bytes (c ∷ cs) = if c == 0xFEFF then 3 else 0
 
--- behind the characters that a fault at the front of a text is shown at: the opening mark, or up to a delimiter
-abbrev pub behind_fault : Fault → List ℕ → List ℕ
-behind_fault bad_token text = behind_bad text
-behind_fault open_string text = drop 1 text
-behind_fault open_bar text = drop 1 text
-behind_fault open_comment text = drop 2 text
-behind_fault label text = behind_bad text
-behind_fault directive text = behind_bad text
-
-abbrev pub fault_at : ℕ → Fault → List ℕ → FaultAt
-fault_at size fault text = record { fault = fault; start = place size text; end = place size (behind_fault fault text) }
-
--- what comes next in a text: a token with the text behind it; or nothing more, because of a fault or because all is read
-pub data Next : Type 0 where
-  found : Token → List ℕ → Next
-  ended : Option FaultAt → Next
-
-abbrev pub next_token : ℕ → List ℕ → Result (TokenKind × List ℕ) Fault → Next
-next_token size text (Ok t) = found (record { kind = t.0; start = place size text; end = place size t.1 }) t.1
-next_token size text (Err fault) = ended (Some (fault_at size fault text))
-
-abbrev pub at_front : ℕ → List ℕ → Next
-at_front size [] = ended None
-at_front size (c ∷ cs) = next_token size (c ∷ cs) (token (c ∷ cs))
-
-abbrev pub next_behind : ℕ → Result (List ℕ) (List ℕ) → Next
-next_behind size (Ok text) = at_front size text
-next_behind size (Err start) = ended (Some (fault_at size open_comment start))
-
-unfoldable pub next : ℕ → List ℕ → Next
-next size text = next_behind size (behind_gap between text)
-
--- the rest of a text of so many bytes has these tokens, and then it ends, or a fault comes
-abbrev pub Reads : ℕ → List Token → Option FaultAt → List ℕ → Type 0
-Reads size [] end text = next size text ≡ ended end
-Reads size (t ∷ ts) end text = (rest : List ℕ) × (next size text ≡ found t rest) × Reads size ts end rest
-
--- a byte order mark at the front of a text is no part of a token
 abbrev pub behind_mark : List ℕ → List ℕ
 behind_mark [] = []
 behind_mark (c ∷ cs) = if c == 0xFEFF then cs else c ∷ cs
 
--- a text has these tokens, and then it ends, or a fault comes
-abbrev pub IsRead : List Token → Option FaultAt → List ℕ → Type 0
-IsRead ts end text = Reads (byte_count text) ts end (behind_mark text)
-
--- the text is these tokens with gaps
+-- a text is these tokens
 abbrev pub IsSpelled : List Token → List ℕ → Type 0
-IsSpelled ts text = IsRead ts None text
-
--- the text begins with tokens and gaps, and then no rule goes on, for this reason
-abbrev pub Stops : FaultAt → List ℕ → Type 0
-Stops fault text = (ts : List Token) × IsRead ts (Some fault) text
+IsSpelled ts text = IsSpelledFrom (mark_bytes text) ts (behind_mark text)
 
 -- a text that is one identifier token and nothing else
 abbrev pub IsIdentifier : List ℕ → List ℕ → Type 0
-IsIdentifier name text = (bars : Bool) × (token text ≡ Ok (Atomic (Name name bars), []))
+IsIdentifier name text = (bars : Bool) × IsToken (Atomic (Name name bars)) text []

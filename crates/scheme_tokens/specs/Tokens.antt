@@ -1,10 +1,9 @@
--- Tokens (R7RS 7.1.1): which one begins a text, and what follows it.
-use Rattle.std.specs.Prelude.{ℕ, Bool, true, false, ◌||◌, ◌&&◌, ◌==◌, List, [], ◌∷◌, Option, Some, None, Result, Ok, Err, codes, if◌then◌else◌}
-use Rattle.std.specs.List.{list_all}
-use Rattle.std.specs.Char.{is_ascii_digit, to_ascii_lowercase}
-use Rattle.scheme_tokens.specs.Characters.{is_hex_digit}
-use Rattle.scheme_tokens.specs.Words.{word_of, behind_word, is_text, spells, is_numeral, is_identifier}
-use Rattle.scheme_tokens.specs.Quoted.{Fault, bad_token, label, directive, ◌>>=◌, hex_scalar, quoted}
+-- Tokens (R7RS 7.1.1): which characters spell which, before the rest of a text.
+use Rattle.std.specs.Prelude.{◌≡◌, ◌⊎◌, ℕ, ◌+◌, ◌*◌, Bool, true, false, not, ◌||◌, ◌&&◌, ◌==◌, List, [], ◌∷◌, ◌++◌, codes}
+use Rattle.std.specs.List.{fold, list_all}
+use Rattle.std.specs.Char.{digit_value, is_ascii_digit, to_ascii_lowercase}
+use Rattle.scheme_tokens.specs.Characters.{is_one_of, is_line_end, is_blank, is_sign, is_hex_digit, is_scalar, is_initial, is_subsequent, is_sign_subsequent, is_dot_subsequent}
+use Rattle.scheme_tokens.specs.Words.{Ends, IsWord, Spells, is_inside}
 
 -- an atom that one token spells; `bars` tells of a name that it stands between bars
 pub data Leaf : Type 0 where
@@ -32,105 +31,121 @@ pub data TokenKind : Type 0 where
   Marked : Mark → TokenKind
   Atomic : Leaf → TokenKind
 
--- a word that begins with no `#`; numerals go before identifiers
-unfoldable pub word_kind : List ℕ → Result TokenKind Fault
-word_kind word =
-    if is_numeral word then Ok (Atomic (Numeral word))
-    else if is_identifier word then Ok (Atomic (Name word false))
-    else if is_text word (codes ".") then Ok Dot
-    else Err bad_token
+-- ---- identifiers
 
--- a word that begins with `#`
-unfoldable pub hash_kind : List ℕ → Result TokenKind Fault
-hash_kind word =
-    if spells (codes "#t") word || spells (codes "#true") word then Ok (Atomic (Truth true))
-    else if spells (codes "#f") word || spells (codes "#false") word then Ok (Atomic (Truth false))
-    else if is_numeral word then Ok (Atomic (Numeral word))
-    else Err bad_token
+-- an identifier without bars: an initial and subsequents, or a peculiar one
+pub data IsBare : List ℕ → Type 0 where
+  ordinary : (c : ℕ) (cs : List ℕ) → is_initial c ≡ true → list_all is_subsequent cs ≡ true → IsBare (c ∷ cs)
+  sign : (s : ℕ) → is_sign s ≡ true → IsBare (s ∷ [])
+  signed : (s c : ℕ) (cs : List ℕ) → is_sign s ≡ true → is_sign_subsequent c ≡ true → list_all is_subsequent cs ≡ true → IsBare (s ∷ c ∷ cs)
+  signed_dot : (s c : ℕ) (cs : List ℕ) → is_sign s ≡ true → is_dot_subsequent c ≡ true → list_all is_subsequent cs ≡ true → IsBare (s ∷ 46 ∷ c ∷ cs)
+  dot : (c : ℕ) (cs : List ℕ) → is_dot_subsequent c ≡ true → list_all is_subsequent cs ≡ true → IsBare (46 ∷ c ∷ cs)
 
--- the character that a name tells
-unfoldable pub named : List ℕ → Option ℕ
-named name =
-    if is_text name (codes "alarm") then Some 7
-    else if is_text name (codes "backspace") then Some 8
-    else if is_text name (codes "delete") then Some 127
-    else if is_text name (codes "escape") then Some 27
-    else if is_text name (codes "newline") then Some 10
-    else if is_text name (codes "null") then Some 0
-    else if is_text name (codes "return") then Some 13
-    else if is_text name (codes "space") then Some 32
-    else if is_text name (codes "tab") then Some 9
-    else None
+-- ---- what stands between bars or quotation marks
 
--- the character that is told behind `#\`: by itself, by its code or by its name
-unfoldable pub character_of : ℕ → List ℕ → Option ℕ
-character_of c [] = Some c
-character_of c (d ∷ ds) =
-    if to_ascii_lowercase c == 120 && list_all is_hex_digit (d ∷ ds) then hex_scalar (d ∷ ds)
-    else named (c ∷ d ∷ ds)
+-- a letter behind `\`, and the character that it means
+pub data IsMnemonic : ℕ → ℕ → Type 0 where
+  alarm : IsMnemonic 97 7
+  backspace : IsMnemonic 98 8
+  tab : IsMnemonic 116 9
+  line_feed : IsMnemonic 110 10
+  return : IsMnemonic 114 13
+  mark : IsMnemonic 34 34
+  backslash : IsMnemonic 92 92
+  bar : IsMnemonic 124 124
 
-abbrev pub character : Option ℕ → Result TokenKind Fault
-character None = Err bad_token
-character (Some c) = Ok (Atomic (Character c))
+-- the number that hex digits write
+abbrev pub hex_value : List ℕ → ℕ
+hex_value digits = fold (λ n c. 16 * n + digit_value c) 0 digits
 
--- a kind, with the text behind it
-abbrev pub before : List ℕ → Result TokenKind Fault → Result (TokenKind × List ℕ) Fault
-before rest kind = kind >>= λ k. Ok (k, rest)
+-- hex digits, one at least, that write the code of a character
+pub record IsCode (digits : List ℕ) (c : ℕ) : Type 0 where
+  pub some : ¬ (digits ≡ [])
+  pub all : list_all is_hex_digit digits ≡ true
+  pub value : hex_value digits ≡ c
+  pub scalar : is_scalar c ≡ true
 
--- behind `#\`: a character, and the word that follows it
-abbrev pub behind_hash_slash : List ℕ → Result (TokenKind × List ℕ) Fault
-behind_hash_slash [] = Err bad_token
-behind_hash_slash (c ∷ cs) = before (behind_word cs) (character (character_of c (word_of cs)))
+-- a line end, before the rest: `\n`, `\r\n` or `\r`
+pub data IsLineEnd : List ℕ → List ℕ → Type 0 where
+  feed : (rest : List ℕ) → IsLineEnd (10 ∷ []) rest
+  return_feed : (rest : List ℕ) → IsLineEnd (13 ∷ 10 ∷ []) rest
+  return : (rest : List ℕ) → Ends (λ c. c == 10) rest → IsLineEnd (13 ∷ []) rest
 
--- the text behind a bytevector's opening, whose parenthesis delimits the word before it
-abbrev pub behind_bytes : List ℕ → List ℕ → Option (List ℕ)
-behind_bytes word [] = None
-behind_bytes word (c ∷ cs) = if c == 40 && spells (codes "#u8") word then Some cs else None
+-- a character that means itself up to a closing mark; `"` closes strings, in which line ends don't
+abbrev pub is_plain : ℕ → ℕ → Bool
+is_plain close c = not (c == close || (c == 92 || (close == 34 && is_line_end c)))
 
-abbrev pub bytes_or : Option (List ℕ) → Result (TokenKind × List ℕ) Fault → Result (TokenKind × List ℕ) Fault
-bytes_or None other = other
-bytes_or (Some rest) other = Ok (BytesParen, rest)
+-- one element up to a closing mark, and the characters that it means, before the rest: a plain character, an escape by a
+-- letter or by hex digits; in a string also a line end, which means `\n`, and a folded one, which means nothing
+pub data IsElement (close : ℕ) : List ℕ → List ℕ → List ℕ → Type 0 where
+  itself : (c : ℕ) (rest : List ℕ) → is_plain close c ≡ true → IsElement close (c ∷ []) (c ∷ []) rest
+  letter : (c m : ℕ) (rest : List ℕ) → IsMnemonic c m → IsElement close (92 ∷ c ∷ []) (m ∷ []) rest
+  code : (x c : ℕ) (digits rest : List ℕ) → to_ascii_lowercase x ≡ 120 → IsCode digits c → IsElement close (92 ∷ x ∷ (digits ++ 59 ∷ [])) (c ∷ []) rest
+  line_end : (ending rest : List ℕ) → close ≡ 34 → IsLineEnd ending rest → IsElement close ending (10 ∷ []) rest
+  folded : (before ending behind rest : List ℕ) → close ≡ 34 → list_all is_blank before ≡ true → IsLineEnd ending (behind ++ rest) → list_all is_blank behind ≡ true → Ends is_blank rest →
+      IsElement close (92 ∷ (before ++ (ending ++ behind))) [] rest
 
--- a word that begins with `#`, before the rest of the text
-abbrev pub hash_word : List ℕ → List ℕ → Result (TokenKind × List ℕ) Fault
-hash_word word rest = bytes_or (behind_bytes word rest) (before rest (hash_kind word))
+-- elements up to a closing mark and with it, and what they mean
+pub data IsElements (close : ℕ) : List ℕ → List ℕ → Type 0 where
+  closed : IsElements close (close ∷ []) []
+  next : (one rest meant more : List ℕ) → IsElement close one meant rest → IsElements close rest more → IsElements close (one ++ rest) (meant ++ more)
 
--- what begins with `#`, behind it
-unfoldable pub hash_token : List ℕ → Result (TokenKind × List ℕ) Fault
-hash_token [] = Err bad_token
-hash_token (c ∷ cs) =
-    if c == 40 then Ok (VectorParen, cs)
-    else if c == 59 then Ok (Skip, cs)
-    else if c == 92 then behind_hash_slash cs
-    else if c == 33 then Err directive
-    else if is_ascii_digit c then Err label
-    else hash_word (word_of (35 ∷ c ∷ cs)) (behind_word (35 ∷ c ∷ cs))
+-- ---- booleans, characters, numerals
 
--- what begins with `,`, behind it
-abbrev pub unquote_token : List ℕ → Result (TokenKind × List ℕ) Fault
-unquote_token [] = Ok (Marked Unquote, [])
-unquote_token (c ∷ cs) = if c == 64 then Ok (Marked Splice, cs) else Ok (Marked Unquote, c ∷ cs)
+abbrev pub IsTruth : Bool → List ℕ → Type 0
+IsTruth true glyphs = Spells (codes "#t") glyphs ⊎ Spells (codes "#true") glyphs
+IsTruth false glyphs = Spells (codes "#f") glyphs ⊎ Spells (codes "#false") glyphs
 
-abbrev pub string_token : List ℕ → Result (TokenKind × List ℕ) Fault
-string_token text = quoted 34 text >>= λ found. Ok (Atomic (Quoted found.0), found.1)
+pub data IsCharacterName : List ℕ → ℕ → Type 0 where
+  alarm : IsCharacterName (codes "alarm") 7
+  backspace : IsCharacterName (codes "backspace") 8
+  delete : IsCharacterName (codes "delete") 127
+  escape : IsCharacterName (codes "escape") 27
+  newline : IsCharacterName (codes "newline") 10
+  null : IsCharacterName (codes "null") 0
+  return : IsCharacterName (codes "return") 13
+  space : IsCharacterName (codes "space") 32
+  tab : IsCharacterName (codes "tab") 9
 
-abbrev pub bar_token : List ℕ → Result (TokenKind × List ℕ) Fault
-bar_token text = quoted 124 text >>= λ found. Ok (Atomic (Name found.0 true), found.1)
+-- what stands behind `#\`, and the character that it tells
+pub data IsCharacter : List ℕ → ℕ → Type 0 where
+  itself : (c : ℕ) → IsCharacter (c ∷ []) c
+  code : (x c : ℕ) (digits : List ℕ) → to_ascii_lowercase x ≡ 120 → IsCode digits c → IsCharacter (x ∷ digits) c
+  named : (name : List ℕ) (c : ℕ) → IsCharacterName name c → IsCharacter name c
 
--- any other word
-abbrev pub word_token : List ℕ → Result (TokenKind × List ℕ) Fault
-word_token text = before (behind_word text) (word_kind (word_of text))
+-- a numeral begins with a digit; a sign, a dot or both before one; a radix or an exactness; or it is a sign and `inf.0`,
+-- `nan.0` or `i`. What else stands in it isn't looked at
+pub data IsNumeral : List ℕ → Type 0 where
+  digit : (c : ℕ) (cs : List ℕ) → is_ascii_digit c ≡ true → IsNumeral (c ∷ cs)
+  point : (c : ℕ) (cs : List ℕ) → is_ascii_digit c ≡ true → IsNumeral (46 ∷ c ∷ cs)
+  signed : (s c : ℕ) (cs : List ℕ) → is_sign s ≡ true → is_ascii_digit c ≡ true → IsNumeral (s ∷ c ∷ cs)
+  signed_point : (s c : ℕ) (cs : List ℕ) → is_sign s ≡ true → is_ascii_digit c ≡ true → IsNumeral (s ∷ 46 ∷ c ∷ cs)
+  prefixed : (c : ℕ) (cs : List ℕ) → is_one_of (codes "bodxei") (to_ascii_lowercase c) ≡ true → IsNumeral (35 ∷ c ∷ cs)
+  infinite : (s : ℕ) (cs more : List ℕ) → is_sign s ≡ true → Spells (codes "inf.0") cs → IsNumeral (s ∷ (cs ++ more))
+  no_number : (s : ℕ) (cs more : List ℕ) → is_sign s ≡ true → Spells (codes "nan.0") cs → IsNumeral (s ∷ (cs ++ more))
+  imaginary : (s : ℕ) (cs : List ℕ) → is_sign s ≡ true → Spells (codes "i") cs → IsNumeral (s ∷ cs)
 
--- the token that begins a text, and the text behind it; or why none does
-unfoldable pub token : List ℕ → Result (TokenKind × List ℕ) Fault
-token [] = Err bad_token
-token (c ∷ cs) =
-    if c == 40 then Ok (Paren, cs)
-    else if c == 41 then Ok (Close, cs)
-    else if c == 39 then Ok (Marked Quote, cs)
-    else if c == 96 then Ok (Marked Quasi, cs)
-    else if c == 44 then unquote_token cs
-    else if c == 34 then string_token cs
-    else if c == 124 then bar_token cs
-    else if c == 35 then hash_token cs
-    else word_token (c ∷ cs)
+-- ---- tokens
+
+-- these characters spell the atom, before the rest of the text
+abbrev pub IsLeaf : Leaf → List ℕ → List ℕ → Type 0
+IsLeaf (Name name true) glyphs rest = (cs : List ℕ) × (glyphs ≡ 124 ∷ cs) × IsElements 124 cs name
+IsLeaf (Name name false) glyphs rest = (glyphs ≡ name) × IsBare name × (¬ IsNumeral name) × IsWord name rest
+IsLeaf (Numeral text) glyphs rest = (glyphs ≡ text) × IsNumeral text × IsWord text rest
+IsLeaf (Quoted text) glyphs rest = (cs : List ℕ) × (glyphs ≡ 34 ∷ cs) × IsElements 34 cs text
+IsLeaf (Character c) glyphs rest = (d : ℕ) × (word : List ℕ) × (glyphs ≡ 35 ∷ 92 ∷ d ∷ word) × IsCharacter (d ∷ word) c × IsWord word rest
+IsLeaf (Truth b) glyphs rest = IsTruth b glyphs × IsWord glyphs rest
+
+-- these characters spell the token, before the rest of the text
+abbrev pub IsToken : TokenKind → List ℕ → List ℕ → Type 0
+IsToken Paren glyphs rest = glyphs ≡ codes "("
+IsToken VectorParen glyphs rest = glyphs ≡ codes "#("
+IsToken BytesParen glyphs rest = (glyphs ≡ codes "#u8(") ⊎ (glyphs ≡ codes "#U8(")
+IsToken Close glyphs rest = glyphs ≡ codes ")"
+IsToken Dot glyphs rest = (glyphs ≡ codes ".") × Ends is_inside rest
+IsToken Skip glyphs rest = glyphs ≡ codes "#;"
+IsToken (Marked Quote) glyphs rest = glyphs ≡ codes "'"
+IsToken (Marked Quasi) glyphs rest = glyphs ≡ codes "`"
+IsToken (Marked Unquote) glyphs rest = (glyphs ≡ codes ",") × Ends (λ c. c == 64) rest
+IsToken (Marked Splice) glyphs rest = glyphs ≡ codes ",@"
+IsToken (Atomic leaf) glyphs rest = IsLeaf leaf glyphs rest

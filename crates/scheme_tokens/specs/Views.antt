@@ -8,9 +8,11 @@ use Rattle.std.specs.Str.{chars}
 use Rattle.ls_base.specs.declared.places.Span.{Span}
 use Rattle.scheme_tokens.specs.Characters.{is_hex_digit, is_blank}
 use Rattle.scheme_tokens.specs.Words.{is_inside}
-use Rattle.scheme_tokens.specs.Quoted.{Fault, bad_token, open_string, open_bar, open_comment, label, directive}
+use Rattle.scheme_tokens.specs.Faults.{Fault, FaultAt, bad_token, open_string, open_bar, open_comment, label, directive}
 use Rattle.scheme_tokens.specs.Tokens.{TokenKind, Paren, VectorParen, BytesParen, Close, Dot, Skip, Marked, Quote, Quasi, Unquote, Splice, Atomic, Name, Numeral, Quoted, Character, Truth}
-use Rattle.scheme_tokens.specs.Reading.{Token, FaultAt, Next, found, ended, IsRead, Stops}
+use Rattle.scheme_tokens.specs.Reading.{Token}
+use Rattle.scheme_tokens.specs.Stopping.{IsRead, Stops}
+use Rattle.scheme_tokens.specs.Mirror.Reading.{Next, found, ended}
 use Rattle.scheme_tokens.specs.declared.fault.Fault as code_fault
 use Rattle.scheme_tokens.specs.declared.fault.Fault.TheVariants as faults
 use Rattle.scheme_tokens.specs.declared.fault.ScanFault as code_scan

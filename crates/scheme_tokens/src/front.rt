@@ -1,7 +1,7 @@
 //! The front of a text: its first character, or its first characters of a class.
 ghost use Rattle.std.specs.Prelude.{◌≡◌, ◌≤◌, ◌<◌, ◌+◌, ◌-◌, [], ◌∷◌, IfSome, IfNone, length, drop};
 ghost use Rattle.std.specs.Str.{chars, IsUtf8};
-ghost use Rattle.scheme_tokens.specs.Words.{front_of, behind};
+ghost use Rattle.scheme_tokens.specs.Mirror.Words.{front_of, behind};
 ghost use Rattle.scheme_tokens.specs.Views.{test_of};
 
 use crate::character::Class;

@@ -1,7 +1,7 @@
 //! Gaps between tokens (R7RS 2.2, 7.1.1).
 ghost use Rattle.std.specs.Prelude.{◌≡◌, ◌≤◌, ◌<◌, ◌∷◌, true, false, ℕ, List, Ok, Err, MatchResult, IfSome, IfNone, length};
 ghost use Rattle.std.specs.Str.{chars, IsUtf8};
-ghost use Rattle.scheme_tokens.specs.Gaps.{between, line, block, opens, closes, behind_gap};
+ghost use Rattle.scheme_tokens.specs.Mirror.Gaps.{between, line, block, opens, closes, behind_gap};
 
 use crate::character::is_line_end;
 use crate::front::split_first;

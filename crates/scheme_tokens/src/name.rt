@@ -4,7 +4,8 @@ ghost use Rattle.std.specs.Char.{digit_char};
 ghost use Rattle.std.specs.Str.{chars};
 ghost use Rattle.std.specs.String.{string_bytes};
 ghost use Rattle.scheme_tokens.specs.Reading.{IsIdentifier};
-ghost use Rattle.scheme_tokens.specs.Spelled.{is_bare, hex_escape, in_bars, barred, spelled};
+ghost use Rattle.scheme_tokens.specs.Spelling.{hex_escape, in_bars, barred, IsSpelling};
+ghost use Rattle.scheme_tokens.specs.Mirror.Spelled.{is_bare};
 ghost use Rattle.scheme_tokens.specs.Views.{kind_of, symbol_of};
 
 use crate::fault::ScanFault;
@@ -119,9 +120,8 @@ fn is_bare(name: &str) -> bool
 
 /// How a symbol is written: between bars where `bars` asks for them or the symbol needs them, and else as it is
 /// (R7RS 7.1.1, identifier and symbol element).
-#[tactic(auto, unfolding(crate::specs::Spelled::spelled))]
 pub fn spell(alloc: Global, name: &str, bars: bool) -> Mem<Text>
-    ensures { IfOk result (λ text. chars text ≡ spelled (chars name.now) bars) }
+    ensures { IfOk result (λ text. IsSpelling (chars name.now) bars (chars text)) }
 {
     if bars || !is_bare(name) {
         Ok(barred(alloc, name)?)

@@ -6,7 +6,7 @@ ghost use Rattle.std.specs.Char.{digit_value};
 ghost use Rattle.std.specs.Str.{chars};
 ghost use Rattle.std.specs.String.{string_bytes};
 ghost use Rattle.scheme_tokens.specs.Characters.{is_hex_digit};
-ghost use Rattle.scheme_tokens.specs.Quoted.{open_at, escaped, hex_value, hex_scalar, hex_end, behind_line_end, fold_end, escape, element, quoted};
+ghost use Rattle.scheme_tokens.specs.Mirror.Quoted.{open_at, escaped, hex_value, hex_scalar, digits_end, hex_end, behind_line_end, fold_end, escape, element, quoted};
 ghost use Rattle.scheme_tokens.specs.Views.{fault_of, IsCapped, Gives, Is, meant_at, quoted_at};
 
 use crate::character::{Class, is_blank, is_line_end};
@@ -78,6 +78,18 @@ pub fn hex_char(digits: &str) -> Option<char>
     char::from_u32(hex_value(digits))
 }
 
+/// Why an escape isn't read behind whose hex digits the text ends.
+fn digits_end(close: char, digits: &str) -> Fault
+    requires { list_all is_hex_digit (chars digits.now) ≡ true }
+    ensures { fault_of result ≡ digits_end close (chars digits.now) }
+{
+    if hex_value(digits) < 0x11_0000 {
+        open_at(close)
+    } else {
+        Fault::BadToken
+    }
+}
+
 /// An escape's end behind its hex digits.
 fn hex_end<'a>(close: char, digits: &str, rest: &'a str) -> Result<(Option<char>, &'a str), Fault>
     requires { list_all is_hex_digit (chars digits.now) ≡ true }
@@ -85,7 +97,7 @@ fn hex_end<'a>(close: char, digits: &str, rest: &'a str) -> Result<(Option<char>
     ensures within { IfOk result (λ x. length x.1.now ≤ length rest.now) }
 {
     let Some((c, more)) = split_first(rest) else {
-        return Err(open_at(close));
+        return Err(digits_end(close, digits));
     };
     if c != ';' {
         return Err(Fault::BadToken);
@@ -123,7 +135,7 @@ fn fold_end(close: char, text: &str) -> Result<(Option<char>, &str), Fault>
 }
 
 /// An escape, behind its backslash: what it means, and the text behind it.
-#[tactic(auto, unfolding(crate::specs::Quoted::escape))]
+#[tactic(auto, unfolding(crate::specs::Mirror::Quoted::escape))]
 fn escape(close: char, text: &str) -> Result<(Option<char>, &str), Fault>
     ensures gives { Is meant_at result (escape close (chars text.now)) }
     ensures within { IfOk result (λ x. length x.1.now ≤ length text.now) }
@@ -147,7 +159,7 @@ fn escape(close: char, text: &str) -> Result<(Option<char>, &str), Fault>
 }
 
 /// One element, whose first character is given: what it means, and the text behind it.
-#[tactic(auto, unfolding(crate::specs::Quoted::element))]
+#[tactic(auto, unfolding(crate::specs::Mirror::Quoted::element))]
 fn element(close: char, c: char, rest: &str) -> Result<(Option<char>, &str), Fault>
     ensures gives { Is meant_at result (element close c (chars rest.now)) }
     ensures within { IfOk result (λ x. length x.1.now ≤ length rest.now) }

@@ -3,7 +3,10 @@ ghost use Rattle.std.specs.Prelude.{◌≡◌, ◌≢◌, ◌+◌, ◌^◌, ◌<
 ghost use Rattle.std.specs.List.{All};
 ghost use Rattle.std.specs.Str.{chars, IsUtf8};
 ghost use Rattle.scheme_tokens.specs.Reading as model;
-ghost use Rattle.scheme_tokens.specs.Reading.{FaultAt, place, behind_fault, fault_at, next, behind_mark, IsSpelled, Stops};
+ghost use Rattle.scheme_tokens.specs.Reading.{behind_mark, IsSpelled};
+ghost use Rattle.scheme_tokens.specs.Faults.{FaultAt};
+ghost use Rattle.scheme_tokens.specs.Stopping.{Stops};
+ghost use Rattle.scheme_tokens.specs.Mirror.Reading.{place, behind_fault, fault_at, next};
 ghost use Rattle.scheme_tokens.specs.Views.{fault_of, read_fault, tokens_of, IsNext, IsFront, Explains, IsWithin};
 
 use crate::character::Class;
@@ -68,7 +71,7 @@ fn fault_at(size: usize, fault: Fault, text: &str) -> ReadFault
 }
 
 /// The next token of the rest of a text of so many bytes, and what follows it.
-#[tactic(auto, unfolding(crate::specs::Reading::next))]
+#[tactic(auto, unfolding(crate::specs::Mirror::Reading::next))]
 fn next(alloc: Global, size: usize, text: &str) -> Result<Option<(Token, &str)>, ReadFault>
     requires short { size < 2 ^ 32 }
     requires within { length text.now ≤ size }

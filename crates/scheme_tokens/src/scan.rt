@@ -4,8 +4,8 @@ ghost use Rattle.std.specs.Char.{to_ascii_lowercase};
 ghost use Rattle.std.specs.List.{list_all};
 ghost use Rattle.std.specs.Str.{chars};
 ghost use Rattle.scheme_tokens.specs.Characters.{is_hex_digit};
-ghost use Rattle.scheme_tokens.specs.Words.{is_text};
-ghost use Rattle.scheme_tokens.specs.Tokens.{word_kind, hash_kind, named, character_of, behind_hash_slash, behind_bytes, hash_word, hash_token, word_token, unquote_token, string_token, bar_token, token};
+ghost use Rattle.scheme_tokens.specs.Mirror.Words.{is_text};
+ghost use Rattle.scheme_tokens.specs.Mirror.Tokens.{word_kind, hash_kind, named, character_of, behind_hash_slash, behind_bytes, hash_word, hash_token, word_token, unquote_token, string_token, bar_token, token};
 ghost use Rattle.scheme_tokens.specs.Views.{kind_of, token_at, Gives};
 
 use crate::character::Class;
@@ -18,7 +18,7 @@ use ls_base::Text;
 use std::alloc::Global;
 
 /// A word that begins with no `#`.
-#[tactic(auto, unfolding(crate::specs::Tokens::word_kind))]
+#[tactic(auto, unfolding(crate::specs::Mirror::Tokens::word_kind))]
 fn word_kind(alloc: Global, word: &str) -> Result<TokenKind, ScanFault>
     ensures { Gives kind_of result (word_kind (chars word.now)) }
 {
@@ -37,7 +37,7 @@ fn word_kind(alloc: Global, word: &str) -> Result<TokenKind, ScanFault>
 }
 
 /// A word that begins with `#`.
-#[tactic(auto, unfolding(crate::specs::Tokens::hash_kind))]
+#[tactic(auto, unfolding(crate::specs::Mirror::Tokens::hash_kind))]
 fn hash_kind(alloc: Global, word: &str) -> Result<TokenKind, ScanFault>
     ensures { Gives kind_of result (hash_kind (chars word.now)) }
 {
@@ -63,7 +63,7 @@ fn is_name(first: char, word: &str, letters: &[u8]) -> bool
 }
 
 /// The character that a name tells, of which the first character is given.
-#[tactic(auto, unfolding(crate::specs::Tokens::named))]
+#[tactic(auto, unfolding(crate::specs::Mirror::Tokens::named))]
 fn named(first: char, word: &str) -> Option<char>
     ensures { result ≡ named (first ∷ chars word.now) }
 {
@@ -98,7 +98,7 @@ fn tells_code(first: char, word: &str) -> bool
 }
 
 /// The character that is told behind `#\` by a first character and the word behind it.
-#[tactic(auto, unfolding(crate::specs::Tokens::character_of))]
+#[tactic(auto, unfolding(crate::specs::Mirror::Tokens::character_of))]
 fn character(first: char, word: &str) -> Option<char>
     ensures { result ≡ character_of first (chars word.now) }
 {
@@ -158,7 +158,7 @@ fn hash_word<'a>(
 }
 
 /// What begins with `#`, given the text and what follows its `#`.
-#[tactic(auto, unfolding(crate::specs::Tokens::hash_token))]
+#[tactic(auto, unfolding(crate::specs::Mirror::Tokens::hash_token))]
 fn hash_token<'a>(
     alloc: Global,
     text: &'a str,
@@ -232,7 +232,7 @@ fn word_token(alloc: Global, text: &str) -> Result<(TokenKind, &str), ScanFault>
 }
 
 /// The token at the front of a text, and the text behind it.
-#[tactic(auto, unfolding(crate::specs::Tokens::token))]
+#[tactic(auto, unfolding(crate::specs::Mirror::Tokens::token))]
 pub fn token(alloc: Global, text: &str) -> Result<(TokenKind, &str), ScanFault>
     ensures gives { Gives token_at result (token (chars text.now)) }
     ensures within { IfOk result (λ x. length x.1.now < length text.now) }

@@ -3,7 +3,7 @@ ghost use Rattle.std.specs.Prelude.{◌≡◌};
 ghost use Rattle.std.specs.List.{list_all};
 ghost use Rattle.std.specs.Str.{chars};
 ghost use Rattle.scheme_tokens.specs.Characters.{is_subsequent, is_hex_digit};
-ghost use Rattle.scheme_tokens.specs.Words.{is_text, begins_with, spells, starts_digit, starts_fraction, is_signed, starts_prefix, is_numeral, goes_on_dot, goes_on_sign, is_identifier};
+ghost use Rattle.scheme_tokens.specs.Mirror.Words.{is_text, begins_with, spells, starts_digit, starts_fraction, is_signed, starts_prefix, is_numeral, goes_on_dot, goes_on_sign, is_identifier};
 
 use crate::character::{
     is_dot_subsequent, is_hex_digit, is_initial, is_sign, is_sign_subsequent, is_subsequent,
@@ -105,7 +105,7 @@ fn starts_prefix(text: &str) -> bool
 }
 
 /// Whether a word is a numeral, which its first characters tell.
-#[tactic(auto, unfolding(crate::specs::Words::is_numeral))]
+#[tactic(auto, unfolding(crate::specs::Mirror::Words::is_numeral))]
 pub fn is_numeral(word: &str) -> bool
     ensures { result ≡ is_numeral (chars word.now) }
 {
@@ -161,7 +161,7 @@ fn goes_on_sign(text: &str) -> bool
 }
 
 /// Whether a word is an identifier, numerals apart.
-#[tactic(auto, unfolding(crate::specs::Words::is_identifier))]
+#[tactic(auto, unfolding(crate::specs::Mirror::Words::is_identifier))]
 pub fn is_identifier(word: &str) -> bool
     ensures { result ≡ is_identifier (chars word.now) }
 {

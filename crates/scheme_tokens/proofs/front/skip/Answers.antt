@@ -1,7 +1,7 @@
 use Rattle.std.proofs.Common.{ap, ◌∙◌, sym}
 use Rattle.std.specs.Str.{chars}
 use Rattle.std.proofs.lemmas.Str.{chars-nil}
-use Rattle.scheme_tokens.specs.Words.{behind}
+use Rattle.scheme_tokens.specs.Mirror.Words.{behind}
 use Rattle.scheme_tokens.specs.Views.{test_of}
 use Rattle.scheme_tokens.proofs.front.skip.Goals as goal
 

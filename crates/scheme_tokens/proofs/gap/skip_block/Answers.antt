@@ -1,6 +1,6 @@
 use Rattle.std.proofs.Common.{◌∙◌, sym, ap, arith}
 use Rattle.std.specs.Str.{chars}
-use Rattle.scheme_tokens.specs.Gaps.{block, behind_gap}
+use Rattle.scheme_tokens.specs.Mirror.Gaps.{block, behind_gap}
 use Rattle.scheme_tokens.proofs.GapLaws.{block_none, block_opens, block_closes_last, block_closes, block_goes, block_ends}
 use Rattle.scheme_tokens.proofs.gap.skip_block.Goals as goal
 

@@ -1,7 +1,7 @@
 use Rattle.std.proofs.Common.{Ok, List, ℕ, ◌∙◌, sym, ap, arith}
 use Rattle.std.specs.Str.{chars}
 use Rattle.std.proofs.lemmas.Bool.{eq-eqb, ne_eqb}
-use Rattle.scheme_tokens.specs.Gaps.{between, behind_gap}
+use Rattle.scheme_tokens.specs.Mirror.Gaps.{between, behind_gap}
 use Rattle.scheme_tokens.proofs.GapLaws.{between_none, between_white, between_line, between_opens, between_token}
 use Rattle.scheme_tokens.proofs.gap.skip_gap.Goals as goal
 

@@ -1,6 +1,6 @@
 use Rattle.std.proofs.Common.{◌∙◌, sym, ap, arith}
 use Rattle.std.specs.Str.{chars}
-use Rattle.scheme_tokens.specs.Gaps.{between, line, behind_gap}
+use Rattle.scheme_tokens.specs.Mirror.Gaps.{between, line, behind_gap}
 use Rattle.scheme_tokens.proofs.GapLaws.{line_none, between_none, line_ends, line_goes}
 use Rattle.scheme_tokens.proofs.gap.skip_line.Goals as goal
 

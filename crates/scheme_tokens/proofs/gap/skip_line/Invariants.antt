@@ -2,7 +2,7 @@ use Rattle.std.proofs.Common.{◌≡◌, ◌≤◌, length}
 use Rattle.std.specs.Str.{chars}
 use denote.Text.{Utf8}
 use denote.Shadow.{shadow}
-use Rattle.scheme_tokens.specs.Gaps.{line, behind_gap}
+use Rattle.scheme_tokens.specs.Mirror.Gaps.{line, behind_gap}
 use Rattle.scheme_tokens.proofs.gap.skip_line.Given as goal
 
 abbrev pub invariant-loop-c : goal.invariant-loop-c

@@ -1,5 +1,5 @@
-use Rattle.scheme_tokens.proofs.SpellLaws as spelling
+use Rattle.scheme_tokens.proofs.Same.Spelling as spelling
 use Rattle.scheme_tokens.proofs.laws.spelled_back.Goals as goal
 
 pub returns : goal.returns
-returns c = λ name bars. spelling.spelled_back name bars
+returns c = λ name text bars h. spelling.spelled_back name text bars h

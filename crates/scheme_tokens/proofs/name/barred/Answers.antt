@@ -3,7 +3,7 @@ use Rattle.std.specs.List.{flat_map}
 use Rattle.std.specs.Str.{chars}
 use Rattle.std.specs.String.{string_bytes}
 use Rattle.std.proofs.lemmas.Str.{chars-nil}
-use Rattle.scheme_tokens.specs.Spelled.{in_bars}
+use Rattle.scheme_tokens.specs.Spelling.{in_bars}
 use Rattle.scheme_tokens.proofs.NameLaws.{one_more}
 use Rattle.scheme_tokens.proofs.name.barred.Goals as goal
 

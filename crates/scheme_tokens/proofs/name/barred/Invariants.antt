@@ -4,7 +4,7 @@ use denote.Text.{Utf8}
 use denote.Shadow.{shadow}
 use Rattle.std.specs.Str.{chars}
 use Rattle.std.specs.String.{string_bytes}
-use Rattle.scheme_tokens.specs.Spelled.{in_bars, barred}
+use Rattle.scheme_tokens.specs.Spelling.{in_bars, barred}
 use Rattle.scheme_tokens.proofs.name.barred.Given as goal
 
 abbrev pub invariant-loop-c : goal.invariant-loop-c

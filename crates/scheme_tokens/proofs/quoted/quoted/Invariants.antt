@@ -3,7 +3,7 @@ use Rattle.std.specs.Str.{chars}
 use Rattle.std.specs.String.{string_bytes}
 use denote.Text.{Utf8}
 use denote.Shadow.{shadow}
-use Rattle.scheme_tokens.specs.Quoted.{elements, quoted}
+use Rattle.scheme_tokens.specs.Mirror.Quoted.{elements, quoted}
 use Rattle.scheme_tokens.proofs.QuotedLaws.{onto}
 use Rattle.scheme_tokens.proofs.quoted.quoted.Given as goal
 

@@ -1,6 +1,6 @@
 use Rattle.std.proofs.Common.{None, Some, Ok, length, subst, refl, sym, ◌∙◌}
 use Rattle.std.specs.Str.{chars}
-use Rattle.scheme_tokens.specs.Reading.{next}
+use Rattle.scheme_tokens.specs.Mirror.Reading.{next}
 use Rattle.scheme_tokens.specs.Views.{IsNext, IsFront}
 use Rattle.scheme_tokens.specs.declared.fault.ReadFault.{ReadFault}
 use Rattle.scheme_tokens.proofs.Fronts.{byte_count-chars}

@@ -4,7 +4,7 @@ use denote.Text.{Utf8}
 use denote.Shadow.{shadow}
 use Rattle.std.specs.List.{All}
 use Rattle.scheme_tokens.specs.Views.{IsWithin}
-use Rattle.scheme_tokens.specs.Reading.{behind_mark}
+use Rattle.scheme_tokens.specs.Mirror.Reading.{behind_mark}
 use Rattle.scheme_tokens.proofs.Readings.{GoesOn}
 use Rattle.scheme_tokens.proofs.reader.front_tokens.Given as goal
 

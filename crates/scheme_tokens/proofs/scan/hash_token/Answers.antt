@@ -1,7 +1,7 @@
 use Rattle.std.proofs.Common.{ap, ◌∙◌, arith}
 use Rattle.std.specs.Str.{chars}
 use Rattle.std.proofs.lemmas.Result.{IfOk-weaker}
-use Rattle.scheme_tokens.specs.Words.{is_inside, front_of}
+use Rattle.scheme_tokens.specs.Mirror.Words.{is_inside, front_of}
 use Rattle.scheme_tokens.proofs.Fronts.{some_bytes, front_of-cons}
 use Rattle.scheme_tokens.proofs.TokenLaws.{hash_inside}
 use Rattle.scheme_tokens.proofs.scan.hash_token.Goals as goal

@@ -2,7 +2,7 @@ use Rattle.std.proofs.Common.{◌≡◌, drop}
 use Rattle.std.specs.Str.{chars}
 use denote.Text.{Utf8}
 use denote.Shadow.{shadow}
-use Rattle.scheme_tokens.specs.Words.{begins_with}
+use Rattle.scheme_tokens.specs.Mirror.Words.{begins_with}
 use Rattle.scheme_tokens.proofs.word.begins_with.Given as goal
 
 abbrev pub invariant-loop-letter : goal.invariant-loop-letter

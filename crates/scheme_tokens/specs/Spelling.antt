@@ -1,12 +1,8 @@
 -- How a name is written (R7RS 7.1.1, identifier and symbol element).
-use Rattle.std.specs.Prelude.{ℕ, ◌/◌, ◌%◌, Bool, not, ◌||◌, ◌&&◌, ◌==◌, nat_lt, List, [], ◌∷◌, ◌++◌, if◌then◌else◌}
+use Rattle.std.specs.Prelude.{◌≡◌, ◌⊎◌, ℕ, ◌/◌, ◌%◌, Bool, true, false, ◌||◌, ◌==◌, nat_lt, List, [], ◌∷◌, ◌++◌, if◌then◌else◌}
 use Rattle.std.specs.List.{flat_map}
 use Rattle.std.specs.Char.{digit_char}
-use Rattle.scheme_tokens.specs.Words.{is_numeral, is_identifier}
-
--- characters that are an identifier token as they are
-abbrev pub is_bare : List ℕ → Bool
-is_bare name = not (is_numeral name) && is_identifier name
+use Rattle.scheme_tokens.specs.Tokens.{Atomic, Name, IsToken}
 
 -- the shortest small hex digits of a number below 256
 abbrev pub hex_digits : ℕ → List ℕ
@@ -26,6 +22,8 @@ in_bars c =
 abbrev pub barred : List ℕ → List ℕ
 barred name = 124 ∷ (flat_map in_bars name ++ 124 ∷ [])
 
--- a name, between bars where they are asked for or needed
-unfoldable pub spelled : List ℕ → Bool → List ℕ
-spelled name bars = if bars || not (is_bare name) then barred name else name
+-- between bars where they are asked for, or where the characters as they are don't spell the name
+abbrev pub IsSpelling : List ℕ → Bool → List ℕ → Type 0
+IsSpelling name true text = text ≡ barred name
+IsSpelling name false text =
+    ((text ≡ name) × IsToken (Atomic (Name name false)) name []) ⊎ ((text ≡ barred name) × ¬ IsToken (Atomic (Name name false)) name [])

@@ -1,19 +1,11 @@
 -- What stands between quotation marks or bars (R7RS 7.1.1, string element and symbol element). A reading gives what is
 -- meant and the text behind it, or the first fault.
-use Rattle.std.specs.Prelude.{ℕ, zero, suc, ◌+◌, ◌*◌, ◌&&◌, ◌||◌, ◌==◌, List, [], ◌∷◌, ◌++◌, Option, Some, None, Result, Ok, Err, if◌then◌else◌}
-use Rattle.std.specs.List.{fold}
-use Rattle.std.specs.Char.{digit_value, to_ascii_lowercase}
+use Rattle.std.specs.Prelude.{ℕ, zero, suc, ◌+◌, ◌*◌, ◌&&◌, ◌||◌, ◌==◌, List, [], ◌∷◌, ◌++◌, Option, Some, None, Result, Ok, Err, nat_lt, if◌then◌else◌}
+use Rattle.std.specs.Char.{to_ascii_lowercase}
 use Rattle.scheme_tokens.specs.Characters.{is_one_of, is_line_end, is_blank, is_hex_digit, is_scalar}
-use Rattle.scheme_tokens.specs.Words.{front_of, behind, byte_count}
-
--- why no token goes on here
-pub data Fault : Type 0 where
-  bad_token : Fault
-  open_string : Fault
-  open_bar : Fault
-  open_comment : Fault
-  label : Fault
-  directive : Fault
+use Rattle.scheme_tokens.specs.Mirror.Words.{front_of, behind, byte_count}
+pub use Rattle.scheme_tokens.specs.Tokens.{hex_value}
+pub use Rattle.scheme_tokens.specs.Faults.{Fault, bad_token, open_string, open_bar, open_comment, label, directive}
 
 infixl 10 ◌>>=◌
 abbrev pub ◌>>=◌ : {A B : Type 0} → Result A Fault → (A → Result B Fault) → Result B Fault
@@ -35,10 +27,6 @@ escaped c =
     else if is_one_of (34 ∷ 92 ∷ 124 ∷ []) c then Some c
     else None
 
--- the number that hex digits write
-abbrev pub hex_value : List ℕ → ℕ
-hex_value digits = fold (λ n c. 16 * n + digit_value c) 0 digits
-
 -- the character whose code hex digits write, of which there is one at least
 abbrev pub hex_scalar : List ℕ → Option ℕ
 hex_scalar [] = None
@@ -49,9 +37,13 @@ abbrev pub letter : Option ℕ → List ℕ → Result (List ℕ × List ℕ) Fa
 letter None rest = Err bad_token
 letter (Some c) rest = Ok (c ∷ [], rest)
 
+-- the text ends behind the hex digits of an escape, which can go on where their number isn't past the last character's
+abbrev pub digits_end : ℕ → List ℕ → Fault
+digits_end close digits = if nat_lt (hex_value digits) 0x11_0000 then open_at close else bad_token
+
 -- behind the hex digits of an escape: `;`
 abbrev pub hex_end : ℕ → List ℕ → List ℕ → Result (List ℕ × List ℕ) Fault
-hex_end close digits [] = Err (open_at close)
+hex_end close digits [] = Err (digits_end close digits)
 hex_end close digits (c ∷ cs) = if c == 59 then letter (hex_scalar digits) cs else Err bad_token
 
 -- a line end, whose first character this is: `\n`, `\r` or both, `\r` first
