@@ -52,7 +52,7 @@ label_refused c cs h = record {
   goes = hash_goes;
   halts = λ x. (label, label_read c x h);
   why = sym (cond-false (c == 33) _ _ (is_no is_ascii_digit c 33 h refl) ∙ cond-true (is_ascii_digit c) _ _ h);
-  no_hash = tt
+  no_hash = tt;
 }
 
 alone_refused : Refused bad_token (35 ∷ [])

@@ -253,7 +253,7 @@ split_refused c w rest [] e more begins inside whole v bad =
       goes = inl refl;
       halts = λ x. (bad_token, not_viable c [] x begins (and_from (is_inside c) true (and_parts (is_inside c) (list_all is_inside w) inside).0 refl) (ap (λ (q : ℕ). is_viable (q ∷ [])) same ∙ bad));
       why = refl;
-      no_hash = begins.hash
+      no_hash = begins.hash;
     }
 split_refused c w rest (f ∷ fs) e more begins inside whole v bad =
     let same = cons_head c f w (fs ++ e ∷ more) whole in
@@ -264,10 +264,13 @@ split_refused c w rest (f ∷ fs) e more begins inside whole v bad =
       behind = e ∷ (more ++ rest);
       whole = ap (λ (q : List ℕ). q ++ rest) whole ∙ append_assoc (f ∷ fs) (e ∷ more) rest;
       goes = viable_goes (f ∷ fs) v (list_all_front is_inside (f ∷ fs) (e ∷ more) all);
-      halts = λ x. (bad_token, ap token (sym (append_assoc (f ∷ fs) (e ∷ []) x))
-        ∙ not_viable f (fs ++ e ∷ []) x begins_f (list_all_front is_inside (f ∷ fs ++ e ∷ []) more (ap (list_all is_inside) (append_assoc (f ∷ fs) (e ∷ []) more) ∙ all)) bad);
+      halts = λ x. (
+        bad_token,
+        ap token (sym (append_assoc (f ∷ fs) (e ∷ []) x))
+            ∙ not_viable f (fs ++ e ∷ []) x begins_f (list_all_front is_inside (f ∷ fs ++ e ∷ []) more (ap (list_all is_inside) (append_assoc (f ∷ fs) (e ∷ []) more) ∙ all)) bad,
+      );
       why = word_why f fs (e ∷ (more ++ rest)) begins_f;
-      no_hash = tt
+      no_hash = tt;
     }
 
 -- a bad word is refused
@@ -280,7 +283,7 @@ bad_refused c w rest begins word bad = elim (scan_from is_viable [] (c ∷ w) no
     goes = viable_goes (c ∷ w) v word.0;
     halts = word_halts c w rest begins word.0 word.1 bad;
     why = word_why c w rest begins;
-    no_hash = tt
+    no_hash = tt;
   }
   | inr h ↦ split_refused c w rest h.0 h.1 h.2 begins word.0 h.3 h.4 h.5
 ]

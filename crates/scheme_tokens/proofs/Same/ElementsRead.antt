@@ -107,18 +107,26 @@ element_read {close} (IsElement.itself c rest h) apart =
     let more = or_parts (c == 92) (close == 34 && is_line_end c) parts.1 in
     (c, [], refl, parts.0, plain_step close c rest more.0 more.1)
 element_read {close} (IsElement.letter c m rest h) apart = (92, c ∷ [], refl, apart, escape_step close (c ∷ rest) ∙ mnemonic_read h close rest)
-element_read {close} (IsElement.code x c digits rest lower h) apart =
-    (92, x ∷ (digits ++ 59 ∷ []), refl, apart,
-    escape_step close (x ∷ ((digits ++ 59 ∷ []) ++ rest)) ∙ ap (λ (q : List ℕ). escape close (x ∷ q)) (append_assoc digits (59 ∷ []) rest) ∙ code_read close x c digits rest lower h)
+element_read {close} (IsElement.code x c digits rest lower h) apart = (
+  92,
+  x ∷ (digits ++ 59 ∷ []),
+  refl,
+  apart,
+  escape_step close (x ∷ ((digits ++ 59 ∷ []) ++ rest)) ∙ ap (λ (q : List ℕ). escape close (x ∷ q)) (append_assoc digits (59 ∷ []) rest) ∙ code_read close x c digits rest lower h,
+)
 element_read {close} (IsElement.line_end ending rest str h) apart =
     let ends = line_end_read h in
     (ends.0, ends.1, ends.2, apart_line_end close ends.0 str ends.3, line_end_step close ends.0 (ends.1 ++ rest) str ends.3 ∙ ap (λ (q : List ℕ). Ok (10 ∷ [], q)) ends.4)
 element_read {close} (IsElement.folded before ending blanks rest str h k l m) apart =
-    let ends = line_end_read k in
-    (92, before ++ (ending ++ blanks), refl, apart,
-    escape_step close ((before ++ (ending ++ blanks)) ++ rest) ∙ ap (λ (q : ℕ). escape q ((before ++ (ending ++ blanks)) ++ rest)) str
-    ∙ ap (escape 34) (regroup before ending blanks rest ∙ ap (λ (q : List ℕ). before ++ (q ++ (blanks ++ rest))) ends.2)
-    ∙ fold_read before blanks rest ends.0 ends.1 h ends.3 ends.4 l m)
+    let ends = line_end_read k in (
+      92,
+      before ++ (ending ++ blanks),
+      refl,
+      apart,
+      escape_step close ((before ++ (ending ++ blanks)) ++ rest) ∙ ap (λ (q : ℕ). escape q ((before ++ (ending ++ blanks)) ++ rest)) str
+          ∙ ap (escape 34) (regroup before ending blanks rest ∙ ap (λ (q : List ℕ). before ++ (q ++ (blanks ++ rest))) ends.2)
+          ∙ fold_read before blanks rest ends.0 ends.1 h ends.3 ends.4 l m,
+    )
 
 -- ---- elements
 

@@ -150,9 +150,12 @@ nothing_left (suc outer) =
 
 one_left : (outer c : ℕ) → IsOpen outer (c ∷ [])
 one_left outer c =
-    let more = nothing_left outer in
-    (32, more.0 ∷ more.1, plain_passed outer c 32 (more.0 ∷ more.1) (λ rest. rest ≡ []) (or_from (opens c 32) (closes c 32) (and_right (c == 35) (32 == 124) refl) (and_right (c == 124) (32 == 35) refl))
-    (plain_passed outer 32 more.0 more.1 (λ rest. rest ≡ []) refl more.2))
+    let more = nothing_left outer in (
+      32,
+      more.0 ∷ more.1,
+      plain_passed outer c 32 (more.0 ∷ more.1) (λ rest. rest ≡ []) (or_from (opens c 32) (closes c 32) (and_right (c == 35) (32 == 124) refl) (and_right (c == 124) (32 == 35) refl))
+          (plain_passed outer 32 more.0 more.1 (λ rest. rest ≡ []) refl more.2),
+    )
 
 plain_told : (outer c d : ℕ) (start text : List ℕ) (r : Result (List ℕ) (List ℕ)) → is_mark c d ≡ false → Told (block start outer) (d ∷ text) r → Told (block start outer) (c ∷ d ∷ text) r
 plain_told outer c d start text r h (inl p) = inl (plain_passed outer c d text (λ rest. Ended rest r) h p)

@@ -149,9 +149,11 @@ nothing_dark : (behind : List ℕ) → NoSpace [] behind → NoToken [] behind �
 nothing_dark [] space token = tt
 nothing_dark (c ∷ []) space token =
     (false_from_ne_true (is_whitespace c) (λ e. space c [] [] refl (IsSpace.white c [] [] e (IsSpace.none []))), false_from_ne_true (c == 59) (λ e. space c [] [] refl (semicolon_space c e)))
-nothing_dark (c ∷ d ∷ ds) space token =
-    (false_from_ne_true (is_whitespace c) (λ e. space c (d ∷ ds) [] refl (IsSpace.white c [] [] e (IsSpace.none []))), false_from_ne_true (c == 59) (λ e. space c (d ∷ ds) [] refl (semicolon_space c e)),
-    false_from_ne_true (opens c d) (λ e. token c (d ∷ ds) (116 ∷ []) (Atomic (Truth true)) refl (hash_token c (and_parts (c == 35) (d == 124) e).0)))
+nothing_dark (c ∷ d ∷ ds) space token = (
+  false_from_ne_true (is_whitespace c) (λ e. space c (d ∷ ds) [] refl (IsSpace.white c [] [] e (IsSpace.none []))),
+  false_from_ne_true (c == 59) (λ e. space c (d ∷ ds) [] refl (semicolon_space c e)),
+  false_from_ne_true (opens c d) (λ e. token c (d ∷ ds) (116 ∷ []) (Atomic (Truth true)) refl (hash_token c (and_parts (c == 35) (d == 124) e).0)),
+)
 
 opened : (b c : ℕ) → opens b c ≡ true → IsSpace (b ∷ c ∷ 124 ∷ 35 ∷ []) []
 opened b c e =
@@ -288,9 +290,12 @@ module _ (text : List ℕ) (ts : List Token) (f : FaultAt) (stop : IsStop ts f t
   refused_so : (c : ℕ) (cs more : List ℕ) (us : List Token) → stop.behind ≡ c ∷ cs → EndsLike (stop.begun ++ c ∷ cs) (stop.begun ++ c ∷ more) → IsSpelledFrom stop.place us (stop.gap ++ (stop.begun ++ c ∷ more)) → ⊥
   unfolding last
   refused_so c cs more us e like h =
-      no_longer stop.before stop.behind cs c [] stop.stops e
-      (more, ts ++ us, subst (IsSpelled (ts ++ us)) (sym (append_assoc stop.before (c ∷ []) more))
-      (spelled_so (c ∷ more) us (λ p q. like_behind stop.gap (stop.begun ++ c ∷ cs) (stop.begun ++ c ∷ more) like p (subst (λ (r : List ℕ). Ends p (stop.gap ++ (stop.begun ++ r))) e q)) h))
+      no_longer stop.before stop.behind cs c [] stop.stops e (
+        more,
+        ts ++ us,
+        subst (IsSpelled (ts ++ us)) (sym (append_assoc stop.before (c ∷ []) more))
+            (spelled_so (c ∷ more) us (λ p q. like_behind stop.gap (stop.begun ++ c ∷ cs) (stop.begun ++ c ∷ more) like p (subst (λ (r : List ℕ). Ends p (stop.gap ++ (stop.begun ++ r))) e q)) h),
+      )
 
   space_at : (c : ℕ) (cs : List ℕ) → stop.behind ≡ c ∷ cs → IsSpace stop.gap (stop.begun ++ c ∷ cs)
   space_at c cs e = subst (λ (q : List ℕ). IsSpace stop.gap (stop.begun ++ q)) e stop.space

@@ -102,17 +102,20 @@ rest_count at size text front glyphs rest gap e w v =
     omega (arith, e, sum, whole, more, part)
 
 token_next : (at size : ℕ) (text front gap : List ℕ) (r : Result (TokenKind × List ℕ) Fault) → at + byte_count text ≡ size → text ≡ gap ++ front → IsSpace gap front → tokens.Told front r → NextTold at size text (next_token size front r)
-token_next at size text front gap (Ok t) e w s told =
-    (record {
-      gap = gap;
-      glyphs = told.0;
-      rest = t.1;
-      whole = w ∙ ap (λ (q : List ℕ). gap ++ q) told.1;
-      space = subst (IsSpace gap) told.1 s;
-      token = told.2;
-      starts = two_counts at size text front gap e w;
-      ends = end_count at size text front told.0 t.1 gap e w told.1
-    }, refl, rest_count at size text front told.0 t.1 gap e w told.1)
+token_next at size text front gap (Ok t) e w s told = (
+  record {
+    gap = gap;
+    glyphs = told.0;
+    rest = t.1;
+    whole = w ∙ ap (λ (q : List ℕ). gap ++ q) told.1;
+    space = subst (IsSpace gap) told.1 s;
+    token = told.2;
+    starts = two_counts at size text front gap e w;
+    ends = end_count at size text front told.0 t.1 gap e w told.1;
+  },
+  refl,
+  rest_count at size text front told.0 t.1 gap e w told.1,
+)
 token_next at size text front gap (Err f) e w s told = tt
 
 front_next : (at size : ℕ) (text front gap : List ℕ) → at + byte_count text ≡ size → text ≡ gap ++ front → IsSpace gap front → NextTold at size text (at_front size front)
@@ -144,11 +147,12 @@ pub first_next : (at size : ℕ) (t : Token) (text : List ℕ) → at + byte_cou
 first_next at size t text e first =
     let front = first.glyphs ++ first.rest in
     let start = two_counts at size text front first.gap e first.whole in
-    let stop = end_count at size text front first.glyphs first.rest first.gap e first.whole refl in
-    (next_read size text first.gap front (t.kind, first.rest) first.whole first.space (token_read t.kind first.glyphs first.rest first.token)
-    ∙ (λ i. found (record { kind = t.kind; start = (start ∙ sym first.starts) i; end = (stop ∙ ap (λ (n : ℕ). n + byte_count first.glyphs) (start ∙ sym first.starts) ∙ sym first.ends) i }) first.rest),
-    ap (λ (n : ℕ). n + byte_count first.rest) (first.ends ∙ ap (λ (n : ℕ). n + byte_count first.glyphs) (first.starts ∙ sym start) ∙ sym stop)
-    ∙ rest_count at size text front first.glyphs first.rest first.gap e first.whole refl)
+    let stop = end_count at size text front first.glyphs first.rest first.gap e first.whole refl in (
+      next_read size text first.gap front (t.kind, first.rest) first.whole first.space (token_read t.kind first.glyphs first.rest first.token)
+          ∙ (λ i. found (record { kind = t.kind; start = (start ∙ sym first.starts) i; end = (stop ∙ ap (λ (n : ℕ). n + byte_count first.glyphs) (start ∙ sym first.starts) ∙ sym first.ends) i }) first.rest),
+      ap (λ (n : ℕ). n + byte_count first.rest) (first.ends ∙ ap (λ (n : ℕ). n + byte_count first.glyphs) (first.starts ∙ sym start) ∙ sym stop)
+          ∙ rest_count at size text front first.glyphs first.rest first.gap e first.whole refl,
+    )
 
 pub space_next : (size : ℕ) (text : List ℕ) → IsSpace text [] → next size text ≡ ended None
 unfolding next

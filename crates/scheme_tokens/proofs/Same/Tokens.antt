@@ -50,14 +50,20 @@ word_told text = before_told text (word_of text) (behind_word text) (word_kind (
 hash_kind_told : (word rest : List ℕ) → IsWord word rest → KindTold word rest (hash_kind word)
 unfolding hash_kind
 hash_kind_told word rest h =
-    cond_both (spells (codes "#t") word || spells (codes "#true") word) _ _ (KindTold word rest) (λ e. (elim (or_cases (spells (codes "#t") word) (spells (codes "#true") word) e) [
-      | inl f ↦ inl (spells_is (codes "#t") word f)
-      | inr f ↦ inr (spells_is (codes "#true") word f)
-    ], h))
-    (λ _. cond_both (spells (codes "#f") word || spells (codes "#false") word) _ _ (KindTold word rest) (λ e. (elim (or_cases (spells (codes "#f") word) (spells (codes "#false") word) e) [
-      | inl f ↦ inl (spells_is (codes "#f") word f)
-      | inr f ↦ inr (spells_is (codes "#false") word f)
-    ], h))
+    cond_both (spells (codes "#t") word || spells (codes "#true") word) _ _ (KindTold word rest) (λ e. (
+      elim (or_cases (spells (codes "#t") word) (spells (codes "#true") word) e) [
+        | inl f ↦ inl (spells_is (codes "#t") word f)
+        | inr f ↦ inr (spells_is (codes "#true") word f)
+      ],
+      h,
+    ))
+    (λ _. cond_both (spells (codes "#f") word || spells (codes "#false") word) _ _ (KindTold word rest) (λ e. (
+      elim (or_cases (spells (codes "#f") word) (spells (codes "#false") word) e) [
+        | inl f ↦ inl (spells_is (codes "#f") word f)
+        | inr f ↦ inr (spells_is (codes "#false") word f)
+      ],
+      h,
+    ))
     (λ _. cond_both (is_numeral word) _ _ (KindTold word rest) (λ e. (refl, test_numeral word e, h)) (λ _. tt)))
 
 -- ---- letters in either case
