@@ -15,7 +15,7 @@ pub fn answer(alloc: Global, session: &mut Session, call: &str, argument: &str) 
     match call {
         "new" => {
             *session = Session::new(alloc)?;
-            Ok(String::from_str(alloc, "ok")?)
+            Ok(String::from_str(alloc, r#""ok""#)?)
         }
         "body" => Ok(written(alloc, &feed(session, argument.as_bytes())?)?),
         "body-made" => {

@@ -54,10 +54,10 @@ fn a_fault_of_frames_is_the_last_message(rt: HostRuntime) -> Result<(), Fail> {
     Ok(())
 }
 
-/// The last frame of a fault has 98 bytes and a header part of 21; where its write fails the status is 5.
+/// The last frame of a fault has 98 bytes and a header part of 22; where its write fails the status is 5.
 #[test]
 fn a_last_frame_that_is_not_taken_ends_with_5(rt: HostRuntime) -> Result<(), Fail> {
-    for (failing_write, status, length) in [(1, 5, 0), (2, 5, 60), (3, 6, 119)] {
+    for (failing_write, status, length) in [(1, 5, 0), (2, 5, 60), (3, 6, 120)] {
         let run = Run {
             step: 60,
             failing_write,
