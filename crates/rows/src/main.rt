@@ -1,0 +1,230 @@
+//! Rows: calls of the product's crates with their answers, for tests alone. Nothing stands on this crate, and it is no part
+//! of the product.
+//!
+//! A line of the input is `CALL`, a tab and `ARGUMENT`; a line of the output is the call's answer. Where there is none, the
+//! line is `no answer: ` and why, so that a row which is not understood fails. `tests/rows` has the rows, each with the
+//! answer that is wanted, and `tests/rows/make` composes this crate's `stdin` and `stdout` from them.
+//!
+//! Arguments and answers are compact JSON, the keys of objects in byte order, but where this says otherwise. A TEXT (and a
+//! STREAM, a PIECE, a BODY) is a string, or a list of parts one behind another: strings, `{"repeat":[STRING,TIMES]}` and
+//! `{"bytes":[NUMBER,..]}`. A NAME, a URI or a VERSION is a plain string or number. POSITION is `[LINE,CHARACTER]`, RANGE
+//! `[POSITION,POSITION]`, ENCODING "utf-8", "utf-16" or "utf-32". A fault of reading is `{"at":[START,END],"fault":NUMBER}`,
+//! in bytes. Examples stand below their calls, the argument before `->` and the answer behind it.
+//!
+//! Tokens: `[KIND,START,END]` and behind that the value where the kind has one: of a name its symbol and whether it stands
+//! in bars, of a numeral, a string and a character their text, of a boolean its value.
+//!
+//!     tokens/of TEXT              the tokens, or the fault
+//!         "(|a b|"                -> [["(",0,1],["name",1,6,"a b",true]]
+//!     tokens/front TEXT           the tokens up to the end or to the fault, and the fault or null
+//!         "a ]"                   -> [[["name",0,1,"a",false]],{"at":[2,3],"fault":1}]
+//!     tokens/symbol TEXT          the symbol of a text that is one identifier, or null
+//!         "|a|"                   -> "a"
+//!     tokens/spell [NAME,BARS]    how a symbol is spelled, with bars in any case or where they are needed, and the symbol that
+//!                                 this text has
+//!         ["a b",false]           -> ["|a b|","a b"]
+//!
+//! Data: `[KIND,PLACE]` and behind that a value as that of a token; the parts of a list (and then its tail) or of a vector;
+//! the numerals of a bytevector. PLACE is `[FIRST TOKEN,LAST TOKEN,START,END]`. The identifier that a mark such as `'`
+//! implies has no token, and its bytes are those in front of its mark. A fault is answered as such by all three calls.
+//!
+//!     data/of TEXT                the data, or the fault
+//!         "(a . 1)"               -> [["list",[0,4,0,7],[["name",[1,1,1,2],"a",false]],["numeral",[3,3,5,6],"1"]]]
+//!     data/innermost TEXT         of the first datum, what is reached through first parts, and how many data are round it
+//!         "((x))"                 -> [2,["name",[2,2,2,3],"x",false]]
+//!     data/size TEXT              of the first datum, how many parts a list or how many bytes a string has
+//!         "(a b)"                 -> ["parts",2]
+//!
+//! Trees: a leaf is `[KIND,OCC,VALUE]`, anything else `[KIND,OCC,PARTS]` with a list's tail behind that. OCC is
+//! `[UNIT,FORM,TOKEN]` or null. A name's value is `SYMBOL@UNIT`, a bytevector's its numerals as one text.
+//!
+//!     trees/of [TEXT,UNIT,FORM]   of the last datum, as this form of this unit, the size and the depth of its tree, and the tree
+//!         ["'a",3,2]              -> [3,2,["list",[3,2,0],[["name",null,"quote@3"],["name",[3,2,1],"a@3"]]]]
+//!     trees/shared null           the size and the depth of `#\x`, of a list with that one node twice and as its tail, and of a
+//!                                 vector with that list; and whether the vector's part is that list
+//!         null                    -> [[1,1],[4,2],[5,3],true]
+//!
+//! Symbols, from empty tables. An identifier is a name written in a unit and then inserted by macro uses, each
+//! `[UNIT,FORM,COUNT]`.
+//!
+//!     symbols/of [NAME,..]        the number of each symbol, and the name of that number
+//!         ["a","b","a"]           -> [[0,"a"],[1,"b"],[0,"a"]]
+//!     symbols/identifiers [[NAME,UNIT,[USE,..]],..]   the number of each identifier, its symbol, and what its number stands for
+//!         [["t",1,[]],["t",1,[[1,0,0]]]]   -> [[0,"t",["written",1,"t"]],[1,"t",["inserted",0,[1,0,0]]]]
+//!
+//! Arrows: where a binder starts, where its use starts, and the name.
+//!
+//!     arrows/of TEXT              the arrows of a small program, or "not small"
+//!         "(define x 1) x"        -> ["0:8 0:13 x"]
+//!
+//! Frames. After a fault the same one has to come again, without bodies.
+//!
+//!     frames/of [PIECE,..]        the bodies of a stream that comes in these pieces, how many bytes are kept of a frame that is
+//!                                 not whole, and the fault where there is one, with its offset
+//!         ["Content-Length: 1\r\n","\r\nxC"]   -> {"bodies":["x"],"kept":1}
+//!         ["A\n"]                 -> {"at":1,"bodies":[],"fault":1,"kept":0}
+//!     frames/cut STREAM           the same, where it is the same for the stream as a whole, for its bytes one by one, and for each
+//!                                 two pieces that it can be cut into
+//!         "C"                     -> {"bodies":[],"kept":1}
+//!     frames/around BODY          the frame round a body
+//!         "{}"                    -> "Content-Length: 2\r\n\r\n{}"
+//!
+//! Messages. The ARGUMENT of `messages/read` is the body itself, as it stands. A reply is `["capabilities",ID,PREPARE,ENCODING]`,
+//! `["error",ID or null,CODE,STRING]`, `["log",STRING]`, `["publish",URI,VERSION or null,[[RANGE,CODE,SEVERITY,STRING],..]]`, or
+//! a result: `["nothing",ID]`, `["places",ID,[PLACE,..]]`, `["highlights",ID,[[RANGE,KIND],..]]`, `["prepared",ID,RANGE,STRING]`,
+//! `["arrows",ID,[[PLACE,PLACE,NAME],..]]`, `["edits",ID,[[URI,[[RANGE,STRING],..]],..]]`, where PLACE is `[URI,RANGE]`.
+//!
+//!     messages/read BODY          what a body says: `["request",ID,METHOD]` with what it asks behind that, `["response"]`, a
+//!                                 notice (`["exit"]`, `["opened",URI,VERSION,STRING]`, `["closed",URI]`, `["other notice"]`,
+//!                                 `["changed",URI,VERSION,[[RANGE or null,STRING],..]]`, `["notice of bad params",METHOD]`), or
+//!                                 why it is refused: `["no JSON"]`, `["invalid",ID or null]`, `["unknown method",ID]`,
+//!                                 `["bad params",ID]`
+//!         {"jsonrpc":"2.0","id":1,"method":"shutdown"}   -> ["request",1,"shutdown"]
+//!     messages/read-made BODY     the same of a body that is made of parts
+//!         [{"repeat":["[",128]}]  -> ["no JSON"]
+//!     messages/reply REPLY        the body of a reply, as it stands
+//!         ["nothing",2]           -> {"id":2,"jsonrpc":"2.0","result":null}
+//!
+//! Positions, whose characters are counted in an encoding.
+//!
+//!     positions/offset [TEXT,POSITION,ENCODING]   the offset in bytes of a position
+//!         ["é!",[0,1],"utf-16"]   -> 2
+//!     positions/position [TEXT,OFFSET,ENCODING]   the position of an offset
+//!         ["é!",2,"utf-32"]       -> [0,1]
+//!
+//! Open documents: one store, which each call finds as the rows before left it. A call that may be refused answers "ok",
+//! "not open", "bad range", "too long" or "too many".
+//!
+//!     store/new null              begins with none
+//!         null                    -> "ok"
+//!     store/add [URI,VERSION,TEXT]   opens a document
+//!         ["a",1,"x"]             -> "ok"
+//!     store/change [URI,VERSION,[[RANGE or null,STRING],..],ENCODING]   changes a document
+//!         ["a",2,[[[[0,0],[0,1]],"y"]],"utf-16"]   -> "ok"
+//!     store/text URI              its text, or null
+//!         "a"                     -> "y"
+//!     store/version URI           its version, or null
+//!         "a"                     -> 2
+//!     store/holds [URI,TEXT]      whether it has this text
+//!         ["a","x"]               -> false
+//!     store/uri N                 the Nth uri, which counts from 0, or null
+//!         0                       -> "a"
+//!     store/close URI             closes a document: whether it was open
+//!         "a"                     -> true
+//!
+//! A session, which each call finds as the rows before left it. The ARGUMENT of `session/body` is the body itself. What it
+//! leads to are the bodies of the replies in brackets, each as it stands, and ` end STATUS` where the session ends.
+//!
+//!     session/new null            begins one
+//!         null                    -> "ok"
+//!     session/body BODY           takes a body
+//!         []                      -> [{"error":{"code":-32600,"message":"invalid request"},"id":null,"jsonrpc":"2.0"}]
+//!         {"jsonrpc":"2.0","method":"exit"}   -> [] end 1
+//!     session/body-made BODY      takes a body that is made of parts
+//!         ["{\"jsonrpc\":\"2.0\",","\"method\":\"exit\"}"]   -> [] end 1
+//!
+//! What all crates share.
+//!
+//!     base/texts [STRING,STRING]  a copy of the first, whether they are equal, and how they compare, by two calls
+//!         ["a","b"]               -> ["a",false,"less","less"]
+//!     base/items [NUMBER,..]      numbers below 256 that are put into a list one by one and taken out of it
+//!         [3,1]                   -> [3,1]
+//!     base/first STRING           the first character and the text behind it, or null
+//!         "λx"                    -> ["λ","x"]
+#![tactic(auto)]
+
+mod argument;
+mod arrows;
+mod base;
+mod data;
+mod fault;
+mod frames;
+mod messages;
+mod positions;
+mod replies;
+mod session;
+mod store;
+mod symbols;
+mod tokens;
+mod trees;
+
+use document_store::Store;
+use fault::{Row, RowFault};
+use serde_json::Value;
+use session_core::Session;
+use std::alloc::Global;
+use std::io;
+use std::io::{BufRead, BufReader, BufWriter, Write};
+
+/// What the calls of one row leave to the next.
+#[derive(Drop)]
+struct Bench {
+    store: Store,
+    session: Session,
+}
+
+/// The answer to a call whose argument is JSON.
+fn by_value(
+    alloc: Global,
+    bench: &mut Bench,
+    group: &str,
+    call: &str,
+    argument: &Value,
+) -> Row<Value> {
+    match group {
+        "tokens" => Ok(tokens::answer(alloc, call, argument)?),
+        "data" => Ok(data::answer(alloc, call, argument)?),
+        "trees" => Ok(trees::answer(alloc, call, argument)?),
+        "symbols" => Ok(symbols::answer(alloc, call, argument)?),
+        "arrows" => Ok(arrows::answer(alloc, call, argument)?),
+        "frames" => Ok(frames::answer(alloc, call, argument)?),
+        "positions" => Ok(positions::answer(alloc, call, argument)?),
+        "store" => Ok(store::answer(alloc, &mut bench.store, call, argument)?),
+        "base" => Ok(base::answer(alloc, call, argument)?),
+        _ => Err(RowFault::NoCall),
+    }
+}
+
+/// The answer to a row.
+fn answer(alloc: Global, bench: &mut Bench, line: &str) -> Row<String> {
+    let (name, argument) = line.split_once('\t').ok_or(RowFault::NoTab)?;
+    let (group, call) = name.split_once('/').ok_or(RowFault::NoCall)?;
+    match group {
+        "messages" => Ok(messages::answer(alloc, call, argument)?),
+        "session" => Ok(session::answer(alloc, &mut bench.session, call, argument)?),
+        _ => {
+            let value = argument::json(alloc, argument)?;
+            let shown = by_value(alloc, bench, group, call, &value)?;
+            Ok(shown.to_string(alloc)?)
+        }
+    }
+}
+
+/// Prints an answer, or why there is none.
+fn print<W: io::Write>(out: &mut W, answer: &Row<String>) -> io::Result<()> {
+    match answer {
+        Ok(text) => out.write_all(text.as_bytes())?,
+        Err(fault) => {
+            out.write_all(b"no answer: ")?;
+            out.write_all(fault.words().as_bytes())?;
+        }
+    }
+    out.write_all(b"\n")
+}
+
+fn main(rt: HostRuntime) -> io::Result<()> {
+    let alloc = rt.alloc();
+    let session = match Session::new(alloc) {
+        Ok(session) => session,
+        Err(_) => return Err(io::Error::from(io::ErrorKind::OutOfMemory)),
+    };
+    let mut bench = Bench {
+        store: Store::new(alloc),
+        session,
+    };
+    let mut out = BufWriter::new(alloc, io::writer(&rt))?;
+    for line in BufReader::new(alloc, rt.reader())?.lines(alloc) {
+        print(&mut out, &answer(alloc, &mut bench, line?.as_str()))?;
+    }
+    out.flush()
+}
