@@ -104,7 +104,7 @@ depth-requires-3 c =
     let below = list_node c.add.new.self c.in_ok-items.items.items c.in_ok-letter.letter c.in_ok-items.ensures.items (c.in_ok-letter.ensures.tree letter refl) in
     (outer, c.in_ok-vector.ensures.tree outer (vector_node c.add-2.new.self c.in_ok-items-2.items.items c.in_ok-list.list c.in_ok-items-2.ensures.items (c.in_ok-list.ensures.tree dotted_list below)))
 
-pub is_only_part-requires : goal.is_only_part-requires
-is_only_part-requires c =
+pub is_only_part-same-requires : goal.is_only_part-same-requires
+is_only_part-same-requires c =
     let below = list_node c.add.new.self c.in_ok-items.items.items c.in_ok-letter.letter c.in_ok-items.ensures.items (c.in_ok-letter.ensures.tree letter refl) in
     (outer, c.in_ok-vector.ensures.tree outer (vector_node c.add-2.new.self c.in_ok-items-2.items.items c.in_ok-list.list c.in_ok-items-2.ensures.items (c.in_ok-list.ensures.tree dotted_list below)))
