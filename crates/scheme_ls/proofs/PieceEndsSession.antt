@@ -69,6 +69,22 @@ few_bytes old mid new server taken most n buffer r =
     let m = length-append r.going.bytes (take n buffer) in
     omega (arith, r.going.count, r.few)
 
+-- what was printed before the piece, and after it
+before_written : (old mid new : Streams) (server : Serving) (taken most n : ℕ) (buffer : List ℕ) (r : Read old mid new server taken most n buffer) (more : List ℕ) (sink : SinkSeen) → Appends mid.sink.taken sink.taken more →
+    AnswersPiecesBefore old (record { source = new.source; sink = sink }) (r.going.bytes ++ take n buffer)
+before_written old mid new server taken most n buffer r more sink printed = record {
+  before = r.going.bytes;
+  last = take n buffer;
+  split = refl;
+  pieces = r.pieces;
+  output = output_so_far old mid server taken most r.going;
+  is = is_output_so_far old mid server taken most r.going;
+  no_exit = refl;
+  unfinished = tt;
+  more = more;
+  printed = Appends-trans old.sink.taken mid.sink.taken sink.taken _ more r.going.answers.prints.printed printed;
+}
+
 -- `exit` stands in the piece
 pub piece_exits : (old mid new : Streams) (server next : Serving) (taken most n : ℕ) (exit : Exit) (buffer : List ℕ) → Read old mid new server taken most n buffer → EndsInPiece server next (take n buffer) (said_exit exit) mid.sink new.sink → ServeEndsAs old new (Exited exit)
 piece_exits old mid new server next taken most n exit buffer r e =
@@ -77,7 +93,7 @@ piece_exits old mid new server next taken most n exit buffer r e =
     record {
       bytes = r.going.bytes ++ take n buffer;
       taken = r.takes;
-      source = r.on;
+      source = (r.on, before_written old mid new server taken most n buffer r _ new.sink e.ends.prints.printed);
       session = (
         few_bytes old mid new server taken most n buffer r,
         record {
@@ -122,22 +138,6 @@ farewell_frames messages number offset kind is =
     ∙ ap (λ (last : List ℕ). frames_of messages ++ last) (sym (append-nil (frame_of_reply (fault_log (fault_number kind) offset))))
     ∙ sym (frames_more messages (fault_log (fault_number kind) offset ∷ []))
 
--- what was printed before the piece, and after it
-before_written : (old mid new : Streams) (server : Serving) (taken most n : ℕ) (buffer : List ℕ) (r : Read old mid new server taken most n buffer) (more : List ℕ) (sink : SinkSeen) → Appends mid.sink.taken sink.taken more →
-    AnswersPiecesBefore old (record { source = new.source; sink = sink }) (r.going.bytes ++ take n buffer)
-before_written old mid new server taken most n buffer r more sink printed = record {
-  before = r.going.bytes;
-  last = take n buffer;
-  split = refl;
-  pieces = r.pieces;
-  output = output_so_far old mid server taken most r.going;
-  is = is_output_so_far old mid server taken most r.going;
-  no_exit = refl;
-  unfinished = tt;
-  more = more;
-  printed = Appends-trans old.sink.taken mid.sink.taken sink.taken _ more r.going.answers.prints.printed printed;
-}
-
 -- the farewell is written
 pub farewell_written : (old mid seen : Streams) (sink : SinkSeen) (server next : Serving) (taken most n : ℕ) (buffer : List ℕ) (at : FaultAt) → Read old mid seen server taken most n buffer →
     TakesPiece server next (take n buffer) (HasFault at) mid.sink seen.sink → Prints seen.sink sink (frame_of_reply (fault_log at.number at.offset)) → ServeEndsAs old (record { source = seen.source; sink = sink }) FrameFault
@@ -146,7 +146,10 @@ farewell_written old mid seen sink server next taken most n buffer at r e p =
     record {
       bytes = r.going.bytes ++ take n buffer;
       taken = r.takes;
-      source = r.on;
+      source = (
+        r.on,
+        before_written old mid seen server taken most n buffer r _ sink (Appends-trans mid.sink.taken seen.sink.taken sink.taken _ _ e.answers.prints.printed p.printed),
+      );
       session = (
         few_bytes old mid seen server taken most n buffer r,
         record {

@@ -91,7 +91,7 @@ abbrev pub AreBeforeLast : Option (List (List ℕ)) → List ℕ → List ℕ �
 AreBeforeLast None bytes last = Unit {0}
 AreBeforeLast (Some pieces) bytes last = AreBefore pieces bytes last
 
--- what answers the pieces before the one that holds the last byte taken was written
+-- the session goes on up to the piece that holds the last byte taken, and what answers the pieces before it was written
 pub record AnswersPiecesBefore (old new : Streams) (bytes : List ℕ) : Type 0 where
   pub before : List ℕ
   pub last : List ℕ
@@ -106,12 +106,12 @@ pub record AnswersPiecesBefore (old new : Streams) (bytes : List ℕ) : Type 0 w
 
 -- what became of the source of these bytes
 abbrev pub SourceEndsAs : Streams → Streams → List ℕ → SessionEnd → Type 0
-SourceEndsAs old new bytes (Exited exit) = ReadsOn old.source new.source
+SourceEndsAs old new bytes (Exited exit) = ReadsOn old.source new.source × AnswersPiecesBefore old new bytes
 SourceEndsAs old new bytes InputEnded = ReadsToEnd old.source new.source bytes
 SourceEndsAs old new bytes ReadFailed = FailsToRead old.source new.source
 SourceEndsAs old new bytes WriteFailed = ReadsOn old.source new.source × AnswersPiecesBefore old new bytes
 SourceEndsAs old new bytes NoMemory = ReadsOn old.source new.source
-SourceEndsAs old new bytes FrameFault = ReadsOn old.source new.source
+SourceEndsAs old new bytes FrameFault = ReadsOn old.source new.source × AnswersPiecesBefore old new bytes
 SourceEndsAs old new bytes Endless = ReadsOn old.source new.source
 
 -- how `serve` ends: bytes were taken of the source, and the session over them ended so
