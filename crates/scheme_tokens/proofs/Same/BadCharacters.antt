@@ -1,16 +1,16 @@
 -- Where a character that is none stops.
-use Rattle.std.proofs.Common.{◌≡◌, ℕ, zero, suc, ◌<◌, ◌≤◌, ◌+◌, ◌*◌, List, [], ◌∷◌, ◌++◌, Option, Some, None, Result, Ok, Err, Bool, true, false, cond, refl, sym, ap, ◌∙◌, subst, append_assoc, append-nil, arith, ◌⊎◌, inl, inr, ◌==◌, ◌&&◌, ◌||◌}
+use Rattle.std.proofs.Common.{◌≡◌, ℕ, ◌<◌, ◌≤◌, ◌+◌, ◌*◌, List, [], ◌∷◌, ◌++◌, Option, Some, None, Err, Bool, true, false, refl, sym, ap, ◌∙◌, subst, append_assoc, append-nil, arith, inl, inr, ◌==◌, ◌&&◌, ◌||◌}
 use Rattle.std.specs.Prelude.{codes, nat_lt}
 use Rattle.std.specs.List.{list_all, fold}
 use Rattle.std.specs.Char.{to_ascii_lowercase, digit_value}
-use Rattle.std.proofs.lemmas.Bool.{cond-true, cond-false, cond_both, or_cases, or_left, or_right, and_parts, and_from, eqb-true, eq-eqb, false_from_ne_true, lt-ltb, ltb-true, ltb-false, cases_Bool}
+use Rattle.std.proofs.lemmas.Bool.{cond_both, or_cases, or_left, or_right, and_parts, and_from, eqb-true, eq-eqb, lt-ltb, ltb-true}
 use Rattle.std.proofs.lemmas.Bool.Decides.{nat_tests}
 use Rattle.scheme_tokens.specs.Characters.{is_hex_digit, is_scalar, is_delimiter}
-use Rattle.scheme_tokens.specs.Words.{Ends, IsWord, is_inside}
-use Rattle.scheme_tokens.specs.Tokens.{TokenKind, Atomic, Character, hex_value, IsCode, IsCharacter, IsCharacterName, IsToken}
-use Rattle.scheme_tokens.specs.Faults.{Fault, bad_token}
+use Rattle.scheme_tokens.specs.Words.{IsWord, is_inside}
+use Rattle.scheme_tokens.specs.Tokens.{Atomic, Character, hex_value, IsCode, IsCharacter, IsCharacterName}
+use Rattle.scheme_tokens.specs.Faults.{bad_token}
 use Rattle.scheme_tokens.specs.Stopping.{because}
-use Rattle.scheme_tokens.specs.Mirror.Words.{word_of, behind_word, front_of, behind}
+use Rattle.scheme_tokens.specs.Mirror.Words.{word_of, behind_word}
 use Rattle.scheme_tokens.specs.Mirror.Quoted.{hex_scalar}
 use Rattle.scheme_tokens.specs.Mirror.Tokens.{token, hash_token, named, character_of, character, before, behind_hash_slash}
 use Rattle.scheme_tokens.proofs.Fronts.{front-behind}
@@ -18,7 +18,7 @@ use Rattle.scheme_tokens.proofs.Same.Ends.{behind-all, front-all}
 use Rattle.scheme_tokens.proofs.Same.Elements.{scalar_code}
 use Rattle.scheme_tokens.proofs.Same.Words.{NameTold, named_told}
 use Rattle.scheme_tokens.proofs.Same.Tokens.{a_word}
-use Rattle.scheme_tokens.proofs.Same.Scanned.{cons_head, cons_tail, cons_none, list_all_front, list_all_behind, list_all_both, front_more, behind_more, Scanned, scan_from, Goes, Halts, NoHash, Refused}
+use Rattle.scheme_tokens.proofs.Same.Scanned.{cons_head, cons_tail, cons_none, list_all_front, list_all_behind, list_all_both, front_more, behind_more, scan_from, Goes, Halts, Refused}
 use Rattle.scheme_tokens.proofs.Same.BadWords.{OrRefused}
 
 not_both : (b : Bool) → b ≡ true → b ≡ false → ⊥
@@ -65,13 +65,17 @@ code_goes : (d : ℕ) (ds : List ℕ) (b : Bool) → is_scalar (hex_value (d ∷
 code_goes d ds true e h k =
     ([], hex_value (d ∷ ds), subst (λ (q : List ℕ). IsCode q (hex_value (d ∷ ds))) (sym (append-nil (d ∷ ds))) (record { some = cons_none d ds; all = h; value = refl; scalar = e }), refl)
 code_goes d ds false e h k =
-    let n = 16 * hex_value (d ∷ ds) in
-    (48 ∷ [], n, record {
-      some = cons_none d (ds ++ 48 ∷ []);
-      all = list_all_both is_hex_digit (d ∷ ds) (48 ∷ []) h refl;
-      value = value_zero (d ∷ ds);
-      scalar = surrogate_grows (hex_value (d ∷ ds)) e k
-    }, zero_inside)
+    let n = 16 * hex_value (d ∷ ds) in (
+      48 ∷ [],
+      n,
+      record {
+        some = cons_none d (ds ++ 48 ∷ []);
+        all = list_all_both is_hex_digit (d ∷ ds) (48 ∷ []) h refl;
+        value = value_zero (d ∷ ds);
+        scalar = surrogate_grows (hex_value (d ∷ ds)) e k;
+      },
+      zero_inside,
+    )
 
 -- hex digits that a character's code can begin with
 pub digits_go : (digits : List ℕ) → list_all is_hex_digit digits ≡ true → hex_value digits < 0x11_0000 → (more : List ℕ) × (c : ℕ) × IsCode (digits ++ more) c × (list_all is_inside more ≡ true)
@@ -228,8 +232,10 @@ not_viable c w x inside h =
 
 word_halts : (c : ℕ) (w rest : List ℕ) → IsWord w rest → character_of c w ≡ None → Halts (35 ∷ 92 ∷ c ∷ w) rest
 word_halts c w [] word bad = tt
-word_halts c w (r ∷ rs) word bad = λ x. (bad_token,
-    slash_step c (w ++ r ∷ x) ∙ (λ i. before (behind-all is_inside w (r ∷ x) word.0 word.1 i) (character (character_of c (front-all is_inside w (r ∷ x) word.0 word.1 i)))) ∙ no_character (r ∷ x) (character_of c w) bad)
+word_halts c w (r ∷ rs) word bad = λ x. (
+  bad_token,
+  slash_step c (w ++ r ∷ x) ∙ (λ i. before (behind-all is_inside w (r ∷ x) word.0 word.1 i) (character (character_of c (front-all is_inside w (r ∷ x) word.0 word.1 i)))) ∙ no_character (r ∷ x) (character_of c w) bad,
+)
 
 slash_why : (w rest : List ℕ) → bad_token ≡ because (35 ∷ 92 ∷ w) rest
 slash_why w [] = refl
@@ -245,20 +251,23 @@ bad_refused c w rest word bad = elim (scan_from (is_viable c) [] w refl) [
     goes = viable_goes c w v word.0;
     halts = word_halts c w rest word bad;
     why = slash_why (c ∷ w) rest;
-    no_hash = tt
+    no_hash = tt;
   }
   | inr h ↦ (let front = h.0 in
-    let all = ap (list_all is_inside) (sym h.3) ∙ word.0 in
-    record {
-      begun = 35 ∷ 92 ∷ c ∷ front;
-      behind = h.1 ∷ (h.2 ++ rest);
-      whole = ap (λ (q : List ℕ). 35 ∷ 92 ∷ c ∷ (q ++ rest)) h.3 ∙ ap (λ (q : List ℕ). 35 ∷ 92 ∷ c ∷ q) (append_assoc front (h.1 ∷ h.2) rest);
-      goes = viable_goes c front h.4 (list_all_front is_inside front (h.1 ∷ h.2) all);
-      halts = λ x. (bad_token, ap (λ (q : List ℕ). token (35 ∷ 92 ∷ c ∷ q)) (sym (append_assoc front (h.1 ∷ []) x))
-        ∙ not_viable c (front ++ h.1 ∷ []) x (list_all_front is_inside (front ++ h.1 ∷ []) h.2 (ap (list_all is_inside) (append_assoc front (h.1 ∷ []) h.2) ∙ all)) h.5);
-      why = slash_why (c ∷ front) (h.1 ∷ (h.2 ++ rest));
-      no_hash = tt
-    })
+      let all = ap (list_all is_inside) (sym h.3) ∙ word.0 in
+      record {
+        begun = 35 ∷ 92 ∷ c ∷ front;
+        behind = h.1 ∷ (h.2 ++ rest);
+        whole = ap (λ (q : List ℕ). 35 ∷ 92 ∷ c ∷ (q ++ rest)) h.3 ∙ ap (λ (q : List ℕ). 35 ∷ 92 ∷ c ∷ q) (append_assoc front (h.1 ∷ h.2) rest);
+        goes = viable_goes c front h.4 (list_all_front is_inside front (h.1 ∷ h.2) all);
+        halts = λ x. (
+          bad_token,
+          ap (λ (q : List ℕ). token (35 ∷ 92 ∷ c ∷ q)) (sym (append_assoc front (h.1 ∷ []) x))
+              ∙ not_viable c (front ++ h.1 ∷ []) x (list_all_front is_inside (front ++ h.1 ∷ []) h.2 (ap (list_all is_inside) (append_assoc front (h.1 ∷ []) h.2) ∙ all)) h.5,
+        );
+        why = slash_why (c ∷ front) (h.1 ∷ (h.2 ++ rest));
+        no_hash = tt;
+      })
 ]
 
 word_when : (c : ℕ) (w rest : List ℕ) (o : Option ℕ) → IsWord w rest → character_of c w ≡ o → OrRefused (35 ∷ 92 ∷ c ∷ (w ++ rest)) (before rest (character o))
@@ -273,7 +282,7 @@ nothing_refused = record {
   goes = inr (97 ∷ [], Atomic (Character 97), (97, [], refl, IsCharacter.itself 97, (refl, tt)));
   halts = tt;
   why = refl;
-  no_hash = tt
+  no_hash = tt;
 }
 
 pub slash_refused : (cs : List ℕ) → OrRefused (35 ∷ 92 ∷ cs) (behind_hash_slash cs)

@@ -1,13 +1,13 @@
 -- Where a string or a name between bars stops.
-use Rattle.std.proofs.Common.{◌≡◌, ℕ, zero, suc, ◌<◌, ◌≤◌, ◌+◌, List, [], ◌∷◌, ◌++◌, Option, Some, None, Result, Ok, Err, Bool, true, false, cond, refl, sym, ap, ◌∙◌, subst, append_assoc, append-nil, arith, length, ◌⊎◌, inl, inr, ◌==◌, ◌&&◌, ◌||◌}
+use Rattle.std.proofs.Common.{◌≡◌, ℕ, zero, suc, ◌≤◌, List, [], ◌∷◌, ◌++◌, Option, Some, None, Result, Ok, Err, Bool, true, false, cond, refl, sym, ap, ◌∙◌, subst, append_assoc, arith, length, inl, inr, ◌==◌, ◌&&◌, ◌||◌}
 use Rattle.std.specs.Prelude.{nat_lt}
 use Rattle.std.specs.List.{list_all}
 use Rattle.std.specs.Char.{to_ascii_lowercase}
-use Rattle.std.proofs.lemmas.Bool.{cond-true, cond-false, cond_both, or_cases, or_left, or_right, and_parts, and_from, eqb-true, eq-eqb, ltb-true, ltb-false, le-ltb}
+use Rattle.std.proofs.lemmas.Bool.{cond-true, cond-false, cond_both, or_left, and_parts, eqb-true, ltb-true, ltb-false, le-ltb}
 use Rattle.std.proofs.lemmas.Str.{length-le-encodes}
-use Rattle.scheme_tokens.specs.Characters.{is_one_of, is_line_end, is_blank, is_hex_digit, is_scalar}
+use Rattle.scheme_tokens.specs.Characters.{is_line_end, is_blank, is_hex_digit}
 use Rattle.scheme_tokens.specs.Words.{Ends, byte_count}
-use Rattle.scheme_tokens.specs.Tokens.{TokenKind, Atomic, Name, Quoted, IsMnemonic, hex_value, IsCode, IsLineEnd, IsElement, IsElements}
+use Rattle.scheme_tokens.specs.Tokens.{Atomic, Name, Quoted, IsMnemonic, hex_value, IsCode, IsLineEnd, IsElement, IsElements}
 use Rattle.scheme_tokens.specs.Faults.{Fault, bad_token}
 use Rattle.scheme_tokens.specs.Stopping.{because}
 use Rattle.scheme_tokens.specs.Mirror.Words.{front_of, behind}
@@ -18,7 +18,7 @@ use Rattle.scheme_tokens.proofs.QuotedLengths.{Rests, element_rests}
 use Rattle.scheme_tokens.proofs.Same.Ends.{behind-all, front-all, ends-behind, EndsLike, like_first}
 use Rattle.scheme_tokens.proofs.Same.Elements.{OneTold, element_told, scalar_code, element_frame, element_to_mark}
 use Rattle.scheme_tokens.proofs.Same.ElementsRead.{Reads, element_read, escape_step, hex_step, fold_step, elements_step}
-use Rattle.scheme_tokens.proofs.Same.Scanned.{cons_head, cons_tail, cons_none, list_all_front, list_all_behind, list_all_both, front_more, behind_more, Scanned, scan_from, Goes, Halts, Refused}
+use Rattle.scheme_tokens.proofs.Same.Scanned.{cons_head, cons_none, list_all_front, list_all_both, front_more, behind_more, scan_from, Halts}
 use Rattle.scheme_tokens.proofs.Same.BadWords.{OrRefused}
 use Rattle.scheme_tokens.proofs.Same.BadCharacters.{digits_go, value_grows, code_small}
 
@@ -92,9 +92,11 @@ overflow close x front e lower h k y =
     let all = list_all_both is_hex_digit u (front_of is_hex_digit y) h (list_all-front_of is_hex_digit y) in
     let grows = value_grows u (front_of is_hex_digit y) in
     let great = ltb-false (hex_value u) 0x11_0000 k in
-    let err = too_great digits (behind is_hex_digit y) close all (omega (arith, grows, great)) in
-    (err.0, ap (λ (q : List ℕ). escape close (x ∷ q)) (sym same) ∙ hex_step close x (u ++ y) lower
-    ∙ (λ i. hex_end close (front_more is_hex_digit u y h i) (behind_more is_hex_digit u y h i)) ∙ err.1)
+    let err = too_great digits (behind is_hex_digit y) close all (omega (arith, grows, great)) in (
+      err.0,
+      ap (λ (q : List ℕ). escape close (x ∷ q)) (sym same) ∙ hex_step close x (u ++ y) lower
+          ∙ (λ i. hex_end close (front_more is_hex_digit u y h i) (behind_more is_hex_digit u y h i)) ∙ err.1,
+    )
 
 -- where digits can go on, the text ends or a character comes that isn't the next
 small_refused : (close x : ℕ) (digits rest : List ℕ) (f : Fault) → to_ascii_lowercase x ≡ 120 → list_all is_hex_digit digits ≡ true → nat_lt (hex_value digits) 0x11_0000 ≡ true → Stops close f (x ∷ digits) rest → BadEscape close f (x ∷ digits ++ rest)
@@ -107,7 +109,7 @@ small_refused close x digits rest f lower h k halts =
       more = go.0 ++ 59 ∷ close ∷ [];
       meant = go.1 ∷ [];
       goes = digits_goes close x digits go.0 go.1 lower go.2;
-      halts = halts
+      halts = halts;
     }
 
 great_refused : (close x : ℕ) (digits rest front : List ℕ) (e : ℕ) (more : List ℕ) → to_ascii_lowercase x ≡ 120 → list_all is_hex_digit digits ≡ true → digits ≡ front ++ e ∷ more → nat_lt (hex_value front) 0x11_0000 ≡ true → nat_lt (hex_value (front ++ e ∷ [])) 0x11_0000 ≡ false →
@@ -122,7 +124,7 @@ great_refused close x digits rest front e more lower h whole k l =
       more = go.0 ++ 59 ∷ close ∷ [];
       meant = go.1 ∷ [];
       goes = digits_goes close x front go.0 go.1 lower go.2;
-      halts = (refl, overflow close x front e lower (list_all_front is_hex_digit (front ++ e ∷ []) more (ap (list_all is_hex_digit) (append_assoc front (e ∷ []) more) ∙ all)) l)
+      halts = (refl, overflow close x front e lower (list_all_front is_hex_digit (front ++ e ∷ []) more (ap (list_all is_hex_digit) (append_assoc front (e ∷ []) more) ∙ all)) l);
     }
 
 abbrev is_small : List ℕ → Bool
@@ -171,7 +173,7 @@ fold_refused before [] c cs h ends first e = record {
   meant = [];
   goes = subst (λ (q : List ℕ). IsElements 34 (92 ∷ q) []) (append_assoc before (10 ∷ []) (34 ∷ []))
       (IsElements.next (92 ∷ (before ++ (10 ∷ []))) (34 ∷ []) [] [] (IsElement.folded before (10 ∷ []) [] (34 ∷ []) refl h (IsLineEnd.feed (34 ∷ [])) refl refl) IsElements.closed);
-  halts = refl
+  halts = refl;
 }
 fold_refused before (r ∷ rs) c cs h ends first e =
     cond_both (is_line_end r) _ _ (EscapeRefused 34 (before ++ r ∷ rs)) (λ _. tt)
@@ -183,7 +185,7 @@ fold_refused before (r ∷ rs) c cs h ends first e =
       meant = [];
       goes = subst (λ (q : List ℕ). IsElements 34 (92 ∷ q) []) (append_assoc before (10 ∷ []) (34 ∷ []))
           (IsElements.next (92 ∷ (before ++ (10 ∷ []))) (34 ∷ []) [] [] (IsElement.folded before (10 ∷ []) [] (34 ∷ []) refl h (IsLineEnd.feed (34 ∷ [])) refl refl) IsElements.closed);
-      halts = (refl, λ y. (bad_token, fold_halts before r rs c cs y h ends first e ∙ ap (fold_end 34) (behind-all is_blank before (r ∷ y) h ends) ∙ cond-false (is_line_end r) _ _ dark))
+      halts = (refl, λ y. (bad_token, fold_halts before r rs c cs y h ends first e ∙ ap (fold_end 34) (behind-all is_blank before (r ∷ y) h ends) ∙ cond-false (is_line_end r) _ _ dark));
     })
 
 -- ---- one escape
@@ -197,7 +199,7 @@ letter_refused close c cs None e x fold = record {
   more = 92 ∷ close ∷ [];
   meant = 92 ∷ [];
   goes = backslash_goes close;
-  halts = (refl, λ y. (bad_token, letter_step close c y x fold ∙ ap (λ (o : Option ℕ). letter o y) e))
+  halts = (refl, λ y. (bad_token, letter_step close c y x fold ∙ ap (λ (o : Option ℕ). letter o y) e));
 }
 
 fold_at : (close c : ℕ) (cs : List ℕ) → (close == 34 && (is_blank c || is_line_end c)) ≡ true → EscapeRefused close (c ∷ cs) (fold_end close (behind is_blank (c ∷ cs)))
@@ -213,8 +215,8 @@ unfolding escape
 escape_refused close [] = record { bs = []; behind = []; whole = refl; more = 92 ∷ close ∷ []; meant = 92 ∷ []; goes = backslash_goes close; halts = refl }
 escape_refused close (c ∷ cs) =
     cond_both (to_ascii_lowercase c == 120) _ _ (EscapeRefused close (c ∷ cs)) (λ e.
-        subst (λ (q : List ℕ). EscapeRefused close (c ∷ q) (hex_end close (front_of is_hex_digit cs) (behind is_hex_digit cs))) (front-behind is_hex_digit cs)
-        (hex_refused close c (front_of is_hex_digit cs) (behind is_hex_digit cs) (eqb-true (to_ascii_lowercase c) 120 e) (list_all-front_of is_hex_digit cs) (ends-behind is_hex_digit cs)))
+    subst (λ (q : List ℕ). EscapeRefused close (c ∷ q) (hex_end close (front_of is_hex_digit cs) (behind is_hex_digit cs))) (front-behind is_hex_digit cs)
+    (hex_refused close c (front_of is_hex_digit cs) (behind is_hex_digit cs) (eqb-true (to_ascii_lowercase c) 120 e) (list_all-front_of is_hex_digit cs) (ends-behind is_hex_digit cs)))
     (λ x. cond_both (close == 34 && (is_blank c || is_line_end c)) _ _ (EscapeRefused close (c ∷ cs)) (λ e. fold_at close c cs e) (λ e. letter_refused close c cs (escaped c) refl x e))
 
 -- ---- elements
@@ -256,7 +258,7 @@ at_most : (close : ℕ) (bs : List ℕ) (e : ℕ) (x : List ℕ) (most : ℕ) �
 at_most close bs e x zero apart h = (open_at close, none_left close 92 (bs ++ e ∷ x))
 at_most close bs e x (suc most) apart h =
     let step = elements_step most close 92 (bs ++ e ∷ x) ∙ cond-false (92 == close) _ _ apart
-        ∙ ap (λ (r : Result (List ℕ × List ℕ) Fault). r >>= λ first. elements most close first.1 >>= λ more. Ok (first.0 ++ more.0, more.1)) (escape_step close (bs ++ e ∷ x)) in
+    ∙ ap (λ (r : Result (List ℕ × List ℕ) Fault). r >>= λ first. elements most close first.1 >>= λ more. Ok (first.0 ++ more.0, more.1)) (escape_step close (bs ++ e ∷ x)) in
     let err = err_bound (escape close (bs ++ e ∷ x)) (λ first. elements most close first.1 >>= λ more. Ok (first.0 ++ more.0, more.1)) h in
     (err.0, step ∙ err.1)
 
@@ -273,7 +275,7 @@ escape_bad close f cs apart h = record {
   more = h.more;
   meant = h.meant;
   goes = h.goes;
-  halts = escape_halts close f h.bs h.behind apart h.halts
+  halts = escape_halts close f h.bs h.behind apart h.halts;
 }
 
 -- an element, and then what isn't one
@@ -281,7 +283,7 @@ step_err : (most close : ℕ) (one meant behind : List ℕ) → Reads close one 
 step_err zero close one meant behind h err = (open_at close, ap (λ (q : List ℕ). elements zero close (q ++ behind)) h.2 ∙ none_left close h.0 (h.1 ++ behind))
 step_err (suc most) close one meant behind h err =
     let step = ap (λ (q : List ℕ). elements (suc most) close (q ++ behind)) h.2 ∙ elements_step most close h.0 (h.1 ++ behind) ∙ cond-false (h.0 == close) _ _ h.3
-        ∙ ap (λ (r : Result (List ℕ × List ℕ) Fault). r >>= λ first. elements most close first.1 >>= λ more. Ok (first.0 ++ more.0, more.1)) h.4 in
+    ∙ ap (λ (r : Result (List ℕ × List ℕ) Fault). r >>= λ first. elements most close first.1 >>= λ more. Ok (first.0 ++ more.0, more.1)) h.4 in
     let bound = err_bound (elements most close behind) (λ more. Ok (meant ++ more.0, more.1)) (err most) in
     (bound.0, step ∙ bound.1)
 
@@ -311,7 +313,7 @@ then_bad close one meant cs [] f apart e h starts bad =
       more = close ∷ [];
       meant = meant ++ [];
       goes = IsElements.next one (close ∷ []) meant [] (element_to_mark h) IsElements.closed;
-      halts = mark_ends close f bad.begun bad.behind bad.whole bad.halts
+      halts = mark_ends close f bad.begun bad.behind bad.whole bad.halts;
     }
 then_bad close one meant cs (d ∷ ds) f apart e h starts bad =
     let b = bad.starts in
@@ -324,7 +326,7 @@ then_bad close one meant cs (d ∷ ds) f apart e h starts bad =
       meant = meant ++ bad.meant;
       goes = subst (λ (q : List ℕ). IsElements close q (meant ++ bad.meant)) (sym (append_assoc one bad.begun bad.more))
           (IsElements.next one (bad.begun ++ bad.more) meant bad.meant (element_frame h (bad.begun ++ bad.more) (like_begun d ds b.0 bad.begun bad.more b.1)) bad.goes);
-      halts = then_halts close f one meant bad.begun bad.behind (λ x. element_read (element_frame h (bad.begun ++ x) (like_begun d ds b.0 bad.begun x b.1)) apart) bad.halts
+      halts = then_halts close f one meant bad.begun bad.behind (λ x. element_read (element_frame h (bad.begun ++ x) (like_begun d ds b.0 bad.begun x b.1)) apart) bad.halts;
     }
 
 one_starts : (close c : ℕ) (cs : List ℕ) (first : List ℕ × List ℕ) → (92 == close) ≡ false → (told : OneTold close (c ∷ cs) (Ok first)) → StartsAs (c ∷ cs) told.0
@@ -376,7 +378,7 @@ elements_refused zero close (c ∷ cs) apart h = absurd (omega arith)
 elements_refused (suc most) close (c ∷ cs) apart h =
     cond_both (c == close) _ _ (AllRefused close (c ∷ cs)) (λ _. tt)
     (λ e. one_refused most close c cs (element close c cs) apart (element_told close c cs e) (element_rests close c cs) (λ f k. element_bad close c cs f apart k)
-        (λ ds k. elements_refused most close ds apart (omega arith)))
+    (λ ds k. elements_refused most close ds apart (omega arith)))
 
 -- ---- strings and names between bars
 
@@ -424,7 +426,7 @@ string_when cs (Err f) h = record {
   goes = inr (h.more, Atomic (Quoted h.meant), (h.begun ++ h.more, refl, h.goes));
   halts = string_halts f h.begun h.behind h.halts;
   why = string_why f h.begun h.behind h.halts;
-  no_hash = tt
+  no_hash = tt;
 }
 
 bar_when : (cs : List ℕ) (r : Result (List ℕ × List ℕ) Fault) → AllRefused 124 cs r → OrRefused (124 ∷ cs) (r >>= λ found. Ok (Atomic (Name found.0 true), found.1))
@@ -436,7 +438,7 @@ bar_when cs (Err f) h = record {
   goes = inr (h.more, Atomic (Name h.meant true), (h.begun ++ h.more, refl, h.goes));
   halts = bar_halts f h.begun h.behind h.halts;
   why = bar_why f h.begun h.behind h.halts;
-  no_hash = tt
+  no_hash = tt;
 }
 
 pub string_refused : (cs : List ℕ) → OrRefused (34 ∷ cs) (string_token cs)

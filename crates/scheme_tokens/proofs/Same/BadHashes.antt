@@ -1,22 +1,22 @@
 -- Where a word that begins with `#` and is no token stops.
-use Rattle.std.proofs.Common.{◌≡◌, ℕ, List, [], ◌∷◌, ◌++◌, Option, Some, None, Result, Ok, Err, Bool, true, false, cond, refl, sym, ap, ◌∙◌, subst, append_assoc, append-nil, map, ◌⊎◌, inl, inr, ◌==◌, ◌&&◌, ◌||◌}
+use Rattle.std.proofs.Common.{◌≡◌, ℕ, List, [], ◌∷◌, ◌++◌, Option, Some, None, Ok, Err, Bool, true, false, cond, refl, sym, ap, ◌∙◌, subst, append_assoc, append-nil, map, inl, inr, ◌==◌, ◌&&◌, ◌||◌}
 use Rattle.std.specs.Prelude.{codes}
 use Rattle.std.specs.List.{list_all}
 use Rattle.std.specs.Char.{to_ascii_lowercase, is_ascii_digit}
-use Rattle.std.proofs.lemmas.Bool.{cond-true, cond-false, or_cases, or_parts, or_left, or_right, or_from, and_parts, and_from, and_left, and_right, eqb-true, eq-eqb, false_from_ne_true}
+use Rattle.std.proofs.lemmas.Bool.{cond-true, cond-false, or_cases, or_parts, or_left, or_right, and_parts, and_from, and_right, eqb-true, eq-eqb, false_from_ne_true}
 use Rattle.scheme_tokens.specs.Characters.{is_delimiter}
-use Rattle.scheme_tokens.specs.Words.{Ends, IsWord, Spells, is_inside}
-use Rattle.scheme_tokens.specs.Tokens.{TokenKind, BytesParen, Atomic, Numeral, Truth, IsNumeral, IsToken}
-use Rattle.scheme_tokens.specs.Faults.{Fault, bad_token}
-use Rattle.scheme_tokens.specs.Stopping.{because, refused, unended, begins_bar}
-use Rattle.scheme_tokens.specs.Mirror.Words.{word_of, behind_word, front_of, behind, spells, is_numeral}
+use Rattle.scheme_tokens.specs.Words.{IsWord, Spells, is_inside}
+use Rattle.scheme_tokens.specs.Tokens.{TokenKind, BytesParen, Atomic, Numeral, Truth, IsToken}
+use Rattle.scheme_tokens.specs.Faults.{bad_token}
+use Rattle.scheme_tokens.specs.Stopping.{because}
+use Rattle.scheme_tokens.specs.Mirror.Words.{word_of, behind_word, spells, is_numeral}
 use Rattle.scheme_tokens.specs.Mirror.Tokens.{token, hash_kind, hash_word, hash_token, behind_bytes, bytes_or, before}
 use Rattle.scheme_tokens.proofs.Fronts.{front-behind, front_of-cons}
 use Rattle.scheme_tokens.proofs.TokenLaws.{hash_inside}
 use Rattle.scheme_tokens.proofs.Same.Ends.{behind-all, front-all}
 use Rattle.scheme_tokens.proofs.Same.Words.{spells_is, test_numeral}
 use Rattle.scheme_tokens.proofs.Same.Tokens.{a_word, u8_is}
-use Rattle.scheme_tokens.proofs.Same.Scanned.{cons_head, cons_tail, cons_none, list_all_front, list_all_both, front_more, behind_more, Scanned, scan_from, Goes, Halts, NoHash, Refused}
+use Rattle.scheme_tokens.proofs.Same.Scanned.{cons_head, cons_tail, list_all_front, list_all_both, front_more, behind_more, scan_from, Goes, Halts, Refused}
 use Rattle.scheme_tokens.proofs.Same.BadWords.{OrRefused}
 
 not_both : (b : Bool) → b ≡ true → b ≡ false → ⊥
@@ -117,10 +117,14 @@ unfolding is_delimiter
 bytes_inside = refl
 
 bytes_goes : (u more : List ℕ) → Spells (codes "#u8") (u ++ more) → Goes u
-bytes_goes u more h = inr (more ++ 40 ∷ [], BytesParen, elim (u8_is (u ++ more) h) [
-  | inl e ↦ inl (sym (append_assoc u more (40 ∷ [])) ∙ ap (λ (q : List ℕ). q ++ 40 ∷ []) e)
-  | inr e ↦ inr (sym (append_assoc u more (40 ∷ [])) ∙ ap (λ (q : List ℕ). q ++ 40 ∷ []) e)
-])
+bytes_goes u more h = inr (
+  more ++ 40 ∷ [],
+  BytesParen,
+  elim (u8_is (u ++ more) h) [
+    | inl e ↦ inl (sym (append_assoc u more (40 ∷ [])) ∙ ap (λ (q : List ℕ). q ++ 40 ∷ []) e)
+    | inr e ↦ inr (sym (append_assoc u more (40 ∷ [])) ∙ ap (λ (q : List ℕ). q ++ 40 ∷ []) e)
+  ],
+)
 
 viable_goes : (u : List ℕ) → is_viable u ≡ true → list_all is_inside u ≡ true → Goes u
 viable_goes u h i = elim (or_cases (is_front (codes "#true") u) _ h) [
@@ -194,10 +198,12 @@ same_none us r rs x h = none_when (r == 40 && spells (codes "#u8") (35 ∷ us)) 
 
 word_halts : (us rest : List ℕ) → Second us rest → IsWord (35 ∷ us) rest → behind_bytes (35 ∷ us) rest ≡ None → is_good (35 ∷ us) ≡ false → Halts (35 ∷ us) rest
 word_halts us [] second word none bad = tt
-word_halts us (r ∷ rs) second word none bad = λ x. (bad_token,
-    step_of us r rs second x
-    ∙ (λ i. hash_word (front-all is_inside (35 ∷ us) (r ∷ x) word.0 word.1 i) (behind-all is_inside (35 ∷ us) (r ∷ x) word.0 word.1 i))
-    ∙ bad_word (35 ∷ us) (r ∷ x) (same_none us r rs x none) bad)
+word_halts us (r ∷ rs) second word none bad = λ x. (
+  bad_token,
+  step_of us r rs second x
+      ∙ (λ i. hash_word (front-all is_inside (35 ∷ us) (r ∷ x) word.0 word.1 i) (behind-all is_inside (35 ∷ us) (r ∷ x) word.0 word.1 i))
+      ∙ bad_word (35 ∷ us) (r ∷ x) (same_none us r rs x none) bad,
+)
 
 hash_why : (us rest : List ℕ) → Second us rest → bad_token ≡ because (35 ∷ us) rest
 hash_why [] [] second = refl
@@ -225,11 +231,14 @@ split_refused us rest (f ∷ fs) e more second inside whole v bad =
       behind = e ∷ (more ++ rest);
       whole = ap (λ (q : List ℕ). 35 ∷ q ++ rest) tail ∙ append_assoc (35 ∷ fs) (e ∷ more) rest;
       goes = viable_goes (35 ∷ fs) (ap (λ (q : ℕ). is_viable (q ∷ fs)) same ∙ v) (list_all_front is_inside (35 ∷ fs) (e ∷ more) all);
-      halts = λ x. (bad_token, step_of fs e (more ++ rest) here x
-        ∙ ap (λ (q : List ℕ). hash_word (word_of q) (behind_word q)) (sym (append_assoc (35 ∷ fs) (e ∷ []) x))
-        ∙ not_viable (fs ++ e ∷ []) x (list_all_front is_inside (35 ∷ fs ++ e ∷ []) more (ap (list_all is_inside) (append_assoc (35 ∷ fs) (e ∷ []) more) ∙ all)) (ap (λ (q : ℕ). is_viable (q ∷ fs ++ e ∷ [])) same ∙ bad));
+      halts = λ x. (
+        bad_token,
+        step_of fs e (more ++ rest) here x
+            ∙ ap (λ (q : List ℕ). hash_word (word_of q) (behind_word q)) (sym (append_assoc (35 ∷ fs) (e ∷ []) x))
+            ∙ not_viable (fs ++ e ∷ []) x (list_all_front is_inside (35 ∷ fs ++ e ∷ []) more (ap (list_all is_inside) (append_assoc (35 ∷ fs) (e ∷ []) more) ∙ all)) (ap (λ (q : ℕ). is_viable (q ∷ fs ++ e ∷ [])) same ∙ bad),
+      );
       why = hash_why fs (e ∷ (more ++ rest)) here;
-      no_hash = tt
+      no_hash = tt;
     }
 
 -- a bad word is refused
@@ -242,7 +251,7 @@ bad_refused us rest second word none bad = elim (scan_from is_viable [] (35 ∷ 
     goes = viable_goes (35 ∷ us) v word.0;
     halts = word_halts us rest second word none bad;
     why = hash_why us rest second;
-    no_hash = tt
+    no_hash = tt;
   }
   | inr h ↦ split_refused us rest h.0 h.1 h.2 second word.0 h.3 h.4 h.5
 ]

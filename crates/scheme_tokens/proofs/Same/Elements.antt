@@ -1,14 +1,13 @@
 -- What the code reads up to a closing mark is elements, and what they mean.
-use Rattle.std.proofs.Common.{◌≡◌, ℕ, zero, suc, ◌≤◌, ◌<◌, List, [], ◌∷◌, ◌++◌, Option, Some, None, Result, Ok, Err, Bool, true, false, cond, refl, sym, ap, ◌∙◌, subst, append_assoc, append-nil, length, arith, ◌||◌, ◌==◌, ◌&&◌, not, inl, inr}
+use Rattle.std.proofs.Common.{◌≡◌, ℕ, zero, suc, List, [], ◌∷◌, ◌++◌, Option, Some, None, Result, Ok, Err, Bool, true, false, cond, refl, sym, ap, ◌∙◌, subst, append_assoc, ◌||◌, ◌==◌, ◌&&◌, inl, inr}
 use Rattle.std.specs.List.{list_all}
 use Rattle.std.specs.Char.{to_ascii_lowercase}
-use Rattle.std.proofs.lemmas.Bool.{cond-true, cond-false, cond_both, or_cases, or_parts, or_from, or_left, or_right, and_parts, and_from, and_right, eqb-true, eq-eqb, not-true, not_from_false}
-use Rattle.std.proofs.lemmas.List.{length-append}
+use Rattle.std.proofs.lemmas.Bool.{cond-true, cond-false, cond_both, or_cases, or_from, and_parts, eqb-true, not_from_false}
 use Rattle.scheme_tokens.specs.Characters.{is_one_of, is_line_end, is_blank, is_hex_digit, is_scalar}
 use Rattle.scheme_tokens.specs.Words.{Ends}
-use Rattle.scheme_tokens.specs.Tokens.{IsMnemonic, hex_value, IsCode, IsLineEnd, is_plain, IsElement, IsElements}
+use Rattle.scheme_tokens.specs.Tokens.{IsMnemonic, hex_value, IsCode, IsLineEnd, IsElement, IsElements}
 use Rattle.scheme_tokens.specs.Mirror.Words.{front_of, behind}
-use Rattle.scheme_tokens.specs.Mirror.Quoted.{Fault, bad_token, ◌>>=◌, open_at, escaped, letter, hex_scalar, hex_end, behind_line_end, fold_end, escape, element, elements}
+use Rattle.scheme_tokens.specs.Mirror.Quoted.{Fault, ◌>>=◌, escaped, letter, hex_scalar, hex_end, behind_line_end, fold_end, escape, element, elements}
 use Rattle.scheme_tokens.proofs.Fronts.{front-behind, list_all-front_of}
 use Rattle.scheme_tokens.proofs.Same.Ends.{ends-behind, EndsLike, like_front, like_behind}
 
@@ -116,22 +115,23 @@ hex_told : (close x : ℕ) (digits rest cs : List ℕ) → to_ascii_lowercase x 
 hex_told close x digits [] cs lower h e = tt
 hex_told close x digits (c ∷ rest) cs lower h e =
     cond_both (c == 59) _ _ (OneTold close (92 ∷ x ∷ cs)) (λ semicolon.
-        letter_told close (hex_scalar digits) (92 ∷ x ∷ cs) (92 ∷ x ∷ (digits ++ 59 ∷ [])) rest
-        (ap (λ (q : List ℕ). 92 ∷ x ∷ q) (sym e ∙ ap (λ (q : ℕ). digits ++ q ∷ rest) (eqb-true c 59 semicolon) ∙ sym (append_assoc digits (59 ∷ []) rest)))
-        (λ m k. IsElement.code x m digits rest lower (scalar_code digits m h k)))
+    letter_told close (hex_scalar digits) (92 ∷ x ∷ cs) (92 ∷ x ∷ (digits ++ 59 ∷ [])) rest
+    (ap (λ (q : List ℕ). 92 ∷ x ∷ q) (sym e ∙ ap (λ (q : ℕ). digits ++ q ∷ rest) (eqb-true c 59 semicolon) ∙ sym (append_assoc digits (59 ∷ []) rest)))
+    (λ m k. IsElement.code x m digits rest lower (scalar_code digits m h k)))
     (λ _. tt)
 
 fold_told : (close : ℕ) (before rest cs : List ℕ) → close ≡ 34 → list_all is_blank before ≡ true → before ++ rest ≡ cs → OneTold close (92 ∷ cs) (fold_end close rest)
 fold_told close before [] cs str h e = tt
 fold_told close before (c ∷ rest) cs str h e =
     cond_both (is_line_end c) _ _ (OneTold close (92 ∷ cs)) (λ ends.
-        let told = line_end_told c rest ends in
-        let more = behind_line_end c rest in
-        let kept = front-behind is_blank more in
-        (92 ∷ (before ++ (told.0 ++ front_of is_blank more)),
-        ap (λ (q : List ℕ). 92 ∷ q) (sym e ∙ ap (λ (q : List ℕ). before ++ q) (told.1 ∙ ap (λ (q : List ℕ). told.0 ++ q) (sym kept) ∙ sym (append_assoc told.0 (front_of is_blank more) (behind is_blank more)))
-        ∙ sym (append_assoc before (told.0 ++ front_of is_blank more) (behind is_blank more))),
-        IsElement.folded before told.0 (front_of is_blank more) (behind is_blank more) str h (subst (IsLineEnd told.0) (sym kept) told.2) (list_all-front_of is_blank more) (ends-behind is_blank more)))
+    let told = line_end_told c rest ends in
+    let more = behind_line_end c rest in
+    let kept = front-behind is_blank more in (
+      92 ∷ (before ++ (told.0 ++ front_of is_blank more)),
+      ap (λ (q : List ℕ). 92 ∷ q) (sym e ∙ ap (λ (q : List ℕ). before ++ q) (told.1 ∙ ap (λ (q : List ℕ). told.0 ++ q) (sym kept) ∙ sym (append_assoc told.0 (front_of is_blank more) (behind is_blank more)))
+          ∙ sym (append_assoc before (told.0 ++ front_of is_blank more) (behind is_blank more))),
+      IsElement.folded before told.0 (front_of is_blank more) (behind is_blank more) str h (subst (IsLineEnd told.0) (sym kept) told.2) (list_all-front_of is_blank more) (ends-behind is_blank more),
+    ))
     (λ _. tt)
 
 escaped_told : (close c : ℕ) (cs : List ℕ) (o : Option ℕ) → Means c o → OneTold close (92 ∷ c ∷ cs) (letter o cs)
@@ -143,9 +143,9 @@ unfolding escape
 escape_told close [] = tt
 escape_told close (c ∷ cs) =
     cond_both (to_ascii_lowercase c == 120) _ _ (OneTold close (92 ∷ c ∷ cs)) (λ e.
-        hex_told close c (front_of is_hex_digit cs) (behind is_hex_digit cs) cs (eqb-true (to_ascii_lowercase c) 120 e) (list_all-front_of is_hex_digit cs) (front-behind is_hex_digit cs))
+    hex_told close c (front_of is_hex_digit cs) (behind is_hex_digit cs) cs (eqb-true (to_ascii_lowercase c) 120 e) (list_all-front_of is_hex_digit cs) (front-behind is_hex_digit cs))
     (λ _. cond_both (close == 34 && (is_blank c || is_line_end c)) _ _ (OneTold close (92 ∷ c ∷ cs)) (λ e.
-        fold_told close (front_of is_blank (c ∷ cs)) (behind is_blank (c ∷ cs)) (c ∷ cs) (eqb-true close 34 (and_parts (close == 34) (is_blank c || is_line_end c) e).0) (list_all-front_of is_blank (c ∷ cs)) (front-behind is_blank (c ∷ cs)))
+    fold_told close (front_of is_blank (c ∷ cs)) (behind is_blank (c ∷ cs)) (c ∷ cs) (eqb-true close 34 (and_parts (close == 34) (is_blank c || is_line_end c) e).0) (list_all-front_of is_blank (c ∷ cs)) (front-behind is_blank (c ∷ cs)))
     (λ _. escaped_told close c cs (escaped c) (escaped_means c)))
 
 pub element_told : (close c : ℕ) (cs : List ℕ) → (c == close) ≡ false → OneTold close (c ∷ cs) (element close c cs)
@@ -153,9 +153,9 @@ unfolding element
 element_told close c cs apart =
     cond_both (c == 92) _ _ (OneTold close (c ∷ cs)) (λ e. subst (λ (q : ℕ). OneTold close (q ∷ cs) (escape close cs)) (sym (eqb-true c 92 e)) (escape_told close cs))
     (λ plain. cond_both (close == 34 && is_line_end c) _ _ (OneTold close (c ∷ cs)) (λ e.
-        let parts = and_parts (close == 34) (is_line_end c) e in
-        let told = line_end_told c cs parts.1 in
-        (told.0, told.1, IsElement.line_end told.0 (behind_line_end c cs) (eqb-true close 34 parts.0) told.2))
+    let parts = and_parts (close == 34) (is_line_end c) e in
+    let told = line_end_told c cs parts.1 in
+    (told.0, told.1, IsElement.line_end told.0 (behind_line_end c cs) (eqb-true close 34 parts.0) told.2))
     (λ line. (c ∷ [], refl, IsElement.itself c cs (not_from_false (c == close || (c == 92 || (close == 34 && is_line_end c))) (or_from (c == close) _ apart (or_from (c == 92) _ plain line))))))
 
 -- ---- elements

@@ -1,15 +1,15 @@
 -- Elements up to a closing mark are read as what they mean.
-use Rattle.std.proofs.Common.{◌≡◌, ℕ, zero, suc, ◌≤◌, ◌<◌, List, [], ◌∷◌, ◌++◌, Option, Some, None, Result, Ok, Err, Bool, true, false, cond, refl, sym, ap, ◌∙◌, subst, append_assoc, append-nil, length, arith, ◌||◌, ◌==◌, ◌&&◌, not, inl, inr}
+use Rattle.std.proofs.Common.{◌≡◌, ℕ, zero, suc, ◌≤◌, List, [], ◌∷◌, ◌++◌, Option, Result, Ok, Bool, true, false, cond, refl, sym, ap, ◌∙◌, subst, append_assoc, length, arith, ◌||◌, ◌==◌, ◌&&◌, inl, inr}
 use Rattle.std.specs.List.{list_all}
 use Rattle.std.specs.Char.{to_ascii_lowercase}
-use Rattle.std.proofs.lemmas.Bool.{cond-true, cond-false, or_cases, or_parts, or_left, or_right, and_parts, and_from, and_right, eqb-true, eq-eqb, not-true, ne_eqb, eqb-false}
+use Rattle.std.proofs.lemmas.Bool.{cond-true, cond-false, or_cases, or_parts, or_left, or_right, and_parts, and_from, and_right, eqb-true, eq-eqb, not-true}
 use Rattle.std.proofs.lemmas.List.{length-append}
 use Rattle.scheme_tokens.specs.Characters.{is_line_end, is_blank, is_hex_digit}
 use Rattle.scheme_tokens.specs.Words.{Ends}
-use Rattle.scheme_tokens.specs.Tokens.{IsMnemonic, IsCode, IsLineEnd, is_plain, IsElement, IsElements}
+use Rattle.scheme_tokens.specs.Tokens.{IsMnemonic, IsCode, IsLineEnd, IsElement, IsElements}
 use Rattle.scheme_tokens.specs.Mirror.Words.{front_of, behind}
-use Rattle.scheme_tokens.specs.Mirror.Quoted.{Fault, ◌>>=◌, escaped, letter, hex_scalar, hex_end, behind_line_end, fold_end, escape, element, elements}
-use Rattle.scheme_tokens.proofs.Same.Ends.{behind-all, front-all, EndsLike, like_first}
+use Rattle.scheme_tokens.specs.Mirror.Quoted.{Fault, ◌>>=◌, letter, hex_end, behind_line_end, fold_end, escape, element, elements}
+use Rattle.scheme_tokens.proofs.Same.Ends.{behind-all, front-all, like_first}
 use Rattle.scheme_tokens.proofs.Same.Elements.{code_scalar, element_frame}
 
 -- what is read of an element, before more
@@ -107,18 +107,26 @@ element_read {close} (IsElement.itself c rest h) apart =
     let more = or_parts (c == 92) (close == 34 && is_line_end c) parts.1 in
     (c, [], refl, parts.0, plain_step close c rest more.0 more.1)
 element_read {close} (IsElement.letter c m rest h) apart = (92, c ∷ [], refl, apart, escape_step close (c ∷ rest) ∙ mnemonic_read h close rest)
-element_read {close} (IsElement.code x c digits rest lower h) apart =
-    (92, x ∷ (digits ++ 59 ∷ []), refl, apart,
-    escape_step close (x ∷ ((digits ++ 59 ∷ []) ++ rest)) ∙ ap (λ (q : List ℕ). escape close (x ∷ q)) (append_assoc digits (59 ∷ []) rest) ∙ code_read close x c digits rest lower h)
+element_read {close} (IsElement.code x c digits rest lower h) apart = (
+  92,
+  x ∷ (digits ++ 59 ∷ []),
+  refl,
+  apart,
+  escape_step close (x ∷ ((digits ++ 59 ∷ []) ++ rest)) ∙ ap (λ (q : List ℕ). escape close (x ∷ q)) (append_assoc digits (59 ∷ []) rest) ∙ code_read close x c digits rest lower h,
+)
 element_read {close} (IsElement.line_end ending rest str h) apart =
     let ends = line_end_read h in
     (ends.0, ends.1, ends.2, apart_line_end close ends.0 str ends.3, line_end_step close ends.0 (ends.1 ++ rest) str ends.3 ∙ ap (λ (q : List ℕ). Ok (10 ∷ [], q)) ends.4)
 element_read {close} (IsElement.folded before ending blanks rest str h k l m) apart =
-    let ends = line_end_read k in
-    (92, before ++ (ending ++ blanks), refl, apart,
-    escape_step close ((before ++ (ending ++ blanks)) ++ rest) ∙ ap (λ (q : ℕ). escape q ((before ++ (ending ++ blanks)) ++ rest)) str
-    ∙ ap (escape 34) (regroup before ending blanks rest ∙ ap (λ (q : List ℕ). before ++ (q ++ (blanks ++ rest))) ends.2)
-    ∙ fold_read before blanks rest ends.0 ends.1 h ends.3 ends.4 l m)
+    let ends = line_end_read k in (
+      92,
+      before ++ (ending ++ blanks),
+      refl,
+      apart,
+      escape_step close ((before ++ (ending ++ blanks)) ++ rest) ∙ ap (λ (q : ℕ). escape q ((before ++ (ending ++ blanks)) ++ rest)) str
+          ∙ ap (escape 34) (regroup before ending blanks rest ∙ ap (λ (q : List ℕ). before ++ (q ++ (blanks ++ rest))) ends.2)
+          ∙ fold_read before blanks rest ends.0 ends.1 h ends.3 ends.4 l m,
+    )
 
 -- ---- elements
 

@@ -1,10 +1,10 @@
 -- Tokens and space count what follows them by its first character alone.
-use Rattle.std.proofs.Common.{◌≡◌, ℕ, ◌+◌, List, [], ◌∷◌, ◌++◌, Bool, true, false, cond, refl, sym, ap, ◌∙◌, subst, append_assoc, append-nil, arith, ◌==◌, inl, inr}
+use Rattle.std.proofs.Common.{◌≡◌, ℕ, List, [], ◌∷◌, ◌++◌, Bool, true, false, cond, refl, sym, ap, ◌∙◌, subst, append_assoc, ◌==◌}
 use Rattle.std.proofs.lemmas.Bool.{eqb-true, cond-false}
-use Rattle.scheme_tokens.specs.Words.{Ends, IsWord, is_inside, byte_count}
+use Rattle.scheme_tokens.specs.Words.{Ends, IsWord, is_inside}
 use Rattle.scheme_tokens.specs.Gaps.{is_in_line, IsSpace}
 use Rattle.scheme_tokens.specs.Tokens.{TokenKind, Paren, VectorParen, BytesParen, Close, Dot, Skip, Marked, Quote, Quasi, Unquote, Splice, Atomic, Name, Numeral, Quoted, Character, Truth, IsToken}
-use Rattle.scheme_tokens.specs.Reading.{Token, First, IsSpelledFrom, mark_bytes, behind_mark, IsSpelled}
+use Rattle.scheme_tokens.specs.Reading.{Token, First, IsSpelledFrom, mark_bytes, behind_mark}
 use Rattle.scheme_tokens.specs.Stopping.{Begins}
 use Rattle.scheme_tokens.proofs.Same.Ends.{EndsLike, like_behind}
 
@@ -66,7 +66,7 @@ first_frame at t text front rest others first e like =
       space = space_frame first.space (first.glyphs ++ (front ++ others)) (like_behind first.glyphs first.rest (front ++ others) more);
       token = token_frame t.kind first.glyphs first.rest (front ++ others) more first.token;
       starts = first.starts;
-      ends = first.ends
+      ends = first.ends;
     }
 
 pub begins_fronted : (at : ℕ) (ts : List Token) (text : List ℕ) (place : ℕ) (rest : List ℕ) → Begins at ts text place rest → Fronted at ts text place rest
@@ -74,10 +74,11 @@ unfolding first_frame
 begins_fronted at [] text place rest h = ([], sym h.1, λ others like. (h.0, refl))
 begins_fronted at (t ∷ ts) text place rest h =
     let first = h.0 in
-    let more = begins_fronted t.end ts first.rest place rest h.1 in
-    (first.gap ++ (first.glyphs ++ more.0),
-    first.whole ∙ ap (λ (q : List ℕ). first.gap ++ (first.glyphs ++ q)) more.1 ∙ sym (regroup first.gap first.glyphs more.0 rest),
-    λ others like. (first_frame at t text more.0 rest others first more.1 like, more.2 others like))
+    let more = begins_fronted t.end ts first.rest place rest h.1 in (
+      first.gap ++ (first.glyphs ++ more.0),
+      first.whole ∙ ap (λ (q : List ℕ). first.gap ++ (first.glyphs ++ q)) more.1 ∙ sym (regroup first.gap first.glyphs more.0 rest),
+      λ others like. (first_frame at t text more.0 rest others first more.1 like, more.2 others like),
+    )
 
 pub begins_spelled : (at : ℕ) (ts us : List Token) (text : List ℕ) (place : ℕ) (rest : List ℕ) → Begins at ts text place rest → IsSpelledFrom place us rest → IsSpelledFrom at (ts ++ us) text
 begins_spelled at [] us text place rest h k = subst (λ (q : List ℕ). IsSpelledFrom at us q) h.1 (subst (λ (n : ℕ). IsSpelledFrom n us rest) h.0 k)

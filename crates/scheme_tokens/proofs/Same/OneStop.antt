@@ -1,12 +1,12 @@
 -- A text stops in one way, and there the code stops reading.
-use Rattle.std.proofs.Common.{◌≡◌, ℕ, ◌+◌, ◌≤◌, List, [], ◌∷◌, ◌++◌, length, Option, Some, None, Result, Ok, Err, Bool, true, false, cond, refl, sym, ap, ◌∙◌, subst, append_assoc, append-nil, arith, ◌==◌, ◌&&◌, ◌||◌, ◌⊎◌, inl, inr}
+use Rattle.std.proofs.Common.{◌≡◌, ℕ, ◌+◌, ◌≤◌, List, [], ◌∷◌, ◌++◌, length, Some, None, Result, Ok, Err, true, false, refl, sym, ap, ◌∙◌, subst, append_assoc, append-nil, arith, ◌==◌, ◌⊎◌, inl, inr}
 use Rattle.std.specs.Prelude.{codes}
 use Rattle.std.specs.List.{list_all}
 use Rattle.std.specs.Char.{is_whitespace}
 use Rattle.scheme_tokens.specs.Characters.{is_delimiter}
-use Rattle.std.proofs.lemmas.Bool.{false_from_ne_true, and_parts, eqb-true, or_left, or_right}
+use Rattle.std.proofs.lemmas.Bool.{false_from_ne_true, and_parts, eqb-true}
 use Rattle.std.proofs.lemmas.List.{append_cancel_right, append_cancel_left, length-append}
-use Rattle.scheme_tokens.specs.Words.{Ends, IsWord, is_inside, byte_count}
+use Rattle.scheme_tokens.specs.Words.{Ends, is_inside, byte_count}
 use Rattle.scheme_tokens.specs.Gaps.{is_mark, IsNested, IsSpace}
 use Rattle.scheme_tokens.specs.Tokens.{TokenKind, Atomic, Truth, IsToken}
 use Rattle.scheme_tokens.specs.Reading.{Token, First, IsSpelledFrom, mark_bytes, behind_mark, IsSpelled}
@@ -21,12 +21,12 @@ use Rattle.scheme_tokens.proofs.TokenLengths.{token_rests}
 use Rattle.scheme_tokens.proofs.QuotedLengths.{Rests}
 use Rattle.scheme_tokens.proofs.Same.Ends.{front-all, EndsLike, like_nothing, like_first, like_behind}
 use Rattle.scheme_tokens.proofs.Same.Gaps.{space_passed}
-use Rattle.scheme_tokens.proofs.Same.GapsFound.{Passed, Dark, dark_gap, target, Told, gap_told}
+use Rattle.scheme_tokens.proofs.Same.GapsFound.{Dark, dark_gap, target, Told, gap_told}
 use Rattle.scheme_tokens.proofs.Same.TokensRead.{token_read}
 use Rattle.scheme_tokens.proofs.Same.Reading.{no_token, none_token, token_here, comment_no_token, not_white, not_semicolon, not_opening, first_next, NextTold, next_told, mark_counted}
 use Rattle.scheme_tokens.proofs.Same.Scanned.{cons_head, cons_tail, cons_none, two_fronts}
 use Rattle.scheme_tokens.proofs.Same.Frames.{space_frame, space_joined, token_frame, begins_fronted, begins_spelled, mark_split}
-use Rattle.scheme_tokens.proofs.Same.Stops.{regroup, like_text, like_same, one_token, comment_space, StopTold, next_stop, begins_reads, read_stops}
+use Rattle.scheme_tokens.proofs.Same.Stops.{regroup, like_text, like_same, one_token, comment_space, begins_reads, read_stops}
 
 -- ---- nested comments
 
@@ -149,9 +149,11 @@ nothing_dark : (behind : List ℕ) → NoSpace [] behind → NoToken [] behind �
 nothing_dark [] space token = tt
 nothing_dark (c ∷ []) space token =
     (false_from_ne_true (is_whitespace c) (λ e. space c [] [] refl (IsSpace.white c [] [] e (IsSpace.none []))), false_from_ne_true (c == 59) (λ e. space c [] [] refl (semicolon_space c e)))
-nothing_dark (c ∷ d ∷ ds) space token =
-    (false_from_ne_true (is_whitespace c) (λ e. space c (d ∷ ds) [] refl (IsSpace.white c [] [] e (IsSpace.none []))), false_from_ne_true (c == 59) (λ e. space c (d ∷ ds) [] refl (semicolon_space c e)),
-    false_from_ne_true (opens c d) (λ e. token c (d ∷ ds) (116 ∷ []) (Atomic (Truth true)) refl (hash_token c (and_parts (c == 35) (d == 124) e).0)))
+nothing_dark (c ∷ d ∷ ds) space token = (
+  false_from_ne_true (is_whitespace c) (λ e. space c (d ∷ ds) [] refl (IsSpace.white c [] [] e (IsSpace.none []))),
+  false_from_ne_true (c == 59) (λ e. space c (d ∷ ds) [] refl (semicolon_space c e)),
+  false_from_ne_true (opens c d) (λ e. token c (d ∷ ds) (116 ∷ []) (Atomic (Truth true)) refl (hash_token c (and_parts (c == 35) (d == 124) e).0)),
+)
 
 opened : (b c : ℕ) → opens b c ≡ true → IsSpace (b ∷ c ∷ 124 ∷ 35 ∷ []) []
 opened b c e =
@@ -288,9 +290,12 @@ module _ (text : List ℕ) (ts : List Token) (f : FaultAt) (stop : IsStop ts f t
   refused_so : (c : ℕ) (cs more : List ℕ) (us : List Token) → stop.behind ≡ c ∷ cs → EndsLike (stop.begun ++ c ∷ cs) (stop.begun ++ c ∷ more) → IsSpelledFrom stop.place us (stop.gap ++ (stop.begun ++ c ∷ more)) → ⊥
   unfolding last
   refused_so c cs more us e like h =
-      no_longer stop.before stop.behind cs c [] stop.stops e
-      (more, ts ++ us, subst (IsSpelled (ts ++ us)) (sym (append_assoc stop.before (c ∷ []) more))
-      (spelled_so (c ∷ more) us (λ p q. like_behind stop.gap (stop.begun ++ c ∷ cs) (stop.begun ++ c ∷ more) like p (subst (λ (r : List ℕ). Ends p (stop.gap ++ (stop.begun ++ r))) e q)) h))
+      no_longer stop.before stop.behind cs c [] stop.stops e (
+        more,
+        ts ++ us,
+        subst (IsSpelled (ts ++ us)) (sym (append_assoc stop.before (c ∷ []) more))
+            (spelled_so (c ∷ more) us (λ p q. like_behind stop.gap (stop.begun ++ c ∷ cs) (stop.begun ++ c ∷ more) like p (subst (λ (r : List ℕ). Ends p (stop.gap ++ (stop.begun ++ r))) e q)) h),
+      )
 
   space_at : (c : ℕ) (cs : List ℕ) → stop.behind ≡ c ∷ cs → IsSpace stop.gap (stop.begun ++ c ∷ cs)
   space_at c cs e = subst (λ (q : List ℕ). IsSpace stop.gap (stop.begun ++ q)) e stop.space

@@ -1,15 +1,15 @@
 -- The code reads a text as tokens exactly where the text is these tokens with intertoken space.
-use Rattle.std.proofs.Common.{◌≡◌, ℕ, zero, suc, ◌+◌, ◌-◌, ◌≤◌, ◌<◌, List, [], ◌∷◌, ◌++◌, Option, Some, None, Result, Ok, Err, Bool, true, false, cond, refl, sym, ap, ◌∙◌, subst, append_assoc, append-nil, length, arith, ◌||◌, ◌==◌, ◌&&◌}
+use Rattle.std.proofs.Common.{◌≡◌, ℕ, ◌+◌, List, [], ◌∷◌, ◌++◌, Some, None, Result, Ok, Err, Bool, true, false, cond, refl, sym, ap, ◌∙◌, subst, append-nil, arith, ◌==◌}
 use Rattle.std.specs.Char.{is_whitespace, len_utf8}
-use Rattle.std.proofs.lemmas.Bool.{cond-false, cond-true, cases_Bool, and_parts, or_left, or_right, eqb-true, false_from_ne_true}
+use Rattle.std.proofs.lemmas.Bool.{cond-false, and_parts, or_left, eqb-true, false_from_ne_true}
 use Rattle.std.proofs.lemmas.List.Sums.{sum_by-append, sum_by-cons}
 use Rattle.scheme_tokens.specs.Characters.{is_delimiter}
 use Rattle.scheme_tokens.specs.Words.{byte_count, is_inside}
 use Rattle.scheme_tokens.specs.Gaps.{IsSpace}
 use Rattle.scheme_tokens.specs.Tokens.{TokenKind, Atomic, Name, IsToken}
 use Rattle.scheme_tokens.specs.Reading.{Token, First, IsSpelledFrom, mark_bytes, behind_mark, IsSpelled, IsIdentifier}
-use Rattle.scheme_tokens.specs.Faults.{Fault, FaultAt}
-use Rattle.scheme_tokens.specs.Mirror.Words.{word_of, behind_word, front_of, behind, is_numeral, is_identifier}
+use Rattle.scheme_tokens.specs.Faults.{Fault}
+use Rattle.scheme_tokens.specs.Mirror.Words.{word_of, behind_word, is_numeral}
 use Rattle.scheme_tokens.specs.Mirror.Gaps.{between, behind_gap, opens}
 use Rattle.scheme_tokens.specs.Mirror.Tokens.{token, word_token, word_kind, hash_token, hash_kind, before}
 use Rattle.scheme_tokens.specs.Mirror.Reading as mirror
@@ -102,17 +102,20 @@ rest_count at size text front glyphs rest gap e w v =
     omega (arith, e, sum, whole, more, part)
 
 token_next : (at size : ℕ) (text front gap : List ℕ) (r : Result (TokenKind × List ℕ) Fault) → at + byte_count text ≡ size → text ≡ gap ++ front → IsSpace gap front → tokens.Told front r → NextTold at size text (next_token size front r)
-token_next at size text front gap (Ok t) e w s told =
-    (record {
-      gap = gap;
-      glyphs = told.0;
-      rest = t.1;
-      whole = w ∙ ap (λ (q : List ℕ). gap ++ q) told.1;
-      space = subst (IsSpace gap) told.1 s;
-      token = told.2;
-      starts = two_counts at size text front gap e w;
-      ends = end_count at size text front told.0 t.1 gap e w told.1
-    }, refl, rest_count at size text front told.0 t.1 gap e w told.1)
+token_next at size text front gap (Ok t) e w s told = (
+  record {
+    gap = gap;
+    glyphs = told.0;
+    rest = t.1;
+    whole = w ∙ ap (λ (q : List ℕ). gap ++ q) told.1;
+    space = subst (IsSpace gap) told.1 s;
+    token = told.2;
+    starts = two_counts at size text front gap e w;
+    ends = end_count at size text front told.0 t.1 gap e w told.1;
+  },
+  refl,
+  rest_count at size text front told.0 t.1 gap e w told.1,
+)
 token_next at size text front gap (Err f) e w s told = tt
 
 front_next : (at size : ℕ) (text front gap : List ℕ) → at + byte_count text ≡ size → text ≡ gap ++ front → IsSpace gap front → NextTold at size text (at_front size front)
@@ -144,11 +147,12 @@ pub first_next : (at size : ℕ) (t : Token) (text : List ℕ) → at + byte_cou
 first_next at size t text e first =
     let front = first.glyphs ++ first.rest in
     let start = two_counts at size text front first.gap e first.whole in
-    let stop = end_count at size text front first.glyphs first.rest first.gap e first.whole refl in
-    (next_read size text first.gap front (t.kind, first.rest) first.whole first.space (token_read t.kind first.glyphs first.rest first.token)
-    ∙ (λ i. found (record { kind = t.kind; start = (start ∙ sym first.starts) i; end = (stop ∙ ap (λ (n : ℕ). n + byte_count first.glyphs) (start ∙ sym first.starts) ∙ sym first.ends) i }) first.rest),
-    ap (λ (n : ℕ). n + byte_count first.rest) (first.ends ∙ ap (λ (n : ℕ). n + byte_count first.glyphs) (first.starts ∙ sym start) ∙ sym stop)
-    ∙ rest_count at size text front first.glyphs first.rest first.gap e first.whole refl)
+    let stop = end_count at size text front first.glyphs first.rest first.gap e first.whole refl in (
+      next_read size text first.gap front (t.kind, first.rest) first.whole first.space (token_read t.kind first.glyphs first.rest first.token)
+          ∙ (λ i. found (record { kind = t.kind; start = (start ∙ sym first.starts) i; end = (stop ∙ ap (λ (n : ℕ). n + byte_count first.glyphs) (start ∙ sym first.starts) ∙ sym first.ends) i }) first.rest),
+      ap (λ (n : ℕ). n + byte_count first.rest) (first.ends ∙ ap (λ (n : ℕ). n + byte_count first.glyphs) (first.starts ∙ sym start) ∙ sym stop)
+          ∙ rest_count at size text front first.glyphs first.rest first.gap e first.whole refl,
+    )
 
 pub space_next : (size : ℕ) (text : List ℕ) → IsSpace text [] → next size text ≡ ended None
 unfolding next

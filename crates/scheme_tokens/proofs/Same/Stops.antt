@@ -1,13 +1,13 @@
 -- Where the code stops reading the text stops, for this reason.
-use Rattle.std.proofs.Common.{◌≡◌, ℕ, ◌+◌, ◌-◌, List, [], ◌∷◌, ◌++◌, Option, Some, None, Result, Ok, Err, Bool, true, false, cond, refl, sym, ap, ◌∙◌, subst, append_assoc, append-nil, drop, arith, ◌==◌, ◌&&◌, ◌⊎◌, inl, inr}
-use Rattle.std.specs.Char.{is_ascii_digit, is_whitespace}
+use Rattle.std.proofs.Common.{◌≡◌, ℕ, ◌+◌, List, [], ◌∷◌, ◌++◌, Option, Some, None, Result, Ok, Err, Bool, false, cond, refl, sym, ap, ◌∙◌, subst, append_assoc, append-nil, drop, ◌==◌, ◌&&◌, inl, inr}
+use Rattle.std.specs.Char.{is_ascii_digit}
 use Rattle.std.proofs.lemmas.Bool.{cond_both, cond-false, and_left, and_right}
-use Rattle.scheme_tokens.specs.Words.{Ends, IsWord, byte_count}
+use Rattle.scheme_tokens.specs.Words.{Ends, byte_count}
 use Rattle.scheme_tokens.specs.Gaps.{IsNested, IsSpace}
 use Rattle.scheme_tokens.specs.Tokens.{TokenKind, IsToken}
-use Rattle.scheme_tokens.specs.Reading.{Token, First, IsSpelledFrom, mark_bytes, behind_mark, IsSpelled}
+use Rattle.scheme_tokens.specs.Reading.{Token, IsSpelledFrom, mark_bytes, behind_mark, IsSpelled}
 use Rattle.scheme_tokens.specs.Faults.{Fault, bad_token, open_string, open_bar, open_comment, label, directive, FaultAt}
-use Rattle.scheme_tokens.specs.Stopping.{CanGoOn, StopsBetween, Begins, IsBegun, unended, refused, begins_bar, because, IsShown, IsStop}
+use Rattle.scheme_tokens.specs.Stopping.{CanGoOn, StopsBetween, Begins, IsBegun, unended, refused, because, IsShown, IsStop}
 use Rattle.scheme_tokens.specs.Mirror.Words.{word_of, behind_word}
 use Rattle.scheme_tokens.specs.Mirror.Gaps.{between, behind_gap}
 use Rattle.scheme_tokens.specs.Mirror.Tokens.{token}
@@ -24,7 +24,7 @@ use Rattle.scheme_tokens.proofs.Same.Reading.{no_token, two_counts, end_count, n
 use Rattle.scheme_tokens.proofs.Same.Scanned.{cons_none, cons_tail, Goes, Halts, NoHash, Refused}
 use Rattle.scheme_tokens.proofs.Same.BadWords.{OrRefused}
 use Rattle.scheme_tokens.proofs.Same.BadTokens.{token_refused}
-use Rattle.scheme_tokens.proofs.Same.Frames.{space_frame, space_joined, token_frame, Fronted, begins_fronted, begins_spelled, mark_split}
+use Rattle.scheme_tokens.proofs.Same.Frames.{space_frame, space_joined, begins_fronted, begins_spelled, mark_split}
 
 -- ---- where no token is read behind space
 
@@ -135,7 +135,7 @@ comment_halted at size last gap start cs e w s o h =
       more = more;
       like = λ p q. like_behind gap (begun ++ []) (begun ++ more) (like_first 35 (124 ∷ (cs ++ [])) (124 ∷ (cs ++ more))) p (subst (Ends p) whole q);
       goes = λ place. ([], space_joined (space_frame space (begun ++ more) (like_first 35 (124 ∷ (cs ++ [])) (124 ∷ (cs ++ more)))) (begun ++ more) [] (sym (append-nil (begun ++ more))) (comment_space (cs ++ more) nested));
-      halts = tt
+      halts = tt;
     }
 
 -- ---- a token that is refused
@@ -178,17 +178,22 @@ GoesOn last gap begun = (more : List ℕ) × EndsLike last (gap ++ (begun ++ mor
 
 pub one_token : (gap glyphs : List ℕ) (k : TokenKind) → IsSpace gap glyphs → IsToken k glyphs [] → (place : ℕ) → (us : List Token) × IsSpelledFrom place us (gap ++ glyphs)
 one_token gap glyphs k s t place =
-    let tok : Token = record { kind = k; start = place + byte_count gap; end = (place + byte_count gap) + byte_count glyphs } in
-    (tok ∷ [], (record {
-      gap = gap;
-      glyphs = glyphs;
-      rest = [];
-      whole = ap (λ (q : List ℕ). gap ++ q) (sym (append-nil glyphs));
-      space = subst (IsSpace gap) (sym (append-nil glyphs)) s;
-      token = t;
-      starts = refl;
-      ends = refl
-    }, IsSpace.none []))
+    let tok : Token = record { kind = k; start = place + byte_count gap; end = (place + byte_count gap) + byte_count glyphs } in (
+      tok ∷ [],
+      (
+        record {
+          gap = gap;
+          glyphs = glyphs;
+          rest = [];
+          whole = ap (λ (q : List ℕ). gap ++ q) (sym (append-nil glyphs));
+          space = subst (IsSpace gap) (sym (append-nil glyphs)) s;
+          token = t;
+          starts = refl;
+          ends = refl;
+        },
+        IsSpace.none [],
+      ),
+    )
 
 goes_on : (last gap begun behind : List ℕ) → last ≡ gap ++ (begun ++ behind) → IsSpace gap (begun ++ behind) → Goes begun → GoesOn last gap begun
 goes_on last gap [] behind w s h =
@@ -228,7 +233,7 @@ refused_halted at size last gap c cs f e w s dark err r =
       more = on.0;
       like = on.1;
       goes = on.2;
-      halts = halts_behind gap r.begun r.behind space (subst Dark r.whole dark) r.no_hash r.halts
+      halts = halts_behind gap r.begun r.behind space (subst Dark r.whole dark) r.no_hash r.halts;
     }
 
 -- ---- what comes next, where it is a stop
@@ -325,9 +330,12 @@ module _ (text : List ℕ) (ts : List Token) (f : FaultAt) (at : ℕ) (last : Li
       let others = halted.gap ++ (halted.begun ++ halted.more) in
       let us = halted.goes at in
       let marked = same_mark others halted.like in
-      let spelled = begins_spelled (mark_bytes text) ts us.0 (front ++ others) at others (begins_so others halted.like) us.1 in
-      (halted.more, ts ++ us.0, subst (IsSpelled (ts ++ us.0)) (sym (regroup mark front halted.gap halted.begun halted.more))
-      (subst (λ (q : List ℕ). IsSpelledFrom (mark_bytes (mark ++ (front ++ others))) (ts ++ us.0) q) (sym marked.1) (subst (λ (n : ℕ). IsSpelledFrom n (ts ++ us.0) (front ++ others)) (sym marked.0) spelled)))
+      let spelled = begins_spelled (mark_bytes text) ts us.0 (front ++ others) at others (begins_so others halted.like) us.1 in (
+        halted.more,
+        ts ++ us.0,
+        subst (IsSpelled (ts ++ us.0)) (sym (regroup mark front halted.gap halted.begun halted.more))
+            (subst (λ (q : List ℕ). IsSpelledFrom (mark_bytes (mark ++ (front ++ others))) (ts ++ us.0) q) (sym marked.1) (subst (λ (n : ℕ). IsSpelledFrom n (ts ++ us.0) (front ++ others)) (sym marked.0) spelled)),
+      )
 
   -- no text that stops before more characters is spelled
   not_spelled : (others : List ℕ) → EndsLike last others → ((size : ℕ) → (g : FaultAt) × (next size others ≡ ended (Some g))) → (us : List Token) → IsSpelled us (mark ++ (front ++ others)) → ⊥
@@ -337,7 +345,7 @@ module _ (text : List ℕ) (ts : List Token) (f : FaultAt) (at : ℕ) (last : Li
       let stop = stops size in
       let spelled = subst (λ (n : ℕ). IsSpelledFrom n us (front ++ others)) marked.0 (subst (λ (q : List ℕ). IsSpelledFrom (mark_bytes (mark ++ (front ++ others))) us q) marked.1 h) in
       let one = one_reading_from size us ts None (Some stop.0) (front ++ others) (spelled_reads (mark_bytes text) size us (front ++ others) refl spelled)
-          (begins_reads (mark_bytes text) size ts (Some stop.0) (front ++ others) at others refl (begins_so others like) stop.1) in
+      (begins_reads (mark_bytes text) size ts (Some stop.0) (front ++ others) at others refl (begins_so others like) stop.1) in
       none_some stop.0 one.1
 
   not_text : (us : List Token) → IsSpelled us text → ⊥
@@ -346,12 +354,15 @@ module _ (text : List ℕ) (ts : List Token) (f : FaultAt) (at : ℕ) (last : Li
   stops_when : (gap begun behind : List ℕ) → halted.gap ≡ gap → halted.begun ≡ begun → last ≡ gap ++ (begun ++ behind) → text ≡ (mark ++ (front ++ (gap ++ begun))) ++ behind → HaltsBehind gap begun behind → CanGoOn (mark ++ (front ++ (gap ++ begun))) →
       StopsBetween (mark ++ (front ++ (gap ++ begun))) behind
   stops_when gap begun [] e k w all h can = (can, λ us spelled. not_text us (subst (IsSpelled us) (sym (all ∙ append-nil (mark ++ (front ++ (gap ++ begun))))) spelled))
-  stops_when gap begun (c ∷ cs) e k w all h can = (can, λ on.
-      let x = on.0 in
-      let others = gap ++ (begun ++ c ∷ x) in
-      let like = λ (p : ℕ → Bool) (q : Ends p last). like_behind gap (begun ++ c ∷ cs) (begun ++ c ∷ x) (like_same begun c cs x) p (subst (Ends p) w q) in
-      let same = append_assoc (mark ++ (front ++ (gap ++ begun))) (c ∷ []) x ∙ regroup mark front gap begun (c ∷ x) in
-      not_spelled others like (h x) on.1 (subst (IsSpelled on.1) same on.2))
+  stops_when gap begun (c ∷ cs) e k w all h can = (
+    can,
+    λ on.
+        let x = on.0 in
+        let others = gap ++ (begun ++ c ∷ x) in
+        let like = λ (p : ℕ → Bool) (q : Ends p last). like_behind gap (begun ++ c ∷ cs) (begun ++ c ∷ x) (like_same begun c cs x) p (subst (Ends p) w q) in
+        let same = append_assoc (mark ++ (front ++ (gap ++ begun))) (c ∷ []) x ∙ regroup mark front gap begun (c ∷ x) in
+        not_spelled others like (h x) on.1 (subst (IsSpelled on.1) same on.2),
+  )
 
   pub is_stop : IsStop ts f text
   unfolding before
@@ -372,7 +383,7 @@ module _ (text : List ℕ) (ts : List Token) (f : FaultAt) (at : ℕ) (last : Li
     rest = halted.rest;
     split = halted.split;
     shows = halted.shows;
-    ends = halted.ends
+    ends = halted.ends;
   }
 
 -- where the code stops reading, the text stops
