@@ -1,5 +1,5 @@
 -- One text of each kind of token, and one for each fault: the definitions say of them what a reader expects.
-use Rattle.std.proofs.Common.{◌≡◌, ℕ, List, [], ◌∷◌, true, false, refl, Some, None}
+use Rattle.std.proofs.Common.{ℕ, [], ◌∷◌, true, false, refl}
 use Rattle.std.specs.Prelude.{codes}
 use Rattle.scheme_tokens.specs.Characters.{is_delimiter, is_initial, is_subsequent}
 use Rattle.scheme_tokens.specs.Tokens.{TokenKind, Paren, VectorParen, BytesParen, Close, Dot, Skip, Marked, Quote, Quasi, Unquote, Splice, Atomic, Name, Numeral, Quoted, Character, Truth}

@@ -1,5 +1,5 @@
 -- Where the reading of a text stops (R7RS 7.1.1): at the first character with which no tokens can go on, or at the end.
-use Rattle.std.specs.Prelude.{◌≡◌, ℕ, ◌+◌, Bool, true, false, ◌&&◌, ◌==◌, List, [], ◌∷◌, ◌++◌, Option, Some, None, if◌then◌else◌}
+use Rattle.std.specs.Prelude.{◌≡◌, ℕ, ◌+◌, Bool, false, ◌&&◌, ◌==◌, List, [], ◌∷◌, ◌++◌, Option, Some, None, if◌then◌else◌}
 use Rattle.std.specs.Char.{is_ascii_digit}
 use Rattle.scheme_tokens.specs.Words.{byte_count, IsWord}
 use Rattle.scheme_tokens.specs.Gaps.{IsNested, IsSpace}

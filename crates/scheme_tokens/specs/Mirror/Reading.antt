@@ -1,6 +1,6 @@
 -- How a text is read as tokens, with gaps before, between and behind them (R7RS 7.1.1). A text is a list of characters;
 -- places in it count bytes.
-use Rattle.std.specs.Prelude.{◌≡◌, ℕ, ◌-◌, ◌==◌, Bool, List, [], ◌∷◌, Option, Some, None, Result, Ok, Err, drop, if◌then◌else◌}
+use Rattle.std.specs.Prelude.{◌≡◌, ℕ, ◌-◌, Bool, List, [], ◌∷◌, Option, Some, None, Result, Ok, Err, drop}
 use Rattle.scheme_tokens.specs.Mirror.Words.{byte_count, behind_word}
 use Rattle.scheme_tokens.specs.Mirror.Quoted.{Fault, bad_token, open_string, open_bar, open_comment, label, directive}
 use Rattle.scheme_tokens.specs.Mirror.Gaps.{between, behind_gap}
