@@ -1,7 +1,7 @@
 -- What was read: the data of a text, and the parts of what was read.
 use Rattle.std.proofs.Common.{◌≡◌, ℕ, zero, suc, ◌≤◌, List, [], ◌∷◌, Some, slice_get, refl, sym, subst, inl, inr}
 use Rattle.ls_base.specs.Limits.{max_text}
-use Rattle.scheme_tokens.specs.Words.{byte_count}
+use Rattle.scheme_tokens.specs.Lexical.{byte_count}
 use Rattle.scheme_model.specs.Data.{Datum, atom, list, vector, bytes, Data, none, part, tail, row}
 use Rattle.datum_reader.specs.Texts.{IsReading}
 use Rattle.datum_reader.specs.Right.{IsIn, IsAmong, WasRead}

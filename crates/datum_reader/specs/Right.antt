@@ -2,7 +2,7 @@
 use Rattle.std.specs.Prelude.{◌≡◌, ◌⊎◌, ℕ, ◌+◌, ◌≤◌, max, Bool, true, false, List}
 use Rattle.ls_base.specs.Limits.{max_text, max_tree_nodes, max_tree_depth}
 use Rattle.scheme_model.specs.Kinds.{TokenKind, Paren, VectorParen, BytesParen, Close, Dot, Skip, Marked, Atomic}
-use Rattle.scheme_tokens.specs.Words.{byte_count}
+use Rattle.scheme_tokens.specs.Lexical.{byte_count}
 use Rattle.scheme_model.specs.Data.{Datum, atom, list, vector, bytes, Data, none, part, tail, row}
 use Rattle.datum_reader.specs.Texts.{IsReading}
 

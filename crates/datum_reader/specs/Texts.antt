@@ -1,8 +1,8 @@
 -- Texts, by the tokens that scheme_tokens tells of them: their data, and where they stop.
 use Rattle.std.specs.Prelude.{◌≡◌, ℕ, List, map, Option}
 use Rattle.std.specs.Option.{option_map}
-use Rattle.scheme_tokens.specs.Tokens as told
-use Rattle.scheme_tokens.specs.Reading as texts
+use Rattle.scheme_tokens.specs.Lexical as told
+use Rattle.scheme_tokens.specs.Lexical as texts
 use Rattle.scheme_tokens.specs.Faults as faulty
 use Rattle.scheme_tokens.specs.Stopping as stopping
 use Rattle.scheme_tokens.specs.Views.{number_of}

@@ -1,7 +1,7 @@
 //! Laws of reading (R7RS 7.1.2).
 ghost use Rattle.std.specs.Prelude.{◌≡◌, ◌⊎◌, ◌≤◌, List, ℕ, Option, Some, slice_get};
 ghost use Rattle.ls_base.specs.Limits.{max_text};
-ghost use Rattle.scheme_tokens.specs.Words.{byte_count};
+ghost use Rattle.scheme_tokens.specs.Lexical.{byte_count};
 ghost use Rattle.scheme_model.specs.Kinds.{Token};
 ghost use Rattle.scheme_model.specs.Data.{Datum};
 ghost use Rattle.scheme_model.specs.Faults.{Stop};

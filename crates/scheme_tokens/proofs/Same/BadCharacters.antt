@@ -5,9 +5,7 @@ use Rattle.std.specs.List.{list_all, fold}
 use Rattle.std.specs.Char.{to_ascii_lowercase, digit_value}
 use Rattle.std.proofs.lemmas.Bool.{cond_both, or_cases, or_left, or_right, and_parts, and_from, eqb-true, eq-eqb, lt-ltb, ltb-true}
 use Rattle.std.proofs.lemmas.Bool.Decides.{nat_tests}
-use Rattle.scheme_tokens.specs.Characters.{is_hex_digit, is_scalar, is_delimiter}
-use Rattle.scheme_tokens.specs.Words.{IsWord, is_inside}
-use Rattle.scheme_tokens.specs.Tokens.{Atomic, Character, hex_value, IsCode, IsCharacter, IsCharacterName}
+use Rattle.scheme_tokens.specs.Lexical.{is_hex_digit, is_scalar, is_delimiter, IsWord, is_inside, Atomic, Character, hex_value, IsCode, IsCharacter, IsCharacterName}
 use Rattle.scheme_tokens.specs.Faults.{bad_token}
 use Rattle.scheme_tokens.specs.Stopping.{because}
 use Rattle.scheme_tokens.specs.Mirror.Words.{word_of, behind_word}

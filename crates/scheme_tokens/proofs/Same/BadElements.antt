@@ -5,9 +5,7 @@ use Rattle.std.specs.List.{list_all}
 use Rattle.std.specs.Char.{to_ascii_lowercase}
 use Rattle.std.proofs.lemmas.Bool.{cond-true, cond-false, cond_both, or_left, and_parts, eqb-true, ltb-true, ltb-false, le-ltb}
 use Rattle.std.proofs.lemmas.Str.{length-le-encodes}
-use Rattle.scheme_tokens.specs.Characters.{is_line_end, is_blank, is_hex_digit}
-use Rattle.scheme_tokens.specs.Words.{Ends, byte_count}
-use Rattle.scheme_tokens.specs.Tokens.{Atomic, Name, Quoted, IsMnemonic, hex_value, IsCode, IsLineEnd, IsElement, IsElements}
+use Rattle.scheme_tokens.specs.Lexical.{is_line_end, is_blank, is_hex_digit, Ends, byte_count, Atomic, Name, Quoted, IsMnemonic, hex_value, IsCode, IsLineEnd, IsElement, IsElements}
 use Rattle.scheme_tokens.specs.Faults.{Fault, bad_token}
 use Rattle.scheme_tokens.specs.Stopping.{because}
 use Rattle.scheme_tokens.specs.Mirror.Words.{front_of, behind}

@@ -4,9 +4,7 @@ use Rattle.std.specs.Prelude.{codes}
 use Rattle.std.specs.List.{list_all}
 use Rattle.std.specs.Char.{to_ascii_lowercase, is_ascii_digit}
 use Rattle.std.proofs.lemmas.Bool.{cond-true, cond-false, or_cases, or_parts, or_left, or_right, and_parts, and_from, and_right, eqb-true, eq-eqb, false_from_ne_true}
-use Rattle.scheme_tokens.specs.Characters.{is_delimiter}
-use Rattle.scheme_tokens.specs.Words.{IsWord, Spells, is_inside}
-use Rattle.scheme_tokens.specs.Tokens.{TokenKind, BytesParen, Atomic, Numeral, Truth, IsToken}
+use Rattle.scheme_tokens.specs.Lexical.{is_delimiter, IsWord, Spells, is_inside, TokenKind, BytesParen, Atomic, Numeral, Truth, IsToken}
 use Rattle.scheme_tokens.specs.Faults.{bad_token}
 use Rattle.scheme_tokens.specs.Stopping.{because}
 use Rattle.scheme_tokens.specs.Mirror.Words.{word_of, behind_word, spells, is_numeral}

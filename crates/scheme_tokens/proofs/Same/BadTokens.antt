@@ -2,11 +2,9 @@
 use Rattle.std.proofs.Common.{◌≡◌, ℕ, List, [], ◌∷◌, Result, Err, true, false, refl, sym, ◌∙◌, subst, inl, inr, ◌==◌}
 use Rattle.std.specs.Char.{is_ascii_digit, is_whitespace}
 use Rattle.std.proofs.lemmas.Bool.{cond-true, cond-false, cond_both, eqb-true}
-use Rattle.scheme_tokens.specs.Tokens.{TokenKind, Atomic, Truth}
+use Rattle.scheme_tokens.specs.Lexical.{TokenKind, Atomic, Truth, is_delimiter, is_inside}
 use Rattle.std.specs.Prelude.{codes}
 use Rattle.std.specs.List.{list_all}
-use Rattle.scheme_tokens.specs.Characters.{is_delimiter}
-use Rattle.scheme_tokens.specs.Words.{is_inside}
 use Rattle.scheme_tokens.specs.Faults.{Fault, bad_token, label, directive}
 use Rattle.scheme_tokens.specs.Mirror.Tokens.{token, hash_token, unquote_token, string_token, bar_token, behind_hash_slash}
 use Rattle.scheme_tokens.proofs.Same.Words.{is_no}

@@ -4,9 +4,7 @@ use Rattle.std.specs.Prelude.{codes, nat_lt}
 use Rattle.std.specs.List.{list_all}
 use Rattle.std.specs.Char.{to_ascii_lowercase, is_ascii_digit, is_whitespace}
 use Rattle.std.proofs.lemmas.Bool.{cond-false, cond_both, or_cases, or_parts, or_left, or_right, or_from, and_parts, and_from, and_left, false_from_ne_true}
-use Rattle.scheme_tokens.specs.Characters.{is_one_of, is_sign, is_initial, is_subsequent, is_sign_subsequent, is_dot_subsequent, is_delimiter}
-use Rattle.scheme_tokens.specs.Words.{Ends, IsWord, Spells, is_inside}
-use Rattle.scheme_tokens.specs.Tokens.{TokenKind, Dot, Atomic, Name, Numeral, IsBare, IsNumeral, IsToken}
+use Rattle.scheme_tokens.specs.Lexical.{is_one_of, is_sign, is_initial, is_subsequent, is_sign_subsequent, is_dot_subsequent, is_delimiter, Ends, IsWord, Spells, is_inside, TokenKind, Dot, Atomic, Name, Numeral, IsBare, IsNumeral, IsToken}
 use Rattle.scheme_tokens.specs.Faults.{Fault, bad_token}
 use Rattle.scheme_tokens.specs.Stopping.{because, refused, begins_bar}
 use Rattle.scheme_tokens.specs.Mirror.Words.{word_of, behind_word, is_text, is_numeral, is_identifier}

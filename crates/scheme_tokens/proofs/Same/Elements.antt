@@ -3,9 +3,7 @@ use Rattle.std.proofs.Common.{◌≡◌, ℕ, zero, suc, List, [], ◌∷◌, �
 use Rattle.std.specs.List.{list_all}
 use Rattle.std.specs.Char.{to_ascii_lowercase}
 use Rattle.std.proofs.lemmas.Bool.{cond-true, cond-false, cond_both, or_cases, or_from, and_parts, eqb-true, not_from_false}
-use Rattle.scheme_tokens.specs.Characters.{is_one_of, is_line_end, is_blank, is_hex_digit, is_scalar}
-use Rattle.scheme_tokens.specs.Words.{Ends}
-use Rattle.scheme_tokens.specs.Tokens.{IsMnemonic, hex_value, IsCode, IsLineEnd, IsElement, IsElements}
+use Rattle.scheme_tokens.specs.Lexical.{is_one_of, is_line_end, is_blank, is_hex_digit, is_scalar, Ends, IsMnemonic, hex_value, IsCode, IsLineEnd, IsElement, IsElements}
 use Rattle.scheme_tokens.specs.Mirror.Words.{front_of, behind}
 use Rattle.scheme_tokens.specs.Mirror.Quoted.{Fault, ◌>>=◌, escaped, letter, hex_scalar, hex_end, behind_line_end, fold_end, escape, element, elements}
 use Rattle.scheme_tokens.proofs.Fronts.{front-behind, list_all-front_of}

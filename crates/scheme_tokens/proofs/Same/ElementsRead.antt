@@ -4,9 +4,7 @@ use Rattle.std.specs.List.{list_all}
 use Rattle.std.specs.Char.{to_ascii_lowercase}
 use Rattle.std.proofs.lemmas.Bool.{cond-true, cond-false, or_cases, or_parts, or_left, or_right, and_parts, and_from, and_right, eqb-true, eq-eqb, not-true}
 use Rattle.std.proofs.lemmas.List.{length-append}
-use Rattle.scheme_tokens.specs.Characters.{is_line_end, is_blank, is_hex_digit}
-use Rattle.scheme_tokens.specs.Words.{Ends}
-use Rattle.scheme_tokens.specs.Tokens.{IsMnemonic, IsCode, IsLineEnd, IsElement, IsElements}
+use Rattle.scheme_tokens.specs.Lexical.{is_line_end, is_blank, is_hex_digit, Ends, IsMnemonic, IsCode, IsLineEnd, IsElement, IsElements}
 use Rattle.scheme_tokens.specs.Mirror.Words.{front_of, behind}
 use Rattle.scheme_tokens.specs.Mirror.Quoted.{Fault, ◌>>=◌, letter, hex_end, behind_line_end, fold_end, escape, element, elements}
 use Rattle.scheme_tokens.proofs.Same.Ends.{behind-all, front-all, like_first}

@@ -3,9 +3,7 @@ use Rattle.std.proofs.Common.{◌≡◌, ℕ, suc, List, [], ◌∷◌, ◌++◌
 use Rattle.std.specs.List.{list_all}
 use Rattle.std.specs.Char.{is_whitespace}
 use Rattle.std.proofs.lemmas.Bool.{cond-true, cond-false, or_cases, or_parts, and_parts, not-true, not-false, eqb-true}
-use Rattle.scheme_tokens.specs.Characters.{is_line_end}
-use Rattle.scheme_tokens.specs.Words.{Ends}
-use Rattle.scheme_tokens.specs.Gaps.{IsNested, closed, plain, inner, is_in_line, IsSpace, none, white, line, nested}
+use Rattle.scheme_tokens.specs.Lexical.{is_line_end, Ends, IsNested, closed, plain, inner, is_in_line, IsSpace, none, white, line, nested}
 use Rattle.scheme_tokens.specs.Mirror.Gaps as mirror
 use Rattle.scheme_tokens.specs.Mirror.Gaps.{Within, between, block, opens, closes, behind_gap}
 use Rattle.scheme_tokens.proofs.GapLaws.{line_none, between_none, after_closing, block_step, line_step, white_step, comment_step, nested_step}

@@ -3,13 +3,9 @@ use Rattle.std.proofs.Common.{◌≡◌, ℕ, ◌+◌, ◌≤◌, List, [], ◌�
 use Rattle.std.specs.Prelude.{codes}
 use Rattle.std.specs.List.{list_all}
 use Rattle.std.specs.Char.{is_whitespace}
-use Rattle.scheme_tokens.specs.Characters.{is_delimiter}
+use Rattle.scheme_tokens.specs.Lexical.{is_delimiter, Ends, is_inside, byte_count, is_mark, IsNested, IsSpace, TokenKind, Atomic, Truth, IsToken, Token, First, IsSpelledFrom, mark_bytes, behind_mark, IsSpelled}
 use Rattle.std.proofs.lemmas.Bool.{false_from_ne_true, and_parts, eqb-true}
 use Rattle.std.proofs.lemmas.List.{append_cancel_right, append_cancel_left, length-append}
-use Rattle.scheme_tokens.specs.Words.{Ends, is_inside, byte_count}
-use Rattle.scheme_tokens.specs.Gaps.{is_mark, IsNested, IsSpace}
-use Rattle.scheme_tokens.specs.Tokens.{TokenKind, Atomic, Truth, IsToken}
-use Rattle.scheme_tokens.specs.Reading.{Token, First, IsSpelledFrom, mark_bytes, behind_mark, IsSpelled}
 use Rattle.scheme_tokens.specs.Faults.{Fault, bad_token, open_string, open_bar, open_comment, label, directive, FaultAt}
 use Rattle.scheme_tokens.specs.Stopping.{CanGoOn, StopsBetween, Begins, IsBegun, because, RunsOn, IsShown, IsStop}
 use Rattle.scheme_tokens.specs.Mirror.Words.{front_of}

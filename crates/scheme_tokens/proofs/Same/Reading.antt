@@ -3,11 +3,7 @@ use Rattle.std.proofs.Common.{◌≡◌, ℕ, ◌+◌, List, [], ◌∷◌, ◌+
 use Rattle.std.specs.Char.{is_whitespace, len_utf8}
 use Rattle.std.proofs.lemmas.Bool.{cond-false, and_parts, or_left, eqb-true, false_from_ne_true}
 use Rattle.std.proofs.lemmas.List.Sums.{sum_by-append, sum_by-cons}
-use Rattle.scheme_tokens.specs.Characters.{is_delimiter}
-use Rattle.scheme_tokens.specs.Words.{byte_count, is_inside}
-use Rattle.scheme_tokens.specs.Gaps.{IsSpace}
-use Rattle.scheme_tokens.specs.Tokens.{TokenKind, Atomic, Name, IsToken}
-use Rattle.scheme_tokens.specs.Reading.{Token, First, IsSpelledFrom, mark_bytes, behind_mark, IsSpelled, IsIdentifier}
+use Rattle.scheme_tokens.specs.Lexical.{is_delimiter, byte_count, is_inside, IsSpace, TokenKind, Atomic, Name, IsToken, Token, First, IsSpelledFrom, mark_bytes, behind_mark, IsSpelled, IsIdentifier}
 use Rattle.scheme_tokens.specs.Faults.{Fault}
 use Rattle.scheme_tokens.specs.Mirror.Words.{word_of, behind_word, is_numeral}
 use Rattle.scheme_tokens.specs.Mirror.Gaps.{between, behind_gap, opens}

@@ -2,7 +2,7 @@
 use Rattle.std.proofs.Common.{◌≡◌, ℕ, List, [], ◌∷◌, ◌++◌, Bool, true, false, Err, refl, sym, ap, ◌∙◌, subst, append_assoc, append-nil, ◌⊎◌, inl, inr, ◌==◌}
 use Rattle.std.specs.List.{list_all}
 use Rattle.std.proofs.lemmas.Bool.{cond-true, and_parts, and_from}
-use Rattle.scheme_tokens.specs.Tokens.{TokenKind, IsToken}
+use Rattle.scheme_tokens.specs.Lexical.{TokenKind, IsToken}
 use Rattle.scheme_tokens.specs.Faults.{Fault}
 use Rattle.scheme_tokens.specs.Stopping.{because}
 use Rattle.scheme_tokens.specs.Mirror.Words.{front_of, behind}

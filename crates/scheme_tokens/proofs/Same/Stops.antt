@@ -2,10 +2,7 @@
 use Rattle.std.proofs.Common.{◌≡◌, ℕ, ◌+◌, List, [], ◌∷◌, ◌++◌, Option, Some, None, Result, Ok, Err, Bool, false, cond, refl, sym, ap, ◌∙◌, subst, append_assoc, append-nil, drop, ◌==◌, ◌&&◌, inl, inr}
 use Rattle.std.specs.Char.{is_ascii_digit}
 use Rattle.std.proofs.lemmas.Bool.{cond_both, cond-false, and_left, and_right}
-use Rattle.scheme_tokens.specs.Words.{Ends, byte_count}
-use Rattle.scheme_tokens.specs.Gaps.{IsNested, IsSpace}
-use Rattle.scheme_tokens.specs.Tokens.{TokenKind, IsToken}
-use Rattle.scheme_tokens.specs.Reading.{Token, IsSpelledFrom, mark_bytes, behind_mark, IsSpelled}
+use Rattle.scheme_tokens.specs.Lexical.{Ends, byte_count, IsNested, IsSpace, TokenKind, IsToken, Token, IsSpelledFrom, mark_bytes, behind_mark, IsSpelled, is_inside}
 use Rattle.scheme_tokens.specs.Faults.{Fault, bad_token, open_string, open_bar, open_comment, label, directive, FaultAt}
 use Rattle.scheme_tokens.specs.Stopping.{CanGoOn, StopsBetween, Begins, IsBegun, unended, refused, because, IsShown, IsStop}
 use Rattle.scheme_tokens.specs.Mirror.Words.{word_of, behind_word}
@@ -16,7 +13,6 @@ use Rattle.scheme_tokens.proofs.OneReading.{one_reading_from}
 use Rattle.scheme_tokens.proofs.Same.Ends.{EndsLike, like_nothing, like_first, like_behind}
 use Rattle.scheme_tokens.proofs.Same.Gaps.{space_passed}
 use Rattle.scheme_tokens.proofs.Same.GapsFound.{Passed, IsOpen, Dark, dark_gap, Ended, gap_told}
-use Rattle.scheme_tokens.specs.Words.{is_inside}
 use Rattle.scheme_tokens.proofs.Fronts.{front-behind}
 use Rattle.scheme_tokens.proofs.Same.Tokens.{a_word}
 use Rattle.scheme_tokens.proofs.Same.TokensRead.{token_read}

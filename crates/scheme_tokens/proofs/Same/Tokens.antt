@@ -4,9 +4,7 @@ use Rattle.std.specs.Prelude.{codes, nat_lt}
 use Rattle.std.specs.List.{list_all}
 use Rattle.std.specs.Char.{to_ascii_lowercase, is_ascii_digit}
 use Rattle.std.proofs.lemmas.Bool.{cond_both, or_cases, and_parts, eqb-true, ltb-false}
-use Rattle.scheme_tokens.specs.Characters.{is_hex_digit}
-use Rattle.scheme_tokens.specs.Words.{IsWord, Spells, is_inside, byte_count}
-use Rattle.scheme_tokens.specs.Tokens.{TokenKind, Paren, BytesParen, Close, Marked, Quote, Quasi, Atomic, Name, Quoted, IsCharacter, IsToken}
+use Rattle.scheme_tokens.specs.Lexical.{is_hex_digit, IsWord, Spells, is_inside, byte_count, TokenKind, Paren, BytesParen, Close, Marked, Quote, Quasi, Atomic, Name, Quoted, IsCharacter, IsToken}
 use Rattle.scheme_tokens.specs.Mirror.Words.{word_of, behind_word, is_text, spells, is_numeral, is_identifier}
 use Rattle.scheme_tokens.specs.Mirror.Quoted.{Fault, ◌>>=◌, hex_scalar, quoted}
 use Rattle.scheme_tokens.specs.Mirror.Tokens.{word_kind, hash_kind, named, character_of, character, before, behind_hash_slash, bytes_or, hash_word, hash_token, unquote_token, string_token, bar_token, word_token, token}

@@ -7,9 +7,7 @@ use Rattle.std.proofs.lemmas.Bool.{cond-true, cond-false, or_cases, or_from, or_
 use Rattle.std.proofs.lemmas.Bool.Decides.{nat_tests}
 use Rattle.std.proofs.lemmas.List.{length-append}
 use Rattle.std.proofs.lemmas.Str.{length-le-encodes}
-use Rattle.scheme_tokens.specs.Characters.{is_one_of, is_hex_digit, is_delimiter, is_sign, is_initial}
-use Rattle.scheme_tokens.specs.Words.{Ends, IsWord, Spells, is_inside, byte_count}
-use Rattle.scheme_tokens.specs.Tokens.{TokenKind, Paren, VectorParen, BytesParen, Close, Dot, Skip, Marked, Quote, Quasi, Unquote, Splice, Atomic, Name, Numeral, Quoted, Character, Truth, IsBare, IsNumeral, IsCode, IsCharacter, IsCharacterName, IsElements, IsTruth, IsToken}
+use Rattle.scheme_tokens.specs.Lexical.{is_one_of, is_hex_digit, is_delimiter, is_sign, is_initial, Ends, IsWord, Spells, is_inside, byte_count, TokenKind, Paren, VectorParen, BytesParen, Close, Dot, Skip, Marked, Quote, Quasi, Unquote, Splice, Atomic, Name, Numeral, Quoted, Character, Truth, IsBare, IsNumeral, IsCode, IsCharacter, IsCharacterName, IsElements, IsTruth, IsToken}
 use Rattle.scheme_tokens.specs.Mirror.Words.{word_of, behind_word, spells, is_numeral, is_identifier}
 use Rattle.scheme_tokens.specs.Mirror.Quoted.{Fault, ◌>>=◌}
 use Rattle.scheme_tokens.specs.Mirror.Tokens.{word_kind, hash_kind, named, character_of, character, before, behind_bytes, bytes_or, hash_word, hash_token, string_token, bar_token, word_token, token}

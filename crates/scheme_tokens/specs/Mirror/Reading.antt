@@ -5,7 +5,7 @@ use Rattle.scheme_tokens.specs.Mirror.Words.{byte_count, behind_word}
 use Rattle.scheme_tokens.specs.Mirror.Quoted.{Fault, bad_token, open_string, open_bar, open_comment, label, directive}
 use Rattle.scheme_tokens.specs.Mirror.Gaps.{between, behind_gap}
 use Rattle.scheme_tokens.specs.Mirror.Tokens.{TokenKind, Atomic, Name, token}
-pub use Rattle.scheme_tokens.specs.Reading.{Token, behind_mark}
+pub use Rattle.scheme_tokens.specs.Lexical.{Token, behind_mark}
 pub use Rattle.scheme_tokens.specs.Faults.{FaultAt}
 
 -- where the rest of a text of so many bytes begins
