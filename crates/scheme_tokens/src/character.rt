@@ -27,7 +27,7 @@ impl Class {
 }
 
 /// What ends a word: white space, a quotation mark, a bar, a parenthesis, a semicolon.
-#[tactic(auto, unfolding(crate::specs::Characters::is_delimiter))]
+#[tactic(auto, unfolding(crate::specs::Lexical::is_delimiter))]
 pub fn is_delimiter(c: char) -> bool
     ensures { result ≡ is_delimiter c }
 {
@@ -136,7 +136,7 @@ fn may_follow(category: GeneralCategory) -> bool
 }
 
 /// What an identifier may begin with.
-#[tactic(auto, unfolding(crate::specs::Characters::is_initial))]
+#[tactic(auto, unfolding(crate::specs::Lexical::is_initial))]
 pub fn is_initial(c: char) -> bool
     ensures { result ≡ is_initial c }
 {
@@ -162,7 +162,7 @@ pub fn is_initial(c: char) -> bool
 }
 
 /// What an identifier may go on with.
-#[tactic(auto, unfolding(crate::specs::Characters::is_subsequent))]
+#[tactic(auto, unfolding(crate::specs::Lexical::is_subsequent))]
 pub fn is_subsequent(c: char) -> bool
     ensures { result ≡ is_subsequent c }
 {
