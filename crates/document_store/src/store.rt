@@ -2,6 +2,7 @@
 ghost use Rattle.std.specs.Prelude.{◌≡◌, ◌≢◌, ◌≤◌, length, slice_get, if◌then◌else◌, IfSome, IfErr, OnErr, IsErrOf};
 ghost use Rattle.std.specs.Option.{option_map};
 ghost use Rattle.std.specs.FinMap.{empty, keys, len, remove};
+ghost use Rattle.ls_base.specs.Limits.{max_documents, max_text};
 ghost use Rattle.document_store.specs.Texts as texts;
 ghost use Rattle.document_store.specs.Texts.{added, after, closed, has_room, is_open, text_at, version_at};
 ghost use Rattle.document_store.specs.Faults.{Follows};
