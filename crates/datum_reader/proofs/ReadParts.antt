@@ -1,7 +1,7 @@
 -- What was read: the data of a text, and the parts of what was read.
 use Rattle.std.proofs.Common.{◌≡◌, ℕ, zero, suc, ◌≤◌, List, [], ◌∷◌, Some, slice_get, refl, sym, subst, inl, inr}
-use Rattle.ls_base.specs.declared.limits.TheConstants.{MAX_TEXT}
-use Rattle.scheme_tokens.specs.Words.{byte_count}
+use Rattle.ls_base.specs.Limits.{max_text}
+use Rattle.scheme_tokens.specs.Lexical.{byte_count}
 use Rattle.scheme_model.specs.Data.{Datum, atom, list, vector, bytes, Data, none, part, tail, row}
 use Rattle.datum_reader.specs.Texts.{IsReading}
 use Rattle.datum_reader.specs.Right.{IsIn, IsAmong, WasRead}
@@ -32,7 +32,7 @@ among_at [] n d h = let never : ⊥ = cc in absurd never
 among_at (e ∷ ds) zero d h = let same : e ≡ d = cc in inl (subst (λ (q : Datum). IsIn d q) (sym same) (in_self d))
 among_at (e ∷ ds) (suc n) d h = inr (among_at ds n d h)
 
-pub datum_was_read : (text : List ℕ) (ds : List Datum) (n : ℕ) (d : Datum) → byte_count text ≤ MAX_TEXT → IsReading text ds → slice_get ds n ≡ Some d → WasRead d
+pub datum_was_read : (text : List ℕ) (ds : List Datum) (n : ℕ) (d : Datum) → byte_count text ≤ max_text → IsReading text ds → slice_get ds n ≡ Some d → WasRead d
 datum_was_read text ds n d fits h at = record { text = text; all = ds; fits = fits; reading = h; among = among_at ds n d at }
 
 pub part_was_read : (d e : Datum) → IsIn d e → WasRead e → WasRead d

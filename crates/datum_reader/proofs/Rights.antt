@@ -1,7 +1,7 @@
 -- What is read from a text of at most 1,048,576 bytes is what a tree can be made of.
 use Rattle.std.proofs.Common.{ℕ, ◌+◌, ◌*◌, ◌≤◌, length, List, refl, sym, ap, subst, arith, inl, inr}
 use Rattle.datum_reader.proofs.Seen.{few_seen}
-use Rattle.scheme_tokens.specs.Words.{byte_count}
+use Rattle.scheme_tokens.specs.Lexical.{byte_count}
 use Rattle.scheme_model.specs.Data.{Datum, atom, list, vector, bytes, Data, none, part, tail, row, tail_of}
 use Rattle.scheme_model.specs.Written.{Written, alone, listed, tailed, vectored, byted, abbreviated, Parts, last, next, meant, parts_meant, parts_depth}
 use Rattle.datum_reader.specs.Right.{IsIn, IsAmong, WasRead, IsRight, AreRight, datum_size, data_size, datum_depth, data_depth, CanSeed}

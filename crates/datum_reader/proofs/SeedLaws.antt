@@ -6,7 +6,7 @@ use Rattle.std.specs.List.{join_with_byte}
 use Rattle.std.specs.Option.{option_map}
 use Rattle.std.specs.Str.{chars, IsUtf8, encode_utf8_all}
 use Rattle.std.specs.declared.alloc.Global.{Global}
-use Rattle.ls_base.specs.declared.limits.TheConstants.{MAX_TEXT, MAX_TREE_NODES, MAX_TREE_DEPTH}
+use Rattle.ls_base.specs.Limits.{max_text, max_tree_nodes, max_tree_depth}
 use Rattle.std.proofs.lemmas.Option.{slice_get-map}
 use Rattle.scheme_model.specs.declared.Occ.{Occ}
 use Rattle.scheme_model.specs.Trees.{Bytes, Tree, atom as atom_of, list as list_of, vector as vector_of, tree, placed_in}
@@ -140,8 +140,8 @@ all_cons P x xs p q (suc k) d lt = q k d (omega arith)
 -- trees can be made of these data
 record CanSeedAll (ds : Data) : Type 0 where
   right : AreRight ds
-  small : data_size ds ≤ MAX_TREE_NODES
-  shallow : data_depth ds ≤ MAX_TREE_DEPTH
+  small : data_size ds ≤ max_tree_nodes
+  shallow : data_depth ds ≤ max_tree_depth
 
 parts_can : (ds : List code.Datum) (end : Data) → CanSeedAll (row (data_of ds) end) → All CanBeSeeded ds
 parts_can [] end h = λ k d lt. absurd (omega arith)
@@ -177,10 +177,10 @@ module _ (unit form first : ℕ) where
   end-row [] (Some d) = refl
   end-row (d ∷ ds) end = end-row ds end
 
-  pub small_tree : (d : code.Datum) → CanBeSeeded d → tree_size (part_tree unit form first d) ≤ MAX_TREE_NODES
+  pub small_tree : (d : code.Datum) → CanBeSeeded d → tree_size (part_tree unit form first d) ≤ max_tree_nodes
   small_tree d h = omega (arith, size_fits unit (placed_in unit form first) (datum_of d), h.small)
 
-  pub shallow_tree : (d : code.Datum) → CanBeSeeded d → tree_depth (part_tree unit form first d) ≤ MAX_TREE_DEPTH
+  pub shallow_tree : (d : code.Datum) → CanBeSeeded d → tree_depth (part_tree unit form first d) ≤ max_tree_depth
   shallow_tree d h = omega (arith, depth_fits unit (placed_in unit form first) (datum_of d), h.shallow)
 
   -- what the parts of a list are, and its tree
@@ -246,7 +246,7 @@ module _ (unit form first : ℕ) where
 -- ---- what may be seeded
 
 -- the data that are read from a text of at most 1,048,576 bytes
-pub item_was_read : (text : List ℕ) (items : List code.Datum) (n : ℕ) (d : code.Datum) → IsUtf8 text → length text ≤ MAX_TEXT → IsReading (chars text) (data_of items) → slice_get items n ≡ Some d →
+pub item_was_read : (text : List ℕ) (items : List code.Datum) (n : ℕ) (d : code.Datum) → IsUtf8 text → length text ≤ max_text → IsReading (chars text) (data_of items) → slice_get items n ≡ Some d →
     WasRead (datum_of d)
 item_was_read text items n d utf8 fits reading at =
     datum_was_read (chars text) (data_of items) n (datum_of d) (omega (arith, byte_count-chars text utf8, fits)) reading (slice_get-map datum_of items n ∙ ap (option_map datum_of) at)

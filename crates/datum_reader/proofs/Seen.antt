@@ -1,8 +1,8 @@
 -- Tokens as data see them are those that scheme_tokens tells.
 use Rattle.std.proofs.Common.{◌≡◌, ℕ, suc, ◌≤◌, length, List, [], ◌∷◌, map, Option, Some, None, refl, sym, ap, ◌∙◌, subst, arith}
 use Rattle.std.specs.Option.{option_map}
-use Rattle.scheme_tokens.specs.Words.{byte_count}
-use Rattle.scheme_tokens.specs.Reading as texts
+use Rattle.scheme_tokens.specs.Lexical.{byte_count}
+use Rattle.scheme_tokens.specs.Lexical as texts
 use Rattle.scheme_tokens.specs.Faults as faulty
 use Rattle.scheme_tokens.specs.Stopping as stopping
 use Rattle.scheme_tokens.specs.Views as views

@@ -1,8 +1,8 @@
 -- Data as reading gives them: what a tree can be made of.
 use Rattle.std.specs.Prelude.{◌≡◌, ◌⊎◌, ℕ, ◌+◌, ◌≤◌, max, Bool, true, false, List}
-use Rattle.ls_base.specs.declared.limits.TheConstants.{MAX_TEXT, MAX_TREE_NODES, MAX_TREE_DEPTH}
+use Rattle.ls_base.specs.Limits.{max_text, max_tree_nodes, max_tree_depth}
 use Rattle.scheme_model.specs.Kinds.{TokenKind, Paren, VectorParen, BytesParen, Close, Dot, Skip, Marked, Atomic}
-use Rattle.scheme_tokens.specs.Words.{byte_count}
+use Rattle.scheme_tokens.specs.Lexical.{byte_count}
 use Rattle.scheme_model.specs.Data.{Datum, atom, list, vector, bytes, Data, none, part, tail, row}
 use Rattle.datum_reader.specs.Texts.{IsReading}
 
@@ -23,7 +23,7 @@ abbrev mutual
 pub record WasRead (d : Datum) : Type 0 where
   pub text : List ℕ
   pub all : List Datum
-  pub fits : byte_count text ≤ MAX_TEXT
+  pub fits : byte_count text ≤ max_text
   pub reading : IsReading text all
   pub among : IsAmong d (row all none)
 
@@ -85,5 +85,5 @@ abbrev mutual
 -- what a tree can be made of: the datum is right, and small and shallow enough
 pub record CanSeed (d : Datum) : Type 0 where
   pub right : IsRight d
-  pub small : datum_size d ≤ MAX_TREE_NODES
-  pub shallow : datum_depth d ≤ MAX_TREE_DEPTH
+  pub small : datum_size d ≤ max_tree_nodes
+  pub shallow : datum_depth d ≤ max_tree_depth

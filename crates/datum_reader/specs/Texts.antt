@@ -1,8 +1,7 @@
 -- Texts, by the tokens that scheme_tokens tells of them: their data, and where they stop.
 use Rattle.std.specs.Prelude.{◌≡◌, ℕ, List, map, Option}
 use Rattle.std.specs.Option.{option_map}
-use Rattle.scheme_tokens.specs.Tokens as told
-use Rattle.scheme_tokens.specs.Reading as texts
+use Rattle.scheme_tokens.specs.Lexical as told
 use Rattle.scheme_tokens.specs.Faults as faulty
 use Rattle.scheme_tokens.specs.Stopping as stopping
 use Rattle.scheme_tokens.specs.Views.{number_of}
@@ -37,7 +36,7 @@ kind_seen told.Skip = Skip
 kind_seen (told.Marked mark) = Marked (mark_seen mark)
 kind_seen (told.Atomic leaf) = Atomic (leaf_seen leaf)
 
-abbrev pub token_seen : texts.Token → Token
+abbrev pub token_seen : told.Token → Token
 token_seen t = record { kind = kind_seen t.kind; start = t.start; end = t.end }
 
 -- a fault of tokens by its number
@@ -47,7 +46,7 @@ stop_seen f = record { number = number_of f.fault; start = f.start; end = f.end 
 -- a text has these tokens, and then it ends, or a fault comes
 abbrev pub TextReads : List ℕ → List Token → Option Stop → Type 0
 TextReads text ts end =
-    (us : List texts.Token) × (fin : Option faulty.FaultAt) × stopping.IsRead us fin text × (ts ≡ map token_seen us) × (end ≡ option_map stop_seen fin)
+    (us : List told.Token) × (fin : Option faulty.FaultAt) × stopping.IsRead us fin text × (ts ≡ map token_seen us) × (end ≡ option_map stop_seen fin)
 
 -- a text is these data as they are written
 abbrev pub IsReading : List ℕ → List Datum → Type 0

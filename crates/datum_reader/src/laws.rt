@@ -1,7 +1,7 @@
 //! Laws of reading (R7RS 7.1.2).
 ghost use Rattle.std.specs.Prelude.{◌≡◌, ◌⊎◌, ◌≤◌, List, ℕ, Option, Some, slice_get};
-ghost use Rattle.ls_base.specs.declared.limits.TheConstants.{MAX_TEXT};
-ghost use Rattle.scheme_tokens.specs.Words.{byte_count};
+ghost use Rattle.ls_base.specs.Limits.{max_text};
+ghost use Rattle.scheme_tokens.specs.Lexical.{byte_count};
 ghost use Rattle.scheme_model.specs.Kinds.{Token};
 ghost use Rattle.scheme_model.specs.Data.{Datum};
 ghost use Rattle.scheme_model.specs.Faults.{Stop};
@@ -32,7 +32,7 @@ pub fn reads_or_stops()
 /// The data of a text of at most 1,048,576 bytes were read.
 pub fn data_were_read()
     ensures { (text : List ℕ) (ds : List Datum) (n : ℕ) (d : Datum) →
-        byte_count text ≤ MAX_TEXT → IsReading text ds → slice_get ds n ≡ Some d → WasRead d }
+        byte_count text ≤ max_text → IsReading text ds → slice_get ds n ≡ Some d → WasRead d }
 {}
 
 /// A part of what was read was read.

@@ -6,7 +6,7 @@ use Rattle.std.specs.declared.cmp.Ordering.TheVariants.{Less, Equal, Greater}
 use Rattle.std.specs.Cmp.Lexicographic.{slice_cmp, nat_list_cmp_total}
 use Rattle.std.specs.FinMap.{get, insert, remove, get-remove, get-insert, get_tied, same_map, slice_cmp-IsAntisymmetric, nat_cmp-IsAntisymmetric}
 use Rattle.std.proofs.lemmas.Bool.{ltb-true, le-ltb}
-use Rattle.ls_base.specs.declared.limits.TheConstants.{MAX_DOCUMENTS, MAX_TEXT}
+use Rattle.ls_base.specs.Limits.{max_documents, max_text}
 use Rattle.document_store.specs.declared.faults.StoreFault.{StoreFault}
 use Rattle.document_store.specs.declared.faults.StoreFault.TheVariants as fault
 use Rattle.document_store.specs.Texts.{Texts, Document, Refusal, NotOpen, BadRange, TooLong, TooMany, added, closed, changed_to, has_room, is_open, is_long}
@@ -38,16 +38,16 @@ closes old new uri false there gone =
     ap (λ b. cond b (remove old uri, None) (old, Some NotOpen)) (sym there) ∙ ap (λ texts. (texts, Some NotOpen)) (sym (gone ∙ remove_absent old uri (sym there)))
 
 -- how adding ends where it isn't refused
-pub adds : (old : Texts) (uri : List ℕ) (version : ℤ) (text : List ℕ) → has_room old uri ≡ true → length text ≤ MAX_TEXT → added old uri version text ≡ (insert old uri (version, text), None)
+pub adds : (old : Texts) (uri : List ℕ) (version : ℤ) (text : List ℕ) → has_room old uri ≡ true → length text ≤ max_text → added old uri version text ≡ (insert old uri (version, text), None)
 adds old uri version text room short =
-    let not_long : is_long text ≡ false = le-ltb MAX_TEXT (length text) short in
+    let not_long : is_long text ≡ false = le-ltb max_text (length text) short in
     ap (λ b. cond (not b) (old, Some TooMany) (cond (is_long text) (old, Some TooLong) (insert old uri (version, text), None))) room
     ∙ ap (λ b. cond b (old, Some TooLong) (insert old uri (version, text), None)) not_long
 
 -- how many entries are there then
-pub still_few : (was now : ℕ) (there : Bool) → now ≡ was + cond there 0 1 → was ≤ MAX_DOCUMENTS → (there || nat_lt was MAX_DOCUMENTS) ≡ true → now ≤ MAX_DOCUMENTS
+pub still_few : (was now : ℕ) (there : Bool) → now ≡ was + cond there 0 1 → was ≤ max_documents → (there || nat_lt was max_documents) ≡ true → now ≤ max_documents
 still_few was now true e few room = omega arith
-still_few was now false e few room = omega (arith, ltb-true was MAX_DOCUMENTS room)
+still_few was now false e few room = omega (arith, ltb-true was max_documents room)
 
 -- what a fault of a change leaves
 abbrev pub left_after : StoreFault → Texts → List ℕ → Texts

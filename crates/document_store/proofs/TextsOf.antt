@@ -2,7 +2,7 @@
 use Rattle.std.proofs.Common.{◌≡◌, ◌≤◌, ℕ, arith, Bor, slice_get, List, [], ◌∷◌, map, length, Option, Some, None, is_some, cond, Bool, true, false, refl, sym, ap, ◌∙◌, String, Global}
 use Rattle.std.specs.Option.{option_map}
 use Rattle.std.proofs.lemmas.Option.{slice_get-map}
-use Rattle.ls_base.specs.declared.limits.TheConstants.{MAX_DOCUMENTS}
+use Rattle.ls_base.specs.Limits.{max_documents}
 use Rattle.std.specs.String.{string_bytes, string_cmp}
 use Rattle.std.specs.Ordering.{nat_cmp, is_eq, eq_by_cmp}
 use Rattle.std.specs.Cmp.Lexicographic.{slice_cmp, nat_list_cmp_total}
@@ -109,5 +109,5 @@ nth_seen m texts n key seen h e =
     ap (λ (t : Texts). slice_get (keys t) n) (sym seen) ∙ ap (λ ks. slice_get ks n) (keys_texts m h)
     ∙ slice_get-map string_bytes (tree.keys m) n ∙ ap (option_map string_bytes) (sym e) ∙ twice string_bytes (λ k. k.now) key
 
-pub few_seen : (m : BTreeMap (String Global) Kept) (texts : Texts) → texts_of m.entries ≡ texts → IsOrdered string_cmp m → length m.entries ≤ MAX_DOCUMENTS → len texts ≤ MAX_DOCUMENTS
+pub few_seen : (m : BTreeMap (String Global) Kept) (texts : Texts) → texts_of m.entries ≡ texts → IsOrdered string_cmp m → length m.entries ≤ max_documents → len texts ≤ max_documents
 few_seen m texts seen h few = omega (arith, ap (λ (t : Texts). len t) seen, len_texts m h)

@@ -9,7 +9,7 @@ use Rattle.ls_base.specs.declared.encoding.Encoding.{Encoding}
 use Rattle.ls_base.specs.declared.places.Pos.{Pos}
 use Rattle.ls_base.specs.declared.places.Range.{Range}
 use Rattle.ls_base.specs.declared.answers.Change.{Change}
-use Rattle.ls_base.specs.declared.limits.TheConstants.{MAX_DOCUMENTS, MAX_TEXT}
+use Rattle.ls_base.specs.Limits.{max_documents, max_text}
 use Rattle.ls_base.specs.Positions.{offset_of}
 
 -- a document: its version, and its text as UTF-8 bytes
@@ -25,7 +25,7 @@ is_open texts uri = contains_key texts uri
 
 -- a document may be added: it is open already, or fewer than the most are
 abbrev pub has_room : Texts → List ℕ → Bool
-has_room texts uri = is_open texts uri || nat_lt (len texts) MAX_DOCUMENTS
+has_room texts uri = is_open texts uri || nat_lt (len texts) max_documents
 
 abbrev pub version_at : Texts → List ℕ → Option ℤ
 version_at texts uri = option_map (λ d. d.0) (get texts uri)
@@ -62,7 +62,7 @@ replaced encoding text (Some range) new =
     take (offset_of encoding text range.start) text ++ new ++ drop (offset_of encoding text range.end) text
 
 abbrev pub is_long : List ℕ → Bool
-is_long text = nat_lt MAX_TEXT (length text)
+is_long text = nat_lt max_text (length text)
 
 -- a text that isn't too long
 abbrev pub within_limit : List ℕ → Result (List ℕ) Refusal

@@ -2,6 +2,7 @@
 ghost use Rattle.std.specs.Prelude.{◌≡◌, ◌≤◌, ◌++◌, length, IfOk};
 ghost use Rattle.document_store.specs.Texts.{is_before, within_limit, edited, edits};
 ghost use Rattle.document_store.specs.Faults.{Edits};
+ghost use Rattle.ls_base.specs.Limits.{max_text};
 
 use crate::StoreFault;
 use ls_base::limits::MAX_TEXT;
@@ -18,10 +19,10 @@ fn is_before(p: Pos, q: Pos) -> bool
 
 /// A text of three parts, unless it is too long.
 fn joined(alloc: Global, front: &str, middle: &str, back: &str) -> Result<Text, StoreFault>
-    requires front { length front.now ≤ MAX_TEXT }
-    requires back { length back.now ≤ MAX_TEXT }
+    requires front { length front.now ≤ max_text }
+    requires back { length back.now ≤ max_text }
     ensures edits { Edits result (within_limit (front.now ++ middle.now ++ back.now)) }
-    ensures short { IfOk result (λ text. length text ≤ MAX_TEXT) }
+    ensures short { IfOk result (λ text. length text ≤ max_text) }
 {
     if middle.len() > MAX_TEXT || front.len() + middle.len() + back.len() > MAX_TEXT {
         return Err(StoreFault::TooLong);
@@ -40,9 +41,9 @@ fn edited(
     change: &Change,
     encoding: Encoding,
 ) -> Result<Text, StoreFault>
-    requires { length text.now ≤ MAX_TEXT }
+    requires { length text.now ≤ max_text }
     ensures edits { Edits result (edited encoding text.now change.now) }
-    ensures short { IfOk result (λ text. length text ≤ MAX_TEXT) }
+    ensures short { IfOk result (λ text. length text ≤ max_text) }
 {
     let new = change.text.as_str();
     let Some(range) = change.range else {
@@ -64,9 +65,9 @@ pub fn edits(
     changes: &[Change],
     encoding: Encoding,
 ) -> Result<Text, StoreFault>
-    requires { length text.now ≤ MAX_TEXT }
+    requires { length text.now ≤ max_text }
     ensures edits { Edits result (edits encoding changes.now text.now) }
-    ensures short { IfOk result (λ text. length text ≤ MAX_TEXT) }
+    ensures short { IfOk result (λ text. length text ≤ max_text) }
 {
     let mut now = Text::of(alloc, text)?;
     for change in changes {

@@ -1,6 +1,6 @@
 //! A document as the store keeps it.
 ghost use Rattle.std.specs.Prelude.{◌≤◌, length};
-ghost use Rattle.ls_base.specs.declared.limits.TheConstants.{MAX_TEXT};
+ghost use Rattle.ls_base.specs.Limits.{max_text};
 
 use ls_base::Text;
 
@@ -9,5 +9,5 @@ use ls_base::Text;
 pub struct Kept {
     pub version: i64,
     pub text: Text,
-    pub ghost short: { length text ≤ MAX_TEXT },
+    pub ghost short: { length text ≤ max_text },
 }

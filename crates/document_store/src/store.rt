@@ -2,6 +2,7 @@
 ghost use Rattle.std.specs.Prelude.{◌≡◌, ◌≢◌, ◌≤◌, length, slice_get, if◌then◌else◌, IfSome, IfErr, OnErr, IsErrOf};
 ghost use Rattle.std.specs.Option.{option_map};
 ghost use Rattle.std.specs.FinMap.{empty, keys, len, remove};
+ghost use Rattle.ls_base.specs.Limits.{max_documents, max_text};
 ghost use Rattle.document_store.specs.Texts as texts;
 ghost use Rattle.document_store.specs.Texts.{added, after, closed, has_room, is_open, text_at, version_at};
 ghost use Rattle.document_store.specs.Faults.{Follows};
@@ -25,7 +26,7 @@ pub struct Store {
 
 impl Model for Store {
     ghost use Rattle.std.specs.Prelude.{◌≤◌, length};
-    ghost use Rattle.ls_base.specs.declared.limits.TheConstants.{MAX_DOCUMENTS};
+    ghost use Rattle.ls_base.specs.Limits.{max_documents};
     ghost use Rattle.document_store.specs.Texts.{Texts};
     ghost use Rattle.document_store.specs.Docs.{coded_texts, texts_of};
 
@@ -35,7 +36,7 @@ impl Model for Store {
 
     ghost view = { λ s. texts_of s.docs.entries };
 
-    ghost invariant = { λ s. length s.docs.entries ≤ MAX_DOCUMENTS };
+    ghost invariant = { λ s. length s.docs.entries ≤ max_documents };
 }
 
 impl Store {
@@ -119,7 +120,7 @@ impl Store {
     /// The text of a document. `None` exactly where the uri isn't open.
     pub fn text(&self, uri: &str) -> Option<&str>
         ensures exact { option_map (λ text. text.now) result ≡ text_at self.now uri.now }
-        ensures short { IfSome result (λ text. length text.now ≤ MAX_TEXT) }
+        ensures short { IfSome result (λ text. length text.now ≤ max_text) }
     {
         let doc = self.docs.get(uri)?;
         Some(doc.text.as_str())
@@ -136,7 +137,7 @@ impl Store {
     /// The nth uri in byte order. `None` exactly where there is no nth.
     pub fn doc(&self, n: u32) -> Option<&str>
         ensures exact { option_map (λ uri. uri.now) result ≡ slice_get (keys self.now) n }
-        ensures few { len self.now ≤ MAX_DOCUMENTS }
+        ensures few { len self.now ≤ max_documents }
     {
         let uri = self.docs.keys().nth(n as usize)?;
         Some(uri.as_str())

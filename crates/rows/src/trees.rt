@@ -1,5 +1,6 @@
 //! Rows of datum_reader and syntax_tree: the trees of data.
 ghost use Rattle.std.specs.Prelude.{◌≡◌, ◌^◌, ◌<◌, ◌≤◌, All, IfOk, IfSome, Option, Some, length};
+ghost use Rattle.ls_base.specs.Limits.{max_text};
 ghost use Rattle.scheme_model.specs.Trees.{Tree as ModelTree};
 ghost use Rattle.syntax_tree.specs.Identifiers.{Identifier};
 ghost use Rattle.syntax_tree.specs.Numbered.{IsPlaced};
@@ -51,7 +52,7 @@ impl From<ReadFault> for RowFault {
 
 /// The tree of the last datum of a text, as this form of this unit.
 fn plant(alloc: Global, work: &mut Work, text: &str, unit: u32, form: u32) -> Row<Tree>
-    requires { length text.now ≤ MAX_TEXT }
+    requires { length text.now ≤ max_text }
     ensures { IfOk result (IsStanding work.new) }
 {
     let region = work.open_region()?;

@@ -1,7 +1,6 @@
 -- Each text is read as tokens up to its end, or stops.
-use Rattle.std.proofs.Common.{◌≡◌, ℕ, zero, suc, ◌≤◌, length, List, [], ◌∷◌, Option, None, refl, arith}
-use Rattle.scheme_tokens.specs.Words.{byte_count}
-use Rattle.scheme_tokens.specs.Reading.{Token, behind_mark}
+use Rattle.std.proofs.Common.{◌≡◌, ℕ, zero, suc, ◌≤◌, length, List, [], ◌∷◌, Option, refl, arith}
+use Rattle.scheme_tokens.specs.Lexical.{byte_count, Token, behind_mark}
 use Rattle.scheme_tokens.specs.Faults.{FaultAt}
 use Rattle.scheme_tokens.specs.Stopping.{IsRead}
 use Rattle.scheme_tokens.specs.Mirror.Reading.{Next, found, ended, next, Reads}

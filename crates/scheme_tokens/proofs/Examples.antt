@@ -1,9 +1,7 @@
 -- One text of each kind of token, and one for each fault: the definitions say of them what a reader expects.
-use Rattle.std.proofs.Common.{◌≡◌, ℕ, List, [], ◌∷◌, true, false, refl, Some, None}
+use Rattle.std.proofs.Common.{ℕ, [], ◌∷◌, true, false, refl}
 use Rattle.std.specs.Prelude.{codes}
-use Rattle.scheme_tokens.specs.Characters.{is_delimiter, is_initial, is_subsequent}
-use Rattle.scheme_tokens.specs.Tokens.{TokenKind, Paren, VectorParen, BytesParen, Close, Dot, Skip, Marked, Quote, Quasi, Unquote, Splice, Atomic, Name, Numeral, Quoted, Character, Truth}
-use Rattle.scheme_tokens.specs.Reading.{Token, IsSpelled}
+use Rattle.scheme_tokens.specs.Lexical.{is_delimiter, is_initial, is_subsequent, TokenKind, Paren, VectorParen, BytesParen, Close, Dot, Skip, Marked, Quote, Quasi, Unquote, Splice, Atomic, Name, Numeral, Quoted, Character, Truth, Token, IsSpelled}
 use Rattle.scheme_tokens.specs.Faults.{Fault, bad_token, open_string, open_bar, open_comment, label, directive, FaultAt}
 use Rattle.scheme_tokens.specs.Stopping.{IsStop}
 use Rattle.scheme_tokens.specs.Mirror.Words.{is_numeral, is_identifier}

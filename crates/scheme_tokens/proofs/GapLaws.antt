@@ -2,7 +2,7 @@
 use Rattle.std.proofs.Common.{◌≡◌, ℕ, zero, suc, ◌+◌, ◌-◌, List, [], ◌∷◌, Result, Ok, Err, true, false, cond, refl, sym, ap, ◌∙◌, arith, add-one, ◌||◌, ◌==◌}
 use Rattle.std.specs.Char.{is_whitespace}
 use Rattle.std.proofs.lemmas.Bool.{cond-true, cond-false, or_from, or_left, or_right}
-use Rattle.scheme_tokens.specs.Characters.{is_line_end}
+use Rattle.scheme_tokens.specs.Lexical.{is_line_end}
 use Rattle.scheme_tokens.specs.Mirror.Gaps.{between, line, block, opens, closes, behind_gap}
 
 -- behind a mark that closes

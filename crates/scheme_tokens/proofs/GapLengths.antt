@@ -1,7 +1,7 @@
 -- A gap leaves no more characters than it began with.
 use Rattle.std.proofs.Common.{ℕ, zero, suc, ◌≤◌, length, List, [], ◌∷◌, Bool, true, false, cond, Result, Ok, Err, arith, ◌==◌, ◌||◌}
 use Rattle.std.specs.Char.{is_whitespace}
-use Rattle.scheme_tokens.specs.Characters.{is_line_end}
+use Rattle.scheme_tokens.specs.Lexical.{is_line_end}
 use Rattle.scheme_tokens.specs.Mirror.Gaps.{Within, between, line, block, opens, closes, behind_gap}
 
 -- a gap leaves at most so many characters

@@ -4,7 +4,7 @@ use Rattle.std.specs.Option.{SomeIff}
 use Rattle.std.specs.Char.{InScalarRange, OutOfScalarRange, IsScalar}
 use Rattle.std.proofs.lemmas.Bool.{cond-true, cond-false}
 use Rattle.std.proofs.lemmas.Bool.Decides.{nat_tests}
-use Rattle.scheme_tokens.specs.Characters.{is_scalar}
+use Rattle.scheme_tokens.specs.Lexical.{is_scalar}
 use Rattle.scheme_tokens.specs.Mirror.Quoted.{hex_value, hex_scalar}
 use Rattle.scheme_tokens.specs.Views.{IsCapped}
 

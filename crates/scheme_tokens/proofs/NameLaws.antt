@@ -3,7 +3,7 @@ use Rattle.std.proofs.Common.{◌≡◌, ℕ, List, [], ◌∷◌, Option, Some,
 use Rattle.std.specs.Str.{chars}
 use Rattle.scheme_tokens.specs.Mirror.Quoted.{Fault}
 use Rattle.scheme_tokens.specs.Mirror.Tokens.{TokenKind, Paren, VectorParen, BytesParen, Close, Dot, Skip, Marked, Atomic, Name, Numeral, Quoted, Character, Truth, token}
-use Rattle.scheme_tokens.specs.Reading.{IsIdentifier}
+use Rattle.scheme_tokens.specs.Lexical.{IsIdentifier}
 use Rattle.scheme_tokens.specs.Views.{symbol_of}
 use Rattle.scheme_tokens.proofs.Same.Reading.{identifier_told, identifier_read}
 

@@ -1,6 +1,6 @@
 -- The code reads a text in one way.
 use Rattle.std.proofs.Common.{◌≡◌, ℕ, List, [], ◌∷◌, Option, refl, sym, subst}
-use Rattle.scheme_tokens.specs.Reading.{Token}
+use Rattle.scheme_tokens.specs.Lexical.{Token}
 use Rattle.scheme_tokens.specs.Faults.{FaultAt}
 use Rattle.scheme_tokens.specs.Mirror.Reading.{Next, found, ended, next, Reads}
 

@@ -1,7 +1,7 @@
 -- What stands between marks leaves no more characters than the text had.
 use Rattle.std.proofs.Common.{ℕ, zero, suc, ◌≤◌, length, List, [], ◌∷◌, ◌++◌, Bool, true, false, cond, Option, Some, None, Result, Ok, Err, arith, ◌==◌, ◌&&◌, ◌||◌}
 use Rattle.std.specs.Char.{to_ascii_lowercase}
-use Rattle.scheme_tokens.specs.Characters.{is_line_end, is_blank, is_hex_digit}
+use Rattle.scheme_tokens.specs.Lexical.{is_line_end, is_blank, is_hex_digit}
 use Rattle.scheme_tokens.specs.Mirror.Words.{front_of, behind}
 use Rattle.scheme_tokens.specs.Mirror.Quoted.{Fault, ◌>>=◌, letter, hex_scalar, hex_end, fold_end, behind_line_end, escape, element, elements, escaped}
 

@@ -1,8 +1,7 @@
 -- A text has one reading at most, and how one is put together.
 use Rattle.std.proofs.Common.{◌≡◌, ℕ, List, [], ◌∷◌, ◌++◌, Option, Some, None, Err, refl, sym, ap, ◌∙◌, subst, append_assoc, append-nil, ◌⊎◌, inl, inr}
 use Rattle.std.proofs.lemmas.List.{map-append}
-use Rattle.scheme_tokens.specs.Words.{byte_count}
-use Rattle.scheme_tokens.specs.Reading.{Token, behind_mark, IsSpelled}
+use Rattle.scheme_tokens.specs.Lexical.{byte_count, Token, behind_mark, IsSpelled}
 use Rattle.scheme_tokens.specs.Faults.{FaultAt}
 use Rattle.scheme_tokens.specs.Stopping.{IsRead, Stops}
 use Rattle.scheme_tokens.specs.Mirror.Reading as mirror

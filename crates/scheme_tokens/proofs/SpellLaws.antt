@@ -7,7 +7,7 @@ use Rattle.std.proofs.lemmas.Bool.Decides.{nat_tests}
 use Rattle.std.proofs.lemmas.List.{length-append}
 use Rattle.std.proofs.lemmas.Str.{digit_value-digit_char, length-le-encodes}
 use Rattle.unicode.proofs.CategoryComputing.{ucd_category}
-use Rattle.scheme_tokens.specs.Characters.{is_one_of, is_delimiter, is_sign, is_initial, is_subsequent, is_sign_subsequent, is_dot_subsequent, is_hex_digit, is_scalar}
+use Rattle.scheme_tokens.specs.Lexical.{is_one_of, is_delimiter, is_sign, is_initial, is_subsequent, is_sign_subsequent, is_dot_subsequent, is_hex_digit, is_scalar}
 use Rattle.scheme_tokens.specs.Mirror.Words.{byte_count, front_of, behind, is_inside, is_numeral, is_identifier, goes_on_sign, goes_on_dot}
 use Rattle.scheme_tokens.specs.Mirror.Quoted.{Fault, ◌>>=◌, element, elements, escape, quoted, hex_value, hex_end, letter}
 use Rattle.scheme_tokens.specs.Mirror.Tokens.{TokenKind, Atomic, Name, word_kind, word_token, token}

@@ -6,7 +6,7 @@ use Rattle.scheme_tokens.specs.Mirror.Quoted.{Fault}
 use Rattle.scheme_tokens.specs.Mirror.Gaps.{between, behind_gap}
 use Rattle.scheme_tokens.specs.Mirror.Tokens.{TokenKind, token}
 use Rattle.scheme_tokens.specs.Mirror.Reading.{Token, FaultAt, Next, found, ended, next_token, at_front, next_behind, next, Reads, behind_mark}
-use Rattle.scheme_tokens.specs.Reading.{IsSpelled}
+use Rattle.scheme_tokens.specs.Lexical.{IsSpelled}
 use Rattle.scheme_tokens.proofs.Fronts.{byte_count-encodes}
 use Rattle.scheme_tokens.proofs.GapLengths.{Leaves, gap_leaves}
 use Rattle.scheme_tokens.proofs.QuotedLengths.{Rests}

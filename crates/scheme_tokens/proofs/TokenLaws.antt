@@ -5,7 +5,7 @@ use Rattle.std.specs.Str.{chars}
 use Rattle.std.proofs.lemmas.Str.{chars-nil}
 use Rattle.std.specs.Char.{to_ascii_lowercase}
 use Rattle.std.proofs.lemmas.Bool.{cond-true, cond-false}
-use Rattle.scheme_tokens.specs.Characters.{is_hex_digit, is_delimiter}
+use Rattle.scheme_tokens.specs.Lexical.{is_hex_digit, is_delimiter}
 use Rattle.scheme_tokens.specs.Mirror.Words.{is_numeral, is_identifier, is_inside}
 use Rattle.scheme_tokens.specs.Mirror.Quoted.{Fault, bad_token, hex_scalar}
 use Rattle.scheme_tokens.specs.Mirror.Tokens.{TokenKind, word_kind, named, character_of, token}

@@ -1,8 +1,4 @@
-pub mod Characters
-pub mod Words
-pub mod Gaps
-pub mod Tokens
-pub mod Reading
+pub mod Lexical
 pub mod Faults
 pub mod Stopping
 pub mod Spelling

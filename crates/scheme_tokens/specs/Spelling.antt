@@ -2,7 +2,7 @@
 use Rattle.std.specs.Prelude.{◌≡◌, ◌⊎◌, ℕ, ◌/◌, ◌%◌, Bool, true, false, ◌||◌, ◌==◌, nat_lt, List, [], ◌∷◌, ◌++◌, if◌then◌else◌}
 use Rattle.std.specs.List.{flat_map}
 use Rattle.std.specs.Char.{digit_char}
-use Rattle.scheme_tokens.specs.Tokens.{Atomic, Name, IsToken}
+use Rattle.scheme_tokens.specs.Lexical.{Atomic, Name, IsToken}
 
 -- the shortest small hex digits of a number below 256
 abbrev pub hex_digits : ℕ → List ℕ

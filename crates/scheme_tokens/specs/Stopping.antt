@@ -1,10 +1,7 @@
 -- Where the reading of a text stops (R7RS 7.1.1): at the first character with which no tokens can go on, or at the end.
-use Rattle.std.specs.Prelude.{◌≡◌, ℕ, ◌+◌, Bool, true, false, ◌&&◌, ◌==◌, List, [], ◌∷◌, ◌++◌, Option, Some, None, if◌then◌else◌}
+use Rattle.std.specs.Prelude.{◌≡◌, ℕ, ◌+◌, Bool, false, ◌&&◌, ◌==◌, List, [], ◌∷◌, ◌++◌, Option, Some, None, if◌then◌else◌}
 use Rattle.std.specs.Char.{is_ascii_digit}
-use Rattle.scheme_tokens.specs.Words.{byte_count, IsWord}
-use Rattle.scheme_tokens.specs.Gaps.{IsNested, IsSpace}
-use Rattle.scheme_tokens.specs.Tokens.{TokenKind, IsToken}
-use Rattle.scheme_tokens.specs.Reading.{Token, First, mark_bytes, behind_mark, IsSpelled}
+use Rattle.scheme_tokens.specs.Lexical.{byte_count, IsWord, IsNested, IsSpace, TokenKind, IsToken, Token, First, mark_bytes, behind_mark, IsSpelled}
 use Rattle.scheme_tokens.specs.Faults.{Fault, bad_token, open_string, open_bar, open_comment, label, directive, FaultAt}
 
 -- with more characters behind them, these are a text of tokens

@@ -6,11 +6,8 @@ use Rattle.std.specs.String.{string_bytes}
 use Rattle.std.specs.Global.{Global}
 use Rattle.std.specs.Str.{chars}
 use Rattle.ls_base.specs.declared.places.Span.{Span}
-use Rattle.scheme_tokens.specs.Characters.{is_hex_digit, is_blank}
-use Rattle.scheme_tokens.specs.Words.{is_inside}
+use Rattle.scheme_tokens.specs.Lexical.{is_hex_digit, is_blank, is_inside, TokenKind, Paren, VectorParen, BytesParen, Close, Dot, Skip, Marked, Quote, Quasi, Unquote, Splice, Atomic, Name, Numeral, Quoted, Character, Truth, Token}
 use Rattle.scheme_tokens.specs.Faults.{Fault, FaultAt, bad_token, open_string, open_bar, open_comment, label, directive}
-use Rattle.scheme_tokens.specs.Tokens.{TokenKind, Paren, VectorParen, BytesParen, Close, Dot, Skip, Marked, Quote, Quasi, Unquote, Splice, Atomic, Name, Numeral, Quoted, Character, Truth}
-use Rattle.scheme_tokens.specs.Reading.{Token}
 use Rattle.scheme_tokens.specs.Stopping.{IsRead, Stops}
 use Rattle.scheme_tokens.specs.Mirror.Reading.{Next, found, ended}
 use Rattle.scheme_tokens.specs.declared.fault.Fault as code_fault

@@ -1,6 +1,6 @@
 //! Classes of characters (R7RS 7.1.1).
 ghost use Rattle.std.specs.Prelude.{◌≡◌};
-ghost use Rattle.scheme_tokens.specs.Characters.{is_delimiter, is_line_end, is_blank, is_sign, is_hex_digit, place_of, is_anywhere, is_somewhere, is_initial, is_subsequent, is_sign_subsequent, is_dot_subsequent};
+ghost use Rattle.scheme_tokens.specs.Lexical.{is_delimiter, is_line_end, is_blank, is_sign, is_hex_digit, place_of, is_anywhere, is_somewhere, is_initial, is_subsequent, is_sign_subsequent, is_dot_subsequent};
 ghost use Rattle.scheme_tokens.specs.Views.{test_of};
 
 use unicode::properties::GeneralCategory;
@@ -27,7 +27,7 @@ impl Class {
 }
 
 /// What ends a word: white space, a quotation mark, a bar, a parenthesis, a semicolon.
-#[tactic(auto, unfolding(crate::specs::Characters::is_delimiter))]
+#[tactic(auto, unfolding(crate::specs::Lexical::is_delimiter))]
 pub fn is_delimiter(c: char) -> bool
     ensures { result ≡ is_delimiter c }
 {
@@ -136,7 +136,7 @@ fn may_follow(category: GeneralCategory) -> bool
 }
 
 /// What an identifier may begin with.
-#[tactic(auto, unfolding(crate::specs::Characters::is_initial))]
+#[tactic(auto, unfolding(crate::specs::Lexical::is_initial))]
 pub fn is_initial(c: char) -> bool
     ensures { result ≡ is_initial c }
 {
@@ -162,7 +162,7 @@ pub fn is_initial(c: char) -> bool
 }
 
 /// What an identifier may go on with.
-#[tactic(auto, unfolding(crate::specs::Characters::is_subsequent))]
+#[tactic(auto, unfolding(crate::specs::Lexical::is_subsequent))]
 pub fn is_subsequent(c: char) -> bool
     ensures { result ≡ is_subsequent c }
 {

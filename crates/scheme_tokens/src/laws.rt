@@ -1,6 +1,6 @@
 //! Laws of reading (R7RS 7.1.1).
 ghost use Rattle.std.specs.Prelude.{◌≡◌, Bool, List, ℕ, Option};
-ghost use Rattle.scheme_tokens.specs.Reading.{Token, IsIdentifier};
+ghost use Rattle.scheme_tokens.specs.Lexical.{Token, IsIdentifier};
 ghost use Rattle.scheme_tokens.specs.Faults.{FaultAt};
 ghost use Rattle.scheme_tokens.specs.Stopping.{IsRead};
 ghost use Rattle.scheme_tokens.specs.Spelling.{IsSpelling};

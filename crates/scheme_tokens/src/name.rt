@@ -3,7 +3,7 @@ ghost use Rattle.std.specs.Prelude.{◌≡◌, ◌++◌, List, ℕ, IfOk, IfSome
 ghost use Rattle.std.specs.Char.{digit_char};
 ghost use Rattle.std.specs.Str.{chars};
 ghost use Rattle.std.specs.String.{string_bytes};
-ghost use Rattle.scheme_tokens.specs.Reading.{IsIdentifier};
+ghost use Rattle.scheme_tokens.specs.Lexical.{IsIdentifier};
 ghost use Rattle.scheme_tokens.specs.Spelling.{hex_escape, in_bars, barred, IsSpelling};
 ghost use Rattle.scheme_tokens.specs.Mirror.Spelled.{is_bare};
 ghost use Rattle.scheme_tokens.specs.Views.{kind_of, symbol_of};

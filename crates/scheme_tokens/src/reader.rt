@@ -2,8 +2,8 @@
 ghost use Rattle.std.specs.Prelude.{◌≡◌, ◌≢◌, ◌+◌, ◌^◌, ◌<◌, ◌≤◌, ◌⊎◌, List, length, drop, IfOk, IfErr, IfSome, MatchResult};
 ghost use Rattle.std.specs.List.{All};
 ghost use Rattle.std.specs.Str.{chars, IsUtf8};
-ghost use Rattle.scheme_tokens.specs.Reading as model;
-ghost use Rattle.scheme_tokens.specs.Reading.{behind_mark, IsSpelled};
+ghost use Rattle.scheme_tokens.specs.Lexical as model;
+ghost use Rattle.scheme_tokens.specs.Lexical.{behind_mark, IsSpelled};
 ghost use Rattle.scheme_tokens.specs.Faults.{FaultAt};
 ghost use Rattle.scheme_tokens.specs.Stopping.{Stops};
 ghost use Rattle.scheme_tokens.specs.Mirror.Reading.{place, behind_fault, fault_at, next};

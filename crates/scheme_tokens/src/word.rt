@@ -2,7 +2,7 @@
 ghost use Rattle.std.specs.Prelude.{◌≡◌};
 ghost use Rattle.std.specs.List.{list_all};
 ghost use Rattle.std.specs.Str.{chars};
-ghost use Rattle.scheme_tokens.specs.Characters.{is_subsequent, is_hex_digit};
+ghost use Rattle.scheme_tokens.specs.Lexical.{is_subsequent, is_hex_digit};
 ghost use Rattle.scheme_tokens.specs.Mirror.Words.{is_text, begins_with, spells, starts_digit, starts_fraction, is_signed, starts_prefix, is_numeral, goes_on_dot, goes_on_sign, is_identifier};
 
 use crate::character::{

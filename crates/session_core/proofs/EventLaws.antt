@@ -5,7 +5,7 @@ use Rattle.std.specs.Option.{option_map}
 use Rattle.std.proofs.lemmas.Bool.Decides.{nat_tests}
 use Rattle.ls_base.specs.declared.answers.Change.{Change}
 use Rattle.ls_base.specs.declared.places.Range.{Range}
-use Rattle.ls_base.specs.declared.limits.TheConstants.{MAX_DOCUMENTS}
+use Rattle.ls_base.specs.Limits.{max_documents}
 use Rattle.document_store.specs.Texts as store
 use Rattle.scheme_model.specs.Texts as texts
 use Rattle.session_core.specs.Said.{encoding_of, offsets, said_change, said_range}
@@ -62,7 +62,7 @@ changed_agrees e old uri version changes None = refl
 changed_agrees e old uri version changes (Some text) =
     ap (texts.changed_to old uri version) (edits_agree e changes text) ∙ changed_to_agrees old uri version (store.edits (encoding_of e) changes text)
 
-no_room : (there : Bool) (n : ℕ) → (not there && nat_le texts.max_documents n) ≡ not (there || nat_lt n MAX_DOCUMENTS)
+no_room : (there : Bool) (n : ℕ) → (not there && nat_le texts.max_documents n) ≡ not (there || nat_lt n max_documents)
 no_room true n = refl
 no_room false n = grind (arith, nat_tests)
 

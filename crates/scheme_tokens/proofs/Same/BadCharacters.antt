@@ -1,16 +1,14 @@
 -- Where a character that is none stops.
-use Rattle.std.proofs.Common.{◌≡◌, ℕ, zero, suc, ◌<◌, ◌≤◌, ◌+◌, ◌*◌, List, [], ◌∷◌, ◌++◌, Option, Some, None, Result, Ok, Err, Bool, true, false, cond, refl, sym, ap, ◌∙◌, subst, append_assoc, append-nil, arith, ◌⊎◌, inl, inr, ◌==◌, ◌&&◌, ◌||◌}
+use Rattle.std.proofs.Common.{◌≡◌, ℕ, ◌<◌, ◌≤◌, ◌+◌, ◌*◌, List, [], ◌∷◌, ◌++◌, Option, Some, None, Err, Bool, true, false, refl, sym, ap, ◌∙◌, subst, append_assoc, append-nil, arith, inl, inr, ◌==◌, ◌&&◌, ◌||◌}
 use Rattle.std.specs.Prelude.{codes, nat_lt}
 use Rattle.std.specs.List.{list_all, fold}
 use Rattle.std.specs.Char.{to_ascii_lowercase, digit_value}
-use Rattle.std.proofs.lemmas.Bool.{cond-true, cond-false, cond_both, or_cases, or_left, or_right, and_parts, and_from, eqb-true, eq-eqb, false_from_ne_true, lt-ltb, ltb-true, ltb-false, cases_Bool}
+use Rattle.std.proofs.lemmas.Bool.{cond_both, or_cases, or_left, or_right, and_parts, and_from, eqb-true, eq-eqb, lt-ltb, ltb-true}
 use Rattle.std.proofs.lemmas.Bool.Decides.{nat_tests}
-use Rattle.scheme_tokens.specs.Characters.{is_hex_digit, is_scalar, is_delimiter}
-use Rattle.scheme_tokens.specs.Words.{Ends, IsWord, is_inside}
-use Rattle.scheme_tokens.specs.Tokens.{TokenKind, Atomic, Character, hex_value, IsCode, IsCharacter, IsCharacterName, IsToken}
-use Rattle.scheme_tokens.specs.Faults.{Fault, bad_token}
+use Rattle.scheme_tokens.specs.Lexical.{is_hex_digit, is_scalar, is_delimiter, IsWord, is_inside, Atomic, Character, hex_value, IsCode, IsCharacter, IsCharacterName}
+use Rattle.scheme_tokens.specs.Faults.{bad_token}
 use Rattle.scheme_tokens.specs.Stopping.{because}
-use Rattle.scheme_tokens.specs.Mirror.Words.{word_of, behind_word, front_of, behind}
+use Rattle.scheme_tokens.specs.Mirror.Words.{word_of, behind_word}
 use Rattle.scheme_tokens.specs.Mirror.Quoted.{hex_scalar}
 use Rattle.scheme_tokens.specs.Mirror.Tokens.{token, hash_token, named, character_of, character, before, behind_hash_slash}
 use Rattle.scheme_tokens.proofs.Fronts.{front-behind}
@@ -18,7 +16,7 @@ use Rattle.scheme_tokens.proofs.Same.Ends.{behind-all, front-all}
 use Rattle.scheme_tokens.proofs.Same.Elements.{scalar_code}
 use Rattle.scheme_tokens.proofs.Same.Words.{NameTold, named_told}
 use Rattle.scheme_tokens.proofs.Same.Tokens.{a_word}
-use Rattle.scheme_tokens.proofs.Same.Scanned.{cons_head, cons_tail, cons_none, list_all_front, list_all_behind, list_all_both, front_more, behind_more, Scanned, scan_from, Goes, Halts, NoHash, Refused}
+use Rattle.scheme_tokens.proofs.Same.Scanned.{cons_head, cons_tail, cons_none, list_all_front, list_all_behind, list_all_both, front_more, behind_more, scan_from, Goes, Halts, Refused}
 use Rattle.scheme_tokens.proofs.Same.BadWords.{OrRefused}
 
 not_both : (b : Bool) → b ≡ true → b ≡ false → ⊥

@@ -1,13 +1,11 @@
 -- Where a string or a name between bars stops.
-use Rattle.std.proofs.Common.{◌≡◌, ℕ, zero, suc, ◌<◌, ◌≤◌, ◌+◌, List, [], ◌∷◌, ◌++◌, Option, Some, None, Result, Ok, Err, Bool, true, false, cond, refl, sym, ap, ◌∙◌, subst, append_assoc, append-nil, arith, length, ◌⊎◌, inl, inr, ◌==◌, ◌&&◌, ◌||◌}
+use Rattle.std.proofs.Common.{◌≡◌, ℕ, zero, suc, ◌≤◌, List, [], ◌∷◌, ◌++◌, Option, Some, None, Result, Ok, Err, Bool, true, false, cond, refl, sym, ap, ◌∙◌, subst, append_assoc, arith, length, inl, inr, ◌==◌, ◌&&◌, ◌||◌}
 use Rattle.std.specs.Prelude.{nat_lt}
 use Rattle.std.specs.List.{list_all}
 use Rattle.std.specs.Char.{to_ascii_lowercase}
-use Rattle.std.proofs.lemmas.Bool.{cond-true, cond-false, cond_both, or_cases, or_left, or_right, and_parts, and_from, eqb-true, eq-eqb, ltb-true, ltb-false, le-ltb}
+use Rattle.std.proofs.lemmas.Bool.{cond-true, cond-false, cond_both, or_left, and_parts, eqb-true, ltb-true, ltb-false, le-ltb}
 use Rattle.std.proofs.lemmas.Str.{length-le-encodes}
-use Rattle.scheme_tokens.specs.Characters.{is_one_of, is_line_end, is_blank, is_hex_digit, is_scalar}
-use Rattle.scheme_tokens.specs.Words.{Ends, byte_count}
-use Rattle.scheme_tokens.specs.Tokens.{TokenKind, Atomic, Name, Quoted, IsMnemonic, hex_value, IsCode, IsLineEnd, IsElement, IsElements}
+use Rattle.scheme_tokens.specs.Lexical.{is_line_end, is_blank, is_hex_digit, Ends, byte_count, Atomic, Name, Quoted, IsMnemonic, hex_value, IsCode, IsLineEnd, IsElement, IsElements}
 use Rattle.scheme_tokens.specs.Faults.{Fault, bad_token}
 use Rattle.scheme_tokens.specs.Stopping.{because}
 use Rattle.scheme_tokens.specs.Mirror.Words.{front_of, behind}
@@ -18,7 +16,7 @@ use Rattle.scheme_tokens.proofs.QuotedLengths.{Rests, element_rests}
 use Rattle.scheme_tokens.proofs.Same.Ends.{behind-all, front-all, ends-behind, EndsLike, like_first}
 use Rattle.scheme_tokens.proofs.Same.Elements.{OneTold, element_told, scalar_code, element_frame, element_to_mark}
 use Rattle.scheme_tokens.proofs.Same.ElementsRead.{Reads, element_read, escape_step, hex_step, fold_step, elements_step}
-use Rattle.scheme_tokens.proofs.Same.Scanned.{cons_head, cons_tail, cons_none, list_all_front, list_all_behind, list_all_both, front_more, behind_more, Scanned, scan_from, Goes, Halts, Refused}
+use Rattle.scheme_tokens.proofs.Same.Scanned.{cons_head, cons_none, list_all_front, list_all_both, front_more, behind_more, scan_from, Halts}
 use Rattle.scheme_tokens.proofs.Same.BadWords.{OrRefused}
 use Rattle.scheme_tokens.proofs.Same.BadCharacters.{digits_go, value_grows, code_small}
 

@@ -1,22 +1,20 @@
 -- Where a word that begins with `#` and is no token stops.
-use Rattle.std.proofs.Common.{◌≡◌, ℕ, List, [], ◌∷◌, ◌++◌, Option, Some, None, Result, Ok, Err, Bool, true, false, cond, refl, sym, ap, ◌∙◌, subst, append_assoc, append-nil, map, ◌⊎◌, inl, inr, ◌==◌, ◌&&◌, ◌||◌}
+use Rattle.std.proofs.Common.{◌≡◌, ℕ, List, [], ◌∷◌, ◌++◌, Option, Some, None, Ok, Err, Bool, true, false, cond, refl, sym, ap, ◌∙◌, subst, append_assoc, append-nil, map, inl, inr, ◌==◌, ◌&&◌, ◌||◌}
 use Rattle.std.specs.Prelude.{codes}
 use Rattle.std.specs.List.{list_all}
 use Rattle.std.specs.Char.{to_ascii_lowercase, is_ascii_digit}
-use Rattle.std.proofs.lemmas.Bool.{cond-true, cond-false, or_cases, or_parts, or_left, or_right, or_from, and_parts, and_from, and_left, and_right, eqb-true, eq-eqb, false_from_ne_true}
-use Rattle.scheme_tokens.specs.Characters.{is_delimiter}
-use Rattle.scheme_tokens.specs.Words.{Ends, IsWord, Spells, is_inside}
-use Rattle.scheme_tokens.specs.Tokens.{TokenKind, BytesParen, Atomic, Numeral, Truth, IsNumeral, IsToken}
-use Rattle.scheme_tokens.specs.Faults.{Fault, bad_token}
-use Rattle.scheme_tokens.specs.Stopping.{because, refused, unended, begins_bar}
-use Rattle.scheme_tokens.specs.Mirror.Words.{word_of, behind_word, front_of, behind, spells, is_numeral}
+use Rattle.std.proofs.lemmas.Bool.{cond-true, cond-false, or_cases, or_parts, or_left, or_right, and_parts, and_from, and_right, eqb-true, eq-eqb, false_from_ne_true}
+use Rattle.scheme_tokens.specs.Lexical.{is_delimiter, IsWord, Spells, is_inside, TokenKind, BytesParen, Atomic, Numeral, Truth, IsToken}
+use Rattle.scheme_tokens.specs.Faults.{bad_token}
+use Rattle.scheme_tokens.specs.Stopping.{because}
+use Rattle.scheme_tokens.specs.Mirror.Words.{word_of, behind_word, spells, is_numeral}
 use Rattle.scheme_tokens.specs.Mirror.Tokens.{token, hash_kind, hash_word, hash_token, behind_bytes, bytes_or, before}
 use Rattle.scheme_tokens.proofs.Fronts.{front-behind, front_of-cons}
 use Rattle.scheme_tokens.proofs.TokenLaws.{hash_inside}
 use Rattle.scheme_tokens.proofs.Same.Ends.{behind-all, front-all}
 use Rattle.scheme_tokens.proofs.Same.Words.{spells_is, test_numeral}
 use Rattle.scheme_tokens.proofs.Same.Tokens.{a_word, u8_is}
-use Rattle.scheme_tokens.proofs.Same.Scanned.{cons_head, cons_tail, cons_none, list_all_front, list_all_both, front_more, behind_more, Scanned, scan_from, Goes, Halts, NoHash, Refused}
+use Rattle.scheme_tokens.proofs.Same.Scanned.{cons_head, cons_tail, list_all_front, list_all_both, front_more, behind_more, scan_from, Goes, Halts, Refused}
 use Rattle.scheme_tokens.proofs.Same.BadWords.{OrRefused}
 
 not_both : (b : Bool) → b ≡ true → b ≡ false → ⊥

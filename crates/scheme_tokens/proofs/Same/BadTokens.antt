@@ -1,21 +1,17 @@
 -- Where a text that begins with no token stops.
-use Rattle.std.proofs.Common.{◌≡◌, ℕ, List, [], ◌∷◌, ◌++◌, Option, Some, None, Result, Ok, Err, Bool, true, false, cond, refl, sym, ap, ◌∙◌, subst, ◌⊎◌, inl, inr, ◌==◌, ◌&&◌, ◌||◌}
+use Rattle.std.proofs.Common.{◌≡◌, ℕ, List, [], ◌∷◌, Result, Err, true, false, refl, sym, ◌∙◌, subst, inl, inr, ◌==◌}
 use Rattle.std.specs.Char.{is_ascii_digit, is_whitespace}
-use Rattle.std.proofs.lemmas.Bool.{cond-true, cond-false, cond_both, eqb-true, false_from_ne_true, and_left, and_parts}
-use Rattle.scheme_tokens.specs.Tokens.{TokenKind, Paren, Close, Marked, Quote, Quasi, Splice, Unquote, VectorParen, Skip, Atomic, Truth}
+use Rattle.std.proofs.lemmas.Bool.{cond-true, cond-false, cond_both, eqb-true}
+use Rattle.scheme_tokens.specs.Lexical.{TokenKind, Atomic, Truth, is_delimiter, is_inside}
 use Rattle.std.specs.Prelude.{codes}
 use Rattle.std.specs.List.{list_all}
-use Rattle.scheme_tokens.specs.Characters.{is_delimiter}
-use Rattle.scheme_tokens.specs.Words.{is_inside}
 use Rattle.scheme_tokens.specs.Faults.{Fault, bad_token, label, directive}
-use Rattle.scheme_tokens.specs.Stopping.{because}
-use Rattle.scheme_tokens.specs.Mirror.Tokens.{token, hash_token, unquote_token, string_token, bar_token, word_token, behind_hash_slash, hash_word}
-use Rattle.scheme_tokens.specs.Mirror.Words.{word_of, behind_word}
+use Rattle.scheme_tokens.specs.Mirror.Tokens.{token, hash_token, unquote_token, string_token, bar_token, behind_hash_slash}
 use Rattle.scheme_tokens.proofs.Same.Words.{is_no}
 use Rattle.scheme_tokens.proofs.Same.GapsFound.{Dark}
-use Rattle.scheme_tokens.proofs.Same.Scanned.{Goes, Halts, Refused}
-use Rattle.scheme_tokens.proofs.Same.BadWords.{OrRefused, BeginsWord, word_refused}
-use Rattle.scheme_tokens.proofs.Same.BadHashes.{GoesOn, hash_refused}
+use Rattle.scheme_tokens.proofs.Same.Scanned.{Goes, Refused}
+use Rattle.scheme_tokens.proofs.Same.BadWords.{OrRefused, word_refused}
+use Rattle.scheme_tokens.proofs.Same.BadHashes.{hash_refused}
 use Rattle.scheme_tokens.proofs.Same.BadCharacters.{slash_refused}
 use Rattle.scheme_tokens.proofs.Same.BadElements.{string_refused, bar_refused}
 

@@ -1,21 +1,19 @@
 -- Where a word that is no token stops.
-use Rattle.std.proofs.Common.{◌≡◌, ℕ, ◌<◌, ◌≤◌, ◌+◌, List, [], ◌∷◌, ◌++◌, Result, Ok, Err, Bool, true, false, cond, not, refl, sym, ap, ◌∙◌, subst, append_assoc, append-nil, map, arith, ◌⊎◌, inl, inr, ◌==◌, ◌&&◌, ◌||◌}
+use Rattle.std.proofs.Common.{◌≡◌, ℕ, ◌<◌, ◌+◌, List, [], ◌∷◌, ◌++◌, Result, Ok, Err, Bool, true, false, cond, refl, sym, ap, ◌∙◌, subst, append_assoc, append-nil, map, arith, inl, inr, ◌==◌, ◌&&◌, ◌||◌}
 use Rattle.std.specs.Prelude.{codes, nat_lt}
 use Rattle.std.specs.List.{list_all}
 use Rattle.std.specs.Char.{to_ascii_lowercase, is_ascii_digit, is_whitespace}
-use Rattle.std.proofs.lemmas.Bool.{cond-true, cond-false, cond_both, or_cases, or_parts, or_left, or_right, or_from, and_parts, and_from, and_left, eqb-true, false_from_ne_true, ltb-true, ltb-false}
-use Rattle.scheme_tokens.specs.Characters.{is_one_of, is_sign, is_initial, is_subsequent, is_sign_subsequent, is_dot_subsequent, is_delimiter}
-use Rattle.scheme_tokens.specs.Words.{Ends, IsWord, Spells, is_inside}
-use Rattle.scheme_tokens.specs.Tokens.{TokenKind, Dot, Atomic, Name, Numeral, IsBare, IsNumeral, IsToken}
+use Rattle.std.proofs.lemmas.Bool.{cond-false, cond_both, or_cases, or_parts, or_left, or_right, or_from, and_parts, and_from, and_left, false_from_ne_true}
+use Rattle.scheme_tokens.specs.Lexical.{is_one_of, is_sign, is_initial, is_subsequent, is_sign_subsequent, is_dot_subsequent, is_delimiter, Ends, IsWord, Spells, is_inside, TokenKind, Dot, Atomic, Name, Numeral, IsBare, IsNumeral, IsToken}
 use Rattle.scheme_tokens.specs.Faults.{Fault, bad_token}
 use Rattle.scheme_tokens.specs.Stopping.{because, refused, begins_bar}
-use Rattle.scheme_tokens.specs.Mirror.Words.{word_of, behind_word, front_of, behind, is_text, is_numeral, is_identifier}
+use Rattle.scheme_tokens.specs.Mirror.Words.{word_of, behind_word, is_text, is_numeral, is_identifier}
 use Rattle.scheme_tokens.specs.Mirror.Tokens.{token, word_token, word_kind, before}
-use Rattle.scheme_tokens.proofs.Same.Words.{text_is, is_text_same, test_numeral, numeral_test, identifier_bare, bare_identifier, is_no}
+use Rattle.scheme_tokens.proofs.Same.Words.{text_is, test_numeral, numeral_test, identifier_bare, bare_identifier}
 use Rattle.scheme_tokens.proofs.Same.TokensRead.{word_read}
 use Rattle.scheme_tokens.proofs.Same.Tokens.{lower_small, a_word}
 use Rattle.scheme_tokens.proofs.Fronts.{front-behind, front_of-cons}
-use Rattle.scheme_tokens.proofs.Same.Scanned.{cons_head, cons_tail, cons_none, two_fronts, list_all_front, list_all_both, front_more, behind_more, Scanned, scan_from, Goes, Halts, NoHash, Refused}
+use Rattle.scheme_tokens.proofs.Same.Scanned.{cons_head, cons_tail, cons_none, two_fronts, list_all_front, list_all_both, front_more, behind_more, scan_from, Goes, Halts, Refused}
 
 not_both : (b : Bool) → b ≡ true → b ≡ false → ⊥
 not_both b h k = cc

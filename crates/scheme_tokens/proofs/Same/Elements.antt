@@ -1,14 +1,11 @@
 -- What the code reads up to a closing mark is elements, and what they mean.
-use Rattle.std.proofs.Common.{◌≡◌, ℕ, zero, suc, ◌≤◌, ◌<◌, List, [], ◌∷◌, ◌++◌, Option, Some, None, Result, Ok, Err, Bool, true, false, cond, refl, sym, ap, ◌∙◌, subst, append_assoc, append-nil, length, arith, ◌||◌, ◌==◌, ◌&&◌, not, inl, inr}
+use Rattle.std.proofs.Common.{◌≡◌, ℕ, zero, suc, List, [], ◌∷◌, ◌++◌, Option, Some, None, Result, Ok, Err, Bool, true, false, cond, refl, sym, ap, ◌∙◌, subst, append_assoc, ◌||◌, ◌==◌, ◌&&◌, inl, inr}
 use Rattle.std.specs.List.{list_all}
 use Rattle.std.specs.Char.{to_ascii_lowercase}
-use Rattle.std.proofs.lemmas.Bool.{cond-true, cond-false, cond_both, or_cases, or_parts, or_from, or_left, or_right, and_parts, and_from, and_right, eqb-true, eq-eqb, not-true, not_from_false}
-use Rattle.std.proofs.lemmas.List.{length-append}
-use Rattle.scheme_tokens.specs.Characters.{is_one_of, is_line_end, is_blank, is_hex_digit, is_scalar}
-use Rattle.scheme_tokens.specs.Words.{Ends}
-use Rattle.scheme_tokens.specs.Tokens.{IsMnemonic, hex_value, IsCode, IsLineEnd, is_plain, IsElement, IsElements}
+use Rattle.std.proofs.lemmas.Bool.{cond-true, cond-false, cond_both, or_cases, or_from, and_parts, eqb-true, not_from_false}
+use Rattle.scheme_tokens.specs.Lexical.{is_one_of, is_line_end, is_blank, is_hex_digit, is_scalar, Ends, IsMnemonic, hex_value, IsCode, IsLineEnd, IsElement, IsElements}
 use Rattle.scheme_tokens.specs.Mirror.Words.{front_of, behind}
-use Rattle.scheme_tokens.specs.Mirror.Quoted.{Fault, bad_token, ◌>>=◌, open_at, escaped, letter, hex_scalar, hex_end, behind_line_end, fold_end, escape, element, elements}
+use Rattle.scheme_tokens.specs.Mirror.Quoted.{Fault, ◌>>=◌, escaped, letter, hex_scalar, hex_end, behind_line_end, fold_end, escape, element, elements}
 use Rattle.scheme_tokens.proofs.Fronts.{front-behind, list_all-front_of}
 use Rattle.scheme_tokens.proofs.Same.Ends.{ends-behind, EndsLike, like_front, like_behind}
 

@@ -1,15 +1,13 @@
 -- Elements up to a closing mark are read as what they mean.
-use Rattle.std.proofs.Common.{◌≡◌, ℕ, zero, suc, ◌≤◌, ◌<◌, List, [], ◌∷◌, ◌++◌, Option, Some, None, Result, Ok, Err, Bool, true, false, cond, refl, sym, ap, ◌∙◌, subst, append_assoc, append-nil, length, arith, ◌||◌, ◌==◌, ◌&&◌, not, inl, inr}
+use Rattle.std.proofs.Common.{◌≡◌, ℕ, zero, suc, ◌≤◌, List, [], ◌∷◌, ◌++◌, Option, Result, Ok, Bool, true, false, cond, refl, sym, ap, ◌∙◌, subst, append_assoc, length, arith, ◌||◌, ◌==◌, ◌&&◌, inl, inr}
 use Rattle.std.specs.List.{list_all}
 use Rattle.std.specs.Char.{to_ascii_lowercase}
-use Rattle.std.proofs.lemmas.Bool.{cond-true, cond-false, or_cases, or_parts, or_left, or_right, and_parts, and_from, and_right, eqb-true, eq-eqb, not-true, ne_eqb, eqb-false}
+use Rattle.std.proofs.lemmas.Bool.{cond-true, cond-false, or_cases, or_parts, or_left, or_right, and_parts, and_from, and_right, eqb-true, eq-eqb, not-true}
 use Rattle.std.proofs.lemmas.List.{length-append}
-use Rattle.scheme_tokens.specs.Characters.{is_line_end, is_blank, is_hex_digit}
-use Rattle.scheme_tokens.specs.Words.{Ends}
-use Rattle.scheme_tokens.specs.Tokens.{IsMnemonic, IsCode, IsLineEnd, is_plain, IsElement, IsElements}
+use Rattle.scheme_tokens.specs.Lexical.{is_line_end, is_blank, is_hex_digit, Ends, IsMnemonic, IsCode, IsLineEnd, IsElement, IsElements}
 use Rattle.scheme_tokens.specs.Mirror.Words.{front_of, behind}
-use Rattle.scheme_tokens.specs.Mirror.Quoted.{Fault, ◌>>=◌, escaped, letter, hex_scalar, hex_end, behind_line_end, fold_end, escape, element, elements}
-use Rattle.scheme_tokens.proofs.Same.Ends.{behind-all, front-all, EndsLike, like_first}
+use Rattle.scheme_tokens.specs.Mirror.Quoted.{Fault, ◌>>=◌, letter, hex_end, behind_line_end, fold_end, escape, element, elements}
+use Rattle.scheme_tokens.proofs.Same.Ends.{behind-all, front-all, like_first}
 use Rattle.scheme_tokens.proofs.Same.Elements.{code_scalar, element_frame}
 
 -- what is read of an element, before more

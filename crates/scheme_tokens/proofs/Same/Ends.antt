@@ -1,8 +1,8 @@
 -- Where characters of a class end.
-use Rattle.std.proofs.Common.{◌≡◌, ℕ, List, [], ◌∷◌, ◌++◌, Bool, true, false, cond, refl, sym, ap, ◌∙◌, append-nil}
+use Rattle.std.proofs.Common.{◌≡◌, ℕ, List, [], ◌∷◌, ◌++◌, Bool, true, false, cond, refl, ap, ◌∙◌}
 use Rattle.std.specs.List.{list_all}
 use Rattle.std.proofs.lemmas.Bool.{cond-true, cond-false, and_parts}
-use Rattle.scheme_tokens.specs.Words.{Ends}
+use Rattle.scheme_tokens.specs.Lexical.{Ends}
 use Rattle.scheme_tokens.specs.Mirror.Words.{front_of, behind}
 
 -- nothing is left of the class where it ends

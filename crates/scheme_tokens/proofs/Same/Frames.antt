@@ -1,10 +1,7 @@
 -- Tokens and space count what follows them by its first character alone.
-use Rattle.std.proofs.Common.{◌≡◌, ℕ, ◌+◌, List, [], ◌∷◌, ◌++◌, Bool, true, false, cond, refl, sym, ap, ◌∙◌, subst, append_assoc, append-nil, arith, ◌==◌, inl, inr}
+use Rattle.std.proofs.Common.{◌≡◌, ℕ, List, [], ◌∷◌, ◌++◌, Bool, true, false, cond, refl, sym, ap, ◌∙◌, subst, append_assoc, ◌==◌}
 use Rattle.std.proofs.lemmas.Bool.{eqb-true, cond-false}
-use Rattle.scheme_tokens.specs.Words.{Ends, IsWord, is_inside, byte_count}
-use Rattle.scheme_tokens.specs.Gaps.{is_in_line, IsSpace}
-use Rattle.scheme_tokens.specs.Tokens.{TokenKind, Paren, VectorParen, BytesParen, Close, Dot, Skip, Marked, Quote, Quasi, Unquote, Splice, Atomic, Name, Numeral, Quoted, Character, Truth, IsToken}
-use Rattle.scheme_tokens.specs.Reading.{Token, First, IsSpelledFrom, mark_bytes, behind_mark, IsSpelled}
+use Rattle.scheme_tokens.specs.Lexical.{Ends, IsWord, is_inside, is_in_line, IsSpace, TokenKind, Paren, VectorParen, BytesParen, Close, Dot, Skip, Marked, Quote, Quasi, Unquote, Splice, Atomic, Name, Numeral, Quoted, Character, Truth, IsToken, Token, First, IsSpelledFrom, mark_bytes, behind_mark}
 use Rattle.scheme_tokens.specs.Stopping.{Begins}
 use Rattle.scheme_tokens.proofs.Same.Ends.{EndsLike, like_behind}
 

@@ -1,14 +1,12 @@
 -- The gap that the code passes is the intertoken space at the front of a text, and all of it.
-use Rattle.std.proofs.Common.{◌≡◌, ℕ, zero, suc, List, [], ◌∷◌, ◌++◌, Result, Ok, Err, Bool, true, false, cond, refl, sym, ap, ◌∙◌, subst, append_assoc, append-nil, ◌||◌, ◌==◌, ◌&&◌, not, ◌⊎◌, inl, inr}
+use Rattle.std.proofs.Common.{◌≡◌, ℕ, suc, List, [], ◌∷◌, ◌++◌, true, refl, sym, ap, ◌∙◌, append_assoc, ◌==◌, inl, inr}
 use Rattle.std.specs.List.{list_all}
 use Rattle.std.specs.Char.{is_whitespace}
-use Rattle.std.proofs.lemmas.Bool.{cond-true, cond-false, cond_both, or_cases, or_parts, or_from, and_parts, and_from, not-true, not-false, eqb-true, not_from_false}
-use Rattle.scheme_tokens.specs.Characters.{is_line_end}
-use Rattle.scheme_tokens.specs.Words.{Ends}
-use Rattle.scheme_tokens.specs.Gaps.{is_mark, IsNested, closed, plain, inner, is_in_line, IsSpace, none, white, line, nested}
+use Rattle.std.proofs.lemmas.Bool.{cond-true, cond-false, or_cases, or_parts, and_parts, not-true, not-false, eqb-true}
+use Rattle.scheme_tokens.specs.Lexical.{is_line_end, Ends, IsNested, closed, plain, inner, is_in_line, IsSpace, none, white, line, nested}
 use Rattle.scheme_tokens.specs.Mirror.Gaps as mirror
 use Rattle.scheme_tokens.specs.Mirror.Gaps.{Within, between, block, opens, closes, behind_gap}
-use Rattle.scheme_tokens.proofs.GapLaws.{block_none, line_none, between_none, after_closing, block_step, line_step, white_step, comment_step, nested_step}
+use Rattle.scheme_tokens.proofs.GapLaws.{line_none, between_none, after_closing, block_step, line_step, white_step, comment_step, nested_step}
 
 -- ---- space is passed
 

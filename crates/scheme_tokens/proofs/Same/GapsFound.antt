@@ -1,15 +1,13 @@
 -- What the code passes as a gap is intertoken space; where it tells an open comment, that comment can still be closed.
-use Rattle.std.proofs.Common.{◌≡◌, ℕ, zero, suc, List, [], ◌∷◌, ◌++◌, Result, Ok, Err, Bool, true, false, cond, refl, sym, ap, ◌∙◌, subst, append_assoc, ◌||◌, ◌==◌, ◌&&◌, ◌⊎◌, inl, inr}
+use Rattle.std.proofs.Common.{◌≡◌, ℕ, zero, suc, List, [], ◌∷◌, ◌++◌, Result, Ok, Err, Bool, true, false, cond, refl, sym, ap, ◌∙◌, subst, append_assoc, ◌||◌, ◌==◌, ◌⊎◌, inl, inr}
 use Rattle.std.specs.List.{list_all}
 use Rattle.std.specs.Char.{is_whitespace}
-use Rattle.std.proofs.lemmas.Bool.{cond-true, cond-false, cond_both, or_cases, or_parts, or_from, and_parts, and_from, eqb-true, not_from_false, not_from_true, and_right}
-use Rattle.scheme_tokens.specs.Characters.{is_line_end}
-use Rattle.scheme_tokens.specs.Words.{Ends}
-use Rattle.scheme_tokens.specs.Gaps.{is_mark, IsNested, closed, plain, inner, is_in_line, IsSpace, none, white, line, nested}
+use Rattle.std.proofs.lemmas.Bool.{cond-false, cond_both, or_cases, or_parts, or_from, and_parts, and_from, eqb-true, not_from_false, not_from_true, and_right}
+use Rattle.scheme_tokens.specs.Lexical.{is_line_end, Ends, is_mark, IsNested, closed, plain, inner, is_in_line, IsSpace, none, white, line, nested}
 use Rattle.scheme_tokens.specs.Mirror.Gaps as mirror
 use Rattle.scheme_tokens.specs.Mirror.Gaps.{Within, between, block, opens, closes, behind_gap}
 use Rattle.scheme_tokens.proofs.Same.Gaps.{line_end_white}
-use Rattle.scheme_tokens.proofs.GapLaws.{line_none, between_none, between_one, between_step}
+use Rattle.scheme_tokens.proofs.GapLaws.{between_none, between_one, between_step}
 
 -- ---- comments
 

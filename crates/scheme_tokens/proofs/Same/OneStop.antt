@@ -1,15 +1,11 @@
 -- A text stops in one way, and there the code stops reading.
-use Rattle.std.proofs.Common.{◌≡◌, ℕ, ◌+◌, ◌≤◌, List, [], ◌∷◌, ◌++◌, length, Option, Some, None, Result, Ok, Err, Bool, true, false, cond, refl, sym, ap, ◌∙◌, subst, append_assoc, append-nil, arith, ◌==◌, ◌&&◌, ◌||◌, ◌⊎◌, inl, inr}
+use Rattle.std.proofs.Common.{◌≡◌, ℕ, ◌+◌, ◌≤◌, List, [], ◌∷◌, ◌++◌, length, Some, None, Result, Ok, Err, true, false, refl, sym, ap, ◌∙◌, subst, append_assoc, append-nil, arith, ◌==◌, ◌⊎◌, inl, inr}
 use Rattle.std.specs.Prelude.{codes}
 use Rattle.std.specs.List.{list_all}
 use Rattle.std.specs.Char.{is_whitespace}
-use Rattle.scheme_tokens.specs.Characters.{is_delimiter}
-use Rattle.std.proofs.lemmas.Bool.{false_from_ne_true, and_parts, eqb-true, or_left, or_right}
+use Rattle.scheme_tokens.specs.Lexical.{is_delimiter, Ends, is_inside, byte_count, is_mark, IsNested, IsSpace, TokenKind, Atomic, Truth, IsToken, Token, First, IsSpelledFrom, mark_bytes, behind_mark, IsSpelled}
+use Rattle.std.proofs.lemmas.Bool.{false_from_ne_true, and_parts, eqb-true}
 use Rattle.std.proofs.lemmas.List.{append_cancel_right, append_cancel_left, length-append}
-use Rattle.scheme_tokens.specs.Words.{Ends, IsWord, is_inside, byte_count}
-use Rattle.scheme_tokens.specs.Gaps.{is_mark, IsNested, IsSpace}
-use Rattle.scheme_tokens.specs.Tokens.{TokenKind, Atomic, Truth, IsToken}
-use Rattle.scheme_tokens.specs.Reading.{Token, First, IsSpelledFrom, mark_bytes, behind_mark, IsSpelled}
 use Rattle.scheme_tokens.specs.Faults.{Fault, bad_token, open_string, open_bar, open_comment, label, directive, FaultAt}
 use Rattle.scheme_tokens.specs.Stopping.{CanGoOn, StopsBetween, Begins, IsBegun, because, RunsOn, IsShown, IsStop}
 use Rattle.scheme_tokens.specs.Mirror.Words.{front_of}
@@ -21,12 +17,12 @@ use Rattle.scheme_tokens.proofs.TokenLengths.{token_rests}
 use Rattle.scheme_tokens.proofs.QuotedLengths.{Rests}
 use Rattle.scheme_tokens.proofs.Same.Ends.{front-all, EndsLike, like_nothing, like_first, like_behind}
 use Rattle.scheme_tokens.proofs.Same.Gaps.{space_passed}
-use Rattle.scheme_tokens.proofs.Same.GapsFound.{Passed, Dark, dark_gap, target, Told, gap_told}
+use Rattle.scheme_tokens.proofs.Same.GapsFound.{Dark, dark_gap, target, Told, gap_told}
 use Rattle.scheme_tokens.proofs.Same.TokensRead.{token_read}
 use Rattle.scheme_tokens.proofs.Same.Reading.{no_token, none_token, token_here, comment_no_token, not_white, not_semicolon, not_opening, first_next, NextTold, next_told, mark_counted}
 use Rattle.scheme_tokens.proofs.Same.Scanned.{cons_head, cons_tail, cons_none, two_fronts}
 use Rattle.scheme_tokens.proofs.Same.Frames.{space_frame, space_joined, token_frame, begins_fronted, begins_spelled, mark_split}
-use Rattle.scheme_tokens.proofs.Same.Stops.{regroup, like_text, like_same, one_token, comment_space, StopTold, next_stop, begins_reads, read_stops}
+use Rattle.scheme_tokens.proofs.Same.Stops.{regroup, like_text, like_same, one_token, comment_space, begins_reads, read_stops}
 
 -- ---- nested comments
 

@@ -1,15 +1,11 @@
 -- The code reads a text as tokens exactly where the text is these tokens with intertoken space.
-use Rattle.std.proofs.Common.{◌≡◌, ℕ, zero, suc, ◌+◌, ◌-◌, ◌≤◌, ◌<◌, List, [], ◌∷◌, ◌++◌, Option, Some, None, Result, Ok, Err, Bool, true, false, cond, refl, sym, ap, ◌∙◌, subst, append_assoc, append-nil, length, arith, ◌||◌, ◌==◌, ◌&&◌}
+use Rattle.std.proofs.Common.{◌≡◌, ℕ, ◌+◌, List, [], ◌∷◌, ◌++◌, Some, None, Result, Ok, Err, Bool, true, false, cond, refl, sym, ap, ◌∙◌, subst, append-nil, arith, ◌==◌}
 use Rattle.std.specs.Char.{is_whitespace, len_utf8}
-use Rattle.std.proofs.lemmas.Bool.{cond-false, cond-true, cases_Bool, and_parts, or_left, or_right, eqb-true, false_from_ne_true}
+use Rattle.std.proofs.lemmas.Bool.{cond-false, and_parts, or_left, eqb-true, false_from_ne_true}
 use Rattle.std.proofs.lemmas.List.Sums.{sum_by-append, sum_by-cons}
-use Rattle.scheme_tokens.specs.Characters.{is_delimiter}
-use Rattle.scheme_tokens.specs.Words.{byte_count, is_inside}
-use Rattle.scheme_tokens.specs.Gaps.{IsSpace}
-use Rattle.scheme_tokens.specs.Tokens.{TokenKind, Atomic, Name, IsToken}
-use Rattle.scheme_tokens.specs.Reading.{Token, First, IsSpelledFrom, mark_bytes, behind_mark, IsSpelled, IsIdentifier}
-use Rattle.scheme_tokens.specs.Faults.{Fault, FaultAt}
-use Rattle.scheme_tokens.specs.Mirror.Words.{word_of, behind_word, front_of, behind, is_numeral, is_identifier}
+use Rattle.scheme_tokens.specs.Lexical.{is_delimiter, byte_count, is_inside, IsSpace, TokenKind, Atomic, Name, IsToken, Token, First, IsSpelledFrom, mark_bytes, behind_mark, IsSpelled, IsIdentifier}
+use Rattle.scheme_tokens.specs.Faults.{Fault}
+use Rattle.scheme_tokens.specs.Mirror.Words.{word_of, behind_word, is_numeral}
 use Rattle.scheme_tokens.specs.Mirror.Gaps.{between, behind_gap, opens}
 use Rattle.scheme_tokens.specs.Mirror.Tokens.{token, word_token, word_kind, hash_token, hash_kind, before}
 use Rattle.scheme_tokens.specs.Mirror.Reading as mirror

@@ -1,10 +1,8 @@
 -- The longest front of a text for which a test holds, and what else the refusals of tokens share.
-use Rattle.std.proofs.Common.{◌≡◌, ℕ, List, [], ◌∷◌, ◌++◌, Bool, true, false, cond, Result, Ok, Err, refl, sym, ap, ◌∙◌, subst, append_assoc, append-nil, map, ◌⊎◌, inl, inr, ◌==◌, ◌&&◌, ◌||◌}
+use Rattle.std.proofs.Common.{◌≡◌, ℕ, List, [], ◌∷◌, ◌++◌, Bool, true, false, Err, refl, sym, ap, ◌∙◌, subst, append_assoc, append-nil, ◌⊎◌, inl, inr, ◌==◌}
 use Rattle.std.specs.List.{list_all}
-use Rattle.std.specs.Char.{to_ascii_lowercase}
-use Rattle.std.proofs.lemmas.Bool.{cond-true, cond-false, and_parts, and_from, eqb-true, eq-eqb}
-use Rattle.scheme_tokens.specs.Words.{Ends, Spells}
-use Rattle.scheme_tokens.specs.Tokens.{TokenKind, IsToken}
+use Rattle.std.proofs.lemmas.Bool.{cond-true, and_parts, and_from}
+use Rattle.scheme_tokens.specs.Lexical.{TokenKind, IsToken}
 use Rattle.scheme_tokens.specs.Faults.{Fault}
 use Rattle.scheme_tokens.specs.Stopping.{because}
 use Rattle.scheme_tokens.specs.Mirror.Words.{front_of, behind}

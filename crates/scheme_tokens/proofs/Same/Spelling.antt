@@ -1,8 +1,7 @@
 -- How the code writes a name, and that it is read back.
-use Rattle.std.proofs.Common.{◌≡◌, ℕ, List, [], ◌∷◌, ◌++◌, Ok, Bool, true, false, cond, not, refl, sym, ap, ◌∙◌, subst, ◌||◌, ◌&&◌, ◌⊎◌, inl, inr}
+use Rattle.std.proofs.Common.{◌≡◌, ℕ, List, [], Bool, true, false, cond, not, refl, sym, subst, inl, inr}
 use Rattle.std.proofs.lemmas.Bool.{and_parts, and_from, not-true, not_from_false, false_from_ne_true}
-use Rattle.scheme_tokens.specs.Tokens.{Atomic, Name, IsToken}
-use Rattle.scheme_tokens.specs.Reading.{IsIdentifier}
+use Rattle.scheme_tokens.specs.Lexical.{Atomic, Name, IsToken, IsIdentifier}
 use Rattle.scheme_tokens.specs.Spelling.{barred, IsSpelling}
 use Rattle.scheme_tokens.specs.Mirror.Words.{is_numeral, is_identifier}
 use Rattle.scheme_tokens.specs.Mirror.Tokens.{token}

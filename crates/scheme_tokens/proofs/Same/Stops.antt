@@ -1,13 +1,10 @@
 -- Where the code stops reading the text stops, for this reason.
-use Rattle.std.proofs.Common.{◌≡◌, ℕ, ◌+◌, ◌-◌, List, [], ◌∷◌, ◌++◌, Option, Some, None, Result, Ok, Err, Bool, true, false, cond, refl, sym, ap, ◌∙◌, subst, append_assoc, append-nil, drop, arith, ◌==◌, ◌&&◌, ◌⊎◌, inl, inr}
-use Rattle.std.specs.Char.{is_ascii_digit, is_whitespace}
+use Rattle.std.proofs.Common.{◌≡◌, ℕ, ◌+◌, List, [], ◌∷◌, ◌++◌, Option, Some, None, Result, Ok, Err, Bool, false, cond, refl, sym, ap, ◌∙◌, subst, append_assoc, append-nil, drop, ◌==◌, ◌&&◌, inl, inr}
+use Rattle.std.specs.Char.{is_ascii_digit}
 use Rattle.std.proofs.lemmas.Bool.{cond_both, cond-false, and_left, and_right}
-use Rattle.scheme_tokens.specs.Words.{Ends, IsWord, byte_count}
-use Rattle.scheme_tokens.specs.Gaps.{IsNested, IsSpace}
-use Rattle.scheme_tokens.specs.Tokens.{TokenKind, IsToken}
-use Rattle.scheme_tokens.specs.Reading.{Token, First, IsSpelledFrom, mark_bytes, behind_mark, IsSpelled}
+use Rattle.scheme_tokens.specs.Lexical.{Ends, byte_count, IsNested, IsSpace, TokenKind, IsToken, Token, IsSpelledFrom, mark_bytes, behind_mark, IsSpelled, is_inside}
 use Rattle.scheme_tokens.specs.Faults.{Fault, bad_token, open_string, open_bar, open_comment, label, directive, FaultAt}
-use Rattle.scheme_tokens.specs.Stopping.{CanGoOn, StopsBetween, Begins, IsBegun, unended, refused, begins_bar, because, IsShown, IsStop}
+use Rattle.scheme_tokens.specs.Stopping.{CanGoOn, StopsBetween, Begins, IsBegun, unended, refused, because, IsShown, IsStop}
 use Rattle.scheme_tokens.specs.Mirror.Words.{word_of, behind_word}
 use Rattle.scheme_tokens.specs.Mirror.Gaps.{between, behind_gap}
 use Rattle.scheme_tokens.specs.Mirror.Tokens.{token}
@@ -16,7 +13,6 @@ use Rattle.scheme_tokens.proofs.OneReading.{one_reading_from}
 use Rattle.scheme_tokens.proofs.Same.Ends.{EndsLike, like_nothing, like_first, like_behind}
 use Rattle.scheme_tokens.proofs.Same.Gaps.{space_passed}
 use Rattle.scheme_tokens.proofs.Same.GapsFound.{Passed, IsOpen, Dark, dark_gap, Ended, gap_told}
-use Rattle.scheme_tokens.specs.Words.{is_inside}
 use Rattle.scheme_tokens.proofs.Fronts.{front-behind}
 use Rattle.scheme_tokens.proofs.Same.Tokens.{a_word}
 use Rattle.scheme_tokens.proofs.Same.TokensRead.{token_read}
@@ -24,7 +20,7 @@ use Rattle.scheme_tokens.proofs.Same.Reading.{no_token, two_counts, end_count, n
 use Rattle.scheme_tokens.proofs.Same.Scanned.{cons_none, cons_tail, Goes, Halts, NoHash, Refused}
 use Rattle.scheme_tokens.proofs.Same.BadWords.{OrRefused}
 use Rattle.scheme_tokens.proofs.Same.BadTokens.{token_refused}
-use Rattle.scheme_tokens.proofs.Same.Frames.{space_frame, space_joined, token_frame, Fronted, begins_fronted, begins_spelled, mark_split}
+use Rattle.scheme_tokens.proofs.Same.Frames.{space_frame, space_joined, begins_fronted, begins_spelled, mark_split}
 
 -- ---- where no token is read behind space
 

@@ -1,16 +1,14 @@
 -- The token that the code reads at the front of a text is one of the grammar.
-use Rattle.std.proofs.Common.{◌≡◌, ℕ, zero, suc, ◌≤◌, ◌<◌, ◌+◌, List, [], ◌∷◌, ◌++◌, Option, Some, None, Result, Ok, Err, Bool, true, false, cond, refl, sym, ap, ◌∙◌, subst, append_assoc, append-nil, length, arith, map, ◌||◌, ◌==◌, ◌&&◌, not, ◌⊎◌, inl, inr}
+use Rattle.std.proofs.Common.{◌≡◌, ℕ, ◌<◌, List, [], ◌∷◌, ◌++◌, Option, Some, None, Result, Ok, Err, Bool, true, false, refl, sym, ap, ◌∙◌, subst, arith, ◌||◌, ◌==◌, ◌&&◌, ◌⊎◌, inl, inr}
 use Rattle.std.specs.Prelude.{codes, nat_lt}
 use Rattle.std.specs.List.{list_all}
 use Rattle.std.specs.Char.{to_ascii_lowercase, is_ascii_digit}
-use Rattle.std.proofs.lemmas.Bool.{cond-true, cond-false, cond_both, or_cases, or_parts, or_from, or_left, or_right, and_parts, and_from, and_left, and_right, eqb-true, eq-eqb, not-true, false_from_ne_true, ltb-true, ltb-false}
-use Rattle.scheme_tokens.specs.Characters.{is_one_of, is_hex_digit, is_delimiter}
-use Rattle.scheme_tokens.specs.Words.{Ends, IsWord, Spells, is_inside, byte_count}
-use Rattle.scheme_tokens.specs.Tokens.{TokenKind, Paren, VectorParen, BytesParen, Close, Dot, Skip, Marked, Quote, Quasi, Unquote, Splice, Atomic, Name, Numeral, Quoted, Character, Truth, IsBare, IsNumeral, IsCharacter, IsElements, IsToken}
-use Rattle.scheme_tokens.specs.Mirror.Words.{front_of, behind, word_of, behind_word, is_text, spells, is_numeral, is_identifier}
-use Rattle.scheme_tokens.specs.Mirror.Quoted.{Fault, ◌>>=◌, hex_scalar, quoted, elements}
-use Rattle.scheme_tokens.specs.Mirror.Tokens.{word_kind, hash_kind, named, character_of, character, before, behind_hash_slash, behind_bytes, bytes_or, hash_word, hash_token, unquote_token, string_token, bar_token, word_token, token}
-use Rattle.scheme_tokens.proofs.Fronts.{front-behind, list_all-front_of, byte_count-encodes}
+use Rattle.std.proofs.lemmas.Bool.{cond_both, or_cases, and_parts, eqb-true, ltb-false}
+use Rattle.scheme_tokens.specs.Lexical.{is_hex_digit, IsWord, Spells, is_inside, byte_count, TokenKind, Paren, BytesParen, Close, Marked, Quote, Quasi, Atomic, Name, Quoted, IsCharacter, IsToken}
+use Rattle.scheme_tokens.specs.Mirror.Words.{word_of, behind_word, is_text, spells, is_numeral, is_identifier}
+use Rattle.scheme_tokens.specs.Mirror.Quoted.{Fault, ◌>>=◌, hex_scalar, quoted}
+use Rattle.scheme_tokens.specs.Mirror.Tokens.{word_kind, hash_kind, named, character_of, character, before, behind_hash_slash, bytes_or, hash_word, hash_token, unquote_token, string_token, bar_token, word_token, token}
+use Rattle.scheme_tokens.proofs.Fronts.{front-behind, list_all-front_of}
 use Rattle.scheme_tokens.proofs.Same.Ends.{ends-behind}
 use Rattle.scheme_tokens.proofs.Same.Elements.{AllTold, elements_told, scalar_code}
 use Rattle.scheme_tokens.proofs.Same.Words.{text_is, spells_is, test_numeral, numeral_test, identifier_bare, NameTold, named_told}

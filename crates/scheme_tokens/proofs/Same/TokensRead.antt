@@ -1,18 +1,16 @@
 -- A token of the grammar is read as that token.
-use Rattle.std.proofs.Common.{◌≡◌, ℕ, zero, suc, ◌≤◌, ◌<◌, ◌+◌, List, [], ◌∷◌, ◌++◌, Option, Some, None, Result, Ok, Err, Bool, true, false, cond, refl, sym, ap, ◌∙◌, subst, append_assoc, append-nil, length, arith, map, ◌||◌, ◌==◌, ◌&&◌, not, ◌⊎◌, inl, inr}
-use Rattle.std.specs.Prelude.{codes, nat_lt}
+use Rattle.std.proofs.Common.{◌≡◌, ℕ, ◌≤◌, List, [], ◌∷◌, ◌++◌, Option, Some, None, Result, Ok, Bool, true, false, cond, refl, ap, ◌∙◌, subst, length, arith, ◌||◌, ◌==◌, ◌&&◌, not, inl, inr}
+use Rattle.std.specs.Prelude.{codes}
 use Rattle.std.specs.List.{list_all}
-use Rattle.std.specs.Char.{to_ascii_lowercase, is_ascii_digit, is_whitespace}
-use Rattle.std.proofs.lemmas.Bool.{cond-true, cond-false, or_cases, or_parts, or_from, or_left, or_right, and_parts, and_from, and_left, and_right, eqb-true, eq-eqb, not-true, false_from_ne_true}
+use Rattle.std.specs.Char.{to_ascii_lowercase, is_ascii_digit}
+use Rattle.std.proofs.lemmas.Bool.{cond-true, cond-false, or_cases, or_from, or_left, or_right, and_from, and_left, and_right, eqb-true, eq-eqb, not-true, false_from_ne_true}
 use Rattle.std.proofs.lemmas.Bool.Decides.{nat_tests}
 use Rattle.std.proofs.lemmas.List.{length-append}
 use Rattle.std.proofs.lemmas.Str.{length-le-encodes}
-use Rattle.scheme_tokens.specs.Characters.{is_one_of, is_hex_digit, is_delimiter, is_sign, is_initial, is_subsequent}
-use Rattle.scheme_tokens.specs.Words.{Ends, IsWord, Spells, is_inside, byte_count}
-use Rattle.scheme_tokens.specs.Tokens.{TokenKind, Paren, VectorParen, BytesParen, Close, Dot, Skip, Marked, Quote, Quasi, Unquote, Splice, Atomic, Name, Numeral, Quoted, Character, Truth, IsBare, IsNumeral, IsCode, IsCharacter, IsCharacterName, IsElements, IsTruth, IsToken}
-use Rattle.scheme_tokens.specs.Mirror.Words.{front_of, behind, word_of, behind_word, is_text, spells, starts_prefix, is_numeral, is_identifier}
-use Rattle.scheme_tokens.specs.Mirror.Quoted.{Fault, ◌>>=◌, hex_scalar, quoted, elements}
-use Rattle.scheme_tokens.specs.Mirror.Tokens.{word_kind, hash_kind, named, character_of, character, before, behind_hash_slash, behind_bytes, bytes_or, hash_word, hash_token, unquote_token, string_token, bar_token, word_token, token}
+use Rattle.scheme_tokens.specs.Lexical.{is_one_of, is_hex_digit, is_delimiter, is_sign, is_initial, Ends, IsWord, Spells, is_inside, byte_count, TokenKind, Paren, VectorParen, BytesParen, Close, Dot, Skip, Marked, Quote, Quasi, Unquote, Splice, Atomic, Name, Numeral, Quoted, Character, Truth, IsBare, IsNumeral, IsCode, IsCharacter, IsCharacterName, IsElements, IsTruth, IsToken}
+use Rattle.scheme_tokens.specs.Mirror.Words.{word_of, behind_word, spells, is_numeral, is_identifier}
+use Rattle.scheme_tokens.specs.Mirror.Quoted.{Fault, ◌>>=◌}
+use Rattle.scheme_tokens.specs.Mirror.Tokens.{word_kind, hash_kind, named, character_of, character, before, behind_bytes, bytes_or, hash_word, hash_token, string_token, bar_token, word_token, token}
 use Rattle.scheme_tokens.proofs.Fronts.{byte_count-encodes}
 use Rattle.scheme_tokens.proofs.SpellLaws.{member, marks}
 use Rattle.scheme_tokens.proofs.Same.Ends.{behind-all, front-all}

@@ -1,12 +1,10 @@
 -- The code's tests of words are the grammar's identifiers, numerals, booleans and names of characters.
-use Rattle.std.proofs.Common.{◌≡◌, ℕ, zero, suc, List, [], ◌∷◌, ◌++◌, Option, Some, None, Bool, true, false, cond, refl, sym, ap, ◌∙◌, subst, map, ◌||◌, ◌==◌, ◌&&◌, not, ◌⊎◌, inl, inr}
+use Rattle.std.proofs.Common.{◌≡◌, ℕ, List, [], ◌∷◌, ◌++◌, Option, Some, None, Bool, true, false, cond, refl, sym, ap, ◌∙◌, subst, map, ◌==◌, ◌&&◌, inl, inr}
 use Rattle.std.specs.Prelude.{codes}
 use Rattle.std.specs.List.{list_all}
 use Rattle.std.specs.Char.{to_ascii_lowercase, is_ascii_digit}
 use Rattle.std.proofs.lemmas.Bool.{cond-true, cond-false, cond_both, or_cases, or_left, or_right, and_parts, and_from, eqb-true, eq-eqb, false_from_ne_true}
-use Rattle.scheme_tokens.specs.Characters.{is_one_of, is_sign, is_initial, is_subsequent, is_sign_subsequent, is_dot_subsequent}
-use Rattle.scheme_tokens.specs.Words.{Spells}
-use Rattle.scheme_tokens.specs.Tokens.{IsBare, IsNumeral, IsCharacterName}
+use Rattle.scheme_tokens.specs.Lexical.{is_sign, is_initial, is_subsequent, is_sign_subsequent, is_dot_subsequent, Spells, IsBare, IsNumeral, IsCharacterName}
 use Rattle.scheme_tokens.specs.Mirror.Words.{is_text, begins_with, spells, starts_digit, starts_fraction, is_signed, starts_prefix, is_numeral, goes_on_dot, goes_on_sign, is_identifier}
 use Rattle.scheme_tokens.specs.Mirror.Tokens.{named}
 

@@ -1,7 +1,7 @@
 -- Gaps between tokens: white space, line comments and nested block comments (R7RS 2.2, 7.1.1).
 use Rattle.std.specs.Prelude.{ℕ, zero, suc, ◌&&◌, ◌||◌, ◌==◌, Bool, List, [], ◌∷◌, Result, Ok, Err, if◌then◌else◌}
 use Rattle.std.specs.Char.{is_whitespace}
-use Rattle.scheme_tokens.specs.Characters.{is_line_end}
+use Rattle.scheme_tokens.specs.Lexical.{is_line_end}
 
 -- where in a gap a text goes on: before a token, in a line comment, or in a block comment that began with a text and
 -- lies in so many others

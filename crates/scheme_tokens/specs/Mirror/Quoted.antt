@@ -1,10 +1,10 @@
 -- What stands between quotation marks or bars (R7RS 7.1.1, string element and symbol element). A reading gives what is
 -- meant and the text behind it, or the first fault.
-use Rattle.std.specs.Prelude.{ℕ, zero, suc, ◌+◌, ◌*◌, ◌&&◌, ◌||◌, ◌==◌, List, [], ◌∷◌, ◌++◌, Option, Some, None, Result, Ok, Err, nat_lt, if◌then◌else◌}
+use Rattle.std.specs.Prelude.{ℕ, zero, suc, ◌&&◌, ◌||◌, ◌==◌, List, [], ◌∷◌, ◌++◌, Option, Some, None, Result, Ok, Err, nat_lt, if◌then◌else◌}
 use Rattle.std.specs.Char.{to_ascii_lowercase}
-use Rattle.scheme_tokens.specs.Characters.{is_one_of, is_line_end, is_blank, is_hex_digit, is_scalar}
+use Rattle.scheme_tokens.specs.Lexical.{is_one_of, is_line_end, is_blank, is_hex_digit, is_scalar}
 use Rattle.scheme_tokens.specs.Mirror.Words.{front_of, behind, byte_count}
-pub use Rattle.scheme_tokens.specs.Tokens.{hex_value}
+pub use Rattle.scheme_tokens.specs.Lexical.{hex_value}
 pub use Rattle.scheme_tokens.specs.Faults.{Fault, bad_token, open_string, open_bar, open_comment, label, directive}
 
 infixl 10 ◌>>=◌

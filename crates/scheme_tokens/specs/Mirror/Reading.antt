@@ -1,11 +1,11 @@
 -- How a text is read as tokens, with gaps before, between and behind them (R7RS 7.1.1). A text is a list of characters;
 -- places in it count bytes.
-use Rattle.std.specs.Prelude.{◌≡◌, ℕ, ◌-◌, ◌==◌, Bool, List, [], ◌∷◌, Option, Some, None, Result, Ok, Err, drop, if◌then◌else◌}
+use Rattle.std.specs.Prelude.{◌≡◌, ℕ, ◌-◌, Bool, List, [], ◌∷◌, Option, Some, None, Result, Ok, Err, drop}
 use Rattle.scheme_tokens.specs.Mirror.Words.{byte_count, behind_word}
 use Rattle.scheme_tokens.specs.Mirror.Quoted.{Fault, bad_token, open_string, open_bar, open_comment, label, directive}
 use Rattle.scheme_tokens.specs.Mirror.Gaps.{between, behind_gap}
 use Rattle.scheme_tokens.specs.Mirror.Tokens.{TokenKind, Atomic, Name, token}
-pub use Rattle.scheme_tokens.specs.Reading.{Token, behind_mark}
+pub use Rattle.scheme_tokens.specs.Lexical.{Token, behind_mark}
 pub use Rattle.scheme_tokens.specs.Faults.{FaultAt}
 
 -- where the rest of a text of so many bytes begins

@@ -1,11 +1,11 @@
 -- Tokens (R7RS 7.1.1): which one begins a text, and what follows it.
-use Rattle.std.specs.Prelude.{ℕ, Bool, true, false, ◌||◌, ◌&&◌, ◌==◌, List, [], ◌∷◌, Option, Some, None, Result, Ok, Err, codes, if◌then◌else◌}
+use Rattle.std.specs.Prelude.{ℕ, true, false, ◌||◌, ◌&&◌, ◌==◌, List, [], ◌∷◌, Option, Some, None, Result, Ok, Err, codes, if◌then◌else◌}
 use Rattle.std.specs.List.{list_all}
 use Rattle.std.specs.Char.{is_ascii_digit, to_ascii_lowercase}
-use Rattle.scheme_tokens.specs.Characters.{is_hex_digit}
+use Rattle.scheme_tokens.specs.Lexical.{is_hex_digit}
 use Rattle.scheme_tokens.specs.Mirror.Words.{word_of, behind_word, is_text, spells, is_numeral, is_identifier}
 use Rattle.scheme_tokens.specs.Mirror.Quoted.{Fault, bad_token, label, directive, ◌>>=◌, hex_scalar, quoted}
-pub use Rattle.scheme_tokens.specs.Tokens.{Leaf, Name, Numeral, Quoted, Character, Truth, Mark, Quote, Quasi, Unquote, Splice, TokenKind, Paren, VectorParen, BytesParen, Close, Dot, Skip, Marked, Atomic}
+pub use Rattle.scheme_tokens.specs.Lexical.{Leaf, Name, Numeral, Quoted, Character, Truth, Mark, Quote, Quasi, Unquote, Splice, TokenKind, Paren, VectorParen, BytesParen, Close, Dot, Skip, Marked, Atomic}
 
 -- a word that begins with no `#`; numerals go before identifiers
 unfoldable pub word_kind : List ℕ → Result TokenKind Fault

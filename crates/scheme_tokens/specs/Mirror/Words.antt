@@ -2,8 +2,8 @@
 use Rattle.std.specs.Prelude.{ℕ, Bool, true, false, ◌&&◌, ◌||◌, ◌==◌, List, [], ◌∷◌, codes, if◌then◌else◌}
 use Rattle.std.specs.List.{list_all}
 use Rattle.std.specs.Char.{is_ascii_digit, to_ascii_lowercase}
-use Rattle.scheme_tokens.specs.Characters.{is_one_of, is_sign, is_initial, is_subsequent, is_sign_subsequent, is_dot_subsequent}
-pub use Rattle.scheme_tokens.specs.Words.{byte_count, is_inside}
+use Rattle.scheme_tokens.specs.Lexical.{is_one_of, is_sign, is_initial, is_subsequent, is_sign_subsequent, is_dot_subsequent}
+pub use Rattle.scheme_tokens.specs.Lexical.{byte_count, is_inside}
 
 -- the longest front of characters that pass a test, and what follows it
 abbrev pub front_of : (ℕ → Bool) → List ℕ → List ℕ

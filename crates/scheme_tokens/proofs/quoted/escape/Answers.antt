@@ -1,7 +1,7 @@
 use Rattle.std.proofs.Common.{ap, ◌∙◌}
 use Rattle.std.specs.List.{list_all}
 use Rattle.std.specs.Str.{chars}
-use Rattle.scheme_tokens.specs.Characters.{is_hex_digit}
+use Rattle.scheme_tokens.specs.Lexical.{is_hex_digit}
 use Rattle.scheme_tokens.proofs.Fronts.{list_all-front_of}
 use Rattle.scheme_tokens.proofs.quoted.escape.Goals as goal
 

@@ -3,7 +3,7 @@ use Rattle.std.specs.List.{list_all}
 use Rattle.std.specs.Char.{digit_value}
 use Rattle.std.specs.Str.{chars}
 use Rattle.std.proofs.lemmas.Bool.{and_parts}
-use Rattle.scheme_tokens.specs.Characters.{is_hex_digit}
+use Rattle.scheme_tokens.specs.Lexical.{is_hex_digit}
 use Rattle.scheme_tokens.proofs.quoted.hex_value.Goals as goal
 
 pub loop-digit-preserved : goal.loop-digit-preserved

@@ -4,7 +4,7 @@ use Rattle.std.specs.Char.{digit_value}
 use Rattle.std.specs.Str.{chars}
 use denote.Text.{Utf8}
 use denote.Shadow.{shadow}
-use Rattle.scheme_tokens.specs.Characters.{is_hex_digit}
+use Rattle.scheme_tokens.specs.Lexical.{is_hex_digit}
 use Rattle.scheme_tokens.specs.Mirror.Quoted.{hex_value}
 use Rattle.scheme_tokens.specs.Views.{IsCapped}
 use Rattle.scheme_tokens.proofs.quoted.hex_value.Given as goal
