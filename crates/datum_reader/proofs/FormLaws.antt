@@ -5,7 +5,7 @@ use Rattle.scheme_model.specs.Trees.{Tree, list as list_of, vector as vector_of,
 use Rattle.scheme_model.specs.Kinds.{TokenKind, Paren, VectorParen, BytesParen, Close, Dot, Skip, Marked, Atomic, Name, Numeral, Quoted, Character, Truth}
 use Rattle.scheme_model.specs.Data.{Datum, atom, list, vector, bytes, Data, none, part, tail, place_of}
 use Rattle.scheme_model.specs.DataTrees.{atom_tree, tree_of, parts_of, end_of, form_of}
-use Rattle.syntax_tree.specs.Identifiers.{Identifier, Written, as_name}
+use Rattle.scheme_model.specs.Ident.{Ident as Identifier, Written, root}
 use Rattle.datum_reader.specs.Seeded.{seeded}
 
 module _ {A B : Type 0} (f : A → B) (written : List ℕ → A) (place : ℕ → Occ) where
@@ -41,5 +41,5 @@ module _ {A B : Type 0} (f : A → B) (written : List ℕ → A) (place : ℕ �
     end_mapped (tail d) = ap (λ (t : Tree B). dotted t) (tree_mapped d)
 
 -- the tree that a datum becomes is its form's tree in the definitions
-pub seeded_is_form : (unit form : ℕ) (d : Datum) → map_tree as_name (seeded unit form d) ≡ form_of unit form d
-seeded_is_form unit form d = tree_mapped as_name (Written unit) (placed_in unit form (place_of d).first) d
+pub seeded_is_form : (unit form : ℕ) (d : Datum) → map_tree root (seeded unit form d) ≡ form_of unit form d
+seeded_is_form unit form d = tree_mapped root (Written unit) (placed_in unit form (place_of d).first) d

@@ -8,7 +8,7 @@ use Rattle.std.specs.declared.alloc.Global.{Global}
 use Rattle.ls_base.specs.declared.memory.Memory.{Memory}
 use Rattle.scheme_model.specs.Trees.{Tree, Trees, no_trees, tree, Tail}
 use Rattle.scheme_model.specs.Measures.{tree_size, trees_size, tail_size}
-use Rattle.syntax_tree.specs.Identifiers.{Identifier}
+use Rattle.scheme_model.specs.Ident.{Ident as Identifier}
 use Rattle.syntax_tree.specs.Names.{Names, KeepsNames}
 use Rattle.syntax_tree.specs.Nodes.{Lived, Nodes, Shape, parts_of, region_at, IsPut}
 use Rattle.syntax_tree.specs.Regions.{itself, MayName}

@@ -10,7 +10,7 @@ use Rattle.scheme_model.specs.Trees.{Tree, name, atom, Numeral, Quoted, Bytes}
 use Rattle.scheme_tokens.specs.declared.token.TokenKind.{TokenKind}
 use Rattle.scheme_tokens.specs.declared.token.TokenKind.TheVariants as kinds
 use Rattle.datum_reader.specs.Views.{kind_of}
-use Rattle.syntax_tree.specs.Identifiers.{Identifier, Written}
+use Rattle.scheme_model.specs.Ident.{Ident as Identifier, Written}
 use Rattle.syntax_tree.specs.Names.{Names, KeepsNames, with_symbol, with_ident}
 use Rattle.syntax_tree.specs.Numbered.{ident_of}
 use Rattle.syntax_tree.specs.Interned.{symbol_in, name_in, interned}

@@ -13,7 +13,7 @@ use Rattle.scheme_model.specs.Trees.{Bytes, Tree, atom as atom_of, list as list_
 use Rattle.scheme_tokens.specs.declared.token.TokenKind as code_kind
 use Rattle.datum_reader.specs.Views.{kind_of, shape_step, datum_step, placed, shape_of, datum_of, data_of, end_data}
 use Rattle.scheme_model.specs.Kinds.{TokenKind, Paren, VectorParen, BytesParen, Close, Dot, Skip, Marked, Atomic, Name, Numeral, Quoted, Character, Truth}
-use Rattle.syntax_tree.specs.Identifiers.{Identifier}
+use Rattle.scheme_model.specs.Ident.{Ident as Identifier}
 use Rattle.scheme_model.specs.Measures.{tree_size, trees_size, tail_size, tree_depth, trees_depth, tail_depth}
 use Rattle.syntax_tree.specs.Standing as standing
 use Rattle.datum_reader.specs.declared.datum.Datum as code

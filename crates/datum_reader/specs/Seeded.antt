@@ -6,7 +6,7 @@ use Rattle.scheme_model.specs.Trees.{Tree, Trees, Tail, placed_in}
 use Rattle.scheme_model.specs.Kinds.{TokenKind}
 use Rattle.scheme_model.specs.Data.{Datum, Data, place_of}
 use Rattle.scheme_model.specs.DataTrees as trees
-use Rattle.syntax_tree.specs.Identifiers.{Identifier, Written}
+use Rattle.scheme_model.specs.Ident.{Ident as Identifier, Written}
 
 abbrev pub atom_tree : ℕ → TokenKind → Occ → Tree Identifier
 atom_tree unit kind o = trees.atom_tree (Written unit) kind o

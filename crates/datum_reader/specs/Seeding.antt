@@ -7,7 +7,7 @@ use Rattle.std.specs.Option.{option_map}
 use Rattle.ls_base.specs.declared.memory.Memory.{Memory}
 use Rattle.scheme_model.specs.Trees.{Tree, Trees, no_trees, tree, Tail, proper, dotted, placed_in}
 use Rattle.scheme_model.specs.Measures.{tree_size, trees_size, tail_size}
-use Rattle.syntax_tree.specs.Identifiers.{Identifier}
+use Rattle.scheme_model.specs.Ident.{Ident as Identifier}
 use Rattle.syntax_tree.specs.Names.{Names, KeepsNames}
 use Rattle.syntax_tree.specs.Interned.{interned, all_interned, tail_interned}
 use Rattle.syntax_tree.specs.Nodes.{Nodes, parts_of, region_at}

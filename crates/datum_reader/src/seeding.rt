@@ -3,7 +3,7 @@ ghost use Rattle.std.specs.Prelude.{◌≡◌, ◌+◌, ◌^◌, ◌<◌, ◌≤
 ghost use Rattle.scheme_model.specs.Trees.{map_tree, placed_in};
 ghost use Rattle.scheme_model.specs.Measures.{tree_size};
 ghost use Rattle.scheme_model.specs.DataTrees.{form_of};
-ghost use Rattle.syntax_tree.specs.Identifiers.{as_name};
+ghost use Rattle.scheme_model.specs.Ident.{root};
 ghost use Rattle.syntax_tree.specs.Names.{KeepsNames};
 ghost use Rattle.syntax_tree.specs.Interned.{interned};
 ghost use Rattle.syntax_tree.specs.Works.{StandsFor, IsOpened, LiesIn, KeepsTrees, SameRegions, AddsIn, live_count};
@@ -37,7 +37,7 @@ pub fn seed(
     requires region { IsOpened work.old region.now }
     requires read { WasRead (datum_of datum.now) }
     ensures tree { IfOk result (λ tree. StandsFor work.new tree (seeded unit form (datum_of datum.now))) }
-    ensures form { map_tree as_name (seeded unit form (datum_of datum.now)) ≡ form_of unit form (datum_of datum.now) }
+    ensures form { map_tree root (seeded unit form (datum_of datum.now)) ≡ form_of unit form (datum_of datum.now) }
     ensures region { IfOk result (λ tree. LiesIn work.new region.now tree) }
     ensures keeps { KeepsTrees work.old work.new }
     ensures added { AddsIn work.old work.new region.now }

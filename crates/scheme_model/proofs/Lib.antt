@@ -1,2 +1,4 @@
+pub mod IdentLaws
+pub mod ScopeLaws
 pub mod Shown
 pub mod rows

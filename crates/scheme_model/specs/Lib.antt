@@ -42,6 +42,7 @@ pub mod Order
 pub mod Leaves
 pub mod Expression
 pub mod Substitution
+pub mod Scopes
 pub mod UnitExpansion
 pub mod Entries
 pub mod Declarations

@@ -6,7 +6,7 @@ use Rattle.std.specs.FinMap as map
 use Rattle.std.proofs.lemmas.Option.{slice_get_within, slice_get-get_or}
 use Rattle.scheme_model.specs.Trees.{Tree}
 use Rattle.scheme_model.specs.Measures.{tree_size, tree_depth}
-use Rattle.syntax_tree.specs.Identifiers.{Identifier}
+use Rattle.scheme_model.specs.Ident.{Ident as Identifier}
 use Rattle.syntax_tree.specs.Names.{Names}
 use Rattle.syntax_tree.specs.Nodes.{Shape, Lived, Nodes, IsPut}
 use Rattle.syntax_tree.specs.Standing.{Stands, IsNode}

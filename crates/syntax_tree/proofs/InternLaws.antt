@@ -1,20 +1,20 @@
 -- Tables that grow by what isn't in them yet, and identifiers as the definitions see them.
-use Rattle.std.proofs.Common.{◌≡◌, ℕ, zero, suc, ◌+◌, ◌<◌, Bool, true, false, cond, List, [], ◌∷◌, ◌++◌, length, slice_get, Option, Some, None, refl, sym, ap, ◌∙◌, subst, inl, inr, arith}
+use Rattle.std.proofs.Common.{◌≡◌, ℕ, eq-eqb, zero, suc, ◌+◌, ◌<◌, Bool, true, false, cond, List, [], ◌∷◌, ◌++◌, length, slice_get, Option, Some, None, refl, sym, ap, ◌∙◌, subst, inl, inr, arith}
 use Rattle.std.specs.Prelude.{◌⊎◌, ◌||◌}
 use Rattle.std.specs.List.{list_any}
 use Rattle.std.specs.Str.{bytes_eq}
 use Rattle.std.proofs.lemmas.Option.{same_Some, slice_get_within}
 use Rattle.std.proofs.lemmas.Slice.Eq.{bytes_eq-Decides}
 use Rattle.std.proofs.lemmas.Bool.Decides.{nat_tests}
-use Rattle.scheme_model.specs.Identifiers.{Number, Name, same_number, same_name}
+use Rattle.scheme_model.specs.Identifiers.{Number, same_number}
 use Rattle.scheme_model.specs.Identifiers as model
 use Rattle.scheme_model.specs.Trees.{Atom, Numeral, Quoted, Character, Boolean, Bytes, Tree, name, atom, list, vector, Trees, no_trees, tree, Tail, proper, dotted}
-use Rattle.syntax_tree.specs.Identifiers.{Identifier, Written, Inserted, as_name}
+use Rattle.scheme_model.specs.Ident.{Ident as Identifier, Written, Inserted, same_ident, erase, root}
 use Rattle.syntax_tree.specs.Names.{Names, AreToldApart, KeepsNames, with_new, with_symbol, with_ident}
 use Rattle.syntax_tree.specs.Interned.{symbol_in, name_in, atom_in, interned, all_interned, tail_interned}
 use Rattle.syntax_tree.proofs.Places.{none_some, get_front, get_next}
 use Rattle.syntax_tree.proofs.TableSteps.{GainsAtMost}
-use Rattle.syntax_tree.proofs.Names.{and_true, same_name-refl}
+use Rattle.syntax_tree.proofs.Names.{and_true, same_number-refl}
 
 -- ---- a thing more, where it is new
 
@@ -87,7 +87,7 @@ number_told k l h =
     λ j. record { unit = unit j; form = form j; count = count j }
 
 -- the same identifiers of the definitions are the same
-pub ident_told : (i j : Identifier) → same_name (as_name i) (as_name j) ≡ true → i ≡ j
+pub ident_told : (i j : Identifier) → same_ident i j ≡ true → i ≡ j
 ident_told (Written u s) (Written v t) h =
     let symbol = bytes_told s t (grind (arith, nat_tests)) in
     let unit : u ≡ v = grind (arith, nat_tests) in
@@ -95,17 +95,22 @@ ident_told (Written u s) (Written v t) h =
 ident_told (Written u s) (Inserted j l) h = absurd cc
 ident_told (Inserted i k) (Written v t) h = absurd cc
 ident_told (Inserted i k) (Inserted j l) h =
-    let p = and_true (same_number k l) (same_name (as_name i) (as_name j)) h in
+    let p = and_true (same_number k l) (same_ident i j) h in
     let inner = ident_told i j p.1 in
     let number = number_told k l p.0 in
     λ m. Inserted (inner m) (number m)
 
-pub ident_itself : (i : Identifier) → same_name (as_name i) (as_name i) ≡ true
-ident_itself i = same_name-refl (as_name i)
+pub ident_itself : (i : Identifier) → same_ident i i ≡ true
+ident_itself (Written u s) = rw (eq-eqb u u refl, bytes_itself s) refl
+ident_itself (Inserted i k) = rw (same_number-refl k, ident_itself i) refl
 
 -- different identifiers are different names of the definitions
-pub names_apart : (i j : Identifier) → as_name i ≡ as_name j → i ≡ j
-names_apart i j h = ident_told i j (ap (same_name (as_name i)) (sym h) ∙ ident_itself i)
+pub names_apart : (i j : Identifier) → root i ≡ root j → i ≡ j
+names_apart i j h = sym (erase-root i) ∙ ap erase h ∙ erase-root j
+  where
+    erase-root : (i : Identifier) → erase (root i) ≡ i
+    erase-root (Written u s) = refl
+    erase-root (Inserted i k) = ap (λ (j : Identifier). Inserted j k) (erase-root i)
 
 -- ---- the tables with the names of a tree keep what they had
 
@@ -122,7 +127,7 @@ keeps_symbol s names = record {
 }
 
 keeps_ident : (names : Names) (i : Identifier) (n : ℕ) (j : Identifier) → slice_get names.idents n ≡ Some j → slice_get (with_ident names.idents i) n ≡ Some j
-keeps_ident names i n j h = with_keeps (λ a b. same_name (as_name a) (as_name b)) ident_told ident_itself names.idents i n j h
+keeps_ident names i n j h = with_keeps same_ident ident_told ident_itself names.idents i n j h
 
 keeps_name : (i : Identifier) (names : Names) → KeepsNames names (name_in i names)
 keeps_name (Written u s) names = record {

@@ -33,3 +33,5 @@ pub mod RegionLaws
 pub mod KeptLaws
 pub mod AddedLaws
 pub mod WorkLaws
+pub mod Looking
+pub mod RoleLaws

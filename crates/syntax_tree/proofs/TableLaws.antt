@@ -3,7 +3,7 @@ use Rattle.std.proofs.Common.{◌≡◌, ℕ, zero, suc, ◌+◌, ◌≤◌, Lis
 use Rattle.std.proofs.lemmas.List.{length-append}
 use Rattle.std.proofs.lemmas.Option.{slice_get-get_or, same_Some}
 use Rattle.std.specs.Option.{option_map}
-use Rattle.syntax_tree.specs.Identifiers.{Identifier, Written, Inserted}
+use Rattle.scheme_model.specs.Ident.{Ident as Identifier, Written, Inserted}
 use Rattle.syntax_tree.specs.Names.{Names}
 use Rattle.syntax_tree.specs.Numbered.{number_of, ident_of, IsBelow, next_ident, idents_after, AreBefore}
 use Rattle.syntax_tree.specs.declared.symbols.Ident.{Ident}

@@ -13,7 +13,7 @@ use Rattle.std.proofs.lemmas.Slice.Eq.{bytes_eq-Decides}
 use Rattle.indexmap.specs.IndexMap.{keys, values}
 use Rattle.indexmap.specs.IndexSet.{insert_key}
 use Rattle.scheme_model.specs.Identifiers.{Number}
-use Rattle.syntax_tree.specs.Identifiers.{Identifier, Written, Inserted, strip}
+use Rattle.scheme_model.specs.Ident.{Ident as Identifier, Written, Inserted, symbol_of}
 use Rattle.syntax_tree.specs.Names.{Names, AreToldApart, KeepsNames}
 use Rattle.syntax_tree.specs.Numbered.{number_of, ident_of, IsBelow, IsPlaced, next_ident, idents_after, AreBefore, Strings, Entries, symbols_of, names_of, AreTables}
 use Rattle.syntax_tree.specs.declared.symbols.Ident.{Ident}
@@ -62,12 +62,12 @@ stripped-more symbols more k (Some s) h e = get_front symbols more k s h
 
 -- an identifier stands beside each symbol that is kept
 beside : (names : Strings) (idents : Entries) (i k : ℕ) → slice_get (values idents) i ≡ Some k →
-    is_some (option_map strip (slice_get (idents_after (symbols_of names) [] (keys idents)) i)) ≡ true
+    is_some (option_map symbol_of (slice_get (idents_after (symbols_of names) [] (keys idents)) i)) ≡ true
 beside names idents i k h =
     let is = idents_after (symbols_of names) [] (keys idents) in
     let lt : i < length is = omega (arith, slice_get_within (values idents) i k h, length-map idents.entries (λ e. e.0), length-map idents.entries (λ e. e.1), length-after (symbols_of names) [] (keys idents)) in
     let p = get_within is i lt in
-    ap (λ (o : Option Identifier). is_some (option_map strip o)) p.1
+    ap (λ (o : Option Identifier). is_some (option_map symbol_of o)) p.1
 
 pub symbol_tables : (names names' : Strings) (idents : Entries) (s : List ℕ) → AreTables names idents → symbols_of names' ≡ symbols_of names ++ s ∷ [] →
     AreToldApart (symbols_of names') → AreTables names' idents
@@ -77,8 +77,8 @@ symbol_tables names names' idents s t e apart = record {
   before = before-more (length (symbols_of names)) (length (symbols_of names')) 0 (keys idents) (omega (arith, ap length e, length-append (symbols_of names) (s ∷ []))) t.before;
   stripped = λ i k h.
       ap (λ (l : List (List ℕ)). slice_get l k) e
-      ∙ stripped-more (symbols_of names) (s ∷ []) k (option_map strip (slice_get (idents_after (symbols_of names) [] (keys idents)) i)) (t.stripped i k h) (beside names idents i k h)
-      ∙ ap (λ (l : List Identifier). option_map strip (slice_get l i)) (sym (idents_stay names names' idents s t e));
+      ∙ stripped-more (symbols_of names) (s ∷ []) k (option_map symbol_of (slice_get (idents_after (symbols_of names) [] (keys idents)) i)) (t.stripped i k h) (beside names idents i k h)
+      ∙ ap (λ (l : List Identifier). option_map symbol_of (slice_get l i)) (sym (idents_stay names names' idents s t e));
 }
 
 -- ---- identifiers
@@ -104,7 +104,7 @@ below_here : (symbols : List (List ℕ)) (xs : List Ident) (x : Ident) → IsBel
 below_here symbols xs x h = subst (λ (n : ℕ). IsBelow (length symbols) n x) (length-after symbols [] xs) h
 
 pub ident_tables : (names : Strings) (idents idents' : Entries) (x : Ident) (k : ℕ) → AreTables names idents → IsPlaced (names_of names idents) x →
-    slice_get (symbols_of names) k ≡ option_map strip (ident_of (names_of names idents) x) →
+    slice_get (symbols_of names) k ≡ option_map symbol_of (ident_of (names_of names idents) x) →
     idents'.entries ≡ idents.entries ++ (x, k) ∷ [] → AreToldApart (keys idents') → AreTables names idents'
 ident_tables names idents idents' x k t placed symbol e apart =
     let symbols = symbols_of names in
@@ -118,19 +118,19 @@ ident_tables names idents idents' x k t placed symbol e apart =
       entries_apart = apart;
       before = subst (AreBefore (length symbols) 0) (sym ks) (before-push (length symbols) 0 (keys idents) x t.before (below_here symbols (keys idents) x placed));
       stripped = λ i n h.
-          let P : Type 0 = slice_get symbols n ≡ option_map strip (slice_get (idents_after symbols [] (keys idents')) i) in
+          let P : Type 0 = slice_get symbols n ≡ option_map symbol_of (slice_get (idents_after symbols [] (keys idents')) i) in
           let cases = push_cases (values idents) k i n (ap (λ (l : List ℕ). slice_get l i) (sym vs) ∙ h) in
           elim cases as (λ _. P) [
             | inl old ↦
                 t.stripped i n old
-                ∙ ap (option_map strip) (sym (get_same is (next_ident symbols is x ∷ []) i (omega (arith, same_length, slice_get_within (values idents) i n old))))
-                ∙ ap (λ (l : List Identifier). option_map strip (slice_get l i)) (sym all)
+                ∙ ap (option_map symbol_of) (sym (get_same is (next_ident symbols is x ∷ []) i (omega (arith, same_length, slice_get_within (values idents) i n old))))
+                ∙ ap (λ (l : List Identifier). option_map symbol_of (slice_get l i)) (sym all)
             | inr new ↦
                 let here : slice_get (is ++ next_ident symbols is x ∷ []) (length is) ≡ Some (next_ident symbols is x) = get_next is [] (next_ident symbols is x) in
                 let place : i ≡ length is = new.0 ∙ same_length in
-                ap (slice_get symbols) new.1 ∙ symbol ∙ ap (option_map strip) (next-is symbols is x placed ∙ sym here)
-                ∙ ap (λ (m : ℕ). option_map strip (slice_get (is ++ next_ident symbols is x ∷ []) m)) (sym place)
-                ∙ ap (λ (l : List Identifier). option_map strip (slice_get l i)) (sym all)
+                ap (slice_get symbols) new.1 ∙ symbol ∙ ap (option_map symbol_of) (next-is symbols is x placed ∙ sym here)
+                ∙ ap (λ (m : ℕ). option_map symbol_of (slice_get (is ++ next_ident symbols is x ∷ []) m)) (sym place)
+                ∙ ap (λ (l : List Identifier). option_map symbol_of (slice_get l i)) (sym all)
           ];
     }
 

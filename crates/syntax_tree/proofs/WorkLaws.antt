@@ -5,7 +5,7 @@ use Rattle.std.specs.Option.{option_map}
 use Rattle.std.specs.FinMap as map
 use Rattle.std.proofs.lemmas.Option.{same_Some}
 use Rattle.scheme_model.specs.Trees.{Tree}
-use Rattle.syntax_tree.specs.Identifiers.{Identifier}
+use Rattle.scheme_model.specs.Ident.{Ident as Identifier}
 use Rattle.syntax_tree.specs.Names.{Names, KeepsNames}
 use Rattle.syntax_tree.specs.Nodes.{Shape, Lived, Nodes, shape_at, IsPut}
 use Rattle.syntax_tree.specs.Regions.{Outlives}

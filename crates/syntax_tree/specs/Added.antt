@@ -3,7 +3,7 @@ use Rattle.std.specs.Prelude.{◌≤◌}
 use Rattle.scheme_model.specs.Trees.{Tree}
 use Rattle.scheme_model.specs.Measures.{tree_size, tree_depth}
 use Rattle.ls_base.specs.Limits.{max_tree_nodes, max_tree_depth}
-use Rattle.syntax_tree.specs.Identifiers.{Identifier}
+use Rattle.scheme_model.specs.Ident.{Ident as Identifier}
 use Rattle.syntax_tree.specs.Names.{Names}
 use Rattle.syntax_tree.specs.Nodes.{Shape, Nodes}
 use Rattle.syntax_tree.specs.Standing.{IsNode}

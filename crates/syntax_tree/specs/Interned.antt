@@ -1,7 +1,7 @@
 -- The tables with all names of a tree: each symbol and each identifier that isn't there yet, in the tree's order.
 use Rattle.std.specs.Prelude.{ℕ, List}
 use Rattle.scheme_model.specs.Trees.{Atom, Numeral, Quoted, Character, Boolean, Bytes, Tree, name, atom, list, vector, Trees, no_trees, tree, Tail, proper, dotted}
-use Rattle.syntax_tree.specs.Identifiers.{Identifier, Written, Inserted}
+use Rattle.scheme_model.specs.Ident.{Ident as Identifier, Written, Inserted}
 use Rattle.syntax_tree.specs.Names.{Names, with_symbol, with_ident}
 
 abbrev pub symbol_in : List ℕ → Names → Names

@@ -4,8 +4,7 @@ use Rattle.std.specs.List.{list_any}
 use Rattle.std.specs.Str.{bytes_eq}
 use Rattle.std.proofs.Common.{ap}
 use Rattle.std.specs.Coded.{Coded, code_by, coded×, coded_ℕ, coded_list}
-use Rattle.scheme_model.specs.Identifiers.{same_name}
-use Rattle.syntax_tree.specs.Identifiers.{Identifier, Written, Inserted, as_name}
+use Rattle.scheme_model.specs.Ident.{Ident as Identifier, Written, Inserted, same_ident}
 
 -- the symbols, each as its characters in UTF-8, and the identifiers
 pub record Names : Type 0 where
@@ -24,7 +23,7 @@ abbrev pub with_symbol : List (List ℕ) → List ℕ → List (List ℕ)
 with_symbol symbols s = with_new bytes_eq symbols s
 
 abbrev pub with_ident : List Identifier → Identifier → List Identifier
-with_ident idents i = with_new (λ a b. same_name (as_name a) (as_name b)) idents i
+with_ident idents i = with_new same_ident idents i
 
 -- each symbol and each identifier keeps its number
 pub record KeepsNames (old new : Names) : Type 0 where

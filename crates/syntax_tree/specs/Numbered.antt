@@ -8,7 +8,7 @@ use Rattle.std.specs.declared.hash.BuildHasherDefault.{BuildHasherDefault}
 use Rattle.indexmap.specs.IndexMap.{IndexMap, keys, values}
 use Rattle.indexmap.specs.IndexSet.{IndexSet}
 use Rattle.scheme_model.specs.Identifiers.{Number}
-use Rattle.syntax_tree.specs.Identifiers.{Identifier, Written, Inserted, strip}
+use Rattle.scheme_model.specs.Ident.{Ident as Identifier, Written, Inserted, symbol_of}
 use Rattle.syntax_tree.specs.Names.{Names, AreToldApart}
 use Rattle.syntax_tree.specs.declared.symbols.Ident.{Ident}
 use Rattle.syntax_tree.specs.declared.symbols.Ident.TheVariants as code
@@ -64,4 +64,4 @@ pub record AreTables (names : Strings) (idents : Entries) : Type 0 where
   pub symbols_apart : AreToldApart (symbols_of names)
   pub entries_apart : AreToldApart (keys idents)
   pub before : AreBefore (length (symbols_of names)) 0 (keys idents)
-  pub stripped : (i k : ℕ) → slice_get (values idents) i ≡ Some k → slice_get (symbols_of names) k ≡ option_map strip (slice_get (idents_after (symbols_of names) [] (keys idents)) i)
+  pub stripped : (i k : ℕ) → slice_get (values idents) i ≡ Some k → slice_get (symbols_of names) k ≡ option_map symbol_of (slice_get (idents_after (symbols_of names) [] (keys idents)) i)

@@ -2,7 +2,7 @@
 use Rattle.std.specs.Prelude.{◌≡◌, ◌⊎◌, ℕ, ◌<◌, List, length, Option, Some, None}
 use Rattle.std.specs.FinMap as map
 use Rattle.scheme_model.specs.Trees.{Tree}
-use Rattle.syntax_tree.specs.Identifiers.{Identifier}
+use Rattle.scheme_model.specs.Ident.{Ident as Identifier}
 use Rattle.syntax_tree.specs.Names.{Names}
 use Rattle.syntax_tree.specs.Nodes.{Shape, Lived, shape_at, region_at}
 use Rattle.syntax_tree.specs.Regions.{Outlives, MayName, MayNameParts}

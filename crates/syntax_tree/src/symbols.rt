@@ -2,7 +2,7 @@
 //! equal identifiers (R7RS 4.3).
 ghost use Rattle.std.specs.Prelude.{◌≡◌, ◌<◌, [], length, slice_get, Some, IfOk, OnOk, OnErr};
 ghost use Rattle.std.specs.Option.{option_map};
-ghost use Rattle.syntax_tree.specs.Identifiers.{Identifier, strip};
+ghost use Rattle.scheme_model.specs.Ident.{Ident as Identifier, symbol_of};
 ghost use Rattle.syntax_tree.specs.Names.{Names, AreToldApart, KeepsNames, with_symbol, with_ident};
 ghost use Rattle.syntax_tree.specs.Numbered.{ident_of, IsPlaced};
 
@@ -122,7 +122,7 @@ impl Symbols {
     /// The symbol innermost in an identifier, in constant time. It takes no memory.
     pub fn strip(&self, id: IdNo) -> SymNo
         requires { id < length self.now.idents }
-        ensures { slice_get self.now.symbols result ≡ option_map strip (slice_get self.now.idents id) }
+        ensures { slice_get self.now.symbols result ≡ option_map symbol_of (slice_get self.now.idents id) }
     {
         self.idents[id]
     }
@@ -138,7 +138,7 @@ impl Symbols {
     /// The symbol innermost in an identifier that may be new.
     fn innermost(&self, ident: Ident) -> SymNo
         requires { IsPlaced self.now ident }
-        ensures { slice_get self.now.symbols result ≡ option_map strip (ident_of self.now ident) }
+        ensures { slice_get self.now.symbols result ≡ option_map symbol_of (ident_of self.now ident) }
     {
         match ident {
             Ident::Written { unit: _, symbol } => symbol,

@@ -2,7 +2,7 @@
 ghost use Rattle.std.specs.Prelude.{◌≡◌, IfOk, true, map, Some, chars, string_bytes, encode_utf8_all};
 ghost use Rattle.std.specs.List.{join_with_byte};
 ghost use Rattle.scheme_model.specs.Trees.{name as name_tree, atom, Bytes};
-ghost use Rattle.syntax_tree.specs.Identifiers.{Written};
+ghost use Rattle.scheme_model.specs.Ident.{Written};
 ghost use Rattle.datum_reader.specs.Views.{kind_of};
 ghost use Rattle.datum_reader.specs.Right.{is_atom};
 ghost use Rattle.datum_reader.specs.Seeded.{atom_tree};

@@ -1,7 +1,7 @@
 //! Laws about what numbers of trees stand for, and about identifiers as the definitions see them.
 ghost use Rattle.std.specs.Prelude.{◌≡◌};
 ghost use Rattle.scheme_model.specs.Trees.{Tree as ModelTree};
-ghost use Rattle.syntax_tree.specs.Identifiers.{Identifier, as_name};
+ghost use Rattle.scheme_model.specs.Ident.{Ident as Identifier, root};
 ghost use Rattle.syntax_tree.specs.Names.{Names, KeepsNames};
 ghost use Rattle.syntax_tree.specs.Works.{StandsFor, KeepsTrees, with_names};
 ghost use Rattle.syntax_tree.specs.declared.trees.Work.{Work};
@@ -20,5 +20,5 @@ pub fn names_keep_trees()
 
 /// Different identifiers are different names of the definitions.
 pub fn names_told_apart()
-    ensures { (i j : Identifier) → as_name i ≡ as_name j → i ≡ j }
+    ensures { (i j : Identifier) → root i ≡ root j → i ≡ j }
 {}

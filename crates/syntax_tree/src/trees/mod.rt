@@ -3,7 +3,7 @@ ghost use Rattle.std.specs.Prelude.{◌≡◌, ◌≢◌, ℕ, ◌+◌, ◌^◌,
 ghost use Rattle.std.specs.FinMap as map;
 ghost use Rattle.scheme_model.specs.Trees.{Tree as ModelTree};
 ghost use Rattle.scheme_model.specs.Measures.{tree_size, tree_depth};
-ghost use Rattle.syntax_tree.specs.Identifiers.{Identifier};
+ghost use Rattle.scheme_model.specs.Ident.{Ident as Identifier};
 ghost use Rattle.syntax_tree.specs.Nodes.{Lived, IsPut};
 ghost use Rattle.syntax_tree.specs.Regions.{with_outer, IsClosed, CanRelease, NamesNone};
 ghost use Rattle.syntax_tree.specs.Kept.{shape_of};

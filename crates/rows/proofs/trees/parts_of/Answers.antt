@@ -1,7 +1,7 @@
 use Rattle.std.proofs.Common.{zero, suc, List, [], ◌∷◌, All, Option, Some, None, IfSome, subst, sym, arith}
 use Rattle.std.specs.Option.{option_map}
 use Rattle.scheme_model.specs.Trees.{Trees, no_trees, tree, Tail, proper, dotted}
-use Rattle.syntax_tree.specs.Identifiers.{Identifier}
+use Rattle.scheme_model.specs.Ident.{Ident as Identifier}
 use Rattle.syntax_tree.specs.Standing.{AllStand, TailStands}
 use Rattle.syntax_tree.specs.Kept.{numbers}
 use Rattle.syntax_tree.specs.Works.{IsStanding, IsNodeOf}

@@ -1,7 +1,7 @@
 -- The trees that are made, and that the numbers stand for them.
 use Rattle.std.proofs.Common.{◌≡◌, ℕ, ◌≤◌, List, [], ◌∷◌, Some, None, refl, sym, subst, arith}
 use Rattle.scheme_model.specs.Trees.{Character, Tree, atom, list, vector, Trees, no_trees, tree, dotted}
-use Rattle.syntax_tree.specs.Identifiers.{Identifier}
+use Rattle.scheme_model.specs.Ident.{Ident as Identifier}
 use Rattle.syntax_tree.specs.Nodes.{list_shape, vector_shape, region_at}
 use Rattle.syntax_tree.specs.Regions.{MayName, MayNameParts, itself}
 use Rattle.syntax_tree.specs.Standing.{AllStand, IsNode}

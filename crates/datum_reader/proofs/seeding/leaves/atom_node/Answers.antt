@@ -3,7 +3,7 @@ use Rattle.scheme_model.specs.Trees.{Tree, name, atom, Numeral, Quoted}
 use Rattle.scheme_model.specs.Kinds.{Quasi, Splice}
 use Rattle.scheme_model.specs.DataTrees.{mark_symbol}
 use Rattle.scheme_tokens.specs.declared.token.TokenKind.{TokenKind}
-use Rattle.syntax_tree.specs.Identifiers.{Identifier, Written}
+use Rattle.scheme_model.specs.Ident.{Ident as Identifier, Written}
 use Rattle.syntax_tree.specs.Names.{KeepsNames}
 use Rattle.syntax_tree.specs.Interned.{interned}
 use Rattle.datum_reader.specs.Views.{kind_of}

@@ -5,8 +5,7 @@ use Rattle.std.specs.Map.{keys_of}
 use Rattle.std.specs.Option.{option_map}
 use Rattle.indexmap.specs.IndexMap.{keys}
 use Rattle.indexmap.proofs.CallerLemmas.{insert_entry-new}
-use Rattle.scheme_model.specs.Identifiers.{same_name}
-use Rattle.syntax_tree.specs.Identifiers.{strip, as_name}
+use Rattle.scheme_model.specs.Ident.{symbol_of, same_ident}
 use Rattle.syntax_tree.specs.Names.{Names, AreToldApart}
 use Rattle.syntax_tree.specs.Numbered.{ident_of, IsPlaced, idents_after, symbols_of}
 use Rattle.syntax_tree.specs.declared.symbols.Ident.{Ident}
@@ -37,7 +36,7 @@ invariant_of-self-2 c =
     let idents = c.self.inside.idents in
     let x = c.args.ident in
     let entries = c.in_ok-number.ensures.entries ∙ insert_entry-new eq-value.it idents x c.innermost-symbol.result (no_some _ c.in_default.ensures.found) in
-    let symbol = subst (λ (n : Names). slice_get n.symbols c.innermost-symbol.result ≡ option_map strip (ident_of n x)) (sym c.self.view_is) c.innermost-symbol.ensures in
+    let symbol = subst (λ (n : Names). slice_get n.symbols c.innermost-symbol.result ≡ option_map symbol_of (ident_of n x)) (sym c.self.view_is) c.innermost-symbol.ensures in
     ident_tables names idents c.insert_full.new.self x c.innermost-symbol.result c.self.invariant (subst (λ (n : Names). IsPlaced n x) (sym c.self.view_is) c.requires) symbol entries
     (keys_told_apart eq-value.it itself (keys c.insert_full.new.self) c.in_ok-number.ensures.unique)
 
@@ -55,7 +54,7 @@ pub returns-in-Some-clause-idents : goal.returns-in-Some-clause-idents
 returns-in-Some-clause-idents c i is =
     let at = ident_found eq-value.it same_ident c.self.inside.names c.self.inside.idents c.args.self.now c.in-Some.number c.args.ident c.self.invariant c.self.view_is c.in-Some.ensures.index in
     let apart = subst (λ (n : Names). AreToldApart n.idents) c.self.view_is (idents_apart c.self.inside.names c.self.inside.idents c.self.invariant) in
-    with_found (λ a b. same_name (as_name a) (as_name b)) ident_told ident_itself c.args.self.now.idents c.args.self.now.idents c.in-Some.number i apart (at ∙ is) (inl refl)
+    with_found same_ident ident_told ident_itself c.args.self.now.idents c.args.self.now.idents c.in-Some.number i apart (at ∙ is) (inl refl)
 
 pub returns-clause-idents : goal.returns-clause-idents
 returns-clause-idents c i is =
@@ -63,7 +62,7 @@ returns-clause-idents c i is =
     let idents = c.self.inside.idents in
     let x = c.args.ident in
     let entries = c.in_ok-number.ensures.entries ∙ insert_entry-new eq-value.it idents x c.innermost-symbol.result (no_some _ c.in_default.ensures.found) in
-    let symbol = subst (λ (n : Names). slice_get n.symbols c.innermost-symbol.result ≡ option_map strip (ident_of n x)) (sym c.self.view_is) c.innermost-symbol.ensures in
+    let symbol = subst (λ (n : Names). slice_get n.symbols c.innermost-symbol.result ≡ option_map symbol_of (ident_of n x)) (sym c.self.view_is) c.innermost-symbol.ensures in
     let pushed : keys c.insert_full.new.self ≡ keys idents ++ x ∷ [] = ap keys_of entries ∙ keys_pushed idents.entries x c.innermost-symbol.result in
     let within : c.in_ok-number.number < length (keys c.insert_full.new.self) = omega (arith, c.in_ok-number.ensures.within, length-map c.insert_full.new.self.entries (λ e. e.0)) in
     let table =
@@ -72,7 +71,7 @@ returns-clause-idents c i is =
     let at =
     ident_added names idents (keys c.insert_full.new.self) c.args.self.now c.in_ok-number.number x c.self.view_is c.requires pushed
     (new_place (eq-value.it x) (keys idents) (keys c.insert_full.new.self) x c.in_ok-number.number c.in_default.ensures.index c.in_ok-number.ensures.index pushed within) in
-    with_found (λ a b. same_name (as_name a) (as_name b)) ident_told ident_itself c.args.self.now.idents (idents_after (symbols_of names) [] (keys c.insert_full.new.self)) c.in_ok-number.number i
+    with_found same_ident ident_told ident_itself c.args.self.now.idents (idents_after (symbols_of names) [] (keys c.insert_full.new.self)) c.in_ok-number.number i
     (idents_apart names c.insert_full.new.self table) (at ∙ is) (ident_grows names idents (keys c.insert_full.new.self) c.args.self.now x c.self.view_is c.requires pushed i is)
 
 pub returns-clause-keeps : goal.returns-clause-keeps

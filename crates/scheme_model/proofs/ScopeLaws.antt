@@ -1,0 +1,159 @@
+-- Names by scopes are names by substitution.
+use Rattle.std.proofs.Common.{◌≡◌, ℕ, Bool, true, false, cond, List, [], ◌∷◌, Option, Some, None, refl, sym, ap, ◌∙◌, subst}
+use Rattle.std.specs.Prelude.{◌&&◌}
+use Rattle.scheme_model.specs.declared.Occ.{Occ}
+use Rattle.scheme_model.specs.Identifiers.{Number, Name, Written as WrittenName, Inserted as InsertedName, Inner, Var, same_name, strip}
+use Rattle.scheme_model.specs.Ident.{Ident, Written, Inserted, same_ident, erase, symbol_of}
+use Rattle.scheme_model.specs.Trees.{Tree, name, atom, list, vector, Trees, no_trees, tree, Tail, proper, dotted, map_tree, map_trees, map_tail}
+use Rattle.scheme_model.specs.Meaning.{Meaning, Local, Global, Free}
+use Rattle.scheme_model.specs.Order.{is_some}
+use Rattle.scheme_model.specs.Substitution.{Table, Entries, Defined, defined_in, is_plain, defines, imported, global_or, meaning, shallow}
+use Rattle.scheme_model.specs.Scopes.{Bound, Chain, Uses, under, outside, image, substituted, AreOutside, found, Own, own_of, imported_as, defined_or, given_or, local_or, beyond, means}
+use Rattle.scheme_model.proofs.IdentLaws.{ident_told, ident_itself, name_told, name_itself, bool_same, strip_erased}
+
+-- ---- what an identifier came from
+
+erase_under : (c : Chain) (n : Name) (i : Ident) → erase n ≡ i → erase (under c n i) ≡ i
+erase_under [] n i h = h
+erase_under (b ∷ bs) n i h = go (same_ident b.ident i)
+  where
+    go : (t : Bool) → erase (cond t (Var b.binder (under bs n i)) (under bs n i)) ≡ i
+    go true = erase_under bs n i h
+    go false = erase_under bs n i h
+
+erase_outside : (uses : Uses) (i : Ident) → erase (outside uses i) ≡ i
+erase_outside uses (Written u s) = refl
+erase_outside uses (Inserted i k) = ap (λ (j : Ident). Inserted j k) (erase_under (uses k) (outside uses i) i (erase_outside uses i))
+
+pub erase_image : (uses : Uses) (c : Chain) (i : Ident) → erase (image uses c i) ≡ i
+erase_image uses c i = erase_under c (outside uses i) i (erase_outside uses i)
+
+pub strip_image : (uses : Uses) (c : Chain) (i : Ident) → strip (image uses c i) ≡ symbol_of i
+strip_image uses c i = sym (strip_erased (image uses c i)) ∙ ap symbol_of (erase_image uses c i)
+
+pub same_image : (uses : Uses) (c : Chain) (i j : Ident) → same_name (image uses c i) (image uses c j) ≡ same_ident i j
+same_image uses c i j =
+    bool_same (same_name (image uses c i) (image uses c j)) (same_ident i j)
+    (λ h. let same : i ≡ j = sym (erase_image uses c i) ∙ ap erase (name_told (image uses c i) (image uses c j) h) ∙ erase_image uses c j in
+      subst (λ (x : Ident). same_ident i x ≡ true) same (ident_itself i))
+    (λ h. subst (λ (x : Ident). same_name (image uses c i) (image uses c x) ≡ true) (ident_told i j h) (name_itself (image uses c i)))
+
+-- ---- one binder more
+
+same_turned : (i j : Ident) → same_ident i j ≡ same_ident j i
+same_turned i j =
+    bool_same (same_ident i j) (same_ident j i)
+    (λ h. subst (λ (x : Ident). same_ident x i ≡ true) (ident_told i j h) (ident_itself i))
+    (λ h. subst (λ (x : Ident). same_ident x j ≡ true) (ident_told j i h) (ident_itself j))
+
+pub image_bound : (uses : Uses) (b : Bound) (bs : Chain) (i : Ident) → shallow (image uses bs b.ident) b.binder (image uses bs i) ≡ image uses (b ∷ bs) i
+image_bound uses b bs i =
+    ap (λ (t : Bool). cond t (Var b.binder (image uses bs b.ident)) (image uses bs i)) (same_image uses bs i b.ident ∙ same_turned i b.ident)
+    ∙ go (same_ident b.ident i) refl
+  where
+    go : (t : Bool) → same_ident b.ident i ≡ t → cond t (Var b.binder (image uses bs b.ident)) (image uses bs i) ≡ cond t (Var b.binder (image uses bs i)) (image uses bs i)
+    go true h = ap (λ (x : Ident). Var b.binder (image uses bs x)) (ident_told b.ident i h)
+    go false h = refl
+
+-- ---- trees
+
+mutual
+  pub map_map : {A B C : Type 0} (f : B → C) (g : A → B) (t : Tree A) → map_tree f (map_tree g t) ≡ map_tree (λ a. f (g a)) t
+  map_map f g (name i o) = refl
+  map_map f g (atom a o) = refl
+  map_map f g (list ts tail o) =
+      let parts = map_map_all f g ts in
+      let end = map_map_tail f g tail in
+      λ j. list (parts j) (end j) o
+  map_map f g (vector ts o) = ap (λ us. vector us o) (map_map_all f g ts)
+
+  pub map_map_all : {A B C : Type 0} (f : B → C) (g : A → B) (ts : Trees A) → map_trees f (map_trees g ts) ≡ map_trees (λ a. f (g a)) ts
+  map_map_all f g no_trees = refl
+  map_map_all f g (tree t ts) =
+      let first = map_map f g t in
+      let rest = map_map_all f g ts in
+      λ j. tree (first j) (rest j)
+
+  pub map_map_tail : {A B C : Type 0} (f : B → C) (g : A → B) (tail : Tail A) → map_tail f (map_tail g tail) ≡ map_tail (λ a. f (g a)) tail
+  map_map_tail f g proper = refl
+  map_map_tail f g (dotted t) = ap dotted (map_map f g t)
+
+mutual
+  pub map_same : {A B : Type 0} (f g : A → B) → ((a : A) → f a ≡ g a) → (t : Tree A) → map_tree f t ≡ map_tree g t
+  map_same f g h (name i o) = ap (λ j. name j o) (h i)
+  map_same f g h (atom a o) = refl
+  map_same f g h (list ts tail o) =
+      let parts = map_same_all f g h ts in
+      let end = map_same_tail f g h tail in
+      λ j. list (parts j) (end j) o
+  map_same f g h (vector ts o) = ap (λ us. vector us o) (map_same_all f g h ts)
+
+  pub map_same_all : {A B : Type 0} (f g : A → B) → ((a : A) → f a ≡ g a) → (ts : Trees A) → map_trees f ts ≡ map_trees g ts
+  map_same_all f g h no_trees = refl
+  map_same_all f g h (tree t ts) =
+      let first = map_same f g h t in
+      let rest = map_same_all f g h ts in
+      λ j. tree (first j) (rest j)
+
+  pub map_same_tail : {A B : Type 0} (f g : A → B) → ((a : A) → f a ≡ g a) → (tail : Tail A) → map_tail f tail ≡ map_tail g tail
+  map_same_tail f g h proper = refl
+  map_same_tail f g h (dotted t) = ap dotted (map_same f g h t)
+
+pub images_substituted : (uses : Uses) (c : Chain) (t : Tree Ident) → substituted uses c t ≡ map_tree (image uses c) t
+images_substituted uses [] t = refl
+images_substituted uses (b ∷ bs) t =
+    ap (map_tree (shallow (image uses bs b.ident) b.binder)) (images_substituted uses bs t)
+    ∙ map_map (shallow (image uses bs b.ident) b.binder) (image uses bs) t
+    ∙ map_same (λ i. shallow (image uses bs b.ident) b.binder (image uses bs i)) (image uses (b ∷ bs)) (image_bound uses b bs) t
+
+-- ---- meanings
+
+module _ (table : Table) (entry : Entries) (uses : Uses) (plain : AreOutside table uses) where
+  -- under binders it means the innermost of them, else what it means outside
+  meaning_under : (c : Chain) (n : Name) (i : Ident) → meaning table entry (under c n i) ≡ local_or (found c i) (meaning table entry n)
+  meaning_under [] n i = refl
+  meaning_under (b ∷ bs) n i = go (same_ident b.ident i)
+    where
+      go : (t : Bool) → meaning table entry (cond t (Var b.binder (under bs n i)) (under bs n i)) ≡ local_or (cond t (Some b.binder) (found bs i)) (meaning table entry n)
+      go true = refl
+      go false = meaning_under bs n i
+
+  -- a unit defines what an identifier is outside all binders where it defines the identifier
+  defines_outside : (u : ℕ) (i : Ident) → defines table u (outside uses i) ≡ is_some (defined_in table u i)
+  defines_outside u i =
+      ap (λ (j : Ident). is_plain (outside uses i) && is_some (defined_in table u j)) (erase_outside uses i) ∙ go (is_some (defined_in table u i)) refl
+    where
+      go : (t : Bool) → is_some (defined_in table u i) ≡ t → (is_plain (outside uses i) && t) ≡ t
+      go true h = ap (λ (b : Bool). b && true) (plain u i h)
+      go false h = never (is_plain (outside uses i))
+        where
+          never : (b : Bool) → (b && false) ≡ false
+          never true = refl
+          never false = refl
+
+  -- what a unit gives under an identifier, or else this
+  own_is : (u : ℕ) (i : Ident) (given : Option Meaning) (other : Meaning) → imported_as entry u i ≡ given →
+      global_or (defines table u (outside uses i)) u (outside uses i) (given_or given other) ≡ given_or (own_of table entry u i) other
+  own_is u i given other h =
+      (λ j. global_or (defines_outside u i j) u (outside uses i) (given_or given other))
+      ∙ go (defined_in table u i)
+    where
+      go : (d : Option Defined) → global_or (is_some d) u (outside uses i) (given_or given other) ≡ given_or (defined_or d u i (imported_as entry u i)) other
+      go None = ap (λ (g : Option Meaning). given_or g other) (sym h)
+      go (Some d) = ap (Global u) (erase_outside uses i)
+
+  imported_is : (m : Option Meaning) (s : List ℕ) → imported m s ≡ given_or m (Free s)
+  imported_is None s = refl
+  imported_is (Some m) s = refl
+
+  pub meaning_outside : (i : Ident) → meaning table entry (outside uses i) ≡ beyond (own_of table entry) uses i
+  meaning_outside (Written u s) =
+      ap (global_or (defines table u (WrittenName u s)) u (WrittenName u s)) (imported_is (entry u s) s)
+      ∙ own_is u (Written u s) (entry u s) (Free s) refl
+  meaning_outside (Inserted i k) =
+      ap (global_or (defines table k.unit (outside uses (Inserted i k))) k.unit (outside uses (Inserted i k)))
+        (meaning_under (uses k) (outside uses i) i ∙ ap (local_or (found (uses k) i)) (meaning_outside i))
+      ∙ own_is k.unit (Inserted i k) None (local_or (found (uses k) i) (beyond (own_of table entry) uses i)) refl
+
+  pub meaning_image : (c : Chain) (i : Ident) → meaning table entry (image uses c i) ≡ means (own_of table entry) uses c i
+  meaning_image c i = meaning_under c (outside uses i) i ∙ ap (local_or (found c i)) (meaning_outside i)
