@@ -15,11 +15,11 @@ use Rattle.scheme_model.proofs.IdentLaws.{ident_told, ident_itself, name_told, n
 
 erase_under : (c : Chain) (n : Name) (i : Ident) → erase n ≡ i → erase (under c n i) ≡ i
 erase_under [] n i h = h
-erase_under (b ∷ bs) n i h = go (same_ident b.ident i)
+erase_under (b ∷ bs) n i h = go (same_ident b.ident i) (erase_under bs n i h)
   where
-    go : (t : Bool) → erase (cond t (Var b.binder (under bs n i)) (under bs n i)) ≡ i
-    go true = erase_under bs n i h
-    go false = erase_under bs n i h
+    go : (t : Bool) → erase (under bs n i) ≡ i → erase (cond t (Var b.binder (under bs n i)) (under bs n i)) ≡ i
+    go true e = e
+    go false e = e
 
 erase_outside : (uses : Uses) (i : Ident) → erase (outside uses i) ≡ i
 erase_outside uses (Written u s) = refl
@@ -112,11 +112,12 @@ module _ (table : Table) (entry : Entries) (uses : Uses) (plain : AreOutside tab
   -- under binders it means the innermost of them, else what it means outside
   meaning_under : (c : Chain) (n : Name) (i : Ident) → meaning table entry (under c n i) ≡ local_or (found c i) (meaning table entry n)
   meaning_under [] n i = refl
-  meaning_under (b ∷ bs) n i = go (same_ident b.ident i)
+  meaning_under (b ∷ bs) n i = go (same_ident b.ident i) (meaning_under bs n i)
     where
-      go : (t : Bool) → meaning table entry (cond t (Var b.binder (under bs n i)) (under bs n i)) ≡ local_or (cond t (Some b.binder) (found bs i)) (meaning table entry n)
-      go true = refl
-      go false = meaning_under bs n i
+      go : (t : Bool) → meaning table entry (under bs n i) ≡ local_or (found bs i) (meaning table entry n) →
+          meaning table entry (cond t (Var b.binder (under bs n i)) (under bs n i)) ≡ local_or (cond t (Some b.binder) (found bs i)) (meaning table entry n)
+      go true e = refl
+      go false e = e
 
   -- a unit defines what an identifier is outside all binders where it defines the identifier
   defines_outside : (u : ℕ) (i : Ident) → defines table u (outside uses i) ≡ is_some (defined_in table u i)
