@@ -105,8 +105,8 @@ def datum(d, mark=None):
     kind, at, *values = d
     if kind in LEAVES:
         if at is None or at[0] is None:
-            return f"(d.atom {place(mark)} (k.Marked {SYMBOLS[values[0]]}))"
-        return f"(d.atom {place(at)} (k.Atomic {leaf(kind, values)}))"
+            return f"(d.atom {place(mark)} (d.implied {SYMBOLS[values[0]]}))"
+        return f"(d.atom {place(at)} (d.spelled {leaf(kind, values)}))"
     if kind == "bytes":
         return f"(d.bytes {place(at)} ({terms.many(map(terms.text, values[0]))}))"
     tail = values[1] if len(values) > 1 else None

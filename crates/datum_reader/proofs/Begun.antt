@@ -1,7 +1,7 @@
 -- Data that are partly written: what they mean, and the state that reading them is in.
 use Rattle.std.proofs.Common.{ℕ, ◌+◌, ◌≤◌, max, List, [], ◌∷◌, ◌++◌}
 use Rattle.scheme_model.specs.Kinds as kinds
-use Rattle.scheme_model.specs.Data.{Datum, atom}
+use Rattle.scheme_model.specs.Data.{Datum, atom, implied}
 use Rattle.scheme_model.specs.Numbered.{Spot, at}
 use Rattle.scheme_model.specs.Written.{Written, abbreviated, Gap, nothing, skipped, Parts, next, Bytes, byte, meant, parts_meant, gap_depth}
 use Rattle.scheme_model.specs.Begun.{Row, start, more, ByteRow, no_bytes, one_byte, Inside, listing, behind_dot, behind_tail, vectoring, byting, behind_mark, behind_skip, Begun, top, inside, Stays, with_depth, row_depth, inside_depth}
@@ -23,7 +23,7 @@ inside_items s (behind_dot g w ps dot h) = meant w ∷ parts_meant ps
 inside_items s (behind_tail g w ps dot h t i) = meant w ∷ parts_meant ps
 inside_items s (vectoring r g) = row_meant r
 inside_items s (byting r g) = []
-inside_items s (behind_mark mark g) = atom (at s) (kinds.Marked mark) ∷ []
+inside_items s (behind_mark mark g) = atom (at s) (implied mark) ∷ []
 inside_items s (behind_skip g) = []
 
 abbrev pub begun_items : Begun → List Datum

@@ -20,7 +20,8 @@ pub datum_is : (d : code.Datum) → datum_of d ≡ shape_of d.shape (placed d.fi
 datum_is d = fold_out-Datum (Place → Datum) Datum shape_step datum_step d
 
 place-step : (f : Shape-F (Place → Datum) Datum) (p : Place) → place_of (shape_step f p) ≡ p
-place-step (Shape-F.Atom kind) p = refl
+place-step (Shape-F.Atom a) p = refl
+place-step (Shape-F.Implied mark) p = refl
 place-step (Shape-F.List ds end) p = refl
 place-step (Shape-F.Vector ds) p = refl
 place-step (Shape-F.Bytes texts) p = refl

@@ -2,30 +2,24 @@
 use Rattle.std.proofs.Common.{◌≡◌, ℕ, List, Some, refl, ap}
 use Rattle.scheme_model.specs.declared.Occ.{Occ}
 use Rattle.scheme_model.specs.Trees.{Tree, list as list_of, vector as vector_of, Trees, tree, Tail, dotted, map_tree, map_trees, map_tail, placed_in}
-use Rattle.scheme_model.specs.Kinds.{TokenKind, Paren, VectorParen, BytesParen, Close, Dot, Skip, Marked, Atomic, Name, Numeral, Quoted, Character, Truth}
-use Rattle.scheme_model.specs.Data.{Datum, atom, list, vector, bytes, Data, none, part, tail, place_of}
+use Rattle.scheme_model.specs.Kinds.{Name, Numeral, Quoted, Character, Truth}
+use Rattle.scheme_model.specs.Data.{Atom, spelled, implied, Datum, atom, list, vector, bytes, Data, none, part, tail, place_of}
 use Rattle.scheme_model.specs.DataTrees.{atom_tree, tree_of, parts_of, end_of, form_of}
 use Rattle.scheme_model.specs.Ident.{Ident as Identifier, Written, root}
 use Rattle.datum_reader.specs.Seeded.{seeded}
 
 module _ {A B : Type 0} (f : A → B) (written : List ℕ → A) (place : ℕ → Occ) where
-  atom_mapped : (kind : TokenKind) (o : Occ) → map_tree f (atom_tree written kind o) ≡ atom_tree (λ s. f (written s)) kind o
-  atom_mapped (Atomic (Name s bars)) o = refl
-  atom_mapped (Atomic (Numeral text)) o = refl
-  atom_mapped (Atomic (Quoted text)) o = refl
-  atom_mapped (Atomic (Character c)) o = refl
-  atom_mapped (Atomic (Truth b)) o = refl
-  atom_mapped (Marked mark) o = refl
-  atom_mapped Paren o = refl
-  atom_mapped VectorParen o = refl
-  atom_mapped BytesParen o = refl
-  atom_mapped Close o = refl
-  atom_mapped Dot o = refl
-  atom_mapped Skip o = refl
+  atom_mapped : (a : Atom) (o : Occ) → map_tree f (atom_tree written a o) ≡ atom_tree (λ s. f (written s)) a o
+  atom_mapped (spelled (Name s bars)) o = refl
+  atom_mapped (spelled (Numeral text)) o = refl
+  atom_mapped (spelled (Quoted text)) o = refl
+  atom_mapped (spelled (Character c)) o = refl
+  atom_mapped (spelled (Truth b)) o = refl
+  atom_mapped (implied mark) o = refl
 
   mutual
     pub tree_mapped : (d : Datum) → map_tree f (tree_of written place d) ≡ tree_of (λ s. f (written s)) place d
-    tree_mapped (atom p kind) = atom_mapped kind (place p.first)
+    tree_mapped (atom p a) = atom_mapped a (place p.first)
     tree_mapped (list p ds) = λ j. list_of (parts_mapped ds j) (end_mapped ds j) (Some (place p.first))
     tree_mapped (vector p ds) = ap (λ (ts : Trees B). vector_of ts (Some (place p.first))) (parts_mapped ds)
     tree_mapped (bytes p texts) = refl

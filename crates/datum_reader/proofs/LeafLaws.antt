@@ -7,9 +7,10 @@ use Rattle.std.proofs.lemmas.Str.{encodes-chars}
 use Rattle.ls_base.specs.declared.memory.Memory.{Memory}
 use Rattle.scheme_model.specs.declared.Occ.{Occ}
 use Rattle.scheme_model.specs.Trees.{Tree, name, atom, Numeral, Quoted, Bytes}
-use Rattle.scheme_tokens.specs.declared.token.TokenKind.{TokenKind}
-use Rattle.scheme_tokens.specs.declared.token.TokenKind.TheVariants as kinds
-use Rattle.datum_reader.specs.Views.{kind_of}
+use Rattle.scheme_model.specs.Data.{spelled}
+use Rattle.datum_reader.specs.declared.datum.Atom as code_atom
+use Rattle.datum_reader.specs.declared.datum.Atom.TheVariants as atoms
+use Rattle.datum_reader.specs.Views.{leaf_of}
 use Rattle.scheme_model.specs.Ident.{Ident as Identifier, Written}
 use Rattle.syntax_tree.specs.Names.{Names, KeepsNames, with_symbol, with_ident}
 use Rattle.syntax_tree.specs.Numbered.{ident_of}
@@ -29,15 +30,15 @@ encoded-same text bytes e utf8 = sym (encodes-chars bytes utf8) ∙ ap (λ (s : 
 
 -- ---- the tree of an atom, by its token
 
-module _ (unit : ℕ) (o : Occ) (kind : TokenKind) (text bytes : List ℕ) (same : bytes ≡ text) (utf8 : IsUtf8 bytes) where
-  pub name_is : (bars : Bool) → kind ≡ kinds.Name text bars → atom_tree unit (kind_of kind) o ≡ name (Written unit bytes) (Some o)
-  name_is bars is = ap (λ (k : TokenKind). atom_tree unit (kind_of k) o) is ∙ ap (λ (s : List ℕ). name (Written unit s) (Some o)) (sym (encoded-same text bytes same utf8))
+module _ (unit : ℕ) (o : Occ) (a : code_atom.Atom) (text bytes : List ℕ) (same : bytes ≡ text) (utf8 : IsUtf8 bytes) where
+  pub name_is : (bars : Bool) → a ≡ atoms.Name text bars → atom_tree unit (spelled (leaf_of a)) o ≡ name (Written unit bytes) (Some o)
+  name_is bars is = ap (λ (x : code_atom.Atom). atom_tree unit (spelled (leaf_of x)) o) is ∙ ap (λ (s : List ℕ). name (Written unit s) (Some o)) (sym (encoded-same text bytes same utf8))
 
-  pub numeral_is : kind ≡ kinds.Numeral text → atom_tree unit (kind_of kind) o ≡ atom (Numeral bytes) (Some o)
-  numeral_is is = ap (λ (k : TokenKind). atom_tree unit (kind_of k) o) is ∙ ap (λ (s : List ℕ). atom (Numeral s) (Some o)) (sym (encoded-same text bytes same utf8))
+  pub numeral_is : a ≡ atoms.Numeral text → atom_tree unit (spelled (leaf_of a)) o ≡ atom (Numeral bytes) (Some o)
+  numeral_is is = ap (λ (x : code_atom.Atom). atom_tree unit (spelled (leaf_of x)) o) is ∙ ap (λ (s : List ℕ). atom (Numeral s) (Some o)) (sym (encoded-same text bytes same utf8))
 
-  pub quoted_is : kind ≡ kinds.Quoted text → atom_tree unit (kind_of kind) o ≡ atom (Quoted bytes) (Some o)
-  quoted_is is = ap (λ (k : TokenKind). atom_tree unit (kind_of k) o) is ∙ ap (λ (s : List ℕ). atom (Quoted s) (Some o)) (sym (encoded-same text bytes same utf8))
+  pub quoted_is : a ≡ atoms.Quoted text → atom_tree unit (spelled (leaf_of a)) o ≡ atom (Quoted bytes) (Some o)
+  quoted_is is = ap (λ (x : code_atom.Atom). atom_tree unit (spelled (leaf_of x)) o) is ∙ ap (λ (s : List ℕ). atom (Quoted s) (Some o)) (sym (encoded-same text bytes same utf8))
 
 -- ---- making a node
 

@@ -3,8 +3,8 @@ use Rattle.std.proofs.Common.{◌≡◌, ◌≤◌, ◌<◌, ◌+◌, ◌==◌, 
 use Rattle.std.proofs.lemmas.Bool.{lt-ltb}
 use Rattle.std.proofs.lemmas.Bool.Decides.{nat_tests}
 use Rattle.scheme_model.specs.Kinds as kinds
-use Rattle.scheme_model.specs.Kinds.{TokenKind, Token}
-use Rattle.scheme_model.specs.Data.{Datum, atom}
+use Rattle.scheme_model.specs.Kinds.{Leaf, Token}
+use Rattle.scheme_model.specs.Data.{Datum, atom, implied}
 use Rattle.scheme_model.specs.Numbered.{Spot, Numbered, number_from, is_byte, at}
 use Rattle.scheme_model.specs.Faults.{Stop, bad_dot, too_deep}
 use Rattle.datum_reader.specs.Open.{Opener, in_list, dotted, ended, in_vector, in_bytes, marked, skipping, Frame, State, state, depth_of, reopened, refused, refused_by, unless, pushed, opened, completed, atoms, atoms_by, whole, byte_added, dotted_by, after_all, ends, read}
@@ -27,7 +27,7 @@ allowed (Some e) r h = cc
 pub opens_free : (o : Opener) (t : Spot) (xs : List Datum) (s : State) → Free s.stack → depth_of s.stack < 400 → unless (refused s.stack t) (opened o t xs s) ≡ Ok (pushed o (depth_of s.stack + 1) t xs s)
 opens_free o t xs s free h = allowed (refused s.stack t) (opened o t xs s) (free t) ∙ opens o t xs s h
 
-atom_by : (o : Opener) (k : TokenKind) (t : Spot) (f : Frame) (items : List Datum) (fs : List Frame) → refused_by o t ≡ None → atoms_by o k t f items fs ≡ whole k t items (f ∷ fs)
+atom_by : (o : Opener) (k : Leaf) (t : Spot) (f : Frame) (items : List Datum) (fs : List Frame) → refused_by o t ≡ None → atoms_by o k t f items fs ≡ whole k t items (f ∷ fs)
 atom_by in_list k t f items fs h = refl
 atom_by (dotted dot) k t f items fs h = refl
 atom_by (ended dot d) k t f items fs h = cc
@@ -36,7 +36,7 @@ atom_by (in_bytes bs) k t f items fs h = cc
 atom_by marked k t f items fs h = refl
 atom_by skipping k t f items fs h = refl
 
-atom_free : (k : TokenKind) (t : Spot) (items : List Datum) (fs : List Frame) → Free fs → atoms k t items fs ≡ whole k t items fs
+atom_free : (k : Leaf) (t : Spot) (items : List Datum) (fs : List Frame) → Free fs → atoms k t items fs ≡ whole k t items fs
 atom_free k t items [] free = refl
 atom_free k t items (f ∷ fs) free = atom_by f.opener k t f items fs (free t)
 
@@ -61,7 +61,7 @@ run r q ts h = ap (λ (s : Result State Stop). after_all s ts) h
 mutual
   pub pass_written : (w : Written) (items : List Datum) (fs : List Frame) (rest : List Numbered) → Free fs → depth_of fs + depth w ≤ 400 →
       after_all (Ok (state items fs)) (written_tokens w rest) ≡ after_all (Ok (completed (meant w) items fs)) rest
-  pass_written (alone s leaf) items fs rest free h = run (atoms (kinds.Atomic leaf) s items fs) (whole (kinds.Atomic leaf) s items fs) rest (atom_free (kinds.Atomic leaf) s items fs free)
+  pass_written (alone s leaf) items fs rest free h = run (atoms leaf s items fs) (whole leaf s items fs) rest (atom_free leaf s items fs free)
   pass_written (listed a ps b) items fs rest free h =
       let f = frame in_list a items (depth_of fs + 1) in
       run _ _ (parts_tokens ps (token b kinds.Close ∷ rest)) (opens_free in_list a [] (state items fs) free (omega arith))
@@ -89,7 +89,7 @@ mutual
       run _ _ (bytes_tokens bs (token b kinds.Close ∷ rest)) (allowed (refused fs a) (Ok (state [] (f ∷ fs))) (free a))
       ∙ pass_bytes bs [] f fs (token b kinds.Close ∷ rest) (omega arith)
   pass_written (abbreviated s mark g w) items fs rest free h =
-      let m = atom (at s) (kinds.Marked mark) in
+      let m = atom (at s) (implied mark) in
       let f = frame marked s items (depth_of fs + 1) in
       run _ _ (gap_tokens g (written_tokens w rest)) (opens_free marked s (m ∷ []) (state items fs) free (omega arith))
       ∙ pass_gap g (m ∷ []) (f ∷ fs) (written_tokens w rest) (omega arith)

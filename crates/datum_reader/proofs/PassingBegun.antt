@@ -1,7 +1,7 @@
 -- Reading data that are partly written leads to their state.
 use Rattle.std.proofs.Common.{◌≡◌, ℕ, ◌+◌, ◌≤◌, List, [], ◌∷◌, ◌++◌, Ok, refl, sym, ap, ◌∙◌, false, arith, append_assoc, append-nil}
 use Rattle.scheme_model.specs.Kinds as kinds
-use Rattle.scheme_model.specs.Data.{Datum, atom}
+use Rattle.scheme_model.specs.Data.{Datum, atom, implied}
 use Rattle.scheme_model.specs.Numbered.{Spot, Numbered, at}
 use Rattle.scheme_model.specs.Written.{token, written_tokens, gap_tokens, parts_tokens, meant, parts_meant}
 use Rattle.scheme_model.specs.Begun.{Row, start, more, ByteRow, no_bytes, one_byte, Inside, listing, behind_dot, behind_tail, vectoring, byting, behind_mark, behind_skip, Begun, top, inside, row_tokens, bytes_before, inside_tokens, begun_tokens, Takes, row_depth, byte_row_depth}
@@ -85,7 +85,7 @@ pass_inside b s (byting r g) rest ok =
     ∙ pass_gap g [] (reopened (in_bytes (numerals_of r)) f ∷ fs) rest (omega (arith, ok.2))
 pass_inside b s (behind_mark mark g) rest ok =
     let fs = begun_stack b in
-    let m = atom (at s) (kinds.Marked mark) in
+    let m = atom (at s) (implied mark) in
     run _ _ (gap_tokens g rest) (opens_free marked s (m ∷ []) (begun_state b) (free_of b ok.1) (omega (arith, ok.2)))
     ∙ pass_gap g (m ∷ []) (frame marked s (begun_items b) (depth_of fs + 1) ∷ fs) rest (omega (arith, ok.2))
 pass_inside b s (behind_skip g) rest ok =

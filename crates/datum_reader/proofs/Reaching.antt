@@ -3,7 +3,7 @@ use Rattle.std.proofs.Common.{◌≡◌, ℕ, ◌+◌, ◌≤◌, ◌<◌, ◌==
 use Rattle.std.proofs.lemmas.Bool.Decides.{nat_tests}
 use Rattle.scheme_model.specs.Kinds as kinds
 use Rattle.scheme_model.specs.Kinds.{TokenKind, Leaf}
-use Rattle.scheme_model.specs.Data.{Datum, list, vector, bytes, row, none, atom}
+use Rattle.scheme_model.specs.Data.{Datum, list, vector, bytes, row, none, atom, implied}
 use Rattle.scheme_model.specs.Numbered.{Spot, Numbered, is_byte, between, at}
 use Rattle.scheme_model.specs.Faults.{Stop, bad_dot, bad_byte, too_deep, stray_close, missing_datum}
 use Rattle.datum_reader.specs.Open.{Opener, in_list, in_vector, in_bytes, marked, skipping, dotted, Frame, State, state, depth_of, reopened, refused, unless, pushed, opened, completed, whole, byte_added, after, after_all}
@@ -85,7 +85,7 @@ opens_bytes b t s ok h =
 
 opens_mark : (mark : kinds.Mark) (b : Begun) (t : Spot) (s : State) → Sound b → after (kinds.Marked mark) t (begun_state b) ≡ Ok s → Reached b (kinds.Marked mark) t s
 opens_mark mark b t s ok h =
-    let m = atom (at t) (kinds.Marked mark) ∷ [] in
+    let m = atom (at t) (implied mark) ∷ [] in
     let u = unless_ok (refused (begun_stack b) t) (opened marked t m (begun_state b)) s h in
     let o = opened_ok marked t m (begun_state b) s u.1 in
     record { now = inside b t (behind_mark mark nothing); sound = (ok, takes_free b t u.0, omega (arith, o.0)); is = o.1; tokens = λ rest. refl }
@@ -169,9 +169,9 @@ dots (inside b u (behind_skip g)) t s ok h = err_ok (bad_dot t) s (Err (bad_dot 
 
 -- ---- an atom
 
-stands_alone : (leaf : Leaf) (b : Begun) (t : Spot) (s : State) → Sound b → Takes b → whole (kinds.Atomic leaf) t (begun_items b) (begun_stack b) ≡ Ok s → Reached b (kinds.Atomic leaf) t s
+stands_alone : (leaf : Leaf) (b : Begun) (t : Spot) (s : State) → Sound b → Takes b → whole leaf t (begun_items b) (begun_stack b) ≡ Ok s → Reached b (kinds.Atomic leaf) t s
 stands_alone leaf b t s ok takes h =
-    completes b b (alone t leaf) (kinds.Atomic leaf) t (meant (alone t leaf)) s ok takes (omega (arith, few b ok)) refl (whole (kinds.Atomic leaf) t (begun_items b) (begun_stack b)) refl h (λ rest. refl)
+    completes b b (alone t leaf) (kinds.Atomic leaf) t (meant (alone t leaf)) s ok takes (omega (arith, few b ok)) refl (whole leaf t (begun_items b) (begun_stack b)) refl h (λ rest. refl)
 
 numeral : (text : List ℕ) (fits : Bool) → is_byte 0 text ≡ fits → (r : ByteRow) (g : Gap) (b : Begun) (u t : Spot) (f : Frame) (s : State) → f ≡ record { opener = in_bytes (numerals_of r); spot = u; before = begun_items b; depth = depth_of (begun_stack b) } →
     Sound (inside b u (byting r g)) → byte_added (cond fits (Some text) None) (numerals_of r) t f [] (begun_stack b) ≡ Ok s → Reached (inside b u (byting r g)) (kinds.Atomic (kinds.Numeral text)) t s

@@ -3,7 +3,7 @@ use Rattle.std.proofs.Common.{◌≡◌, ℕ, ◌+◌, ◌==◌, length, List, [
 use Rattle.std.proofs.lemmas.Bool.Decides.{nat_tests}
 use Rattle.scheme_model.specs.Kinds as kinds
 use Rattle.scheme_model.specs.Kinds.{TokenKind, Leaf}
-use Rattle.scheme_model.specs.Data.{Datum, atom}
+use Rattle.scheme_model.specs.Data.{Datum, atom, implied}
 use Rattle.scheme_model.specs.Numbered.{Spot, at, is_byte}
 use Rattle.scheme_model.specs.Faults.{Stop, bad_dot, bad_byte, too_deep}
 use Rattle.scheme_model.specs.Written.{meant}
@@ -102,7 +102,7 @@ by_byte : (fits : Bool) (text : List ℕ) (bs : List (List ℕ)) (t : Spot) (f :
 by_byte true text bs t f fs = refl
 by_byte false text bs t f fs = refl
 
-byte_tells : (leaf : Leaf) (bs : List (List ℕ)) (t : Spot) (f : Frame) (fs : List Frame) → Tells (byte_added (model.byte_of (kinds.Atomic leaf)) bs t f [] fs) (unless_byte leaf t)
+byte_tells : (leaf : Leaf) (bs : List (List ℕ)) (t : Spot) (f : Frame) (fs : List Frame) → Tells (byte_added (model.byte_of leaf) bs t f [] fs) (unless_byte leaf t)
 byte_tells (kinds.Name name bars) bs t f fs = refl
 byte_tells (kinds.Numeral text) bs t f fs = by_byte (is_byte 0 text) text bs t f fs
 byte_tells (kinds.Quoted text) bs t f fs = refl
@@ -127,7 +127,7 @@ tells kinds.BytesParen b t = bytes_tells b t
 tells kinds.Close b t = close_tells b t
 tells kinds.Dot b t = dot_tells b t
 tells kinds.Skip b t = opened_tells b skipping t []
-tells (kinds.Marked mark) b t = begins_tells b marked t (atom (at t) (kinds.Marked mark) ∷ [])
+tells (kinds.Marked mark) b t = begins_tells b marked t (atom (at t) (implied mark) ∷ [])
 tells (kinds.Atomic leaf) b t = atom_tells leaf b t
 
 from_told : {A : Type 0} (e : Stop) (o : Option Stop) (r : Result A Stop) → Tells r o → o ≡ Some e → r ≡ Err e

@@ -17,12 +17,12 @@ tail_right (bytes p texts) h = (refl, h)
 
 mutual
   written_right : (w : Written) → IsRight (meant w)
-  written_right (alone s leaf) = refl
+  written_right (alone s leaf) = tt
   written_right (listed a ps b) = parts_right ps none tt
   written_right (tailed a g w ps dot h t i b) = (written_right w, parts_right ps (tail_of (meant t)) (tail_right (meant t) (written_right t)))
   written_right (vectored a ps b) = parts_right ps none tt
   written_right (byted a bs b) = tt
-  written_right (abbreviated s mark g w) = (refl, (written_right w, tt))
+  written_right (abbreviated s mark g w) = (tt, (written_right w, tt))
 
   parts_right : (ps : Parts) (end : Data) → AreRight end → AreRight (row (parts_meant ps) end)
   parts_right (last g) end h = h

@@ -10,9 +10,10 @@ use Rattle.ls_base.specs.Limits.{max_text, max_tree_nodes, max_tree_depth}
 use Rattle.std.proofs.lemmas.Option.{slice_get-map}
 use Rattle.scheme_model.specs.declared.Occ.{Occ}
 use Rattle.scheme_model.specs.Trees.{Bytes, Tree, atom as atom_of, list as list_of, vector as vector_of, tree, placed_in}
-use Rattle.scheme_tokens.specs.declared.token.TokenKind as code_kind
-use Rattle.datum_reader.specs.Views.{kind_of, shape_step, datum_step, placed, shape_of, datum_of, data_of, end_data}
-use Rattle.scheme_model.specs.Kinds.{TokenKind, Paren, VectorParen, BytesParen, Close, Dot, Skip, Marked, Atomic, Name, Numeral, Quoted, Character, Truth}
+use Rattle.datum_reader.specs.declared.datum.Atom as code_atom
+use Rattle.datum_reader.specs.declared.datum.Mark as code_mark
+use Rattle.datum_reader.specs.Views.{leaf_of, mark_of, shape_step, datum_step, placed, shape_of, datum_of, data_of, end_data}
+use Rattle.scheme_model.specs.Kinds.{Name, Numeral, Quoted, Character, Truth}
 use Rattle.scheme_model.specs.Ident.{Ident as Identifier}
 use Rattle.scheme_model.specs.Measures.{tree_size, trees_size, tail_size, tree_depth, trees_depth, tail_depth}
 use Rattle.syntax_tree.specs.Standing as standing
@@ -21,7 +22,7 @@ use Rattle.datum_reader.specs.declared.datum.Shape.{Shape}
 use Rattle.datum_reader.specs.declared.datum.Shape.TheVariants as shape
 use Rattle.datum_reader.specs.declared.datum.Shape.TheOpen.{Shape-F}
 use Rattle.datum_reader.specs.declared.datum.Shape.TheFolds.{fold-roll-Shape}
-use Rattle.scheme_model.specs.Data.{Place, Datum, atom, list, vector, bytes, Data, none, part, tail, row}
+use Rattle.scheme_model.specs.Data.{Place, Atom, spelled, implied, Datum, atom, list, vector, bytes, Data, none, part, tail, row}
 use Rattle.datum_reader.specs.Right.{is_list, AreRight, datum_size, data_size, datum_depth, data_depth, WasRead, CanSeed}
 use Rattle.datum_reader.specs.Seeded.{atom_tree, tree_of, parts_of, end_of}
 use Rattle.datum_reader.specs.Seeding.{part_tree, parts_trees, tail_tree, CanBeSeeded, TailCanBeSeeded}
@@ -38,10 +39,15 @@ at d = placed d.first d.last d.span
 datum-at : (d : code.Datum) (s : Shape) → d.shape ≡ s → datum_of d ≡ shape_of s (at d)
 datum-at d s e = datum_is d ∙ ap (λ (x : Shape). shape_of x (at d)) e
 
-pub datum-atom : (d : code.Datum) (kind : code_kind.TokenKind) → d.shape ≡ shape.Atom kind → datum_of d ≡ atom (at d) (kind_of kind)
-datum-atom d kind e =
-    datum-at d (shape.Atom kind) e ∙ ap (λ (s : Shape). shape_of s (at d)) (sym (shape.rolls-Atom kind))
-    ∙ ap (λ (g : Place → Datum). g (at d)) (fold-roll-Shape (Place → Datum) Datum shape_step datum_step (Shape-F.Atom kind))
+pub datum-atom : (d : code.Datum) (a : code_atom.Atom) → d.shape ≡ shape.Atom a → datum_of d ≡ atom (at d) (spelled (leaf_of a))
+datum-atom d a e =
+    datum-at d (shape.Atom a) e ∙ ap (λ (s : Shape). shape_of s (at d)) (sym (shape.rolls-Atom a))
+    ∙ ap (λ (g : Place → Datum). g (at d)) (fold-roll-Shape (Place → Datum) Datum shape_step datum_step (Shape-F.Atom a))
+
+pub datum-implied : (d : code.Datum) (mark : code_mark.Mark) → d.shape ≡ shape.Implied mark → datum_of d ≡ atom (at d) (implied (mark_of mark))
+datum-implied d mark e =
+    datum-at d (shape.Implied mark) e ∙ ap (λ (s : Shape). shape_of s (at d)) (sym (shape.rolls-Implied mark))
+    ∙ ap (λ (g : Place → Datum). g (at d)) (fold-roll-Shape (Place → Datum) Datum shape_step datum_step (Shape-F.Implied mark))
 
 pub datum-bytes : (d : code.Datum) (texts : Vec (List ℕ) Global) → d.shape ≡ shape.Bytes texts → datum_of d ≡ bytes (at d) (map chars texts.items)
 datum-bytes d texts e =
@@ -58,52 +64,34 @@ datum-list d xs end e = datum-at d (shape.List xs end) e ∙ list-shape xs end (
 
 -- ---- how many nodes, how deep, and what is a list
 
-atom-size : (unit : ℕ) (kind : TokenKind) (o : Occ) → tree_size (atom_tree unit kind o) ≡ 1
-atom-size unit (Atomic (Name s bars)) o = refl
-atom-size unit (Atomic (Numeral text)) o = refl
-atom-size unit (Atomic (Quoted text)) o = refl
-atom-size unit (Atomic (Character c)) o = refl
-atom-size unit (Atomic (Truth b)) o = refl
-atom-size unit (Marked mark) o = refl
-atom-size unit Paren o = refl
-atom-size unit VectorParen o = refl
-atom-size unit BytesParen o = refl
-atom-size unit Close o = refl
-atom-size unit Dot o = refl
-atom-size unit Skip o = refl
+atom-size : (unit : ℕ) (a : Atom) (o : Occ) → tree_size (atom_tree unit a o) ≡ 1
+atom-size unit (spelled (Name s bars)) o = refl
+atom-size unit (spelled (Numeral text)) o = refl
+atom-size unit (spelled (Quoted text)) o = refl
+atom-size unit (spelled (Character c)) o = refl
+atom-size unit (spelled (Truth b)) o = refl
+atom-size unit (implied mark) o = refl
 
-atom-depth : (unit : ℕ) (kind : TokenKind) (o : Occ) → tree_depth (atom_tree unit kind o) ≡ 1
-atom-depth unit (Atomic (Name s bars)) o = refl
-atom-depth unit (Atomic (Numeral text)) o = refl
-atom-depth unit (Atomic (Quoted text)) o = refl
-atom-depth unit (Atomic (Character c)) o = refl
-atom-depth unit (Atomic (Truth b)) o = refl
-atom-depth unit (Marked mark) o = refl
-atom-depth unit Paren o = refl
-atom-depth unit VectorParen o = refl
-atom-depth unit BytesParen o = refl
-atom-depth unit Close o = refl
-atom-depth unit Dot o = refl
-atom-depth unit Skip o = refl
+atom-depth : (unit : ℕ) (a : Atom) (o : Occ) → tree_depth (atom_tree unit a o) ≡ 1
+atom-depth unit (spelled (Name s bars)) o = refl
+atom-depth unit (spelled (Numeral text)) o = refl
+atom-depth unit (spelled (Quoted text)) o = refl
+atom-depth unit (spelled (Character c)) o = refl
+atom-depth unit (spelled (Truth b)) o = refl
+atom-depth unit (implied mark) o = refl
 
-atom-is_list : (unit : ℕ) (kind : TokenKind) (o : Occ) → standing.is_list (atom_tree unit kind o) ≡ false
-atom-is_list unit (Atomic (Name s bars)) o = refl
-atom-is_list unit (Atomic (Numeral text)) o = refl
-atom-is_list unit (Atomic (Quoted text)) o = refl
-atom-is_list unit (Atomic (Character c)) o = refl
-atom-is_list unit (Atomic (Truth b)) o = refl
-atom-is_list unit (Marked mark) o = refl
-atom-is_list unit Paren o = refl
-atom-is_list unit VectorParen o = refl
-atom-is_list unit BytesParen o = refl
-atom-is_list unit Close o = refl
-atom-is_list unit Dot o = refl
-atom-is_list unit Skip o = refl
+atom-is_list : (unit : ℕ) (a : Atom) (o : Occ) → standing.is_list (atom_tree unit a o) ≡ false
+atom-is_list unit (spelled (Name s bars)) o = refl
+atom-is_list unit (spelled (Numeral text)) o = refl
+atom-is_list unit (spelled (Quoted text)) o = refl
+atom-is_list unit (spelled (Character c)) o = refl
+atom-is_list unit (spelled (Truth b)) o = refl
+atom-is_list unit (implied mark) o = refl
 
 module _ (unit : ℕ) (place : ℕ → Occ) where
   mutual
     pub size_fits : (d : Datum) → tree_size (tree_of unit place d) ≤ datum_size d
-    size_fits (atom p kind) = omega (arith, atom-size unit kind (place p.first))
+    size_fits (atom p a) = omega (arith, atom-size unit a (place p.first))
     size_fits (list p ds) = omega (arith, sizes_fit ds)
     size_fits (vector p ds) = omega (arith, sizes_fit ds)
     size_fits (bytes p texts) = omega arith
@@ -115,7 +103,7 @@ module _ (unit : ℕ) (place : ℕ → Occ) where
 
   mutual
     pub depth_fits : (d : Datum) → tree_depth (tree_of unit place d) ≤ datum_depth d
-    depth_fits (atom p kind) = omega (arith, atom-depth unit kind (place p.first))
+    depth_fits (atom p a) = omega (arith, atom-depth unit a (place p.first))
     depth_fits (list p ds) = omega (arith, depths_fit ds)
     depth_fits (vector p ds) = omega (arith, depths_fit ds)
     depth_fits (bytes p texts) = omega arith
@@ -126,7 +114,7 @@ module _ (unit : ℕ) (place : ℕ → Occ) where
     depths_fit (tail d) = omega (arith, depth_fits d)
 
   pub tree-is_list : (d : Datum) → standing.is_list (tree_of unit place d) ≡ is_list d
-  tree-is_list (atom p kind) = atom-is_list unit kind (place p.first)
+  tree-is_list (atom p a) = atom-is_list unit a (place p.first)
   tree-is_list (list p ds) = refl
   tree-is_list (vector p ds) = refl
   tree-is_list (bytes p texts) = refl
@@ -229,11 +217,11 @@ module _ (unit form first : ℕ) where
       }
 
   -- an atom and a bytevector have one node
-  pub atom_whole : (d : code.Datum) (o : Occ) (kind : code_kind.TokenKind) → d.shape ≡ shape.Atom kind → o ≡ place d → part_tree unit form first d ≡ atom_tree unit (kind_of kind) o
-  atom_whole d o kind e here = ap tree_at (datum-atom d kind e) ∙ ap (atom_tree unit (kind_of kind)) (sym here)
+  pub atom_whole : (d : code.Datum) (o : Occ) (a : Atom) → datum_of d ≡ atom (at d) a → o ≡ place d → part_tree unit form first d ≡ atom_tree unit a o
+  atom_whole d o a e here = ap tree_at e ∙ ap (atom_tree unit a) (sym here)
 
-  pub atom_part-size : (d : code.Datum) (kind : code_kind.TokenKind) → d.shape ≡ shape.Atom kind → 0 + 1 ≡ tree_size (part_tree unit form first d)
-  atom_part-size d kind e = let size = ap (λ (x : Datum). tree_size (tree_at x)) (datum-atom d kind e) ∙ atom-size unit (kind_of kind) (place d) in omega (arith, size)
+  pub atom_part-size : (d : code.Datum) (a : Atom) → datum_of d ≡ atom (at d) a → 0 + 1 ≡ tree_size (part_tree unit form first d)
+  atom_part-size d a e = let size = ap (λ (x : Datum). tree_size (tree_at x)) e ∙ atom-size unit a (place d) in omega (arith, size)
 
   pub bytes_whole : (d : code.Datum) (o : Occ) (xs : Vec (List ℕ) Global) (texts : List (List ℕ)) → d.shape ≡ shape.Bytes xs → texts ≡ xs.items → o ≡ place d →
       part_tree unit form first d ≡ atom_of (Bytes (join_with_byte 32 (map encode_utf8_all (map chars texts)))) (Some o)

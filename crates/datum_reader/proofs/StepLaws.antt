@@ -7,7 +7,7 @@ use Rattle.datum_reader.specs.declared.open.Opener as code_opener
 use Rattle.datum_reader.specs.declared.open.Opener.TheVariants as openers
 use Rattle.scheme_tokens.specs.declared.fault.ReadFault.{ReadFault}
 use Rattle.scheme_tokens.specs.declared.fault.ReadFault.TheVariants as told
-use Rattle.scheme_model.specs.Kinds.{TokenKind}
+use Rattle.scheme_model.specs.Kinds.{Leaf}
 use Rattle.scheme_tokens.specs.declared.token.Token as code_token
 use Rattle.datum_reader.specs.Views.{kind_of, tokens_of, tail_datum, data_of, spot_of, opener_of, frame_of, stack_of, Fails}
 use Rattle.scheme_model.specs.Data.{Datum}
@@ -42,7 +42,7 @@ pub dots_top : (t : Spot) (items : List Datum) (fs gs : List code_frame.Frame) (
     dots t items (stack_of fs) ≡ dotted_by (opener_of o) t (frame_of f) items (stack_of gs)
 dots_top t items fs gs f o e is = ap (dots t items) (stack_push gs fs f e) ∙ ap (λ (v : code_opener.Opener). dotted_by (opener_of v) t (frame_of f) items (stack_of gs)) is
 
-pub atoms_top : (k : TokenKind) (t : Spot) (items : List Datum) (fs gs : List code_frame.Frame) (f : code_frame.Frame) (o : code_opener.Opener) → fs ≡ gs ++ f ∷ [] → f.opener ≡ o →
+pub atoms_top : (k : Leaf) (t : Spot) (items : List Datum) (fs gs : List code_frame.Frame) (f : code_frame.Frame) (o : code_opener.Opener) → fs ≡ gs ++ f ∷ [] → f.opener ≡ o →
     atoms k t items (stack_of fs) ≡ atoms_by (opener_of o) k t (frame_of f) items (stack_of gs)
 atoms_top k t items fs gs f o e is = ap (atoms k t items) (stack_push gs fs f e) ∙ ap (λ (v : code_opener.Opener). atoms_by (opener_of v) k t (frame_of f) items (stack_of gs)) is
 
@@ -84,7 +84,7 @@ pub byte_same : (o : Option (List ℕ)) (bs cs : List (List ℕ)) (t : Spot) (f 
 byte_same o bs cs t f g items fs h k =
     ap (λ (q : List (List ℕ)). byte_added o q t g items fs) h ∙ ap (λ (q : Frame). byte_added o cs t q items fs) k ∙ byte_shell o cs t f items fs
 
-pub bytes_opener : (o : code_opener.Opener) (k : TokenKind) (t : Spot) (items : List Datum) (fs : List Frame) (f : Frame) (bs : List (List ℕ)) → opener_of o ≡ in_bytes bs →
+pub bytes_opener : (o : code_opener.Opener) (k : Leaf) (t : Spot) (items : List Datum) (fs : List Frame) (f : Frame) (bs : List (List ℕ)) → opener_of o ≡ in_bytes bs →
     atoms_by (opener_of o) k t f items fs ≡ byte_added (byte_of k) bs t f items fs
 bytes_opener o k t items fs f bs h = ap (λ (q : Opener). atoms_by q k t f items fs) h
 

@@ -1,9 +1,10 @@
 -- What is open while data are read from tokens, and how each token changes it (R7RS 7.1.2).
 use Rattle.std.specs.Prelude.{ℕ, ◌+◌, ◌==◌, List, [], ◌∷◌, ◌++◌, length, Option, Some, None, Result, Ok, Err, nat_lt, if◌then◌else◌}
-use Rattle.scheme_model.specs.Kinds.{TokenKind, Paren, VectorParen, BytesParen, Close, Dot, Skip, Marked, Atomic, Name, Numeral, Quoted, Character, Truth, Token}
-use Rattle.scheme_model.specs.Data.{Datum, atom, list, vector, bytes, none, row, tail_of, place_of}
+use Rattle.scheme_model.specs.Kinds.{TokenKind, Paren, VectorParen, BytesParen, Close, Dot, Skip, Marked, Atomic, Leaf, Name, Numeral, Quoted, Character, Truth, Token}
+use Rattle.scheme_model.specs.Data.{spelled, implied, Datum, atom, list, vector, bytes, none, row, tail_of, place_of}
 use Rattle.scheme_model.specs.Numbered.{Spot, Numbered, number_from, is_byte}
 pub use Rattle.scheme_model.specs.Numbered.{at, between, up_to}
+use Rattle.scheme_model.specs.Written.{max_open}
 use Rattle.scheme_model.specs.Faults.{Stop, open_list, stray_close, bad_dot, bad_byte, too_deep, missing_datum}
 
 -- what is open: a list, before or behind its dot, or behind its tail; a vector; a bytevector with its numerals so far; an
@@ -63,7 +64,7 @@ pushed o depth t items s = state items (record { opener = o; spot = t; before = 
 
 abbrev pub opened : Opener → Spot → List Datum → State → Result State Stop
 opened o t items s =
-    if nat_lt (depth_of s.stack) 400 then Ok (pushed o (depth_of s.stack + 1) t items s) else Err (too_deep t)
+    if nat_lt (depth_of s.stack) max_open then Ok (pushed o (depth_of s.stack + 1) t items s) else Err (too_deep t)
 
 -- a datum is complete: an abbreviation with it is one too, `#;` drops it, and a list behind its dot has its tail
 abbrev pub completed_by : Opener → Frame → Datum → List Datum → List Frame → State → State
@@ -115,40 +116,33 @@ dots t items [] = Err (bad_dot t)
 dots t items (f ∷ fs) = dotted_by f.opener t f items fs
 
 -- the numeral of a byte
-abbrev pub byte_of : TokenKind → Option (List ℕ)
-byte_of Paren = None
-byte_of VectorParen = None
-byte_of BytesParen = None
-byte_of Close = None
-byte_of Dot = None
-byte_of Skip = None
-byte_of (Marked mark) = None
-byte_of (Atomic (Name name bars)) = None
-byte_of (Atomic (Numeral text)) = if is_byte 0 text then Some text else None
-byte_of (Atomic (Quoted text)) = None
-byte_of (Atomic (Character c)) = None
-byte_of (Atomic (Truth b)) = None
+abbrev pub byte_of : Leaf → Option (List ℕ)
+byte_of (Name name bars) = None
+byte_of (Numeral text) = if is_byte 0 text then Some text else None
+byte_of (Quoted text) = None
+byte_of (Character c) = None
+byte_of (Truth b) = None
 
 abbrev pub byte_added : Option (List ℕ) → List (List ℕ) → Spot → Frame → List Datum → List Frame → Result State Stop
 byte_added None bs t f items fs = Err (bad_byte t)
 byte_added (Some text) bs t f items fs = Ok (state items (reopened (in_bytes (bs ++ text ∷ [])) f ∷ fs))
 
 -- an atom: in a bytevector a numeral, and elsewhere a datum
-abbrev pub whole : TokenKind → Spot → List Datum → List Frame → Result State Stop
-whole k t items fs = Ok (completed (atom (at t) k) items fs)
+abbrev pub whole : Leaf → Spot → List Datum → List Frame → Result State Stop
+whole leaf t items fs = Ok (completed (atom (at t) (spelled leaf)) items fs)
 
-abbrev pub atoms_by : Opener → TokenKind → Spot → Frame → List Datum → List Frame → Result State Stop
-atoms_by in_list k t f items fs = whole k t items (f ∷ fs)
-atoms_by (dotted dot) k t f items fs = whole k t items (f ∷ fs)
-atoms_by (ended dot d) k t f items fs = Err (bad_dot dot)
-atoms_by in_vector k t f items fs = whole k t items (f ∷ fs)
-atoms_by (in_bytes bs) k t f items fs = byte_added (byte_of k) bs t f items fs
-atoms_by marked k t f items fs = whole k t items (f ∷ fs)
-atoms_by skipping k t f items fs = whole k t items (f ∷ fs)
+abbrev pub atoms_by : Opener → Leaf → Spot → Frame → List Datum → List Frame → Result State Stop
+atoms_by in_list leaf t f items fs = whole leaf t items (f ∷ fs)
+atoms_by (dotted dot) leaf t f items fs = whole leaf t items (f ∷ fs)
+atoms_by (ended dot d) leaf t f items fs = Err (bad_dot dot)
+atoms_by in_vector leaf t f items fs = whole leaf t items (f ∷ fs)
+atoms_by (in_bytes bs) leaf t f items fs = byte_added (byte_of leaf) bs t f items fs
+atoms_by marked leaf t f items fs = whole leaf t items (f ∷ fs)
+atoms_by skipping leaf t f items fs = whole leaf t items (f ∷ fs)
 
-abbrev pub atoms : TokenKind → Spot → List Datum → List Frame → Result State Stop
-atoms k t items [] = whole k t items []
-atoms k t items (f ∷ fs) = atoms_by f.opener k t f items fs
+abbrev pub atoms : Leaf → Spot → List Datum → List Frame → Result State Stop
+atoms leaf t items [] = whole leaf t items []
+atoms leaf t items (f ∷ fs) = atoms_by f.opener leaf t f items fs
 
 -- what is open after one token more, or why it can't go on
 abbrev pub after : TokenKind → Spot → State → Result State Stop
@@ -158,8 +152,8 @@ after BytesParen t s = unless (refused s.stack t) (Ok (pushed (in_bytes []) (dep
 after Close t s = closed t s.items s.stack
 after Dot t s = dots t s.items s.stack
 after Skip t s = opened skipping t [] s
-after (Marked mark) t s = unless (refused s.stack t) (opened marked t (atom (at t) (Marked mark) ∷ []) s)
-after (Atomic leaf) t s = atoms (Atomic leaf) t s.items s.stack
+after (Marked mark) t s = unless (refused s.stack t) (opened marked t (atom (at t) (implied mark) ∷ []) s)
+after (Atomic leaf) t s = atoms leaf t s.items s.stack
 
 abbrev pub goes_on : Result State Stop → Numbered → Result State Stop
 goes_on (Ok s) t = after t.kind t.spot s

@@ -1,7 +1,6 @@
 -- Data as reading gives them: what a tree can be made of.
 use Rattle.std.specs.Prelude.{◌≡◌, ◌⊎◌, ℕ, ◌+◌, ◌≤◌, max, Bool, true, false, List}
 use Rattle.ls_base.specs.Limits.{max_text, max_tree_nodes, max_tree_depth}
-use Rattle.scheme_model.specs.Kinds.{TokenKind, Paren, VectorParen, BytesParen, Close, Dot, Skip, Marked, Atomic}
 use Rattle.scheme_tokens.specs.Lexical.{byte_count}
 use Rattle.scheme_model.specs.Data.{Datum, atom, list, vector, bytes, Data, none, part, tail, row}
 use Rattle.datum_reader.specs.Texts.{IsReading}
@@ -9,7 +8,7 @@ use Rattle.datum_reader.specs.Texts.{IsReading}
 -- the datum stands in this one, or in these
 abbrev mutual
   pub IsIn : Datum → Datum → Type 0
-  IsIn d (atom p kind) = d ≡ atom p kind
+  IsIn d (atom p a) = d ≡ atom p a
   IsIn d (list p ds) = (d ≡ list p ds) ⊎ IsAmong d ds
   IsIn d (vector p ds) = (d ≡ vector p ds) ⊎ IsAmong d ds
   IsIn d (bytes p texts) = d ≡ bytes p texts
@@ -27,27 +26,16 @@ pub record WasRead (d : Datum) : Type 0 where
   pub reading : IsReading text all
   pub among : IsAmong d (row all none)
 
--- an atom by itself, or a mark
-abbrev pub is_atom : TokenKind → Bool
-is_atom Paren = false
-is_atom VectorParen = false
-is_atom BytesParen = false
-is_atom Close = false
-is_atom Dot = false
-is_atom Skip = false
-is_atom (Marked mark) = true
-is_atom (Atomic leaf) = true
-
 abbrev pub is_list : Datum → Bool
-is_list (atom p kind) = false
+is_list (atom p a) = false
 is_list (list p ds) = true
 is_list (vector p ds) = false
 is_list (bytes p texts) = false
 
--- its atoms are atoms, and no tail is a list
+-- no tail in it is a list
 abbrev mutual
   pub IsRight : Datum → Type 0
-  IsRight (atom p kind) = is_atom kind ≡ true
+  IsRight (atom p a) = Unit {0}
   IsRight (list p ds) = AreRight ds
   IsRight (vector p ds) = AreRight ds
   IsRight (bytes p texts) = Unit {0}
@@ -60,7 +48,7 @@ abbrev mutual
 -- how many nodes and how deep the datum's tree is
 abbrev mutual
   pub datum_size : Datum → ℕ
-  datum_size (atom p kind) = 1
+  datum_size (atom p a) = 1
   datum_size (list p ds) = 1 + data_size ds
   datum_size (vector p ds) = 1 + data_size ds
   datum_size (bytes p texts) = 1
@@ -72,7 +60,7 @@ abbrev mutual
 
 abbrev mutual
   pub datum_depth : Datum → ℕ
-  datum_depth (atom p kind) = 1
+  datum_depth (atom p a) = 1
   datum_depth (list p ds) = 1 + data_depth ds
   datum_depth (vector p ds) = 1 + data_depth ds
   datum_depth (bytes p texts) = 1

@@ -3,13 +3,12 @@
 use Rattle.std.specs.Prelude.{ℕ}
 use Rattle.scheme_model.specs.declared.Occ.{Occ}
 use Rattle.scheme_model.specs.Trees.{Tree, Trees, Tail, placed_in}
-use Rattle.scheme_model.specs.Kinds.{TokenKind}
-use Rattle.scheme_model.specs.Data.{Datum, Data, place_of}
+use Rattle.scheme_model.specs.Data.{Atom, Datum, Data, place_of}
 use Rattle.scheme_model.specs.DataTrees as trees
 use Rattle.scheme_model.specs.Ident.{Ident as Identifier, Written}
 
-abbrev pub atom_tree : ℕ → TokenKind → Occ → Tree Identifier
-atom_tree unit kind o = trees.atom_tree (Written unit) kind o
+abbrev pub atom_tree : ℕ → Atom → Occ → Tree Identifier
+atom_tree unit a o = trees.atom_tree (Written unit) a o
 
 abbrev pub tree_of : ℕ → (ℕ → Occ) → Datum → Tree Identifier
 tree_of unit place d = trees.tree_of (Written unit) place d

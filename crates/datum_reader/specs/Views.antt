@@ -10,6 +10,10 @@ use Rattle.scheme_tokens.specs.declared.token.Token as code_token
 use Rattle.scheme_tokens.specs.declared.fault.ReadFault as told
 use Rattle.scheme_tokens.specs.declared.fault.ReadFault.TheVariants as faults
 use Rattle.datum_reader.specs.declared.datum.Datum as code
+use Rattle.datum_reader.specs.declared.datum.Atom as code_atom
+use Rattle.datum_reader.specs.declared.datum.Atom.TheVariants as atoms
+use Rattle.datum_reader.specs.declared.datum.Mark as code_mark
+use Rattle.datum_reader.specs.declared.datum.Mark.TheVariants as marks
 use Rattle.datum_reader.specs.declared.datum.Shape.{Shape}
 use Rattle.datum_reader.specs.declared.datum.Shape.TheOpen.{Datum-F, Shape-F}
 use Rattle.datum_reader.specs.declared.datum.Shape.TheFolds.{fold-Datum, fold-Shape}
@@ -21,8 +25,8 @@ use Rattle.datum_reader.specs.declared.open.Opener as code_opener
 use Rattle.datum_reader.specs.declared.open.Opener.TheVariants as openers
 use Rattle.datum_reader.specs.declared.open.Frame as code_frame
 use Rattle.datum_reader.specs.declared.open.State as code_state
-use Rattle.scheme_model.specs.Kinds.{TokenKind, Token}
-use Rattle.scheme_model.specs.Data.{Place, Datum, atom, list, vector, bytes, Data, none, tail, row}
+use Rattle.scheme_model.specs.Kinds.{Leaf, Name, Numeral, Quoted, Character, Truth, Mark, Quote, Quasi, Unquote, Splice, TokenKind, Token}
+use Rattle.scheme_model.specs.Data.{Place, spelled, implied, Datum, atom, list, vector, bytes, Data, none, tail, row}
 use Rattle.scheme_model.specs.Numbered.{Spot}
 use Rattle.scheme_model.specs.Faults.{Stop, bad_byte}
 use Rattle.datum_reader.specs.Texts.{kind_seen}
@@ -37,6 +41,19 @@ token_of t = record { kind = kind_of t.kind; start = t.span.start; end = t.span.
 abbrev pub tokens_of : List code_token.Token → List Token
 tokens_of ts = map token_of ts
 
+abbrev pub leaf_of : code_atom.Atom → Leaf
+leaf_of (atoms.Name name bars) = Name (chars name) bars
+leaf_of (atoms.Numeral text) = Numeral (chars text)
+leaf_of (atoms.Quoted text) = Quoted (chars text)
+leaf_of (atoms.Char c) = Character c
+leaf_of (atoms.Bool b) = Truth b
+
+abbrev pub mark_of : code_mark.Mark → Mark
+mark_of marks.Quote = Quote
+mark_of marks.Quasi = Quasi
+mark_of marks.Unquote = Unquote
+mark_of marks.Splice = Splice
+
 -- what a list ends with, whose tail is seen already
 abbrev pub end_of : Option (Box Datum) → Data
 end_of None = none
@@ -44,7 +61,8 @@ end_of (Some d) = tail d.value
 
 -- one level, whose parts are seen already
 abbrev pub shape_step : Shape-F (Place → Datum) Datum → Place → Datum
-shape_step (Shape-F.Atom kind) p = atom p (kind_of kind)
+shape_step (Shape-F.Atom a) p = atom p (spelled (leaf_of a))
+shape_step (Shape-F.Implied mark) p = atom p (implied (mark_of mark))
 shape_step (Shape-F.List ds end) p = list p (row ds.items (end_of end))
 shape_step (Shape-F.Vector ds) p = vector p (row ds.items none)
 shape_step (Shape-F.Bytes texts) p = bytes p (map chars texts.items)

@@ -3,9 +3,8 @@ ghost use Rattle.std.specs.Prelude.{◌≡◌, IfOk};
 ghost use Rattle.datum_reader.specs.Views.{data_of, datum_of, shape_of, end_data};
 ghost use Rattle.scheme_model.specs.Data.{Place};
 
-use crate::datum::{Datum, Shape};
+use crate::datum::{Atom, Datum, Shape};
 use ls_base::{Mem, Text};
-use scheme_tokens::TokenKind;
 use std::alloc::Global;
 
 impl Datum {
@@ -35,7 +34,8 @@ fn copy_shape(alloc: Global, shape: &Shape) -> Mem<Shape>
     ensures { IfOk result (λ copy. (p : Place) → shape_of copy p ≡ shape_of shape.now p) }
 {
     match shape {
-        Shape::Atom(kind) => Ok(Shape::Atom(copy_kind(kind)?)),
+        Shape::Atom(atom) => Ok(Shape::Atom(copy_atom(atom)?)),
+        Shape::Implied(mark) => Ok(Shape::Implied(*mark)),
         Shape::Bytes(numerals) => Ok(Shape::Bytes(copy_texts(alloc, numerals)?)),
         Shape::Vector(parts) => Ok(Shape::Vector(copy_parts(alloc, parts)?)),
         Shape::List(parts, end) => {
@@ -83,27 +83,17 @@ fn copy_texts(alloc: Global, texts: &[Text]) -> Mem<Vec<Text>>
     Ok(copies)
 }
 
-fn copy_kind(kind: &TokenKind) -> Mem<TokenKind>
-    ensures { IfOk result (λ copy. copy ≡ kind.now) }
+fn copy_atom(atom: &Atom) -> Mem<Atom>
+    ensures { IfOk result (λ copy. copy ≡ atom.now) }
 {
-    match kind {
-        TokenKind::Paren => Ok(TokenKind::Paren),
-        TokenKind::VectorParen => Ok(TokenKind::VectorParen),
-        TokenKind::BytesParen => Ok(TokenKind::BytesParen),
-        TokenKind::Close => Ok(TokenKind::Close),
-        TokenKind::Dot => Ok(TokenKind::Dot),
-        TokenKind::Quote => Ok(TokenKind::Quote),
-        TokenKind::Quasi => Ok(TokenKind::Quasi),
-        TokenKind::Unquote => Ok(TokenKind::Unquote),
-        TokenKind::Splice => Ok(TokenKind::Splice),
-        TokenKind::Skip => Ok(TokenKind::Skip),
-        TokenKind::Name { name, bars } => Ok(TokenKind::Name {
+    match atom {
+        Atom::Name { name, bars } => Ok(Atom::Name {
             name: name.clone()?,
             bars: *bars,
         }),
-        TokenKind::Numeral(text) => Ok(TokenKind::Numeral(text.clone()?)),
-        TokenKind::Quoted(text) => Ok(TokenKind::Quoted(text.clone()?)),
-        TokenKind::Char(c) => Ok(TokenKind::Char(*c)),
-        TokenKind::Bool(b) => Ok(TokenKind::Bool(*b)),
+        Atom::Numeral(text) => Ok(Atom::Numeral(text.clone()?)),
+        Atom::Quoted(text) => Ok(Atom::Quoted(text.clone()?)),
+        Atom::Char(c) => Ok(Atom::Char(*c)),
+        Atom::Bool(b) => Ok(Atom::Bool(*b)),
     }
 }

@@ -1,6 +1,5 @@
 //! Data, with the numbers of their tokens and their places (R7RS 7.1.2).
 use ls_base::{Span, Text};
-use scheme_tokens::TokenKind;
 
 /// A datum with the numbers of its first and last token in the text, which begin at 0, and its bytes.
 #[cycle(datum)]
@@ -15,12 +14,31 @@ pub struct Datum {
 #[cycle(datum)]
 #[derive(Debug, Drop)]
 pub enum Shape {
-    /// An atom by its token. In front of an abbreviated datum stands its mark (`Quote`, `Quasi`, `Unquote`, `Splice`), which means the
-    /// identifier that it implies.
-    Atom(TokenKind),
+    Atom(Atom),
+    /// The identifier that the mark in front of an abbreviated datum implies, by the mark's token.
+    Implied(Mark),
     /// A list with its tail, where it is dotted. An abbreviation is the list of its mark and its datum.
     List(Vec<Datum>, Option<Box<Datum>>),
     Vector(Vec<Datum>),
     /// A bytevector: its numerals as they are written.
     Bytes(Vec<Text>),
+}
+
+/// What one token spells by itself. The `name` of an identifier is its symbol; `bars` tells that it stands between bars.
+#[derive(Debug, Drop)]
+pub enum Atom {
+    Name { name: Text, bars: bool },
+    Numeral(Text),
+    Quoted(Text),
+    Char(char),
+    Bool(bool),
+}
+
+/// The mark of an abbreviation: `'`, `` ` ``, `,` or `,@`.
+#[derive(Clone, Copy, Debug, PartialEq, Eq)]
+pub enum Mark {
+    Quote,
+    Quasi,
+    Unquote,
+    Splice,
 }

@@ -12,6 +12,6 @@ mod seeding;
 mod step;
 mod tail;
 
-pub use datum::{Datum, Shape};
+pub use datum::{Atom, Datum, Mark, Shape};
 pub use reader::read_all;
 pub use seeding::seed;

@@ -13,7 +13,7 @@ ghost use Rattle.datum_reader.specs.Seeding.{part_tree, parts_trees, tail_tree, 
 ghost use Rattle.datum_reader.specs.Views.{datum_of};
 
 use crate::datum::{Datum, Shape};
-use crate::seeding::leaves::{atom_node, bytes_node};
+use crate::seeding::leaves::{atom_node, bytes_node, mark_node};
 use scheme_model::Occ;
 use std::alloc::Global;
 use syntax_tree::trees::{Node, PoolFault, Region, Tree, Work};
@@ -110,7 +110,8 @@ fn seed_node(
 {
     let occ = start.place(datum.first);
     match &datum.shape {
-        Shape::Atom(kind) => Ok(atom_node(&mut work.symbols, kind, start.unit, occ)?),
+        Shape::Atom(atom) => Ok(atom_node(&mut work.symbols, atom, start.unit, occ)?),
+        Shape::Implied(mark) => Ok(mark_node(&mut work.symbols, *mark, start.unit)?),
         Shape::Bytes(numerals) => Ok(bytes_node(alloc, &mut work.symbols, numerals, occ)?),
         Shape::Vector(parts) => {
             let items = seed_parts(alloc, work, region, parts, start)?;

@@ -2,13 +2,13 @@
 ghost use Rattle.std.specs.Prelude.{◌≡◌, ◌++◌, ℕ, List, [], ◌∷◌, OnOk, IfOk, map};
 ghost use Rattle.std.specs.Str.{chars};
 ghost use Rattle.scheme_model.specs.Kinds.{BytesParen};
-ghost use Rattle.datum_reader.specs.Views.{kind_of, datum_of, tail_datum, data_of, spot_of, opener_of, frame_of, stack_of, state_of, Moves, Refuses, IsNumeral};
-ghost use Rattle.scheme_model.specs.Data.{list, atom, row, none};
+ghost use Rattle.datum_reader.specs.Views.{kind_of, leaf_of, mark_of, datum_of, tail_datum, data_of, spot_of, opener_of, frame_of, stack_of, state_of, Moves, Refuses, IsNumeral};
+ghost use Rattle.scheme_model.specs.Data.{list, atom, spelled, implied, row, none};
 ghost use Rattle.datum_reader.specs.Open as model;
 
 use crate::bytes::is_byte;
 use crate::close::{closed, make_datum};
-use crate::datum::{Datum, Shape};
+use crate::datum::{Atom, Datum, Mark, Shape};
 use crate::open::{BAD_BYTE, BAD_DOT, Frame, Opener, STRAY_CLOSE, Spot, State, TOO_DEEP, fault};
 use crate::tail::{Tail, joined_datum};
 use ls_base::limits::MAX_DATA_DEPTH;
@@ -197,38 +197,34 @@ fn dot(state: &mut State, spot: Spot) -> Result<(), ReadFault>
     }
 }
 
-fn make_atom(kind: TokenKind, spot: Spot) -> Datum
-    ensures { datum_of result ≡ atom (model.at (spot_of spot)) (kind_of kind) }
+fn make_atom(atom: Atom, spot: Spot) -> Datum
+    ensures { datum_of result ≡ atom (model.at (spot_of spot)) (spelled (leaf_of atom)) }
 {
-    make_datum(Shape::Atom(kind), spot, spot)
+    make_datum(Shape::Atom(atom), spot, spot)
+}
+
+/// The identifier that a mark implies.
+fn make_implied(mark: Mark, spot: Spot) -> Datum
+    ensures { datum_of result ≡ atom (model.at (spot_of spot)) (implied (mark_of mark)) }
+{
+    make_datum(Shape::Implied(mark), spot, spot)
 }
 
 /// The numeral of a byte.
-fn numeral(kind: TokenKind, spot: Spot) -> Result<Text, ReadFault>
-    ensures { IsNumeral result (model.byte_of (kind_of kind)) (spot_of spot) }
+fn numeral(atom: Atom, spot: Spot) -> Result<Text, ReadFault>
+    ensures { IsNumeral result (model.byte_of (leaf_of atom)) (spot_of spot) }
 {
-    match kind {
-        TokenKind::Numeral(text) => {
+    match atom {
+        Atom::Numeral(text) => {
             if is_byte(text.as_str()) {
                 Ok(text)
             } else {
                 Err(fault(BAD_BYTE, spot))
             }
         }
-        TokenKind::Paren
-        | TokenKind::VectorParen
-        | TokenKind::BytesParen
-        | TokenKind::Close
-        | TokenKind::Dot
-        | TokenKind::Quote
-        | TokenKind::Quasi
-        | TokenKind::Unquote
-        | TokenKind::Splice
-        | TokenKind::Skip
-        | TokenKind::Name { .. }
-        | TokenKind::Quoted(_)
-        | TokenKind::Char(_)
-        | TokenKind::Bool(_) => Err(fault(BAD_BYTE, spot)),
+        Atom::Name { .. } | Atom::Quoted(_) | Atom::Char(_) | Atom::Bool(_) => {
+            Err(fault(BAD_BYTE, spot))
+        }
     }
 }
 
@@ -245,13 +241,13 @@ fn byte(
     state: &mut State,
     frame: Frame,
     texts: Vec<Text>,
-    kind: TokenKind,
+    atom: Atom,
     spot: Spot,
 ) -> Result<(), ReadFault>
-    ensures { Moves (state_of state.new) result (model.byte_added (model.byte_of (kind_of kind)) (map chars texts.items) (spot_of spot)
+    ensures { Moves (state_of state.new) result (model.byte_added (model.byte_of (leaf_of atom)) (map chars texts.items) (spot_of spot)
         (frame_of frame) (data_of state.old.items.items) (stack_of state.old.stack.items)) }
 {
-    let text = numeral(kind, spot)?;
+    let text = numeral(atom, spot)?;
     let all = added(texts, text)?;
     reopen(state, Opener::Bytes(all), frame)?;
     Ok(())
@@ -298,50 +294,50 @@ fn byte_in(
     alloc: Global,
     state: &mut State,
     frame: Frame,
-    kind: TokenKind,
+    atom: Atom,
     spot: Spot,
 ) -> Result<(), ReadFault>
     ensures { (texts : List (List ℕ)) → opener_of frame.opener ≡ model.in_bytes texts → Moves (state_of state.new) result
-        (model.byte_added (model.byte_of (kind_of kind)) texts (spot_of spot) (frame_of frame) (data_of state.old.items.items) (stack_of state.old.stack.items)) }
+        (model.byte_added (model.byte_of (leaf_of atom)) texts (spot_of spot) (frame_of frame) (data_of state.old.items.items) (stack_of state.old.stack.items)) }
 {
     let (rest, texts) = split_bytes(alloc, frame);
-    byte(state, rest, texts, kind, spot)?;
+    byte(state, rest, texts, atom, spot)?;
     Ok(())
 }
 
 /// An atom that is a datum of its own.
-fn whole(state: &mut State, kind: TokenKind, spot: Spot) -> Mem<()>
-    ensures { OnOk result (state_of state.new ≡ model.completed (atom (model.at (spot_of spot)) (kind_of kind)) (data_of state.old.items.items) (stack_of state.old.stack.items)) }
+fn whole(state: &mut State, atom: Atom, spot: Spot) -> Mem<()>
+    ensures { OnOk result (state_of state.new ≡ model.completed (atom (model.at (spot_of spot)) (spelled (leaf_of atom))) (data_of state.old.items.items) (stack_of state.old.stack.items)) }
 {
-    complete(state, Tail::Datum(make_atom(kind, spot)))?;
+    complete(state, Tail::Datum(make_atom(atom, spot)))?;
     Ok(())
 }
 
 /// An atom behind what is open.
-fn behind(state: &mut State, frame: Frame, kind: TokenKind, spot: Spot) -> Mem<()>
+fn behind(state: &mut State, frame: Frame, atom: Atom, spot: Spot) -> Mem<()>
     ensures { OnOk result (state_of state.new
-        ≡ model.completed (atom (model.at (spot_of spot)) (kind_of kind)) (data_of state.old.items.items) (frame_of frame ∷ stack_of state.old.stack.items)) }
+        ≡ model.completed (atom (model.at (spot_of spot)) (spelled (leaf_of atom))) (data_of state.old.items.items) (frame_of frame ∷ stack_of state.old.stack.items)) }
 {
     state.stack.push(frame)?;
-    whole(state, kind, spot)?;
+    whole(state, atom, spot)?;
     Ok(())
 }
 
 /// An atom: in a bytevector a numeral, and elsewhere a datum.
-fn atom(alloc: Global, state: &mut State, kind: TokenKind, spot: Spot) -> Result<(), ReadFault>
-    ensures { Moves (state_of state.new) result (model.atoms (kind_of kind) (spot_of spot) (data_of state.old.items.items) (stack_of state.old.stack.items)) }
+fn atom(alloc: Global, state: &mut State, atom: Atom, spot: Spot) -> Result<(), ReadFault>
+    ensures { Moves (state_of state.new) result (model.atoms (leaf_of atom) (spot_of spot) (data_of state.old.items.items) (stack_of state.old.stack.items)) }
 {
     let Some(frame) = state.stack.pop() else {
-        return Ok(whole(state, kind, spot)?);
+        return Ok(whole(state, atom, spot)?);
     };
     match &frame.opener {
         Opener::Ended(dot, _) => Err(fault(BAD_DOT, *dot)),
-        Opener::Bytes(_) => Ok(byte_in(alloc, state, frame, kind, spot)?),
-        Opener::List => Ok(behind(state, frame, kind, spot)?),
-        Opener::Dotted(_) => Ok(behind(state, frame, kind, spot)?),
-        Opener::Vector => Ok(behind(state, frame, kind, spot)?),
-        Opener::Mark => Ok(behind(state, frame, kind, spot)?),
-        Opener::Skip => Ok(behind(state, frame, kind, spot)?),
+        Opener::Bytes(_) => Ok(byte_in(alloc, state, frame, atom, spot)?),
+        Opener::List => Ok(behind(state, frame, atom, spot)?),
+        Opener::Dotted(_) => Ok(behind(state, frame, atom, spot)?),
+        Opener::Vector => Ok(behind(state, frame, atom, spot)?),
+        Opener::Mark => Ok(behind(state, frame, atom, spot)?),
+        Opener::Skip => Ok(behind(state, frame, atom, spot)?),
     }
 }
 
@@ -385,11 +381,11 @@ fn one(alloc: Global, datum: Datum) -> Mem<Vec<Datum>>
 }
 
 /// Opens an abbreviation.
-fn mark(alloc: Global, state: &mut State, kind: TokenKind, spot: Spot) -> Result<(), ReadFault>
+fn mark(alloc: Global, state: &mut State, mark: Mark, spot: Spot) -> Result<(), ReadFault>
     ensures { Moves (state_of state.new) result (model.unless (model.refused (stack_of state.old.stack.items) (spot_of spot))
-        (model.opened model.marked (spot_of spot) (atom (model.at (spot_of spot)) (kind_of kind) ∷ []) (state_of state.old))) }
+        (model.opened model.marked (spot_of spot) (atom (model.at (spot_of spot)) (implied (mark_of mark)) ∷ []) (state_of state.old))) }
 {
-    let items = one(alloc, make_atom(kind, spot))?;
+    let items = one(alloc, make_implied(mark, spot))?;
     open_datum(state, Opener::Mark, spot, items)?;
     Ok(())
 }
@@ -409,16 +405,14 @@ pub fn step(alloc: Global, state: &mut State, token: Token, number: u32) -> Resu
         TokenKind::Close => Ok(close(alloc, state, spot)?),
         TokenKind::Dot => Ok(dot(state, spot)?),
         TokenKind::Skip => Ok(open(state, Opener::Skip, spot, Vec::new(alloc))?),
-        TokenKind::Quote => Ok(mark(alloc, state, TokenKind::Quote, spot)?),
-        TokenKind::Quasi => Ok(mark(alloc, state, TokenKind::Quasi, spot)?),
-        TokenKind::Unquote => Ok(mark(alloc, state, TokenKind::Unquote, spot)?),
-        TokenKind::Splice => Ok(mark(alloc, state, TokenKind::Splice, spot)?),
-        TokenKind::Name { name, bars } => {
-            Ok(atom(alloc, state, TokenKind::Name { name, bars }, spot)?)
-        }
-        TokenKind::Numeral(text) => Ok(atom(alloc, state, TokenKind::Numeral(text), spot)?),
-        TokenKind::Quoted(text) => Ok(atom(alloc, state, TokenKind::Quoted(text), spot)?),
-        TokenKind::Char(c) => Ok(atom(alloc, state, TokenKind::Char(c), spot)?),
-        TokenKind::Bool(b) => Ok(atom(alloc, state, TokenKind::Bool(b), spot)?),
+        TokenKind::Quote => Ok(mark(alloc, state, Mark::Quote, spot)?),
+        TokenKind::Quasi => Ok(mark(alloc, state, Mark::Quasi, spot)?),
+        TokenKind::Unquote => Ok(mark(alloc, state, Mark::Unquote, spot)?),
+        TokenKind::Splice => Ok(mark(alloc, state, Mark::Splice, spot)?),
+        TokenKind::Name { name, bars } => Ok(atom(alloc, state, Atom::Name { name, bars }, spot)?),
+        TokenKind::Numeral(text) => Ok(atom(alloc, state, Atom::Numeral(text), spot)?),
+        TokenKind::Quoted(text) => Ok(atom(alloc, state, Atom::Quoted(text), spot)?),
+        TokenKind::Char(c) => Ok(atom(alloc, state, Atom::Char(c), spot)?),
+        TokenKind::Bool(b) => Ok(atom(alloc, state, Atom::Bool(b), spot)?),
     }
 }

@@ -2,9 +2,8 @@
 use crate::argument::{made, made_bytes};
 use crate::fault::{Row, RowFault};
 use crate::tokens::{letter, shown_fault};
-use datum_reader::{Datum, Shape, read_all};
+use datum_reader::{Atom, Datum, Mark, Shape, read_all};
 use ls_base::Text;
-use scheme_tokens::TokenKind;
 use serde_json::{Value, json};
 use std::alloc::Global;
 
@@ -48,7 +47,8 @@ fn place(alloc: Global, datum: &Datum) -> Row<Value> {
 fn shown(alloc: Global, datum: &Datum) -> Row<Value> {
     let place = place(alloc, datum)?;
     match &datum.shape {
-        Shape::Atom(kind) => Ok(shown_atom(alloc, kind, datum, place)?),
+        Shape::Atom(atom) => Ok(shown_atom(alloc, atom, place)?),
+        Shape::Implied(mark) => Ok(shown_implied(alloc, *mark, datum.span.start)?),
         Shape::List(parts, None) => {
             let parts = shown_all(alloc, parts)?;
             Ok(json!(in alloc; ["list", place, parts])?)
@@ -77,50 +77,26 @@ fn shown_texts(alloc: Global, texts: &[Text]) -> Row<Value> {
     Ok(Value::from(all))
 }
 
-/// An atom, by its token.
-fn shown_atom(alloc: Global, kind: &TokenKind, datum: &Datum, place: Value) -> Row<Value> {
-    match kind {
-        TokenKind::Name { name, bars } => {
-            Ok(json!(in alloc; ["name", place, name.as_str(), *bars])?)
-        }
-        TokenKind::Numeral(text) => Ok(json!(in alloc; ["numeral", place, text.as_str()])?),
-        TokenKind::Quoted(text) => Ok(json!(in alloc; ["string", place, text.as_str()])?),
-        TokenKind::Char(c) => {
+fn shown_atom(alloc: Global, atom: &Atom, place: Value) -> Row<Value> {
+    match atom {
+        Atom::Name { name, bars } => Ok(json!(in alloc; ["name", place, name.as_str(), *bars])?),
+        Atom::Numeral(text) => Ok(json!(in alloc; ["numeral", place, text.as_str()])?),
+        Atom::Quoted(text) => Ok(json!(in alloc; ["string", place, text.as_str()])?),
+        Atom::Char(c) => {
             let text = letter(alloc, *c)?;
             Ok(json!(in alloc; ["char", place, text.as_str()])?)
         }
-        TokenKind::Bool(value) => Ok(json!(in alloc; ["bool", place, *value])?),
-        TokenKind::Quote
-        | TokenKind::Quasi
-        | TokenKind::Unquote
-        | TokenKind::Splice
-        | TokenKind::Paren
-        | TokenKind::VectorParen
-        | TokenKind::BytesParen
-        | TokenKind::Close
-        | TokenKind::Dot
-        | TokenKind::Skip => Ok(shown_mark(alloc, kind, datum.span.start)?),
+        Atom::Bool(value) => Ok(json!(in alloc; ["bool", place, *value])?),
     }
 }
 
 /// The identifier that a mark implies, which has no token of its own.
-fn shown_mark(alloc: Global, kind: &TokenKind, at: u32) -> Row<Value> {
-    let name = match kind {
-        TokenKind::Quote => "quote",
-        TokenKind::Quasi => "quasiquote",
-        TokenKind::Unquote => "unquote",
-        TokenKind::Splice => "unquote-splicing",
-        TokenKind::Paren
-        | TokenKind::VectorParen
-        | TokenKind::BytesParen
-        | TokenKind::Close
-        | TokenKind::Dot
-        | TokenKind::Skip
-        | TokenKind::Name { .. }
-        | TokenKind::Numeral(_)
-        | TokenKind::Quoted(_)
-        | TokenKind::Char(_)
-        | TokenKind::Bool(_) => return Err(RowFault::NotShown),
+fn shown_implied(alloc: Global, mark: Mark, at: u32) -> Row<Value> {
+    let name = match mark {
+        Mark::Quote => "quote",
+        Mark::Quasi => "quasiquote",
+        Mark::Unquote => "unquote",
+        Mark::Splice => "unquote-splicing",
     };
     Ok(json!(in alloc; ["name", [null, null, at, at], name, false])?)
 }
@@ -144,10 +120,10 @@ fn innermost(alloc: Global, datum: &Datum) -> Row<Value> {
 fn size(alloc: Global, datum: &Datum) -> Row<Value> {
     match &datum.shape {
         Shape::List(parts, None) => Ok(json!(in alloc; ["parts", parts.len()])?),
-        Shape::Atom(TokenKind::Quoted(text)) => {
+        Shape::Atom(Atom::Quoted(text)) => {
             Ok(json!(in alloc; ["bytes", text.as_str().len()])?)
         }
-        Shape::Atom(_) | Shape::List(..) | Shape::Vector(_) | Shape::Bytes(_) => {
+        Shape::Atom(_) | Shape::Implied(_) | Shape::List(..) | Shape::Vector(_) | Shape::Bytes(_) => {
             Err(RowFault::NotShown)
         }
     }

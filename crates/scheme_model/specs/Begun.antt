@@ -3,7 +3,7 @@ use Rattle.std.specs.Prelude.{◌≡◌, ℕ, ◌+◌, ◌≤◌, max, true, Lis
 use Rattle.scheme_model.specs.Kinds as kinds
 use Rattle.scheme_model.specs.Kinds.{Mark}
 use Rattle.scheme_model.specs.Numbered.{Spot, Numbered, is_byte}
-use Rattle.scheme_model.specs.Written.{Written, Gap, Parts, token, written_tokens, gap_tokens, parts_tokens, depth, gap_depth, parts_depth}
+use Rattle.scheme_model.specs.Written.{Written, Gap, Parts, token, written_tokens, gap_tokens, parts_tokens, max_open, depth, gap_depth, parts_depth}
 
 -- data on one level so far, each behind a gap
 pub data Row : Type 0 where
@@ -112,7 +112,7 @@ inside_depth (byting r g) = max (byte_row_depth r) (gap_depth g)
 inside_depth (behind_mark mark g) = gap_depth g
 inside_depth (behind_skip g) = gap_depth g
 
--- at most 400 are open, and a datum stands only where one may
+-- no more are open than may be, and a datum stands only where one may
 abbrev pub IsSound : Begun → Type 0
-IsSound (top r g) = max (row_depth r) (gap_depth g) ≤ 400
-IsSound (inside b s i) = IsSound b × Stays i b × (with_depth i (open_depth b) + inside_depth i ≤ 400)
+IsSound (top r g) = max (row_depth r) (gap_depth g) ≤ max_open
+IsSound (inside b s i) = IsSound b × Stays i b × (with_depth i (open_depth b) + inside_depth i ≤ max_open)

@@ -1,6 +1,6 @@
 -- Data (R7RS 7.1.2), with the numbers and the bytes of their tokens.
 use Rattle.std.specs.Prelude.{ℕ, List, [], ◌∷◌}
-use Rattle.scheme_model.specs.Kinds.{TokenKind}
+use Rattle.scheme_model.specs.Kinds.{Leaf, Mark}
 
 -- the numbers of the first and the last token of a datum, and its bytes
 pub record Place : Type 0 where
@@ -9,10 +9,15 @@ pub record Place : Type 0 where
   pub start : ℕ
   pub end : ℕ
 
--- an atom, or the mark that an abbreviation stands for, by its token; a list; a vector; a bytevector by its numerals
+-- what one token spells by itself, or the identifier that the mark in front of a datum implies
+pub data Atom : Type 0 where
+  spelled : Leaf → Atom
+  implied : Mark → Atom
+
+-- an atom, at its token; a list; a vector; a bytevector by its numerals
 mutual
   pub data Datum : Type 0 where
-    atom : Place → TokenKind → Datum
+    atom : Place → Atom → Datum
     list : Place → Data → Datum
     vector : Place → Data → Datum
     bytes : Place → List (List ℕ) → Datum

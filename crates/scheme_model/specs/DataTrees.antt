@@ -4,9 +4,9 @@ use Rattle.std.specs.List.{join_with_byte}
 use Rattle.std.specs.Str.{encode_utf8_all}
 use Rattle.scheme_model.specs.declared.Occ.{Occ}
 use Rattle.scheme_model.specs.Trees.{Tree, name, atom as atom_of, Numeral as NumeralAtom, Quoted as QuotedAtom, Character as CharacterAtom, Boolean, Bytes, list as list_of, vector as vector_of, Trees, no_trees, tree, Tail, proper, dotted, placed_in}
-use Rattle.scheme_model.specs.Kinds.{TokenKind, Paren, VectorParen, BytesParen, Close, Dot, Skip, Marked, Mark, Quote, Quasi, Unquote, Splice, Atomic, Name, Numeral, Quoted, Character, Truth}
+use Rattle.scheme_model.specs.Kinds.{Mark, Quote, Quasi, Unquote, Splice, Name, Numeral, Quoted, Character, Truth}
 use Rattle.scheme_model.specs.Identifiers.{Name as Identifier, Written}
-use Rattle.scheme_model.specs.Data.{Datum, atom, list, vector, bytes, Data, none, part, tail, place_of}
+use Rattle.scheme_model.specs.Data.{Atom, spelled, implied, Datum, atom, list, vector, bytes, Data, none, part, tail, place_of}
 
 -- the symbol that a mark abbreviates
 abbrev pub mark_symbol : Mark → List ℕ
@@ -15,20 +15,14 @@ mark_symbol Quasi = codes "quasiquote"
 mark_symbol Unquote = codes "unquote"
 mark_symbol Splice = codes "unquote-splicing"
 
--- the tree of an atom; the identifier that a mark implies has no place. What is no atom has no tree of its own, and is never asked
-abbrev pub atom_tree : {A : Type 0} → (List ℕ → A) → TokenKind → Occ → Tree A
-atom_tree written (Atomic (Name s bars)) o = name (written (encode_utf8_all s)) (Some o)
-atom_tree written (Atomic (Numeral text)) o = atom_of (NumeralAtom (encode_utf8_all text)) (Some o)
-atom_tree written (Atomic (Quoted text)) o = atom_of (QuotedAtom (encode_utf8_all text)) (Some o)
-atom_tree written (Atomic (Character c)) o = atom_of (CharacterAtom c) (Some o)
-atom_tree written (Atomic (Truth b)) o = atom_of (Boolean b) (Some o)
-atom_tree written (Marked mark) o = name (written (mark_symbol mark)) None
-atom_tree written Paren o = vector_of no_trees (Some o)
-atom_tree written VectorParen o = vector_of no_trees (Some o)
-atom_tree written BytesParen o = vector_of no_trees (Some o)
-atom_tree written Close o = vector_of no_trees (Some o)
-atom_tree written Dot o = vector_of no_trees (Some o)
-atom_tree written Skip o = vector_of no_trees (Some o)
+-- the tree of an atom; the identifier that a mark implies has no place
+abbrev pub atom_tree : {A : Type 0} → (List ℕ → A) → Atom → Occ → Tree A
+atom_tree written (spelled (Name s bars)) o = name (written (encode_utf8_all s)) (Some o)
+atom_tree written (spelled (Numeral text)) o = atom_of (NumeralAtom (encode_utf8_all text)) (Some o)
+atom_tree written (spelled (Quoted text)) o = atom_of (QuotedAtom (encode_utf8_all text)) (Some o)
+atom_tree written (spelled (Character c)) o = atom_of (CharacterAtom c) (Some o)
+atom_tree written (spelled (Truth b)) o = atom_of (Boolean b) (Some o)
+atom_tree written (implied mark) o = name (written (mark_symbol mark)) None
 
 -- the tree of a datum, its tokens placed; a bytevector's numerals stand with one space between each two
 abbrev mutual

@@ -2,8 +2,8 @@
 use Rattle.std.specs.Prelude.{ℕ, List, [], ◌∷◌, ◌++◌, map, filter, Bool, true, false, not, ◌&&◌, ◌||◌, Option, Some, None, Result, Ok, Err, codes, if◌then◌else◌}
 use Rattle.std.specs.Str.{bytes_eq, encode_utf8_all}
 use Rattle.scheme_model.specs.declared.Occ.{Occ}
-use Rattle.scheme_model.specs.Kinds.{TokenKind, Paren, VectorParen, BytesParen, Close, Dot, Skip, Marked, Atomic, Leaf, Name, Numeral, Quoted, Character, Truth}
-use Rattle.scheme_model.specs.Data.{Datum, atom, list, vector, bytes, Data, none, part, tail, Place, place_of}
+use Rattle.scheme_model.specs.Kinds.{Leaf, Name, Numeral, Quoted, Character, Truth}
+use Rattle.scheme_model.specs.Data.{Atom, spelled, implied, Datum, atom, list, vector, bytes, Data, none, part, tail, Place, place_of}
 use Rattle.scheme_model.specs.DataTrees.{tree_of}
 use Rattle.scheme_model.specs.Trees.{Tree, Trees, no_trees, tree}
 use Rattle.scheme_model.specs.ExpansionFaults.{Fault}
@@ -18,19 +18,13 @@ leaf_symbol (Quoted text) = None
 leaf_symbol (Character c) = None
 leaf_symbol (Truth b) = None
 
-abbrev pub kind_symbol : TokenKind → Option (List ℕ)
-kind_symbol Paren = None
-kind_symbol VectorParen = None
-kind_symbol BytesParen = None
-kind_symbol Close = None
-kind_symbol Dot = None
-kind_symbol Skip = None
-kind_symbol (Marked m) = None
-kind_symbol (Atomic leaf) = leaf_symbol leaf
+abbrev pub atom_symbol : Atom → Option (List ℕ)
+atom_symbol (spelled leaf) = leaf_symbol leaf
+atom_symbol (implied mark) = None
 
 -- the symbol that a datum is
 abbrev pub symbol_in : Datum → Option (List ℕ)
-symbol_in (atom p kind) = kind_symbol kind
+symbol_in (atom p a) = atom_symbol a
 symbol_in (list p ds) = None
 symbol_in (vector p ds) = None
 symbol_in (bytes p bs) = None

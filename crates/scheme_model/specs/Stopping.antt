@@ -4,14 +4,14 @@ use Rattle.scheme_model.specs.Kinds.{TokenKind, Paren, VectorParen, BytesParen, 
 use Rattle.scheme_model.specs.Data.{Datum}
 use Rattle.scheme_model.specs.Numbered.{Spot, Numbered, number_from, is_byte}
 use Rattle.scheme_model.specs.Faults.{Stop, open_list, stray_close, bad_dot, bad_byte, too_deep, missing_datum}
-use Rattle.scheme_model.specs.Written.{Parts, parts_tokens, parts_depth, parts_meant}
+use Rattle.scheme_model.specs.Written.{Parts, parts_tokens, max_open, parts_depth, parts_meant}
 use Rattle.scheme_model.specs.Begun.{Row, start, more, listing, behind_dot, behind_tail, vectoring, byting, behind_mark, behind_skip, Begun, top, inside, begun_tokens, open_depth, IsSound}
 
 -- ---- which tokens are data
 
--- the tokens are data as they are written, with at most 400 open
+-- the tokens are data as they are written, of which no more are open than may be
 abbrev pub AreData : List Numbered → Type 0
-AreData ts = (written : Parts) × (parts_tokens written [] ≡ ts) × (parts_depth written ≤ 400)
+AreData ts = (written : Parts) × (parts_tokens written [] ≡ ts) × (parts_depth written ≤ max_open)
 
 -- with some tokens behind them they are
 abbrev pub CanGoOn : List Numbered → Type 0
@@ -23,14 +23,14 @@ pub record IsReading (reads : List Token → Option Stop → Type 0) (ds : List 
   pub written : Parts
   pub spelled : reads tokens None
   pub formed : parts_tokens written [] ≡ number_from 0 tokens
-  pub shallow : parts_depth written ≤ 400
+  pub shallow : parts_depth written ≤ max_open
   pub means : ds ≡ parts_meant written
 
 -- ---- why a token is refused
 
 -- no more can be open
 abbrev pub unless_deep : ℕ → Spot → Option Stop
-unless_deep depth t = if nat_lt depth 400 then None else Some (too_deep t)
+unless_deep depth t = if nat_lt depth max_open then None else Some (too_deep t)
 
 abbrev pub first_of : Option Stop → Option Stop → Option Stop
 first_of None o = o

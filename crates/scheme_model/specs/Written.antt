@@ -2,7 +2,7 @@
 use Rattle.std.specs.Prelude.{◌≡◌, ◌+◌, ℕ, max, true, List, [], ◌∷◌}
 use Rattle.scheme_model.specs.Kinds as kinds
 use Rattle.scheme_model.specs.Kinds.{Leaf, Mark, TokenKind}
-use Rattle.scheme_model.specs.Data.{Datum, atom, list, vector, bytes, none, part, row, tail_of, place_of}
+use Rattle.scheme_model.specs.Data.{Datum, atom, list, vector, bytes, none, part, row, tail_of, place_of, spelled, implied}
 use Rattle.scheme_model.specs.Numbered.{Spot, Numbered, at, between, up_to, is_byte}
 
 -- an atom; a list; a list with a dotted tail, `( first more . tail )`, with gaps; a vector; a bytevector; an abbreviation
@@ -63,18 +63,22 @@ bytes_meant (byte g s text fits bs) = text ∷ bytes_meant bs
 -- the data that are meant
 abbrev mutual
   pub meant : Written → Datum
-  meant (alone s leaf) = atom (at s) (kinds.Atomic leaf)
+  meant (alone s leaf) = atom (at s) (spelled leaf)
   meant (listed a ps b) = list (between a b) (row (parts_meant ps) none)
   meant (tailed a g w ps dot h t i b) = list (between a b) (row (meant w ∷ parts_meant ps) (tail_of (meant t)))
   meant (vectored a ps b) = vector (between a b) (row (parts_meant ps) none)
   meant (byted a bs b) = bytes (between a b) (bytes_meant bs)
-  meant (abbreviated s mark g w) = list (up_to s (place_of (meant w))) (part (atom (at s) (kinds.Marked mark)) (part (meant w) none))
+  meant (abbreviated s mark g w) = list (up_to s (place_of (meant w))) (part (atom (at s) (implied mark)) (part (meant w) none))
 
   pub parts_meant : Parts → List Datum
   parts_meant (last g) = []
   parts_meant (next g w ps) = meant w ∷ parts_meant ps
 
--- how many lists, vectors, abbreviations and `#;` are open at most
+-- so many lists, vectors, abbreviations and `#;` may be open at once
+abbrev pub max_open : ℕ
+max_open = 400
+
+-- how many are open at most
 abbrev mutual
   pub depth : Written → ℕ
   depth (alone s leaf) = 0

@@ -1,49 +1,57 @@
 //! Nodes without parts: identifiers, other atoms and bytevectors (R7RS 7.1.2).
-ghost use Rattle.std.specs.Prelude.{◌≡◌, IfOk, true, map, Some, chars, string_bytes, encode_utf8_all};
+ghost use Rattle.std.specs.Prelude.{◌≡◌, IfOk, map, Some, chars, string_bytes, encode_utf8_all};
 ghost use Rattle.std.specs.List.{join_with_byte};
 ghost use Rattle.scheme_model.specs.Trees.{name as name_tree, atom, Bytes};
 ghost use Rattle.scheme_model.specs.Ident.{Written};
-ghost use Rattle.datum_reader.specs.Views.{kind_of};
-ghost use Rattle.datum_reader.specs.Right.{is_atom};
+ghost use Rattle.scheme_model.specs.Data.{spelled, implied};
+ghost use Rattle.scheme_model.specs.declared.Occ.{Occ};
+ghost use Rattle.scheme_model.specs.DataTrees.{mark_symbol};
+ghost use Rattle.datum_reader.specs.Views.{leaf_of, mark_of};
 ghost use Rattle.datum_reader.specs.Seeded.{atom_tree};
 ghost use Rattle.datum_reader.specs.Seeding.{Interns};
 
+use crate::datum::{Atom, Mark};
 use ls_base::{Mem, Text};
 use scheme_model::Occ;
-use scheme_tokens::TokenKind;
 use std::alloc::Global;
 use syntax_tree::symbols::{Ident, Symbols};
 use syntax_tree::trees::{Leaf, Node};
 
-/// The node of an atom or of the identifier that a mark implies, which has no place.
-pub fn atom_node(symbols: &mut Symbols, kind: &TokenKind, unit: u32, occ: Occ) -> Mem<Node>
-    requires { is_atom (kind_of kind.now) ≡ true }
-    ensures { Interns symbols.old symbols.new (atom_tree unit (kind_of kind.now) occ) result }
+/// The node of an atom.
+pub fn atom_node(symbols: &mut Symbols, atom: &Atom, unit: u32, occ: Occ) -> Mem<Node>
+    ensures { Interns symbols.old symbols.new (atom_tree unit (spelled (leaf_of atom.now)) occ) result }
 {
-    match kind {
-        TokenKind::Name { name, bars: _ } => {
-            Ok(name_node(symbols, name.as_str(), unit, Some(occ))?)
-        }
-        TokenKind::Numeral(text) => {
+    match atom {
+        Atom::Name { name, bars: _ } => Ok(name_node(symbols, name.as_str(), unit, Some(occ))?),
+        Atom::Numeral(text) => {
             let symbol = symbols.symbol(text.as_str())?;
             Ok(leaf_node(Leaf::Numeral(symbol), occ))
         }
-        TokenKind::Quoted(text) => {
+        Atom::Quoted(text) => {
             let symbol = symbols.symbol(text.as_str())?;
             Ok(leaf_node(Leaf::Quoted(symbol), occ))
         }
-        TokenKind::Char(c) => Ok(leaf_node(Leaf::Char(*c), occ)),
-        TokenKind::Bool(b) => Ok(leaf_node(Leaf::Bool(*b), occ)),
-        TokenKind::Quote => Ok(name_node(symbols, "quote", unit, None)?),
-        TokenKind::Quasi => Ok(name_node(symbols, "quasiquote", unit, None)?),
-        TokenKind::Unquote => Ok(name_node(symbols, "unquote", unit, None)?),
-        TokenKind::Splice => Ok(name_node(symbols, "unquote-splicing", unit, None)?),
-        TokenKind::Paren
-        | TokenKind::VectorParen
-        | TokenKind::BytesParen
-        | TokenKind::Close
-        | TokenKind::Dot
-        | TokenKind::Skip => unreachable!(),
+        Atom::Char(c) => Ok(leaf_node(Leaf::Char(*c), occ)),
+        Atom::Bool(b) => Ok(leaf_node(Leaf::Bool(*b), occ)),
+    }
+}
+
+/// The node of the identifier that a mark implies, which has no place.
+pub fn mark_node(symbols: &mut Symbols, mark: Mark, unit: u32) -> Mem<Node>
+    ensures { (occ : Occ) → Interns symbols.old symbols.new (atom_tree unit (implied (mark_of mark)) occ) result }
+{
+    Ok(name_node(symbols, implied_name(mark), unit, None)?)
+}
+
+/// The symbol that a mark implies.
+fn implied_name(mark: Mark) -> &'static str
+    ensures { result.now ≡ mark_symbol (mark_of mark) }
+{
+    match mark {
+        Mark::Quote => "quote",
+        Mark::Quasi => "quasiquote",
+        Mark::Unquote => "unquote",
+        Mark::Splice => "unquote-splicing",
     }
 }
 

@@ -33,42 +33,42 @@ a binder target = record { binder = binder; target = target }
 abbrev q : ℕ → ℕ → ℕ → ℕ → List ℕ → Diagnostic
 q document start end code text = record { document = document; start = start; end = end; code = code; text = text }
 
-pub macros-5 : diagnostic_rows (((s 0 1) ∷ (s 1 7) ∷ (s 8 9) ∷ (s 9 15) ∷ (s 16 20) ∷ (s 20 21) ∷ (s 22 23) ∷ (s 23 29) ∷ (s 30 41) ∷ (s 41 42) ∷ (s 42 43) ∷ (s 44 45) ∷ (s 45 51) ∷ (s 52 53) ∷ (s 54 55) ∷ (s 55 56) ∷ (s 57 58) ∷ (s 58 64) ∷ (s 65 66) ∷ (s 66 67) ∷ (s 68 69) ∷ (s 69 70) ∷ (s 71 72) ∷ (s 72 73) ∷ (s 74 75) ∷ (s 75 79) ∷ (s 80 81) ∷ (s 82 83) ∷ (s 83 84) ∷ (s 85 86) ∷ (s 86 87) ∷ (s 88 89) ∷ (s 89 90) ∷ (s 90 91) ∷ (s 91 92) ∷ (s 93 94) ∷ (s 94 107) ∷ (s 108 109) ∷ (s 110 111) ∷ (s 111 123) ∷ (s 124 125) ∷ (s 125 126) ∷ (s 127 128) ∷ (s 128 129) ∷ (s 129 130) ∷ (s 131 132) ∷ (s 133 134) ∷ (s 134 135) ∷ (s 135 136) ∷ (s 137 138) ∷ (s 138 139) ∷ (s 139 140) ∷ (s 140 141) ∷ (s 141 142) ∷ (s 143 144) ∷ []) ∷ []) ((Some (((g.list (p 0 10 0 43) (g.part (g.atom (p 1 1 1 7) (k.Atomic (k.Name (codes "import") false))) (g.part (g.list (p 2 5 8 21) (g.part (g.atom (p 3 3 9 15) (k.Atomic (k.Name (codes "scheme") false))) (g.part (g.atom (p 4 4 16 20) (k.Atomic (k.Name (codes "base") false))) g.none))) (g.part (g.list (p 6 9 22 42) (g.part (g.atom (p 7 7 23 29) (k.Atomic (k.Name (codes "scheme") false))) (g.part (g.atom (p 8 8 30 41) (k.Atomic (k.Name (codes "case-lambda") false))) g.none))) g.none))))) ∷ ((g.list (p 11 15 44 56) (g.part (g.atom (p 12 12 45 51) (k.Atomic (k.Name (codes "define") false))) (g.part (g.atom (p 13 13 52 53) (k.Atomic (k.Name (codes "b") false))) (g.part (g.atom (p 14 14 54 55) (k.Atomic (k.Name (codes "a") false))) g.none))))) ∷ ((g.list (p 16 34 57 92) (g.part (g.atom (p 17 17 58 64) (k.Atomic (k.Name (codes "define") false))) (g.part (g.list (p 18 21 65 70) (g.part (g.atom (p 19 19 66 67) (k.Atomic (k.Name (codes "a") false))) (g.part (g.atom (p 20 20 68 69) (k.Atomic (k.Name (codes "x") false))) g.none))) (g.part (g.list (p 22 33 71 91) (g.part (g.atom (p 23 23 72 73) (k.Atomic (k.Name (codes "y") false))) (g.part (g.list (p 24 28 74 84) (g.part (g.atom (p 25 25 75 79) (k.Atomic (k.Name (codes "set!") false))) (g.part (g.atom (p 26 26 80 81) (k.Atomic (k.Name (codes "t") false))) (g.part (g.atom (p 27 27 82 83) (k.Atomic (k.Name (codes "a") false))) g.none)))) (g.part (g.list (p 29 32 85 90) (g.part (g.atom (p 30 30 86 87) (k.Atomic (k.Name (codes "t") false))) (g.part (g.atom (p 31 31 88 89) (k.Atomic (k.Name (codes "k") false))) g.none))) g.none)))) g.none))))) ∷ ((g.list (p 35 53 93 142) (g.part (g.atom (p 36 36 94 107) (k.Atomic (k.Name (codes "define-syntax") false))) (g.part (g.atom (p 37 37 108 109) (k.Atomic (k.Name (codes "n") false))) (g.part (g.list (p 38 52 110 141) (g.part (g.atom (p 39 39 111 123) (k.Atomic (k.Name (codes "syntax-rules") false))) (g.part (g.list (p 40 41 124 126) g.none) (g.part (g.list (p 42 51 127 140) (g.part (g.list (p 43 45 128 132) (g.part (g.atom (p 44 44 129 130) (k.Atomic (k.Name (codes "_") false))) g.none)) (g.part (g.list (p 46 50 133 139) (g.part (g.atom (p 46 46 133 134) (k.Marked k.Quote)) (g.part (g.list (p 47 50 134 139) (g.part (g.atom (p 48 48 135 136) (k.Atomic (k.Name (codes "a") false))) (g.part (g.atom (p 49 49 137 138) (k.Atomic (k.Name (codes "f") false))) g.none))) g.none))) g.none))) g.none)))) g.none))))) ∷ ((g.atom (p 54 54 143 144) (k.Atomic (k.Name (codes "m") false)))) ∷ [])) ∷ []) ≡ ((q 0 72 73 103 (codes "unbound y")) ∷ (q 0 80 81 103 (codes "unbound t")) ∷ (q 0 86 87 103 (codes "unbound t")) ∷ (q 0 88 89 103 (codes "unbound k")) ∷ (q 0 143 144 103 (codes "unbound m")) ∷ [])
+pub macros-5 : diagnostic_rows (((s 0 1) ∷ (s 1 7) ∷ (s 8 9) ∷ (s 9 15) ∷ (s 16 20) ∷ (s 20 21) ∷ (s 22 23) ∷ (s 23 29) ∷ (s 30 41) ∷ (s 41 42) ∷ (s 42 43) ∷ (s 44 45) ∷ (s 45 51) ∷ (s 52 53) ∷ (s 54 55) ∷ (s 55 56) ∷ (s 57 58) ∷ (s 58 64) ∷ (s 65 66) ∷ (s 66 67) ∷ (s 68 69) ∷ (s 69 70) ∷ (s 71 72) ∷ (s 72 73) ∷ (s 74 75) ∷ (s 75 79) ∷ (s 80 81) ∷ (s 82 83) ∷ (s 83 84) ∷ (s 85 86) ∷ (s 86 87) ∷ (s 88 89) ∷ (s 89 90) ∷ (s 90 91) ∷ (s 91 92) ∷ (s 93 94) ∷ (s 94 107) ∷ (s 108 109) ∷ (s 110 111) ∷ (s 111 123) ∷ (s 124 125) ∷ (s 125 126) ∷ (s 127 128) ∷ (s 128 129) ∷ (s 129 130) ∷ (s 131 132) ∷ (s 133 134) ∷ (s 134 135) ∷ (s 135 136) ∷ (s 137 138) ∷ (s 138 139) ∷ (s 139 140) ∷ (s 140 141) ∷ (s 141 142) ∷ (s 143 144) ∷ []) ∷ []) ((Some (((g.list (p 0 10 0 43) (g.part (g.atom (p 1 1 1 7) (g.spelled (k.Name (codes "import") false))) (g.part (g.list (p 2 5 8 21) (g.part (g.atom (p 3 3 9 15) (g.spelled (k.Name (codes "scheme") false))) (g.part (g.atom (p 4 4 16 20) (g.spelled (k.Name (codes "base") false))) g.none))) (g.part (g.list (p 6 9 22 42) (g.part (g.atom (p 7 7 23 29) (g.spelled (k.Name (codes "scheme") false))) (g.part (g.atom (p 8 8 30 41) (g.spelled (k.Name (codes "case-lambda") false))) g.none))) g.none))))) ∷ ((g.list (p 11 15 44 56) (g.part (g.atom (p 12 12 45 51) (g.spelled (k.Name (codes "define") false))) (g.part (g.atom (p 13 13 52 53) (g.spelled (k.Name (codes "b") false))) (g.part (g.atom (p 14 14 54 55) (g.spelled (k.Name (codes "a") false))) g.none))))) ∷ ((g.list (p 16 34 57 92) (g.part (g.atom (p 17 17 58 64) (g.spelled (k.Name (codes "define") false))) (g.part (g.list (p 18 21 65 70) (g.part (g.atom (p 19 19 66 67) (g.spelled (k.Name (codes "a") false))) (g.part (g.atom (p 20 20 68 69) (g.spelled (k.Name (codes "x") false))) g.none))) (g.part (g.list (p 22 33 71 91) (g.part (g.atom (p 23 23 72 73) (g.spelled (k.Name (codes "y") false))) (g.part (g.list (p 24 28 74 84) (g.part (g.atom (p 25 25 75 79) (g.spelled (k.Name (codes "set!") false))) (g.part (g.atom (p 26 26 80 81) (g.spelled (k.Name (codes "t") false))) (g.part (g.atom (p 27 27 82 83) (g.spelled (k.Name (codes "a") false))) g.none)))) (g.part (g.list (p 29 32 85 90) (g.part (g.atom (p 30 30 86 87) (g.spelled (k.Name (codes "t") false))) (g.part (g.atom (p 31 31 88 89) (g.spelled (k.Name (codes "k") false))) g.none))) g.none)))) g.none))))) ∷ ((g.list (p 35 53 93 142) (g.part (g.atom (p 36 36 94 107) (g.spelled (k.Name (codes "define-syntax") false))) (g.part (g.atom (p 37 37 108 109) (g.spelled (k.Name (codes "n") false))) (g.part (g.list (p 38 52 110 141) (g.part (g.atom (p 39 39 111 123) (g.spelled (k.Name (codes "syntax-rules") false))) (g.part (g.list (p 40 41 124 126) g.none) (g.part (g.list (p 42 51 127 140) (g.part (g.list (p 43 45 128 132) (g.part (g.atom (p 44 44 129 130) (g.spelled (k.Name (codes "_") false))) g.none)) (g.part (g.list (p 46 50 133 139) (g.part (g.atom (p 46 46 133 134) (g.implied k.Quote)) (g.part (g.list (p 47 50 134 139) (g.part (g.atom (p 48 48 135 136) (g.spelled (k.Name (codes "a") false))) (g.part (g.atom (p 49 49 137 138) (g.spelled (k.Name (codes "f") false))) g.none))) g.none))) g.none))) g.none)))) g.none))))) ∷ ((g.atom (p 54 54 143 144) (g.spelled (k.Name (codes "m") false)))) ∷ [])) ∷ []) ≡ ((q 0 72 73 103 (codes "unbound y")) ∷ (q 0 80 81 103 (codes "unbound t")) ∷ (q 0 86 87 103 (codes "unbound t")) ∷ (q 0 88 89 103 (codes "unbound k")) ∷ (q 0 143 144 103 (codes "unbound m")) ∷ [])
 unfolding base_names standard_libraries prelude encode_utf8
 macros-5 = refl
 
-pub workspaces-13 : diagnostic_rows (((s 0 1) ∷ (s 1 15) ∷ (s 16 17) ∷ (s 17 19) ∷ (s 19 20) ∷ (s 22 23) ∷ (s 23 29) ∷ (s 30 31) ∷ (s 33 34) ∷ (s 34 40) ∷ (s 41 42) ∷ (s 42 48) ∷ (s 49 53) ∷ (s 53 54) ∷ (s 54 55) ∷ (s 57 58) ∷ (s 58 63) ∷ (s 66 67) ∷ (s 67 73) ∷ (s 74 75) ∷ (s 75 76) ∷ (s 77 78) ∷ (s 78 79) ∷ (s 80 81) ∷ (s 81 82) ∷ (s 82 83) ∷ (s 86 87) ∷ (s 87 89) ∷ (s 89 90) ∷ (s 90 91) ∷ (s 91 92) ∷ []) ∷ ((s 0 1) ∷ (s 1 15) ∷ (s 16 17) ∷ (s 17 19) ∷ (s 19 20) ∷ (s 22 23) ∷ (s 23 29) ∷ (s 30 31) ∷ (s 32 33) ∷ (s 33 39) ∷ (s 40 41) ∷ (s 42 46) ∷ (s 46 47) ∷ (s 47 48) ∷ (s 50 51) ∷ (s 51 57) ∷ (s 58 59) ∷ (s 59 65) ∷ (s 66 70) ∷ (s 70 71) ∷ (s 71 72) ∷ (s 74 75) ∷ (s 75 80) ∷ (s 83 84) ∷ (s 84 90) ∷ (s 91 92) ∷ (s 92 93) ∷ (s 94 95) ∷ (s 95 96) ∷ (s 97 98) ∷ (s 98 100) ∷ (s 101 102) ∷ (s 103 104) ∷ (s 105 106) ∷ (s 106 107) ∷ (s 108 109) ∷ (s 109 122) ∷ (s 123 124) ∷ (s 124 125) ∷ (s 126 127) ∷ (s 127 128) ∷ (s 129 130) ∷ (s 130 136) ∷ (s 137 138) ∷ (s 138 139) ∷ (s 139 140) ∷ (s 141 142) ∷ (s 142 148) ∷ (s 149 150) ∷ (s 150 151) ∷ (s 151 152) ∷ (s 153 154) ∷ (s 154 155) ∷ (s 155 156) ∷ (s 156 157) ∷ (s 158 159) ∷ (s 159 160) ∷ (s 160 161) ∷ (s 162 163) ∷ (s 163 166) ∷ (s 167 168) ∷ (s 169 170) ∷ (s 170 171) ∷ (s 171 172) ∷ (s 173 176) ∷ (s 176 177) ∷ (s 177 178) ∷ (s 179 180) ∷ (s 181 182) ∷ (s 182 183) ∷ (s 184 185) ∷ (s 185 191) ∷ (s 192 193) ∷ (s 193 194) ∷ (s 195 196) ∷ (s 196 197) ∷ (s 198 199) ∷ (s 199 205) ∷ (s 206 207) ∷ (s 207 208) ∷ (s 209 210) ∷ (s 210 211) ∷ (s 212 213) ∷ (s 213 224) ∷ (s 225 226) ∷ (s 226 227) ∷ (s 227 229) ∷ (s 230 234) ∷ (s 235 239) ∷ (s 239 240) ∷ (s 241 242) ∷ (s 242 248) ∷ (s 249 250) ∷ (s 250 251) ∷ (s 252 253) ∷ (s 253 254) ∷ (s 255 256) ∷ (s 257 258) ∷ (s 258 259) ∷ (s 259 260) ∷ (s 261 262) ∷ (s 262 266) ∷ (s 267 268) ∷ (s 268 273) ∷ (s 274 275) ∷ (s 275 288) ∷ (s 289 290) ∷ (s 291 292) ∷ (s 292 304) ∷ (s 305 306) ∷ (s 306 310) ∷ (s 310 311) ∷ (s 312 313) ∷ (s 313 314) ∷ (s 314 315) ∷ (s 316 317) ∷ (s 317 318) ∷ (s 319 320) ∷ (s 320 321) ∷ (s 322 326) ∷ (s 326 327) ∷ (s 328 329) ∷ (s 329 334) ∷ (s 335 336) ∷ (s 336 342) ∷ (s 343 344) ∷ (s 345 346) ∷ (s 346 349) ∷ (s 350 351) ∷ (s 351 352) ∷ (s 352 353) ∷ (s 354 357) ∷ (s 357 358) ∷ (s 358 359) ∷ (s 360 361) ∷ (s 361 367) ∷ (s 368 369) ∷ (s 370 376) ∷ (s 376 377) ∷ (s 378 379) ∷ (s 379 380) ∷ (s 380 381) ∷ (s 382 383) ∷ (s 383 389) ∷ (s 390 391) ∷ (s 392 393) ∷ (s 393 396) ∷ (s 397 398) ∷ (s 398 399) ∷ (s 399 402) ∷ (s 403 404) ∷ (s 404 405) ∷ (s 405 406) ∷ (s 407 408) ∷ (s 408 409) ∷ (s 409 410) ∷ (s 410 411) ∷ (s 411 412) ∷ (s 412 413) ∷ (s 413 414) ∷ (s 415 416) ∷ (s 416 422) ∷ (s 423 424) ∷ (s 424 425) ∷ (s 426 427) ∷ (s 427 428) ∷ (s 429 430) ∷ (s 430 436) ∷ (s 437 438) ∷ (s 439 440) ∷ (s 440 441) ∷ (s 442 443) ∷ (s 443 444) ∷ (s 444 445) ∷ (s 445 446) ∷ (s 446 447) ∷ (s 448 449) ∷ (s 450 451) ∷ (s 451 452) ∷ (s 453 454) ∷ (s 454 455) ∷ (s 455 456) ∷ (s 459 460) ∷ (s 460 461) ∷ (s 461 462) ∷ (s 463 464) ∷ (s 464 465) ∷ (s 466 468) ∷ (s 468 469) ∷ (s 469 473) ∷ (s 473 474) ∷ (s 475 476) ∷ (s 477 478) ∷ (s 478 479) ∷ (s 482 483) ∷ (s 483 489) ∷ (s 490 491) ∷ (s 491 492) ∷ (s 493 494) ∷ (s 494 495) ∷ (s 496 497) ∷ (s 497 503) ∷ (s 504 505) ∷ (s 505 506) ∷ (s 507 508) ∷ (s 508 509) ∷ (s 510 511) ∷ (s 511 517) ∷ (s 518 519) ∷ (s 519 522) ∷ (s 523 524) ∷ (s 524 525) ∷ (s 526 527) ∷ (s 527 528) ∷ (s 529 530) ∷ (s 530 531) ∷ (s 532 533) ∷ (s 533 538) ∷ (s 539 540) ∷ (s 541 542) ∷ (s 542 543) ∷ (s 543 544) ∷ (s 544 545) ∷ (s 545 546) ∷ []) ∷ ((s 0 1) ∷ (s 1 15) ∷ (s 16 17) ∷ (s 17 19) ∷ (s 19 20) ∷ (s 22 23) ∷ (s 23 29) ∷ (s 30 31) ∷ (s 33 34) ∷ (s 34 40) ∷ (s 41 42) ∷ (s 42 48) ∷ (s 49 53) ∷ (s 53 54) ∷ (s 55 56) ∷ (s 56 58) ∷ (s 58 59) ∷ (s 59 60) ∷ (s 62 63) ∷ (s 63 68) ∷ (s 71 72) ∷ (s 72 82) ∷ (s 83 84) ∷ (s 84 85) ∷ (s 85 86) ∷ (s 86 87) ∷ (s 88 89) ∷ (s 89 90) ∷ (s 91 92) ∷ (s 92 95) ∷ (s 96 97) ∷ (s 97 98) ∷ (s 98 99) ∷ (s 99 100) ∷ (s 101 102) ∷ (s 102 115) ∷ (s 116 117) ∷ (s 117 118) ∷ (s 119 120) ∷ (s 120 121) ∷ (s 122 123) ∷ (s 123 124) ∷ (s 124 125) ∷ (s 125 126) ∷ (s 127 128) ∷ (s 128 139) ∷ (s 140 141) ∷ (s 141 142) ∷ (s 142 144) ∷ (s 145 149) ∷ (s 150 154) ∷ (s 154 155) ∷ (s 156 157) ∷ (s 157 170) ∷ (s 171 174) ∷ (s 175 176) ∷ (s 176 188) ∷ (s 189 190) ∷ (s 190 191) ∷ (s 192 193) ∷ (s 193 194) ∷ (s 194 195) ∷ (s 196 197) ∷ (s 198 199) ∷ (s 199 201) ∷ (s 202 203) ∷ (s 203 204) ∷ (s 204 205) ∷ (s 206 207) ∷ (s 207 208) ∷ (s 209 210) ∷ (s 210 211) ∷ (s 211 212) ∷ (s 213 214) ∷ (s 214 215) ∷ (s 216 217) ∷ (s 217 218) ∷ (s 218 219) ∷ (s 220 221) ∷ (s 221 222) ∷ (s 222 223) ∷ (s 224 225) ∷ (s 226 230) ∷ (s 230 231) ∷ (s 232 233) ∷ (s 233 239) ∷ (s 240 241) ∷ (s 241 242) ∷ (s 242 243) ∷ (s 244 245) ∷ (s 245 251) ∷ (s 252 253) ∷ (s 254 256) ∷ (s 256 257) ∷ (s 258 259) ∷ (s 259 260) ∷ (s 260 261) ∷ (s 261 262) ∷ (s 262 263) ∷ (s 263 264) ∷ (s 265 266) ∷ (s 266 270) ∷ (s 271 272) ∷ (s 272 278) ∷ (s 279 280) ∷ (s 281 282) ∷ (s 282 283) ∷ (s 283 284) ∷ (s 284 285) ∷ (s 286 287) ∷ (s 287 290) ∷ (s 290 291) ∷ (s 291 292) ∷ (s 295 296) ∷ (s 299 300) ∷ (s 300 301) ∷ (s 301 302) ∷ (s 302 303) ∷ (s 303 304) ∷ []) ∷ ((s 0 1) ∷ (s 1 7) ∷ (s 8 9) ∷ (s 9 15) ∷ (s 16 20) ∷ (s 20 21) ∷ (s 22 23) ∷ (s 23 25) ∷ (s 25 26) ∷ (s 27 28) ∷ (s 28 34) ∷ (s 35 36) ∷ (s 36 38) ∷ (s 38 39) ∷ (s 40 44) ∷ (s 44 45) ∷ (s 46 47) ∷ (s 47 49) ∷ (s 49 50) ∷ (s 50 51) ∷ (s 52 53) ∷ (s 53 56) ∷ (s 57 58) ∷ (s 58 59) ∷ (s 60 61) ∷ (s 61 62) ∷ (s 62 63) ∷ (s 64 65) ∷ (s 65 66) ∷ (s 67 68) ∷ (s 68 74) ∷ (s 75 76) ∷ (s 76 77) ∷ (s 77 78) ∷ (s 79 80) ∷ (s 80 86) ∷ (s 87 88) ∷ (s 88 89) ∷ (s 89 90) ∷ (s 91 92) ∷ (s 92 93) ∷ (s 93 94) ∷ (s 94 95) ∷ (s 96 97) ∷ (s 97 98) ∷ (s 99 102) ∷ (s 102 103) ∷ (s 104 105) ∷ (s 105 111) ∷ (s 112 113) ∷ (s 114 115) ∷ (s 115 118) ∷ (s 118 119) ∷ (s 120 121) ∷ (s 121 127) ∷ (s 128 129) ∷ (s 129 130) ∷ (s 131 132) ∷ (s 132 133) ∷ (s 134 135) ∷ (s 136 139) ∷ (s 139 140) ∷ (s 141 142) ∷ (s 142 147) ∷ (s 148 149) ∷ (s 149 150) ∷ (s 151 152) ∷ (s 153 156) ∷ (s 156 157) ∷ (s 158 159) ∷ (s 159 160) ∷ (s 161 164) ∷ (s 165 166) ∷ (s 166 167) ∷ (s 167 168) ∷ (s 168 169) ∷ (s 170 171) ∷ (s 172 173) ∷ (s 174 175) ∷ (s 175 181) ∷ (s 182 194) ∷ (s 195 198) ∷ (s 198 199) ∷ (s 200 201) ∷ (s 201 207) ∷ (s 208 209) ∷ (s 209 213) ∷ (s 214 215) ∷ (s 215 216) ∷ (s 217 218) ∷ (s 218 219) ∷ (s 219 223) ∷ (s 224 225) ∷ (s 226 227) ∷ (s 227 228) ∷ (s 229 230) ∷ (s 230 231) ∷ (s 232 233) ∷ (s 233 234) ∷ (s 234 235) ∷ (s 236 237) ∷ (s 237 241) ∷ (s 242 243) ∷ (s 243 244) ∷ (s 245 248) ∷ (s 249 250) ∷ (s 250 251) ∷ (s 252 253) ∷ (s 253 254) ∷ (s 254 255) ∷ (s 256 257) ∷ (s 257 258) ∷ (s 259 260) ∷ (s 260 262) ∷ (s 263 264) ∷ (s 264 265) ∷ (s 265 266) ∷ (s 267 268) ∷ (s 269 270) ∷ (s 270 271) ∷ (s 271 272) ∷ (s 273 274) ∷ (s 274 275) ∷ (s 275 276) ∷ (s 277 279) ∷ (s 279 280) ∷ (s 280 281) ∷ (s 282 283) ∷ (s 283 287) ∷ (s 288 290) ∷ (s 291 292) ∷ (s 292 294) ∷ (s 295 296) ∷ (s 297 298) ∷ (s 299 300) ∷ (s 300 301) ∷ (s 301 302) ∷ (s 302 303) ∷ (s 303 304) ∷ []) ∷ []) ((Some (((g.list (p 0 30 0 92) (g.part (g.atom (p 1 1 1 15) (k.Atomic (k.Name (codes "define-library") false))) (g.part (g.list (p 2 4 16 20) (g.part (g.atom (p 3 3 17 19) (k.Atomic (k.Name (codes "l0") false))) g.none)) (g.part (g.list (p 5 7 22 31) (g.part (g.atom (p 6 6 23 29) (k.Atomic (k.Name (codes "export") false))) g.none)) (g.part (g.list (p 8 14 33 55) (g.part (g.atom (p 9 9 34 40) (k.Atomic (k.Name (codes "import") false))) (g.part (g.list (p 10 13 41 54) (g.part (g.atom (p 11 11 42 48) (k.Atomic (k.Name (codes "scheme") false))) (g.part (g.atom (p 12 12 49 53) (k.Atomic (k.Name (codes "base") false))) g.none))) g.none))) (g.part (g.list (p 15 29 57 91) (g.part (g.atom (p 16 16 58 63) (k.Atomic (k.Name (codes "begin") false))) (g.part (g.list (p 17 25 66 83) (g.part (g.atom (p 18 18 67 73) (k.Atomic (k.Name (codes "lambda") false))) (g.part (g.list (p 19 20 74 76) g.none) (g.part (g.list (p 21 24 77 82) (g.part (g.atom (p 22 22 78 79) (k.Atomic (k.Name (codes "a") false))) (g.part (g.atom (p 23 23 80 81) (k.Atomic (k.Numeral (codes "2")))) g.none))) g.none)))) (g.part (g.list (p 26 28 86 90) (g.part (g.atom (p 26 26 86 87) (k.Marked k.Quote)) (g.part (g.vector (p 27 28 87 90) g.none) g.none))) g.none)))) g.none))))))) ∷ [])) ∷ (Some (((g.list (p 0 223 0 546) (g.part (g.atom (p 1 1 1 15) (k.Atomic (k.Name (codes "define-library") false))) (g.part (g.list (p 2 4 16 20) (g.part (g.atom (p 3 3 17 19) (k.Atomic (k.Name (codes "l1") false))) g.none)) (g.part (g.list (p 5 13 22 48) (g.part (g.atom (p 6 6 23 29) (k.Atomic (k.Name (codes "export") false))) (g.part (g.atom (p 7 7 30 31) (k.Atomic (k.Name (codes "f") false))) (g.part (g.list (p 8 12 32 47) (g.part (g.atom (p 9 9 33 39) (k.Atomic (k.Name (codes "rename") false))) (g.part (g.atom (p 10 10 40 41) (k.Atomic (k.Name (codes "m") false))) (g.part (g.atom (p 11 11 42 46) (k.Atomic (k.Name (codes "else") false))) g.none)))) g.none)))) (g.part (g.list (p 14 20 50 72) (g.part (g.atom (p 15 15 51 57) (k.Atomic (k.Name (codes "import") false))) (g.part (g.list (p 16 19 58 71) (g.part (g.atom (p 17 17 59 65) (k.Atomic (k.Name (codes "scheme") false))) (g.part (g.atom (p 18 18 66 70) (k.Atomic (k.Name (codes "base") false))) g.none))) g.none))) (g.part (g.list (p 21 222 74 545) (g.part (g.atom (p 22 22 75 80) (k.Atomic (k.Name (codes "begin") false))) (g.part (g.list (p 23 181 83 456) (g.part (g.atom (p 24 24 84 90) (k.Atomic (k.Name (codes "define") false))) (g.part (g.list (p 25 28 91 96) (g.part (g.atom (p 26 26 92 93) (k.Atomic (k.Name (codes "m") false))) (g.part (g.atom (p 27 27 94 95) (k.Atomic (k.Name (codes "g") false))) g.none))) (g.part (g.list (p 29 34 97 107) (g.part (g.atom (p 30 30 98 100) (k.Atomic (k.Name (codes "if") false))) (g.part (g.atom (p 31 31 101 102) (k.Atomic (k.Numeral (codes "2")))) (g.part (g.atom (p 32 32 103 104) (k.Atomic (k.Name (codes "b") false))) (g.part (g.atom (p 33 33 105 106) (k.Atomic (k.Name (codes "y") false))) g.none))))) (g.part (g.list (p 35 57 108 161) (g.part (g.atom (p 36 36 109 122) (k.Atomic (k.Name (codes "define-values") false))) (g.part (g.list (p 37 40 123 128) (g.part (g.atom (p 38 38 124 125) (k.Atomic (k.Name (codes "q") false))) (g.part (g.atom (p 39 39 126 127) (k.Atomic (k.Name (codes "b") false))) g.none))) (g.part (g.list (p 41 56 129 160) (g.part (g.atom (p 42 42 130 136) (k.Atomic (k.Name (codes "letrec") false))) (g.part (g.list (p 43 54 137 157) (g.part (g.list (p 44 53 138 156) (g.part (g.atom (p 45 45 139 140) (k.Atomic (k.Name (codes "t") false))) (g.part (g.list (p 46 52 141 155) (g.part (g.atom (p 47 47 142 148) (k.Atomic (k.Name (codes "lambda") false))) (g.part (g.list (p 48 50 149 152) (g.part (g.atom (p 49 49 150 151) (k.Atomic (k.Name (codes "m") false))) g.none)) (g.part (g.atom (p 51 51 153 154) (k.Atomic (k.Name (codes "k") false))) g.none)))) g.none))) g.none)) (g.part (g.atom (p 55 55 158 159) (k.Atomic (k.Name (codes "x") false))) g.none)))) g.none)))) (g.part (g.list (p 58 69 162 183) (g.part (g.atom (p 59 59 163 166) (k.Atomic (k.Name (codes "let") false))) (g.part (g.atom (p 60 60 167 168) (k.Atomic (k.Name (codes "f") false))) (g.part (g.list (p 61 66 169 178) (g.part (g.list (p 62 65 170 177) (g.part (g.atom (p 63 63 171 172) (k.Atomic (k.Name (codes "n") false))) (g.part (g.atom (p 64 64 173 176) (k.Atomic (k.Quoted (codes "s")))) g.none))) g.none)) (g.part (g.atom (p 67 67 179 180) (k.Atomic (k.Name (codes "a") false))) (g.part (g.atom (p 68 68 181 182) (k.Atomic (k.Name (codes "m") false))) g.none)))))) (g.part (g.list (p 70 180 184 455) (g.part (g.atom (p 71 71 185 191) (k.Atomic (k.Name (codes "define") false))) (g.part (g.list (p 72 75 192 197) (g.part (g.atom (p 73 73 193 194) (k.Atomic (k.Name (codes "m") false))) (g.part (g.atom (p 74 74 195 196) (k.Atomic (k.Name (codes "f") false))) g.none))) (g.part (g.list (p 76 178 198 452) (g.part (g.atom (p 77 77 199 205) (k.Atomic (k.Name (codes "define") false))) (g.part (g.list (p 78 81 206 211) (g.part (g.atom (p 79 79 207 208) (k.Atomic (k.Name (codes "g") false))) (g.part (g.atom (p 80 80 209 210) (k.Atomic (k.Name (codes "n") false))) g.none))) (g.part (g.list (p 82 175 212 447) (g.part (g.atom (p 83 83 213 224) (k.Atomic (k.Name (codes "cond-expand") false))) (g.part (g.list (p 84 99 225 260) (g.part (g.list (p 85 89 226 240) (g.part (g.atom (p 86 86 227 229) (k.Atomic (k.Name (codes "or") false))) (g.part (g.atom (p 87 87 230 234) (k.Atomic (k.Name (codes "full") false))) (g.part (g.atom (p 88 88 235 239) (k.Atomic (k.Name (codes "r7rs") false))) g.none)))) (g.part (g.list (p 90 98 241 259) (g.part (g.atom (p 91 91 242 248) (k.Atomic (k.Name (codes "define") false))) (g.part (g.list (p 92 95 249 254) (g.part (g.atom (p 93 93 250 251) (k.Atomic (k.Name (codes "y") false))) (g.part (g.atom (p 94 94 252 253) (k.Atomic (k.Name (codes "x") false))) g.none))) (g.part (g.atom (p 96 96 255 256) (k.Atomic (k.Name (codes "g") false))) (g.part (g.atom (p 97 97 257 258) (k.Atomic (k.Name (codes "a") false))) g.none))))) g.none))) (g.part (g.list (p 100 174 261 446) (g.part (g.atom (p 101 101 262 266) (k.Atomic (k.Name (codes "else") false))) (g.part (g.list (p 102 173 267 445) (g.part (g.atom (p 103 103 268 273) (k.Atomic (k.Name (codes "begin") false))) (g.part (g.list (p 104 159 274 414) (g.part (g.atom (p 105 105 275 288) (k.Atomic (k.Name (codes "define-syntax") false))) (g.part (g.atom (p 106 106 289 290) (k.Atomic (k.Name (codes "q") false))) (g.part (g.list (p 107 158 291 413) (g.part (g.atom (p 108 108 292 304) (k.Atomic (k.Name (codes "syntax-rules") false))) (g.part (g.list (p 109 111 305 311) (g.part (g.atom (p 110 110 306 310) (k.Atomic (k.Name (codes "else") false))) g.none)) (g.part (g.list (p 112 157 312 412) (g.part (g.list (p 113 120 313 327) (g.part (g.atom (p 114 114 314 315) (k.Atomic (k.Name (codes "_") false))) (g.part (g.list (p 115 118 316 321) (g.part (g.atom (p 116 116 317 318) (k.Atomic (k.Name (codes "g") false))) (g.part (g.atom (p 117 117 319 320) (k.Atomic (k.Name (codes "y") false))) g.none))) (g.part (g.atom (p 119 119 322 326) (k.Atomic (k.Name (codes "else") false))) g.none)))) (g.part (g.list (p 121 156 328 411) (g.part (g.atom (p 122 122 329 334) (k.Atomic (k.Name (codes "begin") false))) (g.part (g.list (p 123 141 335 381) (g.part (g.atom (p 124 124 336 342) (k.Atomic (k.Name (codes "define") false))) (g.part (g.atom (p 125 125 343 344) (k.Atomic (k.Name (codes "x") false))) (g.part (g.list (p 126 140 345 380) (g.part (g.atom (p 127 127 346 349) (k.Atomic (k.Name (codes "let") false))) (g.part (g.list (p 128 133 350 359) (g.part (g.list (p 129 132 351 358) (g.part (g.atom (p 130 130 352 353) (k.Atomic (k.Name (codes "y") false))) (g.part (g.atom (p 131 131 354 357) (k.Atomic (k.Name (codes "tmp") false))) g.none))) g.none)) (g.part (g.list (p 134 138 360 377) (g.part (g.atom (p 135 135 361 367) (k.Atomic (k.Name (codes "define") false))) (g.part (g.atom (p 136 136 368 369) (k.Atomic (k.Name (codes "y") false))) (g.part (g.atom (p 137 137 370 376) (k.Atomic (k.Name (codes "lambda") false))) g.none)))) (g.part (g.atom (p 139 139 378 379) (k.Atomic (k.Name (codes "y") false))) g.none))))) g.none)))) (g.part (g.list (p 142 155 382 410) (g.part (g.atom (p 143 143 383 389) (k.Atomic (k.Name (codes "define") false))) (g.part (g.atom (p 144 144 390 391) (k.Atomic (k.Name (codes "g") false))) (g.part (g.list (p 145 154 392 409) (g.part (g.atom (p 146 146 393 396) (k.Atomic (k.Name (codes "let") false))) (g.part (g.list (p 147 152 397 406) (g.part (g.list (p 148 151 398 405) (g.part (g.atom (p 149 149 399 402) (k.Atomic (k.Name (codes "tmp") false))) (g.part (g.atom (p 150 150 403 404) (k.Atomic (k.Name (codes "t") false))) g.none))) g.none)) (g.part (g.atom (p 153 153 407 408) (k.Atomic (k.Name (codes "g") false))) g.none)))) g.none)))) g.none)))) g.none))) g.none)))) g.none)))) (g.part (g.list (p 160 172 415 444) (g.part (g.atom (p 161 161 416 422) (k.Atomic (k.Name (codes "define") false))) (g.part (g.list (p 162 165 423 428) (g.part (g.atom (p 163 163 424 425) (k.Atomic (k.Name (codes "g") false))) (g.part (g.atom (p 164 164 426 427) (k.Atomic (k.Name (codes "f") false))) g.none))) (g.part (g.list (p 166 170 429 441) (g.part (g.atom (p 167 167 430 436) (k.Atomic (k.Name (codes "define") false))) (g.part (g.atom (p 168 168 437 438) (k.Atomic (k.Name (codes "k") false))) (g.part (g.atom (p 169 169 439 440) (k.Atomic (k.Name (codes "n") false))) g.none)))) (g.part (g.atom (p 171 171 442 443) (k.Atomic (k.Name (codes "k") false))) g.none))))) g.none)))) g.none))) g.none)))) (g.part (g.atom (p 176 176 448 449) (k.Atomic (k.Name (codes "g") false))) (g.part (g.atom (p 177 177 450 451) (k.Atomic (k.Numeral (codes "2")))) g.none)))))) (g.part (g.atom (p 179 179 453 454) (k.Atomic (k.Name (codes "t") false))) g.none))))) g.none))))))) (g.part (g.list (p 182 193 459 479) (g.part (g.atom (p 182 182 459 460) (k.Marked k.Quasi)) (g.part (g.list (p 183 193 460 479) (g.part (g.atom (p 184 184 461 462) (k.Atomic (k.Numeral (codes "1")))) (g.part (g.list (p 185 186 463 465) (g.part (g.atom (p 185 185 463 464) (k.Marked k.Unquote)) (g.part (g.atom (p 186 186 464 465) (k.Atomic (k.Name (codes "k") false))) g.none))) (g.part (g.list (p 187 190 466 474) (g.part (g.atom (p 187 187 466 468) (k.Marked k.Splice)) (g.part (g.list (p 188 190 468 474) (g.part (g.atom (p 189 189 469 473) (k.Atomic (k.Name (codes "list") false))) g.none)) g.none))) (g.tail (g.atom (p 192 192 477 478) (k.Atomic (k.Name (codes "t") false)))))))) g.none))) (g.part (g.list (p 194 221 482 544) (g.part (g.atom (p 195 195 483 489) (k.Atomic (k.Name (codes "define") false))) (g.part (g.list (p 196 199 490 495) (g.part (g.atom (p 197 197 491 492) (k.Atomic (k.Name (codes "f") false))) (g.part (g.atom (p 198 198 493 494) (k.Atomic (k.Name (codes "k") false))) g.none))) (g.part (g.list (p 200 215 496 531) (g.part (g.atom (p 201 201 497 503) (k.Atomic (k.Name (codes "define") false))) (g.part (g.list (p 202 205 504 509) (g.part (g.atom (p 203 203 505 506) (k.Atomic (k.Name (codes "n") false))) (g.part (g.atom (p 204 204 507 508) (k.Atomic (k.Name (codes "m") false))) g.none))) (g.part (g.list (p 206 213 510 528) (g.part (g.atom (p 207 207 511 517) (k.Atomic (k.Name (codes "define") false))) (g.part (g.list (p 208 211 518 525) (g.part (g.atom (p 209 209 519 522) (k.Atomic (k.Name (codes "tmp") false))) (g.part (g.atom (p 210 210 523 524) (k.Atomic (k.Name (codes "y") false))) g.none))) (g.part (g.atom (p 212 212 526 527) (k.Atomic (k.Name (codes "x") false))) g.none)))) (g.part (g.atom (p 214 214 529 530) (k.Atomic (k.Name (codes "k") false))) g.none))))) (g.part (g.list (p 216 220 532 543) (g.part (g.atom (p 217 217 533 538) (k.Atomic (k.Name (codes "begin") false))) (g.part (g.atom (p 218 218 539 540) (k.Atomic (k.Name (codes "q") false))) (g.part (g.atom (p 219 219 541 542) (k.Atomic (k.Name (codes "x") false))) g.none)))) g.none))))) g.none))))) g.none))))))) ∷ [])) ∷ (Some (((g.list (p 0 118 0 304) (g.part (g.atom (p 1 1 1 15) (k.Atomic (k.Name (codes "define-library") false))) (g.part (g.list (p 2 4 16 20) (g.part (g.atom (p 3 3 17 19) (k.Atomic (k.Name (codes "l2") false))) g.none)) (g.part (g.list (p 5 7 22 31) (g.part (g.atom (p 6 6 23 29) (k.Atomic (k.Name (codes "export") false))) g.none)) (g.part (g.list (p 8 17 33 60) (g.part (g.atom (p 9 9 34 40) (k.Atomic (k.Name (codes "import") false))) (g.part (g.list (p 10 13 41 54) (g.part (g.atom (p 11 11 42 48) (k.Atomic (k.Name (codes "scheme") false))) (g.part (g.atom (p 12 12 49 53) (k.Atomic (k.Name (codes "base") false))) g.none))) (g.part (g.list (p 14 16 55 59) (g.part (g.atom (p 15 15 56 58) (k.Atomic (k.Name (codes "l0") false))) g.none)) g.none)))) (g.part (g.list (p 18 117 62 303) (g.part (g.atom (p 19 19 63 68) (k.Atomic (k.Name (codes "begin") false))) (g.part (g.list (p 20 112 71 292) (g.part (g.atom (p 21 21 72 82) (k.Atomic (k.Name (codes "let-values") false))) (g.part (g.list (p 22 33 83 100) (g.part (g.list (p 23 32 84 99) (g.part (g.list (p 24 27 85 90) (g.part (g.atom (p 25 25 86 87) (k.Atomic (k.Name (codes "g") false))) (g.part (g.atom (p 26 26 88 89) (k.Atomic (k.Name (codes "m") false))) g.none))) (g.part (g.list (p 28 31 91 98) (g.part (g.atom (p 29 29 92 95) (k.Atomic (k.Quoted (codes "s")))) (g.part (g.atom (p 30 30 96 97) (k.Atomic (k.Numeral (codes "2")))) g.none))) g.none))) g.none)) (g.part (g.list (p 34 43 101 126) (g.part (g.atom (p 35 35 102 115) (k.Atomic (k.Name (codes "define-values") false))) (g.part (g.list (p 36 39 116 121) (g.part (g.atom (p 37 37 117 118) (k.Atomic (k.Name (codes "q") false))) (g.part (g.atom (p 38 38 119 120) (k.Atomic (k.Name (codes "b") false))) g.none))) (g.part (g.list (p 40 42 122 125) (g.part (g.atom (p 41 41 123 124) (k.Atomic (k.Name (codes "a") false))) g.none)) g.none)))) (g.part (g.list (p 44 108 127 285) (g.part (g.atom (p 45 45 128 139) (k.Atomic (k.Name (codes "cond-expand") false))) (g.part (g.list (p 46 99 140 264) (g.part (g.list (p 47 51 141 155) (g.part (g.atom (p 48 48 142 144) (k.Atomic (k.Name (codes "or") false))) (g.part (g.atom (p 49 49 145 149) (k.Atomic (k.Name (codes "full") false))) (g.part (g.atom (p 50 50 150 154) (k.Atomic (k.Name (codes "r7rs") false))) g.none)))) (g.part (g.list (p 52 98 156 263) (g.part (g.atom (p 53 53 157 170) (k.Atomic (k.Name (codes "define-syntax") false))) (g.part (g.atom (p 54 54 171 174) (k.Atomic (k.Name (codes "tmp") false))) (g.part (g.list (p 55 97 175 262) (g.part (g.atom (p 56 56 176 188) (k.Atomic (k.Name (codes "syntax-rules") false))) (g.part (g.list (p 57 58 189 191) g.none) (g.part (g.list (p 59 77 192 219) (g.part (g.list (p 60 62 193 197) (g.part (g.atom (p 61 61 194 195) (k.Atomic (k.Name (codes "_") false))) g.none)) (g.part (g.list (p 63 76 198 218) (g.part (g.atom (p 64 64 199 201) (k.Atomic (k.Name (codes "if") false))) (g.part (g.list (p 65 69 202 208) (g.part (g.atom (p 65 65 202 203) (k.Marked k.Quote)) (g.part (g.list (p 66 69 203 208) (g.part (g.atom (p 67 67 204 205) (k.Atomic (k.Name (codes "a") false))) (g.part (g.atom (p 68 68 206 207) (k.Atomic (k.Name (codes "k") false))) g.none))) g.none))) (g.part (g.list (p 70 74 209 215) (g.part (g.atom (p 70 70 209 210) (k.Marked k.Quote)) (g.part (g.list (p 71 74 210 215) (g.part (g.atom (p 72 72 211 212) (k.Atomic (k.Name (codes "n") false))) (g.part (g.atom (p 73 73 213 214) (k.Atomic (k.Name (codes "a") false))) g.none))) g.none))) (g.part (g.atom (p 75 75 216 217) (k.Atomic (k.Name (codes "a") false))) g.none))))) g.none))) (g.part (g.list (p 78 96 220 261) (g.part (g.list (p 79 83 221 231) (g.part (g.atom (p 80 80 222 223) (k.Atomic (k.Name (codes "_") false))) (g.tail (g.atom (p 82 82 226 230) (k.Atomic (k.Name (codes "rest") false)))))) (g.part (g.list (p 84 95 232 260) (g.part (g.atom (p 85 85 233 239) (k.Atomic (k.Name (codes "lambda") false))) (g.part (g.list (p 86 88 240 243) (g.part (g.atom (p 87 87 241 242) (k.Atomic (k.Name (codes "m") false))) g.none)) (g.part (g.list (p 89 93 244 257) (g.part (g.atom (p 90 90 245 251) (k.Atomic (k.Name (codes "define") false))) (g.part (g.atom (p 91 91 252 253) (k.Atomic (k.Name (codes "t") false))) (g.part (g.atom (p 92 92 254 256) (k.Atomic (k.Name (codes "if") false))) g.none)))) (g.part (g.atom (p 94 94 258 259) (k.Atomic (k.Name (codes "x") false))) g.none))))) g.none))) g.none))))) g.none)))) g.none))) (g.part (g.list (p 100 107 265 284) (g.part (g.atom (p 101 101 266 270) (k.Atomic (k.Name (codes "else") false))) (g.part (g.list (p 102 106 271 283) (g.part (g.atom (p 103 103 272 278) (k.Atomic (k.Name (codes "define") false))) (g.part (g.atom (p 104 104 279 280) (k.Atomic (k.Name (codes "q") false))) (g.part (g.atom (p 105 105 281 282) (k.Atomic (k.Name (codes "a") false))) g.none)))) g.none))) g.none)))) (g.part (g.list (p 109 111 286 291) (g.part (g.atom (p 110 110 287 290) (k.Atomic (k.Name (codes "tmp") false))) g.none)) g.none)))))) (g.part (g.atom (p 113 113 295 296) (k.Atomic (k.Name (codes "b") false))) (g.part (g.list (p 114 116 299 302) (g.part (g.atom (p 115 115 300 301) (k.Atomic (k.Name (codes "m") false))) g.none)) g.none))))) g.none))))))) ∷ [])) ∷ (Some (((g.list (p 0 19 0 51) (g.part (g.atom (p 1 1 1 7) (k.Atomic (k.Name (codes "import") false))) (g.part (g.list (p 2 5 8 21) (g.part (g.atom (p 3 3 9 15) (k.Atomic (k.Name (codes "scheme") false))) (g.part (g.atom (p 4 4 16 20) (k.Atomic (k.Name (codes "base") false))) g.none))) (g.part (g.list (p 6 8 22 26) (g.part (g.atom (p 7 7 23 25) (k.Atomic (k.Name (codes "l0") false))) g.none)) (g.part (g.list (p 9 15 27 45) (g.part (g.atom (p 10 10 28 34) (k.Atomic (k.Name (codes "except") false))) (g.part (g.list (p 11 13 35 39) (g.part (g.atom (p 12 12 36 38) (k.Atomic (k.Name (codes "l1") false))) g.none)) (g.part (g.atom (p 14 14 40 44) (k.Atomic (k.Name (codes "else") false))) g.none)))) (g.part (g.list (p 16 18 46 50) (g.part (g.atom (p 17 17 47 49) (k.Atomic (k.Name (codes "l2") false))) g.none)) g.none))))))) ∷ ((g.list (p 20 75 52 169) (g.part (g.atom (p 21 21 53 56) (k.Atomic (k.Name (codes "let") false))) (g.part (g.list (p 22 23 57 59) g.none) (g.part (g.list (p 24 46 60 103) (g.part (g.list (p 25 28 61 66) (g.part (g.atom (p 26 26 62 63) (k.Atomic (k.Name (codes "g") false))) (g.part (g.atom (p 27 27 64 65) (k.Atomic (k.Name (codes "y") false))) g.none))) (g.part (g.list (p 29 44 67 98) (g.part (g.atom (p 30 30 68 74) (k.Atomic (k.Name (codes "letrec") false))) (g.part (g.list (p 31 42 75 95) (g.part (g.list (p 32 41 76 94) (g.part (g.atom (p 33 33 77 78) (k.Atomic (k.Name (codes "a") false))) (g.part (g.list (p 34 40 79 93) (g.part (g.atom (p 35 35 80 86) (k.Atomic (k.Name (codes "lambda") false))) (g.part (g.list (p 36 38 87 90) (g.part (g.atom (p 37 37 88 89) (k.Atomic (k.Name (codes "k") false))) g.none)) (g.part (g.atom (p 39 39 91 92) (k.Atomic (k.Name (codes "m") false))) g.none)))) g.none))) g.none)) (g.part (g.atom (p 43 43 96 97) (k.Atomic (k.Name (codes "m") false))) g.none)))) (g.part (g.atom (p 45 45 99 102) (k.Atomic (k.Name (codes "x") true))) g.none)))) (g.part (g.list (p 47 52 104 119) (g.part (g.atom (p 48 48 105 111) (k.Atomic (k.Name (codes "define") false))) (g.part (g.atom (p 49 49 112 113) (k.Atomic (k.Name (codes "b") false))) (g.part (g.list (p 50 51 114 118) (g.part (g.atom (p 50 50 114 115) (k.Marked k.Quote)) (g.part (g.atom (p 51 51 115 118) (k.Atomic (k.Character 99))) g.none))) g.none)))) (g.part (g.list (p 53 61 120 140) (g.part (g.atom (p 54 54 121 127) (k.Atomic (k.Name (codes "define") false))) (g.part (g.list (p 55 58 128 133) (g.part (g.atom (p 56 56 129 130) (k.Atomic (k.Name (codes "k") false))) (g.part (g.atom (p 57 57 131 132) (k.Atomic (k.Name (codes "b") false))) g.none))) (g.part (g.atom (p 59 59 134 135) (k.Atomic (k.Name (codes "f") false))) (g.part (g.atom (p 60 60 136 139) (k.Atomic (k.Name (codes "tmp") false))) g.none))))) (g.part (g.list (p 62 74 141 168) (g.part (g.atom (p 63 63 142 147) (k.Atomic (k.Name (codes "begin") false))) (g.part (g.list (p 64 68 148 157) (g.part (g.atom (p 65 65 149 150) (k.Atomic (k.Name (codes "x") false))) (g.part (g.atom (p 66 66 151 152) (k.Atomic (k.Name (codes "f") false))) (g.part (g.atom (p 67 67 153 156) (k.Atomic (k.Name (codes "tmp") false))) g.none)))) (g.part (g.list (p 69 73 158 167) (g.part (g.atom (p 70 70 159 160) (k.Atomic (k.Name (codes "g") false))) (g.part (g.atom (p 71 71 161 164) (k.Atomic (k.Character 99))) (g.part (g.atom (p 72 72 165 166) (k.Atomic (k.Name (codes "g") false))) g.none)))) g.none)))) g.none)))))))) ∷ ((g.atom (p 76 76 170 171) (k.Atomic (k.Name (codes "k") false)))) ∷ ((g.atom (p 77 77 172 173) (k.Atomic (k.Name (codes "a") false)))) ∷ ((g.list (p 78 82 174 199) (g.part (g.atom (p 79 79 175 181) (k.Atomic (k.Name (codes "define") false))) (g.part (g.atom (p 80 80 182 194) (k.Atomic (k.Name (codes "syntax-rules") false))) (g.part (g.atom (p 81 81 195 198) (k.Atomic (k.Name (codes "tmp") false))) g.none))))) ∷ ((g.list (p 83 138 200 304) (g.part (g.atom (p 84 84 201 207) (k.Atomic (k.Name (codes "define") false))) (g.part (g.list (p 85 88 208 216) (g.part (g.atom (p 86 86 209 213) (k.Atomic (k.Name (codes "cond") false))) (g.part (g.atom (p 87 87 214 215) (k.Atomic (k.Name (codes "t") false))) g.none))) (g.part (g.list (p 89 99 217 235) (g.part (g.list (p 90 94 218 228) (g.part (g.atom (p 91 91 219 223) (k.Atomic (k.Name (codes "set!") false))) (g.part (g.atom (p 92 92 224 225) (k.Atomic (k.Name (codes "f") false))) (g.part (g.atom (p 93 93 226 227) (k.Atomic (k.Numeral (codes "2")))) g.none)))) (g.part (g.list (p 95 98 229 234) (g.part (g.atom (p 96 96 230 231) (k.Atomic (k.Name (codes "q") false))) (g.part (g.atom (p 97 97 232 233) (k.Atomic (k.Name (codes "b") false))) g.none))) g.none))) (g.part (g.list (p 100 137 236 303) (g.part (g.atom (p 101 101 237 241) (k.Atomic (k.Name (codes "case") false))) (g.part (g.list (p 102 106 242 251) (g.part (g.atom (p 103 103 243 244) (k.Atomic (k.Name (codes "t") false))) (g.part (g.atom (p 104 104 245 248) (k.Atomic (k.Name (codes "tmp") false))) (g.part (g.atom (p 105 105 249 250) (k.Atomic (k.Name (codes "x") false))) g.none)))) (g.part (g.list (p 107 126 252 281) (g.part (g.list (p 108 111 253 258) (g.part (g.atom (p 109 109 254 255) (k.Atomic (k.Name (codes "a") false))) (g.part (g.atom (p 110 110 256 257) (k.Atomic (k.Name (codes "n") false))) g.none))) (g.part (g.list (p 112 125 259 280) (g.part (g.atom (p 113 113 260 262) (k.Atomic (k.Name (codes "do") false))) (g.part (g.list (p 114 120 263 272) (g.part (g.list (p 115 119 264 271) (g.part (g.atom (p 116 116 265 266) (k.Atomic (k.Name (codes "m") false))) (g.part (g.atom (p 117 117 267 268) (k.Atomic (k.Name (codes "y") false))) (g.part (g.atom (p 118 118 269 270) (k.Atomic (k.Name (codes "b") false))) g.none)))) g.none)) (g.part (g.list (p 121 123 273 276) (g.part (g.atom (p 122 122 274 275) (k.Atomic (k.Name (codes "f") false))) g.none)) (g.part (g.atom (p 124 124 277 279) (k.Atomic (k.Truth true))) g.none))))) g.none))) (g.part (g.list (p 127 136 282 302) (g.part (g.atom (p 128 128 283 287) (k.Atomic (k.Name (codes "else") false))) (g.part (g.atom (p 129 129 288 290) (k.Atomic (k.Name (codes "=>") false))) (g.part (g.list (p 130 135 291 301) (g.part (g.atom (p 131 131 292 294) (k.Atomic (k.Name (codes "if") false))) (g.part (g.atom (p 132 132 295 296) (k.Atomic (k.Name (codes "x") false))) (g.part (g.atom (p 133 133 297 298) (k.Atomic (k.Name (codes "g") false))) (g.part (g.atom (p 134 134 299 300) (k.Atomic (k.Name (codes "k") false))) g.none))))) g.none)))) g.none))))) g.none)))))) ∷ [])) ∷ []) ≡ ((q 0 78 79 103 (codes "unbound a")) ∷ (q 1 105 106 103 (codes "unbound y")) ∷ (q 1 153 154 103 (codes "unbound k")) ∷ (q 1 158 159 103 (codes "unbound x")) ∷ (q 1 179 180 103 (codes "unbound a")) ∷ (q 1 257 258 103 (codes "unbound a")) ∷ (q 1 453 454 103 (codes "unbound t")) ∷ (q 1 464 465 103 (codes "unbound k")) ∷ (q 1 526 527 103 (codes "unbound x")) ∷ (q 1 539 540 103 (codes "unbound q")) ∷ (q 1 541 542 103 (codes "unbound x")) ∷ (q 2 123 124 103 (codes "unbound a")) ∷ (q 2 216 217 103 (codes "unbound a")) ∷ (q 2 295 296 103 (codes "unbound b")) ∷ (q 2 300 301 103 (codes "unbound m")) ∷ (q 3 62 63 103 (codes "unbound g")) ∷ (q 3 64 65 103 (codes "unbound y")) ∷ (q 3 91 92 103 (codes "unbound m")) ∷ (q 3 96 97 103 (codes "unbound m")) ∷ (q 3 99 102 103 (codes "unbound x")) ∷ (q 3 136 139 103 (codes "unbound tmp")) ∷ (q 3 149 150 103 (codes "unbound x")) ∷ (q 3 153 156 103 (codes "unbound tmp")) ∷ (q 3 159 160 103 (codes "unbound g")) ∷ (q 3 165 166 103 (codes "unbound g")) ∷ (q 3 170 171 103 (codes "unbound k")) ∷ (q 3 172 173 103 (codes "unbound a")) ∷ (q 3 182 194 101 (codes "definition hides import syntax-rules")) ∷ (q 3 195 198 103 (codes "unbound tmp")) ∷ (q 3 209 213 101 (codes "definition hides import cond")) ∷ (q 3 230 231 103 (codes "unbound q")) ∷ (q 3 232 233 103 (codes "unbound b")) ∷ (q 3 245 248 103 (codes "unbound tmp")) ∷ (q 3 249 250 103 (codes "unbound x")) ∷ (q 3 267 268 103 (codes "unbound y")) ∷ (q 3 269 270 103 (codes "unbound b")) ∷ (q 3 295 296 103 (codes "unbound x")) ∷ (q 3 297 298 103 (codes "unbound g")) ∷ (q 3 299 300 103 (codes "unbound k")) ∷ [])
+pub workspaces-13 : diagnostic_rows (((s 0 1) ∷ (s 1 15) ∷ (s 16 17) ∷ (s 17 19) ∷ (s 19 20) ∷ (s 22 23) ∷ (s 23 29) ∷ (s 30 31) ∷ (s 33 34) ∷ (s 34 40) ∷ (s 41 42) ∷ (s 42 48) ∷ (s 49 53) ∷ (s 53 54) ∷ (s 54 55) ∷ (s 57 58) ∷ (s 58 63) ∷ (s 66 67) ∷ (s 67 73) ∷ (s 74 75) ∷ (s 75 76) ∷ (s 77 78) ∷ (s 78 79) ∷ (s 80 81) ∷ (s 81 82) ∷ (s 82 83) ∷ (s 86 87) ∷ (s 87 89) ∷ (s 89 90) ∷ (s 90 91) ∷ (s 91 92) ∷ []) ∷ ((s 0 1) ∷ (s 1 15) ∷ (s 16 17) ∷ (s 17 19) ∷ (s 19 20) ∷ (s 22 23) ∷ (s 23 29) ∷ (s 30 31) ∷ (s 32 33) ∷ (s 33 39) ∷ (s 40 41) ∷ (s 42 46) ∷ (s 46 47) ∷ (s 47 48) ∷ (s 50 51) ∷ (s 51 57) ∷ (s 58 59) ∷ (s 59 65) ∷ (s 66 70) ∷ (s 70 71) ∷ (s 71 72) ∷ (s 74 75) ∷ (s 75 80) ∷ (s 83 84) ∷ (s 84 90) ∷ (s 91 92) ∷ (s 92 93) ∷ (s 94 95) ∷ (s 95 96) ∷ (s 97 98) ∷ (s 98 100) ∷ (s 101 102) ∷ (s 103 104) ∷ (s 105 106) ∷ (s 106 107) ∷ (s 108 109) ∷ (s 109 122) ∷ (s 123 124) ∷ (s 124 125) ∷ (s 126 127) ∷ (s 127 128) ∷ (s 129 130) ∷ (s 130 136) ∷ (s 137 138) ∷ (s 138 139) ∷ (s 139 140) ∷ (s 141 142) ∷ (s 142 148) ∷ (s 149 150) ∷ (s 150 151) ∷ (s 151 152) ∷ (s 153 154) ∷ (s 154 155) ∷ (s 155 156) ∷ (s 156 157) ∷ (s 158 159) ∷ (s 159 160) ∷ (s 160 161) ∷ (s 162 163) ∷ (s 163 166) ∷ (s 167 168) ∷ (s 169 170) ∷ (s 170 171) ∷ (s 171 172) ∷ (s 173 176) ∷ (s 176 177) ∷ (s 177 178) ∷ (s 179 180) ∷ (s 181 182) ∷ (s 182 183) ∷ (s 184 185) ∷ (s 185 191) ∷ (s 192 193) ∷ (s 193 194) ∷ (s 195 196) ∷ (s 196 197) ∷ (s 198 199) ∷ (s 199 205) ∷ (s 206 207) ∷ (s 207 208) ∷ (s 209 210) ∷ (s 210 211) ∷ (s 212 213) ∷ (s 213 224) ∷ (s 225 226) ∷ (s 226 227) ∷ (s 227 229) ∷ (s 230 234) ∷ (s 235 239) ∷ (s 239 240) ∷ (s 241 242) ∷ (s 242 248) ∷ (s 249 250) ∷ (s 250 251) ∷ (s 252 253) ∷ (s 253 254) ∷ (s 255 256) ∷ (s 257 258) ∷ (s 258 259) ∷ (s 259 260) ∷ (s 261 262) ∷ (s 262 266) ∷ (s 267 268) ∷ (s 268 273) ∷ (s 274 275) ∷ (s 275 288) ∷ (s 289 290) ∷ (s 291 292) ∷ (s 292 304) ∷ (s 305 306) ∷ (s 306 310) ∷ (s 310 311) ∷ (s 312 313) ∷ (s 313 314) ∷ (s 314 315) ∷ (s 316 317) ∷ (s 317 318) ∷ (s 319 320) ∷ (s 320 321) ∷ (s 322 326) ∷ (s 326 327) ∷ (s 328 329) ∷ (s 329 334) ∷ (s 335 336) ∷ (s 336 342) ∷ (s 343 344) ∷ (s 345 346) ∷ (s 346 349) ∷ (s 350 351) ∷ (s 351 352) ∷ (s 352 353) ∷ (s 354 357) ∷ (s 357 358) ∷ (s 358 359) ∷ (s 360 361) ∷ (s 361 367) ∷ (s 368 369) ∷ (s 370 376) ∷ (s 376 377) ∷ (s 378 379) ∷ (s 379 380) ∷ (s 380 381) ∷ (s 382 383) ∷ (s 383 389) ∷ (s 390 391) ∷ (s 392 393) ∷ (s 393 396) ∷ (s 397 398) ∷ (s 398 399) ∷ (s 399 402) ∷ (s 403 404) ∷ (s 404 405) ∷ (s 405 406) ∷ (s 407 408) ∷ (s 408 409) ∷ (s 409 410) ∷ (s 410 411) ∷ (s 411 412) ∷ (s 412 413) ∷ (s 413 414) ∷ (s 415 416) ∷ (s 416 422) ∷ (s 423 424) ∷ (s 424 425) ∷ (s 426 427) ∷ (s 427 428) ∷ (s 429 430) ∷ (s 430 436) ∷ (s 437 438) ∷ (s 439 440) ∷ (s 440 441) ∷ (s 442 443) ∷ (s 443 444) ∷ (s 444 445) ∷ (s 445 446) ∷ (s 446 447) ∷ (s 448 449) ∷ (s 450 451) ∷ (s 451 452) ∷ (s 453 454) ∷ (s 454 455) ∷ (s 455 456) ∷ (s 459 460) ∷ (s 460 461) ∷ (s 461 462) ∷ (s 463 464) ∷ (s 464 465) ∷ (s 466 468) ∷ (s 468 469) ∷ (s 469 473) ∷ (s 473 474) ∷ (s 475 476) ∷ (s 477 478) ∷ (s 478 479) ∷ (s 482 483) ∷ (s 483 489) ∷ (s 490 491) ∷ (s 491 492) ∷ (s 493 494) ∷ (s 494 495) ∷ (s 496 497) ∷ (s 497 503) ∷ (s 504 505) ∷ (s 505 506) ∷ (s 507 508) ∷ (s 508 509) ∷ (s 510 511) ∷ (s 511 517) ∷ (s 518 519) ∷ (s 519 522) ∷ (s 523 524) ∷ (s 524 525) ∷ (s 526 527) ∷ (s 527 528) ∷ (s 529 530) ∷ (s 530 531) ∷ (s 532 533) ∷ (s 533 538) ∷ (s 539 540) ∷ (s 541 542) ∷ (s 542 543) ∷ (s 543 544) ∷ (s 544 545) ∷ (s 545 546) ∷ []) ∷ ((s 0 1) ∷ (s 1 15) ∷ (s 16 17) ∷ (s 17 19) ∷ (s 19 20) ∷ (s 22 23) ∷ (s 23 29) ∷ (s 30 31) ∷ (s 33 34) ∷ (s 34 40) ∷ (s 41 42) ∷ (s 42 48) ∷ (s 49 53) ∷ (s 53 54) ∷ (s 55 56) ∷ (s 56 58) ∷ (s 58 59) ∷ (s 59 60) ∷ (s 62 63) ∷ (s 63 68) ∷ (s 71 72) ∷ (s 72 82) ∷ (s 83 84) ∷ (s 84 85) ∷ (s 85 86) ∷ (s 86 87) ∷ (s 88 89) ∷ (s 89 90) ∷ (s 91 92) ∷ (s 92 95) ∷ (s 96 97) ∷ (s 97 98) ∷ (s 98 99) ∷ (s 99 100) ∷ (s 101 102) ∷ (s 102 115) ∷ (s 116 117) ∷ (s 117 118) ∷ (s 119 120) ∷ (s 120 121) ∷ (s 122 123) ∷ (s 123 124) ∷ (s 124 125) ∷ (s 125 126) ∷ (s 127 128) ∷ (s 128 139) ∷ (s 140 141) ∷ (s 141 142) ∷ (s 142 144) ∷ (s 145 149) ∷ (s 150 154) ∷ (s 154 155) ∷ (s 156 157) ∷ (s 157 170) ∷ (s 171 174) ∷ (s 175 176) ∷ (s 176 188) ∷ (s 189 190) ∷ (s 190 191) ∷ (s 192 193) ∷ (s 193 194) ∷ (s 194 195) ∷ (s 196 197) ∷ (s 198 199) ∷ (s 199 201) ∷ (s 202 203) ∷ (s 203 204) ∷ (s 204 205) ∷ (s 206 207) ∷ (s 207 208) ∷ (s 209 210) ∷ (s 210 211) ∷ (s 211 212) ∷ (s 213 214) ∷ (s 214 215) ∷ (s 216 217) ∷ (s 217 218) ∷ (s 218 219) ∷ (s 220 221) ∷ (s 221 222) ∷ (s 222 223) ∷ (s 224 225) ∷ (s 226 230) ∷ (s 230 231) ∷ (s 232 233) ∷ (s 233 239) ∷ (s 240 241) ∷ (s 241 242) ∷ (s 242 243) ∷ (s 244 245) ∷ (s 245 251) ∷ (s 252 253) ∷ (s 254 256) ∷ (s 256 257) ∷ (s 258 259) ∷ (s 259 260) ∷ (s 260 261) ∷ (s 261 262) ∷ (s 262 263) ∷ (s 263 264) ∷ (s 265 266) ∷ (s 266 270) ∷ (s 271 272) ∷ (s 272 278) ∷ (s 279 280) ∷ (s 281 282) ∷ (s 282 283) ∷ (s 283 284) ∷ (s 284 285) ∷ (s 286 287) ∷ (s 287 290) ∷ (s 290 291) ∷ (s 291 292) ∷ (s 295 296) ∷ (s 299 300) ∷ (s 300 301) ∷ (s 301 302) ∷ (s 302 303) ∷ (s 303 304) ∷ []) ∷ ((s 0 1) ∷ (s 1 7) ∷ (s 8 9) ∷ (s 9 15) ∷ (s 16 20) ∷ (s 20 21) ∷ (s 22 23) ∷ (s 23 25) ∷ (s 25 26) ∷ (s 27 28) ∷ (s 28 34) ∷ (s 35 36) ∷ (s 36 38) ∷ (s 38 39) ∷ (s 40 44) ∷ (s 44 45) ∷ (s 46 47) ∷ (s 47 49) ∷ (s 49 50) ∷ (s 50 51) ∷ (s 52 53) ∷ (s 53 56) ∷ (s 57 58) ∷ (s 58 59) ∷ (s 60 61) ∷ (s 61 62) ∷ (s 62 63) ∷ (s 64 65) ∷ (s 65 66) ∷ (s 67 68) ∷ (s 68 74) ∷ (s 75 76) ∷ (s 76 77) ∷ (s 77 78) ∷ (s 79 80) ∷ (s 80 86) ∷ (s 87 88) ∷ (s 88 89) ∷ (s 89 90) ∷ (s 91 92) ∷ (s 92 93) ∷ (s 93 94) ∷ (s 94 95) ∷ (s 96 97) ∷ (s 97 98) ∷ (s 99 102) ∷ (s 102 103) ∷ (s 104 105) ∷ (s 105 111) ∷ (s 112 113) ∷ (s 114 115) ∷ (s 115 118) ∷ (s 118 119) ∷ (s 120 121) ∷ (s 121 127) ∷ (s 128 129) ∷ (s 129 130) ∷ (s 131 132) ∷ (s 132 133) ∷ (s 134 135) ∷ (s 136 139) ∷ (s 139 140) ∷ (s 141 142) ∷ (s 142 147) ∷ (s 148 149) ∷ (s 149 150) ∷ (s 151 152) ∷ (s 153 156) ∷ (s 156 157) ∷ (s 158 159) ∷ (s 159 160) ∷ (s 161 164) ∷ (s 165 166) ∷ (s 166 167) ∷ (s 167 168) ∷ (s 168 169) ∷ (s 170 171) ∷ (s 172 173) ∷ (s 174 175) ∷ (s 175 181) ∷ (s 182 194) ∷ (s 195 198) ∷ (s 198 199) ∷ (s 200 201) ∷ (s 201 207) ∷ (s 208 209) ∷ (s 209 213) ∷ (s 214 215) ∷ (s 215 216) ∷ (s 217 218) ∷ (s 218 219) ∷ (s 219 223) ∷ (s 224 225) ∷ (s 226 227) ∷ (s 227 228) ∷ (s 229 230) ∷ (s 230 231) ∷ (s 232 233) ∷ (s 233 234) ∷ (s 234 235) ∷ (s 236 237) ∷ (s 237 241) ∷ (s 242 243) ∷ (s 243 244) ∷ (s 245 248) ∷ (s 249 250) ∷ (s 250 251) ∷ (s 252 253) ∷ (s 253 254) ∷ (s 254 255) ∷ (s 256 257) ∷ (s 257 258) ∷ (s 259 260) ∷ (s 260 262) ∷ (s 263 264) ∷ (s 264 265) ∷ (s 265 266) ∷ (s 267 268) ∷ (s 269 270) ∷ (s 270 271) ∷ (s 271 272) ∷ (s 273 274) ∷ (s 274 275) ∷ (s 275 276) ∷ (s 277 279) ∷ (s 279 280) ∷ (s 280 281) ∷ (s 282 283) ∷ (s 283 287) ∷ (s 288 290) ∷ (s 291 292) ∷ (s 292 294) ∷ (s 295 296) ∷ (s 297 298) ∷ (s 299 300) ∷ (s 300 301) ∷ (s 301 302) ∷ (s 302 303) ∷ (s 303 304) ∷ []) ∷ []) ((Some (((g.list (p 0 30 0 92) (g.part (g.atom (p 1 1 1 15) (g.spelled (k.Name (codes "define-library") false))) (g.part (g.list (p 2 4 16 20) (g.part (g.atom (p 3 3 17 19) (g.spelled (k.Name (codes "l0") false))) g.none)) (g.part (g.list (p 5 7 22 31) (g.part (g.atom (p 6 6 23 29) (g.spelled (k.Name (codes "export") false))) g.none)) (g.part (g.list (p 8 14 33 55) (g.part (g.atom (p 9 9 34 40) (g.spelled (k.Name (codes "import") false))) (g.part (g.list (p 10 13 41 54) (g.part (g.atom (p 11 11 42 48) (g.spelled (k.Name (codes "scheme") false))) (g.part (g.atom (p 12 12 49 53) (g.spelled (k.Name (codes "base") false))) g.none))) g.none))) (g.part (g.list (p 15 29 57 91) (g.part (g.atom (p 16 16 58 63) (g.spelled (k.Name (codes "begin") false))) (g.part (g.list (p 17 25 66 83) (g.part (g.atom (p 18 18 67 73) (g.spelled (k.Name (codes "lambda") false))) (g.part (g.list (p 19 20 74 76) g.none) (g.part (g.list (p 21 24 77 82) (g.part (g.atom (p 22 22 78 79) (g.spelled (k.Name (codes "a") false))) (g.part (g.atom (p 23 23 80 81) (g.spelled (k.Numeral (codes "2")))) g.none))) g.none)))) (g.part (g.list (p 26 28 86 90) (g.part (g.atom (p 26 26 86 87) (g.implied k.Quote)) (g.part (g.vector (p 27 28 87 90) g.none) g.none))) g.none)))) g.none))))))) ∷ [])) ∷ (Some (((g.list (p 0 223 0 546) (g.part (g.atom (p 1 1 1 15) (g.spelled (k.Name (codes "define-library") false))) (g.part (g.list (p 2 4 16 20) (g.part (g.atom (p 3 3 17 19) (g.spelled (k.Name (codes "l1") false))) g.none)) (g.part (g.list (p 5 13 22 48) (g.part (g.atom (p 6 6 23 29) (g.spelled (k.Name (codes "export") false))) (g.part (g.atom (p 7 7 30 31) (g.spelled (k.Name (codes "f") false))) (g.part (g.list (p 8 12 32 47) (g.part (g.atom (p 9 9 33 39) (g.spelled (k.Name (codes "rename") false))) (g.part (g.atom (p 10 10 40 41) (g.spelled (k.Name (codes "m") false))) (g.part (g.atom (p 11 11 42 46) (g.spelled (k.Name (codes "else") false))) g.none)))) g.none)))) (g.part (g.list (p 14 20 50 72) (g.part (g.atom (p 15 15 51 57) (g.spelled (k.Name (codes "import") false))) (g.part (g.list (p 16 19 58 71) (g.part (g.atom (p 17 17 59 65) (g.spelled (k.Name (codes "scheme") false))) (g.part (g.atom (p 18 18 66 70) (g.spelled (k.Name (codes "base") false))) g.none))) g.none))) (g.part (g.list (p 21 222 74 545) (g.part (g.atom (p 22 22 75 80) (g.spelled (k.Name (codes "begin") false))) (g.part (g.list (p 23 181 83 456) (g.part (g.atom (p 24 24 84 90) (g.spelled (k.Name (codes "define") false))) (g.part (g.list (p 25 28 91 96) (g.part (g.atom (p 26 26 92 93) (g.spelled (k.Name (codes "m") false))) (g.part (g.atom (p 27 27 94 95) (g.spelled (k.Name (codes "g") false))) g.none))) (g.part (g.list (p 29 34 97 107) (g.part (g.atom (p 30 30 98 100) (g.spelled (k.Name (codes "if") false))) (g.part (g.atom (p 31 31 101 102) (g.spelled (k.Numeral (codes "2")))) (g.part (g.atom (p 32 32 103 104) (g.spelled (k.Name (codes "b") false))) (g.part (g.atom (p 33 33 105 106) (g.spelled (k.Name (codes "y") false))) g.none))))) (g.part (g.list (p 35 57 108 161) (g.part (g.atom (p 36 36 109 122) (g.spelled (k.Name (codes "define-values") false))) (g.part (g.list (p 37 40 123 128) (g.part (g.atom (p 38 38 124 125) (g.spelled (k.Name (codes "q") false))) (g.part (g.atom (p 39 39 126 127) (g.spelled (k.Name (codes "b") false))) g.none))) (g.part (g.list (p 41 56 129 160) (g.part (g.atom (p 42 42 130 136) (g.spelled (k.Name (codes "letrec") false))) (g.part (g.list (p 43 54 137 157) (g.part (g.list (p 44 53 138 156) (g.part (g.atom (p 45 45 139 140) (g.spelled (k.Name (codes "t") false))) (g.part (g.list (p 46 52 141 155) (g.part (g.atom (p 47 47 142 148) (g.spelled (k.Name (codes "lambda") false))) (g.part (g.list (p 48 50 149 152) (g.part (g.atom (p 49 49 150 151) (g.spelled (k.Name (codes "m") false))) g.none)) (g.part (g.atom (p 51 51 153 154) (g.spelled (k.Name (codes "k") false))) g.none)))) g.none))) g.none)) (g.part (g.atom (p 55 55 158 159) (g.spelled (k.Name (codes "x") false))) g.none)))) g.none)))) (g.part (g.list (p 58 69 162 183) (g.part (g.atom (p 59 59 163 166) (g.spelled (k.Name (codes "let") false))) (g.part (g.atom (p 60 60 167 168) (g.spelled (k.Name (codes "f") false))) (g.part (g.list (p 61 66 169 178) (g.part (g.list (p 62 65 170 177) (g.part (g.atom (p 63 63 171 172) (g.spelled (k.Name (codes "n") false))) (g.part (g.atom (p 64 64 173 176) (g.spelled (k.Quoted (codes "s")))) g.none))) g.none)) (g.part (g.atom (p 67 67 179 180) (g.spelled (k.Name (codes "a") false))) (g.part (g.atom (p 68 68 181 182) (g.spelled (k.Name (codes "m") false))) g.none)))))) (g.part (g.list (p 70 180 184 455) (g.part (g.atom (p 71 71 185 191) (g.spelled (k.Name (codes "define") false))) (g.part (g.list (p 72 75 192 197) (g.part (g.atom (p 73 73 193 194) (g.spelled (k.Name (codes "m") false))) (g.part (g.atom (p 74 74 195 196) (g.spelled (k.Name (codes "f") false))) g.none))) (g.part (g.list (p 76 178 198 452) (g.part (g.atom (p 77 77 199 205) (g.spelled (k.Name (codes "define") false))) (g.part (g.list (p 78 81 206 211) (g.part (g.atom (p 79 79 207 208) (g.spelled (k.Name (codes "g") false))) (g.part (g.atom (p 80 80 209 210) (g.spelled (k.Name (codes "n") false))) g.none))) (g.part (g.list (p 82 175 212 447) (g.part (g.atom (p 83 83 213 224) (g.spelled (k.Name (codes "cond-expand") false))) (g.part (g.list (p 84 99 225 260) (g.part (g.list (p 85 89 226 240) (g.part (g.atom (p 86 86 227 229) (g.spelled (k.Name (codes "or") false))) (g.part (g.atom (p 87 87 230 234) (g.spelled (k.Name (codes "full") false))) (g.part (g.atom (p 88 88 235 239) (g.spelled (k.Name (codes "r7rs") false))) g.none)))) (g.part (g.list (p 90 98 241 259) (g.part (g.atom (p 91 91 242 248) (g.spelled (k.Name (codes "define") false))) (g.part (g.list (p 92 95 249 254) (g.part (g.atom (p 93 93 250 251) (g.spelled (k.Name (codes "y") false))) (g.part (g.atom (p 94 94 252 253) (g.spelled (k.Name (codes "x") false))) g.none))) (g.part (g.atom (p 96 96 255 256) (g.spelled (k.Name (codes "g") false))) (g.part (g.atom (p 97 97 257 258) (g.spelled (k.Name (codes "a") false))) g.none))))) g.none))) (g.part (g.list (p 100 174 261 446) (g.part (g.atom (p 101 101 262 266) (g.spelled (k.Name (codes "else") false))) (g.part (g.list (p 102 173 267 445) (g.part (g.atom (p 103 103 268 273) (g.spelled (k.Name (codes "begin") false))) (g.part (g.list (p 104 159 274 414) (g.part (g.atom (p 105 105 275 288) (g.spelled (k.Name (codes "define-syntax") false))) (g.part (g.atom (p 106 106 289 290) (g.spelled (k.Name (codes "q") false))) (g.part (g.list (p 107 158 291 413) (g.part (g.atom (p 108 108 292 304) (g.spelled (k.Name (codes "syntax-rules") false))) (g.part (g.list (p 109 111 305 311) (g.part (g.atom (p 110 110 306 310) (g.spelled (k.Name (codes "else") false))) g.none)) (g.part (g.list (p 112 157 312 412) (g.part (g.list (p 113 120 313 327) (g.part (g.atom (p 114 114 314 315) (g.spelled (k.Name (codes "_") false))) (g.part (g.list (p 115 118 316 321) (g.part (g.atom (p 116 116 317 318) (g.spelled (k.Name (codes "g") false))) (g.part (g.atom (p 117 117 319 320) (g.spelled (k.Name (codes "y") false))) g.none))) (g.part (g.atom (p 119 119 322 326) (g.spelled (k.Name (codes "else") false))) g.none)))) (g.part (g.list (p 121 156 328 411) (g.part (g.atom (p 122 122 329 334) (g.spelled (k.Name (codes "begin") false))) (g.part (g.list (p 123 141 335 381) (g.part (g.atom (p 124 124 336 342) (g.spelled (k.Name (codes "define") false))) (g.part (g.atom (p 125 125 343 344) (g.spelled (k.Name (codes "x") false))) (g.part (g.list (p 126 140 345 380) (g.part (g.atom (p 127 127 346 349) (g.spelled (k.Name (codes "let") false))) (g.part (g.list (p 128 133 350 359) (g.part (g.list (p 129 132 351 358) (g.part (g.atom (p 130 130 352 353) (g.spelled (k.Name (codes "y") false))) (g.part (g.atom (p 131 131 354 357) (g.spelled (k.Name (codes "tmp") false))) g.none))) g.none)) (g.part (g.list (p 134 138 360 377) (g.part (g.atom (p 135 135 361 367) (g.spelled (k.Name (codes "define") false))) (g.part (g.atom (p 136 136 368 369) (g.spelled (k.Name (codes "y") false))) (g.part (g.atom (p 137 137 370 376) (g.spelled (k.Name (codes "lambda") false))) g.none)))) (g.part (g.atom (p 139 139 378 379) (g.spelled (k.Name (codes "y") false))) g.none))))) g.none)))) (g.part (g.list (p 142 155 382 410) (g.part (g.atom (p 143 143 383 389) (g.spelled (k.Name (codes "define") false))) (g.part (g.atom (p 144 144 390 391) (g.spelled (k.Name (codes "g") false))) (g.part (g.list (p 145 154 392 409) (g.part (g.atom (p 146 146 393 396) (g.spelled (k.Name (codes "let") false))) (g.part (g.list (p 147 152 397 406) (g.part (g.list (p 148 151 398 405) (g.part (g.atom (p 149 149 399 402) (g.spelled (k.Name (codes "tmp") false))) (g.part (g.atom (p 150 150 403 404) (g.spelled (k.Name (codes "t") false))) g.none))) g.none)) (g.part (g.atom (p 153 153 407 408) (g.spelled (k.Name (codes "g") false))) g.none)))) g.none)))) g.none)))) g.none))) g.none)))) g.none)))) (g.part (g.list (p 160 172 415 444) (g.part (g.atom (p 161 161 416 422) (g.spelled (k.Name (codes "define") false))) (g.part (g.list (p 162 165 423 428) (g.part (g.atom (p 163 163 424 425) (g.spelled (k.Name (codes "g") false))) (g.part (g.atom (p 164 164 426 427) (g.spelled (k.Name (codes "f") false))) g.none))) (g.part (g.list (p 166 170 429 441) (g.part (g.atom (p 167 167 430 436) (g.spelled (k.Name (codes "define") false))) (g.part (g.atom (p 168 168 437 438) (g.spelled (k.Name (codes "k") false))) (g.part (g.atom (p 169 169 439 440) (g.spelled (k.Name (codes "n") false))) g.none)))) (g.part (g.atom (p 171 171 442 443) (g.spelled (k.Name (codes "k") false))) g.none))))) g.none)))) g.none))) g.none)))) (g.part (g.atom (p 176 176 448 449) (g.spelled (k.Name (codes "g") false))) (g.part (g.atom (p 177 177 450 451) (g.spelled (k.Numeral (codes "2")))) g.none)))))) (g.part (g.atom (p 179 179 453 454) (g.spelled (k.Name (codes "t") false))) g.none))))) g.none))))))) (g.part (g.list (p 182 193 459 479) (g.part (g.atom (p 182 182 459 460) (g.implied k.Quasi)) (g.part (g.list (p 183 193 460 479) (g.part (g.atom (p 184 184 461 462) (g.spelled (k.Numeral (codes "1")))) (g.part (g.list (p 185 186 463 465) (g.part (g.atom (p 185 185 463 464) (g.implied k.Unquote)) (g.part (g.atom (p 186 186 464 465) (g.spelled (k.Name (codes "k") false))) g.none))) (g.part (g.list (p 187 190 466 474) (g.part (g.atom (p 187 187 466 468) (g.implied k.Splice)) (g.part (g.list (p 188 190 468 474) (g.part (g.atom (p 189 189 469 473) (g.spelled (k.Name (codes "list") false))) g.none)) g.none))) (g.tail (g.atom (p 192 192 477 478) (g.spelled (k.Name (codes "t") false)))))))) g.none))) (g.part (g.list (p 194 221 482 544) (g.part (g.atom (p 195 195 483 489) (g.spelled (k.Name (codes "define") false))) (g.part (g.list (p 196 199 490 495) (g.part (g.atom (p 197 197 491 492) (g.spelled (k.Name (codes "f") false))) (g.part (g.atom (p 198 198 493 494) (g.spelled (k.Name (codes "k") false))) g.none))) (g.part (g.list (p 200 215 496 531) (g.part (g.atom (p 201 201 497 503) (g.spelled (k.Name (codes "define") false))) (g.part (g.list (p 202 205 504 509) (g.part (g.atom (p 203 203 505 506) (g.spelled (k.Name (codes "n") false))) (g.part (g.atom (p 204 204 507 508) (g.spelled (k.Name (codes "m") false))) g.none))) (g.part (g.list (p 206 213 510 528) (g.part (g.atom (p 207 207 511 517) (g.spelled (k.Name (codes "define") false))) (g.part (g.list (p 208 211 518 525) (g.part (g.atom (p 209 209 519 522) (g.spelled (k.Name (codes "tmp") false))) (g.part (g.atom (p 210 210 523 524) (g.spelled (k.Name (codes "y") false))) g.none))) (g.part (g.atom (p 212 212 526 527) (g.spelled (k.Name (codes "x") false))) g.none)))) (g.part (g.atom (p 214 214 529 530) (g.spelled (k.Name (codes "k") false))) g.none))))) (g.part (g.list (p 216 220 532 543) (g.part (g.atom (p 217 217 533 538) (g.spelled (k.Name (codes "begin") false))) (g.part (g.atom (p 218 218 539 540) (g.spelled (k.Name (codes "q") false))) (g.part (g.atom (p 219 219 541 542) (g.spelled (k.Name (codes "x") false))) g.none)))) g.none))))) g.none))))) g.none))))))) ∷ [])) ∷ (Some (((g.list (p 0 118 0 304) (g.part (g.atom (p 1 1 1 15) (g.spelled (k.Name (codes "define-library") false))) (g.part (g.list (p 2 4 16 20) (g.part (g.atom (p 3 3 17 19) (g.spelled (k.Name (codes "l2") false))) g.none)) (g.part (g.list (p 5 7 22 31) (g.part (g.atom (p 6 6 23 29) (g.spelled (k.Name (codes "export") false))) g.none)) (g.part (g.list (p 8 17 33 60) (g.part (g.atom (p 9 9 34 40) (g.spelled (k.Name (codes "import") false))) (g.part (g.list (p 10 13 41 54) (g.part (g.atom (p 11 11 42 48) (g.spelled (k.Name (codes "scheme") false))) (g.part (g.atom (p 12 12 49 53) (g.spelled (k.Name (codes "base") false))) g.none))) (g.part (g.list (p 14 16 55 59) (g.part (g.atom (p 15 15 56 58) (g.spelled (k.Name (codes "l0") false))) g.none)) g.none)))) (g.part (g.list (p 18 117 62 303) (g.part (g.atom (p 19 19 63 68) (g.spelled (k.Name (codes "begin") false))) (g.part (g.list (p 20 112 71 292) (g.part (g.atom (p 21 21 72 82) (g.spelled (k.Name (codes "let-values") false))) (g.part (g.list (p 22 33 83 100) (g.part (g.list (p 23 32 84 99) (g.part (g.list (p 24 27 85 90) (g.part (g.atom (p 25 25 86 87) (g.spelled (k.Name (codes "g") false))) (g.part (g.atom (p 26 26 88 89) (g.spelled (k.Name (codes "m") false))) g.none))) (g.part (g.list (p 28 31 91 98) (g.part (g.atom (p 29 29 92 95) (g.spelled (k.Quoted (codes "s")))) (g.part (g.atom (p 30 30 96 97) (g.spelled (k.Numeral (codes "2")))) g.none))) g.none))) g.none)) (g.part (g.list (p 34 43 101 126) (g.part (g.atom (p 35 35 102 115) (g.spelled (k.Name (codes "define-values") false))) (g.part (g.list (p 36 39 116 121) (g.part (g.atom (p 37 37 117 118) (g.spelled (k.Name (codes "q") false))) (g.part (g.atom (p 38 38 119 120) (g.spelled (k.Name (codes "b") false))) g.none))) (g.part (g.list (p 40 42 122 125) (g.part (g.atom (p 41 41 123 124) (g.spelled (k.Name (codes "a") false))) g.none)) g.none)))) (g.part (g.list (p 44 108 127 285) (g.part (g.atom (p 45 45 128 139) (g.spelled (k.Name (codes "cond-expand") false))) (g.part (g.list (p 46 99 140 264) (g.part (g.list (p 47 51 141 155) (g.part (g.atom (p 48 48 142 144) (g.spelled (k.Name (codes "or") false))) (g.part (g.atom (p 49 49 145 149) (g.spelled (k.Name (codes "full") false))) (g.part (g.atom (p 50 50 150 154) (g.spelled (k.Name (codes "r7rs") false))) g.none)))) (g.part (g.list (p 52 98 156 263) (g.part (g.atom (p 53 53 157 170) (g.spelled (k.Name (codes "define-syntax") false))) (g.part (g.atom (p 54 54 171 174) (g.spelled (k.Name (codes "tmp") false))) (g.part (g.list (p 55 97 175 262) (g.part (g.atom (p 56 56 176 188) (g.spelled (k.Name (codes "syntax-rules") false))) (g.part (g.list (p 57 58 189 191) g.none) (g.part (g.list (p 59 77 192 219) (g.part (g.list (p 60 62 193 197) (g.part (g.atom (p 61 61 194 195) (g.spelled (k.Name (codes "_") false))) g.none)) (g.part (g.list (p 63 76 198 218) (g.part (g.atom (p 64 64 199 201) (g.spelled (k.Name (codes "if") false))) (g.part (g.list (p 65 69 202 208) (g.part (g.atom (p 65 65 202 203) (g.implied k.Quote)) (g.part (g.list (p 66 69 203 208) (g.part (g.atom (p 67 67 204 205) (g.spelled (k.Name (codes "a") false))) (g.part (g.atom (p 68 68 206 207) (g.spelled (k.Name (codes "k") false))) g.none))) g.none))) (g.part (g.list (p 70 74 209 215) (g.part (g.atom (p 70 70 209 210) (g.implied k.Quote)) (g.part (g.list (p 71 74 210 215) (g.part (g.atom (p 72 72 211 212) (g.spelled (k.Name (codes "n") false))) (g.part (g.atom (p 73 73 213 214) (g.spelled (k.Name (codes "a") false))) g.none))) g.none))) (g.part (g.atom (p 75 75 216 217) (g.spelled (k.Name (codes "a") false))) g.none))))) g.none))) (g.part (g.list (p 78 96 220 261) (g.part (g.list (p 79 83 221 231) (g.part (g.atom (p 80 80 222 223) (g.spelled (k.Name (codes "_") false))) (g.tail (g.atom (p 82 82 226 230) (g.spelled (k.Name (codes "rest") false)))))) (g.part (g.list (p 84 95 232 260) (g.part (g.atom (p 85 85 233 239) (g.spelled (k.Name (codes "lambda") false))) (g.part (g.list (p 86 88 240 243) (g.part (g.atom (p 87 87 241 242) (g.spelled (k.Name (codes "m") false))) g.none)) (g.part (g.list (p 89 93 244 257) (g.part (g.atom (p 90 90 245 251) (g.spelled (k.Name (codes "define") false))) (g.part (g.atom (p 91 91 252 253) (g.spelled (k.Name (codes "t") false))) (g.part (g.atom (p 92 92 254 256) (g.spelled (k.Name (codes "if") false))) g.none)))) (g.part (g.atom (p 94 94 258 259) (g.spelled (k.Name (codes "x") false))) g.none))))) g.none))) g.none))))) g.none)))) g.none))) (g.part (g.list (p 100 107 265 284) (g.part (g.atom (p 101 101 266 270) (g.spelled (k.Name (codes "else") false))) (g.part (g.list (p 102 106 271 283) (g.part (g.atom (p 103 103 272 278) (g.spelled (k.Name (codes "define") false))) (g.part (g.atom (p 104 104 279 280) (g.spelled (k.Name (codes "q") false))) (g.part (g.atom (p 105 105 281 282) (g.spelled (k.Name (codes "a") false))) g.none)))) g.none))) g.none)))) (g.part (g.list (p 109 111 286 291) (g.part (g.atom (p 110 110 287 290) (g.spelled (k.Name (codes "tmp") false))) g.none)) g.none)))))) (g.part (g.atom (p 113 113 295 296) (g.spelled (k.Name (codes "b") false))) (g.part (g.list (p 114 116 299 302) (g.part (g.atom (p 115 115 300 301) (g.spelled (k.Name (codes "m") false))) g.none)) g.none))))) g.none))))))) ∷ [])) ∷ (Some (((g.list (p 0 19 0 51) (g.part (g.atom (p 1 1 1 7) (g.spelled (k.Name (codes "import") false))) (g.part (g.list (p 2 5 8 21) (g.part (g.atom (p 3 3 9 15) (g.spelled (k.Name (codes "scheme") false))) (g.part (g.atom (p 4 4 16 20) (g.spelled (k.Name (codes "base") false))) g.none))) (g.part (g.list (p 6 8 22 26) (g.part (g.atom (p 7 7 23 25) (g.spelled (k.Name (codes "l0") false))) g.none)) (g.part (g.list (p 9 15 27 45) (g.part (g.atom (p 10 10 28 34) (g.spelled (k.Name (codes "except") false))) (g.part (g.list (p 11 13 35 39) (g.part (g.atom (p 12 12 36 38) (g.spelled (k.Name (codes "l1") false))) g.none)) (g.part (g.atom (p 14 14 40 44) (g.spelled (k.Name (codes "else") false))) g.none)))) (g.part (g.list (p 16 18 46 50) (g.part (g.atom (p 17 17 47 49) (g.spelled (k.Name (codes "l2") false))) g.none)) g.none))))))) ∷ ((g.list (p 20 75 52 169) (g.part (g.atom (p 21 21 53 56) (g.spelled (k.Name (codes "let") false))) (g.part (g.list (p 22 23 57 59) g.none) (g.part (g.list (p 24 46 60 103) (g.part (g.list (p 25 28 61 66) (g.part (g.atom (p 26 26 62 63) (g.spelled (k.Name (codes "g") false))) (g.part (g.atom (p 27 27 64 65) (g.spelled (k.Name (codes "y") false))) g.none))) (g.part (g.list (p 29 44 67 98) (g.part (g.atom (p 30 30 68 74) (g.spelled (k.Name (codes "letrec") false))) (g.part (g.list (p 31 42 75 95) (g.part (g.list (p 32 41 76 94) (g.part (g.atom (p 33 33 77 78) (g.spelled (k.Name (codes "a") false))) (g.part (g.list (p 34 40 79 93) (g.part (g.atom (p 35 35 80 86) (g.spelled (k.Name (codes "lambda") false))) (g.part (g.list (p 36 38 87 90) (g.part (g.atom (p 37 37 88 89) (g.spelled (k.Name (codes "k") false))) g.none)) (g.part (g.atom (p 39 39 91 92) (g.spelled (k.Name (codes "m") false))) g.none)))) g.none))) g.none)) (g.part (g.atom (p 43 43 96 97) (g.spelled (k.Name (codes "m") false))) g.none)))) (g.part (g.atom (p 45 45 99 102) (g.spelled (k.Name (codes "x") true))) g.none)))) (g.part (g.list (p 47 52 104 119) (g.part (g.atom (p 48 48 105 111) (g.spelled (k.Name (codes "define") false))) (g.part (g.atom (p 49 49 112 113) (g.spelled (k.Name (codes "b") false))) (g.part (g.list (p 50 51 114 118) (g.part (g.atom (p 50 50 114 115) (g.implied k.Quote)) (g.part (g.atom (p 51 51 115 118) (g.spelled (k.Character 99))) g.none))) g.none)))) (g.part (g.list (p 53 61 120 140) (g.part (g.atom (p 54 54 121 127) (g.spelled (k.Name (codes "define") false))) (g.part (g.list (p 55 58 128 133) (g.part (g.atom (p 56 56 129 130) (g.spelled (k.Name (codes "k") false))) (g.part (g.atom (p 57 57 131 132) (g.spelled (k.Name (codes "b") false))) g.none))) (g.part (g.atom (p 59 59 134 135) (g.spelled (k.Name (codes "f") false))) (g.part (g.atom (p 60 60 136 139) (g.spelled (k.Name (codes "tmp") false))) g.none))))) (g.part (g.list (p 62 74 141 168) (g.part (g.atom (p 63 63 142 147) (g.spelled (k.Name (codes "begin") false))) (g.part (g.list (p 64 68 148 157) (g.part (g.atom (p 65 65 149 150) (g.spelled (k.Name (codes "x") false))) (g.part (g.atom (p 66 66 151 152) (g.spelled (k.Name (codes "f") false))) (g.part (g.atom (p 67 67 153 156) (g.spelled (k.Name (codes "tmp") false))) g.none)))) (g.part (g.list (p 69 73 158 167) (g.part (g.atom (p 70 70 159 160) (g.spelled (k.Name (codes "g") false))) (g.part (g.atom (p 71 71 161 164) (g.spelled (k.Character 99))) (g.part (g.atom (p 72 72 165 166) (g.spelled (k.Name (codes "g") false))) g.none)))) g.none)))) g.none)))))))) ∷ ((g.atom (p 76 76 170 171) (g.spelled (k.Name (codes "k") false)))) ∷ ((g.atom (p 77 77 172 173) (g.spelled (k.Name (codes "a") false)))) ∷ ((g.list (p 78 82 174 199) (g.part (g.atom (p 79 79 175 181) (g.spelled (k.Name (codes "define") false))) (g.part (g.atom (p 80 80 182 194) (g.spelled (k.Name (codes "syntax-rules") false))) (g.part (g.atom (p 81 81 195 198) (g.spelled (k.Name (codes "tmp") false))) g.none))))) ∷ ((g.list (p 83 138 200 304) (g.part (g.atom (p 84 84 201 207) (g.spelled (k.Name (codes "define") false))) (g.part (g.list (p 85 88 208 216) (g.part (g.atom (p 86 86 209 213) (g.spelled (k.Name (codes "cond") false))) (g.part (g.atom (p 87 87 214 215) (g.spelled (k.Name (codes "t") false))) g.none))) (g.part (g.list (p 89 99 217 235) (g.part (g.list (p 90 94 218 228) (g.part (g.atom (p 91 91 219 223) (g.spelled (k.Name (codes "set!") false))) (g.part (g.atom (p 92 92 224 225) (g.spelled (k.Name (codes "f") false))) (g.part (g.atom (p 93 93 226 227) (g.spelled (k.Numeral (codes "2")))) g.none)))) (g.part (g.list (p 95 98 229 234) (g.part (g.atom (p 96 96 230 231) (g.spelled (k.Name (codes "q") false))) (g.part (g.atom (p 97 97 232 233) (g.spelled (k.Name (codes "b") false))) g.none))) g.none))) (g.part (g.list (p 100 137 236 303) (g.part (g.atom (p 101 101 237 241) (g.spelled (k.Name (codes "case") false))) (g.part (g.list (p 102 106 242 251) (g.part (g.atom (p 103 103 243 244) (g.spelled (k.Name (codes "t") false))) (g.part (g.atom (p 104 104 245 248) (g.spelled (k.Name (codes "tmp") false))) (g.part (g.atom (p 105 105 249 250) (g.spelled (k.Name (codes "x") false))) g.none)))) (g.part (g.list (p 107 126 252 281) (g.part (g.list (p 108 111 253 258) (g.part (g.atom (p 109 109 254 255) (g.spelled (k.Name (codes "a") false))) (g.part (g.atom (p 110 110 256 257) (g.spelled (k.Name (codes "n") false))) g.none))) (g.part (g.list (p 112 125 259 280) (g.part (g.atom (p 113 113 260 262) (g.spelled (k.Name (codes "do") false))) (g.part (g.list (p 114 120 263 272) (g.part (g.list (p 115 119 264 271) (g.part (g.atom (p 116 116 265 266) (g.spelled (k.Name (codes "m") false))) (g.part (g.atom (p 117 117 267 268) (g.spelled (k.Name (codes "y") false))) (g.part (g.atom (p 118 118 269 270) (g.spelled (k.Name (codes "b") false))) g.none)))) g.none)) (g.part (g.list (p 121 123 273 276) (g.part (g.atom (p 122 122 274 275) (g.spelled (k.Name (codes "f") false))) g.none)) (g.part (g.atom (p 124 124 277 279) (g.spelled (k.Truth true))) g.none))))) g.none))) (g.part (g.list (p 127 136 282 302) (g.part (g.atom (p 128 128 283 287) (g.spelled (k.Name (codes "else") false))) (g.part (g.atom (p 129 129 288 290) (g.spelled (k.Name (codes "=>") false))) (g.part (g.list (p 130 135 291 301) (g.part (g.atom (p 131 131 292 294) (g.spelled (k.Name (codes "if") false))) (g.part (g.atom (p 132 132 295 296) (g.spelled (k.Name (codes "x") false))) (g.part (g.atom (p 133 133 297 298) (g.spelled (k.Name (codes "g") false))) (g.part (g.atom (p 134 134 299 300) (g.spelled (k.Name (codes "k") false))) g.none))))) g.none)))) g.none))))) g.none)))))) ∷ [])) ∷ []) ≡ ((q 0 78 79 103 (codes "unbound a")) ∷ (q 1 105 106 103 (codes "unbound y")) ∷ (q 1 153 154 103 (codes "unbound k")) ∷ (q 1 158 159 103 (codes "unbound x")) ∷ (q 1 179 180 103 (codes "unbound a")) ∷ (q 1 257 258 103 (codes "unbound a")) ∷ (q 1 453 454 103 (codes "unbound t")) ∷ (q 1 464 465 103 (codes "unbound k")) ∷ (q 1 526 527 103 (codes "unbound x")) ∷ (q 1 539 540 103 (codes "unbound q")) ∷ (q 1 541 542 103 (codes "unbound x")) ∷ (q 2 123 124 103 (codes "unbound a")) ∷ (q 2 216 217 103 (codes "unbound a")) ∷ (q 2 295 296 103 (codes "unbound b")) ∷ (q 2 300 301 103 (codes "unbound m")) ∷ (q 3 62 63 103 (codes "unbound g")) ∷ (q 3 64 65 103 (codes "unbound y")) ∷ (q 3 91 92 103 (codes "unbound m")) ∷ (q 3 96 97 103 (codes "unbound m")) ∷ (q 3 99 102 103 (codes "unbound x")) ∷ (q 3 136 139 103 (codes "unbound tmp")) ∷ (q 3 149 150 103 (codes "unbound x")) ∷ (q 3 153 156 103 (codes "unbound tmp")) ∷ (q 3 159 160 103 (codes "unbound g")) ∷ (q 3 165 166 103 (codes "unbound g")) ∷ (q 3 170 171 103 (codes "unbound k")) ∷ (q 3 172 173 103 (codes "unbound a")) ∷ (q 3 182 194 101 (codes "definition hides import syntax-rules")) ∷ (q 3 195 198 103 (codes "unbound tmp")) ∷ (q 3 209 213 101 (codes "definition hides import cond")) ∷ (q 3 230 231 103 (codes "unbound q")) ∷ (q 3 232 233 103 (codes "unbound b")) ∷ (q 3 245 248 103 (codes "unbound tmp")) ∷ (q 3 249 250 103 (codes "unbound x")) ∷ (q 3 267 268 103 (codes "unbound y")) ∷ (q 3 269 270 103 (codes "unbound b")) ∷ (q 3 295 296 103 (codes "unbound x")) ∷ (q 3 297 298 103 (codes "unbound g")) ∷ (q 3 299 300 103 (codes "unbound k")) ∷ [])
 unfolding base_names standard_libraries prelude encode_utf8
 workspaces-13 = refl
 
-pub macros-15 : diagnostic_rows (((s 0 1) ∷ (s 1 7) ∷ (s 8 9) ∷ (s 10 11) ∷ (s 11 12) ∷ (s 12 13) ∷ (s 13 14) ∷ (s 15 16) ∷ (s 16 17) ∷ (s 17 22) ∷ (s 22 23) ∷ (s 24 26) ∷ (s 26 27) ∷ (s 27 31) ∷ (s 32 33) ∷ (s 34 35) ∷ (s 35 36) ∷ (s 37 38) ∷ (s 39 40) ∷ (s 40 41) ∷ (s 42 43) ∷ (s 43 44) ∷ (s 44 46) ∷ (s 47 48) ∷ (s 49 50) ∷ (s 51 52) ∷ (s 52 53) ∷ (s 53 54) ∷ (s 54 55) ∷ (s 55 56) ∷ (s 57 58) ∷ (s 58 59) ∷ (s 59 61) ∷ (s 62 63) ∷ (s 63 69) ∷ (s 70 71) ∷ (s 71 75) ∷ (s 76 77) ∷ (s 78 79) ∷ (s 79 80) ∷ (s 81 82) ∷ (s 82 95) ∷ (s 96 97) ∷ (s 98 99) ∷ (s 99 111) ∷ (s 112 113) ∷ (s 113 114) ∷ (s 114 115) ∷ (s 116 117) ∷ (s 117 118) ∷ (s 118 119) ∷ (s 120 124) ∷ (s 125 126) ∷ (s 126 127) ∷ (s 128 129) ∷ (s 130 133) ∷ (s 133 134) ∷ (s 135 138) ∷ (s 139 140) ∷ (s 140 141) ∷ (s 142 143) ∷ (s 143 147) ∷ (s 148 149) ∷ (s 150 153) ∷ (s 154 158) ∷ (s 158 159) ∷ (s 159 160) ∷ (s 160 161) ∷ (s 161 162) ∷ (s 163 164) ∷ (s 165 166) ∷ (s 166 167) ∷ (s 168 169) ∷ (s 169 175) ∷ (s 176 177) ∷ (s 178 179) ∷ (s 180 183) ∷ (s 183 184) ∷ (s 184 185) ∷ (s 186 187) ∷ (s 188 189) ∷ (s 189 194) ∷ (s 195 196) ∷ (s 197 198) ∷ (s 198 199) ∷ (s 199 200) ∷ (s 200 201) ∷ []) ∷ []) ((Some (((g.list (p 0 29 0 56) (g.part (g.atom (p 1 1 1 7) (k.Atomic (k.Name (codes "define") false))) (g.part (g.atom (p 2 2 8 9) (k.Atomic (k.Name (codes "t") false))) (g.part (g.list (p 3 28 10 55) (g.part (g.list (p 4 19 11 41) (g.part (g.atom (p 4 4 11 12) (k.Marked k.Quasi)) (g.part (g.list (p 5 19 12 41) (g.part (g.atom (p 6 6 13 14) (k.Atomic (k.Name (codes "f") false))) (g.part (g.list (p 7 10 15 23) (g.part (g.atom (p 7 7 15 16) (k.Marked k.Unquote)) (g.part (g.list (p 8 10 16 23) (g.part (g.atom (p 9 9 17 22) (k.Atomic (k.Name (codes "a b") true))) g.none)) g.none))) (g.part (g.list (p 11 16 24 36) (g.part (g.atom (p 11 11 24 26) (k.Marked k.Splice)) (g.part (g.list (p 12 16 26 36) (g.part (g.atom (p 13 13 27 31) (k.Atomic (k.Name (codes "set!") false))) (g.part (g.atom (p 14 14 32 33) (k.Atomic (k.Name (codes "a") false))) (g.part (g.atom (p 15 15 34 35) (k.Atomic (k.Name (codes "k") false))) g.none)))) g.none))) (g.tail (g.atom (p 18 18 39 40) (k.Atomic (k.Name (codes "n") false)))))))) g.none))) (g.part (g.list (p 20 27 42 54) (g.part (g.list (p 21 26 43 53) (g.part (g.atom (p 22 22 44 46) (k.Atomic (k.Name (codes "if") false))) (g.part (g.atom (p 23 23 47 48) (k.Atomic (k.Name (codes "b") false))) (g.part (g.atom (p 24 24 49 50) (k.Atomic (k.Numeral (codes "2")))) (g.part (g.atom (p 25 25 51 52) (k.Atomic (k.Numeral (codes "2")))) g.none))))) g.none)) g.none))) g.none))))) ∷ ((g.list (p 30 86 57 201) (g.part (g.list (p 31 78 58 185) (g.part (g.atom (p 32 32 59 61) (k.Atomic (k.Name (codes "if") false))) (g.part (g.list (p 33 71 62 167) (g.part (g.atom (p 34 34 63 69) (k.Atomic (k.Name (codes "lambda") false))) (g.part (g.list (p 35 39 70 80) (g.part (g.atom (p 36 36 71 75) (k.Atomic (k.Name (codes "list") false))) (g.tail (g.atom (p 38 38 78 79) (k.Atomic (k.Name (codes "m") false)))))) (g.part (g.list (p 40 68 81 162) (g.part (g.atom (p 41 41 82 95) (k.Atomic (k.Name (codes "define-syntax") false))) (g.part (g.atom (p 42 42 96 97) (k.Atomic (k.Name (codes "q") false))) (g.part (g.list (p 43 67 98 161) (g.part (g.atom (p 44 44 99 111) (k.Atomic (k.Name (codes "syntax-rules") false))) (g.part (g.list (p 45 47 112 115) (g.part (g.atom (p 46 46 113 114) (k.Atomic (k.Name (codes "k") false))) g.none)) (g.part (g.list (p 48 66 116 160) (g.part (g.list (p 49 59 117 141) (g.part (g.atom (p 50 50 118 119) (k.Atomic (k.Name (codes "_") false))) (g.part (g.atom (p 51 51 120 124) (k.Atomic (k.Name (codes "cons") false))) (g.part (g.list (p 52 56 125 134) (g.part (g.atom (p 53 53 126 127) (k.Atomic (k.Name (codes "q") false))) (g.part (g.atom (p 54 54 128 129) (k.Atomic (k.Name (codes "m") false))) (g.part (g.atom (p 55 55 130 133) (k.Atomic (k.Name (codes "...") false))) g.none)))) (g.part (g.atom (p 57 57 135 138) (k.Atomic (k.Name (codes "...") false))) (g.part (g.atom (p 58 58 139 140) (k.Atomic (k.Name (codes "k") false))) g.none)))))) (g.part (g.list (p 60 65 142 159) (g.part (g.atom (p 61 61 143 147) (k.Atomic (k.Name (codes "list") false))) (g.part (g.atom (p 62 62 148 149) (k.Atomic (k.Name (codes "q") false))) (g.part (g.atom (p 63 63 150 153) (k.Atomic (k.Name (codes "...") false))) (g.part (g.atom (p 64 64 154 158) (k.Atomic (k.Name (codes "cons") false))) g.none))))) g.none))) g.none)))) g.none)))) (g.part (g.atom (p 69 69 163 164) (k.Atomic (k.Name (codes "g") false))) (g.part (g.atom (p 70 70 165 166) (k.Atomic (k.Name (codes "k") false))) g.none)))))) (g.part (g.list (p 72 77 168 184) (g.part (g.atom (p 73 73 169 175) (k.Atomic (k.Name (codes "lambda") false))) (g.part (g.atom (p 74 74 176 177) (k.Atomic (k.Name (codes "m") false))) (g.part (g.atom (p 75 75 178 179) (k.Atomic (k.Name (codes "t") false))) (g.part (g.atom (p 76 76 180 183) (k.Atomic (k.Character 99))) g.none))))) g.none)))) (g.part (g.atom (p 79 79 186 187) (k.Atomic (k.Name (codes "a") false))) (g.part (g.list (p 80 85 188 200) (g.part (g.atom (p 81 81 189 194) (k.Atomic (k.Name (codes "begin") false))) (g.part (g.atom (p 82 82 195 196) (k.Atomic (k.Name (codes "b") false))) (g.part (g.list (p 83 84 197 199) (g.part (g.atom (p 83 83 197 198) (k.Marked k.Quote)) (g.part (g.atom (p 84 84 198 199) (k.Atomic (k.Numeral (codes "1")))) g.none))) g.none)))) g.none))))) ∷ [])) ∷ []) ≡ ((q 0 0 1 104 (codes "no import, (scheme base) is used")) ∷ (q 0 17 22 103 (codes "unbound a b")) ∷ (q 0 32 33 103 (codes "unbound a")) ∷ (q 0 34 35 103 (codes "unbound k")) ∷ (q 0 47 48 103 (codes "unbound b")) ∷ (q 0 163 164 103 (codes "unbound g")) ∷ (q 0 165 166 103 (codes "unbound k")) ∷ (q 0 186 187 103 (codes "unbound a")) ∷ (q 0 195 196 103 (codes "unbound b")) ∷ [])
+pub macros-15 : diagnostic_rows (((s 0 1) ∷ (s 1 7) ∷ (s 8 9) ∷ (s 10 11) ∷ (s 11 12) ∷ (s 12 13) ∷ (s 13 14) ∷ (s 15 16) ∷ (s 16 17) ∷ (s 17 22) ∷ (s 22 23) ∷ (s 24 26) ∷ (s 26 27) ∷ (s 27 31) ∷ (s 32 33) ∷ (s 34 35) ∷ (s 35 36) ∷ (s 37 38) ∷ (s 39 40) ∷ (s 40 41) ∷ (s 42 43) ∷ (s 43 44) ∷ (s 44 46) ∷ (s 47 48) ∷ (s 49 50) ∷ (s 51 52) ∷ (s 52 53) ∷ (s 53 54) ∷ (s 54 55) ∷ (s 55 56) ∷ (s 57 58) ∷ (s 58 59) ∷ (s 59 61) ∷ (s 62 63) ∷ (s 63 69) ∷ (s 70 71) ∷ (s 71 75) ∷ (s 76 77) ∷ (s 78 79) ∷ (s 79 80) ∷ (s 81 82) ∷ (s 82 95) ∷ (s 96 97) ∷ (s 98 99) ∷ (s 99 111) ∷ (s 112 113) ∷ (s 113 114) ∷ (s 114 115) ∷ (s 116 117) ∷ (s 117 118) ∷ (s 118 119) ∷ (s 120 124) ∷ (s 125 126) ∷ (s 126 127) ∷ (s 128 129) ∷ (s 130 133) ∷ (s 133 134) ∷ (s 135 138) ∷ (s 139 140) ∷ (s 140 141) ∷ (s 142 143) ∷ (s 143 147) ∷ (s 148 149) ∷ (s 150 153) ∷ (s 154 158) ∷ (s 158 159) ∷ (s 159 160) ∷ (s 160 161) ∷ (s 161 162) ∷ (s 163 164) ∷ (s 165 166) ∷ (s 166 167) ∷ (s 168 169) ∷ (s 169 175) ∷ (s 176 177) ∷ (s 178 179) ∷ (s 180 183) ∷ (s 183 184) ∷ (s 184 185) ∷ (s 186 187) ∷ (s 188 189) ∷ (s 189 194) ∷ (s 195 196) ∷ (s 197 198) ∷ (s 198 199) ∷ (s 199 200) ∷ (s 200 201) ∷ []) ∷ []) ((Some (((g.list (p 0 29 0 56) (g.part (g.atom (p 1 1 1 7) (g.spelled (k.Name (codes "define") false))) (g.part (g.atom (p 2 2 8 9) (g.spelled (k.Name (codes "t") false))) (g.part (g.list (p 3 28 10 55) (g.part (g.list (p 4 19 11 41) (g.part (g.atom (p 4 4 11 12) (g.implied k.Quasi)) (g.part (g.list (p 5 19 12 41) (g.part (g.atom (p 6 6 13 14) (g.spelled (k.Name (codes "f") false))) (g.part (g.list (p 7 10 15 23) (g.part (g.atom (p 7 7 15 16) (g.implied k.Unquote)) (g.part (g.list (p 8 10 16 23) (g.part (g.atom (p 9 9 17 22) (g.spelled (k.Name (codes "a b") true))) g.none)) g.none))) (g.part (g.list (p 11 16 24 36) (g.part (g.atom (p 11 11 24 26) (g.implied k.Splice)) (g.part (g.list (p 12 16 26 36) (g.part (g.atom (p 13 13 27 31) (g.spelled (k.Name (codes "set!") false))) (g.part (g.atom (p 14 14 32 33) (g.spelled (k.Name (codes "a") false))) (g.part (g.atom (p 15 15 34 35) (g.spelled (k.Name (codes "k") false))) g.none)))) g.none))) (g.tail (g.atom (p 18 18 39 40) (g.spelled (k.Name (codes "n") false)))))))) g.none))) (g.part (g.list (p 20 27 42 54) (g.part (g.list (p 21 26 43 53) (g.part (g.atom (p 22 22 44 46) (g.spelled (k.Name (codes "if") false))) (g.part (g.atom (p 23 23 47 48) (g.spelled (k.Name (codes "b") false))) (g.part (g.atom (p 24 24 49 50) (g.spelled (k.Numeral (codes "2")))) (g.part (g.atom (p 25 25 51 52) (g.spelled (k.Numeral (codes "2")))) g.none))))) g.none)) g.none))) g.none))))) ∷ ((g.list (p 30 86 57 201) (g.part (g.list (p 31 78 58 185) (g.part (g.atom (p 32 32 59 61) (g.spelled (k.Name (codes "if") false))) (g.part (g.list (p 33 71 62 167) (g.part (g.atom (p 34 34 63 69) (g.spelled (k.Name (codes "lambda") false))) (g.part (g.list (p 35 39 70 80) (g.part (g.atom (p 36 36 71 75) (g.spelled (k.Name (codes "list") false))) (g.tail (g.atom (p 38 38 78 79) (g.spelled (k.Name (codes "m") false)))))) (g.part (g.list (p 40 68 81 162) (g.part (g.atom (p 41 41 82 95) (g.spelled (k.Name (codes "define-syntax") false))) (g.part (g.atom (p 42 42 96 97) (g.spelled (k.Name (codes "q") false))) (g.part (g.list (p 43 67 98 161) (g.part (g.atom (p 44 44 99 111) (g.spelled (k.Name (codes "syntax-rules") false))) (g.part (g.list (p 45 47 112 115) (g.part (g.atom (p 46 46 113 114) (g.spelled (k.Name (codes "k") false))) g.none)) (g.part (g.list (p 48 66 116 160) (g.part (g.list (p 49 59 117 141) (g.part (g.atom (p 50 50 118 119) (g.spelled (k.Name (codes "_") false))) (g.part (g.atom (p 51 51 120 124) (g.spelled (k.Name (codes "cons") false))) (g.part (g.list (p 52 56 125 134) (g.part (g.atom (p 53 53 126 127) (g.spelled (k.Name (codes "q") false))) (g.part (g.atom (p 54 54 128 129) (g.spelled (k.Name (codes "m") false))) (g.part (g.atom (p 55 55 130 133) (g.spelled (k.Name (codes "...") false))) g.none)))) (g.part (g.atom (p 57 57 135 138) (g.spelled (k.Name (codes "...") false))) (g.part (g.atom (p 58 58 139 140) (g.spelled (k.Name (codes "k") false))) g.none)))))) (g.part (g.list (p 60 65 142 159) (g.part (g.atom (p 61 61 143 147) (g.spelled (k.Name (codes "list") false))) (g.part (g.atom (p 62 62 148 149) (g.spelled (k.Name (codes "q") false))) (g.part (g.atom (p 63 63 150 153) (g.spelled (k.Name (codes "...") false))) (g.part (g.atom (p 64 64 154 158) (g.spelled (k.Name (codes "cons") false))) g.none))))) g.none))) g.none)))) g.none)))) (g.part (g.atom (p 69 69 163 164) (g.spelled (k.Name (codes "g") false))) (g.part (g.atom (p 70 70 165 166) (g.spelled (k.Name (codes "k") false))) g.none)))))) (g.part (g.list (p 72 77 168 184) (g.part (g.atom (p 73 73 169 175) (g.spelled (k.Name (codes "lambda") false))) (g.part (g.atom (p 74 74 176 177) (g.spelled (k.Name (codes "m") false))) (g.part (g.atom (p 75 75 178 179) (g.spelled (k.Name (codes "t") false))) (g.part (g.atom (p 76 76 180 183) (g.spelled (k.Character 99))) g.none))))) g.none)))) (g.part (g.atom (p 79 79 186 187) (g.spelled (k.Name (codes "a") false))) (g.part (g.list (p 80 85 188 200) (g.part (g.atom (p 81 81 189 194) (g.spelled (k.Name (codes "begin") false))) (g.part (g.atom (p 82 82 195 196) (g.spelled (k.Name (codes "b") false))) (g.part (g.list (p 83 84 197 199) (g.part (g.atom (p 83 83 197 198) (g.implied k.Quote)) (g.part (g.atom (p 84 84 198 199) (g.spelled (k.Numeral (codes "1")))) g.none))) g.none)))) g.none))))) ∷ [])) ∷ []) ≡ ((q 0 0 1 104 (codes "no import, (scheme base) is used")) ∷ (q 0 17 22 103 (codes "unbound a b")) ∷ (q 0 32 33 103 (codes "unbound a")) ∷ (q 0 34 35 103 (codes "unbound k")) ∷ (q 0 47 48 103 (codes "unbound b")) ∷ (q 0 163 164 103 (codes "unbound g")) ∷ (q 0 165 166 103 (codes "unbound k")) ∷ (q 0 186 187 103 (codes "unbound a")) ∷ (q 0 195 196 103 (codes "unbound b")) ∷ [])
 unfolding base_names standard_libraries prelude encode_utf8
 macros-15 = refl
 
-pub workspaces-24 : diagnostic_rows (((s 0 1) ∷ (s 1 2) ∷ (s 2 3) ∷ (s 3 4) ∷ (s 4 5) ∷ (s 6 7) ∷ (s 7 10) ∷ (s 11 13) ∷ (s 13 14) ∷ (s 14 15) ∷ (s 15 16) ∷ (s 17 18) ∷ (s 18 19) ∷ (s 19 25) ∷ (s 26 27) ∷ (s 27 28) ∷ (s 28 29) ∷ (s 30 31) ∷ (s 31 37) ∷ (s 38 39) ∷ (s 39 40) ∷ (s 40 41) ∷ (s 42 43) ∷ (s 43 44) ∷ (s 44 45) ∷ (s 45 46) ∷ (s 47 49) ∷ (s 49 50) ∷ (s 51 53) ∷ (s 53 54) ∷ (s 54 55) ∷ (s 56 59) ∷ (s 59 60) ∷ (s 61 62) ∷ (s 63 64) ∷ (s 64 65) ∷ (s 66 67) ∷ (s 68 69) ∷ (s 69 70) ∷ (s 71 72) ∷ []) ∷ []) ((Some (((g.list (p 0 38 0 70) (g.part (g.atom (p 0 0 0 1) (k.Marked k.Quasi)) (g.part (g.list (p 1 38 1 70) (g.part (g.list (p 2 4 2 5) (g.part (g.atom (p 3 3 3 4) (k.Atomic (k.Name (codes "q") false))) g.none)) (g.part (g.list (p 5 6 6 10) (g.part (g.atom (p 5 5 6 7) (k.Marked k.Unquote)) (g.part (g.atom (p 6 6 7 10) (k.Atomic (k.Name (codes "tmp") false))) g.none))) (g.part (g.list (p 7 35 11 65) (g.part (g.atom (p 7 7 11 13) (k.Marked k.Splice)) (g.part (g.list (p 8 35 13 65) (g.part (g.atom (p 8 8 13 14) (k.Marked k.Quasi)) (g.part (g.list (p 9 35 14 65) (g.part (g.atom (p 10 10 15 16) (k.Atomic (k.Name (codes "q") false))) (g.part (g.list (p 11 27 17 50) (g.part (g.atom (p 11 11 17 18) (k.Marked k.Unquote)) (g.part (g.list (p 12 27 18 50) (g.part (g.atom (p 13 13 19 25) (k.Atomic (k.Name (codes "letrec") false))) (g.part (g.list (p 14 25 26 46) (g.part (g.list (p 15 24 27 45) (g.part (g.atom (p 16 16 28 29) (k.Atomic (k.Name (codes "f") false))) (g.part (g.list (p 17 23 30 44) (g.part (g.atom (p 18 18 31 37) (k.Atomic (k.Name (codes "lambda") false))) (g.part (g.list (p 19 21 38 41) (g.part (g.atom (p 20 20 39 40) (k.Atomic (k.Name (codes "b") false))) g.none)) (g.part (g.atom (p 22 22 42 43) (k.Atomic (k.Name (codes "a") false))) g.none)))) g.none))) g.none)) (g.part (g.atom (p 26 26 47 49) (k.Atomic (k.Truth true))) g.none)))) g.none))) (g.part (g.list (p 28 32 51 60) (g.part (g.atom (p 28 28 51 53) (k.Marked k.Splice)) (g.part (g.list (p 29 32 53 60) (g.part (g.atom (p 30 30 54 55) (k.Atomic (k.Name (codes "x") false))) (g.part (g.atom (p 31 31 56 59) (k.Atomic (k.Quoted (codes "s")))) g.none))) g.none))) (g.tail (g.atom (p 34 34 63 64) (k.Atomic (k.Name (codes "t") false)))))))) g.none))) g.none))) (g.tail (g.atom (p 37 37 68 69) (k.Atomic (k.Name (codes "t") false)))))))) g.none)))) ∷ ((g.atom (p 39 39 71 72) (k.Atomic (k.Name (codes "x") false)))) ∷ [])) ∷ []) ≡ ((q 0 0 1 104 (codes "no import, (scheme base) is used")) ∷ (q 0 7 10 103 (codes "unbound tmp")) ∷ (q 0 42 43 103 (codes "unbound a")) ∷ (q 0 54 55 103 (codes "unbound x")) ∷ (q 0 71 72 103 (codes "unbound x")) ∷ [])
+pub workspaces-24 : diagnostic_rows (((s 0 1) ∷ (s 1 2) ∷ (s 2 3) ∷ (s 3 4) ∷ (s 4 5) ∷ (s 6 7) ∷ (s 7 10) ∷ (s 11 13) ∷ (s 13 14) ∷ (s 14 15) ∷ (s 15 16) ∷ (s 17 18) ∷ (s 18 19) ∷ (s 19 25) ∷ (s 26 27) ∷ (s 27 28) ∷ (s 28 29) ∷ (s 30 31) ∷ (s 31 37) ∷ (s 38 39) ∷ (s 39 40) ∷ (s 40 41) ∷ (s 42 43) ∷ (s 43 44) ∷ (s 44 45) ∷ (s 45 46) ∷ (s 47 49) ∷ (s 49 50) ∷ (s 51 53) ∷ (s 53 54) ∷ (s 54 55) ∷ (s 56 59) ∷ (s 59 60) ∷ (s 61 62) ∷ (s 63 64) ∷ (s 64 65) ∷ (s 66 67) ∷ (s 68 69) ∷ (s 69 70) ∷ (s 71 72) ∷ []) ∷ []) ((Some (((g.list (p 0 38 0 70) (g.part (g.atom (p 0 0 0 1) (g.implied k.Quasi)) (g.part (g.list (p 1 38 1 70) (g.part (g.list (p 2 4 2 5) (g.part (g.atom (p 3 3 3 4) (g.spelled (k.Name (codes "q") false))) g.none)) (g.part (g.list (p 5 6 6 10) (g.part (g.atom (p 5 5 6 7) (g.implied k.Unquote)) (g.part (g.atom (p 6 6 7 10) (g.spelled (k.Name (codes "tmp") false))) g.none))) (g.part (g.list (p 7 35 11 65) (g.part (g.atom (p 7 7 11 13) (g.implied k.Splice)) (g.part (g.list (p 8 35 13 65) (g.part (g.atom (p 8 8 13 14) (g.implied k.Quasi)) (g.part (g.list (p 9 35 14 65) (g.part (g.atom (p 10 10 15 16) (g.spelled (k.Name (codes "q") false))) (g.part (g.list (p 11 27 17 50) (g.part (g.atom (p 11 11 17 18) (g.implied k.Unquote)) (g.part (g.list (p 12 27 18 50) (g.part (g.atom (p 13 13 19 25) (g.spelled (k.Name (codes "letrec") false))) (g.part (g.list (p 14 25 26 46) (g.part (g.list (p 15 24 27 45) (g.part (g.atom (p 16 16 28 29) (g.spelled (k.Name (codes "f") false))) (g.part (g.list (p 17 23 30 44) (g.part (g.atom (p 18 18 31 37) (g.spelled (k.Name (codes "lambda") false))) (g.part (g.list (p 19 21 38 41) (g.part (g.atom (p 20 20 39 40) (g.spelled (k.Name (codes "b") false))) g.none)) (g.part (g.atom (p 22 22 42 43) (g.spelled (k.Name (codes "a") false))) g.none)))) g.none))) g.none)) (g.part (g.atom (p 26 26 47 49) (g.spelled (k.Truth true))) g.none)))) g.none))) (g.part (g.list (p 28 32 51 60) (g.part (g.atom (p 28 28 51 53) (g.implied k.Splice)) (g.part (g.list (p 29 32 53 60) (g.part (g.atom (p 30 30 54 55) (g.spelled (k.Name (codes "x") false))) (g.part (g.atom (p 31 31 56 59) (g.spelled (k.Quoted (codes "s")))) g.none))) g.none))) (g.tail (g.atom (p 34 34 63 64) (g.spelled (k.Name (codes "t") false)))))))) g.none))) g.none))) (g.tail (g.atom (p 37 37 68 69) (g.spelled (k.Name (codes "t") false)))))))) g.none)))) ∷ ((g.atom (p 39 39 71 72) (g.spelled (k.Name (codes "x") false)))) ∷ [])) ∷ []) ≡ ((q 0 0 1 104 (codes "no import, (scheme base) is used")) ∷ (q 0 7 10 103 (codes "unbound tmp")) ∷ (q 0 42 43 103 (codes "unbound a")) ∷ (q 0 54 55 103 (codes "unbound x")) ∷ (q 0 71 72 103 (codes "unbound x")) ∷ [])
 unfolding base_names standard_libraries prelude encode_utf8
 workspaces-24 = refl
 
-pub workspaces-45 : diagnostic_rows (((s 0 1) ∷ (s 1 15) ∷ (s 16 17) ∷ (s 17 19) ∷ (s 19 20) ∷ (s 22 23) ∷ (s 23 29) ∷ (s 30 36) ∷ (s 37 41) ∷ (s 42 47) ∷ (s 47 48) ∷ (s 50 51) ∷ (s 51 57) ∷ (s 58 59) ∷ (s 59 65) ∷ (s 66 70) ∷ (s 70 71) ∷ (s 71 72) ∷ (s 74 75) ∷ (s 75 80) ∷ (s 83 84) ∷ (s 84 97) ∷ (s 98 103) ∷ (s 104 105) ∷ (s 105 117) ∷ (s 118 119) ∷ (s 119 120) ∷ (s 121 122) ∷ (s 122 123) ∷ (s 123 124) ∷ (s 125 126) ∷ (s 127 128) ∷ (s 128 132) ∷ (s 133 134) ∷ (s 135 136) ∷ (s 136 137) ∷ (s 137 138) ∷ (s 138 139) ∷ (s 139 140) ∷ (s 143 144) ∷ (s 144 149) ∷ (s 149 150) ∷ (s 153 154) ∷ (s 154 167) ∷ (s 168 169) ∷ (s 169 175) ∷ (s 176 180) ∷ (s 180 181) ∷ (s 182 184) ∷ (s 184 185) ∷ (s 185 186) ∷ (s 186 187) ∷ []) ∷ ((s 0 1) ∷ (s 1 7) ∷ (s 8 9) ∷ (s 9 15) ∷ (s 16 20) ∷ (s 20 21) ∷ (s 22 23) ∷ (s 23 25) ∷ (s 25 26) ∷ (s 26 27) ∷ []) ∷ ((s 0 1) ∷ (s 1 7) ∷ (s 8 9) ∷ (s 9 15) ∷ (s 16 20) ∷ (s 20 21) ∷ (s 22 23) ∷ (s 23 25) ∷ (s 25 26) ∷ (s 27 28) ∷ (s 28 32) ∷ (s 33 34) ∷ (s 34 35) ∷ (s 35 36) ∷ []) ∷ []) ((Some (((g.list (p 0 51 0 187) (g.part (g.atom (p 1 1 1 15) (k.Atomic (k.Name (codes "define-library") false))) (g.part (g.list (p 2 4 16 20) (g.part (g.atom (p 3 3 17 19) (k.Atomic (k.Name (codes "l0") false))) g.none)) (g.part (g.list (p 5 10 22 48) (g.part (g.atom (p 6 6 23 29) (k.Atomic (k.Name (codes "export") false))) (g.part (g.atom (p 7 7 30 36) (k.Atomic (k.Name (codes "define") false))) (g.part (g.atom (p 8 8 37 41) (k.Atomic (k.Name (codes "else") false))) (g.part (g.atom (p 9 9 42 47) (k.Atomic (k.Name (codes "quote") false))) g.none))))) (g.part (g.list (p 11 17 50 72) (g.part (g.atom (p 12 12 51 57) (k.Atomic (k.Name (codes "import") false))) (g.part (g.list (p 13 16 58 71) (g.part (g.atom (p 14 14 59 65) (k.Atomic (k.Name (codes "scheme") false))) (g.part (g.atom (p 15 15 66 70) (k.Atomic (k.Name (codes "base") false))) g.none))) g.none))) (g.part (g.list (p 18 50 74 186) (g.part (g.atom (p 19 19 75 80) (k.Atomic (k.Name (codes "begin") false))) (g.part (g.list (p 20 38 83 140) (g.part (g.atom (p 21 21 84 97) (k.Atomic (k.Name (codes "define-syntax") false))) (g.part (g.atom (p 22 22 98 103) (k.Atomic (k.Name (codes "quote") false))) (g.part (g.list (p 23 37 104 139) (g.part (g.atom (p 24 24 105 117) (k.Atomic (k.Name (codes "syntax-rules") false))) (g.part (g.list (p 25 26 118 120) g.none) (g.part (g.list (p 27 36 121 138) (g.part (g.list (p 28 30 122 126) (g.part (g.atom (p 29 29 123 124) (k.Atomic (k.Name (codes "_") false))) g.none)) (g.part (g.list (p 31 35 127 137) (g.part (g.atom (p 32 32 128 132) (k.Atomic (k.Name (codes "set!") false))) (g.part (g.atom (p 33 33 133 134) (k.Atomic (k.Name (codes "x") false))) (g.part (g.atom (p 34 34 135 136) (k.Atomic (k.Name (codes "t") false))) g.none)))) g.none))) g.none)))) g.none)))) (g.part (g.list (p 39 41 143 150) (g.part (g.atom (p 40 40 144 149) (k.Atomic (k.Name (codes "quote") false))) g.none)) (g.part (g.list (p 42 49 153 185) (g.part (g.atom (p 43 43 154 167) (k.Atomic (k.Name (codes "define-values") false))) (g.part (g.list (p 44 47 168 181) (g.part (g.atom (p 45 45 169 175) (k.Atomic (k.Name (codes "define") false))) (g.part (g.atom (p 46 46 176 180) (k.Atomic (k.Name (codes "else") false))) g.none))) (g.part (g.atom (p 48 48 182 184) (k.Atomic (k.Truth true))) g.none)))) g.none))))) g.none))))))) ∷ [])) ∷ (Some (((g.list (p 0 9 0 27) (g.part (g.atom (p 1 1 1 7) (k.Atomic (k.Name (codes "import") false))) (g.part (g.list (p 2 5 8 21) (g.part (g.atom (p 3 3 9 15) (k.Atomic (k.Name (codes "scheme") false))) (g.part (g.atom (p 4 4 16 20) (k.Atomic (k.Name (codes "base") false))) g.none))) (g.part (g.list (p 6 8 22 26) (g.part (g.atom (p 7 7 23 25) (k.Atomic (k.Name (codes "l0") false))) g.none)) g.none))))) ∷ [])) ∷ (Some (((g.list (p 0 13 0 36) (g.part (g.atom (p 1 1 1 7) (k.Atomic (k.Name (codes "import") false))) (g.part (g.list (p 2 5 8 21) (g.part (g.atom (p 3 3 9 15) (k.Atomic (k.Name (codes "scheme") false))) (g.part (g.atom (p 4 4 16 20) (k.Atomic (k.Name (codes "base") false))) g.none))) (g.part (g.list (p 6 8 22 26) (g.part (g.atom (p 7 7 23 25) (k.Atomic (k.Name (codes "l0") false))) g.none)) (g.part (g.list (p 9 12 27 35) (g.part (g.atom (p 10 10 28 32) (k.Atomic (k.Name (codes "srfi") false))) (g.part (g.atom (p 11 11 33 34) (k.Atomic (k.Numeral (codes "1")))) g.none))) g.none)))))) ∷ [])) ∷ []) ≡ ((q 0 98 103 101 (codes "definition hides import quote")) ∷ (q 0 133 134 103 (codes "unbound x")) ∷ (q 0 135 136 103 (codes "unbound t")) ∷ (q 0 169 175 101 (codes "definition hides import define")) ∷ (q 0 176 180 101 (codes "definition hides import else")) ∷ (q 1 22 26 52 (codes "import clash define")) ∷ (q 1 22 26 52 (codes "import clash else")) ∷ (q 1 22 26 52 (codes "import clash quote")) ∷ (q 2 22 26 52 (codes "import clash define")) ∷ (q 2 22 26 52 (codes "import clash else")) ∷ (q 2 22 26 52 (codes "import clash quote")) ∷ (q 2 27 35 102 (codes "library not known")) ∷ [])
+pub workspaces-45 : diagnostic_rows (((s 0 1) ∷ (s 1 15) ∷ (s 16 17) ∷ (s 17 19) ∷ (s 19 20) ∷ (s 22 23) ∷ (s 23 29) ∷ (s 30 36) ∷ (s 37 41) ∷ (s 42 47) ∷ (s 47 48) ∷ (s 50 51) ∷ (s 51 57) ∷ (s 58 59) ∷ (s 59 65) ∷ (s 66 70) ∷ (s 70 71) ∷ (s 71 72) ∷ (s 74 75) ∷ (s 75 80) ∷ (s 83 84) ∷ (s 84 97) ∷ (s 98 103) ∷ (s 104 105) ∷ (s 105 117) ∷ (s 118 119) ∷ (s 119 120) ∷ (s 121 122) ∷ (s 122 123) ∷ (s 123 124) ∷ (s 125 126) ∷ (s 127 128) ∷ (s 128 132) ∷ (s 133 134) ∷ (s 135 136) ∷ (s 136 137) ∷ (s 137 138) ∷ (s 138 139) ∷ (s 139 140) ∷ (s 143 144) ∷ (s 144 149) ∷ (s 149 150) ∷ (s 153 154) ∷ (s 154 167) ∷ (s 168 169) ∷ (s 169 175) ∷ (s 176 180) ∷ (s 180 181) ∷ (s 182 184) ∷ (s 184 185) ∷ (s 185 186) ∷ (s 186 187) ∷ []) ∷ ((s 0 1) ∷ (s 1 7) ∷ (s 8 9) ∷ (s 9 15) ∷ (s 16 20) ∷ (s 20 21) ∷ (s 22 23) ∷ (s 23 25) ∷ (s 25 26) ∷ (s 26 27) ∷ []) ∷ ((s 0 1) ∷ (s 1 7) ∷ (s 8 9) ∷ (s 9 15) ∷ (s 16 20) ∷ (s 20 21) ∷ (s 22 23) ∷ (s 23 25) ∷ (s 25 26) ∷ (s 27 28) ∷ (s 28 32) ∷ (s 33 34) ∷ (s 34 35) ∷ (s 35 36) ∷ []) ∷ []) ((Some (((g.list (p 0 51 0 187) (g.part (g.atom (p 1 1 1 15) (g.spelled (k.Name (codes "define-library") false))) (g.part (g.list (p 2 4 16 20) (g.part (g.atom (p 3 3 17 19) (g.spelled (k.Name (codes "l0") false))) g.none)) (g.part (g.list (p 5 10 22 48) (g.part (g.atom (p 6 6 23 29) (g.spelled (k.Name (codes "export") false))) (g.part (g.atom (p 7 7 30 36) (g.spelled (k.Name (codes "define") false))) (g.part (g.atom (p 8 8 37 41) (g.spelled (k.Name (codes "else") false))) (g.part (g.atom (p 9 9 42 47) (g.spelled (k.Name (codes "quote") false))) g.none))))) (g.part (g.list (p 11 17 50 72) (g.part (g.atom (p 12 12 51 57) (g.spelled (k.Name (codes "import") false))) (g.part (g.list (p 13 16 58 71) (g.part (g.atom (p 14 14 59 65) (g.spelled (k.Name (codes "scheme") false))) (g.part (g.atom (p 15 15 66 70) (g.spelled (k.Name (codes "base") false))) g.none))) g.none))) (g.part (g.list (p 18 50 74 186) (g.part (g.atom (p 19 19 75 80) (g.spelled (k.Name (codes "begin") false))) (g.part (g.list (p 20 38 83 140) (g.part (g.atom (p 21 21 84 97) (g.spelled (k.Name (codes "define-syntax") false))) (g.part (g.atom (p 22 22 98 103) (g.spelled (k.Name (codes "quote") false))) (g.part (g.list (p 23 37 104 139) (g.part (g.atom (p 24 24 105 117) (g.spelled (k.Name (codes "syntax-rules") false))) (g.part (g.list (p 25 26 118 120) g.none) (g.part (g.list (p 27 36 121 138) (g.part (g.list (p 28 30 122 126) (g.part (g.atom (p 29 29 123 124) (g.spelled (k.Name (codes "_") false))) g.none)) (g.part (g.list (p 31 35 127 137) (g.part (g.atom (p 32 32 128 132) (g.spelled (k.Name (codes "set!") false))) (g.part (g.atom (p 33 33 133 134) (g.spelled (k.Name (codes "x") false))) (g.part (g.atom (p 34 34 135 136) (g.spelled (k.Name (codes "t") false))) g.none)))) g.none))) g.none)))) g.none)))) (g.part (g.list (p 39 41 143 150) (g.part (g.atom (p 40 40 144 149) (g.spelled (k.Name (codes "quote") false))) g.none)) (g.part (g.list (p 42 49 153 185) (g.part (g.atom (p 43 43 154 167) (g.spelled (k.Name (codes "define-values") false))) (g.part (g.list (p 44 47 168 181) (g.part (g.atom (p 45 45 169 175) (g.spelled (k.Name (codes "define") false))) (g.part (g.atom (p 46 46 176 180) (g.spelled (k.Name (codes "else") false))) g.none))) (g.part (g.atom (p 48 48 182 184) (g.spelled (k.Truth true))) g.none)))) g.none))))) g.none))))))) ∷ [])) ∷ (Some (((g.list (p 0 9 0 27) (g.part (g.atom (p 1 1 1 7) (g.spelled (k.Name (codes "import") false))) (g.part (g.list (p 2 5 8 21) (g.part (g.atom (p 3 3 9 15) (g.spelled (k.Name (codes "scheme") false))) (g.part (g.atom (p 4 4 16 20) (g.spelled (k.Name (codes "base") false))) g.none))) (g.part (g.list (p 6 8 22 26) (g.part (g.atom (p 7 7 23 25) (g.spelled (k.Name (codes "l0") false))) g.none)) g.none))))) ∷ [])) ∷ (Some (((g.list (p 0 13 0 36) (g.part (g.atom (p 1 1 1 7) (g.spelled (k.Name (codes "import") false))) (g.part (g.list (p 2 5 8 21) (g.part (g.atom (p 3 3 9 15) (g.spelled (k.Name (codes "scheme") false))) (g.part (g.atom (p 4 4 16 20) (g.spelled (k.Name (codes "base") false))) g.none))) (g.part (g.list (p 6 8 22 26) (g.part (g.atom (p 7 7 23 25) (g.spelled (k.Name (codes "l0") false))) g.none)) (g.part (g.list (p 9 12 27 35) (g.part (g.atom (p 10 10 28 32) (g.spelled (k.Name (codes "srfi") false))) (g.part (g.atom (p 11 11 33 34) (g.spelled (k.Numeral (codes "1")))) g.none))) g.none)))))) ∷ [])) ∷ []) ≡ ((q 0 98 103 101 (codes "definition hides import quote")) ∷ (q 0 133 134 103 (codes "unbound x")) ∷ (q 0 135 136 103 (codes "unbound t")) ∷ (q 0 169 175 101 (codes "definition hides import define")) ∷ (q 0 176 180 101 (codes "definition hides import else")) ∷ (q 1 22 26 52 (codes "import clash define")) ∷ (q 1 22 26 52 (codes "import clash else")) ∷ (q 1 22 26 52 (codes "import clash quote")) ∷ (q 2 22 26 52 (codes "import clash define")) ∷ (q 2 22 26 52 (codes "import clash else")) ∷ (q 2 22 26 52 (codes "import clash quote")) ∷ (q 2 27 35 102 (codes "library not known")) ∷ [])
 unfolding base_names standard_libraries prelude encode_utf8
 workspaces-45 = refl
 
-pub workspaces-48 : diagnostic_rows (((s 0 1) ∷ (s 1 15) ∷ (s 16 17) ∷ (s 17 19) ∷ (s 19 20) ∷ (s 22 23) ∷ (s 23 29) ∷ (s 30 31) ∷ (s 31 37) ∷ (s 38 39) ∷ (s 40 41) ∷ (s 41 42) ∷ (s 42 43) ∷ (s 45 46) ∷ (s 46 52) ∷ (s 53 54) ∷ (s 54 60) ∷ (s 61 65) ∷ (s 65 66) ∷ (s 66 67) ∷ (s 69 70) ∷ (s 70 75) ∷ (s 78 79) ∷ (s 79 84) ∷ (s 85 86) ∷ (s 87 88) ∷ (s 88 90) ∷ (s 91 92) ∷ (s 93 94) ∷ (s 95 96) ∷ (s 96 97) ∷ (s 97 98) ∷ (s 101 102) ∷ (s 102 108) ∷ (s 109 110) ∷ (s 111 112) ∷ (s 112 116) ∷ (s 117 118) ∷ (s 119 120) ∷ (s 120 127) ∷ (s 127 128) ∷ (s 128 129) ∷ (s 132 133) ∷ (s 133 139) ∷ (s 140 141) ∷ (s 141 142) ∷ (s 143 144) ∷ (s 144 145) ∷ (s 146 147) ∷ (s 147 153) ∷ (s 154 155) ∷ (s 156 157) ∷ (s 157 161) ∷ (s 162 163) ∷ (s 163 164) ∷ (s 165 168) ∷ (s 168 169) ∷ (s 170 171) ∷ (s 171 172) ∷ (s 173 175) ∷ (s 176 177) ∷ (s 177 178) ∷ (s 179 180) ∷ (s 180 184) ∷ (s 185 188) ∷ (s 188 189) ∷ (s 189 190) ∷ (s 190 191) ∷ (s 192 193) ∷ (s 193 194) ∷ (s 194 195) ∷ (s 195 196) ∷ []) ∷ ((s 0 1) ∷ (s 1 15) ∷ (s 16 17) ∷ (s 17 19) ∷ (s 19 20) ∷ (s 22 23) ∷ (s 23 29) ∷ (s 30 31) ∷ (s 33 34) ∷ (s 34 40) ∷ (s 41 42) ∷ (s 42 48) ∷ (s 49 53) ∷ (s 53 54) ∷ (s 55 56) ∷ (s 56 62) ∷ (s 63 64) ∷ (s 64 66) ∷ (s 66 67) ∷ (s 68 69) ∷ (s 69 70) ∷ (s 70 71) ∷ (s 73 74) ∷ (s 74 79) ∷ (s 82 83) ∷ (s 83 84) ∷ (s 84 85) ∷ (s 86 87) ∷ (s 88 89) ∷ (s 89 90) ∷ (s 90 91) ∷ (s 94 95) ∷ (s 95 96) ∷ (s 96 97) ∷ []) ∷ ((s 0 1) ∷ (s 1 7) ∷ (s 8 9) ∷ (s 9 15) ∷ (s 16 20) ∷ (s 20 21) ∷ (s 22 23) ∷ (s 23 29) ∷ (s 30 31) ∷ (s 31 33) ∷ (s 33 34) ∷ (s 35 36) ∷ (s 36 37) ∷ (s 38 39) ∷ (s 39 40) ∷ (s 40 41) ∷ (s 42 43) ∷ (s 43 45) ∷ (s 45 46) ∷ (s 46 47) ∷ (s 48 49) ∷ (s 50 51) ∷ []) ∷ []) ((Some (((g.list (p 0 71 0 196) (g.part (g.atom (p 1 1 1 15) (k.Atomic (k.Name (codes "define-library") false))) (g.part (g.list (p 2 4 16 20) (g.part (g.atom (p 3 3 17 19) (k.Atomic (k.Name (codes "l0") false))) g.none)) (g.part (g.list (p 5 12 22 43) (g.part (g.atom (p 6 6 23 29) (k.Atomic (k.Name (codes "export") false))) (g.part (g.list (p 7 11 30 42) (g.part (g.atom (p 8 8 31 37) (k.Atomic (k.Name (codes "rename") false))) (g.part (g.atom (p 9 9 38 39) (k.Atomic (k.Name (codes "f") false))) (g.part (g.atom (p 10 10 40 41) (k.Atomic (k.Name (codes "b") false))) g.none)))) g.none))) (g.part (g.list (p 13 19 45 67) (g.part (g.atom (p 14 14 46 52) (k.Atomic (k.Name (codes "import") false))) (g.part (g.list (p 15 18 53 66) (g.part (g.atom (p 16 16 54 60) (k.Atomic (k.Name (codes "scheme") false))) (g.part (g.atom (p 17 17 61 65) (k.Atomic (k.Name (codes "base") false))) g.none))) g.none))) (g.part (g.list (p 20 70 69 195) (g.part (g.atom (p 21 21 70 75) (k.Atomic (k.Name (codes "begin") false))) (g.part (g.list (p 22 31 78 98) (g.part (g.atom (p 23 23 79 84) (k.Atomic (k.Name (codes "begin") false))) (g.part (g.atom (p 24 24 85 86) (k.Atomic (k.Numeral (codes "1")))) (g.part (g.list (p 25 30 87 97) (g.part (g.atom (p 26 26 88 90) (k.Atomic (k.Name (codes "if") false))) (g.part (g.atom (p 27 27 91 92) (k.Atomic (k.Name (codes "m") false))) (g.part (g.atom (p 28 28 93 94) (k.Atomic (k.Name (codes "b") false))) (g.part (g.atom (p 29 29 95 96) (k.Atomic (k.Name (codes "q") false))) g.none))))) g.none)))) (g.part (g.list (p 32 41 101 129) (g.part (g.atom (p 33 33 102 108) (k.Atomic (k.Name (codes "define") false))) (g.part (g.atom (p 34 34 109 110) (k.Atomic (k.Name (codes "_") false))) (g.part (g.list (p 35 40 111 128) (g.part (g.atom (p 36 36 112 116) (k.Atomic (k.Name (codes "set!") false))) (g.part (g.atom (p 37 37 117 118) (k.Atomic (k.Name (codes "b") false))) (g.part (g.list (p 38 39 119 127) (g.part (g.atom (p 38 38 119 120) (k.Marked k.Quote)) (g.part (g.atom (p 39 39 120 127) (k.Atomic (k.Name (codes "unquote") false))) g.none))) g.none)))) g.none)))) (g.part (g.list (p 42 69 132 194) (g.part (g.atom (p 43 43 133 139) (k.Atomic (k.Name (codes "define") false))) (g.part (g.list (p 44 47 140 145) (g.part (g.atom (p 45 45 141 142) (k.Atomic (k.Name (codes "f") false))) (g.part (g.atom (p 46 46 143 144) (k.Atomic (k.Name (codes "_") false))) g.none))) (g.part (g.list (p 48 67 146 191) (g.part (g.atom (p 49 49 147 153) (k.Atomic (k.Name (codes "define") false))) (g.part (g.atom (p 50 50 154 155) (k.Atomic (k.Name (codes "a") false))) (g.part (g.list (p 51 66 156 190) (g.part (g.atom (p 52 52 157 161) (k.Atomic (k.Name (codes "cond") false))) (g.part (g.list (p 53 56 162 169) (g.part (g.atom (p 54 54 163 164) (k.Atomic (k.Name (codes "y") false))) (g.part (g.atom (p 55 55 165 168) (k.Atomic (k.Quoted (codes "s")))) g.none))) (g.part (g.list (p 57 61 170 178) (g.part (g.atom (p 58 58 171 172) (k.Atomic (k.Name (codes "q") false))) (g.part (g.atom (p 59 59 173 175) (k.Atomic (k.Name (codes "=>") false))) (g.part (g.atom (p 60 60 176 177) (k.Atomic (k.Name (codes "x") false))) g.none)))) (g.part (g.list (p 62 65 179 189) (g.part (g.atom (p 63 63 180 184) (k.Atomic (k.Name (codes "else") false))) (g.part (g.atom (p 64 64 185 188) (k.Atomic (k.Character 99))) g.none))) g.none))))) g.none)))) (g.part (g.atom (p 68 68 192 193) (k.Atomic (k.Name (codes "x") false))) g.none))))) g.none))))) g.none))))))) ∷ [])) ∷ (Some (((g.list (p 0 33 0 97) (g.part (g.atom (p 1 1 1 15) (k.Atomic (k.Name (codes "define-library") false))) (g.part (g.list (p 2 4 16 20) (g.part (g.atom (p 3 3 17 19) (k.Atomic (k.Name (codes "l1") false))) g.none)) (g.part (g.list (p 5 7 22 31) (g.part (g.atom (p 6 6 23 29) (k.Atomic (k.Name (codes "export") false))) g.none)) (g.part (g.list (p 8 21 33 71) (g.part (g.atom (p 9 9 34 40) (k.Atomic (k.Name (codes "import") false))) (g.part (g.list (p 10 13 41 54) (g.part (g.atom (p 11 11 42 48) (k.Atomic (k.Name (codes "scheme") false))) (g.part (g.atom (p 12 12 49 53) (k.Atomic (k.Name (codes "base") false))) g.none))) (g.part (g.list (p 14 20 55 70) (g.part (g.atom (p 15 15 56 62) (k.Atomic (k.Name (codes "except") false))) (g.part (g.list (p 16 18 63 67) (g.part (g.atom (p 17 17 64 66) (k.Atomic (k.Name (codes "l0") false))) g.none)) (g.part (g.atom (p 19 19 68 69) (k.Atomic (k.Name (codes "b") false))) g.none)))) g.none)))) (g.part (g.list (p 22 32 73 96) (g.part (g.atom (p 23 23 74 79) (k.Atomic (k.Name (codes "begin") false))) (g.part (g.list (p 24 30 82 91) (g.part (g.list (p 25 29 83 90) (g.part (g.atom (p 26 26 84 85) (k.Atomic (k.Name (codes "g") false))) (g.part (g.atom (p 27 27 86 87) (k.Atomic (k.Name (codes "q") false))) (g.part (g.atom (p 28 28 88 89) (k.Atomic (k.Name (codes "t") false))) g.none)))) g.none)) (g.part (g.atom (p 31 31 94 95) (k.Atomic (k.Name (codes "t") false))) g.none)))) g.none))))))) ∷ [])) ∷ (Some (((g.list (p 0 19 0 47) (g.part (g.atom (p 1 1 1 7) (k.Atomic (k.Name (codes "import") false))) (g.part (g.list (p 2 5 8 21) (g.part (g.atom (p 3 3 9 15) (k.Atomic (k.Name (codes "scheme") false))) (g.part (g.atom (p 4 4 16 20) (k.Atomic (k.Name (codes "base") false))) g.none))) (g.part (g.list (p 6 15 22 41) (g.part (g.atom (p 7 7 23 29) (k.Atomic (k.Name (codes "rename") false))) (g.part (g.list (p 8 10 30 34) (g.part (g.atom (p 9 9 31 33) (k.Atomic (k.Name (codes "l0") false))) g.none)) (g.part (g.list (p 11 14 35 40) (g.part (g.atom (p 12 12 36 37) (k.Atomic (k.Name (codes "b") false))) (g.part (g.atom (p 13 13 38 39) (k.Atomic (k.Name (codes "n") false))) g.none))) g.none)))) (g.part (g.list (p 16 18 42 46) (g.part (g.atom (p 17 17 43 45) (k.Atomic (k.Name (codes "l1") false))) g.none)) g.none)))))) ∷ ((g.atom (p 20 20 48 49) (k.Atomic (k.Name (codes "a") false)))) ∷ ((g.atom (p 21 21 50 51) (k.Atomic (k.Name (codes "b") false)))) ∷ [])) ∷ []) ≡ ((q 0 91 92 103 (codes "unbound m")) ∷ (q 0 93 94 103 (codes "unbound b")) ∷ (q 0 95 96 103 (codes "unbound q")) ∷ (q 0 109 110 101 (codes "definition hides import _")) ∷ (q 0 117 118 103 (codes "unbound b")) ∷ (q 0 163 164 103 (codes "unbound y")) ∷ (q 0 171 172 103 (codes "unbound q")) ∷ (q 0 176 177 103 (codes "unbound x")) ∷ (q 0 192 193 103 (codes "unbound x")) ∷ (q 1 84 85 103 (codes "unbound g")) ∷ (q 1 86 87 103 (codes "unbound q")) ∷ (q 1 88 89 103 (codes "unbound t")) ∷ (q 1 94 95 103 (codes "unbound t")) ∷ (q 2 48 49 103 (codes "unbound a")) ∷ (q 2 50 51 103 (codes "unbound b")) ∷ [])
+pub workspaces-48 : diagnostic_rows (((s 0 1) ∷ (s 1 15) ∷ (s 16 17) ∷ (s 17 19) ∷ (s 19 20) ∷ (s 22 23) ∷ (s 23 29) ∷ (s 30 31) ∷ (s 31 37) ∷ (s 38 39) ∷ (s 40 41) ∷ (s 41 42) ∷ (s 42 43) ∷ (s 45 46) ∷ (s 46 52) ∷ (s 53 54) ∷ (s 54 60) ∷ (s 61 65) ∷ (s 65 66) ∷ (s 66 67) ∷ (s 69 70) ∷ (s 70 75) ∷ (s 78 79) ∷ (s 79 84) ∷ (s 85 86) ∷ (s 87 88) ∷ (s 88 90) ∷ (s 91 92) ∷ (s 93 94) ∷ (s 95 96) ∷ (s 96 97) ∷ (s 97 98) ∷ (s 101 102) ∷ (s 102 108) ∷ (s 109 110) ∷ (s 111 112) ∷ (s 112 116) ∷ (s 117 118) ∷ (s 119 120) ∷ (s 120 127) ∷ (s 127 128) ∷ (s 128 129) ∷ (s 132 133) ∷ (s 133 139) ∷ (s 140 141) ∷ (s 141 142) ∷ (s 143 144) ∷ (s 144 145) ∷ (s 146 147) ∷ (s 147 153) ∷ (s 154 155) ∷ (s 156 157) ∷ (s 157 161) ∷ (s 162 163) ∷ (s 163 164) ∷ (s 165 168) ∷ (s 168 169) ∷ (s 170 171) ∷ (s 171 172) ∷ (s 173 175) ∷ (s 176 177) ∷ (s 177 178) ∷ (s 179 180) ∷ (s 180 184) ∷ (s 185 188) ∷ (s 188 189) ∷ (s 189 190) ∷ (s 190 191) ∷ (s 192 193) ∷ (s 193 194) ∷ (s 194 195) ∷ (s 195 196) ∷ []) ∷ ((s 0 1) ∷ (s 1 15) ∷ (s 16 17) ∷ (s 17 19) ∷ (s 19 20) ∷ (s 22 23) ∷ (s 23 29) ∷ (s 30 31) ∷ (s 33 34) ∷ (s 34 40) ∷ (s 41 42) ∷ (s 42 48) ∷ (s 49 53) ∷ (s 53 54) ∷ (s 55 56) ∷ (s 56 62) ∷ (s 63 64) ∷ (s 64 66) ∷ (s 66 67) ∷ (s 68 69) ∷ (s 69 70) ∷ (s 70 71) ∷ (s 73 74) ∷ (s 74 79) ∷ (s 82 83) ∷ (s 83 84) ∷ (s 84 85) ∷ (s 86 87) ∷ (s 88 89) ∷ (s 89 90) ∷ (s 90 91) ∷ (s 94 95) ∷ (s 95 96) ∷ (s 96 97) ∷ []) ∷ ((s 0 1) ∷ (s 1 7) ∷ (s 8 9) ∷ (s 9 15) ∷ (s 16 20) ∷ (s 20 21) ∷ (s 22 23) ∷ (s 23 29) ∷ (s 30 31) ∷ (s 31 33) ∷ (s 33 34) ∷ (s 35 36) ∷ (s 36 37) ∷ (s 38 39) ∷ (s 39 40) ∷ (s 40 41) ∷ (s 42 43) ∷ (s 43 45) ∷ (s 45 46) ∷ (s 46 47) ∷ (s 48 49) ∷ (s 50 51) ∷ []) ∷ []) ((Some (((g.list (p 0 71 0 196) (g.part (g.atom (p 1 1 1 15) (g.spelled (k.Name (codes "define-library") false))) (g.part (g.list (p 2 4 16 20) (g.part (g.atom (p 3 3 17 19) (g.spelled (k.Name (codes "l0") false))) g.none)) (g.part (g.list (p 5 12 22 43) (g.part (g.atom (p 6 6 23 29) (g.spelled (k.Name (codes "export") false))) (g.part (g.list (p 7 11 30 42) (g.part (g.atom (p 8 8 31 37) (g.spelled (k.Name (codes "rename") false))) (g.part (g.atom (p 9 9 38 39) (g.spelled (k.Name (codes "f") false))) (g.part (g.atom (p 10 10 40 41) (g.spelled (k.Name (codes "b") false))) g.none)))) g.none))) (g.part (g.list (p 13 19 45 67) (g.part (g.atom (p 14 14 46 52) (g.spelled (k.Name (codes "import") false))) (g.part (g.list (p 15 18 53 66) (g.part (g.atom (p 16 16 54 60) (g.spelled (k.Name (codes "scheme") false))) (g.part (g.atom (p 17 17 61 65) (g.spelled (k.Name (codes "base") false))) g.none))) g.none))) (g.part (g.list (p 20 70 69 195) (g.part (g.atom (p 21 21 70 75) (g.spelled (k.Name (codes "begin") false))) (g.part (g.list (p 22 31 78 98) (g.part (g.atom (p 23 23 79 84) (g.spelled (k.Name (codes "begin") false))) (g.part (g.atom (p 24 24 85 86) (g.spelled (k.Numeral (codes "1")))) (g.part (g.list (p 25 30 87 97) (g.part (g.atom (p 26 26 88 90) (g.spelled (k.Name (codes "if") false))) (g.part (g.atom (p 27 27 91 92) (g.spelled (k.Name (codes "m") false))) (g.part (g.atom (p 28 28 93 94) (g.spelled (k.Name (codes "b") false))) (g.part (g.atom (p 29 29 95 96) (g.spelled (k.Name (codes "q") false))) g.none))))) g.none)))) (g.part (g.list (p 32 41 101 129) (g.part (g.atom (p 33 33 102 108) (g.spelled (k.Name (codes "define") false))) (g.part (g.atom (p 34 34 109 110) (g.spelled (k.Name (codes "_") false))) (g.part (g.list (p 35 40 111 128) (g.part (g.atom (p 36 36 112 116) (g.spelled (k.Name (codes "set!") false))) (g.part (g.atom (p 37 37 117 118) (g.spelled (k.Name (codes "b") false))) (g.part (g.list (p 38 39 119 127) (g.part (g.atom (p 38 38 119 120) (g.implied k.Quote)) (g.part (g.atom (p 39 39 120 127) (g.spelled (k.Name (codes "unquote") false))) g.none))) g.none)))) g.none)))) (g.part (g.list (p 42 69 132 194) (g.part (g.atom (p 43 43 133 139) (g.spelled (k.Name (codes "define") false))) (g.part (g.list (p 44 47 140 145) (g.part (g.atom (p 45 45 141 142) (g.spelled (k.Name (codes "f") false))) (g.part (g.atom (p 46 46 143 144) (g.spelled (k.Name (codes "_") false))) g.none))) (g.part (g.list (p 48 67 146 191) (g.part (g.atom (p 49 49 147 153) (g.spelled (k.Name (codes "define") false))) (g.part (g.atom (p 50 50 154 155) (g.spelled (k.Name (codes "a") false))) (g.part (g.list (p 51 66 156 190) (g.part (g.atom (p 52 52 157 161) (g.spelled (k.Name (codes "cond") false))) (g.part (g.list (p 53 56 162 169) (g.part (g.atom (p 54 54 163 164) (g.spelled (k.Name (codes "y") false))) (g.part (g.atom (p 55 55 165 168) (g.spelled (k.Quoted (codes "s")))) g.none))) (g.part (g.list (p 57 61 170 178) (g.part (g.atom (p 58 58 171 172) (g.spelled (k.Name (codes "q") false))) (g.part (g.atom (p 59 59 173 175) (g.spelled (k.Name (codes "=>") false))) (g.part (g.atom (p 60 60 176 177) (g.spelled (k.Name (codes "x") false))) g.none)))) (g.part (g.list (p 62 65 179 189) (g.part (g.atom (p 63 63 180 184) (g.spelled (k.Name (codes "else") false))) (g.part (g.atom (p 64 64 185 188) (g.spelled (k.Character 99))) g.none))) g.none))))) g.none)))) (g.part (g.atom (p 68 68 192 193) (g.spelled (k.Name (codes "x") false))) g.none))))) g.none))))) g.none))))))) ∷ [])) ∷ (Some (((g.list (p 0 33 0 97) (g.part (g.atom (p 1 1 1 15) (g.spelled (k.Name (codes "define-library") false))) (g.part (g.list (p 2 4 16 20) (g.part (g.atom (p 3 3 17 19) (g.spelled (k.Name (codes "l1") false))) g.none)) (g.part (g.list (p 5 7 22 31) (g.part (g.atom (p 6 6 23 29) (g.spelled (k.Name (codes "export") false))) g.none)) (g.part (g.list (p 8 21 33 71) (g.part (g.atom (p 9 9 34 40) (g.spelled (k.Name (codes "import") false))) (g.part (g.list (p 10 13 41 54) (g.part (g.atom (p 11 11 42 48) (g.spelled (k.Name (codes "scheme") false))) (g.part (g.atom (p 12 12 49 53) (g.spelled (k.Name (codes "base") false))) g.none))) (g.part (g.list (p 14 20 55 70) (g.part (g.atom (p 15 15 56 62) (g.spelled (k.Name (codes "except") false))) (g.part (g.list (p 16 18 63 67) (g.part (g.atom (p 17 17 64 66) (g.spelled (k.Name (codes "l0") false))) g.none)) (g.part (g.atom (p 19 19 68 69) (g.spelled (k.Name (codes "b") false))) g.none)))) g.none)))) (g.part (g.list (p 22 32 73 96) (g.part (g.atom (p 23 23 74 79) (g.spelled (k.Name (codes "begin") false))) (g.part (g.list (p 24 30 82 91) (g.part (g.list (p 25 29 83 90) (g.part (g.atom (p 26 26 84 85) (g.spelled (k.Name (codes "g") false))) (g.part (g.atom (p 27 27 86 87) (g.spelled (k.Name (codes "q") false))) (g.part (g.atom (p 28 28 88 89) (g.spelled (k.Name (codes "t") false))) g.none)))) g.none)) (g.part (g.atom (p 31 31 94 95) (g.spelled (k.Name (codes "t") false))) g.none)))) g.none))))))) ∷ [])) ∷ (Some (((g.list (p 0 19 0 47) (g.part (g.atom (p 1 1 1 7) (g.spelled (k.Name (codes "import") false))) (g.part (g.list (p 2 5 8 21) (g.part (g.atom (p 3 3 9 15) (g.spelled (k.Name (codes "scheme") false))) (g.part (g.atom (p 4 4 16 20) (g.spelled (k.Name (codes "base") false))) g.none))) (g.part (g.list (p 6 15 22 41) (g.part (g.atom (p 7 7 23 29) (g.spelled (k.Name (codes "rename") false))) (g.part (g.list (p 8 10 30 34) (g.part (g.atom (p 9 9 31 33) (g.spelled (k.Name (codes "l0") false))) g.none)) (g.part (g.list (p 11 14 35 40) (g.part (g.atom (p 12 12 36 37) (g.spelled (k.Name (codes "b") false))) (g.part (g.atom (p 13 13 38 39) (g.spelled (k.Name (codes "n") false))) g.none))) g.none)))) (g.part (g.list (p 16 18 42 46) (g.part (g.atom (p 17 17 43 45) (g.spelled (k.Name (codes "l1") false))) g.none)) g.none)))))) ∷ ((g.atom (p 20 20 48 49) (g.spelled (k.Name (codes "a") false)))) ∷ ((g.atom (p 21 21 50 51) (g.spelled (k.Name (codes "b") false)))) ∷ [])) ∷ []) ≡ ((q 0 91 92 103 (codes "unbound m")) ∷ (q 0 93 94 103 (codes "unbound b")) ∷ (q 0 95 96 103 (codes "unbound q")) ∷ (q 0 109 110 101 (codes "definition hides import _")) ∷ (q 0 117 118 103 (codes "unbound b")) ∷ (q 0 163 164 103 (codes "unbound y")) ∷ (q 0 171 172 103 (codes "unbound q")) ∷ (q 0 176 177 103 (codes "unbound x")) ∷ (q 0 192 193 103 (codes "unbound x")) ∷ (q 1 84 85 103 (codes "unbound g")) ∷ (q 1 86 87 103 (codes "unbound q")) ∷ (q 1 88 89 103 (codes "unbound t")) ∷ (q 1 94 95 103 (codes "unbound t")) ∷ (q 2 48 49 103 (codes "unbound a")) ∷ (q 2 50 51 103 (codes "unbound b")) ∷ [])
 unfolding base_names standard_libraries prelude encode_utf8
 workspaces-48 = refl
 
-pub workspaces-74 : diagnostic_rows (((s 0 1) ∷ (s 1 15) ∷ (s 16 17) ∷ (s 17 19) ∷ (s 19 20) ∷ (s 22 23) ∷ (s 23 29) ∷ (s 30 31) ∷ (s 33 34) ∷ (s 34 40) ∷ (s 41 42) ∷ (s 42 48) ∷ (s 49 53) ∷ (s 53 54) ∷ (s 54 55) ∷ (s 57 58) ∷ (s 58 63) ∷ (s 66 67) ∷ (s 67 70) ∷ (s 71 72) ∷ (s 73 74) ∷ (s 74 75) ∷ (s 75 76) ∷ (s 77 78) ∷ (s 78 82) ∷ (s 83 84) ∷ (s 85 86) ∷ (s 86 87) ∷ (s 87 88) ∷ (s 88 89) ∷ (s 90 91) ∷ (s 91 96) ∷ (s 97 98) ∷ (s 99 102) ∷ (s 102 103) ∷ (s 104 105) ∷ (s 105 106) ∷ (s 109 110) ∷ (s 110 111) ∷ (s 111 112) ∷ (s 113 114) ∷ (s 114 115) ∷ (s 115 116) ∷ (s 116 117) ∷ (s 117 118) ∷ []) ∷ ((s 0 1) ∷ (s 1 7) ∷ (s 8 9) ∷ (s 9 15) ∷ (s 16 20) ∷ (s 20 21) ∷ (s 22 23) ∷ (s 23 25) ∷ (s 25 26) ∷ (s 26 27) ∷ (s 28 29) ∷ (s 29 35) ∷ (s 36 37) ∷ (s 38 39) ∷ (s 39 40) ∷ (s 41 42) ∷ (s 42 52) ∷ (s 53 54) ∷ (s 54 55) ∷ (s 55 56) ∷ (s 56 57) ∷ (s 58 61) ∷ (s 61 62) ∷ (s 63 64) ∷ (s 64 65) ∷ (s 65 66) ∷ (s 67 68) ∷ (s 68 81) ∷ (s 82 83) ∷ (s 84 85) ∷ (s 85 97) ∷ (s 98 99) ∷ (s 99 100) ∷ (s 101 102) ∷ (s 102 103) ∷ (s 103 104) ∷ (s 105 106) ∷ (s 107 110) ∷ (s 110 111) ∷ (s 112 113) ∷ (s 113 114) ∷ (s 114 115) ∷ (s 115 116) ∷ (s 117 118) ∷ (s 118 124) ∷ (s 125 126) ∷ (s 127 128) ∷ (s 128 129) ∷ (s 129 130) ∷ (s 130 131) ∷ (s 131 132) ∷ (s 132 133) ∷ (s 134 135) ∷ (s 135 136) ∷ (s 137 138) ∷ (s 138 139) ∷ (s 139 140) ∷ (s 140 141) ∷ (s 142 143) ∷ (s 143 144) ∷ []) ∷ []) ((Some (((g.list (p 0 44 0 118) (g.part (g.atom (p 1 1 1 15) (k.Atomic (k.Name (codes "define-library") false))) (g.part (g.list (p 2 4 16 20) (g.part (g.atom (p 3 3 17 19) (k.Atomic (k.Name (codes "l0") false))) g.none)) (g.part (g.list (p 5 7 22 31) (g.part (g.atom (p 6 6 23 29) (k.Atomic (k.Name (codes "export") false))) g.none)) (g.part (g.list (p 8 14 33 55) (g.part (g.atom (p 9 9 34 40) (k.Atomic (k.Name (codes "import") false))) (g.part (g.list (p 10 13 41 54) (g.part (g.atom (p 11 11 42 48) (k.Atomic (k.Name (codes "scheme") false))) (g.part (g.atom (p 12 12 49 53) (k.Atomic (k.Name (codes "base") false))) g.none))) g.none))) (g.part (g.list (p 15 43 57 117) (g.part (g.atom (p 16 16 58 63) (k.Atomic (k.Name (codes "begin") false))) (g.part (g.list (p 17 36 66 106) (g.part (g.atom (p 18 18 67 70) (k.Atomic (k.Name (codes "let") false))) (g.part (g.atom (p 19 19 71 72) (k.Atomic (k.Name (codes "k") false))) (g.part (g.list (p 20 29 73 89) (g.part (g.list (p 21 28 74 88) (g.part (g.atom (p 22 22 75 76) (k.Atomic (k.Name (codes "t") false))) (g.part (g.list (p 23 27 77 87) (g.part (g.atom (p 24 24 78 82) (k.Atomic (k.Name (codes "set!") false))) (g.part (g.atom (p 25 25 83 84) (k.Atomic (k.Name (codes "n") false))) (g.part (g.atom (p 26 26 85 86) (k.Atomic (k.Name (codes "x") false))) g.none)))) g.none))) g.none)) (g.part (g.list (p 30 34 90 103) (g.part (g.atom (p 31 31 91 96) (k.Atomic (k.Name (codes "begin") false))) (g.part (g.atom (p 32 32 97 98) (k.Atomic (k.Name (codes "q") false))) (g.part (g.atom (p 33 33 99 102) (k.Atomic (k.Character 99))) g.none)))) (g.part (g.atom (p 35 35 104 105) (k.Atomic (k.Name (codes "t") false))) g.none)))))) (g.part (g.list (p 37 42 109 116) (g.part (g.list (p 38 41 110 115) (g.part (g.atom (p 39 39 111 112) (k.Atomic (k.Name (codes "g") false))) (g.part (g.atom (p 40 40 113 114) (k.Atomic (k.Name (codes "x") false))) g.none))) g.none)) g.none)))) g.none))))))) ∷ [])) ∷ (Some (((g.list (p 0 9 0 27) (g.part (g.atom (p 1 1 1 7) (k.Atomic (k.Name (codes "import") false))) (g.part (g.list (p 2 5 8 21) (g.part (g.atom (p 3 3 9 15) (k.Atomic (k.Name (codes "scheme") false))) (g.part (g.atom (p 4 4 16 20) (k.Atomic (k.Name (codes "base") false))) g.none))) (g.part (g.list (p 6 8 22 26) (g.part (g.atom (p 7 7 23 25) (k.Atomic (k.Name (codes "l0") false))) g.none)) g.none))))) ∷ ((g.list (p 10 14 28 40) (g.part (g.atom (p 11 11 29 35) (k.Atomic (k.Name (codes "define") false))) (g.part (g.atom (p 12 12 36 37) (k.Atomic (k.Name (codes "q") false))) (g.part (g.atom (p 13 13 38 39) (k.Atomic (k.Name (codes "x") false))) g.none))))) ∷ ((g.list (p 15 59 41 144) (g.part (g.atom (p 16 16 42 52) (k.Atomic (k.Name (codes "let-values") false))) (g.part (g.list (p 17 25 53 66) (g.part (g.list (p 18 24 54 65) (g.part (g.list (p 19 22 55 62) (g.part (g.atom (p 20 20 56 57) (k.Atomic (k.Name (codes "n") false))) (g.part (g.atom (p 21 21 58 61) (k.Atomic (k.Name (codes "tmp") false))) g.none))) (g.part (g.atom (p 23 23 63 64) (k.Atomic (k.Name (codes "k") false))) g.none))) g.none)) (g.part (g.list (p 26 42 67 116) (g.part (g.atom (p 27 27 68 81) (k.Atomic (k.Name (codes "define-syntax") false))) (g.part (g.atom (p 28 28 82 83) (k.Atomic (k.Name (codes "n") false))) (g.part (g.list (p 29 41 84 115) (g.part (g.atom (p 30 30 85 97) (k.Atomic (k.Name (codes "syntax-rules") false))) (g.part (g.list (p 31 32 98 100) g.none) (g.part (g.list (p 33 40 101 114) (g.part (g.list (p 34 38 102 111) (g.part (g.atom (p 35 35 103 104) (k.Atomic (k.Name (codes "_") false))) (g.part (g.atom (p 36 36 105 106) (k.Atomic (k.Name (codes "f") false))) (g.part (g.atom (p 37 37 107 110) (k.Atomic (k.Name (codes "...") false))) g.none)))) (g.part (g.atom (p 39 39 112 113) (k.Atomic (k.Name (codes "g") false))) g.none))) g.none)))) g.none)))) (g.part (g.list (p 43 51 117 133) (g.part (g.atom (p 44 44 118 124) (k.Atomic (k.Name (codes "define") false))) (g.part (g.atom (p 45 45 125 126) (k.Atomic (k.Name (codes "g") false))) (g.part (g.list (p 46 50 127 132) (g.part (g.list (p 47 49 128 131) (g.part (g.atom (p 48 48 129 130) (k.Atomic (k.Name (codes "n") false))) g.none)) g.none)) g.none)))) (g.part (g.list (p 52 57 134 141) (g.part (g.atom (p 53 53 135 136) (k.Atomic (k.Name (codes "n") false))) (g.part (g.list (p 54 56 137 140) (g.part (g.atom (p 55 55 138 139) (k.Atomic (k.Name (codes "n") false))) g.none)) g.none))) (g.part (g.atom (p 58 58 142 143) (k.Atomic (k.Name (codes "k") false))) g.none)))))))) ∷ [])) ∷ []) ≡ ((q 0 83 84 103 (codes "unbound n")) ∷ (q 0 85 86 103 (codes "unbound x")) ∷ (q 0 97 98 103 (codes "unbound q")) ∷ (q 0 111 112 103 (codes "unbound g")) ∷ (q 0 113 114 103 (codes "unbound x")) ∷ (q 1 38 39 103 (codes "unbound x")) ∷ (q 1 63 64 103 (codes "unbound k")) ∷ (q 1 142 143 103 (codes "unbound k")) ∷ [])
+pub workspaces-74 : diagnostic_rows (((s 0 1) ∷ (s 1 15) ∷ (s 16 17) ∷ (s 17 19) ∷ (s 19 20) ∷ (s 22 23) ∷ (s 23 29) ∷ (s 30 31) ∷ (s 33 34) ∷ (s 34 40) ∷ (s 41 42) ∷ (s 42 48) ∷ (s 49 53) ∷ (s 53 54) ∷ (s 54 55) ∷ (s 57 58) ∷ (s 58 63) ∷ (s 66 67) ∷ (s 67 70) ∷ (s 71 72) ∷ (s 73 74) ∷ (s 74 75) ∷ (s 75 76) ∷ (s 77 78) ∷ (s 78 82) ∷ (s 83 84) ∷ (s 85 86) ∷ (s 86 87) ∷ (s 87 88) ∷ (s 88 89) ∷ (s 90 91) ∷ (s 91 96) ∷ (s 97 98) ∷ (s 99 102) ∷ (s 102 103) ∷ (s 104 105) ∷ (s 105 106) ∷ (s 109 110) ∷ (s 110 111) ∷ (s 111 112) ∷ (s 113 114) ∷ (s 114 115) ∷ (s 115 116) ∷ (s 116 117) ∷ (s 117 118) ∷ []) ∷ ((s 0 1) ∷ (s 1 7) ∷ (s 8 9) ∷ (s 9 15) ∷ (s 16 20) ∷ (s 20 21) ∷ (s 22 23) ∷ (s 23 25) ∷ (s 25 26) ∷ (s 26 27) ∷ (s 28 29) ∷ (s 29 35) ∷ (s 36 37) ∷ (s 38 39) ∷ (s 39 40) ∷ (s 41 42) ∷ (s 42 52) ∷ (s 53 54) ∷ (s 54 55) ∷ (s 55 56) ∷ (s 56 57) ∷ (s 58 61) ∷ (s 61 62) ∷ (s 63 64) ∷ (s 64 65) ∷ (s 65 66) ∷ (s 67 68) ∷ (s 68 81) ∷ (s 82 83) ∷ (s 84 85) ∷ (s 85 97) ∷ (s 98 99) ∷ (s 99 100) ∷ (s 101 102) ∷ (s 102 103) ∷ (s 103 104) ∷ (s 105 106) ∷ (s 107 110) ∷ (s 110 111) ∷ (s 112 113) ∷ (s 113 114) ∷ (s 114 115) ∷ (s 115 116) ∷ (s 117 118) ∷ (s 118 124) ∷ (s 125 126) ∷ (s 127 128) ∷ (s 128 129) ∷ (s 129 130) ∷ (s 130 131) ∷ (s 131 132) ∷ (s 132 133) ∷ (s 134 135) ∷ (s 135 136) ∷ (s 137 138) ∷ (s 138 139) ∷ (s 139 140) ∷ (s 140 141) ∷ (s 142 143) ∷ (s 143 144) ∷ []) ∷ []) ((Some (((g.list (p 0 44 0 118) (g.part (g.atom (p 1 1 1 15) (g.spelled (k.Name (codes "define-library") false))) (g.part (g.list (p 2 4 16 20) (g.part (g.atom (p 3 3 17 19) (g.spelled (k.Name (codes "l0") false))) g.none)) (g.part (g.list (p 5 7 22 31) (g.part (g.atom (p 6 6 23 29) (g.spelled (k.Name (codes "export") false))) g.none)) (g.part (g.list (p 8 14 33 55) (g.part (g.atom (p 9 9 34 40) (g.spelled (k.Name (codes "import") false))) (g.part (g.list (p 10 13 41 54) (g.part (g.atom (p 11 11 42 48) (g.spelled (k.Name (codes "scheme") false))) (g.part (g.atom (p 12 12 49 53) (g.spelled (k.Name (codes "base") false))) g.none))) g.none))) (g.part (g.list (p 15 43 57 117) (g.part (g.atom (p 16 16 58 63) (g.spelled (k.Name (codes "begin") false))) (g.part (g.list (p 17 36 66 106) (g.part (g.atom (p 18 18 67 70) (g.spelled (k.Name (codes "let") false))) (g.part (g.atom (p 19 19 71 72) (g.spelled (k.Name (codes "k") false))) (g.part (g.list (p 20 29 73 89) (g.part (g.list (p 21 28 74 88) (g.part (g.atom (p 22 22 75 76) (g.spelled (k.Name (codes "t") false))) (g.part (g.list (p 23 27 77 87) (g.part (g.atom (p 24 24 78 82) (g.spelled (k.Name (codes "set!") false))) (g.part (g.atom (p 25 25 83 84) (g.spelled (k.Name (codes "n") false))) (g.part (g.atom (p 26 26 85 86) (g.spelled (k.Name (codes "x") false))) g.none)))) g.none))) g.none)) (g.part (g.list (p 30 34 90 103) (g.part (g.atom (p 31 31 91 96) (g.spelled (k.Name (codes "begin") false))) (g.part (g.atom (p 32 32 97 98) (g.spelled (k.Name (codes "q") false))) (g.part (g.atom (p 33 33 99 102) (g.spelled (k.Character 99))) g.none)))) (g.part (g.atom (p 35 35 104 105) (g.spelled (k.Name (codes "t") false))) g.none)))))) (g.part (g.list (p 37 42 109 116) (g.part (g.list (p 38 41 110 115) (g.part (g.atom (p 39 39 111 112) (g.spelled (k.Name (codes "g") false))) (g.part (g.atom (p 40 40 113 114) (g.spelled (k.Name (codes "x") false))) g.none))) g.none)) g.none)))) g.none))))))) ∷ [])) ∷ (Some (((g.list (p 0 9 0 27) (g.part (g.atom (p 1 1 1 7) (g.spelled (k.Name (codes "import") false))) (g.part (g.list (p 2 5 8 21) (g.part (g.atom (p 3 3 9 15) (g.spelled (k.Name (codes "scheme") false))) (g.part (g.atom (p 4 4 16 20) (g.spelled (k.Name (codes "base") false))) g.none))) (g.part (g.list (p 6 8 22 26) (g.part (g.atom (p 7 7 23 25) (g.spelled (k.Name (codes "l0") false))) g.none)) g.none))))) ∷ ((g.list (p 10 14 28 40) (g.part (g.atom (p 11 11 29 35) (g.spelled (k.Name (codes "define") false))) (g.part (g.atom (p 12 12 36 37) (g.spelled (k.Name (codes "q") false))) (g.part (g.atom (p 13 13 38 39) (g.spelled (k.Name (codes "x") false))) g.none))))) ∷ ((g.list (p 15 59 41 144) (g.part (g.atom (p 16 16 42 52) (g.spelled (k.Name (codes "let-values") false))) (g.part (g.list (p 17 25 53 66) (g.part (g.list (p 18 24 54 65) (g.part (g.list (p 19 22 55 62) (g.part (g.atom (p 20 20 56 57) (g.spelled (k.Name (codes "n") false))) (g.part (g.atom (p 21 21 58 61) (g.spelled (k.Name (codes "tmp") false))) g.none))) (g.part (g.atom (p 23 23 63 64) (g.spelled (k.Name (codes "k") false))) g.none))) g.none)) (g.part (g.list (p 26 42 67 116) (g.part (g.atom (p 27 27 68 81) (g.spelled (k.Name (codes "define-syntax") false))) (g.part (g.atom (p 28 28 82 83) (g.spelled (k.Name (codes "n") false))) (g.part (g.list (p 29 41 84 115) (g.part (g.atom (p 30 30 85 97) (g.spelled (k.Name (codes "syntax-rules") false))) (g.part (g.list (p 31 32 98 100) g.none) (g.part (g.list (p 33 40 101 114) (g.part (g.list (p 34 38 102 111) (g.part (g.atom (p 35 35 103 104) (g.spelled (k.Name (codes "_") false))) (g.part (g.atom (p 36 36 105 106) (g.spelled (k.Name (codes "f") false))) (g.part (g.atom (p 37 37 107 110) (g.spelled (k.Name (codes "...") false))) g.none)))) (g.part (g.atom (p 39 39 112 113) (g.spelled (k.Name (codes "g") false))) g.none))) g.none)))) g.none)))) (g.part (g.list (p 43 51 117 133) (g.part (g.atom (p 44 44 118 124) (g.spelled (k.Name (codes "define") false))) (g.part (g.atom (p 45 45 125 126) (g.spelled (k.Name (codes "g") false))) (g.part (g.list (p 46 50 127 132) (g.part (g.list (p 47 49 128 131) (g.part (g.atom (p 48 48 129 130) (g.spelled (k.Name (codes "n") false))) g.none)) g.none)) g.none)))) (g.part (g.list (p 52 57 134 141) (g.part (g.atom (p 53 53 135 136) (g.spelled (k.Name (codes "n") false))) (g.part (g.list (p 54 56 137 140) (g.part (g.atom (p 55 55 138 139) (g.spelled (k.Name (codes "n") false))) g.none)) g.none))) (g.part (g.atom (p 58 58 142 143) (g.spelled (k.Name (codes "k") false))) g.none)))))))) ∷ [])) ∷ []) ≡ ((q 0 83 84 103 (codes "unbound n")) ∷ (q 0 85 86 103 (codes "unbound x")) ∷ (q 0 97 98 103 (codes "unbound q")) ∷ (q 0 111 112 103 (codes "unbound g")) ∷ (q 0 113 114 103 (codes "unbound x")) ∷ (q 1 38 39 103 (codes "unbound x")) ∷ (q 1 63 64 103 (codes "unbound k")) ∷ (q 1 142 143 103 (codes "unbound k")) ∷ [])
 unfolding base_names standard_libraries prelude encode_utf8
 workspaces-74 = refl
 
-pub macros-78 : diagnostic_rows (((s 0 1) ∷ (s 1 7) ∷ (s 8 9) ∷ (s 9 15) ∷ (s 16 20) ∷ (s 20 21) ∷ (s 22 23) ∷ (s 23 29) ∷ (s 30 41) ∷ (s 41 42) ∷ (s 42 43) ∷ (s 44 45) ∷ (s 46 47) ∷ (s 47 60) ∷ (s 61 62) ∷ (s 63 64) ∷ (s 64 76) ∷ (s 77 78) ∷ (s 78 79) ∷ (s 80 81) ∷ (s 81 82) ∷ (s 82 83) ∷ (s 84 85) ∷ (s 85 86) ∷ (s 87 88) ∷ (s 88 89) ∷ (s 90 91) ∷ (s 91 92) ∷ (s 93 96) ∷ (s 97 100) ∷ (s 100 101) ∷ (s 102 105) ∷ (s 105 106) ∷ (s 107 108) ∷ (s 108 121) ∷ (s 122 123) ∷ (s 124 125) ∷ (s 125 137) ∷ (s 138 139) ∷ (s 139 140) ∷ (s 141 142) ∷ (s 142 143) ∷ (s 143 144) ∷ (s 145 148) ∷ (s 149 150) ∷ (s 150 153) ∷ (s 154 157) ∷ (s 157 158) ∷ (s 158 159) ∷ (s 160 161) ∷ (s 161 165) ∷ (s 166 169) ∷ (s 170 171) ∷ (s 171 174) ∷ (s 175 178) ∷ (s 178 179) ∷ (s 180 181) ∷ (s 182 183) ∷ (s 183 184) ∷ (s 184 185) ∷ (s 185 186) ∷ (s 186 187) ∷ (s 187 188) ∷ (s 189 190) ∷ (s 190 191) ∷ (s 191 192) ∷ (s 193 194) ∷ (s 195 196) ∷ (s 196 197) ∷ (s 198 204) ∷ (s 204 205) ∷ (s 205 206) ∷ (s 206 207) ∷ (s 208 209) ∷ (s 209 214) ∷ (s 215 216) ∷ (s 216 217) ∷ (s 217 222) ∷ (s 223 224) ∷ (s 225 226) ∷ (s 226 227) ∷ (s 228 229) ∷ (s 229 232) ∷ (s 233 234) ∷ (s 235 238) ∷ (s 238 239) ∷ (s 240 241) ∷ (s 241 242) ∷ (s 243 244) ∷ (s 245 246) ∷ (s 246 247) ∷ (s 247 248) ∷ (s 249 250) ∷ (s 250 251) ∷ (s 252 253) ∷ (s 253 254) ∷ (s 255 256) ∷ (s 256 257) ∷ (s 257 258) ∷ (s 258 259) ∷ []) ∷ []) ((Some (((g.list (p 0 10 0 43) (g.part (g.atom (p 1 1 1 7) (k.Atomic (k.Name (codes "import") false))) (g.part (g.list (p 2 5 8 21) (g.part (g.atom (p 3 3 9 15) (k.Atomic (k.Name (codes "scheme") false))) (g.part (g.atom (p 4 4 16 20) (k.Atomic (k.Name (codes "base") false))) g.none))) (g.part (g.list (p 6 9 22 42) (g.part (g.atom (p 7 7 23 29) (k.Atomic (k.Name (codes "scheme") false))) (g.part (g.atom (p 8 8 30 41) (k.Atomic (k.Name (codes "case-lambda") false))) g.none))) g.none))))) ∷ ((g.atom (p 11 11 44 45) (k.Atomic (k.Name (codes "t") false)))) ∷ ((g.list (p 12 72 46 207) (g.part (g.atom (p 13 13 47 60) (k.Atomic (k.Name (codes "define-syntax") false))) (g.part (g.atom (p 14 14 61 62) (k.Atomic (k.Name (codes "x") false))) (g.part (g.list (p 15 71 63 206) (g.part (g.atom (p 16 16 64 76) (k.Atomic (k.Name (codes "syntax-rules") false))) (g.part (g.list (p 17 18 77 79) g.none) (g.part (g.list (p 19 62 80 188) (g.part (g.list (p 20 32 81 106) (g.part (g.atom (p 21 21 82 83) (k.Atomic (k.Name (codes "_") false))) (g.part (g.list (p 22 25 84 89) (g.part (g.atom (p 23 23 85 86) (k.Atomic (k.Name (codes "a") false))) (g.part (g.atom (p 24 24 87 88) (k.Atomic (k.Name (codes "b") false))) g.none))) (g.part (g.list (p 26 30 90 101) (g.part (g.atom (p 27 27 91 92) (k.Atomic (k.Name (codes "q") false))) (g.part (g.atom (p 28 28 93 96) (k.Atomic (k.Name (codes "...") false))) (g.part (g.atom (p 29 29 97 100) (k.Atomic (k.Name (codes "...") false))) g.none)))) (g.part (g.atom (p 31 31 102 105) (k.Atomic (k.Name (codes "...") false))) g.none))))) (g.part (g.list (p 33 61 107 187) (g.part (g.atom (p 34 34 108 121) (k.Atomic (k.Name (codes "define-syntax") false))) (g.part (g.atom (p 35 35 122 123) (k.Atomic (k.Name (codes "b") false))) (g.part (g.list (p 36 60 124 186) (g.part (g.atom (p 37 37 125 137) (k.Atomic (k.Name (codes "syntax-rules") false))) (g.part (g.list (p 38 39 138 140) g.none) (g.part (g.list (p 40 59 141 185) (g.part (g.list (p 41 48 142 159) (g.part (g.atom (p 42 42 143 144) (k.Atomic (k.Name (codes "_") false))) (g.part (g.atom (p 43 43 145 148) (k.Atomic (k.Name (codes "car") false))) (g.part (g.list (p 44 47 149 158) (g.part (g.atom (p 45 45 150 153) (k.Atomic (k.Name (codes "...") false))) (g.part (g.atom (p 46 46 154 157) (k.Atomic (k.Name (codes "...") false))) g.none))) g.none)))) (g.part (g.list (p 49 58 160 184) (g.part (g.atom (p 50 50 161 165) (k.Atomic (k.Name (codes "list") false))) (g.part (g.atom (p 51 51 166 169) (k.Atomic (k.Name (codes "car") false))) (g.part (g.list (p 52 55 170 179) (g.part (g.atom (p 53 53 171 174) (k.Atomic (k.Name (codes "...") false))) (g.part (g.atom (p 54 54 175 178) (k.Atomic (k.Name (codes "...") false))) g.none))) (g.part (g.atom (p 56 56 180 181) (k.Atomic (k.Name (codes "y") false))) (g.part (g.atom (p 57 57 182 183) (k.Atomic (k.Name (codes "y") false))) g.none)))))) g.none))) g.none)))) g.none)))) g.none))) (g.part (g.list (p 63 70 189 205) (g.part (g.list (p 64 68 190 197) (g.part (g.atom (p 65 65 191 192) (k.Atomic (k.Name (codes "_") false))) (g.part (g.atom (p 66 66 193 194) (k.Atomic (k.Name (codes "y") false))) (g.part (g.atom (p 67 67 195 196) (k.Atomic (k.Name (codes "t") false))) g.none)))) (g.part (g.atom (p 69 69 198 204) (k.Atomic (k.Name (codes "lambda") false))) g.none))) g.none))))) g.none))))) ∷ ((g.list (p 73 99 208 259) (g.part (g.atom (p 74 74 209 214) (k.Atomic (k.Name (codes "begin") false))) (g.part (g.list (p 75 91 215 248) (g.part (g.list (p 76 80 216 227) (g.part (g.atom (p 77 77 217 222) (k.Atomic (k.Name (codes "begin") false))) (g.part (g.atom (p 78 78 223 224) (k.Atomic (k.Name (codes "y") false))) (g.part (g.atom (p 79 79 225 226) (k.Atomic (k.Name (codes "x") false))) g.none)))) (g.part (g.list (p 81 85 228 239) (g.part (g.atom (p 82 82 229 232) (k.Atomic (k.Quoted (codes "s")))) (g.part (g.atom (p 83 83 233 234) (k.Atomic (k.Name (codes "y") false))) (g.part (g.atom (p 84 84 235 238) (k.Atomic (k.Quoted (codes "s")))) g.none)))) (g.part (g.list (p 86 90 240 247) (g.part (g.atom (p 87 87 241 242) (k.Atomic (k.Name (codes "y") false))) (g.part (g.atom (p 88 88 243 244) (k.Atomic (k.Name (codes "y") false))) (g.part (g.atom (p 89 89 245 246) (k.Atomic (k.Name (codes "y") false))) g.none)))) g.none)))) (g.part (g.list (p 92 98 249 258) (g.part (g.atom (p 93 93 250 251) (k.Atomic (k.Name (codes "x") false))) (g.part (g.list (p 94 97 252 257) (g.part (g.atom (p 95 95 253 254) (k.Atomic (k.Name (codes "t") false))) (g.part (g.atom (p 96 96 255 256) (k.Atomic (k.Numeral (codes "1")))) g.none))) g.none))) g.none))))) ∷ [])) ∷ []) ≡ ((q 0 44 45 103 (codes "unbound t")) ∷ (q 0 46 47 22 (codes "two ellipses")) ∷ (q 0 223 224 103 (codes "unbound y")) ∷ (q 0 225 226 103 (codes "unbound x")) ∷ (q 0 233 234 103 (codes "unbound y")) ∷ (q 0 241 242 103 (codes "unbound y")) ∷ (q 0 243 244 103 (codes "unbound y")) ∷ (q 0 245 246 103 (codes "unbound y")) ∷ (q 0 250 251 103 (codes "unbound x")) ∷ (q 0 253 254 103 (codes "unbound t")) ∷ [])
+pub macros-78 : diagnostic_rows (((s 0 1) ∷ (s 1 7) ∷ (s 8 9) ∷ (s 9 15) ∷ (s 16 20) ∷ (s 20 21) ∷ (s 22 23) ∷ (s 23 29) ∷ (s 30 41) ∷ (s 41 42) ∷ (s 42 43) ∷ (s 44 45) ∷ (s 46 47) ∷ (s 47 60) ∷ (s 61 62) ∷ (s 63 64) ∷ (s 64 76) ∷ (s 77 78) ∷ (s 78 79) ∷ (s 80 81) ∷ (s 81 82) ∷ (s 82 83) ∷ (s 84 85) ∷ (s 85 86) ∷ (s 87 88) ∷ (s 88 89) ∷ (s 90 91) ∷ (s 91 92) ∷ (s 93 96) ∷ (s 97 100) ∷ (s 100 101) ∷ (s 102 105) ∷ (s 105 106) ∷ (s 107 108) ∷ (s 108 121) ∷ (s 122 123) ∷ (s 124 125) ∷ (s 125 137) ∷ (s 138 139) ∷ (s 139 140) ∷ (s 141 142) ∷ (s 142 143) ∷ (s 143 144) ∷ (s 145 148) ∷ (s 149 150) ∷ (s 150 153) ∷ (s 154 157) ∷ (s 157 158) ∷ (s 158 159) ∷ (s 160 161) ∷ (s 161 165) ∷ (s 166 169) ∷ (s 170 171) ∷ (s 171 174) ∷ (s 175 178) ∷ (s 178 179) ∷ (s 180 181) ∷ (s 182 183) ∷ (s 183 184) ∷ (s 184 185) ∷ (s 185 186) ∷ (s 186 187) ∷ (s 187 188) ∷ (s 189 190) ∷ (s 190 191) ∷ (s 191 192) ∷ (s 193 194) ∷ (s 195 196) ∷ (s 196 197) ∷ (s 198 204) ∷ (s 204 205) ∷ (s 205 206) ∷ (s 206 207) ∷ (s 208 209) ∷ (s 209 214) ∷ (s 215 216) ∷ (s 216 217) ∷ (s 217 222) ∷ (s 223 224) ∷ (s 225 226) ∷ (s 226 227) ∷ (s 228 229) ∷ (s 229 232) ∷ (s 233 234) ∷ (s 235 238) ∷ (s 238 239) ∷ (s 240 241) ∷ (s 241 242) ∷ (s 243 244) ∷ (s 245 246) ∷ (s 246 247) ∷ (s 247 248) ∷ (s 249 250) ∷ (s 250 251) ∷ (s 252 253) ∷ (s 253 254) ∷ (s 255 256) ∷ (s 256 257) ∷ (s 257 258) ∷ (s 258 259) ∷ []) ∷ []) ((Some (((g.list (p 0 10 0 43) (g.part (g.atom (p 1 1 1 7) (g.spelled (k.Name (codes "import") false))) (g.part (g.list (p 2 5 8 21) (g.part (g.atom (p 3 3 9 15) (g.spelled (k.Name (codes "scheme") false))) (g.part (g.atom (p 4 4 16 20) (g.spelled (k.Name (codes "base") false))) g.none))) (g.part (g.list (p 6 9 22 42) (g.part (g.atom (p 7 7 23 29) (g.spelled (k.Name (codes "scheme") false))) (g.part (g.atom (p 8 8 30 41) (g.spelled (k.Name (codes "case-lambda") false))) g.none))) g.none))))) ∷ ((g.atom (p 11 11 44 45) (g.spelled (k.Name (codes "t") false)))) ∷ ((g.list (p 12 72 46 207) (g.part (g.atom (p 13 13 47 60) (g.spelled (k.Name (codes "define-syntax") false))) (g.part (g.atom (p 14 14 61 62) (g.spelled (k.Name (codes "x") false))) (g.part (g.list (p 15 71 63 206) (g.part (g.atom (p 16 16 64 76) (g.spelled (k.Name (codes "syntax-rules") false))) (g.part (g.list (p 17 18 77 79) g.none) (g.part (g.list (p 19 62 80 188) (g.part (g.list (p 20 32 81 106) (g.part (g.atom (p 21 21 82 83) (g.spelled (k.Name (codes "_") false))) (g.part (g.list (p 22 25 84 89) (g.part (g.atom (p 23 23 85 86) (g.spelled (k.Name (codes "a") false))) (g.part (g.atom (p 24 24 87 88) (g.spelled (k.Name (codes "b") false))) g.none))) (g.part (g.list (p 26 30 90 101) (g.part (g.atom (p 27 27 91 92) (g.spelled (k.Name (codes "q") false))) (g.part (g.atom (p 28 28 93 96) (g.spelled (k.Name (codes "...") false))) (g.part (g.atom (p 29 29 97 100) (g.spelled (k.Name (codes "...") false))) g.none)))) (g.part (g.atom (p 31 31 102 105) (g.spelled (k.Name (codes "...") false))) g.none))))) (g.part (g.list (p 33 61 107 187) (g.part (g.atom (p 34 34 108 121) (g.spelled (k.Name (codes "define-syntax") false))) (g.part (g.atom (p 35 35 122 123) (g.spelled (k.Name (codes "b") false))) (g.part (g.list (p 36 60 124 186) (g.part (g.atom (p 37 37 125 137) (g.spelled (k.Name (codes "syntax-rules") false))) (g.part (g.list (p 38 39 138 140) g.none) (g.part (g.list (p 40 59 141 185) (g.part (g.list (p 41 48 142 159) (g.part (g.atom (p 42 42 143 144) (g.spelled (k.Name (codes "_") false))) (g.part (g.atom (p 43 43 145 148) (g.spelled (k.Name (codes "car") false))) (g.part (g.list (p 44 47 149 158) (g.part (g.atom (p 45 45 150 153) (g.spelled (k.Name (codes "...") false))) (g.part (g.atom (p 46 46 154 157) (g.spelled (k.Name (codes "...") false))) g.none))) g.none)))) (g.part (g.list (p 49 58 160 184) (g.part (g.atom (p 50 50 161 165) (g.spelled (k.Name (codes "list") false))) (g.part (g.atom (p 51 51 166 169) (g.spelled (k.Name (codes "car") false))) (g.part (g.list (p 52 55 170 179) (g.part (g.atom (p 53 53 171 174) (g.spelled (k.Name (codes "...") false))) (g.part (g.atom (p 54 54 175 178) (g.spelled (k.Name (codes "...") false))) g.none))) (g.part (g.atom (p 56 56 180 181) (g.spelled (k.Name (codes "y") false))) (g.part (g.atom (p 57 57 182 183) (g.spelled (k.Name (codes "y") false))) g.none)))))) g.none))) g.none)))) g.none)))) g.none))) (g.part (g.list (p 63 70 189 205) (g.part (g.list (p 64 68 190 197) (g.part (g.atom (p 65 65 191 192) (g.spelled (k.Name (codes "_") false))) (g.part (g.atom (p 66 66 193 194) (g.spelled (k.Name (codes "y") false))) (g.part (g.atom (p 67 67 195 196) (g.spelled (k.Name (codes "t") false))) g.none)))) (g.part (g.atom (p 69 69 198 204) (g.spelled (k.Name (codes "lambda") false))) g.none))) g.none))))) g.none))))) ∷ ((g.list (p 73 99 208 259) (g.part (g.atom (p 74 74 209 214) (g.spelled (k.Name (codes "begin") false))) (g.part (g.list (p 75 91 215 248) (g.part (g.list (p 76 80 216 227) (g.part (g.atom (p 77 77 217 222) (g.spelled (k.Name (codes "begin") false))) (g.part (g.atom (p 78 78 223 224) (g.spelled (k.Name (codes "y") false))) (g.part (g.atom (p 79 79 225 226) (g.spelled (k.Name (codes "x") false))) g.none)))) (g.part (g.list (p 81 85 228 239) (g.part (g.atom (p 82 82 229 232) (g.spelled (k.Quoted (codes "s")))) (g.part (g.atom (p 83 83 233 234) (g.spelled (k.Name (codes "y") false))) (g.part (g.atom (p 84 84 235 238) (g.spelled (k.Quoted (codes "s")))) g.none)))) (g.part (g.list (p 86 90 240 247) (g.part (g.atom (p 87 87 241 242) (g.spelled (k.Name (codes "y") false))) (g.part (g.atom (p 88 88 243 244) (g.spelled (k.Name (codes "y") false))) (g.part (g.atom (p 89 89 245 246) (g.spelled (k.Name (codes "y") false))) g.none)))) g.none)))) (g.part (g.list (p 92 98 249 258) (g.part (g.atom (p 93 93 250 251) (g.spelled (k.Name (codes "x") false))) (g.part (g.list (p 94 97 252 257) (g.part (g.atom (p 95 95 253 254) (g.spelled (k.Name (codes "t") false))) (g.part (g.atom (p 96 96 255 256) (g.spelled (k.Numeral (codes "1")))) g.none))) g.none))) g.none))))) ∷ [])) ∷ []) ≡ ((q 0 44 45 103 (codes "unbound t")) ∷ (q 0 46 47 22 (codes "two ellipses")) ∷ (q 0 223 224 103 (codes "unbound y")) ∷ (q 0 225 226 103 (codes "unbound x")) ∷ (q 0 233 234 103 (codes "unbound y")) ∷ (q 0 241 242 103 (codes "unbound y")) ∷ (q 0 243 244 103 (codes "unbound y")) ∷ (q 0 245 246 103 (codes "unbound y")) ∷ (q 0 250 251 103 (codes "unbound x")) ∷ (q 0 253 254 103 (codes "unbound t")) ∷ [])
 unfolding base_names standard_libraries prelude encode_utf8
 macros-78 = refl
 
-pub macros-123 : diagnostic_rows (((s 0 1) ∷ (s 1 2) ∷ (s 2 3) ∷ (s 4 5) ∷ (s 5 9) ∷ (s 10 11) ∷ (s 12 13) ∷ (s 13 15) ∷ (s 15 16) ∷ (s 16 17) ∷ (s 18 19) ∷ (s 19 23) ∷ (s 24 25) ∷ (s 26 27) ∷ (s 27 33) ∷ (s 34 35) ∷ (s 35 36) ∷ (s 37 43) ∷ (s 43 44) ∷ (s 45 46) ∷ (s 46 48) ∷ (s 49 50) ∷ (s 50 51) ∷ (s 52 53) ∷ (s 53 59) ∷ (s 60 64) ∷ (s 65 66) ∷ (s 66 72) ∷ (s 73 74) ∷ (s 75 76) ∷ (s 77 78) ∷ (s 78 79) ∷ (s 79 80) ∷ (s 80 81) ∷ (s 81 82) ∷ (s 83 84) ∷ (s 84 97) ∷ (s 98 99) ∷ (s 100 101) ∷ (s 101 113) ∷ (s 114 117) ∷ (s 118 119) ∷ (s 119 120) ∷ (s 121 122) ∷ (s 122 123) ∷ (s 123 124) ∷ (s 125 126) ∷ (s 127 128) ∷ (s 128 133) ∷ (s 134 135) ∷ (s 135 141) ∷ (s 142 145) ∷ (s 146 147) ∷ (s 147 151) ∷ (s 152 153) ∷ (s 154 155) ∷ (s 155 156) ∷ (s 156 157) ∷ (s 157 158) ∷ (s 158 159) ∷ (s 159 160) ∷ (s 160 161) ∷ (s 162 163) ∷ (s 163 181) ∷ (s 182 183) ∷ (s 184 185) ∷ (s 185 189) ∷ (s 190 191) ∷ (s 191 192) ∷ (s 193 195) ∷ (s 196 197) ∷ (s 197 198) ∷ (s 199 202) ∷ (s 202 203) ∷ (s 204 205) ∷ (s 205 206) ∷ (s 207 210) ∷ (s 211 217) ∷ (s 217 218) ∷ (s 218 219) ∷ []) ∷ []) ((Some (((g.list (p 0 2 0 3) (g.part (g.atom (p 1 1 1 2) (k.Atomic (k.Name (codes "m") false))) g.none))) ∷ ((g.list (p 3 9 4 17) (g.part (g.atom (p 4 4 5 9) (k.Atomic (k.Name (codes "set!") false))) (g.part (g.atom (p 5 5 10 11) (k.Atomic (k.Name (codes "x") false))) (g.part (g.list (p 6 8 12 16) (g.part (g.atom (p 6 6 12 13) (k.Marked k.Quote)) (g.part (g.vector (p 7 8 13 16) g.none) g.none))) g.none))))) ∷ ((g.list (p 10 34 18 82) (g.part (g.atom (p 11 11 19 23) (k.Atomic (k.Name (codes "set!") false))) (g.part (g.atom (p 12 12 24 25) (k.Atomic (k.Name (codes "k") false))) (g.part (g.list (p 13 33 26 81) (g.part (g.atom (p 14 14 27 33) (k.Atomic (k.Name (codes "lambda") false))) (g.part (g.list (p 15 18 34 44) (g.part (g.atom (p 16 16 35 36) (k.Atomic (k.Name (codes "m") false))) (g.part (g.atom (p 17 17 37 43) (k.Atomic (k.Name (codes "lambda") false))) g.none))) (g.part (g.list (p 19 22 45 51) (g.part (g.atom (p 20 20 46 48) (k.Atomic (k.Truth true))) (g.part (g.atom (p 21 21 49 50) (k.Atomic (k.Name (codes "b") false))) g.none))) (g.part (g.list (p 23 32 52 80) (g.part (g.atom (p 24 24 53 59) (k.Atomic (k.Name (codes "define") false))) (g.part (g.atom (p 25 25 60 64) (k.Atomic (k.Name (codes "cons") false))) (g.part (g.list (p 26 31 65 79) (g.part (g.atom (p 27 27 66 72) (k.Atomic (k.Name (codes "lambda") false))) (g.part (g.atom (p 28 28 73 74) (k.Atomic (k.Name (codes "m") false))) (g.part (g.atom (p 29 29 75 76) (k.Atomic (k.Name (codes "b") false))) (g.part (g.atom (p 30 30 77 78) (k.Atomic (k.Name (codes "q") false))) g.none))))) g.none)))) g.none))))) g.none))))) ∷ ((g.list (p 35 61 83 161) (g.part (g.atom (p 36 36 84 97) (k.Atomic (k.Name (codes "define-syntax") false))) (g.part (g.atom (p 37 37 98 99) (k.Atomic (k.Name (codes "a") false))) (g.part (g.list (p 38 60 100 160) (g.part (g.atom (p 39 39 101 113) (k.Atomic (k.Name (codes "syntax-rules") false))) (g.part (g.atom (p 40 40 114 117) (k.Atomic (k.Name (codes ":::") false))) (g.part (g.list (p 41 42 118 120) g.none) (g.part (g.list (p 43 59 121 159) (g.part (g.list (p 44 46 122 126) (g.part (g.atom (p 45 45 123 124) (k.Atomic (k.Name (codes "_") false))) g.none)) (g.part (g.list (p 47 58 127 158) (g.part (g.atom (p 48 48 128 133) (k.Atomic (k.Name (codes "begin") false))) (g.part (g.list (p 49 57 134 157) (g.part (g.atom (p 50 50 135 141) (k.Atomic (k.Name (codes "define") false))) (g.part (g.atom (p 51 51 142 145) (k.Atomic (k.Name (codes "...") false))) (g.part (g.list (p 52 56 146 156) (g.part (g.atom (p 53 53 147 151) (k.Atomic (k.Name (codes "list") false))) (g.part (g.atom (p 54 54 152 153) (k.Atomic (k.Name (codes "k") false))) (g.part (g.atom (p 55 55 154 155) (k.Atomic (k.Name (codes "y") false))) g.none)))) g.none)))) g.none))) g.none))) g.none))))) g.none))))) ∷ ((g.list (p 62 79 162 219) (g.part (g.atom (p 63 63 163 181) (k.Atomic (k.Name (codes "define-record-type") false))) (g.part (g.atom (p 64 64 182 183) (k.Atomic (k.Name (codes "f") false))) (g.part (g.list (p 65 68 184 192) (g.part (g.atom (p 66 66 185 189) (k.Atomic (k.Name (codes "make") false))) (g.part (g.atom (p 67 67 190 191) (k.Atomic (k.Name (codes "m") false))) g.none))) (g.part (g.atom (p 69 69 193 195) (k.Atomic (k.Name (codes "f?") false))) (g.part (g.list (p 70 73 196 203) (g.part (g.atom (p 71 71 197 198) (k.Atomic (k.Name (codes "m") false))) (g.part (g.atom (p 72 72 199 202) (k.Atomic (k.Name (codes "m-x") false))) g.none))) (g.part (g.list (p 74 78 204 218) (g.part (g.atom (p 75 75 205 206) (k.Atomic (k.Name (codes "b") false))) (g.part (g.atom (p 76 76 207 210) (k.Atomic (k.Name (codes "b-y") false))) (g.part (g.atom (p 77 77 211 217) (k.Atomic (k.Name (codes "set-b!") false))) g.none)))) g.none)))))))) ∷ [])) ∷ []) ≡ ((q 0 0 1 104 (codes "no import, (scheme base) is used")) ∷ (q 0 1 2 103 (codes "unbound m")) ∷ (q 0 10 11 103 (codes "unbound x")) ∷ (q 0 24 25 103 (codes "unbound k")) ∷ (q 0 49 50 103 (codes "unbound b")) ∷ (q 0 75 76 103 (codes "unbound b")) ∷ (q 0 77 78 103 (codes "unbound q")) ∷ [])
+pub macros-123 : diagnostic_rows (((s 0 1) ∷ (s 1 2) ∷ (s 2 3) ∷ (s 4 5) ∷ (s 5 9) ∷ (s 10 11) ∷ (s 12 13) ∷ (s 13 15) ∷ (s 15 16) ∷ (s 16 17) ∷ (s 18 19) ∷ (s 19 23) ∷ (s 24 25) ∷ (s 26 27) ∷ (s 27 33) ∷ (s 34 35) ∷ (s 35 36) ∷ (s 37 43) ∷ (s 43 44) ∷ (s 45 46) ∷ (s 46 48) ∷ (s 49 50) ∷ (s 50 51) ∷ (s 52 53) ∷ (s 53 59) ∷ (s 60 64) ∷ (s 65 66) ∷ (s 66 72) ∷ (s 73 74) ∷ (s 75 76) ∷ (s 77 78) ∷ (s 78 79) ∷ (s 79 80) ∷ (s 80 81) ∷ (s 81 82) ∷ (s 83 84) ∷ (s 84 97) ∷ (s 98 99) ∷ (s 100 101) ∷ (s 101 113) ∷ (s 114 117) ∷ (s 118 119) ∷ (s 119 120) ∷ (s 121 122) ∷ (s 122 123) ∷ (s 123 124) ∷ (s 125 126) ∷ (s 127 128) ∷ (s 128 133) ∷ (s 134 135) ∷ (s 135 141) ∷ (s 142 145) ∷ (s 146 147) ∷ (s 147 151) ∷ (s 152 153) ∷ (s 154 155) ∷ (s 155 156) ∷ (s 156 157) ∷ (s 157 158) ∷ (s 158 159) ∷ (s 159 160) ∷ (s 160 161) ∷ (s 162 163) ∷ (s 163 181) ∷ (s 182 183) ∷ (s 184 185) ∷ (s 185 189) ∷ (s 190 191) ∷ (s 191 192) ∷ (s 193 195) ∷ (s 196 197) ∷ (s 197 198) ∷ (s 199 202) ∷ (s 202 203) ∷ (s 204 205) ∷ (s 205 206) ∷ (s 207 210) ∷ (s 211 217) ∷ (s 217 218) ∷ (s 218 219) ∷ []) ∷ []) ((Some (((g.list (p 0 2 0 3) (g.part (g.atom (p 1 1 1 2) (g.spelled (k.Name (codes "m") false))) g.none))) ∷ ((g.list (p 3 9 4 17) (g.part (g.atom (p 4 4 5 9) (g.spelled (k.Name (codes "set!") false))) (g.part (g.atom (p 5 5 10 11) (g.spelled (k.Name (codes "x") false))) (g.part (g.list (p 6 8 12 16) (g.part (g.atom (p 6 6 12 13) (g.implied k.Quote)) (g.part (g.vector (p 7 8 13 16) g.none) g.none))) g.none))))) ∷ ((g.list (p 10 34 18 82) (g.part (g.atom (p 11 11 19 23) (g.spelled (k.Name (codes "set!") false))) (g.part (g.atom (p 12 12 24 25) (g.spelled (k.Name (codes "k") false))) (g.part (g.list (p 13 33 26 81) (g.part (g.atom (p 14 14 27 33) (g.spelled (k.Name (codes "lambda") false))) (g.part (g.list (p 15 18 34 44) (g.part (g.atom (p 16 16 35 36) (g.spelled (k.Name (codes "m") false))) (g.part (g.atom (p 17 17 37 43) (g.spelled (k.Name (codes "lambda") false))) g.none))) (g.part (g.list (p 19 22 45 51) (g.part (g.atom (p 20 20 46 48) (g.spelled (k.Truth true))) (g.part (g.atom (p 21 21 49 50) (g.spelled (k.Name (codes "b") false))) g.none))) (g.part (g.list (p 23 32 52 80) (g.part (g.atom (p 24 24 53 59) (g.spelled (k.Name (codes "define") false))) (g.part (g.atom (p 25 25 60 64) (g.spelled (k.Name (codes "cons") false))) (g.part (g.list (p 26 31 65 79) (g.part (g.atom (p 27 27 66 72) (g.spelled (k.Name (codes "lambda") false))) (g.part (g.atom (p 28 28 73 74) (g.spelled (k.Name (codes "m") false))) (g.part (g.atom (p 29 29 75 76) (g.spelled (k.Name (codes "b") false))) (g.part (g.atom (p 30 30 77 78) (g.spelled (k.Name (codes "q") false))) g.none))))) g.none)))) g.none))))) g.none))))) ∷ ((g.list (p 35 61 83 161) (g.part (g.atom (p 36 36 84 97) (g.spelled (k.Name (codes "define-syntax") false))) (g.part (g.atom (p 37 37 98 99) (g.spelled (k.Name (codes "a") false))) (g.part (g.list (p 38 60 100 160) (g.part (g.atom (p 39 39 101 113) (g.spelled (k.Name (codes "syntax-rules") false))) (g.part (g.atom (p 40 40 114 117) (g.spelled (k.Name (codes ":::") false))) (g.part (g.list (p 41 42 118 120) g.none) (g.part (g.list (p 43 59 121 159) (g.part (g.list (p 44 46 122 126) (g.part (g.atom (p 45 45 123 124) (g.spelled (k.Name (codes "_") false))) g.none)) (g.part (g.list (p 47 58 127 158) (g.part (g.atom (p 48 48 128 133) (g.spelled (k.Name (codes "begin") false))) (g.part (g.list (p 49 57 134 157) (g.part (g.atom (p 50 50 135 141) (g.spelled (k.Name (codes "define") false))) (g.part (g.atom (p 51 51 142 145) (g.spelled (k.Name (codes "...") false))) (g.part (g.list (p 52 56 146 156) (g.part (g.atom (p 53 53 147 151) (g.spelled (k.Name (codes "list") false))) (g.part (g.atom (p 54 54 152 153) (g.spelled (k.Name (codes "k") false))) (g.part (g.atom (p 55 55 154 155) (g.spelled (k.Name (codes "y") false))) g.none)))) g.none)))) g.none))) g.none))) g.none))))) g.none))))) ∷ ((g.list (p 62 79 162 219) (g.part (g.atom (p 63 63 163 181) (g.spelled (k.Name (codes "define-record-type") false))) (g.part (g.atom (p 64 64 182 183) (g.spelled (k.Name (codes "f") false))) (g.part (g.list (p 65 68 184 192) (g.part (g.atom (p 66 66 185 189) (g.spelled (k.Name (codes "make") false))) (g.part (g.atom (p 67 67 190 191) (g.spelled (k.Name (codes "m") false))) g.none))) (g.part (g.atom (p 69 69 193 195) (g.spelled (k.Name (codes "f?") false))) (g.part (g.list (p 70 73 196 203) (g.part (g.atom (p 71 71 197 198) (g.spelled (k.Name (codes "m") false))) (g.part (g.atom (p 72 72 199 202) (g.spelled (k.Name (codes "m-x") false))) g.none))) (g.part (g.list (p 74 78 204 218) (g.part (g.atom (p 75 75 205 206) (g.spelled (k.Name (codes "b") false))) (g.part (g.atom (p 76 76 207 210) (g.spelled (k.Name (codes "b-y") false))) (g.part (g.atom (p 77 77 211 217) (g.spelled (k.Name (codes "set-b!") false))) g.none)))) g.none)))))))) ∷ [])) ∷ []) ≡ ((q 0 0 1 104 (codes "no import, (scheme base) is used")) ∷ (q 0 1 2 103 (codes "unbound m")) ∷ (q 0 10 11 103 (codes "unbound x")) ∷ (q 0 24 25 103 (codes "unbound k")) ∷ (q 0 49 50 103 (codes "unbound b")) ∷ (q 0 75 76 103 (codes "unbound b")) ∷ (q 0 77 78 103 (codes "unbound q")) ∷ [])
 unfolding base_names standard_libraries prelude encode_utf8
 macros-123 = refl
 
-pub macros-201 : diagnostic_rows (((s 0 1) ∷ (s 2 3) ∷ (s 3 9) ∷ (s 10 17) ∷ (s 18 20) ∷ (s 20 21) ∷ (s 22 25) ∷ (s 26 27) ∷ (s 27 40) ∷ (s 41 42) ∷ (s 43 44) ∷ (s 44 56) ∷ (s 57 58) ∷ (s 58 59) ∷ (s 60 61) ∷ (s 61 62) ∷ (s 62 63) ∷ (s 64 65) ∷ (s 66 67) ∷ (s 67 72) ∷ (s 73 74) ∷ (s 74 80) ∷ (s 81 82) ∷ (s 83 84) ∷ (s 84 85) ∷ (s 86 87) ∷ (s 87 93) ∷ (s 94 95) ∷ (s 96 97) ∷ (s 97 101) ∷ (s 102 103) ∷ (s 104 105) ∷ (s 105 106) ∷ (s 106 107) ∷ (s 107 108) ∷ (s 108 109) ∷ (s 109 110) ∷ (s 110 111) ∷ []) ∷ []) ((Some (((g.atom (p 0 0 0 1) (k.Atomic (k.Name (codes "b") false)))) ∷ ((g.list (p 1 5 2 21) (g.part (g.atom (p 2 2 3 9) (k.Atomic (k.Name (codes "define") false))) (g.part (g.atom (p 3 3 10 17) (k.Atomic (k.Name (codes "unquote") false))) (g.part (g.atom (p 4 4 18 20) (k.Atomic (k.Truth true))) g.none))))) ∷ ((g.atom (p 6 6 22 25) (k.Atomic (k.Character 99)))) ∷ ((g.list (p 7 37 26 111) (g.part (g.atom (p 8 8 27 40) (k.Atomic (k.Name (codes "define-syntax") false))) (g.part (g.atom (p 9 9 41 42) (k.Atomic (k.Name (codes "t") false))) (g.part (g.list (p 10 36 43 110) (g.part (g.atom (p 11 11 44 56) (k.Atomic (k.Name (codes "syntax-rules") false))) (g.part (g.list (p 12 13 57 59) g.none) (g.part (g.list (p 14 35 60 109) (g.part (g.list (p 15 17 61 65) (g.part (g.atom (p 16 16 62 63) (k.Atomic (k.Name (codes "_") false))) g.none)) (g.part (g.list (p 18 34 66 108) (g.part (g.atom (p 19 19 67 72) (k.Atomic (k.Name (codes "begin") false))) (g.part (g.list (p 20 24 73 85) (g.part (g.atom (p 21 21 74 80) (k.Atomic (k.Name (codes "define") false))) (g.part (g.atom (p 22 22 81 82) (k.Atomic (k.Name (codes "b") false))) (g.part (g.atom (p 23 23 83 84) (k.Atomic (k.Name (codes "t") false))) g.none)))) (g.part (g.list (p 25 33 86 107) (g.part (g.atom (p 26 26 87 93) (k.Atomic (k.Name (codes "define") false))) (g.part (g.atom (p 27 27 94 95) (k.Atomic (k.Name (codes "x") false))) (g.part (g.list (p 28 32 96 106) (g.part (g.atom (p 29 29 97 101) (k.Atomic (k.Name (codes "list") false))) (g.part (g.atom (p 30 30 102 103) (k.Atomic (k.Name (codes "b") false))) (g.part (g.atom (p 31 31 104 105) (k.Atomic (k.Name (codes "a") false))) g.none)))) g.none)))) g.none)))) g.none))) g.none)))) g.none))))) ∷ [])) ∷ []) ≡ ((q 0 0 1 103 (codes "unbound b")) ∷ (q 0 0 1 104 (codes "no import, (scheme base) is used")) ∷ (q 0 10 17 101 (codes "definition hides import unquote")) ∷ [])
+pub macros-201 : diagnostic_rows (((s 0 1) ∷ (s 2 3) ∷ (s 3 9) ∷ (s 10 17) ∷ (s 18 20) ∷ (s 20 21) ∷ (s 22 25) ∷ (s 26 27) ∷ (s 27 40) ∷ (s 41 42) ∷ (s 43 44) ∷ (s 44 56) ∷ (s 57 58) ∷ (s 58 59) ∷ (s 60 61) ∷ (s 61 62) ∷ (s 62 63) ∷ (s 64 65) ∷ (s 66 67) ∷ (s 67 72) ∷ (s 73 74) ∷ (s 74 80) ∷ (s 81 82) ∷ (s 83 84) ∷ (s 84 85) ∷ (s 86 87) ∷ (s 87 93) ∷ (s 94 95) ∷ (s 96 97) ∷ (s 97 101) ∷ (s 102 103) ∷ (s 104 105) ∷ (s 105 106) ∷ (s 106 107) ∷ (s 107 108) ∷ (s 108 109) ∷ (s 109 110) ∷ (s 110 111) ∷ []) ∷ []) ((Some (((g.atom (p 0 0 0 1) (g.spelled (k.Name (codes "b") false)))) ∷ ((g.list (p 1 5 2 21) (g.part (g.atom (p 2 2 3 9) (g.spelled (k.Name (codes "define") false))) (g.part (g.atom (p 3 3 10 17) (g.spelled (k.Name (codes "unquote") false))) (g.part (g.atom (p 4 4 18 20) (g.spelled (k.Truth true))) g.none))))) ∷ ((g.atom (p 6 6 22 25) (g.spelled (k.Character 99)))) ∷ ((g.list (p 7 37 26 111) (g.part (g.atom (p 8 8 27 40) (g.spelled (k.Name (codes "define-syntax") false))) (g.part (g.atom (p 9 9 41 42) (g.spelled (k.Name (codes "t") false))) (g.part (g.list (p 10 36 43 110) (g.part (g.atom (p 11 11 44 56) (g.spelled (k.Name (codes "syntax-rules") false))) (g.part (g.list (p 12 13 57 59) g.none) (g.part (g.list (p 14 35 60 109) (g.part (g.list (p 15 17 61 65) (g.part (g.atom (p 16 16 62 63) (g.spelled (k.Name (codes "_") false))) g.none)) (g.part (g.list (p 18 34 66 108) (g.part (g.atom (p 19 19 67 72) (g.spelled (k.Name (codes "begin") false))) (g.part (g.list (p 20 24 73 85) (g.part (g.atom (p 21 21 74 80) (g.spelled (k.Name (codes "define") false))) (g.part (g.atom (p 22 22 81 82) (g.spelled (k.Name (codes "b") false))) (g.part (g.atom (p 23 23 83 84) (g.spelled (k.Name (codes "t") false))) g.none)))) (g.part (g.list (p 25 33 86 107) (g.part (g.atom (p 26 26 87 93) (g.spelled (k.Name (codes "define") false))) (g.part (g.atom (p 27 27 94 95) (g.spelled (k.Name (codes "x") false))) (g.part (g.list (p 28 32 96 106) (g.part (g.atom (p 29 29 97 101) (g.spelled (k.Name (codes "list") false))) (g.part (g.atom (p 30 30 102 103) (g.spelled (k.Name (codes "b") false))) (g.part (g.atom (p 31 31 104 105) (g.spelled (k.Name (codes "a") false))) g.none)))) g.none)))) g.none)))) g.none))) g.none)))) g.none))))) ∷ [])) ∷ []) ≡ ((q 0 0 1 103 (codes "unbound b")) ∷ (q 0 0 1 104 (codes "no import, (scheme base) is used")) ∷ (q 0 10 17 101 (codes "definition hides import unquote")) ∷ [])
 unfolding base_names standard_libraries prelude encode_utf8
 macros-201 = refl

@@ -5,12 +5,13 @@ use Rattle.scheme_model.specs.Trees.{Bytes, atom}
 use Rattle.syntax_tree.specs.Works.{lived_in}
 use Rattle.syntax_tree.specs.declared.trees.faults.PoolFault.TheVariants as fault
 use Rattle.datum_reader.specs.declared.datum.Shape.TheViews.{the_lemmas}
-use Rattle.datum_reader.specs.Views.{kind_of}
+use Rattle.scheme_model.specs.Data.{spelled, implied}
+use Rattle.datum_reader.specs.Views.{leaf_of, mark_of}
 use Rattle.datum_reader.specs.Seeded.{atom_tree}
 use Rattle.datum_reader.specs.Seeding.{part_tree, parts_trees, tail_tree, CanBeSeeded}
 use Rattle.datum_reader.proofs.Growing.{put_last, not_put, handed_on, node_handed_on, all_handed_on, leaf_prepared, leaf_failed, interns_keep}
 use Rattle.datum_reader.proofs.Preparing.{vector_failed, vector_prepared, parts_failed, tail_failed, list_prepared}
-use Rattle.datum_reader.proofs.SeedLaws.{list_parts, vector_parts, atom_whole, atom_part-size, bytes_whole, bytes-size, small_tree, shallow_tree}
+use Rattle.datum_reader.proofs.SeedLaws.{list_parts, vector_parts, datum-atom, datum-implied, atom_whole, atom_part-size, bytes_whole, bytes-size, small_tree, shallow_tree}
 use Rattle.datum_reader.proofs.Rows.{row_begun, row_adds, row_fails, row_unplaced, row_done}
 use Rattle.datum_reader.proofs.seeding.+parts.Goals as goal
 
@@ -39,12 +40,13 @@ seed_node-returns-in_err-atom_node-in-Atom t c =
     let d = c.args.datum.now in
     let r = c.args.region.now in
     let o = c.place-occ.result in
-    let kind = c.in-Atom.kind in
+    let a = spelled (leaf_of c.in-Atom.atom) in
+    let is = datum-atom d c.in-Atom.atom c.in-Atom.is in
     let names = c.atom_node.new.symbols in
     let whole = part_tree s.unit s.form s.first d in
     node_handed_on w (record { trees = w.trees; symbols = names }) r whole c.from_residual.result fault.Memory c.from_residual.ensures.1
-    (leaf_failed w names r (atom_tree s.unit (kind_of kind) o) whole c.in_err-atom_node-in-Atom.field-0.0 (atom_whole s.unit s.form s.first d o kind c.in-Atom.is c.place-occ.ensures)
-    (atom_part-size s.unit s.form s.first d kind c.in-Atom.is) c.in_err-atom_node-in-Atom.ensures)
+    (leaf_failed w names r (atom_tree s.unit a o) whole c.in_err-atom_node-in-Atom.field-0.0 (atom_whole s.unit s.form s.first d o a is c.place-occ.ensures)
+    (atom_part-size s.unit s.form s.first d a is) c.in_err-atom_node-in-Atom.ensures)
 
 pub seed_node-returns-in_ok-atom_node-in-Atom : goal.seed_node-returns-in_ok-atom_node-in-Atom
 seed_node-returns-in_ok-atom_node-in-Atom t c =
@@ -52,12 +54,42 @@ seed_node-returns-in_ok-atom_node-in-Atom t c =
     let s = c.args.start in
     let d = c.args.datum.now in
     let o = c.place-occ.result in
-    let kind = c.in-Atom.kind in
+    let a = spelled (leaf_of c.in-Atom.atom) in
+    let is = datum-atom d c.in-Atom.atom c.in-Atom.is in
     let names = c.atom_node.new.symbols in
-    let leaf = atom_tree s.unit (kind_of kind) o in
+    let leaf = atom_tree s.unit a o in
     let n = c.in_ok-atom_node-in-Atom in
-    leaf_prepared w names c.args.region.now leaf (part_tree s.unit s.form s.first d) n.field-0 (atom_whole s.unit s.form s.first d o kind c.in-Atom.is c.place-occ.ensures)
-    (atom_part-size s.unit s.form s.first d kind c.in-Atom.is) (interns_keep w.symbols names leaf (Ok n.field-0) n.ensures) n.ensures
+    leaf_prepared w names c.args.region.now leaf (part_tree s.unit s.form s.first d) n.field-0 (atom_whole s.unit s.form s.first d o a is c.place-occ.ensures)
+    (atom_part-size s.unit s.form s.first d a is) (interns_keep w.symbols names leaf (Ok n.field-0) n.ensures) n.ensures
+
+pub seed_node-returns-in_err-mark_node-in-Implied : goal.seed_node-returns-in_err-mark_node-in-Implied
+seed_node-returns-in_err-mark_node-in-Implied t c =
+    let w = c.args.work.now in
+    let s = c.args.start in
+    let d = c.args.datum.now in
+    let r = c.args.region.now in
+    let o = c.place-occ.result in
+    let a = implied (mark_of c.in-Implied.mark) in
+    let is = datum-implied d c.in-Implied.mark c.in-Implied.is in
+    let names = c.mark_node.new.symbols in
+    let whole = part_tree s.unit s.form s.first d in
+    node_handed_on w (record { trees = w.trees; symbols = names }) r whole c.from_residual-in_err-mark_node-in-Implied.result fault.Memory c.from_residual-in_err-mark_node-in-Implied.ensures.1
+    (leaf_failed w names r (atom_tree s.unit a o) whole c.in_err-mark_node-in-Implied.field-0.0 (atom_whole s.unit s.form s.first d o a is c.place-occ.ensures)
+    (atom_part-size s.unit s.form s.first d a is) (c.in_err-mark_node-in-Implied.ensures o))
+
+pub seed_node-returns-in_ok-mark_node-in-Implied : goal.seed_node-returns-in_ok-mark_node-in-Implied
+seed_node-returns-in_ok-mark_node-in-Implied t c =
+    let w = c.args.work.now in
+    let s = c.args.start in
+    let d = c.args.datum.now in
+    let o = c.place-occ.result in
+    let a = implied (mark_of c.in-Implied.mark) in
+    let is = datum-implied d c.in-Implied.mark c.in-Implied.is in
+    let names = c.mark_node.new.symbols in
+    let leaf = atom_tree s.unit a o in
+    let n = c.in_ok-mark_node-in-Implied in
+    leaf_prepared w names c.args.region.now leaf (part_tree s.unit s.form s.first d) n.field-0 (atom_whole s.unit s.form s.first d o a is c.place-occ.ensures)
+    (atom_part-size s.unit s.form s.first d a is) (interns_keep w.symbols names leaf (Ok n.field-0) (n.ensures o)) (n.ensures o)
 
 pub seed_node-returns-in_err-bytes_node-in-Bytes : goal.seed_node-returns-in_err-bytes_node-in-Bytes
 seed_node-returns-in_err-bytes_node-in-Bytes t c =
