@@ -16,11 +16,11 @@ use Rattle.syntax_tree.proofs.TableSteps.{no_some, ident_found, ident_tables, id
 use Rattle.syntax_tree.proofs.InternLaws.{with_found, ident_told, ident_itself}
 use Rattle.syntax_tree.proofs.symbols.Symbols.ident.Goals as goal
 
-same_ident : (x y : Ident) → eq-value.it x y ≡ true → x ≡ y
-same_ident (Written u k) (Written v l) h = grind (arith, nat_tests)
-same_ident (Written u k) (Inserted j n) h = absurd cc
-same_ident (Inserted i m) (Written v l) h = absurd cc
-same_ident (Inserted i m) (Inserted j n) h = grind (arith, nat_tests)
+same_entry : (x y : Ident) → eq-value.it x y ≡ true → x ≡ y
+same_entry (Written u k) (Written v l) h = grind (arith, nat_tests)
+same_entry (Written u k) (Inserted j n) h = absurd cc
+same_entry (Inserted i m) (Written v l) h = absurd cc
+same_entry (Inserted i m) (Inserted j n) h = grind (arith, nat_tests)
 
 itself : (x : Ident) → eq-value.it x x ≡ true
 itself (Written u k) = grind (arith, nat_tests)
@@ -28,7 +28,7 @@ itself (Inserted i m) = grind (arith, nat_tests)
 
 pub returns-in-Some-clause-ok : goal.returns-in-Some-clause-ok
 returns-in-Some-clause-ok c =
-    ident_found eq-value.it same_ident c.self.inside.names c.self.inside.idents c.args.self.now c.in-Some.number c.args.ident c.self.invariant c.self.view_is c.in-Some.ensures.index
+    ident_found eq-value.it same_entry c.self.inside.names c.self.inside.idents c.args.self.now c.in-Some.number c.args.ident c.self.invariant c.self.view_is c.in-Some.ensures.index
 
 pub invariant_of-self-2 : goal.invariant_of-self-2
 invariant_of-self-2 c =
@@ -52,7 +52,7 @@ returns-clause-ok c =
 
 pub returns-in-Some-clause-idents : goal.returns-in-Some-clause-idents
 returns-in-Some-clause-idents c i is =
-    let at = ident_found eq-value.it same_ident c.self.inside.names c.self.inside.idents c.args.self.now c.in-Some.number c.args.ident c.self.invariant c.self.view_is c.in-Some.ensures.index in
+    let at = ident_found eq-value.it same_entry c.self.inside.names c.self.inside.idents c.args.self.now c.in-Some.number c.args.ident c.self.invariant c.self.view_is c.in-Some.ensures.index in
     let apart = subst (λ (n : Names). AreToldApart n.idents) c.self.view_is (idents_apart c.self.inside.names c.self.inside.idents c.self.invariant) in
     with_found same_ident ident_told ident_itself c.args.self.now.idents c.args.self.now.idents c.in-Some.number i apart (at ∙ is) (inl refl)
 
