@@ -23,3 +23,4 @@ pub mod Rows
 pub mod SeedLaws
 pub mod FormLaws
 pub mod Preparing
+pub mod NamePlaces

@@ -1,5 +1,5 @@
 -- A text is data exactly where reading says so, and else it stops where reading stops.
-use Rattle.std.proofs.Common.{◌≡◌, ℕ, ◌≤◌, List, [], ◌∷◌, ◌++◌, Option, Some, None, Result, Ok, Err, refl, sym, ap, ◌∙◌, subst, arith, append-nil, inl, inr, ◌⊎◌, MatchResult}
+use Rattle.std.proofs.Common.{◌≡◌, ℕ, ◌≤◌, map, List, [], ◌∷◌, ◌++◌, Option, Some, None, Result, Ok, Err, refl, sym, ap, ◌∙◌, subst, arith, append-nil, inl, inr, ◌⊎◌, MatchResult}
 use Rattle.scheme_model.specs.Kinds.{Token}
 use Rattle.scheme_tokens.specs.declared.fault.ReadFault.{ReadFault}
 use Rattle.scheme_tokens.specs.declared.fault.ReadFault.TheVariants as faults
@@ -9,7 +9,9 @@ use Rattle.scheme_tokens.specs.Views.{IsFront}
 use Rattle.scheme_model.specs.Data.{Datum}
 use Rattle.scheme_model.specs.Faults.{Stop}
 use Rattle.scheme_model.specs.Numbered.{Numbered, number_from}
-use Rattle.datum_reader.specs.Texts.{TextReads, IsReading, StopsAt, Explains}
+use Rattle.std.specs.Option.{option_map}
+use Rattle.scheme_tokens.proofs.EveryText as told
+use Rattle.datum_reader.specs.Texts.{TextReads, IsReading, StopsAt, Explains, token_seen, stop_seen}
 use Rattle.datum_reader.specs.Open.{State, state, after, after_all, goes_on, finished, left_open, ends, read}
 use Rattle.datum_reader.specs.declared.datum.Datum as code
 use Rattle.scheme_model.specs.Written.{nothing, Parts, last, parts_tokens, parts_meant, parts_depth}
@@ -244,3 +246,10 @@ reads_or_stops text ts end reads = answered (read ts end) refl
         let whole = ends_ok end (after_all (Ok (state [] [])) (number_from 0 ts)) ds h in
         inl (ds, reading_of text ts ds (subst (λ (fin : Option Stop). TextReads text ts fin) whole reads) (ap (read ts) (sym whole) ∙ h))
     answered (Err e) h = inr (e, stops_at text ts end e reads h)
+
+-- each text is data or stops somewhere
+pub every_text : (text : List ℕ) → ((ds : List Datum) × IsReading text ds) ⊎ ((e : Stop) × StopsAt text e)
+every_text text =
+    let read = told.every_text text in
+    reads_or_stops text (map token_seen read.0) (option_map stop_seen read.1) (read.0, read.1, read.2, refl, refl)
+

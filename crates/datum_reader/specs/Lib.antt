@@ -4,3 +4,4 @@ pub mod Seeded
 pub mod Seeding
 pub mod Texts
 pub mod Views
+pub mod NameTokens

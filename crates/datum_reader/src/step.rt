@@ -3,7 +3,7 @@ ghost use Rattle.std.specs.Prelude.{◌≡◌, ◌++◌, ℕ, List, [], ◌∷�
 ghost use Rattle.std.specs.Str.{chars};
 ghost use Rattle.scheme_model.specs.Kinds.{BytesParen};
 ghost use Rattle.datum_reader.specs.Views.{kind_of, leaf_of, mark_of, datum_of, tail_datum, data_of, spot_of, opener_of, frame_of, stack_of, state_of, Moves, Refuses, IsNumeral};
-ghost use Rattle.scheme_model.specs.Data.{list, atom, spelled, implied, row, none};
+ghost use Rattle.scheme_model.specs.Data.{list, atom as atom_datum, spelled, implied, row, none};
 ghost use Rattle.datum_reader.specs.Open as model;
 
 use crate::bytes::is_byte;
@@ -198,14 +198,14 @@ fn dot(state: &mut State, spot: Spot) -> Result<(), ReadFault>
 }
 
 fn make_atom(atom: Atom, spot: Spot) -> Datum
-    ensures { datum_of result ≡ atom (model.at (spot_of spot)) (spelled (leaf_of atom)) }
+    ensures { datum_of result ≡ atom_datum (model.at (spot_of spot)) (spelled (leaf_of atom)) }
 {
     make_datum(Shape::Atom(atom), spot, spot)
 }
 
 /// The identifier that a mark implies.
 fn make_implied(mark: Mark, spot: Spot) -> Datum
-    ensures { datum_of result ≡ atom (model.at (spot_of spot)) (implied (mark_of mark)) }
+    ensures { datum_of result ≡ atom_datum (model.at (spot_of spot)) (implied (mark_of mark)) }
 {
     make_datum(Shape::Implied(mark), spot, spot)
 }
@@ -307,7 +307,7 @@ fn byte_in(
 
 /// An atom that is a datum of its own.
 fn whole(state: &mut State, atom: Atom, spot: Spot) -> Mem<()>
-    ensures { OnOk result (state_of state.new ≡ model.completed (atom (model.at (spot_of spot)) (spelled (leaf_of atom))) (data_of state.old.items.items) (stack_of state.old.stack.items)) }
+    ensures { OnOk result (state_of state.new ≡ model.completed (atom_datum (model.at (spot_of spot)) (spelled (leaf_of atom))) (data_of state.old.items.items) (stack_of state.old.stack.items)) }
 {
     complete(state, Tail::Datum(make_atom(atom, spot)))?;
     Ok(())
@@ -316,7 +316,7 @@ fn whole(state: &mut State, atom: Atom, spot: Spot) -> Mem<()>
 /// An atom behind what is open.
 fn behind(state: &mut State, frame: Frame, atom: Atom, spot: Spot) -> Mem<()>
     ensures { OnOk result (state_of state.new
-        ≡ model.completed (atom (model.at (spot_of spot)) (spelled (leaf_of atom))) (data_of state.old.items.items) (frame_of frame ∷ stack_of state.old.stack.items)) }
+        ≡ model.completed (atom_datum (model.at (spot_of spot)) (spelled (leaf_of atom))) (data_of state.old.items.items) (frame_of frame ∷ stack_of state.old.stack.items)) }
 {
     state.stack.push(frame)?;
     whole(state, atom, spot)?;
@@ -383,7 +383,7 @@ fn one(alloc: Global, datum: Datum) -> Mem<Vec<Datum>>
 /// Opens an abbreviation.
 fn mark(alloc: Global, state: &mut State, mark: Mark, spot: Spot) -> Result<(), ReadFault>
     ensures { Moves (state_of state.new) result (model.unless (model.refused (stack_of state.old.stack.items) (spot_of spot))
-        (model.opened model.marked (spot_of spot) (atom (model.at (spot_of spot)) (implied (mark_of mark)) ∷ []) (state_of state.old))) }
+        (model.opened model.marked (spot_of spot) (atom_datum (model.at (spot_of spot)) (implied (mark_of mark)) ∷ []) (state_of state.old))) }
 {
     let items = one(alloc, make_implied(mark, spot))?;
     open_datum(state, Opener::Mark, spot, items)?;

@@ -78,7 +78,8 @@ fn rest_of_datum(alloc: Global, datum: Datum) -> Mem<Rest>
             let runs = run_more(Vec::new(alloc), parts)?;
             Ok(Rest { runs, end })
         }
-        Shape::Atom(kind) => Ok(only_end(alloc, Shape::Atom(kind), first, last, span)?),
+        Shape::Atom(atom) => Ok(only_end(alloc, Shape::Atom(atom), first, last, span)?),
+        Shape::Implied(mark) => Ok(only_end(alloc, Shape::Implied(mark), first, last, span)?),
         Shape::Vector(items) => Ok(only_end(alloc, Shape::Vector(items), first, last, span)?),
         Shape::Bytes(texts) => Ok(only_end(alloc, Shape::Bytes(texts), first, last, span)?),
     }

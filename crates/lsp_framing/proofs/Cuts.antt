@@ -4,7 +4,7 @@ use Rattle.std.specs.Option.{IsSomeAnd}
 use Rattle.ls_base.specs.Frames.{End, IsFrames}
 use Rattle.lsp_framing.specs.Deframed.{Deframed, After}
 use Rattle.lsp_framing.specs.Runs.{Fed, Runs, all_pieces, all_given}
-use Rattle.lsp_framing.proofs.One.{one_reading}
+use Rattle.lsp_framing.proofs.OneReading.{one_reading}
 
 alike : (past more : List ℕ) (bodies others : List (List ℕ)) (d : Deframed) → past ≡ more → bodies ≡ others → After past bodies d → After more others d
 alike past more bodies others d e k a = subst (λ (q : List ℕ). After q others d) e (subst (λ (q : List (List ℕ)). After past q d) k a)

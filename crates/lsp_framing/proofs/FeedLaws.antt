@@ -16,7 +16,7 @@ use Rattle.lsp_framing.specs.declared.deframer.Halt.TheVariants as halt
 use Rattle.lsp_framing.specs.declared.deframer.FrameFault.{FrameFault}
 use Rattle.lsp_framing.specs.declared.deframer.FrameFault.TheVariants as frame_fault
 use Rattle.lsp_framing.proofs.Feeding.{taken_law, wrong_law, fault_stays}
-use Rattle.lsp_framing.proofs.One.{one_reading}
+use Rattle.lsp_framing.proofs.OneReading.{one_reading}
 
 pub none_is : (h : Option Halt) → ((x : Halt) → h ≡ Some x → ⊥) → h ≡ None
 none_is None away = refl

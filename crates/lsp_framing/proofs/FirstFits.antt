@@ -12,7 +12,7 @@ use Rattle.lsp_framing.specs.declared.header.State.TheVariants.{Body}
 use Rattle.lsp_framing.specs.declared.header.Wrong.{Wrong}
 use Rattle.lsp_framing.specs.declared.header.Wrong.TheVariants.{LongHeader, NoLength, BadLength, LongBody, BadHeader}
 use Rattle.lsp_framing.proofs.Reading.{both, at_fields, at_length_name, in_left, at_digits}
-use Rattle.lsp_framing.proofs.Held.{number_more, all_more}
+use Rattle.lsp_framing.proofs.ReadSoFar.{number_more, all_more}
 
 -- in the value of a length
 abbrev InValue : Place → Type 0

@@ -1,13 +1,13 @@
 pub mod Reading
-pub mod Held
+pub mod ReadSoFar
 pub mod Peels
 pub mod Streams
 pub mod FirstFits
 pub mod Stands
 pub mod Going
 pub mod Feeding
-pub mod One
+pub mod OneReading
 pub mod FeedLaws
 pub mod Written
-pub mod Every
+pub mod EveryReading
 pub mod Cuts

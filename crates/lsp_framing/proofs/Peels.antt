@@ -10,7 +10,7 @@ use Rattle.lsp_framing.specs.declared.header.State.{State}
 use Rattle.lsp_framing.specs.declared.header.State.TheVariants.{Header, Body}
 use Rattle.lsp_framing.specs.declared.header.Wrong.{Wrong}
 use Rattle.lsp_framing.proofs.Reading.{both}
-use Rattle.lsp_framing.proofs.Held.{reads_step}
+use Rattle.lsp_framing.proofs.ReadSoFar.{reads_step}
 
 pub by_step : (s : Place) (c : ℕ) (cs : List ℕ) (r : Result State Wrong) → step s c ≡ r → peel (c ∷ cs) s ≡ onward r cs (peel cs)
 by_step s c cs r e = ap (λ (q : Result State Wrong). onward q cs (peel cs)) e

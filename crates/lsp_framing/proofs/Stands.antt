@@ -12,7 +12,7 @@ use Rattle.lsp_framing.specs.declared.header.State.{State}
 use Rattle.lsp_framing.specs.declared.header.State.TheVariants.{Header, Body}
 use Rattle.lsp_framing.specs.declared.header.Wrong.{Wrong}
 use Rattle.lsp_framing.specs.declared.header.Wrong.TheVariants.{LongHeader}
-use Rattle.lsp_framing.proofs.Held.{reads_step}
+use Rattle.lsp_framing.proofs.ReadSoFar.{reads_step}
 use Rattle.lsp_framing.proofs.Peels.{peel_part, by_step}
 use Rattle.lsp_framing.proofs.FirstFits.{first, first_long}
 use Rattle.lsp_framing.proofs.Streams.{NoFrame, rest_law, fault_law, none_part, none_body, none_wrong, none_long, bad_step, bad_long, good_part, good_body}

@@ -7,7 +7,7 @@ use Rattle.std.proofs.lemmas.Fmt.{decimal_by_steps, length-decimal-le}
 use Rattle.std.proofs.lemmas.List.{length-append}
 use Rattle.std.proofs.lemmas.Bool.Decides.{nat_tests}
 use Rattle.ls_base.specs.Frames.{with_digit, number, sized, IsHeader, Frame, IsFrame, IsFrameOf, stream, bodies_of, max_header, max_body, frame_text, IsFrames, rest}
-use Rattle.lsp_framing.proofs.Held.{all_more, number_more}
+use Rattle.lsp_framing.proofs.ReadSoFar.{all_more, number_more}
 use Rattle.lsp_framing.proofs.Streams.{rest_law, no_frame, good_start}
 
 digit_byte : (d : ℕ) → d < 10 → is_ascii_digit (48 + d) ≡ true

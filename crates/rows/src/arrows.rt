@@ -1,29 +1,31 @@
 //! Rows of syntax_tree: the arrows of small programs.
 use crate::argument::{made, made_bytes};
 use crate::fault::{Row, RowFault};
+use crate::shown::Shown;
 use ls_base::{Arrow, Pos};
 use serde_json::Value;
 use std::alloc::{AllocError, Global};
 use syntax_tree::small::{SmallFault, small_arrows};
 
-pub fn answer(alloc: Global, call: &str, argument: &Value) -> Row<Value> {
+pub fn answer(out: &mut Shown, call: &str, argument: &Value) -> Row<()> {
     if call != "of" {
         return Err(RowFault::NoCall);
     }
-    let bytes = made_bytes(alloc, argument)?;
-    match small_arrows(alloc, made(&bytes)?) {
-        Ok(arrows) => Ok(shown_all(alloc, arrows.as_slice())?),
-        Err(SmallFault::NotSmall) => Ok(Value::try_from_str(alloc, "not small")?),
+    let bytes = made_bytes(out.alloc(), argument)?;
+    match small_arrows(out.alloc(), made(&bytes)?) {
+        Ok(arrows) => Ok(show_all(out, arrows.as_slice())?),
+        Err(SmallFault::NotSmall) => Ok(out.string("not small")?),
         Err(SmallFault::Memory) => Err(RowFault::Memory),
     }
 }
 
-fn shown_all(alloc: Global, arrows: &[Arrow]) -> Row<Value> {
-    let mut all = Vec::new(alloc);
+fn show_all(out: &mut Shown, arrows: &[Arrow]) -> Row<()> {
+    out.open()?;
     for arrow in arrows {
-        all.push(Value::from(line(alloc, arrow)?))?;
+        let line = line(out.alloc(), arrow)?;
+        out.string(line.as_str())?;
     }
-    Ok(Value::from(all))
+    Ok(out.close()?)
 }
 
 fn place(alloc: Global, pos: Pos) -> Result<String, AllocError> {

@@ -1,63 +1,68 @@
 //! Rows of ls_base.
 use crate::argument::{item, list, small, text};
 use crate::fault::{Row, RowFault};
+use crate::shown::Shown;
 use crate::tokens::letter;
 use ls_base::{Items, Text, split_char};
-use serde_json::{Value, json};
-use std::alloc::Global;
+use serde_json::Value;
 use std::cmp::Ordering;
 
-pub fn answer(alloc: Global, call: &str, argument: &Value) -> Row<Value> {
+pub fn answer(out: &mut Shown, call: &str, argument: &Value) -> Row<()> {
     match call {
-        "texts" => Ok(texts(alloc, argument)?),
-        "items" => Ok(items(alloc, list(argument)?)?),
-        "first" => Ok(first(alloc, text(argument)?)?),
+        "texts" => Ok(texts(out, argument)?),
+        "items" => Ok(items(out, list(argument)?)?),
+        "first" => Ok(first(out, text(argument)?)?),
         _ => Err(RowFault::NoCall),
     }
 }
 
-fn order(alloc: Global, order: Ordering) -> Row<Value> {
-    let word = match order {
+fn order(order: Ordering) -> &'static str {
+    match order {
         Ordering::Less => "less",
         Ordering::Equal => "equal",
         Ordering::Greater => "greater",
-    };
-    Ok(Value::try_from_str(alloc, word)?)
+    }
 }
 
 /// Two texts: a copy of the first, whether they are equal, and how they compare in both ways.
-fn texts(alloc: Global, argument: &Value) -> Row<Value> {
+fn texts(out: &mut Shown, argument: &Value) -> Row<()> {
+    let alloc = out.alloc();
     let one = Text::of(alloc, text(item(argument, 0)?)?)?;
     let other = Text::from_string(String::from_str(alloc, text(item(argument, 1)?)?)?);
-    let equal = one == other;
-    let cmp = order(alloc, one.cmp(&other))?;
-    let partial = match one.partial_cmp(&other) {
-        Some(found) => order(alloc, found)?,
-        None => Value::Null,
-    };
     let copy = one.clone()?.into_string();
-    Ok(json!(in alloc; [copy, equal, cmp, partial])?)
+    out.open()?;
+    out.string(copy.as_str())?;
+    out.flag(one == other)?;
+    out.string(order(one.cmp(&other)))?;
+    match one.partial_cmp(&other) {
+        Some(found) => out.string(order(found))?,
+        None => out.null()?,
+    }
+    Ok(out.close()?)
 }
 
 /// Numbers that are put into a list one by one, and taken out again.
-fn items(alloc: Global, numbers: &[Value]) -> Row<Value> {
-    let mut items = Items::new(alloc);
+fn items(out: &mut Shown, numbers: &[Value]) -> Row<()> {
+    let mut items = Items::new(out.alloc());
     for number in numbers {
         items.push(small(number)?)?;
     }
     let again = Items::from_vec(items.into_vec());
-    let mut all = Vec::new(alloc);
+    out.open()?;
     for item in again.as_slice() {
-        all.push(Value::from(*item))?;
+        out.number(*item as u64)?;
     }
-    Ok(Value::from(all))
+    Ok(out.close()?)
 }
 
 /// The first character of a text, and the text behind it.
-fn first(alloc: Global, text: &str) -> Row<Value> {
+fn first(out: &mut Shown, text: &str) -> Row<()> {
     let Some((c, rest)) = split_char(text) else {
-        return Ok(Value::Null);
+        return Ok(out.null()?);
     };
-    let c = letter(alloc, c)?;
-    Ok(json!(in alloc; [c, rest])?)
+    let c = letter(out.alloc(), c)?;
+    out.open()?;
+    out.string(c.as_str())?;
+    out.string(rest)?;
+    Ok(out.close()?)
 }

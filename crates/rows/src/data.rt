@@ -1,108 +1,144 @@
 //! Rows of datum_reader: data as they are read.
 use crate::argument::{made, made_bytes};
 use crate::fault::{Row, RowFault};
-use crate::tokens::{letter, shown_fault};
+use crate::shown::Shown;
+use crate::tokens::{letter, show_fault};
 use datum_reader::{Atom, Datum, Mark, Shape, read_all};
 use ls_base::Text;
-use serde_json::{Value, json};
-use std::alloc::Global;
+use serde_json::Value;
 
-pub fn answer(alloc: Global, call: &str, argument: &Value) -> Row<Value> {
+pub fn answer(out: &mut Shown, call: &str, argument: &Value) -> Row<()> {
     if !matches!(call, "of" | "innermost" | "size") {
         return Err(RowFault::NoCall);
     }
-    let bytes = made_bytes(alloc, argument)?;
-    match read_all(alloc, made(&bytes)?) {
-        Ok(data) => Ok(asked(alloc, call, data.as_slice())?),
-        Err(fault) => Ok(shown_fault(alloc, fault)?),
+    let bytes = made_bytes(out.alloc(), argument)?;
+    match read_all(out.alloc(), made(&bytes)?) {
+        Ok(data) => Ok(asked(out, call, data.as_slice())?),
+        Err(fault) => Ok(show_fault(out, fault)?),
     }
 }
 
 /// What a call asks of data.
-fn asked(alloc: Global, call: &str, data: &[Datum]) -> Row<Value> {
+fn asked(out: &mut Shown, call: &str, data: &[Datum]) -> Row<()> {
     match call {
-        "of" => Ok(shown_all(alloc, data)?),
-        "innermost" => Ok(innermost(alloc, data.first().ok_or(RowFault::NotShown)?)?),
-        "size" => Ok(size(alloc, data.first().ok_or(RowFault::NotShown)?)?),
+        "of" => Ok(show_all(out, data)?),
+        "innermost" => Ok(innermost(out, data.first().ok_or(RowFault::NotShown)?)?),
+        "size" => Ok(size(out, data.first().ok_or(RowFault::NotShown)?)?),
         _ => Err(RowFault::NoCall),
     }
 }
 
 #[cycle(shown)]
-fn shown_all(alloc: Global, data: &[Datum]) -> Row<Value> {
-    let mut all = Vec::new(alloc);
+fn show_all(out: &mut Shown, data: &[Datum]) -> Row<()> {
+    out.open()?;
     for datum in data {
-        all.push(shown(alloc, datum)?)?;
+        show(out, datum)?;
     }
-    Ok(Value::from(all))
+    Ok(out.close()?)
 }
 
-/// The numbers of the first and the last token of a datum, and its bytes.
-fn place(alloc: Global, datum: &Datum) -> Row<Value> {
-    Ok(json!(in alloc; [datum.first, datum.last, datum.span.start, datum.span.end])?)
+/// The kind of a datum, and the numbers of its first and last token and its bytes.
+fn begin(out: &mut Shown, kind: &str, datum: &Datum) -> Row<()> {
+    out.open()?;
+    out.string(kind)?;
+    out.open()?;
+    out.number(datum.first as u64)?;
+    out.number(datum.last as u64)?;
+    out.number(datum.span.start as u64)?;
+    out.number(datum.span.end as u64)?;
+    Ok(out.close()?)
 }
 
 /// A datum: its kind, its place, and what is in it.
 #[cycle(shown)]
-fn shown(alloc: Global, datum: &Datum) -> Row<Value> {
-    let place = place(alloc, datum)?;
+fn show(out: &mut Shown, datum: &Datum) -> Row<()> {
     match &datum.shape {
-        Shape::Atom(atom) => Ok(shown_atom(alloc, atom, place)?),
-        Shape::Implied(mark) => Ok(shown_implied(alloc, *mark, datum.span.start)?),
-        Shape::List(parts, None) => {
-            let parts = shown_all(alloc, parts)?;
-            Ok(json!(in alloc; ["list", place, parts])?)
-        }
-        Shape::List(parts, Some(tail)) => {
-            let parts = shown_all(alloc, parts)?;
-            let tail = shown(alloc, tail)?;
-            Ok(json!(in alloc; ["list", place, parts, tail])?)
+        Shape::Atom(atom) => Ok(show_atom(out, atom, datum)?),
+        Shape::Implied(mark) => Ok(show_implied(out, *mark, datum.span.start)?),
+        Shape::List(parts, tail) => {
+            begin(out, "list", datum)?;
+            show_all(out, parts)?;
+            if let Some(tail) = tail {
+                show(out, tail)?;
+            }
+            Ok(out.close()?)
         }
         Shape::Vector(parts) => {
-            let parts = shown_all(alloc, parts)?;
-            Ok(json!(in alloc; ["vector", place, parts])?)
+            begin(out, "vector", datum)?;
+            show_all(out, parts)?;
+            Ok(out.close()?)
         }
         Shape::Bytes(numerals) => {
-            let numerals = shown_texts(alloc, numerals)?;
-            Ok(json!(in alloc; ["bytes", place, numerals])?)
+            begin(out, "bytes", datum)?;
+            show_texts(out, numerals)?;
+            Ok(out.close()?)
         }
     }
 }
 
-fn shown_texts(alloc: Global, texts: &[Text]) -> Row<Value> {
-    let mut all = Vec::new(alloc);
+fn show_texts(out: &mut Shown, texts: &[Text]) -> Row<()> {
+    out.open()?;
     for text in texts {
-        all.push(Value::try_from_str(alloc, text.as_str())?)?;
+        out.string(text.as_str())?;
     }
-    Ok(Value::from(all))
+    Ok(out.close()?)
 }
 
-fn shown_atom(alloc: Global, atom: &Atom, place: Value) -> Row<Value> {
+fn show_atom(out: &mut Shown, atom: &Atom, datum: &Datum) -> Row<()> {
     match atom {
-        Atom::Name { name, bars } => Ok(json!(in alloc; ["name", place, name.as_str(), *bars])?),
-        Atom::Numeral(text) => Ok(json!(in alloc; ["numeral", place, text.as_str()])?),
-        Atom::Quoted(text) => Ok(json!(in alloc; ["string", place, text.as_str()])?),
-        Atom::Char(c) => {
-            let text = letter(alloc, *c)?;
-            Ok(json!(in alloc; ["char", place, text.as_str()])?)
+        Atom::Name { name, bars } => {
+            begin(out, "name", datum)?;
+            out.string(name.as_str())?;
+            out.flag(*bars)?;
         }
-        Atom::Bool(value) => Ok(json!(in alloc; ["bool", place, *value])?),
+        Atom::Numeral(text) => {
+            begin(out, "numeral", datum)?;
+            out.string(text.as_str())?;
+        }
+        Atom::Quoted(text) => {
+            begin(out, "string", datum)?;
+            out.string(text.as_str())?;
+        }
+        Atom::Char(c) => {
+            begin(out, "char", datum)?;
+            let text = letter(out.alloc(), *c)?;
+            out.string(text.as_str())?;
+        }
+        Atom::Bool(value) => {
+            begin(out, "bool", datum)?;
+            out.flag(*value)?;
+        }
     }
+    Ok(out.close()?)
 }
 
-/// The identifier that a mark implies, which has no token of its own.
-fn shown_implied(alloc: Global, mark: Mark, at: u32) -> Row<Value> {
-    let name = match mark {
+/// The symbol that a mark implies.
+fn implied(mark: Mark) -> &'static str {
+    match mark {
         Mark::Quote => "quote",
         Mark::Quasi => "quasiquote",
         Mark::Unquote => "unquote",
         Mark::Splice => "unquote-splicing",
-    };
-    Ok(json!(in alloc; ["name", [null, null, at, at], name, false])?)
+    }
+}
+
+/// The identifier that a mark implies, which has no token of its own.
+fn show_implied(out: &mut Shown, mark: Mark, at: u32) -> Row<()> {
+    out.open()?;
+    out.string("name")?;
+    out.open()?;
+    out.null()?;
+    out.null()?;
+    out.number(at as u64)?;
+    out.number(at as u64)?;
+    out.close()?;
+    out.string(implied(mark))?;
+    out.flag(false)?;
+    Ok(out.close()?)
 }
 
 /// The datum that is reached through first parts, and how many data are round it.
-fn innermost(alloc: Global, datum: &Datum) -> Row<Value> {
+fn innermost(out: &mut Shown, datum: &Datum) -> Row<()> {
     let mut inner = datum;
     let mut depth = 0u64;
     while let Shape::List(parts, None) | Shape::Vector(parts) = &inner.shape {
@@ -112,19 +148,29 @@ fn innermost(alloc: Global, datum: &Datum) -> Row<Value> {
         }
         depth = depth.saturating_add(1);
     }
-    let inner = shown(alloc, inner)?;
-    Ok(json!(in alloc; [depth, inner])?)
+    out.open()?;
+    out.number(depth)?;
+    show(out, inner)?;
+    Ok(out.close()?)
 }
 
 /// How many parts a list has, or how many bytes a string.
-fn size(alloc: Global, datum: &Datum) -> Row<Value> {
+fn size(out: &mut Shown, datum: &Datum) -> Row<()> {
+    out.open()?;
     match &datum.shape {
-        Shape::List(parts, None) => Ok(json!(in alloc; ["parts", parts.len()])?),
+        Shape::List(parts, None) => {
+            out.string("parts")?;
+            out.number(parts.len() as u64)?;
+        }
         Shape::Atom(Atom::Quoted(text)) => {
-            Ok(json!(in alloc; ["bytes", text.as_str().len()])?)
+            out.string("bytes")?;
+            out.number(text.as_str().len() as u64)?;
         }
-        Shape::Atom(_) | Shape::Implied(_) | Shape::List(..) | Shape::Vector(_) | Shape::Bytes(_) => {
-            Err(RowFault::NotShown)
-        }
+        Shape::Atom(_)
+        | Shape::Implied(_)
+        | Shape::List(..)
+        | Shape::Vector(_)
+        | Shape::Bytes(_) => return Err(RowFault::NotShown),
     }
+    Ok(out.close()?)
 }

@@ -143,6 +143,7 @@ mod messages;
 mod positions;
 mod replies;
 mod session;
+mod shown;
 mod store;
 mod symbols;
 mod tokens;
@@ -152,6 +153,7 @@ use document_store::Store;
 use fault::{Row, RowFault};
 use serde_json::Value;
 use session_core::Session;
+use shown::Shown;
 use std::alloc::Global;
 use std::io;
 use std::io::{BufRead, BufReader, BufWriter, Write};
@@ -163,24 +165,24 @@ struct Bench {
     session: Session,
 }
 
-/// The answer to a call whose argument is JSON.
+/// Writes the answer to a call whose argument is JSON.
 fn by_value(
-    alloc: Global,
+    out: &mut Shown,
     bench: &mut Bench,
     group: &str,
     call: &str,
     argument: &Value,
-) -> Row<Value> {
+) -> Row<()> {
     match group {
-        "tokens" => Ok(tokens::answer(alloc, call, argument)?),
-        "data" => Ok(data::answer(alloc, call, argument)?),
-        "trees" => Ok(trees::answer(alloc, call, argument)?),
-        "symbols" => Ok(symbols::answer(alloc, call, argument)?),
-        "arrows" => Ok(arrows::answer(alloc, call, argument)?),
-        "frames" => Ok(frames::answer(alloc, call, argument)?),
-        "positions" => Ok(positions::answer(alloc, call, argument)?),
-        "store" => Ok(store::answer(alloc, &mut bench.store, call, argument)?),
-        "base" => Ok(base::answer(alloc, call, argument)?),
+        "tokens" => Ok(tokens::answer(out, call, argument)?),
+        "data" => Ok(data::answer(out, call, argument)?),
+        "trees" => Ok(trees::answer(out, call, argument)?),
+        "symbols" => Ok(symbols::answer(out, call, argument)?),
+        "arrows" => Ok(arrows::answer(out, call, argument)?),
+        "frames" => Ok(frames::answer(out, call, argument)?),
+        "positions" => Ok(positions::answer(out, call, argument)?),
+        "store" => Ok(store::answer(out, &mut bench.store, call, argument)?),
+        "base" => Ok(base::answer(out, call, argument)?),
         _ => Err(RowFault::NoCall),
     }
 }
@@ -194,8 +196,9 @@ fn answer(alloc: Global, bench: &mut Bench, line: &str) -> Row<String> {
         "session" => Ok(session::answer(alloc, &mut bench.session, call, argument)?),
         _ => {
             let value = argument::json(alloc, argument)?;
-            let shown = by_value(alloc, bench, group, call, &value)?;
-            Ok(shown.to_string(alloc)?)
+            let mut out = Shown::new(alloc);
+            by_value(&mut out, bench, group, call, &value)?;
+            Ok(out.into_text())
         }
     }
 }

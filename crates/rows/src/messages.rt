@@ -2,9 +2,9 @@
 use crate::argument::{json, made_bytes};
 use crate::fault::{Row, RowFault};
 use crate::replies::reply;
+use crate::shown::Shown;
 use ls_base::{Change, Encoding, Pos, Query, Range};
 use lsp_messages::{At, Call, Id, Message, Note, Reject, read_message, reply_bytes};
-use serde_json::{Value, json};
 use std::alloc::Global;
 use std::str::from_utf8;
 
@@ -26,61 +26,74 @@ pub fn answer(alloc: Global, call: &str, argument: &str) -> Row<String> {
 
 /// What a body says.
 fn read(alloc: Global, body: &[u8]) -> Row<String> {
-    let shown = match read_message(alloc, body) {
-        Ok(message) => shown_message(alloc, &message)?,
-        Err(reject) => shown_reject(alloc, &reject)?,
-    };
-    Ok(shown.to_string(alloc)?)
+    let mut out = Shown::new(alloc);
+    out.open()?;
+    match read_message(alloc, body) {
+        Ok(message) => show_message(&mut out, &message)?,
+        Err(reject) => show_reject(&mut out, &reject)?,
+    }
+    out.close()?;
+    Ok(out.into_text())
 }
 
-fn shown_message(alloc: Global, message: &Message) -> Row<Value> {
+fn show_message(out: &mut Shown, message: &Message) -> Row<()> {
     match message {
-        Message::Request { id, call } => Ok(shown_call(alloc, id, call)?),
-        Message::Notice(note) => Ok(shown_note(alloc, note)?),
-        Message::Response => Ok(json!(in alloc; ["response"])?),
+        Message::Request { id, call } => {
+            out.string("request")?;
+            show_id(out, id)?;
+            Ok(show_call(out, call)?)
+        }
+        Message::Notice(note) => Ok(show_note(out, note)?),
+        Message::Response => Ok(out.string("response")?),
     }
 }
 
-fn shown_reject(alloc: Global, reject: &Reject) -> Row<Value> {
+fn show_reject(out: &mut Shown, reject: &Reject) -> Row<()> {
     match reject {
         Reject::Memory => Err(RowFault::Memory),
-        Reject::Parse => Ok(json!(in alloc; ["no JSON"])?),
-        Reject::Invalid(None) => Ok(json!(in alloc; ["invalid", null])?),
-        Reject::Invalid(Some(id)) => Ok(with_id(alloc, "invalid", id)?),
-        Reject::Method(id) => Ok(with_id(alloc, "unknown method", id)?),
-        Reject::Params(id) => Ok(with_id(alloc, "bad params", id)?),
+        Reject::Parse => Ok(out.string("no JSON")?),
+        Reject::Invalid(None) => {
+            out.string("invalid")?;
+            Ok(out.null()?)
+        }
+        Reject::Invalid(Some(id)) => Ok(with_id(out, "invalid", id)?),
+        Reject::Method(id) => Ok(with_id(out, "unknown method", id)?),
+        Reject::Params(id) => Ok(with_id(out, "bad params", id)?),
     }
 }
 
-fn with_id(alloc: Global, word: &str, id: &Id) -> Row<Value> {
-    let id = shown_id(alloc, id)?;
-    Ok(json!(in alloc; [word, id])?)
+fn with_id(out: &mut Shown, word: &str, id: &Id) -> Row<()> {
+    out.string(word)?;
+    Ok(show_id(out, id)?)
 }
 
-fn shown_id(alloc: Global, id: &Id) -> Row<Value> {
+fn show_id(out: &mut Shown, id: &Id) -> Row<()> {
     match id {
-        Id::Number(number) => Ok(Value::from(*number)),
-        Id::Name(name) => Ok(Value::try_from_str(alloc, name.as_str())?),
+        Id::Number(number) => Ok(out.integer(*number)?),
+        Id::Name(name) => Ok(out.string(name.as_str())?),
     }
 }
 
-fn shown_call(alloc: Global, id: &Id, call: &Call) -> Row<Value> {
-    let id = shown_id(alloc, id)?;
+fn show_call(out: &mut Shown, call: &Call) -> Row<()> {
     match call {
         Call::Initialize { prepare, encoding } => {
-            let stated =
-                json!(in alloc; {"encoding": encoding_name(*encoding), "prepare": *prepare})?;
-            Ok(json!(in alloc; ["request", id, "initialize", stated])?)
+            out.string("initialize")?;
+            out.open_object()?;
+            out.key("encoding")?;
+            out.string(encoding_name(*encoding))?;
+            out.key("prepare")?;
+            out.flag(*prepare)?;
+            Ok(out.close_object()?)
         }
-        Call::Shutdown => Ok(json!(in alloc; ["request", id, "shutdown"])?),
+        Call::Shutdown => Ok(out.string("shutdown")?),
         Call::Ask { at, query } => {
-            let at = shown_at(alloc, at)?;
-            let query = shown_query(alloc, *query)?;
-            Ok(json!(in alloc; ["request", id, query, at])?)
+            show_query(out, *query)?;
+            Ok(show_at(out, at)?)
         }
         Call::Rename { at, new_name } => {
-            let at = shown_at(alloc, at)?;
-            Ok(json!(in alloc; ["request", id, "rename", at, new_name.as_str()])?)
+            out.string("rename")?;
+            show_at(out, at)?;
+            Ok(out.string(new_name.as_str())?)
         }
     }
 }
@@ -94,63 +107,86 @@ fn encoding_name(encoding: Encoding) -> &'static str {
     }
 }
 
-fn shown_query(alloc: Global, query: Query) -> Row<Value> {
+fn show_query(out: &mut Shown, query: Query) -> Row<()> {
     match query {
-        Query::Definition => Ok(Value::try_from_str(alloc, "definition")?),
+        Query::Definition => Ok(out.string("definition")?),
         Query::References { declaration } => {
-            Ok(json!(in alloc; ["references", {"declaration": declaration}])?)
+            out.open()?;
+            out.string("references")?;
+            out.open_object()?;
+            out.key("declaration")?;
+            out.flag(declaration)?;
+            out.close_object()?;
+            Ok(out.close()?)
         }
-        Query::Highlights => Ok(Value::try_from_str(alloc, "highlights")?),
-        Query::Prepare => Ok(Value::try_from_str(alloc, "prepare")?),
-        Query::Arrows => Ok(Value::try_from_str(alloc, "arrows")?),
+        Query::Highlights => Ok(out.string("highlights")?),
+        Query::Prepare => Ok(out.string("prepare")?),
+        Query::Arrows => Ok(out.string("arrows")?),
     }
 }
 
-fn shown_at(alloc: Global, at: &At) -> Row<Value> {
-    let pos = shown_pos(alloc, at.pos)?;
-    Ok(json!(in alloc; [at.uri.as_str(), pos])?)
+fn show_at(out: &mut Shown, at: &At) -> Row<()> {
+    out.open()?;
+    out.string(at.uri.as_str())?;
+    show_pos(out, at.pos)?;
+    Ok(out.close()?)
 }
 
-fn shown_pos(alloc: Global, pos: Pos) -> Row<Value> {
-    Ok(json!(in alloc; [pos.line, pos.character])?)
+fn show_pos(out: &mut Shown, pos: Pos) -> Row<()> {
+    out.open()?;
+    out.number(pos.line as u64)?;
+    out.number(pos.character as u64)?;
+    Ok(out.close()?)
 }
 
-fn shown_range(alloc: Global, range: Option<Range>) -> Row<Value> {
+fn show_range(out: &mut Shown, range: Option<Range>) -> Row<()> {
     let Some(range) = range else {
-        return Ok(Value::Null);
+        return Ok(out.null()?);
     };
-    let start = shown_pos(alloc, range.start)?;
-    let end = shown_pos(alloc, range.end)?;
-    Ok(json!(in alloc; [start, end])?)
+    out.open()?;
+    show_pos(out, range.start)?;
+    show_pos(out, range.end)?;
+    Ok(out.close()?)
 }
 
-fn shown_note(alloc: Global, note: &Note) -> Row<Value> {
+fn show_note(out: &mut Shown, note: &Note) -> Row<()> {
     match note {
-        Note::Exit => Ok(json!(in alloc; ["exit"])?),
+        Note::Exit => Ok(out.string("exit")?),
         Note::Opened { uri, version, text } => {
-            Ok(json!(in alloc; ["opened", uri.as_str(), *version, text.as_str()])?)
+            out.string("opened")?;
+            out.string(uri.as_str())?;
+            out.integer(*version)?;
+            Ok(out.string(text.as_str())?)
         }
         Note::Changed {
             uri,
             version,
             changes,
         } => {
-            let changes = shown_changes(alloc, changes.as_slice())?;
-            Ok(json!(in alloc; ["changed", uri.as_str(), *version, changes])?)
+            out.string("changed")?;
+            out.string(uri.as_str())?;
+            out.integer(*version)?;
+            Ok(show_changes(out, changes.as_slice())?)
         }
-        Note::Closed { uri } => Ok(json!(in alloc; ["closed", uri.as_str()])?),
+        Note::Closed { uri } => {
+            out.string("closed")?;
+            Ok(out.string(uri.as_str())?)
+        }
         Note::BadParams { method } => {
-            Ok(json!(in alloc; ["notice of bad params", method.as_str()])?)
+            out.string("notice of bad params")?;
+            Ok(out.string(method.as_str())?)
         }
-        Note::Other => Ok(json!(in alloc; ["other notice"])?),
+        Note::Other => Ok(out.string("other notice")?),
     }
 }
 
-fn shown_changes(alloc: Global, changes: &[Change]) -> Row<Value> {
-    let mut all = Vec::new(alloc);
+fn show_changes(out: &mut Shown, changes: &[Change]) -> Row<()> {
+    out.open()?;
     for change in changes {
-        let range = shown_range(alloc, change.range)?;
-        all.push(json!(in alloc; [range, change.text.as_str()])?)?;
+        out.open()?;
+        show_range(out, change.range)?;
+        out.string(change.text.as_str())?;
+        out.close()?;
     }
-    Ok(Value::from(all))
+    Ok(out.close()?)
 }

@@ -1,21 +1,24 @@
 //! Rows of text_positions.
 use crate::argument::{encoding, item, made, made_bytes, number, position};
 use crate::fault::{Row, RowFault};
-use serde_json::{Value, json};
-use std::alloc::Global;
+use crate::shown::Shown;
+use serde_json::Value;
 use text_positions::Lines;
 
-pub fn answer(alloc: Global, call: &str, argument: &Value) -> Row<Value> {
-    let bytes = made_bytes(alloc, item(argument, 0)?)?;
+pub fn answer(out: &mut Shown, call: &str, argument: &Value) -> Row<()> {
+    let bytes = made_bytes(out.alloc(), item(argument, 0)?)?;
     let text = made(&bytes)?;
-    let lines = Lines::of(alloc, text)?;
+    let lines = Lines::of(out.alloc(), text)?;
     let place = item(argument, 1)?;
     let encoding = encoding(item(argument, 2)?)?;
     match call {
-        "offset" => Ok(Value::from(lines.offset(text, position(place)?, encoding))),
+        "offset" => Ok(out.number(lines.offset(text, position(place)?, encoding) as u64)?),
         "position" => {
             let pos = lines.position(text, number(place)?, encoding);
-            Ok(json!(in alloc; [pos.line, pos.character])?)
+            out.open()?;
+            out.number(pos.line as u64)?;
+            out.number(pos.character as u64)?;
+            Ok(out.close()?)
         }
         _ => Err(RowFault::NoCall),
     }

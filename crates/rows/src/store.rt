@@ -1,66 +1,69 @@
 //! Rows of document_store, whose calls follow one another.
 use crate::argument::{encoding, integer, item, list, made, made_bytes, number, range, text};
 use crate::fault::{Row, RowFault};
+use crate::shown::Shown;
 use document_store::{Store, StoreFault};
 use ls_base::{Change, Text};
 use serde_json::Value;
 use std::alloc::Global;
 
-pub fn answer(alloc: Global, store: &mut Store, call: &str, argument: &Value) -> Row<Value> {
+pub fn answer(out: &mut Shown, store: &mut Store, call: &str, argument: &Value) -> Row<()> {
     match call {
         "new" => {
-            *store = Store::new(alloc);
-            Ok(Value::try_from_str(alloc, "ok")?)
+            *store = Store::new(out.alloc());
+            Ok(out.string("ok")?)
         }
-        "add" => Ok(add(alloc, store, argument)?),
-        "change" => Ok(change(alloc, store, argument)?),
-        "close" => Ok(Value::Bool(store.close(text(argument)?))),
-        _ => Ok(look(alloc, store, call, argument)?),
+        "add" => Ok(add(out, store, argument)?),
+        "change" => Ok(change(out, store, argument)?),
+        "close" => Ok(out.flag(store.close(text(argument)?))?),
+        _ => Ok(look(out, store, call, argument)?),
     }
 }
 
 /// What a store holds.
-fn look(alloc: Global, store: &Store, call: &str, argument: &Value) -> Row<Value> {
+fn look(out: &mut Shown, store: &Store, call: &str, argument: &Value) -> Row<()> {
     match call {
-        "text" => Ok(shown(alloc, store.text(text(argument)?))?),
-        "version" => Ok(Value::from(store.version(text(argument)?))),
-        "uri" => Ok(shown(alloc, store.doc(number(argument)?))?),
+        "text" => Ok(show(out, store.text(text(argument)?))?),
+        "version" => match store.version(text(argument)?) {
+            Some(version) => Ok(out.integer(version)?),
+            None => Ok(out.null()?),
+        },
+        "uri" => Ok(show(out, store.doc(number(argument)?))?),
         "holds" => {
-            let bytes = made_bytes(alloc, item(argument, 1)?)?;
+            let bytes = made_bytes(out.alloc(), item(argument, 1)?)?;
             let held = store.text(text(item(argument, 0)?)?);
-            Ok(Value::Bool(held == Some(made(&bytes)?)))
+            Ok(out.flag(held == Some(made(&bytes)?))?)
         }
         _ => Err(RowFault::NoCall),
     }
 }
 
-fn shown(alloc: Global, text: Option<&str>) -> Row<Value> {
+fn show(out: &mut Shown, text: Option<&str>) -> Row<()> {
     match text {
-        Some(text) => Ok(Value::try_from_str(alloc, text)?),
-        None => Ok(Value::Null),
+        Some(text) => Ok(out.string(text)?),
+        None => Ok(out.null()?),
     }
 }
 
 /// How a call that may be refused ended.
-fn outcome(alloc: Global, done: Result<(), StoreFault>) -> Row<Value> {
-    let word = match done {
-        Ok(()) => "ok",
-        Err(StoreFault::Memory) => return Err(RowFault::Memory),
-        Err(StoreFault::NotOpen) => "not open",
-        Err(StoreFault::BadRange) => "bad range",
-        Err(StoreFault::TooLong) => "too long",
-        Err(StoreFault::TooMany) => "too many",
-    };
-    Ok(Value::try_from_str(alloc, word)?)
+fn outcome(done: Result<(), StoreFault>) -> Row<&'static str> {
+    match done {
+        Ok(()) => Ok("ok"),
+        Err(StoreFault::Memory) => Err(RowFault::Memory),
+        Err(StoreFault::NotOpen) => Ok("not open"),
+        Err(StoreFault::BadRange) => Ok("bad range"),
+        Err(StoreFault::TooLong) => Ok("too long"),
+        Err(StoreFault::TooMany) => Ok("too many"),
+    }
 }
 
 /// `[URI, VERSION, TEXT]`.
-fn add(alloc: Global, store: &mut Store, argument: &Value) -> Row<Value> {
+fn add(out: &mut Shown, store: &mut Store, argument: &Value) -> Row<()> {
     let uri = text(item(argument, 0)?)?;
     let version = integer(item(argument, 1)?)?;
-    let bytes = made_bytes(alloc, item(argument, 2)?)?;
+    let bytes = made_bytes(out.alloc(), item(argument, 2)?)?;
     let added = store.add(uri, version, made(&bytes)?);
-    Ok(outcome(alloc, added)?)
+    Ok(out.string(outcome(added)?)?)
 }
 
 /// `[RANGE or null, TEXT]`.
@@ -75,7 +78,8 @@ fn read_change(alloc: Global, value: &Value) -> Row<Change> {
 }
 
 /// `[URI, VERSION, [CHANGE, ..], ENCODING]`.
-fn change(alloc: Global, store: &mut Store, argument: &Value) -> Row<Value> {
+fn change(out: &mut Shown, store: &mut Store, argument: &Value) -> Row<()> {
+    let alloc = out.alloc();
     let uri = text(item(argument, 0)?)?;
     let version = integer(item(argument, 1)?)?;
     let mut changes = Vec::new(alloc);
@@ -84,5 +88,5 @@ fn change(alloc: Global, store: &mut Store, argument: &Value) -> Row<Value> {
     }
     let encoding = encoding(item(argument, 3)?)?;
     let changed = store.change(uri, version, &changes, encoding);
-    Ok(outcome(alloc, changed)?)
+    Ok(out.string(outcome(changed)?)?)
 }

@@ -4,47 +4,52 @@ ghost use Rattle.syntax_tree.specs.Numbered.{IsPlaced};
 
 use crate::argument::{item, list, number, text};
 use crate::fault::{Row, RowFault};
-use serde_json::{Value, json};
-use std::alloc::Global;
+use crate::shown::Shown;
+use serde_json::Value;
 use syntax_tree::symbols::{IdNo, Ident, Symbols, UseNo};
 
-pub fn answer(alloc: Global, call: &str, argument: &Value) -> Row<Value> {
+pub fn answer(out: &mut Shown, call: &str, argument: &Value) -> Row<()> {
     match call {
-        "of" => Ok(symbols(alloc, list(argument)?)?),
-        "identifiers" => Ok(identifiers(alloc, list(argument)?)?),
+        "of" => Ok(symbols(out, list(argument)?)?),
+        "identifiers" => Ok(identifiers(out, list(argument)?)?),
         _ => Err(RowFault::NoCall),
     }
 }
 
 /// The number of each name, and the name of that number.
-fn symbols(alloc: Global, names: &[Value]) -> Row<Value> {
-    let mut symbols = Symbols::new(alloc);
-    let mut all = Vec::new(alloc);
+fn symbols(out: &mut Shown, names: &[Value]) -> Row<()> {
+    let mut symbols = Symbols::new(out.alloc());
+    out.open()?;
     for name in names {
         let number = symbols.symbol(text(name)?)?;
-        all.push(json!(in alloc; [number, symbols.name(number)])?)?;
+        out.open()?;
+        out.number(number as u64)?;
+        out.string(symbols.name(number))?;
+        out.close()?;
     }
-    Ok(Value::from(all))
+    Ok(out.close()?)
 }
 
-fn identifiers(alloc: Global, values: &[Value]) -> Row<Value> {
-    let mut symbols = Symbols::new(alloc);
-    let mut all = Vec::new(alloc);
+fn identifiers(out: &mut Shown, values: &[Value]) -> Row<()> {
+    let mut symbols = Symbols::new(out.alloc());
+    out.open()?;
     for value in values {
-        all.push(identifier(alloc, &mut symbols, value)?)?;
+        identifier(out, &mut symbols, value)?;
     }
-    Ok(Value::from(all))
+    Ok(out.close()?)
 }
 
 /// `[NAME, UNIT, [USE, ..]]`: the number of an identifier, its symbol, and what stands for it.
-fn identifier(alloc: Global, symbols: &mut Symbols, value: &Value) -> Row<Value> {
+fn identifier(out: &mut Shown, symbols: &mut Symbols, value: &Value) -> Row<()> {
     let mut id = written(symbols, text(item(value, 0)?)?, number(item(value, 1)?)?)?;
     for by in list(item(value, 2)?)? {
         id = inserted(symbols, id, use_no(by)?)?;
     }
-    let symbol = symbols.name(symbols.strip(id));
-    let ident = shown(alloc, symbols, symbols.ident_at(id))?;
-    Ok(json!(in alloc; [id, symbol, ident])?)
+    out.open()?;
+    out.number(id as u64)?;
+    out.string(symbols.name(symbols.strip(id)))?;
+    show(out, symbols, symbols.ident_at(id))?;
+    Ok(out.close()?)
 }
 
 /// The identifier of a name that is written in a unit.
@@ -73,15 +78,29 @@ fn use_no(value: &Value) -> Row<UseNo> {
 }
 
 /// `["written", UNIT, NAME]`, or `["inserted", IDENTIFIER, USE]`.
-fn shown(alloc: Global, symbols: &Symbols, ident: Ident) -> Row<Value>
+fn show(out: &mut Shown, symbols: &Symbols, ident: Ident) -> Row<()>
     requires { IsPlaced symbols.now ident }
 {
+    out.open()?;
     match ident {
         Ident::Written { unit, symbol } => {
-            Ok(json!(in alloc; ["written", unit, symbols.name(symbol)])?)
+            out.string("written")?;
+            out.number(unit as u64)?;
+            out.string(symbols.name(symbol))?;
         }
         Ident::Inserted { id, number } => {
-            Ok(json!(in alloc; ["inserted", id, [number.unit, number.form, number.count]])?)
+            out.string("inserted")?;
+            out.number(id as u64)?;
+            show_use(out, number)?;
         }
     }
+    Ok(out.close()?)
+}
+
+fn show_use(out: &mut Shown, number: UseNo) -> Row<()> {
+    out.open()?;
+    out.number(number.unit as u64)?;
+    out.number(number.form as u64)?;
+    out.number(number.count as u64)?;
+    Ok(out.close()?)
 }

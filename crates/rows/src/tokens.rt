@@ -1,92 +1,124 @@
 //! Rows of scheme_tokens.
-ghost use Rattle.std.specs.Prelude.{◌<◌, ◌^◌, length};
-
 use crate::argument::{flag, item, made, made_bytes, text};
 use crate::fault::{Row, RowFault};
+use crate::shown::Shown;
 use ls_base::Span;
 use scheme_tokens::{ReadFault, Token, TokenKind, front_tokens, ident_of, spell, tokens};
-use serde_json::{Value, json};
+use serde_json::Value;
 use std::alloc::Global;
 
-pub fn answer(alloc: Global, call: &str, argument: &Value) -> Row<Value> {
+pub fn answer(out: &mut Shown, call: &str, argument: &Value) -> Row<()> {
     match call {
-        "of" => Ok(all(alloc, argument)?),
-        "front" => Ok(front(alloc, argument)?),
-        "symbol" => Ok(symbol(alloc, made(&made_bytes(alloc, argument)?)?)?),
-        "spell" => Ok(spelled(alloc, argument)?),
+        "of" => Ok(all(out, argument)?),
+        "front" => Ok(front(out, argument)?),
+        "symbol" => {
+            let bytes = made_bytes(out.alloc(), argument)?;
+            Ok(symbol(out, made(&bytes)?)?)
+        }
+        "spell" => Ok(spelled(out, argument)?),
         _ => Err(RowFault::NoCall),
     }
 }
 
 /// The tokens of a text, or the fault.
-fn all(alloc: Global, argument: &Value) -> Row<Value> {
-    let bytes = made_bytes(alloc, argument)?;
-    match tokens(alloc, made(&bytes)?) {
-        Ok(tokens) => Ok(shown_all(alloc, tokens.as_slice())?),
-        Err(fault) => Ok(shown_fault(alloc, fault)?),
+fn all(out: &mut Shown, argument: &Value) -> Row<()> {
+    let bytes = made_bytes(out.alloc(), argument)?;
+    match tokens(out.alloc(), made(&bytes)?) {
+        Ok(tokens) => Ok(show_all(out, tokens.as_slice())?),
+        Err(fault) => Ok(show_fault(out, fault)?),
     }
 }
 
 /// The tokens up to the end or to a fault, and the fault.
-fn front(alloc: Global, argument: &Value) -> Row<Value> {
-    let bytes = made_bytes(alloc, argument)?;
-    let front = front_tokens(alloc, made(&bytes)?)?;
-    let tokens = shown_all(alloc, front.tokens.as_slice())?;
-    let fault = match front.fault {
-        Some(fault) => shown_fault(alloc, fault)?,
-        None => Value::Null,
-    };
-    Ok(json!(in alloc; [tokens, fault])?)
+fn front(out: &mut Shown, argument: &Value) -> Row<()> {
+    let bytes = made_bytes(out.alloc(), argument)?;
+    let front = front_tokens(out.alloc(), made(&bytes)?)?;
+    out.open()?;
+    show_all(out, front.tokens.as_slice())?;
+    match front.fault {
+        Some(fault) => show_fault(out, fault)?,
+        None => out.null()?,
+    }
+    Ok(out.close()?)
 }
 
-fn symbol(alloc: Global, text: &str) -> Row<Value> {
-    match ident_of(alloc, text)? {
-        Some(name) => Ok(Value::try_from_str(alloc, name.as_str())?),
-        None => Ok(Value::Null),
+fn symbol(out: &mut Shown, text: &str) -> Row<()> {
+    match ident_of(out.alloc(), text)? {
+        Some(name) => Ok(out.string(name.as_str())?),
+        None => Ok(out.null()?),
     }
 }
 
 /// How a symbol is spelled, and the symbol that this spelling has.
-fn spelled(alloc: Global, argument: &Value) -> Row<Value> {
+fn spelled(out: &mut Shown, argument: &Value) -> Row<()> {
     let name = text(item(argument, 0)?)?;
-    let spelled = spell(alloc, name, flag(item(argument, 1)?)?)?;
-    let again = symbol(alloc, spelled.as_str())?;
-    Ok(json!(in alloc; [spelled.as_str(), again])?)
+    let spelled = spell(out.alloc(), name, flag(item(argument, 1)?)?)?;
+    out.open()?;
+    out.string(spelled.as_str())?;
+    symbol(out, spelled.as_str())?;
+    Ok(out.close()?)
 }
 
 /// A fault and its bytes.
-pub fn shown_fault(alloc: Global, fault: ReadFault) -> Row<Value> {
+pub fn show_fault(out: &mut Shown, fault: ReadFault) -> Row<()> {
     match fault {
         ReadFault::Memory => Err(RowFault::Memory),
         ReadFault::At { number, span } => {
-            let at = json!(in alloc; [span.start, span.end])?;
-            Ok(json!(in alloc; {"at": at, "fault": number})?)
+            out.open_object()?;
+            out.key("at")?;
+            out.open()?;
+            out.number(span.start as u64)?;
+            out.number(span.end as u64)?;
+            out.close()?;
+            out.key("fault")?;
+            out.number(number as u64)?;
+            Ok(out.close_object()?)
         }
     }
 }
 
-fn shown_all(alloc: Global, tokens: &[Token]) -> Row<Value> {
-    let mut all = Vec::new(alloc);
+fn show_all(out: &mut Shown, tokens: &[Token]) -> Row<()> {
+    out.open()?;
     for token in tokens {
-        all.push(shown(alloc, token)?)?;
+        show(out, token)?;
     }
-    Ok(Value::from(all))
+    Ok(out.close()?)
+}
+
+/// The kind of a token, and its bytes.
+fn begin(out: &mut Shown, kind: &str, span: Span) -> Row<()> {
+    out.open()?;
+    out.string(kind)?;
+    out.number(span.start as u64)?;
+    Ok(out.number(span.end as u64)?)
 }
 
 /// A token: its kind, its bytes, and what it means where it means something.
-fn shown(alloc: Global, token: &Token) -> Row<Value> {
+fn show(out: &mut Shown, token: &Token) -> Row<()> {
     let span = token.span;
     match &token.kind {
         TokenKind::Name { name, bars } => {
-            Ok(json!(in alloc; ["name", span.start, span.end, name.as_str(), *bars])?)
+            begin(out, "name", span)?;
+            out.string(name.as_str())?;
+            out.flag(*bars)?;
         }
-        TokenKind::Numeral(text) => Ok(told(alloc, "numeral", span, text.as_str())?),
-        TokenKind::Quoted(text) => Ok(told(alloc, "string", span, text.as_str())?),
+        TokenKind::Numeral(text) => {
+            begin(out, "numeral", span)?;
+            out.string(text.as_str())?;
+        }
+        TokenKind::Quoted(text) => {
+            begin(out, "string", span)?;
+            out.string(text.as_str())?;
+        }
         TokenKind::Char(c) => {
-            let text = letter(alloc, *c)?;
-            Ok(told(alloc, "char", span, text.as_str())?)
+            begin(out, "char", span)?;
+            let text = letter(out.alloc(), *c)?;
+            out.string(text.as_str())?;
         }
-        TokenKind::Bool(value) => Ok(json!(in alloc; ["bool", span.start, span.end, *value])?),
+        TokenKind::Bool(value) => {
+            begin(out, "bool", span)?;
+            out.flag(*value)?;
+        }
         TokenKind::Paren
         | TokenKind::VectorParen
         | TokenKind::BytesParen
@@ -96,15 +128,9 @@ fn shown(alloc: Global, token: &Token) -> Row<Value> {
         | TokenKind::Quasi
         | TokenKind::Unquote
         | TokenKind::Splice
-        | TokenKind::Skip => {
-            let mark = mark(&token.kind)?;
-            Ok(json!(in alloc; [mark, span.start, span.end])?)
-        }
+        | TokenKind::Skip => begin(out, mark(&token.kind)?, span)?,
     }
-}
-
-fn told(alloc: Global, kind: &str, span: Span, text: &str) -> Row<Value> {
-    Ok(json!(in alloc; [kind, span.start, span.end, text])?)
+    Ok(out.close()?)
 }
 
 /// The text of one character.

@@ -9,25 +9,26 @@ ghost use Rattle.syntax_tree.specs.Works.{IsStanding};
 
 use crate::argument::{item, made, made_bytes, number};
 use crate::fault::{Row, RowFault};
+use crate::shown::Shown;
 use crate::tokens::letter;
 use datum_reader::{read_all, seed};
 use ls_base::limits::MAX_TEXT;
 use scheme_model::Occ;
 use scheme_tokens::ReadFault;
-use serde_json::{Value, json};
+use serde_json::Value;
 use std::alloc::Global;
 use syntax_tree::symbols::{Ident, Symbols};
 use syntax_tree::trees::{Leaf, Node, PoolFault, Tree, Work};
 
-pub fn answer(alloc: Global, call: &str, argument: &Value) -> Row<Value> {
+pub fn answer(out: &mut Shown, call: &str, argument: &Value) -> Row<()> {
     match call {
         "of" => {
             let unit = number(item(argument, 1)?)?;
             let form = number(item(argument, 2)?)?;
-            let bytes = made_bytes(alloc, item(argument, 0)?)?;
-            Ok(planted(alloc, made(&bytes)?, unit, form)?)
+            let bytes = made_bytes(out.alloc(), item(argument, 0)?)?;
+            Ok(planted(out, made(&bytes)?, unit, form)?)
         }
-        "shared" => Ok(shared(alloc)?),
+        "shared" => Ok(shared(out)?),
         _ => Err(RowFault::NoCall),
     }
 }
@@ -64,24 +65,31 @@ fn plant(alloc: Global, work: &mut Work, text: &str, unit: u32, form: u32) -> Ro
 }
 
 /// The size and the depth of the tree of the last datum of a text, and the tree.
-fn planted(alloc: Global, text: &str, unit: u32, form: u32) -> Row<Value> {
+fn planted(out: &mut Shown, text: &str, unit: u32, form: u32) -> Row<()> {
     if text.len() > MAX_TEXT {
         return Err(RowFault::TooLong);
     }
-    let mut work = Work::new(alloc);
-    let tree = plant(alloc, &mut work, text, unit, form)?;
-    let size = work.size(tree);
-    let depth = work.depth(tree);
-    let shown = shown(alloc, &work, tree, depth)?;
-    Ok(json!(in alloc; [size, depth, shown])?)
+    let mut work = Work::new(out.alloc());
+    let tree = plant(out.alloc(), &mut work, text, unit, form)?;
+    out.open()?;
+    out.number(work.size(tree) as u64)?;
+    out.number(work.depth(tree) as u64)?;
+    show(out, &work, tree, work.depth(tree))?;
+    Ok(out.close()?)
 }
 
-/// `[UNIT, FORM, TOKEN]`, or null where there is no place.
-fn place(alloc: Global, occ: Option<Occ>) -> Row<Value> {
-    match occ {
-        None => Ok(Value::Null),
-        Some(occ) => Ok(json!(in alloc; [occ.unit, occ.form, occ.token])?),
-    }
+/// A kind, and behind it `[UNIT, FORM, TOKEN]`, or null where there is no place.
+fn begin(out: &mut Shown, kind: &str, occ: Option<Occ>) -> Row<()> {
+    out.open()?;
+    out.string(kind)?;
+    let Some(occ) = occ else {
+        return Ok(out.null()?);
+    };
+    out.open()?;
+    out.number(occ.unit as u64)?;
+    out.number(occ.form as u64)?;
+    out.number(occ.token as u64)?;
+    Ok(out.close()?)
 }
 
 /// A name and the unit that it is written in, as `NAME@UNIT`.
@@ -98,23 +106,38 @@ fn name_text(alloc: Global, symbols: &Symbols, ident: Ident) -> Row<String>
 }
 
 /// `[KIND, PLACE, VALUE]`.
-fn shown_leaf(alloc: Global, symbols: &Symbols, leaf: Leaf, place: Value) -> Row<Value>
+fn show_leaf(out: &mut Shown, symbols: &Symbols, leaf: Leaf, occ: Option<Occ>) -> Row<()>
     requires { (t : ModelTree Identifier) × ((o : Option Occ) × (leaf_tree symbols.now leaf o ≡ Some t)) }
 {
     match leaf {
         Leaf::Name(id) => {
-            let text = name_text(alloc, symbols, symbols.ident_at(id))?;
-            Ok(json!(in alloc; ["name", place, text])?)
+            let text = name_text(out.alloc(), symbols, symbols.ident_at(id))?;
+            begin(out, "name", occ)?;
+            out.string(text.as_str())?;
         }
-        Leaf::Numeral(symbol) => Ok(json!(in alloc; ["numeral", place, symbols.name(symbol)])?),
-        Leaf::Quoted(symbol) => Ok(json!(in alloc; ["string", place, symbols.name(symbol)])?),
+        Leaf::Numeral(symbol) => {
+            begin(out, "numeral", occ)?;
+            out.string(symbols.name(symbol))?;
+        }
+        Leaf::Quoted(symbol) => {
+            begin(out, "string", occ)?;
+            out.string(symbols.name(symbol))?;
+        }
         Leaf::Char(c) => {
-            let text = letter(alloc, c)?;
-            Ok(json!(in alloc; ["char", place, text])?)
+            begin(out, "char", occ)?;
+            let text = letter(out.alloc(), c)?;
+            out.string(text.as_str())?;
         }
-        Leaf::Bool(value) => Ok(json!(in alloc; ["bool", place, value])?),
-        Leaf::Bytes(symbol) => Ok(json!(in alloc; ["bytes", place, symbols.name(symbol)])?),
+        Leaf::Bool(value) => {
+            begin(out, "bool", occ)?;
+            out.flag(value)?;
+        }
+        Leaf::Bytes(symbol) => {
+            begin(out, "bytes", occ)?;
+            out.string(symbols.name(symbol))?;
+        }
     }
+    Ok(out.close()?)
 }
 
 /// The parts and the tail of a tree.
@@ -130,23 +153,14 @@ fn parts_of(work: &Work, tree: Tree) -> (&[Tree], Option<Tree>)
     }
 }
 
-/// What a tree is by itself: an atom, or `[KIND, PLACE]` of one that has parts.
-fn shown_alone(alloc: Global, work: &Work, tree: Tree) -> Row<Value>
+/// What a tree is by itself: an atom, or the beginning of `[KIND, PLACE, ..]` of one that has parts.
+fn show_alone(out: &mut Shown, work: &Work, tree: Tree) -> Row<()>
     requires { IsStanding work.now tree }
 {
     match work.node(tree) {
-        Node::Atom { leaf, occ } => {
-            let place = place(alloc, *occ)?;
-            Ok(shown_leaf(alloc, &work.symbols, *leaf, place)?)
-        }
-        Node::List { occ, .. } => {
-            let place = place(alloc, *occ)?;
-            Ok(json!(in alloc; ["list", place])?)
-        }
-        Node::Vector { occ, .. } => {
-            let place = place(alloc, *occ)?;
-            Ok(json!(in alloc; ["vector", place])?)
-        }
+        Node::Atom { leaf, occ } => Ok(show_leaf(out, &work.symbols, *leaf, *occ)?),
+        Node::List { occ, .. } => Ok(begin(out, "list", *occ)?),
+        Node::Vector { occ, .. } => Ok(begin(out, "vector", *occ)?),
     }
 }
 
@@ -161,38 +175,40 @@ fn is_atom(work: &Work, tree: Tree) -> bool
 }
 
 /// A tree, so many nodes deep: an atom, or `[KIND, PLACE, [PART, ..]]` with the tail behind the parts.
-fn shown(alloc: Global, work: &Work, tree: Tree, depth: u32) -> Row<Value>
+#[cycle(shown)]
+fn show(out: &mut Shown, work: &Work, tree: Tree, depth: u32) -> Row<()>
     requires { IsStanding work.now tree }
 {
     if depth == 0 {
         return Err(RowFault::NotShown);
     }
-    let mut alone = shown_alone(alloc, work, tree)?;
+    show_alone(out, work, tree)?;
     if is_atom(work, tree) {
-        return Ok(alone);
+        return Ok(());
     }
     let (parts, end) = parts_of(work, tree);
-    let mut all = Vec::new(alloc);
-    for part in parts {
-        all.push(shown(alloc, work, *part, depth - 1)?)?;
-    }
-    push_to(&mut alone, Value::from(all))?;
+    show_parts(out, work, parts, depth - 1)?;
     if let Some(end) = end {
-        push_to(&mut alone, shown(alloc, work, end, depth - 1)?)?;
+        show(out, work, end, depth - 1)?;
     }
-    Ok(alone)
+    Ok(out.close()?)
 }
 
-/// Adds an item to a list.
-fn push_to(list: &mut Value, item: Value) -> Row<()> {
-    match list.as_array_mut() {
-        Some(items) => Ok(items.push(item)?),
-        None => Err(RowFault::NotShown),
+/// The parts of a tree, each so many nodes deep.
+#[cycle(shown)]
+fn show_parts(out: &mut Shown, work: &Work, parts: &[Tree], depth: u32) -> Row<()>
+    requires { All (IsStanding work.now) parts.now }
+{
+    out.open()?;
+    for part in parts {
+        show(out, work, *part, depth)?;
     }
+    Ok(out.close()?)
 }
 
 /// The sizes and depths of `#\x`, `(#\x #\x . #\x)` and `#((#\x #\x . #\x))`, where each part stands in the table once.
-fn shared(alloc: Global) -> Row<Value> {
+fn shared(out: &mut Shown) -> Row<()> {
+    let alloc = out.alloc();
     let mut work = Work::new(alloc);
     let region = work.open_region()?;
     let letter = work.add(
@@ -217,7 +233,19 @@ fn shared(alloc: Global) -> Row<Value> {
     let vector = work.add(&region, Node::Vector { items, occ: None })?;
     let third = [work.size(vector), work.depth(vector)];
     let same = is_only_part(&work, vector, list);
-    Ok(json!(in alloc; [[first[0], first[1]], [second[0], second[1]], [third[0], third[1]], same])?)
+    out.open()?;
+    show_pair(out, first)?;
+    show_pair(out, second)?;
+    show_pair(out, third)?;
+    out.flag(same)?;
+    Ok(out.close()?)
+}
+
+fn show_pair(out: &mut Shown, pair: [u32; 2]) -> Row<()> {
+    out.open()?;
+    out.number(pair[0] as u64)?;
+    out.number(pair[1] as u64)?;
+    Ok(out.close()?)
 }
 
 /// Whether a vector has one part, and it is this one.

@@ -3,7 +3,7 @@ use Rattle.std.proofs.Common.{◌≡◌, ℕ, List, [], ◌∷◌, ◌++◌, ref
 use Rattle.std.specs.Option.{option_map}
 use Rattle.scheme_model.specs.Session.{Clean, Early, Ending, Run, State}
 use Rattle.session_core.specs.Asked.{Question}
-use Rattle.session_core.specs.Answered.{AreReplies}
+use Rattle.session_core.specs.ToWire.{AreReplies}
 use Rattle.session_core.specs.States.{exit_code}
 use Rattle.session_core.specs.Stepped.{IsStep}
 use Rattle.session_core.specs.declared.out.Out.{Out}

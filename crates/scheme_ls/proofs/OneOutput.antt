@@ -2,10 +2,10 @@
 use Rattle.std.proofs.Common.{◌≡◌, ℕ, List, [], ◌++◌, refl, sym, ap, ◌∙◌, subst, append_assoc, append-nil, Option, Some, None, inl, inr, ◌⊎◌}
 use Rattle.std.specs.FinMap.{empty}
 use Rattle.ls_base.specs.Frames.{End}
-use Rattle.lsp_framing.proofs.One.{one_reading}
+use Rattle.lsp_framing.proofs.OneReading.{one_reading}
 use Rattle.lsp_messages.specs.declared.reply.Reply.{Reply}
 use Rattle.scheme_model.specs.Session.{Ending, Run, begin}
-use Rattle.session_core.specs.Answered.{AreReplies}
+use Rattle.session_core.specs.ToWire.{AreReplies}
 use Rattle.session_core.specs.Asked.{Question}
 use Rattle.session_core.proofs.OneAnswer.{one_replies}
 use Rattle.scheme_ls.specs.SessionOutput.{AnswerFirst, BeginOutput, IsOutputOf, Output, farewell, session_over, written}

@@ -7,8 +7,8 @@ use Rattle.std.specs.FinMap.{empty}
 use Rattle.std.specs.Option.{IsSomeAnd}
 use Rattle.ls_base.specs.Frames.{End, Fault, IsFrames, fault, fault_number, rest}
 use Rattle.lsp_framing.specs.Feeds.{Feeds}
-use Rattle.lsp_framing.proofs.Every.{every_reading}
-use Rattle.lsp_framing.proofs.One.{bodies_grow}
+use Rattle.lsp_framing.proofs.EveryReading.{every_reading}
+use Rattle.lsp_framing.proofs.OneReading.{bodies_grow}
 use Rattle.lsp_messages.specs.declared.reply.Reply.{Reply}
 use Rattle.ls_outside.specs.Sources.{GotTakes}
 use Rattle.ls_outside.specs.declared.source.Got.TheVariants as got

@@ -2,9 +2,9 @@
 use Rattle.std.proofs.Common.{◌≡◌, ℕ, List, [], ◌∷◌, ◌++◌, refl, sym, ap, ◌∙◌, append_assoc, append-nil, subst, Some, None, Option}
 use Rattle.scheme_model.specs.Session as model
 use Rattle.scheme_model.specs.Session.{Ending, Run, State, Stepped, after_replies, followed, step}
-use Rattle.session_core.specs.Said.{offsets}
+use Rattle.session_core.specs.FromWire.{offsets}
 use Rattle.session_core.specs.Asked.{Question, questions}
-use Rattle.session_core.specs.Answered.{AreReplies}
+use Rattle.session_core.specs.ToWire.{AreReplies}
 use Rattle.lsp_messages.specs.declared.reply.Reply.{Reply}
 use Rattle.scheme_ls.specs.ReplyFrames.{frame_of_reply, frames_of}
 use Rattle.scheme_ls.specs.SessionOutput.{said, session_from}

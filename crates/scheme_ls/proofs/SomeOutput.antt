@@ -2,12 +2,12 @@
 use Rattle.std.proofs.Common.{ℕ, List, [], ◌∷◌, ◌++◌, refl, Option, None, Some}
 use Rattle.std.specs.FinMap.{empty}
 use Rattle.std.specs.List.{AllByRecursion}
-use Rattle.lsp_framing.proofs.Every.{every_reading}
+use Rattle.lsp_framing.proofs.EveryReading.{every_reading}
 use Rattle.lsp_messages.specs.Messages.{message_of}
 use Rattle.scheme_model.specs.Session as session
 use Rattle.scheme_model.specs.Session.{Ending, Run, State, Stepped, begin, followed}
 use Rattle.session_core.specs.Asked.{Question}
-use Rattle.session_core.proofs.Sayings.{says}
+use Rattle.session_core.proofs.BodiesSay.{says}
 use Rattle.session_core.proofs.SomeAnswer.{AsksThat, some_replies}
 use Rattle.session_core.proofs.StepAsks.{step_asks}
 use Rattle.scheme_ls.specs.SessionOutput.{IsOutputOf, Output, session_from, session_over}

@@ -2,7 +2,7 @@
 use Rattle.std.specs.Prelude.{◌≡◌, ℕ, zero, suc, List, ◌++◌, Option, Some, None}
 use Rattle.lsp_messages.specs.declared.reply.Reply.{Reply}
 use Rattle.scheme_model.specs.Session.{Ending, State}
-use Rattle.session_core.specs.Answered.{AreReplies}
+use Rattle.session_core.specs.ToWire.{AreReplies}
 use Rattle.scheme_ls.specs.Prints.{SinkSeen, Prints, PrintsFront, PrintsPart}
 use Rattle.scheme_ls.specs.ReplyFrames.{frames_of}
 use Rattle.scheme_ls.specs.SessionOutput.{session_from}

@@ -15,3 +15,4 @@ pub mod TokenCounts
 pub mod EveryText
 pub mod Examples
 pub mod Same
+pub mod Apart

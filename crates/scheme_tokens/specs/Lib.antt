@@ -4,3 +4,4 @@ pub mod Stopping
 pub mod Spelling
 pub mod Mirror
 pub mod Views
+pub mod Apart

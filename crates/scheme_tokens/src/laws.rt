@@ -1,9 +1,10 @@
 //! Laws of reading (R7RS 7.1.1).
-ghost use Rattle.std.specs.Prelude.{◌≡◌, Bool, List, ℕ, Option};
-ghost use Rattle.scheme_tokens.specs.Lexical.{Token, IsIdentifier};
+ghost use Rattle.std.specs.Prelude.{◌≡◌, ◌⊎◌, ◌++◌, Bool, List, ℕ, Option};
+ghost use Rattle.scheme_tokens.specs.Apart.{AreApart};
+ghost use Rattle.scheme_tokens.specs.Lexical.{byte_count, is_inside, Atomic, Ends, IsIdentifier, IsToken, Name, Token, TokenKind};
 ghost use Rattle.scheme_tokens.specs.Faults.{FaultAt};
 ghost use Rattle.scheme_tokens.specs.Stopping.{IsRead};
-ghost use Rattle.scheme_tokens.specs.Spelling.{IsSpelling};
+ghost use Rattle.scheme_tokens.specs.Spelling.{barred, IsSpelling};
 
 /// A text has one reading at most: one list of tokens, and then it ends, or stops at one fault. So a text that stops isn't
 /// spelled by any tokens.
@@ -20,4 +21,22 @@ pub fn every_text()
 /// A symbol, spelled with or without bars asked for, is one identifier, which names it again.
 pub fn spelled_back()
     ensures { (name text : List ℕ) (bars : Bool) → IsSpelling name bars text → IsIdentifier name text }
+{}
+
+/// The tokens of a text rise and don't overlap, each takes some bytes, and all lie within the text.
+pub fn tokens_apart()
+    ensures { (text : List ℕ) (ts : List Token) (end : Option FaultAt) → IsRead ts end text → AreApart 0 ts (byte_count text) }
+{}
+
+/// A text begins with one token at most.
+pub fn one_first_token()
+    ensures { (k j : TokenKind) (glyphs others rest behind : List ℕ) → glyphs ++ rest ≡ others ++ behind →
+        IsToken k glyphs rest → IsToken j others behind → (k ≡ j) × (glyphs ≡ others) }
+{}
+
+/// A name that is written begins each text with exactly its token, where it is written between bars or a delimiter follows, or
+/// the end.
+pub fn spelled_before()
+    ensures { (name text rest : List ℕ) (bars : Bool) → IsSpelling name bars text → (text ≡ barred name) ⊎ Ends is_inside rest →
+        (b : Bool) × IsToken (Atomic (Name name b)) text rest }
 {}

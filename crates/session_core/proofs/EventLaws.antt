@@ -8,7 +8,7 @@ use Rattle.ls_base.specs.declared.places.Range.{Range}
 use Rattle.ls_base.specs.Limits.{max_documents}
 use Rattle.document_store.specs.Texts as store
 use Rattle.scheme_model.specs.Texts as texts
-use Rattle.session_core.specs.Said.{encoding_of, offsets, said_change, said_range}
+use Rattle.session_core.specs.FromWire.{encoding_of, offsets, said_change, said_range}
 use Rattle.session_core.specs.Agreement.{said_event, said_refusal, said_after}
 
 -- a text after edits, or the refusal

@@ -11,7 +11,7 @@ use Rattle.scheme_model.specs.Texts.{Texts, Refusal, after}
 use Rattle.session_core.specs.declared.out.Out.{Out}
 use Rattle.session_core.specs.Agreement.{said_event, said_after}
 use Rattle.session_core.specs.Events.{IsEvented, LogsFault}
-use Rattle.session_core.specs.Said.{encoding_of, offsets, said_encoding}
+use Rattle.session_core.specs.FromWire.{encoding_of, offsets, said_encoding}
 use Rattle.session_core.specs.Stepped.{Says}
 use Rattle.session_core.proofs.EventLaws.{events_agree}
 

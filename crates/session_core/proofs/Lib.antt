@@ -1,5 +1,5 @@
 pub mod EventLaws
-pub mod Sayings
+pub mod BodiesSay
 pub mod Evented
 pub mod Sorted
 pub mod OneAnswer

@@ -12,11 +12,11 @@ use Rattle.scheme_model.specs.Texts.{text_at}
 use Rattle.syntax_tree.specs.Walked.{HasArrows, arrow_at, link_of}
 use Rattle.syntax_tree.proofs.OneReading.{one_reading}
 use Rattle.session_core.specs.Arrows.{AreArrowsOf, arrow_in}
-use Rattle.session_core.specs.Said.{encoding_of}
+use Rattle.session_core.specs.FromWire.{encoding_of}
 use Rattle.session_core.specs.Asked.{IsAnswerTo, Nothing, About, Question}
 use Rattle.lsp_messages.specs.declared.reply.Reply.{Reply}
 use Rattle.lsp_messages.specs.declared.reply.Reply.TheVariants as replies
-use Rattle.session_core.specs.Answered.{AreMessages, AreReplies, sent_id}
+use Rattle.session_core.specs.ToWire.{AreMessages, AreReplies, sent_id}
 use Rattle.session_core.proofs.Sorted.{one_order}
 
 pub one_arrows : (e : Encoding) (text : List ℕ) (a b : List Arrow) → HasArrows e text a → HasArrows e text b → a ≡ b

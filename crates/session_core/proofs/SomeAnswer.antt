@@ -14,10 +14,10 @@ use Rattle.syntax_tree.specs.Walked.{HasArrows, arrow_at, program_links}
 use Rattle.syntax_tree.proofs.AscentLaws.{distinct_targets}
 use Rattle.syntax_tree.proofs.SmallArrows.{walked_arrows}
 use Rattle.syntax_tree.proofs.SmallLaws.{links_ascend}
-use Rattle.session_core.specs.Answered.{AreMessages, AreReplies, sent_id}
+use Rattle.session_core.specs.ToWire.{AreMessages, AreReplies, sent_id}
 use Rattle.session_core.specs.Arrows.{AreArrowsOf, arrow_in}
 use Rattle.session_core.specs.Asked.{About, AnswersQuery, IsAnswerTo, Nothing, Question}
-use Rattle.session_core.specs.Said.{encoding_of}
+use Rattle.session_core.specs.FromWire.{encoding_of}
 use Rattle.session_core.proofs.SortedLinks.{sorted_links}
 
 -- a small text has arrows

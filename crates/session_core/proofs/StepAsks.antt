@@ -13,7 +13,7 @@ use Rattle.scheme_model.specs.Session.{Mode, Fresh, Running, Shut, State, droppe
 use Rattle.scheme_model.specs.Texts.{Refusal}
 use Rattle.session_core.specs.Asked.{Question, questions}
 use Rattle.session_core.specs.Built.{AsksArrows, IsSaying}
-use Rattle.session_core.specs.Said.{offsets, said_by, said_call, said_query}
+use Rattle.session_core.specs.FromWire.{offsets, said_by, said_call, said_query}
 use Rattle.session_core.proofs.SomeAnswer.{AsksThat}
 
 requested_asks : (mode : Mode) (state : State) (id : session.Id) (call : Call) → AsksArrows call → AllByRecursion AsksThat (requested mode questions state id (said_call call)).replies

@@ -3,7 +3,7 @@ use Rattle.std.specs.Prelude.{Option, map}
 use Rattle.std.specs.Option.{option_map}
 use Rattle.document_store.specs.Texts as store
 use Rattle.scheme_model.specs.Texts as texts
-use Rattle.session_core.specs.Said.{said_change}
+use Rattle.session_core.specs.FromWire.{said_change}
 
 abbrev pub said_event : store.Event → texts.Event
 said_event (store.Added uri version text) = texts.Added uri version text

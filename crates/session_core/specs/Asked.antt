@@ -6,7 +6,7 @@ use Rattle.ls_base.specs.declared.answers.Answer.TheVariants as answers
 use Rattle.scheme_model.specs.Session.{Answers, Query, Definition, References, Highlights, Prepare}
 use Rattle.scheme_model.specs.Session as session
 use Rattle.scheme_model.specs.Texts.{Position, Encoding, Texts, text_at}
-use Rattle.session_core.specs.Said.{encoding_of}
+use Rattle.session_core.specs.FromWire.{encoding_of}
 use Rattle.session_core.specs.Arrows.{AreArrowsOf}
 
 -- a question about a position in a document among these texts, in an encoding, or none, which null answers

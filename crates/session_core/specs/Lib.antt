@@ -1,8 +1,8 @@
-pub mod Said
+pub mod FromWire
 pub mod States
 pub mod Arrows
 pub mod Asked
-pub mod Answered
+pub mod ToWire
 pub mod Stepped
 pub mod Agreement
 pub mod Built

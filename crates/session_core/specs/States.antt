@@ -9,7 +9,7 @@ use Rattle.scheme_model.specs.Texts as texts
 use Rattle.scheme_model.specs.Texts.{Texts}
 use Rattle.session_core.specs.declared.mode.Mode.{Mode}
 use Rattle.session_core.specs.declared.mode.Mode.TheVariants as modes
-use Rattle.session_core.specs.Said.{said_encoding}
+use Rattle.session_core.specs.FromWire.{said_encoding}
 
 abbrev pub said_mode : Mode → session.Mode
 said_mode modes.Fresh = session.Fresh

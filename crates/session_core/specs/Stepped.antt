@@ -4,9 +4,9 @@ use Rattle.std.specs.Option.{option_map}
 use Rattle.lsp_messages.specs.Messages.{message_of}
 use Rattle.scheme_model.specs.Session.{Reply, State, Stepped, step}
 use Rattle.session_core.specs.declared.out.Out.{Out}
-use Rattle.session_core.specs.Said.{offsets, said_by}
+use Rattle.session_core.specs.FromWire.{offsets, said_by}
 use Rattle.session_core.specs.Asked.{Question, questions}
-use Rattle.session_core.specs.Answered.{AreReplies}
+use Rattle.session_core.specs.ToWire.{AreReplies}
 use Rattle.session_core.specs.States.{exit_code}
 
 -- the state after a step, the messages and the end are those of the step

@@ -1,7 +1,7 @@
 //! Documents are opened, changed and closed, and refusals logged (LSP 3.17, text synchronisation).
 ghost use Rattle.std.specs.Prelude.{◌≡◌, IfOk, OnErr, map};
 ghost use Rattle.scheme_model.specs.Texts as spec;
-ghost use Rattle.session_core.specs.Said.{offsets, said_change, said_encoding};
+ghost use Rattle.session_core.specs.FromWire.{offsets, said_change, said_encoding};
 ghost use Rattle.session_core.specs.Events.{IsEvented, LogsFault};
 
 use crate::Out;

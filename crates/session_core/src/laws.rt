@@ -10,11 +10,11 @@ ghost use Rattle.lsp_messages.specs.declared.message.Reject.TheVariants as rejec
 ghost use Rattle.lsp_messages.specs.Messages.{message_of};
 ghost use Rattle.document_store.specs.Texts as store;
 ghost use Rattle.scheme_model.specs.Texts as texts;
-ghost use Rattle.session_core.specs.Said.{encoding_of, offsets};
+ghost use Rattle.session_core.specs.FromWire.{encoding_of, offsets};
 ghost use Rattle.ls_base.specs.declared.answers.Answer.{Answer};
 ghost use Rattle.lsp_messages.specs.declared.reply.Reply.{Reply};
 ghost use Rattle.scheme_model.specs.Session as session;
-ghost use Rattle.session_core.specs.Answered.{AreReplies};
+ghost use Rattle.session_core.specs.ToWire.{AreReplies};
 ghost use Rattle.session_core.specs.Asked.{Question, IsAnswerTo};
 ghost use Rattle.session_core.specs.Agreement.{said_event, said_after};
 

@@ -2,7 +2,7 @@
 ghost use Rattle.std.specs.Prelude.{◌≡◌, map, IfOk};
 ghost use Rattle.ls_base.specs.declared.encoding.Encoding as base;
 ghost use Rattle.scheme_model.specs.Texts.{Encoding, text_at};
-ghost use Rattle.session_core.specs.Said.{said_query};
+ghost use Rattle.session_core.specs.FromWire.{said_query};
 ghost use Rattle.session_core.specs.Arrows as spec;
 ghost use Rattle.session_core.specs.Arrows.{AreArrowsOf};
 ghost use Rattle.session_core.specs.Asked.{AnswersQuery};

@@ -2,7 +2,7 @@
 ghost use Rattle.std.specs.Prelude.{◌≡◌, ◌∷◌, ◌++◌, [], Some, None, IfOk};
 ghost use Rattle.std.specs.Option.{option_map};
 ghost use Rattle.scheme_model.specs.Session as session;
-ghost use Rattle.session_core.specs.Said.{said_encoding, said_id};
+ghost use Rattle.session_core.specs.FromWire.{said_encoding, said_id};
 ghost use Rattle.session_core.specs.Asked.{Question, IsAnswerTo};
 ghost use Rattle.session_core.specs.Stepped.{Says};
 

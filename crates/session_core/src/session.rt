@@ -5,7 +5,7 @@ ghost use Rattle.scheme_model.specs.Session.{begin, step};
 ghost use Rattle.scheme_model.specs.Session as spec;
 ghost use Rattle.session_core.specs.Asked.{questions};
 ghost use Rattle.session_core.specs.Built.{AsksArrows, IsBuilt};
-ghost use Rattle.session_core.specs.Said.{offsets, said_id, said_call, said_note, said_message, said_reject};
+ghost use Rattle.session_core.specs.FromWire.{offsets, said_id, said_call, said_note, said_message, said_reject};
 ghost use Rattle.session_core.specs.Stepped.{IsOutcome, IsStep};
 
 use crate::Out;

@@ -1,7 +1,7 @@
 //! Nodes without parts: identifiers, other atoms and bytevectors (R7RS 7.1.2).
 ghost use Rattle.std.specs.Prelude.{◌≡◌, IfOk, map, Some, chars, string_bytes, encode_utf8_all};
 ghost use Rattle.std.specs.List.{join_with_byte};
-ghost use Rattle.scheme_model.specs.Trees.{name as name_tree, atom, Bytes};
+ghost use Rattle.scheme_model.specs.Trees.{name as name_tree, atom as atom_leaf, Bytes};
 ghost use Rattle.scheme_model.specs.Ident.{Written};
 ghost use Rattle.scheme_model.specs.Data.{spelled, implied};
 ghost use Rattle.scheme_model.specs.declared.Occ.{Occ};
@@ -57,7 +57,7 @@ fn implied_name(mark: Mark) -> &'static str
 
 /// The node of a bytevector, which keeps its numerals with one space between each two.
 pub fn bytes_node(alloc: Global, symbols: &mut Symbols, numerals: &[Text], occ: Occ) -> Mem<Node>
-    ensures { Interns symbols.old symbols.new (atom (Bytes (join_with_byte 32 (map encode_utf8_all (map chars numerals.now)))) (Some occ)) result }
+    ensures { Interns symbols.old symbols.new (atom_leaf (Bytes (join_with_byte 32 (map encode_utf8_all (map chars numerals.now)))) (Some occ)) result }
 {
     let text = joined(alloc, numerals)?;
     let symbol = symbols.symbol(text.as_str())?;

@@ -33,9 +33,12 @@ unfolding spelled
 spelling name true = refl
 spelling name false = spelling_when name (is_bare name) refl
 
+pub barred_token : (name text : List ℕ) → text ≡ barred name → IsToken (Atomic (Name name true)) text []
+barred_token name text e =
+    subst (λ (q : List ℕ). IsToken (Atomic (Name name true)) q []) (sym e) (same_kind (Atomic (Name name true)) (barred name) (token (barred name)) (token_told (barred name)) (barred_read name))
+
 barred_back : (name text : List ℕ) → text ≡ barred name → IsIdentifier name text
-barred_back name text e =
-    (true, subst (λ (q : List ℕ). IsToken (Atomic (Name name true)) q []) (sym e) (same_kind (Atomic (Name name true)) (barred name) (token (barred name)) (token_told (barred name)) (barred_read name)))
+barred_back name text e = (true, barred_token name text e)
 
 -- a name that is written is read back
 pub spelled_back : (name text : List ℕ) (bars : Bool) → IsSpelling name bars text → IsIdentifier name text

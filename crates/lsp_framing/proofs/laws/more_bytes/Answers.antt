@@ -1,5 +1,5 @@
 use Rattle.lsp_framing.proofs.Feeding.{fault_stays}
-use Rattle.lsp_framing.proofs.One.{bodies_grow}
+use Rattle.lsp_framing.proofs.OneReading.{bodies_grow}
 use Rattle.lsp_framing.proofs.laws.more_bytes.Goals as goal
 
 pub returns : goal.returns

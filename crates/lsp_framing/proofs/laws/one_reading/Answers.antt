@@ -1,5 +1,5 @@
-use Rattle.lsp_framing.proofs.Every.{every_reading}
-use Rattle.lsp_framing.proofs.One.{one_reading}
+use Rattle.lsp_framing.proofs.EveryReading.{every_reading}
+use Rattle.lsp_framing.proofs.OneReading.{one_reading}
 use Rattle.lsp_framing.proofs.laws.one_reading.Goals as goal
 
 pub returns : goal.returns

@@ -5,7 +5,7 @@ use Rattle.document_store.specs.Texts as store
 use Rattle.scheme_model.specs.Texts as spec
 use Rattle.session_core.specs.declared.out.Out.{Out}
 use Rattle.session_core.specs.Events.{IsEvented}
-use Rattle.session_core.specs.Said.{offsets, said_change, said_encoding}
+use Rattle.session_core.specs.FromWire.{offsets, said_change, said_encoding}
 use Rattle.session_core.proofs.Evented.{accepts, refuses}
 use Rattle.session_core.proofs.events.changed.Goals as goal
 use Rattle.session_core.proofs.events.changed.Goals.{After-change}

@@ -2,7 +2,7 @@ use Rattle.std.proofs.Common.{Result, subst}
 use Rattle.lsp_messages.specs.declared.message.Message.{Message}
 use Rattle.lsp_messages.specs.declared.message.Reject.{Reject}
 use Rattle.session_core.specs.Built.{IsSaying}
-use Rattle.session_core.proofs.Sayings.{says}
+use Rattle.session_core.proofs.BodiesSay.{says}
 use Rattle.session_core.proofs.laws.only_arrows_are_asked.Goals as goal
 
 pub returns : goal.returns

@@ -2,7 +2,7 @@ use Rattle.std.proofs.Common.{ℕ, List, ap, refl, subst}
 use Rattle.scheme_model.specs.Session.{State}
 use Rattle.scheme_model.specs.Texts.{Texts}
 use Rattle.session_core.specs.Asked.{About, AnswersQuery}
-use Rattle.session_core.specs.Said.{said_position, said_query}
+use Rattle.session_core.specs.FromWire.{said_position, said_query}
 use Rattle.session_core.proofs.session.Session.on_question.Goals as goal
 
 pub returns : goal.returns

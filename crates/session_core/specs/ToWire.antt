@@ -7,7 +7,7 @@ use Rattle.lsp_messages.specs.declared.message.Id.TheVariants as ids
 use Rattle.lsp_messages.specs.declared.reply.Reply.{Reply}
 use Rattle.lsp_messages.specs.declared.reply.Reply.TheVariants as replies
 use Rattle.scheme_model.specs.Session as session
-use Rattle.session_core.specs.Said.{encoding_of}
+use Rattle.session_core.specs.FromWire.{encoding_of}
 use Rattle.session_core.specs.Asked.{Question, IsAnswerTo}
 
 -- an id as it is sent
