@@ -1,6 +1,5 @@
 -- Data that are partly written: what they mean, and the state that reading them is in.
 use Rattle.std.proofs.Common.{ℕ, ◌+◌, ◌≤◌, max, List, [], ◌∷◌, ◌++◌}
-use Rattle.scheme_model.specs.Kinds as kinds
 use Rattle.scheme_model.specs.Data.{Datum, atom, implied}
 use Rattle.scheme_model.specs.Numbered.{Spot, at}
 use Rattle.scheme_model.specs.Written.{Written, abbreviated, Gap, nothing, skipped, Parts, next, Bytes, byte, meant, parts_meant, gap_depth}

@@ -1,11 +1,11 @@
 -- The tree of a datum with its names changed is its tree with the changed names.
 use Rattle.std.proofs.Common.{◌≡◌, ℕ, List, Some, refl, ap}
 use Rattle.scheme_model.specs.declared.Occ.{Occ}
-use Rattle.scheme_model.specs.Trees.{Tree, list as list_of, vector as vector_of, Trees, tree, Tail, dotted, map_tree, map_trees, map_tail, placed_in}
+use Rattle.scheme_model.specs.Trees.{Tree, list as list_of, vector as vector_of, Trees, tree, dotted, map_tree, map_trees, map_tail, placed_in}
 use Rattle.scheme_model.specs.Kinds.{Name, Numeral, Quoted, Character, Truth}
 use Rattle.scheme_model.specs.Data.{Atom, spelled, implied, Datum, atom, list, vector, bytes, Data, none, part, tail, place_of}
 use Rattle.scheme_model.specs.DataTrees.{atom_tree, tree_of, parts_of, end_of, form_of}
-use Rattle.scheme_model.specs.Ident.{Ident as Identifier, Written, root}
+use Rattle.scheme_model.specs.Ident.{Written, root}
 use Rattle.datum_reader.specs.Seeded.{seeded}
 
 module _ {A B : Type 0} (f : A → B) (written : List ℕ → A) (place : ℕ → Occ) where

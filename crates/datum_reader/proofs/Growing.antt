@@ -1,31 +1,30 @@
 -- What added nodes and names leave, and how that adds up.
 use Rattle.std.proofs.Common.{◌≡◌, ℕ, ◌+◌, ◌^◌, ◌<◌, ◌≤◌, List, [], ◌∷◌, Option, Some, None, Result, Ok, Err, refl, sym, ap, ◌∙◌, subst, inl, inr, arith}
-use Rattle.std.specs.Prelude.{◌⊎◌, Vec, IsErrAnd, MatchResult, OnOk, IfOk}
+use Rattle.std.specs.Prelude.{Vec, IsErrAnd}
 use Rattle.std.specs.List.{AllByRecursion}
 use Rattle.std.specs.Option.{option_map}
 use Rattle.std.specs.FinMap as map
 use Rattle.std.specs.declared.alloc.Global.{Global}
 use Rattle.ls_base.specs.declared.memory.Memory.{Memory}
-use Rattle.scheme_model.specs.Trees.{Tree, Trees, no_trees, tree, Tail}
-use Rattle.scheme_model.specs.Measures.{tree_size, trees_size, tail_size}
+use Rattle.scheme_model.specs.Trees.{Tree, Trees, no_trees, tree}
+use Rattle.scheme_model.specs.Measures.{tree_size, trees_size}
 use Rattle.scheme_model.specs.Ident.{Ident as Identifier}
 use Rattle.syntax_tree.specs.Names.{Names, KeepsNames}
-use Rattle.syntax_tree.specs.Nodes.{Lived, Nodes, Shape, parts_of, region_at, IsPut}
+use Rattle.syntax_tree.specs.Nodes.{Lived, IsPut}
 use Rattle.syntax_tree.specs.Regions.{itself, MayName}
-use Rattle.syntax_tree.specs.Interned.{interned, all_interned, tail_interned}
+use Rattle.syntax_tree.specs.Interned.{interned, all_interned}
 use Rattle.syntax_tree.specs.Standing.{AllStand}
-use Rattle.syntax_tree.specs.Kept.{shape_of}
-use Rattle.syntax_tree.specs.Works.{StandsFor, IsNodeOf, LiesIn, CanNameParts, KeepsTrees, SameRegions, AddsIn, live_count, lived_in, with_names}
+use Rattle.syntax_tree.specs.Works.{StandsFor, IsNodeOf, LiesIn, KeepsTrees, SameRegions, AddsIn, live_count, lived_in, with_names}
 use Rattle.syntax_tree.specs.declared.trees.nodes.Node.{Node}
 use Rattle.syntax_tree.specs.declared.trees.Work.{Work}
 use Rattle.syntax_tree.specs.declared.trees.nodes.Tree as code
 use Rattle.syntax_tree.specs.declared.trees.table.Region.{Region}
 use Rattle.syntax_tree.specs.declared.trees.faults.PoolFault.{PoolFault}
 use Rattle.syntax_tree.specs.declared.trees.faults.PoolFault.TheVariants as fault
-use Rattle.syntax_tree.proofs.NodeLaws.{map_some, put_cases}
+use Rattle.syntax_tree.proofs.NodeLaws.{put_cases}
 use Rattle.syntax_tree.proofs.WorkLaws.{names_keep}
-use Rattle.syntax_tree.proofs.InternLaws.{interned_keeps, all_interned_keeps, tail_interned_keeps}
-use Rattle.datum_reader.specs.Seeding.{Grows, Adds, Begins, Fails, Seeds, SeedsAll, SeedsTail, Prepares, Interns, IsLeafOf, AllLie}
+use Rattle.syntax_tree.proofs.InternLaws.{interned_keeps}
+use Rattle.datum_reader.specs.Seeding.{Grows, Adds, Begins, Fails, Seeds, SeedsAll, Prepares, Interns, AllLie}
 
 pub names_itself : (a : Names) → KeepsNames a a
 names_itself a = record { symbols = λ n s h. h; idents = λ n i h. h }

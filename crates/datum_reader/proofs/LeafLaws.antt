@@ -21,7 +21,7 @@ use Rattle.syntax_tree.specs.declared.trees.nodes.Node.{Node}
 use Rattle.syntax_tree.specs.declared.trees.nodes.Node.TheVariants as node
 use Rattle.syntax_tree.proofs.InternLaws.{interned_keeps}
 use Rattle.datum_reader.specs.Seeded.{atom_tree}
-use Rattle.datum_reader.specs.Seeding.{IsLeafOf, Interns}
+use Rattle.datum_reader.specs.Seeding.{Interns}
 use Rattle.datum_reader.proofs.Growing.{names_itself}
 
 -- a text is the encoding of its characters

@@ -1,10 +1,10 @@
 -- The identifiers of a datum's tree were read from the name tokens at their places.
-use Rattle.std.proofs.Common.{◌≡◌, ◌⊎◌, ℕ, suc, ◌+◌, ◌-◌, ◌≤◌, ◌<◌, List, [], ◌∷◌, slice_get, Bool, Option, Some, None, refl, sym, ap, ◌∙◌, subst, arith, inl, inr}
+use Rattle.std.proofs.Common.{◌≡◌, ℕ, suc, ◌+◌, ◌≤◌, List, [], ◌∷◌, slice_get, Some, refl, sym, ap, ◌∙◌, subst, arith, inl, inr}
 use Rattle.std.specs.Str.{encode_utf8_all}
 use Rattle.scheme_model.specs.Kinds.{Leaf, Name, Numeral, Quoted, Character, Truth, Mark, TokenKind, Atomic, Token}
 use Rattle.scheme_model.specs.Kinds as kinds
 use Rattle.scheme_model.specs.Data.{spelled, implied, Datum, atom, list, vector, bytes, Data, none, part, tail, row, tail_of, place_of}
-use Rattle.scheme_model.specs.Numbered.{Spot, Numbered, number_from}
+use Rattle.scheme_model.specs.Numbered.{Numbered, number_from}
 use Rattle.scheme_model.specs.Written.{Written, alone, listed, tailed, vectored, byted, abbreviated, Gap, nothing, skipped, Parts, last, next, Bytes, last_byte, byte, token, written_tokens, gap_tokens, parts_tokens, bytes_tokens, meant, parts_meant}
 use Rattle.scheme_model.specs.Trees.{placed_in}
 use Rattle.datum_reader.specs.Right.{IsIn, IsAmong, WasRead}
@@ -46,14 +46,14 @@ module _ (tokens : List Token) where
 
   -- ---- data whose names stand at their places, none before the datum's own
 
-  NameAt : ℕ → Leaf → Type 0
+  abbrev NameAt : ℕ → Leaf → Type 0
   NameAt n (Name name bars) = IsNameToken tokens n (encode_utf8_all name)
   NameAt n (Numeral text) = Unit {0}
   NameAt n (Quoted text) = Unit {0}
   NameAt n (Character c) = Unit {0}
   NameAt n (Truth b) = Unit {0}
 
-  mutual
+  abbrev mutual
     Placed : Datum → Type 0
     Placed (atom p (spelled leaf)) = NameAt p.first leaf
     Placed (atom p (implied mark)) = Unit {0}
@@ -78,7 +78,7 @@ module _ (tokens : List Token) where
   tail_placed low (bytes p texts) h q = (h, q)
 
   name_at : (k : ℕ) (leaf : Leaf) (t : Token) → slice_get tokens k ≡ Some t → t.kind ≡ Atomic leaf → NameAt k leaf
-  name_at k (Name name bars) t there kind = record { token = t; there = there; name = name; bars = bars; kind = kind; symbol = refl }
+  name_at k (Name name bars) t there kind = record { token = t; there = there; name = name; bars = bars; kind = kind; spells = refl }
   name_at k (Numeral text) t there kind = tt
   name_at k (Quoted text) t there kind = tt
   name_at k (Character c) t there kind = tt
@@ -166,7 +166,7 @@ module _ (tokens : List Token) where
         let e = written_placed w b.next rest b.from in
         record {
           first = a.number;
-          placed = subst (λ (n : ℕ). AllPlaced n (part (meant w) none)) (sym a.number) (omega (arith, e.first, b.later), (e.placed, tt));
+          placed = (omega arith, (tt, subst (λ (n : ℕ). AllPlaced n (part (meant w) none)) (sym a.number) (omega (arith, e.first, b.later), (e.placed, tt))));
           past = past_more k b.next rest (omega (arith, b.later)) e.past;
         }
 
@@ -238,7 +238,7 @@ pub names_read : (d : Datum) (unit form : ℕ) (w : WasRead d) → NamesAreToken
 names_read d unit form w =
     let tokens = w.reading.tokens in
     let ps = w.reading.written in
-    let begin : From tokens 0 (parts_tokens ps []) = record { ts = tokens; numbered = w.reading.formed; there = λ i. refl } in
+    let begin : From tokens 0 (parts_tokens ps []) = record { ts = tokens; numbered = w.reading.formed; there = λ i. ap (slice_get tokens) (omega arith) } in
     let all = (parts_placed tokens ps 0 0 [] (omega arith) begin).all none tt in
     let among : IsAmong d (row (parts_meant ps) none) = subst (λ (q : List Datum). IsAmong d (row q none)) w.reading.means w.among in
     names_placed tokens unit form (place_of d).first d (omega arith) (among_placed tokens d 0 (row (parts_meant ps) none) among all)

@@ -1,5 +1,5 @@
 -- The outermost node of a tree, behind the trees of its parts.
-use Rattle.std.proofs.Common.{◌≡◌, ℕ, ◌+◌, ◌^◌, ◌<◌, ◌≤◌, List, [], ◌∷◌, Option, Some, None, Result, Ok, Err, refl, sym, ap, ◌∙◌, subst, arith}
+use Rattle.std.proofs.Common.{◌≡◌, ℕ, ◌+◌, List, ◌∷◌, Option, Some, None, Ok, Err, sym, ap, ◌∙◌, subst, arith}
 use Rattle.std.specs.Prelude.{Vec}
 use Rattle.std.specs.List.{AllByRecursion}
 use Rattle.std.specs.Option.{option_map}
@@ -14,7 +14,6 @@ use Rattle.syntax_tree.specs.Nodes.{list_shape, parts_of}
 use Rattle.syntax_tree.specs.Regions.{MayName}
 use Rattle.syntax_tree.specs.Standing.{AllStand, TailStands}
 use Rattle.syntax_tree.specs.Kept.{numbers}
-use Rattle.syntax_tree.specs.Works.{live_count}
 use Rattle.syntax_tree.specs.declared.trees.Work.{Work}
 use Rattle.syntax_tree.specs.declared.trees.nodes.Tree as code
 use Rattle.syntax_tree.specs.declared.trees.nodes.Node.TheVariants as node

@@ -1,8 +1,7 @@
 -- Trees in a row, one more at a time.
-use Rattle.std.proofs.Common.{◌≡◌, ℕ, zero, suc, ◌+◌, ◌<◌, ◌≤◌, List, [], ◌∷◌, ◌++◌, map, length, get_or, take, drop, Some, refl, sym, ap, ◌∙◌, subst, arith}
-use Rattle.std.specs.List.{AllByRecursion}
+use Rattle.std.proofs.Common.{◌≡◌, ℕ, zero, suc, ◌+◌, ◌<◌, List, [], ◌∷◌, ◌++◌, map, length, get_or, take, drop, Some, refl, sym, ap, ◌∙◌, subst, arith}
 use Rattle.std.proofs.lemmas.List.{take_more, map-append}
-use Rattle.scheme_model.specs.Trees.{Tree, Trees, no_trees, tree}
+use Rattle.scheme_model.specs.Trees.{Tree, Trees, tree}
 use Rattle.scheme_model.specs.Measures.{tree_size, trees_size}
 use Rattle.scheme_model.specs.Ident.{Ident as Identifier}
 use Rattle.syntax_tree.specs.Names.{Names, KeepsNames}
@@ -19,7 +18,7 @@ use Rattle.syntax_tree.specs.declared.trees.faults.PoolFault.TheVariants as faul
 use Rattle.syntax_tree.proofs.InternLaws.{all_interned_keeps}
 use Rattle.datum_reader.specs.declared.datum.Datum.{Datum}
 use Rattle.datum_reader.specs.Seeding.{trees_from, Grows, Adds, Begins, Fails, AllLie}
-use Rattle.datum_reader.proofs.Growing.{grows_itself, grows_on, fails_more, all_kept, lie_kept}
+use Rattle.datum_reader.proofs.Growing.{grows_itself, grows_on, all_kept, lie_kept}
 
 stand_push : (nodes : Nodes) (names : Names) (ts : List (Tree Identifier)) (ns : List ℕ) (t : Tree Identifier) (n : ℕ) → AllStand nodes names (trees_from ts) ns → Stands nodes names t n →
     AllStand nodes names (trees_from (ts ++ t ∷ [])) (ns ++ n ∷ [])

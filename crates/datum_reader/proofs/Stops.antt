@@ -10,7 +10,7 @@ use Rattle.scheme_model.specs.Data.{Datum}
 use Rattle.scheme_model.specs.Faults.{Stop}
 use Rattle.scheme_model.specs.Numbered.{Numbered, number_from}
 use Rattle.std.specs.Option.{option_map}
-use Rattle.scheme_tokens.proofs.EveryText as told
+use Rattle.scheme_tokens.proofs.EveryText as every
 use Rattle.datum_reader.specs.Texts.{TextReads, IsReading, StopsAt, Explains, token_seen, stop_seen}
 use Rattle.datum_reader.specs.Open.{State, state, after, after_all, goes_on, finished, left_open, ends, read}
 use Rattle.datum_reader.specs.declared.datum.Datum as code
@@ -250,6 +250,5 @@ reads_or_stops text ts end reads = answered (read ts end) refl
 -- each text is data or stops somewhere
 pub every_text : (text : List ℕ) → ((ds : List Datum) × IsReading text ds) ⊎ ((e : Stop) × StopsAt text e)
 every_text text =
-    let read = told.every_text text in
+    let read = every.every_text text in
     reads_or_stops text (map token_seen read.0) (option_map stop_seen read.1) (read.0, read.1, read.2, refl, refl)
-

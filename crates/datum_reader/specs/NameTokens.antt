@@ -13,7 +13,7 @@ pub record IsNameToken (tokens : List Token) (number : ℕ) (symbol : List ℕ) 
   pub name : List ℕ
   pub bars : Bool
   pub kind : token.kind ≡ Atomic (Name name bars)
-  pub symbol : symbol ≡ encode_utf8_all name
+  pub spells : symbol ≡ encode_utf8_all name
 
 -- an identifier without a place is implied by a mark; one with a place was read from the token there, which is so many tokens
 -- behind the first of the form

@@ -166,11 +166,8 @@ fn size(out: &mut Shown, datum: &Datum) -> Row<()> {
             out.string("bytes")?;
             out.number(text.as_str().len() as u64)?;
         }
-        Shape::Atom(_)
-        | Shape::Implied(_)
-        | Shape::List(..)
-        | Shape::Vector(_)
-        | Shape::Bytes(_) => return Err(RowFault::NotShown),
+        Shape::Atom(_) | Shape::Implied(_) | Shape::List(..) | Shape::Vector(_) | Shape::Bytes(_) =>
+            return Err(RowFault::NotShown),
     }
     Ok(out.close()?)
 }

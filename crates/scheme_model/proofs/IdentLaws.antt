@@ -1,5 +1,5 @@
 -- Identifiers and names: which are one, and what they came from.
-use Rattle.std.proofs.Common.{◌≡◌, ℕ, Bool, true, false, List, eqb, refl, sym, ap, ◌∙◌, arith, eq-eqb}
+use Rattle.std.proofs.Common.{◌≡◌, ℕ, Bool, true, false, List, refl, sym, ap, arith, eq-eqb}
 use Rattle.std.specs.Prelude.{◌&&◌}
 use Rattle.std.specs.Str.{bytes_eq}
 use Rattle.std.proofs.lemmas.Slice.Eq.{bytes_eq-Decides}

@@ -1,14 +1,13 @@
 -- Names by scopes are names by substitution.
 use Rattle.std.proofs.Common.{◌≡◌, ℕ, Bool, true, false, cond, List, [], ◌∷◌, Option, Some, None, refl, sym, ap, ◌∙◌, subst}
 use Rattle.std.specs.Prelude.{◌&&◌}
-use Rattle.scheme_model.specs.declared.Occ.{Occ}
-use Rattle.scheme_model.specs.Identifiers.{Number, Name, Written as WrittenName, Inserted as InsertedName, Inner, Var, same_name, strip}
+use Rattle.scheme_model.specs.Identifiers.{Name, Written as WrittenName, Var, same_name, strip}
 use Rattle.scheme_model.specs.Ident.{Ident, Written, Inserted, same_ident, erase, symbol_of}
 use Rattle.scheme_model.specs.Trees.{Tree, name, atom, list, vector, Trees, no_trees, tree, Tail, proper, dotted, map_tree, map_trees, map_tail}
-use Rattle.scheme_model.specs.Meaning.{Meaning, Local, Global, Free}
+use Rattle.scheme_model.specs.Meaning.{Meaning, Global, Free}
 use Rattle.scheme_model.specs.Order.{is_some}
 use Rattle.scheme_model.specs.Substitution.{Table, Entries, Defined, defined_in, is_plain, defines, imported, global_or, meaning, shallow}
-use Rattle.scheme_model.specs.Scopes.{Bound, Chain, Uses, under, outside, image, substituted, AreOutside, found, Own, own_of, imported_as, defined_or, given_or, local_or, beyond, means}
+use Rattle.scheme_model.specs.Scopes.{Bound, Chain, Uses, under, outside, image, substituted, AreOutside, found, own_of, imported_as, defined_or, given_or, local_or, beyond, means}
 use Rattle.scheme_model.proofs.IdentLaws.{ident_told, ident_itself, name_told, name_itself, bool_same, strip_erased}
 
 -- ---- what an identifier came from
@@ -35,7 +34,7 @@ pub same_image : (uses : Uses) (c : Chain) (i j : Ident) → same_name (image us
 same_image uses c i j =
     bool_same (same_name (image uses c i) (image uses c j)) (same_ident i j)
     (λ h. let same : i ≡ j = sym (erase_image uses c i) ∙ ap erase (name_told (image uses c i) (image uses c j) h) ∙ erase_image uses c j in
-      subst (λ (x : Ident). same_ident i x ≡ true) same (ident_itself i))
+    subst (λ (x : Ident). same_ident i x ≡ true) same (ident_itself i))
     (λ h. subst (λ (x : Ident). same_name (image uses c i) (image uses c x) ≡ true) (ident_told i j h) (name_itself (image uses c i)))
 
 -- ---- one binder more
@@ -153,7 +152,7 @@ module _ (table : Table) (entry : Entries) (uses : Uses) (plain : AreOutside tab
       ∙ own_is u (Written u s) (entry u s) (Free s) refl
   meaning_outside (Inserted i k) =
       ap (global_or (defines table k.unit (outside uses (Inserted i k))) k.unit (outside uses (Inserted i k)))
-        (meaning_under (uses k) (outside uses i) i ∙ ap (local_or (found (uses k) i)) (meaning_outside i))
+      (meaning_under (uses k) (outside uses i) i ∙ ap (local_or (found (uses k) i)) (meaning_outside i))
       ∙ own_is k.unit (Inserted i k) None (local_or (found (uses k) i) (beyond (own_of table entry) uses i)) refl
 
   pub meaning_image : (c : Chain) (i : Ident) → meaning table entry (image uses c i) ≡ means (own_of table entry) uses c i

@@ -1,22 +1,22 @@
 -- Forms in the notation of rows: each identifier by its symbol, lists without places, quasiquoted data without their frame.
-use Rattle.std.specs.Prelude.{ℕ, suc, ◌+◌, ◌==◌, nat_lt, not, List, [], ◌∷◌, ◌++◌, map, reverse, Bool, true, false, ◌||◌, ◌&&◌, Option, Some, None, Result, Ok, Err, codes, if◌then◌else◌}
+use Rattle.std.specs.Prelude.{ℕ, suc, ◌+◌, ◌==◌, nat_lt, List, [], ◌∷◌, map, reverse, Bool, true, false, ◌||◌, ◌&&◌, Option, Some, None, Result, Ok, Err, codes, if◌then◌else◌}
 use Rattle.std.specs.Str.{bytes_eq}
 use Rattle.scheme_model.specs.declared.Occ.{Occ}
-use Rattle.scheme_model.specs.Identifiers.{Number, Name, Written as WrittenName}
+use Rattle.scheme_model.specs.Identifiers.{Name}
 use Rattle.scheme_model.specs.Ident.{Ident, Written, symbol_of}
-use Rattle.scheme_model.specs.Trees.{Tree, name, atom, Boolean, list, vector, Trees, no_trees, tree, Tail, proper, dotted}
+use Rattle.scheme_model.specs.Trees.{Tree, name, atom, list, vector, Trees, no_trees, tree, Tail, proper, dotted}
 use Rattle.scheme_model.specs.StandardNames.{is_base}
 use Rattle.scheme_model.specs.Meaning.{Meaning, Standard}
 use Rattle.scheme_model.specs.ExpansionFaults.{Named, fault_code, fault_name}
 use Rattle.scheme_model.specs.Requirements.{LibraryName, Symbol, same_library}
-use Rattle.scheme_model.specs.Cores.{Target, Binder, Binders, RuleLeaf, MacroDef, FieldUse, RecordType, Core, Ref, Const, Quote, Quasi, Lambda, CaseLambda, If, Set, Call, Body, LetSyntax, Cores, no_cores, core, Clauses, no_clauses, clause, Parts, no_parts, part, Part, Expression, Define, Values, Fields, Syntax, MacroUse}
+use Rattle.scheme_model.specs.Cores.{Target, Binder, Binders, MacroDef, RecordType, Core, Ref, Const, Quote, Quasi, Lambda, CaseLambda, If, Set, Call, Body, LetSyntax, Cores, no_cores, core, Clauses, no_clauses, clause, Parts, no_parts, part, Part, Expression, Define, Values, Fields, Syntax}
 use Rattle.scheme_model.specs.Steps.{Broken}
 use Rattle.scheme_model.specs.Order.{Counted}
 use Rattle.scheme_model.specs.Substitution.{State, model}
 use Rattle.scheme_model.specs.UnitExpansion.{Formed, unit}
 use Rattle.scheme_model.specs.Declarations.{UnitForm}
-use Rattle.scheme_model.specs.Program.{Document, Placed, UnitResult, WholeFault, TooMany, BadDeclaration, DefinedTwice, ImportCycle, TooLarge, Program, program_of, units_of}
-use Rattle.scheme_model.specs.ProgramArrows.{Arrow, arrows_of}
+use Rattle.scheme_model.specs.Program.{Document, UnitResult, WholeFault, TooMany, BadDeclaration, DefinedTwice, ImportCycle, TooLarge, program_of, units_of}
+use Rattle.scheme_model.specs.ProgramArrows.{arrows_of}
 use Rattle.scheme_model.specs.Spelling.{Link, links_of, class_of, prefixes_of}
 use Rattle.scheme_model.specs.Diagnostics.{Span, Bytes, bytes_of, Diagnostic, diagnostics_of}
 use Rattle.scheme_model.specs.Expression.{no_rules}

@@ -7,8 +7,8 @@ use Rattle.std.specs.Cmp.Lexicographic.{slice_cmp}
 use Rattle.std.specs.declared.cmp.Ordering.{Ordering}
 use Rattle.std.specs.declared.cmp.Ordering.TheVariants.{Less, Equal, Greater}
 use Rattle.scheme_model.specs.declared.Occ.{Occ}
-use Rattle.scheme_model.specs.Trees.{Tree, name, atom, list, vector, Trees, no_trees, tree, Tail, proper, dotted}
-use Rattle.scheme_model.specs.ExpansionFaults.{Named, named, named_map, Fault, BadForm, ◌>>◌}
+use Rattle.scheme_model.specs.Trees.{Tree, name, atom, list, vector, Trees, no_trees, tree, Tail}
+use Rattle.scheme_model.specs.ExpansionFaults.{Named, Fault, ◌>>◌}
 use Rattle.scheme_model.specs.Meaning.{Meaning, same_meaning}
 use Rattle.scheme_model.specs.Shapes.{name_of, names_of, first_of, one_of, proper_of, list_of}
 use Rattle.scheme_model.specs.Requirements.{LibraryName, library_name_of}

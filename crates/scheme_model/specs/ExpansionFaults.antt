@@ -1,7 +1,6 @@
 -- Why a form is broken. A fault that names an identifier tells it and its place.
 use Rattle.std.specs.Prelude.{ℕ, List, Option, Some, None, Result, Ok, Err}
 use Rattle.scheme_model.specs.declared.Occ.{Occ}
-use Rattle.scheme_model.specs.Ident.{Ident}
 
 -- an identifier of a kind with its place
 pub record Named (A : Type 0) : Type 0 where

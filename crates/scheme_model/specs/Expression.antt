@@ -1,22 +1,21 @@
 -- The core of an expression (R7RS 4.1, 4.2, 4.3), by the operations of a side. A core node tests its depth as it begins,
 -- and then adds its count. The depth is what is left of the budget; the turns bound the recursion alone.
-use Rattle.std.specs.Prelude.{ℕ, zero, suc, ◌+◌, List, [], ◌∷◌, ◌++◌, map, Bool, true, false, Option, Some, None, Result, Ok, Err, if◌then◌else◌}
-use Rattle.scheme_model.specs.declared.Occ.{Occ}
+use Rattle.std.specs.Prelude.{ℕ, zero, suc, ◌+◌, List, [], ◌∷◌, map, Option, Some, None, Result}
 use Rattle.scheme_model.specs.Identifiers.{Number}
 use Rattle.scheme_model.specs.Ident.{Ident}
-use Rattle.scheme_model.specs.Keywords.{CoreKeyword, IsQuote, IsQuasiquote, IsLambda, IsCaseLambda, IsIf, IsSet, IsBegin, IsDefine, IsDefineValues, IsDefineRecordType, IsDefineSyntax, IsLetSyntax, IsLetrecSyntax, IsCondExpand, IsSyntaxError, IsInclude, Auxiliary, IsSyntaxRules, IsUnquote, IsUnquoteSplicing, IsOther}
+use Rattle.scheme_model.specs.Keywords.{CoreKeyword, IsQuote, IsQuasiquote, IsLambda, IsCaseLambda, IsIf, IsSet, IsBegin, IsDefine, IsDefineValues, IsDefineRecordType, IsDefineSyntax, IsLetSyntax, IsLetrecSyntax, IsCondExpand, IsSyntaxError, IsInclude, IsSyntaxRules, IsUnquote, IsUnquoteSplicing, IsOther}
 use Rattle.scheme_model.specs.Trees.{Tree, name, atom, list, vector, Trees, no_trees, tree, Tail, proper, dotted, map_tree}
 use Rattle.scheme_model.specs.Measures.{tree_size}
 use Rattle.scheme_model.specs.ExpansionFaults.{Named, named, BadForm, BadPlace, KeywordAsValue, DepthBudget, SyntaxError, IncludeRefused, OutOfTurns, ◌>>◌}
-use Rattle.scheme_model.specs.Meaning.{Meaning, Local, Global, Head, IsCore, IsAuxiliary, IsMacro, IsNone, is_keyword}
-use Rattle.scheme_model.specs.Shapes.{Formals, Clause, lambda_of, case_lambda_of, if_of, named_tree_of, some_of, one_of, error_text_of, definition_of, values_of, LocalMacros, local_macros_of}
+use Rattle.scheme_model.specs.Meaning.{Meaning, Local, Global, Head, IsCore, IsAuxiliary, IsMacro, IsNone}
+use Rattle.scheme_model.specs.Shapes.{Clause, lambda_of, case_lambda_of, if_of, named_tree_of, some_of, one_of, error_text_of, definition_of, values_of, LocalMacros, local_macros_of}
 use Rattle.scheme_model.specs.Requirements.{chosen_of}
 use Rattle.scheme_model.specs.Quasiquote.{Mark, Nested, Unquoted, Spliced, quasi_of, Pieces}
 use Rattle.scheme_model.specs.RulesShape.{Rules, rules_map}
 use Rattle.scheme_model.specs.Leaves.{leaves_of}
-use Rattle.scheme_model.specs.Cores.{Target, Bound, LocalNumber, Definition, Binder, Binders, RuleLeaf, MacroDef, Core, Ref, Const, Quote, Quasi, Lambda, CaseLambda, If, Set, Call, Body, LetSyntax, Cores, no_cores, core, Clauses, no_clauses, clause, Parts, no_parts, part, Part, Expression as expression_part, Define as define_part, Values as values_part, Fields as fields_part, Syntax as syntax_part, outside}
+use Rattle.scheme_model.specs.Cores.{Target, Bound, LocalNumber, Definition, Binder, Binders, MacroDef, Core, Ref, Const, Quote, Quasi, Lambda, CaseLambda, If, Set, Call, Body, LetSyntax, Cores, no_cores, core, Clauses, no_clauses, clause, Parts, no_parts, part, Part, Expression as expression_part, Define as define_part, Values as values_part, Fields as fields_part, Syntax as syntax_part, outside}
 use Rattle.scheme_model.specs.Steps.{Broken, Step, ◌>>=◌, done, fails}
-use Rattle.scheme_model.specs.Order.{Here, Form, Item, Expression, Value, Function, Assigned, AssignedFunction, ValuesOf, Record, Macro, Pass, Region, Transformer, Ops, Counted, target_of, head_of, here_at, forms_at, counting, given, told, use_of, RulesParts, rules_parts_of, rules_parts, rules_at, run}
+use Rattle.scheme_model.specs.Order.{Here, Item, Expression, Value, Function, Assigned, AssignedFunction, ValuesOf, Record, Macro, Pass, Region, Transformer, Ops, target_of, head_of, here_at, forms_at, counting, given, use_of, RulesParts, rules_parts_of, rules_parts, rules_at, run}
 
 -- what is expanded: an expression, or the forms of a body
 pub data Task (A : Type 0) : Type 0 where

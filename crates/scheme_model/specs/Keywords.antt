@@ -1,5 +1,5 @@
 -- The keywords of core forms by their names in the standard libraries (R7RS 4.1 to 4.3, 5), and the auxiliary ones.
-use Rattle.std.specs.Prelude.{ℕ, List, Bool, true, false, ◌||◌, Option, Some, None, codes, if◌then◌else◌}
+use Rattle.std.specs.Prelude.{ℕ, List, ◌||◌, Option, Some, None, codes, if◌then◌else◌}
 use Rattle.std.specs.Str.{bytes_eq}
 
 pub data CoreKeyword : Type 0 where

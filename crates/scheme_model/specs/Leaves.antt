@@ -1,10 +1,9 @@
 -- The leaves of rules that mean something where their macro is defined (R7RS 4.3.2).
-use Rattle.std.specs.Prelude.{ℕ, List, [], ◌∷◌, ◌++◌, map, Bool, true, false, ◌||◌, if◌then◌else◌}
-use Rattle.scheme_model.specs.declared.Occ.{Occ}
+use Rattle.std.specs.Prelude.{List, [], ◌∷◌, ◌++◌, map, Bool, true, false, ◌||◌}
 use Rattle.scheme_model.specs.Trees.{Tree, name, atom, list, vector, Trees, no_trees, tree, Tail, proper, dotted}
 use Rattle.scheme_model.specs.ExpansionFaults.{Named, named}
 use Rattle.scheme_model.specs.Shapes.{is_among}
-use Rattle.scheme_model.specs.RulesShape.{Rule, Rules, Names, Role, IsLiteral, IsEllipsis, IsAny, IsVariable, role_of, dots_of, is_dots, nowhere, Variable, pattern_variables}
+use Rattle.scheme_model.specs.RulesShape.{Rule, Rules, Names, Role, IsLiteral, IsEllipsis, IsAny, IsVariable, role_of, dots_of, nowhere, pattern_variables}
 use Rattle.scheme_model.specs.Building.{is_escape}
 
 pub record Leaf (A : Type 0) : Type 0 where

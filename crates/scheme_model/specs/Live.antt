@@ -1,17 +1,16 @@
 -- The leaves of cores, the uses of names in imports and exports, and which occurrences are live.
-use Rattle.std.specs.Prelude.{ℕ, zero, suc, ◌==◌, List, [], ◌∷◌, ◌++◌, map, Bool, true, false, ◌&&◌, ◌||◌, Option, Some, None, Result, Ok, Err, if◌then◌else◌}
+use Rattle.std.specs.Prelude.{ℕ, zero, suc, List, [], ◌∷◌, ◌++◌, map, Bool, true, false, Option, Some, None, Result, Ok, Err, if◌then◌else◌}
 use Rattle.scheme_model.specs.declared.Occ.{Occ}
-use Rattle.scheme_model.specs.Ident.{Ident, Written}
 use Rattle.scheme_model.specs.Trees.{Tree, name, atom, list, vector, Trees, no_trees, tree, Tail, proper, dotted}
 use Rattle.scheme_model.specs.ExpansionFaults.{Named}
 use Rattle.scheme_model.specs.Meaning.{Meaning, Free}
-use Rattle.scheme_model.specs.Cores.{Target, Bound, LocalNumber, Definition, Binder, Binders, RuleLeaf, MacroDef, FieldUse, RecordType, Core, Ref, Const, Quote, Quasi, Lambda, CaseLambda, If, Set, Call, Body, LetSyntax, Cores, no_cores, core, Clauses, no_clauses, clause, Parts, no_parts, part, Part, Expression, Define, Values, Fields, Syntax, MacroUse}
+use Rattle.scheme_model.specs.Cores.{Target, Binder, Binders, MacroDef, FieldUse, Core, Ref, Const, Quote, Quasi, Lambda, CaseLambda, If, Set, Call, Body, LetSyntax, Cores, no_cores, core, Clauses, no_clauses, clause, Parts, no_parts, part, Part, Expression, Define, Values, Fields, Syntax, MacroUse}
 use Rattle.scheme_model.specs.Steps.{Broken}
 use Rattle.scheme_model.specs.Order.{Counted}
 use Rattle.scheme_model.specs.Expression.{meaning_of}
 use Rattle.scheme_model.specs.UnitExpansion.{Formed}
-use Rattle.scheme_model.specs.Entries.{Origin, Entry, entry_at, place_origin, ImportSet, Library, Only, Except, Prefix, Rename, Bad, ImportFault, given_by, same_occ}
-use Rattle.scheme_model.specs.Program.{UnitResult, Prepared, ExportSpec, ImportSpec, Program, names_of_unit, entry_meaning, library_exports, Placed, is_program}
+use Rattle.scheme_model.specs.Entries.{Origin, Entry, entry_at, place_origin, ImportSet, Library, Only, Except, Prefix, Rename, Bad, ImportFault, given_by}
+use Rattle.scheme_model.specs.Program.{ExportSpec}
 
 -- ---- leaves of cores
 

@@ -1,5 +1,5 @@
 -- What an identifier means (R7RS 4.3), and what a form is by the meaning of its head.
-use Rattle.std.specs.Prelude.{ℕ, List, Bool, true, false, ◌&&◌, ◌==◌, Option, Some, None, if◌then◌else◌}
+use Rattle.std.specs.Prelude.{ℕ, List, Bool, true, false, ◌&&◌, ◌==◌, Option, Some, None}
 use Rattle.std.specs.Str.{bytes_eq}
 use Rattle.scheme_model.specs.Identifiers.{Number, same_number}
 use Rattle.scheme_model.specs.Ident.{Ident, same_ident}

@@ -1,21 +1,20 @@
 -- The order of expansion (R7RS 4.3, 5.3): how the forms of a body, or those of a unit, are gone through, over what a side
 -- does with its identifiers. The definition's side substitutes; the code's looks names up in scopes.
-use Rattle.std.specs.Prelude.{ℕ, zero, suc, ◌+◌, ◌-◌, ◌==◌, nat_le, nat_lt, List, [], ◌∷◌, ◌++◌, map, Bool, true, false, ◌||◌, ◌&&◌, Option, Some, None, Result, Ok, Err, if◌then◌else◌}
+use Rattle.std.specs.Prelude.{ℕ, zero, suc, ◌+◌, ◌-◌, nat_le, nat_lt, List, [], ◌∷◌, ◌++◌, map, Bool, true, false, Option, Some, None, Result, Ok, Err, if◌then◌else◌}
 use Rattle.scheme_model.specs.declared.Occ.{Occ}
 use Rattle.scheme_model.specs.Identifiers.{Number}
 use Rattle.scheme_model.specs.Ident.{Ident, Written, Inserted}
-use Rattle.scheme_model.specs.Keywords.{CoreKeyword, IsQuote, IsQuasiquote, IsLambda, IsCaseLambda, IsIf, IsSet, IsBegin, IsDefine, IsDefineValues, IsDefineRecordType, IsDefineSyntax, IsLetSyntax, IsLetrecSyntax, IsCondExpand, IsSyntaxError, IsInclude, Auxiliary, IsSyntaxRules, IsUnquote, IsUnquoteSplicing, IsOther}
-use Rattle.scheme_model.specs.Trees.{Tree, name, atom, list, vector, Trees, no_trees, tree, Tail, proper, dotted}
-use Rattle.scheme_model.specs.TreeParts.{occ_of}
+use Rattle.scheme_model.specs.Keywords.{CoreKeyword, IsQuote, IsQuasiquote, IsLambda, IsCaseLambda, IsIf, IsSet, IsBegin, IsDefine, IsDefineValues, IsDefineRecordType, IsDefineSyntax, IsLetSyntax, IsLetrecSyntax, IsCondExpand, IsSyntaxError, IsInclude, IsSyntaxRules, IsUnquote, IsUnquoteSplicing, IsOther}
+use Rattle.scheme_model.specs.Trees.{Tree, name, atom, list, vector, Trees, no_trees, tree, Tail}
 use Rattle.scheme_model.specs.Measures.{tree_size}
-use Rattle.scheme_model.specs.ExpansionFaults.{Named, named, named_map, Fault, fault_map, NoRule, BadForm, UseBudget, NodeBudget, OutOfTurns}
+use Rattle.scheme_model.specs.ExpansionFaults.{Named, named, Fault, fault_map, NoRule, BadForm, UseBudget, NodeBudget, OutOfTurns}
 use Rattle.scheme_model.specs.Meaning.{Meaning, same_meaning, Head, IsCore, IsAuxiliary, IsMacro, IsNone, is_keyword, head_as}
-use Rattle.scheme_model.specs.Shapes.{Formals, Clause, DefinitionShape, Variable, Procedure, definition_of, values_of, FieldShape, RecordShape, record_of, named_tree_of, proper_of, list_of}
+use Rattle.scheme_model.specs.Shapes.{Formals, Clause, DefinitionShape, Variable, Procedure, definition_of, values_of, FieldShape, RecordShape, record_of, named_tree_of, proper_of}
 use Rattle.scheme_model.specs.Requirements.{Known, chosen_of}
 use Rattle.scheme_model.specs.RulesShape.{Rules, Names, rules_of, role_of, dots_of}
-use Rattle.scheme_model.specs.Matching.{Match, Chosen, matcher, first_match, compared}
-use Rattle.scheme_model.specs.Building.{Built, build}
-use Rattle.scheme_model.specs.Cores.{Target, Bound, LocalNumber, Definition, Binder, Binders, FieldUse, RecordType, MacroUse}
+use Rattle.scheme_model.specs.Matching.{Chosen, matcher, first_match, compared}
+use Rattle.scheme_model.specs.Building.{build}
+use Rattle.scheme_model.specs.Cores.{Target, Bound, LocalNumber, Binder, Binders, RecordType, MacroUse}
 use Rattle.scheme_model.specs.Steps.{Broken, Step, ◌>>=◌, done, fails}
 
 -- the place of the innermost form that was read from the text

@@ -1,6 +1,6 @@
 -- Derived forms as macros (R7RS 4.2, 7.3). They keep the regions that the report gives the binders, not its running. A name
 -- with `%` is in no library.
-use Rattle.std.specs.Prelude.{ℕ, List, [], ◌∷◌, true, false, Option, None, codes}
+use Rattle.std.specs.Prelude.{ℕ, List, [], ◌∷◌, true, false, None, codes}
 use Rattle.scheme_model.specs.Trees.{Boolean, Tree, name, atom, list, Trees, no_trees, tree, proper, dotted}
 
 -- a name, a list, and trees in a row

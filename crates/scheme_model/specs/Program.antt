@@ -1,26 +1,22 @@
 -- The program of the open documents (R7RS 5): its units in order, what each imports, defines and exports, and what its forms
 -- expand to. A document is handed in as its data, where it reads. The units' numbers are their places in the list.
-use Rattle.std.specs.Prelude.{ℕ, zero, suc, ◌+◌, ◌-◌, ◌==◌, nat_le, nat_lt, List, [], ◌∷◌, ◌++◌, map, filter, length, Bool, true, false, not, ◌&&◌, ◌||◌, Option, Some, None, Result, Ok, Err, codes, if◌then◌else◌}
+use Rattle.std.specs.Prelude.{ℕ, zero, suc, ◌+◌, ◌==◌, nat_le, nat_lt, List, [], ◌∷◌, ◌++◌, map, length, Bool, true, false, not, ◌&&◌, ◌||◌, Option, Some, None, Result, Ok, Err, codes, if◌then◌else◌}
 use Rattle.std.specs.Str.{bytes_eq}
-use Rattle.scheme_model.specs.declared.Occ.{Occ}
-use Rattle.scheme_model.specs.Identifiers.{Number, Name, Written}
-use Rattle.scheme_model.specs.Ident.{Ident, Written as WrittenIdent, Inserted}
-use Rattle.scheme_model.specs.Kinds.{TokenKind}
-use Rattle.scheme_model.specs.Data.{Datum, Place, place_of}
+use Rattle.scheme_model.specs.Identifiers.{Name, Written}
+use Rattle.scheme_model.specs.Ident.{Written as WrittenIdent}
+use Rattle.scheme_model.specs.Data.{Datum, place_of}
 use Rattle.scheme_model.specs.DataTrees.{tree_of, form_of}
-use Rattle.scheme_model.specs.Trees.{Tree, name, atom, list, vector, Trees, no_trees, tree, Tail, proper, dotted, map_trees, placed_in}
+use Rattle.scheme_model.specs.Trees.{Tree, name, atom, list, vector, no_trees, tree, proper, placed_in}
 use Rattle.scheme_model.specs.ExpansionFaults.{Named, Fault}
 use Rattle.scheme_model.specs.Meaning.{Meaning, Standard, Global}
 use Rattle.scheme_model.specs.Requirements.{LibraryName, Symbol, same_library, Known}
 use Rattle.scheme_model.specs.RulesShape.{Rules, rules_map, rules_parts}
-use Rattle.scheme_model.specs.Cores.{Parts, no_parts}
-use Rattle.scheme_model.specs.Steps.{Broken}
-use Rattle.scheme_model.specs.Order.{Counted, is_some}
-use Rattle.scheme_model.specs.Substitution.{Table, Defined, Entries, KeptMacro, State, model, defined_in, meaning}
+use Rattle.scheme_model.specs.Order.{is_some}
+use Rattle.scheme_model.specs.Substitution.{Table, Defined, Entries, KeptMacro, State, model, defined_in}
 use Rattle.scheme_model.specs.UnitExpansion.{Formed, unit}
 use Rattle.scheme_model.specs.Prelude.{PreludeMacro, prelude}
 use Rattle.scheme_model.specs.StandardLibraries.{StandardLibrary, standard_libraries, standard}
-use Rattle.scheme_model.specs.Entries.{Source, At, StandardName, Origin, Entry, entry_at, ImportSet, Library, Only, Except, Prefix, Rename, Bad, set_of, library_in, ImportFault, BadSet, entries_of, gather, Joined, added, clashing, join_entry, place_origin}
+use Rattle.scheme_model.specs.Entries.{StandardName, Entry, entry_at, ImportSet, Library, Only, Except, Prefix, Rename, Bad, set_of, library_in, ImportFault, BadSet, entries_of, gather, place_origin}
 use Rattle.scheme_model.specs.Declarations.{UnitForm, UnitKind, IsLibrary, IsProgram, UnitSource, units_in, library_names, list_parts, is_headed}
 
 -- ---- the units of the documents

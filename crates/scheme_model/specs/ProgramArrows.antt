@@ -1,18 +1,17 @@
 -- Arrows: the pairs of a binder and one of its uses (DrRacket's Check Syntax), over a whole program.
-use Rattle.std.specs.Prelude.{ℕ, List, [], ◌∷◌, ◌++◌, map, Bool, true, false, not, ◌&&◌, ◌||◌, ◌==◌, Option, Some, None, if◌then◌else◌}
+use Rattle.std.specs.Prelude.{List, [], ◌∷◌, ◌++◌, Bool, false, not, ◌||◌, Option, Some, None, if◌then◌else◌}
 use Rattle.scheme_model.specs.declared.Occ.{Occ}
 use Rattle.scheme_model.specs.Identifiers.{Number, same_number}
 use Rattle.scheme_model.specs.Ident.{Ident, same_ident, symbol_of}
 use Rattle.scheme_model.specs.Trees.{Tree, name, atom, list, vector, Trees, no_trees, tree, Tail, proper, dotted}
-use Rattle.scheme_model.specs.ExpansionFaults.{Named}
 use Rattle.scheme_model.specs.Meaning.{Meaning, Local, Global, Standard, Free}
-use Rattle.scheme_model.specs.Cores.{Target, Bound, LocalNumber, Definition, Binder, RuleLeaf, MacroDef}
+use Rattle.scheme_model.specs.Cores.{Target, Bound, LocalNumber, Definition, RuleLeaf}
 use Rattle.scheme_model.specs.RulesShape.{Rule, Rules, Names, Variable, pattern_variables}
 use Rattle.scheme_model.specs.Substitution.{Table, Defined, defined_in}
 use Rattle.scheme_model.specs.Requirements.{LibraryName}
 use Rattle.scheme_model.specs.Entries.{Entry, ImportSet, library_in, same_occ}
 use Rattle.scheme_model.specs.StandardLibraries.{standard}
-use Rattle.scheme_model.specs.Program.{UnitResult, Prepared, ImportSpec, Placed, Program, library_exports, names_of_unit, is_some_fault}
+use Rattle.scheme_model.specs.Program.{UnitResult, ImportSpec, Placed, Program, library_exports, names_of_unit, is_some_fault}
 use Rattle.scheme_model.specs.Live.{CoreLeaf, Binds, Uses, Assigns, Quotes, Defines, unit_leaves, keyword_targets, NameUse, set_uses, all_export_uses}
 
 -- a binder and a use

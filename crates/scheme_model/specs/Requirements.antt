@@ -5,7 +5,7 @@ use Rattle.std.specs.Char.{is_ascii_digit}
 use Rattle.std.specs.Str.{bytes_eq}
 use Rattle.scheme_model.specs.Trees.{Atom, Numeral, Quoted, Character, Boolean, Bytes, Tree, name, atom, list, vector, Trees, no_trees, tree, Tail, proper, dotted}
 use Rattle.scheme_model.specs.ExpansionFaults.{Fault, BadForm, ◌>>◌}
-use Rattle.scheme_model.specs.Shapes.{first_of, proper_of, some_of, one_of, list_of}
+use Rattle.scheme_model.specs.Shapes.{first_of, some_of, one_of, list_of}
 
 -- a part of a library's name: an identifier's symbol, or decimal digits
 pub data LibraryPart : Type 0 where

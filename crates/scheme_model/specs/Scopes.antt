@@ -1,6 +1,6 @@
 -- Names by scopes (R7RS 4.3): what an identifier has become after the substitutions of the binders around it, and what it means
 -- by the innermost scope that binds it.
-use Rattle.std.specs.Prelude.{◌≡◌, ℕ, List, [], ◌∷◌, Bool, true, false, Option, Some, None, if◌then◌else◌}
+use Rattle.std.specs.Prelude.{◌≡◌, ℕ, List, [], ◌∷◌, true, Option, Some, None, if◌then◌else◌}
 use Rattle.scheme_model.specs.Identifiers.{Number, Name, Written as WrittenName, Inserted as InsertedName, Var}
 use Rattle.scheme_model.specs.Ident.{Ident, Written, Inserted, same_ident}
 use Rattle.scheme_model.specs.Trees.{Tree, map_tree}

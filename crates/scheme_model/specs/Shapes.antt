@@ -1,7 +1,6 @@
 -- The shapes of core forms (R7RS 4.1, 4.2.1, 4.3, 5.3, 5.5). Reading one takes a test for one identifier, and no meaning.
 -- Trees are those behind the keyword. A fault without a number of its own is BadForm; the lowest that holds is answered.
 use Rattle.std.specs.Prelude.{ℕ, List, [], ◌∷◌, ◌++◌, map, Bool, true, false, ◌||◌, Option, Some, None, Result, Ok, Err, if◌then◌else◌}
-use Rattle.scheme_model.specs.declared.Occ.{Occ}
 use Rattle.scheme_model.specs.Trees.{Atom, Numeral, Quoted, Character, Boolean, Bytes, Tree, name, atom, list, vector, Trees, no_trees, tree, Tail, proper, dotted}
 use Rattle.scheme_model.specs.ExpansionFaults.{Named, named, Fault, BadForm, DuplicateBinder, BadRecord, ◌>>◌}
 

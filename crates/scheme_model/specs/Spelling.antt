@@ -1,13 +1,13 @@
 -- What spells an identifier: its links to the occurrences that its characters come from, and the classes of occurrences that
 -- such links join. Occurrences of a class are renamed together, each behind its prefix.
-use Rattle.std.specs.Prelude.{ℕ, zero, suc, ◌==◌, nat_lt, List, [], ◌∷◌, ◌++◌, map, filter, length, Bool, true, false, not, ◌&&◌, ◌||◌, Option, Some, None, if◌then◌else◌}
+use Rattle.std.specs.Prelude.{ℕ, zero, suc, ◌==◌, List, [], ◌∷◌, ◌++◌, length, Bool, true, false, not, ◌&&◌, ◌||◌, Option, Some, None, if◌then◌else◌}
 use Rattle.std.specs.Str.{bytes_eq}
 use Rattle.scheme_model.specs.declared.Occ.{Occ}
 use Rattle.scheme_model.specs.Ident.{Ident, Written, Inserted}
 use Rattle.scheme_model.specs.Meaning.{Meaning, Local, Global, Standard, Free}
-use Rattle.scheme_model.specs.Cores.{Target, RuleLeaf, MacroDef}
+use Rattle.scheme_model.specs.Cores.{Target, RuleLeaf}
 use Rattle.scheme_model.specs.Substitution.{Table, Defined, defined_in}
-use Rattle.scheme_model.specs.Entries.{Source, At, StandardName, Origin, Entry, entry_at, same_source, same_occ, place_origin}
+use Rattle.scheme_model.specs.Entries.{Source, At, StandardName, Origin, Entry, entry_at, same_occ, place_origin}
 use Rattle.scheme_model.specs.Program.{Placed, UnitResult, Program, result_at, is_standard, prelude_unit}
 use Rattle.scheme_model.specs.Live.{CoreLeaf, Binds, Uses, Assigns, Quotes, Defines, NameUse}
 use Rattle.scheme_model.specs.ProgramArrows.{Arrow, local_at, core_targets, is_live_at, rule_arrows, program_leaves, program_keywords, program_names}

@@ -1,6 +1,6 @@
 -- Steps of an expansion. A step from a state gives a value or the first fault, and the state after it, which stays also
 -- beside a fault.
-use Rattle.std.specs.Prelude.{ℕ, List, Option, Result, Ok, Err}
+use Rattle.std.specs.Prelude.{Option, Result, Ok, Err}
 use Rattle.scheme_model.specs.declared.Occ.{Occ}
 use Rattle.scheme_model.specs.Ident.{Ident}
 use Rattle.scheme_model.specs.ExpansionFaults.{Fault}

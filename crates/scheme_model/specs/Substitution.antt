@@ -1,17 +1,17 @@
 -- Expansion by substitution: each binder is replaced throughout its region, shallowly where a form binds it, deeply where a
 -- body defines it. A unit's own definitions stand in a table.
-use Rattle.std.specs.Prelude.{ℕ, suc, ◌+◌, ◌==◌, List, [], ◌∷◌, ◌++◌, map, Bool, true, false, ◌||◌, ◌&&◌, not, Option, Some, None, Result, Ok, Err, if◌then◌else◌}
+use Rattle.std.specs.Prelude.{ℕ, suc, ◌+◌, ◌==◌, List, [], ◌∷◌, map, Bool, true, false, ◌||◌, ◌&&◌, not, Option, Some, None, Result, Ok, Err, if◌then◌else◌}
 use Rattle.scheme_model.specs.declared.Occ.{Occ}
 use Rattle.scheme_model.specs.Identifiers.{Number, same_number, Name, Written, Inserted, Inner, Var, same_name, strip}
-use Rattle.scheme_model.specs.Ident.{Ident, same_ident, erase, root}
-use Rattle.scheme_model.specs.Trees.{Tree, name, Trees, map_tree, map_trees}
+use Rattle.scheme_model.specs.Ident.{Ident, same_ident, erase}
+use Rattle.scheme_model.specs.Trees.{map_tree, map_trees}
 use Rattle.scheme_model.specs.ExpansionFaults.{Named, named_map, named, Fault, KeywordRedefined, Duplicate}
-use Rattle.scheme_model.specs.Meaning.{Meaning, Local, Global, Standard, Free, same_meaning, Head}
+use Rattle.scheme_model.specs.Meaning.{Meaning, Local, Global, Standard, Free, same_meaning}
 use Rattle.scheme_model.specs.Shapes.{Clause}
 use Rattle.scheme_model.specs.Requirements.{Known}
 use Rattle.scheme_model.specs.RulesShape.{Rules, rules_map}
-use Rattle.scheme_model.specs.Cores.{Target, Bound, LocalNumber, Definition, MacroUse}
-use Rattle.scheme_model.specs.Order.{Form, Item, Expression, Value, Function, Assigned, AssignedFunction, ValuesOf, Record, Macro, Note, LookedUp, Compared, Pending, Counted, Region, Transformer, Ops, is_some}
+use Rattle.scheme_model.specs.Cores.{Target, LocalNumber, Definition, MacroUse}
+use Rattle.scheme_model.specs.Order.{Form, Item, Expression, Value, Function, Assigned, AssignedFunction, ValuesOf, Record, Macro, Note, LookedUp, Compared, Pending, Transformer, Ops, is_some}
 
 -- ---- meanings (R7RS 4.3)
 

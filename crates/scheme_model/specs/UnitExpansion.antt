@@ -1,10 +1,10 @@
 -- The expansion of a unit's forms (R7RS 5.1, 5.3): first all are gone through in order, then what each set aside is
 -- expanded. A fault ends its form alone; the definitions found before it stay.
-use Rattle.std.specs.Prelude.{ℕ, suc, ◌+◌, List, [], ◌∷◌, Bool, false, Option, Some, None, Result, Ok, Err}
+use Rattle.std.specs.Prelude.{ℕ, List, [], ◌∷◌, None, Result}
 use Rattle.scheme_model.specs.Trees.{Tree}
-use Rattle.scheme_model.specs.Cores.{Parts, no_parts}
-use Rattle.scheme_model.specs.Steps.{Broken, Step, ◌>>=◌}
-use Rattle.scheme_model.specs.Order.{Item, Note, Pass, Ops, Counted, run}
+use Rattle.scheme_model.specs.Cores.{Parts}
+use Rattle.scheme_model.specs.Steps.{Broken, ◌>>=◌}
+use Rattle.scheme_model.specs.Order.{Item, Note, Ops, Counted, run}
 use Rattle.scheme_model.specs.Expression.{Expander, expand, item_part, parts}
 
 -- what a form came to, and what it counted

@@ -8,7 +8,7 @@ use Rattle.std.proofs.lemmas.Str.{length-le-encodes}
 use Rattle.scheme_tokens.specs.Lexical.{byte_count, TokenKind, Atomic, Name, IsToken, Token, First, IsSpelledFrom, Ends, is_inside, mark_bytes, behind_mark}
 use Rattle.scheme_tokens.specs.Faults.{FaultAt}
 use Rattle.scheme_tokens.specs.Spelling.{barred, IsSpelling}
-use Rattle.scheme_tokens.specs.Stopping.{Begins, IsStop, IsRead}
+use Rattle.scheme_tokens.specs.Stopping.{Begins, IsRead}
 use Rattle.scheme_tokens.specs.Apart.{AreApart}
 use Rattle.scheme_tokens.specs.Mirror.Tokens as mirror
 use Rattle.scheme_tokens.specs.Mirror.Quoted.{Fault}
@@ -40,7 +40,7 @@ ends_behind : (at : ℕ) (t : Token) (text : List ℕ) (first : First at t text)
 ends_behind at t text first =
     let some = token_bytes t.kind first.glyphs first.rest first.token in
     let whole : byte_count text ≡ byte_count first.gap + (byte_count first.glyphs + byte_count first.rest) =
-        ap byte_count first.whole ∙ sum_by-append len_utf8 first.gap (first.glyphs ++ first.rest) ∙ ap (λ (n : ℕ). byte_count first.gap + n) (sum_by-append len_utf8 first.glyphs first.rest) in
+    ap byte_count first.whole ∙ sum_by-append len_utf8 first.gap (first.glyphs ++ first.rest) ∙ ap (λ (n : ℕ). byte_count first.gap + n) (sum_by-append len_utf8 first.glyphs first.rest) in
     (omega (arith, first.starts), omega (arith, first.ends, some), omega (arith, first.starts, first.ends, whole))
 
 spelled_apart : (at : ℕ) (ts : List Token) (text : List ℕ) → IsSpelledFrom at ts text → AreApart at ts (at + byte_count text)

@@ -1,27 +1,26 @@
 -- The law of expressions: expansion by substitution gives the links that look-ups through scopes give.
-use Rattle.std.proofs.Common.{◌≡◌, ℕ, zero, suc, ◌+◌, ◌*◌, ◌≤◌, List, [], ◌∷◌, ◌++◌, map, max, Option, Some, None, Result, Ok, Err, Bool, true, false, cond, refl, sym, ap, ◌∙◌, subst, arith, append_assoc, append-nil}
-use Rattle.std.specs.Prelude.{◌&&◌, ◌||◌, codes, option_map}
+use Rattle.std.proofs.Common.{◌≡◌, ℕ, zero, suc, ◌+◌, ◌*◌, ◌≤◌, List, [], ◌∷◌, ◌++◌, map, Option, Some, None, Result, Ok, Bool, true, false, cond, refl, sym, ap, ◌∙◌, subst, arith, append_assoc}
+use Rattle.std.specs.Prelude.{◌&&◌, codes, option_map}
 use Rattle.std.specs.Str.{bytes_eq}
 use Rattle.std.proofs.lemmas.List.{map-append}
 use Rattle.scheme_model.specs.declared.Occ.{Occ}
-use Rattle.scheme_model.specs.SmallTokens.{Leaf, Name as NameLeaf, Numeral as NumeralLeaf, Mark, Quote as QuoteMark}
+use Rattle.scheme_model.specs.SmallTokens.{Name as NameLeaf, Numeral as NumeralLeaf, Mark, Quote as QuoteMark}
 use Rattle.scheme_model.specs.SmallReading.{Datum, Data, atom as atom_datum, list as list_datum, marked, none, datum, datum_depth, data_depth}
-use Rattle.scheme_model.specs.Identifiers.{Number, Name, Written, Inner, same_name, strip}
-use Rattle.scheme_model.specs.Trees.{Atom, Numeral, Tree, name, atom, list, vector, Trees, no_trees, tree, Tail, proper, dotted, map_tree, map_trees}
-use Rattle.scheme_model.specs.SmallTrees.{tree_of, trees_of, mark_symbol, leaf_tree}
-use Rattle.scheme_model.specs.SmallSubstitution.{bind_all}
-use Rattle.scheme_model.specs.StandardNames.{Keyword, IsQuote, IsLambda, IsDefine, keyword_named}
+use Rattle.scheme_model.specs.Identifiers.{Number, Name, Inner, same_name, strip}
+use Rattle.scheme_model.specs.Trees.{Atom, Numeral, Tree, name, atom, list, Trees, no_trees, tree, proper, map_tree}
+use Rattle.scheme_model.specs.SmallTrees.{tree_of, trees_of, mark_symbol}
+use Rattle.scheme_model.specs.StandardNames.{Keyword, IsQuote, IsLambda}
 use Rattle.scheme_model.specs.SmallMeaning.{Meaning, meaning, keyword_of}
 use Rattle.scheme_model.specs.SmallCores.{Target, Binder, Core, Ref, Const, Quote, Lambda, Call, Body, Cores, no_cores, core}
-use Rattle.scheme_model.specs.SmallSteps.{Fault, State, Outcome, done, failed, Step, ◌>>=◌, given}
-use Rattle.scheme_model.specs.SmallShapes.{NamePart, Clause, lambda_of, quoted_of, formals_of, formal_names, clause_with}
-use Rattle.scheme_model.specs.SmallExpression.{Setting, Expander, node, reference, target_of, each, binders_from, count_after, body, procedure, form, call, head_keyword, by_head, expand}
+use Rattle.scheme_model.specs.SmallSteps.{Fault, State, Outcome, done, ◌>>=◌, given}
+use Rattle.scheme_model.specs.SmallShapes.{Clause, formal_names, clause_with}
+use Rattle.scheme_model.specs.SmallExpression.{Expander, reference, target_of, each, binders_from, count_after, body, procedure, form, head_keyword, by_head, expand}
 use Rattle.scheme_model.specs.SmallUnits.{world_of}
 use Rattle.scheme_model.specs.Arrows.{Pair, targets_in, targets_in_all, binders_in, binders_in_all, pair_of, binder_of, target_arrows}
-use Rattle.syntax_tree.specs.Small.{is_free, Bound, is_named, is_leaf_named, is_parameter_list, are_parameters, bound_names, are_names, is_leaf_expression, is_expression, is_list_expression, is_procedure, is_body, are_expressions, is_single, differ}
-use Rattle.syntax_tree.specs.Walked.{Link, looked, link_from, leaf_links, parameters_in, links, list_links, procedure_links, all_links}
-use Rattle.syntax_tree.proofs.Names.{and_true, bytes-true, Frame, Bind, Enter, image, IsGood, means, meaning-image, lambda_kept}
-use Rattle.syntax_tree.proofs.SmallShapes.{fuse_tree, fuse_trees, parts, clause_of, clause_read}
+use Rattle.syntax_tree.specs.Small.{is_free, Bound, is_named, are_parameters, bound_names, are_names, is_expression, is_list_expression, is_procedure, is_body, are_expressions, is_single, differ}
+use Rattle.syntax_tree.specs.Walked.{Link, looked, link_from, links, list_links, procedure_links, all_links}
+use Rattle.syntax_tree.proofs.Names.{and_true, bytes-true, Frame, Enter, image, IsGood, meaning-image, lambda_kept}
+use Rattle.syntax_tree.proofs.SmallShapes.{fuse_trees, parts, clause_of, clause_read}
 use Rattle.syntax_tree.proofs.Regions.{Counts, Counts-append, Finds, Finds-front, Finds-back, extended, bind_params, count_parts, Stand-self, extended-good, free_params, bounds_in, looked-extended, FindsFrames, KeptBounds, FindsFrames-extended}
 use Rattle.syntax_tree.proofs.Meanings.{Surrounds, setting, target_found, free_means, keyword_means, quote_is_kept, quote_is_base, lambda_is_base}
 

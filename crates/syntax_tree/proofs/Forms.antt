@@ -1,26 +1,25 @@
 -- The forms of a small program: what each is gone through as, what it defines, and the links of its expansion.
-use Rattle.std.proofs.Common.{◌≡◌, ℕ, zero, suc, ◌+◌, ◌*◌, ◌≤◌, List, [], ◌∷◌, ◌++◌, map, max, Option, Some, None, Result, Ok, Err, Bool, true, false, cond, refl, sym, ap, ◌∙◌, subst, arith, append_assoc, append-nil}
-use Rattle.std.specs.Prelude.{◌&&◌, ◌||◌, codes, option_map}
-use Rattle.std.specs.Str.{bytes_eq}
+use Rattle.std.proofs.Common.{◌≡◌, ℕ, ◌≤◌, List, [], ◌∷◌, ◌++◌, map, Option, Some, None, Result, Ok, Err, Bool, true, false, cond, refl, sym, ap, ◌∙◌, arith, append-nil}
+use Rattle.std.specs.Prelude.{◌&&◌, codes}
 use Rattle.scheme_model.specs.declared.Occ.{Occ}
 use Rattle.scheme_model.specs.SmallTokens.{Leaf, Name as NameLeaf, Numeral as NumeralLeaf, Mark, Quote as QuoteMark}
 use Rattle.scheme_model.specs.SmallReading.{Datum, Data, atom as atom_datum, list as list_datum, marked, none, datum, datum_depth, data_depth}
-use Rattle.scheme_model.specs.Identifiers.{Number, Name, Written, same_name}
-use Rattle.scheme_model.specs.Trees.{Atom, Numeral, Tree, name, atom, list, vector, Trees, no_trees, tree, Tail, proper, dotted}
-use Rattle.scheme_model.specs.SmallTrees.{tree_of, trees_of, leaf_tree, mark_symbol}
+use Rattle.scheme_model.specs.Identifiers.{Name, Written, same_name}
+use Rattle.scheme_model.specs.Trees.{Tree, name, no_trees, tree, proper}
+use Rattle.scheme_model.specs.SmallTrees.{tree_of, trees_of}
 use Rattle.scheme_model.specs.StandardNames.{Keyword, IsQuote, IsLambda, IsDefine}
-use Rattle.scheme_model.specs.SmallMeaning.{Meaning, meaning, keyword_of}
-use Rattle.scheme_model.specs.SmallCores.{Binder, Definition, Core, Item, Expression, Define}
-use Rattle.scheme_model.specs.SmallSteps.{Fault, BadForm, State, Outcome, done, failed, ◌>>=◌}
-use Rattle.scheme_model.specs.SmallShapes.{NamePart, Clause, DefinitionShape, Variable, Procedure, ◌>>◌, definition_of, variable_of, procedure_of, clause_with, formal_names}
-use Rattle.scheme_model.specs.SmallExpression.{Setting, head_keyword, expand, procedure}
-use Rattle.scheme_model.specs.SmallUnits.{Declared, Defines, Plain, world_of, declare, declare_by, declared_as, definition_in, defined_name, max_depth, enough_turns, expand_declared, expand_definition, is_defined}
-use Rattle.scheme_model.specs.Arrows.{Pair, item_core, core_arrows, definition_occ, targets_in, binders_in}
-use Rattle.syntax_tree.specs.Small.{is_free, Bound, is_named, is_free_leaf, are_parameters, bound_names, bound_leaf, is_leaf_expression, is_expression, is_list_expression, is_procedure, is_body, are_expressions, is_single, is_value, is_definition, is_form, defined_name as defined_bound, defined_in}
-use Rattle.syntax_tree.specs.Walked.{Link, looked, links, list_links, all_links, definition_links, form_links}
-use Rattle.syntax_tree.proofs.Names.{and_true, bytes-true, Frame, image, IsGood, define_kept, lambda_kept}
+use Rattle.scheme_model.specs.SmallMeaning.{meaning, keyword_of}
+use Rattle.scheme_model.specs.SmallCores.{Definition, Core, Item, Expression, Define}
+use Rattle.scheme_model.specs.SmallSteps.{Fault, BadForm, State, Outcome, done, ◌>>=◌}
+use Rattle.scheme_model.specs.SmallShapes.{NamePart, Clause, Variable, Procedure, ◌>>◌, definition_of, procedure_of}
+use Rattle.scheme_model.specs.SmallExpression.{head_keyword, expand, procedure}
+use Rattle.scheme_model.specs.SmallUnits.{Declared, Defines, Plain, world_of, declare, declare_by, declared_as, definition_in, max_depth, enough_turns, expand_declared}
+use Rattle.scheme_model.specs.Arrows.{item_core, core_arrows, binders_in}
+use Rattle.syntax_tree.specs.Small.{Bound, is_named, is_free_leaf, are_parameters, bound_names, bound_leaf, is_expression, is_list_expression, is_procedure, is_body, are_expressions, is_single, is_value, is_definition, is_form, defined_name as defined_bound, defined_in}
+use Rattle.syntax_tree.specs.Walked.{Link, looked, links, all_links, definition_links, form_links}
+use Rattle.syntax_tree.proofs.Names.{and_true, image, define_kept, lambda_kept}
 use Rattle.syntax_tree.proofs.SmallShapes.{clause_of, clause_read}
-use Rattle.syntax_tree.proofs.Regions.{Counts, Finds, Finds-all, FindsFrames}
+use Rattle.syntax_tree.proofs.Regions.{Finds-all}
 use Rattle.syntax_tree.proofs.Meanings.{Surrounds, setting, keyword_means, quote_is_kept, define_is_base}
 use Rattle.syntax_tree.proofs.Expanding.{Kept, KeptAll, link, Stands, Expands, law, law_procedure, keyword_at, no_keyword_at, quote_at, lambda_at}
 

@@ -1,5 +1,5 @@
 -- Tables that grow by what isn't in them yet, and identifiers as the definitions see them.
-use Rattle.std.proofs.Common.{◌≡◌, ℕ, eq-eqb, zero, suc, ◌+◌, ◌<◌, Bool, true, false, cond, List, [], ◌∷◌, ◌++◌, length, slice_get, Option, Some, None, refl, sym, ap, ◌∙◌, subst, inl, inr, arith}
+use Rattle.std.proofs.Common.{◌≡◌, ℕ, eq-eqb, zero, suc, Bool, true, false, cond, List, [], ◌∷◌, ◌++◌, length, slice_get, Some, refl, sym, ap, ◌∙◌, subst, inl, inr, arith}
 use Rattle.std.specs.Prelude.{◌⊎◌, ◌||◌}
 use Rattle.std.specs.List.{list_any}
 use Rattle.std.specs.Str.{bytes_eq}
@@ -7,10 +7,9 @@ use Rattle.std.proofs.lemmas.Option.{same_Some, slice_get_within}
 use Rattle.std.proofs.lemmas.Slice.Eq.{bytes_eq-Decides}
 use Rattle.std.proofs.lemmas.Bool.Decides.{nat_tests}
 use Rattle.scheme_model.specs.Identifiers.{Number, same_number}
-use Rattle.scheme_model.specs.Identifiers as model
 use Rattle.scheme_model.specs.Trees.{Atom, Numeral, Quoted, Character, Boolean, Bytes, Tree, name, atom, list, vector, Trees, no_trees, tree, Tail, proper, dotted}
 use Rattle.scheme_model.specs.Ident.{Ident as Identifier, Written, Inserted, same_ident, erase, root}
-use Rattle.syntax_tree.specs.Names.{Names, AreToldApart, KeepsNames, with_new, with_symbol, with_ident}
+use Rattle.syntax_tree.specs.Names.{Names, AreToldApart, KeepsNames, with_new, with_ident}
 use Rattle.syntax_tree.specs.Interned.{symbol_in, name_in, atom_in, interned, all_interned, tail_interned}
 use Rattle.syntax_tree.proofs.Places.{none_some, get_front, get_next}
 use Rattle.syntax_tree.proofs.TableSteps.{GainsAtMost}

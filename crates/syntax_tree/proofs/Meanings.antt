@@ -1,19 +1,19 @@
 -- What the names of a small program mean, and which binders their meanings have.
-use Rattle.std.proofs.Common.{◌≡◌, ℕ, suc, List, [], ◌∷◌, ◌++◌, Option, Some, None, Bool, true, false, cond, refl, sym, ap, ◌∙◌, subst}
-use Rattle.std.specs.Prelude.{◌&&◌, ◌||◌, codes, option_map}
+use Rattle.std.proofs.Common.{◌≡◌, ℕ, List, [], ◌∷◌, ◌++◌, Option, Some, None, Bool, true, false, cond, refl, sym, ap, ◌∙◌}
+use Rattle.std.specs.Prelude.{codes, option_map}
 use Rattle.std.specs.Str.{bytes_eq}
 use Rattle.std.proofs.lemmas.Bool.{or_parts}
 use Rattle.scheme_model.specs.declared.Occ.{Occ}
 use Rattle.scheme_model.specs.Identifiers.{Number, Name, Written, same_name}
-use Rattle.scheme_model.specs.StandardNames.{Keyword, IsQuote, IsLambda, IsDefine, keyword_named, is_base, base_names}
-use Rattle.scheme_model.specs.SmallMeaning.{Meaning, Local, Global, Standard, Free, World, meaning, imported, keyword_of}
+use Rattle.scheme_model.specs.StandardNames.{keyword_named, is_base, base_names}
+use Rattle.scheme_model.specs.SmallMeaning.{Meaning, Local, Global, Standard, meaning, imported, keyword_of}
 use Rattle.scheme_model.specs.SmallCores.{Binder, Definition}
 use Rattle.scheme_model.specs.SmallExpression.{Setting}
 use Rattle.scheme_model.specs.SmallUnits.{is_defined, base_entry, world_of}
 use Rattle.scheme_model.specs.Arrows.{local_occ, definition_occ, binder_of}
 use Rattle.syntax_tree.specs.Small.{is_free, keywords, Bound}
 use Rattle.syntax_tree.specs.Walked.{looked}
-use Rattle.syntax_tree.proofs.Names.{bytes-true, Frame, Bind, Enter, image, IsGood, means, meaning-image, means-keyword, free_keyword, lambda_kept, define_kept}
+use Rattle.syntax_tree.proofs.Names.{bytes-true, Frame, Bind, Enter, image, IsGood, means, meaning-image, means-keyword, free_keyword}
 use Rattle.syntax_tree.proofs.Regions.{bounds_in, FindsFrames}
 
 -- what is known of the definitions of a program: where each stands, and that none is of a keyword

@@ -1,15 +1,14 @@
 -- What an identifier of a small program is in the model: the symbol under the binders and bodies round it.
-use Rattle.std.proofs.Common.{◌≡◌, ℕ, suc, List, [], ◌∷◌, ◌++◌, Option, Some, None, Bool, true, false, cond, refl, sym, ap, ◌∙◌, subst}
-use Rattle.std.specs.Prelude.{◌&&◌, ◌||◌, codes, not}
-use Rattle.std.specs.List.{list_any}
+use Rattle.std.proofs.Common.{◌≡◌, ℕ, List, [], ◌∷◌, None, Bool, true, false, cond, refl, sym, ap, ◌∙◌, subst}
+use Rattle.std.specs.Prelude.{◌&&◌, codes}
 use Rattle.std.specs.Str.{bytes_eq}
-use Rattle.std.proofs.lemmas.Bool.{eqb-true, eq-eqb, or_parts, not-true}
+use Rattle.std.proofs.lemmas.Bool.{eqb-true, eq-eqb}
 use Rattle.std.proofs.lemmas.Slice.Eq.{bytes_eq-Decides}
 use Rattle.scheme_model.specs.Identifiers.{Number, Name, Written, Inserted, Inner, Var, same_number, same_name, strip}
 use Rattle.scheme_model.specs.SmallSubstitution.{bound_as}
-use Rattle.scheme_model.specs.StandardNames.{Keyword, IsQuote, IsLambda, IsDefine, keyword_named}
-use Rattle.scheme_model.specs.SmallMeaning.{Meaning, Local, Global, Standard, Free, World, meaning, imported, keyword_of}
-use Rattle.syntax_tree.specs.Small.{is_free, keywords, Bound}
+use Rattle.scheme_model.specs.StandardNames.{keyword_named}
+use Rattle.scheme_model.specs.SmallMeaning.{Meaning, Local, World, meaning}
+use Rattle.syntax_tree.specs.Small.{is_free, keywords}
 
 -- ---- tests
 

@@ -1,5 +1,5 @@
 -- The nodes as a map, and the vector that keeps them.
-use Rattle.std.proofs.Common.{◌≡◌, ◌≢◌, ℕ, zero, suc, ◌+◌, ◌<◌, Bool, true, false, cond, ◌==◌, List, [], ◌∷◌, ◌++◌, length, slice_get, Option, Some, None, refl, sym, ap, ◌∙◌, subst, inl, inr, arith}
+use Rattle.std.proofs.Common.{◌≡◌, ◌≢◌, ℕ, zero, suc, ◌+◌, ◌<◌, Bool, true, false, cond, List, [], ◌∷◌, ◌++◌, length, slice_get, Option, Some, None, refl, sym, ap, ◌∙◌, inl, inr, arith}
 use Rattle.std.specs.Prelude.{◌⊎◌, is_some}
 use Rattle.std.specs.Option.{option_map}
 use Rattle.std.specs.Ordering.{nat_cmp, eq_by_cmp}
@@ -8,7 +8,7 @@ use Rattle.std.specs.FinMap as map
 use Rattle.std.specs.FinMap.{get-insert, get-from_entries, len-insert, from_entries_push, nat_cmp-IsAntisymmetric}
 use Rattle.std.proofs.lemmas.Bool.Decides.{nat_tests}
 use Rattle.std.proofs.lemmas.Option.{slice_get_past, same_Some}
-use Rattle.syntax_tree.specs.Nodes.{Shape, Lived, Nodes, shape_at, region_at, KeepsNodes, IsPut}
+use Rattle.syntax_tree.specs.Nodes.{Shape, Lived, Nodes, shape_at, KeepsNodes, IsPut}
 use Rattle.syntax_tree.specs.Kept.{shape_of, lived_as, entries_from, nodes_of}
 use Rattle.syntax_tree.specs.declared.trees.measures.Kept.{Kept}
 use Rattle.syntax_tree.proofs.Places.{none_some}

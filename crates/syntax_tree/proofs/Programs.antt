@@ -1,23 +1,22 @@
 -- The arrows of a small program are the links that look-ups find.
-use Rattle.std.proofs.Common.{◌≡◌, ℕ, zero, suc, ◌+◌, ◌-◌, ◌≤◌, List, [], ◌∷◌, ◌++◌, map, max, Option, Some, None, Result, Ok, Err, Bool, true, false, cond, refl, sym, ap, ◌∙◌, subst, arith, append_assoc, append-nil}
-use Rattle.std.specs.Prelude.{◌&&◌, ◌||◌, not, codes, option_map}
+use Rattle.std.proofs.Common.{◌≡◌, ℕ, suc, ◌+◌, ◌≤◌, List, [], ◌∷◌, ◌++◌, map, Option, Some, Result, Bool, true, false, cond, refl, sym, ap, ◌∙◌, subst, arith, append-nil}
+use Rattle.std.specs.Prelude.{◌&&◌, codes, option_map}
 use Rattle.std.specs.Str.{bytes_eq}
 use Rattle.std.proofs.lemmas.List.{map-append}
 use Rattle.scheme_model.specs.declared.Occ.{Occ}
 use Rattle.scheme_model.specs.SmallTokens.{Leaf, Name as NameLeaf, Numeral as NumeralLeaf, Token, TokenKind}
-use Rattle.scheme_model.specs.SmallReading.{Datum, Data, atom as atom_datum, list as list_datum, marked, none, datum, datum_depth, data_depth, Numbered, numbered, datum_tokens, data_tokens, number_from, first_of}
-use Rattle.scheme_model.specs.Identifiers.{Number, Name, Written, same_name}
-use Rattle.scheme_model.specs.Trees.{Tree, placed_in}
-use Rattle.scheme_model.specs.SmallTrees.{form_tree, tree_of}
+use Rattle.scheme_model.specs.SmallReading.{Datum, Data, atom as atom_datum, list as list_datum, marked, none, datum, data_depth, Numbered, numbered, datum_tokens, data_tokens, number_from, first_of}
+use Rattle.scheme_model.specs.Identifiers.{Name, Written}
+use Rattle.scheme_model.specs.Trees.{placed_in}
+use Rattle.scheme_model.specs.SmallTrees.{form_tree}
 use Rattle.scheme_model.specs.SmallCores.{Definition, Item}
-use Rattle.scheme_model.specs.SmallSteps.{Fault, Outcome, done, failed}
-use Rattle.scheme_model.specs.SmallUnits.{Declared, world_of, declare, declare_all, definition_in, definitions_of, expand_declared, UnitForm, form_result, expand_from, is_defined, unit_of_declared, expand_unit}
-use Rattle.scheme_model.specs.Arrows.{Pair, item_core, core_arrows, item_arrows, form_arrows, unit_arrows, definition_occ}
+use Rattle.scheme_model.specs.SmallSteps.{Fault, Outcome}
+use Rattle.scheme_model.specs.SmallUnits.{Declared, world_of, declare, declare_all, definition_in, definitions_of, expand_declared, UnitForm, form_result, expand_from, is_defined, unit_of_declared}
+use Rattle.scheme_model.specs.Arrows.{Pair, item_core, core_arrows, form_arrows, unit_arrows, definition_occ}
 use Rattle.scheme_model.specs.SmallArrows.{forms_from, program_arrows}
-use Rattle.syntax_tree.specs.Small.{is_free, Bound, is_named, is_free_leaf, bound_leaf, bound_names, are_parameters, is_body, is_value, is_definition, is_expression, is_list_expression, is_form, are_forms, differ, definitions, defined_in, defined_name, is_program}
+use Rattle.syntax_tree.specs.Small.{is_free, Bound, is_named, is_free_leaf, bound_leaf, are_parameters, is_body, is_value, is_definition, is_list_expression, is_form, are_forms, differ, definitions, defined_in, defined_name, is_program}
 use Rattle.syntax_tree.specs.Walked.{Link, looked, form_links, forms_links, program_links, form_first, number_of, link_of}
-use Rattle.syntax_tree.proofs.Names.{and_true, apart, image}
-use Rattle.syntax_tree.proofs.Regions.{AllFree, KeptBounds}
+use Rattle.syntax_tree.proofs.Names.{and_true, apart}
 use Rattle.syntax_tree.proofs.Meanings.{Surrounds, setting}
 use Rattle.syntax_tree.proofs.Expanding.{Kept, KeptAll, link}
 use Rattle.syntax_tree.proofs.Forms.{shape, form_declared, defined_at, form_defines, begin, ItemExpands, form_law}

@@ -1,22 +1,21 @@
 -- The regions of a procedure's parameters, and what its binders are found as.
-use Rattle.std.proofs.Common.{◌≡◌, ℕ, suc, ◌+◌, ◌≤◌, ◌<◌, List, [], ◌∷◌, ◌++◌, map, Option, Some, None, Bool, true, false, cond, refl, sym, ap, ◌∙◌, subst, arith, append_assoc, eqb}
-use Rattle.std.specs.Prelude.{◌&&◌, ◌||◌, not, option_map}
+use Rattle.std.proofs.Common.{◌≡◌, ℕ, suc, ◌≤◌, ◌<◌, List, [], ◌∷◌, ◌++◌, map, Option, Some, Bool, true, false, cond, refl, sym, ap, ◌∙◌, subst, arith, append_assoc, eqb}
+use Rattle.std.specs.Prelude.{◌&&◌, not, option_map}
 use Rattle.std.specs.Str.{bytes_eq}
 use Rattle.std.proofs.lemmas.Bool.{or_parts, not-true, ne_eqb}
 use Rattle.scheme_model.specs.declared.Occ.{Occ}
-use Rattle.scheme_model.specs.SmallTokens.{Leaf, Name as NameLeaf, Numeral as NumeralLeaf}
-use Rattle.scheme_model.specs.SmallReading.{Datum, Data, atom as atom_datum, list as list_datum, marked, none, datum}
-use Rattle.scheme_model.specs.Identifiers.{Number, Name, Written, Var, same_number, same_name}
-use Rattle.scheme_model.specs.Trees.{Trees, map_trees}
+use Rattle.scheme_model.specs.SmallTokens.{Name as NameLeaf, Numeral as NumeralLeaf}
+use Rattle.scheme_model.specs.SmallReading.{Data, atom as atom_datum, list as list_datum, marked, none, datum}
+use Rattle.scheme_model.specs.Identifiers.{Number, Name, Var, same_number}
 use Rattle.scheme_model.specs.SmallTrees.{trees_of}
 use Rattle.scheme_model.specs.SmallSubstitution.{bound_as, bind_all}
 use Rattle.scheme_model.specs.SmallCores.{Binder}
 use Rattle.scheme_model.specs.SmallExpression.{Setting, binders_from, count_after}
 use Rattle.scheme_model.specs.Arrows.{local_occ}
-use Rattle.syntax_tree.specs.Small.{is_free, Bound, is_bound, differ, is_free_leaf, are_names, bound_leaf, bound_names}
+use Rattle.syntax_tree.specs.Small.{is_free, Bound, is_bound, differ, are_names, bound_names}
 use Rattle.syntax_tree.specs.Walked.{looked}
 use Rattle.syntax_tree.proofs.Names.{and_true, bytes-sym, bytes-true, same_number-refl, Frame, Bind, Enter, image, IsGood, same-image}
-use Rattle.syntax_tree.proofs.SmallShapes.{fuse_trees, part, parts}
+use Rattle.syntax_tree.proofs.SmallShapes.{fuse_trees, parts}
 
 -- ---- numbers
 

@@ -1,5 +1,5 @@
 -- Identifiers by number: which are one, and which role they have in rules.
-use Rattle.std.proofs.Common.{◌≡◌, ℕ, ◌<◌, Bool, true, false, ◌&&◌, ◌||◌, cond, eqb, List, [], ◌∷◌, length, get_or, slice_get, Option, Some, None, refl, sym, ap, ◌∙◌, subst, arith, eq-eqb}
+use Rattle.std.proofs.Common.{◌≡◌, ℕ, ◌<◌, Bool, true, false, ◌||◌, List, [], ◌∷◌, length, get_or, slice_get, Option, Some, None, refl, sym, ap, ◌∙◌, subst, eq-eqb}
 use Rattle.std.specs.Prelude.{nat_eq, codes}
 use Rattle.std.specs.List.{list_any}
 use Rattle.std.specs.Str.{bytes_eq}
@@ -10,7 +10,7 @@ use Rattle.std.proofs.lemmas.Bool.{eqb-true}
 use Rattle.std.proofs.lemmas.Option.{same_Some, slice_get_within, slice_get-get_or}
 use Rattle.scheme_model.specs.ExpansionFaults.{Named}
 use Rattle.scheme_model.specs.Shapes.{is_among}
-use Rattle.scheme_model.specs.RulesShape.{Rules, Role, IsLiteral, IsEllipsis, IsAny, IsVariable, role_of, is_ellipsis}
+use Rattle.scheme_model.specs.RulesShape.{Rules, IsLiteral, IsEllipsis, IsAny, IsVariable, role_of, is_ellipsis}
 use Rattle.scheme_model.specs.Ident.{Ident as Identifier, Written, symbol_of, same_ident}
 use Rattle.syntax_tree.specs.Names.{Names, AreToldApart}
 use Rattle.syntax_tree.specs.Macros.{identifiers, IsIdent, AreIdents, IsEllipsisOf, TellsRoles}
@@ -28,8 +28,8 @@ module _ (names : Names) (apart : AreToldApart names.idents) where
       bool_same (same_ident i j) (nat_eq m n)
       (λ h. eq-eqb m n (apart m n (below names.idents m j q) (q ∙ ap Some (sym (ident_told i j h)) ∙ sym p)))
       (λ h. let e = eqb-true m n h in
-        let same : i ≡ j = same_Some i j (sym p ∙ ap (slice_get names.idents) (sym e) ∙ q) in
-        subst (λ (x : Identifier). same_ident i x ≡ true) same (ident_itself i))
+      let same : i ≡ j = same_Some i j (sym p ∙ ap (slice_get names.idents) (sym e) ∙ q) in
+      subst (λ (x : Identifier). same_ident i x ≡ true) same (ident_itself i))
 
   -- an identifier is among literals where its number is among theirs
   pub among_by_number : (n : ℕ) (i : Identifier) → IsIdent names n i → (ms : List ℕ) (ls : List (Named Identifier)) → AreIdents names ms ls →

@@ -1,17 +1,17 @@
 -- The shapes of the trees of small programs.
-use Rattle.std.proofs.Common.{◌≡◌, ℕ, suc, List, [], ◌∷◌, ◌++◌, map, Option, Some, None, Result, Ok, Err, Bool, true, false, cond, refl, sym, ap, ◌∙◌, subst, append_assoc}
-use Rattle.std.specs.Prelude.{◌&&◌, ◌||◌, codes, not}
+use Rattle.std.proofs.Common.{◌≡◌, ℕ, List, [], ◌∷◌, ◌++◌, Option, Some, None, Result, Ok, Err, Bool, true, false, cond, refl, sym, ap, ◌∙◌, append_assoc}
+use Rattle.std.specs.Prelude.{◌||◌, not}
 use Rattle.std.specs.Str.{bytes_eq}
 use Rattle.std.proofs.lemmas.Bool.{or_parts, or_from, not-true}
 use Rattle.scheme_model.specs.declared.Occ.{Occ}
-use Rattle.scheme_model.specs.SmallTokens.{Leaf, Name as NameLeaf, Numeral as NumeralLeaf, Mark, Quote}
+use Rattle.scheme_model.specs.SmallTokens.{Leaf, Name as NameLeaf, Numeral as NumeralLeaf}
 use Rattle.scheme_model.specs.SmallReading.{Datum, Data, atom as atom_datum, list as list_datum, marked, none, datum}
-use Rattle.scheme_model.specs.Identifiers.{Number, Name, Written, same_name}
-use Rattle.scheme_model.specs.Trees.{Atom, Tree, name, atom, list, vector, Trees, no_trees, tree, Tail, proper, dotted, map_tree, map_trees}
+use Rattle.scheme_model.specs.Identifiers.{Name, same_name}
+use Rattle.scheme_model.specs.Trees.{Tree, name, list, Trees, no_trees, tree, proper, map_tree, map_trees}
 use Rattle.scheme_model.specs.SmallTrees.{tree_of, trees_of, mark_symbol, leaf_tree}
-use Rattle.scheme_model.specs.SmallSteps.{Fault, BadForm, DuplicateBinder}
+use Rattle.scheme_model.specs.SmallSteps.{Fault, DuplicateBinder}
 use Rattle.scheme_model.specs.SmallShapes.{NamePart, Clause, ◌>>◌, names_of, is_among, distinct_from, formal_names, body_of, clause_with}
-use Rattle.syntax_tree.specs.Small.{is_free, Bound, is_bound, differ, is_free_leaf, are_names, bound_leaf, bound_names, are_parameters, is_body, is_expression, are_expressions}
+use Rattle.syntax_tree.specs.Small.{Bound, is_bound, differ, are_names, bound_names, are_parameters, is_body}
 use Rattle.syntax_tree.proofs.Names.{and_true, bytes-sym, Frame, image, same-image}
 
 -- ---- a change of each name

@@ -1,6 +1,6 @@
 -- What the calls of a work leave standing.
-use Rattle.std.proofs.Common.{◌≡◌, ℕ, ◌+◌, ◌<◌, List, length, Some, refl, sym, ap, ◌∙◌, subst, inl, inr}
-use Rattle.std.specs.Prelude.{◌⊎◌, is_some, IsSome}
+use Rattle.std.proofs.Common.{◌≡◌, ℕ, ◌<◌, List, length, Some, sym, ap, ◌∙◌, subst}
+use Rattle.std.specs.Prelude.{is_some, IsSome}
 use Rattle.std.specs.Option.{option_map}
 use Rattle.std.specs.FinMap as map
 use Rattle.std.proofs.lemmas.Option.{same_Some}
@@ -16,7 +16,7 @@ use Rattle.syntax_tree.specs.declared.trees.nodes.Node.{Node}
 use Rattle.syntax_tree.specs.declared.trees.Work.{Work}
 use Rattle.syntax_tree.specs.declared.trees.nodes.Tree as code
 use Rattle.syntax_tree.specs.declared.trees.table.Region.{Region}
-use Rattle.syntax_tree.proofs.NodeLaws.{map_some, put_keeps, put_counts}
+use Rattle.syntax_tree.proofs.NodeLaws.{map_some, put_keeps}
 use Rattle.syntax_tree.proofs.RegionLaws.{KeepsOuters, outlives_kept, region_kept}
 use Rattle.syntax_tree.proofs.StandingLaws.{names_itself, nodes_itself, node_there, stands_kept, stands_once as once_at}
 use Rattle.syntax_tree.proofs.AddedLaws.{put_stands}

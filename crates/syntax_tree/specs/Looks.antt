@@ -1,8 +1,8 @@
 -- Trees by their outermost nodes, and rows of trees: what walks over trees by number speak of.
-use Rattle.std.specs.Prelude.{◌≡◌, ℕ, ◌≤◌, List, Option, Some, None}
+use Rattle.std.specs.Prelude.{◌≡◌, ℕ, ◌≤◌, List, Option, Some}
 use Rattle.std.specs.Option.{option_map}
 use Rattle.scheme_model.specs.declared.Occ.{Occ}
-use Rattle.scheme_model.specs.Trees.{Atom, Tree, name, atom, list, vector, Trees, Tail, proper, dotted}
+use Rattle.scheme_model.specs.Trees.{Atom, Tree, name, atom, list, vector, Trees, Tail}
 use Rattle.scheme_model.specs.Ident.{Ident as Identifier}
 use Rattle.scheme_model.specs.Measures.{tree_depth, trees_depth, tail_depth}
 use Rattle.syntax_tree.specs.Standing.{leaf_tree, AllStand, TailStands}
@@ -11,7 +11,6 @@ use Rattle.syntax_tree.specs.Works.{StandsFor}
 use Rattle.syntax_tree.specs.Macros.{IsIdent}
 use Rattle.syntax_tree.specs.declared.trees.Work.{Work}
 use Rattle.syntax_tree.specs.declared.trees.nodes.Tree as number
-use Rattle.syntax_tree.specs.declared.trees.nodes.Leaf.{Leaf}
 use Rattle.syntax_tree.specs.declared.look.Look.{Look}
 use Rattle.syntax_tree.specs.declared.look.Look.TheVariants as looks
 

@@ -1,7 +1,6 @@
 -- What the meanings and the entries of the code stand for.
 use Rattle.std.specs.Prelude.{◌≡◌, ℕ, List, [], ◌∷◌, slice_get, Option, Some, None}
 use Rattle.scheme_model.specs.declared.Occ.{Occ}
-use Rattle.scheme_model.specs.Identifiers.{Number}
 use Rattle.scheme_model.specs.Meaning.{Meaning, Local, Global, Standard, Free}
 use Rattle.scheme_model.specs.Entries.{Source, At, StandardName, Origin, Entry}
 use Rattle.syntax_tree.specs.Names.{Names}

@@ -24,9 +24,15 @@ pub enum Question {
         answer: Meaning,
     },
     /// Whether what means this is a macro.
-    Macro { meaning: Meaning, answer: bool },
+    Macro {
+        meaning: Meaning,
+        answer: bool,
+    },
     /// The rules of the macro that means this.
-    MacroRules { meaning: Meaning, answer: Rules },
+    MacroRules {
+        meaning: Meaning,
+        answer: Rules,
+    },
     /// Whether a literal and an identifier mean the same.
     Literal {
         literal: IdNo,
@@ -34,9 +40,15 @@ pub enum Question {
         answer: bool,
     },
     /// Whether there is a library of this name.
-    Library { name: Text, answer: bool },
+    Library {
+        name: Text,
+        answer: bool,
+    },
     /// How the definition of an identifier ended.
-    Definition { ident: IdNo, answer: Outcome },
+    Definition {
+        ident: IdNo,
+        answer: Outcome,
+    },
     /// From here on all definitions of the unit stand.
     Declared,
 }

@@ -1,7 +1,7 @@
 -- Changes of a text of one line of ASCII characters, so that a position's character is its offset. The map of the
 -- documents doesn't compute; what events leave of it is shown by the rows of the store.
 -- Written by tests/definitions/rows; each row is checked by computing it.
-use Rattle.std.specs.Prelude.{◌≡◌, ℕ, List, [], ◌∷◌, Option, Some, None, Result, Ok, Err, codes, refl}
+use Rattle.std.specs.Prelude.{◌≡◌, ℕ, List, [], ◌∷◌, Option, Some, None, Ok, Err, codes, refl}
 use Rattle.scheme_model.specs.Texts as x
 use Rattle.scheme_model.specs.Texts.{Offsets, Span, Change, edits}
 

@@ -1,6 +1,6 @@
 -- Small programs and their arrows, from outside.
 -- Written by tests/definitions/rows; each row is checked by computing it.
-use Rattle.std.specs.Prelude.{◌≡◌, ℕ, List, [], ◌∷◌, codes, refl}
+use Rattle.std.specs.Prelude.{◌≡◌, ℕ, [], ◌∷◌, codes, refl}
 use Rattle.scheme_model.specs.SmallTokens as t
 use Rattle.scheme_model.specs.SmallReading as r
 use Rattle.scheme_model.specs.StandardNames.{base_names}

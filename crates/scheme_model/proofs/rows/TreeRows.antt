@@ -1,6 +1,6 @@
 -- Texts by their data, from outside, and the trees that these are as forms of a unit.
 -- Written by tests/definitions/rows; each row is checked by computing it.
-use Rattle.std.specs.Prelude.{◌≡◌, ℕ, suc, true, false, Option, Some, None, List, [], ◌∷◌, codes, refl}
+use Rattle.std.specs.Prelude.{◌≡◌, ℕ, suc, true, false, Some, None, List, [], ◌∷◌, codes, refl}
 use Rattle.std.specs.Char.{encode_utf8}
 use Rattle.scheme_model.specs.declared.Occ.{Occ}
 use Rattle.scheme_model.specs.Identifiers as i

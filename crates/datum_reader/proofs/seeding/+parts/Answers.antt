@@ -1,18 +1,17 @@
-use Rattle.std.proofs.Common.{◌≡◌, ℕ, ◌+◌, ◌<◌, List, Some, Ok, Err, map, length, rules, arith, refl, sym, ap, ◌∙◌, subst}
+use Rattle.std.proofs.Common.{Some, Ok, map, rules, arith}
 use Rattle.std.specs.List.{join_with_byte}
 use Rattle.std.specs.Str.{chars, encode_utf8_all}
 use Rattle.scheme_model.specs.Trees.{Bytes, atom}
-use Rattle.syntax_tree.specs.Works.{lived_in}
 use Rattle.syntax_tree.specs.declared.trees.faults.PoolFault.TheVariants as fault
 use Rattle.datum_reader.specs.declared.datum.Shape.TheViews.{the_lemmas}
 use Rattle.scheme_model.specs.Data.{spelled, implied}
 use Rattle.datum_reader.specs.Views.{leaf_of, mark_of}
 use Rattle.datum_reader.specs.Seeded.{atom_tree}
-use Rattle.datum_reader.specs.Seeding.{part_tree, parts_trees, tail_tree, CanBeSeeded}
-use Rattle.datum_reader.proofs.Growing.{put_last, not_put, handed_on, node_handed_on, all_handed_on, leaf_prepared, leaf_failed, interns_keep}
+use Rattle.datum_reader.specs.Seeding.{part_tree, parts_trees, tail_tree}
+use Rattle.datum_reader.proofs.Growing.{put_last, node_handed_on, all_handed_on, leaf_prepared, leaf_failed, interns_keep}
 use Rattle.datum_reader.proofs.Preparing.{vector_failed, vector_prepared, parts_failed, tail_failed, list_prepared}
 use Rattle.datum_reader.proofs.SeedLaws.{list_parts, vector_parts, datum-atom, datum-implied, atom_whole, atom_part-size, bytes_whole, bytes-size, small_tree, shallow_tree}
-use Rattle.datum_reader.proofs.Rows.{row_begun, row_adds, row_fails, row_unplaced, row_done}
+use Rattle.datum_reader.proofs.Rows.{row_adds, row_fails, row_unplaced}
 use Rattle.datum_reader.proofs.seeding.+parts.Goals as goal
 
 -- ---- a tree's outermost node

@@ -1,4 +1,4 @@
-use Rattle.std.proofs.Common.{Some, None, Ok, ap, sym, subst}
+use Rattle.std.proofs.Common.{Some, Ok, sym, subst}
 use Rattle.scheme_model.specs.Trees.{Tree, name, atom, Numeral, Quoted}
 use Rattle.scheme_model.specs.Data.{spelled}
 use Rattle.scheme_model.specs.Ident.{Ident as Identifier, Written}

@@ -1,4 +1,4 @@
-use Rattle.std.proofs.Common.{◌≡◌, false, List, ℕ, ◌∙◌, sym, ap}
+use Rattle.std.proofs.Common.{List, ℕ, ◌∙◌, sym, ap}
 use Rattle.std.specs.Prelude.{codes}
 use Rattle.std.specs.Str.{bytes_eq}
 use Rattle.syntax_tree.proofs.RoleLaws.{among_is, strip_below, name_is, role_literal, role_ellipsis, role_any, role_variable}

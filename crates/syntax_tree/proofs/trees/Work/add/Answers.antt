@@ -1,4 +1,4 @@
-use Rattle.std.proofs.Common.{refl, ap, ◌≡◌}
+use Rattle.std.proofs.Common.{refl, ap}
 use Rattle.std.specs.Option.{option_map}
 use Rattle.syntax_tree.specs.Nodes.{Lived}
 use Rattle.syntax_tree.specs.Works.{lived_in, SameRegions}

@@ -1,5 +1,4 @@
-use Rattle.std.proofs.Common.{◌≡◌, ◌+◌, ◌<◌, length, drop, max, slice_index_or, arith}
-use Rattle.syntax_tree.specs.Kept.{depth_at, deepest, numbers}
+use Rattle.std.proofs.Common.{length, arith}
 use Rattle.syntax_tree.proofs.PartLaws.{next_within, rest_within, deepest-next}
 use Rattle.syntax_tree.proofs.trees.measures.parts_depth.Goals as goal
 

@@ -1,6 +1,4 @@
-use Rattle.std.proofs.Common.{◌≡◌, ◌+◌, ◌<◌, length, drop, sum_by, slice_index_or, arith}
-use Rattle.syntax_tree.specs.Kept.{size_at, numbers}
-use Rattle.syntax_tree.proofs.KeptLaws.{measured}
+use Rattle.std.proofs.Common.{length, arith}
 use Rattle.syntax_tree.proofs.PartLaws.{next_within, rest_within, sum-next}
 use Rattle.syntax_tree.proofs.trees.measures.parts_size.Goals as goal
 

@@ -1,8 +1,7 @@
-use Rattle.std.proofs.Common.{◌≡◌, ℕ, ◌+◌, ◌^◌, ◌<◌, ◌∙◌, List, ◌∷◌, [], ◌++◌, length, map, Some, ap, sym, subst, rules, arith, refl}
+use Rattle.std.proofs.Common.{◌≡◌, ◌^◌, ◌<◌, ◌∙◌, List, ◌∷◌, [], ◌++◌, length, map, ap, sym, subst, rules, arith, refl}
 use Rattle.std.proofs.lemmas.List.{length-append}
-use Rattle.syntax_tree.specs.Nodes.{Nodes, IsPut}
-use Rattle.syntax_tree.specs.Regions.{Forest, MayNameParts, IsClosed}
-use Rattle.syntax_tree.specs.Kept.{shape_of, lived_as, nodes_of, size_at, depth_at, shape_size, shape_depth, AreKept, IsTable}
+use Rattle.syntax_tree.specs.Regions.{Forest, MayNameParts}
+use Rattle.syntax_tree.specs.Kept.{shape_of, lived_as, nodes_of, size_at, depth_at, shape_size, shape_depth, IsTable}
 use Rattle.syntax_tree.specs.declared.trees.measures.Kept.{Kept}
 use Rattle.syntax_tree.proofs.NodeLaws.{count_kept, push_puts}
 use Rattle.syntax_tree.proofs.RegionLaws.{closed_put}

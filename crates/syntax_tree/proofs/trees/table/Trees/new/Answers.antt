@@ -1,4 +1,4 @@
-use Rattle.std.proofs.Common.{ℕ, List, map, sym, subst}
+use Rattle.std.proofs.Common.{List, map, sym, subst}
 use Rattle.syntax_tree.specs.Kept.{IsTable}
 use Rattle.syntax_tree.specs.declared.trees.measures.Kept.{Kept}
 use Rattle.syntax_tree.proofs.RegionLaws.{empty_table}
