@@ -1,5 +1,5 @@
 -- What calls make of an environment, and that it stays sound.
-use Rattle.std.proofs.Common.{◌≡◌, ℕ, zero, suc, ◌+◌, ◌<◌, ◌≤◌, Bool, true, false, cond, List, [], ◌∷◌, ◌++◌, map, length, set, slice_get, Option, Some, None, refl, sym, ap, ◌∙◌, subst, inl, inr, arith, length-append}
+use Rattle.std.proofs.Common.{◌≡◌, ℕ, zero, suc, ◌+◌, ◌<◌, ◌≤◌, Bool, true, false, cond, List, [], ◌∷◌, ◌++◌, map, length, set, slice_get, Option, Some, None, refl, sym, ap, ◌∙◌, subst, inl, inr, arith, length-append, Result, Ok, Err, is_err, OnOk, OnErr}
 use Rattle.std.specs.Prelude.{◌⊎◌}
 use Rattle.std.specs.declared.cmp.Ordering.{Ordering}
 use Rattle.std.specs.declared.cmp.Ordering.TheVariants.{Equal}
@@ -7,17 +7,19 @@ use Rattle.std.specs.Ordering.{nat_cmp, eq_by_cmp}
 use Rattle.std.specs.Cmp.{IsTotalOrder, nat_cmp_total, Equal-is}
 use Rattle.std.specs.BTreeMap.{BTreeMap, IsEmpty, Updates}
 use Rattle.std.specs.FinMap.{FinMap, empty, get, insert, from_entries, IsAntisymmetric, nat_cmp-IsAntisymmetric, get-empty, get-insert}
+use Rattle.std.proofs.lemmas.List.{length-map}
 use Rattle.std.proofs.lemmas.Option.{slice_get_within, same_Some}
 use Rattle.syntax_tree.proofs.Places.{none_some, get_front, get_next, push_cases}
 use Rattle.scheme_model.specs.Identifiers.{Number}
 use Rattle.syntax_tree.specs.declared.meaning.Meaning.{Meaning}
 use Rattle.syntax_tree.specs.Numbered.{number_of}
 use Rattle.syntax_tree.specs.declared.symbols.UseNo.{UseNo}
+use Rattle.syntax_tree.specs.contracts.symbols.UseNoOrd.TheImpl.{cmp-value}
 use Rattle.scope_env.specs.declared.env.Scope as kept
 use Rattle.scope_env.specs.Environment.{Environment, Scope, no_scopes, new_scope, with_child, with_root, with_use, with_bound, bound_in, changed_at, number_cmp, IsOwn, IsSound}
 use Rattle.scope_env.specs.Kept.{scope_of, environment_of, uses_of}
 use Rattle.scope_env.proofs.Places.{changed_from, changed_to, length-changed_at, map_set}
-use Rattle.scope_env.proofs.Orders.{number_total, number_same, put_plain}
+use Rattle.scope_env.proofs.Orders.{number_total, number_same, put_plain, put_uses}
 
 -- ---- a map with one entry more
 
@@ -126,15 +128,63 @@ sound_bound env scope ident m sound = record {
 
 -- ---- what the fields stand for
 
-pub new_scope_of : (s : kept.Scope) (parent : Option ℕ) → s.parent ≡ parent → IsEmpty s.bound → scope_of s ≡ new_scope parent
+new_scope_of : (s : kept.Scope) (parent : Option ℕ) → s.parent ≡ parent → IsEmpty s.bound → scope_of s ≡ new_scope parent
 new_scope_of s parent is none = λ j. record { parent = is j; bound = from_entries {R = nat_cmp} (none j) }
 
-pub scopes_pushed : (ss : List kept.Scope) (s : kept.Scope) (t : Scope) → scope_of s ≡ t → map scope_of (ss ++ s ∷ []) ≡ map scope_of ss ++ t ∷ []
-scopes_pushed [] s t is = ap (λ (u : Scope). u ∷ []) is
-scopes_pushed (r ∷ ss) s t is = ap (λ (rest : List Scope). scope_of r ∷ rest) (scopes_pushed ss s t is)
+pushed : (ss : List kept.Scope) (s : kept.Scope) (t : Scope) → scope_of s ≡ t → map scope_of (ss ++ s ∷ []) ≡ map scope_of ss ++ t ∷ []
+pushed [] s t is = ap (λ (u : Scope). u ∷ []) is
+pushed (r ∷ ss) s t is = ap (λ (rest : List Scope). scope_of r ∷ rest) (pushed ss s t is)
 
--- a scope that is written with one entry more
-pub scopes_bound : (ss : List kept.Scope) (n ident : ℕ) (m : Meaning) (old new : kept.Scope) → slice_get ss n ≡ Some old → new.parent ≡ old.parent → Updates nat_cmp old.bound new.bound ident (Some m) → map scope_of (set ss n new) ≡ changed_at (bound_in ident m) (map scope_of ss) n
-scopes_bound ss n ident m old new at parent put =
+-- a scope that is written with one entry more, and one that is written as it was
+bound : (ss : List kept.Scope) (n ident : ℕ) (m : Meaning) (old new : kept.Scope) → slice_get ss n ≡ Some old → new.parent ≡ old.parent → Updates nat_cmp old.bound new.bound ident (Some m) → map scope_of (set ss n new) ≡ changed_at (bound_in ident m) (map scope_of ss) n
+bound ss n ident m old new at parent put =
     let entries = put_plain old.bound new.bound ident m put in
     map_set scope_of (bound_in ident m) ss n old new at (λ j. record { parent = parent j; bound = entries j })
+
+unbound : (ss : List kept.Scope) (n : ℕ) (old new : kept.Scope) → slice_get ss n ≡ Some old → new.parent ≡ old.parent → new.bound.entries ≡ old.bound.entries → map scope_of (set ss n new) ≡ map scope_of ss
+unbound ss n old new at parent same =
+    map_set scope_of (λ (s : Scope). s) ss n old new at (λ j. record { parent = parent j; bound = from_entries {R = nat_cmp} (same j) }) ∙ unchanged (map scope_of ss) n
+  where
+    unchanged : (xs : List Scope) (n : ℕ) → changed_at (λ (s : Scope). s) xs n ≡ xs
+    unchanged [] n = refl
+    unchanged (x ∷ xs) zero = refl
+    unchanged (x ∷ xs) (suc n) = ap (λ (rest : List Scope). x ∷ rest) (unchanged xs n)
+
+module _ (ss new : List kept.Scope) (uses : List (UseNo × ℕ)) where
+  pub child_seen : (roots : List (ℕ × ℕ)) (parent : ℕ) (s : kept.Scope) → new ≡ ss ++ s ∷ [] → s.parent ≡ Some parent → IsEmpty s.bound → environment_of new uses roots ≡ with_child (environment_of ss uses roots) parent
+  child_seen roots parent s is inside none =
+      let scopes = ap (λ (l : List kept.Scope). map scope_of l) is ∙ pushed ss s (new_scope (Some parent)) (new_scope_of s (Some parent) inside none) in
+      λ j. record { scopes = scopes j; uses = uses_of uses; roots = from_entries {R = nat_cmp} roots }
+
+  pub root_seen : (m n : BTreeMap ℕ ℕ) (unit : ℕ) (s : kept.Scope) → new ≡ ss ++ s ∷ [] → s.parent ≡ None → IsEmpty s.bound → Updates nat_cmp m n unit (Some (length ss)) → environment_of new uses n.entries ≡ with_root (environment_of ss uses m.entries) unit
+  root_seen m n unit s is outermost none put =
+      let scopes = ap (λ (l : List kept.Scope). map scope_of l) is ∙ pushed ss s (new_scope None) (new_scope_of s None outermost none) in
+      let roots = put_plain m n unit (length ss) put ∙ ap (λ (k : ℕ). insert (from_entries {R = nat_cmp} m.entries) unit k) (sym (length-map ss scope_of)) in
+      λ j. record { scopes = scopes j; uses = uses_of uses; roots = roots j }
+
+pub bound_seen : (ss : List kept.Scope) (uses : List (UseNo × ℕ)) (roots : List (ℕ × ℕ)) (n ident : ℕ) (m : Meaning) (old new : kept.Scope) → slice_get ss n ≡ Some old → new.parent ≡ old.parent → Updates nat_cmp old.bound new.bound ident (Some m) →
+    environment_of (set ss n new) uses roots ≡ with_bound (environment_of ss uses roots) n ident m
+bound_seen ss uses roots n ident m old new at parent put =
+    let scopes = bound ss n ident m old new at parent put in
+    λ j. record { scopes = scopes j; uses = uses_of uses; roots = from_entries {R = nat_cmp} roots }
+
+pub unbound_seen : (ss : List kept.Scope) (uses : List (UseNo × ℕ)) (roots : List (ℕ × ℕ)) (n : ℕ) (old new : kept.Scope) → slice_get ss n ≡ Some old → new.parent ≡ old.parent → new.bound.entries ≡ old.bound.entries →
+    environment_of (set ss n new) uses roots ≡ environment_of ss uses roots
+unbound_seen ss uses roots n old new at parent same =
+    let scopes = unbound ss n old new at parent same in
+    λ j. record { scopes = scopes j; uses = uses_of uses; roots = from_entries {R = nat_cmp} roots }
+
+pub use_seen : (ss : List kept.Scope) (roots : List (ℕ × ℕ)) (m n : BTreeMap UseNo ℕ) (k : UseNo) (scope : ℕ) → Updates cmp-value.it m n k (Some scope) → environment_of ss n.entries roots ≡ with_use (environment_of ss m.entries roots) (number_of k) scope
+use_seen ss roots m n k scope put =
+    let uses = put_uses m n k scope put in
+    λ j. record { scopes = map scope_of ss; uses = uses j; roots = from_entries {R = nat_cmp} roots }
+
+-- what holds on `Ok`
+pub on_ok : {T E : Type 0} {P : Type 0} (r : Result T E) → is_err r ≡ false → OnOk r P → P
+on_ok (Ok x) is h = h
+on_ok (Err e) is h = absurd cc
+
+-- what holds of each error, where there is nothing else
+pub on_err : {T E : Type 0} {P : Type 0} (r : Result T E) → P → OnErr r P
+on_err (Ok x) h = tt
+on_err (Err e) h = h

@@ -5,3 +5,4 @@ pub mod Changes
 pub mod Locals
 pub mod Walk
 pub mod StandingLaws
+pub mod Fields

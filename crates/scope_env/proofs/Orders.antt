@@ -8,7 +8,11 @@ use Rattle.std.specs.BTreeMap.{BTreeMap, Updates}
 use Rattle.std.specs.BTreeMap as tree
 use Rattle.std.specs.FinMap.{FinMap, get, insert, from_entries, IsAntisymmetric, nat_cmp-IsAntisymmetric}
 use Rattle.scheme_model.specs.Identifiers.{Number}
+use Rattle.syntax_tree.specs.Numbered.{number_of}
+use Rattle.syntax_tree.specs.declared.symbols.UseNo.{UseNo}
+use Rattle.syntax_tree.specs.contracts.symbols.UseNoOrd.TheImpl.{cmp-value}
 use Rattle.scope_env.specs.Environment.{number_cmp}
+use Rattle.scope_env.specs.Kept.{uses_of}
 use Rattle.scope_env.proofs.Maps.{get_seen, put_seen}
 
 pub number_total : IsTotalOrder number_cmp
@@ -49,3 +53,18 @@ put_plain m n k v u =
     sym (ap (λ es. from_entries {R = nat_cmp} es) (plain n.entries))
     ∙ put_seen nat_cmp nat_cmp nat_cmp_total nat_cmp-IsAntisymmetric (λ n. n) (λ x y. refl) (λ n. n) (λ b. refl) m n k v u
     ∙ ap (λ es. insert (from_entries {R = nat_cmp} es) k v) (plain m.entries)
+
+-- ---- maps by the numbers of uses
+
+use_no : Number → UseNo
+use_no k = record { unit = k.unit; form = k.form; count = k.count }
+
+agree : (x y : UseNo) → cmp-value.it x y ≡ number_cmp (number_of x) (number_of y)
+agree x y = refl
+
+pub get_uses : (m : BTreeMap UseNo ℕ) (k : UseNo) → get (uses_of m.entries) (number_of k) ≡ tree.get cmp-value.it m k
+get_uses m k = get_seen cmp-value.it number_cmp number_total number_same number_of agree m k
+
+pub put_uses : (m n : BTreeMap UseNo ℕ) (k : UseNo) (v : ℕ) → Updates cmp-value.it m n k (Some v) → uses_of n.entries ≡ insert (uses_of m.entries) (number_of k) v
+unfolding use_no
+put_uses m n k v u = put_seen cmp-value.it number_cmp number_total number_same number_of agree use_no (λ b. refl) m n k v u

@@ -133,14 +133,15 @@ impl Env {
         requires { (n : ℕ) → scope ≡ Some n → n < length self.now.scopes }
         ensures { result ≡ local self.now scope ident }
     {
-        let mut at = &self.scopes[scope?];
-        while let Some(parent) = at.parent {
-            if let Some(meaning) = at.bound.get(&ident) {
+        let mut at = scope?;
+        loop {
+            let scope = &self.scopes[at];
+            let parent = scope.parent?;
+            if let Some(meaning) = scope.bound.get(&ident) {
                 return Some(*meaning);
             }
-            at = &self.scopes[parent];
+            at = parent;
         }
-        None
     }
 
     /// What the own scope of a unit binds an identifier to.
