@@ -1,7 +1,7 @@
 -- The walk from an identifier to what it means, by way of the uses that inserted it.
 use Rattle.std.proofs.Common.{◌≡◌, ℕ, zero, suc, ◌<◌, List, length, slice_get, Option, Some, None, refl, sym, ap, ◌∙◌, subst, true}
 use Rattle.std.specs.Prelude.{unwrap_or}
-use Rattle.std.specs.Option.{option_or, option_map, option_and_then}
+use Rattle.std.specs.Option.{option_or, option_map, option_map_or, option_and_then}
 use Rattle.std.specs.FinMap.{get}
 use Rattle.std.specs.Str.{bytes_eq}
 use Rattle.std.proofs.lemmas.Option.{same_Some}
@@ -182,14 +182,22 @@ module _ (names : Names) (env : Environment) where
     pub there : (k : ℕ) → scope ≡ Some k → k < length env.scopes
     pub leads : (i : Identifier) → IsIdent names start i → (j : Identifier) × IsIdent names n j × Leads from i scope j
 
+-- how many uses have inserted an identifier
+abbrev depth : Identifier → ℕ
+depth (Written u s) = 0
+depth (Inserted i k) = suc (depth i)
+
+abbrev pub depth_at : Names → ℕ → ℕ
+depth_at names n = option_map_or depth (slice_get names.idents n) 0
+
 -- ---- entries of the table
 
-written_is : (names : Names) (n u symbol : ℕ) (i : Identifier) → IsIdent names n i → slice_get names.idents n ≡ ident_of names (entry.Written u symbol) → (s : List ℕ) × (slice_get names.symbols symbol ≡ Some s) × (i ≡ Written u s)
+pub written_is : (names : Names) (n u symbol : ℕ) (i : Identifier) → IsIdent names n i → slice_get names.idents n ≡ ident_of names (entry.Written u symbol) → (s : List ℕ) × (slice_get names.symbols symbol ≡ Some s) × (i ≡ Written u s)
 written_is names n u symbol i at is =
     let s = mapped_from (Written u) (slice_get names.symbols symbol) i (sym is ∙ at) in
     (s.0, s.1, sym s.2)
 
-inserted_is : (names : Names) (n id : ℕ) (k : UseNo) (i : Identifier) → IsIdent names n i → slice_get names.idents n ≡ ident_of names (entry.Inserted id k) → (j : Identifier) × IsIdent names id j × (i ≡ Inserted j (number_of k))
+pub inserted_is : (names : Names) (n id : ℕ) (k : UseNo) (i : Identifier) → IsIdent names n i → slice_get names.idents n ≡ ident_of names (entry.Inserted id k) → (j : Identifier) × IsIdent names id j × (i ≡ Inserted j (number_of k))
 inserted_is names n id k i at is =
     let j = mapped_from (λ (x : Identifier). Inserted x (number_of k)) (slice_get names.idents id) i (sym is ∙ at) in
     (j.0, j.1, sym j.2)

@@ -164,22 +164,22 @@ impl Env {
             AreLocalsOf unit form uses c i → IsMeaning symbols.now unit form result (means given uses c i) }
     {
         symbols.told_apart();
-        let mut scope = Some(scope);
-        let mut ident = ident;
+        let mut from = Some(scope);
+        let mut at = ident;
         loop {
-            if let Some(meaning) = self.local(scope, ident) {
+            if let Some(meaning) = self.local(from, at) {
                 return meaning;
             }
-            match symbols.ident_at(ident) {
+            match symbols.ident_at(at) {
                 Ident::Written { unit, symbol } => {
-                    return self.own(unit, ident).unwrap_or(Meaning::Free(symbol));
+                    return self.own(unit, at).unwrap_or(Meaning::Free(symbol));
                 }
                 Ident::Inserted { id, number } => {
-                    if let Some(meaning) = self.own(number.unit, ident) {
+                    if let Some(meaning) = self.own(number.unit, at) {
                         return meaning;
                     }
-                    scope = self.uses.get(&number).copied();
-                    ident = id;
+                    from = self.uses.get(&number).copied();
+                    at = id;
                 }
             }
         }
