@@ -1,5 +1,5 @@
 -- The walk from an identifier to what it means, by way of the uses that inserted it.
-use Rattle.std.proofs.Common.{◌≡◌, ℕ, zero, suc, ◌<◌, List, length, slice_get, Option, Some, None, refl, sym, ap, ◌∙◌, subst, true}
+use Rattle.std.proofs.Common.{◌≡◌, ℕ, zero, suc, ◌<◌, List, length, slice_get, Option, Some, None, refl, sym, ap, ◌∙◌, subst, arith}
 use Rattle.std.specs.Prelude.{unwrap_or}
 use Rattle.std.specs.Option.{option_or, option_map, option_map_or, option_and_then}
 use Rattle.std.specs.FinMap.{get}
@@ -18,9 +18,9 @@ use Rattle.syntax_tree.specs.declared.meaning.Meaning.{Meaning}
 use Rattle.syntax_tree.specs.declared.meaning.Meaning.TheVariants as code
 use Rattle.syntax_tree.specs.declared.symbols.Ident.TheVariants as entry
 use Rattle.syntax_tree.specs.declared.symbols.UseNo.{UseNo}
-use Rattle.syntax_tree.proofs.Places.{none_some}
+use Rattle.syntax_tree.proofs.Places.{none_some, get_within}
 use Rattle.syntax_tree.proofs.InternLaws.{bytes_told, bytes_itself}
-use Rattle.scope_env.specs.Environment.{Environment}
+use Rattle.scope_env.specs.Environment.{Environment, IsSound}
 use Rattle.scope_env.specs.Resolved.{number_in, symbol_in, local, own, resolved}
 use Rattle.scope_env.specs.Standing.{bound_by, StandsFor, Gives, EnvFor, IsOfForm, AreLocalsOf}
 use Rattle.scope_env.proofs.Places.{place_is}
@@ -201,3 +201,53 @@ pub inserted_is : (names : Names) (n id : ℕ) (k : UseNo) (i : Identifier) → 
 inserted_is names n id k i at is =
     let j = mapped_from (λ (x : Identifier). Inserted x (number_of k)) (slice_get names.idents id) i (sym is ∙ at) in
     (j.0, j.1, sym j.2)
+
+-- the identifier inside an inserted one is less deep
+pub less_deep : (names : Names) (n id : ℕ) (k : UseNo) → n < length names.idents → slice_get names.idents n ≡ ident_of names (entry.Inserted id k) → depth_at names id < depth_at names n
+less_deep names n id k within is =
+    let i = get_within names.idents n within in
+    let j = inserted_is names n id k i.0 i.1 is in
+    let outer : depth_at names n ≡ suc (depth j.0) = ap (λ (o : Option Identifier). option_map_or depth o 0) (i.1 ∙ ap Some j.2) in
+    let inner : depth_at names id ≡ depth j.0 = ap (λ (o : Option Identifier). option_map_or depth o 0) j.1 in
+    omega arith
+
+-- ---- the walk of the loop
+
+module _ (names : Names) (env : Environment) (from : Option ℕ) (start : ℕ) where
+  -- what the identifier means to which the walk came
+  pub finished : (scope : Option ℕ) (n : ℕ) (m : Meaning) → Walked names env from start scope n → ((j : Identifier) → IsIdent names n j → Answers names env scope j m) → (i : Identifier) → IsIdent names start i → Answers names env from i m
+  finished scope n m walked answers i at =
+      let l = walked.leads i at in
+      ends names env from scope i l.0 m l.2 (answers l.0 l.1)
+
+  module _ (apart : AreToldApart names.idents) (scope : Option ℕ) (n : ℕ) (walked : Walked names env from start scope n) where
+    pub finished_local : (m : Meaning) → Some m ≡ local env scope n → (i : Identifier) → IsIdent names start i → Answers names env from i m
+    finished_local m some = finished scope n m walked (λ j at. local_answers names env apart n scope j m at (sym some))
+
+    pub finished_written : AreToldApart names.symbols → (u symbol : ℕ) (o : Option Meaning) (m : Meaning) → slice_get names.idents n ≡ ident_of names (entry.Written u symbol) → None ≡ local env scope n → o ≡ own env u n → m ≡ unwrap_or o (code.Free symbol) →
+        (i : Identifier) → IsIdent names start i → Answers names env from i m
+    finished_written symbols u symbol o m is none owned result = finished scope n m walked (λ j at.
+        let w = written_is names n u symbol j at is in
+        let answers = written_answers names env apart symbols n scope u symbol w.0 (subst (λ (x : Identifier). IsIdent names n x) w.2 at) w.1 (sym none) in
+        subst (λ (x : Identifier). Answers names env scope x m) (sym w.2)
+        (subst (λ (x : Meaning). Answers names env scope (Written u w.0) x) (ap (λ (x : Option Meaning). unwrap_or x (code.Free symbol)) (sym owned) ∙ sym result) answers))
+
+    module _ (id : ℕ) (k : UseNo) (is : slice_get names.idents n ≡ ident_of names (entry.Inserted id k)) (none : None ≡ local env scope n) where
+      pub finished_inserted : (m : Meaning) → Some m ≡ own env k.unit n → (i : Identifier) → IsIdent names start i → Answers names env from i m
+      finished_inserted m some = finished scope n m walked (λ j at.
+          let w = inserted_is names n id k j at is in
+          subst (λ (x : Identifier). Answers names env scope x m) (sym w.2)
+          (inserted_answers names env apart n scope w.0 (number_of k) m (subst (λ (x : Identifier). IsIdent names n x) w.2 at) (sym none) (sym some)))
+
+      -- on to the identifier inside, in the scope of the use
+      pub walked_on : IsSound env → id < length names.idents → None ≡ own env k.unit n → (next : Option ℕ) → get env.uses (number_of k) ≡ next → Walked names env from start next id
+      walked_on sound within no_own next of_use = record {
+        within = within;
+        there = λ m to. sound.uses (number_of k) m (of_use ∙ to);
+        leads = λ i at.
+          let l = walked.leads i at in
+          let w = inserted_is names n id k l.0 l.1 is in
+          let first : Leads names env from i scope (Inserted w.0 (number_of k)) = subst (λ (x : Identifier). Leads names env from i scope x) w.2 l.2 in
+          let second = inserted_on names env apart n scope w.0 (number_of k) (subst (λ (x : Identifier). IsIdent names n x) w.2 l.1) (sym none) (sym no_own) in
+          (w.0, w.1, subst (λ (o : Option ℕ). Leads names env from i o w.0) of_use (on names env from scope (get env.uses (number_of k)) i (Inserted w.0 (number_of k)) w.0 first second));
+      }
