@@ -1,12 +1,11 @@
 -- What calls make of an environment, and that it stays sound.
-use Rattle.std.proofs.Common.{◌≡◌, ℕ, zero, suc, ◌+◌, ◌<◌, ◌≤◌, Bool, true, false, cond, List, [], ◌∷◌, ◌++◌, map, length, set, slice_get, Option, Some, None, refl, sym, ap, ◌∙◌, subst, inl, inr, arith, length-append, Result, Ok, Err, is_err, OnOk, OnErr}
+use Rattle.std.proofs.Common.{◌≡◌, ℕ, zero, suc, ◌<◌, Bool, true, false, cond, List, [], ◌∷◌, ◌++◌, map, length, set, slice_get, Option, Some, None, refl, sym, ap, ◌∙◌, subst, inl, inr, arith, length-append, Result, Ok, Err, is_err, OnOk, OnErr}
 use Rattle.std.specs.Prelude.{◌⊎◌}
 use Rattle.std.specs.declared.cmp.Ordering.{Ordering}
-use Rattle.std.specs.declared.cmp.Ordering.TheVariants.{Equal}
 use Rattle.std.specs.Ordering.{nat_cmp, eq_by_cmp}
 use Rattle.std.specs.Cmp.{IsTotalOrder, nat_cmp_total, Equal-is}
 use Rattle.std.specs.BTreeMap.{BTreeMap, IsEmpty, Updates}
-use Rattle.std.specs.FinMap.{FinMap, empty, get, insert, from_entries, IsAntisymmetric, nat_cmp-IsAntisymmetric, get-empty, get-insert}
+use Rattle.std.specs.FinMap.{FinMap, get, insert, from_entries, IsAntisymmetric, nat_cmp-IsAntisymmetric, get-empty, get-insert}
 use Rattle.std.proofs.lemmas.List.{length-map}
 use Rattle.std.proofs.lemmas.Option.{slice_get_within, same_Some}
 use Rattle.syntax_tree.proofs.Places.{none_some, get_front, get_next, push_cases}
@@ -118,11 +117,11 @@ same_parent ident m P x y (inr h) = ap (λ (t : Scope). t.parent) h.1
 pub sound_bound : (env : Environment) (scope ident : ℕ) (m : Meaning) → IsSound env → IsSound (with_bound env scope ident m)
 sound_bound env scope ident m sound = record {
   older = λ n p s at is. let before = changed_from (bound_in ident m) env.scopes scope n s at in
-    sound.older n p before.0 before.1 (sym (same_parent ident m (n ≡ scope) before.0 s before.2) ∙ is);
+      sound.older n p before.0 before.1 (sym (same_parent ident m (n ≡ scope) before.0 s before.2) ∙ is);
   uses = λ k n at. subst (λ (len : ℕ). n < len) (sym (length-changed_at (bound_in ident m) env.scopes scope)) (sound.uses k n at);
   roots = λ u n at. let own = sound.roots u n at in
-    let after = changed_to (bound_in ident m) env.scopes scope n own.scope own.there in
-    record { scope = after.0; there = after.1; outermost = same_parent ident m (n ≡ scope) own.scope after.0 after.2 ∙ own.outermost };
+      let after = changed_to (bound_in ident m) env.scopes scope n own.scope own.there in
+      record { scope = after.0; there = after.1; outermost = same_parent ident m (n ≡ scope) own.scope after.0 after.2 ∙ own.outermost };
   apart = sound.apart;
 }
 

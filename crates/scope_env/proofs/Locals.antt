@@ -1,14 +1,13 @@
 -- The local scopes from a scope outwards, one by one.
-use Rattle.std.proofs.Common.{◌≡◌, ℕ, zero, suc, ◌+◌, ◌<◌, ◌≤◌, Bool, true, false, cond, ◌==◌, List, [], ◌∷◌, ◌++◌, length, reverse, slice_get, Option, Some, None, refl, sym, ap, ◌∙◌, subst, inl, inr, arith, eq-eqb}
-use Rattle.std.specs.Prelude.{◌⊎◌}
+use Rattle.std.proofs.Common.{◌≡◌, ℕ, zero, suc, ◌<◌, ◌≤◌, false, cond, ◌==◌, List, [], ◌∷◌, ◌++◌, length, reverse, slice_get, Option, Some, None, refl, sym, ap, ◌∙◌, subst, inl, inr, arith, eq-eqb}
 use Rattle.std.specs.Option.{option_or, option_and_then}
 use Rattle.std.specs.FinMap.{get}
 use Rattle.std.proofs.lemmas.Bool.{ne_eqb}
-use Rattle.std.proofs.lemmas.Option.{slice_get_within, same_Some}
-use Rattle.std.proofs.lemmas.List.{reverse-reverse, reverse-append, length-reverse}
+use Rattle.std.proofs.lemmas.Option.{slice_get_within}
+use Rattle.std.proofs.lemmas.List.{reverse-reverse, length-reverse}
 use Rattle.std.proofs.lemmas.Grind.{reverse_onto}
 use Rattle.syntax_tree.specs.declared.meaning.Meaning.{Meaning}
-use Rattle.syntax_tree.proofs.Places.{none_some, get_front, get_same, get_next, push_cases}
+use Rattle.syntax_tree.proofs.Places.{none_some, get_front, push_cases}
 use Rattle.scope_env.specs.Environment.{Environment, Scope, IsSound}
 use Rattle.scope_env.specs.Resolved.{around, path_in, path, bound_locally, innermost, local}
 
@@ -108,6 +107,6 @@ module _ (e f : Environment) (ident : ℕ) (sound_e : IsSound e) (sound_f : IsSo
       let a = alike n q in
       local_is e sound_e ident n a.0 a.2
       ∙ same_around a.0.parent (get a.0.bound ident) (λ p. local e (Some p) ident) (λ p. local f (Some p) ident)
-        (λ p is. rest p (sound_e.older n p a.0 a.2 is) (around n p a.0 q a.2 is))
+      (λ p is. rest p (sound_e.older n p a.0 a.2 is) (around n p a.0 q a.2 is))
       ∙ a.4.asked (λ p. local f (Some p) ident)
       ∙ sym (local_is f sound_f ident n a.1 a.3))

@@ -1,12 +1,12 @@
 -- The order of the numbers of macro uses, and finite maps by numbers.
-use Rattle.std.proofs.Common.{◌≡◌, ℕ, List, [], ◌∷◌, map, Option, Some, None, cond, refl, sym, ap, ◌∙◌, true, false, Bool}
+use Rattle.std.proofs.Common.{◌≡◌, ℕ, List, [], ◌∷◌, map, Some, refl, sym, ap, ◌∙◌}
 use Rattle.std.specs.declared.cmp.Ordering.{Ordering}
 use Rattle.std.specs.declared.cmp.Ordering.TheVariants.{Less, Equal, Greater}
-use Rattle.std.specs.Ordering.{nat_cmp, ordering_then, eq_by_cmp, is_eq}
+use Rattle.std.specs.Ordering.{nat_cmp, ordering_then}
 use Rattle.std.specs.Cmp.{IsTotalOrder, nat_cmp_total, on_total, then_total}
 use Rattle.std.specs.BTreeMap.{BTreeMap, Updates}
 use Rattle.std.specs.BTreeMap as tree
-use Rattle.std.specs.FinMap.{FinMap, get, insert, from_entries, IsAntisymmetric, nat_cmp-IsAntisymmetric}
+use Rattle.std.specs.FinMap.{get, insert, from_entries, IsAntisymmetric, nat_cmp-IsAntisymmetric}
 use Rattle.scheme_model.specs.Identifiers.{Number}
 use Rattle.syntax_tree.specs.Numbered.{number_of}
 use Rattle.syntax_tree.specs.declared.symbols.UseNo.{UseNo}

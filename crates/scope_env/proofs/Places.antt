@@ -1,11 +1,11 @@
 -- Lists by their places, and what is found in them.
-use Rattle.std.proofs.Common.{◌≡◌, ℕ, zero, suc, ◌+◌, ◌<◌, ◌≤◌, Bool, true, false, cond, not, List, [], ◌∷◌, ◌++◌, map, length, get_or, set, reverse, slice_get, Option, Some, None, refl, sym, ap, ◌∙◌, subst, inl, inr, arith}
+use Rattle.std.proofs.Common.{◌≡◌, ℕ, zero, suc, ◌+◌, ◌<◌, Bool, true, false, cond, not, List, [], ◌∷◌, map, length, set, slice_get, Some, refl, sym, ap, ◌∙◌, inl, inr, arith}
 use Rattle.std.specs.Prelude.{◌⊎◌}
 use Rattle.std.specs.List.{position_or_len}
 use Rattle.std.specs.Option.{option_map}
-use Rattle.std.proofs.lemmas.Option.{slice_get_within, slice_get_past, same_Some}
+use Rattle.std.proofs.lemmas.Option.{slice_get_within, same_Some}
 use Rattle.syntax_tree.specs.Names.{AreToldApart}
-use Rattle.syntax_tree.proofs.Places.{none_some, get_front, get_same, get_next, push_cases, get_within}
+use Rattle.syntax_tree.proofs.Places.{none_some}
 use Rattle.scope_env.specs.Environment.{changed_at}
 
 module _ {A : Type 0} where

@@ -1,19 +1,17 @@
 -- What an environment stands for after a change.
-use Rattle.std.proofs.Common.{◌≡◌, ℕ, zero, suc, ◌+◌, ◌<◌, ◌≤◌, Bool, true, false, cond, List, [], ◌∷◌, ◌++◌, length, slice_get, nat_eq, Option, Some, None, refl, sym, ap, ◌∙◌, subst, inl, inr, arith, eqb}
-use Rattle.std.specs.Prelude.{◌⊎◌, ◌==◌, ◌&&◌, ◌||◌}
-use Rattle.std.specs.declared.cmp.Ordering.{Ordering}
-use Rattle.std.specs.declared.cmp.Ordering.TheVariants.{Equal}
-use Rattle.std.specs.Ordering.{nat_cmp, eq_by_cmp, is_eq}
-use Rattle.std.specs.Cmp.{IsTotalOrder, nat_cmp_total, Equal-is, tied_itself}
-use Rattle.std.specs.FinMap.{FinMap, empty, get, insert, nat_cmp-IsAntisymmetric, get-empty, get-insert}
+use Rattle.std.proofs.Common.{◌≡◌, ℕ, ◌<◌, Bool, true, false, cond, List, [], ◌∷◌, ◌++◌, length, slice_get, nat_eq, Option, Some, None, refl, sym, ap, ◌∙◌, subst, inl, inr, arith}
+use Rattle.std.specs.Prelude.{◌==◌, ◌&&◌, ◌||◌}
+use Rattle.std.specs.Ordering.{nat_cmp, eq_by_cmp}
+use Rattle.std.specs.Cmp.{nat_cmp_total, Equal-is, tied_itself}
+use Rattle.std.specs.FinMap.{FinMap, get, insert, nat_cmp-IsAntisymmetric, get-empty, get-insert}
 use Rattle.std.specs.List.{list_any}
 use Rattle.std.specs.Option.{option_or, option_map, option_and_then}
-use Rattle.std.proofs.lemmas.Bool.{eq-eqb, eqb-true, ne_eqb, eqb-false, cases_eq}
+use Rattle.std.proofs.lemmas.Bool.{eqb-true, eqb-false, cases_eq}
 use Rattle.std.proofs.lemmas.Option.{slice_get_within, same_Some}
 use Rattle.scheme_model.specs.Identifiers.{Number, same_number}
 use Rattle.scheme_model.specs.Ident.{Ident as Identifier, Written, Inserted, same_ident}
 use Rattle.scheme_model.specs.Meaning as model
-use Rattle.scheme_model.specs.Scopes.{Bound, Chain, Uses, Own, found, given_or, local_or, beyond, means}
+use Rattle.scheme_model.specs.Scopes.{Chain, Uses, Own, found, given_or, local_or, beyond, means}
 use Rattle.scheme_model.proofs.IdentLaws.{ident_told, ident_itself, number_told, number_itself, bool_same}
 use Rattle.syntax_tree.specs.Names.{Names, AreToldApart}
 use Rattle.syntax_tree.specs.Macros.{IsIdent}
@@ -21,14 +19,14 @@ use Rattle.syntax_tree.specs.Meant.{IsGivenMeaning}
 use Rattle.syntax_tree.specs.declared.meaning.Meaning.{Meaning}
 use Rattle.syntax_tree.specs.declared.meaning.Meaning.TheVariants as code
 use Rattle.syntax_tree.proofs.Places.{none_some, get_front, get_same, get_next, get_within}
-use Rattle.scope_env.specs.Environment.{Environment, Scope, IsSound, IsOwn, new_scope, with_child, with_root, with_use, with_bound, bound_in, changed_at, number_cmp}
+use Rattle.scope_env.specs.Environment.{Environment, Scope, IsSound, new_scope, with_child, with_root, with_use, with_bound, bound_in, number_cmp}
 use Rattle.scope_env.specs.Resolved.{path, around, local, bound_at, own}
-use Rattle.scope_env.specs.Standing.{bound_by, StandsFor, Gives, EnvFor}
+use Rattle.scope_env.specs.Standing.{StandsFor, Gives, EnvFor}
 use Rattle.scope_env.specs.Moved.{parent_of, is_around, with_use_under, with_given, has_use}
-use Rattle.scope_env.proofs.Places.{length-changed_at, changed_here, changed_there}
+use Rattle.scope_env.proofs.Places.{changed_here, changed_there}
 use Rattle.scope_env.proofs.Orders.{number_total, number_same}
 use Rattle.scope_env.proofs.Changes.{sound_child, sound_root, sound_bound}
-use Rattle.scope_env.proofs.Locals.{outwards, path_at, local_is, Alike, local_alike}
+use Rattle.scope_env.proofs.Locals.{outwards, path_at, local_is, local_alike}
 
 -- ---- what stays where scopes answer as before
 
@@ -119,7 +117,7 @@ module _ (names : Names) (e : Environment) (unit : ℕ) (sound : IsSound e) (new
   pub root_env : (given : Own) (uses : Uses) → EnvFor names e given uses → EnvFor names (with_root e unit) given uses
   root_env given uses = longer_env names e (new_scope None) (insert e.roots unit (length e.scopes)) sound (sound_root e unit sound new) given uses
       (λ u n. own_by u n (eq_by_cmp nat_cmp u unit) refl
-        ∙ ap (λ (o : Option ℕ). option_and_then (λ (r : ℕ). bound_at (with_root e unit) r n) o) (sym (get-insert nat_cmp_total e.roots unit (length e.scopes) u)))
+      ∙ ap (λ (o : Option ℕ). option_and_then (λ (r : ℕ). bound_at (with_root e unit) r n) o) (sym (get-insert nat_cmp_total e.roots unit (length e.scopes) u)))
 
 -- ---- one identifier more in a scope
 
@@ -128,10 +126,10 @@ same_place : (names : Names) → AreToldApart names.idents → (ident m : ℕ) (
 same_place names apart ident m i j at_i at_j =
     bool_same (eq_by_cmp nat_cmp m ident) (same_ident i j)
     (λ same. let equal : m ≡ ident = nat_cmp-IsAntisymmetric m ident ((Equal-is (nat_cmp m ident)).0 same) in
-      let is : i ≡ j = same_Some i j (sym at_i ∙ ap (λ (n : ℕ). slice_get names.idents n) (sym equal) ∙ at_j) in
-      subst (λ (x : Identifier). same_ident i x ≡ true) is (ident_itself i))
+    let is : i ≡ j = same_Some i j (sym at_i ∙ ap (λ (n : ℕ). slice_get names.idents n) (sym equal) ∙ at_j) in
+    subst (λ (x : Identifier). same_ident i x ≡ true) is (ident_itself i))
     (λ same. let equal : m ≡ ident = apart m ident (slice_get_within names.idents m j at_j) (at_j ∙ ap Some (sym (ident_told i j same)) ∙ sym at_i) in
-      subst (λ (n : ℕ). eq_by_cmp nat_cmp m n ≡ true) equal ((Equal-is (nat_cmp m m)).1 (tied_itself nat_cmp_total m)))
+    subst (λ (n : ℕ). eq_by_cmp nat_cmp m n ≡ true) equal ((Equal-is (nat_cmp m m)).1 (tied_itself nat_cmp_total m)))
 
 -- and none where it is none
 no_place : (names : Names) (ident m : ℕ) (i : Identifier) → IsIdent names ident i → slice_get names.idents m ≡ None → eq_by_cmp nat_cmp m ident ≡ false
@@ -163,7 +161,7 @@ module _ (names : Names) (e : Environment) (scope ident : ℕ) (m : Meaning) (so
   beside : (Q : ℕ → Type 0) → ((n : ℕ) → Q n → n < length e.scopes) → ((n : ℕ) → Q n → n ≡ scope → ⊥) → ((n p : ℕ) (s : Scope) → Q n → slice_get e.scopes n ≡ Some s → s.parent ≡ Some p → Q p) → (q n : ℕ) → Q n → local e (Some n) q ≡ local changed (Some n) q
   beside Q within other inwards q n h = local_alike e changed q sound sound' Q
       (λ k h. let s = get_within e.scopes k (within k h) in
-        (s.0, s.0, s.1, changed_there (bound_in ident m) e.scopes scope k (other k h) ∙ s.1, record { asked = λ f. refl }))
+      (s.0, s.0, s.1, changed_there (bound_in ident m) e.scopes scope k (other k h) ∙ s.1, record { asked = λ f. refl }))
       inwards n h
 
   -- those further out than the one that changes
@@ -182,7 +180,7 @@ module _ (names : Names) (e : Environment) (scope ident : ℕ) (m : Meaning) (so
       ∙ or_first (eq_by_cmp nat_cmp q ident) m (get s.bound q) (local changed (Some p) q)
       ∙ ap (λ (o : Option Meaning). cond (eq_by_cmp nat_cmp q ident) (Some m) (option_or (get s.bound q) o)) (sym (further_out q p lt within))
       ∙ ap (λ (o : Option Meaning). cond (eq_by_cmp nat_cmp q ident) (Some m) o)
-        (sym (local_is e sound q scope s at ∙ ap (λ (o : Option ℕ). outwards o (get s.bound q) (λ r. local e (Some r) q)) inside))
+      (sym (local_is e sound q scope s at ∙ ap (λ (o : Option ℕ). outwards o (get s.bound q) (λ r. local e (Some r) q)) inside))
 
   -- scopes that don't have it around
   abbrev Apart : ℕ → Type 0
@@ -244,12 +242,12 @@ module _ (names : Names) (e : Environment) (scope ident : ℕ) (m : Meaning) (so
     root_stays c n within = stands_on names e changed c n (λ q. local_alike e changed q sound sound' (λ k. k < length e.scopes)
         (λ k lt. elim (cases_eq k scope) [
           | inl is ↦ let o = sound.roots u scope at in
-            let here : slice_get e.scopes k ≡ Some o.scope = ap (λ (r : ℕ). slice_get e.scopes r) is ∙ o.there in
-            let there : slice_get changed.scopes k ≡ Some (bound_in ident m o.scope) =
-            ap (λ (r : ℕ). slice_get changed.scopes r) is ∙ changed_here (bound_in ident m) e.scopes scope ∙ ap (λ (x : Option Scope). option_map (bound_in ident m) x) o.there in
-            (o.scope, bound_in ident m o.scope, here, there, record { asked = λ f. not_asked o.scope.parent (get o.scope.bound q) (get (insert o.scope.bound ident m) q) f o.outermost })
+              let here : slice_get e.scopes k ≡ Some o.scope = ap (λ (r : ℕ). slice_get e.scopes r) is ∙ o.there in
+              let there : slice_get changed.scopes k ≡ Some (bound_in ident m o.scope) =
+              ap (λ (r : ℕ). slice_get changed.scopes r) is ∙ changed_here (bound_in ident m) e.scopes scope ∙ ap (λ (x : Option Scope). option_map (bound_in ident m) x) o.there in
+              (o.scope, bound_in ident m o.scope, here, there, record { asked = λ f. not_asked o.scope.parent (get o.scope.bound q) (get (insert o.scope.bound ident m) q) f o.outermost })
           | inr other ↦ let s = get_within e.scopes k lt in
-            (s.0, s.0, s.1, changed_there (bound_in ident m) e.scopes scope k other ∙ s.1, record { asked = λ f. refl })
+              (s.0, s.0, s.1, changed_there (bound_in ident m) e.scopes scope k other ∙ s.1, record { asked = λ f. refl })
         ])
         (λ k p s lt here is. let below = sound.older k p s here is in omega arith) n within)
 
@@ -264,7 +262,7 @@ module _ (names : Names) (e : Environment) (scope ident : ℕ) (m : Meaning) (so
         ∙ ap (λ (x : Option Scope). option_and_then (λ (s : Scope). get s.bound n) x) (changed_here (bound_in ident m) e.scopes scope ∙ ap (λ (x : Option Scope). option_map (bound_in ident m) x) o.there)
         ∙ get-insert nat_cmp_total o.scope.bound ident m n
         ∙ ap (λ (x : Option Meaning). cond (eq_by_cmp nat_cmp n ident) (Some m) x)
-          (sym (ap (λ (x : Option ℕ). option_and_then (λ (r : ℕ). bound_at e r n) x) at ∙ ap (λ (x : Option Scope). option_and_then (λ (s : Scope). get s.bound n) x) o.there))
+        (sym (ap (λ (x : Option ℕ). option_and_then (λ (r : ℕ). bound_at e r n) x) at ∙ ap (λ (x : Option Scope). option_and_then (λ (s : Scope). get s.bound n) x) o.there))
 
     own_by_unit : (v n : ℕ) (b : Bool) → (u == v) ≡ b → own changed v n ≡ cond (b && eq_by_cmp nat_cmp n ident) (Some m) (own e v n)
     own_by_unit v n true same = let is : u ≡ v = eqb-true u v same in
@@ -290,7 +288,7 @@ module _ (names : Names) (e : Environment) (scope ident : ℕ) (m : Meaning) (so
     pub root_env_bound : (given : Own) (uses : Uses) (i : Identifier) (d : model.Meaning) → AreToldApart names.idents → IsIdent names ident i → IsGivenMeaning names m d → EnvFor names e given uses → EnvFor names changed (with_given given u i d) uses
     root_env_bound given uses i d apart is meant env = record {
       own = λ v n. subst (λ (o : Option Meaning). Gives names o (option_and_then (with_given given u i d v) (slice_get names.idents n))) (sym (own_by_unit v n (u == v) refl))
-        (gives_by given v n i d (slice_get names.idents n) apart is meant refl (env.own v n));
+          (gives_by given v n i d (slice_get names.idents n) apart is meant refl (env.own v n));
       uses = λ k. use_stays (uses k) (get e.uses k) (sound.uses k) (env.uses k);
     }
 
@@ -317,8 +315,8 @@ pub bound_stands : (names : Names) (e : Environment) (scope ident p : ℕ) (i : 
 bound_stands names e scope ident p i v c sound apart at inside stands =
     let s = parent_there e scope p (slice_get e.scopes scope) refl inside in
     λ q. local_here names e scope ident (code.Local v.count) sound q p s.0 s.1 s.2
-      ∙ ap (λ (o : Option Meaning). cond (eq_by_cmp nat_cmp q ident) (Some (code.Local v.count)) o) (stands q)
-      ∙ bound_more names apart ident q i v c (slice_get names.idents q) at refl
+    ∙ ap (λ (o : Option Meaning). cond (eq_by_cmp nat_cmp q ident) (Some (code.Local v.count)) o) (stands q)
+    ∙ bound_more names apart ident q i v c (slice_get names.idents q) at refl
 
 pub local_bound_env : (names : Names) (e : Environment) (scope ident p : ℕ) (m : Meaning) (given : Own) (uses : Uses) → IsSound e → parent_of e scope ≡ Some p →
     ((k : Number) (n : ℕ) → get e.uses k ≡ Some n → is_around e scope n ≡ false) → EnvFor names e given uses → EnvFor names (with_bound e scope ident m) given uses
@@ -348,8 +346,8 @@ pub use_env : (names : Names) (e : Environment) (k : Number) (scope : ℕ) (c : 
 use_env names e k scope c given uses stands is = record {
   own = is.own;
   uses = λ l. subst (λ (o : Option ℕ). StandsFor names (with_use e k scope) o (with_use_under uses k c l)) (sym (get-insert number_total e.uses k scope l))
-    (subst (λ (b : Bool). StandsFor names (with_use e k scope) (cond b (Some scope) (get e.uses l)) (with_use_under uses k c l)) (sym (same_use k l))
-    (noted_by names e k scope c (uses l) (same_number k l) (get e.uses l) stands (is.uses l)));
+      (subst (λ (b : Bool). StandsFor names (with_use e k scope) (cond b (Some scope) (get e.uses l)) (with_use_under uses k c l)) (sym (same_use k l))
+      (noted_by names e k scope c (uses l) (same_number k l) (get e.uses l) stands (is.uses l)));
 }
 
 -- what has nothing of a use means what it did

@@ -1,5 +1,5 @@
 -- The walk from an identifier to what it means, by way of the uses that inserted it.
-use Rattle.std.proofs.Common.{◌≡◌, ℕ, zero, suc, ◌<◌, List, length, slice_get, Option, Some, None, refl, sym, ap, ◌∙◌, subst, arith}
+use Rattle.std.proofs.Common.{◌≡◌, ℕ, suc, ◌<◌, List, length, slice_get, Option, Some, None, refl, sym, ap, ◌∙◌, subst, arith}
 use Rattle.std.specs.Prelude.{unwrap_or}
 use Rattle.std.specs.Option.{option_or, option_map, option_map_or, option_and_then}
 use Rattle.std.specs.FinMap.{get}
@@ -58,17 +58,17 @@ module _ (names : Names) (env : Environment) where
   on a b d i j k p q = record {
     value = p.value ∙ q.value;
     meaning = λ given uses c unit form is stands locals.
-      let first = p.meaning given uses c unit form is stands locals in
-      let second = q.meaning given uses first.0 unit form is first.1 first.2 in
-      (second.0, second.1, second.2, first.3 ∙ second.3);
+        let first = p.meaning given uses c unit form is stands locals in
+        let second = q.meaning given uses first.0 unit form is first.1 first.2 in
+        (second.0, second.1, second.2, first.3 ∙ second.3);
   }
 
   pub ends : (a b : Option ℕ) (i j : Identifier) (m : Meaning) → Leads a i b j → Answers b j m → Answers a i m
   ends a b i j m p q = record {
     value = p.value ∙ q.value;
     meaning = λ given uses c unit form is stands locals.
-      let first = p.meaning given uses c unit form is stands locals in
-      subst (IsMeaning names unit form m) (sym first.3) (q.meaning given uses first.0 unit form is first.1 first.2);
+        let first = p.meaning given uses c unit form is stands locals in
+        subst (IsMeaning names unit form m) (sym first.3) (q.meaning given uses first.0 unit form is first.1 first.2);
   }
 
   -- ---- what stands for what, at one number
@@ -110,12 +110,12 @@ module _ (names : Names) (env : Environment) where
     pub inserted_on : (n : ℕ) (from : Option ℕ) (i : Identifier) (k : Number) → IsIdent names n (Inserted i k) → local env from n ≡ None → own env k.unit n ≡ None → Leads from (Inserted i k) (get env.uses k) i
     inserted_on n from i k at no_local no_own = record {
       value =
-        ap (λ (m : ℕ). unwrap_or (option_or (local env from m) (own env k.unit m)) (resolved env names (get env.uses k) i)) (number_is n (Inserted i k) at)
-        ∙ (λ j. unwrap_or (option_or (no_local j) (no_own j)) (resolved env names (get env.uses k) i));
+          ap (λ (m : ℕ). unwrap_or (option_or (local env from m) (own env k.unit m)) (resolved env names (get env.uses k) i)) (number_is n (Inserted i k) at)
+          ∙ (λ j. unwrap_or (option_or (no_local j) (no_own j)) (resolved env names (get env.uses k) i));
       meaning = λ given uses c unit form is stands locals.
-        let unbound = not_found n (Inserted i k) at from c stands no_local in
-        let not_given = gives_none (given k.unit (Inserted i k)) (given_here n (Inserted i k) at given uses k.unit None is no_own) in
-        (uses k, is.uses k, locals.1, λ j. local_or (unbound j) (given_or (not_given j) (local_or (found (uses k) i) (beyond given uses i))));
+          let unbound = not_found n (Inserted i k) at from c stands no_local in
+          let not_given = gives_none (given k.unit (Inserted i k)) (given_here n (Inserted i k) at given uses k.unit None is no_own) in
+          (uses k, is.uses k, locals.1, λ j. local_or (unbound j) (given_or (not_given j) (local_or (found (uses k) i) (beyond given uses i))));
     }
 
     local_value : (n : ℕ) (from : Option ℕ) (i : Identifier) (m : Meaning) → IsIdent names n i → local env from n ≡ Some m → resolved env names from i ≡ m
@@ -131,43 +131,43 @@ module _ (names : Names) (env : Environment) where
     local_answers n from i m at some = record {
       value = local_value n from i m at some;
       meaning = λ given uses c unit form is stands locals.
-        let v = found_there n i at from c m stands some in
-        let of_form : IsOfForm unit form (Some v.0) = subst (IsOfForm unit form) v.1 (first_local unit form uses c i locals) in
-        let same : model.Local v.0 ≡ model.Local (record { unit = unit; form = form; count = v.0.count }) = λ j. model.Local (record { unit = of_form.0 j; form = of_form.1 j; count = v.0.count }) in
-        subst (λ (x : Meaning). IsMeaning names unit form x (means given uses c i)) v.2 (ap (λ (o : Option Number). local_or o (beyond given uses i)) v.1 ∙ same);
+          let v = found_there n i at from c m stands some in
+          let of_form : IsOfForm unit form (Some v.0) = subst (IsOfForm unit form) v.1 (first_local unit form uses c i locals) in
+          let same : model.Local v.0 ≡ model.Local (record { unit = unit; form = form; count = v.0.count }) = λ j. model.Local (record { unit = of_form.0 j; form = of_form.1 j; count = v.0.count }) in
+          subst (λ (x : Meaning). IsMeaning names unit form x (means given uses c i)) v.2 (ap (λ (o : Option Number). local_or o (beyond given uses i)) v.1 ∙ same);
     }
 
     -- the own scope of the unit of the use binds it
     pub inserted_answers : (n : ℕ) (from : Option ℕ) (i : Identifier) (k : Number) (m : Meaning) → IsIdent names n (Inserted i k) → local env from n ≡ None → own env k.unit n ≡ Some m → Answers from (Inserted i k) m
     inserted_answers n from i k m at no_local some = record {
       value =
-        ap (λ (x : ℕ). unwrap_or (option_or (local env from x) (own env k.unit x)) (resolved env names (get env.uses k) i)) (number_is n (Inserted i k) at)
-        ∙ (λ j. unwrap_or (option_or (no_local j) (some j)) (resolved env names (get env.uses k) i));
+          ap (λ (x : ℕ). unwrap_or (option_or (local env from x) (own env k.unit x)) (resolved env names (get env.uses k) i)) (number_is n (Inserted i k) at)
+          ∙ (λ j. unwrap_or (option_or (no_local j) (some j)) (resolved env names (get env.uses k) i));
       meaning = λ given uses c unit form is stands locals.
-        let unbound = not_found n (Inserted i k) at from c stands no_local in
-        let d = gives_some m (given k.unit (Inserted i k)) (given_here n (Inserted i k) at given uses k.unit (Some m) is some) in
-        subst (IsMeaning names unit form m) (sym (λ j. local_or (unbound j) (given_or (d.1 j) (local_or (found (uses k) i) (beyond given uses i))))) (d.2 unit form);
+          let unbound = not_found n (Inserted i k) at from c stands no_local in
+          let d = gives_some m (given k.unit (Inserted i k)) (given_here n (Inserted i k) at given uses k.unit (Some m) is some) in
+          subst (IsMeaning names unit form m) (sym (λ j. local_or (unbound j) (given_or (d.1 j) (local_or (found (uses k) i) (beyond given uses i))))) (d.2 unit form);
     }
 
     -- no local scope binds a written symbol: the own scope of its unit, or nothing
     written_by : (n : ℕ) (from : Option ℕ) (u symbol : ℕ) (s : List ℕ) (o : Option Meaning) → IsIdent names n (Written u s) → slice_get names.symbols symbol ≡ Some s → symbol_in names s ≡ symbol → local env from n ≡ None → own env u n ≡ o → Answers from (Written u s) (unwrap_or o (code.Free symbol))
     written_by n from u symbol s None at spelt place no_local is_own = record {
       value =
-        ap (λ (x : ℕ). unwrap_or (option_or (local env from x) (own env u x)) (code.Free (symbol_in names s))) (number_is n (Written u s) at)
-        ∙ (λ j. unwrap_or (option_or (no_local j) (is_own j)) (code.Free (place j)));
+          ap (λ (x : ℕ). unwrap_or (option_or (local env from x) (own env u x)) (code.Free (symbol_in names s))) (number_is n (Written u s) at)
+          ∙ (λ j. unwrap_or (option_or (no_local j) (is_own j)) (code.Free (place j)));
       meaning = λ given uses c unit form is stands locals.
-        let unbound = not_found n (Written u s) at from c stands no_local in
-        let not_given = gives_none (given u (Written u s)) (given_here n (Written u s) at given uses u None is is_own) in
-        subst (IsMeaning names unit form (code.Free symbol)) (sym (λ j. local_or (unbound j) (given_or (not_given j) (model.Free s)))) spelt;
+          let unbound = not_found n (Written u s) at from c stands no_local in
+          let not_given = gives_none (given u (Written u s)) (given_here n (Written u s) at given uses u None is is_own) in
+          subst (IsMeaning names unit form (code.Free symbol)) (sym (λ j. local_or (unbound j) (given_or (not_given j) (model.Free s)))) spelt;
     }
     written_by n from u symbol s (Some m) at spelt place no_local is_own = record {
       value =
-        ap (λ (x : ℕ). unwrap_or (option_or (local env from x) (own env u x)) (code.Free (symbol_in names s))) (number_is n (Written u s) at)
-        ∙ (λ j. unwrap_or (option_or (no_local j) (is_own j)) (code.Free (symbol_in names s)));
+          ap (λ (x : ℕ). unwrap_or (option_or (local env from x) (own env u x)) (code.Free (symbol_in names s))) (number_is n (Written u s) at)
+          ∙ (λ j. unwrap_or (option_or (no_local j) (is_own j)) (code.Free (symbol_in names s)));
       meaning = λ given uses c unit form is stands locals.
-        let unbound = not_found n (Written u s) at from c stands no_local in
-        let d = gives_some m (given u (Written u s)) (given_here n (Written u s) at given uses u (Some m) is is_own) in
-        subst (IsMeaning names unit form m) (sym (λ j. local_or (unbound j) (given_or (d.1 j) (model.Free s)))) (d.2 unit form);
+          let unbound = not_found n (Written u s) at from c stands no_local in
+          let d = gives_some m (given u (Written u s)) (given_here n (Written u s) at given uses u (Some m) is is_own) in
+          subst (IsMeaning names unit form m) (sym (λ j. local_or (unbound j) (given_or (d.1 j) (model.Free s)))) (d.2 unit form);
     }
 
     pub written_answers : AreToldApart names.symbols → (n : ℕ) (from : Option ℕ) (u symbol : ℕ) (s : List ℕ) → IsIdent names n (Written u s) → slice_get names.symbols symbol ≡ Some s → local env from n ≡ None → Answers from (Written u s) (unwrap_or (own env u n) (code.Free symbol))
@@ -245,9 +245,9 @@ module _ (names : Names) (env : Environment) (from : Option ℕ) (start : ℕ) w
         within = within;
         there = λ m to. sound.uses (number_of k) m (of_use ∙ to);
         leads = λ i at.
-          let l = walked.leads i at in
-          let w = inserted_is names n id k l.0 l.1 is in
-          let first : Leads names env from i scope (Inserted w.0 (number_of k)) = subst (λ (x : Identifier). Leads names env from i scope x) w.2 l.2 in
-          let second = inserted_on names env apart n scope w.0 (number_of k) (subst (λ (x : Identifier). IsIdent names n x) w.2 l.1) (sym none) (sym no_own) in
-          (w.0, w.1, subst (λ (o : Option ℕ). Leads names env from i o w.0) of_use (on names env from scope (get env.uses (number_of k)) i (Inserted w.0 (number_of k)) w.0 first second));
+            let l = walked.leads i at in
+            let w = inserted_is names n id k l.0 l.1 is in
+            let first : Leads names env from i scope (Inserted w.0 (number_of k)) = subst (λ (x : Identifier). Leads names env from i scope x) w.2 l.2 in
+            let second = inserted_on names env apart n scope w.0 (number_of k) (subst (λ (x : Identifier). IsIdent names n x) w.2 l.1) (sym none) (sym no_own) in
+            (w.0, w.1, subst (λ (o : Option ℕ). Leads names env from i o w.0) of_use (on names env from scope (get env.uses (number_of k)) i (Inserted w.0 (number_of k)) w.0 first second));
       }

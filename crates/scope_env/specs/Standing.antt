@@ -1,5 +1,5 @@
 -- What the scopes of an environment stand for: the binders around a place, what units give, and where macros were defined.
-use Rattle.std.specs.Prelude.{◌≡◌, ℕ, length, slice_get, Option, Some, None}
+use Rattle.std.specs.Prelude.{◌≡◌, ℕ, slice_get, Option, Some, None}
 use Rattle.std.specs.Option.{option_map, option_and_then}
 use Rattle.std.specs.FinMap.{get}
 use Rattle.scheme_model.specs.Identifiers.{Number}

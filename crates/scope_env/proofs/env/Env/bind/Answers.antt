@@ -1,6 +1,6 @@
-use Rattle.std.proofs.Common.{◌≡◌, ◌<◌, Some, length, slice_get, subst, sym, ap, ◌∙◌, refl, set}
+use Rattle.std.proofs.Common.{◌≡◌, subst, sym, ap, ◌∙◌, refl, set}
 use Rattle.scope_env.specs.Environment.{Environment, IsSound, with_bound}
-use Rattle.scope_env.specs.Kept.{environment_of, scope_of}
+use Rattle.scope_env.specs.Kept.{environment_of}
 use Rattle.scope_env.proofs.Changes.{sound_bound, bound_seen, unbound_seen, on_err}
 use Rattle.scope_env.proofs.Fields.{read_there}
 use Rattle.scope_env.proofs.env.Env.bind.Goals as goal

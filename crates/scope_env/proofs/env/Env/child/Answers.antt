@@ -1,4 +1,4 @@
-use Rattle.std.proofs.Common.{◌<◌, length, subst, sym, ap, refl, arith}
+use Rattle.std.proofs.Common.{◌<◌, length, subst, sym, refl}
 use Rattle.scope_env.specs.Environment.{Environment, IsSound}
 use Rattle.scope_env.specs.Kept.{environment_of}
 use Rattle.scope_env.proofs.Changes.{sound_child, child_seen}

@@ -1,4 +1,4 @@
-use Rattle.std.proofs.Common.{◌≡◌, Some, None, slice_get, subst, sym, ap, ◌∙◌, refl, arith}
+use Rattle.std.proofs.Common.{subst, sym, ◌∙◌, arith}
 use Rattle.scope_env.specs.Environment.{Environment, IsSound}
 use Rattle.scope_env.proofs.Fields.{read_there, outermost, binds, outwards_on, parent_older}
 use Rattle.scope_env.proofs.env.Env.local.Goals as goal
@@ -30,5 +30,5 @@ loop-parent-preserved c =
     record {
       within = omega (arith, c.loop-parent.invariant.within, older);
       same = c.loop-parent.invariant.same
-        ∙ outwards_on c.self.inside.scopes.items c.self.inside.uses c.self.inside.roots c.args.self.now c.self.view_is sound c.loop-parent.at c.args.ident c.index-scope.result.now there c.in_ok-parent.parent c.in_ok-parent.was c.in_default.ensures.value;
+          ∙ outwards_on c.self.inside.scopes.items c.self.inside.uses c.self.inside.roots c.args.self.now c.self.view_is sound c.loop-parent.at c.args.ident c.index-scope.result.now there c.in_ok-parent.parent c.in_ok-parent.was c.in_default.ensures.value;
     }

@@ -1,4 +1,4 @@
-use Rattle.std.proofs.Common.{◌≡◌, ◌<◌, Some, length, slice_get, subst, sym, ap, ◌∙◌, refl, arith}
+use Rattle.std.proofs.Common.{length, subst, sym, ◌∙◌, refl, arith}
 use Rattle.std.proofs.lemmas.Option.{slice_get_read}
 use Rattle.scope_env.specs.Environment.{Environment, IsSound}
 use Rattle.scope_env.proofs.Fields.{own_none, own_is, root_within}

@@ -1,7 +1,7 @@
 use Rattle.std.proofs.Common.{Some, subst, sym, ◌∙◌}
 use Rattle.scope_env.specs.Environment.{Environment, IsSound}
 use Rattle.scope_env.proofs.Fields.{use_is}
-use Rattle.scope_env.proofs.Walk.{finished_local, finished_written, finished_inserted, walked_on, less_deep, here}
+use Rattle.scope_env.proofs.Walk.{finished_local, finished_written, finished_inserted, walked_on, less_deep}
 use Rattle.scope_env.proofs.env.Env.resolve.Goals as goal
 
 pub returns-in-Some-clause-value : goal.returns-in-Some-clause-value

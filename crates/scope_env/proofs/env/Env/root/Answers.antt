@@ -1,4 +1,4 @@
-use Rattle.std.proofs.Common.{◌≡◌, ℕ, Some, None, length, subst, sym, ap, ◌∙◌, refl, false, is_err, nat_cmp, arith}
+use Rattle.std.proofs.Common.{◌≡◌, ℕ, Some, None, length, subst, sym, ap, ◌∙◌, refl, nat_cmp, arith}
 use Rattle.std.specs.FinMap.{get}
 use Rattle.std.specs.BTreeMap.{Updates}
 use Rattle.scope_env.specs.Environment.{Environment, IsSound, with_root}
