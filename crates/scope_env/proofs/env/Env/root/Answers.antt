@@ -1,0 +1,25 @@
+use Rattle.std.proofs.Common.{◌≡◌, ℕ, Some, None, length, subst, sym, ap, ◌∙◌, refl, nat_cmp, arith}
+use Rattle.std.specs.FinMap.{get}
+use Rattle.std.specs.BTreeMap.{Updates}
+use Rattle.scope_env.specs.Environment.{Environment, IsSound, with_root}
+use Rattle.scope_env.specs.Kept.{environment_of}
+use Rattle.scope_env.proofs.Changes.{sound_root, root_seen, on_ok}
+use Rattle.scope_env.proofs.env.Env.root.Goals as goal
+use Rattle.scope_env.proofs.env.Env.root.Goals.{Else-is_err}
+
+-- what the fields stand for then
+opened : (c : Else-is_err) → environment_of c.push.new.self.items c.self.inside.uses.entries c.insert.new.self.entries ≡ with_root (environment_of c.self.inside.scopes.items c.self.inside.uses.entries c.self.inside.roots.entries) c.args.unit
+opened c =
+    let put : Updates nat_cmp c.self.inside.roots c.insert.new.self c.args.unit (Some c.len-scope.result) = on_ok c.insert.result (sym c.is_err.ensures.value ∙ c.if-is_err.false) c.insert.ensures.updates in
+    let count : c.len-scope.result ≡ length c.self.inside.scopes.items = omega (arith, c.len-scope.ensures, c.self.inside.scopes.ok.0) in
+    root_seen c.self.inside.scopes.items c.push.new.self.items c.self.inside.uses.entries c.self.inside.roots c.insert.new.self c.args.unit _ c.in_ok-push.ensures.items refl c.new-bound.ensures.empty
+    (subst (λ (n : ℕ). Updates nat_cmp c.self.inside.roots c.insert.new.self c.args.unit (Some n)) count put)
+
+pub invariant_of-self-else-is_err : goal.invariant_of-self-else-is_err
+invariant_of-self-else-is_err c =
+    let before = environment_of c.self.inside.scopes.items c.self.inside.uses.entries c.self.inside.roots.entries in
+    let new : get before.roots c.args.unit ≡ None = subst (λ (e : Environment). get e.roots c.args.unit ≡ None) (sym c.self.view_is) c.requires in
+    subst (λ (e : Environment). IsSound e) (sym (opened c)) (sound_root before c.args.unit c.self.invariant new)
+
+pub returns-clause-added : goal.returns-clause-added
+returns-clause-added c = opened c ∙ ap (λ (e : Environment). with_root e c.args.unit) c.self.view_is

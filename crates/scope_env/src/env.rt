@@ -1,0 +1,215 @@
+//! The scopes of all units, and what an identifier means in one of them (R7RS 3.1, 4.3).
+ghost use Rattle.std.specs.Prelude.{◌≡◌, ℕ, ◌<◌, ◌++◌, [], ◌∷◌, length, reverse, Some, None, IfOk, OnOk, OnErr};
+ghost use Rattle.std.specs.FinMap.{get};
+ghost use Rattle.scheme_model.specs.Ident.{Ident as Identifier};
+ghost use Rattle.scheme_model.specs.Scopes.{Chain, Uses, Own, means};
+ghost use Rattle.syntax_tree.specs.Macros.{IsIdent};
+ghost use Rattle.syntax_tree.specs.Meant.{IsMeaning};
+ghost use Rattle.syntax_tree.specs.Numbered.{number_of};
+ghost use Rattle.scope_env.specs.Environment.{no_scopes, with_root, with_child, with_bound, with_use, IsSound};
+ghost use Rattle.scope_env.specs.Resolved.{local, own, resolved};
+ghost use Rattle.scope_env.specs.Standing.{EnvFor, StandsFor, AreLocalsOf};
+
+use ls_base::{Mem, Memory};
+use std::alloc::Global;
+use std::collections::BTreeMap;
+use std::marker::Model;
+use syntax_tree::meaning::Meaning;
+use syntax_tree::notes::{Notes, Question};
+use syntax_tree::symbols::{IdNo, Ident, Symbols, UseNo};
+
+/// A scope's number: its place in the list of scopes.
+pub type ScopeNo = usize;
+
+/// What a scope binds, and the scope around it. A local scope has one around it, a unit's own scope has none.
+#[derive(Drop)]
+struct Scope {
+    parent: Option<ScopeNo>,
+    bound: BTreeMap<IdNo, Meaning>,
+}
+
+/// The scopes of all units: one `Env` holds them, since an inserted identifier leads to the unit of its macro.
+#[derive(Drop)]
+pub struct Env {
+    alloc: Global,
+    scopes: Vec<Scope>,
+    uses: BTreeMap<UseNo, ScopeNo>,
+    roots: BTreeMap<u32, ScopeNo>,
+}
+
+impl Model for Env {
+    ghost use Rattle.scope_env.specs.Environment.{Environment, IsSound};
+    ghost use Rattle.scope_env.specs.Kept.{environment_code, environment_of};
+
+    ghost Value = { Environment };
+
+    ghost coded = { environment_code };
+
+    ghost view = { λ s. environment_of s.scopes.items s.uses.entries s.roots.entries };
+
+    ghost invariant = { λ s. IsSound (environment_of s.scopes.items s.uses.entries s.roots.entries) };
+}
+
+impl Env {
+    /// An environment without scopes, which takes no memory.
+    pub fn new(alloc: Global) -> Env
+        ensures { result ≡ no_scopes }
+    {
+        Env {
+            alloc,
+            scopes: Vec::new(alloc),
+            uses: BTreeMap::new(alloc),
+            roots: BTreeMap::new(alloc),
+        }
+    }
+
+    /// Opens the own scope of a unit that has none yet. It binds nothing, and no scope is around it.
+    pub fn root(&mut self, unit: u32) -> Mem<ScopeNo>
+        requires { get self.old.roots unit ≡ None }
+        ensures ok { IfOk result (λ n. n ≡ length self.old.scopes) }
+        ensures added { OnOk result (self.new ≡ with_root self.old unit) }
+        ensures err { OnErr result (self.new ≡ self.old) }
+    {
+        let scope = self.scopes.len();
+        let bound = BTreeMap::new(self.alloc);
+        self.scopes.push(Scope {
+            parent: None,
+            bound,
+        })?;
+        if self.roots.insert(unit, scope).is_err() {
+            self.scopes.pop();
+            return Err(Memory);
+        }
+        Ok(scope)
+    }
+
+    /// Opens a local scope inside another. It binds nothing yet.
+    pub fn child(&mut self, parent: ScopeNo) -> Mem<ScopeNo>
+        requires { parent < length self.old.scopes }
+        ensures ok { IfOk result (λ n. n ≡ length self.old.scopes) }
+        ensures added { OnOk result (self.new ≡ with_child self.old parent) }
+        ensures err { OnErr result (self.new ≡ self.old) }
+    {
+        let scope = self.scopes.len();
+        let bound = BTreeMap::new(self.alloc);
+        self.scopes.push(Scope {
+            parent: Some(parent),
+            bound,
+        })?;
+        Ok(scope)
+    }
+
+    /// Binds an identifier in a scope, in place of what the scope bound it to before.
+    pub fn bind(&mut self, scope: ScopeNo, ident: IdNo, meaning: Meaning) -> Mem<()>
+        requires { scope < length self.old.scopes }
+        ensures bound { OnOk result (self.new ≡ with_bound self.old scope ident meaning) }
+        ensures err { OnErr result (self.new ≡ self.old) }
+    {
+        let scope = &mut self.scopes[scope];
+        scope.bound.insert(ident, meaning)?;
+        Ok(())
+    }
+
+    /// Keeps the scope in which the macro of a use was defined.
+    pub fn note_use(&mut self, number: UseNo, scope: ScopeNo) -> Mem<()>
+        requires { scope < length self.old.scopes }
+        ensures noted { OnOk result (self.new ≡ with_use self.old (number_of number) scope) }
+        ensures err { OnErr result (self.new ≡ self.old) }
+    {
+        self.uses.insert(number, scope)?;
+        Ok(())
+    }
+
+    /// What holds of every environment: a scope is newer than the one around it, scopes that uses and units have are there, and
+    /// no two units share one.
+    pub fn sound(&self)
+        ensures { IsSound self.now }
+    {
+        let _scopes = &self.scopes;
+    }
+
+    /// What the innermost local scope that binds an identifier binds it to, from a scope outwards.
+    fn local(&self, scope: Option<ScopeNo>, ident: IdNo) -> Option<Meaning>
+        requires { (n : ℕ) → scope ≡ Some n → n < length self.now.scopes }
+        ensures { result ≡ local self.now scope ident }
+    {
+        let mut at = scope?;
+        loop {
+            let scope = &self.scopes[at];
+            let parent = scope.parent?;
+            if let Some(meaning) = scope.bound.get(&ident) {
+                return Some(*meaning);
+            }
+            at = parent;
+        }
+    }
+
+    /// What the own scope of a unit binds an identifier to.
+    fn own(&self, unit: u32, ident: IdNo) -> Option<Meaning>
+        ensures { result ≡ own self.now unit ident }
+    {
+        let root = self.roots.get(&unit)?;
+        self.scopes[*root].bound.get(&ident).copied()
+    }
+
+    /// What an identifier means in a scope: the innermost local scope that binds exactly this identifier decides, and then the
+    /// own scope of its unit, or of the unit of the use that inserted it. Else a written identifier is free, and an inserted one
+    /// means what the identifier inside it means in the scope of its use. It takes no memory.
+    pub fn resolve(&self, scope: ScopeNo, ident: IdNo, symbols: &Symbols) -> Meaning
+        requires scope { scope < length self.now.scopes }
+        requires ident { ident < length symbols.now.idents }
+        ensures value { (i : Identifier) → IsIdent symbols.now ident i → result ≡ resolved self.now symbols.now (Some scope) i }
+        ensures meaning { (given : Own) (uses : Uses) (c : Chain) (unit form : ℕ) (i : Identifier) → IsIdent symbols.now ident i →
+            EnvFor symbols.now self.now given uses → StandsFor symbols.now self.now (Some scope) c →
+            AreLocalsOf unit form uses c i → IsMeaning symbols.now unit form result (means given uses c i) }
+    {
+        symbols.told_apart();
+        let mut from = Some(scope);
+        let mut at = ident;
+        loop {
+            if let Some(meaning) = self.local(from, at) {
+                return meaning;
+            }
+            match symbols.ident_at(at) {
+                Ident::Written { unit, symbol } => {
+                    return self.own(unit, at).unwrap_or(Meaning::Free(symbol));
+                }
+                Ident::Inserted { id, number } => {
+                    if let Some(meaning) = self.own(number.unit, at) {
+                        return meaning;
+                    }
+                    from = self.uses.get(&number).copied();
+                    at = id;
+                }
+            }
+        }
+    }
+
+    /// What `resolve` answers, as a question of the notes; `head` tells that it was asked of the head of a form.
+    pub fn resolve_noted(
+        &self,
+        scope: ScopeNo,
+        ident: IdNo,
+        head: bool,
+        symbols: &Symbols,
+        notes: &mut Notes,
+    ) -> Mem<Meaning>
+        requires scope { scope < length self.now.scopes }
+        requires ident { ident < length symbols.now.idents }
+        ensures value { (i : Identifier) → IsIdent symbols.now ident i →
+            IfOk result (λ m. m ≡ resolved self.now symbols.now (Some scope) i) }
+        ensures meaning { (given : Own) (uses : Uses) (c : Chain) (unit form : ℕ) (i : Identifier) → IsIdent symbols.now ident i →
+            EnvFor symbols.now self.now given uses → StandsFor symbols.now self.now (Some scope) c →
+            AreLocalsOf unit form uses c i → IfOk result (λ m. IsMeaning symbols.now unit form m (means given uses c i)) }
+        ensures noted { IfOk result (λ m. notes.new ≡ notes.old ++ Question.Lookup ident head m ∷ []) }
+        ensures err { OnErr result (notes.new ≡ notes.old) }
+    {
+        let answer = self.resolve(scope, ident, symbols);
+        notes.push(Question::Lookup {
+            ident,
+            head,
+            answer,
+        })?;
+        Ok(answer)
+    }
+}

@@ -1,0 +1,74 @@
+//! What callers need to know to keep what an environment stands for. Each law is the contract of a function that does nothing;
+//! `old` is the environment before a call, and what stands beside `with_..` is that of the call's clause.
+ghost use Rattle.std.specs.Prelude.{◌≡◌, ◌<◌, ℕ, [], ◌∷◌, length, false, Some, None};
+ghost use Rattle.std.specs.FinMap.{get};
+ghost use Rattle.scheme_model.specs.Identifiers.{Number};
+ghost use Rattle.scheme_model.specs.Ident.{Ident as Identifier};
+ghost use Rattle.scheme_model.specs.Meaning as model;
+ghost use Rattle.scheme_model.specs.Scopes.{Chain, Uses, Own, means};
+ghost use Rattle.syntax_tree.specs.Names.{Names, AreToldApart};
+ghost use Rattle.syntax_tree.specs.Macros.{IsIdent};
+ghost use Rattle.syntax_tree.specs.Meant.{IsGivenMeaning};
+ghost use Rattle.syntax_tree.specs.declared.meaning.Meaning as code_meaning;
+ghost use Rattle.syntax_tree.specs.declared.meaning.Meaning.TheVariants as code;
+ghost use Rattle.scope_env.specs.Environment.{Environment, IsSound, with_root, with_child, with_bound, with_use};
+ghost use Rattle.scope_env.specs.Standing.{EnvFor, StandsFor};
+ghost use Rattle.scope_env.specs.Moved.{parent_of, is_around, with_use_under, with_given, has_use};
+
+/// A new local scope stands for the binders around it, and all else for what it did.
+pub fn children_stand()
+    ensures child { (names : Names) (old : Environment) (parent : ℕ) (c : Chain) → IsSound old → parent < length old.scopes →
+        StandsFor names old (Some parent) c → StandsFor names (with_child old parent) (Some (length old.scopes)) c }
+    ensures scopes { (names : Names) (old : Environment) (parent : ℕ) (c : Chain) (n : ℕ) → IsSound old → parent < length old.scopes →
+        n < length old.scopes → StandsFor names old (Some n) c → StandsFor names (with_child old parent) (Some n) c }
+    ensures env { (names : Names) (old : Environment) (parent : ℕ) (given : Own) (uses : Uses) → IsSound old → parent < length old.scopes →
+        EnvFor names old given uses → EnvFor names (with_child old parent) given uses }
+{}
+
+/// A unit's own scope has no binders around it, and all else stands for what it did.
+pub fn roots_stand()
+    ensures root { (names : Names) (old : Environment) (unit : ℕ) → IsSound old → get old.roots unit ≡ None →
+        StandsFor names (with_root old unit) (Some (length old.scopes)) [] }
+    ensures scopes { (names : Names) (old : Environment) (unit : ℕ) (c : Chain) (n : ℕ) → IsSound old → get old.roots unit ≡ None →
+        n < length old.scopes → StandsFor names old (Some n) c → StandsFor names (with_root old unit) (Some n) c }
+    ensures env { (names : Names) (old : Environment) (unit : ℕ) (given : Own) (uses : Uses) → IsSound old → get old.roots unit ≡ None →
+        EnvFor names old given uses → EnvFor names (with_root old unit) given uses }
+{}
+
+/// A binder more in a local scope comes first of those that the scope stands for. What doesn't have that scope around it stands
+/// for what it did.
+pub fn binders_stand()
+    ensures scope { (names : Names) (old : Environment) (scope parent ident : ℕ) (i : Identifier) (v : Number) (c : Chain) → IsSound old →
+        AreToldApart names.idents → IsIdent names ident i → parent_of old scope ≡ Some parent → StandsFor names old (Some scope) c →
+        StandsFor names (with_bound old scope ident (code.Local v.count)) (Some scope) (record { ident = i; binder = v } ∷ c) }
+    ensures others { (names : Names) (old : Environment) (scope ident : ℕ) (m : code_meaning.Meaning) (c : Chain) (n : ℕ) → IsSound old →
+        n < length old.scopes → is_around old scope n ≡ false → StandsFor names old (Some n) c →
+        StandsFor names (with_bound old scope ident m) (Some n) c }
+    ensures env { (names : Names) (old : Environment) (scope parent ident : ℕ) (m : code_meaning.Meaning) (given : Own) (uses : Uses) →
+        IsSound old → parent_of old scope ≡ Some parent →
+        ((k : Number) (n : ℕ) → get old.uses k ≡ Some n → is_around old scope n ≡ false) →
+        EnvFor names old given uses → EnvFor names (with_bound old scope ident m) given uses }
+{}
+
+/// A definition more in a unit's own scope: the unit gives it, and no binders change.
+pub fn definitions_stand()
+    ensures scopes { (names : Names) (old : Environment) (scope unit ident : ℕ) (m : code_meaning.Meaning) (c : Chain) (n : ℕ) → IsSound old →
+        get old.roots unit ≡ Some scope → n < length old.scopes → StandsFor names old (Some n) c →
+        StandsFor names (with_bound old scope ident m) (Some n) c }
+    ensures env { (names : Names) (old : Environment) (scope unit ident : ℕ) (m : code_meaning.Meaning) (i : Identifier) (d : model.Meaning)
+        (given : Own) (uses : Uses) → IsSound old → AreToldApart names.idents → IsIdent names ident i → IsGivenMeaning names m d →
+        get old.roots unit ≡ Some scope → EnvFor names old given uses →
+        EnvFor names (with_bound old scope ident m) (with_given given unit i d) uses }
+{}
+
+/// A use more: its scope has around it what the scope that was noted has. An identifier that this use hasn't inserted means what
+/// it did.
+pub fn uses_stand()
+    ensures scopes { (names : Names) (old : Environment) (k : Number) (scope : ℕ) (c : Chain) (n : ℕ) →
+        StandsFor names old (Some n) c → StandsFor names (with_use old k scope) (Some n) c }
+    ensures env { (names : Names) (old : Environment) (k : Number) (scope : ℕ) (c : Chain) (given : Own) (uses : Uses) →
+        StandsFor names old (Some scope) c → EnvFor names old given uses →
+        EnvFor names (with_use old k scope) given (with_use_under uses k c) }
+    ensures others { (given : Own) (uses : Uses) (k : Number) (c d : Chain) (i : Identifier) → has_use k i ≡ false →
+        means given (with_use_under uses k c) d i ≡ means given uses d i }
+{}

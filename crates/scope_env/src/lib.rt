@@ -1,0 +1,7 @@
+//! Scopes, and what identifiers mean in them (R7RS 3.1, 4.3).
+#![tactic(auto)]
+
+pub mod env;
+pub mod laws;
+
+pub use env::{Env, ScopeNo};
