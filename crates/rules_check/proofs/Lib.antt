@@ -1,0 +1,4 @@
+pub mod Contents
+pub mod Sights
+pub mod ReadLaws
+pub mod Faults

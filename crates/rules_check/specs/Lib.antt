@@ -1,0 +1,4 @@
+pub mod Checked
+pub mod Patterns
+pub mod Templates
+pub mod Lowest

@@ -1,0 +1,54 @@
+//! Why rules are refused.
+use ls_base::Memory;
+use std::alloc::{AllocError, AllocFailed};
+use syntax_tree::symbols::IdNo;
+
+/// Why rules are refused.
+#[derive(Clone, Copy, Debug, PartialEq, Eq)]
+pub enum RulesFault {
+    /// They don't have the shape of rules, or an ellipsis has nothing before it.
+    BadShape,
+    /// A list or a vector of a pattern has two ellipses.
+    TwoEllipses,
+    /// A variable stands twice in a pattern.
+    DuplicateVariable(IdNo),
+    /// A variable of a template stands under too few ellipses.
+    Depth(IdNo),
+    /// No variable drives an ellipsis of a template.
+    IdleEllipsis,
+    /// Memory ran out.
+    Memory,
+}
+
+impl From<Memory> for RulesFault {
+    ghost use Rattle.std.specs.Prelude.{◌≡◌};
+    ghost use Rattle.rules_check.specs.declared.fault.RulesFault.TheVariants as fault;
+
+    ghost from_gives = { λ _ e. e ≡ fault.Memory };
+
+    fn from(_: Memory) -> Self {
+        RulesFault::Memory
+    }
+}
+
+impl From<AllocError> for RulesFault {
+    ghost use Rattle.std.specs.Prelude.{◌≡◌};
+    ghost use Rattle.rules_check.specs.declared.fault.RulesFault.TheVariants as fault;
+
+    ghost from_gives = { λ _ e. e ≡ fault.Memory };
+
+    fn from(_: AllocError) -> Self {
+        RulesFault::Memory
+    }
+}
+
+impl<T: Drop> From<AllocFailed<T>> for RulesFault {
+    ghost use Rattle.std.specs.Prelude.{◌≡◌};
+    ghost use Rattle.rules_check.specs.declared.fault.RulesFault.TheVariants as fault;
+
+    ghost from_gives = { λ _ e. e ≡ fault.Memory };
+
+    fn from(_: AllocFailed<T>) -> Self {
+        RulesFault::Memory
+    }
+}
