@@ -1,0 +1,5 @@
+mod MeaningLaws
+mod OriginLaws
+mod EntryLaws
+mod GatherLaws
+mod SetLaws
