@@ -3,3 +3,5 @@ mod OriginLaws
 mod EntryLaws
 mod GatherLaws
 mod SetLaws
+mod NameLaws
+mod PlaceLaws

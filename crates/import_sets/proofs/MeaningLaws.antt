@@ -46,8 +46,10 @@ unit_of (Free s) = 0
 -- a name that a unit gives isn't local
 no_local : {A : Type 0} (names : Names) (v : ℕ) (m : Meaning) → IsGivenMeaning names (code.Local v) m → A
 no_local names v m h =
-    let two_units : 0 ≡ 1 = ap unit_of (sym (h 0 0) ∙ h 1 0) in
-    absurd (omega arith)
+    absurd (apart (ap unit_of (sym (h 0 0) ∙ h 1 0)))
+  where
+    apart : ◌≡◌ {A = ℕ} 0 1 → ⊥
+    apart e = omega arith
 
 same_global : (names : Names) → TellsApart names → (u i : ℕ) (z : ℕ) (x : Ident) → (u ≡ z) × (slice_get names.idents i ≡ Some x) → (b : code_meaning.Meaning) (n : Meaning) → IsGivenMeaning names b n → given.same_meaning (code.Global u i) b ≡ same_meaning (Global z x) n
 same_global names apart u i z x h (code.Local v) n k = no_local names v n k

@@ -2,7 +2,10 @@
 -- told at the end.
 use Rattle.std.specs.Prelude.{◌≡◌, ℕ, suc, List, [], ◌∷◌, ◌++◌, map, filter, reverse, Bool, true, false, not, ◌&&◌, ◌==◌, Option, Some, None, Result, Ok, Err, if◌then◌else◌}
 use Rattle.std.specs.List.{list_any, flat_map}
-use Rattle.std.specs.Option.{option_map}
+use Rattle.std.specs.Cmp.Lexicographic.{slice_cmp}
+use Rattle.std.specs.Option.{option_map, option_cmp}
+use Rattle.std.specs.Ordering.{nat_cmp, ordering_then}
+use Rattle.std.specs.declared.cmp.Ordering.{Ordering}
 use Rattle.std.specs.Str.{bytes_eq}
 use Rattle.std.specs.declared.alloc.Global.{Global}
 use Rattle.scheme_model.specs.declared.Occ.{Occ}
@@ -32,6 +35,16 @@ same_origin o p = same_place o.occ p.occ && bytes_eq o.prefix p.prefix
 
 abbrev pub has_origin : List Origin → Origin → Bool
 has_origin os p = list_any (λ o. same_origin o p) os
+
+-- an order of origins, which tells them all apart
+abbrev pub occ_cmp : Occ → Occ → Ordering
+occ_cmp o p = ordering_then (nat_cmp o.unit p.unit) (ordering_then (nat_cmp o.form p.form) (nat_cmp o.token p.token))
+
+abbrev pub key_cmp : Option Occ × List ℕ → Option Occ × List ℕ → Ordering
+key_cmp p q = ordering_then (option_cmp occ_cmp p.0 q.0) (slice_cmp nat_cmp p.1 q.1)
+
+abbrev pub key_of : Origin → Option Occ × List ℕ
+key_of o = (o.occ, o.prefix)
 
 -- the origins of both, those of the second each once
 abbrev pub both : List Origin → List Origin → List Origin

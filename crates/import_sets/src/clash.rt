@@ -1,13 +1,13 @@
 //! Entries in which a name may stand twice, put together, and the names that clash (R7RS 5.2).
 ghost use Rattle.std.specs.Prelude.{◌≡◌, map, reverse, IfOk};
-ghost use Rattle.import_sets.specs.Given.{finished, least_of, gathered, Same};
+ghost use Rattle.import_sets.specs.Given.{both, finished, least_of, gathered, Same};
 
 use crate::ImportFault;
 use crate::gather::{Gathering, Group};
-use crate::origins::both;
+use crate::origins::Origins;
 use ls_base::{Items, Mem, Text};
 use std::alloc::Global;
-use syntax_tree::units::Entry;
+use syntax_tree::units::{Entry, Origin};
 
 /// The least of some names in byte order, which stand with the latest last.
 fn least(names: Vec<Text>) -> Option<Text>
@@ -21,6 +21,21 @@ fn least(names: Vec<Text>) -> Option<Text>
         }
     }
     Some(least)
+}
+
+/// The origins of both, those of the second each once.
+fn both(alloc: Global, origins: Items<Origin>, more: Items<Origin>) -> Mem<Items<Origin>>
+    ensures { IfOk result (λ all. all ≡ both origins more) }
+{
+    if more.as_slice().is_empty() {
+        return Ok(origins);
+    }
+    let mut origins = Origins::of(alloc, origins)?;
+    for origin in more.into_vec() {
+        origins = origins.with(origin)?;
+    }
+    let Origins { all, keys: _ } = origins;
+    Ok(all)
 }
 
 /// The entries with all their origins.

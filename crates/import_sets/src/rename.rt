@@ -29,6 +29,19 @@ fn given_under(alloc: Global, pairs: &[NamePair]) -> Mem<BTreeMap<String, Vec<Se
     Ok(under)
 }
 
+/// The identifiers under which a name is given.
+fn names_under<'a>(
+    under: &'a BTreeMap<String, Vec<SetName>>,
+    name: &str,
+) -> &'a [SetName]
+    ensures { result.now ≡ option_map_or (λ names. names.items) (get_by_text under.now name.now) [] }
+{
+    match under.get(name) {
+        Some(names) => names.as_slice(),
+        None => &[],
+    }
+}
+
 /// What spells the second identifier of a pair: its place, where it has one.
 fn place_origin(alloc: Global, occ: Option<Occ>) -> Mem<Items<Origin>>
     ensures { IfOk result (λ origins. origins ≡ place_origin occ) }
@@ -74,10 +87,7 @@ fn renamed_all(alloc: Global, entries: Items<Entry>, pairs: &[NamePair]) -> Mem<
     let under = given_under(alloc, pairs)?;
     let mut all = Items::new(alloc);
     for entry in entries.into_vec() {
-        let names = match under.get(entry.name.as_str()) {
-            Some(names) => names.as_slice(),
-            None => &[],
-        };
+        let names = names_under(&under, entry.name.as_str());
         add_under(alloc, &mut all, entry, names)?;
     }
     Ok(all)
