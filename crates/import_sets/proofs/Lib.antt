@@ -5,3 +5,4 @@ mod GatherLaws
 mod SetLaws
 mod NameLaws
 mod PlaceLaws
+mod KeyLaws

@@ -124,3 +124,11 @@ set_stands names apart c s es ds h k = go (has_bad s) refl (bad_same c s h)
     go : (b : Bool) → has_bad s ≡ b → given.has_bad c ≡ has_bad s → Answers names (cond (given.has_bad c) (Err fault.BadSet) (given.given c es)) (entries_of s ds)
     go true e same = rw (same ∙ e, e) refl
     go false e same = rw (same ∙ e, e) (given_stands names apart c s es ds h k)
+
+-- what a call answers stands for what it is to answer
+pub same_answers : (names : Names) (r a : Result (List code_entry.Entry) code_fault.ImportFault) (d : Result (List Entry) ImportFault) → given.Same r a → Answers names a d → Answers names r d
+same_answers names (Ok es) a d h k = subst (λ (r : Result (List code_entry.Entry) code_fault.ImportFault). Answers names r d) h k
+same_answers names (Err fault.Memory) a d h k = tt
+same_answers names (Err (fault.NotThere n)) a d h k = subst (λ (r : Result (List code_entry.Entry) code_fault.ImportFault). Answers names r d) h k
+same_answers names (Err (fault.Clash s)) a d h k = subst (λ (r : Result (List code_entry.Entry) code_fault.ImportFault). Answers names r d) h k
+same_answers names (Err fault.BadSet) a d h k = subst (λ (r : Result (List code_entry.Entry) code_fault.ImportFault). Answers names r d) h k
