@@ -1,14 +1,13 @@
 -- What modifiers make of entries of the code stands for what they make of the entries.
 use Rattle.std.proofs.Common.{◌≡◌, ℕ, Bool, true, false, cond, List, [], ◌∷◌, ◌++◌, map, Option, Some, None, Result, Ok, Err, refl, sym, ap, ◌∙◌, subst}
-use Rattle.std.specs.Prelude.{◌||◌, not, filter}
-use Rattle.std.specs.List.{list_any, flat_map}
+use Rattle.std.specs.Prelude.{◌||◌, filter}
 use Rattle.std.specs.Str.{bytes_eq}
 use Rattle.scheme_model.specs.declared.Occ.{Occ}
 use Rattle.scheme_model.specs.ExpansionFaults.{Named}
 use Rattle.scheme_model.specs.Meaning.{Meaning}
-use Rattle.scheme_model.specs.Entries.{Origin, At, Entry, entry_at, ImportFault, NotThere, all_there, is_listed, prefixed, place_origin, renamed, under_pairs, or_itself, rename_all}
+use Rattle.scheme_model.specs.Entries.{Origin, Entry, entry_at, ImportFault, NotThere, all_there, is_listed, prefixed, place_origin, renamed, under_pairs, or_itself, rename_all}
 use Rattle.syntax_tree.specs.Names.{Names}
-use Rattle.syntax_tree.specs.Meant.{IsSource, AreOrigins, IsEntry, AreEntries}
+use Rattle.syntax_tree.specs.Meant.{AreOrigins, IsEntry, AreEntries}
 use Rattle.syntax_tree.specs.declared.units.Origin as code_origin
 use Rattle.syntax_tree.specs.declared.units.Entry as code
 use Rattle.import_sets.specs.declared.set.SetName.{SetName}
@@ -85,12 +84,14 @@ pub prefixed_stands : (names : Names) (t : List ℕ) (es : List code.Entry) (ds 
 prefixed_stands names t [] [] h = tt
 prefixed_stands names t [] (d ∷ ds) h = absurd h
 prefixed_stands names t (e ∷ es) [] h = absurd h
-prefixed_stands names t (e ∷ es) (d ∷ ds) h =
-    (record {
-      name = ap (λ (s : List ℕ). t ++ s) h.0.name;
-      meaning = h.0.meaning;
-      origins = prefixed_origins d.meaning t e.origins d.origins h.0.origins;
-    }, prefixed_stands names t es ds h.1)
+prefixed_stands names t (e ∷ es) (d ∷ ds) h = (
+  record {
+    name = ap (λ (s : List ℕ). t ++ s) h.0.name;
+    meaning = h.0.meaning;
+    origins = prefixed_origins d.meaning t e.origins d.origins h.0.origins;
+  },
+  prefixed_stands names t es ds h.1,
+)
 
 -- ---- other names
 

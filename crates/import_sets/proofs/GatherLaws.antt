@@ -1,11 +1,10 @@
 -- Entries of the code, put together, stand for the entries put together; and where a name stands among them.
-use Rattle.std.proofs.Common.{◌≡◌, ℕ, zero, suc, Bool, true, false, cond, List, [], ◌∷◌, ◌++◌, map, length, slice_get, slice_set, Option, Some, None, Result, Ok, Err, refl, sym, ap, ◌∙◌, subst}
+use Rattle.std.proofs.Common.{◌≡◌, ℕ, Bool, true, false, cond, List, [], ◌∷◌, ◌++◌, map, Option, Some, None, refl, sym, ◌∙◌, subst}
 use Rattle.std.specs.Prelude.{reverse}
-use Rattle.std.specs.Option.{option_map}
 use Rattle.std.specs.Str.{bytes_eq}
 use Rattle.std.proofs.lemmas.List.{reverse-append}
 use Rattle.scheme_model.specs.Meaning.{Meaning, same_meaning}
-use Rattle.scheme_model.specs.Entries.{Entry, is_below, Joined, added, clashing, join_entry, gather, least, unless_clash, gathered, origins_of_both, ImportFault, Clash}
+use Rattle.scheme_model.specs.Entries.{Entry, is_below, Joined, added, clashing, join_entry, gather, least, origins_of_both}
 use Rattle.syntax_tree.specs.Names.{Names}
 use Rattle.syntax_tree.specs.Meant.{AreOrigins, IsEntry, AreEntries}
 use Rattle.syntax_tree.specs.declared.units.Origin as code_origin
@@ -15,7 +14,6 @@ use Rattle.import_sets.specs.Sets.{TellsApart}
 use Rattle.import_sets.specs.Given as given
 use Rattle.import_sets.proofs.MeaningLaws.{meanings_same, meaning_told}
 use Rattle.import_sets.proofs.OriginLaws.{both_stand, both-append}
-use Rattle.import_sets.proofs.EntryLaws.{entries-append}
 
 -- ---- one entry more
 
@@ -31,8 +29,8 @@ with_more_stands names g e x d h k same = record {
   name = h.name;
   meaning = h.meaning;
   origins =
-    subst (λ (os : List code_origin.Origin). AreOrigins x.meaning os (origins_of_both x.origins d.origins)) (sym (both-append g.entry.origins g.more e.origins))
-    (both_stand x.meaning (given.both g.entry.origins g.more) e.origins x.origins d.origins h.origins (subst (λ (m : Meaning). AreOrigins m e.origins d.origins) (sym same) k.origins));
+      subst (λ (os : List code_origin.Origin). AreOrigins x.meaning os (origins_of_both x.origins d.origins)) (sym (both-append g.entry.origins g.more e.origins))
+      (both_stand x.meaning (given.both g.entry.origins g.more) e.origins x.origins d.origins h.origins (subst (λ (m : Meaning). AreOrigins m e.origins d.origins) (sym same) k.origins));
 }
 
 join_stands : (names : Names) → TellsApart names → (gs : List Group) (e : code.Entry) (ds : List Entry) (d : Entry) → AreEntries names (map given.finished gs) ds → IsEntry names e d →

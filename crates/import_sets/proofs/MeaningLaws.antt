@@ -1,5 +1,5 @@
 -- Meanings of the code are the same where those that they stand for are.
-use Rattle.std.proofs.Common.{◌≡◌, ℕ, Bool, true, false, refl, sym, ap, ◌∙◌, arith, slice_get, Option, Some}
+use Rattle.std.proofs.Common.{◌≡◌, ℕ, Bool, true, false, refl, sym, ap, ◌∙◌, arith, slice_get, Some}
 use Rattle.std.specs.Prelude.{◌&&◌, ◌==◌, List}
 use Rattle.std.specs.Str.{bytes_eq}
 use Rattle.std.proofs.lemmas.Bool.Decides.{nat_tests}
@@ -30,12 +30,12 @@ module _ {A : Type 0} (same : A → A → Bool) (told : (x y : A) → same x y �
   places_same xs apart i j x y p q =
       bool_same (i == j) (same x y)
       (λ h. let e : i ≡ j = numbers_told i j h in
-        let at : slice_get xs i ≡ Some y = ap (slice_get xs) e ∙ q in
-        let one : x ≡ y = cc in
-        ap (same x) (sym one) ∙ itself x)
+      let at : slice_get xs i ≡ Some y = ap (slice_get xs) e ∙ q in
+      let one : x ≡ y = cc in
+      ap (same x) (sym one) ∙ itself x)
       (λ h. let one : x ≡ y = told x y h in
-        let e : i ≡ j = apart i j (slice_get_within xs i x p) (p ∙ ap Some one ∙ sym q) in
-        grind (arith, nat_tests, e))
+      let e : i ≡ j = apart i j (slice_get_within xs i x p) (p ∙ ap Some one ∙ sym q) in
+      grind (arith, nat_tests, e))
 
 abbrev unit_of : Meaning → ℕ
 unit_of (Local v) = v.unit

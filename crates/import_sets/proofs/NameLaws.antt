@@ -1,5 +1,5 @@
 -- Sets of names, and the first name that isn't in one.
-use Rattle.std.proofs.Common.{◌≡◌, ℕ, ◌+◌, ◌<◌, Bool, true, false, cond, List, [], ◌∷◌, ◌++◌, append-nil, take, drop, length, get_or, map, Option, Some, None, refl, sym, ap, ◌∙◌}
+use Rattle.std.proofs.Common.{◌≡◌, ℕ, ◌+◌, ◌<◌, Bool, true, false, cond, List, [], ◌∷◌, ◌++◌, append-nil, take, drop, length, get_or, map, Some, refl, sym, ap, ◌∙◌}
 use Rattle.std.specs.Prelude.{◌||◌}
 use Rattle.std.specs.List.{list_any}
 use Rattle.std.specs.Str.{bytes_eq}
@@ -40,7 +40,7 @@ pub pair_there : (ps : List NamePair) (es : List Entry) (i : ℕ) (p : NamePair)
     missing (map (λ (p : NamePair). p.from) (drop (i + 1) ps)) es ≡ missing (map (λ (p : NamePair). p.from) (drop i ps)) es
 pair_there ps es i p lt is there =
     sym (ap (λ (l : List NamePair). missing (froms l) es) (drop_more ps i p lt) ∙ (λ j. missing (froms (sym is j ∷ drop (i + 1) ps)) es)
-      ∙ ap (λ (b : Bool). cond b (missing (froms (drop (i + 1) ps)) es) (Some p.from)) there)
+    ∙ ap (λ (b : Bool). cond b (missing (froms (drop (i + 1) ps)) es) (Some p.from)) there)
 
 pub pair_here : (ps : List NamePair) (es : List Entry) (i : ℕ) (p : NamePair) → i < length ps → p ≡ get_or ps i p → has_name es p.from.name ≡ false → missing (map (λ (p : NamePair). p.from) (drop i ps)) es ≡ Some p.from
 pair_here ps es i p lt is there =

@@ -1,10 +1,10 @@
 -- Origins of the code, put together, stand for origins put together.
-use Rattle.std.proofs.Common.{◌≡◌, ℕ, Bool, true, false, cond, List, [], ◌∷◌, ◌++◌, Option, Some, None, refl, sym, ap, ◌∙◌, subst, append_assoc}
+use Rattle.std.proofs.Common.{◌≡◌, Bool, true, false, cond, List, [], ◌∷◌, ◌++◌, Option, Some, None, refl, sym, ◌∙◌}
 use Rattle.std.specs.Prelude.{◌&&◌, ◌||◌}
 use Rattle.std.specs.Str.{bytes_eq}
 use Rattle.scheme_model.specs.declared.Occ.{Occ}
 use Rattle.scheme_model.specs.Meaning.{Meaning, Local, Global, Standard, Free}
-use Rattle.scheme_model.specs.Entries.{Source, At, StandardName, Origin, same_source, same_origin, has_origin, origins_of_both}
+use Rattle.scheme_model.specs.Entries.{Source, Origin, same_source, same_origin, has_origin, origins_of_both}
 use Rattle.syntax_tree.specs.Meant.{IsSource, IsOrigin, AreOrigins}
 use Rattle.syntax_tree.specs.declared.units.Origin as code
 use Rattle.syntax_tree.proofs.InternLaws.{bytes_itself}

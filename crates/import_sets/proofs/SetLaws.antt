@@ -2,7 +2,7 @@
 use Rattle.std.proofs.Common.{◌≡◌, ℕ, Bool, true, false, cond, List, [], ◌∷◌, map, Option, Some, None, Result, Ok, Err, refl, sym, ap, ◌∙◌, subst}
 use Rattle.std.specs.Prelude.{filter, not, reverse}
 use Rattle.scheme_model.specs.ExpansionFaults.{Named}
-use Rattle.scheme_model.specs.Entries.{Entry, ImportSet, ImportFault, NotThere, Clash, ◌>>=◌, all_there, is_listed, prefixed, rename_all, gather, unless_clash, gathered, least, has_bad, given_by, entries_of}
+use Rattle.scheme_model.specs.Entries.{Entry, ImportSet, ImportFault, Clash, ◌>>=◌, all_there, is_listed, prefixed, rename_all, gather, unless_clash, gathered, least, has_bad, given_by, entries_of}
 use Rattle.syntax_tree.specs.Names.{Names}
 use Rattle.syntax_tree.specs.Meant.{AreEntries}
 use Rattle.syntax_tree.specs.declared.units.Entry as code_entry
@@ -15,7 +15,7 @@ use Rattle.import_sets.specs.declared.gather.Group.{Group}
 use Rattle.import_sets.specs.Sets.{named, paired, IsSet, TellsApart, FailsAs, Answers}
 use Rattle.import_sets.specs.Given as given
 use Rattle.import_sets.proofs.EntryLaws.{unless_some, all_are_there, listed_same, filter_stands, prefixed_stands, rename_stands, froms_named}
-use Rattle.import_sets.proofs.GatherLaws.{GatheredAs, gather_stands, least_same}
+use Rattle.import_sets.proofs.GatherLaws.{gather_stands, least_same}
 
 -- ---- one step after another
 
@@ -84,7 +84,7 @@ rename_answers : (names : Names) → TellsApart names → (ps : List NamePair) (
 rename_answers names apart ps es ds h =
     subst (λ (ns : List (Named (List ℕ))). Answers names (given.rename ps es) (all_there ns ds >>= λ es. gathered (rename_all (map paired ps) es))) (sym (froms_named ps))
     (checked names (map (λ (p : NamePair). p.from) ps) es ds (given.gathered (given.rename_all ps es)) (λ es. gathered (rename_all (map paired ps) es)) h
-      (gathered_stands names apart (given.rename_all ps es) (rename_all (map paired ps) ds) (rename_stands names ps es ds h)))
+    (gathered_stands names apart (given.rename_all ps es) (rename_all (map paired ps) ds) (rename_stands names ps es ds h)))
 
 -- ---- sets
 
@@ -101,19 +101,19 @@ given_stands names apart (code.Library t) s es ds h k = subst (λ (s : ImportSet
 given_stands names apart (code.Only' p c ns) s es ds h k =
     subst (λ (s : ImportSet). Answers names (given.given (code.Only' p c ns) es) (given_by s ds)) (sym h.1.0)
     (two_steps names (given.only ns) (all_there (map named ns)) (λ es. Ok (filter (λ e. is_listed (map named ns) e.name) es)) (only_stands names ns)
-      (given.given c es) (given_by h.0 ds) (given_stands names apart c h.0 es ds h.1.1 k))
+    (given.given c es) (given_by h.0 ds) (given_stands names apart c h.0 es ds h.1.1 k))
 given_stands names apart (code.Except' p c ns) s es ds h k =
     subst (λ (s : ImportSet). Answers names (given.given (code.Except' p c ns) es) (given_by s ds)) (sym h.1.0)
     (two_steps names (given.except ns) (all_there (map named ns)) (λ es. Ok (filter (λ e. not (is_listed (map named ns) e.name)) es)) (except_stands names ns)
-      (given.given c es) (given_by h.0 ds) (given_stands names apart c h.0 es ds h.1.1 k))
+    (given.given c es) (given_by h.0 ds) (given_stands names apart c h.0 es ds h.1.1 k))
 given_stands names apart (code.Prefix' p c t) s es ds h k =
     subst (λ (s : ImportSet). Answers names (given.given (code.Prefix' p c t) es) (given_by s ds)) (sym h.1.0)
     (step names (λ es. Ok (map (given.prefixed t) es)) (λ es. Ok (map (prefixed t) es)) (λ es ds g. (map (prefixed t) ds, (refl, prefixed_stands names t es ds g)))
-      (given.given c es) (given_by h.0 ds) (given_stands names apart c h.0 es ds h.1.1 k))
+    (given.given c es) (given_by h.0 ds) (given_stands names apart c h.0 es ds h.1.1 k))
 given_stands names apart (code.Rename' p c ps) s es ds h k =
     subst (λ (s : ImportSet). Answers names (given.given (code.Rename' p c ps) es) (given_by s ds)) (sym h.1.0)
     (two_steps names (given.rename ps) (all_there (map (λ (p : Named (List ℕ) × Named (List ℕ)). p.0) (map paired ps))) (λ es. gathered (rename_all (map paired ps) es)) (rename_answers names apart ps)
-      (given.given c es) (given_by h.0 ds) (given_stands names apart c h.0 es ds h.1.1 k))
+    (given.given c es) (given_by h.0 ds) (given_stands names apart c h.0 es ds h.1.1 k))
 given_stands names apart code.Bad s es ds h k = ap (λ (s : ImportSet). given_by s ds) h
 
 -- what a set is found to give

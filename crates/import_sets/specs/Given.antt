@@ -7,7 +7,6 @@ use Rattle.std.specs.Option.{option_map, option_cmp}
 use Rattle.std.specs.Ordering.{nat_cmp, ordering_then}
 use Rattle.std.specs.declared.cmp.Ordering.{Ordering}
 use Rattle.std.specs.Str.{bytes_eq}
-use Rattle.std.specs.declared.alloc.Global.{Global}
 use Rattle.scheme_model.specs.declared.Occ.{Occ}
 use Rattle.scheme_model.specs.Entries.{same_occ, is_below}
 use Rattle.syntax_tree.specs.declared.meaning.Meaning.{Meaning}
@@ -19,7 +18,6 @@ use Rattle.import_sets.specs.declared.set.NamePair.{NamePair}
 use Rattle.import_sets.specs.declared.set.ImportSet.{ImportSet, Library, Only', Except', Prefix', Rename', Bad}
 use Rattle.import_sets.specs.declared.fault.ImportFault.{ImportFault}
 use Rattle.import_sets.specs.declared.fault.ImportFault.TheVariants.{Memory, NotThere, Clash, BadSet}
-
 use Rattle.import_sets.specs.declared.gather.Group.{Group}
 
 -- ---- origins

@@ -6,21 +6,17 @@ ghost use Rattle.syntax_tree.specs.Meant.{AreEntries};
 ghost use Rattle.import_sets.specs.Given.{given, Same};
 ghost use Rattle.import_sets.specs.Sets.{IsSet, TellsApart, Answers};
 
+use crate::ImportFault;
 use crate::copy::copy_of_entries;
 use crate::modify::{except, only, prefixed};
 use crate::rename::rename;
 use crate::set::{ImportSet, has_bad};
-use crate::ImportFault;
 use ls_base::Items;
 use std::alloc::Global;
 use syntax_tree::units::Entry;
 
 /// What a set gives, from the innermost set outwards.
-fn given(
-    alloc: Global,
-    set: &ImportSet,
-    exports: &[Entry],
-) -> Result<Items<Entry>, ImportFault>
+fn given(alloc: Global, set: &ImportSet, exports: &[Entry]) -> Result<Items<Entry>, ImportFault>
     ensures { Same result (given set.now exports.now) }
 {
     match set {
@@ -45,9 +41,9 @@ fn given(
     }
 }
 
-/// The entries that a set gives of those that its library exports, in their order. Otherwise `BadSet` where the set or an inner
-/// set has no shape, else the first fault from the innermost modifier outwards: `NotThere` with the first identifier of the
-/// modifier that its inner set doesn't give, else `Clash` with the first name in byte order that has two meanings.
+/// The entries that a set gives of those that its library exports, in their order. It answers `BadSet` where the set or one
+/// inside of it has no shape, and else the first fault from the innermost modifier outwards: `NotThere` with the first identifier
+/// of the modifier whose name its inner set doesn't give, or `Clash` with the first name in byte order that has two meanings.
 pub fn entries_of(
     alloc: Global,
     set: &ImportSet,

@@ -75,7 +75,7 @@ impl Gathering {
         requires { place < length self.groups.items }
         ensures groups { (g : Group) → slice_get self.groups.items place ≡ Some g →
             IfOk result (λ h. h.groups.items
-                ≡ slice_set self.groups.items place (record g { more = g.more ++ origins })) }
+            ≡ slice_set self.groups.items place (record g { more = g.more ++ origins })) }
         ensures clashes { IfOk result (λ g. g.clashes.items ≡ self.clashes.items) }
     {
         let Gathering {

@@ -47,11 +47,7 @@ pub fn missing(alloc: Global, names: &[SetName], entries: &[Entry]) -> Mem<Optio
 }
 
 /// The first of the identifiers that are to be renamed whose name no entry has.
-pub fn missing_pair(
-    alloc: Global,
-    pairs: &[NamePair],
-    entries: &[Entry],
-) -> Mem<Option<SetName>>
+pub fn missing_pair(alloc: Global, pairs: &[NamePair], entries: &[Entry]) -> Mem<Option<SetName>>
     ensures { IfOk result
         (λ name. name ≡ missing (map (λ (p : PairOfNames). p.from) pairs.now) entries.now) }
 {

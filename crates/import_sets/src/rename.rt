@@ -5,8 +5,8 @@ ghost use Rattle.std.specs.Option.{option_map_or};
 ghost use Rattle.import_sets.specs.Given.{given_under, place_origin, renamed, under, rename_all, rename, Same};
 
 use crate::ImportFault;
-use crate::copy::copy_of_name;
 use crate::clash::gathered;
+use crate::copy::copy_of_name;
 use crate::names::missing_pair;
 use crate::set::{NamePair, SetName};
 use ls_base::{Items, Mem, Text};
@@ -30,10 +30,7 @@ fn given_under(alloc: Global, pairs: &[NamePair]) -> Mem<BTreeMap<String, Vec<Se
 }
 
 /// The identifiers under which a name is given.
-fn names_under<'a>(
-    under: &'a BTreeMap<String, Vec<SetName>>,
-    name: &str,
-) -> &'a [SetName]
+fn names_under<'a>(under: &'a BTreeMap<String, Vec<SetName>>, name: &str) -> &'a [SetName]
     ensures { result.now ≡ option_map_or (λ names. names.items) (get_by_text under.now name.now) [] }
 {
     match under.get(name) {

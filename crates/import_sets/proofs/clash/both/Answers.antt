@@ -1,4 +1,4 @@
-use Rattle.std.proofs.Common.{◌≡◌, [], ◌∷◌, sym, ap, ◌∙◌, rules}
+use Rattle.std.proofs.Common.{[], ◌∷◌, sym, ap, ◌∙◌}
 use Rattle.syntax_tree.specs.declared.units.Origin.{Origin}
 use Rattle.std.specs.Prelude.{List}
 use Rattle.import_sets.specs.Given.{both}

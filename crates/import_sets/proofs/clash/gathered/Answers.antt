@@ -1,4 +1,4 @@
-use Rattle.std.proofs.Common.{◌≡◌, sym, ap, ◌∙◌}
+use Rattle.std.proofs.Common.{sym, ap, ◌∙◌}
 use Rattle.import_sets.specs.Given.{Gathered, nothing_yet, take_in}
 use Rattle.import_sets.proofs.NameLaws.{take_all_more}
 use Rattle.import_sets.proofs.clash.gathered.Goals as goal

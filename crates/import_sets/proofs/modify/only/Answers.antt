@@ -1,5 +1,5 @@
-use Rattle.std.proofs.Common.{◌≡◌, List, Option, None, Some, Result, Ok, sym, ap, ◌∙◌, rules}
-use Rattle.std.specs.Prelude.{filter, not}
+use Rattle.std.proofs.Common.{◌≡◌, Option, None, Ok, sym, ap, ◌∙◌, rules}
+use Rattle.std.specs.Prelude.{filter}
 use Rattle.std.specs.BTreeSet.{contains_text}
 use Rattle.std.proofs.lemmas.Fn.{filter_same}
 use Rattle.syntax_tree.specs.declared.units.Entry.{Entry}

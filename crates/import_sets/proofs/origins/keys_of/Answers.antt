@@ -1,4 +1,4 @@
-use Rattle.std.proofs.Common.{◌<◌, length, arith}
+use Rattle.std.proofs.Common.{arith}
 use Rattle.std.specs.BTreeSet.{contains}
 use Rattle.import_sets.specs.Given.{key_cmp, key_of}
 use Rattle.import_sets.proofs.KeyLaws.{keys_more}

@@ -1,8 +1,5 @@
-use Rattle.std.proofs.Common.{◌≡◌, List, [], ◌∷◌, ◌++◌, sym, ap, ◌∙◌}
-use Rattle.std.specs.List.{flat_map}
-use Rattle.syntax_tree.specs.declared.units.Entry.{Entry}
-use Rattle.import_sets.specs.declared.set.SetName.{SetName}
-use Rattle.import_sets.specs.Given.{given_under, under, rename_all}
+use Rattle.std.proofs.Common.{◌++◌, sym, ap, ◌∙◌}
+use Rattle.import_sets.specs.Given.{given_under, under}
 use Rattle.import_sets.proofs.NameLaws.{rename_more}
 use Rattle.import_sets.proofs.rename.renamed_all.Goals as goal
 

@@ -1,6 +1,5 @@
-use Rattle.std.proofs.Common.{◌≡◌, List, Some, ◌++◌, length, slice_get, slice_set, refl, sym, ap, ◌∙◌}
+use Rattle.std.proofs.Common.{◌≡◌, ◌++◌, length, slice_set, refl, sym, ap, ◌∙◌}
 use Rattle.std.proofs.lemmas.Option.{slice_get_read, same_Some}
-use Rattle.syntax_tree.specs.declared.units.Origin.{Origin}
 use Rattle.import_sets.specs.declared.gather.Group.{Group}
 use Rattle.import_sets.proofs.PlaceLaws.{place_set}
 use Rattle.import_sets.proofs.gather.Gathering.with_origins.Goals as goal
