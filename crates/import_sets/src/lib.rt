@@ -1,0 +1,18 @@
+//! Import sets (R7RS 5.2, 5.6), and the names that they give of what a library exports.
+#![tactic(auto)]
+
+mod clash;
+mod copy;
+pub mod entries;
+pub mod fault;
+mod gather;
+mod joining;
+mod modify;
+mod names;
+mod origins;
+mod rename;
+pub mod set;
+
+pub use entries::entries_of;
+pub use fault::ImportFault;
+pub use set::{ImportSet, NamePair, SetName};
