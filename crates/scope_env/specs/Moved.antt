@@ -1,11 +1,12 @@
 -- What changes of an environment do to what it stands for.
-use Rattle.std.specs.Prelude.{◌≡◌, ℕ, List, [], ◌∷◌, ◌==◌, nat_eq, Bool, false, ◌&&◌, ◌||◌, Option, Some, slice_get, if◌then◌else◌}
+use Rattle.std.specs.Prelude.{◌≡◌, ℕ, List, [], ◌∷◌, ◌==◌, nat_eq, Bool, false, ◌&&◌, ◌||◌, Option, Some, None, slice_get, if◌then◌else◌}
 use Rattle.std.specs.Option.{option_and_then}
+use Rattle.std.specs.FinMap.{get}
 use Rattle.std.specs.List.{list_any}
 use Rattle.scheme_model.specs.Identifiers.{Number, same_number}
 use Rattle.scheme_model.specs.Ident.{Ident as Identifier, Written, Inserted, same_ident}
 use Rattle.scheme_model.specs.Meaning.{Meaning}
-use Rattle.scheme_model.specs.Scopes.{Chain, Uses, Own}
+use Rattle.scheme_model.specs.Scopes.{Bound, Chain, Uses, Own}
 use Rattle.syntax_tree.specs.Names.{Names}
 use Rattle.syntax_tree.specs.Macros.{IsIdent}
 use Rattle.scope_env.specs.Environment.{Environment, Scope}
@@ -22,6 +23,14 @@ is_around env scope n = list_any (nat_eq scope) (path env n)
 -- with the binders around the macro of one use more
 abbrev pub with_use_under : Uses → Number → Chain → Uses
 with_use_under uses k c l = if same_number k l then c else uses l
+
+-- with one binder more around the macros whose uses were noted with this scope
+abbrev pub is_at : Option ℕ → ℕ → Bool
+is_at None scope = false
+is_at (Some n) scope = n == scope
+
+abbrev pub with_binder : Environment → ℕ → Bound → Uses → Uses
+with_binder env scope b uses k = if is_at (get env.uses k) scope then b ∷ uses k else uses k
 
 -- with one identifier more that a unit gives
 abbrev pub with_given : Own → ℕ → Identifier → Meaning → Own

@@ -1,6 +1,6 @@
 //! What callers need to know to keep what an environment stands for. Each law is the contract of a function that does nothing;
 //! `old` is the environment before a call, and what stands beside `with_..` is that of the call's clause.
-ghost use Rattle.std.specs.Prelude.{◌≡◌, ◌<◌, ◌==◌, ◌||◌, ℕ, [], ◌∷◌, length, false, Option, Some, None};
+ghost use Rattle.std.specs.Prelude.{◌≡◌, ◌<◌, ◌==◌, ◌||◌, ◌⊎◌, ℕ, [], ◌∷◌, length, false, Option, Some, None};
 ghost use Rattle.std.specs.FinMap.{get};
 ghost use Rattle.scheme_model.specs.Identifiers.{Number};
 ghost use Rattle.scheme_model.specs.Ident.{Ident as Identifier};
@@ -13,7 +13,7 @@ ghost use Rattle.syntax_tree.specs.declared.meaning.Meaning as code_meaning;
 ghost use Rattle.syntax_tree.specs.declared.meaning.Meaning.TheVariants as code;
 ghost use Rattle.scope_env.specs.Environment.{Environment, IsSound, with_root, with_child, with_bound, with_use};
 ghost use Rattle.scope_env.specs.Standing.{EnvFor, StandsFor, AreLocalsOf, AreOf, AreUsesOf};
-ghost use Rattle.scope_env.specs.Moved.{parent_of, is_around, with_use_under, with_given, has_use, AreNamed, AreGivenNamed};
+ghost use Rattle.scope_env.specs.Moved.{parent_of, is_around, with_use_under, with_binder, with_given, has_use, AreNamed, AreGivenNamed};
 
 /// A new local scope stands for the binders around it, and all else for what it did.
 pub fn children_stand()
@@ -35,8 +35,8 @@ pub fn roots_stand()
         EnvFor names old given uses → EnvFor names (with_root old unit) given uses }
 {}
 
-/// A binder more in a local scope comes first of those that the scope stands for. What doesn't have that scope around it stands
-/// for what it did.
+/// A binder more in a local scope comes first of those that the scope stands for, and so of those around the macros whose uses
+/// were noted with this scope. What doesn't have that scope around it stands for what it did.
 pub fn binders_stand()
     ensures scope { (names : Names) (old : Environment) (scope parent ident : ℕ) (i : Identifier) (v : Number) (c : Chain) → IsSound old →
         AreToldApart names.idents → IsIdent names ident i → parent_of old scope ≡ Some parent → StandsFor names old (Some scope) c →
@@ -48,6 +48,11 @@ pub fn binders_stand()
         IsSound old → parent_of old scope ≡ Some parent →
         ((k : Number) (n : ℕ) → get old.uses k ≡ Some n → is_around old scope n ≡ false) →
         EnvFor names old given uses → EnvFor names (with_bound old scope ident m) given uses }
+    ensures uses { (names : Names) (old : Environment) (scope parent ident : ℕ) (i : Identifier) (v : Number) (given : Own) (uses : Uses) →
+        IsSound old → AreToldApart names.idents → IsIdent names ident i → parent_of old scope ≡ Some parent →
+        ((k : Number) (n : ℕ) → get old.uses k ≡ Some n → (n ≡ scope) ⊎ (is_around old scope n ≡ false)) →
+        EnvFor names old given uses →
+        EnvFor names (with_bound old scope ident (code.Local v.count)) given (with_binder old scope (record { ident = i; binder = v }) uses) }
 {}
 
 /// A definition more in a unit's own scope: the unit gives it, and no binders change.
