@@ -110,7 +110,7 @@ sound_use env k scope sound within = record {
 }
 
 -- a scope that binds one identifier more stays inside the same one
-same_parent : (ident : ℕ) (m : Meaning) (P : Type 0) (x y : Scope) → (y ≡ x) ⊎ (P × (y ≡ bound_in ident m x)) → y.parent ≡ x.parent
+pub same_parent : (ident : ℕ) (m : Meaning) (P : Type 0) (x y : Scope) → (y ≡ x) ⊎ (P × (y ≡ bound_in ident m x)) → y.parent ≡ x.parent
 same_parent ident m P x y (inl e) = ap (λ (t : Scope). t.parent) e
 same_parent ident m P x y (inr h) = ap (λ (t : Scope). t.parent) h.1
 

@@ -6,3 +6,5 @@ pub mod Locals
 pub mod Walk
 pub mod StandingLaws
 pub mod Fields
+pub mod GrowthLaws
+pub mod AroundLaws

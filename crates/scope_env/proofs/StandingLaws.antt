@@ -1,6 +1,6 @@
 -- What an environment stands for after a change.
 use Rattle.std.proofs.Common.{◌≡◌, ℕ, ◌<◌, Bool, true, false, cond, List, [], ◌∷◌, ◌++◌, length, slice_get, nat_eq, Option, Some, None, refl, sym, ap, ◌∙◌, subst, inl, inr, arith}
-use Rattle.std.specs.Prelude.{◌==◌, ◌&&◌, ◌||◌}
+use Rattle.std.specs.Prelude.{◌⊎◌, ◌==◌, ◌&&◌, ◌||◌}
 use Rattle.std.specs.Ordering.{nat_cmp, eq_by_cmp}
 use Rattle.std.specs.Cmp.{nat_cmp_total, Equal-is, tied_itself}
 use Rattle.std.specs.FinMap.{FinMap, get, insert, nat_cmp-IsAntisymmetric, get-empty, get-insert}
@@ -22,7 +22,7 @@ use Rattle.syntax_tree.proofs.Places.{none_some, get_front, get_same, get_next, 
 use Rattle.scope_env.specs.Environment.{Environment, Scope, IsSound, new_scope, with_child, with_root, with_use, with_bound, bound_in, number_cmp}
 use Rattle.scope_env.specs.Resolved.{path, around, local, bound_at, own}
 use Rattle.scope_env.specs.Standing.{StandsFor, Gives, EnvFor}
-use Rattle.scope_env.specs.Moved.{parent_of, is_around, with_use_under, with_given, has_use}
+use Rattle.scope_env.specs.Moved.{parent_of, is_around, with_use_under, with_given, has_use, is_at, with_binder}
 use Rattle.scope_env.proofs.Places.{changed_here, changed_there}
 use Rattle.scope_env.proofs.Orders.{number_total, number_same}
 use Rattle.scope_env.proofs.Changes.{sound_child, sound_root, sound_bound}
@@ -323,6 +323,35 @@ pub local_bound_env : (names : Names) (e : Environment) (scope ident p : ℕ) (m
 local_bound_env names e scope ident p m given uses sound inside =
     let s = parent_there e scope p (slice_get e.scopes scope) refl inside in
     local_env names e scope ident m sound p s.0 given uses s.1 s.2
+
+-- the scope of each use is this one, or hasn't this one around it
+abbrev pub IsBesideOrAt : Environment → ℕ → Option ℕ → Type 0
+IsBesideOrAt e scope o = (n : ℕ) → o ≡ Some n → (n ≡ scope) ⊎ (is_around e scope n ≡ false)
+
+module _ (names : Names) (e : Environment) (scope ident p : ℕ) (i : Identifier) (v : Number) (sound : IsSound e) (apart : AreToldApart names.idents) (at : IsIdent names ident i) (inside : parent_of e scope ≡ Some p) where
+  binder_at : (c : Chain) (n : ℕ) (b : Bool) → (n == scope) ≡ b → ((n ≡ scope) ⊎ (is_around e scope n ≡ false)) → n < length e.scopes → StandsFor names e (Some n) c →
+      StandsFor names (with_bound e scope ident (code.Local v.count)) (Some n) (cond b (record { ident = i; binder = v } ∷ c) c)
+  binder_at c n true same beside within stands =
+      let is : n ≡ scope = eqb-true n scope same in
+      subst (λ (m : ℕ). StandsFor names (with_bound e scope ident (code.Local v.count)) (Some m) (record { ident = i; binder = v } ∷ c)) (sym is)
+      (bound_stands names e scope ident p i v c sound apart at inside (subst (λ (m : ℕ). StandsFor names e (Some m) c) is stands))
+  binder_at c n false other (inl is) within stands = absurd (eqb-false n scope other is)
+  binder_at c n false other (inr beside) within stands = apart_stands names e scope ident (code.Local v.count) sound c n within beside stands
+
+  binder_by : (c : Chain) (o : Option ℕ) → IsBesideOrAt e scope o → ((n : ℕ) → o ≡ Some n → n < length e.scopes) → StandsFor names e o c →
+      StandsFor names (with_bound e scope ident (code.Local v.count)) o (cond (is_at o scope) (record { ident = i; binder = v } ∷ c) c)
+  binder_by c None beside there stands = stands_nowhere names e (with_bound e scope ident (code.Local v.count)) c stands
+  binder_by c (Some n) beside there stands = binder_at c n (n == scope) refl (beside n refl) (there n refl) stands
+
+  pub binder_env : (given : Own) (uses : Uses) → ((k : Number) → IsBesideOrAt e scope (get e.uses k)) → EnvFor names e given uses →
+      EnvFor names (with_bound e scope ident (code.Local v.count)) given (with_binder e scope (record { ident = i; binder = v }) uses)
+  binder_env given uses beside is =
+      let s = parent_there e scope p (slice_get e.scopes scope) refl inside in
+      record {
+        own = λ u n. subst (λ (o : Option Meaning). Gives names o (option_and_then (given u) (slice_get names.idents n)))
+            (own_beside names e scope ident (code.Local v.count) sound n (get e.roots u) (λ r root. not_own names e scope ident (code.Local v.count) sound u r p s.0 s.1 s.2 root)) (is.own u n);
+        uses = λ k. binder_by (uses k) (get e.uses k) (beside k) (sound.uses k) (is.uses k);
+      }
 
 -- ---- a use more
 

@@ -1,5 +1,5 @@
 -- What the scopes of an environment stand for: the binders around a place, what units give, and where macros were defined.
-use Rattle.std.specs.Prelude.{◌≡◌, ℕ, slice_get, Option, Some, None}
+use Rattle.std.specs.Prelude.{◌≡◌, ℕ, [], ◌∷◌, slice_get, Option, Some, None}
 use Rattle.std.specs.Option.{option_map, option_and_then}
 use Rattle.std.specs.FinMap.{get}
 use Rattle.scheme_model.specs.Identifiers.{Number}
@@ -42,3 +42,15 @@ IsOfForm unit form (Some v) = (v.unit ≡ unit) × (v.form ≡ form)
 abbrev pub AreLocalsOf : ℕ → ℕ → Uses → Chain → Identifier → Type 0
 AreLocalsOf unit form uses c (Written u s) = IsOfForm unit form (found c (Written u s))
 AreLocalsOf unit form uses c (Inserted i k) = IsOfForm unit form (found c (Inserted i k)) × AreLocalsOf unit form uses (uses k) i
+
+-- ---- when they are
+
+-- all binders of a chain are of this form
+abbrev pub AreOf : ℕ → ℕ → Chain → Type 0
+AreOf unit form [] = Unit {0}
+AreOf unit form (b ∷ bs) = IsOfForm unit form (Some b.binder) × AreOf unit form bs
+
+-- and those around the macros of an identifier's uses
+abbrev pub AreUsesOf : ℕ → ℕ → Uses → Identifier → Type 0
+AreUsesOf unit form uses (Written u s) = Unit {0}
+AreUsesOf unit form uses (Inserted i k) = AreOf unit form (uses k) × AreUsesOf unit form uses i

@@ -1,4 +1,4 @@
-use Rattle.scope_env.proofs.StandingLaws.{bound_stands, apart_stands, local_bound_env}
+use Rattle.scope_env.proofs.StandingLaws.{bound_stands, apart_stands, local_bound_env, binder_env}
 use Rattle.scope_env.proofs.laws.binders_stand.Goals as goal
 
 pub returns-clause-scope : goal.returns-clause-scope
@@ -9,3 +9,6 @@ returns-clause-others c = λ names old scope ident m d n sound. apart_stands nam
 
 pub returns-clause-env : goal.returns-clause-env
 returns-clause-env c = λ names old scope parent ident m given uses. local_bound_env names old scope ident parent m given uses
+
+pub returns-clause-uses : goal.returns-clause-uses
+returns-clause-uses c = λ names old scope parent ident i v given uses sound apart at inside beside. binder_env names old scope ident parent i v sound apart at inside given uses beside
