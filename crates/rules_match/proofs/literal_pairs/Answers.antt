@@ -1,0 +1,21 @@
+use Rattle.std.proofs.Common.{arith, ℕ, ◌≤◌, length, subst, sym}
+use Rattle.std.specs.Prelude.{List}
+use Rattle.std.proofs.lemmas.Bool.Decides.{nat_tests}
+use Rattle.syntax_tree.specs.Macros.{AreRolesOf, AreRules}
+use Rattle.syntax_tree.proofs.Looking.{count_stands}
+use Rattle.syntax_tree.specs.declared.rules.Rule as code_rule
+use Rattle.rules_match.proofs.RuleLaws.{tells, whole_pairs}
+use Rattle.rules_match.proofs.literal_pairs.Goals as goal
+
+pub returns-in-List : goal.returns-in-List
+returns-in-List c = λ r t rules_for stands.
+    let w = c.args.work.now in
+    let rules = c.args.rules.now in
+    let q = c.in-List.ensures t stands in
+    let of = subst (λ (ls : List ℕ). AreRolesOf c.in_ok-roles.roles rules.ellipsis ls) c.as_slice.ensures c.in_ok-roles.ensures in
+    let told = tells w.symbols c.in_ok-roles.roles rules r of rules_for.ellipsis rules_for.literals in
+    let are = subst (λ (ns : List code_rule.Rule). AreRules w ns r.rules) (sym c.as_slice-in-List.ensures) rules_for.rules in
+    let n = count_stands w c.in-List.items.now q.0 q.4 in
+    let some : 1 ≤ length c.in-List.items.now = grind (arith, nat_tests) in
+    whole_pairs w r t q.0 q.1 q.2 c.new-pairs.result c.compare_rules.new.pairs c.from_vec.result q.3 (omega arith) c.new-pairs.ensures.items c.from_vec.ensures
+    (c.in_ok-compare_rules-in-List.ensures r r.rules q.0 q.1 told are (record { parts = q.4; tail = q.5 }))
