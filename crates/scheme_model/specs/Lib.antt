@@ -43,6 +43,8 @@ pub mod Leaves
 pub mod Expression
 pub mod Substitution
 pub mod Scopes
+pub mod Renaming
+pub mod ScopedExpansion
 pub mod UnitExpansion
 pub mod Entries
 pub mod Declarations
