@@ -1,5 +1,5 @@
 -- Steps of laws of renamings: what comes of a value, of a choice and of a list, once each identifier in it is changed.
-use Rattle.std.proofs.Common.{◌≡◌, ℕ, ◌+◌, max, List, [], ◌∷◌, ◌++◌, map, Bool, true, false, cond, Option, Some, None, Result, Ok, Err, refl, sym, ap, ◌∙◌}
+use Rattle.std.proofs.Common.{◌≡◌, ℕ, ◌+◌, max, List, [], ◌∷◌, ◌++◌, map, Bool, true, false, cond, Option, Some, None, Result, Ok, Err, refl, sym, ap, subst, ◌∙◌}
 use Rattle.scheme_model.specs.Trees.{Tree, name, atom, list, vector, Trees, no_trees, tree, Tail, proper, dotted, map_tree, map_trees, map_tail}
 use Rattle.scheme_model.specs.TreeParts.{append, count}
 use Rattle.scheme_model.specs.Measures.{tree_size, trees_size, tail_size, tree_depth, trees_depth, tail_depth}
@@ -10,23 +10,36 @@ use Rattle.scheme_model.specs.Renaming.{result_map}
 
 -- ---- what comes of a value
 
-then_ok : {A B X X' Y Y' : Type 0} (f : A → B) (g : X → X') (h : Y → Y') (r : Result X (Fault A)) (k : X → Result Y (Fault A)) (k' : X' → Result Y' (Fault B))
-    → ((x : X) → k' (g x) ≡ result_map f h (k x)) → (result_map f g r >> k') ≡ result_map f h (r >> k)
-then_ok f g h (Ok x) k k' e = e x
-then_ok f g h (Err d) k k' e = refl
+-- what is read of renamed trees is what is read, renamed; the same of what is found
+pub data Reads {A B X Y : Type 0} (f : A → B) (g : X → Y) (r : Result X (Fault A)) (r' : Result Y (Fault B)) : Type 0 where
+  reads : r' ≡ result_map f g r → Reads f g r r'
 
-pub then_map : {A B X X' Y Y' : Type 0} {f : A → B} {g : X → X'} {h : Y → Y'} {r : Result X (Fault A)} {r' : Result X' (Fault B)} {k : X → Result Y (Fault A)} {k' : X' → Result Y' (Fault B)}
-    → r' ≡ result_map f g r → ((x : X) → k' (g x) ≡ result_map f h (k x)) → (r' >> k') ≡ result_map f h (r >> k)
-then_map {A} {B} {X} {X'} {Y} {Y'} {f} {g} {h} {r} {r'} {k} {k'} e hk = ap (λ q. q >> k') e ∙ then_ok f g h r k k' hk
+pub data Finds {X Y : Type 0} (g : X → Y) (r : Option X) (r' : Option Y) : Type 0 where
+  finds : r' ≡ option_map g r → Finds g r r'
+
+pub reads_is : {A B X Y : Type 0} {f : A → B} {g : X → Y} {r : Result X (Fault A)} {r' : Result Y (Fault B)} → Reads f g r r' → r' ≡ result_map f g r
+reads_is (reads e) = e
+
+pub finds_is : {X Y : Type 0} {g : X → Y} {r : Option X} {r' : Option Y} → Finds g r r' → r' ≡ option_map g r
+finds_is (finds e) = e
+
+then_ok : {A B X X' Y Y' : Type 0} (f : A → B) (g : X → X') (h : Y → Y') (r : Result X (Fault A)) (k : X → Result Y (Fault A)) (k' : X' → Result Y' (Fault B))
+    → ((x : X) → Reads f h (k x) (k' (g x))) → Reads f h (r >> k) (result_map f g r >> k')
+then_ok f g h (Ok x) k k' e = e x
+then_ok f g h (Err d) k k' e = reads refl
+
+pub then_map : {A B X X' Y Y' : Type 0} {f : A → B} {g : X → X'} {h : Y → Y'} {r : Result X (Fault A)} {r' : Result X' (Fault B)} {k : X → Result Y (Fault A)} (k' : X' → Result Y' (Fault B))
+    → Reads f g r r' → ((x : X) → Reads f h (k x) (k' (g x))) → Reads f h (r >> k) (r' >> k')
+then_map {A} {B} {X} {X'} {Y} {Y'} {f} {g} {h} {r} {r'} {k} k' (reads e) hk = subst (λ q. Reads f h (r >> k) (q >> k')) (sym e) (then_ok f g h r k k' hk)
 
 then_some : {X X' Y Y' : Type 0} (g : X → X') (h : Y → Y') (r : Option X) (k : X → Option Y) (k' : X' → Option Y')
-    → ((x : X) → k' (g x) ≡ option_map h (k x)) → (option_map g r >>= k') ≡ option_map h (r >>= k)
+    → ((x : X) → Finds h (k x) (k' (g x))) → Finds h (r >>= k) (option_map g r >>= k')
 then_some g h (Some x) k k' e = e x
-then_some g h None k k' e = refl
+then_some g h None k k' e = finds refl
 
-pub some_map : {X X' Y Y' : Type 0} {g : X → X'} {h : Y → Y'} {r : Option X} {r' : Option X'} {k : X → Option Y} {k' : X' → Option Y'}
-    → r' ≡ option_map g r → ((x : X) → k' (g x) ≡ option_map h (k x)) → (r' >>= k') ≡ option_map h (r >>= k)
-some_map {X} {X'} {Y} {Y'} {g} {h} {r} {r'} {k} {k'} e hk = ap (λ q. q >>= k') e ∙ then_some g h r k k' hk
+pub some_map : {X X' Y Y' : Type 0} {g : X → X'} {h : Y → Y'} {r : Option X} {r' : Option X'} {k : X → Option Y} (k' : X' → Option Y')
+    → Finds g r r' → ((x : X) → Finds h (k x) (k' (g x))) → Finds h (r >>= k) (r' >>= k')
+some_map {X} {X'} {Y} {Y'} {g} {h} {r} {r'} {k} k' (finds e) hk = subst (λ q. Finds h (r >>= k) (q >>= k')) (sym e) (then_some g h r k k' hk)
 
 -- ---- choices
 
@@ -36,6 +49,14 @@ cond_goes h false a b = refl
 
 pub cond_map : {X Y : Type 0} (h : X → Y) (a b : X) {t t' : Bool} {a' b' : Y} → t' ≡ t → a' ≡ h a → b' ≡ h b → cond t' a' b' ≡ h (cond t a b)
 cond_map h a b {t} {t'} {a'} {b'} et ea eb = (λ j. cond (et j) (ea j) (eb j)) ∙ cond_goes h t a b
+
+-- the same choice on both sides
+pub cond_reads : {A B X Y : Type 0} {f : A → B} {g : X → Y} {t t' : Bool} {a b : Result X (Fault A)} {a' b' : Result Y (Fault B)} → t' ≡ t → Reads f g a a' → Reads f g b b' → Reads f g (cond t a b) (cond t' a' b')
+cond_reads {f = f} {g = g} {t = t} {t' = t'} {a = a} {b = b} {a' = a'} {b' = b'} e ra rb = subst (λ (u : Bool). Reads f g (cond t a b) (cond u a' b')) (sym e) (go t)
+  where
+    go : (u : Bool) → Reads f g (cond u a b) (cond u a' b')
+    go true = ra
+    go false = rb
 
 -- ---- lists
 

@@ -45,6 +45,7 @@ pub mod Substitution
 pub mod Scopes
 pub mod Renaming
 pub mod ScopedExpansion
+pub mod FrameImages
 pub mod UnitExpansion
 pub mod Entries
 pub mod Declarations
