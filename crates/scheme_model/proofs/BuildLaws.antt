@@ -41,7 +41,7 @@ module _ (A C : Type 0) (f : A → C) (same : A → A → Bool) (same' : C → C
     stands_behind-map i proper = refl
     stands_behind-map i (dotted t) = stands_in-map i t
 
-is_escape-map : (A C : Type 0) (f : A → C) (dots : A → Bool) (dots' : C → Bool) → ((i : A) → dots' (f i) ≡ dots i) → (ts : Trees A) (tail : Tail A) → is_escape dots' (map_trees f ts) (map_tail f tail) ≡ is_escape dots ts tail
+pub is_escape-map : (A C : Type 0) (f : A → C) (dots : A → Bool) (dots' : C → Bool) → ((i : A) → dots' (f i) ≡ dots i) → (ts : Trees A) (tail : Tail A) → is_escape dots' (map_trees f ts) (map_tail f tail) ≡ is_escape dots ts tail
 is_escape-map A C f dots dots' h no_trees tail = refl
 is_escape-map A C f dots dots' h (tree t no_trees) tail = refl
 is_escape-map A C f dots dots' h (tree t (tree u no_trees)) proper = is_dots-map A C f dots dots' h t

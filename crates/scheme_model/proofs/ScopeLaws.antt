@@ -8,7 +8,7 @@ use Rattle.scheme_model.specs.Meaning.{Meaning, Global, Free}
 use Rattle.scheme_model.specs.Order.{is_some}
 use Rattle.scheme_model.specs.Substitution.{Table, Entries, Defined, defined_in, is_plain, defines, imported, global_or, meaning, shallow}
 use Rattle.scheme_model.specs.Scopes.{Bound, Chain, Uses, under, outside, image, substituted, AreOutside, found, own_of, imported_as, defined_or, given_or, local_or, beyond, means}
-use Rattle.scheme_model.proofs.IdentLaws.{ident_told, ident_itself, name_told, name_itself, bool_same, strip_erased}
+use Rattle.scheme_model.proofs.IdentLaws.{ident_told, ident_itself, name_told, name_itself, bool_same, strip_erased, same_turned}
 
 -- ---- what an identifier came from
 
@@ -38,12 +38,6 @@ same_image uses c i j =
     (λ h. subst (λ (x : Ident). same_name (image uses c i) (image uses c x) ≡ true) (ident_told i j h) (name_itself (image uses c i)))
 
 -- ---- one binder more
-
-same_turned : (i j : Ident) → same_ident i j ≡ same_ident j i
-same_turned i j =
-    bool_same (same_ident i j) (same_ident j i)
-    (λ h. subst (λ (x : Ident). same_ident x i ≡ true) (ident_told i j h) (ident_itself i))
-    (λ h. subst (λ (x : Ident). same_ident x j ≡ true) (ident_told j i h) (ident_itself j))
 
 pub image_bound : (uses : Uses) (b : Bound) (bs : Chain) (i : Ident) → shallow (image uses bs b.ident) b.binder (image uses bs i) ≡ image uses (b ∷ bs) i
 image_bound uses b bs i =

@@ -6,10 +6,14 @@ use Rattle.scheme_model.specs.Order.{is_some}
 use Rattle.scheme_model.specs.Substitution.{Table, Clock, defined_in, is_plain}
 use Rattle.scheme_model.specs.ScopedExpansion.{Frame, Bind, Enter, Frames, BodyDefinitions, UsePlace, around, find}
 
--- made before a body of a unit was entered, when each form of the unit had begun so many macro uses
+-- a number that a unit's forms have counted by then; those of other units are older
+abbrev pub is_before : ℕ → Clock → Number → Bool
+is_before unit clock k = if k.unit == unit then nat_lt k.count (clock k.form) else true
+
+-- made before a body was entered, when each form of its unit had begun so many macro uses
 abbrev pub is_older : Number → Clock → Ident → Bool
 is_older b uses (Written u s) = true
-is_older b uses (Inserted i k) = if k.unit == b.unit then nat_lt k.count (uses k.form) else true
+is_older b uses (Inserted i k) = is_before b.unit uses k
 
 abbrev pub bound_as : Bool → Number → Name → Name
 bound_as true v j = Var v j

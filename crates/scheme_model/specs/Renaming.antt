@@ -8,6 +8,7 @@ use Rattle.scheme_model.specs.RulesShape.{Names, option_map}
 use Rattle.scheme_model.specs.Matching.{Value, One, Many, Values, no_values, value, Binding, Match, Chosen}
 use Rattle.scheme_model.specs.RulesShape.{rule_map}
 use Rattle.scheme_model.specs.Building.{Built}
+use Rattle.scheme_model.specs.Leaves.{Leaf}
 use Rattle.scheme_model.specs.Substitution.{clause_map}
 
 -- a renaming that tells identifiers apart, and keeps their symbols
@@ -50,6 +51,9 @@ local_macros_map f m = record { names = map (named_map f) m.names; rules = map_t
 
 abbrev pub pieces_map : {A B : Type 0} → (A → B) → Pieces A → Pieces B
 pieces_map f p = record { datum = map_tree (option_map f) p.datum; holes = map (map_tree f) p.holes }
+
+abbrev pub leaf_map : {A B : Type 0} → (A → B) → Leaf A → Leaf B
+leaf_map f l = record { leaf = named_map f l.leaf; literal = l.literal }
 
 -- ---- matches
 
