@@ -11,11 +11,14 @@ pub mod CompareLaws
 pub mod MatchLaws
 pub mod BuildLaws
 pub mod LeafLaws
+pub mod Kinds
 pub mod Clocks
 pub mod FrameNames
 pub mod FrameTimes
 pub mod FrameBodies
 pub mod FrameDefines
 pub mod FrameAsks
+pub mod FrameStates
+pub mod FrameGrowth
 pub mod Shown
 pub mod rows
