@@ -177,22 +177,24 @@ module _ (A B C D : Type 0) (f : A → C) (g : B → D) where
       build_escaped-map (tree t no_trees) bs = finds refl
       build_escaped-map (tree t (tree u us)) bs = build_tree-map nowhere nowhere (λ i. refl) u bs
 
-  within-map : (left : ℕ) (b : Built (Tree B)) → Reads f tree_built (within left b) (within left (tree_built b))
-  within-map left b =
-      let n = size-map B D g b.value in
-      cond_reads (λ j. nat_le b.count left && nat_le (n j) max_nodes) (cond_reads (ap (λ d. nat_le d max_depth) (depth-map B D g b.value)) (reads refl) (reads refl)) (reads refl)
+  -- the faults of building name no identifier, so those of both sides may be over any
+  module _ (F G : Type 0) (e : F → G) where
+    within-map : (left : ℕ) (b : Built (Tree B)) → Reads e tree_built (within left b) (within left (tree_built b))
+    within-map left b =
+        let n = size-map B D g b.value in
+        cond_reads (λ j. nat_le b.count left && nat_le (n j) max_nodes) (cond_reads (ap (λ d. nat_le d max_depth) (depth-map B D g b.value)) (reads refl) (reads refl)) (reads refl)
 
-  lengths : {X Y : Type 0} (h : X → Y) (o : Option X) {o' : Option Y} → Finds h o o' → Reads f h (or_lengths o) (or_lengths o')
-  lengths {X} {Y} h o {o'} (finds e) = subst (λ (q : Option Y). Reads f h (or_lengths o) (or_lengths q)) (sym e) (go o)
-    where
-      go : (q : Option X) → Reads f h (or_lengths q) (or_lengths (option_map h q))
-      go None = reads refl
-      go (Some x) = reads refl
+    lengths : {X Y : Type 0} (h : X → Y) (o : Option X) {o' : Option Y} → Finds h o o' → Reads e h (or_lengths o) (or_lengths o')
+    lengths {X} {Y} h o {o'} (finds d) = subst (λ (q : Option Y). Reads e h (or_lengths o) (or_lengths q)) (sym d) (go o)
+      where
+        go : (q : Option X) → Reads e h (or_lengths q) (or_lengths (option_map h q))
+        go None = reads refl
+        go (Some x) = reads refl
 
-  pub build-map : (n : Names A) (n' : Names C) (told : Renames f n n') (r : Rules A) (insert : A → B) (insert' : C → D) → ((i : A) → insert' (f i) ≡ g (insert i)) → (t : Tree A) (bs : List (Binding A B)) (left : ℕ)
-      → Reads f tree_built (build n r insert t bs left) (build n' (rules_map f r) insert' (map_tree f t) (renamed bs) left)
-  build-map n n' told r insert insert' h t bs left =
-      then_map _
-      (lengths tree_built (build_tree (record { same = n.same; insert = insert }) (dots_of n r) t bs)
-          (build_tree-map (record { same = n.same; insert = insert }) (record { same = n'.same; insert = insert' }) told.same h (dots_of n r) (dots_of n' (rules_map f r)) (dots_of-map A C f n n' told r) t bs))
-      (λ b. within-map left b)
+    pub build-map : (n : Names A) (n' : Names C) (told : Renames f n n') (r : Rules A) (insert : A → B) (insert' : C → D) → ((i : A) → insert' (f i) ≡ g (insert i)) → (t : Tree A) (bs : List (Binding A B)) (left : ℕ)
+        → Reads e tree_built (build n r insert t bs left) (build n' (rules_map f r) insert' (map_tree f t) (renamed bs) left)
+    build-map n n' told r insert insert' h t bs left =
+        then_map _
+        (lengths tree_built (build_tree (record { same = n.same; insert = insert }) (dots_of n r) t bs)
+            (build_tree-map (record { same = n.same; insert = insert }) (record { same = n'.same; insert = insert' }) told.same h (dots_of n r) (dots_of n' (rules_map f r)) (dots_of-map A C f n n' told r) t bs))
+        (λ b. within-map left b)

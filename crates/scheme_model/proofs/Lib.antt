@@ -11,7 +11,7 @@ pub mod CompareLaws
 pub mod MatchLaws
 pub mod BuildLaws
 pub mod LeafLaws
-pub mod Kinds
+pub mod IdentKinds
 pub mod Clocks
 pub mod FrameNames
 pub mod FrameTimes
@@ -20,5 +20,9 @@ pub mod FrameDefines
 pub mod FrameAsks
 pub mod FrameStates
 pub mod FrameGrowth
+pub mod FrameLeaves
+pub mod FrameAgrees
+pub mod FrameHeads
+pub mod FrameUses
 pub mod Shown
 pub mod rows
