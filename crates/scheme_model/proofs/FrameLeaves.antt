@@ -65,7 +65,7 @@ module _ (P : Ident → Type 0) where
   abbrev pub held : Holding → Ident
   held p = p.0
 
-  mutual
+  abbrev mutual
     pub lift_tree : (t : Tree Ident) → TreeAll P t → Tree Holding
     lift_tree (name i o) e = name (i, e) o
     lift_tree (atom a o) e = atom a o
@@ -82,19 +82,16 @@ module _ (P : Ident → Type 0) where
 
   mutual
     pub lifted_tree : (t : Tree Ident) (e : TreeAll P t) → map_tree held (lift_tree t e) ≡ t
-    unfolding lift_tree lift_trees lift_tail
     lifted_tree (name i o) e = refl
     lifted_tree (atom a o) e = refl
     lifted_tree (list ts tail o) e = let us = lifted_trees ts e.0 in let end = lifted_tail tail e.1 in λ j. list (us j) (end j) o
     lifted_tree (vector ts o) e = ap (λ us. vector us o) (lifted_trees ts e)
 
     pub lifted_trees : (ts : Trees Ident) (e : TreesAll P ts) → map_trees held (lift_trees ts e) ≡ ts
-    unfolding lift_tree lift_trees lift_tail
     lifted_trees no_trees e = refl
     lifted_trees (tree t ts) e = let u = lifted_tree t e.0 in let us = lifted_trees ts e.1 in λ j. tree (u j) (us j)
 
     pub lifted_tail : (tail : Tail Ident) (e : TailAll P tail) → map_tail held (lift_tail tail e) ≡ tail
-    unfolding lift_tree lift_trees lift_tail
     lifted_tail proper e = refl
     lifted_tail (dotted t) e = ap dotted (lifted_tree t e)
 

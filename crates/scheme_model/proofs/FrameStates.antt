@@ -79,6 +79,7 @@ module _ (w : ℕ) where
     pub entered : Entered (Before w b) k.frames
     pub rules : Made rules_kind w u k.rules
     pub binders : BindersCounted w l k.frames
+    pub meaning : MeansCounted w l k.meaning
 
   pub record Fine (l u b : Clock) (table : Table) (entry : Entries) (ms : List ScopedMacro) (ps : List UsePlace) (ds : BodyDefinitions) : Type 0 where
     pub definitions : DefinitionsBelow w ds u b
@@ -155,15 +156,15 @@ module _ (w : ℕ) where
 
   -- ---- what holds stays
 
-  pub macro_more : (l u b l' u' b' : Clock) → Leq l l' → Leq u u' → Leq b b' → (ms : List ScopedMacro) → AllOf (MacroFine l u b) ms → AllOf (MacroFine l' u' b') ms
-  macro_more l u b l' u' b' ll lu lb ms h =
-      all_of_more (MacroFine l u b) (MacroFine l' u' b') (λ k m. record { entered = entered_more (Before w b) (Before w b') (before_more w b b' lb) k.frames m.entered; rules = made_later rules_kind w u u' lu k.rules m.rules; binders = binders_more l l' ll k.frames m.binders }) ms h
-
   means_more : (n m : Clock) → Leq n m → (x : Meaning) → MeansCounted w n x → MeansCounted w m x
   means_more n m le (Local v) h = before_more w n m le v h
   means_more n m le (Global u i) h = tt
   means_more n m le (Standard s) h = tt
   means_more n m le (Free s) h = tt
+
+  pub macro_more : (l u b l' u' b' : Clock) → Leq l l' → Leq u u' → Leq b b' → (ms : List ScopedMacro) → AllOf (MacroFine l u b) ms → AllOf (MacroFine l' u' b') ms
+  macro_more l u b l' u' b' ll lu lb ms h =
+      all_of_more (MacroFine l u b) (MacroFine l' u' b') (λ k m. record { entered = entered_more (Before w b) (Before w b') (before_more w b b' lb) k.frames m.entered; rules = made_later rules_kind w u u' lu k.rules m.rules; binders = binders_more l l' ll k.frames m.binders; meaning = means_more l l' ll k.meaning m.meaning }) ms h
 
   given_more : (n m : Clock) → Leq n m → (o : Option Meaning) → GivenCounted w n o → GivenCounted w m o
   given_more n m le None h = tt

@@ -46,10 +46,10 @@ module _ (A B C : Type 0) (g : B → C) (f : A → B) where
   formals_fused : (p : Formals A) → formals_map g (formals_map f p) ≡ formals_map (λ a. g (f a)) p
   formals_fused p = ap (λ (ns : List (Named C)). record { names = ns; rest = p.rest }) (names_fused p.names)
 
-  clause_fused : (c : Clause A) → clause_map g (clause_map f c) ≡ clause_map (λ a. g (f a)) c
+  pub clause_fused : (c : Clause A) → clause_map g (clause_map f c) ≡ clause_map (λ a. g (f a)) c
   clause_fused c = let p = formals_fused c.formals in let b = map_map_all g f c.body in λ j. record { formals = p j; body = b j }
 
-  definition_fused : (d : DefinitionShape A) → definition_map g (definition_map f d) ≡ definition_map (λ a. g (f a)) d
+  pub definition_fused : (d : DefinitionShape A) → definition_map g (definition_map f d) ≡ definition_map (λ a. g (f a)) d
   definition_fused (Variable n t) = ap (Variable (named_map (λ a. g (f a)) n)) (map_map g f t)
   definition_fused (Procedure n c) = ap (Procedure (named_map (λ a. g (f a)) n)) (clause_fused c)
 
@@ -58,12 +58,12 @@ module _ (A B C : Type 0) (g : B → C) (f : A → B) where
       let m = map_twice (named_map g) (named_map f) (named_map (λ a. g (f a))) (λ n. refl) x.modifier in
       λ j. record { field = named_map (λ a. g (f a)) x.field; accessor = named_map (λ a. g (f a)) x.accessor; modifier = m j }
 
-  record_fused : (r : RecordShape A) → record_map g (record_map f r) ≡ record_map (λ a. g (f a)) r
+  pub record_fused : (r : RecordShape A) → record_map g (record_map f r) ≡ record_map (λ a. g (f a)) r
   record_fused r =
       let u = names_fused r.used in let fs = map_after (field_map g) (field_map f) (field_map (λ a. g (f a))) field_fused r.fields in
       λ j. record { type = named_map (λ a. g (f a)) r.type; constructor = named_map (λ a. g (f a)) r.constructor; used = u j; predicate = named_map (λ a. g (f a)) r.predicate; fields = fs j }
 
-  local_macros_fused : (m : LocalMacros A) → local_macros_map g (local_macros_map f m) ≡ local_macros_map (λ a. g (f a)) m
+  pub local_macros_fused : (m : LocalMacros A) → local_macros_map g (local_macros_map f m) ≡ local_macros_map (λ a. g (f a)) m
   local_macros_fused m =
       let ns = names_fused m.names in let rs = map_map_all g f m.rules in let b = map_map_all g f m.body in
       λ j. record { names = ns j; rules = rs j; body = b j }
@@ -73,17 +73,17 @@ module _ (A B C : Type 0) (g : B → C) (f : A → B) where
       let ps = map_map_all g f r.parts in let e = map_map_tail g f r.tail in let t = map_map g f r.template in
       λ j. record { parts = ps j; tail = e j; template = t j }
 
-  rules_fused : (r : Rules A) → rules_map g (rules_map f r) ≡ rules_map (λ a. g (f a)) r
+  pub rules_fused : (r : Rules A) → rules_map g (rules_map f r) ≡ rules_map (λ a. g (f a)) r
   rules_fused r =
       let e = map_twice g f (λ a. g (f a)) (λ a. refl) r.ellipsis in let ls = names_fused r.literals in let rs = map_after (rule_map g) (rule_map f) (rule_map (λ a. g (f a))) rule_fused r.rules in
       λ j. record { ellipsis = e j; literals = ls j; rules = rs j }
 
   -- ---- what is left, and what was set aside
 
-  form_fused : (x : Form A) → form_map g (form_map f x) ≡ form_map (λ a. g (f a)) x
+  pub form_fused : (x : Form A) → form_map g (form_map f x) ≡ form_map (λ a. g (f a)) x
   form_fused x = ap (λ (t : Tree C). record { here = x.here; tree = t }) (map_map g f x.tree)
 
-  item_fused : (x : Item A) → item_map g (item_map f x) ≡ item_map (λ a. g (f a)) x
+  pub item_fused : (x : Item A) → item_map g (item_map f x) ≡ item_map (λ a. g (f a)) x
   item_fused (Expression x) = ap Expression (form_fused x)
   item_fused (Value b x) = ap (Value b) (form_fused x)
   item_fused (Function b here c) = ap (Function b here) (clause_fused c)

@@ -24,5 +24,7 @@ pub mod FrameLeaves
 pub mod FrameAgrees
 pub mod FrameHeads
 pub mod FrameUses
+pub mod FrameInstances
+pub mod FrameExpressions
 pub mod Shown
 pub mod rows
