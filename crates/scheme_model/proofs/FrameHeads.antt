@@ -86,9 +86,13 @@ module _ (w : ℕ) where
 
   -- ---- nodes
 
+  -- what counting comes to
+  abbrev within : {S : Type 0} → Here → Bool → S → S → Result (Unit {0}) Broken × S
+  within here t after s = cond t (done tt after) (fails here NodeBudget s)
+
   node_goes : {A B : Type 0} {R : ScopedState → A → B → Type 0} (known : Known) (here : Here) (n : ℕ) (s : ScopedState) → FineState w s → (in_body : Bool) (mine : List Number) (below : ℕ) (parts : ℕ → Step ScopedState A) (parts' : ℕ → Step State B)
       → ((x : Clock) → Agrees (Keeps w s) R (parts below (record s { nodes = x })) (parts' below (view in_body mine (record s { nodes = x }))))
-      → (t : Bool) → Agrees (Keeps w s) R (cond t (done tt (record s { nodes = at_form s.form (λ m. m + n) s.nodes })) (fails here NodeBudget s) >>= λ u. parts below) (cond t (done tt (view in_body mine (record s { nodes = at_form s.form (λ m. m + n) s.nodes }))) (fails here NodeBudget (view in_body mine s)) >>= λ u. parts' below)
+      → (t : Bool) → Agrees (Keeps w s) R (within here t (record s { nodes = at_form s.form (λ m. m + n) s.nodes }) s >>= λ u. parts below) (within here t (view in_body mine (record s { nodes = at_form s.form (λ m. m + n) s.nodes })) (view in_body mine s) >>= λ u. parts' below)
   node_goes known here n s f i ns below parts parts' h true = h (at_form s.form (λ m. m + n) s.nodes)
   node_goes known here n s f i ns below parts parts' h false = same_fails w s i ns here NodeBudget f
 
@@ -98,3 +102,9 @@ module _ (w : ℕ) where
       → Agrees (Keeps w s) R (node (scoped known) here n depth parts s) (node (model known) here n depth parts' (view in_body mine s))
   node_law known here n zero s f i ns parts parts' h = same_fails w s i ns here DepthBudget f
   node_law known here n (suc depth) s f i ns parts parts' h = node_goes known here n s f i ns depth parts parts' (h depth) (nat_le (s.nodes s.form + n) max_nodes)
+
+  -- nodes are counted on both sides, and then a step
+  pub counted_law : {A B : Type 0} {R : ScopedState → A → B → Type 0} (known : Known) (here : Here) (n : ℕ) (s : ScopedState) → FineState w s → (in_body : Bool) (mine : List Number) (go : Step ScopedState A) (go' : Step State B)
+      → ((x : Clock) → Agrees (Keeps w s) R (go (record s { nodes = x })) (go' (view in_body mine (record s { nodes = x }))))
+      → Agrees (Keeps w s) R (counting (scoped known) here n s >>= λ u. go) (counting (model known) here n (view in_body mine s) >>= λ u. go')
+  counted_law known here n s f i ns go go' h = node_goes known here n s f i ns 0 (λ below. go) (λ below. go') h (nat_le (s.nodes s.form + n) max_nodes)

@@ -25,6 +25,10 @@ pub mod FrameAgrees
 pub mod FrameHeads
 pub mod FrameUses
 pub mod FrameInstances
+pub mod FrameReaders
+pub mod Distinct
 pub mod FrameExpressions
+pub mod FrameBinders
+pub mod FrameMacros
 pub mod Shown
 pub mod rows
