@@ -5,11 +5,8 @@ use Rattle.std.proofs.lemmas.Bool.{eqb-true, eq-eqb, ltb-true, ltb-false, lt-ltb
 use Rattle.scheme_model.specs.Identifiers.{Number, same_number}
 use Rattle.scheme_model.specs.Substitution.{Clock, at_form}
 use Rattle.scheme_model.specs.FrameImages.{is_before}
+use Rattle.scheme_model.specs.OpenBodies.{Leq, Before, NotYet}
 use Rattle.scheme_model.proofs.IdentLaws.{number_told}
-
--- no form has counted less
-abbrev pub Leq : Clock → Clock → Type 0
-Leq n m = (f : ℕ) → n f ≤ m f
 
 pub leq_itself : (n : Clock) → Leq n n
 leq_itself n f = omega arith
@@ -23,13 +20,6 @@ leq_counted f n g = go (eqb g f)
     go : (t : Bool) → n g ≤ cond t (suc (n g)) (n g)
     go true = omega arith
     go false = omega arith
-
--- a number of a unit that is counted, and one that isn't yet
-abbrev pub Before : ℕ → Clock → Number → Type 0
-Before unit n k = is_before unit n k ≡ true
-
-abbrev pub NotYet : ℕ → Clock → Number → Type 0
-NotYet unit n k = is_before unit n k ≡ false
 
 pub before_more : (unit : ℕ) (n m : Clock) → Leq n m → (k : Number) → Before unit n k → Before unit m k
 before_more unit n m le k h = go (eqb k.unit unit) h

@@ -39,11 +39,12 @@ apart_seen n seen (m ∷ ms) h =
 
 told_from : (seen ns : List (Named Ident)) (u : Unit {0}) → distinct_from same_ident seen ns ≡ Ok u → Unseen seen ns × Distinct ns
 told_from seen [] u h = (tt, tt)
-told_from seen (n ∷ ns) u h = go (is_among same_ident n.name seen) refl h
+told_from seen (n ∷ ns) u h = go (is_among same_ident n.name seen) refl (λ d. told_from (n ∷ seen) ns u d) h
   where
-    go : (t : Bool) → is_among same_ident n.name seen ≡ t → cond t (Err (DuplicateBinder n)) (distinct_from same_ident (n ∷ seen) ns) ≡ Ok u → Unseen seen (n ∷ ns) × Distinct (n ∷ ns)
-    go true e d = not_ok (DuplicateBinder n) u d
-    go false e d = let p = told_from (n ∷ seen) ns u d in let q = apart_seen n seen ns p.0 in ((e, q.1), (q.0, p.1))
+    go : (t : Bool) → is_among same_ident n.name seen ≡ t → (distinct_from same_ident (n ∷ seen) ns ≡ Ok u → Unseen (n ∷ seen) ns × Distinct ns)
+        → cond t (Err (DuplicateBinder n)) (distinct_from same_ident (n ∷ seen) ns) ≡ Ok u → Unseen seen (n ∷ ns) × Distinct (n ∷ ns)
+    go true e ih d = not_ok (DuplicateBinder n) u d
+    go false e ih d = let p = ih d in let q = apart_seen n seen ns p.0 in ((e, q.1), (q.0, p.1))
 
 pub told_distinct : (ns : List (Named Ident)) (u : Unit {0}) → distinct same_ident ns ≡ Ok u → Distinct ns
 told_distinct ns u h = (told_from [] ns u h).1
@@ -80,3 +81,18 @@ case_lambda_distinct ts tail cs e =
 abbrev pub ShapeDistinct : DefinitionShape Ident → Type 0
 ShapeDistinct (Variable n t) = Unit {0}
 ShapeDistinct (Procedure n c) = Distinct c.formals.names
+
+local_end : (bs : List (Named Ident) × Trees Ident) (p : Trees Ident) (tail : Tail Ident) (m : LocalMacros Ident) → (some_of p tail >> λ b. distinct same_ident bs.0 >> λ done. Ok (record { names = bs.0; rules = bs.1; body = b })) ≡ Ok m → Distinct m.names
+local_end bs p tail m e =
+    then_ok (λ (m : LocalMacros Ident). Distinct m.names) (some_of p tail) (λ b. distinct same_ident bs.0 >> λ done. Ok (record { names = bs.0; rules = bs.1; body = b }))
+    (λ b d y k. checked_ok (λ (m : LocalMacros Ident). Distinct m.names) bs.0 (record { names = bs.0; rules = bs.1; body = b }) (λ h. h) y k) m e
+
+pub local_macros_distinct : (ts : Trees Ident) (tail : Tail Ident) (m : LocalMacros Ident) → local_macros_of same_ident ts tail ≡ Ok m → Distinct m.names
+local_macros_distinct ts tail m e =
+    then_ok (λ (m : LocalMacros Ident). Distinct m.names) (first_of ts)
+    (λ p. list_of p.0 >> λ q. proper_of q.0 q.1 >> bindings_of >> λ bs. some_of p.1 tail >> λ b. distinct same_ident bs.0 >> λ done. Ok (record { names = bs.0; rules = bs.1; body = b }))
+    (λ p d y k. then_ok (λ (m : LocalMacros Ident). Distinct m.names) (list_of p.0)
+        (λ q. proper_of q.0 q.1 >> bindings_of >> λ bs. some_of p.1 tail >> λ b. distinct same_ident bs.0 >> λ done. Ok (record { names = bs.0; rules = bs.1; body = b }))
+        (λ q d2 y2 k2. then_ok (λ (m : LocalMacros Ident). Distinct m.names) (proper_of q.0 q.1 >> bindings_of)
+            (λ bs. some_of p.1 tail >> λ b. distinct same_ident bs.0 >> λ done. Ok (record { names = bs.0; rules = bs.1; body = b }))
+            (λ bs d3 y3 k3. local_end bs p.1 tail y3 k3) y2 k2) y k) m e

@@ -9,11 +9,11 @@ use Rattle.scheme_model.specs.Order.{Here, given}
 use Rattle.scheme_model.specs.Substitution.{State, Clock}
 use Rattle.scheme_model.specs.ScopedExpansion.{Frames, ScopedState}
 use Rattle.scheme_model.specs.Renaming.{result_map}
+use Rattle.scheme_model.specs.OpenBodies.{Below}
 use Rattle.scheme_model.proofs.RenamingLaws.{Reads, reads}
 use Rattle.scheme_model.proofs.IdentKinds.{Kind, pointwise, faults_fused}
 use Rattle.scheme_model.proofs.Clocks.{leq_itself}
 use Rattle.scheme_model.proofs.FrameNames.{erase_frame_image}
-use Rattle.scheme_model.proofs.FrameTimes.{Below}
 use Rattle.scheme_model.proofs.FrameStates.{names, view, Old, ident_of, Made, FineState, Grows, grows_itself, grows_then}
 
 -- K holds of the state after it, and of the body that is open on the definition's side; R relates the values

@@ -9,8 +9,9 @@ use Rattle.scheme_model.specs.Order.{is_some}
 use Rattle.scheme_model.specs.Substitution.{Table, Entries, Defined, Clock, defined_in, is_plain, defines, global_or, meaning, deep, asks}
 use Rattle.scheme_model.specs.Scopes.{own_of, imported_as, defined_or, given_or}
 use Rattle.scheme_model.specs.ScopedExpansion.{Frame, Bind, Enter, Frames, BodyDefinition, BodyDefinitions, UsePlace, around, find, defined_as, means_inside, means_outside}
+use Rattle.scheme_model.specs.OpenBodies.{Before, Leq, NotYet}
 use Rattle.scheme_model.proofs.IdentLaws.{number_itself}
-use Rattle.scheme_model.proofs.Clocks.{Leq, Before, NotYet, before_more, apart}
+use Rattle.scheme_model.proofs.Clocks.{before_more, apart}
 
 cond_or : (t u : Bool) (m n : Meaning) → cond t m (cond u m n) ≡ cond (t || u) m n
 cond_or true u m n = refl

@@ -13,12 +13,13 @@ use Rattle.scheme_model.specs.Expression.{Task, whole, body, bound, procedure, l
 use Rattle.scheme_model.specs.Substitution.{State, Clock, at_form, clause_map, shallow, model}
 use Rattle.scheme_model.specs.ScopedExpansion.{Frame, Bind, Frames, ScopedState, next_number, scoped}
 use Rattle.scheme_model.specs.FrameImages.{bound_as}
+use Rattle.scheme_model.specs.OpenBodies.{Before, Below, Leq}
 use Rattle.scheme_model.proofs.ScopeLaws.{map_map_all, map_same_all}
 use Rattle.scheme_model.proofs.IdentKinds.{Kind, trees_kind, clause_kind, clauses_kind}
-use Rattle.scheme_model.proofs.Clocks.{Leq, leq_counted, Before, before_more}
+use Rattle.scheme_model.proofs.Clocks.{leq_counted, before_more}
 use Rattle.scheme_model.proofs.Distinct.{Differ, Distinct, AllDistinct, ok_same, not_ok}
 use Rattle.scheme_model.proofs.FrameNames.{erase_frame_image}
-use Rattle.scheme_model.proofs.FrameTimes.{Below, below_more}
+use Rattle.scheme_model.proofs.FrameTimes.{below_more}
 use Rattle.scheme_model.proofs.FrameAsks.{AllOf, all_of_more}
 use Rattle.scheme_model.proofs.FrameStates.{names, view, Old, ident_of, Made, made_later, made_same, FineState, Grows, grows_itself, grows_then, Stands, stands_later, names_later, locals_fine, locals_grow, next_old}
 use Rattle.scheme_model.proofs.FrameGrowth.{bound_state, bind_names, bind_stands}
@@ -125,8 +126,8 @@ module _ (w : ℕ) (known : Known) where
     clauses_law depth here fs (c ∷ cs) s f i n h m d =
         keeps_bind w s _ (procedure_law depth here fs c s f i n h m.0 d.0) (λ a b t i1 n1 k e.
         keeps_bind w t _ (agrees_at refl (ap (λ ds. clauses G (model known) depth here tt ds (view i1 n1 t)) (clauses_still s t f k.1 fs h cs m.1))
-            (clauses_law depth here fs cs t k.0 i1 n1 (stands_later w s t k.1 fs h) (all_of_more (Made clause_kind w s.uses) (Made clause_kind w t.uses) (λ x q. made_later clause_kind w s.uses t.uses k.1.uses x q) cs m.1) d.1)) (λ as bs v i2 n2 k2 e2.
-        same_done w v i2 n2 (clause a.0 a.1 as) (clause b.0 b.1 bs) k2.0 (λ j. clause (e j).0 (e j).1 (e2 j))))
+            (clauses_law depth here fs cs t k.0 i1 n1 (stands_later w s t k.1 fs h) (all_of_more (Made clause_kind w s.uses) (Made clause_kind w t.uses) (λ x q. made_later clause_kind w s.uses t.uses k.1.uses x q) cs m.1) d.1)) (λ ps bs v i2 n2 k2 e2.
+        same_done w v i2 n2 (clause a.0 a.1 ps) (clause b.0 b.1 bs) k2.0 (λ j. clause (e j).0 (e j).1 (e2 j))))
 
   -- clauses that were made by then, one by one
   pub each_made : (u : Clock) (cs : List (Clause Ident)) → Made clauses_kind w u cs → AllOf (Made clause_kind w u) cs

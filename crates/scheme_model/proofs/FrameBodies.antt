@@ -8,9 +8,10 @@ use Rattle.scheme_model.specs.Substitution.{Clock, deep}
 use Rattle.scheme_model.specs.ScopedExpansion.{Frame, Bind, Enter, Frames, BodyDefinition, BodyDefinitions, UsePlace, around, find}
 use Rattle.scheme_model.specs.FrameImages.{is_before, is_older, bound_as, entered_as, before_definition, image_inside, image_outside, frame_image}
 use Rattle.scheme_model.proofs.IdentLaws.{number_told, number_itself, ident_told, name_told, name_itself}
-use Rattle.scheme_model.proofs.Clocks.{Before, NotYet, apart}
+use Rattle.scheme_model.specs.OpenBodies.{Before, NotYet, Entered, Below, PlacesIn, DefinitionsBelow, FramesOk, Other, Sits}
+use Rattle.scheme_model.proofs.Clocks.{apart}
 use Rattle.scheme_model.proofs.FrameNames.{same_frame_image}
-use Rattle.scheme_model.proofs.FrameTimes.{Entered, entered_more, SameFind, Below, PlacesIn, image_definitions, DefinitionsBelow, FramesOk, frames_entered, inside_new}
+use Rattle.scheme_model.proofs.FrameTimes.{entered_more, SameFind, image_definitions, frames_entered, inside_new}
 
 pub deep_itself : (x : Name) (v : Number) → deep x v x ≡ Var v x
 deep_itself (WrittenName u s) v = ap (λ t. cond t (Var v (WrittenName u s)) (WrittenName u s)) (name_itself (WrittenName u s))
@@ -23,16 +24,12 @@ module _ (b : Number) (u : Clock) (c : Frames) where
   abbrev pub here : Frames
   here = Enter b u ∷ c
 
-  -- another body
-  abbrev pub Other : Number → Type 0
-  Other a = same_number b a ≡ false
-
   -- neither this body nor a use since its entry stands in the name
   abbrev pub Clear : Name → Type 0
   Clear (WrittenName w s) = Unit {0}
   Clear (InsertedName j k) = Before b.unit u k × Clear j
   Clear (Var v j) = Clear j
-  Clear (Inner a j) = Other a × Clear j
+  Clear (Inner a j) = Other b a × Clear j
 
   -- the name of something that the body may define
   abbrev pub IsNew : Name → Type 0
@@ -44,8 +41,8 @@ module _ (b : Number) (u : Clock) (c : Frames) where
   differs : (x y : Name) → IsNew x → (IsNew y → ⊥) → same_name y x ≡ false
   differs x y n h = false_from_ne_true (same_name y x) (λ e. h (subst IsNew (sym (name_told y x e)) n))
 
-  not_other : (a : Number) → b ≡ a → Other a → ⊥
-  not_other a e h = let p : same_number b b ≡ false = subst Other (sym e) h in let q : true ≡ false = sym (number_itself b) ∙ p in absurd cc
+  not_other : (a : Number) → b ≡ a → Other b a → ⊥
+  not_other a e h = let p : same_number b b ≡ false = subst (Other b) (sym e) h in let q : true ≡ false = sym (number_itself b) ∙ p in absurd cc
 
   not_both : (k : Number) → NotYet b.unit u k → Before b.unit u k → ⊥
   not_both k e h = let q : true ≡ false = sym h ∙ e in absurd cc
@@ -62,7 +59,7 @@ module _ (b : Number) (u : Clock) (c : Frames) where
   clear_bound true v j h = h
   clear_bound false v j h = h
 
-  clear_entered : (t : Bool) (a : Number) (j : Name) → Other a → Clear j → Clear (entered_as t a j)
+  clear_entered : (t : Bool) (a : Number) (j : Name) → Other b a → Clear j → Clear (entered_as t a j)
   clear_entered true a j l h = (l, h)
   clear_entered false a j l h = h
 
@@ -70,35 +67,30 @@ module _ (b : Number) (u : Clock) (c : Frames) where
   clear_defined None g h ds = h ds
   clear_defined (Some d) g h ds = h d.1
 
-  clear_inside : (fs : Frames) → Entered Other fs → (i : Ident) (outer : BodyDefinitions → Name) → ((es : BodyDefinitions) → Clear (outer es)) → (ds : BodyDefinitions) → Clear (image_inside fs i outer ds)
+  clear_inside : (fs : Frames) → Entered (Other b) fs → (i : Ident) (outer : BodyDefinitions → Name) → ((es : BodyDefinitions) → Clear (outer es)) → (ds : BodyDefinitions) → Clear (image_inside fs i outer ds)
   clear_inside [] l i outer h ds = h ds
   clear_inside (Bind x v ∷ fs) l i outer h ds = clear_bound (same_ident x i) v (image_inside fs i outer ds) (clear_inside fs l i outer h ds)
   clear_inside (Enter a z ∷ fs) l i outer h ds =
       clear_defined (find ds a i) (λ es. entered_as (is_older a z i) a (image_inside fs i outer es)) (λ es. clear_entered (is_older a z i) a (image_inside fs i outer es) l.0 (clear_inside fs l.1 i outer h es)) ds
 
-  clear_outside : (ps : List UsePlace) → PlacesIn b.unit u Other ps → (i : Ident) → Below b.unit u i → (ds : BodyDefinitions) → Clear (image_outside ps i ds)
+  clear_outside : (ps : List UsePlace) → PlacesIn b.unit u (Other b) ps → (i : Ident) → Below b.unit u i → (ds : BodyDefinitions) → Clear (image_outside ps i ds)
   clear_outside ps s (Written w a) l ds = tt
   clear_outside ps s (Inserted i k) l ds = (l.0, clear_inside (around ps k) (s k l.0) i (image_outside ps i) (λ es. clear_outside ps s i l.1 es) ds)
 
-  pub clear_image : (ps : List UsePlace) (ds : BodyDefinitions) → PlacesIn b.unit u Other ps → (fs : Frames) → Entered Other fs → (i : Ident) → Below b.unit u i → Clear (frame_image ps ds fs i)
+  pub clear_image : (ps : List UsePlace) (ds : BodyDefinitions) → PlacesIn b.unit u (Other b) ps → (fs : Frames) → Entered (Other b) fs → (i : Ident) → Below b.unit u i → Clear (frame_image ps ds fs i)
   clear_image ps ds s fs l i h = clear_inside fs l i (image_outside ps i) (λ es. clear_outside ps s i h es) ds
 
-  -- an identifier that can stand in the open body: each use in it is of a macro that is defined here, or from outside
-  abbrev pub Sits : List UsePlace → Ident → Type 0
-  Sits ps (Written w s) = Unit {0}
-  Sits ps (Inserted i k) = ((around ps k ≡ here) × Sits ps i) ⊎ (Entered Other (around ps k) × Below b.unit u i)
-
   -- m are the bodies that were entered before
-  module _ (ps : List UsePlace) (ds : BodyDefinitions) (m : Clock) (places : PlacesIn b.unit u Other ps) (young : NotYet b.unit m b) (defs : DefinitionsBelow b.unit ds u m) (frames : FramesOk b.unit ds u m c) where
-    pub earlier : (a : Number) → Before b.unit m a → Other a
+  module _ (ps : List UsePlace) (ds : BodyDefinitions) (m : Clock) (places : PlacesIn b.unit u (Other b) ps) (young : NotYet b.unit m b) (defs : DefinitionsBelow b.unit ds u m) (frames : FramesOk b.unit ds u m c) where
+    pub earlier : (a : Number) → Before b.unit m a → Other b a
     earlier a h = false_from_ne_true (same_number b a) (λ e. let p : Before b.unit m b = subst (Before b.unit m) (sym (number_told b a e)) h in let q : true ≡ false = sym p ∙ young in absurd cc)
 
-    pub outer_frames : Entered Other c
-    outer_frames = entered_more (Before b.unit m) Other earlier c (frames_entered b.unit ds u m c frames)
+    pub outer_frames : Entered (Other b) c
+    outer_frames = entered_more (Before b.unit m) (Other b) earlier c (frames_entered b.unit ds u m c frames)
 
     -- what an older use inserted is older
-    pub older : (i : Ident) (k : Number) → Sits ps (Inserted i k) → Before b.unit u k → Below b.unit u i
-    older i k (inl g) l = let h = subst (Entered Other) g.0 (places k l) in absurd (not_other b refl h.0)
+    pub older : (i : Ident) (k : Number) → Sits b u c ps (Inserted i k) → Before b.unit u k → Below b.unit u i
+    older i k (inl g) l = let h = subst (Entered (Other b)) g.0 (places k l) in absurd (not_other b refl h.0)
     older i k (inr g) l = g.1
 
     -- what is below the body's definitions

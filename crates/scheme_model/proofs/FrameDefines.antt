@@ -7,12 +7,13 @@ use Rattle.scheme_model.specs.Substitution.{Clock, deep}
 use Rattle.scheme_model.specs.ScopedExpansion.{Frame, Bind, Enter, Frames, BodyDefinition, BodyDefinitions, UsePlace, around, find}
 use Rattle.scheme_model.specs.FrameImages.{is_before, is_older, entered_as, before_definition, image_inside, image_outside, frame_image}
 use Rattle.scheme_model.proofs.IdentLaws.{number_itself, ident_told, same_turned}
-use Rattle.scheme_model.proofs.Clocks.{Leq, leq_itself, leq_then, Before, NotYet, before_more}
+use Rattle.scheme_model.specs.OpenBodies.{Leq, Before, NotYet, Entered, Below, PlacesIn, DefinitionsBelow, FramesOk, Other, Sits}
+use Rattle.scheme_model.proofs.Clocks.{leq_itself, leq_then, before_more}
 use Rattle.scheme_model.proofs.FrameNames.{same_frame_image}
-use Rattle.scheme_model.proofs.FrameTimes.{Entered, SameFind, Below, PlacesIn, image_definitions, DefinitionsBelow, definitions_same, FramesOk, inside_new}
-use Rattle.scheme_model.proofs.FrameBodies.{here, Other, Sits, deep_itself, deep_clear, clear_image, earlier, outer_frames, older, raw, new_image}
+use Rattle.scheme_model.proofs.FrameTimes.{SameFind, image_definitions, definitions_same, inside_new}
+use Rattle.scheme_model.proofs.FrameBodies.{here, deep_itself, deep_clear, clear_image, earlier, outer_frames, older, raw, new_image}
 
-module _ (b : Number) (u : Clock) (c : Frames) (ps : List UsePlace) (ds : BodyDefinitions) (m : Clock) (places : PlacesIn b.unit u (Other b u c) ps) (young : NotYet b.unit m b) (defs : DefinitionsBelow b.unit ds u m) (frames : FramesOk b.unit ds u m c) (x : Ident) (v : Number) (free : find ds b x ≡ None) where
+module _ (b : Number) (u : Clock) (c : Frames) (ps : List UsePlace) (ds : BodyDefinitions) (m : Clock) (places : PlacesIn b.unit u (Other b) ps) (young : NotYet b.unit m b) (defs : DefinitionsBelow b.unit ds u m) (frames : FramesOk b.unit ds u m c) (x : Ident) (v : Number) (free : find ds b x ≡ None) where
   abbrev X : Name
   X = frame_image ps ds (here b u c) x
 
@@ -23,7 +24,7 @@ module _ (b : Number) (u : Clock) (c : Frames) (ps : List UsePlace) (ds : BodyDe
   abbrev below : Ident → BodyDefinitions → Name
   below i es = raw b u c ps ds m places young defs frames i es
 
-  pub same_elsewhere : SameFind (Other b u c) ds later
+  pub same_elsewhere : SameFind (Other b) ds later
   same_elsewhere a i l = sym (ap (λ t. cond (t && same_ident x i) (Some (v, ds)) (find ds a i)) l)
 
   pub same_earlier : SameFind (Before b.unit m) ds later
@@ -43,12 +44,12 @@ module _ (b : Number) (u : Clock) (c : Frames) (ps : List UsePlace) (ds : BodyDe
   found_later i t e = λ j. cond (number_itself b j && e j) (Some (v, ds)) (find ds b i)
 
   -- where this body isn't around, a name stays
-  pub far : (fs : Frames) → Entered (Other b u c) fs → (i : Ident) → Below b.unit u i → deep X v (frame_image ps ds fs i) ≡ frame_image ps later fs i
+  pub far : (fs : Frames) → Entered (Other b) fs → (i : Ident) → Below b.unit u i → deep X v (frame_image ps ds fs i) ≡ frame_image ps later fs i
   far fs l i h =
       deep_clear b u c X v (new_image b u c ps ds m places young defs frames x free) (frame_image ps ds fs i) (clear_image b u c ps ds places fs l i h)
-      ∙ image_definitions b.unit u (Other b u c) ps ds later places same_elsewhere fs l i h
+      ∙ image_definitions b.unit u (Other b) ps ds later places same_elsewhere fs l i h
 
-  abbrev outside_here : Entered (Other b u c) c
+  abbrev outside_here : Entered (Other b) c
   outside_here = outer_frames b u c ps ds m places young defs frames
 
   found_step : (o : Option (Number × BodyDefinitions)) (g : BodyDefinitions → Name) → same_name (before_definition o g ds) X ≡ false → (same_name (g ds) X ≡ false → deep X v (g ds) ≡ g later) → deep X v (before_definition o g ds) ≡ before_definition o g later

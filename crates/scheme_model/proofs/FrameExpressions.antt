@@ -14,10 +14,11 @@ use Rattle.scheme_model.specs.Order.{Here, target_of, head_of}
 use Rattle.scheme_model.specs.Expression.{Task, whole, body, Expander, each, each_of, expressions, sequence, quote, unless_keyword, set, reference, call, node}
 use Rattle.scheme_model.specs.Substitution.{State, Clock, model}
 use Rattle.scheme_model.specs.ScopedExpansion.{Frames, ScopedState, scoped}
+use Rattle.scheme_model.specs.OpenBodies.{Below}
 use Rattle.scheme_model.proofs.RenamingLaws.{size-map}
 use Rattle.scheme_model.proofs.ScopeLaws.{map_map, map_same}
 use Rattle.scheme_model.proofs.FrameNames.{erase_frame_image, strip_frame_image}
-use Rattle.scheme_model.proofs.FrameTimes.{Below, below_more}
+use Rattle.scheme_model.proofs.FrameTimes.{below_more}
 use Rattle.scheme_model.proofs.FrameStates.{names, view, FineState, Grows, Stands, stands_later, names_later}
 use Rattle.scheme_model.proofs.FrameLeaves.{TreeAll, TreesAll, tree_more, trees_more, tree_same, trees_same}
 use Rattle.scheme_model.proofs.FrameAgrees.{Agrees, agrees_at, Keeps, keeps_bind, Same, same_done, same_fails}

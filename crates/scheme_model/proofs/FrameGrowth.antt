@@ -7,10 +7,11 @@ use Rattle.scheme_model.specs.Ident.{Ident, Written, Inserted, same_ident}
 use Rattle.scheme_model.specs.Substitution.{Clock, at_form, is_plain, shallow}
 use Rattle.scheme_model.specs.ScopedExpansion.{Frame, Bind, Enter, Frames, BodyDefinition, BodyDefinitions, UsePlace, ScopedMacro, ScopedState, around, find, next_number}
 use Rattle.scheme_model.specs.FrameImages.{is_before, is_older, bound_as, entered_as, before_definition, image_inside, image_outside, frame_image}
+use Rattle.scheme_model.specs.OpenBodies.{Before, Below, DefinitionsBelow, Entered, FramesOk, Leq, NotYet}
 use Rattle.scheme_model.proofs.IdentLaws.{ident_told, number_told, number_itself, same_turned}
-use Rattle.scheme_model.proofs.Clocks.{Leq, leq_itself, leq_counted, Before, NotYet, before_more, apart}
+use Rattle.scheme_model.proofs.Clocks.{leq_itself, leq_counted, before_more, apart}
 use Rattle.scheme_model.proofs.FrameNames.{same_frame_image}
-use Rattle.scheme_model.proofs.FrameTimes.{Entered, entered_more, SameFind, Below, below_more, SamePlaces, outside_places, image_places, DefinitionsBelow, FramesOk, inside_new}
+use Rattle.scheme_model.proofs.FrameTimes.{entered_more, SameFind, below_more, SamePlaces, outside_places, image_places, inside_new}
 use Rattle.scheme_model.proofs.FrameAsks.{AllOf, all_of_more, BindersCounted}
 use Rattle.scheme_model.proofs.FrameStates.{names, seen_macro, MacroFine, Fine, FineState, Later, Grows, Stands, binders_more, macro_more, next_new, next_old}
 

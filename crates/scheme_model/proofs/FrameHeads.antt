@@ -15,10 +15,9 @@ use Rattle.scheme_model.specs.Expression.{node}
 use Rattle.scheme_model.specs.Substitution.{State, KeptMacro, Clock, at_form, rules_at, transformer_of, model}
 use Rattle.scheme_model.specs.ScopedExpansion.{Frames, BodyDefinitions, UsePlace, ScopedMacro, ScopedState, macro_at, scoped}
 use Rattle.scheme_model.specs.FrameImages.{frame_image}
+use Rattle.scheme_model.specs.OpenBodies.{Before, Entered}
 use Rattle.scheme_model.proofs.IdentKinds.{rules_kind}
-use Rattle.scheme_model.proofs.Clocks.{Before}
 use Rattle.scheme_model.proofs.FrameNames.{erase_frame_image}
-use Rattle.scheme_model.proofs.FrameTimes.{Entered}
 use Rattle.scheme_model.proofs.FrameAsks.{AllOf, BindersCounted}
 use Rattle.scheme_model.proofs.FrameStates.{names, seen_macro, view, Made, MacroFine, FineState, grows_itself, names_mean}
 use Rattle.scheme_model.proofs.FrameAgrees.{Agrees, agree, break, agrees_bind, Keeps, keeps_itself, same_fails}

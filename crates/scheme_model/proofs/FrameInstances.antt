@@ -17,6 +17,7 @@ use Rattle.scheme_model.specs.Substitution.{State, Clock, at_form, meaning, mode
 use Rattle.scheme_model.specs.ScopedExpansion.{Frames, ScopedState, next_number, means_at, scoped}
 use Rattle.scheme_model.specs.Renaming.{Renames, value_map, values_map, binding_map, match_map, chosen_map, built_map}
 use Rattle.scheme_model.specs.Matching.{Value, One, Many, Values, no_values, value}
+use Rattle.scheme_model.specs.OpenBodies.{Below}
 use Rattle.scheme_model.proofs.RenamingLaws.{Reads, Finds, finds, map_after, map_turned}
 use Rattle.scheme_model.proofs.RulesLaws.{role_of-map, dots_of-map}
 use Rattle.scheme_model.proofs.MatchLaws.{first_match-map}
@@ -25,7 +26,7 @@ use Rattle.scheme_model.proofs.ScopeLaws.{map_map, map_map_all, map_map_tail}
 use Rattle.scheme_model.proofs.IdentKinds.{Kind, mapped_same, tree_kind, trees_kind, tail_kind, rules_kind}
 use Rattle.scheme_model.proofs.Clocks.{leq_counted}
 use Rattle.scheme_model.proofs.FrameNames.{same_frame_image, strip_frame_image}
-use Rattle.scheme_model.proofs.FrameTimes.{Below, below_more}
+use Rattle.scheme_model.proofs.FrameTimes.{below_more}
 use Rattle.scheme_model.proofs.FrameStates.{names, view, Old, ident_of, Made, FineState, Grows, grows_itself, grows_then, Stands, stands_later, names_mean, names_far, names_later, macros_later}
 use Rattle.scheme_model.proofs.FrameGrowth.{used_state, use_grows, use_fine, inserted_below, use_names}
 use Rattle.scheme_model.proofs.FrameLeaves.{TreesAll, TailAll, lift_trees, lift_tail, lifted_trees, lifted_tail}

@@ -18,13 +18,14 @@ use Rattle.scheme_model.specs.Expression.{Task, whole, body, Expander, node, bou
 use Rattle.scheme_model.specs.Substitution.{State, Clock, model}
 use Rattle.scheme_model.specs.ScopedExpansion.{Frames, ScopedMacro, ScopedState, macro_at, next_number, scoped}
 use Rattle.scheme_model.specs.Renaming.{leaf_map, local_macros_map}
+use Rattle.scheme_model.specs.OpenBodies.{Before, Below}
 use Rattle.scheme_model.proofs.RenamingLaws.{map_after, size-map}
 use Rattle.scheme_model.proofs.LeafLaws.{leaves_of-map}
 use Rattle.scheme_model.proofs.IdentKinds.{Kind, pointwise, trees_kind, rules_kind, local_macros_kind, rules_fused}
-use Rattle.scheme_model.proofs.Clocks.{leq_itself, Before, before_more}
+use Rattle.scheme_model.proofs.Clocks.{leq_itself, before_more}
 use Rattle.scheme_model.proofs.Distinct.{Distinct}
 use Rattle.scheme_model.proofs.FrameNames.{erase_frame_image}
-use Rattle.scheme_model.proofs.FrameTimes.{Below, below_more, frames_entered}
+use Rattle.scheme_model.proofs.FrameTimes.{below_more, frames_entered}
 use Rattle.scheme_model.proofs.FrameAsks.{AllOf, all_of_more}
 use Rattle.scheme_model.proofs.FrameStates.{names, view, Old, ident_of, Made, made_later, made_same, MacroFine, FineState, Grows, grows_itself, grows_then, Stands, stands_later, names_later, macro_fine}
 use Rattle.scheme_model.proofs.FrameLeaves.{TreeAll, TreesAll, TailAll, tree_more, trees_more, lift_trees, lift_tail, lifted_trees, lifted_tail, all_made_trees}
@@ -35,7 +36,7 @@ use Rattle.scheme_model.proofs.FrameReaders.{parts_map, parts_kind, rules_reader
 use Rattle.scheme_model.proofs.FrameExpressions.{Scoped, Modelled, BodyLaw, trees_still, trees_old}
 use Rattle.scheme_model.proofs.FrameBinders.{NamesOld, names_old, names_made, InRegion, bound_law}
 
--- ---- a macro as it is told
+-- ---- a macro ps it is told
 
 module _ (w : ℕ) (known : Known) (s : ScopedState) (f : FineState w s) (in_body : Bool) (mine : List Number) where
   rules_erased : (fs : Frames) (r : Rules Ident) → rules_map erase (rules_map (names s fs) r) ≡ rules_map (λ i. i) r
@@ -111,25 +112,25 @@ module _ (w : ℕ) (known : Known) where
     abbrev pub SeenParts : ScopedState → List (RulesParts Ident) → List (RulesParts Name) → Type 0
     SeenParts t [] [] = Unit {0}
     SeenParts t [] (b ∷ bs) = ⊥
-    SeenParts t (a ∷ as) [] = ⊥
-    SeenParts t (a ∷ as) (b ∷ bs) = Seen w parts_kind fs t a b × SeenParts t as bs
+    SeenParts t (a ∷ ps) [] = ⊥
+    SeenParts t (a ∷ ps) (b ∷ bs) = Seen w parts_kind fs t a b × SeenParts t ps bs
 
     seen_still : (s t : ScopedState) → FineState w s → Grows w s t → Stands w s fs → (a : RulesParts Ident) (b : RulesParts Name) → Seen w parts_kind fs s a b → Seen w parts_kind fs t a b
     seen_still s t f g h a b q = (made_later parts_kind w s.uses t.uses g.uses a q.0, q.1 ∙ made_same parts_kind w s.uses (names s fs) (names t fs) (names_later w s t f g fs h) a q.0)
 
-    parts_still : (s t : ScopedState) → FineState w s → Grows w s t → Stands w s fs → (as : List (RulesParts Ident)) (bs : List (RulesParts Name)) → SeenParts s as bs → SeenParts t as bs
+    parts_still : (s t : ScopedState) → FineState w s → Grows w s t → Stands w s fs → (ps : List (RulesParts Ident)) (bs : List (RulesParts Name)) → SeenParts s ps bs → SeenParts t ps bs
     parts_still s t f g h [] [] q = tt
     parts_still s t f g h [] (b ∷ bs) q = q
-    parts_still s t f g h (a ∷ as) [] q = q
-    parts_still s t f g h (a ∷ as) (b ∷ bs) q = (seen_still s t f g h a b q.0, parts_still s t f g h as bs q.1)
+    parts_still s t f g h (a ∷ ps) [] q = q
+    parts_still s t f g h (a ∷ ps) (b ∷ bs) q = (seen_still s t f g h a b q.0, parts_still s t f g h ps bs q.1)
 
     heads_law : (ts : Trees Ident) (s : ScopedState) → FineState w s → (in_body : Bool) (mine : List Number) → Stands w s fs → TreesAll (Below w s.uses) ts
         → Agrees (Keeps w s) SeenParts (heads (scoped known) here fs ts s) (heads (model known) here tt (map_trees (names s fs) ts) (view in_body mine s))
     heads_law no_trees s f i n h l = agree [] [] s i n refl refl (keeps_itself w s f i n) tt
     heads_law (tree t ts) s f i n h l =
         keeps_bind w s _ (rules_parts_law s f i n t l.0) (λ a b v i1 n1 k q.
-        keeps_bind w v _ (agrees_at refl (ap (λ (us : Trees Name). heads (model known) here tt us (view i1 n1 v)) (trees_still w known s v f k.1 fs h ts l.1)) (heads_law ts v k.0 i1 n1 (stands_later w s v k.1 fs h) (trees_old w known s v k.1 ts l.1))) (λ as bs x i2 n2 k2 q2.
-        agree (a ∷ as) (b ∷ bs) x i2 n2 refl refl (keeps_itself w x k2.0 i2 n2) (seen_still v x k.0 k2.1 (stands_later w s v k.1 fs h) a b q, q2)))
+        keeps_bind w v _ (agrees_at refl (ap (λ (us : Trees Name). heads (model known) here tt us (view i1 n1 v)) (trees_still w known s v f k.1 fs h ts l.1)) (heads_law ts v k.0 i1 n1 (stands_later w s v k.1 fs h) (trees_old w known s v k.1 ts l.1))) (λ ps bs x i2 n2 k2 q2.
+        agree (a ∷ ps) (b ∷ bs) x i2 n2 refl refl (keeps_itself w x k2.0 i2 n2) (seen_still v x k.0 k2.1 (stands_later w s v k.1 fs h) a b q, q2)))
 
     -- ---- rules
 
@@ -144,21 +145,21 @@ module _ (w : ℕ) (known : Known) where
     kept_state : Number → Rules Ident → ScopedState → ScopedState
     kept_state v r t = record t { macros = record { meaning = Local v; frames = fs; rules = r } ∷ t.macros }
 
-    keep_all_law : (g : Ident → Name) (vs : List Number) (ts : Trees Ident) (as : List (RulesParts Ident)) (bs : List (RulesParts Name)) (s : ScopedState) → FineState w s → (in_body : Bool) (mine : List Number) → Stands w s fs → AllOf (Before w s.locals) vs → SeenParts s as bs
-        → Agrees (Keeps w s) (λ (t : ScopedState) (a : Unit {0}) (b : Unit {0}). Unit {0}) (keep_all (scoped known) here fs vs ts as s) (keep_all (model known) here tt vs (map_trees g ts) bs (view in_body mine s))
-    keep_all_law g [] ts as bs s f i n h l q = agree tt tt s i n refl refl (keeps_itself w s f i n) tt
-    keep_all_law g (v ∷ vs) no_trees as bs s f i n h l q = agree tt tt s i n refl refl (keeps_itself w s f i n) tt
+    keep_all_law : (g : Ident → Name) (vs : List Number) (ts : Trees Ident) (ps : List (RulesParts Ident)) (bs : List (RulesParts Name)) (s : ScopedState) → FineState w s → (in_body : Bool) (mine : List Number) → Stands w s fs → AllOf (Before w s.locals) vs → SeenParts s ps bs
+        → Agrees (Keeps w s) (λ (t : ScopedState) (a : Unit {0}) (b : Unit {0}). Unit {0}) (keep_all (scoped known) here fs vs ts ps s) (keep_all (model known) here tt vs (map_trees g ts) bs (view in_body mine s))
+    keep_all_law g [] ts ps bs s f i n h l q = agree tt tt s i n refl refl (keeps_itself w s f i n) tt
+    keep_all_law g (v ∷ vs) no_trees ps bs s f i n h l q = agree tt tt s i n refl refl (keeps_itself w s f i n) tt
     keep_all_law g (v ∷ vs) (tree t ts) [] [] s f i n h l q = agree tt tt s i n refl refl (keeps_itself w s f i n) tt
     keep_all_law g (v ∷ vs) (tree t ts) [] (b ∷ bs) s f i n h l q = absurd q
-    keep_all_law g (v ∷ vs) (tree t ts) (a ∷ as) [] s f i n h l q = absurd q
-    keep_all_law g (v ∷ vs) (tree t ts) (a ∷ as) (b ∷ bs) s f i n h l q =
+    keep_all_law g (v ∷ vs) (tree t ts) (a ∷ ps) [] s f i n h l q = absurd q
+    keep_all_law g (v ∷ vs) (tree t ts) (a ∷ ps) (b ∷ bs) s f i n h l q =
         keeps_bind w s _ (rules_at_law g t a b s f i n q.0) (λ r r' x i1 n1 k e.
         let st = stands_later w s x k.1 fs h in
         let counted : AllOf (Before w x.locals) (v ∷ vs) = all_of_more (Before w s.locals) (Before w x.locals) (before_more w s.locals x.locals k.1.locals) (v ∷ vs) l in
         let fine : FineState w (record x { macros = record { meaning = Local v; frames = fs; rules = r } ∷ x.macros }) =
               macro_fine w x (record { meaning = Local v; frames = fs; rules = r }) (record { entered = frames_entered w x.definitions x.uses x.bodies fs st.0; rules = e.0; binders = st.1; meaning = counted.0 }) k.0 in
         agrees_at refl (ap (λ (z : Rules Name). keep_all (model known) here tt vs (map_trees g ts) bs ((model known).keep v z tt (view i1 n1 x))) e.1)
-        (keep_all_law g vs ts as bs (record x { macros = record { meaning = Local v; frames = fs; rules = r } ∷ x.macros }) fine i1 n1 st counted.1 (parts_still s x f k.1 h as bs q.1)))
+        (keep_all_law g vs ts ps bs (record x { macros = record { meaning = Local v; frames = fs; rules = r } ∷ x.macros }) fine i1 n1 st counted.1 (parts_still s x f k.1 h ps bs q.1)))
 
   -- ---- the forms
 
@@ -168,10 +169,10 @@ module _ (w : ℕ) (known : Known) where
         → Stands w s d → Stands w s e → AllOf (Before w s.locals) vs → TreesAll (Below w s.uses) rules → TreesAll (Below w s.uses) ts
         → Same w s (local_macros F (scoped known) depth here vs ns d rules e ts s) (local_macros G (model known) depth here vs (map (named_map g) ns) tt (map_trees (names s d) rules) tt (map_trees (names s e) ts) (view in_body mine s))
     local_macros_law vs g erased ns d rules e ts s f i n hd he l lr lt =
-        keeps_bind w s _ (heads_law here d rules s f i n hd lr) (λ as bs t i1 n1 k q.
+        keeps_bind w s _ (heads_law here d rules s f i n hd lr) (λ ps bs t i1 n1 k q.
         node_law w known here 1 depth t k.0 i1 n1 _ _ (λ below x.
         keeps_bind w (record t { nodes = x }) _
-            (keep_all_law here d (names s d) vs rules as bs (record t { nodes = x }) k.0 i1 n1 (stands_later w s t k.1 d hd) (all_of_more (Before w s.locals) (Before w t.locals) (before_more w s.locals t.locals k.1.locals) vs l) q) (λ u u' v i2 n2 k2 z.
+            (keep_all_law here d (names s d) vs rules ps bs (record t { nodes = x }) k.0 i1 n1 (stands_later w s t k.1 d hd) (all_of_more (Before w s.locals) (Before w t.locals) (before_more w s.locals t.locals k.1.locals) vs l) q) (λ u u' v i2 n2 k2 z.
         let grown : Grows w s v = grows_then w s t v k.1 k2.1 in
         keeps_bind w v _ (agrees_at refl (ap (λ (us : Trees Name). G below here tt (body us) (view i2 n2 v)) (trees_still w known s v f grown e he ts lt)) (law below here e ts v k2.0 i2 n2 (stands_later w s v grown e he) (trees_old w known s v grown ts lt))) (λ c c' y i3 n3 k3 p.
         same_done w y i3 n3 (LetSyntax (local_defs (scoped known) v vs ns) c) (LetSyntax (local_defs (model known) (view i2 n2 v) vs (map (named_map g) ns)) c') k3.0

@@ -11,6 +11,7 @@ use Rattle.scheme_model.specs.Order.{Here, given, RulesParts}
 use Rattle.scheme_model.specs.Substitution.{State, Clock}
 use Rattle.scheme_model.specs.ScopedExpansion.{Frames, ScopedState}
 use Rattle.scheme_model.specs.Renaming.{Renames, formals_map}
+use Rattle.scheme_model.specs.OpenBodies.{Below}
 use Rattle.scheme_model.proofs.RenamingLaws.{Reads}
 use Rattle.scheme_model.proofs.ShapeLaws.{one_of-map, some_of-map, proper_of-map, if_of-map, lambda_of-map, case_lambda_of-map, named_tree_of-map, definition_of-map, values_of-map, record_of-map, local_macros_of-map, error_text_of-map}
 use Rattle.scheme_model.proofs.RequirementLaws.{chosen_of-map}
@@ -18,7 +19,7 @@ use Rattle.scheme_model.proofs.RulesLaws.{rules_of-map}
 use Rattle.scheme_model.proofs.ScopeLaws.{map_map, map_map_all, map_map_tail}
 use Rattle.scheme_model.proofs.IdentKinds.{Kind, map_twice, tree_kind, trees_kind, clause_kind, clauses_kind, definition_kind, record_kind, local_macros_kind, rules_kind, formals_fused}
 use Rattle.scheme_model.proofs.Clocks.{leq_itself}
-use Rattle.scheme_model.proofs.FrameTimes.{Below, below_more}
+use Rattle.scheme_model.proofs.FrameTimes.{below_more}
 use Rattle.scheme_model.proofs.FrameStates.{names, view, Old, ident_of, Made, FineState}
 use Rattle.scheme_model.proofs.FrameLeaves.{TreesAll, TailAll, lift_trees, lift_tail, lifted_trees, lifted_tail}
 use Rattle.scheme_model.proofs.FrameAgrees.{Agrees, Keeps, Seen, read_both}

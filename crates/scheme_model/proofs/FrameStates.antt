@@ -10,11 +10,12 @@ use Rattle.scheme_model.specs.Order.{is_some}
 use Rattle.scheme_model.specs.Substitution.{Table, Entries, Clock, at_form, defined_in, is_plain, meaning, shallow, KeptMacro, State}
 use Rattle.scheme_model.specs.ScopedExpansion.{Frame, Bind, Enter, Frames, BodyDefinition, BodyDefinitions, UsePlace, ScopedMacro, ScopedState, around, find, next_number, means_at}
 use Rattle.scheme_model.specs.FrameImages.{is_before, is_older, bound_as, entered_as, before_definition, image_inside, image_outside, frame_image, DefinesOutside}
+use Rattle.scheme_model.specs.OpenBodies.{Before, Below, DefinitionsBelow, Entered, FramesOk, Leq, NotYet}
 use Rattle.scheme_model.proofs.IdentLaws.{ident_told, number_told, number_itself, same_turned}
 use Rattle.scheme_model.proofs.IdentKinds.{Kind, mapped_same, rules_kind}
-use Rattle.scheme_model.proofs.Clocks.{Leq, leq_itself, leq_then, leq_counted, Before, NotYet, before_more, apart, numbered, next_not_yet, next_counted}
+use Rattle.scheme_model.proofs.Clocks.{leq_itself, leq_then, leq_counted, before_more, apart, numbered, next_not_yet, next_counted}
 use Rattle.scheme_model.proofs.FrameNames.{same_frame_image, meaning_frame_image}
-use Rattle.scheme_model.proofs.FrameTimes.{Entered, entered_more, SameFind, Below, below_more, SamePlaces, outside_places, image_places, image_definitions, DefinitionsBelow, FramesOk, frames_entered, frames_later, find_less, inside_new}
+use Rattle.scheme_model.proofs.FrameTimes.{entered_more, SameFind, below_more, SamePlaces, outside_places, image_places, image_definitions, frames_entered, frames_later, find_less, inside_new}
 use Rattle.scheme_model.proofs.FrameAsks.{AllOf, all_of_more, MeansCounted, GivenCounted, BindersCounted, DefinitionsCounted}
 
 -- ---- the view

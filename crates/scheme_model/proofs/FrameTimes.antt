@@ -10,15 +10,10 @@ use Rattle.scheme_model.specs.Substitution.{Clock}
 use Rattle.scheme_model.specs.ScopedExpansion.{Frame, Bind, Enter, Frames, BodyDefinitions, UsePlace, around, find}
 use Rattle.scheme_model.specs.FrameImages.{is_before, is_older, bound_as, entered_as, before_definition, image_inside, image_outside, frame_image}
 use Rattle.scheme_model.proofs.IdentLaws.{ident_told}
-use Rattle.scheme_model.proofs.Clocks.{Leq, leq_itself, leq_then, Before, NotYet, before_more, not_yet_less}
+use Rattle.scheme_model.specs.OpenBodies.{Leq, Before, NotYet, Entered, Below, PlacesIn, DefinitionsBelow, FramesOk}
+use Rattle.scheme_model.proofs.Clocks.{leq_itself, leq_then, before_more, not_yet_less}
 
 -- ---- bodies around a place
-
--- each body that is entered around a place
-abbrev pub Entered : (Number → Type 0) → Frames → Type 0
-Entered P [] = Unit {0}
-Entered P (Bind x v ∷ fs) = Entered P fs
-Entered P (Enter b u ∷ fs) = P b × Entered P fs
 
 pub entered_more : (P Q : Number → Type 0) → ((b : Number) → P b → Q b) → (fs : Frames) → Entered P fs → Entered Q fs
 entered_more P Q h [] e = tt
@@ -43,12 +38,7 @@ inside_same P ds es h (Enter b u ∷ fs) l i outer e =
 -- ---- what a unit's uses made by a clock
 
 module _ (unit : ℕ) where
-  -- made by uses that the clock has counted
-  abbrev pub Below : Clock → Ident → Type 0
-  Below u (Written v s) = Unit {0}
-  Below u (Inserted i k) = Before unit u k × Below u i
-
-  pub below_more : (n m : Clock) → Leq n m → (i : Ident) → Below n i → Below m i
+  pub below_more : (n m : Clock) → Leq n m → (i : Ident) → Below unit n i → Below unit m i
   below_more n m le (Written v s) h = tt
   below_more n m le (Inserted i k) h = (before_more unit n m le k h.0, below_more n m le i h.1)
 
@@ -56,49 +46,35 @@ module _ (unit : ℕ) where
   abbrev pub SamePlaces : Clock → List UsePlace → List UsePlace → Type 0
   SamePlaces u ps qs = (k : Number) → Before unit u k → around ps k ≡ around qs k
 
-  -- the macros of these uses were defined in these bodies
-  abbrev pub PlacesIn : Clock → (Number → Type 0) → List UsePlace → Type 0
-  PlacesIn u P ps = (k : Number) → Before unit u k → Entered P (around ps k)
-
   -- later uses
-  pub outside_places : (u : Clock) (ps qs : List UsePlace) → SamePlaces u ps qs → (i : Ident) → Below u i → image_outside ps i ≡ image_outside qs i
+  pub outside_places : (u : Clock) (ps qs : List UsePlace) → SamePlaces u ps qs → (i : Ident) → Below unit u i → image_outside ps i ≡ image_outside qs i
   outside_places u ps qs h (Written v s) l = refl
   outside_places u ps qs h (Inserted i k) l =
       let e = h k l.0 in
       let r = outside_places u ps qs h i l.1 in
       λ j ds. InsertedName (image_inside (e j) i (r j) ds) k
 
-  pub image_places : (u : Clock) (ps qs : List UsePlace) (ds : BodyDefinitions) (fs : Frames) → SamePlaces u ps qs → (i : Ident) → Below u i → frame_image ps ds fs i ≡ frame_image qs ds fs i
+  pub image_places : (u : Clock) (ps qs : List UsePlace) (ds : BodyDefinitions) (fs : Frames) → SamePlaces u ps qs → (i : Ident) → Below unit u i → frame_image ps ds fs i ≡ frame_image qs ds fs i
   image_places u ps qs ds fs h i l = ap (λ (g : BodyDefinitions → Name). image_inside fs i g ds) (outside_places u ps qs h i l)
 
   -- later definitions
-  pub outside_definitions : (u : Clock) (P : Number → Type 0) (ps : List UsePlace) (ds es : BodyDefinitions) → PlacesIn u P ps → SameFind P ds es → (i : Ident) → Below u i → image_outside ps i ds ≡ image_outside ps i es
+  pub outside_definitions : (u : Clock) (P : Number → Type 0) (ps : List UsePlace) (ds es : BodyDefinitions) → PlacesIn unit u P ps → SameFind P ds es → (i : Ident) → Below unit u i → image_outside ps i ds ≡ image_outside ps i es
   outside_definitions u P ps ds es s h (Written v x) l = refl
   outside_definitions u P ps ds es s h (Inserted i k) l =
       ap (λ (x : Name). InsertedName x k) (inside_same P ds es h (around ps k) (s k l.0) i (image_outside ps i) (outside_definitions u P ps ds es s h i l.1))
 
-  pub image_definitions : (u : Clock) (P : Number → Type 0) (ps : List UsePlace) (ds es : BodyDefinitions) → PlacesIn u P ps → SameFind P ds es → (fs : Frames) → Entered P fs → (i : Ident) → Below u i → frame_image ps ds fs i ≡ frame_image ps es fs i
+  pub image_definitions : (u : Clock) (P : Number → Type 0) (ps : List UsePlace) (ds es : BodyDefinitions) → PlacesIn unit u P ps → SameFind P ds es → (fs : Frames) → Entered P fs → (i : Ident) → Below unit u i → frame_image ps ds fs i ≡ frame_image ps es fs i
   image_definitions u P ps ds es s h fs e i l = inside_same P ds es h fs e i (image_outside ps i) (outside_definitions u P ps ds es s h i l)
 
   -- ---- frames, and what they were made of
 
-  -- bodies that the clock has counted define only what its uses made
-  abbrev pub DefinitionsBelow : BodyDefinitions → Clock → Clock → Type 0
-  DefinitionsBelow ds u n = (b : Number) (i : Ident) → Before unit n b → (find ds b i ≡ None) ⊎ Below u i
-
-  pub definitions_same : (ds es : BodyDefinitions) (u n : Clock) → SameFind (Before unit n) ds es → DefinitionsBelow ds u n → DefinitionsBelow es u n
+  pub definitions_same : (ds es : BodyDefinitions) (u n : Clock) → SameFind (Before unit n) ds es → DefinitionsBelow unit ds u n → DefinitionsBelow unit es u n
   definitions_same ds es u n h d b i l = elim (d b i l) [
     | inl e ↦ inl (sym (h b i l) ∙ e)
     | inr e ↦ inr e
   ]
 
-  -- frames of the unit after u uses and n bodies; m are the bodies that were entered before one of them
-  abbrev pub FramesOk : BodyDefinitions → Clock → Clock → Frames → Type 0
-  FramesOk ds u n [] = Unit {0}
-  FramesOk ds u n (Bind x v ∷ fs) = Below u x × FramesOk ds u n fs
-  FramesOk ds u n (Enter b z ∷ fs) = (m : Clock) × (b.unit ≡ unit) × Before unit n b × Leq z u × Leq m n × NotYet unit m b × DefinitionsBelow ds z m × FramesOk ds z m fs
-
-  pub frames_entered : (ds : BodyDefinitions) (u n : Clock) (fs : Frames) → FramesOk ds u n fs → Entered (Before unit n) fs
+  pub frames_entered : (ds : BodyDefinitions) (u n : Clock) (fs : Frames) → FramesOk unit ds u n fs → Entered (Before unit n) fs
   frames_entered ds u n [] h = tt
   frames_entered ds u n (Bind x v ∷ fs) h = frames_entered ds u n fs h.1
   frames_entered ds u n (Enter b z ∷ fs) h = (h.2, entered_more (Before unit h.0) (Before unit n) (before_more unit h.0 n h.4) fs (frames_entered ds z h.0 fs h.7))
@@ -106,7 +82,7 @@ module _ (unit : ℕ) where
   pub find_less : (n m : Clock) (ds es : BodyDefinitions) → Leq m n → SameFind (Before unit n) ds es → SameFind (Before unit m) ds es
   find_less n m ds es le h b i l = h b i (before_more unit m n le b l)
 
-  pub frames_later : (ds es : BodyDefinitions) (u n v m : Clock) → SameFind (Before unit n) ds es → Leq u v → Leq n m → (fs : Frames) → FramesOk ds u n fs → FramesOk es v m fs
+  pub frames_later : (ds es : BodyDefinitions) (u n v m : Clock) → SameFind (Before unit n) ds es → Leq u v → Leq n m → (fs : Frames) → FramesOk unit ds u n fs → FramesOk unit es v m fs
   frames_later ds es u n v m h le ln [] k = tt
   frames_later ds es u n v m h le ln (Bind x w ∷ fs) k = (below_more u v le x k.0, frames_later ds es u n v m h le ln fs k.1)
   frames_later ds es u n v m h le ln (Enter b z ∷ fs) k =
@@ -115,15 +91,15 @@ module _ (unit : ℕ) where
 
   -- ---- a new identifier
 
-  pub not_below : (u : Clock) (k : Number) (i x : Ident) → NotYet unit u k → Below u x → same_ident x (Inserted i k) ≡ false
-  not_below u k i x e h = false_from_ne_true (same_ident x (Inserted i k)) (λ t. let p : Below u (Inserted i k) = subst (Below u) (ident_told x (Inserted i k) t) h in let q : true ≡ false = sym p.0 ∙ e in absurd cc)
+  pub not_below : (u : Clock) (k : Number) (i x : Ident) → NotYet unit u k → Below unit u x → same_ident x (Inserted i k) ≡ false
+  not_below u k i x e h = false_from_ne_true (same_ident x (Inserted i k)) (λ t. let p : Below unit u (Inserted i k) = subst (Below unit u) (ident_told x (Inserted i k) t) h in let q : true ≡ false = sym p.0 ∙ e in absurd cc)
 
-  pub none_below : (u : Clock) (k : Number) (i : Ident) (o : Option (Number × BodyDefinitions)) → NotYet unit u k → (o ≡ None) ⊎ Below u (Inserted i k) → o ≡ None
+  pub none_below : (u : Clock) (k : Number) (i : Ident) (o : Option (Number × BodyDefinitions)) → NotYet unit u k → (o ≡ None) ⊎ Below unit u (Inserted i k) → o ≡ None
   none_below u k i o e (inl p) = p
   none_below u k i o e (inr p) = let q : true ≡ false = sym p.0 ∙ e in absurd cc
 
   -- it stands inside older frames as it stands outside them
-  pub inside_new : (ds : BodyDefinitions) (u n : Clock) → DefinitionsBelow ds u n → (fs : Frames) → FramesOk ds u n fs → (i : Ident) (k : Number) → NotYet unit u k → (outer : BodyDefinitions → Name) → image_inside fs (Inserted i k) outer ds ≡ outer ds
+  pub inside_new : (ds : BodyDefinitions) (u n : Clock) → DefinitionsBelow unit ds u n → (fs : Frames) → FramesOk unit ds u n fs → (i : Ident) (k : Number) → NotYet unit u k → (outer : BodyDefinitions → Name) → image_inside fs (Inserted i k) outer ds ≡ outer ds
   inside_new ds u n d [] h i k e outer = refl
   inside_new ds u n d (Bind x v ∷ fs) h i k e outer =
       ap (λ t. bound_as t v (image_inside fs (Inserted i k) outer ds)) (not_below u k i x e h.0) ∙ inside_new ds u n d fs h.1 i k e outer

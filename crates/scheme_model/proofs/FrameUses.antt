@@ -16,6 +16,7 @@ use Rattle.scheme_model.specs.Order.{Here, Ops, Transformer, Note, Compared, tar
 use Rattle.scheme_model.specs.Substitution.{State, Clock, at_form, meaning, note_map, model}
 use Rattle.scheme_model.specs.ScopedExpansion.{Frames, Place, ScopedState, next_number, means_at, scoped}
 use Rattle.scheme_model.specs.Renaming.{Renames, value_map, binding_map, match_map, chosen_map, pair_map, built_map}
+use Rattle.scheme_model.specs.OpenBodies.{Below}
 use Rattle.scheme_model.proofs.RenamingLaws.{Reads, reads, Finds, finds, map_after, map_turned}
 use Rattle.scheme_model.proofs.RulesLaws.{role_of-map, dots_of-map}
 use Rattle.scheme_model.proofs.CompareLaws.{compared-map}
@@ -24,7 +25,6 @@ use Rattle.scheme_model.proofs.BuildLaws.{build-map}
 use Rattle.scheme_model.proofs.ScopeLaws.{map_map}
 use Rattle.scheme_model.proofs.IdentKinds.{Kind, tree_kind, trees_kind, tail_kind, rules_kind}
 use Rattle.scheme_model.proofs.FrameNames.{same_frame_image, strip_frame_image}
-use Rattle.scheme_model.proofs.FrameTimes.{Below}
 use Rattle.scheme_model.proofs.FrameStates.{names, view, Old, Made, FineState, Stands, names_mean}
 use Rattle.scheme_model.proofs.FrameHeads.{seen_transformer}
 

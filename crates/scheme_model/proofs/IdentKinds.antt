@@ -43,7 +43,7 @@ module _ (A B C : Type 0) (g : B → C) (f : A → B) where
   names_fused : (ns : List (Named A)) → map (named_map g) (map (named_map f) ns) ≡ map (named_map (λ a. g (f a))) ns
   names_fused ns = map_after (named_map g) (named_map f) (named_map (λ a. g (f a))) (λ n. refl) ns
 
-  formals_fused : (p : Formals A) → formals_map g (formals_map f p) ≡ formals_map (λ a. g (f a)) p
+  pub formals_fused : (p : Formals A) → formals_map g (formals_map f p) ≡ formals_map (λ a. g (f a)) p
   formals_fused p = ap (λ (ns : List (Named C)). record { names = ns; rest = p.rest }) (names_fused p.names)
 
   pub clause_fused : (c : Clause A) → clause_map g (clause_map f c) ≡ clause_map (λ a. g (f a)) c

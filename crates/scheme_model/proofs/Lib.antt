@@ -30,5 +30,7 @@ pub mod Distinct
 pub mod FrameExpressions
 pub mod FrameBinders
 pub mod FrameMacros
+pub mod FrameQuasi
+pub mod FrameCoreForms
 pub mod Shown
 pub mod rows

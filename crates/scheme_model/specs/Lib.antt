@@ -46,6 +46,7 @@ pub mod Scopes
 pub mod Renaming
 pub mod ScopedExpansion
 pub mod FrameImages
+pub mod OpenBodies
 pub mod UnitExpansion
 pub mod Entries
 pub mod Declarations

@@ -1,6 +1,6 @@
 //! Laws of the definitions. Each is the contract of a function that does nothing.
-ghost use Rattle.std.specs.Prelude.{◌≡◌, ℕ, Bool, List, map, Option};
-ghost use Rattle.scheme_model.specs.Identifiers.{Name, strip, same_name};
+ghost use Rattle.std.specs.Prelude.{◌≡◌, ℕ, Bool, List, ◌∷◌, map, Option, None};
+ghost use Rattle.scheme_model.specs.Identifiers.{Number, Name, strip, same_name};
 ghost use Rattle.scheme_model.specs.Ident.{Ident, erase, symbol_of, same_ident};
 ghost use Rattle.scheme_model.specs.Trees.{Tree, Trees, Tail, map_tree, map_trees, map_tail};
 ghost use Rattle.scheme_model.specs.ExpansionFaults.{Named, named_map};
@@ -13,9 +13,10 @@ ghost use Rattle.scheme_model.specs.Matching.{Binding, matcher, first_match, com
 ghost use Rattle.scheme_model.specs.Building.{build};
 ghost use Rattle.scheme_model.specs.Leaves.{leaves_of};
 ghost use Rattle.scheme_model.specs.Renaming.{Renames, IsRenamed, result_map, formals_map, definition_map, record_map, local_macros_map, pieces_map, leaf_map, binding_map, chosen_map, pair_map, built_map};
-ghost use Rattle.scheme_model.specs.Substitution.{Table, Entries, meaning, clause_map};
-ghost use Rattle.scheme_model.specs.ScopedExpansion.{Frames, BodyDefinitions, UsePlace, means_inside, means_outside};
+ghost use Rattle.scheme_model.specs.Substitution.{Table, Entries, Clock, meaning, deep, clause_map};
+ghost use Rattle.scheme_model.specs.ScopedExpansion.{Frames, Enter, BodyDefinitions, find, UsePlace, means_inside, means_outside};
 ghost use Rattle.scheme_model.specs.FrameImages.{frame_image, DefinesOutside};
+ghost use Rattle.scheme_model.specs.OpenBodies.{IsOpen, Sits};
 ghost use Rattle.scheme_model.specs.Scopes.{Chain, Uses, image, substituted, own_of, means, AreOutside};
 
 /// Whatever binders are around an identifier, what it has become came from it alone, and keeps its symbol (R7RS 4.3).
@@ -92,4 +93,11 @@ pub fn frame_images_are_names()
 pub fn frames_mean()
     ensures { (table : Table) (entry : Entries) (ps : List UsePlace) (ds : BodyDefinitions) (fs : Frames) (i : Ident) → DefinesOutside table ps →
         meaning table entry (frame_image ps ds fs i) ≡ means_inside ds fs i (means_outside table entry ps ds i) }
+{}
+
+/// A definition of a body changes the image of each identifier that can stand in the body as deep substitution does (R7RS 5.3.2):
+/// its name is replaced wherever it stands in a name, but not inside a binder's.
+pub fn definitions_are_substituted()
+    ensures { (b : Number) (u : Clock) (c : Frames) (ps : List UsePlace) (ds : BodyDefinitions) (m : Clock) → IsOpen b u c ps ds m → (x : Ident) (v : Number) → find ds b x ≡ None → (i : Ident) → Sits b u c ps i →
+        deep (frame_image ps ds (Enter b u ∷ c) x) v (frame_image ps ds (Enter b u ∷ c) i) ≡ frame_image ps (record { body = b; ident = x; binder = v } ∷ ds) (Enter b u ∷ c) i }
 {}
