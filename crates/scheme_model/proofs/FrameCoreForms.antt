@@ -42,7 +42,7 @@ module _ (w : ℕ) (known : Known) (F : Scoped w known) (G : Modelled w known) (
     reading l r = read_law w rest_kind l r here fs s f in_body mine (ts, tail) rest
 
     -- a form that stands at a wrong place
-    misplaced_law : (l : Kind) (r : Reader rest_kind l) → Same {A = Core} w s (given (λ i. i) here (r.read Ident identifiers (ts, tail)) s >>= misplaced here) (given erase here (r.read Name model_names (map_trees (names s fs) ts, map_tail (names s fs) tail)) (view in_body mine s) >>= misplaced here)
+    misplaced_law : (l : Kind) (r : Reader rest_kind l) → Same w s (given (λ i. i) here (r.read Ident identifiers (ts, tail)) s >>= misplaced {C = Core} here) (given erase here (r.read Name model_names (map_trees (names s fs) ts, map_tail (names s fs) tail)) (view in_body mine s) >>= misplaced {C = Core} here)
     misplaced_law l r = keeps_bind w s _ (reading l r) (λ a b t i n k q. same_fails w t i n here BadPlace k.0)
 
     chosen_law : (t : ScopedState) → FineState w t → (i : Bool) (n : List Number) → Stands w t fs → (o : Option (Trees Ident)) → IfMacro (TreesAll (Below w t.uses)) o
