@@ -1,12 +1,11 @@
 -- Building an instance of a template commutes with renamings of the template and of what its variables stand for.
-use Rattle.std.proofs.Common.{◌≡◌, ℕ, zero, suc, ◌+◌, List, [], ◌∷◌, ◌++◌, map, Bool, true, false, cond, Option, Some, None, Result, Ok, Err, refl, sym, ap, ◌∙◌, subst}
+use Rattle.std.proofs.Common.{◌≡◌, ℕ, zero, suc, ◌+◌, List, [], ◌∷◌, map, Bool, Option, Some, None, refl, sym, ap, ◌∙◌, subst}
 use Rattle.std.specs.Prelude.{◌||◌, ◌&&◌, nat_le}
 use Rattle.scheme_model.specs.declared.Occ.{Occ}
 use Rattle.scheme_model.specs.Trees.{Tree, name, atom, list, vector, Trees, no_trees, tree, Tail, proper, dotted, map_tree, map_trees, map_tail}
-use Rattle.scheme_model.specs.ExpansionFaults.{Fault, ◌>>◌}
-use Rattle.scheme_model.specs.RulesShape.{Names, Rules, rules_map, option_map, dots_of, is_dots, leading, nowhere}
-use Rattle.scheme_model.specs.Matching.{Value, One, Many, Values, no_values, value, Binding, ◌>>=◌, chosen}
-use Rattle.scheme_model.specs.Building.{Built, built, value_of, stands_in, stands_among, stands_behind, used_in, value_count, agree, agree_with, places_of, first_value, later_values, first_place, later_places, or_zero, joined, alone, at_places, repeated, named_value, list_built, is_escape, Template, build_tree, build_parts, build_tail, build_escaped, max_nodes, max_depth, within, or_lengths, build}
+use Rattle.scheme_model.specs.RulesShape.{Names, Rules, rules_map, option_map, dots_of, leading, nowhere}
+use Rattle.scheme_model.specs.Matching.{Value, One, Many, Values, no_values, value, Binding, ◌>>=◌}
+use Rattle.scheme_model.specs.Building.{Built, built, value_of, stands_in, stands_among, stands_behind, used_in, value_count, agree, agree_with, places_of, first_value, later_values, first_place, later_places, or_zero, joined, at_places, repeated, named_value, list_built, is_escape, Template, build_tree, build_parts, build_tail, build_escaped, max_nodes, max_depth, within, or_lengths, build}
 use Rattle.scheme_model.specs.Renaming.{Renames, value_map, values_map, binding_map, built_map}
 use Rattle.scheme_model.proofs.RenamingLaws.{Reads, reads, Finds, finds, then_map, some_map, cond_map, cond_reads, append-map, size-map, depth-map}
 use Rattle.scheme_model.proofs.PatternLaws.{is_dots-map, leading-map}
@@ -196,5 +195,5 @@ module _ (A B C D : Type 0) (f : A → C) (g : B → D) where
     build-map n n' told r insert insert' h t bs left =
         then_map _
         (lengths tree_built (build_tree (record { same = n.same; insert = insert }) (dots_of n r) t bs)
-            (build_tree-map (record { same = n.same; insert = insert }) (record { same = n'.same; insert = insert' }) told.same h (dots_of n r) (dots_of n' (rules_map f r)) (dots_of-map A C f n n' told r) t bs))
+        (build_tree-map (record { same = n.same; insert = insert }) (record { same = n'.same; insert = insert' }) told.same h (dots_of n r) (dots_of n' (rules_map f r)) (dots_of-map A C f n n' told r) t bs))
         (λ b. within-map left b)

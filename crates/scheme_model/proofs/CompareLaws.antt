@@ -1,10 +1,9 @@
 -- Which literals of rules are compared with which identifiers of a use, once both sides are renamed.
-use Rattle.std.proofs.Common.{◌≡◌, ℕ, zero, suc, ◌+◌, ◌-◌, ◌*◌, List, [], ◌∷◌, ◌++◌, map, Bool, true, false, cond, Option, Some, None, refl, sym, ap, ◌∙◌}
-use Rattle.std.specs.Prelude.{nat_le, ◌==◌}
-use Rattle.scheme_model.specs.declared.Occ.{Occ}
+use Rattle.std.proofs.Common.{◌≡◌, ℕ, zero, suc, ◌-◌, ◌*◌, List, [], ◌∷◌, ◌++◌, map, Bool, true, false, refl, ap, ◌∙◌}
+use Rattle.std.specs.Prelude.{nat_le}
 use Rattle.scheme_model.specs.Trees.{Tree, name, atom, list, vector, Trees, no_trees, tree, Tail, proper, dotted, map_tree, map_trees, map_tail}
 use Rattle.scheme_model.specs.TreeParts.{count}
-use Rattle.scheme_model.specs.RulesShape.{Rule, rule_map, option_map, Role, IsLiteral, IsEllipsis, IsAny, IsVariable, is_dots, dots_count}
+use Rattle.scheme_model.specs.RulesShape.{Rule, rule_map, option_map, Role, IsLiteral, IsEllipsis, IsAny, IsVariable, dots_count}
 use Rattle.scheme_model.specs.Matching.{rest_of, front, behind, chosen, list_parts, vector_parts, least, tail_fits, can_take, pair_of, pairs_each, of_list, of_vector, of_first, no_pairs, pairs_in, pairs_among, pairs_behind, compared}
 use Rattle.scheme_model.specs.Renaming.{pair_map}
 use Rattle.scheme_model.proofs.RenamingLaws.{append_map, count-map}
@@ -117,16 +116,16 @@ module _ (A B C D : Type 0) (f : A → C) (g : B → D) where
           (λ q. chosen (can_take dots ps tail q.0 q.1) (λ u. pairs_among role dots ps (pairs_behind role dots tail) q.0 q.1) (λ u. []))
           (λ q. chosen (can_take dots' (map_trees f ps) (map_tail f tail) q.0 q.1) (λ u. pairs_among role' dots' (map_trees f ps) (pairs_behind role' dots' (map_tail f tail)) q.0 q.1) (λ u. []))
           (λ q. chosen-map pairs (λ u. pairs_among role dots ps (pairs_behind role dots tail) q.0 q.1) (λ u. [])
-              (λ u. pairs_among role' dots' (map_trees f ps) (pairs_behind role' dots' (map_tail f tail)) (map_trees g q.0) (map_tail g q.1)) (λ u. []) (can_take-map ps tail q.0 q.1)
-              (pairs_among-map ps (pairs_behind role dots tail) (pairs_behind role' dots' (map_tail f tail)) (λ us end. pairs_behind-map tail us end) q.0 q.1) refl)
+          (λ u. pairs_among role' dots' (map_trees f ps) (pairs_behind role' dots' (map_tail f tail)) (map_trees g q.0) (map_tail g q.1)) (λ u. []) (can_take-map ps tail q.0 q.1)
+          (pairs_among-map ps (pairs_behind role dots tail) (pairs_behind role' dots' (map_tail f tail)) (λ us end. pairs_behind-map tail us end) q.0 q.1) refl)
           t
       pairs_in-map (vector ps o) t =
           of_vector-map
           (λ us. chosen (can_take dots ps proper us proper) (λ u. pairs_among role dots ps no_pairs us proper) (λ u. []))
           (λ us. chosen (can_take dots' (map_trees f ps) proper us proper) (λ u. pairs_among role' dots' (map_trees f ps) no_pairs us proper) (λ u. []))
           (λ us. chosen-map pairs (λ u. pairs_among role dots ps no_pairs us proper) (λ u. [])
-              (λ u. pairs_among role' dots' (map_trees f ps) no_pairs (map_trees g us) proper) (λ u. []) (can_take-map ps proper us proper)
-              (pairs_among-map ps no_pairs no_pairs (λ vs end. refl) us proper) refl)
+          (λ u. pairs_among role' dots' (map_trees f ps) no_pairs (map_trees g us) proper) (λ u. []) (can_take-map ps proper us proper)
+          (pairs_among-map ps no_pairs no_pairs (λ vs end. refl) us proper) refl)
           t
 
       pairs_among-map : (ps : Trees A) (rest : Trees B → Tail B → List (A × B)) (rest' : Trees D → Tail D → List (C × D)) → Rest rest rest' → (ts : Trees B) (end : Tail B)
@@ -143,12 +142,12 @@ module _ (A B C D : Type 0) (f : A → C) (g : B → D) where
           (λ u. of_first (map_trees g ts) (λ t us. pairs_in role' dots' (map_tree f p) t ++ pairs_among role' dots' (tree (map_tree f d) (map_trees f ps)) rest' us (map_tail g end)))
           (is_dots-map A C f dots dots' same_dots d)
           (append_map (pair_map f g) (pairs_each (λ t. pairs_in role dots p t) (front (count ts - count ps) ts)) (pairs_among role dots ps rest (behind (count ts - count ps) ts) end)
-              (ap (pairs_each (λ t. pairs_in role' dots' (map_tree f p) t)) (taken_parts (count ps) (count (map_trees f ps)) (count-map A C f ps) ts)
-                  ∙ pairs_each-map (λ t. pairs_in role dots p t) (λ t. pairs_in role' dots' (map_tree f p) t) (λ t. pairs_in-map p t) (front (count ts - count ps) ts))
-              (ap (λ us. pairs_among role' dots' (map_trees f ps) rest' us (map_tail g end)) (left_parts (count ps) (count (map_trees f ps)) (count-map A C f ps) ts)
-                  ∙ pairs_among-map ps rest rest' h (behind (count ts - count ps) ts) end))
+          (ap (pairs_each (λ t. pairs_in role' dots' (map_tree f p) t)) (taken_parts (count ps) (count (map_trees f ps)) (count-map A C f ps) ts)
+          ∙ pairs_each-map (λ t. pairs_in role dots p t) (λ t. pairs_in role' dots' (map_tree f p) t) (λ t. pairs_in-map p t) (front (count ts - count ps) ts))
+          (ap (λ us. pairs_among role' dots' (map_trees f ps) rest' us (map_tail g end)) (left_parts (count ps) (count (map_trees f ps)) (count-map A C f ps) ts)
+          ∙ pairs_among-map ps rest rest' h (behind (count ts - count ps) ts) end))
           (of_first-map (λ t us. pairs_in role dots p t ++ pairs_among role dots (tree d ps) rest us end) (λ t us. pairs_in role' dots' (map_tree f p) t ++ pairs_among role' dots' (tree (map_tree f d) (map_trees f ps)) rest' us (map_tail g end))
-              (λ t us. append_map (pair_map f g) (pairs_in role dots p t) (pairs_among role dots (tree d ps) rest us end) (pairs_in-map p t) (pairs_among-map (tree d ps) rest rest' h us end)) ts)
+          (λ t us. append_map (pair_map f g) (pairs_in role dots p t) (pairs_among role dots (tree d ps) rest us end) (pairs_in-map p t) (pairs_among-map (tree d ps) rest rest' h us end)) ts)
 
       pairs_behind-map : (tail : Tail A) (ts : Trees B) (end : Tail B) → pairs_behind role' dots' (map_tail f tail) (map_trees g ts) (map_tail g end) ≡ pairs (pairs_behind role dots tail ts end)
       pairs_behind-map proper ts end = refl
@@ -160,6 +159,6 @@ module _ (A B C D : Type 0) (f : A → C) (g : B → D) where
         append_map (pair_map f g)
         (chosen (can_take dots rule.parts rule.tail ts end) (λ u. pairs_among role dots rule.parts (pairs_behind role dots rule.tail) ts end) (λ u. [])) (compared role dots rules ts end)
         (chosen-map pairs (λ u. pairs_among role dots rule.parts (pairs_behind role dots rule.tail) ts end) (λ u. [])
-            (λ u. pairs_among role' dots' (map_trees f rule.parts) (pairs_behind role' dots' (map_tail f rule.tail)) (map_trees g ts) (map_tail g end)) (λ u. []) (can_take-map rule.parts rule.tail ts end)
-            (pairs_among-map rule.parts (pairs_behind role dots rule.tail) (pairs_behind role' dots' (map_tail f rule.tail)) (λ us e. pairs_behind-map rule.tail us e) ts end) refl)
+        (λ u. pairs_among role' dots' (map_trees f rule.parts) (pairs_behind role' dots' (map_tail f rule.tail)) (map_trees g ts) (map_tail g end)) (λ u. []) (can_take-map rule.parts rule.tail ts end)
+        (pairs_among-map rule.parts (pairs_behind role dots rule.tail) (pairs_behind role' dots' (map_tail f rule.tail)) (λ us e. pairs_behind-map rule.tail us e) ts end) refl)
         (compared-map rules ts end)

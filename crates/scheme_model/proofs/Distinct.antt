@@ -1,11 +1,10 @@
 -- Names that a reading tells to differ.
-use Rattle.std.proofs.Common.{◌≡◌, List, [], ◌∷◌, Bool, true, false, cond, Result, Ok, Err, refl, sym, ap, ◌∙◌, subst}
-use Rattle.std.specs.Prelude.{◌||◌}
+use Rattle.std.proofs.Common.{◌≡◌, List, [], ◌∷◌, Bool, true, false, cond, Result, Ok, Err, refl, ap, subst}
 use Rattle.std.proofs.lemmas.Bool.{or_parts}
 use Rattle.scheme_model.specs.Ident.{Ident, same_ident}
 use Rattle.scheme_model.specs.Trees.{Trees, Tail}
 use Rattle.scheme_model.specs.ExpansionFaults.{Named, Fault, DuplicateBinder, ◌>>◌}
-use Rattle.scheme_model.specs.Shapes.{Clause, is_among, distinct_from, distinct, clause_in, lambda_of, proper_of, clauses_in, distinct_all, case_lambda_of, first_of, name_of, formals_in, some_of, DefinitionShape, Variable, Procedure, procedure_of, LocalMacros, list_of, bindings_of, local_macros_of}
+use Rattle.scheme_model.specs.Shapes.{Clause, is_among, distinct_from, distinct, clause_in, lambda_of, proper_of, clauses_in, distinct_all, case_lambda_of, first_of, some_of, DefinitionShape, Variable, Procedure, LocalMacros, list_of, bindings_of, local_macros_of}
 
 -- the names differ from this one, and from one another
 abbrev pub Differ : Named Ident → List (Named Ident) → Type 0
@@ -92,7 +91,7 @@ local_macros_distinct ts tail m e =
     then_ok (λ (m : LocalMacros Ident). Distinct m.names) (first_of ts)
     (λ p. list_of p.0 >> λ q. proper_of q.0 q.1 >> bindings_of >> λ bs. some_of p.1 tail >> λ b. distinct same_ident bs.0 >> λ done. Ok (record { names = bs.0; rules = bs.1; body = b }))
     (λ p d y k. then_ok (λ (m : LocalMacros Ident). Distinct m.names) (list_of p.0)
-        (λ q. proper_of q.0 q.1 >> bindings_of >> λ bs. some_of p.1 tail >> λ b. distinct same_ident bs.0 >> λ done. Ok (record { names = bs.0; rules = bs.1; body = b }))
-        (λ q d2 y2 k2. then_ok (λ (m : LocalMacros Ident). Distinct m.names) (proper_of q.0 q.1 >> bindings_of)
-            (λ bs. some_of p.1 tail >> λ b. distinct same_ident bs.0 >> λ done. Ok (record { names = bs.0; rules = bs.1; body = b }))
-            (λ bs d3 y3 k3. local_end bs p.1 tail y3 k3) y2 k2) y k) m e
+    (λ q. proper_of q.0 q.1 >> bindings_of >> λ bs. some_of p.1 tail >> λ b. distinct same_ident bs.0 >> λ done. Ok (record { names = bs.0; rules = bs.1; body = b }))
+    (λ q d2 y2 k2. then_ok (λ (m : LocalMacros Ident). Distinct m.names) (proper_of q.0 q.1 >> bindings_of)
+    (λ bs. some_of p.1 tail >> λ b. distinct same_ident bs.0 >> λ done. Ok (record { names = bs.0; rules = bs.1; body = b }))
+    (λ bs d3 y3 k3. local_end bs p.1 tail y3 k3) y2 k2) y k) m e

@@ -1,15 +1,14 @@
 -- Both sides go together: they give related values, or the same fault, and states of which the definition's has what the scoped
 -- side has.
-use Rattle.std.proofs.Common.{◌≡◌, ℕ, List, Bool, Option, Result, Ok, Err, refl, sym, ap, ◌∙◌, subst}
+use Rattle.std.proofs.Common.{◌≡◌, ℕ, List, Bool, Result, Ok, Err, refl, sym, ap, ◌∙◌}
 use Rattle.scheme_model.specs.Identifiers.{Number, Name}
 use Rattle.scheme_model.specs.Ident.{Ident, erase}
 use Rattle.scheme_model.specs.ExpansionFaults.{Fault, fault_map}
-use Rattle.scheme_model.specs.Steps.{Broken, Step, ◌>>=◌, done, fails}
+use Rattle.scheme_model.specs.Steps.{Broken, Step, ◌>>=◌, fails}
 use Rattle.scheme_model.specs.Order.{Here, given}
-use Rattle.scheme_model.specs.Substitution.{State, Clock}
+use Rattle.scheme_model.specs.Substitution.{State}
 use Rattle.scheme_model.specs.ScopedExpansion.{Frames, ScopedState}
 use Rattle.scheme_model.specs.Renaming.{result_map}
-use Rattle.scheme_model.specs.OpenBodies.{Below}
 use Rattle.scheme_model.proofs.RenamingLaws.{Reads, reads}
 use Rattle.scheme_model.proofs.IdentKinds.{Kind, pointwise, faults_fused}
 use Rattle.scheme_model.proofs.Clocks.{leq_itself}
@@ -94,7 +93,7 @@ module _ (w : ℕ) where
     over_cases (Err e) =
         break (record { fault = fault_map (λ i. i) (fault_map (ident_of w s.uses) e); here = here }) s in_body mine refl
         (ap (λ (d : Fault Ident). (Err (record { fault = d; here = here }), view in_body mine s))
-            (ap (fault_map erase) (sym (faults_fused (Old w s.uses) Ident Name (names s fs) (ident_of w s.uses) e)) ∙ erased_fault s fs (fault_map (ident_of w s.uses) e))) (keeps_itself s f in_body mine)
+        (ap (fault_map erase) (sym (faults_fused (Old w s.uses) Ident Name (names s fs) (ident_of w s.uses) e)) ∙ erased_fault s fs (fault_map (ident_of w s.uses) e))) (keeps_itself s f in_body mine)
 
     pub read_over : (r0 : Result (k.of (Old w s.uses)) (Fault (Old w s.uses))) (r : Result (k.of Ident) (Fault Ident)) (r' : Result (k.of Name) (Fault Name))
         → Reads (ident_of w s.uses) (k.map (Old w s.uses) Ident (ident_of w s.uses)) r0 r → Reads (λ (p : Old w s.uses). names s fs p.0) (k.map (Old w s.uses) Name (λ p. names s fs p.0)) r0 r' → Agrees (Keeps s) (Seen k fs) (given (λ i. i) here r s) (given erase here r' (view in_body mine s))

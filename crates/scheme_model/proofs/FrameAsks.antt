@@ -1,17 +1,17 @@
 -- A name asks x exactly where, once x is replaced, it means x's number; and nothing means the next local's number before.
-use Rattle.std.proofs.Common.{◌≡◌, ℕ, ◌⊎◌, List, [], ◌∷◌, Bool, true, false, cond, Option, Some, None, refl, sym, ap, ◌∙◌, subst}
+use Rattle.std.proofs.Common.{◌≡◌, ℕ, List, [], ◌∷◌, Bool, true, false, cond, Option, Some, None, refl, sym, ap, ◌∙◌}
 use Rattle.std.specs.Prelude.{◌&&◌, ◌||◌}
 use Rattle.std.proofs.lemmas.Bool.{or_parts}
 use Rattle.scheme_model.specs.Identifiers.{Number, same_number, Name, Written as WrittenName, Inserted as InsertedName, Inner, Var, same_name}
 use Rattle.scheme_model.specs.Ident.{Ident, Written, Inserted, same_ident, erase}
 use Rattle.scheme_model.specs.Meaning.{Meaning, Local, Global, Standard, Free, same_meaning}
 use Rattle.scheme_model.specs.Order.{is_some}
-use Rattle.scheme_model.specs.Substitution.{Table, Entries, Defined, Clock, defined_in, is_plain, defines, global_or, meaning, deep, asks}
+use Rattle.scheme_model.specs.Substitution.{Table, Entries, Defined, Clock, defined_in, is_plain, global_or, meaning, deep, asks}
 use Rattle.scheme_model.specs.Scopes.{own_of, imported_as, defined_or, given_or}
-use Rattle.scheme_model.specs.ScopedExpansion.{Frame, Bind, Enter, Frames, BodyDefinition, BodyDefinitions, UsePlace, around, find, defined_as, means_inside, means_outside}
-use Rattle.scheme_model.specs.OpenBodies.{Before, Leq, NotYet}
+use Rattle.scheme_model.specs.ScopedExpansion.{Bind, Enter, Frames, BodyDefinition, BodyDefinitions, UsePlace, around, find, defined_as, means_inside, means_outside}
+use Rattle.scheme_model.specs.OpenBodies.{Before, NotYet}
 use Rattle.scheme_model.proofs.IdentLaws.{number_itself}
-use Rattle.scheme_model.proofs.Clocks.{before_more, apart}
+use Rattle.scheme_model.proofs.Clocks.{apart}
 
 cond_or : (t u : Bool) (m n : Meaning) → cond t m (cond u m n) ≡ cond (t || u) m n
 cond_or true u m n = refl

@@ -1,21 +1,21 @@
 -- The law of binders: procedures, and any step in the region of several binders.
-use Rattle.std.proofs.Common.{◌≡◌, ℕ, suc, List, [], ◌∷◌, map, Bool, true, false, cond, Option, Result, Ok, Err, refl, sym, ap, ◌∙◌, subst, eq-eqb}
+use Rattle.std.proofs.Common.{◌≡◌, ℕ, suc, List, [], ◌∷◌, map, Bool, cond, Result, Ok, Err, refl, sym, ap, ◌∙◌, subst, eq-eqb}
 use Rattle.scheme_model.specs.Identifiers.{Number, Name}
-use Rattle.scheme_model.specs.Ident.{Ident, erase, same_ident}
-use Rattle.scheme_model.specs.Trees.{Tree, Trees, map_trees}
+use Rattle.scheme_model.specs.Ident.{Ident, erase}
+use Rattle.scheme_model.specs.Trees.{Trees, map_trees}
 use Rattle.scheme_model.specs.ExpansionFaults.{Named, named_map, Fault}
 use Rattle.scheme_model.specs.Requirements.{Known}
 use Rattle.scheme_model.specs.Shapes.{Clause}
-use Rattle.scheme_model.specs.Cores.{LocalNumber, Binder, Binders, Core, Lambda, CaseLambda, Clauses, no_clauses, clause}
-use Rattle.scheme_model.specs.Steps.{Broken, Step, ◌>>=◌, done}
+use Rattle.scheme_model.specs.Cores.{LocalNumber, Lambda, no_clauses, clause}
+use Rattle.scheme_model.specs.Steps.{Broken, Step}
 use Rattle.scheme_model.specs.Order.{Here, given}
-use Rattle.scheme_model.specs.Expression.{Task, whole, body, bound, procedure, lambda, clauses, numbers, node}
+use Rattle.scheme_model.specs.Expression.{body, bound, procedure, lambda, clauses, numbers}
 use Rattle.scheme_model.specs.Substitution.{State, Clock, at_form, clause_map, shallow, model}
-use Rattle.scheme_model.specs.ScopedExpansion.{Frame, Bind, Frames, ScopedState, next_number, scoped}
+use Rattle.scheme_model.specs.ScopedExpansion.{Bind, Frames, ScopedState, next_number, scoped}
 use Rattle.scheme_model.specs.FrameImages.{bound_as}
 use Rattle.scheme_model.specs.OpenBodies.{Before, Below, Leq}
 use Rattle.scheme_model.proofs.ScopeLaws.{map_map_all, map_same_all}
-use Rattle.scheme_model.proofs.IdentKinds.{Kind, trees_kind, clause_kind, clauses_kind}
+use Rattle.scheme_model.proofs.IdentKinds.{trees_kind, clause_kind, clauses_kind}
 use Rattle.scheme_model.proofs.Clocks.{leq_counted, before_more}
 use Rattle.scheme_model.proofs.Distinct.{Differ, Distinct, AllDistinct, ok_same, not_ok}
 use Rattle.scheme_model.proofs.FrameNames.{erase_frame_image}
@@ -23,7 +23,7 @@ use Rattle.scheme_model.proofs.FrameTimes.{below_more}
 use Rattle.scheme_model.proofs.FrameAsks.{AllOf, all_of_more}
 use Rattle.scheme_model.proofs.FrameStates.{names, view, Old, ident_of, Made, made_later, made_same, FineState, Grows, grows_itself, grows_then, Stands, stands_later, names_later, locals_fine, locals_grow, next_old}
 use Rattle.scheme_model.proofs.FrameGrowth.{bound_state, bind_names, bind_stands}
-use Rattle.scheme_model.proofs.FrameLeaves.{TreesAll, all_made_trees}
+use Rattle.scheme_model.proofs.FrameLeaves.{all_made_trees}
 use Rattle.scheme_model.proofs.FrameAgrees.{Agrees, agree, break, agrees_at, agrees_more, Keeps, keeps_bind, Same, same_done}
 use Rattle.scheme_model.proofs.FrameHeads.{node_law}
 use Rattle.scheme_model.proofs.FrameExpressions.{Scoped, Modelled, BodyLaw, trees_old}
@@ -79,10 +79,10 @@ module _ (w : ℕ) (known : Known) where
       let others = other_names s fs x xs d.0 in
       keeps_bind w s _
       (agrees_more {K = Keeps w s1} {L = Keeps w s} (λ t i1 n1 k. (k.0, grows_then w s s1 t (bound_keeps s) k.1)) (λ t a b q. q)
-          (agrees_at refl (λ j. bound (model known) go' (others j) tt (trees j) (view i n s1))
-              (bound_law go go' ts xs (Bind x.name v ∷ fs) s1 (locals_fine w s (at_form s.form suc s.locals) (leq_counted s.form s.locals) f) i n (bind_stands w s f fs x.name h l.0) d.1 l.1 (region v s1))))
+      (agrees_at refl (λ j. bound (model known) go' (others j) tt (trees j) (view i n s1))
+      (bound_law go go' ts xs (Bind x.name v ∷ fs) s1 (locals_fine w s (at_form s.form suc s.locals) (leq_counted s.form s.locals) f) i n (bind_stands w s f fs x.name h l.0) d.1 l.1 (region v s1))))
       (λ a b t i1 n1 k e. same_done w t i1 n1 (record { bound = LocalNumber v; ident = x.name; occ = x.occ } ∷ a.0, a.1) (record { bound = LocalNumber v; ident = erase (names s fs x.name); occ = x.occ } ∷ b.0, b.1) k.0
-          (let p = sym (erase_frame_image s.places s.definitions fs x.name) in λ j. (record { bound = LocalNumber v; ident = p j; occ = x.occ } ∷ (e j).0, (e j).1)))
+      (let p = sym (erase_frame_image s.places s.definitions fs x.name) in λ j. (record { bound = LocalNumber v; ident = p j; occ = x.occ } ∷ (e j).0, (e j).1)))
     where
       region : (v : Number) (s1 : ScopedState) → InRegion xs (bound_state w s) ts go go'
       region v s1 c t ft g st counted i1 n1 =
@@ -97,7 +97,7 @@ module _ (w : ℕ) (known : Known) where
     procedure_law depth here fs c s f i n h m d =
         keeps_bind w s _
         (bound_law (λ e ts. F depth here e (body ts)) (λ e ts. G depth here e (body ts)) c.body c.formals.names fs s f i n h d old
-            (λ fs1 t ft g st counted i1 n1. law depth here fs1 c.body t ft i1 n1 st (trees_old w known s t g c.body (all_made_trees w s.uses c.body forms))))
+        (λ fs1 t ft g st counted i1 n1. law depth here fs1 c.body t ft i1 n1 st (trees_old w known s t g c.body (all_made_trees w s.uses c.body forms))))
         (λ a b t i1 n1 k e. same_done w t i1 n1 (record { names = a.0; rest = c.formals.rest }, a.1) (record { names = b.0; rest = c.formals.rest }, b.1) k.0 (λ j. (record { names = (e j).0; rest = c.formals.rest }, (e j).1)))
       where
         forms : Made trees_kind w s.uses c.body
@@ -126,7 +126,7 @@ module _ (w : ℕ) (known : Known) where
     clauses_law depth here fs (c ∷ cs) s f i n h m d =
         keeps_bind w s _ (procedure_law depth here fs c s f i n h m.0 d.0) (λ a b t i1 n1 k e.
         keeps_bind w t _ (agrees_at refl (ap (λ ds. clauses G (model known) depth here tt ds (view i1 n1 t)) (clauses_still s t f k.1 fs h cs m.1))
-            (clauses_law depth here fs cs t k.0 i1 n1 (stands_later w s t k.1 fs h) (all_of_more (Made clause_kind w s.uses) (Made clause_kind w t.uses) (λ x q. made_later clause_kind w s.uses t.uses k.1.uses x q) cs m.1) d.1)) (λ ps bs v i2 n2 k2 e2.
+        (clauses_law depth here fs cs t k.0 i1 n1 (stands_later w s t k.1 fs h) (all_of_more (Made clause_kind w s.uses) (Made clause_kind w t.uses) (λ x q. made_later clause_kind w s.uses t.uses k.1.uses x q) cs m.1) d.1)) (λ ps bs v i2 n2 k2 e2.
         same_done w v i2 n2 (clause a.0 a.1 ps) (clause b.0 b.1 bs) k2.0 (λ j. clause (e j).0 (e j).1 (e2 j))))
 
   -- clauses that were made by then, one by one

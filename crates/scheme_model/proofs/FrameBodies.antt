@@ -1,17 +1,14 @@
 -- The law of one definition: to substitute its name deeply is to find it in the scope. A body, its frames, and what can stand in it.
-use Rattle.std.proofs.Common.{◌≡◌, ℕ, ◌⊎◌, inl, inr, List, [], ◌∷◌, Bool, true, false, cond, eqb, Option, Some, None, refl, sym, ap, ◌∙◌, subst, eq-eqb}
-use Rattle.std.specs.Prelude.{◌&&◌}
+use Rattle.std.proofs.Common.{◌≡◌, inl, inr, List, [], ◌∷◌, Bool, true, false, cond, Option, Some, None, refl, sym, ap, ◌∙◌, subst}
 use Rattle.std.proofs.lemmas.Bool.{false_from_ne_true}
 use Rattle.scheme_model.specs.Identifiers.{Number, same_number, Name, Written as WrittenName, Inserted as InsertedName, Inner, Var, same_name}
 use Rattle.scheme_model.specs.Ident.{Ident, Written, Inserted, same_ident}
 use Rattle.scheme_model.specs.Substitution.{Clock, deep}
-use Rattle.scheme_model.specs.ScopedExpansion.{Frame, Bind, Enter, Frames, BodyDefinition, BodyDefinitions, UsePlace, around, find}
+use Rattle.scheme_model.specs.ScopedExpansion.{Bind, Enter, Frames, BodyDefinitions, UsePlace, around, find}
 use Rattle.scheme_model.specs.FrameImages.{is_before, is_older, bound_as, entered_as, before_definition, image_inside, image_outside, frame_image}
-use Rattle.scheme_model.proofs.IdentLaws.{number_told, number_itself, ident_told, name_told, name_itself}
+use Rattle.scheme_model.proofs.IdentLaws.{number_told, number_itself, name_told, name_itself}
 use Rattle.scheme_model.specs.OpenBodies.{Before, NotYet, Entered, Below, PlacesIn, DefinitionsBelow, FramesOk, Other, Sits}
-use Rattle.scheme_model.proofs.Clocks.{apart}
-use Rattle.scheme_model.proofs.FrameNames.{same_frame_image}
-use Rattle.scheme_model.proofs.FrameTimes.{entered_more, SameFind, image_definitions, frames_entered, inside_new}
+use Rattle.scheme_model.proofs.FrameTimes.{entered_more, frames_entered, inside_new}
 
 pub deep_itself : (x : Name) (v : Number) → deep x v x ≡ Var v x
 deep_itself (WrittenName u s) v = ap (λ t. cond t (Var v (WrittenName u s)) (WrittenName u s)) (name_itself (WrittenName u s))

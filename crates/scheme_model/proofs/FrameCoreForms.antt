@@ -1,27 +1,25 @@
 -- The law of an expression, whatever its form, over expanders that hold it of parts.
-use Rattle.std.proofs.Common.{◌≡◌, ℕ, List, [], ◌∷◌, map, Bool, Option, Some, None, Result, Ok, Err, refl, sym, ap, ◌∙◌, subst}
+use Rattle.std.proofs.Common.{◌≡◌, ℕ, List, Bool, Option, Some, None, refl, ap, subst}
 use Rattle.scheme_model.specs.declared.Occ.{Occ}
 use Rattle.scheme_model.specs.Identifiers.{Number, Name}
 use Rattle.scheme_model.specs.Ident.{Ident, erase, same_ident}
 use Rattle.scheme_model.specs.Keywords.{CoreKeyword, IsQuote, IsQuasiquote, IsLambda, IsCaseLambda, IsIf, IsSet, IsBegin, IsDefine, IsDefineValues, IsDefineRecordType, IsDefineSyntax, IsLetSyntax, IsLetrecSyntax, IsCondExpand, IsSyntaxError, IsInclude}
-use Rattle.scheme_model.specs.Trees.{Tree, name, atom, list, vector, Trees, no_trees, tree, Tail, proper, dotted, map_tree, map_trees, map_tail}
-use Rattle.scheme_model.specs.ExpansionFaults.{Named, named, named_map, BadForm, BadPlace, SyntaxError, IncludeRefused}
-use Rattle.scheme_model.specs.Meaning.{Meaning, Head, IsCore, IsAuxiliary, IsMacro, IsNone}
+use Rattle.scheme_model.specs.Trees.{Tree, name, atom, list, vector, Trees, no_trees, tree, Tail, map_tree, map_trees, map_tail}
+use Rattle.scheme_model.specs.ExpansionFaults.{named, BadForm, BadPlace, SyntaxError, IncludeRefused}
+use Rattle.scheme_model.specs.Meaning.{Head, IsCore, IsAuxiliary, IsMacro, IsNone}
 use Rattle.scheme_model.specs.Requirements.{Known}
-use Rattle.scheme_model.specs.Shapes.{Clause, DefinitionShape, LocalMacros, lambda_of, case_lambda_of, local_macros_of}
+use Rattle.scheme_model.specs.Shapes.{Clause, LocalMacros, lambda_of, case_lambda_of, local_macros_of}
 use Rattle.scheme_model.specs.RulesShape.{option_map}
 use Rattle.scheme_model.specs.Cores.{Target, Core, Const, CaseLambda, If}
-use Rattle.scheme_model.specs.Steps.{Broken, Step, ◌>>=◌, done, fails}
-use Rattle.scheme_model.specs.Order.{Here, Transformer, target_of, head_of, given, use_of}
-use Rattle.scheme_model.specs.Expression.{Task, whole, body, Expander, node, each, clauses, lambda, quasi, quote, set, sequence, call, misplaced, chosen_sequence, let_syntax, letrec_syntax, core_form, macro_use, by_head, expression}
-use Rattle.scheme_model.specs.Substitution.{State, Clock, clause_map, model}
+use Rattle.scheme_model.specs.Steps.{◌>>=◌, done, fails}
+use Rattle.scheme_model.specs.Order.{Here, Transformer, target_of, head_of, given}
+use Rattle.scheme_model.specs.Expression.{whole, node, each, clauses, lambda, quasi, quote, set, sequence, misplaced, chosen_sequence, let_syntax, letrec_syntax, core_form, macro_use, by_head, expression}
+use Rattle.scheme_model.specs.Substitution.{Clock, model}
 use Rattle.scheme_model.specs.ScopedExpansion.{Frames, ScopedState, macro_at, scoped}
-use Rattle.scheme_model.specs.Renaming.{local_macros_map, pieces_map}
 use Rattle.scheme_model.specs.OpenBodies.{Below}
 use Rattle.scheme_model.proofs.IdentKinds.{Kind, tree_kind, trees_kind, clause_kind, clauses_kind, definition_kind, local_macros_kind}
 use Rattle.scheme_model.proofs.Distinct.{Distinct, AllDistinct, lambda_distinct, case_lambda_distinct, local_macros_distinct}
-use Rattle.scheme_model.proofs.FrameTimes.{below_more}
-use Rattle.scheme_model.proofs.FrameStates.{names, view, Old, ident_of, Made, FineState, Grows, Stands, stands_later}
+use Rattle.scheme_model.proofs.FrameStates.{names, view, Old, ident_of, Made, FineState, Stands, stands_later}
 use Rattle.scheme_model.proofs.FrameLeaves.{TreeAll, TreesAll, TailAll, all_made_tree, all_made_trees}
 use Rattle.scheme_model.proofs.FrameAgrees.{Agrees, agrees_at, Keeps, keeps_bind, Same, same_done, same_fails, Seen}
 use Rattle.scheme_model.proofs.FrameHeads.{seen_transformer, transformer_seen, IfMacro, TransformerFine, macro_found, head_seen, target_seen, node_law}
@@ -30,7 +28,7 @@ use Rattle.scheme_model.proofs.FrameReaders.{identifiers, model_names, rest_kind
 use Rattle.scheme_model.proofs.FrameExpressions.{Scoped, Modelled, WholeLaw, BodyLaw, sequence_law, call_law, conditional_law, set_law, quote_law, reference_law}
 use Rattle.scheme_model.proofs.FrameBinders.{knows, lambda_law, clauses_law, each_made}
 use Rattle.scheme_model.proofs.FrameMacros.{let_syntax_law, letrec_syntax_law}
-use Rattle.scheme_model.proofs.FrameQuasi.{pieces_kind, quasi_law, quasi_read}
+use Rattle.scheme_model.proofs.FrameQuasi.{quasi_law, quasi_read}
 
 module _ (w : ℕ) (known : Known) (F : Scoped w known) (G : Modelled w known) (law : WholeLaw w known F G) (body_law : BodyLaw w known F G) (depth : ℕ) (here : Here) (fs : Frames) where
   -- where a form stands, and what stands behind its keyword

@@ -1,18 +1,17 @@
 -- The law of expressions that hold no binder: references, constants, quotations, calls, assignments, sequences.
-use Rattle.std.proofs.Common.{◌≡◌, ℕ, ◌+◌, List, [], ◌∷◌, map, Bool, Option, Some, None, Result, Ok, Err, refl, sym, ap, ◌∙◌}
-use Rattle.scheme_model.specs.declared.Occ.{Occ}
+use Rattle.std.proofs.Common.{◌≡◌, ℕ, ◌+◌, List, Bool, refl, sym, ap, ◌∙◌}
 use Rattle.scheme_model.specs.Identifiers.{Number, Name, strip}
 use Rattle.scheme_model.specs.Ident.{Ident, erase, symbol_of}
-use Rattle.scheme_model.specs.Trees.{Tree, name, atom, list, vector, Trees, no_trees, tree, Tail, proper, dotted, map_tree, map_trees, map_tail}
+use Rattle.scheme_model.specs.Trees.{Tree, Trees, no_trees, tree, Tail, proper, dotted, map_tree, map_trees, map_tail}
 use Rattle.scheme_model.specs.Measures.{tree_size}
 use Rattle.scheme_model.specs.ExpansionFaults.{Named, named, named_map, BadForm, KeywordAsValue}
 use Rattle.scheme_model.specs.Meaning.{Head, IsCore, IsAuxiliary, IsMacro, IsNone}
 use Rattle.scheme_model.specs.Requirements.{Known}
-use Rattle.scheme_model.specs.Cores.{Core, Ref, Quote, Set, Call, Body, If, Cores, no_cores, core, Parts, no_parts, part, Expression as expression_part}
-use Rattle.scheme_model.specs.Steps.{Broken, Step, ◌>>=◌, done, fails}
+use Rattle.scheme_model.specs.Cores.{Ref, Quote, Set, Call, Body, If, no_cores, core, no_parts, part, Expression as expression_part}
+use Rattle.scheme_model.specs.Steps.{Step, ◌>>=◌, done, fails}
 use Rattle.scheme_model.specs.Order.{Here, target_of, head_of}
-use Rattle.scheme_model.specs.Expression.{Task, whole, body, Expander, each, each_of, expressions, sequence, quote, unless_keyword, set, reference, call, node}
-use Rattle.scheme_model.specs.Substitution.{State, Clock, model}
+use Rattle.scheme_model.specs.Expression.{whole, body, Expander, each, expressions, sequence, quote, unless_keyword, set, reference, call, node}
+use Rattle.scheme_model.specs.Substitution.{State, model}
 use Rattle.scheme_model.specs.ScopedExpansion.{Frames, ScopedState, scoped}
 use Rattle.scheme_model.specs.OpenBodies.{Below}
 use Rattle.scheme_model.proofs.RenamingLaws.{size-map}
@@ -20,7 +19,7 @@ use Rattle.scheme_model.proofs.ScopeLaws.{map_map, map_same}
 use Rattle.scheme_model.proofs.FrameNames.{erase_frame_image, strip_frame_image}
 use Rattle.scheme_model.proofs.FrameTimes.{below_more}
 use Rattle.scheme_model.proofs.FrameStates.{names, view, FineState, Grows, Stands, stands_later, names_later}
-use Rattle.scheme_model.proofs.FrameLeaves.{TreeAll, TreesAll, tree_more, trees_more, tree_same, trees_same}
+use Rattle.scheme_model.proofs.FrameLeaves.{TreeAll, TreesAll, trees_more, trees_same}
 use Rattle.scheme_model.proofs.FrameAgrees.{Agrees, agrees_at, Keeps, keeps_bind, Same, same_done, same_fails}
 use Rattle.scheme_model.proofs.FrameHeads.{head_seen, target_seen, node_law}
 
@@ -97,7 +96,7 @@ module _ (w : ℕ) (known : Known) where
 
     pub conditional_law : (depth : ℕ) (here : Here) (fs : Frames) (ts : Trees Ident) (s : ScopedState) → FineState w s → (in_body : Bool) (mine : List Number) → Stands w s fs → TreesAll (Below w s.uses) ts
         → Same w s (node (scoped known) here 1 depth (λ below t. each (λ u. F below here fs (whole u)) ts t >>= λ cs. done (If cs)) s)
-            (node (model known) here 1 depth (λ below t. each (λ u. G below here tt (whole u)) (map_trees (names s fs) ts) t >>= λ cs. done (If cs)) (view in_body mine s))
+        (node (model known) here 1 depth (λ below t. each (λ u. G below here tt (whole u)) (map_trees (names s fs) ts) t >>= λ cs. done (If cs)) (view in_body mine s))
     conditional_law depth here fs ts s f i n h l =
         node_law w known here 1 depth s f i n _ _ (λ below x.
         keeps_bind w (record s { nodes = x }) _ (each_law below here fs ts (record s { nodes = x }) f i n h l) (λ a b t i1 n1 k e. same_done w t i1 n1 (If a) (If b) k.0 (ap If e)))

@@ -1,19 +1,19 @@
 -- A binder, the entry of a body, and a macro use: what they make of images, and that what holds of a state stays.
-use Rattle.std.proofs.Common.{◌≡◌, ℕ, suc, ◌⊎◌, inl, inr, List, [], ◌∷◌, map, Bool, true, false, cond, eqb, Option, Some, None, refl, sym, ap, ◌∙◌, subst}
+use Rattle.std.proofs.Common.{◌≡◌, ℕ, suc, ◌⊎◌, inl, inr, [], ◌∷◌, Bool, true, false, cond, Some, None, refl, sym, ap, ◌∙◌, subst}
 use Rattle.std.specs.Prelude.{◌&&◌}
 use Rattle.std.proofs.lemmas.Bool.{false_from_ne_true}
-use Rattle.scheme_model.specs.Identifiers.{Number, same_number, Name, Inserted as InsertedName, Inner, Var, same_name}
+use Rattle.scheme_model.specs.Identifiers.{Number, same_number, Name, Inserted as InsertedName, Inner, Var}
 use Rattle.scheme_model.specs.Ident.{Ident, Written, Inserted, same_ident}
 use Rattle.scheme_model.specs.Substitution.{Clock, at_form, is_plain, shallow}
-use Rattle.scheme_model.specs.ScopedExpansion.{Frame, Bind, Enter, Frames, BodyDefinition, BodyDefinitions, UsePlace, ScopedMacro, ScopedState, around, find, next_number}
+use Rattle.scheme_model.specs.ScopedExpansion.{Bind, Enter, Frames, BodyDefinition, BodyDefinitions, ScopedState, around, find, next_number}
 use Rattle.scheme_model.specs.FrameImages.{is_before, is_older, bound_as, entered_as, before_definition, image_inside, image_outside, frame_image}
-use Rattle.scheme_model.specs.OpenBodies.{Before, Below, DefinitionsBelow, Entered, FramesOk, Leq, NotYet}
+use Rattle.scheme_model.specs.OpenBodies.{Before, Below, Entered, Leq, NotYet}
 use Rattle.scheme_model.proofs.IdentLaws.{ident_told, number_told, number_itself, same_turned}
 use Rattle.scheme_model.proofs.Clocks.{leq_itself, leq_counted, before_more, apart}
 use Rattle.scheme_model.proofs.FrameNames.{same_frame_image}
-use Rattle.scheme_model.proofs.FrameTimes.{entered_more, SameFind, below_more, SamePlaces, outside_places, image_places, inside_new}
+use Rattle.scheme_model.proofs.FrameTimes.{entered_more, below_more, SamePlaces, outside_places, image_places, inside_new}
 use Rattle.scheme_model.proofs.FrameAsks.{AllOf, all_of_more, BindersCounted}
-use Rattle.scheme_model.proofs.FrameStates.{names, seen_macro, MacroFine, Fine, FineState, Later, Grows, Stands, binders_more, macro_more, next_new, next_old}
+use Rattle.scheme_model.proofs.FrameStates.{names, FineState, Grows, Stands, binders_more, macro_more, next_new, next_old}
 
 module _ (w : ℕ) where
   -- ---- a binder
@@ -55,16 +55,19 @@ module _ (w : ℕ) where
   bodies_more n m le ds h = all_of_more (λ (d : BodyDefinition). Before w n d.body) (λ (d : BodyDefinition). Before w m d.body) (λ d e. before_more w n m le d.body e) ds h
 
   pub enter_fine : (s : ScopedState) → FineState w s → FineState w (entered_state s)
-  enter_fine s f = (f.0, record {
-    definitions = λ b i l. go b i (is_before w s.bodies b) refl;
-    bodies = bodies_more s.bodies (at_form s.form suc s.bodies) (leq_counted s.form s.bodies) s.definitions f.1.bodies;
-    entered = λ k. entered_more (Before w s.bodies) (Before w (at_form s.form suc s.bodies)) (before_more w s.bodies (at_form s.form suc s.bodies) (leq_counted s.form s.bodies)) (around s.places k) (f.1.entered k);
-    macros = macro_more w s.locals s.uses s.bodies s.locals s.uses (at_form s.form suc s.bodies) (leq_itself s.locals) (leq_itself s.uses) (leq_counted s.form s.bodies) s.macros f.1.macros;
-    outside = f.1.outside;
-    binders = f.1.binders;
-    places = f.1.places;
-    entries = f.1.entries;
-  })
+  enter_fine s f = (
+    f.0,
+    record {
+      definitions = λ b i l. go b i (is_before w s.bodies b) refl;
+      bodies = bodies_more s.bodies (at_form s.form suc s.bodies) (leq_counted s.form s.bodies) s.definitions f.1.bodies;
+      entered = λ k. entered_more (Before w s.bodies) (Before w (at_form s.form suc s.bodies)) (before_more w s.bodies (at_form s.form suc s.bodies) (leq_counted s.form s.bodies)) (around s.places k) (f.1.entered k);
+      macros = macro_more w s.locals s.uses s.bodies s.locals s.uses (at_form s.form suc s.bodies) (leq_itself s.locals) (leq_itself s.uses) (leq_counted s.form s.bodies) s.macros f.1.macros;
+      outside = f.1.outside;
+      binders = f.1.binders;
+      places = f.1.places;
+      entries = f.1.entries;
+    },
+  )
     where
       go : (b : Number) (i : Ident) (t : Bool) → is_before w s.bodies b ≡ t → (find s.definitions b i ≡ None) ⊎ Below w s.uses i
       go b i true e = f.1.definitions b i e
@@ -93,16 +96,19 @@ module _ (w : ℕ) where
   use_grows s f ms = record { uses = leq_counted s.form s.uses; bodies = leq_itself s.bodies; locals = leq_itself s.locals; places = around_old s f ms; definitions = λ b i h. refl }
 
   pub use_fine : (s : ScopedState) → FineState w s → (ms : Frames) → Entered (Before w s.bodies) ms → BindersCounted w s.locals ms → FineState w (used_state ms s)
-  use_fine s f ms e c = (f.0, record {
-    definitions = λ b i l. below_later i (f.1.definitions b i l);
-    bodies = f.1.bodies;
-    entered = λ k. at_use k (Entered (Before w s.bodies)) e (f.1.entered k);
-    macros = macro_more w s.locals s.uses s.bodies s.locals (at_form s.form suc s.uses) s.bodies (leq_itself s.locals) (leq_counted s.form s.uses) (leq_itself s.bodies) s.macros f.1.macros;
-    outside = λ v i h. let q = f.1.outside v i h in (below_more w s.uses (at_form s.form suc s.uses) (leq_counted s.form s.uses) i q.0, plain_later i q.0 q.1);
-    binders = f.1.binders;
-    places = λ k. at_use k (BindersCounted w s.locals) c (f.1.places k);
-    entries = f.1.entries;
-  })
+  use_fine s f ms e c = (
+    f.0,
+    record {
+      definitions = λ b i l. below_later i (f.1.definitions b i l);
+      bodies = f.1.bodies;
+      entered = λ k. at_use k (Entered (Before w s.bodies)) e (f.1.entered k);
+      macros = macro_more w s.locals s.uses s.bodies s.locals (at_form s.form suc s.uses) s.bodies (leq_itself s.locals) (leq_counted s.form s.uses) (leq_itself s.bodies) s.macros f.1.macros;
+      outside = λ v i h. let q = f.1.outside v i h in (below_more w s.uses (at_form s.form suc s.uses) (leq_counted s.form s.uses) i q.0, plain_later i q.0 q.1);
+      binders = f.1.binders;
+      places = λ k. at_use k (BindersCounted w s.locals) c (f.1.places k);
+      entries = f.1.entries;
+    },
+  )
     where
       below_later : {X : Type 0} (i : Ident) → X ⊎ Below w s.uses i → X ⊎ Below w (at_form s.form suc s.uses) i
       below_later i (inl x) = inl x

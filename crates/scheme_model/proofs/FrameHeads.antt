@@ -1,5 +1,5 @@
 -- Heads, targets, places, macros and nodes: what both sides tell of them.
-use Rattle.std.proofs.Common.{◌≡◌, ℕ, zero, suc, ◌+◌, List, [], ◌∷◌, map, Bool, true, false, cond, Option, Some, None, Result, Ok, Err, refl, sym, ap, ◌∙◌, subst}
+use Rattle.std.proofs.Common.{◌≡◌, ℕ, zero, suc, ◌+◌, List, [], ◌∷◌, map, Bool, true, false, cond, Option, Some, None, Result, refl, ap, ◌∙◌}
 use Rattle.std.specs.Prelude.{nat_le}
 use Rattle.scheme_model.specs.declared.Occ.{Occ}
 use Rattle.scheme_model.specs.Identifiers.{Number, Name}
@@ -8,19 +8,19 @@ use Rattle.scheme_model.specs.Trees.{Tree, name, atom, list, vector, map_tree}
 use Rattle.scheme_model.specs.ExpansionFaults.{NodeBudget, DepthBudget}
 use Rattle.scheme_model.specs.Meaning.{Meaning, head_as, same_meaning}
 use Rattle.scheme_model.specs.Requirements.{Known}
-use Rattle.scheme_model.specs.RulesShape.{Rules, rules_map, option_map}
+use Rattle.scheme_model.specs.RulesShape.{rules_map, option_map}
 use Rattle.scheme_model.specs.Steps.{Broken, Step, ◌>>=◌, done, fails}
-use Rattle.scheme_model.specs.Order.{Here, Ops, Transformer, is_some, target_of, head_of, read_name, here_at, counting, max_nodes}
+use Rattle.scheme_model.specs.Order.{Here, Transformer, is_some, target_of, head_of, read_name, here_at, counting, max_nodes}
 use Rattle.scheme_model.specs.Expression.{node}
-use Rattle.scheme_model.specs.Substitution.{State, KeptMacro, Clock, at_form, rules_at, transformer_of, model}
+use Rattle.scheme_model.specs.Substitution.{State, Clock, at_form, rules_at, transformer_of, model}
 use Rattle.scheme_model.specs.ScopedExpansion.{Frames, BodyDefinitions, UsePlace, ScopedMacro, ScopedState, macro_at, scoped}
 use Rattle.scheme_model.specs.FrameImages.{frame_image}
 use Rattle.scheme_model.specs.OpenBodies.{Before, Entered}
 use Rattle.scheme_model.proofs.IdentKinds.{rules_kind}
 use Rattle.scheme_model.proofs.FrameNames.{erase_frame_image}
 use Rattle.scheme_model.proofs.FrameAsks.{AllOf, BindersCounted}
-use Rattle.scheme_model.proofs.FrameStates.{names, seen_macro, view, Made, MacroFine, FineState, grows_itself, names_mean}
-use Rattle.scheme_model.proofs.FrameAgrees.{Agrees, agree, break, agrees_bind, Keeps, keeps_itself, same_fails}
+use Rattle.scheme_model.proofs.FrameStates.{names, seen_macro, view, Made, MacroFine, FineState, names_mean}
+use Rattle.scheme_model.proofs.FrameAgrees.{Agrees, Keeps, same_fails}
 
 -- ---- macros
 
@@ -68,7 +68,7 @@ module _ (w : ℕ) where
     pub head_seen : (i : Ident) → head_of (model known) tt (view in_body mine s) (names s fs i) ≡ head_of (scoped known) fs s i
     head_seen i =
         let macros : (m : Meaning) → is_some (transformer_of (rules_at (map (seen_macro s.places s.definitions) s.macros) m)) ≡ is_some (macro_at s.macros m) =
-              (λ m. ap is_some (transformer_seen s.places s.definitions s.macros m) ∙ some_mapped (seen_transformer s.places s.definitions) (macro_at s.macros m)) in
+        (λ m. ap is_some (transformer_seen s.places s.definitions s.macros m) ∙ some_mapped (seen_transformer s.places s.definitions) (macro_at s.macros m)) in
         let mean = names_mean w s f fs i in
         λ j. head_as (λ m. macros m j) (mean j)
 

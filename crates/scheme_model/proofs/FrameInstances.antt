@@ -1,33 +1,33 @@
 -- The law of one macro use: both sides choose the same rule, and build what is the same instance.
-use Rattle.std.proofs.Common.{◌≡◌, ℕ, suc, ◌+◌, ◌-◌, List, [], ◌∷◌, map, Bool, true, false, cond, Option, Some, None, Result, Ok, Err, refl, sym, ap, ◌∙◌, subst}
+use Rattle.std.proofs.Common.{◌≡◌, ℕ, ◌+◌, ◌-◌, List, ◌∷◌, map, Bool, true, false, cond, Option, Some, None, Ok, refl, sym, ap, ◌∙◌, subst}
 use Rattle.std.specs.Prelude.{nat_lt}
 use Rattle.scheme_model.specs.Identifiers.{Number, Name, Inserted as InsertedName, same_name, strip}
-use Rattle.scheme_model.specs.Ident.{Ident, Inserted, erase, same_ident, symbol_of}
+use Rattle.scheme_model.specs.Ident.{Ident, Inserted, same_ident, symbol_of}
 use Rattle.scheme_model.specs.Trees.{Tree, Trees, Tail, map_tree, map_trees, map_tail}
-use Rattle.scheme_model.specs.ExpansionFaults.{Named, named, named_map, Fault, NoRule, UseBudget}
-use Rattle.scheme_model.specs.Meaning.{Meaning, same_meaning}
+use Rattle.scheme_model.specs.ExpansionFaults.{Named, named, named_map, NoRule, UseBudget}
+use Rattle.scheme_model.specs.Meaning.{same_meaning}
 use Rattle.scheme_model.specs.Requirements.{Known}
-use Rattle.scheme_model.specs.RulesShape.{Rule, Rules, rule_map, rules_map, option_map, Names}
-use Rattle.scheme_model.specs.Matching.{Binding, Match, Chosen, Matcher, matcher, first_match}
+use Rattle.scheme_model.specs.RulesShape.{Rules, rules_map, Names}
+use Rattle.scheme_model.specs.Matching.{Binding, Chosen, matcher, first_match}
 use Rattle.scheme_model.specs.Building.{Built, build}
 use Rattle.scheme_model.specs.Cores.{Target, MacroUse}
-use Rattle.scheme_model.specs.Steps.{Broken, Step, ◌>>=◌, done, fails}
-use Rattle.scheme_model.specs.Order.{Here, Ops, Transformer, target_of, given, used, use_of, max_uses, max_nodes}
-use Rattle.scheme_model.specs.Substitution.{State, Clock, at_form, meaning, model}
+use Rattle.scheme_model.specs.Steps.{fails}
+use Rattle.scheme_model.specs.Order.{Here, Transformer, target_of, used, use_of, max_uses, max_nodes}
+use Rattle.scheme_model.specs.Substitution.{at_form, meaning, model}
 use Rattle.scheme_model.specs.ScopedExpansion.{Frames, ScopedState, next_number, means_at, scoped}
-use Rattle.scheme_model.specs.Renaming.{Renames, value_map, values_map, binding_map, match_map, chosen_map, built_map}
+use Rattle.scheme_model.specs.Renaming.{Renames, value_map, values_map, binding_map, chosen_map, built_map}
 use Rattle.scheme_model.specs.Matching.{Value, One, Many, Values, no_values, value}
 use Rattle.scheme_model.specs.OpenBodies.{Below}
 use Rattle.scheme_model.proofs.RenamingLaws.{Reads, Finds, finds, map_after, map_turned}
 use Rattle.scheme_model.proofs.RulesLaws.{role_of-map, dots_of-map}
 use Rattle.scheme_model.proofs.MatchLaws.{first_match-map}
 use Rattle.scheme_model.proofs.BuildLaws.{build-map}
-use Rattle.scheme_model.proofs.ScopeLaws.{map_map, map_map_all, map_map_tail}
+use Rattle.scheme_model.proofs.ScopeLaws.{map_map}
 use Rattle.scheme_model.proofs.IdentKinds.{Kind, mapped_same, tree_kind, trees_kind, tail_kind, rules_kind}
 use Rattle.scheme_model.proofs.Clocks.{leq_counted}
 use Rattle.scheme_model.proofs.FrameNames.{same_frame_image, strip_frame_image}
 use Rattle.scheme_model.proofs.FrameTimes.{below_more}
-use Rattle.scheme_model.proofs.FrameStates.{names, view, Old, ident_of, Made, FineState, Grows, grows_itself, grows_then, Stands, stands_later, names_mean, names_far, names_later, macros_later}
+use Rattle.scheme_model.proofs.FrameStates.{names, view, Old, ident_of, FineState, Grows, grows_itself, grows_then, Stands, names_mean, names_far, names_later, macros_later}
 use Rattle.scheme_model.proofs.FrameGrowth.{used_state, use_grows, use_fine, inserted_below, use_names}
 use Rattle.scheme_model.proofs.FrameLeaves.{TreesAll, TailAll, lift_trees, lift_tail, lifted_trees, lifted_tail}
 use Rattle.scheme_model.proofs.FrameAgrees.{Agrees, agree, agrees_at, agrees_more, Keeps, keeps_bind, same_fails, Seen, read_over}
@@ -154,7 +154,7 @@ module _ (w : ℕ) (known : Known) (s : ScopedState) (f : FineState w s) (in_bod
       let r = fine.rules.same in let t = lifted_trees (Below w s.uses) ts made in let e = lifted_tail (Below w s.uses) tail made_end in
       subst (Finds (chosen_map in_rules in_form) chosen_over) (λ j. first_match (matcher identifiers (r j) scoped_means) (r j).rules (t j) (e j))
       (first_match-map A B Ident Ident in_rules in_form (matcher told rules means_same) (matcher identifiers (rules_map in_rules rules) scoped_means)
-          (record { role = role_of-map A Ident in_rules told identifiers rules_told rules; dots = dots_of-map A Ident in_rules told identifiers rules_told rules; means = λ p q. refl }) rules.rules form end)
+      (record { role = role_of-map A Ident in_rules told identifiers rules_told rules; dots = dots_of-map A Ident in_rules told identifiers rules_told rules; means = λ p q. refl }) rules.rules form end)
 
   means_told : (p : A) (q : B) → model_means (rule_name p) (form_name q) ≡ means_same p q
   means_told p q =
@@ -167,7 +167,7 @@ module _ (w : ℕ) (known : Known) (s : ScopedState) (f : FineState w s) (in_bod
       let r = rules_same in let t = form_trees in let e = form_tail in
       subst (Finds (chosen_map rule_name form_name) chosen_over) (λ j. first_match (matcher model_names (r j) model_means) (r j).rules (t j) (e j))
       (first_match-map A B Name Name rule_name form_name (matcher told rules means_same) (matcher model_names (rules_map rule_name rules) model_means)
-          (record { role = role_of-map A Name rule_name told model_names names_told rules; dots = dots_of-map A Name rule_name told model_names names_told rules; means = means_told }) rules.rules form end)
+      (record { role = role_of-map A Name rule_name told model_names names_told rules; dots = dots_of-map A Name rule_name told model_names names_told rules; means = means_told }) rules.rules form end)
 
   -- ---- the instance
 
@@ -227,14 +227,14 @@ module _ (w : ℕ) (known : Known) (s : ScopedState) (f : FineState w s) (in_bod
       met_same =
           ap (λ (ls : List Target). record { keyword = keyword; literals = ls })
           (map_turned (λ (n : Named Name). target_of (model known) tt (view in_body mine then_) n.name n.occ) (named_map form_name) (λ (n : Named Ident). target_of (scoped known) fs then_ n.name n.occ) (named_map in_form)
-              (λ n. target_seen w known then_ fine_then in_body mine fs n.name.0 n.occ) c.match.met)
+          (λ n. target_seen w known then_ fine_then in_body mine fs n.name.0 n.occ) c.match.met)
 
       instance_law : Agrees (Keeps w then_) (Seen w tree_kind fs) (used (scoped known) here fs keyword m number (Some (chosen_map in_rules in_form c)) then_) (used (model known) here tt keyword (seen_transformer s.places s.definitions m) number (Some (chosen_map rule_name form_name c)) (view in_body mine then_))
       instance_law =
           keeps_bind w then_ _ (read_over w built_kind here fs then_ fine_then in_body mine (build told rules inserted c.rule.template bindings left) _ _ scoped_built model_built) (λ a b t i n k q.
           agree a.value b.value (record t { met = at_form t.form (λ us. scoped_met ∷ us) t.met; nodes = at_form t.form (λ x. x + a.count) t.nodes }) i n refl
           (let e = met_same in let z : b.count ≡ a.count = ap (λ x. x.count) q.1 in
-           λ j. (Ok b.value, view i n (record t { met = at_form t.form (λ us. e j ∷ us) t.met; nodes = at_form t.form (λ x. x + z j) t.nodes })))
+          λ j. (Ok b.value, view i n (record t { met = at_form t.form (λ us. e j ∷ us) t.met; nodes = at_form t.form (λ x. x + z j) t.nodes })))
           (k.0, grows_itself w t) (record { clock = q.0.clock; earlier = q.0.earlier; made = q.0.made.value; same = ap (λ x. x.value) q.0.same }, ap (λ x. x.value) q.1))
 
     by_choice : (o : Option (Chosen A B)) (oc : Option (Chosen Ident Ident)) (om : Option (Chosen Name Name)) → Finds (chosen_map in_rules in_form) o oc → Finds (chosen_map rule_name form_name) o om

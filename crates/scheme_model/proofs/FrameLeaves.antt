@@ -1,14 +1,13 @@
 -- Trees each of whose identifiers was made by then, part by part.
-use Rattle.std.proofs.Common.{◌≡◌, ℕ, List, [], ◌∷◌, map, Option, Some, None, refl, sym, ap, ◌∙◌, subst}
-use Rattle.scheme_model.specs.Identifiers.{Name}
+use Rattle.std.proofs.Common.{◌≡◌, ℕ, refl, ap, subst}
 use Rattle.scheme_model.specs.Ident.{Ident}
 use Rattle.scheme_model.specs.Trees.{Tree, name, atom, list, vector, Trees, no_trees, tree, Tail, proper, dotted, map_tree, map_trees, map_tail}
 use Rattle.scheme_model.specs.Substitution.{Clock}
-use Rattle.scheme_model.specs.OpenBodies.{Below, Leq}
-use Rattle.scheme_model.proofs.IdentKinds.{Kind, tree_kind, trees_kind, tail_kind}
+use Rattle.scheme_model.specs.OpenBodies.{Below}
+use Rattle.scheme_model.proofs.IdentKinds.{tree_kind, trees_kind}
 use Rattle.scheme_model.proofs.Clocks.{leq_itself}
 use Rattle.scheme_model.proofs.FrameTimes.{below_more}
-use Rattle.scheme_model.proofs.FrameStates.{Old, ident_of, Made, made_same}
+use Rattle.scheme_model.proofs.FrameStates.{Made}
 
 -- each identifier of a tree
 abbrev mutual

@@ -1,35 +1,34 @@
 -- The law of local macros: their rules are read, checked and kept alike, and then the body is expanded.
-use Rattle.std.proofs.Common.{◌≡◌, ℕ, suc, List, [], ◌∷◌, map, Bool, true, false, cond, Option, Some, None, Result, Ok, Err, refl, sym, ap, ◌∙◌, subst}
-use Rattle.scheme_model.specs.declared.Occ.{Occ}
-use Rattle.scheme_model.specs.Identifiers.{Number, Name, same_name, strip}
-use Rattle.scheme_model.specs.Ident.{Ident, erase, same_ident, symbol_of}
-use Rattle.scheme_model.specs.Trees.{Tree, name, atom, list, vector, Trees, no_trees, tree, Tail, proper, dotted, map_tree, map_trees, map_tail}
+use Rattle.std.proofs.Common.{◌≡◌, ℕ, suc, List, [], ◌∷◌, map, Bool, true, false, cond, Option, Some, None, refl, sym, ap, ◌∙◌, subst}
+use Rattle.scheme_model.specs.Identifiers.{Number, Name}
+use Rattle.scheme_model.specs.Ident.{Ident, erase}
+use Rattle.scheme_model.specs.Trees.{Tree, name, atom, list, vector, Trees, no_trees, tree, proper, map_tree, map_trees}
 use Rattle.scheme_model.specs.Measures.{tree_size}
 use Rattle.scheme_model.specs.ExpansionFaults.{Named, named_map, BadForm}
-use Rattle.scheme_model.specs.Meaning.{Meaning, Local, Head}
+use Rattle.scheme_model.specs.Meaning.{Local, Head}
 use Rattle.scheme_model.specs.Requirements.{Known}
 use Rattle.scheme_model.specs.Shapes.{LocalMacros}
 use Rattle.scheme_model.specs.RulesShape.{Rules, rules_map, rules_of, option_map}
 use Rattle.scheme_model.specs.Leaves.{Leaf, leaves_of}
-use Rattle.scheme_model.specs.Cores.{Bound, LocalNumber, Binder, MacroDef, RuleLeaf, Core, LetSyntax}
-use Rattle.scheme_model.specs.Steps.{Broken, Step, ◌>>=◌, done, fails}
+use Rattle.scheme_model.specs.Cores.{LocalNumber, Binder, LetSyntax}
+use Rattle.scheme_model.specs.Steps.{◌>>=◌, done, fails}
 use Rattle.scheme_model.specs.Order.{Here, Transformer, target_of, head_of, counting, given, RulesParts, rules_parts_of, is_rules, rules_parts, rules_at}
-use Rattle.scheme_model.specs.Expression.{Task, whole, body, Expander, node, bound, meaning_of, macro_with, macro_def, heads, keep_all, numbers, local_defs, local_macros, recursive, let_syntax, letrec_syntax}
-use Rattle.scheme_model.specs.Substitution.{State, Clock, model}
-use Rattle.scheme_model.specs.ScopedExpansion.{Frames, ScopedMacro, ScopedState, macro_at, next_number, scoped}
+use Rattle.scheme_model.specs.Expression.{body, bound, meaning_of, macro_with, macro_def, heads, keep_all, numbers, local_defs, local_macros, recursive, let_syntax, letrec_syntax}
+use Rattle.scheme_model.specs.Substitution.{Clock, model}
+use Rattle.scheme_model.specs.ScopedExpansion.{Frames, ScopedState, macro_at, next_number, scoped}
 use Rattle.scheme_model.specs.Renaming.{leaf_map, local_macros_map}
 use Rattle.scheme_model.specs.OpenBodies.{Before, Below}
 use Rattle.scheme_model.proofs.RenamingLaws.{map_after, size-map}
 use Rattle.scheme_model.proofs.LeafLaws.{leaves_of-map}
-use Rattle.scheme_model.proofs.IdentKinds.{Kind, pointwise, trees_kind, rules_kind, local_macros_kind, rules_fused}
+use Rattle.scheme_model.proofs.IdentKinds.{pointwise, rules_kind, local_macros_kind, rules_fused}
 use Rattle.scheme_model.proofs.Clocks.{leq_itself, before_more}
 use Rattle.scheme_model.proofs.Distinct.{Distinct}
 use Rattle.scheme_model.proofs.FrameNames.{erase_frame_image}
-use Rattle.scheme_model.proofs.FrameTimes.{below_more, frames_entered}
+use Rattle.scheme_model.proofs.FrameTimes.{frames_entered}
 use Rattle.scheme_model.proofs.FrameAsks.{AllOf, all_of_more}
-use Rattle.scheme_model.proofs.FrameStates.{names, view, Old, ident_of, Made, made_later, made_same, MacroFine, FineState, Grows, grows_itself, grows_then, Stands, stands_later, names_later, macro_fine}
-use Rattle.scheme_model.proofs.FrameLeaves.{TreeAll, TreesAll, TailAll, tree_more, trees_more, lift_trees, lift_tail, lifted_trees, lifted_tail, all_made_trees}
-use Rattle.scheme_model.proofs.FrameAgrees.{Agrees, agree, break, agrees_at, agrees_more, Keeps, keeps_itself, keeps_bind, Same, same_done, same_fails, Seen}
+use Rattle.scheme_model.proofs.FrameStates.{names, view, Made, made_later, made_same, FineState, Grows, grows_then, Stands, stands_later, names_later, macro_fine}
+use Rattle.scheme_model.proofs.FrameLeaves.{TreeAll, TreesAll, lift_trees, lift_tail, lifted_trees, lifted_tail, all_made_trees}
+use Rattle.scheme_model.proofs.FrameAgrees.{Agrees, agree, agrees_at, Keeps, keeps_itself, keeps_bind, Same, same_done, same_fails, Seen}
 use Rattle.scheme_model.proofs.FrameHeads.{seen_transformer, transformer_seen, IfMacro, head_seen, target_seen, node_law, counted_law}
 use Rattle.scheme_model.proofs.FrameUses.{named_in}
 use Rattle.scheme_model.proofs.FrameReaders.{parts_map, parts_kind, rules_reader, identifiers, model_names, read_law}
@@ -48,8 +47,8 @@ module _ (w : ℕ) (known : Known) (s : ScopedState) (f : FineState w s) (in_bod
   macro_with_seen b (Some m) =
       let rs = rules_erased m.env m.rules in
       let ls = ap (map (λ (l : Leaf Name). record { target = target_of (model known) tt (view in_body mine s) l.leaf.name l.leaf.occ; literal = l.literal })) (leaves_of-map Ident Name (names s m.env) identifiers model_names (named_in s m.env) m.rules)
-            ∙ map_after (λ (l : Leaf Name). record { target = target_of (model known) tt (view in_body mine s) l.leaf.name l.leaf.occ; literal = l.literal }) (leaf_map (names s m.env)) (λ (l : Leaf Ident). record { target = target_of (scoped known) m.env s l.leaf.name l.leaf.occ; literal = l.literal })
-                (λ l. ap (λ t. record { target = t; literal = l.literal }) (target_seen w known s f in_body mine m.env l.leaf.name l.leaf.occ)) (leaves_of identifiers m.rules) in
+      ∙ map_after (λ (l : Leaf Name). record { target = target_of (model known) tt (view in_body mine s) l.leaf.name l.leaf.occ; literal = l.literal }) (leaf_map (names s m.env)) (λ (l : Leaf Ident). record { target = target_of (scoped known) m.env s l.leaf.name l.leaf.occ; literal = l.literal })
+      (λ l. ap (λ t. record { target = t; literal = l.literal }) (target_seen w known s f in_body mine m.env l.leaf.name l.leaf.occ)) (leaves_of identifiers m.rules) in
       λ j. record { binder = b; rules = rs j; leaves = ls j }
 
   pub macro_def_seen : (b : Binder) → macro_def (model known) (view in_body mine s) b ≡ macro_def (scoped known) s b
@@ -139,7 +138,7 @@ module _ (w : ℕ) (known : Known) where
     rules_at_law g t a b s f i n q =
         agrees_at refl (let z = size-map Ident Name g t in let e = q.1 in λ j. counting (model known) here (z j) (view i n s) >>= λ u. given erase here (rules_of model_names (e j).parts (e j).tail))
         (counted_law w known here (tree_size t) s f i n (given (λ i. i) here (rules_of identifiers a.parts a.tail)) (given erase here (rules_of model_names (parts_map (names s fs) a).parts (parts_map (names s fs) a).tail))
-            (λ x. read_law w parts_kind rules_kind rules_reader here fs (record s { nodes = x }) f i n a q.0))
+        (λ x. read_law w parts_kind rules_kind rules_reader here fs (record s { nodes = x }) f i n a q.0))
 
     -- the rules of a macro are kept
     kept_state : Number → Rules Ident → ScopedState → ScopedState
@@ -157,7 +156,7 @@ module _ (w : ℕ) (known : Known) where
         let st = stands_later w s x k.1 fs h in
         let counted : AllOf (Before w x.locals) (v ∷ vs) = all_of_more (Before w s.locals) (Before w x.locals) (before_more w s.locals x.locals k.1.locals) (v ∷ vs) l in
         let fine : FineState w (record x { macros = record { meaning = Local v; frames = fs; rules = r } ∷ x.macros }) =
-              macro_fine w x (record { meaning = Local v; frames = fs; rules = r }) (record { entered = frames_entered w x.definitions x.uses x.bodies fs st.0; rules = e.0; binders = st.1; meaning = counted.0 }) k.0 in
+        macro_fine w x (record { meaning = Local v; frames = fs; rules = r }) (record { entered = frames_entered w x.definitions x.uses x.bodies fs st.0; rules = e.0; binders = st.1; meaning = counted.0 }) k.0 in
         agrees_at refl (ap (λ (z : Rules Name). keep_all (model known) here tt vs (map_trees g ts) bs ((model known).keep v z tt (view i1 n1 x))) e.1)
         (keep_all_law g vs ts ps bs (record x { macros = record { meaning = Local v; frames = fs; rules = r } ∷ x.macros }) fine i1 n1 st counted.1 (parts_still s x f k.1 h ps bs q.1)))
 
@@ -172,7 +171,7 @@ module _ (w : ℕ) (known : Known) where
         keeps_bind w s _ (heads_law here d rules s f i n hd lr) (λ ps bs t i1 n1 k q.
         node_law w known here 1 depth t k.0 i1 n1 _ _ (λ below x.
         keeps_bind w (record t { nodes = x }) _
-            (keep_all_law here d (names s d) vs rules ps bs (record t { nodes = x }) k.0 i1 n1 (stands_later w s t k.1 d hd) (all_of_more (Before w s.locals) (Before w t.locals) (before_more w s.locals t.locals k.1.locals) vs l) q) (λ u u' v i2 n2 k2 z.
+        (keep_all_law here d (names s d) vs rules ps bs (record t { nodes = x }) k.0 i1 n1 (stands_later w s t k.1 d hd) (all_of_more (Before w s.locals) (Before w t.locals) (before_more w s.locals t.locals k.1.locals) vs l) q) (λ u u' v i2 n2 k2 z.
         let grown : Grows w s v = grows_then w s t v k.1 k2.1 in
         keeps_bind w v _ (agrees_at refl (ap (λ (us : Trees Name). G below here tt (body us) (view i2 n2 v)) (trees_still w known s v f grown e he ts lt)) (law below here e ts v k2.0 i2 n2 (stands_later w s v grown e he) (trees_old w known s v grown ts lt))) (λ c c' y i3 n3 k3 p.
         same_done w y i3 n3 (LetSyntax (local_defs (scoped known) v vs ns) c) (LetSyntax (local_defs (model known) (view i2 n2 v) vs (map (named_map g) ns)) c') k3.0
@@ -187,11 +186,11 @@ module _ (w : ℕ) (known : Known) where
     let_syntax_law fs m s f i n h made d =
         keeps_bind w s _
         (agrees_at refl
-            (ap (λ vs. bound (model known) (λ e us. local_macros G (model known) depth here vs (map (named_map (names s fs)) m.names) tt (map_trees (names s fs) m.rules) e us) (map (named_map (names s fs)) m.names) tt (map_trees (names s fs) m.body) (view i n s)) (numbers_same (names s fs) (next_number s s.locals) m.names))
-            (bound_law w known
-                (λ e us. local_macros F (scoped known) depth here (numbers (next_number s s.locals) m.names) m.names fs m.rules e us)
-                (λ e us. local_macros G (model known) depth here (numbers (next_number s s.locals) m.names) (map (named_map (names s fs)) m.names) tt (map_trees (names s fs) m.rules) e us)
-                m.body m.names fs s f i n h d old region))
+        (ap (λ vs. bound (model known) (λ e us. local_macros G (model known) depth here vs (map (named_map (names s fs)) m.names) tt (map_trees (names s fs) m.rules) e us) (map (named_map (names s fs)) m.names) tt (map_trees (names s fs) m.body) (view i n s)) (numbers_same (names s fs) (next_number s s.locals) m.names))
+        (bound_law w known
+        (λ e us. local_macros F (scoped known) depth here (numbers (next_number s s.locals) m.names) m.names fs m.rules e us)
+        (λ e us. local_macros G (model known) depth here (numbers (next_number s s.locals) m.names) (map (named_map (names s fs)) m.names) tt (map_trees (names s fs) m.rules) e us)
+        m.body m.names fs s f i n h d old region))
         (λ a b t i1 n1 k e. same_done w t i1 n1 a.1 b.1 k.0 (ap (λ q. q.1) e))
       where
         old : NamesOld w known s.uses m.names
@@ -221,12 +220,12 @@ module _ (w : ℕ) (known : Known) where
     letrec_syntax_law fs m s f i n h made d =
         keeps_bind w s _
         (agrees_at refl
-            (ap (λ vs. bound (model known) (recursive G (model known) depth here vs (map (named_map (names s fs)) m.names)) (map (named_map (names s fs)) m.names) tt (map_trees (names s fs) (tree (list m.rules proper None) m.body)) (view i n s)) (numbers_same (names s fs) (next_number s s.locals) m.names))
-            (bound_law w known
-                (recursive F (scoped known) depth here (numbers (next_number s s.locals) m.names) m.names)
-                (recursive G (model known) depth here (numbers (next_number s s.locals) m.names) (map (named_map (names s fs)) m.names))
-                (tree (list m.rules proper None) m.body) m.names fs s f i n h d old
-                (λ c t ft g st counted i1 n1. recursive_law (numbers (next_number s s.locals) m.names) (names s fs) (λ i. erase_frame_image s.places s.definitions fs i) m.names c m.rules m.body t ft i1 n1 st counted (trees_old w known s t g m.rules rules_all) (trees_old w known s t g m.body body_all))))
+        (ap (λ vs. bound (model known) (recursive G (model known) depth here vs (map (named_map (names s fs)) m.names)) (map (named_map (names s fs)) m.names) tt (map_trees (names s fs) (tree (list m.rules proper None) m.body)) (view i n s)) (numbers_same (names s fs) (next_number s s.locals) m.names))
+        (bound_law w known
+        (recursive F (scoped known) depth here (numbers (next_number s s.locals) m.names) m.names)
+        (recursive G (model known) depth here (numbers (next_number s s.locals) m.names) (map (named_map (names s fs)) m.names))
+        (tree (list m.rules proper None) m.body) m.names fs s f i n h d old
+        (λ c t ft g st counted i1 n1. recursive_law (numbers (next_number s s.locals) m.names) (names s fs) (λ i. erase_frame_image s.places s.definitions fs i) m.names c m.rules m.body t ft i1 n1 st counted (trees_old w known s t g m.rules rules_all) (trees_old w known s t g m.body body_all))))
         (λ a b t i1 n1 k e. same_done w t i1 n1 a.1 b.1 k.0 (ap (λ q. q.1) e))
       where
         old : NamesOld w known s.uses m.names

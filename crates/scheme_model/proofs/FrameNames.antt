@@ -1,12 +1,10 @@
 -- An image is its identifier, is told apart as it is, keeps its symbol, and means what the frames give.
-use Rattle.std.proofs.Common.{◌≡◌, ℕ, Bool, true, false, cond, List, [], ◌∷◌, Option, Some, None, refl, sym, ap, ◌∙◌, subst}
-use Rattle.scheme_model.specs.Identifiers.{Number, Name, Written as WrittenName, Inserted as InsertedName, Inner, Var, same_name, strip}
+use Rattle.std.proofs.Common.{◌≡◌, Bool, true, false, cond, List, [], ◌∷◌, Option, Some, None, refl, sym, ap, ◌∙◌, subst}
+use Rattle.scheme_model.specs.Identifiers.{Number, Name, Written as WrittenName, same_name, strip}
 use Rattle.scheme_model.specs.Ident.{Ident, Written, Inserted, same_ident, erase, symbol_of}
 use Rattle.scheme_model.specs.Meaning.{Meaning, Local, Free}
-use Rattle.scheme_model.specs.Order.{is_some}
-use Rattle.scheme_model.specs.Substitution.{Table, Entries, defined_in, is_plain, defines, global_or, meaning}
-use Rattle.scheme_model.specs.Scopes.{given_or}
-use Rattle.scheme_model.specs.ScopedExpansion.{Frame, Bind, Enter, Frames, BodyDefinitions, UsePlace, around, find, defined_as, means_inside, means_outside}
+use Rattle.scheme_model.specs.Substitution.{Table, Entries, defines, global_or, meaning}
+use Rattle.scheme_model.specs.ScopedExpansion.{Bind, Enter, Frames, BodyDefinitions, UsePlace, around, find, defined_as, means_inside, means_outside}
 use Rattle.scheme_model.specs.FrameImages.{is_older, bound_as, entered_as, before_definition, image_inside, image_outside, frame_image, DefinesOutside}
 use Rattle.scheme_model.proofs.IdentLaws.{ident_told, ident_itself, name_told, name_itself, bool_same, strip_erased}
 use Rattle.scheme_model.proofs.MeaningLaws.{imported_is, own_name}
@@ -81,7 +79,7 @@ module _ (table : Table) (entry : Entries) where
         ap (global_or (defines table k.unit (image_outside ps (Inserted i k) ds)) k.unit (image_outside ps (Inserted i k) ds))
         (meaning_inside (around ps k) i (image_outside ps i) ds ∙ ap (means_inside ds (around ps k) i) (meaning_outer i ds))
         ∙ own_name table entry k.unit (image_outside ps (Inserted i k) ds) (Inserted i k) (erase_outer ps (Inserted i k) ds) (outside k.unit (Inserted i k) ds)
-            None (means_inside ds (around ps k) i (means_outside table entry ps ds i)) refl
+        None (means_inside ds (around ps k) i (means_outside table entry ps ds i)) refl
 
     pub meaning_frame_image : (ds : BodyDefinitions) (fs : Frames) (i : Ident) → meaning table entry (frame_image ps ds fs i) ≡ means_inside ds fs i (means_outside table entry ps ds i)
     meaning_frame_image ds fs i = meaning_inside fs i (image_outside ps i) ds ∙ ap (means_inside ds fs i) (meaning_outer i ds)

@@ -1,5 +1,5 @@
 -- The law of quasiquotations.
-use Rattle.std.proofs.Common.{◌≡◌, ℕ, ◌+◌, List, [], ◌∷◌, map, Bool, Option, Some, None, Result, Ok, Err, refl, sym, ap, ◌∙◌, subst}
+use Rattle.std.proofs.Common.{◌≡◌, ℕ, ◌+◌, List, [], ◌∷◌, map, Bool, Option, Some, None, refl, ap, ◌∙◌, subst}
 use Rattle.scheme_model.specs.Identifiers.{Number, Name, strip}
 use Rattle.scheme_model.specs.Ident.{Ident, erase, symbol_of}
 use Rattle.scheme_model.specs.Trees.{Tree, name, atom, list, vector, Trees, no_trees, tree, Tail, proper, dotted, map_tree, map_trees, map_tail}
@@ -8,11 +8,11 @@ use Rattle.scheme_model.specs.Requirements.{Known}
 use Rattle.scheme_model.specs.Shapes.{one_of}
 use Rattle.scheme_model.specs.RulesShape.{option_map}
 use Rattle.scheme_model.specs.Quasiquote.{Pieces, quasi_of}
-use Rattle.scheme_model.specs.Cores.{Core, Quasi, Cores, no_cores, core, weight, weights, tail_weight, hole_weight, outside}
-use Rattle.scheme_model.specs.Steps.{Broken, Step, ◌>>=◌, done}
+use Rattle.scheme_model.specs.Cores.{Quasi, no_cores, core, weight, weights, tail_weight, hole_weight, outside}
+use Rattle.scheme_model.specs.Steps.{◌>>=◌, done}
 use Rattle.scheme_model.specs.Order.{Here, given, head_of}
-use Rattle.scheme_model.specs.Expression.{Task, whole, Expander, node, each_of, mark_of, symbol_or_hole, quasi}
-use Rattle.scheme_model.specs.Substitution.{State, Clock, model}
+use Rattle.scheme_model.specs.Expression.{whole, node, each_of, mark_of, symbol_or_hole, quasi}
+use Rattle.scheme_model.specs.Substitution.{Clock, model}
 use Rattle.scheme_model.specs.ScopedExpansion.{Frames, ScopedState, scoped}
 use Rattle.scheme_model.specs.Renaming.{pieces_map}
 use Rattle.scheme_model.specs.OpenBodies.{Below}
@@ -78,7 +78,7 @@ module _ (w : ℕ) (known : Known) (F : Scoped w known) (G : Modelled w known) (
   each_hole depth here fs (t ∷ ts) s f i n h l =
       keeps_bind w s _ (law depth here fs t s f i n h l.0) (λ a b v i1 n1 k e.
       keeps_bind w v _ (agrees_at refl (ap (λ (us : List (Tree Name)). each_of (λ u. G depth here tt (whole u)) us (view i1 n1 v)) (holes_still s v f k.1 fs h ts l.1))
-          (each_hole depth here fs ts v k.0 i1 n1 (stands_later w s v k.1 fs h) (holes_old s.uses v.uses (below_more w s.uses v.uses k.1.uses) ts l.1))) (λ cs ds x i2 n2 k2 e2.
+      (each_hole depth here fs ts v k.0 i1 n1 (stands_later w s v k.1 fs h) (holes_old s.uses v.uses (below_more w s.uses v.uses k.1.uses) ts l.1))) (λ cs ds x i2 n2 k2 e2.
       same_done w x i2 n2 (core a cs) (core b ds) k2.0 (λ j. core (e j) (e2 j))))
 
   holes_made : (u : Clock) (p : Pieces Ident) → Made pieces_kind w u p → HolesOld u p.holes
@@ -99,24 +99,24 @@ module _ (w : ℕ) (known : Known) (F : Scoped w known) (G : Modelled w known) (
       let d = map_map (symbol_or_hole strip) (option_map (names s fs)) p.datum ∙ map_same (λ o. symbol_or_hole strip (option_map (names s fs) o)) (symbol_or_hole symbol_of) (symbol_same s fs) p.datum in
       agrees_at refl (λ j. node (model known) here (1 + z j) depth (λ below t. each_of (λ u. G below here tt (whole u)) (map (map_tree (names s fs)) p.holes) t >>= λ cs. done (Quasi (d j) cs)) (view i n s))
       (node_law w known here (1 + outside p.datum) depth s f i n
-          (λ below t. each_of (λ u. F below here fs (whole u)) p.holes t >>= λ cs. done (Quasi (map_tree (symbol_or_hole symbol_of) p.datum) cs))
-          (λ below t. each_of (λ u. G below here tt (whole u)) (map (map_tree (names s fs)) p.holes) t >>= λ cs. done (Quasi (map_tree (symbol_or_hole symbol_of) p.datum) cs))
-          (λ below x. keeps_bind w (record s { nodes = x }) _ (each_hole below here fs p.holes (record s { nodes = x }) f i n h (holes_made s.uses p m)) (λ a b t i1 n1 k e.
-          same_done w t i1 n1 (Quasi (map_tree (symbol_or_hole symbol_of) p.datum) a) (Quasi (map_tree (symbol_or_hole symbol_of) p.datum) b) k.0 (ap (Quasi (map_tree (symbol_or_hole symbol_of) p.datum)) e))))
+      (λ below t. each_of (λ u. F below here fs (whole u)) p.holes t >>= λ cs. done (Quasi (map_tree (symbol_or_hole symbol_of) p.datum) cs))
+      (λ below t. each_of (λ u. G below here tt (whole u)) (map (map_tree (names s fs)) p.holes) t >>= λ cs. done (Quasi (map_tree (symbol_or_hole symbol_of) p.datum) cs))
+      (λ below x. keeps_bind w (record s { nodes = x }) _ (each_hole below here fs p.holes (record s { nodes = x }) f i n h (holes_made s.uses p m)) (λ a b t i1 n1 k e.
+      same_done w t i1 n1 (Quasi (map_tree (symbol_or_hole symbol_of) p.datum) a) (Quasi (map_tree (symbol_or_hole symbol_of) p.datum) b) k.0 (ap (Quasi (map_tree (symbol_or_hole symbol_of) p.datum)) e))))
 
   -- both sides read a quasiquotation
   pub quasi_read : (here : Here) (fs : Frames) (ts : Trees Ident) (tail : Tail Ident) (s : ScopedState) → FineState w s → (in_body : Bool) (mine : List Number) → TreesAll (Below w s.uses) ts → TailAll (Below w s.uses) tail
       → Agrees (Keeps w s) (Seen w pieces_kind fs) (given (λ i. i) here (one_of ts tail >> quasi_of (λ i. mark_of (head_of (scoped known) fs s i))) s)
-          (given erase here (one_of (map_trees (names s fs) ts) (map_tail (names s fs) tail) >> quasi_of (λ j. mark_of (head_of (model known) tt (view in_body mine s) j))) (view in_body mine s))
+      (given erase here (one_of (map_trees (names s fs) ts) (map_tail (names s fs) tail) >> quasi_of (λ j. mark_of (head_of (model known) tt (view in_body mine s) j))) (view in_body mine s))
   quasi_read here fs ts tail s f i n l e =
       read_both w pieces_kind here fs s f i n
       (one_of (lift_trees (Below w s.uses) ts l) (lift_tail (Below w s.uses) tail e) >> quasi_of (λ p. mark_of (head_of (scoped known) fs s p.0)))
       (one_of ts tail >> quasi_of (λ i. mark_of (head_of (scoped known) fs s i)))
       (one_of (map_trees (names s fs) ts) (map_tail (names s fs) tail) >> quasi_of (λ j. mark_of (head_of (model known) tt (view i n s) j)))
       (let us = lifted_trees (Below w s.uses) ts l in let end = lifted_tail (Below w s.uses) tail e in
-       subst (Reads (ident_of w s.uses) (pieces_map (ident_of w s.uses)) (one_of (lift_trees (Below w s.uses) ts l) (lift_tail (Below w s.uses) tail e) >> quasi_of (λ p. mark_of (head_of (scoped known) fs s p.0))))
-       (λ j. one_of (us j) (end j) >> quasi_of (λ i. mark_of (head_of (scoped known) fs s i)))
-       (then_map (quasi_of (λ i. mark_of (head_of (scoped known) fs s i))) (one_of-map (Old w s.uses) Ident (ident_of w s.uses) (lift_trees (Below w s.uses) ts l) (lift_tail (Below w s.uses) tail e))
-           (quasi_of-map (Old w s.uses) Ident (ident_of w s.uses) (λ p. mark_of (head_of (scoped known) fs s p.0)) (λ i. mark_of (head_of (scoped known) fs s i)) (λ p. refl))))
+      subst (Reads (ident_of w s.uses) (pieces_map (ident_of w s.uses)) (one_of (lift_trees (Below w s.uses) ts l) (lift_tail (Below w s.uses) tail e) >> quasi_of (λ p. mark_of (head_of (scoped known) fs s p.0))))
+      (λ j. one_of (us j) (end j) >> quasi_of (λ i. mark_of (head_of (scoped known) fs s i)))
+      (then_map (quasi_of (λ i. mark_of (head_of (scoped known) fs s i))) (one_of-map (Old w s.uses) Ident (ident_of w s.uses) (lift_trees (Below w s.uses) ts l) (lift_tail (Below w s.uses) tail e))
+      (quasi_of-map (Old w s.uses) Ident (ident_of w s.uses) (λ p. mark_of (head_of (scoped known) fs s p.0)) (λ i. mark_of (head_of (scoped known) fs s i)) (λ p. refl))))
       (then_map (quasi_of (λ j. mark_of (head_of (model known) tt (view i n s) j))) (one_of-map Ident Name (names s fs) ts tail)
-          (quasi_of-map Ident Name (names s fs) (λ i. mark_of (head_of (scoped known) fs s i)) (λ j. mark_of (head_of (model known) tt (view i n s) j)) (λ x. ap mark_of (head_seen w known s f i n fs x))))
+      (quasi_of-map Ident Name (names s fs) (λ i. mark_of (head_of (scoped known) fs s i)) (λ j. mark_of (head_of (model known) tt (view i n s) j)) (λ x. ap mark_of (head_seen w known s f i n fs x))))

@@ -1,14 +1,14 @@
 -- What both sides read of the parts of a form, whatever the row of the core forms.
-use Rattle.std.proofs.Common.{◌≡◌, ℕ, List, [], ◌∷◌, map, Bool, Option, Some, None, Result, Ok, Err, refl, sym, ap, ◌∙◌, subst}
+use Rattle.std.proofs.Common.{◌≡◌, ℕ, List, Bool, Option, Result, refl, ◌∙◌, subst}
 use Rattle.scheme_model.specs.Identifiers.{Number, Name, same_name, strip}
 use Rattle.scheme_model.specs.Ident.{Ident, erase, same_ident, symbol_of}
 use Rattle.scheme_model.specs.Trees.{Tree, Trees, Tail, map_tree, map_trees, map_tail}
 use Rattle.scheme_model.specs.ExpansionFaults.{Named, named_map, Fault}
 use Rattle.scheme_model.specs.Requirements.{Known, chosen_of}
 use Rattle.scheme_model.specs.Shapes.{Formals, one_of, some_of, proper_of, if_of, lambda_of, case_lambda_of, named_tree_of, definition_of, values_of, record_of, local_macros_of, error_text_of}
-use Rattle.scheme_model.specs.RulesShape.{Names, rules_map, rules_of, option_map}
+use Rattle.scheme_model.specs.RulesShape.{Names, rules_of, option_map}
 use Rattle.scheme_model.specs.Order.{Here, given, RulesParts}
-use Rattle.scheme_model.specs.Substitution.{State, Clock}
+use Rattle.scheme_model.specs.Substitution.{Clock}
 use Rattle.scheme_model.specs.ScopedExpansion.{Frames, ScopedState}
 use Rattle.scheme_model.specs.Renaming.{Renames, formals_map}
 use Rattle.scheme_model.specs.OpenBodies.{Below}
@@ -126,7 +126,7 @@ module _ (w : ℕ) where
   read_law k l r here fs s f i n x m =
       read_both w l here fs s f i n (r.read (Old w s.uses) (told s.uses) (weaken k s.uses x m)) (r.read Ident identifiers x) (r.read Name model_names (k.map Ident Name (names s fs) x))
       (subst (λ (y : k.of Ident). Reads (ident_of w s.uses) (l.map (Old w s.uses) Ident (ident_of w s.uses)) (r.read (Old w s.uses) (told s.uses) (weaken k s.uses x m)) (r.read Ident identifiers y)) (weakened k s.uses x m)
-          (r.natural (Old w s.uses) Ident (ident_of w s.uses) (told s.uses) identifiers (old_told s.uses) (weaken k s.uses x m)))
+      (r.natural (Old w s.uses) Ident (ident_of w s.uses) (told s.uses) identifiers (old_told s.uses) (weaken k s.uses x m)))
       (r.natural Ident Name (names s fs) identifiers model_names (named_in s fs) x)
 
   -- what stands behind a head, made by then

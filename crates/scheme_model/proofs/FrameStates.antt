@@ -1,21 +1,18 @@
 -- What the definition's side has of a state of the scoped side; what holds of a state; and what later states keep.
-use Rattle.std.proofs.Common.{◌≡◌, ℕ, suc, ◌≤◌, ◌⊎◌, inl, inr, List, [], ◌∷◌, map, Bool, true, false, cond, eqb, Option, Some, None, refl, sym, ap, ◌∙◌, subst, eq-eqb}
-use Rattle.std.specs.Prelude.{◌&&◌}
-use Rattle.std.proofs.lemmas.Bool.{false_from_ne_true}
-use Rattle.scheme_model.specs.Identifiers.{Number, same_number, Name, Inserted as InsertedName, Inner, Var, same_name}
-use Rattle.scheme_model.specs.Ident.{Ident, Written, Inserted, same_ident}
+use Rattle.std.proofs.Common.{◌≡◌, ℕ, suc, List, [], ◌∷◌, map, Bool, true, Option, Some, None, refl, sym, ap, ◌∙◌, subst}
+use Rattle.scheme_model.specs.Identifiers.{Number, Name}
+use Rattle.scheme_model.specs.Ident.{Ident}
 use Rattle.scheme_model.specs.Meaning.{Meaning, Local, Global, Standard, Free}
-use Rattle.scheme_model.specs.RulesShape.{Rules, rules_map}
+use Rattle.scheme_model.specs.RulesShape.{rules_map}
 use Rattle.scheme_model.specs.Order.{is_some}
-use Rattle.scheme_model.specs.Substitution.{Table, Entries, Clock, at_form, defined_in, is_plain, meaning, shallow, KeptMacro, State}
-use Rattle.scheme_model.specs.ScopedExpansion.{Frame, Bind, Enter, Frames, BodyDefinition, BodyDefinitions, UsePlace, ScopedMacro, ScopedState, around, find, next_number, means_at}
-use Rattle.scheme_model.specs.FrameImages.{is_before, is_older, bound_as, entered_as, before_definition, image_inside, image_outside, frame_image, DefinesOutside}
+use Rattle.scheme_model.specs.Substitution.{Table, Entries, Clock, at_form, defined_in, is_plain, meaning, KeptMacro, State}
+use Rattle.scheme_model.specs.ScopedExpansion.{Bind, Enter, Frames, BodyDefinition, BodyDefinitions, UsePlace, ScopedMacro, ScopedState, around, next_number, means_at}
+use Rattle.scheme_model.specs.FrameImages.{image_outside, frame_image, DefinesOutside}
 use Rattle.scheme_model.specs.OpenBodies.{Before, Below, DefinitionsBelow, Entered, FramesOk, Leq, NotYet}
-use Rattle.scheme_model.proofs.IdentLaws.{ident_told, number_told, number_itself, same_turned}
 use Rattle.scheme_model.proofs.IdentKinds.{Kind, mapped_same, rules_kind}
-use Rattle.scheme_model.proofs.Clocks.{leq_itself, leq_then, leq_counted, before_more, apart, numbered, next_not_yet, next_counted}
-use Rattle.scheme_model.proofs.FrameNames.{same_frame_image, meaning_frame_image}
-use Rattle.scheme_model.proofs.FrameTimes.{entered_more, SameFind, below_more, SamePlaces, outside_places, image_places, image_definitions, frames_entered, frames_later, find_less, inside_new}
+use Rattle.scheme_model.proofs.Clocks.{leq_itself, leq_then, before_more, numbered, next_not_yet, next_counted}
+use Rattle.scheme_model.proofs.FrameNames.{meaning_frame_image}
+use Rattle.scheme_model.proofs.FrameTimes.{entered_more, SameFind, below_more, SamePlaces, image_places, image_definitions, frames_entered, frames_later}
 use Rattle.scheme_model.proofs.FrameAsks.{AllOf, all_of_more, MeansCounted, GivenCounted, BindersCounted, DefinitionsCounted}
 
 -- ---- the view
@@ -176,32 +173,38 @@ module _ (w : ℕ) where
 
   -- more locals are counted
   pub locals_fine : (s : ScopedState) (n : Clock) → Leq s.locals n → FineState s → FineState (record s { locals = n })
-  locals_fine s n le f = (f.0, record {
-    definitions = f.1.definitions;
-    bodies = f.1.bodies;
-    entered = f.1.entered;
-    macros = macro_more s.locals s.uses s.bodies n s.uses s.bodies le (leq_itself s.uses) (leq_itself s.bodies) s.macros f.1.macros;
-    outside = f.1.outside;
-    binders = definitions_more s.locals n le s.definitions f.1.binders;
-    places = λ k. binders_more s.locals n le (around s.places k) (f.1.places k);
-    entries = λ v x. given_more s.locals n le (s.entry v x) (f.1.entries v x);
-  })
+  locals_fine s n le f = (
+    f.0,
+    record {
+      definitions = f.1.definitions;
+      bodies = f.1.bodies;
+      entered = f.1.entered;
+      macros = macro_more s.locals s.uses s.bodies n s.uses s.bodies le (leq_itself s.uses) (leq_itself s.bodies) s.macros f.1.macros;
+      outside = f.1.outside;
+      binders = definitions_more s.locals n le s.definitions f.1.binders;
+      places = λ k. binders_more s.locals n le (around s.places k) (f.1.places k);
+      entries = λ v x. given_more s.locals n le (s.entry v x) (f.1.entries v x);
+    },
+  )
 
   pub locals_grow : (s : ScopedState) (n : Clock) → Leq s.locals n → Grows s (record s { locals = n })
   locals_grow s n le = record { uses = leq_itself s.uses; bodies = leq_itself s.bodies; locals = le; places = λ k h. refl; definitions = λ b i h. refl }
 
   -- the rules of a macro are kept
   pub macro_fine : (s : ScopedState) (k : ScopedMacro) → MacroFine s.locals s.uses s.bodies k → FineState s → FineState (record s { macros = k ∷ s.macros })
-  macro_fine s k m f = (f.0, record {
-    definitions = f.1.definitions;
-    bodies = f.1.bodies;
-    entered = f.1.entered;
-    macros = (m, f.1.macros);
-    outside = f.1.outside;
-    binders = f.1.binders;
-    places = f.1.places;
-    entries = f.1.entries;
-  })
+  macro_fine s k m f = (
+    f.0,
+    record {
+      definitions = f.1.definitions;
+      bodies = f.1.bodies;
+      entered = f.1.entered;
+      macros = (m, f.1.macros);
+      outside = f.1.outside;
+      binders = f.1.binders;
+      places = f.1.places;
+      entries = f.1.entries;
+    },
+  )
 
   -- ---- the next number of a form
 

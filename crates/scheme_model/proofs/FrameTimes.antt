@@ -1,13 +1,11 @@
 -- What was made before a clock: later uses, definitions and bodies change no older image, and a new identifier passes through
 -- older frames as it came.
-use Rattle.std.proofs.Common.{◌≡◌, ℕ, ◌⊎◌, inl, inr, List, [], ◌∷◌, Bool, true, false, cond, Option, Some, None, refl, sym, ap, ◌∙◌, subst}
-use Rattle.std.specs.Prelude.{◌&&◌}
+use Rattle.std.proofs.Common.{◌≡◌, ℕ, ◌⊎◌, inl, inr, List, [], ◌∷◌, true, false, Option, Some, None, refl, sym, ap, ◌∙◌, subst}
 use Rattle.std.proofs.lemmas.Bool.{false_from_ne_true}
-use Rattle.scheme_model.specs.Identifiers.{Number, same_number, Name, Inserted as InsertedName}
+use Rattle.scheme_model.specs.Identifiers.{Number, Name, Inserted as InsertedName}
 use Rattle.scheme_model.specs.Ident.{Ident, Written, Inserted, same_ident}
-use Rattle.scheme_model.specs.Order.{is_some}
 use Rattle.scheme_model.specs.Substitution.{Clock}
-use Rattle.scheme_model.specs.ScopedExpansion.{Frame, Bind, Enter, Frames, BodyDefinitions, UsePlace, around, find}
+use Rattle.scheme_model.specs.ScopedExpansion.{Bind, Enter, Frames, BodyDefinitions, UsePlace, around, find}
 use Rattle.scheme_model.specs.FrameImages.{is_before, is_older, bound_as, entered_as, before_definition, image_inside, image_outside, frame_image}
 use Rattle.scheme_model.proofs.IdentLaws.{ident_told}
 use Rattle.scheme_model.specs.OpenBodies.{Leq, Before, NotYet, Entered, Below, PlacesIn, DefinitionsBelow, FramesOk}

@@ -1,5 +1,5 @@
 -- The leaves of rules that mean something where their macro is defined, once each identifier is renamed.
-use Rattle.std.proofs.Common.{◌≡◌, List, [], ◌∷◌, ◌++◌, map, Bool, true, false, refl, sym, ap, ◌∙◌}
+use Rattle.std.proofs.Common.{◌≡◌, List, [], ◌∷◌, ◌++◌, map, Bool, true, false, refl, ap, ◌∙◌}
 use Rattle.std.specs.Prelude.{◌||◌}
 use Rattle.scheme_model.specs.Trees.{Tree, name, atom, list, vector, Trees, no_trees, tree, Tail, proper, dotted, map_tree, map_trees, map_tail}
 use Rattle.scheme_model.specs.ExpansionFaults.{Named, named, named_map}
@@ -98,10 +98,10 @@ module _ (A B : Type 0) (f : A → B) (n : Names A) (m : Names B) (told : Rename
   rule_leaves-map r rule =
       append_map (leaf_map f) (leaves_among (role_of n r) rule.parts ++ leaves_behind (role_of n r) rule.tail) (template_leaves (dots_of n r) (variables n (pattern_variables n r rule)) rule.template)
       (append_map (leaf_map f) (leaves_among (role_of n r) rule.parts) (leaves_behind (role_of n r) rule.tail)
-          (leaves_among-map A B f (role_of n r) (role_of m (rules_map f r)) (role_of-map A B f n m told r) rule.parts)
-          (leaves_behind-map A B f (role_of n r) (role_of m (rules_map f r)) (role_of-map A B f n m told r) rule.tail))
+      (leaves_among-map A B f (role_of n r) (role_of m (rules_map f r)) (role_of-map A B f n m told r) rule.parts)
+      (leaves_behind-map A B f (role_of n r) (role_of m (rules_map f r)) (role_of-map A B f n m told r) rule.tail))
       (template_leaves-map A B f (variables n (pattern_variables n r rule)) (variables m (pattern_variables m (rules_map f r) (rule_map f rule))) (is_variable r rule)
-          (dots_of n r) (dots_of m (rules_map f r)) (dots_of-map A B f n m told r) rule.template)
+      (dots_of n r) (dots_of m (rules_map f r)) (dots_of-map A B f n m told r) rule.template)
 
   all_rule_leaves-map : (r : Rules A) (rs : List (Rule A)) → all_rule_leaves m (rules_map f r) (map (rule_map f) rs) ≡ map (leaf_map f) (all_rule_leaves n r rs)
   all_rule_leaves-map r [] = refl

@@ -1,12 +1,12 @@
 -- Matching commutes with renamings of the rules and of the form under which rules tell their identifiers alike, and literals
 -- mean the same.
-use Rattle.std.proofs.Common.{◌≡◌, ℕ, ◌-◌, List, [], ◌∷◌, ◌++◌, map, Bool, true, false, cond, Option, Some, None, refl, sym, ap, ◌∙◌, subst}
+use Rattle.std.proofs.Common.{◌≡◌, ℕ, ◌-◌, List, [], ◌∷◌, map, Bool, true, false, cond, Option, Some, None, refl, sym, ap, ◌∙◌, subst}
 use Rattle.std.specs.Prelude.{nat_le}
 use Rattle.scheme_model.specs.Trees.{Atom, Tree, name, atom, list, vector, Trees, no_trees, tree, Tail, proper, dotted, map_tree, map_trees, map_tail}
 use Rattle.scheme_model.specs.TreeParts.{count}
 use Rattle.scheme_model.specs.ExpansionFaults.{named, named_map}
-use Rattle.scheme_model.specs.RulesShape.{Rule, rule_map, option_map, Role, IsLiteral, IsEllipsis, IsAny, IsVariable, is_dots}
-use Rattle.scheme_model.specs.Matching.{Value, One, Many, Values, no_values, value, Binding, Match, match_of, ◌>>=◌, both, Matcher, same_atom, rest_of, front, behind, variable_name, names_in, names_among, names_behind, empty, place_before, spread, match_each, nothing, when, match_literal, match_name, match_atom, chosen, list_parts, vector_parts, first_part, at_end, taken, match_tree, match_parts, match_rest, Chosen, or_later, first_match}
+use Rattle.scheme_model.specs.RulesShape.{Rule, rule_map, option_map, Role, IsLiteral, IsEllipsis, IsAny, IsVariable}
+use Rattle.scheme_model.specs.Matching.{Value, One, Many, no_values, Binding, Match, match_of, both, Matcher, rest_of, front, behind, variable_name, names_in, names_among, names_behind, empty, place_before, spread, match_each, when, match_literal, match_name, match_atom, chosen, list_parts, vector_parts, first_part, at_end, taken, match_tree, match_parts, match_rest, Chosen, or_later, first_match}
 use Rattle.scheme_model.specs.Renaming.{value_map, binding_map, match_map, chosen_map}
 use Rattle.scheme_model.proofs.RenamingLaws.{Finds, finds, some_map, map-append, append_map, count-map}
 use Rattle.scheme_model.proofs.PatternLaws.{is_dots-map}

@@ -1,9 +1,8 @@
 -- Reading a quasiquotation commutes with a renaming under which each identifier marks the same.
-use Rattle.std.proofs.Common.{◌≡◌, ℕ, zero, suc, List, [], ◌∷◌, ◌++◌, map, Bool, true, false, Option, Some, None, Result, Ok, Err, refl, sym, ap, ◌∙◌, subst}
+use Rattle.std.proofs.Common.{◌≡◌, ℕ, zero, suc, [], map, Bool, true, false, Option, Some, None, Result, Ok, Err, refl, sym, ap, subst}
 use Rattle.scheme_model.specs.declared.Occ.{Occ}
 use Rattle.scheme_model.specs.Trees.{Tree, name, atom, list, vector, Trees, no_trees, tree, Tail, proper, dotted, map_tree, map_trees, map_tail}
-use Rattle.scheme_model.specs.ExpansionFaults.{Fault, ◌>>◌}
-use Rattle.scheme_model.specs.Shapes.{one_of}
+use Rattle.scheme_model.specs.ExpansionFaults.{Fault}
 use Rattle.scheme_model.specs.RulesShape.{option_map}
 use Rattle.scheme_model.specs.Quasiquote.{Mark, Nested, Unquoted, Spliced, Pieces, RowPieces, pieces, row_pieces, before, hole_of, behind, splice, by_mark, pieces_of, row_of, parts_of, tail_of, quasi_of}
 use Rattle.scheme_model.specs.Renaming.{result_map, pieces_map}

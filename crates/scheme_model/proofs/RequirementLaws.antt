@@ -1,8 +1,7 @@
 -- Reading `cond-expand` commutes with a renaming that keeps symbols.
-use Rattle.std.proofs.Common.{◌≡◌, ℕ, List, [], ◌∷◌, Bool, true, false, cond, Option, Some, None, Result, Ok, Err, codes, refl, sym, ap, ◌∙◌}
+use Rattle.std.proofs.Common.{◌≡◌, ℕ, List, Bool, true, false, Option, Ok, codes, refl, ap}
 use Rattle.std.specs.Str.{bytes_eq}
 use Rattle.scheme_model.specs.Trees.{Atom, Numeral, Quoted, Character, Boolean, Bytes, Tree, name, atom, list, vector, Trees, no_trees, tree, Tail, proper, dotted, map_tree, map_trees, map_tail}
-use Rattle.scheme_model.specs.ExpansionFaults.{◌>>◌}
 use Rattle.scheme_model.specs.RulesShape.{option_map}
 use Rattle.scheme_model.specs.Requirements.{Symbol, Known, part_in, part_of, parts_of, library_name_of, holds, all_hold, some_holds, none_holds, is_else, clause_holds, or_chosen, choices, chosen_of}
 use Rattle.scheme_model.proofs.RenamingLaws.{Reads, reads, then_map, cond_reads}

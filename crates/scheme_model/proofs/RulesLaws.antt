@@ -1,12 +1,12 @@
 -- Reading and checking the rules of a macro commutes with a renaming that tells identifiers apart.
-use Rattle.std.proofs.Common.{◌≡◌, ℕ, ◌+◌, List, [], ◌∷◌, ◌++◌, map, Bool, true, false, cond, Option, Some, None, Result, Ok, Err, codes, refl, sym, ap, ◌∙◌, subst}
-use Rattle.std.specs.Prelude.{◌||◌, nat_le}
+use Rattle.std.proofs.Common.{◌≡◌, ℕ, ◌+◌, List, [], ◌∷◌, map, Bool, cond, Option, Some, None, Result, Ok, Err, codes, refl, sym, ap, ◌∙◌, subst}
+use Rattle.std.specs.Prelude.{◌||◌}
 use Rattle.std.specs.Str.{bytes_eq}
 use Rattle.scheme_model.specs.declared.Occ.{Occ}
 use Rattle.scheme_model.specs.Trees.{Tree, name, atom, list, vector, Trees, no_trees, tree, Tail, proper, dotted, map_tree, map_trees, map_tail}
 use Rattle.scheme_model.specs.ExpansionFaults.{Named, named_map, Fault, BadRules, TwoEllipses, IdleEllipsis, ◌>>◌}
-use Rattle.scheme_model.specs.Shapes.{is_among, names_of}
-use Rattle.scheme_model.specs.RulesShape.{Rule, Rules, rule_map, rules_map, option_map, Role, IsLiteral, IsEllipsis, IsAny, IsVariable, Names, is_ellipsis, role_of, acts_as_ellipsis, dots_of, is_dots, leading, bad_pattern, two_dots, Variable, variables_among, variables_behind, first_twice, depth_of, escape_of, bad_template, too_shallow, nowhere, deep_in, deep_enough, all_deep, deep_tail, is_idle, pattern_variables, refuse, check_rule, check_rules, bad, rule_in, rule_of, rules_in, rules_behind, rules_parts, rules_of}
+use Rattle.scheme_model.specs.Shapes.{names_of}
+use Rattle.scheme_model.specs.RulesShape.{Rule, Rules, rule_map, rules_map, option_map, IsLiteral, IsEllipsis, IsAny, IsVariable, Names, is_ellipsis, role_of, acts_as_ellipsis, dots_of, is_dots, leading, bad_pattern, Variable, variables_among, variables_behind, first_twice, depth_of, escape_of, bad_template, too_shallow, nowhere, deep_in, deep_enough, all_deep, deep_tail, pattern_variables, refuse, check_rule, check_rules, bad, rule_in, rule_of, rules_in, rules_behind, rules_parts, rules_of}
 use Rattle.scheme_model.specs.Renaming.{Renames, result_map}
 use Rattle.scheme_model.proofs.RenamingLaws.{Reads, reads, then_map, cond_reads, append_map}
 use Rattle.scheme_model.proofs.ShapeLaws.{names_of-map, is_among-map}
@@ -84,7 +84,7 @@ module _ (A B : Type 0) (f : A → B) where
           subst (λ (e : Option (Tree B)). Reads f same_unit (deep_enough dots depth (list ts tail o) level) (deep_in e (all_deep nowhere depth' (map_trees f ts) level) (all_deep dots' depth' (map_trees f ts) level >> λ done. deep_tail dots' depth' (map_tail f tail) level)))
           (sym (escape_of-map A B f dots dots' h ts tail))
           (deep_in-map (escape_of dots ts tail) (all_deep-map nowhere nowhere (λ i. refl) ts level)
-              (then_map (λ done. deep_tail dots' depth' (map_tail f tail) level) (all_deep-map dots dots' h ts level) (λ done. deep_tail-map dots dots' h tail level)))
+          (then_map (λ done. deep_tail dots' depth' (map_tail f tail) level) (all_deep-map dots dots' h ts level) (λ done. deep_tail-map dots dots' h tail level)))
       deep_enough-map dots dots' h (vector ts o) level = all_deep-map dots dots' h ts level
 
       all_deep-map : (dots : A → Bool) (dots' : B → Bool) → ((i : A) → dots' (f i) ≡ dots i) → (ts : Trees A) (level : ℕ) → Reads f same_unit (all_deep dots depth ts level) (all_deep dots' depth' (map_trees f ts) level)

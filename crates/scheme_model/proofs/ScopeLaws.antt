@@ -1,13 +1,11 @@
 -- Names by scopes are names by substitution.
-use Rattle.std.proofs.Common.{◌≡◌, ℕ, Bool, true, false, cond, List, [], ◌∷◌, Option, Some, None, refl, sym, ap, ◌∙◌, subst}
-use Rattle.std.specs.Prelude.{◌&&◌}
+use Rattle.std.proofs.Common.{◌≡◌, Bool, true, false, cond, [], ◌∷◌, Some, None, refl, sym, ap, ◌∙◌, subst}
 use Rattle.scheme_model.specs.Identifiers.{Name, Written as WrittenName, Var, same_name, strip}
 use Rattle.scheme_model.specs.Ident.{Ident, Written, Inserted, same_ident, erase, symbol_of}
 use Rattle.scheme_model.specs.Trees.{Tree, name, atom, list, vector, Trees, no_trees, tree, Tail, proper, dotted, map_tree, map_trees, map_tail}
-use Rattle.scheme_model.specs.Meaning.{Meaning, Global, Free}
-use Rattle.scheme_model.specs.Order.{is_some}
-use Rattle.scheme_model.specs.Substitution.{Table, Entries, Defined, defined_in, is_plain, defines, imported, global_or, meaning, shallow}
-use Rattle.scheme_model.specs.Scopes.{Bound, Chain, Uses, under, outside, image, substituted, AreOutside, found, own_of, imported_as, defined_or, given_or, local_or, beyond, means}
+use Rattle.scheme_model.specs.Meaning.{Free}
+use Rattle.scheme_model.specs.Substitution.{Table, Entries, defines, global_or, meaning, shallow}
+use Rattle.scheme_model.specs.Scopes.{Bound, Chain, Uses, under, outside, image, substituted, AreOutside, found, own_of, local_or, beyond, means}
 use Rattle.scheme_model.proofs.MeaningLaws.{imported_is, own_name}
 use Rattle.scheme_model.proofs.IdentLaws.{ident_told, ident_itself, name_told, name_itself, bool_same, strip_erased, same_turned}
 

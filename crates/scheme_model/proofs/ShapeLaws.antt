@@ -1,8 +1,8 @@
 -- Reading the shape of a core form commutes with a renaming that tells identifiers apart.
-use Rattle.std.proofs.Common.{◌≡◌, ℕ, List, [], ◌∷◌, ◌++◌, map, Bool, true, false, cond, Option, Some, None, Result, Ok, Err, refl, sym, ap, subst, ◌∙◌}
+use Rattle.std.proofs.Common.{◌≡◌, List, [], ◌∷◌, map, Bool, true, false, cond, Result, Ok, Err, refl, sym, ap, subst, ◌∙◌}
 use Rattle.std.specs.Prelude.{◌||◌}
-use Rattle.scheme_model.specs.Trees.{Atom, Numeral, Quoted, Character, Boolean, Bytes, Tree, name, atom, list, vector, Trees, no_trees, tree, Tail, proper, dotted, map_tree, map_trees, map_tail}
-use Rattle.scheme_model.specs.ExpansionFaults.{Named, named_map, Fault, DuplicateBinder, BadForm, ◌>>◌}
+use Rattle.scheme_model.specs.Trees.{Numeral, Quoted, Character, Boolean, Bytes, Tree, name, atom, list, vector, Trees, no_trees, tree, Tail, proper, dotted, map_tree, map_trees, map_tail}
+use Rattle.scheme_model.specs.ExpansionFaults.{Named, named_map, Fault, BadForm, ◌>>◌}
 use Rattle.scheme_model.specs.Shapes.{Formals, Clause, name_of, names_of, is_among, distinct_from, distinct, formals_in, formals_of, proper_of, some_of, one_of, first_of, list_of, clause_in, lambda_of, clauses_in, distinct_all, case_lambda_of, if_of, named_tree_of, error_text_of, procedure_of, definition_with, definition_of, values_of, FieldShape, RecordShape, field_with, fields_of, constructor_of, all_among, record_in, or_bad_record, record_of, bindings_of, local_macros_of}
 use Rattle.scheme_model.specs.Substitution.{clause_map}
 use Rattle.scheme_model.specs.Renaming.{result_map, formals_map, definition_map, field_map, record_map, local_macros_map}
@@ -184,9 +184,9 @@ module _ (A B : Type 0) (f : A → B) where
 
     record_end : (n : Named A) (c : Named A × List (Named A)) (pred : Named A) (fs : List (FieldShape A))
         → Reads f (record_map f)
-          (distinct same (map (λ (x : FieldShape A). x.field) fs) >> λ done. cond (all_among same c.1 (map (λ (x : FieldShape A). x.field) fs)) (record_whole n c pred fs) (Err BadForm))
-          (distinct same' (map (λ (x : FieldShape B). x.field) (map (field_map f) fs)) >> λ done.
-           cond (all_among same' (map (named_map f) c.1) (map (λ (x : FieldShape B). x.field) (map (field_map f) fs))) (record_whole (named_map f n) (named_before c) (named_map f pred) (map (field_map f) fs)) (Err BadForm))
+        (distinct same (map (λ (x : FieldShape A). x.field) fs) >> λ done. cond (all_among same c.1 (map (λ (x : FieldShape A). x.field) fs)) (record_whole n c pred fs) (Err BadForm))
+        (distinct same' (map (λ (x : FieldShape B). x.field) (map (field_map f) fs)) >> λ done.
+        cond (all_among same' (map (named_map f) c.1) (map (λ (x : FieldShape B). x.field) (map (field_map f) fs))) (record_whole (named_map f n) (named_before c) (named_map f pred) (map (field_map f) fs)) (Err BadForm))
     record_end n c pred fs =
         then_map _ (distinct_names fs)
         (λ done. cond_reads (ap (all_among same' (map (named_map f) c.1)) (field_names fs) ∙ all_among-map c.1 (map (λ (x : FieldShape A). x.field) fs)) (reads refl) (reads refl))

@@ -4,7 +4,7 @@ use Rattle.scheme_model.specs.Identifiers.{Number, Name, Written as WrittenName,
 use Rattle.scheme_model.specs.Ident.{Ident, Written, Inserted, same_ident}
 use Rattle.scheme_model.specs.Order.{is_some}
 use Rattle.scheme_model.specs.Substitution.{Table, Clock, defined_in, is_plain}
-use Rattle.scheme_model.specs.ScopedExpansion.{Frame, Bind, Enter, Frames, BodyDefinitions, UsePlace, around, find}
+use Rattle.scheme_model.specs.ScopedExpansion.{Bind, Enter, Frames, BodyDefinitions, UsePlace, around, find}
 
 -- a number that a unit's forms have counted by then; those of other units are older
 abbrev pub is_before : ℕ → Clock → Number → Bool

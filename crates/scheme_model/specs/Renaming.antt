@@ -1,8 +1,8 @@
 -- Renamings: what is read from trees, with each identifier changed.
-use Rattle.std.specs.Prelude.{◌≡◌, List, map, Bool, Option, Some, None, Result, Ok, Err}
-use Rattle.scheme_model.specs.Trees.{Tree, Trees, Tail, map_tree, map_trees, map_tail}
-use Rattle.scheme_model.specs.ExpansionFaults.{Named, named_map, Fault, fault_map}
-use Rattle.scheme_model.specs.Shapes.{Formals, Clause, DefinitionShape, Variable, Procedure, FieldShape, RecordShape, LocalMacros}
+use Rattle.std.specs.Prelude.{◌≡◌, map, Result, Ok, Err}
+use Rattle.scheme_model.specs.Trees.{Trees, Tail, map_tree, map_trees, map_tail}
+use Rattle.scheme_model.specs.ExpansionFaults.{named_map, Fault, fault_map}
+use Rattle.scheme_model.specs.Shapes.{Formals, DefinitionShape, Variable, Procedure, FieldShape, RecordShape, LocalMacros}
 use Rattle.scheme_model.specs.Quasiquote.{Pieces}
 use Rattle.scheme_model.specs.RulesShape.{Names, option_map}
 use Rattle.scheme_model.specs.Matching.{Value, One, Many, Values, no_values, value, Binding, Match, Chosen}

@@ -1,9 +1,9 @@
 -- Expansion by scopes: nothing is substituted. An identifier is looked up through the frames around its place, from the
 -- innermost on, and a body's definitions stand in one list. A unit's own definitions stand in a table, as ever.
-use Rattle.std.specs.Prelude.{ℕ, suc, ◌+◌, ◌==◌, List, [], ◌∷◌, Bool, true, false, ◌&&◌, Option, Some, None, Result, Ok, Err, if◌then◌else◌}
+use Rattle.std.specs.Prelude.{ℕ, suc, ◌+◌, List, [], ◌∷◌, Bool, false, ◌&&◌, Option, Some, None, Result, Ok, Err, if◌then◌else◌}
 use Rattle.scheme_model.specs.Identifiers.{Number, same_number}
 use Rattle.scheme_model.specs.Ident.{Ident, Written, Inserted, same_ident, symbol_of}
-use Rattle.scheme_model.specs.ExpansionFaults.{Named, named, Fault, KeywordRedefined, Duplicate}
+use Rattle.scheme_model.specs.ExpansionFaults.{Named, Fault, KeywordRedefined, Duplicate}
 use Rattle.scheme_model.specs.Meaning.{Meaning, Local, Global, Free, same_meaning}
 use Rattle.scheme_model.specs.Requirements.{Known}
 use Rattle.scheme_model.specs.RulesShape.{Rules}
