@@ -1,36 +1,36 @@
 -- The law of one macro use: both sides choose the same rule, and build what is the same instance.
-use Rattle.std.proofs.Common.{◌≡◌, ℕ, ◌+◌, ◌-◌, List, ◌∷◌, map, Bool, true, false, cond, Option, Some, None, Ok, refl, sym, ap, ◌∙◌, subst}
+use Rattle.std.proofs.Common.{◌≡◌, ℕ, suc, ◌+◌, ◌-◌, List, [], ◌∷◌, map, Bool, true, false, cond, Option, Some, None, Result, Ok, Err, refl, sym, ap, ◌∙◌, subst}
 use Rattle.std.specs.Prelude.{nat_lt}
 use Rattle.scheme_model.specs.Identifiers.{Number, Name, Inserted as InsertedName, same_name, strip}
-use Rattle.scheme_model.specs.Ident.{Ident, Inserted, same_ident, symbol_of}
+use Rattle.scheme_model.specs.Ident.{Ident, Inserted, erase, same_ident, symbol_of}
 use Rattle.scheme_model.specs.Trees.{Tree, Trees, Tail, map_tree, map_trees, map_tail}
-use Rattle.scheme_model.specs.ExpansionFaults.{Named, named, named_map, NoRule, UseBudget}
+use Rattle.scheme_model.specs.ExpansionFaults.{Named, named, named_map, Fault, fault_map, NoRule, UseBudget}
 use Rattle.scheme_model.specs.Meaning.{same_meaning}
 use Rattle.scheme_model.specs.Requirements.{Known}
 use Rattle.scheme_model.specs.RulesShape.{Rules, rules_map, Names}
-use Rattle.scheme_model.specs.Matching.{Binding, Chosen, matcher, first_match}
+use Rattle.scheme_model.specs.Matching.{Value, One, Many, Values, no_values, value, Binding, Chosen, matcher, first_match}
 use Rattle.scheme_model.specs.Building.{Built, build}
 use Rattle.scheme_model.specs.Cores.{Target, MacroUse}
-use Rattle.scheme_model.specs.Steps.{fails}
-use Rattle.scheme_model.specs.Order.{Here, Transformer, target_of, used, use_of, max_uses, max_nodes}
-use Rattle.scheme_model.specs.Substitution.{at_form, meaning, model}
+use Rattle.scheme_model.specs.Steps.{◌>>=◌, done, fails}
+use Rattle.scheme_model.specs.Order.{Here, Transformer, target_of, given, used, use_of, max_uses, max_nodes}
+use Rattle.scheme_model.specs.Substitution.{Clock, at_form, meaning, model}
 use Rattle.scheme_model.specs.ScopedExpansion.{Frames, ScopedState, next_number, means_at, scoped}
 use Rattle.scheme_model.specs.Renaming.{Renames, value_map, values_map, binding_map, chosen_map, built_map}
-use Rattle.scheme_model.specs.Matching.{Value, One, Many, Values, no_values, value}
-use Rattle.scheme_model.specs.OpenBodies.{Below}
-use Rattle.scheme_model.proofs.RenamingLaws.{Reads, Finds, finds, map_after, map_turned}
+use Rattle.scheme_model.specs.OpenBodies.{Before, Entered, Below}
+use Rattle.scheme_model.proofs.RenamingLaws.{Reads, reads, Finds, finds, map_after, map_turned}
 use Rattle.scheme_model.proofs.RulesLaws.{role_of-map, dots_of-map}
 use Rattle.scheme_model.proofs.MatchLaws.{first_match-map}
 use Rattle.scheme_model.proofs.BuildLaws.{build-map}
 use Rattle.scheme_model.proofs.ScopeLaws.{map_map}
-use Rattle.scheme_model.proofs.IdentKinds.{Kind, mapped_same, tree_kind, trees_kind, tail_kind, rules_kind}
+use Rattle.scheme_model.proofs.IdentKinds.{Kind, pointwise, mapped_same, faults_fused, tree_kind, trees_kind, tail_kind, rules_kind}
 use Rattle.scheme_model.proofs.Clocks.{leq_counted}
-use Rattle.scheme_model.proofs.FrameNames.{same_frame_image, strip_frame_image}
+use Rattle.scheme_model.proofs.FrameNames.{same_frame_image, strip_frame_image, erase_frame_image}
 use Rattle.scheme_model.proofs.FrameTimes.{below_more}
-use Rattle.scheme_model.proofs.FrameStates.{names, view, Old, ident_of, FineState, Grows, grows_itself, grows_then, Stands, names_mean, names_far, names_later, macros_later}
+use Rattle.scheme_model.proofs.FrameAsks.{BindersCounted}
+use Rattle.scheme_model.proofs.FrameStates.{names, view, made_later, FineState, Grows, grows_itself, Stands, names_mean, names_far, names_later, macros_later}
 use Rattle.scheme_model.proofs.FrameGrowth.{used_state, use_grows, use_fine, inserted_below, use_names}
-use Rattle.scheme_model.proofs.FrameLeaves.{TreesAll, TailAll, lift_trees, lift_tail, lifted_trees, lifted_tail}
-use Rattle.scheme_model.proofs.FrameAgrees.{Agrees, agree, agrees_at, agrees_more, Keeps, keeps_bind, same_fails, Seen, read_over}
+use Rattle.scheme_model.proofs.FrameLeaves.{TreesAll, TailAll, Holding, held, lift_trees, lift_tail, lifted_trees, lifted_tail, Held, held_made, made_held}
+use Rattle.scheme_model.proofs.FrameAgrees.{Agrees, agree, break, agrees_at, agrees_more, Keeps, keeps_itself, Seen}
 use Rattle.scheme_model.proofs.FrameHeads.{seen_transformer, TransformerFine, target_seen}
 
 -- ---- bindings and instances as kinds
@@ -53,31 +53,31 @@ identifiers = record { same = same_ident; strip = symbol_of }
 abbrev model_names : Names Name
 model_names = record { same = same_name; strip = strip }
 
-module _ (w : ℕ) (known : Known) (s : ScopedState) (f : FineState w s) (in_body : Bool) (mine : List Number) (fs : Frames) (stands : Stands w s fs) (m : Transformer Frames Ident) (fine : TransformerFine w s m) (ts : Trees Ident) (tail : Tail Ident) (made : TreesAll (Below w s.uses) ts) (made_end : TailAll (Below w s.uses) tail) where
-  -- the rules and the form, over what was made by then
+-- The rules hold PR, the form holds PF, and what comes of them R. K is what holds of states: of this one, and of what the use leaves.
+module _ (w : ℕ) (known : Known) (s : ScopedState) (f : FineState w s) (in_body : Bool) (mine : List Number) (fs : Frames) (stands : Stands w s fs) (m : Transformer Frames Ident) (entered : Entered (Before w s.bodies) m.env) (binders : BindersCounted w s.locals m.env)
+    (PR PF R : Ident → Type 0) (rules_below : (i : Ident) → PR i → Below w s.uses i) (form_below : (i : Ident) → PF i → Below w s.uses i) (keeps_form : (i : Ident) → PF i → R i) (inserts : (i : Ident) → PR i → R (Inserted i (next_number s s.uses)))
+    (rules_held : Held rules_kind PR m.rules) (ts : Trees Ident) (tail : Tail Ident) (made : TreesAll PF ts) (made_end : TailAll PF tail)
+    (K : ScopedState → Bool → List Number → Type 0) (k_here : K s in_body mine) (k_then : (x : ℕ → List MacroUse) (y : Clock) → K (record (used_state w m.env s) { met = x; nodes = y }) in_body mine) where
   abbrev A : Type 0
-  A = Old w fine.rules.clock
+  A = Holding PR
 
   abbrev B : Type 0
-  B = Old w s.uses
+  B = Holding PF
 
   abbrev in_rules : A → Ident
-  in_rules = ident_of w fine.rules.clock
+  in_rules = held PR
 
   abbrev in_form : B → Ident
-  in_form = ident_of w s.uses
-
-  below : (p : A) → Below w s.uses p.0
-  below p = below_more w fine.rules.clock s.uses fine.rules.earlier p.0 p.1
+  in_form = held PF
 
   abbrev rules : Rules A
-  rules = fine.rules.made
+  rules = rules_held.made
 
   abbrev form : Trees B
-  form = lift_trees (Below w s.uses) ts made
+  form = lift_trees PF ts made
 
   abbrev end : Tail B
-  end = lift_tail (Below w s.uses) tail made_end
+  end = lift_tail PF tail made_end
 
   abbrev told : Names A
   told = record { same = λ p q. same_ident p.0 q.0; strip = λ p. symbol_of p.0 }
@@ -90,7 +90,7 @@ module _ (w : ℕ) (known : Known) (s : ScopedState) (f : FineState w s) (in_bod
   grows = use_grows w s f m.env
 
   fine_then : FineState w then_
-  fine_then = use_fine w s f m.env fine.entered fine.binders
+  fine_then = use_fine w s f m.env entered binders
 
   abbrev rule_name : A → Name
   rule_name p = names then_ m.env p.0
@@ -99,29 +99,29 @@ module _ (w : ℕ) (known : Known) (s : ScopedState) (f : FineState w s) (in_bod
   form_name p = names then_ fs p.0
 
   rule_same : (p : A) → rule_name p ≡ names s m.env p.0
-  rule_same p = sym (names_far w s then_ f grows m.env fine.entered p.0 (below p))
+  rule_same p = sym (names_far w s then_ f grows m.env entered p.0 (rules_below p.0 p.1))
 
   form_same : (p : B) → form_name p ≡ names s fs p.0
-  form_same p = sym (names_later w s then_ f grows fs stands p.0 p.1)
+  form_same p = sym (names_later w s then_ f grows fs stands p.0 (form_below p.0 p.1))
 
   -- the model's rules and form
   rules_same : rules_map rule_name rules ≡ rules_map (names s m.env) m.rules
   rules_same =
       mapped_same rules_kind A Name rule_name (λ p. names s m.env p.0) rule_same rules
       ∙ sym (rules_kind.fused A Ident Name (names s m.env) in_rules rules)
-      ∙ ap (rules_map (names s m.env)) fine.rules.same
+      ∙ ap (rules_map (names s m.env)) rules_held.same
 
   form_trees : map_trees form_name form ≡ map_trees (names s fs) ts
   form_trees =
       mapped_same trees_kind B Name form_name (λ p. names s fs p.0) form_same form
       ∙ sym (trees_kind.fused B Ident Name (names s fs) in_form form)
-      ∙ ap (map_trees (names s fs)) (lifted_trees (Below w s.uses) ts made)
+      ∙ ap (map_trees (names s fs)) (lifted_trees PF ts made)
 
   form_tail : map_tail form_name end ≡ map_tail (names s fs) tail
   form_tail =
       mapped_same tail_kind B Name form_name (λ p. names s fs p.0) form_same end
       ∙ sym (tail_kind.fused B Ident Name (names s fs) in_form end)
-      ∙ ap (map_tail (names s fs)) (lifted_tail (Below w s.uses) tail made_end)
+      ∙ ap (map_tail (names s fs)) (lifted_tail PF tail made_end)
 
   -- ---- which rule matches
 
@@ -151,7 +151,7 @@ module _ (w : ℕ) (known : Known) (s : ScopedState) (f : FineState w s) (in_bod
 
   scoped_found : Finds (chosen_map in_rules in_form) chosen_over scoped_chosen
   scoped_found =
-      let r = fine.rules.same in let t = lifted_trees (Below w s.uses) ts made in let e = lifted_tail (Below w s.uses) tail made_end in
+      let r = rules_held.same in let t = lifted_trees PF ts made in let e = lifted_tail PF tail made_end in
       subst (Finds (chosen_map in_rules in_form) chosen_over) (λ j. first_match (matcher identifiers (r j) scoped_means) (r j).rules (t j) (e j))
       (first_match-map A B Ident Ident in_rules in_form (matcher told rules means_same) (matcher identifiers (rules_map in_rules rules) scoped_means)
       (record { role = role_of-map A Ident in_rules told identifiers rules_told rules; dots = dots_of-map A Ident in_rules told identifiers rules_told rules; means = λ p q. refl }) rules.rules form end)
@@ -176,21 +176,25 @@ module _ (w : ℕ) (known : Known) (s : ScopedState) (f : FineState w s) (in_bod
 
   -- what was made once the use has begun
   abbrev Made_then : Type 0
-  Made_then = Old w then_.uses
+  Made_then = Holding R
 
   abbrev kept : B → Made_then
-  kept p = (p.0, below_more w s.uses then_.uses (leq_counted s.form s.uses) p.0 p.1)
+  kept p = (p.0, keeps_form p.0 p.1)
 
   abbrev inserted : A → Made_then
-  inserted p = (Inserted p.0 number, inserted_below w s f p.0 (below p))
+  inserted p = (Inserted p.0 number, inserts p.0 p.1)
 
   inserted_name : (p : A) → InsertedName (rule_name p) number ≡ names then_ fs (Inserted p.0 number)
-  inserted_name p = ap (λ (y : Name). InsertedName y number) (rule_same p) ∙ use_names w s f fs m.env stands p.0 (below p)
+  inserted_name p = ap (λ (y : Name). InsertedName y number) (rule_same p) ∙ use_names w s f fs m.env stands p.0 (rules_below p.0 p.1)
 
   abbrev left : ℕ
   left = max_nodes - s.nodes s.form
 
   module _ (here : Here) (keyword : Target) where
+    -- the instance, in a state that keeps what was there once the use had begun
+    abbrev Instance : ScopedState → Tree Ident → Tree Name → Type 0
+    Instance t a b = Grows w then_ t × Held tree_kind R a × (b ≡ map_tree (names t fs) a)
+
     module _ (c : Chosen A B) where
       abbrev bindings : List (Binding A Made_then)
       bindings = map (binding_map (λ (p : A). p) kept) c.match.bindings
@@ -200,13 +204,13 @@ module _ (w : ℕ) (known : Known) (s : ScopedState) (f : FineState w s) (in_bod
           let v = value_fused g kept b.value ∙ ap (λ (k : B → D). value_map k b.value) (λ j p. e p j) in
           λ j. record { variable = h b.variable; value = v j }
 
-      scoped_built : Reads (ident_of w then_.uses) (built_kind.map Made_then Ident (ident_of w then_.uses)) (build told rules inserted c.rule.template bindings left) (build identifiers m.rules (λ i. Inserted i number) (map_tree in_rules c.rule.template) (map (binding_map in_rules in_form) c.match.bindings) left)
+      scoped_built : Reads (held R) (built_kind.map Made_then Ident (held R)) (build told rules inserted c.rule.template bindings left) (build identifiers m.rules (λ i. Inserted i number) (map_tree in_rules c.rule.template) (map (binding_map in_rules in_form) c.match.bindings) left)
       scoped_built =
-          let r = fine.rules.same in
-          let b = map_after (binding_map in_rules (ident_of w then_.uses)) (binding_map (λ (p : A). p) kept) (binding_map in_rules in_form) (bound_again in_rules (ident_of w then_.uses) in_form (λ p. refl)) c.match.bindings in
-          subst (Reads (ident_of w then_.uses) (built_kind.map Made_then Ident (ident_of w then_.uses)) (build told rules inserted c.rule.template bindings left))
+          let r = rules_held.same in
+          let b = map_after (binding_map in_rules (held R)) (binding_map (λ (p : A). p) kept) (binding_map in_rules in_form) (bound_again in_rules (held R) in_form (λ p. refl)) c.match.bindings in
+          subst (Reads (held R) (built_kind.map Made_then Ident (held R)) (build told rules inserted c.rule.template bindings left))
           (λ j. build identifiers (r j) (λ i. Inserted i number) (map_tree in_rules c.rule.template) (b j) left)
-          (build-map A Made_then Ident Ident in_rules (ident_of w then_.uses) Made_then Ident (ident_of w then_.uses) told identifiers rules_told rules inserted (λ i. Inserted i number) (λ p. refl) c.rule.template bindings left)
+          (build-map A Made_then Ident Ident in_rules (held R) Made_then Ident (held R) told identifiers rules_told rules inserted (λ i. Inserted i number) (λ p. refl) c.rule.template bindings left)
 
       model_built : Reads (λ (p : Made_then). names then_ fs p.0) (built_kind.map Made_then Name (λ p. names then_ fs p.0)) (build told rules inserted c.rule.template bindings left) (build model_names (rules_map (names s m.env) m.rules) (λ i. InsertedName i number) (map_tree rule_name c.rule.template) (map (binding_map rule_name form_name) c.match.bindings) left)
       model_built =
@@ -229,28 +233,57 @@ module _ (w : ℕ) (known : Known) (s : ScopedState) (f : FineState w s) (in_bod
           (map_turned (λ (n : Named Name). target_of (model known) tt (view in_body mine then_) n.name n.occ) (named_map form_name) (λ (n : Named Ident). target_of (scoped known) fs then_ n.name n.occ) (named_map in_form)
           (λ n. target_seen w known then_ fine_then in_body mine fs n.name.0 n.occ) c.match.met)
 
-      instance_law : Agrees (Keeps w then_) (Seen w tree_kind fs) (used (scoped known) here fs keyword m number (Some (chosen_map in_rules in_form c)) then_) (used (model known) here tt keyword (seen_transformer s.places s.definitions m) number (Some (chosen_map rule_name form_name c)) (view in_body mine then_))
-      instance_law =
-          keeps_bind w then_ _ (read_over w built_kind here fs then_ fine_then in_body mine (build told rules inserted c.rule.template bindings left) _ _ scoped_built model_built) (λ a b t i n k q.
-          agree a.value b.value (record t { met = at_form t.form (λ us. scoped_met ∷ us) t.met; nodes = at_form t.form (λ x. x + a.count) t.nodes }) i n refl
-          (let e = met_same in let z : b.count ≡ a.count = ap (λ x. x.count) q.1 in
-          λ j. (Ok b.value, view i n (record t { met = at_form t.form (λ us. e j ∷ us) t.met; nodes = at_form t.form (λ x. x + z j) t.nodes })))
-          (k.0, grows_itself w t) (record { clock = q.0.clock; earlier = q.0.earlier; made = q.0.made.value; same = ap (λ x. x.value) q.0.same }, ap (λ x. x.value) q.1))
+      abbrev over : Result (Built (Tree Made_then)) (Fault Made_then) → Type 0
+      over r0 = (r : Result (Built (Tree Ident)) (Fault Ident)) (r' : Result (Built (Tree Name)) (Fault Name)) → Reads (held R) (built_kind.map Made_then Ident (held R)) r0 r → Reads (λ (p : Made_then). names then_ fs p.0) (built_kind.map Made_then Name (λ p. names then_ fs p.0)) r0 r'
+          → Agrees K Instance (given (λ i. i) here r then_ >>= λ b t. done b.value ((scoped known).spend b.count ((scoped known).meet_use scoped_met t))) (given erase here r' (view in_body mine then_) >>= λ b t. done b.value ((model known).spend b.count ((model known).meet_use model_met t)))
+
+      build_cases : (r0 : Result (Built (Tree Made_then)) (Fault Made_then)) → over r0
+      build_cases (Ok x) r r' (reads e) (reads d) =
+          agrees_at (ap (λ z. given (λ i. i) here z then_ >>= λ b t. done b.value ((scoped known).spend b.count ((scoped known).meet_use scoped_met t))) e) (ap (λ z. given erase here z (view in_body mine then_) >>= λ b t. done b.value ((model known).spend b.count ((model known).meet_use model_met t))) d)
+          (agree (map_tree (held R) x.value) (map_tree (λ p. names then_ fs p.0) x.value) (record then_ { met = at_form s.form (λ us. scoped_met ∷ us) s.met; nodes = at_form s.form (λ y. y + x.count) s.nodes }) in_body mine refl
+              (let u = met_same in λ j. (Ok (map_tree (λ (p : Made_then). names then_ fs p.0) x.value), view in_body mine (record then_ { met = at_form s.form (λ us. u j ∷ us) s.met; nodes = at_form s.form (λ y. y + x.count) s.nodes })))
+              (k_then (at_form s.form (λ us. scoped_met ∷ us) s.met) (at_form s.form (λ y. y + x.count) s.nodes))
+              (grows_itself w then_, record { made = x.value; same = refl }, sym (map_map (names then_ fs) (held R) x.value)))
+      build_cases (Err z) r r' (reads e) (reads d) =
+          agrees_at (ap (λ z. given (λ i. i) here z then_ >>= λ b t. done b.value ((scoped known).spend b.count ((scoped known).meet_use scoped_met t))) e) (ap (λ z. given erase here z (view in_body mine then_) >>= λ b t. done b.value ((model known).spend b.count ((model known).meet_use model_met t))) d)
+          (break (record { fault = fault_map (λ i. i) (fault_map (held R) z); here = here }) then_ in_body mine refl
+              (ap (λ (y : Fault Ident). (Err (record { fault = y; here = here }), view in_body mine then_)) (fault_over z)) (k_then s.met s.nodes))
+        where
+          fault_over : (y : Fault Made_then) → fault_map erase (fault_map (λ (p : Made_then). names then_ fs p.0) y) ≡ fault_map (λ i. i) (fault_map (held R) y)
+          fault_over y =
+              faults_fused Made_then Name Ident erase (λ p. names then_ fs p.0) y
+              ∙ ap (λ (h : Made_then → Ident). fault_map h y) (pointwise (λ p. erase (names then_ fs p.0)) (held R) (λ p. erase_frame_image then_.places then_.definitions fs p.0))
+              ∙ sym (faults_fused Made_then Ident Ident (λ i. i) (held R) y)
+
+      instance_law : Agrees K Instance (used (scoped known) here fs keyword m number (Some (chosen_map in_rules in_form c)) then_) (used (model known) here tt keyword (seen_transformer s.places s.definitions m) number (Some (chosen_map rule_name form_name c)) (view in_body mine then_))
+      instance_law = build_cases (build told rules inserted c.rule.template bindings left) _ _ scoped_built model_built
 
     by_choice : (o : Option (Chosen A B)) (oc : Option (Chosen Ident Ident)) (om : Option (Chosen Name Name)) → Finds (chosen_map in_rules in_form) o oc → Finds (chosen_map rule_name form_name) o om
-        → Agrees (Keeps w then_) (Seen w tree_kind fs) (used (scoped known) here fs keyword m number oc then_) (used (model known) here tt keyword (seen_transformer s.places s.definitions m) number om (view in_body mine then_))
-    by_choice None oc om (finds e) (finds d) = agrees_at (ap (λ o. used (scoped known) here fs keyword m number o then_) e) (ap (λ o. used (model known) here tt keyword (seen_transformer s.places s.definitions m) number o (view in_body mine then_)) d) (same_fails w then_ in_body mine here (NoRule (named keyword.ident keyword.occ)) fine_then)
+        → Agrees K Instance (used (scoped known) here fs keyword m number oc then_) (used (model known) here tt keyword (seen_transformer s.places s.definitions m) number om (view in_body mine then_))
+    by_choice None oc om (finds e) (finds d) = agrees_at (ap (λ o. used (scoped known) here fs keyword m number o then_) e) (ap (λ o. used (model known) here tt keyword (seen_transformer s.places s.definitions m) number o (view in_body mine then_)) d) (break (record { fault = NoRule (named keyword.ident keyword.occ); here = here }) then_ in_body mine refl refl (k_then s.met s.nodes))
     by_choice (Some c) oc om (finds e) (finds d) = agrees_at (ap (λ o. used (scoped known) here fs keyword m number o then_) e) (ap (λ o. used (model known) here tt keyword (seen_transformer s.places s.definitions m) number o (view in_body mine then_)) d) (instance_law c)
 
     begun : (model known).begin_use tt (view in_body mine s) ≡ view in_body mine then_
     begun = ap (λ ms. record (view in_body mine then_) { macros = ms }) (macros_later w s then_ f grows s.macros f.1.macros)
 
-    pub use_law : Agrees (Keeps w s) (Seen w tree_kind fs) (use_of (scoped known) here fs keyword m ts tail s) (use_of (model known) here tt keyword (seen_transformer s.places s.definitions m) (map_trees (names s fs) ts) (map_tail (names s fs) tail) (view in_body mine s))
-    use_law = go (nat_lt (s.uses s.form) max_uses)
+    pub held_use_law : Agrees K Instance (use_of (scoped known) here fs keyword m ts tail s) (use_of (model known) here tt keyword (seen_transformer s.places s.definitions m) (map_trees (names s fs) ts) (map_tail (names s fs) tail) (view in_body mine s))
+    held_use_law = go (nat_lt (s.uses s.form) max_uses)
       where
-        go : (t : Bool) → Agrees (Keeps w s) (Seen w tree_kind fs) (cond t (used (scoped known) here fs keyword m number scoped_chosen then_) (fails here UseBudget s))
+        go : (t : Bool) → Agrees K Instance (cond t (used (scoped known) here fs keyword m number scoped_chosen then_) (fails here UseBudget s))
             (cond t (used (model known) here tt keyword (seen_transformer s.places s.definitions m) number model_chosen ((model known).begin_use tt (view in_body mine s))) (fails here UseBudget (view in_body mine s)))
         go true =
-            agrees_more {K = Keeps w then_} {L = Keeps w s} {R = Seen w tree_kind fs} {Q = Seen w tree_kind fs} (λ t i n k. (k.0, grows_then w s then_ t grows k.1)) (λ t a b q. q)
             (agrees_at refl (ap (used (model known) here tt keyword (seen_transformer s.places s.definitions m) number model_chosen) begun) (by_choice chosen_over scoped_chosen model_chosen scoped_found model_found))
-        go false = same_fails w s in_body mine here UseBudget f
+        go false = break (record { fault = UseBudget; here = here }) s in_body mine refl refl k_here
+
+-- where the rules and the form were made by then
+module _ (w : ℕ) (known : Known) (s : ScopedState) (f : FineState w s) (in_body : Bool) (mine : List Number) (fs : Frames) (stands : Stands w s fs) (m : Transformer Frames Ident) (fine : TransformerFine w s m) (ts : Trees Ident) (tail : Tail Ident) (made : TreesAll (Below w s.uses) ts) (made_end : TailAll (Below w s.uses) tail) (here : Here) (keyword : Target) where
+  abbrev After : ScopedState → Tree Ident → Tree Name → Type 0
+  After t a b = Grows w (used_state w m.env s) t × Held tree_kind (Below w (used_state w m.env s).uses) a × (b ≡ map_tree (names t fs) a)
+
+  pub use_law : Agrees (Keeps w s) (Seen w tree_kind fs) (use_of (scoped known) here fs keyword m ts tail s) (use_of (model known) here tt keyword (seen_transformer s.places s.definitions m) (map_trees (names s fs) ts) (map_tail (names s fs) tail) (view in_body mine s))
+  use_law =
+      agrees_more {K = Keeps w s} {L = Keeps w s} {R = After} {Q = Seen w tree_kind fs} (λ t i n k. k)
+      (λ t a b q. (made_later tree_kind w (used_state w m.env s).uses t.uses q.0.uses a (held_made tree_kind w (used_state w m.env s).uses a q.1), q.2))
+      (held_use_law w known s f in_body mine fs stands m fine.entered fine.binders (Below w s.uses) (Below w s.uses) (Below w (used_state w m.env s).uses) (λ i l. l) (λ i l. l)
+          (λ i l. below_more w s.uses (used_state w m.env s).uses (leq_counted s.form s.uses) i l) (inserted_below w s f) (made_held rules_kind w s.uses m.rules fine.rules) ts tail made made_end
+          (Keeps w s) (keeps_itself w s f in_body mine) (λ x y. (use_fine w s f m.env fine.entered fine.binders, use_grows w s f m.env)) here keyword)

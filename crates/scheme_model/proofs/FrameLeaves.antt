@@ -1,13 +1,14 @@
 -- Trees each of whose identifiers was made by then, part by part.
-use Rattle.std.proofs.Common.{◌≡◌, ℕ, refl, ap, subst}
+use Rattle.std.proofs.Common.{◌≡◌, ℕ, refl, sym, ap, ◌∙◌, subst}
+use Rattle.scheme_model.specs.Identifiers.{Name}
 use Rattle.scheme_model.specs.Ident.{Ident}
 use Rattle.scheme_model.specs.Trees.{Tree, name, atom, list, vector, Trees, no_trees, tree, Tail, proper, dotted, map_tree, map_trees, map_tail}
 use Rattle.scheme_model.specs.Substitution.{Clock}
 use Rattle.scheme_model.specs.OpenBodies.{Below}
-use Rattle.scheme_model.proofs.IdentKinds.{tree_kind, trees_kind}
+use Rattle.scheme_model.proofs.IdentKinds.{Kind, mapped_same, tree_kind, trees_kind}
 use Rattle.scheme_model.proofs.Clocks.{leq_itself}
 use Rattle.scheme_model.proofs.FrameTimes.{below_more}
-use Rattle.scheme_model.proofs.FrameStates.{Made}
+use Rattle.scheme_model.proofs.FrameStates.{Old, ident_of, Made}
 
 -- each identifier of a tree
 abbrev mutual
@@ -124,3 +125,42 @@ module _ (w : ℕ) (u : Clock) where
 
   pub all_made_trees : (ts : Trees Ident) → Made trees_kind w u ts → TreesAll (Below w u) ts
   all_made_trees ts m = trees_more (Below w m.clock) (Below w u) (below_more w m.clock u m.earlier) ts (subst (TreesAll (Below w m.clock)) m.same (all_held_trees (Below w m.clock) m.made))
+
+-- ---- structures over identifiers that hold P
+
+pub record Held (k : Kind) (P : Ident → Type 0) (x : k.of Ident) : Type 0 where
+  pub made : k.of (Holding P)
+  pub same : k.map (Holding P) Ident (held P) made ≡ x
+
+pub held_more : (k : Kind) (P Q : Ident → Type 0) → ((i : Ident) → P i → Q i) → (x : k.of Ident) → Held k P x → Held k Q x
+held_more k P Q h x m = record {
+  made = k.map (Holding P) (Holding Q) (λ p. (p.0, h p.0 p.1)) m.made;
+  same = k.fused (Holding P) (Holding Q) Ident (held Q) (λ p. (p.0, h p.0 p.1)) m.made ∙ m.same;
+}
+
+-- maps that agree where P holds
+pub held_same : (k : Kind) (P : Ident → Type 0) (f g : Ident → Name) → ((i : Ident) → P i → f i ≡ g i) → (x : k.of Ident) → Held k P x → k.map Ident Name f x ≡ k.map Ident Name g x
+held_same k P f g e x m =
+    ap (k.map Ident Name f) (sym m.same)
+    ∙ k.fused (Holding P) Ident Name f (held P) m.made
+    ∙ mapped_same k (Holding P) Name (λ p. f p.0) (λ p. g p.0) (λ p. e p.0 p.1) m.made
+    ∙ sym (k.fused (Holding P) Ident Name g (held P) m.made)
+    ∙ ap (k.map Ident Name g) m.same
+
+pub held_made : (k : Kind) (w : ℕ) (u : Clock) (x : k.of Ident) → Held k (Below w u) x → Made k w u x
+held_made k w u x m = record { clock = u; earlier = leq_itself u; made = m.made; same = m.same }
+
+pub made_held : (k : Kind) (w : ℕ) (u : Clock) (x : k.of Ident) → Made k w u x → Held k (Below w u) x
+made_held k w u x m = record {
+  made = k.map (Old w m.clock) (Old w u) (λ p. (p.0, below_more w m.clock u m.earlier p.0 p.1)) m.made;
+  same = k.fused (Old w m.clock) (Old w u) Ident (ident_of w u) (λ p. (p.0, below_more w m.clock u m.earlier p.0 p.1)) m.made ∙ m.same;
+}
+
+pub held_tree : (P : Ident → Type 0) (t : Tree Ident) → TreeAll P t → Held tree_kind P t
+held_tree P t e = record { made = lift_tree P t e; same = lifted_tree P t e }
+
+pub tree_held : (P : Ident → Type 0) (t : Tree Ident) → Held tree_kind P t → TreeAll P t
+tree_held P t m = subst (TreeAll P) m.same (all_held P m.made)
+
+pub trees_held : (P : Ident → Type 0) (ts : Trees Ident) → Held trees_kind P ts → TreesAll P ts
+trees_held P ts m = subst (TreesAll P) m.same (all_held_trees P m.made)
