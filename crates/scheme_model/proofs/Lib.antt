@@ -26,6 +26,7 @@ pub mod FrameHeads
 pub mod FrameUses
 pub mod FrameInstances
 pub mod FrameReaders
+pub mod FrameHeld
 pub mod Distinct
 pub mod FrameExpressions
 pub mod FrameBinders
