@@ -27,6 +27,7 @@ pub mod FrameUses
 pub mod FrameInstances
 pub mod FrameReaders
 pub mod FrameHeld
+pub mod FramePlaces
 pub mod Distinct
 pub mod FrameExpressions
 pub mod FrameBinders
