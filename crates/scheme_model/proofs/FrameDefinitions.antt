@@ -232,7 +232,7 @@ module _ (w : ℕ) (known : Known) (fs : Frames) (Inside : ScopedState → Bool 
       (let z = e x.name in λ j. record { bound = LocalNumber (next_number s s.locals); ident = z j; occ = x.occ } ∷ q j))
 
   -- a step that changes no older image, and then another
-  grown_bind : {A B C D : Type 0} {R : ScopedState → A → B → Type 0} {W : ScopedState → C → D → Type 0} {r : Result A Broken × ScopedState} {m : Result B Broken × State} {go : A → Step ScopedState C} (s : ScopedState) (go' : B → Step State D)
+  pub grown_bind : {A B C D : Type 0} {R : ScopedState → A → B → Type 0} {W : ScopedState → C → D → Type 0} {r : Result A Broken × ScopedState} {m : Result B Broken × State} {go : A → Step ScopedState C} (s : ScopedState) (go' : B → Step State D)
       → Agrees (λ t i n. Inside t i n × Grows w s t) R r m → ((a : A) (b : B) (t : ScopedState) (i : Bool) (n : List Number) → Inside t i n → Grows w s t → R t a b → Agrees (At t) W (go a t) (go' b (view i n t))) → Agrees (At s) W (r >>= go) (m >>= go')
   grown_bind {W = W} {go = go} s go' (agree a b t i n e d k q) next =
       agrees_at (ap (λ x. x >>= go) e) (ap (λ x. x >>= go') d) (agrees_more {K = At t} {L = At s} {R = W} {Q = W} (λ v i1 n1 l. (l.0, facts.trail_then s t v (facts.trail s t k.1) l.1)) (λ v c z x. x) (next a b t i n k.0 k.1 q))

@@ -29,6 +29,7 @@ pub mod FrameReaders
 pub mod FrameHeld
 pub mod FramePlaces
 pub mod FrameDefinitions
+pub mod FrameSyntax
 pub mod Distinct
 pub mod FrameExpressions
 pub mod FrameBinders
