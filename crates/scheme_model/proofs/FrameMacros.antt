@@ -65,7 +65,7 @@ module _ (w : ℕ) (known : Known) (s : ScopedState) (f : FineState w s) (in_bod
 
 -- ---- heads of rules
 
-parts_of-map : (f : Ident → Name) (t : Tree Ident) → rules_parts_of (map_tree f t) ≡ option_map (parts_map f) (rules_parts_of t)
+pub parts_of-map : (f : Ident → Name) (t : Tree Ident) → rules_parts_of (map_tree f t) ≡ option_map (parts_map f) (rules_parts_of t)
 parts_of-map f (name i o) = refl
 parts_of-map f (atom a o) = refl
 parts_of-map f (vector ts o) = refl

@@ -28,6 +28,8 @@ pub mod FrameInstances
 pub mod FrameReaders
 pub mod FrameHeld
 pub mod FramePlaces
+pub mod FrameDefinitions
+pub mod FrameSyntax
 pub mod Distinct
 pub mod FrameExpressions
 pub mod FrameBinders
