@@ -1,5 +1,5 @@
 -- A place whose forms are gone through, a body or a unit: what it has to give, and how both sides go on in it.
-use Rattle.std.proofs.Common.{◌≡◌, ℕ, suc, ◌+◌, List, [], ◌∷◌, map, Bool, true, false, cond, Option, Some, None, Result, Ok, Err, refl, sym, ap, ◌∙◌, subst}
+use Rattle.std.proofs.Common.{◌≡◌, ℕ, suc, ◌+◌, List, map, Bool, true, false, cond, Option, Result, Ok, Err, refl, sym, ap, ◌∙◌, subst}
 use Rattle.std.specs.Prelude.{nat_le}
 use Rattle.scheme_model.specs.Identifiers.{Number, Name}
 use Rattle.scheme_model.specs.Ident.{Ident, Inserted, erase}
@@ -8,9 +8,9 @@ use Rattle.scheme_model.specs.ExpansionFaults.{Named, named_map, Fault, fault_ma
 use Rattle.scheme_model.specs.Meaning.{Meaning}
 use Rattle.scheme_model.specs.Requirements.{Known}
 use Rattle.scheme_model.specs.RulesShape.{Rules, rules_map, option_map}
-use Rattle.scheme_model.specs.Cores.{Target, Binder, MacroUse}
+use Rattle.scheme_model.specs.Cores.{Target, MacroUse}
 use Rattle.scheme_model.specs.Steps.{Broken, Step, ◌>>=◌, done, fails}
-use Rattle.scheme_model.specs.Order.{Here, Form, Item, Note, Pending, Pass, Going, Transformer, binder_at, counting, given, told, forms_at, put, noted, first, caught, splice, read_then, max_nodes}
+use Rattle.scheme_model.specs.Order.{Here, Form, Item, Note, Pending, Pass, Going, Transformer, binder_at, counting, given, told, forms_at, put, first, caught, splice, read_then, max_nodes}
 use Rattle.scheme_model.specs.Substitution.{State, Clock, at_form, form_map, item_map, note_map, pending_map, model}
 use Rattle.scheme_model.specs.ScopedExpansion.{Frames, Place, ScopedState, next_number, macro_at, scoped}
 use Rattle.scheme_model.specs.OpenBodies.{Before, Entered, Below}
@@ -169,7 +169,7 @@ module _ (w : ℕ) (known : Known) (fs : Frames) (Inside : ScopedState → Bool 
         counted_go here 1 s i n k p.notes h.2 (λ u. f (first (forms_at here ts) p)) (λ u. g (first (forms_at here (map_trees (names s fs) ts)) (seen_pending s p))) (λ x.
         together_at refl (ap (λ (zs : List (Form Name)). g (first zs (seen_pending s p)) (view i n (record s { nodes = x }))) (forms_seen (names s fs) (placed s) here ts))
         (first_law f g law (record s { nodes = x }) i n (facts.still s i n x s.keywords s.met k) p (held_still s i n k x s.keywords s.met p h) (forms_at here ts)
-            (forms_held (Leaf (record s { nodes = x })) here ts (trees_later s x q))))
+        (forms_held (Leaf (record s { nodes = x })) here ts (trees_later s x q))))
       where
         trees_later : (v : ScopedState) (x : Clock) → TreesAll (Leaf s) ts → TreesAll (Leaf (record s { nodes = x })) ts
         trees_later v x e = trees_more (Leaf s) (Leaf (record s { nodes = x })) (facts.leaf_later s (record s { nodes = x }) i n k (grows_itself w s)) ts e

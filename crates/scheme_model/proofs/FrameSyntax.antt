@@ -1,38 +1,32 @@
 -- Definitions of macros, and uses of macros, at a place; both sides go on alike.
-use Rattle.std.proofs.Common.{◌≡◌, ℕ, suc, ◌+◌, List, [], ◌∷◌, ◌++◌, map, Bool, true, false, cond, Option, Some, None, Result, Ok, Err, refl, sym, ap, ◌∙◌, subst}
+use Rattle.std.proofs.Common.{◌≡◌, ℕ, ◌+◌, List, [], ◌∷◌, map, Bool, true, false, cond, Option, Some, None, Result, Err, refl, ap, ◌∙◌, subst}
 use Rattle.std.specs.Prelude.{nat_le}
-use Rattle.scheme_model.specs.Identifiers.{Number, Name, same_name, strip}
-use Rattle.scheme_model.specs.Ident.{Ident, erase, same_ident, symbol_of}
-use Rattle.scheme_model.specs.Trees.{Tree, name, atom, list, vector, Trees, no_trees, tree, Tail, map_tree, map_trees, map_tail}
+use Rattle.scheme_model.specs.Identifiers.{Number, Name}
+use Rattle.scheme_model.specs.Ident.{Ident, erase}
+use Rattle.scheme_model.specs.Trees.{Tree, name, atom, list, vector, no_trees, tree, map_tree}
 use Rattle.scheme_model.specs.Measures.{tree_size}
 use Rattle.scheme_model.specs.ExpansionFaults.{Named, named, named_map, Fault, fault_map, BadForm, NodeBudget}
-use Rattle.scheme_model.specs.Meaning.{Head, is_keyword, same_meaning}
+use Rattle.scheme_model.specs.Meaning.{Head, is_keyword}
 use Rattle.scheme_model.specs.Requirements.{Known}
-use Rattle.scheme_model.specs.RulesShape.{Rule, Rules, rules_map, rules_of, option_map, role_of, dots_of}
-use Rattle.scheme_model.specs.Matching.{compared}
-use Rattle.scheme_model.specs.Cores.{Binder, Target, MacroUse}
+use Rattle.scheme_model.specs.RulesShape.{Rules, rules_of, option_map}
+use Rattle.scheme_model.specs.Cores.{Binder}
 use Rattle.scheme_model.specs.Steps.{Broken, Step, ◌>>=◌, done, fails}
-use Rattle.scheme_model.specs.Order.{Here, Form, Item, Macro, Note, LookedUp, Compared, Pending, Pass, Transformer, head_of, binder_at, counting, given, told, comparisons, use_of, put, noted, first, caught, RulesParts, rules_parts_of, is_rules, rules_parts, rules_note, rules_at, max_nodes, run_syntax, run_use}
-use Rattle.scheme_model.specs.Substitution.{State, Clock, at_form, form_map, item_map, note_map, model}
-use Rattle.scheme_model.specs.ScopedExpansion.{Frames, Place, ScopedState, means_at, macro_at, scoped}
-use Rattle.scheme_model.specs.Renaming.{Renames, pair_map}
+use Rattle.scheme_model.specs.Order.{Here, Macro, Note, LookedUp, Pending, Pass, Transformer, head_of, binder_at, counting, given, told, put, noted, caught, RulesParts, rules_parts_of, is_rules, rules_parts, rules_note, rules_at, max_nodes, run_syntax}
+use Rattle.scheme_model.specs.Substitution.{State, Clock, at_form, note_map, model}
+use Rattle.scheme_model.specs.ScopedExpansion.{Frames, Place, ScopedState, scoped}
 use Rattle.scheme_model.proofs.RenamingLaws.{size-map}
-use Rattle.scheme_model.proofs.RulesLaws.{role_of-map, dots_of-map}
-use Rattle.scheme_model.proofs.CompareLaws.{compared-map}
-use Rattle.scheme_model.proofs.IdentKinds.{Kind, item_kind, rules_kind, tree_kind, pointwise, faults_fused}
+use Rattle.scheme_model.proofs.IdentKinds.{Kind, rules_kind, pointwise, faults_fused}
 use Rattle.scheme_model.proofs.FrameNames.{erase_frame_image}
 use Rattle.scheme_model.proofs.FrameAsks.{AllOf}
-use Rattle.scheme_model.proofs.FrameStates.{names, view, FineState, Grows, grows_itself, grows_then, names_later}
-use Rattle.scheme_model.proofs.FrameGrowth.{used_state, use_grows}
-use Rattle.scheme_model.proofs.FrameLeaves.{TreeAll, TreesAll, TailAll, tree_more, Holding, held, lift_trees, lift_tail, lifted_trees, lifted_tail, all_held, Held, held_more, tree_held}
+use Rattle.scheme_model.proofs.FrameStates.{names, view, Grows, grows_itself, grows_then, names_later}
+use Rattle.scheme_model.proofs.FrameLeaves.{TreeAll, Holding, held, lift_trees, lift_tail, lifted_trees, lifted_tail, all_held, Held, held_more}
 use Rattle.scheme_model.proofs.FrameAgrees.{Agrees, agree, break, agrees_at, agrees_bind, agrees_more}
-use Rattle.scheme_model.proofs.FrameHeads.{seen_transformer, transformer_seen, IfMacro, head_seen}
-use Rattle.scheme_model.proofs.FrameUses.{named_in, placed, comparisons_seen}
-use Rattle.scheme_model.proofs.FrameInstances.{held_use_law}
+use Rattle.scheme_model.proofs.FrameHeads.{IfMacro, head_seen}
+use Rattle.scheme_model.proofs.FrameUses.{named_in, placed}
 use Rattle.scheme_model.proofs.FrameReaders.{parts_map, parts_kind, rules_reader, named_tree_kind, identifiers, model_names}
 use Rattle.scheme_model.proofs.FrameMacros.{parts_of-map}
-use Rattle.scheme_model.proofs.FrameHeld.{NoteAll, FormAll, PendingHeld, pending_more, pending_same, noted_seen, noted_held, ReadTo, read_to, read_broken, read_held}
-use Rattle.scheme_model.proofs.FramePlaces.{seen_pending, HeldHere, On, MacroHere, PlaceFacts, Came, came, broke, Together, together_at, CodeGo, ModelGo, RunLaw, caught_law, put_law, first_law}
+use Rattle.scheme_model.proofs.FrameHeld.{NoteAll, PendingHeld, pending_more, pending_same, noted_seen, noted_held, ReadTo, read_to, read_broken, read_held}
+use Rattle.scheme_model.proofs.FramePlaces.{seen_pending, On, PlaceFacts, Together, together_at, CodeGo, ModelGo, RunLaw, caught_law, put_law}
 use Rattle.scheme_model.proofs.FrameDefinitions.{grown_bind}
 
 -- the parts of rules, over what holds P
@@ -137,7 +131,7 @@ module _ (w : ℕ) (known : Known) (fs : Frames) (Inside : ScopedState → Bool 
 
     define_macro : (x : Named Ident) → Leaf s x.name → (t : ScopedState) (i1 : Bool) (n1 : List Number) → Inside t i1 n1 → Grows w s t → (a : Rules Ident) (b : Rules Name) → SeenHeld rules_kind t a b → (q : Pending Ident Place) → HeldAt s q
         → Agrees (On w known fs Inside Trail Leaf PlaceIn RuleLeaf Ended t) MacroLeft (told here ((scoped known).define x (Some a) fs q t) >>= λ q2. done (binder_at (scoped known) fs t x, q2))
-            (told here ((model known).define (named_map (names s fs) x) (Some b) tt (seen s q) (view i1 n1 t)) >>= λ q2. done (binder_at (model known) tt (view i1 n1 t) (named_map (names s fs) x), q2))
+        (told here ((model known).define (named_map (names s fs) x) (Some b) tt (seen s q) (view i1 n1 t)) >>= λ q2. done (binder_at (model known) tt (view i1 n1 t) (named_map (names s fs) x), q2))
     define_macro x l t i1 n1 k1 gr a b e q hq =
         let later = names_later w s t (facts.fine s i n k) gr fs (facts.stands s i n k) in
         let leaf = λ (y : Ident) (m : Leaf s y). later y (facts.below s i n k y m) in
@@ -145,25 +139,25 @@ module _ (w : ℕ) (known : Known) (fs : Frames) (Inside : ScopedState → Bool 
         let ps = pending_same (Leaf s) (PlaceIn s) (names s fs) (names t fs) (placed s) (placed t) leaf (facts.placed_later s t i n k gr) q hq in
         agrees_bind _
         (agrees_at refl (λ j. told here ((model known).define (named (y j) x.occ) (Some (e.1 j)) tt (ps j) (view i1 n1 t)))
-            (facts.defines t i1 n1 k1 here x (facts.leaf_later s t i n k gr x.name l) (Some a) e.0 q (pending_more (Leaf s) (Leaf t) (PlaceIn s) (PlaceIn t) (facts.leaf_later s t i n k gr) (facts.place_later s t i n k gr) q hq)))
+        (facts.defines t i1 n1 k1 here x (facts.leaf_later s t i n k gr x.name l) (Some a) e.0 q (pending_more (Leaf s) (Leaf t) (PlaceIn s) (PlaceIn t) (facts.leaf_later s t i n k gr) (facts.place_later s t i n k gr) q hq)))
         (λ c d v i2 n2 k2 r. agree (binder_at (scoped known) fs t x, c) (binder_at (model known) tt (view i1 n1 t) (named_map (names s fs) x), d) v i2 n2 refl refl k2
         ((let z = facts.bound t i1 n1 k1 in let u = erase_frame_image s.places s.definitions fs x.name in λ j. record { bound = z j; ident = u j; occ = x.occ }), r.0, r.1))
 
     syntax_over : (d : Named (Holding (Leaf s)) × Tree (Holding (Leaf s)))
         → Both (run_syntax (scoped known) f here fs p (named_map (held (Leaf s)) d.0, map_tree (held (Leaf s)) d.1) s)
-            (run_syntax (model known) g here tt (seen s p) (named_map (names s fs) (named_map (held (Leaf s)) d.0), map_tree (names s fs) (map_tree (held (Leaf s)) d.1)) (view i n s))
+        (run_syntax (model known) g here tt (seen s p) (named_map (names s fs) (named_map (held (Leaf s)) d.0), map_tree (names s fs) (map_tree (held (Leaf s)) d.1)) (view i n s))
     syntax_over d =
         together_at w known fs Inside Trail Leaf PlaceIn RuleLeaf Ended refl
         (λ j. caught {B = Binder × Pending Name Name} (noting j).notes
-            (rules_parts (model known) here tt (rules_parts_of (map_tree (names s fs) (map_tree (held (Leaf s)) d.1))) (view i n s) >>= λ r t0. rules_at (model known) here (map_tree (names s fs) (map_tree (held (Leaf s)) d.1)) r t0 >>= λ rules t. told here ((model known).define (named_map (names s fs) (named_map (held (Leaf s)) d.0)) (Some rules) tt (noting j) t) >>= λ q2. done (binder_at (model known) tt t (named_map (names s fs) (named_map (held (Leaf s)) d.0)), q2))
-            (λ r. g (put (Macro r.0 here) r.1)))
+        (rules_parts (model known) here tt (rules_parts_of (map_tree (names s fs) (map_tree (held (Leaf s)) d.1))) (view i n s) >>= λ r t0. rules_at (model known) here (map_tree (names s fs) (map_tree (held (Leaf s)) d.1)) r t0 >>= λ rules t. told here ((model known).define (named_map (names s fs) (named_map (held (Leaf s)) d.0)) (Some rules) tt (noting j) t) >>= λ q2. done (binder_at (model known) tt t (named_map (names s fs) (named_map (held (Leaf s)) d.0)), q2))
+        (λ r. g (put (Macro r.0 here) r.1)))
         (caught_law w known fs Inside Trail Leaf PlaceIn RuleLeaf Ended facts s i n k (noted (rules_note (scoped known) fs s (rules_parts_of (map_tree (held (Leaf s)) d.1))) p).notes hq.2 (λ r. f (put (Macro r.0 here) r.1)) (λ r. g (put (Macro r.0 here) r.1))
-            (grown_bind w known fs Inside Trail Leaf PlaceIn RuleLeaf Ended facts f g law here s _ (parts_law s i n k (map_tree (held (Leaf s)) d.1) (all_held (Leaf s) d.1)) (λ a b t i1 n1 k1 gr e.
-            grown_bind w known fs Inside Trail Leaf PlaceIn RuleLeaf Ended facts f g law here t _ (rules_law (names s fs) (map_tree (held (Leaf s)) d.1) a b t i1 n1 k1 e) (λ c c' v i2 n2 k2 gr2 e2.
-            define_macro (named_map (held (Leaf s)) d.0) d.0.name.1 v i2 n2 k2 (grows_then w s t v gr gr2) c c' e2 (noted (rules_note (scoped known) fs s (rules_parts_of (map_tree (held (Leaf s)) d.1))) p) hq)))
-            (λ a b t i1 n1 k1 e.
-            together_at w known fs Inside Trail Leaf PlaceIn RuleLeaf Ended refl (λ j. g (put (Macro (e.0 j) here) (e.2 j)) (view i1 n1 t))
-            (put_law w known fs Inside Trail Leaf PlaceIn RuleLeaf Ended facts f g law t i1 n1 k1 a.1 e.1 (Macro a.0 here) (record { made = Macro a.0 here; same = refl }))))
+        (grown_bind w known fs Inside Trail Leaf PlaceIn RuleLeaf Ended facts f g law here s _ (parts_law s i n k (map_tree (held (Leaf s)) d.1) (all_held (Leaf s) d.1)) (λ a b t i1 n1 k1 gr e.
+        grown_bind w known fs Inside Trail Leaf PlaceIn RuleLeaf Ended facts f g law here t _ (rules_law (names s fs) (map_tree (held (Leaf s)) d.1) a b t i1 n1 k1 e) (λ c c' v i2 n2 k2 gr2 e2.
+        define_macro (named_map (held (Leaf s)) d.0) d.0.name.1 v i2 n2 k2 (grows_then w s t v gr gr2) c c' e2 (noted (rules_note (scoped known) fs s (rules_parts_of (map_tree (held (Leaf s)) d.1))) p) hq)))
+        (λ a b t i1 n1 k1 e.
+        together_at w known fs Inside Trail Leaf PlaceIn RuleLeaf Ended refl (λ j. g (put (Macro (e.0 j) here) (e.2 j)) (view i1 n1 t))
+        (put_law w known fs Inside Trail Leaf PlaceIn RuleLeaf Ended facts f g law t i1 n1 k1 a.1 e.1 (Macro a.0 here) (record { made = Macro a.0 here; same = refl }))))
       where
         hq : HeldAt s (noted (rules_note (scoped known) fs s (rules_parts_of (map_tree (held (Leaf s)) d.1))) p)
         hq = noted_held (Leaf s) (PlaceIn s) (rules_note (scoped known) fs s (rules_parts_of (map_tree (held (Leaf s)) d.1))) p (note_held s i n k (rules_parts_of (map_tree (held (Leaf s)) d.1)) (parts_held (Leaf s) (map_tree (held (Leaf s)) d.1) (all_held (Leaf s) d.1))) h
