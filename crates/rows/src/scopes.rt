@@ -126,7 +126,9 @@ impl Script {
         let id = identifier_of(&mut self.symbols, item(step, 2)?)?;
         let head = flag(item(step, 3)?)?;
         let mut notes = Notes::new(out.alloc());
-        let meaning = self.env.resolve_noted(scope, id, head, &self.symbols, &mut notes)?;
+        let meaning = self
+            .env
+            .resolve_noted(scope, id, head, &self.symbols, &mut notes)?;
         out.open();
         show_meaning(out, meaning);
         show_questions(out, notes.as_slice());
