@@ -36,7 +36,7 @@ fn copy_of_origin(origin: &Origin) -> Mem<Origin>
 }
 
 /// A copy of what spells a name.
-fn copy_of_origins(alloc: Global, origins: &[Origin]) -> Mem<Items<Origin>>
+pub fn copy_of_origins(alloc: Global, origins: &[Origin]) -> Mem<Items<Origin>>
     ensures { IfOk result (λ copy. copy ≡ origins.now) }
 {
     let mut copy = Items::new(alloc);

@@ -13,6 +13,8 @@ mod origins;
 mod rename;
 pub mod set;
 
+pub use copy::copy_of_origins;
 pub use entries::entries_of;
 pub use fault::ImportFault;
+pub use rename::renamed;
 pub use set::{ImportSet, NamePair, SetName};

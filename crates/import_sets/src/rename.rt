@@ -53,8 +53,8 @@ fn place_origin(alloc: Global, occ: Option<Occ>) -> Mem<Items<Origin>>
     Ok(origins)
 }
 
-/// An entry under another name.
-fn renamed(alloc: Global, entry: &Entry, name: &SetName) -> Mem<Entry>
+/// An entry under another name, which its second identifier spells.
+pub fn renamed(alloc: Global, entry: &Entry, name: &SetName) -> Mem<Entry>
     ensures { IfOk result (λ new. new ≡ renamed entry.now name.now) }
 {
     Ok(Entry {

@@ -1,0 +1,10 @@
+mod NamedLaws
+mod ExportLaws
+mod ReachLaws
+mod WalkLaws
+mod GraphLaws
+mod CircleLaws
+mod TurnLaws
+mod ImporterLaws
+mod StepLaws
+mod OrderLaws
