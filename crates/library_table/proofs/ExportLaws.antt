@@ -1,9 +1,11 @@
 -- What exports of the code give stands for what the exports give.
-use Rattle.std.proofs.Common.{◌≡◌, ℕ, suc, ◌+◌, Bool, true, false, cond, List, [], ◌∷◌, ◌++◌, append-nil, append_assoc, slice_get, Option, Some, None, refl, sym, ap, ◌∙◌, subst, arith}
+use Rattle.std.proofs.Common.{◌≡◌, ℕ, suc, ◌+◌, ◌<◌, Bool, true, false, cond, List, [], ◌∷◌, ◌++◌, append-nil, append_assoc, length, take, drop, get_or, slice_get, Option, Some, None, refl, sym, ap, ◌∙◌, subst, arith}
 use Rattle.std.specs.Prelude.{◌||◌, not}
 use Rattle.std.specs.List.{list_any}
 use Rattle.std.specs.Str.{bytes_eq}
-use Rattle.std.proofs.lemmas.List.Folds.{list_any-append}
+use Rattle.std.proofs.lemmas.List.Folds.{list_any-append, list_any_more}
+use Rattle.std.proofs.lemmas.List.{take_more, drop_more}
+use Rattle.std.proofs.lemmas.Option.{same_Some, slice_get_within}
 use Rattle.scheme_model.specs.declared.Occ.{Occ}
 use Rattle.scheme_model.specs.Meaning.{Meaning}
 use Rattle.scheme_model.specs.Entries.{Entry, entry_at, place_origin}
@@ -17,7 +19,7 @@ use Rattle.library_table.specs.declared.units.ExportSpec.{ExportSpec}
 use Rattle.library_table.specs.declared.exporting.Exports.{Exports}
 use Rattle.library_table.specs.declared.exporting.ExportFault as code_fault
 use Rattle.library_table.specs.declared.fault.LibraryFault.TheVariants as fault
-use Rattle.library_table.specs.Exported.{entry_named, exported, export_one, has_outer, no_exports, put_export, put_all}
+use Rattle.library_table.specs.Exported.{entry_named, place_of, exported, export_one, has_outer, no_exports, put_export, put_all}
 use Rattle.library_table.specs.Exports.{IsFault, AreFaults, AreExported}
 use Rattle.library_table.specs.Sources.{IsExport, AreExports}
 
@@ -153,3 +155,54 @@ all_exports names es ds find are finds cs xs h r e =
   where
     none_more : (i : ℕ) → 0 + i ≡ i
     none_more i = omega arith
+
+-- ---- the code's way: an entry by its place, and one export more
+
+place_there : (s : List ℕ) (k : ℕ) (es : List code_entry.Entry) (i : ℕ) → place_of s k es ≡ Some i → (e : code_entry.Entry) × ((j : ℕ) × ((i ≡ k + j) × ((slice_get es j ≡ Some e) × (entry_named s es ≡ Some e))))
+place_there s k [] i h = absurd cc
+place_there s k (x ∷ es) i h = go (bytes_eq x.name s) refl h
+  where
+    go : (b : Bool) → bytes_eq x.name s ≡ b → cond b (Some k) (place_of s (suc k) es) ≡ Some i → (e : code_entry.Entry) × ((j : ℕ) × ((i ≡ k + j) × ((slice_get (x ∷ es) j ≡ Some e) × (entry_named s (x ∷ es) ≡ Some e))))
+    go true p q = let same : k ≡ i = same_Some k i q in (x, (0, (omega arith, (refl, ap (λ b. cond b (Some x) (entry_named s es)) p))))
+    go false p q = let r = place_there s (suc k) es i q in (r.0, (suc r.1.0, (let e = r.1.1.0 in omega arith, (r.1.1.1.0, ap (λ b. cond b (Some x) (entry_named s es)) p ∙ r.1.1.1.1))))
+
+-- the entry at a name's place is the one with the name
+pub entry_at_place : (s : List ℕ) (es : List code_entry.Entry) (i : ℕ) → place_of s 0 es ≡ Some i → (i < length es) × (slice_get es i ≡ entry_named s es)
+entry_at_place s es i h =
+    let r = place_there s 0 es i h in
+    let same : i ≡ r.1.0 = let e = r.1.1.0 in omega arith in
+    let at : slice_get es i ≡ Some r.0 = ap (slice_get es) same ∙ r.1.1.1.0 in
+    (slice_get_within es i r.0 at, at ∙ sym r.1.1.1.1)
+
+pub no_entry : (s : List ℕ) (k : ℕ) (es : List code_entry.Entry) → place_of s k es ≡ None → entry_named s es ≡ None
+no_entry s k [] h = refl
+no_entry s k (x ∷ es) h = go (bytes_eq x.name s) refl h
+  where
+    go : (b : Bool) → bytes_eq x.name s ≡ b → cond b (Some k) (place_of s (suc k) es) ≡ None → entry_named s (x ∷ es) ≡ None
+    go true p q = absurd cc
+    go false p q = ap (λ b. cond b (Some x) (entry_named s es)) p ∙ no_entry s (suc k) es q
+
+pub put_next : (es : List code_entry.Entry) (xs : List ExportSpec) (i : ℕ) (x : ExportSpec) (old new : Exports) (again : Bool) → i < length xs → x ≡ get_or xs i x → again ≡ has_outer (take i xs) x.outer.name →
+    new ≡ put_export i old (export_one again x (entry_named x.inner.name es)) → put_all es new (take (i + 1) xs) (i + 1) (drop (i + 1) xs) ≡ put_all es old (take i xs) i (drop i xs)
+put_next es xs i x old new again lt is seen n =
+    (λ j. put_all es (n j) (taken j) (sym more j) (drop (i + 1) xs))
+    ∙ ap (λ b. put_all es (put_export i old (export_one b x (entry_named x.inner.name es))) (take i xs ++ x ∷ []) (suc i) (drop (i + 1) xs)) seen
+    ∙ sym (ap (put_all es old (take i xs) i) (drop_more xs i x lt ∙ (λ j. sym is j ∷ drop (i + 1) xs)))
+  where
+    more : suc i ≡ i + 1
+    more = omega arith
+
+    taken : take (i + 1) xs ≡ take i xs ++ x ∷ []
+    taken = take_more xs i x lt ∙ (λ j. take i xs ++ sym is j ∷ [])
+
+or_of : (b x : Bool) → cond b true x ≡ (x || b)
+or_of true true = refl
+or_of true false = refl
+or_of false true = refl
+or_of false false = refl
+
+pub outer_more : (xs : List ExportSpec) (i : ℕ) (x : ExportSpec) (key s : List ℕ) (old new : Bool) → i < length xs → x ≡ get_or xs i x → key ≡ x.outer.name → old ≡ has_outer (take i xs) s →
+    new ≡ cond (bytes_eq key s) true old → new ≡ has_outer (take (i + 1) xs) s
+outer_more xs i x key s old new lt is k o n =
+    let p : ExportSpec → Bool = λ y. bytes_eq y.outer.name s in
+    n ∙ (λ j. cond (bytes_eq (k j) s) true (o j)) ∙ or_of (p x) (list_any p (take i xs)) ∙ (λ j. list_any p (take i xs) || p (is j)) ∙ sym (list_any_more p xs i x lt)

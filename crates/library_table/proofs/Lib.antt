@@ -1,4 +1,5 @@
 mod NamedLaws
+mod RepeatedLaws
 mod ExportLaws
 mod ReachLaws
 mod WalkLaws
@@ -8,3 +9,4 @@ mod TurnLaws
 mod ImporterLaws
 mod StepLaws
 mod OrderLaws
+mod WorkLaws

@@ -10,7 +10,7 @@ use Rattle.syntax_tree.proofs.InternLaws.{bytes_told, bytes_itself}
 use Rattle.syntax_tree.proofs.Names.{and_true}
 use Rattle.import_sets.proofs.MeaningLaws.{bool_same}
 use Rattle.library_table.specs.declared.units.UnitSource as code
-use Rattle.library_table.specs.Named.{is_name, first_of, place_if, place_named, is_other, is_later, later, later_from}
+use Rattle.library_table.specs.Named.{is_name, first_of, place_if, first_place, place_named, is_other, is_later, later, later_from}
 use Rattle.library_table.specs.Sources.{TellsNames, IsUnit, AreUnitsFrom, AreUnits}
 use Rattle.library_table.specs.Repeated.{is_at, is_repeated_name, repeated_from, repeated_places}
 
@@ -60,20 +60,20 @@ place_same spelled tells n k (c ∷ cs) (u ∷ us) h =
     here : is_name (spelled n) c.name ≡ is_named n (name_if k u.source)
     here = ap (is_name (spelled n)) h.0.name ∙ name_same spelled tells n (name_if k u.source)
 
--- ---- the first unit of the code with a name, one unit more
+-- ---- the first that passes a test, one more of them
 
-first_or_later : (b : Bool) (k n : ℕ) (o p : Option ℕ) → cond b (Some k) (first_of o p) ≡ first_of (cond b (Some k) o) p
-first_or_later true k n o p = refl
-first_or_later false k n o p = refl
+first_or_later : (b : Bool) (k : ℕ) (o p : Option ℕ) → cond b (Some k) (first_of o p) ≡ first_of (cond b (Some k) o) p
+first_or_later true k o p = refl
+first_or_later false k o p = refl
 
-pub place_push : (s : List ℕ) (k : ℕ) (us : List code.UnitSource) (u : code.UnitSource) → place_named s k (us ++ u ∷ []) ≡ first_of (place_named s k us) (place_if (is_name s u.name) (k + length us))
-place_push s k [] u = ap (place_if (is_name s u.name)) (plus_none k)
+first_push : {A : Type 0} (test : A → Bool) (k : ℕ) (xs : List A) (x : A) → first_place test k (xs ++ x ∷ []) ≡ first_of (first_place test k xs) (place_if (test x) (k + length xs))
+first_push test k [] x = ap (place_if (test x)) (plus_none k)
   where
     plus_none : (k : ℕ) → k ≡ k + 0
     plus_none k = omega arith
-place_push s k (x ∷ us) u =
-    ap (cond (is_name s x.name) (Some k)) (place_push s (suc k) us u ∙ ap (λ n. first_of (place_named s (suc k) us) (place_if (is_name s u.name) n)) (plus_one k (length us)))
-    ∙ first_or_later (is_name s x.name) k k (place_named s (suc k) us) (place_if (is_name s u.name) (k + suc (length us)))
+first_push test k (y ∷ xs) x =
+    ap (cond (test y) (Some k)) (first_push test (suc k) xs x ∙ ap (λ n. first_of (first_place test (suc k) xs) (place_if (test x) n)) (plus_one k (length xs)))
+    ∙ first_or_later (test y) k (first_place test (suc k) xs) (place_if (test x) (k + suc (length xs)))
   where
     plus_one : (k n : ℕ) → suc k + n ≡ k + suc n
     plus_one k n = omega arith
@@ -100,15 +100,15 @@ new_first find t s p h = go (bytes_eq t s) refl (find s) refl
     go false e (Some n) q = refl
     go true e (Some n) q = let z : true ≡ false = sym (ap is_some (ap find (bytes_told t s e) ∙ q)) ∙ h in absurd cc
 
--- one unit more
-pub first_step : (us : List code.UnitSource) (i : ℕ) (u : code.UnitSource) (s : List ℕ) (old new : Option ℕ) → i < length us → u ≡ get_or us i u → old ≡ place_named s 0 (take i us) →
-    new ≡ first_of old (place_if (is_name s u.name) i) → new ≡ place_named s 0 (take (i + 1) us)
-first_step us i u s old new lt is o n =
-    n ∙ (λ j. first_of (o j) (place_if (is_name s u.name) (size j))) ∙ sym (place_push s 0 (take i us) u)
-    ∙ ap (λ (v : code.UnitSource). place_named s 0 (take i us ++ v ∷ [])) is ∙ ap (place_named s 0) (sym (take_more us i u lt))
+-- one more of them
+pub first_step : {A : Type 0} (test : A → Bool) (xs : List A) (i : ℕ) (x : A) (old new : Option ℕ) → i < length xs → x ≡ get_or xs i x → old ≡ first_place test 0 (take i xs) →
+    new ≡ first_of old (place_if (test x) i) → new ≡ first_place test 0 (take (i + 1) xs)
+first_step {A} test xs i x old new lt is o n =
+    n ∙ (λ j. first_of (o j) (place_if (test x) (size j))) ∙ sym (first_push test 0 (take i xs) x)
+    ∙ ap (λ (y : A). first_place test 0 (take i xs ++ y ∷ [])) is ∙ ap (first_place test 0) (sym (take_more xs i x lt))
   where
-    size : i ≡ 0 + length (take i us)
-    size = let e = length-take-le i us (omega arith) in omega arith
+    size : i ≡ 0 + length (take i xs)
+    size = let e = length-take-le i xs (omega arith) in omega arith
 
 -- ---- names that stand twice
 

@@ -1,5 +1,5 @@
 -- What units import, directly or not, in as many steps as there are units, is closed: one step more adds nothing.
-use Rattle.std.proofs.Common.{◌≡◌, ℕ, zero, suc, ◌+◌, ◌<◌, ◌≤◌, Bool, true, false, cond, ◌⊎◌, inl, inr, List, [], ◌∷◌, ◌++◌, length, refl, sym, ap, ◌∙◌, subst, arith}
+use Rattle.std.proofs.Common.{◌≡◌, ℕ, zero, suc, ◌+◌, ◌<◌, ◌≤◌, Bool, true, false, cond, ◌⊎◌, inl, inr, List, [], ◌∷◌, ◌++◌, length, get_or, refl, sym, ap, ◌∙◌, subst, arith}
 use Rattle.std.specs.Prelude.{◌||◌, ◌==◌}
 use Rattle.std.proofs.lemmas.Bool.{eqb-true, eq-eqb, or_cases, cases_lt}
 use Rattle.std.proofs.lemmas.Bool.Decides.{nat_tests}
@@ -210,3 +210,9 @@ reached_closed ps within ns = go (saturated ps within ns (length ps))
     go : IsClosed ps (reached ps (length ps) ns) ⊎ (length ps ≤ count (length ps) (λ i. is_in i (reached ps (length ps) ns))) → IsClosed ps (reached ps (length ps) ns)
     go (inl closed) = closed
     go (inr le) = λ n m h i. count_all (length ps) (λ i. is_in i (reached ps (length ps) ns)) le m (within n m i)
+
+-- what stands at a place is a member
+pub in_at : (xs : List ℕ) (i : ℕ) → i < length xs → is_in (get_or xs i 0) xs ≡ true
+in_at [] i lt = absurd (omega arith)
+in_at (x ∷ xs) zero lt = or_left (x == x) (is_in x xs) (eq-eqb x x refl)
+in_at (x ∷ xs) (suc i) lt = or_right (get_or xs i 0 == x) (is_in (get_or xs i 0) xs) (in_at xs i (omega arith))

@@ -1,8 +1,8 @@
 -- Going through what units import: marks, what is left, and what is marked in the end.
-use Rattle.std.proofs.Common.{◌≡◌, ℕ, zero, suc, ◌+◌, ◌<◌, Bool, true, false, cond, ◌⊎◌, inl, inr, List, [], ◌∷◌, ◌++◌, length, slice_set, replicate, refl, sym, ap, ◌∙◌, subst, arith}
+use Rattle.std.proofs.Common.{◌≡◌, ℕ, zero, suc, ◌+◌, ◌<◌, Bool, true, false, cond, ◌⊎◌, inl, inr, List, [], ◌∷◌, ◌++◌, length, drop, get_or, slice_set, replicate, refl, sym, ap, ◌∙◌, subst, arith}
 use Rattle.std.specs.Prelude.{◌||◌, ◌&&◌, ◌==◌, not}
 use Rattle.std.proofs.lemmas.Bool.{eqb-true, eq-eqb, or_cases}
-use Rattle.std.proofs.lemmas.List.{length-set, length_push, length-replicate, get_or-set_same, get_or-set_other}
+use Rattle.std.proofs.lemmas.List.{length-set, length_push, length-replicate, drop_more, get_or-set_same, get_or-set_other}
 use Rattle.scheme_model.specs.Program.{Prepared, imports_at, is_in, reached}
 use Rattle.import_sets.proofs.MeaningLaws.{bool_same}
 use Rattle.library_table.specs.Graphs.{row, AreWithin, IsGraph, is_marked, Marks, marks, mark, mark_all, unmarked, is_circular}
@@ -237,3 +237,38 @@ pub walk_end : (ps : List Prepared) (start : ℕ) (ms : List Bool) → IsWalk ps
 walk_end ps start ms h m =
     bool_same (is_marked ms m) (is_in m (reached ps (length ps) (imports_at ps start))) (h.sound m)
     (reached_within ps (is_marked ms) (λ n m i j. h.closed n m i refl j) (length ps) (imports_at ps start) h.met m)
+
+-- ---- the code's way
+
+pub mark_next : (w v : Marks) (ps : List ℕ) (i : ℕ) → i < length ps → v ≡ mark w (get_or ps i 0) → mark_all v (drop (i + 1) ps) ≡ mark_all w (drop i ps)
+mark_next w v ps i lt e = ap (λ x. mark_all x (drop (i + 1) ps)) e ∙ sym (ap (mark_all w) (drop_more ps i 0 lt))
+
+without_last : (g : List (List ℕ)) (ms : List Bool) (ns : List ℕ) (n : ℕ) → IsSafe g (marks ms (ns ++ n ∷ [])) → IsSafe g (marks ms ns)
+without_last g ms ns n h = record { size = h.size; below = λ m i. h.below m (in_left m ns n i) }
+
+pub last_below : (g : List (List ℕ)) (ms : List Bool) (ls ns : List ℕ) (n : ℕ) → ls ≡ ns ++ n ∷ [] → IsSafe g (marks ms ls) → n < length g
+last_below g ms ls ns n e h = h.below n (ap (is_in n) e ∙ in_last ns n)
+
+pub safe_next : (g : List (List ℕ)) → AreWithin g → (ms : List Bool) (ls ns : List ℕ) (n : ℕ) (v : Marks) → ls ≡ ns ++ n ∷ [] → v ≡ mark_all (marks ms ns) (row g n) → IsSafe g (marks ms ls) → IsSafe g v
+safe_next g within ms ls ns n v e k h =
+    subst (IsSafe g) (sym k) (safe_step g within (marks ms ns) n (without_last g ms ns n (subst (λ (l : List ℕ). IsSafe g (marks ms l)) e h)))
+
+pub walk_next : (g : List (List ℕ)) (ps : List Prepared) (start : ℕ) → AreWithin g → IsGraph g ps → (ms : List Bool) (ls ns : List ℕ) (n : ℕ) (v : Marks) → ls ≡ ns ++ n ∷ [] → v ≡ mark_all (marks ms ns) (row g n) →
+    IsSafe g (marks ms ls) → IsWalk ps start (marks ms ls) → IsWalk ps start v
+walk_next g ps start within is ms ls ns n v e k safe h =
+    subst (IsWalk ps start) (sym k)
+    (walk_step g ps start n within is ms ns (without_last g ms ns n (subst (λ (l : List ℕ). IsSafe g (marks ms l)) e safe)) (subst (λ (l : List ℕ). IsWalk ps start (marks ms l)) e h))
+
+pub work_less : (g : List (List ℕ)) → AreWithin g → (ms : List Bool) (ls ns : List ℕ) (n : ℕ) (v : Marks) → ls ≡ ns ++ n ∷ [] → v ≡ mark_all (marks ms ns) (row g n) → IsSafe g (marks ms ls) →
+    unmarked v.marked + length v.left < unmarked ms + length ls
+work_less g within ms ls ns n v e k h =
+    let same = mark_all_work (marks ms ns) (row g n) (λ p i. let lt = within n p i in let size = h.size in omega arith) in
+    let there : unmarked v.marked + length v.left ≡ unmarked ms + length ns = ap (λ (w : Marks). unmarked w.marked + length w.left) k ∙ same in
+    let more : length ls ≡ length ns + 1 = ap length e ∙ length_push ns n in
+    omega arith
+
+pub safe_first : (g : List (List ℕ)) → AreWithin g → (start n : ℕ) (v : Marks) → n ≡ length g → v ≡ mark_all (marks (replicate n false) []) (row g start) → IsSafe g v
+safe_first g within start n v e k = subst (IsSafe g) (sym k) (safe_step g within (marks (replicate n false) []) start (safe_start g n e))
+
+pub walk_first : (g : List (List ℕ)) (ps : List Prepared) (start n : ℕ) (v : Marks) → AreWithin g → IsGraph g ps → n ≡ length g → v ≡ mark_all (marks (replicate n false) []) (row g start) → IsWalk ps start v
+walk_first g ps start n v within is e k = subst (IsWalk ps start) (sym k) (walk_start g ps start n within is e)

@@ -18,10 +18,14 @@ first_of (Some a) o = Some a
 abbrev pub place_if : Bool → ℕ → Option ℕ
 place_if b n = if b then Some n else None
 
--- the place of the first unit with a name, from a place on
+-- the place of the first that passes a test, from a place on
+abbrev pub first_place : {A : Type 0} → (A → Bool) → ℕ → List A → Option ℕ
+first_place test n [] = None
+first_place test n (x ∷ xs) = if test x then Some n else first_place test (suc n) xs
+
+-- the place of the first unit with a name
 abbrev pub place_named : List ℕ → ℕ → List UnitSource → Option ℕ
-place_named s n [] = None
-place_named s n (u ∷ us) = if is_name s u.name then Some n else place_named s (suc n) us
+place_named s n us = first_place (λ (u : UnitSource). is_name s u.name) n us
 
 -- ---- names that stand twice
 

@@ -1,7 +1,7 @@
 -- The order of units, each after what it imports, and the libraries that import one another in a circle (R7RS 5.6).
-use Rattle.std.specs.Prelude.{◌≡◌, ◌≢◌, ℕ, zero, suc, ◌<◌, List, [], ◌∷◌, ◌++◌, map, filter, length, Bool, true, not, ◌&&◌, Option, Some, None, Result, Ok, Err}
+use Rattle.std.specs.Prelude.{◌≡◌, ◌≢◌, ℕ, zero, suc, ◌<◌, List, [], ◌∷◌, ◌++◌, map, filter, length, slice_get, Bool, true, not, ◌&&◌, Option, Some, None, Result, Ok, Err}
 use Rattle.scheme_model.specs.Requirements.{LibraryName}
-use Rattle.scheme_model.specs.Program.{Placed, Prepared, prepare, is_in, on_circle, first_ready, name_if}
+use Rattle.scheme_model.specs.Program.{Placed, Prepared, prepare, is_in, on_circle, first_ready, name_if, UnitResult, fault_before}
 use Rattle.library_table.specs.declared.fault.LibraryFault.{LibraryFault}
 use Rattle.library_table.specs.declared.fault.LibraryFault.TheVariants as fault
 
@@ -42,6 +42,14 @@ and_then (Some p) next = next p
 abbrev pub in_turn : List Prepared → ℕ → List ℕ → List ℕ
 in_turn ps zero done = []
 in_turn ps (suc turns) done = and_then (first_ready (is_open done) ps) (λ p. p.number ∷ in_turn ps turns (done ++ p.number ∷ []))
+
+-- the numbers of results, the latest first
+abbrev pub numbers : List UnitResult → List ℕ
+numbers rs = map (λ (r : UnitResult). r.unit.number) rs
+
+-- nothing breaks these units before they are expanded
+abbrev pub HaveNoFault : List Placed → List Prepared → Type 0
+HaveNoFault all ps = (n : ℕ) (p : Prepared) → slice_get ps n ≡ Some p → fault_before all ps p ≡ None
 
 -- ---- answers
 

@@ -1,6 +1,8 @@
 -- The libraries whose name an earlier one has (R7RS 5.6).
 use Rattle.std.specs.Prelude.{ℕ, suc, ◌==◌, List, [], ◌∷◌, Bool, false, not, Option, Some, None, if◌then◌else◌}
 use Rattle.scheme_model.specs.Requirements.{LibraryName}
+use Rattle.scheme_model.specs.Order.{is_some}
+use Rattle.scheme_model.specs.StandardLibraries.{standard}
 use Rattle.scheme_model.specs.Program.{Placed, name_if, unit_named}
 
 abbrev pub is_at : ℕ → Option ℕ → Bool
@@ -19,3 +21,8 @@ repeated_from all place (u ∷ us) =
 
 abbrev pub repeated_places : List Placed → List ℕ
 repeated_places all = repeated_from all 0 all
+
+-- a name that comes into question is a standard library's
+abbrev pub has_standard_name : Option LibraryName → Bool
+has_standard_name None = false
+has_standard_name (Some n) = is_some (standard n)

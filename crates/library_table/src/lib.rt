@@ -8,6 +8,7 @@ pub mod exporting;
 pub mod fault;
 mod firsts;
 mod graph;
+pub mod laws;
 pub mod orders;
 pub mod repeats;
 mod turns;
