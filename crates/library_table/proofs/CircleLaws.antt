@@ -1,9 +1,11 @@
 -- The units on circles, and their names.
-use Rattle.std.proofs.Common.{◌≡◌, ◌≢◌, ℕ, zero, suc, ◌+◌, ◌<◌, ◌≤◌, Bool, true, false, cond, ◌⊎◌, inl, inr, List, [], ◌∷◌, ◌++◌, append_assoc, append-nil, length, map, slice_get, Option, Some, None, refl, sym, ap, ◌∙◌, subst, arith}
+use Rattle.std.proofs.Common.{◌≡◌, ◌≢◌, ℕ, zero, suc, ◌+◌, ◌<◌, ◌≤◌, Bool, true, false, cond, ◌⊎◌, inl, inr, List, [], ◌∷◌, ◌++◌, append_assoc, append-nil, length, take, get_or, map, slice_get, Option, Some, None, refl, sym, ap, ◌∙◌, subst, arith}
 use Rattle.std.specs.Prelude.{◌||◌, ◌==◌, filter}
 use Rattle.std.specs.Option.{option_map}
 use Rattle.std.proofs.lemmas.Bool.{eqb-true, or_cases}
 use Rattle.std.proofs.lemmas.Bool.Decides.{nat_tests}
+use Rattle.std.proofs.lemmas.List.{take_more}
+use Rattle.std.proofs.lemmas.List.Concat.{flat_map-append}
 use Rattle.scheme_model.specs.Requirements.{LibraryName}
 use Rattle.scheme_model.specs.Program.{Placed, Prepared, prepared, prepare, imports_at, is_in, reached, on_circle, name_if}
 use Rattle.library_table.specs.declared.units.UnitSource as code
@@ -26,27 +28,27 @@ from_push f n zero = ap (λ m. if_passing (f m) m) (none_more n)
   where
     none_more : (n : ℕ) → n ≡ n + 0
     none_more n = omega arith
-from_push f n (suc k) = go (f n) ∙ ap (λ m. cond (f n) (n ∷ passing_from f (suc n) k) (passing_from f (suc n) k) ++ if_passing (f m) m) (plus_one n k)
+from_push f n (suc k) = go (from_push f (suc n) k) (f n) ∙ ap (λ m. cond (f n) (n ∷ passing_from f (suc n) k) (passing_from f (suc n) k) ++ if_passing (f m) m) (plus_one n k)
   where
-    go : (b : Bool) → cond b (n ∷ passing_from f (suc n) (suc k)) (passing_from f (suc n) (suc k)) ≡ cond b (n ∷ passing_from f (suc n) k) (passing_from f (suc n) k) ++ if_passing (f (suc n + k)) (suc n + k)
-    go true = ap (λ (l : List ℕ). n ∷ l) (from_push f (suc n) k)
-    go false = from_push f (suc n) k
+    go : passing_from f (suc n) (suc k) ≡ passing_from f (suc n) k ++ if_passing (f (suc n + k)) (suc n + k) → (b : Bool) → cond b (n ∷ passing_from f (suc n) (suc k)) (passing_from f (suc n) (suc k)) ≡ cond b (n ∷ passing_from f (suc n) k) (passing_from f (suc n) k) ++ if_passing (f (suc n + k)) (suc n + k)
+    go more true = ap (λ (l : List ℕ). n ∷ l) more
+    go more false = more
 
 pub passing_same : (f : ℕ → Bool) (n : ℕ) → passing f n ≡ passing_from f 0 n
 passing_same f zero = refl
-passing_same f (suc n) = go (f n) refl
+passing_same f (suc n) = go (passing_same f n) (f n) refl
   where
     none_less : (n : ℕ) → n ≡ 0 + n
     none_less n = omega arith
 
-    go : (b : Bool) → f n ≡ b → cond b (passing f n ++ n ∷ []) (passing f n) ≡ passing_from f 0 (suc n)
-    go true e = ap (λ (l : List ℕ). l ++ n ∷ []) (passing_same f n) ∙ sym (from_push f 0 n ∙ ap (λ m. passing_from f 0 n ++ if_passing (f m) m) (sym (none_less n)) ∙ ap (λ b. passing_from f 0 n ++ if_passing b n) e)
-    go false e = passing_same f n ∙ sym (from_push f 0 n ∙ ap (λ m. passing_from f 0 n ++ if_passing (f m) m) (sym (none_less n)) ∙ ap (λ b. passing_from f 0 n ++ if_passing b n) e ∙ append-nil (passing_from f 0 n))
+    go : passing f n ≡ passing_from f 0 n → (b : Bool) → f n ≡ b → cond b (passing f n ++ n ∷ []) (passing f n) ≡ passing_from f 0 (suc n)
+    go more true e = ap (λ (l : List ℕ). l ++ n ∷ []) more ∙ sym (from_push f 0 n ∙ ap (λ m. passing_from f 0 n ++ if_passing (f m) m) (sym (none_less n)) ∙ ap (λ b. passing_from f 0 n ++ if_passing b n) e)
+    go more false e = more ∙ sym (from_push f 0 n ∙ ap (λ m. passing_from f 0 n ++ if_passing (f m) m) (sym (none_less n)) ∙ ap (λ b. passing_from f 0 n ++ if_passing b n) e ∙ append-nil (passing_from f 0 n))
 
 -- where none passes, each fails; and what passes is below
 pub passing_none : (f : ℕ → Bool) (n : ℕ) → passing f n ≡ [] → (m : ℕ) → m < n → f m ≡ false
 passing_none f zero h m lt = absurd (omega arith)
-passing_none f (suc n) h m lt = go (f n) refl h (m == n) refl
+passing_none f (suc n) h m lt = go (λ e. passing_none f n e m) (f n) refl h (m == n) refl
   where
     no_end : (xs : List ℕ) (x : ℕ) → xs ++ x ∷ [] ≡ [] → ⊥
     no_end [] x e = absurd cc
@@ -55,22 +57,22 @@ passing_none f (suc n) h m lt = go (f n) refl h (m == n) refl
     apart : (m == n) ≡ false → m < n
     apart e = grind (arith, nat_tests)
 
-    go : (b : Bool) → f n ≡ b → cond b (passing f n ++ n ∷ []) (passing f n) ≡ [] → (c : Bool) → (m == n) ≡ c → f m ≡ false
-    go true p e c q = absurd (no_end (passing f n) n e)
-    go false p e true q = ap f (eqb-true m n q) ∙ p
-    go false p e false q = passing_none f n e m (apart q)
+    go : (passing f n ≡ [] → m < n → f m ≡ false) → (b : Bool) → f n ≡ b → cond b (passing f n ++ n ∷ []) (passing f n) ≡ [] → (c : Bool) → (m == n) ≡ c → f m ≡ false
+    go more true p e c q = absurd (no_end (passing f n) n e)
+    go more false p e true q = ap f (eqb-true m n q) ∙ p
+    go more false p e false q = more e (apart q)
 
 pub passing_below : (f : ℕ → Bool) (n m : ℕ) → is_in m (passing f n) ≡ true → m < n
 passing_below f zero m h = absurd cc
-passing_below f (suc n) m h = go (f n) h
+passing_below f (suc n) m h = go (passing_below f n m) (f n) h
   where
-    go : (b : Bool) → is_in m (cond b (passing f n ++ n ∷ []) (passing f n)) ≡ true → m < suc n
-    go true e = by (or_cases (is_in m (passing f n)) (m == n) (sym (in_push m (passing f n) n) ∙ e))
+    go : (is_in m (passing f n) ≡ true → m < n) → (b : Bool) → is_in m (cond b (passing f n ++ n ∷ []) (passing f n)) ≡ true → m < suc n
+    go more true e = by (or_cases (is_in m (passing f n)) (m == n) (sym (in_push m (passing f n) n) ∙ e))
       where
         by : (is_in m (passing f n) ≡ true) ⊎ ((m == n) ≡ true) → m < suc n
-        by (inl i) = let lt = passing_below f n m i in omega arith
+        by (inl i) = let lt = more i in omega arith
         by (inr i) = let same = eqb-true m n i in omega arith
-    go false e = let lt = passing_below f n m e in omega arith
+    go more false e = let lt = more e in omega arith
 
 -- ---- the units on circles
 
@@ -93,19 +95,19 @@ circular_same ps numbered k q at = let own = numbered k q at in (λ j. is_in (ow
 -- none of the units from a place on is on a circle
 none_from : (ps : List Prepared) → AreNumbered ps → (qs : List Prepared) (k : ℕ) → StandFrom ps k qs → passing_from (is_circular ps) k (length qs) ≡ [] → filter (on_circle ps) qs ≡ []
 none_from ps numbered [] k h e = refl
-none_from ps numbered (q ∷ qs) k h e = go (is_circular ps k) refl e
+none_from ps numbered (q ∷ qs) k h e = go (none_from ps numbered qs (suc k) (next_stand ps k q qs h)) (is_circular ps k) refl e
   where
-    go : (b : Bool) → is_circular ps k ≡ b → cond b (k ∷ passing_from (is_circular ps) (suc k) (length qs)) (passing_from (is_circular ps) (suc k) (length qs)) ≡ [] → filter (on_circle ps) (q ∷ qs) ≡ []
-    go true p i = absurd cc
-    go false p i = rw (circular_same ps numbered k q (first_stands ps k q qs h) ∙ p) (none_from ps numbered qs (suc k) (next_stand ps k q qs h) i)
+    go : (passing_from (is_circular ps) (suc k) (length qs) ≡ [] → filter (on_circle ps) qs ≡ []) → (b : Bool) → is_circular ps k ≡ b → cond b (k ∷ passing_from (is_circular ps) (suc k) (length qs)) (passing_from (is_circular ps) (suc k) (length qs)) ≡ [] → filter (on_circle ps) (q ∷ qs) ≡ []
+    go more true p i = absurd cc
+    go more false p i = rw (circular_same ps numbered k q (first_stands ps k q qs h) ∙ p) (more i)
 
 some_from : (ps : List Prepared) → AreNumbered ps → (qs : List Prepared) (k : ℕ) → StandFrom ps k qs → filter (on_circle ps) qs ≡ [] → passing_from (is_circular ps) k (length qs) ≡ []
 some_from ps numbered [] k h e = refl
-some_from ps numbered (q ∷ qs) k h e = go (on_circle ps q) refl e
+some_from ps numbered (q ∷ qs) k h e = go (some_from ps numbered qs (suc k) (next_stand ps k q qs h)) (on_circle ps q) refl e
   where
-    go : (b : Bool) → on_circle ps q ≡ b → cond b (q ∷ filter (on_circle ps) qs) (filter (on_circle ps) qs) ≡ [] → passing_from (is_circular ps) k (suc (length qs)) ≡ []
-    go true p i = absurd cc
-    go false p i = rw (sym (circular_same ps numbered k q (first_stands ps k q qs h)) ∙ p) (some_from ps numbered qs (suc k) (next_stand ps k q qs h) i)
+    go : (filter (on_circle ps) qs ≡ [] → passing_from (is_circular ps) (suc k) (length qs) ≡ []) → (b : Bool) → on_circle ps q ≡ b → cond b (q ∷ filter (on_circle ps) qs) (filter (on_circle ps) qs) ≡ [] → passing_from (is_circular ps) k (suc (length qs)) ≡ []
+    go more true p i = absurd cc
+    go more false p i = rw (sym (circular_same ps numbered k q (first_stands ps k q qs h)) ∙ p) (more i)
 
 pub none_on_circles : (us : List Placed) → passing (is_circular (with_imports us)) (length us) ≡ [] → circles us ≡ []
 none_on_circles us e =
@@ -161,3 +163,33 @@ names_on_circles spelled cs us h =
   where
     none_more : (i : ℕ) → 0 + i ≡ i
     none_more i = omega arith
+
+-- ---- the code's way
+
+pub passing_next : (f : ℕ → Bool) (n : ℕ) (b : Bool) (old new : List ℕ) → b ≡ f n → old ≡ passing f n → new ≡ cond b (old ++ n ∷ []) old → new ≡ passing f (n + 1)
+passing_next f n b old new test o e =
+    e ∙ (λ j. cond (test j) (o j ++ n ∷ []) (o j)) ∙ ap (passing f) (more n)
+  where
+    more : (n : ℕ) → suc n ≡ n + 1
+    more n = omega arith
+
+pub below_next : (n m : ℕ) (b : Bool) (old new : List ℕ) → ((m : ℕ) → is_in m old ≡ true → m < n) → new ≡ cond b (old ++ n ∷ []) old → is_in m new ≡ true → m < n + 1
+below_next n m b old new below e h = go b (sym (ap (is_in m) e) ∙ h)
+  where
+    go : (b : Bool) → is_in m (cond b (old ++ n ∷ []) old) ≡ true → m < n + 1
+    go true i = by (or_cases (is_in m old) (m == n) (sym (in_push m old n) ∙ i))
+      where
+        by : (is_in m old ≡ true) ⊎ ((m == n) ≡ true) → m < n + 1
+        by (inl k) = let lt = below m k in omega arith
+        by (inr k) = let same = eqb-true m n k in omega arith
+    go false i = let lt = below m i in omega arith
+
+pub name_is : (us : List code.UnitSource) (n : ℕ) (u : code.UnitSource) → n < length us → u ≡ get_or us n u → u.name ≡ name_at us n
+name_is [] n u lt is = absurd (omega arith)
+name_is (x ∷ us) zero u lt is = ap (λ (v : code.UnitSource). v.name) is
+name_is (x ∷ us) (suc n) u lt is = name_is us n u (omega arith) is
+
+pub names_next : (us : List code.UnitSource) (ps : List ℕ) (i : ℕ) (o : Option (List ℕ)) (old new : List (List ℕ)) → i < length ps → o ≡ name_at us (get_or ps i 0) → old ≡ names_at us (take i ps) → new ≡ old ++ as_list o → new ≡ names_at us (take (i + 1) ps)
+names_next us ps i o old new lt name h e =
+    e ∙ (λ j. h j ++ as_list (name j)) ∙ ap (λ (l : List (List ℕ)). names_at us (take i ps) ++ l) (sym (append-nil (as_list (name_at us (get_or ps i 0)))))
+    ∙ sym (flat_map-append (λ n. as_list (name_at us n)) (take i ps) (get_or ps i 0 ∷ [])) ∙ ap (names_at us) (sym (take_more ps i 0 lt))

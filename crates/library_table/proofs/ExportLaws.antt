@@ -14,7 +14,6 @@ use Rattle.syntax_tree.specs.Names.{Names}
 use Rattle.syntax_tree.specs.Meant.{AreOrigins, IsEntry, AreEntries}
 use Rattle.syntax_tree.specs.declared.units.Entry as code_entry
 use Rattle.import_sets.specs.Given as given
-use Rattle.import_sets.proofs.EntryLaws.{entries-append}
 use Rattle.library_table.specs.declared.units.ExportSpec.{ExportSpec}
 use Rattle.library_table.specs.declared.exporting.Exports.{Exports}
 use Rattle.library_table.specs.declared.exporting.ExportFault as code_fault
@@ -68,6 +67,12 @@ exported_stands names c x e d h k = go (given.same_place c.inner.occ c.outer.occ
     go false p = rw (p, sym h.renamed ∙ ap not p) (record { name = name; meaning = k.meaning; origins = placed })
 
 -- ---- one export after another
+
+entries-append : (names : Names) (es fs : List code_entry.Entry) (ds cs : List Entry) → AreEntries names es ds → AreEntries names fs cs → AreEntries names (es ++ fs) (ds ++ cs)
+entries-append names [] fs [] cs h k = k
+entries-append names [] fs (d ∷ ds) cs h k = absurd h
+entries-append names (e ∷ es) fs [] cs h k = absurd h
+entries-append names (e ∷ es) fs (d ∷ ds) cs h k = (h.0, entries-append names es fs ds cs h.1 k)
 
 abbrev joined : program.Exported → program.Exported → program.Exported
 joined a b = record { entries = a.entries ++ b.entries; faults = a.faults ++ b.faults }
@@ -160,11 +165,11 @@ all_exports names es ds find are finds cs xs h r e =
 
 place_there : (s : List ℕ) (k : ℕ) (es : List code_entry.Entry) (i : ℕ) → place_of s k es ≡ Some i → (e : code_entry.Entry) × ((j : ℕ) × ((i ≡ k + j) × ((slice_get es j ≡ Some e) × (entry_named s es ≡ Some e))))
 place_there s k [] i h = absurd cc
-place_there s k (x ∷ es) i h = go (bytes_eq x.name s) refl h
+place_there s k (x ∷ es) i h = go (place_there s (suc k) es i) (bytes_eq x.name s) refl h
   where
-    go : (b : Bool) → bytes_eq x.name s ≡ b → cond b (Some k) (place_of s (suc k) es) ≡ Some i → (e : code_entry.Entry) × ((j : ℕ) × ((i ≡ k + j) × ((slice_get (x ∷ es) j ≡ Some e) × (entry_named s (x ∷ es) ≡ Some e))))
-    go true p q = let same : k ≡ i = same_Some k i q in (x, (0, (omega arith, (refl, ap (λ b. cond b (Some x) (entry_named s es)) p))))
-    go false p q = let r = place_there s (suc k) es i q in (r.0, (suc r.1.0, (let e = r.1.1.0 in omega arith, (r.1.1.1.0, ap (λ b. cond b (Some x) (entry_named s es)) p ∙ r.1.1.1.1))))
+    go : (place_of s (suc k) es ≡ Some i → (e : code_entry.Entry) × ((j : ℕ) × ((i ≡ suc k + j) × ((slice_get es j ≡ Some e) × (entry_named s es ≡ Some e))))) → (b : Bool) → bytes_eq x.name s ≡ b → cond b (Some k) (place_of s (suc k) es) ≡ Some i → (e : code_entry.Entry) × ((j : ℕ) × ((i ≡ k + j) × ((slice_get (x ∷ es) j ≡ Some e) × (entry_named s (x ∷ es) ≡ Some e))))
+    go more true p q = let same : k ≡ i = same_Some k i q in (x, (0, (omega arith, (refl, ap (λ b. cond b (Some x) (entry_named s es)) p))))
+    go more false p q = let r = more q in (r.0, (suc r.1.0, (let e = r.1.1.0 in omega arith, (r.1.1.1.0, ap (λ b. cond b (Some x) (entry_named s es)) p ∙ r.1.1.1.1))))
 
 -- the entry at a name's place is the one with the name
 pub entry_at_place : (s : List ℕ) (es : List code_entry.Entry) (i : ℕ) → place_of s 0 es ≡ Some i → (i < length es) × (slice_get es i ≡ entry_named s es)
@@ -174,13 +179,16 @@ entry_at_place s es i h =
     let at : slice_get es i ≡ Some r.0 = ap (slice_get es) same ∙ r.1.1.1.0 in
     (slice_get_within es i r.0 at, at ∙ sym r.1.1.1.1)
 
+pub entry_read : (s : List ℕ) (es : List code_entry.Entry) (i : ℕ) → place_of s 0 es ≡ Some i → (e : code_entry.Entry) × (entry_named s es ≡ Some e)
+entry_read s es i h = let r = place_there s 0 es i h in (r.0, r.1.1.1.1)
+
 pub no_entry : (s : List ℕ) (k : ℕ) (es : List code_entry.Entry) → place_of s k es ≡ None → entry_named s es ≡ None
 no_entry s k [] h = refl
-no_entry s k (x ∷ es) h = go (bytes_eq x.name s) refl h
+no_entry s k (x ∷ es) h = go (no_entry s (suc k) es) (bytes_eq x.name s) refl h
   where
-    go : (b : Bool) → bytes_eq x.name s ≡ b → cond b (Some k) (place_of s (suc k) es) ≡ None → entry_named s (x ∷ es) ≡ None
-    go true p q = absurd cc
-    go false p q = ap (λ b. cond b (Some x) (entry_named s es)) p ∙ no_entry s (suc k) es q
+    go : (place_of s (suc k) es ≡ None → entry_named s es ≡ None) → (b : Bool) → bytes_eq x.name s ≡ b → cond b (Some k) (place_of s (suc k) es) ≡ None → entry_named s (x ∷ es) ≡ None
+    go more true p q = absurd cc
+    go more false p q = ap (λ b. cond b (Some x) (entry_named s es)) p ∙ more q
 
 pub put_next : (es : List code_entry.Entry) (xs : List ExportSpec) (i : ℕ) (x : ExportSpec) (old new : Exports) (again : Bool) → i < length xs → x ≡ get_or xs i x → again ≡ has_outer (take i xs) x.outer.name →
     new ≡ put_export i old (export_one again x (entry_named x.inner.name es)) → put_all es new (take (i + 1) xs) (i + 1) (drop (i + 1) xs) ≡ put_all es old (take i xs) i (drop i xs)

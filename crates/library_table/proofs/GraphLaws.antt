@@ -28,7 +28,7 @@ ahead k i = grind (arith, nat_tests)
 here : (k : ℕ) → (k == k + 0) ≡ true
 here k = grind (arith, nat_tests)
 
-plus_one : (k i : ℕ) → suc k + i ≡ k + suc i
+pub plus_one : (k i : ℕ) → suc k + i ≡ k + suc i
 plus_one k i = omega arith
 
 pub number_at : (all : List Placed) (us : List Placed) (k i : ℕ) (p : Prepared) → slice_get (prepare all k us) i ≡ Some p → p.number ≡ k + i
@@ -71,7 +71,7 @@ set_place spelled find us finds code_set.Bad s h = ap (λ (x : model.ImportSet).
 
 unit_before : (us : List Placed) (s : ImportSpec) (ss : List ImportSpec) (o : Option LibraryName) → model.library_in s.set ≡ o → imported_units us (s ∷ ss) ≡ with_place (place_for us o) (imported_units us ss)
 unit_before us s ss None e = rw e refl
-unit_before us s ss (Some n) e = rw e (go (unit_named n 0 us) refl)
+unit_before us s ss (Some n) e = go (unit_named n 0 us) refl
   where
     go : (o : Option ℕ) → unit_named n 0 us ≡ o → imported_units us (s ∷ ss) ≡ with_place (place_for us (Some n)) (imported_units us ss)
     go None q = rw (e, q) refl
@@ -173,11 +173,11 @@ rows_step find us i u g x lt is same members =
 
 named_below : (s : List ℕ) (k : ℕ) (us : List code.UnitSource) (m : ℕ) → place_named s k us ≡ Some m → m < k + length us
 named_below s k [] m h = absurd cc
-named_below s k (u ∷ us) m h = go (is_name s u.name) h
+named_below s k (u ∷ us) m h = go (named_below s (suc k) us m) (is_name s u.name) h
   where
-    go : (b : Bool) → cond b (Some k) (place_named s (suc k) us) ≡ Some m → m < k + suc (length us)
-    go true e = let same : k ≡ m = same_Some k m e in omega arith
-    go false e = let lt = named_below s (suc k) us m e in omega arith
+    go : (place_named s (suc k) us ≡ Some m → m < suc k + length us) → (b : Bool) → cond b (Some k) (place_named s (suc k) us) ≡ Some m → m < k + suc (length us)
+    go more true e = let same : k ≡ m = same_Some k m e in omega arith
+    go more false e = let lt = more e in omega arith
 
 set_below : (us : List code.UnitSource) (c : code_set.ImportSet) (m : ℕ) → place_in (λ s. place_named s 0 us) c ≡ Some m → m < length us
 set_below us (code_set.Library t) m h = let lt = named_below t 0 us m h in omega arith
@@ -189,15 +189,15 @@ set_below us code_set.Bad m h = absurd cc
 
 imported_below : (us : List code.UnitSource) (cs : List code_import.ImportSpec) (m : ℕ) → is_in m (imported_places (λ s. place_named s 0 us) cs) ≡ true → m < length us
 imported_below us [] m h = absurd cc
-imported_below us (c ∷ cs) m h = go (place_in (λ s. place_named s 0 us) c.set) refl h
+imported_below us (c ∷ cs) m h = go (imported_below us cs m) (place_in (λ s. place_named s 0 us) c.set) refl h
   where
-    go : (o : Option ℕ) → place_in (λ s. place_named s 0 us) c.set ≡ o → is_in m (with_place o (imported_places (λ s. place_named s 0 us) cs)) ≡ true → m < length us
-    go None q e = imported_below us cs m e
-    go (Some n) q e = by (or_cases (m == n) (is_in m (imported_places (λ s. place_named s 0 us) cs)) e)
+    go : (is_in m (imported_places (λ s. place_named s 0 us) cs) ≡ true → m < length us) → (o : Option ℕ) → place_in (λ s. place_named s 0 us) c.set ≡ o → is_in m (with_place o (imported_places (λ s. place_named s 0 us) cs)) ≡ true → m < length us
+    go more None q e = more e
+    go more (Some n) q e = by (or_cases (m == n) (is_in m (imported_places (λ s. place_named s 0 us) cs)) e)
       where
         by : ((m == n) ≡ true) ⊎ (is_in m (imported_places (λ s. place_named s 0 us) cs) ≡ true) → m < length us
         by (inl i) = set_below us c.set m (q ∙ ap Some (sym (eqb-true m n i)))
-        by (inr i) = imported_below us cs m i
+        by (inr i) = more i
 
 row_below : (us vs : List code.UnitSource) (n m : ℕ) → is_in m (row (rows_of (λ s. place_named s 0 us) vs) n) ≡ true → m < length us
 row_below us [] n m h = absurd cc

@@ -16,13 +16,13 @@ AllBelow ps n = (p : ℕ) → is_in p ps ≡ true → p < n
 one_more : (h : List (List ℕ)) (n p x m : ℕ) → p < length h → is_in x (row (add_one h n p) m) ≡ (is_in x (row h m) || ((x == n) && (m == p)))
 one_more h n p x m lt = go (m == p) refl
   where
-    no : (b : Bool) → (b && false) ≡ false
-    no true = refl
-    no false = refl
+    nothing : (b : Bool) → (b && false) ≡ false
+    nothing true = refl
+    nothing false = refl
 
-    yes : (b : Bool) → (b && true) ≡ b
-    yes true = refl
-    yes false = refl
+    itself : (b : Bool) → (b && true) ≡ b
+    itself true = refl
+    itself false = refl
 
     apart : (m == p) ≡ false → m ≡ p → ⊥
     apart e k = let z : false ≡ true = sym e ∙ eq-eqb m p k in absurd cc
@@ -30,8 +30,8 @@ one_more h n p x m lt = go (m == p) refl
     go : (b : Bool) → (m == p) ≡ b → is_in x (row (slice_set h p (row h p ++ n ∷ [])) m) ≡ (is_in x (row h m) || ((x == n) && b))
     go true e =
         ap (λ k. is_in x (row (slice_set h p (row h p ++ n ∷ [])) k)) (eqb-true m p e) ∙ ap (is_in x) (get_or-set_same h p (row h p ++ n ∷ []) [] lt) ∙ in_push x (row h p) n
-        ∙ ap (λ b. is_in x (row h p) || b) (sym (yes (x == n))) ∙ ap (λ k. is_in x (row h k) || ((x == n) && true)) (sym (eqb-true m p e))
-    go false e = ap (is_in x) (get_or-set_other h p m (row h p ++ n ∷ []) [] (apart e)) ∙ sym (ap (λ b. is_in x (row h m) || b) (no (x == n)) ∙ or_none (is_in x (row h m)))
+        ∙ ap (λ b. is_in x (row h p) || b) (sym (itself (x == n))) ∙ ap (λ k. is_in x (row h k) || ((x == n) && true)) (sym (eqb-true m p e))
+    go false e = ap (is_in x) (get_or-set_other h p m (row h p ++ n ∷ []) [] (apart e)) ∙ sym (ap (λ b. is_in x (row h m) || b) (nothing (x == n)) ∙ or_none (is_in x (row h m)))
 
 pub one_size : (h : List (List ℕ)) (n p : ℕ) → length (add_one h n p) ≡ length h
 one_size h n p = length-set h p (row h p ++ n ∷ [])
@@ -42,11 +42,11 @@ two_tests false true f g = refl
 two_tests false false f g = refl
 
 all_more : (h : List (List ℕ)) (n : ℕ) (ps : List ℕ) (x m : ℕ) → AllBelow ps (length h) → is_in x (row (add_to h n ps) m) ≡ (is_in x (row h m) || ((x == n) && is_in m ps))
-all_more h n [] x m below = sym (ap (λ b. is_in x (row h m) || b) (no (x == n)) ∙ or_none (is_in x (row h m)))
+all_more h n [] x m below = sym (ap (λ b. is_in x (row h m) || b) (nothing (x == n)) ∙ or_none (is_in x (row h m)))
   where
-    no : (b : Bool) → (b && false) ≡ false
-    no true = refl
-    no false = refl
+    nothing : (b : Bool) → (b && false) ≡ false
+    nothing true = refl
+    nothing false = refl
 all_more h n (p ∷ ps) x m below =
     all_more (add_one h n p) n ps x m (λ q i. let lt = below q (or_right (q == p) (is_in q ps) i) in let e = one_size h n p in omega arith)
     ∙ ap (λ b. b || ((x == n) && is_in m ps)) (one_more h n p x m (below p (or_left (p == p) (is_in p ps) (eq-eqb p p refl))))

@@ -1,5 +1,6 @@
 mod NamedLaws
 mod RepeatedLaws
+mod PlaceLaws
 mod ExportLaws
 mod ReachLaws
 mod WalkLaws
@@ -8,5 +9,6 @@ mod CircleLaws
 mod TurnLaws
 mod ImporterLaws
 mod StepLaws
+mod WaitLaws
 mod OrderLaws
 mod WorkLaws

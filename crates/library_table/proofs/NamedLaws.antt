@@ -8,7 +8,7 @@ use Rattle.scheme_model.specs.Requirements.{LibraryName, LibraryPart, Symbol, Di
 use Rattle.scheme_model.specs.Program.{Placed, name_if, is_named, unit_named}
 use Rattle.syntax_tree.proofs.InternLaws.{bytes_told, bytes_itself}
 use Rattle.syntax_tree.proofs.Names.{and_true}
-use Rattle.import_sets.proofs.MeaningLaws.{bool_same}
+use Rattle.library_table.proofs.ReachLaws.{same_test}
 use Rattle.library_table.specs.declared.units.UnitSource as code
 use Rattle.library_table.specs.Named.{is_name, first_of, place_if, first_place, place_named, is_other, is_later, later, later_from}
 use Rattle.library_table.specs.Sources.{TellsNames, IsUnit, AreUnitsFrom, AreUnits}
@@ -40,7 +40,7 @@ library_itself (p ∷ ps) = (λ j. part_itself p j && library_itself ps j)
 
 texts_same : (spelled : LibraryName → List ℕ) → TellsNames spelled → (m n : LibraryName) → bytes_eq (spelled m) (spelled n) ≡ same_library m n
 texts_same spelled tells m n =
-    bool_same (bytes_eq (spelled m) (spelled n)) (same_library m n)
+    same_test (bytes_eq (spelled m) (spelled n)) (same_library m n)
     (λ h. ap (same_library m) (sym (tells m n (bytes_told (spelled m) (spelled n) h))) ∙ library_itself m)
     (λ h. ap (λ (l : LibraryName). bytes_eq (spelled m) (spelled l)) (sym (library_told m n h)) ∙ bytes_itself (spelled m))
 
@@ -150,13 +150,10 @@ repeated_rest spelled tells cs us h place [] [] k = refl
 repeated_rest spelled tells cs us h place [] (v ∷ vs) k = absurd k
 repeated_rest spelled tells cs us h place (d ∷ ds) [] k = absurd k
 repeated_rest spelled tells cs us h place (d ∷ ds) (v ∷ vs) k =
-    (λ j. cond (here j) (place ∷ rest j) (rest j))
+    (λ j. cond (here j) (place ∷ repeated_rest spelled tells cs us h (suc place) ds vs k.1 j) (repeated_rest spelled tells cs us h (suc place) ds vs k.1 j))
   where
     here : is_later (λ s. place_named s 0 cs) place d.name ≡ is_repeated_name us place (name_if place v.source)
     here = ap (is_later (λ s. place_named s 0 cs) place) k.0.name ∙ later_same spelled tells cs us h place (name_if place v.source)
-
-    rest : later_from cs (suc place) ds ≡ repeated_from us (suc place) vs
-    rest = repeated_rest spelled tells cs us h (suc place) ds vs k.1
 
 pub repeated_same : (spelled : LibraryName → List ℕ) → TellsNames spelled → (cs : List code.UnitSource) (us : List Placed) → AreUnits spelled cs us → later_from cs 0 cs ≡ repeated_places us
 repeated_same spelled tells cs us h = repeated_rest spelled tells cs us h 0 cs us h

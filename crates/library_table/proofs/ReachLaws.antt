@@ -31,6 +31,11 @@ or_left a b h = ap (λ x. x || b) h
 pub or_right : (a b : Bool) → b ≡ true → (a || b) ≡ true
 or_right a b h = ap (λ x. a || x) h ∙ or_one a
 
+pub same_test : (a b : Bool) → (a ≡ true → b ≡ true) → (b ≡ true → a ≡ true) → a ≡ b
+same_test true b f g = sym (f refl)
+same_test false true f g = g refl
+same_test false false f g = refl
+
 -- ---- members
 
 pub in_append : (m : ℕ) (xs ys : List ℕ) → is_in m (xs ++ ys) ≡ (is_in m xs || is_in m ys)
@@ -84,21 +89,21 @@ count_le (suc n) f g h = go (f n) refl (g n) refl (count_le n f g h)
 pub count_lt : (n : ℕ) (f g : ℕ → Bool) → Implies f g → (i : ℕ) → i < n → f i ≡ false → g i ≡ true → count n f < count n g
 unfolding count
 count_lt zero f g h i lt p q = absurd (omega arith)
-count_lt (suc n) f g h i lt p q = go (f n) refl (g n) refl (count_le n f g h) (i == n) refl
+count_lt (suc n) f g h i lt p q = go (λ l. count_lt n f g h i l p q) (f n) refl (g n) refl (count_le n f g h) (i == n) refl
   where
-    go : (a : Bool) → f n ≡ a → (b : Bool) → g n ≡ b → count n f ≤ count n g → (c : Bool) → (i == n) ≡ c → cond a (suc (count n f)) (count n f) < cond b (suc (count n g)) (count n g)
-    go a r b s k true e =
+    below : (i n : ℕ) → i < suc n → (i == n) ≡ false → i < n
+    below i n lt e = grind (arith, nat_tests)
+
+    go : (i < n → count n f < count n g) → (a : Bool) → f n ≡ a → (b : Bool) → g n ≡ b → count n f ≤ count n g → (c : Bool) → (i == n) ≡ c → cond a (suc (count n f)) (count n f) < cond b (suc (count n g)) (count n g)
+    go more a r b s k true e =
         let same : i ≡ n = eqb-true i n e in
         let no : a ≡ false = sym r ∙ ap f (sym same) ∙ p in
         let yes : b ≡ true = sym s ∙ ap g (sym same) ∙ q in
         rw (no, yes) (omega arith)
-    go true r true s k false e = let less = count_lt n f g h i (below i n lt e) p q in omega arith
-    go true r false s k false e = let z : false ≡ true = sym s ∙ h n r in absurd cc
-    go false r true s k false e = omega arith
-    go false r false s k false e = count_lt n f g h i (below i n lt e) p q
-
-    below : (i n : ℕ) → i < suc n → (i == n) ≡ false → i < n
-    below i n lt e = grind (arith, nat_tests)
+    go more true r true s k false e = let less = more (below i n lt e) in omega arith
+    go more true r false s k false e = let z : false ≡ true = sym s ∙ h n r in absurd cc
+    go more false r true s k false e = omega arith
+    go more false r false s k false e = more (below i n lt e)
 
 -- where no more numbers pass the wider test, the narrower one is as wide
 pub count_same : (n : ℕ) (f g : ℕ → Bool) → Implies f g → count n g ≤ count n f → (i : ℕ) → i < n → g i ≡ true → f i ≡ true
@@ -126,22 +131,22 @@ grown_keeps ps ns m h = in_joined m ns (imports_of_all ps ns) ∙ or_left (is_in
 
 imports_there : (ps : List Prepared) (ns : List ℕ) (n m : ℕ) → is_in n ns ≡ true → is_in m (imports_at ps n) ≡ true → is_in m (imports_of_all ps ns) ≡ true
 imports_there ps [] n m h k = absurd cc
-imports_there ps (x ∷ ns) n m h k = in_joined m (imports_of_all ps ns) (imports_at ps x) ∙ go (or_cases (n == x) (is_in n ns) h)
+imports_there ps (x ∷ ns) n m h k = in_joined m (imports_of_all ps ns) (imports_at ps x) ∙ go (λ e. imports_there ps ns n m e k) (or_cases (n == x) (is_in n ns) h)
   where
-    go : ((n == x) ≡ true) ⊎ (is_in n ns ≡ true) → (is_in m (imports_of_all ps ns) || is_in m (imports_at ps x)) ≡ true
-    go (inl e) = or_right (is_in m (imports_of_all ps ns)) (is_in m (imports_at ps x)) (ap (λ y. is_in m (imports_at ps y)) (sym (eqb-true n x e)) ∙ k)
-    go (inr e) = or_left (is_in m (imports_of_all ps ns)) (is_in m (imports_at ps x)) (imports_there ps ns n m e k)
+    go : (is_in n ns ≡ true → is_in m (imports_of_all ps ns) ≡ true) → ((n == x) ≡ true) ⊎ (is_in n ns ≡ true) → (is_in m (imports_of_all ps ns) || is_in m (imports_at ps x)) ≡ true
+    go more (inl e) = or_right (is_in m (imports_of_all ps ns)) (is_in m (imports_at ps x)) (ap (λ y. is_in m (imports_at ps y)) (sym (eqb-true n x e)) ∙ k)
+    go more (inr e) = or_left (is_in m (imports_of_all ps ns)) (is_in m (imports_at ps x)) (more e)
 
 imports_from : (ps : List Prepared) (f : ℕ → Bool) (ns : List ℕ) → ((n m : ℕ) → is_in n ns ≡ true → is_in m (imports_at ps n) ≡ true → f m ≡ true) → (m : ℕ) → is_in m (imports_of_all ps ns) ≡ true → f m ≡ true
 imports_from ps f [] h m k = absurd cc
-imports_from ps f (x ∷ ns) h m k = go (or_cases (is_in m (imports_of_all ps ns)) (is_in m (imports_at ps x)) (sym (in_joined m (imports_of_all ps ns) (imports_at ps x)) ∙ k))
+imports_from ps f (x ∷ ns) h m k = go (imports_from ps f ns (λ n m i j. h n m (or_right (n == x) (is_in n ns) i) j) m) (or_cases (is_in m (imports_of_all ps ns)) (is_in m (imports_at ps x)) (sym (in_joined m (imports_of_all ps ns) (imports_at ps x)) ∙ k))
   where
     itself : (x == x) ≡ true
     itself = eq-eqb x x refl
 
-    go : (is_in m (imports_of_all ps ns) ≡ true) ⊎ (is_in m (imports_at ps x) ≡ true) → f m ≡ true
-    go (inl e) = imports_from ps f ns (λ n m i j. h n m (or_right (n == x) (is_in n ns) i) j) m e
-    go (inr e) = h x m (or_left (x == x) (is_in x ns) itself) e
+    go : (is_in m (imports_of_all ps ns) ≡ true → f m ≡ true) → (is_in m (imports_of_all ps ns) ≡ true) ⊎ (is_in m (imports_at ps x) ≡ true) → f m ≡ true
+    go more (inl e) = more e
+    go more (inr e) = h x m (or_left (x == x) (is_in x ns) itself) e
 
 pub grown_has : (ps : List Prepared) (ns : List ℕ) (n m : ℕ) → is_in n ns ≡ true → is_in m (imports_at ps n) ≡ true → is_in m (grown ps ns) ≡ true
 unfolding grown

@@ -13,15 +13,15 @@ use Rattle.library_table.specs.Repeated.{is_at, is_repeated_name, repeated_from,
 -- from a place on, places aren't before it
 not_before : (all us : List Placed) (k n : ℕ) → is_in n (repeated_from all k us) ≡ true → k ≤ n
 not_before all [] k n h = absurd cc
-not_before all (u ∷ us) k n h = go (is_repeated_name all k (name_if k u.source)) h
+not_before all (u ∷ us) k n h = go (not_before all us (suc k) n) (is_repeated_name all k (name_if k u.source)) h
   where
-    go : (b : Bool) → is_in n (cond b (k ∷ repeated_from all (suc k) us) (repeated_from all (suc k) us)) ≡ true → k ≤ n
-    go true e = by (or_cases (n == k) (is_in n (repeated_from all (suc k) us)) e)
+    go : (is_in n (repeated_from all (suc k) us) ≡ true → suc k ≤ n) → (b : Bool) → is_in n (cond b (k ∷ repeated_from all (suc k) us) (repeated_from all (suc k) us)) ≡ true → k ≤ n
+    go more true e = by (or_cases (n == k) (is_in n (repeated_from all (suc k) us)) e)
       where
         by : ((n == k) ≡ true) ⊎ (is_in n (repeated_from all (suc k) us) ≡ true) → k ≤ n
         by (inl i) = let same = eqb-true n k i in omega arith
-        by (inr i) = let le = not_before all us (suc k) n i in omega arith
-    go false e = let le = not_before all us (suc k) n e in omega arith
+        by (inr i) = let le = more i in omega arith
+    go more false e = let le = more e in omega arith
 
 unless_true : (b : Bool) → (b ≡ true → ⊥) → b ≡ false
 unless_true true h = absurd (h refl)
@@ -55,9 +55,9 @@ repeated_at all (v ∷ us) k (suc i) n u e h = go (is_repeated_name all k (name_
 
 defined_twice : (all : List Placed) (n : ℕ) (u : Placed) (o : Option LibraryName) → name_if n u.source ≡ o → is_repeated all (prepared all n u) ≡ (has_standard_name o || is_repeated_name all n o)
 defined_twice all n u None e = rw e refl
-defined_twice all n u (Some m) e = rw e (go (unit_named m 0 all) refl)
+defined_twice all n u (Some m) e = go (unit_named m 0 all) refl
   where
-    go : (o : Option ℕ) → unit_named m 0 all ≡ o → is_repeated all (prepared all n u) ≡ (is_some (standard m) || not (is_at n (unit_named m 0 all)))
+    go : (o : Option ℕ) → unit_named m 0 all ≡ o → is_repeated all (prepared all n u) ≡ (has_standard_name (Some m) || is_repeated_name all n (Some m))
     go None q = rw (e, q) refl
     go (Some p) q = rw (e, q) refl
 

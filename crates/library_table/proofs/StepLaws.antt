@@ -58,11 +58,11 @@ turns_all g ms s order i le a ps is numbered =
 
 all_marked_less : (ms ks : List Bool) (p : ℕ) → ((m : ℕ) → is_marked ks m ≡ (is_marked ms m || (m == p))) → (ns : List ℕ) → all_marked ks ns ≡ true → all_marked ms ns ≡ false → is_in p ns ≡ true
 all_marked_less ms ks p h [] k l = absurd cc
-all_marked_less ms ks p h (n ∷ ns) k l = go (and_parts (is_marked ks n) (all_marked ks ns) k) (is_marked ms n) refl
+all_marked_less ms ks p h (n ∷ ns) k l = go (all_marked_less ms ks p h ns) (and_parts (is_marked ks n) (all_marked ks ns) k) (is_marked ms n) refl
   where
-    go : (is_marked ks n ≡ true) × (all_marked ks ns ≡ true) → (b : Bool) → is_marked ms n ≡ b → is_in p (n ∷ ns) ≡ true
-    go both true e = or_right (p == n) (is_in p ns) (all_marked_less ms ks p h ns both.1 (sym (ap (λ b. b && all_marked ms ns) e) ∙ l))
-    go both false e = or_left (p == n) (is_in p ns) (eq-eqb p n (sym (eqb-true n p (sym (ap (λ b. b || (n == p)) e) ∙ sym (h n) ∙ both.0))))
+    go : (all_marked ks ns ≡ true → all_marked ms ns ≡ false → is_in p ns ≡ true) → (is_marked ks n ≡ true) × (all_marked ks ns ≡ true) → (b : Bool) → is_marked ms n ≡ b → is_in p (n ∷ ns) ≡ true
+    go more both true e = or_right (p == n) (is_in p ns) (more both.1 (sym (ap (λ b. b && all_marked ms ns) e) ∙ l))
+    go more both false e = or_left (p == n) (is_in p ns) (eq-eqb p n (sym (eqb-true n p (sym (ap (λ b. b || (n == p)) e) ∙ sym (h n) ∙ both.0))))
 
 pub turns_more : (g h : List (List ℕ)) (ms : List Bool) (s popped next : Places) (order : List ℕ) (i p : ℕ) → AreImporters g h → i < length g → AreTurns g ms s order i → Finds (is_open g ms) s popped p →
     ((n : ℕ) → has next n ≡ (has popped n || is_in n (row h p))) → AreTurns g (slice_set ms p true) next (order ++ p ∷ []) (i + 1)
@@ -131,5 +131,8 @@ turns_start g ms s n e size none all = record {
   marked = none;
   units = λ m h. let lt = all.others m h in omega arith;
   open_wait = λ m lt o. all.all m (omega arith);
-  told = λ ps is numbered. refl;
+  told = λ ps is numbered. ap (λ t. in_turn ps t []) (all_left (length ps));
 }
+  where
+    all_left : (n : ℕ) → n - 0 ≡ n
+    all_left n = omega arith

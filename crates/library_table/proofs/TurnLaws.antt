@@ -7,7 +7,7 @@ use Rattle.scheme_model.specs.Program.{Prepared, imports_at, is_in, reached, fir
 use Rattle.library_table.specs.Orders.{all_in, is_open, and_then, in_turn}
 use Rattle.library_table.specs.Graphs.{row, AreWithin, IsGraph, AreNumbered, is_marked, is_circular, all_marked}
 use Rattle.library_table.specs.Graphs as code
-use Rattle.library_table.proofs.ReachLaws.{or_left, or_right, or_none, in_push, count, count_bound, count_lt, IsWithin, IsClosed, reached_closed, reached_start, reached_within}
+use Rattle.library_table.proofs.ReachLaws.{same_test, or_left, or_right, or_none, in_push, count, count_bound, count_lt, IsWithin, IsClosed, reached_closed, reached_start, reached_within}
 
 -- ---- the first that passes
 
@@ -16,54 +16,49 @@ is_false true p q = absurd cc
 is_false false p q = absurd cc
 
 pub ready_at : (f : Prepared → Bool) (ps : List Prepared) (n : ℕ) (p : Prepared) → slice_get ps n ≡ Some p → f p ≡ true → ((m : ℕ) (q : Prepared) → m < n → slice_get ps m ≡ Some q → f q ≡ false) → first_ready f ps ≡ Some p
-ready_at f [] n p at yes no = absurd cc
-ready_at f (x ∷ ps) zero p at yes no = let same : x ≡ p = same_Some x p at in rw (ap f same ∙ yes) at
-ready_at f (x ∷ ps) (suc n) p at yes no =
-    let first : f x ≡ false = no 0 x (omega arith) refl in
-    rw first (ready_at f ps n p at yes (λ m q lt i. no (suc m) q (omega arith) i))
+ready_at f [] n p at passes before = absurd cc
+ready_at f (x ∷ ps) zero p at passes before = let same : x ≡ p = same_Some x p at in rw (ap f same ∙ passes) at
+ready_at f (x ∷ ps) (suc n) p at passes before =
+    let first : f x ≡ false = before 0 x (omega arith) refl in
+    rw first (ready_at f ps n p at passes (λ m q lt i. before (suc m) q (omega arith) i))
 
 pub ready_none : (f : Prepared → Bool) (ps : List Prepared) → ((m : ℕ) (q : Prepared) → slice_get ps m ≡ Some q → f q ≡ false) → first_ready f ps ≡ None
-ready_none f [] no = refl
-ready_none f (x ∷ ps) no = let first : f x ≡ false = no 0 x refl in rw first (ready_none f ps (λ m q i. no (suc m) q i))
+ready_none f [] fails = refl
+ready_none f (x ∷ ps) fails = let first : f x ≡ false = fails 0 x refl in rw first (ready_none f ps (λ m q i. fails (suc m) q i))
 
 -- what is found passes, and stands in the list
 pub ready_found : (f : Prepared → Bool) (ps : List Prepared) (p : Prepared) → first_ready f ps ≡ Some p → (f p ≡ true) × ((n : ℕ) × (slice_get ps n ≡ Some p))
 ready_found f [] p h = absurd cc
-ready_found f (x ∷ ps) p h = go (f x) refl h
+ready_found f (x ∷ ps) p h = go (ready_found f ps p) (f x) refl h
   where
-    go : (b : Bool) → f x ≡ b → cond b (Some x) (first_ready f ps) ≡ Some p → (f p ≡ true) × ((n : ℕ) × (slice_get (x ∷ ps) n ≡ Some p))
-    go true e i = (ap f (sym (same_Some x p i)) ∙ e, (0, i))
-    go false e i = let r = ready_found f ps p i in (r.0, (suc r.1.0, r.1.1))
+    go : (first_ready f ps ≡ Some p → (f p ≡ true) × ((n : ℕ) × (slice_get ps n ≡ Some p))) → (b : Bool) → f x ≡ b → cond b (Some x) (first_ready f ps) ≡ Some p → (f p ≡ true) × ((n : ℕ) × (slice_get (x ∷ ps) n ≡ Some p))
+    go more true e i = (ap f (sym (same_Some x p i)) ∙ e, (0, i))
+    go more false e i = let r = more i in (r.0, (suc r.1.0, r.1.1))
 
 -- where nothing is found, nothing passes
 pub ready_missing : (f : Prepared → Bool) (ps : List Prepared) → first_ready f ps ≡ None → (n : ℕ) (p : Prepared) → slice_get ps n ≡ Some p → f p ≡ false
 ready_missing f [] h n p at = absurd cc
-ready_missing f (x ∷ ps) h n p at = go (f x) refl h n at
+ready_missing f (x ∷ ps) h n p at = go (λ i n at. ready_missing f ps i n p at) (f x) refl h n at
   where
-    go : (b : Bool) → f x ≡ b → cond b (Some x) (first_ready f ps) ≡ None → (n : ℕ) → slice_get (x ∷ ps) n ≡ Some p → f p ≡ false
-    go true e i n at = absurd cc
-    go false e i zero at = ap f (sym (same_Some x p at)) ∙ e
-    go false e i (suc n) at = ready_missing f ps i n p at
+    go : (first_ready f ps ≡ None → (n : ℕ) → slice_get ps n ≡ Some p → f p ≡ false) → (b : Bool) → f x ≡ b → cond b (Some x) (first_ready f ps) ≡ None → (n : ℕ) → slice_get (x ∷ ps) n ≡ Some p → f p ≡ false
+    go more true e i n at = absurd cc
+    go more false e i zero at = ap f (sym (same_Some x p at)) ∙ e
+    go more false e i (suc n) at = more i n at
 
 -- ---- what is open, by marks
+
+member : (done ys : List ℕ) (x : ℕ) → all_in done ys ≡ true → is_in x ys ≡ true → is_in x done ≡ true
+member done [] x k i = absurd cc
+member done (y ∷ ys) x k i = go (member done ys x) (and_parts (is_in y done) (all_in done ys) k) (or_cases (x == y) (is_in x ys) i)
+  where
+    go : (all_in done ys ≡ true → is_in x ys ≡ true → is_in x done ≡ true) → (is_in y done ≡ true) × (all_in done ys ≡ true) → ((x == y) ≡ true) ⊎ (is_in x ys ≡ true) → is_in x done ≡ true
+    go more both (inl e) = ap (λ z. is_in z done) (eqb-true x y e) ∙ both.0
+    go more both (inr e) = more both.1 e
 
 all_in_same : (done xs ys : List ℕ) → ((m : ℕ) → is_in m xs ≡ true → is_in m ys ≡ true) → all_in done ys ≡ true → all_in done xs ≡ true
 all_in_same done [] ys h k = refl
 all_in_same done (x ∷ xs) ys h k =
     (λ j. member done ys x k (h x (or_left (x == x) (is_in x xs) (eq-eqb x x refl))) j && all_in_same done xs ys (λ m i. h m (or_right (m == x) (is_in m xs) i)) k j)
-  where
-    member : (done ys : List ℕ) (x : ℕ) → all_in done ys ≡ true → is_in x ys ≡ true → is_in x done ≡ true
-    member done [] x k i = absurd cc
-    member done (y ∷ ys) x k i = go (and_parts (is_in y done) (all_in done ys) k) (or_cases (x == y) (is_in x ys) i)
-      where
-        go : (is_in y done ≡ true) × (all_in done ys ≡ true) → ((x == y) ≡ true) ⊎ (is_in x ys ≡ true) → is_in x done ≡ true
-        go both (inl e) = ap (λ z. is_in z done) (eqb-true x y e) ∙ both.0
-        go both (inr e) = member done ys x both.1 e
-
-same_test : (a b : Bool) → (a ≡ true → b ≡ true) → (b ≡ true → a ≡ true) → a ≡ b
-same_test true b f g = sym (f refl)
-same_test false true f g = g refl
-same_test false false f g = refl
 
 pub all_in_members : (done xs ys : List ℕ) → ((m : ℕ) → is_in m xs ≡ is_in m ys) → all_in done xs ≡ all_in done ys
 all_in_members done xs ys h =
@@ -86,11 +81,11 @@ open_same g ps is numbered done ms same n p at =
 
 waits : (done ns : List ℕ) → all_in done ns ≡ false → (v : ℕ) × ((is_in v ns ≡ true) × (is_in v done ≡ false))
 waits done [] h = absurd cc
-waits done (n ∷ ns) h = go (is_in n done) refl h
+waits done (n ∷ ns) h = go (waits done ns) (is_in n done) refl h
   where
-    go : (b : Bool) → is_in n done ≡ b → (b && all_in done ns) ≡ false → (v : ℕ) × ((is_in v (n ∷ ns) ≡ true) × (is_in v done ≡ false))
-    go true e i = let w = waits done ns i in (w.0, (or_right (w.0 == n) (is_in w.0 ns) w.1.0, w.1.1))
-    go false e i = (n, (or_left (n == n) (is_in n ns) (eq-eqb n n refl), e))
+    go : (all_in done ns ≡ false → (v : ℕ) × ((is_in v ns ≡ true) × (is_in v done ≡ false))) → (b : Bool) → is_in n done ≡ b → (b && all_in done ns) ≡ false → (v : ℕ) × ((is_in v (n ∷ ns) ≡ true) × (is_in v done ≡ false))
+    go more true e i = let w = more i in (w.0, (or_right (w.0 == n) (is_in w.0 ns) w.1.0, w.1.1))
+    go more false e i = (n, (or_left (n == n) (is_in n ns) (eq-eqb n n refl), e))
 
 abbrev AreStuck : List Prepared → List ℕ → Type 0
 AreStuck ps done = (u : ℕ) → u < length ps → is_in u done ≡ false → (v : ℕ) × ((is_in v (imports_at ps u) ≡ true) × (is_in v done ≡ false))
@@ -149,11 +144,11 @@ fewer_undone n done k lt h =
 pub all_come : (ps : List Prepared) → AreNumbered ps → IsWithin ps → HasNoCircle ps → (t : ℕ) (done : List ℕ) → count (length ps) (undone done) ≤ t → (n : ℕ) → n < length ps → is_in n done ≡ false → is_in n (in_turn ps t done) ≡ true
 all_come ps numbered within none zero done le n lt h =
     let some = count_lt (length ps) (λ i. false) (undone done) (λ i e. absurd cc) n lt refl (ap not h) in absurd (omega arith)
-all_come ps numbered within none (suc t) done le n lt h = go (first_ready (is_open done) ps) refl
+all_come ps numbered within none (suc t) done le n lt h = go (λ next less i. all_come ps numbered within none t next less n lt i) (first_ready (is_open done) ps) refl
   where
-    go : (o : Option Prepared) → first_ready (is_open done) ps ≡ o → is_in n (and_then o (λ p. p.number ∷ in_turn ps t (done ++ p.number ∷ []))) ≡ true
-    go None e = absurd (no_waiting ps within none done (all_stuck ps numbered done e) (count (length ps) (below ps n)) n lt h (omega arith))
-    go (Some p) e = by (n == p.number) refl
+    go : ((next : List ℕ) → count (length ps) (undone next) ≤ t → is_in n next ≡ false → is_in n (in_turn ps t next) ≡ true) → (o : Option Prepared) → first_ready (is_open done) ps ≡ o → is_in n (and_then o (λ p. p.number ∷ in_turn ps t (done ++ p.number ∷ []))) ≡ true
+    go more None e = absurd (no_waiting ps within none done (all_stuck ps numbered done e) (count (length ps) (below ps n)) n lt h (omega arith))
+    go more (Some p) e = by (n == p.number) refl
       where
         by : (b : Bool) → (n == p.number) ≡ b → (b || is_in n (in_turn ps t (done ++ p.number ∷ []))) ≡ true
         by true i = refl
@@ -164,7 +159,7 @@ all_come ps numbered within none (suc t) done le n lt h = go (first_ready (is_op
             let number_below : p.number < length ps = let e = own.0 in omega arith in
             let not_done : is_in p.number done ≡ false = not-true (is_in p.number done) (and_parts (not (is_in p.number done)) (all_in done p.imports) found.0).0 in
             let less = fewer_undone (length ps) done p.number number_below not_done in
-            all_come ps numbered within none t (done ++ p.number ∷ []) (omega arith) n lt (in_push n done p.number ∙ (λ j. h j || i j))
+            more (done ++ p.number ∷ []) (omega arith) (in_push n done p.number ∙ (λ j. h j || i j))
 
 pub every_unit : (ps : List Prepared) → AreNumbered ps → IsWithin ps → HasNoCircle ps → (n : ℕ) → n < length ps → is_in n (in_turn ps (length ps) []) ≡ true
 every_unit ps numbered within none n lt = all_come ps numbered within none (length ps) [] (count_bound (length ps) (undone [])) n lt refl

@@ -4,9 +4,8 @@ use Rattle.std.specs.Prelude.{◌||◌, ◌&&◌, ◌==◌, not}
 use Rattle.std.proofs.lemmas.Bool.{eqb-true, eq-eqb, or_cases}
 use Rattle.std.proofs.lemmas.List.{length-set, length_push, length-replicate, drop_more, get_or-set_same, get_or-set_other}
 use Rattle.scheme_model.specs.Program.{Prepared, imports_at, is_in, reached}
-use Rattle.import_sets.proofs.MeaningLaws.{bool_same}
 use Rattle.library_table.specs.Graphs.{row, AreWithin, IsGraph, is_marked, Marks, marks, mark, mark_all, unmarked, is_circular}
-use Rattle.library_table.proofs.ReachLaws.{or_none, or_one, or_turned, or_joined, or_left, or_right, in_push, IsWithin, IsClosed, reached_closed, reached_start, reached_within}
+use Rattle.library_table.proofs.ReachLaws.{same_test, or_none, or_one, or_turned, or_joined, or_left, or_right, in_push, IsWithin, IsClosed, reached_closed, reached_start, reached_within}
 
 -- ---- one mark
 
@@ -45,16 +44,16 @@ mark_marked w p m lt = go (is_marked w.marked p) refl
 pub mark_left : (w : Marks) (p m : ℕ) → is_in m (mark w p).left ≡ (is_in m w.left || (not (is_marked w.marked m) && (m == p)))
 mark_left w p m = go (is_marked w.marked p) refl (m == p) refl
   where
+    nothing : (b : Bool) → (b && false) ≡ false
+    nothing true = refl
+    nothing false = refl
+
     go : (b : Bool) → is_marked w.marked p ≡ b → (c : Bool) → (m == p) ≡ c →
         is_in m (cond b w (marks (slice_set w.marked p true) (w.left ++ p ∷ []))).left ≡ (is_in m w.left || (not (is_marked w.marked m) && c))
     go true h true e = sym (ap (λ b. is_in m w.left || (not b && true)) (ap (is_marked w.marked) (eqb-true m p e) ∙ h) ∙ or_none (is_in m w.left))
-    go true h false e = sym (ap (λ b. is_in m w.left || b) (no (not (is_marked w.marked m))) ∙ or_none (is_in m w.left))
+    go true h false e = sym (ap (λ b. is_in m w.left || b) (nothing (not (is_marked w.marked m))) ∙ or_none (is_in m w.left))
     go false h true e = in_push m w.left p ∙ ap (λ b. is_in m w.left || b) e ∙ sym (ap (λ b. is_in m w.left || (not b && true)) (ap (is_marked w.marked) (eqb-true m p e) ∙ h))
-    go false h false e = in_push m w.left p ∙ ap (λ b. is_in m w.left || b) e ∙ sym (ap (λ b. is_in m w.left || b) (no (not (is_marked w.marked m))))
-
-    no : (b : Bool) → (b && false) ≡ false
-    no true = refl
-    no false = refl
+    go false h false e = in_push m w.left p ∙ ap (λ b. is_in m w.left || b) e ∙ sym (ap (λ b. is_in m w.left || b) (nothing (not (is_marked w.marked m))))
 
 -- ---- marks of all
 
@@ -84,11 +83,11 @@ left_tests false false true i = refl
 left_tests false false false i = refl
 
 pub mark_all_left : (w : Marks) (ps : List ℕ) (m : ℕ) → AllBelow ps (length w.marked) → is_in m (mark_all w ps).left ≡ (is_in m w.left || (not (is_marked w.marked m) && is_in m ps))
-mark_all_left w [] m h = sym (ap (λ b. is_in m w.left || b) (no (not (is_marked w.marked m))) ∙ or_none (is_in m w.left))
+mark_all_left w [] m h = sym (ap (λ b. is_in m w.left || b) (nothing (not (is_marked w.marked m))) ∙ or_none (is_in m w.left))
   where
-    no : (b : Bool) → (b && false) ≡ false
-    no true = refl
-    no false = refl
+    nothing : (b : Bool) → (b && false) ≡ false
+    nothing true = refl
+    nothing false = refl
 mark_all_left w (p ∷ ps) m h =
     mark_all_left (mark w p) ps m (tail_below p ps (length w.marked) (length (mark w p).marked) (sym (mark_size w p)) h)
     ∙ (λ j. mark_left w p m j || (not (mark_marked w p m (head_below p ps (length w.marked) h) j) && is_in m ps))
@@ -235,7 +234,7 @@ walk_start g ps start n within is e = record {
 
 pub walk_end : (ps : List Prepared) (start : ℕ) (ms : List Bool) → IsWalk ps start (marks ms []) → (m : ℕ) → is_marked ms m ≡ is_in m (reached ps (length ps) (imports_at ps start))
 walk_end ps start ms h m =
-    bool_same (is_marked ms m) (is_in m (reached ps (length ps) (imports_at ps start))) (h.sound m)
+    same_test (is_marked ms m) (is_in m (reached ps (length ps) (imports_at ps start))) (h.sound m)
     (reached_within ps (is_marked ms) (λ n m i j. h.closed n m i refl j) (length ps) (imports_at ps start) h.met m)
 
 -- ---- the code's way
@@ -272,3 +271,9 @@ safe_first g within start n v e k = subst (IsSafe g) (sym k) (safe_step g within
 
 pub walk_first : (g : List (List ℕ)) (ps : List Prepared) (start n : ℕ) (v : Marks) → AreWithin g → IsGraph g ps → n ≡ length g → v ≡ mark_all (marks (replicate n false) []) (row g start) → IsWalk ps start v
 walk_first g ps start n v within is e k = subst (IsWalk ps start) (sym k) (walk_start g ps start n within is e)
+
+pub mark_seen : (ms : List Bool) (ns : List ℕ) (p : ℕ) → is_marked ms p ≡ true → marks ms ns ≡ mark (marks ms ns) p
+mark_seen ms ns p h = sym (ap (λ b. cond b (marks ms ns) (marks (slice_set ms p true) (ns ++ p ∷ []))) h)
+
+pub mark_new : (ms : List Bool) (ns : List ℕ) (p : ℕ) → is_marked ms p ≡ false → marks (slice_set ms p true) (ns ++ p ∷ []) ≡ mark (marks ms ns) p
+mark_new ms ns p h = sym (ap (λ b. cond b (marks ms ns) (marks (slice_set ms p true) (ns ++ p ∷ []))) h)

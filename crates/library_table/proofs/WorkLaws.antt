@@ -18,11 +18,11 @@ turned m n = grind (arith, nat_tests)
 
 result_there : (rs : List UnitResult) (n : ℕ) → is_some (result_at rs n) ≡ is_in n (numbers rs)
 result_there [] n = refl
-result_there (r ∷ rs) n = go (r.unit.number == n) (turned r.unit.number n)
+result_there (r ∷ rs) n = go (result_there rs n) (r.unit.number == n) (turned r.unit.number n)
   where
-    go : (b : Bool) → b ≡ (n == r.unit.number) → is_some (cond b (Some r) (result_at rs n)) ≡ ((n == r.unit.number) || is_in n (numbers rs))
-    go true e = ap (λ b. b || is_in n (numbers rs)) e
-    go false e = result_there rs n ∙ ap (λ b. b || is_in n (numbers rs)) e
+    go : is_some (result_at rs n) ≡ is_in n (numbers rs) → (b : Bool) → b ≡ (n == r.unit.number) → is_some (cond b (Some r) (result_at rs n)) ≡ ((n == r.unit.number) || is_in n (numbers rs))
+    go more true e = ap (λ b. b || is_in n (numbers rs)) e
+    go more false e = more ∙ ap (λ b. b || is_in n (numbers rs)) e
 
 in_reverse : (n : ℕ) (xs : List ℕ) → is_in n (reverse xs) ≡ is_in n xs
 in_reverse n [] = refl
@@ -65,16 +65,16 @@ reverse_more x xs = reverse-append (x ∷ []) xs
 pub numbers_of_work : (all : List Placed) (ps : List Prepared) (known : Known) → HaveNoFault all ps → (t : ℕ) (g : Progress) → reverse (numbers (work all ps known t g).results) ≡ reverse (numbers g.results) ++ in_turn ps t (reverse (numbers g.results))
 numbers_of_work all ps known none zero g = sym (append-nil (reverse (numbers g.results)))
 numbers_of_work all ps known none (suc t) g =
-    ap (λ (o : Option Prepared). reverse (numbers (work all ps known t (worked all ps known o g)).results)) same ∙ go (first_ready (is_open (reverse (numbers g.results))) ps) refl
+    ap (λ (o : Option Prepared). reverse (numbers (work all ps known t (worked all ps known o g)).results)) same ∙ go (numbers_of_work all ps known none t) (first_ready (is_open (reverse (numbers g.results))) ps) refl
   where
     same : first_ready (is_ready all ps g.results) ps ≡ first_ready (is_open (reverse (numbers g.results))) ps
     same = first_same (is_ready all ps g.results) (is_open (reverse (numbers g.results))) ps (λ n p at. ready_same all ps g.results p (none n p at))
 
-    go : (o : Option Prepared) → first_ready (is_open (reverse (numbers g.results))) ps ≡ o →
+    go : ((g : Progress) → reverse (numbers (work all ps known t g).results) ≡ reverse (numbers g.results) ++ in_turn ps t (reverse (numbers g.results))) → (o : Option Prepared) → first_ready (is_open (reverse (numbers g.results))) ps ≡ o →
         reverse (numbers (work all ps known t (worked all ps known o g)).results) ≡ reverse (numbers g.results) ++ and_then o (λ p. p.number ∷ in_turn ps t (reverse (numbers g.results) ++ p.number ∷ []))
-    go None e = numbers_of_work all ps known none t g ∙ ap (λ (l : List ℕ). reverse (numbers g.results) ++ l) (stays ps (reverse (numbers g.results)) e t)
-    go (Some p) e =
+    go more None e = more g ∙ ap (λ (l : List ℕ). reverse (numbers g.results) ++ l) (stays ps (reverse (numbers g.results)) e t)
+    go more (Some p) e =
         let next : reverse (numbers (worked all ps known (Some p) g).results) ≡ reverse (numbers g.results) ++ p.number ∷ [] =
         ap (λ (l : List ℕ). reverse l) (fault_numbers all ps known p (fault_before all ps p) g) ∙ reverse_more p.number (numbers g.results) in
-        numbers_of_work all ps known none t (worked all ps known (Some p) g) ∙ ap (λ (l : List ℕ). l ++ in_turn ps t l) next
+        more (worked all ps known (Some p) g) ∙ ap (λ (l : List ℕ). l ++ in_turn ps t l) next
         ∙ append_assoc (reverse (numbers g.results)) (p.number ∷ []) (in_turn ps t (reverse (numbers g.results) ++ p.number ∷ []))

@@ -1,7 +1,7 @@
 //! The units that import themselves, directly or not, and their names.
 ghost use Rattle.std.specs.Prelude.{◌≡◌, ◌<◌, ◌++◌, ◌∷◌, [], ℕ, List, IfOk, OnOk, length, true, if◌then◌else◌};
 ghost use Rattle.scheme_model.specs.Program.{Prepared, is_in};
-ghost use Rattle.library_table.specs.Graphs.{AreWithin, IsGraph, is_circular, passing, as_list, names_at};
+ghost use Rattle.library_table.specs.Graphs.{AreWithin, IsGraph, is_circular, passing, name_at, as_list, names_at};
 
 use crate::units::UnitSource;
 use crate::walk::reached;
@@ -52,6 +52,14 @@ fn push_name(names: &mut Items<Text>, name: &Option<Text>) -> Mem<()>
     Ok(())
 }
 
+/// Adds the name of the unit at a place, where it has one.
+fn push_name_at(names: &mut Items<Text>, units: &[UnitSource], place: usize) -> Mem<()>
+    requires { place < length units.now }
+    ensures { OnOk result (names.new ≡ names.old ++ as_list (name_at units.now place)) }
+{
+    Ok(push_name(names, &units[place].name)?)
+}
+
 /// The names of the units at these places.
 pub fn names_at(alloc: Global, units: &[UnitSource], places: &[usize]) -> Mem<Items<Text>>
     requires { (n : ℕ) → is_in n places.now ≡ true → n < length units.now }
@@ -59,7 +67,7 @@ pub fn names_at(alloc: Global, units: &[UnitSource], places: &[usize]) -> Mem<It
 {
     let mut names = Items::new(alloc);
     for place in places {
-        push_name(&mut names, &units[*place].name)?;
+        push_name_at(&mut names, units, *place)?;
     }
     Ok(names)
 }

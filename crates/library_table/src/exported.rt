@@ -1,5 +1,5 @@
 //! What one export gives (R7RS 5.6.1).
-ghost use Rattle.std.specs.Prelude.{◌≡◌, ℕ, List, Option, Some, None, IfOk};
+ghost use Rattle.std.specs.Prelude.{◌≡◌, ◌<◌, ℕ, List, Option, Some, None, IfOk, length, slice_get};
 ghost use Rattle.std.specs.BTreeMap.{get_by_text};
 ghost use Rattle.import_sets.specs.Given.{same_place};
 ghost use Rattle.library_table.specs.Exported.{place_of, entry_named, exported, export_one};
@@ -53,6 +53,21 @@ fn exported(alloc: Global, spec: &ExportSpec, entry: &Entry) -> Mem<Entry>
     Ok(renamed(alloc, entry, &spec.outer)?)
 }
 
+/// The place of a name.
+fn place_for(places: &BTreeMap<String, usize>, name: &str) -> Option<usize>
+    ensures { result ≡ get_by_text places.now name.now }
+{
+    places.get(name).copied()
+}
+
+/// The entry at a place.
+fn entry_at(entries: &[Entry], place: usize) -> &Entry
+    requires { place < length entries.now }
+    ensures { slice_get entries.now place ≡ Some result.now }
+{
+    &entries[place]
+}
+
 /// What an export gives of these entries, whose places are known by their names. `again` tells that an earlier export has its
 /// external name.
 pub fn export_one(
@@ -65,7 +80,7 @@ pub fn export_one(
     requires { (s : List ℕ) → get_by_text places.now s ≡ place_of s 0 entries.now }
     ensures { IfOk result (λ export. export ≡ export_one again spec.now (entry_named spec.now.inner.name entries.now)) }
 {
-    let Some(place) = places.get(spec.inner.name.as_str()).copied() else {
+    let Some(place) = place_for(places, spec.inner.name.as_str()) else {
         let name = spec.inner.name.clone()?;
         return Ok(Export::Refused(LibraryFault::NotDefined(name)));
     };
@@ -73,5 +88,5 @@ pub fn export_one(
         let name = spec.outer.name.clone()?;
         return Ok(Export::Refused(LibraryFault::SameExport(name)));
     }
-    Ok(Export::Given(exported(alloc, spec, &entries[place])?))
+    Ok(Export::Given(exported(alloc, spec, entry_at(entries, place))?))
 }

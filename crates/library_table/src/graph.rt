@@ -1,11 +1,11 @@
 //! The units by their places, each with the places of what it imports.
-ghost use Rattle.std.specs.Prelude.{◌≡◌, ℕ, List, Option, IfOk};
+ghost use Rattle.std.specs.Prelude.{◌≡◌, ◌<◌, ℕ, List, Option, IfOk, length};
 ghost use Rattle.std.specs.BTreeMap.{get_by_text};
 ghost use Rattle.std.specs.BTreeSet.{contains};
 ghost use Rattle.std.specs.Ordering.{nat_cmp};
 ghost use Rattle.scheme_model.specs.Program.{is_in};
 ghost use Rattle.library_table.specs.Named.{place_named, place_in, imported_places};
-ghost use Rattle.library_table.specs.Graphs.{SameRows, rows_of, graph_of};
+ghost use Rattle.library_table.specs.Graphs.{row, SameRows, rows_of, graph_of};
 
 use crate::firsts::first_places;
 use crate::units::{ImportSpec, UnitSource};
@@ -95,6 +95,14 @@ fn rows(
         rows.push(imported(alloc, firsts, unit.imports.as_slice())?)?;
     }
     Ok(rows)
+}
+
+/// The row at a place.
+pub fn row(graph: &[Items<usize>], place: usize) -> &[usize]
+    requires { place < length graph.now }
+    ensures { result.now ≡ row graph.now place }
+{
+    graph[place].as_slice()
 }
 
 /// What units import of one another: a name means the first unit that has it.

@@ -8,6 +8,8 @@ ghost use Rattle.library_table.specs.Orders.{in_turn};
 ghost use Rattle.library_table.specs.Graphs.{row, AreWithin, IsGraph, AreNumbered, add_one, add_to, AreImporters, all_marked, is_open};
 ghost use Rattle.library_table.specs.Waiting.{HasAllBelow, Finds, Misses};
 
+use crate::graph::row;
+use crate::walk::no_marks;
 use ls_base::{Items, Mem};
 use std::alloc::Global;
 use std::collections::BTreeSet;
@@ -38,7 +40,7 @@ fn empty_rows(alloc: Global, count: usize) -> Mem<Vec<Items<usize>>>
     ensures empty { IfOk result (λ rows. (n : ℕ) → row rows.items n ≡ []) }
 {
     let mut rows = Vec::new(alloc);
-    for _row in 0..count {
+    for made in 0..count {
         rows.push(Items::new(alloc))?;
     }
     Ok(rows)
@@ -51,7 +53,7 @@ fn importers(alloc: Global, graph: &[Items<usize>]) -> Mem<Vec<Items<usize>>>
 {
     let mut rows = empty_rows(alloc, graph.len())?;
     for place in 0..graph.len() {
-        add_to(&mut rows, place, graph[place].as_slice())?;
+        add_to(&mut rows, place, row(graph, place))?;
     }
     Ok(rows)
 }
@@ -76,7 +78,7 @@ fn is_open(graph: &[Items<usize>], done: &[bool], place: usize) -> bool
     requires within { AreWithin graph.now }
     ensures { result ≡ is_open graph.now done.now place }
 {
-    !done[place] && all_done(done, graph[place].as_slice())
+    !done[place] && all_done(done, row(graph, place))
 }
 
 /// All places below a number.
@@ -127,15 +129,15 @@ pub fn turns(alloc: Global, graph: &[Items<usize>]) -> Mem<Items<u32>>
     ensures { (ps : List Prepared) → IsGraph graph.now ps → AreNumbered ps → IfOk result (λ places. places ≡ in_turn ps (length ps) []) }
 {
     let importers = importers(alloc, graph)?;
-    let mut done = vec![in alloc; false; graph.len()]?;
+    let mut done = no_marks(alloc, graph.len())?;
     let mut waiting = all_below(alloc, graph.len())?;
     let mut order = Items::new(alloc);
-    for _turn in 0..graph.len() {
+    for turn in 0..graph.len() {
         let Some(place) = next_open(graph, done.as_slice(), &mut waiting) else {
             return Ok(order);
         };
         done[place] = true;
-        add_all(&mut waiting, importers[place].as_slice())?;
+        add_all(&mut waiting, row(importers.as_slice(), place))?;
         order.push(place as u32)?;
     }
     Ok(order)

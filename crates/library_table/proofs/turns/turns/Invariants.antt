@@ -2,5 +2,5 @@ use Rattle.library_table.proofs.StepLaws.{AreTurns}
 use Rattle.library_table.proofs.turns.turns.Given as goal
 
 -- the units so far and those that are to come; all that are open wait
-abbrev pub invariant-loop-_turn : goal.invariant-loop-_turn
-invariant-loop-_turn l = AreTurns l.graph l.done.items l.waiting l.order l._turn
+abbrev pub invariant-loop-turn : goal.invariant-loop-turn
+invariant-loop-turn l = AreTurns l.graph l.done.items l.waiting l.order l.turn
