@@ -1,8 +1,8 @@
 -- One turn: the first open unit comes, and those that import it are looked at again.
-use Rattle.std.proofs.Common.{◌≡◌, ◌≢◌, ℕ, zero, suc, ◌+◌, ◌-◌, ◌<◌, ◌≤◌, Bool, true, false, ◌⊎◌, inl, inr, List, [], ◌∷◌, ◌++◌, append-nil, append_assoc, length, slice_set, slice_get, get_or, Option, Some, None, refl, sym, ap, ◌∙◌, subst, arith}
+use Rattle.std.proofs.Common.{◌≡◌, ◌≢◌, ℕ, zero, suc, ◌+◌, ◌-◌, ◌<◌, ◌≤◌, Bool, true, false, ◌⊎◌, inl, inr, List, [], ◌∷◌, ◌++◌, append-nil, append_assoc, length, slice_set, replicate, slice_get, get_or, Option, Some, None, refl, sym, ap, ◌∙◌, subst, arith}
 use Rattle.std.specs.Prelude.{◌||◌, ◌&&◌, ◌==◌, not}
 use Rattle.std.proofs.lemmas.Bool.{eqb-true, eq-eqb, or_cases, not-true, and_parts}
-use Rattle.std.proofs.lemmas.List.{length-set}
+use Rattle.std.proofs.lemmas.List.{length-set, length-replicate}
 use Rattle.std.proofs.lemmas.Option.{slice_get_within, slice_get-get_or}
 use Rattle.scheme_model.specs.Program.{Prepared, is_in, first_ready}
 use Rattle.library_table.specs.Orders.{in_turn, and_then}
@@ -136,3 +136,14 @@ turns_start g ms s n e size none all = record {
   where
     all_left : (n : ℕ) → n - 0 ≡ n
     all_left n = omega arith
+
+unset : (n m : ℕ) → is_marked (replicate n false) m ≡ false
+unset zero m = refl
+unset (suc n) zero = refl
+unset (suc n) (suc m) = unset n m
+
+pub turns_first : (g : List (List ℕ)) (ms : List Bool) (s : Places) (order : List ℕ) (n k : ℕ) → n ≡ length g → k ≡ length g → ms ≡ replicate n false → order ≡ [] → HasAllBelow k s → AreTurns g ms s order 0
+turns_first g ms s order n k e f m o all =
+    subst (λ (order : List ℕ). AreTurns g ms s order 0) (sym o)
+    (subst (λ (ms : List Bool). AreTurns g ms s [] 0) (sym m)
+    (turns_start g (replicate n false) s n e (length-replicate n false) (unset n) (subst (λ k. HasAllBelow k s) (f ∙ sym e) all)))

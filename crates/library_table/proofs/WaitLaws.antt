@@ -1,8 +1,9 @@
 -- The first of the waiting units is taken out.
-use Rattle.std.proofs.Common.{◌≡◌, ◌≢◌, ℕ, ◌≤◌, Bool, true, false, cond, refl, sym, ap, ◌∙◌, arith}
+use Rattle.std.proofs.Common.{◌≡◌, ◌≢◌, ℕ, ◌≤◌, Bool, true, false, cond, length, refl, sym, ap, ◌∙◌, arith}
 use Rattle.std.specs.Prelude.{◌&&◌, ◌==◌, not}
 use Rattle.std.specs.Ordering.{nat_cmp, is_eq, is_gt}
-use Rattle.std.proofs.lemmas.Bool.{eqb-true, and_parts}
+use Rattle.std.specs.List.{list_any}
+use Rattle.std.proofs.lemmas.List.{nil_from_length}
 use Rattle.std.proofs.lemmas.Bool.Decides.{nat_tests}
 use Rattle.std.proofs.lemmas.Map.Keys.{le_from_not_gt}
 use Rattle.library_table.specs.Waiting.{Places, has, Finds, Misses}
@@ -56,3 +57,6 @@ none_here open_at first old k none m h = go (open_at m) refl
     go : (b : Bool) → open_at m ≡ b → open_at m ≡ false
     go true e = let z : false ≡ true = sym (none m) ∙ k.open_wait m h e in absurd cc
     go false e = e
+
+pub none_left : (s : Places) → length s.keys ≡ 0 → (m : ℕ) → has s m ≡ false
+none_left s h m = ap (list_any (λ k. is_eq (nat_cmp m k))) (nil_from_length s.keys h)

@@ -2,7 +2,7 @@
 use Rattle.std.proofs.Common.{◌≡◌, ℕ, zero, suc, ◌+◌, ◌<◌, Bool, true, false, cond, ◌⊎◌, inl, inr, List, [], ◌∷◌, ◌++◌, length, drop, get_or, slice_set, replicate, refl, sym, ap, ◌∙◌, subst, arith}
 use Rattle.std.specs.Prelude.{◌||◌, ◌&&◌, ◌==◌, not}
 use Rattle.std.proofs.lemmas.Bool.{eqb-true, eq-eqb, or_cases}
-use Rattle.std.proofs.lemmas.List.{length-set, length_push, length-replicate, drop_more, get_or-set_same, get_or-set_other}
+use Rattle.std.proofs.lemmas.List.{length-set, length_push, length-replicate, drop_more, nil_from_length, get_or-set_same, get_or-set_other}
 use Rattle.scheme_model.specs.Program.{Prepared, imports_at, is_in, reached}
 use Rattle.library_table.specs.Graphs.{row, AreWithin, IsGraph, is_marked, Marks, marks, mark, mark_all, unmarked, is_circular}
 use Rattle.library_table.proofs.ReachLaws.{same_test, or_none, or_one, or_turned, or_joined, or_left, or_right, in_push, IsWithin, IsClosed, reached_closed, reached_start, reached_within}
@@ -277,3 +277,6 @@ mark_seen ms ns p h = sym (ap (λ b. cond b (marks ms ns) (marks (slice_set ms p
 
 pub mark_new : (ms : List Bool) (ns : List ℕ) (p : ℕ) → is_marked ms p ≡ false → marks (slice_set ms p true) (ns ++ p ∷ []) ≡ mark (marks ms ns) p
 mark_new ms ns p h = sym (ap (λ b. cond b (marks ms ns) (marks (slice_set ms p true) (ns ++ p ∷ []))) h)
+
+pub walk_done : (ps : List Prepared) (start : ℕ) (ms : List Bool) (ls : List ℕ) → length ls ≡ 0 → IsWalk ps start (marks ms ls) → (m : ℕ) → is_marked ms m ≡ is_in m (reached ps (length ps) (imports_at ps start))
+walk_done ps start ms ls none h = walk_end ps start ms (subst (λ (l : List ℕ). IsWalk ps start (marks ms l)) (nil_from_length ls none) h)

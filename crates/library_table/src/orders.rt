@@ -22,10 +22,11 @@ pub fn order(alloc: Global, units: &[UnitSource]) -> Result<Items<u32>, LibraryF
         Answers spelled all result }
 {
     let graph = graph(alloc, units)?;
-    let places = on_circles(alloc, graph.as_slice())?;
-    if !places.is_empty() {
-        let names = names_at(alloc, units, places.as_slice())?;
-        return Err(LibraryFault::Cycle(names));
+    let rows = graph.as_slice();
+    let places = on_circles(alloc, rows)?;
+    if places.is_empty() {
+        return Ok(turns(alloc, rows)?);
     }
-    Ok(turns(alloc, graph.as_slice())?)
+    let names = names_at(alloc, units, places.as_slice())?;
+    Err(LibraryFault::Cycle(names))
 }

@@ -1,6 +1,6 @@
 //! The units in their turns, each after what it imports. A unit is looked at when the turns begin, and again when one that it
 //! imports has come; of those that are to be looked at the first comes first.
-ghost use Rattle.std.specs.Prelude.{◌≡◌, ◌<◌, ◌≤◌, ◌^◌, ◌||◌, ℕ, List, [], IfOk, OnOk, IfSome, IfNone, length, true, false, vec_len};
+ghost use Rattle.std.specs.Prelude.{◌≡◌, ◌<◌, ◌≤◌, ◌^◌, ◌||◌, ℕ, List, [], IfOk, OnOk, IfSome, IfNone, length, true, false, slice_set, vec_len};
 ghost use Rattle.std.specs.BTreeSet.{contains};
 ghost use Rattle.std.specs.Ordering.{nat_cmp};
 ghost use Rattle.scheme_model.specs.Program.{Prepared, is_in};
@@ -122,22 +122,41 @@ fn next_open(
     None
 }
 
+/// Marks a unit as done.
+fn mark_done(done: &mut Vec<bool>, place: usize)
+    requires { place < vec_len done.old }
+    ensures { done.new.items ≡ slice_set done.old.items place true }
+{
+    done[place] = true;
+}
+
+/// Those that import a unit are to be looked at again.
+fn look_again(waiting: &mut BTreeSet<usize>, importers: &[Items<usize>], place: usize) -> Mem<()>
+    requires { place < length importers.now }
+    ensures { OnOk result ((n : ℕ) → contains nat_cmp waiting.new n
+        ≡ (contains nat_cmp waiting.old n || is_in n (row importers.now place))) }
+{
+    Ok(add_all(waiting, row(importers, place))?)
+}
+
 /// The units in their turns, as far as there are open ones.
 pub fn turns(alloc: Global, graph: &[Items<usize>]) -> Mem<Items<u32>>
     requires few { length graph.now < 2 ^ 32 }
     requires within { AreWithin graph.now }
     ensures { (ps : List Prepared) → IsGraph graph.now ps → AreNumbered ps → IfOk result (λ places. places ≡ in_turn ps (length ps) []) }
 {
+    let count = graph.len();
     let importers = importers(alloc, graph)?;
-    let mut done = no_marks(alloc, graph.len())?;
-    let mut waiting = all_below(alloc, graph.len())?;
+    let rows = importers.as_slice();
+    let mut done = no_marks(alloc, count)?;
+    let mut waiting = all_below(alloc, count)?;
     let mut order = Items::new(alloc);
-    for turn in 0..graph.len() {
+    for turn in 0..count {
         let Some(place) = next_open(graph, done.as_slice(), &mut waiting) else {
             return Ok(order);
         };
-        done[place] = true;
-        add_all(&mut waiting, row(importers.as_slice(), place))?;
+        mark_done(&mut done, place);
+        look_again(&mut waiting, rows, place)?;
         order.push(place as u32)?;
     }
     Ok(order)
