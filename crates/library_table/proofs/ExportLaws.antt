@@ -7,6 +7,7 @@ use Rattle.std.proofs.lemmas.List.Folds.{list_any-append, list_any_more}
 use Rattle.std.proofs.lemmas.List.{take_more, drop_more}
 use Rattle.std.proofs.lemmas.Option.{same_Some, slice_get_within}
 use Rattle.scheme_model.specs.declared.Occ.{Occ}
+use Rattle.scheme_model.specs.ExpansionFaults.{Named}
 use Rattle.scheme_model.specs.Meaning.{Meaning}
 use Rattle.scheme_model.specs.Entries.{Entry, entry_at, place_origin}
 use Rattle.scheme_model.specs.Program as program
@@ -54,10 +55,10 @@ exported_stands : (names : Names) (c : ExportSpec) (x : program.ExportSpec) (e :
 exported_stands names c x e d h k = go (given.same_place c.inner.occ c.outer.occ) refl
   where
     name : c.outer.name ≡ x.outer.name
-    name = ap (λ n. n.name) h.outer
+    name = ap (λ (n : Named (List ℕ)). n.name) h.outer
 
     occ : c.outer.occ ≡ x.outer.occ
-    occ = ap (λ n. n.occ) h.outer
+    occ = ap (λ (n : Named (List ℕ)). n.occ) h.outer
 
     placed : AreOrigins d.meaning (given.place_origin c.outer.occ) (place_origin x.outer.occ)
     placed = subst (λ (o : Option Occ). AreOrigins d.meaning (given.place_origin c.outer.occ) (place_origin o)) occ (place_stands d.meaning c.outer.occ)
@@ -99,13 +100,13 @@ put_stands : (names : Names) (all : List program.ExportSpec) (r : Exports) (m : 
     AreExported names all r m → IsExport c x → slice_get all n ≡ Some x → IsFound names oe od → AreExported names all (put_export n r (export_one again c oe)) (put m x od again)
 put_stands names all r m n c x None None again h e at k = record {
   entries = h.entries;
-  faults = faults-append all r.faults (record { place = n; fault = fault.NotDefined c.inner.name } ∷ []) m.faults (program.NotDefined x ∷ []) h.faults ((at, ap (λ i. fault.NotDefined i.name) e.inner), tt);
+  faults = faults-append all r.faults (record { place = n; fault = fault.NotDefined c.inner.name } ∷ []) m.faults (program.NotDefined x ∷ []) h.faults ((at, ap (λ (i : Named (List ℕ)). fault.NotDefined i.name) e.inner), tt);
 }
 put_stands names all r m n c x None (Some d) again h e at k = absurd k
 put_stands names all r m n c x (Some i) None again h e at k = absurd k
 put_stands names all r m n c x (Some i) (Some d) true h e at k = record {
   entries = h.entries;
-  faults = faults-append all r.faults (record { place = n; fault = fault.SameExport c.outer.name } ∷ []) m.faults (program.SameExport x ∷ []) h.faults ((at, ap (λ i. fault.SameExport i.name) e.outer), tt);
+  faults = faults-append all r.faults (record { place = n; fault = fault.SameExport c.outer.name } ∷ []) m.faults (program.SameExport x ∷ []) h.faults ((at, ap (λ (i : Named (List ℕ)). fault.SameExport i.name) e.outer), tt);
 }
 put_stands names all r m n c x (Some i) (Some d) false h e at k = record {
   entries = entries-append names r.entries (exported c i ∷ []) m.entries (program.exported x d ∷ []) h.entries (exported_stands names c x i d e k, tt);
@@ -138,8 +139,8 @@ all_stand names es ds find are finds all [] [] h r m k before seen same n at =
 all_stand names es ds find are finds all [] (x ∷ xs) h r m k before seen same n at = absurd h
 all_stand names es ds find are finds all (c ∷ cs) [] h r m k before seen same n at = absurd h
 all_stand names es ds find are finds all (c ∷ cs) (x ∷ xs) h r m k before seen same n at =
-    let inner : c.inner.name ≡ x.inner.name = ap (λ i. i.name) h.0.inner in
-    let outer : c.outer.name ≡ x.outer.name = ap (λ i. i.name) h.0.outer in
+    let inner : c.inner.name ≡ x.inner.name = ap (λ (i : Named (List ℕ)). i.name) h.0.inner in
+    let outer : c.outer.name ≡ x.outer.name = ap (λ (i : Named (List ℕ)). i.name) h.0.outer in
     let found = subst (IsFound names (entry_named c.inner.name es)) (ap (entry_at ds) inner ∙ sym (finds x.inner.name)) (name_found names es ds c.inner.name are) in
     let again : Bool = has_outer before c.outer.name in
     let here : slice_get all n ≡ Some x = ap (slice_get all) (plus_none n) ∙ at 0 in

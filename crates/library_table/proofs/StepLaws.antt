@@ -146,4 +146,4 @@ pub turns_first : (g : List (List ℕ)) (ms : List Bool) (s : Places) (order : L
 turns_first g ms s order n k e f m o all =
     subst (λ (order : List ℕ). AreTurns g ms s order 0) (sym o)
     (subst (λ (ms : List Bool). AreTurns g ms s [] 0) (sym m)
-    (turns_start g (replicate n false) s n e (length-replicate n false) (unset n) (subst (λ k. HasAllBelow k s) (f ∙ sym e) all)))
+    (turns_start g (replicate n false) s n e (length-replicate n false) (unset n) (subst (λ (k : ℕ). HasAllBelow k s) (f ∙ sym e) all)))

@@ -1,4 +1,4 @@
-use Rattle.std.proofs.Common.{◌≡◌, ◌<◌, Bool, cond, Some, None, length, slice_get, refl, sym, ap, ◌∙◌, arith}
+use Rattle.std.proofs.Common.{◌≡◌, ◌<◌, ℕ, List, Bool, cond, Some, None, length, slice_get, refl, sym, ap, ◌∙◌, arith}
 use Rattle.std.specs.BTreeMap.{get_by_text}
 use Rattle.library_table.specs.declared.exported.Export.TheVariants.{Given, Refused}
 use Rattle.library_table.specs.declared.fault.LibraryFault.TheVariants.{NotDefined, SameExport}
@@ -11,7 +11,7 @@ returns-in_default c =
     let s = c.args.spec.now.inner.name in
     let es = c.args.entries.now in
     let none : place_of s 0 es ≡ None = sym (c.in_default.ensures ∙ ap (get_by_text c.args.places.now) c.as_str.ensures ∙ c.requires s) in
-    ap (λ t. Refused (NotDefined t)) c.in_ok-name.ensures.cases ∙ sym (ap (export_one c.args.again c.args.spec.now) (no_entry s 0 es none))
+    ap (λ (t : List ℕ). Refused (NotDefined t)) c.in_ok-name.ensures.cases ∙ sym (ap (export_one c.args.again c.args.spec.now) (no_entry s 0 es none))
 
 pub returns-then-again : goal.returns-then-again
 returns-then-again c =
@@ -19,7 +19,7 @@ returns-then-again c =
     let es = c.args.entries.now in
     let at : place_of s 0 es ≡ Some c.in-Some.place = sym (c.in-Some.ensures ∙ ap (get_by_text c.args.places.now) c.as_str.ensures ∙ c.requires s) in
     let r = entry_read s es c.in-Some.place at in
-    ap (λ t. Refused (SameExport t)) c.in_ok-name-2.ensures.cases
+    ap (λ (t : List ℕ). Refused (SameExport t)) c.in_ok-name-2.ensures.cases
     ∙ sym (ap (export_one c.args.again c.args.spec.now) r.1 ∙ ap (λ b. cond b (Refused (SameExport c.args.spec.now.outer.name)) (Given (exported c.args.spec.now r.0))) c.if-again.true)
 
 pub entry_at-requires : goal.entry_at-requires
