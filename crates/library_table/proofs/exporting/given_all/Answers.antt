@@ -22,6 +22,6 @@ loop-place-preserved c =
           (c.in_ok-exports.ensures ∙ ap (put_export i c.loop-place.exports) c.in_ok-export.ensures)
           ∙ c.loop-place.invariant.given;
       seen = λ s.
-          outer_more xs i x key s (contains_text c.loop-place.seen s) (contains_text c.insert.new.self s) (omega arith) c.index-specs-place.is (c.in_ok-from_str.ensures.ok ∙ c.as_str-2.ensures)
+          outer_more xs i x key s (contains_text c.loop-place.seen s) (contains_text c.insert.new.self s) (omega arith) c.index-specs-place.is (c.in_ok-from_str.ensures.ok ∙ c.as_str-in-loop-place.ensures)
           (c.loop-place.invariant.seen s) (btree_set_updates_text key c.loop-place.seen c.insert.new.self true c.in_ok-insert.ensures.updates s);
     }

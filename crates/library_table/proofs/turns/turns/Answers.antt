@@ -1,4 +1,4 @@
-use Rattle.std.proofs.Common.{◌≡◌, ◌<◌, ◌++◌, ◌∷◌, [], ◌+◌, Bool, ℕ, List, true, length, slice_set, ap, sym, subst, ◌∙◌, arith}
+use Rattle.std.proofs.Common.{◌≡◌, ◌<◌, ◌++◌, ◌∷◌, [], ◌+◌, Bool, ℕ, List, true, length, slice_set, refl, ap, sym, subst, ◌∙◌, arith}
 use Rattle.scheme_model.specs.Program.{is_in}
 use Rattle.library_table.specs.Graphs.{is_open, AreImporters}
 use Rattle.library_table.specs.Waiting.{has, Finds, Misses}
@@ -7,7 +7,7 @@ use Rattle.library_table.proofs.turns.turns.Goals as goal
 
 pub loop-turn-init : goal.loop-turn-init
 loop-turn-init c =
-    turns_first c.args.graph.now c.in_ok-done.done.items c.in_ok-waiting.waiting c.new-order.result c.len-count.result c.len-count.result c.len-count.ensures c.len-count.ensures c.in_ok-done.ensures c.new-order.ensures c.in_ok-waiting.ensures
+    turns_first c.args.graph.now c.in_ok-done.done.items c.in_ok-waiting.waiting c.new-order.result (length c.args.graph.now) (length c.args.graph.now) refl refl c.in_ok-done.ensures c.new-order.ensures c.in_ok-waiting.ensures
 
 pub next_open-requires-clause-units : goal.next_open-requires-clause-units
 next_open-requires-clause-units c = c.loop-turn.invariant.units
@@ -46,4 +46,4 @@ loop-turn-preserved c =
 
 pub returns : goal.returns
 returns c = λ ps is numbered.
-    turns_all c.args.graph.now c.loop-turn.done.items c.loop-turn.waiting c.loop-turn.order c.loop-turn.turn (let e = c.len-count.ensures in omega arith) c.loop-turn.invariant ps is numbered
+    turns_all c.args.graph.now c.loop-turn.done.items c.loop-turn.waiting c.loop-turn.order c.loop-turn.turn (omega arith) c.loop-turn.invariant ps is numbered

@@ -8,9 +8,8 @@ use Rattle.library_table.proofs.walk.reached.Goals as goal
 pub mark_all-requires : goal.mark_all-requires
 mark_all-requires c = λ p i.
     let lt = c.requires.within c.args.start p (sym (ap (is_in p) c.row.ensures) ∙ i) in
-    let size = ap length c.in_ok-marked.ensures ∙ length-replicate c.len.result false in
+    let size = ap length c.in_ok-marked.ensures ∙ length-replicate (length c.args.graph.now) false in
     let items = c.in_ok-marked.marked.ok.0 in
-    let all = c.len.ensures in
     omega arith
 
 pub loop-place-init : goal.loop-place-init
@@ -19,8 +18,8 @@ loop-place-init c =
     let v : Marks = marks c.mark_all.new.marked.items c.mark_all.new.left.items in
     let same = c.in_ok-mark_all.ensures ∙ (λ j. mark_all (marks (c.in_ok-marked.ensures j) (c.new-left.ensures.items j)) (c.row.ensures j)) in
     record {
-      safe = safe_first g c.requires.within c.args.start c.len.result v c.len.ensures same;
-      walk = λ ps is. walk_first g ps c.args.start c.len.result v c.requires.within is c.len.ensures same;
+      safe = safe_first g c.requires.within c.args.start (length g) v refl same;
+      walk = λ ps is. walk_first g ps c.args.start (length g) v c.requires.within is refl same;
     }
 
 pub row-requires-in-Some : goal.row-requires-in-Some
@@ -36,7 +35,7 @@ mark_all-requires-in-Some c = λ p i.
 pub loop-place-smaller : goal.loop-place-smaller
 loop-place-smaller c =
     let v : Marks = marks c.mark_all-in-Some.new.marked.items c.mark_all-in-Some.new.left.items in
-    let same = c.in_ok-mark_all-in-Some.ensures ∙ ap (mark_all (marks c.loop-place.marked.items c.pop.new.self.items)) c.row-in-Some.ensures in
+    let same = c.in_ok-mark_all-2.ensures ∙ ap (mark_all (marks c.loop-place.marked.items c.pop.new.self.items)) c.row-in-Some.ensures in
     let less = work_less c.args.graph.now c.requires.within c.loop-place.marked.items c.loop-place.left.items c.pop.new.self.items c.in-Some.place v c.in-Some.ensures.items same c.loop-place.invariant.safe in
     let new = c.mark_all-in-Some.new.left.ok.0 in
     let old = c.loop-place.left.ok.0 in
@@ -46,7 +45,7 @@ pub loop-place-preserved : goal.loop-place-preserved
 loop-place-preserved c =
     let g = c.args.graph.now in
     let v : Marks = marks c.mark_all-in-Some.new.marked.items c.mark_all-in-Some.new.left.items in
-    let same = c.in_ok-mark_all-in-Some.ensures ∙ ap (mark_all (marks c.loop-place.marked.items c.pop.new.self.items)) c.row-in-Some.ensures in
+    let same = c.in_ok-mark_all-2.ensures ∙ ap (mark_all (marks c.loop-place.marked.items c.pop.new.self.items)) c.row-in-Some.ensures in
     record {
       safe = safe_next g c.requires.within c.loop-place.marked.items c.loop-place.left.items c.pop.new.self.items c.in-Some.place v c.in-Some.ensures.items same c.loop-place.invariant.safe;
       walk = λ ps is.
