@@ -1,19 +1,19 @@
 -- The units on circles, and their names.
-use Rattle.std.proofs.Common.{◌≡◌, ◌≢◌, ℕ, zero, suc, ◌+◌, ◌<◌, ◌≤◌, Bool, true, false, cond, ◌⊎◌, inl, inr, List, [], ◌∷◌, ◌++◌, append_assoc, append-nil, length, take, get_or, map, slice_get, Option, Some, None, refl, sym, ap, ◌∙◌, subst, arith}
-use Rattle.std.specs.Prelude.{◌||◌, ◌==◌, filter}
+use Rattle.std.proofs.Common.{◌≡◌, ℕ, zero, suc, ◌+◌, ◌<◌, Bool, true, false, cond, ◌⊎◌, inl, inr, List, [], ◌∷◌, ◌++◌, append-nil, length, take, get_or, map, slice_get, Option, Some, None, refl, sym, ap, ◌∙◌, arith}
+use Rattle.std.specs.Prelude.{◌==◌, filter}
 use Rattle.std.specs.Option.{option_map}
 use Rattle.std.proofs.lemmas.Bool.{eqb-true, or_cases}
 use Rattle.std.proofs.lemmas.Bool.Decides.{nat_tests}
 use Rattle.std.proofs.lemmas.List.{take_more}
 use Rattle.std.proofs.lemmas.List.Concat.{flat_map-append}
 use Rattle.scheme_model.specs.Requirements.{LibraryName}
-use Rattle.scheme_model.specs.Program.{Placed, Prepared, prepared, prepare, imports_at, is_in, reached, on_circle, name_if}
+use Rattle.scheme_model.specs.Program.{Placed, Prepared, prepared, prepare, is_in, reached, on_circle, name_if}
 use Rattle.library_table.specs.declared.units.UnitSource as code
 use Rattle.library_table.specs.Sources.{AreUnitsFrom, AreUnits}
 use Rattle.library_table.specs.Orders.{with_imports, circles, name_before, names_of}
 use Rattle.library_table.specs.Graphs.{AreNumbered, is_circular, passing, name_at, as_list, names_at}
 use Rattle.library_table.proofs.GraphLaws.{are_numbered, prepare_length, plus_one}
-use Rattle.library_table.proofs.ReachLaws.{in_push, or_left, or_right}
+use Rattle.library_table.proofs.ReachLaws.{in_push}
 
 -- the numbers from one on that pass a test, of so many
 abbrev passing_from : (ℕ → Bool) → ℕ → ℕ → List ℕ

@@ -20,7 +20,7 @@ use Rattle.library_table.specs.declared.exporting.Exports.{Exports}
 use Rattle.library_table.specs.declared.exporting.ExportFault as code_fault
 use Rattle.library_table.specs.declared.fault.LibraryFault.TheVariants as fault
 use Rattle.library_table.specs.Exported.{entry_named, place_of, exported, export_one, has_outer, no_exports, put_export, put_all}
-use Rattle.library_table.specs.Exports.{IsFault, AreFaults, AreExported}
+use Rattle.library_table.specs.Exports.{AreFaults, AreExported}
 use Rattle.library_table.specs.Sources.{IsExport, AreExports}
 
 -- ---- entries by their names
@@ -146,8 +146,8 @@ all_stand names es ds find are finds all (c ∷ cs) (x ∷ xs) h r m k before se
     let here : slice_get all n ≡ Some x = ap (slice_get all) (plus_none n) ∙ at 0 in
     let step = put_stands names all r m n c x (entry_named c.inner.name es) (find x.inner.name) again k h.0 here found in
     let rest =
-        all_stand names es ds find are finds all cs xs h.1 (put_export n r (export_one again c (entry_named c.inner.name es))) (put m x (find x.inner.name) again) step
-        (before ++ c ∷ []) (x.outer.name ∷ seen) (λ s. seen_more before seen c x.outer.name s outer (same s)) (suc n) (λ i. ap (slice_get all) (plus_one n i) ∙ at (suc i)) in
+    all_stand names es ds find are finds all cs xs h.1 (put_export n r (export_one again c (entry_named c.inner.name es))) (put m x (find x.inner.name) again) step
+    (before ++ c ∷ []) (x.outer.name ∷ seen) (λ s. seen_more before seen c x.outer.name s outer (same s)) (suc n) (λ i. ap (slice_get all) (plus_one n i) ∙ at (suc i)) in
     subst (AreExported names all (put_all es r before n (c ∷ cs)))
     (put_joined m (program.export_all find (x.outer.name ∷ seen) xs) seen x (find x.inner.name) again (sym (same x.outer.name) ∙ sym (ap (has_outer before) outer)))
     rest

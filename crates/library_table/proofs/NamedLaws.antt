@@ -1,6 +1,6 @@
 -- Which unit a library's name means: the code's units and the units agree.
-use Rattle.std.proofs.Common.{◌≡◌, ℕ, suc, ◌+◌, Bool, true, false, cond, ◌<◌, List, [], ◌∷◌, ◌++◌, append_assoc, length, take, drop, get_or, Option, Some, None, refl, sym, ap, ◌∙◌, subst, arith}
-use Rattle.std.specs.Prelude.{◌&&◌, not, ◌==◌}
+use Rattle.std.proofs.Common.{◌≡◌, ℕ, suc, ◌+◌, Bool, true, false, cond, ◌<◌, List, [], ◌∷◌, ◌++◌, append_assoc, length, take, drop, get_or, Option, Some, None, refl, sym, ap, ◌∙◌, arith}
+use Rattle.std.specs.Prelude.{◌&&◌, not}
 use Rattle.std.specs.Option.{option_map, is_some}
 use Rattle.std.proofs.lemmas.List.{take_more, drop_more, length-take-le}
 use Rattle.std.specs.Str.{bytes_eq}
@@ -10,8 +10,8 @@ use Rattle.syntax_tree.proofs.InternLaws.{bytes_told, bytes_itself}
 use Rattle.syntax_tree.proofs.Names.{and_true}
 use Rattle.library_table.proofs.ReachLaws.{same_test}
 use Rattle.library_table.specs.declared.units.UnitSource as code
-use Rattle.library_table.specs.Named.{is_name, first_of, place_if, first_place, place_named, is_other, is_later, later, later_from}
-use Rattle.library_table.specs.Sources.{TellsNames, IsUnit, AreUnitsFrom, AreUnits}
+use Rattle.library_table.specs.Named.{is_name, first_of, place_if, first_place, place_named, is_other, is_later, later_from}
+use Rattle.library_table.specs.Sources.{TellsNames, AreUnitsFrom, AreUnits}
 use Rattle.library_table.specs.Repeated.{is_at, is_repeated_name, repeated_from, repeated_places}
 
 -- ---- names

@@ -1,12 +1,12 @@
 -- What a call on the order of units answers.
-use Rattle.std.proofs.Common.{◌≡◌, ◌≢◌, ℕ, ◌<◌, Bool, true, List, [], length, map, sym, ap, ◌∙◌, subst, arith}
+use Rattle.std.proofs.Common.{◌≡◌, ◌≢◌, ℕ, List, [], length, sym, ap, ◌∙◌, arith}
 use Rattle.scheme_model.specs.Requirements.{LibraryName}
 use Rattle.scheme_model.specs.Program.{Placed, Prepared, is_in}
 use Rattle.library_table.specs.declared.units.UnitSource as code
 use Rattle.library_table.specs.Sources.{TellsNames, AreUnits}
 use Rattle.library_table.specs.Orders.{with_imports, in_turn, AreInTurn, AreOnCircles}
 use Rattle.library_table.specs.Graphs.{SameRows, graph_of, IsGraph, is_circular, passing, names_at}
-use Rattle.library_table.proofs.GraphLaws.{are_numbered, prepare_length, are_as_many, is_graph, rows_within}
+use Rattle.library_table.proofs.GraphLaws.{are_numbered, prepare_length, is_graph, rows_within}
 use Rattle.library_table.proofs.WalkLaws.{graph_within}
 use Rattle.library_table.proofs.CircleLaws.{passing_none, none_on_circles, some_on_circles, names_on_circles}
 use Rattle.library_table.proofs.TurnLaws.{every_unit}

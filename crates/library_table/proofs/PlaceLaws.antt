@@ -1,15 +1,14 @@
 -- Sets of places, and lists of the same places.
-use Rattle.std.proofs.Common.{◌≡◌, ℕ, zero, suc, ◌+◌, ◌<◌, ◌≤◌, Bool, true, false, cond, ◌⊎◌, inl, inr, List, [], ◌∷◌, ◌++◌, length, take, get_or, refl, sym, ap, ◌∙◌, arith}
+use Rattle.std.proofs.Common.{◌≡◌, ℕ, ◌+◌, ◌<◌, Bool, true, false, cond, ◌⊎◌, inl, inr, List, [], ◌∷◌, ◌++◌, length, take, get_or, refl, sym, ap, ◌∙◌, arith}
 use Rattle.std.specs.Prelude.{◌||◌, ◌==◌}
-use Rattle.std.specs.Ordering.{nat_cmp, is_eq, is_gt}
-use Rattle.std.specs.BTreeSet.{contains}
+use Rattle.std.specs.Ordering.{nat_cmp, is_eq}
 use Rattle.std.proofs.lemmas.Bool.{eqb-true, or_cases}
 use Rattle.std.proofs.lemmas.Bool.Decides.{nat_tests}
 use Rattle.std.proofs.lemmas.List.{take_more, get_or_default}
 use Rattle.scheme_model.specs.Program.{is_in}
 use Rattle.library_table.specs.Graphs.{row}
 use Rattle.library_table.specs.Waiting.{Places, has, HasAllBelow}
-use Rattle.library_table.proofs.ReachLaws.{or_none, or_one, or_turned, or_joined, in_push}
+use Rattle.library_table.proofs.ReachLaws.{or_none, or_one, or_joined, in_push}
 
 numbers_equal : (a b : ℕ) → is_eq (nat_cmp a b) ≡ (b == a)
 numbers_equal a b = grind (arith, nat_tests)

@@ -1,14 +1,12 @@
 -- A unit is among the repeated ones where the first unit with its name is another.
-use Rattle.std.proofs.Common.{◌≡◌, ℕ, zero, suc, ◌+◌, ◌<◌, ◌≤◌, Bool, true, false, cond, ◌⊎◌, inl, inr, List, [], ◌∷◌, slice_get, Option, Some, None, refl, sym, ap, ◌∙◌, arith}
-use Rattle.std.specs.Prelude.{◌||◌, ◌==◌, not}
+use Rattle.std.proofs.Common.{◌≡◌, ℕ, zero, suc, ◌+◌, ◌≤◌, Bool, true, false, cond, ◌⊎◌, inl, inr, List, [], ◌∷◌, slice_get, Option, Some, None, refl, sym, ap, ◌∙◌, arith}
+use Rattle.std.specs.Prelude.{◌||◌, ◌==◌}
 use Rattle.std.proofs.lemmas.Bool.{eqb-true, or_cases}
 use Rattle.std.proofs.lemmas.Bool.Decides.{nat_tests}
 use Rattle.std.proofs.lemmas.Option.{same_Some}
 use Rattle.scheme_model.specs.Requirements.{LibraryName}
-use Rattle.scheme_model.specs.Order.{is_some}
-use Rattle.scheme_model.specs.StandardLibraries.{standard}
 use Rattle.scheme_model.specs.Program.{Placed, prepared, is_in, name_if, unit_named, is_repeated}
-use Rattle.library_table.specs.Repeated.{is_at, is_repeated_name, repeated_from, repeated_places, has_standard_name}
+use Rattle.library_table.specs.Repeated.{is_repeated_name, repeated_from, repeated_places, has_standard_name}
 
 -- from a place on, places aren't before it
 not_before : (all us : List Placed) (k n : ℕ) → is_in n (repeated_from all k us) ≡ true → k ≤ n

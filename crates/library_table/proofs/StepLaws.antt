@@ -1,15 +1,15 @@
 -- One turn: the first open unit comes, and those that import it are looked at again.
-use Rattle.std.proofs.Common.{◌≡◌, ◌≢◌, ℕ, zero, suc, ◌+◌, ◌-◌, ◌<◌, ◌≤◌, Bool, true, false, ◌⊎◌, inl, inr, List, [], ◌∷◌, ◌++◌, append-nil, append_assoc, length, slice_set, replicate, slice_get, get_or, Option, Some, None, refl, sym, ap, ◌∙◌, subst, arith}
+use Rattle.std.proofs.Common.{◌≡◌, ◌≢◌, ℕ, zero, suc, ◌+◌, ◌-◌, ◌<◌, ◌≤◌, Bool, true, false, ◌⊎◌, inl, inr, List, [], ◌∷◌, ◌++◌, append-nil, append_assoc, length, slice_set, replicate, slice_get, Option, Some, None, refl, sym, ap, ◌∙◌, subst, arith}
 use Rattle.std.specs.Prelude.{◌||◌, ◌&&◌, ◌==◌, not}
 use Rattle.std.proofs.lemmas.Bool.{eqb-true, eq-eqb, or_cases, not-true, and_parts}
 use Rattle.std.proofs.lemmas.List.{length-set, length-replicate}
-use Rattle.std.proofs.lemmas.Option.{slice_get_within, slice_get-get_or}
+use Rattle.std.proofs.lemmas.Option.{slice_get_within}
 use Rattle.scheme_model.specs.Program.{Prepared, is_in, first_ready}
 use Rattle.library_table.specs.Orders.{in_turn, and_then}
 use Rattle.library_table.specs.Orders as model
-use Rattle.library_table.specs.Graphs.{row, AreWithin, IsGraph, AreNumbered, is_marked, all_marked, is_open, AreImporters}
+use Rattle.library_table.specs.Graphs.{row, IsGraph, AreNumbered, is_marked, all_marked, is_open, AreImporters}
 use Rattle.library_table.specs.Waiting.{Places, has, HasAllBelow, Finds, Misses}
-use Rattle.library_table.proofs.ReachLaws.{or_left, or_right, or_none, in_push}
+use Rattle.library_table.proofs.ReachLaws.{or_left, or_right, in_push}
 use Rattle.library_table.proofs.WalkLaws.{set_marked}
 use Rattle.library_table.proofs.TurnLaws.{ready_at, ready_none, open_same}
 

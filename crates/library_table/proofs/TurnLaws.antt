@@ -1,13 +1,13 @@
 -- The units in their turns: the first that is open, and that all come in the end where none is on a circle.
-use Rattle.std.proofs.Common.{◌≡◌, ℕ, zero, suc, ◌+◌, ◌<◌, ◌≤◌, Bool, true, false, cond, ◌⊎◌, inl, inr, List, [], ◌∷◌, ◌++◌, length, get_or, slice_get, Option, Some, None, refl, sym, ap, ◌∙◌, subst, arith}
+use Rattle.std.proofs.Common.{◌≡◌, ℕ, zero, suc, ◌<◌, ◌≤◌, Bool, true, false, cond, ◌⊎◌, inl, inr, List, [], ◌∷◌, ◌++◌, length, slice_get, Option, Some, None, refl, sym, ap, ◌∙◌, arith}
 use Rattle.std.specs.Prelude.{◌||◌, ◌&&◌, ◌==◌, not}
 use Rattle.std.proofs.lemmas.Bool.{eqb-true, eq-eqb, or_cases, not-true, and_parts}
-use Rattle.std.proofs.lemmas.Option.{same_Some, slice_get_within, slice_get-get_or}
+use Rattle.std.proofs.lemmas.Option.{same_Some, slice_get_within}
 use Rattle.scheme_model.specs.Program.{Prepared, imports_at, is_in, reached, first_ready}
 use Rattle.library_table.specs.Orders.{all_in, is_open, and_then, in_turn}
 use Rattle.library_table.specs.Graphs.{row, AreWithin, IsGraph, AreNumbered, is_marked, is_circular, all_marked}
 use Rattle.library_table.specs.Graphs as code
-use Rattle.library_table.proofs.ReachLaws.{same_test, or_left, or_right, or_none, in_push, count, count_bound, count_lt, IsWithin, IsClosed, reached_closed, reached_start, reached_within}
+use Rattle.library_table.proofs.ReachLaws.{same_test, or_left, or_right, in_push, count, count_bound, count_lt, IsWithin, reached_closed, reached_start, reached_within}
 
 -- ---- the first that passes
 

@@ -4,8 +4,8 @@ use Rattle.std.specs.Prelude.{◌||◌, ◌&&◌, ◌==◌, not}
 use Rattle.std.proofs.lemmas.Bool.{eqb-true, eq-eqb, or_cases}
 use Rattle.std.proofs.lemmas.List.{length-set, length_push, length-replicate, drop_more, nil_from_length, get_or-set_same, get_or-set_other}
 use Rattle.scheme_model.specs.Program.{Prepared, imports_at, is_in, reached}
-use Rattle.library_table.specs.Graphs.{row, AreWithin, IsGraph, is_marked, Marks, marks, mark, mark_all, unmarked, is_circular}
-use Rattle.library_table.proofs.ReachLaws.{same_test, or_none, or_one, or_turned, or_joined, or_left, or_right, in_push, IsWithin, IsClosed, reached_closed, reached_start, reached_within}
+use Rattle.library_table.specs.Graphs.{row, AreWithin, IsGraph, is_marked, Marks, marks, mark, mark_all, unmarked}
+use Rattle.library_table.proofs.ReachLaws.{same_test, or_none, or_one, or_joined, or_left, or_right, in_push, IsWithin, reached_closed, reached_start, reached_within}
 
 -- ---- one mark
 

@@ -1,5 +1,5 @@
 -- What a unit exports, and the faults of its exports, as the code has them (R7RS 5.6.1).
-use Rattle.std.specs.Prelude.{◌≡◌, ℕ, List, [], ◌∷◌, slice_get, Some}
+use Rattle.std.specs.Prelude.{◌≡◌, List, [], ◌∷◌, slice_get, Some}
 use Rattle.scheme_model.specs.Program.{ExportSpec, ExportFault, NotDefined, SameExport, Exported}
 use Rattle.syntax_tree.specs.Names.{Names}
 use Rattle.syntax_tree.specs.Meant.{AreEntries}

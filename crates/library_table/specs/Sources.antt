@@ -1,5 +1,5 @@
 -- What the units of the code are (R7RS 5.1, 5.6.1).
-use Rattle.std.specs.Prelude.{◌≡◌, ℕ, suc, List, [], ◌∷◌, not, Option}
+use Rattle.std.specs.Prelude.{◌≡◌, ℕ, suc, List, [], ◌∷◌, not}
 use Rattle.std.specs.Option.{option_map}
 use Rattle.scheme_model.specs.Requirements.{LibraryName}
 use Rattle.scheme_model.specs.Program.{Placed, ImportSpec, ExportSpec, name_if, forms_or_none, specs_from, exports_from}

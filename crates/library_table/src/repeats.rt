@@ -36,7 +36,11 @@ fn later_places(
 {
     let mut places = Items::new(alloc);
     for (place, unit) in units.iter().enumerate() {
-        push_if(&mut places, is_later(firsts, &unit.name, place), place as u32)?;
+        push_if(
+            &mut places,
+            is_later(firsts, &unit.name, place),
+            place as u32,
+        )?;
     }
     Ok(places)
 }

@@ -103,11 +103,7 @@ fn add_all(waiting: &mut BTreeSet<usize>, places: &[usize]) -> Mem<()>
 }
 
 /// The first of the waiting units that is open; those before it wait no more.
-fn next_open(
-    graph: &[Items<usize>],
-    done: &[bool],
-    waiting: &mut BTreeSet<usize>,
-) -> Option<usize>
+fn next_open(graph: &[Items<usize>], done: &[bool], waiting: &mut BTreeSet<usize>) -> Option<usize>
     requires size { length done.now ≡ length graph.now }
     requires within { AreWithin graph.now }
     requires units { (n : ℕ) → contains nat_cmp waiting.old n ≡ true → n < length graph.now }

@@ -1,4 +1,3 @@
-use Rattle.std.proofs.Common.{refl}
 use Rattle.library_table.specs.Graphs.{is_circular}
 use Rattle.library_table.proofs.CircleLaws.{passing_next, below_next}
 use Rattle.library_table.proofs.circles.on_circles.Goals as goal

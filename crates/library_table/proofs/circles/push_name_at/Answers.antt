@@ -1,4 +1,4 @@
-use Rattle.std.proofs.Common.{◌++◌, List, ℕ, sym, ap, ◌∙◌}
+use Rattle.std.proofs.Common.{◌++◌, sym, ap, ◌∙◌}
 use Rattle.library_table.specs.declared.units.UnitSource.{UnitSource}
 use Rattle.library_table.specs.Graphs.{as_list}
 use Rattle.library_table.proofs.CircleLaws.{name_is}

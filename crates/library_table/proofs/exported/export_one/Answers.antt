@@ -1,4 +1,4 @@
-use Rattle.std.proofs.Common.{◌≡◌, ◌<◌, ℕ, List, Bool, cond, Some, None, length, slice_get, refl, sym, ap, ◌∙◌, arith}
+use Rattle.std.proofs.Common.{◌≡◌, ℕ, List, cond, Some, None, sym, ap, ◌∙◌}
 use Rattle.std.specs.BTreeMap.{get_by_text}
 use Rattle.library_table.specs.declared.exported.Export.TheVariants.{Given, Refused}
 use Rattle.library_table.specs.declared.fault.LibraryFault.TheVariants.{NotDefined, SameExport}

@@ -1,10 +1,8 @@
-use Rattle.std.proofs.Common.{true, arith, ap, sym, ◌∙◌}
+use Rattle.std.proofs.Common.{true, arith, ap, ◌∙◌}
 use Rattle.std.specs.String.{string_bytes}
 use Rattle.std.specs.BTreeSet.{contains_text}
 use Rattle.std.proofs.lemmas.Map.Text.{btree_set_updates_text}
-use Rattle.library_table.specs.Exported.{has_outer, export_one, entry_named, put_export}
-use Rattle.library_table.specs.declared.exported.Export.{Export}
-use Rattle.library_table.specs.declared.exporting.Exports.{Exports}
+use Rattle.library_table.specs.Exported.{put_export}
 use Rattle.library_table.proofs.ExportLaws.{put_next, outer_more}
 use Rattle.library_table.proofs.exporting.given_all.Goals as goal
 

@@ -1,7 +1,7 @@
-use Rattle.std.proofs.Common.{◌≡◌, ◌++◌, Bool, cond, List, [], ◌∷◌, ℕ, sym, ap, ◌∙◌, arith}
+use Rattle.std.proofs.Common.{◌∙◌, arith}
 use Rattle.std.specs.BTreeMap.{get_by_text}
-use Rattle.library_table.specs.Named.{place_named, later_from}
-use Rattle.library_table.proofs.NamedLaws.{later_find, later_step, later_next}
+use Rattle.library_table.specs.Named.{place_named}
+use Rattle.library_table.proofs.NamedLaws.{later_find, later_next}
 use Rattle.library_table.proofs.repeats.later_places.Goals as goal
 
 pub loop-place-preserved : goal.loop-place-preserved

@@ -1,4 +1,4 @@
-use Rattle.std.proofs.Common.{Bool, ap, ◌∙◌}
+use Rattle.std.proofs.Common.{ap, ◌∙◌}
 use Rattle.std.specs.Prelude.{◌||◌}
 use Rattle.scheme_model.specs.Program.{is_in}
 use Rattle.library_table.specs.Waiting.{has}

@@ -1,7 +1,6 @@
-use Rattle.std.proofs.Common.{◌≡◌, ◌<◌, ◌++◌, ◌∷◌, [], ◌+◌, Bool, ℕ, List, true, length, slice_set, refl, ap, sym, subst, ◌∙◌, arith}
-use Rattle.scheme_model.specs.Program.{is_in}
+use Rattle.std.proofs.Common.{◌+◌, Bool, ℕ, List, true, length, slice_set, refl, ap, sym, subst, arith}
 use Rattle.library_table.specs.Graphs.{is_open, AreImporters}
-use Rattle.library_table.specs.Waiting.{has, Finds, Misses}
+use Rattle.library_table.specs.Waiting.{Finds, Misses}
 use Rattle.library_table.proofs.StepLaws.{AreTurns, turns_end, turns_all, turns_more, turns_first}
 use Rattle.library_table.proofs.turns.turns.Goals as goal
 
