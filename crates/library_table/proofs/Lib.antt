@@ -1,0 +1,14 @@
+mod NamedLaws
+mod RepeatedLaws
+mod PlaceLaws
+mod ExportLaws
+mod ReachLaws
+mod WalkLaws
+mod GraphLaws
+mod CircleLaws
+mod TurnLaws
+mod ImporterLaws
+mod StepLaws
+mod WaitLaws
+mod OrderLaws
+mod WorkLaws

@@ -1,0 +1,46 @@
+use Rattle.std.proofs.Common.{◌≡◌, List, ℕ, length, ap, sym, subst, ◌∙◌, arith}
+use Rattle.std.proofs.lemmas.Bool.Decides.{nat_tests}
+use Rattle.std.proofs.lemmas.List.{nil_from_length}
+use Rattle.scheme_model.specs.Program.{is_in}
+use Rattle.library_table.specs.Graphs.{AreWithin, IsGraph, is_circular, passing, names_at}
+use Rattle.library_table.specs.Orders.{with_imports}
+use Rattle.library_table.proofs.GraphLaws.{graph_size, rows_within, are_numbered, is_graph}
+use Rattle.library_table.proofs.OrderLaws.{in_turns, on_circle_names}
+use Rattle.library_table.proofs.orders.order.Goals as goal
+
+pub on_circles-requires : goal.on_circles-requires
+on_circles-requires c = subst AreWithin (sym c.as_slice-rows.ensures.value) (rows_within c.args.units.now c.in_ok-graph.graph.items c.in_ok-graph.ensures)
+
+pub turns-requires-clause-few : goal.turns-requires-clause-few
+turns-requires-clause-few c =
+    let rows = ap length c.as_slice-rows.ensures.value in let size = graph_size c.args.units.now c.in_ok-graph.graph.items c.in_ok-graph.ensures in let few = c.requires in omega arith
+
+pub turns-requires-clause-within : goal.turns-requires-clause-within
+turns-requires-clause-within c = subst AreWithin (sym c.as_slice-rows.ensures.value) (rows_within c.args.units.now c.in_ok-graph.graph.items c.in_ok-graph.ensures)
+
+pub returns-then-is_empty : goal.returns-then-is_empty
+returns-then-is_empty c = λ spelled tells all are.
+    let us = c.args.units.now in
+    let g = c.in_ok-graph.graph.items in
+    let e = c.as_slice-rows.ensures.value in
+    let none : length c.in_ok-places.places.items ≡ 0 = grind (arith, nat_tests, c.in_ok-places.places.ok.0) in
+    in_turns spelled tells us all are g c.in_ok-graph.ensures c.in_ok-places.places.items c.in_ok-turns.field-0 (nil_from_length c.in_ok-places.places.items none)
+    (λ ps is. c.in_ok-places.ensures.circular ps (subst (λ (h : List (List ℕ)). IsGraph h ps) (sym e) is) ∙ ap (λ (h : List (List ℕ)). passing (is_circular ps) (length h)) e)
+    (c.in_ok-turns.ensures (with_imports all) (subst (λ (h : List (List ℕ)). IsGraph h (with_imports all)) (sym e) (is_graph spelled tells us all are g c.in_ok-graph.ensures)) (are_numbered all))
+
+pub names_at-requires : goal.names_at-requires
+names_at-requires c = λ n i.
+    let lt = c.in_ok-places.ensures.below n (sym (ap (is_in n) c.as_slice.ensures.value) ∙ i) in
+    let rows = ap length c.as_slice-rows.ensures.value in
+    let size = graph_size c.args.units.now c.in_ok-graph.graph.items c.in_ok-graph.ensures in
+    omega arith
+
+pub returns : goal.returns
+returns c = λ spelled tells all are.
+    let us = c.args.units.now in
+    let g = c.in_ok-graph.graph.items in
+    let e = c.as_slice-rows.ensures.value in
+    on_circle_names spelled tells us all are g c.in_ok-graph.ensures c.in_ok-places.places.items c.in_ok-names.names
+    (λ z. let none : length c.in_ok-places.places.items ≡ 0 = ap length z in grind (arith, nat_tests, c.in_ok-places.places.ok.0))
+    (λ ps is. c.in_ok-places.ensures.circular ps (subst (λ (h : List (List ℕ)). IsGraph h ps) (sym e) is) ∙ ap (λ (h : List (List ℕ)). passing (is_circular ps) (length h)) e)
+    (c.in_ok-names.ensures ∙ ap (names_at us) c.as_slice.ensures.value)

@@ -1,0 +1,92 @@
+//! What one export gives (R7RS 5.6.1).
+ghost use Rattle.std.specs.Prelude.{◌≡◌, ◌<◌, ℕ, List, Option, Some, None, IfOk, length, slice_get};
+ghost use Rattle.std.specs.BTreeMap.{get_by_text};
+ghost use Rattle.import_sets.specs.Given.{same_place};
+ghost use Rattle.library_table.specs.Exported.{place_of, entry_named, exported, export_one};
+
+use crate::fault::LibraryFault;
+use crate::firsts::note_first;
+use crate::units::ExportSpec;
+use import_sets::{copy_of_origins, renamed};
+use ls_base::Mem;
+use scheme_model::Occ;
+use std::alloc::Global;
+use std::collections::BTreeMap;
+use syntax_tree::units::Entry;
+
+/// What an export gives: an entry, or nothing by its fault.
+#[derive(Debug, Drop)]
+pub enum Export {
+    Given(Entry),
+    Refused(LibraryFault),
+}
+
+/// The place of the first entry with each name.
+pub fn entry_places(alloc: Global, entries: &[Entry]) -> Mem<BTreeMap<String, usize>>
+    ensures { IfOk result (λ places. (s : List ℕ) → get_by_text places s ≡ place_of s 0 entries.now) }
+{
+    let mut places = BTreeMap::new(alloc);
+    for (place, entry) in entries.iter().enumerate() {
+        note_first(alloc, &mut places, entry.name.as_str(), place)?;
+    }
+    Ok(places)
+}
+
+/// Whether two identifiers stand at one place.
+fn same_place(a: Option<Occ>, b: Option<Occ>) -> bool
+    ensures { result ≡ same_place a b }
+{
+    a == b
+}
+
+/// An entry under the external name of an export.
+fn exported(alloc: Global, spec: &ExportSpec, entry: &Entry) -> Mem<Entry>
+    ensures { IfOk result (λ given. given ≡ exported spec.now entry.now) }
+{
+    if same_place(spec.inner.occ, spec.outer.occ) {
+        return Ok(Entry {
+            name: spec.outer.name.clone()?,
+            meaning: entry.meaning,
+            origins: copy_of_origins(alloc, entry.origins.as_slice())?,
+        });
+    }
+    Ok(renamed(alloc, entry, &spec.outer)?)
+}
+
+/// The place of a name.
+fn place_for(places: &BTreeMap<String, usize>, name: &str) -> Option<usize>
+    ensures { result ≡ get_by_text places.now name.now }
+{
+    places.get(name).copied()
+}
+
+/// The entry at a place.
+fn entry_at(entries: &[Entry], place: usize) -> &Entry
+    requires { place < length entries.now }
+    ensures { slice_get entries.now place ≡ Some result.now }
+{
+    &entries[place]
+}
+
+/// What an export gives of these entries, whose places are known by their names. `again` tells that an earlier export has its
+/// external name.
+pub fn export_one(
+    alloc: Global,
+    spec: &ExportSpec,
+    entries: &[Entry],
+    places: &BTreeMap<String, usize>,
+    again: bool,
+) -> Mem<Export>
+    requires { (s : List ℕ) → get_by_text places.now s ≡ place_of s 0 entries.now }
+    ensures { IfOk result (λ export. export ≡ export_one again spec.now (entry_named spec.now.inner.name entries.now)) }
+{
+    let Some(place) = place_for(places, spec.inner.name.as_str()) else {
+        let name = spec.inner.name.clone()?;
+        return Ok(Export::Refused(LibraryFault::NotDefined(name)));
+    };
+    if again {
+        let name = spec.outer.name.clone()?;
+        return Ok(Export::Refused(LibraryFault::SameExport(name)));
+    }
+    Ok(Export::Given(exported(alloc, spec, entry_at(entries, place))?))
+}

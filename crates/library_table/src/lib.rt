@@ -1,0 +1,22 @@
+//! The libraries and programs of texts (R7RS 5.1, 5.6): which library a name means, what a unit exports, and the order in which
+//! units come after what they import.
+#![tactic(auto)]
+
+mod circles;
+mod exported;
+pub mod exporting;
+pub mod fault;
+mod firsts;
+mod graph;
+pub mod laws;
+pub mod orders;
+pub mod repeats;
+mod turns;
+pub mod units;
+mod walk;
+
+pub use exporting::{ExportFault, Exports, exports_of};
+pub use fault::LibraryFault;
+pub use orders::order;
+pub use repeats::repeated;
+pub use units::{ExportSpec, ImportSpec, UnitForm, UnitSource};

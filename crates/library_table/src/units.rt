@@ -1,0 +1,41 @@
+//! Units as they are read from texts (R7RS 5.1, 5.6.1), before anything is expanded.
+use datum_reader::Datum;
+use import_sets::{ImportSet, SetName};
+use ls_base::{Items, Span, Text};
+use syntax_tree::units::UnitKind;
+
+/// An import set, with the bytes of the set, of the set inside its outermost modifier, and of its library's name. Without a
+/// modifier `inner` is the set itself, and for `Bad` all three are.
+#[derive(Debug, Drop)]
+pub struct ImportSpec {
+    pub set: ImportSet,
+    pub span: Span,
+    pub inner: Span,
+    pub library: Span,
+}
+
+/// An export: the identifier inside, and the one under which the library gives it. An identifier that is exported as it is
+/// stands for both, so the two have one place.
+#[derive(Debug, Drop)]
+pub struct ExportSpec {
+    pub inner: SetName,
+    pub outer: SetName,
+}
+
+/// A form of a unit, and whether it is a library's declaration.
+#[derive(Debug, Drop)]
+pub struct UnitForm {
+    pub datum: Datum,
+    pub declared: bool,
+}
+
+/// A library or a program: its library's name as a text, its first token's bytes, and what it imports, exports and holds.
+#[derive(Debug, Drop)]
+pub struct UnitSource {
+    pub kind: UnitKind,
+    pub name: Option<Text>,
+    pub span: Span,
+    pub imports: Items<ImportSpec>,
+    pub exports: Items<ExportSpec>,
+    pub forms: Items<UnitForm>,
+}
