@@ -9,7 +9,7 @@ use Rattle.library_table.specs.Graphs.{SameRows, graph_of, IsGraph, is_circular,
 use Rattle.library_table.proofs.GraphLaws.{are_numbered, prepare_length, is_graph, rows_within}
 use Rattle.library_table.proofs.WalkLaws.{graph_within}
 use Rattle.library_table.proofs.CircleLaws.{passing_none, none_on_circles, some_on_circles, names_on_circles}
-use Rattle.library_table.proofs.TurnLaws.{every_unit}
+use Rattle.library_table.proofs.TurnLaws.{every_unit, comes_after}
 
 as_many : (spelled : LibraryName → List ℕ) → TellsNames spelled → (cs : List code.UnitSource) (us : List Placed) → AreUnits spelled cs us → (g : List (List ℕ)) → SameRows g (graph_of cs) → length g ≡ length us
 as_many spelled tells cs us are g same = (is_graph spelled tells cs us are g same).size ∙ prepare_length us us 0
@@ -24,6 +24,7 @@ in_turns spelled tells cs us are g same places order none circular turns = recor
       ap (is_in n) turns
       ∙ every_unit (with_imports us) (are_numbered us) (graph_within g (with_imports us) (rows_within cs g same) is)
       (λ m l. passing_none (is_circular (with_imports us)) (length us) here m (let e = prepare_length us us 0 in omega arith)) n (let e = prepare_length us us 0 in omega arith);
+  after = λ n before rest e. comes_after (with_imports us) (are_numbered us) (length (with_imports us)) [] before rest n (sym turns ∙ e);
 }
   where
     is : IsGraph g (with_imports us)

@@ -1,10 +1,10 @@
 -- The units in their turns: the first that is open, and that all come in the end where none is on a circle.
-use Rattle.std.proofs.Common.{◌≡◌, ℕ, zero, suc, ◌<◌, ◌≤◌, Bool, true, false, cond, ◌⊎◌, inl, inr, List, [], ◌∷◌, ◌++◌, length, slice_get, Option, Some, None, refl, sym, ap, ◌∙◌, arith}
+use Rattle.std.proofs.Common.{◌≡◌, ℕ, zero, suc, ◌<◌, ◌≤◌, Bool, true, false, cond, ◌⊎◌, inl, inr, List, [], ◌∷◌, ◌++◌, append-nil, append_assoc, length, slice_get, Option, Some, None, refl, sym, ap, ◌∙◌, subst, arith}
 use Rattle.std.specs.Prelude.{◌||◌, ◌&&◌, ◌==◌, not}
 use Rattle.std.proofs.lemmas.Bool.{eqb-true, eq-eqb, or_cases, not-true, and_parts}
 use Rattle.std.proofs.lemmas.Option.{same_Some, slice_get_within}
 use Rattle.scheme_model.specs.Program.{Prepared, imports_at, is_in, reached, first_ready}
-use Rattle.library_table.specs.Orders.{all_in, is_open, and_then, in_turn}
+use Rattle.library_table.specs.Orders.{all_in, is_open, and_then, in_turn, ComesAfter}
 use Rattle.library_table.specs.Graphs.{row, AreWithin, IsGraph, AreNumbered, is_marked, is_circular, all_marked}
 use Rattle.library_table.specs.Graphs as code
 use Rattle.library_table.proofs.ReachLaws.{same_test, or_left, or_right, in_push, count, count_bound, count_lt, IsWithin, reached_closed, reached_start, reached_within}
@@ -163,3 +163,31 @@ all_come ps numbered within none (suc t) done le n lt h = go (λ next less i. al
 
 pub every_unit : (ps : List Prepared) → AreNumbered ps → IsWithin ps → HasNoCircle ps → (n : ℕ) → n < length ps → is_in n (in_turn ps (length ps) []) ≡ true
 every_unit ps numbered within none n lt = all_come ps numbered within none (length ps) [] (count_bound (length ps) (undone [])) n lt refl
+
+-- ---- each comes once, and after what it imports
+
+open_after : (ps : List Prepared) → AreNumbered ps → (done : List ℕ) (p : Prepared) (n : ℕ) → first_ready (is_open done) ps ≡ Some p → p.number ≡ n → ComesAfter ps done n
+open_after ps numbered done p n e same =
+    let found = ready_found (is_open done) ps p e in
+    let own = numbered found.1.0 p found.1.1 in
+    let both = and_parts (not (is_in p.number done)) (all_in done p.imports) found.0 in
+    let there : p.imports ≡ imports_at ps n = own.1 ∙ ap (imports_at ps) (sym own.0 ∙ same) in
+    record {
+      once = ap (λ m. is_in m done) (sym same) ∙ not-true (is_in p.number done) both.0;
+      imports = λ m i. member done p.imports m both.1 (ap (is_in m) there ∙ i);
+    }
+
+pub comes_after : (ps : List Prepared) → AreNumbered ps → (t : ℕ) (done before rest : List ℕ) (n : ℕ) → in_turn ps t done ≡ before ++ n ∷ rest → ComesAfter ps (done ++ before) n
+comes_after ps numbered zero done [] rest n h = absurd cc
+comes_after ps numbered zero done (b ∷ before) rest n h = absurd cc
+comes_after ps numbered (suc t) done before rest n h = go (λ next left i. comes_after ps numbered t next left rest n i) (first_ready (is_open done) ps) refl before h
+  where
+    go : ((next left : List ℕ) → in_turn ps t next ≡ left ++ n ∷ rest → ComesAfter ps (next ++ left) n) → (o : Option Prepared) → first_ready (is_open done) ps ≡ o → (before : List ℕ) →
+        and_then o (λ p. p.number ∷ in_turn ps t (done ++ p.number ∷ [])) ≡ before ++ n ∷ rest → ComesAfter ps (done ++ before) n
+    go more None e [] k = absurd cc
+    go more None e (b ∷ left) k = absurd cc
+    go more (Some p) e [] k = let same : p.number ≡ n = cc in subst (λ (l : List ℕ). ComesAfter ps l n) (sym (append-nil done)) (open_after ps numbered done p n e same)
+    go more (Some p) e (b ∷ left) k =
+        let same : p.number ≡ b = cc in
+        let behind : in_turn ps t (done ++ p.number ∷ []) ≡ left ++ n ∷ rest = cc in
+        subst (λ (l : List ℕ). ComesAfter ps l n) (append_assoc done (p.number ∷ []) left ∙ ap (λ m. done ++ m ∷ left) same) (more (done ++ p.number ∷ []) left behind)

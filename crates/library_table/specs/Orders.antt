@@ -1,7 +1,7 @@
 -- The order of units, each after what it imports, and the libraries that import one another in a circle (R7RS 5.6).
-use Rattle.std.specs.Prelude.{◌≡◌, ◌≢◌, ℕ, zero, suc, ◌<◌, List, [], ◌∷◌, ◌++◌, map, filter, length, slice_get, Bool, true, not, ◌&&◌, Option, Some, None, Result, Ok, Err}
+use Rattle.std.specs.Prelude.{◌≡◌, ◌≢◌, ℕ, zero, suc, ◌<◌, List, [], ◌∷◌, ◌++◌, map, filter, length, slice_get, Bool, true, false, not, ◌&&◌, Option, Some, None, Result, Ok, Err}
 use Rattle.scheme_model.specs.Requirements.{LibraryName}
-use Rattle.scheme_model.specs.Program.{Placed, Prepared, prepare, is_in, on_circle, first_ready, name_if, UnitResult, fault_before}
+use Rattle.scheme_model.specs.Program.{Placed, Prepared, prepare, imports_at, is_in, on_circle, first_ready, name_if, UnitResult, fault_before}
 use Rattle.library_table.specs.declared.fault.LibraryFault.{LibraryFault}
 use Rattle.library_table.specs.declared.fault.LibraryFault.TheVariants as fault
 
@@ -53,11 +53,17 @@ HaveNoFault all ps = (n : ℕ) (p : Prepared) → slice_get ps n ≡ Some p → 
 
 -- ---- answers
 
--- no unit is on a circle, and these are the units in their turns, all of them
+-- behind these units a unit comes for the first time, and all that it imports is among them
+pub record ComesAfter (ps : List Prepared) (before : List ℕ) (n : ℕ) : Type 0 where
+  pub once : is_in n before ≡ false
+  pub imports : (m : ℕ) → is_in m (imports_at ps n) ≡ true → is_in m before ≡ true
+
+-- no unit is on a circle, and these are the units in their turns: all of them, and each once and after what it imports
 pub record AreInTurn (all : List Placed) (places : List ℕ) : Type 0 where
   pub no_circle : circles all ≡ []
   pub turns : places ≡ in_turn (with_imports all) (length all) []
   pub each : (n : ℕ) → n < length all → is_in n places ≡ true
+  pub after : (n : ℕ) (before rest : List ℕ) → places ≡ before ++ n ∷ rest → ComesAfter (with_imports all) before n
 
 -- these libraries are on circles, in the order of the units
 pub record AreOnCircles (spelled : LibraryName → List ℕ) (all : List Placed) (names : List (List ℕ)) : Type 0 where
