@@ -1,7 +1,8 @@
 #!/usr/bin/env python3
 """Measures the gate: runs `rt ci --anew` (or the command given) in this repository and prints, for each crate, after how many
-seconds it was proved, and the processor seconds of its proofs, its tests and its must-fail edits. Times of processes are read
-from /proc twice a second, so that one shorter than that isn't counted. Run it on a machine that does nothing else."""
+seconds it was proved, and the processor seconds of its proofs, its tests and its must-fail edits. Times of the processes that
+the run began are read from /proc twice a second, so that one shorter than that isn't counted. What else the machine does isn't
+counted, but makes the run longer: for its length, run it on a machine that does nothing else."""
 import collections
 import os
 import pathlib
@@ -21,22 +22,39 @@ def kind_of(words, folder):
     return "tests" if "--test" in words else words[1]
 
 
-def sample(seen):
-    """Keeps the processor time that each process of the compiler has used so far."""
+def processes():
+    """The fields of each process behind its name, by its number: the second is its parent's number."""
+    found = {}
     for entry in pathlib.Path("/proc").iterdir():
-        if not entry.name.isdigit():
-            continue
+        if entry.name.isdigit():
+            try:
+                found[int(entry.name)] = (entry / "stat").read_text().rsplit(")", 1)[1].split()
+            except (OSError, IndexError):
+                continue
+    return found
+
+
+def is_below(number, run, found):
+    while number in found and number != run:
+        number = int(found[number][1])
+    return number == run
+
+
+def sample(run, seen):
+    """Keeps the processor time that each process of the compiler below this one has used so far."""
+    found = processes()
+    for number, fields in found.items():
+        entry = pathlib.Path("/proc") / str(number)
         try:
             words = (entry / "cmdline").read_bytes().decode(errors="replace").split("\0")
-            if not words[0].endswith("/rattle") or "--crate-name" not in words:
+            if not words[0].endswith("/rattle") or "--crate-name" not in words or not is_below(number, run, found):
                 continue
             folder = os.readlink(entry / "cwd")
-            fields = (entry / "stat").read_text().rsplit(")", 1)[1].split()
-        except (OSError, IndexError):
+        except OSError:
             continue
         name = words[words.index("--crate-name") + 1]
         used = (int(fields[11]) + int(fields[12])) / TICKS
-        seen[(entry.name, fields[19])] = (name, kind_of(words, folder), used)
+        seen[(number, fields[19])] = (name, kind_of(words, folder), used)
 
 
 def main():
@@ -44,13 +62,14 @@ def main():
     begin = time.monotonic()
     seen, proved, ended = {}, {}, threading.Event()
 
+    run = subprocess.Popen(command, cwd=ROOT, stdout=subprocess.PIPE, stderr=subprocess.STDOUT, text=True)
+
     def watch():
         while not ended.wait(0.5):
-            sample(seen)
+            sample(run.pid, seen)
 
     watcher = threading.Thread(target=watch)
     watcher.start()
-    run = subprocess.Popen(command, cwd=ROOT, stdout=subprocess.PIPE, stderr=subprocess.STDOUT, text=True)
     last = ""
     for line in run.stdout:
         last = line.strip() or last

@@ -473,6 +473,18 @@ e code at symbol = Some (record { code = code; at = at; symbol = symbol })
         return f"program_rows {more} {imports} ({terms.many(forms)}) ≡ ({terms.many(told)})", "refl"
 
 
+class Scoped(Cores):
+    """The same programs, expanded by scopes."""
+
+    module = "ScopedRows"
+    says = "Programs, and what their forms expand to by scopes, from outside."
+    head = Cores.head.replace("program_rows", "scoped_rows")
+
+    def lemma(self, row):
+        statement, proof = super().lemma(row)
+        return statement.replace("program_rows", "scoped_rows"), proof
+
+
 def documents(row):
     """A row's documents in the byte order of their uris, with their data and the bytes of their tokens."""
     for uri in sorted(row["texts"], key=str.encode):
@@ -695,4 +707,4 @@ o unit form token = record { unit = unit; form = form; token = token }
         return f"class_rows {spans} {data} (o {' '.join(map(str, row['at']))}) ≡ ({told})", "refl"
 
 
-KINDS = [Written(), Trees(), Cores(), Workspaces(), Arrows(), Diagnostics(), SmallArrows(), Positions(), Changes(), Classes()]
+KINDS = [Written(), Trees(), Cores(), Scoped(), Workspaces(), Arrows(), Diagnostics(), SmallArrows(), Positions(), Changes(), Classes()]

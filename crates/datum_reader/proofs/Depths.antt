@@ -1,8 +1,9 @@
--- A datum is at most one deeper than what is open while it is read.
+-- The tree of a datum is at most one deeper than what is open while the datum is read.
 use Rattle.std.proofs.Common.{◌+◌, ◌≤◌, max, arith}
-use Rattle.scheme_model.specs.Data.{Datum, atom, list, vector, bytes, Data, none, row, tail_of}
+use Rattle.scheme_model.specs.Data.{Datum, spelled, atom, list, vector, bytes, Data, none, row, tail_of}
+use Rattle.scheme_model.specs.Numbered.{at}
 use Rattle.scheme_model.specs.Written.{Written, alone, listed, tailed, vectored, byted, abbreviated, Parts, last, next, meant, parts_meant, depth, parts_depth}
-use Rattle.datum_reader.specs.Right.{datum_depth, data_depth}
+use Rattle.datum_reader.proofs.Measured.{datum_depth, data_depth, one_deep}
 
 tail_depth : (d : Datum) → data_depth (tail_of d) ≤ datum_depth d
 tail_depth (atom p k) = omega arith
@@ -12,7 +13,7 @@ tail_depth (bytes p texts) = omega arith
 
 mutual
   written_depth : (w : Written) → datum_depth (meant w) ≤ depth w + 1
-  written_depth (alone s leaf) = omega arith
+  written_depth (alone s leaf) = omega (arith, one_deep (at s) (spelled leaf))
   written_depth (listed a ps b) = omega (arith, parts_deep ps none)
   written_depth (tailed a g w ps dot h t i b) =
       omega (arith, written_depth w, parts_deep ps (tail_of (meant t)), tail_depth (meant t), written_depth t)

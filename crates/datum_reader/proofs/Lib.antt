@@ -12,6 +12,7 @@ pub mod Refusing
 pub mod PassingBegun
 pub mod ReadLaws
 pub mod Stops
+pub mod Measured
 pub mod Sizes
 pub mod Depths
 pub mod ReadParts

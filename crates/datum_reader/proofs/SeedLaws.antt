@@ -1,6 +1,6 @@
 -- The tree of a datum of the code by its shape, and what its parts are.
-use Rattle.std.proofs.Common.{◌≡◌, ℕ, zero, suc, ◌+◌, ◌≤◌, false, List, [], ◌∷◌, map, length, slice_get, Option, Some, None, All, refl, sym, ap, ◌∙◌, subst, arith}
-use Rattle.std.specs.Prelude.{Vec, max}
+use Rattle.std.proofs.Common.{◌≡◌, ℕ, zero, suc, ◌+◌, ◌≤◌, List, [], ◌∷◌, map, length, slice_get, Option, Some, None, All, refl, sym, ap, ◌∙◌, subst, arith}
+use Rattle.std.specs.Prelude.{Vec}
 use Rattle.std.specs.Global.{Box}
 use Rattle.std.specs.List.{join_with_byte}
 use Rattle.std.specs.Option.{option_map}
@@ -13,22 +13,21 @@ use Rattle.scheme_model.specs.Trees.{Bytes, Tree, atom as atom_of, list as list_
 use Rattle.datum_reader.specs.declared.datum.Atom as code_atom
 use Rattle.datum_reader.specs.declared.datum.Mark as code_mark
 use Rattle.datum_reader.specs.Views.{leaf_of, mark_of, shape_step, datum_step, placed, shape_of, datum_of, data_of, end_data}
-use Rattle.scheme_model.specs.Kinds.{Name, Numeral, Quoted, Character, Truth}
 use Rattle.scheme_model.specs.Ident.{Ident as Identifier}
-use Rattle.scheme_model.specs.Measures.{tree_size, trees_size, tail_size, tree_depth, trees_depth, tail_depth}
-use Rattle.syntax_tree.specs.Standing as standing
+use Rattle.scheme_model.specs.Measures.{tree_size, trees_size, tail_size, tree_depth}
 use Rattle.datum_reader.specs.declared.datum.Datum as code
 use Rattle.datum_reader.specs.declared.datum.Shape.{Shape}
 use Rattle.datum_reader.specs.declared.datum.Shape.TheVariants as shape
 use Rattle.datum_reader.specs.declared.datum.Shape.TheOpen.{Shape-F}
 use Rattle.datum_reader.specs.declared.datum.Shape.TheFolds.{fold-roll-Shape}
-use Rattle.scheme_model.specs.Data.{Place, Atom, spelled, implied, Datum, atom, list, vector, bytes, Data, none, part, tail, row}
-use Rattle.datum_reader.specs.Right.{is_list, AreRight, datum_size, data_size, datum_depth, data_depth, WasRead, CanSeed}
+use Rattle.scheme_model.specs.Data.{Place, Atom, spelled, implied, Datum, atom, list, vector, bytes, Data, none, tail, row}
+use Rattle.datum_reader.specs.Right.{AreRight, WasRead, CanSeed}
 use Rattle.datum_reader.specs.Seeded.{atom_tree, tree_of, parts_of, end_of}
 use Rattle.datum_reader.specs.Seeding.{part_tree, parts_trees, tail_tree, CanBeSeeded, TailCanBeSeeded}
 use Rattle.datum_reader.specs.Texts.{IsReading}
 use Rattle.scheme_tokens.proofs.Fronts.{byte_count-chars}
 use Rattle.datum_reader.proofs.ReadParts.{datum_was_read}
+use Rattle.datum_reader.proofs.Measured.{data_size, data_depth, atom-size, vector-size, vector-depth, size_is, depth_is, seedable, is_small, is_shallow}
 use Rattle.datum_reader.proofs.DatumLaws.{datum_is, list-shape}
 
 -- ---- what data are, by their shapes
@@ -62,63 +61,6 @@ datum-vector d xs e =
 pub datum-list : (d : code.Datum) (xs : Vec code.Datum Global) (end : Option (Box code.Datum)) → d.shape ≡ shape.List xs end → datum_of d ≡ list (at d) (row (data_of xs.items) (end_data end))
 datum-list d xs end e = datum-at d (shape.List xs end) e ∙ list-shape xs end (at d)
 
--- ---- how many nodes, how deep, and what is a list
-
-atom-size : (unit : ℕ) (a : Atom) (o : Occ) → tree_size (atom_tree unit a o) ≡ 1
-atom-size unit (spelled (Name s bars)) o = refl
-atom-size unit (spelled (Numeral text)) o = refl
-atom-size unit (spelled (Quoted text)) o = refl
-atom-size unit (spelled (Character c)) o = refl
-atom-size unit (spelled (Truth b)) o = refl
-atom-size unit (implied mark) o = refl
-
-atom-depth : (unit : ℕ) (a : Atom) (o : Occ) → tree_depth (atom_tree unit a o) ≡ 1
-atom-depth unit (spelled (Name s bars)) o = refl
-atom-depth unit (spelled (Numeral text)) o = refl
-atom-depth unit (spelled (Quoted text)) o = refl
-atom-depth unit (spelled (Character c)) o = refl
-atom-depth unit (spelled (Truth b)) o = refl
-atom-depth unit (implied mark) o = refl
-
-atom-is_list : (unit : ℕ) (a : Atom) (o : Occ) → standing.is_list (atom_tree unit a o) ≡ false
-atom-is_list unit (spelled (Name s bars)) o = refl
-atom-is_list unit (spelled (Numeral text)) o = refl
-atom-is_list unit (spelled (Quoted text)) o = refl
-atom-is_list unit (spelled (Character c)) o = refl
-atom-is_list unit (spelled (Truth b)) o = refl
-atom-is_list unit (implied mark) o = refl
-
-module _ (unit : ℕ) (place : ℕ → Occ) where
-  mutual
-    pub size_fits : (d : Datum) → tree_size (tree_of unit place d) ≤ datum_size d
-    size_fits (atom p a) = omega (arith, atom-size unit a (place p.first))
-    size_fits (list p ds) = omega (arith, sizes_fit ds)
-    size_fits (vector p ds) = omega (arith, sizes_fit ds)
-    size_fits (bytes p texts) = omega arith
-
-    sizes_fit : (ds : Data) → trees_size (parts_of unit place ds) + tail_size (end_of unit place ds) ≤ data_size ds
-    sizes_fit none = omega arith
-    sizes_fit (part d ds) = omega (arith, size_fits d, sizes_fit ds)
-    sizes_fit (tail d) = omega (arith, size_fits d)
-
-  mutual
-    pub depth_fits : (d : Datum) → tree_depth (tree_of unit place d) ≤ datum_depth d
-    depth_fits (atom p a) = omega (arith, atom-depth unit a (place p.first))
-    depth_fits (list p ds) = omega (arith, depths_fit ds)
-    depth_fits (vector p ds) = omega (arith, depths_fit ds)
-    depth_fits (bytes p texts) = omega arith
-
-    depths_fit : (ds : Data) → max (trees_depth (parts_of unit place ds)) (tail_depth (end_of unit place ds)) ≤ data_depth ds
-    depths_fit none = omega arith
-    depths_fit (part d ds) = omega (arith, depth_fits d, depths_fit ds)
-    depths_fit (tail d) = omega (arith, depth_fits d)
-
-  pub tree-is_list : (d : Datum) → standing.is_list (tree_of unit place d) ≡ is_list d
-  tree-is_list (atom p a) = atom-is_list unit a (place p.first)
-  tree-is_list (list p ds) = refl
-  tree-is_list (vector p ds) = refl
-  tree-is_list (bytes p texts) = refl
-
 -- ---- parts of what trees can be made of
 
 all_cons : {X : Type 0} (P : X → Type 0) (x : X) (xs : List X) → P x → All P xs → All P (x ∷ xs)
@@ -135,7 +77,7 @@ parts_can : (ds : List code.Datum) (end : Data) → CanSeedAll (row (data_of ds)
 parts_can [] end h = λ k d lt. absurd (omega arith)
 parts_can (d ∷ ds) end h =
     all_cons CanBeSeeded d ds
-    (record { right = h.right.0; small = omega (arith, h.small); shallow = omega (arith, h.shallow) })
+    (seedable (datum_of d) h.right.0 (omega (arith, h.small)) (omega (arith, h.shallow)))
     (parts_can ds end (record { right = h.right.1; small = omega (arith, h.small); shallow = omega (arith, h.shallow) }))
 
 end_can : (ds : List code.Datum) (end : Data) → CanSeedAll (row (data_of ds) end) → CanSeedAll end
@@ -144,7 +86,7 @@ end_can (d ∷ ds) end h = end_can ds end (record { right = h.right.1; small = o
 
 tail_can : (end : Option (Box code.Datum)) → CanSeedAll (end_data end) → TailCanBeSeeded end
 tail_can None h = tt
-tail_can (Some d) h = (h.right.0, record { right = h.right.1; small = h.small; shallow = h.shallow })
+tail_can (Some d) h = (h.right.0, seedable (datum_of d.value) h.right.1 (omega (arith, h.small)) (omega (arith, h.shallow)))
 
 -- ---- the tree
 
@@ -166,10 +108,10 @@ module _ (unit form first : ℕ) where
   end-row (d ∷ ds) end = end-row ds end
 
   pub small_tree : (d : code.Datum) → CanBeSeeded d → tree_size (part_tree unit form first d) ≤ max_tree_nodes
-  small_tree d h = omega (arith, size_fits unit (placed_in unit form first) (datum_of d), h.small)
+  small_tree d h = omega (arith, size_is unit (placed_in unit form first) (datum_of d), is_small (datum_of d) h)
 
   pub shallow_tree : (d : code.Datum) → CanBeSeeded d → tree_depth (part_tree unit form first d) ≤ max_tree_depth
-  shallow_tree d h = omega (arith, depth_fits unit (placed_in unit form first) (datum_of d), h.shallow)
+  shallow_tree d h = omega (arith, depth_is unit (placed_in unit form first) (datum_of d), is_shallow (datum_of d) h)
 
   -- what the parts of a list are, and its tree
   pub record ListParts (d : code.Datum) (o : Occ) (ds : List code.Datum) (end : Option (Box code.Datum)) : Type 0 where
@@ -186,8 +128,9 @@ module _ (unit form first : ℕ) where
       let t : part_tree unit form first d ≡ list_of (parts_trees unit form first ds) (tail_tree unit form first end) (Some o) =
       ap tree_at is ∙ (λ j. list_of (parts-row ds end j) (end-row ds end j) (Some (sym here j))) in
       let size : tree_size (part_tree unit form first d) ≡ 1 + (trees_size (parts_trees unit form first ds) + tail_size (tail_tree unit form first end)) = ap (λ (x : Tree Identifier). tree_size x) t in
-      let whole : CanSeed (list (at d) (row (data_of ds) (end_data end))) = subst CanSeed is h in
-      let all : CanSeedAll (row (data_of ds) (end_data end)) = record { right = whole.right; small = omega (arith, whole.small); shallow = omega (arith, whole.shallow) } in
+      let l = list (at d) (row (data_of ds) (end_data end)) in
+      let can : CanSeed l = subst CanSeed is h in
+      let all : CanSeedAll (row (data_of ds) (end_data end)) = record { right = can.right; small = omega (arith, is_small l can); shallow = omega (arith, is_shallow l can) } in
       record {
         parts = parts_can ds (end_data end) all;
         tail = tail_can end (end_can ds (end_data end) all);
@@ -209,9 +152,10 @@ module _ (unit form first : ℕ) where
       let t : part_tree unit form first d ≡ vector_of (parts_trees unit form first ds) (Some o) =
       ap tree_at is ∙ (λ j. vector_of (parts-row ds None j) (Some (sym here j))) in
       let size : tree_size (part_tree unit form first d) ≡ 1 + trees_size (parts_trees unit form first ds) = ap (λ (x : Tree Identifier). tree_size x) t in
-      let whole : CanSeed (vector (at d) (row (data_of ds) none)) = subst CanSeed is h in
+      let v = vector (at d) (row (data_of ds) none) in
+      let can : CanSeed v = subst CanSeed is h in
       record {
-        parts = parts_can ds none (record { right = whole.right; small = omega (arith, whole.small); shallow = omega (arith, whole.shallow) });
+        parts = parts_can ds none (record { right = can.right; small = omega (arith, vector-size (at d) (data_of ds), is_small v can); shallow = omega (arith, vector-depth (at d) (data_of ds), is_shallow v can) });
         whole = t;
         size = omega (arith, size);
       }

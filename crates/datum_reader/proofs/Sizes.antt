@@ -1,11 +1,11 @@
--- A datum has at most twice as many nodes as tokens.
+-- The tree of a datum has at most twice as many nodes as the datum tokens.
 use Rattle.std.proofs.Common.{◌≡◌, ℕ, suc, ◌+◌, ◌*◌, ◌≤◌, length, List, [], ◌∷◌, refl, ap, arith}
 use Rattle.scheme_model.specs.Kinds as kinds
 use Rattle.scheme_model.specs.Kinds.{Token}
-use Rattle.scheme_model.specs.Data.{Datum, atom, list, vector, bytes, Data, none, row, tail_of}
-use Rattle.scheme_model.specs.Numbered.{Numbered, number_from}
+use Rattle.scheme_model.specs.Data.{Datum, spelled, atom, list, vector, bytes, Data, none, row, tail_of}
+use Rattle.scheme_model.specs.Numbered.{Numbered, at, number_from}
 use Rattle.scheme_model.specs.Written.{Written, alone, listed, tailed, vectored, byted, abbreviated, Gap, nothing, skipped, Parts, last, next, Bytes, last_byte, byte, token, written_tokens, gap_tokens, parts_tokens, bytes_tokens, meant, parts_meant}
-use Rattle.datum_reader.specs.Right.{datum_size, data_size}
+use Rattle.datum_reader.proofs.Measured.{datum_size, data_size, one_node}
 
 -- a tail that is a list loses its node
 tail_size : (d : Datum) → data_size (tail_of d) ≤ datum_size d
@@ -16,7 +16,7 @@ tail_size (bytes p texts) = omega arith
 
 mutual
   written_size : (w : Written) (rest : List Numbered) → datum_size (meant w) + 2 * length rest ≤ 2 * length (written_tokens w rest)
-  written_size (alone s leaf) rest = omega arith
+  written_size (alone s leaf) rest = omega (arith, one_node (at s) (spelled leaf))
   written_size (listed a ps b) rest = omega (arith, parts_size ps none (token b kinds.Close ∷ rest))
   written_size (tailed a g w ps dot h t i b) rest =
       let close = token b kinds.Close ∷ rest in

@@ -1,8 +1,10 @@
 -- Data as reading gives them: what a tree can be made of.
-use Rattle.std.specs.Prelude.{◌≡◌, ◌⊎◌, ℕ, ◌+◌, ◌≤◌, max, Bool, true, false, List}
+use Rattle.std.specs.Prelude.{◌≡◌, ◌⊎◌, ℕ, ◌≤◌, Bool, true, false, List}
 use Rattle.ls_base.specs.Limits.{max_text, max_tree_nodes, max_tree_depth}
 use Rattle.scheme_tokens.specs.Lexical.{byte_count}
 use Rattle.scheme_model.specs.Data.{Datum, atom, list, vector, bytes, Data, none, part, tail, row}
+use Rattle.scheme_model.specs.Measures.{tree_size, tree_depth}
+use Rattle.datum_reader.specs.Seeded.{seeded}
 use Rattle.datum_reader.specs.Texts.{IsReading}
 
 -- the datum stands in this one, or in these
@@ -45,33 +47,8 @@ abbrev mutual
   AreRight (part d ds) = IsRight d × AreRight ds
   AreRight (tail d) = (is_list d ≡ false) × IsRight d
 
--- how many nodes and how deep the datum's tree is
-abbrev mutual
-  pub datum_size : Datum → ℕ
-  datum_size (atom p a) = 1
-  datum_size (list p ds) = 1 + data_size ds
-  datum_size (vector p ds) = 1 + data_size ds
-  datum_size (bytes p texts) = 1
-
-  pub data_size : Data → ℕ
-  data_size none = 0
-  data_size (part d ds) = datum_size d + data_size ds
-  data_size (tail d) = datum_size d
-
-abbrev mutual
-  pub datum_depth : Datum → ℕ
-  datum_depth (atom p a) = 1
-  datum_depth (list p ds) = 1 + data_depth ds
-  datum_depth (vector p ds) = 1 + data_depth ds
-  datum_depth (bytes p texts) = 1
-
-  pub data_depth : Data → ℕ
-  data_depth none = 0
-  data_depth (part d ds) = max (datum_depth d) (data_depth ds)
-  data_depth (tail d) = datum_depth d
-
--- what a tree can be made of: the datum is right, and small and shallow enough
+-- what a tree can be made of: the datum is right, and its tree as any form of any unit is small and shallow enough
 pub record CanSeed (d : Datum) : Type 0 where
   pub right : IsRight d
-  pub small : datum_size d ≤ max_tree_nodes
-  pub shallow : datum_depth d ≤ max_tree_depth
+  pub small : (unit form : ℕ) → tree_size (seeded unit form d) ≤ max_tree_nodes
+  pub shallow : (unit form : ℕ) → tree_depth (seeded unit form d) ≤ max_tree_depth

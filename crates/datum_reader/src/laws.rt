@@ -40,7 +40,8 @@ pub fn parts_were_read()
     ensures { (d e : Datum) → IsIn d e → WasRead e → WasRead d }
 {}
 
-/// A tree can be made of what was read: it has at most 4,194,304 nodes and a depth of at most 1,000.
+/// A tree can be made of what was read: its tree, as any form of any unit, has at most 4,194,304 nodes and a depth of at most
+/// 1,000.
 pub fn read_data_have_trees()
     ensures { (d : Datum) → WasRead d → CanSeed d }
 {}

@@ -2,18 +2,18 @@
 use crate::argument::{item, list, small, text};
 use crate::fault::{Row, RowFault};
 use crate::shown::Shown;
-use crate::tokens::letter;
 use ls_base::{Items, Text, split_char};
 use serde_json::Value;
 use std::cmp::Ordering;
 
 pub fn answer(out: &mut Shown, call: &str, argument: &Value) -> Row<()> {
     match call {
-        "texts" => Ok(texts(out, argument)?),
-        "items" => Ok(items(out, list(argument)?)?),
-        "first" => Ok(first(out, text(argument)?)?),
-        _ => Err(RowFault::NoCall),
+        "texts" => texts(out, argument)?,
+        "items" => items(out, list(argument)?)?,
+        "first" => first(out, text(argument)?),
+        _ => return Err(RowFault::NoCall),
     }
+    Ok(())
 }
 
 fn order(order: Ordering) -> &'static str {
@@ -30,15 +30,16 @@ fn texts(out: &mut Shown, argument: &Value) -> Row<()> {
     let one = Text::of(alloc, text(item(argument, 0)?)?)?;
     let other = Text::from_string(String::from_str(alloc, text(item(argument, 1)?)?)?);
     let copy = one.clone()?.into_string();
-    out.open()?;
-    out.string(copy.as_str())?;
-    out.flag(one == other)?;
-    out.string(order(one.cmp(&other)))?;
+    out.open();
+    out.string(copy.as_str());
+    out.flag(one == other);
+    out.string(order(one.cmp(&other)));
     match one.partial_cmp(&other) {
-        Some(found) => out.string(order(found))?,
-        None => out.null()?,
+        Some(found) => out.string(order(found)),
+        None => out.null(),
     }
-    Ok(out.close()?)
+    out.close();
+    Ok(())
 }
 
 /// Numbers that are put into a list one by one, and taken out again.
@@ -48,21 +49,21 @@ fn items(out: &mut Shown, numbers: &[Value]) -> Row<()> {
         items.push(small(number)?)?;
     }
     let again = Items::from_vec(items.into_vec());
-    out.open()?;
+    out.open();
     for item in again.as_slice() {
-        out.number(*item as u64)?;
+        out.number(*item as u64);
     }
-    Ok(out.close()?)
+    out.close();
+    Ok(())
 }
 
 /// The first character of a text, and the text behind it.
-fn first(out: &mut Shown, text: &str) -> Row<()> {
+fn first(out: &mut Shown, text: &str) {
     let Some((c, rest)) = split_char(text) else {
-        return Ok(out.null()?);
+        return out.null();
     };
-    let c = letter(out.alloc(), c)?;
-    out.open()?;
-    out.string(c.as_str())?;
-    out.string(rest)?;
-    Ok(out.close()?)
+    out.open();
+    out.letter(c);
+    out.string(rest);
+    out.close();
 }

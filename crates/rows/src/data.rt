@@ -2,7 +2,7 @@
 use crate::argument::{made, made_bytes};
 use crate::fault::{Row, RowFault};
 use crate::shown::Shown;
-use crate::tokens::{letter, show_fault};
+use crate::tokens::show_fault;
 use datum_reader::{Atom, Datum, Mark, Shape, read_all};
 use ls_base::Text;
 use serde_json::Value;
@@ -13,103 +13,104 @@ pub fn answer(out: &mut Shown, call: &str, argument: &Value) -> Row<()> {
     }
     let bytes = made_bytes(out.alloc(), argument)?;
     match read_all(out.alloc(), made(&bytes)?) {
-        Ok(data) => Ok(asked(out, call, data.as_slice())?),
-        Err(fault) => Ok(show_fault(out, fault)?),
+        Ok(data) => asked(out, call, data.as_slice())?,
+        Err(fault) => show_fault(out, fault),
     }
+    Ok(())
 }
 
 /// What a call asks of data.
 fn asked(out: &mut Shown, call: &str, data: &[Datum]) -> Row<()> {
     match call {
-        "of" => Ok(show_all(out, data)?),
-        "innermost" => Ok(innermost(out, data.first().ok_or(RowFault::NotShown)?)?),
-        "size" => Ok(size(out, data.first().ok_or(RowFault::NotShown)?)?),
-        _ => Err(RowFault::NoCall),
+        "of" => show_all(out, data),
+        "innermost" => innermost(out, data.first().ok_or(RowFault::NotShown)?),
+        "size" => size(out, data.first().ok_or(RowFault::NotShown)?)?,
+        _ => return Err(RowFault::NoCall),
     }
+    Ok(())
 }
 
 #[cycle(shown)]
-fn show_all(out: &mut Shown, data: &[Datum]) -> Row<()> {
-    out.open()?;
+fn show_all(out: &mut Shown, data: &[Datum]) {
+    out.open();
     for datum in data {
-        show(out, datum)?;
+        show(out, datum);
     }
-    Ok(out.close()?)
+    out.close();
 }
 
 /// The kind of a datum, and the numbers of its first and last token and its bytes.
-fn begin(out: &mut Shown, kind: &str, datum: &Datum) -> Row<()> {
-    out.open()?;
-    out.string(kind)?;
-    out.open()?;
-    out.number(datum.first as u64)?;
-    out.number(datum.last as u64)?;
-    out.number(datum.span.start as u64)?;
-    out.number(datum.span.end as u64)?;
-    Ok(out.close()?)
+fn begin(out: &mut Shown, kind: &str, datum: &Datum) {
+    out.open();
+    out.string(kind);
+    out.open();
+    out.number(datum.first as u64);
+    out.number(datum.last as u64);
+    out.number(datum.span.start as u64);
+    out.number(datum.span.end as u64);
+    out.close();
 }
 
 /// A datum: its kind, its place, and what is in it.
 #[cycle(shown)]
-fn show(out: &mut Shown, datum: &Datum) -> Row<()> {
+fn show(out: &mut Shown, datum: &Datum) {
     match &datum.shape {
-        Shape::Atom(atom) => Ok(show_atom(out, atom, datum)?),
-        Shape::Implied(mark) => Ok(show_implied(out, *mark, datum.span.start)?),
+        Shape::Atom(atom) => show_atom(out, atom, datum),
+        Shape::Implied(mark) => show_implied(out, *mark, datum.span.start),
         Shape::List(parts, tail) => {
-            begin(out, "list", datum)?;
-            show_all(out, parts)?;
+            begin(out, "list", datum);
+            show_all(out, parts);
             if let Some(tail) = tail {
-                show(out, tail)?;
+                show(out, tail);
             }
-            Ok(out.close()?)
+            out.close();
         }
         Shape::Vector(parts) => {
-            begin(out, "vector", datum)?;
-            show_all(out, parts)?;
-            Ok(out.close()?)
+            begin(out, "vector", datum);
+            show_all(out, parts);
+            out.close();
         }
         Shape::Bytes(numerals) => {
-            begin(out, "bytes", datum)?;
-            show_texts(out, numerals)?;
-            Ok(out.close()?)
+            begin(out, "bytes", datum);
+            show_texts(out, numerals);
+            out.close();
         }
     }
 }
 
-fn show_texts(out: &mut Shown, texts: &[Text]) -> Row<()> {
-    out.open()?;
+fn show_texts(out: &mut Shown, texts: &[Text]) {
+    out.open();
     for text in texts {
-        out.string(text.as_str())?;
+        out.string(text.as_str());
     }
-    Ok(out.close()?)
+    out.close();
 }
 
-fn show_atom(out: &mut Shown, atom: &Atom, datum: &Datum) -> Row<()> {
+fn show_atom(out: &mut Shown, atom: &Atom, datum: &Datum) {
     match atom {
         Atom::Name { name, bars } => {
-            begin(out, "name", datum)?;
-            out.string(name.as_str())?;
-            out.flag(*bars)?;
+            begin(out, "name", datum);
+            out.string(name.as_str());
+            out.flag(*bars);
         }
         Atom::Numeral(text) => {
-            begin(out, "numeral", datum)?;
-            out.string(text.as_str())?;
+            begin(out, "numeral", datum);
+            out.string(text.as_str());
         }
         Atom::Quoted(text) => {
-            begin(out, "string", datum)?;
-            out.string(text.as_str())?;
+            begin(out, "string", datum);
+            out.string(text.as_str());
         }
         Atom::Char(c) => {
-            begin(out, "char", datum)?;
-            let text = letter(out.alloc(), *c)?;
-            out.string(text.as_str())?;
+            begin(out, "char", datum);
+            out.letter(*c);
         }
         Atom::Bool(value) => {
-            begin(out, "bool", datum)?;
-            out.flag(*value)?;
+            begin(out, "bool", datum);
+            out.flag(*value);
         }
     }
-    Ok(out.close()?)
+    out.close();
 }
 
 /// The symbol that a mark implies.
@@ -123,22 +124,22 @@ fn implied(mark: Mark) -> &'static str {
 }
 
 /// The identifier that a mark implies, which has no token of its own.
-fn show_implied(out: &mut Shown, mark: Mark, at: u32) -> Row<()> {
-    out.open()?;
-    out.string("name")?;
-    out.open()?;
-    out.null()?;
-    out.null()?;
-    out.number(at as u64)?;
-    out.number(at as u64)?;
-    out.close()?;
-    out.string(implied(mark))?;
-    out.flag(false)?;
-    Ok(out.close()?)
+fn show_implied(out: &mut Shown, mark: Mark, at: u32) {
+    out.open();
+    out.string("name");
+    out.open();
+    out.null();
+    out.null();
+    out.number(at as u64);
+    out.number(at as u64);
+    out.close();
+    out.string(implied(mark));
+    out.flag(false);
+    out.close();
 }
 
 /// The datum that is reached through first parts, and how many data are round it.
-fn innermost(out: &mut Shown, datum: &Datum) -> Row<()> {
+fn innermost(out: &mut Shown, datum: &Datum) {
     let mut inner = datum;
     let mut depth = 0u64;
     while let Shape::List(parts, None) | Shape::Vector(parts) = &inner.shape {
@@ -148,26 +149,27 @@ fn innermost(out: &mut Shown, datum: &Datum) -> Row<()> {
         }
         depth = depth.saturating_add(1);
     }
-    out.open()?;
-    out.number(depth)?;
-    show(out, inner)?;
-    Ok(out.close()?)
+    out.open();
+    out.number(depth);
+    show(out, inner);
+    out.close();
 }
 
 /// How many parts a list has, or how many bytes a string.
 fn size(out: &mut Shown, datum: &Datum) -> Row<()> {
-    out.open()?;
+    out.open();
     match &datum.shape {
         Shape::List(parts, None) => {
-            out.string("parts")?;
-            out.number(parts.len() as u64)?;
+            out.string("parts");
+            out.number(parts.len() as u64);
         }
         Shape::Atom(Atom::Quoted(text)) => {
-            out.string("bytes")?;
-            out.number(text.as_str().len() as u64)?;
+            out.string("bytes");
+            out.number(text.as_str().len() as u64);
         }
         Shape::Atom(_) | Shape::Implied(_) | Shape::List(..) | Shape::Vector(_) | Shape::Bytes(_) =>
             return Err(RowFault::NotShown),
     }
-    Ok(out.close()?)
+    out.close();
+    Ok(())
 }

@@ -14,23 +14,25 @@ const MOST: u64 = 1_099_511_627_776;
 
 pub fn answer(out: &mut Shown, call: &str, argument: &Value) -> Row<()> {
     match call {
-        "of" => Ok(in_pieces(out, list(argument)?)?),
+        "of" => in_pieces(out, list(argument)?)?,
         "cut" => {
             let stream = made_bytes(out.alloc(), argument)?;
-            Ok(however_cut(out, &stream)?)
+            however_cut(out, &stream)?;
         }
         "around" => {
             let body = made_bytes(out.alloc(), argument)?;
-            Ok(around(out, &body)?)
+            around(out, &body)?;
         }
-        _ => Err(RowFault::NoCall),
+        _ => return Err(RowFault::NoCall),
     }
+    Ok(())
 }
 
 /// The frame round a body.
 fn around(out: &mut Shown, body: &[u8]) -> Row<()> {
     let bytes = frame(out.alloc(), body)?;
-    Ok(out.string(made(&bytes)?)?)
+    out.string(made(&bytes)?);
+    Ok(())
 }
 
 /// A deframer, and what it gave so far.
@@ -94,36 +96,44 @@ impl Reading {
     }
 
     /// The bodies, how many bytes are kept, and the fault where there is one.
-    fn show(&self, out: &mut Shown) -> Row<()> {
-        out.open_object()?;
+    fn show(&self, out: &mut Shown) {
+        out.open_object();
         if let Some((_, offset)) = self.fault {
-            out.key("at")?;
-            out.number(offset)?;
+            out.key("at");
+            out.number(offset);
         }
-        out.key("bodies")?;
-        self.show_bodies(out)?;
+        out.key("bodies");
+        self.show_bodies(out);
         if let Some((number, _)) = self.fault {
-            out.key("fault")?;
-            out.number(number as u64)?;
+            out.key("fault");
+            out.number(number as u64);
         }
-        out.key("kept")?;
-        out.number(self.deframer.kept() as u64)?;
-        Ok(out.close_object()?)
+        out.key("kept");
+        out.number(self.deframer.kept() as u64);
+        out.close_object();
     }
 
-    fn show_bodies(&self, out: &mut Shown) -> Row<()> {
-        out.open()?;
+    fn show_bodies(&self, out: &mut Shown) {
+        out.open();
         for body in &self.bodies {
-            out.string(made(body)?)?;
+            show_body(out, body);
         }
-        Ok(out.close()?)
+        out.close();
     }
 
     /// The same as a text.
     fn shown(&self, alloc: Global) -> Row<String> {
         let mut out = Shown::new(alloc);
-        self.show(&mut out)?;
-        Ok(out.into_text())
+        self.show(&mut out);
+        Ok(out.into_text()?)
+    }
+}
+
+/// A body, which is to be a text.
+fn show_body(out: &mut Shown, body: &[u8]) {
+    match made(body) {
+        Ok(text) => out.string(text),
+        Err(fault) => out.fail(fault),
     }
 }
 
@@ -134,7 +144,8 @@ fn in_pieces(out: &mut Shown, pieces: &[Value]) -> Row<()> {
         let bytes = made_bytes(out.alloc(), piece)?;
         reading.feed(&bytes)?;
     }
-    Ok(reading.show(out)?)
+    reading.show(out);
+    Ok(())
 }
 
 fn in_two(alloc: Global, stream: &[u8], at: usize) -> Row<String>
@@ -166,5 +177,6 @@ fn however_cut(out: &mut Shown, stream: &[u8]) -> Row<()> {
             return Err(RowFault::Differs);
         }
     }
-    Ok(out.item(whole.as_str())?)
+    out.item(whole.as_str());
+    Ok(())
 }

@@ -52,6 +52,16 @@
 //!     symbols/identifiers [[NAME,UNIT,[USE,..]],..]   the number of each identifier, its symbol, and what its number stands for
 //!         [["t",1,[]],["t",1,[[1,0,0]]]]   -> [[0,"t",["written",1,"t"]],[1,"t",["inserted",0,[1,0,0]]]]
 //!
+//! Scopes, from an environment in which 0 and 1 are the own scopes of the units 0 and 1. IDENTIFIER is `[NAME,UNIT,[USE,..]]` as above.
+//! A MEANING is `["local",NUMBER]`, `["global",UNIT,IDENTIFIER]`, `["standard",NAME]` or `["free",NAME]`, in answers with the
+//! numbers of identifiers and symbols in place of both, which count from 0 in the order in which the row names them.
+//!
+//!     scopes/of [STEP,..]         what those steps answer that ask. `["child",SCOPE]` opens a scope, whose number is the next;
+//!                                 `["bind",SCOPE,IDENTIFIER,MEANING]` binds an identifier; `["use",USE,SCOPE]` tells in which scope
+//!                                 the macro of a use was defined; `["resolve",SCOPE,IDENTIFIER]` asks for a meaning, and
+//!                                 `["noted",SCOPE,IDENTIFIER,HEAD]` for a meaning and the questions that were noted
+//!         [["noted",0,["q",0,[]],true]]   -> [[["free",0],["lookup",0,true,["free",0]]]]
+//!
 //! Arrows: where a binder starts, where its use starts, and the name.
 //!
 //!     arrows/of TEXT              the arrows of a small program, or "not small"
@@ -142,6 +152,7 @@ mod frames;
 mod messages;
 mod positions;
 mod replies;
+mod scopes;
 mod session;
 mod shown;
 mod store;
@@ -178,6 +189,7 @@ fn by_value(
         "data" => Ok(data::answer(out, call, argument)?),
         "trees" => Ok(trees::answer(out, call, argument)?),
         "symbols" => Ok(symbols::answer(out, call, argument)?),
+        "scopes" => Ok(scopes::answer(out, call, argument)?),
         "arrows" => Ok(arrows::answer(out, call, argument)?),
         "frames" => Ok(frames::answer(out, call, argument)?),
         "positions" => Ok(positions::answer(out, call, argument)?),
@@ -198,7 +210,7 @@ fn answer(alloc: Global, bench: &mut Bench, line: &str) -> Row<String> {
             let value = argument::json(alloc, argument)?;
             let mut out = Shown::new(alloc);
             by_value(&mut out, bench, group, call, &value)?;
-            Ok(out.into_text())
+            Ok(out.into_text()?)
         }
     }
 }

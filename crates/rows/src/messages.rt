@@ -27,73 +27,73 @@ pub fn answer(alloc: Global, call: &str, argument: &str) -> Row<String> {
 /// What a body says.
 fn read(alloc: Global, body: &[u8]) -> Row<String> {
     let mut out = Shown::new(alloc);
-    out.open()?;
+    out.open();
     match read_message(alloc, body) {
-        Ok(message) => show_message(&mut out, &message)?,
-        Err(reject) => show_reject(&mut out, &reject)?,
+        Ok(message) => show_message(&mut out, &message),
+        Err(reject) => show_reject(&mut out, &reject),
     }
-    out.close()?;
-    Ok(out.into_text())
+    out.close();
+    Ok(out.into_text()?)
 }
 
-fn show_message(out: &mut Shown, message: &Message) -> Row<()> {
+fn show_message(out: &mut Shown, message: &Message) {
     match message {
         Message::Request { id, call } => {
-            out.string("request")?;
-            show_id(out, id)?;
-            Ok(show_call(out, call)?)
+            out.string("request");
+            show_id(out, id);
+            show_call(out, call)
         }
-        Message::Notice(note) => Ok(show_note(out, note)?),
-        Message::Response => Ok(out.string("response")?),
+        Message::Notice(note) => show_note(out, note),
+        Message::Response => out.string("response"),
     }
 }
 
-fn show_reject(out: &mut Shown, reject: &Reject) -> Row<()> {
+fn show_reject(out: &mut Shown, reject: &Reject) {
     match reject {
-        Reject::Memory => Err(RowFault::Memory),
-        Reject::Parse => Ok(out.string("no JSON")?),
+        Reject::Memory => out.fail(RowFault::Memory),
+        Reject::Parse => out.string("no JSON"),
         Reject::Invalid(None) => {
-            out.string("invalid")?;
-            Ok(out.null()?)
+            out.string("invalid");
+            out.null();
         }
-        Reject::Invalid(Some(id)) => Ok(with_id(out, "invalid", id)?),
-        Reject::Method(id) => Ok(with_id(out, "unknown method", id)?),
-        Reject::Params(id) => Ok(with_id(out, "bad params", id)?),
+        Reject::Invalid(Some(id)) => with_id(out, "invalid", id),
+        Reject::Method(id) => with_id(out, "unknown method", id),
+        Reject::Params(id) => with_id(out, "bad params", id),
     }
 }
 
-fn with_id(out: &mut Shown, word: &str, id: &Id) -> Row<()> {
-    out.string(word)?;
-    Ok(show_id(out, id)?)
+fn with_id(out: &mut Shown, word: &str, id: &Id) {
+    out.string(word);
+    show_id(out, id)
 }
 
-fn show_id(out: &mut Shown, id: &Id) -> Row<()> {
+fn show_id(out: &mut Shown, id: &Id) {
     match id {
-        Id::Number(number) => Ok(out.integer(*number)?),
-        Id::Name(name) => Ok(out.string(name.as_str())?),
+        Id::Number(number) => out.integer(*number),
+        Id::Name(name) => out.string(name.as_str()),
     }
 }
 
-fn show_call(out: &mut Shown, call: &Call) -> Row<()> {
+fn show_call(out: &mut Shown, call: &Call) {
     match call {
         Call::Initialize { prepare, encoding } => {
-            out.string("initialize")?;
-            out.open_object()?;
-            out.key("encoding")?;
-            out.string(encoding_name(*encoding))?;
-            out.key("prepare")?;
-            out.flag(*prepare)?;
-            Ok(out.close_object()?)
+            out.string("initialize");
+            out.open_object();
+            out.key("encoding");
+            out.string(encoding_name(*encoding));
+            out.key("prepare");
+            out.flag(*prepare);
+            out.close_object();
         }
-        Call::Shutdown => Ok(out.string("shutdown")?),
+        Call::Shutdown => out.string("shutdown"),
         Call::Ask { at, query } => {
-            show_query(out, *query)?;
-            Ok(show_at(out, at)?)
+            show_query(out, *query);
+            show_at(out, at)
         }
         Call::Rename { at, new_name } => {
-            out.string("rename")?;
-            show_at(out, at)?;
-            Ok(out.string(new_name.as_str())?)
+            out.string("rename");
+            show_at(out, at);
+            out.string(new_name.as_str());
         }
     }
 }
@@ -107,86 +107,86 @@ fn encoding_name(encoding: Encoding) -> &'static str {
     }
 }
 
-fn show_query(out: &mut Shown, query: Query) -> Row<()> {
+fn show_query(out: &mut Shown, query: Query) {
     match query {
-        Query::Definition => Ok(out.string("definition")?),
+        Query::Definition => out.string("definition"),
         Query::References { declaration } => {
-            out.open()?;
-            out.string("references")?;
-            out.open_object()?;
-            out.key("declaration")?;
-            out.flag(declaration)?;
-            out.close_object()?;
-            Ok(out.close()?)
+            out.open();
+            out.string("references");
+            out.open_object();
+            out.key("declaration");
+            out.flag(declaration);
+            out.close_object();
+            out.close();
         }
-        Query::Highlights => Ok(out.string("highlights")?),
-        Query::Prepare => Ok(out.string("prepare")?),
-        Query::Arrows => Ok(out.string("arrows")?),
+        Query::Highlights => out.string("highlights"),
+        Query::Prepare => out.string("prepare"),
+        Query::Arrows => out.string("arrows"),
     }
 }
 
-fn show_at(out: &mut Shown, at: &At) -> Row<()> {
-    out.open()?;
-    out.string(at.uri.as_str())?;
-    show_pos(out, at.pos)?;
-    Ok(out.close()?)
+fn show_at(out: &mut Shown, at: &At) {
+    out.open();
+    out.string(at.uri.as_str());
+    show_pos(out, at.pos);
+    out.close();
 }
 
-fn show_pos(out: &mut Shown, pos: Pos) -> Row<()> {
-    out.open()?;
-    out.number(pos.line as u64)?;
-    out.number(pos.character as u64)?;
-    Ok(out.close()?)
+fn show_pos(out: &mut Shown, pos: Pos) {
+    out.open();
+    out.number(pos.line as u64);
+    out.number(pos.character as u64);
+    out.close();
 }
 
-fn show_range(out: &mut Shown, range: Option<Range>) -> Row<()> {
+fn show_range(out: &mut Shown, range: Option<Range>) {
     let Some(range) = range else {
-        return Ok(out.null()?);
+        return out.null();
     };
-    out.open()?;
-    show_pos(out, range.start)?;
-    show_pos(out, range.end)?;
-    Ok(out.close()?)
+    out.open();
+    show_pos(out, range.start);
+    show_pos(out, range.end);
+    out.close();
 }
 
-fn show_note(out: &mut Shown, note: &Note) -> Row<()> {
+fn show_note(out: &mut Shown, note: &Note) {
     match note {
-        Note::Exit => Ok(out.string("exit")?),
+        Note::Exit => out.string("exit"),
         Note::Opened { uri, version, text } => {
-            out.string("opened")?;
-            out.string(uri.as_str())?;
-            out.integer(*version)?;
-            Ok(out.string(text.as_str())?)
+            out.string("opened");
+            out.string(uri.as_str());
+            out.integer(*version);
+            out.string(text.as_str());
         }
         Note::Changed {
             uri,
             version,
             changes,
         } => {
-            out.string("changed")?;
-            out.string(uri.as_str())?;
-            out.integer(*version)?;
-            Ok(show_changes(out, changes.as_slice())?)
+            out.string("changed");
+            out.string(uri.as_str());
+            out.integer(*version);
+            show_changes(out, changes.as_slice())
         }
         Note::Closed { uri } => {
-            out.string("closed")?;
-            Ok(out.string(uri.as_str())?)
+            out.string("closed");
+            out.string(uri.as_str());
         }
         Note::BadParams { method } => {
-            out.string("notice of bad params")?;
-            Ok(out.string(method.as_str())?)
+            out.string("notice of bad params");
+            out.string(method.as_str());
         }
-        Note::Other => Ok(out.string("other notice")?),
+        Note::Other => out.string("other notice"),
     }
 }
 
-fn show_changes(out: &mut Shown, changes: &[Change]) -> Row<()> {
-    out.open()?;
+fn show_changes(out: &mut Shown, changes: &[Change]) {
+    out.open();
     for change in changes {
-        out.open()?;
-        show_range(out, change.range)?;
-        out.string(change.text.as_str())?;
-        out.close()?;
+        out.open();
+        show_range(out, change.range);
+        out.string(change.text.as_str());
+        out.close();
     }
-    Ok(out.close()?)
+    out.close();
 }

@@ -12,14 +12,15 @@ pub fn answer(out: &mut Shown, call: &str, argument: &Value) -> Row<()> {
     let place = item(argument, 1)?;
     let encoding = encoding(item(argument, 2)?)?;
     match call {
-        "offset" => Ok(out.number(lines.offset(text, position(place)?, encoding) as u64)?),
+        "offset" => out.number(lines.offset(text, position(place)?, encoding) as u64),
         "position" => {
             let pos = lines.position(text, number(place)?, encoding);
-            out.open()?;
-            out.number(pos.line as u64)?;
-            out.number(pos.character as u64)?;
-            Ok(out.close()?)
+            out.open();
+            out.number(pos.line as u64);
+            out.number(pos.character as u64);
+            out.close();
         }
-        _ => Err(RowFault::NoCall),
+        _ => return Err(RowFault::NoCall),
     }
+    Ok(())
 }

@@ -3,12 +3,14 @@ use crate::fault::{Row, RowFault};
 use serde_json::Value;
 use std::alloc::Global;
 
-/// An answer that is being written. `fresh` tells that no item of the innermost list stands there yet.
+/// An answer that is being written. `fresh` tells that no item of the innermost list stands there yet, and `fault` why something is
+/// missing, so that the functions that write need not tell each of their failures.
 #[derive(Drop)]
 pub struct Shown {
     alloc: Global,
     text: String,
     fresh: bool,
+    fault: Option<RowFault>,
 }
 
 impl Shown {
@@ -17,6 +19,7 @@ impl Shown {
             alloc,
             text: String::new(alloc),
             fresh: true,
+            fault: None,
         }
     }
 
@@ -24,81 +27,124 @@ impl Shown {
         self.alloc
     }
 
-    pub fn text(&self) -> &str {
-        self.text.as_str()
+    /// The answer, where all of it was written.
+    pub fn into_text(self) -> Row<String> {
+        match self.fault {
+            Some(fault) => Err(fault),
+            None => Ok(self.text),
+        }
     }
 
-    pub fn into_text(self) -> String {
-        self.text
+    /// Tells why something is missing. The first fault is kept.
+    pub fn fail(&mut self, fault: RowFault) {
+        if self.fault.is_none() {
+            self.fault = Some(fault);
+        }
+    }
+
+    /// Adds a text as it stands.
+    fn put(&mut self, text: &str) {
+        if self.text.push_str(text).is_err() {
+            self.fail(RowFault::Memory);
+        }
     }
 
     /// Adds an item as it stands, behind a comma where another item is before it.
-    pub fn item(&mut self, item: &str) -> Row<()> {
+    pub fn item(&mut self, item: &str) {
         if !self.fresh {
-            self.text.push(',')?;
+            self.put(",");
         }
-        self.text.push_str(item)?;
+        self.put(item);
         self.fresh = false;
-        Ok(())
+    }
+
+    /// Adds an item that may be missing.
+    fn item_or_fail(&mut self, item: Row<String>) {
+        match item {
+            Ok(item) => self.item(item.as_str()),
+            Err(fault) => self.fail(fault),
+        }
     }
 
     /// Begins a list.
-    pub fn open(&mut self) -> Row<()> {
-        self.item("[")?;
+    pub fn open(&mut self) {
+        self.item("[");
         self.fresh = true;
-        Ok(())
     }
 
     /// Ends a list.
-    pub fn close(&mut self) -> Row<()> {
-        self.text.push(']')?;
+    pub fn close(&mut self) {
+        self.put("]");
         self.fresh = false;
-        Ok(())
     }
 
     /// Begins an object.
-    pub fn open_object(&mut self) -> Row<()> {
-        self.item("{")?;
+    pub fn open_object(&mut self) {
+        self.item("{");
         self.fresh = true;
-        Ok(())
     }
 
     /// Ends an object.
-    pub fn close_object(&mut self) -> Row<()> {
-        self.text.push('}')?;
+    pub fn close_object(&mut self) {
+        self.put("}");
         self.fresh = false;
-        Ok(())
     }
 
     /// A key of an object, whose value is the next item.
-    pub fn key(&mut self, name: &str) -> Row<()> {
-        self.string(name)?;
-        self.text.push(':')?;
+    pub fn key(&mut self, name: &str) {
+        self.string(name);
+        self.put(":");
         self.fresh = true;
-        Ok(())
     }
 
-    pub fn string(&mut self, text: &str) -> Row<()> {
-        let alloc = self.alloc;
-        let json = Value::try_from_str(alloc, text)?.to_string(alloc)?;
-        Ok(self.item(json.as_str())?)
+    pub fn string(&mut self, text: &str) {
+        self.item_or_fail(json_text(self.alloc, text));
     }
 
-    pub fn number(&mut self, number: u64) -> Row<()> {
-        let text = format!(in self.alloc; "{number}")?;
-        Ok(self.item(text.as_str())?)
+    /// A text that may be missing.
+    pub fn string_or_fail(&mut self, text: Row<String>) {
+        match text {
+            Ok(text) => self.string(text.as_str()),
+            Err(fault) => self.fail(fault),
+        }
     }
 
-    pub fn integer(&mut self, number: i64) -> Row<()> {
-        let text = format!(in self.alloc; "{number}")?;
-        Ok(self.item(text.as_str())?)
+    /// A character as a text.
+    pub fn letter(&mut self, c: char) {
+        self.item_or_fail(json_letter(self.alloc, c));
     }
 
-    pub fn flag(&mut self, flag: bool) -> Row<()> {
-        Ok(self.item(if flag { "true" } else { "false" })?)
+    pub fn number(&mut self, number: u64) {
+        self.item_or_fail(digits(self.alloc, number));
     }
 
-    pub fn null(&mut self) -> Row<()> {
-        Ok(self.item("null")?)
+    pub fn integer(&mut self, number: i64) {
+        self.item_or_fail(signed_digits(self.alloc, number));
     }
+
+    pub fn flag(&mut self, flag: bool) {
+        self.item(if flag { "true" } else { "false" });
+    }
+
+    pub fn null(&mut self) {
+        self.item("null");
+    }
+}
+
+fn json_text(alloc: Global, text: &str) -> Row<String> {
+    Ok(Value::try_from_str(alloc, text)?.to_string(alloc)?)
+}
+
+fn json_letter(alloc: Global, c: char) -> Row<String> {
+    let mut text = String::new(alloc);
+    text.push(c)?;
+    Ok(json_text(alloc, text.as_str())?)
+}
+
+fn digits(alloc: Global, number: u64) -> Row<String> {
+    Ok(format!(in alloc; "{number}")?)
+}
+
+fn signed_digits(alloc: Global, number: i64) -> Row<String> {
+    Ok(format!(in alloc; "{number}")?)
 }

@@ -11,49 +11,51 @@ pub fn answer(out: &mut Shown, store: &mut Store, call: &str, argument: &Value) 
     match call {
         "new" => {
             *store = Store::new(out.alloc());
-            Ok(out.string("ok")?)
+            out.string("ok");
         }
-        "add" => Ok(add(out, store, argument)?),
-        "change" => Ok(change(out, store, argument)?),
-        "close" => Ok(out.flag(store.close(text(argument)?))?),
-        _ => Ok(look(out, store, call, argument)?),
+        "add" => add(out, store, argument)?,
+        "change" => change(out, store, argument)?,
+        "close" => out.flag(store.close(text(argument)?)),
+        _ => look(out, store, call, argument)?,
     }
+    Ok(())
 }
 
 /// What a store holds.
 fn look(out: &mut Shown, store: &Store, call: &str, argument: &Value) -> Row<()> {
     match call {
-        "text" => Ok(show(out, store.text(text(argument)?))?),
+        "text" => show(out, store.text(text(argument)?)),
         "version" => match store.version(text(argument)?) {
-            Some(version) => Ok(out.integer(version)?),
-            None => Ok(out.null()?),
+            Some(version) => out.integer(version),
+            None => out.null(),
         },
-        "uri" => Ok(show(out, store.doc(number(argument)?))?),
+        "uri" => show(out, store.doc(number(argument)?)),
         "holds" => {
             let bytes = made_bytes(out.alloc(), item(argument, 1)?)?;
             let held = store.text(text(item(argument, 0)?)?);
-            Ok(out.flag(held == Some(made(&bytes)?))?)
+            out.flag(held == Some(made(&bytes)?));
         }
-        _ => Err(RowFault::NoCall),
+        _ => return Err(RowFault::NoCall),
     }
+    Ok(())
 }
 
-fn show(out: &mut Shown, text: Option<&str>) -> Row<()> {
+fn show(out: &mut Shown, text: Option<&str>) {
     match text {
-        Some(text) => Ok(out.string(text)?),
-        None => Ok(out.null()?),
+        Some(text) => out.string(text),
+        None => out.null(),
     }
 }
 
 /// How a call that may be refused ended.
-fn outcome(done: Result<(), StoreFault>) -> Row<&'static str> {
+fn show_outcome(out: &mut Shown, done: Result<(), StoreFault>) {
     match done {
-        Ok(()) => Ok("ok"),
-        Err(StoreFault::Memory) => Err(RowFault::Memory),
-        Err(StoreFault::NotOpen) => Ok("not open"),
-        Err(StoreFault::BadRange) => Ok("bad range"),
-        Err(StoreFault::TooLong) => Ok("too long"),
-        Err(StoreFault::TooMany) => Ok("too many"),
+        Ok(()) => out.string("ok"),
+        Err(StoreFault::Memory) => out.fail(RowFault::Memory),
+        Err(StoreFault::NotOpen) => out.string("not open"),
+        Err(StoreFault::BadRange) => out.string("bad range"),
+        Err(StoreFault::TooLong) => out.string("too long"),
+        Err(StoreFault::TooMany) => out.string("too many"),
     }
 }
 
@@ -63,7 +65,8 @@ fn add(out: &mut Shown, store: &mut Store, argument: &Value) -> Row<()> {
     let version = integer(item(argument, 1)?)?;
     let bytes = made_bytes(out.alloc(), item(argument, 2)?)?;
     let added = store.add(uri, version, made(&bytes)?);
-    Ok(out.string(outcome(added)?)?)
+    show_outcome(out, added);
+    Ok(())
 }
 
 /// `[RANGE or null, TEXT]`.
@@ -88,5 +91,6 @@ fn change(out: &mut Shown, store: &mut Store, argument: &Value) -> Row<()> {
     }
     let encoding = encoding(item(argument, 3)?)?;
     let changed = store.change(uri, version, &changes, encoding);
-    Ok(out.string(outcome(changed)?)?)
+    show_outcome(out, changed);
+    Ok(())
 }

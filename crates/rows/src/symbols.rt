@@ -19,37 +19,48 @@ pub fn answer(out: &mut Shown, call: &str, argument: &Value) -> Row<()> {
 /// The number of each name, and the name of that number.
 fn symbols(out: &mut Shown, names: &[Value]) -> Row<()> {
     let mut symbols = Symbols::new(out.alloc());
-    out.open()?;
+    out.open();
     for name in names {
         let number = symbols.symbol(text(name)?)?;
-        out.open()?;
-        out.number(number as u64)?;
-        out.string(symbols.name(number))?;
-        out.close()?;
+        out.open();
+        out.number(number as u64);
+        out.string(symbols.name(number));
+        out.close();
     }
-    Ok(out.close()?)
+    out.close();
+    Ok(())
 }
 
 fn identifiers(out: &mut Shown, values: &[Value]) -> Row<()> {
     let mut symbols = Symbols::new(out.alloc());
-    out.open()?;
+    out.open();
     for value in values {
         identifier(out, &mut symbols, value)?;
     }
-    Ok(out.close()?)
+    out.close();
+    Ok(())
 }
 
-/// `[NAME, UNIT, [USE, ..]]`: the number of an identifier, its symbol, and what stands for it.
+/// The number of an identifier, its symbol, and what stands for it.
 fn identifier(out: &mut Shown, symbols: &mut Symbols, value: &Value) -> Row<()> {
+    let id = identifier_of(symbols, value)?;
+    out.open();
+    out.number(id as u64);
+    out.string(symbols.name(symbols.strip(id)));
+    show(out, symbols, symbols.ident_at(id));
+    out.close();
+    Ok(())
+}
+
+/// `[NAME, UNIT, [USE, ..]]`: an identifier.
+pub fn identifier_of(symbols: &mut Symbols, value: &Value) -> Row<IdNo>
+    ensures { IfOk result (λ id. id < length symbols.new.idents) }
+{
     let mut id = written(symbols, text(item(value, 0)?)?, number(item(value, 1)?)?)?;
     for by in list(item(value, 2)?)? {
         id = inserted(symbols, id, use_no(by)?)?;
     }
-    out.open()?;
-    out.number(id as u64)?;
-    out.string(symbols.name(symbols.strip(id)))?;
-    show(out, symbols, symbols.ident_at(id))?;
-    Ok(out.close()?)
+    Ok(id)
 }
 
 /// The identifier of a name that is written in a unit.
@@ -69,7 +80,7 @@ fn inserted(symbols: &mut Symbols, id: IdNo, number: UseNo) -> Row<IdNo>
 }
 
 /// `[UNIT, FORM, COUNT]`.
-fn use_no(value: &Value) -> Row<UseNo> {
+pub fn use_no(value: &Value) -> Row<UseNo> {
     Ok(UseNo {
         unit: number(item(value, 0)?)?,
         form: number(item(value, 1)?)?,
@@ -78,29 +89,29 @@ fn use_no(value: &Value) -> Row<UseNo> {
 }
 
 /// `["written", UNIT, NAME]`, or `["inserted", IDENTIFIER, USE]`.
-fn show(out: &mut Shown, symbols: &Symbols, ident: Ident) -> Row<()>
+fn show(out: &mut Shown, symbols: &Symbols, ident: Ident)
     requires { IsPlaced symbols.now ident }
 {
-    out.open()?;
+    out.open();
     match ident {
         Ident::Written { unit, symbol } => {
-            out.string("written")?;
-            out.number(unit as u64)?;
-            out.string(symbols.name(symbol))?;
+            out.string("written");
+            out.number(unit as u64);
+            out.string(symbols.name(symbol));
         }
         Ident::Inserted { id, number } => {
-            out.string("inserted")?;
-            out.number(id as u64)?;
-            show_use(out, number)?;
+            out.string("inserted");
+            out.number(id as u64);
+            show_use(out, number);
         }
     }
-    Ok(out.close()?)
+    out.close();
 }
 
-fn show_use(out: &mut Shown, number: UseNo) -> Row<()> {
-    out.open()?;
-    out.number(number.unit as u64)?;
-    out.number(number.form as u64)?;
-    out.number(number.count as u64)?;
-    Ok(out.close()?)
+fn show_use(out: &mut Shown, number: UseNo) {
+    out.open();
+    out.number(number.unit as u64);
+    out.number(number.form as u64);
+    out.number(number.count as u64);
+    out.close();
 }

@@ -10,7 +10,6 @@ ghost use Rattle.syntax_tree.specs.Works.{IsStanding};
 use crate::argument::{item, made, made_bytes, number};
 use crate::fault::{Row, RowFault};
 use crate::shown::Shown;
-use crate::tokens::letter;
 use datum_reader::{read_all, seed};
 use ls_base::limits::MAX_TEXT;
 use scheme_model::Occ;
@@ -26,11 +25,12 @@ pub fn answer(out: &mut Shown, call: &str, argument: &Value) -> Row<()> {
             let unit = number(item(argument, 1)?)?;
             let form = number(item(argument, 2)?)?;
             let bytes = made_bytes(out.alloc(), item(argument, 0)?)?;
-            Ok(planted(out, made(&bytes)?, unit, form)?)
+            planted(out, made(&bytes)?, unit, form)?;
         }
-        "shared" => Ok(shared(out)?),
-        _ => Err(RowFault::NoCall),
+        "shared" => shared(out)?,
+        _ => return Err(RowFault::NoCall),
     }
+    Ok(())
 }
 
 impl From<PoolFault> for RowFault {
@@ -71,25 +71,26 @@ fn planted(out: &mut Shown, text: &str, unit: u32, form: u32) -> Row<()> {
     }
     let mut work = Work::new(out.alloc());
     let tree = plant(out.alloc(), &mut work, text, unit, form)?;
-    out.open()?;
-    out.number(work.size(tree) as u64)?;
-    out.number(work.depth(tree) as u64)?;
-    show(out, &work, tree, work.depth(tree))?;
-    Ok(out.close()?)
+    out.open();
+    out.number(work.size(tree) as u64);
+    out.number(work.depth(tree) as u64);
+    show(out, &work, tree, work.depth(tree));
+    out.close();
+    Ok(())
 }
 
 /// A kind, and behind it `[UNIT, FORM, TOKEN]`, or null where there is no place.
-fn begin(out: &mut Shown, kind: &str, occ: Option<Occ>) -> Row<()> {
-    out.open()?;
-    out.string(kind)?;
+fn begin(out: &mut Shown, kind: &str, occ: Option<Occ>) {
+    out.open();
+    out.string(kind);
     let Some(occ) = occ else {
-        return Ok(out.null()?);
+        return out.null();
     };
-    out.open()?;
-    out.number(occ.unit as u64)?;
-    out.number(occ.form as u64)?;
-    out.number(occ.token as u64)?;
-    Ok(out.close()?)
+    out.open();
+    out.number(occ.unit as u64);
+    out.number(occ.form as u64);
+    out.number(occ.token as u64);
+    out.close();
 }
 
 /// A name and the unit that it is written in, as `NAME@UNIT`.
@@ -106,38 +107,37 @@ fn name_text(alloc: Global, symbols: &Symbols, ident: Ident) -> Row<String>
 }
 
 /// `[KIND, PLACE, VALUE]`.
-fn show_leaf(out: &mut Shown, symbols: &Symbols, leaf: Leaf, occ: Option<Occ>) -> Row<()>
+fn show_leaf(out: &mut Shown, symbols: &Symbols, leaf: Leaf, occ: Option<Occ>)
     requires { (t : ModelTree Identifier) × ((o : Option Occ) × (leaf_tree symbols.now leaf o ≡ Some t)) }
 {
     match leaf {
         Leaf::Name(id) => {
-            let text = name_text(out.alloc(), symbols, symbols.ident_at(id))?;
-            begin(out, "name", occ)?;
-            out.string(text.as_str())?;
+            let text = name_text(out.alloc(), symbols, symbols.ident_at(id));
+            begin(out, "name", occ);
+            out.string_or_fail(text);
         }
         Leaf::Numeral(symbol) => {
-            begin(out, "numeral", occ)?;
-            out.string(symbols.name(symbol))?;
+            begin(out, "numeral", occ);
+            out.string(symbols.name(symbol));
         }
         Leaf::Quoted(symbol) => {
-            begin(out, "string", occ)?;
-            out.string(symbols.name(symbol))?;
+            begin(out, "string", occ);
+            out.string(symbols.name(symbol));
         }
         Leaf::Char(c) => {
-            begin(out, "char", occ)?;
-            let text = letter(out.alloc(), c)?;
-            out.string(text.as_str())?;
+            begin(out, "char", occ);
+            out.letter(c);
         }
         Leaf::Bool(value) => {
-            begin(out, "bool", occ)?;
-            out.flag(value)?;
+            begin(out, "bool", occ);
+            out.flag(value);
         }
         Leaf::Bytes(symbol) => {
-            begin(out, "bytes", occ)?;
-            out.string(symbols.name(symbol))?;
+            begin(out, "bytes", occ);
+            out.string(symbols.name(symbol));
         }
     }
-    Ok(out.close()?)
+    out.close();
 }
 
 /// The parts and the tail of a tree.
@@ -154,13 +154,13 @@ fn parts_of(work: &Work, tree: Tree) -> (&[Tree], Option<Tree>)
 }
 
 /// What a tree is by itself: an atom, or the beginning of `[KIND, PLACE, ..]` of one that has parts.
-fn show_alone(out: &mut Shown, work: &Work, tree: Tree) -> Row<()>
+fn show_alone(out: &mut Shown, work: &Work, tree: Tree)
     requires { IsStanding work.now tree }
 {
     match work.node(tree) {
-        Node::Atom { leaf, occ } => Ok(show_leaf(out, &work.symbols, *leaf, *occ)?),
-        Node::List { occ, .. } => Ok(begin(out, "list", *occ)?),
-        Node::Vector { occ, .. } => Ok(begin(out, "vector", *occ)?),
+        Node::Atom { leaf, occ } => show_leaf(out, &work.symbols, *leaf, *occ),
+        Node::List { occ, .. } => begin(out, "list", *occ),
+        Node::Vector { occ, .. } => begin(out, "vector", *occ),
     }
 }
 
@@ -176,34 +176,34 @@ fn is_atom(work: &Work, tree: Tree) -> bool
 
 /// A tree, so many nodes deep: an atom, or `[KIND, PLACE, [PART, ..]]` with the tail behind the parts.
 #[cycle(shown)]
-fn show(out: &mut Shown, work: &Work, tree: Tree, depth: u32) -> Row<()>
+fn show(out: &mut Shown, work: &Work, tree: Tree, depth: u32)
     requires { IsStanding work.now tree }
 {
     if depth == 0 {
-        return Err(RowFault::NotShown);
+        return out.fail(RowFault::NotShown);
     }
-    show_alone(out, work, tree)?;
+    show_alone(out, work, tree);
     if is_atom(work, tree) {
-        return Ok(());
+        return;
     }
     let (parts, end) = parts_of(work, tree);
-    show_parts(out, work, parts, depth - 1)?;
+    show_parts(out, work, parts, depth - 1);
     if let Some(end) = end {
-        show(out, work, end, depth - 1)?;
+        show(out, work, end, depth - 1);
     }
-    Ok(out.close()?)
+    out.close();
 }
 
 /// The parts of a tree, each so many nodes deep.
 #[cycle(shown)]
-fn show_parts(out: &mut Shown, work: &Work, parts: &[Tree], depth: u32) -> Row<()>
+fn show_parts(out: &mut Shown, work: &Work, parts: &[Tree], depth: u32)
     requires { All (IsStanding work.now) parts.now }
 {
-    out.open()?;
+    out.open();
     for part in parts {
-        show(out, work, *part, depth)?;
+        show(out, work, *part, depth);
     }
-    Ok(out.close()?)
+    out.close();
 }
 
 /// The sizes and depths of `#\x`, `(#\x #\x . #\x)` and `#((#\x #\x . #\x))`, where each part stands in the table once.
@@ -233,19 +233,20 @@ fn shared(out: &mut Shown) -> Row<()> {
     let vector = work.add(&region, Node::Vector { items, occ: None })?;
     let third = [work.size(vector), work.depth(vector)];
     let same = is_only_part(&work, vector, list);
-    out.open()?;
-    show_pair(out, first)?;
-    show_pair(out, second)?;
-    show_pair(out, third)?;
-    out.flag(same)?;
-    Ok(out.close()?)
+    out.open();
+    show_pair(out, first);
+    show_pair(out, second);
+    show_pair(out, third);
+    out.flag(same);
+    out.close();
+    Ok(())
 }
 
-fn show_pair(out: &mut Shown, pair: [u32; 2]) -> Row<()> {
-    out.open()?;
-    out.number(pair[0] as u64)?;
-    out.number(pair[1] as u64)?;
-    Ok(out.close()?)
+fn show_pair(out: &mut Shown, pair: [u32; 2]) {
+    out.open();
+    out.number(pair[0] as u64);
+    out.number(pair[1] as u64);
+    out.close();
 }
 
 /// Whether a vector has one part, and it is this one.

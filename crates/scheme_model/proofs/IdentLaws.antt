@@ -1,5 +1,5 @@
 -- Identifiers and names: which are one, and what they came from.
-use Rattle.std.proofs.Common.{◌≡◌, ℕ, Bool, true, false, List, refl, sym, ap, arith, eq-eqb}
+use Rattle.std.proofs.Common.{◌≡◌, ℕ, Bool, true, false, List, refl, sym, ap, subst, arith, eq-eqb}
 use Rattle.std.specs.Prelude.{◌&&◌}
 use Rattle.std.specs.Str.{bytes_eq}
 use Rattle.std.proofs.lemmas.Slice.Eq.{bytes_eq-Decides}
@@ -99,3 +99,9 @@ strip_erased (Var v i) = strip_erased i
 pub erase_root : (i : Ident) → erase (root i) ≡ i
 erase_root (Written u s) = refl
 erase_root (Inserted i k) = ap (λ (j : Ident). Inserted j k) (erase_root i)
+
+pub same_turned : (i j : Ident) → same_ident i j ≡ same_ident j i
+same_turned i j =
+    bool_same (same_ident i j) (same_ident j i)
+    (λ h. subst (λ (x : Ident). same_ident x i ≡ true) (ident_told i j h) (ident_itself i))
+    (λ h. subst (λ (x : Ident). same_ident x j ≡ true) (ident_told j i h) (ident_itself j))

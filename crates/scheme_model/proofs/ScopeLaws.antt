@@ -1,14 +1,13 @@
 -- Names by scopes are names by substitution.
-use Rattle.std.proofs.Common.{◌≡◌, ℕ, Bool, true, false, cond, List, [], ◌∷◌, Option, Some, None, refl, sym, ap, ◌∙◌, subst}
-use Rattle.std.specs.Prelude.{◌&&◌}
+use Rattle.std.proofs.Common.{◌≡◌, Bool, true, false, cond, [], ◌∷◌, Some, None, refl, sym, ap, ◌∙◌, subst}
 use Rattle.scheme_model.specs.Identifiers.{Name, Written as WrittenName, Var, same_name, strip}
 use Rattle.scheme_model.specs.Ident.{Ident, Written, Inserted, same_ident, erase, symbol_of}
 use Rattle.scheme_model.specs.Trees.{Tree, name, atom, list, vector, Trees, no_trees, tree, Tail, proper, dotted, map_tree, map_trees, map_tail}
-use Rattle.scheme_model.specs.Meaning.{Meaning, Global, Free}
-use Rattle.scheme_model.specs.Order.{is_some}
-use Rattle.scheme_model.specs.Substitution.{Table, Entries, Defined, defined_in, is_plain, defines, imported, global_or, meaning, shallow}
-use Rattle.scheme_model.specs.Scopes.{Bound, Chain, Uses, under, outside, image, substituted, AreOutside, found, own_of, imported_as, defined_or, given_or, local_or, beyond, means}
-use Rattle.scheme_model.proofs.IdentLaws.{ident_told, ident_itself, name_told, name_itself, bool_same, strip_erased}
+use Rattle.scheme_model.specs.Meaning.{Free}
+use Rattle.scheme_model.specs.Substitution.{Table, Entries, defines, global_or, meaning, shallow}
+use Rattle.scheme_model.specs.Scopes.{Bound, Chain, Uses, under, outside, image, substituted, AreOutside, found, own_of, local_or, beyond, means}
+use Rattle.scheme_model.proofs.MeaningLaws.{imported_is, own_name}
+use Rattle.scheme_model.proofs.IdentLaws.{ident_told, ident_itself, name_told, name_itself, bool_same, strip_erased, same_turned}
 
 -- ---- what an identifier came from
 
@@ -38,12 +37,6 @@ same_image uses c i j =
     (λ h. subst (λ (x : Ident). same_name (image uses c i) (image uses c x) ≡ true) (ident_told i j h) (name_itself (image uses c i)))
 
 -- ---- one binder more
-
-same_turned : (i j : Ident) → same_ident i j ≡ same_ident j i
-same_turned i j =
-    bool_same (same_ident i j) (same_ident j i)
-    (λ h. subst (λ (x : Ident). same_ident x i ≡ true) (ident_told i j h) (ident_itself i))
-    (λ h. subst (λ (x : Ident). same_ident x j ≡ true) (ident_told j i h) (ident_itself j))
 
 pub image_bound : (uses : Uses) (b : Bound) (bs : Chain) (i : Ident) → shallow (image uses bs b.ident) b.binder (image uses bs i) ≡ image uses (b ∷ bs) i
 image_bound uses b bs i =
@@ -118,42 +111,14 @@ module _ (table : Table) (entry : Entries) (uses : Uses) (plain : AreOutside tab
       go true e = refl
       go false e = e
 
-  -- a unit defines what an identifier is outside all binders where it defines the identifier
-  defines_outside : (u : ℕ) (i : Ident) → defines table u (outside uses i) ≡ is_some (defined_in table u i)
-  defines_outside u i =
-      ap (λ (j : Ident). is_plain (outside uses i) && is_some (defined_in table u j)) (erase_outside uses i) ∙ go (is_some (defined_in table u i)) refl
-    where
-      go : (t : Bool) → is_some (defined_in table u i) ≡ t → (is_plain (outside uses i) && t) ≡ t
-      go true h = ap (λ (b : Bool). b && true) (plain u i h)
-      go false h = never (is_plain (outside uses i))
-        where
-          never : (b : Bool) → (b && false) ≡ false
-          never true = refl
-          never false = refl
-
-  -- what a unit gives under an identifier, or else this
-  own_is : (u : ℕ) (i : Ident) (given : Option Meaning) (other : Meaning) → imported_as entry u i ≡ given →
-      global_or (defines table u (outside uses i)) u (outside uses i) (given_or given other) ≡ given_or (own_of table entry u i) other
-  own_is u i given other h =
-      (λ j. global_or (defines_outside u i j) u (outside uses i) (given_or given other))
-      ∙ go (defined_in table u i)
-    where
-      go : (d : Option Defined) → global_or (is_some d) u (outside uses i) (given_or given other) ≡ given_or (defined_or d u i (imported_as entry u i)) other
-      go None = ap (λ (g : Option Meaning). given_or g other) (sym h)
-      go (Some d) = ap (Global u) (erase_outside uses i)
-
-  imported_is : (m : Option Meaning) (s : List ℕ) → imported m s ≡ given_or m (Free s)
-  imported_is None s = refl
-  imported_is (Some m) s = refl
-
   pub meaning_outside : (i : Ident) → meaning table entry (outside uses i) ≡ beyond (own_of table entry) uses i
   meaning_outside (Written u s) =
       ap (global_or (defines table u (WrittenName u s)) u (WrittenName u s)) (imported_is (entry u s) s)
-      ∙ own_is u (Written u s) (entry u s) (Free s) refl
+      ∙ own_name table entry u (WrittenName u s) (Written u s) refl (plain u (Written u s)) (entry u s) (Free s) refl
   meaning_outside (Inserted i k) =
       ap (global_or (defines table k.unit (outside uses (Inserted i k))) k.unit (outside uses (Inserted i k)))
       (meaning_under (uses k) (outside uses i) i ∙ ap (local_or (found (uses k) i)) (meaning_outside i))
-      ∙ own_is k.unit (Inserted i k) None (local_or (found (uses k) i) (beyond (own_of table entry) uses i)) refl
+      ∙ own_name table entry k.unit (outside uses (Inserted i k)) (Inserted i k) (erase_outside uses (Inserted i k)) (plain k.unit (Inserted i k)) None (local_or (found (uses k) i) (beyond (own_of table entry) uses i)) refl
 
   pub meaning_image : (c : Chain) (i : Ident) → meaning table entry (image uses c i) ≡ means (own_of table entry) uses c i
   meaning_image c i = meaning_under c (outside uses i) i ∙ ap (local_or (found c i)) (meaning_outside i)

@@ -3,8 +3,8 @@ use Rattle.std.specs.Prelude.{ℕ, suc, ◌+◌, ◌==◌, nat_lt, List, [], ◌
 use Rattle.std.specs.Str.{bytes_eq}
 use Rattle.scheme_model.specs.declared.Occ.{Occ}
 use Rattle.scheme_model.specs.Identifiers.{Name}
-use Rattle.scheme_model.specs.Ident.{Ident, Written, symbol_of}
-use Rattle.scheme_model.specs.Trees.{Tree, name, atom, list, vector, Trees, no_trees, tree, Tail, proper, dotted}
+use Rattle.scheme_model.specs.Ident.{Ident, Written, symbol_of, erase}
+use Rattle.scheme_model.specs.Trees.{Tree, name, atom, list, vector, Trees, no_trees, tree, Tail, proper, dotted, map_tree}
 use Rattle.scheme_model.specs.StandardNames.{is_base}
 use Rattle.scheme_model.specs.Meaning.{Meaning, Standard}
 use Rattle.scheme_model.specs.ExpansionFaults.{Named, fault_code, fault_name}
@@ -13,6 +13,7 @@ use Rattle.scheme_model.specs.Cores.{Target, Binder, Binders, MacroDef, RecordTy
 use Rattle.scheme_model.specs.Steps.{Broken}
 use Rattle.scheme_model.specs.Order.{Counted}
 use Rattle.scheme_model.specs.Substitution.{State, model}
+use Rattle.scheme_model.specs.ScopedExpansion.{ScopedState, scoped}
 use Rattle.scheme_model.specs.UnitExpansion.{Formed, unit}
 use Rattle.scheme_model.specs.Declarations.{UnitForm}
 use Rattle.scheme_model.specs.Program.{Document, UnitResult, WholeFault, TooMany, BadDeclaration, DefinedTwice, ImportCycle, TooLarge, program_of, units_of}
@@ -147,6 +148,29 @@ start more = record {
 -- the forms of a program from one on, which imports `(scheme base)`, or also `(scheme case-lambda)`
 abbrev pub program_rows : Bool → ℕ → List (Tree Name) → List FormRow
 program_rows more form ts = rows_of (unit (model known) 400 tt (numbered form ts) (start more)).0
+
+-- ---- the same by scopes
+
+abbrev scoped_start : Bool → ScopedState
+scoped_start more = record {
+  unit = 0;
+  program = true;
+  form = 0;
+  locals = λ f. 0;
+  uses = λ f. 0;
+  nodes = λ f. 0;
+  bodies = λ f. 0;
+  keywords = λ f. [];
+  met = λ f. [];
+  table = [];
+  entry = base_entry more;
+  macros = [];
+  places = [];
+  definitions = [];
+}
+
+abbrev pub scoped_rows : Bool → ℕ → List (Tree Name) → List FormRow
+scoped_rows more form ts = rows_of (unit (scoped known) 400 [] (map (λ t. (t.0, map_tree erase t.1)) (numbered form ts)) (scoped_start more)).0
 
 -- ---- whole programs
 

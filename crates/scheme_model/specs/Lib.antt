@@ -43,6 +43,10 @@ pub mod Leaves
 pub mod Expression
 pub mod Substitution
 pub mod Scopes
+pub mod Renaming
+pub mod ScopedExpansion
+pub mod FrameImages
+pub mod OpenBodies
 pub mod UnitExpansion
 pub mod Entries
 pub mod Declarations

@@ -207,13 +207,13 @@ record_in same ts tail =
     first_of q.1 >> λ r. name_of r.0 >> λ pred. fields_of r.1 >> λ fs. distinct same (map (λ f. f.field) fs) >> λ done.
     if all_among same c.1 (map (λ f. f.field) fs) then Ok (record { type = n; constructor = c.0; used = c.1; predicate = pred; fields = fs }) else Err BadForm
 
+abbrev pub or_bad_record : {A : Type 0} → Result (RecordShape A) (Fault A) → Result (RecordShape A) (Fault A)
+or_bad_record (Ok r) = Ok r
+or_bad_record (Err e) = Err BadRecord
+
 -- `(define-record-type name constructor predicate field ...)`: whatever is wrong is BadRecord
 abbrev pub record_of : {A : Type 0} → (A → A → Bool) → Trees A → Tail A → Result (RecordShape A) (Fault A)
-record_of same ts tail = or_bad (record_in same ts tail)
-  where
-    or_bad : {A : Type 0} → Result (RecordShape A) (Fault A) → Result (RecordShape A) (Fault A)
-    or_bad (Ok r) = Ok r
-    or_bad (Err e) = Err BadRecord
+record_of same ts tail = or_bad_record (record_in same ts tail)
 
 -- ---- local macros (R7RS 4.3.1)
 

@@ -173,7 +173,7 @@ asks x (Var w j) = same_name (Var w j) x
 asks x (Inner c j) = same_name (Inner c j) x || asks x j
 
 -- what was looked up or compared would come out otherwise: a keyword that a head asked, or a head that now is one
-abbrev pub is_refused : Bool → (Name → Bool) → (Name → Meaning) → Note Name → Bool
+abbrev pub is_refused : {L : Type 0} → Bool → (L → Bool) → (L → Meaning) → Note L → Bool
 is_refused new asked now (LookedUp j head keyword) = asked j && (keyword || (head && new))
 is_refused new asked now (Compared l j held) = (asked l || asked j) && differ held (same_meaning (now l) (now j))
 

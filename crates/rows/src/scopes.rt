@@ -1,0 +1,208 @@
+//! Rows of scope_env: what identifiers mean in scopes.
+ghost use Rattle.std.specs.Prelude.{◌≡◌, ◌<◌, length, IfOk, OnOk};
+
+use crate::argument::{flag, item, list, number, text};
+use crate::fault::{Row, RowFault};
+use crate::shown::Shown;
+use crate::symbols::{identifier_of, use_no};
+use scope_env::{Env, ScopeNo};
+use serde_json::Value;
+use std::alloc::Global;
+use syntax_tree::meaning::Meaning;
+use syntax_tree::notes::{Notes, Question};
+use syntax_tree::symbols::{IdNo, Symbols};
+
+pub fn answer(out: &mut Shown, call: &str, argument: &Value) -> Row<()> {
+    match call {
+        "of" => Ok(scopes(out, list(argument)?)?),
+        _ => Err(RowFault::NoCall),
+    }
+}
+
+/// The scopes of a row, how many they are, and the identifiers that it names.
+#[derive(Drop)]
+struct Script {
+    env: Env,
+    scopes: usize,
+    symbols: Symbols,
+}
+
+/// The answers of the steps that ask.
+fn scopes(out: &mut Shown, steps: &[Value]) -> Row<()> {
+    let mut script = Script::new(out.alloc())?;
+    out.open();
+    for step in steps {
+        script.step(out, step)?;
+    }
+    out.close();
+    Ok(())
+}
+
+impl Script {
+    /// The units 0 and 1, whose own scopes are 0 and 1.
+    fn new(alloc: Global) -> Row<Script>
+        ensures { IfOk result (λ script. script.scopes ≡ length script.env.scopes) }
+    {
+        let mut env = Env::new(alloc);
+        env.root(0)?;
+        env.root(1)?;
+        Ok(Script {
+            env,
+            scopes: 2,
+            symbols: Symbols::new(alloc),
+        })
+    }
+
+    fn step(&mut self, out: &mut Shown, step: &Value) -> Row<()>
+        requires { self.old.scopes ≡ length self.old.env.scopes }
+        ensures { OnOk result (self.new.scopes ≡ length self.new.env.scopes) }
+    {
+        match text(item(step, 0)?)? {
+            "child" => Ok(self.child(item(step, 1)?)?),
+            "bind" => Ok(self.bind(item(step, 1)?, item(step, 2)?, item(step, 3)?)?),
+            "use" => Ok(self.note_use(item(step, 1)?, item(step, 2)?)?),
+            "resolve" => Ok(self.resolve(out, item(step, 1)?, item(step, 2)?)?),
+            "noted" => Ok(self.resolve_noted(out, step)?),
+            _ => Err(RowFault::NoCall),
+        }
+    }
+
+    /// A scope's number, where there is such a scope.
+    fn scope(&self, value: &Value) -> Row<ScopeNo>
+        ensures { IfOk result (λ scope. scope < self.now.scopes) }
+    {
+        let scope = number(value)? as usize;
+        if scope < self.scopes {
+            return Ok(scope);
+        }
+        Err(RowFault::BadArgument)
+    }
+
+    fn child(&mut self, parent: &Value) -> Row<()>
+        requires { self.old.scopes ≡ length self.old.env.scopes }
+        ensures { OnOk result (self.new.scopes ≡ length self.new.env.scopes) }
+    {
+        let parent = self.scope(parent)?;
+        let scopes = self.scopes.checked_add(1).ok_or(RowFault::TooLong)?;
+        self.env.child(parent)?;
+        self.scopes = scopes;
+        Ok(())
+    }
+
+    fn bind(&mut self, scope: &Value, name: &Value, meaning: &Value) -> Row<()>
+        requires { self.old.scopes ≡ length self.old.env.scopes }
+        ensures { OnOk result (self.new.scopes ≡ length self.new.env.scopes) }
+    {
+        let scope = self.scope(scope)?;
+        let id = identifier_of(&mut self.symbols, name)?;
+        let meaning = meaning_of(&mut self.symbols, meaning)?;
+        Ok(self.env.bind(scope, id, meaning)?)
+    }
+
+    fn note_use(&mut self, number: &Value, scope: &Value) -> Row<()>
+        requires { self.old.scopes ≡ length self.old.env.scopes }
+        ensures { OnOk result (self.new.scopes ≡ length self.new.env.scopes) }
+    {
+        let scope = self.scope(scope)?;
+        Ok(self.env.note_use(use_no(number)?, scope)?)
+    }
+
+    fn resolve(&mut self, out: &mut Shown, scope: &Value, name: &Value) -> Row<()>
+        requires { self.old.scopes ≡ length self.old.env.scopes }
+        ensures { OnOk result (self.new.scopes ≡ length self.new.env.scopes) }
+    {
+        let scope = self.scope(scope)?;
+        let id = identifier_of(&mut self.symbols, name)?;
+        show_meaning(out, self.env.resolve(scope, id, &self.symbols));
+        Ok(())
+    }
+
+    /// The meaning of an identifier, and what was noted.
+    fn resolve_noted(&mut self, out: &mut Shown, step: &Value) -> Row<()>
+        requires { self.old.scopes ≡ length self.old.env.scopes }
+        ensures { OnOk result (self.new.scopes ≡ length self.new.env.scopes) }
+    {
+        let scope = self.scope(item(step, 1)?)?;
+        let id = identifier_of(&mut self.symbols, item(step, 2)?)?;
+        let head = flag(item(step, 3)?)?;
+        let mut notes = Notes::new(out.alloc());
+        let meaning = self
+            .env
+            .resolve_noted(scope, id, head, &self.symbols, &mut notes)?;
+        out.open();
+        show_meaning(out, meaning);
+        show_questions(out, notes.as_slice());
+        out.close();
+        Ok(())
+    }
+}
+
+/// `["local",NUMBER]`, `["global",UNIT,IDENTIFIER]`, `["standard",NAME]` or `["free",NAME]`.
+fn meaning_of(symbols: &mut Symbols, value: &Value) -> Row<Meaning> {
+    match text(item(value, 0)?)? {
+        "local" => Ok(Meaning::Local(number(item(value, 1)?)? as u64)),
+        "global" => Ok(Meaning::Global {
+            unit: number(item(value, 1)?)?,
+            ident: identifier_of(symbols, item(value, 2)?)?,
+        }),
+        "standard" => Ok(Meaning::Standard(symbols.symbol(text(item(value, 1)?)?)?)),
+        "free" => Ok(Meaning::Free(symbols.symbol(text(item(value, 1)?)?)?)),
+        _ => Err(RowFault::BadArgument),
+    }
+}
+
+fn show_meaning(out: &mut Shown, meaning: Meaning) {
+    out.open();
+    match meaning {
+        Meaning::Local(local) => {
+            out.string("local");
+            out.number(local);
+        }
+        Meaning::Global { unit, ident } => {
+            out.string("global");
+            out.number(unit as u64);
+            out.number(ident as u64);
+        }
+        Meaning::Standard(symbol) => {
+            out.string("standard");
+            out.number(symbol as u64);
+        }
+        Meaning::Free(symbol) => {
+            out.string("free");
+            out.number(symbol as u64);
+        }
+    }
+    out.close();
+}
+
+fn show_questions(out: &mut Shown, questions: &[Question]) {
+    for question in questions {
+        show_question(out, question);
+    }
+}
+
+/// `["lookup",IDENTIFIER,HEAD,MEANING]`. No other question is asked of scopes.
+fn show_question(out: &mut Shown, question: &Question) {
+    match question {
+        Question::Lookup {
+            ident,
+            head,
+            answer,
+        } => show_lookup(out, *ident, *head, *answer),
+        Question::Macro { .. } => out.fail(RowFault::NotShown),
+        Question::MacroRules { .. } => out.fail(RowFault::NotShown),
+        Question::Literal { .. } => out.fail(RowFault::NotShown),
+        Question::Library { .. } => out.fail(RowFault::NotShown),
+        Question::Definition { .. } => out.fail(RowFault::NotShown),
+        Question::Declared => out.fail(RowFault::NotShown),
+    }
+}
+
+fn show_lookup(out: &mut Shown, ident: IdNo, head: bool, answer: Meaning) {
+    out.open();
+    out.string("lookup");
+    out.number(ident as u64);
+    out.flag(head);
+    show_meaning(out, answer);
+    out.close();
+}
