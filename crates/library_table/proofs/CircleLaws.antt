@@ -4,16 +4,16 @@ use Rattle.std.specs.Prelude.{◌==◌, filter}
 use Rattle.std.specs.Option.{option_map}
 use Rattle.std.proofs.lemmas.Bool.{eqb-true, or_cases}
 use Rattle.std.proofs.lemmas.Bool.Decides.{nat_tests}
-use Rattle.std.proofs.lemmas.List.{take_more}
+use Rattle.std.proofs.lemmas.List.{take_more, nil_from_length}
 use Rattle.std.proofs.lemmas.List.Concat.{flat_map-append}
 use Rattle.scheme_model.specs.Requirements.{LibraryName}
-use Rattle.scheme_model.specs.Program.{Placed, Prepared, prepared, prepare, is_in, reached, on_circle, name_if}
+use Rattle.scheme_model.specs.Program.{Placed, Prepared, prepared, prepare, imports_at, is_in, reached, on_circle, name_if}
 use Rattle.library_table.specs.declared.units.UnitSource as code
 use Rattle.library_table.specs.Sources.{AreUnitsFrom, AreUnits}
 use Rattle.library_table.specs.Orders.{with_imports, circles, name_before, names_of}
-use Rattle.library_table.specs.Graphs.{AreNumbered, is_circular, passing, name_at, as_list, names_at}
+use Rattle.library_table.specs.Graphs.{row, IsGraph, AreNumbered, is_circular, passing, name_at, as_list, names_at}
 use Rattle.library_table.proofs.GraphLaws.{are_numbered, prepare_length, plus_one}
-use Rattle.library_table.proofs.ReachLaws.{in_push}
+use Rattle.library_table.proofs.ReachLaws.{in_push, reached_within}
 
 -- the numbers from one on that pass a test, of so many
 abbrev passing_from : (ℕ → Bool) → ℕ → ℕ → List ℕ
@@ -75,6 +75,17 @@ passing_below f (suc n) m h = go (passing_below f n m) (f n) h
     go more false e = let lt = more e in omega arith
 
 -- ---- the units on circles
+
+-- a unit that imports nothing is on no circle
+pub imports_none : (g : List (List ℕ)) (ps : List Prepared) (n : ℕ) (r : List ℕ) → IsGraph g ps → r ≡ row g n → length r ≡ 0 → false ≡ is_circular ps n
+imports_none g ps n r is e none = go (is_circular ps n) refl
+  where
+    nothing : (m : ℕ) → is_in m (imports_at ps n) ≡ true → false ≡ true
+    nothing m i = sym (ap (is_in m) (nil_from_length r none)) ∙ ap (is_in m) e ∙ is.imports n m ∙ i
+
+    go : (b : Bool) → is_circular ps n ≡ b → false ≡ b
+    go true h = reached_within ps (λ m. false) (λ k m i j. i) (length ps) (imports_at ps n) nothing n h
+    go false h = refl
 
 -- from a place on the units are these
 abbrev StandFrom : List Prepared → ℕ → List Prepared → Type 0

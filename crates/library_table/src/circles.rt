@@ -3,17 +3,21 @@ ghost use Rattle.std.specs.Prelude.{◌≡◌, ◌<◌, ◌++◌, ◌∷◌, [],
 ghost use Rattle.scheme_model.specs.Program.{Prepared, is_in};
 ghost use Rattle.library_table.specs.Graphs.{AreWithin, IsGraph, is_circular, passing, name_at, as_list, names_at};
 
+use crate::graph::row;
 use crate::units::UnitSource;
 use crate::walk::reached;
 use ls_base::{Items, Mem, Text};
 use std::alloc::Global;
 
-/// Whether a unit imports itself, directly or not.
+/// Whether a unit imports itself, directly or not. One that imports nothing takes no walk.
 fn is_circular(alloc: Global, graph: &[Items<usize>], place: usize) -> Mem<bool>
     requires place { place < length graph.now }
     requires within { AreWithin graph.now }
     ensures { (ps : List Prepared) → IsGraph graph.now ps → IfOk result (λ b. b ≡ is_circular ps place) }
 {
+    if row(graph, place).is_empty() {
+        return Ok(false);
+    }
     let marked = reached(alloc, graph, place)?;
     Ok(marked[place])
 }
