@@ -30,9 +30,13 @@ pub data Shape : Type 0 where
 abbrev pub choice_of : Tree Identifier → Result (Tree Identifier × Trees Identifier) (Fault Identifier)
 choice_of t = list_of t >> λ p. some_of p.0 p.1 >> first_of
 
+-- each tree read, left to right
+abbrev pub each_of : {Y : Type 0} → (Tree Identifier → Result Y (Fault Identifier)) → Trees Identifier → Result (List Y) (Fault Identifier)
+each_of f no_trees = Ok []
+each_of f (tree t ts) = f t >> λ y. each_of f ts >> λ ys. Ok (y ∷ ys)
+
 abbrev pub choices_in : Trees Identifier → Result (List (Tree Identifier × Trees Identifier)) (Fault Identifier)
-choices_in no_trees = Ok []
-choices_in (tree t ts) = choice_of t >> λ c. choices_in ts >> λ cs. Ok (c ∷ cs)
+choices_in ts = each_of choice_of ts
 
 -- a definition has no place among expressions
 abbrev pub unless_expression : Bool → Shape → Result Shape (Fault Identifier)

@@ -98,6 +98,13 @@ step_by (Some Spliced) zero true = step.Hole
 step_by (Some Spliced) zero false = step.Misplaced
 step_by (Some Spliced) (suc level) element = step.Level level
 
+-- a level rises by one at most
+abbrev pub IsNear : ℕ → Step → Type 0
+IsNear level step.Into = Unit {0}
+IsNear level (step.Level n) = n ≤ level + 1
+IsNear level step.Hole = Unit {0}
+IsNear level step.Misplaced = Unit {0}
+
 -- holes were added for these trees
 abbrev pub AddsHoles : Work → List number.Tree → List number.Tree → List (Tree Identifier) → Type 0
 AddsHoles work old new holes = (more : List number.Tree) × (new ≡ old ++ more) × AllMatch (StandsFor work) more holes

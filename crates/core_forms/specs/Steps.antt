@@ -1,9 +1,9 @@
 -- Readings of parts of core forms, by the readers of the definitions.
-use Rattle.std.specs.Prelude.{◌≡◌, List, [], ◌∷◌, map, Result, Ok, Err, if◌then◌else◌}
-use Rattle.scheme_model.specs.Trees.{Tree, Trees, no_trees, tree, Tail}
+use Rattle.std.specs.Prelude.{◌≡◌, List, map, Result, Ok, Err, if◌then◌else◌}
+use Rattle.scheme_model.specs.Trees.{Tree, Trees, Tail}
 use Rattle.scheme_model.specs.ExpansionFaults.{Named, Fault, BadForm, ◌>>◌}
 use Rattle.scheme_model.specs.Shapes.{Clause, FieldShape, RecordShape, DefinitionShape, Variable, clause_in, list_of, proper_of, first_of, some_of, name_of, names_of, field_with, named_tree_of, constructor_of, fields_of, distinct, all_among}
-use Rattle.core_forms.specs.Forms.{choices_in}
+use Rattle.core_forms.specs.Forms.{each_of, choices_in}
 use Rattle.scheme_model.specs.Ident.{Ident as Identifier, same_ident}
 
 -- a clause of `case-lambda`
@@ -28,8 +28,7 @@ variable_of ts tail = named_tree_of ts tail >> λ p. Ok (Variable p.0 p.1)
 
 -- local macros in a row, and those of a list
 abbrev pub bindings_in : Trees Identifier → Result (List (Named Identifier × Tree Identifier)) (Fault Identifier)
-bindings_in no_trees = Ok []
-bindings_in (tree t ts) = binding_of t >> λ b. bindings_in ts >> λ bs. Ok (b ∷ bs)
+bindings_in ts = each_of binding_of ts
 
 abbrev pub bindings_of_list : Tree Identifier → Result (List (Named Identifier × Tree Identifier)) (Fault Identifier)
 bindings_of_list t = list_of t >> λ p. proper_of p.0 p.1 >> bindings_in

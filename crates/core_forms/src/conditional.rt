@@ -63,7 +63,8 @@ fn choices_in(alloc: Global, work: &Work, items: &[Tree]) -> Result<Vec<Choice>,
 {
     let mut choices = Vec::new(alloc);
     for item in items {
-        choices.push(choice_of(alloc, work, *item)?)?;
+        let read = choice_of(alloc, work, *item)?;
+        choices.push(read)?;
     }
     Ok(choices)
 }

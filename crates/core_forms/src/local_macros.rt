@@ -67,7 +67,8 @@ fn bindings_in(alloc: Global, work: &Work, items: &[Tree]) -> Result<Vec<LocalMa
 {
     let mut macros = Vec::new(alloc);
     for item in items {
-        macros.push(binding_of(work, *item)?)?;
+        let read = binding_of(work, *item)?;
+        macros.push(read)?;
     }
     Ok(macros)
 }

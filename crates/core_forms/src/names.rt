@@ -50,7 +50,8 @@ pub fn names_of(alloc: Global, work: &Work, items: &[Tree]) -> Result<Vec<NamePa
 {
     let mut names = Vec::new(alloc);
     for item in items {
-        names.push(name_of(work, *item)?)?;
+        let read = name_of(work, *item)?;
+        names.push(read)?;
     }
     Ok(names)
 }
@@ -74,7 +75,8 @@ pub fn formals_in(
             dotted: false,
         }),
         Some(last) => {
-            names.push(name_of(work, last)?)?;
+            let name = name_of(work, last)?;
+            names.push(name)?;
             Ok(Formals {
                 names,
                 dotted: true,
@@ -103,7 +105,8 @@ fn rest_alone(alloc: Global, work: &Work, tree: Tree) -> Result<Formals, CoreFau
         Ends work.now (IsFormals work.now) (formals_of (name i o)) result }
 {
     let mut names = Vec::new(alloc);
-    names.push(name_of(work, tree)?)?;
+    let name = name_of(work, tree)?;
+    names.push(name)?;
     Ok(Formals {
         names,
         dotted: true,

@@ -75,7 +75,8 @@ fn clauses_in(alloc: Global, work: &Work, items: &[Tree]) -> Result<Vec<ClauseSh
 {
     let mut clauses = Vec::new(alloc);
     for item in items {
-        clauses.push(clause_of(alloc, work, *item)?)?;
+        let read = clause_of(alloc, work, *item)?;
+        clauses.push(read)?;
     }
     Ok(clauses)
 }

@@ -11,7 +11,7 @@ ghost use Rattle.scheme_model.specs.Quasiquote.{Mark, hole_of, pieces_of, row_of
 ghost use Rattle.scheme_model.specs.Ident.{Ident as Identifier};
 ghost use Rattle.syntax_tree.specs.Looks.{PartsStand, EndStands};
 ghost use Rattle.syntax_tree.specs.Works.{StandsFor, IsStanding};
-ghost use Rattle.core_forms.specs.Marks.{kind_of, mark_as, mark_of_tree, step_by, keyword_by_number, AreMarks, TellsMarks, CanFind, CanFindParts, CanFindRow};
+ghost use Rattle.core_forms.specs.Marks.{kind_of, mark_as, mark_of_tree, step_by, IsNear, keyword_by_number, AreMarks, TellsMarks, CanFind, CanFindParts, CanFindRow};
 ghost use Rattle.core_forms.specs.Ends.{Ends, HasHoles, AddsPieces, AddsRow};
 
 use crate::fault::CoreFault;
@@ -142,13 +142,15 @@ fn find_row(
         AddsRow work.now holes.old.items holes.new.items (row_of mark ts tail (tail_of mark tail) level element) result }
 {
     let mut inner = level;
+    let mut first = element;
     for k in 0..items.len() {
-        match step_of(work, told, items[k], inner, element && k == 0) {
+        match step_of(work, told, items[k], inner, first) {
             Step::Into => find(work, told, items[k], inner, true, left, holes)?,
             Step::Level(next) => inner = next,
             Step::Hole => return hole_at(work, items, k + 1, end, holes),
             Step::Misplaced => return Err(CoreFault::BadQuasi),
         }
+        first = false;
     }
     match end {
         None => Ok(()),
@@ -186,7 +188,8 @@ fn step_of(
 ) -> Step
     requires standing { IsStanding work.now tree }
     requires small { level + 1 < 2 ^ 32 }
-    ensures { (mark : Identifier → Option Mark) (t : ModelTree Identifier) → TellsMarks work.now told.now mark → StandsFor work.now tree t →
+    ensures near { IsNear level result }
+    ensures value { (mark : Identifier → Option Mark) (t : ModelTree Identifier) → TellsMarks work.now told.now mark → StandsFor work.now tree t →
         result ≡ step_by (mark_of_tree mark t) level element }
 {
     match mark_of(work, told, tree) {

@@ -236,7 +236,8 @@ fn fields_of(alloc: Global, work: &Work, items: &[Tree]) -> Result<Vec<FieldShap
 {
     let mut fields = Vec::new(alloc);
     for item in items {
-        fields.push(field_of(alloc, work, *item)?)?;
+        let read = field_of(alloc, work, *item)?;
+        fields.push(read)?;
     }
     Ok(fields)
 }

@@ -1,0 +1,53 @@
+-- Rows by their first tree, and lists by their tails.
+use Rattle.std.proofs.Common.{◌≡◌, ◌≢◌, ℕ, suc, ◌+◌, ◌<◌, ◌≤◌, List, [], ◌∷◌, length, Bool, true, false, Option, Some, None, Result, Ok, Err, refl, sym, ap, ◌∙◌, subst, arith}
+use Rattle.std.specs.Prelude.{is_some}
+use Rattle.scheme_model.specs.declared.Occ.{Occ}
+use Rattle.scheme_model.specs.Trees.{Tree, name, atom, list, vector, Trees, no_trees, tree, Tail, proper, dotted}
+use Rattle.scheme_model.specs.TreeParts.{count}
+use Rattle.scheme_model.specs.ExpansionFaults.{Fault, BadForm, ◌>>◌}
+use Rattle.scheme_model.specs.Shapes.{if_of}
+use Rattle.scheme_model.specs.Ident.{Ident as Identifier}
+use Rattle.syntax_tree.specs.Works.{StandsFor, IsStanding}
+use Rattle.syntax_tree.specs.Looks.{PartsStand, EndStands, AreStanding}
+use Rattle.syntax_tree.proofs.Looking.{no_end, some_end, count_stands}
+use Rattle.syntax_tree.specs.declared.trees.Work.{Work}
+use Rattle.syntax_tree.specs.declared.trees.nodes.Tree as number
+use Rattle.core_forms.specs.declared.rows.Row.{Row}
+use Rattle.core_forms.specs.declared.rows.Row.TheVariants as rows
+use Rattle.core_forms.specs.Parts.{IsRow}
+
+pub row_empty : (work : Work) (ns : List number.Tree) (ts : Trees Identifier) → ns ≡ [] → PartsStand work ns ts → ts ≡ no_trees
+row_empty work [] no_trees e h = refl
+row_empty work [] (tree t ts) e h = absurd h
+row_empty work (n ∷ ns) ts e h = absurd cc
+
+pub row_parts : (work : Work) (ns : List number.Tree) (n : number.Tree) (ms : List number.Tree) (ts : Trees Identifier) → ns ≡ n ∷ ms → PartsStand work ns ts →
+    (t : Tree Identifier) × ((us : Trees Identifier) × (ts ≡ tree t us) × StandsFor work n t × PartsStand work ms us)
+row_parts work ns n ms no_trees e h = absurd (subst (λ (x : List number.Tree). PartsStand work x no_trees) e h)
+row_parts work ns n ms (tree t us) e h = let g = subst (λ (x : List number.Tree). PartsStand work x (tree t us)) e h in (t, (us, refl, g.0, g.1))
+
+-- `if` of two parts or three
+pub if_two : (ts : Trees Identifier) → count ts ≡ 2 → if_of ts proper ≡ Ok ts
+if_two no_trees h = absurd (omega arith)
+if_two (tree t no_trees) h = absurd (omega arith)
+if_two (tree t (tree u no_trees)) h = refl
+if_two (tree t (tree u (tree v vs))) h = absurd (omega arith)
+
+pub if_three : (ts : Trees Identifier) → count ts ≡ 3 → if_of ts proper ≡ Ok ts
+if_three no_trees h = absurd (omega arith)
+if_three (tree t no_trees) h = absurd (omega arith)
+if_three (tree t (tree u no_trees)) h = absurd (omega arith)
+if_three (tree t (tree u (tree v no_trees))) h = refl
+if_three (tree t (tree u (tree v (tree w vs)))) h = absurd (omega arith)
+
+pub if_few : (ts : Trees Identifier) → count ts < 2 → if_of ts proper ≡ Err BadForm
+if_few no_trees h = refl
+if_few (tree t no_trees) h = refl
+if_few (tree t (tree u us)) h = absurd (omega arith)
+
+pub if_many : (ts : Trees Identifier) → 3 < count ts → if_of ts proper ≡ Err BadForm
+if_many no_trees h = absurd (omega arith)
+if_many (tree t no_trees) h = absurd (omega arith)
+if_many (tree t (tree u no_trees)) h = absurd (omega arith)
+if_many (tree t (tree u (tree v no_trees))) h = absurd (omega arith)
+if_many (tree t (tree u (tree v (tree w vs)))) h = refl
