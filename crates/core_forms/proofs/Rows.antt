@@ -51,3 +51,7 @@ if_many (tree t no_trees) h = absurd (omega arith)
 if_many (tree t (tree u no_trees)) h = absurd (omega arith)
 if_many (tree t (tree u (tree v no_trees))) h = absurd (omega arith)
 if_many (tree t (tree u (tree v (tree w vs)))) h = refl
+
+pub nothing_in : {A : Type 0} (xs : List A) → length xs ≡ 0 → xs ≡ []
+nothing_in [] h = refl
+nothing_in (x ∷ xs) h = absurd (omega arith)

@@ -33,7 +33,7 @@ pub enum MarkKind {
 
 /// What a part of a list asks for: to be gone into, another level behind it, a hole behind it, or a refusal.
 #[derive(Clone, Copy, Debug, PartialEq, Eq)]
-enum Step {
+pub enum Step {
     Into,
     Level(u32),
     Hole,

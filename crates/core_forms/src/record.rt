@@ -11,7 +11,7 @@ ghost use Rattle.syntax_tree.specs.Works.{StandsFor, IsStanding};
 ghost use Rattle.core_forms.specs.Parts.{AllMatch, IsName, IsConstructor, IsField, AreFields};
 ghost use Rattle.core_forms.specs.Steps.{field_of, uses_of, behind_name, behind_constructor, record_with};
 ghost use Rattle.core_forms.specs.Numbers.{has_number, all_numbers};
-ghost use Rattle.core_forms.specs.declared.shape.NamePart.{NamePart};
+ghost use Rattle.core_forms.specs.declared.shape.NamePart.{NamePart as Part};
 ghost use Rattle.core_forms.specs.Ends.{Ends, IsRecordType};
 
 use crate::fault::CoreFault;
@@ -177,7 +177,7 @@ fn numbers_of(alloc: Global, names: &[NamePart]) -> Mem<BTreeSet<IdNo>>
 
 /// Whether the numbers of all names are among these.
 fn are_among(names: &[NamePart], numbers: &BTreeSet<IdNo>) -> bool
-    ensures { (fields : List NamePart) → ((n : ℕ) → contains nat_cmp numbers.now n ≡ has_number fields n) →
+    ensures { (fields : List Part) → ((n : ℕ) → contains nat_cmp numbers.now n ≡ has_number fields n) →
         result ≡ all_numbers names.now fields }
 {
     for name in names {

@@ -69,12 +69,10 @@ pub fn one_of(work: &Work, items: &[Tree], end: Option<Tree>) -> Result<Tree, Co
         Row::Empty => Err(CoreFault::BadForm),
         Row::Parts(first, rest) => match row_of(work, rest) {
             Row::Parts(_, _) => Err(CoreFault::BadForm),
-            Row::Empty => {
-                if end.is_some() {
-                    return Err(CoreFault::BadForm);
-                }
-                Ok(first)
-            }
+            Row::Empty => match end {
+                None => Ok(first),
+                Some(_) => Err(CoreFault::BadForm),
+            },
         },
     }
 }
