@@ -8,20 +8,28 @@ use Rattle.scheme_model.specs.Quasiquote.{Mark, Unquoted, Spliced, pieces}
 use Rattle.scheme_model.specs.Ident.{Ident as Identifier, Written, same_ident}
 use Rattle.core_forms.specs.Forms.{Conditional, Quasi, Choices, shape_of}
 
-a b x unquote splice : Identifier
+abbrev a : Identifier
 a = Written 0 (codes "a")
+
+abbrev b : Identifier
 b = Written 0 (codes "b")
+
+abbrev x : Identifier
 x = Written 0 (codes "x")
+
+abbrev unquote : Identifier
 unquote = Written 0 (codes "unquote")
+
+abbrev splice : Identifier
 splice = Written 0 (codes "unquote-splicing")
 
-at : Identifier → Tree Identifier
+abbrev at : Identifier → Tree Identifier
 at i = name i None
 
-one : Tree Identifier → Trees Identifier
+abbrev one : Tree Identifier → Trees Identifier
 one t = tree t no_trees
 
-mark : Identifier → Option Mark
+abbrev mark : Identifier → Option Mark
 mark i = if same_ident i unquote then Some Unquoted else if same_ident i splice then Some Spliced else None
 
 -- `(if a)` and `(if a b)`

@@ -164,7 +164,7 @@ pub record RowUpTo (work : Work) (old now : List number.Tree) (mark : Identifier
   pub whole : after holes (row_holes (row_of mark (behind k ts) tail (tail_of mark tail) inner first)) ≡ row_holes (row_of mark ts tail (tail_of mark tail) level element)
 
 module _ (work : Work) (old now : List number.Tree) (mark : Identifier → Option Mark) (ts : Trees Identifier) (tail : Tail Identifier) (level : ℕ) (element : Bool) (k inner : ℕ) (first : Bool)
-  (p : RowUpTo work old now mark ts tail level element k inner first) (t : Tree Identifier) (split : behind k ts ≡ tree t (behind (suc k) ts)) where
+    (p : RowUpTo work old now mark ts tail level element k inner first) (t : Tree Identifier) (split : behind k ts ≡ tree t (behind (suc k) ts)) where
   whole_row : after p.holes (row_holes (row_of mark (tree t (behind (suc k) ts)) tail (tail_of mark tail) inner first)) ≡ row_holes (row_of mark ts tail (tail_of mark tail) level element)
   whole_row = sym (ap (λ (x : Trees Identifier). after p.holes (row_holes (row_of mark x tail (tail_of mark tail) inner first))) split) ∙ p.whole
 

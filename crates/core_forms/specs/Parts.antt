@@ -18,7 +18,7 @@ use Rattle.core_forms.specs.declared.shape.ClauseShape as code_clause
 use Rattle.core_forms.specs.declared.shape.FieldShape as code_field
 use Rattle.core_forms.specs.declared.shape.LocalMacro as code_macro
 use Rattle.core_forms.specs.declared.shape.Choice as code_choice
-use Rattle.core_forms.specs.declared.record.Constructor as code_constructor
+use Rattle.core_forms.specs.declared.records.Constructor as code_constructor
 
 -- each of the first stands for one of the second, in order
 abbrev pub AllMatch : {X Y : Type 0} → (X → Y → Type 0) → List X → List Y → Type 0

@@ -105,11 +105,7 @@ fn choice_with(
 }
 
 /// The text of `(syntax-error "text" form ...)`.
-pub fn error_text_of(
-    work: &Work,
-    items: &[Tree],
-    end: Option<Tree>,
-) -> Result<SymNo, CoreFault>
+pub fn error_text_of(work: &Work, items: &[Tree], end: Option<Tree>) -> Result<SymNo, CoreFault>
     requires { AreStanding work.now items.now }
     ensures { (ts : Trees Identifier) (tail : Tail Identifier) → PartsStand work.now items.now ts → EndStands work.now end tail →
         Ends work.now (IsSymbol work.now) (error_text_of ts tail) result }

@@ -17,7 +17,7 @@ use crate::fault::CoreFault;
 use crate::local_macros::local_macros_of;
 use crate::procedure::{case_lambda_of, lambda_of};
 use crate::quasi::holes_of;
-use crate::record::record_of;
+use crate::records::record_of;
 use crate::rows::{one_of, proper_of, some_of};
 use crate::shape::{CoreKeyword, CoreShape, QuasiMark};
 use std::alloc::Global;
@@ -40,7 +40,7 @@ pub fn shape_of(
 {
     match keyword {
         CoreKeyword::Quote => Ok(CoreShape::Quote(one_of(work, items, end)?)),
-        CoreKeyword::Quasiquote => quasi(alloc, work, items, end, marks),
+        CoreKeyword::Quasiquote => quasiquotation(alloc, work, items, end, marks),
         CoreKeyword::Unquote => Err(CoreFault::BadForm),
         CoreKeyword::UnquoteSplicing => Err(CoreFault::BadForm),
         CoreKeyword::Lambda => Ok(CoreShape::Lambda(lambda_of(alloc, work, items, end)?)),
@@ -48,17 +48,23 @@ pub fn shape_of(
             Ok(CoreShape::CaseLambda(case_lambda_of(alloc, work, items, end)?))
         }
         CoreKeyword::If => Ok(CoreShape::If(if_of(alloc, work, items, end)?)),
-        CoreKeyword::Set => set(work, items, end),
-        CoreKeyword::Begin => begin(alloc, work, items, end, expression),
-        CoreKeyword::Define => unless_expression(expression, definition_of(alloc, work, items, end)?),
-        CoreKeyword::DefineValues => unless_expression(expression, values_of(alloc, work, items, end)?),
+        CoreKeyword::Set => assignment(work, items, end),
+        CoreKeyword::Begin => sequence(alloc, work, items, end, expression),
+        CoreKeyword::Define => unless_expression(
+            expression,
+            definition_of(alloc, work, items, end)?,
+        ),
+        CoreKeyword::DefineValues => unless_expression(
+            expression,
+            values_of(alloc, work, items, end)?,
+        ),
         CoreKeyword::DefineRecordType => {
             if expression {
                 return Err(CoreFault::BadPlace);
             }
             record_of(alloc, work, items, end)
         }
-        CoreKeyword::DefineSyntax => unless_expression(expression, syntax(work, items, end)?),
+        CoreKeyword::DefineSyntax => unless_expression(expression, define_syntax(work, items, end)?),
         CoreKeyword::LetSyntax => local_macros_of(alloc, work, items, end),
         CoreKeyword::LetrecSyntax => local_macros_of(alloc, work, items, end),
         CoreKeyword::CondExpand => {
@@ -82,7 +88,7 @@ fn unless_expression(expression: bool, shape: CoreShape) -> Result<CoreShape, Co
 }
 
 /// `(quasiquote datum)`.
-fn quasi(
+fn quasiquotation(
     alloc: Global,
     work: &Work,
     items: &[Tree],
@@ -100,7 +106,7 @@ fn quasi(
 }
 
 /// `(set! id e)`.
-fn set(work: &Work, items: &[Tree], end: Option<Tree>) -> Result<CoreShape, CoreFault>
+fn assignment(work: &Work, items: &[Tree], end: Option<Tree>) -> Result<CoreShape, CoreFault>
     requires { AreStanding work.now items.now }
     ensures { (mark : Identifier → Option Mark) (ts : Trees Identifier) (tail : Tail Identifier) → PartsStand work.now items.now ts →
         EndStands work.now end tail → Ends work.now (ShapeFor work.now) (shape_of IsSet true mark ts tail) result }
@@ -113,7 +119,7 @@ fn set(work: &Work, items: &[Tree], end: Option<Tree>) -> Result<CoreShape, Core
 }
 
 /// `(begin form ...)`, with one form at least as an expression.
-fn begin(
+fn sequence(
     alloc: Global,
     work: &Work,
     items: &[Tree],
@@ -131,7 +137,7 @@ fn begin(
 }
 
 /// `(define-syntax id rules)`.
-fn syntax(work: &Work, items: &[Tree], end: Option<Tree>) -> Result<CoreShape, CoreFault>
+fn define_syntax(work: &Work, items: &[Tree], end: Option<Tree>) -> Result<CoreShape, CoreFault>
     requires { AreStanding work.now items.now }
     ensures { (ts : Trees Identifier) (tail : Tail Identifier) → PartsStand work.now items.now ts → EndStands work.now end tail →
         Ends work.now (IsSyntax work.now) (named_tree_of ts tail) result }

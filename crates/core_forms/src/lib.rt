@@ -25,13 +25,14 @@ mod local_macros;
 mod names;
 mod procedure;
 mod quasi;
-mod record;
+mod records;
 mod rows;
 mod shape;
 
 pub use fault::CoreFault;
 pub use shape::{
-    Choice, ClauseShape, CoreKeyword, CoreShape, FieldShape, Formals, LocalMacro, NamePart, QuasiMark,
+    Choice, ClauseShape, CoreKeyword, CoreShape, FieldShape, Formals, LocalMacro, NamePart,
+    QuasiMark,
 };
 
 /// The shape of a core form, or the lowest fault that holds. The form's first part, its keyword, isn't looked at. The marks are the
@@ -54,7 +55,15 @@ pub fn parse_core(
         Look::List(items, end) => match rows::row_of(work, items) {
             rows::Row::Empty => Err(CoreFault::BadForm),
             rows::Row::Parts(_, rest) => {
-                forms::shape_of(alloc, work, keyword, rest, end, expression, marks.as_slice())
+                forms::shape_of(
+                    alloc,
+                    work,
+                    keyword,
+                    rest,
+                    end,
+                    expression,
+                    marks.as_slice(),
+                )
             }
         },
         Look::Name(_) => Err(CoreFault::BadForm),
