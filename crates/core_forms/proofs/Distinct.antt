@@ -2,9 +2,9 @@
 use Rattle.std.proofs.Common.{◌≡◌, ℕ, zero, suc, ◌<◌, ◌≤◌, List, [], ◌∷◌, length, map, drop, get_or, Bool, true, false, not, ◌||◌, Option, Some, None, Result, Ok, Err, refl, sym, ap, ◌∙◌, subst, arith}
 use Rattle.std.specs.Prelude.{nat_eq, if◌then◌else◌}
 use Rattle.std.specs.List.{list_any}
-use Rattle.scheme_model.specs.Trees.{Tree, Trees, no_trees, tree, Tail}
+use Rattle.scheme_model.specs.Trees.{Tree, name, atom, list, vector, Trees, no_trees, tree, Tail, proper, dotted}
 use Rattle.scheme_model.specs.ExpansionFaults.{Named, Fault, DuplicateBinder, ◌>>◌}
-use Rattle.scheme_model.specs.Shapes.{Clause, FieldShape as ModelField, is_among, distinct_from, all_among, list_of, named_tree_of, bindings_of}
+use Rattle.scheme_model.specs.Shapes.{Clause, FieldShape as ModelField, LocalMacros, is_among, distinct, distinct_from, all_among, list_of, proper_of, some_of, named_tree_of, bindings_of, local_macros_of}
 use Rattle.scheme_model.specs.Ident.{Ident as Identifier, same_ident}
 use Rattle.syntax_tree.specs.Names.{Names, AreToldApart}
 use Rattle.syntax_tree.specs.Macros.{IsIdent, AreIdents}
@@ -15,7 +15,7 @@ use Rattle.core_forms.specs.Numbers.{twice_by_number, has_number, all_numbers}
 use Rattle.core_forms.specs.declared.shape.ClauseShape.{ClauseShape}
 use Rattle.core_forms.specs.declared.shape.FieldShape.{FieldShape}
 use Rattle.core_forms.specs.declared.shape.LocalMacro.{LocalMacro}
-use Rattle.core_forms.specs.Steps.{binding_of, bindings_in}
+use Rattle.core_forms.specs.Steps.{binding_of, bindings_in, bindings_of_list}
 use Rattle.core_forms.specs.Parts.{AllMatch, IsName, IsClause, IsField, IsMacro, AreMacros}
 
 -- a number that stands twice is that of the fault
@@ -135,3 +135,34 @@ bindings_are (tree t ts) =
     list_step (list_of t) (bindings_of ts)
     ∙ ap (λ (s : Result (List (Named Identifier) × Trees Identifier) (Fault Identifier)). binding_of t >> λ b. s >> λ bs. Ok (b.0 ∷ bs.0, tree b.1 bs.1)) (bindings_are ts)
     ∙ binding_step (binding_of t) (bindings_in ts)
+
+-- the list of macros is read to pairs first
+list_of_bindings : (t : Tree Identifier) → (list_of t >> λ q. proper_of q.0 q.1 >> bindings_of) ≡ as_bindings (bindings_of_list t)
+list_of_bindings (name i o) = refl
+list_of_bindings (atom a o) = refl
+list_of_bindings (list ts proper o) = bindings_are ts
+list_of_bindings (list ts (dotted u) o) = refl
+list_of_bindings (vector ts o) = refl
+
+-- local macros, by the pairs
+abbrev pub local_by : Tree Identifier → Trees Identifier → Tail Identifier → Result (LocalMacros Identifier) (Fault Identifier)
+local_by t us tail =
+    bindings_of_list t >> λ m. some_of us tail >> λ b. distinct same_ident (map (λ p. p.0) m) >> λ u. Ok (record { names = map (λ p. p.0) m; rules = rules_among m; body = b })
+
+local_step : (q : Result (Trees Identifier × Tail Identifier) (Fault Identifier)) (us : Trees Identifier) (tail : Tail Identifier) →
+    (q >> λ q. proper_of q.0 q.1 >> bindings_of >> λ bs. some_of us tail >> λ body. distinct same_ident bs.0 >> λ done. Ok (record { names = bs.0; rules = bs.1; body = body }))
+    ≡ ((q >> λ q. proper_of q.0 q.1 >> bindings_of) >> λ bs. some_of us tail >> λ body. distinct same_ident bs.0 >> λ done. Ok (record { names = bs.0; rules = bs.1; body = body }))
+local_step (Ok q) us tail = refl
+local_step (Err e) us tail = refl
+
+pair_step : (m : Result (List (Named Identifier × Tree Identifier)) (Fault Identifier)) (us : Trees Identifier) (tail : Tail Identifier) →
+    (as_bindings m >> λ bs. some_of us tail >> λ body. distinct same_ident bs.0 >> λ done. Ok (record { names = bs.0; rules = bs.1; body = body }))
+    ≡ (m >> λ m. some_of us tail >> λ b. distinct same_ident (map (λ p. p.0) m) >> λ u. Ok (record { names = map (λ p. p.0) m; rules = rules_among m; body = b }))
+pair_step (Ok m) us tail = refl
+pair_step (Err e) us tail = refl
+
+pub local_is : (t : Tree Identifier) (us : Trees Identifier) (tail : Tail Identifier) → local_macros_of same_ident (tree t us) tail ≡ local_by t us tail
+local_is t us tail =
+    local_step (list_of t) us tail
+    ∙ ap (λ (x : Result (List (Named Identifier) × Trees Identifier) (Fault Identifier)). x >> λ bs. some_of us tail >> λ body. distinct same_ident bs.0 >> λ done. Ok (record { names = bs.0; rules = bs.1; body = body })) (list_of_bindings t)
+    ∙ pair_step (bindings_of_list t) us tail

@@ -1,20 +1,15 @@
 -- Rows by their first tree, and lists by their tails.
-use Rattle.std.proofs.Common.{◌≡◌, ◌≢◌, ℕ, suc, ◌+◌, ◌<◌, ◌≤◌, List, [], ◌∷◌, length, Bool, true, false, Option, Some, None, Result, Ok, Err, refl, sym, ap, ◌∙◌, subst, arith}
-use Rattle.std.specs.Prelude.{is_some}
-use Rattle.scheme_model.specs.declared.Occ.{Occ}
-use Rattle.scheme_model.specs.Trees.{Tree, name, atom, list, vector, Trees, no_trees, tree, Tail, proper, dotted}
+use Rattle.std.proofs.Common.{◌≡◌, ◌<◌, List, [], ◌∷◌, ◌++◌, length, Option, Some, None, Result, Ok, Err, refl, subst, arith}
+use Rattle.std.proofs.lemmas.Option.{same_Some}
+use Rattle.scheme_model.specs.Trees.{Tree, Trees, no_trees, tree, Tail, proper, dotted}
 use Rattle.scheme_model.specs.TreeParts.{count}
-use Rattle.scheme_model.specs.ExpansionFaults.{Fault, BadForm, ◌>>◌}
-use Rattle.scheme_model.specs.Shapes.{if_of}
+use Rattle.scheme_model.specs.ExpansionFaults.{Named, Fault, BadForm, ◌>>◌}
+use Rattle.scheme_model.specs.Shapes.{Formals, name_of, names_of, formals_in, if_of}
 use Rattle.scheme_model.specs.Ident.{Ident as Identifier}
-use Rattle.syntax_tree.specs.Works.{StandsFor, IsStanding}
-use Rattle.syntax_tree.specs.Looks.{PartsStand, EndStands, AreStanding}
-use Rattle.syntax_tree.proofs.Looking.{no_end, some_end, count_stands}
+use Rattle.syntax_tree.specs.Works.{StandsFor}
+use Rattle.syntax_tree.specs.Looks.{PartsStand, EndStands}
 use Rattle.syntax_tree.specs.declared.trees.Work.{Work}
 use Rattle.syntax_tree.specs.declared.trees.nodes.Tree as number
-use Rattle.core_forms.specs.declared.rows.Row.{Row}
-use Rattle.core_forms.specs.declared.rows.Row.TheVariants as rows
-use Rattle.core_forms.specs.Parts.{IsRow}
 
 pub row_empty : (work : Work) (ns : List number.Tree) (ts : Trees Identifier) → ns ≡ [] → PartsStand work ns ts → ts ≡ no_trees
 row_empty work [] no_trees e h = refl
@@ -55,3 +50,14 @@ if_many (tree t (tree u (tree v (tree w vs)))) h = refl
 pub nothing_in : {A : Type 0} (xs : List A) → length xs ≡ 0 → xs ≡ []
 nothing_in [] h = refl
 nothing_in (x ∷ xs) h = absurd (omega arith)
+
+-- formals begin with the names before the tail
+pub formals_start : (ts : Trees Identifier) (tail : Tail Identifier) → (f : (List (Named Identifier) → Result (Formals Identifier) (Fault Identifier))) × (formals_in ts tail ≡ (names_of ts >> f))
+formals_start ts proper = ((λ ns. Ok (record { names = ns; rest = false })), refl)
+formals_start ts (dotted t) = ((λ ns. name_of t >> λ n. Ok (record { names = ns ++ n ∷ []; rest = true })), refl)
+
+-- the tree of a tail that is there
+pub end_tree : (work : Work) (end : Option number.Tree) (n : number.Tree) (tail : Tail Identifier) → end ≡ Some n → EndStands work end tail → (t : Tree Identifier) × (tail ≡ dotted t) × StandsFor work n t
+end_tree work None n tail e h = absurd cc
+end_tree work (Some m) n proper e h = absurd h
+end_tree work (Some m) n (dotted t) e h = (t, refl, subst (λ (x : number.Tree). StandsFor work x t) (same_Some m n e) h.1)

@@ -64,7 +64,10 @@ pub fn shape_of(
             }
             record_of(alloc, work, items, end)
         }
-        CoreKeyword::DefineSyntax => unless_expression(expression, define_syntax(work, items, end)?),
+        CoreKeyword::DefineSyntax => unless_expression(
+            expression,
+            define_syntax(work, items, end)?,
+        ),
         CoreKeyword::LetSyntax => local_macros_of(alloc, work, items, end),
         CoreKeyword::LetrecSyntax => local_macros_of(alloc, work, items, end),
         CoreKeyword::CondExpand => {

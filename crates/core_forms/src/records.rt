@@ -1,10 +1,10 @@
 //! `define-record-type` (R7RS 5.5).
-ghost use Rattle.std.specs.Prelude.{◌≡◌, ℕ, List, map, IfOk};
+ghost use Rattle.std.specs.Prelude.{◌≡◌, ℕ, List, map, Result, IfOk};
 ghost use Rattle.std.specs.BTreeSet.{contains};
 ghost use Rattle.std.specs.Ordering.{nat_cmp};
 ghost use Rattle.scheme_model.specs.Trees.{Tree as ModelTree, Trees, Tail};
-ghost use Rattle.scheme_model.specs.ExpansionFaults.{Named};
-ghost use Rattle.scheme_model.specs.Shapes.{FieldShape as ModelField, constructor_of, fields_of, field_with, all_among, record_in, record_of};
+ghost use Rattle.scheme_model.specs.ExpansionFaults.{Named, Fault};
+ghost use Rattle.scheme_model.specs.Shapes.{FieldShape as ModelField, RecordShape as ModelRecord, or_bad_record, constructor_of, fields_of, field_with, all_among, record_in, record_of};
 ghost use Rattle.scheme_model.specs.Ident.{Ident as Identifier, same_ident};
 ghost use Rattle.syntax_tree.specs.Looks.{PartsStand, EndStands, AreStanding};
 ghost use Rattle.syntax_tree.specs.Works.{StandsFor, IsStanding};
@@ -12,7 +12,7 @@ ghost use Rattle.core_forms.specs.Parts.{AllMatch, IsName, IsConstructor, IsFiel
 ghost use Rattle.core_forms.specs.Steps.{field_of, uses_of, behind_name, behind_constructor, record_with};
 ghost use Rattle.core_forms.specs.Numbers.{has_number, all_numbers};
 ghost use Rattle.core_forms.specs.declared.shape.NamePart.{NamePart as Part};
-ghost use Rattle.core_forms.specs.Ends.{Ends, IsRecordType};
+ghost use Rattle.core_forms.specs.Ends.{Ends, Refuses, IsRecordType};
 
 use crate::fault::CoreFault;
 use crate::names::{distinct, name_of, names_of};
@@ -45,8 +45,22 @@ pub fn record_of(
 {
     match record_in(alloc, work, items, end) {
         Ok(shape) => Ok(shape),
-        Err(CoreFault::Memory) => Err(CoreFault::Memory),
-        Err(_) => Err(CoreFault::BadRecord),
+        Err(fault) => Err(as_bad_record(work, fault)),
+    }
+}
+
+/// Whatever is wrong with a record is `BadRecord`.
+fn as_bad_record(work: &Work, fault: CoreFault) -> CoreFault
+    ensures { (s : Result (ModelRecord Identifier) (Fault Identifier)) → Refuses work.now fault s →
+        Refuses work.now result (or_bad_record s) }
+{
+    match fault {
+        CoreFault::BadForm => CoreFault::BadRecord,
+        CoreFault::DuplicateBinder(_) => CoreFault::BadRecord,
+        CoreFault::BadPlace => CoreFault::BadRecord,
+        CoreFault::BadRecord => CoreFault::BadRecord,
+        CoreFault::BadQuasi => CoreFault::BadRecord,
+        CoreFault::Memory => CoreFault::Memory,
     }
 }
 
