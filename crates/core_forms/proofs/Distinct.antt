@@ -3,8 +3,8 @@ use Rattle.std.proofs.Common.{◌≡◌, ℕ, zero, suc, ◌<◌, ◌≤◌, Lis
 use Rattle.std.specs.Prelude.{nat_eq, if◌then◌else◌}
 use Rattle.std.specs.List.{list_any}
 use Rattle.scheme_model.specs.Trees.{Tree, name, atom, list, vector, Trees, no_trees, tree, Tail, proper, dotted}
-use Rattle.scheme_model.specs.ExpansionFaults.{Named, Fault, DuplicateBinder, ◌>>◌}
-use Rattle.scheme_model.specs.Shapes.{Clause, FieldShape as ModelField, LocalMacros, is_among, distinct, distinct_from, all_among, list_of, proper_of, some_of, named_tree_of, bindings_of, local_macros_of}
+use Rattle.scheme_model.specs.ExpansionFaults.{Named, Fault, BadForm, DuplicateBinder, ◌>>◌}
+use Rattle.scheme_model.specs.Shapes.{Clause, FieldShape as ModelField, LocalMacros, RecordShape, is_among, distinct, distinct_from, all_among, list_of, proper_of, some_of, named_tree_of, bindings_of, local_macros_of}
 use Rattle.scheme_model.specs.Ident.{Ident as Identifier, same_ident}
 use Rattle.syntax_tree.specs.Names.{Names, AreToldApart}
 use Rattle.syntax_tree.specs.Macros.{IsIdent, AreIdents}
@@ -15,7 +15,7 @@ use Rattle.core_forms.specs.Numbers.{twice_by_number, has_number, all_numbers}
 use Rattle.core_forms.specs.declared.shape.ClauseShape.{ClauseShape}
 use Rattle.core_forms.specs.declared.shape.FieldShape.{FieldShape}
 use Rattle.core_forms.specs.declared.shape.LocalMacro.{LocalMacro}
-use Rattle.core_forms.specs.Steps.{binding_of, bindings_in, bindings_of_list}
+use Rattle.core_forms.specs.Steps.{binding_of, bindings_in, bindings_of_list, record_with}
 use Rattle.core_forms.specs.Parts.{AllMatch, IsName, IsClause, IsField, IsMacro, AreMacros}
 
 -- a number that stands twice is that of the fault
@@ -166,3 +166,22 @@ local_is t us tail =
     local_step (list_of t) us tail
     ∙ ap (λ (x : Result (List (Named Identifier) × Trees Identifier) (Fault Identifier)). x >> λ bs. some_of us tail >> λ body. distinct same_ident bs.0 >> λ done. Ok (record { names = bs.0; rules = bs.1; body = body })) (list_of_bindings t)
     ∙ pair_step (bindings_of_list t) us tail
+
+-- ---- the fields that a constructor uses
+
+pub not_false : (b : Bool) → not b ≡ false → b ≡ true
+not_false true h = refl
+not_false false h = absurd cc
+
+module _ (n : Named Identifier) (k : Named Identifier × List (Named Identifier)) (p : Named Identifier) (fs : List (ModelField Identifier)) (u : Unit {0}) (h : distinct same_ident (map (λ f. f.field) fs) ≡ Ok u) where
+  whole : RecordShape Identifier
+  whole = record { type = n; constructor = k.0; used = k.1; predicate = p; fields = fs }
+
+  after_names : record_with n k p fs ≡ (if all_among same_ident k.1 (map (λ f. f.field) fs) then Ok whole else Err BadForm)
+  after_names = ap (λ (x : Result (Unit {0}) (Fault Identifier)). x >> λ done. if all_among same_ident k.1 (map (λ f. f.field) fs) then Ok whole else Err BadForm) h
+
+  pub uses_all : all_among same_ident k.1 (map (λ f. f.field) fs) ≡ true → record_with n k p fs ≡ Ok whole
+  uses_all e = after_names ∙ ap (λ (b : Bool). if b then Ok whole else Err BadForm) e
+
+  pub uses_not : all_among same_ident k.1 (map (λ f. f.field) fs) ≡ false → record_with n k p fs ≡ Err BadForm
+  uses_not e = after_names ∙ ap (λ (b : Bool). if b then Ok whole else Err BadForm) e

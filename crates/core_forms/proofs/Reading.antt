@@ -5,7 +5,7 @@ use Rattle.std.proofs.lemmas.List.{append-nil}
 use Rattle.scheme_model.specs.Trees.{Tree, Trees, no_trees, tree}
 use Rattle.scheme_model.specs.Matching.{behind}
 use Rattle.scheme_model.specs.ExpansionFaults.{Named, Fault, BadForm, DuplicateBinder, BadPlace, BadRecord, BadQuasi, ◌>>◌}
-use Rattle.scheme_model.specs.Shapes.{Clause, FieldShape, name_of, names_of, clauses_in, fields_of}
+use Rattle.scheme_model.specs.Shapes.{Clause, FieldShape, name_of, names_of, list_of, proper_of, clause_in, clauses_in, field_with, fields_of}
 use Rattle.scheme_model.specs.Ident.{Ident as Identifier}
 use Rattle.syntax_tree.specs.Macros.{IsIdent}
 use Rattle.syntax_tree.specs.declared.trees.Work.{Work}
@@ -50,19 +50,22 @@ pub names_each : (ts : Trees Identifier) → names_of ts ≡ each_of name_of ts
 names_each no_trees = refl
 names_each (tree t ts) = ap (λ (x : Result (List (Named Identifier)) (Fault Identifier)). name_of t >> λ n. x >> λ ns. Ok (n ∷ ns)) (names_each ts)
 
-clause_step : (t : Tree Identifier) (x : Result (List (Clause Identifier)) (Fault Identifier)) (ts : Trees Identifier) → clauses_in ts ≡ x → clauses_in (tree t ts) ≡ (clause_of t >> λ c. x >> λ cs. Ok (c ∷ cs))
-clause_step t x ts h = grind (arith, h)
-
-field_step : (t : Tree Identifier) (x : Result (List (FieldShape Identifier)) (Fault Identifier)) (ts : Trees Identifier) → fields_of ts ≡ x → fields_of (tree t ts) ≡ (field_of t >> λ c. x >> λ cs. Ok (c ∷ cs))
-field_step t x ts h = grind (arith, h)
+-- readings one after another, however they are grouped
+pub grouped : {X Y Z : Type 0} (a : Result X (Fault Identifier)) (f : X → Result Y (Fault Identifier)) (g : Y → Result Z (Fault Identifier)) → ((a >> f) >> g) ≡ (a >> λ x. f x >> g)
+grouped (Ok x) f g = refl
+grouped (Err e) f g = refl
 
 pub clauses_each : (ts : Trees Identifier) → clauses_in ts ≡ each_of clause_of ts
 clauses_each no_trees = refl
-clauses_each (tree t ts) = clause_step t (each_of clause_of ts) ts (clauses_each ts)
+clauses_each (tree t ts) =
+    ap (λ (x : Result (List (Clause Identifier)) (Fault Identifier)). list_of t >> λ p. clause_in p.0 p.1 >> λ c. x >> λ cs. Ok (c ∷ cs)) (clauses_each ts)
+    ∙ sym (grouped (list_of t) (λ p. clause_in p.0 p.1) (λ c. each_of clause_of ts >> λ cs. Ok (c ∷ cs)))
 
 pub fields_each : (ts : Trees Identifier) → fields_of ts ≡ each_of field_of ts
 fields_each no_trees = refl
-fields_each (tree t ts) = field_step t (each_of field_of ts) ts (fields_each ts)
+fields_each (tree t ts) =
+    ap (λ (x : Result (List (FieldShape Identifier)) (Fault Identifier)). list_of t >> λ p. proper_of p.0 p.1 >> names_of >> field_with >> λ f. x >> λ fs. Ok (f ∷ fs)) (fields_each ts)
+    ∙ sym (grouped (list_of t) (λ p. proper_of p.0 p.1 >> names_of >> field_with) (λ f. each_of field_of ts >> λ fs. Ok (f ∷ fs)))
 
 -- so many came before
 abbrev pub after : {A : Type 0} → List A → Result (List A) (Fault Identifier) → Result (List A) (Fault Identifier)

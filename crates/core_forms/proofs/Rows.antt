@@ -1,10 +1,11 @@
 -- Rows by their first tree, and lists by their tails.
-use Rattle.std.proofs.Common.{◌≡◌, ◌<◌, List, [], ◌∷◌, ◌++◌, length, Option, Some, None, Result, Ok, Err, refl, subst, arith}
+use Rattle.std.proofs.Common.{◌≡◌, ◌≢◌, ℕ, zero, suc, ◌+◌, ◌<◌, ◌≤◌, List, [], ◌∷◌, ◌++◌, length, Option, Some, None, Result, Ok, Err, refl, subst, arith}
 use Rattle.std.proofs.lemmas.Option.{same_Some}
 use Rattle.scheme_model.specs.Trees.{Tree, Trees, no_trees, tree, Tail, proper, dotted}
 use Rattle.scheme_model.specs.TreeParts.{count}
+use Rattle.scheme_model.specs.Matching.{behind}
 use Rattle.scheme_model.specs.ExpansionFaults.{Named, Fault, BadForm, ◌>>◌}
-use Rattle.scheme_model.specs.Shapes.{Formals, name_of, names_of, formals_in, if_of}
+use Rattle.scheme_model.specs.Shapes.{Formals, name_of, names_of, formals_in, one_of, if_of}
 use Rattle.scheme_model.specs.Ident.{Ident as Identifier}
 use Rattle.syntax_tree.specs.Works.{StandsFor}
 use Rattle.syntax_tree.specs.Looks.{PartsStand, EndStands}
@@ -21,20 +22,7 @@ pub row_parts : (work : Work) (ns : List number.Tree) (n : number.Tree) (ms : Li
 row_parts work ns n ms no_trees e h = absurd (subst (λ (x : List number.Tree). PartsStand work x no_trees) e h)
 row_parts work ns n ms (tree t us) e h = let g = subst (λ (x : List number.Tree). PartsStand work x (tree t us)) e h in (t, (us, refl, g.0, g.1))
 
--- `if` of two parts or three
-pub if_two : (ts : Trees Identifier) → count ts ≡ 2 → if_of ts proper ≡ Ok ts
-if_two no_trees h = absurd (omega arith)
-if_two (tree t no_trees) h = absurd (omega arith)
-if_two (tree t (tree u no_trees)) h = refl
-if_two (tree t (tree u (tree v vs))) h = absurd (omega arith)
-
-pub if_three : (ts : Trees Identifier) → count ts ≡ 3 → if_of ts proper ≡ Ok ts
-if_three no_trees h = absurd (omega arith)
-if_three (tree t no_trees) h = absurd (omega arith)
-if_three (tree t (tree u no_trees)) h = absurd (omega arith)
-if_three (tree t (tree u (tree v no_trees))) h = refl
-if_three (tree t (tree u (tree v (tree w vs)))) h = absurd (omega arith)
-
+-- `if` has two parts or three
 pub if_few : (ts : Trees Identifier) → count ts < 2 → if_of ts proper ≡ Err BadForm
 if_few no_trees h = refl
 if_few (tree t no_trees) h = refl
@@ -61,3 +49,30 @@ pub end_tree : (work : Work) (end : Option number.Tree) (n : number.Tree) (tail 
 end_tree work None n tail e h = absurd cc
 end_tree work (Some m) n proper e h = absurd h
 end_tree work (Some m) n (dotted t) e h = (t, refl, subst (λ (x : number.Tree). StandsFor work x t) (same_Some m n e) h.1)
+
+-- ---- one tree alone
+
+pub one_not : (ts : Trees Identifier) (tail : Tail Identifier) → count ts ≢ 1 → one_of ts tail ≡ Err BadForm
+one_not no_trees tail h = refl
+one_not (tree t no_trees) tail h = absurd (h refl)
+one_not (tree t (tree u us)) tail h = refl
+
+pub one_dotted : (ts : Trees Identifier) (u : Tree Identifier) → one_of ts (dotted u) ≡ Err BadForm
+one_dotted no_trees u = refl
+one_dotted (tree t no_trees) u = refl
+one_dotted (tree t (tree v vs)) u = refl
+
+pub count_behind : (k : ℕ) (ts : Trees Identifier) → k ≤ count ts → count (behind k ts) + k ≡ count ts
+count_behind zero ts h = omega arith
+count_behind (suc k) no_trees h = absurd (omega arith)
+count_behind (suc k) (tree t ts) h = omega (arith, count_behind k ts (omega arith))
+
+pub if_fits : (ts : Trees Identifier) → 2 ≤ count ts → count ts ≤ 3 → if_of ts proper ≡ Ok ts
+if_fits no_trees h g = absurd (omega arith)
+if_fits (tree t no_trees) h g = absurd (omega arith)
+if_fits (tree t (tree u no_trees)) h g = refl
+if_fits (tree t (tree u (tree v no_trees))) h g = refl
+if_fits (tree t (tree u (tree v (tree w vs)))) h g = absurd (omega arith)
+
+pub if_dotted : (ts : Trees Identifier) (u : Tree Identifier) → if_of ts (dotted u) ≡ Err BadForm
+if_dotted ts u = refl

@@ -28,7 +28,13 @@ pub fn if_of(
     ensures { (ts : Trees Identifier) (tail : Tail Identifier) → PartsStand work.now items.now ts → EndStands work.now end tail →
         Ends work.now (AreTrees work.now) (if_of ts tail) result }
 {
-    if end.is_some() || items.len() < 2 || items.len() > 3 {
+    if end.is_some() {
+        return Err(CoreFault::BadForm);
+    }
+    if items.len() < 2 {
+        return Err(CoreFault::BadForm);
+    }
+    if items.len() > 3 {
         return Err(CoreFault::BadForm);
     }
     Ok(Vec::from_slice(alloc, items)?)

@@ -171,11 +171,16 @@ fn hole_at(
         EndStands work.now end tail →
         AddsRow work.now holes.old.items holes.new.items (hole_of i o (one_of (behind at ts) tail)) result }
 {
-    if items.len() != at + 1 || end.is_some() {
+    if items.len() != at + 1 {
         return Err(CoreFault::BadQuasi);
     }
-    holes.push(items[at])?;
-    Ok(())
+    match end {
+        None => {
+            holes.push(items[at])?;
+            Ok(())
+        }
+        Some(_) => Err(CoreFault::BadQuasi),
+    }
 }
 
 /// What a part of a list asks for at a level.
