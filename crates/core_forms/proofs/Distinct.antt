@@ -67,6 +67,13 @@ all_is work apart (u ∷ us) fs (x ∷ xs) ys h g =
     let rest = all_is work apart us fs xs ys h.1 g in
     λ k. if first k then rest k else false
 
+-- one name of some
+pub numbers_no : (fields ns : List NamePart) (n : NamePart) (us : List NamePart) → ns ≡ n ∷ us → has_number fields n.ident ≡ false → all_numbers ns fields ≡ false
+numbers_no fields ns n us e h = ap (λ (x : List NamePart). all_numbers x fields) e ∙ ap (λ (b : Bool). if b then all_numbers us fields else false) h
+
+pub numbers_yes : (fields ns : List NamePart) (n : NamePart) (us : List NamePart) → ns ≡ n ∷ us → has_number fields n.ident ≡ true → all_numbers ns fields ≡ all_numbers us fields
+numbers_yes fields ns n us e h = ap (λ (x : List NamePart). all_numbers x fields) e ∙ ap (λ (b : Bool). if b then all_numbers us fields else false) h
+
 -- ---- clauses one after another
 
 -- the clause at a place
@@ -75,11 +82,14 @@ pub record IsClauseAt (work : Work) (cs : List (Clause Identifier)) (k : ℕ) (n
   pub is : IsClause work n clause
   pub split : drop k cs ≡ clause ∷ drop (suc k) cs
 
-pub clause_there : (work : Work) (k : ℕ) (ns : List ClauseShape) (cs : List (Clause Identifier)) (d : ClauseShape) → AllMatch (IsClause work) ns cs → k < length ns → IsClauseAt work cs k (get_or ns k d)
-clause_there work k [] cs d h l = absurd (omega arith)
-clause_there work k (n ∷ ns) [] d h l = absurd h
-clause_there work zero (n ∷ ns) (c ∷ cs) d h l = record { clause = c; is = h.0; split = refl }
-clause_there work (suc k) (n ∷ ns) (c ∷ cs) d h l = let p = clause_there work k ns cs d h.1 (omega arith) in record { clause = p.clause; is = p.is; split = p.split }
+clause_at : (work : Work) (k : ℕ) (ns : List ClauseShape) (cs : List (Clause Identifier)) (d : ClauseShape) → AllMatch (IsClause work) ns cs → k < length ns → IsClauseAt work cs k (get_or ns k d)
+clause_at work k [] cs d h l = absurd (omega arith)
+clause_at work k (n ∷ ns) [] d h l = absurd h
+clause_at work zero (n ∷ ns) (c ∷ cs) d h l = record { clause = c; is = h.0; split = refl }
+clause_at work (suc k) (n ∷ ns) (c ∷ cs) d h l = let p = clause_at work k ns cs d h.1 (omega arith) in record { clause = p.clause; is = p.is; split = p.split }
+
+pub clause_there : (work : Work) (k : ℕ) (ns : List ClauseShape) (cs : List (Clause Identifier)) (n : ClauseShape) → AllMatch (IsClause work) ns cs → k < length ns → n ≡ get_or ns k n → IsClauseAt work cs k n
+clause_there work k ns cs n h l e = subst (IsClauseAt work cs k) (sym e) (clause_at work k ns cs n h l)
 
 pub clauses_past : (work : Work) (k : ℕ) (ns : List ClauseShape) (cs : List (Clause Identifier)) → AllMatch (IsClause work) ns cs → length ns ≤ k → drop k cs ≡ []
 clauses_past work zero [] [] h l = refl

@@ -1,8 +1,9 @@
 pub mod Reading
-pub mod Rows
+pub mod Lists
 pub mod Words
 pub mod Distinct
 pub mod Marking
-pub mod Quasi
+pub mod Holes
 pub mod Finding
 mod FormRows
+pub mod Fields

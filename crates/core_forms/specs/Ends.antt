@@ -51,12 +51,12 @@ keyword_as word.IncludeCi = Some IsInclude
 
 -- ---- shapes
 
-pub record IsRecord (work : Work) (n c : code_name.NamePart) (used : Vec code_name.NamePart Global) (p : code_name.NamePart) (fields : Vec code_field.FieldShape Global) (r : RecordShape Identifier) : Type 0 where
+pub record IsRecord (work : Work) (n c : code_name.NamePart) (us : Vec code_name.NamePart Global) (p : code_name.NamePart) (fs : Vec code_field.FieldShape Global) (r : RecordShape Identifier) : Type 0 where
   pub type : IsName work n r.type
   pub constructor : IsName work c r.constructor
-  pub used : AreNames work used r.used
+  pub used : AreNames work us r.used
   pub predicate : IsName work p r.predicate
-  pub fields : AreFields work fields r.fields
+  pub fields : AreFields work fs r.fields
 
 -- the shape of the code stands for the shape of the definitions
 abbrev pub ShapeFor : Work → code.CoreShape → Shape → Type 0

@@ -1,11 +1,12 @@
 //! Identifiers with their places, formals (R7RS 4.1.4), and names that are to differ.
-ghost use Rattle.std.specs.Prelude.{◌≡◌, List, [], Option, IfOk};
+ghost use Rattle.std.specs.Prelude.{◌≡◌, List, [], Option, Some, IfOk};
 ghost use Rattle.scheme_model.specs.declared.Occ.{Occ};
 ghost use Rattle.scheme_model.specs.Trees.{Tree as ModelTree, name, Trees, Tail};
 ghost use Rattle.scheme_model.specs.ExpansionFaults.{Named};
 ghost use Rattle.scheme_model.specs.Shapes.{name_of, names_of, formals_in, formals_of, distinct};
 ghost use Rattle.scheme_model.specs.Ident.{Ident as Identifier, same_ident};
 ghost use Rattle.syntax_tree.specs.Looks.{PartsStand, EndStands, AreStanding, EndIsStanding};
+ghost use Rattle.syntax_tree.specs.Standing.{leaf_tree};
 ghost use Rattle.syntax_tree.specs.Works.{StandsFor, IsStanding};
 ghost use Rattle.core_forms.specs.Parts.{AllMatch, IsName, AreNames, IsFormals};
 ghost use Rattle.core_forms.specs.Numbers.{twice_by_number};
@@ -14,6 +15,7 @@ ghost use Rattle.core_forms.specs.Ends.{Ends, Passes};
 use crate::fault::CoreFault;
 use crate::shape::{Formals, NamePart};
 use ls_base::{Mem, Memory};
+use scheme_model::Occ;
 use std::alloc::Global;
 use std::collections::BTreeSet;
 use syntax_tree::look::{Look, look_at};
@@ -26,20 +28,27 @@ pub fn name_of(work: &Work, tree: Tree) -> Result<NamePart, CoreFault>
     ensures { (t : ModelTree Identifier) → StandsFor work.now tree t → Ends work.now (IsName work.now) (name_of t) result }
 {
     match work.node(tree) {
-        Node::Atom {
-            leaf: Leaf::Name(id),
-            occ,
-        } => Ok(NamePart {
-            ident: *id,
-            occ: *occ,
-        }),
-        Node::Atom { leaf: _, occ: _ } => Err(CoreFault::BadForm),
+        Node::Atom { leaf, occ } => name_in(work, *leaf, *occ),
         Node::List {
             items: _,
             tail: _,
             occ: _,
         } => Err(CoreFault::BadForm),
         Node::Vector { items: _, occ: _ } => Err(CoreFault::BadForm),
+    }
+}
+
+/// A leaf that is an identifier, with its place.
+fn name_in(work: &Work, leaf: Leaf, occ: Option<Occ>) -> Result<NamePart, CoreFault>
+    ensures { (t : ModelTree Identifier) → leaf_tree work.now.symbols leaf occ ≡ Some t → Ends work.now (IsName work.now) (name_of t) result }
+{
+    match leaf {
+        Leaf::Name(ident) => Ok(NamePart { ident, occ }),
+        Leaf::Numeral(_) => Err(CoreFault::BadForm),
+        Leaf::Quoted(_) => Err(CoreFault::BadForm),
+        Leaf::Char(_) => Err(CoreFault::BadForm),
+        Leaf::Bool(_) => Err(CoreFault::BadForm),
+        Leaf::Bytes(_) => Err(CoreFault::BadForm),
     }
 }
 

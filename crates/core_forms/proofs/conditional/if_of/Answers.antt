@@ -5,7 +5,7 @@ use Rattle.scheme_model.specs.Ident.{Ident as Identifier}
 use Rattle.syntax_tree.specs.Looks.{PartsStand}
 use Rattle.syntax_tree.specs.declared.trees.nodes.Tree as number
 use Rattle.syntax_tree.proofs.Looking.{no_end, some_end, count_stands}
-use Rattle.core_forms.proofs.Rows.{if_dotted, if_few, if_many, if_fits}
+use Rattle.core_forms.proofs.Lists.{if_dotted, if_few, if_many, if_fits}
 use Rattle.core_forms.proofs.conditional.if_of.Goals as goal
 
 pub returns-then-is_some : goal.returns-then-is_some

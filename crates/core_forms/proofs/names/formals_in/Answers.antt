@@ -8,7 +8,7 @@ use Rattle.syntax_tree.proofs.Looking.{no_end, end_standing}
 use Rattle.core_forms.specs.declared.shape.NamePart.{NamePart}
 use Rattle.core_forms.specs.Parts.{AllMatch, IsName, IsFormals}
 use Rattle.core_forms.proofs.Reading.{then_err, then_ok, matches_more}
-use Rattle.core_forms.proofs.Rows.{formals_start, end_tree}
+use Rattle.core_forms.proofs.Lists.{formals_start, end_tree}
 use Rattle.core_forms.proofs.names.formals_in.Goals as goal
 
 pub name_of-name-requires : goal.name_of-name-requires

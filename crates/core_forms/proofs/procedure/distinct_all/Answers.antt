@@ -14,7 +14,7 @@ pub returns-in_err-distinct : goal.returns-in_err-distinct
 returns-in_err-distinct c = λ cs are.
     let w = c.args.work.now in
     let k = c.loop-clause.clause-index in
-    let p = clause_there w k c.args.clauses.now cs _ are c.loop-clause-test.true in
+    let p = clause_there w k c.args.clauses.now cs c.clause-item.result are c.loop-clause-test.true c.clause-item.is in
     let e = c.in_err-distinct.field-0.0 in
     let names = subst (λ (ns : List NamePart). AllMatch (IsName w) ns p.clause.formals.names) (sym c.as_slice.ensures.value) p.is.formals.names in
     then_err w (λ done also. Unit {0}) (distinct same_ident p.clause.formals.names) (λ done. distinct_all same_ident (drop (suc k) cs)) (distinct_all same_ident cs) c.from_residual.result e
@@ -24,7 +24,7 @@ pub loop-clause-preserved : goal.loop-clause-preserved
 loop-clause-preserved c = λ cs are.
     let w = c.args.work.now in
     let k = c.loop-clause.clause-index in
-    let p = clause_there w k c.args.clauses.now cs _ are c.loop-clause-test.true in
+    let p = clause_there w k c.args.clauses.now cs c.clause-item.result are c.loop-clause-test.true c.clause-item.is in
     let names = subst (λ (ns : List NamePart). AllMatch (IsName w) ns p.clause.formals.names) (sym c.as_slice.ensures.value) p.is.formals.names in
     let done = c.in_ok-distinct.ensures p.clause.formals.names names in
     c.loop-clause.invariant cs are ∙ ap (distinct_all same_ident) p.split ∙ ap (λ (x : Result (Unit {0}) (Fault Identifier)). x >> λ done. distinct_all same_ident (drop (suc k) cs)) done.1

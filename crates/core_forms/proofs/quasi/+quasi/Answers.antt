@@ -7,7 +7,7 @@ use Rattle.syntax_tree.proofs.Looking.{part_standing, part_there, behind_past}
 use Rattle.core_forms.specs.declared.fault.CoreFault.TheVariants as fault
 use Rattle.core_forms.specs.Ends.{AddsPieces, AddsRow}
 use Rattle.core_forms.proofs.Reading.{ends_err}
-use Rattle.core_forms.proofs.Quasi.{parts_start, parts_more, parts_refuse, parts_all, row_start, row_refuses, row_into_refuses, misplaced_is}
+use Rattle.core_forms.proofs.Holes.{parts_start, parts_more, parts_refuse, parts_all, row_start, row_refuses, row_into_refuses, misplaced_is}
 use Rattle.core_forms.proofs.Finding.{can_positive, into_row, into_parts, part_of_parts, part_of_row, room_at}
 use Rattle.core_forms.proofs.quasi.+quasi.Goals as goal
 
@@ -70,9 +70,10 @@ find_row-loop-k-init t c =
 pub find_row-step_of-requires : goal.find_row-step_of-requires
 find_row-step_of-requires t c =
     let w = c.args.work.now in
-    let h = c.requires in
-    (part_standing w c.loop-k.k c.args.items.now (record { number = 0 }) (h.parts, h.parts_stand) c.loop-k-test.true,
-     room_at w c.args.items.now c.args.end c.args.level c.loop-k.inner c.args.left c.loop-k.k (record { number = 0 }) h c.loop-k.invariant.0 c.loop-k-test.true)
+    let h = c.requires in (
+      part_standing w c.loop-k.k c.args.items.now (record { number = 0 }) (h.parts, h.parts_stand) c.loop-k-test.true,
+      room_at w c.args.items.now c.args.end c.args.level c.loop-k.inner c.args.left c.loop-k.k (record { number = 0 }) h c.loop-k.invariant.0 c.loop-k-test.true,
+    )
 
 pub find_row-find-requires-in-Into : goal.find_row-find-requires-in-Into
 find_row-find-requires-in-Into t c =

@@ -4,7 +4,7 @@ use Rattle.scheme_model.specs.Quasiquote.{Mark}
 use Rattle.scheme_model.specs.Ident.{Ident as Identifier}
 use Rattle.syntax_tree.specs.Looks.{PartsStand, EndStands}
 use Rattle.core_forms.specs.Marks.{TellsMarks}
-use Rattle.core_forms.proofs.Quasi.{RowUpTo, PartsUpTo}
+use Rattle.core_forms.proofs.Holes.{RowUpTo, PartsUpTo}
 use Rattle.core_forms.proofs.Finding.{Counted}
 use Rattle.core_forms.proofs.quasi.+quasi.Given as goal
 

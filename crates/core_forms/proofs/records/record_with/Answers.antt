@@ -37,7 +37,8 @@ returns c = λ n k p fs named made tested fields.
     let are = subst (λ (ns : List NamePart). AllMatch (IsName w) ns ms) (sym (c.as_slice-2.ensures.value ∙ c.in_ok-names.ensures ∙ ap (map (λ (x : FieldShape). x.name)) c.as_slice.ensures.value)) (field_names_are w _ fs fields) in
     let used = subst (λ (ns : List NamePart). AllMatch (IsName w) ns k.1) (sym c.as_slice-3.ensures.value) made.1 in
     let those = subst (λ (ns : List NamePart). AllMatch (IsName w) ns ms) (c.as_slice-2.ensures.value ∙ sym c.as_slice-4.ensures.value) are in
-    let done = c.in_ok-distinct.ensures ms are in
-    (record { type = n; constructor = k.0; used = k.1; predicate = p; fields = fs },
-     uses_all n k p fs done.0 done.1 (sym (c.in_ok-uses_fields.ensures k.1 ms used those) ∙ not_false _ c.if-not-uses_fields.false),
-     (_, (_, (_, (_, (_, (refl, record { type = named; constructor = made.0; used = made.1; predicate = tested; fields = fields })))))))
+    let done = c.in_ok-distinct.ensures ms are in (
+      record { type = n; constructor = k.0; used = k.1; predicate = p; fields = fs },
+      uses_all n k p fs done.0 done.1 (sym (c.in_ok-uses_fields.ensures k.1 ms used those) ∙ not_false _ c.if-not-uses_fields.false),
+      (_, (_, (_, (_, (_, (refl, record { type = named; constructor = made.0; used = made.1; predicate = tested; fields = fields })))))),
+    )

@@ -1,4 +1,4 @@
-use Rattle.core_forms.proofs.Rows.{row_empty, row_parts, nothing_in}
+use Rattle.core_forms.proofs.Lists.{row_empty, row_parts, nothing_in}
 use Rattle.core_forms.proofs.rows.row_of.Goals as goal
 
 pub returns-in-None : goal.returns-in-None

@@ -18,9 +18,9 @@ row_empty work [] (tree t ts) e h = absurd h
 row_empty work (n ∷ ns) ts e h = absurd cc
 
 pub row_parts : (work : Work) (ns : List number.Tree) (n : number.Tree) (ms : List number.Tree) (ts : Trees Identifier) → ns ≡ n ∷ ms → PartsStand work ns ts →
-    (t : Tree Identifier) × ((us : Trees Identifier) × (ts ≡ tree t us) × StandsFor work n t × PartsStand work ms us)
+    (t : Tree Identifier) × (us : Trees Identifier) × (ts ≡ tree t us) × StandsFor work n t × PartsStand work ms us
 row_parts work ns n ms no_trees e h = absurd (subst (λ (x : List number.Tree). PartsStand work x no_trees) e h)
-row_parts work ns n ms (tree t us) e h = let g = subst (λ (x : List number.Tree). PartsStand work x (tree t us)) e h in (t, (us, refl, g.0, g.1))
+row_parts work ns n ms (tree t us) e h = let g = subst (λ (x : List number.Tree). PartsStand work x (tree t us)) e h in (t, us, refl, g.0, g.1)
 
 -- `if` has two parts or three
 pub if_few : (ts : Trees Identifier) → count ts < 2 → if_of ts proper ≡ Err BadForm
