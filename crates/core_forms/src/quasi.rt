@@ -11,7 +11,7 @@ ghost use Rattle.scheme_model.specs.Quasiquote.{Mark, hole_of, pieces_of, row_of
 ghost use Rattle.scheme_model.specs.Ident.{Ident as Identifier};
 ghost use Rattle.syntax_tree.specs.Looks.{PartsStand, EndStands};
 ghost use Rattle.syntax_tree.specs.Works.{StandsFor, IsStanding};
-ghost use Rattle.core_forms.specs.Marks.{kind_of, mark_as, mark_of_tree, step_by, IsNear, keyword_by_number, AreMarks, TellsMarks, CanFind, CanFindParts, CanFindRow};
+ghost use Rattle.core_forms.specs.Marks.{kind_of, kind_if_any, mark_as, mark_of_tree, step_by, IsNear, keyword_by_number, AreMarks, TellsMarks, CanFind, CanFindParts, CanFindRow};
 ghost use Rattle.core_forms.specs.Ends.{Ends, HasHoles, AddsPieces, AddsRow};
 
 use crate::fault::CoreFault;
@@ -226,13 +226,20 @@ fn mark_of(work: &Work, told: &BTreeMap<IdNo, CoreKeyword>, tree: Tree) -> Optio
         mark_as result ≡ mark_of_tree mark t }
 {
     match look_at(work, tree) {
-        Look::Name(id) => match told.get(&id) {
-            None => None,
-            Some(keyword) => kind_of(*keyword),
-        },
+        Look::Name(id) => kind_at(told, id),
         Look::Atom(_) => None,
         Look::List(_, _) => None,
         Look::Vector(_) => None,
+    }
+}
+
+/// What the identifier of a number marks.
+fn kind_at(told: &BTreeMap<IdNo, CoreKeyword>, id: IdNo) -> Option<MarkKind>
+    ensures { result ≡ kind_if_any (get nat_cmp told.now id) }
+{
+    match told.get(&id) {
+        None => None,
+        Some(keyword) => kind_of(*keyword),
     }
 }
 
