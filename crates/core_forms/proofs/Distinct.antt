@@ -128,14 +128,20 @@ macros_are work (x ∷ xs) (p ∷ ps) h = (h.0, macros_are work xs ps h.1)
 abbrev pub as_bindings : Result (List (Named Identifier × Tree Identifier)) (Fault Identifier) → Result (List (Named Identifier) × Trees Identifier) (Fault Identifier)
 as_bindings s = s >> λ ps. Ok (map (λ p. p.0) ps, rules_among ps)
 
+abbrev pub put_first : Named Identifier × Tree Identifier → List (Named Identifier) × Trees Identifier → Result (List (Named Identifier) × Trees Identifier) (Fault Identifier)
+put_first b bs = Ok (b.0 ∷ bs.0, tree b.1 bs.1)
+
+abbrev pub all_together : List (Named Identifier) × Trees Identifier → Trees Identifier → Result (LocalMacros Identifier) (Fault Identifier)
+all_together bs body = Ok (record { names = bs.0; rules = bs.1; body = body })
+
 binding_step : (a : Result (Named Identifier × Tree Identifier) (Fault Identifier)) (s : Result (List (Named Identifier × Tree Identifier)) (Fault Identifier)) →
-    (a >> λ b. as_bindings s >> λ bs. Ok (b.0 ∷ bs.0, tree b.1 bs.1)) ≡ as_bindings (a >> λ b. s >> λ bs. Ok (b ∷ bs))
+    (a >> λ b. as_bindings s >> λ bs. put_first b bs) ≡ as_bindings (a >> λ b. s >> λ bs. Ok (b ∷ bs))
 binding_step (Ok b) (Ok bs) = refl
 binding_step (Ok b) (Err e) = refl
 binding_step (Err e) s = refl
 
 list_step : (l : Result (Trees Identifier × Tail Identifier) (Fault Identifier)) (s : Result (List (Named Identifier) × Trees Identifier) (Fault Identifier)) →
-    (l >> λ p. named_tree_of p.0 p.1 >> λ b. s >> λ bs. Ok (b.0 ∷ bs.0, tree b.1 bs.1)) ≡ ((l >> λ p. named_tree_of p.0 p.1) >> λ b. s >> λ bs. Ok (b.0 ∷ bs.0, tree b.1 bs.1))
+    (l >> λ p. named_tree_of p.0 p.1 >> λ b. s >> λ bs. put_first b bs) ≡ ((l >> λ p. named_tree_of p.0 p.1) >> λ b. s >> λ bs. put_first b bs)
 list_step (Ok p) s = refl
 list_step (Err e) s = refl
 
@@ -143,7 +149,7 @@ pub bindings_are : (ts : Trees Identifier) → bindings_of ts ≡ as_bindings (b
 bindings_are no_trees = refl
 bindings_are (tree t ts) =
     list_step (list_of t) (bindings_of ts)
-    ∙ ap (λ (s : Result (List (Named Identifier) × Trees Identifier) (Fault Identifier)). binding_of t >> λ b. s >> λ bs. Ok (b.0 ∷ bs.0, tree b.1 bs.1)) (bindings_are ts)
+    ∙ ap (λ (s : Result (List (Named Identifier) × Trees Identifier) (Fault Identifier)). binding_of t >> λ b. s >> λ bs. put_first b bs) (bindings_are ts)
     ∙ binding_step (binding_of t) (bindings_in ts)
 
 -- the list of macros is read to pairs first
@@ -157,24 +163,24 @@ list_of_bindings (vector ts o) = refl
 -- local macros, by the pairs
 abbrev pub local_by : Tree Identifier → Trees Identifier → Tail Identifier → Result (LocalMacros Identifier) (Fault Identifier)
 local_by t us tail =
-    bindings_of_list t >> λ m. some_of us tail >> λ b. distinct same_ident (map (λ p. p.0) m) >> λ u. Ok (record { names = map (λ p. p.0) m; rules = rules_among m; body = b })
+    bindings_of_list t >> λ m. some_of us tail >> λ b. distinct same_ident (map (λ p. p.0) m) >> λ u. all_together (map (λ p. p.0) m, rules_among m) b
 
 local_step : (q : Result (Trees Identifier × Tail Identifier) (Fault Identifier)) (us : Trees Identifier) (tail : Tail Identifier) →
-    (q >> λ q. proper_of q.0 q.1 >> bindings_of >> λ bs. some_of us tail >> λ body. distinct same_ident bs.0 >> λ done. Ok (record { names = bs.0; rules = bs.1; body = body }))
-    ≡ ((q >> λ q. proper_of q.0 q.1 >> bindings_of) >> λ bs. some_of us tail >> λ body. distinct same_ident bs.0 >> λ done. Ok (record { names = bs.0; rules = bs.1; body = body }))
+    (q >> λ q. proper_of q.0 q.1 >> bindings_of >> λ bs. some_of us tail >> λ body. distinct same_ident bs.0 >> λ done. all_together bs body)
+    ≡ ((q >> λ q. proper_of q.0 q.1 >> bindings_of) >> λ bs. some_of us tail >> λ body. distinct same_ident bs.0 >> λ done. all_together bs body)
 local_step (Ok q) us tail = refl
 local_step (Err e) us tail = refl
 
 pair_step : (m : Result (List (Named Identifier × Tree Identifier)) (Fault Identifier)) (us : Trees Identifier) (tail : Tail Identifier) →
-    (as_bindings m >> λ bs. some_of us tail >> λ body. distinct same_ident bs.0 >> λ done. Ok (record { names = bs.0; rules = bs.1; body = body }))
-    ≡ (m >> λ m. some_of us tail >> λ b. distinct same_ident (map (λ p. p.0) m) >> λ u. Ok (record { names = map (λ p. p.0) m; rules = rules_among m; body = b }))
+    (as_bindings m >> λ bs. some_of us tail >> λ body. distinct same_ident bs.0 >> λ done. all_together bs body)
+    ≡ (m >> λ m. some_of us tail >> λ b. distinct same_ident (map (λ p. p.0) m) >> λ u. all_together (map (λ p. p.0) m, rules_among m) b)
 pair_step (Ok m) us tail = refl
 pair_step (Err e) us tail = refl
 
 pub local_is : (t : Tree Identifier) (us : Trees Identifier) (tail : Tail Identifier) → local_macros_of same_ident (tree t us) tail ≡ local_by t us tail
 local_is t us tail =
     local_step (list_of t) us tail
-    ∙ ap (λ (x : Result (List (Named Identifier) × Trees Identifier) (Fault Identifier)). x >> λ bs. some_of us tail >> λ body. distinct same_ident bs.0 >> λ done. Ok (record { names = bs.0; rules = bs.1; body = body })) (list_of_bindings t)
+    ∙ ap (λ (x : Result (List (Named Identifier) × Trees Identifier) (Fault Identifier)). x >> λ bs. some_of us tail >> λ body. distinct same_ident bs.0 >> λ done. all_together bs body) (list_of_bindings t)
     ∙ pair_step (bindings_of_list t) us tail
 
 -- ---- the fields that a constructor uses
@@ -184,7 +190,7 @@ not_false true h = refl
 not_false false h = absurd cc
 
 module _ (n : Named Identifier) (k : Named Identifier × List (Named Identifier)) (p : Named Identifier) (fs : List (ModelField Identifier)) (u : Unit {0}) (h : distinct same_ident (map (λ f. f.field) fs) ≡ Ok u) where
-  whole : RecordShape Identifier
+  abbrev pub whole : RecordShape Identifier
   whole = record { type = n; constructor = k.0; used = k.1; predicate = p; fields = fs }
 
   after_names : record_with n k p fs ≡ (if all_among same_ident k.1 (map (λ f. f.field) fs) then Ok whole else Err BadForm)

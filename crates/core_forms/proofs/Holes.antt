@@ -168,7 +168,7 @@ module _ (work : Work) (old now : List number.Tree) (mark : Identifier → Optio
   whole_row : after p.holes (row_holes (row_of mark (tree t (behind (suc k) ts)) tail (tail_of mark tail) inner first)) ≡ row_holes (row_of mark ts tail (tail_of mark tail) level element)
   whole_row = sym (ap (λ (x : Trees Identifier). after p.holes (row_holes (row_of mark x tail (tail_of mark tail) inner first))) split) ∙ p.whole
 
-  rest : ℕ → Result (RowPieces Identifier) (Fault Identifier)
+  abbrev pub rest : ℕ → Result (RowPieces Identifier) (Fault Identifier)
   rest l = row_of mark (behind (suc k) ts) tail (tail_of mark tail) l false
 
   pub row_into : (then : List number.Tree) → step_by (mark_of_tree mark t) inner first ≡ step.Into → (q : Pieces Identifier) → pieces_of mark t inner true ≡ Ok q → AddsHoles work now then q.holes →
@@ -200,6 +200,12 @@ module _ (work : Work) (old now : List number.Tree) (mark : Identifier → Optio
       let g = row_had (row_of mark ts tail (tail_of mark tail) level element) (p.holes ++ q.holes) (sym (sym (ap (λ (x : Result (RowPieces Identifier) (Fault Identifier)). after p.holes (row_holes x)) e) ∙ whole_row)) in
       (g.0, g.1, subst (AddsHoles work old then) (sym g.2) (adds_both work old now then p.holes q.holes p.adds h))
 
+  -- the row as a whole by what the rest of it gives
+  pub row_ends : (then : List number.Tree) (z : Result (RowPieces Identifier) (Fault Identifier)) (r : Result (Unit {0}) CoreFault) → row_of mark (tree t (behind (suc k) ts)) tail (tail_of mark tail) inner first ≡ z → AddsRow work now then z r →
+      AddsRow work old then (row_of mark ts tail (tail_of mark tail) level element) r
+  row_ends then z (Ok x) e h = row_done then h.0 (e ∙ h.1) h.2
+  row_ends then z (Err f) e h = row_refuses f (subst (Refuses work f) (sym e) h)
+
 -- ---- the whole list
 
 pub row_start : (work : Work) (old : List number.Tree) (mark : Identifier → Option Mark) (ts : Trees Identifier) (tail : Tail Identifier) (level : ℕ) (element : Bool) → RowUpTo work old old mark ts tail level element 0 level element
@@ -214,7 +220,7 @@ module _ (work : Work) (old now : List number.Tree) (mark : Identifier → Optio
       let g = row_had (row_of mark ts proper (tail_of mark proper) level element) p.holes (sym whole ∙ ap Ok (append-nil p.holes)) in
       (g.0, g.1, subst (AddsHoles work old now) (sym g.2) p.adds)
 
-  tail_holes : (s : Result (Pieces Identifier) (Fault Identifier)) → Result (RowPieces Identifier) (Fault Identifier)
+  abbrev pub tail_holes : (s : Result (Pieces Identifier) (Fault Identifier)) → Result (RowPieces Identifier) (Fault Identifier)
   tail_holes s = s >> λ q. Ok (row_pieces no_trees (dotted q.datum) q.holes)
 
   pub row_dotted : (t : Tree Identifier) (then : List number.Tree) → RowUpTo work old now mark ts (dotted t) level element k inner first → behind k ts ≡ no_trees → (q : Pieces Identifier) → pieces_of mark t inner false ≡ Ok q → AddsHoles work now then q.holes →
@@ -231,6 +237,23 @@ module _ (work : Work) (old now : List number.Tree) (mark : Identifier → Optio
       let whole = sym (ap (λ (x : Trees Identifier). after p.holes (row_holes (row_of mark x (dotted t) (tail_of mark (dotted t)) inner first))) e) ∙ p.whole in
       row_refused work f (row_of mark ts (dotted t) (tail_of mark (dotted t)) level element)
       (subst (Refuses work f) whole (refuses_after work f p.holes _ (holes_refused work f _ (refuses_then work f (pieces_of mark t inner false) (λ q. Ok (row_pieces no_trees (dotted q.datum) q.holes)) h))))
+
+  -- a row to its end, by what its tail is
+  pub row_none : (tail : Tail Identifier) → RowUpTo work old now mark ts tail level element k inner first → tail ≡ proper → behind k ts ≡ no_trees →
+      (r : RowPieces Identifier) × (row_of mark ts tail (tail_of mark tail) level element ≡ Ok r) × AddsHoles work old now r.holes
+  row_none proper p g e = row_proper p e
+  row_none (dotted t) p g e = absurd cc
+
+  dotted_ends : (t : Tree Identifier) (then : List number.Tree) → RowUpTo work old now mark ts (dotted t) level element k inner first → behind k ts ≡ no_trees → (r : Result (Unit {0}) CoreFault) → AddsPieces work now then (pieces_of mark t inner false) r →
+      AddsRow work old then (row_of mark ts (dotted t) (tail_of mark (dotted t)) level element) r
+  dotted_ends t then p e (Ok x) h = row_dotted t then p e h.0 h.1 h.2
+  dotted_ends t then p e (Err f) h = row_dotted_refuses t f p e h
+
+  pub row_some : (tail : Tail Identifier) (t : Tree Identifier) (then : List number.Tree) → tail ≡ dotted t → RowUpTo work old now mark ts tail level element k inner first → behind k ts ≡ no_trees → (r : Result (Unit {0}) CoreFault) →
+      AddsPieces work now then (pieces_of mark t inner false) r → AddsRow work old then (row_of mark ts tail (tail_of mark tail) level element) r
+  row_some tail t then g p e r h =
+      subst (λ (x : Tail Identifier). AddsRow work old then (row_of mark ts x (tail_of mark x) level element) r) (sym g)
+      (dotted_ends t then (subst (λ (x : Tail Identifier). RowUpTo work old now mark ts x level element k inner first) g p) e r h)
 
 -- ---- the parts of a vector
 

@@ -72,15 +72,15 @@ abbrev pub after : {A : Type 0} → List A → Result (List A) (Fault Identifier
 after xs (Ok ys) = Ok (xs ++ ys)
 after xs (Err e) = Err e
 
-after_none : {A : Type 0} (s : Result (List A) (Fault Identifier)) → after [] s ≡ s
+pub after_none : {A : Type 0} (s : Result (List A) (Fault Identifier)) → after [] s ≡ s
 after_none (Ok ys) = refl
 after_none (Err e) = refl
 
-after_one : {A : Type 0} (xs : List A) (x : A) (s : Result (List A) (Fault Identifier)) → after (xs ++ x ∷ []) s ≡ after xs (s >> λ ys. Ok (x ∷ ys))
+pub after_one : {A : Type 0} (xs : List A) (x : A) (s : Result (List A) (Fault Identifier)) → after (xs ++ x ∷ []) s ≡ after xs (s >> λ ys. Ok (x ∷ ys))
 after_one xs x (Ok ys) = ap Ok (append_assoc xs (x ∷ []) ys)
 after_one xs x (Err e) = refl
 
-refuses_after : {A : Type 0} (work : Work) (e : CoreFault) (xs : List A) (s : Result (List A) (Fault Identifier)) → Refuses work e s → Refuses work e (after xs s)
+pub refuses_after : {A : Type 0} (work : Work) (e : CoreFault) (xs : List A) (s : Result (List A) (Fault Identifier)) → Refuses work e s → Refuses work e (after xs s)
 refuses_after work fault.BadForm xs s h = ap (after xs) h
 refuses_after work (fault.DuplicateBinder n) xs s h = (h.0, ap (after xs) h.1, h.2)
 refuses_after work fault.BadPlace xs s h = ap (after xs) h

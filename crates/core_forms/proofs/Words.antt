@@ -22,12 +22,15 @@ leaf_name names n o t h = step (slice_get names.idents n) h
     step (Some i) g = (i, sym (same_Some (name i o) t g), refl)
 
 -- the leaf of a text
+abbrev pub text_leaf : Option Occ → List ℕ → Tree Identifier
+text_leaf o s = atom (Quoted s) o
+
 pub leaf_text : (names : Names) (n : ℕ) (o : Option Occ) (a : Atom) → leaf_tree names (code.Quoted n) o ≡ Some (atom a o) → (s : List ℕ) × (a ≡ Quoted s) × (slice_get names.symbols n ≡ Some s)
 leaf_text names n o a h = step (slice_get names.symbols n) h
   where
-    step : (x : Option (List ℕ)) → option_map (λ (s : List ℕ). atom (Quoted s) o) x ≡ Some (atom a o) → (s : List ℕ) × (a ≡ Quoted s) × (x ≡ Some s)
+    step : (x : Option (List ℕ)) → option_map (text_leaf o) x ≡ Some (atom a o) → (s : List ℕ) × (a ≡ Quoted s) × (x ≡ Some s)
     step None g = absurd cc
-    step (Some s) g = let same = same_Some (atom (Quoted s) o) (atom a o) g in (s, cc, refl)
+    step (Some s) g = let same = same_Some (text_leaf o s) (atom a o) g in (s, cc, refl)
 
 -- the leaves that are no identifier
 abbrev pub IsNoName : Leaf → Type 0

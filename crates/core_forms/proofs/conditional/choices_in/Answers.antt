@@ -7,8 +7,8 @@ use Rattle.core_forms.specs.Ends.{Refuses}
 use Rattle.core_forms.proofs.Reading.{UpTo, up_more, up_all, up_err, ends_err}
 use Rattle.core_forms.proofs.conditional.choices_in.Goals as goal
 
-pub choice_of-read-requires : goal.choice_of-read-requires
-choice_of-read-requires c = part_standing c.args.work.now c.loop-item.item-index c.args.items.now _ c.requires (omega arith)
+pub choice_of-requires : goal.choice_of-requires
+choice_of-requires c = part_standing c.args.work.now c.loop-item.item-index c.args.items.now _ c.requires (omega arith)
 
 pub returns-in_err-read : goal.returns-in_err-read
 returns-in_err-read c = λ ts stands.

@@ -7,8 +7,8 @@ use Rattle.core_forms.specs.Ends.{Refuses}
 use Rattle.core_forms.proofs.Reading.{UpTo, up_more, up_all, up_err, ends_err}
 use Rattle.core_forms.proofs.local_macros.bindings_in.Goals as goal
 
-pub binding_of-read-requires : goal.binding_of-read-requires
-binding_of-read-requires c = part_standing c.args.work.now c.loop-item.item-index c.args.items.now _ c.requires (omega arith)
+pub binding_of-requires : goal.binding_of-requires
+binding_of-requires c = part_standing c.args.work.now c.loop-item.item-index c.args.items.now _ c.requires (omega arith)
 
 pub returns-in_err-read : goal.returns-in_err-read
 returns-in_err-read c = λ ts stands.

@@ -11,8 +11,8 @@ use Rattle.core_forms.proofs.Reading.{then_err, then_ok, matches_more}
 use Rattle.core_forms.proofs.Lists.{formals_start, end_tree}
 use Rattle.core_forms.proofs.names.formals_in.Goals as goal
 
-pub name_of-name-requires : goal.name_of-name-requires
-name_of-name-requires c = end_standing c.args.work.now c.args.end c.in-Some.last c.in-Some.is c.requires.tail
+pub name_of-requires : goal.name_of-requires
+name_of-requires c = end_standing c.args.work.now c.args.end c.in-Some.last c.in-Some.is c.requires.tail
 
 pub returns-in_err-names : goal.returns-in_err-names
 returns-in_err-names c = λ ts tail stands ends.
@@ -26,3 +26,17 @@ returns-in-None c = λ ts tail stands ends.
     let ns = c.in_ok-names.ensures ts stands in
     let gone = no_end w c.args.end tail (ap is_some c.in-None.is) ends in
     (record { names = ns.0; rest = false }, ap (λ (x : Tail Identifier). formals_in ts x) gone ∙ then_ok (names_of ts) (λ ns. Ok (record { names = ns; rest = false })) ns.0 ns.1, record { names = ns.2; rest = refl })
+
+pub returns-in_ok-push-in-Some : goal.returns-in_ok-push-in-Some
+returns-in_ok-push-in-Some c = λ ts tail stands ends.
+    let w = c.args.work.now in
+    let ns = c.in_ok-names.ensures ts stands in
+    let d = end_tree w c.args.end c.in-Some.last tail c.in-Some.is ends in
+    let n = c.in_ok-name-in-Some.ensures d.0 d.2 in
+    let are = matches_more (IsName w) c.names_of.result.items ns.0 c.name_of.result n.0 ns.2 n.2 in
+    (
+      record { names = ns.0 ++ n.0 ∷ []; rest = true },
+      ap (λ (x : Tail Identifier). formals_in ts x) d.1 ∙ then_ok (names_of ts) (λ ns. name_of d.0 >> λ n. Ok (record { names = ns ++ n ∷ []; rest = true })) ns.0 ns.1
+      ∙ then_ok (name_of d.0) (λ n. Ok (record { names = ns.0 ++ n ∷ []; rest = true })) n.0 n.1,
+      record { names = subst (λ (xs : List NamePart). AllMatch (IsName w) xs (ns.0 ++ n.0 ∷ [])) (sym c.in_ok-push-in-Some.ensures.items) are; rest = refl },
+    )

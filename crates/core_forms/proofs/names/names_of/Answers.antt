@@ -7,8 +7,8 @@ use Rattle.core_forms.specs.Ends.{Refuses}
 use Rattle.core_forms.proofs.Reading.{UpTo, up_more, up_all, up_err, ends_err, names_each}
 use Rattle.core_forms.proofs.names.names_of.Goals as goal
 
-pub name_of-read-requires : goal.name_of-read-requires
-name_of-read-requires c = part_standing c.args.work.now c.loop-item.item-index c.args.items.now _ c.requires (omega arith)
+pub name_of-requires : goal.name_of-requires
+name_of-requires c = part_standing c.args.work.now c.loop-item.item-index c.args.items.now _ c.requires (omega arith)
 
 pub returns-in_err-read : goal.returns-in_err-read
 returns-in_err-read c = λ ts stands.

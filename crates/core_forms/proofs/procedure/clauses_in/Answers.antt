@@ -8,8 +8,8 @@ use Rattle.core_forms.specs.Ends.{Refuses}
 use Rattle.core_forms.proofs.Reading.{UpTo, up_more, up_all, up_err, ends_err, clauses_each}
 use Rattle.core_forms.proofs.procedure.clauses_in.Goals as goal
 
-pub clause_of-read-requires : goal.clause_of-read-requires
-clause_of-read-requires c = part_standing c.args.work.now c.loop-item.item-index c.args.items.now _ c.requires (omega arith)
+pub clause_of-requires : goal.clause_of-requires
+clause_of-requires c = part_standing c.args.work.now c.loop-item.item-index c.args.items.now _ c.requires (omega arith)
 
 pub returns-in_err-read : goal.returns-in_err-read
 returns-in_err-read c = λ ts stands.

@@ -8,8 +8,8 @@ use Rattle.core_forms.specs.Ends.{Refuses}
 use Rattle.core_forms.proofs.Reading.{UpTo, up_more, up_all, up_err, ends_err, fields_each}
 use Rattle.core_forms.proofs.records.fields_of.Goals as goal
 
-pub field_of-read-requires : goal.field_of-read-requires
-field_of-read-requires c = part_standing c.args.work.now c.loop-item.item-index c.args.items.now _ c.requires (omega arith)
+pub field_of-requires : goal.field_of-requires
+field_of-requires c = part_standing c.args.work.now c.loop-item.item-index c.args.items.now _ c.requires (omega arith)
 
 pub returns-in_err-read : goal.returns-in_err-read
 returns-in_err-read c = λ ts stands.

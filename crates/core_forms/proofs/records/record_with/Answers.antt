@@ -20,8 +20,8 @@ returns-in_err-distinct c = λ n k p fs named made tested fields.
     then_err w (IsRecordType w) (distinct same_ident ms) (λ u. if all_among same_ident k.1 ms then Ok (record { type = n; constructor = k.0; used = k.1; predicate = p; fields = fs }) else Err BadForm) (record_with n k p fs) c.from_residual-in_err-distinct.result c.in_err-distinct.field-0.0
     refl c.from_residual-in_err-distinct.ensures.1 (c.in_err-distinct.ensures ms are)
 
-pub returns-then-not-uses_fields : goal.returns-then-not-uses_fields
-returns-then-not-uses_fields c = λ n k p fs named made tested fields.
+pub returns-then-not-branch : goal.returns-then-not-branch
+returns-then-not-branch c = λ n k p fs named made tested fields.
     let w = c.args.work.now in
     let ms = map (λ f. f.field) fs in
     let are = subst (λ (ns : List NamePart). AllMatch (IsName w) ns ms) (sym (c.as_slice-2.ensures.value ∙ c.in_ok-names.ensures ∙ ap (map (λ (x : FieldShape). x.name)) c.as_slice.ensures.value)) (field_names_are w _ fs fields) in
