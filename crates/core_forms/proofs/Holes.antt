@@ -206,6 +206,13 @@ module _ (work : Work) (old now : List number.Tree) (mark : Identifier → Optio
   row_ends then z (Ok x) e h = row_done then h.0 (e ∙ h.1) h.2
   row_ends then z (Err f) e h = row_refuses f (subst (Refuses work f) (sym e) h)
 
+-- the same by other words
+pub row_at : (work : Work) (old now then : List number.Tree) (mark : Identifier → Option Mark) (ts : Trees Identifier) (tail : Tail Identifier) (level : ℕ) (element : Bool) (k j inner next : ℕ) (first : Bool) → j ≡ k → next ≡ inner → then ≡ now →
+    RowUpTo work old now mark ts tail level element k inner first → RowUpTo work old then mark ts tail level element j next first
+row_at work old now then mark ts tail level element k j inner next first a b e h =
+    subst (λ (x : ℕ). RowUpTo work old then mark ts tail level element x next first) (sym a)
+    (subst (λ (x : ℕ). RowUpTo work old then mark ts tail level element k x first) (sym b) (subst (λ (x : List number.Tree). RowUpTo work old x mark ts tail level element k inner first) (sym e) h))
+
 -- ---- the whole list
 
 pub row_start : (work : Work) (old : List number.Tree) (mark : Identifier → Option Mark) (ts : Trees Identifier) (tail : Tail Identifier) (level : ℕ) (element : Bool) → RowUpTo work old old mark ts tail level element 0 level element

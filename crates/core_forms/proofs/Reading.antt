@@ -11,10 +11,14 @@ use Rattle.syntax_tree.specs.Macros.{IsIdent}
 use Rattle.syntax_tree.specs.declared.trees.Work.{Work}
 use Rattle.core_forms.specs.declared.fault.CoreFault.{CoreFault}
 use Rattle.core_forms.specs.declared.fault.CoreFault.TheVariants as fault
-use Rattle.core_forms.specs.Forms.{each_of}
+use Rattle.core_forms.specs.Forms.{Shape, each_of, unless_expression}
+use Rattle.core_forms.specs.declared.shape.CoreShape as code
+use Rattle.core_forms.specs.declared.shape.CoreKeyword as code_keyword
+use Rattle.scheme_model.specs.Keywords.{CoreKeyword}
+use Rattle.std.proofs.lemmas.Option.{same_Some}
 use Rattle.core_forms.specs.Parts.{AllMatch}
 use Rattle.core_forms.specs.Steps.{clause_of, field_of}
-use Rattle.core_forms.specs.Ends.{Refuses, Ends}
+use Rattle.core_forms.specs.Ends.{Refuses, Ends, ShapeFor, keyword_as}
 
 -- ---- faults that are passed on
 
@@ -132,3 +136,19 @@ up_err work P f ts k xs t e p split h =
     let us = behind (suc k) ts in
     let whole = sym (ap (λ (x : Trees Identifier). after p.read (each_of f x)) split) ∙ p.whole in
     subst (Refuses work e) whole (refuses_after work e p.read (each_of f (tree t us)) (refuses_then work e (f t) (λ y. each_of f us >> λ ys. Ok (y ∷ ys)) h))
+
+-- ---- the shapes of forms
+
+-- the keyword of the definitions, by that of the code
+pub is_word : (c x : code_keyword.CoreKeyword) (k m : CoreKeyword) → c ≡ x → keyword_as x ≡ Some m → keyword_as c ≡ Some k → k ≡ m
+is_word c x k m e a h = same_Some k m (sym h ∙ ap keyword_as e ∙ a)
+
+pub unless_ends : (work : Work) (b : Bool) (x : code.CoreShape) (s : Shape) (r : Result code.CoreShape CoreFault) → (b ≡ true → r ≡ Err fault.BadPlace) → (b ≡ false → r ≡ Ok x) → ShapeFor work x s →
+    Ends work (ShapeFor work) (unless_expression b s) r
+unless_ends work true x s r m h g = subst (λ (z : Result code.CoreShape CoreFault). Ends work (ShapeFor work) (unless_expression true s) z) (sym (m refl)) refl
+unless_ends work false x s r m h g = subst (λ (z : Result code.CoreShape CoreFault). Ends work (ShapeFor work) (unless_expression false s) z) (sym (h refl)) (s, refl, g)
+
+-- a reading that is a kind of shape
+pub kind_ends : {Y : Type 0} (work : Work) (f : Y → Shape) (s : Result Y (Fault Identifier)) (r : Result code.CoreShape CoreFault) → Ends work (λ x y. ShapeFor work x (f y)) s r → Ends work (ShapeFor work) (s >> λ y. Ok (f y)) r
+kind_ends work f s (Ok x) h = (f h.0, then_ok s (λ y. Ok (f y)) h.0 h.1, h.2)
+kind_ends work f s (Err e) h = refuses_then work e s (λ y. Ok (f y)) h

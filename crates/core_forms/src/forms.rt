@@ -4,7 +4,7 @@ ghost use Rattle.scheme_model.specs.Trees.{Trees, Tail};
 ghost use Rattle.scheme_model.specs.Keywords.{CoreKeyword as ModelKeyword, IsQuasiquote, IsSet, IsBegin};
 ghost use Rattle.scheme_model.specs.Quasiquote.{Mark};
 ghost use Rattle.scheme_model.specs.Ident.{Ident as Identifier};
-ghost use Rattle.syntax_tree.specs.Looks.{PartsStand, EndStands, AreStanding};
+ghost use Rattle.syntax_tree.specs.Looks.{PartsStand, EndStands, AreStanding, EndIsStanding};
 ghost use Rattle.scheme_model.specs.Shapes.{named_tree_of};
 ghost use Rattle.core_forms.specs.Forms.{shape_of};
 ghost use Rattle.core_forms.specs.Marks.{AreMarks};
@@ -33,7 +33,8 @@ pub fn shape_of(
     expression: bool,
     marks: &[QuasiMark],
 ) -> Result<CoreShape, CoreFault>
-    requires { AreStanding work.now items.now }
+    requires parts { AreStanding work.now items.now }
+    requires tail { EndIsStanding work.now end }
     ensures { (k : ModelKeyword) (mark : Identifier → Option Mark) (ts : Trees Identifier) (tail : Tail Identifier) → keyword_as keyword ≡ Some k →
         AreMarks work.now marks.now mark → PartsStand work.now items.now ts → EndStands work.now end tail →
         Ends work.now (ShapeFor work.now) (shape_of k expression mark ts tail) result }
@@ -98,7 +99,8 @@ fn quasiquotation(
     end: Option<Tree>,
     marks: &[QuasiMark],
 ) -> Result<CoreShape, CoreFault>
-    requires { AreStanding work.now items.now }
+    requires parts { AreStanding work.now items.now }
+    requires tail { EndIsStanding work.now end }
     ensures { (mark : Identifier → Option Mark) (ts : Trees Identifier) (tail : Tail Identifier) → AreMarks work.now marks.now mark →
         PartsStand work.now items.now ts → EndStands work.now end tail →
         Ends work.now (ShapeFor work.now) (shape_of IsQuasiquote true mark ts tail) result }

@@ -28,4 +28,4 @@ returns-in_ok-rules-in-Parts c = λ ts tail stands ends.
     let l = c.in-Parts.ensures ts stands in
     let n = c.in_ok-name-in-Parts.ensures l.0 l.3 in
     let r = c.in_ok-rules-in-Parts.ensures l.1 tail l.4 ends in
-    ((n.0, r.0), ap (λ (x : Trees Identifier). named_tree_of x tail) l.2 ∙ then_ok (name_of l.0) (λ n. one_of l.1 tail >> λ r. Ok (n, r)) n.0 n.1 ∙ then_ok (one_of l.1 tail) (λ r. Ok (n.0, r)) r.0 r.1, n.2, r.2)
+    ((n.0, r.0), ap (λ (x : Trees Identifier). named_tree_of x tail) l.2 ∙ then_ok (name_of l.0) (λ n. one_of l.1 tail >> λ r. Ok (n, r)) n.0 n.1 ∙ then_ok (one_of l.1 tail) (λ r. Ok (n.0, r)) r.0 r.1, (n.2, r.2))

@@ -10,6 +10,9 @@ use Rattle.core_forms.specs.Ends.{ShapeFor}
 use Rattle.core_forms.proofs.Reading.{then_err, then_ok}
 use Rattle.core_forms.proofs.forms.quasiquotation.Goals as goal
 
+pub holes_of-requires : goal.holes_of-requires
+holes_of-requires c = let d = c.in_ok-datum.ensures c.requires.parts.0 c.requires.tail.0 c.requires.parts.1 c.requires.tail.1 in (d.0, d.2)
+
 pub returns-in_err-datum : goal.returns-in_err-datum
 returns-in_err-datum c = λ mark ts tail marks stands ends.
     let w = c.args.work.now in

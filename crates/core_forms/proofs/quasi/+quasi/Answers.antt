@@ -1,4 +1,4 @@
-use Rattle.std.proofs.Common.{[], ◌∷◌, Option, Some, None, Result, Ok, Err, ◌≡◌, ◌+◌, ℕ, suc, true, false, Bool, refl, sym, ap, ◌∙◌, subst, add-one, rules, arith}
+use Rattle.std.proofs.Common.{[], ◌∷◌, Option, Some, None, Result, Ok, Err, ◌≡◌, ◌+◌, ◌≤◌, ℕ, suc, true, false, Bool, refl, sym, ap, ◌∙◌, subst, add-one, rules, arith}
 use Rattle.scheme_model.specs.Trees.{Tree, name, atom, list, vector, Trees, Tail}
 use Rattle.scheme_model.specs.ExpansionFaults.{Fault, ◌>>◌}
 use Rattle.scheme_model.specs.Shapes.{one_of}
@@ -10,10 +10,15 @@ use Rattle.syntax_tree.proofs.Looking.{no_end, part_standing, part_there, behind
 use Rattle.core_forms.specs.declared.fault.CoreFault.TheVariants as fault
 use Rattle.core_forms.specs.Ends.{Refuses, AddsPieces, AddsRow}
 use Rattle.core_forms.proofs.Lists.{end_tree}
+use Rattle.core_forms.specs.Marks.{IsNear}
+use Rattle.syntax_tree.specs.declared.trees.nodes.Tree as number
+use Rattle.std.specs.Prelude.{Vec}
+use Rattle.std.specs.declared.alloc.Global.{Global}
 use Rattle.core_forms.proofs.Reading.{ends_err, refuses_then}
-use Rattle.core_forms.proofs.Holes.{parts_start, parts_more, parts_refuse, parts_all, adds_none, row_start, row_into, row_level, row_refuses, row_into_refuses, row_ends, row_none, row_some, hole_is, misplaced_is}
-use Rattle.core_forms.proofs.Finding.{can_positive, into_row, into_parts, part_of_parts, part_of_row, room_at, counted_more, last_of_row}
+use Rattle.core_forms.proofs.Holes.{parts_start, parts_more, parts_refuse, parts_all, adds_none, row_start, row_at, row_into, row_level, row_refuses, row_into_refuses, row_ends, row_none, row_some, hole_is, misplaced_is}
+use Rattle.core_forms.proofs.Finding.{can_positive, into_row, into_parts, part_of_parts, part_of_row, room_at, Counted, counted_more, last_of_row}
 use Rattle.core_forms.proofs.quasi.+quasi.Goals as goal
+use Rattle.core_forms.proofs.quasi.+quasi.Goals.{find_row-in-Into+in_ok-find-in-Into, find_row-in-Level}
 
 -- ---- one datum
 
@@ -156,7 +161,34 @@ find_row-returns-in-Hole t c = λ mark ts tail tells stands ends.
     (hole_of i.0 i.1.0 (one_of (behind (k + 1) ts) tail)) _ (i.1.1 ∙ ap (λ (j : ℕ). hole_of i.0 i.1.0 (one_of (behind j ts) tail)) (sym (add-one k))) (c.hole_at.ensures i.0 i.1.0 ts tail stands ends)
 
 pub find_row-loop-k-preserved : goal.find_row-loop-k-preserved
-find_row-loop-k-preserved t c = ?
+find_row-loop-k-preserved t c =
+    let w = c.args.work.now in
+    let k = c.loop-k.k in
+    let old = c.args.holes.now.items in
+    let count : (next : ℕ) → next ≤ c.loop-k.inner + 1 → Counted w c.args.items.now c.args.end c.args.level next (k + 1) =
+        λ next near. subst (Counted w c.args.items.now c.args.end c.args.level next) (sym (add-one k))
+        (counted_more w c.args.items.now c.args.end c.args.level c.loop-k.inner next k (record { number = 0 }) c.loop-k.invariant.0 c.loop-k-test.true near) in
+    elim c.match-step_of.branch [
+      | find_row-in-Into+in_ok-find-in-Into x ↦ (
+          subst (λ (i : ℕ). Counted w c.args.items.now c.args.end c.args.level i (k + 1)) (sym x.inner-is) (count c.loop-k.inner (omega arith)),
+          λ mark ts tail tells stands ends.
+              let p = part_there w k c.args.items.now ts (record { number = 0 }) stands c.loop-k-test.true in
+              let s = sym (c.step_of.ensures.value mark p.part tells p.stands) ∙ x.in-Into.is in
+              let q = x.in_ok-find-in-Into.ensures mark p.part tells p.stands in
+              row_at w old x.find.new.holes.items c.match-step_of.holes.items mark ts tail c.args.level c.args.element (suc k) (k + 1) c.loop-k.inner c.match-step_of.inner false (add-one k) x.inner-is
+              (ap (λ (v : Vec number.Tree Global). v.items) x.holes-is)
+              (row_into w old c.loop-k.holes.items mark ts tail c.args.level c.args.element k c.loop-k.inner c.loop-k.first (c.loop-k.invariant.1 mark ts tail tells stands ends) p.part p.split x.find.new.holes.items s q.0 q.1 q.2),
+        )
+      | find_row-in-Level x ↦ (
+          subst (λ (i : ℕ). Counted w c.args.items.now c.args.end c.args.level i (k + 1)) (sym x.inner-is) (count x.in-Level.next (subst (IsNear c.loop-k.inner) x.in-Level.is c.step_of.ensures.near)),
+          λ mark ts tail tells stands ends.
+              let p = part_there w k c.args.items.now ts (record { number = 0 }) stands c.loop-k-test.true in
+              let s = sym (c.step_of.ensures.value mark p.part tells p.stands) ∙ x.in-Level.is in
+              row_at w old c.loop-k.holes.items c.match-step_of.holes.items mark ts tail c.args.level c.args.element (suc k) (k + 1) x.in-Level.next c.match-step_of.inner false (add-one k) x.inner-is
+              (ap (λ (v : Vec number.Tree Global). v.items) x.holes-is)
+              (row_level w old c.loop-k.holes.items mark ts tail c.args.level c.args.element k c.loop-k.inner c.loop-k.first (c.loop-k.invariant.1 mark ts tail tells stands ends) p.part p.split x.in-Level.next s),
+        )
+    ]
 
 pub find_row-find-requires-in-Some : goal.find_row-find-requires-in-Some
 find_row-find-requires-in-Some t c =

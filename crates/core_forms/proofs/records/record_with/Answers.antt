@@ -28,7 +28,7 @@ returns-then-not-branch c = λ n k p fs named made tested fields.
     let used = subst (λ (ns : List NamePart). AllMatch (IsName w) ns k.1) (sym c.as_slice-3.ensures.value) made.1 in
     let those = subst (λ (ns : List NamePart). AllMatch (IsName w) ns ms) (c.as_slice-2.ensures.value ∙ sym c.as_slice-4.ensures.value) are in
     let done = c.in_ok-distinct.ensures ms are in
-    uses_not n k p fs done.0 done.1 (sym (c.in_ok-uses_fields.ensures k.1 ms used those) ∙ not_true _ c.if-not-uses_fields.true)
+    uses_not n k p fs done.0 done.1 (sym (c.in_ok-uses_fields.ensures k.1 ms used those) ∙ c.if-not-branch.true)
 
 pub returns : goal.returns
 returns c = λ n k p fs named made tested fields.
@@ -39,6 +39,6 @@ returns c = λ n k p fs named made tested fields.
     let those = subst (λ (ns : List NamePart). AllMatch (IsName w) ns ms) (c.as_slice-2.ensures.value ∙ sym c.as_slice-4.ensures.value) are in
     let done = c.in_ok-distinct.ensures ms are in (
       record { type = n; constructor = k.0; used = k.1; predicate = p; fields = fs },
-      uses_all n k p fs done.0 done.1 (sym (c.in_ok-uses_fields.ensures k.1 ms used those) ∙ not_false _ c.if-not-uses_fields.false),
-      (_, (_, (_, (_, (_, (refl, record { type = named; constructor = made.0; used = made.1; predicate = tested; fields = fields })))))),
+      uses_all n k p fs done.0 done.1 (sym (c.in_ok-uses_fields.ensures k.1 ms used those) ∙ c.if-not-branch.false),
+      (_, (_, (_, (_, (_, refl, record { type = named; constructor = made.0; used = made.1; predicate = tested; fields = fields }))))),
     )

@@ -33,7 +33,7 @@ returns-in_ok-used-in-Parts c = λ ts tail stands ends.
     let l = c.in-Parts.ensures ts stands in
     let n = c.in_ok-name-in-Parts.ensures l.0 l.3 in
     let u = c.in_ok-used-in-Parts.ensures l.1 l.4 in
-    ((n.0, u.0), ap (λ (x : Tail Identifier). uses_of ts x) gone ∙ ap (λ (x : Trees Identifier). uses_of x proper) l.2 ∙ then_ok (name_of l.0) (λ n. names_of l.1 >> λ u. Ok (n, u)) n.0 n.1 ∙ then_ok (names_of l.1) (λ u. Ok (n.0, u)) u.0 u.1, n.2, u.2)
+    ((n.0, u.0), ap (λ (x : Tail Identifier). uses_of ts x) gone ∙ ap (λ (x : Trees Identifier). uses_of x proper) l.2 ∙ then_ok (name_of l.0) (λ n. names_of l.1 >> λ u. Ok (n, u)) n.0 n.1 ∙ then_ok (names_of l.1) (λ u. Ok (n.0, u)) u.0 u.1, (n.2, u.2))
 
 pub returns-then-is_some : goal.returns-then-is_some
 returns-then-is_some c = λ ts tail stands ends.
