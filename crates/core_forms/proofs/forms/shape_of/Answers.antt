@@ -71,9 +71,9 @@ returns-in_ok-values_of-in-DefineValues c = λ k mark ts tail h marks stands end
     let w = c.args.work.now in
     let at = ap (λ (m : CoreKeyword). shape_of m c.args.expression mark ts tail) (is_word c.args.keyword word.DefineValues k IsDefineValues c.in-DefineValues.is refl h) in
     let x = c.in_ok-values_of-in-DefineValues.ensures ts tail stands ends in
-    ends_same w (ShapeFor w) (shape_of k c.args.expression mark ts tail) (unless_expression c.args.expression (Several x.0)) c.unless_expression-in_ok-values_of-in-DefineValues.result
+    ends_same w (ShapeFor w) (shape_of k c.args.expression mark ts tail) (unless_expression c.args.expression (Several x.0)) c.unless_expression-in-DefineValues.result
     (at ∙ then_ok (values_of same_ident ts tail) (λ x. unless_expression c.args.expression (Several x)) x.0 x.1)
-    (unless_ends w c.args.expression _ (Several x.0) c.unless_expression-in_ok-values_of-in-DefineValues.result c.unless_expression-in_ok-values_of-in-DefineValues.ensures.misplaced c.unless_expression-in_ok-values_of-in-DefineValues.ensures.whole x.2)
+    (unless_ends w c.args.expression _ (Several x.0) c.unless_expression-in-DefineValues.result c.unless_expression-in-DefineValues.ensures.misplaced c.unless_expression-in-DefineValues.ensures.whole x.2)
 
 pub returns-else-expression : goal.returns-else-expression
 returns-else-expression c = λ k mark ts tail h marks stands ends.
@@ -87,9 +87,9 @@ returns-in_ok-define_syntax-in-DefineSyntax c = λ k mark ts tail h marks stands
     let w = c.args.work.now in
     let at = ap (λ (m : CoreKeyword). shape_of m c.args.expression mark ts tail) (is_word c.args.keyword word.DefineSyntax k IsDefineSyntax c.in-DefineSyntax.is refl h) in
     let x = c.in_ok-define_syntax-in-DefineSyntax.ensures ts tail stands ends in
-    ends_same w (ShapeFor w) (shape_of k c.args.expression mark ts tail) (unless_expression c.args.expression (Syntax x.0)) c.unless_expression-in_ok-define_syntax-in-DefineSyntax.result
+    ends_same w (ShapeFor w) (shape_of k c.args.expression mark ts tail) (unless_expression c.args.expression (Syntax x.0)) c.unless_expression-in-DefineSyntax.result
     (at ∙ then_ok (named_tree_of ts tail) (λ x. unless_expression c.args.expression (Syntax x)) x.0 x.1)
-    (unless_ends w c.args.expression _ (Syntax x.0) c.unless_expression-in_ok-define_syntax-in-DefineSyntax.result c.unless_expression-in_ok-define_syntax-in-DefineSyntax.ensures.misplaced c.unless_expression-in_ok-define_syntax-in-DefineSyntax.ensures.whole x.2)
+    (unless_ends w c.args.expression _ (Syntax x.0) c.unless_expression-in-DefineSyntax.result c.unless_expression-in-DefineSyntax.ensures.misplaced c.unless_expression-in-DefineSyntax.ensures.whole x.2)
 
 pub returns-in-LetSyntax : goal.returns-in-LetSyntax
 returns-in-LetSyntax c = λ k mark ts tail h marks stands ends.

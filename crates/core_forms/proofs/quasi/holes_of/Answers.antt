@@ -13,7 +13,7 @@ use Rattle.core_forms.proofs.quasi.holes_of.Goals as goal
 pub returns : goal.returns
 returns c = λ mark t marks stands.
     let w = c.args.work.now in
-    let tells = λ n i is. marks n i is ∙ ap (λ (k : Option code_keyword.CoreKeyword). mark_as (kind_if_any k)) (sym (c.in_ok-told.ensures n)) in
+    let tells : TellsMarks w c.in_ok-told.told mark = λ n i is. marks n i is ∙ ap (λ (k : Option code_keyword.CoreKeyword). mark_as (kind_if_any k)) (sym (c.in_ok-told.ensures n)) in
     let p = c.in_ok-find.ensures mark t tells stands in
-    let items : c.find.new.holes.items ≡ p.2.0 = cc in
+    let items : c.find.new.holes.items ≡ p.2.0 = p.2.1 ∙ ap (λ (xs : List number.Tree). xs ++ p.2.0) c.new-holes.ensures.items in
     (p.0, p.1, subst (λ (ns : List number.Tree). AllMatch (StandsFor w) ns p.0.holes) (sym items) p.2.2)
