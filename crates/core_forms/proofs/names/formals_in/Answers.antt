@@ -33,10 +33,9 @@ returns-in_ok-push-in-Some c = λ ts tail stands ends.
     let ns = c.in_ok-names.ensures ts stands in
     let d = end_tree w c.args.end c.in-Some.last tail c.in-Some.is ends in
     let n = c.in_ok-name-in-Some.ensures d.0 d.2 in
-    let are = matches_more (IsName w) c.in_ok-names.names.items ns.0 c.in_ok-name-in-Some.name n.0 ns.2 n.2 in
-    (
+    let are = matches_more (IsName w) c.in_ok-names.names.items ns.0 c.in_ok-name-in-Some.name n.0 ns.2 n.2 in (
       record { names = ns.0 ++ n.0 ∷ []; rest = true },
       ap (λ (x : Tail Identifier). formals_in ts x) d.1 ∙ then_ok (names_of ts) (λ ns. name_of d.0 >> λ n. Ok (record { names = ns ++ n ∷ []; rest = true })) ns.0 ns.1
-      ∙ then_ok (name_of d.0) (λ n. Ok (record { names = ns.0 ++ n ∷ []; rest = true })) n.0 n.1,
+          ∙ then_ok (name_of d.0) (λ n. Ok (record { names = ns.0 ++ n ∷ []; rest = true })) n.0 n.1,
       record { names = subst (λ (xs : List NamePart). AllMatch (IsName w) xs (ns.0 ++ n.0 ∷ [])) (sym c.in_ok-push-in-Some.ensures.items) are; rest = refl },
     )

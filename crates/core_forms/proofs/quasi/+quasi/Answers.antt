@@ -51,11 +51,10 @@ find-returns-in-Atom t c = λ mark u tells stands.
 pub find-returns-in_ok-find_row-in-List : goal.find-returns-in_ok-find_row-in-List
 find-returns-in_ok-find_row-in-List t c = λ mark u tells stands.
     let l = c.in-List.ensures u stands in
-    let r = c.in_ok-find_row-in-List.ensures mark l.0 l.1 tells l.4 l.5 in
-    (
+    let r = c.in_ok-find_row-in-List.ensures mark l.0 l.1 tells l.4 l.5 in (
       pieces (list r.0.parts r.0.tail l.2) r.0.holes,
       ap (λ (x : Tree Identifier). pieces_of mark x c.args.level c.args.element) l.3
-      ∙ ap (λ (x : Result (RowPieces Identifier) (Fault Identifier)). x >> λ r. Ok (pieces (list r.parts r.tail l.2) r.holes)) r.1,
+          ∙ ap (λ (x : Result (RowPieces Identifier) (Fault Identifier)). x >> λ r. Ok (pieces (list r.parts r.tail l.2) r.holes)) r.1,
       r.2,
     )
 
@@ -72,11 +71,10 @@ find-returns-in_err-find_row-in-List t c = λ mark u tells stands.
 pub find-returns-in_ok-find_parts-in-Vector : goal.find-returns-in_ok-find_parts-in-Vector
 find-returns-in_ok-find_parts-in-Vector t c = λ mark u tells stands.
     let l = c.in-Vector.ensures u stands in
-    let r = c.in_ok-find_parts-in-Vector.ensures mark l.0 tells l.3 in
-    (
+    let r = c.in_ok-find_parts-in-Vector.ensures mark l.0 tells l.3 in (
       pieces (vector r.0.parts l.1) r.0.holes,
       ap (λ (x : Tree Identifier). pieces_of mark x c.args.level c.args.element) l.2
-      ∙ ap (λ (x : Result (RowPieces Identifier) (Fault Identifier)). x >> λ r. Ok (pieces (vector r.parts l.1) r.holes)) r.1,
+          ∙ ap (λ (x : Result (RowPieces Identifier) (Fault Identifier)). x >> λ r. Ok (pieces (vector r.parts l.1) r.holes)) r.1,
       r.2,
     )
 
@@ -166,28 +164,28 @@ find_row-loop-k-preserved t c =
     let k = c.loop-k.k in
     let old = c.args.holes.now.items in
     let count : (next : ℕ) → next ≤ c.loop-k.inner + 1 → Counted w c.args.items.now c.args.end c.args.level next (k + 1) =
-        λ next near. subst (Counted w c.args.items.now c.args.end c.args.level next) (sym (add-one k))
-        (counted_more w c.args.items.now c.args.end c.args.level c.loop-k.inner next k (record { number = 0 }) c.loop-k.invariant.0 c.loop-k-test.true near) in
+    λ next near. subst (Counted w c.args.items.now c.args.end c.args.level next) (sym (add-one k))
+    (counted_more w c.args.items.now c.args.end c.args.level c.loop-k.inner next k (record { number = 0 }) c.loop-k.invariant.0 c.loop-k-test.true near) in
     elim c.match-step_of.branch [
       | find_row-in-Into+in_ok-find-in-Into x ↦ (
-          subst (λ (i : ℕ). Counted w c.args.items.now c.args.end c.args.level i (k + 1)) (sym x.inner-is) (count c.loop-k.inner (omega arith)),
-          λ mark ts tail tells stands ends.
-              let p = part_there w k c.args.items.now ts (record { number = 0 }) stands c.loop-k-test.true in
-              let s = sym (c.step_of.ensures.value mark p.part tells p.stands) ∙ x.in-Into.is in
-              let q = x.in_ok-find-in-Into.ensures mark p.part tells p.stands in
-              row_at w old x.find.new.holes.items c.match-step_of.holes.items mark ts tail c.args.level c.args.element (suc k) (k + 1) c.loop-k.inner c.match-step_of.inner false (add-one k) x.inner-is
-              (ap (λ (v : Vec number.Tree Global). v.items) x.holes-is)
-              (row_into w old c.loop-k.holes.items mark ts tail c.args.level c.args.element k c.loop-k.inner c.loop-k.first (c.loop-k.invariant.1 mark ts tail tells stands ends) p.part p.split x.find.new.holes.items s q.0 q.1 q.2),
-        )
+        subst (λ (i : ℕ). Counted w c.args.items.now c.args.end c.args.level i (k + 1)) (sym x.inner-is) (count c.loop-k.inner (omega arith)),
+        λ mark ts tail tells stands ends.
+            let p = part_there w k c.args.items.now ts (record { number = 0 }) stands c.loop-k-test.true in
+            let s = sym (c.step_of.ensures.value mark p.part tells p.stands) ∙ x.in-Into.is in
+            let q = x.in_ok-find-in-Into.ensures mark p.part tells p.stands in
+            row_at w old x.find.new.holes.items c.match-step_of.holes.items mark ts tail c.args.level c.args.element (suc k) (k + 1) c.loop-k.inner c.match-step_of.inner false (add-one k) x.inner-is
+            (ap (λ (v : Vec number.Tree Global). v.items) x.holes-is)
+            (row_into w old c.loop-k.holes.items mark ts tail c.args.level c.args.element k c.loop-k.inner c.loop-k.first (c.loop-k.invariant.1 mark ts tail tells stands ends) p.part p.split x.find.new.holes.items s q.0 q.1 q.2),
+      )
       | find_row-in-Level x ↦ (
-          subst (λ (i : ℕ). Counted w c.args.items.now c.args.end c.args.level i (k + 1)) (sym x.inner-is) (count x.in-Level.next (subst (IsNear c.loop-k.inner) x.in-Level.is c.step_of.ensures.near)),
-          λ mark ts tail tells stands ends.
-              let p = part_there w k c.args.items.now ts (record { number = 0 }) stands c.loop-k-test.true in
-              let s = sym (c.step_of.ensures.value mark p.part tells p.stands) ∙ x.in-Level.is in
-              row_at w old c.loop-k.holes.items c.match-step_of.holes.items mark ts tail c.args.level c.args.element (suc k) (k + 1) x.in-Level.next c.match-step_of.inner false (add-one k) x.inner-is
-              (ap (λ (v : Vec number.Tree Global). v.items) x.holes-is)
-              (row_level w old c.loop-k.holes.items mark ts tail c.args.level c.args.element k c.loop-k.inner c.loop-k.first (c.loop-k.invariant.1 mark ts tail tells stands ends) p.part p.split x.in-Level.next s),
-        )
+        subst (λ (i : ℕ). Counted w c.args.items.now c.args.end c.args.level i (k + 1)) (sym x.inner-is) (count x.in-Level.next (subst (IsNear c.loop-k.inner) x.in-Level.is c.step_of.ensures.near)),
+        λ mark ts tail tells stands ends.
+            let p = part_there w k c.args.items.now ts (record { number = 0 }) stands c.loop-k-test.true in
+            let s = sym (c.step_of.ensures.value mark p.part tells p.stands) ∙ x.in-Level.is in
+            row_at w old c.loop-k.holes.items c.match-step_of.holes.items mark ts tail c.args.level c.args.element (suc k) (k + 1) x.in-Level.next c.match-step_of.inner false (add-one k) x.inner-is
+            (ap (λ (v : Vec number.Tree Global). v.items) x.holes-is)
+            (row_level w old c.loop-k.holes.items mark ts tail c.args.level c.args.element k c.loop-k.inner c.loop-k.first (c.loop-k.invariant.1 mark ts tail tells stands ends) p.part p.split x.in-Level.next s),
+      )
     ]
 
 pub find_row-find-requires-in-Some : goal.find_row-find-requires-in-Some

@@ -14,10 +14,9 @@ pub returns-in_ok-name_of-in-Name : goal.returns-in_ok-name_of-in-Name
 returns-in_ok-name_of-in-Name c = λ t stands.
     let w = c.args.work.now in
     let l = c.in-Name.ensures t stands in
-    let n = c.in_ok-name_of-in-Name.ensures t stands in
-    (
+    let n = c.in_ok-name_of-in-Name.ensures t stands in (
       (n.0, []),
       ap (λ (x : Tree Identifier). constructor_of x) l.2
-      ∙ ap (λ (x : Tree Identifier). name_of x >> alone) (sym l.2) ∙ ap (λ (x : Result (Named Identifier) (Fault Identifier)). x >> alone) n.1,
+          ∙ ap (λ (x : Tree Identifier). name_of x >> alone) (sym l.2) ∙ ap (λ (x : Result (Named Identifier) (Fault Identifier)). x >> alone) n.1,
       (n.2, subst (λ (xs : List NamePart). AllMatch (IsName w) xs []) (sym c.new.ensures.items) tt),
     )
