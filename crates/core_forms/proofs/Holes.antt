@@ -1,0 +1,297 @@
+-- What is unquoted in a datum, part by part.
+use Rattle.std.proofs.Common.{◌≡◌, ℕ, zero, suc, ◌+◌, ◌^◌, ◌<◌, ◌≤◌, List, [], ◌∷◌, ◌++◌, Bool, true, false, Option, Some, None, Result, Ok, Err, refl, sym, ap, ◌∙◌, subst, append_assoc, arith}
+use Rattle.std.proofs.lemmas.List.{append-nil}
+use Rattle.std.proofs.lemmas.Option.{same_Some}
+use Rattle.scheme_model.specs.declared.Occ.{Occ}
+use Rattle.scheme_model.specs.Trees.{Tree, name, atom, list, vector, Trees, no_trees, tree, Tail, proper, dotted}
+use Rattle.scheme_model.specs.ExpansionFaults.{Fault, BadQuasi, ◌>>◌}
+use Rattle.scheme_model.specs.Shapes.{one_of}
+use Rattle.scheme_model.specs.Matching.{behind}
+use Rattle.scheme_model.specs.Measures.{tree_size, trees_size, tail_size}
+use Rattle.scheme_model.specs.Quasiquote.{Mark, Nested, Unquoted, Spliced, Pieces, RowPieces, pieces, row_pieces, before, hole_of, pieces_of, row_of, parts_of, tail_of}
+use Rattle.scheme_model.specs.Ident.{Ident as Identifier}
+use Rattle.syntax_tree.specs.Works.{StandsFor}
+use Rattle.syntax_tree.specs.declared.trees.Work.{Work}
+use Rattle.syntax_tree.specs.declared.trees.nodes.Tree as number
+use Rattle.core_forms.specs.declared.fault.CoreFault.{CoreFault}
+use Rattle.core_forms.specs.declared.fault.CoreFault.TheVariants as fault
+use Rattle.core_forms.specs.declared.quasi.Step.{Step}
+use Rattle.core_forms.specs.declared.quasi.Step.TheVariants as step
+use Rattle.core_forms.specs.Parts.{AllMatch}
+use Rattle.core_forms.specs.Marks.{AddsHoles, mark_of_tree, step_by}
+use Rattle.core_forms.specs.Ends.{Refuses, Ends, AddsPieces, AddsRow}
+use Rattle.core_forms.proofs.Reading.{after, after_none, refuses_after, refuses_then, matches_both}
+
+-- ---- holes added up
+
+pub adds_none : (work : Work) (ns : List number.Tree) → AddsHoles work ns ns []
+adds_none work ns = ([], sym (append-nil ns), tt)
+
+pub adds_both : (work : Work) (a b c : List number.Tree) (hs gs : List (Tree Identifier)) → AddsHoles work a b hs → AddsHoles work b c gs → AddsHoles work a c (hs ++ gs)
+adds_both work a b c hs gs p q =
+    (p.0 ++ q.0, q.1 ∙ ap (λ (x : List number.Tree). x ++ q.0) p.1 ∙ append_assoc a p.0 q.0, matches_both (StandsFor work) p.0 q.0 hs gs p.2 q.2)
+
+pub adds_one : (work : Work) (a b : List number.Tree) (n : number.Tree) (t : Tree Identifier) → b ≡ a ++ n ∷ [] → StandsFor work n t → AddsHoles work a b (t ∷ [])
+adds_one work a b n t e h = (n ∷ [], e, (h, tt))
+
+-- the holes of a row
+abbrev pub row_holes : Result (RowPieces Identifier) (Fault Identifier) → Result (List (Tree Identifier)) (Fault Identifier)
+row_holes (Ok r) = Ok r.holes
+row_holes (Err e) = Err e
+
+-- the row that has these
+pub row_had : (s : Result (RowPieces Identifier) (Fault Identifier)) (hs : List (Tree Identifier)) → row_holes s ≡ Ok hs → (r : RowPieces Identifier) × (s ≡ Ok r) × (r.holes ≡ hs)
+row_had (Ok r) hs h = (r, refl, cc)
+row_had (Err e) hs h = absurd cc
+
+pub row_refused : (work : Work) (e : CoreFault) (s : Result (RowPieces Identifier) (Fault Identifier)) → Refuses work e (row_holes s) → Refuses work e s
+row_refused work e (Ok r) h = no_fault work e r.holes h
+  where
+    no_fault : (work : Work) (e : CoreFault) (hs : List (Tree Identifier)) → Refuses work e (Ok hs) → Refuses work e (Ok r)
+    no_fault work fault.BadForm hs h = absurd cc
+    no_fault work (fault.DuplicateBinder n) hs h = let e = h.1 in absurd cc
+    no_fault work fault.BadPlace hs h = absurd cc
+    no_fault work fault.BadRecord hs h = absurd cc
+    no_fault work fault.BadQuasi hs h = absurd cc
+    no_fault work fault.Memory hs h = tt
+row_refused work fault.BadForm (Err f) h = cc
+row_refused work (fault.DuplicateBinder n) (Err f) h = let e = h.1 in (h.0, cc, h.2)
+row_refused work fault.BadPlace (Err f) h = cc
+row_refused work fault.BadRecord (Err f) h = cc
+row_refused work fault.BadQuasi (Err f) h = cc
+row_refused work fault.Memory (Err f) h = tt
+
+holes_refused : (work : Work) (e : CoreFault) (s : Result (RowPieces Identifier) (Fault Identifier)) → Refuses work e s → Refuses work e (row_holes s)
+holes_refused work fault.BadForm s h = ap row_holes h
+holes_refused work (fault.DuplicateBinder n) s h = (h.0, ap row_holes h.1, h.2)
+holes_refused work fault.BadPlace s h = ap row_holes h
+holes_refused work fault.BadRecord s h = ap row_holes h
+holes_refused work fault.BadQuasi s h = ap row_holes h
+holes_refused work fault.Memory s h = tt
+
+-- ---- one part before others
+
+abbrev pub joined : Pieces Identifier → Result (RowPieces Identifier) (Fault Identifier) → Result (RowPieces Identifier) (Fault Identifier)
+joined p s = s >> λ r. Ok (before p r)
+
+pub joined_holes : (p : Pieces Identifier) (s : Result (RowPieces Identifier) (Fault Identifier)) → row_holes (joined p s) ≡ after p.holes (row_holes s)
+joined_holes p (Ok r) = refl
+joined_holes p (Err e) = refl
+
+pub after_after : (xs ys : List (Tree Identifier)) (s : Result (List (Tree Identifier)) (Fault Identifier)) → after (xs ++ ys) s ≡ after xs (after ys s)
+after_after xs ys (Ok zs) = ap Ok (append_assoc xs ys zs)
+after_after xs ys (Err e) = refl
+
+-- ---- the parts of a list
+
+module _ (mark : Identifier → Option Mark) (us : Trees Identifier) (tail : Tail Identifier) (end : ℕ → Result (RowPieces Identifier) (Fault Identifier)) where
+  -- a part that is gone into
+  pub into_is : (t : Tree Identifier) (l : ℕ) (e : Bool) → step_by (mark_of_tree mark t) l e ≡ step.Into → row_of mark (tree t us) tail end l e ≡ (pieces_of mark t l true >> λ p. joined p (row_of mark us tail end l false))
+  into_is (name i o) l e h = by (mark i) refl l e h
+    where
+      by : (m : Option Mark) → mark i ≡ m → (l : ℕ) (e : Bool) → step_by m l e ≡ step.Into → row_of mark (tree (name i o) us) tail end l e ≡ (pieces_of mark (name i o) l true >> λ p. joined p (row_of mark us tail end l false))
+      by None g l e h = rw g refl
+      by (Some Nested) g l e h = absurd cc
+      by (Some Unquoted) g zero e h = absurd cc
+      by (Some Unquoted) g (suc l) e h = absurd cc
+      by (Some Spliced) g zero true h = absurd cc
+      by (Some Spliced) g zero false h = absurd cc
+      by (Some Spliced) g (suc l) e h = absurd cc
+  into_is (atom a o) l e h = refl
+  into_is (list ts last o) l e h = refl
+  into_is (vector ts o) l e h = refl
+
+  -- a mark that changes the level
+  pub level_is : (t : Tree Identifier) (l m : ℕ) (e : Bool) → step_by (mark_of_tree mark t) l e ≡ step.Level m → row_holes (row_of mark (tree t us) tail end l e) ≡ row_holes (row_of mark us tail end m false)
+  level_is (name i o) l m e h = by (mark i) refl l m e h
+    where
+      same : (l m : ℕ) → step.Level l ≡ step.Level m → l ≡ m
+      same l m h = cc
+
+      holes_same : (s : Result (RowPieces Identifier) (Fault Identifier)) → row_holes (joined (pieces (name (Some i) o) []) s) ≡ row_holes s
+      holes_same (Ok r) = refl
+      holes_same (Err e) = refl
+
+      by : (k : Option Mark) → mark i ≡ k → (l m : ℕ) (e : Bool) → step_by k l e ≡ step.Level m → row_holes (row_of mark (tree (name i o) us) tail end l e) ≡ row_holes (row_of mark us tail end m false)
+      by None g l m e h = absurd cc
+      by (Some Nested) g l m e h = rw (g, sym (same (suc l) m h)) (holes_same (row_of mark us tail end (suc l) false))
+      by (Some Unquoted) g zero m e h = absurd cc
+      by (Some Unquoted) g (suc l) m e h = rw (g, sym (same l m h)) (holes_same (row_of mark us tail end l false))
+      by (Some Spliced) g zero m true h = absurd cc
+      by (Some Spliced) g zero m false h = absurd cc
+      by (Some Spliced) g (suc l) m e h = rw (g, sym (same l m h)) (holes_same (row_of mark us tail end l false))
+  level_is (atom a o) l m e h = absurd cc
+  level_is (list ts last o) l m e h = absurd cc
+  level_is (vector ts o) l m e h = absurd cc
+
+  -- a hole
+  pub hole_is : (t : Tree Identifier) (l : ℕ) (e : Bool) → step_by (mark_of_tree mark t) l e ≡ step.Hole → (i : Identifier) × ((o : Option Occ) × (row_of mark (tree t us) tail end l e ≡ hole_of i o (one_of us tail)))
+  hole_is (name i o) l e h = (i, (o, by (mark i) refl l e h))
+    where
+      by : (m : Option Mark) → mark i ≡ m → (l : ℕ) (e : Bool) → step_by m l e ≡ step.Hole → row_of mark (tree (name i o) us) tail end l e ≡ hole_of i o (one_of us tail)
+      by None g l e h = absurd cc
+      by (Some Nested) g l e h = absurd cc
+      by (Some Unquoted) g zero e h = rw g refl
+      by (Some Unquoted) g (suc l) e h = absurd cc
+      by (Some Spliced) g zero true h = rw g refl
+      by (Some Spliced) g zero false h = absurd cc
+      by (Some Spliced) g (suc l) e h = absurd cc
+  hole_is (atom a o) l e h = absurd cc
+  hole_is (list ts last o) l e h = absurd cc
+  hole_is (vector ts o) l e h = absurd cc
+
+  -- a splice that is misplaced
+  pub misplaced_is : (t : Tree Identifier) (l : ℕ) (e : Bool) → step_by (mark_of_tree mark t) l e ≡ step.Misplaced → row_of mark (tree t us) tail end l e ≡ Err BadQuasi
+  misplaced_is (name i o) l e h = by (mark i) refl l e h
+    where
+      by : (m : Option Mark) → mark i ≡ m → (l : ℕ) (e : Bool) → step_by m l e ≡ step.Misplaced → row_of mark (tree (name i o) us) tail end l e ≡ Err BadQuasi
+      by None g l e h = absurd cc
+      by (Some Nested) g l e h = absurd cc
+      by (Some Unquoted) g zero e h = absurd cc
+      by (Some Unquoted) g (suc l) e h = absurd cc
+      by (Some Spliced) g zero true h = absurd cc
+      by (Some Spliced) g zero false h = rw g refl
+      by (Some Spliced) g (suc l) e h = absurd cc
+  misplaced_is (atom a o) l e h = absurd cc
+  misplaced_is (list ts last o) l e h = absurd cc
+  misplaced_is (vector ts o) l e h = absurd cc
+
+-- ---- up to a place of a list
+
+pub record RowUpTo (work : Work) (old now : List number.Tree) (mark : Identifier → Option Mark) (ts : Trees Identifier) (tail : Tail Identifier) (level : ℕ) (element : Bool) (k inner : ℕ) (first : Bool) : Type 0 where
+  pub holes : List (Tree Identifier)
+  pub adds : AddsHoles work old now holes
+  pub whole : after holes (row_holes (row_of mark (behind k ts) tail (tail_of mark tail) inner first)) ≡ row_holes (row_of mark ts tail (tail_of mark tail) level element)
+
+module _ (work : Work) (old now : List number.Tree) (mark : Identifier → Option Mark) (ts : Trees Identifier) (tail : Tail Identifier) (level : ℕ) (element : Bool) (k inner : ℕ) (first : Bool)
+    (p : RowUpTo work old now mark ts tail level element k inner first) (t : Tree Identifier) (split : behind k ts ≡ tree t (behind (suc k) ts)) where
+  whole_row : after p.holes (row_holes (row_of mark (tree t (behind (suc k) ts)) tail (tail_of mark tail) inner first)) ≡ row_holes (row_of mark ts tail (tail_of mark tail) level element)
+  whole_row = sym (ap (λ (x : Trees Identifier). after p.holes (row_holes (row_of mark x tail (tail_of mark tail) inner first))) split) ∙ p.whole
+
+  abbrev pub rest : ℕ → Result (RowPieces Identifier) (Fault Identifier)
+  rest l = row_of mark (behind (suc k) ts) tail (tail_of mark tail) l false
+
+  pub row_into : (then : List number.Tree) → step_by (mark_of_tree mark t) inner first ≡ step.Into → (q : Pieces Identifier) → pieces_of mark t inner true ≡ Ok q → AddsHoles work now then q.holes →
+      RowUpTo work old then mark ts tail level element (suc k) inner false
+  row_into then s q e h =
+      let i = into_is mark (behind (suc k) ts) tail (tail_of mark tail) t inner first s ∙ ap (λ (x : Result (Pieces Identifier) (Fault Identifier)). x >> λ p. joined p (rest inner)) e in
+      record {
+        holes = p.holes ++ q.holes;
+        adds = adds_both work old now then p.holes q.holes p.adds h;
+        whole = after_after p.holes q.holes (row_holes (rest inner)) ∙ ap (after p.holes) (sym (ap row_holes i ∙ joined_holes q (rest inner))) ∙ whole_row;
+      }
+
+  pub row_level : (m : ℕ) → step_by (mark_of_tree mark t) inner first ≡ step.Level m → RowUpTo work old now mark ts tail level element (suc k) m false
+  row_level m s =
+      record { holes = p.holes; adds = p.adds; whole = ap (after p.holes) (sym (level_is mark (behind (suc k) ts) tail (tail_of mark tail) t inner m first s)) ∙ whole_row }
+
+  -- the row as a whole by what a part of it gives
+  pub row_refuses : (e : CoreFault) → Refuses work e (row_of mark (tree t (behind (suc k) ts)) tail (tail_of mark tail) inner first) → Refuses work e (row_of mark ts tail (tail_of mark tail) level element)
+  row_refuses e h =
+      row_refused work e (row_of mark ts tail (tail_of mark tail) level element) (subst (Refuses work e) whole_row (refuses_after work e p.holes _ (holes_refused work e _ h)))
+
+  pub row_into_refuses : (e : CoreFault) → step_by (mark_of_tree mark t) inner first ≡ step.Into → Refuses work e (pieces_of mark t inner true) → Refuses work e (row_of mark ts tail (tail_of mark tail) level element)
+  row_into_refuses e s h =
+      row_refuses e (subst (Refuses work e) (sym (into_is mark (behind (suc k) ts) tail (tail_of mark tail) t inner first s)) (refuses_then work e (pieces_of mark t inner true) (λ p. joined p (rest inner)) h))
+
+  pub row_done : (then : List number.Tree) (q : RowPieces Identifier) → row_of mark (tree t (behind (suc k) ts)) tail (tail_of mark tail) inner first ≡ Ok q → AddsHoles work now then q.holes →
+      (r : RowPieces Identifier) × (row_of mark ts tail (tail_of mark tail) level element ≡ Ok r) × AddsHoles work old then r.holes
+  row_done then q e h =
+      let g = row_had (row_of mark ts tail (tail_of mark tail) level element) (p.holes ++ q.holes) (sym (sym (ap (λ (x : Result (RowPieces Identifier) (Fault Identifier)). after p.holes (row_holes x)) e) ∙ whole_row)) in
+      (g.0, g.1, subst (AddsHoles work old then) (sym g.2) (adds_both work old now then p.holes q.holes p.adds h))
+
+  -- the row as a whole by what the rest of it gives
+  pub row_ends : (then : List number.Tree) (z : Result (RowPieces Identifier) (Fault Identifier)) (r : Result (Unit {0}) CoreFault) → row_of mark (tree t (behind (suc k) ts)) tail (tail_of mark tail) inner first ≡ z → AddsRow work now then z r →
+      AddsRow work old then (row_of mark ts tail (tail_of mark tail) level element) r
+  row_ends then z (Ok x) e h = row_done then h.0 (e ∙ h.1) h.2
+  row_ends then z (Err f) e h = row_refuses f (subst (Refuses work f) (sym e) h)
+
+-- the same by other words
+pub row_at : (work : Work) (old now then : List number.Tree) (mark : Identifier → Option Mark) (ts : Trees Identifier) (tail : Tail Identifier) (level : ℕ) (element : Bool) (k j inner next : ℕ) (first : Bool) → j ≡ k → next ≡ inner → then ≡ now →
+    RowUpTo work old now mark ts tail level element k inner first → RowUpTo work old then mark ts tail level element j next first
+row_at work old now then mark ts tail level element k j inner next first a b e h =
+    subst (λ (x : ℕ). RowUpTo work old then mark ts tail level element x next first) (sym a)
+    (subst (λ (x : ℕ). RowUpTo work old then mark ts tail level element k x first) (sym b) (subst (λ (x : List number.Tree). RowUpTo work old x mark ts tail level element k inner first) (sym e) h))
+
+-- ---- the whole list
+
+pub row_start : (work : Work) (old : List number.Tree) (mark : Identifier → Option Mark) (ts : Trees Identifier) (tail : Tail Identifier) (level : ℕ) (element : Bool) → RowUpTo work old old mark ts tail level element 0 level element
+row_start work old mark ts tail level element =
+    record { holes = []; adds = adds_none work old; whole = after_none (row_holes (row_of mark ts tail (tail_of mark tail) level element)) }
+
+module _ (work : Work) (old now : List number.Tree) (mark : Identifier → Option Mark) (ts : Trees Identifier) (level : ℕ) (element : Bool) (k inner : ℕ) (first : Bool) where
+  pub row_proper : RowUpTo work old now mark ts proper level element k inner first → behind k ts ≡ no_trees →
+      (r : RowPieces Identifier) × (row_of mark ts proper (tail_of mark proper) level element ≡ Ok r) × AddsHoles work old now r.holes
+  row_proper p e =
+      let whole = sym (ap (λ (x : Trees Identifier). after p.holes (row_holes (row_of mark x proper (tail_of mark proper) inner first))) e) ∙ p.whole in
+      let g = row_had (row_of mark ts proper (tail_of mark proper) level element) p.holes (sym whole ∙ ap Ok (append-nil p.holes)) in
+      (g.0, g.1, subst (AddsHoles work old now) (sym g.2) p.adds)
+
+  abbrev pub tail_holes : (s : Result (Pieces Identifier) (Fault Identifier)) → Result (RowPieces Identifier) (Fault Identifier)
+  tail_holes s = s >> λ q. Ok (row_pieces no_trees (dotted q.datum) q.holes)
+
+  pub row_dotted : (t : Tree Identifier) (then : List number.Tree) → RowUpTo work old now mark ts (dotted t) level element k inner first → behind k ts ≡ no_trees → (q : Pieces Identifier) → pieces_of mark t inner false ≡ Ok q → AddsHoles work now then q.holes →
+      (r : RowPieces Identifier) × (row_of mark ts (dotted t) (tail_of mark (dotted t)) level element ≡ Ok r) × AddsHoles work old then r.holes
+  row_dotted t then p e q s h =
+      let whole = sym (ap (λ (x : Trees Identifier). after p.holes (row_holes (row_of mark x (dotted t) (tail_of mark (dotted t)) inner first))) e) ∙ p.whole in
+      let last = ap (λ (x : Result (Pieces Identifier) (Fault Identifier)). after p.holes (row_holes (tail_holes x))) s in
+      let g = row_had (row_of mark ts (dotted t) (tail_of mark (dotted t)) level element) (p.holes ++ q.holes) (sym whole ∙ last) in
+      (g.0, g.1, subst (AddsHoles work old then) (sym g.2) (adds_both work old now then p.holes q.holes p.adds h))
+
+  pub row_dotted_refuses : (t : Tree Identifier) (f : CoreFault) → RowUpTo work old now mark ts (dotted t) level element k inner first → behind k ts ≡ no_trees → Refuses work f (pieces_of mark t inner false) →
+      Refuses work f (row_of mark ts (dotted t) (tail_of mark (dotted t)) level element)
+  row_dotted_refuses t f p e h =
+      let whole = sym (ap (λ (x : Trees Identifier). after p.holes (row_holes (row_of mark x (dotted t) (tail_of mark (dotted t)) inner first))) e) ∙ p.whole in
+      row_refused work f (row_of mark ts (dotted t) (tail_of mark (dotted t)) level element)
+      (subst (Refuses work f) whole (refuses_after work f p.holes _ (holes_refused work f _ (refuses_then work f (pieces_of mark t inner false) (λ q. Ok (row_pieces no_trees (dotted q.datum) q.holes)) h))))
+
+  -- a row to its end, by what its tail is
+  pub row_none : (tail : Tail Identifier) → RowUpTo work old now mark ts tail level element k inner first → tail ≡ proper → behind k ts ≡ no_trees →
+      (r : RowPieces Identifier) × (row_of mark ts tail (tail_of mark tail) level element ≡ Ok r) × AddsHoles work old now r.holes
+  row_none proper p g e = row_proper p e
+  row_none (dotted t) p g e = absurd cc
+
+  dotted_ends : (t : Tree Identifier) (then : List number.Tree) → RowUpTo work old now mark ts (dotted t) level element k inner first → behind k ts ≡ no_trees → (r : Result (Unit {0}) CoreFault) → AddsPieces work now then (pieces_of mark t inner false) r →
+      AddsRow work old then (row_of mark ts (dotted t) (tail_of mark (dotted t)) level element) r
+  dotted_ends t then p e (Ok x) h = row_dotted t then p e h.0 h.1 h.2
+  dotted_ends t then p e (Err f) h = row_dotted_refuses t f p e h
+
+  pub row_some : (tail : Tail Identifier) (t : Tree Identifier) (then : List number.Tree) → tail ≡ dotted t → RowUpTo work old now mark ts tail level element k inner first → behind k ts ≡ no_trees → (r : Result (Unit {0}) CoreFault) →
+      AddsPieces work now then (pieces_of mark t inner false) r → AddsRow work old then (row_of mark ts tail (tail_of mark tail) level element) r
+  row_some tail t then g p e r h =
+      subst (λ (x : Tail Identifier). AddsRow work old then (row_of mark ts x (tail_of mark x) level element) r) (sym g)
+      (dotted_ends t then (subst (λ (x : Tail Identifier). RowUpTo work old now mark ts x level element k inner first) g p) e r h)
+
+-- ---- the parts of a vector
+
+pub record PartsUpTo (work : Work) (old now : List number.Tree) (mark : Identifier → Option Mark) (ts : Trees Identifier) (level k : ℕ) : Type 0 where
+  pub holes : List (Tree Identifier)
+  pub adds : AddsHoles work old now holes
+  pub whole : after holes (row_holes (parts_of mark (behind k ts) level)) ≡ row_holes (parts_of mark ts level)
+
+pub parts_start : (work : Work) (old : List number.Tree) (mark : Identifier → Option Mark) (ts : Trees Identifier) (level : ℕ) → PartsUpTo work old old mark ts level 0
+parts_start work old mark ts level = record { holes = []; adds = adds_none work old; whole = after_none (row_holes (parts_of mark ts level)) }
+
+module _ (work : Work) (old now : List number.Tree) (mark : Identifier → Option Mark) (ts : Trees Identifier) (level k : ℕ) (p : PartsUpTo work old now mark ts level k) where
+  pub parts_more : (then : List number.Tree) (t : Tree Identifier) → behind k ts ≡ tree t (behind (suc k) ts) → (q : Pieces Identifier) → pieces_of mark t level true ≡ Ok q → AddsHoles work now then q.holes → PartsUpTo work old then mark ts level (suc k)
+  parts_more then t split q e h =
+      let us = behind (suc k) ts in
+      let i = ap (λ (x : Trees Identifier). parts_of mark x level) split ∙ ap (λ (x : Result (Pieces Identifier) (Fault Identifier)). x >> λ p. joined p (parts_of mark us level)) e in
+      record {
+        holes = p.holes ++ q.holes;
+        adds = adds_both work old now then p.holes q.holes p.adds h;
+        whole = after_after p.holes q.holes (row_holes (parts_of mark us level)) ∙ ap (after p.holes) (sym (ap row_holes i ∙ joined_holes q (parts_of mark us level))) ∙ p.whole;
+      }
+
+  pub parts_refuse : (f : CoreFault) (t : Tree Identifier) → behind k ts ≡ tree t (behind (suc k) ts) → Refuses work f (pieces_of mark t level true) → Refuses work f (parts_of mark ts level)
+  parts_refuse f t split h =
+      let us = behind (suc k) ts in
+      let whole = sym (ap (λ (x : Trees Identifier). after p.holes (row_holes (parts_of mark x level))) split) ∙ p.whole in
+      row_refused work f (parts_of mark ts level)
+      (subst (Refuses work f) whole (refuses_after work f p.holes _ (holes_refused work f _ (refuses_then work f (pieces_of mark t level true) (λ p. joined p (parts_of mark us level)) h))))
+
+  pub parts_all : behind k ts ≡ no_trees → (r : RowPieces Identifier) × (parts_of mark ts level ≡ Ok r) × AddsHoles work old now r.holes
+  parts_all e =
+      let whole = sym (ap (λ (x : Trees Identifier). after p.holes (row_holes (parts_of mark x level))) e) ∙ p.whole in
+      let g = row_had (parts_of mark ts level) p.holes (sym whole ∙ ap Ok (append-nil p.holes)) in
+      (g.0, g.1, subst (AddsHoles work old now) (sym g.2) p.adds)

@@ -1,0 +1,14 @@
+use Rattle.std.proofs.Common.{ap}
+use Rattle.scheme_model.specs.Trees.{Tree}
+use Rattle.scheme_model.specs.Shapes.{named_tree_of}
+use Rattle.scheme_model.specs.Ident.{Ident as Identifier}
+use Rattle.core_forms.specs.Parts.{IsMacro}
+use Rattle.core_forms.specs.Steps.{binding_of}
+use Rattle.core_forms.proofs.Reading.{ends_same}
+use Rattle.core_forms.proofs.local_macros.binding_of.Goals as goal
+
+pub returns-in-List : goal.returns-in-List
+returns-in-List c = λ t stands.
+    let w = c.args.work.now in
+    let l = c.in-List.ensures t stands in
+    ends_same w (IsMacro w) (binding_of t) (named_tree_of l.0 l.1) c.named_tree_of.result (ap (λ (x : Tree Identifier). binding_of x) l.3) (c.named_tree_of.ensures l.0 l.1 l.4 l.5)

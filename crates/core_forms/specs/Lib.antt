@@ -1,0 +1,6 @@
+pub mod Forms
+pub mod Parts
+pub mod Marks
+pub mod Ends
+pub mod Steps
+pub mod Numbers

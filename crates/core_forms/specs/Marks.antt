@@ -1,0 +1,110 @@
+-- The marks of a quasiquotation by number, and what is gone through of its datum (R7RS 4.2.8).
+use Rattle.std.specs.Prelude.{◌≡◌, ℕ, zero, suc, ◌+◌, ◌^◌, ◌<◌, ◌≤◌, List, [], ◌∷◌, ◌++◌, Bool, true, false, nat_eq, Option, Some, None, if◌then◌else◌}
+use Rattle.std.specs.BTreeMap.{BTreeMap, get}
+use Rattle.std.specs.Ordering.{nat_cmp}
+use Rattle.scheme_model.specs.Trees.{Tree, name, atom, list, vector, Trees, Tail}
+use Rattle.scheme_model.specs.Quasiquote.{Mark, Nested, Unquoted, Spliced}
+use Rattle.scheme_model.specs.Measures.{tree_size, trees_size, tail_size, tree_depth, trees_depth, tail_depth}
+use Rattle.scheme_model.specs.Ident.{Ident as Identifier}
+use Rattle.syntax_tree.specs.Looks.{PartsStand, EndStands}
+use Rattle.syntax_tree.specs.Macros.{IsIdent}
+use Rattle.syntax_tree.specs.Works.{StandsFor}
+use Rattle.syntax_tree.specs.declared.trees.Work.{Work}
+use Rattle.syntax_tree.specs.declared.trees.nodes.Tree as number
+use Rattle.core_forms.specs.Parts.{AllMatch}
+use Rattle.core_forms.specs.declared.shape.QuasiMark.{QuasiMark}
+use Rattle.core_forms.specs.declared.quasi.MarkKind as code_kind
+use Rattle.core_forms.specs.declared.quasi.MarkKind.TheVariants as kind
+use Rattle.core_forms.specs.declared.quasi.Step.{Step}
+use Rattle.core_forms.specs.declared.quasi.Step.TheVariants as step
+use Rattle.core_forms.specs.declared.shape.CoreKeyword as code_keyword
+use Rattle.core_forms.specs.declared.shape.CoreKeyword.TheVariants as word
+
+abbrev pub kind_of : code_keyword.CoreKeyword → Option code_kind.MarkKind
+kind_of word.Quasiquote = Some kind.Nested
+kind_of word.Unquote = Some kind.Unquoted
+kind_of word.UnquoteSplicing = Some kind.Spliced
+kind_of word.Quote = None
+kind_of word.Lambda = None
+kind_of word.CaseLambda = None
+kind_of word.If = None
+kind_of word.Set = None
+kind_of word.Begin = None
+kind_of word.Define = None
+kind_of word.DefineValues = None
+kind_of word.DefineRecordType = None
+kind_of word.DefineSyntax = None
+kind_of word.LetSyntax = None
+kind_of word.LetrecSyntax = None
+kind_of word.CondExpand = None
+kind_of word.SyntaxError = None
+kind_of word.Include = None
+kind_of word.IncludeCi = None
+
+abbrev pub mark_as : Option code_kind.MarkKind → Option Mark
+mark_as None = None
+mark_as (Some kind.Nested) = Some Nested
+mark_as (Some kind.Unquoted) = Some Unquoted
+mark_as (Some kind.Spliced) = Some Spliced
+
+-- the keyword of the first mark with a number
+abbrev pub keyword_by_number : List QuasiMark → ℕ → Option code_keyword.CoreKeyword
+keyword_by_number [] n = None
+keyword_by_number (m ∷ ms) n = if nat_eq n m.ident then Some m.keyword else keyword_by_number ms n
+
+abbrev pub kind_if_any : Option code_keyword.CoreKeyword → Option code_kind.MarkKind
+kind_if_any None = None
+kind_if_any (Some k) = kind_of k
+
+-- identifiers mark what the list says of their numbers
+abbrev pub AreMarks : Work → List QuasiMark → (Identifier → Option Mark) → Type 0
+AreMarks work marks mark = (n : ℕ) (i : Identifier) → IsIdent work.symbols n i → mark i ≡ mark_as (kind_if_any (keyword_by_number marks n))
+
+-- the map says the same
+abbrev pub TellsMarks : Work → BTreeMap ℕ code_keyword.CoreKeyword → (Identifier → Option Mark) → Type 0
+TellsMarks work marks mark = (n : ℕ) (i : Identifier) → IsIdent work.symbols n i → mark i ≡ mark_as (kind_if_any (get nat_cmp marks n))
+
+-- a datum that is at most so deep, at a level from which all its nodes can be counted
+abbrev pub CanFind : Work → number.Tree → ℕ → ℕ → Type 0
+CanFind work n level left = (t : Tree Identifier) × StandsFor work n t × (tree_depth t ≤ left) × (level + tree_size t < 2 ^ 32)
+
+abbrev pub CanFindParts : Work → List number.Tree → ℕ → ℕ → Type 0
+CanFindParts work ns level left = (ts : Trees Identifier) × PartsStand work ns ts × (trees_depth ts ≤ left) × (level + trees_size ts < 2 ^ 32)
+
+-- the same of the parts and the tail of a list together
+pub record CanFindRow (work : Work) (ns : List number.Tree) (end : Option number.Tree) (level left : ℕ) : Type 0 where
+  pub parts : Trees Identifier
+  pub tail : Tail Identifier
+  pub parts_stand : PartsStand work ns parts
+  pub end_stands : EndStands work end tail
+  pub parts_deep : trees_depth parts ≤ left
+  pub tail_deep : tail_depth tail ≤ left
+  pub small : level + trees_size parts + tail_size tail < 2 ^ 32
+
+-- what a tree marks, where it is an identifier
+abbrev pub mark_of_tree : (Identifier → Option Mark) → Tree Identifier → Option Mark
+mark_of_tree mark (name i o) = mark i
+mark_of_tree mark (atom a o) = None
+mark_of_tree mark (list ts tail o) = None
+mark_of_tree mark (vector ts o) = None
+
+-- what a part of a list asks for, by what it marks
+abbrev pub step_by : Option Mark → ℕ → Bool → Step
+step_by None level element = step.Into
+step_by (Some Nested) level element = step.Level (suc level)
+step_by (Some Unquoted) zero element = step.Hole
+step_by (Some Unquoted) (suc level) element = step.Level level
+step_by (Some Spliced) zero true = step.Hole
+step_by (Some Spliced) zero false = step.Misplaced
+step_by (Some Spliced) (suc level) element = step.Level level
+
+-- a level rises by one at most
+abbrev pub IsNear : ℕ → Step → Type 0
+IsNear level step.Into = Unit {0}
+IsNear level (step.Level n) = n ≤ level + 1
+IsNear level step.Hole = Unit {0}
+IsNear level step.Misplaced = Unit {0}
+
+-- holes were added for these trees
+abbrev pub AddsHoles : Work → List number.Tree → List number.Tree → List (Tree Identifier) → Type 0
+AddsHoles work old new holes = (more : List number.Tree) × (new ≡ old ++ more) × AllMatch (StandsFor work) more holes
