@@ -30,6 +30,7 @@ pub mod FrameHeld
 pub mod FramePlaces
 pub mod FrameDefinitions
 pub mod FrameSyntax
+pub mod FrameForms
 pub mod Distinct
 pub mod FrameExpressions
 pub mod FrameBinders
