@@ -18,6 +18,7 @@ pub mod FrameTimes
 pub mod FrameBodies
 pub mod FrameDefines
 pub mod FrameAsks
+pub mod FrameComing
 pub mod FrameStates
 pub mod FrameGrowth
 pub mod FrameLeaves
