@@ -32,6 +32,7 @@ pub mod FramePlaces
 pub mod FrameDefinitions
 pub mod FrameSyntax
 pub mod FrameForms
+pub mod FrameOpen
 pub mod Distinct
 pub mod FrameExpressions
 pub mod FrameBinders
