@@ -86,7 +86,7 @@ module _ (b : Number) (u : Clock) (c : Frames) (ps : List UsePlace) (ds : BodyDe
       let p = l.0 in let q = inside_far fs l.1 i outer e in
       (λ j. cond (p j && same_ident x i) true (cond (is_some (find ds a i)) false (q j))) ∙ both_false (is_some (find ds a i))
 
-  outside_far : (i : Ident) → Below b.unit u i → comes_outside b x ps ds i ≡ false
+  pub outside_far : (i : Ident) → Below b.unit u i → comes_outside b x ps ds i ≡ false
   outside_far (Written w s) l = refl
   outside_far (Inserted i k) l = inside_far (around ps k) (places k l.0) i (comes_outside b x ps ds i) (outside_far i l.1)
 

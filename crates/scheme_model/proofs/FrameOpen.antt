@@ -48,7 +48,7 @@ module _ (known : Known) (s0 : ScopedState) (f0 : Fine s0.unit s0.locals s0.uses
   Sitting u ps i = Below w u i × Sits b s0.uses c ps i
 
   abbrev pub Placed : Clock → List UsePlace → Place → Type 0
-  Placed u ps l = ((l.frames ≡ home) × Sitting u ps l.ident) ⊎ (Entered (Before w s0.bodies) l.frames × Below w s0.uses l.ident)
+  Placed u ps l = ((l.frames ≡ home) × Sitting u ps l.ident) ⊎ (Entered (Before w s0.bodies) l.frames × Below w s0.uses l.ident × BindersCounted w s0.locals l.frames)
 
   -- a macro: the body's own, or one from outside
   pub record MacroSits (u : Clock) (ps : List UsePlace) (mine : List Number) (k : ScopedMacro) : Type 0 where

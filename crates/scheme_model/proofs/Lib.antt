@@ -33,6 +33,7 @@ pub mod FrameDefinitions
 pub mod FrameSyntax
 pub mod FrameForms
 pub mod FrameOpen
+pub mod FrameBodyDefines
 pub mod Distinct
 pub mod FrameExpressions
 pub mod FrameBinders
