@@ -44,18 +44,18 @@ pending_fused g f h p =
     λ j. record { todo = a j; aside = b j; notes = c j }
 
 -- refused on both sides
-refused_same : {L M : Type 0} (P : L → Type 0) (g : L → M) (new : Bool) (asked : L → Bool) (asked' : M → Bool) (now : L → Meaning) (now' : M → Meaning) → ((l : L) → P l → asked' (g l) ≡ asked l) → ((l : L) → P l → now' (g l) ≡ now l)
+pub refused_same : {L M : Type 0} (P : L → Type 0) (g : L → M) (new : Bool) (asked : L → Bool) (asked' : M → Bool) (now : L → Meaning) (now' : M → Meaning) → ((l : L) → P l → asked' (g l) ≡ asked l) → ((l : L) → P l → now' (g l) ≡ now l)
     → (n : Note L) → NoteAll P n → is_refused new asked' now' (note_map g n) ≡ is_refused new asked now n
 refused_same P g new asked asked' now now' e d (LookedUp l head keyword) h = ap (λ t. t && (keyword || (head && new))) (e l h)
 refused_same P g new asked asked' now now' e d (Compared l j held) h =
     let a = e l h.0 in let b = e j h.1 in let x = d l h.0 in let y = d j h.1 in
     λ i. (a i || b i) && differ held (same_meaning (x i) (y i))
 
-any_same : {L M : Type 0} (P : Note L → Type 0) (g : Note L → Note M) (p : Note L → Bool) (q : Note M → Bool) → ((n : Note L) → P n → q (g n) ≡ p n) → (ns : List (Note L)) → AllOf P ns → any q (map g ns) ≡ any p ns
+pub any_same : {L M : Type 0} (P : Note L → Type 0) (g : Note L → Note M) (p : Note L → Bool) (q : Note M → Bool) → ((n : Note L) → P n → q (g n) ≡ p n) → (ns : List (Note L)) → AllOf P ns → any q (map g ns) ≡ any p ns
 any_same P g p q e [] h = refl
 any_same P g p q e (n ∷ ns) h = let a = e n h.0 in let b = any_same P g p q e ns h.1 in λ j. a j || b j
 
-some_same : {X Y : Type 0} (h : X → Y) (o : Option X) → is_some (option_map h o) ≡ is_some o
+pub some_same : {X Y : Type 0} (h : X → Y) (o : Option X) → is_some (option_map h o) ≡ is_some o
 some_same h None = refl
 some_same h (Some x) = refl
 
@@ -125,7 +125,7 @@ module _ (known : Known) (s0 : ScopedState) (f0 : Fine s0.unit s0.locals s0.uses
   means_added l h =
       means_with body x v t.definitions t.table t.entry t.places unasked l.frames l.ident ∙ ap (λ z. cond z (Local v) (means_at t l.frames l.ident)) (sym (asks_place l h))
 
-  now_same : (l : Place) → Stood t l → meaning t.table t.entry (deep X v (placed t l)) ≡ added_means l
+  pub now_same : (l : Place) → Stood t l → meaning t.table t.entry (deep X v (placed t l)) ≡ added_means l
   now_same l h = meaning_deep t.table t.entry X v (placed t l) ∙ ap (cond (asks X (placed t l)) (Local v)) (names_mean s0.unit t o.fine l.frames l.ident) ∙ sym (means_added l h)
 
   binders_of : (l : Place) → Stood t l → BindersCounted s0.unit t.locals l.frames
@@ -139,7 +139,7 @@ module _ (known : Known) (s0 : ScopedState) (f0 : Fine s0.unit s0.locals s0.uses
       (inside_counted s0.unit t.locals t.definitions o.fine.1.binders l.frames (binders_of l h) l.ident (means_outside t.table t.entry t.places t.definitions l.ident)
           (outside_counted s0.unit t.locals t.table t.entry o.fine.1.entries t.places o.fine.1.places t.definitions o.fine.1.binders l.ident))
 
-  asked_same : (l : Place) → Stood t l → asks X (placed t l) ≡ same_meaning (added_means l) (Local v)
+  pub asked_same : (l : Place) → Stood t l → asks X (placed t l) ≡ same_meaning (added_means l) (Local v)
   asked_same l h = go (asks X (placed t l)) ∙ ap (λ m. same_meaning m (Local v)) (sym (means_added l h))
     where
       go : (z : Bool) → z ≡ same_meaning (cond z (Local v) (means_at t l.frames l.ident)) (Local v)
@@ -172,7 +172,7 @@ module _ (known : Known) (s0 : ScopedState) (f0 : Fine s0.unit s0.locals s0.uses
       go false true r ih = ih r
       go false false r ih = ih r
 
-  mine_same : is_mine (mine t.definitions) X ≡ is_some (find t.definitions body x)
+  pub mine_same : is_mine (mine t.definitions) X ≡ is_some (find t.definitions body x)
   mine_same = go (find t.definitions body x) refl
     where
       go : (z : Option (Number × BodyDefinitions)) → find t.definitions body x ≡ z → is_mine (mine t.definitions) (before_definition z (raw body s0.uses c t.places t.definitions s0.bodies in_places is_young in_definitions in_frames x) t.definitions) ≡ is_some z
@@ -189,26 +189,26 @@ module _ (known : Known) (s0 : ScopedState) (f0 : Fine s0.unit s0.locals s0.uses
     leaf_defined : (i : Ident) → Leaf known s0 f0 c st0 t i → deep X v (names t frames i) ≡ frame_image t.places later frames i
     leaf_defined i h = place_defined (record { frames = frames; ident = i }) (inl (refl, h))
 
-    pending_defined : (p : Pending Ident Place) → PendingHeld (Leaf known s0 f0 c st0 t) (Stood t) p
+    pub pending_defined : (p : Pending Ident Place) → PendingHeld (Leaf known s0 f0 c st0 t) (Stood t) p
         → pending_map (deep X v) (deep X v) (pending_map (names t frames) (placed t) p) ≡ pending_map (frame_image t.places later frames) (λ l. frame_image t.places later l.frames l.ident) p
     pending_defined p h =
         pending_fused (deep X v) (names t frames) (placed t) p
         ∙ pending_same (Leaf known s0 f0 c st0 t) (Stood t) (λ i. deep X v (names t frames i)) (frame_image t.places later frames) (λ l. deep X v (placed t l)) (λ l. frame_image t.places later l.frames l.ident) leaf_defined place_defined p h
 
     -- a macro of the body, and one from outside
-    own_later : (m : Meaning) → is_own (mine t.definitions) m ≡ true → is_own (v ∷ mine t.definitions) m ≡ true
+    pub own_later : (m : Meaning) → is_own (mine t.definitions) m ≡ true → is_own (v ∷ mine t.definitions) m ≡ true
     own_later (Local z) e = ap (λ y. same_number z v || y) e ∙ or_true (same_number z v)
     own_later (Global u i) e = e
     own_later (Standard s) e = e
     own_later (Free s) e = e
 
-    foreign_later : (m : Meaning) → MeansCounted s0.unit t.locals m → is_own (mine t.definitions) m ≡ false → is_own (v ∷ mine t.definitions) m ≡ false
+    pub foreign_later : (m : Meaning) → MeansCounted s0.unit t.locals m → is_own (mine t.definitions) m ≡ false → is_own (v ∷ mine t.definitions) m ≡ false
     foreign_later (Local z) k e = let p = not_next s0.unit t.locals v (next_new s0.unit t o.fine t.locals) (Local z) k in λ j. p j || e j
     foreign_later (Global u i) k e = e
     foreign_later (Standard s) k e = e
     foreign_later (Free s) k e = e
 
-    rules_defined : (k : ScopedMacro) → Held rules_kind (λ i. Stood t (record { frames = k.frames; ident = i })) k.rules → rules_map (deep X v) (rules_map (names t k.frames) k.rules) ≡ rules_map (frame_image t.places later k.frames) k.rules
+    pub rules_defined : (k : ScopedMacro) → Held rules_kind (λ i. Stood t (record { frames = k.frames; ident = i })) k.rules → rules_map (deep X v) (rules_map (names t k.frames) k.rules) ≡ rules_map (frame_image t.places later k.frames) k.rules
     rules_defined k h =
         rules_fused Ident Name Name (deep X v) (names t k.frames) k.rules
         ∙ held_same rules_kind (λ i. Stood t (record { frames = k.frames; ident = i })) (λ i. deep X v (names t k.frames i)) (frame_image t.places later k.frames) (λ i q. place_defined (record { frames = k.frames; ident = i }) q) k.rules h
@@ -235,7 +235,7 @@ module _ (known : Known) (s0 : ScopedState) (f0 : Fine s0.unit s0.locals s0.uses
             ap (λ z. record { meaning = k.meaning; rules = rules_mapped z (deep X v) (rules_map (names t k.frames) k.rules) }) (foreign_later k.meaning q e.0)
             ∙ ap (λ r. record { meaning = k.meaning; rules = r }) (rules_foreign k e.1 h.rules)
 
-    macros_defined : (ks : List ScopedMacro) → AllOf (MacroSits known s0 f0 c st0 t.uses t.places (mine t.definitions)) ks → AllOf (MacroFine s0.unit t.locals t.uses t.bodies) ks
+    pub macros_defined : (ks : List ScopedMacro) → AllOf (MacroSits known s0 f0 c st0 t.uses t.places (mine t.definitions)) ks → AllOf (MacroFine s0.unit t.locals t.uses t.bodies) ks
         → map (own_rules (v ∷ mine t.definitions) (deep X v)) (map (seen_macro t.places t.definitions) ks) ≡ map (seen_macro t.places later) ks
     macros_defined [] h q = refl
     macros_defined (k ∷ ks) h q = let a = macro_defined k h.0 q.0.meaning in let z = macros_defined ks h.1 q.1 in λ j. a j ∷ z j

@@ -135,7 +135,7 @@ module _ (known : Known) (s0 : ScopedState) (f0 : Fine s0.unit s0.locals s0.uses
     -- ---- a macro that is used
 
     -- its rules stand in the body, or outside
-    sits_among : (ks : List ScopedMacro) → AllOf (MacroSits t.uses t.places (mine_of t.definitions)) ks → (m : Meaning) → IfMacro (λ (x : Transformer Frames Ident). Held rules_kind (RuleLeaf t x) x.rules) (macro_at ks m)
+    pub sits_among : (ks : List ScopedMacro) → AllOf (MacroSits t.uses t.places (mine_of t.definitions)) ks → (m : Meaning) → IfMacro (λ (x : Transformer Frames Ident). Held rules_kind (RuleLeaf t x) x.rules) (macro_at ks m)
     sits_among [] h m = tt
     sits_among (k ∷ ks) h m = go (same_meaning k.meaning m) (sits_among ks h.1 m)
       where
@@ -143,11 +143,11 @@ module _ (known : Known) (s0 : ScopedState) (f0 : Fine s0.unit s0.locals s0.uses
         go true e = h.0.rules
         go false e = e
 
-    used_sits : (x : Transformer Frames Ident) (i : Ident) → RuleLeaf t x i → Sits b s0.uses c (used_state s0.unit x.env t).places (Inserted i (next_number t t.uses))
+    pub used_sits : (x : Transformer Frames Ident) (i : Ident) → RuleLeaf t x i → Sits b s0.uses c (used_state s0.unit x.env t).places (Inserted i (next_number t t.uses))
     used_sits x i (inl q) = inl (around_new s0.unit t x.env ∙ q.0, sits_later (used_state s0.unit x.env t) (use_grows s0.unit t o.fine x.env) i q.1.0 q.1.1)
     used_sits x i (inr q) = inr (subst (Entered (Other b)) (sym (around_new s0.unit t x.env)) (entered_other x.env q.0), q.1)
 
-    used_opened : (x : Transformer Frames Ident) → TransformerFine s0.unit t x → Opened (used_state s0.unit x.env t)
+    pub used_opened : (x : Transformer Frames Ident) → TransformerFine s0.unit t x → Opened (used_state s0.unit x.env t)
     used_opened x tf = record {
       fine = use_fine s0.unit t o.fine x.env tf.entered tf.binders;
       grows = grows_then s0.unit s0 t (used_state s0.unit x.env t) o.grows (use_grows s0.unit t o.fine x.env);

@@ -34,6 +34,7 @@ pub mod FrameSyntax
 pub mod FrameForms
 pub mod FrameOpen
 pub mod FrameBodyDefines
+pub mod FrameBodyFacts
 pub mod Distinct
 pub mod FrameExpressions
 pub mod FrameBinders
