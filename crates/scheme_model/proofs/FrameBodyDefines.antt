@@ -137,7 +137,7 @@ module _ (known : Known) (s0 : ScopedState) (f0 : Fine s0.unit s0.locals s0.uses
   fresh l h =
       not_next s0.unit t.locals v (next_new s0.unit t o.fine t.locals) (means_at t l.frames l.ident)
       (inside_counted s0.unit t.locals t.definitions o.fine.1.binders l.frames (binders_of l h) l.ident (means_outside t.table t.entry t.places t.definitions l.ident)
-          (outside_counted s0.unit t.locals t.table t.entry o.fine.1.entries t.places o.fine.1.places t.definitions o.fine.1.binders l.ident))
+      (outside_counted s0.unit t.locals t.table t.entry o.fine.1.entries t.places o.fine.1.places t.definitions o.fine.1.binders l.ident))
 
   pub asked_same : (l : Place) → Stood t l → asks X (placed t l) ≡ same_meaning (added_means l) (Local v)
   asked_same l h = go (asks X (placed t l)) ∙ ap (λ m. same_meaning m (Local v)) (sym (means_added l h))

@@ -79,7 +79,7 @@ module _ (known : Known) (s0 : ScopedState) (f0 : Fine s0.unit s0.locals s0.uses
     refused p h =
         ap (λ z. any (refused_in_body (view true (mine t.definitions) t) X v z) (map (note_map (placed t)) p.notes)) (some_same (rules_map (names t frames)) r)
         ∙ any_same (NoteAll (Stood t)) (note_map (placed t)) (refused_now then_ (Local v) (is_some r)) (refused_in_body (view true (mine t.definitions) t) X v (is_some r))
-            (refused_same (Stood t) (placed t) (is_some r) (λ l. same_meaning (means_at then_ l.frames l.ident) (Local v)) (asks X) (λ l. means_at then_ l.frames l.ident) (λ j. meaning t.table t.entry (deep X v j)) (asked_same known s0 f0 c st0 t o x.name) (now_same known s0 f0 c st0 t o x.name)) p.notes h.2
+        (refused_same (Stood t) (placed t) (is_some r) (λ l. same_meaning (means_at then_ l.frames l.ident) (Local v)) (asks X) (λ l. means_at then_ l.frames l.ident) (λ j. meaning t.table t.entry (deep X v j)) (asked_same known s0 f0 c st0 t o x.name) (now_same known s0 f0 c st0 t o x.name)) p.notes h.2
 
     module _ (free : find t.definitions body x.name ≡ None) where
       mine_then : (v ∷ mine t.definitions) ≡ mine then_.definitions
@@ -93,7 +93,7 @@ module _ (known : Known) (s0 : ScopedState) (f0 : Fine s0.unit s0.locals s0.uses
       macros_then None h = macros_defined known s0 f0 c st0 t o x.name free t.macros o.macros o.fine.1.macros
       macros_then (Some z) h =
           let a = ap (λ y. record { meaning = Local v; rules = rules_mapped y (deep X v) (rules_map (names t frames) z) }) new_own
-                ∙ ap (λ y. record { meaning = Local v; rules = y }) (rules_defined known s0 f0 c st0 t o x.name free (record { meaning = Local v; frames = frames; rules = z }) (held_more rules_kind (Leaf known s0 f0 c st0 t) (λ i. Stood t (record { frames = frames; ident = i })) (λ i q. inl (refl, q)) z h)) in
+          ∙ ap (λ y. record { meaning = Local v; rules = y }) (rules_defined known s0 f0 c st0 t o x.name free (record { meaning = Local v; frames = frames; rules = z }) (held_more rules_kind (Leaf known s0 f0 c st0 t) (λ i. Stood t (record { frames = frames; ident = i })) (λ i q. inl (refl, q)) z h)) in
           let rest = macros_defined known s0 f0 c st0 t o x.name free t.macros o.macros o.fine.1.macros in
           λ j. a j ∷ rest j
 
@@ -111,24 +111,30 @@ module _ (known : Known) (s0 : ScopedState) (f0 : Fine s0.unit s0.locals s0.uses
 
       fine_macros : (q : Option (Rules Ident)) → IfMacro (Held rules_kind (Leaf known s0 f0 c st0 t)) q → AllOf (MacroFine s0.unit (at_form t.form suc t.locals) t.uses t.bodies) (macro_added (Local v) frames q t.macros)
       fine_macros None h = counted.1.macros
-      fine_macros (Some z) h = (record {
-        entered = frames_entered s0.unit t.definitions t.uses t.bodies frames (stands_in known s0 f0 c st0 t o).0;
-        rules = held_made rules_kind s0.unit t.uses z (held_more rules_kind (Leaf known s0 f0 c st0 t) (Below s0.unit t.uses) (λ i q. q.0) z h);
-        binders = binders_more s0.unit t.locals (at_form t.form suc t.locals) (leq_counted t.form t.locals) frames (stands_in known s0 f0 c st0 t o).1;
-        meaning = next_old s0.unit t o.fine t.locals;
-      }, counted.1.macros)
+      fine_macros (Some z) h = (
+        record {
+          entered = frames_entered s0.unit t.definitions t.uses t.bodies frames (stands_in known s0 f0 c st0 t o).0;
+          rules = held_made rules_kind s0.unit t.uses z (held_more rules_kind (Leaf known s0 f0 c st0 t) (Below s0.unit t.uses) (λ i q. q.0) z h);
+          binders = binders_more s0.unit t.locals (at_form t.form suc t.locals) (leq_counted t.form t.locals) frames (stands_in known s0 f0 c st0 t o).1;
+          meaning = next_old s0.unit t o.fine t.locals;
+        },
+        counted.1.macros,
+      )
 
       fine_then : FineState s0.unit then_
-      fine_then = (o.fine.0, record {
-        definitions = defined_below;
-        bodies = (entered_body known s0 f0 c st0 t o, o.fine.1.bodies);
-        entered = o.fine.1.entered;
-        macros = fine_macros r hr;
-        outside = o.fine.1.outside;
-        binders = (next_old s0.unit t o.fine t.locals, counted.1.binders);
-        places = counted.1.places;
-        entries = counted.1.entries;
-      })
+      fine_then = (
+        o.fine.0,
+        record {
+          definitions = defined_below;
+          bodies = (entered_body known s0 f0 c st0 t o, o.fine.1.bodies);
+          entered = o.fine.1.entered;
+          macros = fine_macros r hr;
+          outside = o.fine.1.outside;
+          binders = (next_old s0.unit t o.fine t.locals, counted.1.binders);
+          places = counted.1.places;
+          entries = counted.1.entries;
+        },
+      )
 
       sits_more : (ks : List ScopedMacro) → AllOf (MacroSits known s0 f0 c st0 t.uses t.places (mine t.definitions)) ks → AllOf (MacroFine s0.unit t.locals t.uses t.bodies) ks → AllOf (MacroSits known s0 f0 c st0 t.uses t.places (v ∷ mine t.definitions)) ks
       sits_more [] h q = tt
@@ -170,8 +176,8 @@ module _ (known : Known) (s0 : ScopedState) (f0 : Fine s0.unit s0.locals s0.uses
 
     define_cases : (here : Here) (p : Pending Ident Place) → PendingHeld (Stands_here t) (Stood t) p → (y : Bool) (d : Option (Number × BodyDefinitions)) → find t.definitions body x.name ≡ d
         → Goal here p (cond y (Err (KeywordRedefined x), t) (cond (is_some d) (Err (Duplicate x), t) (Ok p, then_)))
-            (cond y (Err (KeywordRedefined (named (erase X) x.occ)), view true (mine t.definitions) t) (cond (is_some d) (Err (Duplicate (named (erase X) x.occ)), view true (mine t.definitions) t)
-                (Ok (pending_map (deep X v) (deep X v) (pending_map (names t frames) (placed t) p)), defined_local X (option_map (rules_map (names t frames)) r) (view true (mine t.definitions) t))))
+        (cond y (Err (KeywordRedefined (named (erase X) x.occ)), view true (mine t.definitions) t) (cond (is_some d) (Err (Duplicate (named (erase X) x.occ)), view true (mine t.definitions) t)
+        (Ok (pending_map (deep X v) (deep X v) (pending_map (names t frames) (placed t) p)), defined_local X (option_map (rules_map (names t frames)) r) (view true (mine t.definitions) t))))
     define_cases here p h true d e =
         break (record { fault = KeywordRedefined x; here = here }) t true (mine t.definitions) refl
         (ap (λ i. (Err (record { fault = KeywordRedefined (named i x.occ); here = here }), view true (mine t.definitions) t)) (erase_frame_image t.places t.definitions frames x.name)) ((o, refl, refl), tt)
@@ -187,8 +193,8 @@ module _ (known : Known) (s0 : ScopedState) (f0 : Fine s0.unit s0.locals s0.uses
     define_law here p h =
         agrees_at refl
         (let y = refused p h in let z = mine_same known s0 f0 c st0 t o x.name in
-         λ j. told here (cond (y j) (Err (KeywordRedefined (named (erase X) x.occ)), view true (mine t.definitions) t) (cond (z j) (Err (Duplicate (named (erase X) x.occ)), view true (mine t.definitions) t)
-            (Ok (pending_map (deep X v) (deep X v) (pending_map (names t frames) (placed t) p)), defined_local X (option_map (rules_map (names t frames)) r) (view true (mine t.definitions) t)))))
+        λ j. told here (cond (y j) (Err (KeywordRedefined (named (erase X) x.occ)), view true (mine t.definitions) t) (cond (z j) (Err (Duplicate (named (erase X) x.occ)), view true (mine t.definitions) t)
+        (Ok (pending_map (deep X v) (deep X v) (pending_map (names t frames) (placed t) p)), defined_local X (option_map (rules_map (names t frames)) r) (view true (mine t.definitions) t)))))
         (define_cases here p h (any (refused_now then_ (Local v) (is_some r)) p.notes) (find t.definitions body x.name) refl)
 
   -- ---- all that a place has to give
@@ -220,13 +226,17 @@ module _ (known : Known) (s0 : ScopedState) (f0 : Fine s0.unit s0.locals s0.uses
     place_later = λ s t i n k g p l. place_later known s0 f0 c st0 s k.0 t g p l;
     placed_later = λ s t i n k g p l. placed_later known s0 f0 c st0 s k.0 t g p l;
     still = λ s i n x y z k. (record { fine = k.0.fine; grows = k.0.grows; entered = k.0.entered; macros = k.0.macros; table = k.0.table }, k.1, k.2);
-    local = λ s i n k. (record {
-      fine = locals_fine s0.unit s (at_form s.form suc s.locals) (leq_counted s.form s.locals) k.0.fine;
-      grows = grows_then s0.unit s0 s (record s { locals = at_form s.form suc s.locals }) k.0.grows (locals_grow s0.unit s (at_form s.form suc s.locals) (leq_counted s.form s.locals));
-      entered = k.0.entered;
-      macros = k.0.macros;
-      table = k.0.table;
-    }, k.1, k.2);
+    local = λ s i n k. (
+      record {
+        fine = locals_fine s0.unit s (at_form s.form suc s.locals) (leq_counted s.form s.locals) k.0.fine;
+        grows = grows_then s0.unit s0 s (record s { locals = at_form s.form suc s.locals }) k.0.grows (locals_grow s0.unit s (at_form s.form suc s.locals) (leq_counted s.form s.locals));
+        entered = k.0.entered;
+        macros = k.0.macros;
+        table = k.0.table;
+      },
+      k.1,
+      k.2,
+    );
     trail = λ s t g. tt;
     trail_then = λ s t v g h. tt;
     ended = λ s t i n k g ns h. tt;

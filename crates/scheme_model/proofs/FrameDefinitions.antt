@@ -47,7 +47,7 @@ module _ (A B : Type 0) (f : A → B) where
   record_names-map r =
       ap (λ ns. named_map f r.type ∷ named_map f r.constructor ∷ named_map f r.predicate ∷ ns)
       (append_map (named_map f) (map (λ (x : FieldShape A). x.accessor) r.fields) (modifiers r.fields)
-          (map_turned (λ (x : FieldShape B). x.accessor) (field_map f) (named_map f) (λ (x : FieldShape A). x.accessor) (λ x. refl) r.fields) (modifiers-map r.fields))
+      (map_turned (λ (x : FieldShape B). x.accessor) (field_map f) (named_map f) (λ (x : FieldShape A). x.accessor) (λ x. refl) r.fields) (modifiers-map r.fields))
 
   some_same : (o : Option (Named A)) → is_some (option_map (named_map f) o) ≡ is_some o
   some_same None = refl
@@ -66,7 +66,7 @@ module _ (A B : Type 0) (f : A → B) where
     record_part-map r bs cs =
         let m = modified-map 0 r.fields in
         let u = map_turned (λ (n : Named B). record { field = position same' n.name (map (field_map f) r.fields); occ = n.occ }) (named_map f) (λ x. x) (λ (n : Named A). record { field = position same n.name r.fields; occ = n.occ })
-              (λ n. ap (λ p. record { field = p; occ = n.occ }) (position-map n.name r.fields)) r.used ∙ same_list (map (λ (n : Named A). record { field = position same n.name r.fields; occ = n.occ }) r.used) in
+        (λ n. ap (λ p. record { field = p; occ = n.occ }) (position-map n.name r.fields)) r.used ∙ same_list (map (λ (n : Named A). record { field = position same n.name r.fields; occ = n.occ }) r.used) in
         λ j. record { binders = bs; fields = cs; modified = m j; used = u j }
       where
         same_list : {X : Type 0} (xs : List X) → map (λ x. x) xs ≡ xs
@@ -103,8 +103,8 @@ module _ (w : ℕ) (known : Known) (fs : Frames) (Inside : ScopedState → Bool 
     one_law x l t t' e q =
         caught_law w known fs Inside Trail Leaf PlaceIn RuleLeaf Ended facts s i n k p.notes h.2 f g
         (agrees_at refl
-            (λ j. told here ((model known).define (named_map (names s fs) x) None tt ((ap (λ z. put z (seen s p)) e ∙ put_seen (names s fs) (placed s) t p) j) (view i n s)))
-            (facts.defines s i n k here x l None tt (put t p) (put_held (Leaf s) (PlaceIn s) t p q h)))
+        (λ j. told here ((model known).define (named_map (names s fs) x) None tt ((ap (λ z. put z (seen s p)) e ∙ put_seen (names s fs) (placed s) t p) j) (view i n s)))
+        (facts.defines s i n k here x l None tt (put t p) (put_held (Leaf s) (PlaceIn s) t p q h)))
         (λ a b v i1 n1 k1 r. together_at w known fs Inside Trail Leaf PlaceIn RuleLeaf Ended refl (ap (λ z. g z (view i1 n1 v)) r.1) (law a v i1 n1 k1 r.0))
 
     put_one : (t : Item Ident) → Held item_kind (Leaf s) t → Both (f (put t p) s) (g (put (item_map (names s fs) t) (seen s p)) (view i n s))
@@ -155,7 +155,7 @@ module _ (w : ℕ) (known : Known) (fs : Frames) (Inside : ScopedState → Bool 
   module _ (ns : List (Named Ident)) (ns' : List (Named Name)) (ih : AllLaw ns ns') (s : ScopedState) (i : Bool) (n : List Number) (k : Inside s i n) (p : Pending Ident Place) (h : HeldAt s p) where
     next_is : (t : Tree Ident) → TreeAll (Leaf s) t → (hr : Here) (todo : List (Form Ident)) → AllOf (FormAll (Leaf s)) todo
         → Agrees (At s) Several (define_next (scoped known) here fs (define_all (scoped known) here fs ns) p (next_name p (record { here = hr; tree = t } ∷ todo)) s)
-            (define_next (model known) here tt (define_all (model known) here tt ns') (seen s p) (next_name (seen s p) (record { here = hr; tree = map_tree (names s fs) t } ∷ map (form_map (names s fs)) todo)) (view i n s))
+        (define_next (model known) here tt (define_all (model known) here tt ns') (seen s p) (next_name (seen s p) (record { here = hr; tree = map_tree (names s fs) t } ∷ map (form_map (names s fs)) todo)) (view i n s))
     next_is (name x o) l hr todo lt =
         on_bind w known fs Inside Trail Leaf PlaceIn RuleLeaf Ended facts s _ (facts.defines s i n k here (named x o) l None tt (record { todo = todo; aside = p.aside; notes = p.notes }) (lt, h.1, h.2)) (λ q q' t i1 n1 k1 r.
         on_bind w known fs Inside Trail Leaf PlaceIn RuleLeaf Ended facts t _ (agrees_at refl (ap (λ z. define_all (model known) here tt ns' z (view i1 n1 t)) r.1) (ih q t i1 n1 k1 r.0)) (λ a b v i2 n2 k2 e.
@@ -198,7 +198,7 @@ module _ (w : ℕ) (known : Known) (fs : Frames) (Inside : ScopedState → Bool 
       together_at w known fs Inside Trail Leaf PlaceIn RuleLeaf Ended refl
       (ap (λ cs. g (values_put cs rest (seen t q) (map (form_map (names t fs)) (x ∷ xs))) (view i n t)) e)
       (put_law w known fs Inside Trail Leaf PlaceIn RuleLeaf Ended facts f g law t i n k (record { todo = xs; aside = q.aside; notes = q.notes }) (l.1, h.1, h.2) (ValuesOf (record { names = bs; rest = rest }) x)
-          (form_item x l.0))
+      (form_item x l.0))
     where
       form_item : (y : Form Ident) → FormAll (Leaf t) y → Held item_kind (Leaf t) (ValuesOf (record { names = bs; rest = rest }) y)
       form_item y m = record { made = ValuesOf (record { names = bs; rest = rest }) (record { here = y.here; tree = lift_tree (Leaf t) y.tree m }); same = ap (λ u. ValuesOf (record { names = bs; rest = rest }) (record { here = y.here; tree = u })) (lifted_tree (Leaf t) y.tree m) }
@@ -206,7 +206,7 @@ module _ (w : ℕ) (known : Known) (fs : Frames) (Inside : ScopedState → Bool 
   module _ (s : ScopedState) (i : Bool) (n : List Number) (k : Inside s i n) (p : Pending Ident Place) (h : HeldAt s p) where
     values_over : (d : Formals (Holding (Leaf s)) × Tree (Holding (Leaf s)))
         → Both (run_values (scoped known) f here fs p (formals_map (held (Leaf s)) d.0, map_tree (held (Leaf s)) d.1) s)
-            (run_values (model known) g here tt (seen s p) (formals_map (names s fs) (formals_map (held (Leaf s)) d.0), map_tree (names s fs) (map_tree (held (Leaf s)) d.1)) (view i n s))
+        (run_values (model known) g here tt (seen s p) (formals_map (names s fs) (formals_map (held (Leaf s)) d.0), map_tree (names s fs) (map_tree (held (Leaf s)) d.1)) (view i n s))
     values_over d =
         caught_law w known fs Inside Trail Leaf PlaceIn RuleLeaf Ended facts s i n k p.notes h.2
         (λ r. f (values_put r.0 d.0.rest r.1 r.1.todo)) (λ r. g (values_put r.0 d.0.rest r.1 r.1.todo))
@@ -226,8 +226,8 @@ module _ (w : ℕ) (known : Known) (fs : Frames) (Inside : ScopedState → Bool 
   fields_law c e [] s i n k = agree [] [] s i n refl refl (k, grows_itself w s) refl
   fields_law c e (x ∷ ns) s i n k =
       agrees_bind _ (agrees_more {K = λ t i1 n1. Inside t i1 n1 × Grows w (record s { locals = at_form s.form suc s.locals }) t} {L = λ t i1 n1. Inside t i1 n1 × Grows w s t} {R = λ (t : ScopedState) (a : List Binder) (b : List Binder). b ≡ a} {Q = λ (t : ScopedState) (a : List Binder) (b : List Binder). b ≡ a}
-          (λ t i1 n1 l. (l.0, grows_then w s (record s { locals = at_form s.form suc s.locals }) t (locals_grow w s (at_form s.form suc s.locals) (leq_counted s.form s.locals)) l.1)) (λ t a b q. q)
-          (fields_law c e ns (record s { locals = at_form s.form suc s.locals }) i n (facts.local s i n k))) (λ a b t i1 n1 l q.
+      (λ t i1 n1 l. (l.0, grows_then w s (record s { locals = at_form s.form suc s.locals }) t (locals_grow w s (at_form s.form suc s.locals) (leq_counted s.form s.locals)) l.1)) (λ t a b q. q)
+      (fields_law c e ns (record s { locals = at_form s.form suc s.locals }) i n (facts.local s i n k))) (λ a b t i1 n1 l q.
       agree (record { bound = LocalNumber (next_number s s.locals); ident = x.name; occ = x.occ } ∷ a) (record { bound = LocalNumber (next_number s s.locals); ident = erase (c x.name); occ = x.occ } ∷ b) t i1 n1 refl refl l
       (let z = e x.name in λ j. record { bound = LocalNumber (next_number s s.locals); ident = z j; occ = x.occ } ∷ q j))
 
@@ -265,8 +265,8 @@ module _ (w : ℕ) (known : Known) (fs : Frames) (Inside : ScopedState → Bool 
         let ps = pending_same (Leaf s) (PlaceIn s) (names s fs) (names t fs) (placed s) (placed t) leaf (facts.placed_later s t i n k gr) p h in
         on_bind w known fs Inside Trail Leaf PlaceIn RuleLeaf Ended facts t _
         (agrees_at refl (λ j. define_names (model known) here tt (ns j) [] (ps j) (view i1 n1 t))
-            (names_law (record_names shape) [] p t i1 n1 k1 (pending_more (Leaf s) (Leaf t) (PlaceIn s) (PlaceIn t) (facts.leaf_later s t i n k gr) (facts.place_later s t i n k gr) p h)
-                (all_of_more (λ (x : Named Ident). Leaf s x.name) (λ (x : Named Ident). Leaf t x.name) (λ x l. facts.leaf_later s t i n k gr x.name l) (record_names shape) (record_names_held (Leaf s) r0)) tt))
+        (names_law (record_names shape) [] p t i1 n1 k1 (pending_more (Leaf s) (Leaf t) (PlaceIn s) (PlaceIn t) (facts.leaf_later s t i n k gr) (facts.place_later s t i n k gr) p h)
+        (all_of_more (λ (x : Named Ident). Leaf s x.name) (λ (x : Named Ident). Leaf t x.name) (λ x l. facts.leaf_later s t i n k gr x.name l) (record_names shape) (record_names_held (Leaf s) r0)) tt))
         (λ c d v i2 n2 k2 q. agree (a, c) (b, d) v i2 n2 refl refl (k2, on_itself v) (e, q))
 
     record_over : Both (run_record (scoped known) f here fs p shape s) (run_record (model known) g here tt (seen s p) (record_map (names s fs) shape) (view i n s))
@@ -274,8 +274,8 @@ module _ (w : ℕ) (known : Known) (fs : Frames) (Inside : ScopedState → Bool 
         caught_law w known fs Inside Trail Leaf PlaceIn RuleLeaf Ended facts s i n k p.notes h.2
         (λ q. f (put (Record (record_part same_ident shape q.1.0 q.0)) q.1.1)) (λ q. g (put (Record (record_part same_name (record_map (names s fs) shape) q.1.0 q.0)) q.1.1))
         (agrees_at refl
-            (ap (λ xs. fields_bound (model known) xs (view i n s) >>= λ bs t. define_names (model known) here tt (record_names (record_map (names s fs) shape)) [] (seen s p) t >>= λ q. done (bs, q)) fields_same)
-            (grown_bind s _ (fields_law (names s fs) (λ x. erase_frame_image s.places s.definitions fs x) (field_names shape) s i n k) (λ a b t i1 n1 k1 gr e. defined_law t i1 n1 k1 gr a b e)))
+        (ap (λ xs. fields_bound (model known) xs (view i n s) >>= λ bs t. define_names (model known) here tt (record_names (record_map (names s fs) shape)) [] (seen s p) t >>= λ q. done (bs, q)) fields_same)
+        (grown_bind s _ (fields_law (names s fs) (λ x. erase_frame_image s.places s.definitions fs x) (field_names shape) s i n k) (λ a b t i1 n1 k1 gr e. defined_law t i1 n1 k1 gr a b e)))
         (λ a b t i1 n1 k1 e.
         together_at w known fs Inside Trail Leaf PlaceIn RuleLeaf Ended refl
         ((λ j. g (put (Record (record_part same_name (record_map (names s fs) shape) (e.1.0 j) (e.0 j))) (e.1.2 j)) (view i1 n1 t))

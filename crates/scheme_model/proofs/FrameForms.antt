@@ -131,8 +131,8 @@ module _ (w : ℕ) (known : Known) (fs : Frames) (Inside : ScopedState → Bool 
             let r = mh.rules.same in let us = lifted_trees (Leaf s) ts l in let end = lifted_tail (Leaf s) tail e in
             subst (λ (qs : List (Ident × Ident)). AllOf (NoteAll (PlaceIn s)) (map (λ (q : Ident × Ident). Compared (record { frames = m.env; ident = q.0 }) (record { frames = fs; ident = q.1 }) (same_meaning (means_at s m.env q.0) (means_at s fs q.1))) qs))
             (sym (compared-map (Holding (RuleLeaf s m)) (Holding (Leaf s)) Ident Ident (held (RuleLeaf s m)) (held (Leaf s)) (role_of (over (RuleLeaf s m)) mh.rules.made) (role_of identifiers (rules_map (held (RuleLeaf s m)) mh.rules.made)) (role_of-map (Holding (RuleLeaf s m)) Ident (held (RuleLeaf s m)) (over (RuleLeaf s m)) identifiers (over_told (RuleLeaf s m)) mh.rules.made)
-                    (dots_of (over (RuleLeaf s m)) mh.rules.made) (dots_of identifiers (rules_map (held (RuleLeaf s m)) mh.rules.made)) (dots_of-map (Holding (RuleLeaf s m)) Ident (held (RuleLeaf s m)) (over (RuleLeaf s m)) identifiers (over_told (RuleLeaf s m)) mh.rules.made) mh.rules.made.rules (lift_trees (Leaf s) ts l) (lift_tail (Leaf s) tail e))
-                ∙ (λ j. compared (role_of identifiers (r j)) (dots_of identifiers (r j)) (r j).rules (us j) (end j)))
+            (dots_of (over (RuleLeaf s m)) mh.rules.made) (dots_of identifiers (rules_map (held (RuleLeaf s m)) mh.rules.made)) (dots_of-map (Holding (RuleLeaf s m)) Ident (held (RuleLeaf s m)) (over (RuleLeaf s m)) identifiers (over_told (RuleLeaf s m)) mh.rules.made) mh.rules.made.rules (lift_trees (Leaf s) ts l) (lift_tail (Leaf s) tail e))
+            ∙ (λ j. compared (role_of identifiers (r j)) (dots_of identifiers (r j)) (r j).rules (us j) (end j)))
             (pairs_held (compared (role_of (over (RuleLeaf s m)) mh.rules.made) (dots_of (over (RuleLeaf s m)) mh.rules.made) mh.rules.made.rules (lift_trees (Leaf s) ts l) (lift_tail (Leaf s) tail e)))
 
         -- what is left, with what was compared
@@ -164,14 +164,14 @@ module _ (w : ℕ) (known : Known) (fs : Frames) (Inside : ScopedState → Bool 
             at (ap (λ z. caught left.notes z (λ t. f (first (record { here = here; tree = t } ∷ []) left))) er) (ap (λ z. caught (seen s left).notes z (λ t. g (first (record { here = here; tree = t } ∷ []) (seen s left)))) em)
             (at refl (λ j. g (first (record { here = here; tree = z j } ∷ []) (ps j)) (view i1 n1 t))
             (first_law w known fs Inside Trail Leaf PlaceIn RuleLeaf Ended facts f g law t i1 n1 kk.0 left
-                (pending_more (Leaf s) (Leaf t) (PlaceIn s) (PlaceIn t) (facts.leaf_later s t i n k kk.1) (facts.place_later s t i n k kk.1) left left_held)
-                (record { here = here; tree = a } ∷ []) (tree_more (Leaf begun) (Leaf t) (facts.leaf_later begun t i n mh.after q.0) a (tree_held (Leaf begun) a q.1), tt)))
+            (pending_more (Leaf s) (Leaf t) (PlaceIn s) (PlaceIn t) (facts.leaf_later s t i n k kk.1) (facts.place_later s t i n k kk.1) left left_held)
+            (record { here = here; tree = a } ∷ []) (tree_more (Leaf begun) (Leaf t) (facts.leaf_later begun t i n mh.after q.0) a (tree_held (Leaf begun) a q.1), tt)))
 
         use_here : Both (caught left.notes (use_of (scoped known) here fs keyword m ts tail s) (λ t. f (first (record { here = here; tree = t } ∷ []) left)))
             (caught (seen s left).notes (use_of (model known) here tt keyword (seen_transformer s.places s.definitions m) (map_trees (names s fs) ts) (map_tail (names s fs) tail) (view i n s)) (λ t. g (first (record { here = here; tree = t } ∷ []) (seen s left))))
         use_here =
             use_next (held_use_law w known s (facts.fine s i n k) i n fs (facts.stands s i n k) m mh.entered mh.binders (RuleLeaf s m) (Leaf s) (Leaf begun) mh.below (facts.below s i n k) (facts.leaf_later s begun i n k begun_grows) mh.inserts mh.rules ts tail l e
-                (λ t i1 n1. Inside t i1 n1 × Grows w s t) (k, grows_itself w s) (λ x y. (facts.still begun i n y s.keywords x mh.after, begun_grows)) here keyword)
+            (λ t i1 n1. Inside t i1 n1 × Grows w s t) (k, grows_itself w s) (λ x y. (facts.still begun i n y s.keywords x mh.after, begun_grows)) here keyword)
 
         noting : noted (comparisons (model known) tt (seen_transformer s.places s.definitions m) (map_trees (names s fs) ts) (map_tail (names s fs) tail) (view i n s)) (seen s p) ≡ seen s (noted (comparisons (scoped known) fs m ts tail s) p)
         noting = ap (λ ns. noted ns (seen s p)) (comparisons_seen w known s (facts.fine s i n k) i n fs m ts tail) ∙ noted_seen (names s fs) (placed s) (comparisons (scoped known) fs m ts tail s) p

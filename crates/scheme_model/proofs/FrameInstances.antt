@@ -241,13 +241,13 @@ module _ (w : ℕ) (known : Known) (s : ScopedState) (f : FineState w s) (in_bod
       build_cases (Ok x) r r' (reads e) (reads d) =
           agrees_at (ap (λ z. given (λ i. i) here z then_ >>= λ b t. done b.value ((scoped known).spend b.count ((scoped known).meet_use scoped_met t))) e) (ap (λ z. given erase here z (view in_body mine then_) >>= λ b t. done b.value ((model known).spend b.count ((model known).meet_use model_met t))) d)
           (agree (map_tree (held R) x.value) (map_tree (λ p. names then_ fs p.0) x.value) (record then_ { met = at_form s.form (λ us. scoped_met ∷ us) s.met; nodes = at_form s.form (λ y. y + x.count) s.nodes }) in_body mine refl
-              (let u = met_same in λ j. (Ok (map_tree (λ (p : Made_then). names then_ fs p.0) x.value), view in_body mine (record then_ { met = at_form s.form (λ us. u j ∷ us) s.met; nodes = at_form s.form (λ y. y + x.count) s.nodes })))
-              (k_then (at_form s.form (λ us. scoped_met ∷ us) s.met) (at_form s.form (λ y. y + x.count) s.nodes))
-              (grows_itself w then_, record { made = x.value; same = refl }, sym (map_map (names then_ fs) (held R) x.value)))
+          (let u = met_same in λ j. (Ok (map_tree (λ (p : Made_then). names then_ fs p.0) x.value), view in_body mine (record then_ { met = at_form s.form (λ us. u j ∷ us) s.met; nodes = at_form s.form (λ y. y + x.count) s.nodes })))
+          (k_then (at_form s.form (λ us. scoped_met ∷ us) s.met) (at_form s.form (λ y. y + x.count) s.nodes))
+          (grows_itself w then_, record { made = x.value; same = refl }, sym (map_map (names then_ fs) (held R) x.value)))
       build_cases (Err z) r r' (reads e) (reads d) =
           agrees_at (ap (λ z. given (λ i. i) here z then_ >>= λ b t. done b.value ((scoped known).spend b.count ((scoped known).meet_use scoped_met t))) e) (ap (λ z. given erase here z (view in_body mine then_) >>= λ b t. done b.value ((model known).spend b.count ((model known).meet_use model_met t))) d)
           (break (record { fault = fault_map (λ i. i) (fault_map (held R) z); here = here }) then_ in_body mine refl
-              (ap (λ (y : Fault Ident). (Err (record { fault = y; here = here }), view in_body mine then_)) (fault_over z)) (k_then s.met s.nodes))
+          (ap (λ (y : Fault Ident). (Err (record { fault = y; here = here }), view in_body mine then_)) (fault_over z)) (k_then s.met s.nodes))
         where
           fault_over : (y : Fault Made_then) → fault_map erase (fault_map (λ (p : Made_then). names then_ fs p.0) y) ≡ fault_map (λ i. i) (fault_map (held R) y)
           fault_over y =
@@ -285,5 +285,5 @@ module _ (w : ℕ) (known : Known) (s : ScopedState) (f : FineState w s) (in_bod
       agrees_more {K = Keeps w s} {L = Keeps w s} {R = After} {Q = Seen w tree_kind fs} (λ t i n k. k)
       (λ t a b q. (made_later tree_kind w (used_state w m.env s).uses t.uses q.0.uses a (held_made tree_kind w (used_state w m.env s).uses a q.1), q.2))
       (held_use_law w known s f in_body mine fs stands m fine.entered fine.binders (Below w s.uses) (Below w s.uses) (Below w (used_state w m.env s).uses) (λ i l. l) (λ i l. l)
-          (λ i l. below_more w s.uses (used_state w m.env s).uses (leq_counted s.form s.uses) i l) (inserted_below w s f) (made_held rules_kind w s.uses m.rules fine.rules) ts tail made made_end
-          (Keeps w s) (keeps_itself w s f in_body mine) (λ x y. (use_fine w s f m.env fine.entered fine.binders, use_grows w s f m.env)) here keyword)
+      (λ i l. below_more w s.uses (used_state w m.env s).uses (leq_counted s.form s.uses) i l) (inserted_below w s f) (made_held rules_kind w s.uses m.rules fine.rules) ts tail made made_end
+      (Keeps w s) (keeps_itself w s f in_body mine) (λ x y. (use_fine w s f m.env fine.entered fine.binders, use_grows w s f m.env)) here keyword)

@@ -169,7 +169,7 @@ module _ (w : ℕ) (known : Known) (fs : Frames) (Inside : ScopedState → Bool 
         counted_go here 1 s i n k p.notes h.2 (λ u. f (first (forms_at here ts) p)) (λ u. g (first (forms_at here (map_trees (names s fs) ts)) (seen_pending s p))) (λ x.
         together_at refl (ap (λ (zs : List (Form Name)). g (first zs (seen_pending s p)) (view i n (record s { nodes = x }))) (forms_seen (names s fs) (placed s) here ts))
         (first_law f g law (record s { nodes = x }) i n (facts.still s i n x s.keywords s.met k) p (held_still s i n k x s.keywords s.met p h) (forms_at here ts)
-            (forms_held (Leaf (record s { nodes = x })) here ts (trees_later s x q))))
+        (forms_held (Leaf (record s { nodes = x })) here ts (trees_later s x q))))
       where
         trees_later : (v : ScopedState) (x : Clock) → TreesAll (Leaf s) ts → TreesAll (Leaf (record s { nodes = x })) ts
         trees_later v x e = trees_more (Leaf s) (Leaf (record s { nodes = x })) (facts.leaf_later s (record s { nodes = x }) i n k (grows_itself w s)) ts e

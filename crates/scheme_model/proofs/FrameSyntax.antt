@@ -137,7 +137,7 @@ module _ (w : ℕ) (known : Known) (fs : Frames) (Inside : ScopedState → Bool 
 
     define_macro : (x : Named Ident) → Leaf s x.name → (t : ScopedState) (i1 : Bool) (n1 : List Number) → Inside t i1 n1 → Grows w s t → (a : Rules Ident) (b : Rules Name) → SeenHeld rules_kind t a b → (q : Pending Ident Place) → HeldAt s q
         → Agrees (On w known fs Inside Trail Leaf PlaceIn RuleLeaf Ended t) MacroLeft (told here ((scoped known).define x (Some a) fs q t) >>= λ q2. done (binder_at (scoped known) fs t x, q2))
-            (told here ((model known).define (named_map (names s fs) x) (Some b) tt (seen s q) (view i1 n1 t)) >>= λ q2. done (binder_at (model known) tt (view i1 n1 t) (named_map (names s fs) x), q2))
+        (told here ((model known).define (named_map (names s fs) x) (Some b) tt (seen s q) (view i1 n1 t)) >>= λ q2. done (binder_at (model known) tt (view i1 n1 t) (named_map (names s fs) x), q2))
     define_macro x l t i1 n1 k1 gr a b e q hq =
         let later = names_later w s t (facts.fine s i n k) gr fs (facts.stands s i n k) in
         let leaf = λ (y : Ident) (m : Leaf s y). later y (facts.below s i n k y m) in
@@ -145,25 +145,25 @@ module _ (w : ℕ) (known : Known) (fs : Frames) (Inside : ScopedState → Bool 
         let ps = pending_same (Leaf s) (PlaceIn s) (names s fs) (names t fs) (placed s) (placed t) leaf (facts.placed_later s t i n k gr) q hq in
         agrees_bind _
         (agrees_at refl (λ j. told here ((model known).define (named (y j) x.occ) (Some (e.1 j)) tt (ps j) (view i1 n1 t)))
-            (facts.defines t i1 n1 k1 here x (facts.leaf_later s t i n k gr x.name l) (Some a) e.0 q (pending_more (Leaf s) (Leaf t) (PlaceIn s) (PlaceIn t) (facts.leaf_later s t i n k gr) (facts.place_later s t i n k gr) q hq)))
+        (facts.defines t i1 n1 k1 here x (facts.leaf_later s t i n k gr x.name l) (Some a) e.0 q (pending_more (Leaf s) (Leaf t) (PlaceIn s) (PlaceIn t) (facts.leaf_later s t i n k gr) (facts.place_later s t i n k gr) q hq)))
         (λ c d v i2 n2 k2 r. agree (binder_at (scoped known) fs t x, c) (binder_at (model known) tt (view i1 n1 t) (named_map (names s fs) x), d) v i2 n2 refl refl k2
         ((let z = facts.bound t i1 n1 k1 in let u = erase_frame_image s.places s.definitions fs x.name in λ j. record { bound = z j; ident = u j; occ = x.occ }), r.0, r.1))
 
     syntax_over : (d : Named (Holding (Leaf s)) × Tree (Holding (Leaf s)))
         → Both (run_syntax (scoped known) f here fs p (named_map (held (Leaf s)) d.0, map_tree (held (Leaf s)) d.1) s)
-            (run_syntax (model known) g here tt (seen s p) (named_map (names s fs) (named_map (held (Leaf s)) d.0), map_tree (names s fs) (map_tree (held (Leaf s)) d.1)) (view i n s))
+        (run_syntax (model known) g here tt (seen s p) (named_map (names s fs) (named_map (held (Leaf s)) d.0), map_tree (names s fs) (map_tree (held (Leaf s)) d.1)) (view i n s))
     syntax_over d =
         together_at w known fs Inside Trail Leaf PlaceIn RuleLeaf Ended refl
         (λ j. caught {B = Binder × Pending Name Name} (noting j).notes
-            (rules_parts (model known) here tt (rules_parts_of (map_tree (names s fs) (map_tree (held (Leaf s)) d.1))) (view i n s) >>= λ r t0. rules_at (model known) here (map_tree (names s fs) (map_tree (held (Leaf s)) d.1)) r t0 >>= λ rules t. told here ((model known).define (named_map (names s fs) (named_map (held (Leaf s)) d.0)) (Some rules) tt (noting j) t) >>= λ q2. done (binder_at (model known) tt t (named_map (names s fs) (named_map (held (Leaf s)) d.0)), q2))
-            (λ r. g (put (Macro r.0 here) r.1)))
+        (rules_parts (model known) here tt (rules_parts_of (map_tree (names s fs) (map_tree (held (Leaf s)) d.1))) (view i n s) >>= λ r t0. rules_at (model known) here (map_tree (names s fs) (map_tree (held (Leaf s)) d.1)) r t0 >>= λ rules t. told here ((model known).define (named_map (names s fs) (named_map (held (Leaf s)) d.0)) (Some rules) tt (noting j) t) >>= λ q2. done (binder_at (model known) tt t (named_map (names s fs) (named_map (held (Leaf s)) d.0)), q2))
+        (λ r. g (put (Macro r.0 here) r.1)))
         (caught_law w known fs Inside Trail Leaf PlaceIn RuleLeaf Ended facts s i n k (noted (rules_note (scoped known) fs s (rules_parts_of (map_tree (held (Leaf s)) d.1))) p).notes hq.2 (λ r. f (put (Macro r.0 here) r.1)) (λ r. g (put (Macro r.0 here) r.1))
-            (grown_bind w known fs Inside Trail Leaf PlaceIn RuleLeaf Ended facts f g law here s _ (parts_law s i n k (map_tree (held (Leaf s)) d.1) (all_held (Leaf s) d.1)) (λ a b t i1 n1 k1 gr e.
-            grown_bind w known fs Inside Trail Leaf PlaceIn RuleLeaf Ended facts f g law here t _ (rules_law (names s fs) (map_tree (held (Leaf s)) d.1) a b t i1 n1 k1 e) (λ c c' v i2 n2 k2 gr2 e2.
-            define_macro (named_map (held (Leaf s)) d.0) d.0.name.1 v i2 n2 k2 (grows_then w s t v gr gr2) c c' e2 (noted (rules_note (scoped known) fs s (rules_parts_of (map_tree (held (Leaf s)) d.1))) p) hq)))
-            (λ a b t i1 n1 k1 e.
-            together_at w known fs Inside Trail Leaf PlaceIn RuleLeaf Ended refl (λ j. g (put (Macro (e.0 j) here) (e.2 j)) (view i1 n1 t))
-            (put_law w known fs Inside Trail Leaf PlaceIn RuleLeaf Ended facts f g law t i1 n1 k1 a.1 e.1 (Macro a.0 here) (record { made = Macro a.0 here; same = refl }))))
+        (grown_bind w known fs Inside Trail Leaf PlaceIn RuleLeaf Ended facts f g law here s _ (parts_law s i n k (map_tree (held (Leaf s)) d.1) (all_held (Leaf s) d.1)) (λ a b t i1 n1 k1 gr e.
+        grown_bind w known fs Inside Trail Leaf PlaceIn RuleLeaf Ended facts f g law here t _ (rules_law (names s fs) (map_tree (held (Leaf s)) d.1) a b t i1 n1 k1 e) (λ c c' v i2 n2 k2 gr2 e2.
+        define_macro (named_map (held (Leaf s)) d.0) d.0.name.1 v i2 n2 k2 (grows_then w s t v gr gr2) c c' e2 (noted (rules_note (scoped known) fs s (rules_parts_of (map_tree (held (Leaf s)) d.1))) p) hq)))
+        (λ a b t i1 n1 k1 e.
+        together_at w known fs Inside Trail Leaf PlaceIn RuleLeaf Ended refl (λ j. g (put (Macro (e.0 j) here) (e.2 j)) (view i1 n1 t))
+        (put_law w known fs Inside Trail Leaf PlaceIn RuleLeaf Ended facts f g law t i1 n1 k1 a.1 e.1 (Macro a.0 here) (record { made = Macro a.0 here; same = refl }))))
       where
         hq : HeldAt s (noted (rules_note (scoped known) fs s (rules_parts_of (map_tree (held (Leaf s)) d.1))) p)
         hq = noted_held (Leaf s) (PlaceIn s) (rules_note (scoped known) fs s (rules_parts_of (map_tree (held (Leaf s)) d.1))) p (note_held s i n k (rules_parts_of (map_tree (held (Leaf s)) d.1)) (parts_held (Leaf s) (map_tree (held (Leaf s)) d.1) (all_held (Leaf s) d.1))) h
