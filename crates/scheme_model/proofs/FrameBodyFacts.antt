@@ -55,10 +55,10 @@ module _ (known : Known) (s0 : ScopedState) (f0 : Fine s0.unit s0.locals s0.uses
   Rule_leaf t m i = RuleLeaf known s0 f0 c st0 t m i
 
   -- nothing more is asked of states in turn, nor of the notes where a fault ends the body
-  abbrev Any : ScopedState → ScopedState → Type 0
+  abbrev pub Any : ScopedState → ScopedState → Type 0
   Any s t = Unit {0}
 
-  abbrev Dropped : ScopedState → List (Note Place) → List (Note Name) → Type 0
+  abbrev pub Dropped : ScopedState → List (Note Place) → List (Note Name) → Type 0
   Dropped t ns ms = Unit {0}
 
   -- ---- a definition

@@ -19,6 +19,7 @@ use Rattle.scheme_model.specs.Renaming.{Renames, pair_map}
 use Rattle.scheme_model.proofs.RulesLaws.{role_of-map, dots_of-map}
 use Rattle.scheme_model.proofs.CompareLaws.{compared-map}
 use Rattle.scheme_model.proofs.IdentKinds.{Kind, tree_kind, trees_kind, definition_kind, record_kind}
+use Rattle.scheme_model.proofs.Distinct.{definition_distinct}
 use Rattle.scheme_model.proofs.FrameAsks.{AllOf}
 use Rattle.scheme_model.proofs.FrameStates.{names, view, FineState, Grows, grows_itself, names_later}
 use Rattle.scheme_model.proofs.FrameGrowth.{used_state, use_grows}
@@ -88,7 +89,7 @@ module _ (w : ℕ) (known : Known) (fs : Frames) (Inside : ScopedState → Bool 
 
     module _ (s : ScopedState) (i : Bool) (n : List Number) (k : Inside s i n) (p : Pending Ident Place) (h : HeldAt s p) (ts : Trees Ident) (tail : Tail Ident) (l : TreesAll (Leaf s) ts) (e : TailAll (Leaf s) tail) where
       abbrev readers : (l : Kind) → Reader rest_kind l → (l.of Ident → ScopedState → Pass Ident Place × ScopedState) → (l.of Name → State → Pass Name Name × State) → Type 0
-      readers m r go go' = ((a : m.of Ident) → Held m (Leaf s) a → Both (go a s) (go' (m.map Ident Name (names s fs) a) (view i n s)))
+      readers m r go go' = ((a : m.of Ident) → r.read Ident identifiers (ts, tail) ≡ Ok a → Held m (Leaf s) a → Both (go a s) (go' (m.map Ident Name (names s fs) a) (view i n s)))
           → Both (read_then (scoped known) here p (r.read Ident identifiers (ts, tail)) go s) (read_then (model known) here (seen s p) (r.read Name model_names (map_trees (names s fs) ts, map_tail (names s fs) tail)) go' (view i n s))
 
       reading : (m : Kind) (r : Reader rest_kind m) (go : m.of Ident → ScopedState → Pass Ident Place × ScopedState) (go' : m.of Name → State → Pass Name Name × State) → readers m r go go'
@@ -97,24 +98,24 @@ module _ (w : ℕ) (known : Known) (fs : Frames) (Inside : ScopedState → Bool 
           (read_held rest_kind m r (Leaf s) (names s fs) (named_in s fs) (ts, tail) (rest_held (Leaf s) ts tail l e)) next
 
       begin_law : Both (read_then (scoped known) here p (proper_of ts tail) (splice (scoped known) f here p) s) (read_then (model known) here (seen s p) (proper_of (map_trees (names s fs) ts) (map_tail (names s fs) tail)) (splice (model known) g here (seen s p)) (view i n s))
-      begin_law = reading trees_kind proper_reader (splice (scoped known) f here p) (splice (model known) g here (seen s p)) (λ a q. splice_law w known fs Inside Trail Leaf PlaceIn RuleLeaf Ended facts f g law here a s i n k p h (trees_held (Leaf s) a q))
+      begin_law = reading trees_kind proper_reader (splice (scoped known) f here p) (splice (model known) g here (seen s p)) (λ a z q. splice_law w known fs Inside Trail Leaf PlaceIn RuleLeaf Ended facts f g law here a s i n k p h (trees_held (Leaf s) a q))
 
       chosen_law : Both (read_then (scoped known) here p (chosen_of symbol_of known ts tail) (λ c. splice (scoped known) f here p (or_none c)) s) (read_then (model known) here (seen s p) (chosen_of strip known (map_trees (names s fs) ts) (map_tail (names s fs) tail)) (λ c. splice (model known) g here (seen s p) (or_none c)) (view i n s))
       chosen_law =
-          reading maybe_trees_kind (chosen_reader known) (λ c. splice (scoped known) f here p (or_none c)) (λ c. splice (model known) g here (seen s p) (or_none c)) (λ a q.
+          reading maybe_trees_kind (chosen_reader known) (λ c. splice (scoped known) f here p (or_none c)) (λ c. splice (model known) g here (seen s p) (or_none c)) (λ a z q.
           at refl (ap (λ us. splice (model known) g here (seen s p) us (view i n s)) (or_none-map (names s fs) a)) (splice_law w known fs Inside Trail Leaf PlaceIn RuleLeaf Ended facts f g law here (or_none a) s i n k p h (chosen_held (Leaf s) a q)))
 
       defined_law : Both (read_then (scoped known) here p (definition_of same_ident ts tail) (run_define (scoped known) f here fs p) s) (read_then (model known) here (seen s p) (definition_of same_name (map_trees (names s fs) ts) (map_tail (names s fs) tail)) (run_define (model known) g here tt (seen s p)) (view i n s))
-      defined_law = reading definition_kind definition_reader (run_define (scoped known) f here fs p) (run_define (model known) g here tt (seen s p)) (λ a q. define_law w known fs Inside Trail Leaf PlaceIn RuleLeaf Ended facts f g law here s i n k p h a q)
+      defined_law = reading definition_kind definition_reader (run_define (scoped known) f here fs p) (run_define (model known) g here tt (seen s p)) (λ a z q. define_law w known fs Inside Trail Leaf PlaceIn RuleLeaf Ended facts f g law here s i n k p h a (definition_distinct ts tail a z) q)
 
       several_law : Both (read_then (scoped known) here p (values_of same_ident ts tail) (run_values (scoped known) f here fs p) s) (read_then (model known) here (seen s p) (values_of same_name (map_trees (names s fs) ts) (map_tail (names s fs) tail)) (run_values (model known) g here tt (seen s p)) (view i n s))
-      several_law = reading formals_tree_kind values_reader (run_values (scoped known) f here fs p) (run_values (model known) g here tt (seen s p)) (λ a q. values_law w known fs Inside Trail Leaf PlaceIn RuleLeaf Ended facts f g law here s i n k p h a q)
+      several_law = reading formals_tree_kind values_reader (run_values (scoped known) f here fs p) (run_values (model known) g here tt (seen s p)) (λ a z q. values_law w known fs Inside Trail Leaf PlaceIn RuleLeaf Ended facts f g law here s i n k p h a q)
 
       fields_law : Both (read_then (scoped known) here p (record_of same_ident ts tail) (run_record (scoped known) f here fs p) s) (read_then (model known) here (seen s p) (record_of same_name (map_trees (names s fs) ts) (map_tail (names s fs) tail)) (run_record (model known) g here tt (seen s p)) (view i n s))
-      fields_law = reading record_kind record_reader (run_record (scoped known) f here fs p) (run_record (model known) g here tt (seen s p)) (λ a q. record_law w known fs Inside Trail Leaf PlaceIn RuleLeaf Ended facts f g law here s i n k p h a q)
+      fields_law = reading record_kind record_reader (run_record (scoped known) f here fs p) (run_record (model known) g here tt (seen s p)) (λ a z q. record_law w known fs Inside Trail Leaf PlaceIn RuleLeaf Ended facts f g law here s i n k p h a q)
 
       macro_law : Both (read_then (scoped known) here p (named_tree_of ts tail) (run_syntax (scoped known) f here fs p) s) (read_then (model known) here (seen s p) (named_tree_of (map_trees (names s fs) ts) (map_tail (names s fs) tail)) (run_syntax (model known) g here tt (seen s p)) (view i n s))
-      macro_law = reading named_tree_kind named_tree_reader (run_syntax (scoped known) f here fs p) (run_syntax (model known) g here tt (seen s p)) (λ a q. syntax_law w known fs Inside Trail Leaf PlaceIn RuleLeaf Ended facts f g law here s i n k p h a q)
+      macro_law = reading named_tree_kind named_tree_reader (run_syntax (scoped known) f here fs p) (run_syntax (model known) g here tt (seen s p)) (λ a z q. syntax_law w known fs Inside Trail Leaf PlaceIn RuleLeaf Ended facts f g law here s i n k p h a q)
 
     -- ---- a macro use
 

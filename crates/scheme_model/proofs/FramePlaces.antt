@@ -23,7 +23,7 @@ use Rattle.scheme_model.proofs.FrameLeaves.{TreesAll, trees_more, Held}
 use Rattle.scheme_model.proofs.FrameAgrees.{Agrees, agree, break, agrees_bind, agrees_more}
 use Rattle.scheme_model.proofs.FrameHeads.{IfMacro}
 use Rattle.scheme_model.proofs.FrameUses.{placed}
-use Rattle.scheme_model.proofs.FrameHeld.{NoteAll, FormAll, ItemsHeld, PendingHeld, put_seen, first_seen, forms_seen, forms_held, put_held, first_held, pending_more, ReadTo, read_to, read_broken}
+use Rattle.scheme_model.proofs.FrameHeld.{NoteAll, FormAll, ItemHeld, ItemsHeld, PendingHeld, put_seen, first_seen, forms_seen, forms_held, put_held, first_held, pending_more, ReadTo, read_to, read_broken}
 
 -- Inside holds of the states in which the place's forms are gone through, Trail joins an earlier and a later one; Leaf holds of an
 -- identifier that stands there, PlaceIn of one that was noted, RuleLeaf of one in the rules of a macro; Ended of the notes where a
@@ -141,10 +141,10 @@ module _ (w : ℕ) (known : Known) (fs : Frames) (Inside : ScopedState → Bool 
     -- a form is read, or it ends the pass
     pub read_go : (l : Kind) (here : Here) (s : ScopedState) (i : Bool) (n : List Number) → Inside s i n → (p : Pending Ident Place) → HeldHere s p → (r : Result (l.of Ident) (Fault Ident)) (r' : Result (l.of Name) (Fault Name))
         → (f : l.of Ident → ScopedState → Pass Ident Place × ScopedState) (g : l.of Name → State → Pass Name Name × State) → ReadTo l (Leaf s) (names s fs) r r'
-        → ((a : l.of Ident) → Held l (Leaf s) a → Together (f a s) (g (l.map Ident Name (names s fs) a) (view i n s)))
+        → ((a : l.of Ident) → r ≡ Ok a → Held l (Leaf s) a → Together (f a s) (g (l.map Ident Name (names s fs) a) (view i n s)))
         → Together (read_then (scoped known) here p r f s) (read_then (model known) here (seen_pending s p) r' g (view i n s))
     read_go l here s i n k p h r r' f g (read_to a e d q) next =
-        together_at (ap (λ x. caught p.notes (given (λ j. j) here x s) f) e) (ap (λ x. caught (map (note_map (placed s)) p.notes) (given erase here x (view i n s)) g) d) (next a q)
+        together_at (ap (λ x. caught p.notes (given (λ j. j) here x s) f) e) (ap (λ x. caught (map (note_map (placed s)) p.notes) (given erase here x (view i n s)) g) d) (next a e q)
     read_go l here s i n k p h r r' f g (read_broken z e d) next =
         together_at (ap (λ x. caught p.notes (given (λ j. j) here x s) f) e)
         (ap (λ x. caught (map (note_map (placed s)) p.notes) (given erase here x (view i n s)) g) d ∙ ap (λ (y : Fault Ident). (record { notes = map (note_map (placed s)) p.notes; items = Err (record { fault = y; here = here }) }, view i n s)) (told_fault z))
@@ -157,7 +157,7 @@ module _ (w : ℕ) (known : Known) (fs : Frames) (Inside : ScopedState → Bool 
     -- ---- an item is set aside, or forms come first
 
     module _ (f : CodeGo) (g : ModelGo) (law : RunLaw f g) (s : ScopedState) (i : Bool) (n : List Number) (k : Inside s i n) (p : Pending Ident Place) (h : HeldHere s p) where
-      pub put_law : (t : Item Ident) → Held item_kind (Leaf s) t → Together (f (put t p) s) (g (put (item_map (names s fs) t) (seen_pending s p)) (view i n s))
+      pub put_law : (t : Item Ident) → ItemHeld (Leaf s) t → Together (f (put t p) s) (g (put (item_map (names s fs) t) (seen_pending s p)) (view i n s))
       put_law t q = together_at refl (ap (λ (x : Pending Name Name). g x (view i n s)) (put_seen (names s fs) (placed s) t p)) (law (put t p) s i n k (put_held (Leaf s) (PlaceIn s) t p q h))
 
       pub first_law : (xs : List (Form Ident)) → AllOf (FormAll (Leaf s)) xs → Together (f (first xs p) s) (g (first (map (form_map (names s fs)) xs) (seen_pending s p)) (view i n s))

@@ -34,7 +34,9 @@ pub mod FrameSyntax
 pub mod FrameForms
 pub mod FrameOpen
 pub mod FrameBodyDefines
+pub mod FrameItems
 pub mod FrameBodyFacts
+pub mod FrameWhole
 pub mod Distinct
 pub mod FrameExpressions
 pub mod FrameBinders
