@@ -243,5 +243,5 @@ module _ (known : Known) (s0 : ScopedState) (f0 : Fine s0.unit s0.locals s0.uses
     assigned = λ s i n k x l. ap (λ z. s.program && (not z && (is_plain (names s frames x) && is_variable (defined_in s.table s.unit (erase (names s frames x)))))) k.1 ∙ and_false s.program;
     bound = λ s i n k. ap (λ z. cond z (LocalNumber (next_number s s.locals)) (Definition s.unit (definition_count s.table s.unit))) k.1;
     defines = λ s i n k here x l r h p q. agrees_at refl (let e = k.1 in let d = k.2 in λ j. told here ((model known).define (named_map (names s frames) x) (option_map (rules_map (names s frames)) r) tt (pending_map (names s frames) (placed s) p) (view (e j) (d j) s))) (define_law s k.0 x l r h here p q);
-    macros = λ s i n k m. macro_here s i n k (macro_at s.macros m) (sits_among known s0 f0 c st0 s k.0 s.macros k.0.macros m) (macro_found s0.unit s k.0.fine m);
+    macros = λ s i n k x l. let m = means_at s frames x in macro_here s i n k (macro_at s.macros m) (sits_among known s0 f0 c st0 s k.0 s.macros k.0.macros m) (macro_found s0.unit s k.0.fine m);
   }

@@ -5,14 +5,14 @@ use Rattle.scheme_model.specs.Ident.{Ident, erase, same_ident, symbol_of}
 use Rattle.scheme_model.specs.Keywords.{CoreKeyword, IsQuote, IsQuasiquote, IsLambda, IsCaseLambda, IsIf, IsSet, IsBegin, IsDefine, IsDefineValues, IsDefineRecordType, IsDefineSyntax, IsLetSyntax, IsLetrecSyntax, IsCondExpand, IsSyntaxError, IsInclude}
 use Rattle.scheme_model.specs.Trees.{Tree, name, atom, list, vector, Trees, no_trees, tree, Tail, map_tree, map_trees, map_tail}
 use Rattle.scheme_model.specs.ExpansionFaults.{OutOfTurns}
-use Rattle.scheme_model.specs.Meaning.{Head, IsCore, IsAuxiliary, IsMacro, IsNone, is_keyword, same_meaning}
+use Rattle.scheme_model.specs.Meaning.{Meaning, Head, IsCore, IsAuxiliary, IsMacro, IsNone, is_keyword, same_meaning}
 use Rattle.scheme_model.specs.Requirements.{Known, chosen_of}
 use Rattle.scheme_model.specs.Shapes.{proper_of, definition_of, values_of, record_of, named_tree_of}
 use Rattle.scheme_model.specs.RulesShape.{Names, Rules, option_map, rules_map, rule_map, role_of, dots_of}
 use Rattle.scheme_model.specs.Matching.{compared}
 use Rattle.scheme_model.specs.Cores.{Target, MacroUse}
 use Rattle.scheme_model.specs.Steps.{Broken}
-use Rattle.scheme_model.specs.Order.{Here, Form, Item, Expression, Note, LookedUp, Compared, Pending, Pass, Transformer, head_of, target_of, here_at, comparisons, use_of, put, noted, first, caught, or_none, splice, read_then, run_define, run_values, run_record, run_syntax, run_core, run_use, run_head, run_form, run_next, run}
+use Rattle.scheme_model.specs.Order.{Here, Form, Item, Expression, Note, LookedUp, Compared, Pending, Pass, Transformer, is_some, head_of, target_of, here_at, comparisons, use_of, put, noted, first, caught, or_none, splice, read_then, run_define, run_values, run_record, run_syntax, run_core, run_use, run_head, run_form, run_next, run}
 use Rattle.scheme_model.specs.Substitution.{State, Clock, at_form, form_map, item_map, note_map, model}
 use Rattle.scheme_model.specs.ScopedExpansion.{Frames, Place, ScopedState, means_at, macro_at, scoped}
 use Rattle.scheme_model.specs.Renaming.{Renames, pair_map}
@@ -25,7 +25,7 @@ use Rattle.scheme_model.proofs.FrameStates.{names, view, FineState, Grows, grows
 use Rattle.scheme_model.proofs.FrameGrowth.{used_state, use_grows}
 use Rattle.scheme_model.proofs.FrameLeaves.{TreeAll, TreesAll, TailAll, tree_more, trees_more, tail_more, Holding, held, lift_trees, lift_tail, lifted_trees, lifted_tail, Held, held_more, tree_held, trees_held}
 use Rattle.scheme_model.proofs.FrameAgrees.{Agrees, agree, break, agrees_at}
-use Rattle.scheme_model.proofs.FrameHeads.{seen_transformer, transformer_seen, IfMacro, head_seen, target_seen, here_seen}
+use Rattle.scheme_model.proofs.FrameHeads.{seen_transformer, transformer_seen, IfMacro, HeadOf, head_is, head_seen, target_seen, here_seen}
 use Rattle.scheme_model.proofs.FrameUses.{named_in, placed, comparisons_seen}
 use Rattle.scheme_model.proofs.FrameInstances.{held_use_law}
 use Rattle.scheme_model.proofs.FrameReaders.{identifiers, model_names, rest_kind, named_tree_kind, formals_tree_kind, maybe_trees_kind, Reader, proper_reader, definition_reader, values_reader, record_reader, named_tree_reader, chosen_reader}
@@ -224,13 +224,13 @@ module _ (w : ℕ) (known : Known) (fs : Frames) (Inside : ScopedState → Bool 
       core_law IsSyntaxError t = as_expression
       core_law IsInclude t = as_expression
 
-      head_law : (c : Head) (t : Target) → Both (run_head (scoped known) f here fs c t x ts tail p s) (run_head (model known) g here tt c t (form_map (names s fs) x) (map_trees (names s fs) ts) (map_tail (names s fs) tail) (seen s p) (view i n s))
-      head_law (IsCore c) t = core_law c t
-      head_law (IsAuxiliary a) t = as_expression
-      head_law (IsMacro m) t =
+      head_law : (m0 : Meaning) → IfMacro (MacroHere w known fs Inside Trail Leaf PlaceIn RuleLeaf Ended s i n) (macro_at s.macros m0) → (c : Head) → HeadOf m0 c → (t : Target) → Both (run_head (scoped known) f here fs c t x ts tail p s) (run_head (model known) g here tt c t (form_map (names s fs) x) (map_trees (names s fs) ts) (map_tail (names s fs) tail) (seen s p) (view i n s))
+      head_law m0 mh (IsCore c) q t = core_law c t
+      head_law m0 mh (IsAuxiliary a) q t = as_expression
+      head_law m0 mh (IsMacro m) q t =
           at refl (ap (λ o. run_use (model known) g here tt t o (form_map (names s fs) x) (map_trees (names s fs) ts) (map_tail (names s fs) tail) (seen s p) (view i n s)) (transformer_seen s.places s.definitions s.macros m))
-          (use_law s i n k p h t ts tail l e x lx (macro_at s.macros m) (facts.macros s i n k m))
-      head_law IsNone t = as_expression
+          (use_law s i n k p h t ts tail l e x lx (macro_at s.macros m) (subst (λ (z : Meaning). IfMacro (MacroHere w known fs Inside Trail Leaf PlaceIn RuleLeaf Ended s i n) (macro_at s.macros z)) (sym q) mh))
+      head_law m0 mh IsNone q t = as_expression
 
     -- ---- any form
 
@@ -247,7 +247,7 @@ module _ (w : ℕ) (known : Known) (fs : Frames) (Inside : ScopedState → Bool 
         at refl
         ((λ j. run_head (model known) g here tt (hd j) (tg j) (form_map (names s fs) x) (map_trees (names s fs) ts) (map_tail (names s fs) tail) (noted (LookedUp (names s fs y) true (is_keyword (hd j)) ∷ []) (seen s p)) (view i n s))
         ∙ ap (λ z. run_head (model known) g here tt c (target_of (scoped known) fs s y q) (form_map (names s fs) x) (map_trees (names s fs) ts) (map_tail (names s fs) tail) z (view i n s)) (noted_seen (names s fs) (placed s) note p))
-        (head_law s i n k (noted note p) (noted_held (Leaf s) (PlaceIn s) note p (facts.here s i n k y l.0.0, tt) h) x lx ts tail l.0.1 l.1 c (target_of (scoped known) fs s y q))
+        (head_law s i n k (noted note p) (noted_held (Leaf s) (PlaceIn s) note p (facts.here s i n k y l.0.0, tt) h) x lx ts tail l.0.1 l.1 (means_at s fs y) (facts.macros s i n k y l.0.0) c (head_is (λ m. is_some ((scoped known).transformer s m)) (means_at s fs y)) (target_of (scoped known) fs s y q))
     form_law s i n k p h x lx (list (tree (atom a q) ts) tail o) l = expression_law s i n k p h x lx
     form_law s i n k p h x lx (list (tree (list us end q) ts) tail o) l = expression_law s i n k p h x lx
     form_law s i n k p h x lx (list (tree (vector us q) ts) tail o) l = expression_law s i n k p h x lx

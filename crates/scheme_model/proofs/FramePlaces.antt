@@ -5,14 +5,13 @@ use Rattle.scheme_model.specs.Identifiers.{Number, Name}
 use Rattle.scheme_model.specs.Ident.{Ident, Inserted, erase}
 use Rattle.scheme_model.specs.Trees.{Trees, map_trees}
 use Rattle.scheme_model.specs.ExpansionFaults.{Named, named_map, Fault, fault_map, NodeBudget}
-use Rattle.scheme_model.specs.Meaning.{Meaning}
 use Rattle.scheme_model.specs.Requirements.{Known}
 use Rattle.scheme_model.specs.RulesShape.{Rules, rules_map, option_map}
 use Rattle.scheme_model.specs.Cores.{Target, Binder, MacroUse}
 use Rattle.scheme_model.specs.Steps.{Broken, Step, ◌>>=◌, done, fails}
 use Rattle.scheme_model.specs.Order.{Here, Form, Item, Note, Pending, Pass, Going, Transformer, binder_at, counting, given, told, forms_at, put, noted, first, caught, splice, read_then, max_nodes}
 use Rattle.scheme_model.specs.Substitution.{State, Clock, at_form, form_map, item_map, note_map, pending_map, model}
-use Rattle.scheme_model.specs.ScopedExpansion.{Frames, Place, ScopedState, next_number, macro_at, scoped}
+use Rattle.scheme_model.specs.ScopedExpansion.{Frames, Place, ScopedState, next_number, means_at, macro_at, scoped}
 use Rattle.scheme_model.specs.OpenBodies.{Before, Entered, Below}
 use Rattle.scheme_model.proofs.IdentKinds.{Kind, item_kind, rules_kind, pointwise, faults_fused}
 use Rattle.scheme_model.proofs.FrameNames.{erase_frame_image}
@@ -71,7 +70,8 @@ module _ (w : ℕ) (known : Known) (fs : Frames) (Inside : ScopedState → Bool 
     pub assigned : (s : ScopedState) (i : Bool) (n : List Number) → Inside s i n → (x : Ident) → Leaf s x → (model known).is_assigned tt (view i n s) (names s fs x) ≡ (scoped known).is_assigned fs s x
     pub bound : (s : ScopedState) (i : Bool) (n : List Number) → Inside s i n → (model known).next_bound tt (view i n s) ≡ (scoped known).next_bound fs s
     pub defines : (s : ScopedState) (i : Bool) (n : List Number) → Inside s i n → Defines s i n
-    pub macros : (s : ScopedState) (i : Bool) (n : List Number) → Inside s i n → (m : Meaning) → IfMacro (MacroHere s i n) (macro_at s.macros m)
+    -- a macro that an identifier here means
+    pub macros : (s : ScopedState) (i : Bool) (n : List Number) → Inside s i n → (x : Ident) → Leaf s x → IfMacro (MacroHere s i n) (macro_at s.macros (means_at s fs x))
 
   -- ---- what a pass came to on both sides
 

@@ -37,6 +37,7 @@ pub mod FrameBodyDefines
 pub mod FrameItems
 pub mod FrameBodyFacts
 pub mod FrameWhole
+pub mod FrameUnit
 pub mod Distinct
 pub mod FrameExpressions
 pub mod FrameBinders
