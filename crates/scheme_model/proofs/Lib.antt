@@ -38,6 +38,7 @@ pub mod FrameItems
 pub mod FrameBodyFacts
 pub mod FrameWhole
 pub mod FrameUnit
+pub mod FrameUnits
 pub mod Distinct
 pub mod FrameExpressions
 pub mod FrameBinders
