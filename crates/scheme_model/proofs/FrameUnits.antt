@@ -141,7 +141,10 @@ module _ (w : ℕ) (known : Known) where
     then_law form ts law s f h q m p =
         let ih = law q.0.notes q.1 p.in_body p.mine p.unit_state (forms_later s q.1 p.grows ts h) p.stood in
         let v = (passes (scoped known) turns [] ts q.0.notes q.1).1 in
-        let e = (let a = forms_still s q.1 f p.grows ts h in let b = p.notes in let c = p.state in λ j. passes (model known) turns tt (a j) (b j) (c j)) in
+        let a = forms_still s q.1 f p.grows ts h in
+        let b = p.notes in
+        let c = p.state in
+        let e : passes (model known) turns tt (map (form_seen (names s [])) ts) m.0.notes m.1 ≡ passes (model known) turns tt (map (form_seen (names q.1 [])) ts) (map (note_map (placed q.1)) q.0.notes) (view p.in_body p.mine q.1) = λ j. passes (model known) turns tt (a j) (b j) (c j) in
         let x = p.items ∙ aside_same w q.1.uses (names q.1 []) (names v []) (names_later w q.1 v p.unit_state.fine ih.grows [] (tt, tt)) q.0.items p.made in
         let y = ap (λ z. z.0) e ∙ ih.sets in
         record {
