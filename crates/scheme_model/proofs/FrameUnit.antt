@@ -15,6 +15,7 @@ use Rattle.scheme_model.specs.Scopes.{own_of, imported_as, defined_or, given_or}
 use Rattle.scheme_model.specs.ScopedExpansion.{Frames, BodyDefinitions, UsePlace, Place, ScopedMacro, ScopedState, around, next_number, means_inside, means_outside, means_at, macro_at, macro_added, definition_added, refused_now, define_at, scoped}
 use Rattle.scheme_model.specs.FrameImages.{image_inside, image_outside}
 use Rattle.scheme_model.specs.OpenBodies.{Before, Below}
+use Rattle.scheme_model.specs.NewUnits.{NoLocal, GivenNoLocal}
 use Rattle.scheme_model.proofs.IdentLaws.{ident_told}
 use Rattle.scheme_model.proofs.IdentKinds.{rules_kind}
 use Rattle.scheme_model.proofs.Clocks.{leq_counted}
@@ -30,17 +31,6 @@ use Rattle.scheme_model.proofs.FrameUses.{placed}
 use Rattle.scheme_model.proofs.FrameHeld.{NoteAll, PendingHeld, notes_more, notes_same}
 use Rattle.scheme_model.proofs.FramePlaces.{On, MacroHere, Defines, PlaceFacts}
 use Rattle.scheme_model.proofs.FrameBodyDefines.{refused_same, any_same, some_same}
-
--- no local is meant
-abbrev pub NoLocal : Meaning → Type 0
-NoLocal (Local v) = ⊥
-NoLocal (Global u i) = Unit {0}
-NoLocal (Standard s) = Unit {0}
-NoLocal (Free s) = Unit {0}
-
-abbrev pub GivenNoLocal : Option Meaning → Type 0
-GivenNoLocal None = Unit {0}
-GivenNoLocal (Some m) = NoLocal m
 
 -- inserted by uses of units' macros alone
 abbrev pub AtRoot : List UsePlace → Ident → Type 0

@@ -39,6 +39,7 @@ pub mod FrameBodyFacts
 pub mod FrameWhole
 pub mod FrameUnit
 pub mod FrameUnits
+pub mod FrameNew
 pub mod Distinct
 pub mod FrameExpressions
 pub mod FrameBinders

@@ -47,6 +47,7 @@ pub mod Renaming
 pub mod ScopedExpansion
 pub mod FrameImages
 pub mod OpenBodies
+pub mod NewUnits
 pub mod UnitExpansion
 pub mod Entries
 pub mod Declarations
