@@ -1,35 +1,30 @@
 -- A definition in an open body: both sides refuse it for the same reason, or define it alike.
-use Rattle.std.proofs.Common.{◌≡◌, ℕ, suc, ◌⊎◌, inl, inr, List, [], ◌∷◌, map, Bool, true, false, cond, Option, Some, None, Result, Ok, Err, refl, sym, ap, ◌∙◌, subst}
+use Rattle.std.proofs.Common.{◌≡◌, ◌⊎◌, inl, inr, List, [], ◌∷◌, map, Bool, true, false, cond, Option, Some, None, refl, sym, ap, ◌∙◌, subst}
 use Rattle.std.specs.Prelude.{◌&&◌, ◌||◌}
-use Rattle.scheme_model.specs.Identifiers.{Number, same_number, Name, Inserted as InsertedName, Inner, Var}
-use Rattle.scheme_model.specs.Ident.{Ident, Written, Inserted, same_ident, erase}
-use Rattle.scheme_model.specs.ExpansionFaults.{Named, named, named_map, Fault, KeywordRedefined, Duplicate}
+use Rattle.scheme_model.specs.Identifiers.{Number, same_number, Name}
+use Rattle.scheme_model.specs.Ident.{Ident, Written, Inserted, same_ident}
 use Rattle.scheme_model.specs.Meaning.{Meaning, Local, Global, Standard, Free, same_meaning}
 use Rattle.scheme_model.specs.Requirements.{Known}
-use Rattle.scheme_model.specs.RulesShape.{Rules, rules_map, option_map}
-use Rattle.scheme_model.specs.Steps.{Broken}
-use Rattle.scheme_model.specs.Order.{Here, Note, LookedUp, Compared, Pending, is_some, told}
-use Rattle.scheme_model.specs.Substitution.{State, KeptMacro, Defined, Clock, at_form, defined_in, form_map, item_map, note_map, pending_map, meaning, deep, asks, any, differ, is_refused, refused_in_body, is_mine, is_among, is_own, rules_mapped, own_rules, with_macro, defined_local, define_in_body}
-use Rattle.scheme_model.specs.Scopes.{own_of, defined_or}
-use Rattle.scheme_model.specs.ScopedExpansion.{Frame, Enter, Frames, BodyDefinition, BodyDefinitions, UsePlace, Place, ScopedMacro, ScopedState, around, find, next_number, means_inside, means_outside, means_at, macro_added, definition_added, refused_now, define_at}
+use Rattle.scheme_model.specs.RulesShape.{rules_map, option_map}
+use Rattle.scheme_model.specs.Order.{Note, LookedUp, Compared, Pending, is_some}
+use Rattle.scheme_model.specs.Substitution.{Defined, defined_in, form_map, item_map, note_map, pending_map, meaning, deep, asks, any, differ, is_refused, is_mine, is_among, is_own, rules_mapped, own_rules}
+use Rattle.scheme_model.specs.Scopes.{defined_or}
+use Rattle.scheme_model.specs.ScopedExpansion.{Frames, BodyDefinitions, Place, ScopedMacro, ScopedState, find, next_number, means_inside, means_outside, means_at}
 use Rattle.scheme_model.specs.FrameImages.{is_before, is_older, entered_as, before_definition, image_inside, image_outside, frame_image}
-use Rattle.scheme_model.specs.OpenBodies.{Leq, Before, NotYet, Entered, Below, PlacesIn, DefinitionsBelow, FramesOk, Other, Sits}
+use Rattle.scheme_model.specs.OpenBodies.{Before, NotYet, Entered, PlacesIn, DefinitionsBelow, FramesOk, Other}
 use Rattle.scheme_model.proofs.RenamingLaws.{map_after}
-use Rattle.scheme_model.proofs.IdentLaws.{number_itself, ident_told}
+use Rattle.scheme_model.proofs.IdentLaws.{number_itself}
 use Rattle.scheme_model.proofs.IdentKinds.{rules_kind, form_fused, item_fused, rules_fused}
-use Rattle.scheme_model.proofs.Clocks.{leq_itself, leq_counted, before_more}
-use Rattle.scheme_model.proofs.FrameNames.{erase_frame_image}
-use Rattle.scheme_model.proofs.FrameTimes.{SameFind, image_definitions, inside_new, frames_entered}
-use Rattle.scheme_model.proofs.FrameBodies.{here, raw}
+use Rattle.scheme_model.proofs.FrameTimes.{image_definitions, inside_new}
+use Rattle.scheme_model.proofs.FrameBodies.{raw}
 use Rattle.scheme_model.proofs.FrameDefines.{same_elsewhere, far, defined_image}
-use Rattle.scheme_model.proofs.FrameAsks.{AllOf, all_of_more, meaning_deep, MeansCounted, not_next, inside_counted, outside_counted, BindersCounted}
+use Rattle.scheme_model.proofs.FrameAsks.{AllOf, meaning_deep, MeansCounted, not_next, inside_counted, outside_counted, BindersCounted}
 use Rattle.scheme_model.proofs.FrameComing.{comes_outside, comes_to, Unasked, asks_far, asks_image, outside_far, means_with}
-use Rattle.scheme_model.proofs.FrameStates.{names, view, seen_macro, Fine, FineState, Grows, Stands, MacroFine, binders_more, names_mean, locals_fine, next_new, next_old}
-use Rattle.scheme_model.proofs.FrameLeaves.{Held, held_same, held_more, held_made}
-use Rattle.scheme_model.proofs.FrameHeads.{IfMacro}
+use Rattle.scheme_model.proofs.FrameStates.{names, seen_macro, Fine, Stands, MacroFine, binders_more, names_mean, next_new}
+use Rattle.scheme_model.proofs.FrameLeaves.{Held, held_same}
 use Rattle.scheme_model.proofs.FrameUses.{placed}
-use Rattle.scheme_model.proofs.FrameHeld.{NoteAll, PendingHeld, pending_same, pending_more}
-use Rattle.scheme_model.proofs.FrameOpen.{b, home, mine_of, Placed, MacroSits, Opened, Leaf, PlaceIn, other_of, entered_other, young, places_in, definitions_in, frames_in, entered_body, stands_in}
+use Rattle.scheme_model.proofs.FrameHeld.{NoteAll, PendingHeld, pending_same}
+use Rattle.scheme_model.proofs.FrameOpen.{b, home, mine_of, MacroSits, Opened, Leaf, PlaceIn, entered_other, young, places_in, definitions_in, frames_in, stands_in}
 
 -- two changes in turn, of what is left
 notes_fused : {L M N : Type 0} (g : M → N) (h : L → M) (n : Note L) → note_map g (note_map h n) ≡ note_map (λ l. g (h l)) n

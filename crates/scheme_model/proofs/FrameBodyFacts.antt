@@ -1,19 +1,17 @@
 -- What an open body gives as a place whose forms are gone through.
-use Rattle.std.proofs.Common.{◌≡◌, ℕ, suc, ◌⊎◌, inl, inr, List, [], ◌∷◌, map, Bool, true, false, not, cond, Option, Some, None, Result, Ok, Err, refl, sym, ap, ◌∙◌, subst}
+use Rattle.std.proofs.Common.{◌≡◌, suc, ◌⊎◌, inl, inr, List, [], ◌∷◌, map, Bool, true, false, not, cond, Option, Some, None, Result, Ok, Err, refl, sym, ap, ◌∙◌, subst}
 use Rattle.std.specs.Prelude.{◌&&◌, ◌||◌}
 use Rattle.scheme_model.specs.Identifiers.{Number, same_number, Name}
 use Rattle.scheme_model.specs.Ident.{Ident, same_ident, erase}
 use Rattle.scheme_model.specs.ExpansionFaults.{Named, named, named_map, Fault, KeywordRedefined, Duplicate}
-use Rattle.scheme_model.specs.Meaning.{Meaning, Local, same_meaning}
+use Rattle.scheme_model.specs.Meaning.{Local, same_meaning}
 use Rattle.scheme_model.specs.Requirements.{Known}
 use Rattle.scheme_model.specs.RulesShape.{Rules, rules_map, option_map}
 use Rattle.scheme_model.specs.Cores.{LocalNumber, Definition}
-use Rattle.scheme_model.specs.Steps.{Broken}
 use Rattle.scheme_model.specs.Order.{Here, Note, Pending, Transformer, is_some, told}
-use Rattle.scheme_model.specs.Substitution.{State, at_form, note_map, pending_map, any, refused_in_body, is_mine, is_own, rules_mapped, own_rules, with_macro, meaning, deep, asks, defined_local, define_in_body, is_plain, is_variable, defined_in, number_at, definition_count, model}
-use Rattle.scheme_model.specs.ScopedExpansion.{Frames, BodyDefinition, BodyDefinitions, Place, ScopedMacro, ScopedState, find, next_number, means_at, macro_at, macro_added, definition_added, refused_now, define_at, scoped}
-use Rattle.scheme_model.specs.FrameImages.{frame_image}
-use Rattle.scheme_model.specs.OpenBodies.{Before, Entered, Below, Other}
+use Rattle.scheme_model.specs.Substitution.{State, at_form, note_map, pending_map, any, refused_in_body, is_own, rules_mapped, own_rules, with_macro, meaning, deep, asks, defined_local, define_in_body, is_plain, is_variable, defined_in, definition_count, model}
+use Rattle.scheme_model.specs.ScopedExpansion.{Frames, BodyDefinitions, Place, ScopedMacro, ScopedState, find, next_number, means_at, macro_at, macro_added, definition_added, refused_now, define_at}
+use Rattle.scheme_model.specs.OpenBodies.{Before, Entered, Below}
 use Rattle.scheme_model.proofs.IdentLaws.{number_itself, ident_told}
 use Rattle.scheme_model.proofs.IdentKinds.{rules_kind}
 use Rattle.scheme_model.proofs.Clocks.{leq_then, leq_counted}
@@ -21,14 +19,14 @@ use Rattle.scheme_model.proofs.FrameNames.{erase_frame_image}
 use Rattle.scheme_model.proofs.FrameTimes.{frames_entered}
 use Rattle.scheme_model.proofs.FrameDefines.{same_elsewhere}
 use Rattle.scheme_model.proofs.FrameAsks.{AllOf}
-use Rattle.scheme_model.proofs.FrameStates.{names, view, seen_macro, Fine, FineState, Grows, grows_then, Stands, MacroFine, binders_more, locals_fine, locals_grow, next_old}
+use Rattle.scheme_model.proofs.FrameStates.{names, view, seen_macro, Fine, FineState, grows_then, Stands, MacroFine, binders_more, locals_fine, locals_grow, next_old}
 use Rattle.scheme_model.proofs.FrameGrowth.{inserted_below}
 use Rattle.scheme_model.proofs.FrameLeaves.{Held, held_more, held_made}
 use Rattle.scheme_model.proofs.FrameAgrees.{Agrees, agree, break, agrees_at}
 use Rattle.scheme_model.proofs.FrameHeads.{IfMacro, TransformerFine, macro_found}
 use Rattle.scheme_model.proofs.FrameUses.{placed}
 use Rattle.scheme_model.proofs.FrameHeld.{NoteAll, PendingHeld}
-use Rattle.scheme_model.proofs.FramePlaces.{On, MacroHere, Defines, PlaceFacts}
+use Rattle.scheme_model.proofs.FramePlaces.{MacroHere, PlaceFacts}
 use Rattle.scheme_model.proofs.FrameOpen.{b, home, mine_of, MacroSits, Opened, Inside, Leaf, PlaceIn, RuleLeaf, other_of, young, places_in, definitions_in, frames_in, entered_body, stands_in, placed_below, leaf_later, place_later, placed_later, sits_among, used_sits, used_opened}
 use Rattle.scheme_model.proofs.FrameBodyDefines.{refused_same, any_same, some_same, asked_same, now_same, mine_same, pending_defined, own_later, foreign_later, rules_defined, macros_defined}
 

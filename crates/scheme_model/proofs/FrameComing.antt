@@ -1,5 +1,5 @@
 -- A look-up that comes to a body's definition of x: it asks x by names exactly there, and answers x's number once x is added.
-use Rattle.std.proofs.Common.{◌≡◌, ℕ, ◌⊎◌, inl, inr, List, [], ◌∷◌, Bool, true, false, cond, Option, Some, None, refl, sym, ap, ◌∙◌, subst}
+use Rattle.std.proofs.Common.{◌≡◌, ◌⊎◌, inl, inr, List, [], ◌∷◌, Bool, true, false, cond, Option, Some, None, refl, sym, ap, ◌∙◌, subst}
 use Rattle.std.specs.Prelude.{◌&&◌, ◌||◌}
 use Rattle.std.proofs.lemmas.Bool.{false_from_ne_true}
 use Rattle.scheme_model.specs.Identifiers.{Number, same_number, Name, Written as WrittenName, Inserted as InsertedName, Inner, Var, same_name}
@@ -8,7 +8,7 @@ use Rattle.scheme_model.specs.Meaning.{Meaning, Local}
 use Rattle.scheme_model.specs.Order.{is_some}
 use Rattle.scheme_model.specs.Substitution.{Table, Entries, Clock, asks}
 use Rattle.scheme_model.specs.Scopes.{own_of, given_or}
-use Rattle.scheme_model.specs.ScopedExpansion.{Frame, Bind, Enter, Frames, BodyDefinitions, UsePlace, around, find, defined_as, means_inside, means_outside}
+use Rattle.scheme_model.specs.ScopedExpansion.{Bind, Enter, Frames, BodyDefinitions, UsePlace, around, find, defined_as, means_inside, means_outside}
 use Rattle.scheme_model.specs.FrameImages.{is_before, is_older, entered_as, before_definition, image_inside, image_outside, frame_image}
 use Rattle.scheme_model.specs.OpenBodies.{Leq, Before, NotYet, Entered, Below, PlacesIn, DefinitionsBelow, FramesOk, Other, Sits}
 use Rattle.scheme_model.proofs.IdentLaws.{number_itself, ident_told, name_told, name_itself, same_turned}

@@ -1,21 +1,20 @@
 -- Definitions at a place: of a variable or a procedure, of several names, of a record; both sides go on alike.
-use Rattle.std.proofs.Common.{◌≡◌, ℕ, suc, List, [], ◌∷◌, ◌++◌, map, Bool, true, false, cond, Option, Some, None, Result, Ok, Err, refl, sym, ap, ◌∙◌, subst}
-use Rattle.scheme_model.specs.declared.Occ.{Occ}
+use Rattle.std.proofs.Common.{◌≡◌, ℕ, suc, List, [], ◌∷◌, ◌++◌, map, Bool, true, false, cond, Option, Some, None, Result, refl, sym, ap, ◌∙◌, subst}
 use Rattle.scheme_model.specs.Identifiers.{Number, Name, same_name}
 use Rattle.scheme_model.specs.Ident.{Ident, erase, same_ident}
 use Rattle.scheme_model.specs.Trees.{Tree, name, atom, list, vector, map_tree}
 use Rattle.scheme_model.specs.ExpansionFaults.{Named, named, named_map}
 use Rattle.scheme_model.specs.Requirements.{Known}
 use Rattle.scheme_model.specs.Shapes.{Formals, Clause, DefinitionShape, Variable, Procedure, FieldShape, RecordShape}
-use Rattle.scheme_model.specs.RulesShape.{Rules, option_map}
-use Rattle.scheme_model.specs.Cores.{LocalNumber, Binder, Binders, RecordType}
+use Rattle.scheme_model.specs.RulesShape.{option_map}
+use Rattle.scheme_model.specs.Cores.{LocalNumber, Binder}
 use Rattle.scheme_model.specs.Steps.{Broken, Step, ◌>>=◌, done}
-use Rattle.scheme_model.specs.Order.{Here, Form, Item, Expression, Value, Function, Assigned, AssignedFunction, ValuesOf, Record, Note, Pending, Pass, Transformer, binder_at, told, put, first, names_at, next_name, define_next, define_all, define_names, fields_bound, position, modifiers, modified, is_some, record_names, record_part, caught, run_variable, run_function, run_define, values_put, run_values, run_record}
-use Rattle.scheme_model.specs.Substitution.{State, Clock, at_form, form_map, item_map, note_map, clause_map, model}
+use Rattle.scheme_model.specs.Order.{Here, Form, Item, Value, Function, Assigned, AssignedFunction, ValuesOf, Record, Note, Pending, Pass, Transformer, binder_at, told, put, first, names_at, next_name, define_next, define_all, define_names, fields_bound, position, modifiers, modified, is_some, record_names, record_part, caught, run_variable, run_function, run_define, values_put, run_values, run_record}
+use Rattle.scheme_model.specs.Substitution.{State, at_form, form_map, item_map, note_map, clause_map, model}
 use Rattle.scheme_model.specs.ScopedExpansion.{Frames, Place, ScopedState, next_number, scoped}
 use Rattle.scheme_model.specs.Renaming.{formals_map, definition_map, field_map, record_map}
 use Rattle.scheme_model.proofs.RenamingLaws.{map-append, map_turned, append_map}
-use Rattle.scheme_model.proofs.IdentKinds.{item_kind, definition_kind, record_kind, map_twice}
+use Rattle.scheme_model.proofs.IdentKinds.{definition_kind, record_kind}
 use Rattle.scheme_model.proofs.Clocks.{leq_counted}
 use Rattle.scheme_model.proofs.Distinct.{Distinct, ShapeDistinct}
 use Rattle.scheme_model.proofs.FrameNames.{erase_frame_image, same_frame_image}
@@ -25,8 +24,8 @@ use Rattle.scheme_model.proofs.FrameLeaves.{TreeAll, Holding, held, all_held, li
 use Rattle.scheme_model.proofs.FrameAgrees.{Agrees, agree, break, agrees_at, agrees_bind, agrees_more}
 use Rattle.scheme_model.proofs.FrameUses.{placed}
 use Rattle.scheme_model.proofs.FrameReaders.{formals_tree_kind}
-use Rattle.scheme_model.proofs.FrameHeld.{NoteAll, FormAll, ItemHeld, PendingHeld, all_append, all_same, pending_more, pending_same, put_seen, first_seen, put_held, first_held}
-use Rattle.scheme_model.proofs.FramePlaces.{seen_pending, HeldHere, On, PlaceFacts, Together, together_at, CodeGo, ModelGo, RunLaw, on_bind, caught_law, put_law, binder_seen}
+use Rattle.scheme_model.proofs.FrameHeld.{FormAll, ItemHeld, PendingHeld, all_append, all_same, pending_more, pending_same, put_seen, first_seen, put_held, first_held}
+use Rattle.scheme_model.proofs.FramePlaces.{seen_pending, On, PlaceFacts, Together, together_at, CodeGo, ModelGo, RunLaw, on_bind, caught_law, put_law, binder_seen}
 
 -- ---- names, renamed
 

@@ -1,19 +1,19 @@
 -- The forms of a place, gone through in order: both sides set the same aside, note the same, and end alike.
-use Rattle.std.proofs.Common.{◌≡◌, ℕ, zero, suc, List, [], ◌∷◌, ◌++◌, map, Bool, true, false, cond, Option, Some, None, Result, Ok, Err, refl, sym, ap, ◌∙◌, subst}
+use Rattle.std.proofs.Common.{◌≡◌, ℕ, zero, suc, List, [], ◌∷◌, map, Bool, true, Option, Some, None, Result, Ok, refl, sym, ap, ◌∙◌, subst}
 use Rattle.scheme_model.specs.Identifiers.{Number, Name, same_name, strip}
-use Rattle.scheme_model.specs.Ident.{Ident, erase, same_ident, symbol_of}
+use Rattle.scheme_model.specs.Ident.{Ident, same_ident, symbol_of}
 use Rattle.scheme_model.specs.Keywords.{CoreKeyword, IsQuote, IsQuasiquote, IsLambda, IsCaseLambda, IsIf, IsSet, IsBegin, IsDefine, IsDefineValues, IsDefineRecordType, IsDefineSyntax, IsLetSyntax, IsLetrecSyntax, IsCondExpand, IsSyntaxError, IsInclude}
 use Rattle.scheme_model.specs.Trees.{Tree, name, atom, list, vector, Trees, no_trees, tree, Tail, map_tree, map_trees, map_tail}
 use Rattle.scheme_model.specs.ExpansionFaults.{OutOfTurns}
 use Rattle.scheme_model.specs.Meaning.{Meaning, Head, IsCore, IsAuxiliary, IsMacro, IsNone, is_keyword, same_meaning}
 use Rattle.scheme_model.specs.Requirements.{Known, chosen_of}
 use Rattle.scheme_model.specs.Shapes.{proper_of, definition_of, values_of, record_of, named_tree_of}
-use Rattle.scheme_model.specs.RulesShape.{Names, Rules, option_map, rules_map, rule_map, role_of, dots_of}
+use Rattle.scheme_model.specs.RulesShape.{Names, option_map, rules_map, role_of, dots_of}
 use Rattle.scheme_model.specs.Matching.{compared}
-use Rattle.scheme_model.specs.Cores.{Target, MacroUse}
+use Rattle.scheme_model.specs.Cores.{Target}
 use Rattle.scheme_model.specs.Steps.{Broken}
-use Rattle.scheme_model.specs.Order.{Here, Form, Item, Expression, Note, LookedUp, Compared, Pending, Pass, Transformer, is_some, head_of, target_of, here_at, comparisons, use_of, put, noted, first, caught, or_none, splice, read_then, run_define, run_values, run_record, run_syntax, run_core, run_use, run_head, run_form, run_next, run}
-use Rattle.scheme_model.specs.Substitution.{State, Clock, at_form, form_map, item_map, note_map, model}
+use Rattle.scheme_model.specs.Order.{Here, Form, Expression, Note, LookedUp, Compared, Pending, Pass, Transformer, is_some, head_of, target_of, here_at, comparisons, use_of, put, noted, first, caught, or_none, splice, read_then, run_define, run_values, run_record, run_syntax, run_core, run_use, run_head, run_form, run_next, run}
+use Rattle.scheme_model.specs.Substitution.{State, at_form, form_map, item_map, note_map, model}
 use Rattle.scheme_model.specs.ScopedExpansion.{Frames, Place, ScopedState, means_at, macro_at, scoped}
 use Rattle.scheme_model.specs.Renaming.{Renames, pair_map}
 use Rattle.scheme_model.proofs.RulesLaws.{role_of-map, dots_of-map}
@@ -21,16 +21,16 @@ use Rattle.scheme_model.proofs.CompareLaws.{compared-map}
 use Rattle.scheme_model.proofs.IdentKinds.{Kind, tree_kind, trees_kind, definition_kind, record_kind}
 use Rattle.scheme_model.proofs.Distinct.{definition_distinct}
 use Rattle.scheme_model.proofs.FrameAsks.{AllOf}
-use Rattle.scheme_model.proofs.FrameStates.{names, view, FineState, Grows, grows_itself, names_later}
+use Rattle.scheme_model.proofs.FrameStates.{names, view, Grows, grows_itself, names_later}
 use Rattle.scheme_model.proofs.FrameGrowth.{used_state, use_grows}
-use Rattle.scheme_model.proofs.FrameLeaves.{TreeAll, TreesAll, TailAll, tree_more, trees_more, tail_more, Holding, held, lift_trees, lift_tail, lifted_trees, lifted_tail, Held, held_more, tree_held, trees_held}
-use Rattle.scheme_model.proofs.FrameAgrees.{Agrees, agree, break, agrees_at}
+use Rattle.scheme_model.proofs.FrameLeaves.{TreeAll, TreesAll, TailAll, tree_more, trees_more, tail_more, Holding, held, lift_trees, lift_tail, lifted_trees, lifted_tail, Held, tree_held, trees_held}
+use Rattle.scheme_model.proofs.FrameAgrees.{Agrees, agree, break}
 use Rattle.scheme_model.proofs.FrameHeads.{seen_transformer, transformer_seen, IfMacro, HeadOf, head_is, head_seen, target_seen, here_seen}
 use Rattle.scheme_model.proofs.FrameUses.{named_in, placed, comparisons_seen}
 use Rattle.scheme_model.proofs.FrameInstances.{held_use_law}
 use Rattle.scheme_model.proofs.FrameReaders.{identifiers, model_names, rest_kind, named_tree_kind, formals_tree_kind, maybe_trees_kind, Reader, proper_reader, definition_reader, values_reader, record_reader, named_tree_reader, chosen_reader}
 use Rattle.scheme_model.proofs.FrameHeld.{NoteAll, FormAll, PendingHeld, pending_more, pending_same, noted_seen, noted_held, expression_held, read_held}
-use Rattle.scheme_model.proofs.FramePlaces.{seen_pending, MacroHere, PlaceFacts, Came, came, broke, Together, together_at, CodeGo, ModelGo, RunLaw, held_still, read_go, put_law, first_law, splice_law}
+use Rattle.scheme_model.proofs.FramePlaces.{seen_pending, MacroHere, PlaceFacts, came, broke, Together, together_at, CodeGo, ModelGo, RunLaw, held_still, read_go, put_law, first_law, splice_law}
 use Rattle.scheme_model.proofs.FrameDefinitions.{define_law, values_law, record_law}
 use Rattle.scheme_model.proofs.FrameSyntax.{syntax_law}
 

@@ -1,8 +1,8 @@
 -- Notes, forms, items and what is left of a body or a unit, over identifiers and places that hold something; and reading them.
-use Rattle.std.proofs.Common.{◌≡◌, ℕ, List, [], ◌∷◌, ◌++◌, map, Bool, Option, Some, None, Result, Ok, Err, refl, sym, ap, ◌∙◌, subst}
+use Rattle.std.proofs.Common.{◌≡◌, List, [], ◌∷◌, ◌++◌, map, Result, Ok, Err, refl, sym, ap, ◌∙◌, subst}
 use Rattle.scheme_model.specs.Identifiers.{Name}
 use Rattle.scheme_model.specs.Ident.{Ident, same_ident, symbol_of}
-use Rattle.scheme_model.specs.Trees.{Tree, Trees, Tail, no_trees, tree, map_tree, map_trees}
+use Rattle.scheme_model.specs.Trees.{Trees, no_trees, tree, map_tree, map_trees}
 use Rattle.scheme_model.specs.ExpansionFaults.{Fault, fault_map}
 use Rattle.scheme_model.specs.RulesShape.{Names}
 use Rattle.scheme_model.specs.Order.{Here, Form, Item, Expression, Value, Function, Assigned, AssignedFunction, ValuesOf, Record, Macro, Note, LookedUp, Compared, Pending, forms_at, put, noted, first}

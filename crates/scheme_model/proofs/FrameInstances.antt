@@ -1,5 +1,5 @@
 -- The law of one macro use: both sides choose the same rule, and build what is the same instance.
-use Rattle.std.proofs.Common.{◌≡◌, ℕ, suc, ◌+◌, ◌-◌, List, [], ◌∷◌, map, Bool, true, false, cond, Option, Some, None, Result, Ok, Err, refl, sym, ap, ◌∙◌, subst}
+use Rattle.std.proofs.Common.{◌≡◌, ℕ, ◌+◌, ◌-◌, List, ◌∷◌, map, Bool, true, false, cond, Option, Some, None, Result, Ok, Err, refl, sym, ap, ◌∙◌, subst}
 use Rattle.std.specs.Prelude.{nat_lt}
 use Rattle.scheme_model.specs.Identifiers.{Number, Name, Inserted as InsertedName, same_name, strip}
 use Rattle.scheme_model.specs.Ident.{Ident, Inserted, erase, same_ident, symbol_of}

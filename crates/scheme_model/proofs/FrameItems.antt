@@ -1,15 +1,15 @@
 -- What was set aside, expanded: both sides come to the same parts.
-use Rattle.std.proofs.Common.{◌≡◌, ℕ, List, [], ◌∷◌, map, Bool, Option, Result, Ok, Err, refl, sym, ap, ◌∙◌, subst}
-use Rattle.scheme_model.specs.Identifiers.{Number, Name}
+use Rattle.std.proofs.Common.{◌≡◌, ℕ, List, [], ◌∷◌, map, Bool, refl, sym, ap, subst}
+use Rattle.scheme_model.specs.Identifiers.{Number}
 use Rattle.scheme_model.specs.Ident.{Ident}
 use Rattle.scheme_model.specs.Trees.{Tree, map_tree}
 use Rattle.scheme_model.specs.ExpansionFaults.{Named, named_map}
 use Rattle.scheme_model.specs.Requirements.{Known}
 use Rattle.scheme_model.specs.Shapes.{Clause}
-use Rattle.scheme_model.specs.Cores.{Core, Set, Parts, no_parts, part, Part, Expression as expression_part, Define as define_part, Values as values_part, Fields as fields_part, Syntax as syntax_part}
-use Rattle.scheme_model.specs.Steps.{Broken, Step, ◌>>=◌, done}
-use Rattle.scheme_model.specs.Order.{Here, Form, Item, Expression, Value, Function, Assigned, AssignedFunction, ValuesOf, Record, Macro, target_of}
-use Rattle.scheme_model.specs.Expression.{Task, whole, lambda, macro_def, assignment, item_part, parts}
+use Rattle.scheme_model.specs.Cores.{Core, Set, no_parts, part, Expression as expression_part, Define as define_part, Values as values_part, Fields as fields_part, Syntax as syntax_part}
+use Rattle.scheme_model.specs.Steps.{Step}
+use Rattle.scheme_model.specs.Order.{Here, Item, Expression, Value, Function, Assigned, AssignedFunction, ValuesOf, Record, Macro, target_of}
+use Rattle.scheme_model.specs.Expression.{whole, lambda, macro_def, assignment, item_part, parts}
 use Rattle.scheme_model.specs.Substitution.{State, Clock, clause_map, item_map, model}
 use Rattle.scheme_model.specs.ScopedExpansion.{Frames, ScopedState, scoped}
 use Rattle.scheme_model.specs.OpenBodies.{Leq, Below}
@@ -18,7 +18,7 @@ use Rattle.scheme_model.proofs.FrameTimes.{below_more}
 use Rattle.scheme_model.proofs.FrameAsks.{AllOf, all_of_more}
 use Rattle.scheme_model.proofs.FrameStates.{names, view, Old, ident_of, Made, made_later, made_same, FineState, Grows, Stands, stands_later, names_later}
 use Rattle.scheme_model.proofs.FrameLeaves.{TreeAll, tree_more, all_held}
-use Rattle.scheme_model.proofs.FrameAgrees.{Agrees, agrees_at, Keeps, keeps_bind, Same, same_done}
+use Rattle.scheme_model.proofs.FrameAgrees.{agrees_at, keeps_bind, Same, same_done}
 use Rattle.scheme_model.proofs.FrameHeads.{target_seen, node_law}
 use Rattle.scheme_model.proofs.FrameHeld.{ItemDistinct}
 use Rattle.scheme_model.proofs.FrameExpressions.{Scoped, Modelled, WholeLaw, BodyLaw}

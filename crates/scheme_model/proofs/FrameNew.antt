@@ -1,6 +1,6 @@
 -- A new unit: what holds where both expansions of it begin, and the laws of its expressions and of the whole unit.
-use Rattle.std.proofs.Common.{◌≡◌, ℕ, inl, List, [], ◌∷◌, map, Bool, true, false, cond, ltb, Option, Some, None, Result, Ok, Err, refl, sym, ap, ◌∙◌, subst}
-use Rattle.scheme_model.specs.Identifiers.{Number, Name, Inserted as InsertedName}
+use Rattle.std.proofs.Common.{◌≡◌, ℕ, inl, List, [], ◌∷◌, map, true, false, cond, ltb, Option, Some, None, Result, Ok, refl, sym, ap, ◌∙◌, subst}
+use Rattle.scheme_model.specs.Identifiers.{Name, Inserted as InsertedName}
 use Rattle.scheme_model.specs.Ident.{Ident, Written, Inserted, root}
 use Rattle.scheme_model.specs.Trees.{Tree, map_tree}
 use Rattle.scheme_model.specs.Meaning.{Meaning, Local, Global, Standard, Free}
@@ -10,10 +10,10 @@ use Rattle.scheme_model.specs.Cores.{Core}
 use Rattle.scheme_model.specs.Steps.{Broken}
 use Rattle.scheme_model.specs.Order.{Here}
 use Rattle.scheme_model.specs.Expression.{whole, expand}
-use Rattle.scheme_model.specs.UnitExpansion.{Formed, unit}
+use Rattle.scheme_model.specs.UnitExpansion.{unit}
 use Rattle.scheme_model.specs.Substitution.{State, KeptMacro, Clock, model}
-use Rattle.scheme_model.specs.ScopedExpansion.{Frames, BodyDefinitions, ScopedMacro, ScopedState, scoped}
-use Rattle.scheme_model.specs.FrameImages.{image_outside, frame_image}
+use Rattle.scheme_model.specs.ScopedExpansion.{Frames, BodyDefinitions, ScopedState, scoped}
+use Rattle.scheme_model.specs.FrameImages.{image_outside}
 use Rattle.scheme_model.specs.OpenBodies.{Below}
 use Rattle.scheme_model.specs.NewUnits.{NoLocal, GivenNoLocal, Earlier, EarlierIdent, EarlierMacro, NewUnit, scoped_tree, scoped_form, scoped_macro, scoped_start, model_tree, model_form, model_macro, model_start}
 use Rattle.scheme_model.proofs.RenamingLaws.{map_after}
@@ -23,7 +23,7 @@ use Rattle.scheme_model.proofs.Clocks.{leq_itself}
 use Rattle.scheme_model.proofs.FrameAsks.{AllOf, MeansCounted, GivenCounted}
 use Rattle.scheme_model.proofs.FrameStates.{names, view, seen_macro, Old, ident_of, MacroFine, FineState}
 use Rattle.scheme_model.proofs.FrameLeaves.{TreeAll, tree_more, all_held, Holding, held}
-use Rattle.scheme_model.proofs.FrameAgrees.{Agrees, agree, break, Keeps, Same}
+use Rattle.scheme_model.proofs.FrameAgrees.{agree, break, Same}
 use Rattle.scheme_model.proofs.FrameWhole.{expand_law}
 use Rattle.scheme_model.proofs.FrameUnit.{AtRoot, root_plain, Rooted, RootMacro, MacroStands, UnitMacro, UnitLeaf, UnitState}
 use Rattle.scheme_model.proofs.FrameUnits.{form_seen, FormHeld, AllFormed, unit_law}
@@ -107,7 +107,7 @@ module _ (n : NewUnit) (known : Known) where
   unit_macros [] = tt
   unit_macros (m ∷ ms) = (
     macro_stands m.meaning m.no_local [] (rules_kind.map (EarlierIdent n.number) Ident (λ p. p.0) m.rules)
-    (record { outside = refl; rooted = record { made = rules_kind.map (EarlierIdent n.number) (Holding (Rooted w known none_yet [])) rooted m.rules; same = rules_fused (EarlierIdent n.number) (Holding (Rooted w known none_yet [])) Ident (held (Rooted w known none_yet [])) rooted m.rules } }),
+        (record { outside = refl; rooted = record { made = rules_kind.map (EarlierIdent n.number) (Holding (Rooted w known none_yet [])) rooted m.rules; same = rules_fused (EarlierIdent n.number) (Holding (Rooted w known none_yet [])) Ident (held (Rooted w known none_yet [])) rooted m.rules } }),
     unit_macros ms,
   )
 

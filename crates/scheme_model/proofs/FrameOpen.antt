@@ -1,28 +1,24 @@
 -- A body that is open on both sides: what holds of its states, and of what stands in it.
-use Rattle.std.proofs.Common.{◌≡◌, ℕ, suc, ◌⊎◌, inl, inr, List, [], ◌∷◌, map, Bool, true, false, cond, Option, Some, None, refl, sym, ap, ◌∙◌, subst}
-use Rattle.std.specs.Prelude.{◌&&◌, ◌||◌}
+use Rattle.std.proofs.Common.{◌≡◌, ℕ, suc, ◌⊎◌, inl, inr, List, [], ◌∷◌, Bool, true, false, cond, Some, refl, sym, ◌∙◌, subst}
 use Rattle.std.proofs.lemmas.Bool.{false_from_ne_true}
 use Rattle.scheme_model.specs.Identifiers.{Number, same_number}
 use Rattle.scheme_model.specs.Ident.{Ident, Written, Inserted}
-use Rattle.scheme_model.specs.Meaning.{Meaning, Local, Global, Standard, Free, same_meaning}
+use Rattle.scheme_model.specs.Meaning.{Meaning, same_meaning}
 use Rattle.scheme_model.specs.Requirements.{Known}
-use Rattle.scheme_model.specs.RulesShape.{Rules}
-use Rattle.scheme_model.specs.Cores.{Target, MacroUse, LocalNumber}
-use Rattle.scheme_model.specs.Order.{Note, Transformer, is_some}
-use Rattle.scheme_model.specs.Substitution.{Table, Clock, at_form, defined_in, is_own, model}
-use Rattle.scheme_model.specs.ScopedExpansion.{Frame, Enter, Frames, BodyDefinition, BodyDefinitions, UsePlace, Place, ScopedMacro, ScopedState, around, find, next_number, macro_at, scoped}
+use Rattle.scheme_model.specs.Order.{Transformer, is_some}
+use Rattle.scheme_model.specs.Substitution.{Table, Clock, at_form, defined_in, is_own}
+use Rattle.scheme_model.specs.ScopedExpansion.{Enter, Frames, BodyDefinitions, UsePlace, Place, ScopedMacro, ScopedState, around, next_number, macro_at}
 use Rattle.scheme_model.specs.OpenBodies.{Leq, Before, NotYet, Entered, Below, PlacesIn, DefinitionsBelow, FramesOk, Other, Sits}
 use Rattle.scheme_model.proofs.IdentLaws.{number_told}
 use Rattle.scheme_model.proofs.IdentKinds.{rules_kind}
-use Rattle.scheme_model.proofs.Clocks.{leq_itself, leq_then, leq_counted, before_more}
-use Rattle.scheme_model.proofs.FrameTimes.{entered_more, below_more, SamePlaces, definitions_same, frames_later, frames_entered}
+use Rattle.scheme_model.proofs.Clocks.{leq_itself, before_more}
+use Rattle.scheme_model.proofs.FrameTimes.{entered_more, below_more, definitions_same, frames_later, frames_entered}
 use Rattle.scheme_model.proofs.FrameAsks.{AllOf, all_of_more, BindersCounted}
-use Rattle.scheme_model.proofs.FrameStates.{names, view, Fine, FineState, Grows, grows_then, Stands, binders_more, names_far, names_later, locals_fine, locals_grow, next_new, next_old}
-use Rattle.scheme_model.proofs.FrameGrowth.{used_state, use_grows, use_fine, inserted_below, around_new}
+use Rattle.scheme_model.proofs.FrameStates.{Fine, FineState, Grows, grows_then, Stands, binders_more, names_far, next_new, next_old}
+use Rattle.scheme_model.proofs.FrameGrowth.{used_state, use_grows, use_fine, around_new}
 use Rattle.scheme_model.proofs.FrameLeaves.{Held, held_more}
-use Rattle.scheme_model.proofs.FrameHeads.{IfMacro, TransformerFine, macro_found}
+use Rattle.scheme_model.proofs.FrameHeads.{IfMacro, TransformerFine}
 use Rattle.scheme_model.proofs.FrameUses.{placed}
-use Rattle.scheme_model.proofs.FramePlaces.{MacroHere}
 
 module _ (known : Known) (s0 : ScopedState) (f0 : Fine s0.unit s0.locals s0.uses s0.bodies s0.table s0.entry s0.macros s0.places s0.definitions) (c : Frames) (st0 : Stands s0.unit s0 c) where
   -- the unit, the body's number, and its frames

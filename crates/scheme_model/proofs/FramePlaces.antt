@@ -1,5 +1,5 @@
 -- A place whose forms are gone through, a body or a unit: what it has to give, and how both sides go on in it.
-use Rattle.std.proofs.Common.{◌≡◌, ℕ, suc, ◌+◌, List, [], ◌∷◌, map, Bool, true, false, cond, Option, Some, None, Result, Ok, Err, refl, sym, ap, ◌∙◌, subst}
+use Rattle.std.proofs.Common.{◌≡◌, ℕ, suc, ◌+◌, List, map, Bool, true, false, cond, Option, Result, Ok, Err, refl, sym, ap, ◌∙◌, subst}
 use Rattle.std.specs.Prelude.{nat_le}
 use Rattle.scheme_model.specs.Identifiers.{Number, Name}
 use Rattle.scheme_model.specs.Ident.{Ident, Inserted, erase}
@@ -7,13 +7,13 @@ use Rattle.scheme_model.specs.Trees.{Trees, map_trees}
 use Rattle.scheme_model.specs.ExpansionFaults.{Named, named_map, Fault, fault_map, NodeBudget}
 use Rattle.scheme_model.specs.Requirements.{Known}
 use Rattle.scheme_model.specs.RulesShape.{Rules, rules_map, option_map}
-use Rattle.scheme_model.specs.Cores.{Target, Binder, MacroUse}
+use Rattle.scheme_model.specs.Cores.{Target, MacroUse}
 use Rattle.scheme_model.specs.Steps.{Broken, Step, ◌>>=◌, done, fails}
-use Rattle.scheme_model.specs.Order.{Here, Form, Item, Note, Pending, Pass, Going, Transformer, binder_at, counting, given, told, forms_at, put, noted, first, caught, splice, read_then, max_nodes}
+use Rattle.scheme_model.specs.Order.{Here, Form, Item, Note, Pending, Pass, Going, Transformer, binder_at, counting, given, told, forms_at, put, first, caught, splice, read_then, max_nodes}
 use Rattle.scheme_model.specs.Substitution.{State, Clock, at_form, form_map, item_map, note_map, pending_map, model}
 use Rattle.scheme_model.specs.ScopedExpansion.{Frames, Place, ScopedState, next_number, means_at, macro_at, scoped}
 use Rattle.scheme_model.specs.OpenBodies.{Before, Entered, Below}
-use Rattle.scheme_model.proofs.IdentKinds.{Kind, item_kind, rules_kind, pointwise, faults_fused}
+use Rattle.scheme_model.proofs.IdentKinds.{Kind, rules_kind, pointwise, faults_fused}
 use Rattle.scheme_model.proofs.FrameNames.{erase_frame_image}
 use Rattle.scheme_model.proofs.FrameAsks.{AllOf, BindersCounted}
 use Rattle.scheme_model.proofs.FrameStates.{names, view, FineState, Grows, grows_itself, Stands}

@@ -1,38 +1,32 @@
 -- Definitions of macros, and uses of macros, at a place; both sides go on alike.
-use Rattle.std.proofs.Common.{◌≡◌, ℕ, suc, ◌+◌, List, [], ◌∷◌, ◌++◌, map, Bool, true, false, cond, Option, Some, None, Result, Ok, Err, refl, sym, ap, ◌∙◌, subst}
+use Rattle.std.proofs.Common.{◌≡◌, ℕ, ◌+◌, List, [], ◌∷◌, map, Bool, true, false, cond, Option, Some, None, Result, Err, refl, ap, ◌∙◌, subst}
 use Rattle.std.specs.Prelude.{nat_le}
-use Rattle.scheme_model.specs.Identifiers.{Number, Name, same_name, strip}
-use Rattle.scheme_model.specs.Ident.{Ident, erase, same_ident, symbol_of}
-use Rattle.scheme_model.specs.Trees.{Tree, name, atom, list, vector, Trees, no_trees, tree, Tail, map_tree, map_trees, map_tail}
+use Rattle.scheme_model.specs.Identifiers.{Number, Name}
+use Rattle.scheme_model.specs.Ident.{Ident, erase}
+use Rattle.scheme_model.specs.Trees.{Tree, name, atom, list, vector, no_trees, tree, map_tree}
 use Rattle.scheme_model.specs.Measures.{tree_size}
 use Rattle.scheme_model.specs.ExpansionFaults.{Named, named, named_map, Fault, fault_map, BadForm, NodeBudget}
-use Rattle.scheme_model.specs.Meaning.{Head, is_keyword, same_meaning}
+use Rattle.scheme_model.specs.Meaning.{Head, is_keyword}
 use Rattle.scheme_model.specs.Requirements.{Known}
-use Rattle.scheme_model.specs.RulesShape.{Rule, Rules, rules_map, rules_of, option_map, role_of, dots_of}
-use Rattle.scheme_model.specs.Matching.{compared}
-use Rattle.scheme_model.specs.Cores.{Binder, Target, MacroUse}
+use Rattle.scheme_model.specs.RulesShape.{Rules, rules_of, option_map}
+use Rattle.scheme_model.specs.Cores.{Binder}
 use Rattle.scheme_model.specs.Steps.{Broken, Step, ◌>>=◌, done, fails}
-use Rattle.scheme_model.specs.Order.{Here, Form, Item, Macro, Note, LookedUp, Compared, Pending, Pass, Transformer, head_of, binder_at, counting, given, told, comparisons, use_of, put, noted, first, caught, RulesParts, rules_parts_of, is_rules, rules_parts, rules_note, rules_at, max_nodes, run_syntax, run_use}
-use Rattle.scheme_model.specs.Substitution.{State, Clock, at_form, form_map, item_map, note_map, model}
-use Rattle.scheme_model.specs.ScopedExpansion.{Frames, Place, ScopedState, means_at, macro_at, scoped}
-use Rattle.scheme_model.specs.Renaming.{Renames, pair_map}
+use Rattle.scheme_model.specs.Order.{Here, Macro, Note, LookedUp, Pending, Pass, Transformer, head_of, binder_at, counting, given, told, put, noted, caught, RulesParts, rules_parts_of, is_rules, rules_parts, rules_note, rules_at, max_nodes, run_syntax}
+use Rattle.scheme_model.specs.Substitution.{State, Clock, at_form, note_map, model}
+use Rattle.scheme_model.specs.ScopedExpansion.{Frames, Place, ScopedState, scoped}
 use Rattle.scheme_model.proofs.RenamingLaws.{size-map}
-use Rattle.scheme_model.proofs.RulesLaws.{role_of-map, dots_of-map}
-use Rattle.scheme_model.proofs.CompareLaws.{compared-map}
-use Rattle.scheme_model.proofs.IdentKinds.{Kind, item_kind, rules_kind, tree_kind, pointwise, faults_fused}
+use Rattle.scheme_model.proofs.IdentKinds.{Kind, rules_kind, pointwise, faults_fused}
 use Rattle.scheme_model.proofs.FrameNames.{erase_frame_image}
 use Rattle.scheme_model.proofs.FrameAsks.{AllOf}
-use Rattle.scheme_model.proofs.FrameStates.{names, view, FineState, Grows, grows_itself, grows_then, names_later}
-use Rattle.scheme_model.proofs.FrameGrowth.{used_state, use_grows}
-use Rattle.scheme_model.proofs.FrameLeaves.{TreeAll, TreesAll, TailAll, tree_more, Holding, held, lift_trees, lift_tail, lifted_trees, lifted_tail, all_held, Held, held_more, tree_held}
+use Rattle.scheme_model.proofs.FrameStates.{names, view, Grows, grows_itself, grows_then, names_later}
+use Rattle.scheme_model.proofs.FrameLeaves.{TreeAll, Holding, held, lift_trees, lift_tail, lifted_trees, lifted_tail, all_held, Held, held_more}
 use Rattle.scheme_model.proofs.FrameAgrees.{Agrees, agree, break, agrees_at, agrees_bind, agrees_more}
-use Rattle.scheme_model.proofs.FrameHeads.{seen_transformer, transformer_seen, IfMacro, head_seen}
-use Rattle.scheme_model.proofs.FrameUses.{named_in, placed, comparisons_seen}
-use Rattle.scheme_model.proofs.FrameInstances.{held_use_law}
+use Rattle.scheme_model.proofs.FrameHeads.{IfMacro, head_seen}
+use Rattle.scheme_model.proofs.FrameUses.{named_in, placed}
 use Rattle.scheme_model.proofs.FrameReaders.{parts_map, parts_kind, rules_reader, named_tree_kind, identifiers, model_names}
 use Rattle.scheme_model.proofs.FrameMacros.{parts_of-map}
-use Rattle.scheme_model.proofs.FrameHeld.{NoteAll, FormAll, PendingHeld, pending_more, pending_same, noted_seen, noted_held, ReadTo, read_to, read_broken, read_held}
-use Rattle.scheme_model.proofs.FramePlaces.{seen_pending, HeldHere, On, MacroHere, PlaceFacts, Came, came, broke, Together, together_at, CodeGo, ModelGo, RunLaw, caught_law, put_law, first_law}
+use Rattle.scheme_model.proofs.FrameHeld.{NoteAll, PendingHeld, pending_more, pending_same, noted_seen, noted_held, ReadTo, read_to, read_broken, read_held}
+use Rattle.scheme_model.proofs.FramePlaces.{seen_pending, On, PlaceFacts, Together, together_at, CodeGo, ModelGo, RunLaw, caught_law, put_law}
 use Rattle.scheme_model.proofs.FrameDefinitions.{grown_bind}
 
 -- the parts of rules, over what holds P

@@ -1,20 +1,19 @@
 -- What a unit gives as a place whose forms are gone through: nothing local is around them, and a definition goes into the table.
 use Rattle.std.proofs.Common.{◌≡◌, ℕ, suc, List, [], ◌∷◌, map, Bool, true, false, not, cond, Option, Some, None, Result, Ok, Err, refl, sym, ap, ◌∙◌, subst}
 use Rattle.std.specs.Prelude.{◌&&◌, ◌==◌}
-use Rattle.scheme_model.specs.Identifiers.{Number, Name, Inserted as InsertedName}
+use Rattle.scheme_model.specs.Identifiers.{Number, Name}
 use Rattle.scheme_model.specs.Ident.{Ident, Written, Inserted, same_ident, erase}
 use Rattle.scheme_model.specs.ExpansionFaults.{Named, named, named_map, Fault, KeywordRedefined, Duplicate}
 use Rattle.scheme_model.specs.Meaning.{Meaning, Local, Global, Standard, Free, same_meaning}
 use Rattle.scheme_model.specs.Requirements.{Known}
 use Rattle.scheme_model.specs.RulesShape.{Rules, rules_map, option_map}
 use Rattle.scheme_model.specs.Cores.{LocalNumber, Definition}
-use Rattle.scheme_model.specs.Steps.{Broken}
 use Rattle.scheme_model.specs.Order.{Here, Note, Pending, Transformer, is_some, told}
 use Rattle.scheme_model.specs.Substitution.{State, Table, Entries, Defined, Clock, at_form, note_map, pending_map, any, meaning, refused_in_unit, with_macro, defined_global, define_in_unit, is_plain, is_variable, defined_in, definition_count, model}
 use Rattle.scheme_model.specs.Scopes.{own_of, imported_as, defined_or, given_or}
-use Rattle.scheme_model.specs.ScopedExpansion.{Frames, BodyDefinitions, UsePlace, Place, ScopedMacro, ScopedState, around, next_number, means_inside, means_outside, means_at, macro_at, macro_added, definition_added, refused_now, define_at, scoped}
+use Rattle.scheme_model.specs.ScopedExpansion.{Frames, BodyDefinitions, UsePlace, Place, ScopedMacro, ScopedState, around, next_number, means_inside, means_outside, means_at, macro_at, macro_added, definition_added, refused_now, define_at}
 use Rattle.scheme_model.specs.FrameImages.{image_inside, image_outside}
-use Rattle.scheme_model.specs.OpenBodies.{Before, Below}
+use Rattle.scheme_model.specs.OpenBodies.{Below}
 use Rattle.scheme_model.specs.NewUnits.{NoLocal, GivenNoLocal}
 use Rattle.scheme_model.proofs.IdentLaws.{ident_told}
 use Rattle.scheme_model.proofs.IdentKinds.{rules_kind}
@@ -22,14 +21,14 @@ use Rattle.scheme_model.proofs.Clocks.{leq_counted}
 use Rattle.scheme_model.proofs.FrameNames.{erase_frame_image}
 use Rattle.scheme_model.proofs.FrameTimes.{below_more}
 use Rattle.scheme_model.proofs.FrameAsks.{AllOf, all_of_more}
-use Rattle.scheme_model.proofs.FrameStates.{names, view, seen_macro, FineState, Grows, grows_itself, grows_then, Stands, MacroFine, names_mean, names_later, locals_fine, locals_grow}
+use Rattle.scheme_model.proofs.FrameStates.{names, view, seen_macro, FineState, Grows, grows_itself, grows_then, MacroFine, names_mean, names_later, locals_fine, locals_grow}
 use Rattle.scheme_model.proofs.FrameGrowth.{used_state, use_grows, use_fine, inserted_below, around_new}
 use Rattle.scheme_model.proofs.FrameLeaves.{Held, held_more, held_made}
 use Rattle.scheme_model.proofs.FrameAgrees.{Agrees, agree, break, agrees_at}
 use Rattle.scheme_model.proofs.FrameHeads.{IfMacro, TransformerFine, macro_found}
 use Rattle.scheme_model.proofs.FrameUses.{placed}
 use Rattle.scheme_model.proofs.FrameHeld.{NoteAll, PendingHeld, notes_more, notes_same}
-use Rattle.scheme_model.proofs.FramePlaces.{On, MacroHere, Defines, PlaceFacts}
+use Rattle.scheme_model.proofs.FramePlaces.{MacroHere, PlaceFacts}
 use Rattle.scheme_model.proofs.FrameBodyDefines.{refused_same, any_same, some_same}
 
 -- inserted by uses of units' macros alone

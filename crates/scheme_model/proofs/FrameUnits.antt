@@ -1,12 +1,12 @@
 -- The law of units: both sides go through the forms in order, and then expand what each set aside, to the same.
-use Rattle.std.proofs.Common.{◌≡◌, ℕ, List, [], ◌∷◌, map, Bool, false, Option, None, Result, Ok, Err, refl, sym, ap, ◌∙◌, subst}
+use Rattle.std.proofs.Common.{◌≡◌, ℕ, List, [], ◌∷◌, map, Bool, false, None, Result, Ok, Err, refl, sym, ap, ◌∙◌, subst}
 use Rattle.scheme_model.specs.Identifiers.{Number, Name}
 use Rattle.scheme_model.specs.Ident.{Ident}
 use Rattle.scheme_model.specs.Trees.{Tree, map_tree}
 use Rattle.scheme_model.specs.Requirements.{Known}
 use Rattle.scheme_model.specs.Cores.{Parts}
 use Rattle.scheme_model.specs.Steps.{Broken, ◌>>=◌}
-use Rattle.scheme_model.specs.Order.{Item, Note, Pending, Pass, run}
+use Rattle.scheme_model.specs.Order.{Item, Note, Pending, Pass}
 use Rattle.scheme_model.specs.Expression.{Expander, expand, item_part, parts}
 use Rattle.scheme_model.specs.UnitExpansion.{Formed, max_depth, passes, from_items, finished, unit}
 use Rattle.scheme_model.specs.Substitution.{State, Clock, item_map, note_map, model}
@@ -17,7 +17,7 @@ use Rattle.scheme_model.proofs.FrameTimes.{below_more}
 use Rattle.scheme_model.proofs.FrameAsks.{AllOf, all_of_more}
 use Rattle.scheme_model.proofs.FrameStates.{names, view, FineState, Grows, grows_itself, grows_then, names_later}
 use Rattle.scheme_model.proofs.FrameLeaves.{TreeAll, tree_more, tree_same, held_more, held_same, held_made}
-use Rattle.scheme_model.proofs.FrameAgrees.{Agrees, agree, break, Keeps, Same}
+use Rattle.scheme_model.proofs.FrameAgrees.{agree, break, Keeps, Same}
 use Rattle.scheme_model.proofs.FrameUses.{placed}
 use Rattle.scheme_model.proofs.FrameHeld.{NoteAll, ItemHeld, all_same}
 use Rattle.scheme_model.proofs.FramePlaces.{Came, came, broke, Together}

@@ -1,30 +1,30 @@
 -- The law of expressions with bodies nested in them: expansion by scopes gives what substitution gives, whatever the turns.
-use Rattle.std.proofs.Common.{◌≡◌, ℕ, zero, suc, ◌⊎◌, inl, inr, List, [], ◌∷◌, map, Bool, true, false, cond, Option, Some, None, Result, Ok, Err, refl, sym, ap, ◌∙◌, subst}
-use Rattle.scheme_model.specs.Identifiers.{Number, same_number, Name, Inner}
+use Rattle.std.proofs.Common.{◌≡◌, ℕ, zero, suc, inr, List, [], ◌∷◌, Bool, true, false, cond, refl, sym, ap, ◌∙◌, subst}
+use Rattle.scheme_model.specs.Identifiers.{Number, Name, Inner}
 use Rattle.scheme_model.specs.Ident.{Ident, Written, Inserted}
 use Rattle.scheme_model.specs.Trees.{Trees, map_tree, map_trees}
 use Rattle.scheme_model.specs.ExpansionFaults.{OutOfTurns}
 use Rattle.scheme_model.specs.Meaning.{Meaning, Local, Global, Standard, Free}
 use Rattle.scheme_model.specs.Requirements.{Known}
-use Rattle.scheme_model.specs.Cores.{Core, Body, Parts}
-use Rattle.scheme_model.specs.Steps.{Broken, Step, ◌>>=◌, done}
-use Rattle.scheme_model.specs.Order.{Here, Item, Note, Pending, Pass, here_at, forms_at, run}
-use Rattle.scheme_model.specs.Expression.{Task, whole, body, expression, item_part, parts, items_of, body_in, body_core, expand}
-use Rattle.scheme_model.specs.Substitution.{State, form_map, item_map, is_own, model}
-use Rattle.scheme_model.specs.ScopedExpansion.{Frame, Enter, Frames, BodyDefinition, BodyDefinitions, UsePlace, Place, ScopedMacro, ScopedState, around, next_number, scoped}
-use Rattle.scheme_model.specs.OpenBodies.{Before, Entered, Below, Sits}
+use Rattle.scheme_model.specs.Cores.{Body}
+use Rattle.scheme_model.specs.Steps.{◌>>=◌, done}
+use Rattle.scheme_model.specs.Order.{Here, Pass, here_at, forms_at, run}
+use Rattle.scheme_model.specs.Expression.{expression, item_part, parts, items_of, body_in, body_core, expand}
+use Rattle.scheme_model.specs.Substitution.{State, is_own, model}
+use Rattle.scheme_model.specs.ScopedExpansion.{Frames, BodyDefinition, BodyDefinitions, Place, ScopedMacro, ScopedState, around, next_number, scoped}
+use Rattle.scheme_model.specs.OpenBodies.{Before, Below, Sits}
 use Rattle.scheme_model.proofs.IdentKinds.{item_kind, rules_kind}
 use Rattle.scheme_model.proofs.Clocks.{leq_itself, apart}
 use Rattle.scheme_model.proofs.ScopeLaws.{map_map_all}
-use Rattle.scheme_model.proofs.FrameAsks.{AllOf, all_of_more, BindersCounted}
-use Rattle.scheme_model.proofs.FrameStates.{names, view, Fine, FineState, Grows, grows_then, Stands, MacroFine, next_new}
+use Rattle.scheme_model.proofs.FrameAsks.{AllOf, all_of_more}
+use Rattle.scheme_model.proofs.FrameStates.{names, view, Fine, FineState, grows_then, Stands, MacroFine, next_new}
 use Rattle.scheme_model.proofs.FrameGrowth.{entered_state, enter_names, enter_fine, enter_grows}
-use Rattle.scheme_model.proofs.FrameLeaves.{TreesAll, trees_more, trees_same, Held, held_more, held_made, made_held}
-use Rattle.scheme_model.proofs.FrameAgrees.{Agrees, agree, break, agrees_at, agrees_more, Keeps, keeps_bind, Same, same_done, same_fails}
+use Rattle.scheme_model.proofs.FrameLeaves.{TreesAll, trees_more, trees_same, held_more, held_made, made_held}
+use Rattle.scheme_model.proofs.FrameAgrees.{break, agrees_at, agrees_more, Keeps, keeps_bind, Same, same_done, same_fails}
 use Rattle.scheme_model.proofs.FrameHeads.{here_seen, node_law}
-use Rattle.scheme_model.proofs.FrameHeld.{ItemHeld, ItemDistinct, PendingHeld, forms_seen, forms_held}
+use Rattle.scheme_model.proofs.FrameHeld.{ItemHeld, forms_seen, forms_held}
 use Rattle.scheme_model.proofs.FrameUses.{placed}
-use Rattle.scheme_model.proofs.FramePlaces.{Came, came, broke, Together, PlaceFacts}
+use Rattle.scheme_model.proofs.FramePlaces.{Came, came, broke, Together}
 use Rattle.scheme_model.proofs.FrameForms.{forms_law}
 use Rattle.scheme_model.proofs.FrameOpen.{b, home, mine_of, MacroSits, Opened, Inside, Leaf, PlaceIn, RuleLeaf, entered_other, stands_in}
 use Rattle.scheme_model.proofs.FrameBodyFacts.{body_facts, Any, Dropped}

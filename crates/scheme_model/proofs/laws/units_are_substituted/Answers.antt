@@ -1,7 +1,6 @@
 use Rattle.std.proofs.Common.{ℕ, List, ap}
 use Rattle.scheme_model.specs.Trees.{Tree}
 use Rattle.scheme_model.specs.Requirements.{Known}
-use Rattle.scheme_model.specs.UnitExpansion.{Formed}
 use Rattle.scheme_model.specs.Substitution.{State}
 use Rattle.scheme_model.specs.NewUnits.{EarlierIdent, NewUnit}
 use Rattle.scheme_model.proofs.FrameNew.{new_unit_law}
