@@ -16,6 +16,7 @@ use Rattle.scheme_model.specs.ScopedExpansion.{Frames, BodyDefinitions, ScopedSt
 use Rattle.scheme_model.specs.FrameImages.{image_outside}
 use Rattle.scheme_model.specs.OpenBodies.{Below}
 use Rattle.scheme_model.specs.NewUnits.{NoLocal, GivenNoLocal, Earlier, EarlierIdent, EarlierMacro, NewUnit, scoped_tree, scoped_form, scoped_macro, scoped_start, model_tree, model_form, model_macro, model_start}
+use Rattle.scheme_model.specs.LaterUnits.{AtRoot}
 use Rattle.scheme_model.proofs.RenamingLaws.{map_after}
 use Rattle.scheme_model.proofs.ScopeLaws.{map_map}
 use Rattle.scheme_model.proofs.IdentKinds.{pointwise, rules_kind, rules_fused}
@@ -25,13 +26,13 @@ use Rattle.scheme_model.proofs.FrameStates.{names, view, seen_macro, Old, ident_
 use Rattle.scheme_model.proofs.FrameLeaves.{TreeAll, tree_more, all_held, Holding, held}
 use Rattle.scheme_model.proofs.FrameAgrees.{agree, break, Same}
 use Rattle.scheme_model.proofs.FrameWhole.{expand_law}
-use Rattle.scheme_model.proofs.FrameUnit.{AtRoot, root_plain, Rooted, RootMacro, MacroStands, UnitMacro, UnitLeaf, UnitState}
+use Rattle.scheme_model.proofs.FrameUnit.{root_plain, Rooted, RootMacro, MacroStands, UnitMacro, UnitLeaf, UnitState}
 use Rattle.scheme_model.proofs.FrameUnits.{form_seen, FormHeld, AllFormed, unit_law}
 
-abbrev none_yet : Clock
+abbrev pub none_yet : Clock
 none_yet f = 0
 
-earlier_below : (w : ℕ) (i : Ident) → Earlier w i → Below w none_yet i
+pub earlier_below : (w : ℕ) (i : Ident) → Earlier w i → Below w none_yet i
 earlier_below w (Written u s) h = tt
 earlier_below w (Inserted i k) h = (ap (λ t. cond t (ltb k.count 0) true) h.0, earlier_below w i h.1)
 
@@ -43,13 +44,13 @@ outside_root : (i : Ident) (ds : BodyDefinitions) → image_outside [] i ds ≡ 
 outside_root (Written u s) ds = refl
 outside_root (Inserted i k) ds = ap (λ (j : Name). InsertedName j k) (outside_root i ds)
 
-no_local_counted : (w : ℕ) (n : Clock) (m : Meaning) → NoLocal m → MeansCounted w n m
+pub no_local_counted : (w : ℕ) (n : Clock) (m : Meaning) → NoLocal m → MeansCounted w n m
 no_local_counted w n (Local v) h = absurd h
 no_local_counted w n (Global u i) h = tt
 no_local_counted w n (Standard s) h = tt
 no_local_counted w n (Free s) h = tt
 
-given_counted : (w : ℕ) (n : Clock) (o : Option Meaning) → GivenNoLocal o → GivenCounted w n o
+pub given_counted : (w : ℕ) (n : Clock) (o : Option Meaning) → GivenNoLocal o → GivenCounted w n o
 given_counted w n None h = tt
 given_counted w n (Some m) h = no_local_counted w n m h
 

@@ -15,6 +15,7 @@ use Rattle.scheme_model.specs.ScopedExpansion.{Frames, BodyDefinitions, UsePlace
 use Rattle.scheme_model.specs.FrameImages.{image_inside, image_outside}
 use Rattle.scheme_model.specs.OpenBodies.{Below}
 use Rattle.scheme_model.specs.NewUnits.{NoLocal, GivenNoLocal}
+use Rattle.scheme_model.specs.LaterUnits.{AtRoot}
 use Rattle.scheme_model.proofs.IdentLaws.{ident_told}
 use Rattle.scheme_model.proofs.IdentKinds.{rules_kind}
 use Rattle.scheme_model.proofs.Clocks.{leq_counted}
@@ -30,11 +31,6 @@ use Rattle.scheme_model.proofs.FrameUses.{placed}
 use Rattle.scheme_model.proofs.FrameHeld.{NoteAll, PendingHeld, notes_more, notes_same}
 use Rattle.scheme_model.proofs.FramePlaces.{MacroHere, PlaceFacts}
 use Rattle.scheme_model.proofs.FrameBodyDefines.{refused_same, any_same, some_same}
-
--- inserted by uses of units' macros alone
-abbrev pub AtRoot : List UsePlace → Ident → Type 0
-AtRoot ps (Written u s) = Unit {0}
-AtRoot ps (Inserted i k) = (around ps k ≡ []) × AtRoot ps i
 
 pub root_plain : (ps : List UsePlace) (i : Ident) → AtRoot ps i → (es : BodyDefinitions) → is_plain (image_outside ps i es) ≡ true
 root_plain ps (Written u s) h es = refl

@@ -40,6 +40,7 @@ pub mod FrameWhole
 pub mod FrameUnit
 pub mod FrameUnits
 pub mod FrameNew
+pub mod FrameLater
 pub mod Distinct
 pub mod FrameExpressions
 pub mod FrameBinders

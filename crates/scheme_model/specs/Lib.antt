@@ -48,6 +48,7 @@ pub mod ScopedExpansion
 pub mod FrameImages
 pub mod OpenBodies
 pub mod NewUnits
+pub mod LaterUnits
 pub mod UnitExpansion
 pub mod Entries
 pub mod Declarations

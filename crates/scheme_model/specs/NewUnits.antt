@@ -1,6 +1,6 @@
 -- A unit that is new: what was there before it, and where both expansions of it begin, by scopes and by substitution.
 use Rattle.std.specs.Prelude.{◌≡◌, ℕ, ◌==◌, List, [], map, Bool, true, false, Option, Some, None}
-use Rattle.scheme_model.specs.Identifiers.{Name}
+use Rattle.scheme_model.specs.Identifiers.{Number, Name}
 use Rattle.scheme_model.specs.Ident.{Ident, Written, Inserted, root}
 use Rattle.scheme_model.specs.Trees.{Tree, map_tree}
 use Rattle.scheme_model.specs.Meaning.{Meaning, Local, Global, Standard, Free}
@@ -20,10 +20,14 @@ abbrev pub GivenNoLocal : Option Meaning → Type 0
 GivenNoLocal None = Unit {0}
 GivenNoLocal (Some m) = NoLocal m
 
+-- a number of another unit
+abbrev pub OfOther : ℕ → Number → Type 0
+OfOther unit k = (k.unit == unit) ≡ false
+
 -- no macro use of the unit inserted it
 abbrev pub Earlier : ℕ → Ident → Type 0
 Earlier unit (Written u s) = Unit {0}
-Earlier unit (Inserted i k) = ((k.unit == unit) ≡ false) × Earlier unit i
+Earlier unit (Inserted i k) = OfOther unit k × Earlier unit i
 
 abbrev pub EarlierIdent : ℕ → Type 0
 EarlierIdent unit = (i : Ident) × Earlier unit i
