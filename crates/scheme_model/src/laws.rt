@@ -21,6 +21,7 @@ ghost use Rattle.scheme_model.specs.ScopedExpansion.{Frames, Enter, BodyDefiniti
 ghost use Rattle.scheme_model.specs.FrameImages.{frame_image, DefinesOutside};
 ghost use Rattle.scheme_model.specs.OpenBodies.{IsOpen, Sits};
 ghost use Rattle.scheme_model.specs.NewUnits.{EarlierIdent, NewUnit, scoped_tree, scoped_form, scoped_start, model_tree, model_form, model_start};
+ghost use Rattle.scheme_model.specs.LaterUnits.{LaterUnit, written_form, written_name_form, later_start, imaged_macro, imaged_start};
 ghost use Rattle.scheme_model.specs.Scopes.{Chain, Uses, image, substituted, own_of, means, AreOutside};
 
 /// Whatever binders are around an identifier, what it has become came from it alone, and keeps its symbol (R7RS 4.3).
@@ -122,4 +123,15 @@ pub fn units_are_substituted()
         (unit (model known) turns tt (map (model_form n) ts) (model_start n)).0 ≡ (unit (scoped known) turns [] (map (scoped_form n) ts) (scoped_start n)).0 }
     ensures definitions { (known : Known) (turns : ℕ) (n : NewUnit) (ts : List (ℕ × Tree (EarlierIdent n.number))) →
         (unit (model known) turns tt (map (model_form n) ts) (model_start n)).1.table ≡ (unit (scoped known) turns [] (map (scoped_form n) ts) (scoped_start n)).1.table }
+{}
+
+/// So does a unit behind others, where no number of the unit is in what they left; and what both sides have then goes on to agree:
+/// they define the same, and of each macro the rules by substitution are what those by scopes have become.
+pub fn later_units_are_substituted()
+    ensures forms { (known : Known) (turns : ℕ) (n : LaterUnit) (ts : List (ℕ × Tree (List ℕ))) →
+        (unit (model known) turns tt (map (written_name_form n) ts) (imaged_start n)).0 ≡ (unit (scoped known) turns [] (map (written_form n) ts) (later_start n)).0 }
+    ensures definitions { (known : Known) (turns : ℕ) (n : LaterUnit) (ts : List (ℕ × Tree (List ℕ))) →
+        (unit (model known) turns tt (map (written_name_form n) ts) (imaged_start n)).1.table ≡ (unit (scoped known) turns [] (map (written_form n) ts) (later_start n)).1.table }
+    ensures macros { (known : Known) (turns : ℕ) (n : LaterUnit) (ts : List (ℕ × Tree (List ℕ))) →
+        let s = (unit (scoped known) turns [] (map (written_form n) ts) (later_start n)).1 in (unit (model known) turns tt (map (written_name_form n) ts) (imaged_start n)).1.macros ≡ map (imaged_macro s.places s.definitions) s.macros }
 {}
