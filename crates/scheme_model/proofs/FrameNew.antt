@@ -36,7 +36,7 @@ pub earlier_below : (w : ℕ) (i : Ident) → Earlier w i → Below w none_yet i
 earlier_below w (Written u s) h = tt
 earlier_below w (Inserted i k) h = (ap (λ t. cond t (ltb k.count 0) true) h.0, earlier_below w i h.1)
 
-no_uses : (i : Ident) → AtRoot [] i
+pub no_uses : (i : Ident) → AtRoot [] i
 no_uses (Written u s) = tt
 no_uses (Inserted i k) = (refl, no_uses i)
 

@@ -41,6 +41,7 @@ pub mod FrameUnit
 pub mod FrameUnits
 pub mod FrameNew
 pub mod FrameLater
+pub mod FrameFirst
 pub mod Distinct
 pub mod FrameExpressions
 pub mod FrameBinders

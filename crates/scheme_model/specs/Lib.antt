@@ -55,6 +55,7 @@ pub mod Declarations
 pub mod Prelude
 pub mod StandardLibraries
 pub mod Program
+pub mod FirstUnits
 pub mod Live
 pub mod ProgramArrows
 pub mod Diagnostics

@@ -1,7 +1,7 @@
 //! Laws of the definitions. Each is the contract of a function that does nothing.
 ghost use Rattle.std.specs.Prelude.{◌≡◌, ℕ, Bool, List, [], ◌∷◌, map, Option, None};
 ghost use Rattle.scheme_model.specs.Identifiers.{Number, Name, strip, same_name};
-ghost use Rattle.scheme_model.specs.Ident.{Ident, erase, symbol_of, same_ident};
+ghost use Rattle.scheme_model.specs.Ident.{Ident, Written, erase, symbol_of, same_ident};
 ghost use Rattle.scheme_model.specs.Trees.{Tree, Trees, Tail, map_tree, map_trees, map_tail};
 ghost use Rattle.scheme_model.specs.ExpansionFaults.{Named, named_map};
 ghost use Rattle.scheme_model.specs.Meaning.{Meaning};
@@ -22,6 +22,9 @@ ghost use Rattle.scheme_model.specs.FrameImages.{frame_image, DefinesOutside};
 ghost use Rattle.scheme_model.specs.OpenBodies.{IsOpen, Sits};
 ghost use Rattle.scheme_model.specs.NewUnits.{EarlierIdent, NewUnit, scoped_tree, scoped_form, scoped_start, model_tree, model_form, model_start};
 ghost use Rattle.scheme_model.specs.LaterUnits.{LaterUnit, written_form, written_name_form, later_start, imaged_macro, imaged_start};
+ghost use Rattle.scheme_model.specs.Entries.{Entry};
+ghost use Rattle.scheme_model.specs.Program.{Prepared, form_trees};
+ghost use Rattle.scheme_model.specs.FirstUnits.{EachNoLocal, forms_over, first_scoped, first_model};
 ghost use Rattle.scheme_model.specs.Scopes.{Chain, Uses, image, substituted, own_of, means, AreOutside};
 
 /// Whatever binders are around an identifier, what it has become came from it alone, and keeps its symbol (R7RS 4.3).
@@ -134,4 +137,12 @@ pub fn later_units_are_substituted()
         (unit (model known) turns tt (map (written_name_form n) ts) (imaged_start n)).1.table ≡ (unit (scoped known) turns [] (map (written_form n) ts) (later_start n)).1.table }
     ensures macros { (known : Known) (turns : ℕ) (n : LaterUnit) (ts : List (ℕ × Tree (List ℕ))) →
         let s = (unit (scoped known) turns [] (map (written_form n) ts) (later_start n)).1 in (unit (model known) turns tt (map (written_name_form n) ts) (imaged_start n)).1.macros ≡ map (imaged_macro s.places s.definitions) s.macros }
+{}
+
+/// So does the unit of a program of documents that is expanded first, behind the prelude alone, as long as no import names a local.
+pub fn first_units_are_substituted()
+    ensures forms { (known : Known) (turns : ℕ) (p : Prepared) (es : List Entry) → EachNoLocal es →
+        (unit (model known) turns tt (form_trees p.number 0 p.forms) (first_model p es)).0 ≡ (unit (scoped known) turns [] (forms_over (Written p.number) p.number 0 p.forms) (first_scoped p es)).0 }
+    ensures definitions { (known : Known) (turns : ℕ) (p : Prepared) (es : List Entry) → EachNoLocal es →
+        (unit (model known) turns tt (form_trees p.number 0 p.forms) (first_model p es)).1.table ≡ (unit (scoped known) turns [] (forms_over (Written p.number) p.number 0 p.forms) (first_scoped p es)).1.table }
 {}
