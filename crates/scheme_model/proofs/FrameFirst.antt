@@ -1,5 +1,5 @@
 -- The unit that is expanded first is one behind others, the prelude alone; so both expansions of it come to the same.
-use Rattle.std.proofs.Common.{◌≡◌, ℕ, suc, List, [], ◌∷◌, map, Bool, true, false, cond, eqb, Option, Some, None, Result, Ok, Err, refl, sym, ap, ◌∙◌, subst}
+use Rattle.std.proofs.Common.{◌≡◌, ℕ, suc, List, [], ◌∷◌, map, Bool, true, false, cond, Some, None, Result, Ok, Err, refl, sym, ap, ◌∙◌, subst}
 use Rattle.std.specs.Prelude.{◌&&◌, ◌==◌}
 use Rattle.std.specs.Str.{bytes_eq}
 use Rattle.scheme_model.specs.declared.Occ.{Occ}
@@ -10,20 +10,20 @@ use Rattle.scheme_model.specs.Kinds.{Name as NameLeaf, Numeral, Quoted, Characte
 use Rattle.scheme_model.specs.Data.{Atom, spelled, implied, Datum, atom, list, vector, bytes, Data, none, part, tail, place_of}
 use Rattle.scheme_model.specs.DataTrees.{atom_tree, tree_of, parts_of, end_of}
 use Rattle.scheme_model.specs.ExpansionFaults.{Fault}
-use Rattle.scheme_model.specs.Meaning.{Meaning, Global, Standard}
+use Rattle.scheme_model.specs.Meaning.{Global, Standard}
 use Rattle.scheme_model.specs.Requirements.{Known}
 use Rattle.scheme_model.specs.RulesShape.{Rules, rules_map, rules_parts}
 use Rattle.scheme_model.specs.UnitExpansion.{unit}
-use Rattle.scheme_model.specs.Substitution.{Table, KeptMacro, State, Defined, defined_in, model}
-use Rattle.scheme_model.specs.ScopedExpansion.{ScopedMacro, scoped}
+use Rattle.scheme_model.specs.Substitution.{KeptMacro, Defined, defined_in, model}
+use Rattle.scheme_model.specs.ScopedExpansion.{scoped}
 use Rattle.scheme_model.specs.Order.{is_some}
 use Rattle.scheme_model.specs.FrameImages.{frame_image}
 use Rattle.scheme_model.specs.Prelude.{PreludeMacro, prelude}
 use Rattle.scheme_model.specs.Entries.{Entry, entry_at}
 use Rattle.scheme_model.specs.Declarations.{UnitForm}
-use Rattle.scheme_model.specs.Program.{Prepared, is_program, entry_meaning, with_entries, start_of, form_trees, written_rules, is_standard, prelude_unit, prelude_entry, prelude_meaning, prelude_macro, prelude_definitions}
-use Rattle.scheme_model.specs.NewUnits.{NoLocal, GivenNoLocal, Earlier}
-use Rattle.scheme_model.specs.LaterUnits.{AtRoot, RulesOver, MacroOfOthers, EachMacro, LaterUnit, written_form, written_name_form, later_start, imaged_macro, imaged_start}
+use Rattle.scheme_model.specs.Program.{Prepared, is_program, entry_meaning, with_entries, form_trees, written_rules, is_standard, prelude_unit, prelude_entry, prelude_meaning, prelude_macro, prelude_definitions}
+use Rattle.scheme_model.specs.NewUnits.{GivenNoLocal, Earlier}
+use Rattle.scheme_model.specs.LaterUnits.{AtRoot, RulesOver, MacroOfOthers, EachMacro, LaterUnit, imaged_macro, imaged_start}
 use Rattle.scheme_model.specs.FirstUnits.{EachNoLocal, forms_over, prelude_rules, scoped_prelude_macro, first_scoped, first_model}
 use Rattle.scheme_model.proofs.RenamingLaws.{map_after}
 use Rattle.scheme_model.proofs.IdentKinds.{rules_fused}

@@ -1,7 +1,7 @@
 -- A unit behind others: what holds where both expansions of it begin, and the law of the unit.
-use Rattle.std.proofs.Common.{◌≡◌, ℕ, ◌⊎◌, inl, inr, List, [], ◌∷◌, map, Bool, true, false, cond, ltb, Option, Some, None, refl, sym, ap, ◌∙◌, subst}
+use Rattle.std.proofs.Common.{◌≡◌, ℕ, ◌⊎◌, inl, inr, List, [], ◌∷◌, map, Bool, true, false, cond, ltb, Some, None, refl, sym, ap, subst}
 use Rattle.std.specs.Prelude.{◌&&◌}
-use Rattle.scheme_model.specs.Identifiers.{Number, same_number, Name, Written as WrittenName}
+use Rattle.scheme_model.specs.Identifiers.{Number, same_number, Name}
 use Rattle.scheme_model.specs.Ident.{Ident, Written, same_ident}
 use Rattle.scheme_model.specs.Trees.{Tree, map_tree}
 use Rattle.scheme_model.specs.Meaning.{Meaning, Local, Global, Standard, Free}
@@ -18,8 +18,8 @@ use Rattle.scheme_model.proofs.ScopeLaws.{map_map}
 use Rattle.scheme_model.proofs.IdentLaws.{ident_told}
 use Rattle.scheme_model.proofs.IdentKinds.{rules_kind}
 use Rattle.scheme_model.proofs.FrameAsks.{AllOf, MeansCounted, BindersCounted, DefinitionsCounted}
-use Rattle.scheme_model.proofs.FrameStates.{names, view, MacroFine, FineState}
-use Rattle.scheme_model.proofs.FrameLeaves.{TreeAll, tree_more, all_held, Held, held_more, held_made}
+use Rattle.scheme_model.proofs.FrameStates.{names, MacroFine, FineState}
+use Rattle.scheme_model.proofs.FrameLeaves.{TreeAll, all_held, Held, held_more, held_made}
 use Rattle.scheme_model.proofs.FrameUnit.{Rooted, RootMacro, MacroStands, UnitMacro, UnitLeaf, UnitState, root_plain}
 use Rattle.scheme_model.proofs.FrameUnits.{form_seen, FormHeld, AllFormed, unit_law}
 use Rattle.scheme_model.proofs.FrameNew.{none_yet, earlier_below, given_counted}

@@ -1,14 +1,14 @@
 -- A unit behind others: what their expansion by scopes has left, in which no number of this unit is, and where both expansions of
 -- the unit begin.
-use Rattle.std.specs.Prelude.{◌≡◌, ℕ, List, [], ◌∷◌, map, Bool, true, false, Option}
-use Rattle.scheme_model.specs.Identifiers.{Number, Name, Written as WrittenName}
+use Rattle.std.specs.Prelude.{◌≡◌, ℕ, List, [], ◌∷◌, map, Bool, true, false}
+use Rattle.scheme_model.specs.Identifiers.{Name, Written as WrittenName}
 use Rattle.scheme_model.specs.Ident.{Ident, Written, Inserted}
 use Rattle.scheme_model.specs.Trees.{Tree, map_tree}
 use Rattle.scheme_model.specs.Meaning.{Meaning, Local, Global, Standard, Free}
 use Rattle.scheme_model.specs.RulesShape.{Rules, rules_map}
 use Rattle.scheme_model.specs.Order.{is_some}
 use Rattle.scheme_model.specs.Substitution.{Table, Entries, KeptMacro, State, defined_in}
-use Rattle.scheme_model.specs.ScopedExpansion.{Bind, Enter, Frames, BodyDefinition, BodyDefinitions, UsePlace, ScopedMacro, ScopedState, around}
+use Rattle.scheme_model.specs.ScopedExpansion.{Bind, Enter, Frames, BodyDefinitions, UsePlace, ScopedMacro, ScopedState, around}
 use Rattle.scheme_model.specs.FrameImages.{frame_image}
 use Rattle.scheme_model.specs.NewUnits.{GivenNoLocal, OfOther, Earlier}
 
