@@ -2,9 +2,9 @@
 use Rattle.std.proofs.Common.{◌≡◌, List, [], ◌∷◌, Bool, true, false, cond, Result, Ok, Err, refl, ap, subst}
 use Rattle.std.proofs.lemmas.Bool.{or_parts}
 use Rattle.scheme_model.specs.Ident.{Ident, same_ident}
-use Rattle.scheme_model.specs.Trees.{Trees, Tail}
-use Rattle.scheme_model.specs.ExpansionFaults.{Named, Fault, DuplicateBinder, ◌>>◌}
-use Rattle.scheme_model.specs.Shapes.{Clause, is_among, distinct_from, distinct, clause_in, lambda_of, proper_of, clauses_in, distinct_all, case_lambda_of, first_of, some_of, DefinitionShape, Variable, Procedure, LocalMacros, list_of, bindings_of, local_macros_of}
+use Rattle.scheme_model.specs.Trees.{Tree, name, atom, list, vector, Trees, Tail}
+use Rattle.scheme_model.specs.ExpansionFaults.{Named, named, Fault, BadForm, DuplicateBinder, ◌>>◌}
+use Rattle.scheme_model.specs.Shapes.{Formals, Clause, DefinitionShape, Variable, Procedure, LocalMacros, name_of, is_among, distinct_from, distinct, formals_in, proper_of, some_of, one_of, first_of, list_of, clause_in, lambda_of, clauses_in, distinct_all, case_lambda_of, procedure_of, definition_with, definition_of, bindings_of, local_macros_of}
 
 -- the names differ from this one, and from one another
 abbrev pub Differ : Named Ident → List (Named Ident) → Type 0
@@ -95,3 +95,26 @@ local_macros_distinct ts tail m e =
     (λ q d2 y2 k2. then_ok (λ (m : LocalMacros Ident). Distinct m.names) (proper_of q.0 q.1 >> bindings_of)
     (λ bs. some_of p.1 tail >> λ b. distinct same_ident bs.0 >> λ done. Ok (record { names = bs.0; rules = bs.1; body = b }))
     (λ bs d3 y3 k3. local_end bs p.1 tail y3 k3) y2 k2) y k) m e
+
+procedure_end : (n : Named Ident) (f : Formals Ident) (ts : Trees Ident) (tail : Tail Ident) (d : DefinitionShape Ident)
+    → (some_of ts tail >> λ b. distinct same_ident f.names >> λ done. Ok (Procedure n (record { formals = f; body = b }))) ≡ Ok d → ShapeDistinct d
+procedure_end n f ts tail d e =
+    then_ok ShapeDistinct (some_of ts tail) (λ b. distinct same_ident f.names >> λ done. Ok (Procedure n (record { formals = f; body = b })))
+    (λ b q y k. checked_ok ShapeDistinct f.names (Procedure n (record { formals = f; body = b })) (λ h. h) y k) d e
+
+procedure_distinct : (p : Trees Ident × Tail Ident) (ts : Trees Ident) (tail : Tail Ident) (d : DefinitionShape Ident) → procedure_of same_ident p ts tail ≡ Ok d → ShapeDistinct d
+procedure_distinct p ts tail d e =
+    then_ok ShapeDistinct (first_of p.0) (λ q. name_of q.0 >> λ n. formals_in q.1 p.1 >> λ f. some_of ts tail >> λ b. distinct same_ident f.names >> λ done. Ok (Procedure n (record { formals = f; body = b })))
+    (λ q d1 y1 k1. then_ok ShapeDistinct (name_of q.0) (λ n. formals_in q.1 p.1 >> λ f. some_of ts tail >> λ b. distinct same_ident f.names >> λ done. Ok (Procedure n (record { formals = f; body = b })))
+    (λ n d2 y2 k2. then_ok ShapeDistinct (formals_in q.1 p.1) (λ f. some_of ts tail >> λ b. distinct same_ident f.names >> λ done. Ok (Procedure n (record { formals = f; body = b })))
+    (λ f d3 y3 k3. procedure_end n f ts tail y3 k3) y2 k2) y1 k1) d e
+
+definition_with_distinct : (t : Tree Ident) (ts : Trees Ident) (tail : Tail Ident) (d : DefinitionShape Ident) → definition_with same_ident t ts tail ≡ Ok d → ShapeDistinct d
+definition_with_distinct (name i o) ts tail d e =
+    then_ok ShapeDistinct (one_of ts tail) (λ t. Ok (Variable (named i o) t)) (λ t q y k. subst ShapeDistinct (ok_same (Fault Ident) (Variable (named i o) t) y k) tt) d e
+definition_with_distinct (atom a o) ts tail d e = not_ok BadForm d e
+definition_with_distinct (list us end o) ts tail d e = procedure_distinct (us, end) ts tail d e
+definition_with_distinct (vector us o) ts tail d e = not_ok BadForm d e
+
+pub definition_distinct : (ts : Trees Ident) (tail : Tail Ident) (d : DefinitionShape Ident) → definition_of same_ident ts tail ≡ Ok d → ShapeDistinct d
+definition_distinct ts tail d e = then_ok ShapeDistinct (first_of ts) (λ p. definition_with same_ident p.0 p.1 tail) (λ p q y k. definition_with_distinct p.0 p.1 tail y k) d e

@@ -14,8 +14,9 @@ use Rattle.scheme_model.specs.Substitution.{State, at_form, form_map, item_map, 
 use Rattle.scheme_model.specs.ScopedExpansion.{Frames, Place, ScopedState, next_number, scoped}
 use Rattle.scheme_model.specs.Renaming.{formals_map, definition_map, field_map, record_map}
 use Rattle.scheme_model.proofs.RenamingLaws.{map-append, map_turned, append_map}
-use Rattle.scheme_model.proofs.IdentKinds.{item_kind, definition_kind, record_kind}
+use Rattle.scheme_model.proofs.IdentKinds.{definition_kind, record_kind}
 use Rattle.scheme_model.proofs.Clocks.{leq_counted}
+use Rattle.scheme_model.proofs.Distinct.{Distinct, ShapeDistinct}
 use Rattle.scheme_model.proofs.FrameNames.{erase_frame_image, same_frame_image}
 use Rattle.scheme_model.proofs.FrameAsks.{AllOf, all_of_more}
 use Rattle.scheme_model.proofs.FrameStates.{names, view, Grows, grows_itself, grows_then, locals_grow, names_later}
@@ -23,7 +24,7 @@ use Rattle.scheme_model.proofs.FrameLeaves.{TreeAll, Holding, held, all_held, li
 use Rattle.scheme_model.proofs.FrameAgrees.{Agrees, agree, break, agrees_at, agrees_bind, agrees_more}
 use Rattle.scheme_model.proofs.FrameUses.{placed}
 use Rattle.scheme_model.proofs.FrameReaders.{formals_tree_kind}
-use Rattle.scheme_model.proofs.FrameHeld.{FormAll, PendingHeld, all_append, all_same, pending_more, pending_same, put_seen, first_seen, put_held, first_held}
+use Rattle.scheme_model.proofs.FrameHeld.{FormAll, ItemHeld, PendingHeld, all_append, all_same, pending_more, pending_same, put_seen, first_seen, put_held, first_held}
 use Rattle.scheme_model.proofs.FramePlaces.{seen_pending, On, PlaceFacts, Together, together_at, CodeGo, ModelGo, RunLaw, on_bind, caught_law, put_law, binder_seen}
 
 -- ---- names, renamed
@@ -97,7 +98,7 @@ module _ (w : ℕ) (known : Known) (fs : Frames) (Inside : ScopedState → Bool 
 
   module _ (s : ScopedState) (i : Bool) (n : List Number) (k : Inside s i n) (p : Pending Ident Place) (h : HeldAt s p) where
     -- a definition, and its item set aside
-    one_law : (x : Named Ident) → Leaf s x.name → (t : Item Ident) (t' : Item Name) → t' ≡ item_map (names s fs) t → Held item_kind (Leaf s) t
+    one_law : (x : Named Ident) → Leaf s x.name → (t : Item Ident) (t' : Item Name) → t' ≡ item_map (names s fs) t → ItemHeld (Leaf s) t
         → Both (caught p.notes (told here ((scoped known).define x None fs (put t p) s)) f) (caught (map (note_map (placed s)) p.notes) (told here ((model known).define (named_map (names s fs) x) None tt (put t' (seen s p)) (view i n s))) g)
     one_law x l t t' e q =
         caught_law w known fs Inside Trail Leaf PlaceIn RuleLeaf Ended facts s i n k p.notes h.2 f g
@@ -106,7 +107,7 @@ module _ (w : ℕ) (known : Known) (fs : Frames) (Inside : ScopedState → Bool 
         (facts.defines s i n k here x l None tt (put t p) (put_held (Leaf s) (PlaceIn s) t p q h)))
         (λ a b v i1 n1 k1 r. together_at w known fs Inside Trail Leaf PlaceIn RuleLeaf Ended refl (ap (λ z. g z (view i1 n1 v)) r.1) (law a v i1 n1 k1 r.0))
 
-    put_one : (t : Item Ident) → Held item_kind (Leaf s) t → Both (f (put t p) s) (g (put (item_map (names s fs) t) (seen s p)) (view i n s))
+    put_one : (t : Item Ident) → ItemHeld (Leaf s) t → Both (f (put t p) s) (g (put (item_map (names s fs) t) (seen s p)) (view i n s))
     put_one t q = put_law w known fs Inside Trail Leaf PlaceIn RuleLeaf Ended facts f g law s i n k p h t q
 
     binder : (x : Named Ident) → binder_at (model known) tt (view i n s) (named_map (names s fs) x) ≡ binder_at (scoped known) fs s x
@@ -115,32 +116,32 @@ module _ (w : ℕ) (known : Known) (fs : Frames) (Inside : ScopedState → Bool 
     -- over what holds Leaf
     variable_law : (x : Named (Holding (Leaf s))) (t : Tree (Holding (Leaf s))) (b : Bool)
         → Both (run_variable (scoped known) f here fs (named_map (held (Leaf s)) x) (map_tree (held (Leaf s)) t) b p s) (run_variable (model known) g here tt (named_map (names s fs) (named_map (held (Leaf s)) x)) (map_tree (names s fs) (map_tree (held (Leaf s)) t)) b (seen s p) (view i n s))
-    variable_law x t true = put_one (Assigned (named_map (held (Leaf s)) x) (record { here = here; tree = map_tree (held (Leaf s)) t })) (record { made = Assigned x (record { here = here; tree = t }); same = refl })
+    variable_law x t true = put_one (Assigned (named_map (held (Leaf s)) x) (record { here = here; tree = map_tree (held (Leaf s)) t })) (record { made = Assigned x (record { here = here; tree = t }); same = refl }, tt)
     variable_law x t false =
         let y = named_map (held (Leaf s)) x in let u : Form Ident = record { here = here; tree = map_tree (held (Leaf s)) t } in
         one_law y x.name.1 (Value (binder_at (scoped known) fs s y) u) (Value (binder_at (model known) tt (view i n s) (named_map (names s fs) y)) (form_map (names s fs) u))
-        (ap (λ b. Value b (form_map (names s fs) u)) (binder y)) (record { made = Value (binder_at (scoped known) fs s y) (record { here = here; tree = t }); same = refl })
+        (ap (λ b. Value b (form_map (names s fs) u)) (binder y)) (record { made = Value (binder_at (scoped known) fs s y) (record { here = here; tree = t }); same = refl }, tt)
 
-    function_law : (x : Named (Holding (Leaf s))) (c : Clause (Holding (Leaf s))) (b : Bool)
+    function_law : (x : Named (Holding (Leaf s))) (c : Clause (Holding (Leaf s))) → Distinct (clause_map (held (Leaf s)) c).formals.names → (b : Bool)
         → Both (run_function (scoped known) f here fs (named_map (held (Leaf s)) x) (clause_map (held (Leaf s)) c) b p s) (run_function (model known) g here tt (named_map (names s fs) (named_map (held (Leaf s)) x)) (clause_map (names s fs) (clause_map (held (Leaf s)) c)) b (seen s p) (view i n s))
-    function_law x c true = put_one (AssignedFunction (named_map (held (Leaf s)) x) here (clause_map (held (Leaf s)) c)) (record { made = AssignedFunction x here c; same = refl })
-    function_law x c false =
+    function_law x c d true = put_one (AssignedFunction (named_map (held (Leaf s)) x) here (clause_map (held (Leaf s)) c)) (record { made = AssignedFunction x here c; same = refl }, d)
+    function_law x c q false =
         let y = named_map (held (Leaf s)) x in let d = clause_map (held (Leaf s)) c in
         one_law y x.name.1 (Function (binder_at (scoped known) fs s y) here d) (Function (binder_at (model known) tt (view i n s) (named_map (names s fs) y)) here (clause_map (names s fs) d))
-        (ap (λ b. Function b here (clause_map (names s fs) d)) (binder y)) (record { made = Function (binder_at (scoped known) fs s y) here c; same = refl })
+        (ap (λ b. Function b here (clause_map (names s fs) d)) (binder y)) (record { made = Function (binder_at (scoped known) fs s y) here c; same = refl }, q)
 
-    define_over : (d : DefinitionShape (Holding (Leaf s))) → Both (run_define (scoped known) f here fs p (definition_map (held (Leaf s)) d) s) (run_define (model known) g here tt (seen s p) (definition_map (names s fs) (definition_map (held (Leaf s)) d)) (view i n s))
-    define_over (Variable x t) =
+    define_over : (d : DefinitionShape (Holding (Leaf s))) → ShapeDistinct (definition_map (held (Leaf s)) d) → Both (run_define (scoped known) f here fs p (definition_map (held (Leaf s)) d) s) (run_define (model known) g here tt (seen s p) (definition_map (names s fs) (definition_map (held (Leaf s)) d)) (view i n s))
+    define_over (Variable x t) q =
         together_at w known fs Inside Trail Leaf PlaceIn RuleLeaf Ended refl
         (ap (λ b. run_variable (model known) g here tt (named_map (names s fs) (named_map (held (Leaf s)) x)) (map_tree (names s fs) (map_tree (held (Leaf s)) t)) b (seen s p) (view i n s)) (facts.assigned s i n k x.name.0 x.name.1))
         (variable_law x t ((scoped known).is_assigned fs s x.name.0))
-    define_over (Procedure x c) =
+    define_over (Procedure x c) q =
         together_at w known fs Inside Trail Leaf PlaceIn RuleLeaf Ended refl
         (ap (λ b. run_function (model known) g here tt (named_map (names s fs) (named_map (held (Leaf s)) x)) (clause_map (names s fs) (clause_map (held (Leaf s)) c)) b (seen s p) (view i n s)) (facts.assigned s i n k x.name.0 x.name.1))
-        (function_law x c ((scoped known).is_assigned fs s x.name.0))
+        (function_law x c q ((scoped known).is_assigned fs s x.name.0))
 
-    pub define_law : (d : DefinitionShape Ident) → Held definition_kind (Leaf s) d → Both (run_define (scoped known) f here fs p d s) (run_define (model known) g here tt (seen s p) (definition_map (names s fs) d) (view i n s))
-    define_law d q = subst (λ (e : DefinitionShape Ident). Both (run_define (scoped known) f here fs p e s) (run_define (model known) g here tt (seen s p) (definition_map (names s fs) e) (view i n s))) q.same (define_over q.made)
+    pub define_law : (d : DefinitionShape Ident) → ShapeDistinct d → Held definition_kind (Leaf s) d → Both (run_define (scoped known) f here fs p d s) (run_define (model known) g here tt (seen s p) (definition_map (names s fs) d) (view i n s))
+    define_law d z q = subst (λ (e : DefinitionShape Ident). ShapeDistinct e → Both (run_define (scoped known) f here fs p e s) (run_define (model known) g here tt (seen s p) (definition_map (names s fs) e) (view i n s))) q.same (define_over q.made) z
 
   -- ---- several names
 
@@ -199,8 +200,8 @@ module _ (w : ℕ) (known : Known) (fs : Frames) (Inside : ScopedState → Bool 
       (put_law w known fs Inside Trail Leaf PlaceIn RuleLeaf Ended facts f g law t i n k (record { todo = xs; aside = q.aside; notes = q.notes }) (l.1, h.1, h.2) (ValuesOf (record { names = bs; rest = rest }) x)
       (form_item x l.0))
     where
-      form_item : (y : Form Ident) → FormAll (Leaf t) y → Held item_kind (Leaf t) (ValuesOf (record { names = bs; rest = rest }) y)
-      form_item y m = record { made = ValuesOf (record { names = bs; rest = rest }) (record { here = y.here; tree = lift_tree (Leaf t) y.tree m }); same = ap (λ u. ValuesOf (record { names = bs; rest = rest }) (record { here = y.here; tree = u })) (lifted_tree (Leaf t) y.tree m) }
+      form_item : (y : Form Ident) → FormAll (Leaf t) y → ItemHeld (Leaf t) (ValuesOf (record { names = bs; rest = rest }) y)
+      form_item y m = (record { made = ValuesOf (record { names = bs; rest = rest }) (record { here = y.here; tree = lift_tree (Leaf t) y.tree m }); same = ap (λ u. ValuesOf (record { names = bs; rest = rest }) (record { here = y.here; tree = u })) (lifted_tree (Leaf t) y.tree m) }, tt)
 
   module _ (s : ScopedState) (i : Bool) (n : List Number) (k : Inside s i n) (p : Pending Ident Place) (h : HeldAt s p) where
     values_over : (d : Formals (Holding (Leaf s)) × Tree (Holding (Leaf s)))
@@ -279,7 +280,7 @@ module _ (w : ℕ) (known : Known) (fs : Frames) (Inside : ScopedState → Bool 
         together_at w known fs Inside Trail Leaf PlaceIn RuleLeaf Ended refl
         ((λ j. g (put (Record (record_part same_name (record_map (names s fs) shape) (e.1.0 j) (e.0 j))) (e.1.2 j)) (view i1 n1 t))
         ∙ ap (λ y. g (put (Record y) (seen t a.1.1)) (view i1 n1 t)) (record_part-map Ident Name (names s fs) same_ident same_name (same_frame_image s.places s.definitions fs) shape a.1.0 a.0))
-        (put_law w known fs Inside Trail Leaf PlaceIn RuleLeaf Ended facts f g law t i1 n1 k1 a.1.1 e.1.1 (Record (record_part same_ident shape a.1.0 a.0)) (record { made = Record (record_part same_ident shape a.1.0 a.0); same = refl })))
+        (put_law w known fs Inside Trail Leaf PlaceIn RuleLeaf Ended facts f g law t i1 n1 k1 a.1.1 e.1.1 (Record (record_part same_ident shape a.1.0 a.0)) (record { made = Record (record_part same_ident shape a.1.0 a.0); same = refl }, tt)))
 
   pub record_law : (s : ScopedState) (i : Bool) (n : List Number) → Inside s i n → (p : Pending Ident Place) → HeldAt s p → (r : RecordShape Ident) → Held record_kind (Leaf s) r
       → Both (run_record (scoped known) f here fs p r s) (run_record (model known) g here tt (seen s p) (record_map (names s fs) r) (view i n s))

@@ -6,7 +6,8 @@ use Rattle.scheme_model.specs.Identifiers.{Number, Name}
 use Rattle.scheme_model.specs.Ident.{Ident, erase}
 use Rattle.scheme_model.specs.Trees.{Tree, name, atom, list, vector, map_tree}
 use Rattle.scheme_model.specs.ExpansionFaults.{NodeBudget, DepthBudget}
-use Rattle.scheme_model.specs.Meaning.{Meaning, head_as, same_meaning}
+use Rattle.scheme_model.specs.Keywords.{CoreKeyword, Auxiliary, core_named, auxiliary_named}
+use Rattle.scheme_model.specs.Meaning.{Meaning, Local, Global, Standard, Free, Head, IsCore, IsAuxiliary, IsMacro, IsNone, macro_or_none, other_standard, standard_head, head_as, same_meaning}
 use Rattle.scheme_model.specs.Requirements.{Known}
 use Rattle.scheme_model.specs.RulesShape.{rules_map, option_map}
 use Rattle.scheme_model.specs.Steps.{Broken, Step, ◌>>=◌, done, fails}
@@ -44,6 +45,31 @@ some_mapped h (Some x) = refl
 abbrev pub IfMacro : {X : Type 0} → (X → Type 0) → Option X → Type 0
 IfMacro P None = Unit {0}
 IfMacro P (Some x) = P x
+
+-- a macro by a head is what the identifier means
+abbrev pub HeadOf : Meaning → Head → Type 0
+HeadOf m (IsCore k) = Unit {0}
+HeadOf m (IsAuxiliary a) = Unit {0}
+HeadOf m (IsMacro x) = x ≡ m
+HeadOf m IsNone = Unit {0}
+
+by_macro : (t : Bool) (m : Meaning) → HeadOf m (macro_or_none t m)
+by_macro true m = refl
+by_macro false m = tt
+
+by_other : (a : Option Auxiliary) (t : Bool) (m : Meaning) → HeadOf m (other_standard a t m)
+by_other (Some a) t m = tt
+by_other None t m = by_macro t m
+
+by_standard : (k : Option CoreKeyword) (a : Option Auxiliary) (t : Bool) (m : Meaning) → HeadOf m (standard_head k a t m)
+by_standard (Some k) a t m = tt
+by_standard None a t m = by_other a t m
+
+pub head_is : (f : Meaning → Bool) (m : Meaning) → HeadOf m (head_as f m)
+head_is f (Local v) = by_macro (f (Local v)) (Local v)
+head_is f (Global u i) = by_macro (f (Global u i)) (Global u i)
+head_is f (Standard s) = by_standard (core_named s) (auxiliary_named s) (f (Standard s)) (Standard s)
+head_is f (Free s) = tt
 
 module _ (w : ℕ) where
   pub record TransformerFine (s : ScopedState) (m : Transformer Frames Ident) : Type 0 where

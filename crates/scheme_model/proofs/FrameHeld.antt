@@ -5,12 +5,13 @@ use Rattle.scheme_model.specs.Ident.{Ident, same_ident, symbol_of}
 use Rattle.scheme_model.specs.Trees.{Trees, no_trees, tree, map_tree, map_trees}
 use Rattle.scheme_model.specs.ExpansionFaults.{Fault, fault_map}
 use Rattle.scheme_model.specs.RulesShape.{Names}
-use Rattle.scheme_model.specs.Order.{Here, Form, Item, Expression, Note, LookedUp, Compared, Pending, forms_at, put, noted, first}
+use Rattle.scheme_model.specs.Order.{Here, Form, Item, Expression, Value, Function, Assigned, AssignedFunction, ValuesOf, Record, Macro, Note, LookedUp, Compared, Pending, forms_at, put, noted, first}
 use Rattle.scheme_model.specs.Substitution.{form_map, item_map, note_map, pending_map}
 use Rattle.scheme_model.specs.ScopedExpansion.{Place}
 use Rattle.scheme_model.specs.Renaming.{Renames, result_map}
 use Rattle.scheme_model.proofs.RenamingLaws.{Reads, reads, map-append}
 use Rattle.scheme_model.proofs.IdentKinds.{Kind, item_kind}
+use Rattle.scheme_model.proofs.Distinct.{Distinct}
 use Rattle.scheme_model.proofs.FrameAsks.{AllOf, all_of_more}
 use Rattle.scheme_model.proofs.FrameLeaves.{TreeAll, TreesAll, tree_more, tree_same, Holding, held, lift_tree, lifted_tree, Held, held_more, held_same}
 use Rattle.scheme_model.proofs.FrameReaders.{Reader, identifiers, model_names}
@@ -24,8 +25,22 @@ NoteAll P (Compared l j held) = P l × P j
 abbrev pub FormAll : (Ident → Type 0) → Form Ident → Type 0
 FormAll P x = TreeAll P x.tree
 
+-- the formals of a procedure that was set aside differ
+abbrev pub ItemDistinct : Item Ident → Type 0
+ItemDistinct (Expression x) = Unit {0}
+ItemDistinct (Value b x) = Unit {0}
+ItemDistinct (Function b here c) = Distinct c.formals.names
+ItemDistinct (Assigned n x) = Unit {0}
+ItemDistinct (AssignedFunction n here c) = Distinct c.formals.names
+ItemDistinct (ValuesOf bs x) = Unit {0}
+ItemDistinct (Record r) = Unit {0}
+ItemDistinct (Macro b here) = Unit {0}
+
+abbrev pub ItemHeld : (Ident → Type 0) → Item Ident → Type 0
+ItemHeld P t = Held item_kind P t × ItemDistinct t
+
 abbrev pub ItemsHeld : (Ident → Type 0) → List (Item Ident) → Type 0
-ItemsHeld P xs = AllOf (Held item_kind P) xs
+ItemsHeld P xs = AllOf (ItemHeld P) xs
 
 abbrev pub PendingHeld : (Ident → Type 0) → (Place → Type 0) → Pending Ident Place → Type 0
 PendingHeld P Q p = AllOf (FormAll P) p.todo × ItemsHeld P p.aside × AllOf (NoteAll Q) p.notes
@@ -54,12 +69,12 @@ notes_same P f g h ns e = all_same (NoteAll P) (note_map f) (note_map g) (note_s
 
 pub pending_more : (P P' : Ident → Type 0) (Q Q' : Place → Type 0) → ((i : Ident) → P i → P' i) → ((l : Place) → Q l → Q' l) → (p : Pending Ident Place) → PendingHeld P Q p → PendingHeld P' Q' p
 pending_more P P' Q Q' h k p e =
-    (all_of_more (FormAll P) (FormAll P') (λ x t. tree_more P P' h x.tree t) p.todo e.0, all_of_more (Held item_kind P) (Held item_kind P') (held_more item_kind P P' h) p.aside e.1, notes_more Q Q' k p.notes e.2)
+    (all_of_more (FormAll P) (FormAll P') (λ x t. tree_more P P' h x.tree t) p.todo e.0, all_of_more (ItemHeld P) (ItemHeld P') (λ t q. (held_more item_kind P P' h t q.0, q.1)) p.aside e.1, notes_more Q Q' k p.notes e.2)
 
 pub pending_same : (P : Ident → Type 0) (Q : Place → Type 0) (f g : Ident → Name) (h k : Place → Name) → ((i : Ident) → P i → f i ≡ g i) → ((l : Place) → Q l → h l ≡ k l) → (p : Pending Ident Place) → PendingHeld P Q p → pending_map f h p ≡ pending_map g k p
 pending_same P Q f g h k e d p q =
     let a = all_same (FormAll P) (form_map f) (form_map g) (λ x t. ap (λ u. record { here = x.here; tree = u }) (tree_same P f g e x.tree t)) p.todo q.0 in
-    let b = all_same (Held item_kind P) (item_map f) (item_map g) (held_same item_kind P f g e) p.aside q.1 in
+    let b = all_same (ItemHeld P) (item_map f) (item_map g) (λ t r. held_same item_kind P f g e t r.0) p.aside q.1 in
     let c = notes_same Q h k d p.notes q.2 in
     λ j. record { todo = a j; aside = b j; notes = c j }
 
@@ -83,8 +98,8 @@ pub forms_held : (P : Ident → Type 0) (here : Here) (ts : Trees Ident) → Tre
 forms_held P here no_trees h = tt
 forms_held P here (tree t ts) h = (h.0, forms_held P here ts h.1)
 
-pub put_held : (P : Ident → Type 0) (Q : Place → Type 0) (t : Item Ident) (p : Pending Ident Place) → Held item_kind P t → PendingHeld P Q p → PendingHeld P Q (put t p)
-put_held P Q t p h e = (e.0, all_append (Held item_kind P) p.aside (t ∷ []) e.1 (h, tt), e.2)
+pub put_held : (P : Ident → Type 0) (Q : Place → Type 0) (t : Item Ident) (p : Pending Ident Place) → ItemHeld P t → PendingHeld P Q p → PendingHeld P Q (put t p)
+put_held P Q t p h e = (e.0, all_append (ItemHeld P) p.aside (t ∷ []) e.1 (h, tt), e.2)
 
 pub first_held : (P : Ident → Type 0) (Q : Place → Type 0) (xs : List (Form Ident)) (p : Pending Ident Place) → AllOf (FormAll P) xs → PendingHeld P Q p → PendingHeld P Q (first xs p)
 first_held P Q xs p h e = (all_append (FormAll P) xs p.todo h e.0, e.1, e.2)
@@ -92,8 +107,8 @@ first_held P Q xs p h e = (all_append (FormAll P) xs p.todo h e.0, e.1, e.2)
 pub noted_held : (P : Ident → Type 0) (Q : Place → Type 0) (ns : List (Note Place)) (p : Pending Ident Place) → AllOf (NoteAll Q) ns → PendingHeld P Q p → PendingHeld P Q (noted ns p)
 noted_held P Q ns p h e = (e.0, e.1, all_append (NoteAll Q) ns p.notes h e.2)
 
-pub expression_held : (P : Ident → Type 0) (x : Form Ident) → FormAll P x → Held item_kind P (Expression x)
-expression_held P x h = record { made = Expression (record { here = x.here; tree = lift_tree P x.tree h }); same = ap (λ t. Expression (record { here = x.here; tree = t })) (lifted_tree P x.tree h) }
+pub expression_held : (P : Ident → Type 0) (x : Form Ident) → FormAll P x → ItemHeld P (Expression x)
+expression_held P x h = (record { made = Expression (record { here = x.here; tree = lift_tree P x.tree h }); same = ap (λ t. Expression (record { here = x.here; tree = t })) (lifted_tree P x.tree h) }, tt)
 
 -- ---- reading
 

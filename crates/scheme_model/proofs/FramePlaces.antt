@@ -5,16 +5,15 @@ use Rattle.scheme_model.specs.Identifiers.{Number, Name}
 use Rattle.scheme_model.specs.Ident.{Ident, Inserted, erase}
 use Rattle.scheme_model.specs.Trees.{Trees, map_trees}
 use Rattle.scheme_model.specs.ExpansionFaults.{Named, named_map, Fault, fault_map, NodeBudget}
-use Rattle.scheme_model.specs.Meaning.{Meaning}
 use Rattle.scheme_model.specs.Requirements.{Known}
 use Rattle.scheme_model.specs.RulesShape.{Rules, rules_map, option_map}
 use Rattle.scheme_model.specs.Cores.{Target, MacroUse}
 use Rattle.scheme_model.specs.Steps.{Broken, Step, ◌>>=◌, done, fails}
 use Rattle.scheme_model.specs.Order.{Here, Form, Item, Note, Pending, Pass, Going, Transformer, binder_at, counting, given, told, forms_at, put, first, caught, splice, read_then, max_nodes}
 use Rattle.scheme_model.specs.Substitution.{State, Clock, at_form, form_map, item_map, note_map, pending_map, model}
-use Rattle.scheme_model.specs.ScopedExpansion.{Frames, Place, ScopedState, next_number, macro_at, scoped}
+use Rattle.scheme_model.specs.ScopedExpansion.{Frames, Place, ScopedState, next_number, means_at, macro_at, scoped}
 use Rattle.scheme_model.specs.OpenBodies.{Before, Entered, Below}
-use Rattle.scheme_model.proofs.IdentKinds.{Kind, item_kind, rules_kind, pointwise, faults_fused}
+use Rattle.scheme_model.proofs.IdentKinds.{Kind, rules_kind, pointwise, faults_fused}
 use Rattle.scheme_model.proofs.FrameNames.{erase_frame_image}
 use Rattle.scheme_model.proofs.FrameAsks.{AllOf, BindersCounted}
 use Rattle.scheme_model.proofs.FrameStates.{names, view, FineState, Grows, grows_itself, Stands}
@@ -23,7 +22,7 @@ use Rattle.scheme_model.proofs.FrameLeaves.{TreesAll, trees_more, Held}
 use Rattle.scheme_model.proofs.FrameAgrees.{Agrees, agree, break, agrees_bind, agrees_more}
 use Rattle.scheme_model.proofs.FrameHeads.{IfMacro}
 use Rattle.scheme_model.proofs.FrameUses.{placed}
-use Rattle.scheme_model.proofs.FrameHeld.{NoteAll, FormAll, ItemsHeld, PendingHeld, put_seen, first_seen, forms_seen, forms_held, put_held, first_held, pending_more, ReadTo, read_to, read_broken}
+use Rattle.scheme_model.proofs.FrameHeld.{NoteAll, FormAll, ItemHeld, ItemsHeld, PendingHeld, put_seen, first_seen, forms_seen, forms_held, put_held, first_held, pending_more, ReadTo, read_to, read_broken}
 
 -- Inside holds of the states in which the place's forms are gone through, Trail joins an earlier and a later one; Leaf holds of an
 -- identifier that stands there, PlaceIn of one that was noted, RuleLeaf of one in the rules of a macro; Ended of the notes where a
@@ -71,7 +70,8 @@ module _ (w : ℕ) (known : Known) (fs : Frames) (Inside : ScopedState → Bool 
     pub assigned : (s : ScopedState) (i : Bool) (n : List Number) → Inside s i n → (x : Ident) → Leaf s x → (model known).is_assigned tt (view i n s) (names s fs x) ≡ (scoped known).is_assigned fs s x
     pub bound : (s : ScopedState) (i : Bool) (n : List Number) → Inside s i n → (model known).next_bound tt (view i n s) ≡ (scoped known).next_bound fs s
     pub defines : (s : ScopedState) (i : Bool) (n : List Number) → Inside s i n → Defines s i n
-    pub macros : (s : ScopedState) (i : Bool) (n : List Number) → Inside s i n → (m : Meaning) → IfMacro (MacroHere s i n) (macro_at s.macros m)
+    -- a macro that an identifier here means
+    pub macros : (s : ScopedState) (i : Bool) (n : List Number) → Inside s i n → (x : Ident) → Leaf s x → IfMacro (MacroHere s i n) (macro_at s.macros (means_at s fs x))
 
   -- ---- what a pass came to on both sides
 
@@ -141,10 +141,10 @@ module _ (w : ℕ) (known : Known) (fs : Frames) (Inside : ScopedState → Bool 
     -- a form is read, or it ends the pass
     pub read_go : (l : Kind) (here : Here) (s : ScopedState) (i : Bool) (n : List Number) → Inside s i n → (p : Pending Ident Place) → HeldHere s p → (r : Result (l.of Ident) (Fault Ident)) (r' : Result (l.of Name) (Fault Name))
         → (f : l.of Ident → ScopedState → Pass Ident Place × ScopedState) (g : l.of Name → State → Pass Name Name × State) → ReadTo l (Leaf s) (names s fs) r r'
-        → ((a : l.of Ident) → Held l (Leaf s) a → Together (f a s) (g (l.map Ident Name (names s fs) a) (view i n s)))
+        → ((a : l.of Ident) → r ≡ Ok a → Held l (Leaf s) a → Together (f a s) (g (l.map Ident Name (names s fs) a) (view i n s)))
         → Together (read_then (scoped known) here p r f s) (read_then (model known) here (seen_pending s p) r' g (view i n s))
     read_go l here s i n k p h r r' f g (read_to a e d q) next =
-        together_at (ap (λ x. caught p.notes (given (λ j. j) here x s) f) e) (ap (λ x. caught (map (note_map (placed s)) p.notes) (given erase here x (view i n s)) g) d) (next a q)
+        together_at (ap (λ x. caught p.notes (given (λ j. j) here x s) f) e) (ap (λ x. caught (map (note_map (placed s)) p.notes) (given erase here x (view i n s)) g) d) (next a e q)
     read_go l here s i n k p h r r' f g (read_broken z e d) next =
         together_at (ap (λ x. caught p.notes (given (λ j. j) here x s) f) e)
         (ap (λ x. caught (map (note_map (placed s)) p.notes) (given erase here x (view i n s)) g) d ∙ ap (λ (y : Fault Ident). (record { notes = map (note_map (placed s)) p.notes; items = Err (record { fault = y; here = here }) }, view i n s)) (told_fault z))
@@ -157,7 +157,7 @@ module _ (w : ℕ) (known : Known) (fs : Frames) (Inside : ScopedState → Bool 
     -- ---- an item is set aside, or forms come first
 
     module _ (f : CodeGo) (g : ModelGo) (law : RunLaw f g) (s : ScopedState) (i : Bool) (n : List Number) (k : Inside s i n) (p : Pending Ident Place) (h : HeldHere s p) where
-      pub put_law : (t : Item Ident) → Held item_kind (Leaf s) t → Together (f (put t p) s) (g (put (item_map (names s fs) t) (seen_pending s p)) (view i n s))
+      pub put_law : (t : Item Ident) → ItemHeld (Leaf s) t → Together (f (put t p) s) (g (put (item_map (names s fs) t) (seen_pending s p)) (view i n s))
       put_law t q = together_at refl (ap (λ (x : Pending Name Name). g x (view i n s)) (put_seen (names s fs) (placed s) t p)) (law (put t p) s i n k (put_held (Leaf s) (PlaceIn s) t p q h))
 
       pub first_law : (xs : List (Form Ident)) → AllOf (FormAll (Leaf s)) xs → Together (f (first xs p) s) (g (first (map (form_map (names s fs)) xs) (seen_pending s p)) (view i n s))

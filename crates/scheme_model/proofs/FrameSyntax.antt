@@ -157,7 +157,7 @@ module _ (w : ℕ) (known : Known) (fs : Frames) (Inside : ScopedState → Bool 
         define_macro (named_map (held (Leaf s)) d.0) d.0.name.1 v i2 n2 k2 (grows_then w s t v gr gr2) c c' e2 (noted (rules_note (scoped known) fs s (rules_parts_of (map_tree (held (Leaf s)) d.1))) p) hq)))
         (λ a b t i1 n1 k1 e.
         together_at w known fs Inside Trail Leaf PlaceIn RuleLeaf Ended refl (λ j. g (put (Macro (e.0 j) here) (e.2 j)) (view i1 n1 t))
-        (put_law w known fs Inside Trail Leaf PlaceIn RuleLeaf Ended facts f g law t i1 n1 k1 a.1 e.1 (Macro a.0 here) (record { made = Macro a.0 here; same = refl }))))
+        (put_law w known fs Inside Trail Leaf PlaceIn RuleLeaf Ended facts f g law t i1 n1 k1 a.1 e.1 (Macro a.0 here) (record { made = Macro a.0 here; same = refl }, tt))))
       where
         hq : HeldAt s (noted (rules_note (scoped known) fs s (rules_parts_of (map_tree (held (Leaf s)) d.1))) p)
         hq = noted_held (Leaf s) (PlaceIn s) (rules_note (scoped known) fs s (rules_parts_of (map_tree (held (Leaf s)) d.1))) p (note_held s i n k (rules_parts_of (map_tree (held (Leaf s)) d.1)) (parts_held (Leaf s) (map_tree (held (Leaf s)) d.1) (all_held (Leaf s) d.1))) h

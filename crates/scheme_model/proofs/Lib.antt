@@ -18,6 +18,7 @@ pub mod FrameTimes
 pub mod FrameBodies
 pub mod FrameDefines
 pub mod FrameAsks
+pub mod FrameComing
 pub mod FrameStates
 pub mod FrameGrowth
 pub mod FrameLeaves
@@ -30,6 +31,17 @@ pub mod FrameHeld
 pub mod FramePlaces
 pub mod FrameDefinitions
 pub mod FrameSyntax
+pub mod FrameForms
+pub mod FrameOpen
+pub mod FrameBodyDefines
+pub mod FrameItems
+pub mod FrameBodyFacts
+pub mod FrameWhole
+pub mod FrameUnit
+pub mod FrameUnits
+pub mod FrameNew
+pub mod FrameLater
+pub mod FrameFirst
 pub mod Distinct
 pub mod FrameExpressions
 pub mod FrameBinders

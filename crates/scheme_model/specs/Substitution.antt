@@ -187,18 +187,19 @@ is_mine vs (Inserted j k) = false
 is_mine vs (Var w j) = is_among w vs
 is_mine vs (Inner c j) = false
 
-abbrev pub own_rules : List Number → (Name → Name) → KeptMacro → KeptMacro
-own_rules mine f k = record { meaning = k.meaning; rules = mapped (is_own mine k.meaning) f k.rules }
-  where
-    is_own : List Number → Meaning → Bool
-    is_own vs (Local v) = is_among v vs
-    is_own vs (Global u i) = false
-    is_own vs (Standard x) = false
-    is_own vs (Free x) = false
+-- a macro that this body has defined
+abbrev pub is_own : List Number → Meaning → Bool
+is_own vs (Local v) = is_among v vs
+is_own vs (Global u i) = false
+is_own vs (Standard x) = false
+is_own vs (Free x) = false
 
-    mapped : Bool → (Name → Name) → Rules Name → Rules Name
-    mapped true f r = rules_map f r
-    mapped false f r = r
+abbrev pub rules_mapped : Bool → (Name → Name) → Rules Name → Rules Name
+rules_mapped true f r = rules_map f r
+rules_mapped false f r = r
+
+abbrev pub own_rules : List Number → (Name → Name) → KeptMacro → KeptMacro
+own_rules mine f k = record { meaning = k.meaning; rules = rules_mapped (is_own mine k.meaning) f k.rules }
 
 abbrev pub defined_local : Name → Option (Rules Name) → State → State
 defined_local x r s = let v = number_at s s.locals in record s {
