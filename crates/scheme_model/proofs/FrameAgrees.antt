@@ -9,6 +9,7 @@ use Rattle.scheme_model.specs.Order.{Here, given}
 use Rattle.scheme_model.specs.Substitution.{State}
 use Rattle.scheme_model.specs.ScopedExpansion.{Frames, ScopedState}
 use Rattle.scheme_model.specs.Renaming.{result_map}
+use Rattle.scheme_model.proofs.FrameEras.{Era}
 use Rattle.scheme_model.proofs.RenamingLaws.{Reads, reads}
 use Rattle.scheme_model.proofs.IdentKinds.{Kind, pointwise, faults_fused}
 use Rattle.scheme_model.proofs.Clocks.{leq_itself}
@@ -36,7 +37,7 @@ agrees_more h q (break x t i n e d k) = break x t i n e d (h t i n k)
 
 -- ---- later states keep what was there
 
-module _ (w : ℕ) where
+module _ (w : Era) where
   abbrev pub Keeps : ScopedState → ScopedState → Bool → List Number → Type 0
   Keeps s t in_body mine = FineState w t × Grows w s t
 

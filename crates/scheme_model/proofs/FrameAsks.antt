@@ -9,9 +9,10 @@ use Rattle.scheme_model.specs.Order.{is_some}
 use Rattle.scheme_model.specs.Substitution.{Table, Entries, Defined, Clock, defined_in, is_plain, global_or, meaning, deep, asks}
 use Rattle.scheme_model.specs.Scopes.{own_of, imported_as, defined_or, given_or}
 use Rattle.scheme_model.specs.ScopedExpansion.{Bind, Enter, Frames, BodyDefinition, BodyDefinitions, UsePlace, around, find, defined_as, means_inside, means_outside}
-use Rattle.scheme_model.specs.OpenBodies.{Before, NotYet}
+use Rattle.scheme_model.specs.OpenBodies.{NotYet}
 use Rattle.scheme_model.proofs.IdentLaws.{number_itself}
 use Rattle.scheme_model.proofs.Clocks.{apart}
+use Rattle.scheme_model.proofs.FrameEras.{Era, Before}
 
 cond_or : (t u : Bool) (m n : Meaning) → cond t m (cond u m n) ≡ cond (t || u) m n
 cond_or true u m n = refl
@@ -85,7 +86,7 @@ pub all_of_more : {X : Type 0} (P Q : X → Type 0) → ((x : X) → P x → Q x
 all_of_more P Q h [] e = tt
 all_of_more P Q h (x ∷ xs) e = (h x e.0, all_of_more P Q h xs e.1)
 
-module _ (unit : ℕ) (n : Clock) where
+module _ (unit : Era) (n : Clock) where
   -- a local that the clock has counted, or none
   abbrev pub MeansCounted : Meaning → Type 0
   MeansCounted (Local v) = Before unit n v
@@ -97,8 +98,8 @@ module _ (unit : ℕ) (n : Clock) where
   GivenCounted None = Unit {0}
   GivenCounted (Some m) = MeansCounted m
 
-  pub not_next : (v : Number) → NotYet unit n v → (m : Meaning) → MeansCounted m → same_meaning m (Local v) ≡ false
-  not_next v e (Local w) h = apart unit n w v h e
+  pub not_next : (v : Number) → NotYet unit.unit n v → (m : Meaning) → MeansCounted m → same_meaning m (Local v) ≡ false
+  not_next v e (Local w) h = apart unit.unit n w v h.0 e
   not_next v e (Global u i) h = refl
   not_next v e (Standard s) h = refl
   not_next v e (Free s) h = refl

@@ -13,13 +13,13 @@ use Rattle.scheme_model.specs.Expression.{body, bound, procedure, lambda, clause
 use Rattle.scheme_model.specs.Substitution.{State, Clock, at_form, clause_map, shallow, model}
 use Rattle.scheme_model.specs.ScopedExpansion.{Bind, Frames, ScopedState, next_number, scoped}
 use Rattle.scheme_model.specs.FrameImages.{bound_as}
-use Rattle.scheme_model.specs.OpenBodies.{Before, Below, Leq}
+use Rattle.scheme_model.specs.OpenBodies.{Leq}
+use Rattle.scheme_model.proofs.FrameEras.{Era, Before, Below, before_more, below_more}
 use Rattle.scheme_model.proofs.ScopeLaws.{map_map_all, map_same_all}
 use Rattle.scheme_model.proofs.IdentKinds.{trees_kind, clause_kind, clauses_kind}
-use Rattle.scheme_model.proofs.Clocks.{leq_counted, before_more}
+use Rattle.scheme_model.proofs.Clocks.{leq_counted}
 use Rattle.scheme_model.proofs.Distinct.{Differ, Distinct, AllDistinct, ok_same, not_ok}
 use Rattle.scheme_model.proofs.FrameNames.{erase_frame_image}
-use Rattle.scheme_model.proofs.FrameTimes.{below_more}
 use Rattle.scheme_model.proofs.FrameAsks.{AllOf, all_of_more}
 use Rattle.scheme_model.proofs.FrameStates.{names, view, Old, ident_of, Made, made_later, made_same, FineState, Grows, grows_itself, grows_then, Stands, stands_later, names_later, locals_fine, locals_grow, next_old}
 use Rattle.scheme_model.proofs.FrameGrowth.{bound_state, bind_names, bind_stands}
@@ -36,7 +36,7 @@ knows P here (Ok x) s h (break y t i n e d k) = break y t i n e d k
 knows P here (Err z) s h (agree a b t i n e d k q) = not_ok _ a (ap (λ y. y.0) e)
 knows P here (Err z) s h (break y t i n e d k) = break y t i n e d k
 
-module _ (w : ℕ) (known : Known) where
+module _ (w : Era) (known : Known) where
   -- names that were made by then
   abbrev pub NamesOld : Clock → List (Named Ident) → Type 0
   NamesOld u ns = AllOf (λ (n : Named Ident). Below w u n.name) ns

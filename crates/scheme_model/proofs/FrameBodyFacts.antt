@@ -11,12 +11,12 @@ use Rattle.scheme_model.specs.Cores.{LocalNumber, Definition}
 use Rattle.scheme_model.specs.Order.{Here, Note, Pending, Transformer, is_some, told}
 use Rattle.scheme_model.specs.Substitution.{State, at_form, note_map, pending_map, any, refused_in_body, is_own, rules_mapped, own_rules, with_macro, meaning, deep, asks, defined_local, define_in_body, is_plain, is_variable, defined_in, definition_count, model}
 use Rattle.scheme_model.specs.ScopedExpansion.{Frames, BodyDefinitions, Place, ScopedMacro, ScopedState, find, next_number, means_at, macro_at, macro_added, definition_added, refused_now, define_at}
-use Rattle.scheme_model.specs.OpenBodies.{Before, Entered, Below}
+use Rattle.scheme_model.specs.OpenBodies.{Entered}
+use Rattle.scheme_model.proofs.FrameEras.{Era, Before, Below, frames_entered}
 use Rattle.scheme_model.proofs.IdentLaws.{number_itself, ident_told}
 use Rattle.scheme_model.proofs.IdentKinds.{rules_kind}
 use Rattle.scheme_model.proofs.Clocks.{leq_then, leq_counted}
 use Rattle.scheme_model.proofs.FrameNames.{erase_frame_image}
-use Rattle.scheme_model.proofs.FrameTimes.{frames_entered}
 use Rattle.scheme_model.proofs.FrameDefines.{same_elsewhere}
 use Rattle.scheme_model.proofs.FrameAsks.{AllOf}
 use Rattle.scheme_model.proofs.FrameStates.{names, view, seen_macro, Fine, FineState, grows_then, Stands, MacroFine, binders_more, locals_fine, locals_grow, next_old}

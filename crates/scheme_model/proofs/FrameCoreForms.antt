@@ -16,7 +16,7 @@ use Rattle.scheme_model.specs.Order.{Here, Transformer, target_of, head_of, give
 use Rattle.scheme_model.specs.Expression.{whole, node, each, clauses, lambda, quasi, quote, set, sequence, misplaced, chosen_sequence, let_syntax, letrec_syntax, core_form, macro_use, by_head, expression}
 use Rattle.scheme_model.specs.Substitution.{Clock, model}
 use Rattle.scheme_model.specs.ScopedExpansion.{Frames, ScopedState, macro_at, scoped}
-use Rattle.scheme_model.specs.OpenBodies.{Below}
+use Rattle.scheme_model.proofs.FrameEras.{Era, Below}
 use Rattle.scheme_model.proofs.IdentKinds.{Kind, tree_kind, trees_kind, clause_kind, clauses_kind, definition_kind, local_macros_kind}
 use Rattle.scheme_model.proofs.Distinct.{Distinct, AllDistinct, lambda_distinct, case_lambda_distinct, local_macros_distinct}
 use Rattle.scheme_model.proofs.FrameStates.{names, view, Old, ident_of, Made, FineState, Stands, stands_later}
@@ -30,7 +30,7 @@ use Rattle.scheme_model.proofs.FrameBinders.{knows, lambda_law, clauses_law, eac
 use Rattle.scheme_model.proofs.FrameMacros.{let_syntax_law, letrec_syntax_law}
 use Rattle.scheme_model.proofs.FrameQuasi.{quasi_law, quasi_read}
 
-module _ (w : ℕ) (known : Known) (F : Scoped w known) (G : Modelled w known) (law : WholeLaw w known F G) (body_law : BodyLaw w known F G) (depth : ℕ) (here : Here) (fs : Frames) where
+module _ (w : Era) (known : Known) (F : Scoped w known) (G : Modelled w known) (law : WholeLaw w known F G) (body_law : BodyLaw w known F G) (depth : ℕ) (here : Here) (fs : Frames) where
   -- where a form stands, and what stands behind its keyword
   module _ (s : ScopedState) (f : FineState w s) (in_body : Bool) (mine : List Number) (stands : Stands w s fs) (ts : Trees Ident) (tail : Tail Ident) (old : TreesAll (Below w s.uses) ts) (old_end : TailAll (Below w s.uses) tail) where
     abbrev rest : Made rest_kind w s.uses (ts, tail)

@@ -13,6 +13,7 @@ use Rattle.scheme_model.specs.Order.{Here, Form, Item, Value, Function, Assigned
 use Rattle.scheme_model.specs.Substitution.{State, at_form, form_map, item_map, note_map, clause_map, model}
 use Rattle.scheme_model.specs.ScopedExpansion.{Frames, Place, ScopedState, next_number, scoped}
 use Rattle.scheme_model.specs.Renaming.{formals_map, definition_map, field_map, record_map}
+use Rattle.scheme_model.proofs.FrameEras.{Era}
 use Rattle.scheme_model.proofs.RenamingLaws.{map-append, map_turned, append_map}
 use Rattle.scheme_model.proofs.IdentKinds.{definition_kind, record_kind}
 use Rattle.scheme_model.proofs.Clocks.{leq_counted}
@@ -75,7 +76,7 @@ module _ (A B : Type 0) (f : A → B) where
 
 -- ---- definitions
 
-module _ (w : ℕ) (known : Known) (fs : Frames) (Inside : ScopedState → Bool → List Number → Type 0) (Trail : ScopedState → ScopedState → Type 0) (Leaf : ScopedState → Ident → Type 0) (PlaceIn : ScopedState → Place → Type 0) (RuleLeaf : ScopedState → Transformer Frames Ident → Ident → Type 0) (Ended : ScopedState → List (Note Place) → List (Note Name) → Type 0)
+module _ (w : Era) (known : Known) (fs : Frames) (Inside : ScopedState → Bool → List Number → Type 0) (Trail : ScopedState → ScopedState → Type 0) (Leaf : ScopedState → Ident → Type 0) (PlaceIn : ScopedState → Place → Type 0) (RuleLeaf : ScopedState → Transformer Frames Ident → Ident → Type 0) (Ended : ScopedState → List (Note Place) → List (Note Name) → Type 0)
     (facts : PlaceFacts w known fs Inside Trail Leaf PlaceIn RuleLeaf Ended) (f : CodeGo w known fs Inside Trail Leaf PlaceIn RuleLeaf Ended) (g : ModelGo w known fs Inside Trail Leaf PlaceIn RuleLeaf Ended) (law : RunLaw w known fs Inside Trail Leaf PlaceIn RuleLeaf Ended f g) (here : Here) where
   abbrev seen : ScopedState → Pending Ident Place → Pending Name Name
   seen t p = seen_pending w known fs Inside Trail Leaf PlaceIn RuleLeaf Ended t p

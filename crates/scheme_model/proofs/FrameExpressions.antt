@@ -13,18 +13,17 @@ use Rattle.scheme_model.specs.Order.{Here, target_of, head_of}
 use Rattle.scheme_model.specs.Expression.{whole, body, Expander, each, expressions, sequence, quote, unless_keyword, set, reference, call, node}
 use Rattle.scheme_model.specs.Substitution.{State, model}
 use Rattle.scheme_model.specs.ScopedExpansion.{Frames, ScopedState, scoped}
-use Rattle.scheme_model.specs.OpenBodies.{Below}
+use Rattle.scheme_model.proofs.FrameEras.{Era, Below, below_more}
 use Rattle.scheme_model.proofs.RenamingLaws.{size-map}
 use Rattle.scheme_model.proofs.ScopeLaws.{map_map, map_same}
 use Rattle.scheme_model.proofs.FrameNames.{erase_frame_image, strip_frame_image}
-use Rattle.scheme_model.proofs.FrameTimes.{below_more}
 use Rattle.scheme_model.proofs.FrameStates.{names, view, FineState, Grows, Stands, stands_later, names_later}
 use Rattle.scheme_model.proofs.FrameLeaves.{TreeAll, TreesAll, trees_more, trees_same}
 use Rattle.scheme_model.proofs.FrameAgrees.{Agrees, agrees_at, Keeps, keeps_bind, Same, same_done, same_fails}
 use Rattle.scheme_model.proofs.FrameHeads.{head_seen, target_seen, node_law}
 
 -- a variable that is assigned or read isn't a keyword
-module _ (w : ℕ) (known : Known) (s : ScopedState) (f : FineState w s) (in_body : Bool) (mine : List Number) (here : Here) (fs : Frames) (x : Named Ident) where
+module _ (w : Era) (known : Known) (s : ScopedState) (f : FineState w s) (in_body : Bool) (mine : List Number) (here : Here) (fs : Frames) (x : Named Ident) where
   keyword_fails : {A B : Type 0} {R : ScopedState → A → B → Type 0} → Agrees (Keeps w s) R (fails here (KeywordAsValue (named x.name x.occ)) s) (fails here (KeywordAsValue (named (erase (names s fs x.name)) x.occ)) (view in_body mine s))
   keyword_fails = agrees_at refl (ap (λ (y : Ident). fails here (KeywordAsValue (named y x.occ)) (view in_body mine s)) (erase_frame_image s.places s.definitions fs x.name)) (same_fails w s in_body mine here (KeywordAsValue (named x.name x.occ)) f)
 
@@ -41,7 +40,7 @@ module _ (w : ℕ) (known : Known) (s : ScopedState) (f : FineState w s) (in_bod
       agrees_at refl (ap (λ (k : Head). unless_keyword (model known) here k (named_map (names s fs) x) go' (view in_body mine s)) (head_seen w known s f in_body mine fs x.name))
       (by_head_law (head_of (scoped known) fs s x.name) go go' h)
 
-module _ (w : ℕ) (known : Known) where
+module _ (w : Era) (known : Known) where
   abbrev pub Scoped : Type 0
   Scoped = Expander Frames Ident ScopedState
 

@@ -16,6 +16,7 @@ use Rattle.scheme_model.specs.Order.{Here, Form, Expression, Note, LookedUp, Com
 use Rattle.scheme_model.specs.Substitution.{State, at_form, form_map, item_map, note_map, model}
 use Rattle.scheme_model.specs.ScopedExpansion.{Frames, Place, ScopedState, means_at, macro_at, scoped}
 use Rattle.scheme_model.specs.Renaming.{Renames, pair_map}
+use Rattle.scheme_model.proofs.FrameEras.{Era}
 use Rattle.scheme_model.proofs.RulesLaws.{role_of-map, dots_of-map}
 use Rattle.scheme_model.proofs.CompareLaws.{compared-map}
 use Rattle.scheme_model.proofs.IdentKinds.{Kind, tree_kind, trees_kind, definition_kind, record_kind}
@@ -56,7 +57,7 @@ over P = record { same = λ p q. same_ident p.0 q.0; strip = λ p. symbol_of p.0
 over_told : (P : Ident → Type 0) → Renames (held P) (over P) identifiers
 over_told P = record { same = λ p q. refl; strip = λ p. refl }
 
-module _ (w : ℕ) (known : Known) (fs : Frames) (Inside : ScopedState → Bool → List Number → Type 0) (Trail : ScopedState → ScopedState → Type 0) (Leaf : ScopedState → Ident → Type 0) (PlaceIn : ScopedState → Place → Type 0) (RuleLeaf : ScopedState → Transformer Frames Ident → Ident → Type 0) (Ended : ScopedState → List (Note Place) → List (Note Name) → Type 0)
+module _ (w : Era) (known : Known) (fs : Frames) (Inside : ScopedState → Bool → List Number → Type 0) (Trail : ScopedState → ScopedState → Type 0) (Leaf : ScopedState → Ident → Type 0) (PlaceIn : ScopedState → Place → Type 0) (RuleLeaf : ScopedState → Transformer Frames Ident → Ident → Type 0) (Ended : ScopedState → List (Note Place) → List (Note Name) → Type 0)
     (facts : PlaceFacts w known fs Inside Trail Leaf PlaceIn RuleLeaf Ended) where
   abbrev seen : ScopedState → Pending Ident Place → Pending Name Name
   seen t p = seen_pending w known fs Inside Trail Leaf PlaceIn RuleLeaf Ended t p

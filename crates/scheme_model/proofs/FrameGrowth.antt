@@ -7,15 +7,17 @@ use Rattle.scheme_model.specs.Ident.{Ident, Written, Inserted, same_ident}
 use Rattle.scheme_model.specs.Substitution.{Clock, at_form, is_plain, shallow}
 use Rattle.scheme_model.specs.ScopedExpansion.{Bind, Enter, Frames, BodyDefinition, BodyDefinitions, ScopedState, around, find, next_number}
 use Rattle.scheme_model.specs.FrameImages.{is_before, is_older, bound_as, entered_as, before_definition, image_inside, image_outside, frame_image}
-use Rattle.scheme_model.specs.OpenBodies.{Before, Below, Entered, Leq, NotYet}
+use Rattle.scheme_model.specs.OpenBodies.{Before as Counted, Below as BelowCounted, Entered, Leq, NotYet}
 use Rattle.scheme_model.proofs.IdentLaws.{ident_told, number_told, number_itself, same_turned}
-use Rattle.scheme_model.proofs.Clocks.{leq_itself, leq_counted, before_more, apart}
+use Rattle.scheme_model.proofs.Clocks.{leq_itself, leq_counted, apart}
 use Rattle.scheme_model.proofs.FrameNames.{same_frame_image}
-use Rattle.scheme_model.proofs.FrameTimes.{entered_more, below_more, SamePlaces, outside_places, image_places, inside_new}
+use Rattle.scheme_model.proofs.FrameTimes.{entered_more, below_more as counted_more, SamePlaces, outside_places, image_places, inside_new}
+use Rattle.scheme_model.proofs.FrameEras.{Era, Before, Below, before_more, below_more, below_counted}
 use Rattle.scheme_model.proofs.FrameAsks.{AllOf, all_of_more, BindersCounted}
+use Rattle.scheme_model.proofs.FrameRoots.{stands_then}
 use Rattle.scheme_model.proofs.FrameStates.{names, FineState, Grows, Stands, binders_more, macro_more, next_new, next_old}
 
-module _ (w : ℕ) where
+module _ (w : Era) where
   -- ---- a binder
 
   abbrev pub bound_state : ScopedState → ScopedState
@@ -30,7 +32,7 @@ module _ (w : ℕ) where
       go false e = refl
 
   pub bind_stands : (s : ScopedState) → FineState w s → (fs : Frames) (x : Ident) → Stands w s fs → Below w s.uses x → Stands w (bound_state s) (Bind x (next_number s s.locals) ∷ fs)
-  bind_stands s f fs x h l = ((l, h.0), (next_old w s f s.locals, binders_more w s.locals (at_form s.form suc s.locals) (leq_counted s.form s.locals) fs h.1))
+  bind_stands s f fs x h l = ((below_counted w s.uses x l, h.0), (next_old w s f s.locals, binders_more w s.locals (at_form s.form suc s.locals) (leq_counted s.form s.locals) fs h.1))
 
   -- ---- the entry of a body
 
@@ -38,13 +40,13 @@ module _ (w : ℕ) where
   entered_state s = record s { bodies = at_form s.form suc s.bodies }
 
   -- nothing is defined yet in a body that isn't entered
-  pub find_none : (n : Clock) (b : Number) (i : Ident) → NotYet w n b → (ds : BodyDefinitions) → AllOf (λ (d : BodyDefinition). Before w n d.body) ds → find ds b i ≡ None
+  pub find_none : (n : Clock) (b : Number) (i : Ident) → NotYet w.unit n b → (ds : BodyDefinitions) → AllOf (λ (d : BodyDefinition). Before w n d.body) ds → find ds b i ≡ None
   find_none n b i e [] h = refl
-  find_none n b i e (d ∷ ds) h = ap (λ t. cond (t && same_ident d.ident i) (Some (d.binder, ds)) (find ds b i)) (apart w n d.body b h.0 e) ∙ find_none n b i e ds h.1
+  find_none n b i e (d ∷ ds) h = ap (λ t. cond (t && same_ident d.ident i) (Some (d.binder, ds)) (find ds b i)) (apart w.unit n d.body b h.0.0 e) ∙ find_none n b i e ds h.1
 
-  older_yes : (u : Clock) (b : Number) → b.unit ≡ w → (i : Ident) → Below w u i → is_older b u i ≡ true
+  older_yes : (u : Clock) (b : Number) → b.unit ≡ w.unit → (i : Ident) → Below w u i → is_older b u i ≡ true
   older_yes u b e (Written v s) l = refl
-  older_yes u b e (Inserted i k) l = ap (λ v. is_before v u k) e ∙ l.0
+  older_yes u b e (Inserted i k) l = ap (λ v. is_before v u k) e ∙ l.0.0
 
   pub enter_names : (s : ScopedState) → FineState w s → (fs : Frames) (i : Ident) → Below w s.uses i → Inner (next_number s s.bodies) (names s fs i) ≡ names (entered_state s) (Enter (next_number s s.bodies) s.uses ∷ fs) i
   enter_names s f fs i l =
@@ -58,10 +60,12 @@ module _ (w : ℕ) where
   enter_fine s f = (
     f.0,
     record {
-      definitions = λ b i l. go b i (is_before w s.bodies b) refl;
+      definitions = λ b i l. go b i (is_before w.unit s.bodies b) refl;
       bodies = bodies_more s.bodies (at_form s.form suc s.bodies) (leq_counted s.form s.bodies) s.definitions f.1.bodies;
+      idents = f.1.idents;
       entered = λ k. entered_more (Before w s.bodies) (Before w (at_form s.form suc s.bodies)) (before_more w s.bodies (at_form s.form suc s.bodies) (leq_counted s.form s.bodies)) (around s.places k) (f.1.entered k);
       macros = macro_more w s.locals s.uses s.bodies s.locals s.uses (at_form s.form suc s.bodies) (leq_itself s.locals) (leq_itself s.uses) (leq_counted s.form s.bodies) s.macros f.1.macros;
+      stands = f.1.stands;
       outside = f.1.outside;
       binders = f.1.binders;
       places = f.1.places;
@@ -69,7 +73,7 @@ module _ (w : ℕ) where
     },
   )
     where
-      go : (b : Number) (i : Ident) (t : Bool) → is_before w s.bodies b ≡ t → (find s.definitions b i ≡ None) ⊎ Below w s.uses i
+      go : (b : Number) (i : Ident) (t : Bool) → is_before w.unit s.bodies b ≡ t → (find s.definitions b i ≡ None) ⊎ BelowCounted w.unit s.uses i
       go b i true e = f.1.definitions b i e
       go b i false e = inl (find_none s.bodies b i e s.definitions f.1.bodies)
 
@@ -78,16 +82,16 @@ module _ (w : ℕ) where
 
   pub enter_stands : (s : ScopedState) → FineState w s → (fs : Frames) → Stands w s fs → Stands w (entered_state s) (Enter (next_number s s.bodies) s.uses ∷ fs)
   enter_stands s f fs h =
-      ((s.bodies, f.0, next_old w s f s.bodies, leq_itself s.uses, leq_counted s.form s.bodies, next_new w s f s.bodies, f.1.definitions, h.0), h.1)
+      ((s.bodies, f.0, (next_old w s f s.bodies).0, leq_itself s.uses, leq_counted s.form s.bodies, next_new w s f s.bodies, f.1.definitions, h.0), h.1)
 
   -- ---- a macro use
 
   abbrev pub used_state : Frames → ScopedState → ScopedState
   used_state ms s = record s { uses = at_form s.form suc s.uses; places = record { use_number = next_number s s.uses; frames = ms } ∷ s.places }
 
-  pub around_old : (s : ScopedState) → FineState w s → (ms : Frames) → SamePlaces w s.uses s.places (used_state ms s).places
+  pub around_old : (s : ScopedState) → FineState w s → (ms : Frames) → SamePlaces w.unit s.uses s.places (used_state ms s).places
   around_old s f ms k l =
-      sym (ap (λ t. cond t ms (around s.places k)) (false_from_ne_true (same_number (next_number s s.uses) k) (λ e. let p : Before w s.uses (next_number s s.uses) = subst (Before w s.uses) (sym (number_told (next_number s s.uses) k e)) l in let q : true ≡ false = sym p ∙ next_new w s f s.uses in absurd cc)))
+      sym (ap (λ t. cond t ms (around s.places k)) (false_from_ne_true (same_number (next_number s s.uses) k) (λ e. let p : Counted w.unit s.uses (next_number s s.uses) = subst (Counted w.unit s.uses) (sym (number_told (next_number s s.uses) k e)) l in let q : true ≡ false = sym p ∙ next_new w s f s.uses in absurd cc)))
 
   pub around_new : (s : ScopedState) (ms : Frames) → around (used_state ms s).places (next_number s s.uses) ≡ ms
   around_new s ms = ap (λ t. cond t ms (around s.places (next_number s s.uses))) (number_itself (next_number s s.uses))
@@ -101,8 +105,10 @@ module _ (w : ℕ) where
     record {
       definitions = λ b i l. below_later i (f.1.definitions b i l);
       bodies = f.1.bodies;
+      idents = all_of_more (λ (d : BodyDefinition). Below w s.uses d.ident) (λ (d : BodyDefinition). Below w (at_form s.form suc s.uses) d.ident) (λ d. below_more w s.uses (at_form s.form suc s.uses) (leq_counted s.form s.uses) d.ident) s.definitions f.1.idents;
       entered = λ k. at_use k (Entered (Before w s.bodies)) e (f.1.entered k);
       macros = macro_more w s.locals s.uses s.bodies s.locals (at_form s.form suc s.uses) s.bodies (leq_itself s.locals) (leq_counted s.form s.uses) (leq_itself s.bodies) s.macros f.1.macros;
+      stands = stands_then w s.uses (at_form s.form suc s.uses) s.places (used_state ms s).places (leq_counted s.form s.uses) (around_old s f ms) s.macros f.1.stands;
       outside = λ v i h. let q = f.1.outside v i h in (below_more w s.uses (at_form s.form suc s.uses) (leq_counted s.form s.uses) i q.0, plain_later i q.0 q.1);
       binders = f.1.binders;
       places = λ k. at_use k (BindersCounted w s.locals) c (f.1.places k);
@@ -110,9 +116,9 @@ module _ (w : ℕ) where
     },
   )
     where
-      below_later : {X : Type 0} (i : Ident) → X ⊎ Below w s.uses i → X ⊎ Below w (at_form s.form suc s.uses) i
+      below_later : {X : Type 0} (i : Ident) → X ⊎ BelowCounted w.unit s.uses i → X ⊎ BelowCounted w.unit (at_form s.form suc s.uses) i
       below_later i (inl x) = inl x
-      below_later i (inr l) = inr (below_more w s.uses (at_form s.form suc s.uses) (leq_counted s.form s.uses) i l)
+      below_later i (inr l) = inr (counted_more w.unit s.uses (at_form s.form suc s.uses) (leq_counted s.form s.uses) i l)
 
       at_use : (k : Number) (P : Frames → Type 0) → P ms → P (around s.places k) → P (around (used_state ms s).places k)
       at_use k P pm pk = go (same_number (next_number s s.uses) k)
@@ -122,7 +128,7 @@ module _ (w : ℕ) where
           go false = pk
 
       plain_later : (i : Ident) → Below w s.uses i → ((es : BodyDefinitions) → is_plain (image_outside s.places i es) ≡ true) → (es : BodyDefinitions) → is_plain (image_outside (used_state ms s).places i es) ≡ true
-      plain_later i l h es = ap (λ (g : BodyDefinitions → Name). is_plain (g es)) (sym (outside_places w s.uses s.places (used_state ms s).places (around_old s f ms) i l)) ∙ h es
+      plain_later i l h es = ap (λ (g : BodyDefinitions → Name). is_plain (g es)) (sym (outside_places w.unit s.uses s.places (used_state ms s).places (around_old s f ms) i (below_counted w s.uses i l))) ∙ h es
 
   pub inserted_below : (s : ScopedState) → FineState w s → (i : Ident) → Below w s.uses i → Below w (at_form s.form suc s.uses) (Inserted i (next_number s s.uses))
   inserted_below s f i l = (next_old w s f s.uses, below_more w s.uses (at_form s.form suc s.uses) (leq_counted s.form s.uses) i l)
@@ -131,6 +137,6 @@ module _ (w : ℕ) where
   pub use_names : (s : ScopedState) → FineState w s → (fs ms : Frames) → Stands w s fs → (i : Ident) → Below w s.uses i
       → InsertedName (names s ms i) (next_number s s.uses) ≡ names (used_state ms s) fs (Inserted i (next_number s s.uses))
   use_names s f fs ms h i l =
-      sym (inside_new w s.definitions s.uses s.bodies f.1.definitions fs h.0 i (next_number s s.uses) (next_new w s f s.uses) (image_outside (used_state ms s).places (Inserted i (next_number s s.uses)))
+      sym (inside_new w.unit s.definitions s.uses s.bodies f.1.definitions fs h.0 i (next_number s s.uses) (next_new w s f s.uses) (image_outside (used_state ms s).places (Inserted i (next_number s s.uses)))
       ∙ ap (λ (ns : Frames). InsertedName (frame_image (used_state ms s).places s.definitions ns i) (next_number s s.uses)) (around_new s ms)
-      ∙ ap (λ (y : Name). InsertedName y (next_number s s.uses)) (sym (image_places w s.uses s.places (used_state ms s).places s.definitions ms (around_old s f ms) i l)))
+      ∙ ap (λ (y : Name). InsertedName y (next_number s s.uses)) (sym (image_places w.unit s.uses s.places (used_state ms s).places s.definitions ms (around_old s f ms) i (below_counted w s.uses i l))))

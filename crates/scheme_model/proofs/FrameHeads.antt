@@ -16,7 +16,8 @@ use Rattle.scheme_model.specs.Expression.{node}
 use Rattle.scheme_model.specs.Substitution.{State, Clock, at_form, rules_at, transformer_of, model}
 use Rattle.scheme_model.specs.ScopedExpansion.{Frames, BodyDefinitions, UsePlace, ScopedMacro, ScopedState, macro_at, scoped}
 use Rattle.scheme_model.specs.FrameImages.{frame_image}
-use Rattle.scheme_model.specs.OpenBodies.{Before, Entered}
+use Rattle.scheme_model.specs.OpenBodies.{Entered}
+use Rattle.scheme_model.proofs.FrameEras.{Era, Before}
 use Rattle.scheme_model.proofs.IdentKinds.{rules_kind}
 use Rattle.scheme_model.proofs.FrameNames.{erase_frame_image}
 use Rattle.scheme_model.proofs.FrameAsks.{AllOf, BindersCounted}
@@ -71,7 +72,7 @@ head_is f (Global u i) = by_macro (f (Global u i)) (Global u i)
 head_is f (Standard s) = by_standard (core_named s) (auxiliary_named s) (f (Standard s)) (Standard s)
 head_is f (Free s) = tt
 
-module _ (w : ℕ) where
+module _ (w : Era) where
   pub record TransformerFine (s : ScopedState) (m : Transformer Frames Ident) : Type 0 where
     pub entered : Entered (Before w s.bodies) m.env
     pub rules : Made rules_kind w s.uses m.rules

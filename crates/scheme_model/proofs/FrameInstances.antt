@@ -16,7 +16,8 @@ use Rattle.scheme_model.specs.Order.{Here, Transformer, target_of, given, used, 
 use Rattle.scheme_model.specs.Substitution.{Clock, at_form, meaning, model}
 use Rattle.scheme_model.specs.ScopedExpansion.{Frames, ScopedState, next_number, means_at, scoped}
 use Rattle.scheme_model.specs.Renaming.{Renames, value_map, values_map, binding_map, chosen_map, built_map}
-use Rattle.scheme_model.specs.OpenBodies.{Before, Entered, Below}
+use Rattle.scheme_model.specs.OpenBodies.{Entered}
+use Rattle.scheme_model.proofs.FrameEras.{Era, Before, Below, below_more}
 use Rattle.scheme_model.proofs.RenamingLaws.{Reads, reads, Finds, finds, map_after, map_turned}
 use Rattle.scheme_model.proofs.RulesLaws.{role_of-map, dots_of-map}
 use Rattle.scheme_model.proofs.MatchLaws.{first_match-map}
@@ -25,7 +26,6 @@ use Rattle.scheme_model.proofs.ScopeLaws.{map_map}
 use Rattle.scheme_model.proofs.IdentKinds.{Kind, pointwise, mapped_same, faults_fused, tree_kind, trees_kind, tail_kind, rules_kind}
 use Rattle.scheme_model.proofs.Clocks.{leq_counted}
 use Rattle.scheme_model.proofs.FrameNames.{same_frame_image, strip_frame_image, erase_frame_image}
-use Rattle.scheme_model.proofs.FrameTimes.{below_more}
 use Rattle.scheme_model.proofs.FrameAsks.{BindersCounted}
 use Rattle.scheme_model.proofs.FrameStates.{names, view, made_later, FineState, Grows, grows_itself, Stands, names_mean, names_far, names_later, macros_later}
 use Rattle.scheme_model.proofs.FrameGrowth.{used_state, use_grows, use_fine, inserted_below, use_names}
@@ -54,7 +54,7 @@ abbrev model_names : Names Name
 model_names = record { same = same_name; strip = strip }
 
 -- The rules hold PR, the form holds PF, and what comes of them R. K is what holds of states: of this one, and of what the use leaves.
-module _ (w : ℕ) (known : Known) (s : ScopedState) (f : FineState w s) (in_body : Bool) (mine : List Number) (fs : Frames) (stands : Stands w s fs) (m : Transformer Frames Ident) (entered : Entered (Before w s.bodies) m.env) (binders : BindersCounted w s.locals m.env)
+module _ (w : Era) (known : Known) (s : ScopedState) (f : FineState w s) (in_body : Bool) (mine : List Number) (fs : Frames) (stands : Stands w s fs) (m : Transformer Frames Ident) (entered : Entered (Before w s.bodies) m.env) (binders : BindersCounted w s.locals m.env)
     (PR PF R : Ident → Type 0) (rules_below : (i : Ident) → PR i → Below w s.uses i) (form_below : (i : Ident) → PF i → Below w s.uses i) (keeps_form : (i : Ident) → PF i → R i) (inserts : (i : Ident) → PR i → R (Inserted i (next_number s s.uses)))
     (rules_held : Held rules_kind PR m.rules) (ts : Trees Ident) (tail : Tail Ident) (made : TreesAll PF ts) (made_end : TailAll PF tail)
     (K : ScopedState → Bool → List Number → Type 0) (k_here : K s in_body mine) (k_then : (x : ℕ → List MacroUse) (y : Clock) → K (record (used_state w m.env s) { met = x; nodes = y }) in_body mine) where
@@ -276,7 +276,7 @@ module _ (w : ℕ) (known : Known) (s : ScopedState) (f : FineState w s) (in_bod
         go false = break (record { fault = UseBudget; here = here }) s in_body mine refl refl k_here
 
 -- where the rules and the form were made by then
-module _ (w : ℕ) (known : Known) (s : ScopedState) (f : FineState w s) (in_body : Bool) (mine : List Number) (fs : Frames) (stands : Stands w s fs) (m : Transformer Frames Ident) (fine : TransformerFine w s m) (ts : Trees Ident) (tail : Tail Ident) (made : TreesAll (Below w s.uses) ts) (made_end : TailAll (Below w s.uses) tail) (here : Here) (keyword : Target) where
+module _ (w : Era) (known : Known) (s : ScopedState) (f : FineState w s) (in_body : Bool) (mine : List Number) (fs : Frames) (stands : Stands w s fs) (m : Transformer Frames Ident) (fine : TransformerFine w s m) (ts : Trees Ident) (tail : Tail Ident) (made : TreesAll (Below w s.uses) ts) (made_end : TailAll (Below w s.uses) tail) (here : Here) (keyword : Target) where
   abbrev After : ScopedState → Tree Ident → Tree Name → Type 0
   After t a b = Grows w (used_state w m.env s) t × Held tree_kind (Below w (used_state w m.env s).uses) a × (b ≡ map_tree (names t fs) a)
 

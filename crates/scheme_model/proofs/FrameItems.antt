@@ -12,9 +12,9 @@ use Rattle.scheme_model.specs.Order.{Here, Item, Expression, Value, Function, As
 use Rattle.scheme_model.specs.Expression.{whole, lambda, macro_def, assignment, item_part, parts}
 use Rattle.scheme_model.specs.Substitution.{State, Clock, clause_map, item_map, model}
 use Rattle.scheme_model.specs.ScopedExpansion.{Frames, ScopedState, scoped}
-use Rattle.scheme_model.specs.OpenBodies.{Leq, Below}
+use Rattle.scheme_model.specs.OpenBodies.{Leq}
+use Rattle.scheme_model.proofs.FrameEras.{Era, Below, below_more}
 use Rattle.scheme_model.proofs.IdentKinds.{clause_kind, item_kind}
-use Rattle.scheme_model.proofs.FrameTimes.{below_more}
 use Rattle.scheme_model.proofs.FrameAsks.{AllOf, all_of_more}
 use Rattle.scheme_model.proofs.FrameStates.{names, view, Old, ident_of, Made, made_later, made_same, FineState, Grows, Stands, stands_later, names_later}
 use Rattle.scheme_model.proofs.FrameLeaves.{TreeAll, tree_more, all_held}
@@ -25,7 +25,7 @@ use Rattle.scheme_model.proofs.FrameExpressions.{Scoped, Modelled, WholeLaw, Bod
 use Rattle.scheme_model.proofs.FrameBinders.{lambda_law}
 use Rattle.scheme_model.proofs.FrameMacros.{macro_def_seen}
 
-module _ (w : ℕ) (known : Known) (F : Scoped w known) (G : Modelled w known) (law : WholeLaw w known F G) (body_law : BodyLaw w known F G) (depth : ℕ) (fs : Frames) where
+module _ (w : Era) (known : Known) (F : Scoped w known) (G : Modelled w known) (law : WholeLaw w known F G) (body_law : BodyLaw w known F G) (depth : ℕ) (fs : Frames) where
   -- a later definition of a variable, read as an assignment
   assigned_law : (here : Here) (x : Named Ident) (s : ScopedState) → FineState w s → (i : Bool) (n : List Number) (go : ℕ → Step ScopedState Core) (go' : ℕ → Step State Core)
       → ((below : ℕ) (y : Clock) → Same w s (go below (record s { nodes = y })) (go' below (view i n (record s { nodes = y }))))

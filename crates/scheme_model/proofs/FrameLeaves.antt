@@ -4,10 +4,9 @@ use Rattle.scheme_model.specs.Identifiers.{Name}
 use Rattle.scheme_model.specs.Ident.{Ident}
 use Rattle.scheme_model.specs.Trees.{Tree, name, atom, list, vector, Trees, no_trees, tree, Tail, proper, dotted, map_tree, map_trees, map_tail}
 use Rattle.scheme_model.specs.Substitution.{Clock}
-use Rattle.scheme_model.specs.OpenBodies.{Below}
+use Rattle.scheme_model.proofs.FrameEras.{Era, Below, below_more}
 use Rattle.scheme_model.proofs.IdentKinds.{Kind, mapped_same, tree_kind, trees_kind}
 use Rattle.scheme_model.proofs.Clocks.{leq_itself}
-use Rattle.scheme_model.proofs.FrameTimes.{below_more}
 use Rattle.scheme_model.proofs.FrameStates.{Old, ident_of, Made}
 
 -- each identifier of a tree
@@ -113,7 +112,7 @@ module _ (P : Ident → Type 0) where
 
 -- ---- trees that were made by then
 
-module _ (w : ℕ) (u : Clock) where
+module _ (w : Era) (u : Clock) where
   pub made_tree : (t : Tree Ident) → TreeAll (Below w u) t → Made tree_kind w u t
   made_tree t e = record { clock = u; earlier = leq_itself u; made = lift_tree (Below w u) t e; same = lifted_tree (Below w u) t e }
 
@@ -147,10 +146,10 @@ held_same k P f g e x m =
     ∙ sym (k.fused (Holding P) Ident Name g (held P) m.made)
     ∙ ap (k.map Ident Name g) m.same
 
-pub held_made : (k : Kind) (w : ℕ) (u : Clock) (x : k.of Ident) → Held k (Below w u) x → Made k w u x
+pub held_made : (k : Kind) (w : Era) (u : Clock) (x : k.of Ident) → Held k (Below w u) x → Made k w u x
 held_made k w u x m = record { clock = u; earlier = leq_itself u; made = m.made; same = m.same }
 
-pub made_held : (k : Kind) (w : ℕ) (u : Clock) (x : k.of Ident) → Made k w u x → Held k (Below w u) x
+pub made_held : (k : Kind) (w : Era) (u : Clock) (x : k.of Ident) → Made k w u x → Held k (Below w u) x
 made_held k w u x m = record {
   made = k.map (Old w m.clock) (Old w u) (λ p. (p.0, below_more w m.clock u m.earlier p.0 p.1)) m.made;
   same = k.fused (Old w m.clock) (Old w u) Ident (ident_of w u) (λ p. (p.0, below_more w m.clock u m.earlier p.0 p.1)) m.made ∙ m.same;

@@ -17,14 +17,13 @@ use Rattle.scheme_model.specs.Expression.{body, bound, meaning_of, macro_with, m
 use Rattle.scheme_model.specs.Substitution.{Clock, model}
 use Rattle.scheme_model.specs.ScopedExpansion.{Frames, ScopedState, macro_at, next_number, scoped}
 use Rattle.scheme_model.specs.Renaming.{leaf_map, local_macros_map}
-use Rattle.scheme_model.specs.OpenBodies.{Before, Below}
+use Rattle.scheme_model.proofs.FrameEras.{Era, Before, Below, before_more, frames_entered}
 use Rattle.scheme_model.proofs.RenamingLaws.{map_after, size-map}
 use Rattle.scheme_model.proofs.LeafLaws.{leaves_of-map}
 use Rattle.scheme_model.proofs.IdentKinds.{pointwise, rules_kind, local_macros_kind, rules_fused}
-use Rattle.scheme_model.proofs.Clocks.{leq_itself, before_more}
+use Rattle.scheme_model.proofs.Clocks.{leq_itself}
 use Rattle.scheme_model.proofs.Distinct.{Distinct}
 use Rattle.scheme_model.proofs.FrameNames.{erase_frame_image}
-use Rattle.scheme_model.proofs.FrameTimes.{frames_entered}
 use Rattle.scheme_model.proofs.FrameAsks.{AllOf, all_of_more}
 use Rattle.scheme_model.proofs.FrameStates.{names, view, Made, made_later, made_same, FineState, Grows, grows_then, Stands, stands_later, names_later, macro_fine}
 use Rattle.scheme_model.proofs.FrameLeaves.{TreeAll, TreesAll, lift_trees, lift_tail, lifted_trees, lifted_tail, all_made_trees}
@@ -37,7 +36,7 @@ use Rattle.scheme_model.proofs.FrameBinders.{NamesOld, names_old, names_made, In
 
 -- ---- a macro ps it is told
 
-module _ (w : ℕ) (known : Known) (s : ScopedState) (f : FineState w s) (in_body : Bool) (mine : List Number) where
+module _ (w : Era) (known : Known) (s : ScopedState) (f : FineState w s) (in_body : Bool) (mine : List Number) where
   rules_erased : (fs : Frames) (r : Rules Ident) → rules_map erase (rules_map (names s fs) r) ≡ rules_map (λ i. i) r
   rules_erased fs r =
       rules_fused Ident Name Ident erase (names s fs) r ∙ ap (λ (h : Ident → Ident). rules_map h r) (pointwise (λ i. erase (names s fs i)) (λ i. i) (λ i. erase_frame_image s.places s.definitions fs i))
@@ -75,7 +74,7 @@ parts_of-map f (list (tree (atom a p) ts) tail o) = refl
 parts_of-map f (list (tree (list us end p) ts) tail o) = refl
 parts_of-map f (list (tree (vector us p) ts) tail o) = refl
 
-module _ (w : ℕ) (known : Known) where
+module _ (w : Era) (known : Known) where
   pub parts_made : (u : Clock) (t : Tree Ident) → TreeAll (Below w u) t → IfMacro (Made parts_kind w u) (rules_parts_of t)
   parts_made u (name i o) l = tt
   parts_made u (atom a o) l = tt
@@ -156,7 +155,7 @@ module _ (w : ℕ) (known : Known) where
         let st = stands_later w s x k.1 fs h in
         let counted : AllOf (Before w x.locals) (v ∷ vs) = all_of_more (Before w s.locals) (Before w x.locals) (before_more w s.locals x.locals k.1.locals) (v ∷ vs) l in
         let fine : FineState w (record x { macros = record { meaning = Local v; frames = fs; rules = r } ∷ x.macros }) =
-        macro_fine w x (record { meaning = Local v; frames = fs; rules = r }) (record { entered = frames_entered w x.definitions x.uses x.bodies fs st.0; rules = e.0; binders = st.1; meaning = counted.0 }) k.0 in
+        macro_fine w x (record { meaning = Local v; frames = fs; rules = r }) (record { entered = frames_entered w x.definitions x.uses x.bodies fs st.0; rules = e.0; binders = st.1; meaning = counted.0 }) tt k.0 in
         agrees_at refl (ap (λ (z : Rules Name). keep_all (model known) here tt vs (map_trees g ts) bs ((model known).keep v z tt (view i1 n1 x))) e.1)
         (keep_all_law g vs ts ps bs (record x { macros = record { meaning = Local v; frames = fs; rules = r } ∷ x.macros }) fine i1 n1 st counted.1 (parts_still s x f k.1 h ps bs q.1)))
 

@@ -8,11 +8,12 @@ use Rattle.scheme_model.specs.Requirements.{Known}
 use Rattle.scheme_model.specs.Order.{Transformer, is_some}
 use Rattle.scheme_model.specs.Substitution.{Table, Clock, at_form, defined_in, is_own}
 use Rattle.scheme_model.specs.ScopedExpansion.{Enter, Frames, BodyDefinitions, UsePlace, Place, ScopedMacro, ScopedState, around, next_number, macro_at}
-use Rattle.scheme_model.specs.OpenBodies.{Leq, Before, NotYet, Entered, Below, PlacesIn, DefinitionsBelow, FramesOk, Other, Sits}
+use Rattle.scheme_model.specs.OpenBodies.{Leq, NotYet, Entered, PlacesIn, DefinitionsBelow, FramesOk, Other, Sits}
+use Rattle.scheme_model.proofs.FrameEras.{Era, Before, Below, before_more, below_more, frames_entered}
 use Rattle.scheme_model.proofs.IdentLaws.{number_told}
 use Rattle.scheme_model.proofs.IdentKinds.{rules_kind}
-use Rattle.scheme_model.proofs.Clocks.{leq_itself, before_more}
-use Rattle.scheme_model.proofs.FrameTimes.{entered_more, below_more, definitions_same, frames_later, frames_entered}
+use Rattle.scheme_model.proofs.Clocks.{leq_itself}
+use Rattle.scheme_model.proofs.FrameTimes.{entered_more, definitions_same, frames_later}
 use Rattle.scheme_model.proofs.FrameAsks.{AllOf, all_of_more, BindersCounted}
 use Rattle.scheme_model.proofs.FrameStates.{Fine, FineState, Grows, grows_then, Stands, binders_more, names_far, next_new, next_old}
 use Rattle.scheme_model.proofs.FrameGrowth.{used_state, use_grows, use_fine, around_new}

@@ -12,7 +12,8 @@ use Rattle.scheme_model.specs.Steps.{Broken, Step, ◌>>=◌, done, fails}
 use Rattle.scheme_model.specs.Order.{Here, Form, Item, Note, Pending, Pass, Going, Transformer, binder_at, counting, given, told, forms_at, put, first, caught, splice, read_then, max_nodes}
 use Rattle.scheme_model.specs.Substitution.{State, Clock, at_form, form_map, item_map, note_map, pending_map, model}
 use Rattle.scheme_model.specs.ScopedExpansion.{Frames, Place, ScopedState, next_number, means_at, macro_at, scoped}
-use Rattle.scheme_model.specs.OpenBodies.{Before, Entered, Below}
+use Rattle.scheme_model.specs.OpenBodies.{Entered}
+use Rattle.scheme_model.proofs.FrameEras.{Era, Before, Below}
 use Rattle.scheme_model.proofs.IdentKinds.{Kind, rules_kind, pointwise, faults_fused}
 use Rattle.scheme_model.proofs.FrameNames.{erase_frame_image}
 use Rattle.scheme_model.proofs.FrameAsks.{AllOf, BindersCounted}
@@ -27,7 +28,7 @@ use Rattle.scheme_model.proofs.FrameHeld.{NoteAll, FormAll, ItemHeld, ItemsHeld,
 -- Inside holds of the states in which the place's forms are gone through, Trail joins an earlier and a later one; Leaf holds of an
 -- identifier that stands there, PlaceIn of one that was noted, RuleLeaf of one in the rules of a macro; Ended of the notes where a
 -- fault ends the pass.
-module _ (w : ℕ) (known : Known) (fs : Frames) (Inside : ScopedState → Bool → List Number → Type 0) (Trail : ScopedState → ScopedState → Type 0) (Leaf : ScopedState → Ident → Type 0) (PlaceIn : ScopedState → Place → Type 0) (RuleLeaf : ScopedState → Transformer Frames Ident → Ident → Type 0) (Ended : ScopedState → List (Note Place) → List (Note Name) → Type 0) where
+module _ (w : Era) (known : Known) (fs : Frames) (Inside : ScopedState → Bool → List Number → Type 0) (Trail : ScopedState → ScopedState → Type 0) (Leaf : ScopedState → Ident → Type 0) (PlaceIn : ScopedState → Place → Type 0) (RuleLeaf : ScopedState → Transformer Frames Ident → Ident → Type 0) (Ended : ScopedState → List (Note Place) → List (Note Name) → Type 0) where
   -- what the definition's side has of what is left
   abbrev pub seen_pending : ScopedState → Pending Ident Place → Pending Name Name
   seen_pending t p = pending_map (names t fs) (placed t) p

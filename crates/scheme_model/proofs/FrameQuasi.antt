@@ -15,14 +15,13 @@ use Rattle.scheme_model.specs.Expression.{whole, node, each_of, mark_of, symbol_
 use Rattle.scheme_model.specs.Substitution.{Clock, model}
 use Rattle.scheme_model.specs.ScopedExpansion.{Frames, ScopedState, scoped}
 use Rattle.scheme_model.specs.Renaming.{pieces_map}
-use Rattle.scheme_model.specs.OpenBodies.{Below}
+use Rattle.scheme_model.proofs.FrameEras.{Era, Below, below_more}
 use Rattle.scheme_model.proofs.RenamingLaws.{Reads, then_map, map_after}
 use Rattle.scheme_model.proofs.ShapeLaws.{one_of-map}
 use Rattle.scheme_model.proofs.QuasiLaws.{quasi_of-map}
 use Rattle.scheme_model.proofs.ScopeLaws.{map_map, map_same}
 use Rattle.scheme_model.proofs.IdentKinds.{Kind, map_twice}
 use Rattle.scheme_model.proofs.FrameNames.{strip_frame_image}
-use Rattle.scheme_model.proofs.FrameTimes.{below_more}
 use Rattle.scheme_model.proofs.FrameAsks.{AllOf, all_of_more}
 use Rattle.scheme_model.proofs.FrameStates.{names, view, Old, ident_of, Made, FineState, Grows, Stands, stands_later, names_later}
 use Rattle.scheme_model.proofs.FrameLeaves.{TreeAll, TreesAll, TailAll, tree_more, tree_same, lift_trees, lift_tail, lifted_trees, lifted_tail, all_held}
@@ -61,7 +60,7 @@ pieces_fused A B C g f p =
 abbrev pub pieces_kind : Kind
 pieces_kind = record { of = Pieces; map = λ A B f p. pieces_map f p; fused = pieces_fused }
 
-module _ (w : ℕ) (known : Known) (F : Scoped w known) (G : Modelled w known) (law : WholeLaw w known F G) where
+module _ (w : Era) (known : Known) (F : Scoped w known) (G : Modelled w known) (law : WholeLaw w known F G) where
   abbrev HolesOld : Clock → List (Tree Ident) → Type 0
   HolesOld u ts = AllOf (TreeAll (Below w u)) ts
 

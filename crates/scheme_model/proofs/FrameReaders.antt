@@ -11,7 +11,7 @@ use Rattle.scheme_model.specs.Order.{Here, given, RulesParts}
 use Rattle.scheme_model.specs.Substitution.{Clock}
 use Rattle.scheme_model.specs.ScopedExpansion.{Frames, ScopedState}
 use Rattle.scheme_model.specs.Renaming.{Renames, formals_map}
-use Rattle.scheme_model.specs.OpenBodies.{Below}
+use Rattle.scheme_model.proofs.FrameEras.{Era, Below, below_more}
 use Rattle.scheme_model.proofs.RenamingLaws.{Reads}
 use Rattle.scheme_model.proofs.ShapeLaws.{one_of-map, some_of-map, proper_of-map, if_of-map, lambda_of-map, case_lambda_of-map, named_tree_of-map, definition_of-map, values_of-map, record_of-map, local_macros_of-map, error_text_of-map}
 use Rattle.scheme_model.proofs.RequirementLaws.{chosen_of-map}
@@ -19,7 +19,6 @@ use Rattle.scheme_model.proofs.RulesLaws.{rules_of-map}
 use Rattle.scheme_model.proofs.ScopeLaws.{map_map, map_map_all, map_map_tail}
 use Rattle.scheme_model.proofs.IdentKinds.{Kind, map_twice, tree_kind, trees_kind, clause_kind, clauses_kind, definition_kind, record_kind, local_macros_kind, rules_kind, formals_fused}
 use Rattle.scheme_model.proofs.Clocks.{leq_itself}
-use Rattle.scheme_model.proofs.FrameTimes.{below_more}
 use Rattle.scheme_model.proofs.FrameStates.{names, view, Old, ident_of, Made, FineState}
 use Rattle.scheme_model.proofs.FrameLeaves.{TreesAll, TailAll, lift_trees, lift_tail, lifted_trees, lifted_tail}
 use Rattle.scheme_model.proofs.FrameAgrees.{Agrees, Keeps, Seen, read_both}
@@ -107,7 +106,7 @@ identifiers = record { same = same_ident; strip = symbol_of }
 abbrev pub model_names : Names Name
 model_names = record { same = same_name; strip = strip }
 
-module _ (w : ℕ) where
+module _ (w : Era) where
   -- what was made by then, over the clock of now
   abbrev weaken : (k : Kind) (u : Clock) (x : k.of Ident) (m : Made k w u x) → k.of (Old w u)
   weaken k u x m = k.map (Old w m.clock) (Old w u) (λ p. (p.0, below_more w m.clock u m.earlier p.0 p.1)) m.made

@@ -8,12 +8,14 @@ use Rattle.scheme_model.specs.Order.{is_some}
 use Rattle.scheme_model.specs.Substitution.{Table, Entries, Clock, at_form, defined_in, is_plain, meaning, KeptMacro, State}
 use Rattle.scheme_model.specs.ScopedExpansion.{Bind, Enter, Frames, BodyDefinition, BodyDefinitions, UsePlace, ScopedMacro, ScopedState, around, next_number, means_at}
 use Rattle.scheme_model.specs.FrameImages.{image_outside, frame_image, DefinesOutside}
-use Rattle.scheme_model.specs.OpenBodies.{Before, Below, DefinitionsBelow, Entered, FramesOk, Leq, NotYet}
+use Rattle.scheme_model.specs.OpenBodies.{Before as Counted, DefinitionsBelow, Entered, FramesOk, Leq, NotYet}
 use Rattle.scheme_model.proofs.IdentKinds.{Kind, mapped_same, rules_kind}
-use Rattle.scheme_model.proofs.Clocks.{leq_itself, leq_then, before_more, numbered, next_not_yet, next_counted}
+use Rattle.scheme_model.proofs.Clocks.{leq_itself, leq_then, before_more as counted_more, numbered, next_not_yet, next_counted}
 use Rattle.scheme_model.proofs.FrameNames.{meaning_frame_image}
-use Rattle.scheme_model.proofs.FrameTimes.{entered_more, SameFind, below_more, SamePlaces, image_places, image_definitions, frames_entered, frames_later}
+use Rattle.scheme_model.proofs.FrameTimes.{entered_more, SameFind, SamePlaces, image_places, image_definitions, frames_later}
+use Rattle.scheme_model.proofs.FrameEras.{Era, Before, Below, unit_worked, before_more, below_more, below_counted, entered_counted, frames_entered}
 use Rattle.scheme_model.proofs.FrameAsks.{AllOf, all_of_more, MeansCounted, GivenCounted, BindersCounted, DefinitionsCounted}
+use Rattle.scheme_model.proofs.FrameRoots.{UnitMacro}
 
 -- ---- the view
 
@@ -45,23 +47,23 @@ view in_body mine s = record {
 
 -- ---- structures whose identifiers were made by then
 
-abbrev pub Old : ℕ → Clock → Type 0
+abbrev pub Old : Era → Clock → Type 0
 Old w u = (i : Ident) × Below w u i
 
-abbrev pub ident_of : (w : ℕ) (u : Clock) → Old w u → Ident
+abbrev pub ident_of : (w : Era) (u : Clock) → Old w u → Ident
 ident_of w u p = p.0
 
-pub record Made (k : Kind) (w : ℕ) (u : Clock) (x : k.of Ident) : Type 0 where
+pub record Made (k : Kind) (w : Era) (u : Clock) (x : k.of Ident) : Type 0 where
   pub clock : Clock
   pub earlier : Leq clock u
   pub made : k.of (Old w clock)
   pub same : k.map (Old w clock) Ident (ident_of w clock) made ≡ x
 
-pub made_later : (k : Kind) (w : ℕ) (u v : Clock) → Leq u v → (x : k.of Ident) → Made k w u x → Made k w v x
+pub made_later : (k : Kind) (w : Era) (u v : Clock) → Leq u v → (x : k.of Ident) → Made k w u x → Made k w v x
 made_later k w u v le x m = record { clock = m.clock; earlier = leq_then m.clock u v m.earlier le; made = m.made; same = m.same }
 
 -- maps that agree on what was made by then
-pub made_same : (k : Kind) (w : ℕ) (u : Clock) (f g : Ident → Name) → ((i : Ident) → Below w u i → f i ≡ g i) → (x : k.of Ident) → Made k w u x → k.map Ident Name f x ≡ k.map Ident Name g x
+pub made_same : (k : Kind) (w : Era) (u : Clock) (f g : Ident → Name) → ((i : Ident) → Below w u i → f i ≡ g i) → (x : k.of Ident) → Made k w u x → k.map Ident Name f x ≡ k.map Ident Name g x
 made_same k w u f g e x m =
     ap (k.map Ident Name f) (sym m.same)
     ∙ k.fused (Old w m.clock) Ident Name f (ident_of w m.clock) m.made
@@ -71,7 +73,7 @@ made_same k w u f g e x m =
 
 -- ---- what holds of a state
 
-module _ (w : ℕ) where
+module _ (w : Era) where
   -- a macro of a unit w: where it was defined, and what its rules are made of
   pub record MacroFine (l u b : Clock) (k : ScopedMacro) : Type 0 where
     pub entered : Entered (Before w b) k.frames
@@ -80,10 +82,12 @@ module _ (w : ℕ) where
     pub meaning : MeansCounted w l k.meaning
 
   pub record Fine (l u b : Clock) (table : Table) (entry : Entries) (ms : List ScopedMacro) (ps : List UsePlace) (ds : BodyDefinitions) : Type 0 where
-    pub definitions : DefinitionsBelow w ds u b
+    pub definitions : DefinitionsBelow w.unit ds u b
     pub bodies : AllOf (λ (d : BodyDefinition). Before w b d.body) ds
+    pub idents : AllOf (λ (d : BodyDefinition). Below w u d.ident) ds
     pub entered : (k : Number) → Entered (Before w b) (around ps k)
     pub macros : AllOf (MacroFine l u b) ms
+    pub stands : AllOf (UnitMacro w u ps) ms
     -- what units define was made before, where nothing local is around
     pub outside : (v : ℕ) (i : Ident) → is_some (defined_in table v i) ≡ true → Below w u i × ((es : BodyDefinitions) → is_plain (image_outside ps i es) ≡ true)
     pub binders : DefinitionsCounted w l ds
@@ -91,15 +95,15 @@ module _ (w : ℕ) where
     pub entries : (v : ℕ) (s : List ℕ) → GivenCounted w l (entry v s)
 
   abbrev pub FineState : ScopedState → Type 0
-  FineState s = (s.unit ≡ w) × Fine s.locals s.uses s.bodies s.table s.entry s.macros s.places s.definitions
+  FineState s = (s.unit ≡ w.unit) × Fine s.locals s.uses s.bodies s.table s.entry s.macros s.places s.definitions
 
   -- a later state: what was there is as it was
   pub record Later (u b l : Clock) (ps : List UsePlace) (ds : BodyDefinitions) (u' b' l' : Clock) (ps' : List UsePlace) (ds' : BodyDefinitions) : Type 0 where
     pub uses : Leq u u'
     pub bodies : Leq b b'
     pub locals : Leq l l'
-    pub places : SamePlaces w u ps ps'
-    pub definitions : SameFind (Before w b) ds ds'
+    pub places : SamePlaces w.unit u ps ps'
+    pub definitions : SameFind (Counted w.unit b) ds ds'
 
   abbrev pub Grows : ScopedState → ScopedState → Type 0
   Grows s t = Later s.uses s.bodies s.locals s.places s.definitions t.uses t.bodies t.locals t.places t.definitions
@@ -112,8 +116,8 @@ module _ (w : ℕ) where
     uses = leq_then s.uses t.uses v.uses g.uses h.uses;
     bodies = leq_then s.bodies t.bodies v.bodies g.bodies h.bodies;
     locals = leq_then s.locals t.locals v.locals g.locals h.locals;
-    places = λ k e. g.places k e ∙ h.places k (before_more w s.uses t.uses g.uses k e);
-    definitions = λ b i e. g.definitions b i e ∙ h.definitions b i (before_more w s.bodies t.bodies g.bodies b e);
+    places = λ k e. g.places k e ∙ h.places k (counted_more w.unit s.uses t.uses g.uses k e);
+    definitions = λ b i e. g.definitions b i e ∙ h.definitions b i (counted_more w.unit s.bodies t.bodies g.bodies b e);
   }
 
   pub outside_of : (s : ScopedState) → FineState s → DefinesOutside s.table s.places
@@ -132,15 +136,16 @@ module _ (w : ℕ) where
 
   -- where an expression stands
   abbrev pub Stands : ScopedState → Frames → Type 0
-  Stands s fs = FramesOk w s.definitions s.uses s.bodies fs × BindersCounted w s.locals fs
+  Stands s fs = FramesOk w.unit s.definitions s.uses s.bodies fs × BindersCounted w s.locals fs
 
   pub stands_later : (s t : ScopedState) → Grows s t → (fs : Frames) → Stands s fs → Stands t fs
-  stands_later s t g fs h = (frames_later w s.definitions t.definitions s.uses s.bodies t.uses t.bodies g.definitions g.uses g.bodies fs h.0, binders_more s.locals t.locals g.locals fs h.1)
+  stands_later s t g fs h = (frames_later w.unit s.definitions t.definitions s.uses s.bodies t.uses t.bodies g.definitions g.uses g.bodies fs h.0, binders_more s.locals t.locals g.locals fs h.1)
 
   pub names_far : (s t : ScopedState) → FineState s → Grows s t → (fs : Frames) → Entered (Before w s.bodies) fs → (i : Ident) → Below w s.uses i → names s fs i ≡ names t fs i
   names_far s t f g fs e i l =
-      image_definitions w s.uses (Before w s.bodies) s.places s.definitions t.definitions (λ k h. f.1.entered k) g.definitions fs e i l
-      ∙ image_places w s.uses s.places t.places t.definitions fs g.places i l
+      let p = below_counted w s.uses i l in
+      image_definitions w.unit s.uses (Counted w.unit s.bodies) s.places s.definitions t.definitions (λ k h. entered_counted w s.bodies (around s.places k) (f.1.entered k)) g.definitions fs (entered_counted w s.bodies fs e) i p
+      ∙ image_places w.unit s.uses s.places t.places t.definitions fs g.places i p
 
   pub names_later : (s t : ScopedState) → FineState s → Grows s t → (fs : Frames) → Stands s fs → (i : Ident) → Below w s.uses i → names s fs i ≡ names t fs i
   names_later s t f g fs h i l = names_far s t f g fs (frames_entered w s.definitions s.uses s.bodies fs h.0) i l
@@ -178,8 +183,10 @@ module _ (w : ℕ) where
     record {
       definitions = f.1.definitions;
       bodies = f.1.bodies;
+      idents = f.1.idents;
       entered = f.1.entered;
       macros = macro_more s.locals s.uses s.bodies n s.uses s.bodies le (leq_itself s.uses) (leq_itself s.bodies) s.macros f.1.macros;
+      stands = f.1.stands;
       outside = f.1.outside;
       binders = definitions_more s.locals n le s.definitions f.1.binders;
       places = λ k. binders_more s.locals n le (around s.places k) (f.1.places k);
@@ -191,14 +198,16 @@ module _ (w : ℕ) where
   locals_grow s n le = record { uses = leq_itself s.uses; bodies = leq_itself s.bodies; locals = le; places = λ k h. refl; definitions = λ b i h. refl }
 
   -- the rules of a macro are kept
-  pub macro_fine : (s : ScopedState) (k : ScopedMacro) → MacroFine s.locals s.uses s.bodies k → FineState s → FineState (record s { macros = k ∷ s.macros })
-  macro_fine s k m f = (
+  pub macro_fine : (s : ScopedState) (k : ScopedMacro) → MacroFine s.locals s.uses s.bodies k → UnitMacro w s.uses s.places k → FineState s → FineState (record s { macros = k ∷ s.macros })
+  macro_fine s k m q f = (
     f.0,
     record {
       definitions = f.1.definitions;
       bodies = f.1.bodies;
+      idents = f.1.idents;
       entered = f.1.entered;
       macros = (m, f.1.macros);
+      stands = (q, f.1.stands);
       outside = f.1.outside;
       binders = f.1.binders;
       places = f.1.places;
@@ -208,11 +217,11 @@ module _ (w : ℕ) where
 
   -- ---- the next number of a form
 
-  next_is : (s : ScopedState) → FineState s → (n : Clock) → next_number s n ≡ numbered w s.form n
+  next_is : (s : ScopedState) → FineState s → (n : Clock) → next_number s n ≡ numbered w.unit s.form n
   next_is s f n = ap (λ (v : ℕ). numbered v s.form n) f.0
 
-  pub next_new : (s : ScopedState) → FineState s → (n : Clock) → NotYet w n (next_number s n)
-  next_new s f n = subst (NotYet w n) (sym (next_is s f n)) (next_not_yet w s.form n)
+  pub next_new : (s : ScopedState) → FineState s → (n : Clock) → NotYet w.unit n (next_number s n)
+  next_new s f n = subst (NotYet w.unit n) (sym (next_is s f n)) (next_not_yet w.unit s.form n)
 
   pub next_old : (s : ScopedState) → FineState s → (n : Clock) → Before w (at_form s.form suc n) (next_number s n)
-  next_old s f n = subst (Before w (at_form s.form suc n)) (sym (next_is s f n)) (next_counted w s.form n)
+  next_old s f n = (subst (Counted w.unit (at_form s.form suc n)) (sym (next_is s f n)) (next_counted w.unit s.form n), unit_worked w s.unit f.0)

@@ -14,6 +14,7 @@ use Rattle.scheme_model.specs.Steps.{Broken, Step, ◌>>=◌, done, fails}
 use Rattle.scheme_model.specs.Order.{Here, Macro, Note, LookedUp, Pending, Pass, Transformer, head_of, binder_at, counting, given, told, put, noted, caught, RulesParts, rules_parts_of, is_rules, rules_parts, rules_note, rules_at, max_nodes, run_syntax}
 use Rattle.scheme_model.specs.Substitution.{State, Clock, at_form, note_map, model}
 use Rattle.scheme_model.specs.ScopedExpansion.{Frames, Place, ScopedState, scoped}
+use Rattle.scheme_model.proofs.FrameEras.{Era}
 use Rattle.scheme_model.proofs.RenamingLaws.{size-map}
 use Rattle.scheme_model.proofs.IdentKinds.{Kind, rules_kind, pointwise, faults_fused}
 use Rattle.scheme_model.proofs.FrameNames.{erase_frame_image}
@@ -46,7 +47,7 @@ parts_held P (list (tree (vector us p) ts) tail o) l = tt
 head_held : (P : Ident → Type 0) (r : RulesParts Ident) → Held parts_kind P r → P r.head
 head_held P r h = subst (λ (x : RulesParts Ident). P x.head) h.same h.made.head.1
 
-module _ (w : ℕ) (known : Known) (fs : Frames) (Inside : ScopedState → Bool → List Number → Type 0) (Trail : ScopedState → ScopedState → Type 0) (Leaf : ScopedState → Ident → Type 0) (PlaceIn : ScopedState → Place → Type 0) (RuleLeaf : ScopedState → Transformer Frames Ident → Ident → Type 0) (Ended : ScopedState → List (Note Place) → List (Note Name) → Type 0)
+module _ (w : Era) (known : Known) (fs : Frames) (Inside : ScopedState → Bool → List Number → Type 0) (Trail : ScopedState → ScopedState → Type 0) (Leaf : ScopedState → Ident → Type 0) (PlaceIn : ScopedState → Place → Type 0) (RuleLeaf : ScopedState → Transformer Frames Ident → Ident → Type 0) (Ended : ScopedState → List (Note Place) → List (Note Name) → Type 0)
     (facts : PlaceFacts w known fs Inside Trail Leaf PlaceIn RuleLeaf Ended) (f : CodeGo w known fs Inside Trail Leaf PlaceIn RuleLeaf Ended) (g : ModelGo w known fs Inside Trail Leaf PlaceIn RuleLeaf Ended) (law : RunLaw w known fs Inside Trail Leaf PlaceIn RuleLeaf Ended f g) (here : Here) where
   abbrev seen : ScopedState → Pending Ident Place → Pending Name Name
   seen t p = seen_pending w known fs Inside Trail Leaf PlaceIn RuleLeaf Ended t p

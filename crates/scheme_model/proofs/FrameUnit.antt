@@ -13,14 +13,13 @@ use Rattle.scheme_model.specs.Substitution.{State, Table, Entries, Defined, Cloc
 use Rattle.scheme_model.specs.Scopes.{own_of, imported_as, defined_or, given_or}
 use Rattle.scheme_model.specs.ScopedExpansion.{Frames, BodyDefinitions, UsePlace, Place, ScopedMacro, ScopedState, around, next_number, means_inside, means_outside, means_at, macro_at, macro_added, definition_added, refused_now, define_at}
 use Rattle.scheme_model.specs.FrameImages.{image_inside, image_outside}
-use Rattle.scheme_model.specs.OpenBodies.{Below}
 use Rattle.scheme_model.specs.NewUnits.{NoLocal, GivenNoLocal}
 use Rattle.scheme_model.specs.LaterUnits.{AtRoot}
+use Rattle.scheme_model.proofs.FrameEras.{Era, Below, below_more}
 use Rattle.scheme_model.proofs.IdentLaws.{ident_told}
 use Rattle.scheme_model.proofs.IdentKinds.{rules_kind}
 use Rattle.scheme_model.proofs.Clocks.{leq_counted}
 use Rattle.scheme_model.proofs.FrameNames.{erase_frame_image}
-use Rattle.scheme_model.proofs.FrameTimes.{below_more}
 use Rattle.scheme_model.proofs.FrameAsks.{AllOf, all_of_more}
 use Rattle.scheme_model.proofs.FrameStates.{names, view, seen_macro, FineState, Grows, grows_itself, grows_then, MacroFine, names_mean, names_later, locals_fine, locals_grow}
 use Rattle.scheme_model.proofs.FrameGrowth.{used_state, use_grows, use_fine, inserted_below, around_new}
@@ -56,7 +55,7 @@ module _ (table : Table) (entry : Entries) (entries : (u : ℕ) (s : List ℕ) �
       given_no (own_of table entry k.unit (Inserted i k)) (means_inside ds (around ps k) i (means_outside table entry ps ds i)) (own_no k.unit (Inserted i k))
       (subst (λ (fs : Frames). NoLocal (means_inside ds fs i (means_outside table entry ps ds i))) (sym h.0) (means_no ps ds i h.1))
 
-module _ (w : ℕ) (known : Known) where
+module _ (w : Era) (known : Known) where
   -- what stands in a unit
   abbrev pub Rooted : Clock → List UsePlace → Ident → Type 0
   Rooted u ps i = Below w u i × AtRoot ps i

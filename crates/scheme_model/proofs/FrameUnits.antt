@@ -11,9 +11,9 @@ use Rattle.scheme_model.specs.Expression.{Expander, expand, item_part, parts}
 use Rattle.scheme_model.specs.UnitExpansion.{Formed, max_depth, passes, from_items, finished, unit}
 use Rattle.scheme_model.specs.Substitution.{State, Clock, item_map, note_map, model}
 use Rattle.scheme_model.specs.ScopedExpansion.{Frames, Place, ScopedState, scoped}
-use Rattle.scheme_model.specs.OpenBodies.{Leq, Below}
+use Rattle.scheme_model.specs.OpenBodies.{Leq}
+use Rattle.scheme_model.proofs.FrameEras.{Era, Below, below_more}
 use Rattle.scheme_model.proofs.IdentKinds.{item_kind}
-use Rattle.scheme_model.proofs.FrameTimes.{below_more}
 use Rattle.scheme_model.proofs.FrameAsks.{AllOf, all_of_more}
 use Rattle.scheme_model.proofs.FrameStates.{names, view, FineState, Grows, grows_itself, grows_then, names_later}
 use Rattle.scheme_model.proofs.FrameLeaves.{TreeAll, tree_more, tree_same, held_more, held_same, held_made}
@@ -42,7 +42,7 @@ set_seen f r = (r.0, aside_seen f r.1)
 abbrev pub form_seen : (Ident → Name) → ℕ × Tree Ident → ℕ × Tree Name
 form_seen f t = (t.0, map_tree f t.1)
 
-module _ (w : ℕ) where
+module _ (w : Era) where
   abbrev pub AsideMade : Clock → Aside Ident → Type 0
   AsideMade u (Ok xs) = AllOf (ItemHeld (Below w u)) xs
   AsideMade u (Err e) = Unit {0}
@@ -64,7 +64,7 @@ module _ (w : ℕ) where
   sets_same : (u : Clock) (f g : Ident → Name) → ((i : Ident) → Below w u i → f i ≡ g i) → (rs : List (ℕ × Aside Ident)) → AllOf (SetMade u) rs → map (set_seen f) rs ≡ map (set_seen g) rs
   sets_same u f g e rs h = all_same (SetMade u) (set_seen f) (set_seen g) (λ r q. ap (λ (x : Aside Name). (r.0, x)) (aside_same u f g e r.1 q)) rs h
 
-module _ (w : ℕ) (known : Known) where
+module _ (w : Era) (known : Known) where
   abbrev pub FormHeld : ScopedState → ℕ × Tree Ident → Type 0
   FormHeld s t = TreeAll (UnitLeaf w known s) t.1
 

@@ -11,6 +11,7 @@ use Rattle.scheme_model.specs.Order.{Transformer, Compared, comparisons}
 use Rattle.scheme_model.specs.Substitution.{meaning, note_map, model}
 use Rattle.scheme_model.specs.ScopedExpansion.{Frames, Place, ScopedState, means_at, scoped}
 use Rattle.scheme_model.specs.Renaming.{Renames, pair_map}
+use Rattle.scheme_model.proofs.FrameEras.{Era}
 use Rattle.scheme_model.proofs.RenamingLaws.{map_turned}
 use Rattle.scheme_model.proofs.RulesLaws.{role_of-map, dots_of-map}
 use Rattle.scheme_model.proofs.CompareLaws.{compared-map}
@@ -28,7 +29,7 @@ named_in s fs = record { same = same_frame_image s.places s.definitions fs; stri
 abbrev pub placed : ScopedState → Place → Name
 placed s p = names s p.frames p.ident
 
-module _ (w : ℕ) (known : Known) (s : ScopedState) (f : FineState w s) (in_body : Bool) (mine : List Number) where
+module _ (w : Era) (known : Known) (s : ScopedState) (f : FineState w s) (in_body : Bool) (mine : List Number) where
   pub comparisons_seen : (fs : Frames) (m : Transformer Frames Ident) (ts : Trees Ident) (tail : Tail Ident)
       → comparisons (model known) tt (seen_transformer s.places s.definitions m) (map_trees (names s fs) ts) (map_tail (names s fs) tail) (view in_body mine s) ≡ map (note_map (placed s)) (comparisons (scoped known) fs m ts tail s)
   comparisons_seen fs m ts tail =

@@ -12,7 +12,8 @@ use Rattle.scheme_model.specs.Order.{Here, Pass, here_at, forms_at, run}
 use Rattle.scheme_model.specs.Expression.{expression, item_part, parts, items_of, body_in, body_core, expand}
 use Rattle.scheme_model.specs.Substitution.{State, is_own, model}
 use Rattle.scheme_model.specs.ScopedExpansion.{Frames, BodyDefinition, BodyDefinitions, Place, ScopedMacro, ScopedState, around, next_number, scoped}
-use Rattle.scheme_model.specs.OpenBodies.{Before, Below, Sits}
+use Rattle.scheme_model.specs.OpenBodies.{Sits}
+use Rattle.scheme_model.proofs.FrameEras.{Era, Before, Below}
 use Rattle.scheme_model.proofs.IdentKinds.{item_kind, rules_kind}
 use Rattle.scheme_model.proofs.Clocks.{leq_itself, apart}
 use Rattle.scheme_model.proofs.ScopeLaws.{map_map_all}
@@ -110,7 +111,7 @@ module _ (known : Known) (s0 : ScopedState) (f0 : Fine s0.unit s0.locals s0.uses
 
 -- ---- any task
 
-module _ (w : ℕ) (known : Known) where
+module _ (w : Era) (known : Known) where
   -- a body of any state of the unit
   body_at : (F : Scoped w known) (G : Modelled w known) → WholeLaw w known F G → BodyLaw w known F G → (turns : ℕ) (depth : ℕ) (here : Here) (fs : Frames) (ts : Trees Ident) (s : ScopedState) → s.unit ≡ w → FineState w s → (i : Bool) (n : List Number) → Stands w s fs → TreesAll (Below w s.uses) ts
       → Same w s (body_core F (scoped known) turns depth here fs ts s) (body_core G (model known) turns depth here tt (map_trees (names s fs) ts) (view i n s))

@@ -17,7 +17,9 @@ pub mod FrameNames
 pub mod FrameTimes
 pub mod FrameBodies
 pub mod FrameDefines
+pub mod FrameEras
 pub mod FrameAsks
+pub mod FrameRoots
 pub mod FrameComing
 pub mod FrameStates
 pub mod FrameGrowth
