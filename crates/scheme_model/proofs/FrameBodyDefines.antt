@@ -1,5 +1,5 @@
 -- A definition in an open body: both sides refuse it for the same reason, or define it alike.
-use Rattle.std.proofs.Common.{◌≡◌, ◌⊎◌, inl, inr, List, [], ◌∷◌, map, Bool, true, false, cond, Option, Some, None, refl, sym, ap, ◌∙◌, subst}
+use Rattle.std.proofs.Common.{◌≡◌, ℕ, ◌⊎◌, inl, inr, List, [], ◌∷◌, map, Bool, true, false, cond, Option, Some, None, refl, sym, ap, ◌∙◌, subst}
 use Rattle.std.specs.Prelude.{◌&&◌, ◌||◌}
 use Rattle.scheme_model.specs.Identifiers.{Number, same_number, Name}
 use Rattle.scheme_model.specs.Ident.{Ident, Written, Inserted, same_ident}
@@ -12,7 +12,7 @@ use Rattle.scheme_model.specs.Scopes.{defined_or}
 use Rattle.scheme_model.specs.ScopedExpansion.{Frames, BodyDefinitions, Place, ScopedMacro, ScopedState, find, next_number, means_inside, means_outside, means_at}
 use Rattle.scheme_model.specs.FrameImages.{is_before, is_older, entered_as, before_definition, image_inside, image_outside, frame_image}
 use Rattle.scheme_model.specs.OpenBodies.{NotYet, Entered, PlacesIn, DefinitionsBelow, FramesOk, Other}
-use Rattle.scheme_model.proofs.FrameEras.{Era, Before}
+use Rattle.scheme_model.proofs.FrameEras.{Before, below_counted}
 use Rattle.scheme_model.proofs.RenamingLaws.{map_after}
 use Rattle.scheme_model.proofs.IdentLaws.{number_itself}
 use Rattle.scheme_model.proofs.IdentKinds.{rules_kind, form_fused, item_fused, rules_fused}
@@ -21,7 +21,7 @@ use Rattle.scheme_model.proofs.FrameBodies.{raw}
 use Rattle.scheme_model.proofs.FrameDefines.{same_elsewhere, far, defined_image}
 use Rattle.scheme_model.proofs.FrameAsks.{AllOf, meaning_deep, MeansCounted, not_next, inside_counted, outside_counted, BindersCounted}
 use Rattle.scheme_model.proofs.FrameComing.{comes_outside, comes_to, Unasked, asks_far, asks_image, outside_far, means_with}
-use Rattle.scheme_model.proofs.FrameStates.{names, seen_macro, Fine, Stands, MacroFine, binders_more, names_mean, next_new}
+use Rattle.scheme_model.proofs.FrameStates.{era, names, seen_macro, Fine, Stands, MacroFine, binders_more, names_mean, next_new}
 use Rattle.scheme_model.proofs.FrameLeaves.{Held, held_same}
 use Rattle.scheme_model.proofs.FrameUses.{placed}
 use Rattle.scheme_model.proofs.FrameHeld.{NoteAll, PendingHeld, pending_same}
@@ -63,18 +63,18 @@ or_true : (z : Bool) → (z || true) ≡ true
 or_true true = refl
 or_true false = refl
 
-module _ (known : Known) (s0 : ScopedState) (f0 : Fine s0.unit s0.locals s0.uses s0.bodies s0.table s0.entry s0.macros s0.places s0.definitions) (c : Frames) (st0 : Stands s0.unit s0 c) (t : ScopedState) (o : Opened known s0 f0 c st0 t) (x : Ident) where
+module _ (worked : ℕ → Bool) (known : Known) (s0 : ScopedState) (f0 : Fine (era worked s0) s0.locals s0.uses s0.bodies s0.table s0.entry s0.macros s0.places s0.definitions) (c : Frames) (st0 : Stands (era worked s0) s0 c) (t : ScopedState) (o : Opened worked known s0 f0 c st0 t) (x : Ident) where
   abbrev body : Number
-  body = b known s0 f0 c st0
+  body = b worked known s0 f0 c st0
 
   abbrev frames : Frames
-  frames = home known s0 f0 c st0
+  frames = home worked known s0 f0 c st0
 
   abbrev mine : BodyDefinitions → List Number
-  mine ds = mine_of known s0 f0 c st0 ds
+  mine ds = mine_of worked known s0 f0 c st0 ds
 
   abbrev Stood : ScopedState → Place → Type 0
-  Stood v l = PlaceIn known s0 f0 c st0 v l
+  Stood v l = PlaceIn worked known s0 f0 c st0 v l
 
   abbrev X : Name
   X = names t frames x
@@ -86,32 +86,32 @@ module _ (known : Known) (s0 : ScopedState) (f0 : Fine s0.unit s0.locals s0.uses
   later = record { body = body; ident = x; binder = v } ∷ t.definitions
 
   in_places : PlacesIn s0.unit s0.uses (Other body) t.places
-  in_places = places_in known s0 f0 c st0 t o
+  in_places = places_in worked known s0 f0 c st0 t o
 
   is_young : NotYet s0.unit s0.bodies body
-  is_young = young known s0 f0 c st0
+  is_young = young worked known s0 f0 c st0
 
   in_definitions : DefinitionsBelow s0.unit t.definitions s0.uses s0.bodies
-  in_definitions = definitions_in known s0 f0 c st0 t o
+  in_definitions = definitions_in worked known s0 f0 c st0 t o
 
   in_frames : FramesOk s0.unit t.definitions s0.uses s0.bodies c
-  in_frames = frames_in known s0 f0 c st0 t o
+  in_frames = frames_in worked known s0 f0 c st0 t o
 
-  other : (fs : Frames) → Entered (Before s0.unit s0.bodies) fs → Entered (Other body) fs
-  other fs e = entered_other known s0 f0 c st0 fs e
+  other : (fs : Frames) → Entered (Before (era worked s0) s0.bodies) fs → Entered (Other body) fs
+  other fs e = entered_other worked known s0 f0 c st0 fs e
 
   -- ---- what asks x
 
   asks_place : (l : Place) → Stood t l → asks X (placed t l) ≡ comes_to body x t.places t.definitions l.frames l.ident
   asks_place l (inl q) = subst (λ (fs : Frames). asks X (frame_image t.places t.definitions fs l.ident) ≡ comes_to body x t.places t.definitions fs l.ident) (sym q.0) (asks_image body s0.uses c t.places t.definitions s0.bodies in_places is_young in_definitions in_frames x l.ident q.1.1)
-  asks_place l (inr q) = asks_far body s0.uses c t.places t.definitions s0.bodies in_places is_young in_definitions in_frames x l.frames (other l.frames q.0) l.ident q.1
+  asks_place l (inr q) = asks_far body s0.uses c t.places t.definitions s0.bodies in_places is_young in_definitions in_frames x l.frames (other l.frames q.0) l.ident (below_counted (era worked s0) s0.uses l.ident q.1)
 
   unasked : Unasked body x v t.definitions t.table t.entry t.places
   unasked k i = go (defined_in t.table k.unit (Inserted i k)) refl
     where
       go : (d : Option Defined) → defined_in t.table k.unit (Inserted i k) ≡ d → (defined_or d k.unit (Inserted i k) None ≡ None) ⊎ (comes_outside body x t.places t.definitions (Inserted i k) ≡ false)
       go None e = inl refl
-      go (Some d) e = inr (outside_far body s0.uses c t.places t.definitions s0.bodies in_places is_young in_definitions in_frames x (Inserted i k) (o.table k.unit (Inserted i k) (ap is_some e)))
+      go (Some d) e = inr (outside_far body s0.uses c t.places t.definitions s0.bodies in_places is_young in_definitions in_frames x (Inserted i k) (below_counted (era worked s0) s0.uses (Inserted i k) (o.table k.unit (Inserted i k) (ap is_some e))))
 
   -- what it means once x is added
   abbrev added_means : Place → Meaning
@@ -122,18 +122,18 @@ module _ (known : Known) (s0 : ScopedState) (f0 : Fine s0.unit s0.locals s0.uses
       means_with body x v t.definitions t.table t.entry t.places unasked l.frames l.ident ∙ ap (λ z. cond z (Local v) (means_at t l.frames l.ident)) (sym (asks_place l h))
 
   pub now_same : (l : Place) → Stood t l → meaning t.table t.entry (deep X v (placed t l)) ≡ added_means l
-  now_same l h = meaning_deep t.table t.entry X v (placed t l) ∙ ap (cond (asks X (placed t l)) (Local v)) (names_mean s0.unit t o.fine l.frames l.ident) ∙ sym (means_added l h)
+  now_same l h = meaning_deep t.table t.entry X v (placed t l) ∙ ap (cond (asks X (placed t l)) (Local v)) (names_mean (era worked s0) t o.fine l.frames l.ident) ∙ sym (means_added l h)
 
-  binders_of : (l : Place) → Stood t l → BindersCounted s0.unit t.locals l.frames
-  binders_of l (inl q) = subst (BindersCounted s0.unit t.locals) (sym q.0) (stands_in known s0 f0 c st0 t o).1
-  binders_of l (inr q) = binders_more s0.unit s0.locals t.locals o.grows.locals l.frames q.2
+  binders_of : (l : Place) → Stood t l → BindersCounted (era worked s0) t.locals l.frames
+  binders_of l (inl q) = subst (BindersCounted (era worked s0) t.locals) (sym q.0) (stands_in worked known s0 f0 c st0 t o).1
+  binders_of l (inr q) = binders_more (era worked s0) s0.locals t.locals o.grows.locals l.frames q.2
 
   -- nothing means the next local's number yet
   fresh : (l : Place) → Stood t l → same_meaning (means_at t l.frames l.ident) (Local v) ≡ false
   fresh l h =
-      not_next s0.unit t.locals v (next_new s0.unit t o.fine t.locals) (means_at t l.frames l.ident)
-      (inside_counted s0.unit t.locals t.definitions o.fine.1.binders l.frames (binders_of l h) l.ident (means_outside t.table t.entry t.places t.definitions l.ident)
-      (outside_counted s0.unit t.locals t.table t.entry o.fine.1.entries t.places o.fine.1.places t.definitions o.fine.1.binders l.ident))
+      not_next (era worked s0) t.locals v (next_new (era worked s0) t o.fine t.locals) (means_at t l.frames l.ident)
+      (inside_counted (era worked s0) t.locals t.definitions o.fine.1.binders l.frames (binders_of l h) l.ident (means_outside t.table t.entry t.places t.definitions l.ident)
+      (outside_counted (era worked s0) t.locals t.table t.entry o.fine.1.entries t.places o.fine.1.places t.definitions o.fine.1.binders l.ident))
 
   pub asked_same : (l : Place) → Stood t l → asks X (placed t l) ≡ same_meaning (added_means l) (Local v)
   asked_same l h = go (asks X (placed t l)) ∙ ap (λ m. same_meaning m (Local v)) (sym (means_added l h))
@@ -180,16 +180,16 @@ module _ (known : Known) (s0 : ScopedState) (f0 : Fine s0.unit s0.locals s0.uses
   module _ (free : find t.definitions body x ≡ None) where
     place_defined : (l : Place) → Stood t l → deep X v (placed t l) ≡ frame_image t.places later l.frames l.ident
     place_defined l (inl q) = subst (λ (fs : Frames). deep X v (frame_image t.places t.definitions fs l.ident) ≡ frame_image t.places later fs l.ident) (sym q.0) (defined_image body s0.uses c t.places t.definitions s0.bodies in_places is_young in_definitions in_frames x v free l.ident q.1.1)
-    place_defined l (inr q) = far body s0.uses c t.places t.definitions s0.bodies in_places is_young in_definitions in_frames x v free l.frames (other l.frames q.0) l.ident q.1
+    place_defined l (inr q) = far body s0.uses c t.places t.definitions s0.bodies in_places is_young in_definitions in_frames x v free l.frames (other l.frames q.0) l.ident (below_counted (era worked s0) s0.uses l.ident q.1)
 
-    leaf_defined : (i : Ident) → Leaf known s0 f0 c st0 t i → deep X v (names t frames i) ≡ frame_image t.places later frames i
+    leaf_defined : (i : Ident) → Leaf worked known s0 f0 c st0 t i → deep X v (names t frames i) ≡ frame_image t.places later frames i
     leaf_defined i h = place_defined (record { frames = frames; ident = i }) (inl (refl, h))
 
-    pub pending_defined : (p : Pending Ident Place) → PendingHeld (Leaf known s0 f0 c st0 t) (Stood t) p
+    pub pending_defined : (p : Pending Ident Place) → PendingHeld (Leaf worked known s0 f0 c st0 t) (Stood t) p
         → pending_map (deep X v) (deep X v) (pending_map (names t frames) (placed t) p) ≡ pending_map (frame_image t.places later frames) (λ l. frame_image t.places later l.frames l.ident) p
     pending_defined p h =
         pending_fused (deep X v) (names t frames) (placed t) p
-        ∙ pending_same (Leaf known s0 f0 c st0 t) (Stood t) (λ i. deep X v (names t frames i)) (frame_image t.places later frames) (λ l. deep X v (placed t l)) (λ l. frame_image t.places later l.frames l.ident) leaf_defined place_defined p h
+        ∙ pending_same (Leaf worked known s0 f0 c st0 t) (Stood t) (λ i. deep X v (names t frames i)) (frame_image t.places later frames) (λ l. deep X v (placed t l)) (λ l. frame_image t.places later l.frames l.ident) leaf_defined place_defined p h
 
     -- a macro of the body, and one from outside
     pub own_later : (m : Meaning) → is_own (mine t.definitions) m ≡ true → is_own (v ∷ mine t.definitions) m ≡ true
@@ -198,8 +198,8 @@ module _ (known : Known) (s0 : ScopedState) (f0 : Fine s0.unit s0.locals s0.uses
     own_later (Standard s) e = e
     own_later (Free s) e = e
 
-    pub foreign_later : (m : Meaning) → MeansCounted s0.unit t.locals m → is_own (mine t.definitions) m ≡ false → is_own (v ∷ mine t.definitions) m ≡ false
-    foreign_later (Local z) k e = let p = not_next s0.unit t.locals v (next_new s0.unit t o.fine t.locals) (Local z) k in λ j. p j || e j
+    pub foreign_later : (m : Meaning) → MeansCounted (era worked s0) t.locals m → is_own (mine t.definitions) m ≡ false → is_own (v ∷ mine t.definitions) m ≡ false
+    foreign_later (Local z) k e = let p = not_next (era worked s0) t.locals v (next_new (era worked s0) t o.fine t.locals) (Local z) k in λ j. p j || e j
     foreign_later (Global u i) k e = e
     foreign_later (Standard s) k e = e
     foreign_later (Free s) k e = e
@@ -209,20 +209,20 @@ module _ (known : Known) (s0 : ScopedState) (f0 : Fine s0.unit s0.locals s0.uses
         rules_fused Ident Name Name (deep X v) (names t k.frames) k.rules
         ∙ held_same rules_kind (λ i. Stood t (record { frames = k.frames; ident = i })) (λ i. deep X v (names t k.frames i)) (frame_image t.places later k.frames) (λ i q. place_defined (record { frames = k.frames; ident = i }) q) k.rules h
 
-    not_home : Entered (Before s0.unit s0.bodies) frames → ⊥
-    not_home e = let q : true ≡ false = sym e.0 ∙ is_young in absurd cc
+    not_home : Entered (Before (era worked s0) s0.bodies) frames → ⊥
+    not_home e = let q : true ≡ false = sym e.0.0 ∙ is_young in absurd cc
 
-    rules_foreign : (k : ScopedMacro) → Entered (Before s0.unit s0.bodies) k.frames → Held rules_kind (λ i. Stood t (record { frames = k.frames; ident = i })) k.rules → rules_map (names t k.frames) k.rules ≡ rules_map (frame_image t.places later k.frames) k.rules
+    rules_foreign : (k : ScopedMacro) → Entered (Before (era worked s0) s0.bodies) k.frames → Held rules_kind (λ i. Stood t (record { frames = k.frames; ident = i })) k.rules → rules_map (names t k.frames) k.rules ≡ rules_map (frame_image t.places later k.frames) k.rules
     rules_foreign k e h = held_same rules_kind (λ i. Stood t (record { frames = k.frames; ident = i })) (names t k.frames) (frame_image t.places later k.frames) one k.rules h
       where
         one : (i : Ident) → Stood t (record { frames = k.frames; ident = i }) → names t k.frames i ≡ frame_image t.places later k.frames i
-        one i (inl q) = absurd (not_home (subst (Entered (Before s0.unit s0.bodies)) q.0 e))
-        one i (inr q) = image_definitions s0.unit s0.uses (Other body) t.places t.definitions later in_places (same_elsewhere body s0.uses c t.places t.definitions s0.bodies in_places is_young in_definitions in_frames x v free) k.frames (other k.frames e) i q.1
+        one i (inl q) = absurd (not_home (subst (Entered (Before (era worked s0) s0.bodies)) q.0 e))
+        one i (inr q) = image_definitions s0.unit s0.uses (Other body) t.places t.definitions later in_places (same_elsewhere body s0.uses c t.places t.definitions s0.bodies in_places is_young in_definitions in_frames x v free) k.frames (other k.frames e) i (below_counted (era worked s0) s0.uses i q.1)
 
-    macro_defined : (k : ScopedMacro) → MacroSits known s0 f0 c st0 t.uses t.places (mine t.definitions) k → MeansCounted s0.unit t.locals k.meaning → own_rules (v ∷ mine t.definitions) (deep X v) (seen_macro t.places t.definitions k) ≡ seen_macro t.places later k
+    macro_defined : (k : ScopedMacro) → MacroSits worked known s0 f0 c st0 t.uses t.places (mine t.definitions) k → MeansCounted (era worked s0) t.locals k.meaning → own_rules (v ∷ mine t.definitions) (deep X v) (seen_macro t.places t.definitions k) ≡ seen_macro t.places later k
     macro_defined k h q = go h.owned
       where
-        go : ((is_own (mine t.definitions) k.meaning ≡ true) × (k.frames ≡ frames)) ⊎ ((is_own (mine t.definitions) k.meaning ≡ false) × Entered (Before s0.unit s0.bodies) k.frames)
+        go : ((is_own (mine t.definitions) k.meaning ≡ true) × (k.frames ≡ frames)) ⊎ ((is_own (mine t.definitions) k.meaning ≡ false) × Entered (Before (era worked s0) s0.bodies) k.frames)
             → own_rules (v ∷ mine t.definitions) (deep X v) (seen_macro t.places t.definitions k) ≡ seen_macro t.places later k
         go (inl e) =
             ap (λ z. record { meaning = k.meaning; rules = rules_mapped z (deep X v) (rules_map (names t k.frames) k.rules) }) (own_later k.meaning e.0)
@@ -231,7 +231,7 @@ module _ (known : Known) (s0 : ScopedState) (f0 : Fine s0.unit s0.locals s0.uses
             ap (λ z. record { meaning = k.meaning; rules = rules_mapped z (deep X v) (rules_map (names t k.frames) k.rules) }) (foreign_later k.meaning q e.0)
             ∙ ap (λ r. record { meaning = k.meaning; rules = r }) (rules_foreign k e.1 h.rules)
 
-    pub macros_defined : (ks : List ScopedMacro) → AllOf (MacroSits known s0 f0 c st0 t.uses t.places (mine t.definitions)) ks → AllOf (MacroFine s0.unit t.locals t.uses t.bodies) ks
+    pub macros_defined : (ks : List ScopedMacro) → AllOf (MacroSits worked known s0 f0 c st0 t.uses t.places (mine t.definitions)) ks → AllOf (MacroFine (era worked s0) t.locals t.uses t.bodies) ks
         → map (own_rules (v ∷ mine t.definitions) (deep X v)) (map (seen_macro t.places t.definitions) ks) ≡ map (seen_macro t.places later) ks
     macros_defined [] h q = refl
     macros_defined (k ∷ ks) h q = let a = macro_defined k h.0 q.0.meaning in let z = macros_defined ks h.1 q.1 in λ j. a j ∷ z j

@@ -71,6 +71,10 @@ made_same k w u f g e x m =
     ∙ sym (k.fused (Old w m.clock) Ident Name g (ident_of w m.clock) m.made)
     ∙ ap (k.map Ident Name g) m.same
 
+-- the unit of a state, after others
+abbrev pub era : (ℕ → Bool) → ScopedState → Era
+era worked s = record { unit = s.unit; worked = worked }
+
 -- ---- what holds of a state
 
 module _ (w : Era) where

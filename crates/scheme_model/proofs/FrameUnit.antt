@@ -14,13 +14,13 @@ use Rattle.scheme_model.specs.Scopes.{own_of, imported_as, defined_or, given_or}
 use Rattle.scheme_model.specs.ScopedExpansion.{Frames, BodyDefinitions, UsePlace, Place, ScopedMacro, ScopedState, around, next_number, means_inside, means_outside, means_at, macro_at, macro_added, definition_added, refused_now, define_at}
 use Rattle.scheme_model.specs.FrameImages.{image_inside, image_outside}
 use Rattle.scheme_model.specs.NewUnits.{NoLocal, GivenNoLocal}
-use Rattle.scheme_model.specs.LaterUnits.{AtRoot}
 use Rattle.scheme_model.proofs.FrameEras.{Era, Below, below_more}
 use Rattle.scheme_model.proofs.IdentLaws.{ident_told}
 use Rattle.scheme_model.proofs.IdentKinds.{rules_kind}
 use Rattle.scheme_model.proofs.Clocks.{leq_counted}
 use Rattle.scheme_model.proofs.FrameNames.{erase_frame_image}
 use Rattle.scheme_model.proofs.FrameAsks.{AllOf, all_of_more}
+use Rattle.scheme_model.proofs.FrameRoots.{AtRoot, root_plain, Rooted, RootMacro, MacroStands, UnitMacro, rooted_later}
 use Rattle.scheme_model.proofs.FrameStates.{names, view, seen_macro, FineState, Grows, grows_itself, grows_then, MacroFine, names_mean, names_later, locals_fine, locals_grow}
 use Rattle.scheme_model.proofs.FrameGrowth.{used_state, use_grows, use_fine, inserted_below, around_new}
 use Rattle.scheme_model.proofs.FrameLeaves.{Held, held_more, held_made}
@@ -30,10 +30,6 @@ use Rattle.scheme_model.proofs.FrameUses.{placed}
 use Rattle.scheme_model.proofs.FrameHeld.{NoteAll, PendingHeld, notes_more, notes_same}
 use Rattle.scheme_model.proofs.FramePlaces.{MacroHere, PlaceFacts}
 use Rattle.scheme_model.proofs.FrameBodyDefines.{refused_same, any_same, some_same}
-
-pub root_plain : (ps : List UsePlace) (i : Ident) → AtRoot ps i → (es : BodyDefinitions) → is_plain (image_outside ps i es) ≡ true
-root_plain ps (Written u s) h es = refl
-root_plain ps (Inserted i k) h es = ap (λ (fs : Frames). is_plain (image_inside fs i (image_outside ps i) es)) h.0 ∙ root_plain ps i h.1 es
 
 module _ (table : Table) (entry : Entries) (entries : (u : ℕ) (s : List ℕ) → GivenNoLocal (entry u s)) where
   given_no : (o : Option Meaning) (m : Meaning) → GivenNoLocal o → NoLocal m → NoLocal (given_or o m)
@@ -57,11 +53,8 @@ module _ (table : Table) (entry : Entries) (entries : (u : ℕ) (s : List ℕ) �
 
 module _ (w : Era) (known : Known) where
   -- what stands in a unit
-  abbrev pub Rooted : Clock → List UsePlace → Ident → Type 0
-  Rooted u ps i = Below w u i × AtRoot ps i
-
   abbrev pub UnitLeaf : ScopedState → Ident → Type 0
-  UnitLeaf s i = Rooted s.uses s.places i
+  UnitLeaf s i = Rooted w s.uses s.places i
 
   abbrev pub UnitPlace : ScopedState → Place → Type 0
   UnitPlace s l = (l.frames ≡ []) × UnitLeaf s l.ident
@@ -69,35 +62,15 @@ module _ (w : Era) (known : Known) where
   abbrev pub UnitRule : ScopedState → Transformer Frames Ident → Ident → Type 0
   UnitRule s m i = (m.env ≡ []) × UnitLeaf s i
 
-  -- a macro of a unit
-  pub record RootMacro (u : Clock) (ps : List UsePlace) (fs : Frames) (rs : Rules Ident) : Type 0 where
-    pub outside : fs ≡ []
-    pub rooted : Held rules_kind (Rooted u ps) rs
-
-  -- a local macro is no meaning in a unit
-  abbrev pub MacroStands : Clock → List UsePlace → Meaning → Frames → Rules Ident → Type 0
-  MacroStands u ps (Local v) fs rs = Unit {0}
-  MacroStands u ps (Global z i) fs rs = RootMacro u ps fs rs
-  MacroStands u ps (Standard x) fs rs = RootMacro u ps fs rs
-  MacroStands u ps (Free x) fs rs = RootMacro u ps fs rs
-
-  abbrev pub UnitMacro : Clock → List UsePlace → ScopedMacro → Type 0
-  UnitMacro u ps k = MacroStands u ps k.meaning k.frames k.rules
-
   -- a state of a unit whose forms are gone through
   pub record UnitState (s : ScopedState) : Type 0 where
     pub fine : FineState w s
-    pub macros : AllOf (UnitMacro s.uses s.places) s.macros
     pub entries : (u : ℕ) (x : List ℕ) → GivenNoLocal (s.entry u x)
 
   -- ---- later states
 
-  root_later : (s t : ScopedState) → Grows w s t → (i : Ident) → Below w s.uses i → AtRoot s.places i → AtRoot t.places i
-  root_later s t g (Written u x) l h = tt
-  root_later s t g (Inserted i k) l h = (sym (g.places k l.0) ∙ h.0, root_later s t g i l.1 h.1)
-
   pub leaf_later : (s t : ScopedState) → Grows w s t → (i : Ident) → UnitLeaf s i → UnitLeaf t i
-  leaf_later s t g i h = (below_more w s.uses t.uses g.uses i h.0, root_later s t g i h.0 h.1)
+  leaf_later s t g i h = rooted_later w s.uses t.uses s.places t.places g.uses g.places i h
 
   pub place_later : (s t : ScopedState) → Grows w s t → (l : Place) → UnitPlace s l → UnitPlace t l
   place_later s t g l h = (h.0, leaf_later s t g l.ident h.1)
@@ -105,21 +78,9 @@ module _ (w : Era) (known : Known) where
   pub placed_later : (s t : ScopedState) → FineState w s → Grows w s t → (l : Place) → UnitPlace s l → placed s l ≡ placed t l
   placed_later s t f g l h = subst (λ (fs : Frames). names s fs l.ident ≡ names t fs l.ident) (sym h.0) (names_later w s t f g [] (tt, tt) l.ident h.1.0)
 
-  root_macro_later : (s t : ScopedState) → Grows w s t → (fs : Frames) (rs : Rules Ident) → RootMacro s.uses s.places fs rs → RootMacro t.uses t.places fs rs
-  root_macro_later s t g fs rs h = record { outside = h.outside; rooted = held_more rules_kind (UnitLeaf s) (UnitLeaf t) (leaf_later s t g) rs h.rooted }
-
-  macro_later : (s t : ScopedState) → Grows w s t → (m : Meaning) (fs : Frames) (rs : Rules Ident) → MacroStands s.uses s.places m fs rs → MacroStands t.uses t.places m fs rs
-  macro_later s t g (Local v) fs rs h = tt
-  macro_later s t g (Global u i) fs rs h = root_macro_later s t g fs rs h
-  macro_later s t g (Standard x) fs rs h = root_macro_later s t g fs rs h
-  macro_later s t g (Free x) fs rs h = root_macro_later s t g fs rs h
-
-  pub macros_later : (s t : ScopedState) → Grows w s t → (ks : List ScopedMacro) → AllOf (UnitMacro s.uses s.places) ks → AllOf (UnitMacro t.uses t.places) ks
-  macros_later s t g ks h = all_of_more (UnitMacro s.uses s.places) (UnitMacro t.uses t.places) (λ k q. macro_later s t g k.meaning k.frames k.rules q) ks h
-
   -- ---- a macro that is used
 
-  same_stands : (u : Clock) (ps : List UsePlace) (m n : Meaning) → same_meaning m n ≡ true → NoLocal n → (fs : Frames) (rs : Rules Ident) → MacroStands u ps m fs rs → RootMacro u ps fs rs
+  same_stands : (u : Clock) (ps : List UsePlace) (m n : Meaning) → same_meaning m n ≡ true → NoLocal n → (fs : Frames) (rs : Rules Ident) → MacroStands w u ps m fs rs → RootMacro w u ps fs rs
   same_stands u ps (Local v) (Local z) e q fs rs h = absurd q
   same_stands u ps (Local v) (Global z i) e q fs rs h = absurd cc
   same_stands u ps (Local v) (Standard x) e q fs rs h = absurd cc
@@ -129,9 +90,9 @@ module _ (w : Era) (known : Known) where
   same_stands u ps (Free x) n e q fs rs h = h
 
   abbrev AsRoot : ScopedState → Transformer Frames Ident → Type 0
-  AsRoot s x = RootMacro s.uses s.places x.env x.rules
+  AsRoot s x = RootMacro w s.uses s.places x.env x.rules
 
-  root_among : (s : ScopedState) (ks : List ScopedMacro) → AllOf (UnitMacro s.uses s.places) ks → (m : Meaning) → NoLocal m → IfMacro (AsRoot s) (macro_at ks m)
+  root_among : (s : ScopedState) (ks : List ScopedMacro) → AllOf (UnitMacro w s.uses s.places) ks → (m : Meaning) → NoLocal m → IfMacro (AsRoot s) (macro_at ks m)
   root_among s [] h m q = tt
   root_among s (k ∷ ks) h m q = go (same_meaning k.meaning m) refl (root_among s ks h.1 m q)
     where
@@ -142,7 +103,6 @@ module _ (w : Era) (known : Known) where
   pub used_unit : (s : ScopedState) → UnitState s → (x : Transformer Frames Ident) → TransformerFine w s x → UnitState (used_state w x.env s)
   used_unit s k x e = record {
     fine = use_fine w s k.fine x.env e.entered e.binders;
-    macros = macros_later s (used_state w x.env s) (use_grows w s k.fine x.env) s.macros k.macros;
     entries = k.entries;
   }
 
@@ -162,9 +122,9 @@ module _ (w : Era) (known : Known) where
     macro_here s i n k (Some x) h e = record {
       entered = e.entered;
       binders = e.binders;
-      rules = held_more rules_kind (UnitLeaf s) (UnitRule s x) (λ y q. (h.outside, q)) x.rules h.rooted;
+      rules = held_more rules_kind (UnitLeaf s) (UnitRule s x) (λ y q. (h.outside, q)) x.rules (record { made = h.rooted.over; same = h.rooted.same });
       below = λ y q. q.1.0;
-      inserts = λ y q. (inserted_below w s k.0.fine y q.1.0, (around_new w s x.env ∙ q.0, root_later s (used_state w x.env s) (use_grows w s k.0.fine x.env) y q.1.0 q.1.1));
+      inserts = λ y q. (inserted_below w s k.0.fine y q.1.0, (around_new w s x.env ∙ q.0, (leaf_later s (used_state w x.env s) (use_grows w s k.0.fine x.env) y q.1).1));
       place = λ y q. q;
       after = (used_unit s k.0 x e, k.1, grows_then w s0 s (used_state w x.env s) k.2 (use_grows w s k.0.fine x.env));
     }
@@ -197,14 +157,20 @@ module _ (w : Era) (known : Known) where
       fine_macros None h = k.fine.1.macros
       fine_macros (Some z) h = (record { entered = tt; rules = held_made rules_kind w s.uses z (held_more rules_kind (UnitLeaf s) (Below w s.uses) (λ i q. q.0) z h); binders = tt; meaning = tt }, k.fine.1.macros)
 
+      unit_macros : (q : Option (Rules Ident)) → IfMacro (Held rules_kind (UnitLeaf s)) q → AllOf (UnitMacro w s.uses s.places) (macro_added (Global s.unit x.name) [] q s.macros)
+      unit_macros None h = k.fine.1.stands
+      unit_macros (Some z) h = (record { outside = refl; rooted = record { over = h.made; same = h.same } }, k.fine.1.stands)
+
       fine_then : FineState w then_
       fine_then = (
         k.fine.0,
         record {
           definitions = k.fine.1.definitions;
           bodies = k.fine.1.bodies;
+          idents = k.fine.1.idents;
           entered = k.fine.1.entered;
           macros = fine_macros r hr;
+          stands = unit_macros r hr;
           outside = outside_then;
           binders = k.fine.1.binders;
           places = k.fine.1.places;
@@ -212,12 +178,8 @@ module _ (w : Era) (known : Known) where
         },
       )
 
-      unit_macros : (q : Option (Rules Ident)) → IfMacro (Held rules_kind (UnitLeaf s)) q → AllOf (UnitMacro s.uses s.places) (macro_added (Global s.unit x.name) [] q s.macros)
-      unit_macros None h = k.macros
-      unit_macros (Some z) h = (record { outside = refl; rooted = h }, k.macros)
-
       unit_then : UnitState then_
-      unit_then = record { fine = fine_then; macros = unit_macros r hr; entries = k.entries }
+      unit_then = record { fine = fine_then; entries = k.entries }
 
       macros_then : (q : Option (Rules Ident)) → with_macro (Global s.unit x.name) (option_map (rules_map (names s [])) q) (map (seen_macro s.places s.definitions) s.macros) ≡ map (seen_macro s.places s.definitions) (macro_added (Global s.unit x.name) [] q s.macros)
       macros_then None = refl
@@ -278,9 +240,9 @@ module _ (w : Era) (known : Known) where
       leaf_later = λ s t i n k g x l. leaf_later s t g x l;
       place_later = λ s t i n k g p l. place_later s t g p l;
       placed_later = λ s t i n k g p l. placed_later s t k.0.fine g p l;
-      still = λ s i n x y z k. (record { fine = k.0.fine; macros = k.0.macros; entries = k.0.entries }, k.1, k.2);
+      still = λ s i n x y z k. (record { fine = k.0.fine; entries = k.0.entries }, k.1, k.2);
       local = λ s i n k. (
-        record { fine = locals_fine w s (at_form s.form suc s.locals) (leq_counted s.form s.locals) k.0.fine; macros = k.0.macros; entries = k.0.entries },
+        record { fine = locals_fine w s (at_form s.form suc s.locals) (leq_counted s.form s.locals) k.0.fine; entries = k.0.entries },
         k.1,
         grows_then w s0 s (record s { locals = at_form s.form suc s.locals }) k.2 (locals_grow w s (at_form s.form suc s.locals) (leq_counted s.form s.locals)),
       );
@@ -290,5 +252,5 @@ module _ (w : Era) (known : Known) where
       assigned = λ s i n k x l. let e = k.1 in let p = root_plain s.places x l.1 s.definitions in let q = erase_frame_image s.places s.definitions [] x in λ j. s.program && (not (e j) && (p j && is_variable (defined_in s.table s.unit (q j))));
       bound = λ s i n k. ap (λ z. cond z (LocalNumber (next_number s s.locals)) (Definition s.unit (definition_count s.table s.unit))) k.1;
       defines = λ s i n k here x l r h p q. agrees_at refl (let e = k.1 in λ j. told here ((model known).define (named_map (names s []) x) (option_map (rules_map (names s [])) r) tt (pending_map (names s []) (placed s) p) (view (e j) n s))) (define_law s k.0 k.2 n x l r h here p q);
-      macros = λ s i n k x l. let m = means_at s [] x in macro_here s i n k (macro_at s.macros m) (root_among s s.macros k.0.macros m (means_no s.table s.entry k.0.entries s.places s.definitions x l.1)) (macro_found w s k.0.fine m);
+      macros = λ s i n k x l. let m = means_at s [] x in macro_here s i n k (macro_at s.macros m) (root_among s s.macros k.0.fine.1.stands m (means_no s.table s.entry k.0.entries s.places s.definitions x l.1)) (macro_found w s k.0.fine m);
     }

@@ -162,7 +162,7 @@ module _ (w : Era) (known : Known) where
     turned form s = record s { form = form }
 
     turned_unit : (form : ℕ) (s : ScopedState) → UnitState w known s → UnitState w known (turned form s)
-    turned_unit form s k = record { fine = k.fine; macros = k.macros; entries = k.entries }
+    turned_unit form s k = record { fine = k.fine; entries = k.entries }
 
     pub passes_law : (ts : List (ℕ × Tree Ident)) → PassesLaw ts
     passes_law [] ns s i n k h l = record { in_body = i; mine = n; unit_state = k; grows = grows_itself w s; state = refl; sets = refl; made = tt }

@@ -13,12 +13,12 @@ use Rattle.scheme_model.specs.Expression.{expression, item_part, parts, items_of
 use Rattle.scheme_model.specs.Substitution.{State, is_own, model}
 use Rattle.scheme_model.specs.ScopedExpansion.{Frames, BodyDefinition, BodyDefinitions, Place, ScopedMacro, ScopedState, around, next_number, scoped}
 use Rattle.scheme_model.specs.OpenBodies.{Sits}
-use Rattle.scheme_model.proofs.FrameEras.{Era, Before, Below}
+use Rattle.scheme_model.proofs.FrameEras.{Era, Before, Below, below_counted}
 use Rattle.scheme_model.proofs.IdentKinds.{item_kind, rules_kind}
 use Rattle.scheme_model.proofs.Clocks.{leq_itself, apart}
 use Rattle.scheme_model.proofs.ScopeLaws.{map_map_all}
 use Rattle.scheme_model.proofs.FrameAsks.{AllOf, all_of_more}
-use Rattle.scheme_model.proofs.FrameStates.{names, view, Fine, FineState, grows_then, Stands, MacroFine, next_new}
+use Rattle.scheme_model.proofs.FrameStates.{era, names, view, Fine, FineState, grows_then, Stands, MacroFine, next_new}
 use Rattle.scheme_model.proofs.FrameGrowth.{entered_state, enter_names, enter_fine, enter_grows}
 use Rattle.scheme_model.proofs.FrameLeaves.{TreesAll, trees_more, trees_same, held_more, held_made, made_held}
 use Rattle.scheme_model.proofs.FrameAgrees.{break, agrees_at, agrees_more, Keeps, keeps_bind, Same, same_done, same_fails}
@@ -33,18 +33,18 @@ use Rattle.scheme_model.proofs.FrameItems.{ItemMade, parts_law}
 use Rattle.scheme_model.proofs.FrameExpressions.{Scoped, Modelled, WholeLaw, BodyLaw}
 use Rattle.scheme_model.proofs.FrameCoreForms.{expression_law}
 
-module _ (known : Known) (s0 : ScopedState) (f0 : Fine s0.unit s0.locals s0.uses s0.bodies s0.table s0.entry s0.macros s0.places s0.definitions) (c : Frames) (st0 : Stands s0.unit s0 c) where
+module _ (worked : ℕ → Bool) (known : Known) (s0 : ScopedState) (f0 : Fine (era worked s0) s0.locals s0.uses s0.bodies s0.table s0.entry s0.macros s0.places s0.definitions) (c : Frames) (st0 : Stands (era worked s0) s0 c) where
   abbrev entry : ScopedState
-  entry = entered_state s0.unit s0
+  entry = entered_state (era worked s0) s0
 
   abbrev frames : Frames
-  frames = home known s0 f0 c st0
+  frames = home worked known s0 f0 c st0
 
   -- nothing is defined in the body yet
-  none_mine : (ds : BodyDefinitions) → AllOf (λ (d : BodyDefinition). Before s0.unit s0.bodies d.body) ds → mine_of known s0 f0 c st0 ds ≡ []
+  none_mine : (ds : BodyDefinitions) → AllOf (λ (d : BodyDefinition). Before (era worked s0) s0.bodies d.body) ds → mine_of worked known s0 f0 c st0 ds ≡ []
   none_mine [] h = refl
   none_mine (d ∷ ds) h =
-      ap (λ z. cond z (d.binder ∷ mine_of known s0 f0 c st0 ds) (mine_of known s0 f0 c st0 ds)) (apart s0.unit s0.bodies d.body (b known s0 f0 c st0) h.0 (next_new s0.unit s0 (refl, f0) s0.bodies)) ∙ none_mine ds h.1
+      ap (λ z. cond z (d.binder ∷ mine_of worked known s0 f0 c st0 ds) (mine_of worked known s0 f0 c st0 ds)) (apart s0.unit s0.bodies d.body (b worked known s0 f0 c st0) h.0.0 (next_new (era worked s0) s0 (refl, f0) s0.bodies)) ∙ none_mine ds h.1
 
   none_own : (m : Meaning) → is_own [] m ≡ false
   none_own (Local v) = refl
@@ -53,71 +53,71 @@ module _ (known : Known) (s0 : ScopedState) (f0 : Fine s0.unit s0.locals s0.uses
   none_own (Free s) = refl
 
   -- macros from outside
-  sits_outside : (ms : List Number) → ms ≡ [] → (ks : List ScopedMacro) → AllOf (MacroFine s0.unit s0.locals s0.uses s0.bodies) ks → AllOf (MacroSits known s0 f0 c st0 s0.uses s0.places ms) ks
+  sits_outside : (ms : List Number) → ms ≡ [] → (ks : List ScopedMacro) → AllOf (MacroFine (era worked s0) s0.locals s0.uses s0.bodies) ks → AllOf (MacroSits worked known s0 f0 c st0 s0.uses s0.places ms) ks
   sits_outside ms e [] h = tt
   sits_outside ms e (k ∷ ks) h = (
-    record { rules = held_more rules_kind (Below s0.unit s0.uses) _ (λ i q. inr (h.0.entered, q, h.0.binders)) k.rules (made_held rules_kind s0.unit s0.uses k.rules h.0.rules); owned = inr (ap (λ z. is_own z k.meaning) e ∙ none_own k.meaning, h.0.entered) },
+    record { rules = held_more rules_kind (Below (era worked s0) s0.uses) _ (λ i q. inr (h.0.entered, q, h.0.binders)) k.rules (made_held rules_kind (era worked s0) s0.uses k.rules h.0.rules); owned = inr (ap (λ z. is_own z k.meaning) e ∙ none_own k.meaning, h.0.entered) },
     sits_outside ms e ks h.1,
   )
 
-  opened : Opened known s0 f0 c st0 entry
+  opened : Opened worked known s0 f0 c st0 entry
   opened = record {
-    fine = enter_fine s0.unit s0 (refl, f0);
-    grows = enter_grows s0.unit s0;
+    fine = enter_fine (era worked s0) s0 (refl, f0);
+    grows = enter_grows (era worked s0) s0;
     entered = leq_itself entry.bodies;
-    macros = sits_outside (mine_of known s0 f0 c st0 s0.definitions) (none_mine s0.definitions f0.bodies) s0.macros f0.macros;
+    macros = sits_outside (mine_of worked known s0 f0 c st0 s0.definitions) (none_mine s0.definitions f0.bodies) s0.macros f0.macros;
     table = λ v i h. (f0.outside v i h).0;
   }
 
   -- what was made before can stand in it
-  old_leaf : (i : Ident) → Below s0.unit s0.uses i → Leaf known s0 f0 c st0 entry i
+  old_leaf : (i : Ident) → Below (era worked s0) s0.uses i → Leaf worked known s0 f0 c st0 entry i
   old_leaf i l = (l, go i l)
     where
-      go : (j : Ident) → Below s0.unit s0.uses j → Sits (b known s0 f0 c st0) s0.uses c s0.places j
+      go : (j : Ident) → Below (era worked s0) s0.uses j → Sits (b worked known s0 f0 c st0) s0.uses c s0.places j
       go (Written v s) h = tt
-      go (Inserted j k) h = inr (entered_other known s0 f0 c st0 (around s0.places k) (f0.entered k), h.1)
+      go (Inserted j k) h = inr (entered_other worked known s0 f0 c st0 (around s0.places k) (f0.entered k), below_counted (era worked s0) s0.uses j h.1)
 
-  module _ (F : Scoped s0.unit known) (G : Modelled s0.unit known) (law : WholeLaw s0.unit known F G) (body_law : BodyLaw s0.unit known F G) (turns below : ℕ) (here : Here) (i : Bool) (n : List Number) (ts : Trees Ident) (old : TreesAll (Below s0.unit s0.uses) ts) where
+  module _ (F : Scoped (era worked s0) known) (G : Modelled (era worked s0) known) (law : WholeLaw (era worked s0) known F G) (body_law : BodyLaw (era worked s0) known F G) (turns below : ℕ) (here : Here) (i : Bool) (n : List Number) (ts : Trees Ident) (old : TreesAll (Below (era worked s0) s0.uses) ts) where
     -- the body's forms were gone through; what they set aside is expanded
-    after_forms : (q : Pass Ident Place × ScopedState) (m : Pass Name Name × State) → Together s0.unit known frames (Inside known s0 f0 c st0) (Any known s0 f0 c st0) (Leaf known s0 f0 c st0) (PlaceIn known s0 f0 c st0) (RuleLeaf known s0 f0 c st0) (Dropped known s0 f0 c st0) q m
-        → Same s0.unit s0 (items_of q >>= parts (item_part F (scoped known) below frames) >>= λ ps. done (Body ps)) (items_of m >>= parts (item_part G (model known) below tt) >>= λ ps. done (Body ps))
+    after_forms : (q : Pass Ident Place × ScopedState) (m : Pass Name Name × State) → Together (era worked s0) known frames (Inside worked known s0 f0 c st0) (Any worked known s0 f0 c st0) (Leaf worked known s0 f0 c st0) (PlaceIn worked known s0 f0 c st0) (RuleLeaf worked known s0 f0 c st0) (Dropped worked known s0 f0 c st0) q m
+        → Same (era worked s0) s0 (items_of q >>= parts (item_part F (scoped known) below frames) >>= λ ps. done (Body ps)) (items_of m >>= parts (item_part G (model known) below tt) >>= λ ps. done (Body ps))
     after_forms q m h = go h.came_to
       where
-        go : Came s0.unit known frames (Inside known s0 f0 c st0) (Any known s0 f0 c st0) (Leaf known s0 f0 c st0) (PlaceIn known s0 f0 c st0) (RuleLeaf known s0 f0 c st0) (Dropped known s0 f0 c st0) q.1 q.0 m.0
-            → Same s0.unit s0 (items_of q >>= parts (item_part F (scoped known) below frames) >>= λ ps. done (Body ps)) (items_of m >>= parts (item_part G (model known) below tt) >>= λ ps. done (Body ps))
+        go : Came (era worked s0) known frames (Inside worked known s0 f0 c st0) (Any worked known s0 f0 c st0) (Leaf worked known s0 f0 c st0) (PlaceIn worked known s0 f0 c st0) (RuleLeaf worked known s0 f0 c st0) (Dropped worked known s0 f0 c st0) q.1 q.0 m.0
+            → Same (era worked s0) s0 (items_of q >>= parts (item_part F (scoped known) below frames) >>= λ ps. done (Body ps)) (items_of m >>= parts (item_part G (model known) below tt) >>= λ ps. done (Body ps))
         go (came xs e d hx hn z) =
             let o = h.inside.0 in let v = h.state in
             agrees_at (ap (λ r. (r, q.1) >>= parts (item_part F (scoped known) below frames) >>= λ ps. done (Body ps)) e) (λ j. (d j, v j) >>= parts (item_part G (model known) below tt) >>= λ ps. done (Body ps))
-            (agrees_more {K = Keeps s0.unit q.1} {L = Keeps s0.unit s0} (λ t i1 n1 k. (k.0, grows_then s0.unit s0 q.1 t o.grows k.1)) (λ t x y r. r)
-            (keeps_bind s0.unit q.1 _ (parts_law s0.unit known F G law body_law below frames xs q.1 o.fine h.in_body h.mine (stands_in known s0 f0 c st0 q.1 o)
-            (all_of_more (ItemHeld (Leaf known s0 f0 c st0 q.1)) (ItemMade s0.unit known F G law body_law below frames q.1.uses) (λ x r. (held_made item_kind s0.unit q.1.uses x (held_more item_kind (Leaf known s0 f0 c st0 q.1) (Below s0.unit q.1.uses) (λ y l. l.0) x r.0), r.1)) xs hx))
-            (λ x y t i1 n1 k e2. same_done s0.unit t i1 n1 (Body x) (Body y) k.0 (ap Body e2))))
+            (agrees_more {K = Keeps (era worked s0) q.1} {L = Keeps (era worked s0) s0} (λ t i1 n1 k. (k.0, grows_then (era worked s0) s0 q.1 t o.grows k.1)) (λ t x y r. r)
+            (keeps_bind (era worked s0) q.1 _ (parts_law (era worked s0) known F G law body_law below frames xs q.1 o.fine h.in_body h.mine (stands_in worked known s0 f0 c st0 q.1 o)
+            (all_of_more (ItemHeld (Leaf worked known s0 f0 c st0 q.1)) (ItemMade (era worked s0) known F G law body_law below frames q.1.uses) (λ x r. (held_made item_kind (era worked s0) q.1.uses x (held_more item_kind (Leaf worked known s0 f0 c st0 q.1) (Below (era worked s0) q.1.uses) (λ y l. l.0) x r.0), r.1)) xs hx))
+            (λ x y t i1 n1 k e2. same_done (era worked s0) t i1 n1 (Body x) (Body y) k.0 (ap Body e2))))
         go (broke x e d hn) =
             let v = h.state in
             break x q.1 h.in_body h.mine (ap (λ r. (r, q.1) >>= parts (item_part F (scoped known) below frames) >>= λ ps. done (Body ps)) e) (λ j. (d j, v j) >>= parts (item_part G (model known) below tt) >>= λ ps. done (Body ps)) (h.inside.0.fine, h.inside.0.grows)
 
     trees_entered : map_trees (Inner (next_number s0 s0.bodies)) (map_trees (names s0 c) ts) ≡ map_trees (names entry frames) ts
-    trees_entered = map_map_all (Inner (next_number s0 s0.bodies)) (names s0 c) ts ∙ trees_same (Below s0.unit s0.uses) (λ j. Inner (next_number s0 s0.bodies) (names s0 c j)) (names entry frames) (enter_names s0.unit s0 (refl, f0) c) ts old
+    trees_entered = map_map_all (Inner (next_number s0 s0.bodies)) (names s0 c) ts ∙ trees_same (Below (era worked s0) s0.uses) (λ j. Inner (next_number s0 s0.bodies) (names s0 c j)) (names entry frames) (enter_names (era worked s0) s0 (refl, f0) c) ts old
 
-    pub in_body_law : Same s0.unit s0 (body_in (scoped known) turns (item_part F (scoped known) below) here ((scoped known).enter c ts s0)) (body_in (model known) turns (item_part G (model known) below) here ((model known).enter tt (map_trees (names s0 c) ts) (view i n s0)))
+    pub in_body_law : Same (era worked s0) s0 (body_in (scoped known) turns (item_part F (scoped known) below) here ((scoped known).enter c ts s0)) (body_in (model known) turns (item_part G (model known) below) here ((model known).enter tt (map_trees (names s0 c) ts) (view i n s0)))
     in_body_law =
         let us = trees_entered in let ms = sym (none_mine s0.definitions f0.bodies) in
         agrees_at refl
         ((λ j. items_of (run (model known) turns tt (record { todo = forms_at here (us j); aside = []; notes = [] }) (view true (ms j) entry)) >>= parts (item_part G (model known) below tt) >>= λ ps. done (Body ps))
-        ∙ ap (λ xs. items_of (run (model known) turns tt (record { todo = xs; aside = []; notes = [] }) (view true (mine_of known s0 f0 c st0 entry.definitions) entry)) >>= parts (item_part G (model known) below tt) >>= λ ps. done (Body ps)) (forms_seen (names entry frames) (placed entry) here ts))
-        (after_forms _ _ (forms_law s0.unit known frames (Inside known s0 f0 c st0) (Any known s0 f0 c st0) (Leaf known s0 f0 c st0) (PlaceIn known s0 f0 c st0) (RuleLeaf known s0 f0 c st0) (Dropped known s0 f0 c st0) (body_facts known s0 f0 c st0) turns
-        (record { todo = forms_at here ts; aside = []; notes = [] }) entry true (mine_of known s0 f0 c st0 entry.definitions) (opened, refl, refl)
-        (forms_held (Leaf known s0 f0 c st0 entry) here ts (trees_more (Below s0.unit s0.uses) (Leaf known s0 f0 c st0 entry) old_leaf ts old), tt, tt)))
+        ∙ ap (λ xs. items_of (run (model known) turns tt (record { todo = xs; aside = []; notes = [] }) (view true (mine_of worked known s0 f0 c st0 entry.definitions) entry)) >>= parts (item_part G (model known) below tt) >>= λ ps. done (Body ps)) (forms_seen (names entry frames) (placed entry) here ts))
+        (after_forms _ _ (forms_law (era worked s0) known frames (Inside worked known s0 f0 c st0) (Any worked known s0 f0 c st0) (Leaf worked known s0 f0 c st0) (PlaceIn worked known s0 f0 c st0) (RuleLeaf worked known s0 f0 c st0) (Dropped worked known s0 f0 c st0) (body_facts worked known s0 f0 c st0) turns
+        (record { todo = forms_at here ts; aside = []; notes = [] }) entry true (mine_of worked known s0 f0 c st0 entry.definitions) (opened, refl, refl)
+        (forms_held (Leaf worked known s0 f0 c st0 entry) here ts (trees_more (Below (era worked s0) s0.uses) (Leaf worked known s0 f0 c st0 entry) old_leaf ts old), tt, tt)))
 
 -- ---- any task
 
 module _ (w : Era) (known : Known) where
   -- a body of any state of the unit
-  body_at : (F : Scoped w known) (G : Modelled w known) → WholeLaw w known F G → BodyLaw w known F G → (turns : ℕ) (depth : ℕ) (here : Here) (fs : Frames) (ts : Trees Ident) (s : ScopedState) → s.unit ≡ w → FineState w s → (i : Bool) (n : List Number) → Stands w s fs → TreesAll (Below w s.uses) ts
+  body_at : (F : Scoped w known) (G : Modelled w known) → WholeLaw w known F G → BodyLaw w known F G → (turns : ℕ) (depth : ℕ) (here : Here) (fs : Frames) (ts : Trees Ident) (s : ScopedState) → s.unit ≡ w.unit → FineState w s → (i : Bool) (n : List Number) → Stands w s fs → TreesAll (Below w s.uses) ts
       → Same w s (body_core F (scoped known) turns depth here fs ts s) (body_core G (model known) turns depth here tt (map_trees (names s fs) ts) (view i n s))
   body_at F G law body_law turns depth here fs ts s e =
-      subst (λ (v : ℕ). WholeLaw v known F G → BodyLaw v known F G → FineState v s → (i : Bool) (n : List Number) → Stands v s fs → TreesAll (Below v s.uses) ts → Same v s (body_core F (scoped known) turns depth here fs ts s) (body_core G (model known) turns depth here tt (map_trees (names s fs) ts) (view i n s))) e
-      (λ l m f i n h old. node_law s.unit known here 1 depth s f i n _ _ (λ below x. in_body_law known (record s { nodes = x }) f.1 fs h F G l m turns below here i n ts old)) law body_law
+      subst (λ (v : Era). WholeLaw v known F G → BodyLaw v known F G → FineState v s → (i : Bool) (n : List Number) → Stands v s fs → TreesAll (Below v s.uses) ts → Same v s (body_core F (scoped known) turns depth here fs ts s) (body_core G (model known) turns depth here tt (map_trees (names s fs) ts) (view i n s))) (λ j. record { unit = e j; worked = w.worked })
+      (λ l m f i n h old. node_law (era w.worked s) known here 1 depth s f i n _ _ (λ below x. in_body_law w.worked known (record s { nodes = x }) f.1 fs h F G l m turns below here i n ts old)) law body_law
 
   -- Both sides expand any task alike, within the same turns.
   pub expand_law : (turns : ℕ) → WholeLaw w known (expand (scoped known) turns) (expand (model known) turns) × BodyLaw w known (expand (scoped known) turns) (expand (model known) turns)
