@@ -39,11 +39,11 @@ pub mod FrameBodyDefines
 pub mod FrameItems
 pub mod FrameBodyFacts
 pub mod FrameWhole
+pub mod EntryLaws
 pub mod FrameUnit
 pub mod FrameUnits
-pub mod FrameNew
-pub mod FrameLater
-pub mod FrameFirst
+pub mod FrameBetween
+pub mod FramePrograms
 pub mod Distinct
 pub mod FrameExpressions
 pub mod FrameBinders

@@ -47,15 +47,13 @@ pub mod Renaming
 pub mod ScopedExpansion
 pub mod FrameImages
 pub mod OpenBodies
-pub mod NewUnits
-pub mod LaterUnits
 pub mod UnitExpansion
 pub mod Entries
 pub mod Declarations
 pub mod Prelude
 pub mod StandardLibraries
 pub mod Program
-pub mod FirstUnits
+pub mod ScopedProgram
 pub mod Live
 pub mod ProgramArrows
 pub mod Diagnostics

@@ -13,18 +13,12 @@ ghost use Rattle.scheme_model.specs.Matching.{Binding, matcher, first_match, com
 ghost use Rattle.scheme_model.specs.Building.{build};
 ghost use Rattle.scheme_model.specs.Leaves.{leaves_of};
 ghost use Rattle.scheme_model.specs.Renaming.{Renames, IsRenamed, result_map, formals_map, definition_map, record_map, local_macros_map, pieces_map, leaf_map, binding_map, chosen_map, pair_map, built_map};
-ghost use Rattle.scheme_model.specs.Order.{Here};
-ghost use Rattle.scheme_model.specs.Expression.{whole, expand};
-ghost use Rattle.scheme_model.specs.UnitExpansion.{unit};
-ghost use Rattle.scheme_model.specs.Substitution.{Table, Entries, Clock, meaning, deep, clause_map, model};
-ghost use Rattle.scheme_model.specs.ScopedExpansion.{Frames, Enter, BodyDefinitions, find, UsePlace, means_inside, means_outside, scoped};
+ghost use Rattle.scheme_model.specs.Substitution.{Table, Entries, Clock, meaning, deep, clause_map};
+ghost use Rattle.scheme_model.specs.ScopedExpansion.{Frames, Enter, BodyDefinitions, find, UsePlace, means_inside, means_outside};
 ghost use Rattle.scheme_model.specs.FrameImages.{frame_image, DefinesOutside};
 ghost use Rattle.scheme_model.specs.OpenBodies.{IsOpen, Sits};
-ghost use Rattle.scheme_model.specs.NewUnits.{EarlierIdent, NewUnit, scoped_tree, scoped_form, scoped_start, model_tree, model_form, model_start};
-ghost use Rattle.scheme_model.specs.LaterUnits.{LaterUnit, written_form, written_name_form, later_start, imaged_macro, imaged_start};
-ghost use Rattle.scheme_model.specs.Entries.{Entry};
-ghost use Rattle.scheme_model.specs.Program.{Prepared, form_trees};
-ghost use Rattle.scheme_model.specs.FirstUnits.{EachNoLocal, forms_over, first_scoped, first_model};
+ghost use Rattle.scheme_model.specs.Program.{Document, Placed, Prepared, work, progress_before, program_of};
+ghost use Rattle.scheme_model.specs.ScopedProgram.{scoped_work, scoped_before, scoped_program_of, imaged};
 ghost use Rattle.scheme_model.specs.Scopes.{Chain, Uses, image, substituted, own_of, means, AreOutside};
 
 /// Whatever binders are around an identifier, what it has become came from it alone, and keeps its symbol (R7RS 4.3).
@@ -110,39 +104,9 @@ pub fn definitions_are_substituted()
         deep (frame_image ps ds (Enter b u ∷ c) x) v (frame_image ps ds (Enter b u ∷ c) i) ≡ frame_image ps (record { body = b; ident = x; binder = v } ∷ ds) (Enter b u ∷ c) i }
 {}
 
-/// An expression of a new unit, with whatever binders, macros and bodies are nested in it, expands by scopes to the core or the
-/// fault that it expands to by substitution (R7RS 4.3), within any turns, and counts the same.
-pub fn expressions_are_substituted()
-    ensures result { (known : Known) (turns depth : ℕ) (here : Here) (n : NewUnit) (t : Tree (EarlierIdent n.number)) →
-        (expand (model known) turns depth here tt (whole (model_tree n t)) (model_start n)).0 ≡ (expand (scoped known) turns depth here [] (whole (scoped_tree n t)) (scoped_start n)).0 }
-    ensures counted { (known : Known) (turns depth : ℕ) (here : Here) (n : NewUnit) (t : Tree (EarlierIdent n.number)) →
-        (model known).counted (expand (model known) turns depth here tt (whole (model_tree n t)) (model_start n)).1 ≡ (scoped known).counted (expand (scoped known) turns depth here [] (whole (scoped_tree n t)) (scoped_start n)).1 }
-{}
-
-/// A new unit expands by scopes to what it expands to by substitution (R7RS 4.3, 5.1): each of its forms to the same parts or the
-/// same fault, with the same counts, keywords and macro uses; and it defines the same.
-pub fn units_are_substituted()
-    ensures forms { (known : Known) (turns : ℕ) (n : NewUnit) (ts : List (ℕ × Tree (EarlierIdent n.number))) →
-        (unit (model known) turns tt (map (model_form n) ts) (model_start n)).0 ≡ (unit (scoped known) turns [] (map (scoped_form n) ts) (scoped_start n)).0 }
-    ensures definitions { (known : Known) (turns : ℕ) (n : NewUnit) (ts : List (ℕ × Tree (EarlierIdent n.number))) →
-        (unit (model known) turns tt (map (model_form n) ts) (model_start n)).1.table ≡ (unit (scoped known) turns [] (map (scoped_form n) ts) (scoped_start n)).1.table }
-{}
-
-/// So does a unit behind others, where no number of the unit is in what they left; and what both sides have then goes on to agree:
-/// they define the same, and of each macro the rules by substitution are what those by scopes have become.
-pub fn later_units_are_substituted()
-    ensures forms { (known : Known) (turns : ℕ) (n : LaterUnit) (ts : List (ℕ × Tree (List ℕ))) →
-        (unit (model known) turns tt (map (written_name_form n) ts) (imaged_start n)).0 ≡ (unit (scoped known) turns [] (map (written_form n) ts) (later_start n)).0 }
-    ensures definitions { (known : Known) (turns : ℕ) (n : LaterUnit) (ts : List (ℕ × Tree (List ℕ))) →
-        (unit (model known) turns tt (map (written_name_form n) ts) (imaged_start n)).1.table ≡ (unit (scoped known) turns [] (map (written_form n) ts) (later_start n)).1.table }
-    ensures macros { (known : Known) (turns : ℕ) (n : LaterUnit) (ts : List (ℕ × Tree (List ℕ))) →
-        let s = (unit (scoped known) turns [] (map (written_form n) ts) (later_start n)).1 in (unit (model known) turns tt (map (written_name_form n) ts) (imaged_start n)).1.macros ≡ map (imaged_macro s.places s.definitions) s.macros }
-{}
-
-/// So does the unit of a program of documents that is expanded first, behind the prelude alone, as long as no import names a local.
-pub fn first_units_are_substituted()
-    ensures forms { (known : Known) (turns : ℕ) (p : Prepared) (es : List Entry) → EachNoLocal es →
-        (unit (model known) turns tt (form_trees p.number 0 p.forms) (first_model p es)).0 ≡ (unit (scoped known) turns [] (forms_over (Written p.number) p.number 0 p.forms) (first_scoped p es)).0 }
-    ensures definitions { (known : Known) (turns : ℕ) (p : Prepared) (es : List Entry) → EachNoLocal es →
-        (unit (model known) turns tt (form_trees p.number 0 p.forms) (first_model p es)).1.table ≡ (unit (scoped known) turns [] (forms_over (Written p.number) p.number 0 p.forms) (first_scoped p es)).1.table }
+/// The program of the open documents, worked on by scopes, is the program by substitution (R7RS 4.3, 5), whatever the documents are:
+/// each unit's imports, forms with their parts or faults, counts, keywords and macro uses, and exports, and what all units define.
+pub fn programs_are_substituted()
+    ensures program { (ds : List Document) → scoped_program_of ds ≡ program_of ds }
+    ensures progress { (all : List Placed) (units : List Prepared) (known : Known) (n : ℕ) → imaged (scoped_work all units known n scoped_before) ≡ work all units known n progress_before }
 {}

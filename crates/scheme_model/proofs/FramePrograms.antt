@@ -1,0 +1,368 @@
+-- The law of programs: both sides work on the same units in the same order, each to the same result, since what a unit leaves is
+-- what the next one needs.
+use Rattle.std.proofs.Common.{◌≡◌, ℕ, zero, suc, inl, List, [], ◌∷◌, map, length, Bool, true, false, cond, Option, Some, None, Result, Ok, Err, refl, sym, ap, ◌∙◌, subst, arith}
+use Rattle.std.specs.Prelude.{◌&&◌, ◌||◌, ◌==◌, not, nat_lt}
+use Rattle.std.proofs.lemmas.Bool.Decides.{nat_tests}
+use Rattle.scheme_model.specs.declared.Occ.{Occ}
+use Rattle.scheme_model.specs.Identifiers.{Number, Name, Written as WrittenName}
+use Rattle.scheme_model.specs.Ident.{Ident, Written, Inserted}
+use Rattle.scheme_model.specs.Trees.{Tree, list as list_of, vector as vector_of, Trees, tree, dotted, map_tree, map_trees, map_tail, placed_in, proper}
+use Rattle.scheme_model.specs.Kinds.{Name as NameLeaf, Numeral, Quoted, Character, Truth}
+use Rattle.scheme_model.specs.Data.{Atom, spelled, implied, Datum, atom, list, vector, bytes, Data, none, part, tail, place_of}
+use Rattle.scheme_model.specs.DataTrees.{atom_tree, tree_of, parts_of, end_of}
+use Rattle.scheme_model.specs.ExpansionFaults.{Fault}
+use Rattle.scheme_model.specs.Meaning.{Global, Standard}
+use Rattle.scheme_model.specs.Requirements.{Known}
+use Rattle.scheme_model.specs.RulesShape.{Rules, rules_map, rules_parts}
+use Rattle.scheme_model.specs.UnitExpansion.{Formed, unit}
+use Rattle.scheme_model.specs.Substitution.{Table, Entries, KeptMacro, State, Defined, defined_in, is_plain, model}
+use Rattle.scheme_model.specs.ScopedExpansion.{BodyDefinitions, ScopedState, scoped}
+use Rattle.scheme_model.specs.Order.{is_some}
+use Rattle.scheme_model.specs.FrameImages.{frame_image, image_outside}
+use Rattle.scheme_model.specs.Prelude.{PreludeMacro, prelude}
+use Rattle.scheme_model.specs.Entries.{Entry}
+use Rattle.scheme_model.specs.Declarations.{UnitForm}
+use Rattle.scheme_model.specs.Program.{Document, known_in, units_of, prepare, Placed, Prepared, WholeFault, TooLarge, fault_before, SetResult, UnitResult, Progress, result_at, unit_entries, with_entries, form_trees, start_of, enough_turns, total, max_total, export_all, names_of_unit, expanded_unit, by_fault, is_ready, first_ready, worked, work, written_rules, is_standard, prelude_unit, prelude_entry, prelude_meaning, prelude_macro, prelude_definitions, progress_before, Program, in_order, program_of}
+use Rattle.scheme_model.specs.ScopedProgram.{ScopedProgress, forms_over, scoped_start_of, scoped_unit_over, broken_result, unit_result, scoped_expanded, scoped_by_fault, scoped_worked, scoped_work, prelude_rules, scoped_prelude_macro, scoped_before, scoped_program_of, imaged_macro, imaged}
+use Rattle.scheme_model.proofs.RenamingLaws.{map_after}
+use Rattle.scheme_model.proofs.ScopeLaws.{map_map}
+use Rattle.scheme_model.proofs.IdentKinds.{rules_kind, rules_fused}
+use Rattle.scheme_model.proofs.Clocks.{leq_itself}
+use Rattle.scheme_model.proofs.FrameEras.{Era, Worked, Below}
+use Rattle.scheme_model.proofs.FrameAsks.{AllOf}
+use Rattle.scheme_model.proofs.FrameRoots.{AtRoot, RulesOver, Rooted, UnitMacro}
+use Rattle.scheme_model.proofs.FrameStates.{names, Old, ident_of, Made, MacroFine, Fine, FineState}
+use Rattle.scheme_model.proofs.FrameLeaves.{TreeAll, all_held}
+use Rattle.scheme_model.proofs.EntryLaws.{GivenNoLocal, Fits, Exports, unit_entries_fit, with_entries_fit, exports_all_fit}
+use Rattle.scheme_model.proofs.FrameUnit.{UnitLeaf, UnitState}
+use Rattle.scheme_model.proofs.FrameUnits.{form_seen, FormHeld, AllFormed, unit_law}
+use Rattle.scheme_model.proofs.FrameBetween.{none_yet, given_counted, left_then}
+
+-- ---- the forms
+
+module _ {A B : Type 0} (f : A → B) (written : List ℕ → A) (place : ℕ → Occ) where
+  atom_over : (a : Atom) (o : Occ) → map_tree f (atom_tree written a o) ≡ atom_tree (λ s. f (written s)) a o
+  atom_over (spelled (NameLeaf s bars)) o = refl
+  atom_over (spelled (Numeral text)) o = refl
+  atom_over (spelled (Quoted text)) o = refl
+  atom_over (spelled (Character c)) o = refl
+  atom_over (spelled (Truth b)) o = refl
+  atom_over (implied mark) o = refl
+
+  mutual
+    tree_over : (d : Datum) → map_tree f (tree_of written place d) ≡ tree_of (λ s. f (written s)) place d
+    tree_over (atom p a) = atom_over a (place p.first)
+    tree_over (list p ds) = λ j. list_of (parts_over ds j) (end_over ds j) (Some (place p.first))
+    tree_over (vector p ds) = ap (λ (ts : Trees B). vector_of ts (Some (place p.first))) (parts_over ds)
+    tree_over (bytes p texts) = refl
+
+    parts_over : (ds : Data) → map_trees f (parts_of written place ds) ≡ parts_of (λ s. f (written s)) place ds
+    parts_over none = refl
+    parts_over (part d ds) = λ j. tree (tree_over d j) (parts_over ds j)
+    parts_over (tail d) = refl
+
+    end_over : (ds : Data) → map_tail f (end_of written place ds) ≡ end_of (λ s. f (written s)) place ds
+    end_over none = refl
+    end_over (part d ds) = end_over ds
+    end_over (tail d) = ap (λ (t : Tree B). dotted t) (tree_over d)
+
+abbrev form_mapped : {A B : Type 0} → (A → B) → ℕ × Tree A → ℕ × Tree B
+form_mapped f t = (t.0, map_tree f t.1)
+
+forms_mapped : {A B : Type 0} (f : A → B) (written : List ℕ → A) (w form : ℕ) (fs : List UnitForm) → map (form_mapped f) (forms_over written w form fs) ≡ forms_over (λ s. f (written s)) w form fs
+forms_mapped f written w form [] = refl
+forms_mapped {A} {B} f written w form (x ∷ fs) = go x.declared (forms_mapped f written w (suc form) fs)
+  where
+    go : (t : Bool) → map (form_mapped f) (forms_over written w (suc form) fs) ≡ forms_over (λ s. f (written s)) w (suc form) fs
+        → map (form_mapped f) (cond t (forms_over written w (suc form) fs) ((form, tree_of written (placed_in w form (place_of x.datum).first) x.datum) ∷ forms_over written w (suc form) fs))
+        ≡ cond t (forms_over (λ s. f (written s)) w (suc form) fs) ((form, tree_of (λ s. f (written s)) (placed_in w form (place_of x.datum).first) x.datum) ∷ forms_over (λ s. f (written s)) w (suc form) fs)
+    go true h = h
+    go false h = let e = tree_over f written (placed_in w form (place_of x.datum).first) x.datum in λ j. (form, e j) ∷ h j
+
+forms_same : (w form : ℕ) (fs : List UnitForm) → forms_over (WrittenName w) w form fs ≡ form_trees w form fs
+forms_same w form [] = refl
+forms_same w form (x ∷ fs) = ap (λ (r : List (ℕ × Tree Name)). cond x.declared r ((form, tree_of (WrittenName w) (placed_in w form (place_of x.datum).first) x.datum) ∷ r)) (forms_same w (suc form) fs)
+
+module _ (P : Ident → Type 0) (w : ℕ) (written : (s : List ℕ) → P (Written w s)) where
+  forms_all : (fs : List UnitForm) (form : ℕ) → AllOf (λ (t : ℕ × Tree Ident). TreeAll P t.1) (forms_over (Written w) w form fs)
+  forms_all [] form = tt
+  forms_all (x ∷ fs) form = go x.declared (forms_all fs (suc form))
+    where
+      one : TreeAll P (tree_of (Written w) (placed_in w form (place_of x.datum).first) x.datum)
+      one = subst (TreeAll P) (tree_over (λ (p : (i : Ident) × P i). p.0) (λ s. (Written w s, written s)) (placed_in w form (place_of x.datum).first) x.datum) (all_held P (tree_of (λ s. (Written w s, written s)) (placed_in w form (place_of x.datum).first) x.datum))
+
+      go : (t : Bool) → AllOf (λ (t : ℕ × Tree Ident). TreeAll P t.1) (forms_over (Written w) w (suc form) fs)
+          → AllOf (λ (t : ℕ × Tree Ident). TreeAll P t.1) (cond t (forms_over (Written w) w (suc form) fs) ((form, tree_of (Written w) (placed_in w form (place_of x.datum).first) x.datum) ∷ forms_over (Written w) w (suc form) fs))
+      go true h = h
+      go false h = (one, h)
+
+-- ---- what holds between units
+
+abbrev done : List UnitResult → ℕ → Bool
+done rs u = is_some (result_at rs u)
+
+abbrev coming : List UnitResult → ℕ → Era
+coming rs z = record { unit = z; worked = done rs }
+
+pub record Between (g : ScopedProgress) : Type 0 where
+  pub fine : (z : ℕ) → done g.results z ≡ false → Fine (coming g.results z) none_yet none_yet none_yet g.table g.entry g.macros g.places g.definitions
+  pub entries : (u : ℕ) (s : List ℕ) → GivenNoLocal (g.entry u s)
+  pub exports : Exports g.results
+
+turned : (m n : ℕ) → (m == n) ≡ (n == m)
+turned m n = grind (arith, nat_tests)
+
+-- one more is done
+done_more : (rs : List UnitResult) (r : UnitResult) (n : ℕ) → r.unit.number ≡ n → (u : ℕ) → Worked (coming rs n) u → done (r ∷ rs) u ≡ true
+done_more rs r n e u h = go (u == n) (ap (λ m. m == u) e ∙ turned n u) h
+  where
+    go : (t : Bool) → (r.unit.number == u) ≡ t → (t || done rs u) ≡ true → is_some (cond (r.unit.number == u) (Some r) (result_at rs u)) ≡ true
+    go true q k = ap (λ t. is_some (cond t (Some r) (result_at rs u))) q
+    go false q k = ap (λ t. is_some (cond t (Some r) (result_at rs u))) q ∙ k
+
+-- ---- one unit
+
+module _ (known : Known) (g : ScopedProgress) (h : Between g) (p : Prepared) (new : done g.results p.number ≡ false) where
+  abbrev w : Era
+  w = coming g.results p.number
+
+  -- it is broken
+  pub broken_between : (fault : WholeFault) → Between (record g { results = broken_result p fault ∷ g.results })
+  broken_between fault = record {
+    fine = λ z e. left_then w z (done (broken_result p fault ∷ g.results)) (done_more g.results (broken_result p fault) p.number refl) e none_yet none_yet none_yet g.table g.entry g.entry g.macros g.places g.definitions (h.fine p.number new) h.entries;
+    entries = h.entries;
+    exports = (tt, h.exports);
+  }
+
+  module _ (imports : List Entry × List SetResult) (fit : Fits imports.0) where
+    abbrev entry : Entries
+    entry = with_entries p.number imports.0 g.entry
+
+    abbrev start : ScopedState
+    start = scoped_start_of p g entry
+
+    abbrev by_scopes : List Formed × ScopedState
+    by_scopes = scoped_unit_over known p start
+
+    entries_fit : (u : ℕ) (s : List ℕ) → GivenNoLocal (entry u s)
+    entries_fit = with_entries_fit p.number imports.0 g.entry fit h.entries
+
+    start_fine : FineState w start
+    start_fine =
+        let f = h.fine p.number new in (
+          refl,
+          record {
+            definitions = f.definitions;
+            bodies = f.bodies;
+            idents = f.idents;
+            entered = f.entered;
+            macros = f.macros;
+            stands = f.stands;
+            outside = f.outside;
+            binders = f.binders;
+            places = f.places;
+            entries = λ v s. given_counted w none_yet (entry v s) (entries_fit v s);
+          },
+        )
+
+    start_unit : UnitState w known start
+    start_unit = record { fine = start_fine; entries = entries_fit }
+
+    forms_held : AllOf (FormHeld w known start) (forms_over (Written p.number) p.number 0 p.forms)
+    forms_held = forms_all (UnitLeaf w known start) p.number (λ s. (tt, tt)) p.forms 0
+
+    forms_seen : map (form_seen (names start [])) (forms_over (Written p.number) p.number 0 p.forms) ≡ form_trees p.number 0 p.forms
+    forms_seen = forms_mapped (names start []) (Written p.number) p.number 0 p.forms ∙ forms_same p.number 0 p.forms
+
+    abbrev by_substitution : List Formed × State
+    by_substitution = unit (model known) enough_turns tt (form_trees p.number 0 p.forms) (start_of p g.table (map (imaged_macro g.places g.definitions) g.macros) entry)
+
+    unit_same : AllFormed w known by_scopes by_substitution
+    unit_same =
+        subst (AllFormed w known by_scopes) (ap (λ ts. unit (model known) enough_turns tt ts (start_of p g.table (map (imaged_macro g.places g.definitions) g.macros) entry)) forms_seen)
+        (unit_law w known enough_turns (forms_over (Written p.number) p.number 0 p.forms) start false [] start_unit forms_held)
+
+    abbrev built : List Formed → State → Progress
+    built forms s = record { table = s.table; macros = s.macros; entry = entry; results = unit_result p imports s.table forms ∷ g.results }
+
+    pub step_same : (all : List Placed) → expanded_unit all known p imports (imaged g) ≡ imaged (scoped_expanded known p imports g)
+    step_same all = let forms = unit_same.forms in let state = unit_same.state in λ j. built (forms j) (state j)
+
+    abbrev result : UnitResult
+    result = unit_result p imports by_scopes.1.table by_scopes.0
+
+    abbrev whole : UnitResult
+    whole = let exports = export_all (names_of_unit by_scopes.1.table p.number imports.0) [] p.exports in
+        record { unit = p; fault = None; sets = imports.1; entries = imports.0; forms = by_scopes.0; exports = exports.entries; export_faults = exports.faults }
+
+    result_number : result.unit.number ≡ p.number
+    result_number = go (nat_lt max_total (total by_scopes.0))
+      where
+        go : (t : Bool) → (cond t (broken_result p TooLarge) whole).unit.number ≡ p.number
+        go true = refl
+        go false = refl
+
+    result_exports : Fits result.exports
+    result_exports = go (nat_lt max_total (total by_scopes.0))
+      where
+        go : (t : Bool) → Fits (cond t (broken_result p TooLarge) whole).exports
+        go true = tt
+        go false = exports_all_fit by_scopes.1.table p.number imports.0 fit p.exports
+
+    pub step_between : Between (scoped_expanded known p imports g)
+    step_between =
+        let s = by_scopes.1 in
+        record {
+          fine = λ z e. left_then w z (done (result ∷ g.results)) (done_more g.results result p.number result_number) e s.locals s.uses s.bodies s.table s.entry entry s.macros s.places s.definitions unit_same.fine.1 entries_fit;
+          entries = entries_fit;
+          exports = (result_exports, h.exports);
+        }
+
+-- ---- all units
+
+pub record Gone (m : Progress) (g : ScopedProgress) : Type 0 where
+  pub same : m ≡ imaged g
+  pub between : Between g
+
+module _ (all : List Placed) (ps : List Prepared) (known : Known) where
+  fault_gone : (g : ScopedProgress) → Between g → (p : Prepared) → done g.results p.number ≡ false → (f : Option WholeFault) → Gone (by_fault all ps known p f (imaged g)) (scoped_by_fault all known p f g)
+  fault_gone g h p new (Some fault) = record { same = refl; between = broken_between known g h p new fault }
+  fault_gone g h p new None =
+      let imports = unit_entries all g.results p in let fit = unit_entries_fit all g.results h.exports p in
+      record { same = step_same known g h p new imports fit all; between = step_between known g h p new imports fit }
+
+  abbrev OrReady : (Prepared → Bool) → Option Prepared → Type 0
+  OrReady f None = Unit {0}
+  OrReady f (Some p) = f p ≡ true
+
+  first_is : (f : Prepared → Bool) (qs : List Prepared) → OrReady f (first_ready f qs)
+  first_is f [] = tt
+  first_is f (q ∷ qs) = go (f q) refl (first_is f qs)
+    where
+      go : (t : Bool) → f q ≡ t → OrReady f (first_ready f qs) → OrReady f (cond t (Some q) (first_ready f qs))
+      go true e r = e
+      go false e r = r
+
+  not_done : (a b : Bool) → (not a && b) ≡ true → a ≡ false
+  not_done true b e = absurd cc
+  not_done false b e = refl
+
+  worked_gone : (g : ScopedProgress) → Between g → (o : Option Prepared) → OrReady (is_ready all ps g.results) o → Gone (worked all ps known o (imaged g)) (scoped_worked all ps known o g)
+  worked_gone g h None r = record { same = refl; between = h }
+  worked_gone g h (Some p) r = fault_gone g h p (not_done (done g.results p.number) _ r) (fault_before all ps p)
+
+  pub work_gone : (n : ℕ) (g : ScopedProgress) → Between g → work all ps known n (imaged g) ≡ imaged (scoped_work all ps known n g)
+  work_gone zero g h = refl
+  work_gone (suc n) g h =
+      let o = first_ready (is_ready all ps g.results) ps in
+      let q = worked_gone g h o (first_is (is_ready all ps g.results) ps) in
+      ap (work all ps known n) q.same ∙ work_gone n (scoped_worked all ps known o g) q.between
+
+-- ---- the prelude
+
+never : (b : Bool) → (b && false) ≡ false
+never true = refl
+never false = refl
+
+abbrev defined_as : List ℕ → Defined
+defined_as s = record { unit = prelude_unit; form = 0; ident = Written prelude_unit s; keyword = true; occ = None }
+
+-- it defines what is written
+none_inserted : (ms : List PreludeMacro) (u : ℕ) (i : Ident) (k : Number) → defined_in (prelude_definitions ms) u (Inserted i k) ≡ None
+none_inserted [] u i k = refl
+none_inserted (m ∷ ms) u i k = go (is_standard m.name) (none_inserted ms u i k)
+  where
+    go : (t : Bool) → defined_in (prelude_definitions ms) u (Inserted i k) ≡ None → defined_in (cond t (prelude_definitions ms) (defined_as m.name ∷ prelude_definitions ms)) u (Inserted i k) ≡ None
+    go true h = h
+    go false h = ap (λ t. cond t (Some (defined_as m.name)) (defined_in (prelude_definitions ms) u (Inserted i k))) (never (prelude_unit == u)) ∙ h
+
+module _ (z : ℕ) where
+  abbrev first : Era
+  first = coming [] z
+
+  outside : (v : ℕ) (i : Ident) → is_some (defined_in (prelude_definitions prelude) v i) ≡ true → Below first none_yet i × ((es : BodyDefinitions) → is_plain (image_outside [] i es) ≡ true)
+  outside v (Written u s) h = (tt, λ es. refl)
+  outside v (Inserted i k) h = let q : true ≡ false = sym h ∙ ap is_some (none_inserted prelude v i k) in absurd cc
+
+  rules_made : (r : Result (Rules (List ℕ)) (Fault (List ℕ))) → Made rules_kind first none_yet (prelude_rules r)
+  rules_made (Ok r) = record {
+    clock = none_yet;
+    earlier = leq_itself none_yet;
+    made = rules_map (λ (s : List ℕ). (Written prelude_unit s, tt)) r;
+    same = rules_fused (List ℕ) (Old first none_yet) Ident (ident_of first none_yet) (λ s. (Written prelude_unit s, tt)) r;
+  }
+  rules_made (Err e) = record { clock = none_yet; earlier = leq_itself none_yet; made = record { ellipsis = None; literals = []; rules = [] }; same = refl }
+
+  rules_over : (r : Result (Rules (List ℕ)) (Fault (List ℕ))) → RulesOver (Rooted first none_yet []) (prelude_rules r)
+  rules_over (Ok r) = record {
+    over = rules_map (λ (s : List ℕ). (Written prelude_unit s, (tt, tt))) r;
+    same = rules_fused (List ℕ) ((i : Ident) × Rooted first none_yet [] i) Ident (λ p. p.0) (λ s. (Written prelude_unit s, (tt, tt))) r;
+  }
+  rules_over (Err e) = record { over = record { ellipsis = None; literals = []; rules = [] }; same = refl }
+
+  macro_fine : (m : PreludeMacro) → MacroFine first none_yet none_yet none_yet (scoped_prelude_macro m)
+  macro_fine m = go (is_standard m.name)
+    where
+      go : (t : Bool) → MacroFine first none_yet none_yet none_yet (record { meaning = cond t (Standard m.name) (Global prelude_unit (Written prelude_unit m.name)); frames = []; rules = prelude_rules (rules_parts m.parts proper) })
+      go true = record { entered = tt; rules = rules_made (rules_parts m.parts proper); binders = tt; meaning = tt }
+      go false = record { entered = tt; rules = rules_made (rules_parts m.parts proper); binders = tt; meaning = tt }
+
+  macro_stands : (m : PreludeMacro) → UnitMacro first none_yet [] (scoped_prelude_macro m)
+  macro_stands m = go (is_standard m.name)
+    where
+      go : (t : Bool) → UnitMacro first none_yet [] (record { meaning = cond t (Standard m.name) (Global prelude_unit (Written prelude_unit m.name)); frames = []; rules = prelude_rules (rules_parts m.parts proper) })
+      go true = record { outside = refl; rooted = rules_over (rules_parts m.parts proper) }
+      go false = record { outside = refl; rooted = rules_over (rules_parts m.parts proper) }
+
+  macros_fine : (ms : List PreludeMacro) → AllOf (MacroFine first none_yet none_yet none_yet) (map scoped_prelude_macro ms)
+  macros_fine [] = tt
+  macros_fine (m ∷ ms) = (macro_fine m, macros_fine ms)
+
+  macros_stand : (ms : List PreludeMacro) → AllOf (UnitMacro first none_yet []) (map scoped_prelude_macro ms)
+  macros_stand [] = tt
+  macros_stand (m ∷ ms) = (macro_stands m, macros_stand ms)
+
+prelude_entries : (u : ℕ) (s : List ℕ) → GivenNoLocal (prelude_entry u s)
+prelude_entries u s = go ((u == prelude_unit) && is_standard s)
+  where
+    go : (t : Bool) → GivenNoLocal (cond t (Some (Standard s)) None)
+    go true = tt
+    go false = tt
+
+between_before : Between scoped_before
+between_before = record {
+  fine = λ z e. record {
+    definitions = λ b i h. inl refl;
+    bodies = tt;
+    idents = tt;
+    entered = λ k. tt;
+    macros = macros_fine z prelude;
+    stands = macros_stand z prelude;
+    outside = λ v i h. outside z v i h;
+    binders = tt;
+    places = λ k. tt;
+    entries = λ v s. given_counted (first z) none_yet (prelude_entry v s) (prelude_entries v s);
+  };
+  entries = prelude_entries;
+  exports = tt;
+}
+
+rules_seen : (r : Result (Rules (List ℕ)) (Fault (List ℕ))) → rules_map (frame_image [] [] []) (prelude_rules r) ≡ written_rules r
+rules_seen (Ok r) = rules_fused (List ℕ) Ident Name (frame_image [] [] []) (Written prelude_unit) r
+rules_seen (Err e) = refl
+
+macros_seen : (ms : List PreludeMacro) → map (imaged_macro [] []) (map scoped_prelude_macro ms) ≡ map prelude_macro ms
+macros_seen ms = map_after (imaged_macro [] []) scoped_prelude_macro prelude_macro (λ m. ap (λ (r : Rules Name). record { meaning = prelude_meaning m.name; rules = r }) (rules_seen (rules_parts m.parts proper))) ms
+
+before_same : imaged scoped_before ≡ progress_before
+before_same = ap (λ (ms : List KeptMacro). record progress_before { macros = ms }) (macros_seen prelude)
+
+-- ---- the program
+
+pub progress_law : (all : List Placed) (ps : List Prepared) (known : Known) (n : ℕ) → imaged (scoped_work all ps known n scoped_before) ≡ work all ps known n progress_before
+progress_law all ps known n = sym (work_gone all ps known n scoped_before between_before) ∙ ap (work all ps known n) before_same
+
+pub program_law : (ds : List Document) → scoped_program_of ds ≡ program_of ds
+program_law ds =
+    let all = units_of ds in let ps = prepare all 0 all in
+    ap (λ (g : Progress). record { units = in_order g.results 0 (length ps); table = g.table; entry = g.entry }) (progress_law all ps (known_in ds) (length ps))
