@@ -4,7 +4,7 @@ use Rattle.std.proofs.lemmas.Bool.{eq-eqb, ltb-true, lt-ltb, false_from_ne_true}
 use Rattle.scheme_model.specs.Identifiers.{Number, same_number}
 use Rattle.scheme_model.specs.Substitution.{Clock, at_form}
 use Rattle.scheme_model.specs.FrameImages.{is_before}
-use Rattle.scheme_model.specs.OpenBodies.{Leq, Before, NotYet}
+use Rattle.scheme_model.proofs.OpenBodies.{Leq, Before, NotYet}
 use Rattle.scheme_model.proofs.IdentLaws.{number_told}
 
 pub leq_itself : (n : Clock) → Leq n n

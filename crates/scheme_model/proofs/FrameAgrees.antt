@@ -1,6 +1,6 @@
 -- Both sides go together: they give related values, or the same fault, and states of which the definition's has what the scoped
 -- side has.
-use Rattle.std.proofs.Common.{◌≡◌, ℕ, List, Bool, Result, Ok, Err, refl, sym, ap, ◌∙◌}
+use Rattle.std.proofs.Common.{◌≡◌, List, Bool, Result, Ok, Err, refl, sym, ap, ◌∙◌}
 use Rattle.scheme_model.specs.Identifiers.{Number, Name}
 use Rattle.scheme_model.specs.Ident.{Ident, erase}
 use Rattle.scheme_model.specs.ExpansionFaults.{Fault, fault_map}

@@ -9,7 +9,7 @@ use Rattle.scheme_model.specs.Order.{is_some}
 use Rattle.scheme_model.specs.Substitution.{Table, Entries, Defined, Clock, defined_in, is_plain, global_or, meaning, deep, asks}
 use Rattle.scheme_model.specs.Scopes.{own_of, imported_as, defined_or, given_or}
 use Rattle.scheme_model.specs.ScopedExpansion.{Bind, Enter, Frames, BodyDefinition, BodyDefinitions, UsePlace, around, find, defined_as, means_inside, means_outside}
-use Rattle.scheme_model.specs.OpenBodies.{NotYet}
+use Rattle.scheme_model.proofs.OpenBodies.{NotYet}
 use Rattle.scheme_model.proofs.IdentLaws.{number_itself}
 use Rattle.scheme_model.proofs.Clocks.{apart}
 use Rattle.scheme_model.proofs.FrameEras.{Era, Before}

@@ -9,14 +9,14 @@ use Rattle.scheme_model.specs.Meaning.{Meaning, Local, Global, Standard, Free}
 use Rattle.scheme_model.specs.RulesShape.{Rules}
 use Rattle.scheme_model.specs.Substitution.{Table, Entries, Clock}
 use Rattle.scheme_model.specs.ScopedExpansion.{Bind, Enter, Frames, BodyDefinition, BodyDefinitions, UsePlace, ScopedMacro, around, find}
-use Rattle.scheme_model.specs.OpenBodies.{Below as BelowCounted, DefinitionsBelow, Entered}
+use Rattle.scheme_model.proofs.OpenBodies.{Below as BelowCounted, Entered}
 use Rattle.scheme_model.proofs.IdentLaws.{ident_told}
 use Rattle.scheme_model.proofs.IdentKinds.{rules_kind, rules_fused}
 use Rattle.scheme_model.proofs.Clocks.{leq_itself}
 use Rattle.scheme_model.proofs.FrameTimes.{entered_more}
-use Rattle.scheme_model.proofs.FrameEras.{Era, Worked, Before, Below, below_more, below_counted}
-use Rattle.scheme_model.proofs.FrameAsks.{AllOf, all_of_more, MeansCounted, GivenCounted, BindersCounted, DefinitionsCounted}
-use Rattle.scheme_model.proofs.FrameRoots.{AtRoot, Rooted, RootMacro, MacroStands, UnitMacro, rules_more}
+use Rattle.scheme_model.proofs.FrameEras.{Era, Worked, Before, Below, below_counted}
+use Rattle.scheme_model.proofs.FrameAsks.{AllOf, all_of_more, MeansCounted, GivenCounted, BindersCounted}
+use Rattle.scheme_model.proofs.FrameRoots.{Rooted, RootMacro, MacroStands, UnitMacro, rules_more}
 use Rattle.scheme_model.proofs.FrameStates.{Old, ident_of, Made, MacroFine, Fine}
 use Rattle.scheme_model.proofs.EntryLaws.{NoLocal, GivenNoLocal}
 

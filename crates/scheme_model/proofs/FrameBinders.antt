@@ -13,7 +13,7 @@ use Rattle.scheme_model.specs.Expression.{body, bound, procedure, lambda, clause
 use Rattle.scheme_model.specs.Substitution.{State, Clock, at_form, clause_map, shallow, model}
 use Rattle.scheme_model.specs.ScopedExpansion.{Bind, Frames, ScopedState, next_number, scoped}
 use Rattle.scheme_model.specs.FrameImages.{bound_as}
-use Rattle.scheme_model.specs.OpenBodies.{Leq}
+use Rattle.scheme_model.proofs.OpenBodies.{Leq}
 use Rattle.scheme_model.proofs.FrameEras.{Era, Before, Below, before_more, below_more}
 use Rattle.scheme_model.proofs.ScopeLaws.{map_map_all, map_same_all}
 use Rattle.scheme_model.proofs.IdentKinds.{trees_kind, clause_kind, clauses_kind}

@@ -7,7 +7,7 @@ use Rattle.scheme_model.specs.Substitution.{Clock, deep}
 use Rattle.scheme_model.specs.ScopedExpansion.{Bind, Enter, Frames, BodyDefinitions, UsePlace, around, find}
 use Rattle.scheme_model.specs.FrameImages.{is_before, is_older, bound_as, entered_as, before_definition, image_inside, image_outside, frame_image}
 use Rattle.scheme_model.proofs.IdentLaws.{number_told, number_itself, name_told, name_itself}
-use Rattle.scheme_model.specs.OpenBodies.{Before, NotYet, Entered, Below, PlacesIn, DefinitionsBelow, FramesOk, Other, Sits}
+use Rattle.scheme_model.proofs.OpenBodies.{Before, NotYet, Entered, Below, PlacesIn, DefinitionsBelow, FramesOk, Other, Sits}
 use Rattle.scheme_model.proofs.FrameTimes.{entered_more, frames_entered, inside_new}
 
 pub deep_itself : (x : Name) (v : Number) → deep x v x ≡ Var v x

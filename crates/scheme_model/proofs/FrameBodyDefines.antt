@@ -11,7 +11,7 @@ use Rattle.scheme_model.specs.Substitution.{Defined, defined_in, form_map, item_
 use Rattle.scheme_model.specs.Scopes.{defined_or}
 use Rattle.scheme_model.specs.ScopedExpansion.{Frames, BodyDefinitions, Place, ScopedMacro, ScopedState, find, next_number, means_inside, means_outside, means_at}
 use Rattle.scheme_model.specs.FrameImages.{is_before, is_older, entered_as, before_definition, image_inside, image_outside, frame_image}
-use Rattle.scheme_model.specs.OpenBodies.{NotYet, Entered, PlacesIn, DefinitionsBelow, FramesOk, Other}
+use Rattle.scheme_model.proofs.OpenBodies.{NotYet, Entered, PlacesIn, DefinitionsBelow, FramesOk, Other}
 use Rattle.scheme_model.proofs.FrameEras.{Before, below_counted}
 use Rattle.scheme_model.proofs.RenamingLaws.{map_after}
 use Rattle.scheme_model.proofs.IdentLaws.{number_itself}

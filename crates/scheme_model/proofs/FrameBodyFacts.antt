@@ -11,7 +11,7 @@ use Rattle.scheme_model.specs.Cores.{LocalNumber, Definition}
 use Rattle.scheme_model.specs.Order.{Here, Note, Pending, Transformer, is_some, told}
 use Rattle.scheme_model.specs.Substitution.{State, at_form, note_map, pending_map, any, refused_in_body, is_own, rules_mapped, own_rules, with_macro, meaning, deep, asks, defined_local, define_in_body, is_plain, is_variable, defined_in, definition_count, model}
 use Rattle.scheme_model.specs.ScopedExpansion.{Frames, BodyDefinitions, Place, ScopedMacro, ScopedState, find, next_number, means_at, macro_at, macro_added, definition_added, refused_now, define_at}
-use Rattle.scheme_model.specs.OpenBodies.{Before as Counted, Below as BelowCounted, Entered}
+use Rattle.scheme_model.proofs.OpenBodies.{Before as Counted, Below as BelowCounted, Entered}
 use Rattle.scheme_model.proofs.FrameEras.{Before, Below, below_counted, frames_entered}
 use Rattle.scheme_model.proofs.IdentLaws.{number_itself, ident_told}
 use Rattle.scheme_model.proofs.IdentKinds.{rules_kind}

@@ -10,7 +10,7 @@ use Rattle.scheme_model.specs.Substitution.{Table, Entries, Clock, asks}
 use Rattle.scheme_model.specs.Scopes.{own_of, given_or}
 use Rattle.scheme_model.specs.ScopedExpansion.{Bind, Enter, Frames, BodyDefinitions, UsePlace, around, find, defined_as, means_inside, means_outside}
 use Rattle.scheme_model.specs.FrameImages.{is_before, is_older, entered_as, before_definition, image_inside, image_outside, frame_image}
-use Rattle.scheme_model.specs.OpenBodies.{Leq, Before, NotYet, Entered, Below, PlacesIn, DefinitionsBelow, FramesOk, Other, Sits}
+use Rattle.scheme_model.proofs.OpenBodies.{Leq, Before, NotYet, Entered, Below, PlacesIn, DefinitionsBelow, FramesOk, Other, Sits}
 use Rattle.scheme_model.proofs.IdentLaws.{number_itself, ident_told, name_told, name_itself, same_turned}
 use Rattle.scheme_model.proofs.Clocks.{leq_itself, leq_then, before_more, not_yet_less}
 use Rattle.scheme_model.proofs.FrameNames.{erase_frame_image, same_frame_image}

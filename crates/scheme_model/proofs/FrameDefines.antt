@@ -7,7 +7,7 @@ use Rattle.scheme_model.specs.Substitution.{Clock, deep}
 use Rattle.scheme_model.specs.ScopedExpansion.{Bind, Enter, Frames, BodyDefinitions, UsePlace, around, find}
 use Rattle.scheme_model.specs.FrameImages.{is_before, entered_as, before_definition, image_inside, image_outside, frame_image}
 use Rattle.scheme_model.proofs.IdentLaws.{number_itself, ident_told, same_turned}
-use Rattle.scheme_model.specs.OpenBodies.{Leq, Before, NotYet, Entered, Below, PlacesIn, DefinitionsBelow, FramesOk, Other, Sits}
+use Rattle.scheme_model.proofs.OpenBodies.{Leq, Before, NotYet, Entered, Below, PlacesIn, DefinitionsBelow, FramesOk, Other, Sits}
 use Rattle.scheme_model.proofs.Clocks.{leq_itself, leq_then, before_more}
 use Rattle.scheme_model.proofs.FrameNames.{same_frame_image}
 use Rattle.scheme_model.proofs.FrameTimes.{SameFind, image_definitions, definitions_same, inside_new}

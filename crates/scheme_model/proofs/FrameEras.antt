@@ -1,11 +1,11 @@
 -- A unit that is worked on after others: which numbers and identifiers there are by then. None is of a unit that comes later.
-use Rattle.std.proofs.Common.{◌≡◌, ℕ, List, [], ◌∷◌, Bool, true, false, refl, ap, ◌∙◌, eq-eqb}
+use Rattle.std.proofs.Common.{◌≡◌, ℕ, [], ◌∷◌, Bool, true, refl, ap, ◌∙◌, eq-eqb}
 use Rattle.std.specs.Prelude.{◌==◌, ◌||◌}
 use Rattle.scheme_model.specs.Identifiers.{Number}
 use Rattle.scheme_model.specs.Ident.{Ident, Written, Inserted}
 use Rattle.scheme_model.specs.Substitution.{Clock}
 use Rattle.scheme_model.specs.ScopedExpansion.{Bind, Enter, Frames, BodyDefinitions}
-use Rattle.scheme_model.specs.OpenBodies.{Leq, Before as Counted, Below as BelowCounted, Entered, FramesOk}
+use Rattle.scheme_model.proofs.OpenBodies.{Leq, Before as Counted, Below as BelowCounted, Entered, FramesOk}
 use Rattle.scheme_model.proofs.Clocks.{before_more as counted_more}
 use Rattle.scheme_model.proofs.FrameTimes.{entered_more}
 

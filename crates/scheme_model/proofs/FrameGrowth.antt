@@ -1,5 +1,5 @@
 -- A binder, the entry of a body, and a macro use: what they make of images, and that what holds of a state stays.
-use Rattle.std.proofs.Common.{◌≡◌, ℕ, suc, ◌⊎◌, inl, inr, [], ◌∷◌, Bool, true, false, cond, Some, None, refl, sym, ap, ◌∙◌, subst}
+use Rattle.std.proofs.Common.{◌≡◌, suc, ◌⊎◌, inl, inr, [], ◌∷◌, Bool, true, false, cond, Some, None, refl, sym, ap, ◌∙◌, subst}
 use Rattle.std.specs.Prelude.{◌&&◌}
 use Rattle.std.proofs.lemmas.Bool.{false_from_ne_true}
 use Rattle.scheme_model.specs.Identifiers.{Number, same_number, Name, Inserted as InsertedName, Inner, Var}
@@ -7,7 +7,7 @@ use Rattle.scheme_model.specs.Ident.{Ident, Written, Inserted, same_ident}
 use Rattle.scheme_model.specs.Substitution.{Clock, at_form, is_plain, shallow}
 use Rattle.scheme_model.specs.ScopedExpansion.{Bind, Enter, Frames, BodyDefinition, BodyDefinitions, ScopedState, around, find, next_number}
 use Rattle.scheme_model.specs.FrameImages.{is_before, is_older, bound_as, entered_as, before_definition, image_inside, image_outside, frame_image}
-use Rattle.scheme_model.specs.OpenBodies.{Before as Counted, Below as BelowCounted, Entered, Leq, NotYet}
+use Rattle.scheme_model.proofs.OpenBodies.{Before as Counted, Below as BelowCounted, Entered, Leq, NotYet}
 use Rattle.scheme_model.proofs.IdentLaws.{ident_told, number_told, number_itself, same_turned}
 use Rattle.scheme_model.proofs.Clocks.{leq_itself, leq_counted, apart}
 use Rattle.scheme_model.proofs.FrameNames.{same_frame_image}

@@ -16,7 +16,7 @@ use Rattle.scheme_model.specs.Expression.{node}
 use Rattle.scheme_model.specs.Substitution.{State, Clock, at_form, rules_at, transformer_of, model}
 use Rattle.scheme_model.specs.ScopedExpansion.{Frames, BodyDefinitions, UsePlace, ScopedMacro, ScopedState, macro_at, scoped}
 use Rattle.scheme_model.specs.FrameImages.{frame_image}
-use Rattle.scheme_model.specs.OpenBodies.{Entered}
+use Rattle.scheme_model.proofs.OpenBodies.{Entered}
 use Rattle.scheme_model.proofs.FrameEras.{Era, Before}
 use Rattle.scheme_model.proofs.IdentKinds.{rules_kind}
 use Rattle.scheme_model.proofs.FrameNames.{erase_frame_image}

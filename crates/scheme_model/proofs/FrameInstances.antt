@@ -16,7 +16,7 @@ use Rattle.scheme_model.specs.Order.{Here, Transformer, target_of, given, used, 
 use Rattle.scheme_model.specs.Substitution.{Clock, at_form, meaning, model}
 use Rattle.scheme_model.specs.ScopedExpansion.{Frames, ScopedState, next_number, means_at, scoped}
 use Rattle.scheme_model.specs.Renaming.{Renames, value_map, values_map, binding_map, chosen_map, built_map}
-use Rattle.scheme_model.specs.OpenBodies.{Entered}
+use Rattle.scheme_model.proofs.OpenBodies.{Entered}
 use Rattle.scheme_model.proofs.FrameEras.{Era, Before, Below, below_more}
 use Rattle.scheme_model.proofs.RenamingLaws.{Reads, reads, Finds, finds, map_after, map_turned}
 use Rattle.scheme_model.proofs.RulesLaws.{role_of-map, dots_of-map}

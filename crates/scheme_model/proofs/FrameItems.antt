@@ -12,7 +12,7 @@ use Rattle.scheme_model.specs.Order.{Here, Item, Expression, Value, Function, As
 use Rattle.scheme_model.specs.Expression.{whole, lambda, macro_def, assignment, item_part, parts}
 use Rattle.scheme_model.specs.Substitution.{State, Clock, clause_map, item_map, model}
 use Rattle.scheme_model.specs.ScopedExpansion.{Frames, ScopedState, scoped}
-use Rattle.scheme_model.specs.OpenBodies.{Leq}
+use Rattle.scheme_model.proofs.OpenBodies.{Leq}
 use Rattle.scheme_model.proofs.FrameEras.{Era, Below, below_more}
 use Rattle.scheme_model.proofs.IdentKinds.{clause_kind, item_kind}
 use Rattle.scheme_model.proofs.FrameAsks.{AllOf, all_of_more}

@@ -8,7 +8,7 @@ use Rattle.scheme_model.specs.Requirements.{Known}
 use Rattle.scheme_model.specs.Order.{Transformer, is_some}
 use Rattle.scheme_model.specs.Substitution.{Table, Clock, at_form, defined_in, is_own}
 use Rattle.scheme_model.specs.ScopedExpansion.{Enter, Frames, BodyDefinitions, UsePlace, Place, ScopedMacro, ScopedState, around, next_number, macro_at}
-use Rattle.scheme_model.specs.OpenBodies.{Before as Counted, Leq, NotYet, Entered, PlacesIn, DefinitionsBelow, FramesOk, Other, Sits}
+use Rattle.scheme_model.proofs.OpenBodies.{Before as Counted, Leq, NotYet, Entered, PlacesIn, DefinitionsBelow, FramesOk, Other, Sits}
 use Rattle.scheme_model.proofs.FrameEras.{Era, Before, Below, before_more, below_more, below_counted, frames_entered}
 use Rattle.scheme_model.proofs.IdentLaws.{number_told}
 use Rattle.scheme_model.proofs.IdentKinds.{rules_kind}

@@ -12,7 +12,7 @@ use Rattle.scheme_model.specs.Steps.{Broken, Step, ◌>>=◌, done, fails}
 use Rattle.scheme_model.specs.Order.{Here, Form, Item, Note, Pending, Pass, Going, Transformer, binder_at, counting, given, told, forms_at, put, first, caught, splice, read_then, max_nodes}
 use Rattle.scheme_model.specs.Substitution.{State, Clock, at_form, form_map, item_map, note_map, pending_map, model}
 use Rattle.scheme_model.specs.ScopedExpansion.{Frames, Place, ScopedState, next_number, means_at, macro_at, scoped}
-use Rattle.scheme_model.specs.OpenBodies.{Entered}
+use Rattle.scheme_model.proofs.OpenBodies.{Entered}
 use Rattle.scheme_model.proofs.FrameEras.{Era, Before, Below}
 use Rattle.scheme_model.proofs.IdentKinds.{Kind, rules_kind, pointwise, faults_fused}
 use Rattle.scheme_model.proofs.FrameNames.{erase_frame_image}

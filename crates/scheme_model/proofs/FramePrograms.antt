@@ -15,22 +15,22 @@ use Rattle.scheme_model.specs.Meaning.{Global, Standard}
 use Rattle.scheme_model.specs.Requirements.{Known}
 use Rattle.scheme_model.specs.RulesShape.{Rules, rules_map, rules_parts}
 use Rattle.scheme_model.specs.UnitExpansion.{Formed, unit}
-use Rattle.scheme_model.specs.Substitution.{Table, Entries, KeptMacro, State, Defined, defined_in, is_plain, model}
-use Rattle.scheme_model.specs.ScopedExpansion.{BodyDefinitions, ScopedState, scoped}
+use Rattle.scheme_model.specs.Substitution.{Entries, KeptMacro, State, Defined, defined_in, is_plain, meaning, model}
+use Rattle.scheme_model.specs.ScopedExpansion.{Frames, BodyDefinitions, ScopedState, means_inside, means_outside}
 use Rattle.scheme_model.specs.Order.{is_some}
-use Rattle.scheme_model.specs.FrameImages.{frame_image, image_outside}
+use Rattle.scheme_model.specs.FrameImages.{frame_image, image_outside, DefinesOutside}
 use Rattle.scheme_model.specs.Prelude.{PreludeMacro, prelude}
 use Rattle.scheme_model.specs.Entries.{Entry}
 use Rattle.scheme_model.specs.Declarations.{UnitForm}
-use Rattle.scheme_model.specs.Program.{Document, known_in, units_of, prepare, Placed, Prepared, WholeFault, TooLarge, fault_before, SetResult, UnitResult, Progress, result_at, unit_entries, with_entries, form_trees, start_of, enough_turns, total, max_total, export_all, names_of_unit, expanded_unit, by_fault, is_ready, first_ready, worked, work, written_rules, is_standard, prelude_unit, prelude_entry, prelude_meaning, prelude_macro, prelude_definitions, progress_before, Program, in_order, program_of}
-use Rattle.scheme_model.specs.ScopedProgram.{ScopedProgress, forms_over, scoped_start_of, scoped_unit_over, broken_result, unit_result, scoped_expanded, scoped_by_fault, scoped_worked, scoped_work, prelude_rules, scoped_prelude_macro, scoped_before, scoped_program_of, imaged_macro, imaged}
+use Rattle.scheme_model.specs.Program.{Document, known_in, units_of, prepare, Placed, Prepared, WholeFault, TooLarge, fault_before, SetResult, UnitResult, Progress, result_at, unit_entries, with_entries, form_trees, start_of, enough_turns, total, max_total, export_all, names_of_unit, broken_result, unit_result, expanded_unit, by_fault, is_ready, first_ready, worked, work, written_rules, is_standard, prelude_unit, prelude_entry, prelude_meaning, prelude_macro, prelude_definitions, progress_before, in_order, program_of}
+use Rattle.scheme_model.specs.ScopedProgram.{ScopedProgress, forms_over, scoped_start_of, scoped_unit_over, scoped_expanded, scoped_by_fault, scoped_worked, scoped_work, prelude_rules, scoped_prelude_macro, scoped_before, scoped_program_of, imaged_macro, imaged}
 use Rattle.scheme_model.proofs.RenamingLaws.{map_after}
-use Rattle.scheme_model.proofs.ScopeLaws.{map_map}
 use Rattle.scheme_model.proofs.IdentKinds.{rules_kind, rules_fused}
 use Rattle.scheme_model.proofs.Clocks.{leq_itself}
+use Rattle.scheme_model.proofs.FrameNames.{meaning_frame_image}
 use Rattle.scheme_model.proofs.FrameEras.{Era, Worked, Below}
 use Rattle.scheme_model.proofs.FrameAsks.{AllOf}
-use Rattle.scheme_model.proofs.FrameRoots.{AtRoot, RulesOver, Rooted, UnitMacro}
+use Rattle.scheme_model.proofs.FrameRoots.{RulesOver, Rooted, UnitMacro}
 use Rattle.scheme_model.proofs.FrameStates.{names, Old, ident_of, Made, MacroFine, Fine, FineState}
 use Rattle.scheme_model.proofs.FrameLeaves.{TreeAll, all_held}
 use Rattle.scheme_model.proofs.EntryLaws.{GivenNoLocal, Fits, Exports, unit_entries_fit, with_entries_fit, exports_all_fit}
@@ -106,6 +106,7 @@ coming rs z = record { unit = z; worked = done rs }
 
 pub record Between (g : ScopedProgress) : Type 0 where
   pub fine : (z : ℕ) → done g.results z ≡ false → Fine (coming g.results z) none_yet none_yet none_yet g.table g.entry g.macros g.places g.definitions
+  pub outside : DefinesOutside g.table g.places
   pub entries : (u : ℕ) (s : List ℕ) → GivenNoLocal (g.entry u s)
   pub exports : Exports g.results
 
@@ -130,6 +131,7 @@ module _ (known : Known) (g : ScopedProgress) (h : Between g) (p : Prepared) (ne
   pub broken_between : (fault : WholeFault) → Between (record g { results = broken_result p fault ∷ g.results })
   broken_between fault = record {
     fine = λ z e. left_then w z (done (broken_result p fault ∷ g.results)) (done_more g.results (broken_result p fault) p.number refl) e none_yet none_yet none_yet g.table g.entry g.entry g.macros g.places g.definitions (h.fine p.number new) h.entries;
+    outside = h.outside;
     entries = h.entries;
     exports = (tt, h.exports);
   }
@@ -214,6 +216,7 @@ module _ (known : Known) (g : ScopedProgress) (h : Between g) (p : Prepared) (ne
         let s = by_scopes.1 in
         record {
           fine = λ z e. left_then w z (done (result ∷ g.results)) (done_more g.results result p.number result_number) e s.locals s.uses s.bodies s.table s.entry entry s.macros s.places s.definitions unit_same.fine.1 entries_fit;
+          outside = λ v i es e. (unit_same.fine.1.outside v i e).1 es;
           entries = entries_fit;
           exports = (result_exports, h.exports);
         }
@@ -251,12 +254,13 @@ module _ (all : List Placed) (ps : List Prepared) (known : Known) where
   worked_gone g h None r = record { same = refl; between = h }
   worked_gone g h (Some p) r = fault_gone g h p (not_done (done g.results p.number) _ r) (fault_before all ps p)
 
-  pub work_gone : (n : ℕ) (g : ScopedProgress) → Between g → work all ps known n (imaged g) ≡ imaged (scoped_work all ps known n g)
-  work_gone zero g h = refl
+  pub work_gone : (n : ℕ) (g : ScopedProgress) → Between g → Gone (work all ps known n (imaged g)) (scoped_work all ps known n g)
+  work_gone zero g h = record { same = refl; between = h }
   work_gone (suc n) g h =
       let o = first_ready (is_ready all ps g.results) ps in
       let q = worked_gone g h o (first_is (is_ready all ps g.results) ps) in
-      ap (work all ps known n) q.same ∙ work_gone n (scoped_worked all ps known o g) q.between
+      let rest = work_gone n (scoped_worked all ps known o g) q.between in
+      record { same = ap (work all ps known n) q.same ∙ rest.same; between = rest.between }
 
 -- ---- the prelude
 
@@ -343,6 +347,7 @@ between_before = record {
     places = λ k. tt;
     entries = λ v s. given_counted (first z) none_yet (prelude_entry v s) (prelude_entries v s);
   };
+  outside = λ v i es e. (outside 0 v i e).1 es;
   entries = prelude_entries;
   exports = tt;
 }
@@ -360,7 +365,12 @@ before_same = ap (λ (ms : List KeptMacro). record progress_before { macros = ms
 -- ---- the program
 
 pub progress_law : (all : List Placed) (ps : List Prepared) (known : Known) (n : ℕ) → imaged (scoped_work all ps known n scoped_before) ≡ work all ps known n progress_before
-progress_law all ps known n = sym (work_gone all ps known n scoped_before between_before) ∙ ap (work all ps known n) before_same
+progress_law all ps known n = sym (work_gone all ps known n scoped_before between_before).same ∙ ap (work all ps known n) before_same
+
+pub means_law : (all : List Placed) (ps : List Prepared) (known : Known) (n : ℕ) (fs : Frames) (i : Ident)
+    → let g = scoped_work all ps known n scoped_before in meaning g.table g.entry (frame_image g.places g.definitions fs i) ≡ means_inside g.definitions fs i (means_outside g.table g.entry g.places g.definitions i)
+means_law all ps known n fs i =
+    let g = scoped_work all ps known n scoped_before in meaning_frame_image g.table g.entry g.places (work_gone all ps known n scoped_before between_before).between.outside g.definitions fs i
 
 pub program_law : (ds : List Document) → scoped_program_of ds ≡ program_of ds
 program_law ds =

@@ -1,13 +1,12 @@
 -- What stands in units, outside all frames: identifiers that uses of units' macros alone inserted, and the macros of units.
-use Rattle.std.proofs.Common.{◌≡◌, ℕ, List, [], ◌∷◌, refl, sym, ap, ◌∙◌, true}
-use Rattle.scheme_model.specs.Identifiers.{Number}
+use Rattle.std.proofs.Common.{◌≡◌, List, [], refl, sym, ap, ◌∙◌, true}
 use Rattle.scheme_model.specs.Ident.{Ident, Written, Inserted}
 use Rattle.scheme_model.specs.Meaning.{Meaning, Local, Global, Standard, Free}
 use Rattle.scheme_model.specs.RulesShape.{Rules, rules_map}
 use Rattle.scheme_model.specs.Substitution.{Clock, is_plain}
 use Rattle.scheme_model.specs.ScopedExpansion.{Frames, BodyDefinitions, UsePlace, ScopedMacro, around}
 use Rattle.scheme_model.specs.FrameImages.{image_inside, image_outside}
-use Rattle.scheme_model.specs.OpenBodies.{Leq}
+use Rattle.scheme_model.proofs.OpenBodies.{Leq}
 use Rattle.scheme_model.proofs.IdentKinds.{rules_fused}
 use Rattle.scheme_model.proofs.FrameTimes.{SamePlaces}
 use Rattle.scheme_model.proofs.FrameEras.{Era, Below, below_more}

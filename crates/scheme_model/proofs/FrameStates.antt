@@ -8,7 +8,7 @@ use Rattle.scheme_model.specs.Order.{is_some}
 use Rattle.scheme_model.specs.Substitution.{Table, Entries, Clock, at_form, defined_in, is_plain, meaning, KeptMacro, State}
 use Rattle.scheme_model.specs.ScopedExpansion.{Bind, Enter, Frames, BodyDefinition, BodyDefinitions, UsePlace, ScopedMacro, ScopedState, around, next_number, means_at}
 use Rattle.scheme_model.specs.FrameImages.{image_outside, frame_image, DefinesOutside}
-use Rattle.scheme_model.specs.OpenBodies.{Before as Counted, DefinitionsBelow, Entered, FramesOk, Leq, NotYet}
+use Rattle.scheme_model.proofs.OpenBodies.{Before as Counted, DefinitionsBelow, Entered, FramesOk, Leq, NotYet}
 use Rattle.scheme_model.proofs.IdentKinds.{Kind, mapped_same, rules_kind}
 use Rattle.scheme_model.proofs.Clocks.{leq_itself, leq_then, before_more as counted_more, numbered, next_not_yet, next_counted}
 use Rattle.scheme_model.proofs.FrameNames.{meaning_frame_image}

@@ -8,7 +8,7 @@ use Rattle.scheme_model.specs.Substitution.{Clock}
 use Rattle.scheme_model.specs.ScopedExpansion.{Bind, Enter, Frames, BodyDefinitions, UsePlace, around, find}
 use Rattle.scheme_model.specs.FrameImages.{is_before, is_older, bound_as, entered_as, before_definition, image_inside, image_outside, frame_image}
 use Rattle.scheme_model.proofs.IdentLaws.{ident_told}
-use Rattle.scheme_model.specs.OpenBodies.{Leq, Before, NotYet, Entered, Below, PlacesIn, DefinitionsBelow, FramesOk}
+use Rattle.scheme_model.proofs.OpenBodies.{Leq, Before, NotYet, Entered, Below, PlacesIn, DefinitionsBelow, FramesOk}
 use Rattle.scheme_model.proofs.Clocks.{leq_itself, leq_then, before_more, not_yet_less}
 
 -- ---- bodies around a place

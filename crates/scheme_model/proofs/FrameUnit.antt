@@ -12,13 +12,13 @@ use Rattle.scheme_model.specs.Order.{Here, Note, Pending, Transformer, is_some, 
 use Rattle.scheme_model.specs.Substitution.{State, Table, Entries, Defined, Clock, at_form, note_map, pending_map, any, meaning, refused_in_unit, with_macro, defined_global, define_in_unit, is_plain, is_variable, defined_in, definition_count, model}
 use Rattle.scheme_model.specs.Scopes.{own_of, imported_as, defined_or, given_or}
 use Rattle.scheme_model.specs.ScopedExpansion.{Frames, BodyDefinitions, UsePlace, Place, ScopedMacro, ScopedState, around, next_number, means_inside, means_outside, means_at, macro_at, macro_added, definition_added, refused_now, define_at}
-use Rattle.scheme_model.specs.FrameImages.{image_inside, image_outside}
-use Rattle.scheme_model.proofs.FrameEras.{Era, Below, below_more}
+use Rattle.scheme_model.specs.FrameImages.{image_outside}
+use Rattle.scheme_model.proofs.FrameEras.{Era, Below}
 use Rattle.scheme_model.proofs.IdentLaws.{ident_told}
 use Rattle.scheme_model.proofs.IdentKinds.{rules_kind}
 use Rattle.scheme_model.proofs.Clocks.{leq_counted}
 use Rattle.scheme_model.proofs.FrameNames.{erase_frame_image}
-use Rattle.scheme_model.proofs.FrameAsks.{AllOf, all_of_more}
+use Rattle.scheme_model.proofs.FrameAsks.{AllOf}
 use Rattle.scheme_model.proofs.EntryLaws.{NoLocal, GivenNoLocal}
 use Rattle.scheme_model.proofs.FrameRoots.{AtRoot, root_plain, Rooted, RootMacro, MacroStands, UnitMacro, rooted_later}
 use Rattle.scheme_model.proofs.FrameStates.{names, view, seen_macro, FineState, Grows, grows_itself, grows_then, MacroFine, names_mean, names_later, locals_fine, locals_grow}

@@ -11,7 +11,7 @@ use Rattle.scheme_model.specs.Expression.{Expander, expand, item_part, parts}
 use Rattle.scheme_model.specs.UnitExpansion.{Formed, max_depth, passes, from_items, finished, unit}
 use Rattle.scheme_model.specs.Substitution.{State, Clock, item_map, note_map, model}
 use Rattle.scheme_model.specs.ScopedExpansion.{Frames, Place, ScopedState, scoped}
-use Rattle.scheme_model.specs.OpenBodies.{Leq}
+use Rattle.scheme_model.proofs.OpenBodies.{Leq}
 use Rattle.scheme_model.proofs.FrameEras.{Era, Below, below_more}
 use Rattle.scheme_model.proofs.IdentKinds.{item_kind}
 use Rattle.scheme_model.proofs.FrameAsks.{AllOf, all_of_more}

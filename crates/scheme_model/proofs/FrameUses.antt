@@ -1,5 +1,5 @@
 -- The law of one macro use, and of what it compares.
-use Rattle.std.proofs.Common.{◌≡◌, ℕ, List, map, Bool, ap, ◌∙◌}
+use Rattle.std.proofs.Common.{◌≡◌, List, map, Bool, ap, ◌∙◌}
 use Rattle.scheme_model.specs.Identifiers.{Number, Name, same_name, strip}
 use Rattle.scheme_model.specs.Ident.{Ident, same_ident, symbol_of}
 use Rattle.scheme_model.specs.Trees.{Trees, Tail, map_trees, map_tail}

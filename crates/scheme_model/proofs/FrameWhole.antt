@@ -12,7 +12,7 @@ use Rattle.scheme_model.specs.Order.{Here, Pass, here_at, forms_at, run}
 use Rattle.scheme_model.specs.Expression.{expression, item_part, parts, items_of, body_in, body_core, expand}
 use Rattle.scheme_model.specs.Substitution.{State, is_own, model}
 use Rattle.scheme_model.specs.ScopedExpansion.{Frames, BodyDefinition, BodyDefinitions, Place, ScopedMacro, ScopedState, around, next_number, scoped}
-use Rattle.scheme_model.specs.OpenBodies.{Sits}
+use Rattle.scheme_model.proofs.OpenBodies.{Sits}
 use Rattle.scheme_model.proofs.FrameEras.{Era, Before, Below, below_counted}
 use Rattle.scheme_model.proofs.IdentKinds.{item_kind, rules_kind}
 use Rattle.scheme_model.proofs.Clocks.{leq_itself, apart}

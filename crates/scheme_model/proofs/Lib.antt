@@ -12,6 +12,7 @@ pub mod MatchLaws
 pub mod BuildLaws
 pub mod LeafLaws
 pub mod IdentKinds
+pub mod OpenBodies
 pub mod Clocks
 pub mod FrameNames
 pub mod FrameTimes

@@ -46,7 +46,6 @@ pub mod Scopes
 pub mod Renaming
 pub mod ScopedExpansion
 pub mod FrameImages
-pub mod OpenBodies
 pub mod UnitExpansion
 pub mod Entries
 pub mod Declarations

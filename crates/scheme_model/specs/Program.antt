@@ -417,10 +417,18 @@ export_all find seen (x ∷ xs) = export_one seen x (find x.inner.name) (export_
 
 -- ---- one unit after another
 
+abbrev pub broken_result : Prepared → WholeFault → UnitResult
+broken_result p fault = record { unit = p; fault = Some fault; sets = []; entries = []; forms = []; exports = []; export_faults = [] }
+
 abbrev pub broken_unit : Prepared → WholeFault → Progress → Progress
-broken_unit p fault g = record g {
-  results = record { unit = p; fault = Some fault; sets = []; entries = []; forms = []; exports = []; export_faults = [] } ∷ g.results;
-}
+broken_unit p fault g = record g { results = broken_result p fault ∷ g.results }
+
+-- by what it imports, what is defined by then, and what its forms came to
+abbrev pub unit_result : Prepared → List Entry × List SetResult → Table → List Formed → UnitResult
+unit_result p imports table forms =
+    let exports = export_all (names_of_unit table p.number imports.0) [] p.exports in
+    if nat_lt max_total (total forms) then broken_result p TooLarge
+    else record { unit = p; fault = None; sets = imports.1; entries = imports.0; forms = forms; exports = exports.entries; export_faults = exports.faults }
 
 abbrev pub unit_over : Known → List (ℕ × Tree Name) → State → List Formed × State
 unit_over known ts s = unit (model known) enough_turns tt ts s
@@ -428,15 +436,7 @@ unit_over known ts s = unit (model known) enough_turns tt ts s
 abbrev pub expanded_unit : List Placed → Known → Prepared → List Entry × List SetResult → Progress → Progress
 expanded_unit all known p imports g =
     let q = unit_over known (form_trees p.number 0 p.forms) (start_of p g.table g.macros (with_entries p.number imports.0 g.entry)) in
-    let exports = export_all (names_of_unit q.1.table p.number imports.0) [] p.exports in
-    let large = nat_lt max_total (total q.0) in
-    record {
-      table = q.1.table;
-      macros = q.1.macros;
-      entry = with_entries p.number imports.0 g.entry;
-      results = (if large then record { unit = p; fault = Some TooLarge; sets = []; entries = []; forms = []; exports = []; export_faults = [] }
-          else record { unit = p; fault = None; sets = imports.1; entries = imports.0; forms = q.0; exports = exports.entries; export_faults = exports.faults }) ∷ g.results;
-    }
+    record { table = q.1.table; macros = q.1.macros; entry = with_entries p.number imports.0 g.entry; results = unit_result p imports q.1.table q.0 ∷ g.results }
 
 abbrev pub by_fault : List Placed → List Prepared → Known → Prepared → Option WholeFault → Progress → Progress
 by_fault all ps known p (Some fault) g = broken_unit p fault g

@@ -1,6 +1,6 @@
 -- The program of the open documents by scopes: the units are worked on in the order of the definition that substitutes, and each
 -- goes on with the definitions, the macros and the places of macro uses that those before it left. Nothing is substituted.
-use Rattle.std.specs.Prelude.{ℕ, zero, suc, nat_lt, List, [], ◌∷◌, map, length, Option, Some, None, Result, Ok, Err, if◌then◌else◌}
+use Rattle.std.specs.Prelude.{ℕ, zero, suc, List, [], ◌∷◌, map, length, Option, Some, None, Result, Ok, Err, if◌then◌else◌}
 use Rattle.scheme_model.specs.Ident.{Ident, Written}
 use Rattle.scheme_model.specs.Data.{place_of}
 use Rattle.scheme_model.specs.DataTrees.{tree_of}
@@ -15,7 +15,7 @@ use Rattle.scheme_model.specs.UnitExpansion.{Formed, unit}
 use Rattle.scheme_model.specs.Prelude.{PreludeMacro, prelude}
 use Rattle.scheme_model.specs.Entries.{Entry}
 use Rattle.scheme_model.specs.Declarations.{UnitForm}
-use Rattle.scheme_model.specs.Program.{Document, known_in, Placed, units_of, Prepared, prepare, WholeFault, TooLarge, fault_before, SetResult, UnitResult, Progress, is_program, unit_entries, with_entries, enough_turns, total, max_total, export_all, names_of_unit, is_ready, first_ready, prelude_unit, prelude_entry, prelude_meaning, prelude_definitions, Program, in_order}
+use Rattle.scheme_model.specs.Program.{Document, known_in, Placed, units_of, Prepared, prepare, WholeFault, fault_before, SetResult, UnitResult, Progress, is_program, unit_entries, with_entries, enough_turns, broken_result, unit_result, is_ready, first_ready, prelude_unit, prelude_entry, prelude_meaning, prelude_definitions, Program, in_order}
 
 -- what was expanded so far, as the definition that substitutes has it, with scopes in place of what was substituted
 pub record ScopedProgress : Type 0 where
@@ -54,15 +54,6 @@ scoped_start_of p g entry = record {
 
 abbrev pub scoped_unit_over : Known → Prepared → ScopedState → List Formed × ScopedState
 scoped_unit_over known p s = unit (scoped known) enough_turns [] (forms_over (Written p.number) p.number 0 p.forms) s
-
-abbrev pub broken_result : Prepared → WholeFault → UnitResult
-broken_result p fault = record { unit = p; fault = Some fault; sets = []; entries = []; forms = []; exports = []; export_faults = [] }
-
-abbrev pub unit_result : Prepared → List Entry × List SetResult → Table → List Formed → UnitResult
-unit_result p imports table forms =
-    let exports = export_all (names_of_unit table p.number imports.0) [] p.exports in
-    if nat_lt max_total (total forms) then broken_result p TooLarge
-    else record { unit = p; fault = None; sets = imports.1; entries = imports.0; forms = forms; exports = exports.entries; export_faults = exports.faults }
 
 abbrev pub after_unit : Prepared → List Entry × List SetResult → Entries → List UnitResult → List Formed × ScopedState → ScopedProgress
 after_unit p imports entry results q = record {

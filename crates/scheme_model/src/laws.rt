@@ -15,8 +15,7 @@ ghost use Rattle.scheme_model.specs.Leaves.{leaves_of};
 ghost use Rattle.scheme_model.specs.Renaming.{Renames, IsRenamed, result_map, formals_map, definition_map, record_map, local_macros_map, pieces_map, leaf_map, binding_map, chosen_map, pair_map, built_map};
 ghost use Rattle.scheme_model.specs.Substitution.{Table, Entries, Clock, meaning, deep, clause_map};
 ghost use Rattle.scheme_model.specs.ScopedExpansion.{Frames, Enter, BodyDefinitions, find, UsePlace, means_inside, means_outside};
-ghost use Rattle.scheme_model.specs.FrameImages.{frame_image, DefinesOutside};
-ghost use Rattle.scheme_model.specs.OpenBodies.{IsOpen, Sits};
+ghost use Rattle.scheme_model.specs.FrameImages.{frame_image};
 ghost use Rattle.scheme_model.specs.Program.{Document, Placed, Prepared, work, progress_before, program_of};
 ghost use Rattle.scheme_model.specs.ScopedProgram.{scoped_work, scoped_before, scoped_program_of, imaged};
 ghost use Rattle.scheme_model.specs.Scopes.{Chain, Uses, image, substituted, own_of, means, AreOutside};
@@ -90,23 +89,13 @@ pub fn frame_images_are_names()
     ensures apart { (ps : List UsePlace) (ds : BodyDefinitions) (fs : Frames) (i j : Ident) → same_name (frame_image ps ds fs i) (frame_image ps ds fs j) ≡ same_ident i j }
 {}
 
-/// An image means what the frames give for the identifier, as long as no frame is around the macros whose uses inserted what units
-/// define.
-pub fn frames_mean()
-    ensures { (table : Table) (entry : Entries) (ps : List UsePlace) (ds : BodyDefinitions) (fs : Frames) (i : Ident) → DefinesOutside table ps →
-        meaning table entry (frame_image ps ds fs i) ≡ means_inside ds fs i (means_outside table entry ps ds i) }
-{}
-
-/// A definition of a body changes the image of each identifier that can stand in the body as deep substitution does (R7RS 5.3.2):
-/// its name is replaced wherever it stands in a name, but not inside a binder's.
-pub fn definitions_are_substituted()
-    ensures { (b : Number) (u : Clock) (c : Frames) (ps : List UsePlace) (ds : BodyDefinitions) (m : Clock) → IsOpen b u c ps ds m → (x : Ident) (v : Number) → find ds b x ≡ None → (i : Ident) → Sits b u c ps i →
-        deep (frame_image ps ds (Enter b u ∷ c) x) v (frame_image ps ds (Enter b u ∷ c) i) ≡ frame_image ps (record { body = b; ident = x; binder = v } ∷ ds) (Enter b u ∷ c) i }
-{}
-
 /// The program of the open documents, worked on by scopes, is the program by substitution (R7RS 4.3, 5), whatever the documents are:
-/// each unit's imports, forms with their parts or faults, counts, keywords and macro uses, and exports, and what all units define.
+/// of each unit the imports, the forms with their parts or faults, counts, keywords and macro uses, and the exports; and what all
+/// units define. After each unit the two have the same results, and in the rules of each macro an identifier is what it has become,
+/// which means what the frames give.
 pub fn programs_are_substituted()
     ensures program { (ds : List Document) → scoped_program_of ds ≡ program_of ds }
     ensures progress { (all : List Placed) (units : List Prepared) (known : Known) (n : ℕ) → imaged (scoped_work all units known n scoped_before) ≡ work all units known n progress_before }
+    ensures means { (all : List Placed) (units : List Prepared) (known : Known) (n : ℕ) (fs : Frames) (i : Ident) →
+        let g = scoped_work all units known n scoped_before in meaning g.table g.entry (frame_image g.places g.definitions fs i) ≡ means_inside g.definitions fs i (means_outside g.table g.entry g.places g.definitions i) }
 {}

@@ -1,11 +1,14 @@
 use Rattle.std.proofs.Common.{ℕ, List}
+use Rattle.scheme_model.specs.Ident.{Ident}
+use Rattle.scheme_model.specs.ScopedExpansion.{Frames}
 use Rattle.scheme_model.specs.Requirements.{Known}
 use Rattle.scheme_model.specs.Program.{Document, Placed, Prepared}
-use Rattle.scheme_model.proofs.FramePrograms.{program_law, progress_law}
+use Rattle.scheme_model.proofs.FramePrograms.{program_law, progress_law, means_law}
 use Rattle.scheme_model.proofs.laws.programs_are_substituted.Goals as goal
 
 pub returns : goal.returns
 returns c = record {
   program = λ (ds : List Document). program_law ds;
   progress = λ (all : List Placed) (units : List Prepared) (known : Known) (n : ℕ). progress_law all units known n;
+  means = λ (all : List Placed) (units : List Prepared) (known : Known) (n : ℕ) (fs : Frames) (i : Ident). means_law all units known n fs i;
 }

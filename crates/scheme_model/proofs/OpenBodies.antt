@@ -1,5 +1,5 @@
 -- A body that is open, by the time at which it was entered: what is around it, and which identifiers can stand in it.
-use Rattle.std.specs.Prelude.{◌≡◌, ℕ, ◌≤◌, ◌⊎◌, true, false, List, [], ◌∷◌, None}
+use Rattle.std.proofs.Common.{◌≡◌, ℕ, ◌≤◌, ◌⊎◌, true, false, List, [], ◌∷◌, None}
 use Rattle.scheme_model.specs.Identifiers.{Number, same_number}
 use Rattle.scheme_model.specs.Ident.{Ident, Written, Inserted}
 use Rattle.scheme_model.specs.Substitution.{Clock}
@@ -45,14 +45,6 @@ FramesOk unit ds u n (Enter b z ∷ fs) = (m : Clock) × (b.unit ≡ unit) × Be
 -- another body
 abbrev pub Other : Number → Number → Type 0
 Other b a = same_number b a ≡ false
-
--- the body b, entered after u uses and m bodies of its unit inside the frames c
-pub record IsOpen (b : Number) (u : Clock) (c : Frames) (ps : List UsePlace) (ds : BodyDefinitions) (m : Clock) : Type 0 where
-  -- macros of older uses were defined in other bodies
-  pub places : PlacesIn b.unit u (Other b) ps
-  pub young : NotYet b.unit m b
-  pub definitions : DefinitionsBelow b.unit ds u m
-  pub frames : FramesOk b.unit ds u m c
 
 -- an identifier that can stand in it: each use in it is of a macro that is defined in it, or of one from outside
 abbrev pub Sits : Number → Clock → Frames → List UsePlace → Ident → Type 0
