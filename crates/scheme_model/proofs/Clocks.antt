@@ -47,7 +47,3 @@ next_counted unit f n =
     ap (λ t. cond t (ltb (n f) (at_form f suc n f)) true) (eq-eqb unit unit refl)
     ∙ ap (λ t. ltb (n f) (cond t (suc (n f)) (n f))) (eq-eqb f f refl)
     ∙ lt-ltb (n f) (suc (n f)) (omega arith)
-
--- no other form has counted
-pub other_form : (f : ℕ) (n : Clock) (g : ℕ) → eqb g f ≡ false → n g ≡ at_form f suc n g
-other_form f n g e = sym (ap (λ t. cond t (suc (n g)) (n g)) e)

@@ -1,6 +1,6 @@
 -- Both sides go together: they give related values, or the same fault, and states of which the definition's has what the scoped
 -- side has.
-use Rattle.std.proofs.Common.{◌≡◌, List, Bool, Result, Ok, Err, refl, sym, ap, ◌∙◌}
+use Rattle.std.proofs.Common.{◌≡◌, List, Bool, Result, Ok, Err, refl, ap, ◌∙◌}
 use Rattle.scheme_model.specs.Identifiers.{Number, Name}
 use Rattle.scheme_model.specs.Ident.{Ident, erase}
 use Rattle.scheme_model.specs.ExpansionFaults.{Fault, fault_map}
@@ -84,18 +84,3 @@ module _ (w : Era) where
         → Reads (ident_of w s.uses) (k.map (Old w s.uses) Ident (ident_of w s.uses)) r0 r → Reads (names s fs) (k.map Ident Name (names s fs)) r r' → Agrees (Keeps s) (Seen k fs) (given (λ i. i) here r s) (given erase here r' (view in_body mine s))
     read_both r0 r r' (reads e) (reads d) =
         agrees_at (ap (λ x. given (λ i. i) here x s) e) (ap (λ x. given erase here x (view in_body mine s)) (d ∙ ap (result_map (names s fs) (k.map Ident Name (names s fs))) e)) (read_cases r0)
-
-    -- the same, where the definition's side reads over what was made by then
-    over_cases : (r0 : Result (k.of (Old w s.uses)) (Fault (Old w s.uses)))
-        → Agrees (Keeps s) (Seen k fs) (given (λ i. i) here (result_map (ident_of w s.uses) (k.map (Old w s.uses) Ident (ident_of w s.uses)) r0) s) (given erase here (result_map (λ (p : Old w s.uses). names s fs p.0) (k.map (Old w s.uses) Name (λ p. names s fs p.0)) r0) (view in_body mine s))
-    over_cases (Ok x) =
-        agree (k.map (Old w s.uses) Ident (ident_of w s.uses) x) (k.map (Old w s.uses) Name (λ p. names s fs p.0) x) s in_body mine refl refl (keeps_itself s f in_body mine)
-        (record { clock = s.uses; earlier = leq_itself s.uses; made = x; same = refl }, sym (k.fused (Old w s.uses) Ident Name (names s fs) (ident_of w s.uses) x))
-    over_cases (Err e) =
-        break (record { fault = fault_map (λ i. i) (fault_map (ident_of w s.uses) e); here = here }) s in_body mine refl
-        (ap (λ (d : Fault Ident). (Err (record { fault = d; here = here }), view in_body mine s))
-        (ap (fault_map erase) (sym (faults_fused (Old w s.uses) Ident Name (names s fs) (ident_of w s.uses) e)) ∙ erased_fault s fs (fault_map (ident_of w s.uses) e))) (keeps_itself s f in_body mine)
-
-    pub read_over : (r0 : Result (k.of (Old w s.uses)) (Fault (Old w s.uses))) (r : Result (k.of Ident) (Fault Ident)) (r' : Result (k.of Name) (Fault Name))
-        → Reads (ident_of w s.uses) (k.map (Old w s.uses) Ident (ident_of w s.uses)) r0 r → Reads (λ (p : Old w s.uses). names s fs p.0) (k.map (Old w s.uses) Name (λ p. names s fs p.0)) r0 r' → Agrees (Keeps s) (Seen k fs) (given (λ i. i) here r s) (given erase here r' (view in_body mine s))
-    read_over r0 r r' (reads e) (reads d) = agrees_at (ap (λ x. given (λ i. i) here x s) e) (ap (λ x. given erase here x (view in_body mine s)) d) (over_cases r0)

@@ -1,5 +1,5 @@
 -- A name asks x exactly where, once x is replaced, it means x's number; and nothing means the next local's number before.
-use Rattle.std.proofs.Common.{◌≡◌, ℕ, List, [], ◌∷◌, Bool, true, false, cond, Option, Some, None, refl, sym, ap, ◌∙◌}
+use Rattle.std.proofs.Common.{◌≡◌, ℕ, List, [], ◌∷◌, Bool, true, false, cond, Option, Some, None, refl, ap, ◌∙◌}
 use Rattle.std.specs.Prelude.{◌&&◌, ◌||◌}
 use Rattle.std.proofs.lemmas.Bool.{or_parts}
 use Rattle.scheme_model.specs.Identifiers.{Number, same_number, Name, Written as WrittenName, Inserted as InsertedName, Inner, Var, same_name}
@@ -10,7 +10,6 @@ use Rattle.scheme_model.specs.Substitution.{Table, Entries, Defined, Clock, defi
 use Rattle.scheme_model.specs.Scopes.{own_of, imported_as, defined_or, given_or}
 use Rattle.scheme_model.specs.ScopedExpansion.{Bind, Enter, Frames, BodyDefinition, BodyDefinitions, UsePlace, around, find, defined_as, means_inside, means_outside}
 use Rattle.scheme_model.proofs.OpenBodies.{NotYet}
-use Rattle.scheme_model.proofs.IdentLaws.{number_itself}
 use Rattle.scheme_model.proofs.Clocks.{apart}
 use Rattle.scheme_model.proofs.FrameEras.{Era, Before}
 
@@ -67,14 +66,6 @@ module _ (table : Table) (entry : Entries) where
       meaning_cond (same_name (Inner a j) x) x v (Inner a (deep x v j))
       ∙ ap (cond (same_name (Inner a j) x) (Local v)) (meaning_deep x v j)
       ∙ cond_or (same_name (Inner a j) x) (asks x j) (Local v) (meaning table entry (Inner a j))
-
-  -- So x was asked where the look-up with x replaced now answers x's number, if nothing had that number before.
-  pub asked_again : (x : Name) (v : Number) (j : Name) → same_meaning (meaning table entry j) (Local v) ≡ false → asks x j ≡ same_meaning (meaning table entry (deep x v j)) (Local v)
-  asked_again x v j e = go (asks x j) ∙ ap (λ m. same_meaning m (Local v)) (sym (meaning_deep x v j))
-    where
-      go : (t : Bool) → t ≡ same_meaning (cond t (Local v) (meaning table entry j)) (Local v)
-      go true = sym (number_itself v)
-      go false = sym e
 
 -- ---- what anything means has been counted
 

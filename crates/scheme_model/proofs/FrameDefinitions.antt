@@ -90,10 +90,6 @@ module _ (w : Era) (known : Known) (fs : Frames) (Inside : ScopedState → Bool 
   abbrev At : ScopedState → ScopedState → Bool → List Number → Type 0
   At s t i n = On w known fs Inside Trail Leaf PlaceIn RuleLeaf Ended s t i n
 
-  -- what a definition leaves on both sides
-  abbrev Left : ScopedState → Pending Ident Place → Pending Name Name → Type 0
-  Left t q q' = HeldAt t q × (q' ≡ seen t q)
-
   on_itself : (s : ScopedState) → Trail s s
   on_itself s = facts.trail s s (grows_itself w s)
 

@@ -80,10 +80,6 @@ module _ (w : Era) where
   pub enter_grows : (s : ScopedState) → Grows w s (entered_state s)
   enter_grows s = record { uses = leq_itself s.uses; bodies = leq_counted s.form s.bodies; locals = leq_itself s.locals; places = λ k h. refl; definitions = λ b i h. refl }
 
-  pub enter_stands : (s : ScopedState) → FineState w s → (fs : Frames) → Stands w s fs → Stands w (entered_state s) (Enter (next_number s s.bodies) s.uses ∷ fs)
-  enter_stands s f fs h =
-      ((s.bodies, f.0, (next_old w s f s.bodies).0, leq_itself s.uses, leq_counted s.form s.bodies, next_new w s f s.bodies, f.1.definitions, h.0), h.1)
-
   -- ---- a macro use
 
   abbrev pub used_state : Frames → ScopedState → ScopedState

@@ -113,12 +113,6 @@ module _ (P : Ident → Type 0) where
 -- ---- trees that were made by then
 
 module _ (w : Era) (u : Clock) where
-  pub made_tree : (t : Tree Ident) → TreeAll (Below w u) t → Made tree_kind w u t
-  made_tree t e = record { clock = u; earlier = leq_itself u; made = lift_tree (Below w u) t e; same = lifted_tree (Below w u) t e }
-
-  pub made_trees : (ts : Trees Ident) → TreesAll (Below w u) ts → Made trees_kind w u ts
-  made_trees ts e = record { clock = u; earlier = leq_itself u; made = lift_trees (Below w u) ts e; same = lifted_trees (Below w u) ts e }
-
   pub all_made_tree : (t : Tree Ident) → Made tree_kind w u t → TreeAll (Below w u) t
   all_made_tree t m = tree_more (Below w m.clock) (Below w u) (below_more w m.clock u m.earlier) t (subst (TreeAll (Below w m.clock)) m.same (all_held (Below w m.clock) m.made))
 
@@ -154,9 +148,6 @@ made_held k w u x m = record {
   made = k.map (Old w m.clock) (Old w u) (λ p. (p.0, below_more w m.clock u m.earlier p.0 p.1)) m.made;
   same = k.fused (Old w m.clock) (Old w u) Ident (ident_of w u) (λ p. (p.0, below_more w m.clock u m.earlier p.0 p.1)) m.made ∙ m.same;
 }
-
-pub held_tree : (P : Ident → Type 0) (t : Tree Ident) → TreeAll P t → Held tree_kind P t
-held_tree P t e = record { made = lift_tree P t e; same = lifted_tree P t e }
 
 pub tree_held : (P : Ident → Type 0) (t : Tree Ident) → Held tree_kind P t → TreeAll P t
 tree_held P t m = subst (TreeAll P) m.same (all_held P m.made)

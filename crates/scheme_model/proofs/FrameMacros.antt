@@ -139,10 +139,6 @@ module _ (w : Era) (known : Known) where
         (counted_law w known here (tree_size t) s f i n (given (λ i. i) here (rules_of identifiers a.parts a.tail)) (given erase here (rules_of model_names (parts_map (names s fs) a).parts (parts_map (names s fs) a).tail))
         (λ x. read_law w parts_kind rules_kind rules_reader here fs (record s { nodes = x }) f i n a q.0))
 
-    -- the rules of a macro are kept
-    kept_state : Number → Rules Ident → ScopedState → ScopedState
-    kept_state v r t = record t { macros = record { meaning = Local v; frames = fs; rules = r } ∷ t.macros }
-
     keep_all_law : (g : Ident → Name) (vs : List Number) (ts : Trees Ident) (ps : List (RulesParts Ident)) (bs : List (RulesParts Name)) (s : ScopedState) → FineState w s → (in_body : Bool) (mine : List Number) → Stands w s fs → AllOf (Before w s.locals) vs → SeenParts s ps bs
         → Agrees (Keeps w s) (λ (t : ScopedState) (a : Unit {0}) (b : Unit {0}). Unit {0}) (keep_all (scoped known) here fs vs ts ps s) (keep_all (model known) here tt vs (map_trees g ts) bs (view in_body mine s))
     keep_all_law g [] ts ps bs s f i n h l q = agree tt tt s i n refl refl (keeps_itself w s f i n) tt

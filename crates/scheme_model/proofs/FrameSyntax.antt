@@ -10,7 +10,7 @@ use Rattle.scheme_model.specs.Meaning.{Head, is_keyword}
 use Rattle.scheme_model.specs.Requirements.{Known}
 use Rattle.scheme_model.specs.RulesShape.{Rules, rules_of, option_map}
 use Rattle.scheme_model.specs.Cores.{Binder}
-use Rattle.scheme_model.specs.Steps.{Broken, Step, ◌>>=◌, done, fails}
+use Rattle.scheme_model.specs.Steps.{Broken, ◌>>=◌, done, fails}
 use Rattle.scheme_model.specs.Order.{Here, Macro, Note, LookedUp, Pending, Pass, Transformer, head_of, binder_at, counting, given, told, put, noted, caught, RulesParts, rules_parts_of, is_rules, rules_parts, rules_note, rules_at, max_nodes, run_syntax}
 use Rattle.scheme_model.specs.Substitution.{State, Clock, at_form, note_map, model}
 use Rattle.scheme_model.specs.ScopedExpansion.{Frames, Place, ScopedState, scoped}
@@ -21,7 +21,7 @@ use Rattle.scheme_model.proofs.FrameNames.{erase_frame_image}
 use Rattle.scheme_model.proofs.FrameAsks.{AllOf}
 use Rattle.scheme_model.proofs.FrameStates.{names, view, Grows, grows_itself, grows_then, names_later}
 use Rattle.scheme_model.proofs.FrameLeaves.{TreeAll, Holding, held, lift_trees, lift_tail, lifted_trees, lifted_tail, all_held, Held, held_more}
-use Rattle.scheme_model.proofs.FrameAgrees.{Agrees, agree, break, agrees_at, agrees_bind, agrees_more}
+use Rattle.scheme_model.proofs.FrameAgrees.{Agrees, agree, break, agrees_at, agrees_bind}
 use Rattle.scheme_model.proofs.FrameHeads.{IfMacro, head_seen}
 use Rattle.scheme_model.proofs.FrameUses.{named_in, placed}
 use Rattle.scheme_model.proofs.FrameReaders.{parts_map, parts_kind, rules_reader, named_tree_kind, identifiers, model_names}
@@ -61,10 +61,6 @@ module _ (w : Era) (known : Known) (fs : Frames) (Inside : ScopedState → Bool 
   -- a later state that changes no older image
   abbrev Grown : ScopedState → ScopedState → Bool → List Number → Type 0
   Grown s t i n = Inside t i n × Grows w s t
-
-  grow_bind : {A B C D : Type 0} {R : ScopedState → A → B → Type 0} {W : ScopedState → C → D → Type 0} {r : Result A Broken × ScopedState} {m : Result B Broken × State} {go : A → Step ScopedState C} (s : ScopedState) (go' : B → Step State D)
-      → Agrees (Grown s) R r m → ((a : A) (b : B) (t : ScopedState) (i : Bool) (n : List Number) → Inside t i n → R t a b → Agrees (Grown t) W (go a t) (go' b (view i n t))) → Agrees (Grown s) W (r >>= go) (m >>= go')
-  grow_bind {W = W} s go' h next = agrees_bind go' h (λ a b t i n k q. agrees_more {K = Grown t} {L = Grown s} {R = W} {Q = W} (λ v i1 n1 l. (l.0, grows_then w s t v k.1 l.1)) (λ v c d x. x) (next a b t i n k.0 q))
 
   -- what holds Leaf, and what it is on the definition's side
   abbrev SeenHeld : (k : Kind) → ScopedState → k.of Ident → k.of Name → Type 0

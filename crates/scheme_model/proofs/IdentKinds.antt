@@ -116,9 +116,6 @@ module _ (A B C : Type 0) (g : B → C) (f : A → B) where
   faults_fused IncludeRefused = refl
   faults_fused OutOfTurns = refl
 
-abbrev pub named_kind : Kind
-named_kind = record { of = Named; map = λ A B f n. named_map f n; fused = λ A B C g f n. refl }
-
 abbrev pub clause_kind : Kind
 clause_kind = record { of = Clause; map = λ A B f c. clause_map f c; fused = clause_fused }
 
@@ -137,11 +134,5 @@ local_macros_kind = record { of = LocalMacros; map = λ A B f m. local_macros_ma
 abbrev pub rules_kind : Kind
 rules_kind = record { of = Rules; map = λ A B f r. rules_map f r; fused = rules_fused }
 
-abbrev pub form_kind : Kind
-form_kind = record { of = Form; map = λ A B f x. form_map f x; fused = form_fused }
-
 abbrev pub item_kind : Kind
 item_kind = record { of = Item; map = λ A B f x. item_map f x; fused = item_fused }
-
-abbrev pub items_kind : Kind
-items_kind = record { of = λ A. List (Item A); map = λ A B f xs. map (item_map f) xs; fused = λ A B C g f xs. map_after (item_map g) (item_map f) (item_map (λ a. g (f a))) (item_fused A B C g f) xs }
