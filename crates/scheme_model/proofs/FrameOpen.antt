@@ -21,6 +21,7 @@ use Rattle.scheme_model.proofs.FrameLeaves.{Held, held_more}
 use Rattle.scheme_model.proofs.FrameHeads.{IfMacro, TransformerFine}
 use Rattle.scheme_model.proofs.FrameUses.{placed}
 
+-- worked are the units that were worked on before
 module _ (worked : ℕ → Bool) (known : Known) (s0 : ScopedState) (f0 : Fine (era worked s0) s0.locals s0.uses s0.bodies s0.table s0.entry s0.macros s0.places s0.definitions) (c : Frames) (st0 : Stands (era worked s0) s0 c) where
   -- the unit, the body's number, and its frames
   abbrev pub w : Era
