@@ -6,7 +6,7 @@ use Rattle.std.proofs.lemmas.Option.{slice_get_within}
 use Rattle.scheme_model.specs.Identifiers.{Number}
 use Rattle.scheme_model.specs.Ident.{Ident as Identifier, Written, Inserted, same_ident}
 use Rattle.scheme_model.specs.Meaning as model
-use Rattle.scheme_model.specs.Scopes.{Chain, Uses, Own, found}
+use Rattle.scheme_model.specs.Scopes.{Chain, Uses, Own, found, given_or, local_or, beyond, means}
 use Rattle.scheme_model.proofs.IdentLaws.{ident_told}
 use Rattle.syntax_tree.specs.Names.{Names, AreToldApart, KeepsNames}
 use Rattle.syntax_tree.specs.Meant.{IsMeaning}
@@ -15,7 +15,7 @@ use Rattle.syntax_tree.specs.declared.meaning.Meaning.TheVariants as code
 use Rattle.syntax_tree.proofs.Places.{none_some}
 use Rattle.scope_env.specs.Environment.{Environment}
 use Rattle.scope_env.specs.Resolved.{own}
-use Rattle.scope_env.specs.Standing.{StandsFor, Gives, EnvFor, IsOfForm, AreLocalsOf, AreOf, AreUsesOf}
+use Rattle.scope_env.specs.Standing.{StandsFor, Gives, EnvFor, of_form, IsGiven, IsOfForm, AreLocalsOf, AreOf, AreUsesOf}
 use Rattle.scope_env.specs.Moved.{IsNamed, AreNamed, AreGivenNamed}
 
 -- ---- tables that grow
@@ -89,3 +89,30 @@ found_of unit form (b ∷ bs) i h = by (same_ident b.ident i) (found_of unit for
 pub locals_of : (unit form : ℕ) (uses : Uses) (c : Chain) (i : Identifier) → AreOf unit form c → AreUsesOf unit form uses i → AreLocalsOf unit form uses c i
 locals_of unit form uses c (Written u s) h used = found_of unit form c (Written u s) h
 locals_of unit form uses c (Inserted i k) h used = (found_of unit form c (Inserted i k) h, locals_of unit form uses (uses k) i used.0 used.1)
+
+-- ---- a local told by its count
+
+first_local : (unit form : ℕ) (uses : Uses) (c : Chain) (i : Identifier) → AreLocalsOf unit form uses c i → IsOfForm unit form (found c i)
+first_local unit form uses c (Written u s) h = h
+first_local unit form uses c (Inserted i k) h = h.0
+
+given_same : (unit form : ℕ) (o : Option model.Meaning) (other : model.Meaning) → IsGiven o → of_form unit form other ≡ other → of_form unit form (given_or o other) ≡ given_or o other
+given_same unit form None other h e = e
+given_same unit form (Some (model.Local v)) other h e = absurd h
+given_same unit form (Some (model.Global u i)) other h e = refl
+given_same unit form (Some (model.Standard s)) other h e = refl
+given_same unit form (Some (model.Free s)) other h e = refl
+
+local_same : (unit form : ℕ) (o : Option Number) (other : model.Meaning) → IsOfForm unit form o → of_form unit form other ≡ other → of_form unit form (local_or o other) ≡ local_or o other
+local_same unit form None other h e = e
+local_same unit form (Some v) other h e = λ j. model.Local (record { unit = sym h.0 j; form = sym h.1 j; count = v.count })
+
+module _ (unit form : ℕ) (given : Own) (uses : Uses) (none : (u : ℕ) (j : Identifier) → IsGiven (given u j)) where
+  beyond_same : (c : Chain) (i : Identifier) → AreLocalsOf unit form uses c i → of_form unit form (beyond given uses i) ≡ beyond given uses i
+  beyond_same c (Written u s) h = given_same unit form (given u (Written u s)) (model.Free s) (none u (Written u s)) refl
+  beyond_same c (Inserted i k) h =
+      given_same unit form (given k.unit (Inserted i k)) (local_or (found (uses k) i) (beyond given uses i)) (none k.unit (Inserted i k))
+      (local_same unit form (found (uses k) i) (beyond given uses i) (first_local unit form uses (uses k) i h.1) (beyond_same (uses k) i h.1))
+
+  pub means_same : (c : Chain) (i : Identifier) → AreLocalsOf unit form uses c i → of_form unit form (means given uses c i) ≡ means given uses c i
+  means_same c i h = local_same unit form (found c i) (beyond given uses i) (first_local unit form uses c i h) (beyond_same c i h)

@@ -22,7 +22,7 @@ use Rattle.syntax_tree.proofs.Places.{none_some, get_within}
 use Rattle.syntax_tree.proofs.InternLaws.{bytes_told, bytes_itself}
 use Rattle.scope_env.specs.Environment.{Environment, IsSound}
 use Rattle.scope_env.specs.Resolved.{number_in, symbol_in, local, own, resolved}
-use Rattle.scope_env.specs.Standing.{bound_by, StandsFor, Gives, EnvFor, IsOfForm, AreLocalsOf}
+use Rattle.scope_env.specs.Standing.{bound_by, StandsFor, Gives, EnvFor, of_form}
 use Rattle.scope_env.proofs.Places.{place_is}
 
 -- ---- options
@@ -41,34 +41,34 @@ module _ (names : Names) (env : Environment) where
   -- to resolve the first identifier is to resolve the second
   pub record Leads (from : Option ℕ) (i : Identifier) (to : Option ℕ) (j : Identifier) : Type 0 where
     pub value : resolved env names from i ≡ resolved env names to j
-    pub meaning : (given : Own) (uses : Uses) (c : Chain) (unit form : ℕ) → EnvFor names env given uses → StandsFor names env from c → AreLocalsOf unit form uses c i →
-        (d : Chain) × StandsFor names env to d × AreLocalsOf unit form uses d j × (means given uses c i ≡ means given uses d j)
+    pub meaning : (given : Own) (uses : Uses) (c : Chain) → EnvFor names env given uses → StandsFor names env from c →
+        (d : Chain) × StandsFor names env to d × (means given uses c i ≡ means given uses d j)
 
   -- this is what an identifier means
   pub record Answers (from : Option ℕ) (i : Identifier) (m : Meaning) : Type 0 where
     pub value : resolved env names from i ≡ m
-    pub meaning : (given : Own) (uses : Uses) (c : Chain) (unit form : ℕ) → EnvFor names env given uses → StandsFor names env from c → AreLocalsOf unit form uses c i →
-        IsMeaning names unit form m (means given uses c i)
+    pub meaning : (given : Own) (uses : Uses) (c : Chain) (unit form : ℕ) → EnvFor names env given uses → StandsFor names env from c →
+        IsMeaning names unit form m (of_form unit form (means given uses c i))
 
   pub here : (from : Option ℕ) (i : Identifier) → Leads from i from i
-  here from i = record { value = refl; meaning = λ given uses c unit form is stands locals. (c, stands, locals, refl) }
+  here from i = record { value = refl; meaning = λ given uses c is stands. (c, stands, refl) }
 
   -- a step more
   pub on : (a b d : Option ℕ) (i j k : Identifier) → Leads a i b j → Leads b j d k → Leads a i d k
   on a b d i j k p q = record {
     value = p.value ∙ q.value;
-    meaning = λ given uses c unit form is stands locals.
-        let first = p.meaning given uses c unit form is stands locals in
-        let second = q.meaning given uses first.0 unit form is first.1 first.2 in
-        (second.0, second.1, second.2, first.3 ∙ second.3);
+    meaning = λ given uses c is stands.
+        let first = p.meaning given uses c is stands in
+        let second = q.meaning given uses first.0 is first.1 in
+        (second.0, second.1, first.2 ∙ second.2);
   }
 
   pub ends : (a b : Option ℕ) (i j : Identifier) (m : Meaning) → Leads a i b j → Answers b j m → Answers a i m
   ends a b i j m p q = record {
     value = p.value ∙ q.value;
-    meaning = λ given uses c unit form is stands locals.
-        let first = p.meaning given uses c unit form is stands locals in
-        subst (IsMeaning names unit form m) (sym first.3) (q.meaning given uses first.0 unit form is first.1 first.2);
+    meaning = λ given uses c unit form is stands.
+        let first = p.meaning given uses c is stands in
+        subst (IsMeaning names unit form m) (ap (of_form unit form) (sym first.2)) (q.meaning given uses first.0 unit form is first.1);
   }
 
   -- ---- what stands for what, at one number
@@ -96,9 +96,21 @@ module _ (names : Names) (env : Environment) where
   gives_some m None h = absurd h
   gives_some m (Some d) h = (d, refl, h)
 
-  first_local : (unit form : ℕ) (uses : Uses) (c : Chain) (i : Identifier) → AreLocalsOf unit form uses c i → IsOfForm unit form (found c i)
-  first_local unit form uses c (Written u s) h = h
-  first_local unit form uses c (Inserted i k) h = h.0
+  -- what a unit gives is no local, so the form makes no difference
+  given_of_form : (unit form : ℕ) (m : Meaning) (d : model.Meaning) → IsGivenMeaning names m d → IsMeaning names unit form m (of_form unit form d)
+  given_of_form unit form (code.Local n) d h = ap (of_form unit form) (h unit form)
+  given_of_form unit form (code.Global u n) (model.Local v) h = h unit form
+  given_of_form unit form (code.Global u n) (model.Global w i) h = h unit form
+  given_of_form unit form (code.Global u n) (model.Standard s) h = h unit form
+  given_of_form unit form (code.Global u n) (model.Free s) h = h unit form
+  given_of_form unit form (code.Standard n) (model.Local v) h = h unit form
+  given_of_form unit form (code.Standard n) (model.Global w i) h = h unit form
+  given_of_form unit form (code.Standard n) (model.Standard s) h = h unit form
+  given_of_form unit form (code.Standard n) (model.Free s) h = h unit form
+  given_of_form unit form (code.Free n) (model.Local v) h = h unit form
+  given_of_form unit form (code.Free n) (model.Global w i) h = h unit form
+  given_of_form unit form (code.Free n) (model.Standard s) h = h unit form
+  given_of_form unit form (code.Free n) (model.Free s) h = h unit form
 
   -- ---- the answers
 
@@ -112,10 +124,10 @@ module _ (names : Names) (env : Environment) where
       value =
           ap (λ (m : ℕ). unwrap_or (option_or (local env from m) (own env k.unit m)) (resolved env names (get env.uses k) i)) (number_is n (Inserted i k) at)
           ∙ (λ j. unwrap_or (option_or (no_local j) (no_own j)) (resolved env names (get env.uses k) i));
-      meaning = λ given uses c unit form is stands locals.
+      meaning = λ given uses c is stands.
           let unbound = not_found n (Inserted i k) at from c stands no_local in
           let not_given = gives_none (given k.unit (Inserted i k)) (given_here n (Inserted i k) at given uses k.unit None is no_own) in
-          (uses k, is.uses k, locals.1, λ j. local_or (unbound j) (given_or (not_given j) (local_or (found (uses k) i) (beyond given uses i))));
+          (uses k, is.uses k, λ j. local_or (unbound j) (given_or (not_given j) (local_or (found (uses k) i) (beyond given uses i))));
     }
 
     local_value : (n : ℕ) (from : Option ℕ) (i : Identifier) (m : Meaning) → IsIdent names n i → local env from n ≡ Some m → resolved env names from i ≡ m
@@ -130,11 +142,9 @@ module _ (names : Names) (env : Environment) where
     pub local_answers : (n : ℕ) (from : Option ℕ) (i : Identifier) (m : Meaning) → IsIdent names n i → local env from n ≡ Some m → Answers from i m
     local_answers n from i m at some = record {
       value = local_value n from i m at some;
-      meaning = λ given uses c unit form is stands locals.
+      meaning = λ given uses c unit form is stands.
           let v = found_there n i at from c m stands some in
-          let of_form : IsOfForm unit form (Some v.0) = subst (IsOfForm unit form) v.1 (first_local unit form uses c i locals) in
-          let same : model.Local v.0 ≡ model.Local (record { unit = unit; form = form; count = v.0.count }) = λ j. model.Local (record { unit = of_form.0 j; form = of_form.1 j; count = v.0.count }) in
-          subst (λ (x : Meaning). IsMeaning names unit form x (means given uses c i)) v.2 (ap (λ (o : Option Number). local_or o (beyond given uses i)) v.1 ∙ same);
+          subst (λ (x : Meaning). IsMeaning names unit form x (of_form unit form (means given uses c i))) v.2 (ap (λ (o : Option Number). of_form unit form (local_or o (beyond given uses i))) v.1);
     }
 
     -- the own scope of the unit of the use binds it
@@ -143,10 +153,10 @@ module _ (names : Names) (env : Environment) where
       value =
           ap (λ (x : ℕ). unwrap_or (option_or (local env from x) (own env k.unit x)) (resolved env names (get env.uses k) i)) (number_is n (Inserted i k) at)
           ∙ (λ j. unwrap_or (option_or (no_local j) (some j)) (resolved env names (get env.uses k) i));
-      meaning = λ given uses c unit form is stands locals.
+      meaning = λ given uses c unit form is stands.
           let unbound = not_found n (Inserted i k) at from c stands no_local in
           let d = gives_some m (given k.unit (Inserted i k)) (given_here n (Inserted i k) at given uses k.unit (Some m) is some) in
-          subst (IsMeaning names unit form m) (sym (λ j. local_or (unbound j) (given_or (d.1 j) (local_or (found (uses k) i) (beyond given uses i))))) (d.2 unit form);
+          subst (λ (x : model.Meaning). IsMeaning names unit form m (of_form unit form x)) (sym (λ j. local_or (unbound j) (given_or (d.1 j) (local_or (found (uses k) i) (beyond given uses i))))) (given_of_form unit form m d.0 d.2);
     }
 
     -- no local scope binds a written symbol: the own scope of its unit, or nothing
@@ -155,19 +165,19 @@ module _ (names : Names) (env : Environment) where
       value =
           ap (λ (x : ℕ). unwrap_or (option_or (local env from x) (own env u x)) (code.Free (symbol_in names s))) (number_is n (Written u s) at)
           ∙ (λ j. unwrap_or (option_or (no_local j) (is_own j)) (code.Free (place j)));
-      meaning = λ given uses c unit form is stands locals.
+      meaning = λ given uses c unit form is stands.
           let unbound = not_found n (Written u s) at from c stands no_local in
           let not_given = gives_none (given u (Written u s)) (given_here n (Written u s) at given uses u None is is_own) in
-          subst (IsMeaning names unit form (code.Free symbol)) (sym (λ j. local_or (unbound j) (given_or (not_given j) (model.Free s)))) spelt;
+          subst (λ (x : model.Meaning). IsMeaning names unit form (code.Free symbol) (of_form unit form x)) (sym (λ j. local_or (unbound j) (given_or (not_given j) (model.Free s)))) spelt;
     }
     written_by n from u symbol s (Some m) at spelt place no_local is_own = record {
       value =
           ap (λ (x : ℕ). unwrap_or (option_or (local env from x) (own env u x)) (code.Free (symbol_in names s))) (number_is n (Written u s) at)
           ∙ (λ j. unwrap_or (option_or (no_local j) (is_own j)) (code.Free (symbol_in names s)));
-      meaning = λ given uses c unit form is stands locals.
+      meaning = λ given uses c unit form is stands.
           let unbound = not_found n (Written u s) at from c stands no_local in
           let d = gives_some m (given u (Written u s)) (given_here n (Written u s) at given uses u (Some m) is is_own) in
-          subst (IsMeaning names unit form m) (sym (λ j. local_or (unbound j) (given_or (d.1 j) (model.Free s)))) (d.2 unit form);
+          subst (λ (x : model.Meaning). IsMeaning names unit form m (of_form unit form x)) (sym (λ j. local_or (unbound j) (given_or (d.1 j) (model.Free s)))) (given_of_form unit form m d.0 d.2);
     }
 
     pub written_answers : AreToldApart names.symbols → (n : ℕ) (from : Option ℕ) (u symbol : ℕ) (s : List ℕ) → IsIdent names n (Written u s) → slice_get names.symbols symbol ≡ Some s → local env from n ≡ None → Answers from (Written u s) (unwrap_or (own env u n) (code.Free symbol))
@@ -181,6 +191,14 @@ module _ (names : Names) (env : Environment) where
     pub within : n < length names.idents
     pub there : (k : ℕ) → scope ≡ Some k → k < length env.scopes
     pub leads : (i : Identifier) → IsIdent names start i → (j : Identifier) × IsIdent names n j × Leads from i scope j
+
+-- before the walk
+pub set_out : (names : Names) (env : Environment) (start scope : ℕ) → start < length names.idents → scope < length env.scopes → Walked names env (Some scope) start (Some scope) start
+set_out names env start scope within there = record {
+  within = within;
+  there = λ k same. subst (λ (x : ℕ). x < length env.scopes) (same_Some scope k same) there;
+  leads = λ i at. (i, at, here names env (Some scope) i);
+}
 
 -- how many uses have inserted an identifier
 abbrev depth : Identifier → ℕ

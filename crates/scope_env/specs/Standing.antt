@@ -4,7 +4,7 @@ use Rattle.std.specs.Option.{option_map, option_and_then}
 use Rattle.std.specs.FinMap.{get}
 use Rattle.scheme_model.specs.Identifiers.{Number}
 use Rattle.scheme_model.specs.Ident.{Ident as Identifier, Written, Inserted}
-use Rattle.scheme_model.specs.Meaning.{Meaning}
+use Rattle.scheme_model.specs.Meaning.{Meaning, Local, Global, Standard, Free}
 use Rattle.scheme_model.specs.Scopes.{Chain, Uses, found, Own}
 use Rattle.syntax_tree.specs.Names.{Names}
 use Rattle.syntax_tree.specs.Meant.{IsGivenMeaning}
@@ -32,6 +32,21 @@ Gives names (Some n) (Some m) = IsGivenMeaning names n m
 pub record EnvFor (names : Names) (env : Environment) (given : Own) (used : Uses) : Type 0 where
   pub own : (u n : ℕ) → Gives names (own env u n) (option_and_then (given u) (slice_get names.idents n))
   pub uses : (k : Number) → StandsFor names env (get env.uses k) (used k)
+
+-- a local is told by its count alone, as one of this form
+abbrev pub of_form : (unit form : ℕ) → Meaning → Meaning
+of_form unit form (Local v) = Local (record { unit = unit; form = form; count = v.count })
+of_form unit form (Global u i) = Global u i
+of_form unit form (Standard s) = Standard s
+of_form unit form (Free s) = Free s
+
+-- what a unit gives is no local
+abbrev pub IsGiven : Option Meaning → Type 0
+IsGiven None = Unit {0}
+IsGiven (Some (Local v)) = ⊥
+IsGiven (Some (Global u i)) = Unit {0}
+IsGiven (Some (Standard s)) = Unit {0}
+IsGiven (Some (Free s)) = Unit {0}
 
 -- a binder of this form of this unit, where there is one
 abbrev pub IsOfForm : ℕ → ℕ → Option Number → Type 0

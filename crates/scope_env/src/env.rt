@@ -8,7 +8,7 @@ ghost use Rattle.syntax_tree.specs.Meant.{IsMeaning};
 ghost use Rattle.syntax_tree.specs.Numbered.{number_of};
 ghost use Rattle.scope_env.specs.Environment.{no_scopes, with_root, with_child, with_bound, with_use, IsSound};
 ghost use Rattle.scope_env.specs.Resolved.{local, own, resolved};
-ghost use Rattle.scope_env.specs.Standing.{EnvFor, StandsFor, AreLocalsOf};
+ghost use Rattle.scope_env.specs.Standing.{EnvFor, StandsFor, of_form};
 
 use ls_base::{Mem, Memory};
 use std::alloc::Global;
@@ -161,7 +161,7 @@ impl Env {
         ensures value { (i : Identifier) → IsIdent symbols.now ident i → result ≡ resolved self.now symbols.now (Some scope) i }
         ensures meaning { (given : Own) (uses : Uses) (c : Chain) (unit form : ℕ) (i : Identifier) → IsIdent symbols.now ident i →
             EnvFor symbols.now self.now given uses → StandsFor symbols.now self.now (Some scope) c →
-            AreLocalsOf unit form uses c i → IsMeaning symbols.now unit form result (means given uses c i) }
+            IsMeaning symbols.now unit form result (of_form unit form (means given uses c i)) }
     {
         symbols.told_apart();
         let mut from = Some(scope);
@@ -200,7 +200,7 @@ impl Env {
             IfOk result (λ m. m ≡ resolved self.now symbols.now (Some scope) i) }
         ensures meaning { (given : Own) (uses : Uses) (c : Chain) (unit form : ℕ) (i : Identifier) → IsIdent symbols.now ident i →
             EnvFor symbols.now self.now given uses → StandsFor symbols.now self.now (Some scope) c →
-            AreLocalsOf unit form uses c i → IfOk result (λ m. IsMeaning symbols.now unit form m (means given uses c i)) }
+            IfOk result (λ m. IsMeaning symbols.now unit form m (of_form unit form (means given uses c i))) }
         ensures noted { IfOk result (λ m. notes.new ≡ notes.old ++ Question.Lookup ident head m ∷ []) }
         ensures err { OnErr result (notes.new ≡ notes.old) }
     {

@@ -12,7 +12,7 @@ ghost use Rattle.syntax_tree.specs.Meant.{IsGivenMeaning};
 ghost use Rattle.syntax_tree.specs.declared.meaning.Meaning as code_meaning;
 ghost use Rattle.syntax_tree.specs.declared.meaning.Meaning.TheVariants as code;
 ghost use Rattle.scope_env.specs.Environment.{Environment, IsSound, with_root, with_child, with_bound, with_use};
-ghost use Rattle.scope_env.specs.Standing.{EnvFor, StandsFor, AreLocalsOf, AreOf, AreUsesOf};
+ghost use Rattle.scope_env.specs.Standing.{EnvFor, StandsFor, of_form, IsGiven, AreLocalsOf, AreOf, AreUsesOf};
 ghost use Rattle.scope_env.specs.Moved.{parent_of, is_around, with_use_under, with_binder, with_given, has_use, AreNamed, AreGivenNamed};
 
 /// A new local scope stands for the binders around it, and all else for what it did.
@@ -91,8 +91,10 @@ pub fn growth_stands()
 /// What binders bind an identifier to are locals of a form, where the binders around it are of the form, and so are those around
 /// the macros of its uses.
 pub fn locals_of_a_form()
-    ensures { (unit form : ℕ) (uses : Uses) (c : Chain) (i : Identifier) → AreOf unit form c → AreUsesOf unit form uses i →
+    ensures locals { (unit form : ℕ) (uses : Uses) (c : Chain) (i : Identifier) → AreOf unit form c → AreUsesOf unit form uses i →
         AreLocalsOf unit form uses c i }
+    ensures same { (given : Own) (unit form : ℕ) (uses : Uses) (c : Chain) (i : Identifier) → ((u : ℕ) (j : Identifier) → IsGiven (given u j)) →
+        AreLocalsOf unit form uses c i → of_form unit form (means given uses c i) ≡ means given uses c i }
 {}
 
 /// A new local scope is inside its parent. Besides itself it has around it what its parent has, an older scope hasn't a newer one

@@ -1,8 +1,11 @@
 use Rattle.std.proofs.Common.{Some, subst, sym, ◌∙◌}
 use Rattle.scope_env.specs.Environment.{Environment, IsSound}
 use Rattle.scope_env.proofs.Fields.{use_is}
-use Rattle.scope_env.proofs.Walk.{finished_local, finished_written, finished_inserted, walked_on, less_deep}
+use Rattle.scope_env.proofs.Walk.{set_out, finished_local, finished_written, finished_inserted, walked_on, less_deep}
 use Rattle.scope_env.proofs.env.Env.resolve.Goals as goal
+
+pub loop-meaning-init : goal.loop-meaning-init
+loop-meaning-init c = set_out c.args.symbols.now c.args.self.now c.args.ident c.args.scope c.requires.ident c.requires.scope
 
 pub returns-in-Some-clause-value : goal.returns-in-Some-clause-value
 returns-in-Some-clause-value c = λ i at.

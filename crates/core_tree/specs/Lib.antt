@@ -1,0 +1,4 @@
+pub mod Holes
+pub mod Names
+pub mod Cores
+pub mod Traces
