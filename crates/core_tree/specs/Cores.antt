@@ -1,5 +1,5 @@
 -- What a core of the code stands for, in a form of a unit.
-use Rattle.std.specs.Prelude.{◌≡◌, ℕ, List, [], ◌∷◌, Bool, Option, Some, None, Vec}
+use Rattle.std.specs.Prelude.{◌≡◌, ℕ, List, [], ◌∷◌, Bool, Option, Vec}
 use Rattle.std.specs.Global.{Box}
 use Rattle.std.specs.declared.alloc.Global.{Global}
 use Rattle.scheme_model.specs.declared.Occ.{Occ}

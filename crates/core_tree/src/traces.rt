@@ -1,9 +1,7 @@
 //! What an expansion meets on its way, and why it ends early.
-use crate::cores::{Binder, Target};
+use crate::cores::Target;
 use ls_base::{Items, Text};
 use scheme_model::Occ;
-use syntax_tree::notes::Notes;
-use syntax_tree::rules::Rules;
 use syntax_tree::symbols::IdNo;
 
 /// A macro use: its keyword, and the leaves of the form that met a literal.
@@ -13,20 +11,11 @@ pub struct MacroUse {
     pub literals: Vec<Target>,
 }
 
-/// A definition of a unit, with the rules of a macro where it defines one.
-#[derive(Drop)]
-pub struct Definition {
-    pub binder: Binder,
-    pub rules: Option<Rules>,
-}
-
-/// What the expansion of a form met, in order: definitions of the unit, keywords of core forms, macro uses and questions.
+/// What the expansion of a form met, in order: keywords of core forms and macro uses.
 #[derive(Drop)]
 pub struct Trace {
-    pub definitions: Items<Definition>,
     pub keywords: Items<Target>,
     pub uses: Items<MacroUse>,
-    pub notes: Notes,
 }
 
 /// The fault of a form that is broken: its code, the identifier that it names, its place, and the text of a `syntax-error`.
