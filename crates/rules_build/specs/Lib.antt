@@ -1,0 +1,4 @@
+pub mod Values
+pub mod Drafts
+pub mod Builds
+pub mod Adds
