@@ -1,0 +1,5 @@
+pub mod BuildLaws
+pub mod PlanViews
+pub mod DraftLaws
+pub mod PairLaws
+pub mod ValueLaws

@@ -16,8 +16,6 @@ use Rattle.syntax_tree.specs.declared.trees.table.Region.{Region}
 use Rattle.syntax_tree.specs.declared.trees.nodes.Tree as number
 use Rattle.syntax_tree.specs.declared.rules.Rules as code_rules
 use Rattle.syntax_tree.specs.declared.rules.Matched as code_matched
-use Rattle.syntax_tree.specs.declared.trees.faults.PoolFault.{PoolFault}
-use Rattle.syntax_tree.specs.declared.trees.faults.PoolFault.TheVariants as pool
 use Rattle.rules_build.specs.declared.fault.BuildFault.{BuildFault}
 use Rattle.rules_build.specs.declared.fault.BuildFault.TheVariants as fault
 use Rattle.rules_build.specs.declared.plan.Plan.{Plan}
@@ -25,10 +23,6 @@ use Rattle.rules_build.specs.declared.walk.Walk.{Walk}
 use Rattle.rules_build.specs.declared.values.Bound as code
 use Rattle.rules_build.specs.Values.{AreBound, MayNameBindings}
 use Rattle.rules_build.specs.Drafts.{spent, IsPlanOf, ArePlansOf}
-
-abbrev pub fault_of : PoolFault → BuildFault
-fault_of pool.Full = fault.Full
-fault_of pool.Memory = fault.Memory
 
 -- identifiers of a template are marked by a use
 abbrev pub inserting : Number → Template Identifier Identifier

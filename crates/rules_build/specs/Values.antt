@@ -18,6 +18,13 @@ use Rattle.rules_build.specs.declared.values.Value.TheVariants as worth
 use Rattle.rules_build.specs.declared.fault.BuildFault.{BuildFault}
 use Rattle.rules_build.specs.declared.fault.BuildFault.TheVariants as fault
 
+-- two lists are as long, and what stands at the same place of them is related
+abbrev pub Paired : {A B : Type 0} → (A → B → Type 0) → List A → List B → Type 0
+Paired R [] [] = Unit {0}
+Paired R [] (y ∷ ys) = ⊥
+Paired R (x ∷ xs) [] = ⊥
+Paired R (x ∷ xs) (y ∷ ys) = R x y × Paired R xs ys
+
 -- nodes of the region may name each node that a binding names
 abbrev mutual
   pub MayNameValue : Work → Region → code_binding.Binding → Value Identifier → Type 0
@@ -43,11 +50,12 @@ IsBoundTo work region b v x = IsValue work b v x × MayNameValue work region b x
 abbrev pub AreValuesOf : Work → Region → List code_binding.Binding → Values Identifier → Type 0
 AreValuesOf work region bs vs = (v : ℕ) × AreValues work bs v vs × MayNameValues work region bs vs
 
+-- what a variable stands for
+abbrev pub IsBoundOne : Work → Region → code_binding.Binding → Binding Identifier Identifier → Type 0
+IsBoundOne work region b m = (v : ℕ) × IsIdent work.symbols v m.variable × IsBoundTo work region b v m.value
+
 abbrev pub AreManyBound : Work → Region → List code_binding.Binding → List (Binding Identifier Identifier) → Type 0
-AreManyBound work region [] [] = Unit {0}
-AreManyBound work region [] (m ∷ ms) = ⊥
-AreManyBound work region (b ∷ bs) [] = ⊥
-AreManyBound work region (b ∷ bs) (m ∷ ms) = ((v : ℕ) × IsIdent work.symbols v m.variable × IsBoundTo work region b v m.value) × AreManyBound work region bs ms
+AreManyBound work region = Paired (IsBoundOne work region)
 
 -- what the code has for a value
 abbrev pub IsWorth : Work → Region → code_value.Value → Value Identifier → Type 0
@@ -58,12 +66,12 @@ IsWorth work region (worth.Rest n from) (Many vs) = ⊥
 IsWorth work region (worth.Many list) (One t) = ⊥
 IsWorth work region (worth.Many list) (Many vs) = AreValuesOf work region list.now vs
 
--- variables with what they stand for, in order
+-- a variable with what it stands for
+abbrev pub IsBound : Work → Region → code.Bound → Binding Identifier Identifier → Type 0
+IsBound work region b m = IsIdent work.symbols b.variable m.variable × IsWorth work region b.value m.value
+
 abbrev pub AreBound : Work → Region → List code.Bound → List (Binding Identifier Identifier) → Type 0
-AreBound work region [] [] = Unit {0}
-AreBound work region [] (m ∷ ms) = ⊥
-AreBound work region (b ∷ bs) [] = ⊥
-AreBound work region (b ∷ bs) (m ∷ ms) = IsIdent work.symbols b.variable m.variable × IsWorth work region b.value m.value × AreBound work region bs ms
+AreBound work region = Paired (IsBound work region)
 
 abbrev pub IsFound : Work → Region → Option code_value.Value → Option (Value Identifier) → Type 0
 IsFound work region None None = Unit {0}

@@ -58,7 +58,8 @@ impl<T: Drop> From<AllocFailed<T>> for BuildFault {
 }
 
 impl From<PoolFault> for BuildFault {
-    ghost use Rattle.rules_build.specs.Builds.{fault_of};
+    ghost use Rattle.std.specs.Prelude.{◌≡◌};
+    ghost use Rattle.rules_build.specs.Faults.{fault_of};
 
     ghost from_gives = { λ f e. e ≡ fault_of f };
 
