@@ -1,0 +1,112 @@
+-- Sizes and depths of drafts, part by part.
+use Rattle.std.proofs.Common.{◌≡◌, ℕ, zero, suc, ◌+◌, ◌-◌, ◌<◌, ◌≤◌, List, [], ◌∷◌, length, get_or, Bool, true, false, Option, Some, None, refl, sym, ap, ◌∙◌, subst, arith}
+use Rattle.std.specs.Prelude.{nat_le, max}
+use Rattle.std.proofs.lemmas.Bool.Decides.{nat_tests}
+use Rattle.scheme_model.specs.Identifiers.{Number}
+use Rattle.scheme_model.specs.Trees.{Tree, Trees, no_trees, tree, Tail, proper, dotted}
+use Rattle.scheme_model.specs.Measures.{tree_size, trees_size, tail_size, tree_depth, trees_depth, tail_depth}
+use Rattle.scheme_model.specs.Ident.{Ident as Identifier}
+use Rattle.syntax_tree.specs.declared.trees.Work.{Work}
+use Rattle.syntax_tree.specs.declared.trees.table.Region.{Region}
+use Rattle.rules_build.specs.declared.plan.Plan.{Plan}
+use Rattle.rules_build.specs.Drafts.{spent, Draft, held, marked, plain, listed, in_vector, Drafts, no_drafts, draft, Ending, ends, tailed, goes_on, ending_parts, tree_of, row_of, tail_of, IsDraft, AreDrafts}
+use Rattle.rules_build.proofs.DraftLaws.{spent_on, spent_nothing}
+use Rattle.rules_build.proofs.AddLaws.{row_size, row_depth}
+
+-- drafts from a place on
+abbrev pub drafts_behind : ℕ → Drafts → Drafts
+drafts_behind zero ds = ds
+drafts_behind (suc j) no_drafts = no_drafts
+drafts_behind (suc j) (draft d ds) = drafts_behind j ds
+
+module _ (work : Work) (region : Region) where
+  pub record DraftThere (ds : Drafts) (j : ℕ) (p : Plan) : Type 0 where
+    pub here : Draft
+    pub is : IsDraft work region p here
+    pub split : drafts_behind j ds ≡ draft here (drafts_behind (j + 1) ds)
+
+  pub draft_there : (j : ℕ) (ps : List Plan) (ds : Drafts) (p : Plan) → AreDrafts work region ps ds → j < length ps → DraftThere ds j (get_or ps j p)
+  draft_there j [] ds p h l = absurd (omega arith)
+  draft_there j (q ∷ qs) no_drafts p h l = absurd h
+  draft_there zero (q ∷ qs) (draft d ds) p h l = record { here = d; is = h.0; split = refl }
+  draft_there (suc j) (q ∷ qs) (draft d ds) p h l =
+      let r = draft_there j qs ds p h.1 (omega arith) in
+      let e : suc j + 1 ≡ suc (j + 1) = omega arith in
+      record { here = r.here; is = r.is; split = r.split ∙ ap (λ (i : ℕ). draft r.here (drafts_behind i (draft d ds))) (sym e) }
+
+  pub drafts_past : (j : ℕ) (ps : List Plan) (ds : Drafts) → AreDrafts work region ps ds → length ps ≤ j → drafts_behind j ds ≡ no_drafts
+  drafts_past zero [] no_drafts h l = refl
+  drafts_past (suc j) [] no_drafts h l = refl
+  drafts_past j [] (draft d ds) h l = absurd h
+  drafts_past j (p ∷ ps) no_drafts h l = absurd h
+  drafts_past zero (p ∷ ps) (draft d ds) h l = absurd (omega arith)
+  drafts_past (suc j) (p ∷ ps) (draft d ds) h l = drafts_past j ps ds h.1 (omega arith)
+
+module _ (k : Number) where
+  -- how many nodes what comes behind the parts has
+  abbrev pub ending_size : Ending → ℕ
+  ending_size e = trees_size (ending_parts e) + tail_size (tail_of k e)
+
+  abbrev pub ending_depth : Ending → ℕ
+  ending_depth e = max (trees_depth (ending_parts e)) (tail_depth (tail_of k e))
+
+  pub listed_size : (r : Option ℕ) (ds : Drafts) (e : Ending) → spent (spent (spent r 1) (trees_size (row_of k ds no_trees))) (ending_size e) ≡ spent r (tree_size (tree_of k (listed ds e)))
+  listed_size r ds e =
+      let s = row_size k ds (ending_parts e) in
+      let total : (1 + trees_size (row_of k ds no_trees)) + ending_size e ≡ tree_size (tree_of k (listed ds e)) = omega (arith, s) in
+      ap (λ (x : Option ℕ). spent x (ending_size e)) (spent_on r 1 (trees_size (row_of k ds no_trees))) ∙ spent_on r (1 + trees_size (row_of k ds no_trees)) (ending_size e) ∙ ap (spent r) total
+
+  pub listed_ends : (r : Option ℕ) (ds : Drafts) → spent (spent r 1) (trees_size (row_of k ds no_trees)) ≡ spent r (tree_size (tree_of k (listed ds ends)))
+  listed_ends r ds = spent_nothing (spent (spent r 1) (trees_size (row_of k ds no_trees))) ∙ listed_size r ds ends
+
+  pub vector_size : (r : Option ℕ) (ds : Drafts) → spent (spent r 1) (trees_size (row_of k ds no_trees)) ≡ spent r (tree_size (tree_of k (in_vector ds)))
+  vector_size r ds = spent_on r 1 (trees_size (row_of k ds no_trees))
+
+  -- one draft more
+  pub sizes_more : (r s : Option ℕ) (ds : Drafts) (j : ℕ) (d : Draft) → drafts_behind j ds ≡ draft d (drafts_behind (j + 1) ds) → s ≡ spent r (tree_size (tree_of k d)) →
+      spent s (trees_size (row_of k (drafts_behind (j + 1) ds) no_trees)) ≡ spent r (trees_size (row_of k (drafts_behind j ds) no_trees))
+  sizes_more r s ds j d e h =
+      let rest = trees_size (row_of k (drafts_behind (j + 1) ds) no_trees) in
+      ap (λ (x : Option ℕ). spent x rest) h ∙ spent_on r (tree_size (tree_of k d)) rest ∙ sym (ap (λ (x : Drafts). spent r (trees_size (row_of k x no_trees))) e)
+
+  pub sizes_all : (r : Option ℕ) (ds : Drafts) (j : ℕ) → drafts_behind j ds ≡ no_drafts → r ≡ spent r (trees_size (row_of k (drafts_behind j ds) no_trees))
+  sizes_all r ds j e = spent_nothing r ∙ sym (ap (λ (x : Drafts). spent r (trees_size (row_of k x no_trees))) e)
+
+-- a depth is within a bound where those of its two sides are
+pub max_within : (a b n : ℕ) (p q : Bool) → p ≡ nat_le a n → q ≡ nat_le b n → p ≡ true → q ≡ nat_le (max a b) n
+max_within a b n p true e f h =
+    let x : a ≤ n = grind (arith, nat_tests) in
+    let y : b ≤ n = grind (arith, nat_tests) in
+    let z : max a b ≤ n = omega arith in
+    grind (arith, nat_tests)
+max_within a b n p false e f h =
+    let y : n < b = grind (arith, nat_tests) in
+    let z : n < max a b = omega arith in
+    grind (arith, nat_tests)
+
+pub max_without : (a b n : ℕ) → nat_le a n ≡ false → false ≡ nat_le (max a b) n
+max_without a b n h =
+    let x : n < a = grind (arith, nat_tests) in
+    let z : n < max a b = omega arith in
+    grind (arith, nat_tests)
+
+-- a node more
+pub one_deeper : (a n : ℕ) → 1 ≤ n → nat_le a (n - 1) ≡ nat_le (1 + a) n
+one_deeper a n l = by (nat_le a (n - 1)) refl
+  where
+    by : (p : Bool) → nat_le a (n - 1) ≡ p → nat_le a (n - 1) ≡ nat_le (1 + a) n
+    by true e =
+        let x : a ≤ n - 1 = grind (arith, nat_tests) in
+        let y : 1 + a ≤ n = omega arith in
+        let z : nat_le (1 + a) n ≡ true = grind (arith, nat_tests) in
+        e ∙ sym z
+    by false e =
+        let x : n - 1 < a = grind (arith, nat_tests) in
+        let y : n < 1 + a = omega arith in
+        let z : nat_le (1 + a) n ≡ false = grind (arith, nat_tests) in
+        e ∙ sym z
+
+pub none_deep : (a n : ℕ) → n ≡ 0 → false ≡ nat_le (1 + a) n
+none_deep a n e =
+    let y : n < 1 + a = omega arith in
+    grind (arith, nat_tests)
