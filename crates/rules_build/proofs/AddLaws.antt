@@ -38,6 +38,8 @@ use Rattle.rules_build.specs.declared.plan.End.{End}
 use Rattle.rules_build.specs.Drafts.{Draft, held, marked, plain, listed, in_vector, Drafts, no_drafts, draft, Ending, ends, tailed, goes_on, ending_parts, tree_of, row_of, tail_of, makes, all_make, ending_makes, is_listed, IsRestOf, IsDraft, AreDrafts, IsEnding}
 use Rattle.rules_build.specs.Adds.{Inserts, Grows, Lacks, Adds, AreNamed, IsNamedEnd, AddsAll, AddsEnd, CanBeAdded, AllCanBeAdded, EndCanBeAdded}
 use Rattle.rules_build.proofs.PlanViews.{vector_draft, list_draft}
+use Rattle.rules_build.proofs.BuildLaws.{append_nil, append_more}
+use Rattle.rules_build.proofs.DraftRows.{drafts_behind, row_size, row_depth}
 
 -- ---- names
 
@@ -229,14 +231,6 @@ adds_on a b c region k m n most t (Err e) g h l = (grows_on a b c region k m n m
 -- ---- sizes
 
 module _ (k : Number) where
-  pub row_size : (ds : Drafts) (us : Trees Identifier) → trees_size (row_of k ds us) ≡ trees_size (row_of k ds no_trees) + trees_size us
-  row_size no_drafts us = omega arith
-  row_size (draft d ds) us = let e = row_size ds us in omega arith
-
-  pub row_depth : (ds : Drafts) (us : Trees Identifier) → trees_depth (row_of k ds us) ≡ max (trees_depth (row_of k ds no_trees)) (trees_depth us)
-  row_depth no_drafts us = omega arith
-  row_depth (draft d ds) us = let e = row_depth ds us in omega arith
-
   pub vector_small : (w : Work) (region : Region) (p : Plan) (items : Vec Plan Global) → p ≡ plan.Vector items → CanBeAdded w region k p → AllCanBeAdded w region k items.items
   vector_small w region p items is h =
       let v = vector_draft w region p h.0 items is h.1 in
@@ -253,3 +247,59 @@ module _ (k : Number) where
       let s = row_size v.0 us in
       let t = row_depth v.0 us in
       ((v.0, v.3, omega (arith, size, s), omega (arith, deep, t)), (v.1, v.4, omega (arith, size), omega (arith, deep)))
+
+-- ---- drafts in a row, up to a place
+
+-- the trees before a place were added
+pub record RowUpTo (old new : Work) (region : Region) (k : Number) (ds : Drafts) (j : ℕ) (ns : List number.Tree) : Type 0 where
+  pub done : Trees Identifier
+  pub count : ℕ
+  pub grows : Grows old new region k count
+  pub stand : PartsStand new ns done
+  pub named : AreNamed new region ns
+  pub row : row_of k ds no_trees ≡ append done (row_of k (drafts_behind j ds) no_trees)
+  pub makes : count + all_make (drafts_behind j ds) ≤ all_make ds
+
+pub row_none : (w : Work) (region : Region) (k : Number) (ds : Drafts) (ns : List number.Tree) → ns ≡ [] → RowUpTo w w region k ds 0 ns
+row_none w region k ds ns e =
+    record {
+      done = no_trees;
+      count = 0;
+      grows = grows_none w region k 0;
+      stand = subst (λ (xs : List number.Tree). PartsStand w xs no_trees) (sym e) tt;
+      named = subst (λ (xs : List number.Tree). AreNamed w region xs) (sym e) tt;
+      row = refl;
+      makes = omega arith;
+    }
+
+pub row_more : (a b c : Work) (region : Region) (k : Number) (ds : Drafts) (j : ℕ) (ns ms : List number.Tree) (n : number.Tree) (d : Draft) → RowUpTo a b region k ds j ns → drafts_behind j ds ≡ draft d (drafts_behind (j + 1) ds) →
+    Adds b c region k (makes d) (tree_of k d) (Ok n) → ms ≡ ns ++ n ∷ [] → RowUpTo a c region k ds (j + 1) ms
+row_more a b c region k ds j ns ms n d u e h is =
+    let t = tree_of k d in
+    let keeps = h.0.names.keeps in
+    let total : makes d + all_make (drafts_behind (j + 1) ds) ≡ all_make (drafts_behind j ds) = sym (ap all_make e) in
+    record {
+      done = append u.done (tree t no_trees);
+      count = u.count + makes d;
+      grows = grows_on a b c region k u.count (makes d) (u.count + makes d) u.grows h.0 (omega arith);
+      stand = subst (λ (xs : List number.Tree). PartsStand c xs (append u.done (tree t no_trees))) (sym is) (stand_both c ns (n ∷ []) u.done (tree t no_trees) (all_kept b c region h.0.trees keeps ns u.done u.stand) (h.1, tt));
+      named = subst (λ (xs : List number.Tree). AreNamed c region xs) (sym is) (named_both c region ns (n ∷ []) (named_kept b c region h.0.trees keeps ns u.named) (h.2, tt));
+      row = u.row ∙ ap (λ (x : Drafts). append u.done (row_of k x no_trees)) e ∙ sym (append_more u.done (tree t no_trees) (row_of k (drafts_behind (j + 1) ds) no_trees));
+      makes = omega (arith, u.makes, total);
+    }
+
+pub row_end : (a b : Work) (region : Region) (k : Number) (ds : Drafts) (j : ℕ) (v : Vec number.Tree Global) → RowUpTo a b region k ds j v.items → drafts_behind j ds ≡ no_drafts →
+    AddsAll a b region k (all_make ds) (row_of k ds no_trees) (Ok v)
+row_end a b region k ds j v u e =
+    let whole : row_of k ds no_trees ≡ u.done = u.row ∙ ap (λ (x : Drafts). append u.done (row_of k x no_trees)) e ∙ append_nil u.done in
+    (grows_more a b region k u.count (all_make ds) u.grows (omega (arith, u.makes)), subst (λ (ts : Trees Identifier). PartsStand b v.items ts) (sym whole) u.stand, u.named)
+
+pub row_fail : (a b c : Work) (region : Region) (k : Number) (ds : Drafts) (j : ℕ) (ns : List number.Tree) (d : Draft) (e : BuildFault) → RowUpTo a b region k ds j ns → drafts_behind j ds ≡ draft d (drafts_behind (j + 1) ds) →
+    Grows b c region k (makes d) × Lacks b (makes d) e → Grows a c region k (all_make ds) × Lacks a (all_make ds) e
+row_fail a b c region k ds j ns d e u is h =
+    let total : makes d + all_make (drafts_behind (j + 1) ds) ≡ all_make (drafts_behind j ds) = sym (ap all_make is) in
+    let fits : u.count + makes d ≤ all_make ds = omega (arith, u.makes, total) in
+    (grows_on a b c region k u.count (makes d) (all_make ds) u.grows h.0 fits, lacks_more a b u.count (makes d) (all_make ds) e u.grows.nodes fits h.1)
+
+pub row_grows : (a b : Work) (region : Region) (k : Number) (ds : Drafts) (j : ℕ) (ns : List number.Tree) → RowUpTo a b region k ds j ns → Grows a b region k (all_make ds)
+row_grows a b region k ds j ns u = grows_more a b region k u.count (all_make ds) u.grows (omega (arith, u.makes))

@@ -1,6 +1,7 @@
 pub mod BuildLaws
 pub mod PlanViews
 pub mod DraftLaws
+pub mod DraftRows
 pub mod PairLaws
 pub mod ValueLaws
 pub mod WalkLaws

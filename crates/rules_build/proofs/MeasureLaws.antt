@@ -11,36 +11,7 @@ use Rattle.syntax_tree.specs.declared.trees.table.Region.{Region}
 use Rattle.rules_build.specs.declared.plan.Plan.{Plan}
 use Rattle.rules_build.specs.Drafts.{spent, Draft, held, marked, plain, listed, in_vector, Drafts, no_drafts, draft, Ending, ends, tailed, goes_on, ending_parts, tree_of, row_of, tail_of, IsDraft, AreDrafts}
 use Rattle.rules_build.proofs.DraftLaws.{spent_on, spent_nothing}
-use Rattle.rules_build.proofs.AddLaws.{row_size, row_depth}
-
--- drafts from a place on
-abbrev pub drafts_behind : ℕ → Drafts → Drafts
-drafts_behind zero ds = ds
-drafts_behind (suc j) no_drafts = no_drafts
-drafts_behind (suc j) (draft d ds) = drafts_behind j ds
-
-module _ (work : Work) (region : Region) where
-  pub record DraftThere (ds : Drafts) (j : ℕ) (p : Plan) : Type 0 where
-    pub here : Draft
-    pub is : IsDraft work region p here
-    pub split : drafts_behind j ds ≡ draft here (drafts_behind (j + 1) ds)
-
-  pub draft_there : (j : ℕ) (ps : List Plan) (ds : Drafts) (p : Plan) → AreDrafts work region ps ds → j < length ps → DraftThere ds j (get_or ps j p)
-  draft_there j [] ds p h l = absurd (omega arith)
-  draft_there j (q ∷ qs) no_drafts p h l = absurd h
-  draft_there zero (q ∷ qs) (draft d ds) p h l = record { here = d; is = h.0; split = refl }
-  draft_there (suc j) (q ∷ qs) (draft d ds) p h l =
-      let r = draft_there j qs ds p h.1 (omega arith) in
-      let e : suc j + 1 ≡ suc (j + 1) = omega arith in
-      record { here = r.here; is = r.is; split = r.split ∙ ap (λ (i : ℕ). draft r.here (drafts_behind i (draft d ds))) (sym e) }
-
-  pub drafts_past : (j : ℕ) (ps : List Plan) (ds : Drafts) → AreDrafts work region ps ds → length ps ≤ j → drafts_behind j ds ≡ no_drafts
-  drafts_past zero [] no_drafts h l = refl
-  drafts_past (suc j) [] no_drafts h l = refl
-  drafts_past j [] (draft d ds) h l = absurd h
-  drafts_past j (p ∷ ps) no_drafts h l = absurd h
-  drafts_past zero (p ∷ ps) (draft d ds) h l = absurd (omega arith)
-  drafts_past (suc j) (p ∷ ps) (draft d ds) h l = drafts_past j ps ds h.1 (omega arith)
+use Rattle.rules_build.proofs.DraftRows.{drafts_behind, row_size, row_depth}
 
 module _ (k : Number) where
   -- how many nodes what comes behind the parts has
