@@ -79,11 +79,20 @@ IsFound work region None (Some x) = ⊥
 IsFound work region (Some v) None = ⊥
 IsFound work region (Some v) (Some x) = IsWorth work region v x
 
--- how many places an ellipsis has, or that its variables don't agree
+-- lengths differ, and nothing else is answered
+abbrev pub Differ : {X : Type 0} → Option X → BuildFault → Type 0
+Differ s fault.EllipsisLength = s ≡ None
+Differ s fault.NodeBudget = ⊥
+Differ s fault.DepthBudget = ⊥
+Differ s fault.Full = ⊥
+Differ s fault.Memory = ⊥
+
+-- how many places there are so far, or that variables don't agree
+abbrev pub Agrees : Option (Option ℕ) → Result (Option ℕ) BuildFault → Type 0
+Agrees s (Ok places) = s ≡ Some places
+Agrees s (Err e) = Differ s e
+
+-- how many places an ellipsis has
 abbrev pub HasPlaces : Option (Option ℕ) → Result ℕ BuildFault → Type 0
 HasPlaces s (Ok n) = (places : Option ℕ) × (s ≡ Some places) × (n ≡ or_zero places)
-HasPlaces s (Err fault.EllipsisLength) = s ≡ None
-HasPlaces s (Err fault.NodeBudget) = ⊥
-HasPlaces s (Err fault.DepthBudget) = ⊥
-HasPlaces s (Err fault.Full) = ⊥
-HasPlaces s (Err fault.Memory) = ⊥
+HasPlaces s (Err e) = Differ s e

@@ -1,13 +1,13 @@
 //! What the variables of a pattern stand for at one place of the ellipses around a part of a template.
 ghost use Rattle.std.specs.Prelude.{◌≡◌, ℕ, List, IfOk};
 ghost use Rattle.scheme_model.specs.Matching.{Value as ModelValue, Binding as ModelBinding};
-ghost use Rattle.scheme_model.specs.Building.{first_value, later_values, first_place, later_places, places_of, value_of};
+ghost use Rattle.scheme_model.specs.Building.{first_value, later_values, first_place, later_places, places_of, agree_with, value_of};
 ghost use Rattle.scheme_model.specs.Ident.{Ident as Identifier, same_ident};
 ghost use Rattle.syntax_tree.specs.Names.{AreToldApart};
 ghost use Rattle.syntax_tree.specs.Macros.{IsIdent};
 ghost use Rattle.syntax_tree.specs.declared.trees.Work.{Work};
 ghost use Rattle.syntax_tree.specs.declared.trees.table.Region.{Region};
-ghost use Rattle.rules_build.specs.Values.{IsBoundTo, IsWorth, AreBound, AreManyBound, IsFound, HasPlaces};
+ghost use Rattle.rules_build.specs.Values.{IsBoundTo, IsWorth, AreBound, AreManyBound, IsFound, HasPlaces, Agrees};
 
 use crate::BuildFault;
 use ls_base::{Mem, Memory};
@@ -140,16 +140,29 @@ pub fn places_of(bounds: &[Bound]) -> Result<usize, BuildFault>
 {
     let mut places = None;
     for bound in bounds {
-        if let Value::Many(list) = bound.value {
-            if let Some(count) = places {
+        places = agreed(places, bound.value)?;
+    }
+    Ok(places.unwrap_or(0))
+}
+
+/// How many places there are by one variable more, which must agree with those before it if it drives the ellipsis.
+fn agreed(places: Option<usize>, value: Value) -> Result<Option<usize>, BuildFault>
+    ensures { (work : Work) (region : Region) (x : ModelValue Identifier) →
+        IsWorth work region value x → Agrees (agree_with places x) result }
+{
+    match value {
+        Value::One(_) => Ok(places),
+        Value::Rest(_, _) => Ok(places),
+        Value::Many(list) => match places {
+            None => Ok(Some(list.len())),
+            Some(count) => {
                 if count != list.len() {
                     return Err(BuildFault::EllipsisLength);
                 }
+                Ok(Some(count))
             }
-            places = Some(list.len());
-        }
+        },
     }
-    Ok(places.unwrap_or(0))
 }
 
 /// What an identifier stands for, if it is one of these variables.
