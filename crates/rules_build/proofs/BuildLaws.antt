@@ -132,9 +132,9 @@ append_none no_trees ys h = (refl, h)
 append_none (tree t ts) ys h = absurd cc
 
 vanish_both : {B : Type 0} (s u : Option (Built (Trees B))) → Vanishes s → Vanishes u → Vanishes (s >>= λ a. u >>= λ b. Some (joined a b))
-vanish_both None u p q b e h = absurd cc
-vanish_both (Some a) None p q b e h = absurd cc
-vanish_both (Some a) (Some c) p q b e h =
+vanish_both {B} None u p q b e h = absurd cc
+vanish_both {B} (Some a) None p q b e h = absurd cc
+vanish_both {B} (Some a) (Some c) p q b e h =
     let is : joined a c ≡ b = same_Some (joined a c) b e in
     let parts = append_none a.value c.value (ap (λ (x : Built (Trees B)). x.value) is ∙ h) in
     let left = p a refl parts.0 in
@@ -143,12 +143,12 @@ vanish_both (Some a) (Some c) p q b e h =
     omega (arith, left, right, total)
 
 vanish_places : {A B : Type 0} (f : List (Binding A B) → Option (Built (Trees B))) → ((bs : List (Binding A B)) → Vanishes (f bs)) → (n : ℕ) (bs : List (Binding A B)) → Vanishes (at_places f n bs)
-vanish_places f v zero bs b e h = sym (ap (λ (x : Built (Trees B)). x.count) (same_Some (built no_trees 0) b e))
-vanish_places f v (suc n) bs b e h = vanish_both (f (first_place bs)) (at_places f n (later_places bs)) (v (first_place bs)) (vanish_places f v n (later_places bs)) b e h
+vanish_places {A} {B} f v zero bs b e h = sym (ap (λ (x : Built (Trees B)). x.count) (same_Some (built no_trees 0) b e))
+vanish_places {A} {B} f v (suc n) bs b e h = vanish_both (f (first_place bs)) (at_places f n (later_places bs)) (v (first_place bs)) (vanish_places f v n (later_places bs)) b e h
 
 vanish_alone : {B : Type 0} (s : Option (Built (Tree B))) → Vanishes (s >>= λ b. Some (alone b))
-vanish_alone None b e h = absurd cc
-vanish_alone (Some c) b e h =
+vanish_alone {B} None b e h = absurd cc
+vanish_alone {B} (Some c) b e h =
     let none : tree c.value no_trees ≡ no_trees = ap (λ (x : Built (Trees B)). x.value) (same_Some (alone c) b e) ∙ h in
     absurd cc
 
@@ -165,12 +165,12 @@ vanish_chosen true s u p q = p
 vanish_chosen false s u p q = q
 
 pub vanish_parts : {A B : Type 0} (m : Template A B) (dots : A → Bool) (ts : Trees A) (bs : List (Binding A B)) → Vanishes (build_parts m dots ts bs)
-vanish_parts m dots no_trees bs b e h = sym (ap (λ (x : Built (Trees B)). x.count) (same_Some (built no_trees 0) b e))
-vanish_parts m dots (tree t ts) bs =
+vanish_parts {A} {B} m dots no_trees bs b e h = sym (ap (λ (x : Built (Trees B)). x.count) (same_Some (built no_trees 0) b e))
+vanish_parts {A} {B} m dots (tree t ts) bs b e h =
     let rest = vanish_parts m dots ts bs in
-    let f = λ cs. build_tree m dots t cs in
+    let f = λ (cs : List (Binding A B)). build_tree m dots t cs in
     vanish_chosen (is_dots dots t) (build_parts m dots ts bs) (repeated (leading dots ts) f (used_in m.same t bs) >>= λ a. build_parts m dots ts bs >>= λ b. Some (joined a b)) rest
-    (vanish_both (repeated (leading dots ts) f (used_in m.same t bs)) (build_parts m dots ts bs) (vanish_repeated (leading dots ts) f (used_in m.same t bs)) rest)
+    (vanish_both (repeated (leading dots ts) f (used_in m.same t bs)) (build_parts m dots ts bs) (vanish_repeated (leading dots ts) f (used_in m.same t bs)) rest) b e h
 
 -- ---- lists with tails
 

@@ -51,17 +51,17 @@ module _ {A B : Type 0} (R : A → B → Type 0) where
 
 -- one more of a list
 take_more : {A : Type 0} (k : ℕ) (xs : List A) (d : A) → k < length xs → take (k + 1) xs ≡ take k xs ++ get_or xs k d ∷ []
-take_more k [] d l = absurd (omega arith)
-take_more zero (x ∷ xs) d l = refl
-take_more (suc k) (x ∷ xs) d l =
+take_more {A} k [] d l = absurd (omega arith)
+take_more {A} zero (x ∷ xs) d l = refl
+take_more {A} (suc k) (x ∷ xs) d l =
     let e : suc k + 1 ≡ suc (k + 1) = omega arith in
-    ap (λ (j : ℕ). take j (x ∷ xs)) e ∙ ap (λ (ys : List _). x ∷ ys) (take_more k xs d (omega arith))
+    ap (λ (j : ℕ). take j (x ∷ xs)) e ∙ ap (λ (ys : List A). x ∷ ys) (take_more k xs d (omega arith))
 
 take_all : {A : Type 0} (k : ℕ) (xs : List A) → length xs ≤ k → take k xs ≡ xs
-take_all zero [] l = refl
-take_all zero (x ∷ xs) l = absurd (omega arith)
-take_all (suc k) [] l = refl
-take_all (suc k) (x ∷ xs) l = ap (λ (ys : List _). x ∷ ys) (take_all k xs (omega arith))
+take_all {A} zero [] l = refl
+take_all {A} zero (x ∷ xs) l = absurd (omega arith)
+take_all {A} (suc k) [] l = refl
+take_all {A} (suc k) (x ∷ xs) l = ap (λ (ys : List A). x ∷ ys) (take_all k xs (omega arith))
 
 -- a list that is made of another, element by element
 module _ {A B C D : Type 0} (R : A → B → Type 0) (S : C → D → Type 0) (F : List B → List D) where

@@ -43,7 +43,7 @@ all_handed_on work region k old new ps qs s (Ok p) e h g = absurd h
 all_handed_on work region k old new ps qs s (Err f) e h g = subst (λ (x : BuildFault). Fails s x) (sym h) g
 
 none_then : {X Y : Type 0} (s : Option X) (f : X → Option Y) → s ≡ None → (s >>= f) ≡ None
-none_then s f e = ap (λ (x : Option _). x >>= f) e
+none_then {X} {Y} s f e = ap (λ (x : Option X). x >>= f) e
 
 -- ---- parts in a row
 
