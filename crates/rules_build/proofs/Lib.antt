@@ -8,3 +8,4 @@ pub mod NameLaws
 pub mod WalkLaws
 pub mod AddLaws
 pub mod MeasureLaws
+pub mod WholeLaws
