@@ -9,3 +9,4 @@ pub mod WalkLaws
 pub mod AddLaws
 pub mod MeasureLaws
 pub mod WholeLaws
+pub mod EndLaws
