@@ -1,5 +1,5 @@
 -- What adding nodes leaves, one after another.
-use Rattle.std.proofs.Common.{◌≡◌, ℕ, zero, suc, ◌+◌, ◌^◌, ◌<◌, ◌≤◌, List, [], ◌∷◌, ◌++◌, ◌⊎◌, inl, inr, false, Option, Some, None, refl, sym, ap, ◌∙◌, subst, slice_get, arith}
+use Rattle.std.proofs.Common.{◌≡◌, ℕ, zero, suc, ◌+◌, ◌^◌, ◌<◌, ◌≤◌, List, [], ◌∷◌, ◌++◌, ◌⊎◌, inl, inr, false, Option, Some, None, refl, sym, ap, ◌∙◌, subst, slice_get, drop, arith}
 use Rattle.std.specs.Prelude.{Result, Ok, Err, IsErrAnd, Vec, max, if◌then◌else◌, Bool, true}
 use Rattle.std.specs.declared.alloc.Global.{Global}
 use Rattle.std.specs.Option.{option_map}
@@ -30,13 +30,14 @@ use Rattle.syntax_tree.specs.declared.trees.nodes.Node.TheVariants as node
 use Rattle.syntax_tree.proofs.NodeLaws.{put_cases}
 use Rattle.syntax_tree.proofs.WorkLaws.{names_keep}
 use Rattle.syntax_tree.proofs.StandingLaws.{leaf_kept}
+use Rattle.syntax_tree.proofs.Looking.{behind_stands}
 use Rattle.rules_build.specs.declared.fault.BuildFault.{BuildFault}
 use Rattle.rules_build.specs.declared.fault.BuildFault.TheVariants as fault
 use Rattle.rules_build.specs.declared.plan.Plan.{Plan}
 use Rattle.rules_build.specs.declared.plan.Plan.TheVariants as plan
 use Rattle.rules_build.specs.declared.plan.End.{End}
 use Rattle.rules_build.specs.Drafts.{Draft, held, marked, plain, listed, in_vector, Drafts, no_drafts, draft, Ending, ends, tailed, goes_on, ending_parts, tree_of, row_of, tail_of, makes, all_make, ending_makes, is_listed, IsRestOf, IsDraft, AreDrafts, IsEnding}
-use Rattle.rules_build.specs.Adds.{Inserts, Grows, Lacks, Adds, AreNamed, IsNamedEnd, AddsAll, AddsEnd, CanBeAdded, AllCanBeAdded, EndCanBeAdded}
+use Rattle.rules_build.specs.Adds.{Inserts, Grows, Lacks, Adds, AreNamed, IsNamedEnd, AddsAll, AddsEnd, CanBeAdded, AllCanBeAdded, EndCanBeAdded, CopiesRest}
 use Rattle.rules_build.proofs.PlanViews.{vector_draft, list_draft}
 use Rattle.rules_build.proofs.BuildLaws.{append_nil, append_more}
 use Rattle.rules_build.proofs.DraftRows.{drafts_behind, row_size, row_depth}
@@ -303,3 +304,32 @@ row_fail a b c region k ds j ns d e u is h =
 
 pub row_grows : (a b : Work) (region : Region) (k : Number) (ds : Drafts) (j : ℕ) (ns : List number.Tree) → RowUpTo a b region k ds j ns → Grows a b region k (all_make ds)
 row_grows a b region k ds j ns u = grows_more a b region k u.count (all_make ds) u.grows (omega (arith, u.makes))
+
+-- ---- a list that is copied
+
+named_from : (w : Work) (region : Region) (ns : List number.Tree) → AllByRecursion (MayName w.trees.nodes w.trees.regions region.number) (numbers ns) → AreNamed w region ns
+named_from w region [] h = tt
+named_from w region (n ∷ ns) h = (h.0, named_from w region ns h.1)
+
+named_drop : (w : Work) (region : Region) (k : ℕ) (ns : List number.Tree) → AreNamed w region ns → AreNamed w region (drop k ns)
+named_drop w region zero ns h = h
+named_drop w region (suc k) [] h = tt
+named_drop w region (suc k) (n ∷ ns) h = named_drop w region k ns h.1
+
+list_named : (w : Work) (region : Region) (items : Vec number.Tree Global) (end : Option number.Tree) (o : Option Occ) → CanNameParts w region (node.List items end o) → AreNamed w region items.items × IsNamedEnd w region end
+list_named w region items None o h = (named_from w region items.items h, tt)
+list_named w region items (Some n) o h = (named_from w region items.items h.1, h.0)
+
+pub copied_rest : (w : Work) (region : Region) (x : Node) (items : Vec number.Tree Global) (end : Option number.Tree) (o q : Option Occ) (ps : Trees Identifier) (tail : Tail Identifier) → x ≡ node.List items end o → IsNodeOf w x (list ps tail q) → CanNameParts w region x →
+    (from : ℕ) (us vs : Trees Identifier) (old new : List number.Tree) → us ≡ behind from ps → new ≡ old ++ drop from items.items → PartsStand w old vs → AreNamed w region old → CopiesRest w region (append vs us) tail new end
+copied_rest w region x items end o q ps tail is h g from us vs old new e f stands named =
+    let p = subst (λ (y : Node). IsNodeOf w y (list ps tail q)) is h in
+    let parts : ps ≡ p.0 = cc in
+    let last : tail ≡ p.1 = cc in
+    let names = list_named w region items end o (subst (CanNameParts w region) is g) in
+    let rest = subst (PartsStand w (drop from items.items)) (ap (behind from) (sym parts) ∙ sym e) (behind_stands w from items.items p.0 p.3) in (
+      subst (λ (ns : List number.Tree). PartsStand w ns (append vs us)) (sym f) (stand_both w old (drop from items.items) vs us stands rest),
+      subst (AreNamed w region) (sym f) (named_both w region old (drop from items.items) named (named_drop w region from items.items names.0)),
+      subst (EndStands w end) (sym last) p.4,
+      names.1,
+    )

@@ -10,3 +10,4 @@ pub mod AddLaws
 pub mod MeasureLaws
 pub mod WholeLaws
 pub mod EndLaws
+pub mod Tails

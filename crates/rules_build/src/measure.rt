@@ -1,5 +1,5 @@
 //! How many nodes a tree would have, and whether it would be too deep, before it is built.
-ghost use Rattle.std.specs.Prelude.{◌≡◌, max, nat_le};
+ghost use Rattle.std.specs.Prelude.{◌≡◌, ◌+◌, max, nat_le};
 ghost use Rattle.scheme_model.specs.Identifiers.{Number};
 ghost use Rattle.scheme_model.specs.Trees.{Trees, no_trees, Tail};
 ghost use Rattle.scheme_model.specs.Measures.{tree_size, trees_size, tail_size, tree_depth, trees_depth, tail_depth};
@@ -56,16 +56,22 @@ fn take_behind(work: &Work, list: Tree, from: u32, room: &mut Option<u32>)
     ensures { (region : Region) (us : Trees Identifier) (tail : Tail Identifier) → IsRestOf work.now region list from us tail →
         room.new ≡ spent room.old (trees_size us + tail_size tail) }
 {
-    if let Look::List(items, end) = look_at(work, list) {
-        for k in from as usize..items.len() {
-            if room.is_none() {
-                return;
+    match look_at(work, list) {
+        Look::List(items, end) => {
+            for k in from as usize..items.len() {
+                if room.is_none() {
+                    return;
+                }
+                *room = spend(*room, work.size(items[k]));
             }
-            *room = spend(*room, work.size(items[k]));
+            match end {
+                None => {}
+                Some(tail) => *room = spend(*room, work.size(tail)),
+            }
         }
-        if let Some(tail) = end {
-            *room = spend(*room, work.size(tail));
-        }
+        Look::Name(_) => {}
+        Look::Atom(_) => {}
+        Look::Vector(_) => {}
     }
 }
 

@@ -72,7 +72,7 @@ pub fn all_bound<'a>(alloc: Global, bindings: &'a [Binding]) -> Mem<Vec<Bound<'a
 /// What a variable stands for at the first place of an ellipsis. One with a single value is the same everywhere.
 fn first_value(value: Value<'_>) -> Value<'_>
     ensures { (work : Work) (region : Region) (x : ModelValue Identifier) →
-        IsWorth work region value x → IsWorth work region result (first_value x) }
+        IsWorth work region value.entry x → IsWorth work region result (first_value x) }
 {
     match value {
         Value::One(_) => value,
@@ -89,7 +89,7 @@ fn first_value(value: Value<'_>) -> Value<'_>
 /// What a variable stands for at the places after the first.
 fn later_values(value: Value<'_>) -> Value<'_>
     ensures { (work : Work) (region : Region) (x : ModelValue Identifier) →
-        IsWorth work region value x → IsWorth work region result (later_values x) }
+        IsWorth work region value.entry x → IsWorth work region result (later_values x) }
 {
     match value {
         Value::One(_) => value,
@@ -148,7 +148,7 @@ pub fn places_of(bounds: &[Bound]) -> Result<usize, BuildFault>
 /// How many places there are by one variable more, which must agree with those before it if it drives the ellipsis.
 fn agreed(places: Option<usize>, value: Value) -> Result<Option<usize>, BuildFault>
     ensures { (work : Work) (region : Region) (x : ModelValue Identifier) →
-        IsWorth work region value x → Agrees (agree_with places x) result }
+        IsWorth work region value.entry x → Agrees (agree_with places x) result }
 {
     match value {
         Value::One(_) => Ok(places),

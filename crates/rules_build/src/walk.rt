@@ -1,5 +1,5 @@
 //! The plan of a template's instance (R7RS 4.3.2).
-ghost use Rattle.std.specs.Prelude.{◌≡◌, ◌≤◌, ℕ, List, [], Option, Some, Ok, length, IsSome, IfOk, OnOk};
+ghost use Rattle.std.specs.Prelude.{◌≡◌, ◌≤◌, ℕ, Bool, List, [], Option, Some, Ok, length, IsSome, IfOk, OnOk};
 ghost use Rattle.scheme_model.specs.declared.Occ.{Occ as AnyOcc};
 ghost use Rattle.scheme_model.specs.Identifiers.{Number};
 ghost use Rattle.scheme_model.specs.Trees.{Tree as ModelTree, name, Trees, no_trees, Tail};

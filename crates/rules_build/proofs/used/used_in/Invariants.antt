@@ -10,4 +10,4 @@ use Rattle.rules_build.proofs.used.used_in.Given as goal
 
 abbrev pub invariant-loop-bound : goal.invariant-loop-bound
 invariant-loop-bound l =
-    (region : Region) (t : Tree Identifier) → StandsFor l.work l.template t → MadeOf (IsBound l.work region) (IsBound l.work region) (used_in same_ident t) (take l.bound-index l.bounds) l.used.items
+    (region : Region) (t : Tree Identifier) → StandsFor l.work l.fn.template t → MadeOf (IsBound l.work region) (IsBound l.work region) (used_in same_ident t) (take l.bound-index l.bounds) l.used.items
