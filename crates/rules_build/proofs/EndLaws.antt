@@ -240,3 +240,16 @@ module _ (work : Work) (region : Region) (k : Number) where
   found_rest n from None h = absurd h
   found_rest n from (Some (One t)) h = (t, refl, h.0, h.1)
   found_rest n from (Some (Many vs)) h = absurd h
+
+  -- a variable that has several values
+  abbrev pub is_many : code_value.Value → Bool
+  is_many (worth.One n) = false
+  is_many (worth.Rest n from) = false
+  is_many (worth.Many vs) = true
+
+  pub found_many : (x : code_value.Value) (v : Option (Value Identifier)) → is_many x ≡ true → IsFound work region (Some x) v → (vs : Values Identifier) × (v ≡ Some (Many vs))
+  found_many x None e h = absurd h
+  found_many (worth.One n) (Some y) e h = absurd cc
+  found_many (worth.Rest n from) (Some y) e h = absurd cc
+  found_many (worth.Many list) (Some (One t)) e h = absurd h
+  found_many (worth.Many list) (Some (Many vs)) e h = (vs, refl)

@@ -3,13 +3,16 @@ use Rattle.std.proofs.Common.{◌≡◌, ℕ, zero, suc, ◌+◌, ◌-◌, ◌<�
 use Rattle.std.specs.Prelude.{nat_le, max}
 use Rattle.std.proofs.lemmas.Bool.Decides.{nat_tests}
 use Rattle.scheme_model.specs.Identifiers.{Number}
-use Rattle.scheme_model.specs.Trees.{Tree, Trees, no_trees, tree, Tail, proper, dotted}
+use Rattle.scheme_model.specs.declared.Occ.{Occ}
+use Rattle.scheme_model.specs.Trees.{Tree, list, Trees, no_trees, tree, Tail, proper, dotted}
+use Rattle.scheme_model.specs.Matching.{behind}
 use Rattle.scheme_model.specs.Measures.{tree_size, trees_size, tail_size, tree_depth, trees_depth, tail_depth}
 use Rattle.scheme_model.specs.Ident.{Ident as Identifier}
 use Rattle.syntax_tree.specs.declared.trees.Work.{Work}
 use Rattle.syntax_tree.specs.declared.trees.table.Region.{Region}
+use Rattle.syntax_tree.specs.declared.trees.nodes.Tree as number
 use Rattle.rules_build.specs.declared.plan.Plan.{Plan}
-use Rattle.rules_build.specs.Drafts.{spent, Draft, held, marked, plain, listed, in_vector, Drafts, no_drafts, draft, Ending, ends, tailed, goes_on, ending_parts, tree_of, row_of, tail_of, IsDraft, AreDrafts}
+use Rattle.rules_build.specs.Drafts.{spent, Draft, held, marked, plain, listed, in_vector, Drafts, no_drafts, draft, Ending, ends, tailed, goes_on, ending_parts, tree_of, row_of, tail_of, IsRestOf, IsDraft, AreDrafts}
 use Rattle.rules_build.proofs.DraftLaws.{spent_on, spent_nothing}
 use Rattle.rules_build.proofs.DraftRows.{drafts_behind, row_size, row_depth}
 
@@ -81,3 +84,17 @@ pub none_deep : (a n : ℕ) → n ≡ 0 → false ≡ nat_le (1 + a) n
 none_deep a n e =
     let y : n < 1 + a = omega arith in
     grind (arith, nat_tests)
+
+-- ---- the rest of a list
+
+pub rest_parts : (work : Work) (region : Region) (n : number.Tree) (from : ℕ) (us : Trees Identifier) (tail : Tail Identifier) (h : IsRestOf work region n from us tail) (ts : Trees Identifier) (last : Tail Identifier) (o : Option Occ) → list h.parts tail h.place ≡ list ts last o →
+    (us ≡ behind from ts) × (tail ≡ last)
+rest_parts work region n from us tail h ts last o e =
+    let p : h.parts ≡ ts = cc in
+    let q : tail ≡ last = cc in
+    (h.rest ∙ ap (behind from) p, q)
+
+pub take_one : (r s : Option ℕ) (n : ℕ) (ts us : Trees Identifier) (t : Tree Identifier) (more : ℕ) → ts ≡ tree t us → n ≡ tree_size t → s ≡ spent r n → spent r (trees_size ts + more) ≡ spent s (trees_size us + more)
+take_one r s n ts us t more e f g =
+    let total : trees_size ts + more ≡ n + (trees_size us + more) = let a = ap (λ (x : Trees Identifier). trees_size x) e in omega (arith, a, f) in
+    ap (spent r) total ∙ sym (spent_on r n (trees_size us + more)) ∙ ap (λ (x : Option ℕ). spent x (trees_size us + more)) (sym g)

@@ -14,7 +14,11 @@ returns-in_ok-new-in-Name c = λ region k t h named.
     end_other c.args.self.now.work.now region k c.args.tree t c.in_ok-new-in-Name.field-0 (ap is_list q.2) c.in_ok-new-in-Name.ensures.ok h named
 
 pub returns-in_ok-new-in-Atom : goal.returns-in_ok-new-in-Atom
-returns-in_ok-new-in-Atom c = ?
+returns-in_ok-new-in-Atom c = λ region k t h named.
+    let q = c.in-Atom.ensures t h in
+    end_other c.args.self.now.work.now region k c.args.tree t c.in_ok-new-in-Atom.field-0 (ap is_list q.2) c.in_ok-new-in-Atom.ensures.ok h named
 
 pub returns-in_ok-new-in-Vector : goal.returns-in_ok-new-in-Vector
-returns-in_ok-new-in-Vector c = ?
+returns-in_ok-new-in-Vector c = λ region k t h named.
+    let q = c.in-Vector.ensures t h in
+    end_other c.args.self.now.work.now region k c.args.tree t c.in_ok-new-in-Vector.field-0 (ap is_list q.2) c.in_ok-new-in-Vector.ensures.ok h named
