@@ -90,7 +90,7 @@ tree_used m dots t bs = ap (build_tree m dots t) (used_kept m.same t bs) ∙ tre
 
 -- ---- parts in a row
 
-append_nil : {A : Type 0} (ts : Trees A) → append ts no_trees ≡ ts
+pub append_nil : {A : Type 0} (ts : Trees A) → append ts no_trees ≡ ts
 append_nil no_trees = refl
 append_nil (tree t ts) = ap (tree t) (append_nil ts)
 

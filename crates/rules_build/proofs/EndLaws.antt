@@ -69,12 +69,12 @@ module _ (work : Work) (region : Region) (k : Number) where
 
   -- a tail that is no list
   pub ended_one : (ds : Drafts) (d : Draft) (ps : List Plan) (p : Plan) (q : Box Plan) → is_listed d ≡ false → q.value ≡ p → AreDrafts work region ps ds → IsDraft work region p d → IsEndedBy work region k ds d ps (end.Dotted q)
-  ended_one ds d ps p q no is h g =
-      let plain = listed_is k d ∙ no in (
+  ended_one ds d ps p q other is h g =
+      let plain = listed_is k d ∙ other in (
         ds,
         tailed d,
         h,
-        (q, refl, no, subst (λ (x : Plan). IsDraft work region x d) (sym is) g),
+        (q, refl, other, subst (λ (x : Plan). IsDraft work region x d) (sym is) g),
         row_before k ds no_trees ∙ ap (append (row_of k ds no_trees)) (sym (front_none (tree_of k d) plain)),
         back_dotted (tree_of k d) plain,
         omega arith,
@@ -90,11 +90,11 @@ module _ (work : Work) (region : Region) (k : Number) where
   )
 
   pub end_other : (n : number.Tree) (t : Tree Identifier) (q : Box Plan) → is_list t ≡ false → q.value ≡ plan.Held n → StandsFor work n t → CanName work region n → IsEndOf work region k t (end.Dotted q)
-  end_other n t q no is h g = (
+  end_other n t q other is h g = (
     tailed (held t),
-    (q, refl, no, (n, is, h, g)),
-    sym (front_none t no),
-    back_dotted t no,
+    (q, refl, other, (n, is, h, g)),
+    sym (front_none t other),
+    back_dotted t other,
     refl,
   )
 
@@ -193,9 +193,9 @@ module _ (work : Work) (region : Region) (k : Number) where
 
   -- what is left of a list is a list
   rest_shape : (us : Trees Identifier) (tail : Tail Identifier) → is_list (rest_of us tail) ≡ true → ((u : Tree Identifier) → tail ≡ dotted u → is_list u ≡ false) → list us tail None ≡ rest_of us tail
-  rest_shape no_trees proper own no = refl
-  rest_shape no_trees (dotted u) own no = let clash : true ≡ false = sym own ∙ no u refl in absurd cc
-  rest_shape (tree t ts) tail own no = refl
+  rest_shape no_trees proper own other = refl
+  rest_shape no_trees (dotted u) own other = let clash : true ≡ false = sym own ∙ other u refl in absurd cc
+  rest_shape (tree t ts) tail own other = refl
 
   tail_plain : (n : number.Tree) (parts : Trees Identifier) (tail : Tail Identifier) (o : Option Occ) → StandsFor work n (list parts tail o) → (u : Tree Identifier) → tail ≡ dotted u → is_list u ≡ false
   tail_plain n parts proper o h u e = absurd cc
@@ -251,5 +251,5 @@ module _ (work : Work) (region : Region) (k : Number) where
   found_many x None e h = absurd h
   found_many (worth.One n) (Some y) e h = absurd cc
   found_many (worth.Rest n from) (Some y) e h = absurd cc
-  found_many (worth.Many list) (Some (One t)) e h = absurd h
-  found_many (worth.Many list) (Some (Many vs)) e h = (vs, refl)
+  found_many (worth.Many bs) (Some (One t)) e h = absurd h
+  found_many (worth.Many bs) (Some (Many vs)) e h = (vs, refl)
