@@ -98,3 +98,37 @@ pub take_one : (r s : Option ℕ) (n : ℕ) (ts us : Trees Identifier) (t : Tree
 take_one r s n ts us t more e f g =
     let total : trees_size ts + more ≡ n + (trees_size us + more) = let a = ap (λ (x : Trees Identifier). trees_size x) e in omega (arith, a, f) in
     ap (spent r) total ∙ sym (spent_on r n (trees_size us + more)) ∙ ap (λ (x : Option ℕ). spent x (trees_size us + more)) (sym g)
+
+-- ---- depths of a row, part by part
+
+deep_by : (a b c n : ℕ) (p : Bool) → a ≤ n → nat_le (max b c) n ≡ p → nat_le (max (max a b) c) n ≡ nat_le (max b c) n
+deep_by a b c n true l e =
+    let x : max b c ≤ n = grind (arith, nat_tests) in
+    let y : max (max a b) c ≤ n = omega arith in
+    let z : nat_le (max (max a b) c) n ≡ true = grind (arith, nat_tests) in
+    z ∙ sym e
+deep_by a b c n false l e =
+    let x : n < max b c = grind (arith, nat_tests) in
+    let y : n < max (max a b) c = omega arith in
+    let z : nat_le (max (max a b) c) n ≡ false = grind (arith, nat_tests) in
+    z ∙ sym e
+
+pub fit_one : (n d : ℕ) (ts us : Trees Identifier) (t : Tree Identifier) (more : ℕ) → ts ≡ tree t us → d ≡ tree_depth t → d ≤ n → nat_le (max (trees_depth ts) more) n ≡ nat_le (max (trees_depth us) more) n
+fit_one n d ts us t more e f l =
+    ap (λ (x : Trees Identifier). nat_le (max (trees_depth x) more) n) e ∙ deep_by (tree_depth t) (trees_depth us) more n (nat_le (max (trees_depth us) more) n) (omega (arith, f, l)) refl
+
+pub too_deep : (n d : ℕ) (ts us : Trees Identifier) (t : Tree Identifier) (more : ℕ) → ts ≡ tree t us → d ≡ tree_depth t → n < d → false ≡ nat_le (max (trees_depth ts) more) n
+too_deep n d ts us t more e f l =
+    let a : trees_depth ts ≡ max (tree_depth t) (trees_depth us) = ap (λ (x : Trees Identifier). trees_depth x) e in
+    let y : n < max (trees_depth ts) more = omega (arith, a, f, l) in
+    let z : nat_le (max (trees_depth ts) more) n ≡ false = grind (arith, nat_tests) in
+    sym z
+
+-- no part is left
+pub fit_end : (n : ℕ) (ts : Trees Identifier) (tail : Tail Identifier) → ts ≡ no_trees → nat_le (max (trees_depth ts) (tail_depth tail)) n ≡ nat_le (tail_depth tail) n
+fit_end n ts tail e =
+    let s : max 0 (tail_depth tail) ≡ tail_depth tail = omega arith in
+    ap (λ (x : Trees Identifier). nat_le (max (trees_depth x) (tail_depth tail)) n) e ∙ ap (λ (x : ℕ). nat_le x n) s
+
+pub nothing_deep : (n : ℕ) → true ≡ nat_le 0 n
+nothing_deep n = grind (arith, nat_tests)

@@ -15,10 +15,9 @@ use Rattle.syntax_tree.specs.declared.trees.nodes.Tree as number
 use Rattle.syntax_tree.specs.declared.trees.nodes.Leaf.{Leaf}
 use Rattle.rules_build.specs.declared.plan.Plan.{Plan, out-Plan, out-roll-Plan}
 use Rattle.rules_build.specs.declared.plan.Plan.TheVariants as plan
-use Rattle.rules_build.specs.declared.plan.Plan.TheOpen.{Plan-F}
+use Rattle.rules_build.specs.declared.plan.End.TheOpen.{Plan-F, End-F}
 use Rattle.rules_build.specs.declared.plan.End.{End, out-End, out-roll-End}
 use Rattle.rules_build.specs.declared.plan.End.TheVariants as end
-use Rattle.rules_build.specs.declared.plan.End.TheOpen.{End-F}
 use Rattle.rules_build.specs.Drafts.{Draft, held, marked, plain, listed, in_vector, Drafts, Ending, ends, tailed, goes_on, is_listed, IsRestOf, IsDraft, AreDrafts, IsEnding}
 
 out_held : (n : number.Tree) → out-Plan (plan.Held n) ≡ Plan-F.Held n

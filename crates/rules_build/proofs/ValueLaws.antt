@@ -15,7 +15,8 @@ use Rattle.syntax_tree.specs.declared.rules.Binding.{Binding as CodeBinding, out
 use Rattle.syntax_tree.specs.declared.rules.Binding.TheVariants as bound
 use Rattle.syntax_tree.specs.declared.rules.Binding.TheOpen.{Binding-F}
 use Rattle.rules_build.specs.declared.values.Value.TheVariants as worth
-use Rattle.rules_build.specs.Values.{MayNameValues, IsBoundTo, AreValuesOf, IsWorth}
+use Rattle.rules_build.specs.declared.values.Value as code_value
+use Rattle.rules_build.specs.Values.{MayNameValues, IsBoundTo, AreValuesOf, IsWorth, IsFound}
 
 out_one : (v : ℕ) (n : number.Tree) → out-Binding (bound.One v n) ≡ Binding-F.One v n
 out_one v n = ap out-Binding (sym (bound.rolls-One v n)) ∙ out-roll-Binding (Binding-F.One v n)
@@ -120,3 +121,18 @@ module _ (t : Tree Identifier) where
   pub unused_last : (ms : Bindings) (m : Binding Identifier Identifier) → stands_in same_ident m.variable t ≡ false → used_in same_ident t (ms ++ m ∷ []) ≡ used_in same_ident t ms
   unused_last [] m h = ap (λ (b : Bool). if b then m ∷ [] else []) h
   unused_last (n ∷ ns) m h = let e = unused_last ns m h in λ j. if stands_in same_ident n.variable t then n ∷ e j else e j
+
+-- ---- the value of a variable
+
+module _ (ms : Bindings) (m : Binding Identifier Identifier) (rest : Bindings) (i : Identifier) (split : ms ≡ m ∷ rest) where
+  pub found_first : same_ident m.variable i ≡ true → value_of same_ident ms i ≡ Some m.value
+  found_first e = ap (λ (xs : Bindings). value_of same_ident xs i) split ∙ ap (λ (b : Bool). if b then Some m.value else value_of same_ident rest i) e
+
+  pub passed_first : same_ident m.variable i ≡ false → value_of same_ident ms i ≡ value_of same_ident rest i
+  passed_first e = ap (λ (xs : Bindings). value_of same_ident xs i) split ∙ ap (λ (b : Bool). if b then Some m.value else value_of same_ident rest i) e
+
+pub worth_found : (work : Work) (region : Region) (v : code_value.Value) (o : Option (Value Identifier)) (x : Value Identifier) → o ≡ Some x → IsWorth work region v x → IsFound work region (Some v) o
+worth_found work region v o x e h = subst (IsFound work region (Some v)) (sym e) h
+
+pub none_found : (work : Work) (region : Region) (o : Option (Value Identifier)) → o ≡ None → IsFound work region None o
+none_found work region o e = subst (IsFound work region None) (sym e) tt
