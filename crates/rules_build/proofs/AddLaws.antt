@@ -1,5 +1,5 @@
 -- What adding nodes leaves, one after another.
-use Rattle.std.proofs.Common.{◌≡◌, ℕ, zero, suc, ◌+◌, ◌^◌, ◌<◌, ◌≤◌, List, [], ◌∷◌, ◌++◌, ◌⊎◌, inl, inr, false, Option, Some, None, refl, sym, ap, ◌∙◌, subst, slice_get, drop, arith}
+use Rattle.std.proofs.Common.{◌≡◌, ℕ, zero, suc, ◌+◌, ◌^◌, ◌<◌, ◌≤◌, List, [], ◌∷◌, ◌++◌, ◌⊎◌, inl, inr, false, Option, Some, None, refl, sym, ap, ◌∙◌, subst, slice_get, drop, length, arith}
 use Rattle.std.specs.Prelude.{Result, Ok, Err, IsErrAnd, Vec, max, if◌then◌else◌, Bool, true}
 use Rattle.std.specs.declared.alloc.Global.{Global}
 use Rattle.std.specs.Option.{option_map}
@@ -245,8 +245,8 @@ module _ (k : Number) where
       let us = ending_parts v.1 in
       let size : tree_size (tree_of k (listed v.0 v.1)) ≤ max_tree_nodes = subst (λ (d : Draft). tree_size (tree_of k d) ≤ max_tree_nodes) v.2 h.2 in
       let deep : tree_depth (tree_of k (listed v.0 v.1)) ≤ max_tree_depth = subst (λ (d : Draft). tree_depth (tree_of k d) ≤ max_tree_depth) v.2 h.3 in
-      let s = row_size v.0 us in
-      let t = row_depth v.0 us in
+      let s = row_size k v.0 us in
+      let t = row_depth k v.0 us in
       ((v.0, v.3, omega (arith, size, s), omega (arith, deep, t)), (v.1, v.4, omega (arith, size), omega (arith, deep)))
 
 -- ---- drafts in a row, up to a place
@@ -333,3 +333,9 @@ copied_rest w region x items end o q ps tail is h g from us vs old new e f stand
       subst (EndStands w end) (sym last) p.4,
       names.1,
     )
+
+pub drop_past : (k : ℕ) (ns : List number.Tree) → length ns ≤ k → drop k ns ≡ []
+drop_past zero [] l = refl
+drop_past zero (n ∷ ns) l = absurd (omega arith)
+drop_past (suc k) [] l = refl
+drop_past (suc k) (n ∷ ns) l = drop_past k ns (omega arith)

@@ -1,6 +1,6 @@
 -- Drafts in a row, what is left when nodes are counted, and plans that are put together.
 use Rattle.std.proofs.Common.{◌≡◌, ℕ, zero, suc, ◌+◌, ◌-◌, ◌<◌, ◌≤◌, List, [], ◌∷◌, ◌++◌, Bool, true, false, Option, Some, None, refl, sym, ap, ◌∙◌, subst, arith, append_assoc}
-use Rattle.std.specs.Prelude.{nat_le, if◌then◌else◌, is_some, is_none, IsSome, Vec, Result, Ok, Err}
+use Rattle.std.specs.Prelude.{nat_le, if◌then◌else◌, is_some, IsSome, Vec, Result, Ok, Err}
 use Rattle.std.specs.declared.alloc.Global.{Global}
 use Rattle.std.proofs.lemmas.Bool.Decides.{nat_tests}
 use Rattle.std.proofs.lemmas.List.{append-nil}
@@ -62,10 +62,6 @@ spent_none r n e = e ∙ sym (ap (λ (x : Option ℕ). spent x n) e)
 pub none_is : {A : Type 0} (o : Option A) → is_some o ≡ false → o ≡ None
 none_is None h = refl
 none_is (Some x) h = absurd cc
-
-pub gone_is : {A : Type 0} (o : Option A) → is_none o ≡ true → o ≡ None
-gone_is None h = refl
-gone_is (Some x) h = absurd cc
 
 -- nothing is spent
 pub spent_nothing : (r : Option ℕ) → r ≡ spent r 0

@@ -1,6 +1,6 @@
 -- The ends of lists that are planned, and the plans of identifiers.
 use Rattle.std.proofs.Common.{◌≡◌, ℕ, zero, suc, ◌+◌, ◌<◌, ◌≤◌, List, [], ◌∷◌, ◌++◌, Bool, true, false, Option, Some, None, refl, sym, ap, ◌∙◌, subst, arith}
-use Rattle.std.specs.Prelude.{IsSome, Vec, Result, Ok, Err, is_some}
+use Rattle.std.specs.Prelude.{map, IsSome, Vec, Result, Ok, Err, is_some}
 use Rattle.std.specs.Global.{Box}
 use Rattle.std.specs.declared.alloc.Global.{Global}
 use Rattle.std.proofs.lemmas.List.{append-nil}
@@ -27,6 +27,10 @@ use Rattle.rules_build.specs.Values.{AreValuesOf, IsWorth, IsFound}
 use Rattle.rules_build.specs.Drafts.{spent, Draft, held, marked, plain, listed, in_vector, Drafts, no_drafts, draft, Ending, ends, tailed, goes_on, ending_parts, tree_of, row_of, tail_of, makes, all_make, ending_makes, is_listed, IsRestOf, IsDraft, AreDrafts, IsEnding, IsPlanOf, ArePlansOf, front_of, back_of, IsEndOf, IsEndedBy}
 use Rattle.rules_build.specs.Builds.{inserting, Plans}
 use Rattle.rules_build.proofs.DraftLaws.{add_drafts, drafts_both, row_both, row_before, make_both, listed_is, plans_all, tailed_plan, spent_on, spent_none}
+
+pub plans_map : (ps : List Plan) → map (λ p. p) ps ≡ ps
+plans_map [] = refl
+plans_map (p ∷ ps) = ap (λ (qs : List Plan). p ∷ qs) (plans_map ps)
 
 -- ---- tails
 

@@ -1,10 +1,13 @@
 -- What bindings stand for at the places of an ellipsis.
 use Rattle.std.proofs.Common.{◌≡◌, ℕ, zero, suc, ◌+◌, ◌<◌, ◌≤◌, List, [], ◌∷◌, ◌++◌, length, get_or, drop, Bool, true, false, ◌⊎◌, inl, inr, Option, Some, None, refl, sym, ap, ◌∙◌, subst, arith}
-use Rattle.std.specs.Prelude.{if◌then◌else◌, ◌==◌, nat_eq, Vec, Result, Ok, Err}
+use Rattle.std.specs.Option.{unwrap_or}
+use Rattle.std.proofs.Common.{Bor}
+use Rattle.std.specs.Prelude.{if◌then◌else◌, ◌==◌, nat_eq, Vec, Result, Ok, Err, IsErrAnd}
+use Rattle.std.proofs.lemmas.Bool.Decides.{nat_tests}
 use Rattle.std.specs.declared.alloc.Global.{Global}
 use Rattle.scheme_model.specs.Trees.{Tree}
 use Rattle.scheme_model.specs.Matching.{Value, One, Many, Values, no_values, value, Binding, ◌>>=◌}
-use Rattle.scheme_model.specs.Building.{value_of, stands_in, used_in, value_count, agree, agree_with, places_of, first_value, later_values, first_place, later_places}
+use Rattle.scheme_model.specs.Building.{value_of, stands_in, used_in, value_count, agree, agree_with, places_of, or_zero, first_value, later_values, first_place, later_places}
 use Rattle.scheme_model.specs.Ident.{Ident as Identifier, same_ident}
 use Rattle.syntax_tree.specs.Works.{StandsFor, CanName}
 use Rattle.syntax_tree.specs.Macros.{IsIdent, IsValue, AreValues, IsRest}
@@ -16,7 +19,9 @@ use Rattle.syntax_tree.specs.declared.rules.Binding.TheVariants as bound
 use Rattle.syntax_tree.specs.declared.rules.Binding.TheOpen.{Binding-F}
 use Rattle.rules_build.specs.declared.values.Value.TheVariants as worth
 use Rattle.rules_build.specs.declared.values.Value as code_value
-use Rattle.rules_build.specs.Values.{MayNameValues, IsBoundTo, AreValuesOf, IsWorth, IsFound}
+use Rattle.rules_build.specs.declared.fault.BuildFault.{BuildFault}
+use Rattle.rules_build.specs.declared.fault.BuildFault.TheVariants as fault
+use Rattle.rules_build.specs.Values.{MayNameValues, IsBoundTo, AreValuesOf, IsWorth, IsFound, Differ, HasPlaces}
 
 out_one : (v : ℕ) (n : number.Tree) → out-Binding (bound.One v n) ≡ Binding-F.One v n
 out_one v n = ap out-Binding (sym (bound.rolls-One v n)) ∙ out-roll-Binding (Binding-F.One v n)
@@ -136,3 +141,44 @@ worth_found work region v o x e h = subst (IsFound work region (Some v)) (sym e)
 
 pub none_found : (work : Work) (region : Region) (o : Option (Value Identifier)) → o ≡ None → IsFound work region None o
 none_found work region o e = subst (IsFound work region None) (sym e) tt
+
+-- ---- how many places there are
+
+pub many_worth : (work : Work) (region : Region) (v : code_value.Value) (list : Bor (List CodeBinding)) (x : Value Identifier) → v ≡ worth.Many list → IsWorth work region v x → (vs : Values Identifier) × (x ≡ Many vs) × (length list.now ≡ value_count vs)
+many_worth work region v list x e h = go x (subst (λ (y : code_value.Value). IsWorth work region y x) e h)
+  where
+    go : (x : Value Identifier) → IsWorth work region (worth.Many list) x → (vs : Values Identifier) × (x ≡ Many vs) × (length list.now ≡ value_count vs)
+    go (One t) g = absurd g
+    go (Many vs) g = (vs, refl, count_values work region list.now vs g)
+
+module _ (places : Option ℕ) (x : Value Identifier) (vs : Values Identifier) (n : ℕ) (is : x ≡ Many vs) (count : n ≡ value_count vs) where
+  pub agreed_first : places ≡ None → agree_with places x ≡ Some (Some n)
+  agreed_first e = (λ j. agree_with (e j) (is j)) ∙ ap (λ (k : ℕ). Some (Some k)) (sym count)
+
+  pub agreed_more : (m : ℕ) → places ≡ Some m → m ≡ n → agree_with places x ≡ Some (Some m)
+  agreed_more m e s =
+      let t : (m == value_count vs) ≡ true = grind (arith, nat_tests) in
+      (λ j. agree_with (e j) (is j)) ∙ ap (λ (b : Bool). if b then Some (Some m) else None) t
+
+  pub agreed_not : (m : ℕ) → places ≡ Some m → (m ≡ n → ⊥) → agree_with places x ≡ None
+  agreed_not m e s =
+      let t : (m == value_count vs) ≡ false = grind (arith, nat_tests) in
+      (λ j. agree_with (e j) (is j)) ∙ ap (λ (b : Bool). if b then Some (Some m) else None) t
+
+differ_same : {X Y : Type 0} (s : Option X) (u : Option Y) (e : BuildFault) → (s ≡ None → u ≡ None) → Differ s e → Differ u e
+differ_same s u fault.EllipsisLength f h = f h
+differ_same s u fault.NodeBudget f h = h
+differ_same s u fault.DepthBudget f h = h
+differ_same s u fault.Full f h = h
+differ_same s u fault.Memory f h = h
+
+pub places_failed : (s : Option (Option ℕ)) (u : Option (Option ℕ)) (r : Result ℕ BuildFault) (e : BuildFault) → IsErrAnd r (λ f. f ≡ e) → (s ≡ None → u ≡ None) → Differ s e → HasPlaces u r
+places_failed s u (Ok n) e h f d = absurd h
+places_failed s u (Err g) e h f d = subst (λ (x : BuildFault). Differ u x) (sym h) (differ_same s u e f d)
+
+pub places_step : (places : Option ℕ) (ms : Bindings) (m : Binding Identifier Identifier) (rest : Bindings) (o : Option (Option ℕ)) → ms ≡ m ∷ rest → agree_with places m.value ≡ o → places_of places ms ≡ (o >>= λ n. places_of n rest)
+places_step places ms m rest o e f = ap (λ (xs : Bindings). places_of places xs) e ∙ ap (λ (x : Option (Option ℕ)). x >>= λ n. places_of n rest) f
+
+pub or_zero_is : (o : Option ℕ) → unwrap_or o 0 ≡ or_zero o
+or_zero_is None = refl
+or_zero_is (Some n) = refl

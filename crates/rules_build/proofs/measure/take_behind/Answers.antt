@@ -1,12 +1,12 @@
 use Rattle.std.proofs.Common.{◌≡◌, ◌+◌, rules, arith, sym, ap, ◌∙◌}
-use Rattle.std.specs.Prelude.{None}
+use Rattle.std.specs.Prelude.{None, not}
 use Rattle.scheme_model.specs.Trees.{list, Trees, Tail}
 use Rattle.scheme_model.specs.Matching.{behind}
 use Rattle.scheme_model.specs.Measures.{trees_size, tail_size}
 use Rattle.scheme_model.specs.Ident.{Ident as Identifier}
 use Rattle.syntax_tree.proofs.Looking.{part_standing, part_there, split_one, behind_past, end_standing}
 use Rattle.rules_build.specs.Drafts.{spent}
-use Rattle.rules_build.proofs.DraftLaws.{spent_none, spent_nothing, gone_is}
+use Rattle.rules_build.proofs.DraftLaws.{spent_none, spent_nothing, none_is}
 use Rattle.rules_build.proofs.MeasureLaws.{rest_parts, take_one}
 use Rattle.rules_build.proofs.Tails.{end_proper, end_dotted}
 use Rattle.rules_build.proofs.measure.take_behind.Goals as goal
@@ -38,7 +38,7 @@ returns-then-is_none c = λ region us tail h.
     let w = c.args.work.now in
     let q = c.in-List.ensures (list h.parts tail h.place) h.whole in
     let s = rest_parts w region c.args.list c.args.from us tail h q.0 q.1 q.2 q.3 in
-    let none : c.loop-k.room ≡ None = gone_is c.loop-k.room (sym c.is_none.ensures ∙ c.if-is_none.true) in
+    let none : c.loop-k.room ≡ None = none_is c.loop-k.room (c.is_none.ensures ∙ ap not c.if-is_none.true) in
     spent_none c.loop-k.room (trees_size (behind c.loop-k.k q.0) + tail_size tail) none ∙ sym (c.loop-k.invariant q.0 tail q.4) ∙ sym (ap (λ (x : Trees Identifier). spent c.args.room.now (trees_size x + tail_size tail)) s.0)
 
 pub returns-in-None : goal.returns-in-None
