@@ -1,6 +1,8 @@
 -- The ends of lists that are planned, and the plans of identifiers.
 use Rattle.std.proofs.Common.{◌≡◌, ℕ, zero, suc, ◌+◌, ◌<◌, ◌≤◌, List, [], ◌∷◌, ◌++◌, Bool, true, false, Option, Some, None, refl, sym, ap, ◌∙◌, subst, arith}
-use Rattle.std.specs.Prelude.{map, IsSome, Vec, Result, Ok, Err, is_some}
+use Rattle.std.specs.Vec.{vec_len}
+use Rattle.std.proofs.lemmas.Bool.Decides.{nat_tests}
+use Rattle.std.specs.Prelude.{map, length, ◌==◌, IsSome, Vec, Result, Ok, Err, is_some}
 use Rattle.std.specs.Global.{Box}
 use Rattle.std.specs.declared.alloc.Global.{Global}
 use Rattle.std.proofs.lemmas.List.{append-nil}
@@ -31,6 +33,25 @@ use Rattle.rules_build.proofs.DraftLaws.{add_drafts, drafts_both, row_both, row_
 pub plans_map : (ps : List Plan) → map (λ p. p) ps ≡ ps
 plans_map [] = refl
 plans_map (p ∷ ps) = ap (λ (qs : List Plan). p ∷ qs) (plans_map ps)
+
+-- a row that is empty, by its length
+none_by : (ps : List Plan) → length ps ≡ 0 → ps ≡ []
+none_by [] h = refl
+none_by (p ∷ ps) h = absurd (omega (arith, h))
+
+pub none_left : (v : Vec Plan Global) → (vec_len v == 0) ≡ true → v.items ≡ []
+none_left v h =
+    let o = v.ok in
+    let z : vec_len v ≡ 0 = grind (arith, nat_tests) in
+    none_by v.items (omega (arith, z, o))
+
+pub some_left : (v : Vec Plan Global) → (vec_len v == 0) ≡ false → v.items ≡ [] → ⊥
+some_left v h e =
+    let o = v.ok in
+    let n : length v.items ≡ 0 = ap (λ (ps : List Plan). length ps) e in
+    let z : (vec_len v == 0) ≡ true = grind (arith, nat_tests) in
+    let clash : false ≡ true = sym h ∙ z in
+    absurd cc
 
 -- ---- tails
 

@@ -132,3 +132,35 @@ fit_end n ts tail e =
 
 pub nothing_deep : (n : ℕ) → true ≡ nat_le 0 n
 nothing_deep n = grind (arith, nat_tests)
+
+-- ---- depths of lists
+
+module _ (k : Number) (n : ℕ) (ds : Drafts) (e : Ending) (l : 1 ≤ n) where
+  pub list_deep : nat_le (trees_depth (row_of k ds no_trees)) (n - 1) ≡ false → false ≡ nat_le (tree_depth (tree_of k (listed ds e))) n
+  list_deep h =
+      let s = row_depth k ds (ending_parts e) in
+      let x : n - 1 < trees_depth (row_of k ds no_trees) = grind (arith, nat_tests) in
+      let y : n < tree_depth (tree_of k (listed ds e)) = omega (arith, s, x, l) in
+      let z : nat_le (tree_depth (tree_of k (listed ds e))) n ≡ false = grind (arith, nat_tests) in
+      sym z
+
+  pub list_fits : nat_le (trees_depth (row_of k ds no_trees)) (n - 1) ≡ true → nat_le (ending_depth k e) (n - 1) ≡ nat_le (tree_depth (tree_of k (listed ds e))) n
+  list_fits h = by (nat_le (ending_depth k e) (n - 1)) refl
+    where
+      fit : trees_depth (row_of k ds no_trees) ≤ n - 1
+      fit = grind (arith, nat_tests)
+
+      by : (p : Bool) → nat_le (ending_depth k e) (n - 1) ≡ p → nat_le (ending_depth k e) (n - 1) ≡ nat_le (tree_depth (tree_of k (listed ds e))) n
+      by true g =
+          let s = row_depth k ds (ending_parts e) in
+          let f = fit in
+          let x : ending_depth k e ≤ n - 1 = grind (arith, nat_tests) in
+          let y : tree_depth (tree_of k (listed ds e)) ≤ n = omega (arith, s, x, f, l) in
+          let z : nat_le (tree_depth (tree_of k (listed ds e))) n ≡ true = grind (arith, nat_tests) in
+          g ∙ sym z
+      by false g =
+          let s = row_depth k ds (ending_parts e) in
+          let x : n - 1 < ending_depth k e = grind (arith, nat_tests) in
+          let y : n < tree_depth (tree_of k (listed ds e)) = omega (arith, s, x, l) in
+          let z : nat_le (tree_depth (tree_of k (listed ds e))) n ≡ false = grind (arith, nat_tests) in
+          g ∙ sym z

@@ -1,5 +1,5 @@
 //! The plan of a template's instance (R7RS 4.3.2).
-ghost use Rattle.std.specs.Prelude.{◌≡◌, ◌≤◌, ℕ, Bool, List, [], Option, Some, Ok, length, IsSome, IfOk, OnOk};
+ghost use Rattle.std.specs.Prelude.{◌≡◌, ◌++◌, ◌≤◌, ℕ, Bool, List, [], Option, Some, Ok, length, IsSome, IfOk, OnOk};
 ghost use Rattle.scheme_model.specs.declared.Occ.{Occ as AnyOcc};
 ghost use Rattle.scheme_model.specs.Identifiers.{Number};
 ghost use Rattle.scheme_model.specs.Trees.{Tree as ModelTree, name, Trees, no_trees, Tail};
@@ -201,9 +201,7 @@ impl Walk<'_> {
     {
         match last {
             Plan::List(items, end) => {
-                for item in items {
-                    parts.push(item)?;
-                }
+                add_plans(parts, items)?;
                 Ok(end)
             }
             Plan::Held(tree) => Ok(self.behind_held(tree)?),
@@ -262,6 +260,16 @@ impl Walk<'_> {
     {
         items.len() == 2 && end.is_none() && self.is_dots(items[0], escaped)
     }
+}
+
+/// Adds plans to others.
+fn add_plans(parts: &mut Vec<Plan>, items: Vec<Plan>) -> Mem<()>
+    ensures { OnOk result (parts.new.items ≡ parts.old.items ++ items.items) }
+{
+    for item in items {
+        parts.push(item)?;
+    }
+    Ok(())
 }
 
 /// Adds a plan, where there was room for it.

@@ -1,10 +1,7 @@
-use Rattle.std.proofs.Common.{◌≡◌, ◌++◌, List, sym, ap, ◌∙◌, subst}
-use Rattle.std.proofs.lemmas.Iterator.Adapters.{YieldsList-from_vec}
-use Rattle.std.proofs.lemmas.Iterator.Consumers.{YieldsList-end}
-use Rattle.rules_build.specs.declared.plan.Plan.{Plan}
+use Rattle.std.proofs.Common.{◌≡◌, sym, ap, ◌∙◌, subst}
 use Rattle.rules_build.specs.Drafts.{Draft, is_listed, IsEndedBy}
 use Rattle.rules_build.proofs.PlanViews.{held_draft, name_draft, atom_draft, vector_draft, list_draft}
-use Rattle.rules_build.proofs.EndLaws.{ended_list, ended_held, ended_one, plans_map}
+use Rattle.rules_build.proofs.EndLaws.{ended_list, ended_held, ended_one}
 use Rattle.rules_build.proofs.walk.Walk.behind.Goals as goal
 
 pub behind_held-requires : goal.behind_held-requires
@@ -12,14 +9,13 @@ behind_held-requires c =
     let v = held_draft c.args.self.now.work.now c.requires.0 c.args.last c.requires.1 c.in-Held.tree c.in-Held.is c.requires.2 in
     (v.0, v.2)
 
-pub returns-in-None : goal.returns-in-None
-returns-in-None c = λ region k ds d h g.
+pub returns-in_ok-add_plans-in-List : goal.returns-in_ok-add_plans-in-List
+returns-in_ok-add_plans-in-List c = λ region k ds d h g.
     let w = c.args.self.now.work.now in
-    let ps = c.args.parts.now.items in
     let v = list_draft w region c.args.last d c.in-List.items c.in-List.end c.in-List.is g in
-    let end = YieldsList-end (YieldsList-from_vec c.in-List.items.items (cc) (cc)) c.loop-item.yielded _ c.loop-item.yielded_by _ _ c.in-None.is c.next.ensures.steps in
-    let all = c.loop-item.invariant ∙ ap (λ (qs : List Plan). ps ++ qs) (sym (plans_map c.loop-item.yielded) ∙ end.0) in
-    subst (λ (x : Draft). IsEndedBy w region k ds x c.loop-item.parts.items _) (sym v.2) (ended_list w region k ds v.0 v.1 ps c.in-List.items.items c.loop-item.parts.items _ h v.3 v.4 all)
+    let end = c.in-List.end in
+    let now = c.add_plans.new.parts.items in
+    subst (λ (x : Draft). IsEndedBy w region k ds x now end) (sym v.2) (ended_list w region k ds v.0 v.1 c.args.parts.now.items c.in-List.items.items now end h v.3 v.4 c.in_ok-add_plans-in-List.ensures)
 
 pub returns-in_ok-behind_held-in-Held : goal.returns-in_ok-behind_held-in-Held
 returns-in_ok-behind_held-in-Held c = λ region k ds d h g.
