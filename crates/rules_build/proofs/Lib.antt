@@ -11,3 +11,4 @@ pub mod MeasureLaws
 pub mod WholeLaws
 pub mod EndLaws
 pub mod Tails
+pub mod PlanSizes

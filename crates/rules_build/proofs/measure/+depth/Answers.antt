@@ -5,6 +5,9 @@ use Rattle.scheme_model.specs.Trees.{no_trees}
 use Rattle.scheme_model.specs.Measures.{tree_size, trees_size, tree_depth, trees_depth, tail_depth}
 use Rattle.rules_build.specs.declared.plan.Plan.{Plan}
 use Rattle.rules_build.specs.Drafts.{spent, Draft, listed, Drafts, Ending, ends, tailed, goes_on, ending_parts, tree_of, row_of, tail_of, IsDraft, AreDrafts}
+use denote.Param.Weighed.{at_most}
+use Rattle.rules_build.proofs.plan.Plan.TheLaws.{the_size}
+use Rattle.rules_build.proofs.PlanSizes.{vector_above, list_above, tail_above}
 use Rattle.rules_build.proofs.DraftRows.{drafts_behind, draft_there, drafts_past}
 use Rattle.rules_build.proofs.PlanViews.{held_draft, name_draft, atom_draft, vector_draft, list_draft, proper_ending, dotted_ending, behind_ending}
 use Rattle.rules_build.proofs.MeasureLaws.{ending_depth, max_within, max_without, one_deeper, none_deep, nothing_deep, list_deep, list_fits}
@@ -15,7 +18,9 @@ pub all_fit-fits-requires : goal.all_fit-fits-requires
 all_fit-fits-requires t c =
     let w = c.args.work.now in
     let p = draft_there w c.requires.0 c.loop-plan.plan-index c.args.plans.now c.requires.1 c.plan-item.result c.requires.2 c.loop-plan-test.true in
-    (first_of (omega arith, search rules, grind arith), (c.requires.0, p.here, subst (λ (x : Plan). IsDraft w c.requires.0 x p.here) (sym c.plan-item.is) p.is))
+    let small = at_most the_size c.args.plans.now c.loop-plan.plan-index c.plan-item.result c.loop-plan-test.true in
+    let same = ap the_size c.plan-item.is in
+    (omega (arith, small, same), (c.requires.0, p.here, subst (λ (x : Plan). IsDraft w c.requires.0 x p.here) (sym c.plan-item.is) p.is))
 
 pub all_fit-returns-then-not-fits : goal.all_fit-returns-then-not-fits
 all_fit-returns-then-not-fits t c = λ region k ds h.
@@ -50,13 +55,15 @@ pub fits-all_fit-requires : goal.fits-all_fit-requires
 fits-all_fit-requires t c =
     let w = c.args.work.now in
     let v = vector_draft w c.requires.0 c.args.plan.now c.requires.1 c.in-Vector.items c.in-Vector.is c.requires.2 in
-    (first_of (omega arith, search rules, grind arith), (c.requires.0, v.0, subst (λ (ps : List Plan). AreDrafts w c.requires.0 ps v.0) (sym c.deref.ensures.value) v.2))
+    let f = vector_above c.args.plan.now c.in-Vector.items c.deref.result.now c.in-Vector.is c.deref.ensures.value in
+    (omega (arith, f), (c.requires.0, v.0, subst (λ (ps : List Plan). AreDrafts w c.requires.0 ps v.0) (sym c.deref.ensures.value) v.2))
 
 pub fits-all_fit-requires-else-left-eq0 : goal.fits-all_fit-requires-else-left-eq0
 fits-all_fit-requires-else-left-eq0 t c =
     let w = c.args.work.now in
     let v = list_draft w c.requires.0 c.args.plan.now c.requires.1 c.in-List.items c.in-List.end c.in-List.is c.requires.2 in
-    (first_of (omega arith, search rules, grind arith), (c.requires.0, v.0, subst (λ (ps : List Plan). AreDrafts w c.requires.0 ps v.0) (sym c.deref-else-left-eq0.ensures.value) v.3))
+    let f = list_above c.args.plan.now c.in-List.items c.in-List.end c.deref-else-left-eq0.result.now c.in-List.is c.deref-else-left-eq0.ensures.value in
+    (omega (arith, f), (c.requires.0, v.0, subst (λ (ps : List Plan). AreDrafts w c.requires.0 ps v.0) (sym c.deref-else-left-eq0.ensures.value) v.3))
 
 pub fits-returns-then-left-eq0 : goal.fits-returns-then-left-eq0
 fits-returns-then-left-eq0 t c = λ region k d h.
@@ -76,7 +83,8 @@ fits-fits-requires t c =
     let w = c.args.work.now in
     let v = list_draft w c.requires.0 c.args.plan.now c.requires.1 c.in-List.items c.in-List.end c.in-List.is c.requires.2 in
     let q = dotted_ending w c.requires.0 c.in-List.end v.1 c.in-Dotted.tail c.in-Dotted.is v.4 in
-    (first_of (omega arith, search rules, grind arith), (c.requires.0, q.0, subst (λ (p : Plan). IsDraft w c.requires.0 p q.0) (sym c.deref-in-Dotted.ensures) q.3))
+    let f = tail_above c.args.plan.now c.in-List.items c.in-List.end c.in-Dotted.tail c.deref-in-Dotted.result.now c.in-List.is c.in-Dotted.is c.deref-in-Dotted.ensures in
+    (omega (arith, f), (c.requires.0, q.0, subst (λ (p : Plan). IsDraft w c.requires.0 p q.0) (sym c.deref-in-Dotted.ensures) q.3))
 
 pub fits-behind_fits-requires : goal.fits-behind_fits-requires
 fits-behind_fits-requires t c =
