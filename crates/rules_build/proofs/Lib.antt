@@ -12,3 +12,4 @@ pub mod WholeLaws
 pub mod EndLaws
 pub mod Tails
 pub mod PlanSizes
+pub mod AddSteps
