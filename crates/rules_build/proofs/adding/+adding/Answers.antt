@@ -1,22 +1,27 @@
-use Rattle.std.proofs.Common.{rules, IfOk, ◌≡◌, ℕ, ◌+◌, ◌-◌, ◌*◌, ◌<◌, ◌≤◌, length, ◌/◌, ◌%◌, Bool, true, false, nat_eq, nat_lt, List, [], ◌∷◌, ◌++◌, slice_index_or, slice_set, bit_and, bit_or, Fits, w8, w32, w64, Bor, MutBor}
-use Rattle.scheme_model.specs.Identifiers.{Number}
-use Rattle.scheme_model.specs.Trees.{Tree as ModelTree}
-use Rattle.scheme_model.specs.Trees.{Trees, Tail, name, no_trees}
-use Rattle.scheme_model.specs.TreeParts.{append}
-use Rattle.scheme_model.specs.Ident.{Ident as Identifier}
-use Rattle.scheme_model.specs.Ident.{Inserted}
-use Rattle.syntax_tree.specs.Looks.{PartsStand}
-use Rattle.syntax_tree.specs.Macros.{IsIdent}
+use Rattle.std.proofs.Common.{rules, ◌≡◌, ℕ, ◌+◌, ◌<◌, ◌≤◌, List, Option, None, refl, sym, ap, ◌∙◌, subst, arith}
+use Rattle.std.specs.Prelude.{Ok, Err}
+use denote.Param.Weighed.{at_most}
+use Rattle.scheme_model.specs.Trees.{name, atom, vector, no_trees}
+use Rattle.scheme_model.specs.Ident.{Ident as Identifier, Inserted}
 use Rattle.syntax_tree.specs.Numbered.{number_of}
-use Rattle.syntax_tree.specs.Works.{IsNodeOf, CanAdd, CanNameParts, IsOpened}
-use Rattle.syntax_tree.specs.declared.trees.table.Region.{Region as AnyRegion}
-use Rattle.rules_build.specs.Drafts.{Draft, Drafts, Ending, IsDraft, AreDrafts, IsEnding, IsRestOf, RestStands, tree_of, row_of, tail_of, ending_parts, makes, all_make, ending_makes}
-use Rattle.rules_build.specs.Adds.{Adds, AddsAll, AddsEnd, AreNamed, CanBeAdded, AllCanBeAdded, EndCanBeAdded, CopiesRest}
+use Rattle.rules_build.specs.declared.plan.Plan.{Plan}
+use Rattle.rules_build.specs.Drafts.{Draft, held, marked, plain, listed, in_vector, Drafts, Ending, tree_of, row_of, makes, all_make, IsDraft, AreDrafts}
+use Rattle.rules_build.specs.Adds.{Adds, AddsAll, AreNamed, AllCanBeAdded, EndCanBeAdded}
+use Rattle.rules_build.proofs.plan.Plan.TheLaws.{the_size}
+use Rattle.rules_build.proofs.PlanSizes.{vector_above, list_above, tail_above}
+use Rattle.rules_build.proofs.PlanViews.{held_draft, name_draft, atom_draft, vector_draft, list_draft, proper_ending, dotted_ending, behind_ending}
+use Rattle.rules_build.proofs.DraftRows.{drafts_behind, draft_there, drafts_past, one_size, one_depth}
+use Rattle.rules_build.proofs.AddLaws.{row_none, row_more, row_end, row_fail, row_grows, adds_handed_on, all_handed_on, end_handed_on, adds_on, vector_small, list_small, named_parts}
+use Rattle.rules_build.proofs.AddSteps.{err_more, err_after, vector_node, list_node, end_later, parts_before, held_added}
 use Rattle.rules_build.proofs.adding.+adding.Goals as goal
 
 -- src/adding.rt:83:5
 pub add_all-loop-plan-init : goal.add_all-loop-plan-init
-add_all-loop-plan-init t c = ?
+add_all-loop-plan-init t c = λ ds h.
+    let w = c.args.work.now in
+    let r = c.args.region.now in
+    let k = number_of c.args.number in
+    row_none w r k ds c.new-items.result.items c.new-items.ensures.items
 
 -- src/adding.rt:84:20
 pub add_all-add_plan-requires : goal.add_all-add_plan-requires
@@ -36,7 +41,12 @@ add_all-loop-plan-preserved t c = ?
 
 -- src/adding.rt:69:1
 pub add_all-returns : goal.add_all-returns
-add_all-returns t c = ?
+add_all-returns t c = λ ds h.
+    let w = c.args.work.now in
+    let r = c.args.region.now in
+    let k = number_of c.args.number in
+    let j = c.loop-plan.plan-index in
+    row_end w c.loop-plan.work r k ds j c.loop-plan.items (c.loop-plan.invariant ds h) (drafts_past w r j c.args.plans.now ds h c.loop-plan-test.false)
 
 -- src/adding.rt:108:38
 pub add_end-add_plan-requires : goal.add_end-add_plan-requires
@@ -48,7 +58,13 @@ add_end-returns-in_err-add_plan-in-Dotted t c = ?
 
 -- src/adding.rt:109:39
 pub add_end-copy_behind-requires : goal.add_end-copy_behind-requires
-add_end-copy_behind-requires t c = ?
+add_end-copy_behind-requires t c =
+    let w = c.args.work.now in
+    let r = c.args.region.now in
+    let k = number_of c.args.number in
+    let q = c.requires.end in
+    let v = behind_ending w r c.args.end.now q.0 c.in-Behind.list c.in-Behind.from c.in-Behind.is q.1 in
+    (r, v.0, v.1, v.3)
 
 -- src/adding.rt:91:1
 pub add_end-returns-in-Proper : goal.add_end-returns-in-Proper
@@ -64,7 +80,13 @@ add_end-returns-in_ok-copy_behind-in-Behind t c = ?
 
 -- src/adding.rt:39:35
 pub add_plan-add_name-requires-clause-id : goal.add_plan-add_name-requires-clause-id
-add_plan-add_name-requires-clause-id t c = ?
+add_plan-add_name-requires-clause-id t c =
+    let w = c.args.work.now in
+    let r = c.args.region.now in
+    let k = number_of c.args.number in
+    let q = c.requires.plan in
+    let v = name_draft w r c.args.plan.now q.0 c.in-Name.id c.in-Name.occ c.in-Name.is q.1 in
+    (v.0, v.2)
 
 -- src/adding.rt:39:35
 pub add_plan-returns-in_err-add_name-in-Name : goal.add_plan-returns-in_err-add_name-in-Name
@@ -72,7 +94,13 @@ add_plan-returns-in_err-add_name-in-Name t c = ?
 
 -- src/adding.rt:40:32
 pub add_plan-add_node-requires-clause-small : goal.add_plan-add_node-requires-clause-small
-add_plan-add_node-requires-clause-small t c = ?
+add_plan-add_node-requires-clause-small t c =
+    let w = c.args.work.now in
+    let r = c.args.region.now in
+    let k = number_of c.args.number in
+    let q = c.requires.plan in
+    let v = atom_draft w r c.args.plan.now q.0 c.in-Atom.leaf c.in-Atom.is q.1 in
+    (atom v.0 None, v.2, omega arith, omega arith)
 
 -- src/adding.rt:40:32
 pub add_plan-returns-in_err-add_node-in-Atom : goal.add_plan-returns-in_err-add_node-in-Atom
@@ -142,15 +170,30 @@ add_plan-returns-in_err-add_node-in-List t c = ?
 
 -- src/adding.rt:24:1
 pub add_plan-returns-in-Held : goal.add_plan-returns-in-Held
-add_plan-returns-in-Held t c = ?
+add_plan-returns-in-Held t c = λ d h.
+    let w = c.args.work.now in
+    let r = c.args.region.now in
+    let k = number_of c.args.number in
+    let v = held_draft w r c.args.plan.now d c.in-Held.tree c.in-Held.is h in
+    held_added w r k c.in-Held.tree v.0 d v.1 v.2 v.3
 
 -- src/adding.rt:24:1
 pub add_plan-returns-in_ok-add_name-in-Name : goal.add_plan-returns-in_ok-add_name-in-Name
-add_plan-returns-in_ok-add_name-in-Name t c = ?
+add_plan-returns-in_ok-add_name-in-Name t c = λ d h.
+    let w = c.args.work.now in
+    let r = c.args.region.now in
+    let k = number_of c.args.number in
+    let v = name_draft w r c.args.plan.now d c.in-Name.id c.in-Name.occ c.in-Name.is h in
+    subst (λ (x : Draft). Adds w c.add_name.new.work r k (makes x) (tree_of k x) (Ok c.in_ok-add_name-in-Name.field-0)) (sym v.1) (c.in_ok-add_name-in-Name.ensures v.0 v.2)
 
 -- src/adding.rt:24:1
 pub add_plan-returns-in_ok-add_node-in-Atom : goal.add_plan-returns-in_ok-add_node-in-Atom
-add_plan-returns-in_ok-add_node-in-Atom t c = ?
+add_plan-returns-in_ok-add_node-in-Atom t c = λ d h.
+    let w = c.args.work.now in
+    let r = c.args.region.now in
+    let k = number_of c.args.number in
+    let v = atom_draft w r c.args.plan.now d c.in-Atom.leaf c.in-Atom.is h in
+    subst (λ (x : Draft). Adds w c.add_node.new.work r k (makes x) (tree_of k x) (Ok c.in_ok-add_node-in-Atom.field-0)) (sym v.1) (c.in_ok-add_node-in-Atom.ensures k (atom v.0 None) v.2)
 
 -- src/adding.rt:24:1
 pub add_plan-returns-in_ok-add_node-in-Vector : goal.add_plan-returns-in_ok-add_node-in-Vector
