@@ -9,6 +9,8 @@ use Rattle.rules_build.specs.Drafts.{Draft, held, marked, plain, listed, in_vect
 use Rattle.scheme_model.specs.TreeParts.{append}
 use Rattle.syntax_tree.specs.Looks.{PartsStand}
 use Rattle.rules_build.proofs.BuildLaws.{append_nil}
+use Rattle.ls_base.specs.Limits.{max_tree_nodes, max_tree_depth}
+use Rattle.scheme_model.specs.Measures.{tree_size, tree_depth}
 use Rattle.rules_build.specs.Adds.{Adds, AddsAll, AddsEnd, AreNamed, AllCanBeAdded, EndCanBeAdded}
 use Rattle.rules_build.proofs.plan.Plan.TheLaws.{the_size}
 use Rattle.rules_build.proofs.PlanSizes.{vector_above, list_above, tail_above}
@@ -180,21 +182,56 @@ add_plan-returns-in_err-items-in-Vector t c = λ d h.
 -- src/adding.rt:50:16
 pub add_plan-add_node-requires-in-Vector-clause-region :
     goal.add_plan-add_node-requires-in-Vector-clause-region
-add_plan-add_node-requires-in-Vector-clause-region t c = ?
+add_plan-add_node-requires-in-Vector-clause-region t c =
+    let w = c.args.work.now in
+    let r = c.args.region.now in
+    let k = number_of c.args.number in
+    let q = c.requires.plan in
+    let v = vector_draft w r c.args.plan.now q.0 c.in-Vector.plans c.in-Vector.is q.1 in
+    let a = c.in_ok-items-in-Vector.ensures v.0 (subst (λ (ps : List Plan). AreDrafts w r ps v.0) (sym c.deref.ensures.value) v.2) in
+    a.0.trees.regions r c.requires.region
 
 -- src/adding.rt:50:16
 pub add_plan-add_node-requires-in-Vector-clause-small :
     goal.add_plan-add_node-requires-in-Vector-clause-small
-add_plan-add_node-requires-in-Vector-clause-small t c = ?
+add_plan-add_node-requires-in-Vector-clause-small t c =
+    let w = c.args.work.now in
+    let r = c.args.region.now in
+    let k = number_of c.args.number in
+    let q = c.requires.plan in
+    let v = vector_draft w r c.args.plan.now q.0 c.in-Vector.plans c.in-Vector.is q.1 in
+    let a = c.in_ok-items-in-Vector.ensures v.0 (subst (λ (ps : List Plan). AreDrafts w r ps v.0) (sym c.deref.ensures.value) v.2) in
+    let t = vector (row_of k v.0 no_trees) None in
+    (t, vector_node c.add_all.new.work c.in_ok-items-in-Vector.items (row_of k v.0 no_trees) a.1, subst (λ (x : Draft). tree_size (tree_of k x) ≤ max_tree_nodes) v.1 q.2, subst (λ (x : Draft). tree_depth (tree_of k x) ≤ max_tree_depth) v.1 q.3)
 
 -- src/adding.rt:50:16
 pub add_plan-add_node-requires-in-Vector-clause-names :
     goal.add_plan-add_node-requires-in-Vector-clause-names
-add_plan-add_node-requires-in-Vector-clause-names t c = ?
+add_plan-add_node-requires-in-Vector-clause-names t c =
+    let w = c.args.work.now in
+    let r = c.args.region.now in
+    let k = number_of c.args.number in
+    let q = c.requires.plan in
+    let v = vector_draft w r c.args.plan.now q.0 c.in-Vector.plans c.in-Vector.is q.1 in
+    let a = c.in_ok-items-in-Vector.ensures v.0 (subst (λ (ps : List Plan). AreDrafts w r ps v.0) (sym c.deref.ensures.value) v.2) in
+    named_parts c.add_all.new.work r c.in_ok-items-in-Vector.items.items a.2
 
 -- src/adding.rt:50:16
 pub add_plan-returns-in_err-add_node-in-Vector : goal.add_plan-returns-in_err-add_node-in-Vector
-add_plan-returns-in_err-add_node-in-Vector t c = ?
+add_plan-returns-in_err-add_node-in-Vector t c = λ d h.
+    let w = c.args.work.now in
+    let r = c.args.region.now in
+    let k = number_of c.args.number in
+    let v = vector_draft w r c.args.plan.now d c.in-Vector.plans c.in-Vector.is h in
+    let a = c.in_ok-items-in-Vector.ensures v.0 (subst (λ (ps : List Plan). AreDrafts w r ps v.0) (sym c.deref.ensures.value) v.2) in
+    let mid = c.add_all.new.work in
+    let t = vector (row_of k v.0 no_trees) None in
+    let x = vector_node mid c.in_ok-items-in-Vector.items (row_of k v.0 no_trees) a.1 in
+    let new = c.add_node-in-Vector.new.work in
+    let e = c.in_err-add_node-in-Vector.field-0.0 in
+    let f = c.from_residual-in_err-add_node-in-Vector in
+    let b = adds_on w mid new r k (all_make v.0) 1 (1 + all_make v.0) t (Err e) a.0 (c.in_err-add_node-in-Vector.ensures k t x) (omega arith) in
+    subst (λ (y : Draft). Adds w new r k (makes y) (tree_of k y) f.result) (sym v.1) (adds_handed_on w new r k (1 + all_make v.0) t f.result e f.ensures.1 b.0 b.1)
 
 -- src/adding.rt:53:29
 pub add_plan-add_all-requires-in-List : goal.add_plan-add_all-requires-in-List
@@ -265,7 +302,19 @@ add_plan-returns-in_ok-add_node-in-Atom t c = λ d h.
 
 -- src/adding.rt:24:1
 pub add_plan-returns-in_ok-add_node-in-Vector : goal.add_plan-returns-in_ok-add_node-in-Vector
-add_plan-returns-in_ok-add_node-in-Vector t c = ?
+add_plan-returns-in_ok-add_node-in-Vector t c = λ d h.
+    let w = c.args.work.now in
+    let r = c.args.region.now in
+    let k = number_of c.args.number in
+    let v = vector_draft w r c.args.plan.now d c.in-Vector.plans c.in-Vector.is h in
+    let a = c.in_ok-items-in-Vector.ensures v.0 (subst (λ (ps : List Plan). AreDrafts w r ps v.0) (sym c.deref.ensures.value) v.2) in
+    let mid = c.add_all.new.work in
+    let t = vector (row_of k v.0 no_trees) None in
+    let x = vector_node mid c.in_ok-items-in-Vector.items (row_of k v.0 no_trees) a.1 in
+    let new = c.add_node-in-Vector.new.work in
+    let n = c.in_ok-add_node-in-Vector.field-0 in
+    let b = adds_on w mid new r k (all_make v.0) 1 (1 + all_make v.0) t (Ok n) a.0 (c.in_ok-add_node-in-Vector.ensures k t x) (omega arith) in
+    subst (λ (y : Draft). Adds w new r k (makes y) (tree_of k y) (Ok n)) (sym v.1) b
 
 -- src/adding.rt:24:1
 pub add_plan-returns-in_ok-add_node-in-List : goal.add_plan-returns-in_ok-add_node-in-List
