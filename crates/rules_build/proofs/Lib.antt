@@ -1,0 +1,15 @@
+pub mod BuildLaws
+pub mod PlanViews
+pub mod DraftLaws
+pub mod DraftRows
+pub mod PairLaws
+pub mod ValueLaws
+pub mod NameLaws
+pub mod WalkLaws
+pub mod AddLaws
+pub mod MeasureLaws
+pub mod WholeLaws
+pub mod EndLaws
+pub mod Tails
+pub mod PlanSizes
+pub mod AddSteps
