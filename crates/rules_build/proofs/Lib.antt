@@ -13,3 +13,6 @@ pub mod EndLaws
 pub mod Tails
 pub mod PlanSizes
 pub mod AddSteps
+pub mod WholeSteps
+pub mod BuildSteps
+pub mod WalkSteps

@@ -17,7 +17,7 @@ vector_above p items xs is same =
     let f : most the_size xs ≡ most the_size items.items = ap (most the_size) same in
     omega (arith, e, f)
 
-list_size : (p : Plan) (items : Vec Plan Global) (b : End) → p ≡ plan.List items b → the_size p ≡ max (most the_size items.items) (max (size-End b) 0) + 1
+pub list_size : (p : Plan) (items : Vec Plan Global) (b : End) → p ≡ plan.List items b → the_size p ≡ max (most the_size items.items) (max (size-End b) 0) + 1
 list_size p items b is = ap the_size is ∙ sized-List items b
 
 pub list_above : (p : Plan) (items : Vec Plan Global) (b : End) (xs : List Plan) → p ≡ plan.List items b → xs ≡ items.items → most the_size xs < the_size p
@@ -32,3 +32,9 @@ tail_above p items b q x is last same =
     let f : size-End b ≡ max (the_size q.value) 0 + 1 = ap size-End last ∙ sized-Dotted q in
     let g : the_size x ≡ the_size q.value = ap the_size same in
     omega (arith, e, f, g)
+
+pub end_above : (b : End) (q : Box Plan) (x : Plan) → b ≡ end.Dotted q → x ≡ q.value → the_size x < size-End b
+end_above b q x last same =
+    let f : size-End b ≡ max (the_size q.value) 0 + 1 = ap size-End last ∙ sized-Dotted q in
+    let g : the_size x ≡ the_size q.value = ap the_size same in
+    omega (arith, f, g)

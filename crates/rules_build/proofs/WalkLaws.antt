@@ -45,6 +45,21 @@ all_handed_on work region k old new ps qs s (Err f) e h g = subst (λ (x : Build
 none_then : {X Y : Type 0} (s : Option X) (f : X → Option Y) → s ≡ None → (s >>= f) ≡ None
 none_then {X} {Y} s f e = ap (λ (x : Option X). x >>= f) e
 
+-- ---- an escape
+
+pub record Escape (ts : Trees Identifier) (dots : Identifier → Bool) : Type 0 where
+  pub first : Tree Identifier
+  pub inner : Tree Identifier
+  pub parts : ts ≡ tree first (tree inner no_trees)
+  pub front : is_dots dots first ≡ true
+
+pub escape_there : (dots : Identifier → Bool) (ts : Trees Identifier) (tail : Tail Identifier) → is_escape dots ts tail ≡ true → Escape ts dots × (tail ≡ proper)
+escape_there dots no_trees tail h = absurd cc
+escape_there dots (tree t no_trees) tail h = absurd cc
+escape_there dots (tree t (tree u no_trees)) proper h = (record { first = t; inner = u; parts = refl; front = h }, refl)
+escape_there dots (tree t (tree u no_trees)) (dotted v) h = absurd cc
+escape_there dots (tree t (tree u (tree v vs))) tail h = absurd cc
+
 -- ---- parts in a row
 
 module _ (work : Work) (region : Region) (k : Number) where
@@ -213,20 +228,6 @@ module _ (work : Work) (region : Region) (k : Number) where
         let whole : build_tree (inserting k) dots (list ts tail o) ms ≡ Some (list_built a (Some b)) =
         list_is ∙ (λ j. h j >>= λ b. build_tail (inserting k) dots (last j) ms >>= λ t. Some (list_built b t)) ∙ (λ j. (g j >>= λ b. Some (Some b)) >>= λ t. Some (list_built a t)) in
         subst (λ (x : Option (Built (Tree Identifier))). Plans work region k old new x (Ok p)) (sym whole) q
-
-  -- an escape
-  pub record Escape (ts : Trees Identifier) (dots : Identifier → Bool) : Type 0 where
-    pub first : Tree Identifier
-    pub inner : Tree Identifier
-    pub parts : ts ≡ tree first (tree inner no_trees)
-    pub front : is_dots dots first ≡ true
-
-  pub escape_there : (dots : Identifier → Bool) (ts : Trees Identifier) (tail : Tail Identifier) → is_escape dots ts tail ≡ true → Escape ts dots × (tail ≡ proper)
-  escape_there dots no_trees tail h = absurd cc
-  escape_there dots (tree t no_trees) tail h = absurd cc
-  escape_there dots (tree t (tree u no_trees)) proper h = (record { first = t; inner = u; parts = refl; front = h }, refl)
-  escape_there dots (tree t (tree u no_trees)) (dotted v) h = absurd cc
-  escape_there dots (tree t (tree u (tree v vs))) tail h = absurd cc
 
   pub escape_built : (dots : Identifier → Bool) (ts : Trees Identifier) (tail : Tail Identifier) (o : Option Occ) (ms : Bindings) (t u : Tree Identifier) → is_escape dots ts tail ≡ true → ts ≡ tree t (tree u no_trees) →
       build_tree (inserting k) nowhere u ms ≡ build_tree (inserting k) dots (list ts tail o) ms

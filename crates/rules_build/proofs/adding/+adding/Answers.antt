@@ -1,9 +1,10 @@
-use Rattle.std.proofs.Common.{rules, ◌≡◌, ℕ, ◌+◌, ◌<◌, ◌≤◌, List, Option, None, refl, sym, ap, ◌∙◌, subst, arith}
+use Rattle.std.proofs.Common.{rules, ◌≡◌, ℕ, ◌+◌, ◌<◌, ◌≤◌, List, [], ◌∷◌, ◌++◌, Option, None, refl, sym, ap, ◌∙◌, subst, arith}
 use Rattle.std.specs.Prelude.{Ok, Err}
 use denote.Param.Weighed.{at_most}
 use Rattle.scheme_model.specs.Trees.{name, atom, vector, no_trees}
 use Rattle.scheme_model.specs.Ident.{Ident as Identifier, Inserted}
 use Rattle.syntax_tree.specs.Numbered.{number_of}
+use Rattle.rules_build.specs.declared.fault.BuildFault.TheVariants as fault
 use Rattle.rules_build.specs.declared.plan.Plan.{Plan}
 use Rattle.rules_build.specs.Drafts.{Draft, held, marked, plain, listed, in_vector, Drafts, Ending, ending_parts, ending_makes, tail_of, tree_of, row_of, makes, all_make, IsDraft, AreDrafts}
 use Rattle.scheme_model.specs.TreeParts.{append}
@@ -13,11 +14,11 @@ use Rattle.ls_base.specs.Limits.{max_tree_nodes, max_tree_depth}
 use Rattle.scheme_model.specs.Measures.{tree_size, tree_depth}
 use Rattle.rules_build.specs.Adds.{Adds, AddsAll, AddsEnd, AreNamed, AllCanBeAdded, EndCanBeAdded}
 use Rattle.rules_build.proofs.plan.Plan.TheLaws.{the_size}
-use Rattle.rules_build.proofs.PlanSizes.{vector_above, list_above, tail_above}
+use Rattle.rules_build.proofs.PlanSizes.{vector_above, list_above, list_size, end_above}
 use Rattle.rules_build.proofs.PlanViews.{held_draft, name_draft, atom_draft, vector_draft, list_draft, proper_ending, dotted_ending, behind_ending}
 use Rattle.rules_build.proofs.DraftRows.{drafts_behind, draft_there, drafts_past, one_size, one_depth}
 use Rattle.rules_build.proofs.AddLaws.{row_none, row_more, row_end, row_fail, row_grows, adds_handed_on, all_handed_on, end_handed_on, adds_on, vector_small, list_small, named_parts, draft_kept, grows_none}
-use Rattle.rules_build.proofs.AddSteps.{err_more, err_after, vector_node, list_node, end_later, parts_before, held_added}
+use Rattle.rules_build.proofs.AddSteps.{err_more, err_after, vector_node, list_node, end_later, parts_before, held_added, row_ready, list_ready, list_can, list_added, row_fault, end_fault, dotted_small, tail_added, tail_fault}
 use Rattle.rules_build.proofs.adding.+adding.Goals as goal
 
 -- src/adding.rt:83:5
@@ -30,7 +31,21 @@ add_all-loop-plan-init t c = λ ds h.
 
 -- src/adding.rt:84:20
 pub add_all-add_plan-requires : goal.add_all-add_plan-requires
-add_all-add_plan-requires t c = ?
+add_all-add_plan-requires t c =
+    let w = c.args.work.now in
+    let r = c.args.region.now in
+    let k = number_of c.args.number in
+    let now = c.loop-plan.work in
+    let j = c.loop-plan.plan-index in
+    let q = c.requires.plans in
+    let u = c.loop-plan.invariant q.0 q.1 in
+    let p = draft_there w r j c.args.plans.now q.0 c.plan-item.result q.1 c.loop-plan-test.true in
+    let small = at_most the_size c.args.plans.now j c.plan-item.result c.loop-plan-test.true in
+    let same = ap the_size c.plan-item.is in
+    let here = draft_kept w now r u.grows.trees u.grows.names.keeps c.plan-item.result p.here (subst (λ (x : Plan). IsDraft w r x p.here) (sym c.plan-item.is) p.is) in
+    let size = one_size k j q.0 p.here (drafts_behind (j + 1) q.0) p.split in
+    let deep = one_depth k j q.0 p.here (drafts_behind (j + 1) q.0) p.split in
+    (omega (arith, small, same), (u.grows.trees.regions r c.requires.region, (p.here, here, omega (arith, size, q.2), omega (arith, deep, q.3))))
 
 -- src/adding.rt:84:20
 pub add_all-returns-in_err-item : goal.add_all-returns-in_err-item
@@ -49,7 +64,20 @@ add_all-returns-in_err-item t c = λ ds h.
 
 -- src/adding.rt:85:9
 pub add_all-returns-in_err-push : goal.add_all-returns-in_err-push
-add_all-returns-in_err-push t c = ?
+add_all-returns-in_err-push t c = λ ds h.
+    let w = c.args.work.now in
+    let r = c.args.region.now in
+    let k = number_of c.args.number in
+    let now = c.loop-plan.work in
+    let new = c.add_plan.new.work in
+    let j = c.loop-plan.plan-index in
+    let u = c.loop-plan.invariant ds h in
+    let p = draft_there w r j c.args.plans.now ds c.plan-item.result h c.loop-plan-test.true in
+    let here = draft_kept w now r u.grows.trees u.grows.names.keeps c.plan-item.result p.here (subst (λ (x : Plan). IsDraft w r x p.here) (sym c.plan-item.is) p.is) in
+    let ns = c.loop-plan.items.items in
+    let n = c.in_ok-item.item in
+    let more = row_more w now new r k ds j ns (ns ++ n ∷ []) n p.here u p.split (c.in_ok-item.ensures p.here here) refl in
+    all_handed_on w new r k (all_make ds) (row_of k ds no_trees) c.from_residual-in_err-push.result fault.Memory c.from_residual-in_err-push.ensures.1 (row_grows w new r k ds (j + 1) (ns ++ n ∷ []) more) tt
 
 -- src/adding.rt:83:5
 pub add_all-loop-plan-preserved : goal.add_all-loop-plan-preserved
@@ -75,11 +103,24 @@ add_all-returns t c = λ ds h.
 
 -- src/adding.rt:108:38
 pub add_end-add_plan-requires : goal.add_end-add_plan-requires
-add_end-add_plan-requires t c = ?
+add_end-add_plan-requires t c =
+    let w = c.args.work.now in
+    let r = c.args.region.now in
+    let k = number_of c.args.number in
+    let q = c.requires.end in
+    let f = end_above c.args.end.now c.in-Dotted.plan c.deref.result.now c.in-Dotted.is c.deref.ensures in
+    (omega (arith, f), (c.requires.region, dotted_small w r k c.args.end.now c.in-Dotted.plan c.deref.result.now c.in-Dotted.is c.deref.ensures q))
 
 -- src/adding.rt:108:38
 pub add_end-returns-in_err-add_plan-in-Dotted : goal.add_end-returns-in_err-add_plan-in-Dotted
-add_end-returns-in_err-add_plan-in-Dotted t c = ?
+add_end-returns-in_err-add_plan-in-Dotted t c = λ e us h stands named.
+    let w = c.args.work.now in
+    let r = c.args.region.now in
+    let k = number_of c.args.number in
+    let new = c.add_plan.new.work in
+    let f = c.in_err-add_plan-in-Dotted.field-0.0 in
+    let b = tail_fault w new r k c.args.end.now c.in-Dotted.plan c.deref.result.now f e c.in-Dotted.is c.deref.ensures h c.in_err-add_plan-in-Dotted.ensures in
+    end_handed_on w new r k (ending_makes e) (append us (ending_parts e)) (tail_of k e) c.args.items.now.items c.from_residual.result f c.from_residual.ensures.1 b.0 b.1
 
 -- src/adding.rt:109:39
 pub add_end-copy_behind-requires : goal.add_end-copy_behind-requires
@@ -103,7 +144,11 @@ add_end-returns-in-Proper t c = λ e us h stands named.
 
 -- src/adding.rt:91:1
 pub add_end-returns-in_ok-add_plan-in-Dotted : goal.add_end-returns-in_ok-add_plan-in-Dotted
-add_end-returns-in_ok-add_plan-in-Dotted t c = ?
+add_end-returns-in_ok-add_plan-in-Dotted t c = λ e us h stands named.
+    let w = c.args.work.now in
+    let r = c.args.region.now in
+    let k = number_of c.args.number in
+    tail_added w c.add_plan.new.work r k c.args.end.now c.in-Dotted.plan c.deref.result.now c.in_ok-add_plan-in-Dotted.field-0 e us c.args.items.now.items c.in-Dotted.is c.deref.ensures h stands named c.in_ok-add_plan-in-Dotted.ensures
 
 -- src/adding.rt:91:1
 pub add_end-returns-in_ok-copy_behind-in-Behind : goal.add_end-returns-in_ok-copy_behind-in-Behind
@@ -244,34 +289,106 @@ add_plan-add_all-requires-in-List t c =
 
 -- src/adding.rt:53:29
 pub add_plan-returns-in_err-items-in-List : goal.add_plan-returns-in_err-items-in-List
-add_plan-returns-in_err-items-in-List t c = ?
+add_plan-returns-in_err-items-in-List t c = λ d h.
+    let w = c.args.work.now in
+    let r = c.args.region.now in
+    let k = number_of c.args.number in
+    let new = c.add_all-in-List.new.work in
+    let e = c.in_err-items-in-List.field-0.0 in
+    let f = c.from_residual-in_err-items-in-List in
+    let b = row_fault w new r k c.args.plan.now c.in-List.plans c.in-List.end c.deref-in-List.result.now d e c.in-List.is c.deref-in-List.ensures.value h c.in_err-items-in-List.ensures in
+    adds_handed_on w new r k (makes d) (tree_of k d) f.result e f.ensures.1 b.0 b.1
 
 -- src/adding.rt:54:24
 pub add_plan-add_end-requires : goal.add_plan-add_end-requires
-add_plan-add_end-requires t c = ?
+add_plan-add_end-requires t c =
+    let w = c.args.work.now in
+    let r = c.args.region.now in
+    let k = number_of c.args.number in
+    let q = c.requires.plan in
+    let mid = c.add_all-in-List.new.work in
+    let v = c.in_ok-items-in-List.items in
+    let u = row_ready w mid r k c.args.plan.now c.in-List.plans c.in-List.end c.deref-in-List.result.now v q.0 c.in-List.is c.deref-in-List.ensures.value q.1 c.in_ok-items-in-List.ensures in
+    let size = list_size c.args.plan.now c.in-List.plans c.in-List.end c.in-List.is in
+    let small = (list_small k w r c.args.plan.now c.in-List.plans c.in-List.end c.in-List.is q).1 in
+    (omega (arith, size), (u.grows.trees.regions r c.requires.region, end_later w mid r k c.in-List.end u.grows.trees u.grows.names.keeps small))
 
 -- src/adding.rt:54:24
 pub add_plan-returns-in_err-tail-in-List : goal.add_plan-returns-in_err-tail-in-List
-add_plan-returns-in_err-tail-in-List t c = ?
+add_plan-returns-in_err-tail-in-List t c = λ d h.
+    let w = c.args.work.now in
+    let r = c.args.region.now in
+    let k = number_of c.args.number in
+    let mid = c.add_all-in-List.new.work in
+    let v = c.in_ok-items-in-List.items in
+    let u = row_ready w mid r k c.args.plan.now c.in-List.plans c.in-List.end c.deref-in-List.result.now v d c.in-List.is c.deref-in-List.ensures.value h c.in_ok-items-in-List.ensures in
+    let new = c.add_end.new.work in
+    let e = c.in_err-tail-in-List.field-0.0 in
+    let f = c.from_residual-in_err-tail-in-List in
+    let b = end_fault w mid new r k c.in-List.end v d e u c.in_err-tail-in-List.ensures in
+    adds_handed_on w new r k (makes d) (tree_of k d) f.result e f.ensures.1 b.0 b.1
 
 -- src/adding.rt:55:16
 pub add_plan-add_node-requires-in-List-clause-region :
     goal.add_plan-add_node-requires-in-List-clause-region
-add_plan-add_node-requires-in-List-clause-region t c = ?
+add_plan-add_node-requires-in-List-clause-region t c =
+    let w = c.args.work.now in
+    let r = c.args.region.now in
+    let k = number_of c.args.number in
+    let q = c.requires.plan in
+    let mid = c.add_all-in-List.new.work in
+    let v = c.in_ok-items-in-List.items in
+    let u = row_ready w mid r k c.args.plan.now c.in-List.plans c.in-List.end c.deref-in-List.result.now v q.0 c.in-List.is c.deref-in-List.ensures.value q.1 c.in_ok-items-in-List.ensures in
+    let last = c.add_end.new.work in
+    let ready = list_ready w mid last r k c.in-List.end v c.add_end.new.items c.in_ok-tail-in-List.tail q.0 u c.in_ok-tail-in-List.ensures in
+    ready.grows.trees.regions r c.requires.region
 
 -- src/adding.rt:55:16
 pub add_plan-add_node-requires-in-List-clause-small :
     goal.add_plan-add_node-requires-in-List-clause-small
-add_plan-add_node-requires-in-List-clause-small t c = ?
+add_plan-add_node-requires-in-List-clause-small t c =
+    let w = c.args.work.now in
+    let r = c.args.region.now in
+    let k = number_of c.args.number in
+    let q = c.requires.plan in
+    let mid = c.add_all-in-List.new.work in
+    let v = c.in_ok-items-in-List.items in
+    let u = row_ready w mid r k c.args.plan.now c.in-List.plans c.in-List.end c.deref-in-List.result.now v q.0 c.in-List.is c.deref-in-List.ensures.value q.1 c.in_ok-items-in-List.ensures in
+    let last = c.add_end.new.work in
+    let ready = list_ready w mid last r k c.in-List.end v c.add_end.new.items c.in_ok-tail-in-List.tail q.0 u c.in_ok-tail-in-List.ensures in
+    list_can w last r k c.add_end.new.items c.in_ok-tail-in-List.tail q.0 ready q.2 q.3
 
 -- src/adding.rt:55:16
 pub add_plan-add_node-requires-in-List-clause-names :
     goal.add_plan-add_node-requires-in-List-clause-names
-add_plan-add_node-requires-in-List-clause-names t c = ?
+add_plan-add_node-requires-in-List-clause-names t c =
+    let w = c.args.work.now in
+    let r = c.args.region.now in
+    let k = number_of c.args.number in
+    let q = c.requires.plan in
+    let mid = c.add_all-in-List.new.work in
+    let v = c.in_ok-items-in-List.items in
+    let u = row_ready w mid r k c.args.plan.now c.in-List.plans c.in-List.end c.deref-in-List.result.now v q.0 c.in-List.is c.deref-in-List.ensures.value q.1 c.in_ok-items-in-List.ensures in
+    let last = c.add_end.new.work in
+    let ready = list_ready w mid last r k c.in-List.end v c.add_end.new.items c.in_ok-tail-in-List.tail q.0 u c.in_ok-tail-in-List.ensures in
+    ready.names
 
 -- src/adding.rt:55:16
 pub add_plan-returns-in_err-add_node-in-List : goal.add_plan-returns-in_err-add_node-in-List
-add_plan-returns-in_err-add_node-in-List t c = ?
+add_plan-returns-in_err-add_node-in-List t c = λ d h.
+    let w = c.args.work.now in
+    let r = c.args.region.now in
+    let k = number_of c.args.number in
+    let mid = c.add_all-in-List.new.work in
+    let v = c.in_ok-items-in-List.items in
+    let u = row_ready w mid r k c.args.plan.now c.in-List.plans c.in-List.end c.deref-in-List.result.now v d c.in-List.is c.deref-in-List.ensures.value h c.in_ok-items-in-List.ensures in
+    let last = c.add_end.new.work in
+    let ready = list_ready w mid last r k c.in-List.end v c.add_end.new.items c.in_ok-tail-in-List.tail d u c.in_ok-tail-in-List.ensures in
+    let new = c.add_node-in-List.new.work in
+    let e = c.in_err-add_node-in-List.field-0.0 in
+    let f = c.from_residual-in_err-add_node-in-List in
+    let b = list_added w last new r k c.add_end.new.items c.in_ok-tail-in-List.tail d (Err e) ready (c.in_err-add_node-in-List.ensures k) in
+    adds_handed_on w new r k (makes d) (tree_of k d) f.result e f.ensures.1 b.0 b.1
 
 -- src/adding.rt:24:1
 pub add_plan-returns-in-Held : goal.add_plan-returns-in-Held
@@ -318,4 +435,13 @@ add_plan-returns-in_ok-add_node-in-Vector t c = λ d h.
 
 -- src/adding.rt:24:1
 pub add_plan-returns-in_ok-add_node-in-List : goal.add_plan-returns-in_ok-add_node-in-List
-add_plan-returns-in_ok-add_node-in-List t c = ?
+add_plan-returns-in_ok-add_node-in-List t c = λ d h.
+    let w = c.args.work.now in
+    let r = c.args.region.now in
+    let k = number_of c.args.number in
+    let mid = c.add_all-in-List.new.work in
+    let v = c.in_ok-items-in-List.items in
+    let u = row_ready w mid r k c.args.plan.now c.in-List.plans c.in-List.end c.deref-in-List.result.now v d c.in-List.is c.deref-in-List.ensures.value h c.in_ok-items-in-List.ensures in
+    let last = c.add_end.new.work in
+    let ready = list_ready w mid last r k c.in-List.end v c.add_end.new.items c.in_ok-tail-in-List.tail d u c.in_ok-tail-in-List.ensures in
+    list_added w last c.add_node-in-List.new.work r k c.add_end.new.items c.in_ok-tail-in-List.tail d (Ok c.in_ok-add_node-in-List.field-0) ready (c.in_ok-add_node-in-List.ensures k)
