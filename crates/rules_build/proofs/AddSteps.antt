@@ -1,5 +1,5 @@
 -- The steps by which the nodes of a plan are added.
-use Rattle.std.proofs.Common.{◌≡◌, ℕ, ◌+◌, ◌≤◌, List, Option, None, refl, sym, ◌∙◌, subst, arith}
+use Rattle.std.proofs.Common.{◌≡◌, ℕ, ◌+◌, ◌≤◌, List, Option, Some, None, refl, sym, ◌∙◌, subst, arith}
 use Rattle.std.specs.Prelude.{Vec, Result, Ok, Err}
 use Rattle.std.specs.Global.{Box}
 use Rattle.std.specs.declared.alloc.Global.{Global}
@@ -78,7 +78,7 @@ pub record ListReady (old last : Work) (region : Region) (k : Number) (items : V
   pub end : Ending
   pub is : d ≡ listed row end
   pub grows : Grows old last region k (all_make row + ending_makes end)
-  pub node : IsNodeOf last (node.List items back None) (tree_of k (listed row end))
+  pub whole : IsNodeOf last (node.List items back None) (tree_of k (listed row end))
   pub names : CanNameParts last region (node.List items back None)
 
 pub list_ready : (old mid last : Work) (region : Region) (k : Number) (b : End) (v items : Vec number.Tree Global) (back : Option number.Tree) (d : Draft) → RowReady old mid region k b v d →
@@ -92,7 +92,7 @@ list_ready old mid last region k b v items back d u made =
       end = u.last;
       is = u.is;
       grows = grows_on old mid last region k (all_make u.row) (ending_makes u.last) (all_make u.row + ending_makes u.last) u.grows a.0 (omega arith);
-      node = list_node last items back (row_of k u.row (ending_parts u.last)) (tail_of k u.last) stand a.3;
+      whole = list_node last items back (row_of k u.row (ending_parts u.last)) (tail_of k u.last) stand a.3;
       names = named_list last region items back None a.2 a.4;
     }
 
@@ -100,7 +100,7 @@ pub list_can : (old last : Work) (region : Region) (k : Number) (items : Vec num
     CanAdd last (node.List items back None)
 list_can old last region k items back d u size deep = (
   tree_of k (listed u.row u.end),
-  u.node,
+  u.whole,
   subst (λ (x : Draft). tree_size (tree_of k x) ≤ max_tree_nodes) u.is size,
   subst (λ (x : Draft). tree_depth (tree_of k x) ≤ max_tree_depth) u.is deep,
 )
@@ -110,7 +110,7 @@ pub list_added : (old last new : Work) (region : Region) (k : Number) (items : V
 list_added old last new region k items back d r u made =
     let t = tree_of k (listed u.row u.end) in
     let most = all_make u.row + ending_makes u.end in
-    subst (λ (x : Draft). Adds old new region k (makes x) (tree_of k x) r) (sym u.is) (adds_on old last new region k most 1 (1 + most) t r u.grows (made t u.node) (omega arith))
+    subst (λ (x : Draft). Adds old new region k (makes x) (tree_of k x) r) (sym u.is) (adds_on old last new region k most 1 (1 + most) t r u.grows (made t u.whole) (omega arith))
 
 -- a fault at the parts
 pub row_fault : (old new : Work) (region : Region) (k : Number) (p : Plan) (plans : Vec Plan Global) (b : End) (ps : List Plan) (d : Draft) (e : BuildFault) → p ≡ plan.List plans b → ps ≡ plans.items → IsDraft old region p d →
