@@ -51,6 +51,16 @@ template_there work (n ∷ ns) [] k d r h e = absurd h
 template_there work (n ∷ ns) (q ∷ rs) zero d r h e = (omega arith, subst (λ (x : Rule Identifier). StandsFor work n.template x.template) (same_Some q r e) h.0.template)
 template_there work (n ∷ ns) (q ∷ rs) (suc k) d r h e = let p = template_there work ns rs k d r h.1 e in (omega (arith, p.0), p.1)
 
+-- ---- whether anything is left
+
+pub none_is : (o : Option ℕ) → ((n : ℕ) → o ≡ Some n → ⊥) → o ≡ None
+none_is None h = refl
+none_is (Some n) h = absurd (h n refl)
+
+pub gone_is : (o : Option ℕ) → is_some o ≡ false → o ≡ None
+gone_is None h = refl
+gone_is (Some n) h = absurd cc
+
 -- ---- how planning ends
 
 module _ (work : Work) (region : Region) (r : Rules Identifier) (k : Number) (m : Chosen Identifier Identifier) (left : ℕ) where
@@ -77,19 +87,19 @@ module _ (work : Work) (region : Region) (r : Rules Identifier) (k : Number) (m 
   pub planned_deep : (new : Option ℕ) (rest : ℕ) (p : Plan) (nodes : Option ℕ) (fits : Bool) → Plans work region k (Some left) new (walked r k m left) (Ok p) → new ≡ Some rest → IsSome nodes → fits ≡ false →
       ((d : Draft) → IsDraft work region p d → nodes ≡ spent (Some max_nodes) (tree_size (tree_of k d))) → ((d : Draft) → IsDraft work region p d → fits ≡ nat_le (tree_depth (tree_of k d)) max_depth) →
       IsPlanned work region k left (instance r k m left) (Err fault.DepthBudget)
-  planned_deep new rest p nodes fits h e some no sizes depths =
+  planned_deep new rest p nodes fits h e some not_so sizes depths =
       let q = h.3 (ap is_some e) in
       let enough = spent_some left h.0.count rest (sym e ∙ h.2) in
-      too_deep r k m left h.0 h.1 enough.0 (size_fits h.0 q.0 nodes nodes refl some (sizes q.0 q.1) q.2) (sym (ap (λ (t : Tree Identifier). nat_le (tree_depth t) max_depth) q.2) ∙ sym (depths q.0 q.1) ∙ no)
+      too_deep r k m left h.0 h.1 enough.0 (size_fits h.0 q.0 nodes nodes refl some (sizes q.0 q.1) q.2) (sym (ap (λ (t : Tree Identifier). nat_le (tree_depth t) max_depth) q.2) ∙ sym (depths q.0 q.1) ∙ not_so)
 
   pub planned_all : (new : Option ℕ) (rest : ℕ) (p : Plan) (nodes : Option ℕ) (fits : Bool) → Plans work region k (Some left) new (walked r k m left) (Ok p) → new ≡ Some rest → IsSome nodes → fits ≡ true →
       ((d : Draft) → IsDraft work region p d → nodes ≡ spent (Some max_nodes) (tree_size (tree_of k d))) → ((d : Draft) → IsDraft work region p d → fits ≡ nat_le (tree_depth (tree_of k d)) max_depth) →
       IsPlanned work region k left (instance r k m left) (Ok (p, rest))
-  planned_all new rest p nodes fits h e some yes sizes depths =
+  planned_all new rest p nodes fits h e some so sizes depths =
       let q = h.3 (ap is_some e) in
       let enough = spent_some left h.0.count rest (sym e ∙ h.2) in
       let size = size_fits h.0 q.0 nodes nodes refl some (sizes q.0 q.1) q.2 in
-      let deep : nat_le (tree_depth h.0.value) max_depth ≡ true = sym (ap (λ (t : Tree Identifier). nat_le (tree_depth t) max_depth) q.2) ∙ sym (depths q.0 q.1) ∙ yes in
+      let deep : nat_le (tree_depth h.0.value) max_depth ≡ true = sym (ap (λ (t : Tree Identifier). nat_le (tree_depth t) max_depth) q.2) ∙ sym (depths q.0 q.1) ∙ so in
       let small : tree_size h.0.value ≤ max_tree_nodes = grind (arith, nat_tests) in
       let flat : tree_depth h.0.value ≤ max_tree_depth = grind (arith, nat_tests) in
       (h.0, all_within r k m left h.0 h.1 enough.0 size deep, q, (small, flat), enough.1)

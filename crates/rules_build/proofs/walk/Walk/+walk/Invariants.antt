@@ -28,8 +28,8 @@ invariant-parts-loop-k l =
     (r : Rules Identifier) (region : Region) (k : Number) (ts : Trees Identifier) (ms : List (Binding Identifier Identifier)) → TellsRoles l.self.work.now.symbols l.self.roles.now r → PartsStand l.self.work.now l.items ts →
     AreBound l.self.work.now region l.bounds ms → PartsUpTo l.self.work.now region k (dots_where l.escaped r) ts ms l.k l.fn.room l.room l.fn.plans.items l.plans.items
 
-abbrev pub invariant-repeated-loop-_place : goal.invariant-repeated-loop-_place
-invariant-repeated-loop-_place l =
+abbrev pub invariant-repeated-loop-place : goal.invariant-repeated-loop-place
+invariant-repeated-loop-place l =
     (r : Rules Identifier) (region : Region) (k : Number) (t : Tree Identifier) (ms : List (Binding Identifier Identifier)) → TellsRoles l.self.work.now.symbols l.self.roles.now r → StandsFor l.self.work.now l.template t →
     AreBound l.self.work.now region l.bounds ms →
     PlacesUpTo l.self.work.now region k (repeated (l.times - 1) (build_tree (inserting k) (dots_where l.escaped r) t)) l.places ms l._place l.fn.room l.room l.fn.plans.items l.plans.items l.here.items
