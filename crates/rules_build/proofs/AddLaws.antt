@@ -1,6 +1,6 @@
 -- What adding nodes leaves, one after another.
-use Rattle.std.proofs.Common.{◌≡◌, ℕ, zero, suc, ◌+◌, ◌^◌, ◌<◌, ◌≤◌, List, [], ◌∷◌, ◌++◌, ◌⊎◌, inl, inr, false, Option, Some, None, refl, sym, ap, ◌∙◌, subst, slice_get, drop, length, arith}
-use Rattle.std.specs.Prelude.{Result, Ok, Err, IsErrAnd, Vec, max, if◌then◌else◌, Bool, true}
+use Rattle.std.proofs.Common.{◌≡◌, ℕ, zero, suc, ◌+◌, ◌≤◌, List, [], ◌∷◌, ◌++◌, ◌⊎◌, inl, inr, false, Option, Some, None, refl, sym, ap, ◌∙◌, subst, slice_get, drop, length, arith}
+use Rattle.std.specs.Prelude.{Result, Ok, Err, IsErrAnd, Vec, if◌then◌else◌, Bool, true}
 use Rattle.std.specs.declared.alloc.Global.{Global}
 use Rattle.std.specs.Option.{option_map}
 use Rattle.std.specs.List.{AllByRecursion, list_any}
@@ -9,19 +9,17 @@ use Rattle.std.proofs.lemmas.Option.{same_Some}
 use Rattle.ls_base.specs.Limits.{max_tree_nodes, max_tree_depth}
 use Rattle.scheme_model.specs.declared.Occ.{Occ}
 use Rattle.scheme_model.specs.Identifiers.{Number}
-use Rattle.scheme_model.specs.Trees.{Tree, name, atom, list, vector, Trees, no_trees, tree, Tail, proper, dotted}
+use Rattle.scheme_model.specs.Trees.{Tree, atom, list, Trees, no_trees, tree, Tail}
 use Rattle.scheme_model.specs.TreeParts.{append}
 use Rattle.scheme_model.specs.Matching.{behind}
-use Rattle.scheme_model.specs.Measures.{tree_size, trees_size, tail_size, tree_depth, trees_depth, tail_depth}
+use Rattle.scheme_model.specs.Measures.{tree_size, tree_depth}
 use Rattle.scheme_model.specs.Ident.{Ident as Identifier, Inserted, same_ident}
 use Rattle.syntax_tree.specs.Names.{Names, KeepsNames, with_ident}
-use Rattle.syntax_tree.specs.Nodes.{Lived, IsPut, region_at}
+use Rattle.syntax_tree.specs.Nodes.{Lived, IsPut}
 use Rattle.syntax_tree.specs.Regions.{MayName}
-use Rattle.syntax_tree.specs.Standing.{is_list, AllStand, TailStands, leaf_tree}
 use Rattle.syntax_tree.specs.Kept.{numbers}
 use Rattle.syntax_tree.specs.Looks.{PartsStand, EndStands}
-use Rattle.syntax_tree.specs.Macros.{IsIdent}
-use Rattle.syntax_tree.specs.Works.{StandsFor, IsNodeOf, CanAdd, CanName, CanNameParts, KeepsTrees, SameRegions, AddsIn, LiesIn, IsOpened, live_count, lived_in, with_names}
+use Rattle.syntax_tree.specs.Works.{IsNodeOf, CanName, CanNameParts, KeepsTrees, SameRegions, AddsIn, live_count, lived_in, with_names}
 use Rattle.syntax_tree.specs.declared.trees.Work.{Work}
 use Rattle.syntax_tree.specs.declared.trees.table.Region.{Region}
 use Rattle.syntax_tree.specs.declared.trees.nodes.Tree as number
@@ -36,7 +34,7 @@ use Rattle.rules_build.specs.declared.fault.BuildFault.TheVariants as fault
 use Rattle.rules_build.specs.declared.plan.Plan.{Plan}
 use Rattle.rules_build.specs.declared.plan.Plan.TheVariants as plan
 use Rattle.rules_build.specs.declared.plan.End.{End}
-use Rattle.rules_build.specs.Drafts.{Draft, held, marked, plain, listed, in_vector, Drafts, no_drafts, draft, Ending, ends, tailed, goes_on, ending_parts, tree_of, row_of, tail_of, makes, all_make, ending_makes, is_listed, IsRestOf, IsDraft, AreDrafts, IsEnding}
+use Rattle.rules_build.specs.Drafts.{Draft, held, marked, plain, listed, in_vector, Drafts, no_drafts, draft, Ending, ends, tailed, goes_on, ending_parts, tree_of, row_of, makes, all_make, IsRestOf, IsDraft, AreDrafts, IsEnding}
 use Rattle.rules_build.specs.Adds.{Inserts, Grows, Lacks, Adds, AreNamed, IsNamedEnd, AddsAll, AddsEnd, CanBeAdded, AllCanBeAdded, EndCanBeAdded, CopiesRest}
 use Rattle.rules_build.proofs.PlanViews.{vector_draft, list_draft}
 use Rattle.rules_build.proofs.BuildLaws.{append_nil, append_more}

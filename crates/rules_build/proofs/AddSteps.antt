@@ -1,6 +1,6 @@
 -- The steps by which the nodes of a plan are added.
 use Rattle.std.proofs.Common.{◌≡◌, ℕ, ◌+◌, ◌≤◌, List, Option, Some, None, refl, sym, ◌∙◌, subst, arith}
-use Rattle.std.specs.Prelude.{Vec, Result, Ok, Err}
+use Rattle.std.specs.Prelude.{Vec, Result, Ok}
 use Rattle.std.specs.Global.{Box}
 use Rattle.std.specs.declared.alloc.Global.{Global}
 use Rattle.ls_base.specs.Limits.{max_tree_nodes, max_tree_depth}
@@ -21,12 +21,12 @@ use Rattle.rules_build.specs.declared.plan.Plan.{Plan}
 use Rattle.rules_build.specs.declared.plan.Plan.TheVariants as plan
 use Rattle.rules_build.specs.declared.plan.End.{End}
 use Rattle.rules_build.specs.declared.plan.End.TheVariants as end
-use Rattle.rules_build.specs.Drafts.{Draft, held, listed, Drafts, Ending, tailed, ending_parts, ending_makes, tree_of, row_of, tail_of, makes, all_make, IsDraft, AreDrafts, IsEnding}
-use Rattle.rules_build.specs.Adds.{Grows, Lacks, Adds, AddsAll, AddsEnd, AreNamed, IsNamedEnd, CanBeAdded, EndCanBeAdded}
+use Rattle.rules_build.specs.Drafts.{Draft, held, listed, Drafts, Ending, ending_parts, ending_makes, tree_of, row_of, tail_of, makes, all_make, IsDraft, AreDrafts, IsEnding}
+use Rattle.rules_build.specs.Adds.{Grows, Lacks, Adds, AddsAll, AddsEnd, AreNamed, CanBeAdded, EndCanBeAdded}
 use Rattle.rules_build.proofs.PlanViews.{list_draft, dotted_ending}
 use Rattle.rules_build.proofs.DraftLaws.{row_before, listed_is}
 use Rattle.rules_build.proofs.BuildLaws.{append_nil}
-use Rattle.rules_build.proofs.AddLaws.{grows_none, grows_more, grows_on, lacks_more, ending_kept, draft_kept, all_kept, named_kept, named_list, adds_on}
+use Rattle.rules_build.proofs.AddLaws.{grows_none, grows_more, grows_on, lacks_more, ending_kept, all_kept, named_kept, named_list, adds_on}
 
 -- a fault, where more might have been added
 pub err_more : (a b : Work) (region : Region) (k : Number) (m most : ℕ) (e : BuildFault) → m ≤ most → Grows a b region k m × Lacks a m e → Grows a b region k most × Lacks a most e

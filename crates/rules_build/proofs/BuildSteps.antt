@@ -1,5 +1,5 @@
 -- How building ends, by what its plan says and what adding the plan's nodes leaves.
-use Rattle.std.proofs.Common.{◌≡◌, ℕ, ◌+◌, ◌^◌, ◌<◌, ◌≤◌, refl, sym, ap, ◌∙◌, subst, arith}
+use Rattle.std.proofs.Common.{◌≡◌, ℕ, ◌+◌, ◌^◌, ◌<◌, ◌≤◌, refl, sym, ◌∙◌, subst, arith}
 use Rattle.std.specs.Prelude.{Result, Ok, Err, IsErrAnd}
 use Rattle.ls_base.specs.Limits.{max_tree_nodes, max_tree_depth}
 use Rattle.scheme_model.specs.Identifiers.{Number}
@@ -15,9 +15,9 @@ use Rattle.syntax_tree.specs.declared.trees.nodes.Tree as number
 use Rattle.rules_build.specs.declared.fault.BuildFault.{BuildFault}
 use Rattle.rules_build.specs.declared.fault.BuildFault.TheVariants as fault
 use Rattle.rules_build.specs.declared.plan.Plan.{Plan}
-use Rattle.rules_build.specs.Drafts.{Draft, tree_of, makes, IsDraft}
+use Rattle.rules_build.specs.Drafts.{tree_of, makes}
 use Rattle.rules_build.specs.Builds.{Builds, CountsNodes, IsPlanned}
-use Rattle.rules_build.specs.Adds.{Grows, Lacks, Adds, CanBeAdded}
+use Rattle.rules_build.specs.Adds.{Grows, Lacks, CanBeAdded}
 
 abbrev Ending : Type 0
 Ending = Result (Built (Tree Identifier)) (Fault Identifier)

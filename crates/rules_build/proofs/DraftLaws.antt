@@ -1,12 +1,11 @@
 -- Drafts in a row, what is left when nodes are counted, and plans that are put together.
-use Rattle.std.proofs.Common.{◌≡◌, ℕ, zero, suc, ◌+◌, ◌-◌, ◌<◌, ◌≤◌, List, [], ◌∷◌, ◌++◌, Bool, true, false, Option, Some, None, refl, sym, ap, ◌∙◌, subst, arith, append_assoc}
-use Rattle.std.specs.Prelude.{nat_le, if◌then◌else◌, is_some, IsSome, Vec, Result, Ok, Err}
+use Rattle.std.proofs.Common.{◌≡◌, ℕ, ◌+◌, ◌-◌, ◌<◌, ◌≤◌, List, [], ◌∷◌, ◌++◌, Bool, true, false, Option, Some, None, refl, sym, ap, ◌∙◌, subst, arith, append_assoc}
+use Rattle.std.specs.Prelude.{nat_le, if◌then◌else◌, is_some, IsSome, Vec}
 use Rattle.std.specs.declared.alloc.Global.{Global}
 use Rattle.std.proofs.lemmas.Bool.Decides.{nat_tests}
 use Rattle.std.proofs.lemmas.List.{append-nil}
-use Rattle.scheme_model.specs.declared.Occ.{Occ}
 use Rattle.scheme_model.specs.Identifiers.{Number}
-use Rattle.scheme_model.specs.Trees.{Tree, name, atom, list, vector, Trees, no_trees, tree, Tail, proper, dotted}
+use Rattle.scheme_model.specs.Trees.{Tree, list, vector, Trees, no_trees, tree, proper}
 use Rattle.scheme_model.specs.TreeParts.{append}
 use Rattle.scheme_model.specs.Building.{Built, built, joined, alone, list_built}
 use Rattle.scheme_model.specs.Ident.{Ident as Identifier}
@@ -16,8 +15,8 @@ use Rattle.syntax_tree.specs.declared.trees.table.Region.{Region}
 use Rattle.rules_build.specs.declared.plan.Plan.{Plan}
 use Rattle.rules_build.specs.declared.plan.Plan.TheVariants as plan
 use Rattle.rules_build.specs.declared.plan.End.{End}
-use Rattle.rules_build.specs.Drafts.{spent, Draft, held, marked, plain, listed, in_vector, Drafts, no_drafts, draft, Ending, ends, tailed, goes_on, ending_parts, tree_of, row_of, tail_of, makes, all_make, ending_makes, is_listed, IsDraft, AreDrafts, IsEnding, IsPlanOf, ArePlansOf, front_of, back_of, IsEndOf, IsEndedBy}
-use Rattle.rules_build.proofs.BuildLaws.{append_more, append_nil, nothing, list_tailed}
+use Rattle.rules_build.specs.Drafts.{spent, Draft, held, marked, plain, listed, in_vector, Drafts, no_drafts, draft, ends, ending_parts, tree_of, row_of, tail_of, makes, all_make, is_listed, AreDrafts, IsEnding, IsPlanOf, ArePlansOf, front_of, back_of, IsEndedBy}
+use Rattle.rules_build.proofs.BuildLaws.{nothing, list_tailed}
 
 -- ---- what is left
 

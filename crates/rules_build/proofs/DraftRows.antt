@@ -2,7 +2,7 @@
 use Rattle.std.proofs.Common.{◌≡◌, ℕ, zero, suc, ◌+◌, ◌<◌, ◌≤◌, List, [], ◌∷◌, length, get_or, refl, sym, ap, ◌∙◌, subst, arith}
 use Rattle.std.specs.Prelude.{max}
 use Rattle.scheme_model.specs.Identifiers.{Number}
-use Rattle.scheme_model.specs.Trees.{Trees, no_trees, tree}
+use Rattle.scheme_model.specs.Trees.{Trees, no_trees}
 use Rattle.scheme_model.specs.Measures.{tree_size, trees_size, tree_depth, trees_depth}
 use Rattle.scheme_model.specs.Ident.{Ident as Identifier}
 use Rattle.syntax_tree.specs.declared.trees.Work.{Work}

@@ -1,15 +1,14 @@
 -- The ends of lists that are planned, and the plans of identifiers.
-use Rattle.std.proofs.Common.{◌≡◌, ℕ, zero, suc, ◌+◌, ◌<◌, ◌≤◌, List, [], ◌∷◌, ◌++◌, Bool, true, false, Option, Some, None, refl, sym, ap, ◌∙◌, subst, arith}
+use Rattle.std.proofs.Common.{◌≡◌, ℕ, ◌+◌, ◌≤◌, List, [], ◌∷◌, ◌++◌, Bool, true, false, Option, Some, None, refl, sym, ap, ◌∙◌, subst, arith}
 use Rattle.std.specs.Vec.{vec_len}
 use Rattle.std.proofs.lemmas.Bool.Decides.{nat_tests}
-use Rattle.std.specs.Prelude.{map, length, ◌==◌, IsSome, Vec, Result, Ok, Err, is_some}
+use Rattle.std.specs.Prelude.{map, length, ◌==◌, IsSome, Vec, Ok, is_some}
 use Rattle.std.specs.Global.{Box}
 use Rattle.std.specs.declared.alloc.Global.{Global}
-use Rattle.std.proofs.lemmas.List.{append-nil}
 use Rattle.scheme_model.specs.declared.Occ.{Occ}
 use Rattle.scheme_model.specs.Identifiers.{Number}
 use Rattle.scheme_model.specs.Trees.{Tree, name, atom, list, vector, Trees, no_trees, tree, Tail, proper, dotted}
-use Rattle.scheme_model.specs.TreeParts.{append, count}
+use Rattle.scheme_model.specs.TreeParts.{append}
 use Rattle.scheme_model.specs.Matching.{Value, One, Many, Values, Binding, behind, rest_of}
 use Rattle.scheme_model.specs.Building.{Built, built, value_of, named_value, list_built, build_tree}
 use Rattle.scheme_model.specs.Ident.{Ident as Identifier, Inserted, same_ident}
@@ -25,8 +24,8 @@ use Rattle.rules_build.specs.declared.plan.End.{End}
 use Rattle.rules_build.specs.declared.plan.End.TheVariants as end
 use Rattle.rules_build.specs.declared.values.Value as code_value
 use Rattle.rules_build.specs.declared.values.Value.TheVariants as worth
-use Rattle.rules_build.specs.Values.{AreValuesOf, IsWorth, IsFound}
-use Rattle.rules_build.specs.Drafts.{spent, Draft, held, marked, plain, listed, in_vector, Drafts, no_drafts, draft, Ending, ends, tailed, goes_on, ending_parts, tree_of, row_of, tail_of, makes, all_make, ending_makes, is_listed, IsRestOf, IsDraft, AreDrafts, IsEnding, IsPlanOf, ArePlansOf, front_of, back_of, IsEndOf, IsEndedBy}
+use Rattle.rules_build.specs.Values.{IsFound}
+use Rattle.rules_build.specs.Drafts.{spent, Draft, held, marked, listed, Drafts, no_drafts, draft, Ending, tailed, goes_on, ending_parts, tree_of, row_of, makes, all_make, is_listed, IsDraft, AreDrafts, IsEnding, IsPlanOf, ArePlansOf, front_of, back_of, IsEndOf, IsEndedBy}
 use Rattle.rules_build.specs.Builds.{inserting, Plans}
 use Rattle.rules_build.proofs.DraftLaws.{add_drafts, drafts_both, row_both, row_before, make_both, listed_is, plans_all, tailed_plan, spent_on, spent_none}
 

@@ -1,18 +1,17 @@
 -- Sizes and depths of drafts, part by part.
-use Rattle.std.proofs.Common.{◌≡◌, ℕ, zero, suc, ◌+◌, ◌-◌, ◌<◌, ◌≤◌, List, [], ◌∷◌, length, get_or, Bool, true, false, Option, Some, None, refl, sym, ap, ◌∙◌, subst, arith}
+use Rattle.std.proofs.Common.{◌≡◌, ℕ, ◌+◌, ◌-◌, ◌<◌, ◌≤◌, Bool, true, false, Option, refl, sym, ap, ◌∙◌, arith}
 use Rattle.std.specs.Prelude.{nat_le, max}
 use Rattle.std.proofs.lemmas.Bool.Decides.{nat_tests}
 use Rattle.scheme_model.specs.Identifiers.{Number}
 use Rattle.scheme_model.specs.declared.Occ.{Occ}
-use Rattle.scheme_model.specs.Trees.{Tree, list, Trees, no_trees, tree, Tail, proper, dotted}
+use Rattle.scheme_model.specs.Trees.{Tree, list, Trees, no_trees, tree, Tail}
 use Rattle.scheme_model.specs.Matching.{behind}
 use Rattle.scheme_model.specs.Measures.{tree_size, trees_size, tail_size, tree_depth, trees_depth, tail_depth}
 use Rattle.scheme_model.specs.Ident.{Ident as Identifier}
 use Rattle.syntax_tree.specs.declared.trees.Work.{Work}
 use Rattle.syntax_tree.specs.declared.trees.table.Region.{Region}
 use Rattle.syntax_tree.specs.declared.trees.nodes.Tree as number
-use Rattle.rules_build.specs.declared.plan.Plan.{Plan}
-use Rattle.rules_build.specs.Drafts.{spent, Draft, held, marked, plain, listed, in_vector, Drafts, no_drafts, draft, Ending, ends, tailed, goes_on, ending_parts, tree_of, row_of, tail_of, IsRestOf, IsDraft, AreDrafts}
+use Rattle.rules_build.specs.Drafts.{spent, Draft, listed, in_vector, Drafts, no_drafts, draft, Ending, ends, ending_parts, tree_of, row_of, tail_of, IsRestOf}
 use Rattle.rules_build.proofs.DraftLaws.{spent_on, spent_nothing}
 use Rattle.rules_build.proofs.DraftRows.{drafts_behind, row_size, row_depth}
 

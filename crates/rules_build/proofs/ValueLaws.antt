@@ -1,16 +1,16 @@
 -- What bindings stand for at the places of an ellipsis.
-use Rattle.std.proofs.Common.{◌≡◌, ℕ, zero, suc, ◌+◌, ◌<◌, ◌≤◌, List, [], ◌∷◌, ◌++◌, length, get_or, drop, Bool, true, false, ◌⊎◌, inl, inr, Option, Some, None, refl, sym, ap, ◌∙◌, subst, arith}
+use Rattle.std.proofs.Common.{◌≡◌, ℕ, List, [], ◌∷◌, ◌++◌, length, Bool, true, false, inl, inr, Option, Some, None, refl, sym, ap, ◌∙◌, subst, arith}
 use Rattle.std.specs.Option.{unwrap_or}
 use Rattle.std.proofs.Common.{Bor}
-use Rattle.std.specs.Prelude.{if◌then◌else◌, ◌==◌, nat_eq, Vec, Result, Ok, Err, IsErrAnd}
+use Rattle.std.specs.Prelude.{if◌then◌else◌, ◌==◌, Vec, Result, Ok, Err, IsErrAnd}
 use Rattle.std.proofs.lemmas.Bool.Decides.{nat_tests}
 use Rattle.std.specs.declared.alloc.Global.{Global}
 use Rattle.scheme_model.specs.Trees.{Tree}
 use Rattle.scheme_model.specs.Matching.{Value, One, Many, Values, no_values, value, Binding, ◌>>=◌}
-use Rattle.scheme_model.specs.Building.{value_of, stands_in, used_in, value_count, agree, agree_with, places_of, or_zero, first_value, later_values, first_place, later_places}
+use Rattle.scheme_model.specs.Building.{value_of, stands_in, used_in, value_count, agree_with, places_of, or_zero, first_value, later_values, first_place, later_places}
 use Rattle.scheme_model.specs.Ident.{Ident as Identifier, same_ident}
-use Rattle.syntax_tree.specs.Works.{StandsFor, CanName}
-use Rattle.syntax_tree.specs.Macros.{IsIdent, IsValue, AreValues, IsRest}
+use Rattle.syntax_tree.specs.Works.{StandsFor}
+use Rattle.syntax_tree.specs.Macros.{AreValues, IsRest}
 use Rattle.syntax_tree.specs.declared.trees.Work.{Work}
 use Rattle.syntax_tree.specs.declared.trees.table.Region.{Region}
 use Rattle.syntax_tree.specs.declared.trees.nodes.Tree as number
@@ -21,7 +21,7 @@ use Rattle.rules_build.specs.declared.values.Value.TheVariants as worth
 use Rattle.rules_build.specs.declared.values.Value as code_value
 use Rattle.rules_build.specs.declared.fault.BuildFault.{BuildFault}
 use Rattle.rules_build.specs.declared.fault.BuildFault.TheVariants as fault
-use Rattle.rules_build.specs.Values.{MayNameValues, IsBoundTo, AreValuesOf, IsWorth, IsFound, Differ, HasPlaces}
+use Rattle.rules_build.specs.Values.{IsBoundTo, AreValuesOf, IsWorth, IsFound, Differ, HasPlaces}
 
 out_one : (v : ℕ) (n : number.Tree) → out-Binding (bound.One v n) ≡ Binding-F.One v n
 out_one v n = ap out-Binding (sym (bound.rolls-One v n)) ∙ out-roll-Binding (Binding-F.One v n)

@@ -1,13 +1,12 @@
 -- The walk over a template, step by step.
-use Rattle.std.proofs.Common.{◌≡◌, ℕ, zero, suc, ◌+◌, ◌-◌, ◌<◌, ◌≤◌, List, [], ◌∷◌, ◌++◌, Bool, true, false, Option, Some, None, refl, sym, ap, ◌∙◌, subst, arith}
-use Rattle.std.specs.Prelude.{IsSome, Result, Ok, Err, IsErrAnd, Vec, is_some}
-use Rattle.std.specs.declared.alloc.Global.{Global}
+use Rattle.std.proofs.Common.{◌≡◌, ℕ, suc, ◌+◌, ◌-◌, ◌<◌, ◌≤◌, List, Bool, true, false, Option, Some, None, refl, sym, ap, ◌∙◌, subst, arith}
+use Rattle.std.specs.Prelude.{IsSome, Result, Ok, Err, IsErrAnd}
 use Rattle.scheme_model.specs.declared.Occ.{Occ}
 use Rattle.scheme_model.specs.Identifiers.{Number}
-use Rattle.scheme_model.specs.Trees.{Tree, name, atom, list, vector, Trees, no_trees, tree, Tail, proper, dotted}
+use Rattle.scheme_model.specs.Trees.{Tree, list, vector, Trees, no_trees, tree, Tail, proper, dotted}
 use Rattle.scheme_model.specs.RulesShape.{is_dots, leading, nowhere}
 use Rattle.scheme_model.specs.Matching.{Binding, ◌>>=◌, chosen, behind}
-use Rattle.scheme_model.specs.Building.{Built, built, Template, joined, alone, used_in, or_zero, places_of, first_place, later_places, at_places, repeated, list_built, is_escape, build_tree, build_parts, build_tail, build_escaped}
+use Rattle.scheme_model.specs.Building.{Built, built, joined, alone, used_in, or_zero, places_of, first_place, later_places, at_places, repeated, list_built, is_escape, build_tree, build_parts, build_tail, build_escaped}
 use Rattle.scheme_model.specs.Ident.{Ident as Identifier, same_ident}
 use Rattle.syntax_tree.specs.declared.trees.Work.{Work}
 use Rattle.syntax_tree.specs.declared.trees.table.Region.{Region}

@@ -1,33 +1,32 @@
 -- The arms of the walk over a template: atoms, identifiers, and the two parts of an escape.
-use Rattle.std.proofs.Common.{◌≡◌, ℕ, ◌+◌, ◌-◌, ◌<◌, ◌≤◌, List, [], length, get_or, Bool, true, false, Option, Some, None, refl, sym, ap, ◌∙◌, subst, arith}
-use Rattle.std.specs.Prelude.{slice_get, IsSome, Result, Ok, Err}
+use Rattle.std.proofs.Common.{◌≡◌, ℕ, ◌-◌, ◌<◌, List, length, get_or, Bool, true, Option, Some, None, refl, sym, ap, ◌∙◌, subst, arith}
+use Rattle.std.specs.Prelude.{slice_get, Ok, Err}
 use Rattle.std.specs.Option.{option_map}
 use Rattle.scheme_model.specs.declared.Occ.{Occ}
 use Rattle.scheme_model.specs.Identifiers.{Number}
-use Rattle.scheme_model.specs.Trees.{Atom, Numeral, Quoted, Character, Boolean, Bytes, Tree, name, atom, list, vector, Trees, no_trees, tree, Tail}
+use Rattle.scheme_model.specs.Trees.{Atom, Numeral, Quoted, Character, Boolean, Bytes, Tree, name, atom, Trees, no_trees, tree, Tail}
 use Rattle.scheme_model.specs.TreeParts.{count}
-use Rattle.scheme_model.specs.RulesShape.{is_dots}
 use Rattle.scheme_model.specs.Matching.{Binding, behind, ◌>>=◌}
-use Rattle.scheme_model.specs.Building.{Built, built, alone, or_zero, places_of, at_places, repeated, is_escape, build_tree}
+use Rattle.scheme_model.specs.Building.{Built, built, alone, places_of, at_places, repeated, is_escape, build_tree}
 use Rattle.scheme_model.specs.Ident.{Ident as Identifier}
 use Rattle.syntax_tree.specs.Names.{Names}
 use Rattle.syntax_tree.specs.Standing.{leaf_tree}
-use Rattle.syntax_tree.specs.Looks.{PartsStand, PartsWithin, StandsWithin}
-use Rattle.syntax_tree.specs.Works.{StandsFor, CanName}
+use Rattle.syntax_tree.specs.Looks.{PartsStand}
+use Rattle.syntax_tree.specs.Works.{StandsFor}
 use Rattle.syntax_tree.specs.declared.trees.Work.{Work}
 use Rattle.syntax_tree.specs.declared.trees.table.Region.{Region}
 use Rattle.syntax_tree.specs.declared.trees.nodes.Tree as number
 use Rattle.syntax_tree.specs.declared.trees.nodes.Leaf.{Leaf}
 use Rattle.syntax_tree.specs.declared.trees.nodes.Leaf.TheVariants as code
-use Rattle.syntax_tree.proofs.Looking.{count_stands, part_there, part_within}
+use Rattle.syntax_tree.proofs.Looking.{count_stands, part_there}
 use Rattle.rules_build.specs.declared.fault.BuildFault.{BuildFault}
 use Rattle.rules_build.specs.declared.fault.BuildFault.TheVariants as fault
 use Rattle.rules_build.specs.declared.plan.Plan.TheVariants as plan
 use Rattle.rules_build.specs.declared.plan.Plan.{Plan}
-use Rattle.rules_build.specs.Drafts.{spent, plain, IsPlanOf, CanStand}
+use Rattle.rules_build.specs.Drafts.{spent, plain}
 use Rattle.rules_build.specs.Values.{Differ, HasPlaces}
 use Rattle.rules_build.specs.Builds.{inserting, Fails, Plans}
-use Rattle.rules_build.proofs.WalkLaws.{Escape, escape_there, fails_same, repeated_places, PartsUpTo}
+use Rattle.rules_build.proofs.WalkLaws.{escape_there, fails_same, repeated_places, PartsUpTo}
 
 -- ---- atoms
 

@@ -1,33 +1,30 @@
 -- The plan of a whole template, and the instance that is built of it.
-use Rattle.std.proofs.Common.{◌≡◌, ℕ, zero, suc, ◌+◌, ◌-◌, ◌^◌, ◌<◌, ◌≤◌, List, [], ◌∷◌, length, get_or, Bool, true, false, Option, Some, None, refl, sym, ap, ◌∙◌, subst, arith}
-use Rattle.std.specs.Prelude.{nat_le, is_some, IsSome, slice_get, Result, Ok, Err, IsErrAnd}
+use Rattle.std.proofs.Common.{◌≡◌, ℕ, zero, suc, ◌<◌, ◌≤◌, List, [], ◌∷◌, length, get_or, Bool, true, false, Option, Some, None, refl, sym, ap, ◌∙◌, subst, arith}
+use Rattle.std.specs.Prelude.{nat_le, is_some, IsSome, slice_get, Ok, Err}
 use Rattle.std.proofs.lemmas.Bool.Decides.{nat_tests}
 use Rattle.std.proofs.lemmas.Option.{same_Some}
 use Rattle.ls_base.specs.Limits.{max_tree_nodes, max_tree_depth}
 use Rattle.scheme_model.specs.Identifiers.{Number}
 use Rattle.scheme_model.specs.Trees.{Tree}
 use Rattle.scheme_model.specs.Measures.{tree_size, tree_depth}
-use Rattle.scheme_model.specs.ExpansionFaults.{Fault, EllipsisLength, NodeBudget, DepthBudget}
 use Rattle.scheme_model.specs.RulesShape.{Rule, Rules}
 use Rattle.scheme_model.specs.Matching.{Binding, Chosen}
 use Rattle.scheme_model.specs.Building.{Built, max_nodes, max_depth}
 use Rattle.scheme_model.specs.Ident.{Ident as Identifier}
 use Rattle.syntax_tree.specs.Names.{Names}
 use Rattle.syntax_tree.specs.Works.{StandsFor}
-use Rattle.syntax_tree.specs.Macros.{AreIdents, IsEllipsisOf, AreRolesOf, TellsRoles, IsBinding, AreBindings, AreRules}
+use Rattle.syntax_tree.specs.Macros.{AreIdents, IsEllipsisOf, AreRolesOf, TellsRoles, AreBindings, AreRules}
 use Rattle.syntax_tree.specs.declared.trees.Work.{Work}
 use Rattle.syntax_tree.specs.declared.trees.table.Region.{Region}
-use Rattle.syntax_tree.specs.declared.trees.nodes.Tree as number
 use Rattle.syntax_tree.specs.declared.rules.Roles.{Roles}
 use Rattle.syntax_tree.specs.declared.rules.Rules as code_rules
 use Rattle.syntax_tree.specs.declared.rules.Rule as code_rule
 use Rattle.syntax_tree.specs.declared.rules.Binding as code_binding
-use Rattle.rules_build.specs.declared.fault.BuildFault.{BuildFault}
 use Rattle.rules_build.specs.declared.fault.BuildFault.TheVariants as fault
 use Rattle.rules_build.specs.declared.plan.Plan.{Plan}
 use Rattle.rules_build.specs.Values.{MayNameBindings, AreManyBound}
-use Rattle.rules_build.specs.Drafts.{spent, Draft, tree_of, makes, IsDraft, IsPlanOf, CanStand}
-use Rattle.rules_build.specs.Builds.{inserting, dots_where, instance, Plans, IsPlanned}
+use Rattle.rules_build.specs.Drafts.{spent, Draft, tree_of, IsDraft, CanStand}
+use Rattle.rules_build.specs.Builds.{instance, Plans, IsPlanned}
 use Rattle.rules_build.proofs.WholeLaws.{spent_some, spent_gone, walked, too_many, too_large, too_deep, all_within}
 
 -- ---- what the walk is given

@@ -16,7 +16,7 @@ use Rattle.rules_build.specs.declared.fault.BuildFault.{BuildFault}
 use Rattle.rules_build.specs.declared.fault.BuildFault.TheVariants as fault
 use Rattle.rules_build.specs.declared.plan.Plan.{Plan}
 use Rattle.rules_build.specs.declared.plan.End.{End}
-use Rattle.rules_build.specs.Drafts.{Draft, Drafts, Ending, ending_parts, tree_of, row_of, tail_of, IsDraft, AreDrafts, IsEnding, IsRestOf}
+use Rattle.rules_build.specs.Drafts.{Draft, Drafts, Ending, tree_of, row_of, tail_of, IsDraft, AreDrafts, IsEnding}
 
 -- names keep their numbers, and only identifiers that this use inserted are new
 pub record Inserts (old new : Names) (k : Number) : Type 0 where

@@ -1,7 +1,6 @@
 -- What variables stand for at one place of the ellipses around a part of a template.
 use Rattle.std.specs.Prelude.{◌≡◌, ℕ, List, [], ◌∷◌, Option, Some, None, Result, Ok, Err, Vec}
 use Rattle.std.specs.declared.alloc.Global.{Global}
-use Rattle.scheme_model.specs.Trees.{Tree}
 use Rattle.scheme_model.specs.Matching.{Value, One, Many, Values, no_values, value, Binding}
 use Rattle.scheme_model.specs.Building.{or_zero}
 use Rattle.scheme_model.specs.Ident.{Ident as Identifier}

@@ -119,7 +119,9 @@ fn copy_behind(work: &Work, list: Tree, from: u32, items: &mut Vec<Tree>) -> Mem
 {
     match work.node(list) {
         Node::List {
-            items: parts, tail, ..
+            items: parts,
+            tail,
+            ..
         } => {
             for k in from as usize..parts.len() {
                 items.push(parts[k])?;

@@ -168,7 +168,10 @@ impl Walk<'_> {
             None => Plan::Name(id, place_of(self.work, template)),
             Some(Value::Many(_)) => Plan::Name(id, place_of(self.work, template)),
             Some(Value::One(tree)) => Plan::Held(tree),
-            Some(Value::Rest(list, from)) => Plan::List(Vec::new(self.alloc), End::Behind(list, from)),
+            Some(Value::Rest(list, from)) => Plan::List(
+                Vec::new(self.alloc),
+                End::Behind(list, from),
+            ),
         }
     }
 

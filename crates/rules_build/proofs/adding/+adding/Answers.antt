@@ -1,24 +1,24 @@
-use Rattle.std.proofs.Common.{rules, ◌≡◌, ℕ, ◌+◌, ◌<◌, ◌≤◌, List, [], ◌∷◌, ◌++◌, Option, None, refl, sym, ap, ◌∙◌, subst, arith}
+use Rattle.std.proofs.Common.{◌+◌, ◌≤◌, List, [], ◌∷◌, ◌++◌, None, refl, sym, ap, subst, arith}
 use Rattle.std.specs.Prelude.{Ok, Err}
 use denote.Param.Weighed.{at_most}
 use Rattle.scheme_model.specs.Trees.{name, atom, vector, no_trees}
-use Rattle.scheme_model.specs.Ident.{Ident as Identifier, Inserted}
+use Rattle.scheme_model.specs.Ident.{Inserted}
 use Rattle.syntax_tree.specs.Numbered.{number_of}
 use Rattle.rules_build.specs.declared.fault.BuildFault.TheVariants as fault
 use Rattle.rules_build.specs.declared.plan.Plan.{Plan}
-use Rattle.rules_build.specs.Drafts.{Draft, held, marked, plain, listed, in_vector, Drafts, Ending, ending_parts, ending_makes, tail_of, tree_of, row_of, makes, all_make, IsDraft, AreDrafts}
+use Rattle.rules_build.specs.Drafts.{Draft, Ending, ending_parts, ending_makes, tail_of, tree_of, row_of, makes, all_make, IsDraft, AreDrafts}
 use Rattle.scheme_model.specs.TreeParts.{append}
 use Rattle.syntax_tree.specs.Looks.{PartsStand}
 use Rattle.rules_build.proofs.BuildLaws.{append_nil}
 use Rattle.ls_base.specs.Limits.{max_tree_nodes, max_tree_depth}
 use Rattle.scheme_model.specs.Measures.{tree_size, tree_depth}
-use Rattle.rules_build.specs.Adds.{Adds, AddsAll, AddsEnd, AreNamed, AllCanBeAdded, EndCanBeAdded}
+use Rattle.rules_build.specs.Adds.{Adds, AddsEnd, AllCanBeAdded}
 use Rattle.rules_build.proofs.plan.Plan.TheLaws.{the_size}
 use Rattle.rules_build.proofs.PlanSizes.{vector_above, list_above, list_size, end_above}
-use Rattle.rules_build.proofs.PlanViews.{held_draft, name_draft, atom_draft, vector_draft, list_draft, proper_ending, dotted_ending, behind_ending}
+use Rattle.rules_build.proofs.PlanViews.{held_draft, name_draft, atom_draft, vector_draft, proper_ending, behind_ending}
 use Rattle.rules_build.proofs.DraftRows.{drafts_behind, draft_there, drafts_past, one_size, one_depth}
 use Rattle.rules_build.proofs.AddLaws.{row_none, row_more, row_end, row_fail, row_grows, adds_handed_on, all_handed_on, end_handed_on, adds_on, vector_small, list_small, named_parts, draft_kept, grows_none}
-use Rattle.rules_build.proofs.AddSteps.{err_more, err_after, vector_node, list_node, end_later, parts_before, held_added, row_ready, list_ready, list_can, list_added, row_fault, end_fault, dotted_small, tail_added, tail_fault}
+use Rattle.rules_build.proofs.AddSteps.{err_more, vector_node, end_later, held_added, row_ready, list_ready, list_can, list_added, row_fault, end_fault, dotted_small, tail_added, tail_fault}
 use Rattle.rules_build.proofs.adding.+adding.Goals as goal
 
 -- src/adding.rt:83:5

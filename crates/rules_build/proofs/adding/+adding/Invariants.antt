@@ -1,5 +1,3 @@
-use Rattle.std.proofs.Common.{◌≡◌, ℕ, ◌+◌}
-use Rattle.scheme_model.specs.Trees.{no_trees}
 use Rattle.syntax_tree.specs.Numbered.{number_of}
 use Rattle.rules_build.specs.Drafts.{Drafts, AreDrafts}
 use Rattle.rules_build.proofs.AddLaws.{RowUpTo}

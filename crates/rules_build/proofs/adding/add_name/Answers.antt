@@ -1,4 +1,4 @@
-use Rattle.std.proofs.Common.{◌≡◌, ◌+◌, ap, ◌∙◌, arith}
+use Rattle.std.proofs.Common.{ap, ◌∙◌, arith}
 use Rattle.std.specs.Prelude.{Ok, Err}
 use Rattle.std.specs.Option.{option_map}
 use Rattle.scheme_model.specs.Trees.{name}

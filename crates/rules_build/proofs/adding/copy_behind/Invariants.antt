@@ -1,4 +1,4 @@
-use Rattle.std.proofs.Common.{◌≡◌, ◌++◌, ◌+◌, drop, take, ◌-◌}
+use Rattle.std.proofs.Common.{◌≡◌, ◌++◌, drop}
 use Rattle.rules_build.proofs.adding.copy_behind.Given as goal
 
 abbrev pub invariant-loop-k : goal.invariant-loop-k

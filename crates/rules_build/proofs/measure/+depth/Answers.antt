@@ -1,10 +1,10 @@
-use Rattle.std.proofs.Common.{rules, arith, ◌≡◌, ◌+◌, ◌-◌, ◌≤◌, ℕ, List, Bool, true, false, Option, refl, sym, ap, ◌∙◌, subst}
+use Rattle.std.proofs.Common.{arith, ◌≡◌, ◌+◌, ◌-◌, ℕ, List, false, refl, sym, ap, ◌∙◌, subst}
 use Rattle.std.specs.Prelude.{nat_le, max}
 use Rattle.std.proofs.lemmas.Bool.Decides.{nat_tests}
 use Rattle.scheme_model.specs.Trees.{no_trees}
-use Rattle.scheme_model.specs.Measures.{tree_size, trees_size, tree_depth, trees_depth, tail_depth}
+use Rattle.scheme_model.specs.Measures.{tree_depth, trees_depth, tail_depth}
 use Rattle.rules_build.specs.declared.plan.Plan.{Plan}
-use Rattle.rules_build.specs.Drafts.{spent, Draft, listed, Drafts, Ending, ends, tailed, goes_on, ending_parts, tree_of, row_of, tail_of, IsDraft, AreDrafts}
+use Rattle.rules_build.specs.Drafts.{Draft, listed, Drafts, ends, tailed, goes_on, ending_parts, tree_of, row_of, tail_of, IsDraft, AreDrafts}
 use denote.Param.Weighed.{at_most}
 use Rattle.rules_build.proofs.plan.Plan.TheLaws.{the_size}
 use Rattle.rules_build.proofs.PlanSizes.{vector_above, list_above, tail_above}

@@ -1,14 +1,12 @@
-use Rattle.std.proofs.Common.{rules, arith, ◌≡◌, ◌+◌, ◌-◌, ◌≤◌, ℕ, List, Bool, true, false, Option, refl, sym, ap, ◌∙◌, subst}
-use Rattle.std.specs.Prelude.{nat_le, max}
-use Rattle.std.proofs.lemmas.Bool.Decides.{nat_tests}
+use Rattle.std.proofs.Common.{arith, ◌≡◌, ℕ, List, Option, sym, ap, ◌∙◌, subst}
 use Rattle.scheme_model.specs.Trees.{no_trees}
-use Rattle.scheme_model.specs.Measures.{tree_size, trees_size, tree_depth, trees_depth, tail_depth}
+use Rattle.scheme_model.specs.Measures.{tree_size, trees_size}
 use Rattle.rules_build.specs.declared.plan.Plan.{Plan}
-use Rattle.rules_build.specs.Drafts.{spent, Draft, listed, Drafts, Ending, ends, tailed, goes_on, ending_parts, tree_of, row_of, tail_of, IsDraft, AreDrafts}
+use Rattle.rules_build.specs.Drafts.{spent, Draft, listed, tailed, goes_on, tree_of, row_of, IsDraft, AreDrafts}
 use denote.Param.Weighed.{at_most}
 use Rattle.rules_build.proofs.plan.Plan.TheLaws.{the_size}
 use Rattle.rules_build.proofs.PlanSizes.{vector_above, list_above, tail_above}
-use Rattle.rules_build.proofs.DraftRows.{drafts_behind, draft_there, drafts_past}
+use Rattle.rules_build.proofs.DraftRows.{draft_there, drafts_past}
 use Rattle.rules_build.proofs.PlanViews.{held_draft, name_draft, atom_draft, vector_draft, list_draft, proper_ending, dotted_ending, behind_ending}
 use Rattle.rules_build.proofs.MeasureLaws.{ending_size, listed_size, listed_ends, vector_size, sizes_more, sizes_all}
 use Rattle.rules_build.proofs.measure.+size.Goals as goal

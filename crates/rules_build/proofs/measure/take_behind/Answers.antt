@@ -1,4 +1,4 @@
-use Rattle.std.proofs.Common.{◌≡◌, ◌+◌, rules, arith, sym, ap, ◌∙◌}
+use Rattle.std.proofs.Common.{◌≡◌, ◌+◌, arith, sym, ap, ◌∙◌}
 use Rattle.std.specs.Prelude.{None, not}
 use Rattle.scheme_model.specs.Trees.{list, Trees, Tail}
 use Rattle.scheme_model.specs.Matching.{behind}

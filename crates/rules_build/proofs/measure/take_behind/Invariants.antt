@@ -3,7 +3,7 @@ use Rattle.scheme_model.specs.Trees.{Trees, Tail}
 use Rattle.scheme_model.specs.Matching.{behind}
 use Rattle.scheme_model.specs.Measures.{trees_size, tail_size}
 use Rattle.scheme_model.specs.Ident.{Ident as Identifier}
-use Rattle.syntax_tree.specs.Looks.{PartsStand, EndStands}
+use Rattle.syntax_tree.specs.Looks.{PartsStand}
 use Rattle.rules_build.specs.Drafts.{spent}
 use Rattle.rules_build.proofs.measure.take_behind.Given as goal
 

@@ -1,12 +1,12 @@
-use Rattle.std.proofs.Common.{rules, arith, ◌≡◌, ℕ, ◌+◌, ◌-◌, sym, ap, ◌∙◌, subst}
+use Rattle.std.proofs.Common.{rules, arith, ◌+◌, ◌-◌, sym, ap, ◌∙◌}
 use Rattle.std.specs.Prelude.{◌||◌, Bool}
 use Rattle.std.specs.BTreeSet.{contains}
 use Rattle.std.specs.Ordering.{nat_cmp}
-use Rattle.scheme_model.specs.Trees.{Tree, Trees, Tail, proper}
+use Rattle.scheme_model.specs.Trees.{Tree, Trees, Tail}
 use Rattle.scheme_model.specs.Matching.{behind}
 use Rattle.scheme_model.specs.Building.{stands_in, stands_among, stands_behind}
 use Rattle.scheme_model.specs.Ident.{Ident as Identifier, same_ident}
-use Rattle.syntax_tree.proofs.Looking.{list_parts_within, vector_parts_within, end_within, within_positive, part_there, part_within, split_one, behind_past}
+use Rattle.syntax_tree.proofs.Looking.{end_within, within_positive, part_there, part_within, split_one, behind_past}
 use Rattle.rules_build.proofs.NameLaws.{one_more, or_none, or_assoc}
 use Rattle.rules_build.proofs.Tails.{end_proper, end_dotted, tail_within}
 use Rattle.rules_build.proofs.used.+collect.Goals as goal

@@ -1,4 +1,4 @@
-use Rattle.std.proofs.Common.{◌≡◌, ◌||◌, ◌∙◌, ℕ, List, get_or, take, sym, ap, subst}
+use Rattle.std.proofs.Common.{◌||◌, ◌∙◌, ℕ, List, get_or, take, sym, ap, subst}
 use Rattle.std.specs.Prelude.{Vec}
 use Rattle.std.specs.declared.alloc.Global.{Global}
 use Rattle.std.specs.BTreeSet.{contains}

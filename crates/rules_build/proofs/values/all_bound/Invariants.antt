@@ -1,6 +1,4 @@
-use Rattle.std.proofs.Common.{List, take}
-use Rattle.scheme_model.specs.Matching.{Binding}
-use Rattle.scheme_model.specs.Ident.{Ident as Identifier}
+use Rattle.std.proofs.Common.{take}
 use Rattle.syntax_tree.specs.declared.trees.Work.{Work}
 use Rattle.syntax_tree.specs.declared.trees.table.Region.{Region}
 use Rattle.rules_build.specs.Values.{IsBoundOne, IsBound}

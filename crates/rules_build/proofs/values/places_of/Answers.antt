@@ -1,4 +1,4 @@
-use Rattle.std.proofs.Common.{◌≡◌, ◌+◌, List, drop, sym, ap, ◌∙◌, subst, arith}
+use Rattle.std.proofs.Common.{◌+◌, List, drop, sym, ap, ◌∙◌, subst, arith}
 use Rattle.std.specs.Prelude.{None}
 use Rattle.scheme_model.specs.Matching.{Binding}
 use Rattle.scheme_model.specs.Building.{places_of, agree_with}
@@ -28,8 +28,7 @@ loop-bound-preserved c = λ work region ms are.
 
 pub returns : goal.returns
 returns c = λ work region ms are.
-    let gone = past (IsBound work region) c.loop-bound.bound-index c.args.bounds.now ms are (omega arith) in
-    (
+    let gone = past (IsBound work region) c.loop-bound.bound-index c.args.bounds.now ms are (omega arith) in (
       c.loop-bound.places,
       c.loop-bound.invariant work region ms are ∙ ap (λ (xs : List (Binding Identifier Identifier)). places_of c.loop-bound.places xs) gone,
       c.unwrap_or.ensures ∙ or_zero_is c.loop-bound.places,

@@ -1,5 +1,5 @@
-use Rattle.std.proofs.Common.{◌≡◌, ℕ, ◌+◌, ◌-◌, List, Bool, true, false, Option, Some, None, refl, sym, ap, ◌∙◌, subst, arith}
-use Rattle.std.specs.Prelude.{IsSome, Vec, Ok, Err}
+use Rattle.std.proofs.Common.{◌≡◌, ℕ, ◌+◌, ◌-◌, List, true, false, Option, Some, refl, sym, ap, ◌∙◌, subst, arith}
+use Rattle.std.specs.Prelude.{IsSome, Vec, Ok}
 use Rattle.std.specs.declared.alloc.Global.{Global}
 use Rattle.scheme_model.specs.Identifiers.{Number}
 use Rattle.scheme_model.specs.Trees.{Tree as ModelTree, Trees}
@@ -19,7 +19,7 @@ use Rattle.rules_build.specs.Builds.{inserting, dots_where, Fails, Plans}
 use Rattle.rules_build.proofs.BuildLaws.{vanish_parts}
 use Rattle.rules_build.proofs.DraftLaws.{some_left, vector_plan, list_plan}
 use Rattle.rules_build.proofs.Tails.{end_proper, end_dotted, tail_within}
-use Rattle.rules_build.proofs.WalkLaws.{tree_handed_on, all_handed_on, PartsUpTo, parts_start, parts_dots, parts_more, parts_fail, parts_end, once, plans_same, places_start, places_more, places_fail, places_end, kept_one, vector_fails, vector_planned, list_fails, list_planned, tail_fails, tail_planned, escape_built}
+use Rattle.rules_build.proofs.WalkLaws.{tree_handed_on, all_handed_on, parts_start, parts_dots, parts_more, parts_fail, parts_end, once, plans_same, places_start, places_more, places_fail, places_end, kept_one, vector_fails, vector_planned, list_fails, list_planned, tail_fails, tail_planned, escape_built}
 use Rattle.rules_build.proofs.WalkSteps.{atom_planned, escape_size, escape_inner, upto_same, once_is, once_fails, left_is, left_fails}
 use Rattle.rules_build.proofs.walk.Walk.+walk.Goals as goal
 use Rattle.rules_build.proofs.walk.Walk.+walk.Goals.{parts-then-times-eq0+in_ok-repeated, parts-else-times-eq0+in_ok-used+in_ok-repeated-2}

@@ -1,4 +1,4 @@
-use Rattle.std.proofs.Common.{◌≡◌, ℕ, ◌+◌, ◌*◌, ◌-◌, ◌^◌, List}
+use Rattle.std.proofs.Common.{◌+◌, ◌*◌, ◌-◌, ◌^◌, List}
 use Rattle.scheme_model.specs.Identifiers.{Number}
 use Rattle.scheme_model.specs.Trees.{Tree, Trees}
 use Rattle.scheme_model.specs.RulesShape.{Rules}

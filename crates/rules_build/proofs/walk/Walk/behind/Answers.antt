@@ -1,4 +1,4 @@
-use Rattle.std.proofs.Common.{◌≡◌, sym, ap, ◌∙◌, subst}
+use Rattle.std.proofs.Common.{sym, ap, ◌∙◌, subst}
 use Rattle.rules_build.specs.Drafts.{Draft, is_listed, IsEndedBy}
 use Rattle.rules_build.proofs.PlanViews.{held_draft, name_draft, atom_draft, vector_draft, list_draft}
 use Rattle.rules_build.proofs.EndLaws.{ended_list, ended_held, ended_one}

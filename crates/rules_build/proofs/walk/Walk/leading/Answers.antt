@@ -1,6 +1,6 @@
-use Rattle.std.proofs.Common.{◌≡◌, ◌+◌, ℕ, sym, ap, ◌∙◌, arith}
+use Rattle.std.proofs.Common.{◌≡◌, ◌+◌, sym, ◌∙◌, arith}
 use Rattle.std.specs.Prelude.{false, true}
-use Rattle.scheme_model.specs.RulesShape.{leading, is_dots}
+use Rattle.scheme_model.specs.RulesShape.{is_dots}
 use Rattle.scheme_model.specs.Matching.{behind}
 use Rattle.syntax_tree.proofs.Looking.{part_standing, part_there, split_one, behind_past}
 use Rattle.rules_build.specs.Builds.{dots_where}

@@ -1,4 +1,4 @@
-use Rattle.std.proofs.Common.{◌≡◌, ◌+◌, ◌≤◌, length}
+use Rattle.std.proofs.Common.{◌≡◌, ◌+◌}
 use Rattle.scheme_model.specs.Trees.{Trees}
 use Rattle.scheme_model.specs.RulesShape.{Rules, leading}
 use Rattle.scheme_model.specs.Matching.{behind}
