@@ -1,0 +1,97 @@
+-- What variables stand for at one place of the ellipses around a part of a template.
+use Rattle.std.specs.Prelude.{◌≡◌, ℕ, List, [], ◌∷◌, Option, Some, None, Result, Ok, Err, Vec}
+use Rattle.std.specs.declared.alloc.Global.{Global}
+use Rattle.scheme_model.specs.Matching.{Value, One, Many, Values, no_values, value, Binding}
+use Rattle.scheme_model.specs.Building.{or_zero}
+use Rattle.scheme_model.specs.Ident.{Ident as Identifier}
+use Rattle.syntax_tree.specs.Works.{StandsFor, CanName}
+use Rattle.syntax_tree.specs.Macros.{IsIdent, IsValue, AreValues, IsRest}
+use Rattle.syntax_tree.specs.declared.trees.Work.{Work}
+use Rattle.syntax_tree.specs.declared.trees.table.Region.{Region}
+use Rattle.syntax_tree.specs.declared.trees.nodes.Tree as number
+use Rattle.syntax_tree.specs.declared.rules.Binding as code_binding
+use Rattle.syntax_tree.specs.declared.rules.Binding.TheVariants as bound
+use Rattle.rules_build.specs.declared.values.Bound as code
+use Rattle.rules_build.specs.declared.values.Value as code_value
+use Rattle.rules_build.specs.declared.values.Value.TheVariants as worth
+use Rattle.rules_build.specs.declared.fault.BuildFault.{BuildFault}
+use Rattle.rules_build.specs.declared.fault.BuildFault.TheVariants as fault
+
+-- two lists are as long, and what stands at the same place of them is related
+abbrev pub Paired : {A B : Type 0} → (A → B → Type 0) → List A → List B → Type 0
+Paired R [] [] = Unit {0}
+Paired R [] (y ∷ ys) = ⊥
+Paired R (x ∷ xs) [] = ⊥
+Paired R (x ∷ xs) (y ∷ ys) = R x y × Paired R xs ys
+
+-- nodes of the region may name each node that a binding names
+abbrev mutual
+  pub MayNameValue : Work → Region → code_binding.Binding → Value Identifier → Type 0
+  MayNameValue work region b (One t) =
+      ((v : ℕ) (n : number.Tree) → b ≡ bound.One v n → CanName work region n) × ((v : ℕ) (n : number.Tree) (from : ℕ) → b ≡ bound.Rest v n from → CanName work region n)
+  MayNameValue work region b (Many vs) = (v : ℕ) (list : Vec code_binding.Binding Global) → b ≡ bound.Many v list → MayNameValues work region list.items vs
+
+  pub MayNameValues : Work → Region → List code_binding.Binding → Values Identifier → Type 0
+  MayNameValues work region [] vs = Unit {0}
+  MayNameValues work region (b ∷ bs) no_values = Unit {0}
+  MayNameValues work region (b ∷ bs) (value x xs) = MayNameValue work region b x × MayNameValues work region bs xs
+
+abbrev pub MayNameBindings : Work → Region → List code_binding.Binding → List (Binding Identifier Identifier) → Type 0
+MayNameBindings work region [] ms = Unit {0}
+MayNameBindings work region (b ∷ bs) [] = Unit {0}
+MayNameBindings work region (b ∷ bs) (m ∷ ms) = MayNameValue work region b m.value × MayNameBindings work region bs ms
+
+-- a variable's number stands beside this value, whose nodes may be named
+abbrev pub IsBoundTo : Work → Region → code_binding.Binding → ℕ → Value Identifier → Type 0
+IsBoundTo work region b v x = IsValue work b v x × MayNameValue work region b x
+
+-- the same of values in a row
+abbrev pub AreValuesOf : Work → Region → List code_binding.Binding → Values Identifier → Type 0
+AreValuesOf work region bs vs = (v : ℕ) × AreValues work bs v vs × MayNameValues work region bs vs
+
+-- what a variable stands for
+abbrev pub IsBoundOne : Work → Region → code_binding.Binding → Binding Identifier Identifier → Type 0
+IsBoundOne work region b m = (v : ℕ) × IsIdent work.symbols v m.variable × IsBoundTo work region b v m.value
+
+abbrev pub AreManyBound : Work → Region → List code_binding.Binding → List (Binding Identifier Identifier) → Type 0
+AreManyBound work region = Paired (IsBoundOne work region)
+
+-- what the code has for a value
+abbrev pub IsWorth : Work → Region → code_value.Value → Value Identifier → Type 0
+IsWorth work region (worth.One n) (One t) = StandsFor work n t × CanName work region n
+IsWorth work region (worth.One n) (Many vs) = ⊥
+IsWorth work region (worth.Rest n from) (One t) = IsRest work n from t × CanName work region n
+IsWorth work region (worth.Rest n from) (Many vs) = ⊥
+IsWorth work region (worth.Many list) (One t) = ⊥
+IsWorth work region (worth.Many list) (Many vs) = AreValuesOf work region list.now vs
+
+-- a variable with what it stands for
+abbrev pub IsBound : Work → Region → code.Bound → Binding Identifier Identifier → Type 0
+IsBound work region b m = IsIdent work.symbols b.variable m.variable × IsWorth work region b.value m.value
+
+abbrev pub AreBound : Work → Region → List code.Bound → List (Binding Identifier Identifier) → Type 0
+AreBound work region = Paired (IsBound work region)
+
+abbrev pub IsFound : Work → Region → Option code_value.Value → Option (Value Identifier) → Type 0
+IsFound work region None None = Unit {0}
+IsFound work region None (Some x) = ⊥
+IsFound work region (Some v) None = ⊥
+IsFound work region (Some v) (Some x) = IsWorth work region v x
+
+-- lengths differ, and nothing else is answered
+abbrev pub Differ : {X : Type 0} → Option X → BuildFault → Type 0
+Differ s fault.EllipsisLength = s ≡ None
+Differ s fault.NodeBudget = ⊥
+Differ s fault.DepthBudget = ⊥
+Differ s fault.Full = ⊥
+Differ s fault.Memory = ⊥
+
+-- how many places there are so far, or that variables don't agree
+abbrev pub Agrees : Option (Option ℕ) → Result (Option ℕ) BuildFault → Type 0
+Agrees s (Ok places) = s ≡ Some places
+Agrees s (Err e) = Differ s e
+
+-- how many places an ellipsis has
+abbrev pub HasPlaces : Option (Option ℕ) → Result ℕ BuildFault → Type 0
+HasPlaces s (Ok n) = (places : Option ℕ) × (s ≡ Some places) × (n ≡ or_zero places)
+HasPlaces s (Err e) = Differ s e
