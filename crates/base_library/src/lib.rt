@@ -1,0 +1,7 @@
+//! The names of the standard libraries, and the derived forms as macros (R7RS Appendix A, 4.2, 7.3).
+#![tactic(auto)]
+
+mod libraries;
+mod names;
+
+pub use libraries::standard;
