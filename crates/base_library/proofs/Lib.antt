@@ -1,1 +1,3 @@
 pub mod TextLaws
+pub mod RowLaws
+pub mod MacroLaws

@@ -2,6 +2,11 @@
 #![tactic(auto)]
 
 mod libraries;
+mod macros;
 mod names;
+mod rows;
+mod sketch;
+mod sketches;
 
 pub use libraries::standard;
+pub use macros::{PreludeMacro, prelude};
