@@ -3,7 +3,7 @@ use Rattle.std.proofs.Common.{◌≡◌, ℕ, zero, suc, ◌+◌, ◌*◌, ◌<�
 use Rattle.std.specs.Prelude.{nat_le, ◌&&◌, Result, Ok, Err, IsErrAnd, slice_get}
 use Rattle.std.specs.List.{AllByRecursion}
 use Rattle.std.proofs.lemmas.Bool.Decides.{nat_tests}
-use Rattle.std.proofs.lemmas.List.{take_more}
+use Rattle.std.proofs.lemmas.List.{take_more, map-append}
 use Rattle.ls_base.specs.Limits.{max_tree_depth}
 use Rattle.scheme_model.specs.Trees.{Tree}
 use Rattle.scheme_model.specs.Ident.{Ident as Identifier, Written}
@@ -144,3 +144,20 @@ made_named a b names region count p keeps = record { grows = grows_on a b (with_
 pub makes_begun : {X : Type 0} (old new : Work) (region : Region) (count : ℕ) (P : X → Type 0) (r : Result X PoolFault) (e : PoolFault) → IsErrAnd r (λ f. f ≡ e) → IsBegun old new region count → Fails old count e → Makes old new region count P r
 makes_begun old new region count P (Ok x) e h b f = absurd h
 makes_begun old new region count P (Err g) e h b f = (b, subst (Fails old count) (sym h) f)
+
+-- ---- one more
+
+pub each_next : {X Y : Type 0} (P : X → Y → Type 0) (ys : List Y) (i : ℕ) (d : Y) → i < length ys → (xs new : List X) (x : X) → new ≡ xs ++ x ∷ [] → Each P xs (take i ys) → P x (get_or ys i d) → Each P new (take (i + 1) ys)
+each_next {X} {Y} P ys i d lt xs new x pushed h p =
+    subst (λ (l : List X). Each P l (take (i + 1) ys)) (sym pushed)
+    (subst (λ (l : List Y). Each P (xs ++ x ∷ []) l) (sym (take_more ys i d lt)) (each_push P xs (take i ys) x (get_or ys i d) h p))
+
+pub each_more : {X Y Z : Type 0} (P : X → Y → Type 0) (f : Z → Y) (zs : List Z) (i : ℕ) (d : Z) → i < length zs → (xs new : List X) (x : X) → new ≡ xs ++ x ∷ [] → Each P xs (map f (take i zs)) → P x (f (get_or zs i d)) →
+    Each P new (map f (take (i + 1) zs))
+each_more {X} {Y} P f zs i d lt xs new x pushed h p =
+    let next = ap (map f) (take_more zs i d lt) ∙ map-append f (take i zs) (get_or zs i d ∷ []) in
+    subst (λ (l : List X). Each P l (map f (take (i + 1) zs))) (sym pushed)
+    (subst (λ (l : List Y). Each P (xs ++ x ∷ []) l) (sym next) (each_push P xs (map f (take i zs)) x (f (get_or zs i d)) h p))
+
+pub size_fits : (ss : List Sketch) (i : ℕ) (d : Sketch) → i < length ss → sketches_size (take i ss) + sketch_size (get_or ss i d) ≤ sketches_size ss
+size_fits ss i d lt = let p = size_more ss i d lt in let q = size_part ss (i + 1) in omega arith
