@@ -1,7 +1,10 @@
 -- What macros that are made of sketches stand for, and how making them ends.
 use Rattle.std.specs.Prelude.{◌≡◌, ℕ, ◌+◌, ◌≤◌, List, [], ◌∷◌, map, nat_le, Bool, true, ◌&&◌, None, Some, Result, Ok, Err, slice_get}
 use Rattle.ls_base.specs.Limits.{max_tree_depth}
-use Rattle.scheme_model.specs.Trees.{Tree}
+use Rattle.scheme_model.specs.Trees.{Tree, proper}
+use Rattle.scheme_model.specs.ExpansionFaults.{Fault}
+use Rattle.scheme_model.specs.RulesShape.{Rules, Rule, rules_parts}
+use Rattle.scheme_model.specs.Prelude as model
 use Rattle.scheme_model.specs.Ident.{Ident as Identifier, Written}
 use Rattle.scheme_model.specs.Program.{prelude_unit}
 use Rattle.syntax_tree.specs.Names.{Names}
@@ -16,7 +19,7 @@ use Rattle.datum_reader.specs.Seeding.{Grows, Fails}
 use Rattle.base_library.specs.declared.sketch.Sketch.{Sketch}
 use Rattle.base_library.specs.declared.macros.PreludeMacro.{PreludeMacro}
 use Rattle.base_library.specs.Sketches.{made, row_size}
-use Rattle.base_library.specs.Macros.{RuleLies}
+use Rattle.base_library.specs.Macros.{written, pattern_of, RuleLies}
 
 -- place by place
 abbrev pub Each : {X Y : Type 0} → (X → Y → Type 0) → List X → List Y → Type 0
@@ -52,6 +55,30 @@ pub record IsSketched (work : Work) (region : Region) (m : PreludeMacro) (s : Sk
   pub ellipsis : m.rules.ellipsis ≡ None
   pub literals : Each (IsNamed work.symbols) m.rules.literals (map (λ l. l.now) s.literals.now)
   pub rules : Each (IsPair work region) m.rules.rules (pairs (made s.steps.now))
+
+-- ---- sketches and the macros of the definitions
+
+-- a macro by its name, its literals, and its patterns and templates
+pub record Plain : Type 0 where
+  pub name : List ℕ
+  pub literals : List (List ℕ)
+  pub rules : List (Tree Identifier × Tree Identifier)
+
+abbrev pub sketch_plain : Sketch → Plain
+sketch_plain s = record { name = s.name.now; literals = map (λ l. l.now) s.literals.now; rules = pairs (made s.steps.now) }
+
+abbrev pub read_of : Result (Rules (List ℕ)) (Fault (List ℕ)) → Rules (List ℕ)
+read_of (Ok r) = r
+read_of (Err e) = record { ellipsis = None; literals = []; rules = [] }
+
+abbrev pub read_in : model.PreludeMacro → Rules (List ℕ)
+read_in p = read_of (rules_parts p.parts proper)
+
+abbrev pub pair_of : Rule Identifier → Tree Identifier × Tree Identifier
+pair_of r = (pattern_of r, r.template)
+
+abbrev pub macro_plain : model.PreludeMacro → Plain
+macro_plain p = record { name = p.name; literals = map (λ l. l.name) (read_in p).literals; rules = map pair_of (written (read_in p)).rules }
 
 -- ---- sizes
 

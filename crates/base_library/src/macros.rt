@@ -9,7 +9,7 @@ ghost use Rattle.base_library.specs.Sketched.{Each, IsNamed, IsSketched, paired,
 
 use crate::rows::{UNIT, make_trees};
 use crate::sketch::Sketch;
-use crate::sketches::PRELUDE;
+use crate::sketches::sketches;
 use ls_base::{Items, Mem};
 use std::alloc::Global;
 use syntax_tree::rules::{Rule, Rules};
@@ -43,7 +43,7 @@ pub fn prelude(
         (λ _. live_count work.new ≤ live_count work.old + prelude_nodes) }
     ensures full { result ≡ Err PoolFault.Full → 2 ^ 31 < live_count work.old + prelude_nodes }
 {
-    Ok(add_macros(alloc, work, region, &PRELUDE)?)
+    Ok(add_macros(alloc, work, region, sketches())?)
 }
 
 /// Adds the macros of a row of sketches.

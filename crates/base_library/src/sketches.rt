@@ -1,11 +1,24 @@
 //! The derived forms as macros (R7RS 4.2, 7.3), as sketches of their trees. A name with `%` is in no library.
+ghost use Rattle.std.specs.Prelude.{◌≡◌, true, map};
+ghost use Rattle.scheme_model.specs.Prelude as model;
+ghost use Rattle.base_library.specs.Macros.{prelude_nodes};
+ghost use Rattle.base_library.specs.Sketched.{sketch_plain, macro_plain, sketches_size, all_small};
+
 use crate::sketch::Sketch;
 
 mod binding;
 mod control;
 
 /// All macros, in order.
-pub static PRELUDE: [Sketch; 21] = [
+pub fn sketches() -> &'static [Sketch]
+    ensures macros { map sketch_plain result.now ≡ map macro_plain model.prelude }
+    ensures size { sketches_size result.now ≡ prelude_nodes }
+    ensures small { all_small result.now ≡ true }
+{
+    &PRELUDE
+}
+
+static PRELUDE: [Sketch; 21] = [
     Sketch {
         name: "let",
         literals: &[],
