@@ -25,7 +25,8 @@ use Rattle.datum_reader.proofs.Growing.{grows_itself, grows_on, grows_names, fai
 use Rattle.base_library.specs.declared.sketch.Sketch.{Sketch}
 use Rattle.base_library.specs.declared.macros.PreludeMacro.{PreludeMacro}
 use Rattle.base_library.specs.Sketches.{made, row_size}
-use Rattle.base_library.specs.Sketched.{Each, IsNamed, pairs, paired, IsPair, IsSketched, sketch_size, sketches_size, all_small, IsMade, IsBegun, Makes}
+use Rattle.base_library.specs.Macros.{Each}
+use Rattle.base_library.specs.Sketched.{IsNamed, pairs, paired, IsPair, IsSketched, sketch_size, sketches_size, all_small, IsMade, IsBegun, Makes}
 
 -- ---- place by place
 

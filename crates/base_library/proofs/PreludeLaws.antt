@@ -10,14 +10,15 @@ use Rattle.scheme_model.specs.Prelude as model
 use Rattle.scheme_model.specs.Program.{prelude_unit}
 use Rattle.syntax_tree.specs.Names.{Names}
 use Rattle.syntax_tree.specs.Macros.{identifiers, AreIdents, IsEllipsisOf, AreRules}
+use Rattle.syntax_tree.specs.Works.{StandsFor}
 use Rattle.syntax_tree.specs.declared.trees.Work.{Work}
 use Rattle.syntax_tree.specs.declared.trees.table.Region.{Region}
 use Rattle.syntax_tree.specs.declared.rules.Rule as code_rule
 use Rattle.base_library.specs.declared.sketch.Sketch.{Sketch}
 use Rattle.base_library.specs.declared.macros.PreludeMacro.{PreludeMacro}
 use Rattle.base_library.specs.Sketches.{made}
-use Rattle.base_library.specs.Macros.{written, IsMacro, AreMacros, AllChecked, RuleLies, AllLieIn}
-use Rattle.base_library.specs.Sketched.{Each, IsNamed, IsPair, IsSketched, pairs, Plain, sketch_plain, read_in, pair_of, macro_plain}
+use Rattle.base_library.specs.Macros.{Each, pattern_of, written, IsMacro, AreMacros, AllChecked, RuleLies, AllLieIn}
+use Rattle.base_library.specs.Sketched.{IsNamed, IsPair, IsSketched, pairs, Plain, sketch_plain, read_in, pair_of, macro_plain}
 
 -- ---- the macros of the definitions have the shapes of rules
 
@@ -45,21 +46,28 @@ pair_rules work region (r ∷ rs) [] h = absurd h
 pair_rules work region (r ∷ rs) (q ∷ qs) h =
     (record { head = Written prelude_unit (codes "_"); head_place = None; place = None; pattern = h.0.pattern; template = h.0.template }, pair_rules work region rs qs h.1)
 
+pair_patterns : (work : Work) (region : Region) (rs : List code_rule.Rule) (qs : List (Rule Identifier)) → Each (IsPair work region) rs (map pair_of qs) → Each (λ (c : code_rule.Rule) (r : Rule Identifier). StandsFor work c.pattern (pattern_of r)) rs qs
+pair_patterns work region [] [] h = tt
+pair_patterns work region [] (q ∷ qs) h = absurd h
+pair_patterns work region (r ∷ rs) [] h = absurd h
+pair_patterns work region (r ∷ rs) (q ∷ qs) h = (h.0.pattern, pair_patterns work region rs qs h.1)
+
 macro_is : (work : Work) (region : Region) (m : PreludeMacro) (s : Sketch) (p : model.PreludeMacro) → IsSketched work region m s → sketch_plain s ≡ macro_plain p → IsReadable p → IsMacro work m p
-macro_is work region m s p k e r = record {
-  name = k.name ∙ ap (λ (v : Plain). Some v.name) e;
-  read = read_in p;
-  shape = r.shape;
-  checked = r.checked;
-  rules = record {
-    ellipsis = subst (λ (o : Option ℕ). IsEllipsisOf work.symbols o (option_map (Written prelude_unit) (read_in p).ellipsis)) (sym k.ellipsis)
-        (subst (λ (x : Option (List ℕ)). IsEllipsisOf work.symbols None (option_map (Written prelude_unit) x)) (sym r.own) tt);
-    literals = named_idents work.symbols m.rules.literals (read_in p).literals
-        (subst (λ (l : List (List ℕ)). Each (IsNamed work.symbols) m.rules.literals l) (ap (λ (v : Plain). v.literals) e) k.literals);
-    rules = pair_rules work region m.rules.rules (written (read_in p)).rules
-        (subst (λ (l : List (Tree Identifier × Tree Identifier)). Each (IsPair work region) m.rules.rules l) (ap (λ (v : Plain). v.rules) e) k.rules);
-  };
-}
+macro_is work region m s p k e r =
+    let pairs_are = subst (λ (l : List (Tree Identifier × Tree Identifier)). Each (IsPair work region) m.rules.rules l) (ap (λ (v : Plain). v.rules) e) k.rules in record {
+      name = k.name ∙ ap (λ (v : Plain). Some v.name) e;
+      read = read_in p;
+      shape = r.shape;
+      checked = r.checked;
+      rules = record {
+        ellipsis = subst (λ (o : Option ℕ). IsEllipsisOf work.symbols o (option_map (Written prelude_unit) (read_in p).ellipsis)) (sym k.ellipsis)
+            (subst (λ (x : Option (List ℕ)). IsEllipsisOf work.symbols None (option_map (Written prelude_unit) x)) (sym r.own) tt);
+        literals = named_idents work.symbols m.rules.literals (read_in p).literals
+            (subst (λ (l : List (List ℕ)). Each (IsNamed work.symbols) m.rules.literals l) (ap (λ (v : Plain). v.literals) e) k.literals);
+        rules = pair_rules work region m.rules.rules (written (read_in p)).rules pairs_are;
+      };
+      patterns = pair_patterns work region m.rules.rules (written (read_in p)).rules pairs_are;
+    }
 
 -- ---- all macros
 

@@ -9,7 +9,7 @@ use Rattle.scheme_model.specs.Ident.{Ident as Identifier, Written}
 use Rattle.scheme_model.specs.Prelude as model
 use Rattle.scheme_model.specs.Program.{prelude_unit}
 use Rattle.syntax_tree.specs.Macros.{identifiers, RulesFor, AreChecked}
-use Rattle.syntax_tree.specs.Works.{LiesIn}
+use Rattle.syntax_tree.specs.Works.{StandsFor, LiesIn}
 use Rattle.syntax_tree.specs.declared.trees.Work.{Work}
 use Rattle.syntax_tree.specs.declared.trees.table.Region.{Region}
 use Rattle.syntax_tree.specs.declared.rules.Rule as code_rule
@@ -22,13 +22,25 @@ use Rattle.base_library.specs.Sketches.{name_tree}
 abbrev pub written : Rules (List ℕ) → Rules Identifier
 written r = rules_map (Written prelude_unit) r
 
--- its name is that of this macro, and its rules are those that this macro's parts have, which pass the check
+-- place by place
+abbrev pub Each : {X Y : Type 0} → (X → Y → Type 0) → List X → List Y → Type 0
+Each P [] [] = Unit {0}
+Each P [] (y ∷ ys) = ⊥
+Each P (x ∷ xs) [] = ⊥
+Each P (x ∷ xs) (y ∷ ys) = P x y × Each P xs ys
+
+-- a pattern, with the first part that takes no part in matching
+abbrev pub pattern_of : Rule Identifier → Tree Identifier
+pattern_of r = list (tree (name_tree (codes "_")) r.parts) r.tail None
+
+-- its name is that of this macro, and its rules are those that this macro's parts have, which pass the check; no tree has a place
 pub record IsMacro (work : Work) (m : PreludeMacro) (p : model.PreludeMacro) : Type 0 where
   pub name : slice_get work.symbols.symbols m.name ≡ Some p.name
   pub read : Rules (List ℕ)
   pub shape : rules_parts p.parts proper ≡ Ok read
   pub checked : check_rules identifiers (written read) (written read).rules ≡ Ok tt
   pub rules : RulesFor work m.rules (written read)
+  pub patterns : Each (λ c r. StandsFor work c.pattern (pattern_of r)) m.rules.rules (written read).rules
 
 -- these are the macros, in order
 abbrev pub AreMacros : Work → List PreludeMacro → List model.PreludeMacro → Type 0
@@ -50,10 +62,6 @@ abbrev pub AllLieIn : Work → Region → List PreludeMacro → Type 0
 AllLieIn work region ms = AllByRecursion (λ m. AllByRecursion (RuleLies work region) m.rules.rules) ms
 
 -- ---- how many nodes they have
-
--- a pattern, with the first part that takes no part in matching
-abbrev pub pattern_of : Rule Identifier → Tree Identifier
-pattern_of r = list (tree (name_tree (codes "_")) r.parts) r.tail None
 
 abbrev pub rules_size : List (Rule Identifier) → ℕ
 rules_size [] = 0

@@ -19,14 +19,7 @@ use Rattle.datum_reader.specs.Seeding.{Grows, Fails}
 use Rattle.base_library.specs.declared.sketch.Sketch.{Sketch}
 use Rattle.base_library.specs.declared.macros.PreludeMacro.{PreludeMacro}
 use Rattle.base_library.specs.Sketches.{made, row_size}
-use Rattle.base_library.specs.Macros.{written, pattern_of, RuleLies}
-
--- place by place
-abbrev pub Each : {X Y : Type 0} → (X → Y → Type 0) → List X → List Y → Type 0
-Each P [] [] = Unit {0}
-Each P [] (y ∷ ys) = ⊥
-Each P (x ∷ xs) [] = ⊥
-Each P (x ∷ xs) (y ∷ ys) = P x y × Each P xs ys
+use Rattle.base_library.specs.Macros.{Each, written, pattern_of, RuleLies}
 
 -- the number of an identifier of the prelude
 abbrev pub IsNamed : Names → ℕ → List ℕ → Type 0

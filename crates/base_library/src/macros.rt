@@ -4,8 +4,8 @@ ghost use Rattle.ls_base.specs.Limits.{max_tree_depth};
 ghost use Rattle.scheme_model.specs.Prelude as model;
 ghost use Rattle.syntax_tree.specs.Names.{KeepsNames};
 ghost use Rattle.syntax_tree.specs.Works.{IsOpened, KeepsTrees, SameRegions, AddsIn, live_count};
-ghost use Rattle.base_library.specs.Macros.{AreMacros, AllChecked, AllLieIn, prelude_nodes};
-ghost use Rattle.base_library.specs.Sketched.{Each, IsNamed, IsSketched, paired, sketch_size, sketches_size, all_small, Makes};
+ghost use Rattle.base_library.specs.Macros.{Each, AreMacros, AllChecked, AllLieIn, prelude_nodes};
+ghost use Rattle.base_library.specs.Sketched.{IsNamed, IsSketched, paired, sketch_size, sketches_size, all_small, Makes};
 
 use crate::rows::{UNIT, make_trees};
 use crate::sketch::Sketch;
@@ -13,7 +13,7 @@ use crate::sketches::sketches;
 use ls_base::{Items, Mem};
 use std::alloc::Global;
 use syntax_tree::rules::{Rule, Rules};
-use syntax_tree::symbols::{Ident, IdNo, SymNo, Symbols};
+use syntax_tree::symbols::{IdNo, Ident, SymNo, Symbols};
 use syntax_tree::trees::{PoolFault, Region, Tree, Work};
 
 /// A macro of the prelude: its name and its rules.

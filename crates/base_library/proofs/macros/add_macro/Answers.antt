@@ -5,7 +5,8 @@ use Rattle.syntax_tree.specs.declared.rules.Rule as code_rule
 use Rattle.syntax_tree.proofs.WorkLaws.{names_keep}
 use Rattle.datum_reader.proofs.Growing.{names_on}
 use Rattle.base_library.specs.Sketches.{made}
-use Rattle.base_library.specs.Sketched.{Each, IsPair, IsSketched, pairs, paired, sketch_size, IsMade}
+use Rattle.base_library.specs.Macros.{Each}
+use Rattle.base_library.specs.Sketched.{IsPair, IsSketched, pairs, paired, sketch_size, IsMade}
 use Rattle.base_library.proofs.MacroLaws.{named_kept, pairs_kept, pairs_stand, made_named, made_begun, makes_begun}
 use Rattle.base_library.proofs.macros.add_macro.Goals as goal
 

@@ -2,7 +2,8 @@ use Rattle.std.proofs.Common.{◌+◌, [], take, arith, get_or}
 use Rattle.syntax_tree.specs.declared.trees.faults.PoolFault.TheVariants as fault
 use Rattle.datum_reader.proofs.Growing.{fails_more}
 use Rattle.base_library.specs.declared.sketch.Sketch.{Sketch}
-use Rattle.base_library.specs.Sketched.{Each, IsSketched, sketch_size, sketches_size}
+use Rattle.base_library.specs.Macros.{Each}
+use Rattle.base_library.specs.Sketched.{IsSketched, sketch_size, sketches_size}
 use Rattle.base_library.proofs.MacroLaws.{each_next, sketched_kept, small_at, size_more, size_fits, begun_more, made_on, made_begun, makes_begun}
 use Rattle.base_library.proofs.macros.add_macros.Goals as goal
 

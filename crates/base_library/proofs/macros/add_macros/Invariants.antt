@@ -1,5 +1,6 @@
 use Rattle.std.proofs.Common.{take}
-use Rattle.base_library.specs.Sketched.{Each, IsSketched, IsMade, sketches_size}
+use Rattle.base_library.specs.Macros.{Each}
+use Rattle.base_library.specs.Sketched.{IsSketched, IsMade, sketches_size}
 use Rattle.base_library.proofs.macros.add_macros.Given as goal
 
 abbrev pub invariant-loop-sketch : goal.invariant-loop-sketch

@@ -1,6 +1,7 @@
 use Rattle.std.proofs.Common.{map, take}
 use Rattle.syntax_tree.specs.Names.{KeepsNames}
-use Rattle.base_library.specs.Sketched.{Each, IsNamed}
+use Rattle.base_library.specs.Macros.{Each}
+use Rattle.base_library.specs.Sketched.{IsNamed}
 use Rattle.base_library.proofs.macros.literals_of.Given as goal
 
 abbrev pub invariant-loop-name : goal.invariant-loop-name

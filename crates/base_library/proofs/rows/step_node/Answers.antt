@@ -23,7 +23,7 @@ returns-in_err-name_node-in-Name c = λ start ts h.
     let fails = c.in_err-name_node-in-Name in
     readies_broken start new r ts c.args.step c.args.trees.now.items c.from_residual.result fault.Memory c.from_residual.ensures.1
     (subst (λ (s : Step). Breaks start new r (after ts s) fault.Memory) (sym c.in-Name.is)
-        (leaf_broken start w r ts c.args.trees.now.items h c.name_node.new.symbols (name_tree c.in-Name.name.now) fails.field-0.0 fails.ensures))
+    (leaf_broken start w r ts c.args.trees.now.items h c.name_node.new.symbols (name_tree c.in-Name.name.now) fails.field-0.0 fails.ensures))
 
 pub returns-in_ok-name_node-in-Name : goal.returns-in_ok-name_node-in-Name
 returns-in_ok-name_node-in-Name c = λ start ts h.
@@ -61,7 +61,7 @@ returns-in_ok-items-in-List c = λ start ts h.
     let same = sym (as_many w.trees.nodes w.symbols ts ns h.stand) in
     subst (λ (s : Step). IsReady start w r (left_by ts s) (tree_by ts s) c.taken.new.trees.items (node.List done.items None None)) (sym c.in-List.is)
     (gathered start w r ts ns h w (length ts - n) proper (record { grows = grows_itself w r; names = refl; nodes = omega arith }) None tt tt c.taken.new.trees.items done.items
-        (done.ensures.left ∙ ap (λ (m : ℕ). take (m - n) ns) same) (done.ensures.taken ∙ ap (λ (m : ℕ). drop (m - n) ns) same))
+    (done.ensures.left ∙ ap (λ (m : ℕ). take (m - n) ns) same) (done.ensures.taken ∙ ap (λ (m : ℕ). drop (m - n) ns) same))
 
 -- ---- lists with a tail
 
@@ -81,7 +81,7 @@ returns-in_err-add_name-in-Dotted c = λ start ts h.
     let e = fails.field-0.0 in
     readies_broken start new r ts c.args.step c.taken-in-Dotted.new.trees.items c.from_residual-in_err-add_name-in-Dotted.result e c.from_residual-in_err-add_name-in-Dotted.ensures.1
     (subst (λ (s : Step). Breaks start new r (after ts s) e) (sym c.in-Dotted.is)
-        (tail_broken start w r ts c.args.trees.now.items h new (length ts - c.in-Dotted.count) (dotted (name_tree c.in-Dotted.name.now)) e fails.ensures.0 fails.ensures.1))
+    (tail_broken start w r ts c.args.trees.now.items h new (length ts - c.in-Dotted.count) (dotted (name_tree c.in-Dotted.name.now)) e fails.ensures.0 fails.ensures.1))
 
 pub returns-in_ok-add_name-in-Dotted : goal.returns-in_ok-add_name-in-Dotted
 returns-in_ok-add_name-in-Dotted c = λ start ts h.
@@ -95,4 +95,4 @@ returns-in_ok-add_name-in-Dotted c = λ start ts h.
     let same = sym (as_many w.trees.nodes w.symbols ts ns h.stand) in
     subst (λ (s : Step). IsReady start new r (left_by ts s) (tree_by ts s) c.taken-in-Dotted.new.trees.items (node.List items.items (Some done.field-0) None)) (sym c.in-Dotted.is)
     (gathered start w r ts ns h new (length ts - n) (dotted (name_tree c.in-Dotted.name.now)) done.ensures.0 (Some done.field-0) (refl, done.ensures.1) (done.ensures.2, tt) c.taken-in-Dotted.new.trees.items items.items
-        (items.ensures.left ∙ ap (λ (m : ℕ). take (m - n) ns) same) (items.ensures.taken ∙ ap (λ (m : ℕ). drop (m - n) ns) same))
+    (items.ensures.left ∙ ap (λ (m : ℕ). take (m - n) ns) same) (items.ensures.taken ∙ ap (λ (m : ℕ). drop (m - n) ns) same))
