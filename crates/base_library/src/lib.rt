@@ -3,8 +3,8 @@
 
 mod libraries;
 mod macros;
+mod making;
 mod names;
-mod rows;
 mod sketch;
 mod sketches;
 

@@ -7,7 +7,7 @@ ghost use Rattle.syntax_tree.specs.Works.{IsOpened, KeepsTrees, SameRegions, Add
 ghost use Rattle.base_library.specs.Macros.{Each, AreMacros, AllChecked, AllLieIn, prelude_nodes};
 ghost use Rattle.base_library.specs.Sketched.{IsNamed, IsSketched, paired, sketch_size, sketches_size, all_small, Makes};
 
-use crate::rows::{UNIT, make_trees};
+use crate::making::{UNIT, make_trees};
 use crate::sketch::Sketch;
 use crate::sketches::sketches;
 use ls_base::{Items, Mem};

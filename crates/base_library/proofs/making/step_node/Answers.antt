@@ -11,7 +11,7 @@ use Rattle.base_library.specs.declared.sketch.Step.{Step}
 use Rattle.base_library.specs.Sketches.{name_tree, left_by, tree_by, after}
 use Rattle.base_library.specs.Rows.{IsReady, Breaks}
 use Rattle.base_library.proofs.RowLaws.{as_many, nothing_done, leaf_ready, leaf_broken, gathered, tail_broken, readies_broken}
-use Rattle.base_library.proofs.rows.step_node.Goals as goal
+use Rattle.base_library.proofs.making.step_node.Goals as goal
 
 -- ---- leaves
 

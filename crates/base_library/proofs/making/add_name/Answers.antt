@@ -3,7 +3,7 @@ use Rattle.syntax_tree.specs.declared.trees.faults.PoolFault.{PoolFault}
 use Rattle.syntax_tree.specs.declared.trees.faults.PoolFault.TheVariants as fault
 use Rattle.datum_reader.proofs.Growing.{handed_on, leaf_failed, leaf_prepared, interns_keep, put_last, not_put}
 use Rattle.base_library.specs.Sketches.{name_tree}
-use Rattle.base_library.proofs.rows.add_name.Goals as goal
+use Rattle.base_library.proofs.making.add_name.Goals as goal
 
 pub returns-in_err-node : goal.returns-in_err-node
 returns-in_err-node c =

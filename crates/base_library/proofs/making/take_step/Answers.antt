@@ -1,7 +1,7 @@
 use Rattle.std.proofs.Common.{◌∷◌, [], arith}
 use Rattle.base_library.specs.Sketches.{left_by, tree_by}
 use Rattle.base_library.proofs.RowLaws.{size_append, depth_size, put_on}
-use Rattle.base_library.proofs.rows.take_step.Goals as goal
+use Rattle.base_library.proofs.making.take_step.Goals as goal
 
 pub add-requires-clause-small : goal.add-requires-clause-small
 add-requires-clause-small c =

@@ -11,7 +11,7 @@ use Rattle.base_library.specs.declared.sketch.Step.TheVariants as step
 use Rattle.base_library.specs.Sketches.{made, after}
 use Rattle.base_library.specs.Rows.{Holds}
 use Rattle.base_library.proofs.RowLaws.{made_next, small_step, broken_whole, stopped}
-use Rattle.base_library.proofs.rows.make_trees.Goals as goal
+use Rattle.base_library.proofs.making.make_trees.Goals as goal
 
 abbrev none : Step
 none = step.Name (record { ref_ptr = (0, 0); now = [] })
