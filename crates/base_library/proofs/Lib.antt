@@ -1,0 +1,4 @@
+pub mod TextLaws
+pub mod RowLaws
+pub mod MacroLaws
+pub mod PreludeLaws

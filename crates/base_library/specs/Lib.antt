@@ -1,0 +1,5 @@
+pub mod Texts
+pub mod Sketches
+pub mod Rows
+pub mod Macros
+pub mod Sketched
