@@ -7,7 +7,6 @@ use Rattle.scheme_model.specs.Keywords.{CoreKeyword, IsQuote, IsQuasiquote, IsLa
 use Rattle.scheme_model.specs.Shapes.{Formals, Clause, DefinitionShape, Variable, Procedure as procedure, RecordShape, LocalMacros}
 use Rattle.scheme_model.specs.Quasiquote.{Pieces, RowPieces}
 use Rattle.scheme_model.specs.Ident.{Ident as Identifier}
-use Rattle.syntax_tree.specs.Macros.{IsIdent}
 use Rattle.syntax_tree.specs.Works.{StandsFor}
 use Rattle.syntax_tree.specs.declared.trees.Work.{Work}
 use Rattle.syntax_tree.specs.declared.trees.nodes.Tree as number
@@ -84,7 +83,7 @@ ShapeFor work x Inclusion = x ≡ shapes.Include
 -- a fault of the code is that of the definition; want of memory says nothing
 abbrev pub Refuses : {Y : Type 0} → Work → CoreFault → Result Y (Fault Identifier) → Type 0
 Refuses work fault.BadForm s = s ≡ Err BadForm
-Refuses work (fault.DuplicateBinder n) s = (i : Named Identifier) × (s ≡ Err (DuplicateBinder i)) × IsIdent work.symbols n i.name
+Refuses work (fault.DuplicateBinder n) s = (i : Named Identifier) × (s ≡ Err (DuplicateBinder i)) × IsName work n i
 Refuses work fault.BadPlace s = s ≡ Err BadPlace
 Refuses work fault.BadRecord s = s ≡ Err BadRecord
 Refuses work fault.BadQuasi s = s ≡ Err BadQuasi
