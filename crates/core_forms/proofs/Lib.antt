@@ -7,3 +7,4 @@ pub mod Holes
 pub mod Finding
 mod FormRows
 pub mod Fields
+pub mod Naming

@@ -1,6 +1,6 @@
 //! Quasiquoted data (R7RS 4.2.8): what is unquoted in them at the outermost level. A mark's form is the rest of the list from the
 //! mark on.
-ghost use Rattle.std.specs.Prelude.{◌≡◌, ℕ, ◌+◌, ◌^◌, ◌<◌, ◌≤◌, length, Option, IfOk};
+ghost use Rattle.std.specs.Prelude.{◌≡◌, ℕ, ◌+◌, ◌^◌, ◌<◌, ◌≤◌, length, Option, IfOk, OnOk};
 ghost use Rattle.std.specs.BTreeMap.{get};
 ghost use Rattle.std.specs.Ordering.{nat_cmp};
 ghost use Rattle.scheme_model.specs.declared.Occ.{Occ};
@@ -9,10 +9,12 @@ ghost use Rattle.scheme_model.specs.Shapes.{one_of};
 ghost use Rattle.scheme_model.specs.Matching.{behind};
 ghost use Rattle.scheme_model.specs.Quasiquote.{Mark, hole_of, pieces_of, row_of, parts_of, tail_of, quasi_of};
 ghost use Rattle.scheme_model.specs.Ident.{Ident as Identifier};
-ghost use Rattle.syntax_tree.specs.Looks.{PartsStand, EndStands};
-ghost use Rattle.syntax_tree.specs.Works.{StandsFor, IsStanding};
+ghost use Rattle.syntax_tree.specs.Looks.{PartsStand, EndStands, AllNamed, EndNamed};
+ghost use Rattle.syntax_tree.specs.Works.{StandsFor, IsStanding, CanName};
 ghost use Rattle.core_forms.specs.Marks.{kind_of, kind_if_any, mark_as, mark_of_tree, step_by, IsNear, keyword_by_number, AreMarks, TellsMarks, CanFind, CanFindParts, CanFindRow};
 ghost use Rattle.core_forms.specs.Ends.{Ends, HasHoles, AddsPieces, AddsRow};
+ghost use Rattle.core_forms.specs.Named.{TreesNamed};
+ghost use Rattle.syntax_tree.specs.declared.trees.table.Region.{Region};
 
 use crate::fault::CoreFault;
 use crate::shape::{CoreKeyword, QuasiMark};
@@ -48,8 +50,9 @@ pub fn holes_of(
     datum: Tree,
 ) -> Result<Vec<Tree>, CoreFault>
     requires { IsStanding work.now datum }
-    ensures { (mark : Identifier → Option Mark) (t : ModelTree Identifier) → AreMarks work.now marks.now mark → StandsFor work.now datum t →
+    ensures read { (mark : Identifier → Option Mark) (t : ModelTree Identifier) → AreMarks work.now marks.now mark → StandsFor work.now datum t →
         Ends work.now (HasHoles work.now) (quasi_of mark t) result }
+    ensures named { (region : Region) → CanName work.now region datum → IfOk result (TreesNamed work.now region) }
 {
     let told = by_number(alloc, marks)?;
     let depth = work.depth(datum);
@@ -84,8 +87,10 @@ fn find(
     holes: &mut Vec<Tree>,
 ) -> Result<(), CoreFault>
     requires { CanFind work.now tree level left }
-    ensures { (mark : Identifier → Option Mark) (t : ModelTree Identifier) → TellsMarks work.now told.now mark → StandsFor work.now tree t →
+    ensures read { (mark : Identifier → Option Mark) (t : ModelTree Identifier) → TellsMarks work.now told.now mark → StandsFor work.now tree t →
         AddsPieces work.now holes.old.items holes.new.items (pieces_of mark t level element) result }
+    ensures named { (region : Region) → CanName work.now region tree → AllNamed work.now region holes.old.items →
+        OnOk result (AllNamed work.now region holes.new.items) }
 {
     match look_at(work, tree) {
         Look::Name(_) => Ok(()),
@@ -115,8 +120,10 @@ fn find_parts(
     holes: &mut Vec<Tree>,
 ) -> Result<(), CoreFault>
     requires { CanFindParts work.now items.now level left }
-    ensures { (mark : Identifier → Option Mark) (ts : Trees Identifier) → TellsMarks work.now told.now mark → PartsStand work.now items.now ts →
+    ensures read { (mark : Identifier → Option Mark) (ts : Trees Identifier) → TellsMarks work.now told.now mark → PartsStand work.now items.now ts →
         AddsRow work.now holes.old.items holes.new.items (parts_of mark ts level) result }
+    ensures named { (region : Region) → AllNamed work.now region items.now → AllNamed work.now region holes.old.items →
+        OnOk result (AllNamed work.now region holes.new.items) }
 {
     for k in 0..items.len() {
         find(work, told, items[k], level, true, left, holes)?;
@@ -137,9 +144,11 @@ fn find_row(
     holes: &mut Vec<Tree>,
 ) -> Result<(), CoreFault>
     requires { CanFindRow work.now items.now end level left }
-    ensures { (mark : Identifier → Option Mark) (ts : Trees Identifier) (tail : Tail Identifier) → TellsMarks work.now told.now mark →
+    ensures read { (mark : Identifier → Option Mark) (ts : Trees Identifier) (tail : Tail Identifier) → TellsMarks work.now told.now mark →
         PartsStand work.now items.now ts → EndStands work.now end tail →
         AddsRow work.now holes.old.items holes.new.items (row_of mark ts tail (tail_of mark tail) level element) result }
+    ensures named { (region : Region) → AllNamed work.now region items.now → EndNamed work.now region end → AllNamed work.now region holes.old.items →
+        OnOk result (AllNamed work.now region holes.new.items) }
 {
     let mut inner = level;
     let mut first = element;
@@ -167,9 +176,11 @@ fn hole_at(
     holes: &mut Vec<Tree>,
 ) -> Result<(), CoreFault>
     requires { at ≤ length items.now }
-    ensures { (i : Identifier) (o : Option Occ) (ts : Trees Identifier) (tail : Tail Identifier) → PartsStand work.now items.now ts →
+    ensures read { (i : Identifier) (o : Option Occ) (ts : Trees Identifier) (tail : Tail Identifier) → PartsStand work.now items.now ts →
         EndStands work.now end tail →
         AddsRow work.now holes.old.items holes.new.items (hole_of i o (one_of (behind at ts) tail)) result }
+    ensures named { (region : Region) → AllNamed work.now region items.now → AllNamed work.now region holes.old.items →
+        OnOk result (AllNamed work.now region holes.new.items) }
 {
     if items.len() != at + 1 {
         return Err(CoreFault::BadQuasi);

@@ -13,7 +13,7 @@ alone n = Ok (n, [])
 pub returns-in_ok-name_of-in-Name : goal.returns-in_ok-name_of-in-Name
 returns-in_ok-name_of-in-Name c = λ t stands.
     let w = c.args.work.now in
-    let l = c.in-Name.ensures t stands in
+    let l = c.in-Name.ensures.look t stands in
     let n = c.in_ok-name_of-in-Name.ensures t stands in (
       (n.0, []),
       ap (λ (x : Tree Identifier). constructor_of x) l.2
