@@ -1,6 +1,5 @@
 -- What binders, uses and macros of the code stand for, in a form of a unit.
-use Rattle.std.specs.Prelude.{◌≡◌, ℕ, List, [], ◌∷◌, Option, Some, None, Vec}
-use Rattle.scheme_model.specs.Identifiers.{Number}
+use Rattle.std.specs.Prelude.{◌≡◌, ℕ, List, [], ◌∷◌}
 use Rattle.scheme_model.specs.Cores.{Target, Bound, LocalNumber, Definition, Binder, RuleLeaf, MacroDef, FieldUse, MacroUse}
 use Rattle.syntax_tree.specs.Names.{Names}
 use Rattle.syntax_tree.specs.Macros.{IsIdent, RulesFor}
