@@ -6,7 +6,7 @@ use Rattle.scheme_model.specs.Trees.{Tree, name, atom, list, vector, Trees, no_t
 use Rattle.scheme_model.specs.ExpansionFaults.{Named, Fault, BadForm, DuplicateBinder, ◌>>◌}
 use Rattle.scheme_model.specs.Shapes.{Clause, FieldShape as ModelField, LocalMacros, RecordShape, is_among, distinct, distinct_from, all_among, list_of, proper_of, some_of, named_tree_of, bindings_of, local_macros_of}
 use Rattle.scheme_model.specs.Ident.{Ident as Identifier, same_ident}
-use Rattle.syntax_tree.specs.Names.{Names, AreToldApart}
+use Rattle.syntax_tree.specs.Names.{AreToldApart}
 use Rattle.syntax_tree.specs.Macros.{IsIdent, AreIdents}
 use Rattle.syntax_tree.specs.declared.trees.Work.{Work}
 use Rattle.syntax_tree.proofs.RoleLaws.{same_by_number, among_by_number}

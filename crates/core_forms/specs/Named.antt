@@ -45,7 +45,7 @@ ChoicesNamed work region cs = AllByRecursion (ChoiceNamed work region) cs.items
 -- all trees of a shape
 abbrev pub ShapeNamed : Work → Region → code.CoreShape → Type 0
 ShapeNamed work region (shapes.Quote n) = CanName work region n
-ShapeNamed work region (shapes.Quasi n ns) = CanName work region n × TreesNamed work region ns
+ShapeNamed work region (shapes.Quasi n ns places) = CanName work region n × TreesNamed work region ns
 ShapeNamed work region (shapes.Lambda c) = ClauseNamed work region c
 ShapeNamed work region (shapes.CaseLambda cs) = ClausesNamed work region cs
 ShapeNamed work region (shapes.If ns) = TreesNamed work region ns

@@ -110,8 +110,12 @@ fn quasiquotation(
     ensures named { (region : Region) → AllNamed work.now region items.now → IfOk result (ShapeNamed work.now region) }
 {
     let datum = one_of(work, items, end)?;
-    let parts = holes_of(alloc, work, marks, datum)?;
-    Ok(CoreShape::Quasi { datum, parts })
+    let found = holes_of(alloc, work, marks, datum)?;
+    Ok(CoreShape::Quasi {
+        datum,
+        parts: found.trees,
+        places: found.places,
+    })
 }
 
 /// `(set! id e)`.

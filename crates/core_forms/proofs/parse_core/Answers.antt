@@ -1,5 +1,5 @@
-use Rattle.std.proofs.Common.{◌≡◌, List, ap, sym, subst, ◌∙◌}
-use Rattle.scheme_model.specs.Trees.{Tree, list, Trees, Tail}
+use Rattle.std.proofs.Common.{List, ap, sym, subst, ◌∙◌}
+use Rattle.scheme_model.specs.Trees.{Tree, list, Trees}
 use Rattle.scheme_model.specs.Ident.{Ident as Identifier}
 use Rattle.core_forms.specs.Forms.{shape_of, shape_in}
 use Rattle.core_forms.specs.declared.shape.QuasiMark.{QuasiMark}

@@ -1,5 +1,5 @@
-use Rattle.std.proofs.Common.{sym, ap, ◌∙◌, subst, List, refl}
-use Rattle.scheme_model.specs.Trees.{Trees, Tail, tree, proper}
+use Rattle.std.proofs.Common.{sym, ap, ◌∙◌, subst, List}
+use Rattle.scheme_model.specs.Trees.{Trees, Tail, tree}
 use Rattle.scheme_model.specs.Ident.{Ident as Identifier}
 use Rattle.syntax_tree.specs.Looks.{PartsStand, AllNamed}
 use Rattle.syntax_tree.specs.declared.trees.nodes.Tree as number

@@ -9,6 +9,6 @@ use Rattle.core_forms.proofs.Reading.{UpTo}
 use Rattle.core_forms.proofs.conditional.choices_in.Given as goal
 
 abbrev pub invariant-loop-item : goal.invariant-loop-item
-invariant-loop-item l = 
+invariant-loop-item l =
     ((ts : Trees Identifier) → PartsStand l.work l.items ts → UpTo (IsChoice l.work) choice_of ts l.item-index l.choices.items)
     × ((region : Region) → AllNamed l.work region l.items → ChoicesNamed l.work region l.choices)

@@ -1,5 +1,5 @@
-use Rattle.std.proofs.Common.{sym, ap, ◌∙◌, subst}
-use Rattle.scheme_model.specs.Trees.{Trees, Tail, tree, proper}
+use Rattle.std.proofs.Common.{sym, ap, ◌∙◌}
+use Rattle.scheme_model.specs.Trees.{Trees, Tail, tree}
 use Rattle.scheme_model.specs.Ident.{Ident as Identifier}
 use Rattle.syntax_tree.proofs.Looking.{no_end, some_end}
 use Rattle.core_forms.specs.Forms.{choices_in}

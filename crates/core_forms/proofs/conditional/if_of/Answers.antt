@@ -1,4 +1,4 @@
-use Rattle.std.proofs.Common.{sym, ap, ◌∙◌, subst, List, refl, arith}
+use Rattle.std.proofs.Common.{sym, ap, ◌∙◌, subst, List, arith}
 use Rattle.scheme_model.specs.Trees.{Tail}
 use Rattle.scheme_model.specs.Shapes.{if_of}
 use Rattle.scheme_model.specs.Ident.{Ident as Identifier}

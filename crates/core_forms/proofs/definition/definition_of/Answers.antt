@@ -1,5 +1,5 @@
 use Rattle.std.proofs.Common.{ap, ◌∙◌}
-use Rattle.scheme_model.specs.Trees.{Tree, Trees, tree, Tail}
+use Rattle.scheme_model.specs.Trees.{Tree, Trees, tree}
 use Rattle.scheme_model.specs.Shapes.{definition_of, procedure_of}
 use Rattle.scheme_model.specs.Ident.{Ident as Identifier, same_ident}
 use Rattle.core_forms.specs.Ends.{IsDefinition}

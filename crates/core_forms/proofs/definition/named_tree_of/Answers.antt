@@ -1,7 +1,7 @@
-use Rattle.std.proofs.Common.{sym, ap, ◌∙◌, subst, refl, List, true, false, Ok, Err}
-use Rattle.scheme_model.specs.Trees.{Trees, tree, Tail, proper, dotted}
+use Rattle.std.proofs.Common.{ap, ◌∙◌, Ok}
+use Rattle.scheme_model.specs.Trees.{Trees}
 use Rattle.scheme_model.specs.ExpansionFaults.{◌>>◌}
-use Rattle.scheme_model.specs.Ident.{Ident as Identifier, same_ident}
+use Rattle.scheme_model.specs.Ident.{Ident as Identifier}
 use Rattle.scheme_model.specs.Shapes.{named_tree_of, name_of, one_of}
 use Rattle.core_forms.specs.Parts.{IsMacro}
 use Rattle.core_forms.proofs.Reading.{then_err, then_ok}

@@ -1,5 +1,5 @@
-use Rattle.std.proofs.Common.{sym, ap, ◌∙◌, subst, refl, List, true, false, Ok, Err}
-use Rattle.scheme_model.specs.Trees.{Trees, tree, Tail, proper, dotted}
+use Rattle.std.proofs.Common.{sym, ap, ◌∙◌, subst, refl, List, Ok}
+use Rattle.scheme_model.specs.Trees.{Trees}
 use Rattle.scheme_model.specs.ExpansionFaults.{◌>>◌}
 use Rattle.scheme_model.specs.Ident.{Ident as Identifier, same_ident}
 use Rattle.core_forms.specs.declared.shape.NamePart.{NamePart}

@@ -1,7 +1,4 @@
-use Rattle.std.proofs.Common.{sym, ap, ◌∙◌, subst, refl, List, true, false, Ok, Err}
-use Rattle.scheme_model.specs.Trees.{Trees, tree, Tail, proper, dotted}
-use Rattle.scheme_model.specs.ExpansionFaults.{◌>>◌}
-use Rattle.scheme_model.specs.Ident.{Ident as Identifier, same_ident}
+use Rattle.std.proofs.Common.{◌∙◌, refl, Ok}
 use Rattle.scheme_model.specs.Shapes.{Variable, named_tree_of}
 use Rattle.core_forms.specs.Steps.{variable_of}
 use Rattle.core_forms.specs.Ends.{IsDefinition}

@@ -1,6 +1,4 @@
-use Rattle.std.proofs.Common.{ap, ◌∙◌, refl, true, false, Bool, Ok, Err}
-use Rattle.scheme_model.specs.Trees.{Trees, Tail}
-use Rattle.scheme_model.specs.Ident.{Ident as Identifier}
+use Rattle.std.proofs.Common.{ap, ◌∙◌, refl, Bool, Ok}
 use Rattle.scheme_model.specs.Keywords.{IsBegin}
 use Rattle.scheme_model.specs.Shapes.{some_of, proper_of}
 use Rattle.core_forms.specs.Forms.{Sequence, shape_of}

@@ -1,9 +1,8 @@
-use Rattle.std.proofs.Common.{◌≡◌, Bool, true, false, refl, sym, ap, ◌∙◌, Ok, Err}
-use Rattle.scheme_model.specs.Trees.{Trees, Tail}
+use Rattle.std.proofs.Common.{Bool, refl, ap, ◌∙◌, Ok}
 use Rattle.scheme_model.specs.ExpansionFaults.{◌>>◌}
 use Rattle.scheme_model.specs.Keywords.{CoreKeyword, IsQuote, IsQuasiquote, IsLambda, IsCaseLambda, IsIf, IsSet, IsBegin, IsDefine, IsDefineValues, IsDefineRecordType, IsDefineSyntax, IsLetSyntax, IsLetrecSyntax, IsCondExpand, IsSyntaxError, IsInclude}
 use Rattle.scheme_model.specs.Shapes.{one_of, lambda_of, case_lambda_of, if_of, definition_of, values_of, record_of, named_tree_of, local_macros_of, error_text_of}
-use Rattle.scheme_model.specs.Ident.{Ident as Identifier, same_ident}
+use Rattle.scheme_model.specs.Ident.{same_ident}
 use Rattle.core_forms.specs.declared.shape.CoreKeyword.TheVariants as word
 use Rattle.core_forms.specs.Forms.{Quoted, Procedure, Procedures, Conditional, Definition, Several, RecordType, Syntax, Local, Choices, ErrorText, Inclusion, shape_of, unless_expression, record_shape_of}
 use Rattle.core_forms.specs.Steps.{cond_expand_of}

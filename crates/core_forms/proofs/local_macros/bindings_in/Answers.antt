@@ -1,9 +1,8 @@
-use Rattle.std.proofs.Common.{List, subst, sym, suc, ◌∙◌, add-one, arith}
+use Rattle.std.proofs.Common.{List, subst, sym, suc, add-one, arith}
 use Rattle.core_forms.specs.Steps.{binding_of, bindings_in}
 use Rattle.syntax_tree.proofs.Looking.{part_standing, part_there, behind_past, part_named}
 use Rattle.core_forms.specs.declared.shape.LocalMacro.{LocalMacro}
 use Rattle.core_forms.specs.Parts.{IsMacro, AreBindings}
-use Rattle.core_forms.specs.Ends.{Refuses}
 use Rattle.core_forms.proofs.Reading.{UpTo, up_more, up_all, up_err, ends_err}
 use Rattle.std.specs.List.{AllByRecursion}
 use Rattle.core_forms.specs.Named.{MacroNamed}
@@ -25,8 +24,7 @@ returns-in_err-read-clause-read c = λ ts stands.
 pub loop-item-preserved : goal.loop-item-preserved
 loop-item-preserved c =
     let w = c.args.work.now in
-    let k = c.loop-item.item-index in
-    (
+    let k = c.loop-item.item-index in (
       λ ts stands.
           let p = part_there w k c.args.items.now ts (record { number = 0 }) stands (omega arith) in
           let r = c.in_ok-read.ensures.read p.part p.stands in

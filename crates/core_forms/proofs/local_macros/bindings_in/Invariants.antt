@@ -9,6 +9,6 @@ use Rattle.core_forms.proofs.Reading.{UpTo}
 use Rattle.core_forms.proofs.local_macros.bindings_in.Given as goal
 
 abbrev pub invariant-loop-item : goal.invariant-loop-item
-invariant-loop-item l = 
+invariant-loop-item l =
     ((ts : Trees Identifier) → PartsStand l.work l.items ts → UpTo (IsMacro l.work) binding_of ts l.item-index l.macros.items)
     × ((region : Region) → AllNamed l.work region l.items → MacrosNamed l.work region l.macros)

@@ -1,5 +1,5 @@
-use Rattle.std.proofs.Common.{sym, ap, ◌∙◌, subst}
-use Rattle.scheme_model.specs.Trees.{Tree, Tail, list}
+use Rattle.std.proofs.Common.{sym, ap, ◌∙◌}
+use Rattle.scheme_model.specs.Trees.{Tail, list}
 use Rattle.scheme_model.specs.Ident.{Ident as Identifier}
 use Rattle.syntax_tree.proofs.Looking.{no_end, some_end}
 use Rattle.core_forms.specs.Parts.{AreBindings}

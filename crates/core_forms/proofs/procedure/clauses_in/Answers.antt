@@ -26,8 +26,7 @@ returns-in_err-read-clause-read c = λ ts stands.
 pub loop-item-preserved : goal.loop-item-preserved
 loop-item-preserved c =
     let w = c.args.work.now in
-    let k = c.loop-item.item-index in
-    (
+    let k = c.loop-item.item-index in (
       λ ts stands.
           let p = part_there w k c.args.items.now ts (record { number = 0 }) stands (omega arith) in
           let r = c.in_ok-read.ensures.read p.part p.stands in

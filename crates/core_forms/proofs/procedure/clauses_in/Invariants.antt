@@ -9,6 +9,6 @@ use Rattle.core_forms.proofs.Reading.{UpTo}
 use Rattle.core_forms.proofs.procedure.clauses_in.Given as goal
 
 abbrev pub invariant-loop-item : goal.invariant-loop-item
-invariant-loop-item l = 
+invariant-loop-item l =
     ((ts : Trees Identifier) → PartsStand l.work l.items ts → UpTo (IsClause l.work) clause_of ts l.item-index l.clauses.items)
     × ((region : Region) → AllNamed l.work region l.items → ClausesNamed l.work region l.clauses)

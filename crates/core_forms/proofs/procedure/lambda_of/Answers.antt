@@ -1,7 +1,6 @@
-use Rattle.std.proofs.Common.{sym, ap, ◌∙◌, subst, refl, List, true, false, Ok, Err}
-use Rattle.scheme_model.specs.Trees.{Trees, tree, Tail, proper, dotted}
+use Rattle.std.proofs.Common.{sym, ◌∙◌, subst, refl, List, Ok}
 use Rattle.scheme_model.specs.ExpansionFaults.{◌>>◌}
-use Rattle.scheme_model.specs.Ident.{Ident as Identifier, same_ident}
+use Rattle.scheme_model.specs.Ident.{same_ident}
 use Rattle.core_forms.specs.declared.shape.NamePart.{NamePart}
 use Rattle.scheme_model.specs.Shapes.{clause_in, lambda_of, distinct}
 use Rattle.core_forms.specs.Parts.{AllMatch, IsName, IsClause}

@@ -1,7 +1,6 @@
-use Rattle.std.proofs.Common.{sym, ap, ◌∙◌, subst, refl, List}
-use Rattle.scheme_model.specs.Trees.{Trees, tree, Tail, proper, dotted}
-use Rattle.scheme_model.specs.ExpansionFaults.{◌>>◌}
-use Rattle.scheme_model.specs.Ident.{Ident as Identifier, same_ident}
+use Rattle.std.proofs.Common.{ap, ◌∙◌}
+use Rattle.scheme_model.specs.Trees.{Trees}
+use Rattle.scheme_model.specs.Ident.{Ident as Identifier}
 use Rattle.scheme_model.specs.Shapes.{constructor_of}
 use Rattle.core_forms.specs.Steps.{behind_name, behind_constructor}
 use Rattle.core_forms.specs.Ends.{IsRecordType}

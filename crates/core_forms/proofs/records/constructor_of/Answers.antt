@@ -1,5 +1,5 @@
-use Rattle.std.proofs.Common.{◌≡◌, [], ap, ◌∙◌, subst, sym, List, Result, Ok, refl}
-use Rattle.scheme_model.specs.Trees.{Tree, name}
+use Rattle.std.proofs.Common.{[], ap, ◌∙◌, subst, sym, List, Result, Ok}
+use Rattle.scheme_model.specs.Trees.{Tree}
 use Rattle.scheme_model.specs.ExpansionFaults.{Named, Fault, ◌>>◌}
 use Rattle.scheme_model.specs.Shapes.{name_of, constructor_of}
 use Rattle.scheme_model.specs.Ident.{Ident as Identifier}

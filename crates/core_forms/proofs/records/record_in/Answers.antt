@@ -1,6 +1,5 @@
-use Rattle.std.proofs.Common.{sym, ap, ◌∙◌, subst, refl, List}
-use Rattle.scheme_model.specs.Trees.{Trees, tree, Tail, proper, dotted}
-use Rattle.scheme_model.specs.ExpansionFaults.{◌>>◌}
+use Rattle.std.proofs.Common.{sym, ap, ◌∙◌}
+use Rattle.scheme_model.specs.Trees.{Trees, Tail, proper}
 use Rattle.scheme_model.specs.Ident.{Ident as Identifier, same_ident}
 use Rattle.syntax_tree.proofs.Looking.{no_end, some_end}
 use Rattle.scheme_model.specs.Shapes.{record_in, name_of}

@@ -1,7 +1,7 @@
-use Rattle.std.proofs.Common.{sym, ap, ◌∙◌, subst, refl, List, true, false, Ok, Err}
-use Rattle.scheme_model.specs.Trees.{Trees, tree, Tail, proper, dotted}
+use Rattle.std.proofs.Common.{sym, ap, ◌∙◌, Ok}
+use Rattle.scheme_model.specs.Trees.{Trees, Tail, proper}
 use Rattle.scheme_model.specs.ExpansionFaults.{◌>>◌}
-use Rattle.scheme_model.specs.Ident.{Ident as Identifier, same_ident}
+use Rattle.scheme_model.specs.Ident.{Ident as Identifier}
 use Rattle.syntax_tree.proofs.Looking.{no_end, some_end}
 use Rattle.scheme_model.specs.Shapes.{name_of, names_of}
 use Rattle.core_forms.specs.Steps.{uses_of}
