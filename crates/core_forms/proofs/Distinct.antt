@@ -6,7 +6,7 @@ use Rattle.scheme_model.specs.Trees.{Tree, name, atom, list, vector, Trees, no_t
 use Rattle.scheme_model.specs.ExpansionFaults.{Named, Fault, BadForm, DuplicateBinder, ◌>>◌}
 use Rattle.scheme_model.specs.Shapes.{Clause, FieldShape as ModelField, LocalMacros, RecordShape, is_among, distinct, distinct_from, all_among, list_of, proper_of, some_of, named_tree_of, bindings_of, local_macros_of}
 use Rattle.scheme_model.specs.Ident.{Ident as Identifier, same_ident}
-use Rattle.syntax_tree.specs.Names.{Names, AreToldApart}
+use Rattle.syntax_tree.specs.Names.{AreToldApart}
 use Rattle.syntax_tree.specs.Macros.{IsIdent, AreIdents}
 use Rattle.syntax_tree.specs.declared.trees.Work.{Work}
 use Rattle.syntax_tree.proofs.RoleLaws.{same_by_number, among_by_number}
@@ -18,12 +18,12 @@ use Rattle.core_forms.specs.declared.shape.LocalMacro.{LocalMacro}
 use Rattle.core_forms.specs.Steps.{binding_of, bindings_in, bindings_of_list, record_with}
 use Rattle.core_forms.specs.Parts.{AllMatch, IsName, IsClause, IsField, IsMacro, AreMacros}
 
--- a number that stands twice is that of the fault
-abbrev pub IsTwice : Work → Option ℕ → Result (Unit {0}) (Fault Identifier) → Type 0
+-- a name that stands twice is that of the fault
+abbrev pub IsTwice : Work → Option NamePart → Result (Unit {0}) (Fault Identifier) → Type 0
 IsTwice work None s = s ≡ Ok tt
-IsTwice work (Some n) s = (i : Named Identifier) × (s ≡ Err (DuplicateBinder i)) × IsIdent work.symbols n i.name
+IsTwice work (Some n) s = (i : Named Identifier) × (s ≡ Err (DuplicateBinder i)) × IsName work n i
 
-twice_step : (work : Work) (b : Bool) (n : ℕ) (i : Named Identifier) (m : Option ℕ) (x : Result (Unit {0}) (Fault Identifier)) → IsIdent work.symbols n i.name → IsTwice work m x →
+twice_step : (work : Work) (b : Bool) (n : NamePart) (i : Named Identifier) (m : Option NamePart) (x : Result (Unit {0}) (Fault Identifier)) → IsName work n i → IsTwice work m x →
     IsTwice work (if b then Some n else m) (if b then Err (DuplicateBinder i) else x)
 twice_step work true n i m x h g = (i, refl, h)
 twice_step work false n i m x h g = g
@@ -37,7 +37,7 @@ twice_is work apart seen before (n ∷ ns) (m ∷ ms) s h =
     let e = among_by_number work.symbols apart n.ident m.name h.0.0 seen before s in
     let rest = twice_is work apart (n.ident ∷ seen) (m ∷ before) ns ms (h.0.0, s) h.1 in
     subst (λ (b : Bool). IsTwice work (twice_by_number seen (n ∷ ns)) (if b then Err (DuplicateBinder m) else distinct_from same_ident (m ∷ before) ms)) (sym e)
-    (twice_step work (list_any (nat_eq n.ident) seen) n.ident m (twice_by_number (n.ident ∷ seen) ns) (distinct_from same_ident (m ∷ before) ms) h.0.0 rest)
+    (twice_step work (list_any (nat_eq n.ident) seen) n m (twice_by_number (n.ident ∷ seen) ns) (distinct_from same_ident (m ∷ before) ms) h.0 rest)
 
 pub not_true : (b : Bool) → not b ≡ true → b ≡ false
 not_true true h = absurd cc
@@ -45,7 +45,7 @@ not_true false h = refl
 
 -- a name that isn't among those before it
 pub twice_more : (seen : List ℕ) (ns us : List NamePart) (n : NamePart) → ns ≡ n ∷ us → list_any (nat_eq n.ident) seen ≡ false → twice_by_number seen ns ≡ twice_by_number (n.ident ∷ seen) us
-twice_more seen ns us n e h = ap (twice_by_number seen) e ∙ ap (λ (b : Bool). if b then Some n.ident else twice_by_number (n.ident ∷ seen) us) h
+twice_more seen ns us n e h = ap (twice_by_number seen) e ∙ ap (λ (b : Bool). if b then Some n else twice_by_number (n.ident ∷ seen) us) h
 
 -- ---- names among others
 

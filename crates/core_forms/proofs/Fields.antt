@@ -1,5 +1,5 @@
 -- A field by its names.
-use Rattle.std.proofs.Common.{◌≡◌, ◌≢◌, ℕ, List, [], ◌∷◌, length, get_or, None, Some, Ok, Err, refl, arith}
+use Rattle.std.proofs.Common.{◌≡◌, ◌≢◌, List, [], ◌∷◌, length, get_or, None, Some, Ok, Err, refl, arith}
 use Rattle.scheme_model.specs.ExpansionFaults.{Named, BadForm}
 use Rattle.scheme_model.specs.Shapes.{FieldShape as ModelField, field_with}
 use Rattle.scheme_model.specs.Ident.{Ident as Identifier}

@@ -1,5 +1,5 @@
 -- What a walk through a datum may go into: parts and tails are less deep, and their nodes can be counted.
-use Rattle.std.proofs.Common.{◌≡◌, ℕ, zero, suc, ◌+◌, ◌-◌, ◌^◌, ◌<◌, ◌≤◌, List, [], ◌∷◌, length, get_or, Option, Some, None, refl, sym, ap, ◌∙◌, subst, arith}
+use Rattle.std.proofs.Common.{◌≡◌, ℕ, zero, suc, ◌+◌, ◌-◌, ◌^◌, ◌<◌, ◌≤◌, List, length, get_or, Option, Some, None, ap, subst, arith}
 use Rattle.std.specs.Prelude.{max}
 use Rattle.std.proofs.lemmas.Option.{same_Some}
 use Rattle.scheme_model.specs.declared.Occ.{Occ}
@@ -98,3 +98,51 @@ module _ (work : Work) where
       last : (tail : Tail Identifier) → EndStands work (Some m) tail → tail_depth tail ≤ left → inner + tail_size tail < 2 ^ 32 → CanFind work m inner left
       last proper g d s = absurd g
       last (dotted t) g d s = (t, g.1, d, s)
+
+  -- ---- the nodes that are passed
+
+  -- into a list and a vector, which are passed themselves
+  pub past_row : (passed left : ℕ) (t : Tree Identifier) (ns : List number.Tree) (end : Option number.Tree) (ts : Trees Identifier) (tail : Tail Identifier) (o : Option Occ) → tree_depth t ≤ left → passed + tree_size t < 2 ^ 32 → t ≡ list ts tail o →
+      PartsStand work ns ts → EndStands work end tail → CanFindRow work ns end (passed + 1) (left - 1)
+  past_row passed left t ns end ts tail o d s e h g =
+      let b : 1 + max (trees_depth ts) (tail_depth tail) ≤ left = subst (λ (x : Tree Identifier). tree_depth x ≤ left) e d in
+      let c : passed + (1 + (trees_size ts + tail_size tail)) < 2 ^ 32 = subst (λ (x : Tree Identifier). passed + tree_size x < 2 ^ 32) e s in
+      record { parts = ts; tail = tail; parts_stand = h; end_stands = g; parts_deep = omega arith; tail_deep = omega arith; small = omega arith }
+
+  pub past_parts : (passed left : ℕ) (t : Tree Identifier) (ns : List number.Tree) (ts : Trees Identifier) (o : Option Occ) → tree_depth t ≤ left → passed + tree_size t < 2 ^ 32 → t ≡ vector ts o → PartsStand work ns ts → CanFindParts work ns (passed + 1) (left - 1)
+  past_parts passed left t ns ts o d s e h =
+      let b : 1 + trees_depth ts ≤ left = subst (λ (x : Tree Identifier). tree_depth x ≤ left) e d in
+      let c : passed + (1 + trees_size ts) < 2 ^ 32 = subst (λ (x : Tree Identifier). passed + tree_size x < 2 ^ 32) e s in
+      (ts, h, omega arith, omega arith)
+
+  pub can_pass : (n : number.Tree) (passed left : ℕ) → CanFind work n passed left → passed + 1 < 2 ^ 32
+  can_pass n passed left h = omega (arith, size_positive h.0, h.3)
+
+  -- how many nodes of a vector's parts can have been passed before a place
+  abbrev pub CountedParts : List number.Tree → ℕ → ℕ → ℕ → Type 0
+  CountedParts ns before passed k = (ts : Trees Identifier) → PartsStand work ns ts → passed + trees_size (behind k ts) ≤ before + trees_size ts
+
+  pub passed_part : (ns : List number.Tree) (before passed left k : ℕ) (d : number.Tree) → CanFindParts work ns before left → CountedParts ns before passed k → k < length ns → CanFind work (get_or ns k d) passed left
+  passed_part ns before passed left k d h c l =
+      let p = part_there work k ns h.0 d h.1 l in
+      let deep = split_depth k h.0 p.part (behind (suc k) h.0) p.split in
+      let size = split_size k h.0 p.part (behind (suc k) h.0) p.split in
+      let less = c h.0 h.1 in
+      (p.part, p.stands, omega (arith, deep, h.2), omega (arith, size, less, h.3))
+
+  pub parts_passed : (ns : List number.Tree) (before passed next k : ℕ) (d : number.Tree) → CountedParts ns before passed k → k < length ns → ((t : Tree Identifier) → StandsFor work (get_or ns k d) t → next ≤ passed + tree_size t) → CountedParts ns before next (suc k)
+  parts_passed ns before passed next k d c l near ts stands =
+      let p = part_there work k ns ts d stands l in
+      omega (arith, split_size k ts p.part (behind (suc k) ts) p.split, c ts stands, near p.part p.stands)
+
+  pub row_passed : (ns : List number.Tree) (end : Option number.Tree) (before passed next k : ℕ) (d : number.Tree) → Counted ns end before passed k → k < length ns → ((t : Tree Identifier) → StandsFor work (get_or ns k d) t → next ≤ passed + tree_size t) → Counted ns end before next (suc k)
+  row_passed ns end before passed next k d c l near ts tail stands ends =
+      let p = part_there work k ns ts d stands l in
+      omega (arith, split_size k ts p.part (behind (suc k) ts) p.split, c ts tail stands ends, near p.part p.stands)
+
+  -- a mark at a place is within the row
+  pub mark_within : (ns : List number.Tree) (end : Option number.Tree) (before passed next k : ℕ) (d : number.Tree) → Counted ns end before passed k → k < length ns → next ≤ passed + 1 → (ts : Trees Identifier) (tail : Tail Identifier) → PartsStand work ns ts → EndStands work end tail →
+      next ≤ before + trees_size ts + tail_size tail
+  mark_within ns end before passed next k d c l near ts tail stands ends =
+      let p = part_there work k ns ts d stands l in
+      omega (arith, split_size k ts p.part (behind (suc k) ts) p.split, size_positive p.part, c ts tail stands ends, near)

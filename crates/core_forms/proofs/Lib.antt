@@ -4,6 +4,8 @@ pub mod Words
 pub mod Distinct
 pub mod Marking
 pub mod Holes
+pub mod HolePlaces
 pub mod Finding
 mod FormRows
 pub mod Fields
+pub mod Naming

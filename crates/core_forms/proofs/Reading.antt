@@ -1,5 +1,5 @@
 -- How readings are put together: faults that are passed on, what is read one after another, and lists by their tails.
-use Rattle.std.proofs.Common.{◌≡◌, ℕ, zero, suc, ◌+◌, ◌<◌, ◌≤◌, List, [], ◌∷◌, ◌++◌, length, Bool, true, false, Option, Some, None, Result, Ok, Err, refl, sym, ap, ◌∙◌, subst, append_assoc, arith}
+use Rattle.std.proofs.Common.{◌≡◌, ℕ, suc, List, [], ◌∷◌, ◌++◌, Bool, true, false, Some, Result, Ok, Err, refl, sym, ap, ◌∙◌, subst, append_assoc}
 use Rattle.std.specs.Result.{IsErrAnd}
 use Rattle.std.proofs.lemmas.List.{append-nil}
 use Rattle.scheme_model.specs.Trees.{Tree, Trees, no_trees, tree}
@@ -7,7 +7,6 @@ use Rattle.scheme_model.specs.Matching.{behind}
 use Rattle.scheme_model.specs.ExpansionFaults.{Named, Fault, BadForm, DuplicateBinder, BadPlace, BadRecord, BadQuasi, ◌>>◌}
 use Rattle.scheme_model.specs.Shapes.{Clause, FieldShape, name_of, names_of, list_of, proper_of, clause_in, clauses_in, field_with, fields_of}
 use Rattle.scheme_model.specs.Ident.{Ident as Identifier}
-use Rattle.syntax_tree.specs.Macros.{IsIdent}
 use Rattle.syntax_tree.specs.declared.trees.Work.{Work}
 use Rattle.core_forms.specs.declared.fault.CoreFault.{CoreFault}
 use Rattle.core_forms.specs.declared.fault.CoreFault.TheVariants as fault

@@ -1,19 +1,20 @@
 -- How a reading of a core form ends: what the shape of the code stands for, or the fault.
-use Rattle.std.specs.Prelude.{◌≡◌, ℕ, List, [], ◌∷◌, Bool, Option, Some, None, Result, Ok, Err, Vec, slice_get}
+use Rattle.std.specs.Prelude.{◌≡◌, ℕ, ◌++◌, Option, Some, None, Result, Ok, Err, Vec, slice_get}
 use Rattle.std.specs.declared.alloc.Global.{Global}
-use Rattle.scheme_model.specs.Trees.{Tree, Trees, Tail}
+use Rattle.scheme_model.specs.Trees.{Tree}
 use Rattle.scheme_model.specs.ExpansionFaults.{Named, Fault, BadForm, DuplicateBinder, BadPlace, BadRecord, BadQuasi}
 use Rattle.scheme_model.specs.Keywords.{CoreKeyword, IsQuote, IsQuasiquote, IsLambda, IsCaseLambda, IsIf, IsSet, IsBegin, IsDefine, IsDefineValues, IsDefineRecordType, IsDefineSyntax, IsLetSyntax, IsLetrecSyntax, IsCondExpand, IsSyntaxError, IsInclude}
-use Rattle.scheme_model.specs.Shapes.{Formals, Clause, DefinitionShape, Variable, Procedure as procedure, RecordShape, LocalMacros}
+use Rattle.scheme_model.specs.Shapes.{Formals, DefinitionShape, Variable, Procedure as procedure, RecordShape, LocalMacros}
 use Rattle.scheme_model.specs.Quasiquote.{Pieces, RowPieces}
+use Rattle.scheme_model.specs.Holes.{hole_places}
 use Rattle.scheme_model.specs.Ident.{Ident as Identifier}
-use Rattle.syntax_tree.specs.Macros.{IsIdent}
 use Rattle.syntax_tree.specs.Works.{StandsFor}
 use Rattle.syntax_tree.specs.declared.trees.Work.{Work}
 use Rattle.syntax_tree.specs.declared.trees.nodes.Tree as number
 use Rattle.core_forms.specs.Forms.{Shape, Quoted, Quasi, Procedure, Procedures, Conditional, Assignment, Sequence, Definition, Several, RecordType, Syntax, Local, Choices, ErrorText, Inclusion}
 use Rattle.core_forms.specs.Parts.{AllMatch, IsName, AreNames, AreTrees, IsFormals, IsClause, AreClauses, AreFields, AreMacros, AreChoices}
-use Rattle.core_forms.specs.Marks.{AddsHoles}
+use Rattle.core_forms.specs.Marks.{AddsFound, nodes_in, nodes_among, nodes_behind}
+use Rattle.core_forms.specs.declared.quasi.Found.{Found}
 use Rattle.core_forms.specs.declared.fault.CoreFault.{CoreFault}
 use Rattle.core_forms.specs.declared.fault.CoreFault.TheVariants as fault
 use Rattle.core_forms.specs.declared.shape.CoreShape as code
@@ -61,7 +62,8 @@ pub record IsRecord (work : Work) (n c : code_name.NamePart) (us : Vec code_name
 -- the shape of the code stands for the shape of the definitions
 abbrev pub ShapeFor : Work → code.CoreShape → Shape → Type 0
 ShapeFor work x (Quoted t) = (n : number.Tree) × (x ≡ shapes.Quote n) × StandsFor work n t
-ShapeFor work x (Quasi t p) = (n : number.Tree) × ((ns : Vec number.Tree Global) × (x ≡ shapes.Quasi n ns) × StandsFor work n t × AllMatch (StandsFor work) ns.items p.holes)
+ShapeFor work x (Quasi t p) =
+    (n : number.Tree) × ((ns : Vec number.Tree Global) × ((places : Vec ℕ Global) × (x ≡ shapes.Quasi n ns places) × StandsFor work n t × AllMatch (StandsFor work) ns.items p.holes × (places.items ≡ hole_places p.datum)))
 ShapeFor work x (Procedure c) = (n : code_clause.ClauseShape) × (x ≡ shapes.Lambda n) × IsClause work n c
 ShapeFor work x (Procedures cs) = (ns : Vec code_clause.ClauseShape Global) × (x ≡ shapes.CaseLambda ns) × AreClauses work ns cs
 ShapeFor work x (Conditional ts) = (ns : Vec number.Tree Global) × (x ≡ shapes.If ns) × AreTrees work ns ts
@@ -84,7 +86,7 @@ ShapeFor work x Inclusion = x ≡ shapes.Include
 -- a fault of the code is that of the definition; want of memory says nothing
 abbrev pub Refuses : {Y : Type 0} → Work → CoreFault → Result Y (Fault Identifier) → Type 0
 Refuses work fault.BadForm s = s ≡ Err BadForm
-Refuses work (fault.DuplicateBinder n) s = (i : Named Identifier) × (s ≡ Err (DuplicateBinder i)) × IsIdent work.symbols n i.name
+Refuses work (fault.DuplicateBinder n) s = (i : Named Identifier) × (s ≡ Err (DuplicateBinder i)) × IsName work n i
 Refuses work fault.BadPlace s = s ≡ Err BadPlace
 Refuses work fault.BadRecord s = s ≡ Err BadRecord
 Refuses work fault.BadQuasi s = s ≡ Err BadQuasi
@@ -118,12 +120,12 @@ IsLocal work x m = ShapeFor work x (Local m)
 
 -- ---- the holes of a quasiquotation
 
-abbrev pub HasHoles : Work → Vec number.Tree Global → Pieces Identifier → Type 0
-HasHoles work ns p = AllMatch (StandsFor work) ns.items p.holes
+abbrev pub HasHoles : Work → Found → Pieces Identifier → Type 0
+HasHoles work f p = AllMatch (StandsFor work) f.trees.items p.holes × (f.places.items ≡ hole_places p.datum)
 
 -- a reading adds holes to those that were there
-abbrev pub AddsPieces : Work → List number.Tree → List number.Tree → Result (Pieces Identifier) (Fault Identifier) → Result (Unit {0}) CoreFault → Type 0
-AddsPieces work old new = Ends work (λ (done : Unit {0}) (p : Pieces Identifier). AddsHoles work old new p.holes)
+abbrev pub AddsPieces : Work → Found → Found → Result (Pieces Identifier) (Fault Identifier) → Result (Unit {0}) CoreFault → Type 0
+AddsPieces work old new = Ends work (λ (done : Unit {0}) (p : Pieces Identifier). AddsFound work old new p.holes (nodes_in p.datum))
 
-abbrev pub AddsRow : Work → List number.Tree → List number.Tree → Result (RowPieces Identifier) (Fault Identifier) → Result (Unit {0}) CoreFault → Type 0
-AddsRow work old new = Ends work (λ (done : Unit {0}) (p : RowPieces Identifier). AddsHoles work old new p.holes)
+abbrev pub AddsRow : Work → Found → Found → Result (RowPieces Identifier) (Fault Identifier) → Result (Unit {0}) CoreFault → Type 0
+AddsRow work old new = Ends work (λ (done : Unit {0}) (p : RowPieces Identifier). AddsFound work old new p.holes (nodes_among p.parts ++ nodes_behind p.tail))

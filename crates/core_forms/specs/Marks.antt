@@ -2,7 +2,7 @@
 use Rattle.std.specs.Prelude.{◌≡◌, ℕ, zero, suc, ◌+◌, ◌^◌, ◌<◌, ◌≤◌, List, [], ◌∷◌, ◌++◌, Bool, true, false, nat_eq, Option, Some, None, if◌then◌else◌}
 use Rattle.std.specs.BTreeMap.{BTreeMap, get}
 use Rattle.std.specs.Ordering.{nat_cmp}
-use Rattle.scheme_model.specs.Trees.{Tree, name, atom, list, vector, Trees, Tail}
+use Rattle.scheme_model.specs.Trees.{Tree, name, atom, list, vector, Trees, no_trees, tree, Tail, proper, dotted}
 use Rattle.scheme_model.specs.Quasiquote.{Mark, Nested, Unquoted, Spliced}
 use Rattle.scheme_model.specs.Measures.{tree_size, trees_size, tail_size, tree_depth, trees_depth, tail_depth}
 use Rattle.scheme_model.specs.Ident.{Ident as Identifier}
@@ -15,6 +15,7 @@ use Rattle.core_forms.specs.Parts.{AllMatch}
 use Rattle.core_forms.specs.declared.shape.QuasiMark.{QuasiMark}
 use Rattle.core_forms.specs.declared.quasi.MarkKind as code_kind
 use Rattle.core_forms.specs.declared.quasi.MarkKind.TheVariants as kind
+use Rattle.core_forms.specs.declared.quasi.Found.{Found}
 use Rattle.core_forms.specs.declared.quasi.Step.{Step}
 use Rattle.core_forms.specs.declared.quasi.Step.TheVariants as step
 use Rattle.core_forms.specs.declared.shape.CoreKeyword as code_keyword
@@ -108,3 +109,39 @@ IsNear level step.Misplaced = Unit {0}
 -- holes were added for these trees
 abbrev pub AddsHoles : Work → List number.Tree → List number.Tree → List (Tree Identifier) → Type 0
 AddsHoles work old new holes = (more : List number.Tree) × (new ≡ old ++ more) × AllMatch (StandsFor work) more holes
+
+-- ---- the nodes of a datum with holes, one after another and a list before its parts: true for a node, and false for a hole
+
+abbrev mutual
+  pub nodes_in : Tree (Option Identifier) → List Bool
+  nodes_in (name None o) = false ∷ []
+  nodes_in (name (Some i) o) = true ∷ []
+  nodes_in (atom a o) = true ∷ []
+  nodes_in (list ts tail o) = true ∷ (nodes_among ts ++ nodes_behind tail)
+  nodes_in (vector ts o) = true ∷ nodes_among ts
+
+  pub nodes_among : Trees (Option Identifier) → List Bool
+  nodes_among no_trees = []
+  nodes_among (tree t ts) = nodes_in t ++ nodes_among ts
+
+  pub nodes_behind : Tail (Option Identifier) → List Bool
+  nodes_behind proper = []
+  nodes_behind (dotted t) = nodes_in t
+
+-- how many are passed
+abbrev pub passed_in : List Bool → ℕ
+passed_in [] = 0
+passed_in (true ∷ bs) = 1 + passed_in bs
+passed_in (false ∷ bs) = passed_in bs
+
+-- how many are passed before each hole, where so many were before
+abbrev pub places_from : ℕ → List Bool → List ℕ
+places_from n [] = []
+places_from n (true ∷ bs) = places_from (n + 1) bs
+places_from n (false ∷ bs) = n ∷ places_from n bs
+
+-- these holes were added, and these nodes gone through
+pub record AddsFound (work : Work) (old new : Found) (holes : List (Tree Identifier)) (nodes : List Bool) : Type 0 where
+  pub trees : AddsHoles work old.trees.items new.trees.items holes
+  pub places : new.places.items ≡ old.places.items ++ places_from old.passed nodes
+  pub passed : new.passed ≡ old.passed + passed_in nodes

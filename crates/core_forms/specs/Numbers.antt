@@ -3,10 +3,10 @@ use Rattle.std.specs.Prelude.{ℕ, List, [], ◌∷◌, Bool, true, nat_eq, Opti
 use Rattle.std.specs.List.{list_any}
 use Rattle.core_forms.specs.declared.shape.NamePart.{NamePart}
 
--- the first number that is among those before it
-abbrev pub twice_by_number : List ℕ → List NamePart → Option ℕ
+-- the first name whose number is among those before it
+abbrev pub twice_by_number : List ℕ → List NamePart → Option NamePart
 twice_by_number seen [] = None
-twice_by_number seen (n ∷ ns) = if list_any (nat_eq n.ident) seen then Some n.ident else twice_by_number (n.ident ∷ seen) ns
+twice_by_number seen (n ∷ ns) = if list_any (nat_eq n.ident) seen then Some n else twice_by_number (n.ident ∷ seen) ns
 
 -- some name has this number
 abbrev pub has_number : List NamePart → ℕ → Bool

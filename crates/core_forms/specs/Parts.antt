@@ -1,9 +1,9 @@
 -- What the parts of a form that is read stand for: names, trees, clauses, fields, local macros and choices.
 use Rattle.std.specs.Prelude.{◌≡◌, ℕ, List, [], ◌∷◌, Option, Some, None, Vec, slice_get}
 use Rattle.std.specs.declared.alloc.Global.{Global}
-use Rattle.scheme_model.specs.Trees.{Tree, Trees, no_trees, tree, Tail}
+use Rattle.scheme_model.specs.Trees.{Tree, Trees, no_trees, tree}
 use Rattle.scheme_model.specs.ExpansionFaults.{Named}
-use Rattle.scheme_model.specs.Shapes.{Formals, Clause, FieldShape, RecordShape, LocalMacros}
+use Rattle.scheme_model.specs.Shapes.{Formals, Clause, FieldShape}
 use Rattle.scheme_model.specs.Ident.{Ident as Identifier}
 use Rattle.syntax_tree.specs.Looks.{PartsStand}
 use Rattle.syntax_tree.specs.Macros.{IsIdent}

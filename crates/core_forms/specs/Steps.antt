@@ -1,5 +1,5 @@
 -- Readings of parts of core forms, by the readers of the definitions.
-use Rattle.std.specs.Prelude.{◌≡◌, List, map, Result, Ok, Err, if◌then◌else◌}
+use Rattle.std.specs.Prelude.{List, map, Result, Ok, Err, if◌then◌else◌}
 use Rattle.scheme_model.specs.Trees.{Tree, Trees, Tail}
 use Rattle.scheme_model.specs.ExpansionFaults.{Named, Fault, BadForm, ◌>>◌}
 use Rattle.scheme_model.specs.Shapes.{Clause, FieldShape, RecordShape, DefinitionShape, Variable, clause_in, list_of, proper_of, first_of, some_of, name_of, names_of, field_with, named_tree_of, constructor_of, fields_of, distinct, all_among}

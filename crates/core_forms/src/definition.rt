@@ -1,12 +1,15 @@
 //! Definitions (R7RS 5.3): of a variable, of a procedure, of several names, of a macro; and `set!`, which has the same shape.
+ghost use Rattle.std.specs.Prelude.{IfOk};
 ghost use Rattle.scheme_model.specs.Trees.{Tree as ModelTree, Trees, Tail};
 ghost use Rattle.scheme_model.specs.Shapes.{named_tree_of, definition_of, procedure_of, values_of};
 ghost use Rattle.scheme_model.specs.Ident.{Ident as Identifier, same_ident};
-ghost use Rattle.syntax_tree.specs.Looks.{PartsStand, EndStands, AreStanding, EndIsStanding};
+ghost use Rattle.syntax_tree.specs.Looks.{PartsStand, EndStands, AreStanding, EndIsStanding, AllNamed};
 ghost use Rattle.syntax_tree.specs.Works.{StandsFor, IsStanding};
 ghost use Rattle.core_forms.specs.Parts.{IsMacro};
 ghost use Rattle.core_forms.specs.Steps.{variable_of};
 ghost use Rattle.core_forms.specs.Ends.{Ends, IsDefinition, AreValues};
+ghost use Rattle.core_forms.specs.Named.{MacroNamed, ShapeNamed};
+ghost use Rattle.syntax_tree.specs.declared.trees.table.Region.{Region};
 
 use crate::fault::CoreFault;
 use crate::names::{distinct, formals_in, formals_of, name_of};
@@ -23,8 +26,9 @@ pub fn named_tree_of(
     end: Option<Tree>,
 ) -> Result<LocalMacro, CoreFault>
     requires { AreStanding work.now items.now }
-    ensures { (ts : Trees Identifier) (tail : Tail Identifier) → PartsStand work.now items.now ts → EndStands work.now end tail →
+    ensures read { (ts : Trees Identifier) (tail : Tail Identifier) → PartsStand work.now items.now ts → EndStands work.now end tail →
         Ends work.now (IsMacro work.now) (named_tree_of ts tail) result }
+    ensures named { (region : Region) → AllNamed work.now region items.now → IfOk result (MacroNamed work.now region) }
 {
     match row_of(work, items) {
         Row::Empty => Err(CoreFault::BadForm),
@@ -44,8 +48,9 @@ pub fn definition_of(
     end: Option<Tree>,
 ) -> Result<CoreShape, CoreFault>
     requires { AreStanding work.now items.now }
-    ensures { (ts : Trees Identifier) (tail : Tail Identifier) → PartsStand work.now items.now ts → EndStands work.now end tail →
+    ensures read { (ts : Trees Identifier) (tail : Tail Identifier) → PartsStand work.now items.now ts → EndStands work.now end tail →
         Ends work.now (IsDefinition work.now) (definition_of same_ident ts tail) result }
+    ensures named { (region : Region) → AllNamed work.now region items.now → IfOk result (ShapeNamed work.now region) }
 {
     match row_of(work, items) {
         Row::Empty => Err(CoreFault::BadForm),
@@ -61,8 +66,9 @@ pub fn definition_of(
 /// The definition of a variable, whose name stands first.
 fn variable_of(work: &Work, items: &[Tree], end: Option<Tree>) -> Result<CoreShape, CoreFault>
     requires { AreStanding work.now items.now }
-    ensures { (ts : Trees Identifier) (tail : Tail Identifier) → PartsStand work.now items.now ts → EndStands work.now end tail →
+    ensures read { (ts : Trees Identifier) (tail : Tail Identifier) → PartsStand work.now items.now ts → EndStands work.now end tail →
         Ends work.now (IsDefinition work.now) (variable_of ts tail) result }
+    ensures named { (region : Region) → AllNamed work.now region items.now → IfOk result (ShapeNamed work.now region) }
 {
     let named = named_tree_of(work, items, end)?;
     Ok(CoreShape::Define {
@@ -82,9 +88,10 @@ fn procedure_of(
 ) -> Result<CoreShape, CoreFault>
     requires parts { AreStanding work.now parts.now }
     requires tail { EndIsStanding work.now last }
-    ensures { (us : Trees Identifier) (rest : Tail Identifier) (ts : Trees Identifier) (tail : Tail Identifier) →
+    ensures read { (us : Trees Identifier) (rest : Tail Identifier) (ts : Trees Identifier) (tail : Tail Identifier) →
         PartsStand work.now parts.now us → EndStands work.now last rest → PartsStand work.now items.now ts → EndStands work.now end tail →
         Ends work.now (IsDefinition work.now) (procedure_of same_ident (us, rest) ts tail) result }
+    ensures named { (region : Region) → AllNamed work.now region items.now → IfOk result (ShapeNamed work.now region) }
 {
     match row_of(work, parts) {
         Row::Empty => Err(CoreFault::BadForm),
@@ -107,8 +114,9 @@ pub fn values_of(
     end: Option<Tree>,
 ) -> Result<CoreShape, CoreFault>
     requires { AreStanding work.now items.now }
-    ensures { (ts : Trees Identifier) (tail : Tail Identifier) → PartsStand work.now items.now ts → EndStands work.now end tail →
+    ensures read { (ts : Trees Identifier) (tail : Tail Identifier) → PartsStand work.now items.now ts → EndStands work.now end tail →
         Ends work.now (AreValues work.now) (values_of same_ident ts tail) result }
+    ensures named { (region : Region) → AllNamed work.now region items.now → IfOk result (ShapeNamed work.now region) }
 {
     match row_of(work, items) {
         Row::Empty => Err(CoreFault::BadForm),

@@ -1,15 +1,15 @@
 //! Why a core form is refused.
+use crate::shape::NamePart;
 use ls_base::Memory;
 use std::alloc::{AllocError, AllocFailed};
-use syntax_tree::symbols::IdNo;
 
 /// Why a core form is refused. The lowest that holds is told.
 #[derive(Clone, Copy, Debug, PartialEq, Eq)]
 pub enum CoreFault {
     /// It fits none of its shapes.
     BadForm,
-    /// A name is bound twice: the identifier at whose second place the test fails.
-    DuplicateBinder(IdNo),
+    /// A name is bound twice: the identifier, with the place at which the test fails, its second.
+    DuplicateBinder(NamePart),
     /// A definition stands where an expression must stand.
     BadPlace,
     /// The definition of a record type fits none of its shapes, or its fields are wrong.

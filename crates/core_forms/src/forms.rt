@@ -1,15 +1,17 @@
 //! The readers of core forms by their keywords (R7RS 4.1, 4.2.1, 4.2.8, 4.3, 5.3, 5.5).
-ghost use Rattle.std.specs.Prelude.{◌≡◌, true, false, Option, Some, Ok, Err};
+ghost use Rattle.std.specs.Prelude.{◌≡◌, true, false, Option, Some, Ok, Err, IfOk};
 ghost use Rattle.scheme_model.specs.Trees.{Trees, Tail};
 ghost use Rattle.scheme_model.specs.Keywords.{CoreKeyword as ModelKeyword, IsQuasiquote, IsSet, IsBegin};
 ghost use Rattle.scheme_model.specs.Quasiquote.{Mark};
 ghost use Rattle.scheme_model.specs.Ident.{Ident as Identifier};
-ghost use Rattle.syntax_tree.specs.Looks.{PartsStand, EndStands, AreStanding, EndIsStanding};
+ghost use Rattle.syntax_tree.specs.Looks.{PartsStand, EndStands, AreStanding, EndIsStanding, AllNamed};
 ghost use Rattle.scheme_model.specs.Shapes.{named_tree_of};
 ghost use Rattle.core_forms.specs.Forms.{shape_of};
 ghost use Rattle.core_forms.specs.Marks.{AreMarks};
 ghost use Rattle.core_forms.specs.Ends.{keyword_as, Ends, ShapeFor, IsSyntax};
 ghost use Rattle.core_forms.specs.declared.fault.CoreFault.TheVariants as fault;
+ghost use Rattle.core_forms.specs.Named.{ShapeNamed};
+ghost use Rattle.syntax_tree.specs.declared.trees.table.Region.{Region};
 
 use crate::conditional::{cond_expand_of, error_text_of, if_of};
 use crate::definition::{definition_of, named_tree_of, values_of};
@@ -35,9 +37,10 @@ pub fn shape_of(
 ) -> Result<CoreShape, CoreFault>
     requires parts { AreStanding work.now items.now }
     requires tail { EndIsStanding work.now end }
-    ensures { (k : ModelKeyword) (mark : Identifier → Option Mark) (ts : Trees Identifier) (tail : Tail Identifier) → keyword_as keyword ≡ Some k →
+    ensures read { (k : ModelKeyword) (mark : Identifier → Option Mark) (ts : Trees Identifier) (tail : Tail Identifier) → keyword_as keyword ≡ Some k →
         AreMarks work.now marks.now mark → PartsStand work.now items.now ts → EndStands work.now end tail →
         Ends work.now (ShapeFor work.now) (shape_of k expression mark ts tail) result }
+    ensures named { (region : Region) → AllNamed work.now region items.now → IfOk result (ShapeNamed work.now region) }
 {
     match keyword {
         CoreKeyword::Quote => Ok(CoreShape::Quote(one_of(work, items, end)?)),
@@ -101,20 +104,26 @@ fn quasiquotation(
 ) -> Result<CoreShape, CoreFault>
     requires parts { AreStanding work.now items.now }
     requires tail { EndIsStanding work.now end }
-    ensures { (mark : Identifier → Option Mark) (ts : Trees Identifier) (tail : Tail Identifier) → AreMarks work.now marks.now mark →
+    ensures read { (mark : Identifier → Option Mark) (ts : Trees Identifier) (tail : Tail Identifier) → AreMarks work.now marks.now mark →
         PartsStand work.now items.now ts → EndStands work.now end tail →
         Ends work.now (ShapeFor work.now) (shape_of IsQuasiquote true mark ts tail) result }
+    ensures named { (region : Region) → AllNamed work.now region items.now → IfOk result (ShapeNamed work.now region) }
 {
     let datum = one_of(work, items, end)?;
-    let parts = holes_of(alloc, work, marks, datum)?;
-    Ok(CoreShape::Quasi { datum, parts })
+    let found = holes_of(alloc, work, marks, datum)?;
+    Ok(CoreShape::Quasi {
+        datum,
+        parts: found.trees,
+        places: found.places,
+    })
 }
 
 /// `(set! id e)`.
 fn assignment(work: &Work, items: &[Tree], end: Option<Tree>) -> Result<CoreShape, CoreFault>
     requires { AreStanding work.now items.now }
-    ensures { (mark : Identifier → Option Mark) (ts : Trees Identifier) (tail : Tail Identifier) → PartsStand work.now items.now ts →
+    ensures read { (mark : Identifier → Option Mark) (ts : Trees Identifier) (tail : Tail Identifier) → PartsStand work.now items.now ts →
         EndStands work.now end tail → Ends work.now (ShapeFor work.now) (shape_of IsSet true mark ts tail) result }
+    ensures named { (region : Region) → AllNamed work.now region items.now → IfOk result (ShapeNamed work.now region) }
 {
     let named = named_tree_of(work, items, end)?;
     Ok(CoreShape::Set {
@@ -132,8 +141,9 @@ fn sequence(
     expression: bool,
 ) -> Result<CoreShape, CoreFault>
     requires { AreStanding work.now items.now }
-    ensures { (mark : Identifier → Option Mark) (ts : Trees Identifier) (tail : Tail Identifier) → PartsStand work.now items.now ts →
+    ensures read { (mark : Identifier → Option Mark) (ts : Trees Identifier) (tail : Tail Identifier) → PartsStand work.now items.now ts →
         EndStands work.now end tail → Ends work.now (ShapeFor work.now) (shape_of IsBegin expression mark ts tail) result }
+    ensures named { (region : Region) → AllNamed work.now region items.now → IfOk result (ShapeNamed work.now region) }
 {
     if expression {
         return Ok(CoreShape::Begin(some_of(alloc, work, items, end)?));
@@ -144,8 +154,9 @@ fn sequence(
 /// `(define-syntax id rules)`.
 fn define_syntax(work: &Work, items: &[Tree], end: Option<Tree>) -> Result<CoreShape, CoreFault>
     requires { AreStanding work.now items.now }
-    ensures { (ts : Trees Identifier) (tail : Tail Identifier) → PartsStand work.now items.now ts → EndStands work.now end tail →
+    ensures read { (ts : Trees Identifier) (tail : Tail Identifier) → PartsStand work.now items.now ts → EndStands work.now end tail →
         Ends work.now (IsSyntax work.now) (named_tree_of ts tail) result }
+    ensures named { (region : Region) → AllNamed work.now region items.now → IfOk result (ShapeNamed work.now region) }
 {
     let named = named_tree_of(work, items, end)?;
     Ok(CoreShape::DefineSyntax {

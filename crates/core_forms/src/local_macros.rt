@@ -3,11 +3,13 @@ ghost use Rattle.std.specs.Prelude.{◌≡◌, map, IfOk};
 ghost use Rattle.scheme_model.specs.Trees.{Tree as ModelTree, Trees, Tail};
 ghost use Rattle.scheme_model.specs.Shapes.{local_macros_of};
 ghost use Rattle.scheme_model.specs.Ident.{Ident as Identifier, same_ident};
-ghost use Rattle.syntax_tree.specs.Looks.{PartsStand, EndStands, AreStanding};
-ghost use Rattle.syntax_tree.specs.Works.{StandsFor, IsStanding};
+ghost use Rattle.syntax_tree.specs.Looks.{PartsStand, EndStands, AreStanding, AllNamed};
+ghost use Rattle.syntax_tree.specs.Works.{StandsFor, IsStanding, CanName};
 ghost use Rattle.core_forms.specs.Parts.{IsMacro, AreBindings};
 ghost use Rattle.core_forms.specs.Steps.{binding_of, bindings_in, bindings_of_list};
 ghost use Rattle.core_forms.specs.Ends.{Ends, IsLocal};
+ghost use Rattle.core_forms.specs.Named.{MacroNamed, MacrosNamed, ShapeNamed};
+ghost use Rattle.syntax_tree.specs.declared.trees.table.Region.{Region};
 
 use crate::definition::named_tree_of;
 use crate::fault::CoreFault;
@@ -27,8 +29,9 @@ pub fn local_macros_of(
     end: Option<Tree>,
 ) -> Result<CoreShape, CoreFault>
     requires { AreStanding work.now items.now }
-    ensures { (ts : Trees Identifier) (tail : Tail Identifier) → PartsStand work.now items.now ts → EndStands work.now end tail →
+    ensures read { (ts : Trees Identifier) (tail : Tail Identifier) → PartsStand work.now items.now ts → EndStands work.now end tail →
         Ends work.now (IsLocal work.now) (local_macros_of same_ident ts tail) result }
+    ensures named { (region : Region) → AllNamed work.now region items.now → IfOk result (ShapeNamed work.now region) }
 {
     match row_of(work, items) {
         Row::Empty => Err(CoreFault::BadForm),
@@ -45,7 +48,8 @@ pub fn local_macros_of(
 /// The list of the macros.
 fn bindings_of_list(alloc: Global, work: &Work, tree: Tree) -> Result<Vec<LocalMacro>, CoreFault>
     requires { IsStanding work.now tree }
-    ensures { (t : ModelTree Identifier) → StandsFor work.now tree t → Ends work.now (AreBindings work.now) (bindings_of_list t) result }
+    ensures read { (t : ModelTree Identifier) → StandsFor work.now tree t → Ends work.now (AreBindings work.now) (bindings_of_list t) result }
+    ensures named { (region : Region) → CanName work.now region tree → IfOk result (MacrosNamed work.now region) }
 {
     match look_at(work, tree) {
         Look::List(items, end) => {
@@ -63,7 +67,8 @@ fn bindings_of_list(alloc: Global, work: &Work, tree: Tree) -> Result<Vec<LocalM
 /// Macros in a row.
 fn bindings_in(alloc: Global, work: &Work, items: &[Tree]) -> Result<Vec<LocalMacro>, CoreFault>
     requires { AreStanding work.now items.now }
-    ensures { (ts : Trees Identifier) → PartsStand work.now items.now ts → Ends work.now (AreBindings work.now) (bindings_in ts) result }
+    ensures read { (ts : Trees Identifier) → PartsStand work.now items.now ts → Ends work.now (AreBindings work.now) (bindings_in ts) result }
+    ensures named { (region : Region) → AllNamed work.now region items.now → IfOk result (MacrosNamed work.now region) }
 {
     let mut macros = Vec::new(alloc);
     for item in items {
@@ -76,7 +81,8 @@ fn bindings_in(alloc: Global, work: &Work, items: &[Tree]) -> Result<Vec<LocalMa
 /// `(id rules)`.
 fn binding_of(work: &Work, tree: Tree) -> Result<LocalMacro, CoreFault>
     requires { IsStanding work.now tree }
-    ensures { (t : ModelTree Identifier) → StandsFor work.now tree t → Ends work.now (IsMacro work.now) (binding_of t) result }
+    ensures read { (t : ModelTree Identifier) → StandsFor work.now tree t → Ends work.now (IsMacro work.now) (binding_of t) result }
+    ensures named { (region : Region) → CanName work.now region tree → IfOk result (MacroNamed work.now region) }
 {
     match look_at(work, tree) {
         Look::List(items, end) => named_tree_of(work, items, end),

@@ -19,7 +19,6 @@ use scheme_model::Occ;
 use std::alloc::Global;
 use std::collections::BTreeSet;
 use syntax_tree::look::{Look, look_at};
-use syntax_tree::symbols::IdNo;
 use syntax_tree::trees::{Leaf, Node, Tree, Work};
 
 /// An identifier with its place.
@@ -130,18 +129,18 @@ pub fn distinct(alloc: Global, work: &Work, names: &[NamePart]) -> Result<(), Co
     work.symbols.told_apart();
     match first_twice(alloc, names)? {
         None => Ok(()),
-        Some(id) => Err(CoreFault::DuplicateBinder(id)),
+        Some(name) => Err(CoreFault::DuplicateBinder(name)),
     }
 }
 
-/// The first identifier that is among those before it.
-fn first_twice(alloc: Global, names: &[NamePart]) -> Mem<Option<IdNo>>
+/// The first identifier that is among those before it, with its place.
+fn first_twice(alloc: Global, names: &[NamePart]) -> Mem<Option<NamePart>>
     ensures { IfOk result (λ twice. twice ≡ twice_by_number [] names.now) }
 {
     let mut seen = BTreeSet::new(alloc);
     for name in names {
         if !seen.insert(name.ident)? {
-            return Ok(Some(name.ident));
+            return Ok(Some(*name));
         }
     }
     Ok(None)

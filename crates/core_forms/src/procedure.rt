@@ -1,13 +1,15 @@
 //! `lambda` and `case-lambda` (R7RS 4.1.4, 4.2.9).
-ghost use Rattle.std.specs.Prelude.{List};
+ghost use Rattle.std.specs.Prelude.{List, IfOk};
 ghost use Rattle.scheme_model.specs.Trees.{Tree as ModelTree, Trees, Tail};
 ghost use Rattle.scheme_model.specs.Shapes.{Clause, clause_in, clauses_in, distinct_all, lambda_of, case_lambda_of};
 ghost use Rattle.scheme_model.specs.Ident.{Ident as Identifier, same_ident};
-ghost use Rattle.syntax_tree.specs.Looks.{PartsStand, EndStands, AreStanding};
-ghost use Rattle.syntax_tree.specs.Works.{StandsFor, IsStanding};
+ghost use Rattle.syntax_tree.specs.Looks.{PartsStand, EndStands, AreStanding, AllNamed};
+ghost use Rattle.syntax_tree.specs.Works.{StandsFor, IsStanding, CanName};
 ghost use Rattle.core_forms.specs.Parts.{AllMatch, IsClause, AreClauses};
 ghost use Rattle.core_forms.specs.Steps.{clause_of};
 ghost use Rattle.core_forms.specs.Ends.{Ends, Passes};
+ghost use Rattle.core_forms.specs.Named.{ClauseNamed, ClausesNamed};
+ghost use Rattle.syntax_tree.specs.declared.trees.table.Region.{Region};
 
 use crate::fault::CoreFault;
 use crate::names::{distinct, formals_of};
@@ -25,8 +27,9 @@ pub fn lambda_of(
     end: Option<Tree>,
 ) -> Result<ClauseShape, CoreFault>
     requires { AreStanding work.now items.now }
-    ensures { (ts : Trees Identifier) (tail : Tail Identifier) → PartsStand work.now items.now ts → EndStands work.now end tail →
+    ensures read { (ts : Trees Identifier) (tail : Tail Identifier) → PartsStand work.now items.now ts → EndStands work.now end tail →
         Ends work.now (IsClause work.now) (lambda_of same_ident ts tail) result }
+    ensures named { (region : Region) → AllNamed work.now region items.now → IfOk result (ClauseNamed work.now region) }
 {
     let clause = clause_in(alloc, work, items, end)?;
     distinct(alloc, work, clause.formals.names.as_slice())?;
@@ -41,8 +44,9 @@ fn clause_in(
     end: Option<Tree>,
 ) -> Result<ClauseShape, CoreFault>
     requires { AreStanding work.now items.now }
-    ensures { (ts : Trees Identifier) (tail : Tail Identifier) → PartsStand work.now items.now ts → EndStands work.now end tail →
+    ensures read { (ts : Trees Identifier) (tail : Tail Identifier) → PartsStand work.now items.now ts → EndStands work.now end tail →
         Ends work.now (IsClause work.now) (clause_in ts tail) result }
+    ensures named { (region : Region) → AllNamed work.now region items.now → IfOk result (ClauseNamed work.now region) }
 {
     match row_of(work, items) {
         Row::Empty => Err(CoreFault::BadForm),
@@ -57,7 +61,8 @@ fn clause_in(
 /// A clause of `case-lambda`.
 fn clause_of(alloc: Global, work: &Work, tree: Tree) -> Result<ClauseShape, CoreFault>
     requires { IsStanding work.now tree }
-    ensures { (t : ModelTree Identifier) → StandsFor work.now tree t → Ends work.now (IsClause work.now) (clause_of t) result }
+    ensures read { (t : ModelTree Identifier) → StandsFor work.now tree t → Ends work.now (IsClause work.now) (clause_of t) result }
+    ensures named { (region : Region) → CanName work.now region tree → IfOk result (ClauseNamed work.now region) }
 {
     match look_at(work, tree) {
         Look::List(items, end) => clause_in(alloc, work, items, end),
@@ -70,8 +75,9 @@ fn clause_of(alloc: Global, work: &Work, tree: Tree) -> Result<ClauseShape, Core
 /// Clauses in a row.
 fn clauses_in(alloc: Global, work: &Work, items: &[Tree]) -> Result<Vec<ClauseShape>, CoreFault>
     requires { AreStanding work.now items.now }
-    ensures { (ts : Trees Identifier) → PartsStand work.now items.now ts →
+    ensures read { (ts : Trees Identifier) → PartsStand work.now items.now ts →
         Ends work.now (AreClauses work.now) (clauses_in ts) result }
+    ensures named { (region : Region) → AllNamed work.now region items.now → IfOk result (ClausesNamed work.now region) }
 {
     let mut clauses = Vec::new(alloc);
     for item in items {
@@ -100,8 +106,9 @@ pub fn case_lambda_of(
     end: Option<Tree>,
 ) -> Result<Vec<ClauseShape>, CoreFault>
     requires { AreStanding work.now items.now }
-    ensures { (ts : Trees Identifier) (tail : Tail Identifier) → PartsStand work.now items.now ts → EndStands work.now end tail →
+    ensures read { (ts : Trees Identifier) (tail : Tail Identifier) → PartsStand work.now items.now ts → EndStands work.now end tail →
         Ends work.now (AreClauses work.now) (case_lambda_of same_ident ts tail) result }
+    ensures named { (region : Region) → AllNamed work.now region items.now → IfOk result (ClausesNamed work.now region) }
 {
     if end.is_some() {
         return Err(CoreFault::BadForm);

@@ -1,18 +1,21 @@
 //! Quasiquoted data (R7RS 4.2.8): what is unquoted in them at the outermost level. A mark's form is the rest of the list from the
 //! mark on.
-ghost use Rattle.std.specs.Prelude.{◌≡◌, ℕ, ◌+◌, ◌^◌, ◌<◌, ◌≤◌, length, Option, IfOk};
+ghost use Rattle.std.specs.Prelude.{◌≡◌, ℕ, ◌+◌, ◌^◌, ◌<◌, ◌≤◌, length, Option, IfOk, OnOk};
 ghost use Rattle.std.specs.BTreeMap.{get};
 ghost use Rattle.std.specs.Ordering.{nat_cmp};
 ghost use Rattle.scheme_model.specs.declared.Occ.{Occ};
 ghost use Rattle.scheme_model.specs.Trees.{Tree as ModelTree, Trees, Tail};
+ghost use Rattle.scheme_model.specs.Measures.{tree_size, trees_size, tail_size};
 ghost use Rattle.scheme_model.specs.Shapes.{one_of};
 ghost use Rattle.scheme_model.specs.Matching.{behind};
 ghost use Rattle.scheme_model.specs.Quasiquote.{Mark, hole_of, pieces_of, row_of, parts_of, tail_of, quasi_of};
 ghost use Rattle.scheme_model.specs.Ident.{Ident as Identifier};
-ghost use Rattle.syntax_tree.specs.Looks.{PartsStand, EndStands};
-ghost use Rattle.syntax_tree.specs.Works.{StandsFor, IsStanding};
+ghost use Rattle.syntax_tree.specs.Looks.{PartsStand, EndStands, AllNamed, EndNamed};
+ghost use Rattle.syntax_tree.specs.Works.{StandsFor, IsStanding, CanName};
 ghost use Rattle.core_forms.specs.Marks.{kind_of, kind_if_any, mark_as, mark_of_tree, step_by, IsNear, keyword_by_number, AreMarks, TellsMarks, CanFind, CanFindParts, CanFindRow};
 ghost use Rattle.core_forms.specs.Ends.{Ends, HasHoles, AddsPieces, AddsRow};
+ghost use Rattle.core_forms.specs.Named.{TreesNamed};
+ghost use Rattle.syntax_tree.specs.declared.trees.table.Region.{Region};
 
 use crate::fault::CoreFault;
 use crate::shape::{CoreKeyword, QuasiMark};
@@ -40,23 +43,37 @@ pub enum Step {
     Misplaced,
 }
 
-/// The unquoted expressions of a datum.
+/// What is found in a datum: the unquoted expressions, for each of them how many nodes stand before its hole outside of holes, and how
+/// many such nodes were passed.
+#[derive(Drop)]
+pub struct Found {
+    pub trees: Vec<Tree>,
+    pub places: Vec<u32>,
+    pub passed: u32,
+}
+
+/// The unquoted expressions of a datum, and the places of their holes.
 pub fn holes_of(
     alloc: Global,
     work: &Work,
     marks: &[QuasiMark],
     datum: Tree,
-) -> Result<Vec<Tree>, CoreFault>
+) -> Result<Found, CoreFault>
     requires { IsStanding work.now datum }
-    ensures { (mark : Identifier → Option Mark) (t : ModelTree Identifier) → AreMarks work.now marks.now mark → StandsFor work.now datum t →
+    ensures read { (mark : Identifier → Option Mark) (t : ModelTree Identifier) → AreMarks work.now marks.now mark → StandsFor work.now datum t →
         Ends work.now (HasHoles work.now) (quasi_of mark t) result }
+    ensures named { (region : Region) → CanName work.now region datum → IfOk result (λ found. TreesNamed work.now region found.trees) }
 {
     let told = by_number(alloc, marks)?;
     let depth = work.depth(datum);
     let _size = work.size(datum);
-    let mut holes = Vec::new(alloc);
-    find(work, &told, datum, 0, false, depth, &mut holes)?;
-    Ok(holes)
+    let mut found = Found {
+        trees: Vec::new(alloc),
+        places: Vec::new(alloc),
+        passed: 0,
+    };
+    find(work, &told, datum, 0, false, depth, &mut found)?;
+    Ok(found)
 }
 
 /// Marks by number: of a number that stands twice, the first.
@@ -81,12 +98,18 @@ fn find(
     level: u32,
     element: bool,
     left: u32,
-    holes: &mut Vec<Tree>,
+    found: &mut Found,
 ) -> Result<(), CoreFault>
-    requires { CanFind work.now tree level left }
-    ensures { (mark : Identifier → Option Mark) (t : ModelTree Identifier) → TellsMarks work.now told.now mark → StandsFor work.now tree t →
-        AddsPieces work.now holes.old.items holes.new.items (pieces_of mark t level element) result }
+    requires level { CanFind work.now tree level left }
+    requires passed { CanFind work.now tree found.old.passed left }
+    ensures read { (mark : Identifier → Option Mark) (t : ModelTree Identifier) → TellsMarks work.now told.now mark → StandsFor work.now tree t →
+        AddsPieces work.now found.old found.new (pieces_of mark t level element) result }
+    ensures named { (region : Region) → CanName work.now region tree → AllNamed work.now region found.old.trees.items →
+        OnOk result (AllNamed work.now region found.new.trees.items) }
+    ensures bounded { (t : ModelTree Identifier) → StandsFor work.now tree t →
+        OnOk result (found.new.passed ≤ found.old.passed + tree_size t) }
 {
+    found.passed += 1;
     match look_at(work, tree) {
         Look::Name(_) => Ok(()),
         Look::Atom(_) => Ok(()),
@@ -98,9 +121,9 @@ fn find(
             level,
             element,
             left - 1,
-            holes,
+            found,
         )?),
-        Look::Vector(items) => Ok(find_parts(work, told, items, level, left - 1, holes)?),
+        Look::Vector(items) => Ok(find_parts(work, told, items, level, left - 1, found)?),
     }
 }
 
@@ -112,14 +135,19 @@ fn find_parts(
     items: &[Tree],
     level: u32,
     left: u32,
-    holes: &mut Vec<Tree>,
+    found: &mut Found,
 ) -> Result<(), CoreFault>
-    requires { CanFindParts work.now items.now level left }
-    ensures { (mark : Identifier → Option Mark) (ts : Trees Identifier) → TellsMarks work.now told.now mark → PartsStand work.now items.now ts →
-        AddsRow work.now holes.old.items holes.new.items (parts_of mark ts level) result }
+    requires level { CanFindParts work.now items.now level left }
+    requires passed { CanFindParts work.now items.now found.old.passed left }
+    ensures read { (mark : Identifier → Option Mark) (ts : Trees Identifier) → TellsMarks work.now told.now mark → PartsStand work.now items.now ts →
+        AddsRow work.now found.old found.new (parts_of mark ts level) result }
+    ensures named { (region : Region) → AllNamed work.now region items.now → AllNamed work.now region found.old.trees.items →
+        OnOk result (AllNamed work.now region found.new.trees.items) }
+    ensures bounded { (ts : Trees Identifier) → PartsStand work.now items.now ts →
+        OnOk result (found.new.passed ≤ found.old.passed + trees_size ts) }
 {
     for k in 0..items.len() {
-        find(work, told, items[k], level, true, left, holes)?;
+        find(work, told, items[k], level, true, left, found)?;
     }
     Ok(())
 }
@@ -134,49 +162,63 @@ fn find_row(
     level: u32,
     element: bool,
     left: u32,
-    holes: &mut Vec<Tree>,
+    found: &mut Found,
 ) -> Result<(), CoreFault>
-    requires { CanFindRow work.now items.now end level left }
-    ensures { (mark : Identifier → Option Mark) (ts : Trees Identifier) (tail : Tail Identifier) → TellsMarks work.now told.now mark →
+    requires level { CanFindRow work.now items.now end level left }
+    requires passed { CanFindRow work.now items.now end found.old.passed left }
+    ensures read { (mark : Identifier → Option Mark) (ts : Trees Identifier) (tail : Tail Identifier) → TellsMarks work.now told.now mark →
         PartsStand work.now items.now ts → EndStands work.now end tail →
-        AddsRow work.now holes.old.items holes.new.items (row_of mark ts tail (tail_of mark tail) level element) result }
+        AddsRow work.now found.old found.new (row_of mark ts tail (tail_of mark tail) level element) result }
+    ensures named { (region : Region) → AllNamed work.now region items.now → EndNamed work.now region end → AllNamed work.now region found.old.trees.items →
+        OnOk result (AllNamed work.now region found.new.trees.items) }
+    ensures bounded { (ts : Trees Identifier) (tail : Tail Identifier) → PartsStand work.now items.now ts → EndStands work.now end tail →
+        OnOk result (found.new.passed ≤ found.old.passed + trees_size ts + tail_size tail) }
 {
     let mut inner = level;
     let mut first = element;
     for k in 0..items.len() {
         match step_of(work, told, items[k], inner, first) {
-            Step::Into => find(work, told, items[k], inner, true, left, holes)?,
-            Step::Level(next) => inner = next,
-            Step::Hole => return hole_at(work, items, k + 1, end, holes),
+            Step::Into => find(work, told, items[k], inner, true, left, found)?,
+            Step::Level(next) => {
+                found.passed += 1;
+                inner = next;
+            }
+            Step::Hole => return hole_at(work, items, k + 1, end, found),
             Step::Misplaced => return Err(CoreFault::BadQuasi),
         }
         first = false;
     }
     match end {
         None => Ok(()),
-        Some(last) => Ok(find(work, told, last, inner, false, left, holes)?),
+        Some(last) => Ok(find(work, told, last, inner, false, left, found)?),
     }
 }
 
-/// Adds the one tree that stands at a place, where nothing follows it.
+/// Passes a mark, and adds the one tree that stands at the place behind it, where nothing follows.
 fn hole_at(
     work: &Work,
     items: &[Tree],
     at: usize,
     end: Option<Tree>,
-    holes: &mut Vec<Tree>,
+    found: &mut Found,
 ) -> Result<(), CoreFault>
-    requires { at ≤ length items.now }
-    ensures { (i : Identifier) (o : Option Occ) (ts : Trees Identifier) (tail : Tail Identifier) → PartsStand work.now items.now ts →
+    requires within { at ≤ length items.now }
+    requires passed { found.old.passed + 1 < 2 ^ 32 }
+    ensures read { (i : Identifier) (o : Option Occ) (ts : Trees Identifier) (tail : Tail Identifier) → PartsStand work.now items.now ts →
         EndStands work.now end tail →
-        AddsRow work.now holes.old.items holes.new.items (hole_of i o (one_of (behind at ts) tail)) result }
+        AddsRow work.now found.old found.new (hole_of i o (one_of (behind at ts) tail)) result }
+    ensures named { (region : Region) → AllNamed work.now region items.now → AllNamed work.now region found.old.trees.items →
+        OnOk result (AllNamed work.now region found.new.trees.items) }
+    ensures bounded { OnOk result (found.new.passed ≤ found.old.passed + 1) }
 {
     if items.len() != at + 1 {
         return Err(CoreFault::BadQuasi);
     }
     match end {
         None => {
-            holes.push(items[at])?;
+            found.passed += 1;
+            found.places.push(found.passed)?;
+            found.trees.push(items[at])?;
             Ok(())
         }
         Some(_) => Err(CoreFault::BadQuasi),

@@ -1,11 +1,14 @@
 //! Rows of trees: by the first, whole, or a single one.
+ghost use Rattle.std.specs.Prelude.{IfOk};
 ghost use Rattle.scheme_model.specs.Trees.{Trees, Tail};
 ghost use Rattle.scheme_model.specs.Shapes.{one_of, some_of, proper_of};
 ghost use Rattle.scheme_model.specs.Ident.{Ident as Identifier};
-ghost use Rattle.syntax_tree.specs.Looks.{PartsStand, EndStands};
-ghost use Rattle.syntax_tree.specs.Works.{StandsFor};
+ghost use Rattle.syntax_tree.specs.Looks.{PartsStand, EndStands, AllNamed};
+ghost use Rattle.syntax_tree.specs.Works.{StandsFor, CanName};
 ghost use Rattle.core_forms.specs.Parts.{IsRow, AreTrees};
 ghost use Rattle.core_forms.specs.Ends.{Ends};
+ghost use Rattle.core_forms.specs.Named.{RowNamed, TreesNamed};
+ghost use Rattle.syntax_tree.specs.declared.trees.table.Region.{Region};
 
 use crate::fault::CoreFault;
 use std::alloc::Global;
@@ -20,7 +23,8 @@ pub enum Row<'a> {
 
 /// A row by its first tree.
 pub fn row_of<'a>(work: &Work, items: &'a [Tree]) -> Row<'a>
-    ensures { (ts : Trees Identifier) → PartsStand work.now items.now ts → IsRow work.now result ts }
+    ensures read { (ts : Trees Identifier) → PartsStand work.now items.now ts → IsRow work.now result ts }
+    ensures named { (region : Region) → AllNamed work.now region items.now → RowNamed work.now region result }
 {
     match items.split_first() {
         None => Row::Empty,
@@ -35,8 +39,9 @@ pub fn proper_of(
     items: &[Tree],
     end: Option<Tree>,
 ) -> Result<Vec<Tree>, CoreFault>
-    ensures { (ts : Trees Identifier) (tail : Tail Identifier) → PartsStand work.now items.now ts → EndStands work.now end tail →
+    ensures read { (ts : Trees Identifier) (tail : Tail Identifier) → PartsStand work.now items.now ts → EndStands work.now end tail →
         Ends work.now (AreTrees work.now) (proper_of ts tail) result }
+    ensures named { (region : Region) → AllNamed work.now region items.now → IfOk result (TreesNamed work.now region) }
 {
     if end.is_some() {
         return Err(CoreFault::BadForm);
@@ -51,8 +56,9 @@ pub fn some_of(
     items: &[Tree],
     end: Option<Tree>,
 ) -> Result<Vec<Tree>, CoreFault>
-    ensures { (ts : Trees Identifier) (tail : Tail Identifier) → PartsStand work.now items.now ts → EndStands work.now end tail →
+    ensures read { (ts : Trees Identifier) (tail : Tail Identifier) → PartsStand work.now items.now ts → EndStands work.now end tail →
         Ends work.now (AreTrees work.now) (some_of ts tail) result }
+    ensures named { (region : Region) → AllNamed work.now region items.now → IfOk result (TreesNamed work.now region) }
 {
     match row_of(work, items) {
         Row::Empty => Err(CoreFault::BadForm),
@@ -62,8 +68,9 @@ pub fn some_of(
 
 /// The one tree of a proper list.
 pub fn one_of(work: &Work, items: &[Tree], end: Option<Tree>) -> Result<Tree, CoreFault>
-    ensures { (ts : Trees Identifier) (tail : Tail Identifier) → PartsStand work.now items.now ts → EndStands work.now end tail →
+    ensures read { (ts : Trees Identifier) (tail : Tail Identifier) → PartsStand work.now items.now ts → EndStands work.now end tail →
         Ends work.now (StandsFor work.now) (one_of ts tail) result }
+    ensures named { (region : Region) → AllNamed work.now region items.now → IfOk result (CanName work.now region) }
 {
     match row_of(work, items) {
         Row::Empty => Err(CoreFault::BadForm),

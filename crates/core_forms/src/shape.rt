@@ -77,13 +77,15 @@ pub struct FieldShape {
     pub modifier: Option<NamePart>,
 }
 
-/// What a core form is read as. The parts of a quasiquotation are its unquoted expressions.
+/// What a core form is read as. The parts of a quasiquotation are its unquoted expressions, and the places tell for each how many
+/// nodes of the datum stand before its hole outside of holes, from left to right and a list before its parts.
 #[derive(Drop)]
 pub enum CoreShape {
     Quote(Tree),
     Quasi {
         datum: Tree,
         parts: Vec<Tree>,
+        places: Vec<u32>,
     },
     Lambda(ClauseShape),
     CaseLambda(Vec<ClauseShape>),

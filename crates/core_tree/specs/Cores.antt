@@ -9,7 +9,7 @@ use Rattle.scheme_model.specs.Cores.{Core, Ref, Const, Quote, Quasi, Lambda, Cas
 use Rattle.syntax_tree.specs.Works.{StandsFor}
 use Rattle.syntax_tree.specs.declared.trees.Work.{Work}
 use Rattle.syntax_tree.specs.declared.trees.nodes.Tree as number
-use Rattle.core_tree.specs.Holes.{hole_places, HasHoles}
+use Rattle.scheme_model.specs.Holes.{hole_places, HasHoles}
 use Rattle.core_tree.specs.Names.{AllMatch, IsBinder, IsTarget, IsMacro, IsField}
 use Rattle.core_tree.specs.declared.cores.Binder as code_binder
 use Rattle.core_tree.specs.declared.cores.Target as code_target

@@ -1,4 +1,3 @@
-pub mod Holes
 pub mod Names
 pub mod Cores
 pub mod Traces

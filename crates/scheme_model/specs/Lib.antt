@@ -37,6 +37,7 @@ pub mod RulesShape
 pub mod Matching
 pub mod Building
 pub mod Cores
+pub mod Holes
 pub mod Steps
 pub mod Order
 pub mod Leaves

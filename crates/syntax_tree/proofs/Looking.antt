@@ -1,6 +1,7 @@
 -- Rows of trees by their numbers: what stands at a place and behind it, and how deep it is.
-use Rattle.std.proofs.Common.{◌≡◌, ℕ, zero, suc, ◌+◌, ◌-◌, ◌<◌, ◌≤◌, List, [], ◌∷◌, length, get_or, drop, Option, Some, None, refl, sym, ap, ◌∙◌, subst, arith, add-one}
-use Rattle.std.specs.Prelude.{max, is_some, Bool, true, false, if◌then◌else◌}
+use Rattle.std.proofs.Common.{◌≡◌, ℕ, zero, suc, ◌+◌, ◌-◌, ◌<◌, ◌≤◌, List, [], ◌∷◌, ◌++◌, length, get_or, drop, Option, Some, None, refl, sym, ap, ◌∙◌, subst, arith, add-one}
+use Rattle.std.specs.Prelude.{max, is_some, Bool, true, false, if◌then◌else◌, Vec}
+use Rattle.std.specs.declared.alloc.Global.{Global}
 use Rattle.std.proofs.lemmas.Option.{same_Some}
 use Rattle.scheme_model.specs.RulesShape.{is_dots, dots_count}
 use Rattle.scheme_model.specs.declared.Occ.{Occ}
@@ -9,10 +10,12 @@ use Rattle.scheme_model.specs.TreeParts.{count}
 use Rattle.scheme_model.specs.Matching.{behind}
 use Rattle.scheme_model.specs.Ident.{Ident as Identifier}
 use Rattle.scheme_model.specs.Measures.{tree_depth, trees_depth, tail_depth}
-use Rattle.syntax_tree.specs.Works.{StandsFor, IsStanding}
-use Rattle.syntax_tree.specs.Looks.{PartsStand, EndStands, AreStanding, EndIsStanding, StandsWithin, PartsWithin, EndWithin}
+use Rattle.syntax_tree.specs.Works.{StandsFor, IsStanding, CanName, CanNameParts}
+use Rattle.syntax_tree.specs.Looks.{PartsStand, EndStands, AreStanding, EndIsStanding, StandsWithin, PartsWithin, EndWithin, AllNamed, EndNamed}
 use Rattle.syntax_tree.specs.declared.trees.Work.{Work}
 use Rattle.syntax_tree.specs.declared.trees.nodes.Tree as number
+use Rattle.syntax_tree.specs.declared.trees.nodes.Node.TheVariants as node
+use Rattle.syntax_tree.specs.declared.trees.table.Region.{Region}
 
 -- ---- depths
 
@@ -146,3 +149,21 @@ dots_more dots us t rest n m true e h g =
 dots_more dots us t rest n m false e h g =
     let a : dots_count dots us ≡ dots_count dots rest = ap (dots_count dots) e ∙ ap (λ (x : Bool). if x then suc (dots_count dots rest) else dots_count dots rest) (sym h) in
     omega (arith, g)
+
+-- ---- what nodes of a region may name
+
+-- the parts and the tail of a list
+pub list_named : (work : Work) (region : Region) (items : Vec number.Tree Global) (tail : Option number.Tree) (o : Option Occ) → CanNameParts work region (node.List items tail o) → AllNamed work region items.items × EndNamed work region tail
+list_named work region items None o h = (h, tt)
+list_named work region items (Some n) o h = (h.1, h.0)
+
+-- the tree at a place
+pub part_named : (work : Work) (region : Region) (k : ℕ) (ns : List number.Tree) (d : number.Tree) → AllNamed work region ns → k < length ns → CanName work region (get_or ns k d)
+part_named work region k [] d h l = absurd (omega arith)
+part_named work region zero (n ∷ ns) d h l = h.0
+part_named work region (suc k) (n ∷ ns) d h l = part_named work region k ns d h.1 (omega arith)
+
+-- one more
+pub named_more : (work : Work) (region : Region) (ns : List number.Tree) (n : number.Tree) → AllNamed work region ns → CanName work region n → AllNamed work region (ns ++ n ∷ [])
+named_more work region [] n h g = (g, tt)
+named_more work region (m ∷ ns) n h g = (h.0, named_more work region ns n h.1 g)

@@ -1,16 +1,19 @@
 -- Trees by their outermost nodes, and rows of trees: what walks over trees by number speak of.
-use Rattle.std.specs.Prelude.{◌≡◌, ℕ, ◌≤◌, List, Option, Some}
+use Rattle.std.specs.Prelude.{◌≡◌, ℕ, ◌≤◌, List, Option, Some, None}
+use Rattle.std.specs.List.{AllByRecursion}
 use Rattle.std.specs.Option.{option_map}
 use Rattle.scheme_model.specs.declared.Occ.{Occ}
 use Rattle.scheme_model.specs.Trees.{Atom, Tree, name, atom, list, vector, Trees, Tail}
 use Rattle.scheme_model.specs.Ident.{Ident as Identifier}
 use Rattle.scheme_model.specs.Measures.{tree_depth, trees_depth, tail_depth}
+use Rattle.syntax_tree.specs.Regions.{MayName}
 use Rattle.syntax_tree.specs.Standing.{leaf_tree, AllStand, TailStands}
 use Rattle.syntax_tree.specs.Kept.{numbers}
-use Rattle.syntax_tree.specs.Works.{StandsFor}
+use Rattle.syntax_tree.specs.Works.{StandsFor, CanName}
 use Rattle.syntax_tree.specs.Macros.{IsIdent}
 use Rattle.syntax_tree.specs.declared.trees.Work.{Work}
 use Rattle.syntax_tree.specs.declared.trees.nodes.Tree as number
+use Rattle.syntax_tree.specs.declared.trees.table.Region.{Region}
 use Rattle.syntax_tree.specs.declared.look.Look.{Look}
 use Rattle.syntax_tree.specs.declared.look.Look.TheVariants as looks
 
@@ -45,3 +48,21 @@ IsLook work (looks.Atom leaf) t = (a : Atom) × (o : Option Occ) × (t ≡ atom 
 IsLook work (looks.List ns end) t =
     (ts : Trees Identifier) × (tail : Tail Identifier) × (o : Option Occ) × (t ≡ list ts tail o) × PartsStand work ns.now ts × EndStands work end tail
 IsLook work (looks.Vector ns) t = (ts : Trees Identifier) × (o : Option Occ) × (t ≡ vector ts o) × PartsStand work ns.now ts
+
+-- ---- what nodes of a region may name
+
+-- all of these trees
+abbrev pub AllNamed : Work → Region → List number.Tree → Type 0
+AllNamed work region ns = AllByRecursion (MayName work.trees.nodes work.trees.regions region.number) (numbers ns)
+
+-- a tail, where there is one
+abbrev pub EndNamed : Work → Region → Option number.Tree → Type 0
+EndNamed work region None = Unit {0}
+EndNamed work region (Some n) = CanName work region n
+
+-- the parts that are seen of a tree
+abbrev pub LookNamed : Work → Region → Look → Type 0
+LookNamed work region (looks.Name n) = Unit {0}
+LookNamed work region (looks.Atom leaf) = Unit {0}
+LookNamed work region (looks.List ns end) = AllNamed work region ns.now × EndNamed work region end
+LookNamed work region (looks.Vector ns) = AllNamed work region ns.now

@@ -1,8 +1,9 @@
 //! A tree by its outermost node, for walks.
 ghost use Rattle.scheme_model.specs.Trees.{Tree as ModelTree};
 ghost use Rattle.scheme_model.specs.Ident.{Ident as Identifier};
-ghost use Rattle.syntax_tree.specs.Looks.{IsLook};
-ghost use Rattle.syntax_tree.specs.Works.{StandsFor, IsStanding};
+ghost use Rattle.syntax_tree.specs.Looks.{IsLook, LookNamed};
+ghost use Rattle.syntax_tree.specs.Works.{StandsFor, IsStanding, CanName};
+ghost use Rattle.syntax_tree.specs.declared.trees.table.Region.{Region};
 
 use crate::symbols::IdNo;
 use crate::trees::{Leaf, Node, Tree, Work};
@@ -16,10 +17,11 @@ pub enum Look<'a> {
     Vector(&'a [Tree]),
 }
 
-/// What a tree is. It takes no memory.
+/// What a tree is. Where nodes of a region may name the tree, they may name the parts that are seen. It takes no memory.
 pub fn look_at(work: &Work, tree: Tree) -> Look<'_>
     requires { IsStanding work.now tree }
-    ensures { (t : ModelTree Identifier) → StandsFor work.now tree t → IsLook work.now result t }
+    ensures look { (t : ModelTree Identifier) → StandsFor work.now tree t → IsLook work.now result t }
+    ensures named { (region : Region) → CanName work.now region tree → LookNamed work.now region result }
 {
     match work.node(tree) {
         Node::Atom {

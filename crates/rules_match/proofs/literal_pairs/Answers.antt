@@ -11,7 +11,7 @@ pub returns-in-List : goal.returns-in-List
 returns-in-List c = λ r t rules_for stands.
     let w = c.args.work.now in
     let rules = c.args.rules.now in
-    let q = c.in-List.ensures t stands in
+    let q = c.in-List.ensures.look t stands in
     let of = subst (λ (ls : List ℕ). AreRolesOf c.in_ok-roles.roles rules.ellipsis ls) c.as_slice.ensures c.in_ok-roles.ensures in
     let told = tells w.symbols c.in_ok-roles.roles rules r of rules_for.ellipsis rules_for.literals in
     let are = subst (λ (ns : List code_rule.Rule). AreRules w ns r.rules) (sym c.as_slice-in-List.ensures) rules_for.rules in

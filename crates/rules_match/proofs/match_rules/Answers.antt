@@ -15,7 +15,7 @@ use Rattle.rules_match.proofs.match_rules.Goals as goal
 pub returns-then-is_empty : goal.returns-then-is_empty
 returns-then-is_empty c = λ r t rules_for stands.
     let w = c.args.work.now in
-    let q = c.in-List.ensures t stands in
+    let q = c.in-List.ensures.look t stands in
     let n = count_stands w c.in-List.items.now q.0 q.4 in
     let none : length c.in-List.items.now ≡ 0 = grind (arith, nat_tests) in
     no_head r (means_same w c.args.same.now) t q.0 q.1 q.2 q.3 (omega arith)
@@ -33,7 +33,7 @@ matching_rule-requires-clause-rules c =
 
 pub matching_rule-requires-clause-form : goal.matching_rule-requires-clause-form
 matching_rule-requires-clause-form c =
-    let q = c.in-List.ensures c.requires.form.0 c.requires.form.1 in
+    let q = c.in-List.ensures.look c.requires.form.0 c.requires.form.1 in
     (q.0, (q.1, record { place = q.2; whole = subst (StandsFor c.args.work.now c.args.form) q.3 c.requires.form.1; stands = record { parts = q.4; tail = q.5 } }))
 
 pub returns-in_err-matching_rule-in-List : goal.returns-in_err-matching_rule-in-List
@@ -41,7 +41,7 @@ returns-in_err-matching_rule-in-List c = λ r t rules_for stands.
     let w = c.args.work.now in
     let rules = c.args.rules.now in
     let same = means_same w c.args.same.now in
-    let q = c.in-List.ensures t stands in
+    let q = c.in-List.ensures.look t stands in
     let n = count_stands w c.in-List.items.now q.0 q.4 in
     let some : 1 ≤ length c.in-List.items.now = grind (arith, nat_tests) in
     let of = subst (λ (ls : List ℕ). AreRolesOf c.in_ok-roles.roles rules.ellipsis ls) c.as_slice.ensures c.in_ok-roles.ensures in
@@ -58,7 +58,7 @@ returns-in-List c = λ r t rules_for stands.
     let w = c.args.work.now in
     let rules = c.args.rules.now in
     let same = means_same w c.args.same.now in
-    let q = c.in-List.ensures t stands in
+    let q = c.in-List.ensures.look t stands in
     let n = count_stands w c.in-List.items.now q.0 q.4 in
     let some : 1 ≤ length c.in-List.items.now = grind (arith, nat_tests) in
     let of = subst (λ (ls : List ℕ). AreRolesOf c.in_ok-roles.roles rules.ellipsis ls) c.as_slice.ensures c.in_ok-roles.ensures in

@@ -1,18 +1,16 @@
-use Rattle.std.proofs.Common.{ap, ◌∙◌, refl, true, false, Bool, Ok, Err}
-use Rattle.scheme_model.specs.Trees.{Trees, Tail}
-use Rattle.scheme_model.specs.Ident.{Ident as Identifier}
+use Rattle.std.proofs.Common.{ap, ◌∙◌, refl, Bool, Ok}
 use Rattle.scheme_model.specs.Keywords.{IsBegin}
 use Rattle.scheme_model.specs.Shapes.{some_of, proper_of}
 use Rattle.core_forms.specs.Forms.{Sequence, shape_of}
 use Rattle.core_forms.proofs.Reading.{then_ok}
 use Rattle.core_forms.proofs.forms.sequence.Goals as goal
 
-pub returns-then-expression : goal.returns-then-expression
-returns-then-expression c = λ mark ts tail stands ends.
-    let us = c.in_ok-some_of.ensures ts tail stands ends in
+pub returns-then-expression-clause-read : goal.returns-then-expression-clause-read
+returns-then-expression-clause-read c = λ mark ts tail stands ends.
+    let us = c.in_ok-some_of.ensures.read ts tail stands ends in
     (Sequence us.0, ap (λ (b : Bool). shape_of IsBegin b mark ts tail) c.if-expression.true ∙ then_ok (some_of ts tail) (λ us. Ok (Sequence us)) us.0 us.1, (_, refl, us.2))
 
-pub returns : goal.returns
-returns c = λ mark ts tail stands ends.
-    let us = c.in_ok-proper_of.ensures ts tail stands ends in
+pub returns-clause-read : goal.returns-clause-read
+returns-clause-read c = λ mark ts tail stands ends.
+    let us = c.in_ok-proper_of.ensures.read ts tail stands ends in
     (Sequence us.0, ap (λ (b : Bool). shape_of IsBegin b mark ts tail) c.if-expression.false ∙ then_ok (proper_of ts tail) (λ us. Ok (Sequence us)) us.0 us.1, (_, refl, us.2))

@@ -1,6 +1,6 @@
-use Rattle.std.proofs.Common.{sym, ap, ◌∙◌, subst, List, [], ◌∷◌, ◌++◌, true, false, None, Some, Ok, refl}
+use Rattle.std.proofs.Common.{sym, ap, ◌∙◌, subst, List, [], ◌∷◌, ◌++◌, true, false, Ok, refl}
 use Rattle.std.specs.Prelude.{is_some}
-use Rattle.scheme_model.specs.Trees.{Trees, Tail, proper, dotted}
+use Rattle.scheme_model.specs.Trees.{Tail}
 use Rattle.scheme_model.specs.ExpansionFaults.{◌>>◌}
 use Rattle.scheme_model.specs.Shapes.{formals_in, names_of, name_of}
 use Rattle.scheme_model.specs.Ident.{Ident as Identifier}

@@ -1,4 +1,4 @@
-use Rattle.std.proofs.Common.{sym, ap, ◌∙◌, refl, subst}
+use Rattle.std.proofs.Common.{ap, refl, subst}
 use Rattle.std.specs.Prelude.{◌≡◌, Some}
 use Rattle.scheme_model.specs.ExpansionFaults.{named}
 use Rattle.scheme_model.specs.Shapes.{name_of}

@@ -1,7 +1,6 @@
 use Rattle.std.proofs.Common.{◌≡◌, List, [], ◌∷◌, ◌++◌, refl, sym, ap, ◌∙◌, subst, true, Ok}
 use Rattle.scheme_model.specs.Trees.{name}
 use Rattle.scheme_model.specs.Shapes.{name_of, formals_of}
-use Rattle.scheme_model.specs.Ident.{Ident as Identifier}
 use Rattle.core_forms.specs.declared.shape.NamePart.{NamePart}
 use Rattle.core_forms.specs.Parts.{AllMatch, IsName, IsFormals}
 use Rattle.core_forms.proofs.Reading.{then_err, then_ok}

@@ -4,8 +4,7 @@ use Rattle.scheme_model.specs.ExpansionFaults.{Fault, ◌>>◌}
 use Rattle.scheme_model.specs.Shapes.{Clause, distinct, distinct_all}
 use Rattle.scheme_model.specs.Ident.{Ident as Identifier, same_ident}
 use Rattle.core_forms.specs.declared.shape.NamePart.{NamePart}
-use Rattle.core_forms.specs.Parts.{AllMatch, IsName, IsClause}
-use Rattle.core_forms.specs.Ends.{Refuses}
+use Rattle.core_forms.specs.Parts.{AllMatch, IsName}
 use Rattle.core_forms.proofs.Reading.{then_err}
 use Rattle.core_forms.proofs.Distinct.{clause_there, clauses_past}
 use Rattle.core_forms.proofs.procedure.distinct_all.Goals as goal

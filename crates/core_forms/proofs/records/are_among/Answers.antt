@@ -1,4 +1,4 @@
-use Rattle.std.proofs.Common.{◌+◌, ℕ, drop, get_or, None, sym, ap, ◌∙◌}
+use Rattle.std.proofs.Common.{◌+◌, drop, get_or, None, sym, ◌∙◌}
 use Rattle.std.proofs.lemmas.List.{drop_more}
 use Rattle.core_forms.specs.declared.shape.NamePart.{NamePart}
 use Rattle.core_forms.proofs.Distinct.{numbers_no, numbers_yes}

@@ -1,5 +1,5 @@
-use Rattle.std.proofs.Common.{◌≡◌, [], ap, ◌∙◌, subst, sym, List, Result, Ok, refl}
-use Rattle.scheme_model.specs.Trees.{Tree, name}
+use Rattle.std.proofs.Common.{[], ap, ◌∙◌, subst, sym, List, Result, Ok}
+use Rattle.scheme_model.specs.Trees.{Tree}
 use Rattle.scheme_model.specs.ExpansionFaults.{Named, Fault, ◌>>◌}
 use Rattle.scheme_model.specs.Shapes.{name_of, constructor_of}
 use Rattle.scheme_model.specs.Ident.{Ident as Identifier}
@@ -13,7 +13,7 @@ alone n = Ok (n, [])
 pub returns-in_ok-name_of-in-Name : goal.returns-in_ok-name_of-in-Name
 returns-in_ok-name_of-in-Name c = λ t stands.
     let w = c.args.work.now in
-    let l = c.in-Name.ensures t stands in
+    let l = c.in-Name.ensures.look t stands in
     let n = c.in_ok-name_of-in-Name.ensures t stands in (
       (n.0, []),
       ap (λ (x : Tree Identifier). constructor_of x) l.2

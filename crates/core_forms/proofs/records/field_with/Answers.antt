@@ -1,4 +1,4 @@
-use Rattle.std.proofs.Common.{sym, ap, ◌∙◌, subst, None, arith}
+use Rattle.std.proofs.Common.{None, arith}
 use Rattle.core_forms.proofs.Fields.{two_names, three_names, not_names}
 use Rattle.core_forms.proofs.records.field_with.Goals as goal
 

@@ -1,15 +1,15 @@
-use Rattle.std.proofs.Common.{◌≡◌, sym, ap, ◌∙◌, subst, refl, map, List, Bool, true, false, not, Ok, Err}
-use Rattle.std.specs.Prelude.{Result, if◌then◌else◌}
-use Rattle.scheme_model.specs.ExpansionFaults.{Named, Fault, BadForm, ◌>>◌}
-use Rattle.scheme_model.specs.Shapes.{RecordShape, distinct, all_among}
-use Rattle.scheme_model.specs.Ident.{Ident as Identifier, same_ident}
+use Rattle.std.proofs.Common.{sym, ap, ◌∙◌, subst, refl, map, List, Ok, Err}
+use Rattle.std.specs.Prelude.{if◌then◌else◌}
+use Rattle.scheme_model.specs.ExpansionFaults.{BadForm}
+use Rattle.scheme_model.specs.Shapes.{distinct, all_among}
+use Rattle.scheme_model.specs.Ident.{same_ident}
 use Rattle.core_forms.specs.declared.shape.NamePart.{NamePart}
 use Rattle.core_forms.specs.declared.shape.FieldShape.{FieldShape}
 use Rattle.core_forms.specs.Parts.{AllMatch, IsName}
 use Rattle.core_forms.specs.Steps.{record_with}
 use Rattle.core_forms.specs.Ends.{IsRecordType}
-use Rattle.core_forms.proofs.Reading.{then_err, then_ok}
-use Rattle.core_forms.proofs.Distinct.{field_names_are, not_true, not_false, uses_all, uses_not}
+use Rattle.core_forms.proofs.Reading.{then_err}
+use Rattle.core_forms.proofs.Distinct.{field_names_are, uses_all, uses_not}
 use Rattle.core_forms.proofs.records.record_with.Goals as goal
 
 pub returns-in_err-distinct : goal.returns-in_err-distinct

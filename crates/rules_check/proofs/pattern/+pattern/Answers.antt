@@ -19,12 +19,12 @@ find-find_list-requires-in-Vector t c =
     let w = c.args.work.now in
     let h = c.requires.within in
     let pos = within_positive w c.args.tree c.args.left h in
-    let l = c.in-Vector.ensures h.0 h.1 in
+    let l = c.in-Vector.ensures.look h.0 h.1 in
     (first_of (search rules, omega arith), (vector_parts_within w c.args.left h.0 c.in-Vector.items.now l.0 l.1 h.2 l.2 l.3, ((proper, tt, omega arith), omega (arith, c.requires.small))))
 
 pub find-returns-in_ok-find_list-in-Vector : goal.find-returns-in_ok-find_list-in-Vector
 find-returns-in_ok-find_list-in-Vector t c = λ r u tells h.
-    let l = c.in-Vector.ensures u h in
+    let l = c.in-Vector.ensures.look u h in
     subst (Finds c.args.work.now c.args.found.now c.find_list-in-Vector.new.found) (vector_whole r l.0 l.1 c.args.depth ∙ sym (ap (λ (x : Tree Identifier). of_pattern r x c.args.depth) l.2))
     (c.in_ok-find_list-in-Vector.ensures r l.0 proper tells l.3 tt)
 

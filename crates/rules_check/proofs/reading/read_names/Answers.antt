@@ -12,7 +12,7 @@ returns-in-Atom c = λ ts stands.
     let w = c.args.work.now in
     let k = c.loop-item.item-index in
     let p = part_there w k c.args.items.now ts (record { number = 0 }) stands (omega arith) in
-    let l = c.in-Atom.ensures p.part p.stands in
+    let l = c.in-Atom.ensures.look p.part p.stands in
     names_end w ts k c.loop-item.names p.part (c.loop-item.invariant ts stands) p.split (subst IsNoName (sym l.2) tt)
 
 pub returns-in-List : goal.returns-in-List
@@ -20,7 +20,7 @@ returns-in-List c = λ ts stands.
     let w = c.args.work.now in
     let k = c.loop-item.item-index in
     let p = part_there w k c.args.items.now ts (record { number = 0 }) stands (omega arith) in
-    let l = c.in-List.ensures p.part p.stands in
+    let l = c.in-List.ensures.look p.part p.stands in
     names_end w ts k c.loop-item.names p.part (c.loop-item.invariant ts stands) p.split (subst IsNoName (sym l.3) tt)
 
 pub returns-in-Vector : goal.returns-in-Vector
@@ -28,7 +28,7 @@ returns-in-Vector c = λ ts stands.
     let w = c.args.work.now in
     let k = c.loop-item.item-index in
     let p = part_there w k c.args.items.now ts (record { number = 0 }) stands (omega arith) in
-    let l = c.in-Vector.ensures p.part p.stands in
+    let l = c.in-Vector.ensures.look p.part p.stands in
     names_end w ts k c.loop-item.names p.part (c.loop-item.invariant ts stands) p.split (subst IsNoName (sym l.2) tt)
 
 pub loop-item-preserved : goal.loop-item-preserved
@@ -36,7 +36,7 @@ loop-item-preserved c = λ ts stands.
     let w = c.args.work.now in
     let k = c.loop-item.item-index in
     let p = part_there w k c.args.items.now ts (record { number = 0 }) stands (omega arith) in
-    let n = c.in-Name.ensures p.part p.stands in
+    let n = c.in-Name.ensures.look p.part p.stands in
     let more = names_more w ts k c.loop-item.names p.part c.in-Name.id n.0 n.1 (c.loop-item.invariant ts stands) p.split n.2 n.3 in
     rw add-one (subst (λ (ns : List ℕ). NamesUpTo w ts (suc k) ns) (sym c.in_ok-push-in-Name.ensures.ok) more)
 

@@ -10,6 +10,6 @@ use Rattle.rules_check.proofs.reading.read_rule.Goals as goal
 pub returns-else-is_some : goal.returns-else-is_some
 returns-else-is_some c = λ t h.
     let w = c.args.work.now in
-    let l = c.in-List.ensures t h in
+    let l = c.in-List.ensures.look t h in
     let e = list_proper w c.in-List.end t l.0 l.1 l.2 l.3 l.5 (sym c.is_some.ensures ∙ c.if-is_some.false) in
     subst (λ (s : Result (Rule Identifier) (Fault Identifier)). ReadsRule w s c.pair.result) (sym (ap rule_of e ∙ rule_place l.0 l.2)) (c.pair.ensures l.0 l.4)

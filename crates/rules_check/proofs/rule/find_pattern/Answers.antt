@@ -9,7 +9,7 @@ use Rattle.rules_check.proofs.rule.find_pattern.Goals as goal
 pub returns-in_ok-find_list-in-List : goal.returns-in_ok-find_list-in-List
 returns-in_ok-find_list-in-List c = λ r head ts tail o tells h.
     let w = c.args.work.now in
-    let l = c.in-List.ensures (list (tree head ts) tail o) h in
+    let l = c.in-List.ensures.look (list (tree head ts) tail o) h in
     let is = l.3 in
     let same : l.0 ≡ tree head ts = cc in
     let last : l.1 ≡ tail = cc in

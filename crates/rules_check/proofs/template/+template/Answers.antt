@@ -22,7 +22,7 @@ use Rattle.rules_check.proofs.template.+template.Goals.{see-else-not-escaped-via
 pub see-see_list-requires : goal.see-see_list-requires
 see-see_list-requires t c =
     let h = c.requires in
-    let l = c.in-Vector.ensures h.0 h.1 in
+    let l = c.in-Vector.ensures.look h.0 h.1 in
     let deep = ap (λ (x : Tree Identifier). tree_depth x) l.2 in
     let size = ap (λ (x : Tree Identifier). tree_size x) l.2 in
     (first_of (search rules, omega (arith, deep, h.2)), ((l.0, l.3, omega (arith, deep, h.2), omega (arith, size, h.3)), (proper, tt, omega arith, omega (arith, h.3))))
@@ -31,14 +31,14 @@ pub see-returns-in-Vector : goal.see-returns-in-Vector
 see-returns-in-Vector t c = λ r depth u tells has h.
     let w = c.args.work.now in
     let dots = dots_where c.args.escaped r in
-    let l = c.in-Vector.ensures u h in
+    let l = c.in-Vector.ensures.look u h in
     subst (λ (x : Tree Identifier). Sees w c.see_list.result (of_template dots depth x c.args.level)) (sym l.2)
     (sees_vector w dots depth l.0 l.1 c.args.level c.see_list.result (c.see_list.ensures r depth l.0 proper tells has l.3 tt))
 
 pub see-returns-then-is_escape : goal.see-returns-then-is_escape
 see-returns-then-is_escape t c = λ r depth u tells has h.
     let w = c.args.work.now in
-    let l = c.in-List.ensures u h in
+    let l = c.in-List.ensures.look u h in
     let s = c.see_list-then-is_escape.result in
     let both = c.inside.result in
     let e = c.inside.ensures in
@@ -51,7 +51,7 @@ pub see-returns-else-not-escaped : goal.see-returns-else-not-escaped
 see-returns-else-not-escaped t c = λ r depth u tells has h.
     let w = c.args.work.now in
     let dots = dots_where c.args.escaped r in
-    let l = c.in-List.ensures u h in
+    let l = c.in-List.ensures.look u h in
     let s = c.see_list-else-not-escaped.result in
     let none : escape_of dots l.0 l.1 ≡ None = elim c.else-not-escaped.branch [
       | see-else-not-escaped-via-then-not-escaped+else-is_escape x ↦

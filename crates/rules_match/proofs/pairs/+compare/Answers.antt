@@ -13,8 +13,8 @@ pub compare-compare_list-requires-in-Vector-look_at-2 : goal.compare-compare_lis
 compare-compare_list-requires-in-Vector-look_at-2 t c =
     let w = c.args.work.now in
     let p = c.requires.pattern in
-    let q = c.in-Vector.ensures p.0 p.1 in
-    let f = c.in-Vector-look_at-2.ensures c.requires.form.0 c.requires.form.1 in
+    let q = c.in-Vector.ensures.look p.0 p.1 in
+    let f = c.in-Vector-look_at-2.ensures.look c.requires.form.0 c.requires.form.1 in
     let deep = within_positive w c.args.pattern c.args.left c.requires.pattern in (
       first_of (omega arith, search rules, grind arith),
       (record { parts = vector_parts_within w c.args.left p.0 c.in-Vector.parts.now q.0 q.1 p.2 q.2 q.3; tail = (proper, tt, omega arith) }, ((f.0, (proper, record { parts = f.3; tail = tt })), omega arith)),
@@ -22,8 +22,8 @@ compare-compare_list-requires-in-Vector-look_at-2 t c =
 
 pub compare-returns-in_ok-compare_list-in-Vector-look_at-2 : goal.compare-returns-in_ok-compare_list-in-Vector-look_at-2
 compare-returns-in_ok-compare_list-in-Vector-look_at-2 t c = λ r p u tells ps fs.
-    let q = c.in-Vector.ensures p ps in
-    let f = c.in-Vector-look_at-2.ensures u fs in
+    let q = c.in-Vector.ensures.look p ps in
+    let f = c.in-Vector-look_at-2.ensures.look u fs in
     adds_same c.args.work.now c.args.pairs.now c.compare_list-in-Vector-look_at-2.new.pairs (pairs_where (role_of identifiers r) (dots_of identifiers r) q.0 proper f.0 proper)
     (pairs_in (role_of identifiers r) (dots_of identifiers r) p u) (λ i. pairs_in (role_of identifiers r) (dots_of identifiers r) (sym q.2 i) (sym f.2 i))
     (c.in_ok-compare_list-in-Vector-look_at-2.ensures r q.0 proper f.0 proper tells (record { parts = q.3; tail = tt }) (record { parts = f.3; tail = tt }))

@@ -11,13 +11,13 @@ use Rattle.rules_match.proofs.matching.Matcher.+columns.Goals as goal
 
 pub columns-role-requires : goal.columns-role-requires
 columns-role-requires t c =
-    let q = c.in-Name.ensures c.requires.pattern.0 c.requires.pattern.1 in
+    let q = c.in-Name.ensures.look c.requires.pattern.0 c.requires.pattern.1 in
     slice_get_within c.args.self.now.work.now.symbols.idents c.in-Name.variable q.0 q.3
 
 pub columns-returns-in_ok-push-in-Variable : goal.columns-returns-in_ok-push-in-Variable
 columns-returns-in_ok-push-in-Variable t c = λ r same p knows ps.
     let w = c.args.self.now.work.now in
-    let q = c.in-Name.ensures p ps in
+    let q = c.in-Name.ensures.look p ps in
     let e = c.in-Variable.ensures r q.0 knows.tells q.3 in
     columns_same w c.args.columns.now c.push.new.self (q.0 ∷ []) (names_in (role_of identifiers r) p) (ap (λ x. variable_name x q.0) e ∙ ap (names_in (role_of identifiers r)) (sym q.2))
     (columns_one w c.args.columns.now c.push.new.self (record { variable = c.in-Name.variable; values = c.new-values.result }) q.0 c.in_ok-push-in-Variable.ensures.items c.new-values.ensures.items q.3)
@@ -26,14 +26,14 @@ pub columns-columns_among-requires-in-Vector : goal.columns-columns_among-requir
 columns-columns_among-requires-in-Vector t c =
     let w = c.args.self.now.work.now in
     let p = c.requires.pattern in
-    let q = c.in-Vector.ensures p.0 p.1 in
+    let q = c.in-Vector.ensures.look p.0 p.1 in
     let deep = within_positive w c.args.pattern c.args.left p in
     (first_of (omega arith, search rules, grind arith), (c.requires.knows, vector_parts_within w c.args.left p.0 c.in-Vector.parts.now q.0 q.1 p.2 q.2 q.3))
 
 pub columns-returns-in_ok-columns_among-in-Vector : goal.columns-returns-in_ok-columns_among-in-Vector
 columns-returns-in_ok-columns_among-in-Vector t c = λ r same p knows ps.
     let w = c.args.self.now.work.now in
-    let q = c.in-Vector.ensures p ps in
+    let q = c.in-Vector.ensures.look p ps in
     columns_same w c.args.columns.now c.columns_among-in-Vector.new.columns (names_among (role_of identifiers r) q.0) (names_in (role_of identifiers r) p) (ap (names_in (role_of identifiers r)) (sym q.2))
     (c.in_ok-columns_among-in-Vector.ensures r same q.0 knows q.3)
 
@@ -41,7 +41,7 @@ pub columns-columns_among-requires : goal.columns-columns_among-requires
 columns-columns_among-requires t c =
     let w = c.args.self.now.work.now in
     let p = c.requires.pattern in
-    let q = c.in-List.ensures p.0 p.1 in
+    let q = c.in-List.ensures.look p.0 p.1 in
     let deep = within_positive w c.args.pattern c.args.left p in
     (first_of (omega arith, search rules, grind arith), (c.requires.knows, list_parts_within w c.args.left p.0 c.in-List.parts.now q.0 q.1 q.2 p.2 q.3 q.4))
 
@@ -49,7 +49,7 @@ pub columns-columns-requires : goal.columns-columns-requires
 columns-columns-requires t c =
     let w = c.args.self.now.work.now in
     let p = c.requires.pattern in
-    let q = c.in-List.ensures p.0 p.1 in
+    let q = c.in-List.ensures.look p.0 p.1 in
     let deep = within_positive w c.args.pattern c.args.left p in
     (first_of (omega arith, search rules, grind arith), (c.requires.knows, tail_within w c.in-List.tail c.in-Some.tail (c.args.left - 1) c.in-Some.is (end_within w c.args.left p.0 c.in-List.tail q.0 q.1 q.2 p.2 q.3 q.5)))
 
@@ -57,7 +57,7 @@ pub columns-returns-in-None : goal.columns-returns-in-None
 columns-returns-in-None t c = λ r same p knows ps.
     let w = c.args.self.now.work.now in
     let role = role_of identifiers r in
-    let q = c.in-List.ensures p ps in
+    let q = c.in-List.ensures.look p ps in
     let e = end_proper w c.in-List.tail q.1 c.in-None.is q.5 in
     columns_same w c.args.columns.now c.columns_among.new.columns (names_among role q.0) (names_in role p)
     (sym (append-nil (names_among role q.0)) ∙ ap (λ x. names_among role q.0 ++ names_behind role x) (sym e) ∙ ap (names_in role) (sym q.3)) (c.in_ok-columns_among-in-List.ensures r same q.0 knows q.4)
@@ -66,7 +66,7 @@ pub columns-returns-in_ok-columns-in-Some : goal.columns-returns-in_ok-columns-i
 columns-returns-in_ok-columns-in-Some t c = λ r same p knows ps.
     let w = c.args.self.now.work.now in
     let role = role_of identifiers r in
-    let q = c.in-List.ensures p ps in
+    let q = c.in-List.ensures.look p ps in
     let e = end_dotted w c.in-List.tail q.1 c.in-Some.tail c.in-Some.is q.5 in
     columns_same w c.args.columns.now c.columns.new.columns (names_among role q.0 ++ names_in role e.0) (names_in role p) (ap (λ x. names_among role q.0 ++ names_behind role x) (sym e.1) ∙ ap (names_in role) (sym q.3))
     (columns_both w c.args.columns.now c.columns_among.new.columns c.columns.new.columns (names_among role q.0) (names_in role e.0) (c.in_ok-columns_among-in-List.ensures r same q.0 knows q.4) (c.in_ok-columns-in-Some.ensures r same e.0 knows e.3))

@@ -24,7 +24,7 @@ pub tree-returns-in_ok-name-in-Name : goal.tree-returns-in_ok-name-in-Name
 tree-returns-in_ok-name-in-Name t c = λ r same p u knows ps fs.
     let w = c.args.self.now.work.now in
     let m = matcher identifiers r same in
-    let q = c.in-Name.ensures p ps in
+    let q = c.in-Name.ensures.look p ps in
     finds_same w c.args.found.now c.name.new.found (match_name same (role_of identifiers r q.0) q.0 u) (match_tree m p u) c.in_ok-name-in-Name.field-0 (ap (λ x. match_tree m x u) (sym q.2))
     (c.in_ok-name-in-Name.ensures r same q.0 u knows q.3 fs)
 
@@ -32,7 +32,7 @@ pub tree-returns-in-Atom : goal.tree-returns-in-Atom
 tree-returns-in-Atom t c = λ r same p u knows ps fs.
     let w = c.args.self.now.work.now in
     let m = matcher identifiers r same in
-    let q = c.in-Atom.ensures p ps in
+    let q = c.in-Atom.ensures.look p ps in
     finds_same w c.args.found.now c.args.found.now (match_atom q.0 u) (match_tree m p u) c.atom.result (ap (λ x. match_tree m x u) (sym q.2))
     (atom_found w c.args.found.now q.0 u c.atom.result (c.atom.ensures q.0 q.1 u q.3 fs))
 
@@ -40,8 +40,8 @@ pub tree-returns-in_ok-rest-in-Some : goal.tree-returns-in_ok-rest-in-Some
 tree-returns-in_ok-rest-in-Some t c = λ r same p u knows ps fs.
     let w = c.args.self.now.work.now in
     let m = matcher identifiers r same in
-    let q = c.in-List.ensures p ps in
-    let f = c.in-List-look_at.ensures u fs in
+    let q = c.in-List.ensures.look p ps in
+    let f = c.in-List-look_at.ensures.look u fs in
     let b = c.in_ok-rest-in-Some.field-0 in
     let a = subst (FindsParts w m q.0 f.0 0 c.args.found.now c.parts.new.found) c.in-Some.is (c.in_ok-at-in-List-look_at.ensures.finds r same q.0 f.0 knows q.4 f.4) in
     let e = c.in_ok-rest-in-Some.ensures r same q.1 f.0 f.1 knows q.5 (record { place = f.2; whole = subst (StandsFor w c.args.form) f.3 fs; stands = record { parts = f.4; tail = f.5 } }) in
@@ -52,8 +52,8 @@ pub tree-returns-in-None : goal.tree-returns-in-None
 tree-returns-in-None t c = λ r same p u knows ps fs.
     let w = c.args.self.now.work.now in
     let m = matcher identifiers r same in
-    let q = c.in-List.ensures p ps in
-    let f = c.in-List-look_at.ensures u fs in
+    let q = c.in-List.ensures.look p ps in
+    let f = c.in-List-look_at.ensures.look u fs in
     let a = subst (FindsParts w m q.0 f.0 0 c.args.found.now c.parts.new.found) c.in-None.is (c.in_ok-at-in-List-look_at.ensures.finds r same q.0 f.0 knows q.4 f.4) in
     (λ i. match_tree m (q.3 i) (f.3 i)) ∙ a (match_rest m q.1) f.1
 
@@ -61,8 +61,8 @@ pub tree-returns-in-Some-2 : goal.tree-returns-in-Some-2
 tree-returns-in-Some-2 t c = λ r same p u knows ps fs.
     let w = c.args.self.now.work.now in
     let m = matcher identifiers r same in
-    let q = c.in-Vector.ensures p ps in
-    let f = c.in-Vector-look_at-2.ensures u fs in
+    let q = c.in-Vector.ensures.look p ps in
+    let f = c.in-Vector-look_at-2.ensures.look u fs in
     let at = c.in-Some-2.at in
     let len = length c.in-Vector-look_at-2.items.now in
     let new = c.parts-in-Vector-look_at-2.new.found in
@@ -78,8 +78,8 @@ pub tree-returns-in-None-2 : goal.tree-returns-in-None-2
 tree-returns-in-None-2 t c = λ r same p u knows ps fs.
     let w = c.args.self.now.work.now in
     let m = matcher identifiers r same in
-    let q = c.in-Vector.ensures p ps in
-    let f = c.in-Vector-look_at-2.ensures u fs in
+    let q = c.in-Vector.ensures.look p ps in
+    let f = c.in-Vector-look_at-2.ensures.look u fs in
     let a = subst (FindsParts w m q.0 f.0 0 c.args.found.now c.parts-in-Vector-look_at-2.new.found) c.in-None-2.is (c.in_ok-at-in-Vector-look_at-2.ensures.finds r same q.0 f.0 knows q.3 f.3) in
     (λ i. match_tree m (q.2 i) (f.2 i)) ∙ a at_end proper
 

@@ -15,7 +15,7 @@ size-size-requires c = let r = c.requires.list.1 in (list r.parts r.tail r.place
 
 pub role-requires : goal.role-requires
 role-requires c =
-    let q = c.in-Name.ensures c.requires.pattern.0 c.requires.pattern.1 in
+    let q = c.in-Name.ensures.look c.requires.pattern.0 c.requires.pattern.1 in
     slice_get_within c.args.self.now.work.now.symbols.idents c.in-Name.variable q.0 q.3
 
 pub overflow_cast-from : goal.overflow_cast-from
@@ -28,13 +28,13 @@ overflow_cast-from c =
 
 pub returns-in-Any : goal.returns-in-Any
 returns-in-Any c = λ r same p t knows ps plain rest.
-    let q = c.in-Name.ensures p ps in
+    let q = c.in-Name.ensures.look p ps in
     let e = c.in-Any.ensures r q.0 knows.tells q.3 in
     (no_match, ap (λ x. match_tree (matcher identifiers r same) x t) q.2 ∙ sym (name_is same (role_of identifiers r q.0) IsAny q.0 t e), adds_nothing c.args.self.now.work.now c.args.found.now)
 
 pub returns-in_ok-push-in-Variable : goal.returns-in_ok-push-in-Variable
 returns-in_ok-push-in-Variable c = λ r same p t knows ps plain rest.
-    let q = c.in-Name.ensures p ps in
+    let q = c.in-Name.ensures.look p ps in
     let e = c.in-Variable.ensures r q.0 knows.tells q.3 in (
       match_of (record { variable = q.0; value = One t } ∷ []) [],
       ap (λ x. match_tree (matcher identifiers r same) x t) q.2 ∙ sym (name_is same (role_of identifiers r q.0) IsVariable q.0 t e),

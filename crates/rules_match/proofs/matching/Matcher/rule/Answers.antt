@@ -25,7 +25,7 @@ parts-requires-clause-pattern c =
     let w = c.args.self.now.work.now in
     let s = rule_standing w c.args.rule c.requires.rule.0 c.requires.rule.1 in
     let d = c.depth-depth.ensures s.0 s.1 in
-    let l = c.in-List.ensures s.0 s.1 in
+    let l = c.in-List.ensures.look s.0 s.1 in
     list_parts_within w c.depth-depth.result s.0 c.in-List.parts.now l.0 l.1 l.2 (omega arith) l.3 l.4
 
 pub overflow_sub-depth-in-Some : goal.overflow_sub-depth-in-Some
@@ -40,7 +40,7 @@ rest-requires-clause-tail c =
     let w = c.args.self.now.work.now in
     let s = rule_standing w c.args.rule c.requires.rule.0 c.requires.rule.1 in
     let d = c.depth-depth.ensures s.0 s.1 in
-    let l = c.in-List.ensures s.0 s.1 in
+    let l = c.in-List.ensures.look s.0 s.1 in
     end_within w c.depth-depth.result s.0 c.in-List.tail l.0 l.1 l.2 (omega arith) l.3 l.5
 
 pub returns-in_ok-rest-in-Some : goal.returns-in_ok-rest-in-Some
@@ -48,7 +48,7 @@ returns-in_ok-rest-in-Some c = λ r same m ts end knows is row.
     let w = c.args.self.now.work.now in
     let model = matcher identifiers r same in
     let s = rule_standing w c.args.rule m is in
-    let l = c.in-List.ensures s.0 s.1 in
+    let l = c.in-List.ensures.look s.0 s.1 in
     let parts = pattern_parts w c.args.rule m is in
     let q = list_is w c.in-List.parts.now c.in-List.tail parts l.0 m.tail l.1 is.place l.2 l.3 l.4 l.5 in
     let a = subst (FindsParts w model parts ts 1 c.args.found.now c.parts.new.found) c.in-Some.is (c.in_ok-at-in-List.ensures.finds r same parts ts knows q.0 row.stands.parts) in
@@ -59,7 +59,7 @@ returns-in-None c = λ r same m ts end knows is row.
     let w = c.args.self.now.work.now in
     let model = matcher identifiers r same in
     let s = rule_standing w c.args.rule m is in
-    let l = c.in-List.ensures s.0 s.1 in
+    let l = c.in-List.ensures.look s.0 s.1 in
     let parts = pattern_parts w c.args.rule m is in
     let q = list_is w c.in-List.parts.now c.in-List.tail parts l.0 m.tail l.1 is.place l.2 l.3 l.4 l.5 in
     let a = subst (FindsParts w model parts ts 1 c.args.found.now c.parts.new.found) c.in-None.is (c.in_ok-at-in-List.ensures.finds r same parts ts knows q.0 row.stands.parts) in
@@ -68,20 +68,20 @@ returns-in-None c = λ r same m ts end knows is row.
 pub returns-in-Name : goal.returns-in-Name
 returns-in-Name c = λ r same m ts end knows is row.
     let s = rule_standing c.args.self.now.work.now c.args.rule m is in
-    let l = c.in-Name.ensures s.0 s.1 in
+    let l = c.in-Name.ensures.look s.0 s.1 in
     let e = l.2 in
     absurd cc
 
 pub returns-in-Atom : goal.returns-in-Atom
 returns-in-Atom c = λ r same m ts end knows is row.
     let s = rule_standing c.args.self.now.work.now c.args.rule m is in
-    let l = c.in-Atom.ensures s.0 s.1 in
+    let l = c.in-Atom.ensures.look s.0 s.1 in
     let e = l.2 in
     absurd cc
 
 pub returns-in-Vector : goal.returns-in-Vector
 returns-in-Vector c = λ r same m ts end knows is row.
     let s = rule_standing c.args.self.now.work.now c.args.rule m is in
-    let l = c.in-Vector.ensures s.0 s.1 in
+    let l = c.in-Vector.ensures.look s.0 s.1 in
     let e = l.2 in
     absurd cc
