@@ -12,3 +12,6 @@ mod StepLaws
 mod WaitLaws
 mod OrderLaws
 mod WorkLaws
+mod LookLaws
+mod Chaining
+mod TreeRows

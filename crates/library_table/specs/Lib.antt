@@ -6,3 +6,11 @@ pub mod Exports
 pub mod Graphs
 pub mod Orders
 pub mod Waiting
+pub mod Looks
+pub mod PartsRead
+pub mod Forms
+pub mod SetsRead
+pub mod UnitsRead
+pub mod Chosen
+pub mod Flattened
+pub mod LibrariesRead

@@ -3,20 +3,34 @@
 #![tactic(auto)]
 
 mod circles;
+mod export_specs;
 mod exported;
 pub mod exporting;
 pub mod fault;
 mod firsts;
+mod flattening;
 mod graph;
 pub mod laws;
+pub mod libraries;
+mod library_names;
+mod look;
+mod names;
 pub mod orders;
+mod parts;
+pub mod programs;
 pub mod repeats;
+mod requirements;
+mod sets;
+mod shape_fault;
+mod start;
 mod turns;
 pub mod units;
 mod walk;
 
 pub use exporting::{ExportFault, Exports, exports_of};
 pub use fault::LibraryFault;
+pub use libraries::read_unit;
 pub use orders::order;
+pub use programs::read_program;
 pub use repeats::repeated;
 pub use units::{ExportSpec, ImportSpec, UnitForm, UnitSource};
