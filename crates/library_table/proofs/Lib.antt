@@ -15,3 +15,7 @@ mod WorkLaws
 mod LookLaws
 mod Chaining
 mod TreeRows
+mod NameTexts
+mod SetRows
+mod DataRows
+mod Gathering

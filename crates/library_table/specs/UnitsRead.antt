@@ -56,15 +56,22 @@ forms_of fs = map form_of fs
 
 -- ---- imports
 
+-- as many, and each stands for the other's
+abbrev pub Pairs : {X A : Type 0} → (X → A → Type 0) → List X → List A → Type 0
+Pairs R [] [] = Unit {0}
+Pairs R [] (a ∷ xs) = ⊥
+Pairs R (x ∷ xs) [] = ⊥
+Pairs R (x ∷ xs) (a ∷ ys) = R x a × Pairs R xs ys
+
+abbrev pub Adds : {X A : Type 0} → (X → A → Type 0) → List X → List X → List A → Type 0
+Adds {X} R old new ys = (xs : List X) × (new ≡ old ++ xs) × Pairs R xs ys
+
 abbrev pub AreSpecs : List code_import.ImportSpec → List ImportSpec → Type 0
-AreSpecs [] [] = Unit {0}
-AreSpecs [] (s ∷ ss) = ⊥
-AreSpecs (c ∷ cs) [] = ⊥
-AreSpecs (c ∷ cs) (s ∷ ss) = IsImportSpec c s × AreSpecs cs ss
+AreSpecs cs ss = Pairs IsImportSpec cs ss
 
 -- import sets were added to others
 abbrev pub AddsSpecs : List code_import.ImportSpec → List code_import.ImportSpec → List ImportSpec → Type 0
-AddsSpecs old new ss = (cs : List code_import.ImportSpec) × (new ≡ old ++ cs) × AreSpecs cs ss
+AddsSpecs old new ss = Adds IsImportSpec old new ss
 
 -- ---- exports
 
@@ -85,14 +92,11 @@ IsExportOf None xs = xs ≡ []
 IsExportOf (Some c) xs = (x : ExportSpec) × (xs ≡ x ∷ []) × IsExportRead c x
 
 abbrev pub AreExportsRead : List code_export.ExportSpec → List ExportSpec → Type 0
-AreExportsRead [] [] = Unit {0}
-AreExportsRead [] (x ∷ xs) = ⊥
-AreExportsRead (c ∷ cs) [] = ⊥
-AreExportsRead (c ∷ cs) (x ∷ xs) = IsExportRead c x × AreExportsRead cs xs
+AreExportsRead cs xs = Pairs IsExportRead cs xs
 
 -- exports were added to others
 abbrev pub AddsExports : List code_export.ExportSpec → List code_export.ExportSpec → List ExportSpec → Type 0
-AddsExports old new xs = (cs : List code_export.ExportSpec) × (new ≡ old ++ cs) × AreExportsRead cs xs
+AddsExports old new xs = Adds IsExportRead old new xs
 
 -- ---- units
 

@@ -224,7 +224,7 @@ fn or_these<'a>(
     hold: bool,
     forms: &'a [Datum],
 ) -> Option<&'a [Datum]>
-    ensures { OrFirst chosen hold forms.now result }
+    ensures { OrFirst chosen.entry hold forms.now result }
 {
     match chosen {
         Some(before) => Some(before),

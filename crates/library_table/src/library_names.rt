@@ -1,18 +1,18 @@
 //! The names of libraries (R7RS 5.6.1) as texts.
-ghost use Rattle.std.specs.Prelude.{◌≡◌, ℕ, List};
+ghost use Rattle.std.specs.Prelude.{◌≡◌, ℕ, List, IfOk};
 ghost use Rattle.std.specs.List.{list_all};
 ghost use Rattle.std.specs.Char.{is_ascii_digit};
 ghost use Rattle.std.specs.String.{string_bytes};
 ghost use Rattle.scheme_model.specs.declared.Occ.{Occ};
 ghost use Rattle.scheme_model.specs.Trees.{Tail, tree, Numeral};
-ghost use Rattle.scheme_model.specs.Requirements.{part_in, part_of, parts_of, library_name_of};
+ghost use Rattle.scheme_model.specs.Requirements.{Symbol, part_in, part_of, parts_of, library_name_of};
 ghost use Rattle.library_table.specs.Looks.{tree_at, trees_at, is_dotted};
 ghost use Rattle.library_table.specs.PartsRead.{Reads, map_ok, part_text, library_text, name_in_list, Puts, PutsAll};
 
 use crate::look::{Look, Row, look_at, row_of};
 use crate::shape_fault::ShapeFault;
 use datum_reader::Datum;
-use ls_base::Text;
+use ls_base::{Mem, Text};
 use scheme_tokens::spell;
 use std::alloc::Global;
 
@@ -45,13 +45,21 @@ fn digits(alloc: Global, text: &str) -> Result<Text, ShapeFault>
     Err(ShapeFault::BadForm)
 }
 
+/// A symbol as it is written.
+fn symbol_text(alloc: Global, symbol: &str) -> Mem<Text>
+    ensures { IfOk result (λ text. text ≡ part_text (Symbol symbol.now)) }
+{
+    let written = spell(alloc, symbol, false)?;
+    Ok(Text::of(alloc, written.as_str())?)
+}
+
 /// The text of a part of a library's name.
 fn part_text(alloc: Global, part: &Datum) -> Result<Text, ShapeFault>
     ensures { (place : ℕ → Occ) → Reads (λ t. t) result (map_ok part_text (part_of (λ s. s) (tree_at place part.now))) }
 {
     match look_at(part) {
-        Look::Name(symbol) => Ok(spell(alloc, symbol, false)?),
-        Look::Implied(symbol) => Ok(spell(alloc, symbol, false)?),
+        Look::Name(symbol) => Ok(symbol_text(alloc, symbol)?),
+        Look::Implied(symbol) => Ok(symbol_text(alloc, symbol)?),
         Look::Numeral(text) => digits(alloc, text),
         Look::List(_, _) => Err(ShapeFault::BadForm),
         Look::Other => Err(ShapeFault::BadForm),

@@ -42,7 +42,7 @@ struct Modified<'a> {
 
 /// The modifier of a word.
 fn modifier_named(word: Option<&str>) -> Option<Modifier>
-    ensures { modifier_seen result ≡ modifier_for (symbol_now word) }
+    ensures { modifier_seen result ≡ modifier_for (symbol_now word.entry) }
 {
     match word {
         None => None,

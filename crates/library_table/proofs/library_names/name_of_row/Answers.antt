@@ -6,8 +6,8 @@ use Rattle.library_table.specs.Looks.{tree_at, trees_at}
 use Rattle.library_table.proofs.TreeRows.{row_text}
 use Rattle.library_table.proofs.library_names.name_of_row.Goals as goal
 
-pub returns-in_ok-push_str : goal.returns-in_ok-push_str
-returns-in_ok-push_str c = λ at.
+pub returns : goal.returns
+returns c = λ at.
     let p = c.in_ok-put_part.ensures at in
     let ps = c.in_ok-put_parts.ensures at in
     row_text (tree_at at c.args.first.now) (trees_at at c.args.rest.now) p.0 ps.0 (string_bytes c.in_ok-text.text) (string_bytes c.put_part.new.text) (string_bytes c.put_parts.new.text) c.from_string.result

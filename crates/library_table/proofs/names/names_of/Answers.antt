@@ -9,7 +9,8 @@ use Rattle.library_table.proofs.TreeRows.{UpTo, up_more, up_fails, up_all, names
 use Rattle.library_table.proofs.names.names_of.Goals as goal
 
 pub loop-datum-init : goal.loop-datum-init
-loop-datum-init c = front_none (each_of name_of (trees_at (place c.args.start) c.args.parts.now))
+loop-datum-init c =
+    subst (λ (xs : List SetName). UpTo named name_of (place c.args.start) c.args.parts.now 0 xs) (sym c.new-names.ensures) (front_none (each_of name_of (trees_at (place c.args.start) c.args.parts.now)))
 
 pub returns-in_err-name : goal.returns-in_err-name
 returns-in_err-name c =

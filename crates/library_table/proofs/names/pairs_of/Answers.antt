@@ -9,7 +9,8 @@ use Rattle.library_table.proofs.TreeRows.{UpTo, up_more, up_fails, up_all, pairs
 use Rattle.library_table.proofs.names.pairs_of.Goals as goal
 
 pub loop-datum-init : goal.loop-datum-init
-loop-datum-init c = front_none (each_of pair_of (trees_at (place c.args.start) c.args.parts.now))
+loop-datum-init c =
+    subst (λ (xs : List NamePair). UpTo paired pair_of (place c.args.start) c.args.parts.now 0 xs) (sym c.new-pairs.ensures) (front_none (each_of pair_of (trees_at (place c.args.start) c.args.parts.now)))
 
 pub returns-in_err-pair : goal.returns-in_err-pair
 returns-in_err-pair c =
