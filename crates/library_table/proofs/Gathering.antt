@@ -28,7 +28,7 @@ pairs_append R (x ∷ xs) zs (p ∷ ps) qs h k = (h.0, pairs_append R xs zs ps q
 pub one_pair : {X A : Type 0} (R : X → A → Type 0) (old new : List X) (x : X) (a : A) → new ≡ old ++ x ∷ [] → R x a → Adds R old new (a ∷ [])
 one_pair R old new x a e h = (x ∷ [], e, (h, tt))
 
-pub no_pairs : {X A : Type 0} (R : X → A → Type 0) (old : List X) → Adds R old old ([] {A = A})
+pub no_pairs : {X A : Type 0} (R : X → A → Type 0) (old : List X) → Adds R old old []
 no_pairs R old = ([], sym (append-nil old), tt)
 
 -- ---- so many items

@@ -13,8 +13,8 @@ loop-place-init c = gathered_none IsImportSpec (λ k f. specs_in c.args.unit k (
 pub loop-place-preserved : goal.loop-place-preserved
 loop-place-preserved c =
     let u = c.args.unit in
-    let f = c.form-item.result in
-    gathered_more IsImportSpec (λ k f. specs_in u k (form_of f)) c.args.forms.now c.loop-place.place f c.new-specs.result c.loop-place.specs c.add_imports.new.specs (omega arith) c.form-item.is c.loop-place.invariant
+    let f = c.index-forms-place.result in
+    gathered_more IsImportSpec (λ k f. specs_in u k (form_of f)) c.args.forms.now c.loop-place.place f c.new-specs.result c.loop-place.specs c.add_imports.new.specs (omega arith) c.index-forms-place.is c.loop-place.invariant
     (subst (λ (n : ℕ). AddsSpecs c.loop-place.specs c.add_imports.new.specs (specs_in u n (form_of f))) c.in_ok-number.ensures c.in_ok-add_imports.ensures)
 
 pub returns : goal.returns
