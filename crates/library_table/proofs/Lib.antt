@@ -19,3 +19,5 @@ mod NameTexts
 mod SetRows
 mod DataRows
 mod Gathering
+mod ExportRows
+mod ProgramRows

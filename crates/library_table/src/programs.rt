@@ -80,10 +80,10 @@ pub fn read_program(alloc: Global, data: &Items<Datum>, unit: u32) -> Mem<Option
     ensures { IfOk result (IsProgramRead unit (filter not_library (data_of «data».now))) }
 {
     let forms = forms_in(alloc, data.as_slice())?;
-    let Some(first) = forms.first() else {
-        return Ok(None);
+    let span = match forms.first() {
+        None => return Ok(None),
+        Some(first) => first_token(&first.datum),
     };
-    let span = first_token(&first.datum);
     let imports = imports_of(alloc, unit, forms.as_slice())?;
     let exports = exports_read(alloc, unit, forms.as_slice())?;
     let forms = Items::from_vec(forms);

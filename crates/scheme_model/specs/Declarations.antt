@@ -1,5 +1,6 @@
 -- What a document holds (R7RS 5.1, 5.6.1): libraries, whose declarations are flattened, and a program.
 use Rattle.std.specs.Prelude.{ℕ, List, [], ◌∷◌, ◌++◌, map, filter, Bool, true, false, not, ◌&&◌, ◌||◌, Option, Some, None, Result, Ok, Err, codes, if◌then◌else◌}
+use Rattle.std.specs.Option.{is_some}
 use Rattle.std.specs.Str.{bytes_eq, encode_utf8_all}
 use Rattle.scheme_model.specs.Kinds.{Leaf, Name, Numeral, Quoted, Character, Truth}
 use Rattle.scheme_model.specs.Data.{Atom, spelled, implied, Datum, atom, list, vector, bytes, Data, none, part, tail, Place, place_of}
@@ -257,11 +258,7 @@ libraries_in known [] = []
 libraries_in known (d ∷ ds) = if is_library d then library_of known d ∷ libraries_in known ds else libraries_in known ds
 
 abbrev pub is_proper : Datum → Bool
-is_proper d = is_there (list_parts d)
-  where
-    is_there : Option (List Datum) → Bool
-    is_there None = false
-    is_there (Some ds) = true
+is_proper d = is_some (list_parts d)
 
 -- the leading proper lists headed by `import` are a program's imports
 abbrev pub program_forms : List Datum → List UnitForm
