@@ -1,5 +1,5 @@
 //! The requirements of `cond-expand` (R7RS 4.2.1), and which of its clauses is chosen.
-ghost use Rattle.std.specs.Prelude.{◌≡◌, ℕ, List, Option, IfOk};
+ghost use Rattle.std.specs.Prelude.{◌≡◌, ◌&&◌, ◌||◌, ℕ, List, Option, IfOk};
 ghost use Rattle.std.specs.BTreeSet.{contains_text};
 ghost use Rattle.scheme_model.specs.declared.Occ.{Occ};
 ghost use Rattle.scheme_model.specs.Trees.{Trees, Tail, list as list_tree};
@@ -7,7 +7,7 @@ ghost use Rattle.scheme_model.specs.Requirements.{holds, all_hold, some_holds, n
 ghost use Rattle.scheme_model.specs.Program.{has_name};
 ghost use Rattle.library_table.specs.Looks.{tree_at, trees_at, is_dotted};
 ghost use Rattle.library_table.specs.PartsRead.{Reads, knows};
-ghost use Rattle.library_table.specs.Chosen.{library_holds, word_holds, is_empty};
+ghost use Rattle.library_table.specs.Chosen.{library_holds, connective_named, word_holds, is_empty};
 
 use crate::library_names::library_name;
 use crate::look::{Look, Row, look_at, row_of, word_in};
@@ -16,6 +16,46 @@ use datum_reader::Datum;
 use ls_base::{Mem, Text};
 use std::alloc::Global;
 use std::collections::BTreeSet;
+
+/// What a requirement that is a list says by its word.
+#[derive(Clone, Copy)]
+pub enum Connective {
+    And,
+    Or,
+    Not,
+    Library,
+    Unknown,
+}
+
+fn connective_in(word: &str) -> Connective
+    ensures { result ≡ connective_named word.now }
+{
+    if word == "and" {
+        return Connective::And;
+    }
+    if word == "or" {
+        return Connective::Or;
+    }
+    if word == "not" {
+        return Connective::Not;
+    }
+    if word == "library" {
+        return Connective::Library;
+    }
+    Connective::Unknown
+}
+
+fn both(a: bool, b: bool) -> bool
+    ensures { result ≡ (a && b) }
+{
+    a && b
+}
+
+fn either(a: bool, b: bool) -> bool
+    ensures { result ≡ (a || b) }
+{
+    a || b
+}
 
 /// The names for which there is a library.
 pub fn known_names(alloc: Global, known: &[Text]) -> Mem<BTreeSet<String>>
@@ -98,19 +138,13 @@ fn word_holds(
     ensures { (all : List (List ℕ)) → ((s : List ℕ) → contains_text known.now s ≡ has_name all s) → (place : ℕ → Occ) →
         Reads (λ b. b) result (word_holds (knows all) word.now (trees_at place parts.now)) }
 {
-    if word == "and" {
-        return all_hold(alloc, known, parts);
+    match connective_in(word) {
+        Connective::And => all_hold(alloc, known, parts),
+        Connective::Or => some_holds(alloc, known, parts),
+        Connective::Not => none_holds(alloc, known, parts),
+        Connective::Library => library_holds(alloc, known, parts),
+        Connective::Unknown => Err(ShapeFault::BadForm),
     }
-    if word == "or" {
-        return some_holds(alloc, known, parts);
-    }
-    if word == "not" {
-        return none_holds(alloc, known, parts);
-    }
-    if word == "library" {
-        return library_holds(alloc, known, parts);
-    }
-    Err(ShapeFault::BadForm)
 }
 
 /// Whether all requirements hold. Each of them has a shape.
@@ -126,7 +160,8 @@ fn all_hold(
     let mut hold = true;
     for part in parts {
         let here = holds(alloc, known, part)?;
-        hold = hold && here;
+        let next = both(hold, here);
+        hold = next;
     }
     Ok(hold)
 }
@@ -144,7 +179,8 @@ fn some_holds(
     let mut hold = false;
     for part in parts {
         let here = holds(alloc, known, part)?;
-        hold = hold || here;
+        let next = either(hold, here);
+        hold = next;
     }
     Ok(hold)
 }
