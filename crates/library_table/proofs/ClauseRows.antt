@@ -10,7 +10,8 @@ use Rattle.scheme_model.specs.Declarations.{Flat, Clause, clauses, clause_of, so
 use Rattle.datum_reader.specs.declared.datum.Datum as code
 use Rattle.datum_reader.specs.Views.{datum_of, data_of}
 use Rattle.library_table.specs.Chosen.{is_empty}
-use Rattle.library_table.specs.Flattened.{row_weight, clause_with, OrFirst}
+use Rattle.library_table.specs.Flattened.{clause_with, OrFirst}
+use Rattle.library_table.specs.Weights.{row_weight}
 
 -- what these forms come to, if they were chosen
 abbrev pub picks : Known → Datum → Option (Bor (List code.Datum)) → Result Flat Datum → Result Flat Datum

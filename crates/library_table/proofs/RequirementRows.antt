@@ -11,7 +11,7 @@ use Rattle.scheme_model.specs.Requirements.{Known, holds, all_hold, some_holds, 
 use Rattle.scheme_model.specs.Program.{has_name}
 use Rattle.datum_reader.specs.declared.datum.Datum as code
 use Rattle.datum_reader.specs.Views.{datum_of, data_of}
-use Rattle.library_table.specs.Flattened.{weight, row_weight}
+use Rattle.library_table.specs.Weights.{weight, row_weight}
 use Rattle.library_table.specs.declared.shape_fault.ShapeFault.{ShapeFault}
 use Rattle.library_table.specs.declared.shape_fault.ShapeFault.TheVariants as fault
 use Rattle.library_table.specs.Looks.{trees_at, tree_at, word_of, is_dotted}

@@ -20,7 +20,7 @@ use Rattle.library_table.specs.declared.sets.Modified.{Modified}
 use Rattle.library_table.specs.Looks.{plain, tree_at, trees_at, word_of, symbol_now, IsWord, IsListOf, end_with}
 use Rattle.library_table.specs.PartsRead.{Fails}
 use Rattle.library_table.specs.SetsRead.{modifier_as, modifier_seen, modifier_for, is_list, IsModified, IsModifiedBy, IsSetText, IsSetMade}
-use Rattle.library_table.specs.Flattened.{weight, weights}
+use Rattle.library_table.specs.Weights.{weight, weights}
 
 -- ---- modifiers
 

@@ -16,6 +16,7 @@ use Rattle.library_table.specs.declared.flattening.Declared as code_declared
 use Rattle.library_table.specs.declared.flattening.Declared.TheVariants as kind
 use Rattle.library_table.specs.declared.flattening.Clause as code_clause
 use Rattle.library_table.specs.Looks.{bytes_of}
+use Rattle.library_table.specs.Weights.{weight, row_weight}
 use Rattle.library_table.specs.UnitsRead.{forms_of}
 
 -- ---- answers
@@ -58,22 +59,6 @@ abbrev pub choice_of : Known → Datum → Data → Flat
 choice_of known d ds = flat_of (clauses known d ds >>= some_clauses d >>= chosen_clause known d)
 
 -- ---- clauses
-
--- how heavy data are: what they hold is lighter
-abbrev mutual
-  pub weight : Datum → ℕ
-  weight (atom p a) = 1
-  weight (list p ds) = suc (weights ds)
-  weight (vector p ds) = suc (weights ds)
-  weight (bytes p bs) = 1
-
-  pub weights : Data → ℕ
-  weights none = 0
-  weights (part d ds) = weight d + weights ds
-  weights (tail d) = weight d
-
-abbrev pub row_weight : List Datum → ℕ
-row_weight ds = weights (row ds none)
 
 abbrev pub clause_with : Known → Datum → code.Datum → List code.Datum → Clause
 clause_with known whole requirement forms = record { requirement = symbol_tree (datum_of requirement); forms = declarations known whole (row (data_of forms) none) }

@@ -9,6 +9,7 @@ pub mod Waiting
 pub mod Looks
 pub mod PartsRead
 pub mod Forms
+pub mod Weights
 pub mod SetsRead
 pub mod UnitsRead
 pub mod Chosen

@@ -9,7 +9,8 @@ ghost use Rattle.datum_reader.specs.Views.{datum_of, data_of};
 ghost use Rattle.library_table.specs.Looks.{end_with, bytes_of, IsListOf};
 ghost use Rattle.library_table.specs.PartsRead.{knows};
 ghost use Rattle.library_table.specs.UnitsRead.{forms_of};
-ghost use Rattle.library_table.specs.Flattened.{Flattens, IsClause, Chooses, OrFirst, is_declared, kept, begun_of, choice_of, two_symbols, row_weight};
+ghost use Rattle.library_table.specs.Flattened.{Flattens, IsClause, Chooses, OrFirst, is_declared, kept, begun_of, choice_of, two_symbols};
+ghost use Rattle.library_table.specs.Weights.{row_weight};
 ghost use Rattle.library_table.specs.declared.fault.LibraryFault.TheVariants as fault;
 
 use crate::fault::LibraryFault;

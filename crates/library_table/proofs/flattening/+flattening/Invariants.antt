@@ -5,7 +5,7 @@ use Rattle.scheme_model.specs.Data.{Datum}
 use Rattle.scheme_model.specs.Program.{has_name}
 use Rattle.datum_reader.specs.Views.{datum_of, data_of}
 use Rattle.library_table.specs.PartsRead.{knows}
-use Rattle.library_table.specs.Flattened.{weight, row_weight}
+use Rattle.library_table.specs.Weights.{weight, row_weight}
 use Rattle.library_table.proofs.FlatRows.{FlatUpTo}
 use Rattle.library_table.proofs.flattening.+flattening.Given as goal
 

@@ -9,7 +9,7 @@ use Rattle.datum_reader.specs.declared.datum.Datum.{Datum}
 use Rattle.datum_reader.specs.Views.{datum_of}
 use Rattle.library_table.specs.Looks.{tree_at, trees_at}
 use Rattle.library_table.specs.PartsRead.{Fails, map_ok, knows}
-use Rattle.library_table.specs.Chosen.{word_holds}
+use Rattle.library_table.specs.Chosen.{word_holds, by_connective}
 use Rattle.library_table.proofs.Chaining.{reads_same, reads_err, fails_same, fails_then, then_ok}
 use Rattle.library_table.proofs.LookLaws.{list_seen, nothing_in}
 use Rattle.library_table.proofs.SetRows.{parts_lighter}
@@ -121,3 +121,18 @@ some_holds-returns t c = λ all k at.
     let ds = c.args.parts.now in
     let hold = c.loop-part.hold in
     c.loop-part.invariant all k at ∙ ap (λ (ts : Trees (List ℕ)). map_ok (λ (b : Bool). hold || b) (some_holds (λ s. s) (knows all) ts)) (trees_end at ds c.loop-part.part-index (omega arith)) ∙ some_end hold _ refl
+
+pub word_holds-returns-in-And : goal.word_holds-returns-in-And
+word_holds-returns-in-And t c = λ all k at.
+    let ts = trees_at at c.args.parts.now in
+    reads_same (λ b. b) c.all_hold.result (all_hold (λ s. s) (knows all) ts) (word_holds (knows all) c.args.word.now ts) (ap (λ w. by_connective (knows all) w ts) (sym c.in-And.ensures)) (c.all_hold.ensures all k at)
+
+pub word_holds-returns-in-Or : goal.word_holds-returns-in-Or
+word_holds-returns-in-Or t c = λ all k at.
+    let ts = trees_at at c.args.parts.now in
+    reads_same (λ b. b) c.some_holds.result (some_holds (λ s. s) (knows all) ts) (word_holds (knows all) c.args.word.now ts) (ap (λ w. by_connective (knows all) w ts) (sym c.in-Or.ensures)) (c.some_holds.ensures all k at)
+
+pub word_holds-returns-in-Not : goal.word_holds-returns-in-Not
+word_holds-returns-in-Not t c = λ all k at.
+    let ts = trees_at at c.args.parts.now in
+    reads_same (λ b. b) c.none_holds.result (none_holds (λ s. s) (knows all) ts) (word_holds (knows all) c.args.word.now ts) (ap (λ w. by_connective (knows all) w ts) (sym c.in-Not.ensures)) (c.none_holds.ensures all k at)

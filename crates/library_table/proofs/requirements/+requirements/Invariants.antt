@@ -7,7 +7,7 @@ use Rattle.scheme_model.specs.Program.{has_name}
 use Rattle.datum_reader.specs.Views.{datum_of, data_of}
 use Rattle.library_table.specs.Looks.{trees_at}
 use Rattle.library_table.specs.PartsRead.{map_ok, knows}
-use Rattle.library_table.specs.Flattened.{weight, row_weight}
+use Rattle.library_table.specs.Weights.{weight, row_weight}
 use Rattle.library_table.proofs.requirements.+requirements.Given as goal
 
 abbrev pub decreases-holds : goal.decreases-holds

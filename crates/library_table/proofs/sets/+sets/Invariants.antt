@@ -1,7 +1,7 @@
 use Rattle.std.proofs.Common.{◌*◌, ◌+◌}
 use Rattle.scheme_model.specs.Data.{row, none}
 use Rattle.datum_reader.specs.Views.{datum_of, data_of}
-use Rattle.library_table.specs.Flattened.{weight, row_weight}
+use Rattle.library_table.specs.Weights.{weight, row_weight}
 use Rattle.library_table.proofs.sets.+sets.Given as goal
 
 abbrev pub decreases-set_of : goal.decreases-set_of
