@@ -21,6 +21,3 @@ mod DataRows
 mod Gathering
 mod ExportRows
 mod ProgramRows
-mod RequirementRows
-mod FlatRows
-mod ClauseRows

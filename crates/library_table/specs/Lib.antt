@@ -12,6 +12,3 @@ pub mod Forms
 pub mod Weights
 pub mod SetsRead
 pub mod UnitsRead
-pub mod Chosen
-pub mod Flattened
-pub mod LibrariesRead
