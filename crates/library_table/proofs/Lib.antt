@@ -12,3 +12,12 @@ mod StepLaws
 mod WaitLaws
 mod OrderLaws
 mod WorkLaws
+mod LookLaws
+mod Chaining
+mod TreeRows
+mod NameTexts
+mod SetRows
+mod DataRows
+mod Gathering
+mod ExportRows
+mod ProgramRows

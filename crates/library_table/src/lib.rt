@@ -3,14 +3,23 @@
 #![tactic(auto)]
 
 mod circles;
+mod export_specs;
 mod exported;
 pub mod exporting;
 pub mod fault;
 mod firsts;
 mod graph;
 pub mod laws;
+mod library_names;
+mod look;
+mod names;
 pub mod orders;
+mod parts;
+pub mod programs;
 pub mod repeats;
+mod sets;
+mod shape_fault;
+mod start;
 mod turns;
 pub mod units;
 mod walk;
@@ -18,5 +27,6 @@ mod walk;
 pub use exporting::{ExportFault, Exports, exports_of};
 pub use fault::LibraryFault;
 pub use orders::order;
+pub use programs::read_program;
 pub use repeats::repeated;
 pub use units::{ExportSpec, ImportSpec, UnitForm, UnitSource};

@@ -1,5 +1,6 @@
 -- What a document holds (R7RS 5.1, 5.6.1): libraries, whose declarations are flattened, and a program.
 use Rattle.std.specs.Prelude.{ℕ, List, [], ◌∷◌, ◌++◌, map, filter, Bool, true, false, not, ◌&&◌, ◌||◌, Option, Some, None, Result, Ok, Err, codes, if◌then◌else◌}
+use Rattle.std.specs.Option.{is_some}
 use Rattle.std.specs.Str.{bytes_eq, encode_utf8_all}
 use Rattle.scheme_model.specs.Kinds.{Leaf, Name, Numeral, Quoted, Character, Truth}
 use Rattle.scheme_model.specs.Data.{Atom, spelled, implied, Datum, atom, list, vector, bytes, Data, none, part, tail, Place, place_of}
@@ -122,15 +123,20 @@ abbrev pub later_clauses : List Clause → Trees (List ℕ)
 later_clauses [] = no_trees
 later_clauses (c ∷ cs) = tree c.requirement no_trees
 
-abbrev pub picked : Bool → Flat → List UnitForm → Flat
+abbrev pub picked : Bool → Flat → Flat → Flat
 picked true forms later = forms
-picked false forms later = Ok later
+picked false forms later = later
 
--- the forms of the first clause that holds; a clause without its shape makes the whole bad
-abbrev pub chosen_clause : Known → Datum → List Clause → Flat
-chosen_clause known whole [] = Ok []
+-- the forms of the first clause that holds; a clause without its shape makes the whole bad. What stands in a clause that isn't
+-- chosen is no declaration
+abbrev pub chosen_clause : Known → Datum → List Clause → Result Flat Datum
+chosen_clause known whole [] = Ok (Ok [])
 chosen_clause known whole (c ∷ cs) =
-    or_bad whole (clause_holds (λ s. s) known c.requirement (later_clauses cs)) >>= λ b. chosen_clause known whole cs >>= λ later. picked b c.forms later
+    or_bad whole (clause_holds (λ s. s) known c.requirement (later_clauses cs)) >>= λ b. chosen_clause known whole cs >>= λ later. Ok (picked b c.forms later)
+
+abbrev pub flat_of : Result Flat Datum → Flat
+flat_of (Ok forms) = forms
+flat_of (Err d) = Err d
 
 abbrev pub some_clauses : Datum → List Clause → Result (List Clause) Datum
 some_clauses whole [] = Err whole
@@ -169,7 +175,7 @@ abbrev pub declared_as : Known → Declared → Datum → Option (List Datum) �
 declared_as known Exports d parts clauses = parts_or d parts >>= λ ds. if all_export_parts ds then Ok (record { datum = d; declared = true } ∷ []) else Err d
 declared_as known Imports d parts clauses = parts_or d parts >>= λ ds. Ok (record { datum = d; declared = true } ∷ [])
 declared_as known Begins d parts clauses = parts_or d parts >>= λ ds. Ok (map plain_form ds)
-declared_as known Chooses d parts clauses = clauses >>= some_clauses d >>= chosen_clause known d
+declared_as known Chooses d parts clauses = flat_of (clauses >>= some_clauses d >>= chosen_clause known d)
 declared_as known Includes d parts clauses = parts_or d parts >>= λ ds. Ok (record { datum = d; declared = true } ∷ [])
 declared_as known Undeclared d parts clauses = Err d
 
@@ -251,10 +257,13 @@ abbrev pub libraries_in : Known → List Datum → List UnitSource
 libraries_in known [] = []
 libraries_in known (d ∷ ds) = if is_library d then library_of known d ∷ libraries_in known ds else libraries_in known ds
 
--- the leading lists headed by `import` are a program's imports
+abbrev pub is_proper : Datum → Bool
+is_proper d = is_some (list_parts d)
+
+-- the leading proper lists headed by `import` are a program's imports
 abbrev pub program_forms : List Datum → List UnitForm
 program_forms [] = []
-program_forms (d ∷ ds) = if is_headed (codes "import") d then record { datum = d; declared = true } ∷ program_forms ds else map plain_form (d ∷ ds)
+program_forms (d ∷ ds) = if is_headed (codes "import") d && is_proper d then record { datum = d; declared = true } ∷ program_forms ds else map plain_form (d ∷ ds)
 
 abbrev pub program_in : List Datum → List UnitSource
 program_in [] = []

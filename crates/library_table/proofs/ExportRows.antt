@@ -1,0 +1,43 @@
+-- Exports as they are read.
+use Rattle.std.proofs.Common.{◌≡◌, ℕ, List, [], ◌∷◌, Bool, true, Option, Some, None, Result, Ok, Err, IfOk, refl, sym, ap, ◌∙◌, subst}
+use Rattle.std.proofs.lemmas.Option.{same_Some}
+use Rattle.ls_base.specs.declared.memory.Memory.{Memory}
+use Rattle.scheme_model.specs.declared.Occ.{Occ}
+use Rattle.scheme_model.specs.Data.{Datum, place_of}
+use Rattle.scheme_model.specs.Trees.{Tree, name, atom, list, vector, Trees, tree, Tail}
+use Rattle.scheme_model.specs.ExpansionFaults.{Named}
+use Rattle.scheme_model.specs.Program.{ExportSpec, export_of}
+use Rattle.import_sets.specs.Sets.{named}
+use Rattle.import_sets.specs.declared.set.SetName.{SetName}
+use Rattle.datum_reader.specs.declared.datum.Datum as code
+use Rattle.datum_reader.specs.Views.{datum_of}
+use Rattle.library_table.specs.declared.units.ExportSpec as code_export
+use Rattle.library_table.specs.Looks.{plain, tree_at, trees_at, IsListOf}
+use Rattle.library_table.specs.UnitsRead.{named_in, IsExportRead, IsExportOf}
+use Rattle.library_table.proofs.LookLaws.{list_seen}
+
+pub two_named : (r t u : Tree (List ℕ)) (ts : Trees (List ℕ)) (end : Tail (List ℕ)) (o : Option Occ) (a b : SetName) → Some (named a) ≡ named_in t → Some (named b) ≡ named_in u →
+    (x : ExportSpec) × (export_of (list (tree r (tree t (tree u ts))) end o) ≡ x ∷ []) × IsExportRead (record { inner = a; outer = b }) x
+two_named r (name i p) (name j q) ts end o a b h k =
+    (record { inner = record { name = i; occ = p }; outer = record { name = j; occ = q }; renamed = true }, refl, record { inner = same_Some _ _ h; outer = same_Some _ _ k })
+two_named r (name i p) (atom x q) ts end o a b h k = absurd cc
+two_named r (name i p) (list us e q) ts end o a b h k = absurd cc
+two_named r (name i p) (vector us q) ts end o a b h k = absurd cc
+two_named r (atom x p) u ts end o a b h k = absurd cc
+two_named r (list us e p) u ts end o a b h k = absurd cc
+two_named r (vector us p) u ts end o a b h k = absurd cc
+
+-- an export by the parts of its list
+pub by_parts : (x : Result (Option code_export.ExportSpec) Memory) (place : ℕ → Occ) (ds : List code.Datum) (d a b : code.Datum) (es fs gs : List code.Datum) → ds ≡ d ∷ es → es ≡ a ∷ fs → fs ≡ b ∷ gs →
+    IfOk x (λ spec. (r : Tree (List ℕ)) (ts : Trees (List ℕ)) (end : Tail (List ℕ)) (o : Option Occ) → IsExportOf spec (export_of (list (tree r (tree (tree_at place a) (tree (tree_at place b) ts))) end o))) →
+    IfOk x (λ spec. (end : Tail (List ℕ)) (o : Option Occ) → IsExportOf spec (export_of (list (trees_at place ds) end o)))
+by_parts (Ok spec) place ds d a b es fs gs e f g h = λ end o.
+    subst (λ (xs : List code.Datum). IsExportOf spec (export_of (list (trees_at place xs) end o))) (sym (e ∙ ap (λ (xs : List code.Datum). d ∷ xs) (f ∙ ap (λ (xs : List code.Datum). a ∷ xs) g)))
+    (h (tree_at place d) (trees_at place gs) end o)
+by_parts (Err e) place ds d a b es fs gs i f g h = tt
+
+-- an export that is a list
+pub by_list : (x : Result (Option code_export.ExportSpec) Memory) (place : ℕ → Occ) (ds : List code.Datum) (b : Bool) (d : Datum) → IsListOf ds b d → IfOk x (λ spec. (end : Tail (List ℕ)) (o : Option Occ) → IsExportOf spec (export_of (list (trees_at place ds) end o))) →
+    IfOk x (λ spec. IsExportOf spec (export_of (plain place d)))
+by_list (Ok spec) place ds b d l h = let t = list_seen place ds b d l in subst (λ (x : Tree (List ℕ)). IsExportOf spec (export_of x)) (sym t.whole) (h t.end (Some (place (place_of d).first)))
+by_list (Err e) place ds b d l h = tt

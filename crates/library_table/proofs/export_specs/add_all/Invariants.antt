@@ -1,0 +1,10 @@
+use Rattle.scheme_model.specs.Program.{export_of}
+use Rattle.datum_reader.specs.Views.{datum_of}
+use Rattle.library_table.specs.Forms.{place}
+use Rattle.library_table.specs.Looks.{plain}
+use Rattle.library_table.specs.UnitsRead.{IsExportRead}
+use Rattle.library_table.proofs.Gathering.{GatheredUpTo}
+use Rattle.library_table.proofs.export_specs.add_all.Given as goal
+
+abbrev pub invariant-loop-datum : goal.invariant-loop-datum
+invariant-loop-datum l = GatheredUpTo IsExportRead (λ k d. export_of (plain (place l.start) (datum_of d))) l.parts l.datum-index l.initial.specs l.specs

@@ -1,0 +1,83 @@
+-- How parts of declarations are read: what is answered, and the texts of libraries' names.
+use Rattle.std.specs.Prelude.{◌≡◌, ℕ, List, [], ◌∷◌, ◌++◌, Bool, false, true, Result, Ok, Err}
+use Rattle.std.specs.Str.{chars, encode_utf8_all}
+use Rattle.scheme_tokens.specs.Mirror.Spelled.{spelled}
+use Rattle.scheme_model.specs.Trees.{Trees, Tail}
+use Rattle.scheme_model.specs.ExpansionFaults.{Named, Fault, BadForm, ◌>>◌}
+use Rattle.scheme_model.specs.Shapes.{name_of, names_of, first_of, one_of, some_of, proper_of}
+use Rattle.scheme_model.specs.Entries.{pairs_of}
+use Rattle.scheme_model.specs.Requirements.{LibraryPart, Symbol, Digits, LibraryName, Known, parts_of}
+use Rattle.scheme_model.specs.Program.{has_name}
+use Rattle.library_table.specs.declared.shape_fault.ShapeFault.{ShapeFault}
+use Rattle.library_table.specs.declared.shape_fault.ShapeFault.TheVariants as fault
+
+-- ---- answers
+
+-- a fault is the definition's; want of memory may come with any
+abbrev pub Fails : {A B : Type 0} → ShapeFault → Result A (Fault B) → Type 0
+Fails fault.BadForm r = r ≡ Err BadForm
+Fails fault.Memory r = Unit {0}
+
+-- an answer, seen by view, is the definition's
+abbrev pub Reads : {X A B : Type 0} → (X → A) → Result X ShapeFault → Result A (Fault B) → Type 0
+Reads view (Ok x) r = r ≡ Ok (view x)
+Reads view (Err e) r = Fails e r
+
+abbrev pub map_ok : {A B C : Type 0} → (A → B) → Result A C → Result B C
+map_ok f (Ok a) = Ok (f a)
+map_ok f (Err e) = Err e
+
+-- ---- the text of a library's name
+
+-- a symbol as it is written, with bars where it needs them; a numeral as it stands
+abbrev pub part_text : LibraryPart → List ℕ
+part_text (Symbol s) = encode_utf8_all (spelled (chars s) false)
+part_text (Digits s) = s
+
+-- parts, each behind a space
+abbrev pub behind_spaces : LibraryName → List ℕ
+behind_spaces [] = []
+behind_spaces (p ∷ ps) = 32 ∷ (part_text p ++ behind_spaces ps)
+
+-- parts with one space between each two
+abbrev pub with_spaces : LibraryName → List ℕ
+with_spaces [] = []
+with_spaces (p ∷ ps) = part_text p ++ behind_spaces ps
+
+-- in parentheses
+abbrev pub library_text : LibraryName → List ℕ
+library_text n = 40 ∷ (with_spaces n ++ 41 ∷ [])
+
+-- the libraries whose names have these texts
+abbrev pub knows : List (List ℕ) → Known
+knows texts n = has_name texts (library_text n)
+
+-- ---- what is added to a text
+
+abbrev pub Puts : {B : Type 0} → List ℕ → List ℕ → Result Unit ShapeFault → Result LibraryPart (Fault B) → Type 0
+Puts old new (Ok u) r = (p : LibraryPart) × (r ≡ Ok p) × (new ≡ old ++ part_text p)
+Puts old new (Err e) r = Fails e r
+
+abbrev pub PutsAll : {B : Type 0} → List ℕ → List ℕ → Result Unit ShapeFault → Result LibraryName (Fault B) → Type 0
+PutsAll old new (Ok u) r = (ps : LibraryName) × (r ≡ Ok ps) × (new ≡ old ++ behind_spaces ps)
+PutsAll old new (Err e) r = Fails e r
+
+-- ---- pairs
+
+-- the two identifiers of a list
+abbrev pub pair_in : Trees (List ℕ) → Tail (List ℕ) → Result (Named (List ℕ) × Named (List ℕ)) (Fault (List ℕ))
+pair_in ts end = first_of ts >> λ q. name_of q.0 >> λ a. one_of q.1 end >> name_of >> λ b. Ok (a, b)
+
+-- ---- lists that may not be dotted
+
+abbrev pub names_in : Trees (List ℕ) → Tail (List ℕ) → Result (List (Named (List ℕ))) (Fault (List ℕ))
+names_in ts end = proper_of ts end >> names_of
+
+abbrev pub pairs_in : Trees (List ℕ) → Tail (List ℕ) → Result (List (Named (List ℕ) × Named (List ℕ))) (Fault (List ℕ))
+pairs_in ts end = proper_of ts end >> pairs_of
+
+abbrev pub only_name : Trees (List ℕ) → Tail (List ℕ) → Result (Named (List ℕ)) (Fault (List ℕ))
+only_name ts end = one_of ts end >> name_of
+
+abbrev pub name_in_list : Trees (List ℕ) → Tail (List ℕ) → Result LibraryName (Fault (List ℕ))
+name_in_list ts end = some_of ts end >> parts_of (λ s. s)

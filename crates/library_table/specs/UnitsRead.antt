@@ -1,0 +1,132 @@
+-- What units that are read stand for (R7RS 5.1, 5.6.1): their forms, imports and exports, and the bytes of their first tokens.
+use Rattle.std.specs.Prelude.{◌≡◌, ℕ, ◌+◌, min, List, [], ◌∷◌, ◌++◌, map, filter, Bool, true, false, not, ◌&&◌, Option, Some, None, Result, Ok, Err, codes, if◌then◌else◌}
+use Rattle.std.specs.Option.{option_map}
+use Rattle.ls_base.specs.declared.places.Span.{Span}
+use Rattle.scheme_model.specs.declared.Occ.{Occ}
+use Rattle.scheme_model.specs.Data.{Place, Atom, spelled, implied, Datum, atom, list, vector, bytes, Data, none, part, tail}
+use Rattle.scheme_model.specs.Trees.{Tree, name, atom as atom_tree, list as list_tree, vector as vector_tree}
+use Rattle.scheme_model.specs.ExpansionFaults.{Named}
+use Rattle.scheme_model.specs.Program.{ImportSpec, ExportSpec, specs_from, exports_from}
+use Rattle.scheme_model.specs.Declarations.{UnitForm, UnitKind, IsLibrary, IsProgram, UnitSource, is_headed, is_proper, is_library, program_forms, plain_form, program_in}
+use Rattle.syntax_tree.specs.declared.units.UnitKind as code_kind
+use Rattle.syntax_tree.specs.declared.units.UnitKind.TheVariants as kinds
+use Rattle.import_sets.specs.Sets.{named}
+use Rattle.datum_reader.specs.Views.{datum_of}
+use Rattle.library_table.specs.declared.units.ImportSpec as code_import
+use Rattle.library_table.specs.declared.units.ExportSpec as code_export
+use Rattle.library_table.specs.declared.units.UnitForm as code_form
+use Rattle.library_table.specs.declared.units.UnitSource as code
+use Rattle.library_table.specs.PartsRead.{library_text}
+use Rattle.library_table.specs.SetsRead.{IsImportSpec}
+
+-- ---- first tokens
+
+-- the bytes of a place
+abbrev pub span_of : Place → Span
+span_of p = record { start = p.start; end = p.end }
+
+-- so many bytes at the beginning of a span
+abbrev pub opening : ℕ → Span → Span
+opening width s = record { start = s.start; end = min (s.start + width) s.end }
+
+-- a parenthesis, or the mark of an abbreviation
+abbrev pub list_token : Span → Data → Span
+list_token s none = opening 1 s
+list_token s (tail d) = opening 1 s
+list_token s (part (atom q (implied mark)) ds) = span_of q
+list_token s (part (atom q (spelled leaf)) ds) = opening 1 s
+list_token s (part (list q es) ds) = opening 1 s
+list_token s (part (vector q es) ds) = opening 1 s
+list_token s (part (bytes q bs) ds) = opening 1 s
+
+-- the bytes of the first token: an atom's, `(` or a mark, `#(`, `#u8(`
+abbrev pub first_token : Datum → Span
+first_token (atom p a) = span_of p
+first_token (list p ds) = list_token (span_of p) ds
+first_token (vector p ds) = opening 2 (span_of p)
+first_token (bytes p bs) = opening 4 (span_of p)
+
+-- ---- forms
+
+abbrev pub form_of : code_form.UnitForm → UnitForm
+form_of f = record { datum = datum_of f.datum; declared = f.declared }
+
+abbrev pub forms_of : List code_form.UnitForm → List UnitForm
+forms_of fs = map form_of fs
+
+-- ---- imports
+
+-- as many, and each stands for the other's
+abbrev pub Pairs : {X A : Type 0} → (X → A → Type 0) → List X → List A → Type 0
+Pairs R [] [] = Unit {0}
+Pairs R [] (a ∷ xs) = ⊥
+Pairs R (x ∷ xs) [] = ⊥
+Pairs R (x ∷ xs) (a ∷ ys) = R x a × Pairs R xs ys
+
+abbrev pub Adds : {X A : Type 0} → (X → A → Type 0) → List X → List X → List A → Type 0
+Adds {X} R old new ys = (xs : List X) × (new ≡ old ++ xs) × Pairs R xs ys
+
+abbrev pub AreSpecs : List code_import.ImportSpec → List ImportSpec → Type 0
+AreSpecs cs ss = Pairs IsImportSpec cs ss
+
+-- import sets were added to others
+abbrev pub AddsSpecs : List code_import.ImportSpec → List code_import.ImportSpec → List ImportSpec → Type 0
+AddsSpecs old new ss = Adds IsImportSpec old new ss
+
+-- ---- exports
+
+-- the identifier that a tree is
+abbrev pub named_in : Tree (List ℕ) → Option (Named (List ℕ))
+named_in (name s o) = Some (record { name = s; occ = o })
+named_in (atom_tree a o) = None
+named_in (list_tree ts end o) = None
+named_in (vector_tree ts o) = None
+
+-- an export's two identifiers
+pub record IsExportRead (c : code_export.ExportSpec) (x : ExportSpec) : Type 0 where
+  pub inner : named c.inner ≡ x.inner
+  pub outer : named c.outer ≡ x.outer
+
+abbrev pub IsExportOf : Option code_export.ExportSpec → List ExportSpec → Type 0
+IsExportOf None xs = xs ≡ []
+IsExportOf (Some c) xs = (x : ExportSpec) × (xs ≡ x ∷ []) × IsExportRead c x
+
+abbrev pub AreExportsRead : List code_export.ExportSpec → List ExportSpec → Type 0
+AreExportsRead cs xs = Pairs IsExportRead cs xs
+
+-- exports were added to others
+abbrev pub AddsExports : List code_export.ExportSpec → List code_export.ExportSpec → List ExportSpec → Type 0
+AddsExports old new xs = Adds IsExportRead old new xs
+
+-- ---- units
+
+abbrev pub kind_of : code_kind.UnitKind → UnitKind
+kind_of kinds.Library = IsLibrary
+kind_of kinds.Program = IsProgram
+
+-- a unit with this number, whose first datum is this one: its forms, and all that they import and export
+pub record IsSource (unit : ℕ) (c : code.UnitSource) (u : UnitSource) (d : Datum) : Type 0 where
+  pub forms : u.forms ≡ Ok (forms_of c.forms)
+  pub kind : kind_of c.kind ≡ u.kind
+  pub name : c.name ≡ option_map library_text u.name
+  pub span : c.span ≡ first_token d
+  pub imports : AreSpecs c.imports (specs_from unit 0 (forms_of c.forms))
+  pub exports : AreExportsRead c.exports (exports_from unit 0 (forms_of c.forms))
+
+-- ---- programs
+
+abbrev pub is_import : Datum → Bool
+is_import d = is_headed (codes "import") d && is_proper d
+
+abbrev pub not_library : Datum → Bool
+not_library d = not (is_library d)
+
+-- the forms of what is left of a program, where only imports came before or not
+abbrev pub rest_forms : Bool → List Datum → List UnitForm
+rest_forms true ds = program_forms ds
+rest_forms false ds = map plain_form ds
+
+-- the program of these data, which are no libraries
+abbrev pub IsProgramRead : ℕ → List Datum → Option code.UnitSource → Type 0
+IsProgramRead unit ds None = ds ≡ []
+IsProgramRead unit ds (Some c) = (d : Datum) × (rest : List Datum) × (u : UnitSource) × (ds ≡ d ∷ rest) × (program_in ds ≡ u ∷ []) × IsSource unit c u d

@@ -1,0 +1,163 @@
+//! The exports of units that are read (R7RS 5.6.1).
+ghost use Rattle.std.specs.Prelude.{◌≡◌, ◌++◌, List, ℕ, IfOk, OnOk, Option, option_map, option_to_list};
+ghost use Rattle.scheme_model.specs.declared.Occ.{Occ};
+ghost use Rattle.scheme_model.specs.Trees.{Tree, name as name_tree, list as list_tree, Trees, tree, Tail};
+ghost use Rattle.scheme_model.specs.Program.{export_of, exports_in, exports_from, exports_with};
+ghost use Rattle.import_sets.specs.Sets.{named};
+ghost use Rattle.datum_reader.specs.Views.{data_of};
+ghost use Rattle.library_table.specs.Looks.{tree_at, trees_at};
+ghost use Rattle.library_table.specs.Forms.{place};
+ghost use Rattle.library_table.specs.UnitsRead.{form_of, forms_of, named_in, AddsExports, AreExportsRead, IsExportOf};
+
+use crate::look::{Look, Row, look_at, row_of};
+use crate::names::name_of;
+use crate::parts::{behind_first, is_headed, number_of};
+use crate::shape_fault::ShapeFault;
+use crate::start::Start;
+use crate::units::{ExportSpec, UnitForm};
+use datum_reader::Datum;
+use import_sets::SetName;
+use ls_base::{Items, Mem, Memory};
+use std::alloc::Global;
+
+/// An identifier that is exported as it is.
+fn itself(name: SetName) -> Mem<ExportSpec>
+    ensures { IfOk result (λ spec. (spec.inner ≡ name) × (spec.outer ≡ name)) }
+{
+    let inner = SetName {
+        name: name.name.clone()?,
+        occ: name.occ,
+    };
+    Ok(ExportSpec { inner, outer: name })
+}
+
+/// An identifier, if a datum is one.
+fn name_if(alloc: Global, datum: &Datum, start: Start) -> Mem<Option<SetName>>
+    ensures { IfOk result (λ name. option_map named name ≡ named_in (tree_at (place start) datum.now)) }
+{
+    match name_of(alloc, datum, start) {
+        Ok(name) => Ok(Some(name)),
+        Err(ShapeFault::BadForm) => Ok(None),
+        Err(ShapeFault::Memory) => Err(Memory),
+    }
+}
+
+/// The export that a part of an export declaration is.
+fn export_of(alloc: Global, datum: &Datum, start: Start) -> Mem<Option<ExportSpec>>
+    ensures { IfOk result (λ spec. IsExportOf spec (export_of (tree_at (place start) datum.now))) }
+{
+    match look_at(datum) {
+        Look::List(parts, _) => renamed_export(alloc, parts, start),
+        Look::Name(_) => plain_export(alloc, datum, start),
+        Look::Implied(_) => plain_export(alloc, datum, start),
+        Look::Numeral(_) => Ok(None),
+        Look::Other => Ok(None),
+    }
+}
+
+/// An identifier as an export.
+fn plain_export(alloc: Global, datum: &Datum, start: Start) -> Mem<Option<ExportSpec>>
+    ensures { IfOk result (λ spec. (s : List ℕ) (o : Option Occ) → tree_at (place start) datum.now ≡ name_tree s o → IsExportOf spec (export_of (name_tree s o))) }
+{
+    match name_if(alloc, datum, start)? {
+        None => Ok(None),
+        Some(name) => Ok(Some(itself(name)?)),
+    }
+}
+
+/// An export under another name, by the parts of its list.
+fn renamed_export(alloc: Global, parts: &[Datum], start: Start) -> Mem<Option<ExportSpec>>
+    ensures { IfOk result (λ spec. (end : Tail (List ℕ)) (o : Option Occ) → IsExportOf spec (export_of (list_tree (trees_at (place start) parts.now) end o))) }
+{
+    match row_of(parts) {
+        Row::Empty => Ok(None),
+        Row::Parts(_, behind) => match row_of(behind) {
+            Row::Empty => Ok(None),
+            Row::Parts(inner, rest) => match row_of(rest) {
+                Row::Empty => Ok(None),
+                Row::Parts(outer, _) => two_names(alloc, inner, outer, start),
+            },
+        },
+    }
+}
+
+/// An export by its two identifiers.
+fn two_names(
+    alloc: Global,
+    inner: &Datum,
+    outer: &Datum,
+    start: Start,
+) -> Mem<Option<ExportSpec>>
+    ensures { IfOk result (λ spec. (r : Tree (List ℕ)) (ts : Trees (List ℕ)) (end : Tail (List ℕ)) (o : Option Occ) →
+        IsExportOf spec (export_of (list_tree (tree r (tree (tree_at (place start) inner.now) (tree (tree_at (place start) outer.now) ts))) end o))) }
+{
+    let Some(inner) = name_if(alloc, inner, start)? else {
+        return Ok(None);
+    };
+    let Some(outer) = name_if(alloc, outer, start)? else {
+        return Ok(None);
+    };
+    Ok(Some(ExportSpec { inner, outer }))
+}
+
+/// Adds an export, if there is one.
+fn add_export(specs: &mut Items<ExportSpec>, spec: Option<ExportSpec>) -> Mem<()>
+    ensures { OnOk result (specs.new ≡ specs.old ++ option_to_list spec) }
+{
+    if let Some(spec) = spec {
+        specs.push(spec)?;
+    }
+    Ok(())
+}
+
+/// Adds the exports of the parts of a declaration.
+fn add_all(
+    alloc: Global,
+    specs: &mut Items<ExportSpec>,
+    parts: &[Datum],
+    start: Start,
+) -> Mem<()>
+    ensures { OnOk result (AddsExports specs.old specs.new (exports_with start.unit start.form start.first (data_of parts.now))) }
+{
+    for datum in parts {
+        let spec = export_of(alloc, datum, start)?;
+        add_export(specs, spec)?;
+    }
+    Ok(())
+}
+
+/// Adds what a form exports.
+fn add_exports(
+    alloc: Global,
+    specs: &mut Items<ExportSpec>,
+    form: &UnitForm,
+    unit: u32,
+    number: u32,
+) -> Mem<()>
+    ensures { OnOk result (AddsExports specs.old specs.new (exports_in unit number (form_of form.now))) }
+{
+    if !form.declared {
+        return Ok(());
+    }
+    if !is_headed("export", &form.datum) {
+        return Ok(());
+    }
+    let start = Start {
+        unit,
+        form: number,
+        first: form.datum.first,
+    };
+    Ok(add_all(alloc, specs, behind_first(&form.datum), start)?)
+}
+
+/// What the forms of a unit export.
+pub fn exports_read(alloc: Global, unit: u32, forms: &[UnitForm]) -> Mem<Items<ExportSpec>>
+    ensures { IfOk result (λ specs. AreExportsRead specs (exports_from unit 0 (forms_of forms.now))) }
+{
+    let mut specs = Items::new(alloc);
+    for (place, form) in forms.iter().enumerate() {
+        let number = number_of(place)?;
+        add_exports(alloc, &mut specs, form, unit, number)?;
+    }
+    Ok(specs)
+}
