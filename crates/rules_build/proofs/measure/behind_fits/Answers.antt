@@ -15,7 +15,7 @@ look_at-requires c = let h = c.requires.3 in (list h.parts c.requires.2 h.place,
 pub depth-requires : goal.depth-requires
 depth-requires c =
     let h = c.requires.3 in
-    let q = c.in-List.ensures (list h.parts c.requires.2 h.place) h.whole in
+    let q = c.in-List.ensures.look (list h.parts c.requires.2 h.place) h.whole in
     part_standing c.args.work.now c.loop-k.k c.in-List.items.now _ (q.0, q.4) (omega arith)
 
 pub returns-then-depth-left : goal.returns-then-depth-left
@@ -23,7 +23,7 @@ returns-then-depth-left c = λ region us tail h.
     let w = c.args.work.now in
     let k = c.loop-k.k in
     let n = c.args.left in
-    let q = c.in-List.ensures (list h.parts tail h.place) h.whole in
+    let q = c.in-List.ensures.look (list h.parts tail h.place) h.whole in
     let s = rest_parts w region c.args.list c.args.from us tail h q.0 q.1 q.2 q.3 in
     let p = part_there w k c.in-List.items.now q.0 (record { number = 0 }) q.4 (omega arith) in
     too_deep n c.depth.result (behind k q.0) (behind (k + 1) q.0) p.part (tail_depth tail) (split_one w k q.0 _ p) (c.depth.ensures p.part p.stands) c.if-depth-left.true ∙ sym (c.loop-k.invariant q.0 tail q.4)
@@ -39,7 +39,7 @@ loop-k-preserved c = λ ts tail stands.
 pub depth-requires-in-Some : goal.depth-requires-in-Some
 depth-requires-in-Some c =
     let h = c.requires.3 in
-    let q = c.in-List.ensures (list h.parts c.requires.2 h.place) h.whole in
+    let q = c.in-List.ensures.look (list h.parts c.requires.2 h.place) h.whole in
     end_standing c.args.work.now c.in-List.end c.in-Some.tail c.in-Some.is (q.1, q.5)
 
 pub returns-in-None : goal.returns-in-None
@@ -47,7 +47,7 @@ returns-in-None c = λ region us tail h.
     let w = c.args.work.now in
     let k = c.loop-k.k in
     let n = c.args.left in
-    let q = c.in-List.ensures (list h.parts tail h.place) h.whole in
+    let q = c.in-List.ensures.look (list h.parts tail h.place) h.whole in
     let s = rest_parts w region c.args.list c.args.from us tail h q.0 q.1 q.2 q.3 in
     let gone = behind_past w k c.in-List.items.now q.0 q.4 (omega arith) in
     let e = end_proper w c.in-List.end q.1 c.in-None.is q.5 in
@@ -59,7 +59,7 @@ returns-in-Some c = λ region us tail h.
     let w = c.args.work.now in
     let k = c.loop-k.k in
     let n = c.args.left in
-    let q = c.in-List.ensures (list h.parts tail h.place) h.whole in
+    let q = c.in-List.ensures.look (list h.parts tail h.place) h.whole in
     let s = rest_parts w region c.args.list c.args.from us tail h q.0 q.1 q.2 q.3 in
     let gone = behind_past w k c.in-List.items.now q.0 q.4 (omega arith) in
     let e = end_dotted w c.in-List.end q.1 c.in-Some.tail c.in-Some.is q.5 in
@@ -68,18 +68,18 @@ returns-in-Some c = λ region us tail h.
 
 pub returns-in-Name : goal.returns-in-Name
 returns-in-Name c = λ region us tail h.
-    let q = c.in-Name.ensures (list h.parts tail h.place) h.whole in
+    let q = c.in-Name.ensures.look (list h.parts tail h.place) h.whole in
     let e = q.2 in
     absurd cc
 
 pub returns-in-Atom : goal.returns-in-Atom
 returns-in-Atom c = λ region us tail h.
-    let q = c.in-Atom.ensures (list h.parts tail h.place) h.whole in
+    let q = c.in-Atom.ensures.look (list h.parts tail h.place) h.whole in
     let e = q.2 in
     absurd cc
 
 pub returns-in-Vector : goal.returns-in-Vector
 returns-in-Vector c = λ region us tail h.
-    let q = c.in-Vector.ensures (list h.parts tail h.place) h.whole in
+    let q = c.in-Vector.ensures.look (list h.parts tail h.place) h.whole in
     let e = q.2 in
     absurd cc

@@ -17,7 +17,7 @@ look_at-requires c = let h = c.requires.3 in (list h.parts c.requires.2 h.place,
 pub size-requires : goal.size-requires
 size-requires c =
     let h = c.requires.3 in
-    let q = c.in-List.ensures (list h.parts c.requires.2 h.place) h.whole in
+    let q = c.in-List.ensures.look (list h.parts c.requires.2 h.place) h.whole in
     part_standing c.args.work.now c.loop-k.k c.in-List.items.now _ (q.0, q.4) (omega arith)
 
 pub loop-k-preserved : goal.loop-k-preserved
@@ -30,13 +30,13 @@ loop-k-preserved c = λ ts tail stands.
 pub size-requires-in-Some : goal.size-requires-in-Some
 size-requires-in-Some c =
     let h = c.requires.3 in
-    let q = c.in-List.ensures (list h.parts c.requires.2 h.place) h.whole in
+    let q = c.in-List.ensures.look (list h.parts c.requires.2 h.place) h.whole in
     end_standing c.args.work.now c.in-List.end c.in-Some.tail c.in-Some.is (q.1, q.5)
 
 pub returns-then-is_none : goal.returns-then-is_none
 returns-then-is_none c = λ region us tail h.
     let w = c.args.work.now in
-    let q = c.in-List.ensures (list h.parts tail h.place) h.whole in
+    let q = c.in-List.ensures.look (list h.parts tail h.place) h.whole in
     let s = rest_parts w region c.args.list c.args.from us tail h q.0 q.1 q.2 q.3 in
     let none : c.loop-k.room ≡ None = none_is c.loop-k.room (c.is_none.ensures ∙ ap not c.if-is_none.true) in
     spent_none c.loop-k.room (trees_size (behind c.loop-k.k q.0) + tail_size tail) none ∙ sym (c.loop-k.invariant q.0 tail q.4) ∙ sym (ap (λ (x : Trees Identifier). spent c.args.room.now (trees_size x + tail_size tail)) s.0)
@@ -45,7 +45,7 @@ pub returns-in-None : goal.returns-in-None
 returns-in-None c = λ region us tail h.
     let w = c.args.work.now in
     let k = c.loop-k.k in
-    let q = c.in-List.ensures (list h.parts tail h.place) h.whole in
+    let q = c.in-List.ensures.look (list h.parts tail h.place) h.whole in
     let s = rest_parts w region c.args.list c.args.from us tail h q.0 q.1 q.2 q.3 in
     let a = ap (λ (x : Trees Identifier). trees_size x) (behind_past w k c.in-List.items.now q.0 q.4 (omega arith)) in
     let b = ap (λ (x : Tail Identifier). tail_size x) (s.1 ∙ end_proper w c.in-List.end q.1 c.in-None.is q.5) in
@@ -56,7 +56,7 @@ pub returns-in-Some : goal.returns-in-Some
 returns-in-Some c = λ region us tail h.
     let w = c.args.work.now in
     let k = c.loop-k.k in
-    let q = c.in-List.ensures (list h.parts tail h.place) h.whole in
+    let q = c.in-List.ensures.look (list h.parts tail h.place) h.whole in
     let s = rest_parts w region c.args.list c.args.from us tail h q.0 q.1 q.2 q.3 in
     let e = end_dotted w c.in-List.end q.1 c.in-Some.tail c.in-Some.is q.5 in
     let a = ap (λ (x : Trees Identifier). trees_size x) (behind_past w k c.in-List.items.now q.0 q.4 (omega arith)) in
@@ -67,18 +67,18 @@ returns-in-Some c = λ region us tail h.
 
 pub returns-in-Name : goal.returns-in-Name
 returns-in-Name c = λ region us tail h.
-    let q = c.in-Name.ensures (list h.parts tail h.place) h.whole in
+    let q = c.in-Name.ensures.look (list h.parts tail h.place) h.whole in
     let e = q.2 in
     absurd cc
 
 pub returns-in-Atom : goal.returns-in-Atom
 returns-in-Atom c = λ region us tail h.
-    let q = c.in-Atom.ensures (list h.parts tail h.place) h.whole in
+    let q = c.in-Atom.ensures.look (list h.parts tail h.place) h.whole in
     let e = q.2 in
     absurd cc
 
 pub returns-in-Vector : goal.returns-in-Vector
 returns-in-Vector c = λ region us tail h.
-    let q = c.in-Vector.ensures (list h.parts tail h.place) h.whole in
+    let q = c.in-Vector.ensures.look (list h.parts tail h.place) h.whole in
     let e = q.2 in
     absurd cc

@@ -15,21 +15,21 @@ pub collect-collect-requires : goal.collect-collect-requires
 collect-collect-requires t c =
     let w = c.args.work.now in
     let p = c.requires in
-    let q = c.in-List.ensures p.0 p.1 in
+    let q = c.in-List.ensures.look p.0 p.1 in
     let deep = within_positive w c.args.template c.args.left p in
     (first_of (omega arith, search rules, grind arith), tail_within w c.in-List.end c.in-Some.tail (c.args.left - 1) c.in-Some.is (end_within w c.args.left p.0 c.in-List.end q.0 q.1 q.2 p.2 q.3 q.5))
 
 pub collect-returns-in_ok-insert-in-Name : goal.collect-returns-in_ok-insert-in-Name
 collect-returns-in_ok-insert-in-Name t c = λ u n i h is.
     let w = c.args.work.now in
-    let q = c.in-Name.ensures u h in
+    let q = c.in-Name.ensures.look u h in
     c.in_ok-insert-in-Name.ensures.updates.0 n ∙ one_more w.symbols c.told_apart.ensures.idents n c.in-Name.id i q.0 is q.3 (contains nat_cmp c.args.names.now n)
     ∙ ap (λ (x : Tree Identifier). contains nat_cmp c.args.names.now n || stands_in same_ident i x) (sym q.2)
 
 pub collect-returns-in-None : goal.collect-returns-in-None
 collect-returns-in-None t c = λ u n i h is.
     let w = c.args.work.now in
-    let q = c.in-List.ensures u h in
+    let q = c.in-List.ensures.look u h in
     let e = end_proper w c.in-List.end q.1 c.in-None.is q.5 in
     let old = contains nat_cmp c.args.names.now n in
     c.in_ok-collect_all-in-List.ensures q.0 n i q.4 is ∙ ap (λ (b : Bool). old || b) (or_none (stands_among same_ident i q.0)) ∙ ap (λ (x : Tail Identifier). old || (stands_among same_ident i q.0 || stands_behind same_ident i x)) (sym e)
@@ -38,7 +38,7 @@ collect-returns-in-None t c = λ u n i h is.
 pub collect-returns-in_ok-collect-in-Some : goal.collect-returns-in_ok-collect-in-Some
 collect-returns-in_ok-collect-in-Some t c = λ u n i h is.
     let w = c.args.work.now in
-    let q = c.in-List.ensures u h in
+    let q = c.in-List.ensures.look u h in
     let e = end_dotted w c.in-List.end q.1 c.in-Some.tail c.in-Some.is q.5 in
     let old = contains nat_cmp c.args.names.now n in
     c.in_ok-collect-in-Some.ensures e.0 n i e.3 is ∙ ap (λ (b : Bool). b || stands_in same_ident i e.0) (c.in_ok-collect_all-in-List.ensures q.0 n i q.4 is) ∙ or_assoc old (stands_among same_ident i q.0) (stands_in same_ident i e.0)

@@ -215,7 +215,7 @@ pub tree-returns-in_err-parts-in-Vector : goal.tree-returns-in_err-parts-in-Vect
 tree-returns-in_err-parts-in-Vector t c = λ r region k u ms tells h are.
     let w = c.args.self.now.work.now in
     let dots = dots_where c.args.escaped r in
-    let q = c.in-Vector.ensures u h in
+    let q = c.in-Vector.ensures.look u h in
     let e = c.in_err-parts-in-Vector.field-0.0 in
     tree_handed_on w region k c.args.room.now c.parts.new.room (build_tree (inserting k) dots u ms) c.from_residual.result e c.from_residual.ensures.1 (subst (λ (x : ModelTree Identifier). Fails (build_tree (inserting k) dots x ms) e) (sym q.2)
     (vector_fails w region k dots q.0 q.1 ms e (c.in_err-parts-in-Vector.ensures r region k q.0 ms tells q.3 are)))
@@ -224,7 +224,7 @@ pub tree-bounds-items-1 : goal.tree-bounds-items-1
 tree-bounds-items-1 t c =
     let w = c.args.self.now.work.now in
     let p = c.requires.template in
-    let q = c.in-List.ensures p.0 p.1 in
+    let q = c.in-List.ensures.look p.0 p.1 in
     let r = c.requires.roles.0 in
     let dots = dots_where c.args.escaped r in
     let own : is_escape dots q.0 q.1 ≡ true = sym (c.is_escape.ensures r q.0 q.1 c.requires.roles.1 q.4 q.5) ∙ c.if-is_escape.true in
@@ -234,7 +234,7 @@ pub tree-tree-requires : goal.tree-tree-requires
 tree-tree-requires t c =
     let w = c.args.self.now.work.now in
     let p = c.requires.template in
-    let q = c.in-List.ensures p.0 p.1 in
+    let q = c.in-List.ensures.look p.0 p.1 in
     let r = c.requires.roles.0 in
     let dots = dots_where c.args.escaped r in
     let own : is_escape dots q.0 q.1 ≡ true = sym (c.is_escape.ensures r q.0 q.1 c.requires.roles.1 q.4 q.5) ∙ c.if-is_escape.true in
@@ -247,7 +247,7 @@ pub tree-returns-in_err-tree-in-List : goal.tree-returns-in_err-tree-in-List
 tree-returns-in_err-tree-in-List t c = λ r region k u ms tells h are.
     let w = c.args.self.now.work.now in
     let dots = dots_where c.args.escaped r in
-    let q = c.in-List.ensures u h in
+    let q = c.in-List.ensures.look u h in
     let own : is_escape dots q.0 q.1 ≡ true = sym (c.is_escape.ensures r q.0 q.1 tells q.4 q.5) ∙ c.if-is_escape.true in
     let x = escape_inner w dots c.in-List.items.now q.0 q.1 (record { number = 0 }) q.4 own in
     let whole : build_tree (inserting k) nowhere x.inner ms ≡ build_tree (inserting k) dots u ms = escape_built w region k dots q.0 q.1 q.2 ms x.first x.inner own x.parts ∙ ap (λ (y : ModelTree Identifier). build_tree (inserting k) dots y ms) (sym q.3) in
@@ -260,7 +260,7 @@ pub tree-returns-then-is_escape : goal.tree-returns-then-is_escape
 tree-returns-then-is_escape t c = λ r region k u ms tells h are.
     let w = c.args.self.now.work.now in
     let dots = dots_where c.args.escaped r in
-    let q = c.in-List.ensures u h in
+    let q = c.in-List.ensures.look u h in
     let own : is_escape dots q.0 q.1 ≡ true = sym (c.is_escape.ensures r q.0 q.1 tells q.4 q.5) ∙ c.if-is_escape.true in
     let x = escape_inner w dots c.in-List.items.now q.0 q.1 (record { number = 0 }) q.4 own in
     let whole : build_tree (inserting k) nowhere x.inner ms ≡ build_tree (inserting k) dots u ms = escape_built w region k dots q.0 q.1 q.2 ms x.first x.inner own x.parts ∙ ap (λ (y : ModelTree Identifier). build_tree (inserting k) dots y ms) (sym q.3) in
@@ -271,7 +271,7 @@ pub tree-returns-in_err-parts-in-List : goal.tree-returns-in_err-parts-in-List
 tree-returns-in_err-parts-in-List t c = λ r region k u ms tells h are.
     let w = c.args.self.now.work.now in
     let dots = dots_where c.args.escaped r in
-    let q = c.in-List.ensures u h in
+    let q = c.in-List.ensures.look u h in
     let plain : is_escape dots q.0 q.1 ≡ false = sym (c.is_escape.ensures r q.0 q.1 tells q.4 q.5) ∙ c.if-is_escape.false in
     let e = c.in_err-parts-in-List.field-0.0 in
     tree_handed_on w region k c.args.room.now c.parts-in-List.new.room (build_tree (inserting k) dots u ms) c.from_residual-in_err-parts-in-List.result e c.from_residual-in_err-parts-in-List.ensures.1 (subst (λ (x : ModelTree Identifier). Fails (build_tree (inserting k) dots x ms) e) (sym q.3)
@@ -281,7 +281,7 @@ pub tree-tree-requires-in-Some : goal.tree-tree-requires-in-Some
 tree-tree-requires-in-Some t c =
     let w = c.args.self.now.work.now in
     let p = c.requires.template in
-    let q = c.in-List.ensures p.0 p.1 in
+    let q = c.in-List.ensures.look p.0 p.1 in
     let below = end_within w c.args.left p.0 c.in-List.end q.0 q.1 q.2 p.2 q.3 q.5 in
     let deep = within_positive w c.args.template c.args.left p in
     (omega (arith, deep), (c.requires.roles, (tail_within w c.in-List.end c.in-Some.tail (c.args.left - 1) c.in-Some.is below, c.requires.bounds)))
@@ -290,7 +290,7 @@ pub tree-returns-in_err-last-in-Some : goal.tree-returns-in_err-last-in-Some
 tree-returns-in_err-last-in-Some t c = λ r region k u ms tells h are.
     let w = c.args.self.now.work.now in
     let dots = dots_where c.args.escaped r in
-    let q = c.in-List.ensures u h in
+    let q = c.in-List.ensures.look u h in
     let plain : is_escape dots q.0 q.1 ≡ false = sym (c.is_escape.ensures r q.0 q.1 tells q.4 q.5) ∙ c.if-is_escape.false in
     let d = end_dotted w c.in-List.end q.1 c.in-Some.tail c.in-Some.is q.5 in
     let a = c.in_ok-parts-in-List.ensures r region k q.0 ms tells q.4 are in
@@ -304,7 +304,7 @@ tree-joined-requires t c = λ s.
     let b = c.requires.bounds in
     let zero : Number = record { unit = 0; form = 0; count = 0 } in
     let p = c.requires.template in
-    let q = c.in-List.ensures p.0 p.1 in
+    let q = c.in-List.ensures.look p.0 p.1 in
     let d = end_dotted w c.in-List.end q.1 c.in-Some.tail c.in-Some.is q.5 in
     let x = (c.in_ok-last-in-Some.ensures c.requires.roles.0 b.0 zero d.0 b.1 c.requires.roles.1 d.3 b.2).3 s in
     (b.0, x.0, x.1)
@@ -313,7 +313,7 @@ pub tree-returns-in-Name : goal.tree-returns-in-Name
 tree-returns-in-Name t c = λ r region k u ms tells h are.
     let w = c.args.self.now.work.now in
     let dots = dots_where c.args.escaped r in
-    let q = c.in-Name.ensures u h in
+    let q = c.in-Name.ensures.look u h in
     subst (λ (x : ModelTree Identifier). Plans w region k c.args.room.now c.name.new.room (build_tree (inserting k) dots x ms) (Ok c.name.result)) (sym q.2)
     (c.name.ensures region k dots q.0 q.1 ms (subst (StandsFor w c.args.template) q.2 h) q.3 are)
 
@@ -321,14 +321,14 @@ pub tree-returns-in-Atom : goal.tree-returns-in-Atom
 tree-returns-in-Atom t c = λ r region k u ms tells h are.
     let w = c.args.self.now.work.now in
     let dots = dots_where c.args.escaped r in
-    let q = c.in-Atom.ensures u h in
+    let q = c.in-Atom.ensures.look u h in
     atom_planned w region k dots u q.0 q.1 c.in-Atom.leaf ms c.args.room.now c.spend.result q.2 q.3 c.spend.ensures
 
 pub tree-returns-in_ok-parts-in-Vector : goal.tree-returns-in_ok-parts-in-Vector
 tree-returns-in_ok-parts-in-Vector t c = λ r region k u ms tells h are.
     let w = c.args.self.now.work.now in
     let dots = dots_where c.args.escaped r in
-    let q = c.in-Vector.ensures u h in
+    let q = c.in-Vector.ensures.look u h in
     let none = c.new-parts.result.items in
     let new = c.parts.new.plans in
     let a = c.in_ok-parts-in-Vector.ensures r region k q.0 ms tells q.3 are in
@@ -339,7 +339,7 @@ pub tree-returns-in-None : goal.tree-returns-in-None
 tree-returns-in-None t c = λ r region k u ms tells h are.
     let w = c.args.self.now.work.now in
     let dots = dots_where c.args.escaped r in
-    let q = c.in-List.ensures u h in
+    let q = c.in-List.ensures.look u h in
     let plain : is_escape dots q.0 q.1 ≡ false = sym (c.is_escape.ensures r q.0 q.1 tells q.4 q.5) ∙ c.if-is_escape.false in
     let a = c.in_ok-parts-in-List.ensures r region k q.0 ms tells q.4 are in
     let none = c.new-parts-in-List.result.items in
@@ -352,7 +352,7 @@ pub tree-returns-in_ok-joined-in-Some : goal.tree-returns-in_ok-joined-in-Some
 tree-returns-in_ok-joined-in-Some t c = λ r region k u ms tells h are.
     let w = c.args.self.now.work.now in
     let dots = dots_where c.args.escaped r in
-    let q = c.in-List.ensures u h in
+    let q = c.in-List.ensures.look u h in
     let plain : is_escape dots q.0 q.1 ≡ false = sym (c.is_escape.ensures r q.0 q.1 tells q.4 q.5) ∙ c.if-is_escape.false in
     let d = end_dotted w c.in-List.end q.1 c.in-Some.tail c.in-Some.is q.5 in
     let a = c.in_ok-parts-in-List.ensures r region k q.0 ms tells q.4 are in
