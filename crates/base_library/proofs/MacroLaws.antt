@@ -1,7 +1,6 @@
 -- Macros that are made of sketches.
-use Rattle.std.proofs.Common.{◌≡◌, ℕ, zero, suc, ◌+◌, ◌*◌, ◌<◌, ◌≤◌, ◌^◌, Bool, true, List, [], ◌∷◌, ◌++◌, map, length, get_or, take, Option, Some, None, refl, sym, ap, ◌∙◌, subst, arith}
-use Rattle.std.specs.Prelude.{nat_le, ◌&&◌, Result, Ok, Err, IsErrAnd, slice_get}
-use Rattle.std.specs.List.{AllByRecursion}
+use Rattle.std.proofs.Common.{◌≡◌, ℕ, zero, suc, ◌+◌, ◌*◌, ◌<◌, ◌≤◌, true, List, [], ◌∷◌, ◌++◌, map, length, get_or, take, refl, sym, ap, ◌∙◌, subst, arith}
+use Rattle.std.specs.Prelude.{nat_le, Result, Ok, Err, IsErrAnd}
 use Rattle.std.proofs.lemmas.Bool.Decides.{nat_tests}
 use Rattle.std.proofs.lemmas.List.{take_more, map-append}
 use Rattle.ls_base.specs.Limits.{max_tree_depth}
@@ -9,22 +8,20 @@ use Rattle.scheme_model.specs.Trees.{Tree}
 use Rattle.scheme_model.specs.Ident.{Ident as Identifier, Written}
 use Rattle.scheme_model.specs.Program.{prelude_unit}
 use Rattle.syntax_tree.specs.Names.{Names, KeepsNames}
-use Rattle.syntax_tree.specs.Nodes.{region_at}
 use Rattle.syntax_tree.specs.Standing.{AllStand}
 use Rattle.syntax_tree.specs.Kept.{numbers}
-use Rattle.syntax_tree.specs.Works.{KeepsTrees, live_count, with_names}
+use Rattle.syntax_tree.specs.Works.{KeepsTrees, with_names}
 use Rattle.syntax_tree.specs.declared.trees.Work.{Work}
 use Rattle.syntax_tree.specs.declared.trees.nodes.Tree as number
 use Rattle.syntax_tree.specs.declared.trees.table.Region.{Region}
 use Rattle.syntax_tree.specs.declared.trees.faults.PoolFault.{PoolFault}
-use Rattle.syntax_tree.specs.declared.trees.faults.PoolFault.TheVariants as fault
 use Rattle.syntax_tree.specs.declared.rules.Rule as code_rule
 use Rattle.syntax_tree.proofs.Names.{and_true}
-use Rattle.datum_reader.specs.Seeding.{trees_from, Grows, Adds, Begins, Fails, AllLie}
-use Rattle.datum_reader.proofs.Growing.{grows_itself, grows_on, grows_names, fails_more}
+use Rattle.datum_reader.specs.Seeding.{trees_from, Grows, Fails, AllLie}
+use Rattle.datum_reader.proofs.Growing.{grows_on, grows_names}
 use Rattle.base_library.specs.declared.sketch.Sketch.{Sketch}
 use Rattle.base_library.specs.declared.macros.PreludeMacro.{PreludeMacro}
-use Rattle.base_library.specs.Sketches.{made, row_size}
+use Rattle.base_library.specs.Sketches.{made}
 use Rattle.base_library.specs.Macros.{Each}
 use Rattle.base_library.specs.Sketched.{IsNamed, pairs, paired, IsPair, IsSketched, sketch_size, sketches_size, all_small, IsMade, IsBegun, Makes}
 

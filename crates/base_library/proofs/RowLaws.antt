@@ -1,12 +1,11 @@
 -- Rows of trees that steps make.
 use Rattle.std.proofs.Common.{◌≡◌, ℕ, zero, suc, ◌+◌, ◌-◌, ◌^◌, ◌<◌, ◌≤◌, List, [], ◌∷◌, ◌++◌, map, length, get_or, take, drop, Option, Some, None, Ok, Err, refl, sym, ap, ◌∙◌, subst, arith}
-use Rattle.std.specs.Prelude.{Vec, max, Result, IsErrAnd}
+use Rattle.std.specs.Prelude.{Vec, Result, IsErrAnd}
 use Rattle.std.proofs.lemmas.List.{map-append, take_more}
 use Rattle.std.specs.List.{AllByRecursion}
 use Rattle.std.specs.Option.{option_map}
 use Rattle.std.specs.declared.alloc.Global.{Global}
 use Rattle.ls_base.specs.declared.memory.Memory.{Memory}
-use Rattle.ls_base.specs.Limits.{max_tree_depth}
 use Rattle.scheme_model.specs.Trees.{Tree, name, atom, list, vector, Trees, no_trees, tree, Tail, proper, dotted}
 use Rattle.scheme_model.specs.Measures.{tree_size, trees_size, tail_size, tree_depth, trees_depth, tail_depth}
 use Rattle.scheme_model.specs.Ident.{Ident as Identifier}
@@ -30,7 +29,7 @@ use Rattle.datum_reader.specs.Seeding.{trees_from, Grows, Adds, Begins, Fails, I
 use Rattle.datum_reader.proofs.Growing.{names_itself, names_on, grows_itself, grows_on, grows_names, grows_put, all_kept, lie_kept, may_name, interns_keep, fails_more}
 use Rattle.base_library.specs.declared.sketch.Step.{Step}
 use Rattle.base_library.specs.declared.sketch.Step.TheVariants as step
-use Rattle.base_library.specs.Sketches.{name_tree, left_by, tree_by, after, after_all, made, row_size}
+use Rattle.base_library.specs.Sketches.{name_tree, tree_by, after, after_all, made, row_size}
 use Rattle.base_library.specs.Rows.{Holds, IsReady, Breaks, Readies}
 
 abbrev Row : Type 0

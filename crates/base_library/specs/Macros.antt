@@ -49,7 +49,7 @@ AreMacros work [] (p ∷ ps) = ⊥
 AreMacros work (m ∷ ms) [] = ⊥
 AreMacros work (m ∷ ms) (p ∷ ps) = IsMacro work m p × AreMacros work ms ps
 
--- the rules of each were checked
+-- the rules of each pass the check
 abbrev pub AllChecked : Work → List PreludeMacro → Type 0
 AllChecked work ms = AllByRecursion (λ m. AreChecked work m.rules) ms
 

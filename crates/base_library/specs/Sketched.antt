@@ -9,7 +9,7 @@ use Rattle.scheme_model.specs.Ident.{Ident as Identifier, Written}
 use Rattle.scheme_model.specs.Program.{prelude_unit}
 use Rattle.syntax_tree.specs.Names.{Names}
 use Rattle.syntax_tree.specs.Macros.{IsIdent}
-use Rattle.syntax_tree.specs.Works.{StandsFor, LiesIn, live_count}
+use Rattle.syntax_tree.specs.Works.{StandsFor, live_count}
 use Rattle.syntax_tree.specs.declared.trees.Work.{Work}
 use Rattle.syntax_tree.specs.declared.trees.nodes.Tree as number
 use Rattle.syntax_tree.specs.declared.trees.table.Region.{Region}

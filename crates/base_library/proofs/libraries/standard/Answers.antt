@@ -1,4 +1,4 @@
-use Rattle.std.proofs.Common.{rules, ◌≡◌, List, ℕ, Option, Some, None, ◌∙◌}
+use Rattle.std.proofs.Common.{rules, ◌≡◌, Some, None, ◌∙◌}
 use Rattle.base_library.specs.Texts.{names_of}
 use Rattle.base_library.proofs.TextLaws.{by_name}
 use Rattle.base_library.proofs.libraries.standard.Goals as goal

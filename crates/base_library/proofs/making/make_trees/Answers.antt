@@ -1,4 +1,4 @@
-use Rattle.std.proofs.Common.{◌≡◌, ◌+◌, List, [], get_or, take, sym, subst, arith}
+use Rattle.std.proofs.Common.{List, [], get_or, take, sym, subst, arith}
 use Rattle.ls_base.specs.Limits.{max_tree_depth}
 use Rattle.scheme_model.specs.Trees.{Tree}
 use Rattle.scheme_model.specs.Ident.{Ident as Identifier}

@@ -1,8 +1,6 @@
-use Rattle.std.proofs.Common.{◌≡◌, ◌-◌, ℕ, List, length, take, drop, Some, None, refl, sym, ap, ◌∙◌, subst, arith}
-use Rattle.std.specs.Prelude.{false}
+use Rattle.std.proofs.Common.{◌-◌, ℕ, length, take, drop, Some, None, refl, sym, ap, ◌∙◌, subst, arith}
 use Rattle.scheme_model.specs.Trees.{Boolean, atom, proper, dotted}
 use Rattle.syntax_tree.specs.declared.trees.Work.{Work}
-use Rattle.syntax_tree.specs.declared.trees.nodes.Tree as code
 use Rattle.syntax_tree.specs.declared.trees.nodes.Node.TheVariants as node
 use Rattle.syntax_tree.specs.declared.trees.nodes.Leaf.TheVariants as leaf
 use Rattle.syntax_tree.specs.declared.trees.faults.PoolFault.TheVariants as fault
