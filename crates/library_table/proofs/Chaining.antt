@@ -1,8 +1,8 @@
 -- How readings are put together: faults that are passed on, and what is read one after another.
-use Rattle.std.proofs.Common.{◌≡◌, ℕ, List, [], ◌∷◌, ◌++◌, append_assoc, append-nil, map, Result, Ok, Err, refl, sym, ap, ◌∙◌, subst}
+use Rattle.std.proofs.Common.{◌≡◌, ℕ, List, [], ◌∷◌, ◌++◌, append_assoc, Result, Ok, Err, refl, sym, ap, ◌∙◌, subst}
 use Rattle.std.specs.Result.{IsErrAnd}
 use Rattle.scheme_model.specs.Trees.{Tree, Trees, no_trees, tree}
-use Rattle.scheme_model.specs.ExpansionFaults.{Fault, BadForm, ◌>>◌}
+use Rattle.scheme_model.specs.ExpansionFaults.{Fault, ◌>>◌}
 use Rattle.scheme_model.specs.Requirements.{LibraryPart, LibraryName}
 use Rattle.library_table.specs.declared.shape_fault.ShapeFault.{ShapeFault}
 use Rattle.library_table.specs.declared.shape_fault.ShapeFault.TheVariants as fault

@@ -1,8 +1,8 @@
 -- Data in a row, by what ends it.
-use Rattle.std.proofs.Common.{◌≡◌, ℕ, ◌+◌, ◌<◌, List, [], ◌∷◌, ◌++◌, length, map, get_or, drop, Bool, true, false, Option, Some, None, refl, sym, ap, ◌∙◌}
+use Rattle.std.proofs.Common.{◌≡◌, ℕ, ◌+◌, ◌<◌, List, [], ◌∷◌, length, get_or, drop, true, false, Option, Some, None, refl, sym, ap, ◌∙◌}
 use Rattle.std.specs.Option.{is_some}
 use Rattle.std.proofs.lemmas.List.{drop_more}
-use Rattle.scheme_model.specs.Data.{Datum, Data, none, part, tail, row}
+use Rattle.scheme_model.specs.Data.{Datum, row}
 use Rattle.scheme_model.specs.Declarations.{with_part, proper_parts}
 use Rattle.scheme_model.specs.Program.{second_or, behind_first}
 use Rattle.datum_reader.specs.declared.datum.Datum as code

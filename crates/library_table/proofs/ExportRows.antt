@@ -1,16 +1,14 @@
 -- Exports as they are read.
-use Rattle.std.proofs.Common.{◌≡◌, ℕ, List, [], ◌∷◌, Bool, true, Option, Some, None, Result, Ok, Err, IfOk, refl, sym, ap, ◌∙◌, subst}
+use Rattle.std.proofs.Common.{◌≡◌, ℕ, List, [], ◌∷◌, Bool, true, Option, Some, Result, Ok, Err, IfOk, refl, sym, ap, ◌∙◌, subst}
 use Rattle.std.proofs.lemmas.Option.{same_Some}
 use Rattle.ls_base.specs.declared.memory.Memory.{Memory}
 use Rattle.scheme_model.specs.declared.Occ.{Occ}
 use Rattle.scheme_model.specs.Data.{Datum, place_of}
 use Rattle.scheme_model.specs.Trees.{Tree, name, atom, list, vector, Trees, tree, Tail}
-use Rattle.scheme_model.specs.ExpansionFaults.{Named}
 use Rattle.scheme_model.specs.Program.{ExportSpec, export_of}
 use Rattle.import_sets.specs.Sets.{named}
 use Rattle.import_sets.specs.declared.set.SetName.{SetName}
 use Rattle.datum_reader.specs.declared.datum.Datum as code
-use Rattle.datum_reader.specs.Views.{datum_of}
 use Rattle.library_table.specs.declared.units.ExportSpec as code_export
 use Rattle.library_table.specs.Looks.{plain, tree_at, trees_at, IsListOf}
 use Rattle.library_table.specs.UnitsRead.{named_in, IsExportRead, IsExportOf}

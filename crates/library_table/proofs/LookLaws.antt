@@ -8,7 +8,7 @@ use Rattle.std.specs.Option.{is_some}
 use Rattle.std.specs.Str.{encode_utf8_all}
 use Rattle.scheme_model.specs.declared.Occ.{Occ}
 use Rattle.scheme_model.specs.Kinds.{Name, Numeral, Quoted, Character, Truth}
-use Rattle.scheme_model.specs.Data.{Place, Atom as DataAtom, spelled, implied, Datum, atom, list, vector, bytes, Data, none, part, tail, row, place_of}
+use Rattle.scheme_model.specs.Data.{Place, Atom as DataAtom, spelled, implied, Datum, atom, list, vector, bytes, Data, row, place_of}
 use Rattle.scheme_model.specs.DataTrees.{parts_of, end_of}
 use Rattle.scheme_model.specs.Trees.{Atom, Tree, name, atom as atom_tree, list as list_tree, vector as vector_tree, Numeral as NumeralAtom, Quoted as QuotedAtom, Character as CharacterAtom, Boolean, Bytes, Trees, tree, Tail, proper, dotted}
 use Rattle.datum_reader.specs.declared.datum.Datum as code

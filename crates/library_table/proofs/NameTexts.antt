@@ -1,5 +1,5 @@
 -- The texts of libraries' names, and rows of one identifier.
-use Rattle.std.proofs.Common.{◌≡◌, ℕ, ◌<◌, List, [], ◌∷◌, ◌++◌, length, Bool, false, Result, Ok, Err, refl, sym, ap, ◌∙◌, subst, inl, inr, arith}
+use Rattle.std.proofs.Common.{◌≡◌, ℕ, ◌<◌, List, [], ◌∷◌, length, false, Result, Ok, Err, refl, sym, ap, ◌∙◌, inl, inr, arith}
 use Rattle.std.specs.Str.{chars, encode_utf8_all, IsUtf8}
 use Rattle.std.proofs.lemmas.Str.{encodes-chars}
 use Rattle.scheme_tokens.specs.Spelling.{IsSpelling}
@@ -8,7 +8,7 @@ use Rattle.scheme_tokens.proofs.Same.Spelling.{spelling}
 use Rattle.scheme_model.specs.declared.Occ.{Occ}
 use Rattle.scheme_model.specs.Trees.{Tail}
 use Rattle.scheme_model.specs.ExpansionFaults.{BadForm}
-use Rattle.scheme_model.specs.Requirements.{LibraryPart, Symbol}
+use Rattle.scheme_model.specs.Requirements.{Symbol}
 use Rattle.datum_reader.specs.declared.datum.Datum as code
 use Rattle.library_table.specs.Looks.{trees_at}
 use Rattle.library_table.specs.PartsRead.{map_ok, part_text, only_name}

@@ -1,11 +1,11 @@
 -- The program that data are.
-use Rattle.std.proofs.Common.{◌≡◌, ℕ, List, [], ◌∷◌, map, slice_get, Bool, true, false, cond, Option, Some, None, Result, Ok, refl, sym, ap, ◌∙◌, subst}
+use Rattle.std.proofs.Common.{◌≡◌, ℕ, List, [], ◌∷◌, map, slice_get, Bool, true, false, cond, Option, Some, None, Ok, refl, sym, ap, ◌∙◌, subst}
 use Rattle.std.specs.Prelude.{◌&&◌, not, codes}
 use Rattle.std.specs.Option.{is_some}
 use Rattle.std.proofs.lemmas.Option.{same_Some}
 use Rattle.ls_base.specs.declared.places.Span.{Span}
 use Rattle.scheme_model.specs.Data.{Place, Datum, list, row, place_of}
-use Rattle.scheme_model.specs.Declarations.{UnitForm, UnitSource, IsProgram, plain_form, is_headed, is_proper, program_forms, program_in}
+use Rattle.scheme_model.specs.Declarations.{UnitForm, IsProgram, plain_form, is_headed, is_proper, program_forms}
 use Rattle.scheme_model.specs.Program.{specs_from, exports_from}
 use Rattle.syntax_tree.specs.declared.units.UnitKind.TheVariants as kinds
 use Rattle.datum_reader.specs.Views.{datum_of}
@@ -13,7 +13,7 @@ use Rattle.library_table.specs.declared.units.ImportSpec as code_import
 use Rattle.library_table.specs.declared.units.ExportSpec as code_export
 use Rattle.library_table.specs.declared.units.UnitForm as code_form
 use Rattle.library_table.specs.Looks.{end_with}
-use Rattle.library_table.specs.UnitsRead.{first_token, form_of, forms_of, AreSpecs, AreExportsRead, IsSource, IsProgramRead}
+use Rattle.library_table.specs.UnitsRead.{first_token, forms_of, AreSpecs, AreExportsRead, IsProgramRead}
 use Rattle.library_table.proofs.DataRows.{dotted_parts, proper_all}
 
 -- a list is proper where it isn't dotted
@@ -55,12 +55,18 @@ program_read unit [] fs forms f span imports exports same first s i x kept = let
   where
     empty : first_datum [] ≡ None
     empty = refl
-program_read unit (d ∷ ds) fs forms f span imports exports same first s i x kept =
-    (d, ds, record { kind = IsProgram; name = None; start = place_of d; forms = Ok (program_forms (d ∷ ds)) }, refl, refl, record {
-        forms = ap Ok (sym same ∙ ap forms_of (sym kept));
-        kind = refl;
-        name = refl;
-        span = s ∙ ap first_token (same_Some (datum_of f.datum) d (sym (some_first fs f first) ∙ ap first_datum same ∙ begins_with d ds));
-        imports = subst (λ (gs : List code_form.UnitForm). AreSpecs imports (specs_from unit 0 (forms_of gs))) (sym kept) i;
-        exports = subst (λ (gs : List code_form.UnitForm). AreExportsRead exports (exports_from unit 0 (forms_of gs))) (sym kept) x;
-    })
+program_read unit (d ∷ ds) fs forms f span imports exports same first s i x kept = (
+  d,
+  ds,
+  record { kind = IsProgram; name = None; start = place_of d; forms = Ok (program_forms (d ∷ ds)) },
+  refl,
+  refl,
+  record {
+    forms = ap Ok (sym same ∙ ap forms_of (sym kept));
+    kind = refl;
+    name = refl;
+    span = s ∙ ap first_token (same_Some (datum_of f.datum) d (sym (some_first fs f first) ∙ ap first_datum same ∙ begins_with d ds));
+    imports = subst (λ (gs : List code_form.UnitForm). AreSpecs imports (specs_from unit 0 (forms_of gs))) (sym kept) i;
+    exports = subst (λ (gs : List code_form.UnitForm). AreExportsRead exports (exports_from unit 0 (forms_of gs))) (sym kept) x;
+  },
+)

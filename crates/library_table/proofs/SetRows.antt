@@ -1,12 +1,11 @@
 -- Import sets as they are read: their modifiers, and what these make of a set.
-use Rattle.std.proofs.Common.{◌≡◌, ℕ, zero, suc, ◌+◌, ◌*◌, ◌<◌, ◌≤◌, List, [], ◌∷◌, Bool, true, false, Option, Some, None, Result, Ok, Err, refl, sym, ap, ◌∙◌, subst, arith}
+use Rattle.std.proofs.Common.{◌≡◌, ℕ, ◌<◌, ◌≤◌, List, [], ◌∷◌, Bool, true, false, Option, Some, None, Result, Ok, Err, refl, sym, ap, ◌∙◌, subst, arith}
 use Rattle.std.specs.Borrow.{Bor}
 use Rattle.std.specs.Result.{IsErrAnd}
-use Rattle.std.specs.Option.{is_some}
 use Rattle.scheme_model.specs.declared.Occ.{Occ}
 use Rattle.scheme_model.specs.Kinds.{Name, Numeral, Quoted, Character, Truth}
-use Rattle.scheme_model.specs.Data.{Datum, Data, none, part, tail, row, atom as atom_datum, list as list_datum, vector as vector_datum, bytes as bytes_datum, spelled, implied, place_of}
-use Rattle.scheme_model.specs.Trees.{Tree, name, atom, list, vector, Trees, no_trees, tree, Tail}
+use Rattle.scheme_model.specs.Data.{Datum, none, row, atom as atom_datum, list as list_datum, vector as vector_datum, bytes as bytes_datum, spelled, implied}
+use Rattle.scheme_model.specs.Trees.{Tree, name, atom, list, vector, Trees, tree, Tail}
 use Rattle.scheme_model.specs.ExpansionFaults.{Fault, BadForm}
 use Rattle.scheme_model.specs.Entries as model
 use Rattle.scheme_model.specs.Entries.{Modifier, Bad, set_of, library_set, modified_set, by_modifier, modifier_named, or_bad}
@@ -91,11 +90,14 @@ modified_is ds d inner es rest w None (Some r) e f word seen by = absurd cc
 modified_is ds d inner es rest w (Some m) None e f word seen by =
     subst IsPlainName (sym (e ∙ ap (λ (xs : List code.Datum). d ∷ xs) f)) (λ place end o. no_list (tree_at place d) (tree_at place inner) (trees_at place rest) end o (tree_list place (datum_of inner) ∙ by))
 modified_is ds d inner es rest w (Some m) (Some r) e f word seen by =
-    let same : ds ≡ d ∷ r.inner.now ∷ r.rest.now = e ∙ ap (λ (xs : List code.Datum). d ∷ xs) f ∙ (λ j. d ∷ sym by.2 j ∷ sym by.3 j) in
-    (d, same, λ place end o.
-        ap (λ (xs : List code.Datum). set_of (list (trees_at place xs) end o)) same
-        ∙ some_modifier (tree_at place d) (tree_at place r.inner.now) (trees_at place r.rest.now) end o (modifier_as m) (ap modifier_for (word place) ∙ sym seen) (tree_list place (datum_of r.inner.now) ∙ ap (λ (x : code.Datum). is_list (datum_of x)) by.2 ∙ by.0)
-        ∙ ap (λ n. modified_set (modifier_as n) (set_of (tree_at place r.inner.now)) (trees_at place r.rest.now) end) (sym by.1))
+    let same : ds ≡ d ∷ r.inner.now ∷ r.rest.now = e ∙ ap (λ (xs : List code.Datum). d ∷ xs) f ∙ (λ j. d ∷ sym by.2 j ∷ sym by.3 j) in (
+      d,
+      same,
+      λ place end o.
+          ap (λ (xs : List code.Datum). set_of (list (trees_at place xs) end o)) same
+          ∙ some_modifier (tree_at place d) (tree_at place r.inner.now) (trees_at place r.rest.now) end o (modifier_as m) (ap modifier_for (word place) ∙ sym seen) (tree_list place (datum_of r.inner.now) ∙ ap (λ (x : code.Datum). is_list (datum_of x)) by.2 ∙ by.0)
+          ∙ ap (λ n. modified_set (modifier_as n) (set_of (tree_at place r.inner.now)) (trees_at place r.rest.now) end) (sym by.1),
+    )
 
 -- ---- what a modifier makes
 

@@ -1,9 +1,9 @@
 -- The trees of data in a row.
-use Rattle.std.proofs.Common.{◌≡◌, ℕ, ◌+◌, ◌<◌, ◌≤◌, List, [], ◌∷◌, ◌++◌, append_assoc, append-nil, length, map, get_or, drop, Result, Ok, Err, refl, sym, ap, ◌∙◌, subst, arith}
+use Rattle.std.proofs.Common.{◌≡◌, ℕ, ◌+◌, ◌<◌, ◌≤◌, List, [], ◌∷◌, ◌++◌, append_assoc, append-nil, length, map, get_or, drop, Result, Ok, refl, sym, ap, ◌∙◌}
 use Rattle.std.proofs.lemmas.List.{drop_more, at_drop_all, map-append}
 use Rattle.scheme_model.specs.declared.Occ.{Occ}
 use Rattle.scheme_model.specs.Trees.{Tree, Trees, no_trees, tree}
-use Rattle.scheme_model.specs.ExpansionFaults.{Named, Fault, BadForm, ◌>>◌}
+use Rattle.scheme_model.specs.ExpansionFaults.{Named, Fault, ◌>>◌}
 use Rattle.scheme_model.specs.Shapes.{name_of, names_of}
 use Rattle.scheme_model.specs.Entries.{pair_of, pairs_of}
 use Rattle.scheme_model.specs.Requirements.{LibraryName, LibraryPart, part_of, parts_of}

@@ -6,7 +6,7 @@ use Rattle.std.specs.Str.{encode_utf8_all}
 use Rattle.ls_base.specs.declared.places.Span.{Span}
 use Rattle.scheme_model.specs.declared.Occ.{Occ}
 use Rattle.scheme_model.specs.Kinds.{Mark, Name, Numeral, Quoted, Character, Truth}
-use Rattle.scheme_model.specs.Data.{Atom, spelled, implied, Datum, atom, list, vector, bytes, Data, none, part, tail, row, place_of}
+use Rattle.scheme_model.specs.Data.{Atom, spelled, implied, Datum, atom, list, vector, bytes, Data, none, tail, row, place_of}
 use Rattle.scheme_model.specs.DataTrees.{mark_symbol, tree_of}
 use Rattle.scheme_model.specs.Trees.{Tree, name, atom as atom_tree, list as list_tree, vector as vector_tree, Trees, no_trees, tree, Tail, proper, dotted}
 use Rattle.datum_reader.specs.declared.datum.Datum as code

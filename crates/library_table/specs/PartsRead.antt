@@ -1,5 +1,5 @@
 -- How parts of declarations are read: what is answered, and the texts of libraries' names.
-use Rattle.std.specs.Prelude.{◌≡◌, ℕ, List, [], ◌∷◌, ◌++◌, Bool, false, true, Result, Ok, Err}
+use Rattle.std.specs.Prelude.{◌≡◌, ℕ, List, [], ◌∷◌, ◌++◌, false, Result, Ok, Err}
 use Rattle.std.specs.Str.{chars, encode_utf8_all}
 use Rattle.scheme_tokens.specs.Mirror.Spelled.{spelled}
 use Rattle.scheme_model.specs.Trees.{Trees, Tail}

@@ -1,10 +1,9 @@
 -- Import sets as they are read (R7RS 5.2), and their places in the text.
-use Rattle.std.specs.Prelude.{◌≡◌, ℕ, List, [], ◌∷◌, Bool, true, false, Option, Some, None, Result, Ok, Err}
+use Rattle.std.specs.Prelude.{◌≡◌, ℕ, List, ◌∷◌, Bool, true, false, Option, Some, None, Result, Ok, Err}
 use Rattle.std.specs.Option.{option_map}
 use Rattle.scheme_model.specs.Data.{Datum, atom, list, vector, bytes}
 use Rattle.scheme_model.specs.declared.Occ.{Occ}
-use Rattle.scheme_model.specs.Trees.{Tail, Tree, list as list_tree}
-use Rattle.scheme_model.specs.Requirements.{LibraryName}
+use Rattle.scheme_model.specs.Trees.{Tail, list as list_tree}
 use Rattle.scheme_model.specs.Entries as model
 use Rattle.scheme_model.specs.Entries.{Modifier, modifier_named, IsOnly, IsExcept, IsPrefix, IsRename, Library, Only, Except, Prefix, Rename, Bad, set_of, library_set, modified_set}
 use Rattle.scheme_model.specs.Program.{second_or, ImportSpec}
@@ -19,7 +18,7 @@ use Rattle.library_table.specs.declared.sets.Modifier.TheVariants as word
 use Rattle.library_table.specs.declared.sets.Modified.{Modified}
 use Rattle.library_table.specs.declared.shape_fault.ShapeFault.{ShapeFault}
 use Rattle.library_table.specs.declared.shape_fault.ShapeFault.TheVariants as fault
-use Rattle.library_table.specs.Looks.{tree_at, trees_at, bytes_of, is_dotted}
+use Rattle.library_table.specs.Looks.{tree_at, trees_at, bytes_of}
 use Rattle.library_table.specs.PartsRead.{library_text}
 
 -- the code's set is this one, its library's name as a text
@@ -60,7 +59,7 @@ IsModified None ds = (place : ℕ → Occ) (end : Tail (List ℕ)) (o : Option O
     set_of (list_tree (trees_at place ds) end o) ≡ library_set (list_tree (trees_at place ds) end o)
 IsModified (Some m) ds = (head : code.Datum) × (ds ≡ head ∷ m.inner.now ∷ m.rest.now)
     × ((place : ℕ → Occ) (end : Tail (List ℕ)) (o : Option Occ) →
-        set_of (list_tree (trees_at place ds) end o) ≡ modified_set (modifier_as m.modifier) (set_of (tree_at place m.inner.now)) (trees_at place m.rest.now) end)
+    set_of (list_tree (trees_at place ds) end o) ≡ modified_set (modifier_as m.modifier) (set_of (tree_at place m.inner.now)) (trees_at place m.rest.now) end)
 
 -- a modifier in front of a list, and what stands behind that
 abbrev pub IsModifiedBy : Option code_modifier.Modifier → code.Datum → List code.Datum → Option Modified → Type 0

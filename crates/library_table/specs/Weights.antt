@@ -16,4 +16,3 @@ abbrev mutual
 
 abbrev pub row_weight : List Datum → ℕ
 row_weight ds = weights (row ds none)
-

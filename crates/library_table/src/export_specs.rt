@@ -82,12 +82,7 @@ fn renamed_export(alloc: Global, parts: &[Datum], start: Start) -> Mem<Option<Ex
 }
 
 /// An export by its two identifiers.
-fn two_names(
-    alloc: Global,
-    inner: &Datum,
-    outer: &Datum,
-    start: Start,
-) -> Mem<Option<ExportSpec>>
+fn two_names(alloc: Global, inner: &Datum, outer: &Datum, start: Start) -> Mem<Option<ExportSpec>>
     ensures { IfOk result (λ spec. (r : Tree (List ℕ)) (ts : Trees (List ℕ)) (end : Tail (List ℕ)) (o : Option Occ) →
         IsExportOf spec (export_of (list_tree (tree r (tree (tree_at (place start) inner.now) (tree (tree_at (place start) outer.now) ts))) end o))) }
 {
@@ -111,12 +106,7 @@ fn add_export(specs: &mut Items<ExportSpec>, spec: Option<ExportSpec>) -> Mem<()
 }
 
 /// Adds the exports of the parts of a declaration.
-fn add_all(
-    alloc: Global,
-    specs: &mut Items<ExportSpec>,
-    parts: &[Datum],
-    start: Start,
-) -> Mem<()>
+fn add_all(alloc: Global, specs: &mut Items<ExportSpec>, parts: &[Datum], start: Start) -> Mem<()>
     ensures { OnOk result (AddsExports specs.old specs.new (exports_with start.unit start.form start.first (data_of parts.now))) }
 {
     for datum in parts {

@@ -109,12 +109,7 @@ fn behind_in(parts: &[Datum], dotted: bool) -> &[Datum]
 }
 
 /// Adds the import sets of a form.
-fn add_specs(
-    alloc: Global,
-    specs: &mut Items<ImportSpec>,
-    parts: &[Datum],
-    start: Start,
-) -> Mem<()>
+fn add_specs(alloc: Global, specs: &mut Items<ImportSpec>, parts: &[Datum], start: Start) -> Mem<()>
     ensures { OnOk result (AddsSpecs specs.old specs.new (map (spec_of start.unit start.form start.first) (data_of parts.now))) }
 {
     for datum in parts {

@@ -36,12 +36,7 @@ fn is_import(datum: &Datum) -> bool
 }
 
 /// Adds a form.
-pub fn push_form(
-    alloc: Global,
-    forms: &mut Vec<UnitForm>,
-    datum: &Datum,
-    declared: bool,
-) -> Mem<()>
+pub fn push_form(alloc: Global, forms: &mut Vec<UnitForm>, datum: &Datum, declared: bool) -> Mem<()>
     ensures { OnOk result (forms_of forms.new.items ≡ forms_of forms.old.items ++ record { datum = datum_of datum.now; declared = declared } ∷ []) }
 {
     let datum = datum.copy(alloc)?;

@@ -1,7 +1,4 @@
 use Rattle.std.proofs.Common.{string_bytes, ◌∙◌}
-use Rattle.scheme_model.specs.Requirements.{part_of, parts_of}
-use Rattle.scheme_model.specs.Trees.{tree}
-use Rattle.scheme_model.specs.ExpansionFaults.{◌>>◌}
 use Rattle.library_table.specs.Looks.{tree_at, trees_at}
 use Rattle.library_table.proofs.TreeRows.{row_text}
 use Rattle.library_table.proofs.library_names.name_of_row.Goals as goal

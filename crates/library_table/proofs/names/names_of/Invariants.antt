@@ -1,4 +1,4 @@
-use Rattle.scheme_model.specs.Shapes.{name_of, names_of}
+use Rattle.scheme_model.specs.Shapes.{name_of}
 use Rattle.import_sets.specs.Sets.{named}
 use Rattle.library_table.specs.Forms.{place}
 use Rattle.library_table.proofs.TreeRows.{UpTo}

@@ -1,4 +1,4 @@
-use Rattle.scheme_model.specs.Entries.{pair_of, pairs_of}
+use Rattle.scheme_model.specs.Entries.{pair_of}
 use Rattle.import_sets.specs.Sets.{paired}
 use Rattle.library_table.specs.Forms.{place}
 use Rattle.library_table.proofs.TreeRows.{UpTo}

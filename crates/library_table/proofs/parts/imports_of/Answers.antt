@@ -1,4 +1,4 @@
-use Rattle.std.proofs.Common.{ℕ, List, refl, ap, subst, arith}
+use Rattle.std.proofs.Common.{ℕ, List, refl, subst, arith}
 use Rattle.scheme_model.specs.Program as model
 use Rattle.scheme_model.specs.Program.{specs_in}
 use Rattle.library_table.specs.declared.units.UnitForm.{UnitForm}

@@ -1,4 +1,4 @@
-use Rattle.std.proofs.Common.{◌≡◌, List, ap, ◌∙◌, subst, slice_get}
+use Rattle.std.proofs.Common.{List, ap, ◌∙◌, subst, slice_get}
 use Rattle.std.specs.Prelude.{filter}
 use Rattle.scheme_model.specs.Declarations.{program_forms}
 use Rattle.scheme_model.specs.Program.{specs_from, exports_from}

@@ -1,5 +1,4 @@
 use Rattle.std.proofs.Common.{◌*◌, ◌+◌}
-use Rattle.scheme_model.specs.Data.{row, none}
 use Rattle.datum_reader.specs.Views.{datum_of, data_of}
 use Rattle.library_table.specs.Weights.{weight, row_weight}
 use Rattle.library_table.proofs.sets.+sets.Given as goal
