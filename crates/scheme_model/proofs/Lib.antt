@@ -45,6 +45,8 @@ pub mod FrameUnit
 pub mod FrameUnits
 pub mod FrameBetween
 pub mod FramePrograms
+pub mod CountedOps
+pub mod CountedUses
 pub mod Distinct
 pub mod FrameExpressions
 pub mod FrameBinders

@@ -1,0 +1,7 @@
+use Rattle.std.proofs.Common.{true}
+use Rattle.scheme_model.proofs.CountedOps.{goes_bind}
+use Rattle.scheme_model.proofs.CountedUses.{use_goes}
+use Rattle.scheme_model.proofs.laws.counted_here.Goals as goal
+
+pub returns : goal.returns
+returns c = true
