@@ -39,7 +39,7 @@ pub record Setting : Type 1 where
   pub begin_use : (s : ScopedState) → holds s → (fs : Frames) → around fs → holds (record s { uses = at_form s.form suc s.uses; places = record { use_number = next_number s s.uses; frames = fs } ∷ s.places })
   pub take_local : (s : ScopedState) → holds s → holds (record s { locals = at_form s.form suc s.locals })
   pub bind : (s : ScopedState) → holds s → (fs : Frames) → around fs → (x : Ident) → around (Bind x (next_number s s.locals) ∷ fs)
-  pub keep : (s : ScopedState) → holds s → (fs : Frames) → around fs → (v : Number) (r : Rules Ident) → Held rules_kind stands r → holds (record s { macros = record { meaning = Local v; frames = fs; rules = r } ∷ s.macros })
+  pub keep : (s : ScopedState) → holds s → (fs : Frames) → around fs → (v : Number) → told (Local v) ≡ true → (r : Rules Ident) → Held rules_kind stands r → holds (record s { macros = record { meaning = Local v; frames = fs; rules = r } ∷ s.macros })
   pub enter : (s : ScopedState) → holds s → (fs : Frames) → around fs → around (Enter (next_number s s.bodies) s.uses ∷ fs)
   pub entered : (s : ScopedState) → holds s → holds (record s { bodies = at_form s.form suc s.bodies })
   pub define : (s : ScopedState) → holds s → (fs : Frames) → around fs → (n : Named Ident) → stands n.name → (r : Option (Rules Ident)) → IfMacro (Held rules_kind stands) r → holds (definition_added (body_around fs) n r fs s)
@@ -96,6 +96,10 @@ module _ (c : Setting) where
   transformer_if s m true e = lift (macro_at s.0.macros m) (c.macro s.0 s.1 m e)
   transformer_if s m false e = None
 
+  abbrev pub keep_if : (v : Number) (r : Rules B) (e : D) (s : T) (t : Bool) → c.told (Local v) ≡ t → T
+  keep_if v r e s true h = (record s.0 { macros = record { meaning = Local v; frames = e.0; rules = rules_map ident r } ∷ s.0.macros }, c.keep s.0 s.1 e.0 e.1 v h (rules_map ident r) (record { made = r; same = refl }))
+  keep_if v r e s false h = s
+
   abbrev pub maybe_held : (r : Option (Rules B)) → IfMacro (Held rules_kind c.stands) (option_map (rules_map ident) r)
   maybe_held None = tt
   maybe_held (Some r) = record { made = r; same = refl }
@@ -138,7 +142,7 @@ module _ (c : Setting) where
     take_local = λ s. (record s.0 { locals = at_form s.0.form suc s.0.locals }, c.take_local s.0 s.1);
     next_bound = λ e s. bound_next s.0 (body_around e.0);
     bind = λ x e ts s. record { env = (Bind x.0 (next_number s.0 s.0.locals) ∷ e.0, c.bind s.0 s.1 e.0 e.1 x.0); trees = ts; state = (record s.0 { locals = at_form s.0.form suc s.0.locals }, c.take_local s.0 s.1) };
-    keep = λ v r e s. (record s.0 { macros = record { meaning = Local v; frames = e.0; rules = rules_map ident r } ∷ s.0.macros }, c.keep s.0 s.1 e.0 e.1 v (rules_map ident r) (record { made = r; same = refl }));
+    keep = λ v r e s. keep_if v r e s (c.told (Local v)) refl;
     enter = λ e ts s. record { env = (Enter (next_number s.0 s.0.bodies) s.0.uses ∷ e.0, c.enter s.0 s.1 e.0 e.1); trees = ts; state = (record s.0 { bodies = at_form s.0.form suc s.0.bodies }, c.entered s.0 s.1) };
     define = λ n r e p s. define_over n r e p s;
   }

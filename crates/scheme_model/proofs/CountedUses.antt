@@ -81,7 +81,7 @@ module _ (c : Setting) (x : Side c) where
 
   -- ---- counts
 
-  counting_goes : (here : Here) (n : ℕ) (s : T c) → Goes c {V = Unit {0}} {W = Unit {0}} (λ u. u) (counting (over c) here n s) (counting (side c x) here n s.0)
+  pub counting_goes : (here : Here) (n : ℕ) (s : T c) → Goes c {V = Unit {0}} {W = Unit {0}} (λ u. u) (counting (over c) here n s) (counting (side c x) here n s.0)
   counting_goes here n s = go (nat_le (s.0.nodes s.0.form + n) max_nodes)
     where
       go : (t : Bool) → Goes c {V = Unit {0}} {W = Unit {0}} (λ u. u) (cond t (done tt ((over c).spend n s)) (fails here NodeBudget s)) (cond t (done tt ((side c x).spend n s.0)) (fails here NodeBudget s.0))
@@ -119,33 +119,34 @@ module _ (c : Setting) (x : Side c) where
     by_choice n h t None o' (finds d) = goes_at c (ap (λ z. used (side c x) here e.0 k (transformer_map c m) n z t.0) d) (goes refl)
     by_choice n h t (Some o) o' (finds d) = goes_at c (ap (λ z. used (side c x) here e.0 k (transformer_map c m) n z t.0) d) (instance_goes n h t o)
 
-    pub use_goes : (ts : Trees (B c)) (tail : Tail (B c)) (s : T c) → Goes c (map_tree (ident c)) (use_of (over c) here e k m ts tail s) (use_of (side c x) here e.0 k (transformer_map c m) (map_trees (ident c) ts) (map_tail (ident c) tail) s.0)
-    use_goes ts tail s = go (nat_lt (s.0.uses s.0.form) max_uses)
-      where
-        abbrev over_chosen : Option (Chosen (B c) (B c))
-        over_chosen = first_match (matcher (names_over c) m.rules (λ l j. same_meaning (means_at s.0 m.env.0 l.0) (means_at s.0 e.0 j.0))) m.rules.rules ts tail
+    module _ (ts : Trees (B c)) (tail : Tail (B c)) (s : T c) where
+      abbrev over_chosen : Option (Chosen (B c) (B c))
+      over_chosen = first_match (matcher (names_over c) m.rules (λ l j. same_meaning (means_at s.0 m.env.0 l.0) (means_at s.0 e.0 j.0))) m.rules.rules ts tail
 
-        abbrev side_chosen : Option (Chosen Ident Ident)
-        side_chosen = first_match (matcher (identifiers c) (rules_map (ident c) m.rules) (λ l j. same_meaning (x.means m.env.0 s.0 l) (x.means e.0 s.0 j))) (map (rule_map (ident c)) m.rules.rules) (map_trees (ident c) ts) (map_tail (ident c) tail)
+      abbrev side_chosen : Option (Chosen Ident Ident)
+      side_chosen = first_match (matcher (identifiers c) (rules_map (ident c) m.rules) (λ l j. same_meaning (x.means m.env.0 s.0 l) (x.means e.0 s.0 j))) (map (rule_map (ident c)) m.rules.rules) (map_trees (ident c) ts) (map_tail (ident c) tail)
 
-        chosen_found : Finds (chosen_map (ident c) (ident c)) over_chosen side_chosen
-        chosen_found =
-            first_match-map (B c) (B c) Ident Ident (ident c) (ident c) (matcher (names_over c) m.rules (λ l j. same_meaning (means_at s.0 m.env.0 l.0) (means_at s.0 e.0 j.0))) (matcher (identifiers c) (rules_map (ident c) m.rules) (λ l j. same_meaning (x.means m.env.0 s.0 l) (x.means e.0 s.0 j)))
-            (record { role = role_of-map (B c) Ident (ident c) (names_over c) (identifiers c) (told_names c) m.rules; dots = dots_of-map (B c) Ident (ident c) (names_over c) (identifiers c) (told_names c) m.rules; means = λ p q. (let a = x.same_means m.env s p in let b = x.same_means e s q in λ j. same_meaning (a j) (b j)) }) m.rules.rules ts tail
+      chosen_found : Finds (chosen_map (ident c) (ident c)) over_chosen side_chosen
+      chosen_found =
+          first_match-map (B c) (B c) Ident Ident (ident c) (ident c) (matcher (names_over c) m.rules (λ l j. same_meaning (means_at s.0 m.env.0 l.0) (means_at s.0 e.0 j.0))) (matcher (identifiers c) (rules_map (ident c) m.rules) (λ l j. same_meaning (x.means m.env.0 s.0 l) (x.means e.0 s.0 j)))
+          (record { role = role_of-map (B c) Ident (ident c) (names_over c) (identifiers c) (told_names c) m.rules; dots = dots_of-map (B c) Ident (ident c) (names_over c) (identifiers c) (told_names c) m.rules; means = λ p q. (let a = x.same_means m.env s p in let b = x.same_means e s q in λ j. same_meaning (a j) (b j)) }) m.rules.rules ts tail
 
-        go : (t : Bool) → Goes c (map_tree (ident c)) (cond t (used (over c) here e k m (next_number s.0 s.0.uses) over_chosen ((over c).begin_use m.env s)) (fails here UseBudget s))
-            (cond t (used (side c x) here e.0 k (transformer_map c m) (next_number s.0 s.0.uses) side_chosen ((side c x).begin_use m.env.0 s.0)) (fails here UseBudget s.0))
-        go true = by_choice (next_number s.0 s.0.uses) (c.next_use s.0 s.1) ((over c).begin_use m.env s) over_chosen side_chosen chosen_found
-        go false = goes refl
+      pub use_goes : Goes c (map_tree (ident c)) (use_of (over c) here e k m ts tail s) (use_of (side c x) here e.0 k (transformer_map c m) (map_trees (ident c) ts) (map_tail (ident c) tail) s.0)
+      use_goes = go (nat_lt (s.0.uses s.0.form) max_uses)
+        where
+          go : (t : Bool) → Goes c (map_tree (ident c)) (cond t (used (over c) here e k m (next_number s.0 s.0.uses) over_chosen ((over c).begin_use m.env s)) (fails here UseBudget s))
+              (cond t (used (side c x) here e.0 k (transformer_map c m) (next_number s.0 s.0.uses) side_chosen ((side c x).begin_use m.env.0 s.0)) (fails here UseBudget s.0))
+          go true = by_choice (next_number s.0 s.0.uses) (c.next_use s.0 s.1) ((over c).begin_use m.env s) over_chosen side_chosen chosen_found
+          go false = goes refl
+
+  abbrev compared_as : D c → Transformer (D c) (B c) → T c → Ident × Ident → Note Place
+  compared_as e m s q = Compared (record { frames = m.env.0; ident = q.0 }) (record { frames = e.0; ident = q.1 }) (same_meaning (x.means m.env.0 s.0 q.0) (x.means e.0 s.0 q.1))
 
   pub comparisons_goes : (e : D c) (m : Transformer (D c) (B c)) (ts : Trees (B c)) (tail : Tail (B c)) (s : T c)
       → comparisons (side c x) e.0 (transformer_map c m) (map_trees (ident c) ts) (map_tail (ident c) tail) s.0 ≡ map (note_map (at c)) (comparisons (over c) e m ts tail s)
   comparisons_goes e m ts tail s =
-      ap (map F') (compared-map (B c) (B c) Ident Ident (ident c) (ident c) (role_of (names_over c) m.rules) (role_of (identifiers c) (rules_map (ident c) m.rules)) (role_of-map (B c) Ident (ident c) (names_over c) (identifiers c) (told_names c) m.rules)
+      ap (map (compared_as e m s)) (compared-map (B c) (B c) Ident Ident (ident c) (ident c) (role_of (names_over c) m.rules) (role_of (identifiers c) (rules_map (ident c) m.rules)) (role_of-map (B c) Ident (ident c) (names_over c) (identifiers c) (told_names c) m.rules)
       (dots_of (names_over c) m.rules) (dots_of (identifiers c) (rules_map (ident c) m.rules)) (dots_of-map (B c) Ident (ident c) (names_over c) (identifiers c) (told_names c) m.rules) m.rules.rules ts tail)
-      ∙ map_turned F' (pair_map (ident c) (ident c)) (note_map (at c)) (λ (q : B c × B c). Compared (m.env, q.0) (e, q.1) (same_meaning (means_at s.0 m.env.0 q.0.0) (means_at s.0 e.0 q.1.0)))
+      ∙ map_turned (compared_as e m s) (pair_map (ident c) (ident c)) (note_map (at c)) (λ (q : B c × B c). Compared (m.env, q.0) (e, q.1) (same_meaning (means_at s.0 m.env.0 q.0.0) (means_at s.0 e.0 q.1.0)))
       (λ q. let a = x.same_means m.env s q.0 in let b = x.same_means e s q.1 in λ j. Compared (record { frames = m.env.0; ident = q.0.0 }) (record { frames = e.0; ident = q.1.0 }) (same_meaning (a j) (b j)))
       (compared (role_of (names_over c) m.rules) (dots_of (names_over c) m.rules) m.rules.rules ts tail)
-    where
-      abbrev F' : Ident × Ident → Note Place
-      F' q = Compared (record { frames = m.env.0; ident = q.0 }) (record { frames = e.0; ident = q.1 }) (same_meaning (x.means m.env.0 s.0 q.0) (x.means e.0 s.0 q.1))

@@ -47,6 +47,9 @@ pub mod FrameBetween
 pub mod FramePrograms
 pub mod CountedOps
 pub mod CountedUses
+pub mod CountedForms
+pub mod CountedRuns
+pub mod CountedExpressions
 pub mod Distinct
 pub mod FrameExpressions
 pub mod FrameBinders

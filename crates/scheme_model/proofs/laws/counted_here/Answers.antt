@@ -1,6 +1,9 @@
 use Rattle.std.proofs.Common.{true}
 use Rattle.scheme_model.proofs.CountedOps.{goes_bind}
 use Rattle.scheme_model.proofs.CountedUses.{use_goes}
+use Rattle.scheme_model.proofs.CountedForms.{rules_at_goes}
+use Rattle.scheme_model.proofs.CountedRuns.{run_goes}
+use Rattle.scheme_model.proofs.CountedExpressions.{expand_goes}
 use Rattle.scheme_model.proofs.laws.counted_here.Goals as goal
 
 pub returns : goal.returns
