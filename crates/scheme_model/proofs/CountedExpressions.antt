@@ -52,7 +52,7 @@ module _ (c : Setting) (x : Side c) where
 
   -- ---- tree by tree
 
-  module _ {V : Type 0} (f : Tree (B c) → Step (T c) Core) (g : Tree Ident → Step ScopedState Core) (h : (t : Tree (B c)) (s : T c) → Same (f t s) (g (map_tree (ident c) t) s.0)) where
+  module _ (f : Tree (B c) → Step (T c) Core) (g : Tree Ident → Step ScopedState Core) (h : (t : Tree (B c)) (s : T c) → Same (f t s) (g (map_tree (ident c) t) s.0)) where
     each_goes : (ts : Trees (B c)) (s : T c) → Same (each f ts s) (each g (map_trees (ident c) ts) s.0)
     each_goes no_trees s = goes refl
     each_goes (tree t ts) s = goes_bind c _ _ (h t s) (λ a u. goes_bind c _ _ (each_goes ts u) (λ b v. goes refl))
@@ -195,7 +195,7 @@ module _ (c : Setting) (x : Side c) where
         → Same (body_in (over c) turns (item_part F (over c) below) here ((over c).enter e ts s)) (body_in (side c x) turns (item_part G (side c x) below) here ((side c x).enter e.0 (map_trees (ident c) ts) s.0))
     in_body turns below here e ts s =
         let r = (over c).enter e ts s in
-        comes_goes (comes_bind c _ _
+        comes_goes {H = λ (v : Core). Unit {0}} (comes_bind c _ _
         (comes_bind c _ _
         (items_comes_at r)
         (λ is u a. goes_comes c (parts_goes below r.env is a u)))

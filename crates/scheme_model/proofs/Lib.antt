@@ -50,6 +50,8 @@ pub mod CountedUses
 pub mod CountedForms
 pub mod CountedRuns
 pub mod CountedExpressions
+pub mod CountedStates
+pub mod CountedUnits
 pub mod Distinct
 pub mod FrameExpressions
 pub mod FrameBinders
