@@ -262,7 +262,7 @@ module _ (w : Era) (s0 : ScopedState) where
             }
 
   -- the form as a setting
-  pub form_setting : Known → ℕ → Setting
+  abbrev pub form_setting : Known → ℕ → Setting
   form_setting known f = record {
     known = known;
     stands = Stand f;

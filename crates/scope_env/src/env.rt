@@ -8,7 +8,8 @@ ghost use Rattle.syntax_tree.specs.Meant.{IsMeaning};
 ghost use Rattle.syntax_tree.specs.Numbered.{number_of};
 ghost use Rattle.scope_env.specs.Environment.{no_scopes, with_root, with_child, with_bound, with_use, IsSound};
 ghost use Rattle.scope_env.specs.Resolved.{local, own, resolved};
-ghost use Rattle.scope_env.specs.Standing.{EnvFor, StandsFor, of_form};
+ghost use Rattle.scope_env.specs.Standing.{EnvFor, StandsFor};
+ghost use Rattle.scheme_model.specs.Meaning.{of_form};
 
 use ls_base::{Mem, Memory};
 use std::alloc::Global;
