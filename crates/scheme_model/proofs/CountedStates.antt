@@ -174,7 +174,7 @@ module _ (w : Era) (s0 : ScopedState) where
         go (inl a) = let q = of_is w.unit f k a in of_form_at k.unit w.unit k.form f q.0 q.1 (around s.places k) (h.formed.frames k)
         go (inr a) = subst (OfForm w.unit f) (sym (h.rooted k a.0 ∙ a.1)) tt
 
-    means_told : (fs : Frames) → OfForm w.unit f fs → (i : Ident) → Stand f i → told_by w.unit f (means_at s fs i) ≡ true
+    pub means_told : (fs : Frames) → OfForm w.unit f fs → (i : Ident) → Stand f i → told_by w.unit f (means_at s fs i) ≡ true
     means_told fs e i l = inside_told w.unit f s.definitions h.formed.bodies fs e i (means_outside s.table s.entry s.places s.definitions i) (outside_told i l)
 
     -- ---- a macro that is told
@@ -188,7 +188,7 @@ module _ (w : Era) (s0 : ScopedState) where
     kept_told (Standard x) fs rs t q = q
     kept_told (Free x) fs rs t q = q
 
-    among_told : (ks : List ScopedMacro) → AllOf (λ (k : ScopedMacro). MacroKept f k.meaning k.frames k.rules) ks → (m : Meaning) → told_by w.unit f m ≡ true → IfMacro Usable (macro_at ks m)
+    pub among_told : (ks : List ScopedMacro) → AllOf (λ (k : ScopedMacro). MacroKept f k.meaning k.frames k.rules) ks → (m : Meaning) → told_by w.unit f m ≡ true → IfMacro Usable (macro_at ks m)
     among_told [] q m t = tt
     among_told (k ∷ ks) q m t = go (same_meaning k.meaning m) refl (among_told ks q.1 m t)
       where
@@ -201,7 +201,7 @@ module _ (w : Era) (s0 : ScopedState) where
     abbrev begun : Frames → ScopedState
     begun fs = record s { uses = at_form s.form suc s.uses; places = record { use_number = next_number s s.uses; frames = fs } ∷ s.places }
 
-    begin_holds : (fs : Frames) → OfForm w.unit f fs → Holds f (begun fs)
+    pub begin_holds : (fs : Frames) → OfForm w.unit f fs → Holds f (begun fs)
     begin_holds fs e = record {
       unit = h.unit;
       form = h.form;
@@ -219,7 +219,7 @@ module _ (w : Era) (s0 : ScopedState) where
         go k true d = subst (λ (z : Number). OfForm z.unit z.form fs) (number_told (next_number s s.uses) k d) (of_form_at w.unit s.unit f s.form (sym h.unit) (sym h.form) fs e)
         go k false d = h.formed.frames k
 
-    keep_holds : (fs : Frames) → OfForm w.unit f fs → (v : Number) → is_of w.unit f v ≡ true → (r : Rules Ident) → Held rules_kind (Stand f) r → Holds f (record s { macros = record { meaning = Local v; frames = fs; rules = r } ∷ s.macros })
+    pub keep_holds : (fs : Frames) → OfForm w.unit f fs → (v : Number) → is_of w.unit f v ≡ true → (r : Rules Ident) → Held rules_kind (Stand f) r → Holds f (record s { macros = record { meaning = Local v; frames = fs; rules = r } ∷ s.macros })
     keep_holds fs e v t r q = record {
       unit = h.unit;
       form = h.form;
@@ -236,7 +236,7 @@ module _ (w : Era) (s0 : ScopedState) where
     body_here (Bind x v ∷ fs) e = body_here fs e.1
     body_here (Enter b c ∷ fs) e = e.0
 
-    define_holds : (fs : Frames) → OfForm w.unit f fs → (n : Named Ident) (r : Option (Rules Ident)) → IfMacro (Held rules_kind (Stand f)) r → Holds f (definition_added (body_around fs) n r fs s)
+    pub define_holds : (fs : Frames) → OfForm w.unit f fs → (n : Named Ident) (r : Option (Rules Ident)) → IfMacro (Held rules_kind (Stand f)) r → Holds f (definition_added (body_around fs) n r fs s)
     define_holds fs e n r q = go (body_around fs) (body_here fs e)
       where
         global_added : (z : Option (Rules Ident)) → IfMacro (Held rules_kind (Stand f)) z → AllOf (λ (k : ScopedMacro). MacroKept f k.meaning k.frames k.rules) (macro_added (Global s.unit n.name) fs z s.macros)
