@@ -99,8 +99,3 @@ pub fn programs_are_substituted()
     ensures means { (all : List Placed) (units : List Prepared) (known : Known) (n : ℕ) (fs : Frames) (i : Ident) →
         let g = scoped_work all units known n scoped_before in meaning g.table g.entry (frame_image g.places g.definitions fs i) ≡ means_inside g.definitions fs i (means_outside g.table g.entry g.places g.definitions i) }
 {}
-
-/// Temporary.
-pub fn counted_here()
-    ensures { Bool }
-{}
