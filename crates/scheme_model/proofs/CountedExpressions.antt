@@ -1,24 +1,24 @@
 -- Expressions on the third side of counted expansion, and on each other side alike: they come to the same cores.
-use Rattle.std.proofs.Common.{◌≡◌, ℕ, zero, suc, ◌+◌, List, [], ◌∷◌, map, Bool, true, false, Option, Some, None, Result, Ok, Err, refl, sym, ap, ◌∙◌}
+use Rattle.std.proofs.Common.{◌≡◌, ℕ, zero, suc, ◌+◌, List, [], ◌∷◌, map, Bool, true, false, Option, Some, None, Result, Ok, refl, sym, ap, ◌∙◌}
 use Rattle.scheme_model.specs.Identifiers.{Number}
 use Rattle.scheme_model.specs.Ident.{Ident, same_ident, symbol_of}
 use Rattle.scheme_model.specs.Keywords.{CoreKeyword, IsQuote, IsQuasiquote, IsLambda, IsCaseLambda, IsIf, IsSet, IsBegin, IsDefine, IsDefineValues, IsDefineRecordType, IsDefineSyntax, IsLetSyntax, IsLetrecSyntax, IsCondExpand, IsSyntaxError, IsInclude}
 use Rattle.scheme_model.specs.Trees.{Tree, name, atom, list, vector, Trees, no_trees, tree, Tail, proper, dotted, map_tree, map_trees, map_tail}
 use Rattle.scheme_model.specs.Measures.{tree_size}
-use Rattle.scheme_model.specs.ExpansionFaults.{Named, named, named_map, Fault, ◌>>◌}
-use Rattle.scheme_model.specs.Meaning.{Meaning, Local, Head, IsCore, IsAuxiliary, IsMacro, IsNone}
+use Rattle.scheme_model.specs.ExpansionFaults.{Named, named, named_map, ◌>>◌}
+use Rattle.scheme_model.specs.Meaning.{Local, Head, IsCore, IsAuxiliary, IsMacro, IsNone}
 use Rattle.scheme_model.specs.Shapes.{Clause, LocalMacros, one_of}
 use Rattle.scheme_model.specs.Quasiquote.{Pieces, quasi_of}
 use Rattle.scheme_model.specs.RulesShape.{Rules, rules_map, option_map}
 use Rattle.scheme_model.specs.Leaves.{Leaf, leaves_of}
-use Rattle.scheme_model.specs.Cores.{Target, Bound, LocalNumber, Definition, Binder, Binders, RuleLeaf, MacroDef, Core, Ref, Const, Quote, Quasi, Lambda, CaseLambda, If, Set, Call, Body, LetSyntax, Cores, Clauses, Parts, Part, Syntax as syntax_part, outside}
-use Rattle.scheme_model.specs.Steps.{Broken, Step, ◌>>=◌, done, fails}
-use Rattle.scheme_model.specs.Order.{Here, Form, Item, Expression, Value, Function, Assigned, AssignedFunction, ValuesOf, Record, Macro, Pass, Region, Transformer, target_of, head_of, here_at, forms_at, given, RulesParts, run}
-use Rattle.scheme_model.specs.Expression.{whole, body, Expander, node, each, each_of, bound, procedure, lambda, clauses, meaning_of, macro_with, macro_def, assignment, item_part, parts, items_of, body_in, body_core, expressions, sequence, heads, keep_all, numbers, local_defs, local_macros, recursive, let_syntax, letrec_syntax, mark_of, symbol_or_hole, quasi, quote, unless_keyword, set, reference, call, misplaced, chosen_sequence, core_form, macro_use, by_head, expression, expand}
+use Rattle.scheme_model.specs.Cores.{Target, Bound, LocalNumber, Definition, Binder, Core, Ref, Quote, Quasi, Set, LetSyntax, Syntax as syntax_part, outside}
+use Rattle.scheme_model.specs.Steps.{Broken, Step, ◌>>=◌, done}
+use Rattle.scheme_model.specs.Order.{Here, Form, Item, Expression, Value, Function, Assigned, AssignedFunction, ValuesOf, Record, Macro, Pass, Region, Transformer, target_of, head_of, here_at, forms_at, RulesParts, run}
+use Rattle.scheme_model.specs.Expression.{whole, body, Expander, node, each, each_of, bound, procedure, lambda, clauses, meaning_of, macro_with, macro_def, assignment, item_part, parts, items_of, body_in, body_core, expressions, sequence, heads, keep_all, numbers, local_defs, local_macros, recursive, let_syntax, letrec_syntax, mark_of, symbol_or_hole, quasi, quote, unless_keyword, set, reference, call, chosen_sequence, core_form, macro_use, by_head, expression, expand}
 use Rattle.scheme_model.specs.Substitution.{clause_map, item_map}
 use Rattle.scheme_model.specs.ScopedExpansion.{Frames, Place, ScopedState, next_number}
 use Rattle.scheme_model.specs.Renaming.{pieces_map, leaf_map, local_macros_map}
-use Rattle.scheme_model.proofs.RenamingLaws.{Reads, map_after, map_turned, size-map, then_map}
+use Rattle.scheme_model.proofs.RenamingLaws.{Reads, map_after, size-map, then_map}
 use Rattle.scheme_model.proofs.ShapeLaws.{some_of-map, one_of-map, if_of-map, named_tree_of-map, error_text_of-map, lambda_of-map, case_lambda_of-map, definition_of-map, values_of-map, local_macros_of-map}
 use Rattle.scheme_model.proofs.RequirementLaws.{chosen_of-map}
 use Rattle.scheme_model.proofs.QuasiLaws.{quasi_of-map}
@@ -28,9 +28,9 @@ use Rattle.scheme_model.proofs.IdentKinds.{rules_fused}
 use Rattle.scheme_model.proofs.FrameAsks.{AllOf}
 use Rattle.scheme_model.proofs.FrameReaders.{parts_map}
 use Rattle.scheme_model.proofs.FrameQuasi.{weight_same}
-use Rattle.scheme_model.proofs.CountedOps.{Setting, ToldBound, seen, Side, B, D, T, M, ident, at, names_over, identifiers, told_names, transformer_map, keep_if, over, side, Goes, goes, goes_at, goes_bind, goes_read}
+use Rattle.scheme_model.proofs.CountedOps.{Setting, ToldBound, Side, B, D, T, M, ident, names_over, identifiers, told_names, transformer_map, keep_if, over, side, Goes, goes, goes_at, goes_bind, goes_read}
 use Rattle.scheme_model.proofs.CountedUses.{transformer_same, ToldHead, told_head, head_goes, target_goes, node_goes, use_goes}
-use Rattle.scheme_model.proofs.CountedForms.{ToldItem, forms_at_seen, here_seen, Comes, comes, comes_bind, goes_comes, left_seen, Ran, ran, ran_at, rules_parts_goes, rules_at_goes}
+use Rattle.scheme_model.proofs.CountedForms.{ToldItem, forms_at_seen, here_seen, Comes, comes, comes_bind, goes_comes, Ran, ran, ran_at, rules_parts_goes, rules_at_goes}
 use Rattle.scheme_model.proofs.CountedRuns.{run_goes}
 
 module _ (c : Setting) (x : Side c) where

@@ -1,32 +1,27 @@
 -- The forms of a body or a unit, gone through on the third side of counted expansion and on each other side alike.
-use Rattle.std.proofs.Common.{◌≡◌, ℕ, zero, suc, ◌+◌, List, [], ◌∷◌, ◌++◌, map, Bool, true, false, cond, Option, Some, None, Result, Ok, Err, refl, sym, ap, ◌∙◌, subst}
-use Rattle.scheme_model.specs.declared.Occ.{Occ}
+use Rattle.std.proofs.Common.{◌≡◌, List, [], ◌∷◌, ◌++◌, map, Bool, true, false, cond, Option, Some, None, Result, Ok, Err, refl, sym, ap, ◌∙◌}
 use Rattle.scheme_model.specs.Identifiers.{Number}
 use Rattle.scheme_model.specs.Ident.{Ident, same_ident}
-use Rattle.scheme_model.specs.Keywords.{CoreKeyword, IsQuote, IsQuasiquote, IsLambda, IsCaseLambda, IsIf, IsSet, IsBegin, IsDefine, IsDefineValues, IsDefineRecordType, IsDefineSyntax, IsLetSyntax, IsLetrecSyntax, IsCondExpand, IsSyntaxError, IsInclude}
-use Rattle.scheme_model.specs.Trees.{Tree, name, atom, list, vector, Trees, no_trees, tree, Tail, map_tree, map_trees, map_tail}
+use Rattle.scheme_model.specs.Trees.{Tree, name, atom, list, vector, Trees, no_trees, tree, map_tree, map_trees, map_tail}
 use Rattle.scheme_model.specs.Measures.{tree_size}
-use Rattle.scheme_model.specs.ExpansionFaults.{Named, named, named_map, Fault, BadForm, OutOfTurns}
-use Rattle.scheme_model.specs.Meaning.{Meaning, Local, Head, IsCore, IsAuxiliary, IsMacro, IsNone, is_keyword}
-use Rattle.scheme_model.specs.Shapes.{Formals, Clause, DefinitionShape, Variable, Procedure, FieldShape, RecordShape, definition_of, values_of, record_of, named_tree_of, proper_of}
-use Rattle.scheme_model.specs.Requirements.{chosen_of}
+use Rattle.scheme_model.specs.ExpansionFaults.{Named, named, named_map, BadForm}
+use Rattle.scheme_model.specs.Meaning.{Meaning, Head, is_keyword}
+use Rattle.scheme_model.specs.Shapes.{Formals, Clause, DefinitionShape, Variable, Procedure, FieldShape, RecordShape}
 use Rattle.scheme_model.specs.RulesShape.{Rules, rules_map, rules_of, option_map}
-use Rattle.scheme_model.specs.Cores.{Target, Bound, LocalNumber, Definition, Binder, Binders}
+use Rattle.scheme_model.specs.Cores.{Binder}
 use Rattle.scheme_model.specs.Steps.{Broken, Step, ◌>>=◌, done, fails}
-use Rattle.scheme_model.specs.Order.{Here, Form, Item, Expression, Value, Function, Assigned, AssignedFunction, ValuesOf, Record, Macro, Note, LookedUp, Compared, Pending, Pass, Going, Transformer, target_of, head_of, here_at, forms_at, counting, given, told, comparisons, use_of, binder_at, put, noted, first, names_at, next_name, define_next, define_all, define_names, fields_bound, record_names, record_part, caught, run_variable, run_function, run_define, values_put, run_values, run_record, is_rules, RulesParts, rules_parts_of, rules_parts, rules_note, rules_at, run_syntax, splice, or_none, read_then, run_core, run_use, run_head, run_form, run_next, run}
+use Rattle.scheme_model.specs.Order.{Here, Form, Item, Expression, Value, Function, Assigned, AssignedFunction, ValuesOf, Record, Macro, Note, LookedUp, Pending, Pass, Going, head_of, here_at, forms_at, counting, given, told, binder_at, put, noted, first, names_at, next_name, define_next, define_all, define_names, fields_bound, record_names, record_part, caught, run_variable, run_function, run_define, values_put, run_values, run_record, is_rules, RulesParts, rules_parts_of, rules_parts, rules_note, rules_at, or_none}
 use Rattle.scheme_model.specs.Substitution.{form_map, clause_map, item_map, note_map, pending_map}
-use Rattle.scheme_model.specs.ScopedExpansion.{Frames, Place, ScopedState, next_number, body_around, bound_next, assigned}
+use Rattle.scheme_model.specs.ScopedExpansion.{Place, ScopedState, body_around, bound_next, assigned}
 use Rattle.scheme_model.specs.Renaming.{formals_map, definition_map, field_map, record_map}
-use Rattle.scheme_model.proofs.RenamingLaws.{Reads, map-append, map_turned, size-map}
-use Rattle.scheme_model.proofs.ShapeLaws.{proper_of-map, definition_of-map, values_of-map, record_of-map, named_tree_of-map}
-use Rattle.scheme_model.proofs.RequirementLaws.{chosen_of-map}
+use Rattle.scheme_model.proofs.RenamingLaws.{map-append, map_turned, size-map}
 use Rattle.scheme_model.proofs.RulesLaws.{rules_of-map}
 use Rattle.scheme_model.proofs.FrameAsks.{AllOf}
 use Rattle.scheme_model.proofs.FrameHeld.{all_append}
 use Rattle.scheme_model.proofs.FrameReaders.{parts_map}
 use Rattle.scheme_model.proofs.FrameDefinitions.{names_at-map, record_names-map, record_part-map}
-use Rattle.scheme_model.proofs.CountedOps.{Setting, ToldBound, seen, Side, B, D, T, M, ident, at, names_over, identifiers, told_names, transformer_map, define_cases, defined_seen, then_, over, side, Goes, goes, goes_at, goes_bind, goes_read}
-use Rattle.scheme_model.proofs.CountedUses.{transformer_same, ToldHead, told_head, head_goes, target_goes, counting_goes, counted_goes, use_goes, comparisons_goes}
+use Rattle.scheme_model.proofs.CountedOps.{Setting, ToldBound, seen, Side, B, D, T, M, ident, at, names_over, identifiers, told_names, define_cases, defined_seen, over, side, Goes, goes, goes_at, goes_read}
+use Rattle.scheme_model.proofs.CountedUses.{head_goes, counted_goes}
 
 -- a macro that was set aside is told
 abbrev pub ToldItem : {A : Type 0} → (Meaning → Bool) → Item A → Type 0

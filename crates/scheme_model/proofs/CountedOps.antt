@@ -1,17 +1,16 @@
 -- Expansion of one form over identifiers, frames and states that hold what is said of the form: a third side, of which both that by
 -- counts and that by whole numbers are the image. So the two are one.
-use Rattle.std.proofs.Common.{◌≡◌, ℕ, suc, ◌+◌, List, [], ◌∷◌, ◌++◌, map, Bool, true, false, cond, Option, Some, None, Result, Ok, Err, refl, sym, ap, ◌∙◌, subst}
+use Rattle.std.proofs.Common.{◌≡◌, ℕ, suc, ◌+◌, List, ◌∷◌, map, Bool, true, false, Option, Some, None, Result, Ok, Err, refl, ap, ◌∙◌}
 use Rattle.std.specs.Prelude.{if◌then◌else◌}
 use Rattle.scheme_model.specs.Identifiers.{Number}
-use Rattle.scheme_model.specs.Ident.{Ident, Written, Inserted, same_ident, symbol_of}
-use Rattle.scheme_model.specs.Trees.{Tree, Trees, map_tree, map_trees}
-use Rattle.scheme_model.specs.ExpansionFaults.{Named, named_map, Fault, fault_map, KeywordRedefined, Duplicate}
+use Rattle.scheme_model.specs.Ident.{Ident, Inserted, same_ident, symbol_of}
+use Rattle.scheme_model.specs.ExpansionFaults.{Named, named_map, Fault, KeywordRedefined, Duplicate}
 use Rattle.scheme_model.specs.Meaning.{Meaning, Local, Global}
 use Rattle.scheme_model.specs.Requirements.{Known}
 use Rattle.scheme_model.specs.RulesShape.{Names, Rules, rules_map, option_map}
 use Rattle.scheme_model.specs.Cores.{Target, MacroUse, Bound, LocalNumber, Definition}
-use Rattle.scheme_model.specs.Steps.{Broken, Step, ◌>>=◌, done, fails}
-use Rattle.scheme_model.specs.Order.{Here, Pending, Transformer, Region, Ops, is_some, given}
+use Rattle.scheme_model.specs.Steps.{Broken, Step, ◌>>=◌}
+use Rattle.scheme_model.specs.Order.{Here, Pending, Transformer, Ops, is_some, given}
 use Rattle.scheme_model.specs.Substitution.{Clock, at_form, note_map, pending_map, any}
 use Rattle.scheme_model.specs.ScopedExpansion.{Frames, Bind, Enter, Place, ScopedState, next_number, means_at, macro_at, body_around, bound_next, assigned, definition_added, meaning_next, is_defined, refused_now, scoped}
 use Rattle.scheme_model.specs.Renaming.{Renames, result_map}

@@ -1,22 +1,22 @@
 -- A form gone through, whatever its head, and all forms of a body or a unit: the third side of counted expansion and each other side.
-use Rattle.std.proofs.Common.{◌≡◌, ℕ, zero, suc, List, [], ◌∷◌, map, Bool, true, false, Option, Some, None, Result, Ok, Err, refl, sym, ap, ◌∙◌}
+use Rattle.std.proofs.Common.{ℕ, zero, suc, List, [], ◌∷◌, map, true, Option, Some, None, Result, refl, ap, ◌∙◌}
 use Rattle.scheme_model.specs.Ident.{Ident, same_ident, symbol_of}
 use Rattle.scheme_model.specs.Keywords.{CoreKeyword, IsQuote, IsQuasiquote, IsLambda, IsCaseLambda, IsIf, IsSet, IsBegin, IsDefine, IsDefineValues, IsDefineRecordType, IsDefineSyntax, IsLetSyntax, IsLetrecSyntax, IsCondExpand, IsSyntaxError, IsInclude}
 use Rattle.scheme_model.specs.Trees.{Tree, name, atom, list, vector, Trees, no_trees, tree, Tail, map_tree, map_trees, map_tail}
 use Rattle.scheme_model.specs.ExpansionFaults.{Named, named_map, Fault}
 use Rattle.scheme_model.specs.Meaning.{Head, IsCore, IsAuxiliary, IsMacro, IsNone, is_keyword}
-use Rattle.scheme_model.specs.RulesShape.{Rules, rules_map, option_map}
+use Rattle.scheme_model.specs.RulesShape.{option_map}
 use Rattle.scheme_model.specs.Cores.{Target, Binder}
-use Rattle.scheme_model.specs.Steps.{Broken, ◌>>=◌, done}
-use Rattle.scheme_model.specs.Order.{Here, Form, Item, Expression, Macro, Note, LookedUp, Pending, Pass, Transformer, target_of, head_of, forms_at, told, comparisons, use_of, binder_at, put, noted, first, caught, run_define, run_values, run_record, rules_parts_of, rules_parts, rules_note, rules_at, run_syntax, splice, or_none, read_then, run_core, run_use, run_head, run_form, run_next, run}
-use Rattle.scheme_model.specs.Substitution.{form_map, note_map}
-use Rattle.scheme_model.specs.ScopedExpansion.{Place, ScopedState, macro_at}
+use Rattle.scheme_model.specs.Steps.{◌>>=◌, done}
+use Rattle.scheme_model.specs.Order.{Here, Form, Expression, Macro, Note, LookedUp, Pending, Pass, Transformer, target_of, head_of, forms_at, told, comparisons, use_of, binder_at, put, noted, first, caught, rules_parts_of, rules_parts, rules_note, rules_at, run_syntax, splice, or_none, read_then, run_core, run_use, run_head, run_form, run_next, run}
+use Rattle.scheme_model.specs.Substitution.{form_map}
+use Rattle.scheme_model.specs.ScopedExpansion.{Place, ScopedState}
 use Rattle.scheme_model.proofs.RenamingLaws.{Reads}
 use Rattle.scheme_model.proofs.ShapeLaws.{proper_of-map, definition_of-map, values_of-map, record_of-map, named_tree_of-map}
 use Rattle.scheme_model.proofs.RequirementLaws.{chosen_of-map}
-use Rattle.scheme_model.proofs.CountedOps.{Setting, ToldBound, Side, B, D, T, M, ident, at, names_over, transformer_map, over, side, goes_read}
+use Rattle.scheme_model.proofs.CountedOps.{Setting, ToldBound, Side, B, D, T, M, ident, names_over, transformer_map, over, side, goes_read}
 use Rattle.scheme_model.proofs.CountedUses.{transformer_same, ToldHead, told_head, head_goes, target_goes, counting_goes, use_goes, comparisons_goes}
-use Rattle.scheme_model.proofs.CountedForms.{ToldItem, parts_of_seen, forms_at_seen, here_seen, or_none_seen, comes, goes_comes, comes_bind, left_seen, ToldLeft, Ran, ran, ran_at, OverGo, SideGo, RanLaw, caught_comes, noted_seen, told_bound, define_comes, put_goes, first_goes, define_goes, values_goes, record_goes, note_goes, rules_parts_goes, rules_at_goes}
+use Rattle.scheme_model.proofs.CountedForms.{parts_of_seen, forms_at_seen, here_seen, or_none_seen, comes, goes_comes, comes_bind, left_seen, ToldLeft, Ran, ran, ran_at, OverGo, SideGo, RanLaw, caught_comes, noted_seen, told_bound, define_comes, put_goes, first_goes, define_goes, values_goes, record_goes, note_goes, rules_parts_goes, rules_at_goes}
 
 module _ (c : Setting) (x : Side c) where
   module _ (f : OverGo c) (f' : SideGo c) (law : RanLaw c f f') (e : D c) where

@@ -10,8 +10,7 @@ use Rattle.scheme_model.specs.ExpansionFaults.{Named}
 use Rattle.scheme_model.specs.Meaning.{Meaning, Local, Global, Standard, Free, same_meaning}
 use Rattle.scheme_model.specs.Requirements.{Known}
 use Rattle.scheme_model.specs.RulesShape.{Rules}
-use Rattle.scheme_model.specs.Cores.{Target, MacroUse}
-use Rattle.scheme_model.specs.Order.{Transformer, is_some}
+use Rattle.scheme_model.specs.Order.{Transformer}
 use Rattle.scheme_model.specs.Substitution.{Table, Entries, Clock, at_form, Defined, defined_in}
 use Rattle.scheme_model.specs.Scopes.{own_of, imported_as, defined_or, given_or}
 use Rattle.scheme_model.specs.ScopedExpansion.{Frames, Bind, Enter, BodyDefinition, BodyDefinitions, UsePlace, ScopedMacro, ScopedState, around, find, defined_as, means_inside, means_outside, means_at, macro_at, macro_added, next_number, body_around, definition_added}
@@ -19,10 +18,10 @@ use Rattle.scheme_model.proofs.OpenBodies.{Before as Counted, Leq, NotYet}
 use Rattle.scheme_model.proofs.IdentLaws.{number_told}
 use Rattle.scheme_model.proofs.IdentKinds.{rules_kind}
 use Rattle.scheme_model.proofs.Clocks.{leq_itself, leq_then, leq_counted, not_yet_less, next_not_yet}
-use Rattle.scheme_model.proofs.FrameEras.{Era, Before, Below, before_more}
+use Rattle.scheme_model.proofs.FrameEras.{Era, Before, before_more}
 use Rattle.scheme_model.proofs.FrameAsks.{AllOf, all_of_more}
 use Rattle.scheme_model.proofs.EntryLaws.{NoLocal, GivenNoLocal}
-use Rattle.scheme_model.proofs.FrameRoots.{AtRoot, Rooted, RootMacro, MacroStands, UnitMacro}
+use Rattle.scheme_model.proofs.FrameRoots.{Rooted, RootMacro, MacroStands, UnitMacro}
 use Rattle.scheme_model.proofs.FrameLeaves.{Held, held_more}
 use Rattle.scheme_model.proofs.FrameHeads.{IfMacro}
 use Rattle.scheme_model.proofs.CountedOps.{Setting}

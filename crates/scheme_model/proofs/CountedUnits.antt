@@ -1,36 +1,35 @@
 -- A unit expanded by counts is the unit expanded by whole numbers.
 use Rattle.std.proofs.Common.{◌≡◌, ℕ, List, [], ◌∷◌, map, Bool, true, false, cond, Option, None, Result, Ok, Err, refl, sym, ap, ◌∙◌, subst}
 use Rattle.std.specs.Prelude.{◌&&◌, ◌||◌}
-use Rattle.scheme_model.specs.Identifiers.{Number, Name}
+use Rattle.scheme_model.specs.Identifiers.{Name}
 use Rattle.scheme_model.specs.Ident.{Ident}
-use Rattle.scheme_model.specs.Trees.{Tree, map_tree}
-use Rattle.scheme_model.specs.ExpansionFaults.{Named, named_map, Fault, KeywordRedefined, Duplicate}
+use Rattle.scheme_model.specs.Trees.{Tree}
+use Rattle.scheme_model.specs.ExpansionFaults.{Named, named_map, KeywordRedefined, Duplicate}
 use Rattle.scheme_model.specs.Meaning.{Meaning, Local, Global, Standard, Free, same_meaning, of_form}
 use Rattle.scheme_model.specs.Requirements.{Known}
 use Rattle.scheme_model.specs.RulesShape.{Rules, rules_map, option_map}
-use Rattle.scheme_model.specs.Cores.{Bound, LocalNumber, Definition, Parts}
+use Rattle.scheme_model.specs.Cores.{Parts}
 use Rattle.scheme_model.specs.Steps.{Broken, ◌>>=◌}
 use Rattle.scheme_model.specs.Order.{Item, Expression, Value, Function, Assigned, AssignedFunction, ValuesOf, Record, Macro, Note, LookedUp, Compared, Pending, Pass, is_some, run}
 use Rattle.scheme_model.specs.Expression.{expand, item_part, parts}
 use Rattle.scheme_model.specs.UnitExpansion.{Formed as FormResult, max_depth, passes, from_items, finished, unit}
-use Rattle.scheme_model.specs.Substitution.{State, item_map, note_map, pending_map, any, differ, model}
-use Rattle.scheme_model.specs.ScopedExpansion.{Frames, Place, ScopedState, means_at, body_around, meaning_next, is_defined, refused_now, define_at, scoped}
+use Rattle.scheme_model.specs.Substitution.{State, item_map, note_map, any, differ}
+use Rattle.scheme_model.specs.ScopedExpansion.{Place, ScopedState, means_at, body_around, meaning_next, is_defined, refused_now, define_at, scoped}
 use Rattle.scheme_model.specs.CountedExpansion.{means_here, refused_here, define_here, counted}
 use Rattle.scheme_model.proofs.IdentKinds.{item_kind}
 use Rattle.scheme_model.proofs.FrameEras.{Era, Below}
 use Rattle.scheme_model.proofs.FrameAsks.{AllOf, all_of_more}
 use Rattle.scheme_model.proofs.EntryLaws.{GivenNoLocal}
-use Rattle.scheme_model.proofs.FrameRoots.{Rooted}
 use Rattle.scheme_model.proofs.FrameStates.{FineState, Grows, grows_itself, grows_then}
-use Rattle.scheme_model.proofs.FrameLeaves.{TreeAll, tree_more, lift_tree, lifted_tree, Held, held_more}
-use Rattle.scheme_model.proofs.FrameAgrees.{Agrees, agree, break, Keeps, Same as BothSame}
-use Rattle.scheme_model.proofs.FrameHeld.{NoteAll, ItemHeld, ItemDistinct}
+use Rattle.scheme_model.proofs.FrameLeaves.{TreeAll, tree_more, lift_tree, lifted_tree, held_more}
+use Rattle.scheme_model.proofs.FrameAgrees.{agree, break, Same as BothSame}
+use Rattle.scheme_model.proofs.FrameHeld.{NoteAll, ItemHeld}
 use Rattle.scheme_model.proofs.FramePlaces.{Came, came, broke, Together}
 use Rattle.scheme_model.proofs.FrameForms.{forms_law}
 use Rattle.scheme_model.proofs.FrameUnit.{UnitLeaf, UnitPlace, UnitRule, UnitState, UnitInside, Noted, unit_facts, leaf_later}
-use Rattle.scheme_model.proofs.FrameUnits.{Aside, aside_seen, AsideMade, FormHeld, Passed, passed, forms_later, aside_law}
-use Rattle.scheme_model.proofs.CountedOps.{Setting, ToldBound, seen, Side, B, D, T, M, ident, at, define_cases, defined_seen, then_, then_holds, over, side, Goes, goes}
-use Rattle.scheme_model.proofs.CountedForms.{ToldItem, OkAll, pass_seen, left_seen, Ran, ran}
+use Rattle.scheme_model.proofs.FrameUnits.{Aside, AsideMade, FormHeld, passed, forms_later, aside_law}
+use Rattle.scheme_model.proofs.CountedOps.{Setting, seen, Side, B, D, T, M, ident, at, define_cases, defined_seen, then_, then_holds, over, side, goes}
+use Rattle.scheme_model.proofs.CountedForms.{ToldItem, OkAll, left_seen, Ran, ran}
 use Rattle.scheme_model.proofs.CountedRuns.{run_goes}
 use Rattle.scheme_model.proofs.CountedExpressions.{Same, parts_goes, expand_goes}
 use Rattle.scheme_model.proofs.CountedStates.{of_is, OfForm, Formed, told_by, Stand, rooted_stand, LocalsKept, Holds, form_setting, locals_later, form_begins}

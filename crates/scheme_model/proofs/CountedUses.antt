@@ -1,20 +1,20 @@
 -- Heads, targets, macro uses and counts: what the third side of counted expansion tells of them, each other side tells.
-use Rattle.std.proofs.Common.{◌≡◌, ℕ, zero, suc, ◌+◌, ◌-◌, List, [], ◌∷◌, map, Bool, true, false, cond, Option, Some, None, Result, Ok, Err, refl, sym, ap, ◌∙◌, subst}
+use Rattle.std.proofs.Common.{◌≡◌, ℕ, zero, suc, ◌+◌, ◌-◌, List, map, Bool, true, false, cond, Option, Some, None, refl, sym, ap, ◌∙◌, subst}
 use Rattle.std.specs.Prelude.{nat_lt, nat_le}
 use Rattle.scheme_model.specs.declared.Occ.{Occ}
 use Rattle.scheme_model.specs.Identifiers.{Number}
 use Rattle.scheme_model.specs.Ident.{Ident, Inserted}
-use Rattle.scheme_model.specs.Trees.{Tree, Trees, Tail, map_tree, map_trees, map_tail}
+use Rattle.scheme_model.specs.Trees.{Trees, Tail, map_tree, map_trees, map_tail}
 use Rattle.scheme_model.specs.ExpansionFaults.{Named, named_map, NodeBudget, UseBudget}
 use Rattle.scheme_model.specs.Keywords.{core_named, auxiliary_named}
 use Rattle.scheme_model.specs.Meaning.{Meaning, Local, Global, Standard, Free, Head, IsCore, IsAuxiliary, IsMacro, IsNone, macro_or_none, standard_head, head_as, same_meaning}
 use Rattle.scheme_model.specs.RulesShape.{rules_map, rule_map, role_of, dots_of, option_map}
 use Rattle.scheme_model.specs.Matching.{Chosen, matcher, first_match, compared}
-use Rattle.scheme_model.specs.Cores.{Target, MacroUse}
-use Rattle.scheme_model.specs.Steps.{Broken, Step, ◌>>=◌, done, fails}
+use Rattle.scheme_model.specs.Cores.{Target}
+use Rattle.scheme_model.specs.Steps.{Step, ◌>>=◌, done, fails}
 use Rattle.scheme_model.specs.Order.{Here, Transformer, Note, Compared, is_some, target_of, head_of, counting, comparisons, used, use_of, max_uses, max_nodes}
 use Rattle.scheme_model.specs.Expression.{node}
-use Rattle.scheme_model.specs.Substitution.{at_form, note_map}
+use Rattle.scheme_model.specs.Substitution.{note_map}
 use Rattle.scheme_model.specs.ScopedExpansion.{Frames, Place, ScopedState, next_number, means_at, macro_at}
 use Rattle.scheme_model.specs.Renaming.{chosen_map, pair_map}
 use Rattle.scheme_model.proofs.RenamingLaws.{Finds, finds, map_after, map_turned}
@@ -25,7 +25,7 @@ use Rattle.scheme_model.proofs.CompareLaws.{compared-map}
 use Rattle.scheme_model.proofs.IdentKinds.{rules_kind}
 use Rattle.scheme_model.proofs.FrameLeaves.{Held}
 use Rattle.scheme_model.proofs.FrameHeads.{IfMacro, HeadOf, head_is}
-use Rattle.scheme_model.proofs.CountedOps.{Setting, Side, B, D, T, M, ident, at, names_over, identifiers, told_names, insert_if, transformer_map, lift, transformer_if, over, side, Goes, goes, goes_at, goes_bind, goes_read}
+use Rattle.scheme_model.proofs.CountedOps.{Setting, Side, B, D, T, ident, at, names_over, identifiers, told_names, insert_if, transformer_map, lift, transformer_if, over, side, Goes, goes, goes_at, goes_bind, goes_read}
 
 head_same : (f g : Meaning → Bool) (m : Meaning) → f m ≡ g m → head_as f m ≡ head_as g m
 head_same f g (Local v) e = ap (λ t. macro_or_none t (Local v)) e
