@@ -24,7 +24,7 @@ use Rattle.scheme_model.specs.Prelude.{PreludeMacro, prelude}
 use Rattle.scheme_model.specs.Entries.{Entry}
 use Rattle.scheme_model.specs.Declarations.{UnitForm}
 use Rattle.scheme_model.specs.Program.{Document, known_in, units_of, prepare, Placed, Prepared, WholeFault, TooLarge, fault_before, SetResult, UnitResult, Progress, result_at, unit_entries, with_entries, form_trees, start_of, enough_turns, total, max_total, export_all, names_of_unit, broken_result, unit_result, expanded_unit, by_fault, is_ready, first_ready, worked, work, written_rules, is_standard, prelude_unit, prelude_entry, prelude_meaning, prelude_macro, prelude_definitions, progress_before, in_order, program_of}
-use Rattle.scheme_model.specs.ScopedProgram.{ScopedProgress, forms_over, scoped_start_of, scoped_unit_over, scoped_expanded, scoped_by_fault, scoped_worked, scoped_work, prelude_rules, scoped_prelude_macro, scoped_before, scoped_program_of, imaged_macro, imaged}
+use Rattle.scheme_model.specs.ScopedProgram.{ScopedProgress, forms_over, scoped_start_of, scoped_unit_over, numbered_unit_over, scoped_start_after, scoped_expanded, scoped_by_fault, scoped_worked, scoped_work, prelude_rules, scoped_prelude_macro, scoped_before, scoped_program_of, imaged_macro, imaged}
 use Rattle.scheme_model.proofs.RenamingLaws.{map_after}
 use Rattle.scheme_model.proofs.IdentKinds.{rules_kind, rules_fused}
 use Rattle.scheme_model.proofs.Clocks.{leq_itself}
@@ -409,3 +409,11 @@ pub program_law : (ds : List Document) → scoped_program_of ds ≡ program_of d
 program_law ds =
     let all = units_of ds in let ps = prepare all 0 all in
     ap (λ (g : Progress). record { units = in_order g.results 0 (length ps); table = g.table; entry = g.entry }) (progress_law all ps (known_in ds) (length ps))
+
+-- a unit by counts is the unit by whole numbers
+pub counts_law : (all : List Placed) (ps : List Prepared) (known : Known) (n : ℕ) (p : Prepared)
+    → let g = scoped_work all ps known n scoped_before in is_ready all ps g.results p ≡ true → scoped_unit_over known p (scoped_start_after all p g) ≡ numbered_unit_over known p (scoped_start_after all p g)
+counts_law all ps known n p ready =
+    let g = scoped_work all ps known n scoped_before in
+    let h = (work_gone all ps known n scoped_before between_before).between in
+    (told_same known g h p (not_done all ps known (done g.results p.number) _ ready) (unit_entries all g.results p) (unit_entries_fit all g.results h.exports p)).same
