@@ -1,4 +1,5 @@
--- Expansion by scopes where a local is told by its count alone, as a local of the form at work.
+-- Expansion by scopes where a local is told by its count alone, as one of the form at work. It differs from `ScopedExpansion` in
+-- nothing else, and comes to the same: see the law `locals_are_counted`.
 use Rattle.std.specs.Prelude.{Bool, Option, Result, Ok, Err, if◌then◌else◌}
 use Rattle.scheme_model.specs.Identifiers.{Number}
 use Rattle.scheme_model.specs.Ident.{Ident}
