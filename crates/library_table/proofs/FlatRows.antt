@@ -1,11 +1,12 @@
 -- Declarations as they are flattened.
-use Rattle.std.proofs.Common.{◌≡◌, ℕ, suc, ◌+◌, ◌<◌, ◌≤◌, List, [], ◌∷◌, ◌++◌, append_assoc, append-nil, length, map, get_or, drop, Bool, true, false, Option, Some, None, Result, Ok, Err, refl, sym, ap, ◌∙◌, subst, arith}
+use Rattle.std.proofs.Common.{◌≡◌, ℕ, suc, ◌+◌, ◌<◌, ◌≤◌, List, [], ◌∷◌, ◌++◌, append_assoc, append-nil, length, map, get_or, drop, Bool, true, false, cond, Option, Some, None, Result, Ok, Err, refl, sym, ap, ◌∙◌, subst, arith}
+use Rattle.std.specs.Prelude.{◌&&◌, not, if◌then◌else◌}
 use Rattle.std.specs.Result.{IsErrAnd}
 use Rattle.std.specs.Option.{is_some}
 use Rattle.std.proofs.lemmas.List.{drop_more, at_drop_all}
-use Rattle.scheme_model.specs.Data.{Datum, atom, list, vector, bytes, Data, none, part, tail, row}
+use Rattle.scheme_model.specs.Data.{Place, Datum, atom, list, vector, bytes, Data, none, part, tail, row}
 use Rattle.scheme_model.specs.Requirements.{Known}
-use Rattle.scheme_model.specs.Declarations.{UnitForm, Flat, declaration, declarations, plain_form, ◌>>=◌}
+use Rattle.scheme_model.specs.Declarations.{UnitForm, Flat, Declared, declared_by, declared_as, symbol_in, proper_parts, clauses, parts_or, all_export_parts, declaration, declarations, plain_form, ◌>>=◌}
 use Rattle.datum_reader.specs.declared.datum.Datum as code
 use Rattle.datum_reader.specs.Views.{datum_of, data_of}
 use Rattle.library_table.specs.declared.units.UnitForm as code_form
@@ -13,7 +14,8 @@ use Rattle.library_table.specs.declared.fault.LibraryFault.{LibraryFault}
 use Rattle.library_table.specs.declared.fault.LibraryFault.TheVariants as fault
 use Rattle.library_table.specs.Looks.{end_with, bytes_of}
 use Rattle.library_table.specs.UnitsRead.{forms_of}
-use Rattle.library_table.specs.Flattened.{Flattens}
+use Rattle.library_table.specs.Flattened.{Flattens, kept}
+use Rattle.library_table.proofs.DataRows.{dotted_parts, proper_all}
 
 -- ---- faults that are passed on
 
@@ -95,3 +97,32 @@ module _ (known : Known) (whole : Datum) (ds : List code.Datum) (end : Option Da
       dotted_end : (o : Option Datum) → is_some o ≡ true → declarations known whole (end_with o) ≡ Err whole
       dotted_end None q = absurd cc
       dotted_end (Some d) q = refl
+
+-- ---- declarations by their kinds
+
+declare_same : (known : Known) (whole : Datum) (p : Place) (h : Datum) (ds : Data) (k : Declared) → whole ≡ list p (part h ds) → k ≡ declared_by (symbol_in h) → declaration known whole ≡ declared_as known k whole (proper_parts ds) (clauses known whole ds)
+declare_same known whole p h ds k q e = ap (declaration known) q ∙ (λ j. declared_as known (sym e j) (sym q j) (proper_parts ds) (clauses known (sym q j) ds))
+
+pub declared_list : (known : Known) (whole : Datum) (p : Place) (ds : List code.Datum) (h : code.Datum) (rest : List code.Datum) (end : Option Datum) (k : Declared) → whole ≡ list p (row (data_of ds) (end_with end)) → ds ≡ h ∷ rest → k ≡ declared_by (symbol_in (datum_of h)) →
+    declaration known whole ≡ declared_as known k whole (proper_parts (row (data_of rest) (end_with end))) (clauses known whole (row (data_of rest) (end_with end)))
+declared_list known whole p ds h rest end k q is e =
+    declare_same known whole p (datum_of h) (row (data_of rest) (end_with end)) k (q ∙ ap (λ (xs : List code.Datum). list p (row (data_of xs) (end_with end))) is) e
+
+-- what an import, an inclusion and an export give
+abbrev pub import_of : Datum → Option (List Datum) → Flat
+import_of d parts = parts_or d parts >>= λ ds. Ok (record { datum = d; declared = true } ∷ [])
+
+abbrev pub export_of : Datum → Option (List Datum) → Flat
+export_of d parts = parts_or d parts >>= λ ds. if all_export_parts ds then Ok (record { datum = d; declared = true } ∷ []) else Err d
+
+pub kept_plain : (d : Datum) (ds : List Datum) (end : Option Datum) (b : Bool) → is_some end ≡ b → import_of d (proper_parts (row ds (end_with end))) ≡ kept b d
+kept_plain d ds end true e = ap (import_of d) (dotted_parts ds end e)
+kept_plain d ds end false e = ap (import_of d) (proper_all ds end e)
+
+pub kept_exports : (d : Datum) (ds : List Datum) (end : Option Datum) (b c : Bool) → is_some end ≡ b → c ≡ (not b && all_export_parts ds) → export_of d (proper_parts (row ds (end_with end))) ≡ kept (not c) d
+kept_exports d ds end true c e h = ap (export_of d) (dotted_parts ds end e) ∙ ap (λ x. kept (not x) d) (sym h)
+kept_exports d ds end false c e h = ap (export_of d) (proper_all ds end e) ∙ go (all_export_parts ds) ∙ ap (λ x. kept (not x) d) (sym h)
+  where
+    go : (b : Bool) → cond b (Ok (record { datum = d; declared = true } ∷ [])) (Err d) ≡ kept (not b) d
+    go true = refl
+    go false = refl
