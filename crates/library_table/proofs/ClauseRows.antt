@@ -127,3 +127,22 @@ some_same known whole d ds = go (clause_of known whole (datum_of d)) (clauses kn
     go (Err f) cs = refl
     go (Ok x) (Err f) = refl
     go (Ok x) (Ok xs) = refl
+
+abbrev pub all_chosen : Known → Datum → Data → Result Flat Datum
+all_chosen known whole ds = clauses known whole ds >>= some_clauses whole >>= chosen_clause known whole
+
+clauses_dotted : (known : Known) (whole : Datum) (ds : List code.Datum) (end : Option Datum) → is_some end ≡ true → clauses known whole (row (data_of ds) (end_with end)) ≡ Err whole
+clauses_dotted known whole [] None h = absurd cc
+clauses_dotted known whole [] (Some d) h = refl
+clauses_dotted known whole (d ∷ ds) end h = go (clause_of known whole (datum_of d)) refl (clauses known whole (row (data_of ds) (end_with end))) (clauses_dotted known whole ds end h)
+  where
+    go : (c : Result Clause Datum) → clause_of known whole (datum_of d) ≡ c → (cs : Result (List Clause) Datum) → cs ≡ Err whole → and_clauses c cs ≡ Err whole
+    go (Err f) p cs q = ap Err (clause_bad known whole (datum_of d) f p)
+    go (Ok x) p cs q = ap (and_clauses (Ok x)) q
+
+pub chooses_dotted : (known : Known) (whole : Datum) (ds : List code.Datum) (end : Option Datum) → is_some end ≡ true → all_chosen known whole (row (data_of ds) (end_with end)) ≡ Err whole
+chooses_dotted known whole ds end h = ap (λ (r : Result (List Clause) Datum). r >>= some_clauses whole >>= chosen_clause known whole) (clauses_dotted known whole ds end h)
+
+pub chooses_empty : (known : Known) (whole : Datum) (ds : List code.Datum) (end : Option Datum) → is_some end ≡ false → ds ≡ [] → all_chosen known whole (row (data_of ds) (end_with end)) ≡ Err whole
+chooses_empty known whole ds None h e = ap (λ (xs : List code.Datum). all_chosen known whole (row (data_of xs) none)) e
+chooses_empty known whole ds (Some d) h e = absurd cc
