@@ -21,3 +21,6 @@ mod DataRows
 mod Gathering
 mod ExportRows
 mod ProgramRows
+mod RequirementRows
+mod FlatRows
+mod ClauseRows

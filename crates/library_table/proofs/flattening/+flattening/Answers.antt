@@ -1,0 +1,68 @@
+use Rattle.std.proofs.Common.{◌+◌, Ok, None, List, drop, refl, sym, ap, ◌∙◌, arith}
+use Rattle.std.specs.Prelude.{not}
+use Rattle.scheme_model.specs.Data.{place_of, row, none}
+use Rattle.scheme_model.specs.Declarations.{declaration, declarations, declared_as, proper_parts, clauses, flat_of}
+use Rattle.datum_reader.specs.Views.{datum_of, data_of}
+use Rattle.library_table.specs.Looks.{end_with}
+use Rattle.library_table.specs.PartsRead.{knows}
+use Rattle.library_table.specs.Flattened.{kept, is_declared, choice_of}
+use Rattle.library_table.proofs.SetRows.{parts_lighter}
+use Rattle.library_table.proofs.RequirementRows.{item_lighter}
+use Rattle.library_table.proofs.FlatRows.{flattens_err, bad_flattens, flattens_same, flat_none, flat_more, flat_fails, flat_all, flat_dotted, declared_list, kept_plain, kept_exports}
+use Rattle.library_table.proofs.flattening.+flattening.Goals as goal
+
+pub declaration-list_declaration-requires : goal.declaration-list_declaration-requires
+declaration-list_declaration-requires t c = (omega (arith, parts_lighter c.in-List.parts.now c.in-List.dotted (datum_of c.args.datum.now) c.in-List.ensures), c.in-List.ensures)
+
+pub list_declaration-returns-in-Parts : goal.list_declaration-returns-in-Parts
+list_declaration-returns-in-Parts t c = λ all k.
+    let d = datum_of c.args.datum.now in
+    let l = c.requires in
+    let r = row (data_of c.in-Parts.rest.now) (end_with l.0) in
+    flattens_same c.args.forms.now.items c.declare.new.forms.items c.declare.result (declared_as (knows all) (is_declared c.declared_for-kind.result) d (proper_parts r) (clauses (knows all) d r)) (declaration (knows all) d)
+    (declared_list (knows all) d (place_of d) c.args.parts.now c.in-Parts.head.now c.in-Parts.rest.now l.0 (is_declared c.declared_for-kind.result) l.1 c.in-Parts.ensures c.declared_for-kind.ensures) (c.declare.ensures all k l.0 (sym l.2))
+
+pub declarations-loop-part-init : goal.declarations-loop-part-init
+declarations-loop-part-init t c = λ all k end e. flat_none (knows all) (datum_of c.args.whole.now) c.args.parts.now end c.args.forms.now.items
+
+pub declarations-declaration-requires : goal.declarations-declaration-requires
+declarations-declaration-requires t c = (omega (arith, item_lighter c.args.parts.now c.loop-part.part-index c.part-item.result (omega arith) c.part-item.is), tt)
+
+pub declarations-returns-in_err-declaration : goal.declarations-returns-in_err-declaration
+declarations-returns-in_err-declaration t c = λ all k end e.
+    let w = datum_of c.args.whole.now in
+    let ds = c.args.parts.now in
+    let i = c.loop-part.part-index in
+    let d = c.part-item.result in
+    flattens_err c.loop-part.forms.items c.declaration.new.forms.items c.args.forms.now.items c.declaration.new.forms.items c.from_residual.result c.in_err-declaration.field-0.0 (declaration (knows all) (datum_of d))
+    (declarations (knows all) w (row (data_of ds) (end_with end))) c.from_residual.ensures.1 (c.in_err-declaration.ensures all k)
+    (λ f h. flat_fails (knows all) w ds end i d c.args.forms.now.items c.loop-part.forms.items (omega arith) c.part-item.is (c.loop-part.invariant all k end e) f h)
+
+pub declarations-loop-part-preserved : goal.declarations-loop-part-preserved
+declarations-loop-part-preserved t c = λ all k end e.
+    flat_more (knows all) (datum_of c.args.whole.now) c.args.parts.now end c.loop-part.part-index c.part-item.result c.args.forms.now.items c.loop-part.forms.items c.declaration.new.forms.items (omega arith) c.part-item.is (c.loop-part.invariant all k end e)
+    (c.in_ok-declaration.ensures all k)
+
+pub declarations-returns-then-dotted : goal.declarations-returns-then-dotted
+declarations-returns-then-dotted t c = λ all k end e.
+    let w = datum_of c.args.whole.now in
+    let ds = c.args.parts.now in
+    bad_flattens c.args.forms.now.items c.loop-part.forms.items c.bad.result w (declarations (knows all) w (row (data_of ds) (end_with end))) c.bad.ensures
+    (flat_dotted (knows all) w ds end c.loop-part.part-index c.args.forms.now.items c.loop-part.forms.items (omega arith) (c.loop-part.invariant all k end e) (e ∙ c.if-dotted.true))
+
+pub declarations-returns : goal.declarations-returns
+declarations-returns t c = λ all k end e.
+    flat_all (knows all) (datum_of c.args.whole.now) c.args.parts.now end c.loop-part.part-index c.args.forms.now.items c.loop-part.forms.items (omega arith) (c.loop-part.invariant all k end e) (e ∙ c.if-dotted.false)
+
+pub choice-returns-in-Ok : goal.choice-returns-in-Ok
+choice-returns-in-Ok t c = λ all k end e.
+    let d = datum_of c.args.datum.now in
+    let r = row (data_of c.args.rest.now) (end_with end) in
+    flattens_same c.args.forms.now.items c.declarations.new.forms.items c.declarations.result (declarations (knows all) d (row (data_of c.in-Ok.parts.now) none)) (choice_of (knows all) d r) (ap flat_of (c.in-Ok.ensures.whole all k d end e))
+    (c.declarations.ensures all k None refl)
+
+pub choice-returns-in-Err-BadForm : goal.choice-returns-in-Err-BadForm
+choice-returns-in-Err-BadForm t c = λ all k end e.
+    let d = datum_of c.args.datum.now in
+    let r = row (data_of c.args.rest.now) (end_with end) in
+    bad_flattens c.args.forms.now.items c.args.forms.now.items c.bad.result d (choice_of (knows all) d r) c.bad.ensures (ap flat_of (c.in-Err-BadForm.ensures.whole all k d end e))
