@@ -4,7 +4,7 @@ use Rattle.std.specs.Prelude.{◌&&◌, not, if◌then◌else◌}
 use Rattle.std.specs.Result.{IsErrAnd}
 use Rattle.std.specs.Option.{is_some}
 use Rattle.std.proofs.lemmas.List.{drop_more, at_drop_all}
-use Rattle.scheme_model.specs.Data.{Place, Datum, atom, list, vector, bytes, Data, none, part, tail, row}
+use Rattle.scheme_model.specs.Data.{Place, place_of, Datum, atom, list, vector, bytes, Data, none, part, tail, row}
 use Rattle.scheme_model.specs.Requirements.{Known}
 use Rattle.scheme_model.specs.Declarations.{UnitForm, Flat, Declared, declared_by, declared_as, symbol_in, proper_parts, clauses, parts_or, all_export_parts, declaration, declarations, plain_form, ◌>>=◌}
 use Rattle.datum_reader.specs.declared.datum.Datum as code
@@ -12,7 +12,7 @@ use Rattle.datum_reader.specs.Views.{datum_of, data_of}
 use Rattle.library_table.specs.declared.units.UnitForm as code_form
 use Rattle.library_table.specs.declared.fault.LibraryFault.{LibraryFault}
 use Rattle.library_table.specs.declared.fault.LibraryFault.TheVariants as fault
-use Rattle.library_table.specs.Looks.{end_with, bytes_of}
+use Rattle.library_table.specs.Looks.{end_with, bytes_of, is_other, IsListOf}
 use Rattle.library_table.specs.UnitsRead.{forms_of}
 use Rattle.library_table.specs.Flattened.{Flattens, kept}
 use Rattle.library_table.proofs.DataRows.{dotted_parts, proper_all}
@@ -126,3 +126,21 @@ kept_exports d ds end false c e h = ap (export_of d) (proper_all ds end e) ∙ g
     go : (b : Bool) → cond b (Ok (record { datum = d; declared = true } ∷ [])) (Err d) ≡ kept (not b) d
     go true = refl
     go false = refl
+
+-- ---- data that are no declarations
+
+pub atom_flat : (known : Known) (d e : Datum) → d ≡ e → declaration known e ≡ Err e → declaration known d ≡ Err d
+atom_flat known d e is h = subst (λ (x : Datum). declaration known x ≡ Err x) (sym is) h
+
+pub other_flat : (known : Known) (d : Datum) → is_other d ≡ true → declaration known d ≡ Err d
+other_flat known (atom p a) h = refl
+other_flat known (list p ds) h = absurd cc
+other_flat known (vector p ds) h = refl
+other_flat known (bytes p bs) h = refl
+
+pub empty_flat : (known : Known) (d : Datum) (ds : List code.Datum) (b : Bool) → IsListOf ds b d → ds ≡ [] → declaration known d ≡ Err d
+empty_flat known d ds b l e = subst (λ (x : Datum). declaration known x ≡ Err x) (sym (l.1 ∙ ap (λ (xs : List code.Datum). list (place_of d) (row (data_of xs) (end_with l.0))) e)) (go (place_of d) l.0)
+  where
+    go : (p : Place) (end : Option Datum) → declaration known (list p (end_with end)) ≡ Err (list p (end_with end))
+    go p None = refl
+    go p (Some t) = refl

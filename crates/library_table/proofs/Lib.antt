@@ -24,3 +24,5 @@ mod ProgramRows
 mod RequirementRows
 mod FlatRows
 mod ClauseRows
+mod ChoiceRows
+mod LibraryRows

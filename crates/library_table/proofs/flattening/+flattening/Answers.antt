@@ -1,14 +1,15 @@
-use Rattle.std.proofs.Common.{◌+◌, Ok, None, List, drop, refl, sym, ap, ◌∙◌, arith}
+use Rattle.std.proofs.Common.{◌+◌, ◌<◌, Ok, None, List, drop, refl, sym, ap, ◌∙◌, arith}
 use Rattle.std.specs.Prelude.{not}
 use Rattle.scheme_model.specs.Data.{place_of, row, none}
 use Rattle.scheme_model.specs.Declarations.{declaration, declarations, declared_as, proper_parts, clauses, flat_of}
 use Rattle.datum_reader.specs.Views.{datum_of, data_of}
 use Rattle.library_table.specs.Looks.{end_with}
 use Rattle.library_table.specs.PartsRead.{knows}
-use Rattle.library_table.specs.Flattened.{kept, is_declared, choice_of}
-use Rattle.library_table.proofs.SetRows.{parts_lighter}
+use Rattle.library_table.specs.Flattened.{kept, is_declared, begun_of, choice_of}
+use Rattle.library_table.specs.declared.flattening.Declared.{Declared}
+use Rattle.library_table.proofs.SetRows.{parts_lighter, first_lighter}
 use Rattle.library_table.proofs.RequirementRows.{item_lighter}
-use Rattle.library_table.proofs.FlatRows.{flattens_err, bad_flattens, flattens_same, flat_none, flat_more, flat_fails, flat_all, flat_dotted, declared_list, kept_plain, kept_exports}
+use Rattle.library_table.proofs.FlatRows.{flattens_err, bad_flattens, flattens_same, flat_none, flat_more, flat_fails, flat_all, flat_dotted, declared_list, kept_plain, kept_exports, atom_flat, other_flat, empty_flat}
 use Rattle.library_table.proofs.flattening.+flattening.Goals as goal
 
 pub declaration-list_declaration-requires : goal.declaration-list_declaration-requires
@@ -66,3 +67,85 @@ choice-returns-in-Err-BadForm t c = λ all k end e.
     let d = datum_of c.args.datum.now in
     let r = row (data_of c.args.rest.now) (end_with end) in
     bad_flattens c.args.forms.now.items c.args.forms.now.items c.bad.result d (choice_of (knows all) d r) c.bad.ensures (ap flat_of (c.in-Err-BadForm.ensures.whole all k d end e))
+
+pub declaration-returns-in-Name : goal.declaration-returns-in-Name
+declaration-returns-in-Name t c = λ all k.
+    let d = datum_of c.args.datum.now in
+    let fs = c.args.forms.now.items in
+    bad_flattens fs fs c.bad.result d (declaration (knows all) d) c.bad.ensures (atom_flat (knows all) d _ c.in-Name.ensures.2 refl)
+
+pub declaration-returns-in-Implied : goal.declaration-returns-in-Implied
+declaration-returns-in-Implied t c = λ all k.
+    let d = datum_of c.args.datum.now in
+    let fs = c.args.forms.now.items in
+    bad_flattens fs fs c.bad-in-Implied.result d (declaration (knows all) d) c.bad-in-Implied.ensures (atom_flat (knows all) d _ c.in-Implied.ensures.1 refl)
+
+pub declaration-returns-in-Numeral : goal.declaration-returns-in-Numeral
+declaration-returns-in-Numeral t c = λ all k.
+    let d = datum_of c.args.datum.now in
+    let fs = c.args.forms.now.items in
+    bad_flattens fs fs c.bad-in-Numeral.result d (declaration (knows all) d) c.bad-in-Numeral.ensures (atom_flat (knows all) d _ c.in-Numeral.ensures.1 refl)
+
+pub declaration-returns-in-Other : goal.declaration-returns-in-Other
+declaration-returns-in-Other t c = λ all k.
+    let d = datum_of c.args.datum.now in
+    let fs = c.args.forms.now.items in
+    bad_flattens fs fs c.bad-in-Other.result d (declaration (knows all) d) c.bad-in-Other.ensures (other_flat (knows all) d c.in-Other.ensures)
+
+pub list_declaration-returns-in-Empty : goal.list_declaration-returns-in-Empty
+list_declaration-returns-in-Empty t c = λ all k.
+    let d = datum_of c.args.datum.now in
+    let fs = c.args.forms.now.items in
+    bad_flattens fs fs c.bad.result d (declaration (knows all) d) c.bad.ensures (empty_flat (knows all) d c.args.parts.now c.args.dotted c.requires c.in-Empty.ensures)
+
+pub list_declaration-declare-requires : goal.list_declaration-declare-requires
+list_declaration-declare-requires t c = (let l = first_lighter c.args.parts.now c.in-Parts.head.now c.in-Parts.rest.now c.in-Parts.ensures in omega (arith, l.1), tt)
+
+pub declare-returns-in-Exports : goal.declare-returns-in-Exports
+declare-returns-in-Exports t c = λ all k end e.
+    let d = datum_of c.args.datum.now in
+    let ds = data_of c.args.rest.now in
+    let r = row ds (end_with end) in
+    flattens_same c.args.forms.now.items c.keep.new.forms.items c.keep.result (kept (not c.exports.result) d) (declared_as (knows all) (is_declared c.args.kind) d (proper_parts r) (clauses (knows all) d r))
+    (ap (λ (x : Declared). declared_as (knows all) (is_declared x) d (proper_parts r) (clauses (knows all) d r)) c.in-Exports.is ∙ kept_exports d ds end c.args.dotted c.exports.result e c.exports.ensures) c.keep.ensures
+
+pub declare-returns-in-Imports : goal.declare-returns-in-Imports
+declare-returns-in-Imports t c = λ all k end e.
+    let d = datum_of c.args.datum.now in
+    let ds = data_of c.args.rest.now in
+    let r = row ds (end_with end) in
+    flattens_same c.args.forms.now.items c.keep-in-Imports.new.forms.items c.keep-in-Imports.result (kept c.args.dotted d) (declared_as (knows all) (is_declared c.args.kind) d (proper_parts r) (clauses (knows all) d r))
+    (ap (λ (x : Declared). declared_as (knows all) (is_declared x) d (proper_parts r) (clauses (knows all) d r)) c.in-Imports.is ∙ kept_plain d ds end c.args.dotted e) c.keep-in-Imports.ensures
+
+pub declare-returns-in-Begins : goal.declare-returns-in-Begins
+declare-returns-in-Begins t c = λ all k end e.
+    let d = datum_of c.args.datum.now in
+    let r = row (data_of c.args.rest.now) (end_with end) in
+    flattens_same c.args.forms.now.items c.begun.new.forms.items c.begun.result (begun_of d (proper_parts r)) (declared_as (knows all) (is_declared c.args.kind) d (proper_parts r) (clauses (knows all) d r))
+    (ap (λ (x : Declared). declared_as (knows all) (is_declared x) d (proper_parts r) (clauses (knows all) d r)) c.in-Begins.is) (c.begun.ensures end e)
+
+pub declare-returns-in-Chooses : goal.declare-returns-in-Chooses
+declare-returns-in-Chooses t c = λ all k end e.
+    let d = datum_of c.args.datum.now in
+    let r = row (data_of c.args.rest.now) (end_with end) in
+    flattens_same c.args.forms.now.items c.choice.new.forms.items c.choice.result (choice_of (knows all) d r) (declared_as (knows all) (is_declared c.args.kind) d (proper_parts r) (clauses (knows all) d r))
+    (ap (λ (x : Declared). declared_as (knows all) (is_declared x) d (proper_parts r) (clauses (knows all) d r)) c.in-Chooses.is) (c.choice.ensures all k end e)
+
+pub declare-returns-in-Includes : goal.declare-returns-in-Includes
+declare-returns-in-Includes t c = λ all k end e.
+    let d = datum_of c.args.datum.now in
+    let ds = data_of c.args.rest.now in
+    let r = row ds (end_with end) in
+    flattens_same c.args.forms.now.items c.keep-in-Includes.new.forms.items c.keep-in-Includes.result (kept c.args.dotted d) (declared_as (knows all) (is_declared c.args.kind) d (proper_parts r) (clauses (knows all) d r))
+    (ap (λ (x : Declared). declared_as (knows all) (is_declared x) d (proper_parts r) (clauses (knows all) d r)) c.in-Includes.is ∙ kept_plain d ds end c.args.dotted e) c.keep-in-Includes.ensures
+
+pub declare-returns-in-Undeclared : goal.declare-returns-in-Undeclared
+declare-returns-in-Undeclared t c = λ all k end e.
+    let d = datum_of c.args.datum.now in
+    let r = row (data_of c.args.rest.now) (end_with end) in
+    let fs = c.args.forms.now.items in
+    bad_flattens fs fs c.bad.result d (declared_as (knows all) (is_declared c.args.kind) d (proper_parts r) (clauses (knows all) d r)) c.bad.ensures
+    (ap (λ (x : Declared). declared_as (knows all) (is_declared x) d (proper_parts r) (clauses (knows all) d r)) c.in-Undeclared.is)
+
+pub choice-declarations-requires : goal.choice-declarations-requires
+choice-declarations-requires t c = (omega (arith, c.in-Ok.ensures.smaller), tt)
