@@ -1,12 +1,13 @@
-use Rattle.std.proofs.Common.{◌+◌, ◌<◌, Ok, None, List, drop, refl, sym, ap, ◌∙◌, arith}
+use Rattle.std.proofs.Common.{◌+◌, ◌<◌, Ok, Err, None, List, drop, refl, sym, ap, ◌∙◌, subst, arith}
 use Rattle.std.specs.Prelude.{not}
 use Rattle.scheme_model.specs.Data.{place_of, row, none}
 use Rattle.scheme_model.specs.Declarations.{declaration, declarations, declared_as, proper_parts, clauses, flat_of}
 use Rattle.datum_reader.specs.Views.{datum_of, data_of}
 use Rattle.library_table.specs.Looks.{end_with}
 use Rattle.library_table.specs.PartsRead.{knows}
-use Rattle.library_table.specs.Flattened.{kept, is_declared, begun_of, choice_of}
+use Rattle.library_table.specs.Flattened.{Chooses, kept, is_declared, begun_of, choice_of}
 use Rattle.library_table.specs.declared.flattening.Declared.{Declared}
+use Rattle.library_table.specs.declared.shape_fault.ShapeFault.{ShapeFault}
 use Rattle.library_table.proofs.SetRows.{parts_lighter, first_lighter}
 use Rattle.library_table.proofs.RequirementRows.{item_lighter}
 use Rattle.library_table.proofs.FlatRows.{flattens_err, bad_flattens, flattens_same, flat_none, flat_more, flat_fails, flat_all, flat_dotted, declared_list, kept_plain, kept_exports, atom_flat, other_flat, empty_flat}
@@ -66,7 +67,7 @@ pub choice-returns-in-Err-BadForm : goal.choice-returns-in-Err-BadForm
 choice-returns-in-Err-BadForm t c = λ all k end e.
     let d = datum_of c.args.datum.now in
     let r = row (data_of c.args.rest.now) (end_with end) in
-    bad_flattens c.args.forms.now.items c.args.forms.now.items c.bad.result d (choice_of (knows all) d r) c.bad.ensures (ap flat_of (c.in-Err-BadForm.ensures.whole all k d end e))
+    bad_flattens c.args.forms.now.items c.args.forms.now.items c.bad.result d (choice_of (knows all) d r) c.bad.ensures (ap flat_of (subst (λ (f : ShapeFault). Chooses (knows all) d (Err f) r) c.in-Err-BadForm.field-0-is (c.in-Err-BadForm.ensures.whole all k d end e)))
 
 pub declaration-returns-in-Name : goal.declaration-returns-in-Name
 declaration-returns-in-Name t c = λ all k.

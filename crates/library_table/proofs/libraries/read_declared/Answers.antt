@@ -23,6 +23,6 @@ returns c = λ all k end e n same.
     let d = datum_of c.args.datum.now in
     let fs = c.declarations.new.forms.items in
     let flat = declarations (knows all) d (row (data_of c.args.rest.now) (end_with end)) in
-    library_read u d n flat c.new-forms.result.items fs c.from_vec-forms.result c.args.name c.first_token.result c.in_ok-imports.imports c.in_ok-exports.exports c.new-forms.ensures (c.in_ok-declarations.ensures all k end e) same c.first_token.ensures
+    library_read u d n flat c.new-forms.result.items fs c.from_vec-forms.result c.args.name c.first_token.result c.in_ok-imports.imports c.in_ok-exports.exports c.new-forms.ensures.items (c.in_ok-declarations.ensures all k end e) same c.first_token.ensures
     (subst (λ (xs : List UnitForm). AreSpecs c.in_ok-imports.imports (specs_from u 0 (forms_of xs))) c.as_slice.ensures.value c.in_ok-imports.ensures)
     (subst (λ (xs : List UnitForm). AreExportsRead c.in_ok-exports.exports (exports_from u 0 (forms_of xs))) c.as_slice-2.ensures.value c.in_ok-exports.ensures) c.from_vec-forms.ensures
