@@ -8,7 +8,7 @@ use Rattle.std.proofs.lemmas.Bool.{eqb-true, eqb-false}
 use Rattle.scheme_model.specs.Data.{Datum, Data, none, row}
 use Rattle.scheme_model.specs.Trees.{Trees}
 use Rattle.scheme_model.specs.Requirements.{Known, clause_holds}
-use Rattle.scheme_model.specs.Declarations.{Flat, Clause, clause_of, picked, symbol_tree, declarations, ◌>>=◌}
+use Rattle.scheme_model.specs.Declarations.{Flat, clause_of, picked, symbol_tree, declarations, ◌>>=◌}
 use Rattle.datum_reader.specs.declared.datum.Datum as code
 use Rattle.datum_reader.specs.Views.{datum_of, data_of}
 use Rattle.library_table.specs.declared.flattening.Clause as code_clause
@@ -18,10 +18,10 @@ use Rattle.library_table.specs.Looks.{end_with}
 use Rattle.library_table.specs.PartsRead.{Fails}
 use Rattle.library_table.specs.Chosen.{is_empty}
 use Rattle.library_table.specs.Flattened.{clause_with, IsClause, OrFirst, Chooses}
-use Rattle.library_table.specs.Weights.{weight, row_weight}
+use Rattle.library_table.specs.Weights.{row_weight}
 use Rattle.library_table.proofs.RequirementRows.{item_lighter}
 use Rattle.library_table.proofs.SetRows.{first_lighter}
-use Rattle.library_table.proofs.ClauseRows.{picks, chosen_of, all_chosen, ChosenUpTo, IsLighter, is_nil, bad_clause, bad_requirement, good_requirement, some_same}
+use Rattle.library_table.proofs.ClauseRows.{picks, chosen_of, all_chosen, ChosenUpTo, IsLighter, is_nil, bad_requirement, good_requirement, some_same}
 
 -- ---- the last clause
 
@@ -62,10 +62,6 @@ picks_more known whole None false es q r h = taken r ∙ ap (λ (p : Option (Bor
 module _ (known : Known) (whole : Datum) (ds : List code.Datum) (i : ℕ) (d : code.Datum) (o : Option (Bor (List code.Datum))) (lt : i < length ds) (is : d ≡ get_or ds i d) (so_far : ChosenUpTo known whole ds i o) where
   front : chosen_of known whole (drop i ds) ≡ chosen_of known whole (d ∷ drop (i + 1) ds)
   front = ap (chosen_of known whole) (drop_more ds i d lt ∙ ap (λ (x : code.Datum). x ∷ drop (i + 1) ds) (sym is))
-
-  -- a clause without its shape
-  pub clause_stops : clause_of known whole (datum_of d) ≡ Err whole → chosen_of known whole ds ≡ Err whole
-  clause_stops h = so_far ∙ picks_bad known whole o (chosen_of known whole (drop i ds)) (front ∙ bad_clause known whole d (drop (i + 1) ds) h)
 
   module _ (r : code.Datum) (fs : List code.Datum) (here : clause_of known whole (datum_of d) ≡ Ok (clause_with known whole r fs)) where
     -- a requirement without its shape

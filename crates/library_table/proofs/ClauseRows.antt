@@ -1,8 +1,7 @@
 -- The clauses of `cond-expand` as they are read: the first that holds is chosen.
-use Rattle.std.proofs.Common.{◌≡◌, ℕ, suc, zero, ◌+◌, ◌<◌, ◌≤◌, List, [], ◌∷◌, length, get_or, drop, Bool, true, false, Option, Some, None, Result, Ok, Err, refl, sym, ap, ◌∙◌, subst, arith}
+use Rattle.std.proofs.Common.{◌≡◌, ℕ, suc, ◌+◌, ◌<◌, List, [], ◌∷◌, drop, Bool, true, false, Option, Some, None, Result, Ok, Err, refl, sym, ap, ◌∙◌, arith}
 use Rattle.std.specs.Borrow.{Bor}
 use Rattle.std.specs.Option.{is_some}
-use Rattle.std.proofs.lemmas.List.{drop_more, at_drop_all}
 use Rattle.scheme_model.specs.Data.{Place, Datum, atom, list, vector, bytes, Data, none, part, tail, row}
 use Rattle.scheme_model.specs.Trees.{Trees}
 use Rattle.scheme_model.specs.ExpansionFaults.{BadForm}
@@ -13,7 +12,7 @@ use Rattle.datum_reader.specs.Views.{datum_of, data_of}
 use Rattle.library_table.specs.Looks.{end_with}
 use Rattle.library_table.proofs.DataRows.{dotted_parts, proper_all}
 use Rattle.library_table.specs.Chosen.{is_empty}
-use Rattle.library_table.specs.Flattened.{clause_with, OrFirst}
+use Rattle.library_table.specs.Flattened.{clause_with}
 use Rattle.library_table.specs.Weights.{weight, row_weight}
 
 -- what these forms come to, if they were chosen
@@ -77,10 +76,6 @@ clauses_later known whole (d ∷ ds) [] h = go (clause_of known whole (datum_of 
     go (Ok x) (Ok xs) k = absurd cc
 
 module _ (known : Known) (whole : Datum) (d : code.Datum) (ds : List code.Datum) where
-  -- a clause without its shape
-  pub bad_clause : clause_of known whole (datum_of d) ≡ Err whole → chosen_of known whole (d ∷ ds) ≡ Err whole
-  bad_clause h = ap (λ r. (r >>= λ x. clauses known whole (row (data_of ds) none) >>= λ xs. Ok (x ∷ xs)) >>= chosen_clause known whole) h
-
   module _ (k : Clause) (here : clause_of known whole (datum_of d) ≡ Ok k) where
     split : chosen_of known whole (d ∷ ds) ≡ ((clauses known whole (row (data_of ds) none) >>= λ xs. Ok (k ∷ xs)) >>= chosen_clause known whole)
     split = ap (λ r. (r >>= λ x. clauses known whole (row (data_of ds) none) >>= λ xs. Ok (x ∷ xs)) >>= chosen_clause known whole) here
@@ -143,6 +138,3 @@ clauses_dotted known whole (d ∷ ds) end h = go (clause_of known whole (datum_o
 pub chooses_dotted : (known : Known) (whole : Datum) (ds : List code.Datum) (end : Option Datum) → is_some end ≡ true → all_chosen known whole (row (data_of ds) (end_with end)) ≡ Err whole
 chooses_dotted known whole ds end h = ap (λ (r : Result (List Clause) Datum). r >>= some_clauses whole >>= chosen_clause known whole) (clauses_dotted known whole ds end h)
 
-pub chooses_empty : (known : Known) (whole : Datum) (ds : List code.Datum) (end : Option Datum) → is_some end ≡ false → ds ≡ [] → all_chosen known whole (row (data_of ds) (end_with end)) ≡ Err whole
-chooses_empty known whole ds None h e = ap (λ (xs : List code.Datum). all_chosen known whole (row (data_of xs) none)) e
-chooses_empty known whole ds (Some d) h e = absurd cc

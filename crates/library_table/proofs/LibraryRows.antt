@@ -1,12 +1,11 @@
 -- The library that a datum is, by its parts.
-use Rattle.std.proofs.Common.{◌≡◌, ℕ, List, [], ◌∷◌, ◌++◌, Bool, true, false, Option, Some, None, Result, Ok, Err, refl, sym, ap, ◌∙◌, subst}
+use Rattle.std.proofs.Common.{◌≡◌, ℕ, List, [], ◌∷◌, ◌++◌, Bool, true, Option, Some, None, Result, Ok, Err, refl, sym, ap, ◌∙◌, subst}
 use Rattle.std.specs.Result.{IsErrAnd}
-use Rattle.std.proofs.lemmas.Option.{same_Some}
 use Rattle.ls_base.specs.declared.places.Span.{Span}
-use Rattle.scheme_model.specs.Data.{Place, Datum, atom, list, vector, bytes, Data, none, part, tail, row, place_of}
+use Rattle.scheme_model.specs.Data.{Place, Datum, atom, list, vector, bytes, Data, part, row, place_of}
 use Rattle.scheme_model.specs.ExpansionFaults.{Fault}
 use Rattle.scheme_model.specs.Requirements.{Known, LibraryName, library_name_of}
-use Rattle.scheme_model.specs.Declarations.{UnitForm, UnitSource, IsLibrary, Flat, library_of, library_with, behind_head, name_or, no_name, symbol_tree, declarations}
+use Rattle.scheme_model.specs.Declarations.{UnitSource, IsLibrary, Flat, library_of, library_with, behind_head, name_or, no_name, symbol_tree, declarations}
 use Rattle.scheme_model.specs.Program.{specs_from, exports_from}
 use Rattle.syntax_tree.specs.declared.units.UnitKind.TheVariants as kinds
 use Rattle.datum_reader.specs.declared.datum.Datum as code
@@ -27,10 +26,6 @@ use Rattle.library_table.specs.LibrariesRead.{IsLibraryRead, library_named}
 
 pub library_bad : (unit : ℕ) (d : Datum) (u : UnitSource) (f : LibraryFault) → f ≡ fault.BadDeclaration (bytes_of d) → u.forms ≡ Err d → IsLibraryRead unit d u (Err f)
 library_bad unit d u f e h = subst (λ (g : LibraryFault). IsLibraryRead unit d u (Err g)) (sym e) (d, h, refl)
-
-pub library_memory : (unit : ℕ) (d : Datum) (u : UnitSource) (x : Result code_unit.UnitSource LibraryFault) → IsErrAnd x (λ g. g ≡ fault.Memory) → IsLibraryRead unit d u x
-library_memory unit d u (Ok c) h = absurd h
-library_memory unit d u (Err f) h = subst (λ (g : LibraryFault). IsLibraryRead unit d u (Err g)) (sym h) tt
 
 pub library_err : (unit : ℕ) (d : Datum) (u : UnitSource) (old new : List code_form.UnitForm) (x : Result code_unit.UnitSource LibraryFault) (f : LibraryFault) → IsErrAnd x (λ g. g ≡ f) → Flattens old new (Err f) u.forms → IsLibraryRead unit d u x
 library_err unit d u old new (Ok c) f h k = absurd h

@@ -1,5 +1,5 @@
 -- Requirements as they are read.
-use Rattle.std.proofs.Common.{◌≡◌, ℕ, ◌+◌, ◌<◌, ◌≤◌, zero, suc, List, [], ◌∷◌, ◌++◌, length, get_or, take, drop, Bool, true, false, cond, Option, Some, None, Result, Ok, Err, refl, sym, ap, ◌∙◌, subst, arith}
+use Rattle.std.proofs.Common.{◌≡◌, ℕ, ◌+◌, ◌<◌, ◌≤◌, zero, suc, List, [], ◌∷◌, ◌++◌, length, get_or, take, Bool, true, false, cond, Option, Some, Result, Ok, Err, refl, sym, ap, ◌∙◌, arith}
 use Rattle.std.specs.Prelude.{◌&&◌, ◌||◌, not, codes}
 use Rattle.std.specs.Str.{bytes_eq}
 use Rattle.std.proofs.lemmas.List.{take_more}
@@ -16,9 +16,8 @@ use Rattle.library_table.specs.declared.shape_fault.ShapeFault.{ShapeFault}
 use Rattle.library_table.specs.declared.shape_fault.ShapeFault.TheVariants as fault
 use Rattle.library_table.specs.Looks.{trees_at, tree_at, word_of, is_dotted}
 use Rattle.library_table.specs.PartsRead.{Fails, map_ok}
-use Rattle.library_table.specs.Chosen.{word_holds, by_connective, library_holds, is_empty}
+use Rattle.library_table.specs.Chosen.{word_holds, by_connective, library_holds}
 use Rattle.library_table.specs.declared.requirements.Connective.TheVariants as word
-
 
 -- ---- known names
 
@@ -47,23 +46,6 @@ known_more known i t key s old new lt is k o n =
 
 -- ---- requirements that are lists
 
-pub dotted_holds : (k : Known) (ts : Trees (List ℕ)) (end : Tail (List ℕ)) (o : Option Occ) → is_dotted end ≡ true → holds (λ s. s) k (list ts end o) ≡ Err BadForm
-dotted_holds k no_trees end o h = refl
-dotted_holds k (tree (name i p) ts) proper o h = absurd cc
-dotted_holds k (tree (name i p) ts) (dotted u) o h = refl
-dotted_holds k (tree (atom a p) ts) end o h = refl
-dotted_holds k (tree (list us e p) ts) end o h = refl
-dotted_holds k (tree (vector us p) ts) end o h = refl
-
-pub empty_holds : (k : Known) (place : ℕ → Occ) (ds : List code.Datum) (end : Tail (List ℕ)) (o : Option Occ) → ds ≡ [] → holds (λ s. s) k (list (trees_at place ds) end o) ≡ Err BadForm
-empty_holds k place ds end o e = ap (λ (xs : List code.Datum). holds (λ s. s) k (list (trees_at place xs) end o)) e
-
-unnamed : (k : Known) (t : Tree (List ℕ)) (ts : Trees (List ℕ)) (end : Tail (List ℕ)) (o : Option Occ) → word_of t ≡ None → holds (λ s. s) k (list (tree t ts) end o) ≡ Err BadForm
-unnamed k (name i p) ts end o h = absurd cc
-unnamed k (atom a p) ts end o h = refl
-unnamed k (list us e p) ts end o h = refl
-unnamed k (vector us p) ts end o h = refl
-
 named_holds : (k : Known) (t : Tree (List ℕ)) (ts : Trees (List ℕ)) (end : Tail (List ℕ)) (o : Option Occ) (s : List ℕ) → word_of t ≡ Some s → is_dotted end ≡ false → holds (λ s. s) k (list (tree t ts) end o) ≡ word_holds k s ts
 named_holds k (name i p) ts proper o s h e =
     go (bytes_eq i (codes "and")) (bytes_eq i (codes "or")) (bytes_eq i (codes "not")) (bytes_eq i (codes "library")) ∙ ap (λ (w : List ℕ). word_holds k w ts) (same_Some i s h)
@@ -81,21 +63,10 @@ named_holds k (list us f p) ts end o s h e = absurd cc
 named_holds k (vector us p) ts end o s h e = absurd cc
 
 module _ (k : Known) (place : ℕ → Occ) (ds : List code.Datum) (d : code.Datum) (es : List code.Datum) (end : Tail (List ℕ)) (o : Option Occ) (is : ds ≡ d ∷ es) where
-  pub no_word : word_of (tree_at place d) ≡ None → holds (λ s. s) k (list (trees_at place ds) end o) ≡ Err BadForm
-  no_word h = ap (λ (xs : List code.Datum). holds (λ s. s) k (list (trees_at place xs) end o)) is ∙ unnamed k (tree_at place d) (trees_at place es) end o h
-
   pub some_word : (s : List ℕ) → word_of (tree_at place d) ≡ Some s → is_dotted end ≡ false → holds (λ s. s) k (list (trees_at place ds) end o) ≡ word_holds k s (trees_at place es)
   some_word s h e = ap (λ (xs : List code.Datum). holds (λ s. s) k (list (trees_at place xs) end o)) is ∙ named_holds k (tree_at place d) (trees_at place es) end o s h e
 
 -- ---- several requirements
-
-pub all_none : (r : Result Bool (Fault (List ℕ))) → r ≡ map_ok (λ (b : Bool). true && b) r
-all_none (Ok b) = refl
-all_none (Err e) = refl
-
-pub some_none : (r : Result Bool (Fault (List ℕ))) → r ≡ map_ok (λ (b : Bool). false || b) r
-some_none (Ok b) = refl
-some_none (Err e) = refl
 
 and_group : (a h : Bool) (r : Result Bool (Fault (List ℕ))) → map_ok (λ (b : Bool). a && b) (r >> λ b. Ok (h && b)) ≡ map_ok (λ (b : Bool). (a && h) && b) r
 and_group true h (Ok b) = refl

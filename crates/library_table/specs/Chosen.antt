@@ -1,7 +1,7 @@
 -- Requirements by their words, and the clauses of `cond-expand` (R7RS 4.2.1).
-use Rattle.std.specs.Prelude.{◌≡◌, ℕ, suc, ◌+◌, List, [], ◌∷◌, Bool, true, false, Option, Some, None, Result, Ok, Err, codes, if◌then◌else◌}
+use Rattle.std.specs.Prelude.{ℕ, List, Bool, true, false, Result, Ok, Err, codes, if◌then◌else◌}
 use Rattle.std.specs.Str.{bytes_eq}
-use Rattle.scheme_model.specs.Trees.{Tree, Trees, no_trees, tree, Tail, proper}
+use Rattle.scheme_model.specs.Trees.{Trees, no_trees, tree, proper}
 use Rattle.scheme_model.specs.ExpansionFaults.{Fault, BadForm, ◌>>◌}
 use Rattle.scheme_model.specs.Shapes.{one_of}
 use Rattle.library_table.specs.declared.requirements.Connective.{Connective}

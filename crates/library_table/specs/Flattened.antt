@@ -1,7 +1,7 @@
 -- The forms that declarations come to (R7RS 5.6.1), step by step.
 use Rattle.std.specs.Prelude.{◌≡◌, ℕ, suc, ◌+◌, List, [], ◌∷◌, ◌++◌, map, Bool, true, false, Option, Some, None, Result, Ok, Err}
 use Rattle.std.specs.Borrow.{Bor}
-use Rattle.scheme_model.specs.Data.{Datum, atom, list, vector, bytes, Data, none, part, tail, row}
+use Rattle.scheme_model.specs.Data.{Datum, Data, none, row}
 use Rattle.scheme_model.specs.Requirements.{Known}
 use Rattle.scheme_model.specs.Declarations as model
 use Rattle.scheme_model.specs.Declarations.{UnitForm, Flat, Clause, Exports, Imports, Begins, Includes, Undeclared, all_names, plain_form, declarations, clauses, clause_of, some_clauses, chosen_clause, flat_of, parts_or, symbol_tree, ◌>>=◌}

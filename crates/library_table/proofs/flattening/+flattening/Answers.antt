@@ -1,4 +1,4 @@
-use Rattle.std.proofs.Common.{◌+◌, ◌<◌, Ok, Err, None, List, drop, refl, sym, ap, ◌∙◌, subst, arith}
+use Rattle.std.proofs.Common.{Err, None, refl, sym, ap, ◌∙◌, subst, arith}
 use Rattle.std.specs.Prelude.{not}
 use Rattle.scheme_model.specs.Data.{place_of, row, none}
 use Rattle.scheme_model.specs.Declarations.{declaration, declarations, declared_as, proper_parts, clauses, flat_of}

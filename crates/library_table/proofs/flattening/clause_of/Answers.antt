@@ -1,4 +1,4 @@
-use Rattle.std.proofs.Common.{◌++◌, List, ap, sym, ◌∙◌, arith}
+use Rattle.std.proofs.Common.{List, ap, sym, ◌∙◌}
 use Rattle.scheme_model.specs.Data.{place_of, row}
 use Rattle.scheme_model.specs.Data as model
 use Rattle.scheme_model.specs.Declarations.{clause_of}

@@ -8,7 +8,7 @@ use Rattle.library_table.specs.Looks.{end_with}
 use Rattle.library_table.specs.PartsRead.{knows}
 use Rattle.library_table.specs.UnitsRead.{forms_of, AreSpecs, AreExportsRead}
 use Rattle.library_table.specs.LibrariesRead.{library_named}
-use Rattle.library_table.proofs.LibraryRows.{library_err, library_memory, library_read}
+use Rattle.library_table.proofs.LibraryRows.{library_err, library_read}
 use Rattle.library_table.proofs.libraries.read_declared.Goals as goal
 
 pub returns-in_err-declarations : goal.returns-in_err-declarations

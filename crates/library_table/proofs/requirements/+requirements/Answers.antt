@@ -1,16 +1,15 @@
-use Rattle.std.proofs.Common.{◌≡◌, ◌+◌, ◌<◌, ℕ, List, [], Bool, Some, Ok, length, drop, refl, sym, ap, ◌∙◌, subst, arith}
+use Rattle.std.proofs.Common.{◌≡◌, ◌+◌, ◌<◌, ℕ, List, Bool, Some, Ok, length, drop, refl, sym, ap, ◌∙◌, arith}
 use Rattle.std.specs.Prelude.{◌&&◌, ◌||◌, not}
 use Rattle.std.proofs.lemmas.Bool.Decides.{nat_tests}
 use Rattle.scheme_model.specs.Data.{place_of}
 use Rattle.scheme_model.specs.Trees.{Trees, list}
 use Rattle.scheme_model.specs.ExpansionFaults.{◌>>◌}
 use Rattle.scheme_model.specs.Requirements.{holds, all_hold, some_holds, none_holds}
-use Rattle.datum_reader.specs.declared.datum.Datum.{Datum}
 use Rattle.datum_reader.specs.Views.{datum_of}
 use Rattle.library_table.specs.Looks.{tree_at, trees_at}
-use Rattle.library_table.specs.PartsRead.{Fails, map_ok, knows}
+use Rattle.library_table.specs.PartsRead.{map_ok, knows}
 use Rattle.library_table.specs.Chosen.{word_holds, by_connective}
-use Rattle.library_table.proofs.Chaining.{reads_same, reads_err, fails_same, fails_then, then_ok}
+use Rattle.library_table.proofs.Chaining.{reads_same, reads_err, fails_same, fails_then}
 use Rattle.library_table.proofs.LookLaws.{list_seen, nothing_in}
 use Rattle.library_table.proofs.SetRows.{parts_lighter}
 use Rattle.library_table.proofs.TreeRows.{trees_more, trees_end}
