@@ -137,4 +137,3 @@ clauses_dotted known whole (d ∷ ds) end h = go (clause_of known whole (datum_o
 
 pub chooses_dotted : (known : Known) (whole : Datum) (ds : List code.Datum) (end : Option Datum) → is_some end ≡ true → all_chosen known whole (row (data_of ds) (end_with end)) ≡ Err whole
 chooses_dotted known whole ds end h = ap (λ (r : Result (List Clause) Datum). r >>= some_clauses whole >>= chosen_clause known whole) (clauses_dotted known whole ds end h)
-

@@ -163,11 +163,7 @@ fn keep(
 }
 
 /// Forms that stand in a declaration.
-fn keep_all(
-    alloc: Global,
-    parts: &[Datum],
-    forms: &mut Vec<UnitForm>,
-) -> Result<(), LibraryFault>
+fn keep_all(alloc: Global, parts: &[Datum], forms: &mut Vec<UnitForm>) -> Result<(), LibraryFault>
     ensures { Flattens forms.old.items forms.new.items result (Ok (map plain_form (data_of parts.now))) }
 {
     for datum in parts {
@@ -227,22 +223,12 @@ fn clause_of(parts: &[Datum], dotted: bool) -> Option<Clause<'_>>
 }
 
 /// The forms that were chosen, or these, if they are to be.
-fn or_these<'a>(
-    chosen: Option<&'a [Datum]>,
-    hold: bool,
-    forms: &'a [Datum],
-) -> Option<&'a [Datum]>
+fn or_these<'a>(chosen: Option<&'a [Datum]>, hold: bool, forms: &'a [Datum]) -> Option<&'a [Datum]>
     ensures { OrFirst chosen.entry hold forms.now result }
 {
     match chosen {
         Some(before) => Some(before),
-        None => {
-            if hold {
-                Some(forms)
-            } else {
-                None
-            }
-        }
+        None => { if hold { Some(forms) } else { None } }
     }
 }
 

@@ -149,11 +149,7 @@ fn word_holds(
 
 /// Whether all requirements hold. Each of them has a shape.
 #[cycle(requirements)]
-fn all_hold(
-    alloc: Global,
-    known: &BTreeSet<String>,
-    parts: &[Datum],
-) -> Result<bool, ShapeFault>
+fn all_hold(alloc: Global, known: &BTreeSet<String>, parts: &[Datum]) -> Result<bool, ShapeFault>
     ensures { (all : List (List ℕ)) → ((s : List ℕ) → contains_text known.now s ≡ has_name all s) → (place : ℕ → Occ) →
         Reads (λ b. b) result (all_hold (λ s. s) (knows all) (trees_at place parts.now)) }
 {
@@ -168,11 +164,7 @@ fn all_hold(
 
 /// Whether some requirement holds. Each of them has a shape.
 #[cycle(requirements)]
-fn some_holds(
-    alloc: Global,
-    known: &BTreeSet<String>,
-    parts: &[Datum],
-) -> Result<bool, ShapeFault>
+fn some_holds(alloc: Global, known: &BTreeSet<String>, parts: &[Datum]) -> Result<bool, ShapeFault>
     ensures { (all : List (List ℕ)) → ((s : List ℕ) → contains_text known.now s ≡ has_name all s) → (place : ℕ → Occ) →
         Reads (λ b. b) result (some_holds (λ s. s) (knows all) (trees_at place parts.now)) }
 {
@@ -187,11 +179,7 @@ fn some_holds(
 
 /// Whether the one requirement doesn't hold.
 #[cycle(requirements)]
-fn none_holds(
-    alloc: Global,
-    known: &BTreeSet<String>,
-    parts: &[Datum],
-) -> Result<bool, ShapeFault>
+fn none_holds(alloc: Global, known: &BTreeSet<String>, parts: &[Datum]) -> Result<bool, ShapeFault>
     ensures { (all : List (List ℕ)) → ((s : List ℕ) → contains_text known.now s ≡ has_name all s) → (place : ℕ → Occ) →
         Reads (λ b. b) result (none_holds (λ s. s) (knows all) (trees_at place parts.now)) }
 {

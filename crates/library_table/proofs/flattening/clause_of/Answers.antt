@@ -15,6 +15,8 @@ returns-then-dotted c = λ d l known whole. ap (clause_of known whole) l.1 ∙ c
 pub returns-in-Parts : goal.returns-in-Parts
 returns-in-Parts c = λ d l.
     let r = c.in-Parts.requirement.now in
-    let fs = c.in-Parts.forms.now in
-    (λ known whole. ap (clause_of known whole) l.1 ∙ ap (λ (ds : List Datum). clause_of known whole (model.list (place_of d) (row (data_of ds) (end_with l.0)))) c.in-Parts.ensures ∙ clause_proper known whole (place_of d) r fs l.0 (sym l.2 ∙ c.if-dotted.false),
-    weight (datum_of r), clause_weight (place_of d) c.args.parts.now r fs l.0 c.in-Parts.ensures (sym l.2 ∙ c.if-dotted.false) ∙ sym (ap weight l.1))
+    let fs = c.in-Parts.forms.now in (
+      λ known whole. ap (clause_of known whole) l.1 ∙ ap (λ (ds : List Datum). clause_of known whole (model.list (place_of d) (row (data_of ds) (end_with l.0)))) c.in-Parts.ensures ∙ clause_proper known whole (place_of d) r fs l.0 (sym l.2 ∙ c.if-dotted.false),
+      weight (datum_of r),
+      clause_weight (place_of d) c.args.parts.now r fs l.0 c.in-Parts.ensures (sym l.2 ∙ c.if-dotted.false) ∙ sym (ap weight l.1),
+    )
