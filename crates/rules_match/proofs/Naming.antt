@@ -12,9 +12,14 @@ use Rattle.syntax_tree.specs.declared.trees.Work.{Work}
 use Rattle.syntax_tree.specs.declared.trees.nodes.Tree as number
 use Rattle.syntax_tree.specs.declared.trees.table.Region.{Region}
 use Rattle.syntax_tree.specs.declared.rules.Binding as code
+use Rattle.syntax_tree.specs.declared.rules.Binding.{out-Binding, out-roll-Binding}
 use Rattle.syntax_tree.specs.declared.rules.Binding.TheVariants as bound
+use Rattle.syntax_tree.specs.declared.rules.Binding.TheOpen.{Binding-F}
 use Rattle.rules_match.specs.declared.columns.Column.{Column}
 use Rattle.rules_match.specs.Found.{AreColumns, AddsColumns, no_places, Spreads, many_of, ColumnsNamed}
+
+out_many : (v : ℕ) (list : Vec code.Binding Global) → out-Binding (bound.Many v list) ≡ Binding-F.Many v list
+out_many v list = ap out-Binding (sym (bound.rolls-Many v list)) ∙ out-roll-Binding (Binding-F.Many v list)
 
 module _ (work : Work) (region : Region) where
   -- ---- rows of trees
@@ -41,7 +46,10 @@ module _ (work : Work) (region : Region) where
 
   many_named : (v : ℕ) (list : Vec code.Binding Global) → PlacesNamed work region list.items → (x : Value Identifier) → MayNameValue work region (bound.Many v list) x
   many_named v list h (One t) = (λ u k e. absurd cc, λ u k from e. absurd cc)
-  many_named v list h (Many vs) = λ u other e. let same : list ≡ other = cc in subst (λ (x : Vec code.Binding Global). MayNameValues work region x.items vs) same (h vs)
+  many_named v list h (Many vs) = λ u other e.
+      let opened = sym (out_many v list) ∙ ap out-Binding e ∙ out_many u other in
+      let same : list ≡ other = cc in
+      subst (λ (x : Vec code.Binding Global). MayNameValues work region x.items vs) same (h vs)
 
   -- ---- bindings one after another
 
