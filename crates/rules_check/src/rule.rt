@@ -58,7 +58,7 @@ fn check_rule(alloc: Global, work: &Work, roles: &Roles, rule: Rule) -> Result<(
 }
 
 /// What is found in a pattern, whose first part takes no part.
-fn find_pattern(alloc: Global, work: &Work, roles: &Roles, pattern: Tree) -> Mem<Found>
+pub fn find_pattern(alloc: Global, work: &Work, roles: &Roles, pattern: Tree) -> Mem<Found>
     requires { IsStanding work.now pattern }
     ensures { (r : ModelRules Identifier) (head : ModelTree Identifier) (ts : Trees Identifier) (tail : Tail Identifier) (o : Option Occ) →
         TellsRoles work.now.symbols roles.now r → StandsFor work.now pattern (list (tree head ts) tail o) →
@@ -82,7 +82,7 @@ fn find_pattern(alloc: Global, work: &Work, roles: &Roles, pattern: Tree) -> Mem
 }
 
 /// The depths of variables by number: of a variable that stands twice, that of the first.
-fn depths_of(alloc: Global, variables: &[Variable]) -> Mem<BTreeMap<IdNo, u32>>
+pub fn depths_of(alloc: Global, variables: &[Variable]) -> Mem<BTreeMap<IdNo, u32>>
     ensures { IfOk result (λ depths. (n : ℕ) → get nat_cmp depths n ≡ depth_by_number variables.now n) }
 {
     let mut depths = BTreeMap::new(alloc);

@@ -169,7 +169,7 @@ fn see_name(depths: &BTreeMap<IdNo, u32>, name: Named, level: u32) -> Seen
 }
 
 /// Whether a list is `(... template)`.
-fn is_escape(work: &Work, roles: &Roles, items: &[Tree], end: Option<Tree>) -> bool
+pub fn is_escape(work: &Work, roles: &Roles, items: &[Tree], end: Option<Tree>) -> bool
     requires parts { AreStanding work.now items.now }
     requires tail { EndIsStanding work.now end }
     ensures { (r : ModelRules Identifier) (ts : Trees Identifier) (tail : Tail Identifier) → TellsRoles work.now.symbols roles.now r →
