@@ -1,13 +1,13 @@
 -- What is found in patterns, part by part.
-use Rattle.std.proofs.Common.{◌≡◌, ℕ, zero, suc, ◌+◌, ◌≤◌, List, [], ◌∷◌, ◌++◌, Bool, true, false, ◌||◌, refl, sym, ap, ◌∙◌, subst, append_assoc, arith}
+use Rattle.std.proofs.Common.{◌≡◌, ℕ, suc, ◌≤◌, List, [], ◌∷◌, ◌++◌, Bool, true, false, ◌||◌, refl, sym, ap, ◌∙◌, subst, append_assoc}
 use Rattle.std.specs.Prelude.{nat_lt, Option, Some, None}
 use Rattle.std.proofs.lemmas.List.{append-nil}
 use Rattle.std.proofs.lemmas.Option.{same_Some}
 use Rattle.scheme_model.specs.declared.Occ.{Occ}
-use Rattle.scheme_model.specs.Trees.{Atom, Tree, name, atom, list, vector, Trees, no_trees, tree, Tail, proper, dotted}
+use Rattle.scheme_model.specs.Trees.{Tree, name, vector, Trees, no_trees, tree, Tail, proper, dotted}
 use Rattle.scheme_model.specs.ExpansionFaults.{named}
 use Rattle.scheme_model.specs.Matching.{behind}
-use Rattle.scheme_model.specs.RulesShape.{Rules, Variable, Role, IsLiteral, IsEllipsis, IsAny, IsVariable, role_of, dots_of, variable_at, starts_dots, ends_dots, dots_count, depth_before, some_bad_pattern, bad_pattern_tail, some_two_dots, two_dots_tail, variables_among, variables_behind}
+use Rattle.scheme_model.specs.RulesShape.{Rules, Variable, Role, IsVariable, role_of, dots_of, variable_at, starts_dots, ends_dots, dots_count, depth_before, some_bad_pattern, bad_pattern_tail, some_two_dots, two_dots_tail, variables_among, variables_behind}
 use Rattle.scheme_model.specs.Ident.{Ident as Identifier}
 use Rattle.syntax_tree.specs.Macros.{identifiers}
 use Rattle.syntax_tree.specs.Placed.{IsNamed}

@@ -4,16 +4,14 @@ use Rattle.std.proofs.lemmas.Bool.{eqb-true}
 use Rattle.std.proofs.lemmas.Bool.Decides.{nat_tests}
 use Rattle.std.specs.Prelude.{nat_eq, is_some, if◌then◌else◌}
 use Rattle.std.specs.List.{list_any}
-use Rattle.std.specs.BTreeSet.{contains}
 use Rattle.std.specs.Ordering.{nat_cmp, is_eq}
-use Rattle.scheme_model.specs.Trees.{Tree, name, atom, list, vector, Trees, no_trees, tree, Tail, proper, dotted}
+use Rattle.scheme_model.specs.Trees.{Tree, name, atom, list, vector, no_trees, tree, proper, dotted}
 use Rattle.scheme_model.specs.ExpansionFaults.{Named, Fault, BadRules, TwoEllipses, DuplicateVariable, IdleEllipsis, ◌>>◌}
-use Rattle.scheme_model.specs.Shapes.{is_among}
-use Rattle.scheme_model.specs.RulesShape.{Rules, Rule, Variable, first_twice, depth_of, refuse, rules_of, rules_parts, check_rule, check_rules, pattern_variables, dots_of, is_dots, bad_template, is_idle, deep_enough}
+use Rattle.scheme_model.specs.RulesShape.{Rules, Rule, Variable, first_twice, depth_of, refuse, check_rule, check_rules, pattern_variables, dots_of, is_dots, bad_template, is_idle, deep_enough}
 use Rattle.scheme_model.specs.Ident.{Ident as Identifier}
 use Rattle.syntax_tree.specs.Names.{Names, AreToldApart}
 use Rattle.syntax_tree.specs.Placed.{IsNamed}
-use Rattle.syntax_tree.specs.Macros.{identifiers, IsIdent, AreIdents, IsEllipsisOf, AreRolesOf, TellsRoles, RulesFor, IsRule, AreRules}
+use Rattle.syntax_tree.specs.Macros.{identifiers, IsIdent, AreIdents, IsEllipsisOf, AreRolesOf, TellsRoles, IsRule, AreRules}
 use Rattle.syntax_tree.specs.declared.trees.Work.{Work}
 use Rattle.syntax_tree.specs.declared.rules.Rules as code_rules
 use Rattle.syntax_tree.specs.declared.rules.Rule as code_rule

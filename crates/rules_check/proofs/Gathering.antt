@@ -1,22 +1,20 @@
 -- Leaves of rules, gathered one after another.
-use Rattle.std.proofs.Common.{◌≡◌, ℕ, zero, suc, ◌+◌, List, [], ◌∷◌, ◌++◌, map, drop, Bool, true, false, ◌||◌, Option, Some, None, Result, Ok, Err, refl, sym, ap, ◌∙◌, subst, append_assoc, add-one}
+use Rattle.std.proofs.Common.{◌≡◌, ℕ, suc, ◌+◌, List, [], ◌∷◌, ◌++◌, map, drop, Bool, true, false, ◌||◌, Option, Some, None, Result, Ok, Err, refl, sym, ap, ◌∙◌, subst, append_assoc, add-one}
 use Rattle.std.specs.Prelude.{is_some, if◌then◌else◌}
 use Rattle.std.proofs.lemmas.List.{append-nil}
 use Rattle.scheme_model.specs.declared.Occ.{Occ}
 use Rattle.scheme_model.specs.Trees.{Tree, name, atom, list, vector, Trees, no_trees, tree, Tail, proper, dotted}
-use Rattle.scheme_model.specs.ExpansionFaults.{Named, named, Fault, BadRules, ◌>>◌}
+use Rattle.scheme_model.specs.ExpansionFaults.{Named, named, Fault, ◌>>◌}
 use Rattle.scheme_model.specs.Shapes.{names_of, is_among}
 use Rattle.scheme_model.specs.Matching.{behind}
 use Rattle.scheme_model.specs.RulesShape.{Rules, Rule, Variable, nowhere, is_dots, escape_of, depth_of, check_rules, rules_in, rules_behind, bad}
-use Rattle.scheme_model.specs.Building.{is_escape}
-use Rattle.scheme_model.specs.Leaves.{Leaf, rule_leaves, all_rule_leaves, unless, if_escape, template_leaves, template_among, template_behind, behind_dots}
+use Rattle.scheme_model.specs.Leaves.{Leaf, rule_leaves, all_rule_leaves, unless, if_escape, template_leaves, template_among, template_behind}
 use Rattle.scheme_model.specs.Ident.{Ident as Identifier}
 use Rattle.syntax_tree.specs.Names.{Names}
 use Rattle.syntax_tree.specs.Macros.{identifiers}
 use Rattle.rules_check.specs.declared.leaf.RuleLeaf.{RuleLeaf}
 use Rattle.rules_check.specs.Checked.{rules_in_form}
-use Rattle.rules_check.specs.Gathered.{IsLeaf, AreLeaves, AddsLeaves, list_parts, listed_in, name_leaf, name_leaves}
-use Rattle.rules_check.proofs.Sights.{no_dots}
+use Rattle.rules_check.specs.Gathered.{IsLeaf, AreLeaves, AddsLeaves, listed_in, name_leaves}
 
 -- ---- one after another
 

@@ -1,17 +1,17 @@
 -- What is seen of templates, part by part.
-use Rattle.std.proofs.Common.{◌≡◌, ℕ, zero, suc, ◌+◌, ◌-◌, ◌^◌, ◌<◌, ◌≤◌, Bool, true, false, ◌||◌, ◌&&◌, not, cond, refl, sym, ap, ◌∙◌, subst, arith, add-one}
+use Rattle.std.proofs.Common.{◌≡◌, ℕ, zero, suc, ◌+◌, ◌-◌, ◌^◌, ◌<◌, ◌≤◌, Bool, true, false, ◌||◌, ◌&&◌, not, refl, sym, ap, ◌∙◌, subst, arith, add-one}
 use Rattle.std.specs.Prelude.{nat_lt, nat_le, max, is_some, Option, Some, None, Result, Ok, Err, if◌then◌else◌}
 use Rattle.std.proofs.lemmas.Bool.Decides.{nat_tests}
 use Rattle.scheme_model.specs.declared.Occ.{Occ}
 use Rattle.scheme_model.specs.Trees.{Tree, name, atom, list, vector, Trees, no_trees, tree, Tail, proper, dotted}
 use Rattle.scheme_model.specs.ExpansionFaults.{named, Fault, EllipsisDepth, ◌>>◌}
-use Rattle.scheme_model.specs.RulesShape.{nowhere, is_dots, starts_dots, ends_dots, leading, escape_of, unless_escape, deep_in, bad_template, some_bad_template, bad_template_tail, is_idle, some_idle, idle_tail, deepest, deepest_among, deepest_tail, greater, deep_enough, all_deep, deep_tail, most, too_shallow}
+use Rattle.scheme_model.specs.RulesShape.{nowhere, is_dots, starts_dots, ends_dots, leading, escape_of, unless_escape, deep_in, some_bad_template, bad_template_tail, is_idle, some_idle, idle_tail, deepest, deepest_among, deepest_tail, greater, deep_enough, all_deep, deep_tail, most, too_shallow}
 use Rattle.scheme_model.specs.Ident.{Ident as Identifier}
 use Rattle.syntax_tree.specs.declared.trees.Work.{Work}
 use Rattle.rules_check.specs.declared.template.Seen.{Seen}
 use Rattle.rules_check.specs.Templates.{Sight, of_template, of_parts, of_list, IsShallow, Sees, first_of, seen_name}
 use Rattle.rules_check.specs.Templates.{CanSee, CanSeeEnd}
-use Rattle.rules_check.proofs.Contents.{or_none, or_assoc, end_tree}
+use Rattle.rules_check.proofs.Contents.{or_none, end_tree}
 use Rattle.scheme_model.specs.TreeParts.{count}
 use Rattle.scheme_model.specs.Matching.{behind}
 use Rattle.scheme_model.specs.Measures.{tree_size, trees_size, tail_size, tail_depth}

@@ -1,6 +1,6 @@
 -- How a check of rules ends.
 use Rattle.std.specs.Prelude.{◌≡◌, ℕ, List, Bool, true, false, Option, Some, None, Result, Ok, Err}
-use Rattle.scheme_model.specs.Trees.{Tree, name, atom, list, vector, Trees, no_trees, tree, Tail, proper, dotted}
+use Rattle.scheme_model.specs.Trees.{Tree, name, atom, list, vector, Trees, no_trees, tree, proper, dotted}
 use Rattle.scheme_model.specs.ExpansionFaults.{Named, Fault, BadRules, TwoEllipses, DuplicateVariable, EllipsisDepth, IdleEllipsis}
 use Rattle.scheme_model.specs.Shapes.{names_of}
 use Rattle.scheme_model.specs.RulesShape.{Rules, Rule, rules_of, rules_parts, rule_of, bad}

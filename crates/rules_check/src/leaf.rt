@@ -287,13 +287,33 @@ fn in_template(
         }
         Look::Atom(_) => Ok(()),
         Look::Vector(items) => {
-            Ok(in_template_list(work, roles, depths, items, 0, None, escaped, left - 1, leaves)?)
+            Ok(in_template_list(
+                work,
+                roles,
+                depths,
+                items,
+                0,
+                None,
+                escaped,
+                left - 1,
+                leaves,
+            )?)
         }
         Look::List(items, end) => {
             if escapes(work, roles, items, end, escaped) {
                 Ok(in_template_list(work, roles, depths, items, 1, end, true, left - 1, leaves)?)
             } else {
-                Ok(in_template_list(work, roles, depths, items, 0, end, escaped, left - 1, leaves)?)
+                Ok(in_template_list(
+                    work,
+                    roles,
+                    depths,
+                    items,
+                    0,
+                    end,
+                    escaped,
+                    left - 1,
+                    leaves,
+                )?)
             }
         }
     }

@@ -1,13 +1,12 @@
-use Rattle.std.proofs.Common.{◌≡◌, [], ◌++◌, ◌||◌, Bool, true, None, refl, sym, ap, ◌∙◌, subst, rules, arith}
+use Rattle.std.proofs.Common.{◌≡◌, [], ◌++◌, ◌||◌, true, None, refl, sym, ap, ◌∙◌, rules, arith}
 use Rattle.std.specs.Prelude.{is_some}
 use Rattle.std.proofs.lemmas.List.{append-nil}
-use Rattle.scheme_model.specs.Trees.{Tree, Tail, proper}
+use Rattle.scheme_model.specs.Trees.{Tail, proper}
 use Rattle.scheme_model.specs.Matching.{behind}
-use Rattle.scheme_model.specs.RulesShape.{dots_of, nowhere, escape_of}
+use Rattle.scheme_model.specs.RulesShape.{nowhere, escape_of}
 use Rattle.scheme_model.specs.ExpansionFaults.{named}
 use Rattle.scheme_model.specs.Leaves.{unless, template_leaves, template_among, template_behind}
 use Rattle.scheme_model.specs.Ident.{Ident as Identifier}
-use Rattle.syntax_tree.specs.Macros.{identifiers}
 use Rattle.syntax_tree.specs.Placed.{tree_place}
 use Rattle.syntax_tree.proofs.Looking.{part_there, part_within, split_one, behind_past, within_positive, vector_parts_within, no_end}
 use Rattle.rules_check.specs.Templates.{dots_where}

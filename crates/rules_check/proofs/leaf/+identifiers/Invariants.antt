@@ -1,8 +1,8 @@
-use Rattle.std.proofs.Common.{ℕ, ◌+◌, ◌*◌, Option, refl}
+use Rattle.std.proofs.Common.{ℕ, ◌+◌, ◌*◌, Option}
 use Rattle.std.specs.Prelude.{is_some}
 use Rattle.scheme_model.specs.Trees.{Trees}
 use Rattle.scheme_model.specs.RulesShape.{Rules}
-use Rattle.scheme_model.specs.Leaves.{template_leaves, template_among}
+use Rattle.scheme_model.specs.Leaves.{template_among}
 use Rattle.scheme_model.specs.Ident.{Ident as Identifier}
 use Rattle.syntax_tree.specs.Looks.{PartsStand}
 use Rattle.syntax_tree.specs.Macros.{TellsRoles}

@@ -1,6 +1,6 @@
-use Rattle.std.proofs.Common.{[], ◌++◌, refl, sym, ap, ◌∙◌, subst, rules, arith}
+use Rattle.std.proofs.Common.{[], ◌++◌, refl, sym, ap, ◌∙◌, rules, arith}
 use Rattle.std.proofs.lemmas.List.{append-nil}
-use Rattle.scheme_model.specs.Trees.{Tree, Tail, proper}
+use Rattle.scheme_model.specs.Trees.{Tail, proper}
 use Rattle.scheme_model.specs.Matching.{behind}
 use Rattle.scheme_model.specs.RulesShape.{role_of}
 use Rattle.scheme_model.specs.ExpansionFaults.{named}

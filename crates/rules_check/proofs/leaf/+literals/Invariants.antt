@@ -1,7 +1,7 @@
-use Rattle.std.proofs.Common.{◌+◌, ◌*◌, refl}
+use Rattle.std.proofs.Common.{◌+◌, ◌*◌}
 use Rattle.scheme_model.specs.Trees.{Trees}
 use Rattle.scheme_model.specs.RulesShape.{Rules, role_of}
-use Rattle.scheme_model.specs.Leaves.{pattern_leaves, leaves_among}
+use Rattle.scheme_model.specs.Leaves.{leaves_among}
 use Rattle.scheme_model.specs.Ident.{Ident as Identifier}
 use Rattle.syntax_tree.specs.Looks.{PartsStand}
 use Rattle.syntax_tree.specs.Macros.{identifiers, TellsRoles}

@@ -1,8 +1,7 @@
-use Rattle.std.proofs.Common.{◌≡◌, ap, subst, arith}
-use Rattle.scheme_model.specs.Trees.{Tree, list, tree, Trees, Tail}
+use Rattle.std.proofs.Common.{◌≡◌, subst}
+use Rattle.scheme_model.specs.Trees.{list, tree, Trees, Tail}
 use Rattle.scheme_model.specs.Ident.{Ident as Identifier}
 use Rattle.syntax_tree.specs.Looks.{PartsStand, EndStands}
-use Rattle.syntax_tree.proofs.Looking.{list_parts_within, end_within, depth_positive}
 use Rattle.rules_check.proofs.leaf.in_head.Goals as goal
 
 pub returns-in_ok-in_pattern_list-in-List : goal.returns-in_ok-in_pattern_list-in-List

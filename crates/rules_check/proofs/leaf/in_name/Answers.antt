@@ -1,7 +1,5 @@
 use Rattle.std.proofs.Common.{[], ◌∷◌, refl, true, sym, ap, ◌∙◌}
-use Rattle.scheme_model.specs.Trees.{Tree}
 use Rattle.scheme_model.specs.ExpansionFaults.{named}
-use Rattle.scheme_model.specs.Ident.{Ident as Identifier}
 use Rattle.syntax_tree.specs.Placed.{tree_place}
 use Rattle.syntax_tree.specs.declared.rules.Named.{Named}
 use Rattle.rules_check.specs.Gathered.{name_leaf}

@@ -1,4 +1,4 @@
-use Rattle.std.proofs.Common.{refl, arith}
+use Rattle.std.proofs.Common.{refl}
 use Rattle.syntax_tree.proofs.Looking.{part_there, part_standing, behind_past, split_one}
 use Rattle.rules_check.specs.Gathered.{name_leaf, name_leaves}
 use Rattle.rules_check.proofs.Gathering.{up_none, up_more, up_all}

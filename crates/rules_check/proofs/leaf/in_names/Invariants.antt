@@ -1,8 +1,7 @@
 use Rattle.scheme_model.specs.Trees.{Trees}
 use Rattle.scheme_model.specs.Ident.{Ident as Identifier}
 use Rattle.syntax_tree.specs.Looks.{PartsStand}
-use Rattle.std.proofs.Common.{refl}
-use Rattle.rules_check.specs.Gathered.{name_leaf, name_leaves}
+use Rattle.rules_check.specs.Gathered.{name_leaves}
 use Rattle.rules_check.proofs.Gathering.{UpTo}
 use Rattle.rules_check.proofs.leaf.in_names.Given as goal
 

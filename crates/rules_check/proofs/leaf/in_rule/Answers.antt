@@ -1,5 +1,5 @@
-use Rattle.std.proofs.Common.{ℕ, List, map, ◌++◌, sym, ap, ◌∙◌, arith}
-use Rattle.std.specs.Prelude.{Option, is_some}
+use Rattle.std.proofs.Common.{List, map, ◌++◌, ap, ◌∙◌, arith}
+use Rattle.std.specs.Prelude.{is_some}
 use Rattle.scheme_model.specs.Trees.{name, list, tree}
 use Rattle.scheme_model.specs.Shapes.{is_among}
 use Rattle.scheme_model.specs.RulesShape.{depth_of, dots_of, role_of, pattern_variables}

@@ -1,6 +1,5 @@
-use Rattle.std.proofs.Common.{suc, sym, ap, subst, add-one, drop}
 use Rattle.rules_check.proofs.Faults.{rule_there, rules_past}
-use Rattle.rules_check.proofs.Gathering.{RulesUpTo, rules_none, rules_one_more, rules_all}
+use Rattle.rules_check.proofs.Gathering.{rules_none, rules_one_more, rules_all}
 use Rattle.rules_check.proofs.leaf.in_rules.Goals as goal
 
 pub loop-rule-init : goal.loop-rule-init

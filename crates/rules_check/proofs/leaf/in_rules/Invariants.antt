@@ -1,8 +1,7 @@
-use Rattle.std.proofs.Common.{◌≡◌, List, ◌++◌, drop}
+use Rattle.std.proofs.Common.{List}
 use Rattle.scheme_model.specs.RulesShape.{Rules, Rule}
-use Rattle.scheme_model.specs.Leaves.{all_rule_leaves}
 use Rattle.scheme_model.specs.Ident.{Ident as Identifier}
-use Rattle.syntax_tree.specs.Macros.{identifiers, TellsRoles, AreRules}
+use Rattle.syntax_tree.specs.Macros.{TellsRoles, AreRules}
 use Rattle.rules_check.proofs.Gathering.{RulesUpTo}
 use Rattle.rules_check.proofs.leaf.in_rules.Given as goal
 

@@ -1,10 +1,10 @@
-use Rattle.std.proofs.Common.{List, ℕ, [], ◌++◌, sym, ap, ◌∙◌, subst}
+use Rattle.std.proofs.Common.{List, ℕ, ◌++◌, sym, ap, subst}
 use Rattle.scheme_model.specs.Leaves.{all_rule_leaves, leaves_of}
 use Rattle.syntax_tree.specs.declared.rules.Rule as code_rule
 use Rattle.syntax_tree.specs.Macros.{identifiers, AreRolesOf, AreRules}
 use Rattle.rules_check.specs.Gathered.{listed_in, name_leaves}
 use Rattle.rules_check.proofs.Faults.{tells}
-use Rattle.rules_check.proofs.Gathering.{literals, listed, adds_both, adds_same, all_are}
+use Rattle.rules_check.proofs.Gathering.{listed, adds_both, adds_same, all_are}
 use Rattle.rules_check.proofs.leaf.leaves.Goals as goal
 
 pub in_form-requires : goal.in_form-requires

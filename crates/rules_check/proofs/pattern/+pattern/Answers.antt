@@ -1,4 +1,4 @@
-use Rattle.std.proofs.Common.{◌≡◌, ◌+◌, ◌||◌, ℕ, true, false, Bool, refl, sym, ap, ◌∙◌, subst, add-one, rules, arith}
+use Rattle.std.proofs.Common.{◌≡◌, ◌||◌, ℕ, refl, sym, ap, ◌∙◌, subst, add-one, rules, arith}
 use Rattle.std.specs.Prelude.{nat_lt}
 use Rattle.scheme_model.specs.Trees.{Tree, proper, Tail}
 use Rattle.scheme_model.specs.Matching.{behind}

@@ -1,4 +1,4 @@
-use Rattle.std.proofs.Common.{ℕ, List, [], sym, ap, ◌∙◌, subst}
+use Rattle.std.proofs.Common.{List, [], sym, ap, ◌∙◌, subst}
 use Rattle.std.specs.Prelude.{Option}
 use Rattle.scheme_model.specs.Trees.{name, list, tree}
 use Rattle.scheme_model.specs.RulesShape.{check_rule, depth_of, first_twice, pattern_variables}

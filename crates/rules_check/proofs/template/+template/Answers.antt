@@ -1,9 +1,9 @@
-use Rattle.std.proofs.Common.{◌≡◌, length, ◌+◌, ◌-◌, ◌<◌, ◌||◌, ◌&&◌, ℕ, suc, true, false, not, Bool, refl, sym, ap, ◌∙◌, subst, rules, arith}
-use Rattle.std.specs.Prelude.{nat_lt, Option, Some, None, is_some}
-use Rattle.scheme_model.specs.Trees.{Tree, list, vector, Trees, tree, proper, Tail}
+use Rattle.std.proofs.Common.{◌≡◌, length, ◌+◌, ◌-◌, ◌||◌, ◌&&◌, ℕ, suc, true, false, not, Bool, refl, sym, ap, ◌∙◌, subst, rules, arith}
+use Rattle.std.specs.Prelude.{nat_lt, Option, None, is_some}
+use Rattle.scheme_model.specs.Trees.{Tree, Trees, tree, proper, Tail}
 use Rattle.scheme_model.specs.Matching.{behind}
 use Rattle.scheme_model.specs.Measures.{tree_size, tree_depth}
-use Rattle.scheme_model.specs.RulesShape.{dots_of, is_dots, starts_dots, ends_dots, leading, escape_of, some_bad_template, bad_template_tail}
+use Rattle.scheme_model.specs.RulesShape.{dots_of, is_dots, starts_dots, ends_dots, leading, escape_of}
 use Rattle.scheme_model.specs.Ident.{Ident as Identifier}
 use Rattle.std.specs.BTreeMap.{get}
 use Rattle.std.specs.Ordering.{nat_cmp}
