@@ -158,12 +158,7 @@ impl Env {
     }
 
     /// What the innermost local scope that binds an identifier binds it to, from a scope outwards.
-    fn local(
-        &self,
-        scope: Option<ScopeNo>,
-        ident: IdNo,
-        added: Option<Bound>,
-    ) -> Option<Meaning>
+    fn local(&self, scope: Option<ScopeNo>, ident: IdNo, added: Option<Bound>) -> Option<Meaning>
         requires { (n : ℕ) → scope ≡ Some n → n < length self.now.scopes }
         ensures { result ≡ local (with_added self.now added) scope ident }
     {
@@ -186,13 +181,7 @@ impl Env {
     }
 
     /// What an identifier means in a scope, with a binding added where one is given.
-    fn meant(
-        &self,
-        scope: ScopeNo,
-        ident: IdNo,
-        symbols: &Symbols,
-        added: Option<Bound>,
-    ) -> Meaning
+    fn meant(&self, scope: ScopeNo, ident: IdNo, symbols: &Symbols, added: Option<Bound>) -> Meaning
         requires scope { scope < length self.now.scopes }
         requires ident { ident < length symbols.now.idents }
         ensures value { (i : Identifier) → IsIdent symbols.now ident i → result ≡ resolved (with_added self.now added) symbols.now (Some scope) i }

@@ -1,6 +1,5 @@
-use Rattle.std.proofs.Common.{◌≡◌, ◌<◌, length, Option, Some, None, sym, ap, ◌∙◌, arith}
+use Rattle.std.proofs.Common.{◌≡◌, Option, Some, None, sym, ap, ◌∙◌}
 use Rattle.std.specs.FinMap.{get}
-use Rattle.syntax_tree.specs.declared.meaning.Meaning.{Meaning}
 use Rattle.scope_env.specs.declared.env.Bound.{Bound}
 use Rattle.scope_env.specs.Environment.{with_added}
 use Rattle.scope_env.specs.Kept.{scope_of}
