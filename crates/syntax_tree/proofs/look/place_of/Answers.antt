@@ -1,6 +1,4 @@
 use Rattle.std.proofs.Common.{sym, ap, subst}
-use Rattle.scheme_model.specs.Trees.{Tree}
-use Rattle.scheme_model.specs.Ident.{Ident as Identifier}
 use Rattle.syntax_tree.specs.Placed.{tree_place}
 use Rattle.syntax_tree.specs.Works.{IsNodeOf}
 use Rattle.syntax_tree.specs.declared.trees.nodes.Node.{Node}
