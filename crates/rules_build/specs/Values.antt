@@ -8,7 +8,6 @@ use Rattle.syntax_tree.specs.Bound.{MayNameValue, MayNameValues}
 use Rattle.syntax_tree.specs.Macros.{IsIdent, IsValue, AreValues, IsRest}
 use Rattle.syntax_tree.specs.declared.trees.Work.{Work}
 use Rattle.syntax_tree.specs.declared.trees.table.Region.{Region}
-use Rattle.syntax_tree.specs.declared.trees.nodes.Tree as number
 use Rattle.syntax_tree.specs.declared.rules.Binding as code_binding
 use Rattle.rules_build.specs.declared.values.Bound as code
 use Rattle.rules_build.specs.declared.values.Value as code_value
