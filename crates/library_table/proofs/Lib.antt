@@ -21,3 +21,8 @@ mod DataRows
 mod Gathering
 mod ExportRows
 mod ProgramRows
+mod RequirementRows
+mod FlatRows
+mod ClauseRows
+mod ChoiceRows
+mod LibraryRows

@@ -12,3 +12,6 @@ pub mod Forms
 pub mod Weights
 pub mod SetsRead
 pub mod UnitsRead
+pub mod Chosen
+pub mod Flattened
+pub mod LibrariesRead

@@ -22,7 +22,8 @@ use Rattle.syntax_tree.specs.declared.rules.Rule as code_rule
 use Rattle.syntax_tree.specs.declared.rules.Binding as code_binding
 use Rattle.rules_build.specs.declared.fault.BuildFault.TheVariants as fault
 use Rattle.rules_build.specs.declared.plan.Plan.{Plan}
-use Rattle.rules_build.specs.Values.{MayNameBindings, AreManyBound}
+use Rattle.syntax_tree.specs.Bound.{MayNameBindings}
+use Rattle.rules_build.specs.Values.{AreManyBound}
 use Rattle.rules_build.specs.Drafts.{spent, Draft, tree_of, IsDraft, CanStand}
 use Rattle.rules_build.specs.Builds.{instance, Plans, IsPlanned}
 use Rattle.rules_build.proofs.WholeLaws.{spent_some, spent_gone, walked, too_many, too_large, too_deep, all_within}

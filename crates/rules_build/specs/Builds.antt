@@ -10,18 +10,16 @@ use Rattle.scheme_model.specs.Building.{Built, Template, build}
 use Rattle.scheme_model.specs.Ident.{Ident as Identifier, Inserted, same_ident}
 use Rattle.ls_base.specs.Limits.{max_tree_nodes, max_tree_depth}
 use Rattle.syntax_tree.specs.Works.{StandsFor, live_count}
-use Rattle.syntax_tree.specs.Macros.{identifiers, TellsRoles, RulesFor, MatchedFor}
+use Rattle.syntax_tree.specs.Macros.{identifiers, TellsRoles}
 use Rattle.syntax_tree.specs.declared.trees.Work.{Work}
 use Rattle.syntax_tree.specs.declared.trees.table.Region.{Region}
 use Rattle.syntax_tree.specs.declared.trees.nodes.Tree as number
-use Rattle.syntax_tree.specs.declared.rules.Rules as code_rules
-use Rattle.syntax_tree.specs.declared.rules.Matched as code_matched
 use Rattle.rules_build.specs.declared.fault.BuildFault.{BuildFault}
 use Rattle.rules_build.specs.declared.fault.BuildFault.TheVariants as fault
 use Rattle.rules_build.specs.declared.plan.Plan.{Plan}
 use Rattle.rules_build.specs.declared.walk.Walk.{Walk}
 use Rattle.rules_build.specs.declared.values.Bound as code
-use Rattle.rules_build.specs.Values.{AreBound, MayNameBindings}
+use Rattle.rules_build.specs.Values.{AreBound}
 use Rattle.rules_build.specs.Drafts.{spent, IsPlanOf, ArePlansOf}
 
 -- identifiers of a template are marked by a use
@@ -59,11 +57,6 @@ PlansAll work region k old new ps qs s (Ok done) = (b : Built (Trees Identifier)
 PlansAll work region k old new ps qs s (Err e) = Fails s e
 
 -- ---- the whole
-
--- a match of one of these rules, whose bindings nodes of the region may name
-abbrev pub IsMatched : Work → Region → code_rules.Rules → code_matched.Matched → Type 0
-IsMatched work region rules matched =
-    (r : Rules Identifier) × (m : Chosen Identifier Identifier) × RulesFor work rules r × MatchedFor work matched r m × MayNameBindings work region matched.bindings m.match.bindings
 
 -- the instance of the template of the rule that matched
 abbrev pub instance : Rules Identifier → Number → Chosen Identifier Identifier → ℕ → Result (Built (Tree Identifier)) (Fault Identifier)

@@ -1,16 +1,14 @@
 -- What variables stand for at one place of the ellipses around a part of a template.
-use Rattle.std.specs.Prelude.{◌≡◌, ℕ, List, [], ◌∷◌, Option, Some, None, Result, Ok, Err, Vec}
-use Rattle.std.specs.declared.alloc.Global.{Global}
-use Rattle.scheme_model.specs.Matching.{Value, One, Many, Values, no_values, value, Binding}
+use Rattle.std.specs.Prelude.{◌≡◌, ℕ, List, [], ◌∷◌, Option, Some, None, Result, Ok, Err}
+use Rattle.scheme_model.specs.Matching.{Value, One, Many, Values, Binding}
 use Rattle.scheme_model.specs.Building.{or_zero}
 use Rattle.scheme_model.specs.Ident.{Ident as Identifier}
 use Rattle.syntax_tree.specs.Works.{StandsFor, CanName}
+use Rattle.syntax_tree.specs.Bound.{MayNameValue, MayNameValues}
 use Rattle.syntax_tree.specs.Macros.{IsIdent, IsValue, AreValues, IsRest}
 use Rattle.syntax_tree.specs.declared.trees.Work.{Work}
 use Rattle.syntax_tree.specs.declared.trees.table.Region.{Region}
-use Rattle.syntax_tree.specs.declared.trees.nodes.Tree as number
 use Rattle.syntax_tree.specs.declared.rules.Binding as code_binding
-use Rattle.syntax_tree.specs.declared.rules.Binding.TheVariants as bound
 use Rattle.rules_build.specs.declared.values.Bound as code
 use Rattle.rules_build.specs.declared.values.Value as code_value
 use Rattle.rules_build.specs.declared.values.Value.TheVariants as worth
@@ -23,23 +21,6 @@ Paired R [] [] = Unit {0}
 Paired R [] (y ∷ ys) = ⊥
 Paired R (x ∷ xs) [] = ⊥
 Paired R (x ∷ xs) (y ∷ ys) = R x y × Paired R xs ys
-
--- nodes of the region may name each node that a binding names
-abbrev mutual
-  pub MayNameValue : Work → Region → code_binding.Binding → Value Identifier → Type 0
-  MayNameValue work region b (One t) =
-      ((v : ℕ) (n : number.Tree) → b ≡ bound.One v n → CanName work region n) × ((v : ℕ) (n : number.Tree) (from : ℕ) → b ≡ bound.Rest v n from → CanName work region n)
-  MayNameValue work region b (Many vs) = (v : ℕ) (list : Vec code_binding.Binding Global) → b ≡ bound.Many v list → MayNameValues work region list.items vs
-
-  pub MayNameValues : Work → Region → List code_binding.Binding → Values Identifier → Type 0
-  MayNameValues work region [] vs = Unit {0}
-  MayNameValues work region (b ∷ bs) no_values = Unit {0}
-  MayNameValues work region (b ∷ bs) (value x xs) = MayNameValue work region b x × MayNameValues work region bs xs
-
-abbrev pub MayNameBindings : Work → Region → List code_binding.Binding → List (Binding Identifier Identifier) → Type 0
-MayNameBindings work region [] ms = Unit {0}
-MayNameBindings work region (b ∷ bs) [] = Unit {0}
-MayNameBindings work region (b ∷ bs) (m ∷ ms) = MayNameValue work region b m.value × MayNameBindings work region bs ms
 
 -- a variable's number stands beside this value, whose nodes may be named
 abbrev pub IsBoundTo : Work → Region → code_binding.Binding → ℕ → Value Identifier → Type 0

@@ -7,12 +7,12 @@ ghost use Rattle.scheme_model.specs.RulesShape.{Rules as ModelRules};
 ghost use Rattle.scheme_model.specs.Matching.{Chosen};
 ghost use Rattle.scheme_model.specs.Ident.{Ident as Identifier};
 ghost use Rattle.syntax_tree.specs.Macros.{RulesFor, MatchedFor};
+ghost use Rattle.syntax_tree.specs.Bound.{MayNameBindings, IsMatched};
 ghost use Rattle.syntax_tree.specs.Numbered.{number_of};
 ghost use Rattle.syntax_tree.specs.Works.{IsOpened, CanName, KeepsTrees, SameRegions, AddsIn, live_count};
 ghost use Rattle.syntax_tree.specs.declared.trees.table.Region.{Region as AnyRegion};
-ghost use Rattle.rules_build.specs.Values.{MayNameBindings};
 ghost use Rattle.rules_build.specs.Adds.{Inserts};
-ghost use Rattle.rules_build.specs.Builds.{IsMatched, instance, Builds, CountsNodes, IsPlanned};
+ghost use Rattle.rules_build.specs.Builds.{instance, Builds, CountsNodes, IsPlanned};
 
 use crate::adding::add_plan;
 use crate::measure::{fits, take_size};

@@ -1,19 +1,22 @@
 -- What is found in patterns, part by part.
-use Rattle.std.proofs.Common.{◌≡◌, ℕ, zero, suc, ◌+◌, ◌≤◌, List, [], ◌∷◌, ◌++◌, Bool, true, false, ◌||◌, refl, sym, ap, ◌∙◌, subst, append_assoc, arith}
+use Rattle.std.proofs.Common.{◌≡◌, ℕ, suc, ◌≤◌, List, [], ◌∷◌, ◌++◌, Bool, true, false, ◌||◌, refl, sym, ap, ◌∙◌, subst, append_assoc}
 use Rattle.std.specs.Prelude.{nat_lt, Option, Some, None}
 use Rattle.std.proofs.lemmas.List.{append-nil}
 use Rattle.std.proofs.lemmas.Option.{same_Some}
 use Rattle.scheme_model.specs.declared.Occ.{Occ}
-use Rattle.scheme_model.specs.Trees.{Atom, Tree, name, atom, list, vector, Trees, no_trees, tree, Tail, proper, dotted}
+use Rattle.scheme_model.specs.Trees.{Tree, name, vector, Trees, no_trees, tree, Tail, proper, dotted}
+use Rattle.scheme_model.specs.ExpansionFaults.{named}
 use Rattle.scheme_model.specs.Matching.{behind}
-use Rattle.scheme_model.specs.RulesShape.{Rules, Variable, Role, IsLiteral, IsEllipsis, IsAny, IsVariable, role_of, dots_of, variable_at, starts_dots, ends_dots, dots_count, depth_before, some_bad_pattern, bad_pattern_tail, some_two_dots, two_dots_tail, variables_among, variables_behind}
+use Rattle.scheme_model.specs.RulesShape.{Rules, Variable, Role, IsVariable, role_of, dots_of, variable_at, starts_dots, ends_dots, dots_count, depth_before, some_bad_pattern, bad_pattern_tail, some_two_dots, two_dots_tail, variables_among, variables_behind}
 use Rattle.scheme_model.specs.Ident.{Ident as Identifier}
-use Rattle.syntax_tree.specs.Macros.{identifiers, IsIdent}
+use Rattle.syntax_tree.specs.Macros.{identifiers}
+use Rattle.syntax_tree.specs.Placed.{IsNamed}
 use Rattle.scheme_model.specs.Measures.{tail_depth}
 use Rattle.syntax_tree.specs.Looks.{EndStands, StandsWithin, EndWithin}
 use Rattle.syntax_tree.specs.Works.{StandsFor}
 use Rattle.syntax_tree.specs.declared.trees.Work.{Work}
 use Rattle.syntax_tree.specs.declared.trees.nodes.Tree as number
+use Rattle.syntax_tree.specs.declared.rules.Named as code_name
 use Rattle.rules_check.specs.declared.pattern.Variable as code
 use Rattle.rules_check.specs.declared.pattern.Found.{Found}
 use Rattle.rules_check.specs.Patterns.{Content, of_pattern, of_parts, of_list, AreVariables, Finds, Contains}
@@ -78,6 +81,31 @@ finds_both work f g h c d p q =
       more = p.more ++ q.more;
       variables = q.variables ∙ ap (λ x. x ++ q.more) p.variables ∙ append_assoc f.variables.items p.more q.more;
       found = variables_append work p.more q.more c.variables d.variables p.found q.found;
+    }
+
+-- ---- one identifier
+
+pub variable_found : (work : Work) (f g : Found) (r : Rules Identifier) (i : Identifier) (o : Option Occ) (depth : ℕ) (n : code_name.Named) → g.misplaced ≡ f.misplaced → g.two ≡ f.two →
+    g.variables.items ≡ f.variables.items ++ record { name = n; depth = depth } ∷ [] → IsNamed work.symbols n (named i o) → IsVariable ≡ role_of identifiers r i → Finds work f g (of_pattern r (name i o) depth)
+variable_found work f g r i o depth n m t v is e =
+    let one : List code.Variable = record { name = n; depth = depth } ∷ [] in
+    record {
+      misplaced = m ∙ sym (or_none f.misplaced);
+      two = t ∙ sym (or_none f.two);
+      more = one;
+      variables = v;
+      found = subst (λ (x : Role). AreVariables work one (variable_at x i o depth)) e (is, refl, tt);
+    }
+
+pub other_found : (work : Work) (f : Found) (r : Rules Identifier) (i : Identifier) (o : Option Occ) (depth : ℕ) (role : Role) → variable_at role i o depth ≡ [] → role ≡ role_of identifiers r i → Finds work f f (of_pattern r (name i o) depth)
+other_found work f r i o depth role none e =
+    let nothing_more : [] ≡ variable_at (role_of identifiers r i) i o depth = sym none ∙ ap (λ (x : Role). variable_at x i o depth) e in
+    record {
+      misplaced = sym (or_none f.misplaced);
+      two = sym (or_none f.two);
+      more = [];
+      variables = sym (append-nil f.variables.items);
+      found = subst (λ (ws : List (Variable Identifier)). AreVariables work [] ws) nothing_more tt;
     }
 
 -- ---- parts

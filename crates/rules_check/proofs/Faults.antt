@@ -4,19 +4,19 @@ use Rattle.std.proofs.lemmas.Bool.{eqb-true}
 use Rattle.std.proofs.lemmas.Bool.Decides.{nat_tests}
 use Rattle.std.specs.Prelude.{nat_eq, is_some, if◌then◌else◌}
 use Rattle.std.specs.List.{list_any}
-use Rattle.std.specs.BTreeSet.{contains}
 use Rattle.std.specs.Ordering.{nat_cmp, is_eq}
-use Rattle.scheme_model.specs.Trees.{Tree, name, atom, list, vector, Trees, no_trees, tree, Tail, proper, dotted}
+use Rattle.scheme_model.specs.Trees.{Tree, name, atom, list, vector, no_trees, tree, proper, dotted}
 use Rattle.scheme_model.specs.ExpansionFaults.{Named, Fault, BadRules, TwoEllipses, DuplicateVariable, IdleEllipsis, ◌>>◌}
-use Rattle.scheme_model.specs.Shapes.{is_among}
-use Rattle.scheme_model.specs.RulesShape.{Rules, Rule, Variable, first_twice, depth_of, refuse, rules_of, rules_parts, check_rule, check_rules, pattern_variables, dots_of, is_dots, bad_template, is_idle, deep_enough}
+use Rattle.scheme_model.specs.RulesShape.{Rules, Rule, Variable, first_twice, depth_of, refuse, check_rule, check_rules, pattern_variables, dots_of, is_dots, bad_template, is_idle, deep_enough}
 use Rattle.scheme_model.specs.Ident.{Ident as Identifier}
 use Rattle.syntax_tree.specs.Names.{Names, AreToldApart}
-use Rattle.syntax_tree.specs.Macros.{identifiers, IsIdent, AreIdents, IsEllipsisOf, AreRolesOf, TellsRoles, RulesFor, IsRule, AreRules}
+use Rattle.syntax_tree.specs.Placed.{IsNamed}
+use Rattle.syntax_tree.specs.Macros.{identifiers, IsIdent, AreIdents, IsEllipsisOf, AreRolesOf, TellsRoles, IsRule, AreRules}
 use Rattle.syntax_tree.specs.declared.trees.Work.{Work}
 use Rattle.syntax_tree.specs.declared.rules.Rules as code_rules
 use Rattle.syntax_tree.specs.declared.rules.Rule as code_rule
 use Rattle.syntax_tree.specs.declared.rules.Roles.{Roles}
+use Rattle.syntax_tree.specs.declared.rules.Named as code_name
 use Rattle.syntax_tree.proofs.RoleLaws.{same_by_number, among_by_number}
 use Rattle.rules_check.specs.declared.pattern.Variable as code
 use Rattle.rules_check.specs.declared.fault.RulesFault.{RulesFault}
@@ -28,14 +28,14 @@ use Rattle.rules_check.specs.Patterns.{of_list, AreVariables, Contains}
 use Rattle.rules_check.specs.Templates.{of_template, IsShallow, Sees}
 use Rattle.rules_check.specs.Lowest.{depth_by_number, twice_by_number, lowest_of}
 
--- the number of the variable that stands twice
-abbrev pub IsTwice : Work → Option ℕ → Result (Unit {0}) (Fault Identifier) → Type 0
+-- the variable that stands twice, with its place
+abbrev pub IsTwice : Work → Option code_name.Named → Result (Unit {0}) (Fault Identifier) → Type 0
 IsTwice work None (Ok done) = Unit {0}
 IsTwice work None (Err e) = ⊥
 IsTwice work (Some n) (Ok done) = ⊥
-IsTwice work (Some n) (Err e) = (i : Named Identifier) × (e ≡ DuplicateVariable i) × IsIdent work.symbols n i.name
+IsTwice work (Some n) (Err e) = (i : Named Identifier) × (e ≡ DuplicateVariable i) × IsNamed work.symbols n i
 
-twice_step : (work : Work) (b : Bool) (n : ℕ) (i : Named Identifier) (m : Option ℕ) (x : Result (Unit {0}) (Fault Identifier)) → IsIdent work.symbols n i.name → IsTwice work m x →
+twice_step : (work : Work) (b : Bool) (n : code_name.Named) (i : Named Identifier) (m : Option code_name.Named) (x : Result (Unit {0}) (Fault Identifier)) → IsNamed work.symbols n i → IsTwice work m x →
     IsTwice work (if b then Some n else m) (if b then Err (DuplicateVariable i) else x)
 twice_step work true n i m x h g = (i, refl, h)
 twice_step work false n i m x h g = g
@@ -46,10 +46,10 @@ twice_is work apart seen names [] [] s h = tt
 twice_is work apart seen names [] (w ∷ ws) s h = absurd h
 twice_is work apart seen names (v ∷ vs) [] s h = absurd h
 twice_is work apart seen names (v ∷ vs) (w ∷ ws) s h =
-    let e = among_by_number work.symbols apart v.id w.variable.name h.0 seen names s in
-    let rest = twice_is work apart (v.id ∷ seen) (w.variable ∷ names) vs ws (h.0, s) h.2 in
+    let e = among_by_number work.symbols apart v.name.ident w.variable.name h.0.0 seen names s in
+    let rest = twice_is work apart (v.name.ident ∷ seen) (w.variable ∷ names) vs ws (h.0.0, s) h.2 in
     subst (λ (b : Bool). IsTwice work (twice_by_number seen (v ∷ vs)) (if b then Err (DuplicateVariable w.variable) else first_twice identifiers.same (w.variable ∷ names) ws)) (sym e)
-    (twice_step work (list_any (nat_eq v.id) seen) v.id w.variable (twice_by_number (v.id ∷ seen) vs) (first_twice identifiers.same (w.variable ∷ names) ws) h.0 rest)
+    (twice_step work (list_any (nat_eq v.name.ident) seen) v.name w.variable (twice_by_number (v.name.ident ∷ seen) vs) (first_twice identifiers.same (w.variable ∷ names) ws) h.0 rest)
 
 -- the depth of a variable
 pub depth_is : (work : Work) (apart : AreToldApart work.symbols.idents) (vs : List code.Variable) (ws : List (Variable Identifier)) → AreVariables work vs ws → (n : ℕ) (i : Identifier) → IsIdent work.symbols n i →
@@ -58,12 +58,12 @@ depth_is work apart [] [] h n i g = refl
 depth_is work apart [] (w ∷ ws) h n i g = absurd h
 depth_is work apart (v ∷ vs) [] h n i g = absurd h
 depth_is work apart (v ∷ vs) (w ∷ ws) h n i g =
-    let first = sym (same_by_number work.symbols apart v.id n w.variable.name i h.0 g) in
+    let first = sym (same_by_number work.symbols apart v.name.ident n w.variable.name i h.0.0 g) in
     let rest = depth_is work apart vs ws h.2 n i g in
     λ k. if first k then Some (h.1 k) else rest k
 
 -- the lowest fault
-pub lowest_passes : (work : Work) (bad two idle : Bool) (twice shallow : Option ℕ) (x y : Result (Unit {0}) (Fault Identifier)) → IsTwice work twice x → IsShallow work shallow y →
+pub lowest_passes : (work : Work) (bad two idle : Bool) (twice shallow : Option code_name.Named) (x y : Result (Unit {0}) (Fault Identifier)) → IsTwice work twice x → IsShallow work shallow y →
     Passes work (refuse bad BadRules >> λ done. refuse two TwoEllipses >> λ done. x >> λ done. y >> λ done. refuse idle IdleEllipsis) (lowest_of bad two twice shallow idle)
 lowest_passes work true two idle twice shallow x y h g = refl
 lowest_passes work false true idle twice shallow x y h g = refl
@@ -98,12 +98,12 @@ in_form (list (tree head (tree t ts)) (dotted u) o) = refl
 -- a depth, or else that of one more
 abbrev pub or_one_more : Option ℕ → code.Variable → ℕ → Option ℕ
 or_one_more (Some d) v n = Some d
-or_one_more None v n = if nat_eq n v.id then Some v.depth else None
+or_one_more None v n = if nat_eq n v.name.ident then Some v.depth else None
 
 pub depth_more : (vs : List code.Variable) (v : code.Variable) (n : ℕ) → depth_by_number (vs ++ v ∷ []) n ≡ or_one_more (depth_by_number vs n) v n
 depth_more [] v n = refl
 depth_more (u ∷ us) v n =
-    elim (nat_eq n u.id) as (λ b. (if b then Some u.depth else depth_by_number (us ++ v ∷ []) n) ≡ or_one_more (if b then Some u.depth else depth_by_number us n) v n) [
+    elim (nat_eq n u.name.ident) as (λ b. (if b then Some u.depth else depth_by_number (us ++ v ∷ []) n) ≡ or_one_more (if b then Some u.depth else depth_by_number us n) v n) [
       | true ↦ refl
       | false ↦ depth_more us v n
     ]
@@ -121,37 +121,37 @@ some_is None h = absurd cc
 some_is (Some a) h = (a, refl)
 
 -- a variable that wasn't there, with its depth
-pub depth_added : (vs : List code.Variable) (v : code.Variable) (n : ℕ) (before now : Option ℕ) → before ≡ depth_by_number vs n → depth_by_number vs v.id ≡ None → now ≡ cond (is_eq (nat_cmp v.id n)) (Some v.depth) before →
+pub depth_added : (vs : List code.Variable) (v : code.Variable) (n : ℕ) (before now : Option ℕ) → before ≡ depth_by_number vs n → depth_by_number vs v.name.ident ≡ None → now ≡ cond (is_eq (nat_cmp v.name.ident n)) (Some v.depth) before →
     now ≡ depth_by_number (vs ++ v ∷ []) n
 depth_added vs v n before now e new h =
-    h ∙ ap (λ (b : Bool). cond b (Some v.depth) before) (eq_cmp v.id n) ∙ step (nat_eq n v.id) refl ∙ ap (λ (o : Option ℕ). or_one_more o v n) e ∙ sym (depth_more vs v n)
+    h ∙ ap (λ (b : Bool). cond b (Some v.depth) before) (eq_cmp v.name.ident n) ∙ step (nat_eq n v.name.ident) refl ∙ ap (λ (o : Option ℕ). or_one_more o v n) e ∙ sym (depth_more vs v n)
   where
-    here : (o : Option ℕ) → nat_eq n v.id ≡ true → o ≡ None → Some v.depth ≡ or_one_more o v n
+    here : (o : Option ℕ) → nat_eq n v.name.ident ≡ true → o ≡ None → Some v.depth ≡ or_one_more o v n
     here o t g = sym (ap (λ (x : Option ℕ). or_one_more x v n) g ∙ ap (λ (b : Bool). cond b (Some v.depth) None) t)
 
-    other : (o : Option ℕ) → nat_eq n v.id ≡ false → o ≡ or_one_more o v n
+    other : (o : Option ℕ) → nat_eq n v.name.ident ≡ false → o ≡ or_one_more o v n
     other None t = sym (ap (λ (b : Bool). cond b (Some v.depth) None) t)
     other (Some d) t = refl
 
-    step : (b : Bool) → nat_eq n v.id ≡ b → cond b (Some v.depth) before ≡ or_one_more before v n
-    step true t = here before t (e ∙ ap (depth_by_number vs) (eqb-true n v.id t) ∙ new)
+    step : (b : Bool) → nat_eq n v.name.ident ≡ b → cond b (Some v.depth) before ≡ or_one_more before v n
+    step true t = here before t (e ∙ ap (depth_by_number vs) (eqb-true n v.name.ident t) ∙ new)
     step false t = other before t
 
 -- and one that was there
-pub depth_kept : (vs : List code.Variable) (v : code.Variable) (n d : ℕ) → depth_by_number vs v.id ≡ Some d → depth_by_number vs n ≡ depth_by_number (vs ++ v ∷ []) n
+pub depth_kept : (vs : List code.Variable) (v : code.Variable) (n d : ℕ) → depth_by_number vs v.name.ident ≡ Some d → depth_by_number vs n ≡ depth_by_number (vs ++ v ∷ []) n
 depth_kept vs v n d there = step (depth_by_number vs n) refl ∙ sym (depth_more vs v n)
   where
-    none : (b : Bool) → nat_eq n v.id ≡ b → depth_by_number vs n ≡ None → None ≡ cond b (Some v.depth) None
-    none true t g = let same = ap (depth_by_number vs) (eqb-true n v.id t) in absurd cc
+    none : (b : Bool) → nat_eq n v.name.ident ≡ b → depth_by_number vs n ≡ None → None ≡ cond b (Some v.depth) None
+    none true t g = let same = ap (depth_by_number vs) (eqb-true n v.name.ident t) in absurd cc
     none false t g = refl
 
     step : (o : Option ℕ) → depth_by_number vs n ≡ o → o ≡ or_one_more o v n
-    step None g = none (nat_eq n v.id) refl g
+    step None g = none (nat_eq n v.name.ident) refl g
     step (Some x) g = refl
 
 -- a variable that isn't among those before it
-pub twice_more : (ns : List ℕ) (vs us : List code.Variable) (v : code.Variable) → vs ≡ v ∷ us → list_any (nat_eq v.id) ns ≡ false → twice_by_number ns vs ≡ twice_by_number (v.id ∷ ns) us
-twice_more ns vs us v e h = ap (twice_by_number ns) e ∙ ap (λ (b : Bool). if b then Some v.id else twice_by_number (v.id ∷ ns) us) h
+pub twice_more : (ns : List ℕ) (vs us : List code.Variable) (v : code.Variable) → vs ≡ v ∷ us → list_any (nat_eq v.name.ident) ns ≡ false → twice_by_number ns vs ≡ twice_by_number (v.name.ident ∷ ns) us
+twice_more ns vs us v e h = ap (twice_by_number ns) e ∙ ap (λ (b : Bool). if b then Some v.name else twice_by_number (v.name.ident ∷ ns) us) h
 
 pub not_true : (b : Bool) → not b ≡ true → b ≡ false
 not_true true h = absurd cc
@@ -204,7 +204,7 @@ form_passed t r u s h =
 
 -- ---- one rule
 
-pub rule_passes : (work : Work) (r : Rules Identifier) (m : Rule Identifier) (found : Found) (whole : Bool) (twice : Option ℕ) (seen : Seen) → Contains work found (of_list r m.parts m.tail 0) →
+pub rule_passes : (work : Work) (r : Rules Identifier) (m : Rule Identifier) (found : Found) (whole : Bool) (twice : Option code_name.Named) (seen : Seen) → Contains work found (of_list r m.parts m.tail 0) →
     whole ≡ is_dots (dots_of identifiers r) m.template → IsTwice work twice (first_twice identifiers.same [] (pattern_variables identifiers r m)) →
     Sees work seen (of_template (dots_of identifiers r) (depth_of identifiers.same (pattern_variables identifiers r m)) m.template 0) →
     Passes work (check_rule identifiers r m) (lowest_of (found.misplaced || (whole || seen.misplaced)) found.two twice seen.shallow seen.idle)

@@ -1,17 +1,17 @@
 -- The shape of a list of rules, part by part.
-use Rattle.std.proofs.Common.{◌≡◌, ◌≢◌, ℕ, zero, suc, ◌+◌, ◌<◌, ◌≤◌, List, [], ◌∷◌, ◌++◌, length, Bool, true, false, Option, Some, None, Result, Ok, Err, refl, sym, ap, ◌∙◌, subst, append_assoc, arith}
+use Rattle.std.proofs.Common.{◌≡◌, ◌≢◌, ℕ, suc, List, [], ◌∷◌, ◌++◌, true, false, Option, Result, Ok, Err, refl, sym, ap, ◌∙◌, subst, append_assoc}
 use Rattle.std.specs.Prelude.{is_some}
 use Rattle.std.specs.Result.{IsErrAnd}
 use Rattle.std.proofs.lemmas.List.{append-nil}
 use Rattle.scheme_model.specs.declared.Occ.{Occ}
-use Rattle.scheme_model.specs.Trees.{Atom, Tree, name, atom, list, vector, Trees, no_trees, tree, Tail, proper, dotted}
+use Rattle.scheme_model.specs.Trees.{Tree, name, atom, list, vector, Trees, no_trees, tree, Tail, proper, dotted}
 use Rattle.scheme_model.specs.TreeParts.{count}
 use Rattle.scheme_model.specs.Matching.{behind}
 use Rattle.scheme_model.specs.ExpansionFaults.{Named, named, Fault, BadRules, BadForm, TwoEllipses, DuplicateVariable, EllipsisDepth, IdleEllipsis, ◌>>◌}
-use Rattle.scheme_model.specs.Shapes.{names_of, name_of}
-use Rattle.scheme_model.specs.RulesShape.{Rules, Rule, rules_behind, rules_parts, rules_in, rule_of, rule_in, bad}
+use Rattle.scheme_model.specs.Shapes.{names_of}
+use Rattle.scheme_model.specs.RulesShape.{Rule, rules_behind, rules_in, rule_of, rule_in, bad}
 use Rattle.scheme_model.specs.Ident.{Ident as Identifier}
-use Rattle.syntax_tree.specs.Macros.{IsIdent, AreIdents, IsRule, AreRules, IsEllipsisOf, RulesFor}
+use Rattle.syntax_tree.specs.Macros.{IsIdent, AreIdents, IsRule, AreRules}
 use Rattle.syntax_tree.specs.Works.{StandsFor}
 use Rattle.syntax_tree.specs.Looks.{EndStands}
 use Rattle.syntax_tree.proofs.Looking.{some_end, no_end}
@@ -20,7 +20,7 @@ use Rattle.syntax_tree.specs.declared.trees.Work.{Work}
 use Rattle.syntax_tree.specs.declared.rules.Rule as code_rule
 use Rattle.rules_check.specs.declared.fault.RulesFault.{RulesFault}
 use Rattle.rules_check.specs.declared.fault.RulesFault.TheVariants as fault
-use Rattle.rules_check.specs.Checked.{Refuses, Ends, literals_in, parts_shapes, pair_in, is_headed, starts_name}
+use Rattle.rules_check.specs.Checked.{Refuses, Ends, literals_in, pair_in, is_headed, starts_name}
 
 -- ---- faults that are passed on
 

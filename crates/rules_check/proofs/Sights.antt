@@ -1,21 +1,23 @@
 -- What is seen of templates, part by part.
-use Rattle.std.proofs.Common.{◌≡◌, ℕ, zero, suc, ◌+◌, ◌-◌, ◌^◌, ◌<◌, ◌≤◌, Bool, true, false, ◌||◌, ◌&&◌, not, cond, refl, sym, ap, ◌∙◌, subst, arith, add-one}
+use Rattle.std.proofs.Common.{◌≡◌, ℕ, zero, suc, ◌+◌, ◌-◌, ◌^◌, ◌<◌, ◌≤◌, Bool, true, false, ◌||◌, ◌&&◌, not, refl, sym, ap, ◌∙◌, subst, arith, add-one}
 use Rattle.std.specs.Prelude.{nat_lt, nat_le, max, is_some, Option, Some, None, Result, Ok, Err, if◌then◌else◌}
 use Rattle.std.proofs.lemmas.Bool.Decides.{nat_tests}
 use Rattle.scheme_model.specs.declared.Occ.{Occ}
 use Rattle.scheme_model.specs.Trees.{Tree, name, atom, list, vector, Trees, no_trees, tree, Tail, proper, dotted}
-use Rattle.scheme_model.specs.ExpansionFaults.{Fault, ◌>>◌}
-use Rattle.scheme_model.specs.RulesShape.{nowhere, is_dots, starts_dots, ends_dots, leading, escape_of, unless_escape, deep_in, bad_template, some_bad_template, bad_template_tail, is_idle, some_idle, idle_tail, deepest, deepest_among, deepest_tail, greater, deep_enough, all_deep, deep_tail}
+use Rattle.scheme_model.specs.ExpansionFaults.{named, Fault, EllipsisDepth, ◌>>◌}
+use Rattle.scheme_model.specs.RulesShape.{nowhere, is_dots, starts_dots, ends_dots, leading, escape_of, unless_escape, deep_in, some_bad_template, bad_template_tail, is_idle, some_idle, idle_tail, deepest, deepest_among, deepest_tail, greater, deep_enough, all_deep, deep_tail, most, too_shallow}
 use Rattle.scheme_model.specs.Ident.{Ident as Identifier}
 use Rattle.syntax_tree.specs.declared.trees.Work.{Work}
 use Rattle.rules_check.specs.declared.template.Seen.{Seen}
-use Rattle.rules_check.specs.Templates.{Sight, of_template, of_parts, of_list, IsShallow, Sees, first_of}
+use Rattle.rules_check.specs.Templates.{Sight, of_template, of_parts, of_list, IsShallow, Sees, first_of, seen_name}
 use Rattle.rules_check.specs.Templates.{CanSee, CanSeeEnd}
-use Rattle.rules_check.proofs.Contents.{or_none, or_assoc, end_tree}
+use Rattle.rules_check.proofs.Contents.{or_none, end_tree}
 use Rattle.scheme_model.specs.TreeParts.{count}
 use Rattle.scheme_model.specs.Matching.{behind}
 use Rattle.scheme_model.specs.Measures.{tree_size, trees_size, tail_size, tail_depth}
+use Rattle.syntax_tree.specs.Placed.{IsNamed}
 use Rattle.syntax_tree.specs.declared.trees.nodes.Tree as number
+use Rattle.syntax_tree.specs.declared.rules.Named as code_name
 
 -- ---- truth values and numbers
 
@@ -88,7 +90,7 @@ escape_proper dots (tree t (tree u (tree v vs))) tail h = absurd cc
 
 -- ---- the first that is too shallow
 
-pub first_shallow : (work : Work) (a b : Option ℕ) (x y : Result (Unit {0}) (Fault Identifier)) → IsShallow work a x → IsShallow work b y → IsShallow work (first_of a b) (x >> λ done. y)
+pub first_shallow : (work : Work) (a b : Option code_name.Named) (x y : Result (Unit {0}) (Fault Identifier)) → IsShallow work a x → IsShallow work b y → IsShallow work (first_of a b) (x >> λ done. y)
 first_shallow work None b (Ok u) y h g = g
 first_shallow work None b (Err e) y h g = absurd h
 first_shallow work (Some n) b (Ok u) y h g = absurd h
@@ -97,6 +99,39 @@ first_shallow work (Some n) b (Err e) y h g = h
 then_done : (x : Result (Unit {0}) (Fault Identifier)) → (x >> λ done. Ok tt) ≡ x
 then_done (Ok tt) = refl
 then_done (Err e) = refl
+
+-- ---- one identifier
+
+seen_shallow : (work : Work) (n : code_name.Named) (i : Identifier) (o : Option Occ) (level : ℕ) (d : Option ℕ) → IsNamed work.symbols n (named i o) → IsShallow work (seen_name n d level).shallow (too_shallow d i o level)
+seen_shallow work n i o level None h = tt
+seen_shallow work n i o level (Some d) h = by_test (nat_le d level)
+  where
+    by_test : (b : Bool) → IsShallow work (if b then None else Some n) (if b then Ok tt else Err (EllipsisDepth (named i o)))
+    by_test true = tt
+    by_test false = (named i o, refl, h)
+
+seen_placed : (n : code_name.Named) (level : ℕ) (d : Option ℕ) → (seen_name n d level).misplaced ≡ false
+seen_placed n level None = refl
+seen_placed n level (Some d) = refl
+
+seen_driven : (n : code_name.Named) (level : ℕ) (d : Option ℕ) → (seen_name n d level).idle ≡ false
+seen_driven n level None = refl
+seen_driven n level (Some d) = refl
+
+seen_most : (n : code_name.Named) (level : ℕ) (d : Option ℕ) → (seen_name n d level).deepest ≡ most d
+seen_most n level None = refl
+seen_most n level (Some d) = refl
+
+pub sees_name : (work : Work) (dots : Identifier → Bool) (depth : Identifier → Option ℕ) (n : code_name.Named) (i : Identifier) (o : Option Occ) (level : ℕ) (d : Option ℕ) (s : Seen) → IsNamed work.symbols n (named i o) → d ≡ depth i →
+    s ≡ seen_name n d level → Sees work s (of_template dots depth (name i o) level)
+sees_name work dots depth n i o level d s is e same =
+    subst (λ (x : Seen). Sees work x (of_template dots depth (name i o) level)) (sym same)
+    (record {
+      misplaced = seen_placed n level d;
+      idle = seen_driven n level d;
+      deepest = seen_most n level d ∙ ap most e;
+      shallow = subst (λ (x : Option ℕ). IsShallow work (seen_name n d level).shallow (too_shallow x i o level)) e (seen_shallow work n i o level d is);
+    })
 
 -- ---- one after another
 
@@ -114,7 +149,7 @@ pub record Joins (first rest both : Seen) : Type 0 where
 -- parts of which nothing is left
 pub sees_none : (work : Work) (dots : Identifier → Bool) (depth : Identifier → Option ℕ) (level : ℕ) (s : Seen) → s.misplaced ≡ false → s.idle ≡ false → s.deepest ≡ 0 → s.shallow ≡ None →
     Sees work s (of_parts dots depth no_trees level)
-sees_none work dots depth level s m i d h = record { misplaced = m; idle = i; deepest = d; shallow = subst (λ (x : Option ℕ). IsShallow work x (Ok tt)) (sym h) tt }
+sees_none work dots depth level s m i d h = record { misplaced = m; idle = i; deepest = d; shallow = subst (λ (x : Option code_name.Named). IsShallow work x (Ok tt)) (sym h) tt }
 
 -- one more part, before those behind it
 pub sees_more : (work : Work) (dots : Identifier → Bool) (depth : Identifier → Option ℕ) (t : Tree Identifier) (ts : Trees Identifier) (level n : ℕ) (first rest both : Seen) (here : Bool) →
@@ -130,7 +165,7 @@ sees_more work dots depth t ts level n first rest both here e p q m i d s h =
       idle = i ∙ or_swap (first.idle || rest.idle) here ∙ (λ k. now k || ((p.idle ∙ ap (is_idle dots depth t) same) k || q.idle k));
       deepest = d ∙ greater_max first.deepest rest.deepest ∙ (λ k. greater (p.deepest k) (q.deepest k));
       shallow =
-          subst (λ (x : Option ℕ). IsShallow work x (deep_enough dots depth t (level + leading dots ts) >> λ done. all_deep dots depth ts level)) (sym s)
+          subst (λ (x : Option code_name.Named). IsShallow work x (deep_enough dots depth t (level + leading dots ts) >> λ done. all_deep dots depth ts level)) (sym s)
           (first_shallow work first.shallow rest.shallow (deep_enough dots depth t (level + leading dots ts)) (all_deep dots depth ts level)
           (subst (λ x. IsShallow work first.shallow (deep_enough dots depth t x)) same p.shallow) q.shallow);
     }
@@ -142,7 +177,7 @@ of_end dots depth tail level = record { misplaced = bad_template_tail dots tail;
 
 pub end_none : (work : Work) (dots : Identifier → Bool) (depth : Identifier → Option ℕ) (level : ℕ) (s : Seen) → s.misplaced ≡ false → s.idle ≡ false → s.deepest ≡ 0 → s.shallow ≡ None →
     Sees work s (of_end dots depth proper level)
-end_none work dots depth level s m i d h = record { misplaced = m; idle = i; deepest = d; shallow = subst (λ (x : Option ℕ). IsShallow work x (Ok tt)) (sym h) tt }
+end_none work dots depth level s m i d h = record { misplaced = m; idle = i; deepest = d; shallow = subst (λ (x : Option code_name.Named). IsShallow work x (Ok tt)) (sym h) tt }
 
 -- the parts and the tail of a list
 pub sees_list : (work : Work) (dots : Identifier → Bool) (depth : Identifier → Option ℕ) (ts : Trees Identifier) (tail : Tail Identifier) (level : ℕ) (first last both : Seen) →
@@ -155,7 +190,7 @@ sees_list work dots depth ts tail level first last both p q m i d s =
       idle = i ∙ (λ k. p.idle k || q.idle k);
       deepest = d ∙ greater_max first.deepest last.deepest ∙ (λ k. greater (p.deepest k) (q.deepest k));
       shallow =
-          subst (λ (x : Option ℕ). IsShallow work x (all_deep dots depth ts level >> λ done. deep_tail dots depth tail level)) (sym s)
+          subst (λ (x : Option code_name.Named). IsShallow work x (all_deep dots depth ts level >> λ done. deep_tail dots depth tail level)) (sym s)
           (first_shallow work first.shallow last.shallow (all_deep dots depth ts level) (deep_tail dots depth tail level) p.shallow q.shallow);
     }
 
@@ -206,7 +241,7 @@ sees_escape work dots depth ts tail o level s both h p m i d e =
       misplaced = m;
       idle = i;
       deepest = d ∙ p.deepest;
-      shallow = subst (λ x. IsShallow work both.shallow x) deep (subst (λ (x : Option ℕ). IsShallow work x (all_deep nowhere depth ts level >> λ done. deep_tail nowhere depth tail level)) (sym e) p.shallow);
+      shallow = subst (λ x. IsShallow work both.shallow x) deep (subst (λ (x : Option code_name.Named). IsShallow work x (all_deep nowhere depth ts level >> λ done. deep_tail nowhere depth tail level)) (sym e) p.shallow);
     })
 
 -- ---- ellipses in a row

@@ -1,11 +1,12 @@
 -- How a check of rules ends.
 use Rattle.std.specs.Prelude.{◌≡◌, ℕ, List, Bool, true, false, Option, Some, None, Result, Ok, Err}
-use Rattle.scheme_model.specs.Trees.{Tree, name, atom, list, vector, Trees, no_trees, tree, Tail, proper, dotted}
+use Rattle.scheme_model.specs.Trees.{Tree, name, atom, list, vector, Trees, no_trees, tree, proper, dotted}
 use Rattle.scheme_model.specs.ExpansionFaults.{Named, Fault, BadRules, TwoEllipses, DuplicateVariable, EllipsisDepth, IdleEllipsis}
 use Rattle.scheme_model.specs.Shapes.{names_of}
 use Rattle.scheme_model.specs.RulesShape.{Rules, Rule, rules_of, rules_parts, rule_of, bad}
 use Rattle.scheme_model.specs.Ident.{Ident as Identifier}
-use Rattle.syntax_tree.specs.Macros.{identifiers, IsIdent, AreIdents, IsRule, AreRules, RulesFor}
+use Rattle.syntax_tree.specs.Placed.{IsNamed}
+use Rattle.syntax_tree.specs.Macros.{identifiers, AreIdents, IsRule, AreRules, RulesFor}
 use Rattle.syntax_tree.specs.declared.trees.Work.{Work}
 use Rattle.syntax_tree.specs.declared.rules.Rules as code_rules
 use Rattle.syntax_tree.specs.declared.rules.Rule as code_rule
@@ -63,12 +64,12 @@ is_headed (vector ts o) = false
 
 -- ---- how a call ends
 
--- a fault of the code is that of the definition; want of memory says nothing
+-- a fault of the code is that of the definition, and a variable stands at the place that it tells; want of memory says nothing
 abbrev pub Refuses : {Y : Type 0} → Work → RulesFault → Result Y (Fault Identifier) → Type 0
 Refuses work fault.BadShape s = s ≡ Err BadRules
 Refuses work fault.TwoEllipses s = s ≡ Err TwoEllipses
-Refuses work (fault.DuplicateVariable n) s = (i : Named Identifier) × (s ≡ Err (DuplicateVariable i)) × IsIdent work.symbols n i.name
-Refuses work (fault.Depth n) s = (i : Named Identifier) × (s ≡ Err (EllipsisDepth i)) × IsIdent work.symbols n i.name
+Refuses work (fault.DuplicateVariable n) s = (i : Named Identifier) × (s ≡ Err (DuplicateVariable i)) × IsNamed work.symbols n i
+Refuses work (fault.Depth n) s = (i : Named Identifier) × (s ≡ Err (EllipsisDepth i)) × IsNamed work.symbols n i
 Refuses work fault.IdleEllipsis s = s ≡ Err IdleEllipsis
 Refuses work fault.Memory s = Unit {0}
 

@@ -3,7 +3,8 @@ use Rattle.std.specs.Prelude.{◌≡◌, ℕ, List, [], ◌∷◌, ◌++◌, Boo
 use Rattle.scheme_model.specs.Trees.{Tree, Trees, Tail}
 use Rattle.scheme_model.specs.RulesShape.{Rules, Variable, role_of, dots_of, starts_dots, ends_dots, dots_count, bad_pattern, some_bad_pattern, bad_pattern_tail, two_dots, some_two_dots, two_dots_tail, variables_in, variables_among, variables_behind}
 use Rattle.scheme_model.specs.Ident.{Ident as Identifier}
-use Rattle.syntax_tree.specs.Macros.{identifiers, IsIdent}
+use Rattle.syntax_tree.specs.Macros.{identifiers}
+use Rattle.syntax_tree.specs.Placed.{IsNamed}
 use Rattle.syntax_tree.specs.declared.trees.Work.{Work}
 use Rattle.rules_check.specs.declared.pattern.Variable as code
 use Rattle.rules_check.specs.declared.pattern.Found.{Found}
@@ -35,7 +36,7 @@ abbrev pub AreVariables : Work → List code.Variable → List (Variable Identif
 AreVariables work [] [] = Unit {0}
 AreVariables work [] (w ∷ ws) = ⊥
 AreVariables work (v ∷ vs) [] = ⊥
-AreVariables work (v ∷ vs) (w ∷ ws) = IsIdent work.symbols v.id w.variable.name × (v.depth ≡ w.depth) × AreVariables work vs ws
+AreVariables work (v ∷ vs) (w ∷ ws) = IsNamed work.symbols v.name w.variable × (v.depth ≡ w.depth) × AreVariables work vs ws
 
 -- a pattern's content was added to what was found
 pub record Finds (work : Work) (old new : Found) (content : Content) : Type 0 where

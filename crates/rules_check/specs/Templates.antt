@@ -9,9 +9,11 @@ use Rattle.scheme_model.specs.Ident.{Ident as Identifier}
 use Rattle.scheme_model.specs.Measures.{tree_size, trees_size, tail_size, tree_depth, trees_depth, tail_depth}
 use Rattle.syntax_tree.specs.Looks.{PartsStand, EndStands}
 use Rattle.syntax_tree.specs.Macros.{identifiers, IsIdent}
+use Rattle.syntax_tree.specs.Placed.{IsNamed}
 use Rattle.syntax_tree.specs.Works.{StandsFor}
 use Rattle.syntax_tree.specs.declared.trees.Work.{Work}
 use Rattle.syntax_tree.specs.declared.trees.nodes.Tree as number
+use Rattle.syntax_tree.specs.declared.rules.Named as code_name
 use Rattle.rules_check.specs.declared.template.Seen.{Seen}
 
 -- whether an ellipsis is misplaced, whether one is idle, the most ellipses of a variable in the pattern, and the first variable
@@ -44,12 +46,12 @@ of_list dots depth ts tail level =
       deep = all_deep dots depth ts level >> λ done. deep_tail dots depth tail level;
     }
 
--- the number of the variable that is too shallow
-abbrev pub IsShallow : Work → Option ℕ → Result (Unit {0}) (Fault Identifier) → Type 0
+-- the variable that is too shallow, with its place
+abbrev pub IsShallow : Work → Option code_name.Named → Result (Unit {0}) (Fault Identifier) → Type 0
 IsShallow work None (Ok done) = Unit {0}
 IsShallow work None (Err e) = ⊥
 IsShallow work (Some n) (Ok done) = ⊥
-IsShallow work (Some n) (Err e) = (i : Named Identifier) × (e ≡ EllipsisDepth i) × IsIdent work.symbols n i.name
+IsShallow work (Some n) (Err e) = (i : Named Identifier) × (e ≡ EllipsisDepth i) × IsNamed work.symbols n i
 
 pub record Sees (work : Work) (seen : Seen) (s : Sight) : Type 0 where
   pub misplaced : seen.misplaced ≡ s.misplaced
@@ -62,14 +64,14 @@ abbrev pub HasDepths : Work → BTreeMap ℕ ℕ → (Identifier → Option ℕ)
 HasDepths work depths depth = (n : ℕ) (i : Identifier) → IsIdent work.symbols n i → get nat_cmp depths n ≡ depth i
 
 -- the first of two
-abbrev pub first_of : Option ℕ → Option ℕ → Option ℕ
+abbrev pub first_of : Option code_name.Named → Option code_name.Named → Option code_name.Named
 first_of None n = n
 first_of (Some m) n = Some m
 
 -- what is seen of a variable of a depth
-abbrev pub seen_name : ℕ → Option ℕ → ℕ → Seen
-seen_name id None level = record { misplaced = false; idle = false; deepest = 0; shallow = None }
-seen_name id (Some depth) level = record { misplaced = false; idle = false; deepest = depth; shallow = if nat_le depth level then None else Some id }
+abbrev pub seen_name : code_name.Named → Option ℕ → ℕ → Seen
+seen_name name None level = record { misplaced = false; idle = false; deepest = 0; shallow = None }
+seen_name name (Some depth) level = record { misplaced = false; idle = false; deepest = depth; shallow = if nat_le depth level then None else Some name }
 
 -- a template that is at most so deep, under so many ellipses that all that it has can be counted
 abbrev pub CanSee : Work → number.Tree → ℕ → ℕ → Type 0

@@ -1,7 +1,7 @@
 //! Why rules are refused.
 use ls_base::Memory;
 use std::alloc::{AllocError, AllocFailed};
-use syntax_tree::symbols::IdNo;
+use syntax_tree::rules::Named;
 
 /// Why rules are refused.
 #[derive(Clone, Copy, Debug, PartialEq, Eq)]
@@ -10,10 +10,10 @@ pub enum RulesFault {
     BadShape,
     /// A list or a vector of a pattern has two ellipses.
     TwoEllipses,
-    /// A variable stands twice in a pattern.
-    DuplicateVariable(IdNo),
-    /// A variable of a template stands under too few ellipses.
-    Depth(IdNo),
+    /// A variable stands twice in a pattern: the second of the two.
+    DuplicateVariable(Named),
+    /// A variable of a template stands under too few ellipses: the leftmost that does.
+    Depth(Named),
     /// No variable drives an ellipsis of a template.
     IdleEllipsis,
     /// Memory ran out.

@@ -11,12 +11,14 @@ use syntax_tree::rules::{Roles, Rules};
 use syntax_tree::trees::{Tree, Work};
 
 mod fault;
+mod leaf;
 mod pattern;
 mod reading;
 mod rule;
 mod template;
 
 pub use fault::RulesFault;
+pub use leaf::{RuleLeaf, leaves};
 
 /// The rules that a list `(syntax-rules ..)` has, or the first fault: the shapes of the whole list come first, and then the rules
 /// in order. The list's first part isn't looked at.

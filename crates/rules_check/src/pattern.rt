@@ -1,25 +1,27 @@
 //! Patterns (R7RS 4.3.2): where their ellipses stand, and their variables.
-ghost use Rattle.std.specs.Prelude.{◌≡◌, ℕ, ◌+◌, ◌^◌, ◌<◌, ◌≤◌, length, OnOk};
-ghost use Rattle.scheme_model.specs.Trees.{Tree as ModelTree, Trees, Tail};
+ghost use Rattle.std.specs.Prelude.{◌≡◌, ℕ, ◌+◌, ◌^◌, ◌<◌, ◌≤◌, length, Option, OnOk};
+ghost use Rattle.scheme_model.specs.declared.Occ.{Occ};
+ghost use Rattle.scheme_model.specs.Trees.{Tree as ModelTree, name as name_tree, Trees, Tail};
+ghost use Rattle.scheme_model.specs.ExpansionFaults.{named};
 ghost use Rattle.scheme_model.specs.Matching.{behind};
 ghost use Rattle.scheme_model.specs.RulesShape.{Rules as ModelRules, dots_of, depth_before};
 ghost use Rattle.scheme_model.specs.Ident.{Ident as Identifier};
 ghost use Rattle.syntax_tree.specs.Looks.{PartsStand, EndStands, StandsWithin, PartsWithin, EndWithin, AreStanding};
-ghost use Rattle.syntax_tree.specs.Macros.{identifiers, TellsRoles};
+ghost use Rattle.syntax_tree.specs.Macros.{identifiers, IsIdent, TellsRoles};
+ghost use Rattle.syntax_tree.specs.Placed.{IsNamed};
 ghost use Rattle.syntax_tree.specs.Works.{StandsFor};
 ghost use Rattle.rules_check.specs.Patterns.{Finds, of_pattern, of_list, of_parts};
 
 use ls_base::{Mem, Memory};
 use std::alloc::Global;
-use syntax_tree::look::{Look, look_at};
-use syntax_tree::rules::{Role, Roles};
-use syntax_tree::symbols::IdNo;
+use syntax_tree::look::{Look, look_at, place_of};
+use syntax_tree::rules::{Named, Role, Roles};
 use syntax_tree::trees::{Tree, Work};
 
-/// A variable of a pattern, and under how many ellipses it stands.
+/// A variable of a pattern with its place, and under how many ellipses it stands.
 #[derive(Clone, Copy, Debug, PartialEq, Eq)]
 pub struct Variable {
-    pub id: IdNo,
+    pub name: Named,
     pub depth: u32,
 }
 
@@ -41,11 +43,9 @@ fn find(work: &Work, roles: &Roles, tree: Tree, depth: u32, left: u32, found: &m
         StandsFor work.now tree t → OnOk result (Finds work.now found.old found.new (of_pattern r t depth)) }
 {
     match look_at(work, tree) {
-        Look::Name(id) => {
-            if roles.role(&work.symbols, id) == Role::Variable {
-                found.variables.push(Variable { id, depth })?;
-            }
-            Ok(())
+        Look::Name(ident) => {
+            let occ = place_of(work, tree);
+            Ok(find_name(work, roles, Named { ident, occ }, depth, found)?)
         }
         Look::Atom(_) => Ok(()),
         Look::List(items, end) => Ok(find_list(
@@ -59,6 +59,23 @@ fn find(work: &Work, roles: &Roles, tree: Tree, depth: u32, left: u32, found: &m
             found,
         )?),
         Look::Vector(items) => Ok(find_list(work, roles, items, 0, None, depth, left - 1, found)?),
+    }
+}
+
+/// Goes through an identifier of a pattern.
+fn find_name(work: &Work, roles: &Roles, name: Named, depth: u32, found: &mut Found) -> Mem<()>
+    requires { (i : Identifier) × IsIdent work.now.symbols name.ident i }
+    ensures { (r : ModelRules Identifier) (i : Identifier) (o : Option Occ) → TellsRoles work.now.symbols roles.now r →
+        IsNamed work.now.symbols name (named i o) → OnOk result (Finds work.now found.old found.new (of_pattern r (name_tree i o) depth)) }
+{
+    match roles.role(&work.symbols, name.ident) {
+        Role::Variable => {
+            found.variables.push(Variable { name, depth })?;
+            Ok(())
+        }
+        Role::Literal => Ok(()),
+        Role::Ellipsis => Ok(()),
+        Role::Any => Ok(()),
     }
 }
 

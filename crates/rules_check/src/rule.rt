@@ -19,7 +19,7 @@ use ls_base::{Mem, Memory};
 use std::alloc::Global;
 use std::collections::{BTreeMap, BTreeSet};
 use syntax_tree::look::{Look, look_at};
-use syntax_tree::rules::{Roles, Rule};
+use syntax_tree::rules::{Named, Roles, Rule};
 use syntax_tree::symbols::IdNo;
 use syntax_tree::trees::{Tree, Work};
 
@@ -58,7 +58,7 @@ fn check_rule(alloc: Global, work: &Work, roles: &Roles, rule: Rule) -> Result<(
 }
 
 /// What is found in a pattern, whose first part takes no part.
-fn find_pattern(alloc: Global, work: &Work, roles: &Roles, pattern: Tree) -> Mem<Found>
+pub fn find_pattern(alloc: Global, work: &Work, roles: &Roles, pattern: Tree) -> Mem<Found>
     requires { IsStanding work.now pattern }
     ensures { (r : ModelRules Identifier) (head : ModelTree Identifier) (ts : Trees Identifier) (tail : Tail Identifier) (o : Option Occ) →
         TellsRoles work.now.symbols roles.now r → StandsFor work.now pattern (list (tree head ts) tail o) →
@@ -82,33 +82,33 @@ fn find_pattern(alloc: Global, work: &Work, roles: &Roles, pattern: Tree) -> Mem
 }
 
 /// The depths of variables by number: of a variable that stands twice, that of the first.
-fn depths_of(alloc: Global, variables: &[Variable]) -> Mem<BTreeMap<IdNo, u32>>
+pub fn depths_of(alloc: Global, variables: &[Variable]) -> Mem<BTreeMap<IdNo, u32>>
     ensures { IfOk result (λ depths. (n : ℕ) → get nat_cmp depths n ≡ depth_by_number variables.now n) }
 {
     let mut depths = BTreeMap::new(alloc);
     for variable in variables {
-        if !depths.contains_key(&variable.id) {
-            depths.insert(variable.id, variable.depth)?;
+        if !depths.contains_key(&variable.name.ident) {
+            depths.insert(variable.name.ident, variable.depth)?;
         }
     }
     Ok(depths)
 }
 
-/// The first variable that stands twice.
-fn first_twice(alloc: Global, variables: &[Variable]) -> Mem<Option<IdNo>>
+/// The first variable that stands twice: the second of the two.
+fn first_twice(alloc: Global, variables: &[Variable]) -> Mem<Option<Named>>
     ensures { IfOk result (λ twice. twice ≡ twice_by_number [] variables.now) }
 {
     let mut seen = BTreeSet::new(alloc);
     for variable in variables {
-        if !seen.insert(variable.id)? {
-            return Ok(Some(variable.id));
+        if !seen.insert(variable.name.ident)? {
+            return Ok(Some(variable.name));
         }
     }
     Ok(None)
 }
 
 /// The lowest of the faults that hold, of a pattern, of a template that may be an ellipsis as a whole, and of both together.
-fn lowest(found: &Found, whole: bool, twice: Option<IdNo>, seen: Seen) -> Result<(), RulesFault>
+fn lowest(found: &Found, whole: bool, twice: Option<Named>, seen: Seen) -> Result<(), RulesFault>
     ensures { result ≡ lowest_of (found.now.misplaced || (whole || seen.misplaced)) found.now.two twice seen.shallow seen.idle }
 {
     if found.misplaced || whole || seen.misplaced {
@@ -117,11 +117,11 @@ fn lowest(found: &Found, whole: bool, twice: Option<IdNo>, seen: Seen) -> Result
     if found.two {
         return Err(RulesFault::TwoEllipses);
     }
-    if let Some(id) = twice {
-        return Err(RulesFault::DuplicateVariable(id));
+    if let Some(name) = twice {
+        return Err(RulesFault::DuplicateVariable(name));
     }
-    if let Some(id) = seen.shallow {
-        return Err(RulesFault::Depth(id));
+    if let Some(name) = seen.shallow {
+        return Err(RulesFault::Depth(name));
     }
     if seen.idle {
         return Err(RulesFault::IdleEllipsis);

@@ -12,8 +12,8 @@ ghost use Rattle.syntax_tree.specs.Works.{StandsFor};
 ghost use Rattle.rules_check.specs.Templates.{dots_where, of_template, of_list, of_parts, first_of, seen_name, Sees, HasDepths, CanSee, CanSeeParts, CanSeeEnd};
 
 use std::collections::BTreeMap;
-use syntax_tree::look::{Look, look_at};
-use syntax_tree::rules::Roles;
+use syntax_tree::look::{Look, look_at, place_of};
+use syntax_tree::rules::{Named, Roles};
 use syntax_tree::symbols::IdNo;
 use syntax_tree::trees::{Tree, Work};
 
@@ -24,7 +24,7 @@ pub struct Seen {
     pub misplaced: bool,
     pub idle: bool,
     pub deepest: u32,
-    pub shallow: Option<IdNo>,
+    pub shallow: Option<Named>,
 }
 
 /// Nothing of note.
@@ -52,7 +52,10 @@ pub fn see(
         Sees work.now result (of_template (dots_where escaped r) depth t level) }
 {
     match look_at(work, tree) {
-        Look::Name(id) => see_name(depths, id, level),
+        Look::Name(ident) => {
+            let occ = place_of(work, tree);
+            see_name(depths, Named { ident, occ }, level)
+        }
         Look::Atom(_) => NOTHING,
         Look::Vector(items) => see_list(work, roles, depths, items, None, escaped, level, left - 1),
         Look::List(items, end) => {
@@ -151,22 +154,22 @@ fn inside(seen: Seen) -> Seen
 }
 
 /// Sees an identifier.
-fn see_name(depths: &BTreeMap<IdNo, u32>, id: IdNo, level: u32) -> Seen
-    ensures { result ≡ seen_name id (get nat_cmp depths.now id) level }
+fn see_name(depths: &BTreeMap<IdNo, u32>, name: Named, level: u32) -> Seen
+    ensures { result ≡ seen_name name (get nat_cmp depths.now name.ident) level }
 {
-    match depths.get(&id) {
+    match depths.get(&name.ident) {
         None => NOTHING,
         Some(depth) => Seen {
             misplaced: false,
             idle: false,
             deepest: *depth,
-            shallow: if *depth <= level { None } else { Some(id) },
+            shallow: if *depth <= level { None } else { Some(name) },
         },
     }
 }
 
 /// Whether a list is `(... template)`.
-fn is_escape(work: &Work, roles: &Roles, items: &[Tree], end: Option<Tree>) -> bool
+pub fn is_escape(work: &Work, roles: &Roles, items: &[Tree], end: Option<Tree>) -> bool
     requires parts { AreStanding work.now items.now }
     requires tail { EndIsStanding work.now end }
     ensures { (r : ModelRules Identifier) (ts : Trees Identifier) (tail : Tail Identifier) → TellsRoles work.now.symbols roles.now r →

@@ -10,4 +10,5 @@ pub mod EachLaws
 pub mod VariableLaws
 pub mod AtomLaws
 pub mod KnownLaws
+pub mod Naming
 mod rows

@@ -9,7 +9,9 @@ use Rattle.scheme_model.specs.RulesShape.{Rules}
 use Rattle.scheme_model.specs.Matching.{same_atom, Values, no_values, Match, both, Matcher as ModelMatcher, behind, match_parts}
 use Rattle.scheme_model.specs.Ident.{Ident as Identifier}
 use Rattle.syntax_tree.specs.Macros.{IsIdent, TellsRoles, AreValues, AreBindings, AreLeaves}
+use Rattle.syntax_tree.specs.Bound.{PlacesNamed, BindingsNamed}
 use Rattle.syntax_tree.specs.declared.trees.Work.{Work}
+use Rattle.syntax_tree.specs.declared.trees.table.Region.{Region}
 use Rattle.syntax_tree.specs.declared.trees.nodes.Tree.{Tree}
 use Rattle.syntax_tree.specs.declared.rules.Binding.{Binding}
 use Rattle.syntax_tree.specs.declared.rules.Binding.TheVariants as bound
@@ -97,3 +99,14 @@ Spreads (b ∷ bs) (k ∷ ks) (l ∷ ls) = (l.variable ≡ k.variable) × (l.val
 -- the binding of a variable with places
 abbrev pub many_of : Column → Binding
 many_of k = bound.Many k.variable k.values
+
+-- ---- what nodes of a region may name
+
+-- what the bindings so far name
+abbrev pub FoundNamed : Work → Region → Found → Type 0
+FoundNamed work region found = BindingsNamed work region found.bindings.items
+
+-- what the columns so far name
+abbrev pub ColumnsNamed : Work → Region → List Column → Type 0
+ColumnsNamed work region [] = Unit {0}
+ColumnsNamed work region (k ∷ ks) = PlacesNamed work region k.values.items × ColumnsNamed work region ks

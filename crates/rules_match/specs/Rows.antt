@@ -3,10 +3,11 @@ use Rattle.std.specs.Prelude.{ℕ, Option}
 use Rattle.scheme_model.specs.declared.Occ.{Occ}
 use Rattle.scheme_model.specs.Trees.{list, Trees, Tail}
 use Rattle.scheme_model.specs.Ident.{Ident as Identifier}
-use Rattle.syntax_tree.specs.Looks.{PartsStand, EndStands, PartsWithin, EndWithin}
+use Rattle.syntax_tree.specs.Looks.{PartsStand, EndStands, PartsWithin, EndWithin, AllNamed, EndNamed}
 use Rattle.syntax_tree.specs.Works.{StandsFor}
 use Rattle.syntax_tree.specs.declared.trees.Work.{Work}
 use Rattle.syntax_tree.specs.declared.trees.nodes.Tree as number
+use Rattle.syntax_tree.specs.declared.trees.table.Region.{Region}
 use Rattle.rules_match.specs.declared.row.Row.{Row}
 
 -- the numbers stand for these parts and this tail
@@ -32,3 +33,7 @@ pub record IsListRow (work : Work) (form : number.Tree) (row : Row) (ts : Trees 
 -- the list stands
 abbrev pub ListStands : Work → number.Tree → Row → Type 0
 ListStands work form row = (ts : Trees Identifier) × ((end : Tail Identifier) × IsListRow work form row ts end)
+
+-- nodes of the region may name the parts and the tail
+abbrev pub RowNamed : Work → Region → Row → Type 0
+RowNamed work region row = AllNamed work region row.items.now × EndNamed work region row.end

@@ -9,11 +9,13 @@ ghost use Rattle.scheme_model.specs.RulesShape.{Rules as ModelRules};
 ghost use Rattle.scheme_model.specs.Matching.{behind, first_match, matcher};
 ghost use Rattle.scheme_model.specs.Ident.{Ident as Identifier};
 ghost use Rattle.syntax_tree.specs.Macros.{identifiers, RulesFor, AreChecked, AreRules};
-ghost use Rattle.syntax_tree.specs.Works.{StandsFor, IsStanding};
+ghost use Rattle.syntax_tree.specs.Works.{StandsFor, IsStanding, CanName};
+ghost use Rattle.syntax_tree.specs.Bound.{BindingsNamed, IsMatched};
+ghost use Rattle.syntax_tree.specs.declared.trees.table.Region.{Region as AnyRegion};
 ghost use Rattle.syntax_tree.specs.declared.rules.IdPair.{IdPair as AnyPair};
 ghost use Rattle.rules_match.specs.Found.{Knows, pair_cmp};
 ghost use Rattle.rules_match.specs.Matches.{compared_in, match_in, means_same, ArePairs, Matches};
-ghost use Rattle.rules_match.specs.Rows.{IsListRow, ListStands};
+ghost use Rattle.rules_match.specs.Rows.{IsListRow, ListStands, RowNamed};
 
 use crate::matching::{Found, Matcher};
 use crate::pairs::compare_rules;
@@ -66,7 +68,8 @@ pub fn literal_pairs(alloc: Global, work: &Work, rules: &Rules, form: Tree) -> M
 
 /// The first rule whose pattern the form matches. A literal and an identifier of the form match where they are one of the pairs
 /// that are handed in: those of `literal_pairs` that mean the same. `NoRule` comes exactly where no rule matches. `Memory` also comes
-/// where the rule that matches has 2^32 rules or more before it, since a rule's number has 32 bits.
+/// where the rule that matches has 2^32 rules or more before it, since a rule's number has 32 bits. Nodes of a region that may name the
+/// form may name all that the bindings name, so the match is one that `build` of rules_build takes for this region.
 pub fn match_rules(
     alloc: Global,
     work: &Work,
@@ -76,8 +79,12 @@ pub fn match_rules(
 ) -> Result<Matched, MatchFault>
     requires rules { AreChecked work.now rules.now }
     requires form { IsStanding work.now form }
-    ensures { (r : ModelRules Identifier) (t : ModelTree Identifier) → RulesFor work.now rules.now r → StandsFor work.now form t →
+    ensures finds { (r : ModelRules Identifier) (t : ModelTree Identifier) → RulesFor work.now rules.now r → StandsFor work.now form t →
         Matches work.now r (match_in r (means_same work.now same.now) t) result }
+    ensures named { (region : AnyRegion) → CanName work.now region form →
+        IfOk result (λ matched. BindingsNamed work.now region matched.bindings) }
+    ensures matched { (region : AnyRegion) → CanName work.now region form →
+        IfOk result (λ matched. IsMatched work.now region rules.now matched) }
 {
     work.symbols.told_apart();
     let roles = Roles::of(alloc, rules.ellipsis, rules.literals.as_slice())?;
@@ -123,9 +130,11 @@ fn matching_rule(
     requires rules { (r : ModelRules Identifier) × ((same : Identifier → Identifier → Bool) × Knows matching.now r same × AreRules matching.now.work.now rules.now r.rules) }
     requires form { ListStands matching.now.work.now form row }
     requires head { 1 ≤ length row.items.now }
-    ensures { (r : ModelRules Identifier) (same : Identifier → Identifier → Bool) (ts : Trees Identifier) (end : Tail Identifier) →
+    ensures finds { (r : ModelRules Identifier) (same : Identifier → Identifier → Bool) (ts : Trees Identifier) (end : Tail Identifier) →
         Knows matching.now r same → AreRules matching.now.work.now rules.now r.rules → IsListRow matching.now.work.now form row.entry ts end →
         Matches matching.now.work.now r (first_match (matcher identifiers r same) r.rules (behind 1 ts) end) result }
+    ensures named { (region : AnyRegion) → CanName matching.now.work.now region form → RowNamed matching.now.work.now region row.entry →
+        IfOk result (λ matched. BindingsNamed matching.now.work.now region matched.bindings) }
 {
     for k in 0..rules.len() {
         let mut found = Found {

@@ -5,12 +5,13 @@ ghost use Rattle.scheme_model.specs.Trees.{Tree as ModelTree, Trees, Tail, Atom,
 ghost use Rattle.scheme_model.specs.Matching.{matcher, match_tree, match_rest, match_parts, match_each, match_name, match_literal, behind, names_in, names_among};
 ghost use Rattle.scheme_model.specs.RulesShape.{Rules as ModelRules, Rule as ModelRule, role_of};
 ghost use Rattle.scheme_model.specs.Ident.{Ident as Identifier};
-ghost use Rattle.syntax_tree.specs.Looks.{StandsWithin, PartsWithin, EndWithin, PartsStand, EndStands, AreStanding};
+ghost use Rattle.syntax_tree.specs.Looks.{StandsWithin, PartsWithin, EndWithin, PartsStand, EndStands, AreStanding, AllNamed};
 ghost use Rattle.syntax_tree.specs.Macros.{identifiers, IsIdent, IsRule, IsRest};
 ghost use Rattle.syntax_tree.specs.Standing.{is_list, leaf_tree};
-ghost use Rattle.syntax_tree.specs.Works.{StandsFor, IsStanding};
-ghost use Rattle.rules_match.specs.Found.{Knows, IsKnowing, Finds, FindsParts, AddsColumns, is_atom};
-ghost use Rattle.rules_match.specs.Rows.{IsListRow, ListStands};
+ghost use Rattle.syntax_tree.specs.Works.{StandsFor, IsStanding, CanName};
+ghost use Rattle.syntax_tree.specs.declared.trees.table.Region.{Region as AnyRegion};
+ghost use Rattle.rules_match.specs.Found.{Knows, IsKnowing, Finds, FindsParts, AddsColumns, FoundNamed, is_atom};
+ghost use Rattle.rules_match.specs.Rows.{IsListRow, ListStands, RowNamed};
 
 use crate::columns::{Column, collect, spread};
 use crate::row::Row;
@@ -45,10 +46,11 @@ impl Matcher<'_> {
         requires rule { (m : ModelRule Identifier) × IsRule self.now.work.now rule m }
         requires form { ListStands self.now.work.now form row }
         requires head { 1 ≤ length row.items.now }
-        ensures { (r : ModelRules Identifier) (same : Identifier → Identifier → Bool) (m : ModelRule Identifier) (ts : Trees Identifier) (end : Tail Identifier) →
+        ensures finds { (r : ModelRules Identifier) (same : Identifier → Identifier → Bool) (m : ModelRule Identifier) (ts : Trees Identifier) (end : Tail Identifier) →
             Knows self.now r same → IsRule self.now.work.now rule m → IsListRow self.now.work.now form row.entry ts end →
             IfOk result (λ b. Finds self.now.work.now found.old found.new
             (match_parts (matcher identifiers r same) m.parts (match_rest (matcher identifiers r same) m.tail) (behind 1 ts) end) b) }
+        ensures named { (region : AnyRegion) → CanName self.now.work.now region form → RowNamed self.now.work.now region row.entry → FoundNamed self.now.work.now region found.old → OnOk result (FoundNamed self.now.work.now region found.new) }
     {
         let depth = self.work.depth(rule.pattern);
         match look_at(self.work, rule.pattern) {
@@ -68,9 +70,10 @@ impl Matcher<'_> {
         requires knows { IsKnowing self.now }
         requires pattern { StandsWithin self.now.work.now pattern left }
         requires form { IsStanding self.now.work.now form }
-        ensures { (r : ModelRules Identifier) (same : Identifier → Identifier → Bool) (p : ModelTree Identifier) (t : ModelTree Identifier) →
+        ensures finds { (r : ModelRules Identifier) (same : Identifier → Identifier → Bool) (p : ModelTree Identifier) (t : ModelTree Identifier) →
             Knows self.now r same → StandsFor self.now.work.now pattern p → StandsFor self.now.work.now form t →
             IfOk result (λ b. Finds self.now.work.now found.old found.new (match_tree (matcher identifiers r same) p t) b) }
+        ensures named { (region : AnyRegion) → CanName self.now.work.now region form → FoundNamed self.now.work.now region found.old → OnOk result (FoundNamed self.now.work.now region found.new) }
     {
         match look_at(self.work, pattern) {
             Look::Name(id) => Ok(self.name(id, form, found)?),
@@ -115,6 +118,7 @@ impl Matcher<'_> {
         ensures finds { (r : ModelRules Identifier) (same : Identifier → Identifier → Bool) (ps : Trees Identifier) (ts : Trees Identifier) →
             Knows self.now r same → PartsStand self.now.work.now pattern.now ps → PartsStand self.now.work.now form.now ts →
             IfOk result (FindsParts self.now.work.now (matcher identifiers r same) ps ts from found.old found.new) }
+        ensures named { (region : AnyRegion) → AllNamed self.now.work.now region form.now → FoundNamed self.now.work.now region found.old → OnOk result (FoundNamed self.now.work.now region found.new) }
     {
         let mut k = from;
         let mut j = from;
@@ -160,9 +164,10 @@ impl Matcher<'_> {
         requires tail { EndWithin self.now.work.now tail left }
         requires form { ListStands self.now.work.now form row }
         requires there { from ≤ length row.items.now }
-        ensures { (r : ModelRules Identifier) (same : Identifier → Identifier → Bool) (q : Tail Identifier) (ts : Trees Identifier) (end : Tail Identifier) →
+        ensures finds { (r : ModelRules Identifier) (same : Identifier → Identifier → Bool) (q : Tail Identifier) (ts : Trees Identifier) (end : Tail Identifier) →
             Knows self.now r same → EndStands self.now.work.now tail q → IsListRow self.now.work.now form row.entry ts end →
             IfOk result (λ b. Finds self.now.work.now found.old found.new (match_rest (matcher identifiers r same) q (behind from ts) end) b) }
+        ensures named { (region : AnyRegion) → CanName self.now.work.now region form → RowNamed self.now.work.now region row.entry → FoundNamed self.now.work.now region found.old → OnOk result (FoundNamed self.now.work.now region found.new) }
     {
         match tail {
             None => match row.end {
@@ -186,9 +191,10 @@ impl Matcher<'_> {
         requires knows { IsKnowing self.now }
         requires pattern { IsStanding self.now.work.now pattern }
         requires list { (t : ModelTree Identifier) × IsRest self.now.work.now list from t }
-        ensures { (r : ModelRules Identifier) (same : Identifier → Identifier → Bool) (p : ModelTree Identifier) (t : ModelTree Identifier) →
+        ensures finds { (r : ModelRules Identifier) (same : Identifier → Identifier → Bool) (p : ModelTree Identifier) (t : ModelTree Identifier) →
             Knows self.now r same → StandsFor self.now.work.now pattern p → is_list p ≡ false → IsRest self.now.work.now list from t →
             IfOk result (λ b. Finds self.now.work.now found.old found.new (match_tree (matcher identifiers r same) p t) b) }
+        ensures named { (region : AnyRegion) → CanName self.now.work.now region list → FoundNamed self.now.work.now region found.old → OnOk result (FoundNamed self.now.work.now region found.new) }
     {
         let _size = self.work.size(list);
         match look_at(self.work, pattern) {
@@ -218,10 +224,11 @@ impl Matcher<'_> {
         requires knows { IsKnowing self.now }
         requires pattern { StandsWithin self.now.work.now pattern left }
         requires forms { AreStanding self.now.work.now forms.now }
-        ensures { (r : ModelRules Identifier) (same : Identifier → Identifier → Bool) (p : ModelTree Identifier) (ts : Trees Identifier) →
+        ensures finds { (r : ModelRules Identifier) (same : Identifier → Identifier → Bool) (p : ModelTree Identifier) (ts : Trees Identifier) →
             Knows self.now r same → StandsFor self.now.work.now pattern p → PartsStand self.now.work.now forms.now ts →
             IfOk result (λ b. Finds self.now.work.now found.old found.new
             (match_each (match_tree (matcher identifiers r same) p) (names_in (role_of identifiers r) p) ts) b) }
+        ensures named { (region : AnyRegion) → AllNamed self.now.work.now region forms.now → FoundNamed self.now.work.now region found.old → OnOk result (FoundNamed self.now.work.now region found.new) }
     {
         self.work.symbols.told_apart();
         let mut columns = Vec::new(self.alloc);
@@ -292,9 +299,10 @@ impl Matcher<'_> {
     fn name(&self, id: IdNo, form: Tree, found: &mut Found) -> Mem<bool>
         requires id { (i : Identifier) × IsIdent self.now.work.now.symbols id i }
         requires form { IsStanding self.now.work.now form }
-        ensures { (r : ModelRules Identifier) (same : Identifier → Identifier → Bool) (i : Identifier) (t : ModelTree Identifier) → Knows self.now r same →
+        ensures finds { (r : ModelRules Identifier) (same : Identifier → Identifier → Bool) (i : Identifier) (t : ModelTree Identifier) → Knows self.now r same →
             IsIdent self.now.work.now.symbols id i → StandsFor self.now.work.now form t →
             IfOk result (λ b. Finds self.now.work.now found.old found.new (match_name same (role_of identifiers r i) i t) b) }
+        ensures named { (region : AnyRegion) → CanName self.now.work.now region form → FoundNamed self.now.work.now region found.old → OnOk result (FoundNamed self.now.work.now region found.new) }
     {
         match self.roles.role(&self.work.symbols, id) {
             Role::Any => Ok(true),
@@ -314,9 +322,10 @@ impl Matcher<'_> {
     fn literal(&self, literal: IdNo, form: Tree, found: &mut Found) -> Mem<bool>
         requires id { (i : Identifier) × IsIdent self.now.work.now.symbols literal i }
         requires form { IsStanding self.now.work.now form }
-        ensures { (r : ModelRules Identifier) (same : Identifier → Identifier → Bool) (i : Identifier) (t : ModelTree Identifier) → Knows self.now r same →
+        ensures finds { (r : ModelRules Identifier) (same : Identifier → Identifier → Bool) (i : Identifier) (t : ModelTree Identifier) → Knows self.now r same →
             IsIdent self.now.work.now.symbols literal i → StandsFor self.now.work.now form t →
             IfOk result (λ b. Finds self.now.work.now found.old found.new (match_literal same i t) b) }
+        ensures kept { OnOk result (found.new.bindings ≡ found.old.bindings) }
     {
         match look_at(self.work, form) {
             Look::Name(ident) => {

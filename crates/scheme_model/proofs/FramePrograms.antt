@@ -1,6 +1,7 @@
 -- The law of programs: both sides work on the same units in the same order, each to the same result, since what a unit leaves is
 -- what the next one needs.
-use Rattle.std.proofs.Common.{◌≡◌, ℕ, zero, suc, inl, List, [], ◌∷◌, map, length, Bool, true, false, cond, Option, Some, None, Result, Ok, Err, refl, sym, ap, ◌∙◌, subst, arith}
+use Rattle.std.proofs.Common.{◌≡◌, ℕ, zero, suc, inl, List, [], ◌∷◌, map, length, Bool, true, false, cond, Option, Some, None, Result, Ok, Err, refl, sym, ap, ◌∙◌, subst, arith, ltb, ◌<◌}
+use Rattle.std.proofs.lemmas.Bool.{eq-eqb, ltb-true}
 use Rattle.std.specs.Prelude.{◌&&◌, ◌||◌, ◌==◌, not, nat_lt}
 use Rattle.std.proofs.lemmas.Bool.Decides.{nat_tests}
 use Rattle.scheme_model.specs.declared.Occ.{Occ}
@@ -11,25 +12,25 @@ use Rattle.scheme_model.specs.Kinds.{Name as NameLeaf, Numeral, Quoted, Characte
 use Rattle.scheme_model.specs.Data.{Atom, spelled, implied, Datum, atom, list, vector, bytes, Data, none, part, tail, place_of}
 use Rattle.scheme_model.specs.DataTrees.{atom_tree, tree_of, parts_of, end_of}
 use Rattle.scheme_model.specs.ExpansionFaults.{Fault}
-use Rattle.scheme_model.specs.Meaning.{Global, Standard}
+use Rattle.scheme_model.specs.Meaning.{Meaning, Local, Global, Standard, Free}
 use Rattle.scheme_model.specs.Requirements.{Known}
 use Rattle.scheme_model.specs.RulesShape.{Rules, rules_map, rules_parts}
 use Rattle.scheme_model.specs.UnitExpansion.{Formed, unit}
 use Rattle.scheme_model.specs.Substitution.{Entries, KeptMacro, State, Defined, defined_in, is_plain, meaning, model}
-use Rattle.scheme_model.specs.ScopedExpansion.{Frames, BodyDefinitions, ScopedState, means_inside, means_outside}
+use Rattle.scheme_model.specs.ScopedExpansion.{Frames, BodyDefinitions, ScopedMacro, ScopedState, means_inside, means_outside, scoped}
 use Rattle.scheme_model.specs.Order.{is_some}
 use Rattle.scheme_model.specs.FrameImages.{frame_image, image_outside, DefinesOutside}
 use Rattle.scheme_model.specs.Prelude.{PreludeMacro, prelude}
 use Rattle.scheme_model.specs.Entries.{Entry}
 use Rattle.scheme_model.specs.Declarations.{UnitForm}
 use Rattle.scheme_model.specs.Program.{Document, known_in, units_of, prepare, Placed, Prepared, WholeFault, TooLarge, fault_before, SetResult, UnitResult, Progress, result_at, unit_entries, with_entries, form_trees, start_of, enough_turns, total, max_total, export_all, names_of_unit, broken_result, unit_result, expanded_unit, by_fault, is_ready, first_ready, worked, work, written_rules, is_standard, prelude_unit, prelude_entry, prelude_meaning, prelude_macro, prelude_definitions, progress_before, in_order, program_of}
-use Rattle.scheme_model.specs.ScopedProgram.{ScopedProgress, forms_over, scoped_start_of, scoped_unit_over, scoped_expanded, scoped_by_fault, scoped_worked, scoped_work, prelude_rules, scoped_prelude_macro, scoped_before, scoped_program_of, imaged_macro, imaged}
+use Rattle.scheme_model.specs.ScopedProgram.{ScopedProgress, forms_over, scoped_start_of, scoped_unit_over, numbered_unit_over, scoped_start_after, scoped_expanded, scoped_by_fault, scoped_worked, scoped_work, prelude_rules, scoped_prelude_macro, scoped_before, scoped_program_of, imaged_macro, imaged}
 use Rattle.scheme_model.proofs.RenamingLaws.{map_after}
 use Rattle.scheme_model.proofs.IdentKinds.{rules_kind, rules_fused}
 use Rattle.scheme_model.proofs.Clocks.{leq_itself}
 use Rattle.scheme_model.proofs.FrameNames.{meaning_frame_image}
-use Rattle.scheme_model.proofs.FrameEras.{Era, Worked, Below}
-use Rattle.scheme_model.proofs.FrameAsks.{AllOf}
+use Rattle.scheme_model.proofs.FrameEras.{Era, Worked, Before, Below}
+use Rattle.scheme_model.proofs.FrameAsks.{AllOf, MeansCounted}
 use Rattle.scheme_model.proofs.FrameRoots.{RulesOver, Rooted, UnitMacro}
 use Rattle.scheme_model.proofs.FrameStates.{names, Old, ident_of, Made, MacroFine, Fine, FineState}
 use Rattle.scheme_model.proofs.FrameLeaves.{TreeAll, all_held}
@@ -37,6 +38,8 @@ use Rattle.scheme_model.proofs.EntryLaws.{GivenNoLocal, Fits, Exports, unit_entr
 use Rattle.scheme_model.proofs.FrameUnit.{UnitLeaf, UnitState}
 use Rattle.scheme_model.proofs.FrameUnits.{form_seen, FormHeld, AllFormed, unit_law}
 use Rattle.scheme_model.proofs.FrameBetween.{none_yet, given_counted, left_then}
+use Rattle.scheme_model.proofs.CountedStates.{Formed as FormedBy, LocalKept}
+use Rattle.scheme_model.proofs.CountedUnits.{UnitSame, unit_same as counted_same}
 
 -- ---- the forms
 
@@ -109,6 +112,25 @@ pub record Between (g : ScopedProgress) : Type 0 where
   pub outside : DefinesOutside g.table g.places
   pub entries : (u : ℕ) (s : List ℕ) → GivenNoLocal (g.entry u s)
   pub exports : Exports g.results
+  pub formed : FormedBy g.places g.definitions
+
+-- no number of the unit is counted yet, so no macro is a local of it
+none_counted : (w : Era) (v : Number) → Before w none_yet v → v.unit ≡ w.unit → ⊥
+none_counted w v h a =
+    let same = ap (λ u. u == w.unit) a ∙ eq-eqb w.unit w.unit refl in
+    let p : ltb v.count 0 ≡ true = sym (ap (λ t. cond t (ltb v.count 0) true) same) ∙ h.0 in
+    let q : v.count < 0 = ltb-true v.count 0 p in
+    omega arith
+
+locals_none : (w : Era) (s : ScopedState) (ks : List ScopedMacro) → AllOf (MacroFine w none_yet none_yet none_yet) ks → AllOf (λ (k : ScopedMacro). LocalKept w s k.meaning k.frames k.rules) ks
+locals_none w s [] h = tt
+locals_none w s (k ∷ ks) h = (go k.meaning h.0.meaning, locals_none w s ks h.1)
+  where
+    go : (m : Meaning) → MeansCounted w none_yet m → LocalKept w s m k.frames k.rules
+    go (Local v) c = λ a. absurd (none_counted w v c a)
+    go (Global u i) c = tt
+    go (Standard x) c = tt
+    go (Free x) c = tt
 
 turned : (m n : ℕ) → (m == n) ≡ (n == m)
 turned m n = grind (arith, nat_tests)
@@ -134,6 +156,7 @@ module _ (known : Known) (g : ScopedProgress) (h : Between g) (p : Prepared) (ne
     outside = h.outside;
     entries = h.entries;
     exports = (tt, h.exports);
+    formed = h.formed;
   }
 
   module _ (imports : List Entry × List SetResult) (fit : Fits imports.0) where
@@ -179,10 +202,18 @@ module _ (known : Known) (g : ScopedProgress) (h : Between g) (p : Prepared) (ne
     abbrev by_substitution : List Formed × State
     by_substitution = unit (model known) enough_turns tt (form_trees p.number 0 p.forms) (start_of p g.table (map (imaged_macro g.places g.definitions) g.macros) entry)
 
+    -- by counts and by whole numbers alike
+    told_same : UnitSame w known enough_turns (forms_over (Written p.number) p.number 0 p.forms) start
+    told_same = counted_same w known enough_turns (forms_over (Written p.number) p.number 0 p.forms) start start_unit h.formed (locals_none w start g.macros (h.fine p.number new).macros) forms_held
+
+    abbrev by_numbers : List Formed × ScopedState
+    by_numbers = unit (scoped known) enough_turns [] (forms_over (Written p.number) p.number 0 p.forms) start
+
     unit_same : AllFormed w known by_scopes by_substitution
     unit_same =
-        subst (AllFormed w known by_scopes) (ap (λ ts. unit (model known) enough_turns tt ts (start_of p g.table (map (imaged_macro g.places g.definitions) g.macros) entry)) forms_seen)
-        (unit_law w known enough_turns (forms_over (Written p.number) p.number 0 p.forms) start false [] start_unit forms_held)
+        subst (λ (q : List Formed × ScopedState). AllFormed w known q by_substitution) (sym told_same.same)
+        (subst (AllFormed w known by_numbers) (ap (λ ts. unit (model known) enough_turns tt ts (start_of p g.table (map (imaged_macro g.places g.definitions) g.macros) entry)) forms_seen)
+        (unit_law w known enough_turns (forms_over (Written p.number) p.number 0 p.forms) start false [] start_unit forms_held))
 
     abbrev built : List Formed → State → Progress
     built forms s = record { table = s.table; macros = s.macros; entry = entry; results = unit_result p imports s.table forms ∷ g.results }
@@ -219,6 +250,7 @@ module _ (known : Known) (g : ScopedProgress) (h : Between g) (p : Prepared) (ne
           outside = λ v i es e. (unit_same.fine.1.outside v i e).1 es;
           entries = entries_fit;
           exports = (result_exports, h.exports);
+          formed = subst (λ (q : List Formed × ScopedState). FormedBy q.1.places q.1.definitions) (sym told_same.same) told_same.formed;
         }
 
 -- ---- all units
@@ -350,6 +382,7 @@ between_before = record {
   outside = λ v i es e. (outside 0 v i e).1 es;
   entries = prelude_entries;
   exports = tt;
+  formed = record { frames = λ k. tt; bodies = tt };
 }
 
 rules_seen : (r : Result (Rules (List ℕ)) (Fault (List ℕ))) → rules_map (frame_image [] [] []) (prelude_rules r) ≡ written_rules r
@@ -376,3 +409,11 @@ pub program_law : (ds : List Document) → scoped_program_of ds ≡ program_of d
 program_law ds =
     let all = units_of ds in let ps = prepare all 0 all in
     ap (λ (g : Progress). record { units = in_order g.results 0 (length ps); table = g.table; entry = g.entry }) (progress_law all ps (known_in ds) (length ps))
+
+-- a unit by counts is the unit by whole numbers
+pub counts_law : (all : List Placed) (ps : List Prepared) (known : Known) (n : ℕ) (p : Prepared)
+    → let g = scoped_work all ps known n scoped_before in is_ready all ps g.results p ≡ true → scoped_unit_over known p (scoped_start_after all p g) ≡ numbered_unit_over known p (scoped_start_after all p g)
+counts_law all ps known n p ready =
+    let g = scoped_work all ps known n scoped_before in
+    let h = (work_gone all ps known n scoped_before between_before).between in
+    (told_same known g h p (not_done all ps known (done g.results p.number) _ ready) (unit_entries all g.results p) (unit_entries_fit all g.results h.exports p)).same

@@ -37,7 +37,7 @@ module _ (A B : Type 0) (f : A → B) where
   hole_same (Some i) = refl
 
   mutual
-    weight_same : (t : Tree (Option A)) → weight hole_weight (map_tree (option_map f) t) ≡ weight hole_weight t
+    pub weight_same : (t : Tree (Option A)) → weight hole_weight (map_tree (option_map f) t) ≡ weight hole_weight t
     weight_same (name i o) = hole_same i
     weight_same (atom a o) = refl
     weight_same (list ts tail o) = let a = weights_same ts in let b = tail_weight_same tail in λ j. a j + b j + 1

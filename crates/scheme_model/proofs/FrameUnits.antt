@@ -81,7 +81,7 @@ module _ (w : Era) (known : Known) where
     pub stood : AllOf (NoteAll (UnitPlace w known q.1)) q.0.notes
     pub notes : m.0.notes ≡ map (note_map (placed q.1)) q.0.notes
 
-  passed : (s : ScopedState) (q : Pass Ident Place × ScopedState) (m : Pass Name Name × State)
+  pub passed : (s : ScopedState) (q : Pass Ident Place × ScopedState) (m : Pass Name Name × State)
       → Together w known [] (UnitInside w known s) (Grows w) (UnitLeaf w known) (UnitPlace w known) (UnitRule w known) (Noted w known s) q m → Passed s q m
   passed s q m h = go h.came_to
     where
@@ -132,7 +132,7 @@ module _ (w : Era) (known : Known) where
     forms_still s t f g ts h =
         all_same (FormHeld s) (form_seen (names s [])) (form_seen (names t [])) (λ x q. ap (λ (y : Tree Name). (x.0, y)) (tree_same (UnitLeaf w known s) (names s []) (names t []) (λ i l. names_later w s t f g [] (tt, tt) i l.0) x.1 q)) ts h
 
-    forms_later : (s t : ScopedState) → Grows w s t → (ts : List (ℕ × Tree Ident)) → AllOf (FormHeld s) ts → AllOf (FormHeld t) ts
+    pub forms_later : (s t : ScopedState) → Grows w s t → (ts : List (ℕ × Tree Ident)) → AllOf (FormHeld s) ts → AllOf (FormHeld t) ts
     forms_later s t g ts h = all_of_more (FormHeld s) (FormHeld t) (λ x q. tree_more (UnitLeaf w known s) (UnitLeaf w known t) (leaf_later w known s t g) x.1 q) ts h
 
     -- the forms behind one that was gone through
@@ -198,7 +198,7 @@ module _ (w : Era) (known : Known) where
     body_law : BodyLaw w known F G
     body_law = (expand_law w known turns).1
 
-    aside_law : (r : Aside Ident) (s : ScopedState) → FineState w s → (i : Bool) (n : List Number) → AsideMade w s.uses r
+    pub aside_law : (r : Aside Ident) (s : ScopedState) → FineState w s → (i : Bool) (n : List Number) → AsideMade w s.uses r
         → Same w s (from_items r s >>= parts (item_part F (scoped known) max_depth [])) (from_items (aside_seen (names s []) r) (view i n s) >>= parts (item_part G (model known) max_depth tt))
     aside_law (Ok xs) s f i n h =
         parts_law w known F G whole_law body_law max_depth [] xs s f i n (tt, tt) (all_of_more (ItemHeld (Below w s.uses)) (ItemMade w known F G whole_law body_law max_depth [] s.uses) (λ x r. (held_made item_kind w s.uses x r.0, r.1)) xs h)

@@ -45,6 +45,13 @@ pub mod FrameUnit
 pub mod FrameUnits
 pub mod FrameBetween
 pub mod FramePrograms
+pub mod CountedOps
+pub mod CountedUses
+pub mod CountedForms
+pub mod CountedRuns
+pub mod CountedExpressions
+pub mod CountedStates
+pub mod CountedUnits
 pub mod Distinct
 pub mod FrameExpressions
 pub mod FrameBinders

@@ -46,6 +46,7 @@ pub mod Substitution
 pub mod Scopes
 pub mod Renaming
 pub mod ScopedExpansion
+pub mod CountedExpansion
 pub mod FrameImages
 pub mod UnitExpansion
 pub mod Entries

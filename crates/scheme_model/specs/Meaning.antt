@@ -30,6 +30,13 @@ same_meaning (Free s) (Global u i) = false
 same_meaning (Free s) (Standard t) = false
 same_meaning (Free s) (Free t) = bytes_eq s t
 
+-- a local that is told by its count alone, as one of this form
+abbrev pub of_form : (unit form : ℕ) → Meaning → Meaning
+of_form unit form (Local v) = Local (record { unit = unit; form = form; count = v.count })
+of_form unit form (Global u i) = Global u i
+of_form unit form (Standard s) = Standard s
+of_form unit form (Free s) = Free s
+
 -- what the head of a form is: the keyword of a core form, an auxiliary keyword, a macro, or no keyword
 pub data Head : Type 0 where
   IsCore : CoreKeyword → Head

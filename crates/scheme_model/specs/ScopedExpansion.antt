@@ -1,5 +1,6 @@
 -- Expansion by scopes: nothing is substituted. An identifier is looked up through the frames around its place, from the
--- innermost on, and a body's definitions stand in one list. A unit's own definitions stand in a table, as ever.
+-- innermost on, and a body's definitions stand in one list. A unit's own definitions stand in a table, as ever. A local is told by
+-- its whole number; `CountedExpansion` tells it by its count alone.
 use Rattle.std.specs.Prelude.{ℕ, suc, ◌+◌, List, [], ◌∷◌, Bool, false, ◌&&◌, Option, Some, None, Result, Ok, Err, if◌then◌else◌}
 use Rattle.scheme_model.specs.Identifiers.{Number, same_number}
 use Rattle.scheme_model.specs.Ident.{Ident, Written, Inserted, same_ident, symbol_of}

@@ -1,5 +1,6 @@
 -- The program of the open documents by scopes: the units are worked on in the order of the definition that substitutes, and each
--- goes on with the definitions, the macros and the places of macro uses that those before it left. Nothing is substituted.
+-- goes on with the definitions, the macros and the places of macro uses that those before it left. Nothing is substituted, and in a
+-- form a local is told by its count alone.
 use Rattle.std.specs.Prelude.{ℕ, zero, suc, List, [], ◌∷◌, map, length, Option, Some, None, Result, Ok, Err, if◌then◌else◌}
 use Rattle.scheme_model.specs.Ident.{Ident, Written}
 use Rattle.scheme_model.specs.Data.{place_of}
@@ -10,6 +11,7 @@ use Rattle.scheme_model.specs.Requirements.{Known}
 use Rattle.scheme_model.specs.RulesShape.{Rules, rules_map, rules_parts}
 use Rattle.scheme_model.specs.Substitution.{Table, Entries, KeptMacro}
 use Rattle.scheme_model.specs.ScopedExpansion.{BodyDefinitions, UsePlace, ScopedMacro, ScopedState, scoped}
+use Rattle.scheme_model.specs.CountedExpansion.{counted}
 use Rattle.scheme_model.specs.FrameImages.{frame_image}
 use Rattle.scheme_model.specs.UnitExpansion.{Formed, unit}
 use Rattle.scheme_model.specs.Prelude.{PreludeMacro, prelude}
@@ -53,7 +55,11 @@ scoped_start_of p g entry = record {
 }
 
 abbrev pub scoped_unit_over : Known → Prepared → ScopedState → List Formed × ScopedState
-scoped_unit_over known p s = unit (scoped known) enough_turns [] (forms_over (Written p.number) p.number 0 p.forms) s
+scoped_unit_over known p s = unit (counted known) enough_turns [] (forms_over (Written p.number) p.number 0 p.forms) s
+
+-- the same where a local is told by its whole number
+abbrev pub numbered_unit_over : Known → Prepared → ScopedState → List Formed × ScopedState
+numbered_unit_over known p s = unit (scoped known) enough_turns [] (forms_over (Written p.number) p.number 0 p.forms) s
 
 abbrev pub after_unit : Prepared → List Entry × List SetResult → Entries → List UnitResult → List Formed × ScopedState → ScopedProgress
 after_unit p imports entry results q = record {
@@ -64,6 +70,10 @@ after_unit p imports entry results q = record {
   entry = entry;
   results = unit_result p imports q.1.table q.0 ∷ results;
 }
+
+-- in which a unit begins
+abbrev pub scoped_start_after : List Placed → Prepared → ScopedProgress → ScopedState
+scoped_start_after all p g = scoped_start_of p g (with_entries p.number (unit_entries all g.results p).0 g.entry)
 
 abbrev pub scoped_expanded : Known → Prepared → List Entry × List SetResult → ScopedProgress → ScopedProgress
 scoped_expanded known p imports g =

@@ -1,5 +1,5 @@
 //! Laws of the definitions. Each is the contract of a function that does nothing.
-ghost use Rattle.std.specs.Prelude.{◌≡◌, ℕ, Bool, List, [], ◌∷◌, map, Option, None};
+ghost use Rattle.std.specs.Prelude.{◌≡◌, ℕ, Bool, true, List, [], ◌∷◌, map, Option, None};
 ghost use Rattle.scheme_model.specs.Identifiers.{Number, Name, strip, same_name};
 ghost use Rattle.scheme_model.specs.Ident.{Ident, Written, erase, symbol_of, same_ident};
 ghost use Rattle.scheme_model.specs.Trees.{Tree, Trees, Tail, map_tree, map_trees, map_tail};
@@ -16,8 +16,8 @@ ghost use Rattle.scheme_model.specs.Renaming.{Renames, IsRenamed, result_map, fo
 ghost use Rattle.scheme_model.specs.Substitution.{Table, Entries, Clock, meaning, deep, clause_map};
 ghost use Rattle.scheme_model.specs.ScopedExpansion.{Frames, Enter, BodyDefinitions, find, UsePlace, means_inside, means_outside};
 ghost use Rattle.scheme_model.specs.FrameImages.{frame_image};
-ghost use Rattle.scheme_model.specs.Program.{Document, Placed, Prepared, work, progress_before, program_of};
-ghost use Rattle.scheme_model.specs.ScopedProgram.{scoped_work, scoped_before, scoped_program_of, imaged};
+ghost use Rattle.scheme_model.specs.Program.{Document, Placed, Prepared, is_ready, work, progress_before, program_of};
+ghost use Rattle.scheme_model.specs.ScopedProgram.{scoped_work, scoped_before, scoped_program_of, scoped_unit_over, numbered_unit_over, scoped_start_after, imaged};
 ghost use Rattle.scheme_model.specs.Scopes.{Chain, Uses, image, substituted, own_of, means, AreOutside};
 
 /// Whatever binders are around an identifier, what it has become came from it alone, and keeps its symbol (R7RS 4.3).
@@ -89,13 +89,20 @@ pub fn frame_images_are_names()
     ensures apart { (ps : List UsePlace) (ds : BodyDefinitions) (fs : Frames) (i j : Ident) → same_name (frame_image ps ds fs i) (frame_image ps ds fs j) ≡ same_ident i j }
 {}
 
-/// The program of the open documents, worked on by scopes, is the program by substitution (R7RS 4.3, 5), whatever the documents are:
-/// of each unit the imports, the forms with their parts or faults, counts, keywords and macro uses, and the exports; and what all
-/// units define. After each unit the two have the same results, and in the rules of each macro an identifier is what it has become,
-/// which means what the frames give.
+/// The program of the open documents, worked on by scopes that tell a form's local by its count alone, is the program by
+/// substitution (R7RS 4.3, 5), whatever the documents are: of each unit the imports, the forms with their parts or faults, counts,
+/// keywords and macro uses, and the exports; and what all units define. After each unit the two have the same results, and in the
+/// rules of each macro an identifier is what it has become, which means what the frames give.
 pub fn programs_are_substituted()
     ensures program { (ds : List Document) → scoped_program_of ds ≡ program_of ds }
     ensures progress { (all : List Placed) (units : List Prepared) (known : Known) (n : ℕ) → imaged (scoped_work all units known n scoped_before) ≡ work all units known n progress_before }
     ensures means { (all : List Placed) (units : List Prepared) (known : Known) (n : ℕ) (fs : Frames) (i : Ident) →
         let g = scoped_work all units known n scoped_before in meaning g.table g.entry (frame_image g.places g.definitions fs i) ≡ means_inside g.definitions fs i (means_outside g.table g.entry g.places g.definitions i) }
+{}
+
+/// Each unit that is ready, whatever was worked on before it, comes by scopes to the same forms and the same state, whether a local is
+/// told by its count alone, as one of the form at work, or by its whole number (R7RS 4.3).
+pub fn locals_are_counted()
+    ensures { (all : List Placed) (units : List Prepared) (known : Known) (n : ℕ) (p : Prepared) →
+        let g = scoped_work all units known n scoped_before in is_ready all units g.results p ≡ true → scoped_unit_over known p (scoped_start_after all p g) ≡ numbered_unit_over known p (scoped_start_after all p g) }
 {}

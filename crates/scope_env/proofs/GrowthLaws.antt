@@ -6,6 +6,7 @@ use Rattle.std.proofs.lemmas.Option.{slice_get_within}
 use Rattle.scheme_model.specs.Identifiers.{Number}
 use Rattle.scheme_model.specs.Ident.{Ident as Identifier, Written, Inserted, same_ident}
 use Rattle.scheme_model.specs.Meaning as model
+use Rattle.scheme_model.specs.Meaning.{of_form}
 use Rattle.scheme_model.specs.Scopes.{Chain, Uses, Own, found, given_or, local_or, beyond, means}
 use Rattle.scheme_model.proofs.IdentLaws.{ident_told}
 use Rattle.syntax_tree.specs.Names.{Names, AreToldApart, KeepsNames}
@@ -15,7 +16,7 @@ use Rattle.syntax_tree.specs.declared.meaning.Meaning.TheVariants as code
 use Rattle.syntax_tree.proofs.Places.{none_some}
 use Rattle.scope_env.specs.Environment.{Environment}
 use Rattle.scope_env.specs.Resolved.{own}
-use Rattle.scope_env.specs.Standing.{StandsFor, Gives, EnvFor, of_form, IsGiven, IsOfForm, AreLocalsOf, AreOf, AreUsesOf}
+use Rattle.scope_env.specs.Standing.{StandsFor, Gives, EnvFor, IsGiven, IsOfForm, AreLocalsOf, AreOf, AreUsesOf}
 use Rattle.scope_env.specs.Moved.{IsNamed, AreNamed, AreGivenNamed}
 
 -- ---- tables that grow

@@ -5,6 +5,7 @@ pub mod Changes
 pub mod Locals
 pub mod Walk
 pub mod StandingLaws
+pub mod Added
 pub mod Fields
 pub mod GrowthLaws
 pub mod AroundLaws

@@ -8,6 +8,7 @@ use Rattle.std.proofs.lemmas.Option.{same_Some}
 use Rattle.scheme_model.specs.Identifiers.{Number}
 use Rattle.scheme_model.specs.Ident.{Ident as Identifier, Written, Inserted, same_ident}
 use Rattle.scheme_model.specs.Meaning as model
+use Rattle.scheme_model.specs.Meaning.{of_form}
 use Rattle.scheme_model.specs.Scopes.{Chain, Uses, Own, found, given_or, local_or, beyond, means}
 use Rattle.scheme_model.proofs.IdentLaws.{ident_told, ident_itself}
 use Rattle.syntax_tree.specs.Names.{Names, AreToldApart}
@@ -22,7 +23,7 @@ use Rattle.syntax_tree.proofs.Places.{none_some, get_within}
 use Rattle.syntax_tree.proofs.InternLaws.{bytes_told, bytes_itself}
 use Rattle.scope_env.specs.Environment.{Environment, IsSound}
 use Rattle.scope_env.specs.Resolved.{number_in, symbol_in, local, own, resolved}
-use Rattle.scope_env.specs.Standing.{bound_by, StandsFor, Gives, EnvFor, of_form}
+use Rattle.scope_env.specs.Standing.{bound_by, StandsFor, Gives, EnvFor}
 use Rattle.scope_env.proofs.Places.{place_is}
 
 -- ---- options

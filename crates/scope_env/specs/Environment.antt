@@ -6,6 +6,7 @@ use Rattle.std.specs.Ordering.{nat_cmp, ordering_then}
 use Rattle.std.specs.FinMap.{FinMap, empty, get, insert}
 use Rattle.scheme_model.specs.Identifiers.{Number}
 use Rattle.syntax_tree.specs.declared.meaning.Meaning.{Meaning}
+use Rattle.scope_env.specs.declared.env.Bound.{Bound}
 
 -- by the unit, then the form, then the count
 abbrev pub number_cmp : Number → Number → Ordering
@@ -55,6 +56,11 @@ changed_at f (x ∷ xs) (suc n) = x ∷ changed_at f xs n
 
 abbrev pub with_bound : Environment → ℕ → ℕ → Meaning → Environment
 with_bound env scope ident meaning = record env { scopes = changed_at (bound_in ident meaning) env.scopes scope }
+
+-- with a binding more, where one is given
+abbrev pub with_added : Environment → Option Bound → Environment
+with_added env None = env
+with_added env (Some b) = with_bound env b.scope b.ident b.meaning
 
 -- ---- what holds of every environment
 

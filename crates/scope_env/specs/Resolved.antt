@@ -50,10 +50,11 @@ local env (Some scope) ident = innermost env (path env scope) ident
 
 -- ---- meanings
 
--- what a unit's own scope binds
+-- what a scope itself binds
 abbrev pub bound_at : Environment → ℕ → ℕ → Option Meaning
 bound_at env scope ident = option_and_then (λ (s : Scope). get s.bound ident) (slice_get env.scopes scope)
 
+-- what a unit's own scope binds
 abbrev pub own : Environment → ℕ → ℕ → Option Meaning
 own env unit ident = option_and_then (λ (n : ℕ). bound_at env n ident) (get env.roots unit)
 

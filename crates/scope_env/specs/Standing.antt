@@ -33,13 +33,6 @@ pub record EnvFor (names : Names) (env : Environment) (given : Own) (used : Uses
   pub own : (u n : ℕ) → Gives names (own env u n) (option_and_then (given u) (slice_get names.idents n))
   pub uses : (k : Number) → StandsFor names env (get env.uses k) (used k)
 
--- a local is told by its count alone, as one of this form
-abbrev pub of_form : (unit form : ℕ) → Meaning → Meaning
-of_form unit form (Local v) = Local (record { unit = unit; form = form; count = v.count })
-of_form unit form (Global u i) = Global u i
-of_form unit form (Standard s) = Standard s
-of_form unit form (Free s) = Free s
-
 -- what a unit gives is no local
 abbrev pub IsGiven : Option Meaning → Type 0
 IsGiven None = Unit {0}

@@ -1,14 +1,15 @@
 //! The scopes of all units, and what an identifier means in one of them (R7RS 3.1, 4.3).
-ghost use Rattle.std.specs.Prelude.{◌≡◌, ℕ, ◌<◌, ◌++◌, [], ◌∷◌, length, reverse, Some, None, IfOk, OnOk, OnErr};
+ghost use Rattle.std.specs.Prelude.{◌≡◌, ℕ, ◌<◌, ◌++◌, [], ◌∷◌, length, reverse, Some, None, IsTrue, IsSome, ◌↔◌, IfOk, OnOk, OnErr};
 ghost use Rattle.std.specs.FinMap.{get};
 ghost use Rattle.scheme_model.specs.Ident.{Ident as Identifier};
 ghost use Rattle.scheme_model.specs.Scopes.{Chain, Uses, Own, means};
 ghost use Rattle.syntax_tree.specs.Macros.{IsIdent};
 ghost use Rattle.syntax_tree.specs.Meant.{IsMeaning};
 ghost use Rattle.syntax_tree.specs.Numbered.{number_of};
-ghost use Rattle.scope_env.specs.Environment.{no_scopes, with_root, with_child, with_bound, with_use, IsSound};
-ghost use Rattle.scope_env.specs.Resolved.{local, own, resolved};
-ghost use Rattle.scope_env.specs.Standing.{EnvFor, StandsFor, of_form};
+ghost use Rattle.scope_env.specs.Environment.{no_scopes, with_root, with_child, with_bound, with_added, with_use, IsSound};
+ghost use Rattle.scope_env.specs.Resolved.{local, own, bound_at, resolved};
+ghost use Rattle.scope_env.specs.Standing.{EnvFor, StandsFor};
+ghost use Rattle.scheme_model.specs.Meaning.{of_form};
 
 use ls_base::{Mem, Memory};
 use std::alloc::Global;
@@ -26,6 +27,14 @@ pub type ScopeNo = usize;
 struct Scope {
     parent: Option<ScopeNo>,
     bound: BTreeMap<IdNo, Meaning>,
+}
+
+/// A binding that may be made: what a scope would bind an identifier to.
+#[derive(Clone, Copy, Debug, PartialEq, Eq)]
+pub struct Bound {
+    pub scope: ScopeNo,
+    pub ident: IdNo,
+    pub meaning: Meaning,
 }
 
 /// The scopes of all units: one `Env` holds them, since an inserted identifier leads to the unit of its macro.
@@ -128,28 +137,79 @@ impl Env {
         let _scopes = &self.scopes;
     }
 
+    /// What this very scope binds an identifier to, with a binding added where one is given.
+    fn here(&self, scope: ScopeNo, ident: IdNo, added: Option<Bound>) -> Option<Meaning>
+        requires { scope < length self.now.scopes }
+        ensures { result ≡ bound_at (with_added self.now added) scope ident }
+    {
+        if let Some(added) = added {
+            if added.scope == scope && added.ident == ident {
+                return Some(added.meaning);
+            }
+        }
+        self.scopes[scope].bound.get(&ident).copied()
+    }
+
+    /// Whether this very scope binds an identifier. It takes no memory.
+    pub fn binds(&self, scope: ScopeNo, ident: IdNo) -> bool
+        requires { scope < length self.now.scopes }
+        ensures { IsTrue result ↔ IsSome (bound_at self.now scope ident) }
+    {
+        self.here(scope, ident, None).is_some()
+    }
+
     /// What the innermost local scope that binds an identifier binds it to, from a scope outwards.
-    fn local(&self, scope: Option<ScopeNo>, ident: IdNo) -> Option<Meaning>
+    fn local(&self, scope: Option<ScopeNo>, ident: IdNo, added: Option<Bound>) -> Option<Meaning>
         requires { (n : ℕ) → scope ≡ Some n → n < length self.now.scopes }
-        ensures { result ≡ local self.now scope ident }
+        ensures { result ≡ local (with_added self.now added) scope ident }
     {
         let mut at = scope?;
         loop {
-            let scope = &self.scopes[at];
-            let parent = scope.parent?;
-            if let Some(meaning) = scope.bound.get(&ident) {
-                return Some(*meaning);
+            let parent = self.scopes[at].parent?;
+            if let Some(meaning) = self.here(at, ident, added) {
+                return Some(meaning);
             }
             at = parent;
         }
     }
 
     /// What the own scope of a unit binds an identifier to.
-    fn own(&self, unit: u32, ident: IdNo) -> Option<Meaning>
-        ensures { result ≡ own self.now unit ident }
+    fn own(&self, unit: u32, ident: IdNo, added: Option<Bound>) -> Option<Meaning>
+        ensures { result ≡ own (with_added self.now added) unit ident }
     {
         let root = self.roots.get(&unit)?;
-        self.scopes[*root].bound.get(&ident).copied()
+        self.here(*root, ident, added)
+    }
+
+    /// What an identifier means in a scope, with a binding added where one is given.
+    fn meant(&self, scope: ScopeNo, ident: IdNo, symbols: &Symbols, added: Option<Bound>) -> Meaning
+        requires scope { scope < length self.now.scopes }
+        requires ident { ident < length symbols.now.idents }
+        ensures value { (i : Identifier) → IsIdent symbols.now ident i → result ≡ resolved (with_added self.now added) symbols.now (Some scope) i }
+        ensures meaning { (given : Own) (uses : Uses) (c : Chain) (unit form : ℕ) (i : Identifier) → IsIdent symbols.now ident i →
+            EnvFor symbols.now (with_added self.now added) given uses → StandsFor symbols.now (with_added self.now added) (Some scope) c →
+            IsMeaning symbols.now unit form result (of_form unit form (means given uses c i)) }
+    {
+        symbols.told_apart();
+        let mut from = Some(scope);
+        let mut at = ident;
+        loop {
+            if let Some(meaning) = self.local(from, at, added) {
+                return meaning;
+            }
+            match symbols.ident_at(at) {
+                Ident::Written { unit, symbol } => {
+                    return self.own(unit, at, added).unwrap_or(Meaning::Free(symbol));
+                }
+                Ident::Inserted { id, number } => {
+                    if let Some(meaning) = self.own(number.unit, at, added) {
+                        return meaning;
+                    }
+                    from = self.uses.get(&number).copied();
+                    at = id;
+                }
+            }
+        }
     }
 
     /// What an identifier means in a scope: the innermost local scope that binds exactly this identifier decides, and then the
@@ -163,26 +223,27 @@ impl Env {
             EnvFor symbols.now self.now given uses → StandsFor symbols.now self.now (Some scope) c →
             IsMeaning symbols.now unit form result (of_form unit form (means given uses c i)) }
     {
-        symbols.told_apart();
-        let mut from = Some(scope);
-        let mut at = ident;
-        loop {
-            if let Some(meaning) = self.local(from, at) {
-                return meaning;
-            }
-            match symbols.ident_at(at) {
-                Ident::Written { unit, symbol } => {
-                    return self.own(unit, at).unwrap_or(Meaning::Free(symbol));
-                }
-                Ident::Inserted { id, number } => {
-                    if let Some(meaning) = self.own(number.unit, at) {
-                        return meaning;
-                    }
-                    from = self.uses.get(&number).copied();
-                    at = id;
-                }
-            }
-        }
+        self.meant(scope, ident, symbols, None)
+    }
+
+    /// What `resolve` would answer if one more identifier were bound, in any scope. Nothing is bound, and it takes no memory.
+    pub fn resolve_with(
+        &self,
+        scope: ScopeNo,
+        ident: IdNo,
+        symbols: &Symbols,
+        added: Bound,
+    ) -> Meaning
+        requires scope { scope < length self.now.scopes }
+        requires ident { ident < length symbols.now.idents }
+        ensures value { (i : Identifier) → IsIdent symbols.now ident i →
+            result ≡ resolved (with_bound self.now added.scope added.ident added.meaning) symbols.now (Some scope) i }
+        ensures meaning { (given : Own) (uses : Uses) (c : Chain) (unit form : ℕ) (i : Identifier) → IsIdent symbols.now ident i →
+            EnvFor symbols.now (with_bound self.now added.scope added.ident added.meaning) given uses →
+            StandsFor symbols.now (with_bound self.now added.scope added.ident added.meaning) (Some scope) c →
+            IsMeaning symbols.now unit form result (of_form unit form (means given uses c i)) }
+    {
+        self.meant(scope, ident, symbols, Some(added))
     }
 
     /// What `resolve` answers, as a question of the notes; `head` tells that it was asked of the head of a form.

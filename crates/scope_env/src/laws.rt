@@ -5,6 +5,7 @@ ghost use Rattle.std.specs.FinMap.{get};
 ghost use Rattle.scheme_model.specs.Identifiers.{Number};
 ghost use Rattle.scheme_model.specs.Ident.{Ident as Identifier};
 ghost use Rattle.scheme_model.specs.Meaning as model;
+ghost use Rattle.scheme_model.specs.Meaning.{of_form};
 ghost use Rattle.scheme_model.specs.Scopes.{Chain, Uses, Own, means};
 ghost use Rattle.syntax_tree.specs.Names.{Names, AreToldApart, KeepsNames};
 ghost use Rattle.syntax_tree.specs.Macros.{IsIdent};
@@ -12,7 +13,7 @@ ghost use Rattle.syntax_tree.specs.Meant.{IsGivenMeaning};
 ghost use Rattle.syntax_tree.specs.declared.meaning.Meaning as code_meaning;
 ghost use Rattle.syntax_tree.specs.declared.meaning.Meaning.TheVariants as code;
 ghost use Rattle.scope_env.specs.Environment.{Environment, IsSound, with_root, with_child, with_bound, with_use};
-ghost use Rattle.scope_env.specs.Standing.{EnvFor, StandsFor, of_form, IsGiven, AreLocalsOf, AreOf, AreUsesOf};
+ghost use Rattle.scope_env.specs.Standing.{EnvFor, StandsFor, IsGiven, AreLocalsOf, AreOf, AreUsesOf};
 ghost use Rattle.scope_env.specs.Moved.{parent_of, is_around, with_use_under, with_binder, with_given, has_use, AreNamed, AreGivenNamed};
 
 /// A new local scope stands for the binders around it, and all else for what it did.

@@ -34,4 +34,5 @@ pub mod KeptLaws
 pub mod AddedLaws
 pub mod WorkLaws
 pub mod Looking
+pub mod TreePlaces
 pub mod RoleLaws

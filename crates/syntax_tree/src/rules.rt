@@ -12,8 +12,16 @@ use crate::look::{Look, look_at};
 use crate::symbols::{IdNo, Symbols};
 use crate::trees::{Tree, Work};
 use ls_base::{Items, Mem, Memory};
+use scheme_model::Occ;
 use std::alloc::Global;
 use std::collections::BTreeSet;
+
+/// An identifier with its place, where it has one.
+#[derive(Clone, Copy, Debug, PartialEq, Eq)]
+pub struct Named {
+    pub ident: IdNo,
+    pub occ: Option<Occ>,
+}
 
 /// A pattern, whose first part takes no part in matching, and a template.
 #[derive(Clone, Copy, Debug, PartialEq, Eq)]

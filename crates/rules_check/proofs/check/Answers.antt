@@ -1,4 +1,4 @@
-use Rattle.std.proofs.Common.{List, ℕ, sym, ap, ◌∙◌, subst}
+use Rattle.std.proofs.Common.{List, ℕ, sym, subst}
 use Rattle.syntax_tree.specs.declared.rules.Rule as code_rule
 use Rattle.syntax_tree.specs.Macros.{AreRolesOf, AreRules, RulesFor}
 use Rattle.rules_check.specs.Checked.{rules_in_form}

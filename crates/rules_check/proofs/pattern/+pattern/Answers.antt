@@ -1,10 +1,11 @@
-use Rattle.std.proofs.Common.{◌≡◌, ◌+◌, ◌||◌, ℕ, true, false, Bool, refl, sym, ap, ◌∙◌, subst, add-one, rules, arith}
+use Rattle.std.proofs.Common.{◌≡◌, ◌||◌, ℕ, refl, sym, ap, ◌∙◌, subst, add-one, rules, arith}
 use Rattle.std.specs.Prelude.{nat_lt}
 use Rattle.scheme_model.specs.Trees.{Tree, proper, Tail}
 use Rattle.scheme_model.specs.Matching.{behind}
 use Rattle.scheme_model.specs.RulesShape.{dots_of, starts_dots, ends_dots, dots_count, depth_before}
 use Rattle.scheme_model.specs.Ident.{Ident as Identifier}
 use Rattle.syntax_tree.specs.Macros.{identifiers}
+use Rattle.syntax_tree.specs.Placed.{tree_place}
 use Rattle.syntax_tree.proofs.Looking.{part_there, part_within, behind_past, within_positive, vector_parts_within, no_end}
 use Rattle.rules_check.specs.declared.pattern.Found.{Found}
 use Rattle.rules_check.specs.Patterns.{Finds, of_pattern}
@@ -13,6 +14,15 @@ use Rattle.rules_check.proofs.pattern.+pattern.Goals as goal
 use Rattle.rules_check.proofs.pattern.+pattern.Goals.{find_list-then-found, find_list-else-found, find_list-then-dots_at, find_list-else-dots_at, find_list-then-found-2, find_list-else-found-2}
 
 -- ---- one pattern
+
+pub find-find_name-requires : goal.find-find_name-requires
+find-find_name-requires t c = let l = c.in-Name.ensures.look c.requires.within.0 c.requires.within.1 in (l.0, l.3)
+
+pub find-returns-in_ok-find_name-in-Name : goal.find-returns-in_ok-find_name-in-Name
+find-returns-in_ok-find_name-in-Name t c = λ r u tells h.
+    let l = c.in-Name.ensures.look u h in
+    let occ = c.place_of-occ.ensures u h ∙ ap tree_place l.2 in
+    subst (λ (x : Tree Identifier). Finds c.args.work.now c.args.found.now c.find_name.new.found (of_pattern r x c.args.depth)) (sym l.2) (c.in_ok-find_name-in-Name.ensures r l.0 l.1 tells (l.3, occ))
 
 pub find-find_list-requires-in-Vector : goal.find-find_list-requires-in-Vector
 find-find_list-requires-in-Vector t c =

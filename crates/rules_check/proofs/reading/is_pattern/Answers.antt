@@ -1,4 +1,4 @@
-use Rattle.std.proofs.Common.{◌<◌, length, arith}
+use Rattle.std.proofs.Common.{arith}
 use Rattle.std.proofs.lemmas.Bool.Decides.{nat_tests}
 use Rattle.syntax_tree.proofs.Looking.{part_standing}
 use Rattle.rules_check.proofs.reading.is_pattern.Goals as goal

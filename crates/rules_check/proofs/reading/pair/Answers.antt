@@ -1,5 +1,5 @@
 use Rattle.std.proofs.Common.{◌≡◌, true, get_or, ap, ◌∙◌, arith}
-use Rattle.scheme_model.specs.Trees.{Trees, tree}
+use Rattle.scheme_model.specs.Trees.{tree}
 use Rattle.syntax_tree.proofs.Looking.{part_standing, part_there, behind_past}
 use Rattle.rules_check.specs.Checked.{pair_in, is_headed}
 use Rattle.rules_check.proofs.ReadLaws.{headed, pair_rule}

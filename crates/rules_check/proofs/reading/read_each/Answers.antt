@@ -1,4 +1,4 @@
-use Rattle.std.proofs.Common.{List, subst, sym, suc, add-one, arith}
+use Rattle.std.proofs.Common.{List, subst, sym, suc, add-one}
 use Rattle.syntax_tree.specs.declared.rules.Rule as code_rule
 use Rattle.syntax_tree.proofs.Looking.{part_standing, part_there, behind_past}
 use Rattle.rules_check.proofs.ReadLaws.{RulesUpTo, rules_step, rules_all, rules_end}

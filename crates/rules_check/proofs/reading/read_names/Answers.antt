@@ -1,4 +1,4 @@
-use Rattle.std.proofs.Common.{◌∷◌, ap, subst, add-one, List, ℕ, [], ◌++◌, suc, sym, arith}
+use Rattle.std.proofs.Common.{ap, subst, add-one, List, ℕ, suc, sym, arith}
 use Rattle.syntax_tree.proofs.Looking.{part_standing, part_there, behind_past}
 use Rattle.scheme_model.specs.RulesShape.{bad}
 use Rattle.rules_check.proofs.ReadLaws.{IsNoName, NamesUpTo, names_more, names_all, names_end}

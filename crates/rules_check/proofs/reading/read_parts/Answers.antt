@@ -1,6 +1,6 @@
 use Rattle.std.proofs.Common.{ap, ◌∙◌, sym, arith}
 use Rattle.std.specs.Prelude.{Some, None}
-use Rattle.scheme_model.specs.Trees.{Tree, Trees, tree}
+use Rattle.scheme_model.specs.Trees.{Tree, tree}
 use Rattle.scheme_model.specs.RulesShape.{rules_behind}
 use Rattle.scheme_model.specs.Matching.{behind}
 use Rattle.scheme_model.specs.Ident.{Ident as Identifier}

@@ -1,11 +1,14 @@
-use Rattle.std.proofs.Common.{◌≡◌, length, ◌+◌, ◌-◌, ◌<◌, ◌||◌, ◌&&◌, ℕ, suc, true, false, not, Bool, refl, sym, ap, ◌∙◌, subst, rules, arith}
-use Rattle.std.specs.Prelude.{nat_lt, Option, Some, None, is_some}
-use Rattle.scheme_model.specs.Trees.{Tree, list, vector, Trees, tree, proper, Tail}
+use Rattle.std.proofs.Common.{◌≡◌, length, ◌+◌, ◌-◌, ◌||◌, ◌&&◌, ℕ, suc, true, false, not, Bool, refl, sym, ap, ◌∙◌, subst, rules, arith}
+use Rattle.std.specs.Prelude.{nat_lt, Option, None, is_some}
+use Rattle.scheme_model.specs.Trees.{Tree, Trees, tree, proper, Tail}
 use Rattle.scheme_model.specs.Matching.{behind}
 use Rattle.scheme_model.specs.Measures.{tree_size, tree_depth}
-use Rattle.scheme_model.specs.RulesShape.{dots_of, is_dots, starts_dots, ends_dots, leading, escape_of, some_bad_template, bad_template_tail}
+use Rattle.scheme_model.specs.RulesShape.{dots_of, is_dots, starts_dots, ends_dots, leading, escape_of}
 use Rattle.scheme_model.specs.Ident.{Ident as Identifier}
+use Rattle.std.specs.BTreeMap.{get}
+use Rattle.std.specs.Ordering.{nat_cmp}
 use Rattle.syntax_tree.specs.Looks.{EndStands}
+use Rattle.syntax_tree.specs.Placed.{tree_place}
 use Rattle.syntax_tree.specs.Macros.{identifiers}
 use Rattle.syntax_tree.specs.declared.trees.nodes.Tree as number
 use Rattle.syntax_tree.proofs.Looking.{part_there, behind_past, count_stands, split_depth, no_end}
@@ -13,11 +16,21 @@ use Rattle.rules_check.specs.declared.template.Seen.{Seen}
 use Rattle.rules_check.specs.Templates.{dots_where, of_template, of_parts, Sees}
 use Rattle.rules_check.proofs.Faults.{none_is}
 use Rattle.rules_check.proofs.Contents.{or_true, or_false, end_tree}
-use Rattle.rules_check.proofs.Sights.{unseen, and_true, and_false, or_parts, marked, unmarked, no_dots, no_start, no_end as no_dots_end, no_escape, sees_none, sees_more, of_end, end_none, sees_list, sees_vector, sees_plain, sees_escape, leading_dots, leading_none, count_size, size_there, count_behind, back_one, see_end}
+use Rattle.rules_check.proofs.Sights.{unseen, sees_name, and_true, and_false, or_parts, marked, unmarked, no_dots, no_start, no_end as no_dots_end, no_escape, sees_none, sees_more, of_end, end_none, sees_list, sees_vector, sees_plain, sees_escape, leading_dots, leading_none, count_size, size_there, count_behind, back_one, see_end}
 use Rattle.rules_check.proofs.template.+template.Goals as goal
 use Rattle.rules_check.proofs.template.+template.Goals.{see-else-not-escaped-via-then-not-escaped+else-is_escape, see-else-not-escaped-via-else-not-escaped, see_list-in-None, see_list-in-Some, see_list-then-dots_at, see_list-else-dots_at, see_list-else-not-escaped-via-then-not-escaped+else-is_dots_end, see_list-else-not-escaped-via-else-not-escaped, see_parts-then-not-escaped, see_parts-else-not-escaped, see_parts-then-not-dots, see_parts-else-not-dots, see_parts-then-behind-gt0, see_parts-else-behind-gt0, see_parts-then-seen, see_parts-else-seen}
 
 -- ---- one template
+
+pub see-returns-in-Name : goal.see-returns-in-Name
+see-returns-in-Name t c = λ r depth u tells has h.
+    let w = c.args.work.now in
+    let dots = dots_where c.args.escaped r in
+    let l = c.in-Name.ensures.look u h in
+    let occ = c.place_of-occ.ensures u h ∙ ap tree_place l.2 in
+    let id = c.in-Name.ident in
+    subst (λ (x : Tree Identifier). Sees w c.see_name.result (of_template dots depth x c.args.level)) (sym l.2)
+    (sees_name w dots depth (record { ident = id; occ = c.place_of-occ.result }) l.0 l.1 c.args.level (get nat_cmp c.args.depths.now id) c.see_name.result (l.3, occ) (has id l.0 l.3) c.see_name.ensures)
 
 pub see-see_list-requires : goal.see-see_list-requires
 see-see_list-requires t c =

@@ -8,48 +8,50 @@ use Rattle.scheme_model.specs.Matching.{matcher, behind, front, rest_of, names_i
 use Rattle.syntax_tree.specs.Macros.{identifiers}
 use Rattle.syntax_tree.specs.Standing.{is_list}
 use Rattle.syntax_tree.specs.Works.{StandsFor}
-use Rattle.syntax_tree.proofs.Looking.{count_stands, behind_stands, part_standing, part_there, part_within, split_one, behind_past}
+use Rattle.syntax_tree.specs.Looks.{EndNamed}
+use Rattle.syntax_tree.proofs.Looking.{count_stands, behind_stands, part_standing, part_there, part_within, split_one, behind_past, part_named}
 use Rattle.rules_match.specs.Found.{FindsParts}
 use Rattle.rules_match.specs.declared.matching.Found.{Found}
 use Rattle.rules_match.proofs.Parts.{behind_behind, count_behind, front_stands, rest_parts, rest_list, end_dotted, end_proper, tail_within}
 use Rattle.rules_match.proofs.RuleLaws.{rest_is}
 use Rattle.rules_match.proofs.Adding.{finds_same, finds_true, finds_false, parts_then, end_found, atom_found}
 use Rattle.rules_match.proofs.Steps.{step_alone, fail_alone, fail_short, step_repeated, fail_repeated, fail_few, taken_some, taken_none, up_to_none, up_to_more, up_to_fail, up_to_all}
+use Rattle.rules_match.proofs.Naming.{front_named, behind_named, added_named, none_named, spread_named, collected_named}
 use Rattle.rules_match.proofs.EachLaws.{places_none, places_more, places_fail, places_all, places_count}
 use Rattle.rules_match.proofs.matching.Matcher.+matching.Goals as goal
 
 -- ---- one tree
 
-pub tree-returns-in_ok-name-in-Name : goal.tree-returns-in_ok-name-in-Name
-tree-returns-in_ok-name-in-Name t c = λ r same p u knows ps fs.
+pub tree-returns-in_ok-name-in-Name-clause-finds : goal.tree-returns-in_ok-name-in-Name-clause-finds
+tree-returns-in_ok-name-in-Name-clause-finds t c = λ r same p u knows ps fs.
     let w = c.args.self.now.work.now in
     let m = matcher identifiers r same in
     let q = c.in-Name.ensures.look p ps in
     finds_same w c.args.found.now c.name.new.found (match_name same (role_of identifiers r q.0) q.0 u) (match_tree m p u) c.in_ok-name-in-Name.field-0 (ap (λ x. match_tree m x u) (sym q.2))
-    (c.in_ok-name-in-Name.ensures r same q.0 u knows q.3 fs)
+    (c.in_ok-name-in-Name.ensures.finds r same q.0 u knows q.3 fs)
 
-pub tree-returns-in-Atom : goal.tree-returns-in-Atom
-tree-returns-in-Atom t c = λ r same p u knows ps fs.
+pub tree-returns-in-Atom-clause-finds : goal.tree-returns-in-Atom-clause-finds
+tree-returns-in-Atom-clause-finds t c = λ r same p u knows ps fs.
     let w = c.args.self.now.work.now in
     let m = matcher identifiers r same in
     let q = c.in-Atom.ensures.look p ps in
     finds_same w c.args.found.now c.args.found.now (match_atom q.0 u) (match_tree m p u) c.atom.result (ap (λ x. match_tree m x u) (sym q.2))
     (atom_found w c.args.found.now q.0 u c.atom.result (c.atom.ensures q.0 q.1 u q.3 fs))
 
-pub tree-returns-in_ok-rest-in-Some : goal.tree-returns-in_ok-rest-in-Some
-tree-returns-in_ok-rest-in-Some t c = λ r same p u knows ps fs.
+pub tree-returns-in_ok-rest-in-Some-clause-finds : goal.tree-returns-in_ok-rest-in-Some-clause-finds
+tree-returns-in_ok-rest-in-Some-clause-finds t c = λ r same p u knows ps fs.
     let w = c.args.self.now.work.now in
     let m = matcher identifiers r same in
     let q = c.in-List.ensures.look p ps in
     let f = c.in-List-look_at.ensures.look u fs in
     let b = c.in_ok-rest-in-Some.field-0 in
     let a = subst (FindsParts w m q.0 f.0 0 c.args.found.now c.parts.new.found) c.in-Some.is (c.in_ok-at-in-List-look_at.ensures.finds r same q.0 f.0 knows q.4 f.4) in
-    let e = c.in_ok-rest-in-Some.ensures r same q.1 f.0 f.1 knows q.5 (record { place = f.2; whole = subst (StandsFor w c.args.form) f.3 fs; stands = record { parts = f.4; tail = f.5 } }) in
+    let e = c.in_ok-rest-in-Some.ensures.finds r same q.1 f.0 f.1 knows q.5 (record { place = f.2; whole = subst (StandsFor w c.args.form) f.3 fs; stands = record { parts = f.4; tail = f.5 } }) in
     finds_same w c.args.found.now c.rest.new.found (match_parts m q.0 (match_rest m q.1) f.0 f.1) (match_tree m p u) b (λ i. match_tree m (sym q.3 i) (sym f.3 i))
     (parts_then w m q.0 f.0 0 c.in-Some.at c.args.found.now c.parts.new.found c.rest.new.found (match_rest m q.1) f.1 b a e)
 
-pub tree-returns-in-None : goal.tree-returns-in-None
-tree-returns-in-None t c = λ r same p u knows ps fs.
+pub tree-returns-in-None-clause-finds : goal.tree-returns-in-None-clause-finds
+tree-returns-in-None-clause-finds t c = λ r same p u knows ps fs.
     let w = c.args.self.now.work.now in
     let m = matcher identifiers r same in
     let q = c.in-List.ensures.look p ps in
@@ -57,8 +59,8 @@ tree-returns-in-None t c = λ r same p u knows ps fs.
     let a = subst (FindsParts w m q.0 f.0 0 c.args.found.now c.parts.new.found) c.in-None.is (c.in_ok-at-in-List-look_at.ensures.finds r same q.0 f.0 knows q.4 f.4) in
     (λ i. match_tree m (q.3 i) (f.3 i)) ∙ a (match_rest m q.1) f.1
 
-pub tree-returns-in-Some-2 : goal.tree-returns-in-Some-2
-tree-returns-in-Some-2 t c = λ r same p u knows ps fs.
+pub tree-returns-in-Some-2-clause-finds : goal.tree-returns-in-Some-2-clause-finds
+tree-returns-in-Some-2-clause-finds t c = λ r same p u knows ps fs.
     let w = c.args.self.now.work.now in
     let m = matcher identifiers r same in
     let q = c.in-Vector.ensures.look p ps in
@@ -74,8 +76,8 @@ tree-returns-in-Some-2 t c = λ r same p u knows ps fs.
     finds_same w c.args.found.now new (match_parts m q.0 at_end f.0 proper) (match_tree m p u) test (λ i. match_tree m (sym q.2 i) (sym f.2 i))
     (parts_then w m q.0 f.0 0 at c.args.found.now new new at_end proper test a (end_found w new (behind at f.0) test (λ h. grind (arith, nat_tests)) (λ h. grind (arith, nat_tests))))
 
-pub tree-returns-in-None-2 : goal.tree-returns-in-None-2
-tree-returns-in-None-2 t c = λ r same p u knows ps fs.
+pub tree-returns-in-None-2-clause-finds : goal.tree-returns-in-None-2-clause-finds
+tree-returns-in-None-2-clause-finds t c = λ r same p u knows ps fs.
     let w = c.args.self.now.work.now in
     let m = matcher identifiers r same in
     let q = c.in-Vector.ensures.look p ps in
@@ -86,7 +88,7 @@ tree-returns-in-None-2 t c = λ r same p u knows ps fs.
 -- ---- parts
 
 pub parts-loop-k-init : goal.parts-loop-k-init
-parts-loop-k-init t c = (c.requires.there, λ r same ps ts knows pr fr. up_to_none c.args.self.now.work.now (matcher identifiers r same) ps ts c.args.from c.args.found.now)
+parts-loop-k-init t c = (c.requires.there, λ r same ps ts knows pr fr. up_to_none c.args.self.now.work.now (matcher identifiers r same) ps ts c.args.from c.args.found.now, λ region fr h. h)
 
 pub parts-each-requires : goal.parts-each-requires
 parts-each-requires t c =
@@ -122,9 +124,10 @@ parts-loop-k-preserved t c = (
       let p = part_there w k c.args.pattern.now ps (record { number = 0 }) pr c.loop-k-test.true in
       let q = part_there w j c.args.form.now ts (record { number = 0 }) fr (omega arith) in
       let d = sym c.if-dots_at.false ∙ c.dots_at.ensures r ps knows.tells pr in
-      let a = finds_true w c.loop-k.found c.tree.new.found (match_tree m p.part q.part) c.in_ok-tree.field-0 c.if-not-branch-2.false (c.in_ok-tree.ensures r same p.part q.part knows p.stands q.stands) in
+      let a = finds_true w c.loop-k.found c.tree.new.found (match_tree m p.part q.part) c.in_ok-tree.field-0 c.if-not-branch-2.false (c.in_ok-tree.ensures.finds r same p.part q.part knows p.stands q.stands) in
       up_to_more w m ps ts c.args.from k j (k + 1) (j + 1) c.args.found.now c.loop-k.found c.tree.new.found a.0 (c.loop-k.invariant.1 r same ps ts knows pr fr) a.2
       (λ rest end. step_alone m rest ps ts end k j p.part (split_one w k ps _ p) q.part a.0 (split_one w j ts _ q) d a.1),
+  λ region fr h. c.in_ok-tree.ensures.named region (part_named c.args.self.now.work.now region c.loop-k.j c.args.form.now (record { number = 0 }) fr (omega arith)) (c.loop-k.invariant.2 region fr h),
 )
 
 pub parts-loop-k-preserved-then-dots_at : goal.parts-loop-k-preserved-then-dots_at
@@ -145,11 +148,16 @@ parts-loop-k-preserved-then-dots_at t c = (
       let stands = front_stands w (j + n - j) (drop j c.args.form.now) (behind j ts) (behind_stands w j c.args.form.now ts fr) in
       let same_count : j + n - j ≡ n = omega arith in
       let us = front (j + n - j) (behind j ts) in
-      let a = finds_true w c.loop-k.found c.each.new.found (match_each (match_tree m p.part) (names_in m.role p.part) us) c.in_ok-each.field-0 c.if-not-branch.false (c.in_ok-each.ensures r same p.part us knows p.stands stands) in
+      let a = finds_true w c.loop-k.found c.each.new.found (match_each (match_tree m p.part) (names_in m.role p.part) us) c.in_ok-each.field-0 c.if-not-branch.false (c.in_ok-each.ensures.finds r same p.part us knows p.stands stands) in
       let e : taken (count (behind (k + 2) ps)) (behind j ts) ≡ Some (us, behind (j + n) ts) =
       taken_some (count (behind (k + 2) ps)) n (behind j ts) (omega arith) (omega arith) ∙ (λ i. Some (front (sym same_count i) (behind j ts), behind_behind j n ts i)) in
       up_to_more w m ps ts c.args.from k j (k + 2) (j + n) c.args.found.now c.loop-k.found c.each.new.found a.0 (c.loop-k.invariant.1 r same ps ts knows pr fr) a.2
       (λ rest end. step_repeated m rest ps ts end k j p.part (split_one w k ps _ p) (j + n) us a.0 d e a.1),
+  λ region fr h.
+      let w = c.args.self.now.work.now in
+      let j = c.loop-k.j in
+      let n = length c.args.form.now - j - c.saturating_sub-after.result in
+      c.in_ok-each.ensures.named region (front_named w region (j + n - j) (drop j c.args.form.now) (behind_named w region j c.args.form.now fr)) (c.loop-k.invariant.2 region fr h),
 )
 
 pub parts-returns-then-rest-after-clause-finds : goal.parts-returns-then-rest-after-clause-finds
@@ -184,7 +192,7 @@ parts-returns-then-not-branch-clause-finds t c = λ r same ps ts knows pr fr.
     let stands = front_stands w (j + n - j) (drop j c.args.form.now) (behind j ts) (behind_stands w j c.args.form.now ts fr) in
     let same_count : j + n - j ≡ n = omega arith in
     let us = front (j + n - j) (behind j ts) in
-    let a = finds_false w c.loop-k.found c.each.new.found (match_each (match_tree m p.part) (names_in m.role p.part) us) c.in_ok-each.field-0 c.if-not-branch.true (c.in_ok-each.ensures r same p.part us knows p.stands stands) in
+    let a = finds_false w c.loop-k.found c.each.new.found (match_each (match_tree m p.part) (names_in m.role p.part) us) c.in_ok-each.field-0 c.if-not-branch.true (c.in_ok-each.ensures.finds r same p.part us knows p.stands stands) in
     let e : taken (count (behind (k + 2) ps)) (behind j ts) ≡ Some (us, behind n (behind j ts)) =
     taken_some (count (behind (k + 2) ps)) n (behind j ts) (omega arith) (omega arith) ∙ (λ i. Some (front (sym same_count i) (behind j ts), behind n (behind j ts))) in
     up_to_fail w m ps ts c.args.from k j c.args.found.now c.loop-k.found c.each.new.found (c.loop-k.invariant.1 r same ps ts knows pr fr)
@@ -211,7 +219,7 @@ parts-returns-then-not-branch-2-clause-finds t c = λ r same ps ts knows pr fr.
     let p = part_there w k c.args.pattern.now ps (record { number = 0 }) pr c.loop-k-test.true in
     let q = part_there w j c.args.form.now ts (record { number = 0 }) fr (omega arith) in
     let d = sym c.if-dots_at.false ∙ c.dots_at.ensures r ps knows.tells pr in
-    let a = finds_false w c.loop-k.found c.tree.new.found (match_tree m p.part q.part) c.in_ok-tree.field-0 c.if-not-branch-2.true (c.in_ok-tree.ensures r same p.part q.part knows p.stands q.stands) in
+    let a = finds_false w c.loop-k.found c.tree.new.found (match_tree m p.part q.part) c.in_ok-tree.field-0 c.if-not-branch-2.true (c.in_ok-tree.ensures.finds r same p.part q.part knows p.stands q.stands) in
     up_to_fail w m ps ts c.args.from k j c.args.found.now c.loop-k.found c.tree.new.found (c.loop-k.invariant.1 r same ps ts knows pr fr)
     (λ rest end. fail_alone m rest ps ts end k j p.part (split_one w k ps _ p) q.part (split_one w j ts _ q) d a)
 
@@ -253,8 +261,8 @@ rest-tree-requires t c =
     let e = end_dotted w c.args.row.end f.1.0 c.in-Some-end-2.end c.in-Some-end-2.is f.1.1.stands.tail in
     (first_of (omega arith, search rules, grind arith), (c.requires.knows, (q, (e.0, e.3))))
 
-pub rest-returns-in-None-end : goal.rest-returns-in-None-end
-rest-returns-in-None-end t c = λ r same q ts end knows qs row.
+pub rest-returns-in-None-end-clause-finds : goal.rest-returns-in-None-end-clause-finds
+rest-returns-in-None-end-clause-finds t c = λ r same q ts end knows qs row.
     let w = c.args.self.now.work.now in
     let m = matcher identifiers r same in
     let f = c.args.found.now in
@@ -266,8 +274,8 @@ rest-returns-in-None-end t c = λ r same q ts end knows qs row.
     finds_same w f f (at_end (behind c.args.from ts) proper) (match_rest m q (behind c.args.from ts) end) test (λ i. match_rest m (sym e i) (behind c.args.from ts) (sym g i))
     (end_found w f (behind c.args.from ts) test (λ h. grind (arith, nat_tests)) (λ h. grind (arith, nat_tests)))
 
-pub rest-returns-in_ok-list-in-None-end-2 : goal.rest-returns-in_ok-list-in-None-end-2
-rest-returns-in_ok-list-in-None-end-2 t c = λ r same q ts end knows qs row.
+pub rest-returns-in_ok-list-in-None-end-2-clause-finds : goal.rest-returns-in_ok-list-in-None-end-2-clause-finds
+rest-returns-in_ok-list-in-None-end-2-clause-finds t c = λ r same q ts end knows qs row.
     let w = c.args.self.now.work.now in
     let m = matcher identifiers r same in
     let p = end_dotted w c.args.tail q c.in-Some.pattern c.in-Some.is qs in
@@ -276,10 +284,10 @@ rest-returns-in_ok-list-in-None-end-2 t c = λ r same q ts end knows qs row.
     let own = ap (λ x. is_list (rest_of (behind c.args.from ts) x)) g ∙ rest_list (behind c.args.from ts) in
     let is = rest_is w c.args.form c.args.row ts end c.args.from row (omega arith) own in
     finds_same w c.args.found.now c.list.new.found (match_tree m p.0 (rest_of (behind c.args.from ts) end)) (match_rest m q (behind c.args.from ts) end) c.in_ok-list-in-None-end-2.field-0
-    (λ i. match_rest m (sym p.1 i) (behind c.args.from ts) end) (c.in_ok-list-in-None-end-2.ensures r same p.0 (rest_of (behind c.args.from ts) end) knows p.3 p.2 is)
+    (λ i. match_rest m (sym p.1 i) (behind c.args.from ts) end) (c.in_ok-list-in-None-end-2.ensures.finds r same p.0 (rest_of (behind c.args.from ts) end) knows p.3 p.2 is)
 
-pub rest-returns-then-from-row : goal.rest-returns-then-from-row
-rest-returns-then-from-row t c = λ r same q ts end knows qs row.
+pub rest-returns-then-from-row-clause-finds : goal.rest-returns-then-from-row-clause-finds
+rest-returns-then-from-row-clause-finds t c = λ r same q ts end knows qs row.
     let w = c.args.self.now.work.now in
     let m = matcher identifiers r same in
     let p = end_dotted w c.args.tail q c.in-Some.pattern c.in-Some.is qs in
@@ -287,17 +295,17 @@ rest-returns-then-from-row t c = λ r same q ts end knows qs row.
     let b = count_behind c.args.from ts in
     let is = rest_is w c.args.form c.args.row ts end c.args.from row (omega arith) (rest_parts (behind c.args.from ts) end (omega arith)) in
     finds_same w c.args.found.now c.list-then-from-row.new.found (match_tree m p.0 (rest_of (behind c.args.from ts) end)) (match_rest m q (behind c.args.from ts) end) c.in_ok-list-in-Some-end-2.field-0
-    (λ i. match_rest m (sym p.1 i) (behind c.args.from ts) end) (c.in_ok-list-in-Some-end-2.ensures r same p.0 (rest_of (behind c.args.from ts) end) knows p.3 p.2 is)
+    (λ i. match_rest m (sym p.1 i) (behind c.args.from ts) end) (c.in_ok-list-in-Some-end-2.ensures.finds r same p.0 (rest_of (behind c.args.from ts) end) knows p.3 p.2 is)
 
-pub rest-returns-in_ok-tree-in-Some-end-2 : goal.rest-returns-in_ok-tree-in-Some-end-2
-rest-returns-in_ok-tree-in-Some-end-2 t c = λ r same q ts end knows qs row.
+pub rest-returns-in_ok-tree-in-Some-end-2-clause-finds : goal.rest-returns-in_ok-tree-in-Some-end-2-clause-finds
+rest-returns-in_ok-tree-in-Some-end-2-clause-finds t c = λ r same q ts end knows qs row.
     let w = c.args.self.now.work.now in
     let m = matcher identifiers r same in
     let p = end_dotted w c.args.tail q c.in-Some.pattern c.in-Some.is qs in
     let e = end_dotted w c.args.row.end end c.in-Some-end-2.end c.in-Some-end-2.is row.stands.tail in
     let gone = behind_past w c.args.from c.args.row.items.now ts row.stands.parts (omega arith) in
     finds_same w c.args.found.now c.tree.new.found (match_tree m p.0 e.0) (match_rest m q (behind c.args.from ts) end) c.in_ok-tree-in-Some-end-2.field-0
-    (λ i. match_rest m (sym p.1 i) (sym gone i) (sym e.1 i)) (c.in_ok-tree-in-Some-end-2.ensures r same p.0 e.0 knows p.3 e.3)
+    (λ i. match_rest m (sym p.1 i) (sym gone i) (sym e.1 i)) (c.in_ok-tree-in-Some-end-2.ensures.finds r same p.0 e.0 knows p.3 e.3)
 
 -- ---- each tree
 
@@ -308,28 +316,44 @@ each-tree-requires t c = (
 )
 
 pub each-loop-form-init : goal.each-loop-form-init
-each-loop-form-init t c = λ r same p ts knows ps fs.
-    places_none c.args.self.now.work.now (matcher identifiers r same) p (λ i. refl) ts c.args.found.now c.new-columns.result c.columns.new.columns c.new-columns.ensures.items (c.in_ok-columns.ensures r same p knows ps)
+each-loop-form-init t c = (
+  λ r same p ts knows ps fs.
+      places_none c.args.self.now.work.now (matcher identifiers r same) p (λ i. refl) ts c.args.found.now c.new-columns.result c.columns.new.columns c.new-columns.ensures.items (c.in_ok-columns.ensures r same p knows ps),
+  λ region fr h.
+      let r = c.requires.knows.0 in
+      let same = c.requires.knows.1.0 in
+      let p = c.requires.pattern.0 in
+      let is = names_in (role_of identifiers r) p in
+      (h, added_named c.args.self.now.work.now region c.new-columns.result c.columns.new.columns is c.new-columns.ensures.items (c.in_ok-columns.ensures r same p c.requires.knows.1.1 c.requires.pattern.1)),
+)
 
-pub each-returns-then-not-branch : goal.each-returns-then-not-branch
-each-returns-then-not-branch t c = λ r same p ts knows ps fs.
+pub each-returns-then-not-branch-clause-finds : goal.each-returns-then-not-branch-clause-finds
+each-returns-then-not-branch-clause-finds t c = λ r same p ts knows ps fs.
     let w = c.args.self.now.work.now in
     let m = matcher identifiers r same in
     let k = c.loop-form.form-index in
     let n = part_there w k c.args.forms.now ts (record { number = 0 }) fs c.loop-form-test.true in
-    let a = finds_false w (record { bindings = c.new.result; leaves = c.new-in-loop-form.result }) c.tree.new.found (match_tree m p n.part) c.in_ok-tree.field-0 c.if-not-branch.true (c.in_ok-tree.ensures r same p n.part knows ps n.stands) in
-    places_fail w m p ts k c.args.found.now c.loop-form.found c.loop-form.columns.items n.part (c.loop-form.invariant r same p ts knows ps fs) (split_one w k ts _ n) a
+    let a = finds_false w (record { bindings = c.new.result; leaves = c.new-in-loop-form.result }) c.tree.new.found (match_tree m p n.part) c.in_ok-tree.field-0 c.if-not-branch.true (c.in_ok-tree.ensures.finds r same p n.part knows ps n.stands) in
+    places_fail w m p ts k c.args.found.now c.loop-form.found c.loop-form.columns.items n.part (c.loop-form.invariant.0 r same p ts knows ps fs) (split_one w k ts _ n) a
 
 pub each-loop-form-preserved : goal.each-loop-form-preserved
-each-loop-form-preserved t c = λ r same p ts knows ps fs.
-    let w = c.args.self.now.work.now in
-    let m = matcher identifiers r same in
-    let k = c.loop-form.form-index in
-    let n = part_there w k c.args.forms.now ts (record { number = 0 }) fs c.loop-form-test.true in
-    let none : Found = record { bindings = c.new.result; leaves = c.new-in-loop-form.result } in
-    let a = finds_true w none c.tree.new.found (match_tree m p n.part) c.in_ok-tree.field-0 c.if-not-branch.false (c.in_ok-tree.ensures r same p n.part knows ps n.stands) in
-    places_more w m p (λ i. refl) c.told_apart.ensures.idents ts k c.args.found.now c.loop-form.found (record { bindings = c.loop-form.found.bindings; leaves = c.extend_from_slice.new.self }) none c.tree.new.found
-    c.loop-form.columns.items c.spread.new.columns.items n.part a.0 (c.loop-form.invariant r same p ts knows ps fs) (split_one w k ts _ n) a.1 c.new.ensures.items c.new-in-loop-form.ensures.items a.2 c.in_ok-spread.ensures refl (c.in_ok-extend_from_slice.ensures.items ∙ ap (λ x. c.loop-form.found.leaves.items ++ x) c.as_slice.ensures.value)
+each-loop-form-preserved t c = (
+  λ r same p ts knows ps fs.
+      let w = c.args.self.now.work.now in
+      let m = matcher identifiers r same in
+      let k = c.loop-form.form-index in
+      let n = part_there w k c.args.forms.now ts (record { number = 0 }) fs c.loop-form-test.true in
+      let none : Found = record { bindings = c.new.result; leaves = c.new-in-loop-form.result } in
+      let a = finds_true w none c.tree.new.found (match_tree m p n.part) c.in_ok-tree.field-0 c.if-not-branch.false (c.in_ok-tree.ensures.finds r same p n.part knows ps n.stands) in
+      places_more w m p (λ i. refl) c.told_apart.ensures.idents ts k c.args.found.now c.loop-form.found (record { bindings = c.loop-form.found.bindings; leaves = c.extend_from_slice.new.self }) none c.tree.new.found
+      c.loop-form.columns.items c.spread.new.columns.items n.part a.0 (c.loop-form.invariant.0 r same p ts knows ps fs) (split_one w k ts _ n) a.1 c.new.ensures.items c.new-in-loop-form.ensures.items a.2 c.in_ok-spread.ensures refl (c.in_ok-extend_from_slice.ensures.items ∙ ap (λ x. c.loop-form.found.leaves.items ++ x) c.as_slice.ensures.value),
+  λ region fr h.
+      let w = c.args.self.now.work.now in
+      let i = c.loop-form.invariant.1 region fr h in
+      let n = part_named w region c.loop-form.form-index c.args.forms.now (record { number = 0 }) fr c.loop-form-test.true in
+      let p = c.in_ok-tree.ensures.named region n (none_named w region c.new.result.items c.new.ensures.items) in
+      (i.0, spread_named w region c.tree.new.found.bindings.items c.loop-form.columns.items c.spread.new.columns.items c.in_ok-spread.ensures p i.1),
+)
 
 pub each-spread-requires : goal.each-spread-requires
 each-spread-requires t c =
@@ -343,13 +367,70 @@ each-spread-requires t c =
     let k = c.loop-form.form-index in
     let n = part_there w k c.args.forms.now ts (record { number = 0 }) c.requires.forms.1 c.loop-form-test.true in
     let none : Found = record { bindings = c.new.result; leaves = c.new-in-loop-form.result } in
-    let a = finds_true w none c.tree.new.found (match_tree m p n.part) c.in_ok-tree.field-0 c.if-not-branch.false (c.in_ok-tree.ensures r same p n.part knows c.requires.pattern.1 n.stands) in
-    places_count w m p (λ i. refl) ts k c.args.found.now c.loop-form.found none c.tree.new.found c.loop-form.columns.items n.part a.0 (c.loop-form.invariant r same p ts knows c.requires.pattern.1 c.requires.forms.1) a.1
+    let a = finds_true w none c.tree.new.found (match_tree m p n.part) c.in_ok-tree.field-0 c.if-not-branch.false (c.in_ok-tree.ensures.finds r same p n.part knows c.requires.pattern.1 n.stands) in
+    places_count w m p (λ i. refl) ts k c.args.found.now c.loop-form.found none c.tree.new.found c.loop-form.columns.items n.part a.0 (c.loop-form.invariant.0 r same p ts knows c.requires.pattern.1 c.requires.forms.1) a.1
     c.new.ensures.items a.2
 
-pub each-returns : goal.each-returns
-each-returns t c = λ r same p ts knows ps fs.
+pub each-returns-clause-finds : goal.each-returns-clause-finds
+each-returns-clause-finds t c = λ r same p ts knows ps fs.
     let w = c.args.self.now.work.now in
     let k = c.loop-form.form-index in
     places_all w (matcher identifiers r same) p ts k c.args.found.now c.loop-form.found (record { bindings = c.collect.new.bindings; leaves = c.loop-form.found.leaves }) c.loop-form.columns.items
-    (c.loop-form.invariant r same p ts knows ps fs) (behind_past w k c.args.forms.now ts fs c.loop-form-test.false) c.in_ok-collect.ensures refl
+    (c.loop-form.invariant.0 r same p ts knows ps fs) (behind_past w k c.args.forms.now ts fs c.loop-form-test.false) c.in_ok-collect.ensures refl
+
+-- ---- what nodes of a region may name
+
+pub tree-returns-in_ok-name-in-Name-clause-named : goal.tree-returns-in_ok-name-in-Name-clause-named
+tree-returns-in_ok-name-in-Name-clause-named t c = λ region can h. c.in_ok-name-in-Name.ensures.named region can h
+
+pub tree-returns-in_ok-rest-in-Some-clause-named : goal.tree-returns-in_ok-rest-in-Some-clause-named
+tree-returns-in_ok-rest-in-Some-clause-named t c = λ region can h.
+    let l = c.in-List-look_at.ensures.named region can in
+    c.in_ok-rest-in-Some.ensures.named region can l (c.in_ok-at-in-List-look_at.ensures.named region l.0 h)
+
+pub tree-returns-in-None-clause-named : goal.tree-returns-in-None-clause-named
+tree-returns-in-None-clause-named t c = λ region can h. c.in_ok-at-in-List-look_at.ensures.named region (c.in-List-look_at.ensures.named region can).0 h
+
+pub tree-returns-in-Some-2-clause-named : goal.tree-returns-in-Some-2-clause-named
+tree-returns-in-Some-2-clause-named t c = λ region can h. c.in_ok-at-in-Vector-look_at-2.ensures.named region (c.in-Vector-look_at-2.ensures.named region can) h
+
+pub tree-returns-in-None-2-clause-named : goal.tree-returns-in-None-2-clause-named
+tree-returns-in-None-2-clause-named t c = λ region can h. c.in_ok-at-in-Vector-look_at-2.ensures.named region (c.in-Vector-look_at-2.ensures.named region can) h
+
+pub parts-returns-then-rest-after-clause-named : goal.parts-returns-then-rest-after-clause-named
+parts-returns-then-rest-after-clause-named t c = λ region fr h. c.loop-k.invariant.2 region fr h
+
+pub parts-returns-then-not-branch-clause-named : goal.parts-returns-then-not-branch-clause-named
+parts-returns-then-not-branch-clause-named t c = λ region fr h.
+    let w = c.args.self.now.work.now in
+    let j = c.loop-k.j in
+    let n = length c.args.form.now - j - c.saturating_sub-after.result in
+    c.in_ok-each.ensures.named region (front_named w region (j + n - j) (drop j c.args.form.now) (behind_named w region j c.args.form.now fr)) (c.loop-k.invariant.2 region fr h)
+
+pub parts-returns-then-rest-eq0-clause-named : goal.parts-returns-then-rest-eq0-clause-named
+parts-returns-then-rest-eq0-clause-named t c = λ region fr h. c.loop-k.invariant.2 region fr h
+
+pub parts-returns-then-not-branch-2-clause-named : goal.parts-returns-then-not-branch-2-clause-named
+parts-returns-then-not-branch-2-clause-named t c = λ region fr h.
+    c.in_ok-tree.ensures.named region (part_named c.args.self.now.work.now region c.loop-k.j c.args.form.now (record { number = 0 }) fr (omega arith)) (c.loop-k.invariant.2 region fr h)
+
+pub parts-returns-clause-named : goal.parts-returns-clause-named
+parts-returns-clause-named t c = λ region fr h. c.loop-k.invariant.2 region fr h
+
+pub rest-returns-in_ok-list-in-None-end-2-clause-named : goal.rest-returns-in_ok-list-in-None-end-2-clause-named
+rest-returns-in_ok-list-in-None-end-2-clause-named t c = λ region can row h. c.in_ok-list-in-None-end-2.ensures.named region can h
+
+pub rest-returns-then-from-row-clause-named : goal.rest-returns-then-from-row-clause-named
+rest-returns-then-from-row-clause-named t c = λ region can row h. c.in_ok-list-in-Some-end-2.ensures.named region can h
+
+pub rest-returns-in_ok-tree-in-Some-end-2-clause-named : goal.rest-returns-in_ok-tree-in-Some-end-2-clause-named
+rest-returns-in_ok-tree-in-Some-end-2-clause-named t c = λ region can row h.
+    c.in_ok-tree-in-Some-end-2.ensures.named region (subst (EndNamed c.args.self.now.work.now region) c.in-Some-end-2.is row.1) h
+
+pub each-returns-then-not-branch-clause-named : goal.each-returns-then-not-branch-clause-named
+each-returns-then-not-branch-clause-named t c = λ region fr h. (c.loop-form.invariant.1 region fr h).0
+
+pub each-returns-clause-named : goal.each-returns-clause-named
+each-returns-clause-named t c = λ region fr h.
+    let i = c.loop-form.invariant.1 region fr h in
+    collected_named c.args.self.now.work.now region c.loop-form.found.bindings.items c.collect.new.bindings.items c.loop-form.columns.items c.in_ok-collect.ensures i.0 i.1

@@ -6,14 +6,14 @@ use Rattle.rules_match.proofs.Adding.{adds_leaf}
 use Rattle.rules_match.proofs.KnownLaws.{literal_is}
 use Rattle.rules_match.proofs.matching.Matcher.literal.Goals as goal
 
-pub returns-then-not-contains : goal.returns-then-not-contains
-returns-then-not-contains c = λ r same i t knows id fs.
+pub returns-then-not-contains-clause-finds : goal.returns-then-not-contains-clause-finds
+returns-then-not-contains-clause-finds c = λ r same i t knows id fs.
     let q = c.in-Name.ensures.look t fs in
     let e = sym (knows.means c.args.literal c.in-Name.ident i q.0 id q.3) ∙ sym c.contains.ensures ∙ c.if-not-contains.true in
     literal_is same i q.0 t q.1 false q.2 e
 
-pub returns-in_ok-push-in-Name : goal.returns-in_ok-push-in-Name
-returns-in_ok-push-in-Name c = λ r same i t knows id fs.
+pub returns-in_ok-push-in-Name-clause-finds : goal.returns-in_ok-push-in-Name-clause-finds
+returns-in_ok-push-in-Name-clause-finds c = λ r same i t knows id fs.
     let w = c.args.self.now.work.now in
     let q = c.in-Name.ensures.look t fs in
     let e = sym (knows.means c.args.literal c.in-Name.ident i q.0 id q.3) ∙ sym c.contains.ensures ∙ c.if-not-contains.false in (

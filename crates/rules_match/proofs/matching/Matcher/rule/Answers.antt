@@ -43,8 +43,8 @@ rest-requires-clause-tail c =
     let l = c.in-List.ensures.look s.0 s.1 in
     end_within w c.depth-depth.result s.0 c.in-List.tail l.0 l.1 l.2 (omega arith) l.3 l.5
 
-pub returns-in_ok-rest-in-Some : goal.returns-in_ok-rest-in-Some
-returns-in_ok-rest-in-Some c = λ r same m ts end knows is row.
+pub returns-in_ok-rest-in-Some-clause-finds : goal.returns-in_ok-rest-in-Some-clause-finds
+returns-in_ok-rest-in-Some-clause-finds c = λ r same m ts end knows is row.
     let w = c.args.self.now.work.now in
     let model = matcher identifiers r same in
     let s = rule_standing w c.args.rule m is in
@@ -52,10 +52,10 @@ returns-in_ok-rest-in-Some c = λ r same m ts end knows is row.
     let parts = pattern_parts w c.args.rule m is in
     let q = list_is w c.in-List.parts.now c.in-List.tail parts l.0 m.tail l.1 is.place l.2 l.3 l.4 l.5 in
     let a = subst (FindsParts w model parts ts 1 c.args.found.now c.parts.new.found) c.in-Some.is (c.in_ok-at-in-List.ensures.finds r same parts ts knows q.0 row.stands.parts) in
-    parts_then w model parts ts 1 c.in-Some.at c.args.found.now c.parts.new.found c.rest.new.found (match_rest model m.tail) end c.in_ok-rest-in-Some.field-0 a (c.in_ok-rest-in-Some.ensures r same m.tail ts end knows q.1 row)
+    parts_then w model parts ts 1 c.in-Some.at c.args.found.now c.parts.new.found c.rest.new.found (match_rest model m.tail) end c.in_ok-rest-in-Some.field-0 a (c.in_ok-rest-in-Some.ensures.finds r same m.tail ts end knows q.1 row)
 
-pub returns-in-None : goal.returns-in-None
-returns-in-None c = λ r same m ts end knows is row.
+pub returns-in-None-clause-finds : goal.returns-in-None-clause-finds
+returns-in-None-clause-finds c = λ r same m ts end knows is row.
     let w = c.args.self.now.work.now in
     let model = matcher identifiers r same in
     let s = rule_standing w c.args.rule m is in
@@ -65,23 +65,29 @@ returns-in-None c = λ r same m ts end knows is row.
     let a = subst (FindsParts w model parts ts 1 c.args.found.now c.parts.new.found) c.in-None.is (c.in_ok-at-in-List.ensures.finds r same parts ts knows q.0 row.stands.parts) in
     a (match_rest model m.tail) end
 
-pub returns-in-Name : goal.returns-in-Name
-returns-in-Name c = λ r same m ts end knows is row.
+pub returns-in-Name-clause-finds : goal.returns-in-Name-clause-finds
+returns-in-Name-clause-finds c = λ r same m ts end knows is row.
     let s = rule_standing c.args.self.now.work.now c.args.rule m is in
     let l = c.in-Name.ensures.look s.0 s.1 in
     let e = l.2 in
     absurd cc
 
-pub returns-in-Atom : goal.returns-in-Atom
-returns-in-Atom c = λ r same m ts end knows is row.
+pub returns-in-Atom-clause-finds : goal.returns-in-Atom-clause-finds
+returns-in-Atom-clause-finds c = λ r same m ts end knows is row.
     let s = rule_standing c.args.self.now.work.now c.args.rule m is in
     let l = c.in-Atom.ensures.look s.0 s.1 in
     let e = l.2 in
     absurd cc
 
-pub returns-in-Vector : goal.returns-in-Vector
-returns-in-Vector c = λ r same m ts end knows is row.
+pub returns-in-Vector-clause-finds : goal.returns-in-Vector-clause-finds
+returns-in-Vector-clause-finds c = λ r same m ts end knows is row.
     let s = rule_standing c.args.self.now.work.now c.args.rule m is in
     let l = c.in-Vector.ensures.look s.0 s.1 in
     let e = l.2 in
     absurd cc
+
+pub returns-in_ok-rest-in-Some-clause-named : goal.returns-in_ok-rest-in-Some-clause-named
+returns-in_ok-rest-in-Some-clause-named c = λ region can row h. c.in_ok-rest-in-Some.ensures.named region can row (c.in_ok-at-in-List.ensures.named region row.0 h)
+
+pub returns-in-None-clause-named : goal.returns-in-None-clause-named
+returns-in-None-clause-named c = λ region can row h. c.in_ok-at-in-List.ensures.named region row.0 h

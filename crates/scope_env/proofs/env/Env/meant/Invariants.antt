@@ -1,9 +1,10 @@
 use Rattle.std.proofs.Common.{Some}
+use Rattle.scope_env.specs.Environment.{with_added}
 use Rattle.scope_env.proofs.Walk.{Walked, depth_at}
-use Rattle.scope_env.proofs.env.Env.resolve.Given as goal
+use Rattle.scope_env.proofs.env.Env.meant.Given as goal
 
 abbrev pub invariant-loop-meaning : goal.invariant-loop-meaning
-invariant-loop-meaning l = Walked l.symbols l.self (Some l.fn.scope) l.fn.ident l.from l.at
+invariant-loop-meaning l = Walked l.symbols (with_added l.self l.added) (Some l.fn.scope) l.fn.ident l.from l.at
 
 abbrev pub decreases-loop-meaning : goal.decreases-loop-meaning
 decreases-loop-meaning l = depth_at l.symbols l.at

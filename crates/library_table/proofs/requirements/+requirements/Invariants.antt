@@ -1,0 +1,37 @@
+use Rattle.std.proofs.Common.{◌≡◌, ℕ, ◌*◌, ◌+◌, Bool, List, drop}
+use Rattle.std.specs.Prelude.{◌&&◌, ◌||◌}
+use Rattle.std.specs.BTreeSet.{contains_text}
+use Rattle.scheme_model.specs.declared.Occ.{Occ}
+use Rattle.scheme_model.specs.Requirements.{all_hold, some_holds}
+use Rattle.scheme_model.specs.Program.{has_name}
+use Rattle.datum_reader.specs.Views.{datum_of, data_of}
+use Rattle.library_table.specs.Looks.{trees_at}
+use Rattle.library_table.specs.PartsRead.{map_ok, knows}
+use Rattle.library_table.specs.Weights.{weight, row_weight}
+use Rattle.library_table.proofs.requirements.+requirements.Given as goal
+
+abbrev pub decreases-holds : goal.decreases-holds
+decreases-holds l = 4 * weight (datum_of l.datum.now)
+
+abbrev pub decreases-list_holds : goal.decreases-list_holds
+decreases-list_holds l = 4 * row_weight (data_of l.parts.now) + 3
+
+abbrev pub decreases-word_holds : goal.decreases-word_holds
+decreases-word_holds l = 4 * row_weight (data_of l.parts.now) + 2
+
+abbrev pub decreases-all_hold : goal.decreases-all_hold
+decreases-all_hold l = 4 * row_weight (data_of l.parts.now) + 1
+
+abbrev pub decreases-some_holds : goal.decreases-some_holds
+decreases-some_holds l = 4 * row_weight (data_of l.parts.now) + 1
+
+abbrev pub decreases-none_holds : goal.decreases-none_holds
+decreases-none_holds l = 4 * row_weight (data_of l.parts.now) + 1
+
+abbrev pub invariant-all_hold-loop-part : goal.invariant-all_hold-loop-part
+invariant-all_hold-loop-part l = (all : List (List ℕ)) → ((s : List ℕ) → contains_text l.known s ≡ has_name all s) → (place : ℕ → Occ) →
+    all_hold (λ s. s) (knows all) (trees_at place l.parts) ≡ map_ok (λ (b : Bool). l.hold && b) (all_hold (λ s. s) (knows all) (trees_at place (drop l.part-index l.parts)))
+
+abbrev pub invariant-some_holds-loop-part : goal.invariant-some_holds-loop-part
+invariant-some_holds-loop-part l = (all : List (List ℕ)) → ((s : List ℕ) → contains_text l.known s ≡ has_name all s) → (place : ℕ → Occ) →
+    some_holds (λ s. s) (knows all) (trees_at place l.parts) ≡ map_ok (λ (b : Bool). l.hold || b) (some_holds (λ s. s) (knows all) (trees_at place (drop l.part-index l.parts)))
