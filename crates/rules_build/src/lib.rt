@@ -99,7 +99,14 @@ fn planned(
         roles: &roles,
     };
     let mut room = Some(left);
-    let plan = walk.tree(template, false, &bounds, &index, work.depth(template), &mut room)?;
+    let plan = walk.tree(
+        template,
+        false,
+        &bounds,
+        &index,
+        work.depth(template),
+        &mut room,
+    )?;
     let Some(rest) = room else {
         return Err(BuildFault::NodeBudget);
     };

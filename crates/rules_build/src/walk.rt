@@ -159,7 +159,16 @@ impl Walk<'_> {
         for _place in 0..places {
             let first = first_place(self.alloc, &here)?;
             let names = index_of(self.alloc, &first)?;
-            self.repeated(times - 1, template, escaped, &first, &names, left, room, plans)?;
+            self.repeated(
+                times - 1,
+                template,
+                escaped,
+                &first,
+                &names,
+                left,
+                room,
+                plans,
+            )?;
             here = later_places(self.alloc, &here)?;
         }
         Ok(())
