@@ -78,7 +78,7 @@ fn show(out: &mut Shown, datum: &Datum) {
     }
 }
 
-fn show_texts(out: &mut Shown, texts: &[Text]) {
+pub fn show_texts(out: &mut Shown, texts: &[Text]) {
     out.open();
     for text in texts {
         out.string(text.as_str());

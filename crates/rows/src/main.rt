@@ -133,6 +133,14 @@
 //!     session/body-made BODY      takes a body that is made of parts
 //!         ["{\"jsonrpc\":\"2.0\",","\"method\":\"exit\"}"]   -> [] end 1
 //!
+//! Standard names, and the macros of the prelude. RULES are `[ELLIPSIS or null,[LITERAL,..],[[PATTERN,TEMPLATE],..]]`, of identifiers
+//! and trees. An identifier is here and in trees `NAME@UNIT`, with `+UNIT/FORM/COUNT` behind it where a macro use inserted it.
+//!
+//!     standard/names NAME         the names of a standard library, by the text of its name, or null
+//!         "(scheme load)"         -> ["load"]
+//!     standard/macro NAME         the rules of the macro of the prelude with this name, or null
+//!         "x"                     -> null
+//!
 //! What all crates share.
 //!
 //!     base/texts [STRING,STRING]  a copy of the first, whether they are equal, and how they compare, by two calls
@@ -152,9 +160,11 @@ mod frames;
 mod messages;
 mod positions;
 mod replies;
+mod rules;
 mod scopes;
 mod session;
 mod shown;
+mod standard;
 mod store;
 mod symbols;
 mod tokens;
@@ -194,6 +204,7 @@ fn by_value(
         "frames" => Ok(frames::answer(out, call, argument)?),
         "positions" => Ok(positions::answer(out, call, argument)?),
         "store" => Ok(store::answer(out, &mut bench.store, call, argument)?),
+        "standard" => Ok(standard::answer(out, call, argument)?),
         "base" => Ok(base::answer(out, call, argument)?),
         _ => Err(RowFault::NoCall),
     }

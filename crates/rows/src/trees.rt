@@ -1,11 +1,11 @@
 //! Rows of datum_reader and syntax_tree: the trees of data.
-ghost use Rattle.std.specs.Prelude.{◌≡◌, ◌^◌, ◌<◌, ◌≤◌, All, IfOk, IfSome, Option, Some, length};
+ghost use Rattle.std.specs.Prelude.{◌≡◌, ◌^◌, ◌<◌, ◌≤◌, All, IfOk, IfSome, OnOk, Option, Some, length};
 ghost use Rattle.ls_base.specs.Limits.{max_text};
 ghost use Rattle.scheme_model.specs.Trees.{Tree as ModelTree};
 ghost use Rattle.scheme_model.specs.Ident.{Ident as Identifier};
 ghost use Rattle.syntax_tree.specs.Numbered.{IsPlaced};
 ghost use Rattle.syntax_tree.specs.Standing.{leaf_tree};
-ghost use Rattle.syntax_tree.specs.Works.{IsStanding};
+ghost use Rattle.syntax_tree.specs.Works.{IsOpened, IsStanding, KeepsTrees, LiesIn};
 
 use crate::argument::{item, made, made_bytes, number};
 use crate::fault::{Row, RowFault};
@@ -16,17 +16,12 @@ use scheme_model::Occ;
 use scheme_tokens::ReadFault;
 use serde_json::Value;
 use std::alloc::Global;
-use syntax_tree::symbols::{Ident, Symbols};
-use syntax_tree::trees::{Leaf, Node, PoolFault, Tree, Work};
+use syntax_tree::symbols::{IdNo, Ident, Symbols, UseNo};
+use syntax_tree::trees::{Leaf, Node, PoolFault, Region, Tree, Work};
 
 pub fn answer(out: &mut Shown, call: &str, argument: &Value) -> Row<()> {
     match call {
-        "of" => {
-            let unit = number(item(argument, 1)?)?;
-            let form = number(item(argument, 2)?)?;
-            let bytes = made_bytes(out.alloc(), item(argument, 0)?)?;
-            planted(out, made(&bytes)?, unit, form)?;
-        }
+        "of" => planted(out, argument)?,
         "shared" => shared(out)?,
         _ => return Err(RowFault::NoCall),
     }
@@ -51,36 +46,68 @@ impl From<ReadFault> for RowFault {
     }
 }
 
-/// The tree of the last datum of a text, as this form of this unit.
-fn plant(alloc: Global, work: &mut Work, text: &str, unit: u32, form: u32) -> Row<Tree>
-    requires { length text.now ≤ max_text }
-    ensures { IfOk result (IsStanding work.new) }
+/// The tree of the last datum of a text, as this form of this unit, in a region.
+fn plant_text(
+    alloc: Global,
+    work: &mut Work,
+    region: &Region,
+    text: &str,
+    unit: u32,
+    form: u32,
+) -> Row<Tree>
+    requires region { IsOpened work.old region.now }
+    requires small { length text.now ≤ max_text }
+    ensures tree { IfOk result (IsStanding work.new) }
+    ensures region { IfOk result (LiesIn work.new region.now) }
+    ensures keeps { OnOk result (KeepsTrees work.old work.new) }
 {
-    let region = work.open_region()?;
     let data = read_all(alloc, text)?;
     match data.as_slice().last() {
-        Some(datum) => Ok(seed(alloc, work, &region, datum, unit, form)?),
+        Some(datum) => Ok(seed(alloc, work, region, datum, unit, form)?),
         None => Err(RowFault::NotShown),
     }
 }
 
-/// The size and the depth of the tree of the last datum of a text, and the tree.
-fn planted(out: &mut Shown, text: &str, unit: u32, form: u32) -> Row<()> {
+/// The same of a text that a row makes.
+pub fn plant(
+    alloc: Global,
+    work: &mut Work,
+    region: &Region,
+    value: &Value,
+    unit: u32,
+    form: u32,
+) -> Row<Tree>
+    requires { IsOpened work.old region.now }
+    ensures tree { IfOk result (IsStanding work.new) }
+    ensures region { IfOk result (LiesIn work.new region.now) }
+    ensures keeps { OnOk result (KeepsTrees work.old work.new) }
+{
+    let bytes = made_bytes(alloc, value)?;
+    let text = made(&bytes)?;
     if text.len() > MAX_TEXT {
         return Err(RowFault::TooLong);
     }
-    let mut work = Work::new(out.alloc());
-    let tree = plant(out.alloc(), &mut work, text, unit, form)?;
+    Ok(plant_text(alloc, work, region, text, unit, form)?)
+}
+
+/// The size and the depth of the tree of the last datum of a text, and the tree.
+fn planted(out: &mut Shown, argument: &Value) -> Row<()> {
+    let alloc = out.alloc();
+    let unit = number(item(argument, 1)?)?;
+    let form = number(item(argument, 2)?)?;
+    let mut work = Work::new(alloc);
+    let region = work.open_region()?;
+    let tree = plant(alloc, &mut work, &region, item(argument, 0)?, unit, form)?;
     out.open();
     out.number(work.size(tree) as u64);
     out.number(work.depth(tree) as u64);
-    show(out, &work, tree, work.depth(tree));
+    show_tree(out, &work, tree);
     out.close();
     Ok(())
 }
 
 /// A kind, and behind it `[UNIT, FORM, TOKEN]`, or null where there is no place.
-fn begin(out: &mut Shown, kind: &str, occ: Option<Occ>) {
+pub fn begin(out: &mut Shown, kind: &str, occ: Option<Occ>) {
     out.open();
     out.string(kind);
     let Some(occ) = occ else {
@@ -93,8 +120,8 @@ fn begin(out: &mut Shown, kind: &str, occ: Option<Occ>) {
     out.close();
 }
 
-/// A name and the unit that it is written in, as `NAME@UNIT`.
-fn name_text(alloc: Global, symbols: &Symbols, ident: Ident) -> Row<String>
+/// A written name and its unit, as `NAME@UNIT`.
+fn written_text(alloc: Global, symbols: &Symbols, ident: Ident) -> Row<String>
     requires { IsPlaced symbols.now ident }
 {
     match ident {
@@ -106,13 +133,29 @@ fn name_text(alloc: Global, symbols: &Symbols, ident: Ident) -> Row<String>
     }
 }
 
+/// An identifier: as such a name, and `+UNIT/FORM/COUNT` behind it where a macro use inserted it.
+pub fn ident_text(alloc: Global, symbols: &Symbols, id: IdNo) -> Row<String>
+    requires { id < length symbols.now.idents }
+{
+    let ident = symbols.ident_at(id);
+    match ident {
+        Ident::Written { .. } => Ok(written_text(alloc, symbols, ident)?),
+        Ident::Inserted { id, number } => {
+            let name = written_text(alloc, symbols, symbols.ident_at(id))?;
+            let name = name.as_str();
+            let UseNo { unit, form, count } = number;
+            Ok(format!(in alloc; "{name}+{unit}/{form}/{count}")?)
+        }
+    }
+}
+
 /// `[KIND, PLACE, VALUE]`.
 fn show_leaf(out: &mut Shown, symbols: &Symbols, leaf: Leaf, occ: Option<Occ>)
     requires { (t : ModelTree Identifier) × ((o : Option Occ) × (leaf_tree symbols.now leaf o ≡ Some t)) }
 {
     match leaf {
         Leaf::Name(id) => {
-            let text = name_text(out.alloc(), symbols, symbols.ident_at(id));
+            let text = ident_text(out.alloc(), symbols, id);
             begin(out, "name", occ);
             out.string_or_fail(text);
         }
@@ -141,7 +184,7 @@ fn show_leaf(out: &mut Shown, symbols: &Symbols, leaf: Leaf, occ: Option<Occ>)
 }
 
 /// The parts and the tail of a tree.
-fn parts_of(work: &Work, tree: Tree) -> (&[Tree], Option<Tree>)
+pub fn parts_of(work: &Work, tree: Tree) -> (&[Tree], Option<Tree>)
     requires { IsStanding work.now tree }
     ensures parts { All (IsStanding work.now) result.0.now }
     ensures tail { IfSome result.1 (IsStanding work.now) }
@@ -172,6 +215,13 @@ fn is_atom(work: &Work, tree: Tree) -> bool
         Node::Atom { .. } => true,
         Node::List { .. } | Node::Vector { .. } => false,
     }
+}
+
+/// A tree as it stands in answers.
+pub fn show_tree(out: &mut Shown, work: &Work, tree: Tree)
+    requires { IsStanding work.now tree }
+{
+    show(out, work, tree, work.depth(tree));
 }
 
 /// A tree, so many nodes deep: an atom, or `[KIND, PLACE, [PART, ..]]` with the tail behind the parts.
