@@ -1,1 +1,2 @@
 mod RuleParts
+mod MatchParts

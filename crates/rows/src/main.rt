@@ -141,6 +141,19 @@
 //!     standard/macro NAME         the rules of the macro of the prelude with this name, or null
 //!         "x"                     -> null
 //!
+//! Rules, a text that is form 0 of unit 0, and a use, a text that is form 1; rules that are refused have the answer of `check` in
+//! all calls. SAME are the names of literals and identifiers that mean the same. A BINDING is `[VARIABLE,TREE]`, or
+//! `[VARIABLE,[BINDING,..]]` with one for each place of an ellipsis.
+//!
+//!     rules/check TEXT            the RULES, or `[WHY,PLACE or null]`
+//!         "(syntax-rules (k) ((_ k) 1))"   -> [null,["k@0"],[[["list",[0,0,6],[["name",[0,0,7],"_@0"],["name",[0,0,8],"k@0"]]],["numeral",[0,0,10],"1"]]]]
+//!     rules/pairs [TEXT,USE,SAME]   the literals that are compared, each beside its identifier of the use
+//!         ["(syntax-rules (k) ((_ k) 1))","(m x)",[]]   -> [["k@0","x@0"]]
+//!     rules/match [TEXT,USE,SAME]   `[RULE,[BINDING,..],[LEAF,..]]` with the leaves that met a literal, or "no rule"
+//!         ["(syntax-rules (k) ((_ k) 1))","(m x)",[["k","x"]]]   -> [0,[],[["name",[0,1,2],"x@0"]]]
+//!     rules/build [TEXT,USE,SAME,LEFT]   `[LEFT,TREE]`, the instance by use 0/1/1 and what is left when it was taken, or why there is none
+//!         ["(syntax-rules () ((_ x) (q x)))","(m 1)",[],9]   -> [6,["list",null,[["name",[0,0,10],"q@0+0/1/1"],["numeral",[0,1,2],"1"]]]]
+//!
 //! What all crates share.
 //!
 //!     base/texts [STRING,STRING]  a copy of the first, whether they are equal, and how they compare, by two calls
@@ -204,6 +217,7 @@ fn by_value(
         "frames" => Ok(frames::answer(out, call, argument)?),
         "positions" => Ok(positions::answer(out, call, argument)?),
         "store" => Ok(store::answer(out, &mut bench.store, call, argument)?),
+        "rules" => Ok(rules::answer(out, call, argument)?),
         "standard" => Ok(standard::answer(out, call, argument)?),
         "base" => Ok(base::answer(out, call, argument)?),
         _ => Err(RowFault::NoCall),

@@ -64,7 +64,7 @@ pub fn identifier_of(symbols: &mut Symbols, value: &Value) -> Row<IdNo>
 }
 
 /// The identifier of a name that is written in a unit.
-fn written(symbols: &mut Symbols, name: &str, unit: u32) -> Row<IdNo>
+pub fn written(symbols: &mut Symbols, name: &str, unit: u32) -> Row<IdNo>
     ensures { IfOk result (λ id. id < length symbols.new.idents) }
 {
     let symbol = symbols.symbol(name)?;
