@@ -154,6 +154,24 @@
 //!     rules/build [TEXT,USE,SAME,LEFT]   `[LEFT,TREE]`, the instance by use 0/1/1 and what is left when it was taken, or why there is none
 //!         ["(syntax-rules () ((_ x) (q x)))","(m 1)",[],9]   -> [6,["list",null,[["name",[0,0,10],"q@0+0/1/1"],["numeral",[0,1,2],"1"]]]]
 //!
+//! Units, each a text: its program, or where it has none its last library, in all calls unit 0. A NAME is `[STRING,PLACE]`. A SET is
+//! `["library",STRING]`, `["bad set"]`, `["only",SET,[NAME,..]]`, `["except",SET,[NAME,..]]`, `["prefix",SET,STRING]` or
+//! `["rename",SET,[[NAME,NAME],..]]`. An ENTRY is `[STRING,MEANING]` as an argument, and its own name spells it; in answers
+//! `[STRING,MEANING,[[PREFIX,PLACE or null],..]]`. Meanings are those of scopes.
+//!
+//!     units/read [TEXT,[KNOWN,..]]   `[KIND,LIBRARY or null,SPAN,[[SET,SPAN,SPAN,SPAN],..],[[NAME,NAME],..],[[SPAN,DECLARED],..]]`:
+//!                                 the first token; the imports, with the bytes of the set, of the set inside its modifier and of
+//!                                 its library's name; the exports; and the forms. Or the bad declaration. KNOWN are libraries
+//!         ["(import (a))",[]]     -> ["program",null,[0,1],[[["library","(a)"],[8,11],[8,11],[8,11]]],[],[[[0,12],true]]]
+//!     units/imports [TEXT,[ENTRY,..]]   the entries that the first import gives of these, or its fault
+//!         ["(import (prefix (a) p-))",[["x",["local",0]]]]   -> [["p-x",["local",0],[["p-",null]]]]
+//!     units/exports [TEXT,[ENTRY,..]]   the entries that a unit exports of these, and each fault with the place of its export
+//!         ["(define-library (a) (export x))",[]]   -> [[],[[0,["not defined","x"]]]]
+//!     units/repeated [TEXT,..]    the places of libraries whose name an earlier one has
+//!         ["(define-library (a))","(define-library (a))"]   -> [1]
+//!     units/order [TEXT,..]       the places of units, each after what it imports, or the libraries on a circle
+//!         ["(import (a))","(define-library (a))"]   -> [1,0]
+//!
 //! What all crates share.
 //!
 //!     base/texts [STRING,STRING]  a copy of the first, whether they are equal, and how they compare, by two calls
@@ -182,6 +200,7 @@ mod store;
 mod symbols;
 mod tokens;
 mod trees;
+mod units;
 
 use document_store::Store;
 use fault::{Row, RowFault};
@@ -218,6 +237,7 @@ fn by_value(
         "positions" => Ok(positions::answer(out, call, argument)?),
         "store" => Ok(store::answer(out, &mut bench.store, call, argument)?),
         "rules" => Ok(rules::answer(out, call, argument)?),
+        "units" => Ok(units::answer(out, call, argument)?),
         "standard" => Ok(standard::answer(out, call, argument)?),
         "base" => Ok(base::answer(out, call, argument)?),
         _ => Err(RowFault::NoCall),

@@ -138,7 +138,7 @@ impl Script {
 }
 
 /// `["local",NUMBER]`, `["global",UNIT,IDENTIFIER]`, `["standard",NAME]` or `["free",NAME]`.
-fn meaning_of(symbols: &mut Symbols, value: &Value) -> Row<Meaning> {
+pub fn meaning_of(symbols: &mut Symbols, value: &Value) -> Row<Meaning> {
     match text(item(value, 0)?)? {
         "local" => Ok(Meaning::Local(number(item(value, 1)?)? as u64)),
         "global" => Ok(Meaning::Global {
@@ -151,7 +151,7 @@ fn meaning_of(symbols: &mut Symbols, value: &Value) -> Row<Meaning> {
     }
 }
 
-fn show_meaning(out: &mut Shown, meaning: Meaning) {
+pub fn show_meaning(out: &mut Shown, meaning: Meaning) {
     out.open();
     match meaning {
         Meaning::Local(local) => {
