@@ -2,7 +2,7 @@ use Rattle.std.proofs.Common.{ap, ◌∙◌, arith}
 use Rattle.std.specs.Prelude.{◌||◌}
 use Rattle.std.specs.BTreeMap.{get_by_text}
 use Rattle.scheme_model.specs.Program.{is_in}
-use Rattle.library_table.specs.Named.{is_place}
+use Rattle.import_sets.specs.Graphs.{is_place}
 use Rattle.library_table.proofs.GraphLaws.{imports_step}
 use Rattle.library_table.proofs.graph.imported.Goals as goal
 

@@ -2,7 +2,8 @@ use Rattle.std.proofs.Common.{◌≡◌, List, ℕ, length, ap, sym, subst, ◌�
 use Rattle.std.proofs.lemmas.Bool.Decides.{nat_tests}
 use Rattle.std.proofs.lemmas.List.{nil_from_length}
 use Rattle.scheme_model.specs.Program.{is_in}
-use Rattle.library_table.specs.Graphs.{AreWithin, IsGraph, is_circular, passing, names_at}
+use Rattle.import_sets.specs.Graphs.{AreWithin, IsGraph, is_circular, passing}
+use Rattle.library_table.specs.Graphs.{names_at}
 use Rattle.library_table.specs.Orders.{with_imports}
 use Rattle.library_table.proofs.GraphLaws.{graph_size, rows_within, are_numbered, is_graph}
 use Rattle.library_table.proofs.OrderLaws.{in_turns, on_circle_names}
