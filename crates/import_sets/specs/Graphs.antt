@@ -8,6 +8,11 @@ abbrev pub is_place : ℕ → Option ℕ → Bool
 is_place n None = false
 is_place n (Some p) = n == p
 
+-- with a place more, if there is one and it isn't there yet
+abbrev pub with_new : List ℕ → Option ℕ → List ℕ
+with_new ns None = ns
+with_new ns (Some p) = if is_in p ns then ns else ns ++ p ∷ []
+
 -- ---- rows of places
 
 abbrev pub row : List (List ℕ) → ℕ → List ℕ

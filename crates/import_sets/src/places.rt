@@ -19,7 +19,7 @@ pub struct Places {
 
 impl Places {
     ghost use Rattle.std.specs.Prelude.{◌||◌, []};
-    ghost use Rattle.import_sets.specs.Graphs.{is_place};
+    ghost use Rattle.import_sets.specs.Graphs.{is_place, with_new};
 
     pub fn new(alloc: Global) -> Places
         ensures { result.all ≡ [] }
@@ -32,7 +32,8 @@ impl Places {
 
     /// With a place more, if there is one and it isn't there yet.
     pub fn with(self, place: Option<usize>) -> Mem<Places>
-        ensures { IfOk result (λ new. (n : ℕ) → is_in n new.all ≡ (is_in n self.all || is_place n place)) }
+        ensures all { IfOk result (λ new. new.all ≡ with_new self.all place) }
+        ensures members { IfOk result (λ new. (n : ℕ) → is_in n new.all ≡ (is_in n self.all || is_place n place)) }
     {
         let Places { mut all, mut seen } = self;
         let Some(place) = place else {

@@ -1,12 +1,9 @@
-//! The units that import themselves, directly or not, and their names.
-ghost use Rattle.std.specs.Prelude.{◌≡◌, ◌<◌, ◌++◌, ◌∷◌, [], ℕ, List, IfOk, OnOk, length, true, if◌then◌else◌};
-ghost use Rattle.scheme_model.specs.Program.{Prepared, is_in};
-ghost use Rattle.import_sets.specs.Graphs.{AreWithin, IsGraph, is_circular, passing};
+//! The names of the units on circles of imports.
+ghost use Rattle.std.specs.Prelude.{◌≡◌, ◌<◌, ◌++◌, ℕ, IfOk, OnOk, length, true};
+ghost use Rattle.scheme_model.specs.Program.{is_in};
 ghost use Rattle.library_table.specs.Graphs.{name_at, as_list, names_at};
 
-use crate::graph::row;
 use crate::units::UnitSource;
-use crate::walk::reached;
 use ls_base::{Items, Mem, Text};
 use std::alloc::Global;
 

@@ -11,11 +11,12 @@ ghost use Rattle.library_table.specs.UnitsRead.{form_of, forms_of, named_in, Add
 
 use datum_reader::look::{Look, Row, look_at, row_of};
 use crate::names::name_of;
-use crate::parts::{behind_first, is_headed, number_of};
+use crate::parts::number_of;
 use datum_reader::shape_fault::ShapeFault;
 use datum_reader::start::Start;
 use crate::units::{ExportSpec, UnitForm};
 use datum_reader::Datum;
+use datum_reader::heads::{behind_first, is_headed};
 use import_sets::SetName;
 use ls_base::{Items, Mem, Memory};
 use std::alloc::Global;

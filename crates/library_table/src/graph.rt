@@ -11,10 +11,11 @@ ghost use Rattle.library_table.specs.Graphs.{SameRows, rows_of, graph_of};
 
 use crate::firsts::first_places;
 use crate::units::{ImportSpec, UnitSource};
-use import_sets::ImportSet;
+use import_sets::firsts::place_in;
+use import_sets::places::Places;
 use ls_base::{Items, Mem};
 use std::alloc::Global;
-use std::collections::{BTreeMap, BTreeSet};
+use std::collections::BTreeMap;
 
 /// The places of the libraries that a unit imports, each once.
 fn imported(
