@@ -1,9 +1,10 @@
 -- Data in a row, by what ends it.
 use Rattle.std.proofs.Common.{◌≡◌, ℕ, ◌+◌, ◌<◌, List, [], ◌∷◌, length, get_or, drop, true, false, Option, Some, None, refl, sym, ap, ◌∙◌}
 use Rattle.std.specs.Option.{is_some}
+use Rattle.std.specs.Prelude.{not}
 use Rattle.std.proofs.lemmas.List.{drop_more}
-use Rattle.scheme_model.specs.Data.{Datum, row}
-use Rattle.scheme_model.specs.Declarations.{with_part, proper_parts}
+use Rattle.scheme_model.specs.Data.{Place, Datum, list, row}
+use Rattle.scheme_model.specs.Declarations.{with_part, proper_parts, is_proper}
 use Rattle.scheme_model.specs.Program.{second_or, behind_first}
 use Rattle.datum_reader.specs.declared.datum.Datum as code
 use Rattle.datum_reader.specs.Views.{datum_of, data_of}
