@@ -18,7 +18,7 @@ use Rattle.library_table.specs.declared.sets.Modifier.TheVariants as word
 use Rattle.library_table.specs.declared.sets.Modified.{Modified}
 use Rattle.datum_reader.specs.declared.shape_fault.ShapeFault.{ShapeFault}
 use Rattle.datum_reader.specs.declared.shape_fault.ShapeFault.TheVariants as fault
-use Rattle.datum_reader.specs.Looks.{tree_at, trees_at, bytes_of}
+use Rattle.datum_reader.specs.Looks.{tree_at, trees_at, bytes_of, is_list}
 use Rattle.library_table.specs.PartsRead.{library_text}
 
 -- the code's set is this one, its library's name as a text

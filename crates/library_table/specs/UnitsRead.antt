@@ -11,6 +11,7 @@ use Rattle.syntax_tree.specs.declared.units.UnitKind as code_kind
 use Rattle.syntax_tree.specs.declared.units.UnitKind.TheVariants as kinds
 use Rattle.import_sets.specs.Sets.{named}
 use Rattle.datum_reader.specs.Views.{datum_of}
+use Rattle.datum_reader.specs.FirstTokens.{first_token}
 use Rattle.library_table.specs.declared.units.ImportSpec as code_import
 use Rattle.library_table.specs.declared.units.ExportSpec as code_export
 use Rattle.library_table.specs.declared.units.UnitForm as code_form
