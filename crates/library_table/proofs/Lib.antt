@@ -7,7 +7,6 @@ mod OrderLaws
 mod WorkLaws
 mod Chaining
 mod TreeRows
-mod EachRows
 mod NameTexts
 mod SetRows
 mod Gathering

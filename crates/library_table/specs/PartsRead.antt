@@ -1,5 +1,5 @@
 -- How parts of declarations are read: what is answered, and the texts of libraries' names.
-use Rattle.std.specs.Prelude.{◌≡◌, ◌⊎◌, ℕ, List, [], ◌∷◌, ◌++◌, false, Result, Ok, Err}
+use Rattle.std.specs.Prelude.{◌≡◌, ℕ, List, [], ◌∷◌, ◌++◌, false, Result, Ok, Err}
 use Rattle.std.specs.Str.{chars, encode_utf8_all}
 use Rattle.scheme_tokens.specs.Mirror.Spelled.{spelled}
 use Rattle.scheme_model.specs.Trees.{Trees, Tail}
@@ -26,16 +26,6 @@ Reads view (Err e) r = Fails e r
 abbrev pub map_ok : {A B C : Type 0} → (A → B) → Result A C → Result B C
 map_ok f (Ok a) = Ok (f a)
 map_ok f (Err e) = Err e
-
--- what was read of each datum in a row; or of those before one that hasn't the shape
-abbrev pub ReadsEach : {D X : Type 0} → (D → Result X ShapeFault → Type 0) → List D → Result (List X) ShapeFault → Type 0
-ReadsEach R [] (Ok []) = Unit {0}
-ReadsEach R [] (Ok (x ∷ xs)) = ⊥
-ReadsEach R (d ∷ ds) (Ok []) = ⊥
-ReadsEach R (d ∷ ds) (Ok (x ∷ xs)) = R d (Ok x) × ReadsEach R ds (Ok xs)
-ReadsEach R [] (Err fault.BadForm) = ⊥
-ReadsEach {D} {X} R (d ∷ ds) (Err fault.BadForm) = R d (Err fault.BadForm) ⊎ ((x : X) × R d (Ok x) × ReadsEach R ds (Err fault.BadForm))
-ReadsEach R ds (Err fault.Memory) = Unit {0}
 
 -- ---- the text of a library's name
 

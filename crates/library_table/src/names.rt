@@ -1,13 +1,12 @@
 //! The identifiers of import sets and exports (R7RS 5.2, 5.6.1), with their places.
 ghost use Rattle.std.specs.Prelude.{◌≡◌, List, ℕ, map};
-ghost use Rattle.std.specs.Fn.{FnReturnsAt};
 ghost use Rattle.scheme_model.specs.Trees.{Tail};
-ghost use Rattle.scheme_model.specs.Shapes.{name_of};
-ghost use Rattle.scheme_model.specs.Entries.{pair_of};
+ghost use Rattle.scheme_model.specs.Shapes.{name_of, names_of};
+ghost use Rattle.scheme_model.specs.Entries.{pair_of, pairs_of};
 ghost use Rattle.import_sets.specs.Sets.{named, paired};
 ghost use Rattle.datum_reader.specs.Looks.{tree_at, trees_at, is_dotted};
 ghost use Rattle.datum_reader.specs.Forms.{place};
-ghost use Rattle.library_table.specs.PartsRead.{Reads, ReadsEach, names_in, pairs_in, only_name, pair_in};
+ghost use Rattle.library_table.specs.PartsRead.{Reads, names_in, pairs_in, only_name, pair_in};
 
 use datum_reader::look::{Look, Row, look_at, row_of};
 use datum_reader::shape_fault::ShapeFault;
@@ -37,21 +36,16 @@ pub fn name_of(alloc: Global, datum: &Datum, start: Start) -> Result<SetName, Sh
     }
 }
 
-/// What is read of each datum in a row, up to the first that hasn't the shape.
-fn each_of<T: Drop, F: Fn(&Datum) -> Result<T, ShapeFault>>(
-    alloc: Global,
-    parts: &[Datum],
-    read: F,
-) -> Result<Items<T>, ShapeFault>
-    requires { F.IsAlwaysCallable read }
-    ensures { ReadsEach (λ d r. FnReturnsAt F.Fn read d r) parts.now result }
+/// Identifiers in a row.
+fn names_of(alloc: Global, parts: &[Datum], start: Start) -> Result<Items<SetName>, ShapeFault>
+    ensures { Reads (λ ns. map named ns) result (names_of (trees_at (place start) parts.now)) }
 {
-    let mut all = Items::new(alloc);
+    let mut names = Items::new(alloc);
     for datum in parts {
-        let one = read(datum)?;
-        all.push(one)?;
+        let name = name_of(alloc, datum, start)?;
+        names.push(name)?;
     }
-    Ok(all)
+    Ok(names)
 }
 
 /// The identifiers of a list that may not be dotted.
@@ -67,15 +61,7 @@ pub fn names_in(
     if dotted {
         return Err(ShapeFault::BadForm);
     }
-    each_of(
-        alloc,
-        parts,
-        |datum: &Datum| -> Result<SetName, ShapeFault>
-            ensures { Reads named result (name_of (tree_at (place start) datum.now)) }
-        {
-            name_of(alloc, datum, start)
-        },
-    )
+    Ok(names_of(alloc, parts, start)?)
 }
 
 /// The identifier that stands alone in a list that may not be dotted.
@@ -135,6 +121,18 @@ fn pair_in(
     }
 }
 
+/// Pairs of identifiers in a row.
+fn pairs_of(alloc: Global, parts: &[Datum], start: Start) -> Result<Items<NamePair>, ShapeFault>
+    ensures { Reads (λ ps. map paired ps) result (pairs_of (trees_at (place start) parts.now)) }
+{
+    let mut pairs = Items::new(alloc);
+    for datum in parts {
+        let pair = pair_of(alloc, datum, start)?;
+        pairs.push(pair)?;
+    }
+    Ok(pairs)
+}
+
 /// The pairs of identifiers of a list that may not be dotted.
 pub fn pairs_in(
     alloc: Global,
@@ -148,13 +146,5 @@ pub fn pairs_in(
     if dotted {
         return Err(ShapeFault::BadForm);
     }
-    each_of(
-        alloc,
-        parts,
-        |datum: &Datum| -> Result<NamePair, ShapeFault>
-            ensures { Reads paired result (pair_of (tree_at (place start) datum.now)) }
-        {
-            pair_of(alloc, datum, start)
-        },
-    )
+    Ok(pairs_of(alloc, parts, start)?)
 }
