@@ -12,14 +12,10 @@ use Rattle.datum_reader.specs.Views.{datum_of}
 use Rattle.library_table.specs.declared.units.ImportSpec as code_import
 use Rattle.library_table.specs.declared.units.ExportSpec as code_export
 use Rattle.library_table.specs.declared.units.UnitForm as code_form
-use Rattle.library_table.specs.Looks.{end_with}
-use Rattle.library_table.specs.UnitsRead.{first_token, forms_of, AreSpecs, AreExportsRead, IsProgramRead}
-use Rattle.library_table.proofs.DataRows.{dotted_parts, proper_all}
-
--- a list is proper where it isn't dotted
-pub proper_row : (p : Place) (ds : List Datum) (end : Option Datum) → is_proper (list p (row ds (end_with end))) ≡ not (is_some end)
-proper_row p ds None = ap is_some (proper_all ds None refl)
-proper_row p ds (Some d) = ap is_some (dotted_parts ds (Some d) refl)
+use Rattle.datum_reader.specs.Looks.{end_with}
+use Rattle.datum_reader.specs.FirstTokens.{first_token}
+use Rattle.library_table.specs.UnitsRead.{forms_of, AreSpecs, AreExportsRead, IsProgramRead}
+use Rattle.datum_reader.proofs.DataRows.{dotted_parts, proper_all}
 
 first_datum : List UnitForm → Option Datum
 first_datum [] = None

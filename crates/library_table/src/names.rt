@@ -4,13 +4,13 @@ ghost use Rattle.scheme_model.specs.Trees.{Tail};
 ghost use Rattle.scheme_model.specs.Shapes.{name_of, names_of};
 ghost use Rattle.scheme_model.specs.Entries.{pair_of, pairs_of};
 ghost use Rattle.import_sets.specs.Sets.{named, paired};
-ghost use Rattle.library_table.specs.Looks.{tree_at, trees_at, is_dotted};
-ghost use Rattle.library_table.specs.Forms.{place};
+ghost use Rattle.datum_reader.specs.Looks.{tree_at, trees_at, is_dotted};
+ghost use Rattle.datum_reader.specs.Forms.{place};
 ghost use Rattle.library_table.specs.PartsRead.{Reads, names_in, pairs_in, only_name, pair_in};
 
-use crate::look::{Look, Row, look_at, row_of};
-use crate::shape_fault::ShapeFault;
-use crate::start::{Start, place};
+use datum_reader::look::{Look, Row, look_at, row_of};
+use datum_reader::shape_fault::ShapeFault;
+use datum_reader::start::{Start, place};
 use datum_reader::Datum;
 use import_sets::{NamePair, SetName};
 use ls_base::{Items, Text};
