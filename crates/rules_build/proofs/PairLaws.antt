@@ -50,7 +50,7 @@ module _ {A B : Type 0} (R : A → B → Type 0) where
   past (suc k) (x ∷ xs) (y ∷ ys) h l = past k xs ys h.1 (omega arith)
 
 -- one more of a list
-take_more : {A : Type 0} (k : ℕ) (xs : List A) (d : A) → k < length xs → take (k + 1) xs ≡ take k xs ++ get_or xs k d ∷ []
+pub take_more : {A : Type 0} (k : ℕ) (xs : List A) (d : A) → k < length xs → take (k + 1) xs ≡ take k xs ++ get_or xs k d ∷ []
 take_more {A} k [] d l = absurd (omega arith)
 take_more {A} zero (x ∷ xs) d l = refl
 take_more {A} (suc k) (x ∷ xs) d l =
