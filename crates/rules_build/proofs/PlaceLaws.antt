@@ -1,5 +1,5 @@
 -- The places of bindings whose variables are among some, and the bindings at them.
-use Rattle.std.proofs.Common.{◌≡◌, ℕ, zero, suc, ◌+◌, ◌<◌, Bool, true, false, ◌||◌, ◌&&◌, List, [], ◌∷◌, ◌++◌, length, take, get_or, map, Some, None, refl, sym, ap, ◌∙◌, subst, arith}
+use Rattle.std.proofs.Common.{◌≡◌, ℕ, zero, suc, ◌+◌, ◌<◌, Bool, true, false, ◌||◌, ◌&&◌, List, [], ◌∷◌, ◌++◌, length, take, get_or, map, Some, refl, sym, ap, ◌∙◌, subst, arith}
 use Rattle.std.specs.Prelude.{nat_eq, if◌then◌else◌, Option, Vec}
 use Rattle.std.specs.declared.alloc.Global.{Global}
 use Rattle.std.specs.declared.cmp.Ordering.{Ordering}
@@ -21,7 +21,7 @@ use Rattle.syntax_tree.specs.declared.trees.Work.{Work}
 use Rattle.syntax_tree.specs.declared.trees.table.Region.{Region}
 use Rattle.rules_build.specs.declared.values.Bound as code
 use Rattle.rules_build.specs.Values.{has_at, places_at, ArePlaces, AreBound, IsBound, with_one, bounds_at}
-use Rattle.rules_build.proofs.NameLaws.{key_is}
+use Rattle.rules_build.proofs.NameLaws.{key_is, or_none}
 use Rattle.rules_build.proofs.PairLaws.{take_more}
 
 -- ---- one binding more
@@ -34,14 +34,10 @@ and_false : (a : Bool) → false ≡ (a && false)
 and_false true = refl
 and_false false = refl
 
-pub or_right : (a : Bool) → a ≡ (a || false)
-or_right true = refl
-or_right false = refl
-
 pub has_last : (p : ℕ → Bool) (bs : List code.Bound) (b : code.Bound) (q : ℕ) → has_at p (bs ++ b ∷ []) q ≡ (has_at p bs q || (p b.variable && nat_eq q (length bs)))
 has_last p [] b zero = and_true (p b.variable)
 has_last p [] b (suc q) = and_false (p b.variable) ∙ ap (λ (x : Bool). p b.variable && x) (sym (eqb-suc-zero q))
-has_last p (a ∷ bs) b zero = or_right (p a.variable) ∙ ap (λ (x : Bool). p a.variable || x) (and_false (p b.variable) ∙ ap (λ (x : Bool). p b.variable && x) (sym (eqb-zero-suc (length bs))))
+has_last p (a ∷ bs) b zero = or_none (p a.variable) ∙ ap (λ (x : Bool). p a.variable || x) (and_false (p b.variable) ∙ ap (λ (x : Bool). p b.variable && x) (sym (eqb-zero-suc (length bs))))
 has_last p (a ∷ bs) b (suc q) = has_last p bs b q ∙ ap (λ (x : Bool). has_at p bs q || (p b.variable && x)) (sym (eqb-suc-suc q (length bs)))
 
 length_taken : (k : ℕ) (bs : List code.Bound) → k < length bs → length (take k bs) ≡ k

@@ -4,7 +4,7 @@ use Rattle.std.specs.List.{list_any, slice_get}
 use Rattle.std.specs.BTreeMap.{BTreeMap, get}
 use Rattle.std.specs.Ordering.{nat_cmp}
 use Rattle.std.specs.declared.alloc.Global.{Global}
-use Rattle.scheme_model.specs.Matching.{Value, One, Many, Values, no_values, value, Binding}
+use Rattle.scheme_model.specs.Matching.{Value, One, Many, Values, Binding}
 use Rattle.scheme_model.specs.Building.{or_zero}
 use Rattle.scheme_model.specs.Ident.{Ident as Identifier}
 use Rattle.syntax_tree.specs.Works.{StandsFor, CanName}
