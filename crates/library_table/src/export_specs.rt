@@ -9,14 +9,14 @@ ghost use Rattle.datum_reader.specs.Looks.{tree_at, trees_at};
 ghost use Rattle.datum_reader.specs.Forms.{place};
 ghost use Rattle.library_table.specs.UnitsRead.{form_of, forms_of, named_in, AddsExports, AreExportsRead, IsExportOf};
 
-use datum_reader::look::{Look, Row, look_at, row_of};
 use crate::names::name_of;
 use crate::parts::number_of;
-use datum_reader::shape_fault::ShapeFault;
-use datum_reader::start::Start;
 use crate::units::{ExportSpec, UnitForm};
 use datum_reader::Datum;
 use datum_reader::heads::{behind_first, is_headed};
+use datum_reader::look::{Look, Row, look_at, row_of};
+use datum_reader::shape_fault::ShapeFault;
+use datum_reader::start::Start;
 use import_sets::SetName;
 use ls_base::{Items, Mem, Memory};
 use std::alloc::Global;

@@ -14,13 +14,13 @@ ghost use Rattle.library_table.specs.Weights.{row_weight};
 ghost use Rattle.library_table.specs.declared.fault.LibraryFault.TheVariants as fault;
 
 use crate::fault::LibraryFault;
-use datum_reader::look::{Look, Row, look_at, row_of, symbol_in};
 use crate::programs::push_form;
 use crate::requirements::clause_holds;
-use datum_reader::shape_fault::ShapeFault;
 use crate::units::UnitForm;
 use datum_reader::Datum;
 use datum_reader::heads::is_headed;
+use datum_reader::look::{Look, Row, look_at, row_of, symbol_in};
+use datum_reader::shape_fault::ShapeFault;
 use ls_base::Mem;
 use std::alloc::Global;
 use std::collections::BTreeSet;

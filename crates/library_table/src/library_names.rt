@@ -9,9 +9,9 @@ ghost use Rattle.scheme_model.specs.Requirements.{Symbol, part_in, part_of, part
 ghost use Rattle.datum_reader.specs.Looks.{tree_at, trees_at, is_dotted};
 ghost use Rattle.library_table.specs.PartsRead.{Reads, map_ok, part_text, library_text, name_in_list, Puts, PutsAll};
 
+use datum_reader::Datum;
 use datum_reader::look::{Look, Row, look_at, row_of};
 use datum_reader::shape_fault::ShapeFault;
-use datum_reader::Datum;
 use ls_base::{Mem, Text};
 use scheme_tokens::spell;
 use std::alloc::Global;

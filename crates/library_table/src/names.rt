@@ -8,10 +8,10 @@ ghost use Rattle.datum_reader.specs.Looks.{tree_at, trees_at, is_dotted};
 ghost use Rattle.datum_reader.specs.Forms.{place};
 ghost use Rattle.library_table.specs.PartsRead.{Reads, names_in, pairs_in, only_name, pair_in};
 
+use datum_reader::Datum;
 use datum_reader::look::{Look, Row, look_at, row_of};
 use datum_reader::shape_fault::ShapeFault;
 use datum_reader::start::{Start, place};
-use datum_reader::Datum;
 use import_sets::{NamePair, SetName};
 use ls_base::{Items, Text};
 use std::alloc::Global;

@@ -10,9 +10,9 @@ ghost use Rattle.library_table.specs.PartsRead.{Reads, knows};
 ghost use Rattle.library_table.specs.Chosen.{library_holds, connective_named, word_holds, is_empty};
 
 use crate::library_names::library_name;
+use datum_reader::Datum;
 use datum_reader::look::{Look, Row, look_at, row_of, word_in};
 use datum_reader::shape_fault::ShapeFault;
-use datum_reader::Datum;
 use ls_base::{Mem, Text};
 use std::alloc::Global;
 use std::collections::BTreeSet;

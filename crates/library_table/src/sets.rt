@@ -14,13 +14,13 @@ ghost use Rattle.library_table.specs.SetsRead.{modifier_as, modifier_seen, modif
 ghost use Rattle.datum_reader.specs.Looks.{is_list};
 
 use crate::library_names::library_name;
-use datum_reader::look::{Look, Row, look_at, row_of, word_in};
 use crate::names::{names_in, only_name, pairs_in};
-use datum_reader::shape_fault::ShapeFault;
-use datum_reader::start::Start;
 use crate::units::ImportSpec;
 use datum_reader::Datum;
 use datum_reader::heads::{is_list, second_or_itself};
+use datum_reader::look::{Look, Row, look_at, row_of, word_in};
+use datum_reader::shape_fault::ShapeFault;
+use datum_reader::start::Start;
 use import_sets::ImportSet;
 use ls_base::{Mem, Memory, Span};
 use std::alloc::Global;
