@@ -1,21 +1,18 @@
 -- The units on circles, and their names.
-use Rattle.std.proofs.Common.{◌≡◌, ℕ, zero, suc, ◌+◌, ◌<◌, Bool, true, false, cond, ◌⊎◌, inl, inr, List, [], ◌∷◌, ◌++◌, append-nil, length, take, get_or, map, slice_get, Option, Some, None, refl, sym, ap, ◌∙◌, arith}
-use Rattle.std.specs.Prelude.{◌==◌, filter}
+use Rattle.std.proofs.Common.{◌≡◌, ℕ, zero, suc, ◌+◌, ◌<◌, Bool, true, false, cond, List, [], ◌∷◌, ◌++◌, append-nil, length, take, get_or, map, slice_get, Option, Some, None, refl, sym, ap, ◌∙◌, arith}
+use Rattle.std.specs.Prelude.{filter}
 use Rattle.std.specs.Option.{option_map}
-use Rattle.std.proofs.lemmas.Bool.{eqb-true, or_cases}
-use Rattle.std.proofs.lemmas.Bool.Decides.{nat_tests}
-use Rattle.std.proofs.lemmas.List.{take_more, nil_from_length}
+use Rattle.std.proofs.lemmas.List.{take_more}
 use Rattle.std.proofs.lemmas.List.Concat.{flat_map-append}
 use Rattle.scheme_model.specs.Requirements.{LibraryName}
-use Rattle.scheme_model.specs.Program.{Placed, Prepared, prepared, prepare, imports_at, is_in, reached, on_circle, name_if}
+use Rattle.scheme_model.specs.Program.{Placed, Prepared, prepared, prepare, is_in, reached, on_circle, name_if}
 use Rattle.library_table.specs.declared.units.UnitSource as code
 use Rattle.library_table.specs.Sources.{AreUnitsFrom, AreUnits}
 use Rattle.library_table.specs.Orders.{with_imports, circles, name_before, names_of}
-use Rattle.import_sets.specs.Graphs.{row, IsGraph, AreNumbered, is_circular, passing}
+use Rattle.import_sets.specs.Graphs.{AreNumbered, is_circular, passing}
 use Rattle.library_table.specs.Graphs.{name_at, as_list, names_at}
 use Rattle.library_table.proofs.GraphLaws.{are_numbered, prepare_length}
 use Rattle.import_sets.proofs.CircleLaws.{plus_one, passing_from, passing_same}
-use Rattle.import_sets.proofs.ReachLaws.{in_push, reached_within}
 
 -- from a place on the units are these
 abbrev StandFrom : List Prepared → ℕ → List Prepared → Type 0

@@ -1,8 +1,8 @@
 -- Which unit a library's name means: the code's units and the units agree.
-use Rattle.std.proofs.Common.{◌≡◌, ℕ, suc, ◌+◌, Bool, true, false, cond, ◌<◌, List, [], ◌∷◌, ◌++◌, append_assoc, length, take, drop, get_or, Option, Some, None, refl, sym, ap, ◌∙◌, arith}
+use Rattle.std.proofs.Common.{◌≡◌, ℕ, suc, ◌+◌, Bool, true, false, cond, ◌<◌, List, [], ◌∷◌, ◌++◌, append_assoc, length, drop, get_or, Option, Some, None, refl, sym, ap, ◌∙◌, arith}
 use Rattle.std.specs.Prelude.{◌&&◌, not}
-use Rattle.std.specs.Option.{option_map, is_some}
-use Rattle.std.proofs.lemmas.List.{take_more, drop_more, length-take-le}
+use Rattle.std.specs.Option.{option_map}
+use Rattle.std.proofs.lemmas.List.{drop_more}
 use Rattle.std.specs.Str.{bytes_eq}
 use Rattle.scheme_model.specs.Requirements.{LibraryName, LibraryPart, Symbol, Digits, same_part, same_library}
 use Rattle.scheme_model.specs.Program.{Placed, name_if, is_named, unit_named}
@@ -11,7 +11,6 @@ use Rattle.syntax_tree.proofs.Names.{and_true}
 use Rattle.import_sets.proofs.ReachLaws.{same_test}
 use Rattle.library_table.specs.declared.units.UnitSource as code
 use Rattle.library_table.specs.Named.{is_name, place_named, is_other, is_later, later_from}
-use Rattle.import_sets.specs.Firsts.{first_of, place_if, first_place}
 use Rattle.library_table.specs.Sources.{TellsNames, AreUnitsFrom, AreUnits}
 use Rattle.library_table.specs.Repeated.{is_at, is_repeated_name, repeated_from, repeated_places}
 

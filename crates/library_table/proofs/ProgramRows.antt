@@ -1,10 +1,9 @@
 -- The program that data are.
 use Rattle.std.proofs.Common.{◌≡◌, ℕ, List, [], ◌∷◌, map, slice_get, Bool, true, false, cond, Option, Some, None, Ok, refl, sym, ap, ◌∙◌, subst}
-use Rattle.std.specs.Prelude.{◌&&◌, not, codes}
-use Rattle.std.specs.Option.{is_some}
+use Rattle.std.specs.Prelude.{◌&&◌, codes}
 use Rattle.std.proofs.lemmas.Option.{same_Some}
 use Rattle.ls_base.specs.declared.places.Span.{Span}
-use Rattle.scheme_model.specs.Data.{Place, Datum, list, row, place_of}
+use Rattle.scheme_model.specs.Data.{Datum, place_of}
 use Rattle.scheme_model.specs.Declarations.{UnitForm, IsProgram, plain_form, is_headed, is_proper, program_forms}
 use Rattle.scheme_model.specs.Program.{specs_from, exports_from}
 use Rattle.syntax_tree.specs.declared.units.UnitKind.TheVariants as kinds
@@ -12,10 +11,8 @@ use Rattle.datum_reader.specs.Views.{datum_of}
 use Rattle.library_table.specs.declared.units.ImportSpec as code_import
 use Rattle.library_table.specs.declared.units.ExportSpec as code_export
 use Rattle.library_table.specs.declared.units.UnitForm as code_form
-use Rattle.datum_reader.specs.Looks.{end_with}
 use Rattle.datum_reader.specs.FirstTokens.{first_token}
 use Rattle.library_table.specs.UnitsRead.{forms_of, AreSpecs, AreExportsRead, IsProgramRead}
-use Rattle.datum_reader.proofs.DataRows.{dotted_parts, proper_all}
 
 first_datum : List UnitForm → Option Datum
 first_datum [] = None

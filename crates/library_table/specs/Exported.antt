@@ -4,7 +4,6 @@ use Rattle.std.specs.List.{list_any}
 use Rattle.std.specs.Str.{bytes_eq}
 use Rattle.syntax_tree.specs.declared.units.Entry.{Entry}
 use Rattle.import_sets.specs.Given.{same_place, renamed}
-use Rattle.import_sets.specs.Firsts.{first_place}
 use Rattle.library_table.specs.declared.units.ExportSpec.{ExportSpec}
 use Rattle.library_table.specs.declared.fault.LibraryFault.TheVariants.{NotDefined, SameExport}
 use Rattle.library_table.specs.declared.exported.Export.{Export}

@@ -1,7 +1,6 @@
 -- Which unit a library's name means, and which units a unit imports, by the texts of the names.
 use Rattle.std.specs.Prelude.{ℕ, suc, ◌==◌, List, [], ◌∷◌, Bool, true, false, not, Option, Some, None, if◌then◌else◌}
 use Rattle.std.specs.Str.{bytes_eq}
-use Rattle.import_sets.specs.declared.set.ImportSet.{ImportSet, Library, Only', Except', Prefix', Rename', Bad}
 use Rattle.import_sets.specs.Firsts.{first_place, place_in}
 use Rattle.library_table.specs.declared.units.ImportSpec.{ImportSpec}
 use Rattle.library_table.specs.declared.units.UnitSource.{UnitSource}

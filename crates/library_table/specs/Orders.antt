@@ -1,7 +1,7 @@
 -- The order of units, each after what it imports, and the libraries that import one another in a circle (R7RS 5.6).
-use Rattle.std.specs.Prelude.{◌≡◌, ◌≢◌, ℕ, zero, suc, ◌<◌, List, [], ◌∷◌, ◌++◌, map, filter, length, slice_get, Bool, true, false, not, ◌&&◌, Option, Some, None, Result, Ok, Err}
+use Rattle.std.specs.Prelude.{◌≡◌, ◌≢◌, ℕ, ◌<◌, List, [], ◌∷◌, ◌++◌, map, filter, length, slice_get, true, Option, Some, None, Result, Ok, Err}
 use Rattle.scheme_model.specs.Requirements.{LibraryName}
-use Rattle.scheme_model.specs.Program.{Placed, Prepared, prepare, imports_at, is_in, on_circle, first_ready, name_if, UnitResult, fault_before}
+use Rattle.scheme_model.specs.Program.{Placed, Prepared, prepare, is_in, on_circle, name_if, UnitResult, fault_before}
 use Rattle.import_sets.specs.InTurn.{in_turn, ComesAfter}
 use Rattle.library_table.specs.declared.fault.LibraryFault.{LibraryFault}
 use Rattle.library_table.specs.declared.fault.LibraryFault.TheVariants as fault

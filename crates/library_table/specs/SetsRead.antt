@@ -1,7 +1,7 @@
 -- Import sets as they are read (R7RS 5.2), and their places in the text.
-use Rattle.std.specs.Prelude.{◌≡◌, ℕ, List, ◌∷◌, Bool, true, false, Option, Some, None, Result, Ok, Err}
+use Rattle.std.specs.Prelude.{◌≡◌, ℕ, List, ◌∷◌, true, false, Option, Some, None, Result, Ok, Err}
 use Rattle.std.specs.Option.{option_map}
-use Rattle.scheme_model.specs.Data.{Datum, atom, list, vector, bytes}
+use Rattle.scheme_model.specs.Data.{Datum}
 use Rattle.scheme_model.specs.declared.Occ.{Occ}
 use Rattle.scheme_model.specs.Trees.{Tail, list as list_tree}
 use Rattle.scheme_model.specs.Entries as model

@@ -1,8 +1,7 @@
 -- What units that are read stand for (R7RS 5.1, 5.6.1): their forms, imports and exports, and the bytes of their first tokens.
-use Rattle.std.specs.Prelude.{◌≡◌, ℕ, ◌+◌, min, List, [], ◌∷◌, ◌++◌, map, Bool, true, false, not, ◌&&◌, Option, Some, None, Ok, codes}
+use Rattle.std.specs.Prelude.{◌≡◌, ℕ, List, [], ◌∷◌, ◌++◌, map, Bool, true, false, not, ◌&&◌, Option, Some, None, Ok, codes}
 use Rattle.std.specs.Option.{option_map}
-use Rattle.ls_base.specs.declared.places.Span.{Span}
-use Rattle.scheme_model.specs.Data.{Place, spelled, implied, Datum, atom, list, vector, bytes, Data, none, part, tail}
+use Rattle.scheme_model.specs.Data.{Datum}
 use Rattle.scheme_model.specs.Trees.{Tree, name, atom as atom_tree, list as list_tree, vector as vector_tree}
 use Rattle.scheme_model.specs.ExpansionFaults.{Named}
 use Rattle.scheme_model.specs.Program.{ImportSpec, ExportSpec, specs_from, exports_from}
