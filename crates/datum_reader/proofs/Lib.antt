@@ -25,3 +25,5 @@ pub mod SeedLaws
 pub mod FormLaws
 pub mod Preparing
 pub mod NamePlaces
+pub mod LookLaws
+pub mod DataRows

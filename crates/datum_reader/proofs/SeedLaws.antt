@@ -20,7 +20,7 @@ use Rattle.datum_reader.specs.declared.datum.Shape.{Shape}
 use Rattle.datum_reader.specs.declared.datum.Shape.TheVariants as shape
 use Rattle.datum_reader.specs.declared.datum.Shape.TheOpen.{Shape-F}
 use Rattle.datum_reader.specs.declared.datum.Shape.TheFolds.{fold-roll-Shape}
-use Rattle.scheme_model.specs.Data.{Place, Atom, spelled, implied, Datum, atom, list, vector, bytes, Data, none, tail, row}
+use Rattle.scheme_model.specs.Data.{Place, Atom, spelled, implied, Datum, atom, list, vector, bytes, Data, none, row}
 use Rattle.datum_reader.specs.Right.{AreRight, WasRead, CanSeed}
 use Rattle.datum_reader.specs.Seeded.{atom_tree, tree_of, parts_of, end_of}
 use Rattle.datum_reader.specs.Seeding.{part_tree, parts_trees, tail_tree, CanBeSeeded, TailCanBeSeeded}

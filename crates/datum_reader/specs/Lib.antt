@@ -5,3 +5,6 @@ pub mod Seeding
 pub mod Texts
 pub mod Views
 pub mod NameTokens
+pub mod Looks
+pub mod Forms
+pub mod FirstTokens

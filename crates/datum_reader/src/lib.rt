@@ -5,10 +5,14 @@ mod bytes;
 mod close;
 mod copy;
 pub mod datum;
+pub mod heads;
 pub mod laws;
+pub mod look;
 mod open;
 mod reader;
 mod seeding;
+pub mod shape_fault;
+pub mod start;
 mod step;
 mod tail;
 

@@ -1,17 +1,22 @@
 //! Import sets (R7RS 5.2, 5.6), and the names that they give of what a library exports.
 #![tactic(auto)]
 
+pub mod circles;
 mod clash;
 mod copy;
 pub mod entries;
 pub mod fault;
+pub mod firsts;
 mod gather;
 mod joining;
 mod modify;
 mod names;
 mod origins;
+pub mod places;
 mod rename;
 pub mod set;
+pub mod turns;
+pub mod walk;
 
 pub use copy::copy_of_origins;
 pub use entries::entries_of;

@@ -4,8 +4,8 @@ use Rattle.std.specs.Result.{IsErrAnd}
 use Rattle.scheme_model.specs.Trees.{Tree, Trees, no_trees, tree}
 use Rattle.scheme_model.specs.ExpansionFaults.{Fault, ◌>>◌}
 use Rattle.scheme_model.specs.Requirements.{LibraryPart, LibraryName}
-use Rattle.library_table.specs.declared.shape_fault.ShapeFault.{ShapeFault}
-use Rattle.library_table.specs.declared.shape_fault.ShapeFault.TheVariants as fault
+use Rattle.datum_reader.specs.declared.shape_fault.ShapeFault.{ShapeFault}
+use Rattle.datum_reader.specs.declared.shape_fault.ShapeFault.TheVariants as fault
 use Rattle.library_table.specs.PartsRead.{Fails, Reads, Puts, PutsAll, map_ok}
 
 -- a fault that a call hands on

@@ -12,9 +12,9 @@ use Rattle.scheme_model.specs.Declarations.{Flat, clause_of, picked, symbol_tree
 use Rattle.datum_reader.specs.declared.datum.Datum as code
 use Rattle.datum_reader.specs.Views.{datum_of, data_of}
 use Rattle.library_table.specs.declared.flattening.Clause as code_clause
-use Rattle.library_table.specs.declared.shape_fault.ShapeFault.{ShapeFault}
-use Rattle.library_table.specs.declared.shape_fault.ShapeFault.TheVariants as shape
-use Rattle.library_table.specs.Looks.{end_with}
+use Rattle.datum_reader.specs.declared.shape_fault.ShapeFault.{ShapeFault}
+use Rattle.datum_reader.specs.declared.shape_fault.ShapeFault.TheVariants as shape
+use Rattle.datum_reader.specs.Looks.{end_with}
 use Rattle.library_table.specs.PartsRead.{Fails}
 use Rattle.library_table.specs.Chosen.{is_empty}
 use Rattle.library_table.specs.Flattened.{clause_with, IsClause, OrFirst, Chooses}

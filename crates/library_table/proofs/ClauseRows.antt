@@ -9,8 +9,8 @@ use Rattle.scheme_model.specs.Requirements.{Known, clause_holds}
 use Rattle.scheme_model.specs.Declarations.{Flat, Clause, clauses, clause_of, some_clauses, chosen_clause, later_clauses, picked, or_bad, parts_or, proper_parts, symbol_tree, declarations, ◌>>=◌}
 use Rattle.datum_reader.specs.declared.datum.Datum as code
 use Rattle.datum_reader.specs.Views.{datum_of, data_of}
-use Rattle.library_table.specs.Looks.{end_with}
-use Rattle.library_table.proofs.DataRows.{dotted_parts, proper_all}
+use Rattle.datum_reader.specs.Looks.{end_with}
+use Rattle.datum_reader.proofs.DataRows.{dotted_parts, proper_all}
 use Rattle.library_table.specs.Chosen.{is_empty}
 use Rattle.library_table.specs.Flattened.{clause_with}
 use Rattle.library_table.specs.Weights.{weight, row_weight}

@@ -19,7 +19,8 @@ use Rattle.library_table.specs.declared.units.ExportSpec.{ExportSpec}
 use Rattle.library_table.specs.declared.exporting.Exports.{Exports}
 use Rattle.library_table.specs.declared.exporting.ExportFault as code_fault
 use Rattle.library_table.specs.declared.fault.LibraryFault.TheVariants as fault
-use Rattle.library_table.specs.Exported.{entry_named, place_of, exported, export_one, has_outer, no_exports, put_export, put_all}
+use Rattle.library_table.specs.Exported.{entry_named, exported, export_one, has_outer, no_exports, put_export, put_all}
+use Rattle.import_sets.specs.Firsts.{place_of}
 use Rattle.library_table.specs.Exports.{AreFaults, AreExported}
 use Rattle.library_table.specs.Sources.{IsExport, AreExports}
 

@@ -10,9 +10,9 @@ use Rattle.import_sets.specs.Sets.{named}
 use Rattle.import_sets.specs.declared.set.SetName.{SetName}
 use Rattle.datum_reader.specs.declared.datum.Datum as code
 use Rattle.library_table.specs.declared.units.ExportSpec as code_export
-use Rattle.library_table.specs.Looks.{plain, tree_at, trees_at, IsListOf}
+use Rattle.datum_reader.specs.Looks.{plain, tree_at, trees_at, IsListOf}
 use Rattle.library_table.specs.UnitsRead.{named_in, IsExportRead, IsExportOf}
-use Rattle.library_table.proofs.LookLaws.{list_seen}
+use Rattle.datum_reader.proofs.LookLaws.{list_seen}
 
 pub two_named : (r t u : Tree (List ℕ)) (ts : Trees (List ℕ)) (end : Tail (List ℕ)) (o : Option Occ) (a b : SetName) → Some (named a) ≡ named_in t → Some (named b) ≡ named_in u →
     (x : ExportSpec) × (export_of (list (tree r (tree t (tree u ts))) end o) ≡ x ∷ []) × IsExportRead (record { inner = a; outer = b }) x

@@ -12,10 +12,10 @@ use Rattle.datum_reader.specs.Views.{datum_of, data_of}
 use Rattle.library_table.specs.declared.units.UnitForm as code_form
 use Rattle.library_table.specs.declared.fault.LibraryFault.{LibraryFault}
 use Rattle.library_table.specs.declared.fault.LibraryFault.TheVariants as fault
-use Rattle.library_table.specs.Looks.{end_with, bytes_of, is_other, IsListOf}
+use Rattle.datum_reader.specs.Looks.{end_with, bytes_of, is_other, IsListOf}
 use Rattle.library_table.specs.UnitsRead.{forms_of}
 use Rattle.library_table.specs.Flattened.{Flattens, kept}
-use Rattle.library_table.proofs.DataRows.{dotted_parts, proper_all}
+use Rattle.datum_reader.proofs.DataRows.{dotted_parts, proper_all}
 
 -- ---- faults that are passed on
 

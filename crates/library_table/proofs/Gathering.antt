@@ -9,7 +9,7 @@ use Rattle.datum_reader.specs.declared.datum.Datum as code
 use Rattle.datum_reader.specs.Views.{datum_of, data_of}
 use Rattle.library_table.specs.declared.units.UnitForm as code_form
 use Rattle.library_table.specs.declared.units.ExportSpec as code_export
-use Rattle.library_table.specs.Looks.{plain}
+use Rattle.datum_reader.specs.Looks.{plain}
 use Rattle.library_table.specs.UnitsRead.{Pairs, Adds, form_of, forms_of, IsExportOf, IsExportRead}
 
 -- what each item gives, in order

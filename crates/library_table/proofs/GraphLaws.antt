@@ -12,12 +12,16 @@ use Rattle.import_sets.specs.declared.set.ImportSet as code_set
 use Rattle.import_sets.specs.Sets.{IsSetOf}
 use Rattle.library_table.specs.declared.units.ImportSpec as code_import
 use Rattle.library_table.specs.declared.units.UnitSource as code
-use Rattle.library_table.specs.Named.{is_name, place_named, place_in, with_place, is_place, imported_places}
+use Rattle.library_table.specs.Named.{is_name, place_named, with_place, imported_places}
+use Rattle.import_sets.specs.Firsts.{place_in}
+use Rattle.import_sets.specs.Graphs.{is_place}
 use Rattle.library_table.specs.Sources.{TellsNames, AreImports, AreUnitsFrom, AreUnits}
 use Rattle.library_table.specs.Orders.{with_imports}
-use Rattle.library_table.specs.Graphs.{row, SameMembers, SameRows, rows_of, graph_of, AreWithin, IsGraph, AreNumbered}
+use Rattle.import_sets.specs.Graphs.{row, AreWithin, IsGraph, AreNumbered}
+use Rattle.library_table.specs.Graphs.{SameMembers, SameRows, rows_of, graph_of}
 use Rattle.library_table.proofs.NamedLaws.{place_same}
-use Rattle.library_table.proofs.ReachLaws.{or_none, or_joined}
+use Rattle.import_sets.proofs.CircleLaws.{plus_one}
+use Rattle.import_sets.proofs.ReachLaws.{or_none, or_joined}
 
 -- ---- units at their numbers
 
@@ -27,9 +31,6 @@ ahead k i = grind (arith, nat_tests)
 
 here : (k : ℕ) → (k == k + 0) ≡ true
 here k = grind (arith, nat_tests)
-
-pub plus_one : (k i : ℕ) → suc k + i ≡ k + suc i
-plus_one k i = omega arith
 
 pub number_at : (all : List Placed) (us : List Placed) (k i : ℕ) (p : Prepared) → slice_get (prepare all k us) i ≡ Some p → p.number ≡ k + i
 number_at all [] k i p h = absurd cc

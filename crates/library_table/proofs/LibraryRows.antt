@@ -16,9 +16,10 @@ use Rattle.library_table.specs.declared.units.UnitForm as code_form
 use Rattle.library_table.specs.declared.units.UnitSource as code_unit
 use Rattle.library_table.specs.declared.fault.LibraryFault.{LibraryFault}
 use Rattle.library_table.specs.declared.fault.LibraryFault.TheVariants as fault
-use Rattle.library_table.specs.Looks.{end_with, bytes_of, is_other, IsListOf}
+use Rattle.datum_reader.specs.Looks.{end_with, bytes_of, is_other, IsListOf}
 use Rattle.library_table.specs.PartsRead.{map_ok, library_text}
-use Rattle.library_table.specs.UnitsRead.{first_token, forms_of, AreSpecs, AreExportsRead}
+use Rattle.datum_reader.specs.FirstTokens.{first_token}
+use Rattle.library_table.specs.UnitsRead.{forms_of, AreSpecs, AreExportsRead}
 use Rattle.library_table.specs.Flattened.{Flattens}
 use Rattle.library_table.specs.LibrariesRead.{IsLibraryRead, library_named}
 

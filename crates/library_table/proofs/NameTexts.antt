@@ -10,7 +10,7 @@ use Rattle.scheme_model.specs.Trees.{Tail}
 use Rattle.scheme_model.specs.ExpansionFaults.{BadForm}
 use Rattle.scheme_model.specs.Requirements.{Symbol}
 use Rattle.datum_reader.specs.declared.datum.Datum as code
-use Rattle.library_table.specs.Looks.{trees_at}
+use Rattle.datum_reader.specs.Looks.{trees_at}
 use Rattle.library_table.specs.PartsRead.{map_ok, part_text, only_name}
 
 -- a name is written in one way

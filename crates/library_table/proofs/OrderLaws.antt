@@ -4,12 +4,15 @@ use Rattle.scheme_model.specs.Requirements.{LibraryName}
 use Rattle.scheme_model.specs.Program.{Placed, Prepared, is_in}
 use Rattle.library_table.specs.declared.units.UnitSource as code
 use Rattle.library_table.specs.Sources.{TellsNames, AreUnits}
-use Rattle.library_table.specs.Orders.{with_imports, in_turn, AreInTurn, AreOnCircles}
-use Rattle.library_table.specs.Graphs.{SameRows, graph_of, IsGraph, is_circular, passing, names_at}
+use Rattle.library_table.specs.Orders.{with_imports, AreInTurn, AreOnCircles}
+use Rattle.import_sets.specs.InTurn.{in_turn}
+use Rattle.library_table.specs.Graphs.{SameRows, graph_of, names_at}
+use Rattle.import_sets.specs.Graphs.{IsGraph, is_circular, passing}
 use Rattle.library_table.proofs.GraphLaws.{are_numbered, prepare_length, is_graph, rows_within}
-use Rattle.library_table.proofs.WalkLaws.{graph_within}
-use Rattle.library_table.proofs.CircleLaws.{passing_none, none_on_circles, some_on_circles, names_on_circles}
-use Rattle.library_table.proofs.TurnLaws.{every_unit, comes_after}
+use Rattle.import_sets.proofs.WalkLaws.{graph_within}
+use Rattle.import_sets.proofs.CircleLaws.{passing_none}
+use Rattle.library_table.proofs.CircleLaws.{none_on_circles, some_on_circles, names_on_circles}
+use Rattle.import_sets.proofs.TurnLaws.{every_unit, comes_after}
 
 as_many : (spelled : LibraryName → List ℕ) → TellsNames spelled → (cs : List code.UnitSource) (us : List Placed) → AreUnits spelled cs us → (g : List (List ℕ)) → SameRows g (graph_of cs) → length g ≡ length us
 as_many spelled tells cs us are g same = (is_graph spelled tells cs us are g same).size ∙ prepare_length us us 0

@@ -1,10 +1,9 @@
 -- The program that data are.
 use Rattle.std.proofs.Common.{◌≡◌, ℕ, List, [], ◌∷◌, map, slice_get, Bool, true, false, cond, Option, Some, None, Ok, refl, sym, ap, ◌∙◌, subst}
-use Rattle.std.specs.Prelude.{◌&&◌, not, codes}
-use Rattle.std.specs.Option.{is_some}
+use Rattle.std.specs.Prelude.{◌&&◌, codes}
 use Rattle.std.proofs.lemmas.Option.{same_Some}
 use Rattle.ls_base.specs.declared.places.Span.{Span}
-use Rattle.scheme_model.specs.Data.{Place, Datum, list, row, place_of}
+use Rattle.scheme_model.specs.Data.{Datum, place_of}
 use Rattle.scheme_model.specs.Declarations.{UnitForm, IsProgram, plain_form, is_headed, is_proper, program_forms}
 use Rattle.scheme_model.specs.Program.{specs_from, exports_from}
 use Rattle.syntax_tree.specs.declared.units.UnitKind.TheVariants as kinds
@@ -12,14 +11,8 @@ use Rattle.datum_reader.specs.Views.{datum_of}
 use Rattle.library_table.specs.declared.units.ImportSpec as code_import
 use Rattle.library_table.specs.declared.units.ExportSpec as code_export
 use Rattle.library_table.specs.declared.units.UnitForm as code_form
-use Rattle.library_table.specs.Looks.{end_with}
-use Rattle.library_table.specs.UnitsRead.{first_token, forms_of, AreSpecs, AreExportsRead, IsProgramRead}
-use Rattle.library_table.proofs.DataRows.{dotted_parts, proper_all}
-
--- a list is proper where it isn't dotted
-pub proper_row : (p : Place) (ds : List Datum) (end : Option Datum) → is_proper (list p (row ds (end_with end))) ≡ not (is_some end)
-proper_row p ds None = ap is_some (proper_all ds None refl)
-proper_row p ds (Some d) = ap is_some (dotted_parts ds (Some d) refl)
+use Rattle.datum_reader.specs.FirstTokens.{first_token}
+use Rattle.library_table.specs.UnitsRead.{forms_of, AreSpecs, AreExportsRead, IsProgramRead}
 
 first_datum : List UnitForm → Option Datum
 first_datum [] = None

@@ -12,9 +12,9 @@ use Rattle.scheme_model.specs.Program.{has_name}
 use Rattle.datum_reader.specs.declared.datum.Datum as code
 use Rattle.datum_reader.specs.Views.{datum_of, data_of}
 use Rattle.library_table.specs.Weights.{weight, row_weight}
-use Rattle.library_table.specs.declared.shape_fault.ShapeFault.{ShapeFault}
-use Rattle.library_table.specs.declared.shape_fault.ShapeFault.TheVariants as fault
-use Rattle.library_table.specs.Looks.{trees_at, tree_at, word_of, is_dotted}
+use Rattle.datum_reader.specs.declared.shape_fault.ShapeFault.{ShapeFault}
+use Rattle.datum_reader.specs.declared.shape_fault.ShapeFault.TheVariants as fault
+use Rattle.datum_reader.specs.Looks.{trees_at, tree_at, word_of, is_dotted}
 use Rattle.library_table.specs.PartsRead.{Fails, map_ok}
 use Rattle.library_table.specs.Chosen.{word_holds, by_connective, library_holds}
 use Rattle.library_table.specs.declared.requirements.Connective.TheVariants as word

@@ -12,13 +12,14 @@ use Rattle.scheme_model.specs.Entries.{Modifier, Bad, set_of, library_set, modif
 use Rattle.import_sets.specs.declared.set.ImportSet.{ImportSet}
 use Rattle.datum_reader.specs.declared.datum.Datum as code
 use Rattle.datum_reader.specs.Views.{datum_of, data_of}
-use Rattle.library_table.specs.declared.shape_fault.ShapeFault.{ShapeFault}
-use Rattle.library_table.specs.declared.shape_fault.ShapeFault.TheVariants as fault
+use Rattle.datum_reader.specs.declared.shape_fault.ShapeFault.{ShapeFault}
+use Rattle.datum_reader.specs.declared.shape_fault.ShapeFault.TheVariants as fault
 use Rattle.library_table.specs.declared.sets.Modifier as code_modifier
 use Rattle.library_table.specs.declared.sets.Modified.{Modified}
-use Rattle.library_table.specs.Looks.{plain, tree_at, trees_at, word_of, symbol_now, IsWord, IsListOf, end_with}
+use Rattle.datum_reader.specs.Looks.{plain, tree_at, trees_at, word_of, symbol_now, IsWord, IsListOf, end_with}
 use Rattle.library_table.specs.PartsRead.{Fails}
-use Rattle.library_table.specs.SetsRead.{modifier_as, modifier_seen, modifier_for, is_list, IsModified, IsModifiedBy, IsSetText, IsSetMade}
+use Rattle.library_table.specs.SetsRead.{modifier_as, modifier_seen, modifier_for, IsModified, IsModifiedBy, IsSetText, IsSetMade}
+use Rattle.datum_reader.specs.Looks.{is_list}
 use Rattle.library_table.specs.Weights.{weight, weights}
 
 -- ---- modifiers

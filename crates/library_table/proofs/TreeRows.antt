@@ -8,8 +8,8 @@ use Rattle.scheme_model.specs.Shapes.{name_of, names_of}
 use Rattle.scheme_model.specs.Entries.{pair_of, pairs_of}
 use Rattle.scheme_model.specs.Requirements.{LibraryName, LibraryPart, part_of, parts_of}
 use Rattle.datum_reader.specs.declared.datum.Datum as code
-use Rattle.library_table.specs.declared.shape_fault.ShapeFault.{ShapeFault}
-use Rattle.library_table.specs.Looks.{tree_at, trees_at}
+use Rattle.datum_reader.specs.declared.shape_fault.ShapeFault.{ShapeFault}
+use Rattle.datum_reader.specs.Looks.{tree_at, trees_at}
 use Rattle.library_table.specs.PartsRead.{Fails, part_text, behind_spaces, library_text, map_ok}
 use Rattle.library_table.proofs.Chaining.{fails_same, each_of, in_front, front_none, each_more, each_fails}
 

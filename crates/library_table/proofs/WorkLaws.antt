@@ -6,8 +6,9 @@ use Rattle.std.proofs.lemmas.List.{reverse-append}
 use Rattle.scheme_model.specs.Order.{is_some}
 use Rattle.scheme_model.specs.Requirements.{Known}
 use Rattle.scheme_model.specs.Program.{Placed, Prepared, UnitResult, Progress, WholeFault, result_at, is_in, fault_before, by_fault, all_done, is_ready, first_ready, worked, work}
-use Rattle.library_table.specs.Orders.{all_in, is_open, and_then, in_turn, numbers, HaveNoFault}
-use Rattle.library_table.proofs.ReachLaws.{in_append, or_none, or_turned}
+use Rattle.import_sets.specs.InTurn.{all_in, is_open, and_then, in_turn}
+use Rattle.library_table.specs.Orders.{numbers, HaveNoFault}
+use Rattle.import_sets.proofs.ReachLaws.{in_append, or_none, or_turned}
 
 -- ---- what is done
 

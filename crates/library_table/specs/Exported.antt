@@ -4,20 +4,16 @@ use Rattle.std.specs.List.{list_any}
 use Rattle.std.specs.Str.{bytes_eq}
 use Rattle.syntax_tree.specs.declared.units.Entry.{Entry}
 use Rattle.import_sets.specs.Given.{same_place, renamed}
-use Rattle.library_table.specs.Named.{first_place}
 use Rattle.library_table.specs.declared.units.ExportSpec.{ExportSpec}
 use Rattle.library_table.specs.declared.fault.LibraryFault.TheVariants.{NotDefined, SameExport}
 use Rattle.library_table.specs.declared.exported.Export.{Export}
 use Rattle.library_table.specs.declared.exported.Export.TheVariants.{Given, Refused}
 use Rattle.library_table.specs.declared.exporting.Exports.{Exports}
 
--- the first entry with a name, and its place from a place on
+-- the first entry with a name
 abbrev pub entry_named : List ℕ → List Entry → Option Entry
 entry_named s [] = None
 entry_named s (e ∷ es) = if bytes_eq e.name s then Some e else entry_named s es
-
-abbrev pub place_of : List ℕ → ℕ → List Entry → Option ℕ
-place_of s n es = first_place (λ (e : Entry). bytes_eq e.name s) n es
 
 abbrev pub exported : ExportSpec → Entry → Entry
 exported x e = if same_place x.inner.occ x.outer.occ then record { name = x.outer.name; meaning = e.meaning; origins = e.origins } else renamed e x.outer

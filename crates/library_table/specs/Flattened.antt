@@ -10,12 +10,12 @@ use Rattle.datum_reader.specs.Views.{datum_of, data_of}
 use Rattle.library_table.specs.declared.units.UnitForm as code_form
 use Rattle.library_table.specs.declared.fault.LibraryFault.{LibraryFault}
 use Rattle.library_table.specs.declared.fault.LibraryFault.TheVariants as fault
-use Rattle.library_table.specs.declared.shape_fault.ShapeFault.{ShapeFault}
-use Rattle.library_table.specs.declared.shape_fault.ShapeFault.TheVariants as shape
+use Rattle.datum_reader.specs.declared.shape_fault.ShapeFault.{ShapeFault}
+use Rattle.datum_reader.specs.declared.shape_fault.ShapeFault.TheVariants as shape
 use Rattle.library_table.specs.declared.flattening.Declared as code_declared
 use Rattle.library_table.specs.declared.flattening.Declared.TheVariants as kind
 use Rattle.library_table.specs.declared.flattening.Clause as code_clause
-use Rattle.library_table.specs.Looks.{bytes_of}
+use Rattle.datum_reader.specs.Looks.{bytes_of}
 use Rattle.library_table.specs.Weights.{weight, row_weight}
 use Rattle.library_table.specs.UnitsRead.{forms_of}
 

@@ -5,10 +5,7 @@ pub mod Exported
 pub mod Exports
 pub mod Graphs
 pub mod Orders
-pub mod Waiting
-pub mod Looks
 pub mod PartsRead
-pub mod Forms
 pub mod Weights
 pub mod SetsRead
 pub mod UnitsRead

@@ -6,7 +6,7 @@ use Rattle.scheme_model.specs.Declarations.{UnitSource, IsLibrary, Flat}
 use Rattle.library_table.specs.declared.units.UnitSource as code
 use Rattle.library_table.specs.declared.fault.LibraryFault.{LibraryFault}
 use Rattle.library_table.specs.declared.fault.LibraryFault.TheVariants as fault
-use Rattle.library_table.specs.Looks.{bytes_of}
+use Rattle.datum_reader.specs.Looks.{bytes_of}
 use Rattle.library_table.specs.UnitsRead.{IsSource}
 
 -- a library with a name and these forms

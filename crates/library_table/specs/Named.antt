@@ -1,7 +1,7 @@
 -- Which unit a library's name means, and which units a unit imports, by the texts of the names.
 use Rattle.std.specs.Prelude.{ℕ, suc, ◌==◌, List, [], ◌∷◌, Bool, true, false, not, Option, Some, None, if◌then◌else◌}
 use Rattle.std.specs.Str.{bytes_eq}
-use Rattle.import_sets.specs.declared.set.ImportSet.{ImportSet, Library, Only', Except', Prefix', Rename', Bad}
+use Rattle.import_sets.specs.Firsts.{first_place, place_in}
 use Rattle.library_table.specs.declared.units.ImportSpec.{ImportSpec}
 use Rattle.library_table.specs.declared.units.UnitSource.{UnitSource}
 
@@ -10,18 +10,6 @@ use Rattle.library_table.specs.declared.units.UnitSource.{UnitSource}
 abbrev pub is_name : List ℕ → Option (List ℕ) → Bool
 is_name s None = false
 is_name s (Some t) = bytes_eq t s
-
-abbrev pub first_of : {A : Type 0} → Option A → Option A → Option A
-first_of None o = o
-first_of (Some a) o = Some a
-
-abbrev pub place_if : Bool → ℕ → Option ℕ
-place_if b n = if b then Some n else None
-
--- the place of the first that passes a test, from a place on
-abbrev pub first_place : {A : Type 0} → (A → Bool) → ℕ → List A → Option ℕ
-first_place test n [] = None
-first_place test n (x ∷ xs) = if test x then Some n else first_place test (suc n) xs
 
 -- the place of the first unit with a name
 abbrev pub place_named : List ℕ → ℕ → List UnitSource → Option ℕ
@@ -47,22 +35,9 @@ later_from all n us = later (λ s. place_named s 0 all) n us
 
 -- ---- imports
 
--- the place of the library that a set names
-abbrev pub place_in : (List ℕ → Option ℕ) → ImportSet → Option ℕ
-place_in find (Library t) = find t
-place_in find (Only' p c ns) = place_in find c
-place_in find (Except' p c ns) = place_in find c
-place_in find (Prefix' p c t) = place_in find c
-place_in find (Rename' p c ps) = place_in find c
-place_in find Bad = None
-
 abbrev pub with_place : Option ℕ → List ℕ → List ℕ
 with_place None rest = rest
 with_place (Some n) rest = n ∷ rest
-
-abbrev pub is_place : ℕ → Option ℕ → Bool
-is_place n None = false
-is_place n (Some p) = n == p
 
 abbrev pub imported_places : (List ℕ → Option ℕ) → List ImportSpec → List ℕ
 imported_places find [] = []

@@ -1,7 +1,8 @@
 -- The order of units, each after what it imports, and the libraries that import one another in a circle (R7RS 5.6).
-use Rattle.std.specs.Prelude.{◌≡◌, ◌≢◌, ℕ, zero, suc, ◌<◌, List, [], ◌∷◌, ◌++◌, map, filter, length, slice_get, Bool, true, false, not, ◌&&◌, Option, Some, None, Result, Ok, Err}
+use Rattle.std.specs.Prelude.{◌≡◌, ◌≢◌, ℕ, ◌<◌, List, [], ◌∷◌, ◌++◌, map, filter, length, slice_get, true, Option, Some, None, Result, Ok, Err}
 use Rattle.scheme_model.specs.Requirements.{LibraryName}
-use Rattle.scheme_model.specs.Program.{Placed, Prepared, prepare, imports_at, is_in, on_circle, first_ready, name_if, UnitResult, fault_before}
+use Rattle.scheme_model.specs.Program.{Placed, Prepared, prepare, is_in, on_circle, name_if, UnitResult, fault_before}
+use Rattle.import_sets.specs.InTurn.{in_turn, ComesAfter}
 use Rattle.library_table.specs.declared.fault.LibraryFault.{LibraryFault}
 use Rattle.library_table.specs.declared.fault.LibraryFault.TheVariants as fault
 
@@ -26,23 +27,6 @@ names_of (p ∷ ps) = name_before (name_if p.number p.placed.source) (names_of p
 
 -- ---- turns
 
-abbrev pub all_in : List ℕ → List ℕ → Bool
-all_in done [] = true
-all_in done (n ∷ ns) = is_in n done && all_in done ns
-
--- a unit isn't done, and all that it imports is
-abbrev pub is_open : List ℕ → Prepared → Bool
-is_open done p = not (is_in p.number done) && all_in done p.imports
-
-abbrev pub and_then : Option Prepared → (Prepared → List ℕ) → List ℕ
-and_then None next = []
-and_then (Some p) next = next p
-
--- the first unit that is open, and then the next: so many of them at most, behind those that are done
-abbrev pub in_turn : List Prepared → ℕ → List ℕ → List ℕ
-in_turn ps zero done = []
-in_turn ps (suc turns) done = and_then (first_ready (is_open done) ps) (λ p. p.number ∷ in_turn ps turns (done ++ p.number ∷ []))
-
 -- the numbers of results, the latest first
 abbrev pub numbers : List UnitResult → List ℕ
 numbers rs = map (λ (r : UnitResult). r.unit.number) rs
@@ -52,11 +36,6 @@ abbrev pub HaveNoFault : List Placed → List Prepared → Type 0
 HaveNoFault all ps = (n : ℕ) (p : Prepared) → slice_get ps n ≡ Some p → fault_before all ps p ≡ None
 
 -- ---- answers
-
--- behind these units a unit comes for the first time, and all that it imports is among them
-pub record ComesAfter (ps : List Prepared) (before : List ℕ) (n : ℕ) : Type 0 where
-  pub once : is_in n before ≡ false
-  pub imports : (m : ℕ) → is_in m (imports_at ps n) ≡ true → is_in m before ≡ true
 
 -- no unit is on a circle, and these are the units in their turns: all of them, and each once and after what it imports
 pub record AreInTurn (all : List Placed) (places : List ℕ) : Type 0 where

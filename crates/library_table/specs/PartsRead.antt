@@ -8,8 +8,8 @@ use Rattle.scheme_model.specs.Shapes.{name_of, names_of, first_of, one_of, some_
 use Rattle.scheme_model.specs.Entries.{pairs_of}
 use Rattle.scheme_model.specs.Requirements.{LibraryPart, Symbol, Digits, LibraryName, Known, parts_of}
 use Rattle.scheme_model.specs.Program.{has_name}
-use Rattle.library_table.specs.declared.shape_fault.ShapeFault.{ShapeFault}
-use Rattle.library_table.specs.declared.shape_fault.ShapeFault.TheVariants as fault
+use Rattle.datum_reader.specs.declared.shape_fault.ShapeFault.{ShapeFault}
+use Rattle.datum_reader.specs.declared.shape_fault.ShapeFault.TheVariants as fault
 
 -- ---- answers
 

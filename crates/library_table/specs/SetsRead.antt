@@ -1,7 +1,7 @@
 -- Import sets as they are read (R7RS 5.2), and their places in the text.
-use Rattle.std.specs.Prelude.{◌≡◌, ℕ, List, ◌∷◌, Bool, true, false, Option, Some, None, Result, Ok, Err}
+use Rattle.std.specs.Prelude.{◌≡◌, ℕ, List, ◌∷◌, true, false, Option, Some, None, Result, Ok, Err}
 use Rattle.std.specs.Option.{option_map}
-use Rattle.scheme_model.specs.Data.{Datum, atom, list, vector, bytes}
+use Rattle.scheme_model.specs.Data.{Datum}
 use Rattle.scheme_model.specs.declared.Occ.{Occ}
 use Rattle.scheme_model.specs.Trees.{Tail, list as list_tree}
 use Rattle.scheme_model.specs.Entries as model
@@ -16,9 +16,9 @@ use Rattle.library_table.specs.declared.units.ImportSpec as code_import
 use Rattle.library_table.specs.declared.sets.Modifier as code_modifier
 use Rattle.library_table.specs.declared.sets.Modifier.TheVariants as word
 use Rattle.library_table.specs.declared.sets.Modified.{Modified}
-use Rattle.library_table.specs.declared.shape_fault.ShapeFault.{ShapeFault}
-use Rattle.library_table.specs.declared.shape_fault.ShapeFault.TheVariants as fault
-use Rattle.library_table.specs.Looks.{tree_at, trees_at, bytes_of}
+use Rattle.datum_reader.specs.declared.shape_fault.ShapeFault.{ShapeFault}
+use Rattle.datum_reader.specs.declared.shape_fault.ShapeFault.TheVariants as fault
+use Rattle.datum_reader.specs.Looks.{tree_at, trees_at, bytes_of, is_list}
 use Rattle.library_table.specs.PartsRead.{library_text}
 
 -- the code's set is this one, its library's name as a text
@@ -46,12 +46,6 @@ modifier_seen m = option_map modifier_as m
 abbrev pub modifier_for : Option (List ℕ) → Option Modifier
 modifier_for None = None
 modifier_for (Some s) = modifier_named s
-
-abbrev pub is_list : Datum → Bool
-is_list (atom p a) = false
-is_list (list p ds) = true
-is_list (vector p ds) = false
-is_list (bytes p bs) = false
 
 -- a list with these parts is a set of this modifier, or a library's name if anything
 abbrev pub IsModified : Option Modified → List code.Datum → Type 0

@@ -1,8 +1,7 @@
 -- What units that are read stand for (R7RS 5.1, 5.6.1): their forms, imports and exports, and the bytes of their first tokens.
-use Rattle.std.specs.Prelude.{◌≡◌, ℕ, ◌+◌, min, List, [], ◌∷◌, ◌++◌, map, Bool, true, false, not, ◌&&◌, Option, Some, None, Ok, codes}
+use Rattle.std.specs.Prelude.{◌≡◌, ℕ, List, [], ◌∷◌, ◌++◌, map, Bool, true, false, not, ◌&&◌, Option, Some, None, Ok, codes}
 use Rattle.std.specs.Option.{option_map}
-use Rattle.ls_base.specs.declared.places.Span.{Span}
-use Rattle.scheme_model.specs.Data.{Place, spelled, implied, Datum, atom, list, vector, bytes, Data, none, part, tail}
+use Rattle.scheme_model.specs.Data.{Datum}
 use Rattle.scheme_model.specs.Trees.{Tree, name, atom as atom_tree, list as list_tree, vector as vector_tree}
 use Rattle.scheme_model.specs.ExpansionFaults.{Named}
 use Rattle.scheme_model.specs.Program.{ImportSpec, ExportSpec, specs_from, exports_from}
@@ -11,39 +10,13 @@ use Rattle.syntax_tree.specs.declared.units.UnitKind as code_kind
 use Rattle.syntax_tree.specs.declared.units.UnitKind.TheVariants as kinds
 use Rattle.import_sets.specs.Sets.{named}
 use Rattle.datum_reader.specs.Views.{datum_of}
+use Rattle.datum_reader.specs.FirstTokens.{first_token}
 use Rattle.library_table.specs.declared.units.ImportSpec as code_import
 use Rattle.library_table.specs.declared.units.ExportSpec as code_export
 use Rattle.library_table.specs.declared.units.UnitForm as code_form
 use Rattle.library_table.specs.declared.units.UnitSource as code
 use Rattle.library_table.specs.PartsRead.{library_text}
 use Rattle.library_table.specs.SetsRead.{IsImportSpec}
-
--- ---- first tokens
-
--- the bytes of a place
-abbrev pub span_of : Place → Span
-span_of p = record { start = p.start; end = p.end }
-
--- so many bytes at the beginning of a span
-abbrev pub opening : ℕ → Span → Span
-opening width s = record { start = s.start; end = min (s.start + width) s.end }
-
--- a parenthesis, or the mark of an abbreviation
-abbrev pub list_token : Span → Data → Span
-list_token s none = opening 1 s
-list_token s (tail d) = opening 1 s
-list_token s (part (atom q (implied mark)) ds) = span_of q
-list_token s (part (atom q (spelled leaf)) ds) = opening 1 s
-list_token s (part (list q es) ds) = opening 1 s
-list_token s (part (vector q es) ds) = opening 1 s
-list_token s (part (bytes q bs) ds) = opening 1 s
-
--- the bytes of the first token: an atom's, `(` or a mark, `#(`, `#u8(`
-abbrev pub first_token : Datum → Span
-first_token (atom p a) = span_of p
-first_token (list p ds) = list_token (span_of p) ds
-first_token (vector p ds) = opening 2 (span_of p)
-first_token (bytes p bs) = opening 4 (span_of p)
 
 -- ---- forms
 

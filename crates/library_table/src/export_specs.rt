@@ -5,17 +5,18 @@ ghost use Rattle.scheme_model.specs.Trees.{Tree, name as name_tree, list as list
 ghost use Rattle.scheme_model.specs.Program.{export_of, exports_in, exports_from, exports_with};
 ghost use Rattle.import_sets.specs.Sets.{named};
 ghost use Rattle.datum_reader.specs.Views.{data_of};
-ghost use Rattle.library_table.specs.Looks.{tree_at, trees_at};
-ghost use Rattle.library_table.specs.Forms.{place};
+ghost use Rattle.datum_reader.specs.Looks.{tree_at, trees_at};
+ghost use Rattle.datum_reader.specs.Forms.{place};
 ghost use Rattle.library_table.specs.UnitsRead.{form_of, forms_of, named_in, AddsExports, AreExportsRead, IsExportOf};
 
-use crate::look::{Look, Row, look_at, row_of};
 use crate::names::name_of;
-use crate::parts::{behind_first, is_headed, number_of};
-use crate::shape_fault::ShapeFault;
-use crate::start::Start;
+use crate::parts::number_of;
 use crate::units::{ExportSpec, UnitForm};
 use datum_reader::Datum;
+use datum_reader::heads::{behind_first, is_headed};
+use datum_reader::look::{Look, Row, look_at, row_of};
+use datum_reader::shape_fault::ShapeFault;
+use datum_reader::start::Start;
 use import_sets::SetName;
 use ls_base::{Items, Mem, Memory};
 use std::alloc::Global;

@@ -2,11 +2,12 @@
 ghost use Rattle.std.specs.Prelude.{◌≡◌, ◌<◌, ℕ, List, Option, Some, None, IfOk, length, slice_get};
 ghost use Rattle.std.specs.BTreeMap.{get_by_text};
 ghost use Rattle.import_sets.specs.Given.{same_place};
-ghost use Rattle.library_table.specs.Exported.{place_of, entry_named, exported, export_one};
+ghost use Rattle.import_sets.specs.Firsts.{place_of};
+ghost use Rattle.library_table.specs.Exported.{entry_named, exported, export_one};
 
 use crate::fault::LibraryFault;
-use crate::firsts::note_first;
 use crate::units::ExportSpec;
+use import_sets::firsts::{entry_at, place_for};
 use import_sets::{copy_of_origins, renamed};
 use ls_base::Mem;
 use scheme_model::Occ;
@@ -19,17 +20,6 @@ use syntax_tree::units::Entry;
 pub enum Export {
     Given(Entry),
     Refused(LibraryFault),
-}
-
-/// The place of the first entry with each name.
-pub fn entry_places(alloc: Global, entries: &[Entry]) -> Mem<BTreeMap<String, usize>>
-    ensures { IfOk result (λ places. (s : List ℕ) → get_by_text places s ≡ place_of s 0 entries.now) }
-{
-    let mut places = BTreeMap::new(alloc);
-    for (place, entry) in entries.iter().enumerate() {
-        note_first(alloc, &mut places, entry.name.as_str(), place)?;
-    }
-    Ok(places)
 }
 
 /// Whether two identifiers stand at one place.
@@ -51,21 +41,6 @@ fn exported(alloc: Global, spec: &ExportSpec, entry: &Entry) -> Mem<Entry>
         });
     }
     Ok(renamed(alloc, entry, &spec.outer)?)
-}
-
-/// The place of a name.
-fn place_for(places: &BTreeMap<String, usize>, name: &str) -> Option<usize>
-    ensures { result ≡ get_by_text places.now name.now }
-{
-    places.get(name).copied()
-}
-
-/// The entry at a place.
-fn entry_at(entries: &[Entry], place: usize) -> &Entry
-    requires { place < length entries.now }
-    ensures { slice_get entries.now place ≡ Some result.now }
-{
-    &entries[place]
 }
 
 /// What an export gives of these entries, whose places are known by their names. `again` tells that an earlier export has its

@@ -10,9 +10,10 @@ ghost use Rattle.library_table.specs.Sources.{AreExports};
 ghost use Rattle.library_table.specs.Exported.{no_exports, put_all};
 ghost use Rattle.library_table.specs.Exports.{AreExported};
 
-use crate::exported::{Export, entry_places, export_one};
+use crate::exported::{Export, export_one};
 use crate::fault::LibraryFault;
 use crate::units::{ExportSpec, UnitSource};
+use import_sets::firsts::entry_places;
 use ls_base::{Items, Mem};
 use std::alloc::Global;
 use std::collections::{BTreeMap, BTreeSet};

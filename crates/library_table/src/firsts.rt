@@ -2,29 +2,14 @@
 ghost use Rattle.std.specs.Prelude.{◌≡◌, ℕ, List, None, Some, if◌then◌else◌, IfOk, OnOk};
 ghost use Rattle.std.specs.BTreeMap.{get_by_text};
 ghost use Rattle.std.specs.Str.{bytes_eq};
-ghost use Rattle.library_table.specs.Named.{is_name, first_of, place_if, place_named};
+ghost use Rattle.library_table.specs.Named.{is_name, place_named};
+ghost use Rattle.import_sets.specs.Firsts.{first_of, place_if};
 
 use crate::units::UnitSource;
+use import_sets::firsts::note_first;
 use ls_base::{Mem, Text};
 use std::alloc::Global;
 use std::collections::BTreeMap;
-
-/// Notes the place of a name, if it is new.
-pub fn note_first(
-    alloc: Global,
-    places: &mut BTreeMap<String, usize>,
-    name: &str,
-    place: usize,
-) -> Mem<()>
-    ensures { OnOk result ((s : List ℕ) → get_by_text places.new s
-        ≡ first_of (get_by_text places.old s) (place_if (bytes_eq name.now s) place)) }
-{
-    if places.contains_key(name) {
-        return Ok(());
-    }
-    places.insert(String::from_str(alloc, name)?, place)?;
-    Ok(())
-}
 
 /// Notes the place of a unit, if it has a name and that is new.
 fn note_unit(

@@ -3,7 +3,8 @@ ghost use Rattle.std.specs.Prelude.{◌≡◌, ◌||◌, [], ℕ, List, Some, le
 ghost use Rattle.scheme_model.specs.Program.{Placed, prepared, is_in, name_if, is_repeated, Progress, work};
 ghost use Rattle.scheme_model.specs.Requirements.{Known};
 ghost use Rattle.library_table.specs.Repeated.{repeated_places, has_standard_name};
-ghost use Rattle.library_table.specs.Orders.{with_imports, in_turn, numbers, HaveNoFault};
+ghost use Rattle.library_table.specs.Orders.{with_imports, numbers, HaveNoFault};
+ghost use Rattle.import_sets.specs.InTurn.{in_turn};
 
 /// A library is defined twice where its name is a standard library's, or it is among the repeated ones (R7RS 5.6).
 pub fn repeated_are_defined_twice()

@@ -7,7 +7,7 @@ ghost use Rattle.scheme_model.specs.Declarations.{library_of, library_with, decl
 ghost use Rattle.scheme_model.specs.Program.{has_name};
 ghost use Rattle.scheme_model.specs.Requirements.{LibraryName};
 ghost use Rattle.datum_reader.specs.Views.{datum_of, data_of};
-ghost use Rattle.library_table.specs.Looks.{end_with, IsListOf};
+ghost use Rattle.datum_reader.specs.Looks.{end_with, IsListOf};
 ghost use Rattle.library_table.specs.PartsRead.{knows, library_text};
 ghost use Rattle.library_table.specs.LibrariesRead.{IsLibraryRead, library_named};
 
@@ -15,12 +15,13 @@ use crate::export_specs::exports_read;
 use crate::fault::LibraryFault;
 use crate::flattening::{bad, declarations};
 use crate::library_names::library_name;
-use crate::look::{Look, Row, look_at, row_of};
-use crate::parts::{first_token, imports_of};
+use crate::parts::imports_of;
 use crate::requirements::known_names;
-use crate::shape_fault::ShapeFault;
 use crate::units::UnitSource;
 use datum_reader::Datum;
+use datum_reader::heads::first_token;
+use datum_reader::look::{Look, Row, look_at, row_of};
+use datum_reader::shape_fault::ShapeFault;
 use ls_base::{Items, Mem, Text};
 use std::alloc::Global;
 use std::collections::BTreeSet;

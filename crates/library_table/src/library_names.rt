@@ -6,12 +6,12 @@ ghost use Rattle.std.specs.String.{string_bytes};
 ghost use Rattle.scheme_model.specs.declared.Occ.{Occ};
 ghost use Rattle.scheme_model.specs.Trees.{Tail, tree, Numeral};
 ghost use Rattle.scheme_model.specs.Requirements.{Symbol, part_in, part_of, parts_of, library_name_of};
-ghost use Rattle.library_table.specs.Looks.{tree_at, trees_at, is_dotted};
+ghost use Rattle.datum_reader.specs.Looks.{tree_at, trees_at, is_dotted};
 ghost use Rattle.library_table.specs.PartsRead.{Reads, map_ok, part_text, library_text, name_in_list, Puts, PutsAll};
 
-use crate::look::{Look, Row, look_at, row_of};
-use crate::shape_fault::ShapeFault;
 use datum_reader::Datum;
+use datum_reader::look::{Look, Row, look_at, row_of};
+use datum_reader::shape_fault::ShapeFault;
 use ls_base::{Mem, Text};
 use scheme_tokens::spell;
 use std::alloc::Global;

@@ -5,11 +5,12 @@ ghost use Rattle.scheme_model.specs.Program.{Placed};
 ghost use Rattle.library_table.specs.Sources.{TellsNames, AreUnits};
 ghost use Rattle.library_table.specs.Orders.{Answers};
 
-use crate::circles::{names_at, on_circles};
+use crate::circles::names_at;
 use crate::fault::LibraryFault;
 use crate::graph::graph;
-use crate::turns::turns;
 use crate::units::UnitSource;
+use import_sets::circles::on_circles;
+use import_sets::turns::turns;
 use ls_base::Items;
 use std::alloc::Global;
 
@@ -23,10 +24,11 @@ pub fn order(alloc: Global, units: &[UnitSource]) -> Result<Items<u32>, LibraryF
 {
     let graph = graph(alloc, units)?;
     let rows = graph.as_slice();
-    let places = on_circles(alloc, rows)?;
+    let circles = on_circles(alloc, rows)?;
+    let places = circles.as_slice();
     if places.is_empty() {
         return Ok(turns(alloc, rows)?);
     }
-    let names = names_at(alloc, units, places.as_slice())?;
+    let names = names_at(alloc, units, places)?;
     Err(LibraryFault::Cycle(names))
 }

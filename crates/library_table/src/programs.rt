@@ -3,30 +3,18 @@ ghost use Rattle.std.specs.Prelude.{◌≡◌, ◌++◌, ◌∷◌, [], filter, 
 ghost use Rattle.scheme_model.specs.Data.{Datum as ModelDatum};
 ghost use Rattle.scheme_model.specs.Declarations.{is_proper, program_forms};
 ghost use Rattle.datum_reader.specs.Views.{datum_of, data_of};
-ghost use Rattle.library_table.specs.UnitsRead.{first_token, forms_of, is_import, not_library, rest_forms, IsProgramRead, AreSpecs, AreExportsRead};
+ghost use Rattle.datum_reader.specs.FirstTokens.{first_token};
+ghost use Rattle.library_table.specs.UnitsRead.{forms_of, is_import, not_library, rest_forms, IsProgramRead, AreSpecs, AreExportsRead};
 ghost use Rattle.scheme_model.specs.Program.{specs_from, exports_from};
 
 use crate::export_specs::exports_read;
-use crate::look::{Look, look_at};
-use crate::parts::{first_token, imports_of, is_headed};
+use crate::parts::imports_of;
 use crate::units::{UnitForm, UnitSource};
 use datum_reader::Datum;
+use datum_reader::heads::{first_token, is_headed, is_proper};
 use ls_base::{Items, Mem, Span};
 use std::alloc::Global;
 use syntax_tree::units::UnitKind;
-
-/// Whether a datum is a list that isn't dotted.
-fn is_proper(datum: &Datum) -> bool
-    ensures { result ≡ is_proper (datum_of datum.now) }
-{
-    match look_at(datum) {
-        Look::List(_, dotted) => !dotted,
-        Look::Name(_) => false,
-        Look::Implied(_) => false,
-        Look::Numeral(_) => false,
-        Look::Other => false,
-    }
-}
 
 /// Whether a datum imports, where it stands before all that doesn't.
 fn is_import(datum: &Datum) -> bool

@@ -9,6 +9,7 @@ ghost use Rattle.library_table.specs.Repeated.{repeated_places};
 
 use crate::firsts::first_places;
 use crate::units::UnitSource;
+use import_sets::places::push_if;
 use ls_base::{Items, Mem, Text};
 use std::alloc::Global;
 use std::collections::BTreeMap;
@@ -43,16 +44,6 @@ fn later_places(
         )?;
     }
     Ok(places)
-}
-
-/// Adds a place, if it is told to.
-fn push_if(places: &mut Items<u32>, add: bool, place: u32) -> Mem<()>
-    ensures { OnOk result (places.new ≡ (if add then places.old ++ place ∷ [] else places.old)) }
-{
-    if add {
-        places.push(place)?;
-    }
-    Ok(())
 }
 
 /// Whether the first unit with a name is another.

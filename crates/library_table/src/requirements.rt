@@ -5,14 +5,14 @@ ghost use Rattle.scheme_model.specs.declared.Occ.{Occ};
 ghost use Rattle.scheme_model.specs.Trees.{Trees, Tail, list as list_tree};
 ghost use Rattle.scheme_model.specs.Requirements.{holds, all_hold, some_holds, none_holds, is_else, clause_holds};
 ghost use Rattle.scheme_model.specs.Program.{has_name};
-ghost use Rattle.library_table.specs.Looks.{tree_at, trees_at, is_dotted};
+ghost use Rattle.datum_reader.specs.Looks.{tree_at, trees_at, is_dotted};
 ghost use Rattle.library_table.specs.PartsRead.{Reads, knows};
 ghost use Rattle.library_table.specs.Chosen.{library_holds, connective_named, word_holds, is_empty};
 
 use crate::library_names::library_name;
-use crate::look::{Look, Row, look_at, row_of, word_in};
-use crate::shape_fault::ShapeFault;
 use datum_reader::Datum;
+use datum_reader::look::{Look, Row, look_at, row_of, word_in};
+use datum_reader::shape_fault::ShapeFault;
 use ls_base::{Mem, Text};
 use std::alloc::Global;
 use std::collections::BTreeSet;

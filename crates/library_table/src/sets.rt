@@ -8,17 +8,19 @@ ghost use Rattle.scheme_model.specs.Entries.{ImportSet as ModelSet, modifier_nam
 ghost use Rattle.scheme_model.specs.Program.{library_datum, second_or, spec_of};
 ghost use Rattle.scheme_model.specs.Declarations.{list_parts, proper_parts};
 ghost use Rattle.datum_reader.specs.Views.{datum_of, data_of};
-ghost use Rattle.library_table.specs.Looks.{tree_at, trees_at, is_dotted, bytes_of, end_with, symbol_now, IsListOf};
-ghost use Rattle.library_table.specs.Forms.{place};
-ghost use Rattle.library_table.specs.SetsRead.{modifier_as, modifier_seen, modifier_for, is_list, IsModified, IsModifiedBy, IsSetText, IsSetMade, inner_datum, IsImportSpec};
+ghost use Rattle.datum_reader.specs.Looks.{tree_at, trees_at, is_dotted, bytes_of, end_with, symbol_now, IsListOf};
+ghost use Rattle.datum_reader.specs.Forms.{place};
+ghost use Rattle.library_table.specs.SetsRead.{modifier_as, modifier_seen, modifier_for, IsModified, IsModifiedBy, IsSetText, IsSetMade, inner_datum, IsImportSpec};
+ghost use Rattle.datum_reader.specs.Looks.{is_list};
 
 use crate::library_names::library_name;
-use crate::look::{Look, Row, look_at, row_of, word_in};
 use crate::names::{names_in, only_name, pairs_in};
-use crate::shape_fault::ShapeFault;
-use crate::start::Start;
 use crate::units::ImportSpec;
 use datum_reader::Datum;
+use datum_reader::heads::{is_list, second_or_itself};
+use datum_reader::look::{Look, Row, look_at, row_of, word_in};
+use datum_reader::shape_fault::ShapeFault;
+use datum_reader::start::Start;
 use import_sets::ImportSet;
 use ls_base::{Mem, Memory, Span};
 use std::alloc::Global;
@@ -66,19 +68,6 @@ fn modifier_of(word: &str) -> Option<Modifier>
         return Some(Modifier::Rename);
     }
     None
-}
-
-/// Whether a datum is a list.
-fn is_list(datum: &Datum) -> bool
-    ensures { result ≡ is_list (datum_of datum.now) }
-{
-    match look_at(datum) {
-        Look::List(_, _) => true,
-        Look::Name(_) => false,
-        Look::Implied(_) => false,
-        Look::Numeral(_) => false,
-        Look::Other => false,
-    }
 }
 
 /// The modifier that a list is by its parts, if it is one.
@@ -207,36 +196,6 @@ fn set_of_list(
             let inner = set_of(alloc, found.inner, start)?;
             or_bad(modified_set(alloc, found.modifier, inner, found.rest, dotted, start))
         }
-    }
-}
-
-/// The second part of a list that isn't dotted, or the datum itself.
-fn second_or_itself(datum: &Datum) -> &Datum
-    ensures { datum_of result.now ≡ second_or (datum_of datum.now) (list_parts (datum_of datum.now)) }
-{
-    match look_at(datum) {
-        Look::List(parts, dotted) => second_of(datum, parts, dotted),
-        Look::Name(_) => datum,
-        Look::Implied(_) => datum,
-        Look::Numeral(_) => datum,
-        Look::Other => datum,
-    }
-}
-
-/// The second of these parts, or the datum itself.
-fn second_of<'a>(datum: &'a Datum, parts: &'a [Datum], dotted: bool) -> &'a Datum
-    ensures { (end : Option ModelDatum) → is_some end ≡ dotted →
-        datum_of result.now ≡ second_or (datum_of datum.now) (proper_parts (row (data_of parts.now) (end_with end))) }
-{
-    if dotted {
-        return datum;
-    }
-    match row_of(parts) {
-        Row::Empty => datum,
-        Row::Parts(_, behind) => match row_of(behind) {
-            Row::Empty => datum,
-            Row::Parts(second, _) => second,
-        },
     }
 }
 

@@ -5,6 +5,7 @@ pub mod DraftRows
 pub mod PairLaws
 pub mod ValueLaws
 pub mod IndexLaws
+pub mod PlaceLaws
 pub mod NameLaws
 pub mod WalkLaws
 pub mod AddLaws

@@ -16,10 +16,10 @@ key_by Less m n h = let e : nat_eq m n ≡ false = grind (arith, nat_tests) in s
 key_by Greater m n h = let e : nat_eq m n ≡ false = grind (arith, nat_tests) in sym e
 key_by Equal m n h = let e : nat_eq m n ≡ true = grind (arith, nat_tests) in sym e
 
-key_is : (m n : ℕ) → is_eq (nat_cmp m n) ≡ nat_eq m n
+pub key_is : (m n : ℕ) → is_eq (nat_cmp m n) ≡ nat_eq m n
 key_is m n = key_by (nat_cmp m n) m n (ranked m n (nat_cmp m n) refl)
 
-if_or : (a b : Bool) → (if a then true else b) ≡ (b || a)
+pub if_or : (a b : Bool) → (if a then true else b) ≡ (b || a)
 if_or true true = refl
 if_or true false = refl
 if_or false true = refl

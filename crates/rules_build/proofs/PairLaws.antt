@@ -50,7 +50,7 @@ module _ {A B : Type 0} (R : A → B → Type 0) where
   past (suc k) (x ∷ xs) (y ∷ ys) h l = past k xs ys h.1 (omega arith)
 
 -- one more of a list
-take_more : {A : Type 0} (k : ℕ) (xs : List A) (d : A) → k < length xs → take (k + 1) xs ≡ take k xs ++ get_or xs k d ∷ []
+pub take_more : {A : Type 0} (k : ℕ) (xs : List A) (d : A) → k < length xs → take (k + 1) xs ≡ take k xs ++ get_or xs k d ∷ []
 take_more {A} k [] d l = absurd (omega arith)
 take_more {A} zero (x ∷ xs) d l = refl
 take_more {A} (suc k) (x ∷ xs) d l =
@@ -75,19 +75,6 @@ module _ {A B C D : Type 0} (R : A → B → Type 0) (S : C → D → Type 0) (F
       let p = split_last R (take k xs) (get_or xs k d) ys (subst (λ (v : List A). Paired R v ys) (take_more k xs d l) h) in
       let last = join_last S zs z (F p.front) (f p.last) (made p.front p.before) (one p.last p.related) in
       subst (λ (v : List C). Paired S v (F ys)) (sym e) (subst (λ (v : List D). Paired S (zs ++ z ∷ []) v) (sym (ap F p.split ∙ step p.front p.last)) last)
-
-  -- the same, where the element decides whether one is made
-  pub made_where : (f : B → D) → (xs : List A) (k : ℕ) (d : A) (zs ws : List C) (z : C) → k < length xs → MadeOf (take k xs) zs → ws ≡ zs ++ z ∷ [] → ((ys : List B) (y : B) → R (get_or xs k d) y → F (ys ++ y ∷ []) ≡ F ys ++ f y ∷ []) →
-      ((y : B) → R (get_or xs k d) y → S z (f y)) → MadeOf (take (k + 1) xs) ws
-  made_where f xs k d zs ws z l made e step one = λ ys h.
-      let p = split_last R (take k xs) (get_or xs k d) ys (subst (λ (v : List A). Paired R v ys) (take_more k xs d l) h) in
-      let last = join_last S zs z (F p.front) (f p.last) (made p.front p.before) (one p.last p.related) in
-      subst (λ (v : List C). Paired S v (F ys)) (sym e) (subst (λ (v : List D). Paired S (zs ++ z ∷ []) v) (sym (ap F p.split ∙ step p.front p.last p.related)) last)
-
-  pub made_same : (xs : List A) (k : ℕ) (d : A) (zs : List C) → k < length xs → MadeOf (take k xs) zs → ((ys : List B) (y : B) → R (get_or xs k d) y → F (ys ++ y ∷ []) ≡ F ys) → MadeOf (take (k + 1) xs) zs
-  made_same xs k d zs l made same = λ ys h.
-      let p = split_last R (take k xs) (get_or xs k d) ys (subst (λ (v : List A). Paired R v ys) (take_more k xs d l) h) in
-      subst (λ (v : List D). Paired S zs v) (sym (ap F p.split ∙ same p.front p.last p.related)) (made p.front p.before)
 
   pub made_all : (xs : List A) (k : ℕ) (zs : List C) → length xs ≤ k → MadeOf (take k xs) zs → MadeOf xs zs
   made_all xs k zs l made = subst (λ (v : List A). MadeOf v zs) (take_all k xs l) made

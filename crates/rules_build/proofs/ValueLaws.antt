@@ -5,9 +5,8 @@ use Rattle.std.proofs.Common.{Bor}
 use Rattle.std.specs.Prelude.{if◌then◌else◌, ◌==◌, Vec, Result, Ok, Err, IsErrAnd}
 use Rattle.std.proofs.lemmas.Bool.Decides.{nat_tests}
 use Rattle.std.specs.declared.alloc.Global.{Global}
-use Rattle.scheme_model.specs.Trees.{Tree}
 use Rattle.scheme_model.specs.Matching.{Value, One, Many, Values, no_values, value, Binding, ◌>>=◌}
-use Rattle.scheme_model.specs.Building.{value_of, stands_in, used_in, value_count, agree_with, places_of, or_zero, first_value, later_values, first_place, later_places}
+use Rattle.scheme_model.specs.Building.{value_of, value_count, agree_with, places_of, or_zero, first_value, later_values, first_place, later_places}
 use Rattle.scheme_model.specs.Ident.{Ident as Identifier, same_ident}
 use Rattle.syntax_tree.specs.Works.{StandsFor}
 use Rattle.syntax_tree.specs.Macros.{AreValues, IsRest}
@@ -108,24 +107,6 @@ first_last (n ∷ ns) m = ap (λ (xs : Bindings). first_one n ∷ xs) (first_las
 pub later_last : (ms : Bindings) (m : Binding Identifier Identifier) → later_places (ms ++ m ∷ []) ≡ later_places ms ++ later_one m ∷ []
 later_last [] m = refl
 later_last (n ∷ ns) m = ap (λ (xs : Bindings). later_one n ∷ xs) (later_last ns m)
-
-module _ (t : Tree Identifier) where
-  pub used_last : (ms : Bindings) (m : Binding Identifier Identifier) → stands_in same_ident m.variable t ≡ true → used_in same_ident t (ms ++ m ∷ []) ≡ used_in same_ident t ms ++ m ∷ []
-  used_last [] m h = ap (λ (b : Bool). if b then m ∷ [] else []) h
-  used_last (n ∷ ns) m h = used_more n ns m (stands_in same_ident n.variable t) refl (used_last ns m h)
-    where
-      used_more : (n : Binding Identifier Identifier) (ns : Bindings) (m : Binding Identifier Identifier) (b : Bool) → stands_in same_ident n.variable t ≡ b → used_in same_ident t (ns ++ m ∷ []) ≡ used_in same_ident t ns ++ m ∷ [] →
-          used_in same_ident t (n ∷ (ns ++ m ∷ [])) ≡ used_in same_ident t (n ∷ ns) ++ m ∷ []
-      used_more n ns m true e rest =
-          ap (λ (b : Bool). if b then n ∷ used_in same_ident t (ns ++ m ∷ []) else used_in same_ident t (ns ++ m ∷ [])) e ∙ ap (λ (xs : Bindings). n ∷ xs) rest
-          ∙ sym (ap (λ (b : Bool). (if b then n ∷ used_in same_ident t ns else used_in same_ident t ns) ++ m ∷ []) e)
-      used_more n ns m false e rest =
-          ap (λ (b : Bool). if b then n ∷ used_in same_ident t (ns ++ m ∷ []) else used_in same_ident t (ns ++ m ∷ [])) e ∙ rest
-          ∙ sym (ap (λ (b : Bool). (if b then n ∷ used_in same_ident t ns else used_in same_ident t ns) ++ m ∷ []) e)
-
-  pub unused_last : (ms : Bindings) (m : Binding Identifier Identifier) → stands_in same_ident m.variable t ≡ false → used_in same_ident t (ms ++ m ∷ []) ≡ used_in same_ident t ms
-  unused_last [] m h = ap (λ (b : Bool). if b then m ∷ [] else []) h
-  unused_last (n ∷ ns) m h = let e = unused_last ns m h in λ j. if stands_in same_ident n.variable t then n ∷ e j else e j
 
 -- ---- the value of a variable
 

@@ -1,9 +1,10 @@
 -- What variables stand for at one place of the ellipses around a part of a template.
-use Rattle.std.specs.Prelude.{◌≡◌, ℕ, List, [], ◌∷◌, Option, Some, None, nat_eq, if◌then◌else◌, Result, Ok, Err, Vec}
-use Rattle.std.specs.BTreeMap.{get}
+use Rattle.std.specs.Prelude.{◌≡◌, ℕ, zero, suc, Bool, false, List, [], ◌∷◌, Option, Some, None, nat_eq, if◌then◌else◌, Result, Ok, Err, Vec}
+use Rattle.std.specs.List.{list_any, slice_get}
+use Rattle.std.specs.BTreeMap.{BTreeMap, get}
 use Rattle.std.specs.Ordering.{nat_cmp}
 use Rattle.std.specs.declared.alloc.Global.{Global}
-use Rattle.scheme_model.specs.Matching.{Value, One, Many, Values, no_values, value, Binding}
+use Rattle.scheme_model.specs.Matching.{Value, One, Many, Values, Binding}
 use Rattle.scheme_model.specs.Building.{or_zero}
 use Rattle.scheme_model.specs.Ident.{Ident as Identifier}
 use Rattle.syntax_tree.specs.Works.{StandsFor, CanName}
@@ -68,9 +69,37 @@ abbrev pub value_by_number : List code.Bound → ℕ → Option code_value.Value
 value_by_number [] n = None
 value_by_number (b ∷ bs) n = if nat_eq n b.variable then Some b.value else value_by_number bs n
 
--- for each number it has what the first binding of that number says
-abbrev pub IsIndexOf : List code.Bound → code_index.Index → Type 0
-IsIndexOf bounds index = (n : ℕ) → get nat_cmp index.values n ≡ value_by_number bounds n
+abbrev items_of : Option (Vec ℕ Global) → List ℕ
+items_of None = []
+items_of (Some v) = v.items
+
+-- whether the binding at a place is of a number that passes
+abbrev pub has_at : (ℕ → Bool) → List code.Bound → ℕ → Bool
+has_at p [] q = false
+has_at p (b ∷ bs) zero = p b.variable
+has_at p (b ∷ bs) (suc q) = has_at p bs q
+
+-- the places that a map has at a number
+abbrev pub places_at : BTreeMap ℕ (Vec ℕ Global) → ℕ → List ℕ
+places_at places n = items_of (get nat_cmp places n)
+
+-- for each number it has the places of the bindings of that number
+abbrev pub ArePlaces : List code.Bound → BTreeMap ℕ (Vec ℕ Global) → Type 0
+ArePlaces bounds places = (n q : ℕ) → list_any (nat_eq q) (places_at places n) ≡ has_at (λ v. nat_eq v n) bounds q
+
+abbrev pub with_one : Option code.Bound → List code.Bound → List code.Bound
+with_one None bs = bs
+with_one (Some b) bs = b ∷ bs
+
+-- the bindings at these places, one after the other
+abbrev pub bounds_at : List code.Bound → List ℕ → List code.Bound
+bounds_at bs [] = []
+bounds_at bs (k ∷ ks) = with_one (slice_get bs k) (bounds_at bs ks)
+
+-- for each number it has what the first binding of that number says, and the places of all
+pub record IsIndexOf (bounds : List code.Bound) (index : code_index.Index) : Type 0 where
+  pub values : (n : ℕ) → get nat_cmp index.values n ≡ value_by_number bounds n
+  pub places : ArePlaces bounds index.places
 
 -- lengths differ, and nothing else is answered
 abbrev pub Differ : {X : Type 0} → Option X → BuildFault → Type 0

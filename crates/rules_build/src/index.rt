@@ -1,5 +1,8 @@
 //! What variables stand for, by number, so that an identifier is not compared with each of them.
-ghost use Rattle.std.specs.Prelude.{List, IfOk};
+ghost use Rattle.std.specs.Prelude.{◌≡◌, ◌||◌, ◌&&◌, ℕ, nat_eq, List, IfOk, OnOk};
+ghost use Rattle.std.specs.List.{list_any};
+ghost use Rattle.std.specs.BTreeSet.{contains};
+ghost use Rattle.std.specs.Ordering.{nat_cmp};
 ghost use Rattle.scheme_model.specs.Matching.{Binding as ModelBinding};
 ghost use Rattle.scheme_model.specs.Building.{value_of};
 ghost use Rattle.scheme_model.specs.Ident.{Ident as Identifier, same_ident};
@@ -7,19 +10,21 @@ ghost use Rattle.syntax_tree.specs.Names.{AreToldApart};
 ghost use Rattle.syntax_tree.specs.Macros.{IsIdent};
 ghost use Rattle.syntax_tree.specs.declared.trees.Work.{Work};
 ghost use Rattle.syntax_tree.specs.declared.trees.table.Region.{Region};
-ghost use Rattle.rules_build.specs.Values.{AreBound, IsFound, IsIndexOf};
+ghost use Rattle.rules_build.specs.Values.{AreBound, IsFound, IsIndexOf, ArePlaces, places_at, has_at};
 ghost use Rattle.rules_build.specs.declared.values.Bound.{Bound as AnyBound};
 
 use crate::values::{Bound, Value};
 use ls_base::{Mem, Memory};
 use std::alloc::Global;
-use std::collections::BTreeMap;
+use std::collections::{BTreeMap, BTreeSet};
 use syntax_tree::symbols::IdNo;
 
-/// Variables with what they stand for. Of a variable with several bindings it has the first.
+/// Variables with what they stand for, and the places of their bindings. Of a variable with several bindings the first says what
+/// it stands for.
 #[derive(Drop)]
 pub struct Index<'a> {
     pub values: BTreeMap<IdNo, Value<'a>>,
+    pub places: BTreeMap<IdNo, Vec<usize>>,
 }
 
 /// The variables of bindings. It goes from the last binding to the first, so that the first stays.
@@ -32,7 +37,37 @@ pub fn index_of<'a>(alloc: Global, bounds: &[Bound<'a>]) -> Mem<Index<'a>>
         let bound = bounds[count - 1 - behind];
         values.insert(bound.variable, bound.value)?;
     }
-    Ok(Index { values })
+    let places = places_of_all(alloc, bounds)?;
+    Ok(Index { values, places })
+}
+
+/// The places of the bindings of each variable.
+fn places_of_all(alloc: Global, bounds: &[Bound]) -> Mem<BTreeMap<IdNo, Vec<usize>>>
+    ensures { IfOk result (λ places. ArePlaces bounds.now places) }
+{
+    let mut places = BTreeMap::new(alloc);
+    for k in 0..bounds.len() {
+        add_place(alloc, &mut places, bounds[k].variable, k)?;
+    }
+    Ok(places)
+}
+
+/// Adds a place of a variable.
+fn add_place(
+    alloc: Global,
+    places: &mut BTreeMap<IdNo, Vec<usize>>,
+    variable: IdNo,
+    place: usize,
+) -> Mem<()>
+    ensures { (n q : ℕ) → OnOk result (list_any (nat_eq q) (places_at places.new n) ≡ (list_any (nat_eq q) (places_at places.old n) || (nat_eq variable n && nat_eq q place))) }
+{
+    let mut those = match places.remove(&variable) {
+        None => Vec::new(alloc),
+        Some(those) => those,
+    };
+    those.push(place)?;
+    places.insert(variable, those)?;
+    Ok(())
 }
 
 /// What an identifier stands for, if it is one of these variables.
@@ -45,4 +80,28 @@ pub fn value_of<'a>(index: &Index<'a>, id: IdNo) -> Option<Value<'a>>
         None => None,
         Some(value) => Some(*value),
     }
+}
+
+/// The places of the bindings of some variables.
+pub fn places_among(alloc: Global, index: &Index, names: &BTreeSet<IdNo>) -> Mem<BTreeSet<usize>>
+    ensures { (bounds : List AnyBound) (q : ℕ) → ArePlaces bounds index.now.places →
+        IfOk result (λ places. contains nat_cmp places q ≡ has_at (contains nat_cmp names.now) bounds q) }
+{
+    let mut places = BTreeSet::new(alloc);
+    for name in names {
+        if let Some(those) = index.places.get(name) {
+            add_places(those.as_slice(), &mut places)?;
+        }
+    }
+    Ok(places)
+}
+
+/// Adds places to others.
+fn add_places(those: &[usize], places: &mut BTreeSet<usize>) -> Mem<()>
+    ensures { (q : ℕ) → OnOk result (contains nat_cmp places.new q ≡ (contains nat_cmp places.old q || list_any (nat_eq q) those.now)) }
+{
+    for place in those {
+        places.insert(*place)?;
+    }
+    Ok(())
 }

@@ -1,6 +1,6 @@
 //! The variables that stand in a part of a template.
-ghost use Rattle.std.specs.Prelude.{◌≡◌, ◌||◌, ℕ, List, IfOk, OnOk};
-ghost use Rattle.std.specs.BTreeSet.{contains};
+ghost use Rattle.std.specs.Prelude.{◌≡◌, ◌||◌, ◌<◌, ℕ, true, length, List, IfOk, OnOk};
+ghost use Rattle.std.specs.BTreeSet.{contains, IsOrdered};
 ghost use Rattle.std.specs.Ordering.{nat_cmp};
 ghost use Rattle.scheme_model.specs.Trees.{Tree as ModelTree, Trees};
 ghost use Rattle.scheme_model.specs.Matching.{Binding as ModelBinding};
@@ -10,8 +10,9 @@ ghost use Rattle.syntax_tree.specs.Looks.{StandsWithin, PartsWithin, PartsStand}
 ghost use Rattle.syntax_tree.specs.Macros.{IsIdent};
 ghost use Rattle.syntax_tree.specs.Works.{StandsFor};
 ghost use Rattle.syntax_tree.specs.declared.trees.table.Region.{Region};
-ghost use Rattle.rules_build.specs.Values.{AreBound};
+ghost use Rattle.rules_build.specs.Values.{AreBound, ArePlaces, bounds_at};
 
+use crate::index::{Index, places_among};
 use crate::values::Bound;
 use ls_base::{Mem, Memory};
 use std::alloc::Global;
@@ -27,8 +28,10 @@ pub fn used_in<'a>(
     template: Tree,
     left: u32,
     bounds: &[Bound<'a>],
+    index: &Index,
 ) -> Mem<Vec<Bound<'a>>>
-    requires { StandsWithin work.now template left }
+    requires template { StandsWithin work.now template left }
+    requires index { ArePlaces bounds.now index.now.places }
     ensures { (region : Region) (t : ModelTree Identifier) (ms : List (ModelBinding Identifier Identifier)) →
         StandsFor work.now template t → AreBound work.now region bounds.now ms →
         IfOk result (λ used. AreBound work.now region used.items (used_in same_ident t ms)) }
@@ -36,11 +39,23 @@ pub fn used_in<'a>(
     work.symbols.told_apart();
     let mut names = BTreeSet::new(alloc);
     collect(work, template, left, &mut names)?;
+    let places = places_among(alloc, index, &names)?;
+    Ok(at_places(alloc, bounds, &places)?)
+}
+
+/// The bindings at these places, in order.
+fn at_places<'a>(
+    alloc: Global,
+    bounds: &[Bound<'a>],
+    places: &BTreeSet<usize>,
+) -> Mem<Vec<Bound<'a>>>
+    requires { (q : ℕ) → contains nat_cmp places.now q ≡ true → q < length bounds.now }
+    ensures used { IfOk result (λ used. used.items ≡ bounds_at bounds.now places.now.keys) }
+    ensures ordered { OnOk result (IsOrdered nat_cmp places.now) }
+{
     let mut used = Vec::new(alloc);
-    for bound in bounds {
-        if names.contains(&bound.variable) {
-            used.push(*bound)?;
-        }
+    for place in places {
+        used.push(bounds[*place])?;
     }
     Ok(used)
 }

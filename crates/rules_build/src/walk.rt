@@ -120,7 +120,7 @@ impl Walk<'_> {
             if times == 0 {
                 self.repeated(0, items[k], escaped, bounds, index, left, room, plans)?;
             } else {
-                let used = used_in(self.alloc, self.work, items[k], left, bounds)?;
+                let used = used_in(self.alloc, self.work, items[k], left, bounds, index)?;
                 let places = index_of(self.alloc, &used)?;
                 self.repeated(times, items[k], escaped, &used, &places, left, room, plans)?;
             }

@@ -11,6 +11,7 @@ ghost use Rattle.datum_reader.specs.Seeded.{atom_tree};
 ghost use Rattle.datum_reader.specs.Seeding.{Interns};
 
 use crate::datum::{Atom, Mark};
+use crate::look::implied_name;
 use ls_base::{Mem, Text};
 use scheme_model::Occ;
 use std::alloc::Global;
@@ -41,18 +42,6 @@ pub fn mark_node(symbols: &mut Symbols, mark: Mark, unit: u32) -> Mem<Node>
     ensures { (occ : Occ) → Interns symbols.old symbols.new (atom_tree unit (implied (mark_of mark)) occ) result }
 {
     Ok(name_node(symbols, implied_name(mark), unit, None)?)
-}
-
-/// The symbol that a mark implies.
-fn implied_name(mark: Mark) -> &'static str
-    ensures { result.now ≡ mark_symbol (mark_of mark) }
-{
-    match mark {
-        Mark::Quote => "quote",
-        Mark::Quasi => "quasiquote",
-        Mark::Unquote => "unquote",
-        Mark::Splice => "unquote-splicing",
-    }
 }
 
 /// The node of a bytevector, which keeps its numerals with one space between each two.

@@ -1,6 +1,6 @@
 use Rattle.std.proofs.Common.{get_or, refl, arith}
 use Rattle.library_table.specs.Graphs.{name_at}
-use Rattle.library_table.proofs.ReachLaws.{in_at}
+use Rattle.import_sets.proofs.ReachLaws.{in_at}
 use Rattle.library_table.proofs.CircleLaws.{names_next}
 use Rattle.library_table.proofs.circles.names_at.Goals as goal
 

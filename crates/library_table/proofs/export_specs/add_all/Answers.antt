@@ -3,8 +3,8 @@ use Rattle.scheme_model.specs.Program as model
 use Rattle.scheme_model.specs.Program.{export_of}
 use Rattle.datum_reader.specs.declared.datum.Datum.{Datum}
 use Rattle.datum_reader.specs.Views.{datum_of}
-use Rattle.library_table.specs.Forms.{place}
-use Rattle.library_table.specs.Looks.{plain}
+use Rattle.datum_reader.specs.Forms.{place}
+use Rattle.datum_reader.specs.Looks.{plain}
 use Rattle.library_table.specs.UnitsRead.{IsExportRead}
 use Rattle.library_table.proofs.Gathering.{gathered_none, gathered_more, gathered_all, adds_as, numbered, exports_each, export_added}
 use Rattle.library_table.proofs.export_specs.add_all.Goals as goal

@@ -1,7 +1,7 @@
 use Rattle.scheme_model.specs.Program.{export_of}
 use Rattle.datum_reader.specs.Views.{datum_of}
-use Rattle.library_table.specs.Forms.{place}
-use Rattle.library_table.specs.Looks.{plain}
+use Rattle.datum_reader.specs.Forms.{place}
+use Rattle.datum_reader.specs.Looks.{plain}
 use Rattle.library_table.specs.UnitsRead.{IsExportRead}
 use Rattle.library_table.proofs.Gathering.{GatheredUpTo}
 use Rattle.library_table.proofs.export_specs.add_all.Given as goal

@@ -1,5 +1,5 @@
 use Rattle.datum_reader.specs.Views.{datum_of}
-use Rattle.library_table.specs.Forms.{place}
+use Rattle.datum_reader.specs.Forms.{place}
 use Rattle.library_table.proofs.ExportRows.{by_list}
 use Rattle.library_table.proofs.export_specs.export_of.Goals as goal
 

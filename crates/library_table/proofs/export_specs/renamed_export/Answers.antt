@@ -1,4 +1,4 @@
-use Rattle.library_table.specs.Forms.{place}
+use Rattle.datum_reader.specs.Forms.{place}
 use Rattle.library_table.proofs.ExportRows.{by_parts}
 use Rattle.library_table.proofs.export_specs.renamed_export.Goals as goal
 

@@ -1,8 +1,8 @@
 use Rattle.std.proofs.Common.{sym, ap, ◌∙◌}
 use Rattle.std.specs.Option.{option_map}
 use Rattle.import_sets.specs.Sets.{named}
-use Rattle.library_table.specs.Forms.{place}
-use Rattle.library_table.specs.Looks.{tree_at}
+use Rattle.datum_reader.specs.Forms.{place}
+use Rattle.datum_reader.specs.Looks.{tree_at}
 use Rattle.library_table.proofs.ExportRows.{two_named}
 use Rattle.library_table.proofs.export_specs.two_names.Goals as goal
 

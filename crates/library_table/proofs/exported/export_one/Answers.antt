@@ -2,7 +2,8 @@ use Rattle.std.proofs.Common.{◌≡◌, ℕ, List, cond, Some, None, sym, ap, �
 use Rattle.std.specs.BTreeMap.{get_by_text}
 use Rattle.library_table.specs.declared.exported.Export.TheVariants.{Given, Refused}
 use Rattle.library_table.specs.declared.fault.LibraryFault.TheVariants.{NotDefined, SameExport}
-use Rattle.library_table.specs.Exported.{entry_named, place_of, exported, export_one}
+use Rattle.library_table.specs.Exported.{entry_named, exported, export_one}
+use Rattle.import_sets.specs.Firsts.{place_of}
 use Rattle.library_table.proofs.ExportLaws.{entry_at_place, entry_read, no_entry}
 use Rattle.library_table.proofs.exported.export_one.Goals as goal
 

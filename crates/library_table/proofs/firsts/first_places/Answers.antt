@@ -2,7 +2,7 @@ use Rattle.std.proofs.Common.{arith}
 use Rattle.std.specs.BTreeMap.{get_by_text}
 use Rattle.library_table.specs.declared.units.UnitSource.{UnitSource}
 use Rattle.library_table.specs.Named.{is_name}
-use Rattle.library_table.proofs.NamedLaws.{first_step}
+use Rattle.import_sets.proofs.FirstLaws.{first_step}
 use Rattle.library_table.proofs.firsts.first_places.Goals as goal
 
 pub loop-place-preserved : goal.loop-place-preserved

@@ -3,11 +3,11 @@ use Rattle.std.specs.Prelude.{not}
 use Rattle.scheme_model.specs.Data.{place_of, row, none}
 use Rattle.scheme_model.specs.Declarations.{declaration, declarations, declared_as, proper_parts, clauses, flat_of}
 use Rattle.datum_reader.specs.Views.{datum_of, data_of}
-use Rattle.library_table.specs.Looks.{end_with}
+use Rattle.datum_reader.specs.Looks.{end_with}
 use Rattle.library_table.specs.PartsRead.{knows}
 use Rattle.library_table.specs.Flattened.{Chooses, kept, is_declared, begun_of, choice_of}
 use Rattle.library_table.specs.declared.flattening.Declared.{Declared}
-use Rattle.library_table.specs.declared.shape_fault.ShapeFault.{ShapeFault}
+use Rattle.datum_reader.specs.declared.shape_fault.ShapeFault.{ShapeFault}
 use Rattle.library_table.proofs.SetRows.{parts_lighter, first_lighter}
 use Rattle.library_table.proofs.RequirementRows.{item_lighter}
 use Rattle.library_table.proofs.FlatRows.{flattens_err, bad_flattens, flattens_same, flat_none, flat_more, flat_fails, flat_all, flat_dotted, declared_list, kept_plain, kept_exports, atom_flat, other_flat, empty_flat}

@@ -2,9 +2,9 @@ use Rattle.std.proofs.Common.{Ok, map, ap, ◌∙◌}
 use Rattle.scheme_model.specs.Data.{row}
 use Rattle.scheme_model.specs.Declarations.{plain_form, proper_parts}
 use Rattle.datum_reader.specs.Views.{datum_of, data_of}
-use Rattle.library_table.specs.Looks.{end_with}
+use Rattle.datum_reader.specs.Looks.{end_with}
 use Rattle.library_table.specs.Flattened.{begun_of}
-use Rattle.library_table.proofs.DataRows.{dotted_parts, proper_all}
+use Rattle.datum_reader.proofs.DataRows.{dotted_parts, proper_all}
 use Rattle.library_table.proofs.FlatRows.{bad_flattens, flattens_same}
 use Rattle.library_table.proofs.flattening.begun.Goals as goal
 

@@ -5,7 +5,7 @@ use Rattle.scheme_model.specs.declared.Occ.{Occ}
 use Rattle.scheme_model.specs.Data.{row}
 use Rattle.datum_reader.specs.declared.datum.Datum as code
 use Rattle.datum_reader.specs.Views.{data_of}
-use Rattle.library_table.specs.Looks.{end_with}
+use Rattle.datum_reader.specs.Looks.{end_with}
 use Rattle.library_table.specs.PartsRead.{knows}
 use Rattle.library_table.proofs.ClauseRows.{picks, chooses_dotted}
 use Rattle.library_table.proofs.ChoiceRows.{last_is, requirement_stops, chosen_more, all_same, chosen_end, choice_err, lighter_more, some_weight}

@@ -4,7 +4,7 @@ use Rattle.scheme_model.specs.Data as model
 use Rattle.scheme_model.specs.Declarations.{clause_of}
 use Rattle.datum_reader.specs.declared.datum.Datum.{Datum}
 use Rattle.datum_reader.specs.Views.{datum_of, data_of}
-use Rattle.library_table.specs.Looks.{end_with}
+use Rattle.datum_reader.specs.Looks.{end_with}
 use Rattle.library_table.specs.Weights.{weight}
 use Rattle.library_table.proofs.ClauseRows.{clause_dotted, clause_proper, clause_weight}
 use Rattle.library_table.proofs.flattening.clause_of.Goals as goal

@@ -1,7 +1,7 @@
 use Rattle.std.proofs.Common.{ap, sym, ◌∙◌}
 use Rattle.scheme_model.specs.Declarations.{is_rename}
 use Rattle.datum_reader.specs.Views.{data_of}
-use Rattle.library_table.proofs.DataRows.{dotted_parts}
+use Rattle.datum_reader.proofs.DataRows.{dotted_parts}
 use Rattle.library_table.proofs.flattening.is_rename.Goals as goal
 
 pub returns-then-dotted : goal.returns-then-dotted

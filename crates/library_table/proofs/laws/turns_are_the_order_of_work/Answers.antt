@@ -1,7 +1,8 @@
 use Rattle.std.proofs.Common.{◌++◌, List, length, ap, ◌∙◌}
 use Rattle.std.specs.Prelude.{reverse}
 use Rattle.scheme_model.specs.Program.{UnitResult}
-use Rattle.library_table.specs.Orders.{with_imports, in_turn, numbers}
+use Rattle.library_table.specs.Orders.{with_imports, numbers}
+use Rattle.import_sets.specs.InTurn.{in_turn}
 use Rattle.library_table.proofs.WorkLaws.{numbers_of_work}
 use Rattle.library_table.proofs.laws.turns_are_the_order_of_work.Goals as goal
 

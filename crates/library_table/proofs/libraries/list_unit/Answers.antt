@@ -2,7 +2,7 @@ use Rattle.std.proofs.Common.{sym}
 use Rattle.scheme_model.specs.Data.{part, row}
 use Rattle.scheme_model.specs.Declarations.{library_of, library_with}
 use Rattle.datum_reader.specs.Views.{datum_of, data_of}
-use Rattle.library_table.specs.Looks.{end_with}
+use Rattle.datum_reader.specs.Looks.{end_with}
 use Rattle.library_table.specs.PartsRead.{knows}
 use Rattle.library_table.proofs.LibraryRows.{library_bad, library_same, empty_bad, single_bad, named_library}
 use Rattle.library_table.proofs.libraries.list_unit.Goals as goal

@@ -4,7 +4,7 @@ use Rattle.scheme_model.specs.Declarations.{declarations}
 use Rattle.scheme_model.specs.Program.{specs_from, exports_from}
 use Rattle.datum_reader.specs.Views.{datum_of, data_of}
 use Rattle.library_table.specs.declared.units.UnitForm.{UnitForm}
-use Rattle.library_table.specs.Looks.{end_with}
+use Rattle.datum_reader.specs.Looks.{end_with}
 use Rattle.library_table.specs.PartsRead.{knows}
 use Rattle.library_table.specs.UnitsRead.{forms_of, AreSpecs, AreExportsRead}
 use Rattle.library_table.specs.LibrariesRead.{library_named}

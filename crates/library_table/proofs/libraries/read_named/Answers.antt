@@ -5,8 +5,8 @@ use Rattle.scheme_model.specs.ExpansionFaults.{BadForm}
 use Rattle.scheme_model.specs.Requirements.{library_name_of}
 use Rattle.scheme_model.specs.Declarations.{library_with, declarations, symbol_tree}
 use Rattle.datum_reader.specs.Views.{datum_of, data_of}
-use Rattle.library_table.specs.declared.shape_fault.ShapeFault.{ShapeFault}
-use Rattle.library_table.specs.Looks.{end_with}
+use Rattle.datum_reader.specs.declared.shape_fault.ShapeFault.{ShapeFault}
+use Rattle.datum_reader.specs.Looks.{end_with}
 use Rattle.library_table.specs.PartsRead.{Fails, knows, library_text, map_ok}
 use Rattle.library_table.specs.LibrariesRead.{library_named}
 use Rattle.library_table.proofs.NameTexts.{ok_of}

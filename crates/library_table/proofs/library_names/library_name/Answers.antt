@@ -1,10 +1,10 @@
 use Rattle.std.proofs.Common.{ap}
 use Rattle.scheme_model.specs.Requirements.{library_name_of}
 use Rattle.datum_reader.specs.Views.{datum_of}
-use Rattle.library_table.specs.Looks.{tree_at, trees_at}
+use Rattle.datum_reader.specs.Looks.{tree_at, trees_at}
 use Rattle.library_table.specs.PartsRead.{map_ok, library_text, name_in_list}
 use Rattle.library_table.proofs.Chaining.{reads_same}
-use Rattle.library_table.proofs.LookLaws.{list_seen}
+use Rattle.datum_reader.proofs.LookLaws.{list_seen}
 use Rattle.library_table.proofs.library_names.library_name.Goals as goal
 
 pub returns-in-List : goal.returns-in-List

@@ -1,5 +1,5 @@
 use Rattle.std.proofs.Common.{string_bytes, ◌∙◌}
-use Rattle.library_table.specs.Looks.{tree_at, trees_at}
+use Rattle.datum_reader.specs.Looks.{tree_at, trees_at}
 use Rattle.library_table.proofs.TreeRows.{row_text}
 use Rattle.library_table.proofs.library_names.name_of_row.Goals as goal
 

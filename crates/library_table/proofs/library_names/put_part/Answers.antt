@@ -1,6 +1,6 @@
 use Rattle.std.proofs.Common.{◌++◌, List, ℕ, string_bytes, sym, ap, ◌∙◌}
 use Rattle.scheme_model.specs.Requirements.{part_of}
-use Rattle.library_table.specs.Looks.{tree_at}
+use Rattle.datum_reader.specs.Looks.{tree_at}
 use Rattle.library_table.specs.PartsRead.{part_text}
 use Rattle.library_table.proofs.NameTexts.{ok_of}
 use Rattle.library_table.proofs.library_names.put_part.Goals as goal

@@ -1,6 +1,6 @@
 use Rattle.std.proofs.Common.{string_bytes, arith}
 use Rattle.scheme_model.specs.Requirements.{parts_of}
-use Rattle.library_table.specs.Looks.{trees_at}
+use Rattle.datum_reader.specs.Looks.{trees_at}
 use Rattle.library_table.proofs.Chaining.{puts_all_err}
 use Rattle.library_table.proofs.TreeRows.{puts_none, puts_more, puts_fail, puts_end}
 use Rattle.library_table.proofs.library_names.put_parts.Goals as goal

@@ -2,8 +2,8 @@ use Rattle.std.proofs.Common.{◌+◌, List, map, sym, subst, ◌∙◌, arith}
 use Rattle.scheme_model.specs.Shapes.{name_of, names_of}
 use Rattle.import_sets.specs.Sets.{named}
 use Rattle.import_sets.specs.declared.set.SetName.{SetName}
-use Rattle.library_table.specs.Looks.{trees_at}
-use Rattle.library_table.specs.Forms.{place}
+use Rattle.datum_reader.specs.Looks.{trees_at}
+use Rattle.datum_reader.specs.Forms.{place}
 use Rattle.library_table.proofs.Chaining.{reads_err, fails_same, each_of, front_none}
 use Rattle.library_table.proofs.TreeRows.{UpTo, up_more, up_fails, up_all, names_each}
 use Rattle.library_table.proofs.names.names_of.Goals as goal

@@ -1,6 +1,6 @@
 use Rattle.scheme_model.specs.Shapes.{name_of}
 use Rattle.import_sets.specs.Sets.{named}
-use Rattle.library_table.specs.Forms.{place}
+use Rattle.datum_reader.specs.Forms.{place}
 use Rattle.library_table.proofs.TreeRows.{UpTo}
 use Rattle.library_table.proofs.names.names_of.Given as goal
 

@@ -1,6 +1,6 @@
 use Rattle.std.proofs.Common.{◌<◌, length, arith}
 use Rattle.std.proofs.lemmas.Bool.Decides.{nat_tests}
-use Rattle.library_table.specs.Forms.{place}
+use Rattle.datum_reader.specs.Forms.{place}
 use Rattle.library_table.proofs.NameTexts.{only_long}
 use Rattle.library_table.proofs.names.only_name.Goals as goal
 

@@ -2,11 +2,11 @@ use Rattle.std.proofs.Common.{ap}
 use Rattle.scheme_model.specs.Entries.{pair_of}
 use Rattle.import_sets.specs.Sets.{paired}
 use Rattle.datum_reader.specs.Views.{datum_of}
-use Rattle.library_table.specs.Looks.{tree_at, trees_at}
-use Rattle.library_table.specs.Forms.{place}
+use Rattle.datum_reader.specs.Looks.{tree_at, trees_at}
+use Rattle.datum_reader.specs.Forms.{place}
 use Rattle.library_table.specs.PartsRead.{pair_in}
 use Rattle.library_table.proofs.Chaining.{reads_same}
-use Rattle.library_table.proofs.LookLaws.{list_seen}
+use Rattle.datum_reader.proofs.LookLaws.{list_seen}
 use Rattle.library_table.proofs.names.pair_of.Goals as goal
 
 pub returns-in-List : goal.returns-in-List

@@ -1,6 +1,6 @@
 use Rattle.scheme_model.specs.Entries.{pair_of}
 use Rattle.import_sets.specs.Sets.{paired}
-use Rattle.library_table.specs.Forms.{place}
+use Rattle.datum_reader.specs.Forms.{place}
 use Rattle.library_table.proofs.TreeRows.{UpTo}
 use Rattle.library_table.proofs.names.pairs_of.Given as goal
 

@@ -2,7 +2,8 @@ use Rattle.std.proofs.Common.{◌≡◌, List, ℕ, length, ap, sym, subst, ◌�
 use Rattle.std.proofs.lemmas.Bool.Decides.{nat_tests}
 use Rattle.std.proofs.lemmas.List.{nil_from_length}
 use Rattle.scheme_model.specs.Program.{is_in}
-use Rattle.library_table.specs.Graphs.{AreWithin, IsGraph, is_circular, passing, names_at}
+use Rattle.import_sets.specs.Graphs.{AreWithin, IsGraph, is_circular, passing}
+use Rattle.library_table.specs.Graphs.{names_at}
 use Rattle.library_table.specs.Orders.{with_imports}
 use Rattle.library_table.proofs.GraphLaws.{graph_size, rows_within, are_numbered, is_graph}
 use Rattle.library_table.proofs.OrderLaws.{in_turns, on_circle_names}
@@ -23,14 +24,15 @@ returns-then-is_empty c = λ spelled tells all are.
     let us = c.args.units.now in
     let g = c.in_ok-graph.graph.items in
     let e = c.as_slice-rows.ensures.value in
-    let none : length c.in_ok-places.places.items ≡ 0 = grind (arith, nat_tests, c.in_ok-places.places.ok.0) in
-    in_turns spelled tells us all are g c.in_ok-graph.ensures c.in_ok-places.places.items c.in_ok-turns.field-0 (nil_from_length c.in_ok-places.places.items none)
-    (λ ps is. c.in_ok-places.ensures.circular ps (subst (λ (h : List (List ℕ)). IsGraph h ps) (sym e) is) ∙ ap (λ (h : List (List ℕ)). passing (is_circular ps) (length h)) e)
+    let here : length c.as_slice-places.result.now ≡ 0 = grind (arith, nat_tests) in
+    let none : length c.in_ok-circles.circles ≡ 0 = ap length (sym {A = List ℕ} c.as_slice-places.ensures) ∙ here in
+    in_turns spelled tells us all are g c.in_ok-graph.ensures c.in_ok-circles.circles c.in_ok-turns.field-0 (nil_from_length c.in_ok-circles.circles none)
+    (λ ps is. c.in_ok-circles.ensures.circular ps (subst (λ (h : List (List ℕ)). IsGraph h ps) (sym e) is) ∙ ap (λ (h : List (List ℕ)). passing (is_circular ps) (length h)) e)
     (c.in_ok-turns.ensures (with_imports all) (subst (λ (h : List (List ℕ)). IsGraph h (with_imports all)) (sym e) (is_graph spelled tells us all are g c.in_ok-graph.ensures)) (are_numbered all))
 
 pub names_at-requires : goal.names_at-requires
 names_at-requires c = λ n i.
-    let lt = c.in_ok-places.ensures.below n (sym (ap (is_in n) c.as_slice.ensures.value) ∙ i) in
+    let lt = c.in_ok-circles.ensures.below n (sym (ap (is_in n) c.as_slice-places.ensures) ∙ i) in
     let rows = ap length c.as_slice-rows.ensures.value in
     let size = graph_size c.args.units.now c.in_ok-graph.graph.items c.in_ok-graph.ensures in
     omega arith
@@ -40,7 +42,7 @@ returns c = λ spelled tells all are.
     let us = c.args.units.now in
     let g = c.in_ok-graph.graph.items in
     let e = c.as_slice-rows.ensures.value in
-    on_circle_names spelled tells us all are g c.in_ok-graph.ensures c.in_ok-places.places.items c.in_ok-names.names
-    (λ z. let none : length c.in_ok-places.places.items ≡ 0 = ap length z in grind (arith, nat_tests, c.in_ok-places.places.ok.0))
-    (λ ps is. c.in_ok-places.ensures.circular ps (subst (λ (h : List (List ℕ)). IsGraph h ps) (sym e) is) ∙ ap (λ (h : List (List ℕ)). passing (is_circular ps) (length h)) e)
-    (c.in_ok-names.ensures ∙ ap (names_at us) c.as_slice.ensures.value)
+    on_circle_names spelled tells us all are g c.in_ok-graph.ensures c.in_ok-circles.circles c.in_ok-names.names
+    (λ z. let none : length c.as_slice-places.result.now ≡ 0 = ap length (c.as_slice-places.ensures ∙ z) in grind (arith, nat_tests))
+    (λ ps is. c.in_ok-circles.ensures.circular ps (subst (λ (h : List (List ℕ)). IsGraph h ps) (sym e) is) ∙ ap (λ (h : List (List ℕ)). passing (is_circular ps) (length h)) e)
+    (c.in_ok-names.ensures ∙ ap (names_at us) c.as_slice-places.ensures)

@@ -6,11 +6,11 @@ use Rattle.scheme_model.specs.Trees.{Trees, list}
 use Rattle.scheme_model.specs.ExpansionFaults.{◌>>◌}
 use Rattle.scheme_model.specs.Requirements.{holds, all_hold, some_holds, none_holds}
 use Rattle.datum_reader.specs.Views.{datum_of}
-use Rattle.library_table.specs.Looks.{tree_at, trees_at}
+use Rattle.datum_reader.specs.Looks.{tree_at, trees_at}
 use Rattle.library_table.specs.PartsRead.{map_ok, knows}
 use Rattle.library_table.specs.Chosen.{word_holds, by_connective}
 use Rattle.library_table.proofs.Chaining.{reads_same, reads_err, fails_same, fails_then}
-use Rattle.library_table.proofs.LookLaws.{list_seen, nothing_in}
+use Rattle.datum_reader.proofs.LookLaws.{list_seen, nothing_in}
 use Rattle.library_table.proofs.SetRows.{parts_lighter}
 use Rattle.library_table.proofs.TreeRows.{trees_more, trees_end}
 use Rattle.library_table.proofs.RequirementRows.{some_word, all_more, all_fails, all_end, some_more, some_fails, some_end, none_long, none_one, item_lighter}

@@ -5,7 +5,7 @@ use Rattle.scheme_model.specs.declared.Occ.{Occ}
 use Rattle.scheme_model.specs.Requirements.{all_hold, some_holds}
 use Rattle.scheme_model.specs.Program.{has_name}
 use Rattle.datum_reader.specs.Views.{datum_of, data_of}
-use Rattle.library_table.specs.Looks.{trees_at}
+use Rattle.datum_reader.specs.Looks.{trees_at}
 use Rattle.library_table.specs.PartsRead.{map_ok, knows}
 use Rattle.library_table.specs.Weights.{weight, row_weight}
 use Rattle.library_table.proofs.requirements.+requirements.Given as goal

@@ -1,6 +1,6 @@
 use Rattle.std.proofs.Common.{sym, ◌∙◌}
 use Rattle.scheme_model.specs.Requirements.{holds, clause_holds}
-use Rattle.library_table.specs.Looks.{tree_at}
+use Rattle.datum_reader.specs.Looks.{tree_at}
 use Rattle.library_table.specs.PartsRead.{knows}
 use Rattle.library_table.proofs.Chaining.{reads_same}
 use Rattle.library_table.proofs.RequirementRows.{plain_clause}

@@ -3,10 +3,10 @@ use Rattle.scheme_model.specs.Data.{place_of}
 use Rattle.scheme_model.specs.Entries as model
 use Rattle.scheme_model.specs.Entries.{set_of, library_set, modified_set}
 use Rattle.datum_reader.specs.Views.{datum_of}
-use Rattle.library_table.specs.Forms.{place}
-use Rattle.library_table.specs.Looks.{tree_at, trees_at}
+use Rattle.datum_reader.specs.Forms.{place}
+use Rattle.datum_reader.specs.Looks.{tree_at, trees_at}
 use Rattle.library_table.specs.SetsRead.{modifier_as, IsSetText}
-use Rattle.library_table.proofs.LookLaws.{list_seen}
+use Rattle.datum_reader.proofs.LookLaws.{list_seen}
 use Rattle.library_table.proofs.SetRows.{parts_lighter}
 use Rattle.library_table.proofs.sets.+sets.Goals as goal
 

@@ -9,10 +9,10 @@ use Rattle.rules_build.proofs.index.value_of.Goals as goal
 
 pub returns-in-None : goal.returns-in-None
 returns-in-None c = λ work region bounds ms i apart is holds are.
-    let e : value_by_number bounds c.args.id ≡ None = sym (holds c.args.id) ∙ sym c.in-None.ensures.value in
+    let e : value_by_number bounds c.args.id ≡ None = sym (holds.values c.args.id) ∙ sym c.in-None.ensures.value in
     subst (λ (o : Option code_value.Value). IsFound work region o (value_of same_ident ms i)) e (found_by_number work region apart c.args.id i is bounds ms are)
 
 pub returns-in-Some : goal.returns-in-Some
 returns-in-Some c = λ work region bounds ms i apart is holds are.
-    let e : value_by_number bounds c.args.id ≡ Some c.in-Some.value.now = sym (holds c.args.id) ∙ sym c.in-Some.ensures.value in
+    let e : value_by_number bounds c.args.id ≡ Some c.in-Some.value.now = sym (holds.values c.args.id) ∙ sym c.in-Some.ensures.value in
     subst (λ (o : Option code_value.Value). IsFound work region o (value_of same_ident ms i)) e (found_by_number work region apart c.args.id i is bounds ms are)

@@ -59,8 +59,11 @@ parts-returns-in_err-repeated t c = λ r region k ts ms tells h are.
     all_handed_on w region k c.args.room.now c.repeated.new.room c.args.plans.now.items c.repeated.new.plans.items (build_parts (inserting k) dots ts ms) c.from_residual.result e c.from_residual.ensures.1
     (parts_fail w region k dots ts ms j p.part c.args.room.now c.loop-k.room c.args.plans.now.items c.loop-k.plans.items e split other u a)
 
-pub parts-used_in-requires : goal.parts-used_in-requires
-parts-used_in-requires t c = part_within c.args.self.now.work.now c.args.items.now c.args.left c.loop-k.k _ c.requires.items c.loop-k-test.true
+pub parts-used_in-requires-clause-index : goal.parts-used_in-requires-clause-index
+parts-used_in-requires-clause-index t c = c.requires.index.places
+
+pub parts-used_in-requires-clause-template : goal.parts-used_in-requires-clause-template
+parts-used_in-requires-clause-template t c = part_within c.args.self.now.work.now c.args.items.now c.args.left c.loop-k.k _ c.requires.items c.loop-k-test.true
 
 pub parts-repeated-requires-else-times-eq0 : goal.parts-repeated-requires-else-times-eq0
 parts-repeated-requires-else-times-eq0 t c =

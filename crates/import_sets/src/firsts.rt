@@ -1,0 +1,68 @@
+//! The first place of each name: of entries, and of libraries, which import sets name.
+ghost use Rattle.std.specs.Prelude.{◌≡◌, ◌<◌, ℕ, List, Some, IfOk, OnOk, length, slice_get};
+ghost use Rattle.std.specs.BTreeMap.{get_by_text};
+ghost use Rattle.std.specs.Str.{bytes_eq};
+ghost use Rattle.import_sets.specs.Firsts.{first_of, place_if, place_of, place_in};
+
+use crate::set::ImportSet;
+use ls_base::Mem;
+use std::alloc::Global;
+use std::collections::BTreeMap;
+use syntax_tree::units::Entry;
+
+/// Notes the place of a name, if it is new.
+pub fn note_first(
+    alloc: Global,
+    places: &mut BTreeMap<String, usize>,
+    name: &str,
+    place: usize,
+) -> Mem<()>
+    ensures { OnOk result ((s : List ℕ) → get_by_text places.new s
+        ≡ first_of (get_by_text places.old s) (place_if (bytes_eq name.now s) place)) }
+{
+    if places.contains_key(name) {
+        return Ok(());
+    }
+    places.insert(String::from_str(alloc, name)?, place)?;
+    Ok(())
+}
+
+/// The place of the first entry with each name.
+pub fn entry_places(alloc: Global, entries: &[Entry]) -> Mem<BTreeMap<String, usize>>
+    ensures { IfOk result (λ places. (s : List ℕ) → get_by_text places s ≡ place_of s 0 entries.now) }
+{
+    let mut places = BTreeMap::new(alloc);
+    for (place, entry) in entries.iter().enumerate() {
+        note_first(alloc, &mut places, entry.name.as_str(), place)?;
+    }
+    Ok(places)
+}
+
+/// The place of a name.
+pub fn place_for(places: &BTreeMap<String, usize>, name: &str) -> Option<usize>
+    ensures { result ≡ get_by_text places.now name.now }
+{
+    places.get(name).copied()
+}
+
+/// The entry at a place.
+pub fn entry_at(entries: &[Entry], place: usize) -> &Entry
+    requires { place < length entries.now }
+    ensures { slice_get entries.now place ≡ Some result.now }
+{
+    &entries[place]
+}
+
+/// The place of the library that a set names.
+pub fn place_in(firsts: &BTreeMap<String, usize>, set: &ImportSet) -> Option<usize>
+    ensures { result ≡ place_in (λ s. get_by_text firsts.now s) set.now }
+{
+    match set {
+        ImportSet::Library(name) => firsts.get(name.as_str()).copied(),
+        ImportSet::Only { set, .. } => place_in(firsts, set),
+        ImportSet::Except { set, .. } => place_in(firsts, set),
+        ImportSet::Prefix { set, .. } => place_in(firsts, set),
+        ImportSet::Rename { set, .. } => place_in(firsts, set),
+        ImportSet::Bad => None,
+    }
+}

@@ -1,7 +1,0 @@
-use Rattle.std.proofs.Common.{get_or, arith}
-use Rattle.library_table.proofs.ReachLaws.{in_at}
-use Rattle.library_table.proofs.turns.add_to.Goals as goal
-
-pub add_one-requires : goal.add_one-requires
-add_one-requires c =
-    let lt = c.requires (get_or c.args.places.now c.loop-place.place-index 0) (in_at c.args.places.now c.loop-place.place-index (omega arith)) in let size = c.loop-place.invariant.size in omega arith

@@ -1,8 +1,0 @@
-use Rattle.std.proofs.Common.{ap, ◌∙◌}
-use Rattle.std.specs.Prelude.{◌||◌}
-use Rattle.scheme_model.specs.Program.{is_in}
-use Rattle.library_table.specs.Waiting.{has}
-use Rattle.library_table.proofs.turns.look_again.Goals as goal
-
-pub returns : goal.returns
-returns c = λ n. c.in_ok-add_all.ensures n ∙ ap (λ b. has c.args.waiting.now n || b) (ap (is_in n) c.row.ensures)
