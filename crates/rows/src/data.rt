@@ -43,12 +43,7 @@ fn show_all(out: &mut Shown, data: &[Datum]) {
 fn begin(out: &mut Shown, kind: &str, datum: &Datum) {
     out.open();
     out.string(kind);
-    out.open();
-    out.number(datum.first as u64);
-    out.number(datum.last as u64);
-    out.number(datum.span.start as u64);
-    out.number(datum.span.end as u64);
-    out.close();
+    out.numbers(&[datum.first, datum.last, datum.span.start, datum.span.end]);
 }
 
 /// A datum: its kind, its place, and what is in it.

@@ -3,7 +3,7 @@ use crate::argument::{json, made_bytes};
 use crate::fault::{Row, RowFault};
 use crate::replies::reply;
 use crate::shown::Shown;
-use ls_base::{Change, Encoding, Pos, Query, Range};
+use ls_base::{Change, Encoding, Query, Range};
 use lsp_messages::{At, Call, Id, Message, Note, Reject, read_message, reply_bytes};
 use std::alloc::Global;
 use std::str::from_utf8;
@@ -128,14 +128,7 @@ fn show_query(out: &mut Shown, query: Query) {
 fn show_at(out: &mut Shown, at: &At) {
     out.open();
     out.string(at.uri.as_str());
-    show_pos(out, at.pos);
-    out.close();
-}
-
-fn show_pos(out: &mut Shown, pos: Pos) {
-    out.open();
-    out.number(pos.line as u64);
-    out.number(pos.character as u64);
+    out.numbers(&[at.pos.line, at.pos.character]);
     out.close();
 }
 
@@ -144,8 +137,8 @@ fn show_range(out: &mut Shown, range: Option<Range>) {
         return out.null();
     };
     out.open();
-    show_pos(out, range.start);
-    show_pos(out, range.end);
+    out.numbers(&[range.start.line, range.start.character]);
+    out.numbers(&[range.end.line, range.end.character]);
     out.close();
 }
 

@@ -15,10 +15,7 @@ pub fn answer(out: &mut Shown, call: &str, argument: &Value) -> Row<()> {
         "offset" => out.number(lines.offset(text, position(place)?, encoding) as u64),
         "position" => {
             let pos = lines.position(text, number(place)?, encoding);
-            out.open();
-            out.number(pos.line as u64);
-            out.number(pos.character as u64);
-            out.close();
+            out.numbers(&[pos.line, pos.character]);
         }
         _ => return Err(RowFault::NoCall),
     }

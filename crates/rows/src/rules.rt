@@ -1,5 +1,5 @@
 //! Rows of rules_check, rules_match and rules_build: the rules of a macro, and a use of it.
-ghost use Rattle.std.specs.Prelude.{All, ◌<◌, length};
+ghost use Rattle.std.specs.Prelude.{All, IfOk, OnOk, ◌<◌, length};
 ghost use Rattle.scheme_model.specs.RulesShape.{Rules as ModelRules};
 ghost use Rattle.scheme_model.specs.Matching.{Binding as ModelBinding, Chosen};
 ghost use Rattle.scheme_model.specs.Ident.{Ident as Identifier};
@@ -14,12 +14,13 @@ use crate::argument::{item, list, number, text};
 use crate::fault::{Row, RowFault};
 use crate::shown::Shown;
 use crate::symbols::written;
-use crate::trees::{begin, ident_text, parts_of, plant, show_tree};
+use crate::trees::{begin, ident_text, parts_of, plant, show_parts, show_tree};
 use ls_base::Items;
 use rules_build::{BuildFault, build};
 use rules_check::{RulesFault, check};
 use rules_match::{MatchFault, literal_pairs, match_rules};
 use serde_json::Value;
+use std::alloc::Global;
 use syntax_tree::rules::{Binding, IdPair, Matched, Rule, Rules};
 use syntax_tree::symbols::{IdNo, Symbols, UseNo};
 use syntax_tree::trees::{Region, Tree, Work};
@@ -79,16 +80,28 @@ fn same_pairs(out: &Shown, symbols: &mut Symbols, values: &[Value]) -> Row<Items
     Ok(pairs)
 }
 
-/// What a call says of `[RULES, USE, SAME, ..]`. The rules are form 0 of unit 0, and the use is form 1.
+/// The rules and the use of `[RULES, USE, ..]`, as form 0 and form 1 of unit 0.
+fn plant_both(alloc: Global, work: &mut Work, region: &Region, argument: &Value) -> Row<(Tree, Tree)>
+    requires { IsOpened work.old region.now }
+    ensures opened { OnOk result (IsOpened work.new region.now) }
+    ensures rules { IfOk result (λ trees. IsStanding work.new trees.0) }
+    ensures form { IfOk result (λ trees. IsStanding work.new trees.1) }
+    ensures named { IfOk result (λ trees. CanName work.new region.now trees.1) }
+{
+    let tree = plant(alloc, work, region, item(argument, 0)?, 0, 0)?;
+    let form = plant(alloc, work, region, item(argument, 1)?, 0, 1)?;
+    Ok((tree, form))
+}
+
+/// What a call says of `[RULES, USE, SAME, ..]`.
 fn used(out: &mut Shown, call: &str, argument: &Value) -> Row<()> {
     let alloc = out.alloc();
     let mut work = Work::new(alloc);
     let same = same_pairs(out, &mut work.symbols, list(item(argument, 2)?)?)?;
     let region = work.open_region()?;
-    let tree = plant(alloc, &mut work, &region, item(argument, 0)?, 0, 0)?;
-    let form = plant(alloc, &mut work, &region, item(argument, 1)?, 0, 1)?;
-    match check(alloc, &work, tree) {
-        Ok(rules) => asked(out, call, argument, &mut work, &region, &rules, form, &same)?,
+    let trees = plant_both(alloc, &mut work, &region, argument)?;
+    match check(alloc, &work, trees.0) {
+        Ok(rules) => asked(out, call, argument, &mut work, &region, &rules, trees.1, &same)?,
         Err(fault) => show_fault(out, fault),
     }
     Ok(())
@@ -212,16 +225,6 @@ fn show_pairs(out: &mut Shown, symbols: &Symbols, pairs: &[IdPair])
     out.close();
 }
 
-fn show_trees(out: &mut Shown, work: &Work, trees: &[Tree])
-    requires { All (IsStanding work.now) trees.now }
-{
-    out.open();
-    for tree in trees {
-        show_tree(out, work, *tree);
-    }
-    out.close();
-}
-
 /// `[[PATTERN, TEMPLATE], ..]`.
 fn show_each(out: &mut Shown, work: &Work, rules: &[Rule])
     requires patterns { All (λ (r : AnyRule). IsStanding work.now r.pattern) rules.now }
@@ -258,7 +261,7 @@ fn show_matched(out: &mut Shown, work: &Work, matched: &Matched)
     out.open();
     out.number(matched.rule as u64);
     show_bindings(out, work, matched.bindings.as_slice(), DEEPEST);
-    show_trees(out, work, matched.literals.as_slice());
+    show_parts(out, work, matched.literals.as_slice(), 1);
     out.close();
 }
 

@@ -175,29 +175,26 @@ pub fn show_meaning(out: &mut Shown, meaning: Meaning) {
     out.close();
 }
 
+/// No other question is asked of scopes.
 fn show_questions(out: &mut Shown, questions: &[Question]) {
     for question in questions {
-        show_question(out, question);
+        match question {
+            Question::Lookup {
+                ident,
+                head,
+                answer,
+            } => show_lookup(out, *ident, *head, *answer),
+            Question::Macro { .. } => out.fail(RowFault::NotShown),
+            Question::MacroRules { .. } => out.fail(RowFault::NotShown),
+            Question::Literal { .. } => out.fail(RowFault::NotShown),
+            Question::Library { .. } => out.fail(RowFault::NotShown),
+            Question::Definition { .. } => out.fail(RowFault::NotShown),
+            Question::Declared => out.fail(RowFault::NotShown),
+        }
     }
 }
 
-/// `["lookup",IDENTIFIER,HEAD,MEANING]`. No other question is asked of scopes.
-fn show_question(out: &mut Shown, question: &Question) {
-    match question {
-        Question::Lookup {
-            ident,
-            head,
-            answer,
-        } => show_lookup(out, *ident, *head, *answer),
-        Question::Macro { .. } => out.fail(RowFault::NotShown),
-        Question::MacroRules { .. } => out.fail(RowFault::NotShown),
-        Question::Literal { .. } => out.fail(RowFault::NotShown),
-        Question::Library { .. } => out.fail(RowFault::NotShown),
-        Question::Definition { .. } => out.fail(RowFault::NotShown),
-        Question::Declared => out.fail(RowFault::NotShown),
-    }
-}
-
+/// `["lookup",IDENTIFIER,HEAD,MEANING]`.
 fn show_lookup(out: &mut Shown, ident: IdNo, head: bool, answer: Meaning) {
     out.open();
     out.string("lookup");

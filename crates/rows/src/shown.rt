@@ -122,6 +122,15 @@ impl Shown {
         self.item_or_fail(signed_digits(self.alloc, number));
     }
 
+    /// A list of numbers.
+    pub fn numbers(&mut self, numbers: &[u32]) {
+        self.open();
+        for number in numbers {
+            self.number(*number as u64);
+        }
+        self.close();
+    }
+
     pub fn flag(&mut self, flag: bool) {
         self.item(if flag { "true" } else { "false" });
     }

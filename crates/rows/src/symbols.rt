@@ -102,16 +102,8 @@ fn show(out: &mut Shown, symbols: &Symbols, ident: Ident)
         Ident::Inserted { id, number } => {
             out.string("inserted");
             out.number(id as u64);
-            show_use(out, number);
+            out.numbers(&[number.unit, number.form, number.count]);
         }
     }
-    out.close();
-}
-
-fn show_use(out: &mut Shown, number: UseNo) {
-    out.open();
-    out.number(number.unit as u64);
-    out.number(number.form as u64);
-    out.number(number.count as u64);
     out.close();
 }

@@ -70,10 +70,7 @@ pub fn show_fault(out: &mut Shown, fault: ReadFault) {
         ReadFault::At { number, span } => {
             out.open_object();
             out.key("at");
-            out.open();
-            out.number(span.start as u64);
-            out.number(span.end as u64);
-            out.close();
+            out.numbers(&[span.start, span.end]);
             out.key("fault");
             out.number(number as u64);
             out.close_object();

@@ -113,11 +113,7 @@ pub fn begin(out: &mut Shown, kind: &str, occ: Option<Occ>) {
     let Some(occ) = occ else {
         return out.null();
     };
-    out.open();
-    out.number(occ.unit as u64);
-    out.number(occ.form as u64);
-    out.number(occ.token as u64);
-    out.close();
+    out.numbers(&[occ.unit, occ.form, occ.token]);
 }
 
 /// A written name and its unit, as `NAME@UNIT`.
@@ -246,7 +242,7 @@ fn show(out: &mut Shown, work: &Work, tree: Tree, depth: u32)
 
 /// The parts of a tree, each so many nodes deep.
 #[cycle(shown)]
-fn show_parts(out: &mut Shown, work: &Work, parts: &[Tree], depth: u32)
+pub fn show_parts(out: &mut Shown, work: &Work, parts: &[Tree], depth: u32)
     requires { All (IsStanding work.now) parts.now }
 {
     out.open();
@@ -284,19 +280,12 @@ fn shared(out: &mut Shown) -> Row<()> {
     let third = [work.size(vector), work.depth(vector)];
     let same = is_only_part(&work, vector, list);
     out.open();
-    show_pair(out, first);
-    show_pair(out, second);
-    show_pair(out, third);
+    out.numbers(&first);
+    out.numbers(&second);
+    out.numbers(&third);
     out.flag(same);
     out.close();
     Ok(())
-}
-
-fn show_pair(out: &mut Shown, pair: [u32; 2]) {
-    out.open();
-    out.number(pair[0] as u64);
-    out.number(pair[1] as u64);
-    out.close();
 }
 
 /// Whether a vector has one part, and it is this one.

@@ -132,26 +132,18 @@ fn among(out: &mut Shown, call: &str, values: &[Value]) -> Row<()> {
         return Err(RowFault::TooLong);
     }
     if call == "repeated" {
-        show_places(out, repeated(alloc, &units)?.as_slice());
+        out.numbers(repeated(alloc, &units)?.as_slice());
         return Ok(());
     }
     match order(alloc, &units) {
-        Ok(places) => show_places(out, places.as_slice()),
+        Ok(places) => out.numbers(places.as_slice()),
         Err(fault) => show_fault(out, &fault),
     }
     Ok(())
 }
 
-fn show_places(out: &mut Shown, places: &[u32]) {
-    out.open();
-    for place in places {
-        out.number(*place as u64);
-    }
-    out.close();
-}
-
 fn show_span(out: &mut Shown, span: Span) {
-    show_places(out, &[span.start, span.end]);
+    out.numbers(&[span.start, span.end]);
 }
 
 /// `[NAME, PLACE]`.

@@ -15,8 +15,8 @@ show_bindings-requires c =
     subst (λ (bs : List code_binding.Binding). All (λ (b : code_binding.Binding). (m : Binding Identifier Identifier) × IsBinding w b m) bs) (sym c.as_slice.ensures)
     (bindings_are w c.args.matched.now.bindings m.match.bindings c.requires.1.1.match.bindings)
 
-pub show_trees-requires : goal.show_trees-requires
-show_trees-requires c =
+pub show_parts-requires : goal.show_parts-requires
+show_parts-requires c =
     let w = c.args.work.now in
     let m = c.requires.1.0 in
     subst (λ (ns : List number.Tree). All (IsStanding w) ns) (sym c.as_slice-2.ensures) (leaves_stand w c.args.matched.now.literals m.match.met c.requires.1.1.match.met)
