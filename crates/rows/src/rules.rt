@@ -81,7 +81,12 @@ fn same_pairs(out: &Shown, symbols: &mut Symbols, values: &[Value]) -> Row<Items
 }
 
 /// The rules and the use of `[RULES, USE, ..]`, as form 0 and form 1 of unit 0.
-fn plant_both(alloc: Global, work: &mut Work, region: &Region, argument: &Value) -> Row<(Tree, Tree)>
+fn plant_both(
+    alloc: Global,
+    work: &mut Work,
+    region: &Region,
+    argument: &Value,
+) -> Row<(Tree, Tree)>
     requires { IsOpened work.old region.now }
     ensures opened { OnOk result (IsOpened work.new region.now) }
     ensures rules { IfOk result (λ trees. IsStanding work.new trees.0) }
@@ -101,7 +106,9 @@ fn used(out: &mut Shown, call: &str, argument: &Value) -> Row<()> {
     let region = work.open_region()?;
     let trees = plant_both(alloc, &mut work, &region, argument)?;
     match check(alloc, &work, trees.0) {
-        Ok(rules) => asked(out, call, argument, &mut work, &region, &rules, trees.1, &same)?,
+        Ok(rules) => asked(
+            out, call, argument, &mut work, &region, &rules, trees.1, &same,
+        )?,
         Err(fault) => show_fault(out, fault),
     }
     Ok(())
