@@ -1,0 +1,16 @@
+pub mod ChainLaws
+pub mod HeadLaws
+pub mod MacroLaws
+pub mod BindLaws
+pub mod CountingStands
+pub mod LayoutLaws
+pub mod BindersStand
+pub mod BodiesStand
+pub mod KeptStands
+pub mod UnitsStand
+pub mod UsesStand
+pub mod GrowthStands
+pub mod DefinedMacros
+pub mod BodyScopes
+pub mod ComingDefinitions
+pub mod FormsStand

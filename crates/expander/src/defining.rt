@@ -1,0 +1,219 @@
+//! The definitions of each kind, as they are gone through (R7RS 5.3 to 5.5).
+use crate::asked::Asked;
+use crate::fault::ExpandFault;
+use crate::items::{Form, Kept, Pending, Spot};
+use crate::scope::UnitScope;
+use core_forms::{ClauseShape, FieldShape, Formals, NamePart};
+use core_tree::cores::{Binder, FieldUse};
+use ls_base::Mem;
+use scheme_model::Occ;
+use std::alloc::Global;
+use std::collections::BTreeMap;
+use syntax_tree::symbols::IdNo;
+use syntax_tree::trees::{Tree, Work};
+
+impl UnitScope {
+    /// `(define id e)`, or a later one of a program's variable.
+    pub(crate) fn define_variable(
+        &mut self,
+        work: &Work,
+        spot: Spot,
+        name: NamePart,
+        form: Form,
+        pending: &mut Pending,
+        asked: &Asked,
+    ) -> Result<(), ExpandFault> {
+        if self.is_assigned(spot, name.ident) {
+            pending.aside.push(Kept::Assigned(name, form))?;
+            return Ok(());
+        }
+        let binder = self.next_binder(spot, name);
+        self.define(work, spot, form.here, name, None, asked)?;
+        pending.aside.push(Kept::Value(binder, form))?;
+        Ok(())
+    }
+
+    /// `(define (id . formals) body)`, or a later one of a program's variable.
+    pub(crate) fn define_function(
+        &mut self,
+        work: &Work,
+        spot: Spot,
+        here: Option<Occ>,
+        name: NamePart,
+        clause: ClauseShape,
+        pending: &mut Pending,
+        asked: &Asked,
+    ) -> Result<(), ExpandFault> {
+        if self.is_assigned(spot, name.ident) {
+            pending.aside.push(Kept::AssignedFunction(name, here, clause))?;
+            return Ok(());
+        }
+        let binder = self.next_binder(spot, name);
+        self.define(work, spot, here, name, None, asked)?;
+        pending.aside.push(Kept::Function(binder, here, clause))?;
+        Ok(())
+    }
+
+    /// Defines names one after another, each a variable: their binders.
+    fn define_all(
+        &mut self,
+        alloc: Global,
+        work: &Work,
+        spot: Spot,
+        here: Option<Occ>,
+        names: &[NamePart],
+        asked: &Asked,
+    ) -> Result<Vec<Binder>, ExpandFault> {
+        let mut binders = Vec::new(alloc);
+        for name in names {
+            let binder = self.next_binder(spot, *name);
+            self.define(work, spot, here, *name, None, asked)?;
+            binders.push(binder)?;
+        }
+        Ok(binders)
+    }
+
+    /// `(define-values formals e)`.
+    pub(crate) fn define_values(
+        &mut self,
+        alloc: Global,
+        work: &Work,
+        spot: Spot,
+        formals: Formals,
+        form: Form,
+        pending: &mut Pending,
+        asked: &Asked,
+    ) -> Result<(), ExpandFault> {
+        let Formals { names, dotted } = formals;
+        let binders = self.define_all(alloc, work, spot, form.here, &names, asked)?;
+        pending.aside.push(Kept::Values {
+            binders,
+            dotted,
+            form,
+        })?;
+        Ok(())
+    }
+
+    /// `(define-record-type name constructor predicate field ...)`.
+    pub(crate) fn define_record(
+        &mut self,
+        alloc: Global,
+        work: &Work,
+        spot: Spot,
+        here: Option<Occ>,
+        record: &Record,
+        pending: &mut Pending,
+        asked: &Asked,
+    ) -> Result<(), ExpandFault> {
+        let fields = self.take_locals(&record.field_names(alloc)?)?;
+        let binders = self.define_all(alloc, work, spot, here, &record.names(alloc)?, asked)?;
+        pending.aside.push(Kept::Record {
+            binders,
+            fields,
+            modified: modified(alloc, &record.fields)?,
+            used: used(alloc, &record.used, &record.fields)?,
+        })?;
+        Ok(())
+    }
+
+    /// `(define-syntax id rules)`.
+    pub(crate) fn define_syntax(
+        &mut self,
+        alloc: Global,
+        work: &Work,
+        spot: Spot,
+        here: Option<Occ>,
+        name: NamePart,
+        rules: Tree,
+        pending: &mut Pending,
+        asked: &mut Asked,
+    ) -> Result<(), ExpandFault> {
+        self.note_rules(work, spot.scope, rules, asked)?;
+        self.test_rules(work, spot.scope, here, rules)?;
+        let defined = self.read_macro(alloc, work, spot.scope, here, rules)?;
+        let binder = self.next_binder(spot, name);
+        let meaning = self.next_meaning(spot, name.ident);
+        self.define(work, spot, here, name, Some(defined), asked)?;
+        pending.aside.push(Kept::Macro(binder, meaning))?;
+        Ok(())
+    }
+}
+
+/// The shape of a record's definition.
+#[derive(Drop)]
+pub struct Record {
+    pub name: NamePart,
+    pub constructor: NamePart,
+    pub used: Vec<NamePart>,
+    pub predicate: NamePart,
+    pub fields: Vec<FieldShape>,
+}
+
+impl Record {
+    fn field_names(&self, alloc: Global) -> Mem<Vec<NamePart>> {
+        let mut names = Vec::new(alloc);
+        for field in &self.fields {
+            names.push(field.name)?;
+        }
+        Ok(names)
+    }
+
+    /// What it defines: the type, the constructor, the predicate, the accessors and the modifiers.
+    fn names(&self, alloc: Global) -> Mem<Vec<NamePart>> {
+        let mut names = Vec::new(alloc);
+        names.push(self.name)?;
+        names.push(self.constructor)?;
+        names.push(self.predicate)?;
+        for field in &self.fields {
+            names.push(field.accessor)?;
+        }
+        add_modifiers(&self.fields, &mut names)?;
+        Ok(names)
+    }
+}
+
+fn add_modifiers(fields: &[FieldShape], names: &mut Vec<NamePart>) -> Mem<()> {
+    for field in fields {
+        if let Some(modifier) = field.modifier {
+            names.push(modifier)?;
+        }
+    }
+    Ok(())
+}
+
+/// The places of the fields that have a modifier.
+fn modified(alloc: Global, fields: &[FieldShape]) -> Mem<Vec<u32>> {
+    let mut places = Vec::new(alloc);
+    for k in 0..fields.len() {
+        if fields[k].modifier.is_some() {
+            places.push(k as u32)?;
+        }
+    }
+    Ok(places)
+}
+
+/// The fields that the constructor uses, by their places.
+fn used(alloc: Global, names: &[NamePart], fields: &[FieldShape]) -> Mem<Vec<FieldUse>> {
+    let places = places_of(alloc, fields)?;
+    let mut uses = Vec::new(alloc);
+    for name in names {
+        let field = match places.get(&name.ident) {
+            Some(place) => *place,
+            None => fields.len() as u32,
+        };
+        uses.push(FieldUse {
+            field,
+            occ: name.occ,
+        })?;
+    }
+    Ok(uses)
+}
+
+/// The place of each field by its name.
+fn places_of(alloc: Global, fields: &[FieldShape]) -> Mem<BTreeMap<IdNo, u32>> {
+    let mut places = BTreeMap::new(alloc);
+    for k in 0..fields.len() {
+        places.insert(fields[k].name.ident, k as u32)?;
+    }
+    Ok(places)
+}
