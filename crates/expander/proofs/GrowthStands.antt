@@ -35,8 +35,9 @@ use Rattle.core_tree.specs.declared.cores.Target as code_target
 use Rattle.core_tree.specs.declared.traces.MacroUse as code_use
 use Rattle.expander.specs.Chains.{chain_in, uses_in, given_in}
 use Rattle.expander.specs.Macros.{macro_in}
-use Rattle.expander.specs.State.{IsLeaf, IsMacro, IsMacroIfAny, MacrosStand, EnvStands, FormStands, Stands}
-use Rattle.expander.specs.declared.macros.Leaf as code_leaf
+use Rattle.expander.specs.State.{IsMacro, IsMacroIfAny, MacrosStand, EnvStands, FormStands, Stands}
+use Rattle.rules_check.specs.Gathered.{AreLeaves}
+use Rattle.rules_check.specs.declared.leaf.RuleLeaf.{RuleLeaf}
 use Rattle.expander.specs.declared.macros.Macro.{Macro}
 use Rattle.expander.specs.declared.macros.Macros.{Macros}
 use Rattle.expander.specs.declared.scope.FormAtWork.{FormAtWork}
@@ -100,11 +101,14 @@ module _ (old new : Work) (trees : KeepsTrees old new) (names : KeepsNames old.s
   checked_on : (n : code_rules.Rules) → AreChecked old n → AreChecked new n
   checked_on n h = (h.0, rules_on n h.0 h.1, h.2)
 
-  leaf_on : (l : code_leaf.Leaf) (m : Leaf Identifier) → IsLeaf old l m → IsLeaf new l m
-  leaf_on l m h = record { name = (names.idents l.name.ident m.leaf.name h.name.0, h.name.1); literal = h.literal }
+  leaves_on : (ls : List RuleLeaf) (ms : List (Leaf Identifier)) → AreLeaves old.symbols ls ms → AreLeaves new.symbols ls ms
+  leaves_on [] [] h = tt
+  leaves_on [] (m ∷ ms) h = absurd h
+  leaves_on (l ∷ ls) [] h = absurd h
+  leaves_on (l ∷ ls) (m ∷ ms) h = (((names.idents l.name.ident m.leaf.name h.0.0.0, h.0.0.1), h.0.1), leaves_on ls ms h.1)
 
   pub macro_on : (ls : List Frames) (k : Macro) (t : Transformer Frames Identifier) → IsMacro old ls k t → IsMacro new ls k t
-  macro_on ls k t h = record { scope = h.scope; checked = checked_on k.rules h.checked; rules = rules_on k.rules t.rules h.rules; leaves = all_on (IsLeaf old) (IsLeaf new) leaf_on k.leaves.items _ h.leaves }
+  macro_on ls k t h = record { scope = h.scope; checked = checked_on k.rules h.checked; rules = rules_on k.rules t.rules h.rules; leaves = leaves_on k.leaves.items _ h.leaves }
 
   if_any_on : (ls : List Frames) (o : Option Macro) (p : Option (Transformer Frames Identifier)) → IsMacroIfAny old ls o p → IsMacroIfAny new ls o p
   if_any_on ls None None h = h

@@ -26,7 +26,7 @@ use Rattle.scope_env.specs.Moved.{parent_of, IsNamed, AreNamed, AreGivenNamed}
 use Rattle.core_forms.specs.Parts.{IsName}
 use Rattle.core_tree.specs.Names.{AllMatch, IsTarget, IsUse}
 use Rattle.expander.specs.Chains.{chain_in, uses_in, given_in}
-use Rattle.expander.specs.declared.macros.Leaf as code_leaf
+use Rattle.rules_check.specs.Gathered.{AreLeaves}
 use Rattle.expander.specs.declared.macros.Macro as code_macro
 use Rattle.expander.specs.declared.macros.Macros as code_macros
 use Rattle.expander.specs.Macros.{macro_in}
@@ -35,16 +35,12 @@ use Rattle.expander.specs.declared.scope.UnitScope as code
 
 -- ---- macros
 
-pub record IsLeaf (work : Work) (l : code_leaf.Leaf) (m : Leaf Identifier) : Type 0 where
-  pub name : IsName work l.name m.leaf
-  pub literal : l.literal ≡ m.literal
-
 -- a macro stands for this one: its scope's frames, its rules, which were checked, and their leaves
 pub record IsMacro (work : Work) (ls : List Frames) (k : code_macro.Macro) (m : Transformer Frames Identifier) : Type 0 where
   pub scope : slice_get ls k.scope ≡ Some m.env
   pub checked : AreChecked work k.rules
   pub rules : RulesFor work k.rules m.rules
-  pub leaves : AllMatch (IsLeaf work) k.leaves.items (leaves_of identifiers m.rules)
+  pub leaves : AreLeaves work.symbols k.leaves.items (leaves_of identifiers m.rules)
 
 abbrev pub IsMacroIfAny : Work → List Frames → Option code_macro.Macro → Option (Transformer Frames Identifier) → Type 0
 IsMacroIfAny work ls None None = Unit {0}
