@@ -4,6 +4,7 @@ pub mod DraftLaws
 pub mod DraftRows
 pub mod PairLaws
 pub mod ValueLaws
+pub mod IndexLaws
 pub mod NameLaws
 pub mod WalkLaws
 pub mod AddLaws

@@ -1,6 +1,9 @@
 -- What variables stand for at one place of the ellipses around a part of a template.
-use Rattle.std.specs.Prelude.{◌≡◌, ℕ, List, [], ◌∷◌, Option, Some, None, Result, Ok, Err}
-use Rattle.scheme_model.specs.Matching.{Value, One, Many, Values, Binding}
+use Rattle.std.specs.Prelude.{◌≡◌, ℕ, List, [], ◌∷◌, Option, Some, None, nat_eq, if◌then◌else◌, Result, Ok, Err, Vec}
+use Rattle.std.specs.BTreeMap.{get}
+use Rattle.std.specs.Ordering.{nat_cmp}
+use Rattle.std.specs.declared.alloc.Global.{Global}
+use Rattle.scheme_model.specs.Matching.{Value, One, Many, Values, no_values, value, Binding}
 use Rattle.scheme_model.specs.Building.{or_zero}
 use Rattle.scheme_model.specs.Ident.{Ident as Identifier}
 use Rattle.syntax_tree.specs.Works.{StandsFor, CanName}
@@ -10,6 +13,7 @@ use Rattle.syntax_tree.specs.declared.trees.Work.{Work}
 use Rattle.syntax_tree.specs.declared.trees.table.Region.{Region}
 use Rattle.syntax_tree.specs.declared.rules.Binding as code_binding
 use Rattle.rules_build.specs.declared.values.Bound as code
+use Rattle.rules_build.specs.declared.index.Index as code_index
 use Rattle.rules_build.specs.declared.values.Value as code_value
 use Rattle.rules_build.specs.declared.values.Value.TheVariants as worth
 use Rattle.rules_build.specs.declared.fault.BuildFault.{BuildFault}
@@ -58,6 +62,15 @@ IsFound work region None None = Unit {0}
 IsFound work region None (Some x) = ⊥
 IsFound work region (Some v) None = ⊥
 IsFound work region (Some v) (Some x) = IsWorth work region v x
+
+-- what the first binding of a number says
+abbrev pub value_by_number : List code.Bound → ℕ → Option code_value.Value
+value_by_number [] n = None
+value_by_number (b ∷ bs) n = if nat_eq n b.variable then Some b.value else value_by_number bs n
+
+-- for each number it has what the first binding of that number says
+abbrev pub IsIndexOf : List code.Bound → code_index.Index → Type 0
+IsIndexOf bounds index = (n : ℕ) → get nat_cmp index.values n ≡ value_by_number bounds n
 
 -- lengths differ, and nothing else is answered
 abbrev pub Differ : {X : Type 0} → Option X → BuildFault → Type 0

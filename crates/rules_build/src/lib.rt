@@ -15,6 +15,7 @@ ghost use Rattle.rules_build.specs.Adds.{Inserts};
 ghost use Rattle.rules_build.specs.Builds.{instance, Builds, CountsNodes, IsPlanned};
 
 use crate::adding::add_plan;
+use crate::index::index_of;
 use crate::measure::{fits, take_size};
 use crate::plan::Plan;
 use crate::values::all_bound;
@@ -26,6 +27,7 @@ use syntax_tree::trees::{Region, Tree, Work};
 
 mod adding;
 mod fault;
+mod index;
 mod measure;
 mod plan;
 mod used;
@@ -89,6 +91,7 @@ fn planned(
 {
     let roles = Roles::of(alloc, rules.ellipsis, rules.literals.as_slice())?;
     let bounds = all_bound(alloc, matched.bindings.as_slice())?;
+    let index = index_of(alloc, &bounds)?;
     let template = rules.rules.as_slice()[matched.rule as usize].template;
     let walk = Walk {
         alloc,
@@ -96,7 +99,14 @@ fn planned(
         roles: &roles,
     };
     let mut room = Some(left);
-    let plan = walk.tree(template, false, &bounds, work.depth(template), &mut room)?;
+    let plan = walk.tree(
+        template,
+        false,
+        &bounds,
+        &index,
+        work.depth(template),
+        &mut room,
+    )?;
     let Some(rest) = room else {
         return Err(BuildFault::NodeBudget);
     };

@@ -1,13 +1,11 @@
 //! What the variables of a pattern stand for at one place of the ellipses around a part of a template.
 ghost use Rattle.std.specs.Prelude.{◌≡◌, ℕ, List, IfOk};
 ghost use Rattle.scheme_model.specs.Matching.{Value as ModelValue, Binding as ModelBinding};
-ghost use Rattle.scheme_model.specs.Building.{first_value, later_values, first_place, later_places, places_of, agree_with, value_of};
-ghost use Rattle.scheme_model.specs.Ident.{Ident as Identifier, same_ident};
-ghost use Rattle.syntax_tree.specs.Names.{AreToldApart};
-ghost use Rattle.syntax_tree.specs.Macros.{IsIdent};
+ghost use Rattle.scheme_model.specs.Building.{first_value, later_values, first_place, later_places, places_of, agree_with};
+ghost use Rattle.scheme_model.specs.Ident.{Ident as Identifier};
 ghost use Rattle.syntax_tree.specs.declared.trees.Work.{Work};
 ghost use Rattle.syntax_tree.specs.declared.trees.table.Region.{Region};
-ghost use Rattle.rules_build.specs.Values.{IsBoundTo, IsWorth, AreBound, AreManyBound, IsFound, HasPlaces, Agrees};
+ghost use Rattle.rules_build.specs.Values.{IsBoundTo, IsWorth, AreBound, AreManyBound, HasPlaces, Agrees};
 
 use crate::BuildFault;
 use ls_base::{Mem, Memory};
@@ -163,18 +161,4 @@ fn agreed(places: Option<usize>, value: Value) -> Result<Option<usize>, BuildFau
             }
         },
     }
-}
-
-/// What an identifier stands for, if it is one of these variables.
-pub fn value_of<'a>(bounds: &[Bound<'a>], id: IdNo) -> Option<Value<'a>>
-    ensures { (work : Work) (region : Region) (ms : List (ModelBinding Identifier Identifier)) (i : Identifier) →
-        AreToldApart work.symbols.idents → IsIdent work.symbols id i → AreBound work region bounds.now ms →
-        IsFound work region result (value_of same_ident ms i) }
-{
-    for bound in bounds {
-        if bound.variable == id {
-            return Some(bound.value);
-        }
-    }
-    None
 }

@@ -13,14 +13,16 @@ ghost use Rattle.syntax_tree.specs.Macros.{IsIdent, TellsRoles};
 ghost use Rattle.syntax_tree.specs.Works.{StandsFor, IsStanding, CanName};
 ghost use Rattle.syntax_tree.specs.declared.trees.table.Region.{Region};
 ghost use Rattle.syntax_tree.specs.declared.trees.Work.{Work as AnyWork};
-ghost use Rattle.rules_build.specs.Values.{AreBound};
+ghost use Rattle.rules_build.specs.Values.{AreBound, IsIndexOf};
+ghost use Rattle.rules_build.specs.declared.values.Bound.{Bound as AnyBound};
 ghost use Rattle.rules_build.specs.Drafts.{spent, Draft, Drafts, IsDraft, AreDrafts, IsPlanOf, ArePlansOf, CanStand, IsEndedBy, IsEndOf};
 ghost use Rattle.rules_build.specs.Builds.{inserting, dots_where, Plans, PlansAll, Knows, HasBound};
 
 use crate::BuildFault;
+use crate::index::{Index, index_of, value_of};
 use crate::plan::{End, Plan, spend};
 use crate::used::used_in;
-use crate::values::{Bound, Value, first_place, later_places, places_of, value_of};
+use crate::values::{Bound, Value, first_place, later_places, places_of};
 use ls_base::{Mem, Memory};
 use scheme_model::Occ;
 use std::alloc::Global;
@@ -46,41 +48,43 @@ impl Walk<'_> {
         template: Tree,
         escaped: bool,
         bounds: &[Bound],
+        index: &Index,
         left: u32,
         room: &mut Option<u32>,
     ) -> Result<Plan, BuildFault>
         requires roles { Knows self.now }
         requires template { StandsWithin self.now.work.now template left }
         requires bounds { HasBound self.now bounds.now }
+        requires index { IsIndexOf bounds.now index.now }
         ensures { (r : ModelRules Identifier) (region : Region) (k : Number) (t : ModelTree Identifier) (ms : List (ModelBinding Identifier Identifier)) →
             TellsRoles self.now.work.now.symbols self.now.roles.now r → StandsFor self.now.work.now template t → AreBound self.now.work.now region bounds.now ms →
             Plans self.now.work.now region k room.old room.new (build_tree (inserting k) (dots_where escaped r) t ms) result }
     {
         match look_at(self.work, template) {
-            Look::Name(id) => Ok(self.name(template, id, bounds, room)),
+            Look::Name(id) => Ok(self.name(template, id, index, room)),
             Look::Atom(leaf) => {
                 *room = spend(*room, 1);
                 Ok(Plan::Atom(leaf))
             }
             Look::Vector(items) => {
                 let mut parts = Vec::new(self.alloc);
-                self.parts(items, escaped, bounds, left - 1, room, &mut parts)?;
+                self.parts(items, escaped, bounds, index, left - 1, room, &mut parts)?;
                 *room = spend(*room, 1);
                 Ok(Plan::Vector(parts))
             }
             Look::List(items, end) => {
                 if self.is_escape(items, end, escaped) {
-                    return Ok(self.tree(items[1], true, bounds, left - 1, room)?);
+                    return Ok(self.tree(items[1], true, bounds, index, left - 1, room)?);
                 }
                 let mut parts = Vec::new(self.alloc);
-                self.parts(items, escaped, bounds, left - 1, room, &mut parts)?;
+                self.parts(items, escaped, bounds, index, left - 1, room, &mut parts)?;
                 match end {
                     None => {
                         *room = spend(*room, 1);
                         Ok(Plan::List(parts, End::Proper))
                     }
                     Some(tail) => {
-                        let last = self.tree(tail, escaped, bounds, left - 1, room)?;
+                        let last = self.tree(tail, escaped, bounds, index, left - 1, room)?;
                         Ok(self.joined(parts, last, room)?)
                     }
                 }
@@ -95,6 +99,7 @@ impl Walk<'_> {
         items: &[Tree],
         escaped: bool,
         bounds: &[Bound],
+        index: &Index,
         left: u32,
         room: &mut Option<u32>,
         plans: &mut Vec<Plan>,
@@ -102,6 +107,7 @@ impl Walk<'_> {
         requires roles { Knows self.now }
         requires items { PartsWithin self.now.work.now items.now left }
         requires bounds { HasBound self.now bounds.now }
+        requires index { IsIndexOf bounds.now index.now }
         ensures { (r : ModelRules Identifier) (region : Region) (k : Number) (ts : Trees Identifier) (ms : List (ModelBinding Identifier Identifier)) →
             TellsRoles self.now.work.now.symbols self.now.roles.now r → PartsStand self.now.work.now items.now ts → AreBound self.now.work.now region bounds.now ms →
             PlansAll self.now.work.now region k room.old room.new plans.old.items plans.new.items (build_parts (inserting k) (dots_where escaped r) ts ms) result }
@@ -112,10 +118,11 @@ impl Walk<'_> {
             }
             let times = self.leading(items, k + 1, escaped);
             if times == 0 {
-                self.repeated(0, items[k], escaped, bounds, left, room, plans)?;
+                self.repeated(0, items[k], escaped, bounds, index, left, room, plans)?;
             } else {
                 let used = used_in(self.alloc, self.work, items[k], left, bounds)?;
-                self.repeated(times, items[k], escaped, &used, left, room, plans)?;
+                let places = index_of(self.alloc, &used)?;
+                self.repeated(times, items[k], escaped, &used, &places, left, room, plans)?;
             }
         }
         Ok(())
@@ -129,6 +136,7 @@ impl Walk<'_> {
         template: Tree,
         escaped: bool,
         bounds: &[Bound],
+        index: &Index,
         left: u32,
         room: &mut Option<u32>,
         plans: &mut Vec<Plan>,
@@ -136,35 +144,46 @@ impl Walk<'_> {
         requires roles { Knows self.now }
         requires template { StandsWithin self.now.work.now template left }
         requires bounds { HasBound self.now bounds.now }
+        requires index { IsIndexOf bounds.now index.now }
         ensures { (r : ModelRules Identifier) (region : Region) (k : Number) (t : ModelTree Identifier) (ms : List (ModelBinding Identifier Identifier)) →
             TellsRoles self.now.work.now.symbols self.now.roles.now r → StandsFor self.now.work.now template t → AreBound self.now.work.now region bounds.now ms →
             PlansAll self.now.work.now region k room.old room.new plans.old.items plans.new.items
             (repeated times (build_tree (inserting k) (dots_where escaped r) t) ms) result }
     {
         if times == 0 {
-            let plan = self.tree(template, escaped, bounds, left, room)?;
+            let plan = self.tree(template, escaped, bounds, index, left, room)?;
             return Ok(keep(*room, plan, plans)?);
         }
         let places = places_of(bounds)?;
         let mut here = copied(self.alloc, bounds)?;
         for _place in 0..places {
             let first = first_place(self.alloc, &here)?;
-            self.repeated(times - 1, template, escaped, &first, left, room, plans)?;
+            let names = index_of(self.alloc, &first)?;
+            self.repeated(
+                times - 1,
+                template,
+                escaped,
+                &first,
+                &names,
+                left,
+                room,
+                plans,
+            )?;
             here = later_places(self.alloc, &here)?;
         }
         Ok(())
     }
 
     /// The plan of an identifier: what the variable stands for, or the identifier, which the use is to mark.
-    fn name(&self, template: Tree, id: IdNo, bounds: &[Bound], room: &mut Option<u32>) -> Plan
+    fn name(&self, template: Tree, id: IdNo, index: &Index, room: &mut Option<u32>) -> Plan
         requires template { IsStanding self.now.work.now template }
-        ensures { (region : Region) (k : Number) (dots : Identifier → Bool) (i : Identifier) (o : Option AnyOcc) (ms : List (ModelBinding Identifier Identifier)) →
-            StandsFor self.now.work.now template (name i o) → IsIdent self.now.work.now.symbols id i → AreBound self.now.work.now region bounds.now ms →
+        ensures { (region : Region) (k : Number) (dots : Identifier → Bool) (i : Identifier) (o : Option AnyOcc) (bounds : List AnyBound) (ms : List (ModelBinding Identifier Identifier)) →
+            StandsFor self.now.work.now template (name i o) → IsIdent self.now.work.now.symbols id i → IsIndexOf bounds index.now → AreBound self.now.work.now region bounds ms →
             Plans self.now.work.now region k room.old room.new (build_tree (inserting k) dots (name i o) ms) (Ok result) }
     {
         self.work.symbols.told_apart();
         *room = spend(*room, 1);
-        match value_of(bounds, id) {
+        match value_of(index, id) {
             None => Plan::Name(id, place_of(self.work, template)),
             Some(Value::Many(_)) => Plan::Name(id, place_of(self.work, template)),
             Some(Value::One(tree)) => Plan::Held(tree),

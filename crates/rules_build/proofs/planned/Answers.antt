@@ -37,7 +37,7 @@ tree-requires-clause-bounds c =
     let q = c.requires.matched.1 in
     let w = c.args.work.now in
     let are = all_many_bound w c.requires.matched.0 c.args.matched.now.bindings q.1.match.bindings q.3.match.bindings q.4 in
-    let bound = subst (λ (bs : List Bound). AreBound w c.requires.matched.0 bs q.1.match.bindings) (sym c.deref.ensures.value) (c.in_ok-bounds.ensures w c.requires.matched.0 q.1.match.bindings (subst (λ (bs : List CodeBinding). AreManyBound w c.requires.matched.0 bs q.1.match.bindings) (sym c.as_slice-2.ensures) are)) in
+    let bound = subst (λ (bs : List Bound). AreBound w c.requires.matched.0 bs q.1.match.bindings) (sym c.deref-2.ensures.value) (c.in_ok-bounds.ensures w c.requires.matched.0 q.1.match.bindings (subst (λ (bs : List CodeBinding). AreManyBound w c.requires.matched.0 bs q.1.match.bindings) (sym c.as_slice-2.ensures) are)) in
     (c.requires.matched.0, q.1.match.bindings, bound)
 
 pub returns-in_err-plan : goal.returns-in_err-plan
@@ -47,7 +47,7 @@ returns-in_err-plan c = λ region k r m rules_for matched named.
     let of = subst (λ (ls : List ℕ). AreRolesOf c.in_ok-roles.roles rules.ellipsis ls) c.as_slice.ensures c.in_ok-roles.ensures in
     let told = tells w.symbols c.in_ok-roles.roles rules r rules.ellipsis rules.literals refl refl of rules_for.ellipsis rules_for.literals in
     let are = all_many_bound w region c.args.matched.now.bindings m.match.bindings matched.match.bindings named in
-    let bound = subst (λ (bs : List Bound). AreBound w region bs m.match.bindings) (sym c.deref.ensures.value) (c.in_ok-bounds.ensures w region m.match.bindings (subst (λ (bs : List CodeBinding). AreManyBound w region bs m.match.bindings) (sym c.as_slice-2.ensures) are)) in
+    let bound = subst (λ (bs : List Bound). AreBound w region bs m.match.bindings) (sym c.deref-2.ensures.value) (c.in_ok-bounds.ensures w region m.match.bindings (subst (λ (bs : List CodeBinding). AreManyBound w region bs m.match.bindings) (sym c.as_slice-2.ensures) are)) in
     let there = template_there w c.as_slice-3.result.now r.rules c.args.matched.now.rule _ m.rule (subst (λ (ns : List CodeRule). AreRules w ns r.rules) (sym c.as_slice-3.ensures) rules_for.rules) matched.rule in
     walk_fails w region r k m c.args.left c.from_residual-in_err-plan.result c.in_err-plan.field-0.0 c.from_residual-in_err-plan.ensures.1 (c.in_err-plan.ensures r region k m.rule.template m.match.bindings told there.1 bound)
 
@@ -58,7 +58,7 @@ returns-in_default c = λ region k r m rules_for matched named.
     let of = subst (λ (ls : List ℕ). AreRolesOf c.in_ok-roles.roles rules.ellipsis ls) c.as_slice.ensures c.in_ok-roles.ensures in
     let told = tells w.symbols c.in_ok-roles.roles rules r rules.ellipsis rules.literals refl refl of rules_for.ellipsis rules_for.literals in
     let are = all_many_bound w region c.args.matched.now.bindings m.match.bindings matched.match.bindings named in
-    let bound = subst (λ (bs : List Bound). AreBound w region bs m.match.bindings) (sym c.deref.ensures.value) (c.in_ok-bounds.ensures w region m.match.bindings (subst (λ (bs : List CodeBinding). AreManyBound w region bs m.match.bindings) (sym c.as_slice-2.ensures) are)) in
+    let bound = subst (λ (bs : List Bound). AreBound w region bs m.match.bindings) (sym c.deref-2.ensures.value) (c.in_ok-bounds.ensures w region m.match.bindings (subst (λ (bs : List CodeBinding). AreManyBound w region bs m.match.bindings) (sym c.as_slice-2.ensures) are)) in
     let there = template_there w c.as_slice-3.result.now r.rules c.args.matched.now.rule _ m.rule (subst (λ (ns : List CodeRule). AreRules w ns r.rules) (sym c.as_slice-3.ensures) rules_for.rules) matched.rule in
     let h = c.in_ok-plan.ensures r region k m.rule.template m.match.bindings told there.1 bound in
     planned_many w region r k m c.args.left c.tree.new.room c.in_ok-plan.plan h (none_is c.tree.new.room c.in_default.not-Some)
@@ -71,7 +71,7 @@ take_size-requires c =
     let of = subst (λ (ls : List ℕ). AreRolesOf c.in_ok-roles.roles rules.ellipsis ls) c.as_slice.ensures c.in_ok-roles.ensures in
     let told = tells w.symbols c.in_ok-roles.roles rules q.0 rules.ellipsis rules.literals refl refl of q.2.ellipsis q.2.literals in
     let are = all_many_bound w c.requires.matched.0 c.args.matched.now.bindings q.1.match.bindings q.3.match.bindings q.4 in
-    let bound = subst (λ (bs : List Bound). AreBound w c.requires.matched.0 bs q.1.match.bindings) (sym c.deref.ensures.value) (c.in_ok-bounds.ensures w c.requires.matched.0 q.1.match.bindings (subst (λ (bs : List CodeBinding). AreManyBound w c.requires.matched.0 bs q.1.match.bindings) (sym c.as_slice-2.ensures) are)) in
+    let bound = subst (λ (bs : List Bound). AreBound w c.requires.matched.0 bs q.1.match.bindings) (sym c.deref-2.ensures.value) (c.in_ok-bounds.ensures w c.requires.matched.0 q.1.match.bindings (subst (λ (bs : List CodeBinding). AreManyBound w c.requires.matched.0 bs q.1.match.bindings) (sym c.as_slice-2.ensures) are)) in
     let there = template_there w c.as_slice-3.result.now q.0.rules c.args.matched.now.rule _ q.1.rule (subst (λ (ns : List CodeRule). AreRules w ns q.0.rules) (sym c.as_slice-3.ensures) q.2.rules) q.3.rule in
     let zero : Number = record { unit = 0; form = 0; count = 0 } in
     let h = c.in_ok-plan.ensures q.0 c.requires.matched.0 zero q.1.rule.template q.1.match.bindings told there.1 bound in
@@ -84,7 +84,7 @@ returns-then-is_none c = λ region k r m rules_for matched named.
     let of = subst (λ (ls : List ℕ). AreRolesOf c.in_ok-roles.roles rules.ellipsis ls) c.as_slice.ensures c.in_ok-roles.ensures in
     let told = tells w.symbols c.in_ok-roles.roles rules r rules.ellipsis rules.literals refl refl of rules_for.ellipsis rules_for.literals in
     let are = all_many_bound w region c.args.matched.now.bindings m.match.bindings matched.match.bindings named in
-    let bound = subst (λ (bs : List Bound). AreBound w region bs m.match.bindings) (sym c.deref.ensures.value) (c.in_ok-bounds.ensures w region m.match.bindings (subst (λ (bs : List CodeBinding). AreManyBound w region bs m.match.bindings) (sym c.as_slice-2.ensures) are)) in
+    let bound = subst (λ (bs : List Bound). AreBound w region bs m.match.bindings) (sym c.deref-2.ensures.value) (c.in_ok-bounds.ensures w region m.match.bindings (subst (λ (bs : List CodeBinding). AreManyBound w region bs m.match.bindings) (sym c.as_slice-2.ensures) are)) in
     let there = template_there w c.as_slice-3.result.now r.rules c.args.matched.now.rule _ m.rule (subst (λ (ns : List CodeRule). AreRules w ns r.rules) (sym c.as_slice-3.ensures) rules_for.rules) matched.rule in
     let h = c.in_ok-plan.ensures r region k m.rule.template m.match.bindings told there.1 bound in
     planned_large w region r k m c.args.left c.tree.new.room c.in-Some.rest c.in_ok-plan.plan c.take_size.new.room h c.in-Some.is (gone_is c.take_size.new.room c.if-is_none.ensures) (λ d is. c.take_size.ensures region k d is)
@@ -97,7 +97,7 @@ fits-requires c =
     let of = subst (λ (ls : List ℕ). AreRolesOf c.in_ok-roles.roles rules.ellipsis ls) c.as_slice.ensures c.in_ok-roles.ensures in
     let told = tells w.symbols c.in_ok-roles.roles rules q.0 rules.ellipsis rules.literals refl refl of q.2.ellipsis q.2.literals in
     let are = all_many_bound w c.requires.matched.0 c.args.matched.now.bindings q.1.match.bindings q.3.match.bindings q.4 in
-    let bound = subst (λ (bs : List Bound). AreBound w c.requires.matched.0 bs q.1.match.bindings) (sym c.deref.ensures.value) (c.in_ok-bounds.ensures w c.requires.matched.0 q.1.match.bindings (subst (λ (bs : List CodeBinding). AreManyBound w c.requires.matched.0 bs q.1.match.bindings) (sym c.as_slice-2.ensures) are)) in
+    let bound = subst (λ (bs : List Bound). AreBound w c.requires.matched.0 bs q.1.match.bindings) (sym c.deref-2.ensures.value) (c.in_ok-bounds.ensures w c.requires.matched.0 q.1.match.bindings (subst (λ (bs : List CodeBinding). AreManyBound w c.requires.matched.0 bs q.1.match.bindings) (sym c.as_slice-2.ensures) are)) in
     let there = template_there w c.as_slice-3.result.now q.0.rules c.args.matched.now.rule _ q.1.rule (subst (λ (ns : List CodeRule). AreRules w ns q.0.rules) (sym c.as_slice-3.ensures) q.2.rules) q.3.rule in
     let zero : Number = record { unit = 0; form = 0; count = 0 } in
     let h = c.in_ok-plan.ensures q.0 c.requires.matched.0 zero q.1.rule.template q.1.match.bindings told there.1 bound in
@@ -110,7 +110,7 @@ returns-then-not-fits c = λ region k r m rules_for matched named.
     let of = subst (λ (ls : List ℕ). AreRolesOf c.in_ok-roles.roles rules.ellipsis ls) c.as_slice.ensures c.in_ok-roles.ensures in
     let told = tells w.symbols c.in_ok-roles.roles rules r rules.ellipsis rules.literals refl refl of rules_for.ellipsis rules_for.literals in
     let are = all_many_bound w region c.args.matched.now.bindings m.match.bindings matched.match.bindings named in
-    let bound = subst (λ (bs : List Bound). AreBound w region bs m.match.bindings) (sym c.deref.ensures.value) (c.in_ok-bounds.ensures w region m.match.bindings (subst (λ (bs : List CodeBinding). AreManyBound w region bs m.match.bindings) (sym c.as_slice-2.ensures) are)) in
+    let bound = subst (λ (bs : List Bound). AreBound w region bs m.match.bindings) (sym c.deref-2.ensures.value) (c.in_ok-bounds.ensures w region m.match.bindings (subst (λ (bs : List CodeBinding). AreManyBound w region bs m.match.bindings) (sym c.as_slice-2.ensures) are)) in
     let there = template_there w c.as_slice-3.result.now r.rules c.args.matched.now.rule _ m.rule (subst (λ (ns : List CodeRule). AreRules w ns r.rules) (sym c.as_slice-3.ensures) rules_for.rules) matched.rule in
     let h = c.in_ok-plan.ensures r region k m.rule.template m.match.bindings told there.1 bound in
     planned_deep w region r k m c.args.left c.tree.new.room c.in-Some.rest c.in_ok-plan.plan c.take_size.new.room c.fits.result h c.in-Some.is c.if-is_none.ensures c.if-not-fits.true (λ d is. c.take_size.ensures region k d is) (λ d is. c.fits.ensures region k d is)
@@ -122,7 +122,7 @@ returns c = λ region k r m rules_for matched named.
     let of = subst (λ (ls : List ℕ). AreRolesOf c.in_ok-roles.roles rules.ellipsis ls) c.as_slice.ensures c.in_ok-roles.ensures in
     let told = tells w.symbols c.in_ok-roles.roles rules r rules.ellipsis rules.literals refl refl of rules_for.ellipsis rules_for.literals in
     let are = all_many_bound w region c.args.matched.now.bindings m.match.bindings matched.match.bindings named in
-    let bound = subst (λ (bs : List Bound). AreBound w region bs m.match.bindings) (sym c.deref.ensures.value) (c.in_ok-bounds.ensures w region m.match.bindings (subst (λ (bs : List CodeBinding). AreManyBound w region bs m.match.bindings) (sym c.as_slice-2.ensures) are)) in
+    let bound = subst (λ (bs : List Bound). AreBound w region bs m.match.bindings) (sym c.deref-2.ensures.value) (c.in_ok-bounds.ensures w region m.match.bindings (subst (λ (bs : List CodeBinding). AreManyBound w region bs m.match.bindings) (sym c.as_slice-2.ensures) are)) in
     let there = template_there w c.as_slice-3.result.now r.rules c.args.matched.now.rule _ m.rule (subst (λ (ns : List CodeRule). AreRules w ns r.rules) (sym c.as_slice-3.ensures) rules_for.rules) matched.rule in
     let h = c.in_ok-plan.ensures r region k m.rule.template m.match.bindings told there.1 bound in
     planned_all w region r k m c.args.left c.tree.new.room c.in-Some.rest c.in_ok-plan.plan c.take_size.new.room c.fits.result h c.in-Some.is c.if-is_none.ensures c.if-not-fits.false (λ d is. c.take_size.ensures region k d is) (λ d is. c.fits.ensures region k d is)

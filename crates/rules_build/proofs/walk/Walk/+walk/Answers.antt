@@ -13,7 +13,7 @@ use Rattle.rules_build.specs.declared.plan.Plan.{Plan}
 use Rattle.rules_build.specs.declared.plan.Plan.TheVariants as plan
 use Rattle.rules_build.specs.declared.plan.End.TheVariants as end
 use Rattle.rules_build.specs.declared.values.Bound as code
-use Rattle.rules_build.specs.Values.{AreBound}
+use Rattle.rules_build.specs.Values.{AreBound, IsIndexOf}
 use Rattle.rules_build.specs.Drafts.{spent, ArePlansOf}
 use Rattle.rules_build.specs.Builds.{inserting, dots_where, Fails, Plans}
 use Rattle.rules_build.proofs.BuildLaws.{vanish_parts}
@@ -22,7 +22,7 @@ use Rattle.rules_build.proofs.Tails.{end_proper, end_dotted, tail_within}
 use Rattle.rules_build.proofs.WalkLaws.{tree_handed_on, all_handed_on, parts_start, parts_dots, parts_more, parts_fail, parts_end, once, plans_same, places_start, places_more, places_fail, places_end, kept_one, vector_fails, vector_planned, list_fails, list_planned, tail_fails, tail_planned, escape_built}
 use Rattle.rules_build.proofs.WalkSteps.{atom_planned, escape_size, escape_inner, upto_same, once_is, once_fails, left_is, left_fails}
 use Rattle.rules_build.proofs.walk.Walk.+walk.Goals as goal
-use Rattle.rules_build.proofs.walk.Walk.+walk.Goals.{parts-then-times-eq0+in_ok-repeated, parts-else-times-eq0+in_ok-used+in_ok-repeated-2}
+use Rattle.rules_build.proofs.walk.Walk.+walk.Goals.{parts-then-times-eq0+in_ok-repeated, parts-else-times-eq0+in_ok-used+in_ok-places+in_ok-repeated-2}
 
 pub parts-loop-k-init : goal.parts-loop-k-init
 parts-loop-k-init t c = λ r region k ts ms tells h are. parts_start c.args.self.now.work.now region k (dots_where c.args.escaped r) ts ms c.args.room.now c.args.plans.now.items
@@ -42,7 +42,7 @@ parts-loop-k-preserved-then-is_dots t c = λ r region k ts ms tells h are.
     parts_dots w region k dots ts ms j p.part c.args.room.now c.loop-k.room c.args.plans.now.items c.loop-k.plans.items split own u
 
 pub parts-repeated-requires : goal.parts-repeated-requires
-parts-repeated-requires t c = (omega arith, (c.requires.roles, (part_within c.args.self.now.work.now c.args.items.now c.args.left c.loop-k.k _ c.requires.items c.loop-k-test.true, c.requires.bounds)))
+parts-repeated-requires t c = (omega arith, (c.requires.roles, (part_within c.args.self.now.work.now c.args.items.now c.args.left c.loop-k.k _ c.requires.items c.loop-k-test.true, (c.requires.bounds, c.requires.index))))
 
 pub parts-returns-in_err-repeated : goal.parts-returns-in_err-repeated
 parts-returns-in_err-repeated t c = λ r region k ts ms tells h are.
@@ -69,8 +69,8 @@ parts-repeated-requires-else-times-eq0 t c =
     let b = c.requires.bounds in
     let p = part_there w j c.args.items.now c.requires.items.0 (record { number = 0 }) c.requires.items.1 c.loop-k-test.true in
     let used = c.in_ok-used.ensures b.0 p.part b.1 p.stands b.2 in
-    let bound = subst (λ (bs : List code.Bound). AreBound w b.0 bs (used_in same_ident p.part b.1)) (sym c.deref.ensures.value) used in
-    (omega arith, (c.requires.roles, (part_within w c.args.items.now c.args.left j _ c.requires.items c.loop-k-test.true, (b.0, used_in same_ident p.part b.1, bound))))
+    let bound = subst (λ (bs : List code.Bound). AreBound w b.0 bs (used_in same_ident p.part b.1)) (sym c.deref-else-times-eq0.ensures.value) used in
+    (omega arith, (c.requires.roles, (part_within w c.args.items.now c.args.left j _ c.requires.items c.loop-k-test.true, ((b.0, used_in same_ident p.part b.1, bound), subst (λ (bs : List code.Bound). IsIndexOf bs c.in_ok-places.places) (c.deref.ensures.value ∙ sym c.deref-else-times-eq0.ensures.value) c.in_ok-places.ensures))))
 
 pub parts-returns-in_err-repeated-2 : goal.parts-returns-in_err-repeated-2
 parts-returns-in_err-repeated-2 t c = λ r region k ts ms tells h are.
@@ -83,7 +83,7 @@ parts-returns-in_err-repeated-2 t c = λ r region k ts ms tells h are.
     let other : is_dots dots p.part ≡ false = sym (c.is_dots.ensures r p.part tells p.stands) ∙ c.if-is_dots.false in
     let lead = c.leading-times.ensures r ts tells h in
     let used = c.in_ok-used.ensures region p.part ms p.stands are in
-    let bound = subst (λ (bs : List code.Bound). AreBound w region bs (used_in same_ident p.part ms)) (sym c.deref.ensures.value) used in
+    let bound = subst (λ (bs : List code.Bound). AreBound w region bs (used_in same_ident p.part ms)) (sym c.deref-else-times-eq0.ensures.value) used in
     let e = c.in_err-repeated-2.field-0.0 in
     let f = c.from_residual-in_err-repeated-2 in
     let a = subst (λ (n : ℕ). Fails (repeated n (build_tree (inserting k) dots p.part) (used_in same_ident p.part ms)) e) lead (c.in_err-repeated-2.ensures r region k p.part (used_in same_ident p.part ms) tells p.stands bound) in
@@ -108,11 +108,11 @@ parts-loop-k-preserved t c = λ r region k ts ms tells h are.
           let a = plans_same w region k c.loop-k.room room c.loop-k.plans.items new.items (repeated 0 (build_tree (inserting k) dots p.part) ms) whole (Ok tt) (once w region k dots p.part ms (leading dots (behind (j + 1) ts)) (sym x.if-times-eq0.true ∙ lead)) (x.in_ok-repeated.ensures r region k p.part ms tells p.stands are) in
           let more = parts_more w region k dots ts ms j p.part c.args.room.now c.loop-k.room room c.args.plans.now.items c.loop-k.plans.items new.items tt split other u a in
           upto_same w region k dots ts ms (j + 1) c.args.room.now room c.if-times-eq0.room c.args.plans.now.items new.items c.if-times-eq0.plans.items x.room-is (ap (λ (v : Vec Plan Global). v.items) x.plans-is) more
-      | parts-else-times-eq0+in_ok-used+in_ok-repeated-2 x ↦
+      | parts-else-times-eq0+in_ok-used+in_ok-places+in_ok-repeated-2 x ↦
           let room = x.repeated-else-times-eq0.new.room in
           let new = x.repeated-else-times-eq0.new.plans in
           let used = x.in_ok-used.ensures region p.part ms p.stands are in
-          let bound = subst (λ (bs : List code.Bound). AreBound w region bs (used_in same_ident p.part ms)) (sym x.deref.ensures.value) used in
+          let bound = subst (λ (bs : List code.Bound). AreBound w region bs (used_in same_ident p.part ms)) (sym x.deref-else-times-eq0.ensures.value) used in
           let a = plans_same w region k c.loop-k.room room c.loop-k.plans.items new.items (repeated c.leading-times.result (build_tree (inserting k) dots p.part) (used_in same_ident p.part ms)) whole (Ok tt)
           (ap (λ (n : ℕ). repeated n (build_tree (inserting k) dots p.part) (used_in same_ident p.part ms)) lead) (x.in_ok-repeated-2.ensures r region k p.part (used_in same_ident p.part ms) tells p.stands bound) in
           let more = parts_more w region k dots ts ms j p.part c.args.room.now c.loop-k.room room c.args.plans.now.items c.loop-k.plans.items new.items tt split other u a in
@@ -165,9 +165,9 @@ repeated-repeated-requires t c =
     let zero : Number = record { unit = 0; form = 0; count = 0 } in
     let i = c.loop-place.invariant c.requires.roles.0 b.0 zero q.0 b.1 c.requires.roles.1 q.1 b.2 in
     let here = subst (λ (bs : List code.Bound). AreBound w b.0 bs i.later) (sym c.deref.ensures.value) i.are in
-    let first = subst (λ (bs : List code.Bound). AreBound w b.0 bs (first_place i.later)) (sym c.deref-in-loop-place.ensures.value) (c.in_ok-first.ensures w b.0 i.later here) in
+    let first = subst (λ (bs : List code.Bound). AreBound w b.0 bs (first_place i.later)) (sym c.deref-in-loop-place-2.ensures.value) (c.in_ok-first.ensures w b.0 i.later here) in
     let some = c.if-times-eq0.false in
-    (omega (arith, some), (c.requires.roles, (q, (b.0, first_place i.later, first))))
+    (omega (arith, some), (c.requires.roles, (q, ((b.0, first_place i.later, first), subst (λ (bs : List code.Bound). IsIndexOf bs c.in_ok-names.names) (c.deref-in-loop-place.ensures.value ∙ sym c.deref-in-loop-place-2.ensures.value) c.in_ok-names.ensures))))
 
 pub repeated-returns-in_err-repeated : goal.repeated-returns-in_err-repeated
 repeated-returns-in_err-repeated t c = λ r region k u ms tells h are.
@@ -178,7 +178,7 @@ repeated-returns-in_err-repeated t c = λ r region k u ms tells h are.
     let j = c.loop-place._place in
     let i = c.loop-place.invariant r region k u ms tells h are in
     let here = subst (λ (bs : List code.Bound). AreBound w region bs i.later) (sym c.deref.ensures.value) i.are in
-    let first = subst (λ (bs : List code.Bound). AreBound w region bs (first_place i.later)) (sym c.deref-in-loop-place.ensures.value) (c.in_ok-first.ensures w region i.later here) in
+    let first = subst (λ (bs : List code.Bound). AreBound w region bs (first_place i.later)) (sym c.deref-in-loop-place-2.ensures.value) (c.in_ok-first.ensures w region i.later here) in
     let whole = left_is w region k c.args.times n f ms c.if-times-eq0.false (c.in_ok-places.ensures w region ms are) in
     let e = c.in_err-repeated.field-0.0 in
     let b = c.from_residual-in_err-repeated in
@@ -194,8 +194,8 @@ repeated-loop-place-preserved t c = λ r region k u ms tells h are.
     let j = c.loop-place._place in
     let i = c.loop-place.invariant r region k u ms tells h are in
     let here = subst (λ (bs : List code.Bound). AreBound w region bs i.later) (sym c.deref.ensures.value) i.are in
-    let first = subst (λ (bs : List code.Bound). AreBound w region bs (first_place i.later)) (sym c.deref-in-loop-place.ensures.value) (c.in_ok-first.ensures w region i.later here) in
-    let back = subst (λ (bs : List code.Bound). AreBound w region bs i.later) (sym c.deref-in-loop-place-2.ensures.value) i.are in
+    let first = subst (λ (bs : List code.Bound). AreBound w region bs (first_place i.later)) (sym c.deref-in-loop-place-2.ensures.value) (c.in_ok-first.ensures w region i.later here) in
+    let back = subst (λ (bs : List code.Bound). AreBound w region bs i.later) (sym c.deref-in-loop-place-3.ensures.value) i.are in
     places_more w region k g n ms j c.args.room.now c.loop-place.room c.repeated.new.room c.args.plans.now.items c.loop-place.plans.items c.repeated.new.plans.items c.loop-place.here.items c.in_ok-here-2.here.items tt c.loop-place-test.true i (c.in_ok-here-2.ensures w region i.later back)
     (c.in_ok-repeated.ensures r region k u (first_place i.later) tells h first)
 
@@ -241,7 +241,7 @@ tree-tree-requires t c =
     let n = escape_size w dots c.in-List.items.now q.0 q.1 q.4 own in
     let below = list_parts_within w c.args.left p.0 c.in-List.items.now q.0 q.1 q.2 p.2 q.3 q.4 in
     let deep = within_positive w c.args.template c.args.left p in
-    (omega (arith, deep), (c.requires.roles, (part_within w c.in-List.items.now (c.args.left - 1) 1 _ below n, c.requires.bounds)))
+    (omega (arith, deep), (c.requires.roles, (part_within w c.in-List.items.now (c.args.left - 1) 1 _ below n, (c.requires.bounds, c.requires.index))))
 
 pub tree-returns-in_err-tree-in-List : goal.tree-returns-in_err-tree-in-List
 tree-returns-in_err-tree-in-List t c = λ r region k u ms tells h are.
@@ -284,7 +284,7 @@ tree-tree-requires-in-Some t c =
     let q = c.in-List.ensures.look p.0 p.1 in
     let below = end_within w c.args.left p.0 c.in-List.end q.0 q.1 q.2 p.2 q.3 q.5 in
     let deep = within_positive w c.args.template c.args.left p in
-    (omega (arith, deep), (c.requires.roles, (tail_within w c.in-List.end c.in-Some.tail (c.args.left - 1) c.in-Some.is below, c.requires.bounds)))
+    (omega (arith, deep), (c.requires.roles, (tail_within w c.in-List.end c.in-Some.tail (c.args.left - 1) c.in-Some.is below, (c.requires.bounds, c.requires.index))))
 
 pub tree-returns-in_err-last-in-Some : goal.tree-returns-in_err-last-in-Some
 tree-returns-in_err-last-in-Some t c = λ r region k u ms tells h are.
@@ -315,7 +315,7 @@ tree-returns-in-Name t c = λ r region k u ms tells h are.
     let dots = dots_where c.args.escaped r in
     let q = c.in-Name.ensures.look u h in
     subst (λ (x : ModelTree Identifier). Plans w region k c.args.room.now c.name.new.room (build_tree (inserting k) dots x ms) (Ok c.name.result)) (sym q.2)
-    (c.name.ensures region k dots q.0 q.1 ms (subst (StandsFor w c.args.template) q.2 h) q.3 are)
+    (c.name.ensures region k dots q.0 q.1 c.args.bounds.now ms (subst (StandsFor w c.args.template) q.2 h) q.3 c.requires.index are)
 
 pub tree-returns-in-Atom : goal.tree-returns-in-Atom
 tree-returns-in-Atom t c = λ r region k u ms tells h are.
