@@ -6,3 +6,15 @@ pub mod Counts
 pub mod Binds
 pub mod Stepped
 pub mod Outcomes
+pub mod Judged
+pub mod Searched
+pub mod Kept
+pub mod Used
+pub mod RulesTold
+pub mod Records
+pub mod Defining
+pub mod Passed
+pub mod CoreSteps
+pub mod Ready
+pub mod Bodies
+pub mod Expanded

@@ -3,7 +3,7 @@
 use Rattle.std.specs.Prelude.{◌≡◌, ℕ, ◌+◌, ◌*◌, ◌^◌, ◌<◌, ◌≤◌, List, [], ◌∷◌, Bool, true, false, reverse, length, slice_get, Option, Some, None}
 use Rattle.std.specs.Option.{option_map}
 use Rattle.std.specs.FinMap as map
-use Rattle.std.specs.BTreeMap.{get}
+use Rattle.std.specs.BTreeMap.{get, btree_map_len}
 use Rattle.std.specs.Ordering.{nat_cmp}
 use Rattle.scheme_model.specs.Identifiers.{Number}
 use Rattle.scheme_model.specs.Ident.{Ident as Identifier}
@@ -123,4 +123,17 @@ pub record Stands (work : Work) (scope : code.UnitScope) (ls : List Frames) (s :
   pub form : FormStands work.symbols scope.form s
   pub defined : (n : ℕ) (i : Identifier) → IsIdent work.symbols n i → get nat_cmp scope.defined n ≡ option_map (λ d. d.keyword) (defined_in s.table s.unit i)
   pub known : (n : ℕ) (k : Bool) → get nat_cmp scope.defined n ≡ Some k → n < length work.symbols.idents
-  pub count : scope.count ≡ definition_count s.table s.unit
+  pub count : btree_map_len scope.defined ≡ definition_count s.table s.unit
+
+-- ---- between two calls, when no form is at work
+
+pub record Rests (work : Work) (scope : code.UnitScope) (ls : List Frames) (s : ScopedState) : Type 0 where
+  pub unit : scope.unit ≡ s.unit
+  pub program : is_program scope.kind ≡ s.program
+  pub env : EnvStands work.symbols scope.env ls s
+  pub macros : MacrosStand work scope.macros ls s
+  pub root : slice_get ls scope.root ≡ Some []
+  pub own : map.get scope.env.roots scope.unit ≡ Some scope.root
+  pub defined : (n : ℕ) (i : Identifier) → IsIdent work.symbols n i → get nat_cmp scope.defined n ≡ option_map (λ d. d.keyword) (defined_in s.table s.unit i)
+  pub known : (n : ℕ) (k : Bool) → get nat_cmp scope.defined n ≡ Some k → n < length work.symbols.idents
+  pub count : btree_map_len scope.defined ≡ definition_count s.table s.unit

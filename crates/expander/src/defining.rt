@@ -1,4 +1,25 @@
 //! The definitions of each kind, as they are gone through (R7RS 5.3 to 5.5).
+ghost use Rattle.std.specs.Prelude.{◌≡◌, ℕ, ◌+◌, ◌≤◌, ◌<◌, List, Vec, Option, IfOk, OnOk, length};
+ghost use Rattle.scheme_model.specs.ExpansionFaults.{Named};
+ghost use Rattle.scheme_model.specs.Ident.{Ident as Identifier, same_ident};
+ghost use Rattle.scheme_model.specs.Requirements.{Known};
+ghost use Rattle.scheme_model.specs.Trees.{Tree as ModelTree};
+ghost use Rattle.scheme_model.specs.Shapes.{Formals as ModelFormals, Clause as ModelClause, Variable, Procedure, RecordShape};
+ghost use Rattle.scheme_model.specs.Order.{Pending as ModelPending, run_define, run_values, run_record, run_syntax, record_names};
+ghost use Rattle.scheme_model.specs.ScopedExpansion.{Frames, Place, ScopedState};
+ghost use Rattle.syntax_tree.specs.declared.trees.table.Region.{Region as AnyRegion};
+ghost use Rattle.core_forms.specs.Parts.{IsName, AllMatch as Match, IsFormals};
+ghost use Rattle.core_tree.specs.Names.{AllMatch, IsBinder};
+ghost use Rattle.expander.specs.Judged.{Knows};
+ghost use Rattle.expander.specs.Searched.{searched};
+ghost use Rattle.expander.specs.State.{Stands, most_locals};
+ghost use Rattle.expander.specs.Kept.{NotesFor, SpotFor, PendingFor, ClauseFor};
+ghost use Rattle.syntax_tree.specs.Works.{IsStanding, StandsFor};
+ghost use Rattle.expander.specs.Outcomes.{WorksOn};
+ghost use Rattle.expander.specs.Defining.{CanGo, HasNumber, Takes, EndsIn, define_each};
+ghost use Rattle.expander.specs.Passed.{GoesOn};
+ghost use Rattle.expander.specs.Records.{IsRecordFor};
+
 use crate::asked::Asked;
 use crate::fault::ExpandFault;
 use crate::items::{Form, Kept, Pending, Spot};
@@ -22,7 +43,15 @@ impl UnitScope {
         form: Form,
         pending: &mut Pending,
         asked: &Asked,
-    ) -> Result<(), ExpandFault> {
+    ) -> Result<(), ExpandFault>
+        requires can { CanGo work.now self.old spot asked.now }
+        requires name { HasNumber work.now name }
+        requires room { self.old.form.budget.locals + 1 ≤ most_locals self.old.form.budget.nodes }
+        ensures { (known : Known) (region : AnyRegion) (ls : List Frames) (s : ScopedState) (fs : Frames) (n : Named Identifier) (t : ModelTree Identifier) (p : ModelPending Identifier Place) (given : ℕ) →
+            Knows self.old.libraries known → Stands work.now self.old ls s → SpotFor work.now self.old ls s spot fs → IsName work.now name n → WorksOn work.now region form.tree t →
+            PendingFor work.now region self.old.unit self.old.form.number pending.old p → NotesFor work.now ls asked.now p.notes → 1 ≤ given →
+            GoesOn work.now work.now region self.old self.new ls spot fs p.todo given pending.new asked.now result (λ go. run_define (searched known) go form.here fs p (Variable n t) s) }
+    {
         if self.is_assigned(spot, name.ident) {
             pending.aside.push(Kept::Assigned(name, form))?;
             return Ok(());
@@ -43,7 +72,15 @@ impl UnitScope {
         clause: ClauseShape,
         pending: &mut Pending,
         asked: &Asked,
-    ) -> Result<(), ExpandFault> {
+    ) -> Result<(), ExpandFault>
+        requires can { CanGo work.now self.old spot asked.now }
+        requires name { HasNumber work.now name }
+        requires room { self.old.form.budget.locals + 1 ≤ most_locals self.old.form.budget.nodes }
+        ensures { (known : Known) (region : AnyRegion) (ls : List Frames) (s : ScopedState) (fs : Frames) (n : Named Identifier) (c : ModelClause Identifier) (p : ModelPending Identifier Place) (given : ℕ) →
+            Knows self.old.libraries known → Stands work.now self.old ls s → SpotFor work.now self.old ls s spot fs → IsName work.now name n → ClauseFor work.now region clause c →
+            PendingFor work.now region self.old.unit self.old.form.number pending.old p → NotesFor work.now ls asked.now p.notes → 1 ≤ given →
+            GoesOn work.now work.now region self.old self.new ls spot fs p.todo given pending.new asked.now result (λ go. run_define (searched known) go here fs p (Procedure n c) s) }
+    {
         if self.is_assigned(spot, name.ident) {
             pending.aside.push(Kept::AssignedFunction(name, here, clause))?;
             return Ok(());
@@ -63,7 +100,15 @@ impl UnitScope {
         here: Option<Occ>,
         names: &[NamePart],
         asked: &Asked,
-    ) -> Result<Vec<Binder>, ExpandFault> {
+    ) -> Result<Vec<Binder>, ExpandFault>
+        requires can { CanGo work.now self.old spot asked.now }
+        requires names { (ns : List (Named Identifier)) × Match (IsName work.now) names.now ns }
+        requires room { self.old.form.budget.locals + length names.now ≤ most_locals self.old.form.budget.nodes }
+        ensures defined { (known : Known) (region : AnyRegion) (ls : List Frames) (s : ScopedState) (fs : Frames) (ns : List (Named Identifier)) (p : ModelPending Identifier Place) →
+            Stands work.now self.old ls s → SpotFor work.now self.old ls s spot fs → Match (IsName work.now) names.now ns → NotesFor work.now ls asked.now p.notes →
+            EndsIn (λ bs ms. AllMatch (IsBinder work.now.symbols self.old.unit self.old.form.number) bs.items ms) work.now region self.old self.new ls spot fs result (define_each (searched known) here fs ns p s) }
+        ensures counts { OnOk result (Takes (length names.now) self.old self.new) }
+    {
         let mut binders = Vec::new(alloc);
         for name in names {
             let binder = self.next_binder(spot, *name);
@@ -83,7 +128,15 @@ impl UnitScope {
         form: Form,
         pending: &mut Pending,
         asked: &Asked,
-    ) -> Result<(), ExpandFault> {
+    ) -> Result<(), ExpandFault>
+        requires can { CanGo work.now self.old spot asked.now }
+        requires names { (m : ModelFormals Identifier) × IsFormals work.now formals m }
+        requires room { self.old.form.budget.locals + length formals.names.items ≤ most_locals self.old.form.budget.nodes }
+        ensures { (known : Known) (region : AnyRegion) (ls : List Frames) (s : ScopedState) (fs : Frames) (m : ModelFormals Identifier) (t : ModelTree Identifier) (p : ModelPending Identifier Place) (given : ℕ) →
+            Knows self.old.libraries known → Stands work.now self.old ls s → SpotFor work.now self.old ls s spot fs → IsFormals work.now formals m → WorksOn work.now region form.tree t →
+            PendingFor work.now region self.old.unit self.old.form.number pending.old p → NotesFor work.now ls asked.now p.notes → length m.names < given →
+            GoesOn work.now work.now region self.old self.new ls spot fs p.todo given pending.new asked.now result (λ go. run_values (searched known) go form.here fs p (m, t) s) }
+    {
         let Formals { names, dotted } = formals;
         let binders = self.define_all(alloc, work, spot, form.here, &names, asked)?;
         pending.aside.push(Kept::Values {
@@ -104,7 +157,15 @@ impl UnitScope {
         record: &Record,
         pending: &mut Pending,
         asked: &Asked,
-    ) -> Result<(), ExpandFault> {
+    ) -> Result<(), ExpandFault>
+        requires can { CanGo work.now self.old spot asked.now }
+        requires shape { (m : RecordShape Identifier) × IsRecordFor work.now record.now m }
+        requires room { (m : RecordShape Identifier) → IsRecordFor work.now record.now m → self.old.form.budget.locals + length m.fields + length (record_names m) ≤ most_locals self.old.form.budget.nodes }
+        ensures { (known : Known) (region : AnyRegion) (ls : List Frames) (s : ScopedState) (fs : Frames) (m : RecordShape Identifier) (p : ModelPending Identifier Place) (given : ℕ) →
+            Knows self.old.libraries known → Stands work.now self.old ls s → SpotFor work.now self.old ls s spot fs → IsRecordFor work.now record.now m →
+            PendingFor work.now region self.old.unit self.old.form.number pending.old p → NotesFor work.now ls asked.now p.notes → length m.fields + length (record_names m) ≤ given →
+            GoesOn work.now work.now region self.old self.new ls spot fs p.todo given pending.new asked.now result (λ go. run_record (searched known) go here fs p m s) }
+    {
         let fields = self.take_locals(&record.field_names(alloc)?)?;
         let binders = self.define_all(alloc, work, spot, here, &record.names(alloc)?, asked)?;
         pending.aside.push(Kept::Record {
@@ -127,7 +188,16 @@ impl UnitScope {
         rules: Tree,
         pending: &mut Pending,
         asked: &mut Asked,
-    ) -> Result<(), ExpandFault> {
+    ) -> Result<(), ExpandFault>
+        requires can { CanGo work.now self.old spot asked.old }
+        requires name { HasNumber work.now name }
+        requires rules { IsStanding work.now rules }
+        requires room { self.old.form.budget.locals + 1 ≤ most_locals self.old.form.budget.nodes }
+        ensures { (known : Known) (region : AnyRegion) (ls : List Frames) (s : ScopedState) (fs : Frames) (n : Named Identifier) (t : ModelTree Identifier) (p : ModelPending Identifier Place) (given : ℕ) →
+            Knows self.old.libraries known → Stands work.now self.old ls s → SpotFor work.now self.old ls s spot fs → IsName work.now name n → StandsFor work.now rules t →
+            PendingFor work.now region self.old.unit self.old.form.number pending.old p → NotesFor work.now ls asked.old p.notes → 1 ≤ given →
+            GoesOn work.now work.now region self.old self.new ls spot fs p.todo given pending.new asked.new result (λ go. run_syntax (searched known) go here fs p (n, t) s) }
+    {
         self.note_rules(work, spot.scope, rules, asked)?;
         self.test_rules(work, spot.scope, here, rules)?;
         let defined = self.read_macro(alloc, work, spot.scope, here, rules)?;

@@ -38,7 +38,6 @@ impl UnitScope {
             root: 0,
             libraries: BTreeSet::new(alloc),
             defined: BTreeMap::new(alloc),
-            count: 0,
             asked: Asked::new(alloc),
             form: FormAtWork {
                 number: 0,
@@ -118,7 +117,6 @@ impl UnitScope {
         self.kind = kind;
         self.root = root;
         self.defined = BTreeMap::new(self.alloc);
-        self.count = 0;
         self.asked = Asked::new(self.alloc);
         self.macros.locals = BTreeMap::new(self.alloc);
         Ok(())
