@@ -14,3 +14,4 @@ pub mod DefinedMacros
 pub mod BodyScopes
 pub mod ComingDefinitions
 pub mod FormsStand
+pub mod OutcomeLaws

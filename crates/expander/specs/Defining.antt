@@ -30,7 +30,7 @@ pub record CanGo (work : Work) (u : UnitScope) (spot : code_spot.Spot) (asked : 
   pub frames : Frames
   pub found : List (Note Place)
   pub stands : Stands work u layout state
-  pub spot : SpotFor work u layout state spot frames
+  pub placed : SpotFor work u layout state spot frames
   pub notes : NotesFor work layout asked found
 
 abbrev pub HasNumber : Work → NamePart → Type 0

@@ -18,3 +18,4 @@ pub mod CoreSteps
 pub mod Ready
 pub mod Bodies
 pub mod Expanded
+pub mod Units

@@ -12,7 +12,7 @@ use Rattle.syntax_tree.specs.declared.trees.nodes.Tree as number
 use Rattle.syntax_tree.specs.declared.trees.table.Region.{Region}
 use Rattle.core_tree.specs.Traces.{IsFault}
 use Rattle.expander.specs.Judged.{Knows}
-use Rattle.expander.specs.State.{Stands}
+use Rattle.expander.specs.State.{Stands, most_locals}
 use Rattle.expander.specs.declared.fault.ExpandFault.{ExpandFault}
 use Rattle.expander.specs.declared.fault.ExpandFault.TheVariants as fault
 use Rattle.core_tree.specs.declared.traces.FormFault.{FormFault}
@@ -119,9 +119,9 @@ IsEnough depth uses turns = (depth + 1) * 2 ^ 40 ≤ turns + uses
 abbrev pub IsEnoughBelow : (depth uses turns : ℕ) → Type 0
 IsEnoughBelow depth uses turns = depth * 2 ^ 40 ≤ turns + uses
 
--- the form has counted so many nodes that its locals are few: 2^42 more would be as well
-abbrev pub HasRoom : code.UnitScope → Type 0
-HasRoom u = u.form.budget.locals + 2 ^ 42 ≤ 2 ^ 44 * (u.form.budget.nodes + 1)
+-- the form has counted so many nodes that its locals are few, and would be with so many more
+abbrev pub HasRoom : (more : ℕ) → code.UnitScope → Type 0
+HasRoom more u = u.form.budget.locals + more ≤ most_locals u.form.budget.nodes
 
 -- at most 2^44 locals were taken for each node that was counted, and so many fewer
 abbrev pub Spends : (fewer : ℕ) → code.UnitScope → code.UnitScope → Type 0

@@ -35,7 +35,7 @@ pub record CanPass (work : Work) (region : Region) (u : UnitScope) (spot : code_
   pub frames : Frames
   pub left : Pending Identifier Place
   pub stands : Stands work u layout state
-  pub spot : SpotFor work u layout state spot frames
+  pub placed : SpotFor work u layout state spot frames
   pub pending : PendingFor work region u.unit u.form.number todo left
   pub notes : NotesFor work layout asked left.notes
   pub room : u.form.budget.locals + left_with left.todo u.form.budget.uses + given ≤ most_locals u.form.budget.nodes
@@ -46,7 +46,7 @@ pub record CanPass (work : Work) (region : Region) (u : UnitScope) (spot : code_
 -- less is left, and locals were taken for what went
 pub record Reaches (old new : Work) (region : Region) (u v : UnitScope) (ls : List Frames) (spot : code_spot.Spot) (fs : Frames) (before : List (Form Identifier)) (given : ℕ) (todo : code_pending.Pending) (asked : Asked) (q : Pending Identifier Place) (t : ScopedState) : Type 0 where
   pub stays : Stays old new region u v ls t
-  pub spot : SpotFor new v ls t spot fs
+  pub placed : SpotFor new v ls t spot fs
   pub pending : PendingFor new region v.unit v.form.number todo q
   pub notes : NotesFor new ls asked q.notes
   pub less : left_with q.todo v.form.budget.uses < left_with before u.form.budget.uses + given
@@ -55,7 +55,7 @@ pub record Reaches (old new : Work) (region : Region) (u v : UnitScope) (ls : Li
 -- a fault ends the pass; the notes stay
 pub record Stops (old new : Work) (region : Region) (u v : UnitScope) (ls : List Frames) (spot : code_spot.Spot) (fs : Frames) (asked : Asked) (ns : List (Note Place)) (t : ScopedState) : Type 0 where
   pub stays : Stays old new region u v ls t
-  pub spot : SpotFor new v ls t spot fs
+  pub placed : SpotFor new v ls t spot fs
   pub notes : NotesFor new ls asked ns
 
 -- the code's step is the definition's, whatever goes on behind it

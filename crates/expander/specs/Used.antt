@@ -37,7 +37,7 @@ pub record CanUse (work : Work) (u : UnitScope) (at : code.Use) : Type 0 where
   pub state : ScopedState
   pub frames : Frames
   pub stands : Stands work u layout state
-  pub at : At layout at.scope frames
+  pub there : At layout at.scope frames
   pub keyword : Target
   pub transformer : Transformer Frames Identifier
   pub parts : Trees Identifier

@@ -20,7 +20,7 @@ ghost use Rattle.core_tree.specs.Names.{AllMatch, IsMacro as IsMacroDef};
 ghost use Rattle.expander.specs.Bodies.{AreLocalMacros, BodyFor, CanEnter, CanKeep, HaveNumbers, HaveRules, body_pass};
 ghost use Rattle.expander.specs.Searched.{searched};
 ghost use Rattle.expander.specs.State.{Stands};
-ghost use Rattle.expander.specs.Outcomes.{At, CanLook, EndsHere, Runs};
+ghost use Rattle.expander.specs.Outcomes.{At as Stand, CanLook, EndsHere, Runs};
 ghost use Rattle.expander.specs.RulesTold.{Tests};
 ghost use Rattle.expander.specs.Defining.{HasNumber};
 
@@ -107,7 +107,7 @@ impl UnitScope {
         requires look { CanLook work.now self.now scope }
         requires rules { HaveRules work.now macros.now }
         ensures { (known : Known) (ls : List Frames) (s : ScopedState) (fs : Frames) (ns : List (Named Identifier)) (ts : Trees Identifier) → Stands work.now self.now ls s →
-            At ls scope fs → AreMacros work.now macros.now ns ts → Tests work.now s result (heads (searched known) here fs ts s) }
+            Stand ls scope fs → AreMacros work.now macros.now ns ts → Tests work.now s result (heads (searched known) here fs ts s) }
     {
         for local in macros {
             self.test_rules(work, scope, here, local.rules)?;
@@ -129,7 +129,7 @@ impl UnitScope {
         requires rules { HaveRules work.now macros.now }
         requires binders { length binders.now ≡ length macros.now }
         ensures kept { (known : Known) (region : AnyRegion) (ls : List Frames) (s : ScopedState) (fs : Frames) (ns : List (Named Identifier)) (ts : Trees Identifier) (vs : List Number) (rs : List (RulesParts Identifier)) →
-            Stands work.now self.old ls s → At ls scope fs → AreMacros work.now macros.now ns ts → HaveNumbers s binders.now vs → heads (searched known) here fs ts s ≡ done rs s →
+            Stands work.now self.old ls s → Stand ls scope fs → AreMacros work.now macros.now ns ts → HaveNumbers s binders.now vs → heads (searched known) here fs ts s ≡ done rs s →
             EndsHere (λ (kept : Unit {0}) (also : Unit {0}). Unit {0}) work.now work.now region self.old self.new ls result (keep_all (searched known) here fs vs ts rs s) }
         ensures counts { OnOk result ((self.new.form.budget.locals ≡ self.old.form.budget.locals) × (self.new.form.budget.uses ≡ self.old.form.budget.uses)) }
     {
@@ -175,7 +175,7 @@ impl UnitScope {
     ) -> Mem<Core>
         requires look { CanLook work.now self.now at.scope }
         requires name { HasNumber work.now name }
-        ensures { (known : Known) (ls : List Frames) (s : ScopedState) (fs : Frames) (n : Named Identifier) (m : ModelCore) → Stands work.now self.now ls s → At ls at.scope fs →
+        ensures { (known : Known) (ls : List Frames) (s : ScopedState) (fs : Frames) (n : Named Identifier) (m : ModelCore) → Stands work.now self.now ls s → Stand ls at.scope fs →
             IsName work.now name n → CoreStands work.now s.unit s.form value m →
             IfOk result (λ core. CoreStands work.now s.unit s.form core (Set (target_of (searched known) fs s n.name n.occ) m)) }
     {

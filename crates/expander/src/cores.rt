@@ -50,7 +50,7 @@ impl UnitScope {
         requires opened { IsOpened work.old region.now }
         requires look { CanLook work.old self.old at.scope }
         requires form { IsAtWork work.old region.now form }
-        requires room { HasRoom self.old }
+        requires room { HasRoom (2 ^ 43) self.old }
         ensures runs { (t : ModelTree Identifier) (turns : ℕ) → StandsFor work.old form t → IsEnough at.depth self.old.form.budget.uses turns →
             Runs (λ ls. CoreStands work.new self.new.unit self.new.form.number) work.old work.new region.now self.old self.new at.scope result (λ known fs. expand (searched known) turns at.depth at.here fs (whole t)) }
         ensures locals { OnOk result (Spends 0 self.old self.new) }
@@ -84,7 +84,7 @@ impl UnitScope {
         requires opened { IsOpened work.old region.now }
         requires look { CanLook work.old self.old at.scope }
         requires parts { AreAtWork work.old region.now parts.now }
-        requires room { HasRoom self.old }
+        requires room { HasRoom (2 ^ 43) self.old }
         ensures runs { (ts : List (ModelTree Identifier)) (turns : ℕ) → AllMatch (StandsFor work.old) parts.now ts → IsEnough at.depth self.old.form.budget.uses turns →
             Runs (λ ls cs ms. CoresStand work.new self.new.unit self.new.form.number cs.items ms) work.old work.new region.now self.old self.new at.scope result (λ known fs. each_of (λ t. expand (searched known) turns at.depth at.here fs (whole t)) ts) }
         ensures locals { OnOk result (Spends 0 self.old self.new) }
@@ -112,7 +112,7 @@ impl UnitScope {
         requires look { CanLook work.old self.old at.scope }
         requires core { (c : ModelKeyword) × (keyword_as core ≡ Some c) }
         requires shape { ShapeAtWork work.old region.now shape }
-        requires room { HasRoom self.old }
+        requires room { HasRoom (2 ^ 43) self.old }
         ensures runs { (c : ModelKeyword) (m : Shape) (turns : ℕ) → keyword_as core ≡ Some c → ShapeFor work.old shape m → IsEnoughBelow at.depth self.old.form.budget.uses turns →
             Runs (λ ls. CoreStands work.new self.new.unit self.new.form.number) work.old work.new region.now self.old self.new at.scope result (λ known fs. core_step (expand (searched known) turns) (searched known) at.depth at.here fs c m) }
         ensures locals { OnOk result (Spends 0 self.old self.new) }
@@ -179,7 +179,7 @@ impl UnitScope {
         requires opened { IsOpened work.old region.now }
         requires look { CanLook work.old self.old at.scope }
         requires clause { ClauseAtWork work.old region.now clause.now }
-        requires room { HasRoom self.old }
+        requires room { HasRoom (2 ^ 43) self.old }
         ensures runs { (c : ModelClause Identifier) (turns : ℕ) → ClauseFor work.old region.now clause.now c → IsEnough at.depth self.old.form.budget.uses turns →
             Runs (λ ls. ClauseStands work.new self.new.unit self.new.form.number) work.old work.new region.now self.old self.new at.scope result (λ known fs. procedure (expand (searched known) turns) (searched known) at.depth at.here fs c) }
         ensures locals { OnOk result (Spends 0 self.old self.new) }
@@ -206,18 +206,18 @@ impl UnitScope {
         work: &mut Work,
         region: &Region,
         at: At,
-        clauses: &[ClauseShape],
+        shapes: &[ClauseShape],
     ) -> Result<Vec<Clause>, ExpandFault>
         requires opened { IsOpened work.old region.now }
         requires look { CanLook work.old self.old at.scope }
-        requires clauses { ClausesAtWork work.old region.now clauses.now }
-        requires room { HasRoom self.old }
-        ensures runs { (cs : List (ModelClause Identifier)) (turns : ℕ) → AllMatch (ClauseFor work.old region.now) clauses.now cs → IsEnough at.depth self.old.form.budget.uses turns →
+        requires clauses { ClausesAtWork work.old region.now shapes.now }
+        requires room { HasRoom (2 ^ 43) self.old }
+        ensures runs { (cs : List (ModelClause Identifier)) (turns : ℕ) → AllMatch (ClauseFor work.old region.now) shapes.now cs → IsEnough at.depth self.old.form.budget.uses turns →
             Runs (λ ls xs ms. ClausesStand work.new self.new.unit self.new.form.number xs.items ms) work.old work.new region.now self.old self.new at.scope result (λ known fs. clauses (expand (searched known) turns) (searched known) at.depth at.here fs cs) }
         ensures locals { OnOk result (Spends 0 self.old self.new) }
     {
         let mut all = Vec::new(alloc);
-        for clause in clauses {
+        for clause in shapes {
             let next = self.procedure(alloc, work, region, at, clause)?;
             all.push(next)?;
         }
@@ -237,7 +237,7 @@ impl UnitScope {
         requires opened { IsOpened work.old region.now }
         requires look { CanLook work.old self.old at.scope }
         requires forms { AreAtWork work.old region.now forms.now }
-        requires room { HasRoom self.old }
+        requires room { HasRoom (2 ^ 42) self.old }
         ensures runs { (ts : Trees Identifier) (turns : ℕ) → PartsStand work.old forms.now ts → IsEnough at.depth self.old.form.budget.uses turns →
             Runs (λ ls. CoreStands work.new self.new.unit self.new.form.number) work.old work.new region.now self.old self.new at.scope result (λ known fs. expand (searched known) turns at.depth at.here fs (body ts)) }
         ensures locals { OnOk result (Spends (2 ^ 43) self.old self.new) }
@@ -265,7 +265,7 @@ impl UnitScope {
         requires opened { IsOpened work.old region.now }
         requires look { CanLook work.old self.old at.scope }
         requires aside { AreKeptAtWork work.old region.now self.old aside.now }
-        requires room { HasRoom self.old }
+        requires room { HasRoom (2 ^ 43) self.old }
         ensures runs { (is : List (Item Identifier)) (turns : ℕ) → AllMatch (KeptFor work.old region.now self.old.unit self.old.form.number) aside.now is → IsEnough at.depth self.old.form.budget.uses turns →
             Runs (λ ls ps ms. PartsOfCores work.new self.new.unit self.new.form.number ps.items ms) work.old work.new region.now self.old self.new at.scope result (λ known fs. parts (item_part (expand (searched known) turns) (searched known) at.depth fs) is) }
         ensures locals { OnOk result (Spends 0 self.old self.new) }
@@ -291,7 +291,7 @@ impl UnitScope {
         requires opened { IsOpened work.old region.now }
         requires look { CanLook work.old self.old at.scope }
         requires kept { KeptAtWork work.old region.now self.old kept.now }
-        requires room { HasRoom self.old }
+        requires room { HasRoom (2 ^ 43) self.old }
         ensures runs { (i : Item Identifier) (turns : ℕ) → KeptFor work.old region.now self.old.unit self.old.form.number kept.now i → IsEnough at.depth self.old.form.budget.uses turns →
             Runs (λ ls. PartStands work.new self.new.unit self.new.form.number) work.old work.new region.now self.old self.new at.scope result (λ known fs. item_part (expand (searched known) turns) (searched known) at.depth fs i) }
         ensures locals { OnOk result (Spends 0 self.old self.new) }
@@ -343,7 +343,7 @@ impl UnitScope {
         requires opened { IsOpened work.old region.now }
         requires look { CanLook work.old self.old at.scope }
         requires clause { ClauseAtWork work.old region.now clause.now }
-        requires room { HasRoom self.old }
+        requires room { HasRoom (2 ^ 43) self.old }
         ensures runs { (c : ModelClause Identifier) (turns : ℕ) → ClauseFor work.old region.now clause.now c → IsEnoughBelow at.depth self.old.form.budget.uses turns →
             Runs (λ ls. CoreStands work.new self.new.unit self.new.form.number) work.old work.new region.now self.old self.new at.scope result (λ known fs. lambda (expand (searched known) turns) (searched known) at.depth at.here fs c) }
         ensures locals { OnOk result (Spends 0 self.old self.new) }
@@ -365,7 +365,7 @@ impl UnitScope {
         requires opened { IsOpened work.old region.now }
         requires look { CanLook work.old self.old at.scope }
         requires forms { AreAtWork work.old region.now forms.now }
-        requires room { HasRoom self.old }
+        requires room { HasRoom (2 ^ 43) self.old }
         ensures runs { (ts : Trees Identifier) (turns : ℕ) → PartsStand work.old forms.now ts → IsEnoughBelow at.depth self.old.form.budget.uses turns →
             Runs (λ ls. CoreStands work.new self.new.unit self.new.form.number) work.old work.new region.now self.old self.new at.scope result (λ known fs. sequence (expand (searched known) turns) (searched known) at.depth at.here fs ts) }
         ensures locals { OnOk result (Spends 0 self.old self.new) }
@@ -395,7 +395,7 @@ impl UnitScope {
         requires look { CanLook work.old self.old at.scope }
         requires macros { MacrosAtWork work.old macros.now }
         requires forms { AreAtWork work.old region.now forms.now }
-        requires room { HasRoom self.old }
+        requires room { HasRoom (2 ^ 43) self.old }
         ensures runs { (m : LocalMacros Identifier) (turns : ℕ) → AreMacros work.old macros.now m.names m.rules → PartsStand work.old forms.now m.body → IsEnoughBelow at.depth self.old.form.budget.uses turns →
             Runs (λ ls. CoreStands work.new self.new.unit self.new.form.number) work.old work.new region.now self.old self.new at.scope result (λ known fs. macros_step recursive (expand (searched known) turns) (searched known) at.depth at.here fs m) }
         ensures locals { OnOk result (Spends 0 self.old self.new) }

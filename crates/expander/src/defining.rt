@@ -154,25 +154,25 @@ impl UnitScope {
         work: &Work,
         spot: Spot,
         here: Option<Occ>,
-        record: &Record,
+        shape: &Record,
         pending: &mut Pending,
         asked: &Asked,
     ) -> Result<(), ExpandFault>
         requires can { CanGo work.now self.old spot asked.now }
-        requires shape { (m : RecordShape Identifier) × IsRecordFor work.now record.now m }
-        requires room { (m : RecordShape Identifier) → IsRecordFor work.now record.now m → self.old.form.budget.locals + length m.fields + length (record_names m) ≤ most_locals self.old.form.budget.nodes }
+        requires standing { (m : RecordShape Identifier) × IsRecordFor work.now shape.now m }
+        requires room { (m : RecordShape Identifier) → IsRecordFor work.now shape.now m → self.old.form.budget.locals + length m.fields + length (record_names m) ≤ most_locals self.old.form.budget.nodes }
         ensures { (known : Known) (region : AnyRegion) (ls : List Frames) (s : ScopedState) (fs : Frames) (m : RecordShape Identifier) (p : ModelPending Identifier Place) (given : ℕ) →
-            Knows self.old.libraries known → Stands work.now self.old ls s → SpotFor work.now self.old ls s spot fs → IsRecordFor work.now record.now m →
+            Knows self.old.libraries known → Stands work.now self.old ls s → SpotFor work.now self.old ls s spot fs → IsRecordFor work.now shape.now m →
             PendingFor work.now region self.old.unit self.old.form.number pending.old p → NotesFor work.now ls asked.now p.notes → length m.fields + length (record_names m) ≤ given →
             GoesOn work.now work.now region self.old self.new ls spot fs p.todo given pending.new asked.now result (λ go. run_record (searched known) go here fs p m s) }
     {
-        let fields = self.take_locals(&record.field_names(alloc)?)?;
-        let binders = self.define_all(alloc, work, spot, here, &record.names(alloc)?, asked)?;
+        let fields = self.take_locals(&shape.field_names(alloc)?)?;
+        let binders = self.define_all(alloc, work, spot, here, &shape.names(alloc)?, asked)?;
         pending.aside.push(Kept::Record {
             binders,
             fields,
-            modified: modified(alloc, &record.fields)?,
-            used: used(alloc, &record.used, &record.fields)?,
+            modified: modified(alloc, &shape.fields)?,
+            used: used(alloc, &shape.used, &shape.fields)?,
         })?;
         Ok(())
     }

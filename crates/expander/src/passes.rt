@@ -1,6 +1,6 @@
 //! The forms of a body, or a form of a unit, gone through in order (R7RS 5.3.2, 4.3): macros are used, `begin` and `cond-expand`
 //! are spliced, definitions take effect at once, and all else is set aside.
-ghost use Rattle.std.specs.Prelude.{◌≡◌, ℕ, ◌+◌, ◌∷◌, [], ◌≤◌, ◌<◌, List, Option, Some, IfOk, OnOk};
+ghost use Rattle.std.specs.Prelude.{◌≡◌, ℕ, ◌+◌, ◌∷◌, [], ◌≤◌, ◌<◌, List, Option, Some, IfOk, OnOk, true};
 ghost use Rattle.scheme_model.specs.ExpansionFaults.{Named};
 ghost use Rattle.scheme_model.specs.Ident.{Ident as Identifier};
 ghost use Rattle.scheme_model.specs.Keywords.{CoreKeyword as ModelKeyword};
@@ -194,7 +194,7 @@ impl UnitScope {
         asked: &mut Asked,
     ) -> Result<(), ExpandFault>
         requires opened { IsOpened work.old region.now }
-        requires macro { CanUse work.old self.old at }
+        requires usable { CanUse work.old self.old at }
         requires named { CanName work.old region.now at.form }
         requires notes { CanNote work.old self.old at asked.old }
         ensures { (known : Known) (ls : List Frames) (s : ScopedState) (spot : AnySpot) (fs : Frames) (keyword : ModelTarget) (m : Transformer Frames Identifier) (form : ModelForm Identifier)

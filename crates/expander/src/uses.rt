@@ -87,7 +87,7 @@ impl UnitScope {
         same: &Items<IdPair>,
     ) -> Result<Tree, ExpandFault>
         requires opened { IsOpened work.old region.now }
-        requires macro { CanUse work.old self.old at }
+        requires usable { CanUse work.old self.old at }
         requires named { CanName work.old region.now at.form }
         ensures used { (known : Known) (ls : List Frames) (s : ScopedState) (fs : Frames) (keyword : ModelTarget) (m : Transformer Frames Identifier) (ts : Trees Identifier) (tail : Tail Identifier) →
             Stands work.old self.old ls s → At ls at.scope fs → UseFor work.old s at keyword m ts tail →
