@@ -114,10 +114,10 @@ stays_itself a region u ls s e = record { stands = e; work = grows_itself a regi
 pub stays_on : (a b c : Work) (region : Region) (u w v : UnitScope) (ls : List Frames) (s t : ScopedState) → Stays a b region u w ls s → Stays b c region w v ls t → Stays a c region u v ls t
 stays_on a b c region u w v ls s t p q = record { stands = q.stands; work = grows_on a b c region p.work q.work; counted = omega (arith, p.counted, q.counted); same = same_on u w v p.same q.same }
 
-pub moves_here : (a b : Work) (region : Region) (u v : UnitScope) (ls : List Frames) (t : ScopedState) → Stays a b region u v ls t → Moves a b region u v ls t
+unfoldable pub moves_here : (a b : Work) (region : Region) (u v : UnitScope) (ls : List Frames) (t : ScopedState) → Stays a b region u v ls t → Moves a b region u v ls t
 moves_here a b region u v ls t p = record { layout = ls; kept = λ n fs h. h; stays = p }
 
-pub moves_on : (a b c : Work) (region : Region) (u w v : UnitScope) (ls : List Frames) (s t : ScopedState) (m : Moves a b region u w ls s) → Moves b c region w v m.layout t → Moves a c region u v ls t
+unfoldable pub moves_on : (a b c : Work) (region : Region) (u w v : UnitScope) (ls : List Frames) (s t : ScopedState) (m : Moves a b region u w ls s) → Moves b c region w v m.layout t → Moves a c region u v ls t
 moves_on a b c region u w v ls s t p q = record {
   layout = q.layout;
   kept = λ n fs h. q.kept n fs (p.kept n fs h);
@@ -142,8 +142,16 @@ leaves_itself a region u few = record { work = grows_itself a region; few = omeg
 
 -- ---- calls that follow one another
 
+-- a fault passes through what would follow
+pub bound_fails : {Y Z : Type 0} (p : Result Y Broken × ScopedState) (f : Y → Step ScopedState Z) (b : Broken) → p.0 ≡ Err b → (p >>= f) ≡ (Err b, p.1)
+bound_fails {Y} {Z} p f b h = let to : Result Y Broken → Result Z Broken × ScopedState = λ r. (r, p.1) >>= f in ap to h
+
+pub bound_goes : {Y Z : Type 0} (p : Result Y Broken × ScopedState) (f : Y → Step ScopedState Z) (y : Y) → p.0 ≡ Ok y → (p >>= f) ≡ f y p.1
+bound_goes {Y} {Z} p f y h = let to : Result Y Broken → Result Z Broken × ScopedState = λ r. (r, p.1) >>= f in ap to h
+
 module _ {X Y : Type 0} where
   pub ends_after : (P : List Frames → X → Y → Type 0) (a b c : Work) (region : Region) (u w v : UnitScope) (ls : List Frames) (s : ScopedState) (result : Result X ExpandFault) (p : Result Y Broken × ScopedState) (m : Moves a b region u w ls s) → Ends P b c region w v m.layout result p → Ends P a c region u v ls result p
+  unfolding moves_on
   ends_after P a b c region u w v ls s (Ok x) p m h = (h.0, moves_on a b c region u w v ls s p.1 m h.1, h.2, h.3)
   ends_after P a b c region u w v ls s (Err (fault.At e)) p m h = (moves_on a b c region u w v ls s p.1 m h.0, h.1)
   ends_after P a b c region u w v ls s (Err fault.Full) p m h = (leaves_on a b c region u w ls s m h.0, fills_on a b region u w ls s m h.1)
@@ -157,28 +165,22 @@ module _ {X Y : Type 0} where
 
   -- a step that opens no scope is one that may
   pub here_ends : (P : X → Y → Type 0) (a c : Work) (region : Region) (u v : UnitScope) (ls : List Frames) (result : Result X ExpandFault) (p : Result Y Broken × ScopedState) → EndsHere P a c region u v ls result p → Ends (λ layout. P) a c region u v ls result p
+  unfolding moves_here
   here_ends P a c region u v ls (Ok x) p h = (h.0, moves_here a c region u v ls p.1 h.1, h.2, h.3)
   here_ends P a c region u v ls (Err (fault.At e)) p h = (moves_here a c region u v ls p.1 h.0, h.1)
   here_ends P a c region u v ls (Err fault.Full) p h = h
   here_ends P a c region u v ls (Err fault.Memory) p h = h
 
-  -- a fault passes through what would follow
-  pub bound_fails : {Z : Type 0} (p : Result Y Broken × ScopedState) (f : Y → Step ScopedState Z) (b : Broken) → p.0 ≡ Err b → (p >>= f) ≡ (Err b, p.1)
-  bound_fails p f b h = ap (λ (r : Result Y Broken). (r, p.1) >>= f) h
-
-  pub bound_goes : {Z : Type 0} (p : Result Y Broken × ScopedState) (f : Y → Step ScopedState Z) (y : Y) → p.0 ≡ Ok y → (p >>= f) ≡ f y p.1
-  bound_goes p f y h = ap (λ (r : Result Y Broken). (r, p.1) >>= f) h
-
   pub ends_fails : {V Z : Type 0} (P : List Frames → X → Y → Type 0) (Q : List Frames → V → Z → Type 0) (a c : Work) (region : Region) (u v : UnitScope) (ls : List Frames) (e : ExpandFault) (p : Result Y Broken × ScopedState) (f : Y → Step ScopedState Z) → Ends P a c region u v ls (Err e) p → Ends Q a c region u v ls (Err e) (p >>= f)
-  ends_fails P Q a c region u v ls (fault.At e) p f h =
+  ends_fails {Z = Z} P Q a c region u v ls (fault.At e) p f h =
       let same = bound_fails p f h.1.0 h.1.1 in
       subst (λ (q : Result Z Broken × ScopedState). Ends Q a c region u v ls (Err (fault.At e)) q) (sym same) (h.0, (h.1.0, refl, h.1.2))
-  ends_fails P Q a c region u v ls fault.Full p f h = h
-  ends_fails P Q a c region u v ls fault.Memory p f h = h
+  ends_fails {Z = Z} P Q a c region u v ls fault.Full p f h = h
+  ends_fails {Z = Z} P Q a c region u v ls fault.Memory p f h = h
 
   pub here_fails : {V Z : Type 0} (P : X → Y → Type 0) (Q : V → Z → Type 0) (a c : Work) (region : Region) (u v : UnitScope) (ls : List Frames) (e : ExpandFault) (p : Result Y Broken × ScopedState) (f : Y → Step ScopedState Z) → EndsHere P a c region u v ls (Err e) p → EndsHere Q a c region u v ls (Err e) (p >>= f)
-  here_fails P Q a c region u v ls (fault.At e) p f h =
+  here_fails {Z = Z} P Q a c region u v ls (fault.At e) p f h =
       let same = bound_fails p f h.1.0 h.1.1 in
       subst (λ (q : Result Z Broken × ScopedState). EndsHere Q a c region u v ls (Err (fault.At e)) q) (sym same) (h.0, (h.1.0, refl, h.1.2))
-  here_fails P Q a c region u v ls fault.Full p f h = h
-  here_fails P Q a c region u v ls fault.Memory p f h = h
+  here_fails {Z = Z} P Q a c region u v ls fault.Full p f h = h
+  here_fails {Z = Z} P Q a c region u v ls fault.Memory p f h = h
