@@ -15,3 +15,10 @@ pub mod BodyScopes
 pub mod ComingDefinitions
 pub mod FormsStand
 pub mod OutcomeLaws
+pub mod AlikeSteps
+pub mod AlikeRuns
+pub mod AlikeExpressions
+pub mod SearchedNotes
+pub mod SearchedStates
+pub mod SearchedUnits
+pub mod SearchedPrograms

@@ -13,6 +13,7 @@ mod expressions;
 mod fault;
 mod heads;
 mod items;
+pub mod laws;
 mod libraries;
 mod macros;
 mod passes;
