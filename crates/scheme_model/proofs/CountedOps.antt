@@ -1,7 +1,7 @@
 -- Expansion of one form over identifiers, frames and states that hold what is said of the form: a third side, of which both that by
 -- counts and that by whole numbers are the image. So the two are one.
 use Rattle.std.proofs.Common.{◌≡◌, ℕ, suc, ◌+◌, List, ◌∷◌, map, Bool, true, false, Option, Some, None, Result, Ok, Err, refl, ap, ◌∙◌}
-use Rattle.std.specs.Prelude.{if◌then◌else◌}
+use Rattle.std.specs.Prelude.{◌&&◌, if◌then◌else◌}
 use Rattle.scheme_model.specs.Identifiers.{Number}
 use Rattle.scheme_model.specs.Ident.{Ident, Inserted, same_ident, symbol_of}
 use Rattle.scheme_model.specs.ExpansionFaults.{Named, named_map, Fault, KeywordRedefined, Duplicate}
@@ -10,7 +10,7 @@ use Rattle.scheme_model.specs.Requirements.{Known}
 use Rattle.scheme_model.specs.RulesShape.{Names, Rules, rules_map, option_map}
 use Rattle.scheme_model.specs.Cores.{Target, MacroUse, Bound, LocalNumber, Definition}
 use Rattle.scheme_model.specs.Steps.{Broken, Step, ◌>>=◌}
-use Rattle.scheme_model.specs.Order.{Here, Pending, Transformer, Ops, is_some, given}
+use Rattle.scheme_model.specs.Order.{Here, Note, Pending, Transformer, Ops, is_some, given}
 use Rattle.scheme_model.specs.Substitution.{Clock, at_form, note_map, pending_map, any}
 use Rattle.scheme_model.specs.ScopedExpansion.{Frames, Bind, Enter, Place, ScopedState, next_number, means_at, macro_at, body_around, bound_next, assigned, definition_added, meaning_next, is_defined, refused_now, scoped}
 use Rattle.scheme_model.specs.Renaming.{Renames, result_map}
@@ -24,9 +24,10 @@ ToldBound told (LocalNumber v) = told (Local v) ≡ true
 ToldBound told (Definition u n) = Unit {0}
 
 -- What holds while a form is worked on: of the identifiers that stand in it, of the frames around them, and of states. `told` tells
--- the meanings that they can have, and `use_here` the numbers of the form's uses.
+-- the meanings that they can have, and `use_here` the numbers of the form's uses. A definition asks the notes of which `asks` holds.
 pub record Setting : Type 1 where
   pub known : Known
+  pub asks : Ident → Note Place → Bool
   pub stands : Ident → Type 0
   pub around : Frames → Type 0
   pub holds : ScopedState → Type 0
@@ -117,7 +118,7 @@ module _ (c : Setting) where
 
   abbrev pub define_over : Named B → Option (Rules B) → D → Pending B M → T → Result (Pending B M) (Fault Ident) × T
   define_over n r e p s =
-      define_cases n r e p s (any (refused_now (then_ n r e s) (meaning_next s.0 (body_around e.0) n.name.0) (is_some (option_map (rules_map ident) r))) (map (note_map at) p.notes)) (is_defined s.0 (body_around e.0) n.name.0)
+      define_cases n r e p s (any (λ note. c.asks n.name.0 note && refused_now (then_ n r e s) (meaning_next s.0 (body_around e.0) n.name.0) (is_some (option_map (rules_map ident) r)) note) (map (note_map at) p.notes)) (is_defined s.0 (body_around e.0) n.name.0)
 
   -- the third side
   abbrev pub over : Ops D B M T

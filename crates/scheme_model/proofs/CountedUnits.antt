@@ -1,21 +1,21 @@
 -- A unit expanded by counts is the unit expanded by whole numbers.
 use Rattle.std.proofs.Common.{◌≡◌, ℕ, List, [], ◌∷◌, map, Bool, true, false, cond, Option, None, Result, Ok, Err, refl, sym, ap, ◌∙◌, subst}
-use Rattle.std.specs.Prelude.{◌&&◌, ◌||◌}
-use Rattle.scheme_model.specs.Identifiers.{Name}
+use Rattle.std.specs.Prelude.{◌&&◌, ◌||◌, if◌then◌else◌}
+use Rattle.scheme_model.specs.Identifiers.{Number, Name}
 use Rattle.scheme_model.specs.Ident.{Ident}
 use Rattle.scheme_model.specs.Trees.{Tree}
-use Rattle.scheme_model.specs.ExpansionFaults.{Named, named_map, KeywordRedefined, Duplicate}
+use Rattle.scheme_model.specs.ExpansionFaults.{Named, named_map, Fault, KeywordRedefined, Duplicate}
 use Rattle.scheme_model.specs.Meaning.{Meaning, Local, Global, Standard, Free, same_meaning, of_form}
 use Rattle.scheme_model.specs.Requirements.{Known}
 use Rattle.scheme_model.specs.RulesShape.{Rules, rules_map, option_map}
 use Rattle.scheme_model.specs.Cores.{Parts}
 use Rattle.scheme_model.specs.Steps.{Broken, ◌>>=◌}
-use Rattle.scheme_model.specs.Order.{Item, Expression, Value, Function, Assigned, AssignedFunction, ValuesOf, Record, Macro, Note, LookedUp, Compared, Pending, Pass, is_some, run}
+use Rattle.scheme_model.specs.Order.{Item, Expression, Value, Function, Assigned, AssignedFunction, ValuesOf, Record, Macro, Note, LookedUp, Compared, Pending, Pass, Ops, is_some, run}
 use Rattle.scheme_model.specs.Expression.{expand, item_part, parts}
 use Rattle.scheme_model.specs.UnitExpansion.{Formed as FormResult, max_depth, passes, from_items, finished, unit}
 use Rattle.scheme_model.specs.Substitution.{State, item_map, note_map, any, differ}
-use Rattle.scheme_model.specs.ScopedExpansion.{Place, ScopedState, means_at, body_around, meaning_next, is_defined, refused_now, define_at, scoped}
-use Rattle.scheme_model.specs.CountedExpansion.{means_here, refused_here, define_here, counted}
+use Rattle.scheme_model.specs.ScopedExpansion.{Frames, Place, ScopedState, means_at, body_around, definition_added, meaning_next, is_defined, refused_now, scoped}
+use Rattle.scheme_model.specs.CountedExpansion.{means_here, refused_here, counted}
 use Rattle.scheme_model.proofs.IdentKinds.{item_kind}
 use Rattle.scheme_model.proofs.FrameEras.{Era, Below}
 use Rattle.scheme_model.proofs.FrameAsks.{AllOf, all_of_more}
@@ -43,9 +43,37 @@ of_form_told u f u' f' a b (Global z i) h = refl
 of_form_told u f u' f' a b (Standard s) h = refl
 of_form_told u f u' f' a b (Free s) h = refl
 
-module _ (w : Era) (known : Known) (s0 : ScopedState) where
+-- ---- definitions that ask some notes alone
+
+abbrev pub Asks : Type 0
+Asks = Ident → Note Place → Bool
+
+-- all notes are asked
+abbrev pub every : Asks
+every x note = true
+
+abbrev pub defined_unless : Bool → Option Number → Named Ident → Option (Rules Ident) → Frames → Pending Ident Place → ScopedState → Result (Pending Ident Place) (Fault Ident) × ScopedState
+defined_unless refused b n r fs p s =
+    if refused then (Err (KeywordRedefined n), s)
+    else if is_defined s b n.name then (Err (Duplicate n), s)
+    else (Ok p, definition_added b n r fs s)
+
+abbrev pub refused_by_number : Asks → Option Number → Named Ident → Option (Rules Ident) → Frames → ScopedState → Note Place → Bool
+refused_by_number asks b n r fs s note = asks n.name note && refused_now (definition_added b n r fs s) (meaning_next s b n.name) (is_some r) note
+
+abbrev pub refused_by_count : Asks → Option Number → Named Ident → Option (Rules Ident) → Frames → ScopedState → Note Place → Bool
+refused_by_count asks b n r fs s note = asks n.name note && refused_here (definition_added b n r fs s) (meaning_next s b n.name) (is_some r) note
+
+-- expansion by whole numbers, and by counts; where all notes are asked it is as ever
+abbrev pub numbered_asking : Asks → Known → Ops Frames Ident Place ScopedState
+numbered_asking asks known = record (scoped known) { define = λ n r fs p s. defined_unless (any (refused_by_number asks (body_around fs) n r fs s) p.notes) (body_around fs) n r fs p s }
+
+abbrev pub counted_asking : Asks → Known → Ops Frames Ident Place ScopedState
+counted_asking asks known = record (counted known) { define = λ n r fs p s. defined_unless (any (refused_by_count asks (body_around fs) n r fs s) p.notes) (body_around fs) n r fs p s }
+
+module _ (w : Era) (known : Known) (asks : Asks) (s0 : ScopedState) where
   abbrev c : Setting
-  c = form_setting w s0 known s0.form
+  c = form_setting w s0 known asks s0.form
 
   cases_seen : (n : Named (B c)) (r : Option (Rules (B c))) (e : D c) (p : Pending (B c) (M c)) (s : T c) (t d : Bool)
       → cond t (Err (KeywordRedefined (named_map (ident c) n)), s.0) (cond d (Err (Duplicate (named_map (ident c) n)), s.0) (Ok (left_seen c p), then_ c n r e s)) ≡ defined_seen c (define_cases c n r e p s t d)
@@ -61,27 +89,31 @@ module _ (w : Era) (known : Known) (s0 : ScopedState) where
   refused_told s m new (Compared l j held) =
       let a = here_told l.0 s l.1 in let b = here_told j.0 s j.1 in λ i. (same_meaning (a i) m || same_meaning (b i) m) && differ held (same_meaning (a i) (b i))
 
-  any_told : (s : T c) (m : Meaning) (new : Bool) (ns : List (Note (M c))) → any (refused_here s.0 m new) (map (note_map (at c)) ns) ≡ any (refused_now s.0 m new) (map (note_map (at c)) ns)
-  any_told s m new [] = refl
-  any_told s m new (n ∷ ns) = let a = refused_told s m new n in let b = any_told s m new ns in λ j. a j || b j
+  any_told : (s : T c) (x : Ident) (m : Meaning) (new : Bool) (ns : List (Note (M c))) → any (λ note. asks x note && refused_here s.0 m new note) (map (note_map (at c)) ns) ≡ any (λ note. asks x note && refused_now s.0 m new note) (map (note_map (at c)) ns)
+  any_told s x m new [] = refl
+  any_told s x m new (n ∷ ns) = let a = refused_told s m new n in let b = any_told s x m new ns in λ j. (asks x (note_map (at c) n) && a j) || b j
+
+  -- the note by which a definition is refused
+  abbrev asked : (n : Named (B c)) (r : Option (Rules (B c))) (e : D c) (s : T c) → Note Place → Bool
+  asked n r e s note = refused_by_number asks (body_around e.0) (named_map (ident c) n) (option_map (rules_map (ident c)) r) e.0 s.0 note
 
   abbrev by_number : Side c
   by_number = record {
     means = λ fs s i. means_at s fs i;
-    define = λ n r fs p s. define_at (body_around fs) n r fs p s;
+    define = (numbered_asking asks known).define;
     same_means = λ e s i. refl;
-    same_define = λ n r e p s. cases_seen n r e p s (any (refused_now (then_ c n r e s) (meaning_next s.0 (body_around e.0) n.name.0) (is_some (option_map (rules_map (ident c)) r))) (map (note_map (at c)) p.notes)) (is_defined s.0 (body_around e.0) n.name.0);
+    same_define = λ n r e p s. cases_seen n r e p s (any (asked n r e s) (map (note_map (at c)) p.notes)) (is_defined s.0 (body_around e.0) n.name.0);
   }
 
   abbrev by_count : Side c
   by_count = record {
     means = λ fs s i. means_here s fs i;
-    define = λ n r fs p s. define_here (body_around fs) n r fs p s;
+    define = (counted_asking asks known).define;
     same_means = here_told;
     same_define = λ n r e p s.
         ap (λ t. cond t (Err (KeywordRedefined (named_map (ident c) n)), s.0) (cond (is_defined s.0 (body_around e.0) n.name.0) (Err (Duplicate (named_map (ident c) n)), s.0) (Ok (left_seen c p), then_ c n r e s)))
-        (any_told (then_ c n r e s, then_holds c n r e s) (meaning_next s.0 (body_around e.0) n.name.0) (is_some (option_map (rules_map (ident c)) r)) p.notes)
-        ∙ cases_seen n r e p s (any (refused_now (then_ c n r e s) (meaning_next s.0 (body_around e.0) n.name.0) (is_some (option_map (rules_map (ident c)) r))) (map (note_map (at c)) p.notes)) (is_defined s.0 (body_around e.0) n.name.0);
+        (any_told (then_ c n r e s, then_holds c n r e s) n.name.0 (meaning_next s.0 (body_around e.0) n.name.0) (is_some (option_map (rules_map (ident c)) r)) p.notes)
+        ∙ cases_seen n r e p s (any (asked n r e s) (map (note_map (at c)) p.notes)) (is_defined s.0 (body_around e.0) n.name.0);
   }
 
   -- ---- items
@@ -117,9 +149,9 @@ module _ (w : Era) (known : Known) (s0 : ScopedState) where
   -- ---- the forms gone through
 
   pub record RunSame (turns : ℕ) (p : Pending Ident Place) : Type 0 where
-    pub same : run (counted known) turns [] p s0 ≡ run (scoped known) turns [] p s0
-    pub holds : Holds w s0 s0.form (run (scoped known) turns [] p s0).1
-    pub told : OkAll (AllOf (ToldItem c.told)) (run (scoped known) turns [] p s0).0.items
+    pub same : run (counted_asking asks known) turns [] p s0 ≡ run (numbered_asking asks known) turns [] p s0
+    pub holds : Holds w s0 s0.form (run (numbered_asking asks known) turns [] p s0).1
+    pub told : OkAll (AllOf (ToldItem c.told)) (run (numbered_asking asks known) turns [] p s0).0.items
 
   module _ (h0 : Holds w s0 s0.form s0) where
     abbrev start : T c
@@ -170,8 +202,8 @@ module _ (w : Era) (known : Known) (s0 : ScopedState) where
     -- ---- what was set aside, expanded
 
     pub record PartsSame (turns : ℕ) (is : List (Item Ident)) : Type 0 where
-      pub same : parts (item_part (expand (counted known) turns) (counted known) max_depth []) is s0 ≡ parts (item_part (expand (scoped known) turns) (scoped known) max_depth []) is s0
-      pub holds : Holds w s0 s0.form (parts (item_part (expand (scoped known) turns) (scoped known) max_depth []) is s0).1
+      pub same : parts (item_part (expand (counted_asking asks known) turns) (counted_asking asks known) max_depth []) is s0 ≡ parts (item_part (expand (numbered_asking asks known) turns) (numbered_asking asks known) max_depth []) is s0
+      pub holds : Holds w s0 s0.form (parts (item_part (expand (numbered_asking asks known) turns) (numbered_asking asks known) max_depth []) is s0).1
 
     parts_over : (turns : ℕ) (is : List (Item (B c))) → AllOf (ToldItem c.told) is → PartsSame turns (map (item_map (ident c)) is)
     parts_over turns is h =
@@ -202,7 +234,7 @@ module _ (w : Era) (known : Known) (s0 : ScopedState) where
 -- ---- the unit
 
 module _ (w : Era) (known : Known) where
-  abbrev turned : ℕ → ScopedState → ScopedState
+  abbrev pub turned : ℕ → ScopedState → ScopedState
   turned form s = record s { form = form }
 
   abbrev AsideRooted : ScopedState → Aside Ident → Type 0
@@ -210,14 +242,14 @@ module _ (w : Era) (known : Known) where
   AsideRooted s (Err e) = Unit {0}
 
   -- what a form set aside stands in it
-  abbrev SetStands : ScopedState → ℕ × Aside Ident → Type 0
+  abbrev pub SetStands : ScopedState → ℕ × Aside Ident → Type 0
   SetStands s r = AsideRooted s r.1 × OkAll (AllOf (ToldItem (told_by w.unit r.0))) r.1
 
   aside_later : (s t : ScopedState) → Grows w s t → (r : Aside Ident) → AsideRooted s r → AsideRooted t r
   aside_later s t g (Ok is) h = all_of_more (ItemHeld (UnitLeaf w known s)) (ItemHeld (UnitLeaf w known t)) (λ i q. (held_more item_kind (UnitLeaf w known s) (UnitLeaf w known t) (leaf_later w known s t g) i q.0, q.1)) is h
   aside_later s t g (Err e) h = tt
 
-  sets_later : (s t : ScopedState) → Grows w s t → (rs : List (ℕ × Aside Ident)) → AllOf (SetStands s) rs → AllOf (SetStands t) rs
+  pub sets_later : (s t : ScopedState) → Grows w s t → (rs : List (ℕ × Aside Ident)) → AllOf (SetStands s) rs → AllOf (SetStands t) rs
   sets_later s t g rs h = all_of_more (SetStands s) (SetStands t) (λ r q. (aside_later s t g r.1 q.0, q.1)) rs h
 
   aside_made : (s : ScopedState) (r : Aside Ident) → AsideRooted s r → AsideMade w s.uses r
@@ -241,7 +273,7 @@ module _ (w : Era) (known : Known) where
     pub locals : LocalsKept w (passes (scoped known) turns [] ts ns s).1
     pub sets : AllOf (SetStands (passes (scoped known) turns [] ts ns s).1) (passes (scoped known) turns [] ts ns s).0
 
-  passes_same : (turns : ℕ) (ts : List (ℕ × Tree Ident)) (ns : List (Note Place)) (s : ScopedState) → UnitState w known s → Formed s.places s.definitions → LocalsKept w s → AllOf (FormHeld w known s) ts → AllOf (NoteAll (UnitPlace w known s)) ns → PassesSame turns ts ns s
+  pub passes_same : (turns : ℕ) (ts : List (ℕ × Tree Ident)) (ns : List (Note Place)) (s : ScopedState) → UnitState w known s → Formed s.places s.definitions → LocalsKept w s → AllOf (FormHeld w known s) ts → AllOf (NoteAll (UnitPlace w known s)) ns → PassesSame turns ts ns s
   passes_same turns [] ns s k fd l h hn = record { same = refl; unit_state = k; grows = grows_itself w s; formed = fd; locals = l; sets = tt }
   passes_same turns (t ∷ ts) ns s k fd l h hn =
       let s1 = turned t.0 s in
@@ -250,7 +282,7 @@ module _ (w : Era) (known : Known) where
       let k1 : UnitState w known s1 = record { fine = k.fine; entries = k.entries } in
       let together = forms_law w known [] (UnitInside w known s1) (Grows w) (UnitLeaf w known) (UnitPlace w known) (UnitRule w known) (Noted w known s1) (unit_facts w known s1) turns p s1 false [] (k1, refl, grows_itself w s1) ((h.0, tt), tt, hn) in
       let done = passed w known s1 _ _ together in
-      let one = run_same w known s1 (form_begins w s1 k.fine.0 fd l k.fine.1.stands k.entries) turns t.1 h.0 ns hn in
+      let one = run_same w known every s1 (form_begins w s1 k.fine.0 fd l k.fine.1.stands k.entries) turns t.1 h.0 ns hn in
       let rest = passes_same turns ts r.0.notes r.1 done.unit_state one.holds.formed (locals_later w s1 s1.form r.1 one.holds) (forms_later w known turns s1 r.1 done.grows ts h.1) done.stood in
       record {
         same = ap (λ (q : Pass Ident Place × ScopedState). let after = passes (counted known) turns [] ts q.0.notes q.1 in ((t.0, q.0.items) ∷ after.0, after.1)) one.same ∙ ap (λ (after : List (ℕ × Aside Ident) × ScopedState). ((t.0, r.0.items) ∷ after.0, after.1)) rest.same;
@@ -267,21 +299,21 @@ module _ (w : Era) (known : Known) where
     abbrev expanded_by_count : Aside Ident → ScopedState → Result Parts Broken × ScopedState
     expanded_by_count r s = from_items r s >>= parts (item_part (expand (counted known) turns) (counted known) max_depth [])
 
-    abbrev expanded : Aside Ident → ScopedState → Result Parts Broken × ScopedState
+    abbrev pub expanded : Aside Ident → ScopedState → Result Parts Broken × ScopedState
     expanded r s = from_items r s >>= parts (item_part (expand (scoped known) turns) (scoped known) max_depth [])
 
-    record AsideSame (s : ScopedState) (r : Aside Ident) : Type 0 where
-      same : expanded_by_count r s ≡ expanded r s
-      holds : Holds w s s.form (expanded r s).1
-      keeps : FineState w (expanded r s).1 × Grows w s (expanded r s).1
+    pub record AsideSame (s : ScopedState) (r : Aside Ident) : Type 0 where
+      pub same : expanded_by_count r s ≡ expanded r s
+      pub holds : Holds w s s.form (expanded r s).1
+      pub keeps : FineState w (expanded r s).1 × Grows w s (expanded r s).1
 
     after : {q : Result Parts Broken × ScopedState} {m : Result Parts Broken × State} (s : ScopedState) → BothSame w s q m → FineState w q.1 × Grows w s q.1
     after s (agree a b t i n e d k z) = subst (λ (x : Result Parts Broken × ScopedState). FineState w x.1 × Grows w s x.1) (sym e) k
     after s (break x t i n e d k) = subst (λ (x : Result Parts Broken × ScopedState). FineState w x.1 × Grows w s x.1) (sym e) k
 
-    aside_same : (s : ScopedState) → FineState w s → Holds w s s.form s → (r : Aside Ident) → SetStands s (s.form, r) → AsideSame s r
+    pub aside_same : (s : ScopedState) → FineState w s → Holds w s s.form s → (r : Aside Ident) → SetStands s (s.form, r) → AsideSame s r
     aside_same s f h (Ok is) k =
-        let q = parts_same w known s h turns is k.0 k.1 in
+        let q = parts_same w known every s h turns is k.0 k.1 in
         record { same = q.same; holds = q.holds; keeps = after s (aside_law w known turns (Ok is) s f false [] (aside_made s (Ok is) k.0)) }
     aside_same s f h (Err e) k = record { same = refl; holds = h; keeps = (f, grows_itself w s) }
 

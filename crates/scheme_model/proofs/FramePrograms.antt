@@ -34,7 +34,7 @@ use Rattle.scheme_model.proofs.FrameAsks.{AllOf, MeansCounted}
 use Rattle.scheme_model.proofs.FrameRoots.{RulesOver, Rooted, UnitMacro}
 use Rattle.scheme_model.proofs.FrameStates.{names, Old, ident_of, Made, MacroFine, Fine, FineState}
 use Rattle.scheme_model.proofs.FrameLeaves.{TreeAll, all_held}
-use Rattle.scheme_model.proofs.EntryLaws.{GivenNoLocal, Fits, Exports, unit_entries_fit, with_entries_fit, exports_all_fit}
+use Rattle.scheme_model.proofs.EntryLaws.{NoLocal, GivenNoLocal, Fits, Exports, unit_entries_fit, with_entries_fit, exports_all_fit}
 use Rattle.scheme_model.proofs.FrameUnit.{UnitLeaf, UnitState}
 use Rattle.scheme_model.proofs.FrameUnits.{form_seen, FormHeld, AllFormed, unit_law}
 use Rattle.scheme_model.proofs.FrameBetween.{none_yet, given_counted, left_then}
@@ -101,17 +101,17 @@ module _ (P : Ident → Type 0) (w : ℕ) (written : (s : List ℕ) → P (Writt
 
 -- ---- what holds between units
 
-abbrev done : List UnitResult → ℕ → Bool
+abbrev pub done : List UnitResult → ℕ → Bool
 done rs u = is_some (result_at rs u)
 
-abbrev coming : List UnitResult → ℕ → Era
+abbrev pub coming : List UnitResult → ℕ → Era
 coming rs z = record { unit = z; worked = done rs }
 
 pub record Between (g : ScopedProgress) : Type 0 where
   pub fine : (z : ℕ) → done g.results z ≡ false → Fine (coming g.results z) none_yet none_yet none_yet g.table g.entry g.macros g.places g.definitions
   pub outside : DefinesOutside g.table g.places
   pub entries : (u : ℕ) (s : List ℕ) → GivenNoLocal (g.entry u s)
-  pub exports : Exports g.results
+  pub exports : Exports NoLocal g.results
   pub formed : FormedBy g.places g.definitions
 
 -- no number of the unit is counted yet, so no macro is a local of it
@@ -122,7 +122,7 @@ none_counted w v h a =
     let q : v.count < 0 = ltb-true v.count 0 p in
     omega arith
 
-locals_none : (w : Era) (s : ScopedState) (ks : List ScopedMacro) → AllOf (MacroFine w none_yet none_yet none_yet) ks → AllOf (λ (k : ScopedMacro). LocalKept w s k.meaning k.frames k.rules) ks
+pub locals_none : (w : Era) (s : ScopedState) (ks : List ScopedMacro) → AllOf (MacroFine w none_yet none_yet none_yet) ks → AllOf (λ (k : ScopedMacro). LocalKept w s k.meaning k.frames k.rules) ks
 locals_none w s [] h = tt
 locals_none w s (k ∷ ks) h = (go k.meaning h.0.meaning, locals_none w s ks h.1)
   where
@@ -159,7 +159,7 @@ module _ (known : Known) (g : ScopedProgress) (h : Between g) (p : Prepared) (ne
     formed = h.formed;
   }
 
-  module _ (imports : List Entry × List SetResult) (fit : Fits imports.0) where
+  module _ (imports : List Entry × List SetResult) (fit : Fits NoLocal imports.0) where
     abbrev entry : Entries
     entry = with_entries p.number imports.0 g.entry
 
@@ -170,7 +170,7 @@ module _ (known : Known) (g : ScopedProgress) (h : Between g) (p : Prepared) (ne
     by_scopes = scoped_unit_over known p start
 
     entries_fit : (u : ℕ) (s : List ℕ) → GivenNoLocal (entry u s)
-    entries_fit = with_entries_fit p.number imports.0 g.entry fit h.entries
+    entries_fit = with_entries_fit NoLocal p.number imports.0 g.entry fit h.entries
 
     start_fine : FineState w start
     start_fine =
@@ -190,10 +190,10 @@ module _ (known : Known) (g : ScopedProgress) (h : Between g) (p : Prepared) (ne
           },
         )
 
-    start_unit : UnitState w known start
+    pub start_unit : UnitState w known start
     start_unit = record { fine = start_fine; entries = entries_fit }
 
-    forms_held : AllOf (FormHeld w known start) (forms_over (Written p.number) p.number 0 p.forms)
+    pub forms_held : AllOf (FormHeld w known start) (forms_over (Written p.number) p.number 0 p.forms)
     forms_held = forms_all (UnitLeaf w known start) p.number (λ s. (tt, tt)) p.forms 0
 
     forms_seen : map (form_seen (names start [])) (forms_over (Written p.number) p.number 0 p.forms) ≡ form_trees p.number 0 p.forms
@@ -235,12 +235,12 @@ module _ (known : Known) (g : ScopedProgress) (h : Between g) (p : Prepared) (ne
         go true = refl
         go false = refl
 
-    result_exports : Fits result.exports
+    result_exports : Fits NoLocal result.exports
     result_exports = go (nat_lt max_total (total by_scopes.0))
       where
-        go : (t : Bool) → Fits (cond t (broken_result p TooLarge) whole).exports
+        go : (t : Bool) → Fits NoLocal (cond t (broken_result p TooLarge) whole).exports
         go true = tt
-        go false = exports_all_fit by_scopes.1.table p.number imports.0 fit p.exports
+        go false = exports_all_fit NoLocal by_scopes.1.table p.number (λ i. tt) imports.0 fit p.exports
 
     pub step_between : Between (scoped_expanded known p imports g)
     step_between =
@@ -263,7 +263,7 @@ module _ (all : List Placed) (ps : List Prepared) (known : Known) where
   fault_gone : (g : ScopedProgress) → Between g → (p : Prepared) → done g.results p.number ≡ false → (f : Option WholeFault) → Gone (by_fault all ps known p f (imaged g)) (scoped_by_fault all known p f g)
   fault_gone g h p new (Some fault) = record { same = refl; between = broken_between known g h p new fault }
   fault_gone g h p new None =
-      let imports = unit_entries all g.results p in let fit = unit_entries_fit all g.results h.exports p in
+      let imports = unit_entries all g.results p in let fit = unit_entries_fit NoLocal (λ s. tt) all g.results h.exports p in
       record { same = step_same known g h p new imports fit all; between = step_between known g h p new imports fit }
 
   abbrev OrReady : (Prepared → Bool) → Option Prepared → Type 0
@@ -278,7 +278,7 @@ module _ (all : List Placed) (ps : List Prepared) (known : Known) where
       go true e r = e
       go false e r = r
 
-  not_done : (a b : Bool) → (not a && b) ≡ true → a ≡ false
+  pub not_done : (a b : Bool) → (not a && b) ≡ true → a ≡ false
   not_done true b e = absurd cc
   not_done false b e = refl
 
@@ -365,7 +365,7 @@ prelude_entries u s = go ((u == prelude_unit) && is_standard s)
     go true = tt
     go false = tt
 
-between_before : Between scoped_before
+pub between_before : Between scoped_before
 between_before = record {
   fine = λ z e. record {
     definitions = λ b i h. inl refl;
@@ -416,4 +416,4 @@ pub counts_law : (all : List Placed) (ps : List Prepared) (known : Known) (n : �
 counts_law all ps known n p ready =
     let g = scoped_work all ps known n scoped_before in
     let h = (work_gone all ps known n scoped_before between_before).between in
-    (told_same known g h p (not_done all ps known (done g.results p.number) _ ready) (unit_entries all g.results p) (unit_entries_fit all g.results h.exports p)).same
+    (told_same known g h p (not_done all ps known (done g.results p.number) _ ready) (unit_entries all g.results p) (unit_entries_fit NoLocal (λ s. tt) all g.results h.exports p)).same

@@ -1,0 +1,25 @@
+-- The binders that frames are: a body is those that it has defined by now.
+use Rattle.std.specs.Prelude.{ℕ, List, [], ◌∷◌, ◌++◌, if◌then◌else◌}
+use Rattle.scheme_model.specs.Identifiers.{Number, same_number}
+use Rattle.scheme_model.specs.Scopes.{Bound, Chain, Uses, Own, own_of}
+use Rattle.scheme_model.specs.ScopedExpansion.{Frame, Bind, Enter, Frames, BodyDefinition, BodyDefinitions, ScopedState, around}
+
+-- what a body has defined, latest first
+abbrev pub body_chain : BodyDefinitions → Number → Chain
+body_chain [] b = []
+body_chain (d ∷ ds) b = if same_number d.body b then record { ident = d.ident; binder = d.binder } ∷ body_chain ds b else body_chain ds b
+
+abbrev pub chain_of : BodyDefinitions → Frames → Chain
+chain_of ds [] = []
+chain_of ds (Bind x v ∷ fs) = record { ident = x; binder = v } ∷ chain_of ds fs
+chain_of ds (Enter b u ∷ fs) = body_chain ds b ++ chain_of ds fs
+
+-- the binders around a place, those around the macro of each use, and what units give
+abbrev pub chain_in : ScopedState → Frames → Chain
+chain_in s fs = chain_of s.definitions fs
+
+abbrev pub uses_in : ScopedState → Uses
+uses_in s k = chain_in s (around s.places k)
+
+abbrev pub given_in : ScopedState → Own
+given_in s = own_of s.table s.entry

@@ -1,0 +1,97 @@
+//! The macros of all units, by what means them.
+ghost use Rattle.std.specs.Prelude.{◌≡◌, ℕ, None, OnOk, OnErr};
+ghost use Rattle.std.specs.Option.{option_copied};
+ghost use Rattle.syntax_tree.specs.declared.meaning.Meaning.{Meaning as AnyMeaning};
+ghost use Rattle.expander.specs.Macros.{macro_in, IsBound, Keeps};
+
+use ls_base::{Items, Mem, Memory};
+use rules_check::RuleLeaf;
+use scope_env::ScopeNo;
+use std::alloc::Global;
+use std::collections::BTreeMap;
+use syntax_tree::meaning::Meaning;
+use syntax_tree::rules::{Rule, Rules};
+use syntax_tree::symbols::{IdNo, SymNo};
+
+/// A macro: the scope in which it was defined, its rules, and their leaves.
+#[derive(Drop)]
+pub struct Macro {
+    pub scope: ScopeNo,
+    pub rules: Rules,
+    pub leaves: Vec<RuleLeaf>,
+}
+
+/// All macros: the open unit's local ones by form and number, those that units define, and the standard ones.
+#[derive(Drop)]
+pub struct Macros {
+    pub locals: BTreeMap<(u32, u64), Macro>,
+    pub globals: BTreeMap<(u32, IdNo), Macro>,
+    pub standards: BTreeMap<SymNo, Macro>,
+}
+
+impl Macros {
+    /// No macros, which takes no memory.
+    pub fn new(alloc: Global) -> Macros
+        ensures { (f : ℕ) (m : AnyMeaning) → macro_in result f m ≡ None }
+    {
+        Macros {
+            locals: BTreeMap::new(alloc),
+            globals: BTreeMap::new(alloc),
+            standards: BTreeMap::new(alloc),
+        }
+    }
+
+    /// The macro that means this in a form, where one does.
+    pub fn meaning(&self, form: u32, meaning: Meaning) -> Option<&Macro>
+        ensures { option_copied result ≡ macro_in self.now form meaning }
+    {
+        match meaning {
+            Meaning::Local(number) => self.locals.get(&(form, number)),
+            Meaning::Global { unit, ident } => self.globals.get(&(unit, ident)),
+            Meaning::Standard(symbol) => self.standards.get(&symbol),
+            Meaning::Free(_) => None,
+        }
+    }
+
+    /// Keeps a macro as what means this in a form. Nothing free means a macro.
+    pub fn keep(&mut self, form: u32, meaning: Meaning, kept: Macro) -> Mem<()>
+        requires { IsBound meaning }
+        ensures kept { OnOk result (Keeps self.old self.new form meaning kept) }
+        ensures err { OnErr result ((f : ℕ) (m : AnyMeaning) → macro_in self.new f m ≡ macro_in self.old f m) }
+    {
+        match meaning {
+            Meaning::Local(number) => {
+                self.locals.insert((form, number), kept)?;
+            }
+            Meaning::Global { unit, ident } => {
+                self.globals.insert((unit, ident), kept)?;
+            }
+            Meaning::Standard(symbol) => {
+                self.standards.insert(symbol, kept)?;
+            }
+            Meaning::Free(_) => {}
+        }
+        Ok(())
+    }
+}
+
+/// The same rules once more.
+pub fn copy_rules(alloc: Global, rules: &Rules) -> Mem<Rules> {
+    let mut literals = Items::new(alloc);
+    for literal in rules.literals.as_slice() {
+        literals.push(*literal)?;
+    }
+    Ok(Rules {
+        ellipsis: rules.ellipsis,
+        literals,
+        rules: copy_each(alloc, rules.rules.as_slice())?,
+    })
+}
+
+fn copy_each(alloc: Global, rules: &[Rule]) -> Mem<Items<Rule>> {
+    let mut copies = Items::new(alloc);
+    for rule in rules {
+        copies.push(*rule)?;
+    }
+    Ok(copies)
+}
