@@ -13,7 +13,7 @@ use Rattle.scheme_model.specs.Trees.{name, list, tree}
 use Rattle.scheme_model.specs.RulesShape.{Rule, Rules}
 use Rattle.scheme_model.specs.Leaves.{Leaf}
 use Rattle.scheme_model.specs.Cores.{Target, MacroUse}
-use Rattle.scheme_model.specs.Scopes.{Chain, imported_as, defined_or}
+use Rattle.scheme_model.specs.Scopes.{Chain, defined_or}
 use Rattle.scheme_model.specs.Substitution.{Defined, defined_in}
 use Rattle.scheme_model.specs.Order.{Transformer, is_some}
 use Rattle.scheme_model.specs.ScopedExpansion.{Frames, ScopedState, around, macro_at}
@@ -33,7 +33,7 @@ use Rattle.scope_env.proofs.GrowthLaws.{chain_grows, meaning_grows, env_grows}
 use Rattle.core_tree.specs.Names.{AllMatch, IsTarget, IsUse}
 use Rattle.core_tree.specs.declared.cores.Target as code_target
 use Rattle.core_tree.specs.declared.traces.MacroUse as code_use
-use Rattle.expander.specs.Chains.{chain_in, uses_in, given_in}
+use Rattle.expander.specs.Chains.{chain_in, uses_in, imported_in, given_in}
 use Rattle.expander.specs.Macros.{macro_in}
 use Rattle.expander.specs.State.{IsMacro, IsMacroIfAny, MacrosStand, EnvStands, FormStands, Stands}
 use Rattle.rules_check.specs.Gathered.{AreLeaves}
@@ -221,7 +221,7 @@ module _ (old new : Work) (trees : KeepsTrees old new) (names : KeepsNames old.s
     defined_by n i None none there =
         not_defined (get nat_cmp u.defined n) (defined_in s.table s.unit i)
         (λ k h. not_within old.symbols.idents n none (e.known n k h))
-        (λ d h. let m = e.env.given_named s.unit i (model.Global s.unit i) (ap (λ (x : Option Defined). defined_or x s.unit i (imported_as s.entry s.unit i)) h) in
+        (λ d h. let m = e.env.given_named s.unit i (model.Global s.unit i) (ap (λ (x : Option Defined). defined_or x s.unit i (imported_in s.entry s.unit i)) h) in
         not_elsewhere old.symbols.idents new.symbols.idents names.idents apart n m.0 i none there m.1)
 
     pub growth_stands : Stands new u ls s
