@@ -19,3 +19,4 @@ pub mod Ready
 pub mod Bodies
 pub mod Expanded
 pub mod Units
+pub mod Opened
