@@ -14,3 +14,6 @@ pub mod DefinedMacros
 pub mod BodyScopes
 pub mod ComingDefinitions
 pub mod FormsStand
+pub mod JudgeLaws
+pub mod QuasiMarks
+pub mod QuasiReads

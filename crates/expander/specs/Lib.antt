@@ -6,3 +6,7 @@ pub mod Counts
 pub mod Binds
 pub mod Stepped
 pub mod Outcomes
+pub mod Judged
+pub mod Marked
+pub mod Told
+pub mod Seen

@@ -1,4 +1,12 @@
 //! The rules of macros where they are defined (R7RS 4.3.1, 5.4): a list whose head means `syntax-rules`.
+ghost use Rattle.std.specs.Prelude.{◌≡◌};
+ghost use Rattle.scheme_model.specs.Trees.{Tree as ModelTree};
+ghost use Rattle.scheme_model.specs.Order.{rules_parts_of};
+ghost use Rattle.scheme_model.specs.Ident.{Ident as Identifier};
+ghost use Rattle.syntax_tree.specs.Works.{StandsFor, IsStanding};
+ghost use Rattle.expander.specs.Seen.{IsRulesHead};
+ghost use Rattle.expander.specs.Told.{rules_fault, told};
+
 use crate::asked::{Asked, Asking, Note};
 use crate::counting::{code, fails};
 use crate::fault::ExpandFault;
@@ -19,21 +27,31 @@ use syntax_tree::symbols::IdNo;
 use syntax_tree::trees::{Tree, Work};
 
 /// The head of a list of rules, where it has one that is an identifier.
-fn rules_head(work: &Work, rules: Tree) -> Option<IdNo> {
+fn rules_head(work: &Work, rules: Tree) -> Option<IdNo>
+    requires { IsStanding work.now rules }
+    ensures { (t : ModelTree Identifier) → StandsFor work.now rules t → IsRulesHead work.now.symbols result (rules_parts_of t) }
+{
     match look_at(work, rules) {
-        Look::List(items, _) => match items {
-            [] => None,
-            [first, ..] => match look_at(work, *first) {
+        Look::List(items, _) => match items.split_first() {
+            None => None,
+            Some((first, _)) => match look_at(work, *first) {
                 Look::Name(ident) => Some(ident),
-                Look::Atom(_) | Look::List(_, _) | Look::Vector(_) => None,
+                Look::Atom(_) => None,
+                Look::List(_, _) => None,
+                Look::Vector(_) => None,
             },
         },
-        Look::Name(_) | Look::Atom(_) | Look::Vector(_) => None,
+        Look::Name(_) => None,
+        Look::Atom(_) => None,
+        Look::Vector(_) => None,
     }
 }
 
 /// An identifier with its place, as core forms have it.
-fn part(name: Named) -> NamePart {
+fn part(name: Named) -> NamePart
+    ensures ident { result.ident ≡ name.ident }
+    ensures place { result.occ ≡ name.occ }
+{
     NamePart {
         ident: name.ident,
         occ: name.occ,
@@ -106,7 +124,10 @@ impl UnitScope {
         }
     }
 
-    fn bad_rules(&self, here: Option<Occ>, fault: RulesFault) -> ExpandFault {
+    /// The fault of rules that are none.
+    fn bad_rules(&self, here: Option<Occ>, fault: RulesFault) -> ExpandFault
+        ensures { result ≡ told self.now.unit self.now.form.number here (rules_fault fault) }
+    {
         match fault {
             RulesFault::BadShape => fails(here, code::BAD_RULES),
             RulesFault::TwoEllipses => fails(here, code::TWO_ELLIPSES),
