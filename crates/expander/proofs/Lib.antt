@@ -17,3 +17,7 @@ pub mod FormsStand
 pub mod JudgeLaws
 pub mod QuasiMarks
 pub mod QuasiReads
+pub mod AskLaws
+pub mod ToldLaws
+pub mod SeenLaws
+pub mod ChoiceLaws

@@ -10,3 +10,4 @@ pub mod Judged
 pub mod Marked
 pub mod Told
 pub mod Seen
+pub mod Asks
