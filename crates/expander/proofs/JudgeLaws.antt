@@ -1,6 +1,10 @@
 -- Requirements and the names of libraries as they are read: faults that are passed on, texts part by part, and requirements in a row.
-use Rattle.std.proofs.Common.{◌≡◌, ◌≢◌, ℕ, zero, suc, ◌+◌, ◌<◌, ◌≤◌, List, [], ◌∷◌, ◌++◌, append_assoc, append-nil, add-one, length, Bool, true, false, cond, Option, Some, None, Result, Ok, Err, refl, sym, ap, ◌∙◌, subst, arith}
-use Rattle.std.specs.Prelude.{◌&&◌, ◌||◌, not, codes, slice_get, get_or}
+use Rattle.std.proofs.Common.{◌≡◌, ◌≢◌, ℕ, zero, suc, ◌+◌, ◌<◌, ◌≤◌, List, [], ◌∷◌, ◌++◌, append_assoc, append-nil, add-one, length, get_or, take, Bool, true, false, cond, Option, Some, None, Result, Ok, Err, refl, sym, ap, ◌∙◌, subst, arith}
+use Rattle.std.specs.Prelude.{◌&&◌, ◌||◌, not, codes, slice_get, String}
+use Rattle.std.specs.declared.alloc.Global.{Global}
+use Rattle.std.specs.BTreeSet.{BTreeSet, contains_text}
+use Rattle.std.proofs.lemmas.List.{take_more}
+use Rattle.scheme_model.specs.Program.{has_name}
 use Rattle.std.specs.Result.{IsErrAnd}
 use Rattle.std.specs.Option.{option_map}
 use Rattle.std.specs.Str.{bytes_eq, chars, encode_utf8_all, IsUtf8}
@@ -30,7 +34,7 @@ use Rattle.core_forms.proofs.Reading.{after, after_none, after_one, then_ok}
 use Rattle.expander.specs.declared.requirements.ShapeFault.{ShapeFault}
 use Rattle.expander.specs.declared.requirements.ShapeFault.TheVariants as fault
 use Rattle.expander.specs.declared.requirements.Connective.TheVariants as word
-use Rattle.expander.specs.Judged.{Fails, Reads, Puts, PutsAll, map_ok, part_text, behind_spaces, library_text, name_in_list, library_holds, word_holds, by_connective, clause_judged}
+use Rattle.expander.specs.Judged.{Knows, Fails, Reads, Puts, PutsAll, map_ok, part_text, behind_spaces, library_text, name_in_list, library_holds, word_holds, by_connective, clause_judged}
 
 -- ---- answers
 
@@ -292,3 +296,32 @@ some_end k us a h = ap (λ (x : Trees Identifier). map_ok (λ (b : Bool). a || b
 
 pub plain_clause : (k : Known) (t : Tree Identifier) (last : Bool) → is_else symbol_of t ≡ false → clause_judged k t last ≡ holds symbol_of k t
 plain_clause k t last h = ap (λ (b : Bool). cond b (cond last (Ok true) (Err BadForm)) (holds symbol_of k t)) h
+
+-- ---- known names
+
+has_push : (ts : List (List ℕ)) (t s : List ℕ) → has_name (ts ++ t ∷ []) s ≡ (has_name ts s || bytes_eq t s)
+has_push [] t s = flip (bytes_eq t s)
+  where
+    flip : (b : Bool) → (b || false) ≡ b
+    flip true = refl
+    flip false = refl
+has_push (u ∷ ts) t s = ap (λ b. bytes_eq u s || b) (has_push ts t s) ∙ group (bytes_eq u s) (has_name ts s) (bytes_eq t s)
+  where
+    group : (a b c : Bool) → (a || (b || c)) ≡ ((a || b) || c)
+    group true b c = refl
+    group false b c = refl
+
+pub known_more : (known : List (List ℕ)) (i : ℕ) (t key s : List ℕ) (old new : Bool) → i < length known → t ≡ get_or known i t → key ≡ t → old ≡ has_name (take i known) s → new ≡ cond (bytes_eq key s) true old → new ≡ has_name (take (i + 1) known) s
+known_more known i t key s old new lt is k o n =
+    n ∙ (λ j. cond (bytes_eq (k j) s) true (o j)) ∙ flip (bytes_eq t s) (has_name (take i known) s) ∙ sym (has_push (take i known) t s) ∙ ap (λ (y : List ℕ). has_name (take i known ++ y ∷ []) s) is
+    ∙ ap (λ (l : List (List ℕ)). has_name l s) (sym (take_more known i t lt))
+  where
+    flip : (a b : Bool) → cond a true b ≡ (b || a)
+    flip true true = refl
+    flip true false = refl
+    flip false true = refl
+    flip false false = refl
+
+-- what has the names of libraries knows the libraries of these texts
+pub knows_listed : (libraries : BTreeSet (String Global)) (texts : List (List ℕ)) → ((s : List ℕ) → contains_text libraries s ≡ has_name texts s) → Knows libraries (λ n. has_name texts (library_text n))
+knows_listed libraries texts h n = sym (h (library_text n))

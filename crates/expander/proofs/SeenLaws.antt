@@ -1,7 +1,10 @@
 -- What takes effect while forms are gone through, what a record defines, and where its fields stand.
-use Rattle.std.proofs.Common.{◌≡◌, ℕ, zero, suc, ◌+◌, ◌<◌, ◌≤◌, List, [], ◌∷◌, ◌++◌, length, map, get_or, drop, take, Bool, true, false, cond, Option, Some, None, refl, sym, ap, ◌∙◌, subst, arith, add-one}
-use Rattle.std.specs.Prelude.{filter_map, nat_eq, position, unwrap_or, if◌then◌else◌}
+use Rattle.std.proofs.Common.{◌≡◌, ℕ, zero, suc, ◌+◌, ◌<◌, ◌≤◌, List, [], ◌∷◌, ◌++◌, length, map, get_or, drop, take, Bool, true, false, cond, Option, Some, None, refl, sym, ap, ◌∙◌, subst, arith, add-one, append_assoc, append-nil}
+use Rattle.std.specs.Prelude.{is_some, filter_map, nat_eq, position, unwrap_or, if◌then◌else◌}
+use Rattle.std.specs.List.{position_from}
 use Rattle.std.proofs.lemmas.Bool.Decides.{nat_tests}
+use Rattle.std.proofs.lemmas.Bool.{eqb-true}
+use Rattle.std.proofs.lemmas.List.{take_more, length-take-le}
 use Rattle.scheme_model.specs.Trees.{Tree, Trees, Tail}
 use Rattle.scheme_model.specs.Keywords.{CoreKeyword, IsQuote, IsQuasiquote, IsLambda, IsCaseLambda, IsIf, IsSet, IsBegin, IsDefine, IsDefineValues, IsDefineRecordType, IsDefineSyntax, IsLetSyntax, IsLetrecSyntax, IsCondExpand, IsSyntaxError, IsInclude}
 use Rattle.scheme_model.specs.ExpansionFaults.{Named}
@@ -10,6 +13,7 @@ use Rattle.scheme_model.specs.Cores.{Target, FieldUse}
 use Rattle.scheme_model.specs.Order.{Here, Form, Pending, Pass, Ops, Going, Expression, put, run_core, modifiers, modified, record_names, position as field_position, is_some as model_is_some}
 use Rattle.scheme_model.specs.Ident.{Ident as Identifier, same_ident}
 use Rattle.syntax_tree.specs.Names.{AreToldApart}
+use Rattle.syntax_tree.specs.Macros.{IsIdent}
 use Rattle.syntax_tree.specs.declared.trees.Work.{Work}
 use Rattle.syntax_tree.proofs.RoleLaws.{same_by_number}
 use Rattle.core_forms.specs.Parts.{AllMatch, IsName, IsNameIfAny, IsField, AreNames}
@@ -37,3 +41,153 @@ set_aside ops go here e IsLetrecSyntax k form ts tail p s h = refl
 set_aside ops go here e IsCondExpand k form ts tail p s h = absurd cc
 set_aside ops go here e IsSyntaxError k form ts tail p s h = refl
 set_aside ops go here e IsInclude k form ts tail p s h = refl
+
+-- ---- what a record defines
+
+-- the field at a place
+pub record IsFieldAt (work : Work) (fs : List (ModelField Identifier)) (k : ℕ) (c : FieldShape) : Type 0 where
+  pub field : ModelField Identifier
+  pub matches : IsField work c field
+  pub split : drop k fs ≡ field ∷ drop (k + 1) fs
+
+pub field_there : (work : Work) (k : ℕ) (cs : List FieldShape) (fs : List (ModelField Identifier)) (d : FieldShape) → AllMatch (IsField work) cs fs → k < length cs → IsFieldAt work fs k (get_or cs k d)
+field_there work k [] fs d h l = absurd (omega arith)
+field_there work k (c ∷ cs) [] d h l = absurd h
+field_there work zero (c ∷ cs) (f ∷ fs) d h l = record { field = f; matches = h.0; split = refl }
+field_there work (suc k) (c ∷ cs) (f ∷ fs) d h l =
+    let q = field_there work k cs fs d h.1 (omega arith) in
+    let more : suc (k + 1) ≡ suc k + 1 = omega arith in
+    record { field = q.field; matches = q.matches; split = q.split ∙ ap (λ (m : ℕ). q.field ∷ drop m (f ∷ fs)) more }
+
+pub fields_past : (work : Work) (k : ℕ) (cs : List FieldShape) (fs : List (ModelField Identifier)) → AllMatch (IsField work) cs fs → length cs ≤ k → drop k fs ≡ []
+fields_past work zero [] [] h l = refl
+fields_past work zero [] (f ∷ fs) h l = absurd h
+fields_past work zero (c ∷ cs) fs h l = absurd (omega arith)
+fields_past work (suc k) [] [] h l = refl
+fields_past work (suc k) [] (f ∷ fs) h l = absurd h
+fields_past work (suc k) (c ∷ cs) [] h l = absurd h
+fields_past work (suc k) (c ∷ cs) (f ∷ fs) h l = fields_past work k cs fs h.1 (omega arith)
+
+module _ (work : Work) where
+  accessors_match : (cs : List FieldShape) (fs : List (ModelField Identifier)) → AllMatch (IsField work) cs fs → AllMatch (IsName work) (map (λ c. c.accessor) cs) (map (λ f. f.accessor) fs)
+  accessors_match [] [] h = tt
+  accessors_match [] (f ∷ fs) h = absurd h
+  accessors_match (c ∷ cs) [] h = absurd h
+  accessors_match (c ∷ cs) (f ∷ fs) h = (h.0.accessor, accessors_match cs fs h.1)
+
+  modifiers_match : (cs : List FieldShape) (fs : List (ModelField Identifier)) → AllMatch (IsField work) cs fs → AllMatch (IsName work) (filter_map (λ c. c.modifier) cs) (modifiers fs)
+  modifiers_match [] [] h = tt
+  modifiers_match [] (f ∷ fs) h = absurd h
+  modifiers_match (c ∷ cs) [] h = absurd h
+  modifiers_match (c ∷ cs) (f ∷ fs) h = go c.name c.accessor c.modifier f.field f.accessor f.modifier h.0.modifier (modifiers_match cs fs h.1)
+    where
+      go : (m a : NamePart) (o : Option NamePart) (n b : Named Identifier) (q : Option (Named Identifier)) → IsNameIfAny work o q → AllMatch (IsName work) (filter_map (λ c. c.modifier) cs) (modifiers fs) →
+          AllMatch (IsName work) (filter_map (λ c. c.modifier) (record { name = m; accessor = a; modifier = o } ∷ cs)) (modifiers (record { field = n; accessor = b; modifier = q } ∷ fs))
+      go m a None n b None h g = g
+      go m a None n b (Some q) h g = absurd h
+      go m a (Some o) n b None h g = absurd h
+      go m a (Some o) n b (Some q) h g = (h, g)
+
+  -- the type, the constructor, the predicate, the accessors and the modifiers
+  pub names_match : (n c p : NamePart) (fs : List FieldShape) (r : RecordShape Identifier) → IsName work n r.type → IsName work c r.constructor → IsName work p r.predicate → AllMatch (IsField work) fs r.fields →
+      AllMatch (IsName work) (n ∷ c ∷ p ∷ map (λ f. f.accessor) fs ++ filter_map (λ f. f.modifier) fs) (record_names r)
+  names_match n c p fs r type constructor predicate fields =
+      matches_both (IsName work) (n ∷ c ∷ p ∷ map (λ f. f.accessor) fs) (filter_map (λ f. f.modifier) fs) (r.type ∷ r.constructor ∷ r.predicate ∷ map (λ f. f.accessor) r.fields) (modifiers r.fields)
+      (type, constructor, predicate, accessors_match fs r.fields fields) (modifiers_match fs r.fields fields)
+
+-- a field more of which it is known whether it has a modifier
+pub same_some : (work : Work) (o : Option NamePart) (q : Option (Named Identifier)) → IsNameIfAny work o q → is_some o ≡ model_is_some q
+same_some work None None h = refl
+same_some work None (Some q) h = absurd h
+same_some work (Some o) None h = absurd h
+same_some work (Some o) (Some q) h = refl
+
+pub modified_more : (work : Work) (fs : List (ModelField Identifier)) (k : ℕ) (c : FieldShape) (at : IsFieldAt work fs k c) (b : Bool) (old new : List ℕ) → b ≡ is_some c.modifier → old ++ modified k (drop k fs) ≡ modified 0 fs →
+    new ≡ (if b then old ++ k ∷ [] else old) → new ++ modified (k + 1) (drop (k + 1) fs) ≡ modified 0 fs
+modified_more work fs k c at b old new is so_far e =
+    ap (λ (l : List ℕ). l ++ modified (k + 1) (drop (k + 1) fs)) e ∙ go b
+    ∙ ap (λ (t : Bool). old ++ (if t then k ∷ modified (k + 1) (drop (k + 1) fs) else modified (k + 1) (drop (k + 1) fs))) (is ∙ same_some work c.modifier at.field.modifier at.matches.modifier)
+    ∙ ap (λ (n : ℕ). old ++ (if model_is_some at.field.modifier then k ∷ modified n (drop (k + 1) fs) else modified n (drop (k + 1) fs))) (add-one k)
+    ∙ ap (λ (l : List (ModelField Identifier)). old ++ modified k l) (sym at.split) ∙ so_far
+  where
+    go : (b : Bool) → (if b then old ++ k ∷ [] else old) ++ modified (k + 1) (drop (k + 1) fs) ≡ old ++ (if b then k ∷ modified (k + 1) (drop (k + 1) fs) else modified (k + 1) (drop (k + 1) fs))
+    go true = append_assoc old (k ∷ []) (modified (k + 1) (drop (k + 1) fs))
+    go false = refl
+
+pub modified_all : (fs : List (ModelField Identifier)) (k : ℕ) (places : List ℕ) → places ++ modified k (drop k fs) ≡ modified 0 fs → drop k fs ≡ [] → places ≡ modified 0 fs
+modified_all fs k places so_far past = sym (append-nil places) ∙ ap (λ (l : List (ModelField Identifier)). places ++ modified k l) (sym past) ∙ so_far
+
+-- ---- places of fields
+
+abbrev or_place : Option ℕ → Bool → ℕ → Option ℕ
+or_place (Some j) b k = Some j
+or_place None b k = cond b (Some k) None
+
+place_from : (work : Work) → AreToldApart work.symbols.idents → (n : ℕ) (i : Identifier) → IsIdent work.symbols n i → (j : ℕ) (cs : List FieldShape) (fs : List (ModelField Identifier)) → AllMatch (IsField work) cs fs →
+    unwrap_or (position_from (λ c. nat_eq n c.name.ident) j cs) (j + length cs) ≡ j + field_position same_ident i fs
+place_from work apart n i is j [] [] h = refl
+place_from work apart n i is j [] (f ∷ fs) h = absurd h
+place_from work apart n i is j (c ∷ cs) [] h = absurd h
+place_from work apart n i is j (c ∷ cs) (f ∷ fs) h =
+    ap (λ (b : Bool). unwrap_or (cond b (Some j) (position_from (λ c. nat_eq n c.name.ident) (j + 1) cs)) (j + suc (length cs))) (sym (same_by_number work.symbols apart c.name.ident n f.field.name i h.0.field.0 is)) ∙ go (same_ident f.field.name i)
+  where
+    go : (b : Bool) → unwrap_or (cond b (Some j) (position_from (λ c. nat_eq n c.name.ident) (j + 1) cs)) (j + suc (length cs)) ≡ j + (if b then 0 else suc (field_position same_ident i fs))
+    go true = omega arith
+    go false =
+        let h = place_from work apart n i is (j + 1) cs fs h.1 in
+        let a : j + suc (length cs) ≡ j + 1 + length cs = omega arith in
+        let b : j + 1 + field_position same_ident i fs ≡ j + suc (field_position same_ident i fs) = omega arith in
+        ap (unwrap_or (position_from (λ c. nat_eq n c.name.ident) (j + 1) cs)) a ∙ h ∙ b
+
+-- a name's place among the fields is that of the definition
+pub place_is : (work : Work) → AreToldApart work.symbols.idents → (n : ℕ) (i : Identifier) → IsIdent work.symbols n i → (cs : List FieldShape) (fs : List (ModelField Identifier)) → AllMatch (IsField work) cs fs →
+    unwrap_or (position (λ c. nat_eq n c.name.ident) cs) (length cs) ≡ field_position same_ident i fs
+place_is work apart n i is cs fs h =
+    let a : length cs ≡ 0 + length cs = omega arith in
+    let b : 0 + field_position same_ident i fs ≡ field_position same_ident i fs = omega arith in
+    ap (unwrap_or (position (λ c. nat_eq n c.name.ident) cs)) a ∙ place_from work apart n i is 0 cs fs h ∙ b
+
+-- one field more
+position_end : {A : Type 0} (t : A → Bool) (j : ℕ) (xs : List A) (x : A) → position_from t j (xs ++ x ∷ []) ≡ or_place (position_from t j xs) (t x) (j + length xs)
+position_end t j [] x = ap (λ (n : ℕ). cond (t x) (Some n) None) (let e : j ≡ j + 0 = omega arith in e)
+position_end t j (y ∷ xs) x =
+    ap (cond (t y) (Some j)) (position_end t (j + 1) xs x ∙ ap (or_place (position_from t (j + 1) xs) (t x)) (let e : j + 1 + length xs ≡ j + suc (length xs) = omega arith in e)) ∙ go (t y)
+  where
+    go : (b : Bool) → cond b (Some j) (or_place (position_from t (j + 1) xs) (t x) (j + suc (length xs))) ≡ or_place (cond b (Some j) (position_from t (j + 1) xs)) (t x) (j + suc (length xs))
+    go true = refl
+    go false = refl
+
+field_end : (cs : List FieldShape) (k : ℕ) (c : FieldShape) (n : ℕ) → k < length cs → c ≡ get_or cs k c → position (λ d. nat_eq n d.name.ident) (take (k + 1) cs) ≡ or_place (position (λ d. nat_eq n d.name.ident) (take k cs)) (nat_eq n c.name.ident) k
+field_end cs k c n lt is =
+    let count : 0 + length (take k cs) ≡ k = let e = length-take-le k cs (omega arith) in omega arith in
+    ap (position (λ d. nat_eq n d.name.ident)) (take_more cs k c lt ∙ ap (λ (x : FieldShape). take k cs ++ x ∷ []) (sym is)) ∙ position_end (λ d. nat_eq n d.name.ident) 0 (take k cs) c
+    ∙ ap (or_place (position (λ d. nat_eq n d.name.ident) (take k cs)) (nat_eq n c.name.ident)) count
+
+-- a field whose name was there, and one whose name is new
+pub known_field : (cs : List FieldShape) (k : ℕ) (c : FieldShape) (n : ℕ) → k < length cs → c ≡ get_or cs k c → is_some (position (λ d. nat_eq c.name.ident d.name.ident) (take k cs)) ≡ true →
+    position (λ d. nat_eq n d.name.ident) (take k cs) ≡ position (λ d. nat_eq n d.name.ident) (take (k + 1) cs)
+known_field cs k c n lt is there =
+    go (position (λ d. nat_eq n d.name.ident) (take k cs)) refl (nat_eq n c.name.ident) refl
+    ∙ sym (field_end cs k c n lt is)
+  where
+    go : (o : Option ℕ) → position (λ d. nat_eq n d.name.ident) (take k cs) ≡ o → (b : Bool) → nat_eq n c.name.ident ≡ b → o ≡ or_place o b k
+    go (Some j) e b t = refl
+    go None e false t = refl
+    go None e true t =
+        let same : n ≡ c.name.ident = eqb-true n c.name.ident t in
+        let no : false ≡ true = sym (ap is_some (ap (λ (m : ℕ). position (λ d. nat_eq m d.name.ident) (take k cs)) (sym same) ∙ e)) ∙ there in
+        absurd cc
+
+pub new_field : (cs : List FieldShape) (k : ℕ) (c : FieldShape) (n : ℕ) (old new : Option ℕ) (at : Bool) → k < length cs → c ≡ get_or cs k c → old ≡ position (λ d. nat_eq n d.name.ident) (take k cs) → is_some (position (λ d. nat_eq c.name.ident d.name.ident) (take k cs)) ≡ false →
+    at ≡ nat_eq n c.name.ident → new ≡ cond at (Some k) old → new ≡ position (λ d. nat_eq n d.name.ident) (take (k + 1) cs)
+new_field cs k c n old new at lt is o none t e =
+    e ∙ (λ j. cond (t j) (Some k) (o j)) ∙ go (nat_eq n c.name.ident) refl (position (λ d. nat_eq n d.name.ident) (take k cs)) refl ∙ sym (field_end cs k c n lt is)
+  where
+    go : (b : Bool) → nat_eq n c.name.ident ≡ b → (p : Option ℕ) → position (λ d. nat_eq n d.name.ident) (take k cs) ≡ p → cond b (Some k) p ≡ or_place p b k
+    go false t None e = refl
+    go false t (Some j) e = refl
+    go true t None e = refl
+    go true t (Some j) e =
+        let same : n ≡ c.name.ident = eqb-true n c.name.ident t in
+        let no : true ≡ false = sym (ap is_some (ap (λ (m : ℕ). position (λ d. nat_eq m d.name.ident) (take k cs)) (sym same) ∙ e)) ∙ none in
+        absurd cc
