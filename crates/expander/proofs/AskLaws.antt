@@ -162,6 +162,26 @@ module _ (names : Names) where
     known = subst (AreNotesKnown names) (sym notes) (known_end old.notes.items note h.known known);
   }
 
+  -- a note that asks one identifier, and one that asks two
+  pub push_one : (old new : Asked) (note : Note) (a number : ℕ) → AskedStands names old → idents_of note ≡ a ∷ [] → number ≡ length old.notes.items → new.notes.items ≡ old.notes.items ++ note ∷ [] →
+      ((n : ℕ) (x : Identifier) → IsIdent names n x → numbers_in new n ≡ numbers_in old n ++ asked_at number x a) →
+      ((n : ℕ) → length names.idents ≤ n → numbers_in new n ≡ numbers_in old n) → IsKnown names a → AskedStands names new
+  push_one old new note a number h is count notes numbers others known =
+      push_stands old new note h notes
+      (λ n x at. numbers n x at ∙ ap (λ (l : List ℕ). numbers_in old n ++ l)
+      (sym (append-nil (asked_at number x a)) ∙ sym (asked_more x number a []) ∙ ap (λ (k : ℕ). asked_by names x k (a ∷ [])) count ∙ ap (asked_by names x (length old.notes.items)) (sym is)))
+      others (subst (AreKnown names) (sym is) (known, tt))
+
+  pub push_two : (old between new : Asked) (note : Note) (a b number : ℕ) → AskedStands names old → idents_of note ≡ a ∷ b ∷ [] → number ≡ length old.notes.items → new.notes.items ≡ old.notes.items ++ note ∷ [] →
+      ((n : ℕ) (x : Identifier) → IsIdent names n x → numbers_in between n ≡ numbers_in old n ++ asked_at number x a) → ((n : ℕ) (x : Identifier) → IsIdent names n x → numbers_in new n ≡ numbers_in between n ++ asked_at number x b) →
+      ((n : ℕ) → length names.idents ≤ n → numbers_in new n ≡ numbers_in old n) → IsKnown names a → IsKnown names b → AskedStands names new
+  push_two old between new note a b number h is count notes first second others known also =
+      push_stands old new note h notes
+      (λ n x at. second n x at ∙ ap (λ (l : List ℕ). l ++ asked_at number x b) (first n x at) ∙ append_assoc (numbers_in old n) (asked_at number x a) (asked_at number x b)
+      ∙ ap (λ (l : List ℕ). numbers_in old n ++ l)
+      (ap (λ (l : List ℕ). asked_at number x a ++ l) (sym (append-nil (asked_at number x b)) ∙ sym (asked_more x number b [])) ∙ sym (asked_more x number a (b ∷ [])) ∙ ap (λ (k : ℕ). asked_by names x k (a ∷ b ∷ [])) count ∙ ap (asked_by names x (length old.notes.items)) (sym is)))
+      others (subst (AreKnown names) (sym is) (known, (also, tt)))
+
 -- ---- tables that grow
 
 module _ (old new : Names) (keeps : KeepsNames old new) (apart : AreToldApart new.idents) where

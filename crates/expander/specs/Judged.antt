@@ -150,6 +150,9 @@ abbrev pub some_chosen : Option (Trees Identifier) → Result (Trees Identifier)
 some_chosen None = Err BadForm
 some_chosen (Some ts) = some_of ts proper
 
+abbrev pub forms_chosen : Known → List (Tree Identifier × Trees Identifier) → Result (Trees Identifier) (Fault Identifier)
+forms_chosen known ps = chosen_among known ps >> some_chosen
+
 abbrev pub ChoosesForms : Work → Option Occ → Result (Vec number.Tree Global) ExpandFault → Result (Trees Identifier) (Fault Identifier) → Type 0
 ChoosesForms work here (Ok ns) r = (ts : Trees Identifier) × (r ≡ Ok ts) × AreTrees work ns ts
 ChoosesForms work here (Err e) r = IsBadForm here e r

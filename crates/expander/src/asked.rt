@@ -91,7 +91,7 @@ impl Asked {
     {
         symbols.told_apart();
         let mut at = ident;
-        loop {
+        'inside: loop {
             self.ask_one(at, number)?;
             match symbols.ident_at(at) {
                 Ident::Written { unit: _, symbol: _ } => return Ok(()),

@@ -1,5 +1,5 @@
 //! What a quasiquotation asks of its surroundings (R7RS 4.2.8): which identifiers of it are marks, and what it counts.
-ghost use Rattle.std.specs.Prelude.{◌≡◌, ◌≢◌, ℕ, ◌+◌, ◌<◌, List, [], length, Some, Ok, IfOk, OnOk};
+ghost use Rattle.std.specs.Prelude.{◌≡◌, ◌≢◌, ℕ, ◌+◌, ◌<◌, List, [], length, Option, Some, Ok, IfOk, OnOk};
 ghost use Rattle.scheme_model.specs.Trees.{Tree as ModelTree, Trees};
 ghost use Rattle.scheme_model.specs.Building.{stands_in, stands_among};
 ghost use Rattle.scheme_model.specs.Meaning.{Head as ModelHead, IsCore, IsAuxiliary};

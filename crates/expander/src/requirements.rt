@@ -1,7 +1,6 @@
 //! The clauses of `cond-expand` (R7RS 4.2.1): which requirement holds, and which clause is chosen.
-ghost use Rattle.std.specs.Prelude.{◌≡◌, ◌&&◌, ◌||◌, ℕ, ◌+◌, ◌^◌, ◌<◌, List, length, IfOk, IfSome};
+ghost use Rattle.std.specs.Prelude.{◌≡◌, ◌&&◌, ◌||◌, ℕ, ◌<◌, List, length, Option, IfOk, IfSome};
 ghost use Rattle.scheme_model.specs.Trees.{Tree as ModelTree, Trees, Tail, list as list_tree};
-ghost use Rattle.scheme_model.specs.ExpansionFaults.{◌>>◌};
 ghost use Rattle.scheme_model.specs.Requirements.{Known, holds, all_hold, some_holds, none_holds, is_else};
 ghost use Rattle.scheme_model.specs.Ident.{Ident as Identifier, symbol_of};
 ghost use Rattle.scheme_model.specs.declared.Occ.{Occ};
@@ -9,7 +8,7 @@ ghost use Rattle.syntax_tree.specs.Looks.{PartsStand, EndStands, AreStanding, St
 ghost use Rattle.syntax_tree.specs.Macros.{IsIdent};
 ghost use Rattle.syntax_tree.specs.Works.{StandsFor, IsStanding};
 ghost use Rattle.core_forms.specs.Parts.{AllMatch, IsChoice};
-ghost use Rattle.expander.specs.Judged.{Knows, Reads, AreChoosable, library_holds, connective_named, word_holds, clause_judged, chosen_among, forms_of, or_first, Chooses, some_chosen, ChoosesForms};
+ghost use Rattle.expander.specs.Judged.{Knows, Reads, AreChoosable, library_holds, connective_named, word_holds, clause_judged, chosen_among, forms_of, or_first, Chooses, forms_chosen, ChoosesForms};
 
 use crate::counting::{code, fails};
 use crate::fault::ExpandFault;
@@ -310,7 +309,7 @@ pub fn choose(
     here: Option<Occ>,
     choices: &[Choice],
 ) -> Result<Option<Vec<Tree>>, ExpandFault>
-    requires { AreChoosable judge.entry.work.now choices.now }
+    requires { AreChoosable judge.work.now choices.now }
     ensures { (known : Known) (ps : List (ModelTree Identifier × Trees Identifier)) → Knows judge.entry.libraries.now known →
         AllMatch (IsChoice judge.entry.work.now) choices.now ps → Chooses judge.entry.work.now here result (chosen_among known ps) }
 {
@@ -328,10 +327,10 @@ pub fn chosen_forms(
     here: Option<Occ>,
     choices: &[Choice],
 ) -> Result<Vec<Tree>, ExpandFault>
-    requires { AreChoosable judge.entry.work.now choices.now }
+    requires { AreChoosable judge.work.now choices.now }
     ensures { (known : Known) (ps : List (ModelTree Identifier × Trees Identifier)) → Knows judge.entry.libraries.now known →
         AllMatch (IsChoice judge.entry.work.now) choices.now ps →
-        ChoosesForms judge.entry.work.now here result (chosen_among known ps >> some_chosen) }
+        ChoosesForms judge.entry.work.now here result (forms_chosen known ps) }
 {
     match choose(judge, here, choices)? {
         Some(forms) => {

@@ -3,7 +3,7 @@ use Rattle.scheme_model.specs.Ident.{Ident as Identifier, same_ident}
 use Rattle.core_forms.specs.declared.shape.QuasiMark.{QuasiMark}
 use Rattle.expander.specs.Marked.{AddsMarks, mark_here}
 use Rattle.expander.proofs.QuasiMarks.{adds_one, adds_no_mark}
-use Rattle.expander.proofs.quasi.UnitScope.add_mark.Goals as goal
+use Rattle.expander.proofs.scope.UnitScope.add_mark.Goals as goal
 
 pub returns-in_ok-push : goal.returns-in_ok-push
 returns-in_ok-push c = λ ls s fs j stands at is.

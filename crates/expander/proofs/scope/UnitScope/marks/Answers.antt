@@ -4,7 +4,7 @@ use Rattle.scheme_model.specs.Ident.{same_ident}
 use Rattle.core_forms.specs.declared.shape.QuasiMark.{QuasiMark}
 use Rattle.expander.specs.Marked.{AddsMarks, mark_here}
 use Rattle.expander.proofs.QuasiMarks.{are_marks}
-use Rattle.expander.proofs.quasi.UnitScope.marks.Goals as goal
+use Rattle.expander.proofs.scope.UnitScope.marks.Goals as goal
 
 pub add_marks-requires-clause-within : goal.add_marks-requires-clause-within
 add_marks-requires-clause-within c = ?

@@ -8,7 +8,7 @@ use Rattle.rules_build.proofs.NameLaws.{or_none}
 use Rattle.rules_build.proofs.Tails.{end_proper, end_dotted, tail_within}
 use Rattle.expander.specs.Marked.{mark_here}
 use Rattle.expander.proofs.QuasiMarks.{adds_none, adds_both, adds_as, up_none, up_more, up_all}
-use Rattle.expander.proofs.quasi.UnitScope.+marks.Goals as goal
+use Rattle.expander.proofs.scope.UnitScope.+marks.Goals as goal
 
 pub add_marks-add_marks-requires : goal.add_marks-add_marks-requires
 add_marks-add_marks-requires t c =

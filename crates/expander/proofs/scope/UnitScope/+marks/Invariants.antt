@@ -9,7 +9,7 @@ use Rattle.expander.specs.Marked.{mark_here}
 use Rattle.expander.specs.State.{Stands}
 use Rattle.expander.specs.Outcomes.{At}
 use Rattle.expander.proofs.QuasiMarks.{AddsUpTo}
-use Rattle.expander.proofs.quasi.UnitScope.+marks.Given as goal
+use Rattle.expander.proofs.scope.UnitScope.+marks.Given as goal
 
 abbrev pub decreases-add_marks : goal.decreases-add_marks
 decreases-add_marks l = 2 * l.left
