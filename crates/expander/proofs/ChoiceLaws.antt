@@ -1,4 +1,5 @@
 -- The clauses of a `cond-expand`: the first that holds, one clause more, and that all clauses can be read before any is judged.
+use Rattle.std.proofs.lemmas.Bool.Decides.{nat_tests}
 use Rattle.std.proofs.Common.{◌≡◌, ℕ, zero, suc, ◌+◌, ◌<◌, ◌≤◌, List, [], ◌∷◌, length, get_or, drop, Bool, true, false, cond, eqb, Option, Some, None, Result, Ok, Err, refl, sym, ap, ◌∙◌, subst, arith, add-one}
 use Rattle.std.specs.Prelude.{◌&&◌, ◌||◌, not, slice_get, codes, if◌then◌else◌}
 use Rattle.std.specs.Option.{option_map}
@@ -57,10 +58,11 @@ last_is work k (c ∷ cs) [] h l = absurd h
 last_is work zero (c ∷ []) (p ∷ []) h l = refl
 last_is work zero (c ∷ []) (p ∷ q ∷ ps) h l = absurd h.1
 last_is work zero (c ∷ d ∷ cs) (p ∷ []) h l = absurd h.1
-last_is work zero (c ∷ d ∷ cs) (p ∷ q ∷ ps) h l = refl
+last_is work zero (c ∷ d ∷ cs) (p ∷ q ∷ ps) h l = let e : eqb 1 (suc (suc (length cs))) ≡ false = grind (arith, nat_tests) in e
 last_is work (suc k) (c ∷ cs) (p ∷ ps) h l =
     let more : suc (k + 1) ≡ suc k + 1 = omega arith in
-    ap (λ (m : ℕ). eqb m (suc (length cs))) (sym more) ∙ last_is work k cs ps h.1 (omega arith) ∙ ap (λ (m : ℕ). is_nil (drop m (p ∷ ps))) more
+    let step : eqb (suc k + 1) (suc (length cs)) ≡ eqb (k + 1) (length cs) = grind (arith, nat_tests) in
+    step ∙ last_is work k cs ps h.1 (omega arith) ∙ ap (λ (m : ℕ). is_nil (drop m (p ∷ ps))) more
 
 -- what comes of the clauses that are left, where this one was chosen before
 abbrev pub after_choice : List (Tree Identifier × Trees Identifier) → Option ℕ → Result (Option (Trees Identifier)) (Fault Identifier) → Result (Option (Trees Identifier)) (Fault Identifier)
@@ -231,6 +233,10 @@ module _ (k : Known) where
   clause_bad t no_trees = if_bad (is_else symbol_of t) (Ok true) (holds symbol_of k t) tt (holds_bad k t)
   clause_bad t (tree u us) = if_bad (is_else symbol_of t) (Err BadForm) (holds symbol_of k t) refl (holds_bad k t)
 
+  both_bad : (y : Tree Identifier × Trees Identifier) (f : Fault Identifier) (r : Result Bool (Fault Identifier)) → OnlyBad r → f ≡ BadForm → (r >> λ b. (Err f >> chosen_among k) >> λ later. Ok (or_chosen b y.1 later)) ≡ Err f
+  both_bad y f (Ok b) g is = refl
+  both_bad y f (Err e) g is = ap Err (g ∙ sym is)
+
   judged_then : (y : Tree Identifier × Trees Identifier) (ts : Trees Identifier) (r : Result (List (Tree Identifier × Trees Identifier)) (Fault Identifier)) → choices_in ts ≡ r → choices symbol_of k ts ≡ (r >> chosen_among k) →
       (clause_holds symbol_of k y.0 ts >> λ b. choices symbol_of k ts >> λ later. Ok (or_chosen b y.1 later)) ≡ ((r >> λ ys. Ok (y ∷ ys)) >> chosen_among k)
   judged_then y ts (Ok ps) e h =
@@ -238,24 +244,17 @@ module _ (k : Known) where
       ∙ ap (λ (x : Result (Option (Trees Identifier)) (Fault Identifier)). clause_judged k y.0 (is_nil ps) >> λ b. x >> λ later. Ok (or_chosen b y.1 later)) h
   judged_then y ts (Err f) e h =
       ap (λ (x : Result (Option (Trees Identifier)) (Fault Identifier)). clause_holds symbol_of k y.0 ts >> λ b. x >> λ later. Ok (or_chosen b y.1 later)) h
-      ∙ go (clause_holds symbol_of k y.0 ts) (clause_bad y.0 ts)
-    where
-      is_bad : f ≡ BadForm
-      is_bad = subst OnlyBad e (choices_bad ts)
-
-      go : (r : Result Bool (Fault Identifier)) → OnlyBad r → (r >> λ b. Err {A = Option (Trees Identifier)} f >> λ later. Ok (or_chosen b y.1 later)) ≡ Err f
-      go (Ok b) g = refl
-      go (Err e2) g = ap Err (g ∙ sym is_bad)
+      ∙ both_bad y f (clause_holds symbol_of k y.0 ts) (clause_bad y.0 ts) (subst OnlyBad e (choices_bad ts))
 
   pub choices_among : (ts : Trees Identifier) → choices symbol_of k ts ≡ (choices_in ts >> chosen_among k)
   choices_among no_trees = refl
   choices_among (tree t ts) =
       sym (grouped (list_of t) (λ p. some_of p.0 p.1 >> first_of) (λ q. clause_holds symbol_of k q.0 ts >> λ b. choices symbol_of k ts >> λ later. Ok (or_chosen b q.1 later)))
-      ∙ go (choice_of t)
+      ∙ go (λ y. judged_then y ts (choices_in ts) refl (choices_among ts)) (choice_of t)
     where
-      go : (c : Result (Tree Identifier × Trees Identifier) (Fault Identifier)) → (c >> λ q. clause_holds symbol_of k q.0 ts >> λ b. choices symbol_of k ts >> λ later. Ok (or_chosen b q.1 later)) ≡ ((c >> λ y. choices_in ts >> λ ys. Ok (y ∷ ys)) >> chosen_among k)
-      go (Ok y) = judged_then y ts (choices_in ts) refl (choices_among ts)
-      go (Err e) = refl
+      go : ((y : Tree Identifier × Trees Identifier) → (clause_holds symbol_of k y.0 ts >> λ b. choices symbol_of k ts >> λ later. Ok (or_chosen b y.1 later)) ≡ ((choices_in ts >> λ ys. Ok (y ∷ ys)) >> chosen_among k)) → (c : Result (Tree Identifier × Trees Identifier) (Fault Identifier)) → (c >> λ q. clause_holds symbol_of k q.0 ts >> λ b. choices symbol_of k ts >> λ later. Ok (or_chosen b q.1 later)) ≡ ((c >> λ y. choices_in ts >> λ ys. Ok (y ∷ ys)) >> chosen_among k)
+      go f (Ok y) = f y
+      go f (Err e) = refl
 
   -- the clauses of a whole form
   pub chosen_is : (ts : Trees Identifier) (tail : Tail Identifier) → chosen_of symbol_of k ts tail ≡ (some_of ts tail >> choices_in >> chosen_among k)

@@ -74,34 +74,37 @@ pub ok_of : {X Y : Type 0} (f : X → Y) (r : Result X (Fault Identifier)) (b : 
 ok_of f (Ok a) b h = (a, refl, cc)
 ok_of f (Err e) b h = absurd cc
 
+bad_part : {X Y : Type 0} (f : X → Y) (r : Result X (Fault Identifier)) → map_ok f r ≡ Err BadForm → r ≡ Err BadForm
+bad_part f (Ok a) h = absurd cc
+bad_part f (Err e) h = ap Err cc
+
 pub fails_part : {X Y : Type 0} (e : ShapeFault) (f : X → Y) (r : Result X (Fault Identifier)) → Fails e (map_ok f r) → Fails e r
-fails_part fault.BadForm f r h = bad r h
-  where
-    bad : (r : Result X (Fault Identifier)) → map_ok f r ≡ Err BadForm → r ≡ Err BadForm
-    bad (Ok a) h = absurd cc
-    bad (Err e) h = ap Err cc
+fails_part fault.BadForm f r h = bad_part f r h
 fails_part fault.Memory f r h = tt
 
 -- ---- the text of a name
 
 -- a name is written in one way
-spelled_one : (name a b : List ℕ) → IsSpelling name false a → IsSpelling name false b → a ≡ b
-spelled_one name a b (inl h) (inl k) = h.0 ∙ sym k.0
-spelled_one name a b (inl h) (inr k) = absurd (k.1 h.1)
-spelled_one name a b (inr h) (inl k) = absurd (h.1 k.1)
-spelled_one name a b (inr h) (inr k) = h.0 ∙ sym k.0
+spelled_one : (s a b : List ℕ) → IsSpelling s false a → IsSpelling s false b → a ≡ b
+spelled_one s a b (inl h) (inl k) = h.0 ∙ sym k.0
+spelled_one s a b (inl h) (inr k) = absurd (k.1 h.1)
+spelled_one s a b (inr h) (inl k) = absurd (h.1 k.1)
+spelled_one s a b (inr h) (inr k) = h.0 ∙ sym k.0
 
 pub symbol_written : (symbol text bytes : List ℕ) → bytes ≡ text → IsUtf8 bytes → IsSpelling (chars symbol) false (chars text) → bytes ≡ part_text (Symbol symbol)
 symbol_written symbol text bytes same utf8 h =
     sym (encodes-chars bytes utf8) ∙ ap (λ (s : List ℕ). encode_utf8_all (chars s)) same ∙ ap encode_utf8_all (spelled_one (chars symbol) (chars text) (spelled (chars symbol) false) h (spelling (chars symbol) false))
 
+abbrev pub text_atom : Option Occ → (List ℕ → Atom) → List ℕ → Tree Identifier
+text_atom o f s = atom (f s) o
+
 -- the leaf of a numeral
 pub numeral_leaf : (names : Names) (n : ℕ) (o : Option Occ) (a : Atom) → leaf_tree names (code.Numeral n) o ≡ Some (atom a o) → (s : List ℕ) × (a ≡ Numeral s) × (slice_get names.symbols n ≡ Some s)
 numeral_leaf names n o a h = step (slice_get names.symbols n) h
   where
-    step : (x : Option (List ℕ)) → option_map (λ (s : List ℕ). atom {A = Identifier} (Numeral s) o) x ≡ Some (atom a o) → (s : List ℕ) × (a ≡ Numeral s) × (x ≡ Some s)
+    step : (x : Option (List ℕ)) → option_map (text_atom o Numeral) x ≡ Some (atom a o) → (s : List ℕ) × (a ≡ Numeral s) × (x ≡ Some s)
     step None g = absurd cc
-    step (Some s) g = let same = same_Some (atom (Numeral s) o) (atom a o) g in (s, cc, refl)
+    step (Some s) g = let same = same_Some (text_atom o Numeral s) (atom a o) g in (s, cc, refl)
 
 -- other leaves are no part of a name
 abbrev pub IsOther : Leaf → Type 0
@@ -112,9 +115,9 @@ IsOther (code.Char n) = Unit {0}
 IsOther (code.Bool n) = Unit {0}
 IsOther (code.Bytes n) = Unit {0}
 
-kept_text : (x : Option (List ℕ)) (f : List ℕ → Atom) → ((s : List ℕ) → part_in {A = Identifier} (f s) ≡ Err BadForm) → (o : Option Occ) (a : Atom) → option_map (λ (s : List ℕ). atom {A = Identifier} (f s) o) x ≡ Some (atom a o) → part_in {A = Identifier} a ≡ Err BadForm
+kept_text : (x : Option (List ℕ)) (f : List ℕ → Atom) → ((s : List ℕ) → part_in {A = Identifier} (f s) ≡ Err BadForm) → (o : Option Occ) (a : Atom) → option_map (text_atom o f) x ≡ Some (atom a o) → part_in {A = Identifier} a ≡ Err BadForm
 kept_text None f bad o a h = absurd cc
-kept_text (Some s) f bad o a h = let same = same_Some (atom (f s) o) (atom a o) h in let e : f s ≡ a = cc in ap (part_in {A = Identifier}) (sym e) ∙ bad s
+kept_text (Some s) f bad o a h = let same = same_Some (text_atom o f s) (atom a o) h in let e : f s ≡ a = cc in ap (part_in {A = Identifier}) (sym e) ∙ bad s
 
 no_identifier : (x : Option Identifier) (o : Option Occ) (a : Atom) {P : Type 0} → option_map (λ (j : Identifier). name j o) x ≡ Some (atom a o) → P
 no_identifier None o a h = absurd cc
@@ -202,6 +205,9 @@ only_part work (n ∷ []) d no_trees e h = absurd h
 only_part work (n ∷ []) d (tree t no_trees) e h = (t, refl, h.0)
 only_part work (n ∷ []) d (tree t (tree u us)) e h = absurd h.1
 only_part work (n ∷ m ∷ ns) d ts e h = absurd (omega arith)
+
+pub only_standing : (work : Work) (ns : List number.Tree) (d : number.Tree) (ts : Trees Identifier) → length ns ≡ 1 → PartsStand work ns ts → (t : Tree Identifier) × StandsFor work (get_or ns 0 d) t
+only_standing work ns d ts e h = let p = only_part work ns d ts e h in (p.0, p.2)
 
 pub library_not_one : (k : Known) (work : Work) (ns : List number.Tree) (ts : Trees Identifier) → length ns ≢ 1 → PartsStand work ns ts → library_holds k ts ≡ Err BadForm
 library_not_one k work ns no_trees e h = refl
@@ -325,3 +331,7 @@ known_more known i t key s old new lt is k o n =
 -- what has the names of libraries knows the libraries of these texts
 pub knows_listed : (libraries : BTreeSet (String Global)) (texts : List (List ℕ)) → ((s : List ℕ) → contains_text libraries s ≡ has_name texts s) → Knows libraries (λ n. has_name texts (library_text n))
 knows_listed libraries texts h n = sym (h (library_text n))
+
+pub dotted_name : (ts : Trees Identifier) (u : Tree Identifier) → name_in_list ts (dotted u) ≡ Err BadForm
+dotted_name no_trees u = refl
+dotted_name (tree t ts) u = refl

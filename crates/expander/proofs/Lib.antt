@@ -19,5 +19,6 @@ pub mod QuasiMarks
 pub mod QuasiReads
 pub mod AskLaws
 pub mod ToldLaws
+pub mod LeafLaws
 pub mod SeenLaws
 pub mod ChoiceLaws

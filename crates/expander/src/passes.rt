@@ -88,9 +88,9 @@ pub fn head_name(work: &Work, tree: Tree) -> Option<NamePart>
     ensures { (t : ModelTree Identifier) → StandsFor work.now tree t → IsNameIfAny work.now result (head_name_of t) }
 {
     match look_at(work, tree) {
-        Look::List(items, _) => match items.split_first() {
+        Look::List(items, _) => match items.first() {
             None => None,
-            Some((first, _)) => name_at(work, *first),
+            Some(first) => name_at(work, *first),
         },
         Look::Name(_) => None,
         Look::Atom(_) => None,

@@ -32,9 +32,9 @@ fn rules_head(work: &Work, rules: Tree) -> Option<IdNo>
     ensures { (t : ModelTree Identifier) → StandsFor work.now rules t → IsRulesHead work.now.symbols result (rules_parts_of t) }
 {
     match look_at(work, rules) {
-        Look::List(items, _) => match items.split_first() {
+        Look::List(items, _) => match items.first() {
             None => None,
-            Some((first, _)) => match look_at(work, *first) {
+            Some(first) => match look_at(work, *first) {
                 Look::Name(ident) => Some(ident),
                 Look::Atom(_) => None,
                 Look::List(_, _) => None,

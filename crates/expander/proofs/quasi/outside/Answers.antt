@@ -7,24 +7,24 @@ use Rattle.expander.specs.Marked.{IsQuasi}
 use Rattle.expander.proofs.QuasiReads.{sizes, outside_fits, hole_there, holes_past, sizes_there}
 use Rattle.expander.proofs.quasi.outside.Goals as goal
 
-pub size-requires : goal.size-requires
-size-requires c = (c.requires.tree, c.requires.stands)
+pub size-count-requires : goal.size-count-requires
+size-count-requires c = (c.requires.tree, c.requires.stands)
 
 pub overflow_add-count : goal.overflow_add-count
 overflow_add-count c =
     let q = c.requires in
-    let e = c.size.ensures q.tree q.stands in
+    let e = c.size-count.ensures q.tree q.stands in
     let s = q.small in
     omega arith
 
 pub loop-part-init : goal.loop-part-init
 loop-part-init c = λ q.
-    let e = c.size.ensures q.tree q.stands in
+    let e = c.size-count.ensures q.tree q.stands in
     let f = outside_fits q.mark q.tree q.pieces q.read in
     omega arith
 
-pub size-requires-2 : goal.size-requires-2
-size-requires-2 c =
+pub size-count-requires-in-loop-part : goal.size-count-requires-in-loop-part
+size-count-requires-in-loop-part c =
     let h = hole_there c.args.work.now c.loop-part.part-index c.args.parts.now c.requires.pieces.holes (record { number = 0 }) c.requires.holes c.loop-part-test.true in
     (h.tree, h.stands)
 
@@ -32,7 +32,7 @@ pub overflow_sub-count : goal.overflow_sub-count
 overflow_sub-count c =
     let q = c.requires in
     let h = hole_there c.args.work.now c.loop-part.part-index c.args.parts.now q.pieces.holes (record { number = 0 }) q.holes c.loop-part-test.true in
-    let e = c.size-2.ensures h.tree h.stands in
+    let e = c.size-count-in-loop-part.ensures h.tree h.stands in
     let i = c.loop-part.invariant q in
     let s = sizes_there c.args.work.now c.loop-part.part-index q.pieces.holes _ h in
     omega arith
@@ -40,7 +40,7 @@ overflow_sub-count c =
 pub loop-part-preserved : goal.loop-part-preserved
 loop-part-preserved c = λ q.
     let h = hole_there c.args.work.now c.loop-part.part-index c.args.parts.now q.pieces.holes (record { number = 0 }) q.holes c.loop-part-test.true in
-    let e = c.size-2.ensures h.tree h.stands in
+    let e = c.size-count-in-loop-part.ensures h.tree h.stands in
     let i = c.loop-part.invariant q in
     let s = sizes_there c.args.work.now c.loop-part.part-index q.pieces.holes _ h in
     omega arith

@@ -6,7 +6,7 @@ use Rattle.scheme_model.specs.Matching.{behind}
 use Rattle.scheme_model.specs.ExpansionFaults.{◌>>◌}
 use Rattle.scheme_model.specs.Requirements.{holds, all_hold, some_holds, none_holds}
 use Rattle.scheme_model.specs.Ident.{Ident as Identifier, symbol_of}
-use Rattle.syntax_tree.proofs.Looking.{within_positive, list_parts_within, part_there, part_within, split_one, behind_past, no_end, some_end}
+use Rattle.syntax_tree.proofs.Looking.{within_positive, list_parts_within, part_there, part_within, split_one, behind_past, no_end, some_end as end_there}
 use Rattle.core_forms.proofs.Lists.{row_empty, row_parts, nothing_in}
 use Rattle.expander.specs.Judged.{map_ok, word_holds, by_connective, library_holds}
 use Rattle.expander.proofs.JudgeLaws.{reads_same, reads_err, fails_same, fails_then, dotted_holds, named_holds, all_more, all_fails, all_end, some_more, some_fails, some_end, only_part, none_not_one}

@@ -8,7 +8,7 @@ use Rattle.expander.proofs.scope.UnitScope.add_mark.Goals as goal
 pub returns-in_ok-push : goal.returns-in_ok-push
 returns-in_ok-push c = λ ls s fs j stands at is.
     let w = c.args.work.now in
-    subst (λ (ms : List QuasiMark). AddsMarks w.symbols c.args.marks.now ms (mark_here s fs) (λ i. same_ident i j)) (sym c.in_ok-push.ensures)
+    subst (λ (ms : List QuasiMark). AddsMarks w.symbols c.args.marks.now ms (mark_here s fs) (λ i. same_ident i j)) (sym c.in_ok-push.ensures.ok)
     (adds_one w.symbols (mark_here s fs) c.told_apart.ensures.idents c.args.ident j is c.args.marks.now c.in-Some.keyword (c.in-Some.ensures ls s fs j stands at is))
 
 pub returns-in_default : goal.returns-in_default
