@@ -1,7 +1,7 @@
 -- The clauses of a `cond-expand`: the first that holds, one clause more, and that all clauses can be read before any is judged.
 use Rattle.std.proofs.lemmas.Bool.Decides.{nat_tests}
 use Rattle.std.proofs.Common.{◌≡◌, ℕ, zero, suc, ◌+◌, ◌<◌, ◌≤◌, List, [], ◌∷◌, length, get_or, drop, Bool, true, false, cond, eqb, Option, Some, None, Result, Ok, Err, refl, sym, ap, ◌∙◌, subst, arith, add-one}
-use Rattle.std.specs.Prelude.{◌&&◌, ◌||◌, not, slice_get, codes, if◌then◌else◌}
+use Rattle.std.specs.Prelude.{◌&&◌, ◌||◌, not, slice_get, codes, IfSome, if◌then◌else◌}
 use Rattle.std.specs.Option.{option_map}
 use Rattle.std.specs.List.{list_all}
 use Rattle.std.specs.Char.{is_ascii_digit}
@@ -12,6 +12,9 @@ use Rattle.scheme_model.specs.ExpansionFaults.{Fault, BadForm, ◌>>◌}
 use Rattle.scheme_model.specs.Shapes.{first_of, one_of, some_of, list_of}
 use Rattle.scheme_model.specs.Requirements.{LibraryName, Known, part_in, part_of, parts_of, library_name_of, holds, all_hold, some_holds, none_holds, is_else, clause_holds, or_chosen, choices, chosen_of}
 use Rattle.scheme_model.specs.Ident.{Ident as Identifier, symbol_of}
+use Rattle.scheme_model.specs.Order.{Here, Ops, given}
+use Rattle.scheme_model.specs.Expression.{Expander, sequence, chosen_sequence}
+use Rattle.scheme_model.specs.Steps.{◌>>=◌}
 use Rattle.syntax_tree.specs.Works.{StandsFor}
 use Rattle.syntax_tree.specs.Looks.{PartsStand}
 use Rattle.syntax_tree.specs.declared.trees.Work.{Work}
@@ -22,7 +25,7 @@ use Rattle.core_forms.proofs.Reading.{grouped}
 use Rattle.core_forms.specs.declared.shape.Choice.{Choice}
 use Rattle.expander.specs.declared.requirements.ShapeFault.{ShapeFault}
 use Rattle.expander.specs.declared.requirements.ShapeFault.TheVariants as fault
-use Rattle.expander.specs.Judged.{Fails, clause_judged, is_nil, chosen_among, forms_of, or_first}
+use Rattle.expander.specs.Judged.{Fails, clause_judged, is_nil, chosen_among, forms_of, or_first, some_chosen}
 
 -- ---- clauses one after another
 
@@ -263,3 +266,25 @@ module _ (k : Known) where
       go : (r : Result (Trees Identifier) (Fault Identifier)) → (r >> choices symbol_of k) ≡ ((r >> choices_in) >> chosen_among k)
       go (Ok us) = choices_among us
       go (Err e) = refl
+
+-- ---- the chosen forms among expressions
+
+pub chosen_sequence_is : {E L S : Type 0} (f : Expander E Identifier S) (ops : Ops E Identifier L S) (depth : ℕ) (here : Here) (e : E) (c : Option (Trees Identifier)) (s : S) →
+    chosen_sequence f ops depth here e c s ≡ (given ops.plain here (some_chosen c) s >>= sequence f ops depth here e)
+chosen_sequence_is f ops depth here e None s = refl
+chosen_sequence_is f ops depth here e (Some no_trees) s = refl
+chosen_sequence_is f ops depth here e (Some (tree t ts)) s = refl
+
+-- ---- places of clauses
+
+pub first_within : (o : Option ℕ) (here : Bool) (k n : ℕ) → IfSome o (λ j. j < n) → k < n → IfSome (or_first o here k) (λ j. j < n)
+first_within None true k n h l = l
+first_within None false k n h l = tt
+first_within (Some j) here k n h l = h
+
+-- trees of which there is one at least
+pub some_there : (work : Work) (ns : List number.Tree) (ts : Trees Identifier) → PartsStand work ns ts → 0 < length ns → some_of ts proper ≡ Ok ts
+some_there work [] no_trees h l = absurd (omega arith)
+some_there work [] (tree t ts) h l = absurd h
+some_there work (n ∷ ns) no_trees h l = absurd h
+some_there work (n ∷ ns) (tree t ts) h l = refl

@@ -1,9 +1,10 @@
 -- What takes effect while forms are gone through, what a record defines, and where its fields stand.
 use Rattle.std.proofs.Common.{◌≡◌, ℕ, zero, suc, ◌+◌, ◌<◌, ◌≤◌, List, [], ◌∷◌, ◌++◌, length, map, get_or, drop, take, Bool, true, false, cond, Option, Some, None, refl, sym, ap, ◌∙◌, subst, arith, add-one, append_assoc, append-nil}
 use Rattle.std.specs.Prelude.{is_some, filter_map, nat_eq, position, unwrap_or, if◌then◌else◌}
-use Rattle.std.specs.List.{position_from}
+use Rattle.std.specs.List.{position_from, cons_option}
 use Rattle.std.proofs.lemmas.Bool.Decides.{nat_tests}
 use Rattle.std.proofs.lemmas.Bool.{eqb-true}
+use Rattle.std.proofs.lemmas.Iterator.Adapters.{position_from-zero}
 use Rattle.std.proofs.lemmas.List.{take_more, length-take-le}
 use Rattle.scheme_model.specs.Trees.{Tree, Trees, Tail}
 use Rattle.scheme_model.specs.Keywords.{CoreKeyword, IsQuote, IsQuasiquote, IsLambda, IsCaseLambda, IsIf, IsSet, IsBegin, IsDefine, IsDefineValues, IsDefineRecordType, IsDefineSyntax, IsLetSyntax, IsLetrecSyntax, IsCondExpand, IsSyntaxError, IsInclude}
@@ -20,7 +21,9 @@ use Rattle.core_forms.specs.Parts.{AllMatch, IsName, IsNameIfAny, IsField, AreNa
 use Rattle.core_forms.specs.declared.shape.NamePart.{NamePart}
 use Rattle.core_forms.specs.declared.shape.FieldShape.{FieldShape}
 use Rattle.core_forms.proofs.Reading.{matches_more, matches_both}
-use Rattle.expander.specs.Seen.{takes_effect}
+use Rattle.core_tree.specs.Names.{IsField as IsUse}
+use Rattle.core_tree.specs.declared.cores.FieldUse as code_use
+use Rattle.expander.specs.Seen.{takes_effect, used_fields}
 
 -- what takes no effect is set aside
 pub set_aside : {E A L S : Type 0} (ops : Ops E A L S) (go : Going A L S) (here : Here) (e : E) (c : CoreKeyword) (k : Target) (form : Form A) (ts : Trees A) (tail : Tail A) (p : Pending A L) (s : S) → takes_effect c ≡ false →
@@ -93,7 +96,7 @@ module _ (work : Work) where
       AllMatch (IsName work) (n ∷ c ∷ p ∷ map (λ f. f.accessor) fs ++ filter_map (λ f. f.modifier) fs) (record_names r)
   names_match n c p fs r type constructor predicate fields =
       matches_both (IsName work) (n ∷ c ∷ p ∷ map (λ f. f.accessor) fs) (filter_map (λ f. f.modifier) fs) (r.type ∷ r.constructor ∷ r.predicate ∷ map (λ f. f.accessor) r.fields) (modifiers r.fields)
-      (type, constructor, predicate, accessors_match fs r.fields fields) (modifiers_match fs r.fields fields)
+      (type, (constructor, (predicate, accessors_match fs r.fields fields))) (modifiers_match fs r.fields fields)
 
 -- a field more of which it is known whether it has a modifier
 pub same_some : (work : Work) (o : Option NamePart) (q : Option (Named Identifier)) → IsNameIfAny work o q → is_some o ≡ model_is_some q
@@ -129,15 +132,14 @@ place_from work apart n i is j [] [] h = refl
 place_from work apart n i is j [] (f ∷ fs) h = absurd h
 place_from work apart n i is j (c ∷ cs) [] h = absurd h
 place_from work apart n i is j (c ∷ cs) (f ∷ fs) h =
-    ap (λ (b : Bool). unwrap_or (cond b (Some j) (position_from (λ c. nat_eq n c.name.ident) (j + 1) cs)) (j + suc (length cs))) (sym (same_by_number work.symbols apart c.name.ident n f.field.name i h.0.field.0 is)) ∙ go (same_ident f.field.name i)
+    ap (λ (b : Bool). unwrap_or (cond b (Some j) (position_from (λ c. nat_eq n c.name.ident) (j + 1) cs)) (j + suc (length cs))) (sym (same_by_number work.symbols apart c.name.ident n f.field.name i h.0.field.0 is)) ∙ go (place_from work apart n i is (j + 1) cs fs h.1) (same_ident f.field.name i)
   where
-    go : (b : Bool) → unwrap_or (cond b (Some j) (position_from (λ c. nat_eq n c.name.ident) (j + 1) cs)) (j + suc (length cs)) ≡ j + (if b then 0 else suc (field_position same_ident i fs))
-    go true = omega arith
-    go false =
-        let h = place_from work apart n i is (j + 1) cs fs h.1 in
+    go : unwrap_or (position_from (λ c. nat_eq n c.name.ident) (j + 1) cs) (j + 1 + length cs) ≡ j + 1 + field_position same_ident i fs → (b : Bool) → unwrap_or (cond b (Some j) (position_from (λ c. nat_eq n c.name.ident) (j + 1) cs)) (j + suc (length cs)) ≡ j + (if b then 0 else suc (field_position same_ident i fs))
+    go g true = omega arith
+    go g false =
         let a : j + suc (length cs) ≡ j + 1 + length cs = omega arith in
         let b : j + 1 + field_position same_ident i fs ≡ j + suc (field_position same_ident i fs) = omega arith in
-        ap (unwrap_or (position_from (λ c. nat_eq n c.name.ident) (j + 1) cs)) a ∙ h ∙ b
+        ap (unwrap_or (position_from (λ c. nat_eq n c.name.ident) (j + 1) cs)) a ∙ g ∙ b
 
 -- a name's place among the fields is that of the definition
 pub place_is : (work : Work) → AreToldApart work.symbols.idents → (n : ℕ) (i : Identifier) → IsIdent work.symbols n i → (cs : List FieldShape) (fs : List (ModelField Identifier)) → AllMatch (IsField work) cs fs →
@@ -145,7 +147,7 @@ pub place_is : (work : Work) → AreToldApart work.symbols.idents → (n : ℕ) 
 place_is work apart n i is cs fs h =
     let a : length cs ≡ 0 + length cs = omega arith in
     let b : 0 + field_position same_ident i fs ≡ field_position same_ident i fs = omega arith in
-    ap (unwrap_or (position (λ c. nat_eq n c.name.ident) cs)) a ∙ place_from work apart n i is 0 cs fs h ∙ b
+    ap (λ (o : Option ℕ). unwrap_or o (length cs)) (position_from-zero (λ (c : FieldShape). nat_eq n c.name.ident) cs) ∙ ap (unwrap_or (position_from (λ c. nat_eq n c.name.ident) 0 cs)) a ∙ place_from work apart n i is 0 cs fs h ∙ b
 
 -- one field more
 position_end : {A : Type 0} (t : A → Bool) (j : ℕ) (xs : List A) (x : A) → position_from t j (xs ++ x ∷ []) ≡ or_place (position_from t j xs) (t x) (j + length xs)
@@ -157,18 +159,20 @@ position_end t j (y ∷ xs) x =
     go true = refl
     go false = refl
 
-field_end : (cs : List FieldShape) (k : ℕ) (c : FieldShape) (n : ℕ) → k < length cs → c ≡ get_or cs k c → position (λ d. nat_eq n d.name.ident) (take (k + 1) cs) ≡ or_place (position (λ d. nat_eq n d.name.ident) (take k cs)) (nat_eq n c.name.ident) k
-field_end cs k c n lt is =
+field_end : (cs : List FieldShape) (k : ℕ) (c d : FieldShape) (n : ℕ) → k < length cs → c ≡ get_or cs k d → position (λ d. nat_eq n d.name.ident) (take (k + 1) cs) ≡ or_place (position (λ d. nat_eq n d.name.ident) (take k cs)) (nat_eq n c.name.ident) k
+field_end cs k c d n lt is =
     let count : 0 + length (take k cs) ≡ k = let e = length-take-le k cs (omega arith) in omega arith in
-    ap (position (λ d. nat_eq n d.name.ident)) (take_more cs k c lt ∙ ap (λ (x : FieldShape). take k cs ++ x ∷ []) (sym is)) ∙ position_end (λ d. nat_eq n d.name.ident) 0 (take k cs) c
-    ∙ ap (or_place (position (λ d. nat_eq n d.name.ident) (take k cs)) (nat_eq n c.name.ident)) count
+    let t : FieldShape → Bool = λ e. nat_eq n e.name.ident in
+    ap (position t) (take_more cs k d lt ∙ ap (λ (x : FieldShape). take k cs ++ x ∷ []) (sym is)) ∙ position_from-zero t (take k cs ++ c ∷ []) ∙ position_end t 0 (take k cs) c
+    ∙ ap (λ (o : Option ℕ). or_place o (nat_eq n c.name.ident) (0 + length (take k cs))) (sym (position_from-zero t (take k cs)))
+    ∙ ap (or_place (position t (take k cs)) (nat_eq n c.name.ident)) count
 
 -- a field whose name was there, and one whose name is new
-pub known_field : (cs : List FieldShape) (k : ℕ) (c : FieldShape) (n : ℕ) → k < length cs → c ≡ get_or cs k c → is_some (position (λ d. nat_eq c.name.ident d.name.ident) (take k cs)) ≡ true →
+pub known_field : (cs : List FieldShape) (k : ℕ) (c d : FieldShape) (n : ℕ) → k < length cs → c ≡ get_or cs k d → is_some (position (λ d. nat_eq c.name.ident d.name.ident) (take k cs)) ≡ true →
     position (λ d. nat_eq n d.name.ident) (take k cs) ≡ position (λ d. nat_eq n d.name.ident) (take (k + 1) cs)
-known_field cs k c n lt is there =
+known_field cs k c d n lt is there =
     go (position (λ d. nat_eq n d.name.ident) (take k cs)) refl (nat_eq n c.name.ident) refl
-    ∙ sym (field_end cs k c n lt is)
+    ∙ sym (field_end cs k c d n lt is)
   where
     go : (o : Option ℕ) → position (λ d. nat_eq n d.name.ident) (take k cs) ≡ o → (b : Bool) → nat_eq n c.name.ident ≡ b → o ≡ or_place o b k
     go (Some j) e b t = refl
@@ -178,10 +182,10 @@ known_field cs k c n lt is there =
         let no : false ≡ true = sym (ap is_some (ap (λ (m : ℕ). position (λ d. nat_eq m d.name.ident) (take k cs)) (sym same) ∙ e)) ∙ there in
         absurd cc
 
-pub new_field : (cs : List FieldShape) (k : ℕ) (c : FieldShape) (n : ℕ) (old new : Option ℕ) (at : Bool) → k < length cs → c ≡ get_or cs k c → old ≡ position (λ d. nat_eq n d.name.ident) (take k cs) → is_some (position (λ d. nat_eq c.name.ident d.name.ident) (take k cs)) ≡ false →
+pub new_field : (cs : List FieldShape) (k : ℕ) (c d : FieldShape) (n : ℕ) (old new : Option ℕ) (at : Bool) → k < length cs → c ≡ get_or cs k d → old ≡ position (λ d. nat_eq n d.name.ident) (take k cs) → is_some (position (λ d. nat_eq c.name.ident d.name.ident) (take k cs)) ≡ false →
     at ≡ nat_eq n c.name.ident → new ≡ cond at (Some k) old → new ≡ position (λ d. nat_eq n d.name.ident) (take (k + 1) cs)
-new_field cs k c n old new at lt is o none t e =
-    e ∙ (λ j. cond (t j) (Some k) (o j)) ∙ go (nat_eq n c.name.ident) refl (position (λ d. nat_eq n d.name.ident) (take k cs)) refl ∙ sym (field_end cs k c n lt is)
+new_field cs k c d n old new at lt is o none t e =
+    e ∙ (λ j. cond (t j) (Some k) (o j)) ∙ go (nat_eq n c.name.ident) refl (position (λ d. nat_eq n d.name.ident) (take k cs)) refl ∙ sym (field_end cs k c d n lt is)
   where
     go : (b : Bool) → nat_eq n c.name.ident ≡ b → (p : Option ℕ) → position (λ d. nat_eq n d.name.ident) (take k cs) ≡ p → cond b (Some k) p ≡ or_place p b k
     go false t None e = refl
@@ -191,3 +195,63 @@ new_field cs k c n old new at lt is o none t e =
         let same : n ≡ c.name.ident = eqb-true n c.name.ident t in
         let no : true ≡ false = sym (ap is_some (ap (λ (m : ℕ). position (λ d. nat_eq m d.name.ident) (take k cs)) (sym same) ∙ e)) ∙ none in
         absurd cc
+
+-- ---- modifiers one after another
+
+option_both : {A : Type 0} (o : Option A) (xs ys : List A) → cons_option o (xs ++ ys) ≡ cons_option o xs ++ ys
+option_both None xs ys = refl
+option_both (Some a) xs ys = refl
+
+filter_map_both : {A B : Type 0} (h : A → Option B) (xs ys : List A) → filter_map h (xs ++ ys) ≡ filter_map h xs ++ filter_map h ys
+filter_map_both h [] ys = refl
+filter_map_both h (x ∷ xs) ys = ap (cons_option (h x)) (filter_map_both h xs ys) ∙ option_both (h x) (filter_map h xs) (filter_map h ys)
+
+pub modifier_more : (fs : List FieldShape) (k : ℕ) (d : FieldShape) (o : Option NamePart) (old mid new : List NamePart) → k < length fs → (get_or fs k d).modifier ≡ o → mid ≡ old ++ filter_map (λ f. f.modifier) (take k fs) → new ≡ mid ++ cons_option o [] →
+    new ≡ old ++ filter_map (λ f. f.modifier) (take (k + 1) fs)
+modifier_more fs k d o old mid new lt is so_far e =
+    e ∙ ap (λ (l : List NamePart). l ++ cons_option o []) so_far ∙ append_assoc old (filter_map (λ f. f.modifier) (take k fs)) (cons_option o [])
+    ∙ ap (λ (p : Option NamePart). old ++ (filter_map (λ f. f.modifier) (take k fs) ++ cons_option p [])) (sym is)
+    ∙ ap (λ (l : List NamePart). old ++ l) (sym (filter_map_both (λ (f : FieldShape). f.modifier) (take k fs) (get_or fs k d ∷ [])) ∙ ap (filter_map (λ (f : FieldShape). f.modifier)) (sym (take_more fs k d lt)))
+
+-- ---- names one after another
+
+pub record IsNameAt (work : Work) (ns : List (Named Identifier)) (k : ℕ) (c : NamePart) : Type 0 where
+  pub found : Named Identifier
+  pub matches : IsName work c found
+  pub split : take (k + 1) ns ≡ take k ns ++ found ∷ []
+
+pub name_at_place : (work : Work) (k : ℕ) (cs : List NamePart) (ns : List (Named Identifier)) (d : NamePart) → AllMatch (IsName work) cs ns → k < length cs → IsNameAt work ns k (get_or cs k d)
+name_at_place work k [] ns d h l = absurd (omega arith)
+name_at_place work k (c ∷ cs) [] d h l = absurd h
+name_at_place work zero (c ∷ cs) (n ∷ ns) d h l = record { found = n; matches = h.0; split = refl }
+name_at_place work (suc k) (c ∷ cs) (n ∷ ns) d h l =
+    let q = name_at_place work k cs ns d h.1 (omega arith) in
+    let more : suc k + 1 ≡ suc (k + 1) = omega arith in
+    record { found = q.found; matches = q.matches; split = ap (λ (m : ℕ). take m (n ∷ ns)) more ∙ ap (λ (l : List (Named Identifier)). n ∷ l) q.split }
+
+pub names_all : (work : Work) (k : ℕ) (cs : List NamePart) (ns : List (Named Identifier)) → AllMatch (IsName work) cs ns → length cs ≤ k → take k ns ≡ ns
+names_all work zero [] [] h l = refl
+names_all work zero [] (n ∷ ns) h l = absurd h
+names_all work zero (c ∷ cs) ns h l = absurd (omega arith)
+names_all work (suc k) [] [] h l = refl
+names_all work (suc k) [] (n ∷ ns) h l = absurd h
+names_all work (suc k) (c ∷ cs) [] h l = absurd h
+names_all work (suc k) (c ∷ cs) (n ∷ ns) h l = ap (λ (l : List (Named Identifier)). n ∷ l) (names_all work k cs ns h.1 (omega arith))
+
+used_both : (fs : List (ModelField Identifier)) (ns ms : List (Named Identifier)) → used_fields fs (ns ++ ms) ≡ used_fields fs ns ++ used_fields fs ms
+used_both fs [] ms = refl
+used_both fs (n ∷ ns) ms = ap (λ (l : List FieldUse). record { field = field_position same_ident n.name fs; occ = n.occ } ∷ l) (used_both fs ns ms)
+
+-- one field more that a constructor uses
+pub used_more : (work : Work) → AreToldApart work.symbols.idents → (cs : List FieldShape) (fs : List (ModelField Identifier)) → AllMatch (IsField work) cs fs → (ns : List (Named Identifier)) (k : ℕ) (c : NamePart) (at : IsNameAt work ns k c) (old new : List code_use.FieldUse) (place : ℕ) →
+    AllMatch IsUse old (used_fields fs (take k ns)) → place ≡ unwrap_or (position (λ f. nat_eq c.ident f.name.ident) cs) (length cs) → new ≡ old ++ record { field = place; occ = c.occ } ∷ [] → AllMatch IsUse new (used_fields fs (take (k + 1) ns))
+used_more work apart cs fs fields ns k c at old new place so_far is e =
+    let one : IsUse (record { field = place; occ = c.occ }) (record { field = field_position same_ident at.found.name fs; occ = at.found.occ }) = record { field = is ∙ place_is work apart c.ident at.found.name at.matches.0 cs fs fields; place = at.matches.1 } in
+    subst (λ (l : List (Named Identifier)). AllMatch IsUse new (used_fields fs l)) (sym at.split)
+    (subst (λ (l : List FieldUse). AllMatch IsUse new l) (sym (used_both fs (take k ns) (at.found ∷ [])))
+    (subst (λ (l : List code_use.FieldUse). AllMatch IsUse l (used_fields fs (take k ns) ++ used_fields fs (at.found ∷ []))) (sym e)
+    (matches_more IsUse old (used_fields fs (take k ns)) (record { field = place; occ = c.occ }) (record { field = field_position same_ident at.found.name fs; occ = at.found.occ }) so_far one)))
+
+pub none_of : {A : Type 0} (o : Option A) → ((a : A) → o ≡ Some a → ⊥) → o ≡ None
+none_of None h = refl
+none_of (Some a) h = absurd (h a refl)

@@ -13,7 +13,7 @@ use Rattle.expander.proofs.libraries.leaf_text.Goals as goal
 pub name-requires : goal.name-requires
 name-requires c =
     let names = c.args.work.now.symbols in
-    let l = numeral_leaf names c.in-Numeral.symbol c.requires.1 c.requires.0 (subst (λ (x : Leaf). leaf_tree names x c.requires.1 ≡ Some (atom c.requires.0 c.requires.1)) c.in-Numeral.is c.requires.2) in
+    let l = numeral_leaf names c.in-Numeral.symbol c.requires.1.0 c.requires.0 (subst (λ (x : Leaf). leaf_tree names x c.requires.1.0 ≡ Some (atom c.requires.0 c.requires.1.0)) c.in-Numeral.is c.requires.1.1) in
     slice_get_within names.symbols c.in-Numeral.symbol l.0 l.2
 
 pub returns-in-Numeral : goal.returns-in-Numeral

@@ -18,7 +18,7 @@ holds-list_holds-requires t c =
     let p = c.requires in
     let q = c.in-List.ensures.look p.0 p.1 in
     let deep = within_positive w c.args.tree c.args.left p in
-    (omega arith, (list_parts_within w c.args.left p.0 c.in-List.parts.now q.0 q.1 q.2 p.2 q.3 q.4, tt))
+    (omega arith, list_parts_within w c.args.left p.0 c.in-List.parts.now q.0 q.1 q.2 p.2 q.3 q.4)
 
 pub holds-returns-in-List : goal.holds-returns-in-List
 holds-returns-in-List t c = λ known u k h.
@@ -40,7 +40,7 @@ word_holds-returns-in-Not t c = λ known ts k h.
 
 pub all_hold-holds-requires : goal.all_hold-holds-requires
 all_hold-holds-requires t c =
-    (omega arith, (part_within c.args.self.now.work.now c.args.parts.now c.args.left c.loop-part.part-index _ c.requires c.loop-part-test.true, tt))
+    (omega arith, part_within c.args.self.now.work.now c.args.parts.now c.args.left c.loop-part.part-index _ c.requires c.loop-part-test.true)
 
 pub all_hold-returns-in_err-here : goal.all_hold-returns-in_err-here
 all_hold-returns-in_err-here t c = λ known ts k h.
@@ -66,7 +66,7 @@ all_hold-returns t c = λ known ts k h.
 
 pub some_holds-holds-requires : goal.some_holds-holds-requires
 some_holds-holds-requires t c =
-    (omega arith, (part_within c.args.self.now.work.now c.args.parts.now c.args.left c.loop-part.part-index _ c.requires c.loop-part-test.true, tt))
+    (omega arith, part_within c.args.self.now.work.now c.args.parts.now c.args.left c.loop-part.part-index _ c.requires c.loop-part-test.true)
 
 pub some_holds-returns-in_err-here : goal.some_holds-returns-in_err-here
 some_holds-returns-in_err-here t c = λ known ts k h.

@@ -16,8 +16,8 @@ add_marks-add_marks-requires t c =
     let p = c.requires.within in
     let q = c.in-List.ensures.look p.0 p.1 in
     let deep = within_positive w c.args.tree c.args.left p in
-    (first_of (omega arith, search rules, grind arith), c.requires.look, tail_within w c.in-List.end c.in-Some.tail (c.args.left - 1) c.in-Some.is (end_within w c.args.left p.0 c.in-List.end q.0 q.1 q.2 p.2 q.3 q.5))
+    (first_of (omega arith, search rules, grind arith), (c.requires.look, tail_within w c.in-List.end c.in-Some.tail (c.args.left - 1) c.in-Some.is (end_within w c.args.left p.0 c.in-List.end q.0 q.1 q.2 p.2 q.3 q.5), tt))
 
 pub add_all_marks-add_marks-requires : goal.add_all_marks-add_marks-requires
 add_all_marks-add_marks-requires t c =
-    (first_of (omega arith, search rules, grind arith), c.requires.look, part_within c.args.work.now c.args.items.now c.args.left c.loop-item.item-index _ c.requires.within c.loop-item-test.true)
+    (first_of (omega arith, search rules, grind arith), (c.requires.look, part_within c.args.work.now c.args.items.now c.args.left c.loop-item.item-index _ c.requires.within c.loop-item-test.true, tt))
