@@ -23,7 +23,8 @@ use Rattle.scheme_model.specs.Requirements.{LibraryPart, Symbol, LibraryName, Kn
 use Rattle.scheme_model.specs.Ident.{Ident as Identifier, symbol_of}
 use Rattle.syntax_tree.specs.Names.{Names}
 use Rattle.syntax_tree.specs.Standing.{leaf_tree}
-use Rattle.syntax_tree.specs.Looks.{PartsStand}
+use Rattle.scheme_model.specs.Measures.{trees_depth}
+use Rattle.syntax_tree.specs.Looks.{PartsStand, PartsWithin}
 use Rattle.syntax_tree.specs.Works.{StandsFor}
 use Rattle.syntax_tree.specs.declared.trees.Work.{Work}
 use Rattle.syntax_tree.specs.declared.trees.nodes.Tree as number
@@ -335,3 +336,17 @@ knows_listed libraries texts h n = sym (h (library_text n))
 pub dotted_name : (ts : Trees Identifier) (u : Tree Identifier) → name_in_list ts (dotted u) ≡ Err BadForm
 dotted_name no_trees u = refl
 dotted_name (tree t ts) u = refl
+
+-- what is behind the first is no deeper
+pub rest_within : (work : Work) (ns : List number.Tree) (n : number.Tree) (ms : List number.Tree) (d : ℕ) → ns ≡ n ∷ ms → PartsWithin work ns d → PartsWithin work ms d
+rest_within work ns n ms d e h = go h.0 (subst (λ (x : List number.Tree). PartsStand work x h.0) e h.1) h.2
+  where
+    go : (ts : Trees Identifier) → PartsStand work (n ∷ ms) ts → trees_depth ts ≤ d → PartsWithin work ms d
+    go no_trees g l = absurd g
+    go (tree t us) g l = (us, g.1, omega arith)
+
+-- a list that begins with a word
+pub list_named : (k : Known) (ts us : Trees Identifier) (t : Tree Identifier) (tail : Tail Identifier) (o : Option Occ) (i : Identifier) (p : Option Occ) (s : List ℕ) → ts ≡ tree t us → t ≡ name i p → tail ≡ proper → s ≡ symbol_of i →
+    holds symbol_of k (list ts tail o) ≡ word_holds k s us
+list_named k ts us t tail o i p s e f g h =
+    ap (λ (x : Trees Identifier). holds symbol_of k (list x tail o)) (e ∙ ap (λ (x : Tree Identifier). tree x us) f) ∙ ap (λ (x : Tail Identifier). holds symbol_of k (list (tree (name i p) us) x o)) g ∙ named_holds k i p us o s h

@@ -7,14 +7,15 @@ ghost use Rattle.scheme_model.specs.declared.Occ.{Occ};
 ghost use Rattle.syntax_tree.specs.Looks.{PartsStand, EndStands, AreStanding, StandsWithin, PartsWithin};
 ghost use Rattle.syntax_tree.specs.Macros.{IsIdent};
 ghost use Rattle.syntax_tree.specs.Works.{StandsFor, IsStanding};
+ghost use Rattle.syntax_tree.specs.declared.trees.Work.{Work as AnyWork};
 ghost use Rattle.core_forms.specs.Parts.{AllMatch, IsChoice};
-ghost use Rattle.expander.specs.Judged.{Knows, Reads, AreChoosable, library_holds, connective_named, word_holds, clause_judged, chosen_among, forms_of, or_first, Chooses, forms_chosen, ChoosesForms};
+ghost use Rattle.expander.specs.Judged.{Knows, Reads, AreChoosable, IsClauseForms, library_holds, connective_named, word_holds, clause_judged, chosen_among, forms_of, or_first, Chooses, forms_chosen, ChoosesForms};
 
 use crate::counting::{code, fails};
 use crate::fault::ExpandFault;
 use crate::libraries::library_name;
 use core_forms::Choice;
-use ls_base::Memory;
+use ls_base::{Mem, Memory};
 use scheme_model::Occ;
 use std::alloc::{AllocError, AllocFailed, Global};
 use std::collections::BTreeSet;
@@ -303,6 +304,16 @@ impl Judge<'_> {
     }
 }
 
+/// The forms of a clause.
+fn clause_forms(alloc: Global, choices: &[Choice], place: usize) -> Mem<Vec<Tree>>
+    requires { place < length choices.now }
+    ensures { (work : AnyWork) (ps : List (ModelTree Identifier × Trees Identifier)) → AllMatch (IsChoice work) choices.now ps →
+        IfOk result (λ forms. IsClauseForms work ps place forms) }
+{
+    let clause = &choices[place];
+    Ok(Vec::from_slice(alloc, &clause.forms)?)
+}
+
 /// The forms of the first clause of a `cond-expand` that holds; `None` where none does.
 pub fn choose(
     judge: Judge,
@@ -314,8 +325,10 @@ pub fn choose(
         AllMatch (IsChoice judge.entry.work.now) choices.now ps → Chooses judge.entry.work.now here result (chosen_among known ps) }
 {
     match judge.chosen(choices) {
-        Ok(None) => Ok(None),
-        Ok(Some(k)) => Ok(Some(Vec::from_slice(judge.alloc, &choices[k].forms)?)),
+        Ok(chosen) => match chosen {
+            None => Ok(None),
+            Some(place) => Ok(Some(clause_forms(judge.alloc, choices, place)?)),
+        },
         Err(ShapeFault::BadForm) => Err(fails(here, code::BAD_FORM)),
         Err(ShapeFault::Memory) => Err(ExpandFault::Memory),
     }
