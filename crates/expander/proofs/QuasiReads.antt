@@ -20,7 +20,6 @@ use Rattle.core_forms.specs.Forms.{Shape, Quasi, shape_of, shape_in}
 use Rattle.core_forms.specs.Parts.{AllMatch}
 use Rattle.expander.specs.Marked.{mark_within, IsQuasi}
 
-
 -- ---- what is asked
 
 -- two tests say the same of the identifiers of a tree, of trees in a row, and of a tail

@@ -42,7 +42,13 @@ pub fn names_of(alloc: Global, macros: &[LocalMacro]) -> Mem<Vec<NamePart>>
 pub fn forms_at(alloc: Global, here: Option<Occ>, forms: &[Tree]) -> Mem<Vec<Form>>
     ensures { IfOk result (λ todo. todo.items ≡ map (form_at here) (reverse forms.now)) }
 {
-    Ok(forms.iter().rev().map(|tree| Form { here, tree: *tree }).collect(alloc)?)
+    Ok(
+        forms
+            .iter()
+            .rev()
+            .map(|tree| Form { here, tree: *tree })
+            .collect(alloc)?,
+    )
 }
 
 impl UnitScope {

@@ -111,13 +111,7 @@ fn or_first(chosen: Option<usize>, here: bool, place: usize) -> Option<usize>
 {
     match chosen {
         Some(before) => Some(before),
-        None => {
-            if here {
-                Some(place)
-            } else {
-                None
-            }
-        }
+        None => { if here { Some(place) } else { None } }
     }
 }
 
@@ -170,12 +164,7 @@ impl Judge<'_> {
 
     /// Whether a requirement that is a list holds. Its parts are at most `left` nodes deep.
     #[cycle(requirements)]
-    fn list_holds(
-        &self,
-        parts: &[Tree],
-        end: Option<Tree>,
-        left: u32,
-    ) -> Result<bool, ShapeFault>
+    fn list_holds(&self, parts: &[Tree], end: Option<Tree>, left: u32) -> Result<bool, ShapeFault>
         requires { PartsWithin self.now.work.now parts.now left }
         ensures { (known : Known) (ts : Trees Identifier) (tail : Tail Identifier) (o : Option Occ) → Knows self.now.libraries.now known →
             PartsStand self.now.work.now parts.now ts → EndStands self.now.work.now end tail →

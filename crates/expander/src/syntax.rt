@@ -134,9 +134,7 @@ impl UnitScope {
             RulesFault::DuplicateVariable(name) => {
                 self.fails_at(here, code::DUPLICATE_VARIABLE, part(name))
             }
-            RulesFault::Depth(name) => {
-                self.fails_at(here, code::ELLIPSIS_DEPTH, part(name))
-            }
+            RulesFault::Depth(name) => { self.fails_at(here, code::ELLIPSIS_DEPTH, part(name)) }
             RulesFault::IdleEllipsis => fails(here, code::IDLE_ELLIPSIS),
             RulesFault::Memory => ExpandFault::Memory,
         }

@@ -14,6 +14,6 @@ returns c = λ work r h.
     let fs = s.fields.items in
     let all : take c.loop-field.field-index fs ≡ fs = take_all c.loop-field.field-index fs (omega (arith, c.loop-field-test.false, c.deref-field-items.ensures.len)) in
     let whole : c.add_modifiers.new.names.items ≡ s.name ∷ s.constructor ∷ s.predicate ∷ map (λ f. f.accessor) fs ++ filter_map (λ f. f.modifier) fs =
-        c.in_ok-add_modifiers.ensures ∙ (λ j. (c.loop-field.invariant j) ++ filter_map (λ f. f.modifier) (c.deref.ensures.value j))
-        ∙ ap (λ (l : List FieldShape). s.name ∷ s.constructor ∷ s.predicate ∷ map (λ f. f.accessor) l ++ filter_map (λ f. f.modifier) fs) all in
+    c.in_ok-add_modifiers.ensures ∙ (λ j. (c.loop-field.invariant j) ++ filter_map (λ f. f.modifier) (c.deref.ensures.value j))
+    ∙ ap (λ (l : List FieldShape). s.name ∷ s.constructor ∷ s.predicate ∷ map (λ f. f.accessor) l ++ filter_map (λ f. f.modifier) fs) all in
     subst (λ (l : List NamePart). AllMatch (IsName work) l (record_names r)) (sym whole) (names_match work s.name s.constructor s.predicate fs r h.type h.constructor h.predicate h.fields)
