@@ -2,19 +2,17 @@
 use Rattle.std.proofs.Common.{◌≡◌, ℕ, zero, suc, ◌+◌, ◌<◌, ◌≤◌, List, [], ◌∷◌, ◌++◌, append_assoc, append-nil, length, Bool, true, false, Option, Some, None, refl, sym, ap, ◌∙◌, subst, arith}
 use Rattle.std.specs.Prelude.{◌||◌, nat_eq, slice_get, if◌then◌else◌}
 use Rattle.std.specs.Option.{option_map}
-use Rattle.std.proofs.lemmas.Bool.{eqb-true}
 use Rattle.std.proofs.lemmas.Bool.Decides.{nat_tests}
 use Rattle.std.proofs.lemmas.Option.{same_Some, slice_get_within}
 use Rattle.scheme_model.specs.Identifiers.{Number}
 use Rattle.scheme_model.specs.Ident.{Ident as Identifier, Written, Inserted, same_ident}
 use Rattle.syntax_tree.specs.Names.{Names, AreToldApart, KeepsNames}
-use Rattle.syntax_tree.specs.Numbered.{ident_of, IsPlaced, number_of}
+use Rattle.syntax_tree.specs.Numbered.{ident_of, number_of}
 use Rattle.syntax_tree.specs.Macros.{IsIdent}
-use Rattle.syntax_tree.specs.declared.symbols.Ident as code
 use Rattle.syntax_tree.specs.declared.symbols.Ident.TheVariants as idents
 use Rattle.syntax_tree.specs.declared.symbols.UseNo.{UseNo}
 use Rattle.syntax_tree.proofs.Places.{get_within}
-use Rattle.syntax_tree.proofs.InternLaws.{ident_told, ident_itself}
+use Rattle.syntax_tree.proofs.InternLaws.{ident_told}
 use Rattle.syntax_tree.proofs.RoleLaws.{same_by_number}
 use Rattle.expander.specs.declared.asked.Note.{Note}
 use Rattle.expander.specs.declared.asked.Asked.{Asked}

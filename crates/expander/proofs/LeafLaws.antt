@@ -4,8 +4,8 @@ use Rattle.std.specs.Prelude.{slice_get}
 use Rattle.std.specs.Option.{option_map}
 use Rattle.std.proofs.lemmas.Option.{same_Some}
 use Rattle.scheme_model.specs.declared.Occ.{Occ}
-use Rattle.scheme_model.specs.Trees.{Atom, Numeral, Quoted, Character, Boolean, Bytes, Tree, name, atom, list, vector, Trees, no_trees, tree, Tail}
-use Rattle.scheme_model.specs.Order.{Here, or_here, read_name, here_at, name_in, RulesParts, rules_parts_of}
+use Rattle.scheme_model.specs.Trees.{Atom, Numeral, Quoted, Character, Boolean, Bytes, Tree, atom, list, Trees, no_trees, tree, Tail}
+use Rattle.scheme_model.specs.Order.{Here, or_here, read_name, here_at, name_in}
 use Rattle.scheme_model.specs.Ident.{Ident as Identifier, Written, Inserted}
 use Rattle.syntax_tree.specs.Names.{Names}
 use Rattle.syntax_tree.specs.Macros.{IsIdent}
@@ -20,9 +20,8 @@ use Rattle.syntax_tree.specs.declared.trees.nodes.Leaf.TheVariants as code
 use Rattle.syntax_tree.specs.declared.symbols.Ident.TheVariants as idents
 use Rattle.syntax_tree.specs.declared.symbols.UseNo.{UseNo}
 use Rattle.core_forms.specs.Parts.{IsNameIfAny}
-use Rattle.core_forms.specs.declared.shape.NamePart.{NamePart}
 use Rattle.core_forms.proofs.Words.{IsNoName, leaf_name}
-use Rattle.expander.specs.Seen.{head_name_of, IsRulesHead}
+use Rattle.expander.specs.Seen.{head_name_of}
 
 -- the atom of a leaf
 pub record IsAtom (o : Option Occ) (t : Tree Identifier) : Type 0 where

@@ -18,6 +18,7 @@ pub mod JudgeLaws
 pub mod QuasiMarks
 pub mod QuasiReads
 pub mod AskLaws
+pub mod AskedSearch
 pub mod ToldLaws
 pub mod LeafLaws
 pub mod SeenLaws

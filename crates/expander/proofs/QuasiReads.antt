@@ -1,6 +1,6 @@
 -- A reading of a quasiquotation asks only of the identifiers that stand in it, and its nodes are those outside its holes and those of
 -- what stands in the holes.
-use Rattle.std.proofs.Common.{◌≡◌, ℕ, zero, suc, ◌+◌, ◌<◌, ◌≤◌, List, [], ◌∷◌, ◌++◌, length, get_or, drop, Bool, true, false, Option, Some, None, Result, Ok, Err, refl, sym, ap, ◌∙◌, subst, arith, add-one}
+use Rattle.std.proofs.Common.{◌≡◌, ℕ, zero, suc, ◌+◌, ◌<◌, ◌≤◌, List, [], ◌∷◌, ◌++◌, length, get_or, drop, Bool, true, false, Option, Some, None, Result, Ok, Err, refl, sym, ap, ◌∙◌, subst, arith}
 use Rattle.std.specs.Prelude.{◌||◌, if◌then◌else◌}
 use Rattle.scheme_model.specs.declared.Occ.{Occ}
 use Rattle.scheme_model.specs.Trees.{Tree, name, atom, list, vector, Trees, no_trees, tree, Tail, proper, dotted}
@@ -10,15 +10,15 @@ use Rattle.scheme_model.specs.ExpansionFaults.{Fault, ◌>>◌}
 use Rattle.scheme_model.specs.Shapes.{one_of}
 use Rattle.scheme_model.specs.Building.{stands_in, stands_among, stands_behind}
 use Rattle.scheme_model.specs.Cores.{weight, weights, tail_weight, hole_weight, outside}
-use Rattle.scheme_model.specs.Quasiquote.{Mark, Nested, Unquoted, Spliced, Pieces, RowPieces, pieces, row_pieces, before, hole_of, behind, splice, by_mark, pieces_of, row_of, parts_of, tail_of, quasi_of}
+use Rattle.scheme_model.specs.Quasiquote.{Mark, Nested, Unquoted, Spliced, Pieces, RowPieces, pieces, row_pieces, before, hole_of, behind, by_mark, pieces_of, row_of, parts_of, tail_of, quasi_of}
 use Rattle.scheme_model.specs.Ident.{Ident as Identifier, same_ident}
 use Rattle.syntax_tree.specs.Works.{StandsFor}
 use Rattle.syntax_tree.specs.declared.trees.Work.{Work}
 use Rattle.syntax_tree.specs.declared.trees.nodes.Tree as number
 use Rattle.syntax_tree.proofs.InternLaws.{ident_itself}
-use Rattle.core_forms.specs.Forms.{Shape, Quasi, shape_of, shape_in}
+use Rattle.core_forms.specs.Forms.{Quasi, shape_of, shape_in}
 use Rattle.core_forms.specs.Parts.{AllMatch}
-use Rattle.expander.specs.Marked.{mark_within, IsQuasi}
+use Rattle.expander.specs.Marked.{mark_within}
 
 -- ---- what is asked
 

@@ -2,22 +2,21 @@
 use Rattle.std.proofs.Common.{◌≡◌, ℕ, zero, suc, ◌+◌, ◌<◌, ◌≤◌, List, [], ◌∷◌, ◌++◌, length, map, get_or, drop, take, Bool, true, false, cond, Option, Some, None, refl, sym, ap, ◌∙◌, subst, arith, add-one, append_assoc, append-nil}
 use Rattle.std.specs.Prelude.{is_some, filter_map, nat_eq, position, unwrap_or, if◌then◌else◌}
 use Rattle.std.specs.List.{position_from, cons_option}
-use Rattle.std.proofs.lemmas.Bool.Decides.{nat_tests}
 use Rattle.std.proofs.lemmas.Bool.{eqb-true}
 use Rattle.std.proofs.lemmas.Iterator.Adapters.{position_from-zero}
 use Rattle.std.proofs.lemmas.List.{take_more, length-take-le}
-use Rattle.scheme_model.specs.Trees.{Tree, Trees, Tail}
+use Rattle.scheme_model.specs.Trees.{Trees, Tail}
 use Rattle.scheme_model.specs.Keywords.{CoreKeyword, IsQuote, IsQuasiquote, IsLambda, IsCaseLambda, IsIf, IsSet, IsBegin, IsDefine, IsDefineValues, IsDefineRecordType, IsDefineSyntax, IsLetSyntax, IsLetrecSyntax, IsCondExpand, IsSyntaxError, IsInclude}
 use Rattle.scheme_model.specs.ExpansionFaults.{Named}
 use Rattle.scheme_model.specs.Shapes.{FieldShape as ModelField, RecordShape}
 use Rattle.scheme_model.specs.Cores.{Target, FieldUse}
-use Rattle.scheme_model.specs.Order.{Here, Form, Pending, Pass, Ops, Going, Expression, put, run_core, modifiers, modified, record_names, position as field_position, is_some as model_is_some}
+use Rattle.scheme_model.specs.Order.{Here, Form, Pending, Ops, Going, Expression, put, run_core, modifiers, modified, record_names, position as field_position, is_some as model_is_some}
 use Rattle.scheme_model.specs.Ident.{Ident as Identifier, same_ident}
 use Rattle.syntax_tree.specs.Names.{AreToldApart}
 use Rattle.syntax_tree.specs.Macros.{IsIdent}
 use Rattle.syntax_tree.specs.declared.trees.Work.{Work}
 use Rattle.syntax_tree.proofs.RoleLaws.{same_by_number}
-use Rattle.core_forms.specs.Parts.{AllMatch, IsName, IsNameIfAny, IsField, AreNames}
+use Rattle.core_forms.specs.Parts.{AllMatch, IsName, IsNameIfAny, IsField}
 use Rattle.core_forms.specs.declared.shape.NamePart.{NamePart}
 use Rattle.core_forms.specs.declared.shape.FieldShape.{FieldShape}
 use Rattle.core_forms.proofs.Reading.{matches_more, matches_both}

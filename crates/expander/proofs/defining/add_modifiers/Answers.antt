@@ -1,4 +1,4 @@
-use Rattle.std.proofs.Common.{[], ◌∷◌, None, Some, sym, ap, ◌∙◌, append-nil, List}
+use Rattle.std.proofs.Common.{None, Some, sym, ap, ◌∙◌, append-nil}
 use Rattle.std.specs.Prelude.{Vec}
 use Rattle.std.specs.declared.alloc.Global.{Global}
 use Rattle.core_forms.specs.declared.shape.NamePart.{NamePart}

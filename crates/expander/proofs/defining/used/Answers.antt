@@ -1,5 +1,5 @@
-use Rattle.std.proofs.Common.{◌≡◌, ℕ, None, Option, List, get_or, length, sym, ap, ◌∙◌, subst}
-use Rattle.std.specs.Prelude.{unwrap_or, position, nat_eq}
+use Rattle.std.proofs.Common.{ℕ, None, Option, List, get_or, length, ap, ◌∙◌, subst}
+use Rattle.std.specs.Prelude.{unwrap_or}
 use Rattle.scheme_model.specs.ExpansionFaults.{Named}
 use Rattle.scheme_model.specs.Ident.{Ident as Identifier}
 use Rattle.core_forms.specs.Parts.{AllMatch}

@@ -1,4 +1,4 @@
-use Rattle.std.proofs.Common.{string_bytes, ◌∙◌}
+use Rattle.std.proofs.Common.{string_bytes}
 use Rattle.expander.specs.Judged.{map_ok, library_text}
 use Rattle.scheme_model.specs.Trees.{tree}
 use Rattle.scheme_model.specs.Requirements.{parts_of}

@@ -1,8 +1,7 @@
-use Rattle.std.proofs.Common.{None, sym, subst, ◌∙◌}
+use Rattle.std.proofs.Common.{None, sym, subst}
 use Rattle.std.specs.Prelude.{Option}
 use Rattle.scheme_model.specs.Trees.{Tree}
 use Rattle.scheme_model.specs.ExpansionFaults.{Named}
-use Rattle.scheme_model.specs.Order.{name_in}
 use Rattle.scheme_model.specs.Ident.{Ident as Identifier}
 use Rattle.core_forms.specs.Parts.{IsNameIfAny}
 use Rattle.expander.specs.Seen.{head_name_of}

@@ -1,9 +1,8 @@
-use Rattle.std.proofs.Common.{◌≡◌, ◌+◌, ◌<◌, ◌^◌, ap, subst, List, length, drop, arith}
+use Rattle.std.proofs.Common.{◌+◌, ◌<◌, ◌^◌, ap, subst, arith}
 use Rattle.scheme_model.specs.Trees.{Tree}
 use Rattle.scheme_model.specs.Measures.{tree_size}
 use Rattle.scheme_model.specs.Ident.{Ident as Identifier}
 use Rattle.syntax_tree.proofs.WorkLaws.{stands_once}
-use Rattle.expander.specs.Marked.{IsQuasi}
 use Rattle.expander.proofs.QuasiReads.{sizes, outside_fits, hole_there, holes_past, sizes_there}
 use Rattle.expander.proofs.quasi.outside.Goals as goal
 

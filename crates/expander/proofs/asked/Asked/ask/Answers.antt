@@ -1,4 +1,4 @@
-use Rattle.std.proofs.Common.{sym, ap, ◌∙◌}
+use Rattle.std.proofs.Common.{◌∙◌}
 use Rattle.expander.specs.Asks.{numbers_in}
 use Rattle.expander.proofs.AskLaws.{asks_inserted, asks_written, fewer_layers, known_inside, known_written, not_asked}
 use Rattle.expander.proofs.asked.Asked.ask.Goals as goal

@@ -1,15 +1,14 @@
-use Rattle.std.proofs.Common.{◌≡◌, ◌+◌, ◌-◌, ◌<◌, ℕ, List, Bool, Some, Ok, length, refl, sym, ap, ◌∙◌, subst, rules, arith}
+use Rattle.std.proofs.Common.{◌+◌, ◌<◌, Bool, Ok, length, sym, ap, ◌∙◌, arith}
 use Rattle.std.specs.Prelude.{◌&&◌, ◌||◌, not}
-use Rattle.std.proofs.lemmas.Bool.Decides.{nat_tests}
-use Rattle.scheme_model.specs.Trees.{Tree, Trees, Tail, list, tree}
+use Rattle.scheme_model.specs.Trees.{list}
 use Rattle.scheme_model.specs.Matching.{behind}
 use Rattle.scheme_model.specs.ExpansionFaults.{◌>>◌}
 use Rattle.scheme_model.specs.Requirements.{holds, all_hold, some_holds, none_holds}
-use Rattle.scheme_model.specs.Ident.{Ident as Identifier, symbol_of}
+use Rattle.scheme_model.specs.Ident.{symbol_of}
 use Rattle.syntax_tree.proofs.Looking.{within_positive, list_parts_within, part_there, part_within, split_one, behind_past, no_end}
 use Rattle.std.proofs.lemmas.Option.{slice_get_within}
 use Rattle.core_forms.proofs.Lists.{row_parts}
-use Rattle.expander.specs.Judged.{map_ok, word_holds, by_connective, library_holds}
+use Rattle.expander.specs.Judged.{map_ok, word_holds, by_connective}
 use Rattle.expander.proofs.JudgeLaws.{reads_same, reads_err, fails_same, fails_then, all_more, all_fails, all_end, some_more, some_fails, some_end, only_part, rest_within, list_named}
 use Rattle.expander.proofs.requirements.Judge.+requirements.Goals as goal
 

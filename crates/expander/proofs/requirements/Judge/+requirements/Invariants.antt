@@ -1,4 +1,4 @@
-use Rattle.std.proofs.Common.{◌≡◌, ℕ, ◌*◌, ◌+◌, Bool}
+use Rattle.std.proofs.Common.{◌≡◌, ◌*◌, ◌+◌, Bool}
 use Rattle.std.specs.Prelude.{◌&&◌, ◌||◌}
 use Rattle.scheme_model.specs.Trees.{Trees}
 use Rattle.scheme_model.specs.Matching.{behind}

@@ -1,6 +1,6 @@
-use Rattle.std.proofs.Common.{◌<◌, ℕ, length, drop, Option, sym, subst}
+use Rattle.std.proofs.Common.{◌<◌, ℕ, length, Option, sym, subst}
 use Rattle.std.specs.Prelude.{IfSome}
-use Rattle.expander.specs.Judged.{chosen_among, forms_of, or_first}
+use Rattle.expander.specs.Judged.{chosen_among, forms_of}
 use Rattle.expander.proofs.JudgeLaws.{reads_err}
 use Rattle.expander.proofs.ChoiceLaws.{clause_there, clauses_past, last_is, choice_more, choice_fails, choice_all, first_within}
 use Rattle.expander.proofs.requirements.Judge.chosen.Goals as goal

@@ -1,4 +1,4 @@
-use Rattle.std.proofs.Common.{rules, arith, ◌+◌, ◌-◌, sym, ap, ◌∙◌}
+use Rattle.std.proofs.Common.{rules, arith, ◌-◌, sym, ap, ◌∙◌}
 use Rattle.std.specs.Prelude.{◌||◌}
 use Rattle.scheme_model.specs.Trees.{Tree, Tail}
 use Rattle.scheme_model.specs.Building.{stands_in, stands_among, stands_behind}

@@ -1,9 +1,7 @@
-use Rattle.std.proofs.Common.{◌≡◌, ℕ, ◌+◌, ◌*◌, List}
+use Rattle.std.proofs.Common.{◌+◌, ◌*◌, List}
 use Rattle.scheme_model.specs.Trees.{Trees}
-use Rattle.scheme_model.specs.Matching.{behind}
-use Rattle.scheme_model.specs.Building.{stands_among}
 use Rattle.scheme_model.specs.ScopedExpansion.{Frames, ScopedState}
-use Rattle.scheme_model.specs.Ident.{Ident as Identifier, same_ident}
+use Rattle.scheme_model.specs.Ident.{Ident as Identifier}
 use Rattle.syntax_tree.specs.Looks.{PartsStand}
 use Rattle.expander.specs.Marked.{mark_here}
 use Rattle.expander.specs.State.{Stands}

@@ -1,5 +1,5 @@
-use Rattle.std.proofs.Common.{List, sym, subst, ◌∙◌, [], ◌∷◌, ◌++◌}
-use Rattle.scheme_model.specs.Ident.{Ident as Identifier, same_ident}
+use Rattle.std.proofs.Common.{List, sym, subst}
+use Rattle.scheme_model.specs.Ident.{same_ident}
 use Rattle.core_forms.specs.declared.shape.QuasiMark.{QuasiMark}
 use Rattle.expander.specs.Marked.{AddsMarks, mark_here}
 use Rattle.expander.proofs.QuasiMarks.{adds_one, adds_no_mark}

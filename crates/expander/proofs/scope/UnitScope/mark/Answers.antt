@@ -1,4 +1,3 @@
-use Rattle.expander.specs.Marked.{mark_here}
 use Rattle.scheme_model.specs.Order.{is_some}
 use Rattle.scheme_model.specs.Meaning.{head_as}
 use Rattle.scheme_model.specs.ScopedExpansion.{macro_at}
