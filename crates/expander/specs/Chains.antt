@@ -1,8 +1,8 @@
 -- The binders that frames are: a body is those that it has defined by now.
-use Rattle.std.specs.Prelude.{[], ◌∷◌, ◌++◌, if◌then◌else◌}
+use Rattle.std.specs.Prelude.{ℕ, List, [], ◌∷◌, ◌++◌, if◌then◌else◌}
 use Rattle.scheme_model.specs.Identifiers.{Number, same_number}
-use Rattle.scheme_model.specs.Scopes.{Chain, Uses, Own, own_of}
-use Rattle.scheme_model.specs.ScopedExpansion.{Bind, Enter, Frames, BodyDefinitions, ScopedState, around}
+use Rattle.scheme_model.specs.Scopes.{Bound, Chain, Uses, Own, own_of}
+use Rattle.scheme_model.specs.ScopedExpansion.{Frame, Bind, Enter, Frames, BodyDefinition, BodyDefinitions, ScopedState, around}
 
 -- what a body has defined, latest first
 abbrev pub body_chain : BodyDefinitions → Number → Chain
