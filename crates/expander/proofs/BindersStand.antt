@@ -1,6 +1,7 @@
 -- Names bound to locals in a new scope: what `bound` comes to, and that the state stands with it.
 use Rattle.std.proofs.Common.{◌≡◌, ℕ, suc, ◌+◌, ◌<◌, ◌≤◌, ◌==◌, List, [], ◌∷◌, ◌++◌, length, slice_get, Bool, true, false, cond, Some, Result, Ok, Err, refl, sym, ap, ◌∙◌, subst, arith}
 use Rattle.std.specs.FinMap as map
+use Rattle.std.specs.Ordering.{nat_cmp}
 use Rattle.std.proofs.lemmas.Option.{slice_get_within}
 use Rattle.scheme_model.specs.Identifiers.{Number}
 use Rattle.scheme_model.specs.Ident.{Ident as Identifier}
@@ -27,7 +28,7 @@ use Rattle.core_tree.specs.Names.{IsBinder}
 use Rattle.core_tree.specs.declared.cores.Binder as code_binder
 use Rattle.scheme_model.specs.CountedExpansion.{counted as coded}
 use Rattle.expander.specs.Binds.{local_binders, with_locals, with_names, Binds}
-use Rattle.expander.specs.State.{EnvStands, Stands, most_locals}
+use Rattle.expander.specs.State.{AreBegun, EnvStands, Stands, most_locals}
 use Rattle.expander.specs.Stepped.{taken, after, bound_frames, bound_binders, with_binders}
 use Rattle.expander.specs.declared.scope.UnitScope.{UnitScope}
 use Rattle.expander.proofs.CountingStands.{counted_here, env_recounted, locals_stand}
@@ -140,6 +141,10 @@ fields_stand work u ls s xs ns names room e = (
   subst (λ (n : ℕ). trees.AllMatch (IsBinder work.symbols s.unit s.form) (local_binders n xs) (bound_binders (next_number s s.locals) ns)) (sym e.form.locals) (binders_for work s.unit s.form (s.locals s.form) xs ns names),
 )
 
+bound_begun : (roots : map.FinMap nat_cmp ℕ) (v : Number) (ns : List (Named Identifier)) (fs : Frames) → AreBegun roots fs → AreBegun roots (bound_frames v ns fs)
+bound_begun roots v [] fs h = h
+bound_begun roots v (n ∷ ns) fs h = bound_begun roots (after v) ns (Bind n.name v ∷ fs) h
+
 -- the binders, and the layout after them
 pub record BindersStand (work : Work) (new : UnitScope) (ls : List Frames) (s : ScopedState) (fs : Frames) (ns : List (Named Identifier)) (inner : ℕ) (bs : List code_binder.Binder) : Type 0 where
   pub at : inner ≡ length ls
@@ -162,7 +167,7 @@ binders_stand work old new ls s scope fs xs ns inner binders apart sound names r
     env_recounted s (at_form s.form (λ m. m + length xs) s.locals) s.uses s.nodes s.keywords s.met work.symbols (with_names child top old.form.budget.locals xs) (ls ++ gs ∷ [])
     (subst (λ (n : ℕ). EnvStands work.symbols (with_names child top n xs) (ls ++ gs ∷ []) s) (sym e.form.locals) env) in
     let more = scope_more work (with_locals old (old.form.budget.locals + length xs)) (with_names child top old.form.budget.locals xs) ls gs (taken (length xs) s)
-    (roots_stay child top old.form.budget.locals xs) now (locals_stand work old ls s (length xs) room e) in
+    (roots_stay child top old.form.budget.locals xs) (bound_begun old.env.roots v ns fs (e.begun.frames scope fs at)) now (locals_stand work old ls s (length xs) room e) in
     record {
       at = b.number ∙ sym e.env.count;
       stands = subst (λ (u : UnitScope). Stands work u (ls ++ gs ∷ []) (taken (length ns) s)) (sym b.after)

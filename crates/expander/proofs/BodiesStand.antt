@@ -25,7 +25,7 @@ use Rattle.scope_env.proofs.StandingLaws.{apart_stands, bound_stands, binder_env
 use Rattle.scope_env.proofs.AroundLaws.{older_apart}
 use Rattle.expander.specs.Chains.{body_chain, chain_of, chain_in, uses_in, given_in}
 use Rattle.expander.specs.Binds.{with_locals}
-use Rattle.expander.specs.State.{IsEntered, AreEntered, AreDefined, EnvStands, Stands, most_locals}
+use Rattle.expander.specs.State.{HasBegun, BodiesBegun, IsEntered, AreEntered, AreDefined, EnvStands, Stands, most_locals}
 use Rattle.expander.specs.Stepped.{taken, entered, entered_frames, is_inside, IsOpenBody}
 use Rattle.expander.specs.declared.scope.UnitScope.{UnitScope}
 use Rattle.expander.proofs.CountingStands.{counted_here, locals_stand}
@@ -104,6 +104,7 @@ entered_stands work u ls s e =
       macros = record { there = m.there; idents = m.idents; symbols = m.symbols; free = m.free; known_idents = m.known_idents; known_symbols = m.known_symbols };
       root = e.root;
       own = e.own;
+      begun = record { frames = e.begun.frames; bodies = e.begun.bodies; macros = e.begun.macros };
       form = record {
         number = f.number;
         locals = f.locals;
@@ -125,7 +126,7 @@ pub body_stands : (work : Work) (u : UnitScope) (ls : List Frames) (s : ScopedSt
 body_stands work u ls s scope fs sound at e =
     let new = entered_stands work u ls s e in
     let same = ap (λ c. c ++ chain_of s.definitions fs) (none_defined s s.definitions e.env.defined) in
-    scope_more work u (with_child u.env scope) ls (entered_frames s fs) (entered s) refl
+    scope_more work u (with_child u.env scope) ls (entered_frames s fs) (entered s) refl ((u.root, ap (map.get u.env.roots) (sym e.unit) ∙ e.own), e.begun.frames scope fs at)
     (child_env_stands work.symbols u.env sound ls (entered s) new.env scope fs (entered_frames s fs) at same (now_entered s, are_entered_more s fs (e.env.entered scope fs at)))
     new
 
@@ -232,9 +233,9 @@ module _ (names : Names) (apart : AreToldApart names.idents) (s : ScopedState) (
 
 -- ---- the whole
 
-scopes_after : (work : Work) (u : UnitScope) (env : Environment) (ls : List Frames) (s : ScopedState) (ds : BodyDefinitions) → env.roots ≡ u.env.roots → EnvStands work.symbols env ls (record s { definitions = ds }) → Stands work u ls s →
+scopes_after : (work : Work) (u : UnitScope) (env : Environment) (ls : List Frames) (s : ScopedState) (ds : BodyDefinitions) → env.roots ≡ u.env.roots → BodiesBegun u.env.roots ds → EnvStands work.symbols env ls (record s { definitions = ds }) → Stands work u ls s →
     Stands work (record u { env = env }) ls (record s { definitions = ds })
-scopes_after work u env ls s ds roots now e =
+scopes_after work u env ls s ds roots begun now e =
     let m = e.macros in
     let f = e.form in
     record {
@@ -244,6 +245,7 @@ scopes_after work u env ls s ds roots now e =
       macros = record { there = m.there; idents = m.idents; symbols = m.symbols; free = m.free; known_idents = m.known_idents; known_symbols = m.known_symbols };
       root = e.root;
       own = ap (λ r. map.get r u.unit) roots ∙ e.own;
+      begun = subst (λ r. HasBegun r ls (record s { definitions = ds })) (sym roots) (record { frames = e.begun.frames; bodies = begun; macros = e.begun.macros });
       form = record {
         number = f.number;
         locals = f.locals;
@@ -274,7 +276,7 @@ definition_stands work u ls s scope b fs gs ident n apart sound body is room e =
     defined_env work.symbols apart s body.older scope body.newest d body.uses fs body.others body.around u.env sound before.env p.0 ident (subst (λ (k : ℕ). parent_of u.env k ≡ Some p.0) (sym body.newest) p.1) is in
     let now = with_bound u.env scope ident (Local u.form.budget.locals) in
     let first : Stands work (record u { env = now }) there t =
-    scopes_after work u now there s (d ∷ s.definitions) refl (subst (λ (k : ℕ). EnvStands work.symbols (with_bound u.env scope ident (Local k)) there t) (sym e.form.locals) env) before in
+    scopes_after work u now there s (d ∷ s.definitions) refl ((before.begun.frames (length body.older) frames (get_next body.older [] frames)).0, before.begun.bodies) (subst (λ (k : ℕ). EnvStands work.symbols (with_bound u.env scope ident (Local k)) there t) (sym e.form.locals) env) before in
     let state : taken 1 t ≡ definition_added (Some b) n None gs s = sym (taken_on t 0) ∙ taken_none (record t { locals = at_form s.form suc s.locals }) in
     subst (λ (l : List Frames). Stands work (record (with_locals u (u.form.budget.locals + 1)) { env = now }) l (definition_added (Some b) n None gs s)) (sym body.layout)
     (subst (λ (x : ScopedState). Stands work (record (with_locals u (u.form.budget.locals + 1)) { env = now }) there x) state (locals_stand work (record u { env = now }) there t 1 room first))

@@ -55,6 +55,7 @@ module _ (s : ScopedState) (locals uses nodes : Clock) (keywords : ℕ → List 
     macros = macros_recounted work u.macros ls e.macros;
     root = e.root;
     own = e.own;
+    begun = record { frames = e.begun.frames; bodies = e.begun.bodies; macros = e.begun.macros };
     form = form;
     defined = e.defined;
     known = e.known;

@@ -1,6 +1,6 @@
 -- Definitions of the operation `define`: of a variable, and of a macro, which is kept as what its name means.
 use Rattle.std.proofs.Common.{◌≡◌, ℕ, ◌+◌, ◌≤◌, List, Bool, true, false, cond, Some, None, sym}
-use Rattle.std.specs.BTreeMap.{BTreeMap, get}
+use Rattle.std.specs.BTreeMap.{BTreeMap, get, btree_map_len}
 use Rattle.std.specs.Ordering.{nat_cmp, is_eq}
 use Rattle.scheme_model.specs.Identifiers.{Number}
 use Rattle.scheme_model.specs.Ident.{Ident as Identifier}
@@ -39,15 +39,15 @@ macro_definition_stands work u ls s scope b fs gs ident n ms k r apart told soun
 -- a variable of the unit
 pub own_variable_stands : (work : Work) (u : UnitScope) (ls : List Frames) (s : ScopedState) (fs : Frames) (ident : ℕ) (n : Named Identifier) (defined : BTreeMap ℕ Bool) →
     AreToldApart work.symbols.idents → IsSound u.env → IsIdent work.symbols ident n.name → ((m : ℕ) → get nat_cmp defined m ≡ cond (is_eq (nat_cmp ident m)) (Some false) (get nat_cmp u.defined m)) →
-    Stands work u ls s → Stands work (with_definition u ident defined) ls (definition_added None n None fs s)
-own_variable_stands work u ls s fs ident n defined apart sound is put e = own_definition_stands work u ls s ident n.name n.occ false defined apart sound is put e
+    btree_map_len defined ≡ btree_map_len u.defined + 1 → Stands work u ls s → Stands work (with_definition u ident defined) ls (definition_added None n None fs s)
+own_variable_stands work u ls s fs ident n defined apart sound is put more e = own_definition_stands work u ls s ident n.name n.occ false defined apart sound is put more e
 
 -- a macro of the unit
 pub own_macro_stands : (work : Work) (u : UnitScope) (ls : List Frames) (s : ScopedState) (fs : Frames) (ident : ℕ) (n : Named Identifier) (defined : BTreeMap ℕ Bool) (ms : Macros) (k : Macro) (r : Rules Identifier) →
     AreToldApart work.symbols.idents → AreToldApart work.symbols.symbols → IsSound u.env → IsIdent work.symbols ident n.name →
-    ((m : ℕ) → get nat_cmp defined m ≡ cond (is_eq (nat_cmp ident m)) (Some true) (get nat_cmp u.defined m)) →
+    ((m : ℕ) → get nat_cmp defined m ≡ cond (is_eq (nat_cmp ident m)) (Some true) (get nat_cmp u.defined m)) → btree_map_len defined ≡ btree_map_len u.defined + 1 →
     Keeps u.macros ms u.form.number (Global u.unit ident) k → IsMacro work ls k (record { env = fs; rules = r }) → Stands work u ls s →
     Stands work (with_macros (with_definition u ident defined) ms) ls (definition_added None n (Some r) fs s)
-own_macro_stands work u ls s fs ident n defined ms k r apart told sound is put keeps kept e =
+own_macro_stands work u ls s fs ident n defined ms k r apart told sound is put more keeps kept e =
     kept_stands work (with_definition u ident defined) ls _ ms (Global u.unit ident) (model.Global s.unit n.name) k (record { env = fs; rules = r }) apart told keeps tt (e.unit, is) kept
-    (own_definition_stands work u ls s ident n.name n.occ true defined apart sound is put e)
+    (own_definition_stands work u ls s ident n.name n.occ true defined apart sound is put more e)

@@ -31,6 +31,7 @@ turned_stands work u ls s n f form e =
       macros = record { there = m.there; idents = m.idents; symbols = m.symbols; free = m.free; known_idents = m.known_idents; known_symbols = m.known_symbols };
       root = e.root;
       own = e.own;
+      begun = record { frames = e.begun.frames; bodies = e.begun.bodies; macros = e.begun.macros };
       form = form;
       defined = e.defined;
       known = e.known;

@@ -232,6 +232,7 @@ module _ (old new : Work) (trees : KeepsTrees old new) (names : KeepsNames old.s
       macros = macros_on u.macros ls s e.macros;
       root = e.root;
       own = e.own;
+      begun = e.begun;
       form = form_on u.form s e.form;
       defined = λ n i there. defined_by n i (slice_get old.symbols.idents n) refl there;
       known = λ n k h. longer old.symbols.idents new.symbols.idents names.idents n (e.known n k h);

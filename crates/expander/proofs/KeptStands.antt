@@ -1,16 +1,18 @@
 -- Macros that are kept: what means one in the code is what means it in the state.
 use Rattle.std.proofs.Common.{◌≡◌, ℕ, ◌<◌, ◌==◌, ◌⊎◌, ◌&&◌, nat_eq, List, length, slice_get, Bool, true, false, cond, Option, Some, refl, sym, ap, ◌∙◌, subst, inl, inr, eq-eqb}
 use Rattle.std.specs.Str.{bytes_eq}
+use Rattle.std.specs.FinMap as map
+use Rattle.std.specs.Ordering.{nat_cmp}
 use Rattle.std.proofs.lemmas.Bool.{eqb-true}
 use Rattle.std.proofs.lemmas.Option.{slice_get_within, same_Some}
 use Rattle.std.proofs.lemmas.Slice.Eq.{bytes_eq-Decides}
-use Rattle.scheme_model.specs.Identifiers.{same_number}
+use Rattle.scheme_model.specs.Identifiers.{Number, same_number}
 use Rattle.scheme_model.specs.Ident.{Ident as Identifier, same_ident}
 use Rattle.scheme_model.specs.Meaning.{same_meaning}
 use Rattle.scheme_model.specs.Meaning as model
 use Rattle.scheme_model.specs.Order.{Transformer, is_some}
 use Rattle.scheme_model.specs.ScopedExpansion.{Frames, ScopedState, macro_at}
-use Rattle.scheme_model.proofs.IdentLaws.{ident_told, bool_same}
+use Rattle.scheme_model.proofs.IdentLaws.{ident_told, bool_same, number_told}
 use Rattle.syntax_tree.specs.Names.{Names, AreToldApart}
 use Rattle.syntax_tree.specs.Macros.{IsIdent}
 use Rattle.syntax_tree.specs.Meant.{IsSymbol, IsMeaning}
@@ -20,7 +22,7 @@ use Rattle.syntax_tree.specs.declared.trees.Work.{Work}
 use Rattle.syntax_tree.proofs.RoleLaws.{same_by_number}
 use Rattle.scope_env.specs.Moved.{IsNamed}
 use Rattle.expander.specs.Macros.{macro_in, same_key, IsBound, Keeps}
-use Rattle.expander.specs.State.{IsMacro, IsMacroIfAny, MacrosStand, Stands}
+use Rattle.expander.specs.State.{IsMacro, IsMacroIfAny, MacrosStand, IsBegun, Stands}
 use Rattle.expander.specs.Stepped.{kept, with_macros}
 use Rattle.expander.specs.declared.macros.Macro.{Macro}
 use Rattle.expander.specs.declared.macros.Macros.{Macros}
@@ -213,6 +215,26 @@ module _ (work : Work) (apart : AreToldApart work.symbols.idents) (told : AreTol
     ];
   }
 
+-- what was kept means a local of the unit at work, or no local
+is_begun : (names : Names) (unit form : ℕ) (roots : map.FinMap nat_cmp ℕ) (c : Meaning) (l : model.Meaning) (w : Number) → (r : ℕ) × (map.get roots unit ≡ Some r) → IsMeaning names unit form c l → IsBound c → same_meaning l (model.Local w) ≡ true → IsBegun roots w
+is_begun names unit form roots (Local n) l w root means bound same =
+    let v : Number = record { unit = unit; form = form; count = n } in
+    let told : same_number v w ≡ true = sym (ap (λ (m : model.Meaning). same_meaning m (model.Local w)) means) ∙ same in
+    (root.0, ap (map.get roots) (sym (ap (λ (k : Number). k.unit) (number_told v w told))) ∙ root.1)
+is_begun names unit form roots (Global u n) (model.Local v) w root means bound same = absurd means
+is_begun names unit form roots (Global u n) (model.Global v i) w root means bound same = absurd cc
+is_begun names unit form roots (Global u n) (model.Standard x) w root means bound same = absurd means
+is_begun names unit form roots (Global u n) (model.Free x) w root means bound same = absurd means
+is_begun names unit form roots (Standard n) (model.Local v) w root means bound same = absurd means
+is_begun names unit form roots (Standard n) (model.Global v i) w root means bound same = absurd means
+is_begun names unit form roots (Standard n) (model.Standard x) w root means bound same = absurd cc
+is_begun names unit form roots (Standard n) (model.Free x) w root means bound same = absurd means
+is_begun names unit form roots (Free n) l w root means bound same = absurd bound
+
+begun_by : (roots : map.FinMap nat_cmp ℕ) (w : Number) (t : Transformer Frames Identifier) (o : Option (Transformer Frames Identifier)) (q : Bool) → (q ≡ true → IsBegun roots w) → (is_some o ≡ true → IsBegun roots w) → is_some (cond q (Some t) o) ≡ true → IsBegun roots w
+begun_by roots w t o true now before h = now refl
+begun_by roots w t o false now before h = before h
+
 -- a macro more, by what means it in the form at work
 pub kept_stands : (work : Work) (u : UnitScope) (ls : List Frames) (s : ScopedState) (ms : Macros) (c : Meaning) (l : model.Meaning) (k : Macro) (t : Transformer Frames Identifier) →
     AreToldApart work.symbols.idents → AreToldApart work.symbols.symbols → Keeps u.macros ms u.form.number c k → IsBound c → IsMeaning work.symbols s.unit s.form c l → IsMacro work ls k t →
@@ -238,6 +260,12 @@ kept_stands work u ls s ms c l k t apart told keeps bound means is e =
       macros = kept_macros work apart told ls s u.macros ms s.form c l k t (subst (λ (n : ℕ). Keeps u.macros ms n c k) e.form.number keeps) bound means is e.macros;
       root = e.root;
       own = e.own;
+      begun = record {
+        frames = e.begun.frames;
+        bodies = e.begun.bodies;
+        macros = λ w h. begun_by u.env.roots w t (macro_at s.macros (model.Local w)) (same_meaning l (model.Local w))
+            (is_begun work.symbols s.unit s.form u.env.roots c l w (u.root, ap (map.get u.env.roots) (sym e.unit) ∙ e.own) means bound) (e.begun.macros w) h;
+      };
       form = record {
         number = f.number;
         locals = f.locals;

@@ -22,7 +22,7 @@ use Rattle.scope_env.proofs.Changes.{same_parent}
 use Rattle.scope_env.proofs.StandingLaws.{child_stands, child_beside, child_env, apart_stands, bound_stands, local_bound_env}
 use Rattle.scope_env.proofs.AroundLaws.{older_apart, child_parent}
 use Rattle.expander.specs.Chains.{chain_in, uses_in, given_in}
-use Rattle.expander.specs.State.{AreEntered, EnvStands, IsMacroIfAny, Stands}
+use Rattle.expander.specs.State.{AreBegun, HasBegun, AreEntered, EnvStands, IsMacroIfAny, Stands}
 use Rattle.expander.specs.declared.macros.Macro.{Macro}
 use Rattle.expander.specs.declared.scope.UnitScope.{UnitScope}
 
@@ -127,8 +127,8 @@ if_any_stays work ls gs None (Some m) h = h
 if_any_stays work ls gs (Some k) None h = h
 if_any_stays work ls gs (Some k) (Some m) h = record { scope = get_front ls (gs ∷ []) k.scope m.env h.scope; checked = h.checked; rules = h.rules; leaves = h.leaves }
 
-pub scope_more : (work : Work) (u : UnitScope) (env : Environment) (ls : List Frames) (gs : Frames) (s : ScopedState) → env.roots ≡ u.env.roots → EnvStands work.symbols env (ls ++ gs ∷ []) s → Stands work u ls s → Stands work (record u { env = env }) (ls ++ gs ∷ []) s
-scope_more work u env ls gs s roots now e =
+pub scope_more : (work : Work) (u : UnitScope) (env : Environment) (ls : List Frames) (gs : Frames) (s : ScopedState) → env.roots ≡ u.env.roots → AreBegun u.env.roots gs → EnvStands work.symbols env (ls ++ gs ∷ []) s → Stands work u ls s → Stands work (record u { env = env }) (ls ++ gs ∷ []) s
+scope_more work u env ls gs s roots begun now e =
     let m = e.macros in
     record {
       unit = e.unit;
@@ -144,6 +144,11 @@ scope_more work u env ls gs s roots now e =
       };
       root = get_front ls (gs ∷ []) u.root [] e.root;
       own = ap (λ r. map.get r u.unit) roots ∙ e.own;
+      begun = subst (λ r. HasBegun r (ls ++ gs ∷ []) s) (sym roots) (record {
+        frames = λ n fs there. elim (push_cases ls gs n fs there) [ inl old ↦ e.begun.frames n fs old | inr last ↦ subst (AreBegun u.env.roots) (sym last.1) begun ];
+        bodies = e.begun.bodies;
+        macros = e.begun.macros;
+      });
       form = e.form;
       defined = e.defined;
       known = e.known;

@@ -23,3 +23,4 @@ pub mod ToldLaws
 pub mod LeafLaws
 pub mod SeenLaws
 pub mod ChoiceLaws
+pub mod OutcomeLaws

@@ -1,7 +1,7 @@
 -- A definition of the unit: its own scope binds it, the table has it, and no binders change.
 use Rattle.std.proofs.Common.{◌≡◌, ℕ, suc, ◌+◌, ◌<◌, ◌==◌, ◌&&◌, nat_eq, List, ◌∷◌, length, Bool, true, false, cond, Option, Some, refl, sym, ap, ◌∙◌, subst, arith, eq-eqb}
 use Rattle.std.specs.Option.{option_map}
-use Rattle.std.specs.BTreeMap.{BTreeMap, get}
+use Rattle.std.specs.BTreeMap.{BTreeMap, get, btree_map_len}
 use Rattle.std.specs.FinMap as map
 use Rattle.std.specs.declared.cmp.Ordering.{Ordering}
 use Rattle.std.specs.declared.cmp.Ordering.TheVariants.{Less, Equal, Greater}
@@ -101,9 +101,9 @@ known_by names ident n i k v o false other is before h = before h
 -- ---- the whole
 
 pub own_definition_stands : (work : Work) (u : UnitScope) (ls : List Frames) (s : ScopedState) (ident : ℕ) (i : Identifier) (occ : Option Occ) (keyword : Bool) (defined : BTreeMap ℕ Bool) →
-    AreToldApart work.symbols.idents → IsSound u.env → IsIdent work.symbols ident i → ((n : ℕ) → get nat_cmp defined n ≡ cond (is_eq (nat_cmp ident n)) (Some keyword) (get nat_cmp u.defined n)) → Stands work u ls s →
+    AreToldApart work.symbols.idents → IsSound u.env → IsIdent work.symbols ident i → ((n : ℕ) → get nat_cmp defined n ≡ cond (is_eq (nat_cmp ident n)) (Some keyword) (get nat_cmp u.defined n)) → btree_map_len defined ≡ btree_map_len u.defined + 1 → Stands work u ls s →
     Stands work (with_definition u ident defined) ls (defined_here i occ keyword s)
-own_definition_stands work u ls s ident i occ keyword defined apart sound is put e =
+own_definition_stands work u ls s ident i occ keyword defined apart sound is put more e =
     let d : Defined = record { unit = s.unit; form = s.form; ident = i; keyword = keyword; occ = occ } in
     let m = e.macros in
     let f = e.form in
@@ -117,6 +117,7 @@ own_definition_stands work u ls s ident i occ keyword defined apart sound is put
       macros = record { there = m.there; idents = m.idents; symbols = m.symbols; free = m.free; known_idents = m.known_idents; known_symbols = m.known_symbols };
       root = e.root;
       own = e.own;
+      begun = record { frames = e.begun.frames; bodies = e.begun.bodies; macros = e.begun.macros };
       form = record {
         number = f.number;
         locals = f.locals;
@@ -134,5 +135,5 @@ own_definition_stands work u ls s ident i occ keyword defined apart sound is put
           ∙ (sym (keyword_by d (same_ident i j) (defined_in s.table s.unit j))
           ∙ (λ k. option_map (λ (x : Defined). x.keyword) (cond (sym itself k && same_ident i j) (Some d) (defined_in s.table s.unit j)))));
       known = λ n k h. known_by work.symbols ident n i k keyword (get nat_cmp u.defined n) (nat_eq n ident) refl is (e.known n k) (sym (found n) ∙ h);
-      count = let one : u.count + 1 ≡ suc (definition_count s.table s.unit) = omega (arith, e.count) in one ∙ ap (λ b. cond b (suc (definition_count s.table s.unit)) (definition_count s.table s.unit)) (sym itself);
+      count = let one : btree_map_len defined ≡ suc (definition_count s.table s.unit) = omega (arith, more, e.count) in one ∙ ap (λ b. cond b (suc (definition_count s.table s.unit)) (definition_count s.table s.unit)) (sym itself);
     }

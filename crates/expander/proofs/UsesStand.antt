@@ -99,6 +99,7 @@ use_begins work u ls s scope fs at room e =
       macros = record { there = m.there; idents = m.idents; symbols = m.symbols; free = m.free; known_idents = m.known_idents; known_symbols = m.known_symbols };
       root = e.root;
       own = e.own;
+      begun = record { frames = e.begun.frames; bodies = e.begun.bodies; macros = e.begun.macros };
       form = record {
         number = f.number;
         locals = f.locals;

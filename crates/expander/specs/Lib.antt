@@ -11,3 +11,15 @@ pub mod Marked
 pub mod Told
 pub mod Seen
 pub mod Asks
+pub mod Searched
+pub mod Kept
+pub mod Used
+pub mod RulesTold
+pub mod Records
+pub mod Defining
+pub mod Passed
+pub mod CoreSteps
+pub mod Ready
+pub mod Bodies
+pub mod Expanded
+pub mod Units

@@ -3,11 +3,11 @@
 use Rattle.std.specs.Prelude.{◌≡◌, ℕ, ◌+◌, ◌*◌, ◌^◌, ◌<◌, ◌≤◌, List, [], ◌∷◌, Bool, true, false, reverse, length, slice_get, Option, Some, None}
 use Rattle.std.specs.Option.{option_map}
 use Rattle.std.specs.FinMap as map
-use Rattle.std.specs.BTreeMap.{get}
+use Rattle.std.specs.BTreeMap.{get, btree_map_len}
 use Rattle.std.specs.Ordering.{nat_cmp}
 use Rattle.scheme_model.specs.Identifiers.{Number}
 use Rattle.scheme_model.specs.Ident.{Ident as Identifier}
-use Rattle.scheme_model.specs.Meaning.{Meaning, Global, Standard, Free}
+use Rattle.scheme_model.specs.Meaning.{Meaning, Local, Global, Standard, Free}
 use Rattle.scheme_model.specs.Leaves.{Leaf, leaves_of}
 use Rattle.scheme_model.specs.Order.{Transformer, is_some, max_uses, max_nodes}
 use Rattle.scheme_model.specs.Substitution.{defined_in, definition_count}
@@ -73,6 +73,28 @@ abbrev pub AreDefined : ScopedState → BodyDefinitions → Type 0
 AreDefined s [] = Unit {0}
 AreDefined s (d ∷ ds) = IsEntered s d.body × AreDefined s ds
 
+-- ---- units that were begun
+
+-- a number is of a unit that was begun
+abbrev pub IsBegun : map.FinMap nat_cmp ℕ → Number → Type 0
+IsBegun roots v = (root : ℕ) × (map.get roots v.unit ≡ Some root)
+
+-- so are the bodies around a place
+abbrev pub AreBegun : map.FinMap nat_cmp ℕ → Frames → Type 0
+AreBegun roots [] = Unit {0}
+AreBegun roots (Bind x v ∷ fs) = AreBegun roots fs
+AreBegun roots (Enter b u ∷ fs) = IsBegun roots b × AreBegun roots fs
+
+abbrev pub BodiesBegun : map.FinMap nat_cmp ℕ → BodyDefinitions → Type 0
+BodiesBegun roots [] = Unit {0}
+BodiesBegun roots (d ∷ ds) = IsBegun roots d.body × BodiesBegun roots ds
+
+-- so no number of a unit that is still to be begun is in use
+pub record HasBegun (roots : map.FinMap nat_cmp ℕ) (ls : List Frames) (s : ScopedState) : Type 0 where
+  pub frames : (n : ℕ) (fs : Frames) → slice_get ls n ≡ Some fs → AreBegun roots fs
+  pub bodies : BodiesBegun roots s.definitions
+  pub macros : (v : Number) → is_some (macro_at s.macros (Local v)) ≡ true → IsBegun roots v
+
 -- ---- scopes
 
 -- each scope has the binders of its frames, the scope of each use is that of its macro's frames, and units give what is given;
@@ -120,7 +142,22 @@ pub record Stands (work : Work) (scope : code.UnitScope) (ls : List Frames) (s :
   pub macros : MacrosStand work scope.macros ls s
   pub root : slice_get ls scope.root ≡ Some []
   pub own : map.get scope.env.roots scope.unit ≡ Some scope.root
+  pub begun : HasBegun scope.env.roots ls s
   pub form : FormStands work.symbols scope.form s
   pub defined : (n : ℕ) (i : Identifier) → IsIdent work.symbols n i → get nat_cmp scope.defined n ≡ option_map (λ d. d.keyword) (defined_in s.table s.unit i)
   pub known : (n : ℕ) (k : Bool) → get nat_cmp scope.defined n ≡ Some k → n < length work.symbols.idents
-  pub count : scope.count ≡ definition_count s.table s.unit
+  pub count : btree_map_len scope.defined ≡ definition_count s.table s.unit
+
+-- ---- between two calls, when no form is at work
+
+pub record Rests (work : Work) (scope : code.UnitScope) (ls : List Frames) (s : ScopedState) : Type 0 where
+  pub unit : scope.unit ≡ s.unit
+  pub program : is_program scope.kind ≡ s.program
+  pub env : EnvStands work.symbols scope.env ls s
+  pub macros : MacrosStand work scope.macros ls s
+  pub root : slice_get ls scope.root ≡ Some []
+  pub own : map.get scope.env.roots scope.unit ≡ Some scope.root
+  pub begun : HasBegun scope.env.roots ls s
+  pub defined : (n : ℕ) (i : Identifier) → IsIdent work.symbols n i → get nat_cmp scope.defined n ≡ option_map (λ d. d.keyword) (defined_in s.table s.unit i)
+  pub known : (n : ℕ) (k : Bool) → get nat_cmp scope.defined n ≡ Some k → n < length work.symbols.idents
+  pub count : btree_map_len scope.defined ≡ definition_count s.table s.unit

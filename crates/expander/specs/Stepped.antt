@@ -110,9 +110,9 @@ used fs s = record s { uses = at_form s.form suc s.uses; places = record { use_n
 
 -- ---- definitions of the unit
 
--- the unit's own scope binds an identifier to its definition, and one definition more is counted
+-- the unit's own scope binds an identifier to its definition
 abbrev pub with_definition : UnitScope → ℕ → BTreeMap ℕ Bool → UnitScope
-with_definition u ident defined = record u { env = with_bound u.env u.root ident (Global u.unit ident); defined = defined; count = u.count + 1 }
+with_definition u ident defined = record u { env = with_bound u.env u.root ident (Global u.unit ident); defined = defined }
 
 abbrev pub defined_here : Identifier → Option Occ → Bool → ScopedState → ScopedState
 defined_here i occ keyword s = record s { table = record { unit = s.unit; form = s.form; ident = i; keyword = keyword; occ = occ } ∷ s.table }

@@ -1,6 +1,30 @@
 //! What bodies and local macros do before their parts are expanded (R7RS 4.3.1, 5.3.2).
-ghost use Rattle.std.specs.Prelude.{◌≡◌, map, reverse, IfOk};
+ghost use Rattle.std.specs.Prelude.{◌≡◌, map, reverse, IfOk, ℕ, ◌+◌, ◌^◌, ◌≤◌, List, OnOk, length};
 ghost use Rattle.expander.specs.Seen.{form_at};
+ghost use Rattle.scheme_model.specs.ExpansionFaults.{Named};
+ghost use Rattle.scheme_model.specs.Ident.{Ident as Identifier};
+ghost use Rattle.scheme_model.specs.Identifiers.{Number};
+ghost use Rattle.scheme_model.specs.Measures.{trees_size};
+ghost use Rattle.scheme_model.specs.Requirements.{Known};
+ghost use Rattle.scheme_model.specs.Trees.{Trees};
+ghost use Rattle.scheme_model.specs.Steps.{done};
+ghost use Rattle.scheme_model.specs.Cores.{Core as ModelCore, Set};
+ghost use Rattle.scheme_model.specs.Order.{RulesParts, target_of};
+ghost use Rattle.scheme_model.specs.Expression.{heads, keep_all, local_defs};
+ghost use Rattle.scheme_model.specs.ScopedExpansion.{Frames, ScopedState};
+ghost use Rattle.syntax_tree.specs.Looks.{PartsStand};
+ghost use Rattle.syntax_tree.specs.Works.{IsOpened};
+ghost use Rattle.syntax_tree.specs.declared.trees.table.Region.{Region as AnyRegion};
+ghost use Rattle.core_forms.specs.Parts.{AreMacros, IsName};
+ghost use Rattle.core_tree.specs.Cores.{CoreStands};
+ghost use Rattle.core_tree.specs.Names.{AllMatch, IsMacro as IsMacroDef};
+ghost use Rattle.expander.specs.Bodies.{AreLocalMacros, BodyFor, CanEnter, CanKeep, HaveNumbers, HaveRules, body_pass};
+ghost use Rattle.expander.specs.Searched.{searched};
+ghost use Rattle.expander.specs.State.{Stands};
+ghost use Rattle.expander.specs.Outcomes.{At as Stand, CanLook, EndsHere, Runs};
+ghost use Rattle.expander.specs.RulesTold.{Tests};
+ghost use Rattle.expander.specs.Defining.{HasNumber};
+
 
 use crate::asked::Asked;
 use crate::expressions::At;
@@ -60,7 +84,13 @@ impl UnitScope {
         region: &Region,
         at: At,
         forms: &[Tree],
-    ) -> Result<(ScopeNo, Vec<Kept>), ExpandFault> {
+    ) -> Result<(ScopeNo, Vec<Kept>), ExpandFault>
+        requires opened { IsOpened work.old region.now }
+        requires can { CanEnter work.old region.now self.old at.scope forms.now }
+        ensures passed { (ts : Trees Identifier) (turns : ℕ) → PartsStand work.old forms.now ts → trees_size ts ≤ 4194304 → 2 ^ 39 ≤ turns →
+            Runs (BodyFor work.new region.now self.new.unit self.new.form.number) work.old work.new region.now self.old self.new at.scope result (body_pass turns at.here ts) }
+        ensures locals { OnOk result (self.new.form.budget.locals ≤ self.old.form.budget.locals + 2 ^ 38) }
+    {
         let scope = self.env.child(at.scope)?;
         let mut pending = Pending {
             todo: forms_at(alloc, at.here, forms)?,
@@ -83,7 +113,12 @@ impl UnitScope {
         scope: ScopeNo,
         here: Option<Occ>,
         macros: &[LocalMacro],
-    ) -> Result<(), ExpandFault> {
+    ) -> Result<(), ExpandFault>
+        requires look { CanLook work.now self.now scope }
+        requires rules { HaveRules work.now macros.now }
+        ensures { (known : Known) (ls : List Frames) (s : ScopedState) (fs : Frames) (ns : List (Named Identifier)) (ts : Trees Identifier) → Stands work.now self.now ls s →
+            Stand ls scope fs → AreMacros work.now macros.now ns ts → Tests work.now s result (heads (searched known) here fs ts s) }
+    {
         for local in macros {
             self.test_rules(work, scope, here, local.rules)?;
         }
@@ -99,7 +134,15 @@ impl UnitScope {
         here: Option<Occ>,
         macros: &[LocalMacro],
         binders: &[Binder],
-    ) -> Result<(), ExpandFault> {
+    ) -> Result<(), ExpandFault>
+        requires look { CanLook work.now self.old scope }
+        requires rules { HaveRules work.now macros.now }
+        requires binders { length binders.now ≡ length macros.now }
+        ensures kept { (known : Known) (region : AnyRegion) (ls : List Frames) (s : ScopedState) (fs : Frames) (ns : List (Named Identifier)) (ts : Trees Identifier) (vs : List Number) (rs : List (RulesParts Identifier)) →
+            Stands work.now self.old ls s → Stand ls scope fs → AreMacros work.now macros.now ns ts → HaveNumbers s binders.now vs → heads (searched known) here fs ts s ≡ done rs s →
+            EndsHere (λ (kept : Unit {0}) (also : Unit {0}). Unit {0}) work.now work.now region self.old self.new ls result (keep_all (searched known) here fs vs ts rs s) }
+        ensures counts { OnOk result ((self.new.form.budget.locals ≡ self.old.form.budget.locals) × (self.new.form.budget.uses ≡ self.old.form.budget.uses)) }
+    {
         for k in 0..macros.len() {
             let kept = self.read_macro(alloc, work, scope, here, macros[k].rules)?;
             self.macros.keep(
@@ -117,7 +160,12 @@ impl UnitScope {
         alloc: Global,
         work: &Work,
         binders: &[Binder],
-    ) -> Mem<Vec<MacroDef>> {
+    ) -> Mem<Vec<MacroDef>>
+        requires { CanKeep work.now self.now binders.now }
+        ensures { (known : Known) (ls : List Frames) (s : ScopedState) (vs : List Number) (ns : List (Named Identifier)) → Stands work.now self.now ls s →
+            AreLocalMacros work.now s binders.now vs ns →
+            IfOk result (λ defs. AllMatch (IsMacroDef work.now s.unit s.form) defs.items (local_defs (searched known) s vs ns)) }
+    {
         let mut defs = Vec::new(alloc);
         for binder in binders {
             let def = self.macro_def(alloc, work, *binder, Meaning::Local(binder.number))?;
@@ -134,7 +182,13 @@ impl UnitScope {
         at: At,
         name: NamePart,
         value: Core,
-    ) -> Mem<Core> {
+    ) -> Mem<Core>
+        requires look { CanLook work.now self.now at.scope }
+        requires name { HasNumber work.now name }
+        ensures { (known : Known) (ls : List Frames) (s : ScopedState) (fs : Frames) (n : Named Identifier) (m : ModelCore) → Stands work.now self.now ls s → Stand ls at.scope fs →
+            IsName work.now name n → CoreStands work.now s.unit s.form value m →
+            IfOk result (λ core. CoreStands work.now s.unit s.form core (Set (target_of (searched known) fs s n.name n.occ) m)) }
+    {
         Ok(Core::Set {
             target: self.target(work, at.scope, name),
             value: Box::new(alloc, value)?,

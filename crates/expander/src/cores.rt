@@ -1,4 +1,28 @@
 //! The parts of expressions, expanded: procedures, bodies, local macros (R7RS 4.1.4, 4.2.3, 4.3.1, 5.3.2).
+ghost use Rattle.std.specs.Prelude.{◌≡◌, ℕ, ◌+◌, ◌*◌, ◌^◌, ◌≤◌, List, Some, OnOk, length};
+ghost use Rattle.scheme_model.specs.ExpansionFaults.{Named};
+ghost use Rattle.scheme_model.specs.Ident.{Ident as Identifier};
+ghost use Rattle.scheme_model.specs.Keywords.{CoreKeyword as ModelKeyword};
+ghost use Rattle.scheme_model.specs.Requirements.{Known};
+ghost use Rattle.scheme_model.specs.Trees.{Tree as ModelTree, Trees};
+ghost use Rattle.scheme_model.specs.Shapes.{Clause as ModelClause, LocalMacros};
+ghost use Rattle.scheme_model.specs.Order.{Item};
+ghost use Rattle.scheme_model.specs.Expression.{whole, body, expand, each_of, procedure, clauses, lambda, sequence, let_syntax, letrec_syntax, item_part, parts};
+ghost use Rattle.syntax_tree.specs.Works.{IsOpened, StandsFor};
+ghost use Rattle.syntax_tree.specs.Looks.{PartsStand, AllNamed};
+ghost use Rattle.core_forms.specs.Ends.{keyword_as, ShapeFor};
+ghost use Rattle.core_forms.specs.Forms.{Shape};
+ghost use Rattle.core_forms.specs.Parts.{AreMacros};
+ghost use Rattle.core_forms.specs.Named.{ShapeNamed};
+ghost use Rattle.core_tree.specs.Cores.{CoreStands, CoresStand, ClausesStand, PartStands, PartsStand as PartsOfCores};
+ghost use Rattle.core_tree.specs.Names.{AllMatch};
+ghost use Rattle.expander.specs.CoreSteps.{core_step, local_step};
+ghost use Rattle.expander.specs.Searched.{searched};
+ghost use Rattle.expander.specs.Kept.{ClauseFor, KeptFor};
+ghost use Rattle.expander.specs.Passed.{ShapeFits};
+ghost use Rattle.expander.specs.Outcomes.{CanLook, IsAtWork, IsEnough, IsEnoughBelow, HasRoom, Runs, Spends};
+ghost use Rattle.expander.specs.Expanded.{AreAtWork, ClauseStands, macros_step, ShapeAtWork, ClauseAtWork, ClausesAtWork, KeptAtWork, AreKeptAtWork, MacrosAtWork};
+
 use crate::bodies::{in_place, names_of};
 use crate::counting::{code, fails};
 use crate::expressions::{At, Ready};
@@ -22,7 +46,15 @@ impl UnitScope {
         region: &Region,
         at: At,
         form: Tree,
-    ) -> Result<Core, ExpandFault> {
+    ) -> Result<Core, ExpandFault>
+        requires opened { IsOpened work.old region.now }
+        requires look { CanLook work.old self.old at.scope }
+        requires form { IsAtWork work.old region.now form }
+        requires room { HasRoom (2 ^ 43) self.old }
+        ensures runs { (t : ModelTree Identifier) (turns : ℕ) → StandsFor work.old form t → IsEnough at.depth self.old.form.budget.uses turns →
+            Runs (λ ls. CoreStands work.new self.new.unit self.new.form.number) work.old work.new region.now self.old self.new at.scope result (λ known fs. expand (searched known) turns at.depth at.here fs (whole t)) }
+        ensures locals { OnOk result (Spends 0 self.old self.new) }
+    {
         let (form, here) = self.settle(alloc, work, region, at, form)?;
         let at = At {
             scope: at.scope,
@@ -48,7 +80,15 @@ impl UnitScope {
         region: &Region,
         at: At,
         parts: &[Tree],
-    ) -> Result<Vec<Core>, ExpandFault> {
+    ) -> Result<Vec<Core>, ExpandFault>
+        requires opened { IsOpened work.old region.now }
+        requires look { CanLook work.old self.old at.scope }
+        requires parts { AreAtWork work.old region.now parts.now }
+        requires room { HasRoom (2 ^ 43) self.old }
+        ensures runs { (ts : List (ModelTree Identifier)) (turns : ℕ) → AllMatch (StandsFor work.old) parts.now ts → IsEnough at.depth self.old.form.budget.uses turns →
+            Runs (λ ls cs ms. CoresStand work.new self.new.unit self.new.form.number cs.items ms) work.old work.new region.now self.old self.new at.scope result (λ known fs. each_of (λ t. expand (searched known) turns at.depth at.here fs (whole t)) ts) }
+        ensures locals { OnOk result (Spends 0 self.old self.new) }
+    {
         let mut cores = Vec::new(alloc);
         for part in parts {
             let core = self.expand(alloc, work, region, at, *part)?;
@@ -67,7 +107,16 @@ impl UnitScope {
         at: At,
         core: CoreKeyword,
         shape: CoreShape,
-    ) -> Result<Core, ExpandFault> {
+    ) -> Result<Core, ExpandFault>
+        requires opened { IsOpened work.old region.now }
+        requires look { CanLook work.old self.old at.scope }
+        requires core { (c : ModelKeyword) × (keyword_as core ≡ Some c) }
+        requires shape { ShapeAtWork work.old region.now shape }
+        requires room { HasRoom (2 ^ 43) self.old }
+        ensures runs { (c : ModelKeyword) (m : Shape) (turns : ℕ) → keyword_as core ≡ Some c → ShapeFor work.old shape m → IsEnoughBelow at.depth self.old.form.budget.uses turns →
+            Runs (λ ls. CoreStands work.new self.new.unit self.new.form.number) work.old work.new region.now self.old self.new at.scope result (λ known fs. core_step (expand (searched known) turns) (searched known) at.depth at.here fs c m) }
+        ensures locals { OnOk result (Spends 0 self.old self.new) }
+    {
         match shape {
             CoreShape::Quasi {
                 datum,
@@ -126,7 +175,15 @@ impl UnitScope {
         region: &Region,
         at: At,
         clause: &ClauseShape,
-    ) -> Result<Clause, ExpandFault> {
+    ) -> Result<Clause, ExpandFault>
+        requires opened { IsOpened work.old region.now }
+        requires look { CanLook work.old self.old at.scope }
+        requires clause { ClauseAtWork work.old region.now clause.now }
+        requires room { HasRoom (2 ^ 43) self.old }
+        ensures runs { (c : ModelClause Identifier) (turns : ℕ) → ClauseFor work.old region.now clause.now c → IsEnough at.depth self.old.form.budget.uses turns →
+            Runs (λ ls. ClauseStands work.new self.new.unit self.new.form.number) work.old work.new region.now self.old self.new at.scope result (λ known fs. procedure (expand (searched known) turns) (searched known) at.depth at.here fs c) }
+        ensures locals { OnOk result (Spends 0 self.old self.new) }
+    {
         let (scope, binders) = self.bind_names(at.scope, &clause.formals.names)?;
         let inside = At {
             scope,
@@ -149,10 +206,18 @@ impl UnitScope {
         work: &mut Work,
         region: &Region,
         at: At,
-        clauses: &[ClauseShape],
-    ) -> Result<Vec<Clause>, ExpandFault> {
+        shapes: &[ClauseShape],
+    ) -> Result<Vec<Clause>, ExpandFault>
+        requires opened { IsOpened work.old region.now }
+        requires look { CanLook work.old self.old at.scope }
+        requires clauses { ClausesAtWork work.old region.now shapes.now }
+        requires room { HasRoom (2 ^ 43) self.old }
+        ensures runs { (cs : List (ModelClause Identifier)) (turns : ℕ) → AllMatch (ClauseFor work.old region.now) shapes.now cs → IsEnough at.depth self.old.form.budget.uses turns →
+            Runs (λ ls xs ms. ClausesStand work.new self.new.unit self.new.form.number xs.items ms) work.old work.new region.now self.old self.new at.scope result (λ known fs. clauses (expand (searched known) turns) (searched known) at.depth at.here fs cs) }
+        ensures locals { OnOk result (Spends 0 self.old self.new) }
+    {
         let mut all = Vec::new(alloc);
-        for clause in clauses {
+        for clause in shapes {
             let next = self.procedure(alloc, work, region, at, clause)?;
             all.push(next)?;
         }
@@ -168,7 +233,15 @@ impl UnitScope {
         region: &Region,
         at: At,
         forms: &[Tree],
-    ) -> Result<Core, ExpandFault> {
+    ) -> Result<Core, ExpandFault>
+        requires opened { IsOpened work.old region.now }
+        requires look { CanLook work.old self.old at.scope }
+        requires forms { AreAtWork work.old region.now forms.now }
+        requires room { HasRoom (2 ^ 42) self.old }
+        ensures runs { (ts : Trees Identifier) (turns : ℕ) → PartsStand work.old forms.now ts → IsEnough at.depth self.old.form.budget.uses turns →
+            Runs (λ ls. CoreStands work.new self.new.unit self.new.form.number) work.old work.new region.now self.old self.new at.scope result (λ known fs. expand (searched known) turns at.depth at.here fs (body ts)) }
+        ensures locals { OnOk result (Spends (2 ^ 43) self.old self.new) }
+    {
         let below = self.below(at, 1)?;
         let (scope, aside) = self.pass_body(alloc, work, region, below, forms)?;
         let inside = At {
@@ -188,7 +261,15 @@ impl UnitScope {
         region: &Region,
         at: At,
         aside: &[Kept],
-    ) -> Result<Vec<CorePart>, ExpandFault> {
+    ) -> Result<Vec<CorePart>, ExpandFault>
+        requires opened { IsOpened work.old region.now }
+        requires look { CanLook work.old self.old at.scope }
+        requires aside { AreKeptAtWork work.old region.now self.old aside.now }
+        requires room { HasRoom (2 ^ 43) self.old }
+        ensures runs { (is : List (Item Identifier)) (turns : ℕ) → AllMatch (KeptFor work.old region.now self.old.unit self.old.form.number) aside.now is → IsEnough at.depth self.old.form.budget.uses turns →
+            Runs (λ ls ps ms. PartsOfCores work.new self.new.unit self.new.form.number ps.items ms) work.old work.new region.now self.old self.new at.scope result (λ known fs. parts (item_part (expand (searched known) turns) (searched known) at.depth fs) is) }
+        ensures locals { OnOk result (Spends 0 self.old self.new) }
+    {
         let mut parts = Vec::new(alloc);
         for kept in aside {
             let part = self.expand_kept_item(alloc, work, region, at, kept)?;
@@ -206,7 +287,15 @@ impl UnitScope {
         region: &Region,
         at: At,
         kept: &Kept,
-    ) -> Result<CorePart, ExpandFault> {
+    ) -> Result<CorePart, ExpandFault>
+        requires opened { IsOpened work.old region.now }
+        requires look { CanLook work.old self.old at.scope }
+        requires kept { KeptAtWork work.old region.now self.old kept.now }
+        requires room { HasRoom (2 ^ 43) self.old }
+        ensures runs { (i : Item Identifier) (turns : ℕ) → KeptFor work.old region.now self.old.unit self.old.form.number kept.now i → IsEnough at.depth self.old.form.budget.uses turns →
+            Runs (λ ls. PartStands work.new self.new.unit self.new.form.number) work.old work.new region.now self.old self.new at.scope result (λ known fs. item_part (expand (searched known) turns) (searched known) at.depth fs i) }
+        ensures locals { OnOk result (Spends 0 self.old self.new) }
+    {
         match kept {
             Kept::Expression(form) => Ok(CorePart::Expression(self.expand(alloc, work, region, in_place(at, form.here), form.tree)?)),
             Kept::Value(binder, form) => {
@@ -250,7 +339,15 @@ impl UnitScope {
         region: &Region,
         at: At,
         clause: &ClauseShape,
-    ) -> Result<Core, ExpandFault> {
+    ) -> Result<Core, ExpandFault>
+        requires opened { IsOpened work.old region.now }
+        requires look { CanLook work.old self.old at.scope }
+        requires clause { ClauseAtWork work.old region.now clause.now }
+        requires room { HasRoom (2 ^ 43) self.old }
+        ensures runs { (c : ModelClause Identifier) (turns : ℕ) → ClauseFor work.old region.now clause.now c → IsEnoughBelow at.depth self.old.form.budget.uses turns →
+            Runs (λ ls. CoreStands work.new self.new.unit self.new.form.number) work.old work.new region.now self.old self.new at.scope result (λ known fs. lambda (expand (searched known) turns) (searched known) at.depth at.here fs c) }
+        ensures locals { OnOk result (Spends 0 self.old self.new) }
+    {
         let below = self.below(at, 1)?;
         Ok(Core::Lambda(self.procedure(alloc, work, region, below, clause)?))
     }
@@ -264,7 +361,15 @@ impl UnitScope {
         region: &Region,
         at: At,
         forms: &[Tree],
-    ) -> Result<Core, ExpandFault> {
+    ) -> Result<Core, ExpandFault>
+        requires opened { IsOpened work.old region.now }
+        requires look { CanLook work.old self.old at.scope }
+        requires forms { AreAtWork work.old region.now forms.now }
+        requires room { HasRoom (2 ^ 43) self.old }
+        ensures runs { (ts : Trees Identifier) (turns : ℕ) → PartsStand work.old forms.now ts → IsEnoughBelow at.depth self.old.form.budget.uses turns →
+            Runs (λ ls. CoreStands work.new self.new.unit self.new.form.number) work.old work.new region.now self.old self.new at.scope result (λ known fs. sequence (expand (searched known) turns) (searched known) at.depth at.here fs ts) }
+        ensures locals { OnOk result (Spends 0 self.old self.new) }
+    {
         let below = self.below(at, 1)?;
         let mut parts = Vec::new(alloc);
         for form in forms {
@@ -285,7 +390,16 @@ impl UnitScope {
         recursive: bool,
         macros: &[LocalMacro],
         forms: &[Tree],
-    ) -> Result<Core, ExpandFault> {
+    ) -> Result<Core, ExpandFault>
+        requires opened { IsOpened work.old region.now }
+        requires look { CanLook work.old self.old at.scope }
+        requires macros { MacrosAtWork work.old macros.now }
+        requires forms { AreAtWork work.old region.now forms.now }
+        requires room { HasRoom (2 ^ 43) self.old }
+        ensures runs { (m : LocalMacros Identifier) (turns : ℕ) → AreMacros work.old macros.now m.names m.rules → PartsStand work.old forms.now m.body → IsEnoughBelow at.depth self.old.form.budget.uses turns →
+            Runs (λ ls. CoreStands work.new self.new.unit self.new.form.number) work.old work.new region.now self.old self.new at.scope result (λ known fs. macros_step recursive (expand (searched known) turns) (searched known) at.depth at.here fs m) }
+        ensures locals { OnOk result (Spends 0 self.old self.new) }
+    {
         let (scope, binders) = self.bind_names(at.scope, &names_of(alloc, macros)?)?;
         let rules_at = if recursive { scope } else { at.scope };
         self.test_all_rules(work, rules_at, at.here, macros)?;

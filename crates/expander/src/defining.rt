@@ -1,17 +1,31 @@
 //! The definitions of each kind, as they are gone through (R7RS 5.3 to 5.5).
-ghost use Rattle.std.specs.Prelude.{◌≡◌, ◌++◌, ◌^◌, ◌<◌, ℕ, List, length, map, filter_map, position, unwrap_or, nat_eq, IfOk, OnOk};
+ghost use Rattle.std.specs.Prelude.{◌≡◌, ◌++◌, ◌^◌, ◌<◌, ℕ, List, length, map, filter_map, position, unwrap_or, nat_eq, IfOk, OnOk, ◌+◌, ◌≤◌, Vec, Option};
 ghost use Rattle.std.specs.BTreeMap.{get};
 ghost use Rattle.std.specs.Ordering.{nat_cmp};
 ghost use Rattle.scheme_model.specs.ExpansionFaults.{Named};
-ghost use Rattle.scheme_model.specs.Shapes.{FieldShape as ModelField, RecordShape};
-ghost use Rattle.scheme_model.specs.Order.{record_names, modified};
-ghost use Rattle.scheme_model.specs.Ident.{Ident as Identifier};
+ghost use Rattle.scheme_model.specs.Shapes.{FieldShape as ModelField, RecordShape, Formals as ModelFormals, Clause as ModelClause, Variable, Procedure};
+ghost use Rattle.scheme_model.specs.Order.{record_names, modified, Pending as ModelPending, run_define, run_values, run_record, run_syntax};
+ghost use Rattle.scheme_model.specs.Ident.{Ident as Identifier, same_ident};
 ghost use Rattle.syntax_tree.specs.Names.{AreToldApart};
 ghost use Rattle.syntax_tree.specs.declared.trees.Work.{Work as AnyWork};
-ghost use Rattle.core_forms.specs.Parts.{AllMatch, IsName, IsField, AreNames};
+ghost use Rattle.core_forms.specs.Parts.{IsName, IsField, AreNames, AllMatch as Match, IsFormals};
 ghost use Rattle.core_forms.specs.Ends.{IsRecord};
-ghost use Rattle.core_tree.specs.Names.{IsField as IsUse};
+ghost use Rattle.core_tree.specs.Names.{IsField as IsUse, AllMatch, IsBinder};
 ghost use Rattle.expander.specs.Seen.{used_fields};
+ghost use Rattle.scheme_model.specs.Requirements.{Known};
+ghost use Rattle.scheme_model.specs.Trees.{Tree as ModelTree};
+ghost use Rattle.scheme_model.specs.ScopedExpansion.{Frames, Place, ScopedState};
+ghost use Rattle.syntax_tree.specs.declared.trees.table.Region.{Region as AnyRegion};
+ghost use Rattle.expander.specs.Judged.{Knows};
+ghost use Rattle.expander.specs.Searched.{searched};
+ghost use Rattle.expander.specs.State.{Stands, most_locals};
+ghost use Rattle.expander.specs.Kept.{NotesFor, SpotFor, PendingFor, ClauseFor};
+ghost use Rattle.syntax_tree.specs.Works.{IsStanding, StandsFor};
+ghost use Rattle.expander.specs.Outcomes.{WorksOn};
+ghost use Rattle.expander.specs.Defining.{CanGo, HasNumber, Takes, EndsIn, define_each};
+ghost use Rattle.expander.specs.Passed.{GoesOn};
+ghost use Rattle.expander.specs.Records.{IsRecordFor};
+
 
 use crate::asked::Asked;
 use crate::fault::ExpandFault;
@@ -36,7 +50,15 @@ impl UnitScope {
         form: Form,
         pending: &mut Pending,
         asked: &Asked,
-    ) -> Result<(), ExpandFault> {
+    ) -> Result<(), ExpandFault>
+        requires can { CanGo work.now self.old spot asked.now }
+        requires name { HasNumber work.now name }
+        requires room { self.old.form.budget.locals + 1 ≤ most_locals self.old.form.budget.nodes }
+        ensures { (known : Known) (region : AnyRegion) (ls : List Frames) (s : ScopedState) (fs : Frames) (n : Named Identifier) (t : ModelTree Identifier) (p : ModelPending Identifier Place) (given : ℕ) →
+            Knows self.old.libraries known → Stands work.now self.old ls s → SpotFor work.now self.old ls s spot fs → IsName work.now name n → WorksOn work.now region form.tree t →
+            PendingFor work.now region self.old.unit self.old.form.number pending.old p → NotesFor work.now ls asked.now p.notes → 1 ≤ given →
+            GoesOn work.now work.now region self.old self.new ls spot fs p.todo given pending.new asked.now result (λ go. run_define (searched known) go form.here fs p (Variable n t) s) }
+    {
         if self.is_assigned(spot, name.ident) {
             pending.aside.push(Kept::Assigned(name, form))?;
             return Ok(());
@@ -57,7 +79,15 @@ impl UnitScope {
         clause: ClauseShape,
         pending: &mut Pending,
         asked: &Asked,
-    ) -> Result<(), ExpandFault> {
+    ) -> Result<(), ExpandFault>
+        requires can { CanGo work.now self.old spot asked.now }
+        requires name { HasNumber work.now name }
+        requires room { self.old.form.budget.locals + 1 ≤ most_locals self.old.form.budget.nodes }
+        ensures { (known : Known) (region : AnyRegion) (ls : List Frames) (s : ScopedState) (fs : Frames) (n : Named Identifier) (c : ModelClause Identifier) (p : ModelPending Identifier Place) (given : ℕ) →
+            Knows self.old.libraries known → Stands work.now self.old ls s → SpotFor work.now self.old ls s spot fs → IsName work.now name n → ClauseFor work.now region clause c →
+            PendingFor work.now region self.old.unit self.old.form.number pending.old p → NotesFor work.now ls asked.now p.notes → 1 ≤ given →
+            GoesOn work.now work.now region self.old self.new ls spot fs p.todo given pending.new asked.now result (λ go. run_define (searched known) go here fs p (Procedure n c) s) }
+    {
         if self.is_assigned(spot, name.ident) {
             pending.aside.push(Kept::AssignedFunction(name, here, clause))?;
             return Ok(());
@@ -77,7 +107,15 @@ impl UnitScope {
         here: Option<Occ>,
         names: &[NamePart],
         asked: &Asked,
-    ) -> Result<Vec<Binder>, ExpandFault> {
+    ) -> Result<Vec<Binder>, ExpandFault>
+        requires can { CanGo work.now self.old spot asked.now }
+        requires names { (ns : List (Named Identifier)) × Match (IsName work.now) names.now ns }
+        requires room { self.old.form.budget.locals + length names.now ≤ most_locals self.old.form.budget.nodes }
+        ensures defined { (known : Known) (region : AnyRegion) (ls : List Frames) (s : ScopedState) (fs : Frames) (ns : List (Named Identifier)) (p : ModelPending Identifier Place) →
+            Stands work.now self.old ls s → SpotFor work.now self.old ls s spot fs → Match (IsName work.now) names.now ns → NotesFor work.now ls asked.now p.notes →
+            EndsIn (λ bs ms. AllMatch (IsBinder work.now.symbols self.old.unit self.old.form.number) bs.items ms) work.now region self.old self.new ls spot fs result (define_each (searched known) here fs ns p s) }
+        ensures counts { OnOk result (Takes (length names.now) self.old self.new) }
+    {
         let mut binders = Vec::new(alloc);
         for name in names {
             let binder = self.next_binder(spot, *name);
@@ -97,7 +135,15 @@ impl UnitScope {
         form: Form,
         pending: &mut Pending,
         asked: &Asked,
-    ) -> Result<(), ExpandFault> {
+    ) -> Result<(), ExpandFault>
+        requires can { CanGo work.now self.old spot asked.now }
+        requires names { (m : ModelFormals Identifier) × IsFormals work.now formals m }
+        requires room { self.old.form.budget.locals + length formals.names.items ≤ most_locals self.old.form.budget.nodes }
+        ensures { (known : Known) (region : AnyRegion) (ls : List Frames) (s : ScopedState) (fs : Frames) (m : ModelFormals Identifier) (t : ModelTree Identifier) (p : ModelPending Identifier Place) (given : ℕ) →
+            Knows self.old.libraries known → Stands work.now self.old ls s → SpotFor work.now self.old ls s spot fs → IsFormals work.now formals m → WorksOn work.now region form.tree t →
+            PendingFor work.now region self.old.unit self.old.form.number pending.old p → NotesFor work.now ls asked.now p.notes → length m.names < given →
+            GoesOn work.now work.now region self.old self.new ls spot fs p.todo given pending.new asked.now result (λ go. run_values (searched known) go form.here fs p (m, t) s) }
+    {
         let Formals { names, dotted } = formals;
         let binders = self.define_all(alloc, work, spot, form.here, &names, asked)?;
         pending.aside.push(Kept::Values {
@@ -115,17 +161,25 @@ impl UnitScope {
         work: &Work,
         spot: Spot,
         here: Option<Occ>,
-        record: &Record,
+        shape: &Record,
         pending: &mut Pending,
         asked: &Asked,
-    ) -> Result<(), ExpandFault> {
-        let fields = self.take_locals(&record.field_names(alloc)?)?;
-        let binders = self.define_all(alloc, work, spot, here, &record.names(alloc)?, asked)?;
+    ) -> Result<(), ExpandFault>
+        requires can { CanGo work.now self.old spot asked.now }
+        requires standing { (m : RecordShape Identifier) × IsRecordFor work.now shape.now m }
+        requires room { (m : RecordShape Identifier) → IsRecordFor work.now shape.now m → self.old.form.budget.locals + length m.fields + length (record_names m) ≤ most_locals self.old.form.budget.nodes }
+        ensures { (known : Known) (region : AnyRegion) (ls : List Frames) (s : ScopedState) (fs : Frames) (m : RecordShape Identifier) (p : ModelPending Identifier Place) (given : ℕ) →
+            Knows self.old.libraries known → Stands work.now self.old ls s → SpotFor work.now self.old ls s spot fs → IsRecordFor work.now shape.now m →
+            PendingFor work.now region self.old.unit self.old.form.number pending.old p → NotesFor work.now ls asked.now p.notes → length m.fields + length (record_names m) ≤ given →
+            GoesOn work.now work.now region self.old self.new ls spot fs p.todo given pending.new asked.now result (λ go. run_record (searched known) go here fs p m s) }
+    {
+        let fields = self.take_locals(&shape.field_names(alloc)?)?;
+        let binders = self.define_all(alloc, work, spot, here, &shape.names(alloc)?, asked)?;
         pending.aside.push(Kept::Record {
             binders,
             fields,
-            modified: modified(alloc, &record.fields)?,
-            used: used(alloc, &record.used, &record.fields)?,
+            modified: modified(alloc, &shape.fields)?,
+            used: used(alloc, &shape.used, &shape.fields)?,
         })?;
         Ok(())
     }
@@ -141,7 +195,16 @@ impl UnitScope {
         rules: Tree,
         pending: &mut Pending,
         asked: &mut Asked,
-    ) -> Result<(), ExpandFault> {
+    ) -> Result<(), ExpandFault>
+        requires can { CanGo work.now self.old spot asked.old }
+        requires name { HasNumber work.now name }
+        requires rules { IsStanding work.now rules }
+        requires room { self.old.form.budget.locals + 1 ≤ most_locals self.old.form.budget.nodes }
+        ensures { (known : Known) (region : AnyRegion) (ls : List Frames) (s : ScopedState) (fs : Frames) (n : Named Identifier) (t : ModelTree Identifier) (p : ModelPending Identifier Place) (given : ℕ) →
+            Knows self.old.libraries known → Stands work.now self.old ls s → SpotFor work.now self.old ls s spot fs → IsName work.now name n → StandsFor work.now rules t →
+            PendingFor work.now region self.old.unit self.old.form.number pending.old p → NotesFor work.now ls asked.old p.notes → 1 ≤ given →
+            GoesOn work.now work.now region self.old self.new ls spot fs p.todo given pending.new asked.new result (λ go. run_syntax (searched known) go here fs p (n, t) s) }
+    {
         self.note_rules(work, spot.scope, rules, asked)?;
         self.test_rules(work, spot.scope, here, rules)?;
         let defined = self.read_macro(alloc, work, spot.scope, here, rules)?;
@@ -207,7 +270,7 @@ fn add_modifiers(fields: &[FieldShape], names: &mut Vec<NamePart>) -> Mem<()>
 /// The places of the fields that have a modifier.
 fn modified(alloc: Global, fields: &[FieldShape]) -> Mem<Vec<u32>>
     requires { length fields.now < 2 ^ 32 }
-    ensures { (work : AnyWork) (fs : List (ModelField Identifier)) → AllMatch (IsField work) fields.now fs →
+    ensures { (work : AnyWork) (fs : List (ModelField Identifier)) → Match (IsField work) fields.now fs →
         IfOk result (λ places. places.items ≡ modified 0 fs) }
 {
     let mut places = Vec::new(alloc);
@@ -223,7 +286,7 @@ fn modified(alloc: Global, fields: &[FieldShape]) -> Mem<Vec<u32>>
 fn used(alloc: Global, names: &[NamePart], fields: &[FieldShape]) -> Mem<Vec<FieldUse>>
     requires { length fields.now < 2 ^ 32 }
     ensures { (work : AnyWork) (ns : List (Named Identifier)) (fs : List (ModelField Identifier)) → AreToldApart work.symbols.idents →
-        AllMatch (IsName work) names.now ns → AllMatch (IsField work) fields.now fs → IfOk result (λ uses. AllMatch IsUse uses.items (used_fields fs ns)) }
+        Match (IsName work) names.now ns → Match (IsField work) fields.now fs → IfOk result (λ uses. Match IsUse uses.items (used_fields fs ns)) }
 {
     let places = places_of(alloc, fields)?;
     let count = fields.len() as u32;

@@ -1,4 +1,22 @@
 //! Definitions in units and bodies (R7RS 5.3): one that changes what a keyword was taken for is refused, and so is a second one.
+ghost use Rattle.std.specs.Prelude.{◌≡◌, ℕ, ◌+◌, ◌≤◌, ◌∷◌, [], List, Option, Ok, OnOk, Bool, IsTrue, ◌↔◌};
+ghost use Rattle.scheme_model.specs.ExpansionFaults.{Named};
+ghost use Rattle.scheme_model.specs.Ident.{Ident as Identifier};
+ghost use Rattle.scheme_model.specs.Requirements.{Known};
+ghost use Rattle.scheme_model.specs.RulesShape.{Rules};
+ghost use Rattle.scheme_model.specs.Order.{Note as ModelNote, Pending, binder_at, told};
+ghost use Rattle.scheme_model.specs.ScopedExpansion.{Frames, Place, ScopedState, body_around, meaning_next, is_defined, assigned};
+ghost use Rattle.syntax_tree.specs.Macros.{IsIdent};
+ghost use Rattle.syntax_tree.specs.Meant.{IsMeaning};
+ghost use Rattle.syntax_tree.specs.declared.trees.Work.{Work as AnyWork};
+ghost use Rattle.syntax_tree.specs.declared.trees.table.Region.{Region as AnyRegion};
+ghost use Rattle.core_forms.specs.Parts.{IsName};
+ghost use Rattle.core_tree.specs.Names.{IsBinder};
+ghost use Rattle.expander.specs.Searched.{searched};
+ghost use Rattle.expander.specs.State.{Stands, most_locals};
+ghost use Rattle.expander.specs.Kept.{NotesFor, SpotFor};
+ghost use Rattle.expander.specs.Defining.{CanGo, HasNumber, IsKept, Takes, EndsIn};
+
 use crate::asked::{Asked, Asking, Note};
 use crate::counting::code;
 use crate::fault::ExpandFault;
@@ -23,11 +41,14 @@ struct Coming {
 
 impl UnitScope {
     /// The binder of the next definition.
-    pub(crate) fn next_binder(&self, spot: Spot, name: NamePart) -> Binder {
+    pub(crate) fn next_binder(&self, spot: Spot, name: NamePart) -> Binder
+        ensures { (known : Known) (work : AnyWork) (ls : List Frames) (s : ScopedState) (fs : Frames) (n : Named Identifier) → Stands work self.now ls s →
+            SpotFor work self.now ls s spot fs → IsName work name n → IsBinder work.symbols s.unit s.form result (binder_at (searched known) fs s n) }
+    {
         let number = if spot.in_body {
             self.form.budget.locals
         } else {
-            self.count
+            self.defined.len() as u64
         };
         Binder {
             number,
@@ -37,7 +58,10 @@ impl UnitScope {
     }
 
     /// What the next definition makes its identifier mean.
-    pub(crate) fn next_meaning(&self, spot: Spot, ident: IdNo) -> Meaning {
+    pub(crate) fn next_meaning(&self, spot: Spot, ident: IdNo) -> Meaning
+        ensures { (work : AnyWork) (ls : List Frames) (s : ScopedState) (fs : Frames) (i : Identifier) → Stands work self.now ls s →
+            SpotFor work self.now ls s spot fs → IsIdent work.symbols ident i → IsMeaning work.symbols s.unit s.form result (meaning_next s (body_around fs) i) }
+    {
         if spot.in_body {
             Meaning::Local(self.form.budget.locals)
         } else {
@@ -57,7 +81,15 @@ impl UnitScope {
         name: NamePart,
         kept: Option<Macro>,
         asked: &Asked,
-    ) -> Result<(), ExpandFault> {
+    ) -> Result<(), ExpandFault>
+        requires can { CanGo work.now self.old spot asked.now }
+        requires name { HasNumber work.now name }
+        requires room { self.old.form.budget.locals + 1 ≤ most_locals self.old.form.budget.nodes }
+        ensures defined { (known : Known) (region : AnyRegion) (ls : List Frames) (s : ScopedState) (fs : Frames) (n : Named Identifier) (r : Option (Rules Identifier)) (p : Pending Identifier Place) →
+            Stands work.now self.old ls s → SpotFor work.now self.old ls s spot fs → IsName work.now name n → IsKept work.now ls fs kept r → NotesFor work.now ls asked.now p.notes →
+            EndsIn (λ (done : Unit {0}) (q : Pending Identifier Place). q ≡ p) work.now region self.old self.new ls spot fs result (told here ((searched known).define n r fs p s)) }
+        ensures counts { OnOk result (Takes 1 self.old self.new) }
+    {
         let meaning = self.next_meaning(spot, name.ident);
         let coming = Coming {
             bound: Bound {
@@ -78,7 +110,6 @@ impl UnitScope {
             self.form.budget.locals += 1;
         } else {
             self.defined.insert(name.ident, kept.is_some())?;
-            self.count += 1;
         }
         if let Some(kept) = kept {
             self.macros.keep(self.form.number, meaning, kept)?;
@@ -87,7 +118,11 @@ impl UnitScope {
     }
 
     /// Whether the unit, or the body, has a definition of an identifier.
-    fn is_defined(&self, spot: Spot, ident: IdNo) -> bool {
+    fn is_defined(&self, spot: Spot, ident: IdNo) -> bool
+        requires { (work : AnyWork) × (ls : List Frames) × (s : ScopedState) × (fs : Frames) × Stands work self.now ls s × SpotFor work self.now ls s spot fs }
+        ensures { (work : AnyWork) (ls : List Frames) (s : ScopedState) (fs : Frames) (i : Identifier) → Stands work self.now ls s →
+            SpotFor work self.now ls s spot fs → IsIdent work.symbols ident i → result ≡ is_defined s (body_around fs) i }
+    {
         if spot.in_body {
             self.env.binds(spot.scope, ident)
         } else {
@@ -96,7 +131,10 @@ impl UnitScope {
     }
 
     /// Whether a later definition of a program's variable is read as an assignment.
-    pub(crate) fn is_assigned(&self, spot: Spot, ident: IdNo) -> bool {
+    pub(crate) fn is_assigned(&self, spot: Spot, ident: IdNo) -> bool
+        ensures { (work : AnyWork) (ls : List Frames) (s : ScopedState) (fs : Frames) (i : Identifier) → Stands work self.now ls s →
+            SpotFor work self.now ls s spot fs → IsIdent work.symbols ident i → result ≡ assigned s (body_around fs) i }
+    {
         !spot.in_body && self.is_program() && self.defined.get(&ident) == Some(&false)
     }
 

@@ -1,4 +1,26 @@
 //! The core of an expression (R7RS 4.1, 4.2).
+ghost use Rattle.std.specs.Prelude.{◌≡◌, ℕ, ◌+◌, ◌≤◌, List, Some, Option, IfOk, OnOk};
+ghost use Rattle.scheme_model.specs.ExpansionFaults.{Named};
+ghost use Rattle.scheme_model.specs.Ident.{Ident as Identifier};
+ghost use Rattle.scheme_model.specs.Keywords.{CoreKeyword as ModelKeyword};
+ghost use Rattle.scheme_model.specs.Requirements.{Known};
+ghost use Rattle.scheme_model.specs.Order.{head_of};
+ghost use Rattle.scheme_model.specs.Trees.{Tree as ModelTree, list, Trees, tree, Tail};
+ghost use Rattle.scheme_model.specs.Expression.{whole, expand, expression, core_form, quote, reference};
+ghost use Rattle.scheme_model.specs.ScopedExpansion.{Frames, ScopedState};
+ghost use Rattle.syntax_tree.specs.Works.{IsOpened, IsStanding, StandsFor};
+ghost use Rattle.syntax_tree.specs.Looks.{PartsStand, EndStands, AllNamed};
+ghost use Rattle.syntax_tree.specs.declared.trees.table.Region.{Region as AnyRegion};
+ghost use Rattle.core_forms.specs.Ends.{keyword_as};
+ghost use Rattle.core_forms.specs.Parts.{IsName};
+ghost use Rattle.core_tree.specs.Cores.{CoreStands};
+ghost use Rattle.expander.specs.Judged.{Knows};
+ghost use Rattle.expander.specs.Searched.{searched};
+ghost use Rattle.expander.specs.State.{Stands};
+ghost use Rattle.expander.specs.Outcomes.{At as Stand, CanLook, EndsHere, IsAtWork, WorksOn, IsEnough};
+ghost use Rattle.expander.specs.Defining.{HasNumber};
+ghost use Rattle.expander.specs.Ready.{IsSettled, Settles, Reads, TestsVariable, BeginsBelow};
+
 use crate::counting::{code, fails, fails_with, misread};
 use crate::fault::ExpandFault;
 use crate::heads::Head;
@@ -41,7 +63,15 @@ impl UnitScope {
         region: &Region,
         at: At,
         form: Tree,
-    ) -> Result<(Tree, Option<Occ>), ExpandFault> {
+    ) -> Result<(Tree, Option<Occ>), ExpandFault>
+        requires opened { IsOpened work.old region.now }
+        requires look { CanLook work.old self.old at.scope }
+        requires form { IsAtWork work.old region.now form }
+        ensures settled { (known : Known) (turns : ℕ) (ls : List Frames) (s : ScopedState) (fs : Frames) (t : ModelTree Identifier) → Knows self.old.libraries known → Stands work.old self.old ls s → Stand ls at.scope fs →
+            WorksOn work.old region.now form t → IsEnough at.depth self.old.form.budget.uses turns →
+            Settles known at.depth turns work.old work.new region.now self.old self.new ls fs result (expand (searched known) turns at.depth at.here fs (whole t) s) }
+        ensures locals { OnOk result (self.new.form.budget.locals ≡ self.old.form.budget.locals) }
+    {
         let mut form = form;
         let mut here = here_at(work, form, at.here);
         while let Some(keyword) = self.macro_keyword(work, at.scope, form) {
@@ -75,7 +105,14 @@ impl UnitScope {
         work: &Work,
         at: At,
         form: Tree,
-    ) -> Result<Ready, ExpandFault> {
+    ) -> Result<Ready, ExpandFault>
+        requires look { CanLook work.now self.old at.scope }
+        requires form { IsStanding work.now form }
+        ensures read { (known : Known) (region : AnyRegion) (ls : List Frames) (s : ScopedState) (fs : Frames) (t : ModelTree Identifier) → Knows self.old.libraries known → Stands work.now self.old ls s →
+            Stand ls at.scope fs → WorksOn work.now region form t → IsSettled known s fs t →
+            Reads known at.depth at.here work.now region self.old self.new ls fs result (λ f. expression f (searched known) at.depth at.here fs t s) }
+        ensures locals { OnOk result (self.new.form.budget.locals ≡ self.old.form.budget.locals) }
+    {
         match work.node(form) {
             Node::Atom {
                 leaf: Leaf::Name(ident),
@@ -107,7 +144,15 @@ impl UnitScope {
         form: Tree,
         items: &[Tree],
         tail: Option<Tree>,
-    ) -> Result<Ready, ExpandFault> {
+    ) -> Result<Ready, ExpandFault>
+        requires look { CanLook work.now self.old at.scope }
+        requires form { (ts : Trees Identifier) × (end : Tail Identifier) × (o : Option Occ) × StandsFor work.now form (list ts end o) × PartsStand work.now items.now ts × EndStands work.now tail end }
+        ensures read { (known : Known) (region : AnyRegion) (ls : List Frames) (s : ScopedState) (fs : Frames) (ts : Trees Identifier) (end : Tail Identifier) (o : Option Occ) →
+            Knows self.old.libraries known → Stands work.now self.old ls s → Stand ls at.scope fs → WorksOn work.now region form (list ts end o) → PartsStand work.now items.now ts →
+            EndStands work.now tail end → AllNamed work.now region items.now → IsSettled known s fs (list ts end o) →
+            Reads known at.depth at.here work.now region self.old self.new ls fs result (λ f. expression f (searched known) at.depth at.here fs (list ts end o) s) }
+        ensures locals { OnOk result (self.new.form.budget.locals ≡ self.old.form.budget.locals) }
+    {
         if let Some(name) = head_name(work, form) {
             if let Head::Core(core) = self.head_of(work, at.scope, name.ident) {
                 let keyword = self.target(work, at.scope, name);
@@ -129,7 +174,15 @@ impl UnitScope {
         at: At,
         core: CoreKeyword,
         form: Tree,
-    ) -> Result<Ready, ExpandFault> {
+    ) -> Result<Ready, ExpandFault>
+        requires look { CanLook work.now self.old at.scope }
+        requires core { (c : ModelKeyword) × (keyword_as core ≡ Some c) }
+        requires form { IsStanding work.now form }
+        ensures read { (known : Known) (region : AnyRegion) (ls : List Frames) (s : ScopedState) (fs : Frames) (c : ModelKeyword) (head : ModelTree Identifier) (ts : Trees Identifier) (end : Tail Identifier) (o : Option Occ) →
+            Knows self.old.libraries known → Stands work.now self.old ls s → Stand ls at.scope fs → keyword_as core ≡ Some c → WorksOn work.now region form (list (tree head ts) end o) →
+            Reads known at.depth at.here work.now region self.old self.new ls fs result (λ f. core_form f (searched known) at.depth at.here fs c ts end s) }
+        ensures locals { OnOk result (self.new.form.budget.locals ≡ self.old.form.budget.locals) }
+    {
         let marks = self.marks(alloc, work, at.scope, core, form)?;
         let shape = match parse_core(alloc, work, core, form, true, &marks) {
             Ok(shape) => shape,
@@ -147,13 +200,25 @@ impl UnitScope {
     }
 
     /// A datum that stands for itself.
-    fn quote(&mut self, work: &Work, at: At, datum: Tree) -> Result<Core, ExpandFault> {
+    fn quote(&mut self, work: &Work, at: At, datum: Tree) -> Result<Core, ExpandFault>
+        requires look { CanLook work.now self.old at.scope }
+        requires datum { IsStanding work.now datum }
+        ensures quoted { (known : Known) (region : AnyRegion) (ls : List Frames) (s : ScopedState) (t : ModelTree Identifier) → Stands work.now self.old ls s → StandsFor work.now datum t →
+            EndsHere (CoreStands work.now self.old.unit self.old.form.number) work.now work.now region self.old self.new ls result (quote (searched known) at.depth at.here t s) }
+        ensures locals { OnOk result (self.new.form.budget.locals ≡ self.old.form.budget.locals) }
+    {
         self.begin_node(at.here, work.size(datum) + 1, at.depth)?;
         Ok(Core::Quote(datum))
     }
 
     /// An identifier as an expression. A keyword is no value.
-    fn reference(&mut self, work: &Work, at: At, name: NamePart) -> Result<Core, ExpandFault> {
+    fn reference(&mut self, work: &Work, at: At, name: NamePart) -> Result<Core, ExpandFault>
+        requires look { CanLook work.now self.old at.scope }
+        requires name { HasNumber work.now name }
+        ensures referred { (known : Known) (region : AnyRegion) (ls : List Frames) (s : ScopedState) (fs : Frames) (n : Named Identifier) → Stands work.now self.old ls s → Stand ls at.scope fs → IsName work.now name n →
+            EndsHere (CoreStands work.now self.old.unit self.old.form.number) work.now work.now region self.old self.new ls result (reference (searched known) at.depth at.here fs n s) }
+        ensures locals { OnOk result (self.new.form.budget.locals ≡ self.old.form.budget.locals) }
+    {
         self.test_variable(work, at, name)?;
         self.begin_node(at.here, 1, at.depth)?;
         Ok(Core::Ref(self.target(work, at.scope, name)))
@@ -165,7 +230,12 @@ impl UnitScope {
         work: &Work,
         at: At,
         name: NamePart,
-    ) -> Result<(), ExpandFault> {
+    ) -> Result<(), ExpandFault>
+        requires look { CanLook work.now self.now at.scope }
+        requires name { HasNumber work.now name }
+        ensures { (known : Known) (ls : List Frames) (s : ScopedState) (fs : Frames) (n : Named Identifier) → Stands work.now self.now ls s → Stand ls at.scope fs → IsName work.now name n →
+            TestsVariable work.now s at.here n (head_of (searched known) fs s n.name) result }
+    {
         if self.head_of(work, at.scope, name.ident).is_keyword() {
             return Err(self.fails_at(at.here, code::KEYWORD_AS_VALUE, name));
         }
@@ -173,7 +243,10 @@ impl UnitScope {
     }
 
     /// A core node of so many nodes begins: where its parts stand.
-    pub(crate) fn below(&mut self, at: At, nodes: u32) -> Result<At, ExpandFault> {
+    pub(crate) fn below(&mut self, at: At, nodes: u32) -> Result<At, ExpandFault>
+        requires { self.old.form.budget.nodes ≤ 200000 }
+        ensures { BeginsBelow self.old self.new at nodes result }
+    {
         let depth = self.begin_node(at.here, nodes, at.depth)?;
         Ok(At {
             scope: at.scope,

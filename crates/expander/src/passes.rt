@@ -1,16 +1,41 @@
 //! The forms of a body, or a form of a unit, gone through in order (R7RS 5.3.2, 4.3): macros are used, `begin` and `cond-expand`
 //! are spliced, definitions take effect at once, and all else is set aside.
-ghost use Rattle.std.specs.Prelude.{◌≡◌, ◌<◌, length, false, Option, Some};
+ghost use Rattle.std.specs.Prelude.{◌≡◌, ◌<◌, length, false, Option, Some, ℕ, ◌+◌, ◌∷◌, [], ◌≤◌, List, IfOk, OnOk, true};
 ghost use Rattle.std.specs.Option.{option_map_or};
-ghost use Rattle.scheme_model.specs.Trees.{Tree as ModelTree};
-ghost use Rattle.scheme_model.specs.Order.{here_at, or_here, read_name};
+ghost use Rattle.scheme_model.specs.Trees.{Tree as ModelTree, list, Trees, tree, Tail};
+ghost use Rattle.scheme_model.specs.Order.{here_at, or_here, read_name, Pending as ModelPending, Form as ModelForm, Note as ModelNote, LookedUp, Transformer, run, run_form, run_core, run_use, splice};
 ghost use Rattle.scheme_model.specs.Ident.{Ident as Identifier};
 ghost use Rattle.syntax_tree.specs.Macros.{IsIdent};
 ghost use Rattle.syntax_tree.specs.Standing.{leaf_tree};
-ghost use Rattle.syntax_tree.specs.Works.{StandsFor, IsStanding};
-ghost use Rattle.core_forms.specs.Ends.{keyword_as};
-ghost use Rattle.core_forms.specs.Parts.{IsNameIfAny};
+ghost use Rattle.syntax_tree.specs.Works.{StandsFor, IsStanding, CanName, IsOpened};
+ghost use Rattle.core_forms.specs.Ends.{keyword_as, ShapeFor};
+ghost use Rattle.core_forms.specs.Parts.{IsNameIfAny, IsName};
 ghost use Rattle.expander.specs.Seen.{head_name_of, takes_effect};
+ghost use Rattle.scheme_model.specs.ExpansionFaults.{Named};
+ghost use Rattle.scheme_model.specs.Keywords.{CoreKeyword as ModelKeyword};
+ghost use Rattle.scheme_model.specs.Measures.{tree_size, trees_size};
+ghost use Rattle.scheme_model.specs.Requirements.{Known};
+ghost use Rattle.scheme_model.specs.Cores.{Target as ModelTarget};
+ghost use Rattle.scheme_model.specs.Meaning.{Head as ModelHead, is_keyword};
+ghost use Rattle.scheme_model.specs.ScopedExpansion.{Frames, Place, ScopedState};
+ghost use Rattle.syntax_tree.specs.Looks.{PartsStand, AllNamed};
+ghost use Rattle.syntax_tree.specs.declared.trees.table.Region.{Region as AnyRegion};
+ghost use Rattle.core_forms.specs.Forms.{Shape};
+ghost use Rattle.core_forms.specs.Named.{ShapeNamed};
+ghost use Rattle.core_tree.specs.Names.{IsTarget};
+ghost use Rattle.expander.specs.Heads.{IsHead};
+ghost use Rattle.expander.specs.Judged.{Knows};
+ghost use Rattle.expander.specs.Searched.{searched};
+ghost use Rattle.expander.specs.State.{Stands, most_locals};
+ghost use Rattle.expander.specs.Kept.{FormFor, NotesFor, SpotFor, PendingFor, left_with};
+ghost use Rattle.expander.specs.Outcomes.{At, IsAtWork};
+ghost use Rattle.expander.specs.Defining.{CanGo, HasNumber};
+ghost use Rattle.expander.specs.Passed.{GoesOn, Passes, CanPass, IsPassed, pass_step, shape_weight, ShapeFits};
+ghost use Rattle.expander.specs.Used.{CanUse, CanNote, UseFor};
+ghost use Rattle.syntax_tree.specs.declared.trees.Work.{Work as AnyWork};
+ghost use Rattle.expander.specs.declared.asked.Asked.{Asked as AnyAsked};
+ghost use Rattle.expander.specs.declared.items.Spot.{Spot as AnySpot};
+
 
 use crate::asked::{Asked, Asking, Note};
 use crate::counting::misread;
@@ -108,7 +133,15 @@ impl UnitScope {
         spot: Spot,
         pending: &mut Pending,
         asked: &mut Asked,
-    ) -> Result<(), ExpandFault> {
+    ) -> Result<(), ExpandFault>
+        requires opened { IsOpened work.old region.now }
+        requires can { CanPass work.old region.now self.old spot 0 pending.old asked.old }
+        ensures { (known : Known) (ls : List Frames) (s : ScopedState) (fs : Frames) (p : ModelPending Identifier Place) (turns : ℕ) →
+            Knows self.old.libraries known → Stands work.old self.old ls s → SpotFor work.old self.old ls s spot fs →
+            PendingFor work.old region.now self.old.unit self.old.form.number pending.old p → NotesFor work.old ls asked.old p.notes →
+            left_with p.todo self.old.form.budget.uses < turns →
+            Passes work.old work.new region.now self.old self.new ls spot fs (left_with p.todo self.old.form.budget.uses) pending.new.aside.items asked.new result (run (searched known) turns fs p s) }
+    {
         while let Some(form) = pending.todo.pop() {
             self.pass_form(alloc, work, region, spot, form, pending, asked)?;
         }
@@ -125,7 +158,16 @@ impl UnitScope {
         form: Form,
         pending: &mut Pending,
         asked: &mut Asked,
-    ) -> Result<(), ExpandFault> {
+    ) -> Result<(), ExpandFault>
+        requires opened { IsOpened work.old region.now }
+        requires form { IsAtWork work.old region.now form.tree }
+        requires can { (m : ModelTree Identifier) → StandsFor work.old form.tree m → CanPass work.old region.now self.old spot (tree_size m) pending.old asked.old }
+        ensures { (known : Known) (ls : List Frames) (s : ScopedState) (fs : Frames) (m : ModelForm Identifier) (p : ModelPending Identifier Place) →
+            Knows self.old.libraries known → Stands work.old self.old ls s → SpotFor work.old self.old ls s spot fs → FormFor work.old region.now form m →
+            PendingFor work.old region.now self.old.unit self.old.form.number pending.old p → NotesFor work.old ls asked.old p.notes →
+            GoesOn work.old work.new region.now self.old self.new ls spot fs p.todo (tree_size m.tree) pending.new asked.new result
+            (λ go. run_form (searched known) go fs (here_at (λ i. i) m.tree m.here) m m.tree p s) }
+    {
         let here = here_at(work, form.tree, form.here);
         let Some(name) = head_name(work, form.tree) else {
             pending.aside.push(Kept::Expression(form))?;
@@ -160,7 +202,12 @@ impl UnitScope {
         name: NamePart,
         head: Head,
         asked: &mut Asked,
-    ) -> Mem<()> {
+    ) -> Mem<()>
+        requires { HasNumber work.now name }
+        ensures { (ls : List Frames) (s : ScopedState) (fs : Frames) (n : Named Identifier) (h : ModelHead) (ns : List (ModelNote Place)) → Stands work.now self.now ls s →
+            SpotFor work.now self.now ls s spot fs → IsName work.now name n → IsHead head h → NotesFor work.now ls asked.old ns →
+            OnOk result (NotesFor work.now ls asked.new (LookedUp (record { frames = fs; ident = n.name }) true (is_keyword h) ∷ ns)) }
+    {
         asked.push(
             &work.symbols,
             Note::LookedUp {
@@ -183,7 +230,18 @@ impl UnitScope {
         at: Use,
         pending: &mut Pending,
         asked: &mut Asked,
-    ) -> Result<(), ExpandFault> {
+    ) -> Result<(), ExpandFault>
+        requires opened { IsOpened work.old region.now }
+        requires usable { CanUse work.old self.old at }
+        requires named { CanName work.old region.now at.form }
+        requires notes { CanNote work.old self.old at asked.old }
+        ensures { (known : Known) (ls : List Frames) (s : ScopedState) (spot : AnySpot) (fs : Frames) (keyword : ModelTarget) (m : Transformer Frames Identifier) (form : ModelForm Identifier)
+            (ts : Trees Identifier) (tail : Tail Identifier) (p : ModelPending Identifier Place) (given : ℕ) →
+            Knows self.old.libraries known → Stands work.old self.old ls s → SpotFor work.old self.old ls s spot fs → At ls at.scope fs → UseFor work.old s at keyword m ts tail →
+            PendingFor work.old region.now self.old.unit self.old.form.number pending.old p → NotesFor work.old ls asked.old p.notes → 1 ≤ given →
+            GoesOn work.old work.new region.now self.old self.new ls spot fs p.todo given pending.new asked.new result
+            (λ go. run_use (searched known) go at.here fs keyword (Some m) form ts tail p s) }
+    {
         let (scope, comparisons) = self.compare(alloc, work, at)?;
         for comparison in &comparisons {
             asked.push(
@@ -222,7 +280,17 @@ impl UnitScope {
         form: Form,
         pending: &mut Pending,
         asked: &mut Asked,
-    ) -> Result<(), ExpandFault> {
+    ) -> Result<(), ExpandFault>
+        requires core { (c : ModelKeyword) × (keyword_as core ≡ Some c) }
+        requires form { IsStanding work.now form.tree }
+        requires can { (region : AnyRegion) × ((m : ModelTree Identifier) → StandsFor work.now form.tree m → CanPass work.now region self.old spot (tree_size m) pending.old asked.old) }
+        ensures { (known : Known) (region : AnyRegion) (ls : List Frames) (s : ScopedState) (fs : Frames) (c : ModelKeyword) (k : ModelTarget) (m : ModelForm Identifier) (head : ModelTree Identifier)
+            (ts : Trees Identifier) (tail : Tail Identifier) (o : Option Occ) (p : ModelPending Identifier Place) →
+            Knows self.old.libraries known → Stands work.now self.old ls s → SpotFor work.now self.old ls s spot fs → keyword_as core ≡ Some c → IsTarget work.now.symbols s.unit s.form keyword k →
+            FormFor work.now region form m → m.tree ≡ list (tree head ts) tail o →
+            PendingFor work.now region self.old.unit self.old.form.number pending.old p → NotesFor work.now ls asked.old p.notes →
+            GoesOn work.now work.now region self.old self.new ls spot fs p.todo (tree_size m.tree) pending.new asked.new result (λ go. run_core (searched known) go here fs c k m ts tail p s) }
+    {
         if !is_passed(core) {
             pending.aside.push(Kept::Expression(form))?;
             return Ok(());
@@ -245,7 +313,13 @@ impl UnitScope {
         shape: CoreShape,
         pending: &mut Pending,
         asked: &mut Asked,
-    ) -> Result<(), ExpandFault> {
+    ) -> Result<(), ExpandFault>
+        requires shape { (m : Shape) × ShapeFor work.now shape m × ((region : AnyRegion) × CanPass work.now region self.old spot (shape_weight m) pending.old asked.old) }
+        ensures { (known : Known) (region : AnyRegion) (ls : List Frames) (s : ScopedState) (fs : Frames) (form : ModelForm Identifier) (m : Shape) (p : ModelPending Identifier Place) (given : ℕ) →
+            Knows self.old.libraries known → Stands work.now self.old ls s → SpotFor work.now self.old ls s spot fs → ShapeFor work.now shape m → ShapeNamed work.now region shape → IsPassed m → ShapeFits m →
+            PendingFor work.now region self.old.unit self.old.form.number pending.old p → NotesFor work.now ls asked.old p.notes → shape_weight m < given →
+            GoesOn work.now work.now region self.old self.new ls spot fs p.todo given pending.new asked.new result (λ go. pass_step (searched known) go here fs form p m s) }
+    {
         match shape {
             CoreShape::Begin(forms) => self.splice(here, &forms, pending),
             CoreShape::CondExpand(choices) => {
@@ -295,7 +369,13 @@ impl UnitScope {
         here: Option<Occ>,
         forms: &[Tree],
         pending: &mut Pending,
-    ) -> Result<(), ExpandFault> {
+    ) -> Result<(), ExpandFault>
+        requires { self.old.form.budget.nodes ≤ 200000 }
+        ensures { (known : Known) (work : AnyWork) (region : AnyRegion) (ls : List Frames) (s : ScopedState) (spot : AnySpot) (fs : Frames) (asked : AnyAsked) (ts : Trees Identifier) (p : ModelPending Identifier Place) (given : ℕ) →
+            Stands work self.old ls s → SpotFor work self.old ls s spot fs → PartsStand work forms.now ts → AllNamed work region forms.now →
+            PendingFor work region self.old.unit self.old.form.number pending.old p → NotesFor work ls asked p.notes → trees_size ts < given →
+            GoesOn work work region self.old self.new ls spot fs p.todo given pending.new asked result (λ go. splice (searched known) go here p ts s) }
+    {
         self.count(here, 1)?;
         for tree in forms.iter().rev() {
             pending.todo.push(Form { here, tree: *tree })?;

@@ -44,7 +44,6 @@ pub struct UnitScope {
     pub(crate) root: ScopeNo,
     pub(crate) libraries: BTreeSet<String>,
     pub(crate) defined: BTreeMap<IdNo, bool>,
-    pub(crate) count: u64,
     pub(crate) asked: Asked,
     pub(crate) form: FormAtWork,
 }

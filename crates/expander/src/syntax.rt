@@ -1,11 +1,23 @@
 //! The rules of macros where they are defined (R7RS 4.3.1, 5.4): a list whose head means `syntax-rules`.
-ghost use Rattle.std.specs.Prelude.{◌≡◌};
+ghost use Rattle.std.specs.Prelude.{◌≡◌, List, ◌++◌, Some, IfOk, OnOk};
 ghost use Rattle.scheme_model.specs.Trees.{Tree as ModelTree};
-ghost use Rattle.scheme_model.specs.Order.{rules_parts_of};
+ghost use Rattle.scheme_model.specs.Order.{rules_parts_of, Note as ModelNote, RulesParts, rules_parts, rules_note, rules_at};
 ghost use Rattle.scheme_model.specs.Ident.{Ident as Identifier};
 ghost use Rattle.syntax_tree.specs.Works.{StandsFor, IsStanding};
 ghost use Rattle.expander.specs.Seen.{IsRulesHead};
 ghost use Rattle.expander.specs.Told.{rules_fault, told};
+ghost use Rattle.scheme_model.specs.Requirements.{Known};
+ghost use Rattle.scheme_model.specs.Cores.{Binder as ModelBinder};
+ghost use Rattle.scheme_model.specs.Expression.{meaning_of, macro_def};
+ghost use Rattle.scheme_model.specs.ScopedExpansion.{Frames, Place, ScopedState};
+ghost use Rattle.syntax_tree.specs.Meant.{IsMeaning};
+ghost use Rattle.syntax_tree.specs.declared.trees.table.Region.{Region as AnyRegion};
+ghost use Rattle.core_tree.specs.Names.{IsBinder, IsMacro as IsMacroDef};
+ghost use Rattle.expander.specs.Searched.{searched};
+ghost use Rattle.expander.specs.State.{IsMacro, Stands};
+ghost use Rattle.expander.specs.Kept.{NotesFor};
+ghost use Rattle.expander.specs.Outcomes.{At, CanLook, EndsHere};
+ghost use Rattle.expander.specs.RulesTold.{CanTell, Tests};
 
 use crate::asked::{Asked, Asking, Note};
 use crate::counting::{code, fails};
@@ -66,7 +78,13 @@ impl UnitScope {
         scope: ScopeNo,
         rules: Tree,
         asked: &mut Asked,
-    ) -> Mem<()> {
+    ) -> Mem<()>
+        requires look { CanLook work.now self.now scope }
+        requires rules { IsStanding work.now rules }
+        ensures { (known : Known) (ls : List Frames) (s : ScopedState) (fs : Frames) (t : ModelTree Identifier) (ns : List (ModelNote Place)) → Stands work.now self.now ls s →
+            At ls scope fs → StandsFor work.now rules t → NotesFor work.now ls asked.old ns →
+            OnOk result (NotesFor work.now ls asked.new (rules_note (searched known) fs s (rules_parts_of t) ++ ns)) }
+    {
         if let Some(ident) = rules_head(work, rules) {
             let keyword = self.head_of(work, scope, ident).is_keyword();
             let at = Asking { scope, ident };
@@ -89,7 +107,12 @@ impl UnitScope {
         scope: ScopeNo,
         here: Option<Occ>,
         rules: Tree,
-    ) -> Result<(), ExpandFault> {
+    ) -> Result<(), ExpandFault>
+        requires look { CanLook work.now self.now scope }
+        requires rules { IsStanding work.now rules }
+        ensures { (known : Known) (ls : List Frames) (s : ScopedState) (fs : Frames) (t : ModelTree Identifier) → Stands work.now self.now ls s →
+            At ls scope fs → StandsFor work.now rules t → Tests work.now s result (rules_parts (searched known) here fs (rules_parts_of t) s) }
+    {
         let Some(ident) = rules_head(work, rules) else {
             return Err(fails(here, code::BAD_FORM));
         };
@@ -109,7 +132,14 @@ impl UnitScope {
         scope: ScopeNo,
         here: Option<Occ>,
         rules: Tree,
-    ) -> Result<Macro, ExpandFault> {
+    ) -> Result<Macro, ExpandFault>
+        requires look { CanLook work.now self.old scope }
+        requires rules { IsStanding work.now rules }
+        ensures read { (known : Known) (region : AnyRegion) (ls : List Frames) (s : ScopedState) (fs : Frames) (t : ModelTree Identifier) (r : RulesParts Identifier) →
+            Stands work.now self.old ls s → At ls scope fs → StandsFor work.now rules t → rules_parts_of t ≡ Some r →
+            EndsHere (λ k rs. IsMacro work.now ls k (record { env = fs; rules = rs })) work.now work.now region self.old self.new ls result (rules_at (searched known) here t r s) }
+        ensures counts { OnOk result ((self.new.form.budget.locals ≡ self.old.form.budget.locals) × (self.new.form.budget.uses ≡ self.old.form.budget.uses)) }
+    {
         self.count(here, work.size(rules))?;
         match check(alloc, work, rules) {
             Ok(checked) => {
@@ -147,7 +177,11 @@ impl UnitScope {
         work: &Work,
         binder: Binder,
         meaning: Meaning,
-    ) -> Mem<MacroDef> {
+    ) -> Mem<MacroDef>
+        requires { CanTell work.now self.now meaning }
+        ensures { (known : Known) (ls : List Frames) (s : ScopedState) (b : ModelBinder) → Stands work.now self.now ls s → IsBinder work.now.symbols s.unit s.form binder b →
+            IsMeaning work.now.symbols s.unit s.form meaning (meaning_of b.bound b.ident) → IfOk result (λ d. IsMacroDef work.now s.unit s.form d (macro_def (searched known) s b)) }
+    {
         let Some(defined) = self.macros.meaning(self.form.number, meaning) else {
             return Ok(MacroDef {
                 binder,

@@ -1,8 +1,20 @@
 //! Units, one after another, and their forms: the calls of this crate (R7RS 5.1, 5.6).
-ghost use Rattle.std.specs.Prelude.{◌≡◌, ℕ, List, map, IfOk};
+ghost use Rattle.std.specs.Prelude.{◌≡◌, ℕ, List, map, IfOk, ◌+◌, ◌-◌, ◌^◌, ◌<◌, ◌≤◌, Err, OnOk};
 ghost use Rattle.std.specs.BTreeSet.{contains_text};
 ghost use Rattle.scheme_model.specs.Program.{has_name};
 ghost use Rattle.expander.specs.Seen.{item_of};
+ghost use Rattle.scheme_model.specs.Ident.{Ident as Identifier};
+ghost use Rattle.scheme_model.specs.Requirements.{Known};
+ghost use Rattle.scheme_model.specs.Trees.{Tree as ModelTree};
+ghost use Rattle.scheme_model.specs.Order.{Note, Item as ModelItem};
+ghost use Rattle.scheme_model.specs.ScopedExpansion.{Frames, Place, ScopedState};
+ghost use Rattle.syntax_tree.specs.Names.{KeepsNames};
+ghost use Rattle.syntax_tree.specs.Works.{IsOpened, StandsFor, KeepsTrees, SameRegions, AddsIn, live_count};
+ghost use Rattle.core_tree.specs.Names.{AllMatch};
+ghost use Rattle.expander.specs.Judged.{Knows};
+ghost use Rattle.expander.specs.Outcomes.{IsAtWork};
+ghost use Rattle.expander.specs.Units.{UnitStands, CountsFor, HasSpace, ItemFor, Declares, Expands, CanDeclare, declared, expanded};
+
 
 use crate::asked::Asked;
 use crate::bodies::forms_at;
@@ -43,7 +55,6 @@ impl UnitScope {
             root: 0,
             libraries: BTreeSet::new(alloc),
             defined: BTreeMap::new(alloc),
-            count: 0,
             asked: Asked::new(alloc),
             form: FormAtWork {
                 number: 0,
@@ -123,7 +134,6 @@ impl UnitScope {
         self.kind = kind;
         self.root = root;
         self.defined = BTreeMap::new(self.alloc);
-        self.count = 0;
         self.asked = Asked::new(self.alloc);
         self.macros.locals = BTreeMap::new(self.alloc);
         Ok(())
@@ -139,7 +149,23 @@ impl UnitScope {
         budget: &mut Budget,
         trace: &mut Trace,
         steps: &mut Steps<L>,
-    ) -> Result<Items<Item>, ExpandFault> {
+    ) -> Result<Items<Item>, ExpandFault>
+        requires opened { IsOpened work.old region.now }
+        requires form { IsAtWork work.old region.now form }
+        requires stands { CanDeclare work.old self.old number budget.old trace.old }
+        requires space { HasSpace (2 ^ 43 + 2 ^ 40) budget.old }
+        ensures declared { (known : Known) (ls : List Frames) (s : ScopedState) (notes : List (Note Place)) (t : ModelTree Identifier) → Knows self.old.libraries known →
+            UnitStands work.old self.old ls s notes → CountsFor work.old s number budget.old trace.old → StandsFor work.old form t →
+            Declares work.old work.new region.now self.old self.new budget.old budget.new ls number trace.new result (declared known number t notes s) }
+        ensures space { OnOk result (HasSpace (2 ^ 43) budget.new) }
+        ensures ticks { steps.new + budget.old.uses ≡ steps.old + budget.new.uses }
+        ensures keeps { KeepsTrees work.old work.new }
+        ensures names { KeepsNames work.old.symbols work.new.symbols }
+        ensures added { AddsIn work.old work.new region.now }
+        ensures regions { SameRegions work.old work.new }
+        ensures nodes { live_count work.new + budget.old.nodes ≤ live_count work.old + 200000 }
+        ensures full { result ≡ Err ExpandFault.Full → 2 ^ 31 < live_count work.old + (200000 - budget.old.nodes) }
+    {
         let before = budget.uses;
         self.turn(number, *budget, trace);
         let aside = self.declare(work, region, form);
@@ -159,7 +185,23 @@ impl UnitScope {
         budget: &mut Budget,
         trace: &mut Trace,
         steps: &mut Steps<L>,
-    ) -> Result<ExpandedItem, ExpandFault> {
+    ) -> Result<ExpandedItem, ExpandFault>
+        requires opened { IsOpened work.old region.now }
+        requires item { (i : ModelItem Identifier) × ItemFor work.old region.now self.old.unit number item.now i }
+        requires stands { CanDeclare work.old self.old number budget.old trace.old }
+        requires space { HasSpace (2 ^ 43) budget.old }
+        ensures expanded { (known : Known) (ls : List Frames) (s : ScopedState) (notes : List (Note Place)) (i : ModelItem Identifier) → Knows self.old.libraries known →
+            UnitStands work.old self.old ls s notes → CountsFor work.old s number budget.old trace.old → ItemFor work.old region.now self.old.unit number item.now i →
+            Expands work.old work.new region.now self.old self.new budget.old budget.new ls number trace.new notes result (expanded known number i s) }
+        ensures space { OnOk result (HasSpace (2 ^ 43) budget.new) }
+        ensures ticks { steps.new + budget.old.uses ≡ steps.old + budget.new.uses }
+        ensures keeps { KeepsTrees work.old work.new }
+        ensures names { KeepsNames work.old.symbols work.new.symbols }
+        ensures added { AddsIn work.old work.new region.now }
+        ensures regions { SameRegions work.old work.new }
+        ensures nodes { live_count work.new + budget.old.nodes ≤ live_count work.old + 200000 }
+        ensures full { result ≡ Err ExpandFault.Full → 2 ^ 31 < live_count work.old + (200000 - budget.old.nodes) }
+    {
         let before = *budget;
         self.turn(number, *budget, trace);
         let at = At {

@@ -1,12 +1,23 @@
 //! Macro uses (R7RS 4.3.2): which literals mean the same, the rule that matches, and the instance of its template.
-ghost use Rattle.std.specs.Prelude.{◌≡◌, map, filter, Option, Some, IfOk};
+ghost use Rattle.std.specs.Prelude.{◌≡◌, map, filter, Option, Some, IfOk, ◌+◌, List, OnOk};
 ghost use Rattle.scheme_model.specs.declared.Occ.{Occ};
-ghost use Rattle.scheme_model.specs.Trees.{Tree as ModelTree};
-ghost use Rattle.scheme_model.specs.Order.{name_in};
+ghost use Rattle.scheme_model.specs.Trees.{Tree as ModelTree, Trees, Tail};
+ghost use Rattle.scheme_model.specs.Order.{name_in, Transformer, comparisons, use_of};
 ghost use Rattle.scheme_model.specs.Ident.{Ident as Identifier};
 ghost use Rattle.syntax_tree.specs.Standing.{leaf_tree};
-ghost use Rattle.syntax_tree.specs.Works.{StandsFor, IsStanding};
+ghost use Rattle.syntax_tree.specs.Works.{StandsFor, IsStanding, CanName, IsOpened};
 ghost use Rattle.core_forms.specs.Parts.{IsNameIfAny};
+ghost use Rattle.scheme_model.specs.Requirements.{Known};
+ghost use Rattle.scheme_model.specs.RulesShape.{role_of, dots_of};
+ghost use Rattle.scheme_model.specs.Matching.{compared};
+ghost use Rattle.scheme_model.specs.Cores.{Target as ModelTarget};
+ghost use Rattle.scheme_model.specs.ScopedExpansion.{Frames, ScopedState};
+ghost use Rattle.syntax_tree.specs.Macros.{identifiers};
+ghost use Rattle.core_tree.specs.Names.{AllMatch};
+ghost use Rattle.expander.specs.Searched.{searched};
+ghost use Rattle.expander.specs.State.{Stands};
+ghost use Rattle.expander.specs.Used.{UseFor, CanUse, ComparisonFor, AreHeld};
+ghost use Rattle.expander.specs.Outcomes.{At, WorksOn, EndsHere};
 
 use crate::counting::{MAX_NODES, code, fails};
 use crate::fault::ExpandFault;
@@ -51,7 +62,12 @@ impl UnitScope {
         alloc: Global,
         work: &Work,
         at: Use,
-    ) -> Mem<(ScopeNo, Vec<Comparison>)> {
+    ) -> Mem<(ScopeNo, Vec<Comparison>)>
+        requires { CanUse work.now self.now at }
+        ensures { (known : Known) (ls : List Frames) (s : ScopedState) (fs : Frames) (keyword : ModelTarget) (m : Transformer Frames Identifier) (ts : Trees Identifier) (tail : Tail Identifier) →
+            Stands work.now self.now ls s → At ls at.scope fs → UseFor work.now s at keyword m ts tail →
+            IfOk result (λ p. At ls p.0 m.env × AllMatch (ComparisonFor work.now ls p.0 at.scope) p.1.items (comparisons (searched known) fs m ts tail s)) }
+    {
         let Some(used) = self.macros.meaning(self.form.number, at.keyword.meaning) else {
             return Ok((at.scope, Vec::new(alloc)));
         };
@@ -73,7 +89,17 @@ impl UnitScope {
         region: &Region,
         at: Use,
         same: &Items<IdPair>,
-    ) -> Result<Tree, ExpandFault> {
+    ) -> Result<Tree, ExpandFault>
+        requires opened { IsOpened work.old region.now }
+        requires usable { CanUse work.old self.old at }
+        requires named { CanName work.old region.now at.form }
+        ensures used { (known : Known) (ls : List Frames) (s : ScopedState) (fs : Frames) (keyword : ModelTarget) (m : Transformer Frames Identifier) (ts : Trees Identifier) (tail : Tail Identifier) →
+            Stands work.old self.old ls s → At ls at.scope fs → UseFor work.old s at keyword m ts tail →
+            AreHeld work.old s m.env fs same.now (compared (role_of identifiers m.rules) (dots_of identifiers m.rules) m.rules.rules ts tail) →
+            EndsHere (WorksOn work.new region.now) work.old work.new region.now self.old self.new ls result (use_of (searched known) at.here fs keyword m ts tail s) }
+        ensures counted { OnOk result (self.new.form.budget.uses ≡ self.old.form.budget.uses + 1) }
+        ensures locals { OnOk result (self.new.form.budget.locals ≡ self.old.form.budget.locals) }
+    {
         if self.form.budget.uses == MAX_USES {
             return Err(fails(at.here, code::USE_BUDGET));
         }

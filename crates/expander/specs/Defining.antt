@@ -1,0 +1,64 @@
+-- Definitions in the code (R7RS 5.3 to 5.5).
+use Rattle.std.specs.Prelude.{◌≡◌, ℕ, ◌+◌, ◌≤◌, List, [], ◌∷◌, Option, Some, None, Result, Ok, Err}
+use Rattle.scheme_model.specs.Ident.{Ident as Identifier}
+use Rattle.scheme_model.specs.ExpansionFaults.{Named}
+use Rattle.scheme_model.specs.RulesShape.{Rules}
+use Rattle.scheme_model.specs.Cores.{Binder}
+use Rattle.scheme_model.specs.Steps.{Broken, Step, ◌>>=◌, done}
+use Rattle.scheme_model.specs.Order.{Here, Note, Pending, Ops, told, binder_at}
+use Rattle.scheme_model.specs.ScopedExpansion.{Frames, Place, ScopedState}
+use Rattle.syntax_tree.specs.declared.trees.Work.{Work}
+use Rattle.syntax_tree.specs.declared.trees.table.Region.{Region}
+use Rattle.core_forms.specs.Parts.{IsName}
+use Rattle.core_forms.specs.declared.shape.NamePart.{NamePart}
+use Rattle.expander.specs.State.{IsMacro, Stands}
+use Rattle.expander.specs.Kept.{NotesFor, SpotFor}
+use Rattle.expander.specs.Outcomes.{Stays, Leaves, MayFill, Breaks}
+use Rattle.expander.specs.declared.asked.Asked.{Asked}
+use Rattle.expander.specs.declared.fault.ExpandFault.{ExpandFault}
+use Rattle.expander.specs.declared.fault.ExpandFault.TheVariants as fault
+use Rattle.expander.specs.declared.items.Spot as code_spot
+use Rattle.expander.specs.declared.macros.Macro as code_macro
+use Rattle.expander.specs.declared.scope.UnitScope.{UnitScope}
+
+-- ---- what calls demand
+
+-- the scopes of the code stand for some state, in which forms are gone through here, and the notes for some notes
+pub record CanGo (work : Work) (u : UnitScope) (spot : code_spot.Spot) (asked : Asked) : Type 0 where
+  pub layout : List Frames
+  pub state : ScopedState
+  pub frames : Frames
+  pub found : List (Note Place)
+  pub stands : Stands work u layout state
+  pub placed : SpotFor work u layout state spot frames
+  pub notes : NotesFor work layout asked found
+
+abbrev pub HasNumber : Work → NamePart → Type 0
+HasNumber work name = (n : Named Identifier) × IsName work name n
+
+-- ---- definitions
+
+-- what is to be defined as a macro, if it is one
+abbrev pub IsKept : Work → List Frames → Frames → Option code_macro.Macro → Option (Rules Identifier) → Type 0
+IsKept work ls fs None None = Unit {0}
+IsKept work ls fs None (Some r) = ⊥
+IsKept work ls fs (Some k) None = ⊥
+IsKept work ls fs (Some k) (Some r) = IsMacro work ls k (record { env = fs; rules = r })
+
+-- at most so many locals were taken, and nothing else was counted
+pub record Takes (most : ℕ) (u v : UnitScope) : Type 0 where
+  pub locals : v.form.budget.locals ≤ u.form.budget.locals + most
+  pub uses : v.form.budget.uses ≡ u.form.budget.uses
+  pub nodes : v.form.budget.nodes ≡ u.form.budget.nodes
+
+-- a step that adds no node and opens no scope, where forms are gone through
+abbrev pub EndsIn : {X Y : Type 0} → (X → Y → Type 0) → Work → Region → UnitScope → UnitScope → List Frames → code_spot.Spot → Frames → Result X ExpandFault → Result Y Broken × ScopedState → Type 0
+EndsIn {X} {Y} P work region u v ls spot fs (Ok x) p = (y : Y) × Stays work work region u v ls p.1 × SpotFor work v ls p.1 spot fs × (p.0 ≡ Ok y) × P x y
+EndsIn P work region u v ls spot fs (Err (fault.At e)) p = Stays work work region u v ls p.1 × SpotFor work v ls p.1 spot fs × Breaks work e p
+EndsIn P work region u v ls spot fs (Err fault.Full) p = Leaves work work region u × MayFill work u
+EndsIn P work region u v ls spot fs (Err fault.Memory) p = Leaves work work region u
+
+-- names are defined one after another, each a variable
+abbrev pub define_each : {E A L S : Type 0} → Ops E A L S → Here → E → List (Named A) → Pending A L → Step S (List Binder)
+define_each ops here e [] p s = done [] s
+define_each ops here e (n ∷ ns) p s = told here (ops.define n None e p s) >>= λ q t. define_each ops here e ns p t >>= λ bs. done (binder_at ops e s n ∷ bs)
