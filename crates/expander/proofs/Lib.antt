@@ -22,5 +22,6 @@ pub mod AskedSearch
 pub mod ToldLaws
 pub mod LeafLaws
 pub mod SeenLaws
+pub mod FormRows
 pub mod ChoiceLaws
 pub mod OutcomeLaws
