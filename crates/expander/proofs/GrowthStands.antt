@@ -150,7 +150,7 @@ module _ (old new : Work) (trees : KeepsTrees old new) (names : KeepsNames old.s
     there_on form (Free n) (model.Standard x) h = absurd h
     there_on form (Free n) (model.Free x) h = no_macro new ls (macro_at s.macros (model.Free x)) (e.free x)
 
-    macros_on : MacrosStand new ms ls s
+    pub macros_on : MacrosStand new ms ls s
     macros_on = record {
       there = there_on;
       idents = λ u i h. let m = e.idents u i h in (m.0, names.idents m.0 i m.1);
@@ -170,7 +170,7 @@ module _ (old new : Work) (trees : KeepsTrees old new) (names : KeepsNames old.s
   used_named env ls s e k None none = subst (λ (fs : Frames). AreNamed old.symbols (chain_in s fs)) (sym (e.unnoted k none)) tt
   used_named env ls s e k (Some n) noted = e.named n (around s.places k) (e.noted k n noted)
 
-  env_on : (env : Environment) (ls : List Frames) (s : ScopedState) → EnvStands old.symbols env ls s → EnvStands new.symbols env ls s
+  pub env_on : (env : Environment) (ls : List Frames) (s : ScopedState) → EnvStands old.symbols env ls s → EnvStands new.symbols env ls s
   env_on env ls s e = record {
     count = e.count;
     scopes = λ n fs at. chain_grows old.symbols new.symbols names apart env (Some n) (chain_in s fs) (e.named n fs at) (e.scopes n fs at);

@@ -25,3 +25,8 @@ pub mod SeenLaws
 pub mod FormRows
 pub mod ChoiceLaws
 pub mod OutcomeLaws
+pub mod OpenedStand
+pub mod ImportLaws
+pub mod CallLaws
+pub mod DeclareLaws
+pub mod PreludeLaws

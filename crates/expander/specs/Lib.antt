@@ -24,3 +24,4 @@ pub mod Bodies
 pub mod Expanded
 pub mod Units
 pub mod Opened
+pub mod Preluded

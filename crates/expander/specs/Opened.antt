@@ -1,12 +1,15 @@
 -- What a unit begins with, in the definition and in the code (R7RS 5.1, 5.6).
-use Rattle.std.specs.Prelude.{◌≡◌, ℕ, ◌==◌, ◌<◌, ◌&&◌, List, [], ◌∷◌, length, slice_get, Bool, true, false, Option, Some, None, if◌then◌else◌}
-use Rattle.scheme_model.specs.Meaning.{Meaning, Standard}
-use Rattle.scheme_model.specs.Order.{Note}
+use Rattle.std.specs.Prelude.{◌≡◌, ℕ, ◌==◌, ◌<◌, List, [], length, slice_get, Bool, false, Option, Some, None, if◌then◌else◌}
+use Rattle.std.specs.Option.{option_map}
+use Rattle.std.specs.FinMap as map
+use Rattle.scheme_model.specs.Ident.{Written}
+use Rattle.scheme_model.specs.Meaning.{Meaning}
 use Rattle.scheme_model.specs.Substitution.{Entries}
-use Rattle.scheme_model.specs.ScopedExpansion.{Frames, Place, ScopedState}
-use Rattle.syntax_tree.specs.Names.{Names}
+use Rattle.scheme_model.specs.ScopedExpansion.{Frames, ScopedState}
+use Rattle.syntax_tree.specs.Names.{Names, AreToldApart}
 use Rattle.syntax_tree.specs.Meant.{IsSymbol, IsGivenMeaning}
 use Rattle.syntax_tree.specs.declared.trees.Work.{Work}
+use Rattle.scope_env.specs.Environment.{IsSound, with_bound}
 use Rattle.expander.specs.State.{HasBegun, EnvStands, MacrosStand}
 use Rattle.expander.specs.declared.scope.Imported as code
 use Rattle.expander.specs.declared.scope.UnitScope.{UnitScope}
@@ -68,8 +71,23 @@ pub record ImportsFor (names : Names) (xs : List code.Imported) (imported : List
 
 -- ---- the code between two units
 
+-- the unit wasn't begun
+abbrev pub IsNew : UnitScope → (unit : ℕ) → Type 0
+IsNew scope unit = map.get scope.env.roots unit ≡ None
+
 -- what is kept of all units so far
 pub record HasUnits (work : Work) (scope : UnitScope) (ls : List Frames) (s : ScopedState) : Type 0 where
   pub env : EnvStands work.symbols scope.env ls s
   pub macros : MacrosStand work scope.macros ls s
   pub begun : HasBegun scope.env.roots ls s
+
+-- ---- steps of the code
+
+-- the unit's own scope binds a symbol that it imports
+pub record BindsImport (old new : Work) (u v : UnitScope) (unit root : ℕ) (x : code.Imported) : Type 0 where
+  pub ident : ℕ
+  pub name : slice_get new.symbols.idents ident ≡ option_map (Written unit) (slice_get old.symbols.symbols x.symbol)
+  pub after : v ≡ record u { env = with_bound u.env root ident x.meaning }
+  pub sound : IsSound u.env
+  pub apart : AreToldApart new.symbols.idents
+  pub told : AreToldApart new.symbols.symbols

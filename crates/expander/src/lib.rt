@@ -16,6 +16,7 @@ mod items;
 mod libraries;
 mod macros;
 mod passes;
+mod prelude;
 mod quasi;
 mod requirements;
 mod scope;
@@ -25,5 +26,6 @@ mod uses;
 
 pub use fault::ExpandFault;
 pub use items::Item;
+pub use prelude::units_go_on;
 pub use scope::{Budget, Imported, UnitScope};
 
