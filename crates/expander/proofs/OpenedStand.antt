@@ -125,9 +125,9 @@ module _ (unit : ℕ) (d : Option Defined) (v : ℕ) (i : Identifier) where
       let u = inside refl in
       (λ k. cond (u k && t) (Some m) (defined_or (n k) v i (cond p (cond (same k) fy ev) None)))
       ∙ (at_unit p t m fy
-      ∙ sym (λ k. defined_or (n k) v i (cond p (cond (same k) (cond t (Some m) fy) ev) None)))
+      ∙ (λ k. defined_or (sym n k) v i (cond p (cond (sym same k) (cond t (Some m) fy) ev) None)))
   one_more false b t p q m fy ev same inside none =
-      (λ k. defined_or d v i (cond p (cond (same k) fy ev) None)) ∙ sym (λ k. defined_or d v i (cond p (cond (same k) (cond t (Some m) fy) ev) None))
+      (λ k. defined_or d v i (cond p (cond (same k) fy ev) None)) ∙ (λ k. defined_or d v i (cond p (cond (sym same k) (cond t (Some m) fy) ev) None))
 
 given_none : (table : Option Defined) (v : ℕ) (i : Identifier) (o : Option model.Meaning) → defined_or table v i o ≡ None → table ≡ None
 given_none None v i o h = refl

@@ -28,7 +28,7 @@ use Rattle.syntax_tree.specs.declared.meaning.Meaning.{Meaning}
 use Rattle.syntax_tree.specs.declared.meaning.Meaning.TheVariants as code
 use Rattle.syntax_tree.specs.declared.trees.Work.{Work}
 use Rattle.syntax_tree.proofs.Places.{none_some}
-use Rattle.scope_env.specs.Environment.{Environment, IsSound, no_scopes}
+use Rattle.scope_env.specs.Environment.{Environment, IsSound, no_scopes, number_cmp}
 use Rattle.scope_env.specs.Resolved.{local, bound_at, own}
 use Rattle.scope_env.specs.Standing.{StandsFor, Gives, EnvFor}
 use Rattle.core_tree.specs.declared.traces.Trace.{Trace}
@@ -75,9 +75,9 @@ nothing_env names = record {
   scopes = λ n fs there. none_some fs there;
   given = record {
     own = λ u n. subst (λ (o : Option ℕ). Gives names (option_and_then (λ (r : ℕ). bound_at no_scopes r n) o) (option_and_then (given_in nothing_yet u) (slice_get names.idents n))) (sym (get-empty nat_cmp u)) (gives_none names u (slice_get names.idents n));
-    uses = λ k. subst (λ (o : Option ℕ). StandsFor names no_scopes o []) (sym (get-empty _ k)) (λ n. none_bound names (slice_get names.idents n));
+    uses = λ k. subst (λ (o : Option ℕ). StandsFor names no_scopes o []) (sym (get-empty number_cmp k)) (λ n. none_bound names (slice_get names.idents n));
   };
-  noted = λ k n is. not_some n _ (get-empty _ k) is;
+  noted = λ k n is. not_some n _ (get-empty number_cmp k) is;
   unnoted = λ k none. refl;
   inside = λ n f fs there. none_some (f ∷ fs) there;
   entered = λ n fs there. none_some fs there;
