@@ -31,8 +31,9 @@ struct Scope {
 
 impl Clone for Scope {
     ghost use Rattle.std.specs.Prelude.{◌≡◌};
+    ghost use Rattle.scope_env.specs.Kept.{scope_of};
 
-    ghost is_clone = { λ s t. t ≡ s };
+    ghost is_clone = { λ s t. scope_of t ≡ scope_of s };
 
     fn clone(&self) -> Result<Scope, AllocError> {
         Ok(Scope {
