@@ -11,7 +11,7 @@ use Rattle.scope_env.proofs.env.Env.copy.Goals.{In_ok-clone-3}
 -- what the fields stand for
 same : (c : In_ok-clone-3) → environment_of c.in_ok-clone.field-0.items c.in_ok-clone-2.field-0.entries c.in_ok-clone-3.field-0.entries ≡ environment_of c.self.inside.scopes.items c.self.inside.uses.entries c.self.inside.roots.entries
 same c =
-    let scopes = scopes_copied c.self.inside.scopes.items c.in_ok-clone.field-0.items c.in_ok-clone.ensures.cases in
+    let scopes = scopes_copied _ (λ s t h. h) c.self.inside.scopes.items c.in_ok-clone.field-0.items c.in_ok-clone.ensures.cases.0 in
     let uses : c.in_ok-clone-2.field-0.entries ≡ c.self.inside.uses.entries = entries_from_clone _ _ (λ x y h. h) (λ v w h. h) c.self.inside.uses.entries c.in_ok-clone-2.field-0.entries c.in_ok-clone-2.ensures.cases in
     let roots : c.in_ok-clone-3.field-0.entries ≡ c.self.inside.roots.entries = entries_from_clone _ _ (λ x y h. h) (λ v w h. h) c.self.inside.roots.entries c.in_ok-clone-3.field-0.entries c.in_ok-clone-3.ensures.cases in
     λ j. record { scopes = scopes j; uses = uses_of (uses j); roots = from_entries (roots j) }
