@@ -1,12 +1,16 @@
 -- Work goes to a form and comes back: the state of the unit between two calls, and while a form is at work.
-use Rattle.std.proofs.Common.{◌≡◌, ℕ, ◌+◌, ◌^◌, ◌≤◌, List, [], ◌∷◌, reverse, Result, Ok, Err, sym, ap, ◌∙◌, subst, arith}
+use Rattle.std.proofs.Common.{◌≡◌, ℕ, ◌+◌, ◌^◌, ◌≤◌, List, [], ◌∷◌, reverse, Result, Ok, Err, refl, sym, ap, ◌∙◌, subst, arith}
+use Rattle.std.specs.Prelude.{String}
+use Rattle.std.specs.BTreeSet.{BTreeSet, contains_text}
+use Rattle.std.specs.declared.alloc.Global.{Global}
 use Rattle.scheme_model.specs.Ident.{Ident as Identifier}
+use Rattle.scheme_model.specs.Requirements.{Known}
 use Rattle.scheme_model.specs.Cores.{Part}
 use Rattle.scheme_model.specs.Steps.{Broken}
 use Rattle.scheme_model.specs.Order.{Note, LookedUp, Compared, Pass}
 use Rattle.scheme_model.specs.ScopedExpansion.{Frames, Place, ScopedState}
 use Rattle.syntax_tree.specs.Names.{Names, KeepsNames}
-use Rattle.syntax_tree.specs.Works.{KeepsTrees, SameRegions, AddsIn, live_count}
+use Rattle.syntax_tree.specs.Works.{live_count}
 use Rattle.syntax_tree.specs.declared.trees.Work.{Work}
 use Rattle.syntax_tree.specs.declared.trees.table.Region.{Region}
 use Rattle.core_tree.specs.Cores.{PartStands}
@@ -15,11 +19,12 @@ use Rattle.core_tree.specs.Traces.{IsFault}
 use Rattle.core_tree.specs.declared.cores.CorePart.{CorePart}
 use Rattle.core_tree.specs.declared.traces.FormFault.{FormFault}
 use Rattle.core_tree.specs.declared.traces.Trace.{Trace}
+use Rattle.expander.specs.Judged.{Knows, library_text}
 use Rattle.expander.specs.Kept.{NoteFor, NotesFor}
-use Rattle.expander.specs.Outcomes.{At, Leaves, SameForm, Stays, Moves, Ends}
+use Rattle.expander.specs.Outcomes.{At, Leaves, SameForm, Stays, Moves, MayFill, Ends}
 use Rattle.expander.specs.State.{FormStands, Rests, Stands}
 use Rattle.expander.specs.Stepped.{turned}
-use Rattle.expander.specs.Units.{UnitStands, form_at, CountsFor, ItemFor, CanDeclare, CanSet, Goes, Sets, Declares, Expands}
+use Rattle.expander.specs.Units.{UnitStands, form_at, CountsFor, ItemFor, CanDeclare, CanSet, Goes, Adds, Counts, Sets, Declares, Expands}
 use Rattle.expander.specs.declared.asked.Asked.{Asked}
 use Rattle.expander.specs.declared.asked.Note as code_note
 use Rattle.expander.specs.declared.asked.Note.TheVariants as notes
@@ -190,44 +195,52 @@ module _ (old new : Work) (region : Region) (u u1 v w : UnitScope) (number : ℕ
 
 -- ---- what holds however a call ends
 
--- trees, names and nodes after a call
-pub record Keeps (old new : Work) (region : Region) (before : Budget) : Type 0 where
-  pub trees : KeepsTrees old new
-  pub names : KeepsNames old.symbols new.symbols
-  pub added : AddsIn old new region
-  pub regions : SameRegions old new
-  pub nodes : live_count new + before.nodes ≤ live_count old + 200000
+-- the libraries that there are, as the definition knows them
+pub all_known : (libraries : BTreeSet (String Global)) → (known : Known) × Knows libraries known
+all_known libraries = (λ n. contains_text libraries (library_text n), λ n. refl)
 
-keeps_left : (old new : Work) (region : Region) (u : UnitScope) → Leaves old new region u → Keeps old new region u.form.budget
-keeps_left old new region u h = record { trees = h.work.trees; names = h.work.names; added = h.work.added; regions = h.work.regions; nodes = h.few }
+module _ (old new : Work) (region : Region) (u v : UnitScope) where
+  adds_left : Leaves old new region u → Adds old new region u.form.budget
+  adds_left h = record { trees = h.work.trees; names = h.work.names; added = h.work.added; regions = h.work.regions; nodes = h.few }
 
-keeps_stays : (old new : Work) (region : Region) (u v : UnitScope) (ls : List Frames) (t : ScopedState) → Stays old new region u v ls t → Keeps old new region u.form.budget
-keeps_stays old new region u v ls t h =
-    let few : v.form.budget.nodes ≤ 200000 = h.stands.form.few_nodes in
-    record { trees = h.work.trees; names = h.work.names; added = h.work.added; regions = h.work.regions; nodes = omega (arith, h.counted, few) }
+  adds_stays : (ls : List Frames) (t : ScopedState) → Stays old new region u v ls t → Adds old new region u.form.budget
+  adds_stays ls t h =
+      let few : v.form.budget.nodes ≤ 200000 = h.stands.form.few_nodes in
+      record { trees = h.work.trees; names = h.work.names; added = h.work.added; regions = h.work.regions; nodes = omega (arith, h.counted, few) }
 
--- whatever was set aside, or came of an item
-pub sets_keeps : (old new : Work) (region : Region) (u v : UnitScope) (ls : List Frames) (r : Result (List code_item.Item) ExpandFault) (p : Pass Identifier Place × ScopedState) → Sets old new region u v ls r p → Keeps old new region u.form.budget
-sets_keeps old new region u v ls (Ok xs) p h = keeps_stays old new region u v ls p.1 h.2
-sets_keeps old new region u v ls (Err (fault.At e)) p h = keeps_stays old new region u v ls p.1 h.2
-sets_keeps old new region u v ls (Err fault.Full) p h = keeps_left old new region u h.0
-sets_keeps old new region u v ls (Err fault.Memory) p h = keeps_left old new region u h
+  pub sets_adds : (ls : List Frames) (r : Result (List code_item.Item) ExpandFault) (p : Pass Identifier Place × ScopedState) → Sets old new region u v ls r p → Adds old new region u.form.budget
+  sets_adds ls (Ok xs) p h = adds_stays ls p.1 h.2
+  sets_adds ls (Err (fault.At e)) p h = adds_stays ls p.1 h.2
+  sets_adds ls (Err fault.Full) p h = adds_left h.0
+  sets_adds ls (Err fault.Memory) p h = adds_left h
 
-pub ends_keeps : {X Y : Type 0} (P : List Frames → X → Y → Type 0) (old new : Work) (region : Region) (u v : UnitScope) (ls : List Frames) (r : Result X ExpandFault) (p : Result Y Broken × ScopedState) → Ends P old new region u v ls r p → Keeps old new region u.form.budget
-ends_keeps P old new region u v ls (Ok x) p h = keeps_stays old new region u v h.1.layout p.1 h.1.stays
-ends_keeps P old new region u v ls (Err (fault.At e)) p h = keeps_stays old new region u v h.0.layout p.1 h.0.stays
-ends_keeps P old new region u v ls (Err fault.Full) p h = keeps_left old new region u h.0
-ends_keeps P old new region u v ls (Err fault.Memory) p h = keeps_left old new region u h
+  pub sets_counts : (ls : List Frames) (r : Result (List code_item.Item) ExpandFault) (p : Pass Identifier Place × ScopedState) → Sets old new region u v ls r p → Counts u v r
+  sets_counts ls (Ok xs) p h = h.2.same
+  sets_counts ls (Err (fault.At e)) p h = h.2.same
+  sets_counts ls (Err fault.Full) p h = tt
+  sets_counts ls (Err fault.Memory) p h = tt
 
--- uses and nodes that were counted, where a step was made
-pub sets_count : (old new : Work) (region : Region) (u v : UnitScope) (ls : List Frames) (xs : List code_item.Item) (p : Pass Identifier Place × ScopedState) → Sets old new region u v ls (Ok xs) p → SameForm u v × (v.form.budget.locals ≤ u.form.budget.locals + 2 ^ 40)
-sets_count old new region u v ls xs p h = (h.2.same, h.5)
+  pub sets_full : (ls : List Frames) (r : Result (List code_item.Item) ExpandFault) (p : Pass Identifier Place × ScopedState) → Sets old new region u v ls r p → r ≡ Err fault.Full → MayFill old u
+  sets_full ls (Ok xs) p h is = absurd cc
+  sets_full ls (Err (fault.At e)) p h is = absurd cc
+  sets_full ls (Err fault.Full) p h is = h.1
+  sets_full ls (Err fault.Memory) p h is = absurd cc
 
-pub sets_count_fault : (old new : Work) (region : Region) (u v : UnitScope) (ls : List Frames) (e : FormFault) (p : Pass Identifier Place × ScopedState) → Sets old new region u v ls (Err (fault.At e)) p → SameForm u v
-sets_count_fault old new region u v ls e p h = h.2.same
+  module _ {X Y : Type 0} (P : List Frames → X → Y → Type 0) (ls : List Frames) where
+    pub ends_adds : (r : Result X ExpandFault) (p : Result Y Broken × ScopedState) → Ends P old new region u v ls r p → Adds old new region u.form.budget
+    ends_adds (Ok x) p h = adds_stays h.1.layout p.1 h.1.stays
+    ends_adds (Err (fault.At e)) p h = adds_stays h.0.layout p.1 h.0.stays
+    ends_adds (Err fault.Full) p h = adds_left h.0
+    ends_adds (Err fault.Memory) p h = adds_left h
 
-pub ends_count : {X Y : Type 0} (P : List Frames → X → Y → Type 0) (old new : Work) (region : Region) (u v : UnitScope) (ls : List Frames) (x : X) (p : Result Y Broken × ScopedState) → Ends P old new region u v ls (Ok x) p → SameForm u v
-ends_count P old new region u v ls x p h = h.1.stays.same
+    pub ends_counts : (r : Result X ExpandFault) (p : Result Y Broken × ScopedState) → Ends P old new region u v ls r p → Counts u v r
+    ends_counts (Ok x) p h = h.1.stays.same
+    ends_counts (Err (fault.At e)) p h = h.0.stays.same
+    ends_counts (Err fault.Full) p h = tt
+    ends_counts (Err fault.Memory) p h = tt
 
-pub ends_count_fault : {X Y : Type 0} (P : List Frames → X → Y → Type 0) (old new : Work) (region : Region) (u v : UnitScope) (ls : List Frames) (e : FormFault) (p : Result Y Broken × ScopedState) → Ends P old new region u v ls (Err (fault.At e)) p → SameForm u v
-ends_count_fault P old new region u v ls e p h = h.0.stays.same
+    pub ends_full : (r : Result X ExpandFault) (p : Result Y Broken × ScopedState) → Ends P old new region u v ls r p → r ≡ Err fault.Full → MayFill old u
+    ends_full (Ok x) p h is = absurd cc
+    ends_full (Err (fault.At e)) p h is = absurd cc
+    ends_full (Err fault.Full) p h is = h.1
+    ends_full (Err fault.Memory) p h is = absurd cc

@@ -96,9 +96,11 @@ module _ (old new : Work) (region : Region) (u w : UnitScope) (a b : Asked) wher
   leaves_lost ls t h = let few : w.form.budget.nodes ≤ 200000 = h.stands.form.few_nodes in record { work = h.work; few = omega (arith, h.counted, few) }
 
   module _ (ls : List Frames) (spot : code_spot.Spot) (most : ℕ) (aside : List code_kept.Kept) (p : Pass Identifier Place × ScopedState) where
-    pub sets : most ≤ 2 ^ 40 → Passes old new region (asking u a) w ls spot [] most aside b (Ok tt) p → Sets old new region u back ls (Ok (map item_of aside)) p
-    sets few h =
-        (h.0, h.1, stays_back ls p.1 h.2.stays, h.2.notes, all_items new region w.unit w.form.number aside h.0 h.3, omega (arith, h.4, few))
+    pub sets : Passes old new region (asking u a) w ls spot [] most aside b (Ok tt) p → Sets old new region u back ls (Ok (map item_of aside)) p
+    sets h = (h.0, h.1, stays_back ls p.1 h.2.stays, h.2.notes, all_items new region w.unit w.form.number aside h.0 h.3)
+
+    pub few_more : most ≤ 2 ^ 40 → Passes old new region (asking u a) w ls spot [] most aside b (Ok tt) p → w.form.budget.locals ≤ u.form.budget.locals + 2 ^ 40
+    few_more few h = omega (arith, h.4, few)
 
     pub sets_lost : Passes old new region (asking u a) w ls spot [] most aside b (Ok tt) p → Sets old new region u back ls (Err fault.Memory) p
     sets_lost h = leaves_lost ls p.1 h.2.stays

@@ -10,7 +10,8 @@ use Rattle.scheme_model.specs.UnitExpansion.{max_depth}
 use Rattle.scheme_model.specs.Program.{enough_turns}
 use Rattle.scheme_model.specs.Requirements.{Known}
 use Rattle.scheme_model.specs.ScopedExpansion.{Frames, Place, ScopedState}
-use Rattle.syntax_tree.specs.Works.{live_count}
+use Rattle.syntax_tree.specs.Names.{KeepsNames}
+use Rattle.syntax_tree.specs.Works.{KeepsTrees, SameRegions, AddsIn, live_count}
 use Rattle.syntax_tree.specs.declared.trees.Work.{Work}
 use Rattle.syntax_tree.specs.declared.trees.table.Region.{Region}
 use Rattle.core_tree.specs.Cores.{PartStands}
@@ -19,7 +20,7 @@ use Rattle.core_tree.specs.Traces.{IsFault}
 use Rattle.core_tree.specs.declared.traces.Trace.{Trace}
 use Rattle.core_tree.specs.declared.units.ExpandedItem.{ExpandedItem}
 use Rattle.expander.specs.Kept.{KeptFor, NotesFor}
-use Rattle.expander.specs.Outcomes.{At, Stays, Leaves, MayFill}
+use Rattle.expander.specs.Outcomes.{At, SameForm, Stays, Leaves, MayFill}
 use Rattle.expander.specs.Searched.{searched}
 use Rattle.expander.specs.State.{FormStands, Rests, Stands, most_locals}
 use Rattle.expander.specs.Stepped.{turned}
@@ -65,6 +66,21 @@ pub record Goes (old new : Work) (region : Region) (u v : UnitScope) (before aft
   pub units : v.env.roots ≡ u.env.roots
   pub libraries : v.libraries ≡ u.libraries
 
+-- trees, names and nodes after a call: no more nodes were added than the form had left to count
+pub record Adds (old new : Work) (region : Region) (before : Budget) : Type 0 where
+  pub trees : KeepsTrees old new
+  pub names : KeepsNames old.symbols new.symbols
+  pub added : AddsIn old new region
+  pub regions : SameRegions old new
+  pub nodes : live_count new + before.nodes ≤ live_count old + 200000
+
+-- where a step was made, the same form is at work
+abbrev pub Counts : {X : Type 0} → UnitScope → UnitScope → Result X ExpandFault → Type 0
+Counts u v (Ok x) = SameForm u v
+Counts u v (Err (fault.At e)) = SameForm u v
+Counts u v (Err fault.Full) = Unit {0}
+Counts u v (Err fault.Memory) = Unit {0}
+
 -- what a form sets aside, or its fault
 abbrev pub Declares : Work → Work → Region → UnitScope → UnitScope → Budget → Budget → List Frames → (number : ℕ) → Trace → Result (List code_item.Item) ExpandFault → Pass Identifier Place × ScopedState → Type 0
 Declares old new region u v before after ls number trace (Ok xs) p =
@@ -78,7 +94,6 @@ Declares old new region u v before after ls number trace (Err fault.Memory) p = 
 abbrev pub Sets : Work → Work → Region → UnitScope → UnitScope → List Frames → Result (List code_item.Item) ExpandFault → Pass Identifier Place × ScopedState → Type 0
 Sets old new region u v ls (Ok xs) p =
     (is : List (Item Identifier)) × (p.0.items ≡ Ok is) × Stays old new region u v ls p.1 × NotesFor new ls v.asked p.0.notes × AllMatch (ItemFor new region v.unit v.form.number) xs is
-    × (v.form.budget.locals ≤ u.form.budget.locals + 2 ^ 40)
 Sets old new region u v ls (Err (fault.At e)) p = (b : Broken) × (p.0.items ≡ Err b) × Stays old new region u v ls p.1 × NotesFor new ls v.asked p.0.notes × IsFault new.symbols p.1.unit p.1.form e b
 Sets old new region u v ls (Err fault.Full) p = Leaves old new region u × MayFill old u
 Sets old new region u v ls (Err fault.Memory) p = Leaves old new region u

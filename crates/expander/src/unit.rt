@@ -18,12 +18,12 @@ ghost use Rattle.core_tree.specs.Names.{AllMatch};
 ghost use Rattle.expander.specs.Judged.{Knows, library_text};
 ghost use Rattle.expander.specs.Opened.{IsNew, AreNumbered, ImportsFor, HasUnits, BindsImport, nothing_yet, started, with_imports};
 ghost use Rattle.syntax_tree.specs.declared.trees.Work.{Work as AnyWork};
-ghost use Rattle.expander.specs.Outcomes.{IsAtWork, Ends, HasRoom, Spends};
+ghost use Rattle.expander.specs.Outcomes.{IsAtWork, Ends, MayFill, HasRoom, Spends};
 ghost use Rattle.expander.specs.State.{Stands, is_program};
 ghost use Rattle.expander.specs.Kept.{NotesFor};
 ghost use Rattle.expander.specs.Searched.{searched};
 ghost use Rattle.scheme_model.specs.Meaning.{Meaning as ModelMeaning};
-ghost use Rattle.expander.specs.Units.{UnitStands, CountsFor, HasSpace, ItemFor, Declares, Expands, CanDeclare, CanSet, Sets, form_at, set_aside, declared, expanded};
+ghost use Rattle.expander.specs.Units.{UnitStands, CountsFor, HasSpace, ItemFor, Declares, Expands, CanDeclare, CanSet, Adds, Counts, Sets, form_at, set_aside, declared, expanded};
 
 use crate::asked::Asked;
 use crate::bodies::forms_at;
@@ -286,9 +286,13 @@ impl UnitScope {
         requires form { IsAtWork work.old region.now form }
         requires can { CanSet work.old self.old }
         requires space { HasRoom (2 ^ 43 + 2 ^ 40) self.old }
-        ensures { (known : Known) (ls : List Frames) (s : ScopedState) (notes : List (Note Place)) (t : ModelTree Identifier) → Knows self.old.libraries known →
+        ensures sets { (known : Known) (ls : List Frames) (s : ScopedState) (notes : List (Note Place)) (t : ModelTree Identifier) → Knows self.old.libraries known →
             Stands work.old self.old ls s → NotesFor work.old ls self.old.asked notes → StandsFor work.old form t →
             Sets work.old work.new region.now self.old self.new ls result (set_aside known t notes s) }
+        ensures work { Adds work.old work.new region.now self.old.form.budget }
+        ensures counts { Counts self.old self.new result }
+        ensures full { result ≡ Err ExpandFault.Full → MayFill work.old self.old }
+        ensures locals { OnOk result (self.new.form.budget.locals ≤ self.old.form.budget.locals + 2 ^ 40) }
     {
         let alloc = self.alloc;
         let _size = work.size(form);
@@ -324,6 +328,9 @@ impl UnitScope {
             Ends (λ layout. PartStands work.new self.new.unit self.new.form.number) work.old work.new region.now self.old self.new ls result
             (item_part (expand (searched known) enough_turns) (searched known) max_depth [] i s) }
         ensures asked { self.new.asked ≡ self.old.asked }
+        ensures work { Adds work.old work.new region.now self.old.form.budget }
+        ensures counts { Counts self.old self.new result }
+        ensures full { result ≡ Err ExpandFault.Full → MayFill work.old self.old }
         ensures locals { OnOk result (Spends 0 self.old self.new) }
     {
         let alloc = self.alloc;
