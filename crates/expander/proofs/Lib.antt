@@ -30,3 +30,4 @@ pub mod ImportLaws
 pub mod CallLaws
 pub mod DeclareLaws
 pub mod PreludeLaws
+pub mod CopyLaws

@@ -25,3 +25,4 @@ pub mod Expanded
 pub mod Units
 pub mod Opened
 pub mod Preluded
+pub mod Copied
