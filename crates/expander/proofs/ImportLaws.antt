@@ -166,9 +166,9 @@ module _ (work : Work) (ms : Macros) (ls : List Frames) (s : ScopedState) (unit 
   there_by form (Local n) m is =
       let v : Number = record { unit = unit; form = form; count = n } in
       no_local (macro_at s.macros m) (macro_in cleared form (Local n)) (empty form n) (λ h. new v refl (ap (λ x. is_some (macro_at s.macros x)) (sym is) ∙ h))
-  there_by form (Global v n) m is = if_any_stays work ls [] _ _ (e.there form (Global v n) m (global_on form v n m is))
-  there_by form (Standard n) m is = if_any_stays work ls [] _ _ (e.there form (Standard n) m (standard_on form n m is))
-  there_by form (Free n) m is = if_any_stays work ls [] _ _ (e.there form (Free n) m (free_on form n m is))
+  there_by form (Global v n) m is = if_any_stays work ls [] (macro_in ms form (Global v n)) (macro_at s.macros m) (e.there form (Global v n) m (global_on form v n m is))
+  there_by form (Standard n) m is = if_any_stays work ls [] (macro_in ms form (Standard n)) (macro_at s.macros m) (e.there form (Standard n) m (standard_on form n m is))
+  there_by form (Free n) m is = if_any_stays work ls [] (macro_in ms form (Free n)) (macro_at s.macros m) (e.there form (Free n) m (free_on form n m is))
 
   pub macros_cleared : MacrosStand work cleared (ls ++ [] ∷ []) (importing s unit program imported)
   macros_cleared = record { there = there_by; idents = e.idents; symbols = e.symbols; free = e.free; known_idents = e.known_idents; known_symbols = e.known_symbols }
