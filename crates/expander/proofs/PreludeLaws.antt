@@ -234,26 +234,22 @@ pub prelude_continues : Continues (prelude_state prelude) scoped_before
 prelude_continues = prelude_left prelude
 
 -- a name that no macro has isn't defined
+neither : (a b : Bool) → (a || b) ≡ false → (a ≡ false) × (b ≡ false)
+neither true b q = absurd cc
+neither false b q = (refl, q)
+
+abbrev own_macro : List ℕ → Defined
+own_macro x = record { unit = prelude_unit; form = 0; ident = prelude_name x; keyword = true; occ = None }
+
+not_this : (t : Table) (m x : List ℕ) (q : Bool) → bytes_eq m x ≡ false → defined_in t prelude_unit (prelude_name x) ≡ None → defined_in (cond q t (own_macro m ∷ t)) prelude_unit (prelude_name x) ≡ None
+not_this t m x true apart rest = rest
+not_this t m x false apart rest = (λ k. cond (apart k) (Some (own_macro m)) (defined_in t prelude_unit (prelude_name x))) ∙ rest
+
 pub not_named : (ms : List PreludeMacro) (x : List ℕ) → list_any (λ (m : PreludeMacro). bytes_eq m.name x) ms ≡ false → defined_in (prelude_state ms).table prelude_unit (prelude_name x) ≡ None
 not_named [] x h = refl
-not_named (m ∷ ms) x h = by (is_standard m.name) (not_named ms x (split (bytes_eq m.name x) (list_any (λ (n : PreludeMacro). bytes_eq n.name x) ms) h).1)
-  where
-    split : (a b : Bool) → (a || b) ≡ false → (a ≡ false) × (b ≡ false)
-    split true b q = absurd cc
-    split false b q = (refl, q)
-
-    apart : (bytes_eq m.name x ≡ false) × (list_any (λ (n : PreludeMacro). bytes_eq n.name x) ms ≡ false)
-    apart = split (bytes_eq m.name x) (list_any (λ (n : PreludeMacro). bytes_eq n.name x) ms) h
-
-    abbrev table : Table
-    table = (prelude_state ms).table
-
-    abbrev own : Defined
-    own = record { unit = prelude_unit; form = 0; ident = prelude_name m.name; keyword = true; occ = None }
-
-    by : (q : Bool) → defined_in table prelude_unit (prelude_name x) ≡ None → defined_in (cond q table (own ∷ table)) prelude_unit (prelude_name x) ≡ None
-    by true rest = rest
-    by false rest = (λ k. cond (apart.0 k) (Some own) (defined_in table prelude_unit (prelude_name x))) ∙ rest
+not_named (m ∷ ms) x h =
+    let p = neither (bytes_eq m.name x) (list_any (λ (n : PreludeMacro). bytes_eq n.name x) ms) h in
+    not_this (prelude_state ms).table m.name x (is_standard m.name) p.0 (not_named ms x p.1)
 
 -- ---- the units after it
 
