@@ -1,10 +1,10 @@
 -- The binders of frames give the meanings that frames give.
-use Rattle.std.proofs.Common.{◌≡◌, ℕ, List, [], ◌∷◌, ◌++◌, Bool, ◌&&◌, true, false, cond, Option, Some, None, refl, sym, ap, ◌∙◌}
+use Rattle.std.proofs.Common.{◌≡◌, ℕ, ◌==◌, eq-eqb, List, [], ◌∷◌, ◌++◌, Bool, ◌&&◌, true, false, cond, Option, Some, None, refl, sym, ap, ◌∙◌}
 use Rattle.scheme_model.specs.Identifiers.{Number, same_number}
 use Rattle.scheme_model.specs.Ident.{Ident, Written, Inserted, same_ident}
 use Rattle.scheme_model.specs.Meaning.{Meaning, Local, Free}
-use Rattle.scheme_model.specs.Scopes.{Bound, Chain, found, local_or, given_or, own_of, beyond, means}
-use Rattle.scheme_model.specs.Substitution.{Table, Entries}
+use Rattle.scheme_model.specs.Scopes.{Bound, Chain, found, local_or, given_or, defined_or, own_of, beyond, means}
+use Rattle.scheme_model.specs.Substitution.{Table, Entries, defined_in}
 use Rattle.scheme_model.specs.ScopedExpansion.{Frames, Bind, Enter, BodyDefinition, BodyDefinitions, UsePlace, ScopedState, around, find, defined_as, means_inside, means_outside, means_at}
 use Rattle.expander.specs.Chains.{body_chain, chain_of, chain_in, uses_in, given_in}
 
@@ -32,13 +32,14 @@ inside ds (Bind x v ∷ fs) i outer = by (same_ident x i) (inside ds fs i outer)
     by false rest = rest
 inside ds (Enter b u ∷ fs) i outer = body_means ds b (chain_of ds fs) i outer ∙ ap (defined_as (find ds b i)) (inside ds fs i outer)
 
-outside : (table : Table) (entry : Entries) (ps : List UsePlace) (ds : BodyDefinitions) (i : Ident) → beyond (own_of table entry) (λ k. chain_of ds (around ps k)) i ≡ means_outside table entry ps ds i
-outside table entry ps ds (Written u s) = refl
-outside table entry ps ds (Inserted i k) =
-    ap (given_or (own_of table entry k.unit (Inserted i k)))
-    (ap (local_or (found (chain_of ds (around ps k)) i)) (outside table entry ps ds i) ∙ inside ds (around ps k) i (means_outside table entry ps ds i))
+outside : (s : ScopedState) (i : Ident) → beyond (given_in s) (uses_in s) i ≡ means_outside s.table s.entry s.places s.definitions i
+outside s (Written u x) = let own = eq-eqb u u refl in λ k. given_or (defined_or (defined_in s.table u (Written u x)) u (Written u x) (cond (own k) (s.entry u x) None)) (Free x)
+outside s (Inserted i k) =
+    let fs = around s.places k in
+    ap (given_or (own_of s.table s.entry k.unit (Inserted i k)))
+    (ap (local_or (found (chain_in s fs) i)) (outside s i) ∙ inside s.definitions fs i (means_outside s.table s.entry s.places s.definitions i))
 
 pub chain_means : (s : ScopedState) (fs : Frames) (i : Ident) → means (given_in s) (uses_in s) (chain_in s fs) i ≡ means_at s fs i
 chain_means s fs i =
-    ap (local_or (found (chain_in s fs) i)) (outside s.table s.entry s.places s.definitions i)
+    ap (local_or (found (chain_in s fs) i)) (outside s i)
     ∙ inside s.definitions fs i (means_outside s.table s.entry s.places s.definitions i)

@@ -13,7 +13,7 @@ use Rattle.scheme_model.specs.Trees.{name, list, tree}
 use Rattle.scheme_model.specs.RulesShape.{Rule, Rules}
 use Rattle.scheme_model.specs.Leaves.{Leaf}
 use Rattle.scheme_model.specs.Cores.{Target, MacroUse}
-use Rattle.scheme_model.specs.Scopes.{Chain, imported_as, defined_or}
+use Rattle.scheme_model.specs.Scopes.{Chain, defined_or}
 use Rattle.scheme_model.specs.Substitution.{Defined, defined_in}
 use Rattle.scheme_model.specs.Order.{Transformer, is_some}
 use Rattle.scheme_model.specs.ScopedExpansion.{Frames, ScopedState, around, macro_at}
@@ -33,7 +33,7 @@ use Rattle.scope_env.proofs.GrowthLaws.{chain_grows, meaning_grows, env_grows}
 use Rattle.core_tree.specs.Names.{AllMatch, IsTarget, IsUse}
 use Rattle.core_tree.specs.declared.cores.Target as code_target
 use Rattle.core_tree.specs.declared.traces.MacroUse as code_use
-use Rattle.expander.specs.Chains.{chain_in, uses_in, given_in}
+use Rattle.expander.specs.Chains.{chain_in, uses_in, imported_in, given_in}
 use Rattle.expander.specs.Macros.{macro_in}
 use Rattle.expander.specs.State.{IsMacro, IsMacroIfAny, MacrosStand, EnvStands, FormStands, Stands}
 use Rattle.rules_check.specs.Gathered.{AreLeaves}
@@ -150,7 +150,7 @@ module _ (old new : Work) (trees : KeepsTrees old new) (names : KeepsNames old.s
     there_on form (Free n) (model.Standard x) h = absurd h
     there_on form (Free n) (model.Free x) h = no_macro new ls (macro_at s.macros (model.Free x)) (e.free x)
 
-    macros_on : MacrosStand new ms ls s
+    pub macros_on : MacrosStand new ms ls s
     macros_on = record {
       there = there_on;
       idents = λ u i h. let m = e.idents u i h in (m.0, names.idents m.0 i m.1);
@@ -170,7 +170,7 @@ module _ (old new : Work) (trees : KeepsTrees old new) (names : KeepsNames old.s
   used_named env ls s e k None none = subst (λ (fs : Frames). AreNamed old.symbols (chain_in s fs)) (sym (e.unnoted k none)) tt
   used_named env ls s e k (Some n) noted = e.named n (around s.places k) (e.noted k n noted)
 
-  env_on : (env : Environment) (ls : List Frames) (s : ScopedState) → EnvStands old.symbols env ls s → EnvStands new.symbols env ls s
+  pub env_on : (env : Environment) (ls : List Frames) (s : ScopedState) → EnvStands old.symbols env ls s → EnvStands new.symbols env ls s
   env_on env ls s e = record {
     count = e.count;
     scopes = λ n fs at. chain_grows old.symbols new.symbols names apart env (Some n) (chain_in s fs) (e.named n fs at) (e.scopes n fs at);
@@ -221,7 +221,7 @@ module _ (old new : Work) (trees : KeepsTrees old new) (names : KeepsNames old.s
     defined_by n i None none there =
         not_defined (get nat_cmp u.defined n) (defined_in s.table s.unit i)
         (λ k h. not_within old.symbols.idents n none (e.known n k h))
-        (λ d h. let m = e.env.given_named s.unit i (model.Global s.unit i) (ap (λ (x : Option Defined). defined_or x s.unit i (imported_as s.entry s.unit i)) h) in
+        (λ d h. let m = e.env.given_named s.unit i (model.Global s.unit i) (ap (λ (x : Option Defined). defined_or x s.unit i (imported_in s.entry s.unit i)) h) in
         not_elsewhere old.symbols.idents new.symbols.idents names.idents apart n m.0 i none there m.1)
 
     pub growth_stands : Stands new u ls s

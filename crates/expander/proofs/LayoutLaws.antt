@@ -121,7 +121,7 @@ module _ (names : Names) (apart : AreToldApart names.idents) (s : ScopedState) (
 
 -- ---- the whole, with one scope more
 
-if_any_stays : (work : Work) (ls : List Frames) (gs : Frames) (o : Option Macro) (p : Option (Transformer Frames Identifier)) → IsMacroIfAny work ls o p → IsMacroIfAny work (ls ++ gs ∷ []) o p
+pub if_any_stays : (work : Work) (ls : List Frames) (gs : Frames) (o : Option Macro) (p : Option (Transformer Frames Identifier)) → IsMacroIfAny work ls o p → IsMacroIfAny work (ls ++ gs ∷ []) o p
 if_any_stays work ls gs None None h = h
 if_any_stays work ls gs None (Some m) h = h
 if_any_stays work ls gs (Some k) None h = h

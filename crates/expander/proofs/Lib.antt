@@ -14,6 +14,16 @@ pub mod DefinedMacros
 pub mod BodyScopes
 pub mod ComingDefinitions
 pub mod FormsStand
+pub mod JudgeLaws
+pub mod QuasiMarks
+pub mod QuasiReads
+pub mod AskLaws
+pub mod AskedSearch
+pub mod ToldLaws
+pub mod LeafLaws
+pub mod SeenLaws
+pub mod FormRows
+pub mod ChoiceLaws
 pub mod OutcomeLaws
 pub mod AlikeSteps
 pub mod AlikeRuns
@@ -22,3 +32,9 @@ pub mod SearchedNotes
 pub mod SearchedStates
 pub mod SearchedUnits
 pub mod SearchedPrograms
+pub mod OpenedStand
+pub mod ImportLaws
+pub mod CallLaws
+pub mod DeclareLaws
+pub mod PreludeLaws
+pub mod CopyLaws

@@ -96,7 +96,7 @@ parts_on a b (n ∷ ns) (tree t ts) keeps h = (keeps.trees n t h.0, parts_on a b
 -- ---- steps that follow one another
 
 pub same_itself : (u : UnitScope) → SameForm u u
-same_itself u = record { unit = refl; number = refl; root = refl; libraries = refl; uses = omega arith; nodes = omega arith }
+same_itself u = record { unit = refl; number = refl; root = refl; libraries = refl; roots = refl; uses = omega arith; nodes = omega arith }
 
 pub same_on : (u w v : UnitScope) → SameForm u w → SameForm w v → SameForm u v
 same_on u w v p q = record {
@@ -104,6 +104,7 @@ same_on u w v p q = record {
   number = q.number ∙ p.number;
   root = q.root ∙ p.root;
   libraries = q.libraries ∙ p.libraries;
+  roots = q.roots ∙ p.roots;
   uses = omega (arith, p.uses, q.uses);
   nodes = omega (arith, p.nodes, q.nodes);
 }

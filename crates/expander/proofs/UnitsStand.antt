@@ -13,7 +13,7 @@ use Rattle.std.proofs.lemmas.Option.{slice_get_within}
 use Rattle.scheme_model.specs.declared.Occ.{Occ}
 use Rattle.scheme_model.specs.Ident.{Ident as Identifier, same_ident}
 use Rattle.scheme_model.specs.Meaning as model
-use Rattle.scheme_model.specs.Scopes.{Own, imported_as, defined_or}
+use Rattle.scheme_model.specs.Scopes.{Own, defined_or}
 use Rattle.scheme_model.specs.Substitution.{Defined, defined_in, definition_count}
 use Rattle.scheme_model.specs.ScopedExpansion.{Frames, ScopedState}
 use Rattle.scheme_model.proofs.IdentLaws.{ident_told}
@@ -27,7 +27,7 @@ use Rattle.scope_env.specs.Standing.{EnvFor}
 use Rattle.scope_env.specs.Moved.{with_given, IsNamed}
 use Rattle.scope_env.proofs.Places.{length-changed_at}
 use Rattle.scope_env.proofs.StandingLaws.{root_stays, root_env_bound}
-use Rattle.expander.specs.Chains.{chain_in, uses_in, given_in}
+use Rattle.expander.specs.Chains.{chain_in, uses_in, imported_in, given_in}
 use Rattle.expander.specs.State.{EnvStands, Stands}
 use Rattle.expander.specs.Stepped.{with_definition, defined_here}
 use Rattle.expander.specs.declared.scope.UnitScope.{UnitScope}
@@ -45,7 +45,7 @@ module _ (s : ScopedState) (d : Defined) (own : d.unit ≡ s.unit) where
   after = record s { table = d ∷ s.table }
 
   given_by : (v : ℕ) (j : Identifier) (q : Bool) → (d.unit == v && same_ident d.ident j) ≡ q →
-      cond q (Some (model.Global d.unit d.ident)) (given_in s v j) ≡ defined_or (cond q (Some d) (defined_in s.table v j)) v j (imported_as s.entry v j)
+      cond q (Some (model.Global d.unit d.ident)) (given_in s v j) ≡ defined_or (cond q (Some d) (defined_in s.table v j)) v j (imported_in s.entry v j)
   given_by v j true h =
       let p = both (d.unit == v) (same_ident d.ident j) h in
       let unit : d.unit ≡ v = eqb-true d.unit v p.0 in
@@ -57,7 +57,7 @@ module _ (s : ScopedState) (d : Defined) (own : d.unit ≡ s.unit) where
   given_so = λ k v j. given_by v j (d.unit == v && same_ident d.ident j) refl k
 
   named_by : (names : Names) → IsNamed names d.ident → ((v : ℕ) (j : Identifier) (m : model.Meaning) → given_in s v j ≡ Some m → IsNamed names j) →
-      (v : ℕ) (j : Identifier) (m : model.Meaning) (q : Bool) → (d.unit == v && same_ident d.ident j) ≡ q → defined_or (cond q (Some d) (defined_in s.table v j)) v j (imported_as s.entry v j) ≡ Some m → IsNamed names j
+      (v : ℕ) (j : Identifier) (m : model.Meaning) (q : Bool) → (d.unit == v && same_ident d.ident j) ≡ q → defined_or (cond q (Some d) (defined_in s.table v j)) v j (imported_in s.entry v j) ≡ Some m → IsNamed names j
   named_by names here before v j m true h is = subst (IsNamed names) (ident_told d.ident j (both (d.unit == v) (same_ident d.ident j) h).1) here
   named_by names here before v j m false h is = before v j m is
 

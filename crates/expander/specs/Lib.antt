@@ -7,6 +7,10 @@ pub mod Binds
 pub mod Stepped
 pub mod Outcomes
 pub mod Judged
+pub mod Marked
+pub mod Told
+pub mod Seen
+pub mod Asks
 pub mod Searched
 pub mod Kept
 pub mod Used
@@ -19,3 +23,6 @@ pub mod Ready
 pub mod Bodies
 pub mod Expanded
 pub mod Units
+pub mod Opened
+pub mod Preluded
+pub mod Copied

@@ -36,12 +36,13 @@ pub record Leaves (old new : Work) (region : Region) (u : code.UnitScope) : Type
   pub work : Grows old new region
   pub few : live_count new + u.form.budget.nodes ≤ live_count old + 200000
 
--- the same form of the same unit is at work, and has counted no less
+-- the same form of the same unit is at work, no unit was begun, and the form has counted no less
 pub record SameForm (u v : code.UnitScope) : Type 0 where
   pub unit : v.unit ≡ u.unit
   pub number : v.form.number ≡ u.form.number
   pub root : v.root ≡ u.root
   pub libraries : v.libraries ≡ u.libraries
+  pub roots : v.env.roots ≡ u.env.roots
   pub uses : u.form.budget.uses ≤ v.form.budget.uses
   pub nodes : u.form.budget.nodes ≤ v.form.budget.nodes
 

@@ -17,6 +17,7 @@ pub mod laws;
 mod libraries;
 mod macros;
 mod passes;
+mod prelude;
 mod quasi;
 mod requirements;
 mod scope;
@@ -26,5 +27,6 @@ mod uses;
 
 pub use fault::ExpandFault;
 pub use items::Item;
+pub use prelude::units_go_on;
 pub use scope::{Budget, Imported, UnitScope};
 

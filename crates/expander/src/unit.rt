@@ -1,47 +1,60 @@
 //! Units, one after another, and their forms: the calls of this crate (R7RS 5.1, 5.6).
-ghost use Rattle.std.specs.Prelude.{◌≡◌, ℕ, ◌+◌, ◌-◌, ◌^◌, ◌<◌, ◌≤◌, List, Err, OnOk};
+ghost use Rattle.std.specs.Prelude.{◌≡◌, ℕ, List, [], ◌∷◌, ◌++◌, length, map, Option, IfOk, ◌+◌, ◌-◌, ◌^◌, ◌<◌, ◌≤◌, Err, OnOk};
+ghost use Rattle.std.specs.BTreeSet.{contains_text};
+ghost use Rattle.scheme_model.specs.Program.{has_name};
+ghost use Rattle.expander.specs.Seen.{item_of};
 ghost use Rattle.scheme_model.specs.Ident.{Ident as Identifier};
-ghost use Rattle.scheme_model.specs.Requirements.{Known};
+ghost use Rattle.scheme_model.specs.Expression.{expand, item_part};
+ghost use Rattle.scheme_model.specs.UnitExpansion.{max_depth};
+ghost use Rattle.scheme_model.specs.Program.{enough_turns};
+ghost use Rattle.core_tree.specs.Cores.{PartStands};
+ghost use Rattle.scheme_model.specs.Requirements.{Known, LibraryName};
 ghost use Rattle.scheme_model.specs.Trees.{Tree as ModelTree};
 ghost use Rattle.scheme_model.specs.Order.{Note, Item as ModelItem};
 ghost use Rattle.scheme_model.specs.ScopedExpansion.{Frames, Place, ScopedState};
 ghost use Rattle.syntax_tree.specs.Names.{KeepsNames};
 ghost use Rattle.syntax_tree.specs.Works.{IsOpened, StandsFor, KeepsTrees, SameRegions, AddsIn, live_count};
 ghost use Rattle.core_tree.specs.Names.{AllMatch};
-ghost use Rattle.expander.specs.Judged.{Knows};
-ghost use Rattle.expander.specs.Outcomes.{IsAtWork};
-ghost use Rattle.expander.specs.Units.{UnitStands, CountsFor, HasSpace, ItemFor, Declares, Expands, CanDeclare, declared, expanded};
+ghost use Rattle.expander.specs.Judged.{Knows, library_text};
+ghost use Rattle.expander.specs.Opened.{IsNew, AreNumbered, ImportsFor, HasUnits, BindsImport, nothing_yet, started, with_imports};
+ghost use Rattle.syntax_tree.specs.declared.trees.Work.{Work as AnyWork};
+ghost use Rattle.expander.specs.Outcomes.{IsAtWork, Ends, MayFill, HasRoom, Spends};
+ghost use Rattle.expander.specs.State.{Stands, is_program};
+ghost use Rattle.expander.specs.Kept.{NotesFor};
+ghost use Rattle.expander.specs.Searched.{searched};
+ghost use Rattle.scheme_model.specs.Meaning.{Meaning as ModelMeaning};
+ghost use Rattle.expander.specs.Units.{UnitStands, CountsFor, HasSpace, ItemFor, Declares, Expands, CanDeclare, CanSet, Adds, Counts, Sets, form_at, set_aside, declared, expanded};
 
 use crate::asked::Asked;
 use crate::bodies::forms_at;
 use crate::expressions::At;
 use crate::fault::ExpandFault;
 use crate::items::{Item, Kept, Pending, Spot};
-use crate::macros::{Macro, Macros};
+use crate::macros::Macros;
+use crate::prelude::PRELUDE;
 use crate::scope::{Budget, FormAtWork, Imported, UnitScope};
+use core_tree::cores::CorePart;
 use core_tree::traces::Trace;
 use core_tree::units::ExpandedItem;
 use ls_base::{Items, Mem, Steps, Text};
-use scope_env::Env;
+use scope_env::{Env, ScopeNo};
 use std::alloc::Global;
 use std::collections::{BTreeMap, BTreeSet};
 use std::mem;
 use std::sync::ledger::Ledger;
-use syntax_tree::meaning::Meaning;
-use syntax_tree::rules::Rules;
-use syntax_tree::symbols::{Ident, SymNo};
+use syntax_tree::symbols::Ident;
 use syntax_tree::trees::{Region, Tree, Work};
 use syntax_tree::units::UnitKind;
-
-/// The number of the prelude's unit.
-const PRELUDE: u32 = 128;
 
 /// The most that cores may be nested.
 const MAX_DEPTH: u32 = 400;
 
 impl UnitScope {
     /// No unit is open. It takes no memory.
-    pub fn new(alloc: Global) -> UnitScope {
+    pub fn new(alloc: Global) -> UnitScope
+        ensures units { (work : AnyWork) → HasUnits work result [] nothing_yet }
+        ensures all_new { (unit : ℕ) → IsNew result unit }
+    {
         UnitScope {
             alloc,
             env: Env::new(alloc),
@@ -67,37 +80,8 @@ impl UnitScope {
         }
     }
 
-    /// Opens the prelude's unit, which imports all standard names. No unit was opened before.
-    pub fn begin_prelude(&mut self, work: &mut Work, imports: &[Imported]) -> Mem<()> {
-        self.open(work, PRELUDE, UnitKind::Library, imports)
-    }
-
-    /// Adds a macro to the prelude's unit, as what its name means there.
-    pub fn add_prelude(&mut self, work: &mut Work, name: SymNo, rules: Rules) -> Mem<()> {
-        let ident = work.symbols.ident(Ident::Written {
-            unit: PRELUDE,
-            symbol: name,
-        })?;
-        let meaning = match self.env.resolve(self.root, ident, &work.symbols) {
-            Meaning::Standard(symbol) => Meaning::Standard(symbol),
-            Meaning::Local(_) | Meaning::Global { .. } | Meaning::Free(_) => Meaning::Global {
-                unit: PRELUDE,
-                ident,
-            },
-        };
-        if let Meaning::Global { .. } = meaning {
-            self.env.bind(self.root, ident, meaning)?;
-        }
-        let kept = Macro {
-            scope: self.root,
-            rules,
-            leaves: Vec::new(self.alloc),
-        };
-        self.macros.keep(0, meaning, kept)
-    }
-
-    /// Opens a unit with what it imports, and with the names of the libraries that there are. The scopes and macros of the units
-    /// before stay.
+    /// Opens a unit that wasn't opened before, with what it imports, and with the names of the libraries that there are. The
+    /// scopes and macros of the units before stay.
     pub fn begin_unit(
         &mut self,
         work: &mut Work,
@@ -105,33 +89,79 @@ impl UnitScope {
         kind: UnitKind,
         imports: &[Imported],
         libraries: &Items<Text>,
-    ) -> Mem<()> {
+    ) -> Mem<()>
+        requires new { IsNew self.old unit }
+        requires numbered { AreNumbered work.old.symbols imports.now }
+        ensures rests { (ls : List Frames) (s : ScopedState) (notes : List (Note Place)) (imported : List ℕ → Option ModelMeaning) →
+            UnitStands work.old self.old ls s notes → ImportsFor work.old.symbols imports.now imported →
+            OnOk result (UnitStands work.new self.new (ls ++ [] ∷ []) (started unit (is_program kind) (with_imports unit imported s.entry) s) []) }
+        ensures knows { (known : Known) → ((n : LibraryName) → known n ≡ has_name libraries.now (library_text n)) → OnOk result (Knows self.new.libraries known) }
+        ensures others { (v : ℕ) → (v ≡ unit → ⊥) → IsNew self.old v → OnOk result (IsNew self.new v) }
+        ensures trees { work.new.trees ≡ work.old.trees }
+        ensures symbols { work.new.symbols.symbols ≡ work.old.symbols.symbols }
+        ensures names { KeepsNames work.old.symbols work.new.symbols }
+    {
         self.libraries = names(self.alloc, libraries.as_slice())?;
-        self.open(work, unit, kind, imports)
+        self.start_unit(work, unit, kind, imports)
     }
 
-    /// Opens a unit.
-    fn open(
+    /// Opens a unit, whose own scope binds what it imports.
+    pub(crate) fn start_unit(
         &mut self,
         work: &mut Work,
         unit: u32,
         kind: UnitKind,
         imports: &[Imported],
-    ) -> Mem<()> {
+    ) -> Mem<()>
+        requires new { IsNew self.old unit }
+        requires numbered { AreNumbered work.old.symbols imports.now }
+        ensures rests { (ls : List Frames) (s : ScopedState) (imported : List ℕ → Option ModelMeaning) → HasUnits work.old self.old ls s →
+            ImportsFor work.old.symbols imports.now imported →
+            OnOk result (UnitStands work.new self.new (ls ++ [] ∷ []) (started unit (is_program kind) (with_imports unit imported s.entry) s) []) }
+        ensures others { (v : ℕ) → (v ≡ unit → ⊥) → IsNew self.old v → OnOk result (IsNew self.new v) }
+        ensures libraries { self.new.libraries ≡ self.old.libraries }
+        ensures trees { work.new.trees ≡ work.old.trees }
+        ensures symbols { work.new.symbols.symbols ≡ work.old.symbols.symbols }
+        ensures names { KeepsNames work.old.symbols work.new.symbols }
+    {
+        self.env.sound();
         let root = self.env.root(unit)?;
         for imported in imports {
-            let ident = work.symbols.ident(Ident::Written {
-                unit,
-                symbol: imported.symbol,
-            })?;
-            self.env.bind(root, ident, imported.meaning)?;
+            self.import(work, unit, root, *imported)?;
         }
+        work.symbols.told_apart();
         self.unit = unit;
         self.kind = kind;
         self.root = root;
         self.defined = BTreeMap::new(self.alloc);
         self.asked = Asked::new(self.alloc);
         self.macros.locals = BTreeMap::new(self.alloc);
+        Ok(())
+    }
+
+    /// Binds a symbol in the own scope of the unit that imports it.
+    fn import(
+        &mut self,
+        work: &mut Work,
+        unit: u32,
+        root: ScopeNo,
+        imported: Imported,
+    ) -> Mem<()>
+        requires root { root < length self.old.env.scopes }
+        requires numbered { imported.symbol < length work.old.symbols.symbols }
+        ensures bound { OnOk result (BindsImport work.old work.new self.old self.new unit root imported) }
+        ensures libraries { self.new.libraries ≡ self.old.libraries }
+        ensures trees { work.new.trees ≡ work.old.trees }
+        ensures symbols { work.new.symbols.symbols ≡ work.old.symbols.symbols }
+        ensures names { KeepsNames work.old.symbols work.new.symbols }
+    {
+        self.env.sound();
+        let ident = work.symbols.ident(Ident::Written {
+            unit,
+            symbol: imported.symbol,
+        })?;
+        work.symbols.told_apart();
+        self.env.bind(root, ident, imported.meaning)?;
         Ok(())
     }
 
@@ -162,13 +192,19 @@ impl UnitScope {
         ensures nodes { live_count work.new + budget.old.nodes ≤ live_count work.old + 200000 }
         ensures full { result ≡ Err ExpandFault.Full → 2 ^ 31 < live_count work.old + (200000 - budget.old.nodes) }
     {
-        let before = budget.uses;
         self.turn(number, *budget, trace);
-        let aside = self.declare(work, region, form);
-        *budget = self.form.budget;
-        mem::swap(&mut self.form.trace, trace);
-        tick(steps, budget.uses - before);
-        aside
+        match self.declare(work, region, form) {
+            Ok(aside) => {
+                self.rest(budget, trace, steps);
+                Ok(aside)
+            }
+            Err(ExpandFault::At(fault)) => {
+                self.rest(budget, trace, steps);
+                Err(ExpandFault::At(fault))
+            }
+            Err(ExpandFault::Full) => Err(ExpandFault::Full),
+            Err(ExpandFault::Memory) => Err(ExpandFault::Memory),
+        }
     }
 
     /// Expands what a form set aside.
@@ -198,38 +234,68 @@ impl UnitScope {
         ensures nodes { live_count work.new + budget.old.nodes ≤ live_count work.old + 200000 }
         ensures full { result ≡ Err ExpandFault.Full → 2 ^ 31 < live_count work.old + (200000 - budget.old.nodes) }
     {
-        let before = *budget;
         self.turn(number, *budget, trace);
-        let at = At {
-            scope: self.root,
-            here: None,
-            depth: MAX_DEPTH,
-        };
-        let part = self.expand_kept_item(self.alloc, work, region, at, &item.kept);
-        *budget = self.form.budget;
-        mem::swap(&mut self.form.trace, trace);
-        tick(steps, budget.uses - before.uses);
-        Ok(ExpandedItem {
-            part: part?,
-            count: budget.nodes - before.nodes,
-        })
+        let before = budget.nodes;
+        match self.expand_apart(work, region, item) {
+            Ok(part) => {
+                self.rest(budget, trace, steps);
+                Ok(ExpandedItem {
+                    part,
+                    count: budget.nodes - before,
+                })
+            }
+            Err(ExpandFault::At(fault)) => {
+                self.rest(budget, trace, steps);
+                Err(ExpandFault::At(fault))
+            }
+            Err(ExpandFault::Full) => Err(ExpandFault::Full),
+            Err(ExpandFault::Memory) => Err(ExpandFault::Memory),
+        }
     }
 
     /// Work goes to a form, which has counted and met so far what is told.
-    pub(crate) fn turn(&mut self, number: u32, budget: Budget, trace: &mut Trace) {
+    fn turn(&mut self, number: u32, budget: Budget, trace: &mut Trace)
+        ensures { self.new ≡ record self.old { form = form_at number budget trace.old } }
+    {
         self.form.number = number;
         self.form.budget = budget;
         mem::swap(&mut self.form.trace, trace);
     }
 
+    /// Work leaves the form, with what it has counted and met by now. Each macro use is a step.
+    fn rest<L: Ledger>(&mut self, budget: &mut Budget, trace: &mut Trace, steps: &mut Steps<L>)
+        requires { budget.old.uses ≤ self.old.form.budget.uses }
+        ensures scope { self.new ≡ record self.old { form = record self.old.form { trace = trace.old } } }
+        ensures budget { budget.new ≡ self.old.form.budget }
+        ensures trace { trace.new ≡ self.old.form.trace }
+        ensures ticks { steps.new + budget.old.uses ≡ steps.old + self.old.form.budget.uses }
+    {
+        tick(steps, self.form.budget.uses - budget.uses);
+        *budget = self.form.budget;
+        mem::swap(&mut self.form.trace, trace);
+    }
+
     /// What the form at work sets aside.
-    pub(crate) fn declare(
+    fn declare(
         &mut self,
         work: &mut Work,
         region: &Region,
         form: Tree,
-    ) -> Result<Items<Item>, ExpandFault> {
+    ) -> Result<Items<Item>, ExpandFault>
+        requires opened { IsOpened work.old region.now }
+        requires form { IsAtWork work.old region.now form }
+        requires can { CanSet work.old self.old }
+        requires space { HasRoom (2 ^ 43 + 2 ^ 40) self.old }
+        ensures sets { (known : Known) (ls : List Frames) (s : ScopedState) (notes : List (Note Place)) (t : ModelTree Identifier) → Knows self.old.libraries known →
+            Stands work.old self.old ls s → NotesFor work.old ls self.old.asked notes → StandsFor work.old form t →
+            Sets work.old work.new region.now self.old self.new ls result (set_aside known t notes s) }
+        ensures work { Adds work.old work.new region.now self.old.form.budget }
+        ensures counts { Counts self.old self.new result }
+        ensures full { result ≡ Err ExpandFault.Full → MayFill work.old self.old }
+        ensures locals { OnOk result (self.new.form.budget.locals ≤ self.old.form.budget.locals + 2 ^ 40) }
+    {
         let alloc = self.alloc;
+        let _size = work.size(form);
         let mut pending = Pending {
             todo: forms_at(alloc, None, &[form])?,
             aside: Vec::new(alloc),
@@ -246,8 +312,43 @@ impl UnitScope {
         items(alloc, aside)
     }
 
+    /// What the form at work has set aside, expanded. What the unit was asked stays.
+    fn expand_apart(
+        &mut self,
+        work: &mut Work,
+        region: &Region,
+        item: &Item,
+    ) -> Result<CorePart, ExpandFault>
+        requires opened { IsOpened work.old region.now }
+        requires item { (i : ModelItem Identifier) × ItemFor work.old region.now self.old.unit self.old.form.number item.now i }
+        requires can { CanSet work.old self.old }
+        requires space { HasRoom (2 ^ 43) self.old }
+        ensures part { (known : Known) (ls : List Frames) (s : ScopedState) (i : ModelItem Identifier) → Knows self.old.libraries known → Stands work.old self.old ls s →
+            ItemFor work.old region.now self.old.unit self.old.form.number item.now i →
+            Ends (λ layout. PartStands work.new self.new.unit self.new.form.number) work.old work.new region.now self.old self.new ls result
+            (item_part (expand (searched known) enough_turns) (searched known) max_depth [] i s) }
+        ensures asked { self.new.asked ≡ self.old.asked }
+        ensures work { Adds work.old work.new region.now self.old.form.budget }
+        ensures counts { Counts self.old self.new result }
+        ensures full { result ≡ Err ExpandFault.Full → MayFill work.old self.old }
+        ensures locals { OnOk result (Spends 0 self.old self.new) }
+    {
+        let alloc = self.alloc;
+        let at = At {
+            scope: self.root,
+            here: None,
+            depth: MAX_DEPTH,
+        };
+        let asked = mem::replace(&mut self.asked, Asked::new(alloc));
+        let part = self.expand_kept_item(alloc, work, region, at, &item.kept);
+        self.asked = asked;
+        part
+    }
+
     /// Whether the open unit is a program.
-    pub(crate) fn is_program(&self) -> bool {
+    pub(crate) fn is_program(&self) -> bool
+        ensures { result ≡ is_program self.now.kind }
+    {
         match self.kind {
             UnitKind::Program => true,
             UnitKind::Library => false,
@@ -256,7 +357,9 @@ impl UnitScope {
 }
 
 /// The names of libraries.
-fn names(alloc: Global, libraries: &[Text]) -> Mem<BTreeSet<String>> {
+fn names(alloc: Global, libraries: &[Text]) -> Mem<BTreeSet<String>>
+    ensures { IfOk result (λ names. (s : List ℕ) → contains_text names s ≡ has_name libraries.now s) }
+{
     let mut names = BTreeSet::new(alloc);
     for library in libraries {
         names.insert(String::from_str(alloc, library.as_str())?)?;
@@ -265,16 +368,17 @@ fn names(alloc: Global, libraries: &[Text]) -> Mem<BTreeSet<String>> {
 }
 
 /// What was set aside, as items.
-fn items(alloc: Global, aside: Vec<Kept>) -> Result<Items<Item>, ExpandFault> {
-    let mut items = Items::new(alloc);
-    for kept in aside {
-        items.push(Item { kept })?;
-    }
-    Ok(items)
+fn items(alloc: Global, aside: Vec<Kept>) -> Result<Items<Item>, ExpandFault>
+    ensures { IfOk result (λ items. items ≡ map item_of aside.items) }
+{
+    let items = aside.into_iter().map(|kept| Item { kept }).collect(alloc)?;
+    Ok(Items::from_vec(items))
 }
 
 /// One tick for each macro use.
-fn tick<L: Ledger>(steps: &mut Steps<L>, uses: u32) {
+fn tick<L: Ledger>(steps: &mut Steps<L>, uses: u32)
+    ensures { steps.new ≡ steps.old + uses }
+{
     for _ in 0..uses {
         steps.tick();
     }

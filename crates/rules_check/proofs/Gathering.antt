@@ -11,10 +11,10 @@ use Rattle.scheme_model.specs.RulesShape.{Rules, Rule, Variable, nowhere, is_dot
 use Rattle.scheme_model.specs.Leaves.{Leaf, rule_leaves, all_rule_leaves, unless, if_escape, template_leaves, template_among, template_behind}
 use Rattle.scheme_model.specs.Ident.{Ident as Identifier}
 use Rattle.syntax_tree.specs.Names.{Names}
-use Rattle.syntax_tree.specs.Macros.{identifiers}
+use Rattle.syntax_tree.specs.Macros.{identifiers, AreIdents}
 use Rattle.rules_check.specs.declared.leaf.RuleLeaf.{RuleLeaf}
 use Rattle.rules_check.specs.Checked.{rules_in_form}
-use Rattle.rules_check.specs.Gathered.{IsLeaf, AreLeaves, AddsLeaves, listed_in, name_leaves}
+use Rattle.rules_check.specs.Gathered.{IsLeaf, AreLeaves, AddsLeaves, AreUnplaced, unplaced_leaf, listed_in, name_leaves}
 
 -- ---- one after another
 
@@ -228,3 +228,11 @@ listed (list (tree head (tree (name i p) (tree (atom a q) ts))) proper o) r h = 
 listed (list (tree head (tree (name i p) (tree (vector us q) ts))) proper o) r h = absurd cc
 listed (list (tree head (tree (name i p) (tree (list us (dotted u) q) ts))) proper o) r h = absurd cc
 listed (list (tree head (tree (name i p) (tree (list us proper q) ts))) proper o) r h = read_literals (Some i) us ts q r h
+
+-- ---- literals without places
+
+pub unplaced_are : (names : Names) (ns : List ℕ) (is : List (Named Identifier)) → AreIdents names ns is → AreUnplaced is → AreLeaves names (map unplaced_leaf ns) (literals is)
+unplaced_are names [] [] h g = tt
+unplaced_are names [] (i ∷ is) h g = absurd h
+unplaced_are names (n ∷ ns) [] h g = absurd h
+unplaced_are names (n ∷ ns) (i ∷ is) h g = (((h.0, sym g.0), refl), unplaced_are names ns is h.1 g.1)

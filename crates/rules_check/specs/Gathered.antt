@@ -1,6 +1,7 @@
 -- How the leaves of rules are gathered.
-use Rattle.std.specs.Prelude.{◌≡◌, List, [], ◌∷◌, ◌++◌, true, Ok}
+use Rattle.std.specs.Prelude.{◌≡◌, ℕ, None, List, [], ◌∷◌, ◌++◌, true, Ok}
 use Rattle.scheme_model.specs.Trees.{Tree, name, atom, list, vector, Trees, no_trees, tree}
+use Rattle.scheme_model.specs.ExpansionFaults.{Named}
 use Rattle.scheme_model.specs.RulesShape.{Rules}
 use Rattle.scheme_model.specs.Matching.{behind}
 use Rattle.scheme_model.specs.Leaves.{Leaf}
@@ -71,3 +72,11 @@ name_leaves (tree t ts) = name_leaf t ++ name_leaves ts
 -- the tree is a list of these rules, which were checked
 abbrev pub HasRules : Work → number.Tree → code_rules.Rules → Type 0
 HasRules work n rules = (t : Tree Identifier) × (r : Rules Identifier) × StandsFor work n t × (rules_in_form t ≡ Ok r) × RulesFor work rules r
+
+-- literals that have no places
+abbrev pub AreUnplaced : List (Named Identifier) → Type 0
+AreUnplaced [] = Unit {0}
+AreUnplaced (l ∷ ls) = (l.occ ≡ None) × AreUnplaced ls
+
+abbrev pub unplaced_leaf : ℕ → RuleLeaf
+unplaced_leaf n = record { name = record { ident = n; occ = None }; literal = true }

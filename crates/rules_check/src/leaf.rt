@@ -1,5 +1,5 @@
 //! The leaves of rules that mean something where their macro is defined (R7RS 4.3.2), with their places.
-ghost use Rattle.std.specs.Prelude.{◌≡◌, ℕ, ◌++◌, ◌||◌, is_some, List, Option, Ok, OnOk, IfOk};
+ghost use Rattle.std.specs.Prelude.{◌≡◌, ℕ, ◌++◌, ◌||◌, is_some, map, List, Option, Ok, OnOk, IfOk};
 ghost use Rattle.scheme_model.specs.declared.Occ.{Occ};
 ghost use Rattle.scheme_model.specs.Trees.{Tree as ModelTree, list as list_tree, Trees, tree as before, Tail};
 ghost use Rattle.scheme_model.specs.ExpansionFaults.{named};
@@ -13,7 +13,7 @@ ghost use Rattle.syntax_tree.specs.Placed.{IsNamed};
 ghost use Rattle.syntax_tree.specs.Works.{StandsFor, IsStanding};
 ghost use Rattle.rules_check.specs.Checked.{rules_in_form};
 ghost use Rattle.rules_check.specs.Templates.{dots_where, HasDepths};
-ghost use Rattle.rules_check.specs.Gathered.{AreLeaves, AddsLeaves, HasRules, list_parts, listed_behind, listed_in, name_leaf, name_leaves};
+ghost use Rattle.rules_check.specs.Gathered.{AreLeaves, AddsLeaves, HasRules, AreUnplaced, unplaced_leaf, list_parts, listed_behind, listed_in, name_leaf, name_leaves};
 
 use crate::rule::{depths_of, find_pattern};
 use crate::template::is_escape;
@@ -44,6 +44,36 @@ pub fn leaves(alloc: Global, work: &Work, tree: Tree, rules: &Rules) -> Mem<Vec<
     in_form(work, tree, &mut leaves)?;
     in_rules(alloc, work, &roles, rules.rules.as_slice(), &mut leaves)?;
     Ok(leaves)
+}
+
+/// The same leaves of rules that were made without a tree: no literal in their list has a place.
+pub fn unplaced_leaves(alloc: Global, work: &Work, rules: &Rules) -> Mem<Vec<RuleLeaf>>
+    requires { (r : ModelRules Identifier) × RulesFor work.now rules.now r }
+    ensures { (r : ModelRules Identifier) → RulesFor work.now rules.now r → AreUnplaced r.literals →
+        IfOk result (λ found. AreLeaves work.now.symbols found.items (leaves_of identifiers r)) }
+{
+    let roles = Roles::of(alloc, rules.ellipsis, rules.literals.as_slice())?;
+    let mut leaves = without_places(alloc, rules.literals.as_slice())?;
+    in_rules(alloc, work, &roles, rules.rules.as_slice(), &mut leaves)?;
+    Ok(leaves)
+}
+
+/// Literals without places.
+fn without_places(alloc: Global, idents: &[IdNo]) -> Mem<Vec<RuleLeaf>>
+    ensures { IfOk result (λ found. found.items ≡ map unplaced_leaf idents.now) }
+{
+    Ok(
+        idents
+            .iter()
+            .map(|ident| RuleLeaf {
+                name: Named {
+                    ident: *ident,
+                    occ: None,
+                },
+                literal: true,
+            })
+            .collect(alloc)?,
+    )
 }
 
 /// Adds the literals in their list.

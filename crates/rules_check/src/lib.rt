@@ -18,7 +18,7 @@ mod rule;
 mod template;
 
 pub use fault::RulesFault;
-pub use leaf::{RuleLeaf, leaves};
+pub use leaf::{RuleLeaf, leaves, unplaced_leaves};
 
 /// The rules that a list `(syntax-rules ..)` has, or the first fault: the shapes of the whole list come first, and then the rules
 /// in order. The list's first part isn't looked at.

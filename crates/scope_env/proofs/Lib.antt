@@ -9,3 +9,4 @@ pub mod Added
 pub mod Fields
 pub mod GrowthLaws
 pub mod AroundLaws
+pub mod Copies

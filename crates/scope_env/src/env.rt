@@ -12,7 +12,7 @@ ghost use Rattle.scope_env.specs.Standing.{EnvFor, StandsFor};
 ghost use Rattle.scheme_model.specs.Meaning.{of_form};
 
 use ls_base::{Mem, Memory};
-use std::alloc::Global;
+use std::alloc::{AllocError, Global};
 use std::collections::BTreeMap;
 use std::marker::Model;
 use syntax_tree::meaning::Meaning;
@@ -27,6 +27,20 @@ pub type ScopeNo = usize;
 struct Scope {
     parent: Option<ScopeNo>,
     bound: BTreeMap<IdNo, Meaning>,
+}
+
+impl Clone for Scope {
+    ghost use Rattle.std.specs.Prelude.{◌≡◌};
+    ghost use Rattle.scope_env.specs.Kept.{scope_of};
+
+    ghost is_clone = { λ s t. scope_of t ≡ scope_of s };
+
+    fn clone(&self) -> Result<Scope, AllocError> {
+        Ok(Scope {
+            parent: self.parent,
+            bound: self.bound.clone()?,
+        })
+    }
 }
 
 /// A binding that may be made: what a scope would bind an identifier to.
@@ -70,6 +84,18 @@ impl Env {
             uses: BTreeMap::new(alloc),
             roots: BTreeMap::new(alloc),
         }
+    }
+
+    /// The same scopes once more.
+    pub fn copy(&self) -> Mem<Env>
+        ensures { IfOk result (λ env. env ≡ self.now) }
+    {
+        Ok(Env {
+            alloc: self.alloc,
+            scopes: self.scopes.clone()?,
+            uses: self.uses.clone()?,
+            roots: self.roots.clone()?,
+        })
     }
 
     /// Opens the own scope of a unit that has none yet. It binds nothing, and no scope is around it.
