@@ -28,7 +28,7 @@ pub mod OutcomeLaws
 pub mod AlikeSteps
 pub mod AlikeRuns
 pub mod AlikeExpressions
-pub mod SearchedNotes
+pub mod BoundedNotes
 pub mod SearchedStates
 pub mod SearchedUnits
 pub mod SearchedPrograms

@@ -23,7 +23,7 @@ use Rattle.scheme_model.proofs.FrameUnits.{FormHeld}
 use Rattle.scheme_model.proofs.EntryLaws.{NoLocal, GivenSo, Fits, Exports, unit_entries_fit, with_entries_fit, exports_all_fit}
 use Rattle.scheme_model.proofs.CountedStates.{LocalsKept}
 use Rattle.scheme_model.proofs.FramePrograms.{done, coming, Between, locals_none, start_unit, forms_held, not_done, work_gone, between_before}
-use Rattle.expander.proofs.SearchedNotes.{Foreign, Bounded}
+use Rattle.expander.proofs.BoundedNotes.{Foreign, Bounded}
 use Rattle.expander.proofs.SearchedUnits.{unit_searched, all_passed as units_passed, front_passed as units_front_passed, front_finished as units_front_finished}
 
 -- ---- what units import and export

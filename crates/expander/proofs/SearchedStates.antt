@@ -20,7 +20,7 @@ use Rattle.scheme_model.proofs.FrameStates.{binders_more}
 use Rattle.scheme_model.proofs.CountedForms.{OkAll}
 use Rattle.scheme_model.proofs.CountedUnits.{defined_unless, refused_by_number}
 use Rattle.expander.proofs.AlikeSteps.{Likeness}
-use Rattle.expander.proofs.SearchedNotes.{Bounded, any_spoken}
+use Rattle.expander.proofs.BoundedNotes.{Bounded, any_spoken}
 
 module _ (w : Era) where
   abbrev Fits : ScopedState → Frames → Type 0

@@ -24,7 +24,7 @@ use Rattle.scheme_model.proofs.CountedUnits.{every, run_same, parts_same, turned
 use Rattle.expander.proofs.AlikeSteps.{other, goes_is, goes_after, ran_is, ran_after}
 use Rattle.expander.proofs.AlikeRuns.{run_alike}
 use Rattle.expander.proofs.AlikeExpressions.{all_items_alike, expand_alike}
-use Rattle.expander.proofs.SearchedNotes.{Bounded}
+use Rattle.expander.proofs.BoundedNotes.{Bounded}
 use Rattle.expander.proofs.SearchedStates.{turned_bounded, searching}
 
 pub all_take : {X : Type 0} (P : X → Type 0) (n : ℕ) (xs : List X) → AllOf P xs → AllOf P (take n xs)
