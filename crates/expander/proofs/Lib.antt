@@ -15,3 +15,8 @@ pub mod BodyScopes
 pub mod ComingDefinitions
 pub mod FormsStand
 pub mod OutcomeLaws
+pub mod EqualMeanings
+pub mod SearchedNotes
+pub mod DefineLaws
+pub mod DefinitionSteps
+pub mod ChangedNotes

@@ -7,6 +7,8 @@ pub mod Binds
 pub mod Stepped
 pub mod Outcomes
 pub mod Judged
+pub mod Asks
+pub mod Seen
 pub mod Searched
 pub mod Kept
 pub mod Used
