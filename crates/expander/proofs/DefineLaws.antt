@@ -1,5 +1,5 @@
 -- A definition where forms are gone through: what the next one binds and means, what it comes to, and that all stands with it.
-use Rattle.std.proofs.Common.{◌≡◌, ℕ, ◌+◌, ◌<◌, ◌≤◌, List, [], ◌∷◌, length, slice_get, Bool, true, false, Option, Some, None, Result, Ok, Err, refl, sym, ap, ◌∙◌, subst, arith}
+use Rattle.std.proofs.Common.{◌≡◌, ℕ, ◌+◌, ◌<◌, ◌≤◌, List, [], ◌∷◌, length, slice_get, Bool, true, false, not, Option, Some, None, Result, Ok, Err, refl, sym, ap, ◌∙◌, subst, arith}
 use Rattle.std.specs.Prelude.{◌&&◌, if◌then◌else◌}
 use Rattle.std.specs.Prelude.{is_some as is_kept}
 use Rattle.std.specs.BTreeMap.{BTreeMap, get, btree_map_len}
@@ -16,16 +16,16 @@ use Rattle.scheme_model.specs.Requirements.{Known}
 use Rattle.scheme_model.specs.Steps.{Broken}
 use Rattle.scheme_model.specs.Order.{Here, Note, Pending, is_some, binder_at, told}
 use Rattle.std.specs.Option.{option_map}
-use Rattle.scheme_model.specs.Substitution.{Defined, defined_in, any}
+use Rattle.scheme_model.specs.Substitution.{Defined, defined_in, is_variable, any}
 use Rattle.scheme_model.specs.CountedExpansion.{refused_here}
-use Rattle.scheme_model.specs.ScopedExpansion.{Frames, Place, BodyDefinition, ScopedState, next_number, body_around, bound_next, definition_added, meaning_next, is_defined}
+use Rattle.scheme_model.specs.ScopedExpansion.{Frames, Place, BodyDefinition, ScopedState, next_number, body_around, bound_next, definition_added, meaning_next, is_defined, assigned}
+use Rattle.scheme_model.proofs.IdentLaws.{bool_same}
 use Rattle.syntax_tree.specs.Names.{Names, AreToldApart}
 use Rattle.syntax_tree.specs.Macros.{IsIdent}
 use Rattle.syntax_tree.specs.Meant.{IsMeaning}
 use Rattle.syntax_tree.specs.declared.meaning.Meaning.{Meaning}
 use Rattle.syntax_tree.specs.declared.meaning.Meaning.TheVariants.{Local, Global}
 use Rattle.syntax_tree.specs.declared.trees.Work.{Work}
-use Rattle.syntax_tree.specs.declared.trees.table.Region.{Region}
 use Rattle.syntax_tree.proofs.Places.{get_within}
 use Rattle.scope_env.specs.Environment.{Environment, Scope, IsSound, with_bound}
 use Rattle.scope_env.specs.Resolved.{bound_at}
@@ -39,7 +39,7 @@ use Rattle.expander.specs.Binds.{with_locals}
 use Rattle.expander.specs.Chains.{body_chain}
 use Rattle.expander.specs.Counts.{placed_in, named_fault}
 use Rattle.expander.specs.Macros.{IsBound as IsBound_meaning, Keeps}
-use Rattle.expander.specs.State.{IsMacro, EnvStands, Stands, most_locals}
+use Rattle.expander.specs.State.{IsMacro, EnvStands, Stands, is_program, most_locals}
 use Rattle.expander.specs.Stepped.{BindsBody, with_definition, with_macros}
 use Rattle.expander.specs.Searched.{speaks_of, searched, define_searched}
 use Rattle.expander.specs.Kept.{IsInBody, IsIn, SpotFor}
@@ -51,9 +51,9 @@ use Rattle.expander.specs.declared.macros.Macro.{Macro}
 use Rattle.expander.specs.declared.macros.Macros.{Macros}
 use Rattle.expander.specs.declared.scope.UnitScope.{UnitScope}
 use Rattle.expander.proofs.BodiesStand.{definition_stands}
-use Rattle.expander.proofs.BodyScopes.{binds_more}
+use Rattle.expander.proofs.BodyScopes.{binds_more, body_binds}
 use Rattle.expander.proofs.ComingDefinitions.{coming_in_body, coming_in_unit}
-use Rattle.expander.proofs.OutcomeLaws.{stays_itself, grows_itself}
+use Rattle.expander.proofs.OutcomeLaws.{same_itself}
 use Rattle.expander.proofs.DefinedMacros.{macro_definition_stands, own_variable_stands, own_macro_stands}
 
 -- ---- where forms are gone through
@@ -201,19 +201,19 @@ placed_by unit form here i (Some o) = refl
 pub placed_named : (work : Work) (unit form : ℕ) (here : Option Occ) (x : NamePart) (n : Named Identifier) → IsName work x n → placed_in unit form here x.occ ≡ fault_occ unit form (Some n) here
 placed_named work unit form here x n is = ap (placed_in unit form here) is.1 ∙ placed_by unit form here n.name n.occ
 
-module _ {X Y : Type 0} (P : X → Y → Type 0) (work : Work) (region : Region) (u : UnitScope) (ls : List Frames) (s : ScopedState) (spot : Spot) (fs : Frames) (here : Here) (x : NamePart) (n : Named Identifier) (is : IsName work x n) (e : Stands work u ls s) (placed : SpotFor work u ls s spot fs) (q : Result Y Broken × ScopedState) where
+module _ {X Y : Type 0} (P : X → Y → Type 0) (work : Work) (u : UnitScope) (ls : List Frames) (s : ScopedState) (spot : Spot) (fs : Frames) (here : Here) (x : NamePart) (n : Named Identifier) (is : IsName work x n) (e : Stands work u ls s) (placed : SpotFor work u ls s spot fs) (q : Result Y Broken × ScopedState) where
   place_so : placed_in u.unit u.form.number here x.occ ≡ fault_occ s.unit s.form (Some n) here
   place_so = (λ j. placed_in (e.unit j) (e.form.number j) here x.occ) ∙ placed_named work s.unit s.form here x n is
 
-  pub refused_ends : q ≡ (Err (record { fault = KeywordRedefined n; here = here }), s) → EndsIn P work region u u ls spot fs (Err (named_fault u.unit u.form.number here 41 x)) q
+  pub refused_ends : q ≡ (Err (record { fault = KeywordRedefined n; here = here }), s) → EndsIn P work u u ls spot fs (Err (named_fault u.unit u.form.number here 41 x)) q
   refused_ends same =
-      subst (λ (r : Result Y Broken × ScopedState). EndsIn P work region u u ls spot fs (Err (named_fault u.unit u.form.number here 41 x)) r) (sym same)
-      (stays_itself work region u ls s e, placed, (record { fault = KeywordRedefined n; here = here }, refl, record { code = refl; name = is.0; place = place_so; text = refl }))
+      subst (λ (r : Result Y Broken × ScopedState). EndsIn P work u u ls spot fs (Err (named_fault u.unit u.form.number here 41 x)) r) (sym same)
+      (record { stands = e; placed = placed; same = same_itself u }, (record { fault = KeywordRedefined n; here = here }, refl, record { code = refl; name = is.0; place = place_so; text = refl }))
 
-  pub second_ends : q ≡ (Err (record { fault = Duplicate n; here = here }), s) → EndsIn P work region u u ls spot fs (Err (named_fault u.unit u.form.number here 42 x)) q
+  pub second_ends : q ≡ (Err (record { fault = Duplicate n; here = here }), s) → EndsIn P work u u ls spot fs (Err (named_fault u.unit u.form.number here 42 x)) q
   second_ends same =
-      subst (λ (r : Result Y Broken × ScopedState). EndsIn P work region u u ls spot fs (Err (named_fault u.unit u.form.number here 42 x)) r) (sym same)
-      (stays_itself work region u ls s e, placed, (record { fault = Duplicate n; here = here }, refl, record { code = refl; name = is.0; place = place_so; text = refl }))
+      subst (λ (r : Result Y Broken × ScopedState). EndsIn P work u u ls spot fs (Err (named_fault u.unit u.form.number here 42 x)) r) (sym same)
+      (record { stands = e; placed = placed; same = same_itself u }, (record { fault = Duplicate n; here = here }, refl, record { code = refl; name = is.0; place = place_so; text = refl }))
 
 -- ---- what it counts
 
@@ -249,17 +249,17 @@ same_kept u w ms h =
 
 -- ---- it ends well
 
-module _ (work : Work) (region : Region) (u w : UnitScope) (ls : List Frames) (s : ScopedState) (spot : Spot) (fs : Frames) (here : Here) (n : Named Identifier) (r : Option (Rules Identifier)) (p : Pending Identifier Place) where
+module _ (work : Work) (u w : UnitScope) (ls : List Frames) (s : ScopedState) (spot : Spot) (fs : Frames) (here : Here) (n : Named Identifier) (r : Option (Rules Identifier)) (p : Pending Identifier Place) where
   abbrev at_state : ScopedState
   at_state = definition_added (body_around fs) n r fs s
 
   pub made_ends : (k : Bool) → k ≡ is_some r → changes n.name at_state (meaning_next s (body_around fs) n.name) k p.notes ≡ false → is_defined s (body_around fs) n.name ≡ false → Stands work w ls at_state → SpotFor work w ls at_state spot fs → SamePlace u w →
-      EndsIn (λ (done : Unit {0}) (q : Pending Identifier Place). q ≡ p) work region u w ls spot fs (Ok tt) (told here (define_searched (body_around fs) n r fs p s))
+      EndsIn (λ (done : Unit {0}) (q : Pending Identifier Place). q ≡ p) work u w ls spot fs (Ok tt) (told here (define_searched (body_around fs) n r fs p s))
   made_ends k tells none first stands placed same =
       let no = ap (λ (b : Bool). changes n.name at_state (meaning_next s (body_around fs) n.name) b p.notes) (sym tells) ∙ none in
-      subst (λ (q : Result (Pending Identifier Place) Broken × ScopedState). EndsIn (λ (done : Unit {0}) (y : Pending Identifier Place). y ≡ p) work region u w ls spot fs (Ok tt) q)
+      subst (λ (q : Result (Pending Identifier Place) Broken × ScopedState). EndsIn (λ (done : Unit {0}) (y : Pending Identifier Place). y ≡ p) work u w ls spot fs (Ok tt) q)
       (sym (is_made here (body_around fs) n r fs p s no first))
-      (p, record { stands = stands; work = grows_itself work region; counted = let e = same.takes.nodes in omega arith; same = same.same }, placed, refl, refl)
+      (p, record { stands = stands; placed = placed; same = same.same }, refl, refl)
 
 -- what is kept is a macro exactly where there are rules
 pub kept_tells : (work : Work) (ls : List Frames) (fs : Frames) (k : Option Macro) (r : Option (Rules Identifier)) → IsKept work ls fs k r → is_kept k ≡ is_some r
@@ -287,3 +287,48 @@ undefined_here work u ls s scope fs b ident i e h is none outside =
     let root = in_unit_here work ls scope fs u s b outside h in
     let gone : is_some (defined_in s.table s.unit i) ≡ false = ap (λ (o : Option Number). is_defined s o i) (sym (ap body_around root.1)) ∙ none in
     e.defined ident i is ∙ ap (option_map (λ (d : Defined). d.keyword)) (no_definition (defined_in s.table s.unit i) gone)
+
+-- ---- whether there is a definition already
+
+kept_is : {A : Type 0} (o : Option A) → is_kept o ≡ is_some o
+kept_is None = refl
+kept_is (Some a) = refl
+
+kept_mapped : {A B : Type 0} (f : A → B) (o : Option A) → is_kept (option_map f o) ≡ is_some o
+kept_mapped f None = refl
+kept_mapped f (Some a) = refl
+
+abbrev keyword_of : Defined → Bool
+keyword_of d = d.keyword
+
+abbrev pub is_free : Option Bool → Bool
+is_free None = false
+is_free (Some k) = not k
+
+variable_by : (o : Option Defined) → is_free (option_map keyword_of o) ≡ is_variable o
+variable_by None = refl
+variable_by (Some d) = refl
+
+module _ (work : Work) (u : UnitScope) (ls : List Frames) (s : ScopedState) (scope : ℕ) (fs : Frames) (b : Bool) (ident : ℕ) (i : Identifier) (e : Stands work u ls s) (h : IsIn work u ls s scope fs b) (is : IsIdent work.symbols ident i) where
+  pub defined_in_body : (r : Bool) → b ≡ true → (r ≡ true → is_kept (bound_at u.env scope ident) ≡ true) → (is_kept (bound_at u.env scope ident) ≡ true → r ≡ true) → r ≡ is_defined s (body_around fs) i
+  defined_in_body r inside f g =
+      let body = in_body_here work ls scope fs u s b inside h in
+      bool_same r (is_kept (bound_at u.env scope ident)) f g
+      ∙ (kept_is (bound_at u.env scope ident)
+      ∙ (body_binds work.symbols u.env scope ident s body.body i is body.binds
+      ∙ ap (λ (o : Option Number). is_defined s o i) (sym (ap body_around body.frames))))
+
+  pub defined_in_unit : (r : Bool) → b ≡ false → r ≡ is_kept (get nat_cmp u.defined ident) → r ≡ is_defined s (body_around fs) i
+  defined_in_unit r outside found =
+      let root = in_unit_here work ls scope fs u s b outside h in
+      found ∙ (ap is_kept (e.defined ident i is)
+      ∙ (kept_mapped keyword_of (defined_in s.table s.unit i)
+      ∙ ap (λ (o : Option Number). is_defined s o i) (sym (ap body_around root.1))))
+
+  pub assigned_by : (o : Option Bool) → b ≡ false → is_program u.kind ≡ true → o ≡ get nat_cmp u.defined ident → is_free o ≡ assigned s (body_around fs) i
+  assigned_by o outside program found =
+      let root = in_unit_here work ls scope fs u s b outside h in
+      ap is_free (found ∙ e.defined ident i is)
+      ∙ (variable_by (defined_in s.table s.unit i)
+      ∙ (ap (λ (p : Bool). p && is_variable (defined_in s.table s.unit i)) (sym program ∙ e.program)
+      ∙ ap (λ (o : Option Number). assigned s o i) (sym (ap body_around root.1))))

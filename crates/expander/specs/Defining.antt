@@ -15,14 +15,13 @@ use Rattle.syntax_tree.specs.Meant.{IsMeaning}
 use Rattle.syntax_tree.specs.declared.meaning.Meaning as code_meaning
 use Rattle.syntax_tree.specs.declared.meaning.Meaning.TheVariants as meanings
 use Rattle.syntax_tree.specs.declared.trees.Work.{Work}
-use Rattle.syntax_tree.specs.declared.trees.table.Region.{Region}
 use Rattle.scope_env.specs.Environment.{with_bound}
 use Rattle.core_forms.specs.Parts.{IsName}
 use Rattle.core_forms.specs.declared.shape.NamePart.{NamePart}
 use Rattle.expander.specs.Binds.{with_locals}
 use Rattle.expander.specs.State.{IsMacro, EnvStands, Stands}
 use Rattle.expander.specs.Kept.{NotesFor, SpotFor}
-use Rattle.expander.specs.Outcomes.{Stays, Leaves, MayFill, Breaks}
+use Rattle.expander.specs.Outcomes.{SameForm, Breaks}
 use Rattle.expander.specs.declared.asked.Asked.{Asked}
 use Rattle.expander.specs.declared.definitions.Coming as code_coming
 use Rattle.expander.specs.declared.fault.ExpandFault.{ExpandFault}
@@ -91,12 +90,18 @@ pub record Takes (most : ℕ) (u v : UnitScope) : Type 0 where
   pub uses : v.form.budget.uses ≡ u.form.budget.uses
   pub nodes : v.form.budget.nodes ≡ u.form.budget.nodes
 
--- a step that adds no node and opens no scope, where forms are gone through
-abbrev pub EndsIn : {X Y : Type 0} → (X → Y → Type 0) → Work → Region → UnitScope → UnitScope → List Frames → code_spot.Spot → Frames → Result X ExpandFault → Result Y Broken × ScopedState → Type 0
-EndsIn {X} {Y} P work region u v ls spot fs (Ok x) p = (y : Y) × Stays work work region u v ls p.1 × SpotFor work v ls p.1 spot fs × (p.0 ≡ Ok y) × P x y
-EndsIn P work region u v ls spot fs (Err (fault.At e)) p = Stays work work region u v ls p.1 × SpotFor work v ls p.1 spot fs × Breaks work e p
-EndsIn P work region u v ls spot fs (Err fault.Full) p = Leaves work work region u × MayFill work u
-EndsIn P work region u v ls spot fs (Err fault.Memory) p = Leaves work work region u
+-- what the code has after a step that adds no node and opens no scope, where forms are gone through
+pub record GoesTo (work : Work) (u v : UnitScope) (ls : List Frames) (spot : code_spot.Spot) (fs : Frames) (t : ScopedState) : Type 0 where
+  pub stands : Stands work v ls t
+  pub placed : SpotFor work v ls t spot fs
+  pub same : SameForm u v
+
+-- how such a step ends; it wants no room
+abbrev pub EndsIn : {X Y : Type 0} → (X → Y → Type 0) → Work → UnitScope → UnitScope → List Frames → code_spot.Spot → Frames → Result X ExpandFault → Result Y Broken × ScopedState → Type 0
+EndsIn {X} {Y} P work u v ls spot fs (Ok x) p = (y : Y) × GoesTo work u v ls spot fs p.1 × (p.0 ≡ Ok y) × P x y
+EndsIn P work u v ls spot fs (Err (fault.At e)) p = GoesTo work u v ls spot fs p.1 × Breaks work e p
+EndsIn P work u v ls spot fs (Err fault.Full) p = ⊥
+EndsIn P work u v ls spot fs (Err fault.Memory) p = Unit {0}
 
 -- names are defined one after another, each a variable
 abbrev pub define_each : {E A L S : Type 0} → Ops E A L S → Here → E → List (Named A) → Pending A L → Step S (List Binder)

@@ -110,9 +110,9 @@ impl UnitScope {
         requires can { CanGo work.now self.old spot asked.now }
         requires names { (ns : List (Named Identifier)) × AllMatch (IsName work.now) names.now ns }
         requires room { self.old.form.budget.locals + length names.now ≤ most_locals self.old.form.budget.nodes }
-        ensures defined { (known : Known) (region : AnyRegion) (ls : List Frames) (s : ScopedState) (fs : Frames) (ns : List (Named Identifier)) (p : ModelPending Identifier Place) →
+        ensures defined { (known : Known) (ls : List Frames) (s : ScopedState) (fs : Frames) (ns : List (Named Identifier)) (p : ModelPending Identifier Place) →
             Stands work.now self.old ls s → SpotFor work.now self.old ls s spot fs → AllMatch (IsName work.now) names.now ns → NotesFor work.now ls asked.now p.notes →
-            EndsIn (λ bs ms. EachIs (IsBinder work.now.symbols self.old.unit self.old.form.number) bs.items ms) work.now region self.old self.new ls spot fs result (define_each (searched known) here fs ns p s) }
+            EndsIn (λ bs ms. EachIs (IsBinder work.now.symbols self.old.unit self.old.form.number) bs.items ms) work.now self.old self.new ls spot fs result (define_each (searched known) here fs ns p s) }
         ensures counts { OnOk result (Takes (length names.now) self.old self.new) }
     {
         let mut binders = Vec::new(alloc);
@@ -173,13 +173,18 @@ impl UnitScope {
             PendingFor work.now region self.old.unit self.old.form.number pending.old p → NotesFor work.now ls asked.now p.notes → length m.fields + length (record_names m) ≤ given →
             GoesOn work.now work.now region self.old self.new ls spot fs p.todo given pending.new asked.now result (λ go. run_record (searched known) go here fs p m s) }
     {
-        let fields = self.take_locals(&shape.field_names(alloc)?)?;
-        let binders = self.define_all(alloc, work, spot, here, &shape.names(alloc)?, asked)?;
+        work.symbols.told_apart();
+        let field_names = shape.field_names(alloc)?;
+        let fields = self.take_locals(&field_names)?;
+        let names = shape.names(alloc)?;
+        let binders = self.define_all(alloc, work, spot, here, &names, asked)?;
+        let places = modified(alloc, &shape.fields)?;
+        let uses = used(alloc, &shape.used, &shape.fields)?;
         pending.aside.push(Kept::Record {
             binders,
             fields,
-            modified: modified(alloc, &shape.fields)?,
-            used: used(alloc, &shape.used, &shape.fields)?,
+            modified: places,
+            used: uses,
         })?;
         Ok(())
     }

@@ -14,7 +14,6 @@ ghost use Rattle.scheme_model.specs.Substitution.{any, differ};
 ghost use Rattle.syntax_tree.specs.Macros.{IsIdent};
 ghost use Rattle.syntax_tree.specs.Meant.{IsMeaning};
 ghost use Rattle.syntax_tree.specs.declared.trees.Work.{Work as AnyWork};
-ghost use Rattle.syntax_tree.specs.declared.trees.table.Region.{Region as AnyRegion};
 ghost use Rattle.core_forms.specs.Parts.{IsName};
 ghost use Rattle.core_tree.specs.Names.{IsBinder};
 ghost use Rattle.expander.specs.Searched.{speaks_of, searched};
@@ -92,9 +91,9 @@ impl UnitScope {
         requires can { CanGo work.now self.old spot asked.now }
         requires name { HasNumber work.now name }
         requires room { self.old.form.budget.locals + 1 ≤ most_locals self.old.form.budget.nodes }
-        ensures defined { (known : Known) (region : AnyRegion) (ls : List Frames) (s : ScopedState) (fs : Frames) (n : Named Identifier) (r : Option (Rules Identifier)) (p : Pending Identifier Place) →
+        ensures defined { (known : Known) (ls : List Frames) (s : ScopedState) (fs : Frames) (n : Named Identifier) (r : Option (Rules Identifier)) (p : Pending Identifier Place) →
             Stands work.now self.old ls s → SpotFor work.now self.old ls s spot fs → IsName work.now name n → IsKept work.now ls fs kept r → NotesFor work.now ls asked.now p.notes →
-            EndsIn (λ (done : Unit {0}) (q : Pending Identifier Place). q ≡ p) work.now region self.old self.new ls spot fs result (told here ((searched known).define n r fs p s)) }
+            EndsIn (λ (done : Unit {0}) (q : Pending Identifier Place). q ≡ p) work.now self.old self.new ls spot fs result (told here ((searched known).define n r fs p s)) }
         ensures counts { OnOk result (Takes 1 self.old self.new) }
     {
         work.symbols.told_apart();

@@ -15,6 +15,7 @@ ghost use Rattle.expander.specs.Searched.{searched};
 ghost use Rattle.expander.specs.State.{IsMacro, Stands};
 ghost use Rattle.expander.specs.Kept.{NotesFor};
 ghost use Rattle.expander.specs.Outcomes.{At, CanLook, EndsHere};
+ghost use Rattle.expander.specs.Counts.{CountsSome};
 ghost use Rattle.expander.specs.RulesTold.{CanTell, Tests};
 use crate::asked::{Asked, Asking, Note};
 use crate::counting::{code, fails};
@@ -125,6 +126,7 @@ impl UnitScope {
         ensures read { (known : Known) (region : AnyRegion) (ls : List Frames) (s : ScopedState) (fs : Frames) (t : ModelTree Identifier) (r : RulesParts Identifier) →
             Stands work.now self.old ls s → At ls scope fs → StandsFor work.now rules t → rules_parts_of t ≡ Some r →
             EndsHere (λ k rs. IsMacro work.now ls k (record { env = fs; rules = rs })) work.now work.now region self.old self.new ls result (rules_at (searched known) here t r s) }
+        ensures nodes { CountsSome self.old self.new }
         ensures counts { OnOk result ((self.new.form.budget.locals ≡ self.old.form.budget.locals) × (self.new.form.budget.uses ≡ self.old.form.budget.uses)) }
     {
         self.count(here, work.size(rules))?;

@@ -1,4 +1,5 @@
-use Rattle.std.proofs.Common.{◌≡◌, ℕ, ◌+◌, ◌<◌, List, length, Bool, false, Option, Some, None, Result, Ok, Err, refl, sym, ap, ◌∙◌, subst, arith}
+use Rattle.std.proofs.Common.{◌≡◌, ℕ, ◌+◌, ◌<◌, List, length, Bool, true, false, Option, Some, None, Result, Ok, Err, refl, sym, ap, ◌∙◌, subst, arith}
+use Rattle.std.specs.Prelude.{is_some as is_kept}
 use Rattle.std.proofs.lemmas.Option.{slice_get_within}
 use Rattle.scheme_model.specs.ExpansionFaults.{Named}
 use Rattle.scheme_model.specs.Ident.{Ident as Identifier}
@@ -60,7 +61,7 @@ keep-requires c = subst IsBound (sym c.next_meaning-meaning.ensures.value) (is_b
 
 pub returns-then-is_refused : goal.returns-then-is_refused
 returns-then-is_refused c = record {
-  defined = λ known region ls s fs n r p stands placed is kept notes.
+  defined = λ known ls s fs n r p stands placed is kept notes.
       let work = c.args.work.now in
       let u = c.args.self.now in
       let spot = c.args.spot in
@@ -73,14 +74,14 @@ returns-then-is_refused c = record {
       let tells : c.is_some.result ≡ is_some r = c.is_some.ensures ∙ kept_tells work ls fs c.args.kept r kept in
       let so = ap (λ (k : Bool). changes n.name t m k p.notes) (sym tells) ∙ (sym (c.is_refused.ensures ls t m n.name p.notes comes is.0 notes) ∙ c.if-is_refused.true) in
       let q = told here (define_searched b n r fs p s) in
-      subst (λ (e : ExpandFault). EndsIn (λ done. Same done p) work region u u ls spot fs (Err e) q) (sym c.fails_at.ensures)
-      (refused_ends (λ done. Same done p) work region u ls s spot fs here name n is stands placed q (refuses here b n r fs p s so));
+      subst (λ (e : ExpandFault). EndsIn (λ done. Same done p) work u u ls spot fs (Err e) q) (sym c.fails_at.ensures)
+      (refused_ends (λ done. Same done p) work u ls s spot fs here name n is stands placed q (refuses here b n r fs p s so));
   counts = tt;
 }
 
 pub returns-then-is_defined : goal.returns-then-is_defined
 returns-then-is_defined c = record {
-  defined = λ known region ls s fs n r p stands placed is kept notes.
+  defined = λ known ls s fs n r p stands placed is kept notes.
       let work = c.args.work.now in
       let u = c.args.self.now in
       let spot = c.args.spot in
@@ -94,8 +95,8 @@ returns-then-is_defined c = record {
       let so = ap (λ (k : Bool). changes n.name t m k p.notes) (sym tells) ∙ (sym (c.is_refused.ensures ls t m n.name p.notes comes is.0 notes) ∙ c.if-is_refused.false) in
       let again = sym (c.is_defined.ensures work ls s fs n.name stands placed is.0) ∙ c.if-is_defined.true in
       let q = told here (define_searched b n r fs p s) in
-      subst (λ (e : ExpandFault). EndsIn (λ done. Same done p) work region u u ls spot fs (Err e) q) (sym c.fails_at-then-is_defined.ensures)
-      (second_ends (λ done. Same done p) work region u ls s spot fs here name n is stands placed q (is_second here b n r fs p s so again));
+      subst (λ (e : ExpandFault). EndsIn (λ done. Same done p) work u u ls spot fs (Err e) q) (sym c.fails_at-then-is_defined.ensures)
+      (second_ends (λ done. Same done p) work u ls s spot fs here name n is stands placed q (is_second here b n r fs p s so again));
   counts = tt;
 }
 
@@ -106,11 +107,11 @@ returns-in-None c =
     let name = c.args.name in
     let w = c.place.new.self in
     let value = c.next_meaning-meaning.ensures.value in
-    let k : c.is_some.result ≡ false = c.is_some.ensures ∙ ? in
+    let k : c.is_some.result ≡ false = c.is_some.ensures ∙ ap is_kept c.in-None.is in
     let put : Places u w spot.in_body spot.scope name.ident (next_here u spot.in_body name.ident) false = subst (λ (m : Meaning). Places u w spot.in_body spot.scope name.ident m false) value (subst (λ (b : Bool). Places u w spot.in_body spot.scope name.ident c.next_meaning-meaning.result b) k c.in_ok-place.ensures) in
     let same = same_placed u w spot.in_body false spot.scope name.ident (next_here u spot.in_body name.ident) put in
     record {
-      defined = λ known region ls s fs n r p stands placed is kept notes.
+      defined = λ known ls s fs n r p stands placed is kept notes.
           let work = c.args.work.now in
           let b = body_around fs in
           let none = none_kept work ls fs c.args.kept r c.in-None.is kept in
@@ -119,10 +120,42 @@ returns-in-None c =
           let comes = comes_so work u ls s spot.scope fs stands name.ident n c.told_apart.ensures.idents c.sound.ensures is.0 spot.in_body c.is_some.result c.next_meaning-meaning.result None value placed.inside in
           let so = sym (c.is_refused.ensures ls t m n.name p.notes comes is.0 notes) ∙ c.if-is_refused.false in
           let first = sym (c.is_defined.ensures work ls s fs n.name stands placed is.0) ∙ c.if-is_defined.false in
-          subst (λ (o : Option (Rules Identifier)). EndsIn (λ done. Same done p) work region u w ls spot fs (Ok tt) (told c.args.here (define_searched b n o fs p s))) (sym none)
-          (made_ends work region u w ls s spot fs c.args.here n None p c.is_some.result k so first
+          subst (λ (o : Option (Rules Identifier)). EndsIn (λ done. Same done p) work u w ls spot fs (Ok tt) (told c.args.here (define_searched b n o fs p s))) (sym none)
+          (made_ends work u w ls s spot fs c.args.here n None p c.is_some.result k so first
           (variable_stands work u ls s spot.scope fs stands name.ident n c.told_apart.ensures.idents c.sound.ensures is.0 placed.at c.requires.room w spot.in_body placed.inside put)
           (record { at = placed.at; inside = in_after work u ls s spot.scope fs stands name.ident n c.told_apart.ensures.idents c.sound.ensures is.0 placed.at c.requires.room w spot.in_body false None placed.inside put })
+          same);
+      counts = same.takes;
+    }
+
+pub returns-in_ok-keep-in-Some : goal.returns-in_ok-keep-in-Some
+returns-in_ok-keep-in-Some c =
+    let u = c.args.self.now in
+    let spot = c.args.spot in
+    let name = c.args.name in
+    let w = c.place.new.self in
+    let ms = c.keep.new.self in
+    let here = next_here u spot.in_body name.ident in
+    let value = c.next_meaning-meaning.ensures.value in
+    let k : c.is_some.result ≡ true = c.is_some.ensures ∙ ap is_kept c.in-Some.is in
+    let put : Places u w spot.in_body spot.scope name.ident here true = subst (λ (m : Meaning). Places u w spot.in_body spot.scope name.ident m true) value (subst (λ (b : Bool). Places u w spot.in_body spot.scope name.ident c.next_meaning-meaning.result b) k c.in_ok-place.ensures) in
+    let keeps : Keeps w.macros ms w.form.number here c.in-Some.kept = subst (λ (m : Meaning). Keeps w.macros ms w.form.number m c.in-Some.kept) value c.in_ok-keep.ensures.kept in
+    let same = same_kept u w ms (same_placed u w spot.in_body true spot.scope name.ident here put) in
+    record {
+      defined = λ known ls s fs n r p stands placed is kept notes.
+          let work = c.args.work.now in
+          let b = body_around fs in
+          let rules = some_kept work ls fs c.args.kept c.in-Some.kept r c.in-Some.is kept in
+          let m = meaning_next s b n.name in
+          let t = definition_added b n (Some rules.0) fs s in
+          let comes = comes_so work u ls s spot.scope fs stands name.ident n c.told_apart.ensures.idents c.sound.ensures is.0 spot.in_body c.is_some.result c.next_meaning-meaning.result (Some rules.0) value placed.inside in
+          let so = sym (c.is_refused.ensures ls t m n.name p.notes comes is.0 notes) ∙ c.if-is_refused.false in
+          let first = sym (c.is_defined.ensures work ls s fs n.name stands placed is.0) ∙ c.if-is_defined.false in
+          let inside = in_after work u ls s spot.scope fs stands name.ident n c.told_apart.ensures.idents c.sound.ensures is.0 placed.at c.requires.room w spot.in_body true (Some rules.0) placed.inside put in
+          subst (λ (o : Option (Rules Identifier)). EndsIn (λ done. Same done p) work u (with_macros w ms) ls spot fs (Ok tt) (told c.args.here (define_searched b n o fs p s))) (sym rules.1)
+          (made_ends work u (with_macros w ms) ls s spot fs c.args.here n (Some rules.0) p c.is_some.result k so first
+          (macro_stands work u ls s spot.scope fs stands name.ident n c.told_apart.ensures.idents c.sound.ensures is.0 placed.at c.requires.room w spot.in_body ms c.in-Some.kept rules.0 c.told_apart.ensures.symbols placed.inside put keeps rules.2)
+          (record { at = placed.at; inside = is_in_on work ls spot.scope fs w (with_macros w ms) t t spot.in_body refl refl refl inside })
           same);
       counts = same.takes;
     }
