@@ -1,6 +1,6 @@
 -- The steps of definitions: how one is gone on behind, and names that are defined one after another, as forms put first or as a list.
 use Rattle.std.proofs.Common.{◌≡◌, ℕ, zero, suc, ◌+◌, ◌*◌, ◌-◌, ◌<◌, ◌≤◌, List, [], ◌∷◌, ◌++◌, append_assoc, append-nil, length, map, reverse, get_or, drop, Bool, true, false, Option, Some, None, Result, Ok, Err, refl, sym, ap, ◌∙◌, subst, arith}
-use Rattle.std.specs.Prelude.{◌&&◌, nat_le, Vec, if◌then◌else◌}
+use Rattle.std.specs.Prelude.{◌&&◌, nat_le, Vec, IsErrAnd, if◌then◌else◌}
 use Rattle.std.specs.declared.alloc.Global.{Global}
 use Rattle.std.proofs.lemmas.List.{drop_all}
 use Rattle.scheme_model.specs.Ident.{Ident as Identifier}
@@ -120,7 +120,7 @@ module _ (known : Known) (here : Here) (e : Frames) (fs : List (Form Identifier)
   names_defined (n ∷ ns) s =
       let b = body_around e in
       let t = definition_added b n None e s in
-      one_defined here n (binder_at (searched known) e s n) (first fs p) (named_first here ns fs p) p t s (define_all (searched known) here e ns) (λ q w. define_each (searched known) here e ns q w)
+      one_defined here n (binder_at (searched known) e s n) (first fs p) (named_first here ns fs p) p t s (define_all (searched known) here e ns) (λ q w. define_each (searched known) here e ns p w)
       (any (λ note. speaks_of n.name note && refused_here t (meaning_next s b n.name) false note) p.notes) (is_defined s b n.name) (names_defined ns t)
 
 -- ---- fields
@@ -163,7 +163,8 @@ matched_here P (x ∷ xs) [] k d h lt = absurd h
 matched_here P (x ∷ xs) (y ∷ ys) zero d h lt = (y, h.0, refl)
 matched_here P (x ∷ xs) (y ∷ ys) (suc k) d h lt =
     let p = matched_here P xs ys k d h.1 (omega (arith, lt)) in
-    (p.0, p.1, p.2)
+    let e : suc (k + 1) ≡ suc k + 1 = omega arith in
+    (p.0, p.1, p.2 ∙ ap (λ (n : ℕ). p.0 ∷ drop n (y ∷ ys)) e)
 
 pub matched_length : {X Y : Type 0} (P : X → Y → Type 0) (xs : List X) (ys : List Y) → forms.AllMatch P xs ys → length xs ≡ length ys
 matched_length P [] [] h = refl
@@ -336,3 +337,20 @@ counted_same here false s t r h = refl
 pub rules_define_none : (known : Known) (here : Here) (t : Tree Identifier) (r : RulesParts Identifier) (s : ScopedState) → (rules_at (searched known) here t r s).1.definitions ≡ s.definitions
 rules_define_none known here t r s =
     counted_same here (nat_le (s.nodes s.form + tree_size t) max_nodes) s ((searched known).spend (tree_size t) s) (rules_of (searched known).names r.parts r.tail) refl
+
+-- ---- faults that are handed on
+
+pub in_handed : {X Y : Type 0} (P : X → Y → Type 0) (work : Work) (u v : UnitScope) (ls : List Frames) (spot : Spot) (fs : Frames) (r : Result X ExpandFault) (e : ExpandFault) (x : Result Y Broken × ScopedState) → IsErrAnd r (λ f. f ≡ e) →
+    EndsIn P work u v ls spot fs (Err e) x → EndsIn P work u v ls spot fs r x
+in_handed P work u v ls spot fs (Ok y) e x same h = absurd same
+in_handed P work u v ls spot fs (Err f) e x same h = subst (λ (g : ExpandFault). EndsIn P work u v ls spot fs (Err g) x) (sym same) h
+
+pub goes_handed : (work : Work) (region : Region) (u v : UnitScope) (ls : List Frames) (spot : Spot) (fs : Frames) (before : List (Form Identifier)) (given : ℕ) (todo : code_pending.Pending) (asked : Asked) (r : Result (Unit {0}) ExpandFault) (e : ExpandFault)
+    (step : Going Identifier Place ScopedState → Pass Identifier Place × ScopedState) → IsErrAnd r (λ f. f ≡ e) → GoesOn work work region u v ls spot fs before given todo asked (Err e) step → GoesOn work work region u v ls spot fs before given todo asked r step
+goes_handed work region u v ls spot fs before given todo asked (Ok y) e step same h = absurd same
+goes_handed work region u v ls spot fs before given todo asked (Err f) e step same h = subst (λ (g : ExpandFault). GoesOn work work region u v ls spot fs before given todo asked (Err g) step) (sym same) h
+
+-- want of memory
+pub goes_without : (work : Work) (region : Region) (u v : UnitScope) (ls : List Frames) (spot : Spot) (fs : Frames) (before : List (Form Identifier)) (given : ℕ) (todo : code_pending.Pending) (asked : Asked) (r : Result (Unit {0}) ExpandFault)
+    (step : Going Identifier Place ScopedState → Pass Identifier Place × ScopedState) → IsErrAnd r (λ f. f ≡ fault.Memory) → u.form.budget.nodes ≤ 200000 → GoesOn work work region u v ls spot fs before given todo asked r step
+goes_without work region u v ls spot fs before given todo asked r step same few = goes_handed work region u v ls spot fs before given todo asked r fault.Memory step same (leaves_itself work region u few)

@@ -20,3 +20,7 @@ pub mod SearchedNotes
 pub mod DefineLaws
 pub mod DefinitionSteps
 pub mod ChangedNotes
+pub mod RecordSteps
+pub mod MacroSteps
+pub mod AskLaws
+pub mod SeenLaws

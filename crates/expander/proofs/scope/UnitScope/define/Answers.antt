@@ -139,7 +139,7 @@ returns-in_ok-keep-in-Some c =
     let value = c.next_meaning-meaning.ensures.value in
     let k : c.is_some.result ≡ true = c.is_some.ensures ∙ ap is_kept c.in-Some.is in
     let put : Places u w spot.in_body spot.scope name.ident here true = subst (λ (m : Meaning). Places u w spot.in_body spot.scope name.ident m true) value (subst (λ (b : Bool). Places u w spot.in_body spot.scope name.ident c.next_meaning-meaning.result b) k c.in_ok-place.ensures) in
-    let keeps : Keeps w.macros ms w.form.number here c.in-Some.kept = subst (λ (m : Meaning). Keeps w.macros ms w.form.number m c.in-Some.kept) value c.in_ok-keep.ensures.kept in
+    let keeps : Keeps w.macros ms w.form.number here c.in-Some.kept = subst (λ (m : Meaning). Keeps w.macros ms w.form.number m c.in-Some.kept) value c.in_ok-keep-in-Some.ensures.kept in
     let same = same_kept u w ms (same_placed u w spot.in_body true spot.scope name.ident here put) in
     record {
       defined = λ known ls s fs n r p stands placed is kept notes.
