@@ -1,5 +1,5 @@
 -- What a note asked, and whether a definition that is about to be made would have it told otherwise.
-use Rattle.std.proofs.Common.{◌≡◌, ℕ, ◌<◌, List, length, Bool, Option, Some, refl, sym, ap, ◌∙◌, subst}
+use Rattle.std.proofs.Common.{◌≡◌, ℕ, ◌<◌, List, length, Bool, ◌∙◌, subst}
 use Rattle.std.specs.Prelude.{◌&&◌, ◌||◌}
 use Rattle.std.proofs.lemmas.Option.{slice_get_within}
 use Rattle.scheme_model.specs.Meaning.{same_meaning}

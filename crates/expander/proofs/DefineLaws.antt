@@ -1,5 +1,5 @@
 -- A definition where forms are gone through: what the next one binds and means, what it comes to, and that all stands with it.
-use Rattle.std.proofs.Common.{◌≡◌, ℕ, ◌+◌, ◌<◌, ◌≤◌, List, [], ◌∷◌, length, slice_get, Bool, true, false, not, Option, Some, None, Result, Ok, Err, refl, sym, ap, ◌∙◌, subst, arith}
+use Rattle.std.proofs.Common.{◌≡◌, ℕ, ◌+◌, ◌<◌, ◌≤◌, List, [], ◌∷◌, Bool, true, false, not, Option, Some, None, Result, Ok, Err, refl, sym, ap, ◌∙◌, subst, arith}
 use Rattle.std.specs.Prelude.{◌&&◌, if◌then◌else◌}
 use Rattle.std.specs.Prelude.{is_some as is_kept}
 use Rattle.std.specs.BTreeMap.{BTreeMap, get, btree_map_len}
@@ -8,40 +8,37 @@ use Rattle.std.proofs.lemmas.Option.{slice_get_within}
 use Rattle.scheme_model.specs.declared.Occ.{Occ}
 use Rattle.scheme_model.specs.Identifiers.{Number}
 use Rattle.scheme_model.specs.Ident.{Ident as Identifier}
-use Rattle.scheme_model.specs.ExpansionFaults.{Named, Fault, KeywordRedefined, Duplicate}
+use Rattle.scheme_model.specs.ExpansionFaults.{Named, KeywordRedefined, Duplicate}
 use Rattle.scheme_model.specs.Diagnostics.{fault_occ}
 use Rattle.scheme_model.specs.Meaning as model
 use Rattle.scheme_model.specs.RulesShape.{Rules}
-use Rattle.scheme_model.specs.Requirements.{Known}
 use Rattle.scheme_model.specs.Steps.{Broken}
-use Rattle.scheme_model.specs.Order.{Here, Note, Pending, is_some, binder_at, told}
+use Rattle.scheme_model.specs.Order.{Here, Note, Pending, is_some, told}
 use Rattle.std.specs.Option.{option_map}
 use Rattle.scheme_model.specs.Substitution.{Defined, defined_in, is_variable, any}
 use Rattle.scheme_model.specs.CountedExpansion.{refused_here}
 use Rattle.scheme_model.specs.ScopedExpansion.{Frames, Place, BodyDefinition, ScopedState, next_number, body_around, bound_next, definition_added, meaning_next, is_defined, assigned}
 use Rattle.scheme_model.proofs.IdentLaws.{bool_same}
-use Rattle.syntax_tree.specs.Names.{Names, AreToldApart}
+use Rattle.syntax_tree.specs.Names.{AreToldApart}
 use Rattle.syntax_tree.specs.Macros.{IsIdent}
 use Rattle.syntax_tree.specs.Meant.{IsMeaning}
 use Rattle.syntax_tree.specs.declared.meaning.Meaning.{Meaning}
 use Rattle.syntax_tree.specs.declared.meaning.Meaning.TheVariants.{Local, Global}
 use Rattle.syntax_tree.specs.declared.trees.Work.{Work}
 use Rattle.syntax_tree.proofs.Places.{get_within}
-use Rattle.scope_env.specs.Environment.{Environment, Scope, IsSound, with_bound}
+use Rattle.scope_env.specs.Environment.{Environment, IsSound, with_bound}
 use Rattle.scope_env.specs.Resolved.{bound_at}
 use Rattle.scope_env.specs.Standing.{bound_by}
 use Rattle.core_forms.specs.Parts.{IsName}
 use Rattle.core_forms.specs.declared.shape.NamePart.{NamePart}
-use Rattle.core_tree.specs.Names.{IsBound, IsBinder}
-use Rattle.core_tree.specs.Traces.{IsFault}
-use Rattle.core_tree.specs.declared.traces.FormFault.{FormFault}
+use Rattle.core_tree.specs.Names.{IsBound}
 use Rattle.expander.specs.Binds.{with_locals}
 use Rattle.expander.specs.Chains.{body_chain}
 use Rattle.expander.specs.Counts.{placed_in, named_fault}
 use Rattle.expander.specs.Macros.{IsBound as IsBound_meaning, Keeps}
 use Rattle.expander.specs.State.{IsMacro, EnvStands, Stands, is_program, most_locals}
 use Rattle.expander.specs.Stepped.{BindsBody, with_definition, with_macros}
-use Rattle.expander.specs.Searched.{speaks_of, searched, define_searched}
+use Rattle.expander.specs.Searched.{speaks_of, define_searched}
 use Rattle.expander.specs.Kept.{IsInBody, IsIn, SpotFor}
 use Rattle.expander.specs.Outcomes.{At, SameForm}
 use Rattle.expander.specs.Defining.{ComesTo, next_here, Places, IsKept, Takes, EndsIn}

@@ -1,5 +1,5 @@
 -- The steps of definitions: how one is gone on behind, and names that are defined one after another, as forms put first or as a list.
-use Rattle.std.proofs.Common.{◌≡◌, ℕ, zero, suc, ◌+◌, ◌*◌, ◌-◌, ◌<◌, ◌≤◌, List, [], ◌∷◌, ◌++◌, append_assoc, append-nil, length, map, reverse, get_or, drop, Bool, true, false, Option, Some, None, Result, Ok, Err, refl, sym, ap, ◌∙◌, subst, arith}
+use Rattle.std.proofs.Common.{◌≡◌, ℕ, zero, suc, ◌+◌, ◌<◌, ◌≤◌, List, [], ◌∷◌, ◌++◌, append_assoc, append-nil, length, reverse, get_or, drop, Bool, true, false, Option, Some, None, Result, Ok, Err, refl, sym, ap, ◌∙◌, subst, arith}
 use Rattle.std.specs.Prelude.{◌&&◌, nat_le, Vec, IsErrAnd, if◌then◌else◌}
 use Rattle.std.specs.declared.alloc.Global.{Global}
 use Rattle.std.proofs.lemmas.List.{drop_all}
@@ -11,7 +11,7 @@ use Rattle.scheme_model.specs.Trees.{Tree}
 use Rattle.scheme_model.specs.Measures.{tree_size}
 use Rattle.scheme_model.specs.Cores.{LocalNumber, Binder}
 use Rattle.scheme_model.specs.Steps.{Broken, Step, ◌>>=◌, done, fails}
-use Rattle.scheme_model.specs.Order.{Here, Form, Item, Note, Pending, Pass, Going, Ops, told, caught, put, first, names_at, binder_at, define_all, define_names, fields_bound, is_some, RulesParts, rules_parts, rules_at, is_rules, head_of, given, max_nodes}
+use Rattle.scheme_model.specs.Order.{Here, Form, Item, Note, Pending, Pass, Going, told, caught, put, first, names_at, binder_at, define_all, define_names, fields_bound, RulesParts, rules_parts, rules_at, is_rules, head_of, given, max_nodes}
 use Rattle.scheme_model.specs.Substitution.{any}
 use Rattle.scheme_model.specs.CountedExpansion.{counted, refused_here}
 use Rattle.scheme_model.specs.ScopedExpansion.{Frames, Place, ScopedState, next_number, body_around, definition_added, meaning_next, is_defined}
@@ -24,9 +24,9 @@ use Rattle.expander.specs.Binds.{with_locals}
 use Rattle.expander.specs.Stepped.{taken, bound_binders}
 use Rattle.expander.specs.Searched.{speaks_of, searched}
 use Rattle.expander.specs.Kept.{FormFor, PendingFor, NotesFor, SpotFor, KeptFor, left_with}
-use Rattle.expander.specs.Outcomes.{SameForm, Stays, Leaves, Breaks}
+use Rattle.expander.specs.Outcomes.{SameForm, Stays}
 use Rattle.expander.specs.Defining.{GoesTo, EndsIn, define_each}
-use Rattle.expander.specs.Passed.{Reaches, Stops, GoesOn}
+use Rattle.expander.specs.Passed.{GoesOn}
 use Rattle.expander.specs.declared.asked.Asked.{Asked}
 use Rattle.expander.specs.declared.fault.ExpandFault.{ExpandFault}
 use Rattle.expander.specs.declared.fault.ExpandFault.TheVariants as fault

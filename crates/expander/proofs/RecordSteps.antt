@@ -1,9 +1,8 @@
 -- The definition of a record type: its fields take locals, and then its names are defined (R7RS 5.5).
-use Rattle.std.proofs.Common.{◌≡◌, ℕ, ◌+◌, ◌≤◌, List, [], ◌∷◌, ◌++◌, length, map, Bool, Result, Ok, Err, refl, sym, ap, ◌∙◌, subst}
+use Rattle.std.proofs.Common.{◌≡◌, ℕ, ◌+◌, ◌≤◌, List, [], ◌∷◌, ◌++◌, length, map, Result, Ok, Err, refl, sym, ap, ◌∙◌, subst}
 use Rattle.std.specs.Prelude.{Vec}
 use Rattle.std.specs.declared.alloc.Global.{Global}
 use Rattle.scheme_model.specs.Ident.{Ident as Identifier, same_ident}
-use Rattle.scheme_model.specs.ExpansionFaults.{Named}
 use Rattle.scheme_model.specs.Requirements.{Known}
 use Rattle.scheme_model.specs.Shapes.{RecordShape}
 use Rattle.scheme_model.specs.Cores.{Binder}
@@ -35,7 +34,7 @@ use Rattle.expander.specs.declared.scope.UnitScope.{UnitScope}
 use Rattle.expander.proofs.BindersStand.{fields_stand}
 use Rattle.expander.proofs.DefineLaws.{is_in_on}
 use Rattle.expander.proofs.OutcomeLaws.{bound_goes}
-use Rattle.expander.proofs.DefinitionSteps.{goes_failing, aside_goes, in_fails, in_after_same, taken_same, record_steps, with_pending, with_fields, binder_here}
+use Rattle.expander.proofs.DefinitionSteps.{goes_failing, aside_goes, in_fails, in_after_same, taken_same, record_steps, with_pending, with_fields}
 
 abbrev Answer : Type 0
 Answer = Result (List Binder × (List Binder × Pending Identifier Place)) Broken × ScopedState

@@ -1,5 +1,5 @@
 -- The notes that speak of an identifier, by their numbers: one of them is refused where one of these numbers is that of a note that is.
-use Rattle.std.proofs.Common.{◌≡◌, ℕ, zero, suc, ◌+◌, ◌<◌, ◌⊎◌, inl, inr, List, [], ◌∷◌, ◌++◌, length, reverse, take, Bool, true, false, ◌&&◌, ◌||◌, cond, Option, Some, None, refl, sym, ap, ◌∙◌, subst, arith}
+use Rattle.std.proofs.Common.{◌≡◌, ℕ, zero, suc, ◌+◌, ◌⊎◌, inl, inr, List, [], ◌∷◌, ◌++◌, reverse, Bool, true, false, ◌&&◌, ◌||◌, cond, Option, Some, None, refl, sym, ap, ◌∙◌, subst, arith}
 use Rattle.std.specs.Prelude.{slice_get}
 use Rattle.std.proofs.lemmas.Grind.{reverse_onto}
 use Rattle.std.proofs.lemmas.Option.{same_Some}
@@ -8,10 +8,9 @@ use Rattle.scheme_model.specs.Order.{Note, LookedUp, Compared}
 use Rattle.scheme_model.specs.Substitution.{any}
 use Rattle.scheme_model.specs.ScopedExpansion.{Frames, Place}
 use Rattle.syntax_tree.specs.Names.{Names}
-use Rattle.syntax_tree.specs.Macros.{IsIdent}
 use Rattle.syntax_tree.specs.declared.trees.Work.{Work}
 use Rattle.core_tree.specs.Names.{AllMatch}
-use Rattle.expander.specs.Asks.{is_inside, is_inside_any, is_inside_at, idents_of, is_inside_one, asked_by, asked_from}
+use Rattle.expander.specs.Asks.{is_inside, is_inside_any, is_inside_at, idents_of, asked_by, asked_from}
 use Rattle.expander.specs.Searched.{speaks_of}
 use Rattle.expander.specs.Kept.{PlaceFor, NoteFor}
 use Rattle.expander.specs.declared.asked.Asking.{Asking}

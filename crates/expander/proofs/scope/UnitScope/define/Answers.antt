@@ -1,20 +1,17 @@
-use Rattle.std.proofs.Common.{◌≡◌, ℕ, ◌+◌, ◌<◌, List, length, Bool, true, false, Option, Some, None, Result, Ok, Err, refl, sym, ap, ◌∙◌, subst, arith}
+use Rattle.std.proofs.Common.{◌≡◌, ℕ, ◌<◌, Bool, true, false, Option, Some, None, Ok, Err, refl, sym, ap, ◌∙◌, subst, arith}
 use Rattle.std.specs.Prelude.{is_some as is_kept}
 use Rattle.std.proofs.lemmas.Option.{slice_get_within}
-use Rattle.scheme_model.specs.ExpansionFaults.{Named}
 use Rattle.scheme_model.specs.Ident.{Ident as Identifier}
 use Rattle.scheme_model.specs.Order.{Pending, is_some, told}
 use Rattle.scheme_model.specs.RulesShape.{Rules}
 use Rattle.scheme_model.specs.ScopedExpansion.{Place, body_around, meaning_next, definition_added}
 use Rattle.syntax_tree.specs.declared.meaning.Meaning.{Meaning}
 use Rattle.expander.specs.Macros.{IsBound, Keeps}
-use Rattle.expander.specs.Defining.{ComesTo, next_here, Places, IsKept, EndsIn}
+use Rattle.expander.specs.Defining.{next_here, Places, EndsIn}
 use Rattle.expander.specs.Searched.{define_searched}
 use Rattle.expander.specs.Stepped.{with_macros}
 use Rattle.expander.specs.declared.fault.ExpandFault.{ExpandFault}
-use Rattle.expander.specs.declared.scope.UnitScope.{UnitScope}
 use Rattle.expander.proofs.CountingStands.{most_fit}
-use Rattle.expander.proofs.OutcomeLaws.{leaves_itself}
 use Rattle.expander.proofs.DefineLaws.{comes_so, undefined_here, is_bound_here, changes, refuses, is_second, refused_ends, second_ends, kept_tells, none_kept, some_kept, same_placed, same_kept, variable_stands, macro_stands, in_after, is_in_on, made_ends}
 use Rattle.expander.proofs.scope.UnitScope.define.Goals as goal
 

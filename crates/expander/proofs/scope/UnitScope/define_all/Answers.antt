@@ -1,7 +1,6 @@
-use Rattle.std.proofs.Common.{◌≡◌, ℕ, ◌+◌, ◌<◌, ◌≤◌, List, [], ◌∷◌, ◌++◌, length, get_or, true, false, Option, None, Result, Ok, Err, refl, sym, ap, ◌∙◌, subst, arith}
+use Rattle.std.proofs.Common.{◌+◌, ◌<◌, ◌≤◌, List, [], length, false, None, refl, sym, ◌∙◌, subst, arith}
 use Rattle.std.specs.Prelude.{Vec}
 use Rattle.std.specs.declared.alloc.Global.{Global}
-use Rattle.scheme_model.specs.ExpansionFaults.{Named}
 use Rattle.scheme_model.specs.Ident.{Ident as Identifier}
 use Rattle.scheme_model.specs.Order.{Pending}
 use Rattle.scheme_model.specs.Requirements.{Known}
@@ -11,7 +10,7 @@ use Rattle.core_forms.specs.declared.shape.NamePart.{NamePart}
 use Rattle.scheme_model.specs.Cores.{Binder}
 use Rattle.core_tree.specs.Names.{AllMatch, IsBinder}
 use Rattle.core_tree.specs.declared.cores.Binder as code_binder
-use Rattle.expander.specs.Defining.{Takes, define_each}
+use Rattle.expander.specs.Defining.{define_each}
 use Rattle.expander.specs.Searched.{searched}
 use Rattle.expander.proofs.DefinitionSteps.{in_handed, DefinedSoFar, none_defined_yet, one_more_defined, next_fails, all_defined, matched_here, matched_length}
 use Rattle.expander.proofs.scope.UnitScope.define_all.Goals as goal

@@ -1,10 +1,8 @@
-use Rattle.std.proofs.Common.{◌≡◌, ℕ, ◌+◌, ◌<◌, ◌≤◌, ◌^◌, List, [], ◌∷◌, length, map, Bool, true, false, Option, None, Result, Ok, Err, refl, sym, ap, ◌∙◌, subst, arith}
+use Rattle.std.proofs.Common.{◌≡◌, ◌+◌, ◌<◌, ◌≤◌, ◌^◌, List, length, map, Ok, Err, refl, sym, ap, ◌∙◌, subst, arith}
 use Rattle.std.specs.Prelude.{Vec}
 use Rattle.std.specs.declared.alloc.Global.{Global}
 use Rattle.std.proofs.lemmas.List.{length-map}
 use Rattle.scheme_model.specs.Ident.{Ident as Identifier}
-use Rattle.scheme_model.specs.ExpansionFaults.{Named}
-use Rattle.scheme_model.specs.Requirements.{Known}
 use Rattle.scheme_model.specs.Cores.{Binder}
 use Rattle.scheme_model.specs.Shapes.{RecordShape}
 use Rattle.scheme_model.specs.Order.{Going, Pass, record_names, run_record}
@@ -16,7 +14,6 @@ use Rattle.core_forms.specs.declared.shape.FieldShape.{FieldShape}
 use Rattle.core_forms.proofs.Distinct.{field_names_are}
 use Rattle.core_tree.specs.Names.{AllMatch, IsBinder, IsField as IsUse}
 use Rattle.core_tree.specs.declared.cores.Binder as code_binder
-use Rattle.expander.specs.Binds.{with_locals}
 use Rattle.expander.specs.State.{Stands, most_locals}
 use Rattle.expander.specs.Seen.{used_fields}
 use Rattle.expander.specs.Kept.{SpotFor}

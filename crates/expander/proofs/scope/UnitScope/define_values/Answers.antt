@@ -1,9 +1,8 @@
-use Rattle.std.proofs.Common.{◌≡◌, ℕ, ◌+◌, ◌<◌, ◌≤◌, List, [], ◌∷◌, length, Bool, true, false, Option, None, Result, Ok, Err, refl, sym, ap, ◌∙◌, subst, arith}
+use Rattle.std.proofs.Common.{◌+◌, ◌≤◌, List, [], ◌∷◌, length, Bool, Result, Ok, Err, refl, sym, ◌∙◌, subst, arith}
 use Rattle.scheme_model.specs.Ident.{Ident as Identifier}
-use Rattle.scheme_model.specs.ExpansionFaults.{Named}
 use Rattle.scheme_model.specs.Cores.{Binder}
 use Rattle.scheme_model.specs.Steps.{Broken, ◌>>=◌}
-use Rattle.scheme_model.specs.Order.{Form, Going, Item, Pass, Pending, ValuesOf, caught, first, values_put, define_names, put}
+use Rattle.scheme_model.specs.Order.{Form, Going, Item, Pass, Pending, ValuesOf, caught, first, values_put, define_names}
 use Rattle.scheme_model.specs.ScopedExpansion.{Place, ScopedState}
 use Rattle.core_forms.specs.Parts as forms
 use Rattle.core_forms.specs.Parts.{IsName}
@@ -17,8 +16,8 @@ use Rattle.expander.specs.Defining.{define_each}
 use Rattle.expander.specs.Searched.{searched}
 use Rattle.expander.specs.Passed.{GoesOn}
 use Rattle.expander.specs.declared.items.Kept.TheVariants as kept
-use Rattle.expander.proofs.OutcomeLaws.{bound_goes, leaves_itself}
-use Rattle.expander.proofs.DefinitionSteps.{goes_handed, goes_without, goes_failing, aside_goes, in_fails, names_defined, with_pending, matched_length}
+use Rattle.expander.proofs.OutcomeLaws.{bound_goes}
+use Rattle.expander.proofs.DefinitionSteps.{goes_handed, goes_failing, aside_goes, in_fails, names_defined, with_pending, matched_length}
 use Rattle.expander.proofs.scope.UnitScope.define_values.Goals as goal
 
 abbrev Answer : Type 0

@@ -1,12 +1,11 @@
-use Rattle.std.proofs.Common.{◌≡◌, ℕ, ◌≤◌, List, [], ◌∷◌, Bool, true, false, Option, None, Result, Ok, Err, refl, sym, ap, ◌∙◌, subst, arith}
+use Rattle.std.proofs.Common.{◌≡◌, Bool, None, Ok, Err, refl, sym, ap, ◌∙◌, subst, arith}
 use Rattle.scheme_model.specs.Ident.{Ident as Identifier}
 use Rattle.scheme_model.specs.Order.{Form, Going, Item, Pass, Pending, Value, Assigned, binder_at, told, put, run_variable}
 use Rattle.scheme_model.specs.ScopedExpansion.{Place, ScopedState, body_around, assigned}
 use Rattle.expander.specs.Searched.{searched}
 use Rattle.expander.specs.Passed.{GoesOn}
 use Rattle.expander.specs.declared.items.Kept.TheVariants as kept
-use Rattle.expander.proofs.OutcomeLaws.{leaves_itself}
-use Rattle.expander.proofs.DefinitionSteps.{goes_handed, goes_without, goes_failing, aside_goes, aside_now, binder_here}
+use Rattle.expander.proofs.DefinitionSteps.{goes_handed, goes_failing, aside_goes, aside_now, binder_here}
 use Rattle.expander.proofs.scope.UnitScope.define_variable.Goals as goal
 
 abbrev Step : Type 0

@@ -1,4 +1,4 @@
-use Rattle.std.proofs.Common.{◌≡◌, Bool, ◌∙◌}
+use Rattle.std.proofs.Common.{◌∙◌}
 use Rattle.std.specs.Prelude.{◌&&◌, ◌||◌}
 use Rattle.scheme_model.specs.Substitution.{differ}
 use Rattle.expander.proofs.ChangedNotes.{scope_there, ident_there, looked_up_at, compared_at, look_up_changed, comparison_changed}

@@ -1,14 +1,11 @@
-use Rattle.std.proofs.Common.{◌≡◌, ℕ, ◌<◌, List, reverse, get_or, take, Bool, Some, refl, sym, ap, ◌∙◌, subst, arith}
-use Rattle.std.specs.Prelude.{◌&&◌, slice_get, length}
+use Rattle.std.proofs.Common.{◌≡◌, ℕ, List, reverse, get_or, take, Some, sym, ap, ◌∙◌}
+use Rattle.std.specs.Prelude.{slice_get}
 use Rattle.std.proofs.lemmas.List.{take_more, take_all}
 use Rattle.std.proofs.lemmas.Option.{slice_get_within, slice_get-get_or}
-use Rattle.scheme_model.specs.Order.{Note}
 use Rattle.scheme_model.specs.Substitution.{any}
 use Rattle.scheme_model.specs.CountedExpansion.{refused_here}
-use Rattle.scheme_model.specs.ScopedExpansion.{Place}
 use Rattle.expander.specs.Asks.{asked_from}
 use Rattle.expander.specs.Kept.{NoteFor}
-use Rattle.expander.specs.Searched.{speaks_of}
 use Rattle.expander.proofs.SearchedNotes.{at_matched, note_there, told_at, told_if, among_numbers, any_here, any_last}
 use Rattle.expander.proofs.scope.UnitScope.is_refused.Goals as goal
 

@@ -1,11 +1,9 @@
-use Rattle.std.proofs.Common.{◌≡◌, ℕ, List, take, reverse, false}
-use Rattle.scheme_model.specs.Ident.{Ident as Identifier}
+use Rattle.std.proofs.Common.{◌≡◌, List, take, reverse, false}
 use Rattle.scheme_model.specs.Meaning.{Meaning}
 use Rattle.scheme_model.specs.Order.{Note}
 use Rattle.scheme_model.specs.Substitution.{any}
 use Rattle.scheme_model.specs.CountedExpansion.{refused_here}
 use Rattle.scheme_model.specs.ScopedExpansion.{Frames, Place, ScopedState}
-use Rattle.syntax_tree.specs.Macros.{IsIdent}
 use Rattle.expander.specs.Kept.{NotesFor}
 use Rattle.expander.specs.Defining.{ComesTo}
 use Rattle.expander.proofs.SearchedNotes.{told_at}

@@ -1,4 +1,4 @@
-use Rattle.std.proofs.Common.{◌≡◌, Bool, sym, ap, subst}
+use Rattle.std.proofs.Common.{Bool, sym, ap, subst}
 use Rattle.scheme_model.specs.ScopedExpansion.{body_around, meaning_next}
 use Rattle.syntax_tree.specs.Meant.{IsMeaning}
 use Rattle.syntax_tree.specs.declared.meaning.Meaning.{Meaning}
