@@ -64,7 +64,6 @@ module _ (work : Work) (u : UnitScope) (ls : List Frames) (spot : Spot) (fs : Fr
     abbrev set_aside : Going Identifier Place ScopedState → List Binder × (List Binder × Pending Identifier Place) → ScopedState → Pass Identifier Place × ScopedState
     set_aside go q = go (put (Record (record_part same_ident r q.1.0 q.0)) q.1.1)
 
-
     abbrev pub BindersAre : Vec code_binder.Binder Global → List Binder → Type 0
     BindersAre bs ms = AllMatch (IsBinder work.symbols u.unit u.form.number) bs.items ms
 

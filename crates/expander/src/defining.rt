@@ -88,7 +88,9 @@ impl UnitScope {
             GoesOn work.now work.now region self.old self.new ls spot fs p.todo given pending.new asked.now result (λ go. run_define (searched known) go here fs p (Procedure n c) s) }
     {
         if self.is_assigned(spot, name.ident) {
-            pending.aside.push(Kept::AssignedFunction(name, here, clause))?;
+            pending
+                .aside
+                .push(Kept::AssignedFunction(name, here, clause))?;
             return Ok(());
         }
         let binder = self.next_binder(spot, name);

@@ -101,7 +101,7 @@ returns-in_err-binders c = λ known region ls s fs m p given knows stands placed
     let e = c.in_err-binders.field-0.0 in
     let each = define_each (searched known) c.args.here fs (record_names m) p state in
     let ends = subst (λ (x : UnitScope). EndsIn (λ (bs : Vec code_binder.Binder Global) (ms : List Binder). AllMatch (IsBinder work.symbols x.unit x.form.number) bs.items ms) work x v ls c.args.spot fs (Err e) each) taken
-        (c.in_err-binders.ensures.defined known ls state fs (record_names m) p (subst (λ (x : UnitScope). Stands work x ls state) (sym taken) start.0) (subst (λ (x : UnitScope). SpotFor work x ls state c.args.spot fs) (sym taken) start.1) names notes) in
+    (c.in_err-binders.ensures.defined known ls state fs (record_names m) p (subst (λ (x : UnitScope). Stands work x ls state) (sym taken) start.0) (subst (λ (x : UnitScope). SpotFor work x ls state c.args.spot fs) (sym taken) start.1) names notes) in
     let step : Going Identifier Place ScopedState → Pass Identifier Place × ScopedState = λ go. run_record (searched known) go c.args.here fs p m s in
     goes_handed work region u v ls c.args.spot fs p.todo given c.args.pending.now c.args.asked.now c.from_residual-in_err-binders.result e step c.from_residual-in_err-binders.ensures.1
     (record_fails work u ls c.args.spot fs s m xs stands placed names_are room region v known c.args.here p c.args.pending.now c.args.asked.now given notes e ends)
@@ -128,10 +128,10 @@ returns c = λ known region ls s fs m p given knows stands placed is pending not
     let each = define_each (searched known) c.args.here fs (record_names m) p state in
     let bs = c.in_ok-binders.binders in
     let ends = subst (λ (x : UnitScope). EndsIn (λ (bs : Vec code_binder.Binder Global) (ms : List Binder). AllMatch (IsBinder work.symbols x.unit x.form.number) bs.items ms) work x v ls c.args.spot fs (Ok bs) each) taken
-        (c.in_ok-binders.ensures.defined known ls state fs (record_names m) p (subst (λ (x : UnitScope). Stands work x ls state) (sym taken) start.0) (subst (λ (x : UnitScope). SpotFor work x ls state c.args.spot fs) (sym taken) start.1) names notes) in
+    (c.in_ok-binders.ensures.defined known ls state fs (record_names m) p (subst (λ (x : UnitScope). Stands work x ls state) (sym taken) start.0) (subst (λ (x : UnitScope). SpotFor work x ls state c.args.spot fs) (sym taken) start.1) names notes) in
     let places = c.in_ok-places.ensures work m.fields (subst (λ (l : List FieldShape). forms.AllMatch (IsField work) l m.fields) (sym c.deref-3.ensures.value) is.fields) in
     let uses = c.in_ok-uses.ensures work m.used m.fields c.told_apart.ensures.idents (subst (λ (l : List NamePart). forms.AllMatch (IsName work) l m.used) (sym c.deref-4.ensures.value) is.used)
-        (subst (λ (l : List FieldShape). forms.AllMatch (IsField work) l m.fields) (sym c.deref-5.ensures.value) is.fields) in
+    (subst (λ (l : List FieldShape). forms.AllMatch (IsField work) l m.fields) (sym c.deref-5.ensures.value) is.fields) in
     let new : code_pending.Pending = record { todo = c.args.pending.now.todo; aside = c.push.new.self } in
     let counts = c.in_ok-binders.ensures.counts in
     let locals = counts.locals in
