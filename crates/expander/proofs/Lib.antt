@@ -24,3 +24,4 @@ pub mod RecordSteps
 pub mod MacroSteps
 pub mod AskLaws
 pub mod SeenLaws
+pub mod NotesStand
