@@ -15,3 +15,11 @@ pub mod BodyScopes
 pub mod ComingDefinitions
 pub mod FormsStand
 pub mod OutcomeLaws
+pub mod ToldLaws
+pub mod NodeLaws
+pub mod MatchedLaws
+pub mod MatchLists
+pub mod MeantSame
+pub mod HeldLaws
+pub mod UseLaws
+pub mod SyntaxLaws
