@@ -17,6 +17,7 @@ use Rattle.scheme_model.specs.Steps.{Broken, Step, ◌>>=◌, done, fails}
 use Rattle.scheme_model.specs.Expression.{meaning_of, macro_def, macro_with}
 use Rattle.scheme_model.specs.Order.{Here, Note, LookedUp, Transformer, head_of, is_rules, given, counting, RulesParts, rules_parts_of, rules_parts, rules_note, rules_at}
 use Rattle.scheme_model.specs.ScopedExpansion.{Frames, Place, ScopedState, macro_at}
+use Rattle.scheme_model.proofs.Distinct.{ok_same}
 use Rattle.syntax_tree.specs.Names.{Names}
 use Rattle.syntax_tree.specs.Macros.{identifiers, IsIdent, RulesFor, AreChecked}
 use Rattle.syntax_tree.specs.Works.{StandsFor}
@@ -94,7 +95,7 @@ in_form (list (tree (vector us p) ts) tail o) r h = absurd cc
 
 -- rules that were read were checked
 checked_by : (c : Result (Unit {0}) (Fault Identifier)) (q r : Rules Identifier) → (c >> λ u. Ok q) ≡ Ok r → (c ≡ Ok tt) × (q ≡ r)
-checked_by (Ok u) q r h = (refl, cc)
+checked_by (Ok u) q r h = (refl, ok_same (Fault Identifier) q r h)
 checked_by (Err e) q r h = absurd cc
 
 checked_in : (p : Result (Rules Identifier) (Fault Identifier)) (r : Rules Identifier) → (p >> λ q. check_rules identifiers q q.rules >> λ u. Ok q) ≡ Ok r → check_rules identifiers r r.rules ≡ Ok tt

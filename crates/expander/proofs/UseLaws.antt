@@ -1,8 +1,9 @@
 -- A macro use, step by step: what each comes to in the definition, and that the state stands.
-use Rattle.std.proofs.Common.{◌≡◌, ℕ, ◌+◌, ◌-◌, ◌<◌, ◌≤◌, List, [], ◌∷◌, map, slice_get, Bool, true, false, cond, Option, Some, None, Result, Ok, Err, inl, inr, refl, sym, ap, ◌∙◌, subst, arith}
-use Rattle.std.specs.Prelude.{nat_lt, Vec}
+use Rattle.std.proofs.Common.{◌≡◌, ℕ, ◌+◌, ◌-◌, ◌<◌, ◌≤◌, List, [], ◌∷◌, ◌++◌, map, slice_get, Bool, true, false, cond, Option, Some, None, Result, Ok, Err, Bor, inl, inr, refl, sym, ap, ◌∙◌, subst, arith}
+use Rattle.std.specs.Prelude.{nat_lt, Vec, IfSome, IsErrAnd}
 use Rattle.std.specs.declared.alloc.Global.{Global}
 use Rattle.std.proofs.lemmas.Bool.Decides.{nat_tests}
+use Rattle.std.specs.Option.{option_copied}
 use Rattle.std.proofs.lemmas.Option.{same_Some}
 use Rattle.scheme_model.specs.declared.Occ.{Occ}
 use Rattle.scheme_model.specs.Identifiers.{Number}
@@ -21,6 +22,7 @@ use Rattle.scheme_model.specs.Order as order
 use Rattle.scheme_model.specs.Diagnostics.{fault_occ}
 use Rattle.scheme_model.specs.CountedExpansion.{means_here}
 use Rattle.scheme_model.specs.ScopedExpansion.{Frames, ScopedState, next_number, macro_at}
+use Rattle.scheme_model.proofs.Distinct.{ok_same}
 use Rattle.syntax_tree.specs.Names.{Names, AreToldApart}
 use Rattle.syntax_tree.specs.Macros.{identifiers, RulesFor, MatchedFor, AreLeaves}
 use Rattle.syntax_tree.specs.Meant.{IsMeaning}
@@ -46,8 +48,8 @@ use Rattle.expander.specs.Macros.{macro_in}
 use Rattle.expander.specs.Searched.{searched}
 use Rattle.expander.specs.State.{IsMacro, IsMacroIfAny, Stands}
 use Rattle.expander.specs.Stepped.{spent, used, met_use, with_use_begun, with_met}
-use Rattle.expander.specs.Used.{UseFor, AreHeld, match_of_use, FindsUse, use_number, target_at, build_fault, FailsToBuild, Instances}
-use Rattle.expander.specs.Outcomes.{At, Grows, Leaves, Stays, MayFill, Breaks, EndsHere, WorksOn}
+use Rattle.expander.specs.Used.{UseFor, CanUse, HasMatch, AreHeld, match_of_use, FindsUse, use_number, target_at, build_fault, FailsToBuild, Instances}
+use Rattle.expander.specs.Outcomes.{At, CanLook, Grows, Leaves, Stays, MayFill, Breaks, EndsHere, WorksOn}
 use Rattle.expander.specs.declared.fault.ExpandFault.{ExpandFault}
 use Rattle.expander.specs.declared.fault.ExpandFault.TheVariants as fault
 use Rattle.expander.specs.declared.macros.Macro.{Macro}
@@ -104,6 +106,28 @@ chosen_by work r (Some c) matched h = (c, refl, h)
 pub none_by : (work : Work) (r : Rules Identifier) (p : Option (Chosen Identifier Identifier)) → FindsUse work r p None → p ≡ None
 none_by work r None h = refl
 none_by work r (Some c) h = absurd h
+
+pub nothing_found : (work : Work) (r : Rules Identifier) (p : Option (Chosen Identifier Identifier)) (o : Option Matched) → ((x : Matched) → o ≡ Some x → ⊥) → FindsUse work r p o → p ≡ None
+nothing_found work r p None none h = none_by work r p h
+nothing_found work r p (Some x) none h = absurd (none x refl)
+
+pub chosen_in : (work : Work) (r : Rules Identifier) (p : Option (Chosen Identifier Identifier)) (o : Option Matched) (matched : Matched) → o ≡ Some matched → FindsUse work r p o → (c : Chosen Identifier Identifier) × (p ≡ Some c) × MatchedFor work matched r c
+chosen_in work r p o matched is h = chosen_by work r p matched (subst (λ (x : Option Matched). FindsUse work r p x) is h)
+
+pub has_match : (work : Work) (region : Region) (u : UnitScope) (at : code.Use) (o : Option Matched) (matched : Matched) → o ≡ Some matched → IfSome o (λ x. HasMatch work region u at x) → HasMatch work region u at matched
+has_match work region u at o matched is h = subst (λ (x : Option Matched). IfSome x (λ y. HasMatch work region u at y)) is h
+
+-- once the use begun
+pub has_match_then : (work : Work) (region : Region) (u v : UnitScope) (at : code.Use) (matched : Matched) (scope : ℕ) → v ≡ with_use_begun u scope → HasMatch work region u at matched → HasMatch work region v at matched
+has_match_then work region u v at matched scope is h =
+    subst (λ (w : UnitScope). HasMatch work region w at matched) (sym is) (record { used = h.used; macro = h.macro; of_rules = h.of_rules; named = h.named })
+
+-- ---- errors
+
+pub err_ends : (P : number.Tree → Tree Identifier → Type 0) (old new : Work) (region : Region) (u v : UnitScope) (ls : List Frames) (r : Result number.Tree ExpandFault) (e : ExpandFault) (p : Result (Tree Identifier) Broken × ScopedState) → IsErrAnd r (λ f. f ≡ e) →
+    EndsHere P old new region u v ls (Err e) p → EndsHere P old new region u v ls r p
+err_ends P old new region u v ls (Ok x) e p is h = absurd is
+err_ends P old new region u v ls (Err f) e p is h = subst (λ (x : ExpandFault). EndsHere P old new region u v ls (Err x) p) (sym is) h
 
 -- ---- the leaves that met literals still stand in a work that grew
 
@@ -215,11 +239,11 @@ module _ (known : Known) (here : Option Occ) (fs : Frames) (keyword : Target) (m
 
       -- ---- the instance fails
 
-      broken_as : (c : Chosen Identifier Identifier) (r : Result (Built (Tree Identifier)) (Fault Identifier)) (b : Broken) (code : ℕ) → match_of_use s fs m ts tail ≡ Some c → built c ≡ r → built_step c r ≡ (Err b, begun) →
-          IsFault work.symbols s.unit s.form (record { code = code; name = None; occ = here; text = None }) b → EndsHere P work work region u (with_use_begun u scope) ls (Err (plain_fault here code)) step
-      broken_as c r b code found is so fault =
-          subst (λ (q : Result (Tree Identifier) Broken × ScopedState). EndsHere P work work region u (with_use_begun u scope) ls (Err (plain_fault here code)) q) (sym (matched_as c room found ∙ ap (built_step c) is ∙ so))
-          (begun_stays, (b, refl, fault))
+      broken_as : (c : Chosen Identifier Identifier) (r : Result (Built (Tree Identifier)) (Fault Identifier)) (b : Broken) (which : ℕ) → match_of_use s fs m ts tail ≡ Some c → built c ≡ r → built_step c r ≡ (Err b, begun) →
+          IsFault work.symbols s.unit s.form (record { code = which; name = None; occ = here; text = None }) b → EndsHere P work work region u (with_use_begun u scope) ls (Err (plain_fault here which)) step
+      broken_as c r b which found is so broken =
+          subst (λ (q : Result (Tree Identifier) Broken × ScopedState). EndsHere P work work region u (with_use_begun u scope) ls (Err (plain_fault here which)) q) (sym (matched_as c room found ∙ ap (built_step c) is ∙ so))
+          (begun_stays, (b, refl, broken))
 
       broken_by : (c : Chosen Identifier Identifier) (x : ExpandFault) → match_of_use s fs m ts tail ≡ Some c → FailsToBuild here x (built c) → EndsHere P work work region u (with_use_begun u scope) ls (Err x) step
       broken_by c x found (inl h) =
@@ -237,6 +261,12 @@ module _ (known : Known) (here : Option Occ) (fs : Frames) (keyword : Target) (m
       built_same c l is =
           let number : use_number u ≡ k = λ j. record { unit = e.unit j; form = e.form.number j; count = e.form.uses j } in
           λ j. instance m.rules ((is ∙ number) j) c (200000 - e.form.nodes j)
+
+      pub as_built : (new : Work) (w v : UnitScope) (c : Chosen Identifier Identifier) (l : Number) (r : Result number.Tree ExpandFault) → w ≡ with_use_begun u scope → l ≡ use_number u →
+          Instances work new region w v here (instance m.rules l c (200000 - w.form.budget.nodes)) r → Instances work new region (with_use_begun u scope) v here (built c) r
+      as_built new w v c l r is number h =
+          subst (λ (q : Result (Built (Tree Identifier)) (Fault Identifier)). Instances work new region (with_use_begun u scope) v here q r) (built_same c l number)
+          (subst (λ (x : UnitScope). Instances work new region x v here (instance m.rules l c (200000 - x.form.budget.nodes)) r) is h)
 
       -- the instance wasn't built
       pub failed_ends : (new : Work) (v : UnitScope) (c : Chosen Identifier Identifier) (x : ExpandFault) → match_of_use s fs m ts tail ≡ Some c → Grows work new region → Instances work new region (with_use_begun u scope) v here (built c) (Err x) → EndsHere P work new region u v ls (Err x) step
@@ -266,3 +296,74 @@ module _ (known : Known) (here : Option Occ) (fs : Frames) (keyword : Target) (m
               counted = omega (arith, few);
               same = record { unit = refl; number = refl; root = refl; libraries = refl; uses = omega arith; nodes = omega arith };
             }, refl, (stands, can))
+
+-- the code's list of uses has one more
+pub pushed : (v g : UnitScope) (uses : List code_use.MacroUse) (x : code_use.MacroUse) → v ≡ g → uses ≡ v.form.trace.uses ++ x ∷ [] → with_met g x ≡ record v { form = record v.form { trace = record v.form.trace { uses = uses } } }
+pushed v g uses x e h =
+    let more : g.form.trace.uses ++ x ∷ [] ≡ uses = ap (λ (w : UnitScope). w.form.trace.uses ++ x ∷ []) (sym e) ∙ sym h in
+    λ j. record (sym e j) { form = record (sym e j).form { trace = record (sym e j).form.trace { uses = more j } } }
+
+-- ---- what the code knows before it answers
+
+module _ (old new : Work) (region : Region) (u w v : UnitScope) (at : code.Use) (usable : CanUse old u at) (scope : ℕ) (matched : Matched) (l : Number) (n : number.Tree) where
+  abbrev Built_for : Type 0
+  Built_for =
+      (k : Macro) (r : Rules Identifier) (m : Chosen Identifier Identifier) → macro_in w.macros w.form.number at.keyword.meaning ≡ Some k → RulesFor old k.rules r → MatchedFor old matched r m →
+      Instances old new region w v at.here (instance r l m (200000 - w.form.budget.nodes)) (Ok n)
+
+  module _ (few : u.form.budget.uses < 10000) (is : w ≡ with_use_begun u scope) (h : HasMatch old region w at matched) (built_for : Built_for) where
+    abbrev found : Instances old new region w v at.here (instance h.of_rules.0 l h.of_rules.1 (200000 - w.form.budget.nodes)) (Ok n)
+    found = built_for h.used h.of_rules.0 h.of_rules.1 h.macro h.of_rules.2 h.of_rules.3
+
+    -- one use more was counted, and no local
+    pub one_more : v.form.budget.uses ≡ u.form.budget.uses + 1
+    one_more = ap (λ (x : UnitScope). x.form.budget.uses) found.4 ∙ ap (λ (x : UnitScope). x.form.budget.uses) is
+
+    pub no_locals : v.form.budget.locals ≡ u.form.budget.locals
+    no_locals = ap (λ (x : UnitScope). x.form.budget.locals) found.4 ∙ ap (λ (x : UnitScope). x.form.budget.locals) is
+
+    within : u.form.budget.nodes + found.0.count ≤ 200000
+    within = subst (λ (x : UnitScope). x.form.budget.nodes + found.0.count ≤ 200000) is found.5
+
+    -- what is left for want of memory
+    pub leaves_then : Grows old new region → Leaves old new region u
+    leaves_then grows = record { work = grows; few = omega (arith, within, found.6) }
+
+    -- identifiers can be looked up
+    pub looks_then : ((k : Macro) → macro_in u.macros u.form.number at.keyword.meaning ≡ Some k → scope ≡ k.scope) → Grows old new region → AreToldApart new.symbols.idents → AreToldApart new.symbols.symbols → CanLook new v at.scope
+    looks_then scope_is grows apart told =
+        let k = macro_there old u usable.layout usable.state at usable.keyword usable.transformer usable.parts usable.tail usable.stands usable.used in
+        let there : At usable.layout scope usable.transformer.env = subst (λ (x : ℕ). At usable.layout x usable.transformer.env) (sym (scope_is k.0 k.1)) k.2.scope in
+        record {
+          layout = usable.layout;
+          state = spent found.0.count (used usable.transformer.env usable.state);
+          frames = usable.frames;
+          stands = subst (λ (x : UnitScope). Stands new x usable.layout (spent found.0.count (used usable.transformer.env usable.state))) (sym (found.4 ∙ ap (λ (x : UnitScope). with_nodes x found.0.count) is))
+              (grown_stands (λ _. false) at.here usable.frames usable.keyword usable.transformer usable.parts usable.tail usable.state old region u usable.layout usable.stands (λ _ _. Unit {0}) scope there few new grows apart told found.0 within);
+          at = usable.there;
+        }
+
+-- ---- what a look-up of a macro gave
+
+pub copied_is : {X : Type 0} (o : Option (Bor X)) (b : Bor X) (k : X) → o ≡ Some b → option_copied o ≡ Some k → k ≡ b.now
+copied_is o b k is h = same_Some k b.now (sym h ∙ ap option_copied is)
+
+pub copied_some : {X P : Type 0} (o : Option (Bor X)) (k : X) → option_copied o ≡ Some k → ((b : Bor X) → o ≡ Some b → ⊥) → P
+copied_some None k h none = none_some k h
+copied_some (Some b) k h none = absurd (none b refl)
+
+-- no more is left than there was
+pub left_within : (new : Work) (old left : ℕ) (s : Result (Built (Tree Identifier)) (Fault Identifier)) (r : Result number.Tree BuildFault) → Builds new old left s r → left ≤ old
+left_within new old left s (Ok n) h = omega (arith, h.3)
+left_within new old left s (Err builds.EllipsisLength) h = omega (arith, h.1)
+left_within new old left s (Err builds.NodeBudget) h = omega (arith, h.1)
+left_within new old left s (Err builds.DepthBudget) h = omega (arith, h.1)
+left_within new old left s (Err builds.Full) h = omega (arith, h)
+left_within new old left s (Err builds.Memory) h = omega (arith, h)
+
+pub instance_built : (old new : Work) (region : Region) (u : UnitScope) (here : Option Occ) (s : Result (Built (Tree Identifier)) (Fault Identifier)) (left : ℕ) (n : number.Tree) → u.form.budget.nodes ≤ 200000 →
+    Builds new (200000 - u.form.budget.nodes) left s (Ok n) → CountsNodes old new (200000 - u.form.budget.nodes) s (Ok n) → CanName new region n →
+    Instances old new region u (record u { form = record u.form { budget = record u.form.budget { nodes = 200000 - left } } }) here s (Ok n)
+instance_built old new region u here s left n few b nodes can =
+    let same : nodes.0 ≡ b.0 = ok_same (Fault Identifier) nodes.0 b.0 (sym nodes.1 ∙ b.1) in
+    (b.0, b.1, b.2, can, left_less u left b.0.count few b.3, omega (arith, few, b.3), subst (λ (x : Built (Tree Identifier)). live_count new ≤ live_count old + x.count) same nodes.2)
