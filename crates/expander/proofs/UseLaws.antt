@@ -73,7 +73,7 @@ pub macro_there : (work : Work) (u : UnitScope) (ls : List Frames) (s : ScopedSt
     (k : Macro) × (macro_in u.macros u.form.number at.keyword.meaning ≡ Some k) × IsMacro work ls k m
 macro_there work u ls s at keyword m ts tail e for =
     macro_by work ls (macro_in u.macros u.form.number at.keyword.meaning) (macro_at s.macros keyword.meaning) m for.macro
-    (e.macros.there u.form.number at.keyword.meaning keyword.meaning for.target.meaning)
+    (e.macros.there u.form.number at.keyword.meaning keyword.meaning (subst (λ (n : ℕ). IsMeaning work.symbols s.unit n at.keyword.meaning keyword.meaning) (sym e.form.number) for.target.meaning))
 
 -- the macro that was found is this one
 pub macro_is : (work : Work) (ls : List Frames) (o : Option Macro) (k : Macro) (m : Transformer Frames Identifier) → o ≡ Some k → (l : Macro) × (o ≡ Some l) × IsMacro work ls l m → IsMacro work ls k m

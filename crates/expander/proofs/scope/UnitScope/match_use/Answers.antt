@@ -1,8 +1,9 @@
-use Rattle.std.proofs.Common.{◌≡◌, Some, ap, ◌∙◌, subst}
+use Rattle.std.proofs.Common.{◌≡◌, Some, Err, ap, ◌∙◌, subst}
 use Rattle.scheme_model.specs.Trees.{list, tree}
 use Rattle.scheme_model.specs.Matching.{first_match, matcher}
 use Rattle.syntax_tree.specs.Macros.{identifiers, RulesFor, AreChecked}
-use Rattle.rules_match.specs.Matches.{means_same}
+use Rattle.rules_match.specs.Matches.{means_same, Matches}
+use Rattle.rules_match.specs.declared.fault.MatchFault.{MatchFault}
 use Rattle.expander.specs.Used.{match_of_use}
 use Rattle.expander.specs.declared.macros.Macro.{Macro}
 use Rattle.expander.proofs.UseLaws.{macro_there, matches_same, found_is, nothing_is, copied_is, copied_some}
@@ -48,4 +49,5 @@ returns-in-Err-NoRule-clause-found c = λ ls s fs keyword m ts tail stands for h
     let k = macro_there w c.args.self.now ls s c.args.at keyword m ts tail stands for in
     let rules = subst (λ (x : Macro). RulesFor w x.rules m.rules) (copied_is c.meaning.result c.in-Some.used k.0 c.in-Some.is (c.meaning.ensures ∙ k.1)) k.2.rules in
     nothing_is w m.rules (first_match (matcher identifiers m.rules (means_same w same)) m.rules.rules ts tail) (match_of_use s fs m ts tail) (matches_same w s fs m same ts tail held)
-    (c.in-Err-NoRule.ensures.finds m.rules (list (tree for.head ts) tail for.place) rules for.form)
+    (subst (λ (x : MatchFault). Matches w m.rules (first_match (matcher identifiers m.rules (means_same w same)) m.rules.rules ts tail) (Err x)) c.in-Err-NoRule.field-0-is
+    (c.in-Err-NoRule.ensures.finds m.rules (list (tree for.head ts) tail for.place) rules for.form))
