@@ -1,5 +1,6 @@
 -- The rules of macros where they are defined, by what the code was told.
-use Rattle.std.proofs.Common.{◌≡◌, ℕ, ◌≤◌, List, [], ◌∷◌, ◌++◌, map, reverse, length, slice_get, Bool, true, false, cond, Option, Some, None, Result, Ok, Err, refl, sym, ap, ◌∙◌, subst}
+use Rattle.std.proofs.Common.{◌≡◌, ℕ, ◌≤◌, List, [], ◌∷◌, ◌++◌, map, reverse, length, slice_get, Bool, true, false, cond, Option, Some, None, Result, Ok, Err, Bor, refl, sym, ap, ◌∙◌, subst}
+use Rattle.std.specs.Option.{option_copied}
 use Rattle.std.proofs.lemmas.Option.{same_Some}
 use Rattle.std.proofs.lemmas.Grind.{reverse_onto}
 use Rattle.scheme_model.specs.declared.Occ.{Occ}
@@ -10,11 +11,13 @@ use Rattle.scheme_model.specs.ExpansionFaults.{Named, named_map, Fault, BadRules
 use Rattle.scheme_model.specs.RulesShape.{Rule, rule_map, option_map, Rules, rules_map, check_rules, rules_of}
 use Rattle.scheme_model.specs.RulesShape as shapes
 use Rattle.scheme_model.specs.Requirements.{Known}
-use Rattle.scheme_model.specs.Meaning.{Meaning, Head, is_keyword}
+use Rattle.std.specs.Prelude.{IsErrAnd}
+use Rattle.scheme_model.specs.Meaning.{Meaning, Head, IsCore, IsAuxiliary, IsNone, is_keyword}
+use Rattle.scheme_model.specs.Meaning as meaning
 use Rattle.scheme_model.specs.Leaves.{leaves_of}
 use Rattle.scheme_model.specs.Cores.{Binder, MacroDef}
 use Rattle.scheme_model.specs.Steps.{Broken, Step, ◌>>=◌, done, fails}
-use Rattle.scheme_model.specs.Expression.{meaning_of, macro_def, macro_with}
+use Rattle.scheme_model.specs.Expression.{meaning_of, macro_def, macro_with, no_rules}
 use Rattle.scheme_model.specs.Order.{Here, Note, LookedUp, Transformer, head_of, is_rules, given, counting, RulesParts, rules_parts_of, rules_parts, rules_note, rules_at}
 use Rattle.scheme_model.specs.ScopedExpansion.{Frames, Place, ScopedState, macro_at}
 use Rattle.scheme_model.proofs.Distinct.{ok_same}
@@ -23,24 +26,39 @@ use Rattle.syntax_tree.specs.Macros.{identifiers, IsIdent, RulesFor, AreChecked}
 use Rattle.syntax_tree.specs.Works.{StandsFor}
 use Rattle.syntax_tree.specs.declared.trees.Work.{Work}
 use Rattle.syntax_tree.specs.declared.trees.table.Region.{Region}
+use Rattle.syntax_tree.specs.Meant.{IsMeaning}
+use Rattle.syntax_tree.specs.declared.meaning.Meaning as code_meaning
+use Rattle.syntax_tree.specs.declared.rules.Rules as code_rules
+use Rattle.syntax_tree.proofs.Places.{none_some}
+use Rattle.rules_check.specs.Gathered.{AreLeaves}
 use Rattle.rules_check.specs.Checked.{rules_in_form, Refuses}
 use Rattle.rules_check.specs.declared.fault.RulesFault.{RulesFault}
-use Rattle.core_tree.specs.Names.{AllMatch}
+use Rattle.core_tree.specs.Names.{AllMatch, IsBinder, IsLeaf}
+use Rattle.core_tree.specs.Names.{IsMacro as IsMacroDef}
+use Rattle.core_tree.specs.declared.cores.MacroDef as code_def
+use Rattle.core_tree.specs.declared.cores.RuleLeaf as code_leaf
 use Rattle.core_tree.specs.Traces.{IsFault}
 use Rattle.expander.specs.Kept.{NoteFor, NotesFor}
 use Rattle.expander.specs.Searched.{searched}
 use Rattle.expander.specs.Seen.{IsRulesHead}
 use Rattle.expander.specs.Told.{rules_fault, told, Tells}
-use Rattle.expander.specs.State.{IsMacro, Stands}
+use Rattle.expander.specs.Counts.{Counts}
+use Rattle.expander.specs.Heads.{auxiliary_as, IsHead}
+use Rattle.expander.specs.Macros.{macro_in}
+use Rattle.expander.specs.RulesTold.{definition_leaf}
+use Rattle.expander.specs.State.{IsMacro, IsMacroIfAny, Stands}
 use Rattle.expander.specs.Stepped.{spent}
 use Rattle.expander.specs.Outcomes.{At, Stays, EndsHere}
 use Rattle.expander.specs.declared.asked.Note as code_note
 use Rattle.expander.specs.declared.fault.ExpandFault.{ExpandFault}
 use Rattle.expander.specs.declared.fault.ExpandFault.TheVariants as fault
+use Rattle.expander.specs.declared.heads.Auxiliary as code_auxiliary
+use Rattle.expander.specs.declared.heads.Head.TheVariants as heads
 use Rattle.expander.specs.declared.macros.Macro.{Macro}
 use Rattle.expander.specs.declared.scope.UnitScope.{UnitScope}
 use Rattle.expander.proofs.CountingStands.{all_last}
-use Rattle.expander.proofs.OutcomeLaws.{leaves_itself}
+use Rattle.expander.proofs.OutcomeLaws.{leaves_itself, here_fails}
+use Rattle.expander.proofs.NodeLaws.{counts_goes, counts_fails}
 use Rattle.expander.proofs.ToldLaws.{bad_rules_are}
 
 -- ---- the head of rules
@@ -192,3 +210,83 @@ module _ (known : Known) (here : Here) (t : Tree Identifier) (r : RulesParts Ide
     bad_end P e few unit form h =
         subst (λ (x : ExpandFault). EndsHere P work work region u v ls (Err x) reading) (λ j. told (sym unit j) (sym form j) here (rules_fault e))
         (bad_by P (told s.unit s.form here (rules_fault e)) few (bad_rules_are work s.unit s.form here e (rules_in_form t) h))
+
+-- ---- how reading fails before it
+
+pub err_goes : {X Y : Type 0} (P : X → Y → Type 0) (old new : Work) (region : Region) (u v : UnitScope) (ls : List Frames) (r : Result X ExpandFault) (e : ExpandFault) (p : Result Y Broken × ScopedState) → IsErrAnd r (λ f. f ≡ e) →
+    EndsHere P old new region u v ls (Err e) p → EndsHere P old new region u v ls r p
+err_goes P old new region u v ls (Ok x) e p is h = absurd is
+err_goes {X} P old new region u v ls (Err f) e p is h = subst (λ (x : ExpandFault). EndsHere P old new region u v ls (Err {A = X} x) p) (sym is) h
+
+module _ (known : Known) (work : Work) (region : Region) (u v : UnitScope) (ls : List Frames) (s : ScopedState) (here : Here) (t : Tree Identifier) (r : RulesParts Identifier) (n : ℕ) (size : n ≡ tree_size t) (e : Stands work u ls s) where
+  pub counted_rules : {x : Unit {0}} → Counts u v here n (Ok x) → (counting (searched known) here (tree_size t) s ≡ done tt (spent (tree_size t) s)) × Stays work work region u v ls (spent (tree_size t) s)
+  counted_rules {x} h = counts_goes known work region u v ls s here (tree_size t) e {x = x} (subst (λ (k : ℕ). Counts u v here k (Ok x)) size h)
+
+  pub uncounted_rules : (P : Macro → Rules Identifier → Type 0) (x : ExpandFault) → Counts u v here n (Err x) → EndsHere P work work region u v ls (Err x) (rules_at (searched known) here t r s)
+  uncounted_rules P x h =
+      let go : Unit {0} → Step ScopedState (Rules Identifier) = λ _. given (λ (i : Identifier). i) here (rules_of identifiers r.parts r.tail) in
+      let Q : Macro → Unit {0} → Type 0 = λ _ _. Unit {0} in
+      here_fails Q P work work region u v ls x (counting (searched known) here (tree_size t) s) go
+      (counts_fails known work region u v ls s here (tree_size t) e Q x (subst (λ (k : ℕ). Counts u v here k (Err x)) size h))
+
+-- a macro by what the code was told
+pub read_as : (work : Work) (ls : List Frames) (fs : Frames) (k : Macro) (t : Tree Identifier) (r : RulesParts Identifier) (rs : Rules Identifier) → At ls k.scope fs → rules_parts_of t ≡ Some r → rules_in_form t ≡ Ok rs → RulesFor work k.rules rs →
+    AreLeaves work.symbols k.leaves.items (leaves_of identifiers rs) → IsMacro work ls k (record { env = fs; rules = rs })
+read_as work ls fs k t r rs at parts is for leaves = record {
+  scope = at;
+  checked = (rs, for, are_checked r.parts r.tail rs (sym (in_form t r parts) ∙ is));
+  rules = for;
+  leaves = leaves;
+}
+
+-- ---- definitions of macros
+
+pub head_known : (names : Names) (n : ℕ) (o : Option (RulesParts Identifier)) → IsRulesHead names (Some n) o → (i : Identifier) × IsIdent names n i
+head_known names n None h = absurd h
+head_known names n (Some r) h = (r.head, h)
+
+pub means_macro : (work : Work) (u : UnitScope) (ls : List Frames) (s : ScopedState) (c : code_meaning.Meaning) (m : Meaning) → Stands work u ls s → IsMeaning work.symbols s.unit s.form c m → IsMacroIfAny work ls (macro_in u.macros u.form.number c) (macro_at s.macros m)
+means_macro work u ls s c m e is = e.macros.there u.form.number c m (subst (λ (n : ℕ). IsMeaning work.symbols s.unit n c m) (sym e.form.number) is)
+
+pub macro_found : (work : Work) (ls : List Frames) (o : Option Macro) (k : Macro) (p : Option (Transformer Frames Identifier)) → o ≡ Some k → IsMacroIfAny work ls o p → (m : Transformer Frames Identifier) × (p ≡ Some m) × IsMacro work ls k m
+macro_found work ls None k p is h = none_some k is
+macro_found work ls (Some l) k None is h = absurd h
+macro_found work ls (Some l) k (Some m) is h = (m, refl, subst (λ (x : Macro). IsMacro work ls x m) (same_Some l k is) h)
+
+pub macro_none : (work : Work) (ls : List Frames) (o : Option Macro) (p : Option (Transformer Frames Identifier)) → o ≡ None → IsMacroIfAny work ls o p → p ≡ None
+macro_none work ls None None is h = refl
+macro_none work ls None (Some m) is h = absurd h
+macro_none work ls (Some k) p is h = none_some k (sym is)
+
+pub nothing_copied : {X : Type 0} (o : Option (Bor X)) → ((b : Bor X) → o ≡ Some b → ⊥) → option_copied o ≡ None
+nothing_copied None none = refl
+nothing_copied (Some b) none = absurd (none b refl)
+
+module _ (known : Known) (work : Work) (s : ScopedState) (b : Binder) (d : code_def.MacroDef) where
+  abbrev defined : Option (Transformer Frames Identifier) → MacroDef
+  defined o = macro_with (searched known) s b o
+
+  pub no_def : IsBinder work.symbols s.unit s.form d.binder b → macro_at s.macros (meaning_of b.bound b.ident) ≡ None → d.rules ≡ record { ellipsis = None; literals = []; rules = [] } → d.leaves.items ≡ [] → IsMacroDef work s.unit s.form d (macro_def (searched known) s b)
+  no_def binder none rules leaves =
+      subst (λ (o : Option (Transformer Frames Identifier)). IsMacroDef work s.unit s.form d (defined o)) (sym none) (record {
+        binder = binder;
+        rules = subst (λ (x : code_rules.Rules). RulesFor work x no_rules) (sym rules) (record { ellipsis = tt; literals = tt; rules = tt });
+        leaves = subst (λ (xs : List code_leaf.RuleLeaf). AllMatch (IsLeaf work.symbols s.unit s.form) xs []) (sym leaves) tt;
+      })
+
+  pub a_def : (m : Transformer Frames Identifier) → IsBinder work.symbols s.unit s.form d.binder b → macro_at s.macros (meaning_of b.bound b.ident) ≡ Some m → RulesFor work d.rules m.rules →
+      AllMatch (IsLeaf work.symbols s.unit s.form) d.leaves.items (map (definition_leaf s m.env) (leaves_of identifiers m.rules)) → IsMacroDef work s.unit s.form d (macro_def (searched known) s b)
+  a_def m binder is rules leaves =
+      subst (λ (o : Option (Transformer Frames Identifier)). IsMacroDef work s.unit s.form d (defined o)) (sym is) (record {
+        binder = binder;
+        rules = subst (λ (x : Rules Identifier). RulesFor work d.rules x) (sym (same_rules m.rules)) rules;
+        leaves = leaves;
+      })
+
+-- ---- the head that means `syntax-rules`
+
+pub auxiliary_rules : (k : code_auxiliary.Auxiliary) (h : Head) → IsHead (heads.Auxiliary k) h → is_rules (IsAuxiliary (auxiliary_as k)) ≡ is_rules h
+auxiliary_rules k (IsCore c) is = absurd is
+auxiliary_rules k (IsAuxiliary a) is = ap (λ x. is_rules (IsAuxiliary x)) is
+auxiliary_rules k (meaning.IsMacro m) is = absurd is
+auxiliary_rules k IsNone is = absurd is

@@ -1,5 +1,5 @@
 //! The rules of macros where they are defined (R7RS 4.3.1, 5.4): a list whose head means `syntax-rules`.
-ghost use Rattle.std.specs.Prelude.{◌≡◌, ◌≤◌, List, ◌++◌, map, Some, IfOk, OnOk};
+ghost use Rattle.std.specs.Prelude.{◌≡◌, List, [], ◌++◌, map, None, Some, IfOk, OnOk};
 ghost use Rattle.scheme_model.specs.Ident.{Ident as Identifier};
 ghost use Rattle.scheme_model.specs.Trees.{Tree as ModelTree};
 ghost use Rattle.scheme_model.specs.Requirements.{Known};
@@ -71,6 +71,17 @@ fn part(name: Named) -> NamePart
     NamePart {
         ident: name.ident,
         occ: name.occ,
+    }
+}
+
+/// No rules, which take no memory.
+fn no_rules(alloc: Global) -> Rules
+    ensures { result ≡ record { ellipsis = None; literals = []; rules = [] } }
+{
+    Rules {
+        ellipsis: None,
+        literals: Items::new(alloc),
+        rules: Items::new(alloc),
     }
 }
 
@@ -204,18 +215,15 @@ impl UnitScope {
         let Some(defined) = self.macros.meaning(self.form.number, meaning) else {
             return Ok(MacroDef {
                 binder,
-                rules: Rules {
-                    ellipsis: None,
-                    literals: Items::new(alloc),
-                    rules: Items::new(alloc),
-                },
+                rules: no_rules(alloc),
                 leaves: Vec::new(alloc),
             });
         };
         let leaves = self.rule_leaves(alloc, work, defined.scope, defined.leaves.as_slice())?;
+        let rules = copy_rules(alloc, &defined.rules)?;
         Ok(MacroDef {
             binder,
-            rules: copy_rules(alloc, &defined.rules)?,
+            rules,
             leaves,
         })
     }

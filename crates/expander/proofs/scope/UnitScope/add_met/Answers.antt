@@ -5,6 +5,9 @@ use Rattle.expander.proofs.scope.UnitScope.add_met.Goals as goal
 pub returns-in_default : goal.returns-in_default
 returns-in_default c = λ ls s fs n stands at is. absurd (c.in_default.ensures (name n.name n.occ) is)
 
+pub name_at-requires : goal.name_at-requires
+name_at-requires c = let n = c.requires.leaf.0 in (name n.name n.occ, c.requires.leaf.1)
+
 pub target-requires-clause-ident : goal.target-requires-clause-ident
 target-requires-clause-ident c =
     let n = c.requires.leaf.0 in

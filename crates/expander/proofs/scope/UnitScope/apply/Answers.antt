@@ -123,7 +123,8 @@ returns-in_err-push-clause-used c = λ known ls s fs keyword m ts tail stands th
     let few : u.form.budget.uses < 10000 = let most = stands.form.few_uses in omega (arith, most, c.if-self-eq-MAX_USES.false) in
     let h = has_match_then w r u c.begin_use.new.self at c.in-Some.matched c.macro_scope-scope.result c.in_ok-number.ensures.begun
         (has_match w r u at c.in_ok-matched.matched c.in-Some.matched c.in-Some.is (c.in_ok-matched.ensures.matched r c.requires.named)) in
-    err_ends (WorksOn new r) w new r u c.instance.new.self ls c.from_residual-in_err-push.result fault.Memory (use_of (searched known) at.here fs keyword m ts tail s) c.from_residual-in_err-push.ensures.1
+    let v = c.instance.new.self in
+    err_ends (WorksOn new r) w new r u (record v { form = record v.form { trace = record v.form.trace { uses = c.push.new.self } } }) ls c.from_residual-in_err-push.result fault.Memory (use_of (searched known) at.here fs keyword m ts tail s) c.from_residual-in_err-push.ensures.1
     (leaves_then w new r u c.begin_use.new.self c.instance.new.self at c.requires.usable c.macro_scope-scope.result c.in-Some.matched (number_of c.in_ok-number.number) c.in_ok-tree.tree few c.in_ok-number.ensures.begun h c.in_ok-tree.ensures.built c.instance.ensures.grows)
 
 pub returns-clause-used : goal.returns-clause-used

@@ -32,7 +32,7 @@ loop-pair-preserved c = λ ls s gs fs qs stands there at are.
     let d : IdPair = record { literal = 0; ident = 0 } in
     let Q = ComparisonFor work ls c.args.literal_scope c.args.scope in
     let h = match_at (IsPair work) ps qs k d (pairs_match work ps qs are) c.loop-pair-test.true in
-    subst (λ (out : List Comparison). AllMatch Q out (map (comparison_of s gs fs) (take (k + 1) qs))) (sym c.in_ok-push.ensures.items)
+    subst (λ (out : List Comparison). AllMatch Q out (map (comparison_of s gs fs) (take (k + 1) qs))) (sym {A = List Comparison} c.in_ok-push.ensures.items)
     (all_next Q (comparison_of s gs fs) k c.loop-pair.comparisons.items qs c.comparison.result h.0 (c.loop-pair.invariant ls s gs fs qs stands there at are) h.1
     (c.comparison.ensures ls s gs fs h.0.0 h.0.1 stands there at h.2.0 h.2.1))
 
