@@ -15,6 +15,7 @@ pub mod BodyScopes
 pub mod ComingDefinitions
 pub mod FormsStand
 pub mod OutcomeLaws
+pub mod AskLaws
 pub mod ToldLaws
 pub mod NodeLaws
 pub mod MatchedLaws

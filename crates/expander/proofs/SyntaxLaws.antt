@@ -11,7 +11,6 @@ use Rattle.scheme_model.specs.ExpansionFaults.{Named, named_map, Fault, BadRules
 use Rattle.scheme_model.specs.RulesShape.{Rule, rule_map, option_map, Rules, rules_map, check_rules, rules_of}
 use Rattle.scheme_model.specs.RulesShape as shapes
 use Rattle.scheme_model.specs.Requirements.{Known}
-use Rattle.std.specs.Prelude.{IsErrAnd}
 use Rattle.scheme_model.specs.Meaning.{Meaning, Head, IsCore, IsAuxiliary, IsNone, is_keyword}
 use Rattle.scheme_model.specs.Meaning as meaning
 use Rattle.scheme_model.specs.Leaves.{leaves_of}
@@ -212,11 +211,6 @@ module _ (known : Known) (here : Here) (t : Tree Identifier) (r : RulesParts Ide
         (bad_by P (told s.unit s.form here (rules_fault e)) few (bad_rules_are work s.unit s.form here e (rules_in_form t) h))
 
 -- ---- how reading fails before it
-
-pub err_goes : {X Y : Type 0} (P : X → Y → Type 0) (old new : Work) (region : Region) (u v : UnitScope) (ls : List Frames) (r : Result X ExpandFault) (e : ExpandFault) (p : Result Y Broken × ScopedState) → IsErrAnd r (λ f. f ≡ e) →
-    EndsHere P old new region u v ls (Err e) p → EndsHere P old new region u v ls r p
-err_goes P old new region u v ls (Ok x) e p is h = absurd is
-err_goes {X} P old new region u v ls (Err f) e p is h = subst (λ (x : ExpandFault). EndsHere P old new region u v ls (Err {A = X} x) p) (sym is) h
 
 module _ (known : Known) (work : Work) (region : Region) (u v : UnitScope) (ls : List Frames) (s : ScopedState) (here : Here) (t : Tree Identifier) (r : RulesParts Identifier) (n : ℕ) (size : n ≡ tree_size t) (e : Stands work u ls s) where
   pub counted_rules : {x : Unit {0}} → Counts u v here n (Ok x) → (counting (searched known) here (tree_size t) s ≡ done tt (spent (tree_size t) s)) × Stays work work region u v ls (spent (tree_size t) s)

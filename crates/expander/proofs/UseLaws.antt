@@ -1,6 +1,6 @@
 -- A macro use, step by step: what each comes to in the definition, and that the state stands.
 use Rattle.std.proofs.Common.{◌≡◌, ℕ, ◌+◌, ◌-◌, ◌<◌, ◌≤◌, List, [], ◌∷◌, ◌++◌, map, slice_get, Bool, true, false, cond, Option, Some, None, Result, Ok, Err, Bor, inl, inr, refl, sym, ap, ◌∙◌, subst, arith}
-use Rattle.std.specs.Prelude.{nat_lt, Vec, IfSome, IsErrAnd}
+use Rattle.std.specs.Prelude.{nat_lt, Vec, IfSome}
 use Rattle.std.specs.declared.alloc.Global.{Global}
 use Rattle.std.proofs.lemmas.Bool.Decides.{nat_tests}
 use Rattle.std.specs.Option.{option_copied}
@@ -121,13 +121,6 @@ has_match work region u at o matched is h = subst (λ (x : Option Matched). IfSo
 pub has_match_then : (work : Work) (region : Region) (u v : UnitScope) (at : code.Use) (matched : Matched) (scope : ℕ) → v ≡ with_use_begun u scope → HasMatch work region u at matched → HasMatch work region v at matched
 has_match_then work region u v at matched scope is h =
     subst (λ (w : UnitScope). HasMatch work region w at matched) (sym is) (record { used = h.used; macro = h.macro; of_rules = h.of_rules; named = h.named })
-
--- ---- errors
-
-pub err_ends : (P : number.Tree → Tree Identifier → Type 0) (old new : Work) (region : Region) (u v : UnitScope) (ls : List Frames) (r : Result number.Tree ExpandFault) (e : ExpandFault) (p : Result (Tree Identifier) Broken × ScopedState) → IsErrAnd r (λ f. f ≡ e) →
-    EndsHere P old new region u v ls (Err e) p → EndsHere P old new region u v ls r p
-err_ends P old new region u v ls (Ok x) e p is h = absurd is
-err_ends P old new region u v ls (Err f) e p is h = subst (λ (x : ExpandFault). EndsHere P old new region u v ls (Err x) p) (sym is) h
 
 -- ---- the leaves that met literals still stand in a work that grew
 

@@ -19,7 +19,8 @@ use Rattle.expander.specs.declared.fault.ExpandFault.TheVariants as fault
 use Rattle.expander.specs.declared.macros.Macro.{Macro}
 use Rattle.expander.specs.declared.scope.UnitScope.{UnitScope}
 use Rattle.expander.proofs.OutcomeLaws.{leaves_itself}
-use Rattle.expander.proofs.UseLaws.{macro_there, nothing_found, chosen_in, has_match, has_match_then, err_ends, leaves_on, over_ends, unmatched_ends, as_built, failed_ends, grown_stands, use_ends, pushed, one_more, no_locals, leaves_then, looks_then}
+use Rattle.expander.proofs.NodeLaws.{here_err}
+use Rattle.expander.proofs.UseLaws.{macro_there, nothing_found, chosen_in, has_match, has_match_then, leaves_on, over_ends, unmatched_ends, as_built, failed_ends, grown_stands, use_ends, pushed, one_more, no_locals, leaves_then, looks_then}
 use Rattle.expander.proofs.scope.UnitScope.apply.Goals as goal
 
 pub returns-then-self-eq-MAX_USES-clause-used : goal.returns-then-self-eq-MAX_USES-clause-used
@@ -31,7 +32,7 @@ returns-then-self-eq-MAX_USES-clause-used c = λ known ls s fs keyword m ts tail
 pub returns-in_err-matched-clause-used : goal.returns-in_err-matched-clause-used
 returns-in_err-matched-clause-used c = λ known ls s fs keyword m ts tail stands there for held.
     let w = c.args.work.now in let u = c.args.self.now in let at = c.args.at in let r = c.args.region.now in
-    err_ends (WorksOn w r) w w r u u ls c.from_residual.result fault.Memory (use_of (searched known) at.here fs keyword m ts tail s) c.from_residual.ensures.1
+    here_err (WorksOn w r) w w r u u ls c.from_residual.result fault.Memory (use_of (searched known) at.here fs keyword m ts tail s) c.from_residual.ensures.1
     (leaves_itself w r u stands.form.few_nodes)
 
 pub begin_use-requires-clause-scope : goal.begin_use-requires-clause-scope
@@ -48,7 +49,7 @@ begin_use-requires-clause-few c = let few = c.requires.usable.stands.form.few_us
 pub returns-in_err-number-clause-used : goal.returns-in_err-number-clause-used
 returns-in_err-number-clause-used c = λ known ls s fs keyword m ts tail stands there for held.
     let w = c.args.work.now in let u = c.args.self.now in let at = c.args.at in let r = c.args.region.now in
-    err_ends (WorksOn w r) w w r u c.begin_use.new.self ls c.from_residual-in_err-number.result fault.Memory (use_of (searched known) at.here fs keyword m ts tail s) c.from_residual-in_err-number.ensures.1
+    here_err (WorksOn w r) w w r u c.begin_use.new.self ls c.from_residual-in_err-number.result fault.Memory (use_of (searched known) at.here fs keyword m ts tail s) c.from_residual-in_err-number.ensures.1
     (leaves_itself w r u stands.form.few_nodes)
 
 pub returns-in_default-clause-used : goal.returns-in_default-clause-used
@@ -86,7 +87,7 @@ returns-in_err-tree-clause-used c = λ known ls s fs keyword m ts tail stands th
     let ch = chosen_in w m.rules (match_of_use s fs m ts tail) c.in_ok-matched.matched c.in-Some.matched c.in-Some.is (c.in_ok-matched.ensures.found ls s fs keyword m ts tail stands for held) in
     let there_then = subst (λ (x : UnitScope). macro_in x.macros x.form.number at.keyword.meaning ≡ Some k.0) (sym begun) k.1 in
     let e = c.in_err-tree.field-0.0 in
-    err_ends (WorksOn new r) w new r u v ls c.from_residual-in_err-tree.result e (use_of (searched known) at.here fs keyword m ts tail s) c.from_residual-in_err-tree.ensures.1
+    here_err (WorksOn new r) w new r u v ls c.from_residual-in_err-tree.result e (use_of (searched known) at.here fs keyword m ts tail s) c.from_residual-in_err-tree.ensures.1
     (failed_ends known at.here fs keyword m ts tail s w r u ls stands (WorksOn new r) scope at_scope few new v ch.0 e ch.1 c.instance.ensures.grows
     (as_built known at.here fs keyword m ts tail s w r u ls stands (WorksOn new r) scope at_scope few new c.begin_use.new.self v ch.0 (number_of c.in_ok-number.number) (Err e) begun c.in_ok-number.ensures.number
     (c.in_err-tree.ensures.built k.0 m.rules ch.0 there_then k.2.rules ch.2)))
@@ -114,7 +115,7 @@ returns-in_err-met-clause-used c = λ known ls s fs keyword m ts tail stands the
     let few : u.form.budget.uses < 10000 = let most = stands.form.few_uses in omega (arith, most, c.if-self-eq-MAX_USES.false) in
     let h = has_match_then w r u c.begin_use.new.self at c.in-Some.matched c.macro_scope-scope.result c.in_ok-number.ensures.begun
         (has_match w r u at c.in_ok-matched.matched c.in-Some.matched c.in-Some.is (c.in_ok-matched.ensures.matched r c.requires.named)) in
-    err_ends (WorksOn new r) w new r u c.instance.new.self ls c.from_residual-in_err-met.result fault.Memory (use_of (searched known) at.here fs keyword m ts tail s) c.from_residual-in_err-met.ensures.1
+    here_err (WorksOn new r) w new r u c.instance.new.self ls c.from_residual-in_err-met.result fault.Memory (use_of (searched known) at.here fs keyword m ts tail s) c.from_residual-in_err-met.ensures.1
     (leaves_then w new r u c.begin_use.new.self c.instance.new.self at c.requires.usable c.macro_scope-scope.result c.in-Some.matched (number_of c.in_ok-number.number) c.in_ok-tree.tree few c.in_ok-number.ensures.begun h c.in_ok-tree.ensures.built c.instance.ensures.grows)
 
 pub returns-in_err-push-clause-used : goal.returns-in_err-push-clause-used
@@ -124,7 +125,7 @@ returns-in_err-push-clause-used c = λ known ls s fs keyword m ts tail stands th
     let h = has_match_then w r u c.begin_use.new.self at c.in-Some.matched c.macro_scope-scope.result c.in_ok-number.ensures.begun
         (has_match w r u at c.in_ok-matched.matched c.in-Some.matched c.in-Some.is (c.in_ok-matched.ensures.matched r c.requires.named)) in
     let v = c.instance.new.self in
-    err_ends (WorksOn new r) w new r u (record v { form = record v.form { trace = record v.form.trace { uses = c.push.new.self } } }) ls c.from_residual-in_err-push.result fault.Memory (use_of (searched known) at.here fs keyword m ts tail s) c.from_residual-in_err-push.ensures.1
+    here_err (WorksOn new r) w new r u (record v { form = record v.form { trace = record v.form.trace { uses = c.push.new.self } } }) ls c.from_residual-in_err-push.result fault.Memory (use_of (searched known) at.here fs keyword m ts tail s) c.from_residual-in_err-push.ensures.1
     (leaves_then w new r u c.begin_use.new.self c.instance.new.self at c.requires.usable c.macro_scope-scope.result c.in-Some.matched (number_of c.in_ok-number.number) c.in_ok-tree.tree few c.in_ok-number.ensures.begun h c.in_ok-tree.ensures.built c.instance.ensures.grows)
 
 pub returns-clause-used : goal.returns-clause-used

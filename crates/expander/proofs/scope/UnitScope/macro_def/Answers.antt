@@ -32,7 +32,7 @@ returns-in_default c = λ known ls s b stands binder means.
     let w = c.args.work.now in let u = c.args.self.now in
     let none = nothing_copied c.meaning.result c.in_default.not-Some in
     no_def known w s b (record { binder = c.args.binder; rules = c.no_rules.result; leaves = c.new.result }) binder
-    (macro_none w ls (macro_in u.macros u.form.number c.args.meaning) (macro_at s.macros (meaning_of b.bound b.ident)) (sym c.meaning.ensures ∙ none) (means_macro w u ls s c.args.meaning (meaning_of b.bound b.ident) stands means)) c.no_rules.ensures refl
+    (macro_none w ls (macro_in u.macros u.form.number c.args.meaning) (macro_at s.macros (meaning_of b.bound b.ident)) (sym c.meaning.ensures ∙ none) (means_macro w u ls s c.args.meaning (meaning_of b.bound b.ident) stands means)) c.no_rules.ensures c.new.ensures.items
 
 pub returns : goal.returns
 returns c = λ known ls s b stands binder means.

@@ -6,10 +6,9 @@ use Rattle.expander.specs.Outcomes.{EndsHere}
 use Rattle.expander.specs.Searched.{searched}
 use Rattle.expander.specs.State.{IsMacro}
 use Rattle.expander.specs.declared.fault.ExpandFault.{ExpandFault}
-use Rattle.expander.specs.declared.fault.ExpandFault.TheVariants as fault
 use Rattle.expander.specs.declared.macros.Macro.{Macro}
-use Rattle.expander.proofs.OutcomeLaws.{leaves_itself}
-use Rattle.expander.proofs.SyntaxLaws.{err_goes, counted_rules, uncounted_rules, rules_end, bad_end, read_as}
+use Rattle.expander.proofs.NodeLaws.{here_err}
+use Rattle.expander.proofs.SyntaxLaws.{counted_rules, uncounted_rules, rules_end, bad_end, read_as}
 use Rattle.expander.proofs.scope.UnitScope.read_macro.Goals as goal
 
 pub count-requires : goal.count-requires
@@ -19,23 +18,11 @@ pub returns-in_err-count-clause-read : goal.returns-in_err-count-clause-read
 returns-in_err-count-clause-read c = λ known region ls s fs t r stands at for parts.
     let w = c.args.work.now in let u = c.args.self.now in let v = c.count.new.self in let here = c.args.here in
     let P : Macro → Rules Identifier → Type 0 = λ k rs. IsMacro w ls k (record { env = fs; rules = rs }) in
-    err_goes P w w region u v ls c.from_residual.result c.in_err-count.field-0.0 (rules_at (searched known) here t r s) c.from_residual.ensures.1
+    here_err P w w region u v ls c.from_residual.result c.in_err-count.field-0.0 (rules_at (searched known) here t r s) c.from_residual.ensures.1
     (uncounted_rules known w region u v ls s here t r c.size.result (c.size.ensures t for) stands P c.in_err-count.field-0.0 c.in_err-count.ensures)
 
-pub leaves-leaves-requires : goal.leaves-leaves-requires
-leaves-leaves-requires c =
-    let t = c.requires.rules in
-    let h = c.in-Ok.ensures t.0 t.1 in
-    (t.0, h.0, t.1, h.1, h.2)
-
-pub returns-in_err-leaves-clause-read : goal.returns-in_err-leaves-clause-read
-returns-in_err-leaves-clause-read c = λ known region ls s fs t r stands at for parts.
-    let w = c.args.work.now in let u = c.args.self.now in let v = c.count.new.self in let here = c.args.here in
-    let P : Macro → Rules Identifier → Type 0 = λ k rs. IsMacro w ls k (record { env = fs; rules = rs }) in
-    err_goes P w w region u v ls c.from_residual-in_err-leaves.result fault.Memory (rules_at (searched known) here t r s) c.from_residual-in_err-leaves.ensures.1 (leaves_itself w region u stands.form.few_nodes)
-
-pub returns-in-Ok-clause-read : goal.returns-in-Ok-clause-read
-returns-in-Ok-clause-read c = λ known region ls s fs t r stands at for parts.
+pub returns-in_ok-leaves-in-Ok-clause-read : goal.returns-in_ok-leaves-in-Ok-clause-read
+returns-in_ok-leaves-in-Ok-clause-read c = λ known region ls s fs t r stands at for parts.
     let w = c.args.work.now in let u = c.args.self.now in let v = c.count.new.self in let here = c.args.here in
     let k : Macro = record { scope = c.args.scope; rules = c.in-Ok.checked; leaves = c.in_ok-leaves.leaves } in
     let counted = counted_rules known w region u v ls s here t r c.size.result (c.size.ensures t for) stands c.in_ok-count.ensures in
@@ -48,5 +35,5 @@ returns-in-Err-clause-read c = λ known region ls s fs t r stands at for parts.
     let w = c.args.work.now in let u = c.args.self.now in let v = c.count.new.self in let here = c.args.here in
     let P : Macro → Rules Identifier → Type 0 = λ k rs. IsMacro w ls k (record { env = fs; rules = rs }) in
     let counted = counted_rules known w region u v ls s here t r c.size.result (c.size.ensures t for) stands c.in_ok-count.ensures in
-    subst (λ (x : ExpandFault). EndsHere P w w region u v ls (Err {A = Macro} x) (rules_at (searched known) here t r s)) (sym c.bad_rules.ensures)
+    subst (λ (x : ExpandFault). EndsHere P w w region u v ls (Err x) (rules_at (searched known) here t r s)) (sym c.bad_rules.ensures)
     (bad_end known here t r s w region u v ls parts counted.0 counted.1 P c.in-Err.fault stands.form.few_nodes (counted.1.same.unit ∙ stands.unit) (counted.1.same.number ∙ stands.form.number) (c.in-Err.ensures t for))
