@@ -16,6 +16,7 @@ pub mod ComingDefinitions
 pub mod FormsStand
 pub mod OutcomeLaws
 pub mod AskLaws
+pub mod LeafLaws
 pub mod ToldLaws
 pub mod NodeLaws
 pub mod MatchedLaws

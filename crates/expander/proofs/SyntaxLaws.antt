@@ -75,7 +75,7 @@ module _ (known : Known) (names : Names) (fs : Frames) (s : ScopedState) where
   no_note None h = refl
   no_note (Some r) h = absurd h
 
-  abbrev looked : Identifier → Note Place
+  abbrev pub looked : Identifier → Note Place
   looked i = LookedUp (record { frames = fs; ident = i }) false (is_keyword (head_of (searched known) fs s i))
 
   pub a_note : (n : ℕ) (o : Option (RulesParts Identifier)) → IsRulesHead names (Some n) o → (i : Identifier) × IsIdent names n i × (rules_note (searched known) fs s o ≡ looked i ∷ [])
