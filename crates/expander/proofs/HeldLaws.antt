@@ -92,10 +92,11 @@ module _ (work : Work) (ls : List Frames) (literal_scope scope : ℕ) (s : Scope
   complete same [] (q ∷ qs) h up down = absurd h
   complete same (c ∷ cs) [] h up down = absurd h
   complete same (c ∷ cs) (q ∷ qs) h up down =
-      let first = held_first c cs in
-      (bool_same (means_same work same q.0 q.1) (truth q.0 q.1) (down q.0 q.1)
-      (λ m. up q.0 q.1 (ap (λ (ps : List IdPair). means_same work ps q.0 q.1) first ∙ first_told c q (held_pairs cs) h.0 c.held refl m)),
-      complete same cs qs h.1 (λ i j m. up i j (ap (λ (ps : List IdPair). means_same work ps i j) first ∙ later_told c (held_pairs cs) i j c.held m)) down)
+      let first = held_first c cs in (
+        bool_same (means_same work same q.0 q.1) (truth q.0 q.1) (down q.0 q.1)
+            (λ m. up q.0 q.1 (ap (λ (ps : List IdPair). means_same work ps q.0 q.1) first ∙ first_told c q (held_pairs cs) h.0 c.held refl m)),
+        complete same cs qs h.1 (λ i j m. up i j (ap (λ (ps : List IdPair). means_same work ps i j) first ∙ later_told c (held_pairs cs) i j c.held m)) down,
+      )
 
   -- so those that held are what `apply` wants to be told
   pub are_held : (cs : List Comparison) (qs : List (Identifier × Identifier)) → For cs qs → AreHeld work s gs fs (held_pairs cs) qs

@@ -24,4 +24,5 @@ pub mod MatchLists
 pub mod MeantSame
 pub mod HeldLaws
 pub mod UseLaws
+pub mod UseSizes
 pub mod SyntaxLaws

@@ -1,5 +1,5 @@
 -- Equal meanings of the code are those of identifiers that mean the same.
-use Rattle.std.proofs.Common.{◌≡◌, ℕ, ◌==◌, ◌&&◌, nat_eq, List, refl, sym, ap, ◌∙◌, eq-eqb}
+use Rattle.std.proofs.Common.{◌≡◌, ℕ, ◌==◌, ◌&&◌, List, refl, sym, ap, ◌∙◌, eq-eqb}
 use Rattle.scheme_model.specs.Identifiers.{same_number}
 use Rattle.scheme_model.specs.Ident.{Ident as Identifier}
 use Rattle.scheme_model.specs.Meaning.{same_meaning}

@@ -1,13 +1,12 @@
 -- The rules of macros where they are defined, by what the code was told.
-use Rattle.std.proofs.Common.{◌≡◌, ℕ, ◌≤◌, List, [], ◌∷◌, ◌++◌, map, reverse, length, slice_get, Bool, true, false, cond, Option, Some, None, Result, Ok, Err, Bor, refl, sym, ap, ◌∙◌, subst}
+use Rattle.std.proofs.Common.{◌≡◌, ℕ, ◌≤◌, List, [], ◌∷◌, ◌++◌, map, reverse, true, false, cond, Option, Some, None, Result, Ok, Err, Bor, refl, sym, ap, ◌∙◌, subst}
 use Rattle.std.specs.Option.{option_copied}
 use Rattle.std.proofs.lemmas.Option.{same_Some}
 use Rattle.std.proofs.lemmas.Grind.{reverse_onto}
-use Rattle.scheme_model.specs.declared.Occ.{Occ}
 use Rattle.scheme_model.specs.Ident.{Ident as Identifier}
 use Rattle.scheme_model.specs.Trees.{Tree, name, atom, list, vector, Trees, no_trees, tree, Tail, proper, dotted, map_tree, map_trees, map_tail}
 use Rattle.scheme_model.specs.Measures.{tree_size}
-use Rattle.scheme_model.specs.ExpansionFaults.{Named, named_map, Fault, BadRules, TwoEllipses, DuplicateVariable, EllipsisDepth, IdleEllipsis, NoRule, EllipsisLength, BadForm, DuplicateBinder, BadPlace, BadRecord, BadQuasi, KeywordRedefined, Duplicate, KeywordAsValue, UseBudget, NodeBudget, DepthBudget, SyntaxError, IncludeRefused, OutOfTurns, fault_map, ◌>>◌}
+use Rattle.scheme_model.specs.ExpansionFaults.{named_map, Fault, BadRules, TwoEllipses, DuplicateVariable, EllipsisDepth, IdleEllipsis, NoRule, EllipsisLength, BadForm, DuplicateBinder, BadPlace, BadRecord, BadQuasi, KeywordRedefined, Duplicate, KeywordAsValue, UseBudget, NodeBudget, DepthBudget, SyntaxError, IncludeRefused, OutOfTurns, fault_map, ◌>>◌}
 use Rattle.scheme_model.specs.RulesShape.{Rule, rule_map, option_map, Rules, rules_map, check_rules, rules_of}
 use Rattle.scheme_model.specs.RulesShape as shapes
 use Rattle.scheme_model.specs.Requirements.{Known}
@@ -21,8 +20,7 @@ use Rattle.scheme_model.specs.Order.{Here, Note, LookedUp, Transformer, head_of,
 use Rattle.scheme_model.specs.ScopedExpansion.{Frames, Place, ScopedState, macro_at}
 use Rattle.scheme_model.proofs.Distinct.{ok_same}
 use Rattle.syntax_tree.specs.Names.{Names}
-use Rattle.syntax_tree.specs.Macros.{identifiers, IsIdent, RulesFor, AreChecked}
-use Rattle.syntax_tree.specs.Works.{StandsFor}
+use Rattle.syntax_tree.specs.Macros.{identifiers, IsIdent, RulesFor}
 use Rattle.syntax_tree.specs.declared.trees.Work.{Work}
 use Rattle.syntax_tree.specs.declared.trees.table.Region.{Region}
 use Rattle.syntax_tree.specs.Meant.{IsMeaning}
@@ -37,7 +35,7 @@ use Rattle.core_tree.specs.Names.{IsMacro as IsMacroDef}
 use Rattle.core_tree.specs.declared.cores.MacroDef as code_def
 use Rattle.core_tree.specs.declared.cores.RuleLeaf as code_leaf
 use Rattle.core_tree.specs.Traces.{IsFault}
-use Rattle.expander.specs.Kept.{NoteFor, NotesFor}
+use Rattle.expander.specs.Kept.{NoteFor}
 use Rattle.expander.specs.Searched.{searched}
 use Rattle.expander.specs.Seen.{IsRulesHead}
 use Rattle.expander.specs.Told.{rules_fault, told, Tells}

@@ -1,5 +1,5 @@
 -- A macro use, step by step: what each comes to in the definition, and that the state stands.
-use Rattle.std.proofs.Common.{◌≡◌, ℕ, ◌+◌, ◌-◌, ◌<◌, ◌≤◌, List, [], ◌∷◌, ◌++◌, map, slice_get, Bool, true, false, cond, Option, Some, None, Result, Ok, Err, Bor, inl, inr, refl, sym, ap, ◌∙◌, subst, arith}
+use Rattle.std.proofs.Common.{◌≡◌, ℕ, ◌+◌, ◌-◌, ◌<◌, ◌≤◌, List, [], ◌∷◌, ◌++◌, map, slice_get, true, false, cond, Option, Some, None, Result, Ok, Err, Bor, inl, inr, refl, sym, ap, ◌∙◌, subst, arith}
 use Rattle.std.specs.Prelude.{nat_lt, Vec, IfSome}
 use Rattle.std.specs.declared.alloc.Global.{Global}
 use Rattle.std.proofs.lemmas.Bool.Decides.{nat_tests}
@@ -7,8 +7,8 @@ use Rattle.std.specs.Option.{option_copied}
 use Rattle.std.proofs.lemmas.Option.{same_Some}
 use Rattle.scheme_model.specs.declared.Occ.{Occ}
 use Rattle.scheme_model.specs.Identifiers.{Number}
-use Rattle.scheme_model.specs.Ident.{Ident as Identifier, Inserted}
-use Rattle.scheme_model.specs.Trees.{Tree, name, list, Trees, tree, Tail}
+use Rattle.scheme_model.specs.Ident.{Ident as Identifier}
+use Rattle.scheme_model.specs.Trees.{Tree, name, Trees, Tail}
 use Rattle.scheme_model.specs.ExpansionFaults.{Named, named, Fault, NoRule, UseBudget, EllipsisLength, NodeBudget, DepthBudget}
 use Rattle.scheme_model.specs.Requirements.{Known}
 use Rattle.scheme_model.specs.RulesShape.{Rules, role_of, dots_of}
@@ -16,14 +16,14 @@ use Rattle.scheme_model.specs.Matching.{Chosen, matcher, first_match, compared}
 use Rattle.scheme_model.specs.Building.{Built}
 use Rattle.scheme_model.specs.Meaning.{same_meaning}
 use Rattle.scheme_model.specs.Cores.{Target, MacroUse}
-use Rattle.scheme_model.specs.Steps.{Broken, Step, ◌>>=◌, done}
+use Rattle.scheme_model.specs.Steps.{Broken, ◌>>=◌, done}
 use Rattle.scheme_model.specs.Order.{Transformer, given, use_of}
 use Rattle.scheme_model.specs.Order as order
 use Rattle.scheme_model.specs.Diagnostics.{fault_occ}
 use Rattle.scheme_model.specs.CountedExpansion.{means_here}
 use Rattle.scheme_model.specs.ScopedExpansion.{Frames, ScopedState, next_number, macro_at}
 use Rattle.scheme_model.proofs.Distinct.{ok_same}
-use Rattle.syntax_tree.specs.Names.{Names, AreToldApart}
+use Rattle.syntax_tree.specs.Names.{AreToldApart}
 use Rattle.syntax_tree.specs.Macros.{identifiers, RulesFor, MatchedFor, AreLeaves}
 use Rattle.syntax_tree.specs.Meant.{IsMeaning}
 use Rattle.syntax_tree.specs.Works.{StandsFor, CanName, KeepsTrees, live_count}
@@ -33,15 +33,14 @@ use Rattle.syntax_tree.specs.declared.trees.Work.{Work}
 use Rattle.syntax_tree.specs.declared.trees.nodes.Tree as number
 use Rattle.syntax_tree.specs.declared.trees.table.Region.{Region}
 use Rattle.syntax_tree.proofs.Places.{none_some}
-use Rattle.rules_match.specs.Matches.{means_same, match_in, Matches}
+use Rattle.rules_match.specs.Matches.{means_same}
 use Rattle.rules_build.specs.Builds.{instance, Builds, CountsNodes}
 use Rattle.rules_build.specs.declared.fault.BuildFault.{BuildFault}
 use Rattle.rules_build.specs.declared.fault.BuildFault.TheVariants as builds
 use Rattle.core_forms.specs.declared.shape.NamePart.{NamePart}
-use Rattle.core_tree.specs.Names.{AllMatch, IsTarget, IsUse}
+use Rattle.core_tree.specs.Names.{AllMatch, IsTarget}
 use Rattle.core_tree.specs.Traces.{IsFault}
 use Rattle.core_tree.specs.declared.cores.Target as code_target
-use Rattle.core_tree.specs.declared.traces.FormFault.{FormFault}
 use Rattle.core_tree.specs.declared.traces.MacroUse as code_use
 use Rattle.expander.specs.Counts.{placed_in, plain_fault, named_fault, with_nodes}
 use Rattle.expander.specs.Macros.{macro_in}
@@ -49,7 +48,7 @@ use Rattle.expander.specs.Searched.{searched}
 use Rattle.expander.specs.State.{IsMacro, IsMacroIfAny, Stands}
 use Rattle.expander.specs.Stepped.{spent, used, met_use, with_use_begun, with_met}
 use Rattle.expander.specs.Used.{UseFor, CanUse, HasMatch, AreHeld, match_of_use, FindsUse, use_number, target_at, build_fault, FailsToBuild, Instances}
-use Rattle.expander.specs.Outcomes.{At, CanLook, Grows, Leaves, Stays, MayFill, Breaks, EndsHere, WorksOn}
+use Rattle.expander.specs.Outcomes.{At, CanLook, Grows, Leaves, Stays, MayFill, EndsHere, WorksOn}
 use Rattle.expander.specs.declared.fault.ExpandFault.{ExpandFault}
 use Rattle.expander.specs.declared.fault.ExpandFault.TheVariants as fault
 use Rattle.expander.specs.declared.macros.Macro.{Macro}
@@ -58,7 +57,7 @@ use Rattle.expander.specs.declared.uses.Use as code
 use Rattle.expander.proofs.CountingStands.{nodes_stand, use_stands}
 use Rattle.expander.proofs.GrowthStands.{growth_stands, target_on}
 use Rattle.expander.proofs.MatchedLaws.{Agree, first_match_same}
-use Rattle.expander.proofs.OutcomeLaws.{grows_itself, stays_itself, same_itself}
+use Rattle.expander.proofs.OutcomeLaws.{grows_itself, stays_itself}
 use Rattle.expander.proofs.UsesStand.{use_begins}
 
 -- ---- the macro that the keyword means
@@ -222,13 +221,19 @@ module _ (known : Known) (here : Option Occ) (fs : Frames) (keyword : Target) (m
           EndsHere P work work region u (with_use_begun u scope) ls (Err (named_fault u.unit u.form.number here 26 n)) step
       unmatched_ends x n is ident occ none =
           let place : placed_in u.unit u.form.number here n.occ ≡ placed_in s.unit s.form here keyword.occ = λ j. placed_in (e.unit j) (e.form.number j) here ((occ ∙ is.place) j) in
-          subst (λ (q : Result (Tree Identifier) Broken × ScopedState). EndsHere P work work region u (with_use_begun u scope) ls (Err (named_fault u.unit u.form.number here 26 n)) q) (sym (unmatched room none))
-          (begun_stays, (record { fault = NoRule (named keyword.ident keyword.occ); here = here }, refl, record {
-            code = refl;
-            name = subst (λ (y : ℕ). slice_get work.symbols.idents y ≡ Some keyword.ident) (sym ident) is.ident;
-            place = place ∙ placed s.unit s.form keyword.ident keyword.occ;
-            text = refl;
-          }))
+          subst (λ (q : Result (Tree Identifier) Broken × ScopedState). EndsHere P work work region u (with_use_begun u scope) ls (Err (named_fault u.unit u.form.number here 26 n)) q) (sym (unmatched room none)) (
+            begun_stays,
+            (
+              record { fault = NoRule (named keyword.ident keyword.occ); here = here },
+              refl,
+              record {
+                code = refl;
+                name = subst (λ (y : ℕ). slice_get work.symbols.idents y ≡ Some keyword.ident) (sym ident) is.ident;
+                place = place ∙ placed s.unit s.form keyword.ident keyword.occ;
+                text = refl;
+              },
+            ),
+          )
 
       -- ---- the instance fails
 
@@ -282,13 +287,17 @@ module _ (known : Known) (here : Option Occ) (fs : Frames) (keyword : Target) (m
             IsTarget work.symbols s.unit s.form x keyword → AllMatch (IsTarget new.symbols s.unit s.form) met.items (map (target_at (spent b.count begun) fs) c.match.met) →
             EndsHere (WorksOn new region) work new region u (with_met grown (record { keyword = x; literals = met })) ls (Ok n) step
         use_ends c n x met found is stands can few target literals =
-            subst (λ (q : Result (Tree Identifier) Broken × ScopedState). EndsHere (WorksOn new region) work new region u (with_met grown (record { keyword = x; literals = met })) ls (Ok n) q) (sym (matched_as c room found ∙ ap (built_step c) is))
-            (b.value, record {
-              stands = use_stands new grown ls (spent b.count begun) (record { keyword = x; literals = met }) (met_now c) (record { keyword = target_on work new grows.trees grows.names apart told s.unit s.form x keyword target; literals = literals }) grown_stands;
-              work = grows;
-              counted = omega (arith, few);
-              same = record { unit = refl; number = refl; root = refl; libraries = refl; uses = omega arith; nodes = omega arith };
-            }, refl, (stands, can))
+            subst (λ (q : Result (Tree Identifier) Broken × ScopedState). EndsHere (WorksOn new region) work new region u (with_met grown (record { keyword = x; literals = met })) ls (Ok n) q) (sym (matched_as c room found ∙ ap (built_step c) is)) (
+              b.value,
+              record {
+                stands = use_stands new grown ls (spent b.count begun) (record { keyword = x; literals = met }) (met_now c) (record { keyword = target_on work new grows.trees grows.names apart told s.unit s.form x keyword target; literals = literals }) grown_stands;
+                work = grows;
+                counted = omega (arith, few);
+                same = record { unit = refl; number = refl; root = refl; libraries = refl; uses = omega arith; nodes = omega arith };
+              },
+              refl,
+              (stands, can),
+            )
 
 -- the code's list of uses has one more
 pub pushed : (v g : UnitScope) (uses : List code_use.MacroUse) (x : code_use.MacroUse) → v ≡ g → uses ≡ v.form.trace.uses ++ x ∷ [] → with_met g x ≡ record v { form = record v.form { trace = record v.form.trace { uses = uses } } }

@@ -23,6 +23,7 @@ ghost use Rattle.expander.specs.RulesTold.{CanTell, Tests, definition_leaf};
 ghost use Rattle.expander.specs.Asks.{AskedStands};
 ghost use Rattle.expander.specs.Seen.{IsRulesHead};
 ghost use Rattle.expander.specs.Told.{rules_fault, told};
+
 use crate::asked::{Asked, Asking, Note};
 use crate::counting::{code, fails};
 use crate::fault::ExpandFault;
@@ -192,9 +193,7 @@ impl UnitScope {
             RulesFault::DuplicateVariable(name) => {
                 self.fails_at(here, code::DUPLICATE_VARIABLE, part(name))
             }
-            RulesFault::Depth(name) => {
-                self.fails_at(here, code::ELLIPSIS_DEPTH, part(name))
-            }
+            RulesFault::Depth(name) => { self.fails_at(here, code::ELLIPSIS_DEPTH, part(name)) }
             RulesFault::IdleEllipsis => fails(here, code::IDLE_ELLIPSIS),
             RulesFault::Memory => ExpandFault::Memory,
         }

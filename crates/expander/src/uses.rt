@@ -29,6 +29,7 @@ ghost use Rattle.expander.specs.Stepped.{with_use_begun};
 ghost use Rattle.expander.specs.declared.macros.Macro.{Macro as AnyMacro};
 ghost use Rattle.expander.specs.Used.{UseFor, CanUse, ComparisonFor, AreHeld, comparison_of, match_of_use, use_number, target_at, meanings_equal, build_fault, FindsUse, HasMatch, Instances};
 ghost use Rattle.expander.specs.Outcomes.{At, CanLook, Grows, WorksOn, EndsHere};
+
 use crate::counting::{MAX_NODES, code, fails};
 use crate::fault::ExpandFault;
 use crate::scope::UnitScope;
@@ -82,8 +83,7 @@ impl UnitScope {
             return Ok((at.scope, Vec::new(alloc)));
         };
         let pairs = literal_pairs(alloc, work, &used.rules, at.form)?;
-        let comparisons =
-            self.compare_each(alloc, work, used.scope, at.scope, pairs.as_slice())?;
+        let comparisons = self.compare_each(alloc, work, used.scope, at.scope, pairs.as_slice())?;
         Ok((used.scope, comparisons))
     }
 
@@ -254,13 +254,7 @@ impl UnitScope {
     }
 
     /// The leaves of a use that met a literal, and what they mean.
-    fn met(
-        &self,
-        alloc: Global,
-        work: &Work,
-        scope: ScopeNo,
-        leaves: &[Tree],
-    ) -> Mem<Vec<Target>>
+    fn met(&self, alloc: Global, work: &Work, scope: ScopeNo, leaves: &[Tree]) -> Mem<Vec<Target>>
         requires look { CanLook work.now self.now scope }
         requires leaves { (ns : List (Named Identifier)) × AreLeaves work.now leaves.now ns }
         ensures { (ls : List Frames) (s : ScopedState) (fs : Frames) (ns : List (Named Identifier)) → Stands work.now self.now ls s → At ls scope fs → AreLeaves work.now leaves.now ns →
@@ -274,13 +268,7 @@ impl UnitScope {
     }
 
     /// Adds an identifier with what it means.
-    fn add_met(
-        &self,
-        work: &Work,
-        scope: ScopeNo,
-        leaf: Tree,
-        met: &mut Vec<Target>,
-    ) -> Mem<()>
+    fn add_met(&self, work: &Work, scope: ScopeNo, leaf: Tree, met: &mut Vec<Target>) -> Mem<()>
         requires look { CanLook work.now self.now scope }
         requires leaf { (n : Named Identifier) × StandsFor work.now leaf (name n.name n.occ) }
         ensures { (ls : List Frames) (s : ScopedState) (fs : Frames) (n : Named Identifier) → Stands work.now self.now ls s → At ls scope fs → StandsFor work.now leaf (name n.name n.occ) →

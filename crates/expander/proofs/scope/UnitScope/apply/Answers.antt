@@ -1,22 +1,18 @@
-use Rattle.std.proofs.Common.{◌≡◌, ℕ, ◌+◌, ◌-◌, ◌<◌, ◌≤◌, List, length, Some, Result, Ok, Err, sym, ap, ◌∙◌, subst, arith}
+use Rattle.std.proofs.Common.{◌≡◌, ℕ, ◌<◌, ◌≤◌, List, length, Some, Ok, Err, sym, ap, ◌∙◌, subst, arith}
 use Rattle.std.proofs.lemmas.Option.{slice_get_within}
-use Rattle.scheme_model.specs.Matching.{Chosen}
 use Rattle.scheme_model.specs.Order.{use_of}
-use Rattle.scheme_model.specs.RulesShape.{Rules}
-use Rattle.scheme_model.specs.Ident.{Ident as Identifier}
 use Rattle.syntax_tree.specs.Macros.{AreLeaves}
 use Rattle.syntax_tree.specs.Numbered.{number_of}
 use Rattle.syntax_tree.specs.declared.trees.nodes.Tree as number
 use Rattle.expander.specs.Macros.{macro_in}
 use Rattle.expander.specs.Searched.{searched}
-use Rattle.expander.specs.Stepped.{spent, used, with_use_begun, with_met}
+use Rattle.expander.specs.Stepped.{spent, used, with_use_begun}
 use Rattle.expander.specs.Counts.{with_nodes, named_fault}
 use Rattle.expander.specs.State.{Stands}
-use Rattle.expander.specs.Used.{match_of_use, target_at}
+use Rattle.expander.specs.Used.{match_of_use}
 use Rattle.expander.specs.Outcomes.{At, EndsHere, WorksOn}
 use Rattle.expander.specs.declared.fault.ExpandFault.{ExpandFault}
 use Rattle.expander.specs.declared.fault.ExpandFault.TheVariants as fault
-use Rattle.expander.specs.declared.macros.Macro.{Macro}
 use Rattle.expander.specs.declared.scope.UnitScope.{UnitScope}
 use Rattle.expander.proofs.OutcomeLaws.{leaves_itself}
 use Rattle.expander.proofs.NodeLaws.{here_err}
@@ -97,7 +93,7 @@ met-requires-clause-look c =
     let w = c.args.work.now in let u = c.args.self.now in let at = c.args.at in let r = c.args.region.now in
     let few : u.form.budget.uses < 10000 = let most = c.requires.usable.stands.form.few_uses in omega (arith, most, c.if-self-eq-MAX_USES.false) in
     let h = has_match_then w r u c.begin_use.new.self at c.in-Some.matched c.macro_scope-scope.result c.in_ok-number.ensures.begun
-        (has_match w r u at c.in_ok-matched.matched c.in-Some.matched c.in-Some.is (c.in_ok-matched.ensures.matched r c.requires.named)) in
+    (has_match w r u at c.in_ok-matched.matched c.in-Some.matched c.in-Some.is (c.in_ok-matched.ensures.matched r c.requires.named)) in
     looks_then w c.instance.new.work r u c.begin_use.new.self c.instance.new.self at c.requires.usable c.macro_scope-scope.result c.in-Some.matched (number_of c.in_ok-number.number) c.in_ok-tree.tree few c.in_ok-number.ensures.begun h
     c.in_ok-tree.ensures.built c.macro_scope-scope.ensures c.instance.ensures.grows c.told_apart.ensures.idents c.told_apart.ensures.symbols
 
@@ -105,16 +101,18 @@ pub met-requires-clause-leaves : goal.met-requires-clause-leaves
 met-requires-clause-leaves c =
     let w = c.args.work.now in let u = c.args.self.now in let at = c.args.at in let r = c.args.region.now in
     let h = has_match w r u at c.in_ok-matched.matched c.in-Some.matched c.in-Some.is (c.in_ok-matched.ensures.matched r c.requires.named) in
-    let ns = h.of_rules.1.match.met in
-    (ns, subst (λ (xs : List number.Tree). AreLeaves c.instance.new.work xs ns) (sym c.as_slice.ensures)
-    (leaves_on w c.instance.new.work c.in-Some.matched.literals ns c.instance.ensures.grows.trees h.of_rules.3.match.met))
+    let ns = h.of_rules.1.match.met in (
+      ns,
+      subst (λ (xs : List number.Tree). AreLeaves c.instance.new.work xs ns) (sym c.as_slice.ensures)
+          (leaves_on w c.instance.new.work c.in-Some.matched.literals ns c.instance.ensures.grows.trees h.of_rules.3.match.met),
+    )
 
 pub returns-in_err-met-clause-used : goal.returns-in_err-met-clause-used
 returns-in_err-met-clause-used c = λ known ls s fs keyword m ts tail stands there for held.
     let w = c.args.work.now in let u = c.args.self.now in let at = c.args.at in let r = c.args.region.now in let new = c.instance.new.work in
     let few : u.form.budget.uses < 10000 = let most = stands.form.few_uses in omega (arith, most, c.if-self-eq-MAX_USES.false) in
     let h = has_match_then w r u c.begin_use.new.self at c.in-Some.matched c.macro_scope-scope.result c.in_ok-number.ensures.begun
-        (has_match w r u at c.in_ok-matched.matched c.in-Some.matched c.in-Some.is (c.in_ok-matched.ensures.matched r c.requires.named)) in
+    (has_match w r u at c.in_ok-matched.matched c.in-Some.matched c.in-Some.is (c.in_ok-matched.ensures.matched r c.requires.named)) in
     here_err (WorksOn new r) w new r u c.instance.new.self ls c.from_residual-in_err-met.result fault.Memory (use_of (searched known) at.here fs keyword m ts tail s) c.from_residual-in_err-met.ensures.1
     (leaves_then w new r u c.begin_use.new.self c.instance.new.self at c.requires.usable c.macro_scope-scope.result c.in-Some.matched (number_of c.in_ok-number.number) c.in_ok-tree.tree few c.in_ok-number.ensures.begun h c.in_ok-tree.ensures.built c.instance.ensures.grows)
 
@@ -123,7 +121,7 @@ returns-in_err-push-clause-used c = λ known ls s fs keyword m ts tail stands th
     let w = c.args.work.now in let u = c.args.self.now in let at = c.args.at in let r = c.args.region.now in let new = c.instance.new.work in
     let few : u.form.budget.uses < 10000 = let most = stands.form.few_uses in omega (arith, most, c.if-self-eq-MAX_USES.false) in
     let h = has_match_then w r u c.begin_use.new.self at c.in-Some.matched c.macro_scope-scope.result c.in_ok-number.ensures.begun
-        (has_match w r u at c.in_ok-matched.matched c.in-Some.matched c.in-Some.is (c.in_ok-matched.ensures.matched r c.requires.named)) in
+    (has_match w r u at c.in_ok-matched.matched c.in-Some.matched c.in-Some.is (c.in_ok-matched.ensures.matched r c.requires.named)) in
     let v = c.instance.new.self in
     here_err (WorksOn new r) w new r u (record v { form = record v.form { trace = record v.form.trace { uses = c.push.new.self } } }) ls c.from_residual-in_err-push.result fault.Memory (use_of (searched known) at.here fs keyword m ts tail s) c.from_residual-in_err-push.ensures.1
     (leaves_then w new r u c.begin_use.new.self c.instance.new.self at c.requires.usable c.macro_scope-scope.result c.in-Some.matched (number_of c.in_ok-number.number) c.in_ok-tree.tree few c.in_ok-number.ensures.begun h c.in_ok-tree.ensures.built c.instance.ensures.grows)
@@ -140,7 +138,7 @@ returns-clause-used c = λ known ls s fs keyword m ts tail stands there for held
     let ch = chosen_in w m.rules (match_of_use s fs m ts tail) c.in_ok-matched.matched c.in-Some.matched c.in-Some.is (c.in_ok-matched.ensures.found ls s fs keyword m ts tail stands for held) in
     let there_then = subst (λ (x : UnitScope). macro_in x.macros x.form.number at.keyword.meaning ≡ Some k.0) (sym begun) k.1 in
     let i = as_built known at.here fs keyword m ts tail s w r u ls stands (WorksOn new r) scope at_scope few new c.begin_use.new.self v ch.0 (number_of c.in_ok-number.number) (Ok c.in_ok-tree.tree) begun c.in_ok-number.ensures.number
-        (c.in_ok-tree.ensures.built k.0 m.rules ch.0 there_then k.2.rules ch.2) in
+    (c.in_ok-tree.ensures.built k.0 m.rules ch.0 there_then k.2.rules ch.2) in
     let grows = c.instance.ensures.grows in
     let apart = c.told_apart.ensures.idents in let told = c.told_apart.ensures.symbols in
     let now = grown_stands known at.here fs keyword m ts tail s w r u ls stands (WorksOn new r) scope at_scope few new grows apart told i.0 i.5 in
@@ -156,7 +154,7 @@ returns-clause-counted c =
     let w = c.args.work.now in let u = c.args.self.now in let at = c.args.at in let r = c.args.region.now in
     let few : u.form.budget.uses < 10000 = let most = c.requires.usable.stands.form.few_uses in omega (arith, most, c.if-self-eq-MAX_USES.false) in
     let h = has_match_then w r u c.begin_use.new.self at c.in-Some.matched c.macro_scope-scope.result c.in_ok-number.ensures.begun
-        (has_match w r u at c.in_ok-matched.matched c.in-Some.matched c.in-Some.is (c.in_ok-matched.ensures.matched r c.requires.named)) in
+    (has_match w r u at c.in_ok-matched.matched c.in-Some.matched c.in-Some.is (c.in_ok-matched.ensures.matched r c.requires.named)) in
     one_more w c.instance.new.work r u c.begin_use.new.self c.instance.new.self at c.requires.usable c.macro_scope-scope.result c.in-Some.matched (number_of c.in_ok-number.number) c.in_ok-tree.tree few c.in_ok-number.ensures.begun h c.in_ok-tree.ensures.built
 
 pub returns-clause-locals : goal.returns-clause-locals
@@ -164,5 +162,5 @@ returns-clause-locals c =
     let w = c.args.work.now in let u = c.args.self.now in let at = c.args.at in let r = c.args.region.now in
     let few : u.form.budget.uses < 10000 = let most = c.requires.usable.stands.form.few_uses in omega (arith, most, c.if-self-eq-MAX_USES.false) in
     let h = has_match_then w r u c.begin_use.new.self at c.in-Some.matched c.macro_scope-scope.result c.in_ok-number.ensures.begun
-        (has_match w r u at c.in_ok-matched.matched c.in-Some.matched c.in-Some.is (c.in_ok-matched.ensures.matched r c.requires.named)) in
+    (has_match w r u at c.in_ok-matched.matched c.in-Some.matched c.in-Some.is (c.in_ok-matched.ensures.matched r c.requires.named)) in
     no_locals w c.instance.new.work r u c.begin_use.new.self c.instance.new.self at c.requires.usable c.macro_scope-scope.result c.in-Some.matched (number_of c.in_ok-number.number) c.in_ok-tree.tree few c.in_ok-number.ensures.begun h c.in_ok-tree.ensures.built

@@ -1,11 +1,11 @@
-use Rattle.std.proofs.Common.{◌≡◌, ℕ, List, ap, sym, ◌∙◌, subst}
+use Rattle.std.proofs.Common.{List, sym, ◌∙◌, subst}
 use Rattle.scheme_model.specs.Trees.{list, tree}
 use Rattle.scheme_model.specs.RulesShape.{role_of, dots_of}
 use Rattle.scheme_model.specs.Matching.{compared}
 use Rattle.syntax_tree.specs.Macros.{identifiers, RulesFor, AreChecked}
 use Rattle.syntax_tree.specs.declared.rules.IdPair.{IdPair}
-use Rattle.rules_match.specs.Matches.{compared_in, ArePairs}
-use Rattle.expander.specs.Outcomes.{At, CanLook}
+use Rattle.rules_match.specs.Matches.{ArePairs}
+use Rattle.expander.specs.Outcomes.{At}
 use Rattle.expander.specs.declared.macros.Macro.{Macro}
 use Rattle.expander.proofs.UseLaws.{macro_there, copied_is, copied_some}
 use Rattle.expander.proofs.scope.UnitScope.compare.Goals as goal

@@ -1,6 +1,5 @@
 use Rattle.std.proofs.Common.{◌+◌, List, map, take, subst, sym, arith}
 use Rattle.std.proofs.lemmas.Option.{slice_get_within}
-use Rattle.scheme_model.specs.Ident.{Ident as Identifier}
 use Rattle.syntax_tree.specs.declared.rules.IdPair.{IdPair}
 use Rattle.core_tree.specs.Names.{AllMatch}
 use Rattle.expander.specs.Used.{ComparisonFor, comparison_of}

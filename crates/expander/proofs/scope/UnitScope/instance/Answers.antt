@@ -1,7 +1,4 @@
-use Rattle.std.proofs.Common.{◌≡◌, ℕ, ◌-◌, ◌≤◌, Err, refl, sym, ap, ◌∙◌, subst, arith}
-use Rattle.scheme_model.specs.RulesShape.{Rules}
-use Rattle.scheme_model.specs.Matching.{Chosen}
-use Rattle.scheme_model.specs.Ident.{Ident as Identifier}
+use Rattle.std.proofs.Common.{◌-◌, Err, refl, sym, ap, ◌∙◌, subst, arith}
 use Rattle.syntax_tree.specs.Macros.{RulesFor}
 use Rattle.syntax_tree.specs.Numbered.{number_of}
 use Rattle.syntax_tree.specs.Bound.{IsMatched}

@@ -1,4 +1,4 @@
-use Rattle.std.proofs.Common.{◌≡◌, List, refl, sym, ap, ◌∙◌, subst}
+use Rattle.std.proofs.Common.{List, sym, ap, ◌∙◌, subst}
 use Rattle.std.specs.Option.{option_copied}
 use Rattle.scheme_model.specs.Expression.{meaning_of}
 use Rattle.scheme_model.specs.Leaves.{leaves_of}
@@ -8,7 +8,6 @@ use Rattle.syntax_tree.specs.declared.rules.Rules as code_rules
 use Rattle.rules_check.specs.Gathered.{AreLeaves}
 use Rattle.rules_check.specs.declared.leaf.RuleLeaf.{RuleLeaf}
 use Rattle.expander.specs.Macros.{macro_in}
-use Rattle.expander.specs.declared.macros.Macro.{Macro}
 use Rattle.expander.proofs.SyntaxLaws.{nothing_copied, means_macro, macro_found, macro_none, no_def, a_def}
 use Rattle.expander.proofs.scope.UnitScope.macro_def.Goals as goal
 

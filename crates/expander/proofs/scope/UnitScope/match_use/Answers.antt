@@ -1,4 +1,4 @@
-use Rattle.std.proofs.Common.{◌≡◌, Some, Err, ap, ◌∙◌, subst}
+use Rattle.std.proofs.Common.{Some, Err, ap, ◌∙◌, subst}
 use Rattle.scheme_model.specs.Trees.{list, tree}
 use Rattle.scheme_model.specs.Matching.{first_match, matcher}
 use Rattle.syntax_tree.specs.Macros.{identifiers, RulesFor, AreChecked}

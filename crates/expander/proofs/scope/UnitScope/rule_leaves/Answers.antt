@@ -1,6 +1,5 @@
-use Rattle.std.proofs.Common.{◌+◌, List, map, take, None, false, refl, subst, sym, ap, ◌∙◌, arith}
+use Rattle.std.proofs.Common.{◌+◌, List, map, take, None, false, subst, sym, ◌∙◌, arith}
 use Rattle.std.proofs.lemmas.Option.{slice_get_within}
-use Rattle.scheme_model.specs.Leaves.{Leaf}
 use Rattle.rules_check.specs.Gathered as gathered
 use Rattle.rules_check.specs.declared.leaf.RuleLeaf.{RuleLeaf}
 use Rattle.core_tree.specs.Names.{AllMatch, IsLeaf}

@@ -1,4 +1,4 @@
-use Rattle.std.proofs.Common.{◌≡◌, Err, true, false, refl, sym, ap, ◌∙◌, subst}
+use Rattle.std.proofs.Common.{◌≡◌, Err, true, false, refl, sym, ◌∙◌, subst}
 use Rattle.std.proofs.lemmas.Option.{slice_get_within}
 use Rattle.scheme_model.specs.Meaning.{head_as}
 use Rattle.scheme_model.specs.ExpansionFaults.{BadForm}
@@ -28,11 +28,12 @@ pub returns-then-not-is_rules : goal.returns-then-not-is_rules
 returns-then-not-is_rules c = λ known ls s fs t stands at for.
     let w = c.args.work.now in let here = c.args.here in
     let no : c.is_rules.result ≡ false = c.if-not-is_rules.true in
-    subst (λ (x : ExpandFault). Tests w s (Err x) (rules_parts (searched known) here fs (rules_parts_of t) s)) (sym c.fails-then-not-is_rules.ensures)
-    (record { fault = BadForm; here = here },
-    other_head known w.symbols fs s here c.in-Some.ident (rules_parts_of t) (c.in-Some.ensures t for)
-    (λ i is. sym (c.is_rules.ensures (head_as (λ x. is_some (macro_at s.macros x)) (means_here s fs i)) (c.head_of.ensures ls s fs i stands at is)) ∙ no),
-    record { code = refl; name = tt; place = refl; text = refl })
+    subst (λ (x : ExpandFault). Tests w s (Err x) (rules_parts (searched known) here fs (rules_parts_of t) s)) (sym c.fails-then-not-is_rules.ensures) (
+      record { fault = BadForm; here = here },
+      other_head known w.symbols fs s here c.in-Some.ident (rules_parts_of t) (c.in-Some.ensures t for)
+          (λ i is. sym (c.is_rules.ensures (head_as (λ x. is_some (macro_at s.macros x)) (means_here s fs i)) (c.head_of.ensures ls s fs i stands at is)) ∙ no),
+      record { code = refl; name = tt; place = refl; text = refl },
+    )
 
 pub returns : goal.returns
 returns c = λ known ls s fs t stands at for.
