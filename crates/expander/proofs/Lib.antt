@@ -25,3 +25,13 @@ pub mod MacroSteps
 pub mod AskLaws
 pub mod SeenLaws
 pub mod NotesStand
+pub mod LeafLaws
+pub mod ToldLaws
+pub mod NodeLaws
+pub mod MatchedLaws
+pub mod MatchLists
+pub mod MeantSame
+pub mod HeldLaws
+pub mod UseLaws
+pub mod UseSizes
+pub mod SyntaxLaws

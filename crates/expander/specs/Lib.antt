@@ -21,3 +21,6 @@ pub mod Ready
 pub mod Bodies
 pub mod Expanded
 pub mod Units
+pub mod Asks
+pub mod Seen
+pub mod Told

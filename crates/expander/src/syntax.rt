@@ -1,22 +1,30 @@
 //! The rules of macros where they are defined (R7RS 4.3.1, 5.4): a list whose head means `syntax-rules`.
-ghost use Rattle.std.specs.Prelude.{◌≡◌, List, ◌++◌, Some, IfOk, OnOk};
+ghost use Rattle.std.specs.Prelude.{◌≡◌, List, [], ◌++◌, map, None, Some, IfOk, OnOk};
 ghost use Rattle.scheme_model.specs.Ident.{Ident as Identifier};
 ghost use Rattle.scheme_model.specs.Trees.{Tree as ModelTree};
 ghost use Rattle.scheme_model.specs.Requirements.{Known};
 ghost use Rattle.scheme_model.specs.Cores.{Binder as ModelBinder};
 ghost use Rattle.scheme_model.specs.Expression.{meaning_of, macro_def};
-ghost use Rattle.scheme_model.specs.Order.{Note as ModelNote, RulesParts, rules_parts_of, rules_parts, rules_note, rules_at};
+ghost use Rattle.scheme_model.specs.Order.{Note as ModelNote, RulesParts, rules_parts_of, rules_parts, rules_note, rules_at, is_rules};
+ghost use Rattle.scheme_model.specs.Meaning.{Head as ModelHead};
+ghost use Rattle.expander.specs.Heads.{IsHead};
 ghost use Rattle.scheme_model.specs.ScopedExpansion.{Frames, Place, ScopedState};
 ghost use Rattle.syntax_tree.specs.Meant.{IsMeaning};
 ghost use Rattle.syntax_tree.specs.Works.{StandsFor, IsStanding};
 ghost use Rattle.syntax_tree.specs.declared.trees.table.Region.{Region as AnyRegion};
-ghost use Rattle.core_tree.specs.Names.{IsBinder, IsMacro as IsMacroDef};
+ghost use Rattle.scheme_model.specs.Leaves.{Leaf as ModelLeaf};
+ghost use Rattle.rules_check.specs.Gathered.{AreLeaves};
+ghost use Rattle.core_tree.specs.Names.{AllMatch, IsBinder, IsLeaf, IsMacro as IsMacroDef};
 ghost use Rattle.expander.specs.Searched.{searched};
 ghost use Rattle.expander.specs.State.{IsMacro, Stands};
 ghost use Rattle.expander.specs.Kept.{NotesFor};
 ghost use Rattle.expander.specs.Outcomes.{At, CanLook, EndsHere};
 ghost use Rattle.expander.specs.Counts.{CountsSome};
-ghost use Rattle.expander.specs.RulesTold.{CanTell, Tests};
+ghost use Rattle.expander.specs.RulesTold.{CanTell, Tests, definition_leaf};
+ghost use Rattle.expander.specs.Asks.{AskedStands};
+ghost use Rattle.expander.specs.Seen.{IsRulesHead};
+ghost use Rattle.expander.specs.Told.{rules_fault, told};
+
 use crate::asked::{Asked, Asking, Note};
 use crate::counting::{code, fails};
 use crate::fault::ExpandFault;
@@ -26,7 +34,7 @@ use crate::scope::UnitScope;
 use core_forms::NamePart;
 use core_tree::cores::{Binder, MacroDef, RuleLeaf as CoreLeaf};
 use ls_base::{Items, Mem};
-use rules_check::{RulesFault, check, leaves};
+use rules_check::{RuleLeaf, RulesFault, check, leaves};
 use scheme_model::Occ;
 use scope_env::ScopeNo;
 use std::alloc::Global;
@@ -37,24 +45,58 @@ use syntax_tree::symbols::IdNo;
 use syntax_tree::trees::{Tree, Work};
 
 /// The head of a list of rules, where it has one that is an identifier.
-fn rules_head(work: &Work, rules: Tree) -> Option<IdNo> {
+fn rules_head(work: &Work, rules: Tree) -> Option<IdNo>
+    requires { IsStanding work.now rules }
+    ensures { (t : ModelTree Identifier) → StandsFor work.now rules t → IsRulesHead work.now.symbols result (rules_parts_of t) }
+{
     match look_at(work, rules) {
-        Look::List(items, _) => match items {
-            [] => None,
-            [first, ..] => match look_at(work, *first) {
+        Look::List(items, _) => match items.first() {
+            None => None,
+            Some(first) => match look_at(work, *first) {
                 Look::Name(ident) => Some(ident),
-                Look::Atom(_) | Look::List(_, _) | Look::Vector(_) => None,
+                Look::Atom(_) => None,
+                Look::List(_, _) => None,
+                Look::Vector(_) => None,
             },
         },
-        Look::Name(_) | Look::Atom(_) | Look::Vector(_) => None,
+        Look::Name(_) => None,
+        Look::Atom(_) => None,
+        Look::Vector(_) => None,
     }
 }
 
 /// An identifier with its place, as core forms have it.
-fn part(name: Named) -> NamePart {
+fn part(name: Named) -> NamePart
+    ensures ident { result.ident ≡ name.ident }
+    ensures place { result.occ ≡ name.occ }
+{
     NamePart {
         ident: name.ident,
         occ: name.occ,
+    }
+}
+
+/// No rules, which take no memory.
+fn no_rules(alloc: Global) -> Rules
+    ensures { result ≡ record { ellipsis = None; literals = []; rules = [] } }
+{
+    Rules {
+        ellipsis: None,
+        literals: Items::new(alloc),
+        rules: Items::new(alloc),
+    }
+}
+
+/// Whether a head means `syntax-rules`.
+fn is_rules(head: Head) -> bool
+    ensures { (h : ModelHead) → IsHead head h → result ≡ is_rules h }
+{
+    match head {
+        Head::Auxiliary(Auxiliary::SyntaxRules) => true,
+        Head::Auxiliary(Auxiliary::Unquote) => false,
+        Head::Auxiliary(Auxiliary::UnquoteSplicing) => false,
+        Head::Auxiliary(Auxiliary::Other) => false,
+        Head::Core(_) | Head::Macro | Head::Other => false,
     }
 }
 
@@ -69,22 +111,24 @@ impl UnitScope {
     ) -> Mem<()>
         requires look { CanLook work.now self.now scope }
         requires rules { IsStanding work.now rules }
-        ensures { (known : Known) (ls : List Frames) (s : ScopedState) (fs : Frames) (t : ModelTree Identifier) (ns : List (ModelNote Place)) → Stands work.now self.now ls s →
+        ensures stands { AskedStands work.now.symbols asked.old → OnOk result (AskedStands work.now.symbols asked.new) }
+        ensures notes { (known : Known) (ls : List Frames) (s : ScopedState) (fs : Frames) (t : ModelTree Identifier) (ns : List (ModelNote Place)) → Stands work.now self.now ls s →
             At ls scope fs → StandsFor work.now rules t → NotesFor work.now ls asked.old ns →
             OnOk result (NotesFor work.now ls asked.new (rules_note (searched known) fs s (rules_parts_of t) ++ ns)) }
     {
-        if let Some(ident) = rules_head(work, rules) {
-            let keyword = self.head_of(work, scope, ident).is_keyword();
-            let at = Asking { scope, ident };
-            asked.push(
-                &work.symbols,
-                Note::LookedUp {
-                    at,
-                    head: false,
-                    keyword,
-                },
-            )?;
-        }
+        let Some(ident) = rules_head(work, rules) else {
+            return Ok(());
+        };
+        let keyword = self.head_of(work, scope, ident).is_keyword();
+        let at = Asking { scope, ident };
+        asked.push(
+            &work.symbols,
+            Note::LookedUp {
+                at,
+                head: false,
+                keyword,
+            },
+        )?;
         Ok(())
     }
 
@@ -104,12 +148,10 @@ impl UnitScope {
         let Some(ident) = rules_head(work, rules) else {
             return Err(fails(here, code::BAD_FORM));
         };
-        match self.head_of(work, scope, ident) {
-            Head::Auxiliary(Auxiliary::SyntaxRules) => Ok(()),
-            Head::Auxiliary(_) | Head::Core(_) | Head::Macro | Head::Other => {
-                Err(fails(here, code::BAD_FORM))
-            }
+        if !is_rules(self.head_of(work, scope, ident)) {
+            return Err(fails(here, code::BAD_FORM));
         }
+        Ok(())
     }
 
     /// Counts rules and checks them: the macro of this scope that they make.
@@ -143,16 +185,17 @@ impl UnitScope {
         }
     }
 
-    fn bad_rules(&self, here: Option<Occ>, fault: RulesFault) -> ExpandFault {
+    /// The fault of rules that are none.
+    fn bad_rules(&self, here: Option<Occ>, fault: RulesFault) -> ExpandFault
+        ensures { result ≡ told self.now.unit self.now.form.number here (rules_fault fault) }
+    {
         match fault {
             RulesFault::BadShape => fails(here, code::BAD_RULES),
             RulesFault::TwoEllipses => fails(here, code::TWO_ELLIPSES),
             RulesFault::DuplicateVariable(name) => {
                 self.fails_at(here, code::DUPLICATE_VARIABLE, part(name))
             }
-            RulesFault::Depth(name) => {
-                self.fails_at(here, code::ELLIPSIS_DEPTH, part(name))
-            }
+            RulesFault::Depth(name) => { self.fails_at(here, code::ELLIPSIS_DEPTH, part(name)) }
             RulesFault::IdleEllipsis => fails(here, code::IDLE_ELLIPSIS),
             RulesFault::Memory => ExpandFault::Memory,
         }
@@ -173,25 +216,39 @@ impl UnitScope {
         let Some(defined) = self.macros.meaning(self.form.number, meaning) else {
             return Ok(MacroDef {
                 binder,
-                rules: Rules {
-                    ellipsis: None,
-                    literals: Items::new(alloc),
-                    rules: Items::new(alloc),
-                },
+                rules: no_rules(alloc),
                 leaves: Vec::new(alloc),
             });
         };
+        let leaves = self.rule_leaves(alloc, work, defined.scope, defined.leaves.as_slice())?;
+        let rules = copy_rules(alloc, &defined.rules)?;
+        Ok(MacroDef {
+            binder,
+            rules,
+            leaves,
+        })
+    }
+
+    /// The leaves of rules with what they mean in the scope of their macro.
+    fn rule_leaves(
+        &self,
+        alloc: Global,
+        work: &Work,
+        scope: ScopeNo,
+        leaves: &[RuleLeaf],
+    ) -> Mem<Vec<CoreLeaf>>
+        requires look { CanLook work.now self.now scope }
+        requires leaves { (ms : List (ModelLeaf Identifier)) × AreLeaves work.now.symbols leaves.now ms }
+        ensures { (ls : List Frames) (s : ScopedState) (fs : Frames) (ms : List (ModelLeaf Identifier)) → Stands work.now self.now ls s → At ls scope fs →
+            AreLeaves work.now.symbols leaves.now ms → IfOk result (λ found. AllMatch (IsLeaf work.now.symbols s.unit s.form) found.items (map (definition_leaf s fs) ms)) }
+    {
         let mut found = Vec::new(alloc);
-        for leaf in &defined.leaves {
+        for leaf in leaves {
             found.push(CoreLeaf {
-                target: self.target(work, defined.scope, part(leaf.name)),
+                target: self.target(work, scope, part(leaf.name)),
                 literal: leaf.literal,
             })?;
         }
-        Ok(MacroDef {
-            binder,
-            rules: copy_rules(alloc, &defined.rules)?,
-            leaves: found,
-        })
+        Ok(found)
     }
 }
