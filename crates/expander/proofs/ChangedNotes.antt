@@ -22,7 +22,7 @@ use Rattle.expander.specs.declared.asked.Note as code
 use Rattle.expander.specs.declared.asked.Note.TheVariants as notes
 use Rattle.expander.specs.declared.definitions.Coming.{Coming}
 use Rattle.expander.specs.declared.scope.UnitScope.{UnitScope}
-use Rattle.expander.proofs.EqualMeanings.{equal_same}
+use Rattle.expander.proofs.MeantSame.{meant_same}
 
 module _ (work : Work) (u : UnitScope) (ls : List Frames) (t : ScopedState) (c : Coming) (m : model.Meaning) (comes : ComesTo work u ls t c m) where
   pub scope_there : (a : Asking) (p : Place) → PlaceFor work ls a p → a.scope < length u.env.scopes
@@ -58,7 +58,7 @@ module _ (work : Work) (u : UnitScope) (ls : List Frames) (t : ScopedState) (c :
   WillMean a now = (p : Place) → PlaceFor work ls a p → IsMeaning work.symbols t.unit t.form now (means_here t p.frames p.ident)
 
   asks_it : (a : Asking) (now : Meaning) (p : Place) → WillMean a now → PlaceFor work ls a p → meanings_equal now c.bound.meaning ≡ same_meaning (means_here t p.frames p.ident) m
-  asks_it a now p means at = equal_same work.symbols apart told t.unit t.form now c.bound.meaning (means_here t p.frames p.ident) m (means p at) comes.meaning
+  asks_it a now p means at = meant_same work.symbols apart told t.unit t.form now (means_here t p.frames p.ident) (means p at) c.bound.meaning m comes.meaning
 
   taken : (a : Asking) (h k : Bool) (now : Meaning) (q : Note Place) → WillMean a now → NoteFor work ls (notes.LookedUp a h k) q → (meanings_equal now c.bound.meaning && (k || (h && c.is_macro))) ≡ refused_here t m c.is_macro q
   taken a h k now (LookedUp p head keyword) means is =
@@ -76,7 +76,7 @@ module _ (work : Work) (u : UnitScope) (ls : List Frames) (t : ScopedState) (c :
   turned l a h first second (Compared p q held) one two is =
       let x = asks_it l first p one is.0 in
       let y = asks_it a second q two is.1 in
-      let same = equal_same work.symbols apart told t.unit t.form first second (means_here t p.frames p.ident) (means_here t q.frames q.ident) (one p is.0) (two q is.1) in
+      let same = meant_same work.symbols apart told t.unit t.form first (means_here t p.frames p.ident) (one p is.0) second (means_here t q.frames q.ident) (two q is.1) in
       λ j. (x j || y j) && differ (is.2 j) (same j)
 
   pub comparison_changed : (note : code.Note) (l a : Asking) (h : Bool) (first second : Meaning) (q : Note Place) → note ≡ notes.Compared l a h → WillMean l first → WillMean a second → NoteFor work ls note q →

@@ -15,7 +15,6 @@ pub mod BodyScopes
 pub mod ComingDefinitions
 pub mod FormsStand
 pub mod OutcomeLaws
-pub mod EqualMeanings
 pub mod SearchedNotes
 pub mod DefineLaws
 pub mod DefinitionSteps

@@ -1,5 +1,5 @@
 -- The definition of a macro: its rules are looked up, counted and read, and then its name is defined (R7RS 5.4).
-use Rattle.std.proofs.Common.{◌≡◌, ℕ, ◌+◌, ◌≤◌, List, [], ◌∷◌, ◌++◌, Bool, true, false, Option, Some, None, Result, Ok, Err, refl, sym, ap, ◌∙◌, subst, arith}
+use Rattle.std.proofs.Common.{◌≡◌, ℕ, ◌≤◌, List, [], ◌∷◌, ◌++◌, Option, Some, None, Result, Ok, Err, refl, sym, ap, ◌∙◌, subst, arith}
 use Rattle.scheme_model.specs.Ident.{Ident as Identifier}
 use Rattle.scheme_model.specs.Identifiers.{Number}
 use Rattle.scheme_model.specs.ExpansionFaults.{Named}
@@ -9,7 +9,7 @@ use Rattle.scheme_model.specs.Trees.{Tree}
 use Rattle.scheme_model.specs.Cores.{Binder}
 use Rattle.scheme_model.specs.Steps.{Broken, Step, ◌>>=◌, done}
 use Rattle.scheme_model.specs.Expression.{meaning_of}
-use Rattle.scheme_model.specs.Order.{Here, Going, Item, Pass, Pending, Macro, RulesParts, caught, put, noted, told, binder_at, rules_parts_of, rules_parts, rules_note, rules_at, run_syntax}
+use Rattle.scheme_model.specs.Order.{Here, Going, Pass, Pending, Macro, RulesParts, caught, put, noted, told, binder_at, rules_parts_of, rules_parts, rules_note, rules_at, run_syntax}
 use Rattle.scheme_model.specs.ScopedExpansion.{Frames, Place, ScopedState, body_around, bound_next, meaning_next}
 use Rattle.syntax_tree.specs.Meant.{IsMeaning}
 use Rattle.syntax_tree.specs.declared.meaning.Meaning as code_meaning
@@ -19,11 +19,11 @@ use Rattle.core_tree.specs.Names.{IsBinder}
 use Rattle.core_tree.specs.Traces.{IsFault}
 use Rattle.core_tree.specs.declared.cores.Binder as code_binder
 use Rattle.core_tree.specs.declared.traces.FormFault.{FormFault}
-use Rattle.expander.specs.Counts.{with_nodes, CountsSome}
+use Rattle.expander.specs.Counts.{CountsSome}
 use Rattle.expander.specs.State.{IsMacro, Stands}
 use Rattle.expander.specs.Stepped.{spent}
 use Rattle.expander.specs.Kept.{PendingFor, NotesFor, SpotFor}
-use Rattle.expander.specs.Outcomes.{SameForm, Stays, EndsHere}
+use Rattle.expander.specs.Outcomes.{Stays, EndsHere}
 use Rattle.expander.specs.Defining.{Takes, EndsIn}
 use Rattle.expander.specs.RulesTold.{Tests}
 use Rattle.expander.specs.Searched.{searched}
@@ -39,7 +39,7 @@ use Rattle.expander.specs.declared.scope.UnitScope.{UnitScope}
 use Rattle.expander.proofs.CountingStands.{nodes_stand}
 use Rattle.expander.proofs.DefineLaws.{is_in_on}
 use Rattle.expander.proofs.OutcomeLaws.{bound_goes, bound_fails, leaves_itself, stays_itself}
-use Rattle.expander.proofs.DefinitionSteps.{goes_failing, aside_goes, in_fails, in_after_same, caught_fails, rules_there, rules_define_none, binder_here}
+use Rattle.expander.proofs.DefinitionSteps.{goes_failing, aside_goes, in_fails, in_after_same, rules_there, rules_define_none, binder_here}
 
 -- what was bound means itself
 bound_means : (s : ScopedState) (o : Option Number) (i : Identifier) → meaning_next s o i ≡ meaning_of (bound_next s o) i

@@ -1,8 +1,7 @@
 -- The rules of macros where they are defined, by what the code was told.
-use Rattle.std.proofs.Common.{◌≡◌, ℕ, ◌≤◌, List, [], ◌∷◌, ◌++◌, map, reverse, true, false, cond, Option, Some, None, Result, Ok, Err, Bor, refl, sym, ap, ◌∙◌, subst}
+use Rattle.std.proofs.Common.{◌≡◌, ℕ, ◌≤◌, List, [], ◌∷◌, map, true, false, cond, Option, Some, None, Result, Ok, Err, Bor, refl, sym, ap, ◌∙◌, subst}
 use Rattle.std.specs.Option.{option_copied}
 use Rattle.std.proofs.lemmas.Option.{same_Some}
-use Rattle.std.proofs.lemmas.Grind.{reverse_onto}
 use Rattle.scheme_model.specs.Ident.{Ident as Identifier}
 use Rattle.scheme_model.specs.Trees.{Tree, name, atom, list, vector, Trees, no_trees, tree, Tail, proper, dotted, map_tree, map_trees, map_tail}
 use Rattle.scheme_model.specs.Measures.{tree_size}
@@ -35,7 +34,6 @@ use Rattle.core_tree.specs.Names.{IsMacro as IsMacroDef}
 use Rattle.core_tree.specs.declared.cores.MacroDef as code_def
 use Rattle.core_tree.specs.declared.cores.RuleLeaf as code_leaf
 use Rattle.core_tree.specs.Traces.{IsFault}
-use Rattle.expander.specs.Kept.{NoteFor}
 use Rattle.expander.specs.Searched.{searched}
 use Rattle.expander.specs.Seen.{IsRulesHead}
 use Rattle.expander.specs.Told.{rules_fault, told, Tells}
@@ -46,14 +44,12 @@ use Rattle.expander.specs.RulesTold.{definition_leaf}
 use Rattle.expander.specs.State.{IsMacro, IsMacroIfAny, Stands}
 use Rattle.expander.specs.Stepped.{spent}
 use Rattle.expander.specs.Outcomes.{At, Stays, EndsHere}
-use Rattle.expander.specs.declared.asked.Note as code_note
 use Rattle.expander.specs.declared.fault.ExpandFault.{ExpandFault}
 use Rattle.expander.specs.declared.fault.ExpandFault.TheVariants as fault
 use Rattle.expander.specs.declared.heads.Auxiliary as code_auxiliary
 use Rattle.expander.specs.declared.heads.Head.TheVariants as heads
 use Rattle.expander.specs.declared.macros.Macro.{Macro}
 use Rattle.expander.specs.declared.scope.UnitScope.{UnitScope}
-use Rattle.expander.proofs.CountingStands.{all_last}
 use Rattle.expander.proofs.OutcomeLaws.{leaves_itself, here_fails}
 use Rattle.expander.proofs.NodeLaws.{counts_goes, counts_fails}
 use Rattle.expander.proofs.ToldLaws.{bad_rules_are}
