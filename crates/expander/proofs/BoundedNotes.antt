@@ -12,7 +12,8 @@ use Rattle.scheme_model.specs.Order.{Note, LookedUp, Compared, is_some}
 use Rattle.scheme_model.specs.Substitution.{Table, Entries, Clock, Defined, any, differ, defined_in}
 use Rattle.scheme_model.specs.Scopes.{own_of, imported_as, defined_or, given_or}
 use Rattle.scheme_model.specs.ScopedExpansion.{Frames, Bind, Enter, BodyDefinition, BodyDefinitions, UsePlace, Place, ScopedMacro, ScopedState, around, find, defined_as, means_inside, means_outside, means_at, next_number, definition_added, meaning_next, refused_now}
-use Rattle.expander.specs.Searched.{has_layer, speaks_of}
+use Rattle.expander.specs.Searched.{speaks_of}
+use Rattle.expander.specs.Asks.{is_inside}
 use Rattle.scheme_model.proofs.OpenBodies.{NotYet}
 use Rattle.scheme_model.proofs.IdentLaws.{same_turned}
 use Rattle.scheme_model.proofs.Clocks.{next_not_yet}
@@ -43,9 +44,9 @@ foreign_counted w n (Some (Global z i)) h = tt
 foreign_counted w n (Some (Standard s)) h = tt
 foreign_counted w n (Some (Free s)) h = tt
 
-outermost : (x i : Ident) → has_layer x i ≡ false → same_ident x i ≡ false
+outermost : (x i : Ident) → is_inside x i ≡ false → same_ident x i ≡ false
 outermost x (Written u s) h = h
-outermost x (Inserted i k) h = (or_parts (same_ident x (Inserted i k)) (has_layer x i) h).0
+outermost x (Inserted i k) h = (or_parts (same_ident x (Inserted i k)) (is_inside x i) h).0
 
 and_false : (t : Bool) → (t && false) ≡ false
 and_false true = refl
@@ -62,10 +63,10 @@ module _ (d : BodyDefinition) (ds : BodyDefinitions) where
   inside_still (Bind y v ∷ fs) i h m n e = ap (cond (same_ident y i) (Local v)) (inside_still fs i h m n e)
   inside_still (Enter b u ∷ fs) i h m n e = let a = find_still b i h in let c = inside_still fs i h m n e in λ j. defined_as (a j) (c j)
 
-  outside_still : (table : Table) (entry : Entries) (ps : List UsePlace) (i : Ident) → has_layer d.ident i ≡ false → means_outside table entry ps (d ∷ ds) i ≡ means_outside table entry ps ds i
+  outside_still : (table : Table) (entry : Entries) (ps : List UsePlace) (i : Ident) → is_inside d.ident i ≡ false → means_outside table entry ps (d ∷ ds) i ≡ means_outside table entry ps ds i
   outside_still table entry ps (Written u s) h = refl
   outside_still table entry ps (Inserted i k) h =
-      let inner = (or_parts (same_ident d.ident (Inserted i k)) (has_layer d.ident i) h).1 in
+      let inner = (or_parts (same_ident d.ident (Inserted i k)) (is_inside d.ident i) h).1 in
       ap (given_or (own_of table entry k.unit (Inserted i k))) (inside_still (around ps k) i (outermost d.ident i inner) _ _ (outside_still table entry ps i inner))
 
 -- ---- nor does a definition of the unit
@@ -106,10 +107,10 @@ module _ (u : ℕ) (x : Ident) where
         go None = imported i
         go (Some d) = ap (λ t. (v == u) && t) (same_turned i x ∙ h) ∙ and_false (v == u)
 
-    outside_else : (table : Table) (ps : List UsePlace) (ds : BodyDefinitions) (i : Ident) → has_layer x i ≡ false → Else (means_outside table entry ps ds i)
+    outside_else : (table : Table) (ps : List UsePlace) (ds : BodyDefinitions) (i : Ident) → is_inside x i ≡ false → Else (means_outside table entry ps ds i)
     outside_else table ps ds (Written v s) h = given_else (own_of table entry v (Written v s)) (Free s) (own_else table v (Written v s) h) refl
     outside_else table ps ds (Inserted i k) h =
-        let p = or_parts (same_ident x (Inserted i k)) (has_layer x i) h in
+        let p = or_parts (same_ident x (Inserted i k)) (is_inside x i) h in
         given_else (own_of table entry k.unit (Inserted i k)) (means_inside ds (around ps k) i (means_outside table entry ps ds i)) (own_else table k.unit (Inserted i k) p.0)
         (inside_else ds (around ps k) i (means_outside table entry ps ds i) (outside_else table ps ds i p.1))
 
@@ -131,7 +132,7 @@ module _ (w : Era) (s : ScopedState) (g : Bounded w s) where
 
   module _ (n : Named Ident) (r : Option (Rules Ident)) (home : Frames) where
     -- what has no x doesn't mean what the definition gives
-    unspoken : (b : Option Number) (fs : Frames) → BindersCounted w s.locals fs → (i : Ident) → has_layer n.name i ≡ false → same_meaning (means_at (definition_added b n r home s) fs i) (meaning_next s b n.name) ≡ false
+    unspoken : (b : Option Number) (fs : Frames) → BindersCounted w s.locals fs → (i : Ident) → is_inside n.name i ≡ false → same_meaning (means_at (definition_added b n r home s) fs i) (meaning_next s b n.name) ≡ false
     unspoken None fs h i e =
         inside_else s.unit n.name s.definitions fs i (means_outside (definition_added None n r home s).table s.entry s.places s.definitions i)
         (outside_else s.unit n.name s.entry (λ v x. foreign_else n.name (s.entry v x) (g.entries v x)) (definition_added None n r home s).table s.places s.definitions i e)
@@ -148,20 +149,20 @@ module _ (w : Era) (s : ScopedState) (g : Bounded w s) where
       Noted l = BindersCounted w s.locals l.frames
 
       note_spoken : (note : Note Place) → NoteAll Noted note → (speaks_of n.name note && refused note) ≡ refused note
-      note_spoken (LookedUp l head keyword) h = go (has_layer n.name l.ident) refl
+      note_spoken (LookedUp l head keyword) h = go (is_inside n.name l.ident) refl
         where
-          go : (t : Bool) → has_layer n.name l.ident ≡ t → (t && refused (LookedUp l head keyword)) ≡ refused (LookedUp l head keyword)
+          go : (t : Bool) → is_inside n.name l.ident ≡ t → (t && refused (LookedUp l head keyword)) ≡ refused (LookedUp l head keyword)
           go true e = refl
           go false e = sym (ap (λ t. t && (keyword || (head && is_some r))) (unspoken b l.frames h l.ident e))
-      note_spoken (Compared l j held) h = go (has_layer n.name l.ident || has_layer n.name j.ident) refl
+      note_spoken (Compared l j held) h = go (is_inside n.name l.ident || is_inside n.name j.ident) refl
         where
           now : Place → Meaning
           now p = means_at (definition_added b n r home s) p.frames p.ident
 
-          go : (t : Bool) → (has_layer n.name l.ident || has_layer n.name j.ident) ≡ t → (t && refused (Compared l j held)) ≡ refused (Compared l j held)
+          go : (t : Bool) → (is_inside n.name l.ident || is_inside n.name j.ident) ≡ t → (t && refused (Compared l j held)) ≡ refused (Compared l j held)
           go true e = refl
           go false e =
-              let p = or_parts (has_layer n.name l.ident) (has_layer n.name j.ident) e in
+              let p = or_parts (is_inside n.name l.ident) (is_inside n.name j.ident) e in
               let a = unspoken b l.frames h.0 l.ident p.0 in let c = unspoken b j.frames h.1 j.ident p.1 in
               sym (λ i. (a i || c i) && differ held (same_meaning (now l) (now j)))
 

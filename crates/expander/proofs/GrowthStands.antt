@@ -186,7 +186,7 @@ module _ (old new : Work) (trees : KeepsTrees old new) (names : KeepsNames old.s
 
   -- ---- the form at work
 
-  target_on : (unit form : ℕ) (t : code_target.Target) (m : Target) → IsTarget old.symbols unit form t m → IsTarget new.symbols unit form t m
+  pub target_on : (unit form : ℕ) (t : code_target.Target) (m : Target) → IsTarget old.symbols unit form t m → IsTarget new.symbols unit form t m
   target_on unit form t m h = record { meaning = meaning_grows old.symbols new.symbols names apart unit form t.meaning m.meaning h.meaning; ident = names.idents t.ident m.ident h.ident; place = h.place }
 
   use_on : (unit form : ℕ) (u : code_use.MacroUse) (m : MacroUse) → IsUse old.symbols unit form u m → IsUse new.symbols unit form u m

@@ -47,7 +47,7 @@ local_keys unit f g n k =
     λ j. sym same j && (same_either g f j && same_either k n j)
 
 module _ (names : Names) (apart : AreToldApart names.idents) (told : AreToldApart names.symbols) (unit f g : ℕ) where
-  symbol_keys : (n k : ℕ) (x y : List ℕ) → IsSymbol names n x → IsSymbol names k y → nat_eq k n ≡ bytes_eq x y
+  pub symbol_keys : (n k : ℕ) (x y : List ℕ) → IsSymbol names n x → IsSymbol names k y → nat_eq k n ≡ bytes_eq x y
   symbol_keys n k x y p q =
       bool_same (nat_eq k n) (bytes_eq x y)
       (λ h. let same = eqb-true k n h in (bytes_eq-Decides x y).1 (same_Some x y (sym p ∙ (ap (slice_get names.symbols) (sym same) ∙ q))))

@@ -25,6 +25,10 @@ named_fault unit form here code n = fault.At (record { code = code; name = Some 
 abbrev pub with_nodes : UnitScope → ℕ → UnitScope
 with_nodes u n = record u { form = record u.form { budget = record u.form.budget { nodes = u.form.budget.nodes + n } } }
 
+-- nodes are counted, maybe none, and nothing else is done
+abbrev pub CountsSome : UnitScope → UnitScope → Type 0
+CountsSome old new = (n : ℕ) × (old.form.budget.nodes + n ≤ 200000) × (new ≡ with_nodes old n)
+
 -- nodes are counted, or they would be too many
 abbrev pub Counts : UnitScope → UnitScope → Option Occ → ℕ → Result (Unit {0}) ExpandFault → Type 0
 Counts old new here n (Ok u) = (old.form.budget.nodes + n ≤ 200000) × (new ≡ with_nodes old n)

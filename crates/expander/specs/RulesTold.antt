@@ -1,6 +1,10 @@
 -- How the rules of macros are told by the code (R7RS 4.3.1, 5.4).
 use Rattle.std.specs.Prelude.{◌≡◌, List, Result, Ok, Err}
+use Rattle.scheme_model.specs.Ident.{Ident as Identifier}
 use Rattle.scheme_model.specs.Meaning.{Meaning}
+use Rattle.scheme_model.specs.Leaves.{Leaf}
+use Rattle.scheme_model.specs.Cores.{RuleLeaf}
+use Rattle.scheme_model.specs.CountedExpansion.{means_here}
 use Rattle.scheme_model.specs.Steps.{Broken}
 use Rattle.scheme_model.specs.ScopedExpansion.{Frames, ScopedState}
 use Rattle.syntax_tree.specs.Meant.{IsMeaning}
@@ -26,3 +30,7 @@ Tests {Y} work s (Ok passed) p = (y : Y) × (p ≡ (Ok y, s))
 Tests work s (Err (fault.At e)) p = (b : Broken) × (p ≡ (Err b, s)) × IsFault work.symbols s.unit s.form e b
 Tests work s (Err fault.Full) p = ⊥
 Tests work s (Err fault.Memory) p = Unit {0}
+
+-- a leaf of rules with what it means where their macro was defined
+abbrev pub definition_leaf : ScopedState → Frames → Leaf Identifier → RuleLeaf
+definition_leaf s fs l = record { target = record { meaning = means_here s fs l.leaf.name; ident = l.leaf.name; occ = l.leaf.occ }; literal = l.literal }

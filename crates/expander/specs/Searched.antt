@@ -17,16 +17,12 @@ use Rattle.scheme_model.specs.ScopedExpansion.{Frames, Place, ScopedState, body_
 use Rattle.scheme_model.specs.CountedExpansion.{refused_here, counted}
 use Rattle.scheme_model.specs.Program.{Prepared, enough_turns}
 use Rattle.scheme_model.specs.ScopedProgram.{forms_over}
-
--- an identifier is x, or x stands inside it
-abbrev pub has_layer : Ident → Ident → Bool
-has_layer x (Written u s) = same_ident x (Written u s)
-has_layer x (Inserted i k) = same_ident x (Inserted i k) || has_layer x i
+use Rattle.expander.specs.Asks.{is_inside}
 
 -- an identifier of the note has x
 abbrev pub speaks_of : Ident → Note Place → Bool
-speaks_of x (LookedUp l head keyword) = has_layer x l.ident
-speaks_of x (Compared l j held) = has_layer x l.ident || has_layer x j.ident
+speaks_of x (LookedUp p head keyword) = is_inside x p.ident
+speaks_of x (Compared p q held) = is_inside x p.ident || is_inside x q.ident
 
 abbrev pub define_searched : Option Number → Named Ident → Option (Rules Ident) → Frames → Pending Ident Place → ScopedState → Result (Pending Ident Place) (Fault Ident) × ScopedState
 define_searched b n r fs p s =

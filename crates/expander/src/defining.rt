@@ -89,7 +89,9 @@ impl UnitScope {
             GoesOn work.now work.now region self.old self.new ls spot fs p.todo given pending.new asked.now result (λ go. run_define (searched known) go here fs p (Procedure n c) s) }
     {
         if self.is_assigned(spot, name.ident) {
-            pending.aside.push(Kept::AssignedFunction(name, here, clause))?;
+            pending
+                .aside
+                .push(Kept::AssignedFunction(name, here, clause))?;
             return Ok(());
         }
         let binder = self.next_binder(spot, name);
@@ -111,9 +113,9 @@ impl UnitScope {
         requires can { CanGo work.now self.old spot asked.now }
         requires names { (ns : List (Named Identifier)) × Match (IsName work.now) names.now ns }
         requires room { self.old.form.budget.locals + length names.now ≤ most_locals self.old.form.budget.nodes }
-        ensures defined { (known : Known) (region : AnyRegion) (ls : List Frames) (s : ScopedState) (fs : Frames) (ns : List (Named Identifier)) (p : ModelPending Identifier Place) →
+        ensures defined { (known : Known) (ls : List Frames) (s : ScopedState) (fs : Frames) (ns : List (Named Identifier)) (p : ModelPending Identifier Place) →
             Stands work.now self.old ls s → SpotFor work.now self.old ls s spot fs → Match (IsName work.now) names.now ns → NotesFor work.now ls asked.now p.notes →
-            EndsIn (λ bs ms. AllMatch (IsBinder work.now.symbols self.old.unit self.old.form.number) bs.items ms) work.now region self.old self.new ls spot fs result (define_each (searched known) here fs ns p s) }
+            EndsIn (λ bs ms. AllMatch (IsBinder work.now.symbols self.old.unit self.old.form.number) bs.items ms) work.now self.old self.new ls spot fs result (define_each (searched known) here fs ns p s) }
         ensures counts { OnOk result (Takes (length names.now) self.old self.new) }
     {
         let mut binders = Vec::new(alloc);
@@ -167,19 +169,25 @@ impl UnitScope {
     ) -> Result<(), ExpandFault>
         requires can { CanGo work.now self.old spot asked.now }
         requires standing { (m : RecordShape Identifier) × IsRecordFor work.now shape.now m }
+        requires small { length shape.now.fields.items < 2 ^ 32 }
         requires room { (m : RecordShape Identifier) → IsRecordFor work.now shape.now m → self.old.form.budget.locals + length m.fields + length (record_names m) ≤ most_locals self.old.form.budget.nodes }
         ensures { (known : Known) (region : AnyRegion) (ls : List Frames) (s : ScopedState) (fs : Frames) (m : RecordShape Identifier) (p : ModelPending Identifier Place) (given : ℕ) →
             Knows self.old.libraries known → Stands work.now self.old ls s → SpotFor work.now self.old ls s spot fs → IsRecordFor work.now shape.now m →
             PendingFor work.now region self.old.unit self.old.form.number pending.old p → NotesFor work.now ls asked.now p.notes → length m.fields + length (record_names m) ≤ given →
             GoesOn work.now work.now region self.old self.new ls spot fs p.todo given pending.new asked.now result (λ go. run_record (searched known) go here fs p m s) }
     {
-        let fields = self.take_locals(&shape.field_names(alloc)?)?;
-        let binders = self.define_all(alloc, work, spot, here, &shape.names(alloc)?, asked)?;
+        work.symbols.told_apart();
+        let field_names = shape.field_names(alloc)?;
+        let fields = self.take_locals(&field_names)?;
+        let names = shape.names(alloc)?;
+        let binders = self.define_all(alloc, work, spot, here, &names, asked)?;
+        let places = modified(alloc, &shape.fields)?;
+        let uses = used(alloc, &shape.used, &shape.fields)?;
         pending.aside.push(Kept::Record {
             binders,
             fields,
-            modified: modified(alloc, &shape.fields)?,
-            used: used(alloc, &shape.used, &shape.fields)?,
+            modified: places,
+            used: uses,
         })?;
         Ok(())
     }

@@ -1,23 +1,29 @@
 //! The rules of macros where they are defined (R7RS 4.3.1, 5.4): a list whose head means `syntax-rules`.
-ghost use Rattle.std.specs.Prelude.{◌≡◌, List, ◌++◌, Some, IfOk, OnOk};
-ghost use Rattle.scheme_model.specs.Trees.{Tree as ModelTree};
-ghost use Rattle.scheme_model.specs.Order.{rules_parts_of, Note as ModelNote, RulesParts, rules_parts, rules_note, rules_at};
+ghost use Rattle.std.specs.Prelude.{◌≡◌, List, ◌++◌, Some, IfOk, OnOk, [], map, None};
 ghost use Rattle.scheme_model.specs.Ident.{Ident as Identifier};
+ghost use Rattle.scheme_model.specs.Trees.{Tree as ModelTree};
+ghost use Rattle.scheme_model.specs.Order.{rules_parts_of, Note as ModelNote, RulesParts, rules_parts, rules_note, rules_at, is_rules};
 ghost use Rattle.syntax_tree.specs.Works.{StandsFor, IsStanding};
 ghost use Rattle.expander.specs.Seen.{IsRulesHead};
 ghost use Rattle.expander.specs.Told.{rules_fault, told};
 ghost use Rattle.scheme_model.specs.Requirements.{Known};
 ghost use Rattle.scheme_model.specs.Cores.{Binder as ModelBinder};
 ghost use Rattle.scheme_model.specs.Expression.{meaning_of, macro_def};
+ghost use Rattle.scheme_model.specs.Meaning.{Head as ModelHead};
+ghost use Rattle.expander.specs.Heads.{IsHead};
 ghost use Rattle.scheme_model.specs.ScopedExpansion.{Frames, Place, ScopedState};
 ghost use Rattle.syntax_tree.specs.Meant.{IsMeaning};
 ghost use Rattle.syntax_tree.specs.declared.trees.table.Region.{Region as AnyRegion};
-ghost use Rattle.core_tree.specs.Names.{IsBinder, IsMacro as IsMacroDef};
+ghost use Rattle.scheme_model.specs.Leaves.{Leaf as ModelLeaf};
+ghost use Rattle.rules_check.specs.Gathered.{AreLeaves};
+ghost use Rattle.core_tree.specs.Names.{AllMatch, IsBinder, IsLeaf, IsMacro as IsMacroDef};
 ghost use Rattle.expander.specs.Searched.{searched};
 ghost use Rattle.expander.specs.State.{IsMacro, Stands};
 ghost use Rattle.expander.specs.Kept.{NotesFor};
 ghost use Rattle.expander.specs.Outcomes.{At, CanLook, EndsHere};
-ghost use Rattle.expander.specs.RulesTold.{CanTell, Tests};
+ghost use Rattle.expander.specs.RulesTold.{CanTell, Tests, definition_leaf};
+ghost use Rattle.expander.specs.Counts.{CountsSome};
+ghost use Rattle.expander.specs.Asks.{AskedStands};
 
 use crate::asked::{Asked, Asking, Note};
 use crate::counting::{code, fails};
@@ -28,7 +34,7 @@ use crate::scope::UnitScope;
 use core_forms::NamePart;
 use core_tree::cores::{Binder, MacroDef, RuleLeaf as CoreLeaf};
 use ls_base::{Items, Mem};
-use rules_check::{RulesFault, check, leaves};
+use rules_check::{RuleLeaf, RulesFault, check, leaves};
 use scheme_model::Occ;
 use scope_env::ScopeNo;
 use std::alloc::Global;
@@ -70,6 +76,30 @@ fn part(name: Named) -> NamePart
     }
 }
 
+/// No rules, which take no memory.
+fn no_rules(alloc: Global) -> Rules
+    ensures { result ≡ record { ellipsis = None; literals = []; rules = [] } }
+{
+    Rules {
+        ellipsis: None,
+        literals: Items::new(alloc),
+        rules: Items::new(alloc),
+    }
+}
+
+/// Whether a head means `syntax-rules`.
+fn is_rules(head: Head) -> bool
+    ensures { (h : ModelHead) → IsHead head h → result ≡ is_rules h }
+{
+    match head {
+        Head::Auxiliary(Auxiliary::SyntaxRules) => true,
+        Head::Auxiliary(Auxiliary::Unquote) => false,
+        Head::Auxiliary(Auxiliary::UnquoteSplicing) => false,
+        Head::Auxiliary(Auxiliary::Other) => false,
+        Head::Core(_) | Head::Macro | Head::Other => false,
+    }
+}
+
 impl UnitScope {
     /// Notes what the head of rules was taken for.
     pub(crate) fn note_rules(
@@ -81,22 +111,24 @@ impl UnitScope {
     ) -> Mem<()>
         requires look { CanLook work.now self.now scope }
         requires rules { IsStanding work.now rules }
-        ensures { (known : Known) (ls : List Frames) (s : ScopedState) (fs : Frames) (t : ModelTree Identifier) (ns : List (ModelNote Place)) → Stands work.now self.now ls s →
+        ensures stands { AskedStands work.now.symbols asked.old → OnOk result (AskedStands work.now.symbols asked.new) }
+        ensures notes { (known : Known) (ls : List Frames) (s : ScopedState) (fs : Frames) (t : ModelTree Identifier) (ns : List (ModelNote Place)) → Stands work.now self.now ls s →
             At ls scope fs → StandsFor work.now rules t → NotesFor work.now ls asked.old ns →
             OnOk result (NotesFor work.now ls asked.new (rules_note (searched known) fs s (rules_parts_of t) ++ ns)) }
     {
-        if let Some(ident) = rules_head(work, rules) {
-            let keyword = self.head_of(work, scope, ident).is_keyword();
-            let at = Asking { scope, ident };
-            asked.push(
-                &work.symbols,
-                Note::LookedUp {
-                    at,
-                    head: false,
-                    keyword,
-                },
-            )?;
-        }
+        let Some(ident) = rules_head(work, rules) else {
+            return Ok(());
+        };
+        let keyword = self.head_of(work, scope, ident).is_keyword();
+        let at = Asking { scope, ident };
+        asked.push(
+            &work.symbols,
+            Note::LookedUp {
+                at,
+                head: false,
+                keyword,
+            },
+        )?;
         Ok(())
     }
 
@@ -116,12 +148,10 @@ impl UnitScope {
         let Some(ident) = rules_head(work, rules) else {
             return Err(fails(here, code::BAD_FORM));
         };
-        match self.head_of(work, scope, ident) {
-            Head::Auxiliary(Auxiliary::SyntaxRules) => Ok(()),
-            Head::Auxiliary(_) | Head::Core(_) | Head::Macro | Head::Other => {
-                Err(fails(here, code::BAD_FORM))
-            }
+        if !is_rules(self.head_of(work, scope, ident)) {
+            return Err(fails(here, code::BAD_FORM));
         }
+        Ok(())
     }
 
     /// Counts rules and checks them: the macro of this scope that they make.
@@ -138,6 +168,7 @@ impl UnitScope {
         ensures read { (known : Known) (region : AnyRegion) (ls : List Frames) (s : ScopedState) (fs : Frames) (t : ModelTree Identifier) (r : RulesParts Identifier) →
             Stands work.now self.old ls s → At ls scope fs → StandsFor work.now rules t → rules_parts_of t ≡ Some r →
             EndsHere (λ k rs. IsMacro work.now ls k (record { env = fs; rules = rs })) work.now work.now region self.old self.new ls result (rules_at (searched known) here t r s) }
+        ensures nodes { CountsSome self.old self.new }
         ensures counts { OnOk result ((self.new.form.budget.locals ≡ self.old.form.budget.locals) × (self.new.form.budget.uses ≡ self.old.form.budget.uses)) }
     {
         self.count(here, work.size(rules))?;
@@ -185,25 +216,39 @@ impl UnitScope {
         let Some(defined) = self.macros.meaning(self.form.number, meaning) else {
             return Ok(MacroDef {
                 binder,
-                rules: Rules {
-                    ellipsis: None,
-                    literals: Items::new(alloc),
-                    rules: Items::new(alloc),
-                },
+                rules: no_rules(alloc),
                 leaves: Vec::new(alloc),
             });
         };
+        let leaves = self.rule_leaves(alloc, work, defined.scope, defined.leaves.as_slice())?;
+        let rules = copy_rules(alloc, &defined.rules)?;
+        Ok(MacroDef {
+            binder,
+            rules,
+            leaves,
+        })
+    }
+
+    /// The leaves of rules with what they mean in the scope of their macro.
+    fn rule_leaves(
+        &self,
+        alloc: Global,
+        work: &Work,
+        scope: ScopeNo,
+        leaves: &[RuleLeaf],
+    ) -> Mem<Vec<CoreLeaf>>
+        requires look { CanLook work.now self.now scope }
+        requires leaves { (ms : List (ModelLeaf Identifier)) × AreLeaves work.now.symbols leaves.now ms }
+        ensures { (ls : List Frames) (s : ScopedState) (fs : Frames) (ms : List (ModelLeaf Identifier)) → Stands work.now self.now ls s → At ls scope fs →
+            AreLeaves work.now.symbols leaves.now ms → IfOk result (λ found. AllMatch (IsLeaf work.now.symbols s.unit s.form) found.items (map (definition_leaf s fs) ms)) }
+    {
         let mut found = Vec::new(alloc);
-        for leaf in &defined.leaves {
+        for leaf in leaves {
             found.push(CoreLeaf {
-                target: self.target(work, defined.scope, part(leaf.name)),
+                target: self.target(work, scope, part(leaf.name)),
                 literal: leaf.literal,
             })?;
         }
-        Ok(MacroDef {
-            binder,
-            rules: copy_rules(alloc, &defined.rules)?,
-            leaves: found,
-        })
+        Ok(found)
     }
 }
