@@ -116,7 +116,7 @@ chosen_in work r p o matched is h = chosen_by work r p matched (subst (λ (x : O
 pub has_match : (work : Work) (region : Region) (u : UnitScope) (at : code.Use) (o : Option Matched) (matched : Matched) → o ≡ Some matched → IfSome o (λ x. HasMatch work region u at x) → HasMatch work region u at matched
 has_match work region u at o matched is h = subst (λ (x : Option Matched). IfSome x (λ y. HasMatch work region u at y)) is h
 
--- once the use begun
+-- the same once the use was begun
 pub has_match_then : (work : Work) (region : Region) (u v : UnitScope) (at : code.Use) (matched : Matched) (scope : ℕ) → v ≡ with_use_begun u scope → HasMatch work region u at matched → HasMatch work region v at matched
 has_match_then work region u v at matched scope is h =
     subst (λ (w : UnitScope). HasMatch work region w at matched) (sym is) (record { used = h.used; macro = h.macro; of_rules = h.of_rules; named = h.named })
