@@ -16,3 +16,15 @@ pub mod ComingDefinitions
 pub mod FormsStand
 pub mod OutcomeLaws
 pub mod NodeLaws
+pub mod ToldLaws
+pub mod ChoiceLaws
+pub mod QuasiReads
+pub mod ShapeLaws
+pub mod FitLaws
+pub mod CoreStandLaws
+pub mod HeldLaws
+pub mod ReadLaws
+pub mod RowLaws
+pub mod AfterLaws
+pub mod CoreLaws
+pub mod SettleLaws

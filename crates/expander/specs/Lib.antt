@@ -7,6 +7,9 @@ pub mod Binds
 pub mod Stepped
 pub mod Outcomes
 pub mod Judged
+pub mod Marked
+pub mod Told
+pub mod Seen
 pub mod Searched
 pub mod Kept
 pub mod Used

@@ -1,5 +1,5 @@
 //! What bodies and local macros do before their parts are expanded (R7RS 4.3.1, 5.3.2).
-ghost use Rattle.std.specs.Prelude.{◌≡◌, ℕ, ◌+◌, ◌^◌, ◌≤◌, List, IfOk, OnOk, length};
+ghost use Rattle.std.specs.Prelude.{◌≡◌, ℕ, ◌+◌, ◌^◌, ◌≤◌, List, map, IfOk, OnOk, length};
 ghost use Rattle.scheme_model.specs.ExpansionFaults.{Named};
 ghost use Rattle.scheme_model.specs.Ident.{Ident as Identifier};
 ghost use Rattle.scheme_model.specs.Identifiers.{Number};
@@ -39,7 +39,9 @@ use syntax_tree::meaning::Meaning;
 use syntax_tree::trees::{Region, Tree, Work};
 
 /// Where a form stands that was set aside: the scope of its body, and the place that it keeps.
-pub fn in_place(at: At, here: Option<Occ>) -> At {
+pub fn in_place(at: At, here: Option<Occ>) -> At
+    ensures { result ≡ record at { here = here } }
+{
     At {
         scope: at.scope,
         here,
@@ -48,7 +50,9 @@ pub fn in_place(at: At, here: Option<Occ>) -> At {
 }
 
 /// The names of local macros.
-pub fn names_of(alloc: Global, macros: &[LocalMacro]) -> Mem<Vec<NamePart>> {
+pub fn names_of(alloc: Global, macros: &[LocalMacro]) -> Mem<Vec<NamePart>>
+    ensures { IfOk result (λ names. names.items ≡ map (λ m. m.name) macros.now) }
+{
     let mut names = Vec::new(alloc);
     for local in macros {
         names.push(local.name)?;
