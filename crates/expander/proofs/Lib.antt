@@ -28,3 +28,6 @@ pub mod RowLaws
 pub mod AfterLaws
 pub mod CoreLaws
 pub mod SettleLaws
+pub mod PrepareLaws
+pub mod HoleLaws
+pub mod BelowLaws
