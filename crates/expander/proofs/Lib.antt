@@ -31,3 +31,4 @@ pub mod SettleLaws
 pub mod PrepareLaws
 pub mod HoleLaws
 pub mod BelowLaws
+pub mod LoopLaws
