@@ -162,5 +162,5 @@ module _ (known : Known) (depth : ℕ) (here : Option Occ) (work : Work) (region
   reads_fail Q (fault.At e) h =
       let is = h.4 f in
       subst (λ (q : Result Core Broken × ScopedState). Ends Q work work region u v ls (Err (fault.At e)) q) (sym is) (moves_here work work region u v ls h.1 h.2, (h.0, refl, h.3))
-  reads_fail Q fault.Full h = absurd h
+  reads_fail Q fault.Full h = h
   reads_fail Q fault.Memory h = h

@@ -32,3 +32,5 @@ pub mod PrepareLaws
 pub mod HoleLaws
 pub mod BelowLaws
 pub mod LoopLaws
+pub mod FormLaws
+pub mod StepLaws

@@ -63,7 +63,10 @@ module _ (known : Known) (depth turns : ℕ) (old new : Work) (region : Region) 
       let read = next h.0 h.1 h.2.stands h.3 settled.settled in
       let is : p ≡ (Err read.0, read.1) = settled.same ∙ read.4 (expand (searched known) settled.turns_left) in
       subst (λ (q : Result Core Broken × ScopedState). Prepares known depth old new region u v ls fs (Err (fault.At e)) q) (sym is) (stays_on old new new region u w v ls h.1 read.1 h.2 read.2, (read.0, refl, read.3))
-  prepares_unread x fault.Full h next = absurd (next h.0 h.1 h.2.stands h.3 h.4.settled)
+  prepares_unread x fault.Full h next =
+      let m = moves_here old new region u w ls h.1 h.2 in
+      let read = next h.0 h.1 h.2.stands h.3 h.4.settled in
+      (leaves_on old new new region u w ls h.1 m read.0, fills_on old new region u w ls h.1 m read.1)
   prepares_unread x fault.Memory h next = leaves_on old new new region u w ls h.1 (moves_here old new region u w ls h.1 h.2) (next h.0 h.1 h.2.stands h.3 h.4.settled)
 
 pub prepares_unsettled : (known : Known) (depth turns : ℕ) (old new : Work) (region : Region) (u v : UnitScope) (ls : List Frames) (fs : Frames) (p : Result Core Broken × ScopedState) (e : ExpandFault) → Settles known depth turns old new region u v ls fs (Err e) p → Prepares known depth old new region u v ls fs (Err e) p

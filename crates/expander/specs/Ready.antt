@@ -99,7 +99,7 @@ abbrev pub Reads : Known → (depth : ℕ) → Option Occ → Work → Region �
 Reads known depth here work region u v ls fs (Ok x) step = (t : ScopedState) × Stays work work region u v ls t × ReadyFor known depth here work region v.unit v.form.number fs x step t
 Reads known depth here work region u v ls fs (Err (fault.At e)) step =
     (b : Broken) × (t : ScopedState) × Stays work work region u v ls t × IsFault work.symbols t.unit t.form e b × ((f : Expanding) → step f ≡ (Err b, t))
-Reads known depth here work region u v ls fs (Err fault.Full) step = ⊥
+Reads known depth here work region u v ls fs (Err fault.Full) step = Leaves work work region u × MayFill work u
 Reads known depth here work region u v ls fs (Err fault.Memory) step = Leaves work work region u
 
 -- ---- an expression that was settled and read

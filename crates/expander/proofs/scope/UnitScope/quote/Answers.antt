@@ -24,6 +24,8 @@ use Rattle.expander.proofs.SettleLaws.{so_far_settles}
 use Rattle.expander.proofs.PrepareLaws.{prepares}
 use Rattle.expander.proofs.HoleLaws.{quasi_holes}
 use Rattle.expander.proofs.BelowLaws.{node_below}
+use Rattle.expander.proofs.LoopLaws.{runs_more}
+use Rattle.expander.proofs.FormLaws.{quoted_is}
 use Rattle.expander.proofs.scope.UnitScope.quote.Goals as goal
 
 pub overflow_add-size : goal.overflow_add-size
