@@ -1,25 +1,23 @@
 -- The clauses of a `cond-expand`: the first that holds, one clause more, and that all clauses can be read before any is judged.
 use Rattle.std.proofs.lemmas.Bool.Decides.{nat_tests}
-use Rattle.std.proofs.Common.{◌≡◌, ℕ, zero, suc, ◌+◌, ◌<◌, ◌≤◌, List, [], ◌∷◌, length, get_or, drop, Bool, true, false, cond, eqb, Option, Some, None, Result, Ok, Err, refl, sym, ap, ◌∙◌, subst, arith, add-one}
+use Rattle.std.proofs.Common.{◌≡◌, ℕ, zero, suc, ◌+◌, ◌<◌, ◌≤◌, List, [], ◌∷◌, length, get_or, drop, Bool, true, false, eqb, Option, Some, None, Result, Ok, Err, refl, sym, ap, ◌∙◌, subst, arith}
 use Rattle.std.specs.Prelude.{◌&&◌, ◌||◌, not, slice_get, codes, IfSome, if◌then◌else◌}
 use Rattle.std.specs.Option.{option_map}
 use Rattle.std.specs.List.{list_all}
 use Rattle.std.specs.Char.{is_ascii_digit}
 use Rattle.std.specs.Str.{bytes_eq}
-use Rattle.scheme_model.specs.declared.Occ.{Occ}
-use Rattle.scheme_model.specs.Trees.{Atom, Numeral, Quoted, Character, Boolean, Bytes, Tree, name, atom, list, vector, Trees, no_trees, tree, Tail, proper, dotted}
+use Rattle.scheme_model.specs.Trees.{Numeral, Quoted, Character, Boolean, Bytes, Tree, name, atom, list, vector, Trees, no_trees, tree, Tail, proper, dotted}
 use Rattle.scheme_model.specs.ExpansionFaults.{Fault, BadForm, ◌>>◌}
 use Rattle.scheme_model.specs.Shapes.{first_of, one_of, some_of, list_of}
-use Rattle.scheme_model.specs.Requirements.{LibraryName, Known, part_in, part_of, parts_of, library_name_of, holds, all_hold, some_holds, none_holds, is_else, clause_holds, or_chosen, choices, chosen_of}
+use Rattle.scheme_model.specs.Requirements.{Known, part_of, parts_of, library_name_of, holds, all_hold, some_holds, none_holds, is_else, clause_holds, or_chosen, choices, chosen_of}
 use Rattle.scheme_model.specs.Ident.{Ident as Identifier, symbol_of}
 use Rattle.scheme_model.specs.Order.{Here, Ops, given}
 use Rattle.scheme_model.specs.Expression.{Expander, sequence, chosen_sequence}
 use Rattle.scheme_model.specs.Steps.{◌>>=◌}
-use Rattle.syntax_tree.specs.Works.{StandsFor}
 use Rattle.syntax_tree.specs.Looks.{PartsStand}
 use Rattle.syntax_tree.specs.declared.trees.Work.{Work}
 use Rattle.syntax_tree.specs.declared.trees.nodes.Tree as number
-use Rattle.core_forms.specs.Forms.{each_of, choice_of, choices_in}
+use Rattle.core_forms.specs.Forms.{choice_of, choices_in}
 use Rattle.core_forms.specs.Parts.{AllMatch, IsChoice}
 use Rattle.core_forms.proofs.Reading.{grouped}
 use Rattle.core_forms.specs.declared.shape.Choice.{Choice}

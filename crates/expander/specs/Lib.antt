@@ -10,6 +10,7 @@ pub mod Judged
 pub mod Marked
 pub mod Told
 pub mod Seen
+pub mod Asks
 pub mod Searched
 pub mod Kept
 pub mod Used

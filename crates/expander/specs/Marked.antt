@@ -1,9 +1,9 @@
 -- The marks of a quasiquotation by number, and what it counts (R7RS 4.2.8).
 use Rattle.std.specs.Prelude.{◌≡◌, ℕ, ◌+◌, ◌^◌, ◌<◌, List, Bool, Option, Some, None, if◌then◌else◌}
-use Rattle.scheme_model.specs.Trees.{Tree, Trees, Tail}
+use Rattle.scheme_model.specs.Trees.{Tree}
 use Rattle.scheme_model.specs.Measures.{tree_size}
-use Rattle.scheme_model.specs.Building.{stands_in, stands_among}
-use Rattle.scheme_model.specs.Meaning.{Head, head_as}
+use Rattle.scheme_model.specs.Building.{stands_in}
+use Rattle.scheme_model.specs.Meaning.{head_as}
 use Rattle.scheme_model.specs.Quasiquote.{Mark, Nested, Unquoted, Spliced, Pieces, quasi_of}
 use Rattle.scheme_model.specs.Order.{is_some}
 use Rattle.scheme_model.specs.Expression.{mark_of}

@@ -1,5 +1,6 @@
 //! What bodies and local macros do before their parts are expanded (R7RS 4.3.1, 5.3.2).
-ghost use Rattle.std.specs.Prelude.{◌≡◌, ℕ, ◌+◌, ◌^◌, ◌≤◌, List, map, IfOk, OnOk, length};
+ghost use Rattle.std.specs.Prelude.{◌≡◌, map, reverse, IfOk, ℕ, ◌+◌, ◌^◌, ◌≤◌, List, OnOk, length};
+ghost use Rattle.expander.specs.Seen.{form_at};
 ghost use Rattle.scheme_model.specs.ExpansionFaults.{Named};
 ghost use Rattle.scheme_model.specs.Ident.{Ident as Identifier};
 ghost use Rattle.scheme_model.specs.Identifiers.{Number};
@@ -23,6 +24,7 @@ ghost use Rattle.expander.specs.State.{Stands};
 ghost use Rattle.expander.specs.Outcomes.{At as Stand, CanLook, EndsHere, Runs};
 ghost use Rattle.expander.specs.RulesTold.{Tests};
 ghost use Rattle.expander.specs.Defining.{HasNumber};
+
 
 use crate::asked::Asked;
 use crate::expressions::At;
@@ -61,12 +63,16 @@ pub fn names_of(alloc: Global, macros: &[LocalMacro]) -> Mem<Vec<NamePart>>
 }
 
 /// Forms that are to be gone through, the first one last.
-pub fn forms_at(alloc: Global, here: Option<Occ>, forms: &[Tree]) -> Mem<Vec<Form>> {
-    let mut todo = Vec::new(alloc);
-    for tree in forms.iter().rev() {
-        todo.push(Form { here, tree: *tree })?;
-    }
-    Ok(todo)
+pub fn forms_at(alloc: Global, here: Option<Occ>, forms: &[Tree]) -> Mem<Vec<Form>>
+    ensures { IfOk result (λ todo. todo.items ≡ map (form_at here) (reverse forms.now)) }
+{
+    Ok(
+        forms
+            .iter()
+            .rev()
+            .map(|tree| Form { here, tree: *tree })
+            .collect(alloc)?,
+    )
 }
 
 impl UnitScope {

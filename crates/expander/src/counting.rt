@@ -134,4 +134,3 @@ pub fn misread(scope: &UnitScope, here: Option<Occ>, fault: CoreFault) -> Expand
         CoreFault::Memory => ExpandFault::Memory,
     }
 }
-

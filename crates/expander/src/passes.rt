@@ -1,27 +1,27 @@
 //! The forms of a body, or a form of a unit, gone through in order (R7RS 5.3.2, 4.3): macros are used, `begin` and `cond-expand`
 //! are spliced, definitions take effect at once, and all else is set aside.
-ghost use Rattle.std.specs.Prelude.{◌≡◌, ℕ, ◌+◌, ◌∷◌, [], ◌≤◌, ◌<◌, List, Option, Some, IfOk, OnOk, true, length};
-ghost use Rattle.scheme_model.specs.ExpansionFaults.{Named};
+ghost use Rattle.std.specs.Prelude.{◌≡◌, ◌<◌, length, false, Option, Some, ℕ, ◌+◌, ◌∷◌, [], ◌≤◌, List, IfOk, OnOk, true};
+ghost use Rattle.std.specs.Option.{option_map_or};
+ghost use Rattle.scheme_model.specs.Trees.{Tree as ModelTree, list, Trees, tree, Tail};
+ghost use Rattle.scheme_model.specs.Order.{here_at, or_here, read_name, Pending as ModelPending, Form as ModelForm, Note as ModelNote, LookedUp, Transformer, run, run_form, run_core, run_use, splice};
 ghost use Rattle.scheme_model.specs.Ident.{Ident as Identifier};
+ghost use Rattle.syntax_tree.specs.Macros.{IsIdent};
+ghost use Rattle.syntax_tree.specs.Standing.{leaf_tree};
+ghost use Rattle.syntax_tree.specs.Works.{StandsFor, IsStanding, CanName, IsOpened};
+ghost use Rattle.core_forms.specs.Ends.{keyword_as, ShapeFor};
+ghost use Rattle.core_forms.specs.Parts.{IsNameIfAny, IsName};
+ghost use Rattle.expander.specs.Seen.{head_name_of, takes_effect};
+ghost use Rattle.scheme_model.specs.ExpansionFaults.{Named};
 ghost use Rattle.scheme_model.specs.Keywords.{CoreKeyword as ModelKeyword};
 ghost use Rattle.scheme_model.specs.Measures.{tree_size, trees_size};
 ghost use Rattle.scheme_model.specs.Requirements.{Known};
-ghost use Rattle.scheme_model.specs.Trees.{Tree as ModelTree, list, Trees, tree, Tail};
 ghost use Rattle.scheme_model.specs.Cores.{Target as ModelTarget};
 ghost use Rattle.scheme_model.specs.Meaning.{Head as ModelHead, is_keyword};
-ghost use Rattle.scheme_model.specs.Order.{Pending as ModelPending, Form as ModelForm, Note as ModelNote, LookedUp, Transformer, here_at, or_here, read_name, run, run_form, run_core, run_use, splice};
-ghost use Rattle.syntax_tree.specs.Macros.{IsIdent};
-ghost use Rattle.syntax_tree.specs.Standing.{leaf_tree};
-ghost use Rattle.core_forms.specs.Parts.{IsNameIfAny};
-ghost use Rattle.expander.specs.Seen.{head_name_of};
 ghost use Rattle.scheme_model.specs.ScopedExpansion.{Frames, Place, ScopedState};
-ghost use Rattle.syntax_tree.specs.Works.{CanName, IsOpened, IsStanding, StandsFor};
 ghost use Rattle.syntax_tree.specs.Looks.{PartsStand, AllNamed};
 ghost use Rattle.syntax_tree.specs.declared.trees.table.Region.{Region as AnyRegion};
-ghost use Rattle.core_forms.specs.Ends.{keyword_as, ShapeFor};
 ghost use Rattle.core_forms.specs.Forms.{Shape};
 ghost use Rattle.core_forms.specs.Named.{ShapeNamed};
-ghost use Rattle.core_forms.specs.Parts.{IsName};
 ghost use Rattle.core_tree.specs.Names.{IsTarget};
 ghost use Rattle.expander.specs.Heads.{IsHead};
 ghost use Rattle.expander.specs.Judged.{Knows};
@@ -35,6 +35,7 @@ ghost use Rattle.expander.specs.Used.{CanUse, CanNote, UseFor};
 ghost use Rattle.syntax_tree.specs.declared.trees.Work.{Work as AnyWork};
 ghost use Rattle.expander.specs.declared.asked.Asked.{Asked as AnyAsked};
 ghost use Rattle.expander.specs.declared.items.Spot.{Spot as AnySpot};
+
 
 use crate::asked::{Asked, Asking, Note};
 use crate::counting::misread;
@@ -51,7 +52,7 @@ use ls_base::{Items, Mem};
 use scheme_model::Occ;
 use std::alloc::Global;
 use syntax_tree::look::{Look, look_at};
-use syntax_tree::symbols::{IdNo, Ident};
+use syntax_tree::symbols::{Ident, IdNo};
 use syntax_tree::trees::{Leaf, Node, Region, Tree, Work};
 
 /// The place of the innermost form read from a text, once this tree is come to. An identifier that a use inserted wasn't read.
@@ -393,7 +394,9 @@ impl UnitScope {
 }
 
 /// Whether a core form takes effect while forms are gone through.
-fn is_passed(core: CoreKeyword) -> bool {
+fn is_passed(core: CoreKeyword) -> bool
+    ensures { result ≡ option_map_or takes_effect (keyword_as core) false }
+{
     match core {
         CoreKeyword::Begin
         | CoreKeyword::CondExpand

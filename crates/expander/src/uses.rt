@@ -1,23 +1,24 @@
 //! Macro uses (R7RS 4.3.2): which literals mean the same, the rule that matches, and the instance of its template.
-ghost use Rattle.std.specs.Prelude.{◌≡◌, ◌+◌, List, map, filter, Option, Some, IfOk, OnOk};
+ghost use Rattle.std.specs.Prelude.{◌≡◌, map, filter, Option, Some, IfOk, ◌+◌, List, OnOk};
 ghost use Rattle.scheme_model.specs.declared.Occ.{Occ};
-ghost use Rattle.scheme_model.specs.Ident.{Ident as Identifier};
 ghost use Rattle.scheme_model.specs.Trees.{Tree as ModelTree, Trees, Tail};
+ghost use Rattle.scheme_model.specs.Order.{name_in, Transformer, comparisons, use_of};
+ghost use Rattle.scheme_model.specs.Ident.{Ident as Identifier};
+ghost use Rattle.syntax_tree.specs.Standing.{leaf_tree};
+ghost use Rattle.syntax_tree.specs.Works.{StandsFor, IsStanding, CanName, IsOpened};
+ghost use Rattle.core_forms.specs.Parts.{IsNameIfAny};
 ghost use Rattle.scheme_model.specs.Requirements.{Known};
 ghost use Rattle.scheme_model.specs.RulesShape.{role_of, dots_of};
 ghost use Rattle.scheme_model.specs.Matching.{compared};
 ghost use Rattle.scheme_model.specs.Cores.{Target as ModelTarget};
-ghost use Rattle.scheme_model.specs.Order.{Transformer, comparisons, use_of, name_in};
-ghost use Rattle.syntax_tree.specs.Standing.{leaf_tree};
-ghost use Rattle.core_forms.specs.Parts.{IsNameIfAny};
 ghost use Rattle.scheme_model.specs.ScopedExpansion.{Frames, ScopedState};
 ghost use Rattle.syntax_tree.specs.Macros.{identifiers};
-ghost use Rattle.syntax_tree.specs.Works.{CanName, IsOpened, StandsFor, IsStanding};
 ghost use Rattle.core_tree.specs.Names.{AllMatch};
 ghost use Rattle.expander.specs.Searched.{searched};
 ghost use Rattle.expander.specs.State.{Stands};
 ghost use Rattle.expander.specs.Used.{UseFor, CanUse, ComparisonFor, AreHeld};
 ghost use Rattle.expander.specs.Outcomes.{At, WorksOn, EndsHere};
+
 use crate::counting::{MAX_NODES, code, fails};
 use crate::fault::ExpandFault;
 use crate::scope::UnitScope;
@@ -238,7 +239,10 @@ fn leaf_name(work: &Work, leaf: Leaf, occ: Option<Occ>) -> Option<NamePart>
 }
 
 /// A keyword as a name.
-fn name_of(keyword: Target) -> NamePart {
+fn name_of(keyword: Target) -> NamePart
+    ensures ident { result.ident ≡ keyword.ident }
+    ensures place { result.occ ≡ keyword.occ }
+{
     NamePart {
         ident: keyword.ident,
         occ: keyword.occ,
