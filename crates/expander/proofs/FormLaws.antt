@@ -104,6 +104,15 @@ quasi_or_not word.SyntaxError c h = apart_by word.SyntaxError (Some IsSyntaxErro
 quasi_or_not word.Include c h = apart_by word.Include (Some IsInclude) c (λ e. absurd cc) (λ e. absurd cc) h
 quasi_or_not word.IncludeCi c h = apart_by word.IncludeCi (Some IsInclude) c (λ e. absurd cc) (λ e. absurd cc) h
 
+-- some marks are told
+pub marks_there : (work : Work) (k : code_keyword.CoreKeyword) (c : CoreKeyword) (marks : List QuasiMark) (m : Identifier → Option Mark) → keyword_as k ≡ Some c → (k ≡ word.Quasiquote → AreMarks work marks m) → ((k ≡ word.Quasiquote → ⊥) → marks ≡ []) →
+    (n : Identifier → Option Mark) × AreMarks work marks n
+marks_there work k c marks m is are none =
+    elim (quasi_or_not k c is) [
+      | inl quasi ↦ (m, are quasi)
+      | inr other ↦ (λ i. None, subst (λ (ms : List QuasiMark). AreMarks work ms (λ i. None)) (sym (none other.0)) (no_marks work))
+    ]
+
 -- the form was parsed by its marks, so it was as the definition reads it
 pub parsed_as : (work : Work) (k : code_keyword.CoreKeyword) (c : CoreKeyword) (marks : List QuasiMark) (mark : Identifier → Option Mark) (head : Tree Identifier) (ts : Trees Identifier) (tail : Tail Identifier) (o : Option Occ) (result : Result code_shape.CoreShape CoreFault) →
     keyword_as k ≡ Some c → (k ≡ word.Quasiquote → AreMarks work marks (mark_within (list (tree head ts) tail o) mark)) → ((k ≡ word.Quasiquote → ⊥) → marks ≡ []) →

@@ -41,3 +41,4 @@ pub mod BelowLaws
 pub mod LoopLaws
 pub mod FormLaws
 pub mod StepLaws
+pub mod ListLaws

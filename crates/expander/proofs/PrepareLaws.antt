@@ -24,7 +24,8 @@ use Rattle.std.specs.Prelude.{Vec}
 use Rattle.std.specs.declared.alloc.Global.{Global}
 use Rattle.expander.specs.CoreSteps.{core_step}
 use Rattle.expander.specs.State.{Stands}
-use Rattle.expander.specs.Outcomes.{Stays, Ends, WorksOn, IsEnough, IsEnoughBelow}
+use Rattle.std.specs.Result.{IsErrAnd}
+use Rattle.expander.specs.Outcomes.{At, Stays, Ends, WorksOn, IsEnough, IsEnoughBelow}
 use Rattle.expander.specs.Passed.{ShapeFits}
 use Rattle.expander.specs.Ready.{Expanding, IsSettled, Settled, Settles, ReadyFor, Reads, Prepares}
 use Rattle.expander.specs.Searched.{searched}
@@ -35,7 +36,7 @@ use Rattle.expander.specs.declared.fault.ExpandFault.TheVariants as fault
 use Rattle.expander.specs.declared.scope.UnitScope.{UnitScope}
 use Rattle.expander.proofs.OutcomeLaws.{stays_on, moves_here, here_ends, leaves_on, fills_on}
 use Rattle.expander.proofs.NodeLaws.{here_done}
-use Rattle.expander.proofs.AfterLaws.{enough_less, enough_below_later, stays_then}
+use Rattle.expander.proofs.AfterLaws.{IsAfter, stays_after, enough_less, enough_below_later, stays_then}
 
 module _ (known : Known) (depth turns : ℕ) (old new : Work) (region : Region) (u w v : UnitScope) (ls : List Frames) (fs : Frames) (p : Result Core Broken × ScopedState) where
   -- what is read behind uses
@@ -109,3 +110,18 @@ module _ (known : Known) (depth : ℕ) (old mid : Work) (region : Region) (u w :
       subst (λ (q : Result Core Broken × ScopedState). Ends Q old new region u v ls result q) (sym all)
       (stays_then Q old mid new region u w v ls h.2 result (core_step f (searched known) depth here fs h.6.0 h.6.1 h.2) h.3
       (next h.0 h.6.0 h.6.1 h.2 h.3.stands h.4 h.6.2 h.6.3))
+
+-- ---- faults and looks
+
+pub prepares_err : (known : Known) (depth : ℕ) (old new : Work) (region : Region) (u v : UnitScope) (ls : List Frames) (fs : Frames) (p : Result Core Broken × ScopedState) (r : Result (Option Occ × code_ready.Ready) ExpandFault) (x : ExpandFault) → IsErrAnd r (λ g. g ≡ x) →
+    Prepares known depth old new region u v ls fs (Err x) p → Prepares known depth old new region u v ls fs r p
+prepares_err known depth old new region u v ls fs p (Ok y) x is h = absurd is
+prepares_err known depth old new region u v ls fs p (Err g) x is h = subst (λ (e : ExpandFault). Prepares known depth old new region u v ls fs (Err e) p) (sym is) h
+
+pub settles_after : (known : Known) (depth turns : ℕ) (old new : Work) (region : Region) (u v : UnitScope) (scope : ℕ) (ls : List Frames) (fs : Frames) (x : number.Tree × Option Occ) (p : Result Core Broken × ScopedState) → At ls scope fs → Settles known depth turns old new region u v ls fs (Ok x) p →
+    IsAfter old new region u v scope
+settles_after known depth turns old new region u v scope ls fs x p at h = stays_after old new region u v scope ls fs h.1 at h.2
+
+pub prepares_after : (known : Known) (depth : ℕ) (old new : Work) (region : Region) (u v : UnitScope) (scope : ℕ) (ls : List Frames) (fs : Frames) (x : Option Occ × code_ready.Ready) (p : Result Core Broken × ScopedState) → At ls scope fs → Prepares known depth old new region u v ls fs (Ok x) p →
+    IsAfter old new region u v scope
+prepares_after known depth old new region u v scope ls fs x p at h = stays_after old new region u v scope ls fs h.2 at h.3

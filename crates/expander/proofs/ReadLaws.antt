@@ -175,3 +175,12 @@ head_named work (list (tree (vector us p) ts) tail o) x h = absurd h
 -- its head is no macro's
 pub named_settled : (known : Known) (work : Work) (s : ScopedState) (fs : Frames) (t : Tree Identifier) (x : NamePart) (h : HeadNamed work t x) → not_macro (head_of (searched known) fs s h.ident) → IsSettled known s fs t
 named_settled known work s fs t x h plain = subst (λ (u : Tree Identifier). IsSettled known s fs u) (sym h.is) plain
+
+-- ---- whole trees
+
+-- the tree is a name
+pub named_tree : (work : Work) (t : Tree Identifier) (x : NamePart) → IsNameIfAny work (Some x) (name_in t) → (i : Identifier) × (o : Option Occ) × (t ≡ name i o) × IsName work x (record { name = i; occ = o })
+named_tree work (name i o) x h = (i, o, refl, h)
+named_tree work (atom a o) x h = absurd h
+named_tree work (list ts tail o) x h = absurd h
+named_tree work (vector ts o) x h = absurd h

@@ -1,5 +1,5 @@
 -- How an expression is read in the code, up to its parts that are to be expanded (R7RS 4.1, 4.2).
-use Rattle.std.specs.Prelude.{◌≡◌, ℕ, suc, List, Bool, true, false, Option, Some, None, Result, Ok, Err}
+use Rattle.std.specs.Prelude.{◌≡◌, ◌⊎◌, ℕ, suc, List, [], Vec, Bool, true, false, Option, Some, None, Result, Ok, Err}
 use Rattle.scheme_model.specs.declared.Occ.{Occ}
 use Rattle.scheme_model.specs.Ident.{Ident as Identifier}
 use Rattle.scheme_model.specs.Keywords.{CoreKeyword}
@@ -27,7 +27,8 @@ use Rattle.core_forms.specs.declared.shape.CoreShape as code_shape
 use Rattle.core_tree.specs.Cores.{CoreStands}
 use Rattle.core_tree.specs.Traces.{IsFault}
 use Rattle.core_tree.specs.declared.cores.Core as code_core
-use Rattle.expander.specs.Counts.{Begins}
+use Rattle.std.specs.declared.alloc.Global.{Global}
+use Rattle.expander.specs.Counts.{plain_fault, Begins}
 use Rattle.expander.specs.CoreSteps.{core_step}
 use Rattle.expander.specs.Outcomes.{Stays, Leaves, MayFill, Breaks, WorksOn, IsEnough, IsEnoughBelow}
 use Rattle.expander.specs.Passed.{ShapeFits}
@@ -68,6 +69,39 @@ IsMacroKeyword work known s fs t (Some keyword) =
     (i : Identifier) × (p : Option Occ) × (ts : Trees Identifier) × (tail : Tail Identifier) × (o : Option Occ) × (m : Transformer Frames Identifier)
     × (t ≡ list (tree (name i p) ts) tail o) × IsTarget work.symbols s.unit s.form keyword (target_of (searched known) fs s i p)
     × (head_of (searched known) fs s i ≡ IsMacro (means_here s fs i)) × (macro_at s.macros (means_here s fs i) ≡ Some m)
+
+-- ---- lists
+
+abbrev pub not_core : Head → Type 0
+not_core (IsCore k) = ⊥
+not_core (IsAuxiliary a) = Unit {0}
+not_core (IsMacro m) = Unit {0}
+not_core IsNone = Unit {0}
+
+-- no keyword of a core form is at the head
+abbrev pub IsPlain : Known → ScopedState → Frames → Tree Identifier → Type 0
+IsPlain known s fs (name i o) = Unit {0}
+IsPlain known s fs (atom a o) = Unit {0}
+IsPlain known s fs (vector ts o) = Unit {0}
+IsPlain known s fs (list no_trees tail o) = Unit {0}
+IsPlain known s fs (list (tree (name i p) ts) tail o) = not_core (head_of (searched known) fs s i)
+IsPlain known s fs (list (tree (atom a p) ts) tail o) = Unit {0}
+IsPlain known s fs (list (tree (list us end p) ts) tail o) = Unit {0}
+IsPlain known s fs (list (tree (vector us p) ts) tail o) = Unit {0}
+
+-- the keyword of a core form; or there is none
+abbrev pub IsCoreKeyword : Work → Known → ScopedState → Frames → Tree Identifier → Option (code_keyword.CoreKeyword × code_target.Target) → Type 0
+IsCoreKeyword work known s fs t None = IsPlain known s fs t
+IsCoreKeyword work known s fs t (Some k) =
+    (i : Identifier) × (p : Option Occ) × (ts : Trees Identifier) × (tail : Tail Identifier) × (o : Option Occ) × (c : CoreKeyword)
+    × (t ≡ list (tree (name i p) ts) tail o) × (keyword_as k.0 ≡ Some c) × (head_of (searched known) fs s i ≡ IsCore c) × IsTarget work.symbols s.unit s.form k.1 (target_of (searched known) fs s i p)
+
+-- the parts of a call, or that they are none
+abbrev pub IsCall : List number.Tree → Option number.Tree → Option Occ → Result (Vec number.Tree Global) ExpandFault → Type 0
+IsCall ns tail here (Ok parts) = (parts.items ≡ ns) × (tail ≡ None) × (ns ≡ [] → ⊥)
+IsCall ns tail here (Err (fault.At e)) = (fault.At e ≡ plain_fault here 31) × ((tail ≡ None → ⊥) ⊎ (ns ≡ []))
+IsCall ns tail here (Err fault.Full) = ⊥
+IsCall ns tail here (Err fault.Memory) = Unit {0}
 
 -- what is come to when all macros at the head are used: the same core in fewer turns, which are still enough
 pub record Settled (known : Known) (depth turns : ℕ) (fs : Frames) (u v : UnitScope) (p : Result Core Broken × ScopedState) (here : Option Occ) (t : Tree Identifier) (s : ScopedState) : Type 0 where

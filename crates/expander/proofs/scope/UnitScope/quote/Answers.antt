@@ -26,6 +26,8 @@ use Rattle.expander.proofs.HoleLaws.{quasi_holes}
 use Rattle.expander.proofs.BelowLaws.{node_below}
 use Rattle.expander.proofs.LoopLaws.{runs_more}
 use Rattle.expander.proofs.FormLaws.{quoted_is}
+use Rattle.expander.proofs.StepLaws.{node_runs}
+use Rattle.expander.proofs.ListLaws.{call_reads}
 use Rattle.expander.proofs.scope.UnitScope.quote.Goals as goal
 
 pub overflow_add-size : goal.overflow_add-size
