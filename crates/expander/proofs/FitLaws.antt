@@ -98,8 +98,7 @@ clause_size ts tail c h =
     let at = b.then in
     let g : Clause Identifier = record { formals = f.first; body = b.first } in
     let e : g ≡ c = cc in
-    let few = first_size ts a.first a.read in
-    (
+    let few = first_size ts a.first a.read in (
       omega (arith, ap (λ (x : Clause Identifier). length x.formals.names) e, formals_count a.first.0 f.first f.read, few),
       omega (arith, ap (λ (x : Clause Identifier). trees_size x.body) e, ap trees_size (some_is a.first.1 b.first tail b.read), few),
     )

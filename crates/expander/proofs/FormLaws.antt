@@ -227,7 +227,6 @@ here_unread {X} P known depth here work region u v ls fs step p x (Err g) is sam
 
 -- ---- which shape the code has
 
-
 pub quoted_is : (work : Work) (x : code_shape.CoreShape) (n : number.Tree) (m : Shape) → x ≡ shapes.Quote n → ShapeFor work x m → (t : Tree Identifier) × (m ≡ Quoted t) × StandsFor work n t
 quoted_is work x n (Quoted t) e h = (t, refl, let same : h.0 ≡ n = cc in subst (λ (k : number.Tree). StandsFor work k t) same h.2)
 quoted_is work x n (Quasi t p) e h = let at = h.1.1.1 in absurd cc

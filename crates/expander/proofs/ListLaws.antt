@@ -150,8 +150,7 @@ module _ (known : Known) (depth : ℕ) (here : Option Occ) (work : Work) (region
 
   pub call_reads : (v : Vec number.Tree Global) → AllNamed work region ns → IsCall ns tail here (Ok v) → Reads known depth here work region u u ls fs (Ok (ready.Call v)) reading
   call_reads v nameable h =
-      let ended : end ≡ proper = no_end work end (subst (λ (e : Option number.Tree). EndStands work e end) h.1 behind) in
-      (
+      let ended : end ≡ proper = no_end work end (subst (λ (e : Option number.Tree). EndStands work e end) h.1 behind) in (
         s,
         stays_itself work region u ls s stands,
         (

@@ -47,8 +47,7 @@ module _ (known : Known) (depth turns : ℕ) (old new : Work) (region : Region) 
   prepares x r h next =
       let settled = h.4 in
       let read = next h.0 h.1 h.2.stands h.3 settled.settled in
-      let less = enough_less depth w.form.budget.uses settled.turns_left settled.enough in
-      (
+      let less = enough_less depth w.form.budget.uses settled.turns_left settled.enough in (
         settled.turns_left,
         λ f. expression f (searched known) depth x.1 fs h.0 h.1,
         read.0,

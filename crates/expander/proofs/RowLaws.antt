@@ -63,7 +63,6 @@ take_drop (suc k) (x ∷ xs) = ap (λ zs. x ∷ zs) (take_drop k xs)
 
 -- ---- steps in a row
 
-
 module _ {A Y : Type 0} (f : A → Step ScopedState Y) where
   abbrev pub row : List A → Step ScopedState (List Y)
   row [] s = done [] s
@@ -142,9 +141,9 @@ module _ {A X Y : Type 0} (f : A → Step ScopedState Y) (P Q : X → Y → Type
   row_fails {V} R xs x k es e split h next =
       let before = row f (take k es) s in
       let here : Ends (λ layout. AllMatch Q) a c region u v ls (Err x) (row f (take (suc k) es) s) =
-          subst (λ (q : Result (List Y) Broken × ScopedState). Ends (λ layout. AllMatch Q) a c region u v ls (Err x) q) (sym (ap (λ (zs : List A). row f zs s) split ∙ row_last f (take k es) e s))
-          (ends_then (λ layout. AllMatch P) (λ layout. AllMatch Q) a b c region u w v ls xs (Err x) before (last f e) h
-          (λ ys m held. ends_fails (λ layout. Q) (λ layout. AllMatch Q) b c region w v m.layout x (f e before.1) (λ y. done (ys ++ y ∷ [])) (next m))) in
+      subst (λ (q : Result (List Y) Broken × ScopedState). Ends (λ layout. AllMatch Q) a c region u v ls (Err x) q) (sym (ap (λ (zs : List A). row f zs s) split ∙ row_last f (take k es) e s))
+      (ends_then (λ layout. AllMatch P) (λ layout. AllMatch Q) a b c region u w v ls xs (Err x) before (last f e) h
+      (λ ys m held. ends_fails (λ layout. Q) (λ layout. AllMatch Q) b c region w v m.layout x (f e before.1) (λ y. done (ys ++ y ∷ [])) (next m))) in
       subst (λ (q : Result (List Y) Broken × ScopedState). Ends R a c region u v ls (Err x) q) (sym (ap (λ (zs : List A). row f zs s) (take_drop (suc k) es) ∙ row_more f (take (suc k) es) (drop (suc k) es) s))
       (ends_fails (λ layout. AllMatch Q) R a c region u v ls x (row f (take (suc k) es) s) (more f (drop (suc k) es)) here)
 

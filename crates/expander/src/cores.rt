@@ -63,7 +63,9 @@ impl UnitScope {
                 let below = self.below(at, 1)?;
                 Ok(Core::Call(self.expand_all(alloc, work, region, below, &parts)?))
             }
-            Ready::Shape(core, shape) => Ok(self.expand_shape(alloc, work, region, at, core, shape)?),
+            Ready::Shape(core, shape) => Ok(self.expand_shape(
+                alloc, work, region, at, core, shape,
+            )?),
         }
     }
 
@@ -295,38 +297,71 @@ impl UnitScope {
         ensures locals { OnOk result (Spends 0 self.old self.new) }
     {
         match kept {
-            Kept::Expression(form) => Ok(CorePart::Expression(self.expand(alloc, work, region, in_place(at, form.here), form.tree)?)),
+            Kept::Expression(form) => Ok(CorePart::Expression(self.expand(
+                alloc,
+                work,
+                region,
+                in_place(at, form.here),
+                form.tree,
+            )?)),
             Kept::Value(binder, form) => {
                 let value = self.expand(alloc, work, region, in_place(at, form.here), form.tree)?;
-                Ok(CorePart::Define { binder: *binder, value })
+                Ok(CorePart::Define {
+                    binder: *binder,
+                    value,
+                })
             }
             Kept::Function(binder, here, clause) => {
                 let value = self.lambda(alloc, work, region, in_place(at, *here), clause)?;
-                Ok(CorePart::Define { binder: *binder, value })
+                Ok(CorePart::Define {
+                    binder: *binder,
+                    value,
+                })
             }
             Kept::Assigned(name, form) => {
                 let below = self.below(in_place(at, form.here), 1)?;
                 let target = self.target(work, at.scope, *name);
                 let value = self.expand(alloc, work, region, below, form.tree)?;
-                Ok(CorePart::Expression(Core::Set { target, value: Box::new(alloc, value)? }))
+                Ok(CorePart::Expression(Core::Set {
+                    target,
+                    value: Box::new(alloc, value)?,
+                }))
             }
             Kept::AssignedFunction(name, here, clause) => {
                 let below = self.below(in_place(at, *here), 1)?;
                 let target = self.target(work, at.scope, *name);
                 let value = self.lambda(alloc, work, region, below, clause)?;
-                Ok(CorePart::Expression(Core::Set { target, value: Box::new(alloc, value)? }))
+                Ok(CorePart::Expression(Core::Set {
+                    target,
+                    value: Box::new(alloc, value)?,
+                }))
             }
-            Kept::Values { binders, dotted, form } => {
+            Kept::Values {
+                binders,
+                dotted,
+                form,
+            } => {
                 let value = self.expand(alloc, work, region, in_place(at, form.here), form.tree)?;
-                Ok(CorePart::Values { binders: Vec::from_slice(alloc, binders)?, dotted: *dotted, value })
+                Ok(CorePart::Values {
+                    binders: Vec::from_slice(alloc, binders)?,
+                    dotted: *dotted,
+                    value,
+                })
             }
-            Kept::Record { binders, fields, modified, used } => Ok(CorePart::Fields {
+            Kept::Record {
+                binders,
+                fields,
+                modified,
+                used,
+            } => Ok(CorePart::Fields {
                 binders: Vec::from_slice(alloc, binders)?,
                 fields: Vec::from_slice(alloc, fields)?,
                 modified: Vec::from_slice(alloc, modified)?,
                 used: Vec::from_slice(alloc, used)?,
             }),
-            Kept::Macro(binder, meaning) => Ok(CorePart::Syntax(self.macro_def(alloc, work, *binder, *meaning)?)),
+            Kept::Macro(binder, meaning) => Ok(CorePart::Syntax(self.macro_def(
+                alloc, work, *binder, *meaning,
+            )?)),
         }
     }
 

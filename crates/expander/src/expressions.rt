@@ -178,13 +178,7 @@ impl UnitScope {
     }
 
     /// Reads an expression without a macro at its head.
-    fn read(
-        &mut self,
-        alloc: Global,
-        work: &Work,
-        at: At,
-        form: Tree,
-    ) -> Result<Ready, ExpandFault>
+    fn read(&mut self, alloc: Global, work: &Work, at: At, form: Tree) -> Result<Ready, ExpandFault>
         requires look { CanLook work.now self.old at.scope }
         requires form { IsStanding work.now form }
         ensures read { (known : Known) (region : AnyRegion) (ls : List Frames) (s : ScopedState) (fs : Frames) (t : ModelTree Identifier) → Knows self.old.libraries known → Stands work.now self.old ls s →
@@ -231,12 +225,7 @@ impl UnitScope {
     }
 
     /// The keyword of a form, where it is that of a core form.
-    fn core_keyword(
-        &self,
-        work: &Work,
-        scope: ScopeNo,
-        form: Tree,
-    ) -> Option<(CoreKeyword, Target)>
+    fn core_keyword(&self, work: &Work, scope: ScopeNo, form: Tree) -> Option<(CoreKeyword, Target)>
         requires look { CanLook work.now self.now scope }
         requires form { IsStanding work.now form }
         ensures { (known : Known) (ls : List Frames) (s : ScopedState) (fs : Frames) (t : ModelTree Identifier) → Stands work.now self.now ls s → Stand ls scope fs → StandsFor work.now form t →

@@ -27,4 +27,3 @@ mod uses;
 pub use fault::ExpandFault;
 pub use items::Item;
 pub use scope::{Budget, Imported, UnitScope};
-
