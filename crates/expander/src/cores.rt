@@ -21,7 +21,7 @@ ghost use Rattle.expander.specs.Searched.{searched};
 ghost use Rattle.expander.specs.Kept.{ClauseFor, KeptFor};
 ghost use Rattle.expander.specs.Passed.{ShapeFits};
 ghost use Rattle.expander.specs.Outcomes.{CanLook, IsAtWork, IsEnough, IsEnoughBelow, HasRoom, Runs, Spends};
-ghost use Rattle.expander.specs.Expanded.{AreAtWork, ClauseStands, macros_step, ShapeAtWork, ClauseAtWork, ClausesAtWork, KeptAtWork, AreKeptAtWork, MacrosAtWork};
+ghost use Rattle.expander.specs.Expanded.{AreAtWork, BodyAtWork, ClauseStands, macros_step, ShapeAtWork, ClauseAtWork, ClausesAtWork, KeptAtWork, AreKeptAtWork, MacrosAtWork};
 
 use crate::bodies::{in_place, names_of};
 use crate::counting::{code, fails};
@@ -55,19 +55,17 @@ impl UnitScope {
             Runs (λ ls. CoreStands work.new self.new.unit self.new.form.number) work.old work.new region.now self.old self.new at.scope result (λ known fs. expand (searched known) turns at.depth at.here fs (whole t)) }
         ensures locals { OnOk result (Spends 0 self.old self.new) }
     {
-        let (form, here) = self.settle(alloc, work, region, at, form)?;
-        let at = At {
-            scope: at.scope,
-            here,
-            depth: at.depth,
-        };
-        match self.read(alloc, work, at, form)? {
+        let (here, ready) = self.ready(alloc, work, region, at, form)?;
+        let at = in_place(at, here);
+        match ready {
             Ready::Core(core) => Ok(core),
             Ready::Call(parts) => {
                 let below = self.below(at, 1)?;
                 Ok(Core::Call(self.expand_all(alloc, work, region, below, &parts)?))
             }
-            Ready::Shape(core, shape) => Ok(self.expand_shape(alloc, work, region, at, core, shape)?),
+            Ready::Shape(core, shape) => Ok(self.expand_shape(
+                alloc, work, region, at, core, shape,
+            )?),
         }
     }
 
@@ -146,8 +144,8 @@ impl UnitScope {
             CoreShape::Set { name, value } => {
                 self.test_variable(work, at, name)?;
                 let below = self.below(at, 1)?;
-                let value = self.expand(alloc, work, region, below, value)?;
                 let target = self.target(work, at.scope, name);
+                let value = self.expand(alloc, work, region, below, value)?;
                 Ok(Core::Set {
                     target,
                     value: Box::new(alloc, value)?,
@@ -184,6 +182,8 @@ impl UnitScope {
             Runs (λ ls. ClauseStands work.new self.new.unit self.new.form.number) work.old work.new region.now self.old self.new at.scope result (λ known fs. procedure (expand (searched known) turns) (searched known) at.depth at.here fs c) }
         ensures locals { OnOk result (Spends 0 self.old self.new) }
     {
+        work.symbols.told_apart();
+        self.env.sound();
         let (scope, binders) = self.bind_names(at.scope, &clause.formals.names)?;
         let inside = At {
             scope,
@@ -236,7 +236,7 @@ impl UnitScope {
     ) -> Result<Core, ExpandFault>
         requires opened { IsOpened work.old region.now }
         requires look { CanLook work.old self.old at.scope }
-        requires forms { AreAtWork work.old region.now forms.now }
+        requires forms { BodyAtWork work.old region.now forms.now }
         requires room { HasRoom (2 ^ 42) self.old }
         ensures runs { (ts : Trees Identifier) (turns : ℕ) → PartsStand work.old forms.now ts → IsEnough at.depth self.old.form.budget.uses turns →
             Runs (λ ls. CoreStands work.new self.new.unit self.new.form.number) work.old work.new region.now self.old self.new at.scope result (λ known fs. expand (searched known) turns at.depth at.here fs (body ts)) }
@@ -297,36 +297,71 @@ impl UnitScope {
         ensures locals { OnOk result (Spends 0 self.old self.new) }
     {
         match kept {
-            Kept::Expression(form) => Ok(CorePart::Expression(self.expand(alloc, work, region, in_place(at, form.here), form.tree)?)),
+            Kept::Expression(form) => Ok(CorePart::Expression(self.expand(
+                alloc,
+                work,
+                region,
+                in_place(at, form.here),
+                form.tree,
+            )?)),
             Kept::Value(binder, form) => {
                 let value = self.expand(alloc, work, region, in_place(at, form.here), form.tree)?;
-                Ok(CorePart::Define { binder: *binder, value })
+                Ok(CorePart::Define {
+                    binder: *binder,
+                    value,
+                })
             }
             Kept::Function(binder, here, clause) => {
                 let value = self.lambda(alloc, work, region, in_place(at, *here), clause)?;
-                Ok(CorePart::Define { binder: *binder, value })
+                Ok(CorePart::Define {
+                    binder: *binder,
+                    value,
+                })
             }
             Kept::Assigned(name, form) => {
                 let below = self.below(in_place(at, form.here), 1)?;
+                let target = self.target(work, at.scope, *name);
                 let value = self.expand(alloc, work, region, below, form.tree)?;
-                Ok(CorePart::Expression(self.assigned(alloc, work, at, *name, value)?))
+                Ok(CorePart::Expression(Core::Set {
+                    target,
+                    value: Box::new(alloc, value)?,
+                }))
             }
             Kept::AssignedFunction(name, here, clause) => {
                 let below = self.below(in_place(at, *here), 1)?;
+                let target = self.target(work, at.scope, *name);
                 let value = self.lambda(alloc, work, region, below, clause)?;
-                Ok(CorePart::Expression(self.assigned(alloc, work, at, *name, value)?))
+                Ok(CorePart::Expression(Core::Set {
+                    target,
+                    value: Box::new(alloc, value)?,
+                }))
             }
-            Kept::Values { binders, dotted, form } => {
+            Kept::Values {
+                binders,
+                dotted,
+                form,
+            } => {
                 let value = self.expand(alloc, work, region, in_place(at, form.here), form.tree)?;
-                Ok(CorePart::Values { binders: Vec::from_slice(alloc, binders)?, dotted: *dotted, value })
+                Ok(CorePart::Values {
+                    binders: Vec::from_slice(alloc, binders)?,
+                    dotted: *dotted,
+                    value,
+                })
             }
-            Kept::Record { binders, fields, modified, used } => Ok(CorePart::Fields {
+            Kept::Record {
+                binders,
+                fields,
+                modified,
+                used,
+            } => Ok(CorePart::Fields {
                 binders: Vec::from_slice(alloc, binders)?,
                 fields: Vec::from_slice(alloc, fields)?,
                 modified: Vec::from_slice(alloc, modified)?,
                 used: Vec::from_slice(alloc, used)?,
             }),
-            Kept::Macro(binder, meaning) => Ok(CorePart::Syntax(self.macro_def(alloc, work, *binder, *meaning)?)),
+            Kept::Macro(binder, meaning) => Ok(CorePart::Syntax(self.macro_def(
+                alloc, work, *binder, *meaning,
+            )?)),
         }
     }
 
@@ -394,12 +429,14 @@ impl UnitScope {
         requires opened { IsOpened work.old region.now }
         requires look { CanLook work.old self.old at.scope }
         requires macros { MacrosAtWork work.old macros.now }
-        requires forms { AreAtWork work.old region.now forms.now }
+        requires forms { BodyAtWork work.old region.now forms.now }
         requires room { HasRoom (2 ^ 43) self.old }
         ensures runs { (m : LocalMacros Identifier) (turns : ℕ) → AreMacros work.old macros.now m.names m.rules → PartsStand work.old forms.now m.body → IsEnoughBelow at.depth self.old.form.budget.uses turns →
             Runs (λ ls. CoreStands work.new self.new.unit self.new.form.number) work.old work.new region.now self.old self.new at.scope result (λ known fs. macros_step recursive (expand (searched known) turns) (searched known) at.depth at.here fs m) }
         ensures locals { OnOk result (Spends 0 self.old self.new) }
     {
+        work.symbols.told_apart();
+        self.env.sound();
         let (scope, binders) = self.bind_names(at.scope, &names_of(alloc, macros)?)?;
         let rules_at = if recursive { scope } else { at.scope };
         self.test_all_rules(work, rules_at, at.here, macros)?;
@@ -410,9 +447,10 @@ impl UnitScope {
             here: below.here,
             depth: below.depth,
         };
+        let macros = self.local_defs(alloc, work, &binders)?;
         let body = self.body(alloc, work, region, inside, forms)?;
         Ok(Core::LetSyntax {
-            macros: self.local_defs(alloc, work, &binders)?,
+            macros,
             body: Box::new(alloc, body)?,
         })
     }

@@ -4,11 +4,14 @@ ghost use Rattle.scheme_model.specs.ExpansionFaults.{Named};
 ghost use Rattle.scheme_model.specs.Ident.{Ident as Identifier};
 ghost use Rattle.scheme_model.specs.Keywords.{CoreKeyword as ModelKeyword};
 ghost use Rattle.scheme_model.specs.Requirements.{Known};
-ghost use Rattle.scheme_model.specs.Order.{head_of};
-ghost use Rattle.scheme_model.specs.Trees.{Tree as ModelTree, list, Trees, tree, Tail};
-ghost use Rattle.scheme_model.specs.Expression.{whole, expand, expression, core_form, quote, reference};
+ghost use Rattle.scheme_model.specs.Order.{Transformer, head_of, use_of};
+ghost use Rattle.scheme_model.specs.Cores.{Target as ModelTarget, Const};
+ghost use Rattle.scheme_model.specs.Steps.{done};
+ghost use Rattle.expander.specs.Used.{CanUse, UseFor};
+ghost use Rattle.scheme_model.specs.Trees.{Atom, Tree as ModelTree, atom, list, Trees, tree, Tail};
+ghost use Rattle.scheme_model.specs.Expression.{whole, expand, expression, core_form, node, quote, reference};
 ghost use Rattle.scheme_model.specs.ScopedExpansion.{Frames, ScopedState};
-ghost use Rattle.syntax_tree.specs.Works.{IsOpened, IsStanding, StandsFor};
+ghost use Rattle.syntax_tree.specs.Works.{IsOpened, IsStanding, StandsFor, CanName};
 ghost use Rattle.syntax_tree.specs.Looks.{PartsStand, EndStands, AllNamed};
 ghost use Rattle.syntax_tree.specs.declared.trees.table.Region.{Region as AnyRegion};
 ghost use Rattle.core_forms.specs.Ends.{keyword_as};
@@ -19,21 +22,24 @@ ghost use Rattle.expander.specs.Searched.{searched};
 ghost use Rattle.expander.specs.State.{Stands};
 ghost use Rattle.expander.specs.Outcomes.{At as Stand, CanLook, EndsHere, IsAtWork, WorksOn, IsEnough};
 ghost use Rattle.expander.specs.Defining.{HasNumber};
-ghost use Rattle.expander.specs.Ready.{IsSettled, Settles, Reads, TestsVariable, BeginsBelow};
+ghost use Rattle.expander.specs.Stepped.{with_keyword};
+ghost use Rattle.expander.specs.Ready.{IsSettled, IsMacroKeyword, IsCoreKeyword, IsCall, Prepares, Settles, Reads, TestsVariable, BeginsBelow};
 
 use crate::counting::{code, fails, fails_with, misread};
 use crate::fault::ExpandFault;
 use crate::heads::Head;
 use crate::passes::{head_name, here_at};
 use crate::scope::UnitScope;
-use crate::uses::{Use, held};
+use crate::sizes::trees_fit;
+use crate::uses::{Use, held, name_at};
 use core_forms::{CoreKeyword, CoreShape, NamePart, parse_core};
 use core_tree::cores::{Core, Target};
-use ls_base::Text;
+use ls_base::{Mem, Text};
 use scheme_model::Occ;
 use scope_env::ScopeNo;
 use std::alloc::Global;
-use syntax_tree::trees::{Leaf, Node, Region, Tree, Work};
+use syntax_tree::look::{Look, look_at};
+use syntax_tree::trees::{Region, Tree, Work};
 
 /// Where an expression stands: its scope, the innermost form read from a text around it, and how much depth is left.
 #[derive(Clone, Copy, Debug)]
@@ -54,9 +60,54 @@ pub enum Ready {
     Shape(CoreKeyword, CoreShape),
 }
 
+/// The parts of a call: a proper list of one tree or more.
+fn call_parts(
+    alloc: Global,
+    here: Option<Occ>,
+    items: &[Tree],
+    tail: Option<Tree>,
+) -> Result<Vec<Tree>, ExpandFault>
+    ensures { IsCall items.now tail here result }
+{
+    if tail.is_some() {
+        return Err(fails(here, code::BAD_FORM));
+    }
+    if items.is_empty() {
+        return Err(fails(here, code::BAD_FORM));
+    }
+    Ok(Vec::from_slice(alloc, items)?)
+}
+
 impl UnitScope {
+    /// An expression without a macro at its head, and the place of the innermost form read around it.
+    pub(crate) fn ready(
+        &mut self,
+        alloc: Global,
+        work: &mut Work,
+        region: &Region,
+        at: At,
+        form: Tree,
+    ) -> Result<(Option<Occ>, Ready), ExpandFault>
+        requires opened { IsOpened work.old region.now }
+        requires look { CanLook work.old self.old at.scope }
+        requires form { IsAtWork work.old region.now form }
+        ensures ready { (known : Known) (turns : ℕ) (ls : List Frames) (s : ScopedState) (fs : Frames) (t : ModelTree Identifier) → Knows self.old.libraries known → Stands work.old self.old ls s → Stand ls at.scope fs →
+            WorksOn work.old region.now form t → IsEnough at.depth self.old.form.budget.uses turns →
+            Prepares known at.depth work.old work.new region.now self.old self.new ls fs result (expand (searched known) turns at.depth at.here fs (whole t) s) }
+        ensures locals { OnOk result (self.new.form.budget.locals ≡ self.old.form.budget.locals) }
+    {
+        let (form, here) = self.settle(alloc, work, region, at, form)?;
+        let at = At {
+            scope: at.scope,
+            here,
+            depth: at.depth,
+        };
+        let ready = self.read(alloc, work, at, form)?;
+        Ok((here, ready))
+    }
+
     /// Uses macros until none is at the head: the form that is come to, and the place of the innermost form read around it.
-    pub(crate) fn settle(
+    fn settle(
         &mut self,
         alloc: Global,
         work: &mut Work,
@@ -81,31 +132,53 @@ impl UnitScope {
                 keyword,
                 form,
             };
-            let (_, comparisons) = self.compare(alloc, work, use_at)?;
-            let same = held(alloc, &comparisons)?;
-            form = self.apply(alloc, work, region, use_at, &same)?;
+            form = self.make_use(alloc, work, region, use_at)?;
             here = here_at(work, form, here);
         }
         Ok((form, here))
     }
 
+    /// Makes a macro use: the tree that it gives.
+    fn make_use(
+        &mut self,
+        alloc: Global,
+        work: &mut Work,
+        region: &Region,
+        at: Use,
+    ) -> Result<Tree, ExpandFault>
+        requires opened { IsOpened work.old region.now }
+        requires usable { CanUse work.old self.old at }
+        requires named { CanName work.old region.now at.form }
+        ensures used { (known : Known) (ls : List Frames) (s : ScopedState) (fs : Frames) (keyword : ModelTarget) (m : Transformer Frames Identifier) (ts : Trees Identifier) (tail : Tail Identifier) →
+            Stands work.old self.old ls s → Stand ls at.scope fs → UseFor work.old s at keyword m ts tail →
+            EndsHere (WorksOn work.new region.now) work.old work.new region.now self.old self.new ls result (use_of (searched known) at.here fs keyword m ts tail s) }
+        ensures counted { OnOk result (self.new.form.budget.uses ≡ self.old.form.budget.uses + 1) }
+        ensures locals { OnOk result (self.new.form.budget.locals ≡ self.old.form.budget.locals) }
+    {
+        work.symbols.told_apart();
+        let (_, comparisons) = self.compare(alloc, work, at)?;
+        let same = held(alloc, &comparisons)?;
+        self.apply(alloc, work, region, at, &same)
+    }
+
     /// The keyword of a form, where it is a macro use.
-    fn macro_keyword(&self, work: &Work, scope: ScopeNo, form: Tree) -> Option<Target> {
+    fn macro_keyword(&self, work: &Work, scope: ScopeNo, form: Tree) -> Option<Target>
+        requires look { CanLook work.now self.now scope }
+        requires form { IsStanding work.now form }
+        ensures { (known : Known) (ls : List Frames) (s : ScopedState) (fs : Frames) (t : ModelTree Identifier) → Stands work.now self.now ls s → Stand ls scope fs → StandsFor work.now form t →
+            IsMacroKeyword work.now known s fs t result }
+    {
         let name = head_name(work, form)?;
         match self.head_of(work, scope, name.ident) {
             Head::Macro => Some(self.target(work, scope, name)),
-            Head::Core(_) | Head::Auxiliary(_) | Head::Other => None,
+            Head::Core(_) => None,
+            Head::Auxiliary(_) => None,
+            Head::Other => None,
         }
     }
 
     /// Reads an expression without a macro at its head.
-    pub(crate) fn read(
-        &mut self,
-        alloc: Global,
-        work: &Work,
-        at: At,
-        form: Tree,
-    ) -> Result<Ready, ExpandFault>
+    fn read(&mut self, alloc: Global, work: &Work, at: At, form: Tree) -> Result<Ready, ExpandFault>
         requires look { CanLook work.now self.old at.scope }
         requires form { IsStanding work.now form }
         ensures read { (known : Known) (region : AnyRegion) (ls : List Frames) (s : ScopedState) (fs : Frames) (t : ModelTree Identifier) → Knows self.old.libraries known → Stands work.now self.old ls s →
@@ -113,25 +186,14 @@ impl UnitScope {
             Reads known at.depth at.here work.now region self.old self.new ls fs result (λ f. expression f (searched known) at.depth at.here fs t s) }
         ensures locals { OnOk result (self.new.form.budget.locals ≡ self.old.form.budget.locals) }
     {
-        match work.node(form) {
-            Node::Atom {
-                leaf: Leaf::Name(ident),
-                occ,
-            } => {
-                let name = NamePart {
-                    ident: *ident,
-                    occ: *occ,
-                };
-                Ok(Ready::Core(self.reference(work, at, name)?))
-            }
-            Node::Atom { .. } => {
-                self.begin_node(at.here, 2, at.depth)?;
-                Ok(Ready::Core(Core::Const(form)))
-            }
-            Node::Vector { .. } => Ok(Ready::Core(self.quote(work, at, form)?)),
-            Node::List { items, tail, .. } => {
-                self.read_list(alloc, work, at, form, items.as_slice(), *tail)
-            }
+        if let Some(name) = name_at(work, form) {
+            return Ok(Ready::Core(self.reference(work, at, name)?));
+        }
+        match look_at(work, form) {
+            Look::Name(_) => Ok(Ready::Core(self.constant(work, at, form)?)),
+            Look::Atom(_) => Ok(Ready::Core(self.constant(work, at, form)?)),
+            Look::Vector(_) => Ok(Ready::Core(self.quote(work, at, form)?)),
+            Look::List(items, tail) => self.read_list(alloc, work, at, form, items, tail),
         }
     }
 
@@ -153,17 +215,37 @@ impl UnitScope {
             Reads known at.depth at.here work.now region self.old self.new ls fs result (λ f. expression f (searched known) at.depth at.here fs (list ts end o) s) }
         ensures locals { OnOk result (self.new.form.budget.locals ≡ self.old.form.budget.locals) }
     {
-        if let Some(name) = head_name(work, form) {
-            if let Head::Core(core) = self.head_of(work, at.scope, name.ident) {
-                let keyword = self.target(work, at.scope, name);
-                self.form.trace.keywords.push(keyword)?;
-                return self.read_form(alloc, work, at, core, form);
+        match self.core_keyword(work, at.scope, form) {
+            Some((core, keyword)) => {
+                self.meet_keyword(keyword)?;
+                self.read_form(alloc, work, at, core, form)
             }
+            None => Ok(Ready::Call(call_parts(alloc, at.here, items, tail)?)),
         }
-        if tail.is_some() || items.is_empty() {
-            return Err(fails(at.here, code::BAD_FORM));
+    }
+
+    /// The keyword of a form, where it is that of a core form.
+    fn core_keyword(&self, work: &Work, scope: ScopeNo, form: Tree) -> Option<(CoreKeyword, Target)>
+        requires look { CanLook work.now self.now scope }
+        requires form { IsStanding work.now form }
+        ensures { (known : Known) (ls : List Frames) (s : ScopedState) (fs : Frames) (t : ModelTree Identifier) → Stands work.now self.now ls s → Stand ls scope fs → StandsFor work.now form t →
+            IsCoreKeyword work.now known s fs t result }
+    {
+        let name = head_name(work, form)?;
+        match self.head_of(work, scope, name.ident) {
+            Head::Core(core) => Some((core, self.target(work, scope, name))),
+            Head::Auxiliary(_) => None,
+            Head::Macro => None,
+            Head::Other => None,
         }
-        Ok(Ready::Call(Vec::from_slice(alloc, items)?))
+    }
+
+    /// One more keyword was met.
+    fn meet_keyword(&mut self, keyword: Target) -> Mem<()>
+        ensures { OnOk result (self.new ≡ with_keyword self.old keyword) }
+    {
+        self.form.trace.keywords.push(keyword)?;
+        Ok(())
     }
 
     /// Reads a core form.
@@ -183,6 +265,7 @@ impl UnitScope {
             Reads known at.depth at.here work.now region self.old self.new ls fs result (λ f. core_form f (searched known) at.depth at.here fs c ts end s) }
         ensures locals { OnOk result (self.new.form.budget.locals ≡ self.old.form.budget.locals) }
     {
+        trees_fit(work);
         let marks = self.marks(alloc, work, at.scope, core, form)?;
         let shape = match parse_core(alloc, work, core, form, true, &marks) {
             Ok(shape) => shape,
@@ -199,6 +282,17 @@ impl UnitScope {
         }
     }
 
+    /// A constant.
+    fn constant(&mut self, work: &Work, at: At, form: Tree) -> Result<Core, ExpandFault>
+        requires look { CanLook work.now self.old at.scope }
+        ensures constant { (known : Known) (region : AnyRegion) (ls : List Frames) (s : ScopedState) (a : Atom) (o : Option Occ) → Stands work.now self.old ls s → StandsFor work.now form (atom a o) →
+            EndsHere (CoreStands work.now self.old.unit self.old.form.number) work.now work.now region self.old self.new ls result (node (searched known) at.here 2 at.depth (λ below. done (Const a)) s) }
+        ensures locals { OnOk result (self.new.form.budget.locals ≡ self.old.form.budget.locals) }
+    {
+        self.begin_node(at.here, 2, at.depth)?;
+        Ok(Core::Const(form))
+    }
+
     /// A datum that stands for itself.
     fn quote(&mut self, work: &Work, at: At, datum: Tree) -> Result<Core, ExpandFault>
         requires look { CanLook work.now self.old at.scope }
@@ -207,6 +301,7 @@ impl UnitScope {
             EndsHere (CoreStands work.now self.old.unit self.old.form.number) work.now work.now region self.old self.new ls result (quote (searched known) at.depth at.here t s) }
         ensures locals { OnOk result (self.new.form.budget.locals ≡ self.old.form.budget.locals) }
     {
+        trees_fit(work);
         self.begin_node(at.here, work.size(datum) + 1, at.depth)?;
         Ok(Core::Quote(datum))
     }

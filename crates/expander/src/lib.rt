@@ -21,6 +21,7 @@ mod prelude;
 mod quasi;
 mod requirements;
 mod scope;
+mod sizes;
 mod syntax;
 mod unit;
 mod uses;
@@ -29,4 +30,3 @@ pub use fault::ExpandFault;
 pub use items::Item;
 pub use prelude::units_go_on;
 pub use scope::{Budget, Imported, UnitScope};
-
