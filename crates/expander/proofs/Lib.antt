@@ -15,3 +15,4 @@ pub mod BodyScopes
 pub mod ComingDefinitions
 pub mod FormsStand
 pub mod OutcomeLaws
+pub mod NodeLaws
