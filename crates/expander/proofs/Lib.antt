@@ -14,5 +14,14 @@ pub mod DefinedMacros
 pub mod BodyScopes
 pub mod ComingDefinitions
 pub mod FormsStand
+pub mod JudgeLaws
+pub mod QuasiMarks
+pub mod QuasiReads
+pub mod AskLaws
+pub mod AskedSearch
+pub mod ToldLaws
+pub mod LeafLaws
+pub mod SeenLaws
+pub mod ChoiceLaws
 pub mod OutcomeLaws
 pub mod NodeLaws

@@ -140,6 +140,10 @@ IsBadForm here (faults.At e) r = (r ≡ Err BadForm) × (faults.At e ≡ plain_f
 IsBadForm here faults.Full r = ⊥
 IsBadForm here faults.Memory r = Unit {0}
 
+-- trees that stand for the forms of the clause at a place
+abbrev pub IsClauseForms : Work → List (Tree Identifier × Trees Identifier) → ℕ → Vec number.Tree Global → Type 0
+IsClauseForms work ps k ns = (ts : Trees Identifier) × (forms_of ps (Some k) ≡ Some ts) × AreTrees work ns ts
+
 abbrev pub Chooses : Work → Option Occ → Result (Option (Vec number.Tree Global)) ExpandFault → Result (Option (Trees Identifier)) (Fault Identifier) → Type 0
 Chooses work here (Ok None) r = r ≡ Ok None
 Chooses work here (Ok (Some ns)) r = (ts : Trees Identifier) × (r ≡ Ok (Some ts)) × AreTrees work ns ts
@@ -149,6 +153,9 @@ Chooses work here (Err e) r = IsBadForm here e r
 abbrev pub some_chosen : Option (Trees Identifier) → Result (Trees Identifier) (Fault Identifier)
 some_chosen None = Err BadForm
 some_chosen (Some ts) = some_of ts proper
+
+abbrev pub forms_chosen : Known → List (Tree Identifier × Trees Identifier) → Result (Trees Identifier) (Fault Identifier)
+forms_chosen known ps = chosen_among known ps >> some_chosen
 
 abbrev pub ChoosesForms : Work → Option Occ → Result (Vec number.Tree Global) ExpandFault → Result (Trees Identifier) (Fault Identifier) → Type 0
 ChoosesForms work here (Ok ns) r = (ts : Trees Identifier) × (r ≡ Ok ts) × AreTrees work ns ts

@@ -7,6 +7,10 @@ pub mod Binds
 pub mod Stepped
 pub mod Outcomes
 pub mod Judged
+pub mod Marked
+pub mod Told
+pub mod Seen
+pub mod Asks
 pub mod Searched
 pub mod Kept
 pub mod Used

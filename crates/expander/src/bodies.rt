@@ -1,5 +1,6 @@
 //! What bodies and local macros do before their parts are expanded (R7RS 4.3.1, 5.3.2).
-ghost use Rattle.std.specs.Prelude.{◌≡◌, ℕ, ◌+◌, ◌^◌, ◌≤◌, List, IfOk, OnOk, length};
+ghost use Rattle.std.specs.Prelude.{◌≡◌, map, reverse, IfOk, ℕ, ◌+◌, ◌^◌, ◌≤◌, List, OnOk, length};
+ghost use Rattle.expander.specs.Seen.{form_at};
 ghost use Rattle.scheme_model.specs.ExpansionFaults.{Named};
 ghost use Rattle.scheme_model.specs.Ident.{Ident as Identifier};
 ghost use Rattle.scheme_model.specs.Identifiers.{Number};
@@ -24,6 +25,7 @@ ghost use Rattle.expander.specs.Outcomes.{At as Stand, CanLook, EndsHere, Runs};
 ghost use Rattle.expander.specs.RulesTold.{Tests};
 ghost use Rattle.expander.specs.Defining.{HasNumber};
 
+
 use crate::asked::Asked;
 use crate::expressions::At;
 use crate::fault::ExpandFault;
@@ -39,7 +41,9 @@ use syntax_tree::meaning::Meaning;
 use syntax_tree::trees::{Region, Tree, Work};
 
 /// Where a form stands that was set aside: the scope of its body, and the place that it keeps.
-pub fn in_place(at: At, here: Option<Occ>) -> At {
+pub fn in_place(at: At, here: Option<Occ>) -> At
+    ensures { result ≡ record at { here = here } }
+{
     At {
         scope: at.scope,
         here,
@@ -48,7 +52,9 @@ pub fn in_place(at: At, here: Option<Occ>) -> At {
 }
 
 /// The names of local macros.
-pub fn names_of(alloc: Global, macros: &[LocalMacro]) -> Mem<Vec<NamePart>> {
+pub fn names_of(alloc: Global, macros: &[LocalMacro]) -> Mem<Vec<NamePart>>
+    ensures { IfOk result (λ names. names.items ≡ map (λ m. m.name) macros.now) }
+{
     let mut names = Vec::new(alloc);
     for local in macros {
         names.push(local.name)?;
@@ -57,12 +63,16 @@ pub fn names_of(alloc: Global, macros: &[LocalMacro]) -> Mem<Vec<NamePart>> {
 }
 
 /// Forms that are to be gone through, the first one last.
-pub fn forms_at(alloc: Global, here: Option<Occ>, forms: &[Tree]) -> Mem<Vec<Form>> {
-    let mut todo = Vec::new(alloc);
-    for tree in forms.iter().rev() {
-        todo.push(Form { here, tree: *tree })?;
-    }
-    Ok(todo)
+pub fn forms_at(alloc: Global, here: Option<Occ>, forms: &[Tree]) -> Mem<Vec<Form>>
+    ensures { IfOk result (λ todo. todo.items ≡ map (form_at here) (reverse forms.now)) }
+{
+    Ok(
+        forms
+            .iter()
+            .rev()
+            .map(|tree| Form { here, tree: *tree })
+            .collect(alloc)?,
+    )
 }
 
 impl UnitScope {

@@ -1,5 +1,6 @@
 //! Counts within their budgets, and the faults of forms.
 ghost use Rattle.std.specs.Prelude.{◌≡◌, ◌≤◌};
+ghost use Rattle.expander.specs.Told.{core_fault, told};
 ghost use Rattle.expander.specs.Counts.{plain_fault, text_fault, named_fault, placed_in, Counts, Begins};
 
 use crate::fault::ExpandFault;
@@ -119,8 +120,11 @@ impl UnitScope {
         Ok(depth - 1)
     }
 }
+
 /// The fault of a core form that was misread.
-pub fn misread(scope: &UnitScope, here: Option<Occ>, fault: CoreFault) -> ExpandFault {
+pub fn misread(scope: &UnitScope, here: Option<Occ>, fault: CoreFault) -> ExpandFault
+    ensures { result ≡ told scope.now.unit scope.now.form.number here (core_fault fault) }
+{
     match fault {
         CoreFault::BadForm => fails(here, code::BAD_FORM),
         CoreFault::DuplicateBinder(name) => scope.fails_at(here, code::DUPLICATE_BINDER, name),
@@ -130,4 +134,3 @@ pub fn misread(scope: &UnitScope, here: Option<Occ>, fault: CoreFault) -> Expand
         CoreFault::Memory => ExpandFault::Memory,
     }
 }
-

@@ -1,15 +1,21 @@
 //! The definitions of each kind, as they are gone through (R7RS 5.3 to 5.5).
-ghost use Rattle.std.specs.Prelude.{◌≡◌, ℕ, ◌+◌, ◌≤◌, ◌<◌, List, Vec, Option, IfOk, OnOk, length};
+ghost use Rattle.std.specs.Prelude.{◌≡◌, ◌++◌, ◌^◌, ◌<◌, ℕ, List, length, map, filter_map, position, unwrap_or, nat_eq, IfOk, OnOk, ◌+◌, ◌≤◌, Vec, Option};
+ghost use Rattle.std.specs.BTreeMap.{get};
+ghost use Rattle.std.specs.Ordering.{nat_cmp};
 ghost use Rattle.scheme_model.specs.ExpansionFaults.{Named};
+ghost use Rattle.scheme_model.specs.Shapes.{FieldShape as ModelField, RecordShape, Formals as ModelFormals, Clause as ModelClause, Variable, Procedure};
+ghost use Rattle.scheme_model.specs.Order.{record_names, modified, Pending as ModelPending, run_define, run_values, run_record, run_syntax};
 ghost use Rattle.scheme_model.specs.Ident.{Ident as Identifier, same_ident};
+ghost use Rattle.syntax_tree.specs.Names.{AreToldApart};
+ghost use Rattle.syntax_tree.specs.declared.trees.Work.{Work as AnyWork};
+ghost use Rattle.core_forms.specs.Parts.{IsName, IsField, AreNames, AllMatch as Match, IsFormals};
+ghost use Rattle.core_forms.specs.Ends.{IsRecord};
+ghost use Rattle.core_tree.specs.Names.{IsField as IsUse, AllMatch, IsBinder};
+ghost use Rattle.expander.specs.Seen.{used_fields};
 ghost use Rattle.scheme_model.specs.Requirements.{Known};
 ghost use Rattle.scheme_model.specs.Trees.{Tree as ModelTree};
-ghost use Rattle.scheme_model.specs.Shapes.{Formals as ModelFormals, Clause as ModelClause, Variable, Procedure, RecordShape};
-ghost use Rattle.scheme_model.specs.Order.{Pending as ModelPending, run_define, run_values, run_record, run_syntax, record_names};
 ghost use Rattle.scheme_model.specs.ScopedExpansion.{Frames, Place, ScopedState};
 ghost use Rattle.syntax_tree.specs.declared.trees.table.Region.{Region as AnyRegion};
-ghost use Rattle.core_forms.specs.Parts.{IsName, AllMatch as Match, IsFormals};
-ghost use Rattle.core_tree.specs.Names.{AllMatch, IsBinder};
 ghost use Rattle.expander.specs.Judged.{Knows};
 ghost use Rattle.expander.specs.Searched.{searched};
 ghost use Rattle.expander.specs.State.{Stands, most_locals};
@@ -19,6 +25,7 @@ ghost use Rattle.expander.specs.Outcomes.{WorksOn};
 ghost use Rattle.expander.specs.Defining.{CanGo, HasNumber, Takes, EndsIn, define_each};
 ghost use Rattle.expander.specs.Passed.{GoesOn};
 ghost use Rattle.expander.specs.Records.{IsRecordFor};
+
 
 use crate::asked::Asked;
 use crate::fault::ExpandFault;
@@ -220,7 +227,10 @@ pub struct Record {
 }
 
 impl Record {
-    fn field_names(&self, alloc: Global) -> Mem<Vec<NamePart>> {
+    /// The names of its fields.
+    fn field_names(&self, alloc: Global) -> Mem<Vec<NamePart>>
+        ensures { IfOk result (λ names. names.items ≡ map (λ f. f.name) self.now.fields.items) }
+    {
         let mut names = Vec::new(alloc);
         for field in &self.fields {
             names.push(field.name)?;
@@ -229,7 +239,10 @@ impl Record {
     }
 
     /// What it defines: the type, the constructor, the predicate, the accessors and the modifiers.
-    fn names(&self, alloc: Global) -> Mem<Vec<NamePart>> {
+    fn names(&self, alloc: Global) -> Mem<Vec<NamePart>>
+        ensures { (work : AnyWork) (r : RecordShape Identifier) → IsRecord work self.now.name self.now.constructor self.now.used self.now.predicate self.now.fields r →
+            IfOk result (λ names. AreNames work names (record_names r)) }
+    {
         let mut names = Vec::new(alloc);
         names.push(self.name)?;
         names.push(self.constructor)?;
@@ -242,7 +255,10 @@ impl Record {
     }
 }
 
-fn add_modifiers(fields: &[FieldShape], names: &mut Vec<NamePart>) -> Mem<()> {
+/// Adds the modifiers of fields.
+fn add_modifiers(fields: &[FieldShape], names: &mut Vec<NamePart>) -> Mem<()>
+    ensures { OnOk result (names.new.items ≡ names.old.items ++ filter_map (λ f. f.modifier) fields.now) }
+{
     for field in fields {
         if let Some(modifier) = field.modifier {
             names.push(modifier)?;
@@ -252,7 +268,11 @@ fn add_modifiers(fields: &[FieldShape], names: &mut Vec<NamePart>) -> Mem<()> {
 }
 
 /// The places of the fields that have a modifier.
-fn modified(alloc: Global, fields: &[FieldShape]) -> Mem<Vec<u32>> {
+fn modified(alloc: Global, fields: &[FieldShape]) -> Mem<Vec<u32>>
+    requires { length fields.now < 2 ^ 32 }
+    ensures { (work : AnyWork) (fs : List (ModelField Identifier)) → Match (IsField work) fields.now fs →
+        IfOk result (λ places. places.items ≡ modified 0 fs) }
+{
     let mut places = Vec::new(alloc);
     for k in 0..fields.len() {
         if fields[k].modifier.is_some() {
@@ -263,14 +283,16 @@ fn modified(alloc: Global, fields: &[FieldShape]) -> Mem<Vec<u32>> {
 }
 
 /// The fields that the constructor uses, by their places.
-fn used(alloc: Global, names: &[NamePart], fields: &[FieldShape]) -> Mem<Vec<FieldUse>> {
+fn used(alloc: Global, names: &[NamePart], fields: &[FieldShape]) -> Mem<Vec<FieldUse>>
+    requires { length fields.now < 2 ^ 32 }
+    ensures { (work : AnyWork) (ns : List (Named Identifier)) (fs : List (ModelField Identifier)) → AreToldApart work.symbols.idents →
+        Match (IsName work) names.now ns → Match (IsField work) fields.now fs → IfOk result (λ uses. Match IsUse uses.items (used_fields fs ns)) }
+{
     let places = places_of(alloc, fields)?;
+    let count = fields.len() as u32;
     let mut uses = Vec::new(alloc);
     for name in names {
-        let field = match places.get(&name.ident) {
-            Some(place) => *place,
-            None => fields.len() as u32,
-        };
+        let field = place_in(&places, name.ident, count);
         uses.push(FieldUse {
             field,
             occ: name.occ,
@@ -279,11 +301,27 @@ fn used(alloc: Global, names: &[NamePart], fields: &[FieldShape]) -> Mem<Vec<Fie
     Ok(uses)
 }
 
-/// The place of each field by its name.
-fn places_of(alloc: Global, fields: &[FieldShape]) -> Mem<BTreeMap<IdNo, u32>> {
+/// The place of a field by its name, or else a place behind them all.
+fn place_in(places: &BTreeMap<IdNo, u32>, name: IdNo, count: u32) -> u32
+    ensures { result ≡ unwrap_or (get nat_cmp places.now name) count }
+{
+    match places.get(&name) {
+        Some(place) => *place,
+        None => count,
+    }
+}
+
+/// The place of each field by its name: of a name that stands twice, the first.
+fn places_of(alloc: Global, fields: &[FieldShape]) -> Mem<BTreeMap<IdNo, u32>>
+    requires { length fields.now < 2 ^ 32 }
+    ensures { IfOk result (λ places. (n : ℕ) → get nat_cmp places n ≡ position (λ f. nat_eq n f.name.ident) fields.now) }
+{
     let mut places = BTreeMap::new(alloc);
     for k in 0..fields.len() {
-        places.insert(fields[k].name.ident, k as u32)?;
+        let name = fields[k].name.ident;
+        if !places.contains_key(&name) {
+            places.insert(name, k as u32)?;
+        }
     }
     Ok(places)
 }

@@ -86,12 +86,7 @@ fn part_text(alloc: Global, work: &Work, part: Tree) -> Result<Text, ShapeFault>
 }
 
 /// Adds the text of a part of a library's name.
-fn put_part(
-    alloc: Global,
-    work: &Work,
-    text: &mut String,
-    part: Tree,
-) -> Result<(), ShapeFault>
+fn put_part(alloc: Global, work: &Work, text: &mut String, part: Tree) -> Result<(), ShapeFault>
     requires { IsStanding work.now part }
     ensures { (t : ModelTree Identifier) → StandsFor work.now part t → Puts (string_bytes text.old) (string_bytes text.new) result (part_of symbol_of t) }
 {
@@ -151,12 +146,7 @@ fn name_of_parts(
 }
 
 /// The text of a library's name by its first part and those behind it.
-fn name_of_row(
-    alloc: Global,
-    work: &Work,
-    first: Tree,
-    rest: &[Tree],
-) -> Result<String, ShapeFault>
+fn name_of_row(alloc: Global, work: &Work, first: Tree, rest: &[Tree]) -> Result<String, ShapeFault>
     requires first { IsStanding work.now first }
     requires rest { AreStanding work.now rest.now }
     ensures { (t : ModelTree Identifier) (ts : Trees Identifier) → StandsFor work.now first t → PartsStand work.now rest.now ts →

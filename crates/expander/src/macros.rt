@@ -1,5 +1,5 @@
 //! The macros of all units, by what means them.
-ghost use Rattle.std.specs.Prelude.{◌≡◌, ℕ, None, OnOk, OnErr};
+ghost use Rattle.std.specs.Prelude.{◌≡◌, ℕ, None, IfOk, OnOk, OnErr};
 ghost use Rattle.std.specs.Option.{option_copied};
 ghost use Rattle.syntax_tree.specs.declared.meaning.Meaning.{Meaning as AnyMeaning};
 ghost use Rattle.expander.specs.Macros.{macro_in, IsBound, Keeps};
@@ -10,7 +10,7 @@ use scope_env::ScopeNo;
 use std::alloc::Global;
 use std::collections::BTreeMap;
 use syntax_tree::meaning::Meaning;
-use syntax_tree::rules::{Rule, Rules};
+use syntax_tree::rules::Rules;
 use syntax_tree::symbols::{IdNo, SymNo};
 
 /// A macro: the scope in which it was defined, its rules, and their leaves.
@@ -76,22 +76,14 @@ impl Macros {
 }
 
 /// The same rules once more.
-pub fn copy_rules(alloc: Global, rules: &Rules) -> Mem<Rules> {
-    let mut literals = Items::new(alloc);
-    for literal in rules.literals.as_slice() {
-        literals.push(*literal)?;
-    }
+pub fn copy_rules(alloc: Global, rules: &Rules) -> Mem<Rules>
+    ensures { IfOk result (λ copy. copy ≡ rules.now) }
+{
+    let literals = Vec::from_slice(alloc, rules.literals.as_slice())?;
+    let copies = Vec::from_slice(alloc, rules.rules.as_slice())?;
     Ok(Rules {
         ellipsis: rules.ellipsis,
-        literals,
-        rules: copy_each(alloc, rules.rules.as_slice())?,
+        literals: Items::from_vec(literals),
+        rules: Items::from_vec(copies),
     })
-}
-
-fn copy_each(alloc: Global, rules: &[Rule]) -> Mem<Items<Rule>> {
-    let mut copies = Items::new(alloc);
-    for rule in rules {
-        copies.push(*rule)?;
-    }
-    Ok(copies)
 }

@@ -1,23 +1,27 @@
 //! The forms of a body, or a form of a unit, gone through in order (R7RS 5.3.2, 4.3): macros are used, `begin` and `cond-expand`
 //! are spliced, definitions take effect at once, and all else is set aside.
-ghost use Rattle.std.specs.Prelude.{◌≡◌, ℕ, ◌+◌, ◌∷◌, [], ◌≤◌, ◌<◌, List, Option, Some, IfOk, OnOk, true};
-ghost use Rattle.scheme_model.specs.ExpansionFaults.{Named};
+ghost use Rattle.std.specs.Prelude.{◌≡◌, ◌<◌, length, false, Option, Some, ℕ, ◌+◌, ◌∷◌, [], ◌≤◌, List, IfOk, OnOk, true};
+ghost use Rattle.std.specs.Option.{option_map_or};
+ghost use Rattle.scheme_model.specs.Trees.{Tree as ModelTree, list, Trees, tree, Tail};
+ghost use Rattle.scheme_model.specs.Order.{here_at, or_here, read_name, Pending as ModelPending, Form as ModelForm, Note as ModelNote, LookedUp, Transformer, run, run_form, run_core, run_use, splice};
 ghost use Rattle.scheme_model.specs.Ident.{Ident as Identifier};
+ghost use Rattle.syntax_tree.specs.Macros.{IsIdent};
+ghost use Rattle.syntax_tree.specs.Standing.{leaf_tree};
+ghost use Rattle.syntax_tree.specs.Works.{StandsFor, IsStanding, CanName, IsOpened};
+ghost use Rattle.core_forms.specs.Ends.{keyword_as, ShapeFor};
+ghost use Rattle.core_forms.specs.Parts.{IsNameIfAny, IsName};
+ghost use Rattle.expander.specs.Seen.{head_name_of, takes_effect};
+ghost use Rattle.scheme_model.specs.ExpansionFaults.{Named};
 ghost use Rattle.scheme_model.specs.Keywords.{CoreKeyword as ModelKeyword};
 ghost use Rattle.scheme_model.specs.Measures.{tree_size, trees_size};
 ghost use Rattle.scheme_model.specs.Requirements.{Known};
-ghost use Rattle.scheme_model.specs.Trees.{Tree as ModelTree, list, Trees, tree, Tail};
 ghost use Rattle.scheme_model.specs.Cores.{Target as ModelTarget};
 ghost use Rattle.scheme_model.specs.Meaning.{Head as ModelHead, is_keyword};
-ghost use Rattle.scheme_model.specs.Order.{Pending as ModelPending, Form as ModelForm, Note as ModelNote, LookedUp, Transformer, here_at, run, run_form, run_core, run_use, splice};
 ghost use Rattle.scheme_model.specs.ScopedExpansion.{Frames, Place, ScopedState};
-ghost use Rattle.syntax_tree.specs.Works.{CanName, IsOpened, IsStanding, StandsFor};
 ghost use Rattle.syntax_tree.specs.Looks.{PartsStand, AllNamed};
 ghost use Rattle.syntax_tree.specs.declared.trees.table.Region.{Region as AnyRegion};
-ghost use Rattle.core_forms.specs.Ends.{keyword_as, ShapeFor};
 ghost use Rattle.core_forms.specs.Forms.{Shape};
 ghost use Rattle.core_forms.specs.Named.{ShapeNamed};
-ghost use Rattle.core_forms.specs.Parts.{IsName};
 ghost use Rattle.core_tree.specs.Names.{IsTarget};
 ghost use Rattle.expander.specs.Heads.{IsHead};
 ghost use Rattle.expander.specs.Judged.{Knows};
@@ -31,6 +35,7 @@ ghost use Rattle.expander.specs.Used.{CanUse, CanNote, UseFor};
 ghost use Rattle.syntax_tree.specs.declared.trees.Work.{Work as AnyWork};
 ghost use Rattle.expander.specs.declared.asked.Asked.{Asked as AnyAsked};
 ghost use Rattle.expander.specs.declared.items.Spot.{Spot as AnySpot};
+
 
 use crate::asked::{Asked, Asking, Note};
 use crate::counting::misread;
@@ -47,27 +52,55 @@ use ls_base::{Items, Mem};
 use scheme_model::Occ;
 use std::alloc::Global;
 use syntax_tree::look::{Look, look_at};
-use syntax_tree::symbols::Ident;
+use syntax_tree::symbols::{Ident, IdNo};
 use syntax_tree::trees::{Leaf, Node, Region, Tree, Work};
 
 /// The place of the innermost form read from a text, once this tree is come to. An identifier that a use inserted wasn't read.
-pub fn here_at(work: &Work, tree: Tree, here: Option<Occ>) -> Option<Occ> {
+pub fn here_at(work: &Work, tree: Tree, here: Option<Occ>) -> Option<Occ>
+    requires { IsStanding work.now tree }
+    ensures { (t : ModelTree Identifier) → StandsFor work.now tree t → result ≡ here_at (λ i. i) t here }
+{
     match work.node(tree) {
-        Node::Atom {
-            leaf: Leaf::Name(ident),
+        Node::Atom { leaf, occ } => leaf_here(work, *leaf, *occ, here),
+        Node::List {
+            items: _,
+            tail: _,
             occ,
-        } => match work.symbols.ident_at(*ident) {
-            Ident::Written { .. } => or_here(*occ, here),
-            Ident::Inserted { .. } => here,
-        },
-        Node::Atom { occ, .. } => or_here(*occ, here),
-        Node::List { occ, .. } => or_here(*occ, here),
-        Node::Vector { occ, .. } => or_here(*occ, here),
+        } => or_here(*occ, here),
+        Node::Vector { items: _, occ } => or_here(*occ, here),
+    }
+}
+
+/// The place of the innermost form read from a text, once this leaf is come to.
+fn leaf_here(work: &Work, leaf: Leaf, occ: Option<Occ>, here: Option<Occ>) -> Option<Occ>
+    requires { (t : ModelTree Identifier) × (leaf_tree work.now.symbols leaf occ ≡ Some t) }
+    ensures { (t : ModelTree Identifier) → leaf_tree work.now.symbols leaf occ ≡ Some t → result ≡ here_at (λ i. i) t here }
+{
+    match leaf {
+        Leaf::Name(ident) => name_here(work, ident, occ, here),
+        Leaf::Numeral(_) => or_here(occ, here),
+        Leaf::Quoted(_) => or_here(occ, here),
+        Leaf::Char(_) => or_here(occ, here),
+        Leaf::Bool(_) => or_here(occ, here),
+        Leaf::Bytes(_) => or_here(occ, here),
+    }
+}
+
+/// The place of the innermost form read from a text, once this identifier is come to.
+fn name_here(work: &Work, ident: IdNo, occ: Option<Occ>, here: Option<Occ>) -> Option<Occ>
+    requires { ident < length work.now.symbols.idents }
+    ensures { (i : Identifier) → IsIdent work.now.symbols ident i → result ≡ read_name i occ here }
+{
+    match work.symbols.ident_at(ident) {
+        Ident::Written { unit: _, symbol: _ } => or_here(occ, here),
+        Ident::Inserted { id: _, number: _ } => here,
     }
 }
 
 /// A place, or where there is none, that of the form around it.
-fn or_here(occ: Option<Occ>, here: Option<Occ>) -> Option<Occ> {
+fn or_here(occ: Option<Occ>, here: Option<Occ>) -> Option<Occ>
+    ensures { result ≡ or_here occ here }
+{
     match occ {
         Some(at) => Some(at),
         None => here,
@@ -75,13 +108,18 @@ fn or_here(occ: Option<Occ>, here: Option<Occ>) -> Option<Occ> {
 }
 
 /// The first part of a list, where it is an identifier.
-pub fn head_name(work: &Work, tree: Tree) -> Option<NamePart> {
+pub fn head_name(work: &Work, tree: Tree) -> Option<NamePart>
+    requires { IsStanding work.now tree }
+    ensures { (t : ModelTree Identifier) → StandsFor work.now tree t → IsNameIfAny work.now result (head_name_of t) }
+{
     match look_at(work, tree) {
-        Look::List(items, _) => match items {
-            [] => None,
-            [first, ..] => name_at(work, *first),
+        Look::List(items, _) => match items.first() {
+            None => None,
+            Some(first) => name_at(work, *first),
         },
-        Look::Name(_) | Look::Atom(_) | Look::Vector(_) => None,
+        Look::Name(_) => None,
+        Look::Atom(_) => None,
+        Look::Vector(_) => None,
     }
 }
 
@@ -356,7 +394,9 @@ impl UnitScope {
 }
 
 /// Whether a core form takes effect while forms are gone through.
-fn is_passed(core: CoreKeyword) -> bool {
+fn is_passed(core: CoreKeyword) -> bool
+    ensures { result ≡ option_map_or takes_effect (keyword_as core) false }
+{
     match core {
         CoreKeyword::Begin
         | CoreKeyword::CondExpand

@@ -1,21 +1,21 @@
 //! The clauses of `cond-expand` (R7RS 4.2.1): which requirement holds, and which clause is chosen.
-ghost use Rattle.std.specs.Prelude.{◌≡◌, ◌&&◌, ◌||◌, ℕ, ◌+◌, ◌^◌, ◌<◌, List, length, IfOk, IfSome};
+ghost use Rattle.std.specs.Prelude.{◌≡◌, ◌&&◌, ◌||◌, ℕ, ◌<◌, List, length, Option, IfOk, IfSome};
 ghost use Rattle.scheme_model.specs.Trees.{Tree as ModelTree, Trees, Tail, list as list_tree};
-ghost use Rattle.scheme_model.specs.ExpansionFaults.{◌>>◌};
 ghost use Rattle.scheme_model.specs.Requirements.{Known, holds, all_hold, some_holds, none_holds, is_else};
 ghost use Rattle.scheme_model.specs.Ident.{Ident as Identifier, symbol_of};
 ghost use Rattle.scheme_model.specs.declared.Occ.{Occ};
 ghost use Rattle.syntax_tree.specs.Looks.{PartsStand, EndStands, AreStanding, StandsWithin, PartsWithin};
 ghost use Rattle.syntax_tree.specs.Macros.{IsIdent};
 ghost use Rattle.syntax_tree.specs.Works.{StandsFor, IsStanding};
+ghost use Rattle.syntax_tree.specs.declared.trees.Work.{Work as AnyWork};
 ghost use Rattle.core_forms.specs.Parts.{AllMatch, IsChoice};
-ghost use Rattle.expander.specs.Judged.{Knows, Reads, AreChoosable, library_holds, connective_named, word_holds, clause_judged, chosen_among, forms_of, or_first, Chooses, some_chosen, ChoosesForms};
+ghost use Rattle.expander.specs.Judged.{Knows, Reads, AreChoosable, IsClauseForms, library_holds, connective_named, word_holds, clause_judged, chosen_among, forms_of, or_first, Chooses, forms_chosen, ChoosesForms};
 
 use crate::counting::{code, fails};
 use crate::fault::ExpandFault;
 use crate::libraries::library_name;
 use core_forms::Choice;
-use ls_base::Memory;
+use ls_base::{Mem, Memory};
 use scheme_model::Occ;
 use std::alloc::{AllocError, AllocFailed, Global};
 use std::collections::BTreeSet;
@@ -111,13 +111,7 @@ fn or_first(chosen: Option<usize>, here: bool, place: usize) -> Option<usize>
 {
     match chosen {
         Some(before) => Some(before),
-        None => {
-            if here {
-                Some(place)
-            } else {
-                None
-            }
-        }
+        None => { if here { Some(place) } else { None } }
     }
 }
 
@@ -170,12 +164,7 @@ impl Judge<'_> {
 
     /// Whether a requirement that is a list holds. Its parts are at most `left` nodes deep.
     #[cycle(requirements)]
-    fn list_holds(
-        &self,
-        parts: &[Tree],
-        end: Option<Tree>,
-        left: u32,
-    ) -> Result<bool, ShapeFault>
+    fn list_holds(&self, parts: &[Tree], end: Option<Tree>, left: u32) -> Result<bool, ShapeFault>
         requires { PartsWithin self.now.work.now parts.now left }
         ensures { (known : Known) (ts : Trees Identifier) (tail : Tail Identifier) (o : Option Occ) → Knows self.now.libraries.now known →
             PartsStand self.now.work.now parts.now ts → EndStands self.now.work.now end tail →
@@ -304,19 +293,31 @@ impl Judge<'_> {
     }
 }
 
+/// The forms of a clause.
+fn clause_forms(alloc: Global, choices: &[Choice], place: usize) -> Mem<Vec<Tree>>
+    requires { place < length choices.now }
+    ensures { (work : AnyWork) (ps : List (ModelTree Identifier × Trees Identifier)) → AllMatch (IsChoice work) choices.now ps →
+        IfOk result (λ forms. IsClauseForms work ps place forms) }
+{
+    let clause = &choices[place];
+    Ok(Vec::from_slice(alloc, &clause.forms)?)
+}
+
 /// The forms of the first clause of a `cond-expand` that holds; `None` where none does.
 pub fn choose(
     judge: Judge,
     here: Option<Occ>,
     choices: &[Choice],
 ) -> Result<Option<Vec<Tree>>, ExpandFault>
-    requires { AreChoosable judge.entry.work.now choices.now }
+    requires { AreChoosable judge.work.now choices.now }
     ensures { (known : Known) (ps : List (ModelTree Identifier × Trees Identifier)) → Knows judge.entry.libraries.now known →
         AllMatch (IsChoice judge.entry.work.now) choices.now ps → Chooses judge.entry.work.now here result (chosen_among known ps) }
 {
     match judge.chosen(choices) {
-        Ok(None) => Ok(None),
-        Ok(Some(k)) => Ok(Some(Vec::from_slice(judge.alloc, &choices[k].forms)?)),
+        Ok(chosen) => match chosen {
+            None => Ok(None),
+            Some(place) => Ok(Some(clause_forms(judge.alloc, choices, place)?)),
+        },
         Err(ShapeFault::BadForm) => Err(fails(here, code::BAD_FORM)),
         Err(ShapeFault::Memory) => Err(ExpandFault::Memory),
     }
@@ -328,10 +329,10 @@ pub fn chosen_forms(
     here: Option<Occ>,
     choices: &[Choice],
 ) -> Result<Vec<Tree>, ExpandFault>
-    requires { AreChoosable judge.entry.work.now choices.now }
+    requires { AreChoosable judge.work.now choices.now }
     ensures { (known : Known) (ps : List (ModelTree Identifier × Trees Identifier)) → Knows judge.entry.libraries.now known →
         AllMatch (IsChoice judge.entry.work.now) choices.now ps →
-        ChoosesForms judge.entry.work.now here result (chosen_among known ps >> some_chosen) }
+        ChoosesForms judge.entry.work.now here result (forms_chosen known ps) }
 {
     match choose(judge, here, choices)? {
         Some(forms) => {

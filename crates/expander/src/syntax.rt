@@ -1,14 +1,16 @@
 //! The rules of macros where they are defined (R7RS 4.3.1, 5.4): a list whose head means `syntax-rules`.
 ghost use Rattle.std.specs.Prelude.{◌≡◌, List, ◌++◌, Some, IfOk, OnOk};
-ghost use Rattle.scheme_model.specs.Ident.{Ident as Identifier};
 ghost use Rattle.scheme_model.specs.Trees.{Tree as ModelTree};
+ghost use Rattle.scheme_model.specs.Order.{rules_parts_of, Note as ModelNote, RulesParts, rules_parts, rules_note, rules_at};
+ghost use Rattle.scheme_model.specs.Ident.{Ident as Identifier};
+ghost use Rattle.syntax_tree.specs.Works.{StandsFor, IsStanding};
+ghost use Rattle.expander.specs.Seen.{IsRulesHead};
+ghost use Rattle.expander.specs.Told.{rules_fault, told};
 ghost use Rattle.scheme_model.specs.Requirements.{Known};
 ghost use Rattle.scheme_model.specs.Cores.{Binder as ModelBinder};
 ghost use Rattle.scheme_model.specs.Expression.{meaning_of, macro_def};
-ghost use Rattle.scheme_model.specs.Order.{Note as ModelNote, RulesParts, rules_parts_of, rules_parts, rules_note, rules_at};
 ghost use Rattle.scheme_model.specs.ScopedExpansion.{Frames, Place, ScopedState};
 ghost use Rattle.syntax_tree.specs.Meant.{IsMeaning};
-ghost use Rattle.syntax_tree.specs.Works.{StandsFor, IsStanding};
 ghost use Rattle.syntax_tree.specs.declared.trees.table.Region.{Region as AnyRegion};
 ghost use Rattle.core_tree.specs.Names.{IsBinder, IsMacro as IsMacroDef};
 ghost use Rattle.expander.specs.Searched.{searched};
@@ -16,6 +18,7 @@ ghost use Rattle.expander.specs.State.{IsMacro, Stands};
 ghost use Rattle.expander.specs.Kept.{NotesFor};
 ghost use Rattle.expander.specs.Outcomes.{At, CanLook, EndsHere};
 ghost use Rattle.expander.specs.RulesTold.{CanTell, Tests};
+
 use crate::asked::{Asked, Asking, Note};
 use crate::counting::{code, fails};
 use crate::fault::ExpandFault;
@@ -36,21 +39,31 @@ use syntax_tree::symbols::IdNo;
 use syntax_tree::trees::{Tree, Work};
 
 /// The head of a list of rules, where it has one that is an identifier.
-fn rules_head(work: &Work, rules: Tree) -> Option<IdNo> {
+fn rules_head(work: &Work, rules: Tree) -> Option<IdNo>
+    requires { IsStanding work.now rules }
+    ensures { (t : ModelTree Identifier) → StandsFor work.now rules t → IsRulesHead work.now.symbols result (rules_parts_of t) }
+{
     match look_at(work, rules) {
-        Look::List(items, _) => match items {
-            [] => None,
-            [first, ..] => match look_at(work, *first) {
+        Look::List(items, _) => match items.first() {
+            None => None,
+            Some(first) => match look_at(work, *first) {
                 Look::Name(ident) => Some(ident),
-                Look::Atom(_) | Look::List(_, _) | Look::Vector(_) => None,
+                Look::Atom(_) => None,
+                Look::List(_, _) => None,
+                Look::Vector(_) => None,
             },
         },
-        Look::Name(_) | Look::Atom(_) | Look::Vector(_) => None,
+        Look::Name(_) => None,
+        Look::Atom(_) => None,
+        Look::Vector(_) => None,
     }
 }
 
 /// An identifier with its place, as core forms have it.
-fn part(name: Named) -> NamePart {
+fn part(name: Named) -> NamePart
+    ensures ident { result.ident ≡ name.ident }
+    ensures place { result.occ ≡ name.occ }
+{
     NamePart {
         ident: name.ident,
         occ: name.occ,
@@ -141,16 +154,17 @@ impl UnitScope {
         }
     }
 
-    fn bad_rules(&self, here: Option<Occ>, fault: RulesFault) -> ExpandFault {
+    /// The fault of rules that are none.
+    fn bad_rules(&self, here: Option<Occ>, fault: RulesFault) -> ExpandFault
+        ensures { result ≡ told self.now.unit self.now.form.number here (rules_fault fault) }
+    {
         match fault {
             RulesFault::BadShape => fails(here, code::BAD_RULES),
             RulesFault::TwoEllipses => fails(here, code::TWO_ELLIPSES),
             RulesFault::DuplicateVariable(name) => {
                 self.fails_at(here, code::DUPLICATE_VARIABLE, part(name))
             }
-            RulesFault::Depth(name) => {
-                self.fails_at(here, code::ELLIPSIS_DEPTH, part(name))
-            }
+            RulesFault::Depth(name) => { self.fails_at(here, code::ELLIPSIS_DEPTH, part(name)) }
             RulesFault::IdleEllipsis => fails(here, code::IDLE_ELLIPSIS),
             RulesFault::Memory => ExpandFault::Memory,
         }

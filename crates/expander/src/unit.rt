@@ -1,5 +1,8 @@
 //! Units, one after another, and their forms: the calls of this crate (R7RS 5.1, 5.6).
-ghost use Rattle.std.specs.Prelude.{◌≡◌, ℕ, ◌+◌, ◌-◌, ◌^◌, ◌<◌, ◌≤◌, List, Err, OnOk};
+ghost use Rattle.std.specs.Prelude.{◌≡◌, ℕ, List, map, IfOk, ◌+◌, ◌-◌, ◌^◌, ◌<◌, ◌≤◌, Err, OnOk};
+ghost use Rattle.std.specs.BTreeSet.{contains_text};
+ghost use Rattle.scheme_model.specs.Program.{has_name};
+ghost use Rattle.expander.specs.Seen.{item_of};
 ghost use Rattle.scheme_model.specs.Ident.{Ident as Identifier};
 ghost use Rattle.scheme_model.specs.Requirements.{Known};
 ghost use Rattle.scheme_model.specs.Trees.{Tree as ModelTree};
@@ -11,6 +14,7 @@ ghost use Rattle.core_tree.specs.Names.{AllMatch};
 ghost use Rattle.expander.specs.Judged.{Knows};
 ghost use Rattle.expander.specs.Outcomes.{IsAtWork};
 ghost use Rattle.expander.specs.Units.{UnitStands, CountsFor, HasSpace, ItemFor, Declares, Expands, CanDeclare, declared, expanded};
+
 
 use crate::asked::Asked;
 use crate::bodies::forms_at;
@@ -256,7 +260,9 @@ impl UnitScope {
 }
 
 /// The names of libraries.
-fn names(alloc: Global, libraries: &[Text]) -> Mem<BTreeSet<String>> {
+fn names(alloc: Global, libraries: &[Text]) -> Mem<BTreeSet<String>>
+    ensures { IfOk result (λ names. (s : List ℕ) → contains_text names s ≡ has_name libraries.now s) }
+{
     let mut names = BTreeSet::new(alloc);
     for library in libraries {
         names.insert(String::from_str(alloc, library.as_str())?)?;
@@ -265,12 +271,11 @@ fn names(alloc: Global, libraries: &[Text]) -> Mem<BTreeSet<String>> {
 }
 
 /// What was set aside, as items.
-fn items(alloc: Global, aside: Vec<Kept>) -> Result<Items<Item>, ExpandFault> {
-    let mut items = Items::new(alloc);
-    for kept in aside {
-        items.push(Item { kept })?;
-    }
-    Ok(items)
+fn items(alloc: Global, aside: Vec<Kept>) -> Result<Items<Item>, ExpandFault>
+    ensures { IfOk result (λ items. items ≡ map item_of aside.items) }
+{
+    let items = aside.into_iter().map(|kept| Item { kept }).collect(alloc)?;
+    Ok(Items::from_vec(items))
 }
 
 /// One tick for each macro use.

@@ -1,20 +1,24 @@
 //! Macro uses (R7RS 4.3.2): which literals mean the same, the rule that matches, and the instance of its template.
-ghost use Rattle.std.specs.Prelude.{◌≡◌, ◌+◌, List, IfOk, OnOk};
+ghost use Rattle.std.specs.Prelude.{◌≡◌, map, filter, Option, Some, IfOk, ◌+◌, List, OnOk};
+ghost use Rattle.scheme_model.specs.declared.Occ.{Occ};
+ghost use Rattle.scheme_model.specs.Trees.{Tree as ModelTree, Trees, Tail};
+ghost use Rattle.scheme_model.specs.Order.{name_in, Transformer, comparisons, use_of};
 ghost use Rattle.scheme_model.specs.Ident.{Ident as Identifier};
-ghost use Rattle.scheme_model.specs.Trees.{Trees, Tail};
+ghost use Rattle.syntax_tree.specs.Standing.{leaf_tree};
+ghost use Rattle.syntax_tree.specs.Works.{StandsFor, IsStanding, CanName, IsOpened};
+ghost use Rattle.core_forms.specs.Parts.{IsNameIfAny};
 ghost use Rattle.scheme_model.specs.Requirements.{Known};
 ghost use Rattle.scheme_model.specs.RulesShape.{role_of, dots_of};
 ghost use Rattle.scheme_model.specs.Matching.{compared};
 ghost use Rattle.scheme_model.specs.Cores.{Target as ModelTarget};
-ghost use Rattle.scheme_model.specs.Order.{Transformer, comparisons, use_of};
 ghost use Rattle.scheme_model.specs.ScopedExpansion.{Frames, ScopedState};
 ghost use Rattle.syntax_tree.specs.Macros.{identifiers};
-ghost use Rattle.syntax_tree.specs.Works.{CanName, IsOpened};
 ghost use Rattle.core_tree.specs.Names.{AllMatch};
 ghost use Rattle.expander.specs.Searched.{searched};
 ghost use Rattle.expander.specs.State.{Stands};
 ghost use Rattle.expander.specs.Used.{UseFor, CanUse, ComparisonFor, AreHeld};
 ghost use Rattle.expander.specs.Outcomes.{At, WorksOn, EndsHere};
+
 use crate::counting::{MAX_NODES, code, fails};
 use crate::fault::ExpandFault;
 use crate::scope::UnitScope;
@@ -192,7 +196,9 @@ impl UnitScope {
 }
 
 /// Which comparisons held.
-pub fn held(alloc: Global, comparisons: &[Comparison]) -> Mem<Items<IdPair>> {
+pub fn held(alloc: Global, comparisons: &[Comparison]) -> Mem<Items<IdPair>>
+    ensures { IfOk result (λ same. same ≡ map (λ c. c.pair) (filter (λ c. c.held) comparisons.now)) }
+{
     let mut same = Items::new(alloc);
     for comparison in comparisons {
         if comparison.held {
@@ -203,21 +209,40 @@ pub fn held(alloc: Global, comparisons: &[Comparison]) -> Mem<Items<IdPair>> {
 }
 
 /// An identifier with its place, where the tree is one.
-pub fn name_at(work: &Work, tree: Tree) -> Option<NamePart> {
+pub fn name_at(work: &Work, tree: Tree) -> Option<NamePart>
+    requires { IsStanding work.now tree }
+    ensures { (t : ModelTree Identifier) → StandsFor work.now tree t → IsNameIfAny work.now result (name_in t) }
+{
     match work.node(tree) {
-        Node::Atom {
-            leaf: Leaf::Name(ident),
-            occ,
-        } => Some(NamePart {
-            ident: *ident,
-            occ: *occ,
-        }),
-        Node::Atom { .. } | Node::List { .. } | Node::Vector { .. } => None,
+        Node::Atom { leaf, occ } => leaf_name(work, *leaf, *occ),
+        Node::List {
+            items: _,
+            tail: _,
+            occ: _,
+        } => None,
+        Node::Vector { items: _, occ: _ } => None,
+    }
+}
+
+/// An identifier with its place, where the leaf is one.
+fn leaf_name(work: &Work, leaf: Leaf, occ: Option<Occ>) -> Option<NamePart>
+    ensures { (t : ModelTree Identifier) → leaf_tree work.now.symbols leaf occ ≡ Some t → IsNameIfAny work.now result (name_in t) }
+{
+    match leaf {
+        Leaf::Name(ident) => Some(NamePart { ident, occ }),
+        Leaf::Numeral(_) => None,
+        Leaf::Quoted(_) => None,
+        Leaf::Char(_) => None,
+        Leaf::Bool(_) => None,
+        Leaf::Bytes(_) => None,
     }
 }
 
 /// A keyword as a name.
-fn name_of(keyword: Target) -> NamePart {
+fn name_of(keyword: Target) -> NamePart
+    ensures ident { result.ident ≡ keyword.ident }
+    ensures place { result.occ ≡ keyword.occ }
+{
     NamePart {
         ident: keyword.ident,
         occ: keyword.occ,
