@@ -108,7 +108,7 @@ locals_fit names f s e = omega (arith, e.few_locals, e.few_nodes)
 
 -- ---- keywords and uses
 
-all_last : {X Y : Type 0} (P : X → Y → Type 0) (xs : List X) (ys : List Y) (x : X) (y : Y) → AllMatch P xs ys → P x y → AllMatch P (xs ++ x ∷ []) (ys ++ y ∷ [])
+pub all_last : {X Y : Type 0} (P : X → Y → Type 0) (xs : List X) (ys : List Y) (x : X) (y : Y) → AllMatch P xs ys → P x y → AllMatch P (xs ++ x ∷ []) (ys ++ y ∷ [])
 all_last P [] [] x y h p = (p, tt)
 all_last P [] (z ∷ ys) x y h p = absurd h
 all_last P (w ∷ xs) [] x y h p = absurd h

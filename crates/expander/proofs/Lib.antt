@@ -25,3 +25,8 @@ pub mod SeenLaws
 pub mod ChoiceLaws
 pub mod OutcomeLaws
 pub mod NodeLaws
+pub mod EqualMeanings
+pub mod SearchedNotes
+pub mod DefineLaws
+pub mod DefinitionSteps
+pub mod ChangedNotes

@@ -1,20 +1,30 @@
 -- Definitions in the code (R7RS 5.3 to 5.5).
-use Rattle.std.specs.Prelude.{◌≡◌, ℕ, ◌+◌, ◌≤◌, List, [], ◌∷◌, Option, Some, None, Result, Ok, Err}
+use Rattle.std.specs.Prelude.{◌≡◌, ℕ, ◌+◌, ◌≤◌, List, [], ◌∷◌, Bool, true, false, Option, Some, None, Result, Ok, Err, if◌then◌else◌}
+use Rattle.std.specs.BTreeMap.{BTreeMap, get, btree_map_len}
+use Rattle.std.specs.Ordering.{nat_cmp, is_eq}
 use Rattle.scheme_model.specs.Ident.{Ident as Identifier}
 use Rattle.scheme_model.specs.ExpansionFaults.{Named}
+use Rattle.scheme_model.specs.Meaning.{Meaning}
 use Rattle.scheme_model.specs.RulesShape.{Rules}
 use Rattle.scheme_model.specs.Cores.{Binder}
 use Rattle.scheme_model.specs.Steps.{Broken, Step, ◌>>=◌, done}
 use Rattle.scheme_model.specs.Order.{Here, Note, Pending, Ops, told, binder_at}
 use Rattle.scheme_model.specs.ScopedExpansion.{Frames, Place, ScopedState}
+use Rattle.syntax_tree.specs.Macros.{IsIdent}
+use Rattle.syntax_tree.specs.Meant.{IsMeaning}
+use Rattle.syntax_tree.specs.declared.meaning.Meaning as code_meaning
+use Rattle.syntax_tree.specs.declared.meaning.Meaning.TheVariants as meanings
 use Rattle.syntax_tree.specs.declared.trees.Work.{Work}
 use Rattle.syntax_tree.specs.declared.trees.table.Region.{Region}
+use Rattle.scope_env.specs.Environment.{with_bound}
 use Rattle.core_forms.specs.Parts.{IsName}
 use Rattle.core_forms.specs.declared.shape.NamePart.{NamePart}
-use Rattle.expander.specs.State.{IsMacro, Stands}
+use Rattle.expander.specs.Binds.{with_locals}
+use Rattle.expander.specs.State.{IsMacro, EnvStands, Stands}
 use Rattle.expander.specs.Kept.{NotesFor, SpotFor}
 use Rattle.expander.specs.Outcomes.{Stays, Leaves, MayFill, Breaks}
 use Rattle.expander.specs.declared.asked.Asked.{Asked}
+use Rattle.expander.specs.declared.definitions.Coming as code_coming
 use Rattle.expander.specs.declared.fault.ExpandFault.{ExpandFault}
 use Rattle.expander.specs.declared.fault.ExpandFault.TheVariants as fault
 use Rattle.expander.specs.declared.items.Spot as code_spot
@@ -35,6 +45,36 @@ pub record CanGo (work : Work) (u : UnitScope) (spot : code_spot.Spot) (asked : 
 
 abbrev pub HasNumber : Work → NamePart → Type 0
 HasNumber work name = (n : Named Identifier) × IsName work name n
+
+-- ---- a definition that is about to be made
+
+-- with its binding the scopes of the code stand for this state, and it means this there
+pub record ComesTo (work : Work) (u : UnitScope) (ls : List Frames) (t : ScopedState) (c : code_coming.Coming) (m : Meaning) : Type 0 where
+  pub env : EnvStands work.symbols (with_bound u.env c.bound.scope c.bound.ident c.bound.meaning) ls t
+  pub meaning : IsMeaning work.symbols t.unit t.form c.bound.meaning m
+
+-- it comes to some state, and the notes stand for some notes
+pub record CanRefuse (work : Work) (u : UnitScope) (c : code_coming.Coming) (asked : Asked) : Type 0 where
+  pub layout : List Frames
+  pub state : ScopedState
+  pub means : Meaning
+  pub ident : Identifier
+  pub found : List (Note Place)
+  pub comes : ComesTo work u layout state c means
+  pub is : IsIdent work.symbols c.bound.ident ident
+  pub notes : NotesFor work layout asked found
+
+-- what the next definition makes an identifier mean in the code
+abbrev pub next_here : UnitScope → (in_body : Bool) → (ident : ℕ) → code_meaning.Meaning
+next_here u true ident = meanings.Local u.form.budget.locals
+next_here u false ident = meanings.Global u.unit ident
+
+-- the scope binds an identifier to what it means now; a body takes a local, and a unit tells which identifiers it defines
+abbrev pub Places : UnitScope → UnitScope → (in_body : Bool) → (scope ident : ℕ) → code_meaning.Meaning → (is_macro : Bool) → Type 0
+Places old new true scope ident m k = new ≡ record (with_locals old (old.form.budget.locals + 1)) { env = with_bound old.env scope ident m }
+Places old new false scope ident m k =
+    (defined : BTreeMap ℕ Bool) × (new ≡ record old { env = with_bound old.env scope ident m; defined = defined })
+    × ((n : ℕ) → get nat_cmp defined n ≡ (if is_eq (nat_cmp ident n) then Some k else get nat_cmp old.defined n)) × (btree_map_len defined ≡ btree_map_len old.defined + 1)
 
 -- ---- definitions
 

@@ -23,6 +23,7 @@ use Rattle.core_tree.specs.declared.cores.Binder as code_binder
 use Rattle.core_tree.specs.declared.cores.FieldUse as code_field
 use Rattle.expander.specs.State.{Stands}
 use Rattle.expander.specs.Stepped.{IsOpenBody, BindsBody}
+use Rattle.expander.specs.Asks.{AskedStands}
 use Rattle.expander.specs.Outcomes.{At, WorksOn}
 use Rattle.expander.specs.declared.asked.Asked.{Asked}
 use Rattle.expander.specs.declared.asked.Asking as code_place
@@ -83,9 +84,10 @@ NoteFor work ls (notes.LookedUp a h k) (Compared p q held) = ⊥
 NoteFor work ls (notes.Compared l a h) (LookedUp p head keyword) = ⊥
 NoteFor work ls (notes.Compared l a h) (Compared p q held) = PlaceFor work ls l p × PlaceFor work ls a q × (h ≡ held)
 
--- the notes, of which the newest is the code's last
-abbrev pub NotesFor : Work → List Frames → Asked → List (Note Place) → Type 0
-NotesFor work ls asked ns = AllMatch (NoteFor work ls) asked.notes.items (reverse ns)
+-- the notes, of which the newest is the code's last, and those that ask each identifier
+pub record NotesFor (work : Work) (ls : List Frames) (asked : Asked) (ns : List (Note Place)) : Type 0 where
+  pub notes : AllMatch (NoteFor work ls) asked.notes.items (reverse ns)
+  pub asks : AskedStands work.symbols asked
 
 -- ---- where forms are gone through
 

@@ -1,5 +1,5 @@
 -- A macro use in the code, and its comparisons (R7RS 4.3.2).
-use Rattle.std.specs.Prelude.{◌≡◌, ℕ, List, [], ◌∷◌, Some, Option}
+use Rattle.std.specs.Prelude.{◌≡◌, ℕ, ◌==◌, ◌&&◌, List, [], ◌∷◌, Bool, false, Some, Option}
 use Rattle.scheme_model.specs.declared.Occ.{Occ}
 use Rattle.scheme_model.specs.Ident.{Ident as Identifier}
 use Rattle.scheme_model.specs.Trees.{Tree, list, Trees, tree, Tail}
@@ -10,6 +10,8 @@ use Rattle.scheme_model.specs.CountedExpansion.{means_here}
 use Rattle.scheme_model.specs.ScopedExpansion.{Frames, Place, ScopedState, macro_at}
 use Rattle.syntax_tree.specs.Works.{StandsFor}
 use Rattle.syntax_tree.specs.declared.rules.IdPair.{IdPair}
+use Rattle.syntax_tree.specs.declared.meaning.Meaning as code_meaning
+use Rattle.syntax_tree.specs.declared.meaning.Meaning.TheVariants as meanings
 use Rattle.syntax_tree.specs.declared.trees.Work.{Work}
 use Rattle.rules_match.specs.Matches.{means_same}
 use Rattle.core_tree.specs.Names.{IsTarget}
@@ -64,3 +66,22 @@ abbrev pub AreHeld : Work → ScopedState → Frames → Frames → List IdPair 
 AreHeld work s macro_frames fs same [] = Unit {0}
 AreHeld work s macro_frames fs same (q ∷ qs) =
     (means_same work same q.0 q.1 ≡ same_meaning (means_here s macro_frames q.0) (means_here s fs q.1)) × AreHeld work s macro_frames fs same qs
+
+-- equal meanings of the code
+abbrev pub meanings_equal : code_meaning.Meaning → code_meaning.Meaning → Bool
+meanings_equal (meanings.Local n) (meanings.Local k) = n == k
+meanings_equal (meanings.Local n) (meanings.Global v j) = false
+meanings_equal (meanings.Local n) (meanings.Standard t) = false
+meanings_equal (meanings.Local n) (meanings.Free t) = false
+meanings_equal (meanings.Global u i) (meanings.Local k) = false
+meanings_equal (meanings.Global u i) (meanings.Global v j) = (u == v) && (i == j)
+meanings_equal (meanings.Global u i) (meanings.Standard t) = false
+meanings_equal (meanings.Global u i) (meanings.Free t) = false
+meanings_equal (meanings.Standard s) (meanings.Local k) = false
+meanings_equal (meanings.Standard s) (meanings.Global v j) = false
+meanings_equal (meanings.Standard s) (meanings.Standard t) = s == t
+meanings_equal (meanings.Standard s) (meanings.Free t) = false
+meanings_equal (meanings.Free s) (meanings.Local k) = false
+meanings_equal (meanings.Free s) (meanings.Global v j) = false
+meanings_equal (meanings.Free s) (meanings.Standard t) = false
+meanings_equal (meanings.Free s) (meanings.Free t) = s == t

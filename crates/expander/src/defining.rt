@@ -1,31 +1,30 @@
 //! The definitions of each kind, as they are gone through (R7RS 5.3 to 5.5).
-ghost use Rattle.std.specs.Prelude.{◌≡◌, ◌++◌, ◌^◌, ◌<◌, ℕ, List, length, map, filter_map, position, unwrap_or, nat_eq, IfOk, OnOk, ◌+◌, ◌≤◌, Vec, Option};
+ghost use Rattle.std.specs.Prelude.{◌≡◌, ℕ, ◌+◌, ◌++◌, ◌^◌, ◌≤◌, ◌<◌, List, Vec, Option, IfOk, OnOk, length, map, filter_map, position, unwrap_or, nat_eq};
 ghost use Rattle.std.specs.BTreeMap.{get};
 ghost use Rattle.std.specs.Ordering.{nat_cmp};
 ghost use Rattle.scheme_model.specs.ExpansionFaults.{Named};
-ghost use Rattle.scheme_model.specs.Shapes.{FieldShape as ModelField, RecordShape, Formals as ModelFormals, Clause as ModelClause, Variable, Procedure};
-ghost use Rattle.scheme_model.specs.Order.{record_names, modified, Pending as ModelPending, run_define, run_values, run_record, run_syntax};
-ghost use Rattle.scheme_model.specs.Ident.{Ident as Identifier, same_ident};
-ghost use Rattle.syntax_tree.specs.Names.{AreToldApart};
-ghost use Rattle.syntax_tree.specs.declared.trees.Work.{Work as AnyWork};
-ghost use Rattle.core_forms.specs.Parts.{IsName, IsField, AreNames, AllMatch as Match, IsFormals};
-ghost use Rattle.core_forms.specs.Ends.{IsRecord};
-ghost use Rattle.core_tree.specs.Names.{IsField as IsUse, AllMatch, IsBinder};
-ghost use Rattle.expander.specs.Seen.{used_fields};
+ghost use Rattle.scheme_model.specs.Ident.{Ident as Identifier};
 ghost use Rattle.scheme_model.specs.Requirements.{Known};
 ghost use Rattle.scheme_model.specs.Trees.{Tree as ModelTree};
+ghost use Rattle.scheme_model.specs.Shapes.{Formals as ModelFormals, Clause as ModelClause, FieldShape as ModelField, Variable, Procedure, RecordShape};
+ghost use Rattle.scheme_model.specs.Order.{Pending as ModelPending, run_define, run_values, run_record, run_syntax, record_names, modified};
 ghost use Rattle.scheme_model.specs.ScopedExpansion.{Frames, Place, ScopedState};
+ghost use Rattle.syntax_tree.specs.Names.{AreToldApart};
+ghost use Rattle.syntax_tree.specs.Works.{IsStanding, StandsFor};
+ghost use Rattle.syntax_tree.specs.declared.trees.Work.{Work as AnyWork};
 ghost use Rattle.syntax_tree.specs.declared.trees.table.Region.{Region as AnyRegion};
+ghost use Rattle.core_forms.specs.Parts.{AllMatch, IsName, IsField, IsFormals, AreNames};
+ghost use Rattle.core_forms.specs.Ends.{IsRecord};
+ghost use Rattle.core_tree.specs.Names.{AllMatch as EachIs, IsBinder, IsField as IsUse};
 ghost use Rattle.expander.specs.Judged.{Knows};
 ghost use Rattle.expander.specs.Searched.{searched};
+ghost use Rattle.expander.specs.Seen.{used_fields};
 ghost use Rattle.expander.specs.State.{Stands, most_locals};
 ghost use Rattle.expander.specs.Kept.{NotesFor, SpotFor, PendingFor, ClauseFor};
-ghost use Rattle.syntax_tree.specs.Works.{IsStanding, StandsFor};
 ghost use Rattle.expander.specs.Outcomes.{WorksOn};
 ghost use Rattle.expander.specs.Defining.{CanGo, HasNumber, Takes, EndsIn, define_each};
 ghost use Rattle.expander.specs.Passed.{GoesOn};
 ghost use Rattle.expander.specs.Records.{IsRecordFor};
-
 
 use crate::asked::Asked;
 use crate::fault::ExpandFault;
@@ -109,11 +108,11 @@ impl UnitScope {
         asked: &Asked,
     ) -> Result<Vec<Binder>, ExpandFault>
         requires can { CanGo work.now self.old spot asked.now }
-        requires names { (ns : List (Named Identifier)) × Match (IsName work.now) names.now ns }
+        requires names { (ns : List (Named Identifier)) × AllMatch (IsName work.now) names.now ns }
         requires room { self.old.form.budget.locals + length names.now ≤ most_locals self.old.form.budget.nodes }
         ensures defined { (known : Known) (region : AnyRegion) (ls : List Frames) (s : ScopedState) (fs : Frames) (ns : List (Named Identifier)) (p : ModelPending Identifier Place) →
-            Stands work.now self.old ls s → SpotFor work.now self.old ls s spot fs → Match (IsName work.now) names.now ns → NotesFor work.now ls asked.now p.notes →
-            EndsIn (λ bs ms. AllMatch (IsBinder work.now.symbols self.old.unit self.old.form.number) bs.items ms) work.now region self.old self.new ls spot fs result (define_each (searched known) here fs ns p s) }
+            Stands work.now self.old ls s → SpotFor work.now self.old ls s spot fs → AllMatch (IsName work.now) names.now ns → NotesFor work.now ls asked.now p.notes →
+            EndsIn (λ bs ms. EachIs (IsBinder work.now.symbols self.old.unit self.old.form.number) bs.items ms) work.now region self.old self.new ls spot fs result (define_each (searched known) here fs ns p s) }
         ensures counts { OnOk result (Takes (length names.now) self.old self.new) }
     {
         let mut binders = Vec::new(alloc);
@@ -167,6 +166,7 @@ impl UnitScope {
     ) -> Result<(), ExpandFault>
         requires can { CanGo work.now self.old spot asked.now }
         requires standing { (m : RecordShape Identifier) × IsRecordFor work.now shape.now m }
+        requires small { length shape.now.fields.items < 2 ^ 32 }
         requires room { (m : RecordShape Identifier) → IsRecordFor work.now shape.now m → self.old.form.budget.locals + length m.fields + length (record_names m) ≤ most_locals self.old.form.budget.nodes }
         ensures { (known : Known) (region : AnyRegion) (ls : List Frames) (s : ScopedState) (fs : Frames) (m : RecordShape Identifier) (p : ModelPending Identifier Place) (given : ℕ) →
             Knows self.old.libraries known → Stands work.now self.old ls s → SpotFor work.now self.old ls s spot fs → IsRecordFor work.now shape.now m →
@@ -270,7 +270,7 @@ fn add_modifiers(fields: &[FieldShape], names: &mut Vec<NamePart>) -> Mem<()>
 /// The places of the fields that have a modifier.
 fn modified(alloc: Global, fields: &[FieldShape]) -> Mem<Vec<u32>>
     requires { length fields.now < 2 ^ 32 }
-    ensures { (work : AnyWork) (fs : List (ModelField Identifier)) → Match (IsField work) fields.now fs →
+    ensures { (work : AnyWork) (fs : List (ModelField Identifier)) → AllMatch (IsField work) fields.now fs →
         IfOk result (λ places. places.items ≡ modified 0 fs) }
 {
     let mut places = Vec::new(alloc);
@@ -286,7 +286,7 @@ fn modified(alloc: Global, fields: &[FieldShape]) -> Mem<Vec<u32>>
 fn used(alloc: Global, names: &[NamePart], fields: &[FieldShape]) -> Mem<Vec<FieldUse>>
     requires { length fields.now < 2 ^ 32 }
     ensures { (work : AnyWork) (ns : List (Named Identifier)) (fs : List (ModelField Identifier)) → AreToldApart work.symbols.idents →
-        Match (IsName work) names.now ns → Match (IsField work) fields.now fs → IfOk result (λ uses. Match IsUse uses.items (used_fields fs ns)) }
+        AllMatch (IsName work) names.now ns → AllMatch (IsField work) fields.now fs → IfOk result (λ uses. AllMatch IsUse uses.items (used_fields fs ns)) }
 {
     let places = places_of(alloc, fields)?;
     let count = fields.len() as u32;

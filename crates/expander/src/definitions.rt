@@ -1,21 +1,26 @@
 //! Definitions in units and bodies (R7RS 5.3): one that changes what a keyword was taken for is refused, and so is a second one.
-ghost use Rattle.std.specs.Prelude.{◌≡◌, ℕ, ◌+◌, ◌≤◌, ◌∷◌, [], List, Option, Ok, OnOk, Bool, IsTrue, ◌↔◌};
+ghost use Rattle.std.specs.Prelude.{◌≡◌, ℕ, ◌+◌, ◌^◌, ◌≤◌, ◌<◌, List, length, Option, None, OnOk, false, ◌&&◌, ◌||◌};
+ghost use Rattle.std.specs.BTreeMap.{get};
+ghost use Rattle.std.specs.Ordering.{nat_cmp};
+ghost use Rattle.scheme_model.specs.CountedExpansion.{means_here, refused_here};
 ghost use Rattle.scheme_model.specs.ExpansionFaults.{Named};
 ghost use Rattle.scheme_model.specs.Ident.{Ident as Identifier};
+ghost use Rattle.scheme_model.specs.Meaning.{Meaning as ModelMeaning};
 ghost use Rattle.scheme_model.specs.Requirements.{Known};
 ghost use Rattle.scheme_model.specs.RulesShape.{Rules};
 ghost use Rattle.scheme_model.specs.Order.{Note as ModelNote, Pending, binder_at, told};
 ghost use Rattle.scheme_model.specs.ScopedExpansion.{Frames, Place, ScopedState, body_around, meaning_next, is_defined, assigned};
+ghost use Rattle.scheme_model.specs.Substitution.{any, differ};
 ghost use Rattle.syntax_tree.specs.Macros.{IsIdent};
 ghost use Rattle.syntax_tree.specs.Meant.{IsMeaning};
 ghost use Rattle.syntax_tree.specs.declared.trees.Work.{Work as AnyWork};
 ghost use Rattle.syntax_tree.specs.declared.trees.table.Region.{Region as AnyRegion};
 ghost use Rattle.core_forms.specs.Parts.{IsName};
 ghost use Rattle.core_tree.specs.Names.{IsBinder};
-ghost use Rattle.expander.specs.Searched.{searched};
+ghost use Rattle.expander.specs.Searched.{speaks_of, searched};
 ghost use Rattle.expander.specs.State.{Stands, most_locals};
-ghost use Rattle.expander.specs.Kept.{NotesFor, SpotFor};
-ghost use Rattle.expander.specs.Defining.{CanGo, HasNumber, IsKept, Takes, EndsIn};
+ghost use Rattle.expander.specs.Kept.{NoteFor, NotesFor, PlaceFor, SpotFor};
+ghost use Rattle.expander.specs.Defining.{CanGo, HasNumber, ComesTo, CanRefuse, next_here, Places, IsKept, Takes, EndsIn};
 
 use crate::asked::{Asked, Asking, Note};
 use crate::counting::code;
@@ -23,6 +28,7 @@ use crate::fault::ExpandFault;
 use crate::items::Spot;
 use crate::macros::Macro;
 use crate::scope::UnitScope;
+use crate::uses::same_meaning;
 use core_forms::NamePart;
 use core_tree::cores::Binder;
 use ls_base::Mem;
@@ -59,7 +65,8 @@ impl UnitScope {
 
     /// What the next definition makes its identifier mean.
     pub(crate) fn next_meaning(&self, spot: Spot, ident: IdNo) -> Meaning
-        ensures { (work : AnyWork) (ls : List Frames) (s : ScopedState) (fs : Frames) (i : Identifier) → Stands work self.now ls s →
+        ensures value { result ≡ next_here self.now spot.in_body ident }
+        ensures meaning { (work : AnyWork) (ls : List Frames) (s : ScopedState) (fs : Frames) (i : Identifier) → Stands work self.now ls s →
             SpotFor work self.now ls s spot fs → IsIdent work.symbols ident i → IsMeaning work.symbols s.unit s.form result (meaning_next s (body_around fs) i) }
     {
         if spot.in_body {
@@ -90,6 +97,8 @@ impl UnitScope {
             EndsIn (λ (done : Unit {0}) (q : Pending Identifier Place). q ≡ p) work.now region self.old self.new ls spot fs result (told here ((searched known).define n r fs p s)) }
         ensures counts { OnOk result (Takes 1 self.old self.new) }
     {
+        work.symbols.told_apart();
+        self.env.sound();
         let meaning = self.next_meaning(spot, name.ident);
         let coming = Coming {
             bound: Bound {
@@ -105,14 +114,28 @@ impl UnitScope {
         if self.is_defined(spot, name.ident) {
             return Err(self.fails_at(here, code::DUPLICATE, name));
         }
-        self.env.bind(spot.scope, name.ident, meaning)?;
+        self.place(spot, name.ident, meaning, coming.is_macro)?;
+        match kept {
+            None => Ok(()),
+            Some(kept) => {
+                self.macros.keep(self.form.number, meaning, kept)?;
+                Ok(())
+            }
+        }
+    }
+
+    /// Binds an identifier that has no definition there yet: in a body to the next local, in a unit as one that it defines.
+    fn place(&mut self, spot: Spot, ident: IdNo, meaning: Meaning, is_macro: bool) -> Mem<()>
+        requires scope { spot.scope < length self.old.env.scopes }
+        requires room { self.old.form.budget.locals + 1 < 2 ^ 64 }
+        requires undefined { spot.in_body ≡ false → get nat_cmp self.old.defined ident ≡ None }
+        ensures { OnOk result (Places self.old self.new spot.in_body spot.scope ident meaning is_macro) }
+    {
+        self.env.bind(spot.scope, ident, meaning)?;
         if spot.in_body {
             self.form.budget.locals += 1;
         } else {
-            self.defined.insert(name.ident, kept.is_some())?;
-        }
-        if let Some(kept) = kept {
-            self.macros.keep(self.form.number, meaning, kept)?;
+            self.defined.insert(ident, is_macro)?;
         }
         Ok(())
     }
@@ -135,12 +158,23 @@ impl UnitScope {
         ensures { (work : AnyWork) (ls : List Frames) (s : ScopedState) (fs : Frames) (i : Identifier) → Stands work self.now ls s →
             SpotFor work self.now ls s spot fs → IsIdent work.symbols ident i → result ≡ assigned s (body_around fs) i }
     {
-        !spot.in_body && self.is_program() && self.defined.get(&ident) == Some(&false)
+        if spot.in_body || !self.is_program() {
+            return false;
+        }
+        match self.defined.get(&ident) {
+            None => false,
+            Some(keyword) => !*keyword,
+        }
     }
 
     /// Whether a definition changes what a note was told.
-    fn is_refused(&self, work: &Work, coming: Coming, asked: &Asked) -> bool {
-        for number in asked.of(coming.bound.ident) {
+    fn is_refused(&self, work: &Work, coming: Coming, asked: &Asked) -> bool
+        requires { CanRefuse work.now self.now coming asked.now }
+        ensures { (ls : List Frames) (t : ScopedState) (m : ModelMeaning) (x : Identifier) (ns : List (ModelNote Place)) → ComesTo work.now self.now ls t coming m →
+            IsIdent work.now.symbols coming.bound.ident x → NotesFor work.now ls asked.now ns → result ≡ any (λ note. speaks_of x note && refused_here t m coming.is_macro note) ns }
+    {
+        let numbers = asked.of(coming.bound.ident);
+        for number in numbers {
             if self.is_changed(work, coming, asked.note(*number)) {
                 return true;
             }
@@ -149,23 +183,51 @@ impl UnitScope {
     }
 
     /// Whether a note asked what the definition defines, and would be told otherwise with it.
-    fn is_changed(&self, work: &Work, coming: Coming, note: Note) -> bool {
+    fn is_changed(&self, work: &Work, coming: Coming, note: Note) -> bool
+        requires { (ls : List Frames) × (t : ScopedState) × (m : ModelMeaning) × (q : ModelNote Place) × ComesTo work.now self.now ls t coming m × NoteFor work.now ls note q }
+        ensures { (ls : List Frames) (t : ScopedState) (m : ModelMeaning) (q : ModelNote Place) → ComesTo work.now self.now ls t coming m → NoteFor work.now ls note q →
+            result ≡ refused_here t m coming.is_macro q }
+    {
+        work.symbols.told_apart();
         match note {
             Note::LookedUp { at, head, keyword } => {
-                let asks = self.meant_with(work, coming, at) == coming.bound.meaning;
-                asks && (keyword || (head && coming.is_macro))
+                let now = self.meant_with(work, coming, at);
+                let asks = same_meaning(now, coming.bound.meaning);
+                is_taken(asks, head, keyword, coming.is_macro)
             }
             Note::Compared { literal, at, held } => {
                 let first = self.meant_with(work, coming, literal);
                 let second = self.meant_with(work, coming, at);
-                let asks = first == coming.bound.meaning || second == coming.bound.meaning;
-                asks && held != (first == second)
+                let of_first = same_meaning(first, coming.bound.meaning);
+                let of_second = same_meaning(second, coming.bound.meaning);
+                let holds = same_meaning(first, second);
+                is_turned(of_first, of_second, held, holds)
             }
         }
     }
 
     /// What an identifier that was asked will mean with a definition.
-    fn meant_with(&self, work: &Work, coming: Coming, at: Asking) -> Meaning {
-        self.env.resolve_with(at.scope, at.ident, &work.symbols, coming.bound)
+    fn meant_with(&self, work: &Work, coming: Coming, at: Asking) -> Meaning
+        requires scope { at.scope < length self.now.env.scopes }
+        requires ident { at.ident < length work.now.symbols.idents }
+        ensures { (ls : List Frames) (t : ScopedState) (m : ModelMeaning) (p : Place) → ComesTo work.now self.now ls t coming m → PlaceFor work.now ls at p →
+            IsMeaning work.now.symbols t.unit t.form result (means_here t p.frames p.ident) }
+    {
+        self.env
+            .resolve_with(at.scope, at.ident, &work.symbols, coming.bound)
     }
+}
+
+/// Whether a look-up was of what is defined, and took it for a keyword, or for no macro at the head of a form.
+fn is_taken(asks: bool, head: bool, keyword: bool, is_macro: bool) -> bool
+    ensures { result ≡ (asks && (keyword || (head && is_macro))) }
+{
+    asks && (keyword || (head && is_macro))
+}
+
+/// Whether a comparison was with what is defined, and would come out otherwise.
+fn is_turned(of_first: bool, of_second: bool, held: bool, holds: bool) -> bool
+    ensures { result ≡ ((of_first || of_second) && differ held holds) }
+{
+    (of_first || of_second) && held != holds
 }

@@ -12,6 +12,7 @@ ghost use Rattle.syntax_tree.specs.Names.{KeepsNames};
 ghost use Rattle.syntax_tree.specs.Works.{IsOpened, StandsFor, KeepsTrees, SameRegions, AddsIn, live_count};
 ghost use Rattle.core_tree.specs.Names.{AllMatch};
 ghost use Rattle.expander.specs.Judged.{Knows};
+ghost use Rattle.expander.specs.State.{is_program};
 ghost use Rattle.expander.specs.Outcomes.{IsAtWork};
 ghost use Rattle.expander.specs.Units.{UnitStands, CountsFor, HasSpace, ItemFor, Declares, Expands, CanDeclare, declared, expanded};
 
@@ -251,7 +252,9 @@ impl UnitScope {
     }
 
     /// Whether the open unit is a program.
-    pub(crate) fn is_program(&self) -> bool {
+    pub(crate) fn is_program(&self) -> bool
+        ensures { result ≡ is_program self.now.kind }
+    {
         match self.kind {
             UnitKind::Program => true,
             UnitKind::Library => false,

@@ -16,7 +16,7 @@ ghost use Rattle.syntax_tree.specs.Macros.{identifiers};
 ghost use Rattle.core_tree.specs.Names.{AllMatch};
 ghost use Rattle.expander.specs.Searched.{searched};
 ghost use Rattle.expander.specs.State.{Stands};
-ghost use Rattle.expander.specs.Used.{UseFor, CanUse, ComparisonFor, AreHeld};
+ghost use Rattle.expander.specs.Used.{UseFor, CanUse, ComparisonFor, AreHeld, meanings_equal};
 ghost use Rattle.expander.specs.Outcomes.{At, WorksOn, EndsHere};
 
 use crate::counting::{MAX_NODES, code, fails};
@@ -247,4 +247,11 @@ fn name_of(keyword: Target) -> NamePart
         ident: keyword.ident,
         occ: keyword.occ,
     }
+}
+
+/// Whether two meanings of a form are the same.
+pub(crate) fn same_meaning(a: Meaning, b: Meaning) -> bool
+    ensures { result ≡ meanings_equal a b }
+{
+    a == b
 }
