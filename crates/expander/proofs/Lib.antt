@@ -30,3 +30,13 @@ pub mod SearchedNotes
 pub mod DefineLaws
 pub mod DefinitionSteps
 pub mod ChangedNotes
+pub mod ShapeLaws
+pub mod FitLaws
+pub mod CoreStandLaws
+pub mod HeldLaws
+pub mod ReadLaws
+pub mod RowLaws
+pub mod AfterLaws
+pub mod CoreLaws
+pub mod SettleLaws
+pub mod PassSteps

@@ -25,6 +25,7 @@ use Rattle.expander.specs.declared.fault.ExpandFault.TheVariants as fault
 use Rattle.expander.specs.declared.scope.UnitScope.{UnitScope}
 use Rattle.expander.proofs.CountingStands.{nodes_stand}
 use Rattle.expander.proofs.OutcomeLaws.{grows_itself, stays_itself, ends_after, bound_goes, moves_here}
+use Rattle.std.specs.Result.{IsErrAnd}
 
 -- ---- faults that name nothing
 
@@ -132,7 +133,7 @@ module _ {X Y V Z : Type 0} where
       ((y : Y) (m : Moves a b region u w ls p.1) → P m.layout x y → Ends Q b c region w v m.layout result (f y p.1)) →
       Ends Q a c region u v ls result (p >>= f)
   ends_then P Q a b c region u w v ls x result p f h next =
-      subst (λ (q : Result Z Broken × ScopedState). Ends Q a c region u v ls result q) (sym (bound_goes {X = X} p f h.0 h.2))
+      subst (λ (q : Result Z Broken × ScopedState). Ends Q a c region u v ls result q) (sym (bound_goes p f h.0 h.2))
       (ends_after Q a b c region u w v ls p.1 result (f h.0 p.1) h.1 (next h.0 h.1 h.3))
 
   -- a step that opens no scope, and what is behind it
@@ -140,6 +141,21 @@ module _ {X Y V Z : Type 0} where
       EndsHere P a b region u w ls (Ok x) p →
       ((y : Y) → Stays a b region u w ls p.1 → P x y → Ends Q b c region w v ls result (f y p.1)) →
       Ends Q a c region u v ls result (p >>= f)
+  unfolding moves_here
   here_then P Q a b c region u w v ls x result p f h next =
-      subst (λ (q : Result Z Broken × ScopedState). Ends Q a c region u v ls result q) (sym (bound_goes {X = X} p f h.0 h.2))
+      subst (λ (q : Result Z Broken × ScopedState). Ends Q a c region u v ls result q) (sym (bound_goes p f h.0 h.2))
       (ends_after Q a b c region u w v ls p.1 result (f h.0 p.1) (moves_here a b region u w ls p.1 h.1) (next h.0 h.1 h.3))
+
+module _ {X Y : Type 0} where
+  -- a step that is done, with this value
+  pub here_done : (P : X → Y → Type 0) (a c : Work) (region : Region) (u v : UnitScope) (ls : List Frames) (x : X) (p : Result Y Broken × ScopedState) (y : Y) (t : ScopedState) → p ≡ done y t → Stays a c region u v ls t → P x y → EndsHere P a c region u v ls (Ok x) p
+  here_done P a c region u v ls x p y t is stays held = subst (λ (q : Result Y Broken × ScopedState). EndsHere P a c region u v ls (Ok x) q) (sym is) (y, stays, refl, held)
+
+  -- a fault that is handed on
+  pub here_err : (P : X → Y → Type 0) (a c : Work) (region : Region) (u v : UnitScope) (ls : List Frames) (r : Result X ExpandFault) (e : ExpandFault) (p : Result Y Broken × ScopedState) → IsErrAnd r (λ f. f ≡ e) → EndsHere P a c region u v ls (Err e) p → EndsHere P a c region u v ls r p
+  here_err P a c region u v ls (Ok x) e p h ends = absurd h
+  here_err P a c region u v ls (Err f) e p h ends = subst (λ (g : ExpandFault). EndsHere P a c region u v ls (Err {A = X} g) p) (sym h) ends
+
+  pub ends_err : (P : List Frames → X → Y → Type 0) (a c : Work) (region : Region) (u v : UnitScope) (ls : List Frames) (r : Result X ExpandFault) (e : ExpandFault) (p : Result Y Broken × ScopedState) → IsErrAnd r (λ f. f ≡ e) → Ends P a c region u v ls (Err e) p → Ends P a c region u v ls r p
+  ends_err P a c region u v ls (Ok x) e p h ends = absurd h
+  ends_err P a c region u v ls (Err f) e p h ends = subst (λ (g : ExpandFault). Ends P a c region u v ls (Err {A = X} g) p) (sym h) ends

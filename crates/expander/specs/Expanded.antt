@@ -4,6 +4,7 @@ use Rattle.std.specs.Global.{Box}
 use Rattle.scheme_model.specs.Ident.{Ident as Identifier}
 use Rattle.scheme_model.specs.ExpansionFaults.{Named}
 use Rattle.scheme_model.specs.Trees.{Trees}
+use Rattle.scheme_model.specs.Measures.{trees_size}
 use Rattle.scheme_model.specs.Shapes.{Clause, LocalMacros}
 use Rattle.scheme_model.specs.Cores.{Core, Binders}
 use Rattle.scheme_model.specs.Steps.{Step}
@@ -33,6 +34,10 @@ use Rattle.expander.specs.declared.scope.UnitScope.{UnitScope}
 
 abbrev pub AreAtWork : Work → Region → List number.Tree → Type 0
 AreAtWork work region ns = (ts : Trees Identifier) × PartsStand work ns ts × AllNamed work region ns
+
+-- the forms of a body have no more nodes than a tree
+abbrev pub BodyAtWork : Work → Region → List number.Tree → Type 0
+BodyAtWork work region ns = (ts : Trees Identifier) × PartsStand work ns ts × AllNamed work region ns × (trees_size ts ≤ 4194304)
 
 abbrev pub ShapeAtWork : Work → Region → code_shape.CoreShape → Type 0
 ShapeAtWork work region x = (m : Shape) × ShapeFor work x m × ShapeNamed work region x × ShapeFits m

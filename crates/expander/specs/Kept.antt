@@ -3,7 +3,7 @@ use Rattle.std.specs.Prelude.{◌≡◌, ℕ, ◌+◌, ◌-◌, ◌*◌, ◌≤�
 use Rattle.std.specs.declared.alloc.Global.{Global}
 use Rattle.scheme_model.specs.Identifiers.{Number}
 use Rattle.scheme_model.specs.Ident.{Ident as Identifier}
-use Rattle.scheme_model.specs.Measures.{tree_size}
+use Rattle.scheme_model.specs.Measures.{tree_size, trees_size}
 use Rattle.scheme_model.specs.Expression.{meaning_of}
 use Rattle.scheme_model.specs.Order.{Form, Item, Expression, Value, Function, Assigned, AssignedFunction, ValuesOf, Record, Macro, Note, LookedUp, Compared, Pending}
 use Rattle.scheme_model.specs.Shapes.{Clause}
@@ -42,9 +42,9 @@ use Rattle.expander.specs.declared.scope.UnitScope.{UnitScope}
 abbrev pub FormFor : Work → Region → code_form.Form → Form Identifier → Type 0
 FormFor work region f m = (f.here ≡ m.here) × WorksOn work region f.tree m.tree
 
--- it binds no more names than a tree has nodes
+-- it binds no more names than a tree has nodes, and its body has no more nodes
 abbrev pub ClauseFits : Clause Identifier → Type 0
-ClauseFits c = length c.formals.names ≤ 4194304
+ClauseFits c = (length c.formals.names ≤ 4194304) × (trees_size c.body ≤ 4194304)
 
 -- a procedure's formals and body
 abbrev pub ClauseFor : Work → Region → code_clause.ClauseShape → Clause Identifier → Type 0

@@ -1,10 +1,11 @@
 -- How the forms of a body, or a form of a unit, are gone through in the code: step by step as the definition does, whatever is to
 -- follow (R7RS 5.3.2).
-use Rattle.std.specs.Prelude.{◌≡◌, ℕ, ◌+◌, ◌<◌, ◌≤◌, List, [], ◌∷◌, length, Result, Ok, Err}
+use Rattle.std.specs.Prelude.{◌≡◌, ℕ, ◌+◌, ◌<◌, ◌≤◌, List, [], ◌∷◌, length, Option, Result, Ok, Err}
 use Rattle.scheme_model.specs.Ident.{Ident as Identifier}
 use Rattle.scheme_model.specs.Steps.{Broken}
 use Rattle.scheme_model.specs.Measures.{tree_size, trees_size}
 use Rattle.scheme_model.specs.Trees.{Tree, Trees}
+use Rattle.scheme_model.specs.Quasiquote.{Mark, quasi_of}
 use Rattle.scheme_model.specs.Shapes.{Clause, Variable as define_variable, Procedure as define_procedure}
 use Rattle.scheme_model.specs.Order.{Here, Item, Note, Pending, Pass, Going, Ops, or_none, read_then, splice, record_names, run_define, run_values, run_record, run_syntax, put, Expression, Form}
 use Rattle.scheme_model.specs.ScopedExpansion.{Frames, Place, ScopedState}
@@ -82,11 +83,11 @@ Passes old new region u v ls spot fs most aside asked (Err fault.Memory) p = Lea
 
 -- ---- core forms by their shapes
 
-abbrev choices_size : List (Tree Identifier × Trees Identifier) → ℕ
+abbrev pub choices_size : List (Tree Identifier × Trees Identifier) → ℕ
 choices_size [] = 0
 choices_size (c ∷ cs) = trees_size c.1 + choices_size cs
 
-abbrev ClausesFit : List (Clause Identifier) → Type 0
+abbrev pub ClausesFit : List (Clause Identifier) → Type 0
 ClausesFit [] = Unit {0}
 ClausesFit (c ∷ cs) = ClauseFits c × ClausesFit cs
 
@@ -126,20 +127,21 @@ IsPassed (Local m) = ⊥
 IsPassed (ErrorText text) = ⊥
 IsPassed Inclusion = ⊥
 
--- its procedures and local macros bind no more names than a tree has nodes
+-- its procedures and local macros bind no more names than a tree has nodes, their bodies have no more nodes, and the pieces of a
+-- quasiquotation are those of its datum
 abbrev pub ShapeFits : Shape → Type 0
 ShapeFits (Procedure c) = ClauseFits c
 ShapeFits (Procedures cs) = ClausesFit cs
 ShapeFits (Definition (define_procedure n c)) = ClauseFits c
 ShapeFits (Definition (define_variable n t)) = Unit {0}
-ShapeFits (Local m) = length m.names ≤ 4194304
+ShapeFits (Local m) = (length m.names ≤ 4194304) × (trees_size m.body ≤ 4194304)
 ShapeFits (Sequence ts) = Unit {0}
 ShapeFits (Choices cs) = Unit {0}
 ShapeFits (Several p) = Unit {0}
 ShapeFits (RecordType r) = Unit {0}
 ShapeFits (Syntax p) = Unit {0}
 ShapeFits (Quoted t) = Unit {0}
-ShapeFits (Quasi t p) = Unit {0}
+ShapeFits (Quasi t p) = (mark : Identifier → Option Mark) × (quasi_of mark t ≡ Ok p)
 ShapeFits (Conditional ts) = Unit {0}
 ShapeFits (Assignment p) = Unit {0}
 ShapeFits (ErrorText text) = Unit {0}

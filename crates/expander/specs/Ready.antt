@@ -1,17 +1,20 @@
 -- How an expression is read in the code, up to its parts that are to be expanded (R7RS 4.1, 4.2).
-use Rattle.std.specs.Prelude.{◌≡◌, ℕ, suc, List, Bool, true, false, Option, Some, Result, Ok, Err}
+use Rattle.std.specs.Prelude.{◌≡◌, ℕ, suc, List, Bool, true, false, Option, Some, None, Result, Ok, Err}
 use Rattle.scheme_model.specs.declared.Occ.{Occ}
 use Rattle.scheme_model.specs.Ident.{Ident as Identifier}
 use Rattle.scheme_model.specs.Keywords.{CoreKeyword}
-use Rattle.scheme_model.specs.Trees.{Tree, name, atom, list, vector, Trees, no_trees, tree}
+use Rattle.scheme_model.specs.Trees.{Tree, name, atom, list, vector, Trees, no_trees, tree, Tail}
 use Rattle.scheme_model.specs.Meaning.{Head, IsCore, IsAuxiliary, IsMacro, IsNone, is_keyword}
 use Rattle.scheme_model.specs.ExpansionFaults.{Named, KeywordAsValue}
 use Rattle.scheme_model.specs.Cores.{Core, Call}
 use Rattle.scheme_model.specs.Steps.{Broken, ◌>>=◌, done}
 use Rattle.scheme_model.specs.Requirements.{Known}
-use Rattle.scheme_model.specs.Order.{head_of}
+use Rattle.scheme_model.specs.Order.{Transformer, head_of, target_of}
 use Rattle.scheme_model.specs.Expression.{Expander, whole, node, each, expression, expand}
-use Rattle.scheme_model.specs.ScopedExpansion.{Frames, ScopedState}
+use Rattle.scheme_model.specs.ScopedExpansion.{Frames, ScopedState, macro_at}
+use Rattle.scheme_model.specs.CountedExpansion.{means_here}
+use Rattle.core_tree.specs.Names.{IsTarget}
+use Rattle.core_tree.specs.declared.cores.Target as code_target
 use Rattle.syntax_tree.specs.Looks.{PartsStand, AllNamed}
 use Rattle.syntax_tree.specs.declared.trees.Work.{Work}
 use Rattle.syntax_tree.specs.declared.trees.nodes.Tree as number
@@ -41,7 +44,7 @@ Expanding = Expander Frames Identifier ScopedState
 
 -- ---- macro uses at the head
 
-abbrev not_macro : Head → Type 0
+abbrev pub not_macro : Head → Type 0
 not_macro (IsCore k) = Unit {0}
 not_macro (IsAuxiliary a) = Unit {0}
 not_macro (IsMacro m) = ⊥
@@ -57,6 +60,14 @@ IsSettled known s fs (list (tree (name i p) ts) tail o) = not_macro (head_of (se
 IsSettled known s fs (list (tree (atom a p) ts) tail o) = Unit {0}
 IsSettled known s fs (list (tree (list us end p) ts) tail o) = Unit {0}
 IsSettled known s fs (list (tree (vector us p) ts) tail o) = Unit {0}
+
+-- the keyword of a use of a macro that there is; or no macro is at the head
+abbrev pub IsMacroKeyword : Work → Known → ScopedState → Frames → Tree Identifier → Option code_target.Target → Type 0
+IsMacroKeyword work known s fs t None = IsSettled known s fs t
+IsMacroKeyword work known s fs t (Some keyword) =
+    (i : Identifier) × (p : Option Occ) × (ts : Trees Identifier) × (tail : Tail Identifier) × (o : Option Occ) × (m : Transformer Frames Identifier)
+    × (t ≡ list (tree (name i p) ts) tail o) × IsTarget work.symbols s.unit s.form keyword (target_of (searched known) fs s i p)
+    × (head_of (searched known) fs s i ≡ IsMacro (means_here s fs i)) × (macro_at s.macros (means_here s fs i) ≡ Some m)
 
 -- what is come to when all macros at the head are used: the same core in fewer turns, which are still enough
 pub record Settled (known : Known) (depth turns : ℕ) (fs : Frames) (u v : UnitScope) (p : Result Core Broken × ScopedState) (here : Option Occ) (t : Tree Identifier) (s : ScopedState) : Type 0 where

@@ -21,7 +21,7 @@ ghost use Rattle.expander.specs.Searched.{searched};
 ghost use Rattle.expander.specs.Kept.{ClauseFor, KeptFor};
 ghost use Rattle.expander.specs.Passed.{ShapeFits};
 ghost use Rattle.expander.specs.Outcomes.{CanLook, IsAtWork, IsEnough, IsEnoughBelow, HasRoom, Runs, Spends};
-ghost use Rattle.expander.specs.Expanded.{AreAtWork, ClauseStands, macros_step, ShapeAtWork, ClauseAtWork, ClausesAtWork, KeptAtWork, AreKeptAtWork, MacrosAtWork};
+ghost use Rattle.expander.specs.Expanded.{AreAtWork, BodyAtWork, ClauseStands, macros_step, ShapeAtWork, ClauseAtWork, ClausesAtWork, KeptAtWork, AreKeptAtWork, MacrosAtWork};
 
 use crate::bodies::{in_place, names_of};
 use crate::counting::{code, fails};
@@ -236,7 +236,7 @@ impl UnitScope {
     ) -> Result<Core, ExpandFault>
         requires opened { IsOpened work.old region.now }
         requires look { CanLook work.old self.old at.scope }
-        requires forms { AreAtWork work.old region.now forms.now }
+        requires forms { BodyAtWork work.old region.now forms.now }
         requires room { HasRoom (2 ^ 42) self.old }
         ensures runs { (ts : Trees Identifier) (turns : ℕ) → PartsStand work.old forms.now ts → IsEnough at.depth self.old.form.budget.uses turns →
             Runs (λ ls. CoreStands work.new self.new.unit self.new.form.number) work.old work.new region.now self.old self.new at.scope result (λ known fs. expand (searched known) turns at.depth at.here fs (body ts)) }
@@ -394,7 +394,7 @@ impl UnitScope {
         requires opened { IsOpened work.old region.now }
         requires look { CanLook work.old self.old at.scope }
         requires macros { MacrosAtWork work.old macros.now }
-        requires forms { AreAtWork work.old region.now forms.now }
+        requires forms { BodyAtWork work.old region.now forms.now }
         requires room { HasRoom (2 ^ 43) self.old }
         ensures runs { (m : LocalMacros Identifier) (turns : ℕ) → AreMacros work.old macros.now m.names m.rules → PartsStand work.old forms.now m.body → IsEnoughBelow at.depth self.old.form.budget.uses turns →
             Runs (λ ls. CoreStands work.new self.new.unit self.new.form.number) work.old work.new region.now self.old self.new at.scope result (λ known fs. macros_step recursive (expand (searched known) turns) (searched known) at.depth at.here fs m) }

@@ -4,11 +4,13 @@ ghost use Rattle.scheme_model.specs.ExpansionFaults.{Named};
 ghost use Rattle.scheme_model.specs.Ident.{Ident as Identifier};
 ghost use Rattle.scheme_model.specs.Keywords.{CoreKeyword as ModelKeyword};
 ghost use Rattle.scheme_model.specs.Requirements.{Known};
-ghost use Rattle.scheme_model.specs.Order.{head_of};
+ghost use Rattle.scheme_model.specs.Order.{Transformer, head_of, use_of};
+ghost use Rattle.scheme_model.specs.Cores.{Target as ModelTarget};
+ghost use Rattle.expander.specs.Used.{CanUse, UseFor};
 ghost use Rattle.scheme_model.specs.Trees.{Tree as ModelTree, list, Trees, tree, Tail};
 ghost use Rattle.scheme_model.specs.Expression.{whole, expand, expression, core_form, quote, reference};
 ghost use Rattle.scheme_model.specs.ScopedExpansion.{Frames, ScopedState};
-ghost use Rattle.syntax_tree.specs.Works.{IsOpened, IsStanding, StandsFor};
+ghost use Rattle.syntax_tree.specs.Works.{IsOpened, IsStanding, StandsFor, CanName};
 ghost use Rattle.syntax_tree.specs.Looks.{PartsStand, EndStands, AllNamed};
 ghost use Rattle.syntax_tree.specs.declared.trees.table.Region.{Region as AnyRegion};
 ghost use Rattle.core_forms.specs.Ends.{keyword_as};
@@ -19,13 +21,14 @@ ghost use Rattle.expander.specs.Searched.{searched};
 ghost use Rattle.expander.specs.State.{Stands};
 ghost use Rattle.expander.specs.Outcomes.{At as Stand, CanLook, EndsHere, IsAtWork, WorksOn, IsEnough};
 ghost use Rattle.expander.specs.Defining.{HasNumber};
-ghost use Rattle.expander.specs.Ready.{IsSettled, Settles, Reads, TestsVariable, BeginsBelow};
+ghost use Rattle.expander.specs.Ready.{IsSettled, IsMacroKeyword, Settles, Reads, TestsVariable, BeginsBelow};
 
 use crate::counting::{code, fails, fails_with, misread};
 use crate::fault::ExpandFault;
 use crate::heads::Head;
 use crate::passes::{head_name, here_at};
 use crate::scope::UnitScope;
+use crate::sizes::trees_fit;
 use crate::uses::{Use, held};
 use core_forms::{CoreKeyword, CoreShape, NamePart, parse_core};
 use core_tree::cores::{Core, Target};
@@ -81,20 +84,48 @@ impl UnitScope {
                 keyword,
                 form,
             };
-            let (_, comparisons) = self.compare(alloc, work, use_at)?;
-            let same = held(alloc, &comparisons)?;
-            form = self.apply(alloc, work, region, use_at, &same)?;
+            form = self.make_use(alloc, work, region, use_at)?;
             here = here_at(work, form, here);
         }
         Ok((form, here))
     }
 
+    /// Makes a macro use: the tree that it gives.
+    fn make_use(
+        &mut self,
+        alloc: Global,
+        work: &mut Work,
+        region: &Region,
+        at: Use,
+    ) -> Result<Tree, ExpandFault>
+        requires opened { IsOpened work.old region.now }
+        requires usable { CanUse work.old self.old at }
+        requires named { CanName work.old region.now at.form }
+        ensures used { (known : Known) (ls : List Frames) (s : ScopedState) (fs : Frames) (keyword : ModelTarget) (m : Transformer Frames Identifier) (ts : Trees Identifier) (tail : Tail Identifier) →
+            Stands work.old self.old ls s → Stand ls at.scope fs → UseFor work.old s at keyword m ts tail →
+            EndsHere (WorksOn work.new region.now) work.old work.new region.now self.old self.new ls result (use_of (searched known) at.here fs keyword m ts tail s) }
+        ensures counted { OnOk result (self.new.form.budget.uses ≡ self.old.form.budget.uses + 1) }
+        ensures locals { OnOk result (self.new.form.budget.locals ≡ self.old.form.budget.locals) }
+    {
+        work.symbols.told_apart();
+        let (_, comparisons) = self.compare(alloc, work, at)?;
+        let same = held(alloc, &comparisons)?;
+        self.apply(alloc, work, region, at, &same)
+    }
+
     /// The keyword of a form, where it is a macro use.
-    fn macro_keyword(&self, work: &Work, scope: ScopeNo, form: Tree) -> Option<Target> {
+    fn macro_keyword(&self, work: &Work, scope: ScopeNo, form: Tree) -> Option<Target>
+        requires look { CanLook work.now self.now scope }
+        requires form { IsStanding work.now form }
+        ensures { (known : Known) (ls : List Frames) (s : ScopedState) (fs : Frames) (t : ModelTree Identifier) → Stands work.now self.now ls s → Stand ls scope fs → StandsFor work.now form t →
+            IsMacroKeyword work.now known s fs t result }
+    {
         let name = head_name(work, form)?;
         match self.head_of(work, scope, name.ident) {
             Head::Macro => Some(self.target(work, scope, name)),
-            Head::Core(_) | Head::Auxiliary(_) | Head::Other => None,
+            Head::Core(_) => None,
+            Head::Auxiliary(_) => None,
+            Head::Other => None,
         }
     }
 
@@ -183,6 +214,7 @@ impl UnitScope {
             Reads known at.depth at.here work.now region self.old self.new ls fs result (λ f. core_form f (searched known) at.depth at.here fs c ts end s) }
         ensures locals { OnOk result (self.new.form.budget.locals ≡ self.old.form.budget.locals) }
     {
+        trees_fit(work);
         let marks = self.marks(alloc, work, at.scope, core, form)?;
         let shape = match parse_core(alloc, work, core, form, true, &marks) {
             Ok(shape) => shape,
@@ -207,6 +239,7 @@ impl UnitScope {
             EndsHere (CoreStands work.now self.old.unit self.old.form.number) work.now work.now region self.old self.new ls result (quote (searched known) at.depth at.here t s) }
         ensures locals { OnOk result (self.new.form.budget.locals ≡ self.old.form.budget.locals) }
     {
+        trees_fit(work);
         self.begin_node(at.here, work.size(datum) + 1, at.depth)?;
         Ok(Core::Quote(datum))
     }

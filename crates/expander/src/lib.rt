@@ -19,6 +19,7 @@ mod passes;
 mod quasi;
 mod requirements;
 mod scope;
+mod sizes;
 mod syntax;
 mod unit;
 mod uses;
