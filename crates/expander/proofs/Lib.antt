@@ -40,3 +40,5 @@ pub mod AfterLaws
 pub mod CoreLaws
 pub mod SettleLaws
 pub mod PassSteps
+pub mod WeightLaws
+pub mod PassLaws

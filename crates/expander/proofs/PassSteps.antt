@@ -1,7 +1,6 @@
 -- A form that is gone through: a core form that splices or defines is read as its shape and then done as the shape is, and any other
 -- is set aside.
 use Rattle.std.proofs.Common.{◌≡◌, ℕ, List, [], ◌∷◌, Bool, true, false, Option, Some, None, Result, Ok, Err, refl, sym, ap, ◌∙◌}
-use Rattle.std.proofs.lemmas.Option.{same_Some}
 use Rattle.scheme_model.specs.Trees.{Tree, name, atom, list, vector, Trees, no_trees, tree, Tail}
 use Rattle.scheme_model.specs.ExpansionFaults.{Named, Fault, fault_map, BadRules, TwoEllipses, DuplicateVariable, EllipsisDepth, IdleEllipsis, NoRule, EllipsisLength, BadForm, DuplicateBinder, BadPlace, BadRecord, BadQuasi, KeywordRedefined, Duplicate, KeywordAsValue, UseBudget, NodeBudget, DepthBudget, SyntaxError, IncludeRefused, OutOfTurns, ◌>>◌}
 use Rattle.scheme_model.specs.Keywords.{CoreKeyword, IsQuote, IsQuasiquote, IsLambda, IsCaseLambda, IsIf, IsSet, IsBegin, IsDefine, IsDefineValues, IsDefineRecordType, IsDefineSyntax, IsLetSyntax, IsLetrecSyntax, IsCondExpand, IsSyntaxError, IsInclude}
@@ -14,6 +13,8 @@ use Rattle.scheme_model.specs.Meaning.{Head, IsCore, IsAuxiliary, IsMacro, IsNon
 use Rattle.scheme_model.specs.Order.{Here, Form, Expression, LookedUp, Pending, Pass, Going, or_none, put, noted, read_then, splice, head_of, target_of, run_core, run_head, run_form}
 use Rattle.scheme_model.specs.ScopedExpansion.{Frames, Place, ScopedState}
 use Rattle.core_forms.specs.Forms.{Shape, Sequence, Definition, Several, RecordType, Syntax, Choices, choices_in, shape_of}
+use Rattle.syntax_tree.specs.declared.trees.Work.{Work}
+use Rattle.core_forms.specs.Parts.{IsNameIfAny}
 use Rattle.expander.specs.Judged.{chosen_among}
 use Rattle.expander.specs.Passed.{pass_step}
 use Rattle.expander.specs.Searched.{searched}
@@ -112,29 +113,12 @@ module _ (known : Known) (go : Going Identifier Place ScopedState) (here : Here)
   -- ---- forms by their heads
 
   -- a form without a name at its head
-  pub no_head : (t : Tree Identifier) (s : ScopedState) → head_name_of t ≡ None → run_form (searched known) go fs here form t p s ≡ go (put (Expression form) p) s
-  no_head (name i o) s h = refl
-  no_head (atom a o) s h = refl
-  no_head (vector ts o) s h = refl
-  no_head (list no_trees tail o) s h = refl
-  no_head (list (tree (name i q) ts) tail o) s h = absurd cc
-  no_head (list (tree (atom a q) ts) tail o) s h = refl
-  no_head (list (tree (list us end q) ts) tail o) s h = refl
-  no_head (list (tree (vector us q) ts) tail o) s h = refl
-
--- the parts of a form with a name at its head
-pub record IsHeaded (t : Tree Identifier) (n : Named Identifier) : Type 0 where
-  pub parts : Trees Identifier
-  pub tail : Tail Identifier
-  pub place : Here
-  pub is : t ≡ list (tree (name n.name n.occ) parts) tail place
-
-pub headed : (t : Tree Identifier) (n : Named Identifier) → head_name_of t ≡ Some n → IsHeaded t n
-headed (name i o) n h = absurd cc
-headed (atom a o) n h = absurd cc
-headed (vector ts o) n h = absurd cc
-headed (list no_trees tail o) n h = absurd cc
-headed (list (tree (name i q) ts) tail o) n h = record { parts = ts; tail = tail; place = o; is = ap (λ (m : Named Identifier). list (tree (name m.name m.occ) ts) tail o) (same_Some _ n h) }
-headed (list (tree (atom a q) ts) tail o) n h = absurd cc
-headed (list (tree (list us end q) ts) tail o) n h = absurd cc
-headed (list (tree (vector us q) ts) tail o) n h = absurd cc
+  pub no_head : (work : Work) (t : Tree Identifier) (s : ScopedState) → IsNameIfAny work None (head_name_of t) → run_form (searched known) go fs here form t p s ≡ go (put (Expression form) p) s
+  no_head work (name i o) s h = refl
+  no_head work (atom a o) s h = refl
+  no_head work (vector ts o) s h = refl
+  no_head work (list no_trees tail o) s h = refl
+  no_head work (list (tree (name i q) ts) tail o) s h = absurd h
+  no_head work (list (tree (atom a q) ts) tail o) s h = refl
+  no_head work (list (tree (list us end q) ts) tail o) s h = refl
+  no_head work (list (tree (vector us q) ts) tail o) s h = refl
