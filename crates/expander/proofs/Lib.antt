@@ -22,6 +22,7 @@ pub mod AskedSearch
 pub mod ToldLaws
 pub mod LeafLaws
 pub mod SeenLaws
+pub mod FormRows
 pub mod ChoiceLaws
 pub mod OutcomeLaws
 pub mod NodeLaws

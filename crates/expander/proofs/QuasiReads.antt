@@ -1,7 +1,9 @@
 -- A reading of a quasiquotation asks only of the identifiers that stand in it, and its nodes are those outside its holes and those of
 -- what stands in the holes.
 use Rattle.std.proofs.Common.{◌≡◌, ℕ, zero, suc, ◌+◌, ◌<◌, ◌≤◌, List, [], ◌∷◌, ◌++◌, length, get_or, drop, Bool, true, false, Option, Some, None, Result, Ok, Err, refl, sym, ap, ◌∙◌, subst, arith}
-use Rattle.std.specs.Prelude.{◌||◌, if◌then◌else◌}
+use Rattle.std.specs.Prelude.{◌||◌, ◌⊎◌, if◌then◌else◌}
+use Rattle.std.proofs.Common.{inl, inr}
+use Rattle.std.proofs.lemmas.Option.{same_Some}
 use Rattle.scheme_model.specs.declared.Occ.{Occ}
 use Rattle.scheme_model.specs.Trees.{Tree, name, atom, list, vector, Trees, no_trees, tree, Tail, proper, dotted}
 use Rattle.scheme_model.specs.Keywords.{CoreKeyword, IsQuote, IsQuasiquote, IsLambda, IsCaseLambda, IsIf, IsSet, IsBegin, IsDefine, IsDefineValues, IsDefineRecordType, IsDefineSyntax, IsLetSyntax, IsLetrecSyntax, IsCondExpand, IsSyntaxError, IsInclude}
@@ -18,6 +20,11 @@ use Rattle.syntax_tree.specs.declared.trees.nodes.Tree as number
 use Rattle.syntax_tree.proofs.InternLaws.{ident_itself}
 use Rattle.core_forms.specs.Forms.{Quasi, shape_of, shape_in}
 use Rattle.core_forms.specs.Parts.{AllMatch}
+use Rattle.core_forms.specs.Ends.{keyword_as}
+use Rattle.core_forms.specs.Marks.{AreMarks}
+use Rattle.core_forms.specs.declared.shape.QuasiMark.{QuasiMark}
+use Rattle.core_forms.specs.declared.shape.CoreKeyword as code_keyword
+use Rattle.core_forms.specs.declared.shape.CoreKeyword.TheVariants as word
 use Rattle.expander.specs.Marked.{mark_within}
 
 -- ---- what is asked
@@ -131,6 +138,77 @@ marks_within k expression mark (atom a o) = refl
 marks_within k expression mark (vector ts o) = refl
 marks_within k expression mark (list no_trees tail o) = refl
 marks_within k expression mark (list (tree head ts) tail o) = shape_within k expression mark head ts tail o
+
+-- ---- the marks that are handed in
+
+-- no other form asks for marks
+shape_unread : (k : CoreKeyword) → (k ≡ IsQuasiquote → ⊥) → (expression : Bool) (f g : Identifier → Option Mark) (ts : Trees Identifier) (tail : Tail Identifier) → shape_of k expression f ts tail ≡ shape_of k expression g ts tail
+shape_unread IsQuasiquote differs expression f g ts tail = absurd (differs refl)
+shape_unread IsQuote differs expression f g ts tail = refl
+shape_unread IsLambda differs expression f g ts tail = refl
+shape_unread IsCaseLambda differs expression f g ts tail = refl
+shape_unread IsIf differs expression f g ts tail = refl
+shape_unread IsSet differs expression f g ts tail = refl
+shape_unread IsBegin differs expression f g ts tail = refl
+shape_unread IsDefine differs expression f g ts tail = refl
+shape_unread IsDefineValues differs expression f g ts tail = refl
+shape_unread IsDefineRecordType differs expression f g ts tail = refl
+shape_unread IsDefineSyntax differs expression f g ts tail = refl
+shape_unread IsLetSyntax differs expression f g ts tail = refl
+shape_unread IsLetrecSyntax differs expression f g ts tail = refl
+shape_unread IsCondExpand differs expression f g ts tail = refl
+shape_unread IsSyntaxError differs expression f g ts tail = refl
+shape_unread IsInclude differs expression f g ts tail = refl
+
+unread : (k : CoreKeyword) → (k ≡ IsQuasiquote → ⊥) → (expression : Bool) (f g : Identifier → Option Mark) (t : Tree Identifier) → shape_in k expression f t ≡ shape_in k expression g t
+unread k differs expression f g (name i o) = refl
+unread k differs expression f g (atom a o) = refl
+unread k differs expression f g (vector ts o) = refl
+unread k differs expression f g (list no_trees tail o) = refl
+unread k differs expression f g (list (tree head ts) tail o) = shape_unread k differs expression f g ts tail
+
+-- only one keyword of the code is that of a quasiquotation
+other_keyword : (k : CoreKeyword) (m : CoreKeyword) → (m ≡ IsQuasiquote → ⊥) → Some m ≡ Some k → k ≡ IsQuasiquote → ⊥
+other_keyword k m differs h e = differs (same_Some m k h ∙ e)
+
+not_quasi : (c : code_keyword.CoreKeyword) → (c ≡ word.Quasiquote) ⊎ ((c ≡ word.Quasiquote → ⊥) × ((k : CoreKeyword) → keyword_as c ≡ Some k → k ≡ IsQuasiquote → ⊥))
+not_quasi word.Quasiquote = inl refl
+not_quasi word.Quote = inr ((λ e. absurd cc), (λ k h. other_keyword k IsQuote (λ e. absurd cc) h))
+not_quasi word.Unquote = inr ((λ e. absurd cc), (λ k h g. absurd cc))
+not_quasi word.UnquoteSplicing = inr ((λ e. absurd cc), (λ k h g. absurd cc))
+not_quasi word.Lambda = inr ((λ e. absurd cc), (λ k h. other_keyword k IsLambda (λ e. absurd cc) h))
+not_quasi word.CaseLambda = inr ((λ e. absurd cc), (λ k h. other_keyword k IsCaseLambda (λ e. absurd cc) h))
+not_quasi word.If = inr ((λ e. absurd cc), (λ k h. other_keyword k IsIf (λ e. absurd cc) h))
+not_quasi word.Set = inr ((λ e. absurd cc), (λ k h. other_keyword k IsSet (λ e. absurd cc) h))
+not_quasi word.Begin = inr ((λ e. absurd cc), (λ k h. other_keyword k IsBegin (λ e. absurd cc) h))
+not_quasi word.Define = inr ((λ e. absurd cc), (λ k h. other_keyword k IsDefine (λ e. absurd cc) h))
+not_quasi word.DefineValues = inr ((λ e. absurd cc), (λ k h. other_keyword k IsDefineValues (λ e. absurd cc) h))
+not_quasi word.DefineRecordType = inr ((λ e. absurd cc), (λ k h. other_keyword k IsDefineRecordType (λ e. absurd cc) h))
+not_quasi word.DefineSyntax = inr ((λ e. absurd cc), (λ k h. other_keyword k IsDefineSyntax (λ e. absurd cc) h))
+not_quasi word.LetSyntax = inr ((λ e. absurd cc), (λ k h. other_keyword k IsLetSyntax (λ e. absurd cc) h))
+not_quasi word.LetrecSyntax = inr ((λ e. absurd cc), (λ k h. other_keyword k IsLetrecSyntax (λ e. absurd cc) h))
+not_quasi word.CondExpand = inr ((λ e. absurd cc), (λ k h. other_keyword k IsCondExpand (λ e. absurd cc) h))
+not_quasi word.SyntaxError = inr ((λ e. absurd cc), (λ k h. other_keyword k IsSyntaxError (λ e. absurd cc) h))
+not_quasi word.Include = inr ((λ e. absurd cc), (λ k h. other_keyword k IsInclude (λ e. absurd cc) h))
+not_quasi word.IncludeCi = inr ((λ e. absurd cc), (λ k h. other_keyword k IsInclude (λ e. absurd cc) h))
+
+-- what stands for marks that are enough to read a form
+pub record ReadsMarks (work : Work) (k : CoreKeyword) (expression : Bool) (marks : List QuasiMark) (mark : Identifier → Option Mark) (t : Tree Identifier) : Type 0 where
+  pub told : Identifier → Option Mark
+  pub are : AreMarks work marks told
+  pub same : shape_in k expression told t ≡ shape_in k expression mark t
+
+none_marked : (work : Work) (marks : List QuasiMark) → marks ≡ [] → AreMarks work marks (λ i. None)
+none_marked work marks e = subst (λ (ms : List QuasiMark). AreMarks work ms (λ i. None)) (sym e) (λ n i is. refl)
+
+-- a form is read as by all marks: by those of its own identifiers where it is a quasiquotation, and else by none
+pub marks_read : (work : Work) (c : code_keyword.CoreKeyword) (k : CoreKeyword) (expression : Bool) (marks : List QuasiMark) (mark : Identifier → Option Mark) (t : Tree Identifier) → keyword_as c ≡ Some k →
+    (c ≡ word.Quasiquote → AreMarks work marks (mark_within t mark)) → ((c ≡ word.Quasiquote → ⊥) → marks ≡ []) → ReadsMarks work k expression marks mark t
+marks_read work c k expression marks mark t is quasi other =
+    elim (not_quasi c) [
+      | inl e ↦ record { told = mark_within t mark; are = quasi e; same = marks_within k expression mark t }
+      | inr p ↦ record { told = λ i. None; are = none_marked work marks (other p.0); same = unread k (p.1 k is) expression (λ i. None) mark t }
+    ]
 
 -- ---- what is counted
 
