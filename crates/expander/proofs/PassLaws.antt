@@ -1,6 +1,6 @@
 -- How steps of forms that are gone through follow one another: what was left, where forms are gone through, and spliced forms.
 use Rattle.std.proofs.Common.{◌≡◌, ℕ, suc, ◌+◌, ◌*◌, ◌-◌, ◌<◌, ◌≤◌, List, [], ◌∷◌, ◌++◌, append_assoc, append-nil, length, map, reverse, slice_get, Bool, true, false, Option, Some, None, Result, Ok, Err, refl, sym, ap, ◌∙◌, subst, arith}
-use Rattle.std.proofs.lemmas.List.{reverse-reverse, reverse-append}
+use Rattle.std.proofs.lemmas.List.{reverse-append}
 use Rattle.std.proofs.lemmas.Grind.{reverse_onto}
 use Rattle.std.specs.Option.{option_and_then}
 use Rattle.std.specs.FinMap.{get}
@@ -47,6 +47,7 @@ use Rattle.expander.proofs.CountingStands.{all_last}
 use Rattle.expander.proofs.DefineLaws.{is_in_on}
 use Rattle.expander.proofs.NodeLaws.{plain_is, spends, counting_goes, counting_fails}
 use Rattle.expander.proofs.OutcomeLaws.{stays_itself, stays_on, moves_here, leaves_on, fills_on}
+use Rattle.expander.proofs.FormRows.{todo_stands}
 use Rattle.expander.proofs.PassSteps.{fault_same}
 
 -- ---- where forms are gone through
@@ -135,32 +136,19 @@ forms_added : (here : Here) (ts : Trees Identifier) (fs : List (Form Identifier)
 forms_added here no_trees fs = omega arith
 forms_added here (tree t ts) fs = let h = forms_added here ts fs in omega (arith, h)
 
-module _ (work : Work) (region : Region) (here : Here) where
-  forms_stand : (ns : List number.Tree) (ts : Trees Identifier) (xs : List code_form.Form) (fs : List (Form Identifier)) → PartsStand work ns ts → AllNamed work region ns → AllMatch (FormFor work region) xs fs →
-      AllMatch (FormFor work region) (map (form_at here) ns ++ xs) (forms_at here ts ++ fs)
-  forms_stand [] no_trees xs fs h named rest = rest
-  forms_stand [] (tree t ts) xs fs h named rest = absurd h
-  forms_stand (n ∷ ns) no_trees xs fs h named rest = absurd h
-  forms_stand (n ∷ ns) (tree t ts) xs fs h named rest = ((refl, (h.0, named.0)), forms_stand ns ts xs fs h.1 named.1 rest)
+all_both : {X Y : Type 0} (P : X → Y → Type 0) (xs zs : List X) (ys ws : List Y) → AllMatch P xs ys → AllMatch P zs ws → AllMatch P (xs ++ zs) (ys ++ ws)
+all_both P [] zs [] ws h g = g
+all_both P [] zs (y ∷ ys) ws h g = absurd h
+all_both P (x ∷ xs) zs [] ws h g = absurd h
+all_both P (x ∷ xs) zs (y ∷ ys) ws h g = (h.0, all_both P xs zs ys ws h.1 g)
 
-  reversed_map : (ns : List number.Tree) → reverse (map (form_at here) (reverse ns)) ≡ map (form_at here) ns
-  reversed_map ns = ap reverse (mapped_reverse (form_at here) ns) ∙ reverse-reverse (map (form_at here) ns)
-    where
-      map_both : {A B : Type 0} (f : A → B) (xs ys : List A) → map f (xs ++ ys) ≡ map f xs ++ map f ys
-      map_both f [] ys = refl
-      map_both f (x ∷ xs) ys = ap (λ l. f x ∷ l) (map_both f xs ys)
-
-      mapped_reverse : {A B : Type 0} (f : A → B) (xs : List A) → map f (reverse xs) ≡ reverse (map f xs)
-      mapped_reverse f [] = refl
-      mapped_reverse f (x ∷ xs) = ap (map f) (reverse_onto xs x []) ∙ (map_both f (reverse xs) (x ∷ []) ∙ (ap (λ l. l ++ f x ∷ []) (mapped_reverse f xs) ∙ sym (reverse_onto (map f xs) (f x) [])))
-
-  -- the code's list has the last form first
-  pub todo_first : (ns : List number.Tree) (ts : Trees Identifier) (old new : List code_form.Form) (fs : List (Form Identifier)) → PartsStand work ns ts → AllNamed work region ns → new ≡ old ++ map (form_at here) (reverse ns) →
-      AllMatch (FormFor work region) (reverse old) fs → AllMatch (FormFor work region) (reverse new) (forms_at here ts ++ fs)
-  todo_first ns ts old new fs h named is rest =
-      subst (λ (xs : List code_form.Form). AllMatch (FormFor work region) xs (forms_at here ts ++ fs))
-      (sym (ap reverse is ∙ (reverse-append old (map (form_at here) (reverse ns)) ∙ ap (λ (xs : List code_form.Form). xs ++ reverse old) (reversed_map ns))))
-      (forms_stand ns ts (reverse old) fs h named rest)
+-- the code's list has the last form first
+todo_first : (work : Work) (region : Region) (here : Here) (ns : List number.Tree) (ts : Trees Identifier) (old new : List code_form.Form) (fs : List (Form Identifier)) → PartsStand work ns ts → AllNamed work region ns → new ≡ old ++ map (form_at here) (reverse ns) →
+    AllMatch (FormFor work region) (reverse old) fs → AllMatch (FormFor work region) (reverse new) (forms_at here ts ++ fs)
+todo_first work region here ns ts old new fs h named is rest =
+    let added = map (form_at here) (reverse ns) in
+    subst (λ (xs : List code_form.Form). AllMatch (FormFor work region) xs (forms_at here ts ++ fs)) (sym (ap reverse is ∙ reverse-append old added))
+    (all_both (FormFor work region) (reverse added) (reverse old) (forms_at here ts) fs (todo_stands work region here ns ts added refl h named) rest)
 
 -- ---- spliced forms
 
