@@ -43,3 +43,5 @@ pub mod SettleLaws
 pub mod PassSteps
 pub mod WeightLaws
 pub mod PassLaws
+pub mod ShapeKinds
+pub mod HoleLaws
