@@ -45,3 +45,7 @@ pub mod WeightLaws
 pub mod PassLaws
 pub mod ShapeKinds
 pub mod HoleLaws
+pub mod PassLoop
+pub mod BodyPass
+pub mod PassForms
+pub mod RulesHeads

@@ -152,6 +152,12 @@ todo_first work region here ns ts old new fs h named is rest =
 
 -- ---- spliced forms
 
+less_spliced : (a b c k given : ℕ) → a ≡ b + c → b < given → a + k < c + k + given
+less_spliced a b c k given is less = omega (arith, is, less)
+
+locals_spliced : (l a b c k given : ℕ) → a ≡ b + c → b < given → l + (a + k) ≤ l + (c + k) + given
+locals_spliced l a b c k given is less = omega (arith, is, less)
+
 module _ (known : Known) (work : Work) (region : Region) (u v : UnitScope) (ls : List Frames) (s : ScopedState) (spot : Spot) (fs : Frames) (asked : Asked) (here : Here) (ns : List number.Tree) (ts : Trees Identifier) (p : Pending Identifier Place) (given : ℕ) (old new : code_pending.Pending)
     (e : Stands work u ls s) (placed : SpotFor work u ls s spot fs) (notes : NotesFor work ls asked p.notes) where
   pub splice_goes : PartsStand work ns ts → AllNamed work region ns → PendingFor work region u.unit u.form.number old p → trees_size ts < given → Counts u v here 1 (Ok tt) → new.todo.items ≡ old.todo.items ++ map (form_at here) (reverse ns) →
@@ -170,8 +176,8 @@ module _ (known : Known) (work : Work) (region : Region) (u v : UnitScope) (ls :
           aside = subst (λ x. AllMatch (KeptFor work region u.unit u.form.number) x.items p.aside) (sym aside) pending.aside;
         };
         notes = notes;
-        less = omega (arith, size, less);
-        locals = omega (arith, size, less);
+        less = less_spliced (forms_size (forms_at here ts ++ p.todo)) (trees_size ts) (forms_size p.todo) (4194305 * (10000 - u.form.budget.uses)) given size less;
+        locals = locals_spliced u.form.budget.locals (forms_size (forms_at here ts ++ p.todo)) (trees_size ts) (forms_size p.todo) (4194305 * (10000 - u.form.budget.uses)) given size less;
       }, λ go. ap (λ x. caught p.notes x (λ done. go q)) (counting_goes known work u ls s here 1 e counts.0)))
 
   pub splice_fails : (x : ExpandFault) → Counts u v here 1 (Err x) → GoesOn work work region u v ls spot fs p.todo given new asked (Err x) (λ go. splice (searched known) go here p ts s)
