@@ -49,3 +49,4 @@ pub mod PassLoop
 pub mod BodyPass
 pub mod PassForms
 pub mod RulesHeads
+pub mod KeepLaws
