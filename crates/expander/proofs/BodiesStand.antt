@@ -130,7 +130,7 @@ body_stands work u ls s scope fs sound at e =
     (child_env_stands work.symbols u.env sound ls (entered s) new.env scope fs (entered_frames s fs) at same (now_entered s, are_entered_more s fs (e.env.entered scope fs at)))
     new
 
-pub body_opens : (work : Work) (u : UnitScope) (ls : List Frames) (s : ScopedState) (scope : ℕ) (fs : Frames) → slice_get ls scope ≡ Some fs → Stands work u ls s →
+unfoldable pub body_opens : (work : Work) (u : UnitScope) (ls : List Frames) (s : ScopedState) (scope : ℕ) (fs : Frames) → slice_get ls scope ≡ Some fs → Stands work u ls s →
     IsOpenBody (ls ++ entered_frames s fs ∷ []) (length u.env.scopes) (next_number s s.bodies) fs
 body_opens work u ls s scope fs at e = record {
   uses = s.uses;

@@ -4,7 +4,7 @@ use Rattle.std.specs.Prelude.{Vec}
 use Rattle.std.specs.declared.alloc.Global.{Global}
 use Rattle.std.specs.Result.{IsErrAnd}
 use Rattle.scheme_model.specs.Trees.{Trees, no_trees, tree}
-use Rattle.scheme_model.specs.Measures.{trees_size}
+use Rattle.scheme_model.specs.Measures.{tree_size, trees_size}
 use Rattle.scheme_model.specs.Ident.{Ident as Identifier}
 use Rattle.scheme_model.specs.Requirements.{Known}
 use Rattle.scheme_model.specs.Steps.{Broken, ◌>>=◌, done}
@@ -23,11 +23,12 @@ use Rattle.expander.specs.Bodies.{BodyFor, body_pass}
 use Rattle.expander.specs.State.{Stands, most_locals}
 use Rattle.expander.specs.Stepped.{entered, entered_frames}
 use Rattle.expander.specs.Seen.{form_at}
-use Rattle.expander.specs.Kept.{FormFor, KeptFor, PendingFor, NotesFor, IsInBody, SpotFor, forms_size, left_with}
+use Rattle.expander.specs.Kept.{FormFor, KeptFor, PendingFor, NoteFor, NotesFor, IsInBody, SpotFor, forms_size, left_with}
 use Rattle.expander.specs.Outcomes.{At, SameForm, Stays, Moves, Ends}
 use Rattle.expander.specs.Passed.{CanPass, Passes, Stops}
 use Rattle.expander.specs.Searched.{searched}
 use Rattle.expander.specs.declared.asked.Asked.{Asked}
+use Rattle.expander.specs.declared.asked.Note as code_note
 use Rattle.expander.specs.declared.fault.ExpandFault.{ExpandFault}
 use Rattle.expander.specs.declared.fault.ExpandFault.TheVariants as fault
 use Rattle.expander.specs.declared.items.Kept as code_kept
@@ -41,7 +42,7 @@ use Rattle.expander.proofs.OutcomeLaws.{grows_itself, stays_on, leaves_on, fills
 
 forms_of_size : (here : Here) (ts : Trees Identifier) → forms_size (forms_at here ts) ≡ trees_size ts
 forms_of_size here no_trees = refl
-forms_of_size here (tree t ts) = ap (λ n. _ + n) (forms_of_size here ts)
+forms_of_size here (tree t ts) = ap (λ (n : ℕ). tree_size t + n) (forms_of_size here ts)
 
 -- what is gone through in a body comes to its end within so many turns, and takes so few locals
 few_left : (n uses size : ℕ) → n ≡ size → size ≤ 4194304 → n + 4194305 * (10000 - uses) < 2 ^ 38
@@ -54,7 +55,7 @@ room_inside : (locals n most : ℕ) → n < 2 ^ 38 → locals + 2 ^ 42 ≤ most 
 room_inside locals n most few room = omega (arith, few, room)
 
 module _ (work : Work) (region : Region) (u w : UnitScope) (scope inner : ℕ) (here : Here) (ns : List number.Tree) (ts : Trees Identifier) (todo : code_pending.Pending) (asked : Asked)
-    (child : w ≡ record u { env = with_child u.env scope }) (number : inner ≡ length u.env.scopes) (sound : IsSound u.env) (none : asked.notes.items ≡ []) (asks : AskedStands work.symbols asked)
+    (child : w ≡ record u { env = with_child u.env scope }) (newest : inner ≡ length u.env.scopes) (sound : IsSound u.env) (none : asked.notes.items ≡ []) (asks : AskedStands work.symbols asked)
     (forms : todo.todo.items ≡ map (form_at here) (reverse ns)) (aside : todo.aside.items ≡ []) (stand : PartsStand work ns ts) (named : AllNamed work region ns) (small : trees_size ts ≤ 4194304) where
   abbrev spot : Spot
   spot = record { scope = inner; in_body = true }
@@ -81,6 +82,7 @@ module _ (work : Work) (region : Region) (u w : UnitScope) (scope inner : ℕ) (
     inside_stands = subst (λ (x : UnitScope). Stands work x inside (entered s)) (sym child) body_stays.stands
 
     spot_here : SpotFor work opened inside (entered s) (record { scope = length u.env.scopes; in_body = true }) (entered_frames s fs)
+    unfolding body_opens
     spot_here = record {
       at = subst (λ (n : ℕ). At inside n (entered_frames s fs)) e.env.count (get_next ls [] (entered_frames s fs));
       inside = record {
@@ -94,7 +96,7 @@ module _ (work : Work) (region : Region) (u w : UnitScope) (scope inner : ℕ) (
 
     pub spot_inside : SpotFor work w inside (entered s) spot (entered_frames s fs)
     spot_inside =
-        subst (λ (n : ℕ). SpotFor work w inside (entered s) (record { scope = n; in_body = true }) (entered_frames s fs)) (sym number)
+        subst (λ (n : ℕ). SpotFor work w inside (entered s) (record { scope = n; in_body = true }) (entered_frames s fs)) (sym newest)
         (subst (λ (x : UnitScope). SpotFor work x inside (entered s) (record { scope = length u.env.scopes; in_body = true }) (entered_frames s fs)) (sym child) spot_here)
 
     pub pending_inside : PendingFor work region w.unit w.form.number todo start
@@ -104,7 +106,7 @@ module _ (work : Work) (region : Region) (u w : UnitScope) (scope inner : ℕ) (
     }
 
     pub notes_inside : NotesFor work inside asked []
-    notes_inside = record { notes = subst (λ xs. AllMatch _ xs []) (sym none) tt; asks = asks }
+    notes_inside = record { notes = subst (λ (xs : List code_note.Note). AllMatch (NoteFor work inside) xs []) (sym none) tt; asks = asks }
 
     left_inside : left_with start.todo w.form.budget.uses < 2 ^ 38
     left_inside = few_left (forms_size (forms_at here ts)) w.form.budget.uses (trees_size ts) (forms_of_size here ts) small
@@ -142,6 +144,7 @@ module _ (work : Work) (region : Region) (u w : UnitScope) (scope inner : ℕ) (
 
       pub body_ends : (most : ℕ) (kept : Vec code_kept.Kept Global) (asked2 : Asked) → Passes work new region w v inside spot (entered_frames s fs) most kept.items asked2 (Ok tt) went →
           Ends (BodyFor new region v.unit v.form.number) work new region u v ls (Ok (inner, kept)) (body_pass turns here ts known fs s)
+      unfolding stays_inside
       body_ends most kept asked2 h =
           let end : (items_of went >>= λ is. done (entered_frames s fs, is)) ≡ (Ok (entered_frames s fs, h.0), went.1) = ap (λ (r : Result (List (Item Identifier)) Broken). (r, went.1) >>= λ is. done (entered_frames s fs, is)) h.1 in
           subst (λ (q : Result (Frames × List (Item Identifier)) Broken × ScopedState). Ends (BodyFor new region v.unit v.form.number) work new region u v ls (Ok (inner, kept)) q) (sym end)

@@ -50,3 +50,6 @@ pub mod BodyPass
 pub mod PassForms
 pub mod RulesHeads
 pub mod KeepLaws
+pub mod LocalDefs
+pub mod UseSteps
+pub mod UsePass

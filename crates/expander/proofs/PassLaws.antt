@@ -39,6 +39,7 @@ use Rattle.expander.specs.declared.asked.Note as code_note
 use Rattle.expander.specs.declared.fault.ExpandFault.{ExpandFault}
 use Rattle.expander.specs.declared.fault.ExpandFault.TheVariants as fault
 use Rattle.expander.specs.declared.items.Form as code_form
+use Rattle.expander.specs.declared.items.Kept as code_kept
 use Rattle.expander.specs.declared.items.Pending as code_pending
 use Rattle.expander.specs.declared.items.Spot.{Spot}
 use Rattle.expander.specs.declared.scope.UnitScope.{UnitScope}
@@ -119,14 +120,17 @@ module _ (region : Region) (ls : List Frames) (spot : Spot) (fs : Frames) (befor
   goes_err old new u v (Err x) e f is h = subst (λ (y : ExpandFault). GoesOn old new region u v ls spot fs before given todo asked (Err y) f) (sym is) h
 
   -- a shape that was misread
+  abbrev broken_pass : List (Note Place) → Here → ScopedState → Fault Identifier → Pass Identifier Place × ScopedState
+  broken_pass ns at t x = (record { notes = ns; items = Err (record { fault = x; here = at }) }, t)
+
   pub goes_misread : {B : Type 0} (known : Known) (work : Work) (u : UnitScope) (s : ScopedState) (unit form : ℕ) (here : Here) (e : ExpandFault) (r : Result B (Fault Identifier)) (p : Pending Identifier Place)
       (next : Going Identifier Place ScopedState → B → ScopedState → Pass Identifier Place × ScopedState) → u.form.budget.nodes ≤ 200000 → s.unit ≡ unit → s.form ≡ form → Stands work u ls s → SpotFor work u ls s spot fs → NotesFor work ls asked p.notes →
       Tells work.symbols unit form here e r → GoesOn work work region u u ls spot fs before given todo asked (Err e) (λ go. read_then (searched known) here p r (next go) s)
-  goes_misread known work u s unit form here (fault.At e) r p next few is_unit is_form stands placed notes h =
+  goes_misread {B} known work u s unit form here (fault.At e) r p next few is_unit is_form stands placed notes h =
       let b : Broken = record { fault = h.0; here = here } in
       let told : IsFault work.symbols s.unit s.form e b = subst (λ (n : ℕ). IsFault work.symbols n s.form e b) (sym is_unit) (subst (λ (n : ℕ). IsFault work.symbols unit n e b) (sym is_form) h.2) in
       (p.notes, b, s, record { stays = stays_itself work region u ls s stands; placed = placed; notes = notes }, told,
-        λ go. ap (λ x. read_then (searched known) here p x (next go) s) h.1 ∙ ap (λ (x : Fault Identifier). (record { notes = p.notes; items = Err (record { fault = x; here = here }) }, s)) (fault_same h.0))
+        λ go. ap (λ (x : Result B (Fault Identifier)). read_then (searched known) here p x (next go) s) h.1 ∙ ap (broken_pass p.notes here s) (fault_same h.0))
   goes_misread known work u s unit form here fault.Full r p next few is_unit is_form stands placed notes h = absurd h
   goes_misread known work u s unit form here fault.Memory r p next few is_unit is_form stands placed notes h = record { work = (stays_itself work region u ls s stands).work; few = omega (arith, few) }
 
@@ -161,7 +165,7 @@ locals_spliced l a b c k given is less = omega (arith, is, less)
 module _ (known : Known) (work : Work) (region : Region) (u v : UnitScope) (ls : List Frames) (s : ScopedState) (spot : Spot) (fs : Frames) (asked : Asked) (here : Here) (ns : List number.Tree) (ts : Trees Identifier) (p : Pending Identifier Place) (given : ℕ) (old new : code_pending.Pending)
     (e : Stands work u ls s) (placed : SpotFor work u ls s spot fs) (notes : NotesFor work ls asked p.notes) where
   pub splice_goes : PartsStand work ns ts → AllNamed work region ns → PendingFor work region u.unit u.form.number old p → trees_size ts < given → Counts u v here 1 (Ok tt) → new.todo.items ≡ old.todo.items ++ map (form_at here) (reverse ns) →
-      new.aside ≡ old.aside → GoesOn work work region u v ls spot fs p.todo given new asked (Ok tt) (λ go. splice (searched known) go here p ts s)
+      new.aside.items ≡ old.aside.items → GoesOn work work region u v ls spot fs p.todo given new asked (Ok tt) (λ go. splice (searched known) go here p ts s)
   splice_goes stand named pending less counts todo aside =
       subst (λ (w : UnitScope). GoesOn work work region u w ls spot fs p.todo given new asked (Ok tt) (λ go. splice (searched known) go here p ts s)) (sym counts.1)
       (let w = with_nodes u 1 in
@@ -173,12 +177,12 @@ module _ (known : Known) (work : Work) (region : Region) (u v : UnitScope) (ls :
         placed = spot_same work u w ls s t spot fs refl refl refl placed;
         pending = record {
           todo = todo_first work region here ns ts old.todo.items new.todo.items p.todo stand named todo pending.todo;
-          aside = subst (λ x. AllMatch (KeptFor work region u.unit u.form.number) x.items p.aside) (sym aside) pending.aside;
+          aside = subst (λ (xs : List code_kept.Kept). AllMatch (KeptFor work region u.unit u.form.number) xs p.aside) (sym aside) pending.aside;
         };
         notes = notes;
         less = less_spliced (forms_size (forms_at here ts ++ p.todo)) (trees_size ts) (forms_size p.todo) (4194305 * (10000 - u.form.budget.uses)) given size less;
         locals = locals_spliced u.form.budget.locals (forms_size (forms_at here ts ++ p.todo)) (trees_size ts) (forms_size p.todo) (4194305 * (10000 - u.form.budget.uses)) given size less;
-      }, λ go. ap (λ x. caught p.notes x (λ done. go q)) (counting_goes known work u ls s here 1 e counts.0)))
+      }, λ go. ap (λ (x : Result (Unit {0}) Broken × ScopedState). caught p.notes x (λ done. go q)) (counting_goes known work u ls s here 1 e counts.0)))
 
   pub splice_fails : (x : ExpandFault) → Counts u v here 1 (Err x) → GoesOn work work region u v ls spot fs p.todo given new asked (Err x) (λ go. splice (searched known) go here p ts s)
   splice_fails x counts =
@@ -187,4 +191,4 @@ module _ (known : Known) (work : Work) (region : Region) (u v : UnitScope) (ls :
       subst (λ (w : UnitScope). GoesOn work work region u w ls spot fs p.todo given new asked (Err x) (λ go. splice (searched known) go here p ts s)) (sym counts.1)
       (subst (λ (y : ExpandFault). GoesOn work work region u u ls spot fs p.todo given new asked (Err y) (λ go. splice (searched known) go here p ts s)) (sym counts.2)
       (p.notes, b, s, record { stays = stays_itself work region u ls s e; placed = placed; notes = notes }, plain_is work.symbols s.unit s.form here NodeBudget refl refl,
-        λ go. ap (λ x. caught p.notes x (λ done. go q)) (counting_fails known work u ls s here 1 e counts.0)))
+        λ go. ap (λ (x : Result (Unit {0}) Broken × ScopedState). caught p.notes x (λ done. go q)) (counting_fails known work u ls s here 1 e counts.0)))

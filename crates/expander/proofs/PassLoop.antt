@@ -77,11 +77,11 @@ next_form work region unit form old p f xs is h =
 abbrev pub behind_it : Pending Identifier Place → List (Form Identifier) → Pending Identifier Place
 behind_it p rest = record { todo = rest; aside = p.aside; notes = p.notes }
 
-pub pending_behind : (work : Work) (region : Region) (unit form : ℕ) (old new : code_pending.Pending) (p : Pending Identifier Place) (f : code_form.Form) (next : Split (FormFor work region) f (reverse new.todo.items) p.todo) → new.aside ≡ old.aside → PendingFor work region unit form old p →
+pub pending_behind : (work : Work) (region : Region) (unit form : ℕ) (old new : code_pending.Pending) (p : Pending Identifier Place) (f : code_form.Form) (next : Split (FormFor work region) f (reverse new.todo.items) p.todo) → new.aside.items ≡ old.aside.items → PendingFor work region unit form old p →
     PendingFor work region unit form new (behind_it p next.rest)
 pending_behind work region unit form old new p f next aside h = record {
   todo = next.others;
-  aside = subst (λ x. AllMatch (KeptFor work region unit form) x.items p.aside) (sym aside) h.aside;
+  aside = subst (λ (xs : List code_kept.Kept). AllMatch (KeptFor work region unit form) xs p.aside) (sym aside) h.aside;
 }
 
 -- ---- so far
@@ -111,7 +111,7 @@ module _ (known : Known) (old : Work) (region : Region) (u : UnitScope) (ls : Li
     step go = run_form (searched known) go fs (here_at (λ i. i) next.head.tree next.head.here) next.head next.head.tree behind h.state
 
     taken : left_with next.rest v.form.budget.uses + tree_size next.head.tree ≡ left_with h.left.todo v.form.budget.uses
-    taken = turned (tree_size next.head.tree) (forms_size next.rest) (4194305 * (10000 - v.form.budget.uses)) ∙ sym (ap (λ l. left_with l v.form.budget.uses) next.is)
+    taken = turned (tree_size next.head.tree) (forms_size next.rest) (4194305 * (10000 - v.form.budget.uses)) ∙ sym (ap (λ (l : List (Form Identifier)). left_with l v.form.budget.uses) next.is)
 
     some_more : (n : ℕ) → h.more ≡ n → (k : ℕ) × (h.more ≡ suc k)
     some_more zero is = none_turn (left_with next.rest v.form.budget.uses) (tree_size next.head.tree) (left_with h.left.todo v.form.budget.uses) h.more taken (some_node next.head.tree) h.enough is
@@ -120,8 +120,8 @@ module _ (known : Known) (old : Work) (region : Region) (u : UnitScope) (ls : Li
     goes_to : (k : ℕ) → h.more ≡ suc k → whole ≡ step (run (searched known) (suc k) fs)
     goes_to k is =
         h.same
-        ∙ (ap (λ n. run (searched known) (suc n) fs h.left h.state) is
-        ∙ ap (λ l. run_next (searched known) (run (searched known) (suc k) fs) fs l h.left h.state) next.is)
+        ∙ (ap (λ (n : ℕ). run (searched known) (suc n) fs h.left h.state) is
+        ∙ ap (λ (l : List (Form Identifier)). run_next (searched known) (run (searched known) (suc k) fs) fs l h.left h.state) next.is)
 
     pub one_more_passed : (after : Work) (w : UnitScope) (todo2 : code_pending.Pending) (asked2 : Asked) →
         GoesOn new after region v w ls spot fs next.rest (tree_size next.head.tree) todo2 asked2 (Ok tt) step → PassedSoFar after w todo2 asked2 (turn + 1)
@@ -160,7 +160,7 @@ module _ (known : Known) (old : Work) (region : Region) (u : UnitScope) (ls : Li
     next_fails after w todo2 asked2 most aside fault.Memory g = leaves_on old new after region u v ls h.state (moves_here old new region u v ls h.state h.stays) g
 
     -- what the next form demands
-    pub can_pass_next : rest.aside ≡ todo.aside → u.form.budget.locals + left_with p.todo u.form.budget.uses + 0 ≤ most_locals u.form.budget.nodes → CanPass new region v spot (tree_size next.head.tree) rest asked
+    pub can_pass_next : rest.aside.items ≡ todo.aside.items → u.form.budget.locals + left_with p.todo u.form.budget.uses + 0 ≤ most_locals u.form.budget.nodes → CanPass new region v spot (tree_size next.head.tree) rest asked
     can_pass_next aside room =
         record {
           layout = ls;
@@ -179,7 +179,7 @@ module _ (known : Known) (old : Work) (region : Region) (u : UnitScope) (ls : Li
       Passes old new region u v ls spot fs (left_with p.todo u.form.budget.uses) aside asked (Ok tt) whole
   passing_ends new v todo asked turn aside h none is =
       let nothing = none_left (FormFor new region) h.left.todo (subst (λ (l : List code_form.Form). AllMatch (FormFor new region) (reverse l) h.left.todo) none h.pending.todo) in
-      let end : whole ≡ (record { notes = h.left.notes; items = Ok h.left.aside }, h.state) = h.same ∙ ap (λ l. run_next (searched known) (run (searched known) h.more fs) fs l h.left h.state) nothing in
+      let end : whole ≡ (record { notes = h.left.notes; items = Ok h.left.aside }, h.state) = h.same ∙ ap (λ (l : List (Form Identifier)). run_next (searched known) (run (searched known) h.more fs) fs l h.left h.state) nothing in
       subst (λ (x : Pass Identifier Place × ScopedState). Passes old new region u v ls spot fs (left_with p.todo u.form.budget.uses) aside asked (Ok tt) x) (sym end)
       (h.left.aside, refl, record { stays = h.stays; placed = h.placed; notes = h.notes },
         subst (λ (l : List code_kept.Kept). AllMatch (KeptFor new region v.unit v.form.number) l h.left.aside) (sym is) h.pending.aside, only_locals v.form.budget.locals (left_with h.left.todo v.form.budget.uses) (u.form.budget.locals + left_with p.todo u.form.budget.uses) h.locals)
