@@ -1,6 +1,7 @@
 -- How steps of forms that are gone through follow one another: what was left, where forms are gone through, and spliced forms.
-use Rattle.std.proofs.Common.{◌≡◌, ℕ, suc, ◌+◌, ◌*◌, ◌-◌, ◌<◌, ◌≤◌, List, [], ◌∷◌, ◌++◌, append_assoc, append-nil, length, map, reverse, slice_get, Bool, true, false, Option, Some, None, Result, Ok, Err, refl, sym, ap, ◌∙◌, subst, arith}
+use Rattle.std.proofs.Common.{◌≡◌, ℕ, zero, suc, drop, get_or, ◌+◌, ◌*◌, ◌-◌, ◌<◌, ◌≤◌, List, [], ◌∷◌, ◌++◌, append_assoc, append-nil, length, map, reverse, slice_get, Bool, true, false, Option, Some, None, Result, Ok, Err, refl, sym, ap, ◌∙◌, subst, arith}
 use Rattle.std.proofs.lemmas.List.{reverse-append}
+use Rattle.std.proofs.lemmas.Option.{slice_get_within}
 use Rattle.std.proofs.lemmas.Grind.{reverse_onto}
 use Rattle.std.specs.Option.{option_and_then}
 use Rattle.std.specs.FinMap.{get}
@@ -12,7 +13,7 @@ use Rattle.scheme_model.specs.ExpansionFaults.{NodeBudget, Fault}
 use Rattle.scheme_model.specs.Ident.{Ident as Identifier}
 use Rattle.scheme_model.specs.Requirements.{Known}
 use Rattle.scheme_model.specs.Steps.{Broken, done, fails}
-use Rattle.scheme_model.specs.Order.{Here, Form, Note, Pending, Pass, Going, first, forms_at, counting, caught, read_then, splice}
+use Rattle.scheme_model.specs.Order.{Here, Form, Note, LookedUp, Compared, Pending, Pass, Going, first, forms_at, counting, caught, read_then, splice}
 use Rattle.scheme_model.specs.ScopedExpansion.{Enter, Frames, Place, ScopedState}
 use Rattle.syntax_tree.specs.Names.{KeepsNames, AreToldApart}
 use Rattle.syntax_tree.specs.Looks.{PartsStand, AllNamed}
@@ -23,7 +24,7 @@ use Rattle.scope_env.specs.Environment.{Scope}
 use Rattle.scope_env.specs.Standing.{bound_by}
 use Rattle.core_tree.specs.Names.{AllMatch}
 use Rattle.core_tree.specs.Traces.{IsFault}
-use Rattle.expander.specs.Asks.{AskedStands}
+use Rattle.expander.specs.Asks.{AreWithin, AskedStands}
 use Rattle.expander.specs.Chains.{body_chain}
 use Rattle.expander.specs.Counts.{plain_fault, with_nodes, Counts}
 use Rattle.expander.specs.State.{Stands}
@@ -34,6 +35,7 @@ use Rattle.expander.specs.Kept.{FormFor, KeptFor, PendingFor, NoteFor, NotesFor,
 use Rattle.expander.specs.Outcomes.{SameForm, Stays, Leaves, MayFill}
 use Rattle.expander.specs.Passed.{Reaches, Stops, GoesOn}
 use Rattle.expander.specs.Searched.{searched}
+use Rattle.expander.specs.Used.{ComparisonFor, note_of}
 use Rattle.expander.specs.declared.asked.Asked.{Asked}
 use Rattle.expander.specs.declared.asked.Note as code_note
 use Rattle.expander.specs.declared.fault.ExpandFault.{ExpandFault}
@@ -43,6 +45,7 @@ use Rattle.expander.specs.declared.items.Kept as code_kept
 use Rattle.expander.specs.declared.items.Pending as code_pending
 use Rattle.expander.specs.declared.items.Spot.{Spot}
 use Rattle.expander.specs.declared.scope.UnitScope.{UnitScope}
+use Rattle.expander.specs.declared.uses.Comparison.{Comparison}
 use Rattle.expander.proofs.BodyScopes.{binds_on}
 use Rattle.expander.proofs.CountingStands.{all_last}
 use Rattle.expander.proofs.DefineLaws.{is_in_on}
@@ -192,3 +195,50 @@ module _ (known : Known) (work : Work) (region : Region) (u v : UnitScope) (ls :
       (subst (λ (y : ExpandFault). GoesOn work work region u u ls spot fs p.todo given new asked (Err y) (λ go. splice (searched known) go here p ts s)) (sym counts.2)
       (p.notes, b, s, record { stays = stays_itself work region u ls s e; placed = placed; notes = notes }, plain_is work.symbols s.unit s.form here NodeBudget refl refl,
         λ go. ap (λ (x : Result (Unit {0}) Broken × ScopedState). caught p.notes x (λ done. go q)) (counting_fails known work u ls s here 1 e counts.0)))
+
+-- ---- comparisons that are noted
+
+pub record Pair {X Y : Type 0} (P : X → Y → Type 0) (ys : List Y) (k : ℕ) (x : X) : Type 0 where
+  pub other : Y
+  pub held : P x other
+  pub split : drop k ys ≡ other ∷ drop (k + 1) ys
+
+pub pair_there : {X Y : Type 0} (P : X → Y → Type 0) (xs : List X) (ys : List Y) (k : ℕ) (d : X) → AllMatch P xs ys → k < length xs → Pair P ys k (get_or xs k d)
+pair_there P [] ys k d h l = absurd (omega (arith, l))
+pair_there P (x ∷ xs) [] k d h l = absurd h
+pair_there P (x ∷ xs) (y ∷ ys) zero d h l = record { other = y; held = h.0; split = refl }
+pair_there P (x ∷ xs) (y ∷ ys) (suc k) d h l =
+    let q = pair_there P xs ys k d h.1 (omega (arith, l)) in
+    let more : suc (k + 1) ≡ suc k + 1 = omega arith in
+    record { other = q.other; held = q.held; split = q.split ∙ ap (λ (i : ℕ). q.other ∷ drop i (y ∷ ys)) more }
+
+pub pairs_past : {X Y : Type 0} (P : X → Y → Type 0) (xs : List X) (ys : List Y) (k : ℕ) → AllMatch P xs ys → length xs ≤ k → drop k ys ≡ []
+pairs_past P [] [] zero h l = refl
+pairs_past P [] [] (suc k) h l = refl
+pairs_past P [] (y ∷ ys) k h l = absurd h
+pairs_past P (x ∷ xs) [] k h l = absurd h
+pairs_past P (x ∷ xs) (y ∷ ys) zero h l = absurd (omega (arith, l))
+pairs_past P (x ∷ xs) (y ∷ ys) (suc k) h l = pairs_past P xs ys k h.1 (omega (arith, l))
+
+module _ (work : Work) (ls : List Frames) (literal_scope scope : ℕ) where
+  comparison_within : (c : Comparison) (n : Note Place) → ComparisonFor work ls literal_scope scope c n → AreWithin work.symbols (c.pair.literal ∷ c.pair.ident ∷ [])
+  comparison_within c (LookedUp p head keyword) h = absurd h
+  comparison_within c (Compared p q held) h =
+      (slice_get_within work.symbols.idents c.pair.literal p.ident h.0.1, (slice_get_within work.symbols.idents c.pair.ident q.ident h.1.1, tt))
+
+  module _ (cs : List Comparison) (qs : List (Note Place)) (are : AllMatch (ComparisonFor work ls literal_scope scope) cs qs) where
+    pub within_here : (k : ℕ) (x : Comparison) → x ≡ get_or cs k x → k < length cs → AreWithin work.symbols (x.pair.literal ∷ x.pair.ident ∷ [])
+    within_here k x is l =
+        let q = pair_there (ComparisonFor work ls literal_scope scope) cs qs k x are l in
+        comparison_within x q.other (subst (λ (c : Comparison). ComparisonFor work ls literal_scope scope c q.other) (sym is) q.held)
+
+    pub noted_more : (ns : List (Note Place)) (k left : ℕ) (x : Comparison) (old new : Asked) → x ≡ get_or cs k x → left ≡ k + 1 → left ≤ length cs → new.notes.items ≡ old.notes.items ++ note_of literal_scope scope x ∷ [] → AskedStands work.symbols new →
+        NotesFor work ls old (drop left qs ++ ns) → NotesFor work ls new (drop k qs ++ ns)
+    noted_more ns k left x old new is next within items stands h =
+        let q = pair_there (ComparisonFor work ls literal_scope scope) cs qs k x are (omega (arith, next, within)) in
+        let split : drop k qs ≡ q.other ∷ drop left qs = q.split ∙ ap (λ (i : ℕ). q.other ∷ drop i qs) (sym next) in
+        subst (λ (l : List (Note Place)). NotesFor work ls new (l ++ ns)) (sym split)
+        (one_noted work ls old new (note_of literal_scope scope x) q.other (drop left qs ++ ns) items stands (subst (λ (c : Comparison). ComparisonFor work ls literal_scope scope c q.other) (sym is) q.held) h)
+
+    pub none_noted : (ns : List (Note Place)) (k : ℕ) (asked : Asked) → length cs ≤ k → NotesFor work ls asked ns → NotesFor work ls asked (drop k qs ++ ns)
+    none_noted ns k asked past h = subst (λ (l : List (Note Place)). NotesFor work ls asked (l ++ ns)) (sym (pairs_past (ComparisonFor work ls literal_scope scope) cs qs k are past)) h
