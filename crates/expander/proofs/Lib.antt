@@ -53,3 +53,4 @@ pub mod KeepLaws
 pub mod LocalDefs
 pub mod UseSteps
 pub mod UsePass
+pub mod CorePass

@@ -3,41 +3,50 @@ use Rattle.std.proofs.Common.{◌≡◌, ℕ, ◌+◌, ◌<◌, ◌≤◌, List,
 use Rattle.scheme_model.specs.Trees.{Tree, name, atom, list, vector, Trees, no_trees, tree, Tail}
 use Rattle.scheme_model.specs.Measures.{tree_size, trees_size, tail_size}
 use Rattle.scheme_model.specs.Quasiquote.{Mark}
-use Rattle.scheme_model.specs.ExpansionFaults.{Named}
+use Rattle.scheme_model.specs.ExpansionFaults.{Named, Fault, BadForm}
 use Rattle.scheme_model.specs.Ident.{Ident as Identifier}
 use Rattle.scheme_model.specs.Keywords.{CoreKeyword, Auxiliary}
 use Rattle.scheme_model.specs.Meaning.{Meaning, Head, IsCore, IsAuxiliary, IsMacro, IsNone, is_keyword}
 use Rattle.scheme_model.specs.Requirements.{Known}
 use Rattle.scheme_model.specs.Cores.{Target}
-use Rattle.scheme_model.specs.Order.{Here, Form, Expression, Note, LookedUp, Pending, Pass, Going, Transformer, put, noted, head_of, target_of, here_at, run_core, run_use, run_head, run_form}
+use Rattle.scheme_model.specs.Order.{Here, Form, Expression, Note, LookedUp, Pending, Pass, Going, Transformer, put, noted, read_then, head_of, target_of, here_at, run_core, run_use, run_head, run_form}
 use Rattle.scheme_model.specs.ScopedExpansion.{Frames, Place, ScopedState, macro_at}
 use Rattle.core_forms.specs.Ends.{keyword_as}
 use Rattle.core_forms.specs.Forms.{Shape, shape_in}
 use Rattle.core_forms.specs.declared.shape.CoreKeyword as code_keyword
 use Rattle.core_forms.specs.declared.shape.NamePart.{NamePart}
+use Rattle.syntax_tree.specs.Names.{Names}
 use Rattle.syntax_tree.specs.declared.trees.Work.{Work}
 use Rattle.syntax_tree.specs.declared.trees.table.Region.{Region}
 use Rattle.core_tree.specs.Names.{IsTarget}
+use Rattle.core_tree.specs.Traces.{IsFault}
 use Rattle.core_tree.specs.declared.cores.Target as code_target
 use Rattle.expander.specs.Defining.{CanGo}
 use Rattle.expander.specs.Heads.{IsHead}
 use Rattle.expander.specs.State.{Stands, most_locals}
 use Rattle.expander.specs.Stepped.{met, with_keyword}
-use Rattle.expander.specs.Kept.{PendingFor, NotesFor, left_with}
+use Rattle.expander.specs.Judged.{IsBadForm}
+use Rattle.expander.specs.Kept.{FormFor, PendingFor, NotesFor, SpotFor, left_with}
 use Rattle.expander.specs.Outcomes.{Stays}
-use Rattle.expander.specs.Passed.{CanPass, IsPassed, ShapeFits, shape_weight}
+use Rattle.expander.specs.Passed.{CanPass, GoesOn, IsPassed, ShapeFits, shape_weight}
 use Rattle.expander.specs.Seen.{takes_effect}
 use Rattle.expander.specs.Searched.{searched}
 use Rattle.expander.specs.declared.asked.Asked.{Asked}
+use Rattle.expander.specs.declared.fault.ExpandFault.{ExpandFault}
+use Rattle.expander.specs.declared.fault.ExpandFault.TheVariants as fault
 use Rattle.expander.specs.declared.heads.Auxiliary as code_auxiliary
 use Rattle.expander.specs.declared.heads.Head.TheVariants as heads
+use Rattle.expander.specs.declared.items.Form as code_form
+use Rattle.expander.specs.declared.items.Kept.TheVariants as kept
 use Rattle.expander.specs.declared.items.Pending as code_pending
 use Rattle.expander.specs.declared.items.Spot.{Spot}
 use Rattle.expander.specs.declared.scope.UnitScope.{UnitScope}
 use Rattle.expander.proofs.CountingStands.{keyword_stands}
-use Rattle.expander.proofs.FitLaws.{shape_fits}
-use Rattle.expander.proofs.OutcomeLaws.{grows_itself}
-use Rattle.expander.proofs.PassLaws.{spot_same}
+use Rattle.expander.proofs.DefinitionSteps.{aside_now}
+use Rattle.expander.proofs.FitLaws.{some_node, shape_fits}
+use Rattle.expander.proofs.NodeLaws.{plain_is}
+use Rattle.expander.proofs.OutcomeLaws.{grows_itself, leaves_itself}
+use Rattle.expander.proofs.PassLaws.{spot_same, goes_misread, goes_so}
 use Rattle.expander.proofs.ReadLaws.{HeadNamed, target_at}
 use Rattle.expander.proofs.WeightLaws.{weight_less, shape_passes}
 
@@ -179,3 +188,35 @@ room_for work region u spot given n todo asked can le = by u.form.budget.locals 
   where
     by : (l a most : ℕ) → l + a + given ≤ most → l + n ≤ most
     by l a most room = omega (arith, room, le)
+
+-- ---- `cond-expand`
+
+-- no clause has a shape, or none could be judged
+pub goes_bad : (region : Region) (ls : List Frames) (spot : Spot) (fs : Frames) (before : List (Form Identifier)) (given : ℕ) (todo : code_pending.Pending) (asked : Asked) (known : Known) (work : Work) (u : UnitScope) (s : ScopedState) (here : Here) (e : ExpandFault)
+    (r : Result (Option (Trees Identifier)) (Fault Identifier)) (p : Pending Identifier Place) (next : Going Identifier Place ScopedState → Option (Trees Identifier) → ScopedState → Pass Identifier Place × ScopedState) →
+    Stands work u ls s → SpotFor work u ls s spot fs → NotesFor work ls asked p.notes → IsBadForm here e r → GoesOn work work region u u ls spot fs before given todo asked (Err e) (λ go. read_then (searched known) here p r (next go) s)
+goes_bad region ls spot fs before given todo asked known work u s here (fault.At e) r p next stands placed notes h =
+    goes_misread region ls spot fs before given todo asked known work u s s.unit s.form here (fault.At e) r p next stands.form.few_nodes refl refl stands placed notes
+    (BadForm, h.0, subst (λ (x : ExpandFault). Tells_fault work.symbols s.unit s.form here x) (sym h.1) (plain_is work.symbols s.unit s.form here BadForm refl refl))
+  where
+    abbrev Tells_fault : Names → (unit form : ℕ) → Here → ExpandFault → Type 0
+    Tells_fault names unit form at (fault.At x) = IsFault names unit form x (record { fault = BadForm; here = at })
+    Tells_fault names unit form at fault.Full = ⊥
+    Tells_fault names unit form at fault.Memory = ⊥
+goes_bad region ls spot fs before given todo asked known work u s here fault.Full r p next stands placed notes h = absurd h
+goes_bad region ls spot fs before given todo asked known work u s here fault.Memory r p next stands placed notes h = leaves_itself work region u stands.form.few_nodes
+
+-- what the chosen forms come to
+pub read_is : (known : Known) (here : Here) (p : Pending Identifier Place) (r : Result (Option (Trees Identifier)) (Fault Identifier)) (o : Option (Trees Identifier)) (next : Option (Trees Identifier) → ScopedState → Pass Identifier Place × ScopedState) (s : ScopedState) → r ≡ Ok o →
+    read_then (searched known) here p r next s ≡ next o s
+read_is known here p r o next s is = ap (λ (x : Result (Option (Trees Identifier)) (Fault Identifier)). read_then (searched known) here p x next s) is
+
+-- ---- a form that is set aside
+
+pub sets_aside : (work : Work) (region : Region) (u : UnitScope) (ls : List Frames) (spot : Spot) (fs : Frames) (s : ScopedState) (p : Pending Identifier Place) (ns : List (Note Place)) (old new : code_pending.Pending) (asked : Asked) (m : Form Identifier) (x : code_form.Form)
+    (f : Going Identifier Place ScopedState → Pass Identifier Place × ScopedState) → ((go : Going Identifier Place ScopedState) → f go ≡ go (put (Expression m) (noted ns p)) s) → Stands work u ls s → SpotFor work u ls s spot fs → FormFor work region x m →
+    PendingFor work region u.unit u.form.number old p → NotesFor work ls asked (ns ++ p.notes) → new.todo ≡ old.todo → new.aside.items ≡ old.aside.items ++ kept.Expression x ∷ [] →
+    GoesOn work work region u u ls spot fs p.todo (tree_size m.tree) new asked (Ok tt) f
+sets_aside work region u ls spot fs s p ns old new asked m x f same stands placed on pending notes todo aside =
+    goes_so region ls spot fs p.todo (tree_size m.tree) new asked work work u u (Ok tt) f (λ go. go (put (Expression m) (noted ns p)) s) same
+    (aside_now work region u u ls spot fs s (noted ns p) old new asked (tree_size m.tree) (Expression m) (kept.Expression x) (noted_pending work region u.unit u.form.number old p ns pending) notes (x, refl, on) todo aside stands placed refl (some_node m.tree))

@@ -145,7 +145,7 @@ impl UnitScope {
             left_with p.todo self.old.form.budget.uses < turns →
             Passes work.old work.new region.now self.old self.new ls spot fs (left_with p.todo self.old.form.budget.uses) pending.new.aside.items asked.new result (run (searched known) turns fs p s) }
     {
-        for _turn in 0..u64::MAX {
+        'forms: for _turn in 0..u64::MAX {
             let Some(form) = pending.todo.pop() else {
                 return Ok(());
             };
@@ -379,7 +379,10 @@ impl UnitScope {
     }
 
     /// What requirements are judged by.
-    pub(crate) fn judge<'a>(&'a self, alloc: Global, work: &'a Work) -> Judge<'a> {
+    pub(crate) fn judge<'a>(&'a self, alloc: Global, work: &'a Work) -> Judge<'a>
+        ensures work { result.work.now ≡ work.now }
+        ensures libraries { result.libraries.now ≡ self.now.libraries }
+    {
         Judge {
             alloc,
             work,
