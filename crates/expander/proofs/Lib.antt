@@ -54,3 +54,4 @@ pub mod LocalDefs
 pub mod UseSteps
 pub mod UsePass
 pub mod CorePass
+pub mod ShapePass

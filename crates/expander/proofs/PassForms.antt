@@ -10,12 +10,16 @@ use Rattle.scheme_model.specs.Meaning.{Meaning, Head, IsCore, IsAuxiliary, IsMac
 use Rattle.scheme_model.specs.Requirements.{Known}
 use Rattle.scheme_model.specs.Cores.{Target}
 use Rattle.scheme_model.specs.Order.{Here, Form, Expression, Note, LookedUp, Pending, Pass, Going, Transformer, put, noted, read_then, head_of, target_of, here_at, run_core, run_use, run_head, run_form}
+use Rattle.scheme_model.specs.CountedExpansion.{means_here}
 use Rattle.scheme_model.specs.ScopedExpansion.{Frames, Place, ScopedState, macro_at}
 use Rattle.core_forms.specs.Ends.{keyword_as}
 use Rattle.core_forms.specs.Forms.{Shape, shape_in}
+use Rattle.core_forms.specs.Parts.{IsNameIfAny}
 use Rattle.core_forms.specs.declared.shape.CoreKeyword as code_keyword
 use Rattle.core_forms.specs.declared.shape.NamePart.{NamePart}
 use Rattle.syntax_tree.specs.Names.{Names}
+use Rattle.syntax_tree.specs.Works.{StandsFor}
+use Rattle.syntax_tree.specs.declared.trees.nodes.Tree as number
 use Rattle.syntax_tree.specs.declared.trees.Work.{Work}
 use Rattle.syntax_tree.specs.declared.trees.table.Region.{Region}
 use Rattle.core_tree.specs.Names.{IsTarget}
@@ -27,9 +31,10 @@ use Rattle.expander.specs.State.{Stands, most_locals}
 use Rattle.expander.specs.Stepped.{met, with_keyword}
 use Rattle.expander.specs.Judged.{IsBadForm}
 use Rattle.expander.specs.Kept.{FormFor, PendingFor, NotesFor, SpotFor, left_with}
-use Rattle.expander.specs.Outcomes.{Stays}
+use Rattle.expander.specs.Outcomes.{At, CanLook, Stays}
 use Rattle.expander.specs.Passed.{CanPass, GoesOn, IsPassed, ShapeFits, shape_weight}
-use Rattle.expander.specs.Seen.{takes_effect}
+use Rattle.expander.specs.Seen.{head_name_of, takes_effect}
+use Rattle.expander.specs.Used.{CanUse, UseFor}
 use Rattle.expander.specs.Searched.{searched}
 use Rattle.expander.specs.declared.asked.Asked.{Asked}
 use Rattle.expander.specs.declared.fault.ExpandFault.{ExpandFault}
@@ -41,13 +46,14 @@ use Rattle.expander.specs.declared.items.Kept.TheVariants as kept
 use Rattle.expander.specs.declared.items.Pending as code_pending
 use Rattle.expander.specs.declared.items.Spot.{Spot}
 use Rattle.expander.specs.declared.scope.UnitScope.{UnitScope}
+use Rattle.expander.specs.declared.uses.Use as code_use
 use Rattle.expander.proofs.CountingStands.{keyword_stands}
 use Rattle.expander.proofs.DefinitionSteps.{aside_now}
 use Rattle.expander.proofs.FitLaws.{some_node, shape_fits}
 use Rattle.expander.proofs.NodeLaws.{plain_is}
 use Rattle.expander.proofs.OutcomeLaws.{grows_itself, leaves_itself}
 use Rattle.expander.proofs.PassLaws.{spot_same, goes_misread, goes_so}
-use Rattle.expander.proofs.ReadLaws.{HeadNamed, target_at}
+use Rattle.expander.proofs.ReadLaws.{HeadNamed, head_named, target_at}
 use Rattle.expander.proofs.WeightLaws.{weight_less, shape_passes}
 
 -- ---- heads
@@ -220,3 +226,41 @@ pub sets_aside : (work : Work) (region : Region) (u : UnitScope) (ls : List Fram
 sets_aside work region u ls spot fs s p ns old new asked m x f same stands placed on pending notes todo aside =
     goes_so region ls spot fs p.todo (tree_size m.tree) new asked work work u u (Ok tt) f (λ go. go (put (Expression m) (noted ns p)) s) same
     (aside_now work region u u ls spot fs s (noted ns p) old new asked (tree_size m.tree) (Expression m) (kept.Expression x) (noted_pending work region u.unit u.form.number old p ns pending) notes (x, refl, on) todo aside stands placed refl (some_node m.tree))
+
+-- ---- what calls demand
+
+pub form_named : (work : Work) (t : Tree Identifier) (o : Option NamePart) (x : NamePart) → o ≡ Some x → IsNameIfAny work o (head_name_of t) → HeadNamed work t x
+form_named work t o x is h = head_named work t x (subst (λ (q : Option NamePart). IsNameIfAny work q (head_name_of t)) is h)
+
+pub form_nameless : (work : Work) (t : Tree Identifier) (o : Option NamePart) → o ≡ None → IsNameIfAny work o (head_name_of t) → IsNameIfAny work None (head_name_of t)
+form_nameless work t o is h = subst (λ (q : Option NamePart). IsNameIfAny work q (head_name_of t)) is h
+
+pub can_look : (work : Work) (region : Region) (u : UnitScope) (spot : Spot) (given : ℕ) (todo : code_pending.Pending) (asked : Asked) → CanPass work region u spot given todo asked → CanLook work u spot.scope
+can_look work region u spot given todo asked can = record { layout = can.layout; state = can.state; frames = can.frames; stands = can.stands; at = can.placed.at }
+
+-- the use of a macro at the head of a form
+pub use_for : (known : Known) (work : Work) (s : ScopedState) (fs : Frames) (scope : ℕ) (here : Here) (form : number.Tree) (t : Tree Identifier) (x : NamePart) (k : code_target.Target) (n : HeadNamed work t x) (m : Transformer Frames Identifier) →
+    IsTarget work.symbols s.unit s.form k (target_of (searched known) fs s n.ident n.place) → macro_at s.macros (means_here s fs n.ident) ≡ Some m → StandsFor work form t →
+    UseFor work s (record { scope = scope; here = here; keyword = k; form = form }) (target_of (searched known) fs s n.ident n.place) m n.parts n.tail
+use_for known work s fs scope here form t x k n m target macro stand = record {
+  target = target;
+  macro = macro;
+  head = name n.ident n.place;
+  place = n.around;
+  form = subst (λ (u : Tree Identifier). StandsFor work form u) n.is stand;
+}
+
+pub can_use : (work : Work) (region : Region) (u : UnitScope) (spot : Spot) (given : ℕ) (todo : code_pending.Pending) (asked : Asked) (can : CanPass work region u spot given todo asked) (at : code_use.Use) (k : Target) (m : Transformer Frames Identifier) (ts : Trees Identifier) (tail : Tail Identifier) →
+    at.scope ≡ spot.scope → UseFor work can.state at k m ts tail → CanUse work u at
+can_use work region u spot given todo asked can at k m ts tail is used = record {
+  layout = can.layout;
+  state = can.state;
+  frames = can.frames;
+  stands = can.stands;
+  there = subst (λ (n : ℕ). At can.layout n can.frames) (sym is) can.placed.at;
+  keyword = k;
+  transformer = m;
+  parts = ts;
+  tail = tail;
+  used = used;
+}

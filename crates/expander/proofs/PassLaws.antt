@@ -227,18 +227,16 @@ module _ (work : Work) (ls : List Frames) (literal_scope scope : ℕ) where
       (slice_get_within work.symbols.idents c.pair.literal p.ident h.0.1, (slice_get_within work.symbols.idents c.pair.ident q.ident h.1.1, tt))
 
   module _ (cs : List Comparison) (qs : List (Note Place)) (are : AllMatch (ComparisonFor work ls literal_scope scope) cs qs) where
-    pub within_here : (k : ℕ) (x : Comparison) → x ≡ get_or cs k x → k < length cs → AreWithin work.symbols (x.pair.literal ∷ x.pair.ident ∷ [])
-    within_here k x is l =
-        let q = pair_there (ComparisonFor work ls literal_scope scope) cs qs k x are l in
-        comparison_within x q.other (subst (λ (c : Comparison). ComparisonFor work ls literal_scope scope c q.other) (sym is) q.held)
+    pub within_here : (k : ℕ) (d : Comparison) → k < length cs → AreWithin work.symbols ((get_or cs k d).pair.literal ∷ (get_or cs k d).pair.ident ∷ [])
+    within_here k d l = let q = pair_there (ComparisonFor work ls literal_scope scope) cs qs k d are l in comparison_within (get_or cs k d) q.other q.held
 
-    pub noted_more : (ns : List (Note Place)) (k left : ℕ) (x : Comparison) (old new : Asked) → x ≡ get_or cs k x → left ≡ k + 1 → left ≤ length cs → new.notes.items ≡ old.notes.items ++ note_of literal_scope scope x ∷ [] → AskedStands work.symbols new →
+    pub noted_more : (ns : List (Note Place)) (k left : ℕ) (d : Comparison) (old new : Asked) → left ≡ k + 1 → left ≤ length cs → new.notes.items ≡ old.notes.items ++ note_of literal_scope scope (get_or cs k d) ∷ [] → AskedStands work.symbols new →
         NotesFor work ls old (drop left qs ++ ns) → NotesFor work ls new (drop k qs ++ ns)
-    noted_more ns k left x old new is next within items stands h =
-        let q = pair_there (ComparisonFor work ls literal_scope scope) cs qs k x are (omega (arith, next, within)) in
+    noted_more ns k left d old new next within items stands h =
+        let q = pair_there (ComparisonFor work ls literal_scope scope) cs qs k d are (omega (arith, next, within)) in
         let split : drop k qs ≡ q.other ∷ drop left qs = q.split ∙ ap (λ (i : ℕ). q.other ∷ drop i qs) (sym next) in
         subst (λ (l : List (Note Place)). NotesFor work ls new (l ++ ns)) (sym split)
-        (one_noted work ls old new (note_of literal_scope scope x) q.other (drop left qs ++ ns) items stands (subst (λ (c : Comparison). ComparisonFor work ls literal_scope scope c q.other) (sym is) q.held) h)
+        (one_noted work ls old new (note_of literal_scope scope (get_or cs k d)) q.other (drop left qs ++ ns) items stands q.held h)
 
     pub none_noted : (ns : List (Note Place)) (k : ℕ) (asked : Asked) → length cs ≤ k → NotesFor work ls asked ns → NotesFor work ls asked (drop k qs ++ ns)
     none_noted ns k asked past h = subst (λ (l : List (Note Place)). NotesFor work ls asked (l ++ ns)) (sym (pairs_past (ComparisonFor work ls literal_scope scope) cs qs k are past)) h

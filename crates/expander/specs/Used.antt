@@ -16,9 +16,8 @@ use Rattle.syntax_tree.specs.declared.trees.Work.{Work}
 use Rattle.rules_match.specs.Matches.{means_same}
 use Rattle.core_tree.specs.Names.{IsTarget}
 use Rattle.expander.specs.State.{Stands}
-use Rattle.expander.specs.Kept.{NoteFor, NotesFor}
+use Rattle.expander.specs.Kept.{NoteFor}
 use Rattle.expander.specs.Outcomes.{At}
-use Rattle.expander.specs.declared.asked.Asked.{Asked}
 use Rattle.expander.specs.declared.asked.Note as code_note
 use Rattle.expander.specs.declared.asked.Note.TheVariants as notes
 use Rattle.expander.specs.declared.scope.UnitScope.{UnitScope}
@@ -45,14 +44,6 @@ pub record CanUse (work : Work) (u : UnitScope) (at : code.Use) : Type 0 where
   pub parts : Trees Identifier
   pub tail : Tail Identifier
   pub used : UseFor work state at keyword transformer parts tail
-
--- the notes stand for some notes in the scopes of some state
-pub record CanNote (work : Work) (u : UnitScope) (at : code.Use) (asked : Asked) : Type 0 where
-  pub layout : List Frames
-  pub state : ScopedState
-  pub found : List (Note Place)
-  pub stands : Stands work u layout state
-  pub notes : NotesFor work layout asked found
 
 -- the note that a comparison makes, of a literal in one scope and an identifier in another
 abbrev pub note_of : (literal_scope scope : ℕ) → Comparison → code_note.Note

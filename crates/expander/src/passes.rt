@@ -31,7 +31,7 @@ ghost use Rattle.expander.specs.Kept.{FormFor, NotesFor, SpotFor, PendingFor, le
 ghost use Rattle.expander.specs.Outcomes.{At, IsAtWork};
 ghost use Rattle.expander.specs.Defining.{CanGo, HasNumber};
 ghost use Rattle.expander.specs.Passed.{GoesOn, Passes, CanPass, IsPassed, pass_step, shape_weight, ShapeFits};
-ghost use Rattle.expander.specs.Used.{CanUse, CanNote, ComparisonFor, UseFor};
+ghost use Rattle.expander.specs.Used.{CanUse, ComparisonFor, UseFor};
 ghost use Rattle.syntax_tree.specs.declared.trees.Work.{Work as AnyWork};
 ghost use Rattle.expander.specs.declared.asked.Asked.{Asked as AnyAsked};
 ghost use Rattle.expander.specs.declared.items.Spot.{Spot as AnySpot};
@@ -224,7 +224,8 @@ impl UnitScope {
                 head: true,
                 keyword: head.is_keyword(),
             },
-        )
+        )?;
+        Ok(())
     }
 
     /// Goes through a macro use: its comparisons are noted, and the tree that it gives comes next.
@@ -240,7 +241,6 @@ impl UnitScope {
         requires opened { IsOpened work.old region.now }
         requires usable { CanUse work.old self.old at }
         requires named { CanName work.old region.now at.form }
-        requires notes { CanNote work.old self.old at asked.old }
         ensures { (known : Known) (ls : List Frames) (s : ScopedState) (spot : AnySpot) (fs : Frames) (keyword : ModelTarget) (m : Transformer Frames Identifier) (form : ModelForm Identifier)
             (ts : Trees Identifier) (tail : Tail Identifier) (p : ModelPending Identifier Place) (given : ℕ) →
             Knows self.old.libraries known → Stands work.old self.old ls s → SpotFor work.old self.old ls s spot fs → At ls at.scope fs → UseFor work.old s at keyword m ts tail →

@@ -14,3 +14,6 @@ returns-in_ok-clause_forms-in-Some-clause-chosen c = λ known ps knows h.
     let e : chosen_among known ps ≡ Ok (forms_of ps (Some c.in-Some.place)) = c.in-Ok.ensures.chosen known ps knows h ∙ ap (λ (o : Option ℕ). Ok (forms_of ps o)) c.in-Some.is in
     let f = c.in_ok-clause_forms-in-Some.ensures.chosen c.args.judge.work.now ps h in
     (f.0, e ∙ ap Ok f.1, f.2)
+
+pub returns-in_ok-clause_forms-in-Some-clause-named : goal.returns-in_ok-clause_forms-in-Some-clause-named
+returns-in_ok-clause_forms-in-Some-clause-named c = λ region h. c.in_ok-clause_forms-in-Some.ensures.named c.args.judge.work.now region h
