@@ -29,6 +29,7 @@ use Rattle.expander.specs.declared.fault.ExpandFault.{ExpandFault}
 use Rattle.expander.specs.declared.fault.ExpandFault.TheVariants as fault
 use Rattle.expander.specs.declared.scope.UnitScope.{UnitScope}
 use Rattle.expander.proofs.OutcomeLaws.{ends_after, moves_here, here_ends, same_itself}
+use Rattle.expander.proofs.CountingStands.{nodes_stand}
 use Rattle.expander.proofs.NodeLaws.{spends, begins_goes, here_done}
 
 -- ---- what can be done after a call
@@ -66,6 +67,10 @@ pub begins_after : (work : Work) (region : Region) (u v : UnitScope) (scope : �
 begins_after work region u v scope here n depth below l h =
     stays_after work work region u v scope l.layout l.frames (spent n l.state) l.at
     (subst (λ (w : UnitScope). Stays work work region u w l.layout (spent n l.state)) (sym h.2) (spends work region u l.layout l.state n h.1 l.stands))
+
+pub begins_look : (work : Work) (u v : UnitScope) (scope : ℕ) (here : Option Occ) (n depth below : ℕ) → CanLook work u scope → Begins u v here n depth (Ok below) → CanLook work v scope
+begins_look work u v scope here n depth below l h =
+    subst (λ (w : UnitScope). CanLook work w scope) (sym h.2) (record { layout = l.layout; state = spent n l.state; frames = l.frames; stands = nodes_stand work u l.layout l.state n h.1 l.stands; at = l.at })
 
 pub opened_on : (old new : Work) (region : Region) → Grows old new region → IsOpened old region → IsOpened new region
 opened_on old new region g h = g.trees.regions region h
@@ -157,5 +162,5 @@ module _ (known : Known) (depth : ℕ) (here : Option Occ) (work : Work) (region
   reads_fail Q (fault.At e) h =
       let is = h.4 f in
       subst (λ (q : Result Core Broken × ScopedState). Ends Q work work region u v ls (Err (fault.At e)) q) (sym is) (moves_here work work region u v ls h.1 h.2, (h.0, refl, h.3))
-  reads_fail Q fault.Full h = absurd h
+  reads_fail Q fault.Full h = h
   reads_fail Q fault.Memory h = h

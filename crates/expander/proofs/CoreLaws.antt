@@ -120,21 +120,21 @@ pub macros_are : (again : Bool) (known : Known) (f : Expander Frames Identifier 
     ((again ≡ true) → rules_at ≡ bound_frames (next_number s s.locals) m.names fs) → ((again ≡ false) → rules_at ≡ fs) →
     macros_step again f (searched known) depth here fs m s
     ≡ local_macros f (searched known) depth here (numbers (next_number s s.locals) m.names) m.names rules_at m.rules (bound_frames (next_number s s.locals) m.names fs) m.body (taken (length m.names) s)
-macros_are true known f depth here fs m s rules_at yes no =
+macros_are true known f depth here fs m s rules_at inside outside =
     let v = next_number s s.locals in
     let inner : Frames → Trees Identifier → Step ScopedState Core = recursive f (searched known) depth here (numbers v m.names) m.names in
     let gs = bound_frames v m.names fs in
     let region : Trees Identifier = tree (list m.rules proper None) m.body in
     ap (λ (r : Result (List Binder × Core) Broken × ScopedState). r >>= λ q. done q.1) (bound_searched known inner m.names fs region s ∙ bound_is known inner m.names fs region s)
     ∙ (with_rest (bound_binders v m.names) (inner gs region (taken (length m.names) s))
-    ∙ ap (λ (hs : Frames). local_macros f (searched known) depth here (numbers v m.names) m.names hs m.rules gs m.body (taken (length m.names) s)) (sym (yes refl)))
-macros_are false known f depth here fs m s rules_at yes no =
+    ∙ ap (λ (hs : Frames). local_macros f (searched known) depth here (numbers v m.names) m.names hs m.rules gs m.body (taken (length m.names) s)) (sym (inside refl)))
+macros_are false known f depth here fs m s rules_at inside outside =
     let v = next_number s s.locals in
     let inner : Frames → Trees Identifier → Step ScopedState Core = λ d ts. local_macros f (searched known) depth here (numbers v m.names) m.names fs m.rules d ts in
     let gs = bound_frames v m.names fs in
     ap (λ (r : Result (List Binder × Core) Broken × ScopedState). r >>= λ q. done q.1) (bound_searched known inner m.names fs m.body s ∙ bound_is known inner m.names fs m.body s)
     ∙ (with_rest (bound_binders v m.names) (inner gs m.body (taken (length m.names) s))
-    ∙ ap (λ (hs : Frames). local_macros f (searched known) depth here (numbers v m.names) m.names hs m.rules gs m.body (taken (length m.names) s)) (sym (no refl)))
+    ∙ ap (λ (hs : Frames). local_macros f (searched known) depth here (numbers v m.names) m.names hs m.rules gs m.body (taken (length m.names) s)) (sym (outside refl)))
 
 -- ---- procedures
 

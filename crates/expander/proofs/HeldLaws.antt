@@ -116,8 +116,8 @@ module _ (work : Work) (mean : Pair → Bool) where
     held_tell (c ∷ cs) [] are on = absurd are
     held_tell (c ∷ cs) (q ∷ qs) are on = (
       elim (true_or_false (mean q)) [
-        | inl yes ↦ on q (put_among c cs q c.held (are.0.2 ∙ yes) (pair_among c q are.0)) ∙ sym yes
-        | inr no ↦ false_unless (any_among q (pairs_held whole)) (λ h. let yes : mean q ≡ true = held_means whole all q are_all h in absurd cc) ∙ sym no
+        | inl same ↦ on q (put_among c cs q c.held (are.0.2 ∙ same) (pair_among c q are.0)) ∙ sym same
+        | inr other ↦ false_unless (any_among q (pairs_held whole)) (λ h. let same : mean q ≡ true = held_means whole all q are_all h in absurd cc) ∙ sym other
       ],
       held_tell cs qs are.1 (λ r h. on r (kept_among c cs r c.held h)),
     )

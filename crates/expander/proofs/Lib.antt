@@ -55,3 +55,8 @@ pub mod UseSteps
 pub mod UsePass
 pub mod CorePass
 pub mod ShapePass
+pub mod PrepareLaws
+pub mod BelowLaws
+pub mod LoopLaws
+pub mod FormLaws
+pub mod StepLaws

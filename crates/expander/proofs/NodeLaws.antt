@@ -1,6 +1,6 @@
 -- A core node that begins, and nodes that are counted: from what the code does to its counts to how the definition's step goes on or
 -- fails, with what the code has after it.
-use Rattle.std.proofs.Common.{◌≡◌, ℕ, ◌+◌, ◌<◌, ◌≤◌, List, Bool, true, false, cond, leb, Option, Some, None, Result, Ok, Err, refl, sym, ap, ◌∙◌, subst, inl, inr, arith}
+use Rattle.std.proofs.Common.{◌≡◌, ℕ, zero, suc, ◌+◌, ◌<◌, ◌≤◌, List, Bool, true, false, cond, leb, Option, Some, None, Result, Ok, Err, refl, sym, ap, ◌∙◌, subst, inl, inr, arith}
 use Rattle.std.proofs.lemmas.Bool.{le-leb, lt-leb}
 use Rattle.scheme_model.specs.declared.Occ.{Occ}
 use Rattle.scheme_model.specs.Ident.{Ident as Identifier}
@@ -41,7 +41,7 @@ plain_is names unit form here f named text = record {
 -- a step that fails at once, with nothing done
 pub fails_here : {X Y : Type 0} (P : X → Y → Type 0) (work : Work) (region : Region) (u : UnitScope) (ls : List Frames) (s : ScopedState) (here : Option Occ) (f : Fault Identifier) → Stands work u ls s → fault_name f ≡ None → error_text f ≡ None →
     EndsHere P work work region u u ls (Err (plain_fault here (fault_code f))) (fails {A = Y} here f s)
-fails_here P work region u ls s here f e named text = (stays_itself work region u ls s e, (record { fault = f; here = here }, (refl, plain_is work.symbols s.unit s.form here f named text)))
+fails_here P work region u ls s here f e named text = (stays_itself work region u ls s e, (record { fault = f; here = here }, refl, plain_is work.symbols s.unit s.form here f named text))
 
 -- ---- counts
 
@@ -95,9 +95,9 @@ module _ (known : Known) (work : Work) (region : Region) (u v : UnitScope) (ls :
   pub counts_fails : {X : Type 0} (P : X → Unit {0} → Type 0) (x : ExpandFault) → Counts u v here n (Err x) → EndsHere P work work region u v ls (Err x) (counting (searched known) here n s)
   counts_fails {X} P x h =
       let now = fails_here {Y = Unit {0}} P work region u ls s here NodeBudget e refl refl in
-      subst (λ (w : UnitScope). EndsHere P work work region u w ls (Err {A = X} x) (counting (searched known) here n s)) (sym h.1)
-      (subst (λ (y : ExpandFault). EndsHere P work work region u u ls (Err {A = X} y) (counting (searched known) here n s)) (sym h.2)
-      (subst (λ (p : Result (Unit {0}) Broken × ScopedState). EndsHere P work work region u u ls (Err {A = X} (plain_fault here 45)) p) (sym (counting_fails known work region u ls s here n e h.0)) now))
+      subst (λ (w : UnitScope). EndsHere P work work region u w ls (Err x) (counting (searched known) here n s)) (sym h.1)
+      (subst (λ (y : ExpandFault). EndsHere P work work region u u ls (Err y) (counting (searched known) here n s)) (sym h.2)
+      (subst (λ (p : Result (Unit {0}) Broken × ScopedState). EndsHere P work work region u u ls (Err (plain_fault here 45)) p) (sym (counting_fails known work region u ls s here n e h.0)) now))
 
   module _ {B : Type 0} (parts : ℕ → Step ScopedState B) (depth : ℕ) where
     -- the node begins, and its parts go on one level deeper
@@ -111,18 +111,18 @@ module _ (known : Known) (work : Work) (region : Region) (u v : UnitScope) (ls :
     begins_not {X} P x h =
         elim h [
           | inl deep ↦
-              subst (λ (y : ExpandFault). EndsHere P work work region u u ls (Err {A = X} y) (node (searched known) here n depth parts s)) (sym deep.1)
-              (subst (λ (p : Result B Broken × ScopedState). EndsHere P work work region u u ls (Err {A = X} (plain_fault here 46)) p) (sym (node_deep known work region u ls s here n e parts depth deep.0))
+              subst (λ (y : ExpandFault). EndsHere P work work region u u ls (Err y) (node (searched known) here n depth parts s)) (sym deep.1)
+              (subst (λ (p : Result B Broken × ScopedState). EndsHere P work work region u u ls (Err (plain_fault here 46)) p) (sym (node_deep known work region u ls s here n e parts depth deep.0))
               (fails_here {Y = B} P work region u ls s here DepthBudget e refl refl))
           | inr full ↦
-              subst (λ (y : ExpandFault). EndsHere P work work region u u ls (Err {A = X} y) (node (searched known) here n depth parts s)) (sym full.2)
-              (subst (λ (p : Result B Broken × ScopedState). EndsHere P work work region u u ls (Err {A = X} (plain_fault here 45)) p) (sym (node_full known work region u ls s here n e parts depth full.0 full.1))
+              subst (λ (y : ExpandFault). EndsHere P work work region u u ls (Err y) (node (searched known) here n depth parts s)) (sym full.2)
+              (subst (λ (p : Result B Broken × ScopedState). EndsHere P work work region u u ls (Err (plain_fault here 45)) p) (sym (node_full known work region u ls s here n e parts depth full.0 full.1))
               (fails_here {Y = B} P work region u ls s here NodeBudget e refl refl))
         ]
 
     -- the node can't begin
     pub begins_fails : {X : Type 0} (P : X → B → Type 0) (x : ExpandFault) → Begins u v here n depth (Err x) → EndsHere P work work region u v ls (Err x) (node (searched known) here n depth parts s)
-    begins_fails {X} P x h = subst (λ (w : UnitScope). EndsHere P work work region u w ls (Err {A = X} x) (node (searched known) here n depth parts s)) (sym h.0) (begins_not P x h.1)
+    begins_fails {X} P x h = subst (λ (w : UnitScope). EndsHere P work work region u w ls (Err x) (node (searched known) here n depth parts s)) (sym h.0) (begins_not P x h.1)
 
 -- ---- steps by what came of the first
 
@@ -154,8 +154,8 @@ module _ {X Y : Type 0} where
   -- a fault that is handed on
   pub here_err : (P : X → Y → Type 0) (a c : Work) (region : Region) (u v : UnitScope) (ls : List Frames) (r : Result X ExpandFault) (e : ExpandFault) (p : Result Y Broken × ScopedState) → IsErrAnd r (λ f. f ≡ e) → EndsHere P a c region u v ls (Err e) p → EndsHere P a c region u v ls r p
   here_err P a c region u v ls (Ok x) e p h ends = absurd h
-  here_err P a c region u v ls (Err f) e p h ends = subst (λ (g : ExpandFault). EndsHere P a c region u v ls (Err {A = X} g) p) (sym h) ends
+  here_err P a c region u v ls (Err f) e p h ends = subst (λ (g : ExpandFault). EndsHere P a c region u v ls (Err g) p) (sym h) ends
 
   pub ends_err : (P : List Frames → X → Y → Type 0) (a c : Work) (region : Region) (u v : UnitScope) (ls : List Frames) (r : Result X ExpandFault) (e : ExpandFault) (p : Result Y Broken × ScopedState) → IsErrAnd r (λ f. f ≡ e) → Ends P a c region u v ls (Err e) p → Ends P a c region u v ls r p
   ends_err P a c region u v ls (Ok x) e p h ends = absurd h
-  ends_err P a c region u v ls (Err f) e p h ends = subst (λ (g : ExpandFault). Ends P a c region u v ls (Err {A = X} g) p) (sym h) ends
+  ends_err P a c region u v ls (Err f) e p h ends = subst (λ (g : ExpandFault). Ends P a c region u v ls (Err g) p) (sym h) ends

@@ -9,7 +9,7 @@ use Rattle.scheme_model.specs.Meaning.{Meaning, Local, Global, Standard, Free, H
 use Rattle.scheme_model.specs.Requirements.{Known}
 use Rattle.scheme_model.specs.Diagnostics.{fault_occ}
 use Rattle.scheme_model.specs.Cores.{Target}
-use Rattle.scheme_model.specs.Steps.{Step, fails}
+use Rattle.scheme_model.specs.Steps.{Broken, Step, fails}
 use Rattle.scheme_model.specs.Order.{Here, Transformer, is_some, head_of, name_in}
 use Rattle.scheme_model.specs.Expression.{unless_keyword}
 use Rattle.scheme_model.specs.ScopedExpansion.{Frames, ScopedState, macro_at}
@@ -27,9 +27,16 @@ use Rattle.expander.specs.Counts.{placed_in}
 use Rattle.expander.specs.Heads.{auxiliary_as, IsHead}
 use Rattle.expander.specs.declared.heads.Head as code_head
 use Rattle.expander.specs.declared.heads.Head.TheVariants as heads
-use Rattle.expander.specs.Ready.{not_macro, IsSettled}
+use Rattle.expander.specs.Ready.{not_macro, IsSettled, TestsVariable}
+use Rattle.expander.specs.Outcomes.{EndsHere}
+use Rattle.expander.specs.declared.fault.ExpandFault.{ExpandFault}
+use Rattle.expander.specs.declared.fault.ExpandFault.TheVariants as fault
+use Rattle.syntax_tree.specs.declared.trees.table.Region.{Region}
+use Rattle.expander.proofs.OutcomeLaws.{stays_itself}
 use Rattle.expander.specs.Searched.{searched}
 use Rattle.expander.specs.Seen.{head_name_of}
+use Rattle.expander.specs.State.{Stands}
+use Rattle.expander.specs.declared.scope.UnitScope.{UnitScope}
 
 -- ---- keywords that stand for values
 
@@ -46,6 +53,14 @@ keyword_fault work unit form here x n h = record {
   text = refl;
 }
 
+-- where the scopes of the code stand for a state
+pub keyword_at : (work : Work) (u : UnitScope) (ls : List Frames) (s : ScopedState) (here : Option Occ) (x : NamePart) (n : Named Identifier) → Stands work u ls s → IsName work x n →
+    IsFault work.symbols s.unit s.form (record { code = 43; name = Some x.ident; occ = placed_in u.unit u.form.number here x.occ; text = None }) (record { fault = KeywordAsValue n; here = here })
+keyword_at work u ls s here x n e is =
+    subst (λ (k : ℕ). IsFault work.symbols s.unit s.form (record { code = 43; name = Some x.ident; occ = placed_in k u.form.number here x.occ; text = None }) (record { fault = KeywordAsValue n; here = here })) (sym e.unit)
+    (subst (λ (k : ℕ). IsFault work.symbols s.unit s.form (record { code = 43; name = Some x.ident; occ = placed_in s.unit k here x.occ; text = None }) (record { fault = KeywordAsValue n; here = here })) (sym e.form.number)
+    (keyword_fault work s.unit s.form here x n is))
+
 module _ (known : Known) {B : Type 0} (here : Here) (n : Named Identifier) (go : Step ScopedState B) (s : ScopedState) where
   pub unless_goes : (h : Head) → is_keyword h ≡ false → unless_keyword (searched known) here h n go s ≡ go s
   unless_goes (IsCore k) is = absurd cc
@@ -58,6 +73,15 @@ module _ (known : Known) {B : Type 0} (here : Here) (n : Named Identifier) (go :
   unless_fails (IsAuxiliary a) is = refl
   unless_fails (IsMacro m) is = refl
   unless_fails IsNone is = absurd cc
+
+-- the test failed, and so does what was to follow
+pub tested_fails : {B X : Type 0} (known : Known) (work : Work) (region : Region) (u : UnitScope) (ls : List Frames) (s : ScopedState) (here : Here) (n : Named Identifier) (go : Step ScopedState B) (h : Head) (P : X → B → Type 0) (e : ExpandFault) → Stands work u ls s →
+    TestsVariable work s here n h (Err e) → EndsHere P work work region u u ls (Err e) (unless_keyword (searched known) here h n go s)
+tested_fails {B} known work region u ls s here n go h P (fault.At e) stands tests =
+    subst (λ (p : Result B Broken × ScopedState). EndsHere P work work region u u ls (Err (fault.At e)) p) (sym (unless_fails known here n go s h tests.0))
+    (stays_itself work region u ls s stands, (record { fault = KeywordAsValue n; here = here }, refl, tests.1))
+tested_fails known work region u ls s here n go h P fault.Full stands tests = absurd tests
+tested_fails known work region u ls s here n go h P fault.Memory stands tests = absurd tests
 
 -- a target in a form of a unit, however these are told
 pub target_at : (names : Names) (unit form n m : ℕ) (x : code_target.Target) (t : Target) → unit ≡ n → form ≡ m → IsTarget names n m x t → IsTarget names unit form x t
@@ -103,19 +127,19 @@ is_macro_head heads.Macro = true
 is_macro_head heads.Other = false
 
 pub head_no_macro : (c : code_head.Head) (h : Head) → is_macro_head c ≡ false → IsHead c h → not_macro h
-head_no_macro (heads.Core k) (IsCore d) no h = tt
-head_no_macro (heads.Core k) (IsAuxiliary a) no h = tt
-head_no_macro (heads.Core k) (IsMacro m) no h = h
-head_no_macro (heads.Core k) IsNone no h = tt
-head_no_macro (heads.Auxiliary a) (IsCore d) no h = tt
-head_no_macro (heads.Auxiliary a) (IsAuxiliary b) no h = tt
-head_no_macro (heads.Auxiliary a) (IsMacro m) no h = h
-head_no_macro (heads.Auxiliary a) IsNone no h = tt
-head_no_macro heads.Macro h no is = absurd cc
-head_no_macro heads.Other (IsCore d) no h = tt
-head_no_macro heads.Other (IsAuxiliary a) no h = tt
-head_no_macro heads.Other (IsMacro m) no h = h
-head_no_macro heads.Other IsNone no h = tt
+head_no_macro (heads.Core k) (IsCore d) plain h = tt
+head_no_macro (heads.Core k) (IsAuxiliary a) plain h = tt
+head_no_macro (heads.Core k) (IsMacro m) plain h = h
+head_no_macro (heads.Core k) IsNone plain h = tt
+head_no_macro (heads.Auxiliary a) (IsCore d) plain h = tt
+head_no_macro (heads.Auxiliary a) (IsAuxiliary b) plain h = tt
+head_no_macro (heads.Auxiliary a) (IsMacro m) plain h = h
+head_no_macro (heads.Auxiliary a) IsNone plain h = tt
+head_no_macro heads.Macro h plain is = absurd cc
+head_no_macro heads.Other (IsCore d) plain h = tt
+head_no_macro heads.Other (IsAuxiliary a) plain h = tt
+head_no_macro heads.Other (IsMacro m) plain h = h
+head_no_macro heads.Other IsNone plain h = tt
 
 -- no name is at the head
 pub nameless_settled : (known : Known) (work : Work) (s : ScopedState) (fs : Frames) (t : Tree Identifier) → IsNameIfAny work None (head_name_of t) → IsSettled known s fs t
@@ -147,3 +171,7 @@ head_named work (list (tree (name i p) ts) tail o) x h = record { ident = i; pla
 head_named work (list (tree (atom a p) ts) tail o) x h = absurd h
 head_named work (list (tree (list us end p) ts) tail o) x h = absurd h
 head_named work (list (tree (vector us p) ts) tail o) x h = absurd h
+
+-- its head is no macro's
+pub named_settled : (known : Known) (work : Work) (s : ScopedState) (fs : Frames) (t : Tree Identifier) (x : NamePart) (h : HeadNamed work t x) → not_macro (head_of (searched known) fs s h.ident) → IsSettled known s fs t
+named_settled known work s fs t x h plain = subst (λ (u : Tree Identifier). IsSettled known s fs u) (sym h.is) plain

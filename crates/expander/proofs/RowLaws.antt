@@ -83,13 +83,14 @@ module _ {A Y : Type 0} (f : A → Step ScopedState Y) where
   put_row a y (Ok ys, t) = put_last a y ys (f a t)
   put_row a y (Err e, t) = refl
 
+  behind_last : (xs : List A) (a : A) → ((t : ScopedState) → row (xs ++ a ∷ []) t ≡ (row xs t >>= last a)) → (r : Result Y Broken × ScopedState) →
+      (r >>= λ y t. row (xs ++ a ∷ []) t >>= λ ys. done (y ∷ ys)) ≡ ((r >>= λ y t. row xs t >>= λ ys. done (y ∷ ys)) >>= last a)
+  behind_last xs a later (Ok y, t) = ap (λ (q : Result (List Y) Broken × ScopedState). q >>= λ ys. done (y ∷ ys)) (later t) ∙ put_row a y (row xs t)
+  behind_last xs a later (Err e, t) = refl
+
   pub row_last : (xs : List A) (a : A) (s : ScopedState) → row (xs ++ a ∷ []) s ≡ (row xs s >>= last a)
   row_last [] a s = refl
-  row_last (x ∷ xs) a s = go (f x s)
-    where
-      go : (r : Result Y Broken × ScopedState) → (r >>= λ y t. row (xs ++ a ∷ []) t >>= λ ys. done (y ∷ ys)) ≡ ((r >>= λ y t. row xs t >>= λ ys. done (y ∷ ys)) >>= last a)
-      go (Ok y, t) = ap (λ (q : Result (List Y) Broken × ScopedState). q >>= λ ys. done (y ∷ ys)) (row_last xs a t) ∙ put_row a y (row xs t)
-      go (Err e, t) = refl
+  row_last (x ∷ xs) a s = behind_last xs a (λ t. row_last xs a t) (f x s)
 
   same_row : (r : Result (List Y) Broken × ScopedState) → r ≡ (r >>= λ ys. done ys)
   same_row (Ok ys, t) = refl
@@ -103,13 +104,14 @@ module _ {A Y : Type 0} (f : A → Step ScopedState Y) where
   put_more zs y (Ok ys, t) = put_rest y ys (row zs t)
   put_more zs y (Err e, t) = refl
 
+  behind_more : (xs zs : List A) → ((t : ScopedState) → row (xs ++ zs) t ≡ (row xs t >>= more zs)) → (r : Result Y Broken × ScopedState) →
+      (r >>= λ y t. row (xs ++ zs) t >>= λ ys. done (y ∷ ys)) ≡ ((r >>= λ y t. row xs t >>= λ ys. done (y ∷ ys)) >>= more zs)
+  behind_more xs zs later (Ok y, t) = ap (λ (q : Result (List Y) Broken × ScopedState). q >>= λ ys. done (y ∷ ys)) (later t) ∙ put_more zs y (row xs t)
+  behind_more xs zs later (Err e, t) = refl
+
   pub row_more : (xs zs : List A) (s : ScopedState) → row (xs ++ zs) s ≡ (row xs s >>= more zs)
   row_more [] zs s = same_row (row zs s)
-  row_more (x ∷ xs) zs s = go (f x s)
-    where
-      go : (r : Result Y Broken × ScopedState) → (r >>= λ y t. row (xs ++ zs) t >>= λ ys. done (y ∷ ys)) ≡ ((r >>= λ y t. row xs t >>= λ ys. done (y ∷ ys)) >>= more zs)
-      go (Ok y, t) = ap (λ (q : Result (List Y) Broken × ScopedState). q >>= λ ys. done (y ∷ ys)) (row_more xs zs t) ∙ put_more zs y (row xs t)
-      go (Err e, t) = refl
+  row_more (x ∷ xs) zs s = behind_more xs zs (λ t. row_more xs zs t) (f x s)
 
 -- ---- what values become
 
@@ -171,51 +173,56 @@ put_as {Z = Z} tell with same y (Ok ys, t) = ap (λ (z : Z). done {S = ScopedSta
 put_as tell with same y (Err e, t) = refl
 
 module _ (f : Tree Identifier → Step ScopedState Core) where
+  each_behind : (ts : List (Tree Identifier)) → ((s : ScopedState) → each_of f ts s ≡ (row f ts s >>= λ ms. done (cores_of ms))) → (r : Result Core Broken × ScopedState) →
+      (r >>= λ c. λ t1. each_of f ts t1 >>= λ cs. done (core c cs)) ≡ ((r >>= λ y t. row f ts t >>= λ ys. done (y ∷ ys)) >>= λ ms. done (cores_of ms))
+  each_behind ts later (Ok c, t1) = ap (λ (q : Result Cores Broken × ScopedState). q >>= λ cs. done (core c cs)) (later t1) ∙ put_as cores_of core (λ y ys. refl) c (row f ts t1)
+  each_behind ts later (Err e, t1) = refl
+
   pub each_row : (ts : List (Tree Identifier)) (s : ScopedState) → each_of f ts s ≡ (row f ts s >>= λ ms. done (cores_of ms))
   each_row [] s = refl
-  each_row (t ∷ ts) s = go (f t s)
-    where
-      go : (r : Result Core Broken × ScopedState) → (r >>= λ c. λ t1. each_of f ts t1 >>= λ cs. done (core c cs)) ≡ ((r >>= λ y t. row f ts t >>= λ ys. done (y ∷ ys)) >>= λ ms. done (cores_of ms))
-      go (Ok c, t1) = ap (λ (q : Result Cores Broken × ScopedState). q >>= λ cs. done (core c cs)) (each_row ts t1) ∙ put_as cores_of core (λ y ys. refl) c (row f ts t1)
-      go (Err e, t1) = refl
+  each_row (t ∷ ts) s = each_behind ts (λ t1. each_row ts t1) (f t s)
+
+  list_behind : (ts : Trees Identifier) → ((s : ScopedState) → each f ts s ≡ each_of f (trees_in ts) s) → (r : Result Core Broken × ScopedState) →
+      (r >>= λ c. λ t1. each f ts t1 >>= λ cs. done (core c cs)) ≡ (r >>= λ c. λ t1. each_of f (trees_in ts) t1 >>= λ cs. done (core c cs))
+  list_behind ts later (Ok c, t1) = ap (λ (q : Result Cores Broken × ScopedState). q >>= λ cs. done (core c cs)) (later t1)
+  list_behind ts later (Err e, t1) = refl
 
   pub each_list : (ts : Trees Identifier) (s : ScopedState) → each f ts s ≡ each_of f (trees_in ts) s
   each_list no_trees s = refl
-  each_list (tree t ts) s = go (f t s)
-    where
-      go : (r : Result Core Broken × ScopedState) → (r >>= λ c. λ t1. each f ts t1 >>= λ cs. done (core c cs)) ≡ (r >>= λ c. λ t1. each_of f (trees_in ts) t1 >>= λ cs. done (core c cs))
-      go (Ok c, t1) = ap (λ (q : Result Cores Broken × ScopedState). q >>= λ cs. done (core c cs)) (each_list ts t1)
-      go (Err e, t1) = refl
+  each_list (tree t ts) s = list_behind ts (λ t1. each_list ts t1) (f t s)
 
   abbrev pub as_part : Tree Identifier → Step ScopedState Part
   as_part t s = f t s >>= λ c. done (expression_part c)
 
+  expressions_behind : (ts : Trees Identifier) → ((s : ScopedState) → expressions f ts s ≡ (row as_part (trees_in ts) s >>= λ ms. done (parts_of ms))) → (r : Result Core Broken × ScopedState) →
+      (r >>= λ c. λ t1. expressions f ts t1 >>= λ ps. done (part (expression_part c) ps)) ≡
+      (((r >>= λ c. done (expression_part c)) >>= λ y t. row as_part (trees_in ts) t >>= λ ys. done (y ∷ ys)) >>= λ ms. done (parts_of ms))
+  expressions_behind ts later (Ok c, t1) = ap (λ (q : Result Parts Broken × ScopedState). q >>= λ ps. done (part (expression_part c) ps)) (later t1) ∙ put_as parts_of part (λ y ys. refl) (expression_part c) (row as_part (trees_in ts) t1)
+  expressions_behind ts later (Err e, t1) = refl
+
   pub expressions_row : (ts : Trees Identifier) (s : ScopedState) → expressions f ts s ≡ (row as_part (trees_in ts) s >>= λ ms. done (parts_of ms))
   expressions_row no_trees s = refl
-  expressions_row (tree t ts) s = go (f t s)
-    where
-      go : (r : Result Core Broken × ScopedState) → (r >>= λ c. λ t1. expressions f ts t1 >>= λ ps. done (part (expression_part c) ps)) ≡
-          (((r >>= λ c. done (expression_part c)) >>= λ y t. row as_part (trees_in ts) t >>= λ ys. done (y ∷ ys)) >>= λ ms. done (parts_of ms))
-      go (Ok c, t1) = ap (λ (q : Result Parts Broken × ScopedState). q >>= λ ps. done (part (expression_part c) ps)) (expressions_row ts t1) ∙ put_as parts_of part (λ y ys. refl) (expression_part c) (row as_part (trees_in ts) t1)
-      go (Err e, t1) = refl
+  expressions_row (tree t ts) s = expressions_behind ts (λ t1. expressions_row ts t1) (f t s)
+
+parts_behind : (f : Item Identifier → Step ScopedState Part) (is : List (Item Identifier)) → ((s : ScopedState) → parts f is s ≡ (row f is s >>= λ ms. done (parts_of ms))) → (r : Result Part Broken × ScopedState) →
+    (r >>= λ p. λ t. parts f is t >>= λ ps. done (part p ps)) ≡ ((r >>= λ y t. row f is t >>= λ ys. done (y ∷ ys)) >>= λ ms. done (parts_of ms))
+parts_behind f is later (Ok p, t) = ap (λ (q : Result Parts Broken × ScopedState). q >>= λ ps. done (part p ps)) (later t) ∙ put_as parts_of part (λ y ys. refl) p (row f is t)
+parts_behind f is later (Err e, t) = refl
 
 pub parts_row : (f : Item Identifier → Step ScopedState Part) (is : List (Item Identifier)) (s : ScopedState) → parts f is s ≡ (row f is s >>= λ ms. done (parts_of ms))
 parts_row f [] s = refl
-parts_row f (i ∷ is) s = go (f i s)
-  where
-    go : (r : Result Part Broken × ScopedState) → (r >>= λ p. λ t. parts f is t >>= λ ps. done (part p ps)) ≡ ((r >>= λ y t. row f is t >>= λ ys. done (y ∷ ys)) >>= λ ms. done (parts_of ms))
-    go (Ok p, t) = ap (λ (q : Result Parts Broken × ScopedState). q >>= λ ps. done (part p ps)) (parts_row f is t) ∙ put_as parts_of part (λ y ys. refl) p (row f is t)
-    go (Err e, t) = refl
+parts_row f (i ∷ is) s = parts_behind f is (λ t. parts_row f is t) (f i s)
 
 module _ {L : Type 0} (f : Expander Frames Identifier ScopedState) (ops : Ops Frames Identifier L ScopedState) (depth : ℕ) (here : Here) (fs : Frames) where
+  clauses_behind : (cs : List (Clause Identifier)) → ((s : ScopedState) → clauses f ops depth here fs cs s ≡ (row (procedure f ops depth here fs) cs s >>= λ ms. done (clauses_of ms))) → (r : Result (Binders × Core) Broken × ScopedState) →
+      (r >>= λ q t. clauses f ops depth here fs cs t >>= λ more. done (clause q.0 q.1 more)) ≡ ((r >>= λ y t. row (procedure f ops depth here fs) cs t >>= λ ys. done (y ∷ ys)) >>= λ ms. done (clauses_of ms))
+  clauses_behind cs later (Ok q, t) =
+      ap (λ (p : Result Clauses Broken × ScopedState). p >>= λ more. done (clause q.0 q.1 more)) (later t) ∙ put_as clauses_of (λ (y : Binders × Core) (z : Clauses). clause y.0 y.1 z) (λ y ys. refl) q (row (procedure f ops depth here fs) cs t)
+  clauses_behind cs later (Err e, t) = refl
+
   pub clauses_row : (cs : List (Clause Identifier)) (s : ScopedState) → clauses f ops depth here fs cs s ≡ (row (procedure f ops depth here fs) cs s >>= λ ms. done (clauses_of ms))
   clauses_row [] s = refl
-  clauses_row (c ∷ cs) s = go (procedure f ops depth here fs c s)
-    where
-      go : (r : Result (Binders × Core) Broken × ScopedState) → (r >>= λ q t. clauses f ops depth here fs cs t >>= λ more. done (clause q.0 q.1 more)) ≡
-          ((r >>= λ y t. row (procedure f ops depth here fs) cs t >>= λ ys. done (y ∷ ys)) >>= λ ms. done (clauses_of ms))
-      go (Ok q, t) = ap (λ (p : Result Clauses Broken × ScopedState). p >>= λ more. done (clause q.0 q.1 more)) (clauses_row cs t) ∙ put_as clauses_of (λ (y : Binders × Core) (z : Clauses). clause y.0 y.1 z) (λ y ys. refl) q (row (procedure f ops depth here fs) cs t)
-      go (Err e, t) = refl
+  clauses_row (c ∷ cs) s = clauses_behind cs (λ t. clauses_row cs t) (procedure f ops depth here fs c s)
 
 -- ---- what rows stand for
 

@@ -28,10 +28,10 @@ given_then here (Ok b) make step s = refl
 given_then here (Err e) make step s = refl
 
 -- a definition has no place
-given_misplaced : {B : Type 0} (here : Here) (r : Result B (Fault Identifier)) (make : B → Shape) (step : Shape → Step ScopedState Core) (s : ScopedState) →
+given_misplaced : {B : Type 0} (here : Here) (r : Result B (Fault Identifier)) (step : Shape → Step ScopedState Core) (s : ScopedState) →
     (given as_it_is here r s >>= misplaced here) ≡ (given {B = Shape} as_it_is here (r >> λ b. Err BadPlace) s >>= step)
-given_misplaced here (Ok b) make step s = refl
-given_misplaced here (Err e) make step s = refl
+given_misplaced here (Ok b) step s = refl
+given_misplaced here (Err e) step s = refl
 
 -- two readings one after another, and then what is done
 given_twice : {B C : Type 0} (here : Here) (r : Result B (Fault Identifier)) (f : B → Result C (Fault Identifier)) (step : C → Step ScopedState Core) (s : ScopedState) →

@@ -29,7 +29,7 @@ use Rattle.core_tree.specs.Traces.{IsFault}
 use Rattle.core_tree.specs.declared.cores.Core as code_core
 use Rattle.expander.specs.Counts.{Begins}
 use Rattle.expander.specs.CoreSteps.{core_step}
-use Rattle.expander.specs.Outcomes.{Stays, Leaves, MayFill, WorksOn, IsEnough}
+use Rattle.expander.specs.Outcomes.{Stays, Leaves, MayFill, Breaks, WorksOn, IsEnough, IsEnoughBelow}
 use Rattle.expander.specs.Passed.{ShapeFits}
 use Rattle.expander.specs.Searched.{searched}
 use Rattle.expander.specs.declared.expressions.At as code_at
@@ -99,8 +99,19 @@ abbrev pub Reads : Known → (depth : ℕ) → Option Occ → Work → Region �
 Reads known depth here work region u v ls fs (Ok x) step = (t : ScopedState) × Stays work work region u v ls t × ReadyFor known depth here work region v.unit v.form.number fs x step t
 Reads known depth here work region u v ls fs (Err (fault.At e)) step =
     (b : Broken) × (t : ScopedState) × Stays work work region u v ls t × IsFault work.symbols t.unit t.form e b × ((f : Expanding) → step f ≡ (Err b, t))
-Reads known depth here work region u v ls fs (Err fault.Full) step = ⊥
+Reads known depth here work region u v ls fs (Err fault.Full) step = Leaves work work region u × MayFill work u
 Reads known depth here work region u v ls fs (Err fault.Memory) step = Leaves work work region u
+
+-- ---- an expression that was settled and read
+
+-- what is left of it, in fewer turns that are still enough for what stands deeper
+abbrev pub Prepares : Known → (depth : ℕ) → Work → Work → Region → UnitScope → UnitScope → List Frames → Frames → Result (Option Occ × code_ready.Ready) ExpandFault → Result Core Broken × ScopedState → Type 0
+Prepares known depth old new region u v ls fs (Ok x) p =
+    (left : ℕ) × (step : Expanding → Result Core Broken × ScopedState) × (t : ScopedState) × Stays old new region u v ls t × IsEnoughBelow depth v.form.budget.uses left
+    × (p ≡ step (expand (searched known) left)) × ReadyFor known depth x.0 new region v.unit v.form.number fs x.1 step t
+Prepares known depth old new region u v ls fs (Err (fault.At e)) p = Stays old new region u v ls p.1 × Breaks new e p
+Prepares known depth old new region u v ls fs (Err fault.Full) p = Leaves old new region u × MayFill old u
+Prepares known depth old new region u v ls fs (Err fault.Memory) p = Leaves old new region u
 
 -- ---- smaller steps
 

@@ -55,13 +55,9 @@ impl UnitScope {
             Runs (λ ls. CoreStands work.new self.new.unit self.new.form.number) work.old work.new region.now self.old self.new at.scope result (λ known fs. expand (searched known) turns at.depth at.here fs (whole t)) }
         ensures locals { OnOk result (Spends 0 self.old self.new) }
     {
-        let (form, here) = self.settle(alloc, work, region, at, form)?;
-        let at = At {
-            scope: at.scope,
-            here,
-            depth: at.depth,
-        };
-        match self.read(alloc, work, at, form)? {
+        let (here, ready) = self.ready(alloc, work, region, at, form)?;
+        let at = in_place(at, here);
+        match ready {
             Ready::Core(core) => Ok(core),
             Ready::Call(parts) => {
                 let below = self.below(at, 1)?;
@@ -146,8 +142,8 @@ impl UnitScope {
             CoreShape::Set { name, value } => {
                 self.test_variable(work, at, name)?;
                 let below = self.below(at, 1)?;
-                let value = self.expand(alloc, work, region, below, value)?;
                 let target = self.target(work, at.scope, name);
+                let value = self.expand(alloc, work, region, below, value)?;
                 Ok(Core::Set {
                     target,
                     value: Box::new(alloc, value)?,
@@ -184,6 +180,8 @@ impl UnitScope {
             Runs (λ ls. ClauseStands work.new self.new.unit self.new.form.number) work.old work.new region.now self.old self.new at.scope result (λ known fs. procedure (expand (searched known) turns) (searched known) at.depth at.here fs c) }
         ensures locals { OnOk result (Spends 0 self.old self.new) }
     {
+        work.symbols.told_apart();
+        self.env.sound();
         let (scope, binders) = self.bind_names(at.scope, &clause.formals.names)?;
         let inside = At {
             scope,
@@ -308,13 +306,15 @@ impl UnitScope {
             }
             Kept::Assigned(name, form) => {
                 let below = self.below(in_place(at, form.here), 1)?;
+                let target = self.target(work, at.scope, *name);
                 let value = self.expand(alloc, work, region, below, form.tree)?;
-                Ok(CorePart::Expression(self.assigned(alloc, work, at, *name, value)?))
+                Ok(CorePart::Expression(Core::Set { target, value: Box::new(alloc, value)? }))
             }
             Kept::AssignedFunction(name, here, clause) => {
                 let below = self.below(in_place(at, *here), 1)?;
+                let target = self.target(work, at.scope, *name);
                 let value = self.lambda(alloc, work, region, below, clause)?;
-                Ok(CorePart::Expression(self.assigned(alloc, work, at, *name, value)?))
+                Ok(CorePart::Expression(Core::Set { target, value: Box::new(alloc, value)? }))
             }
             Kept::Values { binders, dotted, form } => {
                 let value = self.expand(alloc, work, region, in_place(at, form.here), form.tree)?;
@@ -400,6 +400,8 @@ impl UnitScope {
             Runs (λ ls. CoreStands work.new self.new.unit self.new.form.number) work.old work.new region.now self.old self.new at.scope result (λ known fs. macros_step recursive (expand (searched known) turns) (searched known) at.depth at.here fs m) }
         ensures locals { OnOk result (Spends 0 self.old self.new) }
     {
+        work.symbols.told_apart();
+        self.env.sound();
         let (scope, binders) = self.bind_names(at.scope, &names_of(alloc, macros)?)?;
         let rules_at = if recursive { scope } else { at.scope };
         self.test_all_rules(work, rules_at, at.here, macros)?;
@@ -410,9 +412,10 @@ impl UnitScope {
             here: below.here,
             depth: below.depth,
         };
+        let macros = self.local_defs(alloc, work, &binders)?;
         let body = self.body(alloc, work, region, inside, forms)?;
         Ok(Core::LetSyntax {
-            macros: self.local_defs(alloc, work, &binders)?,
+            macros,
             body: Box::new(alloc, body)?,
         })
     }

@@ -21,7 +21,7 @@ ghost use Rattle.expander.specs.Searched.{searched};
 ghost use Rattle.expander.specs.State.{Stands};
 ghost use Rattle.expander.specs.Outcomes.{At as Stand, CanLook, EndsHere, IsAtWork, WorksOn, IsEnough};
 ghost use Rattle.expander.specs.Defining.{HasNumber};
-ghost use Rattle.expander.specs.Ready.{IsSettled, IsMacroKeyword, Settles, Reads, TestsVariable, BeginsBelow};
+ghost use Rattle.expander.specs.Ready.{IsSettled, IsMacroKeyword, Prepares, Settles, Reads, TestsVariable, BeginsBelow};
 
 use crate::counting::{code, fails, fails_with, misread};
 use crate::fault::ExpandFault;
@@ -58,8 +58,35 @@ pub enum Ready {
 }
 
 impl UnitScope {
+    /// An expression without a macro at its head, and the place of the innermost form read around it.
+    pub(crate) fn ready(
+        &mut self,
+        alloc: Global,
+        work: &mut Work,
+        region: &Region,
+        at: At,
+        form: Tree,
+    ) -> Result<(Option<Occ>, Ready), ExpandFault>
+        requires opened { IsOpened work.old region.now }
+        requires look { CanLook work.old self.old at.scope }
+        requires form { IsAtWork work.old region.now form }
+        ensures ready { (known : Known) (turns : ℕ) (ls : List Frames) (s : ScopedState) (fs : Frames) (t : ModelTree Identifier) → Knows self.old.libraries known → Stands work.old self.old ls s → Stand ls at.scope fs →
+            WorksOn work.old region.now form t → IsEnough at.depth self.old.form.budget.uses turns →
+            Prepares known at.depth work.old work.new region.now self.old self.new ls fs result (expand (searched known) turns at.depth at.here fs (whole t) s) }
+        ensures locals { OnOk result (self.new.form.budget.locals ≡ self.old.form.budget.locals) }
+    {
+        let (form, here) = self.settle(alloc, work, region, at, form)?;
+        let at = At {
+            scope: at.scope,
+            here,
+            depth: at.depth,
+        };
+        let ready = self.read(alloc, work, at, form)?;
+        Ok((here, ready))
+    }
+
     /// Uses macros until none is at the head: the form that is come to, and the place of the innermost form read around it.
-    pub(crate) fn settle(
+    fn settle(
         &mut self,
         alloc: Global,
         work: &mut Work,
@@ -130,7 +157,7 @@ impl UnitScope {
     }
 
     /// Reads an expression without a macro at its head.
-    pub(crate) fn read(
+    fn read(
         &mut self,
         alloc: Global,
         work: &Work,

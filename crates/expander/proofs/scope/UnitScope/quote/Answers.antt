@@ -17,6 +17,15 @@ use Rattle.expander.proofs.ShapeLaws.{core_form_is}
 use Rattle.expander.proofs.CoreStandLaws.{core_on}
 use Rattle.expander.proofs.HeldLaws.{are_held}
 use Rattle.expander.proofs.ReadLaws.{keyword_fault}
+use Rattle.expander.proofs.RowLaws.{row_goes}
+use Rattle.expander.proofs.AfterLaws.{runs_after}
+use Rattle.expander.proofs.CoreLaws.{macros_are}
+use Rattle.expander.proofs.SettleLaws.{so_far_settles}
+use Rattle.expander.proofs.PrepareLaws.{prepares}
+use Rattle.expander.proofs.HoleLaws.{quasi_holes}
+use Rattle.expander.proofs.BelowLaws.{node_below}
+use Rattle.expander.proofs.LoopLaws.{runs_more}
+use Rattle.expander.proofs.FormLaws.{quoted_is}
 use Rattle.expander.proofs.scope.UnitScope.quote.Goals as goal
 
 pub overflow_add-size : goal.overflow_add-size
