@@ -47,7 +47,7 @@ new_apart s c h = false_from_ne_true (same_number (next_number s s.bodies) c) (�
 apart_new : (s : ScopedState) (c : Number) → IsEntered s c → same_number c (next_number s s.bodies) ≡ false
 apart_new s c h = false_from_ne_true (same_number c (next_number s s.bodies)) (λ e. not_entered s (subst (IsEntered s) (number_told c (next_number s s.bodies) e) h))
 
-outside_new : (s : ScopedState) (gs : Frames) → AreEntered s gs → is_inside (next_number s s.bodies) gs ≡ false
+pub outside_new : (s : ScopedState) (gs : Frames) → AreEntered s gs → is_inside (next_number s s.bodies) gs ≡ false
 outside_new s [] h = refl
 outside_new s (Bind x v ∷ gs) h = outside_new s gs h
 outside_new s (Enter c u ∷ gs) h =

@@ -185,7 +185,7 @@ module _ (known : Known) (work : Work) (region : Region) (u v : UnitScope) (ls :
         notes = notes;
         less = less_spliced (forms_size (forms_at here ts ++ p.todo)) (trees_size ts) (forms_size p.todo) (4194305 * (10000 - u.form.budget.uses)) given size less;
         locals = locals_spliced u.form.budget.locals (forms_size (forms_at here ts ++ p.todo)) (trees_size ts) (forms_size p.todo) (4194305 * (10000 - u.form.budget.uses)) given size less;
-      }, λ go. ap (λ (x : Result (Unit {0}) Broken × ScopedState). caught p.notes x (λ done. go q)) (counting_goes known work u ls s here 1 e counts.0)))
+      }, λ go. ap (λ (x : Result (Unit {0}) Broken × ScopedState). caught p.notes x (λ done. go q)) (counting_goes known work region u ls s here 1 e counts.0)))
 
   pub splice_fails : (x : ExpandFault) → Counts u v here 1 (Err x) → GoesOn work work region u v ls spot fs p.todo given new asked (Err x) (λ go. splice (searched known) go here p ts s)
   splice_fails x counts =
@@ -194,7 +194,7 @@ module _ (known : Known) (work : Work) (region : Region) (u v : UnitScope) (ls :
       subst (λ (w : UnitScope). GoesOn work work region u w ls spot fs p.todo given new asked (Err x) (λ go. splice (searched known) go here p ts s)) (sym counts.1)
       (subst (λ (y : ExpandFault). GoesOn work work region u u ls spot fs p.todo given new asked (Err y) (λ go. splice (searched known) go here p ts s)) (sym counts.2)
       (p.notes, b, s, record { stays = stays_itself work region u ls s e; placed = placed; notes = notes }, plain_is work.symbols s.unit s.form here NodeBudget refl refl,
-        λ go. ap (λ (x : Result (Unit {0}) Broken × ScopedState). caught p.notes x (λ done. go q)) (counting_fails known work u ls s here 1 e counts.0)))
+        λ go. ap (λ (x : Result (Unit {0}) Broken × ScopedState). caught p.notes x (λ done. go q)) (counting_fails known work region u ls s here 1 e counts.0)))
 
 -- ---- comparisons that are noted
 

@@ -1,5 +1,5 @@
 -- A core form that splices or defines, by the shape that the code has of it.
-use Rattle.std.proofs.Common.{◌≡◌, ℕ, ◌+◌, ◌<◌, ◌≤◌, List, length, Result, refl, sym, ap, ◌∙◌, subst}
+use Rattle.std.proofs.Common.{◌≡◌, ℕ, ◌+◌, ◌<◌, ◌≤◌, List, length, Result, refl, sym, ap, ◌∙◌, subst, arith}
 use Rattle.std.specs.Prelude.{Vec}
 use Rattle.std.specs.declared.alloc.Global.{Global}
 use Rattle.std.specs.List.{AllByRecursion}
@@ -12,7 +12,7 @@ use Rattle.scheme_model.specs.Shapes.{Formals, Clause, RecordShape, Variable, Pr
 use Rattle.scheme_model.specs.Order.{Here, Form, Pending, Pass, Going, or_none, read_then, splice, record_names, run_define, run_values, run_record, run_syntax}
 use Rattle.scheme_model.specs.ScopedExpansion.{Frames, Place, ScopedState}
 use Rattle.syntax_tree.specs.Looks.{PartsStand, AllNamed}
-use Rattle.syntax_tree.specs.Works.{StandsFor, CanName}
+use Rattle.syntax_tree.specs.Works.{StandsFor, CanName, IsStanding}
 use Rattle.syntax_tree.specs.declared.trees.Work.{Work}
 use Rattle.syntax_tree.specs.declared.trees.nodes.Tree as number
 use Rattle.syntax_tree.specs.declared.trees.table.Region.{Region}
@@ -28,11 +28,13 @@ use Rattle.core_forms.specs.declared.shape.FieldShape.{FieldShape}
 use Rattle.core_forms.specs.declared.shape.Formals as code_formals
 use Rattle.core_forms.specs.declared.shape.NamePart.{NamePart}
 use Rattle.expander.specs.Judged.{chosen_among}
+use Rattle.expander.specs.Defining.{HasNumber}
 use Rattle.expander.specs.Kept.{ClauseFor}
 use Rattle.expander.specs.Outcomes.{WorksOn}
 use Rattle.expander.specs.Passed.{ShapeFits, choices_size, pass_step, shape_weight}
 use Rattle.expander.specs.Searched.{searched}
-use Rattle.expander.proofs.ShapeKinds.{as_sequence, as_choices, as_variable, as_procedure, as_values, as_syntax, as_record}
+use Rattle.expander.proofs.DefinitionSteps.{matched_length}
+use Rattle.expander.proofs.ShapeKinds.{as_sequence, as_choices, as_variable, as_procedure, as_values, as_syntax, as_record, records_alike}
 
 -- G says how the code's step ends; what is to be shown is said of the definition's step by the shape
 module _ (known : Known) (work : Work) (region : Region) (s : ScopedState) (fs : Frames) (here : Here) (form : Form Identifier) (p : Pending Identifier Place) (given : ℕ) (G : (Going Identifier Place ScopedState → Pass Identifier Place × ScopedState) → Type 0)
@@ -78,3 +80,29 @@ module _ (known : Known) (work : Work) (region : Region) (s : ScopedState) (fs :
   pub record_goes : (n c : NamePart) (us : Vec NamePart Global) (q : NamePart) (ys : Vec FieldShape Global) → x ≡ shapes.RecordType n c us q ys →
       ((r : RecordShape Identifier) → IsRecord work n c us q ys r → length r.fields + length (record_names r) < given → G (λ go. run_record (searched known) go here fs p r s)) → G (λ go. pass_step (searched known) go here fs form p m s)
   record_goes n c us q ys is next = as_record work Goal n c us q ys m (at_shape (shapes.RecordType n c us q ys) is) (λ r stand fit few. next r stand few) fits less
+
+-- ---- what definitions demand, by the shape
+
+module _ (work : Work) (x : code.CoreShape) (m : Shape) (stands : ShapeFor work x m) where
+  stand_at : (y : code.CoreShape) → x ≡ y → ShapeFor work y m
+  stand_at y is = subst (λ (z : code.CoreShape). ShapeFor work z m) is stands
+
+  pub variable_demands : (n : NamePart) (v : number.Tree) → x ≡ shapes.Define n v → HasNumber work n × (1 ≤ shape_weight m)
+  variable_demands n v is = as_variable work (λ q. HasNumber work n × (1 ≤ shape_weight q)) n v m (stand_at (shapes.Define n v) is) (λ i t name value. ((i, name), omega arith))
+
+  pub procedure_demands : (n : NamePart) (c : ClauseShape) → x ≡ shapes.Procedure n c → HasNumber work n × (1 ≤ shape_weight m)
+  procedure_demands n c is = as_procedure work (λ q. HasNumber work n × (1 ≤ shape_weight q)) n c m (stand_at (shapes.Procedure n c) is) (λ i d name clause. ((i, name), omega arith))
+
+  pub syntax_demands : (n : NamePart) (v : number.Tree) → x ≡ shapes.DefineSyntax n v → HasNumber work n × IsStanding work v × (1 ≤ shape_weight m)
+  syntax_demands n v is = as_syntax work (λ q. HasNumber work n × IsStanding work v × (1 ≤ shape_weight q)) n v m (stand_at (shapes.DefineSyntax n v) is) (λ i t name value. ((i, name), (t, value), omega arith))
+
+  pub values_demands : (a : code_formals.Formals) (v : number.Tree) → x ≡ shapes.Values a v → ((d : Formals Identifier) × IsFormals work a d) × (length a.names.items ≤ shape_weight m)
+  values_demands a v is =
+      as_values work (λ q. ((d : Formals Identifier) × IsFormals work a d) × (length a.names.items ≤ shape_weight q)) a v m (stand_at (shapes.Values a v) is)
+      (λ d t formals value. let same = matched_length (IsName work) a.names.items d.names formals.names in ((d, formals), omega (arith, same)))
+
+  pub record_demands : (n c : NamePart) (us : Vec NamePart Global) (p : NamePart) (ys : Vec FieldShape Global) → x ≡ shapes.RecordType n c us p ys →
+      ((r : RecordShape Identifier) × IsRecord work n c us p ys r) × ((r : RecordShape Identifier) → IsRecord work n c us p ys r → length r.fields + length (record_names r) ≤ shape_weight m)
+  record_demands n c us p ys is =
+      as_record work (λ q. ((r : RecordShape Identifier) × IsRecord work n c us p ys r) × ((r : RecordShape Identifier) → IsRecord work n c us p ys r → length r.fields + length (record_names r) ≤ shape_weight q)) n c us p ys m (stand_at (shapes.RecordType n c us p ys) is)
+      (λ r stand. ((r, stand), λ q other. let same = records_alike work n c us p ys q r other stand in omega (arith, same)))

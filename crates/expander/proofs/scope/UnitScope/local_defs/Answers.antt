@@ -9,10 +9,11 @@ abbrev no_binder : code_binder.Binder
 no_binder = record { number = 0; ident = 0; occ = None }
 
 pub loop-binder-init : goal.loop-binder-init
-loop-binder-init c = λ known ls s vs ns stands are ds h. h
+loop-binder-init c = λ known ls s vs ns stands are.
+    subst (λ (xs : List MacroDef). DefsSoFar c.args.work.now known s vs ns 0 xs) (sym c.new-defs.ensures.items) (λ ds h. h)
 
-pub macro_def-def-requires : goal.macro_def-def-requires
-macro_def-def-requires c =
+pub macro_def-requires : goal.macro_def-requires
+macro_def-requires c =
     let can = c.requires in
     record { layout = can.layout; state = can.state; meaning = Local (record { unit = can.state.unit; form = can.state.form; count = _ }); stands = can.stands; means = refl }
 

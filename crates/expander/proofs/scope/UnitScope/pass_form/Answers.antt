@@ -97,7 +97,7 @@ pub returns-in_default : goal.returns-in_default
 returns-in_default c = λ known ls s fs m p knows stands placed on pending notes.
     let work = c.args.work.now in
     let region = c.args.region.now in
-    sets_aside work region c.args.self.now ls c.args.spot fs s p [] c.args.pending.now c.push.new.pending c.args.asked.now m c.args.form (λ go. run_form (searched known) go fs (here_at (λ i. i) m.tree m.here) m m.tree p s)
+    sets_aside work region c.args.self.now ls c.args.spot fs s p [] c.args.pending.now (record { todo = c.args.pending.now.todo; aside = c.push.new.self }) c.args.asked.now m c.args.form (λ go. run_form (searched known) go fs (here_at (λ i. i) m.tree m.here) m m.tree p s)
     (λ go. no_head known go (here_at (λ i. i) m.tree m.here) fs m p work m.tree s (c.in_default.ensures m.tree on.1.0)) stands placed on pending notes refl c.in_ok-push.ensures.items
 
 pub returns-in-Core : goal.returns-in-Core

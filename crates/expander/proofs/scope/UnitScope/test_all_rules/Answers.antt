@@ -36,7 +36,7 @@ returns-in_err-test_rules c = λ known ls s fs ns ts stands at are.
     let work = c.args.work.now in
     let here = c.args.here in
     let k = c.loop-local.local-index in
-    let e = c.in_err-test_rules.field-0 in
+    let e = c.in_err-test_rules.field-0.0 in
     let q = macro_there work c.args.macros.now ns ts k no_macro are c.loop-local-test.true in
     let t = c.in_err-test_rules.ensures known ls s fs q.rules stands at q.stands in
     c.loop-local.invariant known ls s fs ns ts stands at are (Err e)
