@@ -38,7 +38,7 @@ use Rattle.expander.specs.declared.scope.UnitScope.{UnitScope}
 use Rattle.expander.proofs.BodiesStand.{body_stands, body_opens}
 use Rattle.expander.proofs.BodyScopes.{new_binds}
 use Rattle.expander.proofs.FormRows.{todo_stands}
-use Rattle.expander.proofs.OutcomeLaws.{grows_itself, stays_on, leaves_on, fills_on, ends_err}
+use Rattle.expander.proofs.OutcomeLaws.{grows_itself, stays_on, leaves_on, fills_on}
 
 forms_of_size : (here : Here) (ts : Trees Identifier) → forms_size (forms_at here ts) ≡ trees_size ts
 forms_of_size here no_trees = refl
@@ -154,7 +154,7 @@ module _ (work : Work) (region : Region) (u w : UnitScope) (scope inner : ℕ) (
           Ends Q work new region u v ls (Err x) (body_pass turns here ts known fs s)
       body_fails {X} most kept asked2 Q (fault.At x) h =
           let end : (items_of went >>= λ is. done (entered_frames s fs, is)) ≡ (Err h.0, went.1) = ap (λ (r : Result (List (Item Identifier)) Broken). (r, went.1) >>= λ is. done (entered_frames s fs, is)) h.1 in
-          subst (λ (q : Result (Frames × List (Item Identifier)) Broken × ScopedState). Ends Q work new region u v ls (Err {A = X} (fault.At x)) q) (sym end)
+          subst (λ (q : Result (Frames × List (Item Identifier)) Broken × ScopedState). Ends Q work new region u v ls (Err (fault.At x)) q) (sym end)
           (stays_inside went.1 h.2.stays, (h.0, refl, h.3))
       body_fails most kept asked2 Q fault.Full h =
           let g = subst (λ (x : UnitScope). Passes work new region x v inside spot (entered_frames s fs) most kept asked2 (Err fault.Full) went) child h in

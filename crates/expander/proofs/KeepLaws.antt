@@ -49,7 +49,7 @@ module _ (known : Known) (here : Here) (fs : Frames) (s : ScopedState) where
       let list : r ∷ qs ≡ rs = cc in
       subst (RulesAre (tree t ts)) list (is, later qs (ap (λ (v : ScopedState). (Ok qs, v)) state))
   behind_it t ts r rs is (Err e, u) later h =
-      let value : Err {A = List (RulesParts Identifier)} e ≡ Ok rs = ap (λ (p : Result (List (RulesParts Identifier)) Broken × ScopedState). p.0) h in
+      let value : Err e ≡ Ok rs = ap (λ (p : Result (List (RulesParts Identifier)) Broken × ScopedState). p.0) h in
       absurd cc
 
   pub heads_tell : (ts : Trees Identifier) (rs : List (RulesParts Identifier)) → heads (searched known) here fs ts s ≡ done rs s → RulesAre ts rs
@@ -57,19 +57,19 @@ module _ (known : Known) (here : Here) (fs : Frames) (s : ScopedState) where
       let value : Ok [] ≡ Ok rs = ap (λ (p : Result (List (RulesParts Identifier)) Broken × ScopedState). p.0) h in
       let list : [] ≡ rs = cc in
       subst (RulesAre no_trees) list tt
-  heads_tell (tree t ts) rs h = by (rules_parts_of t) refl h
+  heads_tell (tree t ts) rs h = by (heads_tell ts) (rules_parts_of t) refl h
     where
-      by_head : (b : Bool) (r : RulesParts Identifier) → rules_parts_of t ≡ Some r → ((if b then done r s else fails here BadForm s) >>= headed ts) ≡ done rs s → RulesAre (tree t ts) rs
-      by_head true r is g = behind_it t ts r rs is (heads (searched known) here fs ts s) (heads_tell ts) g
-      by_head false r is g =
-          let value : Err {A = List (RulesParts Identifier)} (record { fault = BadForm; here = here }) ≡ Ok rs = ap (λ (p : Result (List (RulesParts Identifier)) Broken × ScopedState). p.0) g in
+      by_head : ((qs : List (RulesParts Identifier)) → heads (searched known) here fs ts s ≡ (Ok qs, s) → RulesAre ts qs) → (b : Bool) (r : RulesParts Identifier) → rules_parts_of t ≡ Some r → ((if b then done r s else fails here BadForm s) >>= headed ts) ≡ done rs s → RulesAre (tree t ts) rs
+      by_head later true r is g = behind_it t ts r rs is (heads (searched known) here fs ts s) later g
+      by_head later false r is g =
+          let value : Err (record { fault = BadForm; here = here }) ≡ Ok rs = ap (λ (p : Result (List (RulesParts Identifier)) Broken × ScopedState). p.0) g in
           absurd cc
 
-      by : (o : Option (RulesParts Identifier)) → rules_parts_of t ≡ o → (rules_parts (searched known) here fs o s >>= headed ts) ≡ done rs s → RulesAre (tree t ts) rs
-      by None is g =
-          let value : Err {A = List (RulesParts Identifier)} (record { fault = BadForm; here = here }) ≡ Ok rs = ap (λ (p : Result (List (RulesParts Identifier)) Broken × ScopedState). p.0) g in
+      by : ((qs : List (RulesParts Identifier)) → heads (searched known) here fs ts s ≡ (Ok qs, s) → RulesAre ts qs) → (o : Option (RulesParts Identifier)) → rules_parts_of t ≡ o → (rules_parts (searched known) here fs o s >>= headed ts) ≡ done rs s → RulesAre (tree t ts) rs
+      by later None is g =
+          let value : Err (record { fault = BadForm; here = here }) ≡ Ok rs = ap (λ (p : Result (List (RulesParts Identifier)) Broken × ScopedState). p.0) g in
           absurd cc
-      by (Some r) is g = by_head (is_rules (head_of (searched known) fs s r.head)) r is g
+      by later (Some r) is g = by_head later (is_rules (head_of (searched known) fs s r.head)) r is g
 
 -- ---- the next macro
 
@@ -192,8 +192,8 @@ module _ (known : Known) (here : Here) (fs : Frames) (work : Work) (region : Reg
 
     pub rules_fail : {X : Type 0} (Q : X → Unit {0} → Type 0) (e : ExpandFault) → EndsHere Made work work region v w ls (Err e) one → EndsHere Q work work region u w ls (Err e) (keep_all (searched known) here fs vs ts rs s)
     rules_fail {X} Q e ends =
-        subst (λ (q : Result (Unit {0}) Broken × ScopedState). EndsHere Q work work region u w ls (Err {A = X} e) q) (sym split)
-        (here_after Q work work work region u v w ls h.state (Err {A = X} e) (one >>= next_kept) h.stays (here_fails Made Q work work region v w ls e one next_kept ends))
+        subst (λ (q : Result (Unit {0}) Broken × ScopedState). EndsHere Q work work region u w ls (Err e) q) (sym split)
+        (here_after Q work work work region u v w ls h.state (Err e) (one >>= next_kept) h.stays (here_fails Made Q work work region v w ls e one next_kept ends))
 
   pub all_kept : (v : UnitScope) (k : ℕ) (bs : List code_binder.Binder) → KeptSoFar v k → HaveNumbers s bs vs → length bs ≤ k → EndsHere (λ (done : Unit {0}) (also : Unit {0}). Unit {0}) work work region u v ls (Ok tt) (keep_all (searched known) here fs vs ts rs s)
   all_kept v k bs h numbers past =

@@ -1,5 +1,6 @@
 -- The heads of the rules of local macros, tested one after another.
 use Rattle.std.proofs.Common.{◌≡◌, ℕ, zero, suc, ◌+◌, ◌<◌, ◌≤◌, List, [], ◌∷◌, length, get_or, Result, Ok, Err, refl, sym, ap, ◌∙◌, subst, arith}
+use Rattle.std.specs.Result.{IsErrAnd}
 use Rattle.scheme_model.specs.Trees.{Tree, Trees, no_trees, tree}
 use Rattle.scheme_model.specs.Matching.{behind}
 use Rattle.scheme_model.specs.ExpansionFaults.{Named}
@@ -70,3 +71,8 @@ module _ (known : Known) (here : Here) (fs : Frames) (s : ScopedState) (work : W
   head_fails t ts (fault.At e) h = (h.0, ap (and_then ts) h.1, h.2)
   head_fails t ts fault.Full h = h
   head_fails t ts fault.Memory h = h
+
+-- a fault that is handed on
+pub tests_err : {Y : Type 0} (work : Work) (s : ScopedState) (r : Result (Unit {0}) ExpandFault) (e : ExpandFault) (p : Result Y Broken × ScopedState) → IsErrAnd r (λ x. x ≡ e) → Tests work s (Err e) p → Tests work s r p
+tests_err work s (Ok passed) e p is h = absurd is
+tests_err work s (Err x) e p is h = subst (λ (y : ExpandFault). Tests work s (Err y) p) (sym is) h

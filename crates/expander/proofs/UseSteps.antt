@@ -25,12 +25,27 @@ both_true : (a b : Bool) → (a && b) ≡ true → b ≡ true
 both_true true b h = h
 both_true false b h = absurd cc
 
+abbrev Outcome : Type 0
+Outcome = Result (Built (Tree Identifier)) (Fault Identifier)
+
+abbrev fine : Built (Tree Identifier) → Outcome
+fine x = Ok x
+
+abbrev too_deep : Outcome
+too_deep = Err DepthBudget
+
+abbrev too_many : Outcome
+too_many = Err NodeBudget
+
+abbrev gives : Tree Identifier → Result (Tree Identifier) Broken
+gives t = Ok t
+
 module _ (left : ℕ) (x y : Built (Tree Identifier)) where
-  deep_enough : (c : Bool) → (if c then Ok {E = Fault Identifier} x else Err DepthBudget) ≡ Ok y → x ≡ y
+  deep_enough : (c : Bool) → (if c then fine x else too_deep) ≡ fine y → x ≡ y
   deep_enough true h = cc
   deep_enough false h = absurd cc
 
-  small_enough : (b c : Bool) → (if b then (if c then Ok {E = Fault Identifier} x else Err DepthBudget) else Err NodeBudget) ≡ Ok y → (b ≡ true) × (x ≡ y)
+  small_enough : (b c : Bool) → (if b then (if c then fine x else too_deep) else too_many) ≡ fine y → (b ≡ true) × (x ≡ y)
   small_enough true c h = (refl, deep_enough c h)
   small_enough false c h = absurd cc
 
@@ -65,7 +80,7 @@ module _ (known : Known) (here : Here) (fs : Frames) (keyword : Target) (m : Tra
   by_built (Ok b) next few value same = record {
     definitions = same b;
     small = λ t h.
-        let e : Ok {E = Broken} b.value ≡ Ok t = sym (ap (λ (p : Result (Tree Identifier) Broken × ScopedState). p.0) (value b)) ∙ h in
+        let e : gives b.value ≡ gives t = sym (ap (λ (p : Result (Tree Identifier) Broken × ScopedState). p.0) (value b)) ∙ h in
         let is : b.value ≡ t = cc in
         subst (λ (u : Tree Identifier). tree_size u ≤ 4194304) is (few b refl);
   }

@@ -1,5 +1,6 @@
 -- A core form that splices or defines hands on fewer nodes, or defines and binds fewer names, than it has nodes.
 use Rattle.std.proofs.Common.{◌≡◌, ℕ, suc, ◌+◌, ◌<◌, ◌≤◌, List, [], ◌∷◌, ◌++◌, map, length, Bool, true, false, Option, Some, None, Result, Ok, Err, refl, sym, ap, ◌∙◌, subst, arith}
+use Rattle.std.specs.Prelude.{if◌then◌else◌}
 use Rattle.std.proofs.lemmas.List.{length-append, length-map}
 use Rattle.scheme_model.specs.Trees.{Tree, Trees, no_trees, tree, Tail, list}
 use Rattle.scheme_model.specs.Measures.{tree_size, trees_size, tail_size}

@@ -17,9 +17,3 @@ loop-k-init c = record {
   locals = refl;
   uses = refl;
 }
-
-pub read_macro-kept-requires : goal.read_macro-kept-requires
-read_macro-kept-requires c =
-    let h = c.requires.rules in
-    let q = rules_there c.args.work.now c.args.macros.now h.0 h.1 h.2 c.loop-k.k no_macro h.3 h.4 c.loop-k-test.true in
-    record { look = c.loop-k.invariant.look; rules = (q.0, q.2) }

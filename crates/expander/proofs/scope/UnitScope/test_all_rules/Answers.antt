@@ -6,7 +6,7 @@ use Rattle.core_forms.specs.declared.shape.LocalMacro.{LocalMacro}
 use Rattle.expander.specs.RulesTold.{Tests}
 use Rattle.expander.specs.Searched.{searched}
 use Rattle.expander.specs.declared.fault.ExpandFault.{ExpandFault}
-use Rattle.expander.proofs.RulesHeads.{macro_there, macros_past, one_tested, head_fails}
+use Rattle.expander.proofs.RulesHeads.{macro_there, macros_past, one_tested, head_fails, tests_err}
 use Rattle.expander.proofs.scope.UnitScope.test_all_rules.Goals as goal
 
 abbrev no_macro : LocalMacro
@@ -39,8 +39,9 @@ returns-in_err-test_rules c = λ known ls s fs ns ts stands at are.
     let e = c.in_err-test_rules.field-0.0 in
     let q = macro_there work c.args.macros.now ns ts k no_macro are c.loop-local-test.true in
     let t = c.in_err-test_rules.ensures known ls s fs q.rules stands at q.stands in
-    c.loop-local.invariant known ls s fs ns ts stands at are (Err e)
-    (subst (λ (us : Trees _). Tests work s (Err e) (heads (searched known) here fs us s)) (sym q.split) (head_fails known here fs s work q.rules (behind (k + 1) ts) e t))
+    tests_err work s c.from_residual.result e (heads (searched known) here fs ts s) c.from_residual.ensures.1
+    (c.loop-local.invariant known ls s fs ns ts stands at are (Err e)
+    (subst (λ (us : Trees _). Tests work s (Err e) (heads (searched known) here fs us s)) (sym q.split) (head_fails known here fs s work q.rules (behind (k + 1) ts) e t)))
 
 pub returns : goal.returns
 returns c = λ known ls s fs ns ts stands at are.
