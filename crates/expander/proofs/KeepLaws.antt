@@ -37,6 +37,9 @@ use Rattle.expander.proofs.OutcomeLaws.{grows_itself, stays_itself, stays_on, he
 
 -- ---- rules that have a head
 
+abbrev no_list : Here → Result (List (RulesParts Identifier)) Broken
+no_list at = Err (record { fault = BadForm; here = at })
+
 module _ (known : Known) (here : Here) (fs : Frames) (s : ScopedState) where
   abbrev headed : Trees Identifier → RulesParts Identifier → ScopedState → Result (List (RulesParts Identifier)) Broken × ScopedState
   headed ts r t = heads (searched known) here fs ts t >>= λ rs. done (r ∷ rs)
@@ -62,12 +65,12 @@ module _ (known : Known) (here : Here) (fs : Frames) (s : ScopedState) where
       by_head : ((qs : List (RulesParts Identifier)) → heads (searched known) here fs ts s ≡ (Ok qs, s) → RulesAre ts qs) → (b : Bool) (r : RulesParts Identifier) → rules_parts_of t ≡ Some r → ((if b then done r s else fails here BadForm s) >>= headed ts) ≡ done rs s → RulesAre (tree t ts) rs
       by_head later true r is g = behind_it t ts r rs is (heads (searched known) here fs ts s) later g
       by_head later false r is g =
-          let value : Err (record { fault = BadForm; here = here }) ≡ Ok rs = ap (λ (p : Result (List (RulesParts Identifier)) Broken × ScopedState). p.0) g in
+          let value : no_list here ≡ Ok rs = ap (λ (p : Result (List (RulesParts Identifier)) Broken × ScopedState). p.0) g in
           absurd cc
 
       by : ((qs : List (RulesParts Identifier)) → heads (searched known) here fs ts s ≡ (Ok qs, s) → RulesAre ts qs) → (o : Option (RulesParts Identifier)) → rules_parts_of t ≡ o → (rules_parts (searched known) here fs o s >>= headed ts) ≡ done rs s → RulesAre (tree t ts) rs
       by later None is g =
-          let value : Err (record { fault = BadForm; here = here }) ≡ Ok rs = ap (λ (p : Result (List (RulesParts Identifier)) Broken × ScopedState). p.0) g in
+          let value : no_list here ≡ Ok rs = ap (λ (p : Result (List (RulesParts Identifier)) Broken × ScopedState). p.0) g in
           absurd cc
       by later (Some r) is g = by_head later (is_rules (head_of (searched known) fs s r.head)) r is g
 
