@@ -137,6 +137,7 @@ impl UnitScope {
         binders: &[Binder],
     ) -> Result<(), ExpandFault>
         requires look { CanLook work.now self.old scope }
+        requires opened { (region : AnyRegion) × IsOpened work.now region }
         requires rules { HaveHeads work.now macros.now }
         requires binders { length binders.now ≡ length macros.now }
         ensures kept { (known : Known) (region : AnyRegion) (ls : List Frames) (s : ScopedState) (fs : Frames) (ns : List (Named Identifier)) (ts : Trees Identifier) (vs : List Number) (rs : List (RulesParts Identifier)) →

@@ -1,8 +1,9 @@
-use Rattle.std.proofs.Common.{◌≡◌, ℕ, ◌+◌, ◌<◌, ◌≤◌, List, [], length, Option, None, Result, Ok, Err, refl, sym, ap, ◌∙◌, subst, arith}
+use Rattle.std.proofs.Common.{◌≡◌, ℕ, ◌+◌, ◌<◌, ◌≤◌, List, [], length, get_or, true, Option, None, Result, Ok, Err, refl, sym, ap, ◌∙◌, subst, arith}
 use Rattle.core_forms.specs.declared.shape.LocalMacro.{LocalMacro}
 use Rattle.core_tree.specs.declared.cores.Binder as code_binder
 use Rattle.expander.proofs.KeepLaws.{heads_tell, next_macro, rules_there, looks_on, none_kept, one_kept, rules_fail, all_kept}
 use Rattle.scheme_model.specs.Expression.{keep_all}
+use Rattle.scheme_model.specs.Order.{rules_at}
 use Rattle.expander.specs.Searched.{searched}
 use Rattle.expander.proofs.NodeLaws.{here_err}
 use Rattle.expander.proofs.scope.UnitScope.keep_all.Goals as goal
@@ -53,7 +54,15 @@ loop-k-preserved c = record {
       let n = next_macro work s c.args.macros.now ns ts c.args.binders.now vs rs k no_macro no_binder are numbers (heads_tell known c.args.here fs s ts rs heads) lt (omega (arith, lt, same)) in
       let ends = c.in_ok-kept.ensures.read known region ls h.state fs n.rules n.parts h.stays.stands at n.stands n.read in
       one_kept known c.args.here fs work region c.args.self.now ls s vs ts rs stands c.loop-k.self c.read_macro.new.self k h c.args.binders.now _ _ n c.in_ok-kept.kept c.keep.new.self c.told_apart.ensures.idents c.told_apart.ensures.symbols ends c.in_ok-keep.ensures.kept;
-  look = ?;
+  look =
+      let work = c.args.work.now in
+      let k = c.loop-k.k in
+      let r = c.requires.rules in
+      let region = c.requires.opened.0 in
+      let l = c.loop-k.invariant.look in
+      let q = rules_there work c.args.macros.now r.0 r.1 r.2 k no_macro r.3 r.4 c.loop-k-test.true in
+      let ends = c.in_ok-kept.ensures.read (λ n. true) region l.layout l.state l.frames q.0 q.1 l.stands l.at q.2 q.3 in
+      looks_on work region c.loop-k.self c.read_macro.new.self c.args.scope (get_or c.args.binders.now k no_binder).number l c.in_ok-kept.kept c.keep.new.self (rules_at (searched (λ n. true)) c.args.here q.0 q.1 l.state) c.told_apart.ensures.idents c.told_apart.ensures.symbols ends c.in_ok-keep.ensures.kept;
   locals = c.in_ok-kept.ensures.counts.0 ∙ c.loop-k.invariant.locals;
   uses = c.in_ok-kept.ensures.counts.1 ∙ c.loop-k.invariant.uses;
 }
