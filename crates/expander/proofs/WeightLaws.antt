@@ -105,6 +105,10 @@ fields_size (tree t ts) fs h =
     let rest = fields_size ts g.first g.read in
     subst (λ (x : List (FieldShape Identifier)). fields_weight x ≤ tree_size t + trees_size ts) e (omega (arith, in_list, whole, count, one, rest))
 
+-- a record whose constructor uses its own fields
+abbrev kept_or : Bool → RecordShape Identifier → Result (RecordShape Identifier) (Fault Identifier)
+kept_or b s = if b then Ok s else Err BadForm
+
 record_in_size : (ts : Trees Identifier) (tail : Tail Identifier) (r : RecordShape Identifier) → record_in same_ident ts tail ≡ Ok r → 3 + fields_weight r.fields ≤ trees_size ts
 record_in_size ts tail r h =
     let a = made (proper_of ts tail) (λ us. first_of us >> λ p. name_of p.0 >> λ n. first_of p.1 >> λ q. constructor_of q.0 >> λ c. first_of q.1 >> λ x. name_of x.0 >> λ pred. fields_of x.1 >> λ fs. distinct same_ident (map (λ f. f.field) fs) >> λ done. if all_among same_ident c.1 (map (λ f. f.field) fs) then Ok (record { type = n; constructor = c.0; used = c.1; predicate = pred; fields = fs }) else Err BadForm) r h in
@@ -127,7 +131,7 @@ record_in_size ts tail r h =
     subst (λ (fs : List (FieldShape Identifier)). 3 + fields_weight fs ≤ trees_size ts) (by (all_among same_ident c.first.1 (map (λ f. f.field) z.first)) (record { type = n.first; constructor = c.first.0; used = c.first.1; predicate = y.first; fields = z.first }) w.then)
     (omega (arith, whole, first, second, third, one, two, three, fields))
   where
-    by : (b : Bool) (s : RecordShape Identifier) → (if b then Ok s else Err BadForm) ≡ Ok r → s.fields ≡ r.fields
+    by : (b : Bool) (s : RecordShape Identifier) → kept_or b s ≡ Ok r → s.fields ≡ r.fields
     by true s e = let same : s ≡ r = cc in ap (λ (x : RecordShape Identifier). x.fields) same
     by false s e = absurd cc
 
