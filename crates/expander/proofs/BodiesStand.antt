@@ -47,7 +47,7 @@ new_apart s c h = false_from_ne_true (same_number (next_number s s.bodies) c) (�
 apart_new : (s : ScopedState) (c : Number) → IsEntered s c → same_number c (next_number s s.bodies) ≡ false
 apart_new s c h = false_from_ne_true (same_number c (next_number s s.bodies)) (λ e. not_entered s (subst (IsEntered s) (number_told c (next_number s s.bodies) e) h))
 
-outside_new : (s : ScopedState) (gs : Frames) → AreEntered s gs → is_inside (next_number s s.bodies) gs ≡ false
+pub outside_new : (s : ScopedState) (gs : Frames) → AreEntered s gs → is_inside (next_number s s.bodies) gs ≡ false
 outside_new s [] h = refl
 outside_new s (Bind x v ∷ gs) h = outside_new s gs h
 outside_new s (Enter c u ∷ gs) h =
@@ -130,7 +130,7 @@ body_stands work u ls s scope fs sound at e =
     (child_env_stands work.symbols u.env sound ls (entered s) new.env scope fs (entered_frames s fs) at same (now_entered s, are_entered_more s fs (e.env.entered scope fs at)))
     new
 
-pub body_opens : (work : Work) (u : UnitScope) (ls : List Frames) (s : ScopedState) (scope : ℕ) (fs : Frames) → slice_get ls scope ≡ Some fs → Stands work u ls s →
+unfoldable pub body_opens : (work : Work) (u : UnitScope) (ls : List Frames) (s : ScopedState) (scope : ℕ) (fs : Frames) → slice_get ls scope ≡ Some fs → Stands work u ls s →
     IsOpenBody (ls ++ entered_frames s fs ∷ []) (length u.env.scopes) (next_number s s.bodies) fs
 body_opens work u ls s scope fs at e = record {
   uses = s.uses;

@@ -3,7 +3,7 @@ use Rattle.std.proofs.lemmas.Bool.Decides.{nat_tests}
 use Rattle.std.proofs.Common.{◌≡◌, ℕ, zero, suc, ◌+◌, ◌<◌, ◌≤◌, List, [], ◌∷◌, length, get_or, drop, Bool, true, false, eqb, Option, Some, None, Result, Ok, Err, refl, sym, ap, ◌∙◌, subst, arith}
 use Rattle.std.specs.Prelude.{◌&&◌, ◌||◌, not, slice_get, codes, IfSome, if◌then◌else◌}
 use Rattle.std.specs.Option.{option_map}
-use Rattle.std.specs.List.{list_all}
+use Rattle.std.specs.List.{AllByRecursion, list_all}
 use Rattle.std.specs.Char.{is_ascii_digit}
 use Rattle.std.specs.Str.{bytes_eq}
 use Rattle.scheme_model.specs.Trees.{Numeral, Quoted, Character, Boolean, Bytes, Tree, name, atom, list, vector, Trees, no_trees, tree, Tail, proper, dotted}
@@ -18,6 +18,8 @@ use Rattle.syntax_tree.specs.Looks.{PartsStand}
 use Rattle.syntax_tree.specs.declared.trees.Work.{Work}
 use Rattle.syntax_tree.specs.declared.trees.nodes.Tree as number
 use Rattle.core_forms.specs.Forms.{choice_of, choices_in}
+use Rattle.syntax_tree.specs.declared.trees.table.Region.{Region}
+use Rattle.core_forms.specs.Named.{ChoiceNamed, TreesNamed}
 use Rattle.core_forms.specs.Parts.{AllMatch, IsChoice}
 use Rattle.core_forms.proofs.Reading.{grouped}
 use Rattle.core_forms.specs.declared.shape.Choice.{Choice}
@@ -119,6 +121,11 @@ pub forms_there : (work : Work) (k : ℕ) (cs : List Choice) (ps : List (Tree Id
 forms_there work k cs ps d h l =
     let q = clause_there work k cs ps d h l in
     (q.clause.1, ap (option_map (λ p. p.1)) q.got, q.matches.1)
+
+pub named_there : (work : Work) (region : Region) (k : ℕ) (cs : List Choice) (d : Choice) → AllByRecursion (ChoiceNamed work region) cs → k < length cs → TreesNamed work region (get_or cs k d).forms
+named_there work region k [] d h l = absurd (omega arith)
+named_there work region zero (c ∷ cs) d h l = h.0.1
+named_there work region (suc k) (c ∷ cs) d h l = named_there work region k cs d h.1 (omega arith)
 
 -- ---- a requirement has no other fault
 

@@ -25,13 +25,13 @@ made (Err e) f m h = absurd cc
 
 -- ---- sizes
 
-some_node : (t : Tree Identifier) → 1 ≤ tree_size t
+pub some_node : (t : Tree Identifier) → 1 ≤ tree_size t
 some_node (name i o) = omega arith
 some_node (atom a o) = omega arith
 some_node (list ts tail o) = omega arith
 some_node (vector ts o) = omega arith
 
-names_count : (ts : Trees Identifier) (ns : List (Named Identifier)) → names_of ts ≡ Ok ns → length ns ≤ trees_size ts
+pub names_count : (ts : Trees Identifier) (ns : List (Named Identifier)) → names_of ts ≡ Ok ns → length ns ≤ trees_size ts
 names_count no_trees ns h = let e : [] ≡ ns = cc in omega (arith, ap length e)
 names_count (tree t ts) ns h =
     let a = made (name_of t) (λ n. names_of ts >> λ ms. Ok (n ∷ ms)) ns h in
@@ -40,15 +40,15 @@ names_count (tree t ts) ns h =
     let e : a.first ∷ b.first ≡ ns = cc in
     omega (arith, ap length e, names_count ts b.first b.read, some_node t)
 
-proper_is : (ts us : Trees Identifier) (tail : Tail Identifier) → proper_of ts tail ≡ Ok us → us ≡ ts
+pub proper_is : (ts us : Trees Identifier) (tail : Tail Identifier) → proper_of ts tail ≡ Ok us → us ≡ ts
 proper_is ts us proper h = cc
 proper_is ts us (dotted t) h = absurd cc
 
-some_is : (ts us : Trees Identifier) (tail : Tail Identifier) → some_of ts tail ≡ Ok us → us ≡ ts
+pub some_is : (ts us : Trees Identifier) (tail : Tail Identifier) → some_of ts tail ≡ Ok us → us ≡ ts
 some_is no_trees us tail h = absurd cc
 some_is (tree t ts) us tail h = proper_is (tree t ts) us tail h
 
-list_size : (t : Tree Identifier) (p : Trees Identifier × Tail Identifier) → list_of t ≡ Ok p → 1 + (trees_size p.0 + tail_size p.1) ≤ tree_size t
+pub list_size : (t : Tree Identifier) (p : Trees Identifier × Tail Identifier) → list_of t ≡ Ok p → 1 + (trees_size p.0 + tail_size p.1) ≤ tree_size t
 list_size (name i o) p h = absurd cc
 list_size (atom a o) p h = absurd cc
 list_size (list ts tail o) p h =
@@ -57,7 +57,7 @@ list_size (list ts tail o) p h =
     subst (λ (x : Trees Identifier × Tail Identifier). 1 + (trees_size x.0 + tail_size x.1) ≤ tree_size (list ts tail o)) e (omega arith)
 list_size (vector ts o) p h = absurd cc
 
-first_size : (ts : Trees Identifier) (p : Tree Identifier × Trees Identifier) → first_of ts ≡ Ok p → tree_size p.0 + trees_size p.1 ≤ trees_size ts
+pub first_size : (ts : Trees Identifier) (p : Tree Identifier × Trees Identifier) → first_of ts ≡ Ok p → tree_size p.0 + trees_size p.1 ≤ trees_size ts
 first_size no_trees p h = absurd cc
 first_size (tree t ts) p h =
     let q : Tree Identifier × Trees Identifier = (t, ts) in
@@ -79,7 +79,7 @@ formals_in_count ts (dotted t) f h =
     let e : g ≡ f = cc in
     omega (arith, ap (λ (x : Formals Identifier). length x.names) e, length-append a.first (b.first ∷ []), names_count ts a.first a.read, some_node t)
 
-formals_count : (t : Tree Identifier) (f : Formals Identifier) → formals_of t ≡ Ok f → length f.names ≤ tree_size t
+pub formals_count : (t : Tree Identifier) (f : Formals Identifier) → formals_of t ≡ Ok f → length f.names ≤ tree_size t
 formals_count (name i o) f h =
     let g : Formals Identifier = record { names = named i o ∷ []; rest = true } in
     let e : g ≡ f = cc in

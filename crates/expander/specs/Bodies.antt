@@ -1,5 +1,5 @@
 -- Bodies and local macros in the code (R7RS 4.3.1, 5.3.2).
-use Rattle.std.specs.Prelude.{◌≡◌, ℕ, ◌+◌, ◌*◌, ◌^◌, ◌≤◌, List, [], ◌∷◌, length, Vec}
+use Rattle.std.specs.Prelude.{◌≡◌, ℕ, ◌+◌, ◌*◌, ◌^◌, ◌≤◌, List, [], ◌∷◌, length, Some, Vec}
 use Rattle.std.specs.declared.alloc.Global.{Global}
 use Rattle.scheme_model.specs.declared.Occ.{Occ}
 use Rattle.scheme_model.specs.Identifiers.{Number}
@@ -7,10 +7,10 @@ use Rattle.scheme_model.specs.Ident.{Ident as Identifier}
 use Rattle.scheme_model.specs.ExpansionFaults.{Named}
 use Rattle.scheme_model.specs.Measures.{trees_size}
 use Rattle.scheme_model.specs.Requirements.{Known}
-use Rattle.scheme_model.specs.Trees.{Trees}
+use Rattle.scheme_model.specs.Trees.{Trees, no_trees, tree}
 use Rattle.scheme_model.specs.Steps.{Step, ◌>>=◌, done}
 use Rattle.scheme_model.specs.Cores.{LocalNumber}
-use Rattle.scheme_model.specs.Order.{Here, Item, forms_at, run}
+use Rattle.scheme_model.specs.Order.{Here, Item, RulesParts, forms_at, rules_parts_of, run}
 use Rattle.scheme_model.specs.Expression.{items_of}
 use Rattle.scheme_model.specs.ScopedExpansion.{Frames, ScopedState}
 use Rattle.syntax_tree.specs.Looks.{PartsStand, AllNamed}
@@ -52,6 +52,16 @@ pub record CanEnter (work : Work) (region : Region) (u : UnitScope) (scope : ℕ
 
 abbrev pub HaveRules : Work → List LocalMacro → Type 0
 HaveRules work macros = (ns : List (Named Identifier)) × (ts : Trees Identifier) × AreMacros work macros ns ts
+
+-- each tree is a list of rules with a head, and these are its parts
+abbrev pub RulesAre : Trees Identifier → List (RulesParts Identifier) → Type 0
+RulesAre no_trees [] = Unit {0}
+RulesAre no_trees (r ∷ rs) = ⊥
+RulesAre (tree t ts) [] = ⊥
+RulesAre (tree t ts) (r ∷ rs) = (rules_parts_of t ≡ Some r) × RulesAre ts rs
+
+abbrev pub HaveHeads : Work → List LocalMacro → Type 0
+HaveHeads work macros = (ns : List (Named Identifier)) × (ts : Trees Identifier) × (rs : List (RulesParts Identifier)) × AreMacros work macros ns ts × RulesAre ts rs
 
 -- the binders are locals of the form, of these numbers
 abbrev pub HaveNumbers : ScopedState → List code_binder.Binder → List Number → Type 0

@@ -83,7 +83,7 @@ Passes old new region u v ls spot fs most aside asked (Err fault.Memory) p = Lea
 
 -- ---- core forms by their shapes
 
-abbrev choices_size : List (Tree Identifier × Trees Identifier) → ℕ
+abbrev pub choices_size : List (Tree Identifier × Trees Identifier) → ℕ
 choices_size [] = 0
 choices_size (c ∷ cs) = trees_size c.1 + choices_size cs
 

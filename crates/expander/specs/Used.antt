@@ -63,14 +63,6 @@ pub record CanUse (work : Work) (u : UnitScope) (at : code.Use) : Type 0 where
   pub tail : Tail Identifier
   pub used : UseFor work state at keyword transformer parts tail
 
--- the notes stand for some notes in the scopes of some state
-pub record CanNote (work : Work) (u : UnitScope) (at : code.Use) (asked : Asked) : Type 0 where
-  pub layout : List Frames
-  pub state : ScopedState
-  pub found : List (Note Place)
-  pub stands : Stands work u layout state
-  pub notes : NotesFor work layout asked found
-
 -- the note that a comparison makes, of a literal in one scope and an identifier in another
 abbrev pub note_of : (literal_scope scope : ℕ) → Comparison → code_note.Note
 note_of literal_scope scope c = notes.Compared (record { scope = literal_scope; ident = c.pair.literal }) (record { scope = scope; ident = c.pair.ident }) c.held

@@ -18,7 +18,7 @@ ghost use Rattle.syntax_tree.specs.declared.trees.table.Region.{Region as AnyReg
 ghost use Rattle.core_forms.specs.Parts.{AreMacros, IsName};
 ghost use Rattle.core_tree.specs.Cores.{CoreStands};
 ghost use Rattle.core_tree.specs.Names.{AllMatch, IsMacro as IsMacroDef};
-ghost use Rattle.expander.specs.Bodies.{AreLocalMacros, BodyFor, CanEnter, CanKeep, HaveNumbers, HaveRules, body_pass};
+ghost use Rattle.expander.specs.Bodies.{AreLocalMacros, BodyFor, CanEnter, CanKeep, HaveHeads, HaveNumbers, HaveRules, body_pass};
 ghost use Rattle.expander.specs.Searched.{searched};
 ghost use Rattle.expander.specs.State.{Stands};
 ghost use Rattle.expander.specs.Outcomes.{At as Stand, CanLook, EndsHere, Runs};
@@ -91,6 +91,7 @@ impl UnitScope {
             Runs (BodyFor work.new region.now self.new.unit self.new.form.number) work.old work.new region.now self.old self.new at.scope result (body_pass turns at.here ts) }
         ensures locals { OnOk result (self.new.form.budget.locals ≤ self.old.form.budget.locals + 2 ^ 38) }
     {
+        self.env.sound();
         let scope = self.env.child(at.scope)?;
         let mut pending = Pending {
             todo: forms_at(alloc, at.here, forms)?,
@@ -136,13 +137,15 @@ impl UnitScope {
         binders: &[Binder],
     ) -> Result<(), ExpandFault>
         requires look { CanLook work.now self.old scope }
-        requires rules { HaveRules work.now macros.now }
+        requires opened { (region : AnyRegion) × IsOpened work.now region }
+        requires rules { HaveHeads work.now macros.now }
         requires binders { length binders.now ≡ length macros.now }
         ensures kept { (known : Known) (region : AnyRegion) (ls : List Frames) (s : ScopedState) (fs : Frames) (ns : List (Named Identifier)) (ts : Trees Identifier) (vs : List Number) (rs : List (RulesParts Identifier)) →
             Stands work.now self.old ls s → Stand ls scope fs → AreMacros work.now macros.now ns ts → HaveNumbers s binders.now vs → heads (searched known) here fs ts s ≡ done rs s →
             EndsHere (λ (kept : Unit {0}) (also : Unit {0}). Unit {0}) work.now work.now region self.old self.new ls result (keep_all (searched known) here fs vs ts rs s) }
         ensures counts { OnOk result ((self.new.form.budget.locals ≡ self.old.form.budget.locals) × (self.new.form.budget.uses ≡ self.old.form.budget.uses)) }
     {
+        work.symbols.told_apart();
         for k in 0..macros.len() {
             let kept = self.read_macro(alloc, work, scope, here, macros[k].rules)?;
             self.macros.keep(

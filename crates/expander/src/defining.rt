@@ -26,7 +26,6 @@ ghost use Rattle.expander.specs.Defining.{CanGo, HasNumber, Takes, EndsIn, defin
 ghost use Rattle.expander.specs.Passed.{GoesOn};
 ghost use Rattle.expander.specs.Records.{IsRecordFor};
 
-
 use crate::asked::Asked;
 use crate::fault::ExpandFault;
 use crate::items::{Form, Kept, Pending, Spot};

@@ -1,6 +1,6 @@
 //! The forms of a body, or a form of a unit, gone through in order (R7RS 5.3.2, 4.3): macros are used, `begin` and `cond-expand`
 //! are spliced, definitions take effect at once, and all else is set aside.
-ghost use Rattle.std.specs.Prelude.{◌≡◌, ◌<◌, length, false, Option, Some, ℕ, ◌+◌, ◌∷◌, [], ◌≤◌, List, IfOk, OnOk, true};
+ghost use Rattle.std.specs.Prelude.{◌≡◌, ◌<◌, length, false, Option, Some, ℕ, ◌+◌, ◌∷◌, ◌++◌, [], ◌≤◌, List, IfOk, OnOk, true};
 ghost use Rattle.std.specs.Option.{option_map_or};
 ghost use Rattle.scheme_model.specs.Trees.{Tree as ModelTree, list, Trees, tree, Tail};
 ghost use Rattle.scheme_model.specs.Order.{here_at, or_here, read_name, Pending as ModelPending, Form as ModelForm, Note as ModelNote, LookedUp, Transformer, run, run_form, run_core, run_use, splice};
@@ -22,7 +22,7 @@ ghost use Rattle.syntax_tree.specs.Looks.{PartsStand, AllNamed};
 ghost use Rattle.syntax_tree.specs.declared.trees.table.Region.{Region as AnyRegion};
 ghost use Rattle.core_forms.specs.Forms.{Shape};
 ghost use Rattle.core_forms.specs.Named.{ShapeNamed};
-ghost use Rattle.core_tree.specs.Names.{IsTarget};
+ghost use Rattle.core_tree.specs.Names.{AllMatch, IsTarget};
 ghost use Rattle.expander.specs.Heads.{IsHead};
 ghost use Rattle.expander.specs.Judged.{Knows};
 ghost use Rattle.expander.specs.Searched.{searched};
@@ -31,13 +31,14 @@ ghost use Rattle.expander.specs.Kept.{FormFor, NotesFor, SpotFor, PendingFor, le
 ghost use Rattle.expander.specs.Outcomes.{At, IsAtWork};
 ghost use Rattle.expander.specs.Defining.{CanGo, HasNumber};
 ghost use Rattle.expander.specs.Passed.{GoesOn, Passes, CanPass, IsPassed, pass_step, shape_weight, ShapeFits};
-ghost use Rattle.expander.specs.Used.{CanUse, CanNote, UseFor};
+ghost use Rattle.expander.specs.Used.{CanUse, ComparisonFor, UseFor};
 ghost use Rattle.syntax_tree.specs.declared.trees.Work.{Work as AnyWork};
 ghost use Rattle.expander.specs.declared.asked.Asked.{Asked as AnyAsked};
 ghost use Rattle.expander.specs.declared.items.Spot.{Spot as AnySpot};
 
 
 use crate::asked::{Asked, Asking, Note};
+use crate::bodies::forms_at;
 use crate::counting::misread;
 use crate::fault::ExpandFault;
 use crate::defining::Record;
@@ -45,11 +46,13 @@ use crate::heads::Head;
 use crate::items::{Form, Kept, Pending, Spot};
 use crate::requirements::{Judge, choose};
 use crate::scope::UnitScope;
-use crate::uses::{Use, held, name_at};
+use crate::sizes::trees_fit;
+use crate::uses::{Comparison, Use, held, name_at};
 use core_forms::{CoreKeyword, CoreShape, NamePart, parse_core};
 use core_tree::cores::Target;
 use ls_base::{Items, Mem};
 use scheme_model::Occ;
+use scope_env::ScopeNo;
 use std::alloc::Global;
 use syntax_tree::look::{Look, look_at};
 use syntax_tree::symbols::{Ident, IdNo};
@@ -142,7 +145,10 @@ impl UnitScope {
             left_with p.todo self.old.form.budget.uses < turns →
             Passes work.old work.new region.now self.old self.new ls spot fs (left_with p.todo self.old.form.budget.uses) pending.new.aside.items asked.new result (run (searched known) turns fs p s) }
     {
-        while let Some(form) = pending.todo.pop() {
+        'forms: for _turn in 0..u64::MAX {
+            let Some(form) = pending.todo.pop() else {
+                return Ok(());
+            };
             self.pass_form(alloc, work, region, spot, form, pending, asked)?;
         }
         Ok(())
@@ -218,7 +224,8 @@ impl UnitScope {
                 head: true,
                 keyword: head.is_keyword(),
             },
-        )
+        )?;
+        Ok(())
     }
 
     /// Goes through a macro use: its comparisons are noted, and the tree that it gives comes next.
@@ -234,7 +241,6 @@ impl UnitScope {
         requires opened { IsOpened work.old region.now }
         requires usable { CanUse work.old self.old at }
         requires named { CanName work.old region.now at.form }
-        requires notes { CanNote work.old self.old at asked.old }
         ensures { (known : Known) (ls : List Frames) (s : ScopedState) (spot : AnySpot) (fs : Frames) (keyword : ModelTarget) (m : Transformer Frames Identifier) (form : ModelForm Identifier)
             (ts : Trees Identifier) (tail : Tail Identifier) (p : ModelPending Identifier Place) (given : ℕ) →
             Knows self.old.libraries known → Stands work.old self.old ls s → SpotFor work.old self.old ls s spot fs → At ls at.scope fs → UseFor work.old s at keyword m ts tail →
@@ -243,24 +249,11 @@ impl UnitScope {
             (λ go. run_use (searched known) go at.here fs keyword (Some m) form ts tail p s) }
     {
         let (scope, comparisons) = self.compare(alloc, work, at)?;
-        for comparison in &comparisons {
-            asked.push(
-                &work.symbols,
-                Note::Compared {
-                    literal: Asking {
-                        scope,
-                        ident: comparison.pair.literal,
-                    },
-                    at: Asking {
-                        scope: at.scope,
-                        ident: comparison.pair.ident,
-                    },
-                    held: comparison.held,
-                },
-            )?;
-        }
+        note_comparisons(work, scope, at.scope, &comparisons, asked)?;
         let same = held(alloc, &comparisons)?;
-        let tree = self.apply(alloc, work, region, at, &same)?;
+        let applied = self.apply(alloc, work, region, at, &same);
+        work.symbols.told_apart();
+        let tree = applied?;
         pending.todo.push(Form {
             here: at.here,
             tree,
@@ -282,6 +275,7 @@ impl UnitScope {
         asked: &mut Asked,
     ) -> Result<(), ExpandFault>
         requires core { (c : ModelKeyword) × (keyword_as core ≡ Some c) }
+        requires keyword { (k : ModelTarget) × IsTarget work.now.symbols self.old.unit self.old.form.number keyword k }
         requires form { IsStanding work.now form.tree }
         requires can { (region : AnyRegion) × ((m : ModelTree Identifier) → StandsFor work.now form.tree m → CanPass work.now region self.old spot (tree_size m) pending.old asked.old) }
         ensures { (known : Known) (region : AnyRegion) (ls : List Frames) (s : ScopedState) (fs : Frames) (c : ModelKeyword) (k : ModelTarget) (m : ModelForm Identifier) (head : ModelTree Identifier)
@@ -296,6 +290,7 @@ impl UnitScope {
             return Ok(());
         }
         self.form.trace.keywords.push(keyword)?;
+        trees_fit(work);
         let shape = match parse_core(alloc, work, core, form.tree, false, &Items::new(alloc)) {
             Ok(shape) => shape,
             Err(fault) => return Err(misread(self, here, fault)),
@@ -321,12 +316,12 @@ impl UnitScope {
             GoesOn work.now work.now region self.old self.new ls spot fs p.todo given pending.new asked.new result (λ go. pass_step (searched known) go here fs form p m s) }
     {
         match shape {
-            CoreShape::Begin(forms) => self.splice(here, &forms, pending),
+            CoreShape::Begin(forms) => self.splice(alloc, here, &forms, pending),
             CoreShape::CondExpand(choices) => {
                 let chosen = choose(self.judge(alloc, work), here, &choices)?;
                 match chosen {
-                    Some(forms) => self.splice(here, &forms, pending),
-                    None => self.splice(here, &[], pending),
+                    Some(forms) => self.splice(alloc, here, &forms, pending),
+                    None => self.splice(alloc, here, &[], pending),
                 }
             }
             CoreShape::Define { name, value } => {
@@ -366,6 +361,7 @@ impl UnitScope {
     /// Puts forms before what is left.
     fn splice(
         &mut self,
+        alloc: Global,
         here: Option<Occ>,
         forms: &[Tree],
         pending: &mut Pending,
@@ -377,20 +373,56 @@ impl UnitScope {
             GoesOn work work region self.old self.new ls spot fs p.todo given pending.new asked result (λ go. splice (searched known) go here p ts s) }
     {
         self.count(here, 1)?;
-        for tree in forms.iter().rev() {
-            pending.todo.push(Form { here, tree: *tree })?;
-        }
+        let mut todo = forms_at(alloc, here, forms)?;
+        pending.todo.append(&mut todo)?;
         Ok(())
     }
 
     /// What requirements are judged by.
-    pub(crate) fn judge<'a>(&'a self, alloc: Global, work: &'a Work) -> Judge<'a> {
+    pub(crate) fn judge<'a>(&'a self, alloc: Global, work: &'a Work) -> Judge<'a>
+        ensures work { result.work.now ≡ work.now }
+        ensures libraries { result.libraries.now ≡ self.now.libraries }
+    {
         Judge {
             alloc,
             work,
             libraries: &self.libraries,
         }
     }
+}
+
+/// Notes comparisons, of which the first comes to be the newest.
+fn note_comparisons(
+    work: &Work,
+    literal_scope: ScopeNo,
+    scope: ScopeNo,
+    comparisons: &[Comparison],
+    asked: &mut Asked,
+) -> Mem<()>
+    requires { (ls : List Frames) × (qs : List (ModelNote Place)) × AllMatch (ComparisonFor work.now ls literal_scope scope) comparisons.now qs }
+    ensures { (ls : List Frames) (qs ns : List (ModelNote Place)) → AllMatch (ComparisonFor work.now ls literal_scope scope) comparisons.now qs → NotesFor work.now ls asked.old ns →
+        OnOk result (NotesFor work.now ls asked.new (qs ++ ns)) }
+{
+    let mut left = comparisons.len();
+    while 0 < left {
+        left -= 1;
+        let comparison = comparisons[left];
+        asked.push(
+            &work.symbols,
+            Note::Compared {
+                literal: Asking {
+                    scope: literal_scope,
+                    ident: comparison.pair.literal,
+                },
+                at: Asking {
+                    scope,
+                    ident: comparison.pair.ident,
+                },
+                held: comparison.held,
+            },
+        )?;
+    }
+    Ok(())
 }
 
 /// Whether a core form takes effect while forms are gone through.

@@ -1,5 +1,6 @@
 //! The clauses of `cond-expand` (R7RS 4.2.1): which requirement holds, and which clause is chosen.
 ghost use Rattle.std.specs.Prelude.{◌≡◌, ◌&&◌, ◌||◌, ℕ, ◌<◌, List, length, Option, IfOk, IfSome};
+ghost use Rattle.std.specs.List.{AllByRecursion};
 ghost use Rattle.scheme_model.specs.Trees.{Tree as ModelTree, Trees, Tail, list as list_tree};
 ghost use Rattle.scheme_model.specs.Requirements.{Known, holds, all_hold, some_holds, none_holds, is_else};
 ghost use Rattle.scheme_model.specs.Ident.{Ident as Identifier, symbol_of};
@@ -8,6 +9,8 @@ ghost use Rattle.syntax_tree.specs.Looks.{PartsStand, EndStands, AreStanding, St
 ghost use Rattle.syntax_tree.specs.Macros.{IsIdent};
 ghost use Rattle.syntax_tree.specs.Works.{StandsFor, IsStanding};
 ghost use Rattle.syntax_tree.specs.declared.trees.Work.{Work as AnyWork};
+ghost use Rattle.syntax_tree.specs.declared.trees.table.Region.{Region as AnyRegion};
+ghost use Rattle.core_forms.specs.Named.{ChoiceNamed, TreesNamed};
 ghost use Rattle.core_forms.specs.Parts.{AllMatch, IsChoice};
 ghost use Rattle.expander.specs.Judged.{Knows, Reads, AreChoosable, IsClauseForms, library_holds, connective_named, word_holds, clause_judged, chosen_among, forms_of, or_first, Chooses, forms_chosen, ChoosesForms};
 
@@ -296,8 +299,9 @@ impl Judge<'_> {
 /// The forms of a clause.
 fn clause_forms(alloc: Global, choices: &[Choice], place: usize) -> Mem<Vec<Tree>>
     requires { place < length choices.now }
-    ensures { (work : AnyWork) (ps : List (ModelTree Identifier × Trees Identifier)) → AllMatch (IsChoice work) choices.now ps →
+    ensures chosen { (work : AnyWork) (ps : List (ModelTree Identifier × Trees Identifier)) → AllMatch (IsChoice work) choices.now ps →
         IfOk result (λ forms. IsClauseForms work ps place forms) }
+    ensures named { (work : AnyWork) (region : AnyRegion) → AllByRecursion (ChoiceNamed work region) choices.now → IfOk result (TreesNamed work region) }
 {
     let clause = &choices[place];
     Ok(Vec::from_slice(alloc, &clause.forms)?)
@@ -310,8 +314,9 @@ pub fn choose(
     choices: &[Choice],
 ) -> Result<Option<Vec<Tree>>, ExpandFault>
     requires { AreChoosable judge.work.now choices.now }
-    ensures { (known : Known) (ps : List (ModelTree Identifier × Trees Identifier)) → Knows judge.entry.libraries.now known →
+    ensures chosen { (known : Known) (ps : List (ModelTree Identifier × Trees Identifier)) → Knows judge.entry.libraries.now known →
         AllMatch (IsChoice judge.entry.work.now) choices.now ps → Chooses judge.entry.work.now here result (chosen_among known ps) }
+    ensures named { (region : AnyRegion) → AllByRecursion (ChoiceNamed judge.entry.work.now region) choices.now → IfOk result (λ chosen. IfSome chosen (TreesNamed judge.entry.work.now region)) }
 {
     match judge.chosen(choices) {
         Ok(chosen) => match chosen {
@@ -330,9 +335,10 @@ pub fn chosen_forms(
     choices: &[Choice],
 ) -> Result<Vec<Tree>, ExpandFault>
     requires { AreChoosable judge.work.now choices.now }
-    ensures { (known : Known) (ps : List (ModelTree Identifier × Trees Identifier)) → Knows judge.entry.libraries.now known →
+    ensures chosen { (known : Known) (ps : List (ModelTree Identifier × Trees Identifier)) → Knows judge.entry.libraries.now known →
         AllMatch (IsChoice judge.entry.work.now) choices.now ps →
         ChoosesForms judge.entry.work.now here result (forms_chosen known ps) }
+    ensures named { (region : AnyRegion) → AllByRecursion (ChoiceNamed judge.entry.work.now region) choices.now → IfOk result (TreesNamed judge.entry.work.now region) }
 {
     match choose(judge, here, choices)? {
         Some(forms) => {

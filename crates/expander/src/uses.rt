@@ -151,6 +151,7 @@ impl UnitScope {
             EndsHere (WorksOn work.new region.now) work.old work.new region.now self.old self.new ls result (use_of (searched known) at.here fs keyword m ts tail s) }
         ensures counted { OnOk result (self.new.form.budget.uses ≡ self.old.form.budget.uses + 1) }
         ensures locals { OnOk result (self.new.form.budget.locals ≡ self.old.form.budget.locals) }
+        ensures scopes { self.new.env.scopes ≡ self.old.env.scopes }
     {
         if self.form.budget.uses == MAX_USES {
             return Err(fails(at.here, code::USE_BUDGET));

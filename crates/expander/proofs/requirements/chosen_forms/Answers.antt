@@ -8,9 +8,9 @@ use Rattle.expander.specs.Judged.{chosen_among, some_chosen, Chooses}
 use Rattle.expander.proofs.ChoiceLaws.{some_there}
 use Rattle.expander.proofs.requirements.chosen_forms.Goals as goal
 
-pub returns-else-is_empty : goal.returns-else-is_empty
-returns-else-is_empty c = λ known ps knows h.
+pub returns-else-is_empty-clause-chosen : goal.returns-else-is_empty-clause-chosen
+returns-else-is_empty-clause-chosen c = λ known ps knows h.
     let w = c.args.judge.work.now in
-    let q = subst (λ (o : Option (Vec number.Tree Global)). Chooses w c.args.here (Ok o) (chosen_among known ps)) c.in-Some.is (c.in_ok-forms.ensures known ps knows h) in
+    let q = subst (λ (o : Option (Vec number.Tree Global)). Chooses w c.args.here (Ok o) (chosen_among known ps)) c.in-Some.is (c.in_ok-forms.ensures.chosen known ps knows h) in
     let some : 0 < length c.in-Some.forms.items = grind (arith, nat_tests, c.in-Some.forms.ok.0) in
     (q.0, ap (λ r. r >> some_chosen) q.1 ∙ some_there w c.in-Some.forms.items q.0 q.2 some, q.2)

@@ -1,0 +1,44 @@
+use Rattle.std.proofs.Common.{◌≡◌, ℕ, suc, ◌+◌, ◌<◌, ◌≤◌, ◌++◌, List, [], ◌∷◌, length, reverse, Option, Some, None, Result, Ok, Err, refl, sym, ap, ◌∙◌, subst, arith}
+use Rattle.scheme_model.specs.Requirements.{Known}
+use Rattle.scheme_model.specs.Trees.{Tree}
+use Rattle.scheme_model.specs.Measures.{tree_size}
+use Rattle.scheme_model.specs.Ident.{Ident as Identifier}
+use Rattle.syntax_tree.proofs.StandingLaws.{stands_once}
+use Rattle.expander.specs.Judged.{Knows}
+use Rattle.expander.specs.Kept.{left_with}
+use Rattle.expander.specs.Passed.{CanPass}
+use Rattle.expander.proofs.AfterLaws.{all_known, opened_on}
+use Rattle.expander.proofs.PassLoop.{next_form, behind_it, pending_behind, one_more_passed, next_fails, can_pass_next, passing_ends, passing_err, passing_begins}
+use Rattle.expander.proofs.scope.UnitScope.pass.Goals as goal
+
+pub forms-init : goal.forms-init
+forms-init c = λ known ls s fs p turns knows stands placed pending notes less.
+    passing_begins known c.args.work.now c.args.region.now c.args.self.now ls c.args.spot fs s p turns c.args.pending.now c.args.asked.now stands placed pending notes less
+
+pub pass_form-requires : goal.pass_form-requires
+pass_form-requires c =
+    let u = c.args.self.now in
+    let region = c.args.region.now in
+    let can = c.requires.can in
+    let k = all_known u.libraries in
+    let turns = suc (left_with can.left.todo u.form.budget.uses) in
+    let h = c.forms.invariant k.0 can.layout can.state can.frames can.left turns k.1 can.stands can.placed can.pending can.notes (omega arith) in
+    let next = next_form c.forms.work region c.forms.self.unit c.forms.self.form.number c.forms.pending h.left c.in-Some.form ? ? h.pending in
+    record {
+      opened = opened_on c.args.work.now c.forms.work region h.stays.work c.requires.opened;
+      form = ((next.head.tree, next.first.1.0), next.first.1.1);
+      can = λ m stand.
+          subst (λ (n : ℕ). CanPass c.forms.work region c.forms.self c.args.spot n c.pop.new.pending c.forms.asked)
+          (ap tree_size (stands_once c.forms.work.trees.nodes c.forms.work.symbols next.head.tree m c.in-Some.form.tree.number next.first.1.0 stand))
+          (can_pass_next k.0 c.args.work.now region u can.layout c.args.spot can.frames can.state can.left turns c.forms.work c.forms.self c.forms.pending c.pop.new.pending c.forms.asked c.forms._turn h c.in-Some.form next ? can.room);
+    }
+
+pub forms-preserved : goal.forms-preserved
+forms-preserved c = λ known ls s fs p turns knows stands placed pending notes less.
+    let u = c.args.self.now in
+    let region = c.args.region.now in
+    let h = c.forms.invariant known ls s fs p turns knows stands placed pending notes less in
+    let next = next_form c.forms.work region c.forms.self.unit c.forms.self.form.number c.forms.pending h.left c.in-Some.form ? ? h.pending in
+    let rest = pending_behind c.forms.work region c.forms.self.unit c.forms.self.form.number c.forms.pending c.pop.new.pending h.left c.in-Some.form next ? h.pending in
+    let goes = c.in_ok-pass_form.ensures known ls h.state fs next.head (behind_it h.left next.rest) (subst (λ l. Knows l known) (sym h.stays.same.libraries) knows) h.stays.stands h.placed next.first rest h.notes in
+    one_more_passed known c.args.work.now region u ls c.args.spot fs s p turns c.forms.work c.forms.self c.forms.pending c.pop.new.pending c.forms.asked c.forms._turn h c.in-Some.form next c.pass_form.new.work c.pass_form.new.self c.pass_form.new.pending c.pass_form.new.asked goes
