@@ -1,0 +1,172 @@
+//! The leaves of cores: binders, uses, quoted data and macros, in the order in which they stand.
+use core_tree::cores::{Binder, Clause, Core, CorePart, FieldUse, MacroDef, Target};
+use core_tree::units::UnitForm;
+use ls_base::Mem;
+use syntax_tree::meaning::Meaning;
+use syntax_tree::trees::Tree;
+
+/// A leaf of a core. Of a quasiquoted datum what stands in its holes isn't quoted.
+#[derive(Clone, Copy)]
+pub enum Leaf<'a> {
+    Binds { local: bool, binder: Binder },
+    Uses(Target),
+    Quoted(Tree),
+    Holed { datum: Tree, places: &'a [u32] },
+    Defines(&'a MacroDef),
+}
+
+/// Adds the leaves of a core.
+#[cycle(leaves)]
+fn add_core<'a>(core: &'a Core, leaves: &mut Vec<Leaf<'a>>) -> Mem<()> {
+    match core {
+        Core::Ref(target) => Ok(leaves.push(Leaf::Uses(*target))?),
+        Core::Const(_) => Ok(()),
+        Core::Quote(datum) => Ok(leaves.push(Leaf::Quoted(*datum))?),
+        Core::Quasi {
+            datum,
+            places,
+            parts,
+        } => {
+            leaves.push(Leaf::Holed {
+                datum: *datum,
+                places: places.as_slice(),
+            })?;
+            Ok(add_cores(parts.as_slice(), leaves)?)
+        }
+        Core::Lambda(clause) => Ok(add_clause(clause, leaves)?),
+        Core::CaseLambda(clauses) => Ok(add_clauses(clauses.as_slice(), leaves)?),
+        Core::If(parts) => Ok(add_cores(parts.as_slice(), leaves)?),
+        Core::Set { target, value } => {
+            leaves.push(Leaf::Uses(*target))?;
+            Ok(add_core(value, leaves)?)
+        }
+        Core::Call(parts) => Ok(add_cores(parts.as_slice(), leaves)?),
+        Core::Body(parts) => Ok(add_parts(parts.as_slice(), leaves)?),
+        Core::LetSyntax { macros, body } => {
+            add_macros(macros.as_slice(), leaves)?;
+            Ok(add_core(body, leaves)?)
+        }
+    }
+}
+
+/// Adds the leaves of cores.
+#[cycle(leaves)]
+fn add_cores<'a>(cores: &'a [Core], leaves: &mut Vec<Leaf<'a>>) -> Mem<()> {
+    for core in cores {
+        add_core(core, leaves)?;
+    }
+    Ok(())
+}
+
+/// Adds the leaves of a clause.
+#[cycle(leaves)]
+fn add_clause<'a>(clause: &'a Clause, leaves: &mut Vec<Leaf<'a>>) -> Mem<()> {
+    add_binders(true, clause.binders.as_slice(), leaves)?;
+    Ok(add_core(&clause.body, leaves)?)
+}
+
+/// Adds the leaves of clauses.
+#[cycle(leaves)]
+fn add_clauses<'a>(clauses: &'a [Clause], leaves: &mut Vec<Leaf<'a>>) -> Mem<()> {
+    for clause in clauses {
+        add_clause(clause, leaves)?;
+    }
+    Ok(())
+}
+
+/// Adds the leaves of a part, whose own binders are locals or definitions of the unit.
+#[cycle(leaves)]
+fn add_part<'a>(local: bool, part: &'a CorePart, leaves: &mut Vec<Leaf<'a>>) -> Mem<()> {
+    match part {
+        CorePart::Expression(core) => Ok(add_core(core, leaves)?),
+        CorePart::Define { binder, value } => {
+            leaves.push(Leaf::Binds {
+                local,
+                binder: *binder,
+            })?;
+            Ok(add_core(value, leaves)?)
+        }
+        CorePart::Values {
+            binders,
+            dotted: _,
+            value,
+        } => {
+            add_binders(local, binders.as_slice(), leaves)?;
+            Ok(add_core(value, leaves)?)
+        }
+        CorePart::Fields {
+            binders,
+            fields,
+            modified: _,
+            used,
+        } => {
+            add_binders(local, binders.as_slice(), leaves)?;
+            add_binders(true, fields.as_slice(), leaves)?;
+            Ok(add_used(fields.as_slice(), used.as_slice(), leaves)?)
+        }
+        CorePart::Syntax(definition) => Ok(add_macro(local, definition, leaves)?),
+    }
+}
+
+/// Adds the leaves of the parts of a body.
+#[cycle(leaves)]
+fn add_parts<'a>(parts: &'a [CorePart], leaves: &mut Vec<Leaf<'a>>) -> Mem<()> {
+    for part in parts {
+        add_part(true, part, leaves)?;
+    }
+    Ok(())
+}
+
+/// Adds binders.
+fn add_binders<'a>(local: bool, binders: &[Binder], leaves: &mut Vec<Leaf<'a>>) -> Mem<()> {
+    for binder in binders {
+        leaves.push(Leaf::Binds {
+            local,
+            binder: *binder,
+        })?;
+    }
+    Ok(())
+}
+
+/// Adds a macro: its binder and its rules.
+fn add_macro<'a>(
+    local: bool,
+    definition: &'a MacroDef,
+    leaves: &mut Vec<Leaf<'a>>,
+) -> Mem<()> {
+    leaves.push(Leaf::Binds {
+        local,
+        binder: definition.binder,
+    })?;
+    Ok(leaves.push(Leaf::Defines(definition))?)
+}
+
+/// Adds local macros.
+fn add_macros<'a>(macros: &'a [MacroDef], leaves: &mut Vec<Leaf<'a>>) -> Mem<()> {
+    for definition in macros {
+        add_macro(true, definition, leaves)?;
+    }
+    Ok(())
+}
+
+/// Adds the fields that a record's constructor uses.
+fn add_used<'a>(fields: &[Binder], used: &[FieldUse], leaves: &mut Vec<Leaf<'a>>) -> Mem<()> {
+    for field in used {
+        if let Some(binder) = fields.get(field.field as usize) {
+            leaves.push(Leaf::Uses(Target {
+                meaning: Meaning::Local(binder.number),
+                ident: binder.ident,
+                occ: field.occ,
+            }))?;
+        }
+    }
+    Ok(())
+}
+
+/// Adds the leaves of a form of a unit, whose parts define.
+pub fn add_form<'a>(form: &'a UnitForm, leaves: &mut Vec<Leaf<'a>>) -> Mem<()> {
+    for item in form.items.as_slice() {
+        add_part(false, &item.part, leaves)?;
+    }
+    Ok(())
+}
