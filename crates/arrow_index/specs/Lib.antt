@@ -1,0 +1,6 @@
+pub mod Adds
+pub mod Leaves
+pub mod Members
+pub mod Names
+pub mod Placed
+pub mod Sights

@@ -1,4 +1,7 @@
 //! The leaves of cores: binders, uses, quoted data and macros, in the order in which they stand.
+ghost use Rattle.std.specs.Prelude.{◌≡◌, ◌++◌, map, OnOk};
+ghost use Rattle.arrow_index.specs.Leaves.{seen_of, core_seen, cores_seen, clause_seen, clauses_seen, part_seen, parts_seen, binders_seen, macro_seen, macros_seen, fields_seen, items_seen};
+
 use core_tree::cores::{Binder, Clause, Core, CorePart, FieldUse, MacroDef, Target};
 use core_tree::units::UnitForm;
 use ls_base::Mem;
@@ -17,7 +20,9 @@ pub enum Leaf<'a> {
 
 /// Adds the leaves of a core.
 #[cycle(leaves)]
-fn add_core<'a>(core: &'a Core, leaves: &mut Vec<Leaf<'a>>) -> Mem<()> {
+fn add_core<'a>(core: &'a Core, leaves: &mut Vec<Leaf<'a>>) -> Mem<()>
+    ensures { OnOk result (map seen_of leaves.new.items ≡ map seen_of leaves.old.items ++ core_seen core.now) }
+{
     match core {
         Core::Ref(target) => Ok(leaves.push(Leaf::Uses(*target))?),
         Core::Const(_) => Ok(()),
@@ -51,7 +56,9 @@ fn add_core<'a>(core: &'a Core, leaves: &mut Vec<Leaf<'a>>) -> Mem<()> {
 
 /// Adds the leaves of cores.
 #[cycle(leaves)]
-fn add_cores<'a>(cores: &'a [Core], leaves: &mut Vec<Leaf<'a>>) -> Mem<()> {
+fn add_cores<'a>(cores: &'a [Core], leaves: &mut Vec<Leaf<'a>>) -> Mem<()>
+    ensures { OnOk result (map seen_of leaves.new.items ≡ map seen_of leaves.old.items ++ cores_seen cores.now) }
+{
     for core in cores {
         add_core(core, leaves)?;
     }
@@ -60,14 +67,18 @@ fn add_cores<'a>(cores: &'a [Core], leaves: &mut Vec<Leaf<'a>>) -> Mem<()> {
 
 /// Adds the leaves of a clause.
 #[cycle(leaves)]
-fn add_clause<'a>(clause: &'a Clause, leaves: &mut Vec<Leaf<'a>>) -> Mem<()> {
+fn add_clause<'a>(clause: &'a Clause, leaves: &mut Vec<Leaf<'a>>) -> Mem<()>
+    ensures { OnOk result (map seen_of leaves.new.items ≡ map seen_of leaves.old.items ++ clause_seen clause.now) }
+{
     add_binders(true, clause.binders.as_slice(), leaves)?;
     Ok(add_core(&clause.body, leaves)?)
 }
 
 /// Adds the leaves of clauses.
 #[cycle(leaves)]
-fn add_clauses<'a>(clauses: &'a [Clause], leaves: &mut Vec<Leaf<'a>>) -> Mem<()> {
+fn add_clauses<'a>(clauses: &'a [Clause], leaves: &mut Vec<Leaf<'a>>) -> Mem<()>
+    ensures { OnOk result (map seen_of leaves.new.items ≡ map seen_of leaves.old.items ++ clauses_seen clauses.now) }
+{
     for clause in clauses {
         add_clause(clause, leaves)?;
     }
@@ -76,7 +87,9 @@ fn add_clauses<'a>(clauses: &'a [Clause], leaves: &mut Vec<Leaf<'a>>) -> Mem<()>
 
 /// Adds the leaves of a part, whose own binders are locals or definitions of the unit.
 #[cycle(leaves)]
-fn add_part<'a>(local: bool, part: &'a CorePart, leaves: &mut Vec<Leaf<'a>>) -> Mem<()> {
+fn add_part<'a>(local: bool, part: &'a CorePart, leaves: &mut Vec<Leaf<'a>>) -> Mem<()>
+    ensures { OnOk result (map seen_of leaves.new.items ≡ map seen_of leaves.old.items ++ part_seen part.now local) }
+{
     match part {
         CorePart::Expression(core) => Ok(add_core(core, leaves)?),
         CorePart::Define { binder, value } => {
@@ -110,7 +123,9 @@ fn add_part<'a>(local: bool, part: &'a CorePart, leaves: &mut Vec<Leaf<'a>>) -> 
 
 /// Adds the leaves of the parts of a body.
 #[cycle(leaves)]
-fn add_parts<'a>(parts: &'a [CorePart], leaves: &mut Vec<Leaf<'a>>) -> Mem<()> {
+fn add_parts<'a>(parts: &'a [CorePart], leaves: &mut Vec<Leaf<'a>>) -> Mem<()>
+    ensures { OnOk result (map seen_of leaves.new.items ≡ map seen_of leaves.old.items ++ parts_seen parts.now) }
+{
     for part in parts {
         add_part(true, part, leaves)?;
     }
@@ -118,7 +133,9 @@ fn add_parts<'a>(parts: &'a [CorePart], leaves: &mut Vec<Leaf<'a>>) -> Mem<()> {
 }
 
 /// Adds binders.
-fn add_binders<'a>(local: bool, binders: &[Binder], leaves: &mut Vec<Leaf<'a>>) -> Mem<()> {
+fn add_binders<'a>(local: bool, binders: &[Binder], leaves: &mut Vec<Leaf<'a>>) -> Mem<()>
+    ensures { OnOk result (map seen_of leaves.new.items ≡ map seen_of leaves.old.items ++ binders_seen local binders.now) }
+{
     for binder in binders {
         leaves.push(Leaf::Binds {
             local,
@@ -133,7 +150,9 @@ fn add_macro<'a>(
     local: bool,
     definition: &'a MacroDef,
     leaves: &mut Vec<Leaf<'a>>,
-) -> Mem<()> {
+) -> Mem<()>
+    ensures { OnOk result (map seen_of leaves.new.items ≡ map seen_of leaves.old.items ++ macro_seen local definition.now) }
+{
     leaves.push(Leaf::Binds {
         local,
         binder: definition.binder,
@@ -142,7 +161,9 @@ fn add_macro<'a>(
 }
 
 /// Adds local macros.
-fn add_macros<'a>(macros: &'a [MacroDef], leaves: &mut Vec<Leaf<'a>>) -> Mem<()> {
+fn add_macros<'a>(macros: &'a [MacroDef], leaves: &mut Vec<Leaf<'a>>) -> Mem<()>
+    ensures { OnOk result (map seen_of leaves.new.items ≡ map seen_of leaves.old.items ++ macros_seen macros.now) }
+{
     for definition in macros {
         add_macro(true, definition, leaves)?;
     }
@@ -150,7 +171,9 @@ fn add_macros<'a>(macros: &'a [MacroDef], leaves: &mut Vec<Leaf<'a>>) -> Mem<()>
 }
 
 /// Adds the fields that a record's constructor uses.
-fn add_used<'a>(fields: &[Binder], used: &[FieldUse], leaves: &mut Vec<Leaf<'a>>) -> Mem<()> {
+fn add_used<'a>(fields: &[Binder], used: &[FieldUse], leaves: &mut Vec<Leaf<'a>>) -> Mem<()>
+    ensures { OnOk result (map seen_of leaves.new.items ≡ map seen_of leaves.old.items ++ fields_seen fields.now used.now) }
+{
     for field in used {
         if let Some(binder) = fields.get(field.field as usize) {
             leaves.push(Leaf::Uses(Target {
@@ -164,7 +187,9 @@ fn add_used<'a>(fields: &[Binder], used: &[FieldUse], leaves: &mut Vec<Leaf<'a>>
 }
 
 /// Adds the leaves of a form of a unit, whose parts define.
-pub fn add_form<'a>(form: &'a UnitForm, leaves: &mut Vec<Leaf<'a>>) -> Mem<()> {
+pub fn add_form<'a>(form: &'a UnitForm, leaves: &mut Vec<Leaf<'a>>) -> Mem<()>
+    ensures { OnOk result (map seen_of leaves.new.items ≡ map seen_of leaves.old.items ++ items_seen form.now.items) }
+{
     for item in form.items.as_slice() {
         add_part(false, &item.part, leaves)?;
     }

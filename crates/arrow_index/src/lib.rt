@@ -2,8 +2,11 @@
 #![tactic(auto)]
 
 pub mod arrows;
+pub mod gathering;
+pub mod holes;
 pub mod leaves;
 pub mod links;
+pub mod living;
 pub mod names;
 pub mod pairs;
 pub mod queries;

@@ -17,6 +17,7 @@ use syntax_tree::trees::Work;
 use syntax_tree::units::{Entry, Origin};
 
 /// The places of the entries of units, by their names.
+#[derive(Drop)]
 struct EntryPlaces {
     units: Vec<BTreeMap<String, usize>>,
 }
@@ -175,6 +176,7 @@ fn add_ident_links(
 }
 
 /// What links are made of.
+#[derive(Drop)]
 struct Origins<'a> {
     alloc: Global,
     work: &'a Work,

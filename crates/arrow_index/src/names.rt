@@ -1,126 +1,72 @@
 //! The names in trees, from left to right.
+ghost use Rattle.std.specs.Prelude.{◌≡◌, ℕ, ◌++◌, OnOk, IfOk};
+ghost use Rattle.scheme_model.specs.Trees.{Tree as ModelTree, Trees, Tail};
+ghost use Rattle.scheme_model.specs.Matching.{behind};
+ghost use Rattle.scheme_model.specs.Ident.{Ident as Identifier};
+ghost use Rattle.syntax_tree.specs.Looks.{PartsStand, EndStands, StandsWithin, PartsWithin, EndWithin};
+ghost use Rattle.syntax_tree.specs.Placed.{IsNamed};
+ghost use Rattle.syntax_tree.specs.Works.{StandsFor, IsStanding};
+ghost use Rattle.core_tree.specs.Names.{AllMatch};
+ghost use Rattle.arrow_index.specs.Adds.{Adds};
+ghost use Rattle.arrow_index.specs.Names.{names_in, names_among, names_behind};
+
 use ls_base::Mem;
-use scheme_model::Occ;
 use std::alloc::Global;
+use syntax_tree::look::{Look, look_at, place_of};
 use syntax_tree::rules::Named;
-use syntax_tree::trees::{Leaf, Node, Tree, Work};
+use syntax_tree::trees::{Tree, Work};
 
-/// A name, where a leaf is one.
-fn name_at(leaf: Leaf, occ: Option<Occ>) -> Option<Named> {
-    match leaf {
-        Leaf::Name(ident) => Some(Named { ident, occ }),
-        Leaf::Numeral(_) | Leaf::Quoted(_) | Leaf::Char(_) | Leaf::Bool(_) | Leaf::Bytes(_) => None,
-    }
-}
-
-/// Adds a name, where a leaf is one.
-fn add_leaf(leaf: Leaf, occ: Option<Occ>, names: &mut Vec<Named>) -> Mem<()> {
-    if let Some(name) = name_at(leaf, occ) {
-        names.push(name)?;
-    }
-    Ok(())
-}
-
-/// Adds the names of a tree.
+/// Adds the names of a tree that is at most `left` nodes deep.
 #[cycle(names)]
-pub fn add_names(work: &Work, tree: Tree, names: &mut Vec<Named>) -> Mem<()> {
-    match work.node(tree) {
-        Node::Atom { leaf, occ } => Ok(add_leaf(*leaf, *occ, names)?),
-        Node::List {
-            items,
-            tail,
-            occ: _,
-        } => Ok(add_row(work, items.as_slice(), *tail, names)?),
-        Node::Vector { items, occ: _ } => Ok(add_row(work, items.as_slice(), None, names)?),
+pub fn add_names(work: &Work, tree: Tree, left: u32, names: &mut Vec<Named>) -> Mem<()>
+    requires { StandsWithin work.now tree left }
+    ensures { (t : ModelTree Identifier) → StandsFor work.now tree t →
+        OnOk result (Adds (IsNamed work.now.symbols) names.old.items names.new.items (names_in t)) }
+{
+    match look_at(work, tree) {
+        Look::Name(ident) => {
+            let occ = place_of(work, tree);
+            Ok(names.push(Named { ident, occ })?)
+        }
+        Look::Atom(_) => Ok(()),
+        Look::List(items, end) => Ok(add_row(work, items, 0, end, left - 1, names)?),
+        Look::Vector(items) => Ok(add_row(work, items, 0, None, left - 1, names)?),
     }
 }
 
-/// Adds the names of trees and of what stands behind them.
+/// Adds the names of the parts of a list or a vector from a place on, and of its tail, where it has one.
 #[cycle(names)]
 pub fn add_row(
     work: &Work,
-    trees: &[Tree],
-    tail: Option<Tree>,
+    items: &[Tree],
+    from: usize,
+    end: Option<Tree>,
+    left: u32,
     names: &mut Vec<Named>,
-) -> Mem<()> {
-    for tree in trees {
-        add_names(work, *tree, names)?;
+) -> Mem<()>
+    requires parts { PartsWithin work.now items.now left }
+    requires tail { EndWithin work.now end left }
+    ensures { (ts : Trees Identifier) (tail : Tail Identifier) → PartsStand work.now items.now ts → EndStands work.now end tail →
+        OnOk result (Adds (IsNamed work.now.symbols) names.old.items names.new.items (names_among (behind from ts) ++ names_behind tail)) }
+{
+    for k in from..items.len() {
+        add_names(work, items[k], left, names)?;
     }
-    if let Some(tree) = tail {
-        add_names(work, tree, names)?;
-    }
-    Ok(())
-}
-
-/// How far a walk over a datum with holes is: how many nodes outside of holes it has passed, and how many holes.
-struct Holes<'a> {
-    places: &'a [u32],
-    nodes: u32,
-    passed: usize,
-}
-
-impl<'a> Holes<'a> {
-    /// Whether a hole is next, which then is passed, as a node is otherwise.
-    fn pass(&mut self) -> bool {
-        if self.passed < self.places.len() && self.places[self.passed] == self.nodes {
-            self.passed += 1;
-            return true;
-        }
-        self.nodes = self.nodes.saturating_add(1);
-        false
+    match end {
+        None => Ok(()),
+        Some(tail) => Ok(add_names(work, tail, left, names)?),
     }
 }
 
-/// Adds the names of a datum that stand in no hole.
-#[cycle(outside)]
-fn add_outside(
-    work: &Work,
-    tree: Tree,
-    holes: &mut Holes<'_>,
-    names: &mut Vec<Named>,
-) -> Mem<()> {
-    if holes.pass() {
-        return Ok(());
-    }
-    match work.node(tree) {
-        Node::Atom { leaf, occ } => Ok(add_leaf(*leaf, *occ, names)?),
-        Node::List {
-            items,
-            tail,
-            occ: _,
-        } => Ok(add_row_outside(work, items.as_slice(), *tail, holes, names)?),
-        Node::Vector { items, occ: _ } => {
-            Ok(add_row_outside(work, items.as_slice(), None, holes, names)?)
-        }
-    }
-}
-
-/// Adds the names of trees, and of what stands behind them, that stand in no hole.
-#[cycle(outside)]
-fn add_row_outside(
-    work: &Work,
-    trees: &[Tree],
-    tail: Option<Tree>,
-    holes: &mut Holes<'_>,
-    names: &mut Vec<Named>,
-) -> Mem<()> {
-    for tree in trees {
-        add_outside(work, *tree, holes, names)?;
-    }
-    if let Some(tree) = tail {
-        add_outside(work, tree, holes, names)?;
-    }
-    Ok(())
-}
-
-/// The names of a datum that stand in none of the holes at these places.
-pub fn outside(alloc: Global, work: &Work, datum: Tree, places: &[u32]) -> Mem<Vec<Named>> {
-    let mut holes = Holes {
-        places,
-        nodes: 0,
-        passed: 0,
-    };
+/// The names of a tree.
+pub fn names_of(alloc: Global, work: &Work, tree: Tree) -> Mem<Vec<Named>>
+    requires { IsStanding work.now tree }
+    ensures { (t : ModelTree Identifier) → StandsFor work.now tree t →
+        IfOk result (λ names. AllMatch (IsNamed work.now.symbols) names.items (names_in t)) }
+{
+    let left = work.depth(tree);
     let mut names = Vec::new(alloc);
-    add_outside(work, datum, &mut holes, &mut names)?;
+    add_names(work, tree, left, &mut names)?;
     Ok(names)
 }
+

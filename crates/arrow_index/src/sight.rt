@@ -1,16 +1,28 @@
 //! What a program has that arrows and links need: the leaves of its cores with their forms, where locals and definitions stand, and
 //! which occurrences are live.
-use crate::leaves::{Leaf, add_form};
-use crate::names::{add_names, outside};
-use core_tree::cores::{Binder, Target};
-use core_tree::traces::{MacroUse, Trace};
-use core_tree::units::{NameUse, Program, UnitForm};
-use ls_base::{Mem, Memory};
+ghost use Rattle.std.specs.Prelude.{◌≡◌, ℕ, List, Option, IfOk};
+ghost use Rattle.std.specs.BTreeMap.{get};
+ghost use Rattle.scheme_model.specs.Cores.{Target as ModelTarget};
+ghost use Rattle.scheme_model.specs.Live.{CoreLeaf, NameUse as ModelName};
+ghost use Rattle.scheme_model.specs.Meaning.{Meaning as ModelMeaning};
+ghost use Rattle.scheme_model.specs.Substitution.{Table};
+ghost use Rattle.scheme_model.specs.ProgramArrows.{binder_of, is_live_at};
+ghost use Rattle.scheme_model.specs.Program.{Placed, Program as ModelProgram};
+ghost use Rattle.scheme_model.specs.Requirements.{LibraryName};
+ghost use Rattle.syntax_tree.specs.Meant.{IsMeaning};
+ghost use Rattle.syntax_tree.specs.declared.trees.Work.{Work as AnyWork};
+ghost use Rattle.core_tree.specs.Units.{ProgramStands, IsProgramOf};
+
+use crate::gathering::{definitions_of, leaves_of, locals_of, met_in};
+use crate::leaves::Leaf;
+use crate::living::live_in;
+use core_tree::cores::Target;
+use core_tree::units::Program;
+use ls_base::Mem;
 use scheme_model::Occ;
 use std::alloc::Global;
 use std::collections::{BTreeMap, BTreeSet};
 use syntax_tree::meaning::Meaning;
-use syntax_tree::rules::Named;
 use syntax_tree::symbols::IdNo;
 use syntax_tree::trees::Work;
 
@@ -49,313 +61,35 @@ pub struct PlacedTarget {
     pub target: Target,
 }
 
-/// The leaves of a program, its uses in forms, where its locals and definitions stand, and which occurrences are live.
+/// The leaves of a program, the keywords and matched literals of its forms, where its locals and definitions stand, and which
+/// occurrences are live.
+#[derive(Drop)]
 pub struct Sight<'a> {
     pub leaves: Vec<PlacedLeaf<'a>>,
-    pub targets: Vec<PlacedTarget>,
+    pub met: Vec<PlacedTarget>,
     pub locals: BTreeMap<LocalNo, Option<Occ>>,
     pub definitions: BTreeMap<GlobalNo, Option<Occ>>,
     pub live: BTreeSet<Occ>,
 }
 
-/// A place in a list as a number of 32 bits.
-fn number_of(place: usize) -> Mem<u32> {
-    match u32::try_from(place) {
-        Ok(number) => Ok(number),
-        Err(_) => Err(Memory),
-    }
-}
-
-// ---- leaves
-
-/// Adds the leaves of a form that isn't broken.
-fn add_form_leaves<'a>(
-    alloc: Global,
-    at: FormNo,
-    form: &'a UnitForm,
-    leaves: &mut Vec<PlacedLeaf<'a>>,
-) -> Mem<()> {
-    if form.fault.is_some() {
-        return Ok(());
-    }
-    let mut found = Vec::new(alloc);
-    add_form(form, &mut found)?;
-    for leaf in found {
-        leaves.push(PlacedLeaf { at, leaf })?;
-    }
-    Ok(())
-}
-
-/// Adds the leaves of the forms of a unit.
-fn add_unit_leaves<'a>(
-    alloc: Global,
-    unit: u32,
-    forms: &'a [UnitForm],
-    leaves: &mut Vec<PlacedLeaf<'a>>,
-) -> Mem<()> {
-    for (place, form) in forms.iter().enumerate() {
-        let at = FormNo {
-            unit,
-            form: number_of(place)?,
-        };
-        add_form_leaves(alloc, at, form, leaves)?;
-    }
-    Ok(())
-}
-
-/// The leaves of a program.
-fn leaves_of(alloc: Global, program: &Program) -> Mem<Vec<PlacedLeaf<'_>>> {
-    let mut leaves = Vec::new(alloc);
-    for (place, unit) in program.units.as_slice().iter().enumerate() {
-        add_unit_leaves(
-            alloc,
-            number_of(place)?,
-            unit.forms.as_slice(),
-            &mut leaves,
-        )?;
-    }
-    Ok(leaves)
-}
-
-// ---- uses
-
-/// Adds the uses among leaves.
-fn add_used(leaves: &[PlacedLeaf<'_>], targets: &mut Vec<PlacedTarget>) -> Mem<()> {
-    for leaf in leaves {
-        if let Leaf::Uses(target) = leaf.leaf {
-            targets.push(PlacedTarget {
-                at: leaf.at,
-                target,
-            })?;
-        }
-    }
-    Ok(())
-}
-
-/// Adds uses in a form.
-fn add_targets(at: FormNo, found: &[Target], targets: &mut Vec<PlacedTarget>) -> Mem<()> {
-    for target in found {
-        targets.push(PlacedTarget {
-            at,
-            target: *target,
-        })?;
-    }
-    Ok(())
-}
-
-/// Adds the keywords of macro uses, and the literals that they met.
-fn add_uses(at: FormNo, uses: &[MacroUse], targets: &mut Vec<PlacedTarget>) -> Mem<()> {
-    for macro_use in uses {
-        targets.push(PlacedTarget {
-            at,
-            target: macro_use.keyword,
-        })?;
-        add_targets(at, macro_use.literals.as_slice(), targets)?;
-    }
-    Ok(())
-}
-
-/// Adds what the expansion of a form met.
-fn add_trace(at: FormNo, trace: &Trace, targets: &mut Vec<PlacedTarget>) -> Mem<()> {
-    add_targets(at, trace.keywords.as_slice(), targets)?;
-    Ok(add_uses(at, trace.uses.as_slice(), targets)?)
-}
-
-/// Adds what the expansions of a unit's forms met that aren't broken.
-fn add_unit_traces(unit: u32, forms: &[UnitForm], targets: &mut Vec<PlacedTarget>) -> Mem<()> {
-    for (place, form) in forms.iter().enumerate() {
-        if form.fault.is_none() {
-            let at = FormNo {
-                unit,
-                form: number_of(place)?,
-            };
-            add_trace(at, &form.trace, targets)?;
-        }
-    }
-    Ok(())
-}
-
-/// The uses in the forms of a program: references, assignments, keywords and matched literals.
-fn targets_of(
-    alloc: Global,
-    leaves: &[PlacedLeaf<'_>],
-    program: &Program,
-) -> Mem<Vec<PlacedTarget>> {
-    let mut targets = Vec::new(alloc);
-    add_used(leaves, &mut targets)?;
-    for (place, unit) in program.units.as_slice().iter().enumerate() {
-        add_unit_traces(number_of(place)?, unit.forms.as_slice(), &mut targets)?;
-    }
-    Ok(targets)
-}
-
-// ---- binders
-
-/// Where locals stand. Of binders with one number the first counts.
-fn locals_of(
-    alloc: Global,
-    leaves: &[PlacedLeaf<'_>],
-) -> Mem<BTreeMap<LocalNo, Option<Occ>>> {
-    let mut locals = BTreeMap::new(alloc);
-    for leaf in leaves {
-        if let Leaf::Binds {
-            local: true,
-            binder,
-        } = leaf.leaf
-        {
-            let number = LocalNo {
-                at: leaf.at,
-                count: binder.number,
-            };
-            locals.entry(number)?.or_insert(binder.occ);
-        }
-    }
-    Ok(locals)
-}
-
-/// Adds what a form defines. Of definitions of one identifier the last counts.
-fn add_definitions(
-    unit: u32,
-    binders: &[Binder],
-    definitions: &mut BTreeMap<GlobalNo, Option<Occ>>,
-) -> Mem<()> {
-    for binder in binders {
-        let number = GlobalNo {
-            unit,
-            ident: binder.ident,
-        };
-        definitions.insert(number, binder.occ)?;
-    }
-    Ok(())
-}
-
-/// Adds what a unit defines, also in broken forms.
-fn add_unit_definitions(
-    unit: u32,
-    forms: &[UnitForm],
-    definitions: &mut BTreeMap<GlobalNo, Option<Occ>>,
-) -> Mem<()> {
-    for form in forms {
-        add_definitions(unit, form.trace.definitions.as_slice(), definitions)?;
-    }
-    Ok(())
-}
-
-/// Where definitions stand.
-fn definitions_of(
-    alloc: Global,
-    program: &Program,
-) -> Mem<BTreeMap<GlobalNo, Option<Occ>>> {
-    let mut definitions = BTreeMap::new(alloc);
-    for (place, unit) in program.units.as_slice().iter().enumerate() {
-        add_unit_definitions(number_of(place)?, unit.forms.as_slice(), &mut definitions)?;
-    }
-    Ok(definitions)
-}
-
-// ---- live occurrences
-
-/// Adds a place, where there is one.
-fn add_live(place: Option<Occ>, live: &mut BTreeSet<Occ>) -> Mem<()> {
-    if let Some(occ) = place {
-        live.insert(occ)?;
-    }
-    Ok(())
-}
-
-/// Adds the places of names.
-fn add_live_names(names: &[Named], live: &mut BTreeSet<Occ>) -> Mem<()> {
-    for name in names {
-        add_live(name.occ, live)?;
-    }
-    Ok(())
-}
-
-/// Adds the places of a leaf, where it is no use.
-fn add_live_leaf(
-    alloc: Global,
-    work: &Work,
-    leaf: Leaf<'_>,
-    live: &mut BTreeSet<Occ>,
-) -> Mem<()> {
-    match leaf {
-        Leaf::Binds { local: _, binder } => Ok(add_live(binder.occ, live)?),
-        Leaf::Uses(_) | Leaf::Defines(_) => Ok(()),
-        Leaf::Quoted(datum) => {
-            let mut names = Vec::new(alloc);
-            add_names(work, datum, &mut names)?;
-            Ok(add_live_names(names.as_slice(), live)?)
-        }
-        Leaf::Holed { datum, places } => {
-            let names = outside(alloc, work, datum, places)?;
-            Ok(add_live_names(names.as_slice(), live)?)
-        }
-    }
-}
-
-/// Adds the places of leaves that are no uses.
-fn add_live_leaves(
-    alloc: Global,
-    work: &Work,
-    leaves: &[PlacedLeaf<'_>],
-    live: &mut BTreeSet<Occ>,
-) -> Mem<()> {
-    for leaf in leaves {
-        add_live_leaf(alloc, work, leaf.leaf, live)?;
-    }
-    Ok(())
-}
-
-/// Adds the places of uses.
-fn add_live_targets(targets: &[PlacedTarget], live: &mut BTreeSet<Occ>) -> Mem<()> {
-    for target in targets {
-        add_live(target.target.occ, live)?;
-    }
-    Ok(())
-}
-
-/// Adds the places of names in imports and exports.
-fn add_live_uses(names: &[NameUse], live: &mut BTreeSet<Occ>) -> Mem<()> {
-    for name in names {
-        add_live(name.target.occ, live)?;
-    }
-    Ok(())
-}
-
-/// The live occurrences of a program.
-fn live_in(
-    alloc: Global,
-    work: &Work,
-    leaves: &[PlacedLeaf<'_>],
-    targets: &[PlacedTarget],
-    program: &Program,
-) -> Mem<BTreeSet<Occ>> {
-    let mut live = BTreeSet::new(alloc);
-    add_live_leaves(alloc, work, leaves, &mut live)?;
-    add_live_targets(targets, &mut live)?;
-    for unit in program.units.as_slice() {
-        add_live_uses(unit.names.as_slice(), &mut live)?;
-    }
-    Ok(live)
-}
-
 impl<'a> Sight<'a> {
+    ghost use Rattle.arrow_index.specs.Placed.{local_cmp, place_in};
+    ghost use Rattle.arrow_index.specs.Sights.{Sees, SeesProgram};
+
     /// What a program has.
-    pub fn of(alloc: Global, work: &Work, program: &'a Program) -> Mem<Sight<'a>> {
+    pub fn of(alloc: Global, work: &Work, program: &'a Program) -> Mem<Sight<'a>>
+        requires { IsProgramOf work.now program.now }
+        ensures { (text : LibraryName → List ℕ) (uris : List (List ℕ)) (all : List Placed) (p : ModelProgram) →
+            ProgramStands work.now text uris all program.now p → IfOk result (λ sight. SeesProgram work.now sight all p) }
+    {
         let leaves = leaves_of(alloc, program)?;
-        let targets = targets_of(alloc, leaves.as_slice(), program)?;
+        let met = met_in(alloc, program)?;
         let locals = locals_of(alloc, leaves.as_slice())?;
         let definitions = definitions_of(alloc, program)?;
-        let live = live_in(
-            alloc,
-            work,
-            leaves.as_slice(),
-            targets.as_slice(),
-            program,
-        )?;
+        let live = live_in(alloc, work, leaves.as_slice(), met.as_slice(), program)?;
         Ok(Sight {
             leaves,
-            targets,
+            met,
             locals,
             definitions,
             live,
@@ -363,25 +97,36 @@ impl<'a> Sight<'a> {
     }
 
     /// Where a local of a form is bound.
-    pub fn local_at(&self, at: FormNo, count: u64) -> Option<Occ> {
-        self.locals.get(&LocalNo { at, count }).copied().flatten()
+    pub fn local_at(&self, at: FormNo, count: u64) -> Option<Occ>
+        ensures { result ≡ place_in (get local_cmp self.now.locals (record { at = at; count = count })) }
+    {
+        match self.locals.get(&LocalNo { at, count }) {
+            None => None,
+            Some(place) => *place,
+        }
     }
 
     /// Where what binds a meaning stands. Locals are those of the form.
-    pub fn binder_of(&self, at: FormNo, meaning: Meaning) -> Option<Occ> {
+    pub fn binder_of(&self, at: FormNo, meaning: Meaning) -> Option<Occ>
+        ensures { (work : AnyWork) (leaves : List CoreLeaf) (keywords : List ModelTarget) (names : List ModelName) (table : Table) (m : ModelMeaning) →
+            Sees work self.now leaves keywords names table → IsMeaning work.symbols at.unit at.form meaning m → result ≡ binder_of leaves table m }
+    {
         match meaning {
             Meaning::Local(count) => self.local_at(at, count),
-            Meaning::Global { unit, ident } => self
-                .definitions
-                .get(&GlobalNo { unit, ident })
-                .copied()
-                .flatten(),
-            Meaning::Standard(_) | Meaning::Free(_) => None,
+            Meaning::Global { unit, ident } => match self.definitions.get(&GlobalNo { unit, ident }) {
+                None => None,
+                Some(place) => *place,
+            },
+            Meaning::Standard(_) => None,
+            Meaning::Free(_) => None,
         }
     }
 
     /// Whether a place is a live occurrence.
-    pub fn is_live(&self, place: Option<Occ>) -> bool {
+    pub fn is_live(&self, place: Option<Occ>) -> bool
+        ensures { (work : AnyWork) (leaves : List CoreLeaf) (keywords : List ModelTarget) (names : List ModelName) (table : Table) →
+            Sees work self.now leaves keywords names table → result ≡ is_live_at leaves keywords names place }
+    {
         match place {
             None => false,
             Some(occ) => self.live.contains(&occ),

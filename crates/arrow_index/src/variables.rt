@@ -1,26 +1,21 @@
 //! The variables of patterns, and where templates use them (R7RS 4.3.2).
-use crate::names::{add_names, add_row};
+use crate::names::{add_row, names_of};
 use crate::pairs::Pair;
 use ls_base::Mem;
 use scheme_model::Occ;
 use std::alloc::Global;
 use std::collections::BTreeMap;
+use syntax_tree::look::{Look, look_at};
 use syntax_tree::rules::{Named, Role, Roles, Rule, Rules};
 use syntax_tree::symbols::IdNo;
-use syntax_tree::trees::{Node, Tree, Work};
+use syntax_tree::trees::{Tree, Work};
 
 /// The names of a pattern behind its first part.
 fn pattern_names(alloc: Global, work: &Work, pattern: Tree) -> Mem<Vec<Named>> {
+    let left = work.depth(pattern);
     let mut names = Vec::new(alloc);
-    if let Node::List {
-        items,
-        tail,
-        occ: _,
-    } = work.node(pattern)
-    {
-        if let [_, rest @ ..] = items.as_slice() {
-            add_row(work, rest, *tail, &mut names)?;
-        }
+    if let Look::List(items, end) = look_at(work, pattern) {
+        add_row(work, items, 1, end, left - 1, &mut names)?;
     }
     Ok(names)
 }
@@ -65,9 +60,7 @@ fn add_rule_arrows(
 ) -> Mem<()> {
     let variables = variables(alloc, work, roles, rule.pattern)?;
     let places = places(alloc, variables.as_slice())?;
-    let mut names = Vec::new(alloc);
-    add_names(work, rule.template, &mut names)?;
-    for name in names {
+    for name in names_of(alloc, work, rule.template)? {
         let binder = places.get(&name.ident).copied().flatten();
         add_arrow(binder, name.occ, pairs)?;
     }
