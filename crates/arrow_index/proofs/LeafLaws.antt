@@ -10,7 +10,9 @@ use Rattle.scheme_model.specs.Expression.{meaning_of}
 use Rattle.scheme_model.specs.Live as live
 use Rattle.scheme_model.specs.Live.{CoreLeaf, leaves_of, leaves_of_all, leaves_of_clauses, leaves_of_parts, leaves_of_part, macro_leaves, field_use, fields_used}
 use Rattle.syntax_tree.specs.declared.trees.Work.{Work}
-use Rattle.core_tree.specs.Names.{AllMatch, IsBound, IsBinder, IsMacro, IsField}
+use Rattle.syntax_tree.specs.Meant.{IsMeaning}
+use Rattle.syntax_tree.specs.declared.meaning.Meaning.TheVariants as meanings
+use Rattle.core_tree.specs.Names.{AllMatch, IsBound, IsBinder, IsTarget, IsMacro, IsField}
 use Rattle.core_tree.specs.Cores.{CoreStands, CoresStand, ClausesStand, PartsStand, PartStands}
 use Rattle.core_tree.specs.Levels.{BindsAs, AllBind, AllMacrosBind, BindsLocals, AllBindLocals, ClausesBindLocals, PartsBind, PartBinds}
 use Rattle.core_tree.specs.declared.cores.Binder.{Binder}
@@ -62,9 +64,10 @@ module _ (work : Work) (unit form : ℕ) where
       AreSeen work unit form (field_seen (Some b) u) (live.Uses (record { meaning = meaning_of m.bound m.ident; ident = m.ident; occ = o }) ∷ [])
   used_local b m u o h (model.LocalNumber v) e k occ =
       let number : v ≡ record { unit = unit; form = form; count = b.number } = subst (λ (x : model.Bound). IsBound unit form b.number x) e h.number in
-      seen_one _ _
-      (record { meaning = meaning_of m.bound m.ident; ident = m.ident; occ = o }, inl refl,
-        record { meaning = ap (λ (x : model.Bound). meaning_of x m.ident) e ∙ ap LocalMeaning number; ident = h.ident; place = occ })
+      let used : model.Target = record { meaning = meaning_of m.bound m.ident; ident = m.ident; occ = o } in
+      let meant : IsMeaning work.symbols unit form (meanings.Local b.number) (meaning_of m.bound m.ident) = ap (λ (x : model.Bound). meaning_of x m.ident) e ∙ ap LocalMeaning number in
+      let is : IsTarget work.symbols unit form (record { meaning = meanings.Local b.number; ident = b.ident; occ = u.occ }) used = record { meaning = meant; ident = h.ident; place = occ } in
+      seen_one (Uses (record { meaning = meanings.Local b.number; ident = b.ident; occ = u.occ })) (live.Uses used ∷ []) (used, inl refl, is)
   used_local b m u o h (model.Definition v n) e k occ = absurd k
 
   field_is : (n : ℕ) (u : FieldUse) (o : Option Occ) (fs : List Binder) (ms : List model.Binder) → AllMatch (IsBinder work.symbols unit form) fs ms → AllBind true ms → u.occ ≡ o →

@@ -1,6 +1,14 @@
 pub mod SeenLaws
 pub mod LeafLaws
-pub mod Gathering
+pub mod AddLaws
 pub mod Growing
 pub mod Ends
-pub mod Members
+pub mod MemberLaws
+pub mod PlacedLaws
+pub mod ToldLaws
+pub mod LocalLaws
+pub mod GivenLaws
+pub mod VariableLaws
+pub mod LiveLaws
+pub mod KeyLaws
+pub mod ArrowLaws

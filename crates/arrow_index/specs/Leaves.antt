@@ -64,7 +64,7 @@ abbrev pub fields_seen : List Binder → List FieldUse → List Seen
 fields_seen fields us = flat_map (λ u. field_seen (slice_get fields u.field) u) us
 
 -- one level, whose parts are seen already; a part is told whether it binds locals
-abbrev pub core_step : Core-F (List Seen) (List Seen) (Bool → List Seen) → List Seen
+abbrev pub core_step : Core-F (List Seen) (Bool → List Seen) (List Seen) → List Seen
 core_step (Core-F.Ref t) = Uses t ∷ []
 core_step (Core-F.Const n) = []
 core_step (Core-F.Quote n) = Quoted n ∷ []
@@ -77,10 +77,10 @@ core_step (Core-F.Call cs) = joined cs.items
 core_step (Core-F.Body ps) = flat_map (λ p. p true) ps.items
 core_step (Core-F.LetSyntax ds c) = macros_seen ds.items ++ c.value
 
-abbrev pub clause_step : Clause-F (List Seen) (List Seen) (Bool → List Seen) → List Seen
+abbrev pub clause_step : Clause-F (List Seen) (Bool → List Seen) (List Seen) → List Seen
 clause_step x = binders_seen true x.binders.items ++ x.body.value
 
-abbrev pub part_step : CorePart-F (List Seen) (List Seen) (Bool → List Seen) → Bool → List Seen
+abbrev pub part_step : CorePart-F (List Seen) (Bool → List Seen) (List Seen) → Bool → List Seen
 part_step (CorePart-F.Expression c) local = c
 part_step (CorePart-F.Define b c) local = Binds local b ∷ c
 part_step (CorePart-F.Values bs dotted c) local = binders_seen local bs.items ++ c
@@ -88,13 +88,13 @@ part_step (CorePart-F.Fields bs fs ms us) local = binders_seen local bs.items ++
 part_step (CorePart-F.Syntax d) local = macro_seen local d
 
 abbrev pub core_seen : Core → List Seen
-core_seen = fold-Core (List Seen) (List Seen) (Bool → List Seen) core_step clause_step part_step
+core_seen = fold-Core (List Seen) (Bool → List Seen) (List Seen) core_step part_step clause_step
 
 abbrev pub clause_seen : Clause → List Seen
-clause_seen = fold-Clause (List Seen) (List Seen) (Bool → List Seen) core_step clause_step part_step
+clause_seen = fold-Clause (List Seen) (Bool → List Seen) (List Seen) core_step part_step clause_step
 
 abbrev pub part_seen : CorePart → Bool → List Seen
-part_seen = fold-CorePart (List Seen) (List Seen) (Bool → List Seen) core_step clause_step part_step
+part_seen = fold-CorePart (List Seen) (Bool → List Seen) (List Seen) core_step part_step clause_step
 
 abbrev pub cores_seen : List Core → List Seen
 cores_seen cs = flat_map core_seen cs

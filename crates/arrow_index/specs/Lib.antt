@@ -4,3 +4,5 @@ pub mod Members
 pub mod Names
 pub mod Placed
 pub mod Sights
+pub mod Index
+pub mod Variables

@@ -123,6 +123,11 @@ abbrev pub bound_or : Option (LocalNo × Option Occ) → LocalNo → Option (Opt
 bound_or None k other = other
 bound_or (Some b) k other = if same_local b.0 k then Some b.1 else other
 
+-- what was there, and else what comes
+abbrev pub first_of : Option (Option Occ) → Option (Option Occ) → Option (Option Occ)
+first_of None o = o
+first_of (Some p) o = Some p
+
 -- where the first binder with a number stands
 abbrev pub local_in : List PlacedSeen → LocalNo → Option (Option Occ)
 local_in [] k = None

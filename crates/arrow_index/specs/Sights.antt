@@ -2,8 +2,7 @@
 use Rattle.std.specs.Prelude.{◌≡◌, ℕ, List, map, Bool, ◌||◌, Option}
 use Rattle.std.specs.List.{flat_map}
 use Rattle.std.specs.Option.{option_map}
-use Rattle.std.specs.Layout.BTreeSet.{BTreeSet}
-use Rattle.std.specs.BTreeSet.{contains}
+use Rattle.std.specs.BTreeSet.{BTreeSet, contains}
 use Rattle.std.specs.BTreeMap.{get}
 use Rattle.scheme_model.specs.declared.Occ.{Occ}
 use Rattle.scheme_model.specs.Ident.{Ident as Identifier}
@@ -19,7 +18,7 @@ use Rattle.core_tree.specs.Units.{IsName}
 use Rattle.core_tree.specs.declared.units.NameUse.{NameUse}
 use Rattle.core_tree.specs.declared.units.Unit.{Unit as CodeUnit}
 use Rattle.arrow_index.specs.declared.sight.Sight.{Sight}
-use Rattle.arrow_index.specs.Members.{Same}
+use Rattle.arrow_index.specs.Members.{Tells}
 use Rattle.arrow_index.specs.Placed.{occ_cmp, local_cmp, global_cmp, placed_of, use_of, Use, AreAllSeen, IsUseOf, place_in}
 
 -- a set has these occurrences more
@@ -42,7 +41,7 @@ IsNameOf work n m = (unit : ℕ) × IsName work.symbols unit n m
 -- it has these leaves, these keywords and literals, and knows where locals and definitions stand and what is live
 pub record Sees (work : Work) (s : Sight) (leaves : List CoreLeaf) (keywords : List model.Target) (names : List live.NameUse) (table : Table) : Type 0 where
   pub leaves_are : AreAllSeen work (map placed_of s.leaves.items) leaves
-  pub met_are : Same (IsUseOf work) (map use_of s.met.items) keywords
+  pub met_are : Tells (IsUseOf work) (map use_of s.met.items) keywords
   pub locals_are : (unit form count : ℕ) → place_in (get local_cmp s.locals (record { at = record { unit = unit; form = form }; count = count })) ≡ local_at leaves (record { unit = unit; form = form; count = count })
   pub definitions_are : (unit n : ℕ) (i : Identifier) → IsIdent work.symbols n i → get global_cmp s.definitions (record { unit = unit; ident = n }) ≡ option_map (λ (d : Defined). d.occ) (defined_in table unit i)
   pub live_are : (o : Occ) → contains occ_cmp s.live o ≡ is_live leaves keywords names o

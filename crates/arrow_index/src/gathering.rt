@@ -1,8 +1,8 @@
 //! The leaves of a program, the keywords and literals that its forms met, and where its locals and definitions stand.
-ghost use Rattle.std.specs.Prelude.{◌≡◌, ◌++◌, map, None, IfOk, OnOk};
+ghost use Rattle.std.specs.Prelude.{◌≡◌, ◌++◌, map, Some, None, if◌then◌else◌, IfOk, OnOk};
 ghost use Rattle.std.specs.BTreeMap.{get};
 ghost use Rattle.arrow_index.specs.Leaves.{seen_of, items_seen};
-ghost use Rattle.arrow_index.specs.Placed.{placed_of, at_form, unless_fault, forms_seen, units_seen, use_of, uses_at, macro_targets, trace_targets, forms_met, units_met, local_cmp, bound_in, local_in, global_cmp, given_by, forms_given, given_after, definition_in};
+ghost use Rattle.arrow_index.specs.Placed.{placed_of, at_form, unless_fault, forms_seen, units_seen, use_of, uses_at, macro_targets, trace_targets, forms_met, units_met, local_cmp, bound_in, bound_or, first_of, same_local, local_in, global_cmp, given_by, forms_given, given_after, definition_in};
 ghost use Rattle.arrow_index.specs.declared.sight.LocalNo.{LocalNo as AnyLocal};
 ghost use Rattle.arrow_index.specs.declared.sight.GlobalNo.{GlobalNo as AnyGlobal};
 
@@ -29,12 +29,12 @@ fn number_of(place: usize) -> Mem<u32>
 // ---- leaves
 
 /// Adds leaves of a form.
-fn add_placed<'a>(at: FormNo, found: Vec<Leaf<'a>>, leaves: &mut Vec<PlacedLeaf<'a>>) -> Mem<()>
+fn add_placed<'a>(at: FormNo, found: &[Leaf<'a>], leaves: &mut Vec<PlacedLeaf<'a>>) -> Mem<()>
     ensures { OnOk result (map placed_of leaves.new.items
-        ≡ map placed_of leaves.old.items ++ at_form at.unit at.form (map seen_of found.items)) }
+        ≡ map placed_of leaves.old.items ++ at_form at.unit at.form (map seen_of found.now)) }
 {
     for leaf in found {
-        leaves.push(PlacedLeaf { at, leaf })?;
+        leaves.push(PlacedLeaf { at, leaf: *leaf })?;
     }
     Ok(())
 }
@@ -54,7 +54,7 @@ fn add_form_leaves<'a>(
         None => {
             let mut found = Vec::new(alloc);
             add_form(form, &mut found)?;
-            Ok(add_placed(at, found, leaves)?)
+            Ok(add_placed(at, found.as_slice(), leaves)?)
         }
     }
 }
@@ -188,6 +188,36 @@ fn bound_at(leaf: &PlacedLeaf<'_>) -> Option<(LocalNo, Option<Occ>)>
     }
 }
 
+/// Puts a place at a number that has none yet.
+fn put_first(
+    number: LocalNo,
+    place: Option<Occ>,
+    locals: &mut BTreeMap<LocalNo, Option<Occ>>,
+) -> Mem<()>
+    ensures { OnOk result ((k : AnyLocal) →
+        get local_cmp locals.new k ≡ first_of (get local_cmp locals.old k) (if same_local number k then Some place else None)) }
+{
+    if locals.contains_key(&number) {
+        return Ok(());
+    }
+    locals.insert(number, place)?;
+    Ok(())
+}
+
+/// Adds the local that a leaf binds, where it binds one.
+fn add_local(
+    leaf: &PlacedLeaf<'_>,
+    locals: &mut BTreeMap<LocalNo, Option<Occ>>,
+) -> Mem<()>
+    ensures { OnOk result ((k : AnyLocal) →
+        get local_cmp locals.new k ≡ first_of (get local_cmp locals.old k) (bound_or (bound_in (placed_of leaf.now)) k None)) }
+{
+    match bound_at(leaf) {
+        None => Ok(()),
+        Some((number, place)) => Ok(put_first(number, place, locals)?),
+    }
+}
+
 /// Where locals stand. Of binders with one number the first counts.
 pub fn locals_of(
     alloc: Global,
@@ -197,11 +227,7 @@ pub fn locals_of(
 {
     let mut locals = BTreeMap::new(alloc);
     for leaf in leaves {
-        if let Some((number, place)) = bound_at(leaf) {
-            if !locals.contains_key(&number) {
-                locals.insert(number, place)?;
-            }
-        }
+        add_local(leaf, &mut locals)?;
     }
     Ok(locals)
 }

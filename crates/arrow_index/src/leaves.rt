@@ -1,6 +1,6 @@
 //! The leaves of cores: binders, uses, quoted data and macros, in the order in which they stand.
-ghost use Rattle.std.specs.Prelude.{◌≡◌, ◌++◌, map, OnOk};
-ghost use Rattle.arrow_index.specs.Leaves.{seen_of, core_seen, cores_seen, clause_seen, clauses_seen, part_seen, parts_seen, binders_seen, macro_seen, macros_seen, fields_seen, items_seen};
+ghost use Rattle.std.specs.Prelude.{◌≡◌, ◌++◌, map, slice_get, OnOk};
+ghost use Rattle.arrow_index.specs.Leaves.{seen_of, core_seen, cores_seen, clause_seen, clauses_seen, part_seen, parts_seen, binders_seen, macro_seen, macros_seen, field_seen, fields_seen, items_seen};
 
 use core_tree::cores::{Binder, Clause, Core, CorePart, FieldUse, MacroDef, Target};
 use core_tree::units::UnitForm;
@@ -170,18 +170,26 @@ fn add_macros<'a>(macros: &'a [MacroDef], leaves: &mut Vec<Leaf<'a>>) -> Mem<()>
     Ok(())
 }
 
+/// Adds a field that a record's constructor uses.
+fn add_field<'a>(fields: &[Binder], field: FieldUse, leaves: &mut Vec<Leaf<'a>>) -> Mem<()>
+    ensures { OnOk result (map seen_of leaves.new.items ≡ map seen_of leaves.old.items ++ field_seen (slice_get fields.now field.field) field) }
+{
+    match fields.get(field.field as usize) {
+        None => Ok(()),
+        Some(binder) => Ok(leaves.push(Leaf::Uses(Target {
+            meaning: Meaning::Local(binder.number),
+            ident: binder.ident,
+            occ: field.occ,
+        }))?),
+    }
+}
+
 /// Adds the fields that a record's constructor uses.
 fn add_used<'a>(fields: &[Binder], used: &[FieldUse], leaves: &mut Vec<Leaf<'a>>) -> Mem<()>
     ensures { OnOk result (map seen_of leaves.new.items ≡ map seen_of leaves.old.items ++ fields_seen fields.now used.now) }
 {
     for field in used {
-        if let Some(binder) = fields.get(field.field as usize) {
-            leaves.push(Leaf::Uses(Target {
-                meaning: Meaning::Local(binder.number),
-                ident: binder.ident,
-                occ: field.occ,
-            }))?;
-        }
+        add_field(fields, *field, leaves)?;
     }
     Ok(())
 }

@@ -273,11 +273,16 @@ impl<'a> Origins<'a> {
         Ok(self.add_rule_leaves(at, definition.leaves.as_slice(), links)?)
     }
 
-    /// Adds the links in the rules of macros among leaves.
-    fn add_macros(&self, leaves: &[PlacedLeaf<'_>], links: &mut Vec<Link>) -> Mem<()> {
+    /// Adds the links that leaves of cores give.
+    fn add_leaves(&self, leaves: &[PlacedLeaf<'_>], links: &mut Vec<Link>) -> Mem<()> {
         for leaf in leaves {
-            if let Leaf::Defines(definition) = leaf.leaf {
-                self.add_macro(leaf.at, definition, links)?;
+            match leaf.leaf {
+                Leaf::Uses(target) => {
+                    let at = leaf.at;
+                    self.add_target(PlacedTarget { at, target }, links)?;
+                }
+                Leaf::Defines(definition) => self.add_macro(leaf.at, definition, links)?,
+                Leaf::Binds { .. } | Leaf::Quoted(_) | Leaf::Holed { .. } => {}
             }
         }
         Ok(())
@@ -296,12 +301,12 @@ fn all_links(alloc: Global, work: &Work, program: &Program) -> Mem<Vec<Link>> {
         units: program.units.as_slice(),
     };
     let mut links = Vec::new(alloc);
-    origins.add_targets(sight.targets.as_slice(), &mut links)?;
+    origins.add_targets(sight.met.as_slice(), &mut links)?;
     for unit in program.units.as_slice() {
         origins.add_names(unit.names.as_slice(), &mut links)?;
     }
     origins.add_binders(binders.as_slice(), &mut links)?;
-    origins.add_macros(sight.leaves.as_slice(), &mut links)?;
+    origins.add_leaves(sight.leaves.as_slice(), &mut links)?;
     Ok(links)
 }
 

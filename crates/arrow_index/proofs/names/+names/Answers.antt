@@ -8,7 +8,7 @@ use Rattle.syntax_tree.specs.Placed.{tree_place, IsNamed}
 use Rattle.syntax_tree.proofs.Looking.{part_there, part_within, split_one, behind_past, within_positive, list_parts_within, end_within, vector_parts_within, no_end}
 use Rattle.arrow_index.specs.Names.{names_in, names_among, names_behind}
 use Rattle.arrow_index.proofs.Ends.{end_tree, end_part}
-use Rattle.arrow_index.proofs.Gathering.{adds_none, adds_one, adds_both, adds_last, adds_same, up_none, up_more, up_all}
+use Rattle.arrow_index.proofs.AddLaws.{adds_none, adds_one, adds_both, adds_last, adds_same, up_none, up_more, up_all}
 use Rattle.arrow_index.proofs.names.+names.Goals as goal
 
 -- ---- one tree
@@ -18,7 +18,7 @@ add_names-returns-in_ok-push-in-Name t c = λ u h.
     let is = IsNamed c.args.work.now.symbols in
     let l = c.in-Name.ensures.look u h in
     let occ = c.place_of-occ.ensures u h ∙ ap tree_place l.2 in
-    adds_same is c.args.names.now.items c.push.new.self.items (named l.0 l.1 ∷ []) (names_in u) (ap names_in (sym l.2)) (adds_one is c.args.names.now.items c.push.new.self.items _ (named l.0 l.1) ? (l.3, occ))
+    adds_same is c.args.names.now.items c.push.new.self.items (named l.0 l.1 ∷ []) (names_in u) (ap names_in (sym l.2)) (adds_one is c.args.names.now.items c.push.new.self.items _ (named l.0 l.1) c.in_ok-push-in-Name.ensures.items (l.3, occ))
 
 pub add_names-returns-in-Atom : goal.add_names-returns-in-Atom
 add_names-returns-in-Atom t c = λ u h.

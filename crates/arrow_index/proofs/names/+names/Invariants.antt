@@ -4,7 +4,7 @@ use Rattle.scheme_model.specs.Ident.{Ident as Identifier}
 use Rattle.syntax_tree.specs.Looks.{PartsStand}
 use Rattle.syntax_tree.specs.Placed.{IsNamed}
 use Rattle.arrow_index.specs.Names.{names_among}
-use Rattle.arrow_index.proofs.Gathering.{UpTo}
+use Rattle.arrow_index.proofs.AddLaws.{UpTo}
 use Rattle.arrow_index.proofs.names.+names.Given as goal
 
 abbrev pub decreases-add_names : goal.decreases-add_names

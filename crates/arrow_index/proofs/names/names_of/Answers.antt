@@ -1,7 +1,7 @@
 use Rattle.std.proofs.Common.{arith, refl}
 use Rattle.syntax_tree.specs.Placed.{IsNamed}
 use Rattle.arrow_index.specs.Names.{names_in}
-use Rattle.arrow_index.proofs.Gathering.{all_match}
+use Rattle.arrow_index.proofs.AddLaws.{all_match}
 use Rattle.arrow_index.proofs.names.names_of.Goals as goal
 
 pub add_names-requires : goal.add_names-requires
@@ -10,4 +10,4 @@ add_names-requires c =
     (c.requires.0, c.requires.1, omega arith)
 
 pub returns : goal.returns
-returns c = λ u h. all_match (IsNamed c.args.work.now.symbols) c.new-names.result.items c.add_names.new.names.items (names_in u) c.new-names.ensures (c.in_ok-add_names.ensures u h)
+returns c = λ u h. all_match (IsNamed c.args.work.now.symbols) c.new-names.result.items c.add_names.new.names.items (names_in u) c.new-names.ensures.items (c.in_ok-add_names.ensures u h)

@@ -1,0 +1,145 @@
+-- The variables of patterns and their places in templates, by the names of trees.
+use Rattle.std.proofs.Common.{◌≡◌, ℕ, ◌+◌, ◌<◌, ◌≤◌, zero, suc, List, [], ◌∷◌, ◌++◌, map, length, take, drop, get_or, Bool, true, false, Option, Some, None, refl, sym, ap, ◌∙◌, subst, append_assoc, arith}
+use Rattle.std.specs.Prelude.{◌==◌, if◌then◌else◌}
+use Rattle.std.specs.List.{flat_map}
+use Rattle.std.proofs.lemmas.List.{append-nil, map-append}
+use Rattle.std.proofs.lemmas.Grind.{flat_map-append}
+use Rattle.std.proofs.lemmas.Bool.Decides.{nat_tests}
+use Rattle.scheme_model.specs.declared.Occ.{Occ}
+use Rattle.scheme_model.specs.Trees.{Tree, name, atom, list, vector, Trees, no_trees, tree, Tail, proper, dotted}
+use Rattle.scheme_model.specs.ExpansionFaults.{Named, named}
+use Rattle.scheme_model.specs.Ident.{Ident as Identifier, same_ident}
+use Rattle.scheme_model.specs.RulesShape.{Role, IsLiteral, IsEllipsis, IsAny, IsVariable, Variable, variable_at, variables_in, variables_among, variables_behind, depth_before, acts_as_ellipsis}
+use Rattle.scheme_model.specs.ProgramArrows.{Arrow, arrow_of, variable_arrow, template_arrows, template_arrows_all, template_arrows_tail}
+use Rattle.syntax_tree.specs.Names.{Names, AreToldApart}
+use Rattle.syntax_tree.specs.Macros.{IsIdent}
+use Rattle.syntax_tree.specs.Placed.{IsNamed}
+use Rattle.syntax_tree.specs.declared.rules.Named as code
+use Rattle.syntax_tree.proofs.RoleLaws.{same_by_number}
+use Rattle.core_tree.specs.Names.{AllMatch}
+use Rattle.arrow_index.specs.Names.{names_in, names_among, names_behind}
+use Rattle.arrow_index.specs.Placed.{place_in}
+use Rattle.arrow_index.specs.Variables.{variables_of, place_among}
+
+-- ---- lists that match
+
+pub record At {X Y : Type 0} (P : X → Y → Type 0) (x : X) (ys : List Y) (k : ℕ) : Type 0 where
+  pub item : Y
+  pub is : P x item
+  pub more : take (k + 1) ys ≡ take k ys ++ item ∷ []
+
+pub match_at : {X Y : Type 0} (P : X → Y → Type 0) (xs : List X) (ys : List Y) (k : ℕ) (x : X) → AllMatch P xs ys → k < length xs → x ≡ get_or xs k x → At P x ys k
+match_at P [] ys k x h lt e = absurd (omega (arith, lt))
+match_at P (z ∷ zs) [] k x h lt e = absurd h
+match_at P (z ∷ zs) (y ∷ ys) zero x h lt e = record { item = y; is = subst (λ w. P w y) (sym e) h.0; more = refl }
+match_at P (z ∷ zs) (y ∷ ys) (suc k) x h lt e =
+    let r = match_at P zs ys k x h.1 (omega (arith, lt)) e in
+    record { item = r.item; is = r.is; more = ap (λ q. y ∷ q) r.more }
+
+pub match_all : {X Y : Type 0} (P : X → Y → Type 0) (xs : List X) (ys : List Y) (k : ℕ) → AllMatch P xs ys → length xs ≤ k → take k ys ≡ ys
+match_all P [] [] zero h le = refl
+match_all P [] [] (suc k) h le = refl
+match_all P [] (y ∷ ys) k h le = absurd h
+match_all P (x ∷ xs) [] k h le = absurd h
+match_all P (x ∷ xs) (y ∷ ys) zero h le = absurd (omega (arith, le))
+match_all P (x ∷ xs) (y ∷ ys) (suc k) h le = ap (λ q. y ∷ q) (match_all P xs ys k h.1 (omega (arith, le)))
+
+-- ---- the variables among names
+
+abbrev pub if_variable : {A : Type 0} → Role → Named A → List (Named A)
+if_variable IsLiteral n = []
+if_variable IsEllipsis n = []
+if_variable IsAny n = []
+if_variable IsVariable n = n ∷ []
+
+abbrev pub chosen : {A : Type 0} → (A → Role) → List (Named A) → List (Named A)
+chosen role ns = flat_map (λ n. if_variable (role n.name) n) ns
+
+abbrev bare : {A : Type 0} → List (Variable A) → List (Named A)
+bare vs = map (λ v. v.variable) vs
+
+bare-append : {A : Type 0} (vs ws : List (Variable A)) → bare (vs ++ ws) ≡ bare vs ++ bare ws
+bare-append vs ws = map-append (λ v. v.variable) vs ws
+
+chosen-append : {A : Type 0} (role : A → Role) (ns ms : List (Named A)) → chosen role (ns ++ ms) ≡ chosen role ns ++ chosen role ms
+chosen-append role ns ms = flat_map-append (λ n. if_variable (role n.name) n) ns ms
+
+bare_at : {A : Type 0} (r : Role) (i : A) (o : Option Occ) (depth : ℕ) → bare (variable_at r i o depth) ≡ if_variable r (named i o) ++ []
+bare_at IsLiteral i o depth = refl
+bare_at IsEllipsis i o depth = refl
+bare_at IsAny i o depth = refl
+bare_at IsVariable i o depth = refl
+
+mutual
+  chosen_in : {A : Type 0} (role : A → Role) (t : Tree A) (depth : ℕ) → bare (variables_in role t depth) ≡ chosen role (names_in t)
+  chosen_in role (name i o) depth = bare_at (role i) i o depth
+  chosen_in role (atom a o) depth = refl
+  chosen_in role (list ts tail o) depth =
+      bare-append (variables_among role ts depth) (variables_behind role tail depth) ∙ (λ j. chosen_among role ts depth j ++ chosen_behind role tail depth j) ∙ sym (chosen-append role (names_among ts) (names_behind tail))
+  chosen_in role (vector ts o) depth = chosen_among role ts depth
+
+  chosen_among : {A : Type 0} (role : A → Role) (ts : Trees A) (depth : ℕ) → bare (variables_among role ts depth) ≡ chosen role (names_among ts)
+  chosen_among role no_trees depth = refl
+  chosen_among role (tree t ts) depth =
+      let d = depth_before (λ i. acts_as_ellipsis (role i)) ts depth in
+      bare-append (variables_in role t d) (variables_among role ts depth) ∙ (λ j. chosen_in role t d j ++ chosen_among role ts depth j) ∙ sym (chosen-append role (names_in t) (names_among ts))
+
+  chosen_behind : {A : Type 0} (role : A → Role) (tail : Tail A) (depth : ℕ) → bare (variables_behind role tail depth) ≡ chosen role (names_behind tail)
+  chosen_behind role proper depth = refl
+  chosen_behind role (dotted t) depth = chosen_in role t depth
+
+pub variables_are : {A : Type 0} (role : A → Role) (ts : Trees A) (tail : Tail A) → variables_of role ts tail ≡ chosen role (names_among ts ++ names_behind tail)
+variables_are role ts tail =
+    bare-append (variables_among role ts 0) (variables_behind role tail 0) ∙ (λ j. chosen_among role ts 0 j ++ chosen_behind role tail 0 j) ∙ sym (chosen-append role (names_among ts) (names_behind tail))
+
+-- ---- places in templates
+
+abbrev used : List (Variable Identifier) → Named Identifier → List Arrow
+used vs n = variable_arrow vs n.name n.occ
+
+mutual
+  used_in : (vs : List (Variable Identifier)) (t : Tree Identifier) → template_arrows vs t ≡ flat_map (used vs) (names_in t)
+  used_in vs (name i o) = sym (append-nil (variable_arrow vs i o))
+  used_in vs (atom a o) = refl
+  used_in vs (list ts tail o) = (λ j. used_among vs ts j ++ used_behind vs tail j) ∙ sym (flat_map-append (used vs) (names_among ts) (names_behind tail))
+  used_in vs (vector ts o) = used_among vs ts
+
+  used_among : (vs : List (Variable Identifier)) (ts : Trees Identifier) → template_arrows_all vs ts ≡ flat_map (used vs) (names_among ts)
+  used_among vs no_trees = refl
+  used_among vs (tree t ts) = (λ j. used_in vs t j ++ used_among vs ts j) ∙ sym (flat_map-append (used vs) (names_in t) (names_among ts))
+
+  used_behind : (vs : List (Variable Identifier)) (tail : Tail Identifier) → template_arrows_tail vs tail ≡ flat_map (used vs) (names_behind tail)
+  used_behind vs proper = refl
+  used_behind vs (dotted t) = used_in vs t
+
+flip : (a b : ℕ) → (a == b) ≡ (b == a)
+flip a b = grind (arith, nat_tests)
+
+if_arrow : (b : Bool) (o p : Option Occ) (x : Option (Option Occ)) (q : Option Occ) (rest : List Arrow) → o ≡ p → arrow_of (place_in x) q ≡ rest →
+    arrow_of (place_in (if b then Some o else x)) q ≡ (if b then arrow_of p q else rest)
+if_arrow true o p x q rest e h = ap (λ (r : Option Occ). arrow_of r q) e
+if_arrow false o p x q rest e h = h
+
+module _ (names : Names) (apart : AreToldApart names.idents) where
+  place_is : (vs : List code.Named) (ws : List (Variable Identifier)) (n : ℕ) (i : Identifier) (q : Option Occ) → AllMatch (IsNamed names) vs (map (λ v. v.variable) ws) → IsIdent names n i →
+      arrow_of (place_in (place_among vs n)) q ≡ variable_arrow ws i q
+  place_is [] [] n i q h at = refl
+  place_is [] (w ∷ ws) n i q h at = absurd h
+  place_is (v ∷ vs) [] n i q h at = absurd h
+  place_is (v ∷ vs) (w ∷ ws) n i q h at =
+      let same : (v.ident == n) ≡ same_ident w.variable.name i = flip v.ident n ∙ sym (same_by_number names apart v.ident n w.variable.name i h.0.0 at) in
+      if_arrow (v.ident == n) v.occ w.variable.occ (place_among vs n) q (variable_arrow ws i q) h.0.1 (place_is vs ws n i q h.1 at)
+      ∙ ap (λ (b : Bool). if b then arrow_of w.variable.occ q else variable_arrow ws i q) same
+
+  -- the arrows of a code's names are those of the names that they stand for
+  pub uses_are : (vs : List code.Named) (ws : List (Variable Identifier)) (ns : List code.Named) (ms : List (Named Identifier)) → AllMatch (IsNamed names) vs (map (λ v. v.variable) ws) → AllMatch (IsNamed names) ns ms →
+      flat_map (λ (n : code.Named). arrow_of (place_in (place_among vs n.ident)) n.occ) ns ≡ flat_map (used ws) ms
+  uses_are vs ws [] [] h g = refl
+  uses_are vs ws [] (m ∷ ms) h g = absurd g
+  uses_are vs ws (n ∷ ns) [] h g = absurd g
+  uses_are vs ws (n ∷ ns) (m ∷ ms) h g =
+      λ j. (place_is vs ws n.ident m.name n.occ h g.0.0 ∙ ap (variable_arrow ws m.name) g.0.1) j ++ uses_are vs ws ns ms h g.1 j
+
+  pub template_is : (vs : List code.Named) (ws : List (Variable Identifier)) (ns : List code.Named) (t : Tree Identifier) → AllMatch (IsNamed names) vs (map (λ v. v.variable) ws) → AllMatch (IsNamed names) ns (names_in t) →
+      flat_map (λ (n : code.Named). arrow_of (place_in (place_among vs n.ident)) n.occ) ns ≡ template_arrows ws t
+  template_is vs ws ns t h g = uses_are vs ws ns (names_in t) h g ∙ sym (used_in ws t)
