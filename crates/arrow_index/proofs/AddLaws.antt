@@ -62,3 +62,27 @@ module _ {X Y : Type 0} (P : X → Y → Type 0) where
     pub up_all : (old new : List X) (ts : Trees Identifier) (from k : ℕ) → UpTo old new ts from k → behind k ts ≡ no_trees → all no_trees ≡ [] → Adds P old new (all (behind from ts))
     up_all old new ts from k p e stop =
         adds_same old new p.so_far (all (behind from ts)) (sym (append-nil p.so_far) ∙ ap (λ (x : List Y). p.so_far ++ x) (sym (ap all e ∙ stop)) ∙ p.whole) p.adds
+
+-- ---- what is past, and what is still to come
+
+pub record Past {X Y : Type 0} (P : X → Y → Type 0) (left : List X) (ys : List Y) (Q : List Y → Type 0) : Type 0 where
+  pub done : List Y
+  pub rest : List Y
+  pub whole : ys ≡ done ++ rest
+  pub still : AllMatch P left rest
+  pub holds : Q done
+
+-- the first part of what matches two lists
+pub record Parted {X Y : Type 0} (P : X → Y → Type 0) (xs zs : List X) (ys : List Y) : Type 0 where
+  pub first : List Y
+  pub second : List Y
+  pub whole : ys ≡ first ++ second
+  pub one : AllMatch P xs first
+  pub other : AllMatch P zs second
+
+pub part_match : {X Y : Type 0} (P : X → Y → Type 0) (xs zs : List X) (ys : List Y) → AllMatch P (xs ++ zs) ys → Parted P xs zs ys
+part_match P [] zs ys h = record { first = []; second = ys; whole = refl; one = tt; other = h }
+part_match P (x ∷ xs) zs [] h = absurd h
+part_match P (x ∷ xs) zs (y ∷ ys) h =
+    let r = part_match P xs zs ys h.1 in
+    record { first = y ∷ r.first; second = r.second; whole = ap (λ q. y ∷ q) r.whole; one = (h.0, r.one); other = r.other }

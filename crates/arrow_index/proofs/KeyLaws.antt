@@ -1,17 +1,18 @@
 -- Keys that are one, and maps by keys of which the first or the last counts.
 use Rattle.std.proofs.Common.{◌≡◌, ℕ, ◌+◌, ◌<◌, Bool, true, false, cond, List, [], ◌∷◌, ◌++◌, map, take, length, get_or, Option, Some, None, refl, sym, ap, ◌∙◌, arith}
-use Rattle.std.specs.Prelude.{◌&&◌, ◌==◌, if◌then◌else◌}
+use Rattle.std.specs.Prelude.{◌&&◌, ◌||◌, ◌==◌, if◌then◌else◌}
 use Rattle.std.specs.Ordering.{nat_cmp, ordering_then, is_eq}
 use Rattle.std.specs.declared.cmp.Ordering.{Ordering}
 use Rattle.std.specs.declared.cmp.Ordering.TheVariants.{Less, Equal, Greater}
 use Rattle.std.proofs.lemmas.Bool.Decides.{nat_tests}
 use Rattle.std.proofs.lemmas.List.{map-append, take_more}
 use Rattle.scheme_model.specs.declared.Occ.{Occ}
+use Rattle.scheme_model.specs.Entries.{same_occ}
 use Rattle.syntax_tree.specs.declared.rules.Named as code
 use Rattle.arrow_index.specs.declared.sight.LocalNo.{LocalNo}
 use Rattle.arrow_index.specs.declared.sight.GlobalNo.{GlobalNo}
 use Rattle.arrow_index.specs.declared.sight.PlacedLeaf.{PlacedLeaf}
-use Rattle.arrow_index.specs.Placed.{local_cmp, global_cmp, form_cmp, same_local, same_global, first_of, PlacedSeen, placed_of, bound_in, bound_or, local_in}
+use Rattle.arrow_index.specs.Placed.{occ_cmp, local_cmp, global_cmp, form_cmp, same_local, same_global, first_of, PlacedSeen, placed_of, bound_in, bound_or, local_in}
 use Rattle.arrow_index.specs.Variables.{place_among}
 
 both_equal : (a b : Ordering) → is_eq (ordering_then a b) ≡ (is_eq a && is_eq b)
@@ -87,3 +88,39 @@ pub place_more : (vs : List code.Named) (i n : ℕ) (v : code.Named) (old new : 
 place_more vs i n v old new lt is h k =
     k ∙ (λ j. first_of (h j) (if (is j).ident == n then Some (is j).occ else None)) ∙ sym (place-append (take i vs) (get_or vs i v ∷ []) n)
     ∙ ap (λ (q : List code.Named). place_among q n) (sym (take_more vs i v lt))
+
+-- ---- occurrences
+
+pub occs_equal : (o p : Occ) → is_eq (occ_cmp o p) ≡ same_occ o p
+occs_equal o p =
+    both_equal (nat_cmp o.unit p.unit) (ordering_then (nat_cmp o.form p.form) (nat_cmp o.token p.token))
+    ∙ (λ j. numbers_equal o.unit p.unit j && (both_equal (nat_cmp o.form p.form) (nat_cmp o.token p.token) ∙ (λ i. numbers_equal o.form p.form i && numbers_equal o.token p.token i)) j)
+
+flip : (a b : ℕ) → (a == b) ≡ (b == a)
+flip a b = grind (arith, nat_tests)
+
+pub occs_flip : (o p : Occ) → same_occ o p ≡ same_occ p o
+occs_flip o p = λ j. flip o.unit p.unit j && (flip o.form p.form j && flip o.token p.token j)
+
+or_true : (b : Bool) → (b || true) ≡ true
+or_true true = refl
+or_true false = refl
+
+or_false : (b : Bool) → (b || false) ≡ b
+or_false true = refl
+or_false false = refl
+
+or_of : (b x : Bool) → cond b true x ≡ (x || b)
+or_of true x = sym (or_true x)
+or_of false x = sym (or_false x)
+
+pub occ_added : (p o : Occ) (old new : Bool) → new ≡ cond (is_eq (occ_cmp p o)) true old → new ≡ (old || same_occ o p)
+occ_added p o old new n = n ∙ ap (λ (b : Bool). cond b true old) (occs_equal p o ∙ occs_flip p o) ∙ or_of (same_occ o p) old
+
+pub one_occ : (o p : Occ) → same_occ o p ≡ true → o ≡ p
+one_occ o p h =
+    let u = one_number o.unit p.unit (left (o.unit == p.unit) (o.form == p.form && o.token == p.token) h) in
+    let r = right (o.unit == p.unit) (o.form == p.form && o.token == p.token) h in
+    let f = one_number o.form p.form (left (o.form == p.form) (o.token == p.token) r) in
+    let t = one_number o.token p.token (right (o.form == p.form) (o.token == p.token) r) in
+    λ j. record { unit = u j; form = f j; token = t j }

@@ -12,3 +12,4 @@ pub mod VariableLaws
 pub mod LiveLaws
 pub mod KeyLaws
 pub mod ArrowLaws
+pub mod StepLaws

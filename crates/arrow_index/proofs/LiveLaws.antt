@@ -18,7 +18,7 @@ use Rattle.core_tree.specs.Names.{AllMatch}
 use Rattle.core_tree.specs.declared.units.NameUse.{NameUse}
 use Rattle.arrow_index.specs.Members.{IsIn, Tells}
 use Rattle.arrow_index.specs.Names.{names_in, names_among, names_behind}
-use Rattle.arrow_index.specs.Placed.{Use, IsUseOf}
+use Rattle.arrow_index.specs.Placed.{Use, IsUseOf, PlacedSeen, AreAllSeen}
 use Rattle.arrow_index.specs.Sights.{name_at, use_at, IsNameOf}
 
 or_assoc : (a b c : Bool) → ((a || b) || c) ≡ (a || (b || c))
@@ -113,3 +113,12 @@ live_law work o leaves uses keywords found names t n =
       (any (leaf_at o) leaves || any_tells (IsUseOf work) (use_at o) (λ (m : model.Target). is_occ o m.occ) (λ u m h. ap (is_occ o) h.place) uses keywords t j)
       || any_tells (IsNameOf work) (name_at o) (λ (m : live.NameUse). is_occ o m.occ) (λ u m h. ap (is_occ o) h.1.place) found names n j)
     ∙ or_assoc (any (leaf_at o) leaves) (any (λ (m : model.Target). is_occ o m.occ) keywords) (any (λ (m : live.NameUse). is_occ o m.occ) names)
+
+-- ---- leaves that are past, and those still to come
+
+pub record Passed (work : Work) (left : List PlacedSeen) (ls : List CoreLeaf) (Q : List CoreLeaf → Type 0) : Type 0 where
+  pub done : List CoreLeaf
+  pub rest : List CoreLeaf
+  pub whole : ls ≡ done ++ rest
+  pub still : AreAllSeen work left rest
+  pub holds : Q done

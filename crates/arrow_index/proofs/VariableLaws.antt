@@ -9,17 +9,21 @@ use Rattle.scheme_model.specs.declared.Occ.{Occ}
 use Rattle.scheme_model.specs.Trees.{Tree, name, atom, list, vector, Trees, no_trees, tree, Tail, proper, dotted}
 use Rattle.scheme_model.specs.ExpansionFaults.{Named, named}
 use Rattle.scheme_model.specs.Ident.{Ident as Identifier, same_ident}
-use Rattle.scheme_model.specs.RulesShape.{Role, IsLiteral, IsEllipsis, IsAny, IsVariable, Variable, variable_at, variables_in, variables_among, variables_behind, depth_before, acts_as_ellipsis}
-use Rattle.scheme_model.specs.ProgramArrows.{Arrow, arrow_of, variable_arrow, template_arrows, template_arrows_all, template_arrows_tail}
+use Rattle.scheme_model.specs.RulesShape.{Rules, Rule, pattern_variables, role_of, Role, IsLiteral, IsEllipsis, IsAny, IsVariable, Variable, variable_at, variables_in, variables_among, variables_behind, depth_before, acts_as_ellipsis}
+use Rattle.scheme_model.specs.ProgramArrows.{Arrow, arrow_of, variable_arrow, template_arrows, template_arrows_all, template_arrows_tail, rule_arrows, rule_binders, variable_places}
 use Rattle.syntax_tree.specs.Names.{Names, AreToldApart}
-use Rattle.syntax_tree.specs.Macros.{IsIdent}
+use Rattle.syntax_tree.specs.Macros.{identifiers, IsIdent, AreIdents, IsEllipsisOf, AreRolesOf, TellsRoles, IsRule, AreRules}
 use Rattle.syntax_tree.specs.Placed.{IsNamed}
+use Rattle.syntax_tree.specs.declared.trees.Work.{Work}
 use Rattle.syntax_tree.specs.declared.rules.Named as code
+use Rattle.syntax_tree.specs.declared.rules.Rule as code_rule
+use Rattle.syntax_tree.specs.declared.rules.Rules as code_rules
+use Rattle.syntax_tree.specs.declared.rules.Roles.{Roles}
 use Rattle.syntax_tree.proofs.RoleLaws.{same_by_number}
 use Rattle.core_tree.specs.Names.{AllMatch}
 use Rattle.arrow_index.specs.Names.{names_in, names_among, names_behind}
 use Rattle.arrow_index.specs.Placed.{place_in}
-use Rattle.arrow_index.specs.Variables.{variables_of, place_among}
+use Rattle.arrow_index.specs.Variables.{if_variable, chosen, place_among}
 
 -- ---- lists that match
 
@@ -46,23 +50,19 @@ match_all P (x ∷ xs) (y ∷ ys) (suc k) h le = ap (λ q. y ∷ q) (match_all P
 
 -- ---- the variables among names
 
-abbrev pub if_variable : {A : Type 0} → Role → Named A → List (Named A)
-if_variable IsLiteral n = []
-if_variable IsEllipsis n = []
-if_variable IsAny n = []
-if_variable IsVariable n = n ∷ []
+chosen-append : {A : Type 0} (role : A → Role) (ns ms : List (Named A)) → chosen role (ns ++ ms) ≡ chosen role ns ++ chosen role ms
+chosen-append role ns ms = flat_map-append (λ n. if_variable (role n.name) n) ns ms
 
-abbrev pub chosen : {A : Type 0} → (A → Role) → List (Named A) → List (Named A)
-chosen role ns = flat_map (λ n. if_variable (role n.name) n) ns
+-- one more
+pub chosen_more : {A : Type 0} (role : A → Role) (ns : List (Named A)) (k : ℕ) (m : Named A) → take (k + 1) ns ≡ take k ns ++ m ∷ [] → chosen role (take (k + 1) ns) ≡ chosen role (take k ns) ++ if_variable (role m.name) m
+chosen_more role ns k m e =
+    ap (chosen role) e ∙ chosen-append role (take k ns) (m ∷ []) ∙ ap (λ q. chosen role (take k ns) ++ q) (append-nil (if_variable (role m.name) m))
 
 abbrev bare : {A : Type 0} → List (Variable A) → List (Named A)
 bare vs = map (λ v. v.variable) vs
 
 bare-append : {A : Type 0} (vs ws : List (Variable A)) → bare (vs ++ ws) ≡ bare vs ++ bare ws
 bare-append vs ws = map-append (λ v. v.variable) vs ws
-
-chosen-append : {A : Type 0} (role : A → Role) (ns ms : List (Named A)) → chosen role (ns ++ ms) ≡ chosen role ns ++ chosen role ms
-chosen-append role ns ms = flat_map-append (λ n. if_variable (role n.name) n) ns ms
 
 bare_at : {A : Type 0} (r : Role) (i : A) (o : Option Occ) (depth : ℕ) → bare (variable_at r i o depth) ≡ if_variable r (named i o) ++ []
 bare_at IsLiteral i o depth = refl
@@ -88,9 +88,10 @@ mutual
   chosen_behind role proper depth = refl
   chosen_behind role (dotted t) depth = chosen_in role t depth
 
-pub variables_are : {A : Type 0} (role : A → Role) (ts : Trees A) (tail : Tail A) → variables_of role ts tail ≡ chosen role (names_among ts ++ names_behind tail)
-variables_are role ts tail =
-    bare-append (variables_among role ts 0) (variables_behind role tail 0) ∙ (λ j. chosen_among role ts 0 j ++ chosen_behind role tail 0 j) ∙ sym (chosen-append role (names_among ts) (names_behind tail))
+pub variables_are : (r : Rules Identifier) (m : Rule Identifier) → chosen (role_of identifiers r) (names_among m.parts ++ names_behind m.tail) ≡ map (λ v. v.variable) (pattern_variables identifiers r m)
+variables_are r m =
+    let role = role_of identifiers r in
+    chosen-append role (names_among m.parts) (names_behind m.tail) ∙ (λ j. sym (chosen_among role m.parts 0) j ++ sym (chosen_behind role m.tail 0) j) ∙ sym (bare-append (variables_among role m.parts 0) (variables_behind role m.tail 0))
 
 -- ---- places in templates
 
@@ -143,3 +144,54 @@ module _ (names : Names) (apart : AreToldApart names.idents) where
   pub template_is : (vs : List code.Named) (ws : List (Variable Identifier)) (ns : List code.Named) (t : Tree Identifier) → AllMatch (IsNamed names) vs (map (λ v. v.variable) ws) → AllMatch (IsNamed names) ns (names_in t) →
       flat_map (λ (n : code.Named). arrow_of (place_in (place_among vs n.ident)) n.occ) ns ≡ template_arrows ws t
   template_is vs ws ns t h g = uses_are vs ws ns (names_in t) h g ∙ sym (used_in ws t)
+
+-- ---- rules
+
+pub tells_roles : (names : Names) (roles : Roles) (rules : code_rules.Rules) (r : Rules Identifier) → AreRolesOf roles rules.ellipsis rules.literals → IsEllipsisOf names rules.ellipsis r.ellipsis → AreIdents names rules.literals r.literals →
+    TellsRoles names roles r
+tells_roles names roles rules r h e l = record {
+  numbers = rules.literals;
+  has = h.has;
+  literals = l;
+  ellipsis = subst (λ (x : Option ℕ). IsEllipsisOf names x r.ellipsis) (sym h.own) e;
+}
+
+pub record RuleAt (work : Work) (x : code_rule.Rule) (ms : List (Rule Identifier)) (k : ℕ) : Type 0 where
+  pub item : Rule Identifier
+  pub is : IsRule work x item
+  pub more : take (k + 1) ms ≡ take k ms ++ item ∷ []
+
+pub rule_at : (work : Work) (xs : List code_rule.Rule) (ms : List (Rule Identifier)) (k : ℕ) (x : code_rule.Rule) → AreRules work xs ms → k < length xs → x ≡ get_or xs k x → RuleAt work x ms k
+rule_at work [] ms k x h lt e = absurd (omega (arith, lt))
+rule_at work (z ∷ zs) [] k x h lt e = absurd h
+rule_at work (z ∷ zs) (m ∷ ms) zero x h lt e = record { item = m; is = subst (λ (w : code_rule.Rule). IsRule work w m) (sym e) h.0; more = refl }
+rule_at work (z ∷ zs) (m ∷ ms) (suc k) x h lt e =
+    let r = rule_at work zs ms k x h.1 (omega (arith, lt)) e in
+    record { item = r.item; is = r.is; more = ap (λ (q : List (Rule Identifier)). m ∷ q) r.more }
+
+pub rules_all : (work : Work) (xs : List code_rule.Rule) (ms : List (Rule Identifier)) (k : ℕ) → AreRules work xs ms → length xs ≤ k → take k ms ≡ ms
+rules_all work [] [] zero h le = refl
+rules_all work [] [] (suc k) h le = refl
+rules_all work [] (m ∷ ms) k h le = absurd h
+rules_all work (x ∷ xs) [] k h le = absurd h
+rules_all work (x ∷ xs) (m ∷ ms) zero h le = absurd (omega (arith, le))
+rules_all work (x ∷ xs) (m ∷ ms) (suc k) h le = ap (λ (q : List (Rule Identifier)). m ∷ q) (rules_all work xs ms k h.1 (omega (arith, le)))
+
+-- what a rule gives, before what others give
+arrows-append : (r : Rules Identifier) (ms ns : List (Rule Identifier)) → rule_arrows r (ms ++ ns) ≡ rule_arrows r ms ++ rule_arrows r ns
+arrows-append r [] ns = refl
+arrows-append r (m ∷ ms) ns =
+    ap (λ (q : List Arrow). template_arrows (pattern_variables identifiers r m) m.template ++ q) (arrows-append r ms ns) ∙ sym (append_assoc (template_arrows (pattern_variables identifiers r m) m.template) (rule_arrows r ms) (rule_arrows r ns))
+
+pub arrows_more : (r : Rules Identifier) (ms : List (Rule Identifier)) (k : ℕ) (m : Rule Identifier) → take (k + 1) ms ≡ take k ms ++ m ∷ [] →
+    rule_arrows r (take (k + 1) ms) ≡ rule_arrows r (take k ms) ++ template_arrows (pattern_variables identifiers r m) m.template
+arrows_more r ms k m e = ap (rule_arrows r) e ∙ arrows-append r (take k ms) (m ∷ []) ∙ ap (λ (q : List Arrow). rule_arrows r (take k ms) ++ q) (append-nil (template_arrows (pattern_variables identifiers r m) m.template))
+
+binders-append : (r : Rules Identifier) (ms ns : List (Rule Identifier)) → rule_binders r (ms ++ ns) ≡ rule_binders r ms ++ rule_binders r ns
+binders-append r [] ns = refl
+binders-append r (m ∷ ms) ns =
+    ap (λ (q : List Occ). variable_places (pattern_variables identifiers r m) ++ q) (binders-append r ms ns) ∙ sym (append_assoc (variable_places (pattern_variables identifiers r m)) (rule_binders r ms) (rule_binders r ns))
+
+pub binders_more : (r : Rules Identifier) (ms : List (Rule Identifier)) (k : ℕ) (m : Rule Identifier) → take (k + 1) ms ≡ take k ms ++ m ∷ [] →
+    rule_binders r (take (k + 1) ms) ≡ rule_binders r (take k ms) ++ variable_places (pattern_variables identifiers r m)
+binders_more r ms k m e = ap (rule_binders r) e ∙ binders-append r (take k ms) (m ∷ []) ∙ ap (λ (q : List Occ). rule_binders r (take k ms) ++ q) (append-nil (variable_places (pattern_variables identifiers r m)))

@@ -1,19 +1,25 @@
 -- Pattern variables by number, and what arrows they give (R7RS 4.3.2).
-use Rattle.std.specs.Prelude.{◌≡◌, ℕ, List, [], ◌∷◌, ◌++◌, map, ◌==◌, Bool, Option, Some, None, if◌then◌else◌}
+use Rattle.std.specs.Prelude.{ℕ, List, [], ◌∷◌, ◌++◌, ◌==◌, Bool, Option, Some, None, if◌then◌else◌}
 use Rattle.std.specs.List.{flat_map}
 use Rattle.scheme_model.specs.declared.Occ.{Occ}
-use Rattle.scheme_model.specs.Trees.{Trees, Tail}
 use Rattle.scheme_model.specs.ExpansionFaults.{Named}
-use Rattle.scheme_model.specs.RulesShape.{Role, variables_among, variables_behind}
+use Rattle.scheme_model.specs.RulesShape.{Role, IsLiteral, IsEllipsis, IsAny, IsVariable}
 use Rattle.scheme_model.specs.Meaning.{Meaning}
 use Rattle.scheme_model.specs.Live as live
 use Rattle.scheme_model.specs.Live.{CoreLeaf}
 use Rattle.scheme_model.specs.ProgramArrows.{Arrow, arrow_of, rule_arrows, leaf_arrows}
 use Rattle.syntax_tree.specs.declared.rules.Named as code
 
--- the variables among the parts of a pattern and behind them
-abbrev pub variables_of : {A : Type 0} → (A → Role) → Trees A → Tail A → List (Named A)
-variables_of role ts tail = map (λ v. v.variable) (variables_among role ts 0 ++ variables_behind role tail 0)
+-- a name, where its role is that of a variable
+abbrev pub if_variable : {A : Type 0} → Role → Named A → List (Named A)
+if_variable IsLiteral n = []
+if_variable IsEllipsis n = []
+if_variable IsAny n = []
+if_variable IsVariable n = n ∷ []
+
+-- the variables among names
+abbrev pub chosen : {A : Type 0} → (A → Role) → List (Named A) → List (Named A)
+chosen role ns = flat_map (λ n. if_variable (role n.name) n) ns
 
 -- where the first of these with a number stands
 abbrev pub place_among : List code.Named → ℕ → Option (Option Occ)

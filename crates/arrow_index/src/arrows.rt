@@ -1,22 +1,22 @@
 //! The arrows of a program, from binders to uses.
-ghost use Rattle.std.specs.Prelude.{◌≡◌, ℕ, ◌++◌, ◌↔◌, ◌||◌, not, List, map, IfOk, OnOk};
+ghost use Rattle.std.specs.Prelude.{◌≡◌, ℕ, ◌++◌, ◌↔◌, ◌||◌, not, [], ◌∷◌, List, map, IfOk, OnOk};
 ghost use Rattle.std.specs.List.{Contains};
 ghost use Rattle.std.specs.List.Sorted.{IsStrictlySortedBy};
-ghost use Rattle.scheme_model.specs.Cores.{Target as ModelTarget, RuleLeaf as ModelLeaf, MacroDef as ModelMacro};
+ghost use Rattle.scheme_model.specs.Cores.{Target as ModelTarget, RuleLeaf as ModelLeaf};
 ghost use Rattle.scheme_model.specs.Live.{CoreLeaf, NameUse as ModelName};
 ghost use Rattle.scheme_model.specs.Meaning.{Meaning as ModelMeaning};
 ghost use Rattle.scheme_model.specs.Substitution.{Table};
-ghost use Rattle.scheme_model.specs.ProgramArrows.{Arrow, binder_of, is_live_at, arrow_of, target_arrows, name_arrows, rule_arrows, leaf_arrows, arrows_of};
+ghost use Rattle.scheme_model.specs.ProgramArrows.{Arrow, binder_of, is_live_at, arrow_of, target_arrows, name_arrows, leaf_arrows, arrows_of};
 ghost use Rattle.scheme_model.specs.Program.{Placed, Program as ModelProgram};
 ghost use Rattle.scheme_model.specs.Requirements.{LibraryName};
 ghost use Rattle.syntax_tree.specs.Meant.{IsMeaning};
 ghost use Rattle.syntax_tree.specs.declared.trees.Work.{Work as AnyWork};
-ghost use Rattle.core_tree.specs.Names.{AllMatch, IsTarget, IsLeaf, IsMacro};
+ghost use Rattle.core_tree.specs.Names.{AllMatch, IsLeaf};
 ghost use Rattle.core_tree.specs.Units.{ProgramStands, IsProgramOf};
 ghost use Rattle.arrow_index.specs.Members.{IsIn};
 ghost use Rattle.arrow_index.specs.Placed.{placed_of, use_of, AreAllSeen, IsUseOf};
 ghost use Rattle.arrow_index.specs.Leaves.{seen_of, IsSeen};
-ghost use Rattle.arrow_index.specs.Sights.{Sees, IsNameOf};
+ghost use Rattle.arrow_index.specs.Sights.{Sees, all_names, IsNameOf};
 ghost use Rattle.arrow_index.specs.declared.pairs.Pair.{Pair as AnyPair};
 ghost use Rattle.arrow_index.specs.Index.{as_arrow, pair_cmp, AreArrows};
 ghost use Rattle.arrow_index.specs.Variables.{arrows_at, all_arrows_at};
@@ -25,8 +25,8 @@ use crate::leaves::Leaf;
 use crate::pairs::Pair;
 use crate::sight::{FormNo, PlacedLeaf, PlacedTarget, Sight};
 use crate::variables::{add_arrow, add_rules_arrows};
-use core_tree::cores::{MacroDef, RuleLeaf, Target};
-use core_tree::units::{NameUse, Program};
+use core_tree::cores::RuleLeaf;
+use core_tree::units::{NameUse, Program, Unit};
 use ls_base::{Items, Mem};
 use scheme_model::Occ;
 use std::alloc::Global;
@@ -57,6 +57,23 @@ pub fn is_static(sight: &Sight<'_>, leaf: &RuleLeaf) -> bool
     leaf.literal || !sight.is_live(leaf.target.occ)
 }
 
+/// Adds the arrow to a leaf of rules, where it has one by what it means where the macro is defined.
+fn add_rule_leaf(
+    sight: &Sight<'_>,
+    at: FormNo,
+    leaf: &RuleLeaf,
+    pairs: &mut Vec<Pair>,
+) -> Mem<()>
+    ensures { (work : AnyWork) (leaves : List CoreLeaf) (keywords : List ModelTarget) (names : List ModelName) (table : Table) (m : ModelLeaf) →
+        Sees work sight.now leaves keywords names table → IsLeaf work.symbols at.unit at.form leaf.now m →
+        OnOk result (map as_arrow pairs.new.items ≡ map as_arrow pairs.old.items ++ leaf_arrows (binder_of leaves table) (is_live_at leaves keywords names) (m ∷ [])) }
+{
+    if is_static(sight, leaf) {
+        return Ok(add_meant(sight, at, leaf.target.meaning, leaf.target.occ, pairs)?);
+    }
+    Ok(())
+}
+
 /// Adds the arrows to leaves of rules, by what they mean where their macro is defined.
 fn add_static(
     sight: &Sight<'_>,
@@ -69,9 +86,7 @@ fn add_static(
         OnOk result (map as_arrow pairs.new.items ≡ map as_arrow pairs.old.items ++ leaf_arrows (binder_of leaves table) (is_live_at leaves keywords names) ms) }
 {
     for leaf in found {
-        if is_static(sight, leaf) {
-            add_meant(sight, at, leaf.target.meaning, leaf.target.occ, pairs)?;
-        }
+        add_rule_leaf(sight, at, leaf, pairs)?;
     }
     Ok(())
 }
@@ -151,6 +166,18 @@ fn add_names(sight: &Sight<'_>, found: &[NameUse], pairs: &mut Vec<Pair>) -> Mem
     Ok(())
 }
 
+/// Adds the arrows to names of imports and exports of units.
+fn add_all_names(sight: &Sight<'_>, units: &[Unit], pairs: &mut Vec<Pair>) -> Mem<()>
+    ensures { (work : AnyWork) (leaves : List CoreLeaf) (keywords : List ModelTarget) (names : List ModelName) (table : Table) (ns : List ModelName) →
+        Sees work sight.now leaves keywords names table → AllMatch (IsNameOf work) (all_names units.now) ns →
+        OnOk result (map as_arrow pairs.new.items ≡ map as_arrow pairs.old.items ++ name_arrows (binder_of leaves table) ns) }
+{
+    for unit in units {
+        add_names(sight, unit.names.as_slice(), pairs)?;
+    }
+    Ok(())
+}
+
 /// The arrows of a program in no order, of which some may stand twice.
 fn all_arrows(alloc: Global, work: &Work, program: &Program) -> Mem<Vec<Pair>>
     requires { IsProgramOf work.now program.now }
@@ -162,9 +189,7 @@ fn all_arrows(alloc: Global, work: &Work, program: &Program) -> Mem<Vec<Pair>>
     let mut pairs = Vec::new(alloc);
     add_leaves(alloc, work, &sight, sight.leaves.as_slice(), &mut pairs)?;
     add_met(&sight, sight.met.as_slice(), &mut pairs)?;
-    for unit in program.units.as_slice() {
-        add_names(&sight, unit.names.as_slice(), &mut pairs)?;
-    }
+    add_all_names(&sight, program.units.as_slice(), &mut pairs)?;
     Ok(pairs)
 }
 

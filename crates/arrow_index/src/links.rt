@@ -177,15 +177,15 @@ fn add_ident_links(
 
 /// What links are made of.
 #[derive(Drop)]
-struct Origins<'a> {
+struct Origins<'w, 's, 'l, 'u> {
     alloc: Global,
-    work: &'a Work,
-    sight: &'a Sight<'a>,
+    work: &'w Work,
+    sight: &'s Sight<'l>,
     places: EntryPlaces,
-    units: &'a [Unit],
+    units: &'u [Unit],
 }
 
-impl<'a> Origins<'a> {
+impl<'w, 's, 'l, 'u> Origins<'w, 's, 'l, 'u> {
     /// Adds the links of a use.
     fn add_target(&self, target: PlacedTarget, links: &mut Vec<Link>) -> Mem<()> {
         let Some(occ) = target.target.occ else {

@@ -24,10 +24,13 @@ use syntax_tree::trees::Work;
 fn add_live(place: Option<Occ>, live: &mut BTreeSet<Occ>) -> Mem<()>
     ensures { OnOk result (Grows live.old live.new (λ o. is_occ o place)) }
 {
-    if let Some(occ) = place {
-        live.insert(occ)?;
+    match place {
+        None => Ok(()),
+        Some(occ) => {
+            live.insert(occ)?;
+            Ok(())
+        }
     }
-    Ok(())
 }
 
 /// Adds the places of names.

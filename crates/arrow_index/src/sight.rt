@@ -82,6 +82,7 @@ impl<'a> Sight<'a> {
         ensures { (text : LibraryName → List ℕ) (uris : List (List ℕ)) (all : List Placed) (p : ModelProgram) →
             ProgramStands work.now text uris all program.now p → IfOk result (λ sight. SeesProgram work.now sight all p) }
     {
+        work.symbols.told_apart();
         let leaves = leaves_of(alloc, program)?;
         let met = met_in(alloc, program)?;
         let locals = locals_of(alloc, leaves.as_slice())?;

@@ -1,20 +1,21 @@
 //! The variables of patterns, and where templates use them (R7RS 4.3.2).
-ghost use Rattle.std.specs.Prelude.{◌≡◌, ℕ, ◌++◌, ◌==◌, List, Option, Some, None, if◌then◌else◌, map, IfOk, OnOk};
+ghost use Rattle.std.specs.Prelude.{◌≡◌, ℕ, ◌++◌, ◌==◌, List, Some, None, if◌then◌else◌, map, IfOk, OnOk};
 ghost use Rattle.std.specs.BTreeMap.{get};
 ghost use Rattle.std.specs.Ordering.{nat_cmp};
-ghost use Rattle.scheme_model.specs.declared.Occ.{Occ as AnyOcc};
-ghost use Rattle.scheme_model.specs.Trees.{Tree as ModelTree, list as list_tree, Trees, tree as before, Tail};
+ghost use Rattle.scheme_model.specs.Trees.{Tree as ModelTree};
+ghost use Rattle.scheme_model.specs.ExpansionFaults.{Named as ModelNamed};
 ghost use Rattle.scheme_model.specs.RulesShape.{Rules as ModelRules, Rule as ModelRule, role_of, pattern_variables};
 ghost use Rattle.scheme_model.specs.ProgramArrows.{arrow_of, template_arrows, rule_arrows, places_at, variable_places, rule_binders};
 ghost use Rattle.scheme_model.specs.Ident.{Ident as Identifier};
-ghost use Rattle.syntax_tree.specs.Macros.{identifiers, IsRule, RulesFor, TellsRoles, AreRolesOf};
+ghost use Rattle.syntax_tree.specs.Macros.{identifiers, IsIdent, IsRule, RulesFor, TellsRoles, AreRolesOf};
 ghost use Rattle.syntax_tree.specs.Placed.{IsNamed};
-ghost use Rattle.syntax_tree.specs.Works.{StandsFor};
+ghost use Rattle.syntax_tree.specs.Works.{StandsFor, IsStanding};
 ghost use Rattle.core_tree.specs.Names.{AllMatch};
-ghost use Rattle.arrow_index.specs.Names.{names_among, names_behind};
+ghost use Rattle.arrow_index.specs.Adds.{Adds};
+ghost use Rattle.arrow_index.specs.Names.{pattern_names};
 ghost use Rattle.arrow_index.specs.Index.{as_arrow};
 ghost use Rattle.arrow_index.specs.Placed.{first_of, place_in};
-ghost use Rattle.arrow_index.specs.Variables.{variables_of, place_among};
+ghost use Rattle.arrow_index.specs.Variables.{if_variable, chosen, place_among};
 
 use crate::names::{add_row, names_of};
 use crate::pairs::Pair;
@@ -27,40 +28,63 @@ use syntax_tree::rules::{Named, Role, Roles, Rule, Rules};
 use syntax_tree::symbols::IdNo;
 use syntax_tree::trees::{Tree, Work};
 
-/// The names of a pattern behind its first part.
-fn pattern_names(alloc: Global, work: &Work, pattern: Tree) -> Mem<Vec<Named>>
-    requires { (h : ModelTree Identifier) × (ts : Trees Identifier) × (tail : Tail Identifier) × (o : Option AnyOcc) × StandsFor work.now pattern (list_tree (before h ts) tail o) }
-    ensures { (h : ModelTree Identifier) (ts : Trees Identifier) (tail : Tail Identifier) (o : Option AnyOcc) →
-        StandsFor work.now pattern (list_tree (before h ts) tail o) →
-        IfOk result (λ names. AllMatch (IsNamed work.now.symbols) names.items (names_among ts ++ names_behind tail)) }
+/// Adds the names of a pattern behind its first part.
+fn add_pattern(work: &Work, pattern: Tree, names: &mut Vec<Named>) -> Mem<()>
+    requires { IsStanding work.now pattern }
+    ensures { (t : ModelTree Identifier) → StandsFor work.now pattern t →
+        OnOk result (Adds (IsNamed work.now.symbols) names.old.items names.new.items (pattern_names t)) }
 {
     let left = work.depth(pattern);
-    let mut names = Vec::new(alloc);
     match look_at(work, pattern) {
-        Look::List(items, end) => {
-            add_row(work, items, 1, end, left - 1, &mut names)?;
-            Ok(names)
-        }
-        Look::Name(_) => Ok(names),
-        Look::Atom(_) => Ok(names),
-        Look::Vector(_) => Ok(names),
+        Look::List(items, end) => Ok(add_row(work, items, 1, end, left, names)?),
+        Look::Name(_) => Ok(()),
+        Look::Atom(_) => Ok(()),
+        Look::Vector(_) => Ok(()),
     }
+}
+
+/// Adds a name of a pattern, where it is a variable.
+fn add_variable(work: &Work, roles: &Roles, name: Named, found: &mut Vec<Named>) -> Mem<()>
+    requires { (i : Identifier) × IsIdent work.now.symbols name.ident i }
+    ensures { (r : ModelRules Identifier) (m : ModelNamed Identifier) → TellsRoles work.now.symbols roles.now r → IsNamed work.now.symbols name m →
+        OnOk result (Adds (IsNamed work.now.symbols) found.old.items found.new.items (if_variable (role_of identifiers r m.name) m)) }
+{
+    match roles.role(&work.symbols, name.ident) {
+        Role::Variable => Ok(found.push(name)?),
+        Role::Literal => Ok(()),
+        Role::Ellipsis => Ok(()),
+        Role::Any => Ok(()),
+    }
+}
+
+/// Adds the variables among names, in order.
+fn add_variables(
+    work: &Work,
+    roles: &Roles,
+    names: &[Named],
+    found: &mut Vec<Named>,
+) -> Mem<()>
+    requires { (ms : List (ModelNamed Identifier)) × AllMatch (IsNamed work.now.symbols) names.now ms }
+    ensures { (r : ModelRules Identifier) (ms : List (ModelNamed Identifier)) → TellsRoles work.now.symbols roles.now r →
+        AllMatch (IsNamed work.now.symbols) names.now ms →
+        OnOk result (Adds (IsNamed work.now.symbols) found.old.items found.new.items (chosen (role_of identifiers r) ms)) }
+{
+    for name in names {
+        add_variable(work, roles, *name, found)?;
+    }
+    Ok(())
 }
 
 /// The variables of a pattern, in order.
 fn variables(alloc: Global, work: &Work, roles: &Roles, pattern: Tree) -> Mem<Vec<Named>>
-    requires { (h : ModelTree Identifier) × (ts : Trees Identifier) × (tail : Tail Identifier) × (o : Option AnyOcc) × StandsFor work.now pattern (list_tree (before h ts) tail o) }
-    ensures { (r : ModelRules Identifier) (h : ModelTree Identifier) (ts : Trees Identifier) (tail : Tail Identifier) (o : Option AnyOcc) →
-        TellsRoles work.now.symbols roles.now r → StandsFor work.now pattern (list_tree (before h ts) tail o) →
-        IfOk result (λ found. AllMatch (IsNamed work.now.symbols) found.items (variables_of (role_of identifiers r) ts tail)) }
+    requires { IsStanding work.now pattern }
+    ensures { (r : ModelRules Identifier) (t : ModelTree Identifier) → TellsRoles work.now.symbols roles.now r → StandsFor work.now pattern t →
+        IfOk result (λ found. AllMatch (IsNamed work.now.symbols) found.items (chosen (role_of identifiers r) (pattern_names t))) }
 {
-    let names = pattern_names(alloc, work, pattern)?;
+    let mut names = Vec::new(alloc);
+    add_pattern(work, pattern, &mut names)?;
     let mut found = Vec::new(alloc);
-    for name in names.as_slice() {
-        if roles.role(&work.symbols, name.ident) == Role::Variable {
-            found.push(*name)?;
-        }
-    }
+    add_variables(work, roles, names.as_slice(), &mut found)?;
     Ok(found)
 }
 
@@ -91,12 +115,13 @@ fn places_of(alloc: Global, variables: &[Named]) -> Mem<BTreeMap<IdNo, Option<Oc
 pub fn add_arrow(binder: Option<Occ>, target: Option<Occ>, pairs: &mut Vec<Pair>) -> Mem<()>
     ensures { OnOk result (map as_arrow pairs.new.items ≡ map as_arrow pairs.old.items ++ arrow_of binder target) }
 {
-    if let Some(binder) = binder {
-        if let Some(target) = target {
-            pairs.push(Pair { binder, target })?;
-        }
+    match binder {
+        None => Ok(()),
+        Some(binder) => match target {
+            None => Ok(()),
+            Some(target) => Ok(pairs.push(Pair { binder, target })?),
+        },
     }
-    Ok(())
 }
 
 /// Where a variable stands, where it has a place.
@@ -161,10 +186,10 @@ pub fn add_rules_arrows(
 pub fn add_place(place: Option<Occ>, places: &mut Vec<Occ>) -> Mem<()>
     ensures { OnOk result (places.new.items ≡ places.old.items ++ places_at place) }
 {
-    if let Some(occ) = place {
-        places.push(occ)?;
+    match place {
+        None => Ok(()),
+        Some(occ) => Ok(places.push(occ)?),
     }
-    Ok(())
 }
 
 /// Adds the places of the variables of a pattern.

@@ -1,0 +1,39 @@
+use Rattle.std.proofs.Common.{◌≡◌, ◌++◌, ℕ, List, Option, map, take, get_or, sym, ap, ◌∙◌, subst, arith}
+use Rattle.std.specs.List.{flat_map}
+use Rattle.std.specs.BTreeMap.{get}
+use Rattle.std.specs.Ordering.{nat_cmp}
+use Rattle.scheme_model.specs.declared.Occ.{Occ}
+use Rattle.scheme_model.specs.ExpansionFaults.{Named}
+use Rattle.scheme_model.specs.Ident.{Ident as Identifier}
+use Rattle.scheme_model.specs.Trees.{name, list, tree}
+use Rattle.scheme_model.specs.RulesShape.{role_of, pattern_variables}
+use Rattle.scheme_model.specs.ProgramArrows.{arrow_of, template_arrows}
+use Rattle.syntax_tree.specs.declared.rules.Named as code
+use Rattle.syntax_tree.specs.Macros.{identifiers}
+use Rattle.syntax_tree.specs.Placed.{IsNamed}
+use Rattle.core_tree.specs.Names.{AllMatch}
+use Rattle.arrow_index.specs.Index.{as_arrow}
+use Rattle.arrow_index.specs.Placed.{place_in}
+use Rattle.arrow_index.specs.Variables.{place_among}
+use Rattle.arrow_index.proofs.Growing.{grows_as, grows_twice, flat_more, flat_all}
+use Rattle.arrow_index.proofs.VariableLaws.{variables_are, template_is}
+use Rattle.arrow_index.proofs.variables.add_rule_arrows.Goals as goal
+
+pub variables-variables-requires : goal.variables-variables-requires
+variables-variables-requires c = let m = c.requires.1 in (list (tree (name m.head m.head_place) c.requires.0.parts) c.requires.0.tail m.place, m.pattern)
+
+pub names_of-names-requires : goal.names_of-names-requires
+names_of-names-requires c = (c.requires.0.template, c.requires.1.template)
+
+pub loop-name-preserved : goal.loop-name-preserved
+loop-name-preserved c = ?
+
+pub returns : goal.returns
+returns c = λ r m tells is.
+    let named = IsNamed c.args.work.now.symbols in
+    let vs = c.in_ok-variables.variables.items in
+    let ns = c.in_ok-names.names.items in
+    let found = c.in_ok-variables.ensures r (list (tree (name is.head is.head_place) m.parts) m.tail is.place) tells is.pattern in
+    let match = subst (λ (ms : List (Named Identifier)). AllMatch named vs ms) (variables_are r m) found in
+    let all = template_is c.args.work.now.symbols c.told_apart.ensures.idents vs (pattern_variables identifiers r m) ns m.template match (c.in_ok-names.ensures m.template is.template) in
+    ?
