@@ -86,3 +86,24 @@ part_match P (x ∷ xs) zs [] h = absurd h
 part_match P (x ∷ xs) zs (y ∷ ys) h =
     let r = part_match P xs zs ys h.1 in
     record { first = y ∷ r.first; second = r.second; whole = ap (λ q. y ∷ q) r.whole; one = (h.0, r.one); other = r.other }
+
+pub past_none : {X Y : Type 0} (P : X → Y → Type 0) (xs : List X) (ys : List Y) (Q : List Y → Type 0) → AllMatch P xs ys → Q [] → Past P xs ys Q
+past_none P xs ys Q h q = record { done = []; rest = ys; whole = refl; still = h; holds = q }
+
+pub past_more : {X Y : Type 0} (P : X → Y → Type 0) (xs zs : List X) (ys : List Y) (Q R : List Y → Type 0) (p : Past P (xs ++ zs) ys Q) → ((r : Parted P xs zs p.rest) → R (p.done ++ r.first)) → Past P zs ys R
+past_more P xs zs ys Q R p f =
+    let r = part_match P xs zs p.rest p.still in
+    record {
+      done = p.done ++ r.first;
+      rest = r.second;
+      whole = p.whole ∙ ap (λ q. p.done ++ q) r.whole ∙ sym (append_assoc p.done r.first r.second);
+      still = r.other;
+      holds = f r;
+    }
+
+pub past_all : {X Y : Type 0} (P : X → Y → Type 0) (ys : List Y) (Q : List Y → Type 0) → Past P [] ys Q → Q ys
+past_all {Y = Y} P ys Q p = by_rest p.rest refl p.still
+  where
+    by_rest : (zs : List Y) → p.rest ≡ zs → AllMatch P [] zs → Q ys
+    by_rest [] e h = subst Q (sym (p.whole ∙ ap (λ q. p.done ++ q) e ∙ append-nil p.done)) p.holds
+    by_rest (z ∷ zs) e h = absurd h

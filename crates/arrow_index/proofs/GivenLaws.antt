@@ -37,7 +37,7 @@ first_given (x ∷ xs) n b = if x.ident == n then Some x.occ else first_given xs
 -- ---- of another unit
 
 itself : (u n : ℕ) (b : Binder) → same_global (record { unit = u; ident = b.ident }) (record { unit = u; ident = n }) ≡ (b.ident == n)
-itself u n b = ap (λ (q : Bool). q && b.ident == n) (grind (arith, nat_tests))
+itself u n b = let same : (u == u) ≡ true = grind (arith, nat_tests) in ap (λ (q : Bool). q && b.ident == n) same
 
 another : (w u n : ℕ) (b : Binder) → (w == u) ≡ false → same_global (record { unit = w; ident = b.ident }) (record { unit = u; ident = n }) ≡ false
 another w u n b e = ap (λ (q : Bool). q && b.ident == n) e
@@ -50,13 +50,13 @@ other_form w u n (b ∷ bs) o e =
 other_unit : (w u n : ℕ) (cs : List UnitForm) (o : Option (Option Occ)) → (w == u) ≡ false → given_after (forms_given w cs) (record { unit = u; ident = n }) o ≡ o
 other_unit w u n [] o e = refl
 other_unit w u n (c ∷ cs) o e =
-    let k = record { unit = u; ident = n } in
+    let k : GlobalNo = record { unit = u; ident = n } in
     given-append (given_by w c.trace.definitions) (forms_given w cs) k o ∙ ap (given_after (forms_given w cs) k) (other_form w u n c.trace.definitions o e) ∙ other_unit w u n cs o e
 
 later_units : (w u n : ℕ) (cs : List CodeUnit) (o : Option (Option Occ)) → u < w → given_after (units_given w cs) (record { unit = u; ident = n }) o ≡ o
 later_units w u n [] o lt = refl
 later_units w u n (c ∷ cs) o lt =
-    let k = record { unit = u; ident = n } in
+    let k : GlobalNo = record { unit = u; ident = n } in
     let apart : (w == u) ≡ false = grind (arith, nat_tests) in
     given-append (forms_given w c.forms) (units_given (suc w) cs) k o ∙ ap (given_after (units_given (suc w) cs) k) (other_unit w u n c.forms o apart) ∙ later_units (suc w) u n cs o (omega arith)
 
@@ -117,51 +117,51 @@ place_of_test true o p x d y e f h = ap Some (e ∙ sym f)
 place_of_test false o p x d y e f h = h
 
 module _ (work : Work) (apart : AreToldApart work.symbols.idents) where
-  defined_unit : (u n : ℕ) (i : Identifier) (bs : List (ℕ × Binder)) (ds : Table) → IsIdent work.symbols n i → AreDefinitions work.symbols bs (defined_by u ds) →
+  defined_unit : (u n : ℕ) (i : Identifier) (ds : Table) (bs : List (ℕ × Binder)) → IsIdent work.symbols n i → AreDefinitions work.symbols bs (defined_by u ds) →
       first_given (bare bs) n None ≡ option_map (λ (e : Defined). e.occ) (defined_in ds u i)
-  defined_unit u n i bs [] at h = none bs h
+  defined_unit u n i [] bs at h = none bs h
     where
       none : (xs : List (ℕ × Binder)) → AreDefinitions work.symbols xs [] → first_given (bare xs) n None ≡ None
       none [] g = refl
       none (x ∷ xs) g = absurd g
-  defined_unit u n i bs (d ∷ ds) at h = by_unit (d.unit == u) refl
+  defined_unit u n i (d ∷ ds) bs at h = by_unit (defined_unit u n i ds) (d.unit == u) refl
     where
-      here : (b : ℕ × Binder) (cs : List (ℕ × Binder)) → (d.unit == u) ≡ true → IsDefinition work.symbols (length (defined_by u ds)) b d → AreDefinitions work.symbols cs (defined_by u ds) →
+      here : ((cs : List (ℕ × Binder)) → IsIdent work.symbols n i → AreDefinitions work.symbols cs (defined_by u ds) → first_given (bare cs) n None ≡ option_map (λ (e : Defined). e.occ) (defined_in ds u i)) →
+          (b : ℕ × Binder) (cs : List (ℕ × Binder)) → (d.unit == u) ≡ true → IsDefinition work.symbols (length (defined_by u ds)) b d → AreDefinitions work.symbols cs (defined_by u ds) →
           first_given (bare (b ∷ cs)) n None ≡ option_map (λ (e : Defined). e.occ) (defined_in (d ∷ ds) u i)
-      here b cs e is rest =
+      here f b cs e is rest =
           let same : same_ident d.ident i ≡ (b.1.ident == n) = same_by_number work.symbols apart b.1.ident n d.ident i is.ident at ∙ flip n b.1.ident in
           ap (λ (q : Bool). if q then Some b.1.occ else first_given (bare cs) n None) (sym same)
-          ∙ place_of_test (same_ident d.ident i) b.1.occ b.1.occ (first_given (bare cs) n None) d (defined_in ds u i) refl (sym is.place) (defined_unit u n i cs ds at rest)
+          ∙ place_of_test (same_ident d.ident i) b.1.occ b.1.occ (first_given (bare cs) n None) d (defined_in ds u i) refl (sym is.place) (f cs at rest)
           ∙ ap (λ (q : Bool). option_map (λ (e : Defined). e.occ) (if q && same_ident d.ident i then Some d else defined_in ds u i)) (sym e)
 
-      split : (cs : List (ℕ × Binder)) → (d.unit == u) ≡ true → AreDefinitions work.symbols cs (d ∷ defined_by u ds) → first_given (bare cs) n None ≡ option_map (λ (e : Defined). e.occ) (defined_in (d ∷ ds) u i)
-      split [] e g = absurd g
-      split (b ∷ cs) e g = here b cs e g.0 g.1
+      split : ((cs : List (ℕ × Binder)) → IsIdent work.symbols n i → AreDefinitions work.symbols cs (defined_by u ds) → first_given (bare cs) n None ≡ option_map (λ (e : Defined). e.occ) (defined_in ds u i)) →
+          (cs : List (ℕ × Binder)) → (d.unit == u) ≡ true → AreDefinitions work.symbols cs (d ∷ defined_by u ds) → first_given (bare cs) n None ≡ option_map (λ (e : Defined). e.occ) (defined_in (d ∷ ds) u i)
+      split f [] e g = absurd g
+      split f (b ∷ cs) e g = here f b cs e g.0 g.1
 
-      by_unit : (q : Bool) → (d.unit == u) ≡ q → first_given (bare bs) n None ≡ option_map (λ (e : Defined). e.occ) (defined_in (d ∷ ds) u i)
-      by_unit true e = split bs e (subst (λ (q : Bool). AreDefinitions work.symbols bs (if q then d ∷ defined_by u ds else defined_by u ds)) e h)
-      by_unit false e =
-          defined_unit u n i bs ds at (subst (λ (q : Bool). AreDefinitions work.symbols bs (if q then d ∷ defined_by u ds else defined_by u ds)) e h)
+      by_unit : ((cs : List (ℕ × Binder)) → IsIdent work.symbols n i → AreDefinitions work.symbols cs (defined_by u ds) → first_given (bare cs) n None ≡ option_map (λ (e : Defined). e.occ) (defined_in ds u i)) →
+          (q : Bool) → (d.unit == u) ≡ q → first_given (bare bs) n None ≡ option_map (λ (e : Defined). e.occ) (defined_in (d ∷ ds) u i)
+      by_unit f true e = split f bs e (subst (λ (q : Bool). AreDefinitions work.symbols bs (if q then d ∷ defined_by u ds else defined_by u ds)) e h)
+      by_unit f false e =
+          f bs at (subst (λ (q : Bool). AreDefinitions work.symbols bs (if q then d ∷ defined_by u ds else defined_by u ds)) e h)
           ∙ ap (λ (q : Bool). option_map (λ (e : Defined). e.occ) (if q && same_ident d.ident i then Some d else defined_in ds u i)) (sym e)
 
   -- a unit that isn't there defines nothing
   outside : (rs : List UnitResult) (u : ℕ) (i : Identifier) (ds : Table) → result_at rs u ≡ None → defined_in (filter (λ d. is_whole (result_at rs d.unit)) ds) u i ≡ None
   outside rs u i [] e = refl
-  outside rs u i (d ∷ ds) e = by_whole (is_whole (result_at rs d.unit)) refl
+  outside rs u i (d ∷ ds) e = by_whole (outside rs u i ds e) (is_whole (result_at rs d.unit)) refl
     where
-      rest : defined_in (filter (λ f. is_whole (result_at rs f.unit)) ds) u i ≡ None
-      rest = outside rs u i ds e
-
-      by_unit : (q : Bool) → (d.unit == u) ≡ q → is_whole (result_at rs d.unit) ≡ true → defined_in (d ∷ filter (λ f. is_whole (result_at rs f.unit)) ds) u i ≡ None
-      by_unit false f g = ap (λ (q : Bool). if q && same_ident d.ident i then Some d else defined_in (filter (λ x. is_whole (result_at rs x.unit)) ds) u i) f ∙ rest
-      by_unit true f g =
+      by_unit : defined_in (filter (λ f. is_whole (result_at rs f.unit)) ds) u i ≡ None → (q : Bool) → (d.unit == u) ≡ q → is_whole (result_at rs d.unit) ≡ true → defined_in (d ∷ filter (λ f. is_whole (result_at rs f.unit)) ds) u i ≡ None
+      by_unit rest false f g = ap (λ (q : Bool). if q && same_ident d.ident i then Some d else defined_in (filter (λ x. is_whole (result_at rs x.unit)) ds) u i) f ∙ rest
+      by_unit rest true f g =
           let same : d.unit ≡ u = grind (arith, nat_tests) in
           let broken : is_whole (result_at rs d.unit) ≡ false = ap (λ (x : ℕ). is_whole (result_at rs x)) same ∙ ap is_whole e in
           absurd cc
 
-      by_whole : (q : Bool) → is_whole (result_at rs d.unit) ≡ q → defined_in (filter (λ f. is_whole (result_at rs f.unit)) (d ∷ ds)) u i ≡ None
-      by_whole true g = ap (λ (q : Bool). defined_in (if q then d ∷ filter (λ f. is_whole (result_at rs f.unit)) ds else filter (λ f. is_whole (result_at rs f.unit)) ds) u i) g ∙ by_unit (d.unit == u) refl g
-      by_whole false g = ap (λ (q : Bool). defined_in (if q then d ∷ filter (λ f. is_whole (result_at rs f.unit)) ds else filter (λ f. is_whole (result_at rs f.unit)) ds) u i) g ∙ rest
+      by_whole : defined_in (filter (λ f. is_whole (result_at rs f.unit)) ds) u i ≡ None → (q : Bool) → is_whole (result_at rs d.unit) ≡ q → defined_in (filter (λ f. is_whole (result_at rs f.unit)) (d ∷ ds)) u i ≡ None
+      by_whole rest true g = ap (λ (q : Bool). defined_in (if q then d ∷ filter (λ f. is_whole (result_at rs f.unit)) ds else filter (λ f. is_whole (result_at rs f.unit)) ds) u i) g ∙ by_unit rest (d.unit == u) refl g
+      by_whole rest false g = ap (λ (q : Bool). defined_in (if q then d ∷ filter (λ f. is_whole (result_at rs f.unit)) ds else filter (λ f. is_whole (result_at rs f.unit)) ds) u i) g ∙ rest
 
   pub units_law : (text : LibraryName → List ℕ) (uris : List (List ℕ)) (all : List Placed) (p : Program) (place u n : ℕ) (i : Identifier) (cs : List CodeUnit) (rs : List UnitResult) → UnitsStand work text uris all p place cs rs → place ≤ u →
       result_at p.units u ≡ result_at rs u → IsIdent work.symbols n i →
@@ -169,33 +169,32 @@ module _ (work : Work) (apart : AreToldApart work.symbols.idents) where
   units_law text uris all p place u n i [] [] h le e at = ap (option_map (λ (d : Defined). d.occ)) (sym (outside p.units u i p.table e))
   units_law text uris all p place u n i [] (r ∷ rs) h le e at = absurd h
   units_law text uris all p place u n i (c ∷ cs) [] h le e at = absurd h
-  units_law text uris all p place u n i (c ∷ cs) (r ∷ rs) h le e at = by_place (place == u) refl
+  units_law text uris all p place u n i (c ∷ cs) (r ∷ rs) h le e at = by_place (units_law text uris all p (suc place) u n i cs rs h.1) (place == u) refl
     where
-      k : GlobalNo
-      k = record { unit = u; ident = n }
-
-      by_place : (q : Bool) → (place == u) ≡ q → given_after (forms_given place c.forms ++ units_given (suc place) cs) (record { unit = u; ident = n }) None ≡ option_map (λ (d : Defined). d.occ) (defined_in (program_table p) u i)
-      by_place true f =
+      by_place : (suc place ≤ u → result_at p.units u ≡ result_at rs u → IsIdent work.symbols n i → given_after (units_given (suc place) cs) (record { unit = u; ident = n }) None ≡ option_map (λ (d : Defined). d.occ) (defined_in (program_table p) u i)) → (q : Bool) → (place == u) ≡ q → given_after (forms_given place c.forms ++ units_given (suc place) cs) (record { unit = u; ident = n }) None ≡ option_map (λ (d : Defined). d.occ) (defined_in (program_table p) u i)
+      by_place rest true f =
+          let k : GlobalNo = record { unit = u; ident = n } in
           let same : place ≡ u = grind (arith, nat_tests) in
           given-append (forms_given place c.forms) (units_given (suc place) cs) k None
           ∙ later_units (suc place) u n cs (given_after (forms_given place c.forms) k None) (omega arith)
           ∙ ap (λ (w : ℕ). given_after (forms_given w c.forms) (record { unit = u; ident = n }) None) same ∙ given_unit u n c.forms
-          ∙ defined_unit u n i (reverse (definitions_from 0 c.forms)) (program_table p) at (subst (λ (w : ℕ). AreDefinitions work.symbols (reverse (definitions_from 0 c.forms)) (defined_by w (program_table p))) same h.0.definitions)
-      by_place false f =
+          ∙ defined_unit u n i (program_table p) (reverse (definitions_from 0 c.forms)) at (subst (λ (w : ℕ). AreDefinitions work.symbols (reverse (definitions_from 0 c.forms)) (defined_by w (program_table p))) same h.0.definitions)
+      by_place rest false f =
+          let k : GlobalNo = record { unit = u; ident = n } in
           let apart_here : (r.unit.number == u) ≡ false = ap (λ (x : ℕ). x == u) h.0.number ∙ f in
           let past : result_at p.units u ≡ result_at rs u = e ∙ ap (λ (q : Bool). if q then Some r else result_at rs u) apart_here in
           let more : suc place ≤ u = grind (arith, nat_tests) in
           given-append (forms_given place c.forms) (units_given (suc place) cs) k None ∙ ap (given_after (units_given (suc place) cs) k) (other_unit place u n c.forms None f)
-          ∙ units_law text uris all p (suc place) u n i cs rs h.1 more past at
+          ∙ rest more past at
 
 -- ---- one more
 
-pub given_more : (u : ℕ) (bs : List Binder) (i : ℕ) (b : Binder) (k : GlobalNo) (before old new : Option (Option Occ)) → i < length bs → b ≡ get_or bs i b → old ≡ given_after (given_by u (take i bs)) k before →
-    new ≡ (if same_global (record { unit = u; ident = b.ident }) k then Some b.occ else old) → new ≡ given_after (given_by u (take (i + 1) bs)) k before
-given_more u bs i b k before old new lt is h n =
-    n ∙ (λ j. if same_global (record { unit = u; ident = (is j).ident }) k then Some (is j).occ else h j)
-    ∙ sym (given-append (given_by u (take i bs)) (given_by u (get_or bs i b ∷ [])) k before)
-    ∙ ap (λ (q : List Given). given_after q k before) (sym (ap (given_by u) (take_more bs i b lt) ∙ map_both u (take i bs) (get_or bs i b ∷ [])))
+pub given_more : (u : ℕ) (bs : List Binder) (i : ℕ) (d : Binder) (k : GlobalNo) (before old new : Option (Option Occ)) → i < length bs → old ≡ given_after (given_by u (take i bs)) k before →
+    new ≡ (if same_global (record { unit = u; ident = (get_or bs i d).ident }) k then Some (get_or bs i d).occ else old) → new ≡ given_after (given_by u (take (i + 1) bs)) k before
+given_more u bs i d k before old new lt h n =
+    n ∙ ap (λ (o : Option (Option Occ)). if same_global (record { unit = u; ident = (get_or bs i d).ident }) k then Some (get_or bs i d).occ else o) h
+    ∙ sym (given-append (given_by u (take i bs)) (given_by u (get_or bs i d ∷ [])) k before)
+    ∙ ap (λ (q : List Given). given_after q k before) (sym (ap (given_by u) (take_more bs i d lt) ∙ map_both u (take i bs) (get_or bs i d ∷ [])))
 
 pub forms_more : (u : ℕ) (cs : List UnitForm) (i : ℕ) (c : UnitForm) (k : GlobalNo) (before old new : Option (Option Occ)) → i < length cs → c ≡ get_or cs i c → old ≡ given_after (forms_given u (take i cs)) k before →
     new ≡ given_after (given_by u c.trace.definitions) k old → new ≡ given_after (forms_given u (take (i + 1) cs)) k before

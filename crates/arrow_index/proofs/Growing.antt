@@ -25,3 +25,7 @@ module _ {X Y : Type 0} (f : X → List Y) where
 
   pub flat_all : (xs : List X) (n : ℕ) → length xs ≤ n → flat_map f (take n xs) ≡ flat_map f xs
   flat_all xs n le = ap (flat_map f) (take_all n xs le)
+
+  -- of items that are copied
+  pub flat_next : (xs : List X) (i : ℕ) (d : X) → i < length xs → flat_map f (take (i + 1) xs) ≡ flat_map f (take i xs) ++ f (get_or xs i d)
+  flat_next xs i d lt = ap (flat_map f) (take_more xs i d lt) ∙ flat_map-append f (take i xs) (get_or xs i d ∷ []) ∙ ap (λ (q : List Y). flat_map f (take i xs) ++ q) (append-nil (f (get_or xs i d)))

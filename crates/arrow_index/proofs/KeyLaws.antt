@@ -83,11 +83,11 @@ place-append : (vs ws : List code.Named) (n : ℕ) → place_among (vs ++ ws) n 
 place-append [] ws n = refl
 place-append (v ∷ vs) ws n = ap (λ (q : Option (Option Occ)). if v.ident == n then Some v.occ else q) (place-append vs ws n) ∙ if_first (v.ident == n) v.occ (place_among vs n) (place_among ws n)
 
-pub place_more : (vs : List code.Named) (i n : ℕ) (v : code.Named) (old new : Option (Option Occ)) → i < length vs → v ≡ get_or vs i v → old ≡ place_among (take i vs) n →
-    new ≡ first_of old (if v.ident == n then Some v.occ else None) → new ≡ place_among (take (i + 1) vs) n
-place_more vs i n v old new lt is h k =
-    k ∙ (λ j. first_of (h j) (if (is j).ident == n then Some (is j).occ else None)) ∙ sym (place-append (take i vs) (get_or vs i v ∷ []) n)
-    ∙ ap (λ (q : List code.Named). place_among q n) (sym (take_more vs i v lt))
+pub place_more : (vs : List code.Named) (i n : ℕ) (d : code.Named) (old new : Option (Option Occ)) → i < length vs → old ≡ place_among (take i vs) n →
+    new ≡ first_of old (if (get_or vs i d).ident == n then Some (get_or vs i d).occ else None) → new ≡ place_among (take (i + 1) vs) n
+place_more vs i n d old new lt h k =
+    k ∙ ap (λ (o : Option (Option Occ)). first_of o (if (get_or vs i d).ident == n then Some (get_or vs i d).occ else None)) h ∙ sym (place-append (take i vs) (get_or vs i d ∷ []) n)
+    ∙ ap (λ (q : List code.Named). place_among q n) (sym (take_more vs i d lt))
 
 -- ---- occurrences
 

@@ -8,7 +8,7 @@ use Rattle.scheme_model.specs.Ident.{Ident as Identifier}
 use Rattle.scheme_model.specs.ExpansionFaults.{Named, named}
 use Rattle.scheme_model.specs.Cores as model
 use Rattle.scheme_model.specs.Live as live
-use Rattle.scheme_model.specs.Live.{CoreLeaf, name_places, name_places_all, name_places_tail, any_name}
+use Rattle.scheme_model.specs.Live.{CoreLeaf, name_places, name_places_all, name_places_tail, any_name, no_hole}
 use Rattle.scheme_model.specs.ProgramArrows.{any, is_occ, leaf_at, is_live}
 use Rattle.syntax_tree.specs.Names.{Names}
 use Rattle.syntax_tree.specs.Placed.{IsNamed}
@@ -17,6 +17,7 @@ use Rattle.syntax_tree.specs.declared.trees.Work.{Work}
 use Rattle.core_tree.specs.Names.{AllMatch}
 use Rattle.core_tree.specs.declared.units.NameUse.{NameUse}
 use Rattle.arrow_index.specs.Members.{IsIn, Tells}
+use Rattle.arrow_index.specs.Holes.{occs_in, occs_among, occs_behind}
 use Rattle.arrow_index.specs.Names.{names_in, names_among, names_behind}
 use Rattle.arrow_index.specs.Placed.{Use, IsUseOf, PlacedSeen, AreAllSeen}
 use Rattle.arrow_index.specs.Sights.{name_at, use_at, IsNameOf}
@@ -28,6 +29,9 @@ or_assoc false b c = refl
 or_false : (a : Bool) → (a || false) ≡ a
 or_false true = refl
 or_false false = refl
+
+pub or_none : (a : Bool) → a ≡ (a || false)
+or_none a = sym (or_false a)
 
 pub any-append : {A : Type 0} (f : A → Bool) (xs ys : List A) → any f (xs ++ ys) ≡ (any f xs || any f ys)
 any-append f [] ys = refl
@@ -122,3 +126,34 @@ pub record Passed (work : Work) (left : List PlacedSeen) (ls : List CoreLeaf) (Q
   pub whole : ls ≡ done ++ rest
   pub still : AreAllSeen work left rest
   pub holds : Q done
+
+-- ---- names outside of holes
+
+mutual
+  holed_in : {A : Type 0} (o : Occ) (t : Tree (Option A)) → any (leaf_at o) (name_places no_hole t) ≡ any (is_occ o) (occs_in t)
+  holed_in o (name None p) = refl
+  holed_in o (name (Some i) p) = refl
+  holed_in o (atom a p) = refl
+  holed_in o (list ts tail p) =
+      any-append (leaf_at o) (name_places_all no_hole ts) (name_places_tail no_hole tail) ∙ (λ j. holed_among o ts j || holed_behind o tail j) ∙ sym (any-append (is_occ o) (occs_among ts) (occs_behind tail))
+  holed_in o (vector ts p) = holed_among o ts
+
+  holed_among : {A : Type 0} (o : Occ) (ts : Trees (Option A)) → any (leaf_at o) (name_places_all no_hole ts) ≡ any (is_occ o) (occs_among ts)
+  holed_among o no_trees = refl
+  holed_among o (tree t ts) = any-append (leaf_at o) (name_places no_hole t) (name_places_all no_hole ts) ∙ (λ j. holed_in o t j || holed_among o ts j) ∙ sym (any-append (is_occ o) (occs_in t) (occs_among ts))
+
+  holed_behind : {A : Type 0} (o : Occ) (tail : Tail (Option A)) → any (leaf_at o) (name_places_tail no_hole tail) ≡ any (is_occ o) (occs_behind tail)
+  holed_behind o proper = refl
+  holed_behind o (dotted t) = holed_in o t
+
+any-map : {A B : Type 0} (f : B → Bool) (g : A → B) (xs : List A) → any f (map g xs) ≡ any (λ x. f (g x)) xs
+any-map f g [] = refl
+any-map f g (x ∷ xs) = ap (λ b. f (g x) || b) (any-map f g xs)
+
+pub holed_law : {A : Type 0} (o : Occ) (t : Tree (Option A)) (ns : List code.Named) → map (λ (n : code.Named). n.occ) ns ≡ occs_in t → any (λ (n : code.Named). is_occ o n.occ) ns ≡ any (leaf_at o) (name_places no_hole t)
+holed_law o t ns h = sym (any-map (is_occ o) (λ (n : code.Named). n.occ) ns) ∙ ap (any (is_occ o)) h ∙ sym (holed_in o t)
+
+-- ---- sets that grow
+
+pub grows_both : (old mid new f g h : Bool) → mid ≡ (old || f) → new ≡ (mid || g) → h ≡ (f || g) → new ≡ (old || h)
+grows_both old mid new f g h p q r = q ∙ ap (λ b. b || g) p ∙ or_assoc old f g ∙ ap (λ b. old || b) (sym r)

@@ -1,5 +1,5 @@
 -- One step more of the walks that gather arrows.
-use Rattle.std.proofs.Common.{◌≡◌, ◌⊎◌, inl, inr, ℕ, ◌+◌, ◌<◌, suc, List, [], ◌∷◌, ◌++◌, map, take, drop, length, get_or, Bool, true, false, Option, Some, None, refl, sym, ap, ◌∙◌, subst, append_assoc, add-one, drop-cons, arith}
+use Rattle.std.proofs.Common.{◌≡◌, ◌⊎◌, inl, inr, ℕ, ◌+◌, ◌<◌, zero, suc, List, [], ◌∷◌, ◌++◌, map, take, drop, length, get_or, Bool, true, false, Option, Some, None, refl, sym, ap, ◌∙◌, subst, append_assoc, add-one, drop-cons, arith}
 use Rattle.std.specs.Prelude.{◌||◌, not, if◌then◌else◌}
 use Rattle.std.specs.List.{flat_map}
 use Rattle.std.proofs.lemmas.List.{append-nil, map-append}
@@ -116,3 +116,8 @@ pub passed_all : (work : Work) (ls : List PlacedLeaf) (i : ℕ) (all : List Core
 passed_all work ls i all P p e =
     let none : p.rest ≡ [] = subst (λ (xs : List PlacedLeaf). AreAllSeen work (map placed_of xs) p.rest) e p.still in
     subst P (sym (p.whole ∙ ap (λ (x : List CoreLeaf). p.done ++ x) none ∙ append-nil p.done)) p.holds
+
+pub seen_item : (work : Work) (ls : List PlacedLeaf) (i : ℕ) (l : PlacedLeaf) (all : List CoreLeaf) → AreAllSeen work (map placed_of ls) all → i < length ls → l ≡ get_or ls i l → (front : List CoreLeaf) × IsSeen work l.at.unit l.at.form (seen_of l.leaf) front
+seen_item work [] i l all h lt e = absurd (omega (arith, lt))
+seen_item work (x ∷ xs) zero l all h lt e = (h.0, subst (λ (y : PlacedLeaf). IsSeen work y.at.unit y.at.form (seen_of y.leaf) h.0) (sym e) h.3)
+seen_item work (x ∷ xs) (suc i) l all h lt e = seen_item work xs i l h.1 h.4 (omega (arith, lt)) e

@@ -32,13 +32,19 @@ pub record At {X Y : Type 0} (P : X → Y → Type 0) (x : X) (ys : List Y) (k :
   pub is : P x item
   pub more : take (k + 1) ys ≡ take k ys ++ item ∷ []
 
-pub match_at : {X Y : Type 0} (P : X → Y → Type 0) (xs : List X) (ys : List Y) (k : ℕ) (x : X) → AllMatch P xs ys → k < length xs → x ≡ get_or xs k x → At P x ys k
-match_at P [] ys k x h lt e = absurd (omega (arith, lt))
-match_at P (z ∷ zs) [] k x h lt e = absurd h
-match_at P (z ∷ zs) (y ∷ ys) zero x h lt e = record { item = y; is = subst (λ w. P w y) (sym e) h.0; more = refl }
-match_at P (z ∷ zs) (y ∷ ys) (suc k) x h lt e =
-    let r = match_at P zs ys k x h.1 (omega (arith, lt)) e in
-    record { item = r.item; is = r.is; more = ap (λ q. y ∷ q) r.more }
+pub match_at : {X Y : Type 0} (P : X → Y → Type 0) (xs : List X) (ys : List Y) (k : ℕ) (d : X) → AllMatch P xs ys → k < length xs → At P (get_or xs k d) ys k
+match_at P [] ys k d h lt = absurd (omega (arith, lt))
+match_at P (z ∷ zs) [] k d h lt = absurd h
+match_at P (z ∷ zs) (y ∷ ys) zero d h lt = record { item = y; is = h.0; more = refl }
+match_at P (z ∷ zs) (y ∷ ys) (suc k) d h lt =
+    let r = match_at P zs ys k d h.1 (omega (arith, lt)) in
+    let next : suc k + 1 ≡ suc (k + 1) = omega arith in
+    record { item = r.item; is = r.is; more = ap (λ n. take n (y ∷ ys)) next ∙ ap (λ q. y ∷ q) r.more }
+
+pub match_item : {X Y : Type 0} (P : X → Y → Type 0) (xs : List X) (ys : List Y) (k : ℕ) (x : X) → AllMatch P xs ys → k < length xs → x ≡ get_or xs k x → At P x ys k
+match_item P xs ys k x h lt e =
+    let r = match_at P xs ys k x h lt in
+    record { item = r.item; is = subst (λ w. P w r.item) (sym e) r.is; more = r.more }
 
 pub match_all : {X Y : Type 0} (P : X → Y → Type 0) (xs : List X) (ys : List Y) (k : ℕ) → AllMatch P xs ys → length xs ≤ k → take k ys ≡ ys
 match_all P [] [] zero h le = refl
@@ -161,13 +167,14 @@ pub record RuleAt (work : Work) (x : code_rule.Rule) (ms : List (Rule Identifier
   pub is : IsRule work x item
   pub more : take (k + 1) ms ≡ take k ms ++ item ∷ []
 
-pub rule_at : (work : Work) (xs : List code_rule.Rule) (ms : List (Rule Identifier)) (k : ℕ) (x : code_rule.Rule) → AreRules work xs ms → k < length xs → x ≡ get_or xs k x → RuleAt work x ms k
-rule_at work [] ms k x h lt e = absurd (omega (arith, lt))
-rule_at work (z ∷ zs) [] k x h lt e = absurd h
-rule_at work (z ∷ zs) (m ∷ ms) zero x h lt e = record { item = m; is = subst (λ (w : code_rule.Rule). IsRule work w m) (sym e) h.0; more = refl }
-rule_at work (z ∷ zs) (m ∷ ms) (suc k) x h lt e =
-    let r = rule_at work zs ms k x h.1 (omega (arith, lt)) e in
-    record { item = r.item; is = r.is; more = ap (λ (q : List (Rule Identifier)). m ∷ q) r.more }
+pub rule_at : (work : Work) (xs : List code_rule.Rule) (ms : List (Rule Identifier)) (k : ℕ) (d : code_rule.Rule) → AreRules work xs ms → k < length xs → RuleAt work (get_or xs k d) ms k
+rule_at work [] ms k d h lt = absurd (omega (arith, lt))
+rule_at work (z ∷ zs) [] k d h lt = absurd h
+rule_at work (z ∷ zs) (m ∷ ms) zero d h lt = record { item = m; is = h.0; more = refl }
+rule_at work (z ∷ zs) (m ∷ ms) (suc k) d h lt =
+    let r = rule_at work zs ms k d h.1 (omega (arith, lt)) in
+    let next : suc k + 1 ≡ suc (k + 1) = omega arith in
+    record { item = r.item; is = r.is; more = ap (λ n. take n (m ∷ ms)) next ∙ ap (λ (q : List (Rule Identifier)). m ∷ q) r.more }
 
 pub rules_all : (work : Work) (xs : List code_rule.Rule) (ms : List (Rule Identifier)) (k : ℕ) → AreRules work xs ms → length xs ≤ k → take k ms ≡ ms
 rules_all work [] [] zero h le = refl

@@ -6,3 +6,4 @@ pub mod Placed
 pub mod Sights
 pub mod Index
 pub mod Variables
+pub mod Holes

@@ -1,5 +1,5 @@
 //! Which occurrences are live: leaves of cores, keywords, matched literals, and names in imports and exports.
-ghost use Rattle.std.specs.Prelude.{◌≡◌, ℕ, ◌||◌, List, map, IfOk, OnOk};
+ghost use Rattle.std.specs.Prelude.{◌≡◌, ◌||◌, List, map, IfOk, OnOk};
 ghost use Rattle.std.specs.BTreeSet.{contains};
 ghost use Rattle.scheme_model.specs.declared.Occ.{Occ as AnyOcc};
 ghost use Rattle.scheme_model.specs.Live.{CoreLeaf};
@@ -47,14 +47,14 @@ fn add_live_names(names: &[Named], live: &mut BTreeSet<Occ>) -> Mem<()>
 fn add_live_leaf(
     alloc: Global,
     work: &Work,
-    leaf: Leaf<'_>,
+    leaf: &PlacedLeaf<'_>,
     live: &mut BTreeSet<Occ>,
 ) -> Mem<()>
-    requires { (unit form : ℕ) × (ls : List CoreLeaf) × IsSeen work.now unit form (seen_of leaf) ls }
-    ensures { (unit form : ℕ) (ls : List CoreLeaf) → IsSeen work.now unit form (seen_of leaf) ls →
+    requires { (ls : List CoreLeaf) × IsSeen work.now leaf.now.at.unit leaf.now.at.form (seen_of leaf.now.leaf) ls }
+    ensures { (ls : List CoreLeaf) → IsSeen work.now leaf.now.at.unit leaf.now.at.form (seen_of leaf.now.leaf) ls →
         OnOk result (Grows live.old live.new (λ o. any (leaf_at o) ls)) }
 {
-    match leaf {
+    match leaf.leaf {
         Leaf::Binds { local: _, binder } => Ok(add_live(binder.occ, live)?),
         Leaf::Uses(target) => Ok(add_live(target.occ, live)?),
         Leaf::Quoted(datum) => {
@@ -81,7 +81,7 @@ fn add_live_leaves(
         OnOk result (Grows live.old live.new (λ o. any (leaf_at o) ls)) }
 {
     for leaf in leaves {
-        add_live_leaf(alloc, work, leaf.leaf, live)?;
+        add_live_leaf(alloc, work, leaf, live)?;
     }
     Ok(())
 }

@@ -6,7 +6,7 @@ use Rattle.arrow_index.specs.Placed.{placed_of, AreAllSeen}
 use Rattle.arrow_index.specs.Index.{as_arrow}
 use Rattle.arrow_index.specs.Variables.{all_arrows_at}
 use Rattle.arrow_index.proofs.Growing.{grows_by_none, grows_twice}
-use Rattle.arrow_index.proofs.StepLaws.{leaves-append, next_leaf, passed_none, passed_more, passed_all}
+use Rattle.arrow_index.proofs.StepLaws.{leaves-append, next_leaf, passed_none, passed_more, passed_all, seen_item}
 use Rattle.arrow_index.proofs.arrows.add_leaves.Goals as goal
 
 pub loop-leaf-init : goal.loop-leaf-init
@@ -14,7 +14,8 @@ loop-leaf-init c = λ leaves keywords names table ls sees seen.
     passed_none c.args.work.now (map placed_of c.args.found.now) ls _ seen (grows_by_none as_arrow c.args.pairs.now.items [] refl)
 
 pub add_leaf-requires : goal.add_leaf-requires
-add_leaf-requires c = ?
+add_leaf-requires c =
+    seen_item c.args.work.now c.args.found.now c.loop-leaf.leaf-index c.leaf-item.result c.requires.0 c.requires.1 (omega arith) c.leaf-item.is
 
 pub loop-leaf-preserved : goal.loop-leaf-preserved
 loop-leaf-preserved c = λ leaves keywords names table ls sees seen.

@@ -1,5 +1,6 @@
-use Rattle.std.proofs.Common.{◌≡◌, [], ◌∷◌, ◌++◌, take, refl, sym, ap, ◌∙◌, arith}
+use Rattle.std.proofs.Common.{◌≡◌, None, false, [], ◌∷◌, ◌++◌, take, refl, sym, ap, ◌∙◌, arith}
 use Rattle.scheme_model.specs.ProgramArrows.{binder_of, is_live_at, leaf_arrows}
+use Rattle.syntax_tree.specs.declared.meaning.Meaning.TheVariants as meanings
 use Rattle.core_tree.specs.Names.{IsLeaf}
 use Rattle.arrow_index.specs.Index.{as_arrow}
 use Rattle.arrow_index.proofs.Growing.{grows_as, grows_by_none, grows_twice}
@@ -15,7 +16,7 @@ loop-leaf-preserved c = λ work leaves keywords names table ms sees match.
     let binder = binder_of leaves table in
     let live = is_live_at leaves keywords names in
     let k = c.loop-leaf.leaf-index in
-    let a = match_at (IsLeaf work.symbols c.args.at.unit c.args.at.form) c.args.found.now ms k c.leaf-item.result match (omega arith) c.leaf-item.is in
+    let a = match_at (IsLeaf work.symbols c.args.at.unit c.args.at.form) c.args.found.now ms k (record { target = record { meaning = meanings.Local 0; ident = 0; occ = None }; literal = false }) match (omega arith) in
     grows_twice as_arrow c.args.pairs.now.items c.loop-leaf.pairs.items c.add_rule_leaf.new.pairs.items (leaf_arrows binder live (take k ms)) (leaf_arrows binder live (a.item ∷ [])) _ (c.loop-leaf.invariant work leaves keywords names table ms sees match)
     (c.in_ok-add_rule_leaf.ensures work leaves keywords names table a.item sees a.is) (leaf_more binder live ms k a.item a.more)
 

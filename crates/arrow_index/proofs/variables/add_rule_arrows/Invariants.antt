@@ -9,4 +9,4 @@ use Rattle.arrow_index.proofs.variables.add_rule_arrows.Given as goal
 
 abbrev pub invariant-loop-name : goal.invariant-loop-name
 invariant-loop-name l =
-    map as_arrow l.pairs.items ≡ map as_arrow l.fn.pairs.items ++ flat_map (λ (n : Named). arrow_of (place_in (place_among l.variables.items n.ident)) n.occ) (take l.name-index l.names.items)
+    map as_arrow l.pairs.items ≡ map as_arrow l.fn.pairs.items ++ flat_map (λ (n : Named). arrow_of (place_in (place_among l.variables.items n.ident)) n.occ) (take l.name-index l.name-items)

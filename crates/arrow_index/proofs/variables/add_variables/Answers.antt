@@ -1,4 +1,4 @@
-use Rattle.std.proofs.Common.{◌++◌, take, get_or, sym, refl, ap, arith}
+use Rattle.std.proofs.Common.{◌++◌, take, None, sym, refl, ap, arith}
 use Rattle.scheme_model.specs.RulesShape.{role_of}
 use Rattle.syntax_tree.specs.Macros.{identifiers}
 use Rattle.syntax_tree.specs.Placed.{IsNamed}
@@ -13,7 +13,7 @@ loop-name-init c = λ r ms tells match. adds_none (IsNamed c.args.work.now.symbo
 pub add_variable-requires : goal.add_variable-requires
 add_variable-requires c =
     let is = IsNamed c.args.work.now.symbols in
-    let a = match_at is c.args.names.now c.requires.0 c.loop-name.name-index (get_or c.args.names.now c.loop-name.name-index ?) c.requires.1 (omega arith) refl in
+    let a = match_at is c.args.names.now c.requires.0 c.loop-name.name-index (record { ident = 0; occ = None }) c.requires.1 (omega arith) in
     (a.item.name, a.is.0)
 
 pub loop-name-preserved : goal.loop-name-preserved
@@ -21,7 +21,7 @@ loop-name-preserved c = λ r ms tells match.
     let is = IsNamed c.args.work.now.symbols in
     let role = role_of identifiers r in
     let k = c.loop-name.name-index in
-    let a = match_at is c.args.names.now ms k (get_or c.args.names.now k ?) match (omega arith) refl in
+    let a = match_at is c.args.names.now ms k (record { ident = 0; occ = None }) match (omega arith) in
     adds_same is c.args.found.now.items c.add_variable.new.found.items (chosen role (take k ms) ++ if_variable (role a.item.name) a.item) _ (sym (chosen_more role ms k a.item a.more))
     (adds_both is c.args.found.now.items c.loop-name.found.items c.add_variable.new.found.items (chosen role (take k ms)) (if_variable (role a.item.name) a.item) (c.loop-name.invariant r ms tells match) (c.in_ok-add_variable.ensures r a.item tells a.is))
 
