@@ -13,3 +13,4 @@ pub mod LiveLaws
 pub mod KeyLaws
 pub mod ArrowLaws
 pub mod StepLaws
+pub mod HoleLaws

@@ -57,7 +57,14 @@ outside-names-requires c =
     (at.0, at.1)
 
 pub returns-in_ok-add_live_names-in-Holed : goal.returns-in_ok-add_live_names-in-Holed
-returns-in_ok-add_live_names-in-Holed c = ?
+returns-in_ok-add_live_names-in-Holed c = λ ls is o.
+    let l = c.args.leaf.now in
+    let w = c.args.work.now in
+    let at = subst (λ (x : Leaf). IsSeen w l.at.unit l.at.form (seen_of x) ls) c.in-Holed.is is in
+    let old = contains occ_cmp c.args.live.now o in
+    let law = holed_law o at.0 c.in_ok-names-in-Holed.names.items (c.in_ok-names-in-Holed.ensures at.0 at.1) in
+    let seen = ap (λ (ns : List Named). any (λ (n : Named). is_occ o n.occ) ns) c.as_slice-in-Holed.ensures.value in
+    c.in_ok-add_live_names-in-Holed.ensures o ∙ ap (λ (b : Bool). old || b) (seen ∙ law ∙ ap (any (leaf_at o)) (sym at.2))
 
 pub returns-in-Defines : goal.returns-in-Defines
 returns-in-Defines c = λ ls is o.
