@@ -38,21 +38,26 @@ module _ (binder : Meaning → Option Occ) (is_live : Option Occ → Bool) where
   names_among : (ts us : List NameUse) → ((t : NameUse) → IsIn t ts → IsIn t us) → (a : Arrow) → IsIn a (name_arrows binder ts) → IsIn a (name_arrows binder us)
   names_among ts us g a h = subst (IsIn a) (sym (flat_names binder us)) (among (of_name binder) ts us g a (subst (IsIn a) (flat_names binder ts) h))
 
+  split_use : (t : Target) (ls : List CoreLeaf) (a : Arrow) → (IsIn a (all_arrows_at binder is_live ls) → IsIn a (target_arrows binder (core_targets ls)) ⊎ IsIn a (macro_arrows binder is_live ls)) →
+      IsIn a (of_target binder t) ⊎ IsIn a (all_arrows_at binder is_live ls) → IsIn a (of_target binder t ++ target_arrows binder (core_targets ls)) ⊎ IsIn a (macro_arrows binder is_live ls)
+  split_use t ls a f (inl k) = inl (in_left a (of_target binder t) (target_arrows binder (core_targets ls)) k)
+  split_use t ls a f (inr k) = behind (f k)
+    where
+      behind : IsIn a (target_arrows binder (core_targets ls)) ⊎ IsIn a (macro_arrows binder is_live ls) → IsIn a (of_target binder t ++ target_arrows binder (core_targets ls)) ⊎ IsIn a (macro_arrows binder is_live ls)
+      behind (inl m) = inl (in_right a (of_target binder t) (target_arrows binder (core_targets ls)) m)
+      behind (inr m) = inr m
+
+  use_there : (t : Target) (ls : List CoreLeaf) (a : Arrow) → (IsIn a (target_arrows binder (core_targets ls)) → IsIn a (all_arrows_at binder is_live ls)) → IsIn a (of_target binder t) ⊎ IsIn a (target_arrows binder (core_targets ls)) →
+      IsIn a (of_target binder t ++ all_arrows_at binder is_live ls)
+  use_there t ls a f (inl k) = in_left a (of_target binder t) (all_arrows_at binder is_live ls) k
+  use_there t ls a f (inr k) = in_right a (of_target binder t) (all_arrows_at binder is_live ls) (f k)
+
   -- the arrows of leaves are those of uses and those of macros
   split : (ls : List CoreLeaf) (a : Arrow) → IsIn a (all_arrows_at binder is_live ls) → IsIn a (target_arrows binder (core_targets ls)) ⊎ IsIn a (macro_arrows binder is_live ls)
   split [] a h = absurd h
   split (live.Binds b ∷ ls) a h = split ls a h
-  split (live.Uses t ∷ ls) a h = by_case (split ls a) (in_either a (of_target binder t) (all_arrows_at binder is_live ls) h)
-    where
-      by_case : (IsIn a (all_arrows_at binder is_live ls) → IsIn a (target_arrows binder (core_targets ls)) ⊎ IsIn a (macro_arrows binder is_live ls)) → IsIn a (of_target binder t) ⊎ IsIn a (all_arrows_at binder is_live ls) →
-          IsIn a (of_target binder t ++ target_arrows binder (core_targets ls)) ⊎ IsIn a (macro_arrows binder is_live ls)
-      by_case f (inl k) = inl (in_left a (of_target binder t) (target_arrows binder (core_targets ls)) k)
-      by_case f (inr k) = behind (f k)
-        where
-          behind : IsIn a (target_arrows binder (core_targets ls)) ⊎ IsIn a (macro_arrows binder is_live ls) → IsIn a (of_target binder t ++ target_arrows binder (core_targets ls)) ⊎ IsIn a (macro_arrows binder is_live ls)
-          behind (inl m) = inl (in_right a (of_target binder t) (target_arrows binder (core_targets ls)) m)
-          behind (inr m) = inr m
-  split (live.Assigns t ∷ ls) a h = split (live.Uses t ∷ ls) a h
+  split (live.Uses t ∷ ls) a h = split_use t ls a (split ls a) (in_either a (of_target binder t) (all_arrows_at binder is_live ls) h)
+  split (live.Assigns t ∷ ls) a h = split_use t ls a (split ls a) (in_either a (of_target binder t) (all_arrows_at binder is_live ls) h)
   split (live.Quotes o ∷ ls) a h = split ls a h
   split (live.Defines m ∷ ls) a h =
       by_case (split ls a) (in_either a (rule_arrows m.rules m.rules.rules ++ leaf_arrows binder is_live m.leaves) (all_arrows_at binder is_live ls) h)
@@ -74,13 +79,8 @@ module _ (binder : Meaning → Option Occ) (is_live : Option Occ → Bool) where
   of_uses : (ls : List CoreLeaf) (a : Arrow) → IsIn a (target_arrows binder (core_targets ls)) → IsIn a (all_arrows_at binder is_live ls)
   of_uses [] a h = absurd h
   of_uses (live.Binds b ∷ ls) a h = of_uses ls a h
-  of_uses (live.Uses t ∷ ls) a h = by_case (of_uses ls a) (in_either a (of_target binder t) (target_arrows binder (core_targets ls)) h)
-    where
-      by_case : (IsIn a (target_arrows binder (core_targets ls)) → IsIn a (all_arrows_at binder is_live ls)) → IsIn a (of_target binder t) ⊎ IsIn a (target_arrows binder (core_targets ls)) →
-          IsIn a (of_target binder t ++ all_arrows_at binder is_live ls)
-      by_case f (inl k) = in_left a (of_target binder t) (all_arrows_at binder is_live ls) k
-      by_case f (inr k) = in_right a (of_target binder t) (all_arrows_at binder is_live ls) (f k)
-  of_uses (live.Assigns t ∷ ls) a h = of_uses (live.Uses t ∷ ls) a h
+  of_uses (live.Uses t ∷ ls) a h = use_there t ls a (of_uses ls a) (in_either a (of_target binder t) (target_arrows binder (core_targets ls)) h)
+  of_uses (live.Assigns t ∷ ls) a h = use_there t ls a (of_uses ls a) (in_either a (of_target binder t) (target_arrows binder (core_targets ls)) h)
   of_uses (live.Quotes o ∷ ls) a h = of_uses ls a h
   of_uses (live.Defines m ∷ ls) a h = in_right a (rule_arrows m.rules m.rules.rules ++ leaf_arrows binder is_live m.leaves) (all_arrows_at binder is_live ls) (of_uses ls a h)
 

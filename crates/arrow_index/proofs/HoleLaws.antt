@@ -31,7 +31,7 @@ none_next n [] h = refl
 none_next n (p ∷ ps) h = let far : n + 1 ≤ p = h.0 in grind (arith, nat_tests)
 
 mutual
-  pub from_in : {A : Type 0} (n : ℕ) (h : Tree (Option A)) → AllFrom n (places_in hole_weight n h)
+  pub from_in : (n : ℕ) (h : Tree (Option (List ℕ))) → AllFrom n (places_in hole_weight n h)
   from_in n (name None o) = (omega arith, tt)
   from_in n (name (Some i) o) = tt
   from_in n (atom a o) = tt
@@ -40,17 +40,17 @@ mutual
       (from_less n (n + 1 + weights hole_weight ts) (places_behind hole_weight (n + 1 + weights hole_weight ts) tail) (omega arith) (from_behind (n + 1 + weights hole_weight ts) tail))
   from_in n (vector ts o) = from_less n (n + 1) (places_among hole_weight (n + 1) ts) (omega arith) (from_among (n + 1) ts)
 
-  pub from_among : {A : Type 0} (n : ℕ) (ts : Trees (Option A)) → AllFrom n (places_among hole_weight n ts)
+  pub from_among : (n : ℕ) (ts : Trees (Option (List ℕ))) → AllFrom n (places_among hole_weight n ts)
   from_among n no_trees = tt
   from_among n (tree t ts) =
       from_both n (places_in hole_weight n t) (places_among hole_weight (n + weight hole_weight t) ts) (from_in n t)
       (from_less n (n + weight hole_weight t) (places_among hole_weight (n + weight hole_weight t) ts) (omega arith) (from_among (n + weight hole_weight t) ts))
 
-  pub from_behind : {A : Type 0} (n : ℕ) (tail : Tail (Option A)) → AllFrom n (places_behind hole_weight n tail)
+  pub from_behind : (n : ℕ) (tail : Tail (Option (List ℕ))) → AllFrom n (places_behind hole_weight n tail)
   from_behind n proper = tt
   from_behind n (dotted t) = from_in n t
 
-abbrev pub is_hole : {A : Type 0} → Tree (Option A) → Bool
+abbrev pub is_hole : Tree (Option (List ℕ)) → Bool
 is_hole (name None o) = true
 is_hole (name (Some i) o) = false
 is_hole (atom a o) = false
@@ -58,7 +58,7 @@ is_hole (list ts tail o) = false
 is_hole (vector ts o) = false
 
 -- a hole is next just where the datum is one
-pub hole_next : {A : Type 0} (n : ℕ) (h : Tree (Option A)) (rest : List ℕ) → AllFrom (n + weight hole_weight h) rest → is_next (places_in hole_weight n h ++ rest) n ≡ is_hole h
+pub hole_next : (n : ℕ) (h : Tree (Option (List ℕ))) (rest : List ℕ) → AllFrom (n + weight hole_weight h) rest → is_next (places_in hole_weight n h ++ rest) n ≡ is_hole h
 hole_next n (name None o) rest g = grind (arith, nat_tests)
 hole_next n (name (Some i) o) rest g = none_next n rest g
 hole_next n (atom a o) rest g = none_next n rest g
@@ -72,47 +72,47 @@ hole_next n (vector ts o) rest g =
 
 -- ---- what each kind leaves
 
-pub record Hole {A : Type 0} (h : Tree (Option A)) (n : ℕ) (rest : List ℕ) : Type 0 where
+pub record Hole (h : Tree (Option (List ℕ))) (n : ℕ) (rest : List ℕ) : Type 0 where
   pub occs : occs_in h ≡ []
   pub past : behind_first (places_in hole_weight n h ++ rest) ≡ rest
   pub none : weight hole_weight h ≡ 0
 
-pub a_hole : {A : Type 0} (h : Tree (Option A)) (n : ℕ) (rest : List ℕ) → is_hole h ≡ true → Hole h n rest
+pub a_hole : (h : Tree (Option (List ℕ))) (n : ℕ) (rest : List ℕ) → is_hole h ≡ true → Hole h n rest
 a_hole (name None o) n rest e = record { occs = refl; past = refl; none = refl }
 a_hole (name (Some i) o) n rest e = absurd cc
 a_hole (atom a o) n rest e = absurd cc
 a_hole (list ts tail o) n rest e = absurd cc
 a_hole (vector ts o) n rest e = absurd cc
 
-pub record Leaf {A : Type 0} (h : Tree (Option A)) (n : ℕ) (os : List (Option Occ)) : Type 0 where
+pub record Leaf (h : Tree (Option (List ℕ))) (n : ℕ) (os : List (Option Occ)) : Type 0 where
   pub occs : occs_in h ≡ os
   pub none : places_in hole_weight n h ≡ []
   pub one : weight hole_weight h ≡ 1
 
-pub a_name : {B : Type 0} (f : Identifier → B) (t : Tree Identifier) (h : Tree (Option B)) (n : ℕ) (i : Identifier) (o : Option Occ) → HasHoles f t h → t ≡ name i o → is_hole h ≡ false → Leaf h n (tree_place t ∷ [])
+pub a_name : (f : Identifier → List ℕ) (t : Tree Identifier) (h : Tree (Option (List ℕ))) (n : ℕ) (i : Identifier) (o : Option Occ) → HasHoles f t h → t ≡ name i o → is_hole h ≡ false → Leaf h n (tree_place t ∷ [])
 a_name f t (name None p) n i o g e not_hole = absurd cc
 a_name f t (name (Some b) p) n i o g e not_hole = record { occs = ap (λ q. q ∷ []) (sym (ap tree_place g.1)); none = refl; one = refl }
 a_name f t (atom a p) n i o g e not_hole = absurd cc
 a_name f t (list us end p) n i o g e not_hole = let k = g.2 in absurd cc
 a_name f t (vector us p) n i o g e not_hole = let k = g.1 in absurd cc
 
-pub an_atom : {B : Type 0} (f : Identifier → B) (t : Tree Identifier) (h : Tree (Option B)) (n : ℕ) (a : Atom) (o : Option Occ) → HasHoles f t h → t ≡ atom a o → is_hole h ≡ false → Leaf h n []
+pub an_atom : (f : Identifier → List ℕ) (t : Tree Identifier) (h : Tree (Option (List ℕ))) (n : ℕ) (a : Atom) (o : Option Occ) → HasHoles f t h → t ≡ atom a o → is_hole h ≡ false → Leaf h n []
 an_atom f t (name None p) n a o g e not_hole = absurd cc
 an_atom f t (name (Some b) p) n a o g e not_hole = let k = g.1 in absurd cc
 an_atom f t (atom b p) n a o g e not_hole = record { occs = refl; none = refl; one = refl }
 an_atom f t (list us end p) n a o g e not_hole = let k = g.2 in absurd cc
 an_atom f t (vector us p) n a o g e not_hole = let k = g.1 in absurd cc
 
-pub record Row {A B : Type 0} (f : A → B) (h : Tree (Option B)) (ts : Trees A) (tail : Tail A) (n : ℕ) : Type 0 where
-  pub parts : Trees (Option B)
-  pub last : Tail (Option B)
+pub record Row {A : Type 0} (f : A → List ℕ) (h : Tree (Option (List ℕ))) (ts : Trees A) (tail : Tail A) (n : ℕ) : Type 0 where
+  pub parts : Trees (Option (List ℕ))
+  pub last : Tail (Option (List ℕ))
   pub like : AreLike (FillsHole f) ts parts
   pub tail_like : IsTailLike (FillsHole f) tail last
   pub occs : occs_in h ≡ occs_among parts ++ occs_behind last
   pub places : places_in hole_weight n h ≡ places_among hole_weight (n + 1) parts ++ places_behind hole_weight (n + 1 + weights hole_weight parts) last
   pub many : weight hole_weight h ≡ weights hole_weight parts + tail_weight hole_weight last + 1
 
-pub a_list : {B : Type 0} (f : Identifier → B) (t : Tree Identifier) (h : Tree (Option B)) (n : ℕ) (ts : Trees Identifier) (tail : Tail Identifier) (o : Option Occ) → HasHoles f t h → t ≡ list ts tail o → is_hole h ≡ false → Row f h ts tail n
+pub a_list : (f : Identifier → List ℕ) (t : Tree Identifier) (h : Tree (Option (List ℕ))) (n : ℕ) (ts : Trees Identifier) (tail : Tail Identifier) (o : Option Occ) → HasHoles f t h → t ≡ list ts tail o → is_hole h ≡ false → Row f h ts tail n
 a_list f t (name None p) n ts tail o g e not_hole = absurd cc
 a_list f t (name (Some b) p) n ts tail o g e not_hole = let k = g.1 in absurd cc
 a_list f t (atom b p) n ts tail o g e not_hole = absurd cc
@@ -135,7 +135,7 @@ vector_parts (atom a o) = no_trees
 vector_parts (list ts tail o) = no_trees
 vector_parts (vector ts o) = ts
 
-pub a_vector : {B : Type 0} (f : Identifier → B) (t : Tree Identifier) (h : Tree (Option B)) (n : ℕ) (ts : Trees Identifier) (o : Option Occ) → HasHoles f t h → t ≡ vector ts o → is_hole h ≡ false → Row f h ts proper n
+pub a_vector : (f : Identifier → List ℕ) (t : Tree Identifier) (h : Tree (Option (List ℕ))) (n : ℕ) (ts : Trees Identifier) (o : Option Occ) → HasHoles f t h → t ≡ vector ts o → is_hole h ≡ false → Row f h ts proper n
 a_vector f t (name None p) n ts o g e not_hole = absurd cc
 a_vector f t (name (Some b) p) n ts o g e not_hole = let k = g.1 in absurd cc
 a_vector f t (atom b p) n ts o g e not_hole = absurd cc
@@ -170,7 +170,7 @@ behind_step (suc k) no_trees u vs e = absurd cc
 behind_step (suc k) (tree w ws) u vs e = let next : suc k + 1 ≡ suc (k + 1) = omega arith in ap (λ j. behind j (tree w ws)) next ∙ behind_step k ws u vs e
 
 -- the walk over a row with holes up to a part: the names before it were added, and the holes from there on are left
-pub record Walked {A B : Type 0} (f : A → B) (old new : List (Option Occ)) (left : List ℕ) (nodes n k : ℕ) (ts : Trees A) (us : Trees (Option B)) (last : Tail (Option B)) (rest : List ℕ) : Type 0 where
+pub record Walked {A : Type 0} (f : A → List ℕ) (old new : List (Option Occ)) (left : List ℕ) (nodes n k : ℕ) (ts : Trees A) (us : Trees (Option (List ℕ))) (last : Tail (Option (List ℕ))) (rest : List ℕ) : Type 0 where
   pub so_far : List (Option Occ)
   pub added : new ≡ old ++ so_far
   pub whole : so_far ++ occs_among (behind k us) ≡ occs_among us
@@ -179,16 +179,16 @@ pub record Walked {A B : Type 0} (f : A → B) (old new : List (Option Occ)) (le
   pub count : nodes + weights hole_weight (behind k us) ≡ n + weights hole_weight us
 
 -- the part at a place of a row with holes
-pub record PartAt {A B : Type 0} (f : A → B) (t : Tree A) (ts : Trees A) (k : ℕ) (us : Trees (Option B)) : Type 0 where
-  pub part : Tree (Option B)
+pub record PartAt {A : Type 0} (f : A → List ℕ) (t : Tree A) (ts : Trees A) (k : ℕ) (us : Trees (Option (List ℕ))) : Type 0 where
+  pub part : Tree (Option (List ℕ))
   pub like : HasHoles f t part
   pub split : behind k us ≡ tree part (behind (k + 1) us)
   pub more : AreLike (FillsHole f) ts (behind (k + 1) us)
 
-pub part_at : {A B : Type 0} (f : A → B) (t : Tree A) (ts row : Trees A) (k : ℕ) (us : Trees (Option B)) → row ≡ tree t ts → AreLike (FillsHole f) row (behind k us) → PartAt f t ts k us
-part_at {A = A} {B = B} f t ts row k us e h = by_rest (behind k us) refl h
+pub part_at : {A : Type 0} (f : A → List ℕ) (t : Tree A) (ts row : Trees A) (k : ℕ) (us : Trees (Option (List ℕ))) → row ≡ tree t ts → AreLike (FillsHole f) row (behind k us) → PartAt f t ts k us
+part_at {A = A} f t ts row k us e h = by_rest (behind k us) refl h
   where
-    by_rest : (vs : Trees (Option B)) → behind k us ≡ vs → AreLike (FillsHole f) row vs → PartAt f t ts k us
+    by_rest : (vs : Trees (Option (List ℕ))) → behind k us ≡ vs → AreLike (FillsHole f) row vs → PartAt f t ts k us
     by_rest no_trees q g = let z = g in absurd cc
     by_rest (tree u vs) q g =
         let same = sym g.2 ∙ e in
@@ -201,10 +201,10 @@ part_at {A = A} {B = B} f t ts row k us e h = by_rest (behind k us) refl h
         }
 
 -- what is left behind a part of a row
-abbrev pub left_of_row : {A : Type 0} → ℕ → ℕ → Trees (Option A) → Tail (Option A) → List ℕ → List ℕ
+abbrev pub left_of_row : ℕ → ℕ → Trees (Option (List ℕ)) → Tail (Option (List ℕ)) → List ℕ → List ℕ
 left_of_row m w vs last rest = (places_among hole_weight m vs ++ places_behind hole_weight w last) ++ rest
 
-pub step_at : {A : Type 0} (m : ℕ) (left : List ℕ) (row : Trees (Option A)) (u : Tree (Option A)) (vs : Trees (Option A)) (last : Tail (Option A)) (rest : List ℕ) → row ≡ tree u vs →
+pub step_at : (m : ℕ) (left : List ℕ) (row : Trees (Option (List ℕ))) (u : Tree (Option (List ℕ))) (vs : Trees (Option (List ℕ))) (last : Tail (Option (List ℕ))) (rest : List ℕ) → row ≡ tree u vs →
     left ≡ places_among hole_weight m row ++ places_behind hole_weight (m + weights hole_weight row) last ++ rest →
     left ≡ places_in hole_weight m u ++ left_of_row (m + weight hole_weight u) (m + (weight hole_weight u + weights hole_weight vs)) vs last rest
 step_at m left row u vs last rest e h =
@@ -213,14 +213,14 @@ step_at m left row u vs last rest e h =
     h ∙ ap (λ r. places_among hole_weight m r ++ places_behind hole_weight (m + weights hole_weight r) last ++ rest) e ∙ ap (λ (q : List ℕ). q ++ rest) (append_assoc (places_in hole_weight m u) X Y)
     ∙ append_assoc (places_in hole_weight m u) (X ++ Y) rest
 
-pub step_from : {A : Type 0} (m total : ℕ) (wu wv : ℕ) (vs : Trees (Option A)) (last : Tail (Option A)) (rest : List ℕ) → m + wu ≤ total → AllFrom total rest → AllFrom (m + wu) (left_of_row (m + wu) (m + (wu + wv)) vs last rest)
+pub step_from : (m total : ℕ) (wu wv : ℕ) (vs : Trees (Option (List ℕ))) (last : Tail (Option (List ℕ))) (rest : List ℕ) → m + wu ≤ total → AllFrom total rest → AllFrom (m + wu) (left_of_row (m + wu) (m + (wu + wv)) vs last rest)
 step_from m total wu wv vs last rest le g =
     from_both (m + wu) (places_among hole_weight (m + wu) vs ++ places_behind hole_weight (m + (wu + wv)) last) rest
     (from_both (m + wu) (places_among hole_weight (m + wu) vs) (places_behind hole_weight (m + (wu + wv)) last) (from_among (m + wu) vs)
       (from_less (m + wu) (m + (wu + wv)) (places_behind hole_weight (m + (wu + wv)) last) (omega arith) (from_behind (m + (wu + wv)) last)))
     (from_less (m + wu) total rest le g)
 
-pub walked_more : {A B : Type 0} (f : A → B) (old mid new : List (Option Occ)) (left left' : List ℕ) (m m' n k : ℕ) (ts : Trees A) (us : Trees (Option B)) (last : Tail (Option B)) (rest : List ℕ) (t : Tree A) (p : PartAt f t (behind (k + 1) ts) k us) →
+pub walked_more : {A : Type 0} (f : A → List ℕ) (old mid new : List (Option Occ)) (left left' : List ℕ) (m m' n k : ℕ) (ts : Trees A) (us : Trees (Option (List ℕ))) (last : Tail (Option (List ℕ))) (rest : List ℕ) (t : Tree A) (p : PartAt f t (behind (k + 1) ts) k us) →
     Walked f old mid left m n k ts us last rest → new ≡ mid ++ occs_in p.part →
     left' ≡ left_of_row (m + weight hole_weight p.part) (m + (weight hole_weight p.part + weights hole_weight (behind (k + 1) us))) (behind (k + 1) us) last rest → m' ≡ m + weight hole_weight p.part →
     Walked f old new left' m' n (k + 1) ts us last rest
@@ -238,9 +238,9 @@ walked_more f old mid new left left' m m' n k ts us last rest t p w names at cou
       count = omega (arith, w.count, weighs, count);
     }
 
-pub walked_all : {A B : Type 0} (f : A → B) (old new : List (Option Occ)) (left : List ℕ) (m n k : ℕ) (ts : Trees A) (us : Trees (Option B)) (last : Tail (Option B)) (rest : List ℕ) → Walked f old new left m n k ts us last rest → behind k ts ≡ no_trees →
+pub walked_all : {A : Type 0} (f : A → List ℕ) (old new : List (Option Occ)) (left : List ℕ) (m n k : ℕ) (ts : Trees A) (us : Trees (Option (List ℕ))) (last : Tail (Option (List ℕ))) (rest : List ℕ) → Walked f old new left m n k ts us last rest → behind k ts ≡ no_trees →
     (new ≡ old ++ occs_among us) × (left ≡ places_behind hole_weight m last ++ rest) × (m ≡ n + weights hole_weight us)
-walked_all {B = B} f old new left m n k ts us last rest w e =
+walked_all f old new left m n k ts us last rest w e =
     let none = no_row (behind k us) (subst (λ x. AreLike (FillsHole f) x (behind k us)) e w.like) in
     let so : w.so_far ≡ occs_among us = sym (append-nil w.so_far) ∙ ap (λ q. w.so_far ++ occs_among q) (sym none) ∙ w.whole in
     let weighs : weights hole_weight (behind k us) ≡ 0 = ap (weights hole_weight) none in
@@ -248,18 +248,18 @@ walked_all {B = B} f old new left m n k ts us last rest w e =
       w.holes ∙ (λ j. places_among hole_weight m (none j) ++ places_behind hole_weight (m + weights hole_weight (behind k us)) last ++ rest) ∙ ap (λ x. places_behind hole_weight x last ++ rest) (omega (arith, weighs)),
       omega (arith, w.count, weighs))
   where
-    no_row : (vs : Trees (Option B)) → AreLike (FillsHole f) no_trees vs → vs ≡ no_trees
+    no_row : (vs : Trees (Option (List ℕ))) → AreLike (FillsHole f) no_trees vs → vs ≡ no_trees
     no_row no_trees g = refl
     no_row (tree v vs) g = let z = g.2 in absurd cc
 
 -- ---- tails
 
-pub no_tail : {A B : Type 0} (f : A → B) (tail : Tail A) (last : Tail (Option B)) → tail ≡ proper → IsTailLike (FillsHole f) tail last → last ≡ proper
+pub no_tail : {A : Type 0} (f : A → List ℕ) (tail : Tail A) (last : Tail (Option (List ℕ))) → tail ≡ proper → IsTailLike (FillsHole f) tail last → last ≡ proper
 no_tail f tail proper e g = refl
 no_tail f tail (dotted u) e g = let z = g.1 in absurd cc
 
-pub record TailAt {A B : Type 0} (f : A → B) (t : Tree A) (last : Tail (Option B)) : Type 0 where
-  pub part : Tree (Option B)
+pub record TailAt {A : Type 0} (f : A → List ℕ) (t : Tree A) (last : Tail (Option (List ℕ))) : Type 0 where
+  pub part : Tree (Option (List ℕ))
   pub is : last ≡ dotted part
   pub like : HasHoles f t part
 
@@ -267,24 +267,24 @@ abbrev tail_tree : {A : Type 0} → Tree A → Tail A → Tree A
 tail_tree d proper = d
 tail_tree d (dotted t) = t
 
-pub a_tail : {A B : Type 0} (f : A → B) (tail : Tail A) (t : Tree A) (last : Tail (Option B)) → tail ≡ dotted t → IsTailLike (FillsHole f) tail last → TailAt f t last
+pub a_tail : {A : Type 0} (f : A → List ℕ) (tail : Tail A) (t : Tree A) (last : Tail (Option (List ℕ))) → tail ≡ dotted t → IsTailLike (FillsHole f) tail last → TailAt f t last
 a_tail f tail t proper e g = let z = g in absurd cc
 a_tail f tail t (dotted u) e g = record { part = u; is = refl; like = subst (λ x. HasHoles f x u) (ap (tail_tree t) (sym g.1 ∙ e)) g.2 }
 
 -- ---- how many nodes stand outside of holes
 
 mutual
-  pub fewer : {A B : Type 0} (f : A → B) (t : Tree A) (h : Tree (Option B)) → HasHoles f t h → weight hole_weight h ≤ tree_size t
+  pub fewer : {A : Type 0} (f : A → List ℕ) (t : Tree A) (h : Tree (Option (List ℕ))) → HasHoles f t h → weight hole_weight h ≤ tree_size t
   fewer f t (name None o) g = omega arith
   fewer f t (name (Some b) o) g = let e = ap tree_size g.1 in omega (arith, e)
   fewer f t (atom a o) g = let e = ap tree_size g in omega (arith, e)
   fewer f t (list us end o) g = let e = ap tree_size g.2 in omega (arith, e, all_fewer f g.0 us g.3, tail_fewer f g.1 end g.4)
   fewer f t (vector us o) g = let e = ap tree_size g.1 in omega (arith, e, all_fewer f g.0 us g.2)
 
-  all_fewer : {A B : Type 0} (f : A → B) (ts : Trees A) (us : Trees (Option B)) → AreLike (FillsHole f) ts us → weights hole_weight us ≤ trees_size ts
+  all_fewer : {A : Type 0} (f : A → List ℕ) (ts : Trees A) (us : Trees (Option (List ℕ))) → AreLike (FillsHole f) ts us → weights hole_weight us ≤ trees_size ts
   all_fewer f ts no_trees g = omega arith
   all_fewer f ts (tree u us) g = let e = ap trees_size g.2 in omega (arith, e, fewer f g.0 u g.3, all_fewer f g.1 us g.4)
 
-  tail_fewer : {A B : Type 0} (f : A → B) (tail : Tail A) (last : Tail (Option B)) → IsTailLike (FillsHole f) tail last → tail_weight hole_weight last ≤ tail_size tail
+  tail_fewer : {A : Type 0} (f : A → List ℕ) (tail : Tail A) (last : Tail (Option (List ℕ))) → IsTailLike (FillsHole f) tail last → tail_weight hole_weight last ≤ tail_size tail
   tail_fewer f tail proper g = omega arith
   tail_fewer f tail (dotted u) g = let e = ap tail_size g.1 in omega (arith, e, fewer f g.0 u g.2)

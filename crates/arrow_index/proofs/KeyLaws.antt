@@ -15,7 +15,7 @@ use Rattle.arrow_index.specs.declared.sight.PlacedLeaf.{PlacedLeaf}
 use Rattle.arrow_index.specs.Placed.{occ_cmp, local_cmp, global_cmp, form_cmp, same_local, same_global, first_of, PlacedSeen, placed_of, bound_in, bound_or, local_in}
 use Rattle.arrow_index.specs.Variables.{place_among}
 
-both_equal : (a b : Ordering) → is_eq (ordering_then a b) ≡ (is_eq a && is_eq b)
+pub both_equal : (a b : Ordering) → is_eq (ordering_then a b) ≡ (is_eq a && is_eq b)
 both_equal Less b = refl
 both_equal Equal b = refl
 both_equal Greater b = refl
@@ -35,11 +35,11 @@ globals_equal a b = both_equal (nat_cmp a.unit b.unit) (nat_cmp a.ident b.ident)
 pub one_number : (a b : ℕ) → (a == b) ≡ true → a ≡ b
 one_number a b h = grind (arith, nat_tests)
 
-left : (a b : Bool) → (a && b) ≡ true → a ≡ true
+pub left : (a b : Bool) → (a && b) ≡ true → a ≡ true
 left true b h = refl
 left false b h = absurd cc
 
-right : (a b : Bool) → (a && b) ≡ true → b ≡ true
+pub right : (a b : Bool) → (a && b) ≡ true → b ≡ true
 right true b h = h
 right false b h = absurd cc
 

@@ -14,3 +14,5 @@ pub mod KeyLaws
 pub mod ArrowLaws
 pub mod StepLaws
 pub mod HoleLaws
+pub mod Orders
+pub mod SightLaws

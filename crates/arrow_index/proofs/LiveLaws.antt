@@ -1,6 +1,9 @@
 -- What is live, by the leaves, the uses and the names of the code.
 use Rattle.std.proofs.Common.{◌≡◌, ◌⊎◌, inl, inr, ℕ, ◌+◌, ◌<◌, List, [], ◌∷◌, ◌++◌, map, take, length, get_or, Bool, true, false, Option, Some, None, refl, sym, ap, ◌∙◌, subst, append_assoc, arith}
 use Rattle.std.specs.Prelude.{◌||◌, ◌&&◌}
+use Rattle.std.specs.BTreeSet.{BTreeSet, contains}
+use Rattle.std.specs.BTreeMap.{is_at}
+use Rattle.std.specs.List.{list_any}
 use Rattle.std.proofs.lemmas.List.{append-nil, map-append, take_more}
 use Rattle.scheme_model.specs.declared.Occ.{Occ}
 use Rattle.scheme_model.specs.Trees.{Tree, name, atom, list, vector, Trees, no_trees, tree, Tail, proper, dotted, map_tree, map_trees, map_tail}
@@ -19,7 +22,7 @@ use Rattle.core_tree.specs.declared.units.NameUse.{NameUse}
 use Rattle.arrow_index.specs.Members.{IsIn, Tells}
 use Rattle.arrow_index.specs.Holes.{occs_in, occs_among, occs_behind}
 use Rattle.arrow_index.specs.Names.{names_in, names_among, names_behind}
-use Rattle.arrow_index.specs.Placed.{Use, IsUseOf, PlacedSeen, AreAllSeen}
+use Rattle.arrow_index.specs.Placed.{occ_cmp, Use, IsUseOf, PlacedSeen, AreAllSeen}
 use Rattle.arrow_index.specs.Sights.{name_at, use_at, IsNameOf}
 
 or_assoc : (a b c : Bool) → ((a || b) || c) ≡ (a || (b || c))
@@ -130,7 +133,7 @@ pub record Passed (work : Work) (left : List PlacedSeen) (ls : List CoreLeaf) (Q
 -- ---- names outside of holes
 
 mutual
-  holed_in : {A : Type 0} (o : Occ) (t : Tree (Option A)) → any (leaf_at o) (name_places no_hole t) ≡ any (is_occ o) (occs_in t)
+  holed_in : (o : Occ) (t : Tree (Option (List ℕ))) → any (leaf_at o) (name_places no_hole t) ≡ any (is_occ o) (occs_in t)
   holed_in o (name None p) = refl
   holed_in o (name (Some i) p) = refl
   holed_in o (atom a p) = refl
@@ -138,11 +141,11 @@ mutual
       any-append (leaf_at o) (name_places_all no_hole ts) (name_places_tail no_hole tail) ∙ (λ j. holed_among o ts j || holed_behind o tail j) ∙ sym (any-append (is_occ o) (occs_among ts) (occs_behind tail))
   holed_in o (vector ts p) = holed_among o ts
 
-  holed_among : {A : Type 0} (o : Occ) (ts : Trees (Option A)) → any (leaf_at o) (name_places_all no_hole ts) ≡ any (is_occ o) (occs_among ts)
+  holed_among : (o : Occ) (ts : Trees (Option (List ℕ))) → any (leaf_at o) (name_places_all no_hole ts) ≡ any (is_occ o) (occs_among ts)
   holed_among o no_trees = refl
   holed_among o (tree t ts) = any-append (leaf_at o) (name_places no_hole t) (name_places_all no_hole ts) ∙ (λ j. holed_in o t j || holed_among o ts j) ∙ sym (any-append (is_occ o) (occs_in t) (occs_among ts))
 
-  holed_behind : {A : Type 0} (o : Occ) (tail : Tail (Option A)) → any (leaf_at o) (name_places_tail no_hole tail) ≡ any (is_occ o) (occs_behind tail)
+  holed_behind : (o : Occ) (tail : Tail (Option (List ℕ))) → any (leaf_at o) (name_places_tail no_hole tail) ≡ any (is_occ o) (occs_behind tail)
   holed_behind o proper = refl
   holed_behind o (dotted t) = holed_in o t
 
@@ -150,10 +153,16 @@ any-map : {A B : Type 0} (f : B → Bool) (g : A → B) (xs : List A) → any f 
 any-map f g [] = refl
 any-map f g (x ∷ xs) = ap (λ b. f (g x) || b) (any-map f g xs)
 
-pub holed_law : {A : Type 0} (o : Occ) (t : Tree (Option A)) (ns : List code.Named) → map (λ (n : code.Named). n.occ) ns ≡ occs_in t → any (λ (n : code.Named). is_occ o n.occ) ns ≡ any (leaf_at o) (name_places no_hole t)
+pub holed_law : (o : Occ) (t : Tree (Option (List ℕ))) (ns : List code.Named) → map (λ (n : code.Named). n.occ) ns ≡ occs_in t → any (λ (n : code.Named). is_occ o n.occ) ns ≡ any (leaf_at o) (name_places no_hole t)
 holed_law o t ns h = sym (any-map (is_occ o) (λ (n : code.Named). n.occ) ns) ∙ ap (any (is_occ o)) h ∙ sym (holed_in o t)
 
 -- ---- sets that grow
 
 pub grows_both : (old mid new f g h : Bool) → mid ≡ (old || f) → new ≡ (mid || g) → h ≡ (f || g) → new ≡ (old || h)
 grows_both old mid new f g h p q r = q ∙ ap (λ b. b || g) p ∙ or_assoc old f g ∙ ap (λ b. old || b) (sym r)
+
+pub contains_none : (s : BTreeSet Occ) (o : Occ) → s.keys ≡ [] → contains occ_cmp s o ≡ false
+contains_none s o h = ap (list_any (is_at (occ_cmp o))) h
+
+pub grows_thrice : (none one two three f g h : Bool) → none ≡ false → one ≡ (none || f) → two ≡ (one || g) → three ≡ (two || h) → three ≡ ((f || g) || h)
+grows_thrice none one two three f g h z p q r = r ∙ ap (λ b. b || h) (q ∙ ap (λ b. b || g) (p ∙ ap (λ b. b || f) z))

@@ -49,7 +49,7 @@ pub blank_seen : (c : UnitForm) → IsBlank c → unless_fault c.fault (items_se
 blank_seen c h = fault_none c.fault (items_seen c.items) h.fault ∙ ap items_seen h.items
 
 result_leaves : (work : Work) (unit form : ℕ) (c : UnitForm) (r : Result Parts Broken) (met : Counted) → IsResult work unit form c r met → AreSeen work unit form (unless_fault c.fault (items_seen c.items)) (form_leaves r)
-result_leaves work unit form c (Err e) met h = fault_some c.fault h.0 (items_seen c.items) h.1
+result_leaves work unit form c (Err e) met h = subst (λ (q : List Seen). AreSeen work unit form q []) (sym (fault_some c.fault h.0 (items_seen c.items) h.1)) refl
 result_leaves work unit form c (Ok ps) met h =
     subst (λ (q : List Seen). AreSeen work unit form q (leaves_of_parts ps)) (items_parts c.items ∙ sym (fault_none c.fault (items_seen c.items) h.whole))
     (parts_leaves work unit form false (map (λ (i : ExpandedItem). i.part) c.items) ps h.parts h.levels)

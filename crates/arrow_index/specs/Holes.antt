@@ -7,18 +7,18 @@ use Rattle.arrow_index.specs.declared.holes.Holes.{Holes}
 
 -- the places of the names outside of holes, from left to right
 abbrev mutual
-  pub occs_in : {A : Type 0} → Tree (Option A) → List (Option Occ)
+  pub occs_in : Tree (Option (List ℕ)) → List (Option Occ)
   occs_in (name None o) = []
   occs_in (name (Some i) o) = o ∷ []
   occs_in (atom a o) = []
   occs_in (list ts tail o) = occs_among ts ++ occs_behind tail
   occs_in (vector ts o) = occs_among ts
 
-  pub occs_among : {A : Type 0} → Trees (Option A) → List (Option Occ)
+  pub occs_among : Trees (Option (List ℕ)) → List (Option Occ)
   occs_among no_trees = []
   occs_among (tree t ts) = occs_in t ++ occs_among ts
 
-  pub occs_behind : {A : Type 0} → Tail (Option A) → List (Option Occ)
+  pub occs_behind : Tail (Option (List ℕ)) → List (Option Occ)
   occs_behind proper = []
   occs_behind (dotted t) = occs_in t
 

@@ -73,7 +73,7 @@ pub struct Sight<'a> {
 }
 
 impl<'a> Sight<'a> {
-    ghost use Rattle.arrow_index.specs.Placed.{local_cmp, place_in};
+    ghost use Rattle.arrow_index.specs.Placed.{local_cmp, global_cmp, place_in};
     ghost use Rattle.arrow_index.specs.Sights.{Sees, SeesProgram};
 
     /// What a program has.
@@ -107,6 +107,16 @@ impl<'a> Sight<'a> {
         }
     }
 
+    /// Where what a unit defines under an identifier stands.
+    pub fn global_at(&self, unit: u32, ident: IdNo) -> Option<Occ>
+        ensures { result ≡ place_in (get global_cmp self.now.definitions (record { unit = unit; ident = ident })) }
+    {
+        match self.definitions.get(&GlobalNo { unit, ident }) {
+            None => None,
+            Some(place) => *place,
+        }
+    }
+
     /// Where what binds a meaning stands. Locals are those of the form.
     pub fn binder_of(&self, at: FormNo, meaning: Meaning) -> Option<Occ>
         ensures { (work : AnyWork) (leaves : List CoreLeaf) (keywords : List ModelTarget) (names : List ModelName) (table : Table) (m : ModelMeaning) →
@@ -114,10 +124,7 @@ impl<'a> Sight<'a> {
     {
         match meaning {
             Meaning::Local(count) => self.local_at(at, count),
-            Meaning::Global { unit, ident } => match self.definitions.get(&GlobalNo { unit, ident }) {
-                None => None,
-                Some(place) => *place,
-            },
+            Meaning::Global { unit, ident } => self.global_at(unit, ident),
             Meaning::Standard(_) => None,
             Meaning::Free(_) => None,
         }

@@ -32,8 +32,8 @@ returns-in_ok-add_live-in-Uses c = λ ls is o.
         elim at.1 as (λ q. is_occ o m.occ ≡ any (leaf_at o) ls) [ inl e ↦ sym (any_one (leaf_at o) (live.Uses m)) ∙ ap (any (leaf_at o)) (sym e) | inr e ↦ sym (any_one (leaf_at o) (live.Assigns m)) ∙ ap (any (leaf_at o)) (sym e) ] in
     c.in_ok-add_live-in-Uses.ensures o ∙ ap (λ (b : Bool). old || b) (ap (is_occ o) at.2.place ∙ here)
 
-pub names_of-names-requires : goal.names_of-names-requires
-names_of-names-requires c =
+pub names_of-requires : goal.names_of-requires
+names_of-requires c =
     let l = c.args.leaf.now in
     let w = c.args.work.now in
     let at = subst (λ (x : Leaf). IsSeen w l.at.unit l.at.form (seen_of x) c.requires.0) c.in-Quoted.is c.requires.1 in
@@ -45,12 +45,12 @@ returns-in_ok-add_live_names-in-Quoted c = λ ls is o.
     let w = c.args.work.now in
     let at = subst (λ (x : Leaf). IsSeen w l.at.unit l.at.form (seen_of x) ls) c.in-Quoted.is is in
     let old = contains occ_cmp c.args.live.now o in
-    let law = quoted_law w.symbols symbol_of o at.0 c.in_ok-names.names.items (c.in_ok-names.ensures at.0 at.1) in
+    let law = quoted_law w.symbols symbol_of o at.0 c.in_ok-names-in-Quoted.names.items (c.in_ok-names-in-Quoted.ensures at.0 at.1) in
     let seen = ap (λ (ns : List Named). any (λ (n : Named). is_occ o n.occ) ns) c.as_slice.ensures.value in
     c.in_ok-add_live_names-in-Quoted.ensures o ∙ ap (λ (b : Bool). old || b) (seen ∙ law ∙ ap (any (leaf_at o)) (sym at.2))
 
-pub outside-names-requires : goal.outside-names-requires
-outside-names-requires c =
+pub outside-requires : goal.outside-requires
+outside-requires c =
     let l = c.args.leaf.now in
     let w = c.args.work.now in
     let at = subst (λ (x : Leaf). IsSeen w l.at.unit l.at.form (seen_of x) c.requires.0) c.in-Holed.is c.requires.1 in

@@ -7,7 +7,14 @@ use Rattle.arrow_index.proofs.AddLaws.{adds_none, adds_same}
 use Rattle.arrow_index.proofs.variables.add_pattern.Goals as goal
 
 pub add_row-requires : goal.add_row-requires
-add_row-requires c = ?
+add_row-requires c =
+    let w = c.args.work.now in
+    let s = c.requires in
+    let d = c.depth-left.ensures s.0 s.1 in
+    let l = c.in-List.ensures.look s.0 s.1 in
+    let p = list_parts_within w c.depth-left.result s.0 c.in-List.items.now l.0 l.1 l.2 (omega arith) l.3 l.4 in
+    let e = end_within w c.depth-left.result s.0 c.in-List.end l.0 l.1 l.2 (omega arith) l.3 l.5 in
+    record { parts = (p.0, p.1, omega (arith, p.2)); tail = (e.0, e.1, omega (arith, e.2)) }
 
 pub returns-in_ok-add_row-in-List : goal.returns-in_ok-add_row-in-List
 returns-in_ok-add_row-in-List c = λ t h.

@@ -19,11 +19,11 @@ use Rattle.arrow_index.proofs.Growing.{grows_as, grows_twice, flat_next, flat_al
 use Rattle.arrow_index.proofs.VariableLaws.{variables_are, template_is}
 use Rattle.arrow_index.proofs.variables.add_rule_arrows.Goals as goal
 
-pub variables-variables-requires : goal.variables-variables-requires
-variables-variables-requires c = let m = c.requires.1 in (list (tree (name m.head m.head_place) c.requires.0.parts) c.requires.0.tail m.place, m.pattern)
+pub variables-requires : goal.variables-requires
+variables-requires c = let m = c.requires.1 in (list (tree (name m.head m.head_place) c.requires.0.parts) c.requires.0.tail m.place, m.pattern)
 
-pub names_of-names-requires : goal.names_of-names-requires
-names_of-names-requires c = (c.requires.0.template, c.requires.1.template)
+pub names_of-requires : goal.names_of-requires
+names_of-requires c = (c.requires.0.template, c.requires.1.template)
 
 pub loop-name-preserved : goal.loop-name-preserved
 loop-name-preserved c =
