@@ -16,3 +16,5 @@ pub mod StepLaws
 pub mod HoleLaws
 pub mod Orders
 pub mod SightLaws
+pub mod BinderLaws
+pub mod QueryLaws

@@ -52,7 +52,7 @@ module _ {X Y : Type 0} (P : X → Y → Type 0) where
   pub tells_as : (xs zs : List X) (ys : List Y) → zs ≡ xs → Tells P xs ys → Tells P zs ys
   tells_as xs zs ys e h = subst (λ (q : List X). Tells P q ys) (sym e) h
 
-from_reverse : {X : Type 0} (x : X) (xs : List X) → IsIn x (reverse xs) → IsIn x xs
+pub from_reverse : {X : Type 0} (x : X) (xs : List X) → IsIn x (reverse xs) → IsIn x xs
 from_reverse x [] h = h
 from_reverse x (y ∷ ys) h = by_case (from_reverse x ys) (in_either x (reverse ys) (y ∷ []) (subst (IsIn x) (reverse-append (y ∷ []) ys) h))
   where

@@ -7,3 +7,4 @@ pub mod Sights
 pub mod Index
 pub mod Variables
 pub mod Holes
+pub mod Binders

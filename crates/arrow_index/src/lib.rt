@@ -2,6 +2,7 @@
 #![tactic(auto)]
 
 pub mod arrows;
+pub mod binders;
 pub mod gathering;
 pub mod holes;
 pub mod leaves;

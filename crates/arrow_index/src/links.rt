@@ -2,7 +2,7 @@
 use crate::arrows::is_static;
 use crate::leaves::Leaf;
 use crate::pairs::{Link, LinkOrigin, Pair};
-use crate::queries::binders_in;
+use crate::binders::binders_in;
 use crate::sight::{FormNo, GlobalNo, PlacedLeaf, PlacedTarget, Sight};
 use crate::variables::add_rules_arrows;
 use core_tree::cores::{MacroDef, RuleLeaf};
