@@ -7,7 +7,7 @@ use Rattle.std.specs.Ordering.{ordering_then, ordering_reverse, is_lt, is_eq}
 use Rattle.std.specs.declared.cmp.Ordering.{Ordering}
 use Rattle.std.specs.declared.cmp.Ordering.TheVariants.{Less, Equal, Greater}
 use Rattle.std.specs.Cmp.{IsTotalOrder}
-use Rattle.std.proofs.lemmas.List.{take_all}
+use Rattle.std.proofs.lemmas.Bool.{cases_order}
 use Rattle.scheme_model.specs.declared.Occ.{Occ}
 use Rattle.scheme_model.specs.Entries.{same_occ}
 use Rattle.scheme_model.specs.ProgramArrows.{Arrow, uses_at}
@@ -67,6 +67,9 @@ after_not_same o p h = sym (occs_equal o p) ∙ ap is_eq (occ_total.antisymm o p
 
 -- ---- pairs in order
 
+below_or_same : (i j : ℕ) → i ≤ j → (i < j) ⊎ (i ≡ j)
+below_or_same i j le = elim (cases_order i j) [ inl e ↦ inr e | inr other ↦ elim other [ inl l ↦ inl l | inr g ↦ absurd (omega (arith, le, g)) ] ]
+
 -- a member that comes later isn't before
 later : (x : Pair) (xs : List Pair) (j : ℕ) (d : Pair) → AllByRecursion (λ (y : Pair). pair_cmp x y ≡ Less) xs → j < length xs → pair_cmp x (get_or xs j d) ≡ Less
 later x [] j d h lt = absurd (omega (arith, lt))
@@ -81,7 +84,7 @@ in_turn (x ∷ xs) zero (suc j) d h lt within = later x xs j d h.0 (omega (arith
 in_turn (x ∷ xs) (suc i) (suc j) d h lt within = in_turn xs i j d h.1 (omega (arith, lt)) (omega (arith, within))
 
 pub before_parts : (ps : List Pair) (b : Occ) → IsStrictlySortedBy pair_cmp ps → IsPartitionedBy (λ (p : Pair). is_lt (occ_cmp p.binder b)) ps
-before_parts ps b h i j d le lt e = by_place (omega (arith, le))
+before_parts ps b h i j d le lt e = by_place (below_or_same i j le)
   where
     by_less : (x y : Occ) → (occ_cmp x y ≡ Less) ⊎ (occ_cmp x y ≡ Equal) → is_lt (occ_cmp y b) ≡ true → is_lt (occ_cmp x b) ≡ true
     by_less x y (inl k) f = ap is_lt (occ_total.trans x y b k (less_from (occ_cmp y b) f))
@@ -95,7 +98,7 @@ before_parts ps b h i j d le lt e = by_place (omega (arith, le))
     by_place (inr k) = ap (λ (n : ℕ). is_lt (occ_cmp (get_or ps n d).binder b)) k ∙ e
 
 pub after_parts : (ps : List Pair) (b : Occ) → IsStrictlySortedBy pair_cmp ps → IsPartitionedBy (λ (p : Pair). not (is_lt (occ_cmp b p.binder))) ps
-after_parts ps b h i j d le lt e = by_place (omega (arith, le))
+after_parts ps b h i j d le lt e = by_place (below_or_same i j le)
   where
     by_test : (x y : Occ) → (occ_cmp x y ≡ Less) ⊎ (occ_cmp x y ≡ Equal) → not (is_lt (occ_cmp b y)) ≡ true → (q : Ordering) → occ_cmp b x ≡ q → not (is_lt q) ≡ true
     by_test x y k f Equal g = refl
