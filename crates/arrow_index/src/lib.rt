@@ -1,4 +1,4 @@
-//! Arrows from binders to uses, and the links by which occurrences are spelled.
+//! Arrows from binders to uses.
 #![tactic(auto)]
 
 pub mod arrows;
@@ -6,7 +6,6 @@ pub mod binders;
 pub mod gathering;
 pub mod holes;
 pub mod leaves;
-pub mod links;
 pub mod living;
 pub mod names;
 pub mod pairs;

@@ -1,5 +1,4 @@
-//! Arrows and links.
-use ls_base::Text;
+//! Arrows.
 use scheme_model::Occ;
 
 /// A binder and a use.
@@ -7,19 +6,4 @@ use scheme_model::Occ;
 pub struct Pair {
     pub binder: Occ,
     pub target: Occ,
-}
-
-/// What an occurrence takes its characters from: an occurrence, or a standard name.
-#[derive(Debug, Drop, PartialEq, Eq, PartialOrd, Ord)]
-pub enum LinkOrigin {
-    Place(Occ),
-    Standard(Text),
-}
-
-/// An occurrence takes its characters, behind a prefix, from an origin.
-#[derive(Debug, Drop, PartialEq, Eq, PartialOrd, Ord)]
-pub struct Link {
-    pub origin: LinkOrigin,
-    pub target: Occ,
-    pub prefix: Text,
 }
