@@ -1,16 +1,15 @@
 -- The arrows that the code gathers are the arrows of the definition's program.
-use Rattle.std.proofs.Common.{◌≡◌, ◌⊎◌, inl, inr, List, [], ◌∷◌, ◌++◌, Option, Some, None, Bool, refl, sym, ap, ◌∙◌, subst, append_assoc}
+use Rattle.std.proofs.Common.{◌≡◌, ◌⊎◌, inl, inr, List, [], ◌∷◌, ◌++◌, Option, Bool, refl, sym, ap, ◌∙◌, subst}
 use Rattle.std.specs.List.{flat_map}
 use Rattle.std.proofs.lemmas.Grind.{flat_map-append}
 use Rattle.scheme_model.specs.declared.Occ.{Occ}
 use Rattle.scheme_model.specs.Meaning.{Meaning}
 use Rattle.scheme_model.specs.Cores.{Target}
-use Rattle.scheme_model.specs.Substitution.{Table}
 use Rattle.scheme_model.specs.Live as live
 use Rattle.scheme_model.specs.Live.{CoreLeaf, NameUse}
-use Rattle.scheme_model.specs.ProgramArrows.{Arrow, arrow_of, target_arrows, name_arrows, core_targets, macro_arrows, rule_arrows, leaf_arrows, arrows_with, binder_of, is_live_at}
+use Rattle.scheme_model.specs.ProgramArrows.{Arrow, arrow_of, target_arrows, name_arrows, core_targets, macro_arrows, rule_arrows, leaf_arrows}
 use Rattle.arrow_index.specs.Members.{IsIn}
-use Rattle.arrow_index.specs.Variables.{arrows_at, all_arrows_at}
+use Rattle.arrow_index.specs.Variables.{all_arrows_at}
 use Rattle.arrow_index.proofs.MemberLaws.{in_left, in_right, in_either, in_flat_map, from_flat_map}
 
 abbrev of_target : (Meaning → Option Occ) → Target → List Arrow

@@ -1,5 +1,5 @@
 -- What binds in a program, by the leaves and the definitions of the code; the binders of an occurrence.
-use Rattle.std.proofs.Common.{◌≡◌, ◌⊎◌, inl, inr, ◌↔◌, ℕ, suc, ◌+◌, ◌<◌, ◌≤◌, List, [], ◌∷◌, ◌++◌, map, reverse, filter, Bool, true, false, Option, Some, None, refl, sym, ap, ◌∙◌, subst, append_assoc, arith, Contains}
+use Rattle.std.proofs.Common.{◌≡◌, ◌⊎◌, inl, inr, ◌↔◌, ℕ, suc, List, [], ◌∷◌, ◌++◌, map, reverse, filter, Bool, true, false, Some, refl, sym, ap, ◌∙◌, subst, append_assoc, arith, Contains}
 use Rattle.std.specs.Prelude.{◌==◌, ◌||◌, ◌&&◌, if◌then◌else◌}
 use Rattle.std.specs.List.{flat_map}
 use Rattle.std.specs.List.Sorted.{IsStrictlySortedBy}
@@ -8,7 +8,6 @@ use Rattle.std.proofs.lemmas.List.{append-nil, map-append}
 use Rattle.std.proofs.lemmas.Grind.{flat_map-append}
 use Rattle.scheme_model.specs.declared.Occ.{Occ}
 use Rattle.scheme_model.specs.Entries.{same_occ}
-use Rattle.scheme_model.specs.ExpansionFaults.{Named}
 use Rattle.scheme_model.specs.Ident.{Ident as Identifier}
 use Rattle.scheme_model.specs.Live as live
 use Rattle.scheme_model.specs.Live.{CoreLeaf, name_places, name_places_all, name_places_tail}
@@ -198,9 +197,10 @@ module _ (work : Work) (text : LibraryName → List ℕ) (uris : List (List ℕ)
 
   pub binders_law : (cs : List CodeUnit) (places : List Occ) (o : Occ) → UnitsStand work text uris all p 0 cs p.units → places ≡ leaf_binders (program_leaves p.units) ++ unit_places cs → IsIn o places ↔ IsIn o (binders_in p)
   binders_law cs places o h e =
-      let ls = leaf_binders (program_leaves p.units) in
-      (λ k. elim (in_either o ls (unit_places cs) (subst (IsIn o) e k)) [ inl m ↦ in_left o ls (table_binders (program_table p)) m | inr m ↦ in_right o ls (table_binders (program_table p)) (units_back 0 cs p.units o h m) ],
-        λ k. subst (IsIn o) (sym e) (elim (in_either o ls (table_binders (program_table p)) k) [ inl m ↦ in_left o ls (unit_places cs) m | inr m ↦ in_right o ls (unit_places cs) (units_there cs o h m) ]))
+      let ls = leaf_binders (program_leaves p.units) in (
+        λ k. elim (in_either o ls (unit_places cs) (subst (IsIn o) e k)) [ inl m ↦ in_left o ls (table_binders (program_table p)) m | inr m ↦ in_right o ls (table_binders (program_table p)) (units_back 0 cs p.units o h m) ],
+        λ k. subst (IsIn o) (sym e) (elim (in_either o ls (table_binders (program_table p)) k) [ inl m ↦ in_left o ls (unit_places cs) m | inr m ↦ in_right o ls (unit_places cs) (units_there cs o h m) ]),
+      )
 
 -- ---- the binders of an occurrence
 
@@ -301,13 +301,14 @@ occurrence_law all p ps places found sorted o h are e s =
     let arrows = arrows_of all p in
     record {
       sorted = s.0;
-      same = λ x.
-          (λ k. contains_from x (theirs ++ pointed o arrows) (elim (in_either x ones mine (subst (IsIn x) e (in_from x found ((s.1 x).0 k)))) [
-              | inl m ↦ in_right x theirs (pointed o arrows) (pointing_there ps arrows o x h m)
-              | inr m ↦ in_left x theirs (pointed o arrows) (itself_same places (binders_in p) o x (are o).0 m)
-            ]),
-            λ k. (s.1 x).1 (contains_from x found (subst (IsIn x) (sym e) (elim (in_either x theirs (pointed o arrows) (in_from x (theirs ++ pointed o arrows) k)) [
-              | inl m ↦ in_right x ones mine (itself_same (binders_in p) places o x (are o).1 m)
-              | inr m ↦ in_left x ones mine (pointing_back ps arrows o x h m)
-            ]))));
+      same = λ x. (
+        λ k. contains_from x (theirs ++ pointed o arrows) (elim (in_either x ones mine (subst (IsIn x) e (in_from x found ((s.1 x).0 k)))) [
+          | inl m ↦ in_right x theirs (pointed o arrows) (pointing_there ps arrows o x h m)
+          | inr m ↦ in_left x theirs (pointed o arrows) (itself_same places (binders_in p) o x (are o).0 m)
+        ]),
+        λ k. (s.1 x).1 (contains_from x found (subst (IsIn x) (sym e) (elim (in_either x theirs (pointed o arrows) (in_from x (theirs ++ pointed o arrows) k)) [
+          | inl m ↦ in_right x ones mine (itself_same (binders_in p) places o x (are o).1 m)
+          | inr m ↦ in_left x ones mine (pointing_back ps arrows o x h m)
+        ]))),
+      );
     }

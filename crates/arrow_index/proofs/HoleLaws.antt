@@ -1,7 +1,5 @@
 -- Walks over data with holes: what a node, a hole and a row leave.
-use Rattle.std.proofs.Common.{◌≡◌, ℕ, ◌+◌, ◌≤◌, ◌<◌, zero, suc, List, [], ◌∷◌, ◌++◌, Bool, true, false, Option, Some, None, refl, sym, ap, ◌∙◌, subst, append_assoc, arith}
-use Rattle.std.specs.Prelude.{◌==◌, if◌then◌else◌}
-use Rattle.std.specs.List.{AllByRecursion}
+use Rattle.std.proofs.Common.{◌≡◌, ℕ, ◌+◌, ◌≤◌, zero, suc, List, [], ◌∷◌, ◌++◌, Bool, true, false, Option, Some, None, refl, sym, ap, ◌∙◌, subst, append_assoc, arith}
 use Rattle.std.proofs.lemmas.List.{append-nil}
 use Rattle.std.proofs.lemmas.Bool.Decides.{nat_tests}
 use Rattle.scheme_model.specs.declared.Occ.{Occ}
@@ -66,7 +64,7 @@ hole_next n (list ts tail o) rest g =
     let first = from_among (n + 1) ts in
     let second = from_less (n + 1) (n + 1 + weights hole_weight ts) (places_behind hole_weight (n + 1 + weights hole_weight ts) tail) (omega arith) (from_behind (n + 1 + weights hole_weight ts) tail) in
     none_next n _ (from_both (n + 1) (places_among hole_weight (n + 1) ts ++ places_behind hole_weight (n + 1 + weights hole_weight ts) tail) rest
-      (from_both (n + 1) (places_among hole_weight (n + 1) ts) (places_behind hole_weight (n + 1 + weights hole_weight ts) tail) first second) (from_less (n + 1) (n + weight hole_weight (list ts tail o)) rest (omega arith) g))
+    (from_both (n + 1) (places_among hole_weight (n + 1) ts) (places_behind hole_weight (n + 1 + weights hole_weight ts) tail) first second) (from_less (n + 1) (n + weight hole_weight (list ts tail o)) rest (omega arith) g))
 hole_next n (vector ts o) rest g =
     none_next n _ (from_both (n + 1) (places_among hole_weight (n + 1) ts) rest (from_among (n + 1) ts) (from_less (n + 1) (n + weight hole_weight (vector ts o)) rest (omega arith) g))
 
@@ -217,7 +215,7 @@ pub step_from : (m total : ℕ) (wu wv : ℕ) (vs : Trees (Option (List ℕ))) (
 step_from m total wu wv vs last rest le g =
     from_both (m + wu) (places_among hole_weight (m + wu) vs ++ places_behind hole_weight (m + (wu + wv)) last) rest
     (from_both (m + wu) (places_among hole_weight (m + wu) vs) (places_behind hole_weight (m + (wu + wv)) last) (from_among (m + wu) vs)
-      (from_less (m + wu) (m + (wu + wv)) (places_behind hole_weight (m + (wu + wv)) last) (omega arith) (from_behind (m + (wu + wv)) last)))
+    (from_less (m + wu) (m + (wu + wv)) (places_behind hole_weight (m + (wu + wv)) last) (omega arith) (from_behind (m + (wu + wv)) last)))
     (from_less (m + wu) total rest le g)
 
 pub walked_more : {A : Type 0} (f : A → List ℕ) (old mid new : List (Option Occ)) (left left' : List ℕ) (m m' n k : ℕ) (ts : Trees A) (us : Trees (Option (List ℕ))) (last : Tail (Option (List ℕ))) (rest : List ℕ) (t : Tree A) (p : PartAt f t (behind (k + 1) ts) k us) →
@@ -243,10 +241,11 @@ pub walked_all : {A : Type 0} (f : A → List ℕ) (old new : List (Option Occ))
 walked_all f old new left m n k ts us last rest w e =
     let none = no_row (behind k us) (subst (λ x. AreLike (FillsHole f) x (behind k us)) e w.like) in
     let so : w.so_far ≡ occs_among us = sym (append-nil w.so_far) ∙ ap (λ q. w.so_far ++ occs_among q) (sym none) ∙ w.whole in
-    let weighs : weights hole_weight (behind k us) ≡ 0 = ap (weights hole_weight) none in
-    (w.added ∙ ap (λ q. old ++ q) so,
+    let weighs : weights hole_weight (behind k us) ≡ 0 = ap (weights hole_weight) none in (
+      w.added ∙ ap (λ q. old ++ q) so,
       w.holes ∙ (λ j. places_among hole_weight m (none j) ++ places_behind hole_weight (m + weights hole_weight (behind k us)) last ++ rest) ∙ ap (λ x. places_behind hole_weight x last ++ rest) (omega (arith, weighs)),
-      omega (arith, w.count, weighs))
+      omega (arith, w.count, weighs),
+    )
   where
     no_row : (vs : Trees (Option (List ℕ))) → AreLike (FillsHole f) no_trees vs → vs ≡ no_trees
     no_row no_trees g = refl

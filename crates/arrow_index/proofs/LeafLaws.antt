@@ -1,5 +1,5 @@
 -- The leaves of a core of the code are those of the core that it stands for.
-use Rattle.std.proofs.Common.{◌≡◌, ◌⊎◌, inl, inr, ℕ, zero, suc, List, [], ◌∷◌, ◌++◌, map, Bool, true, false, Option, Some, None, refl, sym, ap, ◌∙◌, subst, append_assoc}
+use Rattle.std.proofs.Common.{◌≡◌, inl, inr, ℕ, zero, suc, List, [], ◌∷◌, ◌++◌, map, Bool, true, Option, Some, refl, sym, ap, ◌∙◌, subst, append_assoc}
 use Rattle.std.specs.Prelude.{slice_get}
 use Rattle.std.specs.List.{flat_map}
 use Rattle.std.proofs.lemmas.List.{append-nil}
@@ -16,13 +16,12 @@ use Rattle.core_tree.specs.Names.{AllMatch, IsBound, IsBinder, IsTarget, IsMacro
 use Rattle.core_tree.specs.Cores.{CoreStands, CoresStand, ClausesStand, PartsStand, PartStands}
 use Rattle.core_tree.specs.Levels.{BindsAs, AllBind, AllMacrosBind, BindsLocals, AllBindLocals, ClausesBindLocals, PartsBind, PartBinds}
 use Rattle.core_tree.specs.declared.cores.Binder.{Binder}
-use Rattle.core_tree.specs.declared.cores.Target.{Target}
 use Rattle.core_tree.specs.declared.cores.MacroDef.{MacroDef}
 use Rattle.core_tree.specs.declared.cores.FieldUse.{FieldUse}
 use Rattle.core_tree.specs.declared.cores.Core.{Core}
 use Rattle.core_tree.specs.declared.cores.Clause.{Clause}
 use Rattle.core_tree.specs.declared.cores.CorePart.{CorePart}
-use Rattle.arrow_index.specs.Leaves.{Seen, Binds, Uses, Quoted, Holed, Defines, core_seen, clause_seen, part_seen, cores_seen, clauses_seen, parts_seen, binders_seen, macro_seen, macros_seen, field_seen, fields_seen, IsSeen, AreSeen}
+use Rattle.arrow_index.specs.Leaves.{Seen, Binds, Uses, Quoted, Holed, Defines, core_seen, part_seen, cores_seen, clauses_seen, parts_seen, binders_seen, macro_seen, macros_seen, field_seen, fields_seen, IsSeen, AreSeen}
 use Rattle.arrow_index.proofs.SeenLaws.{seen_ref, seen_const, seen_quote, seen_quasi, seen_lambda, seen_case_lambda, seen_if, seen_set, seen_call, seen_body, seen_let_syntax, seen_clause, seen_expression, seen_define, seen_values, seen_fields, seen_syntax}
 
 module _ (work : Work) (unit form : ℕ) where

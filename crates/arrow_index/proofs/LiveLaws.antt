@@ -1,14 +1,14 @@
 -- What is live, by the leaves, the uses and the names of the code.
-use Rattle.std.proofs.Common.{◌≡◌, ◌⊎◌, inl, inr, ℕ, ◌+◌, ◌<◌, List, [], ◌∷◌, ◌++◌, map, take, length, get_or, Bool, true, false, Option, Some, None, refl, sym, ap, ◌∙◌, subst, append_assoc, arith}
-use Rattle.std.specs.Prelude.{◌||◌, ◌&&◌}
+use Rattle.std.proofs.Common.{◌≡◌, inl, inr, ℕ, ◌+◌, ◌<◌, List, [], ◌∷◌, ◌++◌, map, take, length, get_or, Bool, true, false, Option, Some, None, refl, sym, ap, ◌∙◌}
+use Rattle.std.specs.Prelude.{◌||◌}
 use Rattle.std.specs.BTreeSet.{BTreeSet, contains}
 use Rattle.std.specs.BTreeMap.{is_at}
 use Rattle.std.specs.List.{list_any}
-use Rattle.std.proofs.lemmas.List.{append-nil, map-append, take_more}
+use Rattle.std.proofs.lemmas.List.{take_more}
 use Rattle.scheme_model.specs.declared.Occ.{Occ}
 use Rattle.scheme_model.specs.Trees.{Tree, name, atom, list, vector, Trees, no_trees, tree, Tail, proper, dotted, map_tree, map_trees, map_tail}
 use Rattle.scheme_model.specs.Ident.{Ident as Identifier}
-use Rattle.scheme_model.specs.ExpansionFaults.{Named, named}
+use Rattle.scheme_model.specs.ExpansionFaults.{Named}
 use Rattle.scheme_model.specs.Cores as model
 use Rattle.scheme_model.specs.Live as live
 use Rattle.scheme_model.specs.Live.{CoreLeaf, name_places, name_places_all, name_places_tail, any_name, no_hole}
@@ -117,8 +117,8 @@ pub live_law : (work : Work) (o : Occ) (leaves : List CoreLeaf) (uses : List Use
     ((any (leaf_at o) leaves || any (use_at o) uses) || any (name_at o) found) ≡ is_live leaves keywords names o
 live_law work o leaves uses keywords found names t n =
     (λ j.
-      (any (leaf_at o) leaves || any_tells (IsUseOf work) (use_at o) (λ (m : model.Target). is_occ o m.occ) (λ u m h. ap (is_occ o) h.place) uses keywords t j)
-      || any_tells (IsNameOf work) (name_at o) (λ (m : live.NameUse). is_occ o m.occ) (λ u m h. ap (is_occ o) h.1.place) found names n j)
+    (any (leaf_at o) leaves || any_tells (IsUseOf work) (use_at o) (λ (m : model.Target). is_occ o m.occ) (λ u m h. ap (is_occ o) h.place) uses keywords t j)
+    || any_tells (IsNameOf work) (name_at o) (λ (m : live.NameUse). is_occ o m.occ) (λ u m h. ap (is_occ o) h.1.place) found names n j)
     ∙ or_assoc (any (leaf_at o) leaves) (any (λ (m : model.Target). is_occ o m.occ) keywords) (any (λ (m : live.NameUse). is_occ o m.occ) names)
 
 -- ---- leaves that are past, and those still to come

@@ -1,9 +1,8 @@
 -- Members of lists, by recursion.
-use Rattle.std.proofs.Common.{◌≡◌, ◌⊎◌, inl, inr, ℕ, zero, suc, ◌<◌, List, [], ◌∷◌, ◌++◌, map, reverse, length, refl, sym, ap, ◌∙◌, subst, arith}
-use Rattle.std.specs.Prelude.{◌↔◌}
+use Rattle.std.proofs.Common.{◌≡◌, ◌⊎◌, inl, inr, ℕ, List, [], ◌∷◌, ◌++◌, map, reverse, refl, sym, ap, subst, arith}
 use Rattle.std.specs.List.{Contains, flat_map}
 use Rattle.std.proofs.lemmas.List.{reverse-append}
-use Rattle.std.proofs.lemmas.List.Elements.{Contains-append_left, Contains-append_right, Contains-append_cases}
+use Rattle.std.proofs.lemmas.List.Elements.{Contains-append_right, Contains-append_cases}
 use Rattle.arrow_index.specs.Members.{IsIn}
 
 pub in_left : {X : Type 0} (x : X) (xs ys : List X) → IsIn x xs → IsIn x (xs ++ ys)
@@ -71,4 +70,3 @@ from_flat_map {X = X} f y (x ∷ xs) h = by_case (from_flat_map f y xs) (in_eith
     by_case : (IsIn y (flat_map f xs) → (z : X) × IsIn z xs × IsIn y (f z)) → IsIn y (f x) ⊎ IsIn y (flat_map f xs) → (z : X) × IsIn z (x ∷ xs) × IsIn y (f z)
     by_case g (inl k) = (x, inl refl, k)
     by_case g (inr k) = let r = g k in (r.0, inr r.1, r.2)
-

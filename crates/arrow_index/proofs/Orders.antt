@@ -1,10 +1,10 @@
 -- Lists that were sorted and of which each item was kept once; the orders of occurrences and of pairs.
-use Rattle.std.proofs.Common.{◌≡◌, ◌↔◌, ℕ, Bool, true, false, List, [], sym, ap, ◌∙◌, subst}
-use Rattle.std.specs.Prelude.{◌&&◌, ◌==◌}
+use Rattle.std.proofs.Common.{◌≡◌, ◌↔◌, Bool, true, List, [], sym, ◌∙◌, subst}
+use Rattle.std.specs.Prelude.{◌&&◌}
 use Rattle.std.specs.List.{Contains, dedup}
 use Rattle.std.specs.List.Retain.{IsFiltered, DiffersFromLast}
 use Rattle.std.specs.List.Sorted.{IsPermutation, IsSorted, IsStrictlySortedBy}
-use Rattle.std.specs.Ordering.{nat_cmp, eq_by_cmp}
+use Rattle.std.specs.Ordering.{eq_by_cmp}
 use Rattle.std.specs.declared.cmp.Ordering.{Ordering}
 use Rattle.std.specs.Cmp.{IsTotalOrder, IsEquivalence, nat_cmp_total, on_total, then_total, eq_by_cmp_equiv}
 use Rattle.std.proofs.lemmas.List.Kept.{Contains-dedup, Contains-from_dedup, IsStrictlySortedBy-dedup}
@@ -23,10 +23,13 @@ module _ {X : Type 0} {R : X → X → Ordering} (o : IsTotalOrder R) {E : X →
 
   pub each_once : (xs ys zs all : List X) → IsPermutation xs ys → IsSorted R ys → IsFiltered (DiffersFromLast E) [] ys zs → all ≡ zs → IsStrictlySortedBy R all × ((q : X) → Contains all q ↔ Contains xs q)
   each_once xs ys zs all p s f e =
-      let is : all ≡ dedup E ys = e ∙ dedup_is E ys zs f in
-      (subst (IsStrictlySortedBy R) (sym is) (IsStrictlySortedBy-dedup o ties ys s),
-        λ q. (λ g. Contains-permutation ys xs q (IsPermutation-sym xs ys p) (Contains-from_dedup E ys q (subst (λ (l : List X). Contains l q) is g)),
-          λ g. subst (λ (l : List X). Contains l q) (sym is) (Contains-dedup alike one ys q (Contains-permutation xs ys q p g))))
+      let is : all ≡ dedup E ys = e ∙ dedup_is E ys zs f in (
+        subst (IsStrictlySortedBy R) (sym is) (IsStrictlySortedBy-dedup o ties ys s),
+        λ q. (
+          λ g. Contains-permutation ys xs q (IsPermutation-sym xs ys p) (Contains-from_dedup E ys q (subst (λ (l : List X). Contains l q) is g)),
+          λ g. subst (λ (l : List X). Contains l q) (sym is) (Contains-dedup alike one ys q (Contains-permutation xs ys q p g)),
+        ),
+      )
 
 -- ---- occurrences
 

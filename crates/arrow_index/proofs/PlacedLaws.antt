@@ -1,5 +1,5 @@
 -- The leaves of a program of the code are those of the definition's program.
-use Rattle.std.proofs.Common.{◌≡◌, ◌⊎◌, inl, inr, ℕ, suc, List, [], ◌∷◌, ◌++◌, map, Bool, true, false, Option, Some, None, Result, Ok, Err, refl, sym, ap, ◌∙◌, subst, append_assoc}
+use Rattle.std.proofs.Common.{◌≡◌, inl, inr, ℕ, suc, List, [], ◌∷◌, ◌++◌, map, false, Option, Some, None, Result, Ok, Err, refl, sym, ap, ◌∙◌, subst, append_assoc}
 use Rattle.std.specs.List.{flat_map}
 use Rattle.scheme_model.specs.Cores.{Parts}
 use Rattle.scheme_model.specs.Steps.{Broken}
@@ -10,7 +10,7 @@ use Rattle.scheme_model.specs.Program.{Placed, Program, UnitResult}
 use Rattle.scheme_model.specs.Live.{CoreLeaf, form_leaves, unit_leaves, leaves_of_parts}
 use Rattle.scheme_model.specs.ProgramArrows.{program_leaves}
 use Rattle.syntax_tree.specs.declared.trees.Work.{Work}
-use Rattle.core_tree.specs.Units.{IsBlank, IsExpanded, IsResult, FormsStand, UnitsStand}
+use Rattle.core_tree.specs.Units.{IsBlank, IsResult, FormsStand, UnitsStand}
 use Rattle.core_tree.specs.declared.cores.CorePart.{CorePart}
 use Rattle.core_tree.specs.declared.traces.FormFault.{FormFault}
 use Rattle.core_tree.specs.declared.units.ExpandedItem.{ExpandedItem}

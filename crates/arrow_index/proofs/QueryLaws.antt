@@ -1,12 +1,11 @@
 -- The uses of a binder among pairs in order: what stands before, at and after the binder.
-use Rattle.std.proofs.Common.{◌≡◌, ◌⊎◌, inl, inr, ◌↔◌, ℕ, zero, suc, ◌+◌, ◌<◌, ◌≤◌, List, [], ◌∷◌, ◌++◌, map, length, take, drop, get_or, filter, Bool, true, false, not, refl, sym, ap, ◌∙◌, subst, arith, Contains}
-use Rattle.std.specs.Prelude.{if◌then◌else◌, slice_index_or}
+use Rattle.std.proofs.Common.{◌≡◌, ◌⊎◌, inl, inr, ℕ, zero, suc, ◌<◌, ◌≤◌, List, [], ◌∷◌, ◌++◌, length, take, get_or, filter, Bool, true, false, not, refl, sym, ap, ◌∙◌, subst, arith}
+use Rattle.std.specs.Prelude.{if◌then◌else◌}
 use Rattle.std.specs.List.{flat_map, AllByRecursion}
 use Rattle.std.specs.List.Sorted.{IsStrictlySortedBy, IsPartitionedBy}
 use Rattle.std.specs.Ordering.{ordering_then, ordering_reverse, is_lt, is_eq}
 use Rattle.std.specs.declared.cmp.Ordering.{Ordering}
 use Rattle.std.specs.declared.cmp.Ordering.TheVariants.{Less, Equal, Greater}
-use Rattle.std.specs.Cmp.{IsTotalOrder}
 use Rattle.std.proofs.lemmas.Bool.{cases_order}
 use Rattle.scheme_model.specs.declared.Occ.{Occ}
 use Rattle.scheme_model.specs.Entries.{same_occ}
@@ -185,7 +184,8 @@ module _ (b : Occ) where
   pub uses_law : (ps : List Pair) (arrows : List Arrow) (found : List Occ) → AreArrows ps arrows → found ≡ flat_map (targets_with b) ps → AreOccs found (uses_at arrows b)
   uses_law ps arrows found h e = record {
     sorted = subst (IsStrictlySortedBy occ_cmp) (sym e) (in_order ps h.sorted);
-    same = λ o.
-        (λ k. contains_from o (uses_at arrows b) (uses_there ps arrows o h (subst (IsIn o) e (in_from o found k))),
-          λ k. contains_from o found (subst (IsIn o) (sym e) (uses_back ps arrows o h (in_from o (uses_at arrows b) k))));
+    same = λ o. (
+      λ k. contains_from o (uses_at arrows b) (uses_there ps arrows o h (subst (IsIn o) e (in_from o found k))),
+      λ k. contains_from o found (subst (IsIn o) (sym e) (uses_back ps arrows o h (in_from o (uses_at arrows b) k))),
+    );
   }

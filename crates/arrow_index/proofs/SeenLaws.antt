@@ -1,5 +1,5 @@
 -- The leaves of a core of the code, case by case.
-use Rattle.std.proofs.Common.{◌≡◌, List, [], ◌∷◌, ◌++◌, map, Bool, true, false, refl, sym, ap, ◌∙◌}
+use Rattle.std.proofs.Common.{◌≡◌, List, [], ◌∷◌, ◌++◌, map, Bool, true, refl, sym, ap, ◌∙◌}
 use Rattle.std.specs.Prelude.{ℕ, Vec}
 use Rattle.std.specs.List.{flat_map}
 use Rattle.std.specs.Global.{Box}
@@ -14,9 +14,9 @@ use Rattle.core_tree.specs.declared.cores.Core.TheVariants as cores
 use Rattle.core_tree.specs.declared.cores.Clause.{Clause, out-Clause}
 use Rattle.core_tree.specs.declared.cores.CorePart.{CorePart}
 use Rattle.core_tree.specs.declared.cores.CorePart.TheVariants as parts
-use Rattle.core_tree.specs.declared.cores.Core.TheOpen.{Core-F, Clause-F, CorePart-F}
+use Rattle.core_tree.specs.declared.cores.Core.TheOpen.{Core-F, CorePart-F}
 use Rattle.core_tree.specs.declared.cores.Core.TheFolds.{fold-roll-Core, fold-roll-CorePart, fold_out-Clause}
-use Rattle.arrow_index.specs.Leaves.{Seen, Binds, Uses, Quoted, Holed, Defines, joined, core_step, clause_step, part_step, core_seen, clause_seen, part_seen, cores_seen, clauses_seen, parts_seen, binders_seen, macro_seen, macros_seen, fields_seen}
+use Rattle.arrow_index.specs.Leaves.{Seen, Binds, Uses, Quoted, Holed, joined, core_step, clause_step, part_step, core_seen, clause_seen, part_seen, cores_seen, clauses_seen, parts_seen, binders_seen, macro_seen, macros_seen, fields_seen}
 
 joined-map : {X : Type 0} (f : X → List Seen) (xs : List X) → joined (map f xs) ≡ flat_map f xs
 joined-map f [] = refl

@@ -1,8 +1,7 @@
 -- One step more of the walks that gather arrows.
-use Rattle.std.proofs.Common.{◌≡◌, ◌⊎◌, inl, inr, ℕ, ◌+◌, ◌<◌, zero, suc, List, [], ◌∷◌, ◌++◌, map, take, drop, length, get_or, Bool, true, false, Option, Some, None, refl, sym, ap, ◌∙◌, subst, append_assoc, add-one, drop-cons, arith}
+use Rattle.std.proofs.Common.{◌≡◌, ℕ, ◌+◌, ◌<◌, zero, suc, List, [], ◌∷◌, ◌++◌, map, take, drop, length, get_or, Bool, true, false, Option, refl, sym, ap, ◌∙◌, subst, append_assoc, add-one, drop-cons, arith}
 use Rattle.std.specs.Prelude.{◌||◌, not, if◌then◌else◌}
-use Rattle.std.specs.List.{flat_map}
-use Rattle.std.proofs.lemmas.List.{append-nil, map-append}
+use Rattle.std.proofs.lemmas.List.{append-nil}
 use Rattle.std.proofs.lemmas.Grind.{flat_map-append}
 use Rattle.scheme_model.specs.declared.Occ.{Occ}
 use Rattle.scheme_model.specs.Trees.{Tree, name, atom, list, vector, Trees, no_trees, tree, Tail, proper, dotted}
@@ -10,7 +9,7 @@ use Rattle.scheme_model.specs.Meaning.{Meaning}
 use Rattle.scheme_model.specs.Cores as model
 use Rattle.scheme_model.specs.Live as live
 use Rattle.scheme_model.specs.Live.{CoreLeaf, name_places, name_places_all, name_places_tail}
-use Rattle.scheme_model.specs.ProgramArrows.{Arrow, arrow_of, leaf_arrows, target_arrows, name_arrows, any, leaf_at}
+use Rattle.scheme_model.specs.ProgramArrows.{Arrow, arrow_of, leaf_arrows, target_arrows, name_arrows}
 use Rattle.syntax_tree.specs.declared.trees.Work.{Work}
 use Rattle.arrow_index.specs.declared.sight.PlacedLeaf.{PlacedLeaf}
 use Rattle.arrow_index.specs.Leaves.{seen_of, IsSeen}
@@ -95,7 +94,7 @@ pub record Next (work : Work) (l : PlacedLeaf) (left : List PlacedSeen) (rest : 
 pub next_leaf : (work : Work) (ls : List PlacedLeaf) (i : ℕ) (l : PlacedLeaf) (rest : List CoreLeaf) → i < length ls → l ≡ get_or ls i l → AreAllSeen work (map placed_of (drop i ls)) rest → Next work l (map placed_of (drop (i + 1) ls)) rest
 next_leaf work ls i l rest lt is h =
     let at : drop i ls ≡ l ∷ drop (i + 1) ls =
-        drop-cons ls i l lt ∙ (λ j. sym is j ∷ drop (sym (add-one i) j) ls) in
+    drop-cons ls i l lt ∙ (λ j. sym is j ∷ drop (sym (add-one i) j) ls) in
     let q = subst (λ (xs : List PlacedLeaf). AreAllSeen work (map placed_of xs) rest) at h in
     record { front = q.0; behind = q.1; whole = q.2; is = q.3; still = q.4 }
 

@@ -1,5 +1,5 @@
 -- Keywords, matched literals and names of a program of the code stand for those of the definition's program.
-use Rattle.std.proofs.Common.{◌≡◌, ◌⊎◌, inl, inr, ℕ, suc, List, [], ◌∷◌, ◌++◌, map, reverse, Bool, true, false, Option, Some, None, Result, Ok, Err, refl, sym, ap, ◌∙◌, subst, append_assoc}
+use Rattle.std.proofs.Common.{◌≡◌, ◌⊎◌, inl, inr, ℕ, suc, List, [], ◌∷◌, ◌++◌, reverse, Result, Ok, Err, refl, sym, ap, ◌∙◌, subst}
 use Rattle.std.specs.List.{flat_map}
 use Rattle.std.proofs.lemmas.List.{reverse-append}
 use Rattle.scheme_model.specs.Cores as model
@@ -21,7 +21,7 @@ use Rattle.core_tree.specs.declared.units.UnitForm.{UnitForm}
 use Rattle.core_tree.specs.declared.units.NameUse.{NameUse}
 use Rattle.core_tree.specs.declared.units.Unit.{Unit as CodeUnit}
 use Rattle.arrow_index.specs.Members.{IsIn, Tells}
-use Rattle.arrow_index.specs.Placed.{Use, uses_at, macro_targets, trace_targets, unless_fault, forms_met, units_met, IsUseOf}
+use Rattle.arrow_index.specs.Placed.{uses_at, macro_targets, trace_targets, unless_fault, forms_met, units_met, IsUseOf}
 use Rattle.arrow_index.specs.Sights.{all_names, IsNameOf}
 use Rattle.arrow_index.proofs.AddLaws.{both_match}
 use Rattle.arrow_index.proofs.MemberLaws.{in_left, in_right, in_either, in_from, contains_from, in_reverse, in_flat_map, from_flat_map}
@@ -103,7 +103,7 @@ result_met work unit form c (Ok ps) k h =
     (record {
       told = reverse k.keywords ++ use_targets (reverse k.met);
       match = targets_match work unit form (trace_targets c.trace) (reverse k.keywords ++ use_targets (reverse k.met))
-        (both_match (IsTarget work.symbols unit form) c.trace.keywords (macro_targets c.trace.uses) (reverse k.keywords) (use_targets (reverse k.met)) h.keywords (uses_match work unit form c.trace.uses (reverse k.met) h.uses));
+          (both_match (IsTarget work.symbols unit form) c.trace.keywords (macro_targets c.trace.uses) (reverse k.keywords) (use_targets (reverse k.met)) h.keywords (uses_match work unit form c.trace.uses (reverse k.met) h.uses));
       there = λ y g. there y (in_either y (reverse k.keywords) (use_targets (reverse k.met)) g);
       back = λ y g. back y (in_either y k.keywords (use_targets k.met) g);
     })

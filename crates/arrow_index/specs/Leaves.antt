@@ -1,7 +1,6 @@
 -- The leaves of the code's cores, as a list, and which leaves of the definition's cores they are.
 use Rattle.std.specs.Prelude.{◌≡◌, ◌⊎◌, ℕ, List, [], ◌∷◌, ◌++◌, map, Bool, true, false, Option, Some, None, slice_get}
 use Rattle.std.specs.List.{flat_map}
-use Rattle.std.specs.Option.{option_map_or}
 use Rattle.scheme_model.specs.Trees.{Tree, map_tree}
 use Rattle.scheme_model.specs.Ident.{Ident as Identifier, symbol_of}
 use Rattle.scheme_model.specs.Cores as model

@@ -1,5 +1,5 @@
 -- What is seen of a program of the code, and what the definition's program has of it.
-use Rattle.std.specs.Prelude.{◌≡◌, ℕ, List, map, Bool, ◌||◌, Option}
+use Rattle.std.specs.Prelude.{◌≡◌, ℕ, List, map, Bool, ◌||◌}
 use Rattle.std.specs.List.{flat_map}
 use Rattle.std.specs.Option.{option_map}
 use Rattle.std.specs.BTreeSet.{BTreeSet, contains}
@@ -11,7 +11,7 @@ use Rattle.scheme_model.specs.Substitution.{Table, Defined, defined_in}
 use Rattle.scheme_model.specs.Program.{Placed, Program}
 use Rattle.scheme_model.specs.Live as live
 use Rattle.scheme_model.specs.Live.{CoreLeaf}
-use Rattle.scheme_model.specs.ProgramArrows.{local_at, any, is_occ, leaf_at, is_live, program_leaves, program_keywords, program_names, program_table}
+use Rattle.scheme_model.specs.ProgramArrows.{local_at, is_occ, is_live, program_leaves, program_keywords, program_names, program_table}
 use Rattle.syntax_tree.specs.Macros.{IsIdent}
 use Rattle.syntax_tree.specs.declared.trees.Work.{Work}
 use Rattle.core_tree.specs.Units.{IsName}

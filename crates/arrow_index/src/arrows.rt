@@ -58,12 +58,7 @@ pub fn is_static(sight: &Sight<'_>, leaf: &RuleLeaf) -> bool
 }
 
 /// Adds the arrow to a leaf of rules, where it has one by what it means where the macro is defined.
-fn add_rule_leaf(
-    sight: &Sight<'_>,
-    at: FormNo,
-    leaf: &RuleLeaf,
-    pairs: &mut Vec<Pair>,
-) -> Mem<()>
+fn add_rule_leaf(sight: &Sight<'_>, at: FormNo, leaf: &RuleLeaf, pairs: &mut Vec<Pair>) -> Mem<()>
     ensures { (work : AnyWork) (leaves : List CoreLeaf) (keywords : List ModelTarget) (names : List ModelName) (table : Table) (m : ModelLeaf) →
         Sees work sight.now leaves keywords names table → IsLeaf work.symbols at.unit at.form leaf.now m →
         OnOk result (map as_arrow pairs.new.items ≡ map as_arrow pairs.old.items ++ leaf_arrows (binder_of leaves table) (is_live_at leaves keywords names) (m ∷ [])) }
@@ -75,12 +70,7 @@ fn add_rule_leaf(
 }
 
 /// Adds the arrows to leaves of rules, by what they mean where their macro is defined.
-fn add_static(
-    sight: &Sight<'_>,
-    at: FormNo,
-    found: &[RuleLeaf],
-    pairs: &mut Vec<Pair>,
-) -> Mem<()>
+fn add_static(sight: &Sight<'_>, at: FormNo, found: &[RuleLeaf], pairs: &mut Vec<Pair>) -> Mem<()>
     ensures { (work : AnyWork) (leaves : List CoreLeaf) (keywords : List ModelTarget) (names : List ModelName) (table : Table) (ms : List ModelLeaf) →
         Sees work sight.now leaves keywords names table → AllMatch (IsLeaf work.symbols at.unit at.form) found.now ms →
         OnOk result (map as_arrow pairs.new.items ≡ map as_arrow pairs.old.items ++ leaf_arrows (binder_of leaves table) (is_live_at leaves keywords names) ms) }

@@ -41,12 +41,7 @@ fn add_leaf_binders(
 {
     match leaf.leaf {
         Leaf::Binds { local: _, binder } => Ok(add_place(binder.occ, places)?),
-        Leaf::Defines(definition) => Ok(add_rules_binders(
-            alloc,
-            work,
-            &definition.rules,
-            places,
-        )?),
+        Leaf::Defines(definition) => Ok(add_rules_binders(alloc, work, &definition.rules, places)?),
         Leaf::Uses(_) => Ok(()),
         Leaf::Quoted(_) => Ok(()),
         Leaf::Holed { .. } => Ok(()),
@@ -101,12 +96,7 @@ fn add_all_definitions(units: &[Unit], places: &mut Vec<Occ>) -> Mem<()>
 }
 
 /// What binds in a program: the binders in cores, the pattern variables of rules, and what units define.
-pub fn binders_in(
-    alloc: Global,
-    work: &Work,
-    sight: &Sight<'_>,
-    program: &Program,
-) -> Mem<Vec<Occ>>
+pub fn binders_in(alloc: Global, work: &Work, sight: &Sight<'_>, program: &Program) -> Mem<Vec<Occ>>
     requires { (ls : List CoreLeaf) × AreAllSeen work.now (map placed_of sight.now.leaves.items) ls }
     ensures { (text : LibraryName → List ℕ) (uris : List (List ℕ)) (all : List Placed) (p : ModelProgram) →
         ProgramStands work.now text uris all program.now p → SeesProgram work.now sight.now all p →

@@ -205,10 +205,7 @@ fn put_first(
 }
 
 /// Adds the local that a leaf binds, where it binds one.
-fn add_local(
-    leaf: &PlacedLeaf<'_>,
-    locals: &mut BTreeMap<LocalNo, Option<Occ>>,
-) -> Mem<()>
+fn add_local(leaf: &PlacedLeaf<'_>, locals: &mut BTreeMap<LocalNo, Option<Occ>>) -> Mem<()>
     ensures { OnOk result ((k : AnyLocal) →
         get local_cmp locals.new k ≡ first_of (get local_cmp locals.old k) (bound_or (bound_in (placed_of leaf.now)) k None)) }
 {
@@ -219,10 +216,7 @@ fn add_local(
 }
 
 /// Where locals stand. Of binders with one number the first counts.
-pub fn locals_of(
-    alloc: Global,
-    leaves: &[PlacedLeaf<'_>],
-) -> Mem<BTreeMap<LocalNo, Option<Occ>>>
+pub fn locals_of(alloc: Global, leaves: &[PlacedLeaf<'_>]) -> Mem<BTreeMap<LocalNo, Option<Occ>>>
     ensures { IfOk result (λ locals. (k : AnyLocal) → get local_cmp locals k ≡ local_in (map placed_of leaves.now) k) }
 {
     let mut locals = BTreeMap::new(alloc);

@@ -52,7 +52,7 @@ fn add_outside(
         left holes.old ≡ places_in hole_weight holes.old.nodes h ++ rest →
         AllFrom (holes.old.nodes + weight hole_weight h) rest → holes.old.nodes + weight hole_weight h < 2 ^ 63 →
         OnOk result ((map (λ n. n.occ) names.new.items ≡ map (λ n. n.occ) names.old.items ++ occs_in h)
-            × (left holes.new ≡ rest) × (holes.new.nodes ≡ holes.old.nodes + weight hole_weight h)) }
+        × (left holes.new ≡ rest) × (holes.new.nodes ≡ holes.old.nodes + weight hole_weight h)) }
 {
     if pass(holes) {
         return Ok(());
@@ -64,14 +64,7 @@ fn add_outside(
         }
         Look::Atom(_) => Ok(()),
         Look::List(items, end) => Ok(add_row_outside(work, items, end, depth - 1, holes, names)?),
-        Look::Vector(items) => Ok(add_row_outside(
-            work,
-            items,
-            None,
-            depth - 1,
-            holes,
-            names,
-        )?),
+        Look::Vector(items) => Ok(add_row_outside(work, items, None, depth - 1, holes, names)?),
     }
 }
 
@@ -94,7 +87,7 @@ fn add_row_outside(
         AllFrom (holes.old.nodes + weights hole_weight us + tail_weight hole_weight last) rest →
         holes.old.nodes + weights hole_weight us + tail_weight hole_weight last < 2 ^ 63 →
         OnOk result ((map (λ n. n.occ) names.new.items ≡ map (λ n. n.occ) names.old.items ++ occs_among us ++ occs_behind last)
-            × (left holes.new ≡ rest) × (holes.new.nodes ≡ holes.old.nodes + weights hole_weight us + tail_weight hole_weight last)) }
+        × (left holes.new ≡ rest) × (holes.new.nodes ≡ holes.old.nodes + weights hole_weight us + tail_weight hole_weight last)) }
 {
     for k in 0..items.len() {
         add_outside(work, items[k], depth, holes, names)?;

@@ -146,11 +146,7 @@ fn add_binders<'a>(local: bool, binders: &[Binder], leaves: &mut Vec<Leaf<'a>>) 
 }
 
 /// Adds a macro: its binder and its rules.
-fn add_macro<'a>(
-    local: bool,
-    definition: &'a MacroDef,
-    leaves: &mut Vec<Leaf<'a>>,
-) -> Mem<()>
+fn add_macro<'a>(local: bool, definition: &'a MacroDef, leaves: &mut Vec<Leaf<'a>>) -> Mem<()>
     ensures { OnOk result (map seen_of leaves.new.items ≡ map seen_of leaves.old.items ++ macro_seen local definition.now) }
 {
     leaves.push(Leaf::Binds {

@@ -127,7 +127,7 @@ pub fn live_in(
     requires { (ls : List CoreLeaf) × AreAllSeen work.now (map placed_of leaves.now) ls }
     ensures { (ls : List CoreLeaf) → AreAllSeen work.now (map placed_of leaves.now) ls →
         IfOk result (λ live. (o : AnyOcc) →
-            contains occ_cmp live o ≡ ((any (leaf_at o) ls || any (use_at o) (map use_of met.now)) || any (name_at o) (all_names program.now.units))) }
+        contains occ_cmp live o ≡ ((any (leaf_at o) ls || any (use_at o) (map use_of met.now)) || any (name_at o) (all_names program.now.units))) }
 {
     let mut live = BTreeSet::new(alloc);
     add_live_leaves(alloc, work, leaves, &mut live)?;

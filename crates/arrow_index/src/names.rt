@@ -69,4 +69,3 @@ pub fn names_of(alloc: Global, work: &Work, tree: Tree) -> Mem<Vec<Named>>
     add_names(work, tree, left, &mut names)?;
     Ok(names)
 }
-

@@ -58,12 +58,7 @@ fn add_variable(work: &Work, roles: &Roles, name: Named, found: &mut Vec<Named>)
 }
 
 /// Adds the variables among names, in order.
-fn add_variables(
-    work: &Work,
-    roles: &Roles,
-    names: &[Named],
-    found: &mut Vec<Named>,
-) -> Mem<()>
+fn add_variables(work: &Work, roles: &Roles, names: &[Named], found: &mut Vec<Named>) -> Mem<()>
     requires { (ms : List (ModelNamed Identifier)) × AllMatch (IsNamed work.now.symbols) names.now ms }
     ensures { (r : ModelRules Identifier) (ms : List (ModelNamed Identifier)) → TellsRoles work.now.symbols roles.now r →
         AllMatch (IsNamed work.now.symbols) names.now ms →
@@ -165,12 +160,7 @@ fn roles_of(alloc: Global, rules: &Rules) -> Mem<Roles>
 }
 
 /// Adds the arrows from the pattern variables of rules.
-pub fn add_rules_arrows(
-    alloc: Global,
-    work: &Work,
-    rules: &Rules,
-    pairs: &mut Vec<Pair>,
-) -> Mem<()>
+pub fn add_rules_arrows(alloc: Global, work: &Work, rules: &Rules, pairs: &mut Vec<Pair>) -> Mem<()>
     requires { (r : ModelRules Identifier) × RulesFor work.now rules.now r }
     ensures { (r : ModelRules Identifier) → RulesFor work.now rules.now r →
         OnOk result (map as_arrow pairs.new.items ≡ map as_arrow pairs.old.items ++ rule_arrows r r.rules) }

@@ -1,4 +1,4 @@
-use Rattle.std.proofs.Common.{◌≡◌, ◌+◌, List, [], ◌∷◌, ◌++◌, map, drop, refl, sym, ap, ◌∙◌, subst, add-one, drop-cons, arith}
+use Rattle.std.proofs.Common.{◌≡◌, ◌+◌, List, [], ◌∷◌, ◌++◌, map, drop, refl, sym, ◌∙◌, subst, add-one, drop-cons, arith}
 use Rattle.std.proofs.Math.ListN.{drop_of_length-le}
 use Rattle.scheme_model.specs.Live.{NameUse}
 use Rattle.scheme_model.specs.ProgramArrows.{binder_of, name_arrows}
@@ -23,12 +23,12 @@ loop-unit-preserved c = λ work leaves keywords names table ns sees match.
     let u = c.unit-item.result in
     let at : drop i us ≡ u ∷ drop (i + 1) us = drop-cons us i u (omega arith) ∙ (λ j. sym c.unit-item.is j ∷ drop (sym (add-one i) j) us) in
     let p = subst (λ (xs : List CodeUnit). Past (IsNameOf work) (all_names xs) ns (λ done. map as_arrow c.loop-unit.pairs.items ≡ map as_arrow c.args.pairs.now.items ++ name_arrows binder done)) at
-      (c.loop-unit.invariant work leaves keywords names table ns sees match) in
+    (c.loop-unit.invariant work leaves keywords names table ns sees match) in
     past_more (IsNameOf work) u.names (all_names (drop (i + 1) us)) ns _ _ p
     (λ r.
-      let first = subst (λ (xs : List code_name.NameUse). AllMatch (IsNameOf work) xs r.first) (sym c.as_slice.ensures) r.one in
-      grows_twice as_arrow c.args.pairs.now.items c.loop-unit.pairs.items c.add_names.new.pairs.items (name_arrows binder p.done) (name_arrows binder r.first) (name_arrows binder (p.done ++ r.first)) p.holds
-      (c.in_ok-add_names.ensures work leaves keywords names table r.first sees first) (names-append binder p.done r.first))
+    let first = subst (λ (xs : List code_name.NameUse). AllMatch (IsNameOf work) xs r.first) (sym c.as_slice.ensures) r.one in
+    grows_twice as_arrow c.args.pairs.now.items c.loop-unit.pairs.items c.add_names.new.pairs.items (name_arrows binder p.done) (name_arrows binder r.first) (name_arrows binder (p.done ++ r.first)) p.holds
+    (c.in_ok-add_names.ensures work leaves keywords names table r.first sees first) (names-append binder p.done r.first))
 
 pub returns : goal.returns
 returns c = λ work leaves keywords names table ns sees match.

@@ -1,11 +1,10 @@
-use Rattle.std.proofs.Common.{◌≡◌, ◌⊎◌, inl, inr, List, [], ◌∷◌, ◌++◌, Option, map, refl, sym, ap, ◌∙◌, subst}
+use Rattle.std.proofs.Common.{◌≡◌, inl, inr, List, ◌++◌, Option, map, sym, ap, ◌∙◌, subst}
 use Rattle.std.proofs.lemmas.List.{append-nil}
 use Rattle.scheme_model.specs.declared.Occ.{Occ}
 use Rattle.scheme_model.specs.Ident.{symbol_of}
 use Rattle.scheme_model.specs.Trees.{map_tree}
-use Rattle.scheme_model.specs.Live as live
-use Rattle.scheme_model.specs.Live.{CoreLeaf, any_name, no_hole}
-use Rattle.scheme_model.specs.ProgramArrows.{Arrow, arrow_of, binder_of, is_live_at, rule_arrows, leaf_arrows}
+use Rattle.scheme_model.specs.Live.{any_name, no_hole}
+use Rattle.scheme_model.specs.ProgramArrows.{arrow_of, binder_of, is_live_at, rule_arrows, leaf_arrows}
 use Rattle.core_tree.specs.Names.{AllMatch, IsLeaf}
 use Rattle.core_tree.specs.declared.cores.RuleLeaf.{RuleLeaf}
 use Rattle.arrow_index.specs.declared.leaves.Leaf.{Leaf}
@@ -33,8 +32,8 @@ returns-in_ok-add_meant-in-Uses c = λ leaves keywords names table ls sees is.
     let m = at.0 in
     let here = arrow_of (binder_of leaves table m.meaning) m.occ in
     let meant =
-        c.in_ok-add_meant-in-Uses.ensures w leaves keywords names table m.meaning sees at.2.meaning
-        ∙ ap (λ (o : Option Occ). map as_arrow c.args.pairs.now.items ++ arrow_of (binder_of leaves table m.meaning) o) at.2.place in
+    c.in_ok-add_meant-in-Uses.ensures w leaves keywords names table m.meaning sees at.2.meaning
+    ∙ ap (λ (o : Option Occ). map as_arrow c.args.pairs.now.items ++ arrow_of (binder_of leaves table m.meaning) o) at.2.place in
     grows_as as_arrow c.args.pairs.now.items c.add_meant.new.pairs.items here (all ls) meant
     (elim at.1 as (λ q. all ls ≡ here) [ inl e ↦ ap all e ∙ append-nil here | inr e ↦ ap all e ∙ append-nil here ])
 

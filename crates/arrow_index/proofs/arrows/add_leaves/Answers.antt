@@ -1,8 +1,7 @@
-use Rattle.std.proofs.Common.{◌≡◌, List, [], ◌∷◌, ◌++◌, map, drop, refl, sym, ap, ◌∙◌, arith}
+use Rattle.std.proofs.Common.{◌≡◌, [], ◌++◌, map, refl, arith}
 use Rattle.std.proofs.Math.ListN.{drop_of_length-le}
-use Rattle.scheme_model.specs.Live.{CoreLeaf}
 use Rattle.scheme_model.specs.ProgramArrows.{binder_of, is_live_at}
-use Rattle.arrow_index.specs.Placed.{placed_of, AreAllSeen}
+use Rattle.arrow_index.specs.Placed.{placed_of}
 use Rattle.arrow_index.specs.Index.{as_arrow}
 use Rattle.arrow_index.specs.Variables.{all_arrows_at}
 use Rattle.arrow_index.proofs.Growing.{grows_by_none, grows_twice}

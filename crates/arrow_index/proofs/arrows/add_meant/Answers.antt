@@ -1,4 +1,4 @@
-use Rattle.std.proofs.Common.{◌≡◌, ◌++◌, Option, map, ap, ◌∙◌}
+use Rattle.std.proofs.Common.{◌++◌, Option, map, ap, ◌∙◌}
 use Rattle.scheme_model.specs.declared.Occ.{Occ}
 use Rattle.scheme_model.specs.ProgramArrows.{arrow_of}
 use Rattle.arrow_index.specs.Index.{as_arrow}

@@ -1,4 +1,4 @@
-use Rattle.std.proofs.Common.{◌≡◌, List, [], ◌∷◌, ◌++◌, map, take, Option, refl, sym, ap, ◌∙◌, arith}
+use Rattle.std.proofs.Common.{[], ◌++◌, map, take, Option, refl, sym, ap, ◌∙◌, arith}
 use Rattle.scheme_model.specs.declared.Occ.{Occ}
 use Rattle.scheme_model.specs.ProgramArrows.{arrow_of, binder_of, name_arrows}
 use Rattle.arrow_index.specs.Index.{as_arrow}

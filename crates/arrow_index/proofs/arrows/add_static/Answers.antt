@@ -1,4 +1,4 @@
-use Rattle.std.proofs.Common.{◌≡◌, None, false, [], ◌∷◌, ◌++◌, take, refl, sym, ap, ◌∙◌, arith}
+use Rattle.std.proofs.Common.{None, false, [], ◌∷◌, take, refl, sym, ap, arith}
 use Rattle.scheme_model.specs.ProgramArrows.{binder_of, is_live_at, leaf_arrows}
 use Rattle.syntax_tree.specs.declared.meaning.Meaning.TheVariants as meanings
 use Rattle.core_tree.specs.Names.{IsLeaf}

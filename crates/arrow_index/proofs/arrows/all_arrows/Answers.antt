@@ -1,4 +1,4 @@
-use Rattle.std.proofs.Common.{◌≡◌, List, [], ◌∷◌, ◌++◌, map, refl, sym, ap, ◌∙◌, subst}
+use Rattle.std.proofs.Common.{◌≡◌, List, [], ◌++◌, map, sym, ap, ◌∙◌, subst}
 use Rattle.scheme_model.specs.ProgramArrows.{binder_of, is_live_at, target_arrows, name_arrows, program_leaves, program_keywords, program_names, program_table}
 use Rattle.core_tree.specs.Names.{AllMatch}
 use Rattle.arrow_index.specs.declared.sight.PlacedLeaf.{PlacedLeaf}
@@ -39,6 +39,7 @@ returns c = λ text uris all p h a.
     let two = c.in_ok-add_met.ensures w ls ks ms table met.told sees uses in
     let three = c.in_ok-add_all_names.ensures w ls ks ms table found.told sees named in
     let whole : map as_arrow c.add_all_names.new.pairs.items ≡ (all_arrows_at binder live ls ++ target_arrows binder met.told) ++ name_arrows binder found.told =
-        three ∙ (λ j. (two ∙ (λ i. (one ∙ (λ k. none k ++ all_arrows_at binder live ls)) i ++ target_arrows binder met.told)) j ++ name_arrows binder found.told) in
-    (λ k. arrows_there binder live ls met.told ks found.told ms met.there found.there a (subst (IsIn a) whole k),
-      λ k. subst (IsIn a) (sym whole) (arrows_back binder live ls met.told ks found.told ms met.back found.back a k))
+    three ∙ (λ j. (two ∙ (λ i. (one ∙ (λ k. none k ++ all_arrows_at binder live ls)) i ++ target_arrows binder met.told)) j ++ name_arrows binder found.told) in (
+      λ k. arrows_there binder live ls met.told ks found.told ms met.there found.there a (subst (IsIn a) whole k),
+      λ k. subst (IsIn a) (sym whole) (arrows_back binder live ls met.told ks found.told ms met.back found.back a k),
+    )

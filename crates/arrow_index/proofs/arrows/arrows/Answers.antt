@@ -1,5 +1,5 @@
-use Rattle.std.proofs.Common.{◌≡◌, List, sym, ap, subst, map}
-use Rattle.scheme_model.specs.ProgramArrows.{Arrow, arrows_of}
+use Rattle.std.proofs.Common.{◌≡◌, List, subst, map}
+use Rattle.scheme_model.specs.ProgramArrows.{arrows_of}
 use Rattle.arrow_index.specs.declared.pairs.Pair.{Pair}
 use Rattle.arrow_index.specs.Members.{IsIn}
 use Rattle.arrow_index.specs.Index.{as_arrow}

@@ -1,4 +1,4 @@
-use Rattle.std.proofs.Common.{◌≡◌, List, ◌++◌, map, sym, arith}
+use Rattle.std.proofs.Common.{◌≡◌, ◌++◌, map, sym, arith}
 use Rattle.std.proofs.Math.ListN.{drop_of_length-le}
 use Rattle.std.proofs.lemmas.List.{append-nil}
 use Rattle.scheme_model.specs.ProgramArrows.{leaf_binders}
@@ -20,7 +20,7 @@ loop-leaf-preserved c = λ ls seen.
     let n = next_leaf w c.args.leaves.now c.loop-leaf.leaf-index c.leaf-item.result p.rest (omega arith) c.leaf-item.is p.still in
     passed_more w c.args.leaves.now c.loop-leaf.leaf-index c.leaf-item.result ls _ _ p n
     (both_added c.args.places.now.items c.loop-leaf.places.items c.add_leaf_binders.new.places.items (leaf_binders p.done) (leaf_binders n.front) (leaf_binders (p.done ++ n.front)) p.holds (c.in_ok-add_leaf_binders.ensures n.front n.is)
-      (binders-append p.done n.front))
+    (binders-append p.done n.front))
 
 pub returns : goal.returns
 returns c = λ ls seen.

@@ -1,6 +1,5 @@
-use Rattle.std.proofs.Common.{◌⊎◌, inl, inr, [], ◌++◌, ap, sym, refl, subst, ◌≡◌, map, ◌∙◌, List}
+use Rattle.std.proofs.Common.{inl, inr, [], ◌++◌, ap, subst, ◌≡◌, ◌∙◌}
 use Rattle.std.proofs.lemmas.List.{append-nil}
-use Rattle.scheme_model.specs.declared.Occ.{Occ}
 use Rattle.scheme_model.specs.Ident.{symbol_of}
 use Rattle.scheme_model.specs.Trees.{map_tree}
 use Rattle.scheme_model.specs.Live.{any_name, no_hole}

@@ -1,4 +1,4 @@
-use Rattle.std.proofs.Common.{◌≡◌, ◌++◌, map, take, drop}
+use Rattle.std.proofs.Common.{◌≡◌, take}
 use Rattle.std.specs.BTreeMap.{get}
 use Rattle.arrow_index.specs.declared.sight.GlobalNo.{GlobalNo}
 use Rattle.arrow_index.specs.Placed.{global_cmp, given_by, given_after}

@@ -1,4 +1,4 @@
-use Rattle.std.proofs.Common.{◌≡◌, ◌++◌, map, take, drop}
+use Rattle.std.proofs.Common.{◌≡◌, ◌++◌, map, take}
 use Rattle.arrow_index.specs.Leaves.{seen_of}
 use Rattle.arrow_index.specs.Placed.{placed_of, at_form}
 use Rattle.arrow_index.proofs.gathering.add_placed.Given as goal

@@ -1,4 +1,4 @@
-use Rattle.std.proofs.Common.{◌≡◌, ◌++◌, map, take, drop}
+use Rattle.std.proofs.Common.{◌≡◌, ◌++◌, map, take}
 use Rattle.arrow_index.specs.Placed.{use_of, uses_at}
 use Rattle.arrow_index.proofs.gathering.add_targets.Given as goal
 

@@ -1,4 +1,4 @@
-use Rattle.std.proofs.Common.{◌≡◌, ◌++◌, map, take, drop}
+use Rattle.std.proofs.Common.{◌≡◌, ◌++◌, map, drop}
 use Rattle.arrow_index.specs.Placed.{placed_of, forms_seen}
 use Rattle.arrow_index.proofs.gathering.add_unit_leaves.Given as goal
 

@@ -1,4 +1,4 @@
-use Rattle.std.proofs.Common.{◌≡◌, ◌++◌, map, take, drop}
+use Rattle.std.proofs.Common.{◌≡◌, ◌++◌, map, drop}
 use Rattle.arrow_index.specs.Placed.{use_of, forms_met}
 use Rattle.arrow_index.proofs.gathering.add_unit_met.Given as goal
 

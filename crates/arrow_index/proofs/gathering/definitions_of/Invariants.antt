@@ -1,4 +1,4 @@
-use Rattle.std.proofs.Common.{◌≡◌, ◌++◌, map, take, drop}
+use Rattle.std.proofs.Common.{◌≡◌, drop}
 use Rattle.std.specs.BTreeMap.{get}
 use Rattle.std.specs.Prelude.{None}
 use Rattle.arrow_index.specs.declared.sight.GlobalNo.{GlobalNo}

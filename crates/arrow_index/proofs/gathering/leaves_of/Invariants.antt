@@ -1,4 +1,4 @@
-use Rattle.std.proofs.Common.{◌≡◌, ◌++◌, map, take, drop}
+use Rattle.std.proofs.Common.{◌≡◌, ◌++◌, map, drop}
 use Rattle.arrow_index.specs.Placed.{placed_of, units_seen}
 use Rattle.arrow_index.proofs.gathering.leaves_of.Given as goal
 

@@ -1,4 +1,4 @@
-use Rattle.std.proofs.Common.{◌≡◌, ◌++◌, map, take, drop}
+use Rattle.std.proofs.Common.{◌≡◌, map, take}
 use Rattle.std.specs.BTreeMap.{get}
 use Rattle.arrow_index.specs.declared.sight.LocalNo.{LocalNo}
 use Rattle.arrow_index.specs.Placed.{placed_of, local_cmp, local_in}

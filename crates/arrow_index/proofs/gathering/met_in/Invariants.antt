@@ -1,4 +1,4 @@
-use Rattle.std.proofs.Common.{◌≡◌, ◌++◌, map, take, drop}
+use Rattle.std.proofs.Common.{◌≡◌, ◌++◌, map, drop}
 use Rattle.arrow_index.specs.Placed.{use_of, units_met}
 use Rattle.arrow_index.proofs.gathering.met_in.Given as goal
 

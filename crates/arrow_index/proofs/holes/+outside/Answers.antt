@@ -1,11 +1,11 @@
-use Rattle.std.proofs.Common.{◌≡◌, ◌+◌, ◌<◌, ◌≤◌, ◌^◌, ℕ, List, [], ◌∷◌, ◌++◌, Bool, true, false, Option, map, refl, sym, ap, ◌∙◌, subst, append_assoc, rules, arith}
+use Rattle.std.proofs.Common.{◌≡◌, ◌+◌, ℕ, List, [], ◌∷◌, ◌++◌, Bool, Option, map, refl, sym, ap, ◌∙◌, subst, append_assoc, rules, arith}
 use Rattle.std.specs.Prelude.{if◌then◌else◌}
 use Rattle.std.proofs.lemmas.List.{append-nil, map-append}
 use Rattle.scheme_model.specs.declared.Occ.{Occ}
 use Rattle.scheme_model.specs.Trees.{Tail, proper}
 use Rattle.scheme_model.specs.Cores.{hole_weight, weight, weights, tail_weight}
 use Rattle.scheme_model.specs.Matching.{behind}
-use Rattle.scheme_model.specs.Holes.{places_in, places_among, places_behind}
+use Rattle.scheme_model.specs.Holes.{places_among, places_behind}
 use Rattle.scheme_model.specs.Ident.{symbol_of}
 use Rattle.syntax_tree.specs.declared.rules.Named.{Named}
 use Rattle.syntax_tree.proofs.Looking.{part_there, part_within, split_one, behind_past, within_positive, list_parts_within, end_within, vector_parts_within, no_end}
@@ -141,9 +141,11 @@ add_row_outside-returns-in-None t c = λ ts tail us last rest stands ends like t
     let all = walked_all symbol_of _ _ (left c.loop-k.holes) c.loop-k.holes.nodes c.args.holes.now.nodes k ts us last rest inv (behind_past w k c.args.items.now ts stands c.loop-k-test.false) in
     let gone = no_end w c.args.end tail (first_of (search rules, cc)) ends in
     let none = no_tail symbol_of tail last gone tail_like in
-    let weighs : tail_weight hole_weight last ≡ 0 = ap (tail_weight hole_weight) none in
-    (all.0 ∙ sym (append-nil (old ++ occs_among us)) ∙ ap (λ (x : Tail (Option (List ℕ))). (old ++ occs_among us) ++ occs_behind x) (sym none),
-      all.1 ∙ ap (λ (x : Tail (Option (List ℕ))). places_behind hole_weight c.loop-k.holes.nodes x ++ rest) none, omega (arith, all.2, weighs))
+    let weighs : tail_weight hole_weight last ≡ 0 = ap (tail_weight hole_weight) none in (
+      all.0 ∙ sym (append-nil (old ++ occs_among us)) ∙ ap (λ (x : Tail (Option (List ℕ))). (old ++ occs_among us) ++ occs_behind x) (sym none),
+      all.1 ∙ ap (λ (x : Tail (Option (List ℕ))). places_behind hole_weight c.loop-k.holes.nodes x ++ rest) none,
+      omega (arith, all.2, weighs),
+    )
 
 pub add_row_outside-returns-in_ok-add_outside-in-Some : goal.add_row_outside-returns-in_ok-add_outside-in-Some
 add_row_outside-returns-in_ok-add_outside-in-Some t c = λ ts tail us last rest stands ends like tail_like at from bound.

@@ -1,6 +1,5 @@
-use Rattle.std.proofs.Common.{◌≡◌, ◌+◌, ◌<◌, ◌≤◌, ◌^◌, ℕ, List, [], ◌++◌, Option, map, refl, sym, ap, ◌∙◌, arith}
+use Rattle.std.proofs.Common.{List, [], ◌++◌, map, sym, ap, ◌∙◌, arith}
 use Rattle.std.proofs.lemmas.List.{append-nil}
-use Rattle.scheme_model.specs.Cores.{hole_weight, weight}
 use Rattle.scheme_model.specs.Holes.{hole_places}
 use Rattle.scheme_model.specs.Ident.{symbol_of}
 use Rattle.syntax_tree.specs.declared.rules.Named.{Named}

@@ -1,9 +1,8 @@
-use Rattle.std.proofs.Common.{◌≡◌, [], ◌∷◌, ◌++◌, map, take, true, refl, sym, ap, ◌∙◌, arith}
-use Rattle.core_tree.specs.declared.cores.Core.{Core}
+use Rattle.std.proofs.Common.{[], ◌∷◌, ◌++◌, true, refl, sym, ap, ◌∙◌}
 use Rattle.core_tree.specs.declared.cores.CorePart.{CorePart}
 use Rattle.arrow_index.specs.Leaves.{Uses, Quoted, Holed, Binds, seen_of, core_seen, cores_seen, clause_seen, clauses_seen, part_seen, parts_seen, binders_seen, macro_seen, macros_seen, fields_seen}
 use Rattle.arrow_index.proofs.SeenLaws.{seen_ref, seen_const, seen_quote, seen_quasi, seen_lambda, seen_case_lambda, seen_if, seen_set, seen_call, seen_body, seen_let_syntax, clause_is, seen_expression, seen_define, seen_values, seen_fields, seen_syntax}
-use Rattle.arrow_index.proofs.Growing.{grows_by_one, grows_by_none, grows_as, grows_twice, flat_more, flat_all}
+use Rattle.arrow_index.proofs.Growing.{grows_by_one, grows_by_none, grows_as, grows_twice}
 use Rattle.arrow_index.proofs.leaves.+leaves.Goals as goal
 
 pub add_core-returns-in_ok-push-in-Ref : goal.add_core-returns-in_ok-push-in-Ref
@@ -103,7 +102,7 @@ add_part-returns-in_ok-add_used-in-Fields t c =
     let both = grows_twice seen_of old c.add_binders-in-Fields.new.leaves.items c.add_binders-in-Fields-2.new.leaves.items first second (first ++ second) c.in_ok-add_binders-in-Fields.ensures c.in_ok-add_binders-in-Fields-2.ensures refl in
     grows_twice seen_of old c.add_binders-in-Fields-2.new.leaves.items c.add_used.new.leaves.items (first ++ second) third (part_seen c.args.part.now local) both c.in_ok-add_used-in-Fields.ensures
     (ap (λ (p : CorePart). part_seen p local) q.is ∙ seen_fields q.binders q.fields q.modified q.used local
-      ∙ (λ j. binders_seen local (sym c.as_slice-in-Fields.ensures.value j) ++ binders_seen true (sym c.as_slice-in-Fields-2.ensures.value j) ++ fields_seen (sym c.as_slice-in-Fields-3.ensures.value j) (sym c.as_slice-in-Fields-4.ensures.value j)))
+    ∙ (λ j. binders_seen local (sym c.as_slice-in-Fields.ensures.value j) ++ binders_seen true (sym c.as_slice-in-Fields-2.ensures.value j) ++ fields_seen (sym c.as_slice-in-Fields-3.ensures.value j) (sym c.as_slice-in-Fields-4.ensures.value j)))
 
 pub add_part-returns-in_ok-add_macro-in-Syntax : goal.add_part-returns-in_ok-add_macro-in-Syntax
 add_part-returns-in_ok-add_macro-in-Syntax t c =

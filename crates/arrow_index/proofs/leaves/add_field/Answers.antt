@@ -1,4 +1,4 @@
-use Rattle.std.proofs.Common.{◌≡◌, Option, sym, ap, ◌∙◌}
+use Rattle.std.proofs.Common.{Option, sym, ap}
 use Rattle.core_tree.specs.declared.cores.Binder.{Binder}
 use Rattle.arrow_index.specs.Leaves.{seen_of, field_seen}
 use Rattle.arrow_index.proofs.Ends.{get_none, get_some}

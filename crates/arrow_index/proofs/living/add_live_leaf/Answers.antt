@@ -1,7 +1,6 @@
-use Rattle.std.proofs.Common.{◌≡◌, ◌⊎◌, inl, inr, List, [], ◌∷◌, Bool, false, map, refl, sym, ap, ◌∙◌, subst}
+use Rattle.std.proofs.Common.{◌≡◌, inl, inr, List, Bool, sym, ap, ◌∙◌, subst}
 use Rattle.std.specs.Prelude.{◌||◌}
 use Rattle.std.specs.BTreeSet.{contains}
-use Rattle.scheme_model.specs.declared.Occ.{Occ}
 use Rattle.scheme_model.specs.Ident.{symbol_of}
 use Rattle.scheme_model.specs.Live as live
 use Rattle.scheme_model.specs.Live.{CoreLeaf}
@@ -29,7 +28,7 @@ returns-in_ok-add_live-in-Uses c = λ ls is o.
     let old = contains occ_cmp c.args.live.now o in
     let m = at.0 in
     let here : is_occ o m.occ ≡ any (leaf_at o) ls =
-        elim at.1 as (λ q. is_occ o m.occ ≡ any (leaf_at o) ls) [ inl e ↦ sym (any_one (leaf_at o) (live.Uses m)) ∙ ap (any (leaf_at o)) (sym e) | inr e ↦ sym (any_one (leaf_at o) (live.Assigns m)) ∙ ap (any (leaf_at o)) (sym e) ] in
+    elim at.1 as (λ q. is_occ o m.occ ≡ any (leaf_at o) ls) [ inl e ↦ sym (any_one (leaf_at o) (live.Uses m)) ∙ ap (any (leaf_at o)) (sym e) | inr e ↦ sym (any_one (leaf_at o) (live.Assigns m)) ∙ ap (any (leaf_at o)) (sym e) ] in
     c.in_ok-add_live-in-Uses.ensures o ∙ ap (λ (b : Bool). old || b) (ap (is_occ o) at.2.place ∙ here)
 
 pub names_of-requires : goal.names_of-requires

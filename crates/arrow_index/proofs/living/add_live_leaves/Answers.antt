@@ -1,7 +1,6 @@
-use Rattle.std.proofs.Common.{◌≡◌, List, [], ◌∷◌, ◌++◌, map, drop, refl, sym, ap, ◌∙◌, arith}
+use Rattle.std.proofs.Common.{◌++◌, map, arith}
 use Rattle.std.specs.BTreeSet.{contains}
 use Rattle.std.proofs.Math.ListN.{drop_of_length-le}
-use Rattle.scheme_model.specs.Live.{CoreLeaf}
 use Rattle.scheme_model.specs.ProgramArrows.{any, leaf_at}
 use Rattle.arrow_index.specs.Placed.{occ_cmp, placed_of}
 use Rattle.arrow_index.specs.Sights.{Grows}
@@ -22,7 +21,7 @@ loop-leaf-preserved c = λ ls seen.
     let n = next_leaf w c.args.leaves.now c.loop-leaf.leaf-index c.leaf-item.result p.rest (omega arith) c.leaf-item.is p.still in
     passed_more w c.args.leaves.now c.loop-leaf.leaf-index c.leaf-item.result ls _ _ p n
     (λ o. grows_both (contains occ_cmp c.args.live.now o) (contains occ_cmp c.loop-leaf.live o) (contains occ_cmp c.add_live_leaf.new.live o) (any (leaf_at o) p.done) (any (leaf_at o) n.front) (any (leaf_at o) (p.done ++ n.front))
-      (p.holds o) (c.in_ok-add_live_leaf.ensures n.front n.is o) (any-append (leaf_at o) p.done n.front))
+    (p.holds o) (c.in_ok-add_live_leaf.ensures n.front n.is o) (any-append (leaf_at o) p.done n.front))
 
 pub returns : goal.returns
 returns c = λ ls seen.

@@ -1,4 +1,4 @@
-use Rattle.std.proofs.Common.{◌≡◌, ◌++◌, List, map, take, drop}
+use Rattle.std.proofs.Common.{List, map, drop}
 use Rattle.scheme_model.specs.Live.{CoreLeaf}
 use Rattle.scheme_model.specs.ProgramArrows.{any, leaf_at}
 use Rattle.arrow_index.specs.Placed.{placed_of, AreAllSeen}

@@ -1,5 +1,5 @@
-use Rattle.std.proofs.Common.{take, map}
-use Rattle.scheme_model.specs.ProgramArrows.{any, is_occ, leaf_at}
+use Rattle.std.proofs.Common.{take}
+use Rattle.scheme_model.specs.ProgramArrows.{any, is_occ}
 use Rattle.arrow_index.specs.Sights.{Grows}
 use Rattle.arrow_index.proofs.living.add_live_names.Given as goal
 

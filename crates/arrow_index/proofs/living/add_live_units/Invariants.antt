@@ -1,5 +1,5 @@
-use Rattle.std.proofs.Common.{take, map}
-use Rattle.scheme_model.specs.ProgramArrows.{any, is_occ, leaf_at}
+use Rattle.std.proofs.Common.{take}
+use Rattle.scheme_model.specs.ProgramArrows.{any}
 use Rattle.arrow_index.specs.Sights.{Grows, name_at, all_names}
 use Rattle.arrow_index.proofs.living.add_live_units.Given as goal
 

@@ -1,10 +1,10 @@
 use Rattle.std.specs.Prelude.{◌||◌}
-use Rattle.std.proofs.Common.{◌≡◌, List, sym, ap, ◌∙◌}
+use Rattle.std.proofs.Common.{List, ap, ◌∙◌}
 use Rattle.std.specs.BTreeSet.{contains}
-use Rattle.scheme_model.specs.ProgramArrows.{any, leaf_at}
+use Rattle.scheme_model.specs.ProgramArrows.{any}
 use Rattle.core_tree.specs.declared.units.Unit.{Unit as CodeUnit}
-use Rattle.arrow_index.specs.Placed.{occ_cmp, use_of}
-use Rattle.arrow_index.specs.Sights.{use_at, name_at, all_names}
+use Rattle.arrow_index.specs.Placed.{occ_cmp}
+use Rattle.arrow_index.specs.Sights.{name_at, all_names}
 use Rattle.arrow_index.proofs.LiveLaws.{contains_none, grows_thrice}
 use Rattle.arrow_index.proofs.living.live_in.Goals as goal
 

@@ -1,4 +1,4 @@
-use Rattle.std.proofs.Common.{arith, refl}
+use Rattle.std.proofs.Common.{arith}
 use Rattle.syntax_tree.specs.Placed.{IsNamed}
 use Rattle.arrow_index.specs.Names.{names_in}
 use Rattle.arrow_index.proofs.AddLaws.{all_match}

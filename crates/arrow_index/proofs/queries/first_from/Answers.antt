@@ -1,4 +1,4 @@
-use Rattle.std.proofs.Common.{not, rules}
+use Rattle.std.proofs.Common.{rules}
 use Rattle.std.specs.Ordering.{is_lt}
 use Rattle.std.proofs.lemmas.List.Sorted.{IsPartitionPoint-from_clause}
 use Rattle.arrow_index.specs.declared.pairs.Pair.{Pair}

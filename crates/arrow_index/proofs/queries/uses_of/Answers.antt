@@ -1,5 +1,4 @@
-use Rattle.std.proofs.Common.{◌≡◌, ◌<◌, ◌++◌, List, length, take, get_or, sym, ap, ◌∙◌, refl, arith}
-use Rattle.std.specs.List.{flat_map}
+use Rattle.std.proofs.Common.{◌<◌, ◌++◌, length, get_or, sym, ◌∙◌, arith}
 use Rattle.scheme_model.specs.declared.Occ.{Occ}
 use Rattle.arrow_index.specs.declared.pairs.Pair.{Pair}
 use Rattle.arrow_index.specs.Binders.{targets_with}

@@ -1,4 +1,4 @@
-use Rattle.std.proofs.Common.{[], ◌++◌, refl, sym, ap, ◌∙◌, rules, arith}
+use Rattle.std.proofs.Common.{[], ◌++◌, sym, ap, arith}
 use Rattle.scheme_model.specs.Matching.{behind}
 use Rattle.syntax_tree.specs.Placed.{IsNamed}
 use Rattle.syntax_tree.proofs.Looking.{list_parts_within, end_within}

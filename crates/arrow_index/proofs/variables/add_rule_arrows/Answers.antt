@@ -1,12 +1,10 @@
-use Rattle.std.proofs.Common.{◌≡◌, ◌++◌, ◌+◌, ℕ, List, Option, None, map, take, get_or, sym, ap, ◌∙◌, subst, arith}
+use Rattle.std.proofs.Common.{◌++◌, ◌+◌, List, Option, None, map, take, get_or, sym, ap, ◌∙◌, subst, arith}
 use Rattle.std.specs.List.{flat_map}
-use Rattle.std.specs.BTreeMap.{get}
-use Rattle.std.specs.Ordering.{nat_cmp}
 use Rattle.scheme_model.specs.declared.Occ.{Occ}
 use Rattle.scheme_model.specs.ExpansionFaults.{Named}
 use Rattle.scheme_model.specs.Ident.{Ident as Identifier}
 use Rattle.scheme_model.specs.Trees.{name, list, tree}
-use Rattle.scheme_model.specs.RulesShape.{role_of, pattern_variables}
+use Rattle.scheme_model.specs.RulesShape.{pattern_variables}
 use Rattle.scheme_model.specs.ProgramArrows.{arrow_of, template_arrows}
 use Rattle.syntax_tree.specs.declared.rules.Named as code
 use Rattle.syntax_tree.specs.Macros.{identifiers}

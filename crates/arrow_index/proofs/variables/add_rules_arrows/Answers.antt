@@ -1,8 +1,7 @@
-use Rattle.std.proofs.Common.{◌≡◌, List, take, sym, ap, ◌∙◌, subst, arith}
-use Rattle.scheme_model.specs.RulesShape.{Rules, pattern_variables}
+use Rattle.std.proofs.Common.{List, take, sym, ap, subst}
+use Rattle.scheme_model.specs.RulesShape.{pattern_variables}
 use Rattle.scheme_model.specs.ProgramArrows.{template_arrows, rule_arrows}
-use Rattle.scheme_model.specs.Ident.{Ident as Identifier}
-use Rattle.syntax_tree.specs.Macros.{identifiers, AreRules, RulesFor}
+use Rattle.syntax_tree.specs.Macros.{identifiers, AreRules}
 use Rattle.syntax_tree.specs.declared.rules.Rule.{Rule}
 use Rattle.arrow_index.specs.Index.{as_arrow}
 use Rattle.arrow_index.proofs.Growing.{grows_as, grows_twice}

@@ -1,4 +1,4 @@
-use Rattle.std.proofs.Common.{◌≡◌, List, take, sym, ap, subst}
+use Rattle.std.proofs.Common.{List, take, sym, ap, subst}
 use Rattle.scheme_model.specs.RulesShape.{pattern_variables}
 use Rattle.scheme_model.specs.ProgramArrows.{variable_places, rule_binders}
 use Rattle.syntax_tree.specs.Macros.{identifiers, AreRules}

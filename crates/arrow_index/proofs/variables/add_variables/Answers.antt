@@ -1,4 +1,4 @@
-use Rattle.std.proofs.Common.{◌++◌, take, None, sym, refl, ap, arith}
+use Rattle.std.proofs.Common.{◌++◌, take, None, sym, ap, arith}
 use Rattle.scheme_model.specs.RulesShape.{role_of}
 use Rattle.syntax_tree.specs.Macros.{identifiers}
 use Rattle.syntax_tree.specs.Placed.{IsNamed}

@@ -1,14 +1,10 @@
 use Rattle.std.specs.Prelude.{◌||◌}
-use Rattle.std.proofs.Common.{◌≡◌, ℕ, List, map, sym, refl, ap, ◌∙◌, subst, arith}
-use Rattle.scheme_model.specs.declared.Occ.{Occ}
-use Rattle.scheme_model.specs.Ident.{Ident as Identifier}
-use Rattle.scheme_model.specs.ProgramArrows.{program_leaves, program_keywords, program_names, program_table, any, leaf_at}
-use Rattle.syntax_tree.specs.Macros.{IsIdent}
+use Rattle.std.proofs.Common.{◌≡◌, List, map, sym, refl, ap, ◌∙◌, subst, arith}
+use Rattle.scheme_model.specs.ProgramArrows.{program_leaves, program_keywords, program_names, any, leaf_at}
 use Rattle.arrow_index.specs.declared.sight.LocalNo.{LocalNo}
-use Rattle.arrow_index.specs.declared.sight.GlobalNo.{GlobalNo}
 use Rattle.arrow_index.specs.declared.sight.PlacedLeaf.{PlacedLeaf}
 use Rattle.arrow_index.specs.declared.sight.PlacedTarget.{PlacedTarget}
-use Rattle.arrow_index.specs.Placed.{local_in, PlacedSeen, placed_of, use_of, Use, units_seen, units_met, AreAllSeen, IsUseOf, place_in}
+use Rattle.arrow_index.specs.Placed.{local_in, PlacedSeen, placed_of, use_of, units_seen, units_met, AreAllSeen, IsUseOf, place_in}
 use Rattle.arrow_index.specs.Sights.{all_names, name_at, use_at}
 use Rattle.arrow_index.proofs.PlacedLaws.{units_leaves}
 use Rattle.arrow_index.proofs.ToldLaws.{tells_as, units_told, names_told}
