@@ -1,0 +1,4 @@
+pub mod LinkLaws
+pub mod EntryLaws
+pub mod IdentLaws
+pub mod WholeLaws
