@@ -1,8 +1,8 @@
 -- Entries by name, of one unit and of a program.
-use Rattle.std.proofs.Common.{◌≡◌, ◌<◌, ◌+◌, ℕ, zero, suc, List, [], ◌∷◌, ◌++◌, length, take, get_or, slice_get, Bool, true, false, Option, Some, None, refl, sym, ap, ◌∙◌, subst, arith}
+use Rattle.std.proofs.Common.{◌≡◌, ◌<◌, ◌+◌, ℕ, zero, suc, List, [], ◌∷◌, ◌++◌, length, take, get_or, slice_get, Bool, true, false, cond, is_some, Option, Some, None, Bor, refl, sym, ap, ◌∙◌, subst, arith}
 use Rattle.std.specs.Prelude.{◌==◌, if◌then◌else◌}
 use Rattle.std.specs.Str.{bytes_eq}
-use Rattle.std.specs.Option.{option_and_then}
+use Rattle.std.specs.Option.{option_and_then, option_map}
 use Rattle.std.proofs.lemmas.Bool.Decides.{nat_tests}
 use Rattle.std.proofs.lemmas.List.{take_more}
 use Rattle.scheme_model.specs.Entries.{Entry, entry_at}
@@ -10,13 +10,14 @@ use Rattle.scheme_model.specs.Program.{Placed, Program, UnitResult, result_at}
 use Rattle.scheme_model.specs.Requirements.{LibraryName}
 use Rattle.scheme_model.specs.Spelling.{entries_at}
 use Rattle.syntax_tree.specs.Names.{Names}
+use Rattle.syntax_tree.proofs.InternLaws.{bytes_told}
 use Rattle.syntax_tree.specs.Meant.{IsEntry, AreEntries}
 use Rattle.syntax_tree.specs.declared.trees.Work.{Work}
 use Rattle.syntax_tree.specs.declared.units.Entry as code_entry
 use Rattle.core_tree.specs.Names.{AllMatch}
 use Rattle.core_tree.specs.Units.{UnitsStand}
 use Rattle.core_tree.specs.declared.units.Unit.{Unit as CodeUnit}
-use Rattle.spelling.specs.Entries.{ByName, named, first_or, entry_named, entry_found, HasEntries, IsEntryOf, Gives}
+use Rattle.spelling.specs.Entries.{ByName, now_of, named, first_or, entry_named, entry_found, HasEntries, IsEntryOf, Gives}
 
 first_first : {A : Type 0} (a b c : Option A) → first_or (first_or a b) c ≡ first_or a (first_or b c)
 first_first None b c = refl
@@ -76,4 +77,29 @@ module _ (work : Work) (text : LibraryName → List ℕ) (uris : List (List ℕ)
       (subst (λ (n : ℕ). IsEntryOf work.symbols (entry_found ms u s) (entry_at (entries_at (result_at rs n)) s)) next rest)
 
   pub gives_law : (ms : List ByName) (cs : List CodeUnit) → AllMatch HasEntries ms cs → UnitsStand work text uris all p 0 cs p.units → Gives work.symbols ms p.units
-  gives_law ms cs h g = λ u s. found_law 0 u s ms cs p.units h g
+  gives_law ms cs h g = λ u s.
+      let same : 0 + u ≡ u = omega arith in
+      subst (λ (n : ℕ). IsEntryOf work.symbols (entry_found ms u s) (entry_at (entries_at (result_at p.units n)) s)) same (found_law 0 u s ms cs p.units h g)
+
+-- ---- one more
+
+pub put_law : {A : Type 0} (name s : List ℕ) (get : List ℕ → Option A) (v : A) → is_some (get name) ≡ false → cond (bytes_eq name s) (Some v) (get s) ≡ first_or (get s) (if bytes_eq name s then Some v else None)
+put_law {A = A} name s get v none = by_test (bytes_eq name s) refl
+  where
+    gone : (o : Option A) → is_some o ≡ false → o ≡ None
+    gone None h = refl
+    gone (Some a) h = absurd cc
+
+    by_test : (b : Bool) → bytes_eq name s ≡ b → cond b (Some v) (get s) ≡ first_or (get s) (if b then Some v else None)
+    by_test false e = sym (first_none (get s))
+    by_test true e =
+        let none_here : get s ≡ None = ap get (sym (bytes_told name s e)) ∙ gone (get name) none in
+        sym (ap (λ (o : Option A). first_or o (Some v)) none_here)
+
+pub mapped_cond : (b : Bool) (e : Bor code_entry.Entry) (o : Option (Bor code_entry.Entry)) → option_map now_of (cond b (Some e) o) ≡ cond b (Some e.now) (option_map now_of o)
+mapped_cond true e o = refl
+mapped_cond false e o = refl
+
+pub mapped_none : (o : Option (Bor code_entry.Entry)) → is_some o ≡ false → is_some (option_map now_of o) ≡ false
+mapped_none None h = refl
+mapped_none (Some e) h = h

@@ -1,11 +1,11 @@
 -- The walk from an identifier to what spells it.
 use Rattle.std.proofs.Common.{◌≡◌, ◌<◌, ℕ, suc, List, [], ◌∷◌, ◌++◌, length, slice_get, Bool, Option, Some, None, refl, sym, ap, ◌∙◌, subst, arith}
-use Rattle.std.specs.Option.{option_map}
+use Rattle.std.specs.Option.{option_map, option_map_or}
 use Rattle.std.specs.BTreeMap.{get}
-use Rattle.std.proofs.lemmas.Option.{same_Some}
+use Rattle.std.proofs.lemmas.Option.{same_Some, slice_get_within}
 use Rattle.scheme_model.specs.declared.Occ.{Occ}
 use Rattle.scheme_model.specs.Cores.{Target}
-use Rattle.scheme_model.specs.Entries.{Entry, Origin, entry_at, place_origin}
+use Rattle.scheme_model.specs.Entries.{Entry, Origin, Source, StandardName, entry_at, place_origin}
 use Rattle.scheme_model.specs.Ident.{Ident as Identifier, Written, Inserted}
 use Rattle.scheme_model.specs.Live.{CoreLeaf, NameUse}
 use Rattle.scheme_model.specs.Meaning as model
@@ -14,6 +14,7 @@ use Rattle.scheme_model.specs.Program.{UnitResult, result_at}
 use Rattle.scheme_model.specs.Substitution.{Table, Defined, defined_in}
 use Rattle.scheme_model.specs.Spelling.{entries_at, entry_origins, defined_or, imported_origins, ident_origins}
 use Rattle.syntax_tree.specs.Names.{Names}
+use Rattle.syntax_tree.proofs.Places.{get_within}
 use Rattle.syntax_tree.specs.Macros.{IsIdent}
 use Rattle.syntax_tree.specs.Meant.{IsEntry, IsGivenMeaning, AreOrigins, IsSource}
 use Rattle.syntax_tree.specs.Numbered.{ident_of, number_of}
@@ -107,3 +108,49 @@ pub entry_none : (names : Names) (o : Option code_entry.Entry) (d : Option Entry
 entry_none names None None h g = refl
 entry_none names None (Some d) h g = absurd g
 entry_none names (Some f) d h g = absurd cc
+
+-- ---- meanings
+
+pub symbol_within : (names : Names) (n : ℕ) (m : Meaning) → IsGivenMeaning names (code.Standard n) m → n < length names.symbols
+symbol_within names n (model.Local v) h = absurd (h 0 0)
+symbol_within names n (model.Global u i) h = absurd (h 0 0)
+symbol_within names n (model.Standard s) h = slice_get_within names.symbols n s (h 0 0)
+symbol_within names n (model.Free s) h = absurd (h 0 0)
+
+pub standard_source : (names : Names) (n : ℕ) (m : Meaning) (s : Source) → IsGivenMeaning names (code.Standard n) m → IsSource m None s → (t : List ℕ) × (slice_get names.symbols n ≡ Some t) × (s ≡ StandardName t)
+standard_source names n (model.Local v) s h g = absurd (h 0 0)
+standard_source names n (model.Global u i) s h g = absurd (h 0 0)
+standard_source names n (model.Standard t) s h g = (t, h 0 0, g)
+standard_source names n (model.Free t) s h g = absurd (h 0 0)
+
+pub no_local : (names : Names) (n : ℕ) (m : Meaning) (s : Source) → IsGivenMeaning names (code.Local n) m → IsSource m None s → ⊥
+no_local names n m s h g = subst (λ (x : Meaning). IsSource x None s) (h 0 0) g
+
+pub no_global : (names : Names) (u n : ℕ) (m : Meaning) (s : Source) → IsGivenMeaning names (code.Global u n) m → IsSource m None s → ⊥
+no_global names u n (model.Local v) s h g = g
+no_global names u n (model.Global w i) s h g = g
+no_global names u n (model.Standard t) s h g = h 0 0
+no_global names u n (model.Free t) s h g = g
+
+pub no_free : (names : Names) (n : ℕ) (m : Meaning) (s : Source) → IsGivenMeaning names (code.Free n) m → IsSource m None s → ⊥
+no_free names n (model.Local v) s h g = g
+no_free names n (model.Global w i) s h g = g
+no_free names n (model.Standard t) s h g = h 0 0
+no_free names n (model.Free t) s h g = g
+
+-- ---- how many uses have inserted an identifier
+
+abbrev depth : Identifier → ℕ
+depth (Written u s) = 0
+depth (Inserted i k) = suc (depth i)
+
+abbrev pub depth_at : Names → ℕ → ℕ
+depth_at names n = option_map_or depth (slice_get names.idents n) 0
+
+pub less_deep : (names : Names) (n id : ℕ) (k : UseNo) → n < length names.idents → slice_get names.idents n ≡ ident_of names (entry.Inserted id k) → depth_at names id < depth_at names n
+less_deep names n id k within is =
+    let i = get_within names.idents n within in
+    let j = inserted_is names n id k i.0 i.1 is in
+    let outer : depth_at names n ≡ suc (depth j.0) = ap (λ (o : Option Identifier). option_map_or depth o 0) (i.1 ∙ ap Some j.2) in
+    let inner : depth_at names id ≡ depth j.0 = ap (λ (o : Option Identifier). option_map_or depth o 0) j.1 in
+    omega arith
