@@ -1,8 +1,8 @@
 -- Entries by name, of one unit and of a program.
-use Rattle.std.proofs.Common.{◌≡◌, ◌<◌, ◌+◌, ℕ, zero, suc, List, [], ◌∷◌, ◌++◌, length, take, get_or, slice_get, Bool, true, false, cond, is_some, Option, Some, None, Bor, refl, sym, ap, ◌∙◌, subst, arith}
+use Rattle.std.proofs.Common.{◌≡◌, ◌<◌, ◌+◌, ℕ, zero, suc, List, [], ◌∷◌, ◌++◌, length, take, get_or, Bool, true, false, cond, is_some, Option, Some, None, Bor, refl, sym, ap, ◌∙◌, subst, arith}
 use Rattle.std.specs.Prelude.{◌==◌, if◌then◌else◌}
 use Rattle.std.specs.Str.{bytes_eq}
-use Rattle.std.specs.Option.{option_and_then, option_map}
+use Rattle.std.specs.Option.{option_map}
 use Rattle.std.proofs.lemmas.Bool.Decides.{nat_tests}
 use Rattle.std.proofs.lemmas.List.{take_more}
 use Rattle.scheme_model.specs.Entries.{Entry, entry_at}
@@ -11,7 +11,7 @@ use Rattle.scheme_model.specs.Requirements.{LibraryName}
 use Rattle.scheme_model.specs.Spelling.{entries_at}
 use Rattle.syntax_tree.specs.Names.{Names}
 use Rattle.syntax_tree.proofs.InternLaws.{bytes_told}
-use Rattle.syntax_tree.specs.Meant.{IsEntry, AreEntries}
+use Rattle.syntax_tree.specs.Meant.{AreEntries}
 use Rattle.syntax_tree.specs.declared.trees.Work.{Work}
 use Rattle.syntax_tree.specs.declared.units.Entry as code_entry
 use Rattle.core_tree.specs.Names.{AllMatch}

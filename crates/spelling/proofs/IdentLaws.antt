@@ -1,18 +1,18 @@
 -- The walk from an identifier to what spells it.
-use Rattle.std.proofs.Common.{◌≡◌, ◌<◌, ℕ, suc, List, [], ◌∷◌, ◌++◌, length, slice_get, Bool, Option, Some, None, refl, sym, ap, ◌∙◌, subst, arith}
+use Rattle.std.proofs.Common.{◌≡◌, ◌<◌, ℕ, suc, List, [], length, slice_get, Option, Some, None, refl, sym, ap, ◌∙◌, subst, arith}
 use Rattle.std.specs.Option.{option_map, option_map_or}
 use Rattle.std.specs.BTreeMap.{get}
 use Rattle.std.proofs.lemmas.Option.{same_Some, slice_get_within}
 use Rattle.scheme_model.specs.declared.Occ.{Occ}
 use Rattle.scheme_model.specs.Cores.{Target}
-use Rattle.scheme_model.specs.Entries.{Entry, Origin, Source, StandardName, entry_at, place_origin}
+use Rattle.scheme_model.specs.Entries.{Entry, Origin, Source, StandardName, place_origin}
 use Rattle.scheme_model.specs.Ident.{Ident as Identifier, Written, Inserted}
 use Rattle.scheme_model.specs.Live.{CoreLeaf, NameUse}
 use Rattle.scheme_model.specs.Meaning as model
 use Rattle.scheme_model.specs.Meaning.{Meaning}
-use Rattle.scheme_model.specs.Program.{UnitResult, result_at}
+use Rattle.scheme_model.specs.Program.{UnitResult}
 use Rattle.scheme_model.specs.Substitution.{Table, Defined, defined_in}
-use Rattle.scheme_model.specs.Spelling.{entries_at, entry_origins, defined_or, imported_origins, ident_origins}
+use Rattle.scheme_model.specs.Spelling.{entry_origins, defined_or, imported_origins, ident_origins}
 use Rattle.syntax_tree.specs.Names.{Names}
 use Rattle.syntax_tree.proofs.Places.{get_within}
 use Rattle.syntax_tree.specs.Macros.{IsIdent}

@@ -1,9 +1,8 @@
 -- The origins of a use, by what its meaning is.
-use Rattle.std.proofs.Common.{◌≡◌, ◌<◌, ℕ, List, length, refl, sym, ap, ◌∙◌}
+use Rattle.std.proofs.Common.{◌≡◌, ◌<◌, ℕ, List, length, refl, sym, ap}
 use Rattle.std.proofs.lemmas.Option.{slice_get_within}
 use Rattle.scheme_model.specs.Cores.{Target}
 use Rattle.scheme_model.specs.Entries.{place_origin}
-use Rattle.scheme_model.specs.Identifiers.{Number}
 use Rattle.scheme_model.specs.Live.{CoreLeaf}
 use Rattle.scheme_model.specs.Meaning as model
 use Rattle.scheme_model.specs.Meaning.{Meaning}

@@ -1,5 +1,5 @@
 -- The links that the code gathers are those of the definition's program; the order of links.
-use Rattle.std.proofs.Common.{◌≡◌, ◌⊎◌, inl, inr, ◌↔◌, ◌<◌, ℕ, zero, suc, List, [], ◌∷◌, ◌++◌, length, get_or, refl, sym, ap, ◌∙◌, subst, arith}
+use Rattle.std.proofs.Common.{◌≡◌, ◌⊎◌, inl, inr, ◌↔◌, ◌<◌, ℕ, zero, suc, List, [], ◌∷◌, ◌++◌, length, get_or, refl, sym, ap, subst, arith}
 use Rattle.std.specs.List.{flat_map}
 use Rattle.scheme_model.specs.declared.Occ.{Occ}
 use Rattle.scheme_model.specs.Cores.{Target}
@@ -84,13 +84,14 @@ module _ (leaves : List CoreLeaf) (keywords : List Target) (names : List NameUse
       (a : Link) → IsIn a found ↔ IsIn a (links_with leaves keywords names table rs binders)
   links_law found ts ns places t n o e a =
       let v = target_links leaves table rs (core_targets leaves) in
-      let z = macro_links (is_live_at leaves keywords names) leaves table rs leaves in
-      (λ h. subst (IsIn a) (sym whole_is)
-          (parts_among v (target_links leaves table rs ts) (name_links ns) (links_to_themselves places) z v (target_links leaves table rs keywords) (name_links names) (links_to_themselves binders) z a (λ q. q)
+      let z = macro_links (is_live_at leaves keywords names) leaves table rs leaves in (
+        λ h. subst (IsIn a) (sym whole_is)
+            (parts_among v (target_links leaves table rs ts) (name_links ns) (links_to_themselves places) z v (target_links leaves table rs keywords) (name_links names) (links_to_themselves binders) z a (λ q. q)
             (targets_among leaves table rs ts keywords (λ x. (t x).0) a) (names_among ns names (λ x. (n x).0) a) (themselves_among places binders (λ x. (o x).0) a) (λ q. q) (subst (IsIn a) e h)),
         λ h. subst (IsIn a) (sym e)
-          (parts_among v (target_links leaves table rs keywords) (name_links names) (links_to_themselves binders) z v (target_links leaves table rs ts) (name_links ns) (links_to_themselves places) z a (λ q. q)
-            (targets_among leaves table rs keywords ts (λ x. (t x).1) a) (names_among names ns (λ x. (n x).1) a) (themselves_among binders places (λ x. (o x).1) a) (λ q. q) (subst (IsIn a) whole_is h)))
+            (parts_among v (target_links leaves table rs keywords) (name_links names) (links_to_themselves binders) z v (target_links leaves table rs ts) (name_links ns) (links_to_themselves places) z a (λ q. q)
+            (targets_among leaves table rs keywords ts (λ x. (t x).1) a) (names_among names ns (λ x. (n x).1) a) (themselves_among binders places (λ x. (o x).1) a) (λ q. q) (subst (IsIn a) whole_is h)),
+      )
 
 -- ---- names of a unit among those of all
 

@@ -1,5 +1,5 @@
 -- What links of the code say, and when they are those of a program.
-use Rattle.std.specs.Prelude.{◌↔◌, List, map}
+use Rattle.std.specs.Prelude.{◌↔◌, List}
 use Rattle.std.specs.List.{Contains}
 use Rattle.std.specs.List.Sorted.{IsStrictlySortedBy}
 use Rattle.std.specs.Ordering.{nat_cmp, ordering_then}

@@ -19,7 +19,7 @@ use arrow_index::sight::{GlobalNo, Sight};
 use ls_base::Mem;
 use scheme_model::Occ;
 use std::alloc::Global;
-use syntax_tree::symbols::{Ident, IdNo, SymNo};
+use syntax_tree::symbols::{IdNo, Ident, SymNo};
 use syntax_tree::trees::Work;
 
 /// Where what a unit defines under an identifier stands, if it defines it.

@@ -31,11 +31,32 @@ fn all_links(alloc: Global, work: &Work, program: &Program) -> Mem<Vec<Link>>
     let entries = Entries::of(alloc, program)?;
     let binders = binders_in(alloc, work, &sight, program)?;
     let mut links = Vec::new(alloc);
-    add_uses(alloc, work, &sight, &entries, sight.leaves.as_slice(), &mut links)?;
-    add_targets(alloc, work, &sight, &entries, sight.met.as_slice(), &mut links)?;
+    add_uses(
+        alloc,
+        work,
+        &sight,
+        &entries,
+        sight.leaves.as_slice(),
+        &mut links,
+    )?;
+    add_targets(
+        alloc,
+        work,
+        &sight,
+        &entries,
+        sight.met.as_slice(),
+        &mut links,
+    )?;
     add_all_names(alloc, work, program.units.as_slice(), &mut links)?;
     add_themselves(alloc, binders.as_slice(), &mut links)?;
-    add_macros(alloc, work, &sight, &entries, sight.leaves.as_slice(), &mut links)?;
+    add_macros(
+        alloc,
+        work,
+        &sight,
+        &entries,
+        sight.leaves.as_slice(),
+        &mut links,
+    )?;
     Ok(links)
 }
 

@@ -50,8 +50,24 @@ fn add_placed(
             let place = sight.local_at(at, count);
             Ok(add_link(alloc, place, occ, links)?)
         }
-        Meaning::Global { .. } => Ok(add_ident(alloc, work, sight, entries, target.ident, occ, links)?),
-        Meaning::Standard(_) => Ok(add_ident(alloc, work, sight, entries, target.ident, occ, links)?),
+        Meaning::Global { .. } => Ok(add_ident(
+            alloc,
+            work,
+            sight,
+            entries,
+            target.ident,
+            occ,
+            links,
+        )?),
+        Meaning::Standard(_) => Ok(add_ident(
+            alloc,
+            work,
+            sight,
+            entries,
+            target.ident,
+            occ,
+            links,
+        )?),
         Meaning::Free(_) => Ok(add_ident(alloc, work, sight, entries, target.ident, occ, links)?),
     }
 }

@@ -1,4 +1,4 @@
-use Rattle.std.proofs.Common.{arith, ap, ◌∙◌}
+use Rattle.std.proofs.Common.{arith}
 use Rattle.spelling.specs.Entries.{named}
 use Rattle.spelling.proofs.EntryLaws.{named_more}
 use Rattle.spelling.proofs.entries.by_name.Goals as goal

@@ -1,12 +1,10 @@
-use Rattle.std.proofs.Common.{◌≡◌, ℕ, List, Option, Some, None, cond, is_some, sym, ap, ◌∙◌, subst}
-use Rattle.std.specs.Prelude.{if◌then◌else◌}
+use Rattle.std.proofs.Common.{◌≡◌, ℕ, List, Some, cond, is_some, sym, ap, ◌∙◌}
 use Rattle.std.specs.Str.{bytes_eq}
 use Rattle.std.specs.Option.{option_map}
 use Rattle.std.specs.String.{string_bytes}
 use Rattle.std.specs.BTreeMap.{get_by_text}
 use Rattle.std.proofs.lemmas.Map.Text.{btree_map_updates_text}
-use Rattle.syntax_tree.specs.declared.units.Entry.{Entry}
-use Rattle.spelling.specs.Entries.{now_of, named, first_or}
+use Rattle.spelling.specs.Entries.{now_of, named}
 use Rattle.spelling.proofs.EntryLaws.{put_law, mapped_cond, mapped_none}
 use Rattle.spelling.proofs.entries.put_first.Goals as goal
 

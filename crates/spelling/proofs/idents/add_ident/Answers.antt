@@ -26,8 +26,10 @@ pub loop-unit-smaller : goal.loop-unit-smaller
 loop-unit-smaller c = less_deep c.args.work.now.symbols c.loop-unit.at c.in-Inserted.id c.in-Inserted.number c.loop-unit.invariant.0 c.in-Inserted.ensures.ident
 
 pub loop-unit-preserved : goal.loop-unit-preserved
-loop-unit-preserved c =
-    (c.in-Inserted.ensures.placed, c.loop-unit.invariant.1,
-      λ leaves keywords names table rs sees.
+loop-unit-preserved c = (
+  c.in-Inserted.ensures.placed,
+  c.loop-unit.invariant.1,
+  λ leaves keywords names table rs sees.
       inserted_on c.args.work.now c.args.sight.now leaves keywords names table rs sees c.args.ident c.loop-unit.at c.in-Inserted.id c.in-Inserted.number (c.loop-unit.invariant.2 leaves keywords names table rs sees) c.in-Inserted.ensures.ident
-      (sym c.in-None-definition.is ∙ c.definition-in-Inserted.ensures))
+      (sym c.in-None-definition.is ∙ c.definition-in-Inserted.ensures),
+)

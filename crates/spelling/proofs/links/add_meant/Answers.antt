@@ -1,6 +1,5 @@
 use Rattle.std.proofs.Common.{[], ◌∷◌, ◌++◌, map, sym, ap, ◌∙◌, subst}
 use Rattle.scheme_model.specs.Entries.{Source}
-use Rattle.scheme_model.specs.Spelling.{Link}
 use Rattle.syntax_tree.specs.Meant.{IsGivenMeaning}
 use Rattle.syntax_tree.specs.declared.meaning.Meaning.{Meaning}
 use Rattle.spelling.specs.Links.{as_link}

@@ -1,4 +1,4 @@
-use Rattle.std.proofs.Common.{[], ◌∷◌, ◌++◌, ◌+◌, Some, map, take, refl, sym, ap, ◌∙◌, arith}
+use Rattle.std.proofs.Common.{[], ◌∷◌, ◌+◌, Some, take, refl, sym, ap, ◌∙◌, arith}
 use Rattle.scheme_model.specs.Spelling.{links_at}
 use Rattle.syntax_tree.specs.Meant.{IsOrigin}
 use Rattle.arrow_index.proofs.Growing.{grows_as, grows_by_none, grows_twice}

@@ -1,5 +1,5 @@
-use Rattle.std.proofs.Common.{◌≡◌, List, sym, ap, subst, map}
-use Rattle.scheme_model.specs.Spelling.{Link as ModelLink, links_of}
+use Rattle.std.proofs.Common.{List, subst, map}
+use Rattle.scheme_model.specs.Spelling.{links_of}
 use Rattle.arrow_index.specs.Members.{IsIn}
 use Rattle.arrow_index.proofs.MemberLaws.{contains_from, in_from, in_map, from_map}
 use Rattle.spelling.specs.declared.links.Link.{Link}

@@ -6,7 +6,7 @@ use Rattle.core_tree.specs.Names.{AllMatch}
 use Rattle.core_tree.specs.declared.units.NameUse as code_name
 use Rattle.core_tree.specs.declared.units.Unit.{Unit as CodeUnit}
 use Rattle.arrow_index.specs.Sights.{IsNameOf, all_names}
-use Rattle.arrow_index.proofs.AddLaws.{Past, past_none, past_more, past_all, part_match}
+use Rattle.arrow_index.proofs.AddLaws.{Past, past_none, past_more, past_all}
 use Rattle.arrow_index.proofs.Growing.{grows_by_none, grows_twice}
 use Rattle.spelling.specs.Links.{as_link}
 use Rattle.spelling.proofs.LinkLaws.{names-append}

@@ -1,8 +1,8 @@
-use Rattle.std.proofs.Common.{◌≡◌, ◌++◌, List, [], map, sym, ap, ◌∙◌, subst}
+use Rattle.std.proofs.Common.{◌≡◌, ◌++◌, List, map, sym, ap, ◌∙◌, subst}
 use Rattle.std.proofs.lemmas.List.{append-nil}
 use Rattle.scheme_model.specs.Ident.{symbol_of}
 use Rattle.scheme_model.specs.Trees.{map_tree}
-use Rattle.scheme_model.specs.Live.{CoreLeaf, any_name, no_hole}
+use Rattle.scheme_model.specs.Live.{any_name, no_hole}
 use Rattle.scheme_model.specs.ProgramArrows.{Arrow, is_live_at, rule_arrows}
 use Rattle.scheme_model.specs.Spelling.{arrow_links, macro_links}
 use Rattle.core_tree.specs.Names.{AllMatch, IsLeaf}
@@ -27,7 +27,7 @@ returns-in_ok-add_statics-in-Defines c = λ leaves keywords names table rs ls se
     let match = subst (λ (xs : List RuleLeaf). AllMatch (IsLeaf w.symbols l.at.unit l.at.form) xs m.leaves) (sym c.as_slice-in-Defines.ensures.value) at.2.leaves in
     let arrows = rule_arrows m.rules m.rules.rules in
     let pairs : map as_arrow c.as_slice.result.now ≡ arrows =
-        ap (map as_arrow) c.as_slice.ensures.value ∙ c.in_ok-add_rules_arrows-in-Defines.ensures m.rules at.2.rules ∙ ap (λ (ps : List Pair). map as_arrow ps ++ arrows) c.new-pairs.ensures.items in
+    ap (map as_arrow) c.as_slice.ensures.value ∙ c.in_ok-add_rules_arrows-in-Defines.ensures m.rules at.2.rules ∙ ap (λ (ps : List Pair). map as_arrow ps ++ arrows) c.new-pairs.ensures.items in
     let first = c.in_ok-add_arrows-in-Defines.ensures ∙ ap (λ (as' : List Arrow). map as_link c.args.links.now.items ++ arrow_links as') pairs in
     grows_twice as_link c.args.links.now.items c.add_arrows.new.links.items c.add_statics.new.links.items (arrow_links arrows) (static_links leaves table rs live m.leaves) (all ls) first
     (c.in_ok-add_statics-in-Defines.ensures leaves keywords names table rs m.leaves sees gives match) (ap all at.1 ∙ append-nil (arrow_links arrows ++ static_links leaves table rs live m.leaves))

@@ -1,8 +1,8 @@
-use Rattle.std.proofs.Common.{◌≡◌, List, [], ◌++◌, map, drop, refl, arith}
+use Rattle.std.proofs.Common.{◌≡◌, List, [], ◌++◌, map, refl, arith}
 use Rattle.std.proofs.Math.ListN.{drop_of_length-le}
 use Rattle.scheme_model.specs.Live.{CoreLeaf}
-use Rattle.scheme_model.specs.ProgramArrows.{is_live_at, core_targets}
-use Rattle.scheme_model.specs.Spelling.{target_links, macro_links}
+use Rattle.scheme_model.specs.ProgramArrows.{is_live_at}
+use Rattle.scheme_model.specs.Spelling.{macro_links}
 use Rattle.arrow_index.specs.Placed.{placed_of}
 use Rattle.arrow_index.proofs.Growing.{grows_by_none, grows_twice}
 use Rattle.arrow_index.proofs.StepLaws.{next_leaf, passed_none, passed_more, passed_all, seen_item}

@@ -1,4 +1,4 @@
-use Rattle.std.proofs.Common.{◌≡◌, ◌++◌, List, Option, map, sym, ap, ◌∙◌, subst}
+use Rattle.std.proofs.Common.{◌++◌, List, Option, map, sym, ap, ◌∙◌, subst}
 use Rattle.scheme_model.specs.declared.Occ.{Occ}
 use Rattle.scheme_model.specs.Spelling.{links_at}
 use Rattle.syntax_tree.specs.Meant.{AreOrigins}

@@ -1,4 +1,4 @@
-use Rattle.std.proofs.Common.{[], ◌++◌, map, take, refl, sym, ap, ◌∙◌, arith}
+use Rattle.std.proofs.Common.{[], take, refl, sym, ap, arith}
 use Rattle.scheme_model.specs.Spelling.{links_at, name_links}
 use Rattle.arrow_index.specs.Sights.{IsNameOf}
 use Rattle.arrow_index.proofs.Growing.{grows_as, grows_by_none, grows_twice}

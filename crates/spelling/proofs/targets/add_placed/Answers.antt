@@ -1,4 +1,4 @@
-use Rattle.std.proofs.Common.{◌≡◌, ◌++◌, List, Some, map, ap, ◌∙◌, subst}
+use Rattle.std.proofs.Common.{◌++◌, List, Some, map, ap, ◌∙◌, subst}
 use Rattle.scheme_model.specs.Entries.{Origin}
 use Rattle.scheme_model.specs.Spelling.{links_at}
 use Rattle.syntax_tree.specs.Meant.{IsMeaning}

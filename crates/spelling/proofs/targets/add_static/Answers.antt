@@ -1,5 +1,4 @@
-use Rattle.std.proofs.Common.{◌≡◌, ◌++◌, ◌||◌, not, Bool, Option, map, sym, ap, ◌∙◌}
-use Rattle.scheme_model.specs.declared.Occ.{Occ}
+use Rattle.std.proofs.Common.{◌||◌, not, sym, ◌∙◌}
 use Rattle.scheme_model.specs.ProgramArrows.{is_live_at}
 use Rattle.arrow_index.proofs.Growing.{grows_as, grows_by_none}
 use Rattle.spelling.specs.Links.{as_link}

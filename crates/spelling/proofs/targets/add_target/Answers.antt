@@ -1,4 +1,4 @@
-use Rattle.std.proofs.Common.{◌≡◌, ◌++◌, Option, map, sym, ap, ◌∙◌}
+use Rattle.std.proofs.Common.{◌++◌, Option, map, sym, ap, ◌∙◌}
 use Rattle.scheme_model.specs.declared.Occ.{Occ}
 use Rattle.scheme_model.specs.Spelling.{links_at, target_origins}
 use Rattle.spelling.specs.Links.{as_link}

@@ -1,4 +1,4 @@
-use Rattle.std.proofs.Common.{◌≡◌, ◌<◌, None, subst, [], ◌++◌, map, take, length, get_or, Option, refl, sym, ap, ◌∙◌, arith}
+use Rattle.std.proofs.Common.{◌≡◌, ◌<◌, None, subst, [], map, take, length, refl, sym, ap, arith}
 use Rattle.std.proofs.lemmas.List.{get_or-map, length-map}
 use Rattle.scheme_model.specs.Spelling.{target_links}
 use Rattle.syntax_tree.specs.declared.meaning.Meaning.TheVariants as meanings

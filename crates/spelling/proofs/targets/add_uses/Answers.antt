@@ -1,8 +1,8 @@
-use Rattle.std.proofs.Common.{◌≡◌, List, [], ◌++◌, map, drop, refl, arith}
+use Rattle.std.proofs.Common.{◌≡◌, List, [], ◌++◌, map, refl, arith}
 use Rattle.std.proofs.Math.ListN.{drop_of_length-le}
 use Rattle.scheme_model.specs.Live.{CoreLeaf}
-use Rattle.scheme_model.specs.ProgramArrows.{is_live_at, core_targets}
-use Rattle.scheme_model.specs.Spelling.{target_links, macro_links}
+use Rattle.scheme_model.specs.ProgramArrows.{core_targets}
+use Rattle.scheme_model.specs.Spelling.{target_links}
 use Rattle.arrow_index.specs.Placed.{placed_of}
 use Rattle.arrow_index.proofs.Growing.{grows_by_none, grows_twice}
 use Rattle.arrow_index.proofs.StepLaws.{next_leaf, passed_none, passed_more, passed_all, seen_item}
@@ -26,7 +26,7 @@ loop-leaf-preserved c = λ leaves keywords names table rs ls sees gives seen.
     let n = next_leaf w c.args.found.now c.loop-leaf.leaf-index c.leaf-item.result p.rest (omega arith) c.leaf-item.is p.still in
     passed_more w c.args.found.now c.loop-leaf.leaf-index c.leaf-item.result ls _ _ p n
     (grows_twice as_link c.args.links.now.items c.loop-leaf.links.items c.add_use.new.links.items (all p.done) (all n.front) (all (p.done ++ n.front)) p.holds
-    (c.in_ok-add_use.ensures leaves keywords names table rs n.front sees gives n.is) (uses-append leaves table rs  p.done n.front))
+    (c.in_ok-add_use.ensures leaves keywords names table rs n.front sees gives n.is) (uses-append leaves table rs p.done n.front))
 
 pub returns : goal.returns
 returns c = λ leaves keywords names table rs ls sees gives seen.
