@@ -1,3 +1,5 @@
 pub mod Names
 pub mod Cores
+pub mod Levels
 pub mod Traces
+pub mod Units

@@ -1,5 +1,5 @@
 //! What an expansion meets on its way, and why it ends early.
-use crate::cores::Target;
+use crate::cores::{Binder, Target};
 use ls_base::{Items, Text};
 use scheme_model::Occ;
 use syntax_tree::symbols::IdNo;
@@ -11,9 +11,10 @@ pub struct MacroUse {
     pub literals: Vec<Target>,
 }
 
-/// What the expansion of a form met, in order: keywords of core forms and macro uses.
+/// What the expansion of a form met, in order: what the form defines in its unit, keywords of core forms and macro uses.
 #[derive(Drop)]
 pub struct Trace {
+    pub definitions: Items<Binder>,
     pub keywords: Items<Target>,
     pub uses: Items<MacroUse>,
 }

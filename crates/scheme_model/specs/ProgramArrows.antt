@@ -1,5 +1,5 @@
 -- Arrows: the pairs of a binder and one of its uses (DrRacket's Check Syntax), over a whole program.
-use Rattle.std.specs.Prelude.{List, [], ◌∷◌, ◌++◌, Bool, false, not, ◌||◌, Option, Some, None, if◌then◌else◌}
+use Rattle.std.specs.Prelude.{List, [], ◌∷◌, ◌++◌, map, filter, Bool, false, not, ◌||◌, Option, Some, None, if◌then◌else◌}
 use Rattle.scheme_model.specs.declared.Occ.{Occ}
 use Rattle.scheme_model.specs.Identifiers.{Number, same_number}
 use Rattle.scheme_model.specs.Ident.{Ident, same_ident, symbol_of}
@@ -11,7 +11,7 @@ use Rattle.scheme_model.specs.Substitution.{Table, Defined, defined_in}
 use Rattle.scheme_model.specs.Requirements.{LibraryName}
 use Rattle.scheme_model.specs.Entries.{Entry, ImportSet, library_in, same_occ}
 use Rattle.scheme_model.specs.StandardLibraries.{standard}
-use Rattle.scheme_model.specs.Program.{UnitResult, ImportSpec, Placed, Program, library_exports, names_of_unit, is_some_fault}
+use Rattle.scheme_model.specs.Program.{UnitResult, ImportSpec, Placed, Program, result_at, library_exports, names_of_unit, is_some_fault}
 use Rattle.scheme_model.specs.Live.{CoreLeaf, Binds, Uses, Assigns, Quotes, Defines, unit_leaves, keyword_targets, NameUse, set_uses, all_export_uses}
 
 -- a binder and a use
@@ -50,6 +50,14 @@ unit_names all p r =
 abbrev pub program_names : List Placed → Program → List UnitResult → List NameUse
 program_names all p [] = []
 program_names all p (r ∷ rs) = unit_names all p r ++ program_names all p rs
+
+-- a unit that is broken as a whole defines nothing
+abbrev pub is_whole : Option UnitResult → Bool
+is_whole None = false
+is_whole (Some r) = not (is_some_fault r.fault)
+
+abbrev pub program_table : Program → Table
+program_table p = filter (λ d. is_whole (result_at p.units d.unit)) p.table
 
 -- ---- binders
 
@@ -175,4 +183,46 @@ arrows_with leaves keywords names table =
 
 -- the arrows of a program, of which some may be told twice
 abbrev pub arrows_of : List Placed → Program → List Arrow
-arrows_of all p = arrows_with (program_leaves p.units) (program_keywords p.units) (program_names all p p.units) p.table
+arrows_of all p = arrows_with (program_leaves p.units) (program_keywords p.units) (program_names all p p.units) (program_table p)
+
+-- ---- binders and uses of an occurrence
+
+abbrev pub places_at : Option Occ → List Occ
+places_at None = []
+places_at (Some o) = o ∷ []
+
+abbrev pub variable_places : List (Variable Ident) → List Occ
+variable_places [] = []
+variable_places (v ∷ vs) = places_at v.variable.occ ++ variable_places vs
+
+abbrev pub rule_binders : Rules Ident → List (Rule Ident) → List Occ
+rule_binders r [] = []
+rule_binders r (rule ∷ rules) = variable_places (pattern_variables ident_names r rule) ++ rule_binders r rules
+
+abbrev pub leaf_binders : List CoreLeaf → List Occ
+leaf_binders [] = []
+leaf_binders (Binds b ∷ ls) = places_at b.occ ++ leaf_binders ls
+leaf_binders (Uses t ∷ ls) = leaf_binders ls
+leaf_binders (Assigns t ∷ ls) = leaf_binders ls
+leaf_binders (Quotes o ∷ ls) = leaf_binders ls
+leaf_binders (Defines m ∷ ls) = rule_binders m.rules m.rules.rules ++ leaf_binders ls
+
+abbrev pub table_binders : Table → List Occ
+table_binders [] = []
+table_binders (d ∷ ds) = places_at d.occ ++ table_binders ds
+
+-- what binds: the binders in cores, the pattern variables of rules, and what units define, also in broken forms
+abbrev pub binders_in : Program → List Occ
+binders_in p = leaf_binders (program_leaves p.units) ++ table_binders (program_table p)
+
+abbrev pub itself_among : List Occ → Occ → List Occ
+itself_among [] o = []
+itself_among (b ∷ bs) o = if same_occ b o then o ∷ [] else itself_among bs o
+
+-- the binders of an occurrence: itself where it binds, and each that has an arrow to it
+abbrev pub binders_at : List Occ → List Arrow → Occ → List Occ
+binders_at places arrows o = itself_among places o ++ map (λ a. a.binder) (filter (λ a. same_occ a.target o) arrows)
+
+-- the uses of a binder
+abbrev pub uses_at : List Arrow → Occ → List Occ
+uses_at arrows o = map (λ a. a.target) (filter (λ a. same_occ a.binder o) arrows)

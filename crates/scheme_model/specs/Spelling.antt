@@ -1,6 +1,6 @@
 -- What spells an identifier: its links to the occurrences that its characters come from, and the classes of occurrences that
 -- such links join. Occurrences of a class are renamed together, each behind its prefix.
-use Rattle.std.specs.Prelude.{ℕ, zero, suc, ◌==◌, List, [], ◌∷◌, ◌++◌, length, Bool, true, false, not, ◌&&◌, ◌||◌, Option, Some, None, if◌then◌else◌}
+use Rattle.std.specs.Prelude.{ℕ, zero, suc, List, [], ◌∷◌, ◌++◌, length, Bool, true, false, not, ◌&&◌, ◌||◌, Option, Some, None, if◌then◌else◌}
 use Rattle.std.specs.Str.{bytes_eq}
 use Rattle.scheme_model.specs.declared.Occ.{Occ}
 use Rattle.scheme_model.specs.Ident.{Ident, Written, Inserted}
@@ -8,9 +8,9 @@ use Rattle.scheme_model.specs.Meaning.{Meaning, Local, Global, Standard, Free}
 use Rattle.scheme_model.specs.Cores.{Target, RuleLeaf}
 use Rattle.scheme_model.specs.Substitution.{Table, Defined, defined_in}
 use Rattle.scheme_model.specs.Entries.{Source, At, StandardName, Origin, Entry, entry_at, same_occ, place_origin}
-use Rattle.scheme_model.specs.Program.{Placed, UnitResult, Program, result_at, is_standard, prelude_unit}
+use Rattle.scheme_model.specs.Program.{Placed, UnitResult, Program, result_at}
 use Rattle.scheme_model.specs.Live.{CoreLeaf, Binds, Uses, Assigns, Quotes, Defines, NameUse}
-use Rattle.scheme_model.specs.ProgramArrows.{Arrow, local_at, core_targets, is_live_at, rule_arrows, program_leaves, program_keywords, program_names}
+use Rattle.scheme_model.specs.ProgramArrows.{Arrow, local_at, core_targets, is_live_at, rule_arrows, program_leaves, program_keywords, program_names, program_table, binders_in}
 
 -- an occurrence takes its characters, behind a prefix, from an occurrence or from a standard name
 pub record Link : Type 0 where
@@ -28,30 +28,27 @@ abbrev pub entry_origins : Option Entry → List Origin
 entry_origins None = []
 entry_origins (Some e) = e.origins
 
--- in the prelude's unit a standard name is its own origin
-abbrev pub imported_origins : Program → ℕ → List ℕ → List Origin
-imported_origins p u s =
-    if u == prelude_unit then (if is_standard s then record { source = StandardName s; prefix = [] } ∷ [] else [])
-    else entry_origins (entry_at (entries_at (result_at p.units u)) s)
+abbrev pub imported_origins : List UnitResult → ℕ → List ℕ → List Origin
+imported_origins rs u s = entry_origins (entry_at (entries_at (result_at rs u)) s)
 
 abbrev pub defined_or : Option Defined → List Origin → List Origin
 defined_or None other = other
 defined_or (Some d) other = place_origin d.occ
 
--- by the definition that an identifier has, or the entry that gives it a meaning
-abbrev pub ident_origins : Program → Ident → List Origin
-ident_origins p (Written u s) = defined_or (defined_in p.table u (Written u s)) (imported_origins p u s)
-ident_origins p (Inserted i k) = defined_or (defined_in p.table k.unit (Inserted i k)) (ident_origins p i)
+-- by the definition that an identifier has, or the entry that gives it a meaning; the prelude's unit has no entries
+abbrev pub ident_origins : Table → List UnitResult → Ident → List Origin
+ident_origins table rs (Written u s) = defined_or (defined_in table u (Written u s)) (imported_origins rs u s)
+ident_origins table rs (Inserted i k) = defined_or (defined_in table k.unit (Inserted i k)) (ident_origins table rs i)
 
 -- a local has its binder's occurrence
-abbrev pub target_origins : List CoreLeaf → Program → Target → List Origin
-target_origins leaves p t = by_meaning leaves p t.meaning t.ident
+abbrev pub target_origins : List CoreLeaf → Table → List UnitResult → Target → List Origin
+target_origins leaves table rs t = by_meaning leaves table rs t.meaning t.ident
   where
-    by_meaning : List CoreLeaf → Program → Meaning → Ident → List Origin
-    by_meaning leaves p (Local v) i = place_origin (local_at leaves v)
-    by_meaning leaves p (Global u j) i = ident_origins p i
-    by_meaning leaves p (Standard s) i = ident_origins p i
-    by_meaning leaves p (Free s) i = ident_origins p i
+    by_meaning : List CoreLeaf → Table → List UnitResult → Meaning → Ident → List Origin
+    by_meaning leaves table rs (Local v) i = place_origin (local_at leaves v)
+    by_meaning leaves table rs (Global u j) i = ident_origins table rs i
+    by_meaning leaves table rs (Standard s) i = ident_origins table rs i
+    by_meaning leaves table rs (Free s) i = ident_origins table rs i
 
 -- ---- links
 
@@ -64,9 +61,9 @@ abbrev pub link_to_itself : Option Occ → List Link
 link_to_itself None = []
 link_to_itself (Some o) = record { origin = At o; target = o; prefix = [] } ∷ []
 
-abbrev pub target_links : List CoreLeaf → Program → List Target → List Link
-target_links leaves p [] = []
-target_links leaves p (t ∷ ts) = links_at t.occ (target_origins leaves p t) ++ target_links leaves p ts
+abbrev pub target_links : List CoreLeaf → Table → List UnitResult → List Target → List Link
+target_links leaves table rs [] = []
+target_links leaves table rs (t ∷ ts) = links_at t.occ (target_origins leaves table rs t) ++ target_links leaves table rs ts
 
 -- the second name of a pair is its own origin already
 abbrev pub name_links : List NameUse → List Link
@@ -75,35 +72,34 @@ name_links (n ∷ ns) = links_at n.occ n.origins ++ name_links ns
 
 abbrev pub arrow_links : List Arrow → List Link
 arrow_links [] = []
-arrow_links (a ∷ more) = record { origin = At a.binder; target = a.target; prefix = [] } ∷ record { origin = At a.binder; target = a.binder; prefix = [] } ∷ arrow_links more
+arrow_links (a ∷ more) = record { origin = At a.binder; target = a.target; prefix = [] } ∷ arrow_links more
+
+abbrev pub links_to_themselves : List Occ → List Link
+links_to_themselves [] = []
+links_to_themselves (o ∷ os) = record { origin = At o; target = o; prefix = [] } ∷ links_to_themselves os
 
 abbrev pub leaf_targets : (Option Occ → Bool) → List RuleLeaf → List Target
 leaf_targets live [] = []
 leaf_targets live (l ∷ ls) = if l.literal || not (live l.target.occ) then l.target ∷ leaf_targets live ls else leaf_targets live ls
 
--- binders, pattern variables and leaves of rules
-abbrev pub core_links : (Option Occ → Bool) → List CoreLeaf → Program → List CoreLeaf → List Link
-core_links live leaves p [] = []
-core_links live leaves p (Binds b ∷ ls) = link_to_itself b.occ ++ core_links live leaves p ls
-core_links live leaves p (Uses t ∷ ls) = core_links live leaves p ls
-core_links live leaves p (Assigns t ∷ ls) = core_links live leaves p ls
-core_links live leaves p (Quotes o ∷ ls) = core_links live leaves p ls
-core_links live leaves p (Defines m ∷ ls) =
-    arrow_links (rule_arrows m.rules m.rules.rules) ++ target_links leaves p (leaf_targets live m.leaves) ++ core_links live leaves p ls
+-- uses of pattern variables, and leaves of rules
+abbrev pub macro_links : (Option Occ → Bool) → List CoreLeaf → Table → List UnitResult → List CoreLeaf → List Link
+macro_links live leaves table rs [] = []
+macro_links live leaves table rs (Binds b ∷ ls) = macro_links live leaves table rs ls
+macro_links live leaves table rs (Uses t ∷ ls) = macro_links live leaves table rs ls
+macro_links live leaves table rs (Assigns t ∷ ls) = macro_links live leaves table rs ls
+macro_links live leaves table rs (Quotes o ∷ ls) = macro_links live leaves table rs ls
+macro_links live leaves table rs (Defines m ∷ ls) =
+    arrow_links (rule_arrows m.rules m.rules.rules) ++ target_links leaves table rs (leaf_targets live m.leaves) ++ macro_links live leaves table rs ls
 
--- each definition, also one of a broken form, is a binder
-abbrev pub definition_links : Table → List Link
-definition_links [] = []
-definition_links (d ∷ ds) = link_to_itself d.occ ++ definition_links ds
-
-abbrev pub links_with : List CoreLeaf → List Target → List NameUse → Program → List Link
-links_with leaves keywords names p =
-    target_links leaves p (core_targets leaves ++ keywords) ++ name_links names ++ definition_links p.table ++
-    core_links (is_live_at leaves keywords names) leaves p leaves
+abbrev pub links_with : List CoreLeaf → List Target → List NameUse → Table → List UnitResult → List Occ → List Link
+links_with leaves keywords names table rs binders =
+    target_links leaves table rs (core_targets leaves ++ keywords) ++ name_links names ++ links_to_themselves binders ++
+    macro_links (is_live_at leaves keywords names) leaves table rs leaves
 
 -- the links of a program
 abbrev pub links_of : List Placed → Program → List Link
-links_of all p = links_with (program_leaves p.units) (program_keywords p.units) (program_names all p p.units) p
+links_of all p = links_with (program_leaves p.units) (program_keywords p.units) (program_names all p p.units) (program_table p) p.units (binders_in p)
 
 -- ---- classes
 

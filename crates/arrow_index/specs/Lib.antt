@@ -1,0 +1,10 @@
+pub mod Adds
+pub mod Leaves
+pub mod Members
+pub mod Names
+pub mod Placed
+pub mod Sights
+pub mod Index
+pub mod Variables
+pub mod Holes
+pub mod Binders
