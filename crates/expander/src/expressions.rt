@@ -30,7 +30,6 @@ use crate::fault::ExpandFault;
 use crate::heads::Head;
 use crate::passes::{head_name, here_at};
 use crate::scope::UnitScope;
-use crate::sizes::trees_fit;
 use crate::uses::{Use, held, name_at};
 use core_forms::{CoreKeyword, CoreShape, NamePart, parse_core};
 use core_tree::cores::{Core, Target};
@@ -265,7 +264,7 @@ impl UnitScope {
             Reads known at.depth at.here work.now region self.old self.new ls fs result (λ f. core_form f (searched known) at.depth at.here fs c ts end s) }
         ensures locals { OnOk result (self.new.form.budget.locals ≡ self.old.form.budget.locals) }
     {
-        trees_fit(work);
+        work.trees_fit();
         let marks = self.marks(alloc, work, at.scope, core, form)?;
         let shape = match parse_core(alloc, work, core, form, true, &marks) {
             Ok(shape) => shape,
@@ -301,7 +300,7 @@ impl UnitScope {
             EndsHere (CoreStands work.now self.old.unit self.old.form.number) work.now work.now region self.old self.new ls result (quote (searched known) at.depth at.here t s) }
         ensures locals { OnOk result (self.new.form.budget.locals ≡ self.old.form.budget.locals) }
     {
-        trees_fit(work);
+        work.trees_fit();
         self.begin_node(at.here, work.size(datum) + 1, at.depth)?;
         Ok(Core::Quote(datum))
     }

@@ -21,7 +21,6 @@ mod prelude;
 mod quasi;
 mod requirements;
 mod scope;
-mod sizes;
 mod syntax;
 mod unit;
 mod uses;

@@ -46,7 +46,6 @@ use crate::heads::Head;
 use crate::items::{Form, Kept, Pending, Spot};
 use crate::requirements::{Judge, choose};
 use crate::scope::UnitScope;
-use crate::sizes::trees_fit;
 use crate::uses::{Comparison, Use, held, name_at};
 use core_forms::{CoreKeyword, CoreShape, NamePart, parse_core};
 use core_tree::cores::Target;
@@ -290,7 +289,7 @@ impl UnitScope {
             return Ok(());
         }
         self.form.trace.keywords.push(keyword)?;
-        trees_fit(work);
+        work.trees_fit();
         let shape = match parse_core(alloc, work, core, form.tree, false, &Items::new(alloc)) {
             Ok(shape) => shape,
             Err(fault) => return Err(misread(self, here, fault)),

@@ -1,5 +1,5 @@
 -- Adding a node to the table.
-use Rattle.std.proofs.Common.{◌≡◌, ℕ, ◌^◌, ◌<◌, List, [], ◌∷◌, ◌++◌, length, get_or, slice_get, Option, Some, None, refl, sym, ap, ◌∙◌, subst, arith}
+use Rattle.std.proofs.Common.{◌≡◌, ℕ, ◌^◌, ◌<◌, ◌≤◌, List, [], ◌∷◌, ◌++◌, length, get_or, slice_get, Option, Some, None, refl, sym, ap, ◌∙◌, subst, arith}
 use Rattle.std.specs.Prelude.{IsSome}
 use Rattle.std.specs.Option.{option_map}
 use Rattle.std.specs.FinMap as map
@@ -7,6 +7,7 @@ use Rattle.std.proofs.lemmas.Option.{slice_get_within, slice_get-get_or}
 use Rattle.scheme_model.specs.Trees.{Tree}
 use Rattle.scheme_model.specs.Measures.{tree_size, tree_depth}
 use Rattle.scheme_model.specs.Ident.{Ident as Identifier}
+use Rattle.ls_base.specs.Limits.{max_tree_nodes, max_tree_depth}
 use Rattle.syntax_tree.specs.Names.{Names}
 use Rattle.syntax_tree.specs.Nodes.{Shape, Lived, Nodes, IsPut}
 use Rattle.syntax_tree.specs.Standing.{Stands, IsNode}
@@ -31,6 +32,7 @@ pub record CanMeasure (ks : List Kept) (s : Shape) : Type 0 where
   pub within : IsWithin (length ks) s
   pub size : shape_size (size_at ks) s < 2 ^ 32
   pub depth : shape_depth (depth_at ks) s < 2 ^ 32
+  pub small : (shape_size (size_at ks) s ≤ max_tree_nodes) × (shape_depth (depth_at ks) s ≤ max_tree_depth)
 
 pub can_measure : (ks seen : List Kept) (nodes : Nodes) (s : Shape) → AreKept ks → seen ≡ ks → nodes_of ks ≡ nodes → FitsInto nodes s → CanMeasure seen s
 can_measure ks seen nodes s kept same view fits =
@@ -40,6 +42,7 @@ can_measure ks seen nodes s kept same view fits =
       within = m.within;
       size = omega (arith, m.size, h.1.2);
       depth = omega (arith, m.depth, h.1.3);
+      small = (omega (arith, m.size, h.1.2), omega (arith, m.depth, h.1.3));
     })
 
 pub node_put : (ks new : List Kept) (nodes : Nodes) (k : Kept) (n : ℕ) → nodes_of ks ≡ nodes → new ≡ ks ++ k ∷ [] → n ≡ length ks → IsPut nodes (nodes_of new) n (lived_as k)

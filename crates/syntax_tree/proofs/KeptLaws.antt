@@ -1,5 +1,5 @@
 -- The measures that are kept are those of the trees that numbers stand for.
-use Rattle.std.proofs.Common.{◌≡◌, ℕ, ◌+◌, ◌^◌, ◌<◌, ◌≤◌, List, [], ◌∷◌, ◌++◌, max, length, sum_by, Option, Some, None, refl, sym, ap, ◌∙◌, subst, inl, inr, arith}
+use Rattle.std.proofs.Common.{◌≡◌, ℕ, ◌+◌, ◌^◌, ◌<◌, ◌≤◌, List, [], ◌∷◌, ◌++◌, max, length, sum_by, slice_get, Option, Some, None, refl, sym, ap, ◌∙◌, subst, inl, inr, arith}
 use Rattle.std.specs.Option.{option_map_or}
 use Rattle.std.proofs.lemmas.List.{length-append}
 use Rattle.std.proofs.lemmas.List.Sums.{sum_by-cons}
@@ -7,6 +7,7 @@ use Rattle.std.proofs.lemmas.Option.{slice_get_within}
 use Rattle.scheme_model.specs.declared.Occ.{Occ}
 use Rattle.scheme_model.specs.Trees.{Tree, name, atom, list, vector, Trees, no_trees, tree, Tail, proper, dotted}
 use Rattle.scheme_model.specs.Ident.{Ident as Identifier}
+use Rattle.ls_base.specs.Limits.{max_tree_nodes, max_tree_depth}
 use Rattle.syntax_tree.specs.Names.{Names}
 use Rattle.scheme_model.specs.Measures.{tree_size, trees_size, tail_size, tree_depth, trees_depth, tail_depth}
 use Rattle.syntax_tree.specs.Nodes.{Shape, leaf_shape, list_shape, vector_shape, shape_at}
@@ -115,6 +116,23 @@ module _ (ks : List Kept) (kept : AreKept ks) (names : Names) where
         let m = measured t n h.1 in
         record { within = m.within; size = m.size; depth = m.depth }
 
+-- a tree that stands is within the limits
+pub tree_small : (ks : List Kept) → AreKept ks → (names : Names) (t : Tree Identifier) (n : ℕ) → Stands (nodes_of ks) names t n → (tree_size t ≤ max_tree_nodes) × (tree_depth t ≤ max_tree_depth)
+tree_small ks kept names t n h =
+    let m = measured ks kept names t n h in
+    kept_small (slice_get ks n) refl m
+  where
+    kept_small : (o : Option Kept) → slice_get ks n ≡ o → IsMeasured ks t n → (tree_size t ≤ max_tree_nodes) × (tree_depth t ≤ max_tree_depth)
+    kept_small (Some k) at m =
+        let s = kept.small n k at in
+        let size : k.size ≡ tree_size t = sym (ap (λ (o : Option Kept). option_map_or (λ (k : Kept). k.size) o 0) at) ∙ m.size in
+        let depth : k.depth ≡ tree_depth t = sym (ap (λ (o : Option Kept). option_map_or (λ (k : Kept). k.depth) o 0) at) ∙ m.depth in
+        (omega (arith, s.0, size), omega (arith, s.1, depth))
+    kept_small None at m =
+        let size : 0 ≡ tree_size t = sym (ap (λ (o : Option Kept). option_map_or (λ (k : Kept). k.size) o 0) at) ∙ m.size in
+        let depth : 0 ≡ tree_depth t = sym (ap (λ (o : Option Kept). option_map_or (λ (k : Kept). k.depth) o 0) at) ∙ m.depth in
+        (omega (arith, size), omega (arith, depth))
+
 -- a node whose parts stand is measured like its tree
 pub record NodeMeasured (ks : List Kept) (s : Shape) (t : Tree Identifier) : Type 0 where
   pub within : IsWithin (length ks) s
@@ -187,8 +205,8 @@ depths_stay : (ks more : List Kept) (n : ℕ) → n < length ks → depth_at ks 
 depths_stay ks more n h = ap (λ (o : Option Kept). option_map_or (λ (k : Kept). k.depth) o 0) (sym (get_same ks more n h))
 
 pub kept_pushed : (ks : List Kept) (k : Kept) → AreKept ks → length ks < 2 ^ 31 → IsWithin (length ks) (shape_of k.node) →
-    k.size ≡ shape_size (size_at ks) (shape_of k.node) → k.depth ≡ shape_depth (depth_at ks) (shape_of k.node) → AreKept (ks ++ k ∷ [])
-kept_pushed ks k kept room within size depth =
+    k.size ≡ shape_size (size_at ks) (shape_of k.node) → k.depth ≡ shape_depth (depth_at ks) (shape_of k.node) → (k.size ≤ max_tree_nodes) × (k.depth ≤ max_tree_depth) → AreKept (ks ++ k ∷ [])
+kept_pushed ks k kept room within size depth small =
     let more : length (ks ++ k ∷ []) ≡ length ks + 1 = omega (arith, length-append ks (k ∷ [])) in
     record {
       few = omega (arith, more);
@@ -203,5 +221,9 @@ kept_pushed ks k kept room within size depth =
       depths = λ n x h. elim (push_cases ks k n x h) as (λ _. x.depth ≡ shape_depth (depth_at (ks ++ k ∷ [])) (shape_of x.node)) [
         | inl old ↦ kept.depths n x old ∙ shape_depth_same (depth_at ks) (depth_at (ks ++ k ∷ [])) (length ks) (depths_stay ks (k ∷ [])) (shape_of x.node) (kept.within n x old)
         | inr new ↦ subst (λ (y : Kept). y.depth ≡ shape_depth (depth_at (ks ++ k ∷ [])) (shape_of y.node)) (sym new.1) (depth ∙ shape_depth_same (depth_at ks) (depth_at (ks ++ k ∷ [])) (length ks) (depths_stay ks (k ∷ [])) (shape_of k.node) within)
+      ];
+      small = λ n x h. elim (push_cases ks k n x h) as (λ _. (x.size ≤ max_tree_nodes) × (x.depth ≤ max_tree_depth)) [
+        | inl old ↦ kept.small n x old
+        | inr new ↦ subst (λ (y : Kept). (y.size ≤ max_tree_nodes) × (y.depth ≤ max_tree_depth)) (sym new.1) small
       ];
     }

@@ -119,7 +119,7 @@ letting_go f r closed can n l at ne =
 
 pub empty_table : IsTable [] []
 empty_table = record {
-  kept = record { few = omega arith; within = λ n k h. none_some k h; sizes = λ n k h. none_some k h; depths = λ n k h. none_some k h };
+  kept = record { few = omega arith; within = λ n k h. none_some k h; sizes = λ n k h. none_some k h; depths = λ n k h. none_some k h; small = λ n k h. none_some k h };
   closed = λ n l h. none_some l (sym (get_kept [] n) ∙ h);
 }
 

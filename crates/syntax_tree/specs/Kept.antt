@@ -2,6 +2,7 @@
 use Rattle.std.specs.Prelude.{◌≡◌, ℕ, suc, ◌+◌, ◌^◌, ◌<◌, ◌≤◌, max, List, [], ◌∷◌, map, length, sum_by, slice_get, Some, None}
 use Rattle.std.specs.Option.{option_map, option_map_or}
 use Rattle.std.specs.FinMap as finite
+use Rattle.ls_base.specs.Limits.{max_tree_nodes, max_tree_depth}
 use Rattle.syntax_tree.specs.Nodes.{Shape, leaf_shape, list_shape, vector_shape, Lived, Nodes}
 use Rattle.syntax_tree.specs.Regions.{IsClosed}
 use Rattle.syntax_tree.specs.declared.trees.nodes.Tree.{Tree}
@@ -66,12 +67,13 @@ IsWithin count (list_shape items None o) = AreWithin count items
 IsWithin count (list_shape items (Some n) o) = AreWithin count items × (n < count)
 IsWithin count (vector_shape items o) = AreWithin count items
 
--- the invariant of the nodes: the parts of each are nodes, and its measures are those of its parts
+-- the invariant of the nodes: the parts of each are nodes, and its measures are those of its parts and within the limits
 pub record AreKept (ks : List Kept) : Type 0 where
   pub few : length ks ≤ 2 ^ 31
   pub within : (n : ℕ) (k : Kept) → slice_get ks n ≡ Some k → IsWithin (length ks) (shape_of k.node)
   pub sizes : (n : ℕ) (k : Kept) → slice_get ks n ≡ Some k → k.size ≡ shape_size (size_at ks) (shape_of k.node)
   pub depths : (n : ℕ) (k : Kept) → slice_get ks n ≡ Some k → k.depth ≡ shape_depth (depth_at ks) (shape_of k.node)
+  pub small : (n : ℕ) (k : Kept) → slice_get ks n ≡ Some k → (k.size ≤ max_tree_nodes) × (k.depth ≤ max_tree_depth)
 
 -- and of the regions: each node names only what the nodes of its region may name
 pub record IsTable (ks : List Kept) (regions : List (List ℕ)) : Type 0 where

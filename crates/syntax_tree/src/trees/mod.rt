@@ -4,6 +4,7 @@ ghost use Rattle.std.specs.FinMap as map;
 ghost use Rattle.scheme_model.specs.Trees.{Tree as ModelTree};
 ghost use Rattle.scheme_model.specs.Measures.{tree_size, tree_depth};
 ghost use Rattle.scheme_model.specs.Ident.{Ident as Identifier};
+ghost use Rattle.ls_base.specs.Limits.{max_tree_nodes, max_tree_depth};
 ghost use Rattle.syntax_tree.specs.Nodes.{Lived, IsPut};
 ghost use Rattle.syntax_tree.specs.Regions.{with_outer, IsClosed, CanRelease, NamesNone};
 ghost use Rattle.syntax_tree.specs.Kept.{shape_of};
@@ -127,5 +128,13 @@ impl Work {
             map.get self.now.trees.nodes n ≡ Some l → l.region ≢ r → NamesNone self.now.trees.nodes r l.shape }
     {
         self.trees.closed();
+    }
+
+    /// A tree that stands has at most 4,194,304 nodes, a part that is shared counted each time, and a depth of at most 1,000.
+    pub fn trees_fit(&self)
+        ensures nodes { (tree : Tree) (t : ModelTree Identifier) → StandsFor self.now tree t → tree_size t ≤ max_tree_nodes }
+        ensures depth { (tree : Tree) (t : ModelTree Identifier) → StandsFor self.now tree t → tree_depth t ≤ max_tree_depth }
+    {
+        self.trees.small();
     }
 }

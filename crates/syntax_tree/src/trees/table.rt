@@ -4,6 +4,7 @@ ghost use Rattle.std.specs.FinMap as map;
 ghost use Rattle.scheme_model.specs.Trees.{Tree as ModelTree};
 ghost use Rattle.scheme_model.specs.Measures.{tree_size, tree_depth};
 ghost use Rattle.scheme_model.specs.Ident.{Ident as Identifier};
+ghost use Rattle.ls_base.specs.Limits.{max_tree_nodes, max_tree_depth};
 ghost use Rattle.syntax_tree.specs.Names.{Names};
 ghost use Rattle.syntax_tree.specs.Nodes.{Lived, IsPut, shape_at};
 ghost use Rattle.syntax_tree.specs.Regions.{MayName, MayNameParts, IsClosed};
@@ -174,6 +175,14 @@ impl Trees {
     /// Each node names only nodes of its region or of regions that outlive it.
     pub(crate) fn closed(&self)
         ensures { IsClosed self.now.nodes self.now.regions }
+    {
+        let _nodes = &self.nodes;
+    }
+
+    /// No tree is larger or deeper than one that may be added.
+    pub(crate) fn small(&self)
+        ensures nodes { (names : Names) (t : ModelTree Identifier) (n : ℕ) → Stands self.now.nodes names t n → tree_size t ≤ max_tree_nodes }
+        ensures depth { (names : Names) (t : ModelTree Identifier) (n : ℕ) → Stands self.now.nodes names t n → tree_depth t ≤ max_tree_depth }
     {
         let _nodes = &self.nodes;
     }

@@ -34,7 +34,7 @@ pub overflow_add-size : goal.overflow_add-size
 overflow_add-size c =
     let d = c.requires.datum in
     let size : c.size.result ≡ tree_size d.0 = c.size.ensures d.0 d.1 in
-    let few : tree_size d.0 ≤ 4194304 = c.trees_fit.ensures c.args.datum d.0 d.1 in
+    let few : tree_size d.0 ≤ 4194304 = c.trees_fit.ensures.nodes c.args.datum d.0 d.1 in
     omega arith
 
 pub returns-in_err-begin_node-clause-quoted : goal.returns-in_err-begin_node-clause-quoted

@@ -108,7 +108,7 @@ returns c = record {
       let w = c.args.work.now in
       let t = list (tree head ts) end o in
       let read = parsed_as w c.args.core k c.in_ok-marks.marks (mark_here s fs) head ts end o (Ok c.in-Ok.shape) is (λ q. c.in_ok-marks.ensures.marks q ls s fs t e at works.0) c.in_ok-marks.ensures.none (λ m are. c.in-Ok.ensures.shape k m t is are works.0) in
-      let few : trees_size ts ≤ 4194304 = omega (arith, c.trees_fit.ensures c.args.form t works.0) in
+      let few : trees_size ts ≤ 4194304 = omega (arith, c.trees_fit.ensures.nodes c.args.form t works.0) in
       shape_reads known c.args.at.depth c.args.at.here fs s k ts end w region c.args.self.now ls e c.args.core c.in-Ok.shape read.0 is read.1 read.2 (c.in-Ok.ensures.named region works.1) few;
   locals = refl;
 }

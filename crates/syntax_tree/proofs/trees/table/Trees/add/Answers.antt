@@ -39,7 +39,7 @@ invariant_of-self-2 c =
     let room : length ks < 2 ^ 31 = omega (arith, c.self.invariant.kept.few, c.len-number.ensures, c.self.inside.nodes.ok.0, c.if-number-eq-MAX_LIVE.false) in
     let names = subst (λ (f : Forest). MayNameParts f.nodes f.regions c.args.region.now.number (shape_of c.args.node)) (sym view) c.requires.names in
     subst (λ (l : List Kept). IsTable l regions) (sym c.in_ok-push.ensures.items) (record {
-      kept = kept_pushed ks k c.self.invariant.kept room m.within size depth;
+      kept = kept_pushed ks k c.self.invariant.kept room m.within size depth (omega (arith, size, m.small.0), omega (arith, depth, m.small.1));
       closed = closed_put (nodes_of ks) (nodes_of (ks ++ k ∷ [])) regions (length ks) (lived_as k) c.self.invariant.closed (push_puts ks k) names;
     })
 
