@@ -72,6 +72,7 @@ impl UnitScope {
                     locals: 0,
                 },
                 trace: Trace {
+                    definitions: Items::new(alloc),
                     keywords: Items::new(alloc),
                     uses: Items::new(alloc),
                 },
