@@ -1,5 +1,5 @@
 -- Members of lists, by recursion.
-use Rattle.std.proofs.Common.{◌≡◌, ◌⊎◌, inl, inr, ℕ, List, [], ◌∷◌, ◌++◌, map, reverse, refl, sym, ap, subst, arith}
+use Rattle.std.proofs.Common.{◌≡◌, ◌⊎◌, inl, inr, ◌↔◌, ℕ, List, [], ◌∷◌, ◌++◌, map, reverse, refl, sym, ap, subst, arith}
 use Rattle.std.specs.List.{Contains, flat_map}
 use Rattle.std.proofs.lemmas.List.{reverse-append}
 use Rattle.std.proofs.lemmas.List.Elements.{Contains-append_right, Contains-append_cases}
@@ -57,6 +57,14 @@ pub from_map : {X Y : Type 0} (f : X → Y) (y : Y) (xs : List X) → IsIn y (ma
 from_map f y [] h = absurd h
 from_map f y (x ∷ xs) (inl e) = (x, inl refl, e)
 from_map f y (x ∷ xs) (inr h) = let r = from_map f y xs h in (r.0, inr r.1, r.2)
+
+-- the members of an ordered list, where each item tells another one
+pub same_listed : {X Y : Type 0} (f : X → Y) (one : (a b : X) → f a ≡ f b → a ≡ b) (sorted xs : List X) (all : List Y) → ((y : Y) → IsIn y (map f xs) ↔ IsIn y all) → ((q : X) → Contains sorted q ↔ Contains xs q) → (q : X) → Contains sorted q ↔ Contains all (f q)
+same_listed f one sorted xs all are same q =
+    let back : IsIn (f q) (map f xs) → IsIn q xs = λ h. let r = from_map f (f q) xs h in subst (λ x. IsIn x xs) (one r.0 q r.2) r.1 in (
+      λ g. contains_from (f q) all ((are (f q)).0 (in_map f q xs (in_from q xs ((same q).0 g)))),
+      λ g. (same q).1 (contains_from q xs (back ((are (f q)).1 (in_from (f q) all g)))),
+    )
 
 pub in_flat_map : {X Y : Type 0} (f : X → List Y) (x : X) (y : Y) (xs : List X) → IsIn x xs → IsIn y (f x) → IsIn y (flat_map f xs)
 in_flat_map f x y [] h k = absurd h

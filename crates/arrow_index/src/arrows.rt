@@ -184,7 +184,7 @@ fn all_arrows(alloc: Global, work: &Work, program: &Program) -> Mem<Vec<Pair>>
 }
 
 /// Pairs in order, each once.
-fn in_order(pairs: Vec<Pair>) -> Mem<Items<Pair>>
+fn pairs_in_order(pairs: Vec<Pair>) -> Mem<Items<Pair>>
     ensures { IfOk result (λ sorted. IsStrictlySortedBy pair_cmp sorted × ((q : AnyPair) → Contains sorted q ↔ Contains pairs.items q)) }
 {
     let mut pairs = pairs;
@@ -200,5 +200,5 @@ pub fn arrows(alloc: Global, work: &Work, program: &Program) -> Mem<Items<Pair>>
         ProgramStands work.now text uris all program.now p → IfOk result (λ pairs. AreArrows pairs (arrows_of all p)) }
 {
     let pairs = all_arrows(alloc, work, program)?;
-    Ok(in_order(pairs)?)
+    Ok(pairs_in_order(pairs)?)
 }

@@ -152,7 +152,7 @@ fn pointing(alloc: Global, pairs: &[Pair], occ: Occ) -> Mem<Vec<Occ>>
 }
 
 /// Occurrences in order, each once.
-fn in_order(places: Vec<Occ>) -> Mem<Items<Occ>>
+fn occs_in_order(places: Vec<Occ>) -> Mem<Items<Occ>>
     ensures { IfOk result (λ sorted. IsStrictlySortedBy occ_cmp sorted × ((o : AnyOcc) → Contains sorted o ↔ Contains places.items o)) }
 {
     let mut places = places;
@@ -178,5 +178,5 @@ pub fn binders_of(
     let places = binders_in(alloc, work, &sight, program)?;
     let mut binders = pointing(alloc, pairs, occ)?;
     add_itself(places.as_slice(), occ, &mut binders)?;
-    Ok(in_order(binders)?)
+    Ok(occs_in_order(binders)?)
 }
