@@ -19,7 +19,7 @@ ghost use Rattle.arrow_index.specs.Leaves.{seen_of, IsSeen};
 ghost use Rattle.arrow_index.specs.Sights.{Sees, all_names, IsNameOf};
 ghost use Rattle.arrow_index.specs.declared.pairs.Pair.{Pair as AnyPair};
 ghost use Rattle.arrow_index.specs.Index.{as_arrow, pair_cmp, AreArrows};
-ghost use Rattle.arrow_index.specs.Variables.{arrows_at, all_arrows_at};
+ghost use Rattle.arrow_index.specs.Variables.{all_arrows_at};
 
 use crate::leaves::Leaf;
 use crate::pairs::Pair;

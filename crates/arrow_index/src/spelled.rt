@@ -1,5 +1,5 @@
 //! The links of a program, in order, each once.
-ghost use Rattle.std.specs.Prelude.{◌≡◌, ◌↔◌, ℕ, List, map, IfOk};
+ghost use Rattle.std.specs.Prelude.{◌↔◌, ℕ, List, map, IfOk};
 ghost use Rattle.std.specs.List.{Contains};
 ghost use Rattle.std.specs.List.Sorted.{IsStrictlySortedBy};
 ghost use Rattle.scheme_model.specs.Program.{Placed, Program as ModelProgram};
@@ -10,11 +10,11 @@ ghost use Rattle.arrow_index.specs.Members.{IsIn};
 ghost use Rattle.arrow_index.specs.Links.{as_link, link_cmp, AreLinks};
 ghost use Rattle.arrow_index.specs.declared.links.Link.{Link as AnyLink};
 
+use crate::binders::binders_in;
 use crate::entries::Entries;
 use crate::links::{Link, link_themselves};
-use crate::use_links::{link_all_names, link_macros, link_targets, link_uses};
-use crate::binders::binders_in;
 use crate::sight::Sight;
+use crate::use_links::{link_all_names, link_macros, link_targets, link_uses};
 use core_tree::units::Program;
 use ls_base::{Items, Mem};
 use std::alloc::Global;

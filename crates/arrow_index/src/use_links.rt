@@ -1,5 +1,5 @@
 //! The links of uses, of names in imports and exports, and of macros.
-ghost use Rattle.std.specs.Prelude.{◌≡◌, ◌++◌, ◌∷◌, [], ℕ, List, Some, map, OnOk};
+ghost use Rattle.std.specs.Prelude.{◌≡◌, ◌++◌, ◌∷◌, [], List, Some, map, OnOk};
 ghost use Rattle.scheme_model.specs.Cores.{Target as ModelTarget, RuleLeaf as ModelLeaf};
 ghost use Rattle.scheme_model.specs.Live.{CoreLeaf, NameUse as ModelName};
 ghost use Rattle.scheme_model.specs.Program.{UnitResult};
@@ -13,11 +13,11 @@ ghost use Rattle.arrow_index.specs.Sights.{Sees, IsNameOf, all_names};
 ghost use Rattle.arrow_index.specs.Entries.{Gives};
 ghost use Rattle.arrow_index.specs.Links.{as_link};
 
+use crate::arrows::is_static;
 use crate::entries::Entries;
 use crate::ident_links::link_ident;
-use crate::links::{Link, link_arrows, add_link, link_origins};
-use crate::arrows::is_static;
 use crate::leaves::Leaf;
+use crate::links::{Link, add_link, link_arrows, link_origins};
 use crate::sight::{FormNo, PlacedLeaf, PlacedTarget, Sight};
 use crate::variables::add_rules_arrows;
 use core_tree::cores::{RuleLeaf, Target};
