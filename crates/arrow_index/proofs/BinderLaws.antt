@@ -34,6 +34,7 @@ use Rattle.arrow_index.specs.Binders.{defined_places, form_places, unit_places, 
 use Rattle.arrow_index.proofs.MemberLaws.{in_left, in_right, in_either, in_from, contains_from, in_reverse, in_map, from_map, in_flat_map, from_flat_map}
 use Rattle.arrow_index.proofs.ToldLaws.{from_reverse}
 use Rattle.arrow_index.proofs.KeyLaws.{one_occ}
+use Rattle.arrow_index.proofs.GivenLaws.{bare_form}
 use Rattle.arrow_index.proofs.QuotedLaws.{quoted_none}
 
 -- ---- leaves
@@ -74,10 +75,6 @@ defined_row names [] [] h = refl
 defined_row names [] (d ∷ ds) h = absurd h
 defined_row names (b ∷ bs) [] h = absurd h
 defined_row names (b ∷ bs) (d ∷ ds) h = λ j. places_at (h.0.place j) ++ defined_row names bs ds h.1 j
-
-bare_form : (form : ℕ) (bs : List Binder) → map (λ (x : ℕ × Binder). x.1) (map (λ b. (form, b)) bs) ≡ bs
-bare_form form [] = refl
-bare_form form (b ∷ bs) = ap (λ (q : List Binder). b ∷ q) (bare_form form bs)
 
 forms_row : (form : ℕ) (cs : List UnitForm) → defined_places (map (λ (x : ℕ × Binder). x.1) (definitions_from form cs)) ≡ form_places cs
 forms_row form [] = refl

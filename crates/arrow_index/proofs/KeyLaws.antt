@@ -96,7 +96,7 @@ occs_equal o p =
     both_equal (nat_cmp o.unit p.unit) (ordering_then (nat_cmp o.form p.form) (nat_cmp o.token p.token))
     ∙ (λ j. numbers_equal o.unit p.unit j && (both_equal (nat_cmp o.form p.form) (nat_cmp o.token p.token) ∙ (λ i. numbers_equal o.form p.form i && numbers_equal o.token p.token i)) j)
 
-flip : (a b : ℕ) → (a == b) ≡ (b == a)
+pub flip : (a b : ℕ) → (a == b) ≡ (b == a)
 flip a b = grind (arith, nat_tests)
 
 pub occs_flip : (o p : Occ) → same_occ o p ≡ same_occ p o
@@ -106,7 +106,7 @@ or_true : (b : Bool) → (b || true) ≡ true
 or_true true = refl
 or_true false = refl
 
-or_false : (b : Bool) → (b || false) ≡ b
+pub or_false : (b : Bool) → (b || false) ≡ b
 or_false true = refl
 or_false false = refl
 

@@ -78,3 +78,7 @@ from_flat_map {X = X} f y (x ∷ xs) h = by_case (from_flat_map f y xs) (in_eith
     by_case : (IsIn y (flat_map f xs) → (z : X) × IsIn z xs × IsIn y (f z)) → IsIn y (f x) ⊎ IsIn y (flat_map f xs) → (z : X) × IsIn z (x ∷ xs) × IsIn y (f z)
     by_case g (inl k) = (x, inl refl, k)
     by_case g (inr k) = let r = g k in (r.0, inr r.1, r.2)
+
+-- members of the one list give what members of the other give
+pub among : {X Y : Type 0} (f : X → List Y) (xs ys : List X) → ((x : X) → IsIn x xs → IsIn x ys) → (y : Y) → IsIn y (flat_map f xs) → IsIn y (flat_map f ys)
+among f xs ys g y h = let r = from_flat_map f y xs h in in_flat_map f r.0 y ys (g r.0 r.1) r.2

@@ -15,11 +15,8 @@ use Rattle.core_tree.specs.declared.units.Unit.{Unit as CodeUnit}
 use Rattle.arrow_index.specs.Members.{IsIn}
 use Rattle.arrow_index.specs.Sights.{IsNameOf, all_names}
 use Rattle.arrow_index.proofs.AddLaws.{part_match}
-use Rattle.arrow_index.proofs.MemberLaws.{in_left, in_right, in_either, in_flat_map, from_flat_map}
+use Rattle.arrow_index.proofs.MemberLaws.{in_left, in_right, in_either, among}
 use Rattle.arrow_index.proofs.LinkLaws.{of_target, targets-append}
-
-among : {X : Type 0} (f : X → List Link) (xs ys : List X) → ((x : X) → IsIn x xs → IsIn x ys) → (a : Link) → IsIn a (flat_map f xs) → IsIn a (flat_map f ys)
-among f xs ys g a h = let r = from_flat_map f a xs h in in_flat_map f r.0 a ys (g r.0 r.1) r.2
 
 abbrev of_name : NameUse → List Link
 of_name n = links_at n.occ n.origins

@@ -144,7 +144,7 @@ fn add_met(sight: &Sight<'_>, met: &[PlacedTarget], pairs: &mut Vec<Pair>) -> Me
 }
 
 /// Adds the arrows to names of imports and exports, which mean the same in each form.
-fn add_names(sight: &Sight<'_>, found: &[NameUse], pairs: &mut Vec<Pair>) -> Mem<()>
+fn add_unit_names(sight: &Sight<'_>, found: &[NameUse], pairs: &mut Vec<Pair>) -> Mem<()>
     ensures { (work : AnyWork) (leaves : List CoreLeaf) (keywords : List ModelTarget) (names : List ModelName) (table : Table) (ns : List ModelName) →
         Sees work sight.now leaves keywords names table → AllMatch (IsNameOf work) found.now ns →
         OnOk result (map as_arrow pairs.new.items ≡ map as_arrow pairs.old.items ++ name_arrows (binder_of leaves table) ns) }
@@ -163,7 +163,7 @@ fn add_all_names(sight: &Sight<'_>, units: &[Unit], pairs: &mut Vec<Pair>) -> Me
         OnOk result (map as_arrow pairs.new.items ≡ map as_arrow pairs.old.items ++ name_arrows (binder_of leaves table) ns) }
 {
     for unit in units {
-        add_names(sight, unit.names.as_slice(), pairs)?;
+        add_unit_names(sight, unit.names.as_slice(), pairs)?;
     }
     Ok(())
 }

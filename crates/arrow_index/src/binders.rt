@@ -48,7 +48,7 @@ fn add_leaf_binders(
 }
 
 /// Adds the places of what leaves bind.
-fn add_binders(
+fn add_core_binders(
     alloc: Global,
     work: &Work,
     leaves: &[PlacedLeaf<'_>],
@@ -65,7 +65,7 @@ fn add_binders(
 }
 
 /// Adds the places of definitions.
-fn add_definitions(binders: &[Binder], places: &mut Vec<Occ>) -> Mem<()>
+fn add_defined_places(binders: &[Binder], places: &mut Vec<Occ>) -> Mem<()>
     ensures { OnOk result (places.new.items ≡ places.old.items ++ defined_places binders.now) }
 {
     for binder in binders {
@@ -75,21 +75,21 @@ fn add_definitions(binders: &[Binder], places: &mut Vec<Occ>) -> Mem<()>
 }
 
 /// Adds the places of what the forms of a unit define.
-fn add_unit_definitions(forms: &[UnitForm], places: &mut Vec<Occ>) -> Mem<()>
+fn add_form_places(forms: &[UnitForm], places: &mut Vec<Occ>) -> Mem<()>
     ensures { OnOk result (places.new.items ≡ places.old.items ++ form_places forms.now) }
 {
     for form in forms {
-        add_definitions(form.trace.definitions.as_slice(), places)?;
+        add_defined_places(form.trace.definitions.as_slice(), places)?;
     }
     Ok(())
 }
 
 /// Adds the places of what units define.
-fn add_all_definitions(units: &[Unit], places: &mut Vec<Occ>) -> Mem<()>
+fn add_unit_places(units: &[Unit], places: &mut Vec<Occ>) -> Mem<()>
     ensures { OnOk result (places.new.items ≡ places.old.items ++ unit_places units.now) }
 {
     for unit in units {
-        add_unit_definitions(unit.forms.as_slice(), places)?;
+        add_form_places(unit.forms.as_slice(), places)?;
     }
     Ok(())
 }
@@ -102,8 +102,8 @@ pub fn binders_in(alloc: Global, work: &Work, sight: &Sight<'_>, program: &Progr
         IfOk result (λ places. (o : AnyOcc) → IsIn o places.items ↔ IsIn o (program_binders p)) }
 {
     let mut places = Vec::new(alloc);
-    add_binders(alloc, work, sight.leaves.as_slice(), &mut places)?;
-    add_all_definitions(program.units.as_slice(), &mut places)?;
+    add_core_binders(alloc, work, sight.leaves.as_slice(), &mut places)?;
+    add_unit_places(program.units.as_slice(), &mut places)?;
     Ok(places)
 }
 

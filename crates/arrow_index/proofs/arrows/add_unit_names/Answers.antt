@@ -6,7 +6,7 @@ use Rattle.arrow_index.specs.Sights.{IsNameOf}
 use Rattle.arrow_index.proofs.Growing.{grows_as, grows_by_none, grows_twice}
 use Rattle.arrow_index.proofs.VariableLaws.{match_item, match_all}
 use Rattle.arrow_index.proofs.StepLaws.{names_more}
-use Rattle.arrow_index.proofs.arrows.add_names.Goals as goal
+use Rattle.arrow_index.proofs.arrows.add_unit_names.Goals as goal
 
 pub loop-name-init : goal.loop-name-init
 loop-name-init c = λ work leaves keywords names table ns sees match. grows_by_none as_arrow c.args.pairs.now.items [] refl

@@ -5,7 +5,7 @@ use Rattle.scheme_model.specs.ProgramArrows.{leaf_binders}
 use Rattle.arrow_index.specs.Placed.{placed_of}
 use Rattle.arrow_index.proofs.BinderLaws.{binders-append, both_added}
 use Rattle.arrow_index.proofs.StepLaws.{next_leaf, passed_none, passed_more, passed_all, seen_item}
-use Rattle.arrow_index.proofs.binders.add_binders.Goals as goal
+use Rattle.arrow_index.proofs.binders.add_core_binders.Goals as goal
 
 pub loop-leaf-init : goal.loop-leaf-init
 loop-leaf-init c = λ ls seen. passed_none c.args.work.now (map placed_of c.args.leaves.now) ls _ seen (sym (append-nil c.args.places.now.items))

@@ -7,7 +7,7 @@ use Rattle.syntax_tree.specs.declared.trees.Work.{Work}
 use Rattle.core_tree.specs.Names.{AllMatch}
 use Rattle.arrow_index.specs.Index.{as_arrow}
 use Rattle.arrow_index.specs.Sights.{Sees, IsNameOf}
-use Rattle.arrow_index.proofs.arrows.add_names.Given as goal
+use Rattle.arrow_index.proofs.arrows.add_unit_names.Given as goal
 
 abbrev pub invariant-loop-name : goal.invariant-loop-name
 invariant-loop-name l =
