@@ -10,7 +10,7 @@ use Rattle.scheme_model.specs.Live.{CoreLeaf, NameUse}
 use Rattle.scheme_model.specs.ProgramArrows.{Arrow, arrow_of, target_arrows, name_arrows, core_targets, macro_arrows, rule_arrows, leaf_arrows}
 use Rattle.arrow_index.specs.Members.{IsIn}
 use Rattle.arrow_index.specs.Variables.{all_arrows_at}
-use Rattle.arrow_index.proofs.MemberLaws.{in_left, in_right, in_either, in_flat_map, from_flat_map}
+use Rattle.arrow_index.proofs.MemberLaws.{in_left, in_right, in_either, among}
 
 abbrev of_target : (Meaning → Option Occ) → Target → List Arrow
 of_target binder t = arrow_of (binder t.meaning) t.occ
@@ -25,10 +25,6 @@ flat_targets binder (t ∷ ts) = ap (λ (q : List Arrow). of_target binder t ++ 
 pub flat_names : (binder : Meaning → Option Occ) (ns : List NameUse) → name_arrows binder ns ≡ flat_map (of_name binder) ns
 flat_names binder [] = refl
 flat_names binder (n ∷ ns) = ap (λ (q : List Arrow). of_name binder n ++ q) (flat_names binder ns)
-
--- members of the one list give what members of the other give
-among : {X : Type 0} (f : X → List Arrow) (xs ys : List X) → ((x : X) → IsIn x xs → IsIn x ys) → (a : Arrow) → IsIn a (flat_map f xs) → IsIn a (flat_map f ys)
-among f xs ys g a h = let r = from_flat_map f a xs h in in_flat_map f r.0 a ys (g r.0 r.1) r.2
 
 module _ (binder : Meaning → Option Occ) (is_live : Option Occ → Bool) where
   targets_among : (ts us : List Target) → ((t : Target) → IsIn t ts → IsIn t us) → (a : Arrow) → IsIn a (target_arrows binder ts) → IsIn a (target_arrows binder us)

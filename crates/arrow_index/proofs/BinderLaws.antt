@@ -10,8 +10,8 @@ use Rattle.scheme_model.specs.declared.Occ.{Occ}
 use Rattle.scheme_model.specs.Entries.{same_occ}
 use Rattle.scheme_model.specs.Ident.{Ident as Identifier}
 use Rattle.scheme_model.specs.Live as live
-use Rattle.scheme_model.specs.Live.{CoreLeaf, name_places, name_places_all, name_places_tail}
-use Rattle.scheme_model.specs.Trees.{Tree, name, atom, list, vector, Trees, no_trees, tree, Tail, proper, dotted}
+use Rattle.scheme_model.specs.Live.{CoreLeaf, name_places}
+use Rattle.scheme_model.specs.Trees.{Tree}
 use Rattle.scheme_model.specs.Requirements.{LibraryName}
 use Rattle.scheme_model.specs.RulesShape.{Variable}
 use Rattle.scheme_model.specs.Substitution.{Table, Defined}
@@ -34,6 +34,8 @@ use Rattle.arrow_index.specs.Binders.{defined_places, form_places, unit_places, 
 use Rattle.arrow_index.proofs.MemberLaws.{in_left, in_right, in_either, in_from, contains_from, in_reverse, in_map, from_map, in_flat_map, from_flat_map}
 use Rattle.arrow_index.proofs.ToldLaws.{from_reverse}
 use Rattle.arrow_index.proofs.KeyLaws.{one_occ}
+use Rattle.arrow_index.proofs.GivenLaws.{bare_form}
+use Rattle.arrow_index.proofs.QuotedLaws.{quoted_none}
 
 -- ---- leaves
 
@@ -46,24 +48,8 @@ binders-append (live.Quotes o ∷ xs) ys = binders-append xs ys
 binders-append (live.Defines m ∷ xs) ys =
     ap (λ (q : List Occ). rule_binders m.rules m.rules.rules ++ q) (binders-append xs ys) ∙ sym (append_assoc (rule_binders m.rules m.rules.rules) (leaf_binders xs) (leaf_binders ys))
 
-mutual
-  pub quoted_binds : {A : Type 0} (f : A → Bool) (t : Tree A) → leaf_binders (name_places f t) ≡ []
-  quoted_binds f (name i o) = by_test (f i)
-    where
-      by_test : (b : Bool) → leaf_binders (if b then live.Quotes o ∷ [] else []) ≡ []
-      by_test true = refl
-      by_test false = refl
-  quoted_binds f (atom a o) = refl
-  quoted_binds f (list ts tail o) = binders-append (name_places_all f ts) (name_places_tail f tail) ∙ (λ j. all_bind f ts j ++ tail_binds f tail j)
-  quoted_binds f (vector ts o) = all_bind f ts
-
-  all_bind : {A : Type 0} (f : A → Bool) (ts : Trees A) → leaf_binders (name_places_all f ts) ≡ []
-  all_bind f no_trees = refl
-  all_bind f (tree t ts) = binders-append (name_places f t) (name_places_all f ts) ∙ (λ j. quoted_binds f t j ++ all_bind f ts j)
-
-  tail_binds : {A : Type 0} (f : A → Bool) (tail : Tail A) → leaf_binders (name_places_tail f tail) ≡ []
-  tail_binds f proper = refl
-  tail_binds f (dotted t) = quoted_binds f t
+pub quoted_binds : {A : Type 0} (f : A → Bool) (t : Tree A) → leaf_binders (name_places f t) ≡ []
+quoted_binds f t = quoted_none leaf_binders binders-append refl (λ o. refl) f t
 
 pub none_added : (old : List Occ) (ls : List CoreLeaf) → leaf_binders ls ≡ [] → old ≡ old ++ leaf_binders ls
 none_added old ls e = sym (append-nil old) ∙ ap (λ (q : List Occ). old ++ q) (sym e)
@@ -89,10 +75,6 @@ defined_row names [] [] h = refl
 defined_row names [] (d ∷ ds) h = absurd h
 defined_row names (b ∷ bs) [] h = absurd h
 defined_row names (b ∷ bs) (d ∷ ds) h = λ j. places_at (h.0.place j) ++ defined_row names bs ds h.1 j
-
-bare_form : (form : ℕ) (bs : List Binder) → map (λ (x : ℕ × Binder). x.1) (map (λ b. (form, b)) bs) ≡ bs
-bare_form form [] = refl
-bare_form form (b ∷ bs) = ap (λ (q : List Binder). b ∷ q) (bare_form form bs)
 
 forms_row : (form : ℕ) (cs : List UnitForm) → defined_places (map (λ (x : ℕ × Binder). x.1) (definitions_from form cs)) ≡ form_places cs
 forms_row form [] = refl

@@ -21,6 +21,7 @@ use Rattle.core_tree.specs.declared.units.UnitForm.{UnitForm}
 use Rattle.core_tree.specs.declared.units.Unit.{Unit as CodeUnit}
 use Rattle.arrow_index.specs.declared.sight.GlobalNo.{GlobalNo}
 use Rattle.arrow_index.proofs.Growing.{flat_more}
+use Rattle.arrow_index.proofs.KeyLaws.{flip}
 use Rattle.arrow_index.specs.Placed.{Given, same_global, given_by, forms_given, units_given, given_after}
 
 -- ---- one after another
@@ -86,7 +87,7 @@ forms_are_given : (u : ℕ) (cs : List UnitForm) → forms_given u cs ≡ given_
 forms_are_given u [] = refl
 forms_are_given u (c ∷ cs) = ap (λ (q : List Given). given_by u c.trace.definitions ++ q) (forms_are_given u cs) ∙ sym (map_both u c.trace.definitions (all_of cs))
 
-bare_form : (form : ℕ) (bs : List Binder) → bare (map (λ b. (form, b)) bs) ≡ bs
+pub bare_form : (form : ℕ) (bs : List Binder) → bare (map (λ b. (form, b)) bs) ≡ bs
 bare_form form [] = refl
 bare_form form (b ∷ bs) = ap (λ (q : List Binder). b ∷ q) (bare_form form bs)
 
@@ -107,9 +108,6 @@ given_unit u n cs =
     ∙ ap (λ (q : List Binder). first_given (reverse q) n None) (sym (bare_all 0 cs)) ∙ ap (λ (q : List Binder). first_given q n None) (sym (bare_reverse (definitions_from 0 cs)))
 
 -- ---- in the table
-
-flip : (a b : ℕ) → (a == b) ≡ (b == a)
-flip a b = grind (arith, nat_tests)
 
 place_of_test : (b : Bool) (o p : Option Occ) (x : Option (Option Occ)) (d : Defined) (y : Option Defined) → o ≡ p → d.occ ≡ p → x ≡ option_map (λ (e : Defined). e.occ) y →
     (if b then Some o else x) ≡ option_map (λ (e : Defined). e.occ) (if b then Some d else y)

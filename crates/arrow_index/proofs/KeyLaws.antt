@@ -12,7 +12,7 @@ use Rattle.syntax_tree.specs.declared.rules.Named as code
 use Rattle.arrow_index.specs.declared.sight.LocalNo.{LocalNo}
 use Rattle.arrow_index.specs.declared.sight.GlobalNo.{GlobalNo}
 use Rattle.arrow_index.specs.declared.sight.PlacedLeaf.{PlacedLeaf}
-use Rattle.arrow_index.specs.Placed.{occ_cmp, local_cmp, global_cmp, form_cmp, same_local, same_global, first_of, PlacedSeen, placed_of, bound_in, bound_or, local_in}
+use Rattle.arrow_index.specs.Placed.{occ_cmp, local_cmp, global_cmp, form_cmp, same_local, same_global, first_or, PlacedSeen, placed_of, bound_in, bound_or, local_in}
 use Rattle.arrow_index.specs.Variables.{place_among}
 
 pub both_equal : (a b : Ordering) → is_eq (ordering_then a b) ≡ (is_eq a && is_eq b)
@@ -53,40 +53,40 @@ one_local a b h =
 
 -- ---- of which the first counts
 
-pub first_none : (o : Option (Option Occ)) → first_of o None ≡ o
+pub first_none : {A : Type 0} (o : Option A) → first_or o None ≡ o
 first_none None = refl
 first_none (Some p) = refl
 
-pub first_first : (a b c : Option (Option Occ)) → first_of (first_of a b) c ≡ first_of a (first_of b c)
+pub first_first : {A : Type 0} (a b c : Option A) → first_or (first_or a b) c ≡ first_or a (first_or b c)
 first_first None b c = refl
 first_first (Some p) b c = refl
 
-if_first : (b : Bool) (p : Option Occ) (x y : Option (Option Occ)) → (if b then Some p else first_of x y) ≡ first_of (if b then Some p else x) y
+pub if_first : {A : Type 0} (b : Bool) (p : A) (x y : Option A) → (if b then Some p else first_or x y) ≡ first_or (if b then Some p else x) y
 if_first true p x y = refl
 if_first false p x y = refl
 
-bound_first : (b : Option (LocalNo × Option Occ)) (k : LocalNo) (x y : Option (Option Occ)) → bound_or b k (first_of x y) ≡ first_of (bound_or b k x) y
+bound_first : (b : Option (LocalNo × Option Occ)) (k : LocalNo) (x y : Option (Option Occ)) → bound_or b k (first_or x y) ≡ first_or (bound_or b k x) y
 bound_first None k x y = refl
 bound_first (Some b) k x y = if_first (same_local b.0 k) b.1 x y
 
-local-append : (xs ys : List PlacedSeen) (k : LocalNo) → local_in (xs ++ ys) k ≡ first_of (local_in xs k) (local_in ys k)
+local-append : (xs ys : List PlacedSeen) (k : LocalNo) → local_in (xs ++ ys) k ≡ first_or (local_in xs k) (local_in ys k)
 local-append [] ys k = refl
 local-append (x ∷ xs) ys k = ap (bound_or (bound_in x) k) (local-append xs ys k) ∙ bound_first (bound_in x) k (local_in xs k) (local_in ys k)
 
 pub local_more : (ls : List PlacedLeaf) (i : ℕ) (l : PlacedLeaf) (k : LocalNo) (old new : Option (Option Occ)) → i < length ls → l ≡ get_or ls i l → old ≡ local_in (map placed_of (take i ls)) k →
-    new ≡ first_of old (bound_or (bound_in (placed_of l)) k None) → new ≡ local_in (map placed_of (take (i + 1) ls)) k
+    new ≡ first_or old (bound_or (bound_in (placed_of l)) k None) → new ≡ local_in (map placed_of (take (i + 1) ls)) k
 local_more ls i l k old new lt is h n =
-    n ∙ (λ j. first_of (h j) (bound_or (bound_in (placed_of (is j))) k None)) ∙ sym (local-append (map placed_of (take i ls)) (placed_of (get_or ls i l) ∷ []) k)
+    n ∙ (λ j. first_or (h j) (bound_or (bound_in (placed_of (is j))) k None)) ∙ sym (local-append (map placed_of (take i ls)) (placed_of (get_or ls i l) ∷ []) k)
     ∙ ap (λ (q : List PlacedSeen). local_in q k) (sym (ap (map placed_of) (take_more ls i l lt) ∙ map-append placed_of (take i ls) (get_or ls i l ∷ [])))
 
-place-append : (vs ws : List code.Named) (n : ℕ) → place_among (vs ++ ws) n ≡ first_of (place_among vs n) (place_among ws n)
+place-append : (vs ws : List code.Named) (n : ℕ) → place_among (vs ++ ws) n ≡ first_or (place_among vs n) (place_among ws n)
 place-append [] ws n = refl
 place-append (v ∷ vs) ws n = ap (λ (q : Option (Option Occ)). if v.ident == n then Some v.occ else q) (place-append vs ws n) ∙ if_first (v.ident == n) v.occ (place_among vs n) (place_among ws n)
 
 pub place_more : (vs : List code.Named) (i n : ℕ) (d : code.Named) (old new : Option (Option Occ)) → i < length vs → old ≡ place_among (take i vs) n →
-    new ≡ first_of old (if (get_or vs i d).ident == n then Some (get_or vs i d).occ else None) → new ≡ place_among (take (i + 1) vs) n
+    new ≡ first_or old (if (get_or vs i d).ident == n then Some (get_or vs i d).occ else None) → new ≡ place_among (take (i + 1) vs) n
 place_more vs i n d old new lt h k =
-    k ∙ ap (λ (o : Option (Option Occ)). first_of o (if (get_or vs i d).ident == n then Some (get_or vs i d).occ else None)) h ∙ sym (place-append (take i vs) (get_or vs i d ∷ []) n)
+    k ∙ ap (λ (o : Option (Option Occ)). first_or o (if (get_or vs i d).ident == n then Some (get_or vs i d).occ else None)) h ∙ sym (place-append (take i vs) (get_or vs i d ∷ []) n)
     ∙ ap (λ (q : List code.Named). place_among q n) (sym (take_more vs i d lt))
 
 -- ---- occurrences
@@ -96,7 +96,7 @@ occs_equal o p =
     both_equal (nat_cmp o.unit p.unit) (ordering_then (nat_cmp o.form p.form) (nat_cmp o.token p.token))
     ∙ (λ j. numbers_equal o.unit p.unit j && (both_equal (nat_cmp o.form p.form) (nat_cmp o.token p.token) ∙ (λ i. numbers_equal o.form p.form i && numbers_equal o.token p.token i)) j)
 
-flip : (a b : ℕ) → (a == b) ≡ (b == a)
+pub flip : (a b : ℕ) → (a == b) ≡ (b == a)
 flip a b = grind (arith, nat_tests)
 
 pub occs_flip : (o p : Occ) → same_occ o p ≡ same_occ p o
@@ -106,7 +106,7 @@ or_true : (b : Bool) → (b || true) ≡ true
 or_true true = refl
 or_true false = refl
 
-or_false : (b : Bool) → (b || false) ≡ b
+pub or_false : (b : Bool) → (b || false) ≡ b
 or_false true = refl
 or_false false = refl
 

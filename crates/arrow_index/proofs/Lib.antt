@@ -4,6 +4,7 @@ pub mod AddLaws
 pub mod Growing
 pub mod Ends
 pub mod MemberLaws
+pub mod QuotedLaws
 pub mod PlacedLaws
 pub mod ToldLaws
 pub mod LocalLaws
@@ -18,3 +19,9 @@ pub mod Orders
 pub mod SightLaws
 pub mod BinderLaws
 pub mod QueryLaws
+pub mod LinkLaws
+pub mod EntryLaws
+pub mod IdentLaws
+pub mod SpelledLaws
+pub mod LinkOrders
+pub mod TargetLaws

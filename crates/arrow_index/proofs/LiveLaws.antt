@@ -24,14 +24,11 @@ use Rattle.arrow_index.specs.Holes.{occs_in, occs_among, occs_behind}
 use Rattle.arrow_index.specs.Names.{names_in, names_among, names_behind}
 use Rattle.arrow_index.specs.Placed.{occ_cmp, Use, IsUseOf, PlacedSeen, AreAllSeen}
 use Rattle.arrow_index.specs.Sights.{name_at, use_at, IsNameOf}
+use Rattle.arrow_index.proofs.KeyLaws.{or_false}
 
 or_assoc : (a b c : Bool) → ((a || b) || c) ≡ (a || (b || c))
 or_assoc true b c = refl
 or_assoc false b c = refl
-
-or_false : (a : Bool) → (a || false) ≡ a
-or_false true = refl
-or_false false = refl
 
 pub or_none : (a : Bool) → a ≡ (a || false)
 or_none a = sym (or_false a)

@@ -1,5 +1,5 @@
 -- Members of lists, by recursion.
-use Rattle.std.proofs.Common.{◌≡◌, ◌⊎◌, inl, inr, ℕ, List, [], ◌∷◌, ◌++◌, map, reverse, refl, sym, ap, subst, arith}
+use Rattle.std.proofs.Common.{◌≡◌, ◌⊎◌, inl, inr, ◌↔◌, ℕ, List, [], ◌∷◌, ◌++◌, map, reverse, refl, sym, ap, subst, arith}
 use Rattle.std.specs.List.{Contains, flat_map}
 use Rattle.std.proofs.lemmas.List.{reverse-append}
 use Rattle.std.proofs.lemmas.List.Elements.{Contains-append_right, Contains-append_cases}
@@ -58,6 +58,14 @@ from_map f y [] h = absurd h
 from_map f y (x ∷ xs) (inl e) = (x, inl refl, e)
 from_map f y (x ∷ xs) (inr h) = let r = from_map f y xs h in (r.0, inr r.1, r.2)
 
+-- the members of an ordered list, where each item tells another one
+pub same_listed : {X Y : Type 0} (f : X → Y) (one : (a b : X) → f a ≡ f b → a ≡ b) (sorted xs : List X) (all : List Y) → ((y : Y) → IsIn y (map f xs) ↔ IsIn y all) → ((q : X) → Contains sorted q ↔ Contains xs q) → (q : X) → Contains sorted q ↔ Contains all (f q)
+same_listed f one sorted xs all are same q =
+    let back : IsIn (f q) (map f xs) → IsIn q xs = λ h. let r = from_map f (f q) xs h in subst (λ x. IsIn x xs) (one r.0 q r.2) r.1 in (
+      λ g. contains_from (f q) all ((are (f q)).0 (in_map f q xs (in_from q xs ((same q).0 g)))),
+      λ g. (same q).1 (contains_from q xs (back ((are (f q)).1 (in_from (f q) all g)))),
+    )
+
 pub in_flat_map : {X Y : Type 0} (f : X → List Y) (x : X) (y : Y) (xs : List X) → IsIn x xs → IsIn y (f x) → IsIn y (flat_map f xs)
 in_flat_map f x y [] h k = absurd h
 in_flat_map f x y (z ∷ zs) (inl e) k = in_left y (f z) (flat_map f zs) (subst (λ w. IsIn y (f w)) (sym e) k)
@@ -70,3 +78,7 @@ from_flat_map {X = X} f y (x ∷ xs) h = by_case (from_flat_map f y xs) (in_eith
     by_case : (IsIn y (flat_map f xs) → (z : X) × IsIn z xs × IsIn y (f z)) → IsIn y (f x) ⊎ IsIn y (flat_map f xs) → (z : X) × IsIn z (x ∷ xs) × IsIn y (f z)
     by_case g (inl k) = (x, inl refl, k)
     by_case g (inr k) = let r = g k in (r.0, inr r.1, r.2)
+
+-- members of the one list give what members of the other give
+pub among : {X Y : Type 0} (f : X → List Y) (xs ys : List X) → ((x : X) → IsIn x xs → IsIn x ys) → (y : Y) → IsIn y (flat_map f xs) → IsIn y (flat_map f ys)
+among f xs ys g y h = let r = from_flat_map f y xs h in in_flat_map f r.0 y ys (g r.0 r.1) r.2

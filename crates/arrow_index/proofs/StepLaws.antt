@@ -4,11 +4,11 @@ use Rattle.std.specs.Prelude.{◌||◌, not, if◌then◌else◌}
 use Rattle.std.proofs.lemmas.List.{append-nil}
 use Rattle.std.proofs.lemmas.Grind.{flat_map-append}
 use Rattle.scheme_model.specs.declared.Occ.{Occ}
-use Rattle.scheme_model.specs.Trees.{Tree, name, atom, list, vector, Trees, no_trees, tree, Tail, proper, dotted}
+use Rattle.scheme_model.specs.Trees.{Tree}
 use Rattle.scheme_model.specs.Meaning.{Meaning}
 use Rattle.scheme_model.specs.Cores as model
 use Rattle.scheme_model.specs.Live as live
-use Rattle.scheme_model.specs.Live.{CoreLeaf, name_places, name_places_all, name_places_tail}
+use Rattle.scheme_model.specs.Live.{CoreLeaf, name_places}
 use Rattle.scheme_model.specs.ProgramArrows.{Arrow, arrow_of, leaf_arrows, target_arrows, name_arrows}
 use Rattle.syntax_tree.specs.declared.trees.Work.{Work}
 use Rattle.arrow_index.specs.declared.sight.PlacedLeaf.{PlacedLeaf}
@@ -16,6 +16,7 @@ use Rattle.arrow_index.specs.Leaves.{seen_of, IsSeen}
 use Rattle.arrow_index.specs.Placed.{PlacedSeen, placed_of, AreAllSeen}
 use Rattle.arrow_index.specs.Variables.{arrows_at, all_arrows_at}
 use Rattle.arrow_index.proofs.LiveLaws.{Passed}
+use Rattle.arrow_index.proofs.QuotedLaws.{quoted_none}
 
 -- ---- leaves of rules
 
@@ -39,27 +40,11 @@ module _ (binder : Meaning → Option Occ) (is_live : Option Occ → Bool) where
 
   -- ---- leaves of cores
 
-  mutual
-    pub quoted_none : {A : Type 0} (f : A → Bool) (t : Tree A) → all_arrows_at binder is_live (name_places f t) ≡ []
-    quoted_none f (name i o) = by_test (f i)
-      where
-        by_test : (b : Bool) → all_arrows_at binder is_live (if b then live.Quotes o ∷ [] else []) ≡ []
-        by_test true = refl
-        by_test false = refl
-    quoted_none f (atom a o) = refl
-    quoted_none f (list ts tail o) = flat_map-append (arrows_at binder is_live) (name_places_all f ts) (name_places_tail f tail) ∙ (λ j. all_none f ts j ++ tail_none f tail j)
-    quoted_none f (vector ts o) = all_none f ts
-
-    all_none : {A : Type 0} (f : A → Bool) (ts : Trees A) → all_arrows_at binder is_live (name_places_all f ts) ≡ []
-    all_none f no_trees = refl
-    all_none f (tree t ts) = flat_map-append (arrows_at binder is_live) (name_places f t) (name_places_all f ts) ∙ (λ j. quoted_none f t j ++ all_none f ts j)
-
-    tail_none : {A : Type 0} (f : A → Bool) (tail : Tail A) → all_arrows_at binder is_live (name_places_tail f tail) ≡ []
-    tail_none f proper = refl
-    tail_none f (dotted t) = quoted_none f t
-
   pub leaves-append : (xs ys : List CoreLeaf) → all_arrows_at binder is_live (xs ++ ys) ≡ all_arrows_at binder is_live xs ++ all_arrows_at binder is_live ys
   leaves-append xs ys = flat_map-append (arrows_at binder is_live) xs ys
+
+  pub quoted_arrows : {A : Type 0} (f : A → Bool) (t : Tree A) → all_arrows_at binder is_live (name_places f t) ≡ []
+  quoted_arrows f t = quoted_none (all_arrows_at binder is_live) leaves-append refl (λ o. refl) f t
 
 module _ (binder : Meaning → Option Occ) where
   targets-append : (xs ys : List model.Target) → target_arrows binder (xs ++ ys) ≡ target_arrows binder xs ++ target_arrows binder ys

@@ -4,7 +4,6 @@ use Rattle.std.specs.Prelude.{◌==◌, if◌then◌else◌}
 use Rattle.std.specs.List.{flat_map}
 use Rattle.std.proofs.lemmas.List.{append-nil, map-append}
 use Rattle.std.proofs.lemmas.Grind.{flat_map-append}
-use Rattle.std.proofs.lemmas.Bool.Decides.{nat_tests}
 use Rattle.scheme_model.specs.declared.Occ.{Occ}
 use Rattle.scheme_model.specs.Trees.{Tree, name, atom, list, vector, Trees, no_trees, tree, Tail, proper, dotted}
 use Rattle.scheme_model.specs.ExpansionFaults.{Named, named}
@@ -24,6 +23,7 @@ use Rattle.core_tree.specs.Names.{AllMatch}
 use Rattle.arrow_index.specs.Names.{names_in, names_among, names_behind}
 use Rattle.arrow_index.specs.Placed.{place_in}
 use Rattle.arrow_index.specs.Variables.{if_variable, chosen, place_among}
+use Rattle.arrow_index.proofs.KeyLaws.{flip}
 
 -- ---- lists that match
 
@@ -118,9 +118,6 @@ mutual
   used_behind : (vs : List (Variable Identifier)) (tail : Tail Identifier) → template_arrows_tail vs tail ≡ flat_map (used vs) (names_behind tail)
   used_behind vs proper = refl
   used_behind vs (dotted t) = used_in vs t
-
-flip : (a b : ℕ) → (a == b) ≡ (b == a)
-flip a b = grind (arith, nat_tests)
 
 if_arrow : (b : Bool) (o p : Option Occ) (x : Option (Option Occ)) (q : Option Occ) (rest : List Arrow) → o ≡ p → arrow_of (place_in x) q ≡ rest →
     arrow_of (place_in (if b then Some o else x)) q ≡ (if b then arrow_of p q else rest)

@@ -8,3 +8,5 @@ pub mod Index
 pub mod Variables
 pub mod Holes
 pub mod Binders
+pub mod Entries
+pub mod Links

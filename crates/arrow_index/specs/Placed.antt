@@ -124,9 +124,9 @@ bound_or None k other = other
 bound_or (Some b) k other = if same_local b.0 k then Some b.1 else other
 
 -- what was there, and else what comes
-abbrev pub first_of : Option (Option Occ) → Option (Option Occ) → Option (Option Occ)
-first_of None o = o
-first_of (Some p) o = Some p
+abbrev pub first_or : {A : Type 0} → Option A → Option A → Option A
+first_or None other = other
+first_or (Some a) other = Some a
 
 -- where the first binder with a number stands
 abbrev pub local_in : List PlacedSeen → LocalNo → Option (Option Occ)

@@ -19,7 +19,7 @@ ghost use Rattle.arrow_index.specs.Leaves.{seen_of, IsSeen};
 ghost use Rattle.arrow_index.specs.Sights.{Sees, all_names, IsNameOf};
 ghost use Rattle.arrow_index.specs.declared.pairs.Pair.{Pair as AnyPair};
 ghost use Rattle.arrow_index.specs.Index.{as_arrow, pair_cmp, AreArrows};
-ghost use Rattle.arrow_index.specs.Variables.{arrows_at, all_arrows_at};
+ghost use Rattle.arrow_index.specs.Variables.{all_arrows_at};
 
 use crate::leaves::Leaf;
 use crate::pairs::Pair;
@@ -144,7 +144,7 @@ fn add_met(sight: &Sight<'_>, met: &[PlacedTarget], pairs: &mut Vec<Pair>) -> Me
 }
 
 /// Adds the arrows to names of imports and exports, which mean the same in each form.
-fn add_names(sight: &Sight<'_>, found: &[NameUse], pairs: &mut Vec<Pair>) -> Mem<()>
+fn add_unit_names(sight: &Sight<'_>, found: &[NameUse], pairs: &mut Vec<Pair>) -> Mem<()>
     ensures { (work : AnyWork) (leaves : List CoreLeaf) (keywords : List ModelTarget) (names : List ModelName) (table : Table) (ns : List ModelName) →
         Sees work sight.now leaves keywords names table → AllMatch (IsNameOf work) found.now ns →
         OnOk result (map as_arrow pairs.new.items ≡ map as_arrow pairs.old.items ++ name_arrows (binder_of leaves table) ns) }
@@ -163,7 +163,7 @@ fn add_all_names(sight: &Sight<'_>, units: &[Unit], pairs: &mut Vec<Pair>) -> Me
         OnOk result (map as_arrow pairs.new.items ≡ map as_arrow pairs.old.items ++ name_arrows (binder_of leaves table) ns) }
 {
     for unit in units {
-        add_names(sight, unit.names.as_slice(), pairs)?;
+        add_unit_names(sight, unit.names.as_slice(), pairs)?;
     }
     Ok(())
 }
@@ -184,7 +184,7 @@ fn all_arrows(alloc: Global, work: &Work, program: &Program) -> Mem<Vec<Pair>>
 }
 
 /// Pairs in order, each once.
-fn in_order(pairs: Vec<Pair>) -> Mem<Items<Pair>>
+fn pairs_in_order(pairs: Vec<Pair>) -> Mem<Items<Pair>>
     ensures { IfOk result (λ sorted. IsStrictlySortedBy pair_cmp sorted × ((q : AnyPair) → Contains sorted q ↔ Contains pairs.items q)) }
 {
     let mut pairs = pairs;
@@ -200,5 +200,5 @@ pub fn arrows(alloc: Global, work: &Work, program: &Program) -> Mem<Items<Pair>>
         ProgramStands work.now text uris all program.now p → IfOk result (λ pairs. AreArrows pairs (arrows_of all p)) }
 {
     let pairs = all_arrows(alloc, work, program)?;
-    Ok(in_order(pairs)?)
+    Ok(pairs_in_order(pairs)?)
 }

@@ -5,10 +5,9 @@ ghost use Rattle.std.specs.List.Sorted.{IsStrictlySortedBy};
 ghost use Rattle.scheme_model.specs.declared.Occ.{Occ as AnyOcc};
 ghost use Rattle.scheme_model.specs.Entries.{same_occ};
 ghost use Rattle.scheme_model.specs.Live.{CoreLeaf};
-ghost use Rattle.scheme_model.specs.ProgramArrows.{any, arrows_of, places_at, leaf_binders, itself_among, binders_at, binders_in as program_binders};
+ghost use Rattle.scheme_model.specs.ProgramArrows.{any, arrows_of, leaf_binders, itself_among, binders_at, binders_in as program_binders};
 ghost use Rattle.scheme_model.specs.Program.{Placed, Program as ModelProgram};
 ghost use Rattle.scheme_model.specs.Requirements.{LibraryName};
-ghost use Rattle.syntax_tree.specs.declared.trees.Work.{Work as AnyWork};
 ghost use Rattle.core_tree.specs.Units.{ProgramStands, IsProgramOf};
 ghost use Rattle.arrow_index.specs.Leaves.{seen_of, IsSeen};
 ghost use Rattle.arrow_index.specs.Members.{IsIn};
@@ -49,7 +48,7 @@ fn add_leaf_binders(
 }
 
 /// Adds the places of what leaves bind.
-fn add_binders(
+fn add_core_binders(
     alloc: Global,
     work: &Work,
     leaves: &[PlacedLeaf<'_>],
@@ -66,7 +65,7 @@ fn add_binders(
 }
 
 /// Adds the places of definitions.
-fn add_definitions(binders: &[Binder], places: &mut Vec<Occ>) -> Mem<()>
+fn add_defined_places(binders: &[Binder], places: &mut Vec<Occ>) -> Mem<()>
     ensures { OnOk result (places.new.items ≡ places.old.items ++ defined_places binders.now) }
 {
     for binder in binders {
@@ -76,21 +75,21 @@ fn add_definitions(binders: &[Binder], places: &mut Vec<Occ>) -> Mem<()>
 }
 
 /// Adds the places of what the forms of a unit define.
-fn add_unit_definitions(forms: &[UnitForm], places: &mut Vec<Occ>) -> Mem<()>
+fn add_form_places(forms: &[UnitForm], places: &mut Vec<Occ>) -> Mem<()>
     ensures { OnOk result (places.new.items ≡ places.old.items ++ form_places forms.now) }
 {
     for form in forms {
-        add_definitions(form.trace.definitions.as_slice(), places)?;
+        add_defined_places(form.trace.definitions.as_slice(), places)?;
     }
     Ok(())
 }
 
 /// Adds the places of what units define.
-fn add_all_definitions(units: &[Unit], places: &mut Vec<Occ>) -> Mem<()>
+fn add_unit_places(units: &[Unit], places: &mut Vec<Occ>) -> Mem<()>
     ensures { OnOk result (places.new.items ≡ places.old.items ++ unit_places units.now) }
 {
     for unit in units {
-        add_unit_definitions(unit.forms.as_slice(), places)?;
+        add_form_places(unit.forms.as_slice(), places)?;
     }
     Ok(())
 }
@@ -103,8 +102,8 @@ pub fn binders_in(alloc: Global, work: &Work, sight: &Sight<'_>, program: &Progr
         IfOk result (λ places. (o : AnyOcc) → IsIn o places.items ↔ IsIn o (program_binders p)) }
 {
     let mut places = Vec::new(alloc);
-    add_binders(alloc, work, sight.leaves.as_slice(), &mut places)?;
-    add_all_definitions(program.units.as_slice(), &mut places)?;
+    add_core_binders(alloc, work, sight.leaves.as_slice(), &mut places)?;
+    add_unit_places(program.units.as_slice(), &mut places)?;
     Ok(places)
 }
 
@@ -152,7 +151,7 @@ fn pointing(alloc: Global, pairs: &[Pair], occ: Occ) -> Mem<Vec<Occ>>
 }
 
 /// Occurrences in order, each once.
-fn in_order(places: Vec<Occ>) -> Mem<Items<Occ>>
+fn occs_in_order(places: Vec<Occ>) -> Mem<Items<Occ>>
     ensures { IfOk result (λ sorted. IsStrictlySortedBy occ_cmp sorted × ((o : AnyOcc) → Contains sorted o ↔ Contains places.items o)) }
 {
     let mut places = places;
@@ -178,5 +177,5 @@ pub fn binders_of(
     let places = binders_in(alloc, work, &sight, program)?;
     let mut binders = pointing(alloc, pairs, occ)?;
     add_itself(places.as_slice(), occ, &mut binders)?;
-    Ok(in_order(binders)?)
+    Ok(occs_in_order(binders)?)
 }

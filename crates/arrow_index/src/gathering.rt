@@ -2,7 +2,7 @@
 ghost use Rattle.std.specs.Prelude.{◌≡◌, ◌++◌, map, Some, None, if◌then◌else◌, IfOk, OnOk};
 ghost use Rattle.std.specs.BTreeMap.{get};
 ghost use Rattle.arrow_index.specs.Leaves.{seen_of, items_seen};
-ghost use Rattle.arrow_index.specs.Placed.{placed_of, at_form, unless_fault, forms_seen, units_seen, use_of, uses_at, macro_targets, trace_targets, forms_met, units_met, local_cmp, bound_in, bound_or, first_of, same_local, local_in, global_cmp, given_by, forms_given, given_after, definition_in};
+ghost use Rattle.arrow_index.specs.Placed.{placed_of, at_form, unless_fault, forms_seen, units_seen, use_of, uses_at, macro_targets, trace_targets, forms_met, units_met, local_cmp, bound_in, bound_or, first_or, same_local, local_in, global_cmp, given_by, forms_given, given_after, definition_in};
 ghost use Rattle.arrow_index.specs.declared.sight.LocalNo.{LocalNo as AnyLocal};
 ghost use Rattle.arrow_index.specs.declared.sight.GlobalNo.{GlobalNo as AnyGlobal};
 
@@ -11,20 +11,10 @@ use crate::sight::{FormNo, GlobalNo, LocalNo, PlacedLeaf, PlacedTarget};
 use core_tree::cores::{Binder, Target};
 use core_tree::traces::{MacroUse, Trace};
 use core_tree::units::{Program, UnitForm};
-use ls_base::{Mem, Memory};
+use ls_base::Mem;
 use scheme_model::Occ;
 use std::alloc::Global;
 use std::collections::BTreeMap;
-
-/// A place in a list as a number of 32 bits.
-fn number_of(place: usize) -> Mem<u32>
-    ensures { IfOk result (λ n. n ≡ place) }
-{
-    match u32::try_from(place) {
-        Ok(number) => Ok(number),
-        Err(_) => Err(Memory),
-    }
-}
 
 // ---- leaves
 
@@ -62,15 +52,15 @@ fn add_form_leaves<'a>(
 /// Adds the leaves of the forms of a unit.
 fn add_unit_leaves<'a>(
     alloc: Global,
-    unit: u32,
+    unit: usize,
     forms: &'a [UnitForm],
     leaves: &mut Vec<PlacedLeaf<'a>>,
 ) -> Mem<()>
     ensures { OnOk result (map placed_of leaves.new.items ≡ map placed_of leaves.old.items ++ forms_seen unit 0 forms.now) }
 {
     for place in 0..forms.len() {
-        let form = number_of(place)?;
-        add_form_leaves(alloc, FormNo { unit, form }, &forms[place], leaves)?;
+        let at = FormNo { unit, form: place };
+        add_form_leaves(alloc, at, &forms[place], leaves)?;
     }
     Ok(())
 }
@@ -82,8 +72,7 @@ pub fn leaves_of(alloc: Global, program: &Program) -> Mem<Vec<PlacedLeaf<'_>>>
     let units = program.units.as_slice();
     let mut leaves = Vec::new(alloc);
     for place in 0..units.len() {
-        let unit = number_of(place)?;
-        add_unit_leaves(alloc, unit, units[place].forms.as_slice(), &mut leaves)?;
+        add_unit_leaves(alloc, place, units[place].forms.as_slice(), &mut leaves)?;
     }
     Ok(leaves)
 }
@@ -139,12 +128,11 @@ fn add_form_met(at: FormNo, form: &UnitForm, met: &mut Vec<PlacedTarget>) -> Mem
 }
 
 /// Adds what the expansions of a unit's forms met.
-fn add_unit_met(unit: u32, forms: &[UnitForm], met: &mut Vec<PlacedTarget>) -> Mem<()>
+fn add_unit_met(unit: usize, forms: &[UnitForm], met: &mut Vec<PlacedTarget>) -> Mem<()>
     ensures { OnOk result (map use_of met.new.items ≡ map use_of met.old.items ++ forms_met unit 0 forms.now) }
 {
     for place in 0..forms.len() {
-        let form = number_of(place)?;
-        add_form_met(FormNo { unit, form }, &forms[place], met)?;
+        add_form_met(FormNo { unit, form: place }, &forms[place], met)?;
     }
     Ok(())
 }
@@ -156,8 +144,7 @@ pub fn met_in(alloc: Global, program: &Program) -> Mem<Vec<PlacedTarget>>
     let units = program.units.as_slice();
     let mut met = Vec::new(alloc);
     for place in 0..units.len() {
-        let unit = number_of(place)?;
-        add_unit_met(unit, units[place].forms.as_slice(), &mut met)?;
+        add_unit_met(place, units[place].forms.as_slice(), &mut met)?;
     }
     Ok(met)
 }
@@ -189,13 +176,13 @@ fn bound_at(leaf: &PlacedLeaf<'_>) -> Option<(LocalNo, Option<Occ>)>
 }
 
 /// Puts a place at a number that has none yet.
-fn put_first(
+fn put_local(
     number: LocalNo,
     place: Option<Occ>,
     locals: &mut BTreeMap<LocalNo, Option<Occ>>,
 ) -> Mem<()>
     ensures { OnOk result ((k : AnyLocal) →
-        get local_cmp locals.new k ≡ first_of (get local_cmp locals.old k) (if same_local number k then Some place else None)) }
+        get local_cmp locals.new k ≡ first_or (get local_cmp locals.old k) (if same_local number k then Some place else None)) }
 {
     if locals.contains_key(&number) {
         return Ok(());
@@ -207,11 +194,11 @@ fn put_first(
 /// Adds the local that a leaf binds, where it binds one.
 fn add_local(leaf: &PlacedLeaf<'_>, locals: &mut BTreeMap<LocalNo, Option<Occ>>) -> Mem<()>
     ensures { OnOk result ((k : AnyLocal) →
-        get local_cmp locals.new k ≡ first_of (get local_cmp locals.old k) (bound_or (bound_in (placed_of leaf.now)) k None)) }
+        get local_cmp locals.new k ≡ first_or (get local_cmp locals.old k) (bound_or (bound_in (placed_of leaf.now)) k None)) }
 {
     match bound_at(leaf) {
         None => Ok(()),
-        Some((number, place)) => Ok(put_first(number, place, locals)?),
+        Some((number, place)) => Ok(put_local(number, place, locals)?),
     }
 }
 
@@ -228,7 +215,7 @@ pub fn locals_of(alloc: Global, leaves: &[PlacedLeaf<'_>]) -> Mem<BTreeMap<Local
 
 /// Adds what a form defines. Of definitions of one identifier the last counts.
 fn add_definitions(
-    unit: u32,
+    unit: usize,
     binders: &[Binder],
     definitions: &mut BTreeMap<GlobalNo, Option<Occ>>,
 ) -> Mem<()>
@@ -247,7 +234,7 @@ fn add_definitions(
 
 /// Adds what a unit defines, also in broken forms.
 fn add_unit_definitions(
-    unit: u32,
+    unit: usize,
     forms: &[UnitForm],
     definitions: &mut BTreeMap<GlobalNo, Option<Occ>>,
 ) -> Mem<()>
@@ -268,8 +255,7 @@ pub fn definitions_of(alloc: Global, program: &Program) -> Mem<BTreeMap<GlobalNo
     let units = program.units.as_slice();
     let mut definitions = BTreeMap::new(alloc);
     for place in 0..units.len() {
-        let unit = number_of(place)?;
-        add_unit_definitions(unit, units[place].forms.as_slice(), &mut definitions)?;
+        add_unit_definitions(place, units[place].forms.as_slice(), &mut definitions)?;
     }
     Ok(definitions)
 }

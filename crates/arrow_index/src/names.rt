@@ -1,5 +1,5 @@
 //! The names in trees, from left to right.
-ghost use Rattle.std.specs.Prelude.{◌≡◌, ℕ, ◌++◌, OnOk, IfOk};
+ghost use Rattle.std.specs.Prelude.{◌++◌, OnOk, IfOk};
 ghost use Rattle.scheme_model.specs.Trees.{Tree as ModelTree, Trees, Tail};
 ghost use Rattle.scheme_model.specs.Matching.{behind};
 ghost use Rattle.scheme_model.specs.Ident.{Ident as Identifier};

@@ -26,11 +26,11 @@ use syntax_tree::meaning::Meaning;
 use syntax_tree::symbols::IdNo;
 use syntax_tree::trees::Work;
 
-/// A form of a unit.
+/// A form of a unit, by the places of both in their lists.
 #[derive(Clone, Copy, Debug, PartialEq, Eq, PartialOrd, Ord)]
 pub struct FormNo {
-    pub unit: u32,
-    pub form: u32,
+    pub unit: usize,
+    pub form: usize,
 }
 
 /// A local of a form.
@@ -40,10 +40,10 @@ pub struct LocalNo {
     pub count: u64,
 }
 
-/// What a unit defines under an identifier.
+/// What a unit, by its place in the list, defines under an identifier.
 #[derive(Clone, Copy, Debug, PartialEq, Eq, PartialOrd, Ord)]
 pub struct GlobalNo {
-    pub unit: u32,
+    pub unit: usize,
     pub ident: IdNo,
 }
 
@@ -107,13 +107,21 @@ impl<'a> Sight<'a> {
         }
     }
 
-    /// Where what a unit defines under an identifier stands.
+    /// Where what a unit defines under an identifier stands, if it defines it.
+    pub fn definition(&self, unit: u32, ident: IdNo) -> Option<Option<Occ>>
+        ensures { result ≡ get global_cmp self.now.definitions (record { unit = unit; ident = ident }) }
+    {
+        let unit = unit as usize;
+        self.definitions.get(&GlobalNo { unit, ident }).copied()
+    }
+
+    /// Where what a unit defines under an identifier stands, if it has a place.
     pub fn global_at(&self, unit: u32, ident: IdNo) -> Option<Occ>
         ensures { result ≡ place_in (get global_cmp self.now.definitions (record { unit = unit; ident = ident })) }
     {
-        match self.definitions.get(&GlobalNo { unit, ident }) {
+        match self.definition(unit, ident) {
             None => None,
-            Some(place) => *place,
+            Some(place) => place,
         }
     }
 

@@ -14,7 +14,7 @@ ghost use Rattle.core_tree.specs.Names.{AllMatch};
 ghost use Rattle.arrow_index.specs.Adds.{Adds};
 ghost use Rattle.arrow_index.specs.Names.{pattern_names};
 ghost use Rattle.arrow_index.specs.Index.{as_arrow};
-ghost use Rattle.arrow_index.specs.Placed.{first_of, place_in};
+ghost use Rattle.arrow_index.specs.Placed.{first_or, place_in};
 ghost use Rattle.arrow_index.specs.Variables.{if_variable, chosen, place_among};
 
 use crate::names::{add_row, names_of};
@@ -84,9 +84,9 @@ fn variables(alloc: Global, work: &Work, roles: &Roles, pattern: Tree) -> Mem<Ve
 }
 
 /// Puts the place of a variable that has none yet.
-fn put_first(variable: Named, places: &mut BTreeMap<IdNo, Option<Occ>>) -> Mem<()>
+fn put_variable(variable: Named, places: &mut BTreeMap<IdNo, Option<Occ>>) -> Mem<()>
     ensures { OnOk result ((n : ℕ) →
-        get nat_cmp places.new n ≡ first_of (get nat_cmp places.old n) (if variable.ident == n then Some variable.occ else None)) }
+        get nat_cmp places.new n ≡ first_or (get nat_cmp places.old n) (if variable.ident == n then Some variable.occ else None)) }
 {
     if places.contains_key(&variable.ident) {
         return Ok(());
@@ -101,7 +101,7 @@ fn places_of(alloc: Global, variables: &[Named]) -> Mem<BTreeMap<IdNo, Option<Oc
 {
     let mut places = BTreeMap::new(alloc);
     for variable in variables {
-        put_first(*variable, &mut places)?;
+        put_variable(*variable, &mut places)?;
     }
     Ok(places)
 }

@@ -27,8 +27,8 @@ loop-unit-preserved c = λ work leaves keywords names table ns sees match.
     past_more (IsNameOf work) u.names (all_names (drop (i + 1) us)) ns _ _ p
     (λ r.
     let first = subst (λ (xs : List code_name.NameUse). AllMatch (IsNameOf work) xs r.first) (sym c.as_slice.ensures) r.one in
-    grows_twice as_arrow c.args.pairs.now.items c.loop-unit.pairs.items c.add_names.new.pairs.items (name_arrows binder p.done) (name_arrows binder r.first) (name_arrows binder (p.done ++ r.first)) p.holds
-    (c.in_ok-add_names.ensures work leaves keywords names table r.first sees first) (names-append binder p.done r.first))
+    grows_twice as_arrow c.args.pairs.now.items c.loop-unit.pairs.items c.add_unit_names.new.pairs.items (name_arrows binder p.done) (name_arrows binder r.first) (name_arrows binder (p.done ++ r.first)) p.holds
+    (c.in_ok-add_unit_names.ensures work leaves keywords names table r.first sees first) (names-append binder p.done r.first))
 
 pub returns : goal.returns
 returns c = λ work leaves keywords names table ns sees match.

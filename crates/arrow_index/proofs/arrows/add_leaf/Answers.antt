@@ -12,7 +12,7 @@ use Rattle.arrow_index.specs.Leaves.{seen_of, IsSeen}
 use Rattle.arrow_index.specs.Index.{as_arrow}
 use Rattle.arrow_index.specs.Variables.{all_arrows_at}
 use Rattle.arrow_index.proofs.Growing.{grows_as, grows_by_none, grows_twice}
-use Rattle.arrow_index.proofs.StepLaws.{quoted_none}
+use Rattle.arrow_index.proofs.StepLaws.{quoted_arrows}
 use Rattle.arrow_index.proofs.arrows.add_leaf.Goals as goal
 
 pub returns-in-Binds : goal.returns-in-Binds
@@ -43,7 +43,7 @@ returns-in-Quoted c = λ leaves keywords names table ls sees is.
     let w = c.args.work.now in
     let all = all_arrows_at (binder_of leaves table) (is_live_at leaves keywords names) in
     let at = subst (λ (x : Leaf). IsSeen w l.at.unit l.at.form (seen_of x) ls) c.in-Quoted.is is in
-    grows_by_none as_arrow c.args.pairs.now.items (all ls) (ap all at.2 ∙ quoted_none (binder_of leaves table) (is_live_at leaves keywords names) any_name (map_tree symbol_of at.0))
+    grows_by_none as_arrow c.args.pairs.now.items (all ls) (ap all at.2 ∙ quoted_arrows (binder_of leaves table) (is_live_at leaves keywords names) any_name (map_tree symbol_of at.0))
 
 pub returns-in-Holed : goal.returns-in-Holed
 returns-in-Holed c = λ leaves keywords names table ls sees is.
@@ -51,7 +51,7 @@ returns-in-Holed c = λ leaves keywords names table ls sees is.
     let w = c.args.work.now in
     let all = all_arrows_at (binder_of leaves table) (is_live_at leaves keywords names) in
     let at = subst (λ (x : Leaf). IsSeen w l.at.unit l.at.form (seen_of x) ls) c.in-Holed.is is in
-    grows_by_none as_arrow c.args.pairs.now.items (all ls) (ap all at.2 ∙ quoted_none (binder_of leaves table) (is_live_at leaves keywords names) no_hole at.0)
+    grows_by_none as_arrow c.args.pairs.now.items (all ls) (ap all at.2 ∙ quoted_arrows (binder_of leaves table) (is_live_at leaves keywords names) no_hole at.0)
 
 pub add_rules_arrows-requires : goal.add_rules_arrows-requires
 add_rules_arrows-requires c =

@@ -8,5 +8,5 @@ binders_in-requires c = let q = c.requires in (program_leaves q.3.units, (c.in_o
 
 pub returns : goal.returns
 returns c = λ text uris all p h are.
-    occurrence_law all p c.args.pairs.now c.in_ok-places.places.items c.add_itself.new.binders.items c.in_ok-in_order.field-0 c.args.occ are (λ x. c.in_ok-places.ensures text uris all p h (c.in_ok-sight.ensures text uris all p h) x)
-    (c.in_ok-add_itself.ensures ∙ (λ j. c.in_ok-binders.ensures j ++ itself_among (c.as_slice.ensures.value j) c.args.occ)) c.in_ok-in_order.ensures
+    occurrence_law all p c.args.pairs.now c.in_ok-places.places.items c.add_itself.new.binders.items c.in_ok-occs_in_order.field-0 c.args.occ are (λ x. c.in_ok-places.ensures text uris all p h (c.in_ok-sight.ensures text uris all p h) x)
+    (c.in_ok-add_itself.ensures ∙ (λ j. c.in_ok-binders.ensures j ++ itself_among (c.as_slice.ensures.value j) c.args.occ)) c.in_ok-occs_in_order.ensures

@@ -3,7 +3,6 @@ use Rattle.std.specs.Prelude.{◌||◌}
 use Rattle.std.specs.BTreeSet.{contains}
 use Rattle.scheme_model.specs.Ident.{symbol_of}
 use Rattle.scheme_model.specs.Live as live
-use Rattle.scheme_model.specs.Live.{CoreLeaf}
 use Rattle.scheme_model.specs.ProgramArrows.{any, is_occ, leaf_at}
 use Rattle.syntax_tree.specs.declared.rules.Named.{Named}
 use Rattle.arrow_index.specs.declared.leaves.Leaf.{Leaf}

@@ -1,0 +1,34 @@
+use Rattle.std.proofs.Common.{◌≡◌, List, [], ◌++◌, map, refl, arith}
+use Rattle.std.proofs.Math.ListN.{drop_of_length-le}
+use Rattle.scheme_model.specs.Live.{CoreLeaf}
+use Rattle.scheme_model.specs.ProgramArrows.{is_live_at}
+use Rattle.scheme_model.specs.Spelling.{macro_links}
+use Rattle.arrow_index.specs.Placed.{placed_of}
+use Rattle.arrow_index.proofs.Growing.{grows_by_none, grows_twice}
+use Rattle.arrow_index.proofs.StepLaws.{next_leaf, passed_none, passed_more, passed_all, seen_item}
+use Rattle.arrow_index.specs.Links.{as_link}
+use Rattle.arrow_index.proofs.LinkLaws.{macros-append}
+use Rattle.arrow_index.proofs.use_links.link_macros.Goals as goal
+
+pub loop-leaf-init : goal.loop-leaf-init
+loop-leaf-init c = λ leaves keywords names table rs ls sees gives seen.
+    passed_none c.args.work.now (map placed_of c.args.found.now) ls _ seen (grows_by_none as_link c.args.links.now.items [] refl)
+
+pub link_macro-requires-clause-leaf : goal.link_macro-requires-clause-leaf
+link_macro-requires-clause-leaf c =
+    seen_item c.args.work.now c.args.found.now c.loop-leaf.leaf-index c.leaf-item.result c.requires.leaves.0 c.requires.leaves.1 (omega arith) c.leaf-item.is
+
+pub loop-leaf-preserved : goal.loop-leaf-preserved
+loop-leaf-preserved c = λ leaves keywords names table rs ls sees gives seen.
+    let w = c.args.work.now in
+    let all = λ (done : List CoreLeaf). macro_links (is_live_at leaves keywords names) leaves table rs done in
+    let p = c.loop-leaf.invariant leaves keywords names table rs ls sees gives seen in
+    let n = next_leaf w c.args.found.now c.loop-leaf.leaf-index c.leaf-item.result p.rest (omega arith) c.leaf-item.is p.still in
+    passed_more w c.args.found.now c.loop-leaf.leaf-index c.leaf-item.result ls _ _ p n
+    (grows_twice as_link c.args.links.now.items c.loop-leaf.links.items c.link_macro.new.links.items (all p.done) (all n.front) (all (p.done ++ n.front)) p.holds
+    (c.in_ok-link_macro.ensures leaves keywords names table rs n.front sees gives n.is) (macros-append leaves table rs (is_live_at leaves keywords names) p.done n.front))
+
+pub returns : goal.returns
+returns c = λ leaves keywords names table rs ls sees gives seen.
+    passed_all c.args.work.now c.args.found.now c.loop-leaf.leaf-index ls (λ done. map as_link c.loop-leaf.links.items ≡ map as_link c.args.links.now.items ++ macro_links (is_live_at leaves keywords names) leaves table rs done)
+    (c.loop-leaf.invariant leaves keywords names table rs ls sees gives seen) (drop_of_length-le c.args.found.now (omega arith))

@@ -1,0 +1,81 @@
+//! The links of a program, in order, each once.
+ghost use Rattle.std.specs.Prelude.{◌↔◌, ℕ, List, map, IfOk};
+ghost use Rattle.std.specs.List.{Contains};
+ghost use Rattle.std.specs.List.Sorted.{IsStrictlySortedBy};
+ghost use Rattle.scheme_model.specs.Program.{Placed, Program as ModelProgram};
+ghost use Rattle.scheme_model.specs.Requirements.{LibraryName};
+ghost use Rattle.scheme_model.specs.Spelling.{Link as ModelLink, links_of};
+ghost use Rattle.core_tree.specs.Units.{ProgramStands, IsProgramOf};
+ghost use Rattle.arrow_index.specs.Members.{IsIn};
+ghost use Rattle.arrow_index.specs.Links.{as_link, link_cmp, AreLinks};
+ghost use Rattle.arrow_index.specs.declared.links.Link.{Link as AnyLink};
+
+use crate::binders::binders_in;
+use crate::entries::Entries;
+use crate::links::{Link, link_themselves};
+use crate::sight::Sight;
+use crate::use_links::{link_all_names, link_macros, link_targets, link_uses};
+use core_tree::units::Program;
+use ls_base::{Items, Mem};
+use std::alloc::Global;
+use syntax_tree::trees::Work;
+
+/// The links of a program in no order, of which some may stand twice.
+fn all_links(alloc: Global, work: &Work, program: &Program) -> Mem<Vec<Link>>
+    requires { IsProgramOf work.now program.now }
+    ensures { (text : LibraryName → List ℕ) (uris : List (List ℕ)) (all : List Placed) (p : ModelProgram) →
+        ProgramStands work.now text uris all program.now p →
+        IfOk result (λ links. (l : ModelLink) → IsIn l (map as_link links.items) ↔ IsIn l (links_of all p)) }
+{
+    let sight = Sight::of(alloc, work, program)?;
+    let entries = Entries::of(alloc, program)?;
+    let binders = binders_in(alloc, work, &sight, program)?;
+    let mut links = Vec::new(alloc);
+    link_uses(
+        alloc,
+        work,
+        &sight,
+        &entries,
+        sight.leaves.as_slice(),
+        &mut links,
+    )?;
+    link_targets(
+        alloc,
+        work,
+        &sight,
+        &entries,
+        sight.met.as_slice(),
+        &mut links,
+    )?;
+    link_all_names(alloc, work, program.units.as_slice(), &mut links)?;
+    link_themselves(alloc, binders.as_slice(), &mut links)?;
+    link_macros(
+        alloc,
+        work,
+        &sight,
+        &entries,
+        sight.leaves.as_slice(),
+        &mut links,
+    )?;
+    Ok(links)
+}
+
+/// Links in order, each once.
+fn links_in_order(links: Vec<Link>) -> Mem<Items<Link>>
+    ensures { IfOk result (λ sorted. IsStrictlySortedBy link_cmp sorted × ((l : AnyLink) → Contains sorted l ↔ Contains links.items l)) }
+{
+    let mut links = links;
+    links.sort()?;
+    links.dedup();
+    Ok(Items::from_vec(links))
+}
+
+/// The links of a program, sorted by origin, target and prefix, each once.
+pub fn spelled_links(alloc: Global, work: &Work, program: &Program) -> Mem<Items<Link>>
+    requires { IsProgramOf work.now program.now }
+    ensures { (text : LibraryName → List ℕ) (uris : List (List ℕ)) (all : List Placed) (p : ModelProgram) →
+        ProgramStands work.now text uris all program.now p → IfOk result (λ links. AreLinks links (links_of all p)) }
+{
+    let links = all_links(alloc, work, program)?;
+    Ok(links_in_order(links)?)
+}

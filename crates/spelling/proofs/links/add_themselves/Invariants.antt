@@ -1,7 +1,0 @@
-use Rattle.std.proofs.Common.{◌≡◌, ◌++◌, map, take}
-use Rattle.scheme_model.specs.Spelling.{links_to_themselves}
-use Rattle.spelling.specs.Links.{as_link}
-use Rattle.spelling.proofs.links.add_themselves.Given as goal
-
-abbrev pub invariant-loop-place : goal.invariant-loop-place
-invariant-loop-place l = map as_link l.links.items ≡ map as_link l.fn.links.items ++ links_to_themselves (take l.place-index l.places)
