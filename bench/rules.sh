@@ -1,6 +1,7 @@
 #!/usr/bin/env bash
-# Times macro uses: which rule a use matches and what its template gives, at a quarter, a half and the whole of a size (two
+# Measures macro uses: which rule a use matches and what its template gives, at a quarter, a half and the whole of a size (two
 # doublings): one ellipsis, an ellipsis in an ellipsis, a tail, variables in a row, and variables under an ellipsis each.
+# It prints seconds, and where valgrind is installed millions of instructions, which no other work on the machine changes.
 # Run by hand, outside the gate: bench/rules.sh
 # The timed program is made in a scratch repository, over copies of the crates that it stands on, and is proved before it is built.
 set -euo pipefail
@@ -18,7 +19,8 @@ done
 echo 'rules_timed: rules_build rules_match rules_check datum_reader scheme_tokens syntax_tree scheme_model ls_base' >> "$work/crates.txt"
 
 cat > "$timed/src/main.rt" <<'RATTLE'
-//! Reads the rules of a macro and a use of it from standard input, and times the match and the build.
+//! Reads the rules of a macro and a use of it from standard input, and times the match and the build. Where one more datum stands
+//! behind them it stops after the match, and where none does before it.
 #![tactic(auto)]
 ghost use Rattle.std.specs.Prelude.{◌≤◌, All, length};
 ghost use Rattle.datum_reader.specs.Views.{datum_of};
@@ -44,7 +46,7 @@ const ROOM: u32 = 4_194_304;
 fn expand(alloc: Global, clock: &impl Clock, forms: &[Datum]) -> Option<(u128, u128, u32)>
     requires { All (λ d. WasRead (datum_of d)) forms.now }
 {
-    if forms.len() != 2 {
+    if forms.len() < 2 {
         return None;
     }
     let mut work = Work::new(alloc);
@@ -61,11 +63,17 @@ fn expand(alloc: Global, clock: &impl Clock, forms: &[Datum]) -> Option<(u128, u
         return None;
     };
     let same = Items::new(alloc);
+    if forms.len() == 2 {
+        return Some((0, 0, 0));
+    }
     let start = Instant::now(clock).ok()?;
     let Ok(matched) = match_rules(alloc, &work, &rules, form, &same) else {
         return None;
     };
     let matching = start.elapsed(clock).ok()?;
+    if forms.len() == 3 {
+        return Some((matching.as_micros(), 0, 0));
+    }
     let number = UseNo {
         unit: 0,
         form: 1,
@@ -128,7 +136,7 @@ ANTT
 echo "building the timed program .." >&2
 (cd "$timed" && rt run < /dev/null) > "$work/build.log" 2>&1 || { tail -20 "$work/build.log" >&2; exit 1; }
 
-# writes a macro and a use of it, of so many parts
+# writes a macro and a use of it, of so many parts: alone, and to be matched, and to be built too
 text() {
   python3 - "$@" <<'PYTHON'
 import math, sys
@@ -143,31 +151,47 @@ pattern, template, use = {
     'names': (row('x#'), '(%s)' % row('x#'), row('a')),
     'each': (row('(x# ...)'), '(%s)' % row('(x# ...)'), row('(a)')),
 }[shape]
-open(path, 'w').write('(syntax-rules () ((_ %s) %s)) (m %s)' % (pattern, template, use))
+for name, more in ('read', ''), ('matched', ' 1'), ('built', ' 1 1'):
+    open(path + '.' + name, 'w').write('(syntax-rules () ((_ %s) %s)) (m %s)%s' % (pattern, template, use, more))
 PYTHON
 }
 
-# the least times of five runs on the text, in seconds, and the count of nodes
+# the least times of seven runs on the text, in seconds, and the count of nodes
 seconds() {
-  for _ in 1 2 3 4 5; do
-    "$timed/out/rules_timed" < "$work/text"
+  for _ in 1 2 3 4 5 6 7; do
+    "$timed/out/rules_timed" < "$work/text.built"
   done | awk 'NF != 3 { print "not built" > "/dev/stderr"; exit 1 } NR == 1 || $1 < m { m = $1 } NR == 1 || $2 < b { b = $2 } { nodes = $3 }
     END { printf "%.4f %.4f %d", m / 1000000, b / 1000000, nodes }'
 }
 
-ratio() { awk -v a="$1" -v b="$2" 'BEGIN { print b == "" ? "-" : sprintf("%.2f", a / b) }'; }
+# the instructions of a run on the text, up to a step
+instructions() {
+  valgrind --tool=cachegrind --cache-sim=no --cachegrind-out-file=/dev/null "$timed/out/rules_timed" < "$work/text.$1" 2>&1 |
+    awk '/I +refs:/ { gsub(",", "", $NF); print $NF }'
+}
 
-printf '%-7s %8s %8s %9s %6s %9s %6s\n' shape parts nodes match ratio build ratio
+# millions of instructions of the match and of the build
+millions() {
+  command -v valgrind > /dev/null || { echo "- -"; return; }
+  awk -v r="$(instructions read)" -v m="$(instructions matched)" -v b="$(instructions built)" 'BEGIN { printf "%.2f %.2f", (m - r) / 1000000, (b - m) / 1000000 }'
+}
+
+ratio() { awk -v a="$1" -v b="$2" 'BEGIN { print b + 0 == 0 ? "-" : sprintf("%.2f", a / b) }'; }
+
+printf '%-7s %8s %8s | %9s %6s %9s %6s | %9s %6s %9s %6s\n' shape parts nodes "match, s" ratio "build, s" ratio "match, M" ratio "build, M" ratio
 for shape in row square tail names each; do
-  m= b=
-  count=100000
-  [ "$shape" != square ] || count=90000
-  [ "$shape" != each ] || count=20000
-  [ "$shape" != names ] || count=50000
+  m= b= mm= bm=
+  count=400000
+  [ "$shape" != square ] || count=360000
+  [ "$shape" != each ] || count=32000
+  [ "$shape" != names ] || count=60000
   for parts in $((count / 4)) $((count / 2)) "$count"; do
     text "$shape" "$work/text" "$parts"
     read -r matching building nodes <<< "$(seconds)"
-    printf '%-7s %8d %8d %9s %6s %9s %6s\n' "$shape" "$parts" "$nodes" "$matching" "$(ratio "$matching" "$m")" "$building" "$(ratio "$building" "$b")"
-    m=$matching b=$building
+    read -r match_millions build_millions <<< "$(millions)"
+    printf '%-7s %8d %8d | %9s %6s %9s %6s | %9s %6s %9s %6s\n' "$shape" "$parts" "$nodes" \
+      "$matching" "$(ratio "$matching" "$m")" "$building" "$(ratio "$building" "$b")" \
+      "$match_millions" "$(ratio "$match_millions" "$mm")" "$build_millions" "$(ratio "$build_millions" "$bm")"
+    m=$matching b=$building mm=$match_millions bm=$build_millions
   done
 done
