@@ -807,18 +807,18 @@ names = record { same = same_ident; strip = symbol_of }
 
 -- the first part of a list isn't looked at
 abbrev behind_head : {X : Type 0} → t.Tree x.Ident → X → (t.Trees x.Ident → t.Tail x.Ident → X) → X
-behind_head (t.name i p) no g = no
-behind_head (t.atom a p) no g = no
-behind_head (t.vector ts p) no g = no
-behind_head (t.list t.no_trees tail p) no g = no
-behind_head (t.list (t.tree d ts) tail p) no g = g ts tail
+behind_head (t.name i p) otherwise g = otherwise
+behind_head (t.atom a p) otherwise g = otherwise
+behind_head (t.vector ts p) otherwise g = otherwise
+behind_head (t.list t.no_trees tail p) otherwise g = otherwise
+behind_head (t.list (t.tree d ts) tail p) otherwise g = g ts tail
 
 abbrev rules_row : t.Tree x.Ident → Result (Rules x.Ident) (Fault x.Ident)
 rules_row d = behind_head d (Err f.BadRules) (λ ts tail. rules_of names ts tail)
 
 abbrev of_rules : {X : Type 0} → Result (Rules x.Ident) (Fault x.Ident) → X → (Rules x.Ident → X) → X
-of_rules (Err e) no g = no
-of_rules (Ok r) no g = g r
+of_rules (Err e) otherwise g = otherwise
+of_rules (Ok r) otherwise g = g r
 
 abbrev same : List (x.Ident × x.Ident) → x.Ident → x.Ident → Bool
 same [] i j = false
