@@ -19,8 +19,7 @@ done
 echo 'rules_timed: rules_build rules_match rules_check datum_reader scheme_tokens syntax_tree scheme_model ls_base' >> "$work/crates.txt"
 
 cat > "$timed/src/main.rt" <<'RATTLE'
-//! Reads the rules of a macro and a use of it from standard input, and times the match and the build. Where one more datum stands
-//! behind them it stops after the match, and where none does before it.
+//! Reads the rules of a macro and a use of it from standard input, and times the match and the build.
 #![tactic(auto)]
 ghost use Rattle.std.specs.Prelude.{◌≤◌, All, length};
 ghost use Rattle.datum_reader.specs.Views.{datum_of};
@@ -46,7 +45,7 @@ const ROOM: u32 = 4_194_304;
 fn expand(alloc: Global, clock: &impl Clock, forms: &[Datum]) -> Option<(u128, u128, u32)>
     requires { All (λ d. WasRead (datum_of d)) forms.now }
 {
-    if forms.len() < 2 {
+    if forms.len() != 2 {
         return None;
     }
     let mut work = Work::new(alloc);
@@ -63,17 +62,11 @@ fn expand(alloc: Global, clock: &impl Clock, forms: &[Datum]) -> Option<(u128, u
         return None;
     };
     let same = Items::new(alloc);
-    if forms.len() == 2 {
-        return Some((0, 0, 0));
-    }
     let start = Instant::now(clock).ok()?;
     let Ok(matched) = match_rules(alloc, &work, &rules, form, &same) else {
         return None;
     };
     let matching = start.elapsed(clock).ok()?;
-    if forms.len() == 3 {
-        return Some((matching.as_micros(), 0, 0));
-    }
     let number = UseNo {
         unit: 0,
         form: 1,
@@ -136,7 +129,8 @@ ANTT
 echo "building the timed program .." >&2
 (cd "$timed" && rt run < /dev/null) > "$work/build.log" 2>&1 || { tail -20 "$work/build.log" >&2; exit 1; }
 
-# writes a macro and a use of it, of so many parts: alone, and to be matched, and to be built too
+# writes a macro and a use of it, of so many parts. The same three rules stand in another order, so that the first which matches is
+# one that takes anything for a constant, one with the pattern for a constant, or one with the pattern and the template
 text() {
   python3 - "$@" <<'PYTHON'
 import math, sys
@@ -151,8 +145,10 @@ pattern, template, use = {
     'names': (row('x#'), '(%s)' % row('x#'), row('a')),
     'each': (row('(x# ...)'), '(%s)' % row('(x# ...)'), row('(a)')),
 }[shape]
-for name, more in ('read', ''), ('matched', ' 1'), ('built', ' 1 1'):
-    open(path + '.' + name, 'w').write('(syntax-rules () ((_ %s) %s)) (m %s)%s' % (pattern, template, use, more))
+anything, matched, built = '((_ . r) 1)', '((_ %s) 1)' % pattern, '((_ %s) %s)' % (pattern, template)
+orders = {'read': [anything, matched, built], 'matched': [matched, anything, built], 'built': [built, anything, matched]}
+for name, rules in orders.items():
+    open(path + '.' + name, 'w').write('(syntax-rules () %s) (m %s)' % (' '.join(rules), use))
 PYTHON
 }
 
@@ -164,7 +160,7 @@ seconds() {
     END { printf "%.4f %.4f %d", m / 1000000, b / 1000000, nodes }'
 }
 
-# the instructions of a run on the text, up to a step
+# the instructions of a run on the text with the rules in an order
 instructions() {
   valgrind --tool=cachegrind --cache-sim=no --cachegrind-out-file=/dev/null "$timed/out/rules_timed" < "$work/text.$1" 2>&1 |
     awk '/I +refs:/ { gsub(",", "", $NF); print $NF }'
@@ -183,8 +179,8 @@ for shape in row square tail names each; do
   m= b= mm= bm=
   count=400000
   [ "$shape" != square ] || count=360000
-  [ "$shape" != each ] || count=32000
-  [ "$shape" != names ] || count=60000
+  [ "$shape" != each ] || count=24000
+  [ "$shape" != names ] || count=44000
   for parts in $((count / 4)) $((count / 2)) "$count"; do
     text "$shape" "$work/text" "$parts"
     read -r matching building nodes <<< "$(seconds)"
