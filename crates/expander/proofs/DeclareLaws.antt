@@ -1,0 +1,129 @@
+-- A form of a unit is gone through, and what it set aside is expanded: what was asked stands beside it.
+use Rattle.std.proofs.Common.{◌≡◌, ℕ, ◌+◌, ◌-◌, ◌*◌, ◌^◌, ◌<◌, ◌≤◌, List, [], ◌∷◌, map, reverse, None, Result, Ok, Err, false, refl, sym, subst, arith}
+use Rattle.std.specs.Result.{IsErrAnd}
+use Rattle.scheme_model.specs.Ident.{Ident as Identifier}
+use Rattle.scheme_model.specs.Measures.{tree_size}
+use Rattle.scheme_model.specs.Trees.{Tree}
+use Rattle.scheme_model.specs.Steps.{Broken}
+use Rattle.scheme_model.specs.Order.{Item, Note, Pass, Pending}
+use Rattle.scheme_model.specs.ScopedExpansion.{Frames, Place, ScopedState}
+use Rattle.syntax_tree.specs.Works.{StandsFor, CanName}
+use Rattle.syntax_tree.specs.declared.trees.Work.{Work}
+use Rattle.syntax_tree.specs.declared.trees.nodes.Tree as number
+use Rattle.syntax_tree.specs.declared.trees.table.Region.{Region}
+use Rattle.core_tree.specs.Names.{AllMatch}
+use Rattle.expander.specs.Kept.{KeptFor, FormFor, PendingFor, SpotFor}
+use Rattle.expander.specs.Outcomes.{At, Leaves, SameForm, Stays, Moves, Ends, IsAtWork, HasRoom}
+use Rattle.expander.specs.Passed.{CanPass, Passes}
+use Rattle.expander.specs.Seen.{form_at, item_of}
+use Rattle.expander.specs.State.{Stands}
+use Rattle.expander.specs.Units.{ItemFor, CanSet, Sets}
+use Rattle.expander.specs.declared.asked.Asked.{Asked}
+use Rattle.expander.specs.declared.fault.ExpandFault.{ExpandFault}
+use Rattle.expander.specs.declared.fault.ExpandFault.TheVariants as fault
+use Rattle.expander.specs.declared.items.Item as code_item
+use Rattle.expander.specs.declared.items.Kept as code_kept
+use Rattle.expander.specs.declared.items.Pending as code_pending
+use Rattle.expander.specs.declared.items.Spot as code_spot
+use Rattle.expander.specs.declared.scope.UnitScope.{UnitScope}
+use Rattle.expander.proofs.CallLaws.{with_asked}
+use Rattle.expander.proofs.OutcomeLaws.{leaves_itself}
+
+abbrev pub asking : UnitScope → Asked → UnitScope
+asking u a = record u { asked = a }
+
+-- ---- before
+
+abbrev pub one_form : Tree Identifier → List (Note Place) → Pending Identifier Place
+one_form t ns = record { todo = record { here = None; tree = t } ∷ []; aside = []; notes = ns }
+
+pub one_pending : (work : Work) (region : Region) (unit form : ℕ) (todo : code_pending.Pending) (n : number.Tree) (t : Tree Identifier) (ns : List (Note Place)) → todo.todo.items ≡ map (form_at None) (reverse (n ∷ [])) → todo.aside.items ≡ [] → StandsFor work n t → CanName work region n →
+    PendingFor work region unit form todo (one_form t ns)
+one_pending work region unit form todo n t ns is none stands named = record {
+  todo = subst (λ xs. AllMatch (FormFor work region) (reverse xs) (record { here = None; tree = t } ∷ [])) (sym is) ((refl, (stands, named)), tt);
+  aside = subst (λ xs. AllMatch (KeptFor work region unit form) xs []) (sym none) tt;
+}
+
+pub at_root : (work : Work) (u : UnitScope) (a : Asked) (ls : List Frames) (s : ScopedState) → Stands work u ls s → SpotFor work (asking u a) ls s (record { scope = u.root; in_body = false }) []
+at_root work u a ls s e = record { at = e.root; inside = (refl, refl) }
+
+pub left_small : (n uses : ℕ) → n < 2 ^ 32 → n + 0 + 4194305 * (10000 - uses) ≤ 2 ^ 40
+left_small n uses h = omega (arith, h)
+
+pub left_enough : (n uses : ℕ) → n < 2 ^ 32 → n + 0 + 4194305 * (10000 - uses) < 2 ^ 64
+left_enough n uses h = let few = left_small n uses h in omega (arith, few)
+
+pub can_pass : (work : Work) (region : Region) (u : UnitScope) (a : Asked) (todo : code_pending.Pending) (n : number.Tree) → todo.todo.items ≡ map (form_at None) (reverse (n ∷ [])) → todo.aside.items ≡ [] → (form : IsAtWork work region n) → tree_size form.0.0 < 2 ^ 32 → HasRoom (2 ^ 43 + 2 ^ 40) u → CanSet work u →
+    CanPass work region (asking u a) (record { scope = u.root; in_body = false }) 0 todo u.asked
+can_pass work region u a todo n is none form small room can =
+    let few = left_small (tree_size form.0.0) u.form.budget.uses small in
+    record {
+      layout = can.layout;
+      state = can.state;
+      frames = [];
+      left = one_form form.0.0 can.notes;
+      stands = with_asked work u a can.layout can.state can.stands;
+      placed = at_root work u a can.layout can.state can.stands;
+      pending = one_pending work region u.unit u.form.number todo n form.0.0 can.notes is none form.0.1 form.1;
+      notes = can.asked;
+      room = omega (arith, room, few);
+    }
+
+-- ---- after
+
+all_items : (work : Work) (region : Region) (unit form : ℕ) (ks : List code_kept.Kept) (is : List (Item Identifier)) → AllMatch (KeptFor work region unit form) ks is → AllMatch (ItemFor work region unit form) (map item_of ks) is
+all_items work region unit form [] [] h = h
+all_items work region unit form [] (i ∷ is) h = h
+all_items work region unit form (k ∷ ks) [] h = h
+all_items work region unit form (k ∷ ks) (i ∷ is) h = (h.0, all_items work region unit form ks is h.1)
+
+module _ (old new : Work) (region : Region) (u w : UnitScope) (a b : Asked) where
+  abbrev back : UnitScope
+  back = asking w b
+
+  pub same_back : SameForm (asking u a) w → SameForm u back
+  same_back h = record { unit = h.unit; number = h.number; root = h.root; libraries = h.libraries; roots = h.roots; uses = h.uses; nodes = h.nodes }
+
+  pub stays_back : (ls : List Frames) (t : ScopedState) → Stays old new region (asking u a) w ls t → Stays old new region u back ls t
+  stays_back ls t h = record { stands = with_asked new w b ls t h.stands; work = h.work; counted = h.counted; same = same_back h.same }
+
+  pub leaves_back : Leaves old new region (asking u a) → Leaves old new region u
+  leaves_back h = record { work = h.work; few = h.few }
+
+  -- what is left after a step that memory then ended
+  pub leaves_lost : (ls : List Frames) (t : ScopedState) → Stays old new region (asking u a) w ls t → Leaves old new region u
+  leaves_lost ls t h = let few : w.form.budget.nodes ≤ 200000 = h.stands.form.few_nodes in record { work = h.work; few = omega (arith, h.counted, few) }
+
+  module _ (ls : List Frames) (spot : code_spot.Spot) (most : ℕ) (aside : List code_kept.Kept) (p : Pass Identifier Place × ScopedState) where
+    pub sets : Passes old new region (asking u a) w ls spot [] most aside b (Ok tt) p → Sets old new region u back ls (Ok (map item_of aside)) p
+    sets h = (h.0, h.1, stays_back ls p.1 h.2.stays, h.2.notes, all_items new region w.unit w.form.number aside h.0 h.3)
+
+    pub few_more : most ≤ 2 ^ 40 → Passes old new region (asking u a) w ls spot [] most aside b (Ok tt) p → w.form.budget.locals ≤ u.form.budget.locals + 2 ^ 40
+    few_more few h = omega (arith, h.4, few)
+
+    pub sets_lost : Passes old new region (asking u a) w ls spot [] most aside b (Ok tt) p → Sets old new region u back ls (Err fault.Memory) p
+    sets_lost h = leaves_lost ls p.1 h.2.stays
+
+    pub sets_fails : (e : ExpandFault) → Passes old new region (asking u a) w ls spot [] most aside b (Err e) p → Sets old new region u back ls (Err e) p
+    sets_fails (fault.At e) h = (h.0, h.1, stays_back ls p.1 h.2.stays, h.2.notes, h.3)
+    sets_fails fault.Full h = (leaves_back h.0, h.1)
+    sets_fails fault.Memory h = leaves_back h
+
+  moves_back : (ls : List Frames) (t : ScopedState) → Moves old new region (asking u a) w ls t → Moves old new region u back ls t
+  moves_back ls t m = record { layout = m.layout; kept = m.kept; stays = stays_back m.layout t m.stays }
+
+  pub ends_back : {X Y : Type 0} (P : List Frames → X → Y → Type 0) (ls : List Frames) (r : Result X ExpandFault) (p : Result Y Broken × ScopedState) → Ends P old new region (asking u a) w ls r p → Ends P old new region u back ls r p
+  unfolding moves_back
+  ends_back P ls (Ok x) p h = (h.0, moves_back ls p.1 h.1, h.2, h.3)
+  ends_back P ls (Err (fault.At e)) p h = (moves_back ls p.1 h.0, h.1)
+  ends_back P ls (Err fault.Full) p h = (leaves_back h.0, h.1)
+  ends_back P ls (Err fault.Memory) p h = leaves_back h
+
+-- before the form was gone through
+pub sets_none : (work : Work) (region : Region) (u : UnitScope) (ls : List Frames) (s : ScopedState) → Stands work u ls s → Leaves work work region u
+sets_none work region u ls s e = leaves_itself work region u e.form.few_nodes
+
+-- a fault is handed on
+pub sets_handed : (old new : Work) (region : Region) (u v : UnitScope) (ls : List Frames) (r : Result (List code_item.Item) ExpandFault) (e : ExpandFault) (p : Pass Identifier Place × ScopedState) → IsErrAnd r (λ f. f ≡ e) → Sets old new region u v ls (Err e) p → Sets old new region u v ls r p
+sets_handed old new region u v ls (Ok xs) e p same h = absurd same
+sets_handed old new region u v ls (Err f) e p same h = subst (λ (g : ExpandFault). Sets old new region u v ls (Err g) p) (sym same) h

@@ -1,0 +1,28 @@
+use Rattle.std.proofs.Common.{◌≡◌, ℕ, ◌-◌, List}
+use Rattle.scheme_model.specs.Trees.{Tree}
+use Rattle.scheme_model.specs.Ident.{Ident as Identifier}
+use Rattle.scheme_model.specs.Requirements.{Known}
+use Rattle.scheme_model.specs.Expression.{whole, expand}
+use Rattle.scheme_model.specs.ScopedExpansion.{Frames, ScopedState}
+use Rattle.syntax_tree.specs.Works.{IsOpened}
+use Rattle.expander.specs.Judged.{Knows}
+use Rattle.expander.specs.State.{Stands}
+use Rattle.expander.specs.Outcomes.{At, IsAtWork, WorksOn, IsEnough}
+use Rattle.expander.specs.Searched.{searched}
+use Rattle.expander.proofs.AfterLaws.{IsAfter}
+use Rattle.expander.proofs.SettleLaws.{SoFar}
+use Rattle.expander.proofs.scope.UnitScope.settle.Given as goal
+
+abbrev pub invariant-loop-keyword : goal.invariant-loop-keyword
+invariant-loop-keyword l = record {
+  opened : IsOpened l.work l.region;
+  after : IsAfter l.fn.work l.work l.region l.fn.self l.self l.at.scope;
+  form : IsAtWork l.work l.region l.form;
+  locals : l.self.form.budget.locals ≡ l.fn.self.form.budget.locals;
+  so_far : (known : Known) (turns : ℕ) (ls : List Frames) (s : ScopedState) (fs : Frames) (t : Tree Identifier) → Knows l.fn.self.libraries known → Stands l.fn.work l.fn.self ls s → At ls l.at.scope fs →
+      WorksOn l.fn.work l.region l.fn.form t → IsEnough l.at.depth l.fn.self.form.budget.uses turns →
+      SoFar known l.at.depth l.fn.work l.work l.region l.fn.self l.self ls fs l.form l.here (expand (searched known) turns l.at.depth l.at.here fs (whole t) s);
+}
+
+abbrev pub decreases-loop-keyword : goal.decreases-loop-keyword
+decreases-loop-keyword l = 10000 - l.self.form.budget.uses

@@ -1,0 +1,162 @@
+-- How an expression is read in the code, up to its parts that are to be expanded (R7RS 4.1, 4.2).
+use Rattle.std.specs.Prelude.{◌≡◌, ◌⊎◌, ℕ, suc, List, [], Vec, Bool, true, false, Option, Some, None, Result, Ok, Err}
+use Rattle.scheme_model.specs.declared.Occ.{Occ}
+use Rattle.scheme_model.specs.Ident.{Ident as Identifier}
+use Rattle.scheme_model.specs.Keywords.{CoreKeyword}
+use Rattle.scheme_model.specs.Trees.{Tree, name, atom, list, vector, Trees, no_trees, tree, Tail}
+use Rattle.scheme_model.specs.Meaning.{Head, IsCore, IsAuxiliary, IsMacro, IsNone, is_keyword}
+use Rattle.scheme_model.specs.ExpansionFaults.{Named, KeywordAsValue}
+use Rattle.scheme_model.specs.Cores.{Core, Call}
+use Rattle.scheme_model.specs.Steps.{Broken, ◌>>=◌, done}
+use Rattle.scheme_model.specs.Requirements.{Known}
+use Rattle.scheme_model.specs.Order.{Transformer, head_of, target_of}
+use Rattle.scheme_model.specs.Expression.{Expander, whole, node, each, expression, expand}
+use Rattle.scheme_model.specs.ScopedExpansion.{Frames, ScopedState, macro_at}
+use Rattle.scheme_model.specs.CountedExpansion.{means_here}
+use Rattle.core_tree.specs.Names.{IsTarget}
+use Rattle.core_tree.specs.declared.cores.Target as code_target
+use Rattle.syntax_tree.specs.Looks.{PartsStand, AllNamed}
+use Rattle.syntax_tree.specs.declared.trees.Work.{Work}
+use Rattle.syntax_tree.specs.declared.trees.nodes.Tree as number
+use Rattle.syntax_tree.specs.declared.trees.table.Region.{Region}
+use Rattle.core_forms.specs.Ends.{keyword_as, ShapeFor}
+use Rattle.core_forms.specs.Forms.{Shape}
+use Rattle.core_forms.specs.Named.{ShapeNamed}
+use Rattle.core_forms.specs.declared.shape.CoreKeyword as code_keyword
+use Rattle.core_forms.specs.declared.shape.CoreShape as code_shape
+use Rattle.core_tree.specs.Cores.{CoreStands}
+use Rattle.core_tree.specs.Traces.{IsFault}
+use Rattle.core_tree.specs.declared.cores.Core as code_core
+use Rattle.std.specs.declared.alloc.Global.{Global}
+use Rattle.expander.specs.Counts.{plain_fault, Begins}
+use Rattle.expander.specs.CoreSteps.{core_step}
+use Rattle.expander.specs.Outcomes.{Stays, Leaves, MayFill, Breaks, WorksOn, IsEnough, IsEnoughBelow}
+use Rattle.expander.specs.Passed.{ShapeFits}
+use Rattle.expander.specs.Searched.{searched}
+use Rattle.expander.specs.declared.expressions.At as code_at
+use Rattle.expander.specs.declared.expressions.Ready as code_ready
+use Rattle.expander.specs.declared.expressions.Ready.TheVariants as ready
+use Rattle.expander.specs.declared.fault.ExpandFault.{ExpandFault}
+use Rattle.expander.specs.declared.fault.ExpandFault.TheVariants as fault
+use Rattle.expander.specs.declared.scope.UnitScope.{UnitScope}
+
+abbrev pub Expanding : Type 0
+Expanding = Expander Frames Identifier ScopedState
+
+-- ---- macro uses at the head
+
+abbrev pub not_macro : Head → Type 0
+not_macro (IsCore k) = Unit {0}
+not_macro (IsAuxiliary a) = Unit {0}
+not_macro (IsMacro m) = ⊥
+not_macro IsNone = Unit {0}
+
+-- no macro is at the head
+abbrev pub IsSettled : Known → ScopedState → Frames → Tree Identifier → Type 0
+IsSettled known s fs (name i o) = Unit {0}
+IsSettled known s fs (atom a o) = Unit {0}
+IsSettled known s fs (vector ts o) = Unit {0}
+IsSettled known s fs (list no_trees tail o) = Unit {0}
+IsSettled known s fs (list (tree (name i p) ts) tail o) = not_macro (head_of (searched known) fs s i)
+IsSettled known s fs (list (tree (atom a p) ts) tail o) = Unit {0}
+IsSettled known s fs (list (tree (list us end p) ts) tail o) = Unit {0}
+IsSettled known s fs (list (tree (vector us p) ts) tail o) = Unit {0}
+
+-- the keyword of a use of a macro that there is; or no macro is at the head
+abbrev pub IsMacroKeyword : Work → Known → ScopedState → Frames → Tree Identifier → Option code_target.Target → Type 0
+IsMacroKeyword work known s fs t None = IsSettled known s fs t
+IsMacroKeyword work known s fs t (Some keyword) =
+    (i : Identifier) × (p : Option Occ) × (ts : Trees Identifier) × (tail : Tail Identifier) × (o : Option Occ) × (m : Transformer Frames Identifier)
+    × (t ≡ list (tree (name i p) ts) tail o) × IsTarget work.symbols s.unit s.form keyword (target_of (searched known) fs s i p)
+    × (head_of (searched known) fs s i ≡ IsMacro (means_here s fs i)) × (macro_at s.macros (means_here s fs i) ≡ Some m)
+
+-- ---- lists
+
+abbrev pub not_core : Head → Type 0
+not_core (IsCore k) = ⊥
+not_core (IsAuxiliary a) = Unit {0}
+not_core (IsMacro m) = Unit {0}
+not_core IsNone = Unit {0}
+
+-- no keyword of a core form is at the head
+abbrev pub IsPlain : Known → ScopedState → Frames → Tree Identifier → Type 0
+IsPlain known s fs (name i o) = Unit {0}
+IsPlain known s fs (atom a o) = Unit {0}
+IsPlain known s fs (vector ts o) = Unit {0}
+IsPlain known s fs (list no_trees tail o) = Unit {0}
+IsPlain known s fs (list (tree (name i p) ts) tail o) = not_core (head_of (searched known) fs s i)
+IsPlain known s fs (list (tree (atom a p) ts) tail o) = Unit {0}
+IsPlain known s fs (list (tree (list us end p) ts) tail o) = Unit {0}
+IsPlain known s fs (list (tree (vector us p) ts) tail o) = Unit {0}
+
+-- the keyword of a core form; or there is none
+abbrev pub IsCoreKeyword : Work → Known → ScopedState → Frames → Tree Identifier → Option (code_keyword.CoreKeyword × code_target.Target) → Type 0
+IsCoreKeyword work known s fs t None = IsPlain known s fs t
+IsCoreKeyword work known s fs t (Some k) =
+    (i : Identifier) × (p : Option Occ) × (ts : Trees Identifier) × (tail : Tail Identifier) × (o : Option Occ) × (c : CoreKeyword)
+    × (t ≡ list (tree (name i p) ts) tail o) × (keyword_as k.0 ≡ Some c) × (head_of (searched known) fs s i ≡ IsCore c) × IsTarget work.symbols s.unit s.form k.1 (target_of (searched known) fs s i p)
+
+-- the parts of a call, or that they are none
+abbrev pub IsCall : List number.Tree → Option number.Tree → Option Occ → Result (Vec number.Tree Global) ExpandFault → Type 0
+IsCall ns tail here (Ok parts) = (parts.items ≡ ns) × (tail ≡ None) × (ns ≡ [] → ⊥)
+IsCall ns tail here (Err (fault.At e)) = (fault.At e ≡ plain_fault here 31) × ((tail ≡ None → ⊥) ⊎ (ns ≡ []))
+IsCall ns tail here (Err fault.Full) = ⊥
+IsCall ns tail here (Err fault.Memory) = Unit {0}
+
+-- what is come to when all macros at the head are used: the same core in fewer turns, which are still enough
+pub record Settled (known : Known) (depth turns : ℕ) (fs : Frames) (u v : UnitScope) (p : Result Core Broken × ScopedState) (here : Option Occ) (t : Tree Identifier) (s : ScopedState) : Type 0 where
+  pub turns_left : ℕ
+  pub enough : IsEnough depth v.form.budget.uses (suc turns_left)
+  pub settled : IsSettled known s fs t
+  pub same : p ≡ expression (expand (searched known) turns_left) (searched known) depth here fs t s
+
+abbrev pub Settles : Known → (depth turns : ℕ) → Work → Work → Region → UnitScope → UnitScope → List Frames → Frames → Result (number.Tree × Option Occ) ExpandFault → Result Core Broken × ScopedState → Type 0
+Settles known depth turns old new region u v ls fs (Ok x) p =
+    (t : Tree Identifier) × (s : ScopedState) × Stays old new region u v ls s × WorksOn new region x.0 t × Settled known depth turns fs u v p x.1 t s
+Settles known depth turns old new region u v ls fs (Err (fault.At e)) p = Stays old new region u v ls p.1 × ((b : Broken) × (p.0 ≡ Err b) × IsFault new.symbols p.1.unit p.1.form e b)
+Settles known depth turns old new region u v ls fs (Err fault.Full) p = Leaves old new region u × MayFill old u
+Settles known depth turns old new region u v ls fs (Err fault.Memory) p = Leaves old new region u
+
+-- ---- an expression that was read
+
+-- it has its core; or it is a call of these parts; or a core form of this shape
+abbrev pub ReadyFor : Known → (depth : ℕ) → Option Occ → Work → Region → (unit form : ℕ) → Frames → code_ready.Ready → (Expanding → Result Core Broken × ScopedState) → ScopedState → Type 0
+ReadyFor known depth here work region unit form fs (ready.Core c) step t = (m : Core) × CoreStands work unit form c m × ((f : Expanding) → step f ≡ done m t)
+ReadyFor known depth here work region unit form fs (ready.Call parts) step t =
+    (ts : Trees Identifier) × PartsStand work parts.items ts × AllNamed work region parts.items
+    × ((f : Expanding) → step f ≡ node (searched known) here 1 depth (λ below t1. each (λ u. f below here fs (whole u)) ts t1 >>= λ cs. done (Call cs)) t)
+ReadyFor known depth here work region unit form fs (ready.Shape k shape) step t =
+    (c : CoreKeyword) × (m : Shape) × (keyword_as k ≡ Some c) × ShapeFor work shape m × ShapeNamed work region shape × ShapeFits m
+    × ((f : Expanding) → step f ≡ core_step f (searched known) depth here fs c m t)
+
+abbrev pub Reads : Known → (depth : ℕ) → Option Occ → Work → Region → UnitScope → UnitScope → List Frames → Frames → Result code_ready.Ready ExpandFault → (Expanding → Result Core Broken × ScopedState) → Type 0
+Reads known depth here work region u v ls fs (Ok x) step = (t : ScopedState) × Stays work work region u v ls t × ReadyFor known depth here work region v.unit v.form.number fs x step t
+Reads known depth here work region u v ls fs (Err (fault.At e)) step =
+    (b : Broken) × (t : ScopedState) × Stays work work region u v ls t × IsFault work.symbols t.unit t.form e b × ((f : Expanding) → step f ≡ (Err b, t))
+Reads known depth here work region u v ls fs (Err fault.Full) step = Leaves work work region u × MayFill work u
+Reads known depth here work region u v ls fs (Err fault.Memory) step = Leaves work work region u
+
+-- ---- an expression that was settled and read
+
+-- what is left of it, in fewer turns that are still enough for what stands deeper
+abbrev pub Prepares : Known → (depth : ℕ) → Work → Work → Region → UnitScope → UnitScope → List Frames → Frames → Result (Option Occ × code_ready.Ready) ExpandFault → Result Core Broken × ScopedState → Type 0
+Prepares known depth old new region u v ls fs (Ok x) p =
+    (left : ℕ) × (step : Expanding → Result Core Broken × ScopedState) × (t : ScopedState) × Stays old new region u v ls t × IsEnoughBelow depth v.form.budget.uses left
+    × (p ≡ step (expand (searched known) left)) × ReadyFor known depth x.0 new region v.unit v.form.number fs x.1 step t
+Prepares known depth old new region u v ls fs (Err (fault.At e)) p = Stays old new region u v ls p.1 × Breaks new e p
+Prepares known depth old new region u v ls fs (Err fault.Full) p = Leaves old new region u × MayFill old u
+Prepares known depth old new region u v ls fs (Err fault.Memory) p = Leaves old new region u
+
+-- ---- smaller steps
+
+-- a keyword is no variable
+abbrev pub TestsVariable : Work → ScopedState → Option Occ → Named Identifier → Head → Result (Unit {0}) ExpandFault → Type 0
+TestsVariable work s here n h (Ok passed) = is_keyword h ≡ false
+TestsVariable work s here n h (Err (fault.At e)) = (is_keyword h ≡ true) × IsFault work.symbols s.unit s.form e (record { fault = KeywordAsValue n; here = here })
+TestsVariable work s here n h (Err fault.Full) = ⊥
+TestsVariable work s here n h (Err fault.Memory) = ⊥
+
+-- a core node begins: its parts stand one level deeper
+abbrev pub BeginsBelow : UnitScope → UnitScope → code_at.At → ℕ → Result code_at.At ExpandFault → Type 0
+BeginsBelow old new at n (Ok below) = (below.scope ≡ at.scope) × (below.here ≡ at.here) × Begins old new at.here n at.depth (Ok below.depth)
+BeginsBelow old new at n (Err e) = Begins old new at.here n at.depth (Err e)

@@ -1,0 +1,57 @@
+//! What the forms of a body or a unit set aside while they are gone through (R7RS 5.3.2).
+use core_forms::{ClauseShape, NamePart};
+use core_tree::cores::{Binder, FieldUse};
+use scheme_model::Occ;
+use scope_env::ScopeNo;
+use syntax_tree::meaning::Meaning;
+use syntax_tree::trees::Tree;
+
+/// A form with the place that a fault in it has, where it has none itself.
+#[derive(Clone, Copy, Debug)]
+pub struct Form {
+    pub here: Option<Occ>,
+    pub tree: Tree,
+}
+
+/// A definition, or an expression, to be expanded once all definitions of its body or unit stand.
+#[derive(Drop)]
+pub enum Kept {
+    Expression(Form),
+    Value(Binder, Form),
+    Function(Binder, Option<Occ>, ClauseShape),
+    /// A later definition of a program's variable.
+    Assigned(NamePart, Form),
+    AssignedFunction(NamePart, Option<Occ>, ClauseShape),
+    Values {
+        binders: Vec<Binder>,
+        dotted: bool,
+        form: Form,
+    },
+    Record {
+        binders: Vec<Binder>,
+        fields: Vec<Binder>,
+        modified: Vec<u32>,
+        used: Vec<FieldUse>,
+    },
+    Macro(Binder, Meaning),
+}
+
+/// What a form of a unit set aside.
+#[derive(Drop)]
+pub struct Item {
+    pub(crate) kept: Kept,
+}
+
+/// Where forms are gone through: a unit's own scope, or that of a body.
+#[derive(Clone, Copy, Debug)]
+pub struct Spot {
+    pub scope: ScopeNo,
+    pub in_body: bool,
+}
+
+/// What is left to be gone through, the next form last, and what was set aside.
+#[derive(Drop)]
+pub struct Pending {
+    pub todo: Vec<Form>,
+    pub aside: Vec<Kept>,
+}
