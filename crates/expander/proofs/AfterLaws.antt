@@ -1,5 +1,5 @@
 -- What the code has after a call that was made: it can look, and go on; and how rooms for locals and turns go on.
-use Rattle.std.proofs.Common.{◌≡◌, ℕ, suc, ◌+◌, ◌*◌, ◌^◌, ◌<◌, ◌≤◌, List, slice_get, Bool, Option, Some, Result, Ok, Err, refl, sym, ap, ◌∙◌, subst, arith}
+use Rattle.std.proofs.Common.{◌≡◌, ℕ, suc, ◌+◌, ◌*◌, ◌^◌, ◌≤◌, List, Option, Result, Ok, Err, refl, sym, ap, subst, arith}
 use Rattle.std.specs.Prelude.{String}
 use Rattle.std.specs.BTreeSet.{BTreeSet, contains_text}
 use Rattle.std.specs.declared.alloc.Global.{Global}
@@ -8,7 +8,7 @@ use Rattle.scheme_model.specs.Trees.{Tree}
 use Rattle.scheme_model.specs.Ident.{Ident as Identifier}
 use Rattle.scheme_model.specs.Requirements.{Known}
 use Rattle.scheme_model.specs.Cores.{Core}
-use Rattle.scheme_model.specs.Steps.{Broken, Step, ◌>>=◌, done}
+use Rattle.scheme_model.specs.Steps.{Broken, Step}
 use Rattle.scheme_model.specs.Expression.{expression, expand, node}
 use Rattle.scheme_model.specs.ScopedExpansion.{Frames, ScopedState}
 use Rattle.syntax_tree.specs.Works.{IsOpened}
@@ -17,18 +17,18 @@ use Rattle.syntax_tree.specs.declared.trees.nodes.Tree as number
 use Rattle.syntax_tree.specs.declared.trees.table.Region.{Region}
 use Rattle.core_tree.specs.Cores.{CoreStands}
 use Rattle.core_tree.specs.declared.cores.Core as code_core
-use Rattle.expander.specs.Counts.{Begins, with_nodes}
+use Rattle.expander.specs.Counts.{Begins}
 use Rattle.expander.specs.Judged.{Knows, library_text}
-use Rattle.expander.specs.State.{Stands, most_locals}
+use Rattle.expander.specs.State.{Stands}
 use Rattle.expander.specs.Stepped.{spent}
-use Rattle.expander.specs.Outcomes.{At, Grows, SameForm, Stays, Moves, Ends, EndsHere, Runs, CanLook, WorksOn, IsEnough, IsEnoughBelow, HasRoom, Spends}
-use Rattle.expander.specs.Ready.{IsSettled, Settled, Settles, ReadyFor, Reads, Expanding}
+use Rattle.expander.specs.Outcomes.{At, Grows, SameForm, Stays, Moves, Ends, Runs, CanLook, WorksOn, IsEnough, IsEnoughBelow, HasRoom, Spends}
+use Rattle.expander.specs.Ready.{IsSettled, Settles, Reads, Expanding}
 use Rattle.expander.specs.Searched.{searched}
 use Rattle.expander.specs.declared.expressions.Ready.TheVariants as ready
 use Rattle.expander.specs.declared.fault.ExpandFault.{ExpandFault}
 use Rattle.expander.specs.declared.fault.ExpandFault.TheVariants as fault
 use Rattle.expander.specs.declared.scope.UnitScope.{UnitScope}
-use Rattle.expander.proofs.OutcomeLaws.{ends_after, moves_here, here_ends, same_itself}
+use Rattle.expander.proofs.OutcomeLaws.{ends_after, moves_here, here_ends}
 use Rattle.expander.proofs.CountingStands.{nodes_stand}
 use Rattle.expander.proofs.NodeLaws.{spends, begins_goes, here_done}
 

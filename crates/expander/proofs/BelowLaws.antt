@@ -1,5 +1,5 @@
 -- A core node whose parts stand one level deeper: it begins, its parts are worked, and the core is made of them.
-use Rattle.std.proofs.Common.{◌≡◌, ℕ, ◌+◌, ◌≤◌, List, Option, Result, Ok, Err, refl, sym, ap, ◌∙◌, subst, arith}
+use Rattle.std.proofs.Common.{ℕ, List, Option, Result, Ok, Err, sym, ap, subst, arith}
 use Rattle.scheme_model.specs.declared.Occ.{Occ}
 use Rattle.scheme_model.specs.Requirements.{Known}
 use Rattle.scheme_model.specs.Steps.{Broken, Step, ◌>>=◌, done}
@@ -10,7 +10,6 @@ use Rattle.syntax_tree.specs.declared.trees.table.Region.{Region}
 use Rattle.std.specs.BTreeSet.{BTreeSet}
 use Rattle.std.specs.Prelude.{String}
 use Rattle.std.specs.declared.alloc.Global.{Global}
-use Rattle.expander.specs.Counts.{Begins}
 use Rattle.expander.specs.Judged.{Knows}
 use Rattle.expander.specs.State.{Stands}
 use Rattle.expander.specs.Stepped.{spent}

@@ -1,11 +1,11 @@
 -- The binders of frames give the meanings that frames give.
-use Rattle.std.proofs.Common.{◌≡◌, ℕ, ◌==◌, eq-eqb, List, [], ◌∷◌, ◌++◌, Bool, ◌&&◌, true, false, cond, Option, Some, None, refl, sym, ap, ◌∙◌}
+use Rattle.std.proofs.Common.{◌≡◌, eq-eqb, [], ◌∷◌, ◌++◌, Bool, ◌&&◌, true, false, cond, Some, None, refl, ap, ◌∙◌}
 use Rattle.scheme_model.specs.Identifiers.{Number, same_number}
 use Rattle.scheme_model.specs.Ident.{Ident, Written, Inserted, same_ident}
 use Rattle.scheme_model.specs.Meaning.{Meaning, Local, Free}
-use Rattle.scheme_model.specs.Scopes.{Bound, Chain, found, local_or, given_or, defined_or, own_of, beyond, means}
-use Rattle.scheme_model.specs.Substitution.{Table, Entries, defined_in}
-use Rattle.scheme_model.specs.ScopedExpansion.{Frames, Bind, Enter, BodyDefinition, BodyDefinitions, UsePlace, ScopedState, around, find, defined_as, means_inside, means_outside, means_at}
+use Rattle.scheme_model.specs.Scopes.{Chain, found, local_or, given_or, defined_or, own_of, beyond, means}
+use Rattle.scheme_model.specs.Substitution.{defined_in}
+use Rattle.scheme_model.specs.ScopedExpansion.{Frames, Bind, Enter, BodyDefinitions, ScopedState, around, find, defined_as, means_inside, means_outside, means_at}
 use Rattle.expander.specs.Chains.{body_chain, chain_of, chain_in, uses_in, given_in}
 
 -- what a body defines comes before what is around it

@@ -1,20 +1,18 @@
 -- The parts of expressions, each by the steps that the code takes: procedures, bodies, local macros, assignments.
-use Rattle.std.proofs.Common.{◌≡◌, ℕ, zero, suc, ◌+◌, ◌*◌, ◌^◌, ◌<◌, ◌≤◌, List, [], ◌∷◌, ◌++◌, length, slice_get, Bool, true, false, Option, Some, None, Result, Ok, Err, refl, sym, ap, ◌∙◌, subst, arith, Vec}
+use Rattle.std.proofs.Common.{◌≡◌, ℕ, suc, ◌+◌, ◌≤◌, List, [], ◌∷◌, ◌++◌, length, Bool, true, false, None, Result, Ok, Err, refl, sym, ap, ◌∙◌, subst, arith, Vec}
 use Rattle.std.specs.Prelude.{String}
 use Rattle.std.specs.Global.{Box}
 use Rattle.std.specs.declared.alloc.Global.{Global}
-use Rattle.scheme_model.specs.declared.Occ.{Occ}
-use Rattle.scheme_model.specs.Identifiers.{Number}
-use Rattle.scheme_model.specs.Trees.{Tree, list, Trees, tree, proper}
+use Rattle.scheme_model.specs.Trees.{list, Trees, tree, proper}
 use Rattle.scheme_model.specs.Ident.{Ident as Identifier}
 use Rattle.scheme_model.specs.ExpansionFaults.{Named}
 use Rattle.scheme_model.specs.Requirements.{Known}
 use Rattle.scheme_model.specs.Shapes.{Clause, LocalMacros}
-use Rattle.scheme_model.specs.Cores.{Core, Lambda, Body, Binder, Binders, LocalNumber, Parts, LetSyntax}
+use Rattle.scheme_model.specs.Cores.{Core, Body, Binder, Binders, LocalNumber, Parts}
 use Rattle.scheme_model.specs.Substitution.{at_form}
 use Rattle.scheme_model.specs.Steps.{Broken, Step, ◌>>=◌, done}
-use Rattle.scheme_model.specs.Order.{Here, Item, Region as ModelRegion, forms_at, run, RulesParts}
-use Rattle.scheme_model.specs.Expression.{Expander, Task, whole, body, node, bound, procedure, lambda, expand, item_part, parts, items_of, body_in, body_core, heads, keep_all, local_defs, local_macros, recursive, let_syntax, letrec_syntax, numbers}
+use Rattle.scheme_model.specs.Order.{Here, Item, forms_at, run}
+use Rattle.scheme_model.specs.Expression.{Expander, body, bound, procedure, expand, item_part, parts, items_of, body_in, local_macros, recursive, numbers}
 use Rattle.scheme_model.specs.CountedExpansion.{counted}
 use Rattle.scheme_model.specs.ScopedExpansion.{Bind, Frames, ScopedState, next_number}
 use Rattle.syntax_tree.specs.Names.{AreToldApart}
@@ -25,7 +23,7 @@ use Rattle.scope_env.specs.Environment.{IsSound, with_child}
 use Rattle.core_forms.specs.Parts.{AllMatch as AllParts, IsName}
 use Rattle.core_forms.specs.declared.shape.NamePart.{NamePart}
 use Rattle.core_tree.specs.Names.{AllMatch, IsBinder}
-use Rattle.core_tree.specs.Cores.{CoreStands, IsClause, AreBinders}
+use Rattle.core_tree.specs.Cores.{CoreStands}
 use Rattle.core_tree.specs.declared.cores.Binder as code_binder
 use Rattle.core_tree.specs.declared.cores.Clause as code_clause
 use Rattle.core_tree.specs.declared.cores.Core as code_core
@@ -35,7 +33,7 @@ use Rattle.expander.specs.State.{Stands, most_locals}
 use Rattle.expander.specs.Stepped.{taken, bound_frames, bound_binders, with_binders, entered, entered_frames}
 use Rattle.std.specs.BTreeSet.{BTreeSet}
 use Rattle.expander.specs.Judged.{Knows}
-use Rattle.expander.specs.Outcomes.{At, Grows, SameForm, Stays, Moves, Ends, Runs}
+use Rattle.expander.specs.Outcomes.{At, Moves, Ends, Runs}
 use Rattle.expander.specs.Expanded.{ClauseStands, macros_step}
 use Rattle.expander.specs.Searched.{searched}
 use Rattle.expander.specs.declared.fault.ExpandFault.{ExpandFault}

@@ -1,9 +1,8 @@
 -- What stood for a core, a part, a clause or what was set aside in a work still does in one that grew.
-use Rattle.std.proofs.Common.{◌≡◌, ℕ, List, [], ◌∷◌, Bool, Option, Some, None, refl, sym, subst}
-use Rattle.std.specs.List.{AllByRecursion}
+use Rattle.std.proofs.Common.{ℕ, List, [], ◌∷◌, Option, Some, None}
 use Rattle.scheme_model.specs.ExpansionFaults.{Named}
-use Rattle.scheme_model.specs.Cores.{Core, Ref, Const, Quote, Quasi, Lambda, CaseLambda, If, Set, Call, Body, LetSyntax, Cores, no_cores, core, Clauses, no_clauses, clause, Parts, no_parts, part, Part, Expression, Define, Values, Fields, Syntax, Binder, Binders, Target, MacroDef, RuleLeaf}
-use Rattle.scheme_model.specs.Trees.{Tree, atom, list, name, Trees, no_trees, tree}
+use Rattle.scheme_model.specs.Cores.{Core, Ref, Const, Quote, Quasi, Lambda, CaseLambda, If, Set, Call, Body, LetSyntax, Cores, no_cores, core, Clauses, no_clauses, clause, Parts, no_parts, part, Part, Expression, Define, Values, Fields, Syntax, Binder, Target, MacroDef, RuleLeaf}
+use Rattle.scheme_model.specs.Trees.{atom, list, name, tree}
 use Rattle.scheme_model.specs.Ident.{Ident as Identifier}
 use Rattle.scheme_model.specs.RulesShape.{Rule, Rules}
 use Rattle.scheme_model.specs.Shapes.{Clause}
@@ -11,12 +10,11 @@ use Rattle.scheme_model.specs.Order.{Item, Form}
 use Rattle.scheme_model.specs.Order as model
 use Rattle.scheme_model.specs.Expression.{meaning_of}
 use Rattle.syntax_tree.specs.Names.{KeepsNames}
-use Rattle.syntax_tree.specs.Macros.{IsIdent, AreIdents, IsEllipsisOf, IsRule, AreRules, RulesFor}
-use Rattle.syntax_tree.specs.Works.{KeepsTrees, StandsFor}
+use Rattle.syntax_tree.specs.Macros.{AreIdents, IsEllipsisOf, IsRule, AreRules, RulesFor}
+use Rattle.syntax_tree.specs.Works.{KeepsTrees}
 use Rattle.syntax_tree.specs.declared.rules.Rule as code_rule
 use Rattle.syntax_tree.specs.declared.rules.Rules as code_rules
 use Rattle.syntax_tree.specs.declared.trees.Work.{Work}
-use Rattle.syntax_tree.specs.declared.trees.nodes.Tree as number
 use Rattle.syntax_tree.specs.declared.trees.table.Region.{Region}
 use Rattle.scheme_model.specs.Meaning.{Meaning, Local, Global, Standard, Free}
 use Rattle.syntax_tree.specs.Meant.{IsMeaning}
@@ -26,8 +24,8 @@ use Rattle.core_forms.specs.Parts as forms
 use Rattle.core_forms.specs.Parts.{IsName}
 use Rattle.core_forms.specs.declared.shape.NamePart.{NamePart}
 use Rattle.core_forms.specs.declared.shape.ClauseShape.{ClauseShape}
-use Rattle.core_tree.specs.Names.{AllMatch, IsBinder, IsTarget, IsLeaf, IsMacro, IsField}
-use Rattle.core_tree.specs.Cores.{AreBinders, IsHoled, IsClause, CoreStands, CoresStand, ClausesStand, PartsStand, PartStands}
+use Rattle.core_tree.specs.Names.{AllMatch, IsBinder, IsTarget, IsLeaf, IsMacro}
+use Rattle.core_tree.specs.Cores.{CoreStands, CoresStand, ClausesStand, PartsStand, PartStands}
 use Rattle.core_tree.specs.declared.cores.Binder as code_binder
 use Rattle.core_tree.specs.declared.cores.Target as code_target
 use Rattle.core_tree.specs.declared.cores.RuleLeaf as code_leaf
@@ -38,7 +36,6 @@ use Rattle.core_tree.specs.declared.cores.CorePart as code_part
 use Rattle.expander.specs.Kept.{FormFor, ClauseFor, KeptFor}
 use Rattle.expander.specs.declared.items.Form as code_form
 use Rattle.expander.specs.declared.items.Kept as code_kept
-use Rattle.expander.specs.Outcomes.{Grows}
 use Rattle.expander.proofs.OutcomeLaws.{works_on, all_named_on, parts_on}
 
 pub every_on : {X Y : Type 0} (P Q : X → Y → Type 0) → ((x : X) (y : Y) → P x y → Q x y) → (xs : List X) (ys : List Y) → AllMatch P xs ys → AllMatch Q xs ys
@@ -115,7 +112,7 @@ module _ (old new : Work) (trees : KeepsTrees old new) (names : KeepsNames old.s
     leaf_on : (x : code_leaf.RuleLeaf) (l : RuleLeaf) → IsLeaf old.symbols unit form x l → IsLeaf new.symbols unit form x l
     leaf_on x l h = record { target = target_on x.target l.target h.target; literal = h.literal }
 
-    macro_def_on : (x : code_macro.MacroDef) (d : MacroDef) → IsMacro old unit form x d → IsMacro new unit form x d
+    pub macro_def_on : (x : code_macro.MacroDef) (d : MacroDef) → IsMacro old unit form x d → IsMacro new unit form x d
     macro_def_on x d h = record {
       binder = binder_on x.binder d.binder h.binder;
       rules = rules_stand_on x.rules d.rules h.rules;

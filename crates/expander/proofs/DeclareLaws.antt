@@ -13,7 +13,7 @@ use Rattle.syntax_tree.specs.declared.trees.nodes.Tree as number
 use Rattle.syntax_tree.specs.declared.trees.table.Region.{Region}
 use Rattle.core_tree.specs.Names.{AllMatch}
 use Rattle.expander.specs.Kept.{KeptFor, FormFor, PendingFor, SpotFor}
-use Rattle.expander.specs.Outcomes.{At, Leaves, SameForm, Stays, Moves, Ends, IsAtWork, HasRoom}
+use Rattle.expander.specs.Outcomes.{Leaves, SameForm, Stays, Moves, Ends, IsAtWork, HasRoom}
 use Rattle.expander.specs.Passed.{CanPass, Passes}
 use Rattle.expander.specs.Seen.{form_at, item_of}
 use Rattle.expander.specs.State.{Stands}

@@ -1,12 +1,12 @@
 -- What a core form binds, and the bodies in it, have no more parts than the form has nodes.
-use Rattle.std.proofs.Common.{◌≡◌, ℕ, suc, ◌+◌, ◌≤◌, List, [], ◌∷◌, ◌++◌, length, Bool, true, false, Option, Result, Ok, Err, refl, sym, ap, ◌∙◌, subst, arith}
+use Rattle.std.proofs.Common.{◌≡◌, ◌+◌, ◌≤◌, List, [], ◌∷◌, ◌++◌, length, Bool, true, false, Option, Result, Ok, Err, refl, ap, subst, arith}
 use Rattle.std.proofs.lemmas.List.{length-append}
 use Rattle.scheme_model.specs.Trees.{Tree, name, atom, list, vector, Trees, no_trees, tree, Tail, proper, dotted}
 use Rattle.scheme_model.specs.Measures.{tree_size, trees_size, tail_size}
-use Rattle.scheme_model.specs.ExpansionFaults.{Named, named, Fault, BadPlace, ◌>>◌}
+use Rattle.scheme_model.specs.ExpansionFaults.{Named, named, Fault, ◌>>◌}
 use Rattle.scheme_model.specs.Keywords.{CoreKeyword, IsQuote, IsQuasiquote, IsLambda, IsCaseLambda, IsIf, IsSet, IsBegin, IsDefine, IsDefineValues, IsDefineRecordType, IsDefineSyntax, IsLetSyntax, IsLetrecSyntax, IsCondExpand, IsSyntaxError, IsInclude}
-use Rattle.scheme_model.specs.Quasiquote.{Mark, Pieces, quasi_of}
-use Rattle.scheme_model.specs.Shapes.{Formals, Clause, DefinitionShape, Variable, Procedure as define_procedure, LocalMacros, RecordShape, first_of, list_of, one_of, some_of, proper_of, if_of, name_of, names_of, formals_in, formals_of, clause_in, clauses_in, distinct, distinct_all, lambda_of, case_lambda_of, named_tree_of, error_text_of, procedure_of, definition_with, definition_of, values_of, record_of, bindings_of, local_macros_of}
+use Rattle.scheme_model.specs.Quasiquote.{Mark, quasi_of}
+use Rattle.scheme_model.specs.Shapes.{Formals, Clause, DefinitionShape, Variable, Procedure as define_procedure, LocalMacros, first_of, list_of, one_of, some_of, proper_of, if_of, name_of, names_of, formals_in, formals_of, clause_in, clauses_in, distinct, distinct_all, lambda_of, case_lambda_of, named_tree_of, error_text_of, procedure_of, definition_with, definition_of, values_of, record_of, bindings_of, local_macros_of}
 use Rattle.scheme_model.specs.Ident.{Ident as Identifier, same_ident}
 use Rattle.core_forms.specs.Forms.{Shape, Quoted, Quasi, Procedure, Procedures, Conditional, Assignment, Sequence, Definition, Several, RecordType, Syntax, Local, Choices, ErrorText, Inclusion, unless_expression, sequence_of, record_shape_of, choices_in, shape_of}
 use Rattle.expander.specs.Kept.{ClauseFits}

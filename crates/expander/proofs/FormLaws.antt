@@ -1,21 +1,21 @@
 -- A core form that was parsed: it goes on as its shape, or fails as it was misread.
-use Rattle.std.proofs.Common.{◌≡◌, ℕ, ◌+◌, ◌≤◌, List, [], Bool, true, Option, Some, None, Result, Ok, Err, refl, sym, ap, ◌∙◌, subst, ◌⊎◌, inl, inr, arith, slice_get}
+use Rattle.std.proofs.Common.{◌≡◌, ℕ, ◌≤◌, List, [], true, Option, Some, None, Result, Ok, Err, refl, sym, ap, ◌∙◌, subst, ◌⊎◌, inl, inr, slice_get}
 use Rattle.std.specs.Result.{IsErrAnd}
 use Rattle.scheme_model.specs.declared.Occ.{Occ}
 use Rattle.scheme_model.specs.Trees.{Tree, list, Trees, tree, Tail}
 use Rattle.scheme_model.specs.Ident.{Ident as Identifier}
-use Rattle.scheme_model.specs.Measures.{tree_size, trees_size}
+use Rattle.scheme_model.specs.Measures.{trees_size}
 use Rattle.scheme_model.specs.ExpansionFaults.{Fault, fault_map, BadRules, TwoEllipses, DuplicateVariable, EllipsisDepth, IdleEllipsis, NoRule, EllipsisLength, BadForm, DuplicateBinder, BadPlace, BadRecord, BadQuasi, KeywordRedefined, Duplicate, KeywordAsValue, UseBudget, NodeBudget, DepthBudget, SyntaxError, IncludeRefused, OutOfTurns}
 use Rattle.scheme_model.specs.Keywords.{CoreKeyword, IsQuote, IsQuasiquote, IsLambda, IsCaseLambda, IsIf, IsSet, IsBegin, IsDefine, IsDefineValues, IsDefineRecordType, IsDefineSyntax, IsLetSyntax, IsLetrecSyntax, IsCondExpand, IsSyntaxError, IsInclude}
 use Rattle.scheme_model.specs.Quasiquote.{Mark}
 use Rattle.scheme_model.specs.Requirements.{Known}
 use Rattle.scheme_model.specs.Shapes.{Variable, Procedure as define_procedure}
 use Rattle.scheme_model.specs.Cores.{Core}
-use Rattle.scheme_model.specs.Steps.{Broken, Step, ◌>>=◌, done, fails}
+use Rattle.scheme_model.specs.Steps.{Broken, ◌>>=◌}
 use Rattle.scheme_model.specs.Order.{Here, head_of, given}
-use Rattle.scheme_model.specs.Expression.{Expander, mark_of, quote, core_form}
+use Rattle.scheme_model.specs.Expression.{mark_of, core_form}
 use Rattle.scheme_model.specs.ScopedExpansion.{Frames, ScopedState}
-use Rattle.syntax_tree.specs.Works.{StandsFor, CanName}
+use Rattle.syntax_tree.specs.Works.{StandsFor}
 use Rattle.syntax_tree.specs.declared.trees.Work.{Work}
 use Rattle.syntax_tree.specs.declared.trees.nodes.Tree as number
 use Rattle.syntax_tree.specs.declared.trees.table.Region.{Region}
@@ -32,26 +32,22 @@ use Rattle.core_forms.specs.declared.fault.CoreFault.{CoreFault}
 use Rattle.core_tree.specs.Cores.{CoreStands}
 use Rattle.core_tree.specs.Traces.{IsFault}
 use Rattle.core_tree.specs.declared.cores.Core as code_core
-use Rattle.expander.specs.CoreSteps.{core_step}
-use Rattle.expander.specs.Counts.{plain_fault, text_fault}
-use Rattle.expander.specs.Marked.{mark_within, mark_here}
-use Rattle.expander.specs.Passed.{ShapeFits}
-use Rattle.expander.specs.Ready.{Expanding, ReadyFor, Reads}
+use Rattle.expander.specs.CoreSteps.{core_step, IsLeft}
+use Rattle.expander.specs.Marked.{mark_within}
+use Rattle.expander.specs.Ready.{Expanding, Reads}
 use Rattle.expander.specs.Searched.{searched}
 use Rattle.expander.specs.State.{Stands}
-use Rattle.expander.specs.Outcomes.{Stays, Leaves, MayFill, EndsHere}
-use Rattle.expander.specs.Told.{told, core_fault, Tells}
+use Rattle.expander.specs.Outcomes.{EndsHere}
+use Rattle.expander.specs.Told.{told, Tells}
 use Rattle.expander.specs.declared.expressions.Ready as code_ready
 use Rattle.expander.specs.declared.expressions.Ready.TheVariants as ready
 use Rattle.expander.specs.declared.fault.ExpandFault.{ExpandFault}
 use Rattle.expander.specs.declared.fault.ExpandFault.TheVariants as fault
 use Rattle.expander.specs.declared.scope.UnitScope.{UnitScope}
 use Rattle.expander.proofs.OutcomeLaws.{stays_itself, leaves_itself}
-use Rattle.expander.proofs.NodeLaws.{plain_is}
 use Rattle.expander.proofs.FitLaws.{shape_fits}
 use Rattle.expander.proofs.ShapeLaws.{core_form_is}
 use Rattle.expander.proofs.QuasiReads.{marks_within}
-use Rattle.expander.proofs.ToldLaws.{misread_is}
 
 -- ---- marks
 
@@ -187,12 +183,12 @@ module _ (known : Known) (depth : ℕ) (here : Here) (fs : Frames) (s : ScopedSt
         go fault.Full h = absurd h
         go fault.Memory h = leaves_itself work region u stands.form.few_nodes
 
-    pub shape_reads : (k : code_keyword.CoreKeyword) (shape : code_shape.CoreShape) (m : Shape) → keyword_as k ≡ Some c → shape_here ≡ Ok m → ShapeFor work shape m → ShapeNamed work region shape → trees_size ts ≤ 4194304 →
+    pub shape_reads : (k : code_keyword.CoreKeyword) (shape : code_shape.CoreShape) (m : Shape) → keyword_as k ≡ Some c → shape_here ≡ Ok m → ShapeFor work shape m → ShapeNamed work region shape → trees_size ts ≤ 4194304 → IsLeft m →
         Reads known depth here work region u u ls fs (Ok (ready.Shape k shape)) forms
-    shape_reads k shape m is read for named few = (
+    shape_reads k shape m is read for named few left = (
       s,
       stays_itself work region u ls s stands,
-      (c, m, is, for, named, shape_fits c true (λ i. mark_of (head_of (searched known) fs s i)) ts tail m few read, λ f. shaped_goes f m read),
+      (c, m, is, for, named, (shape_fits c true (λ i. mark_of (head_of (searched known) fs s i)) ts tail m few read, left), λ f. shaped_goes f m read),
     )
 
     -- a fault at once
@@ -280,3 +276,21 @@ inclusion_is work x (Local l) e h = let at = h.1.1 in absurd cc
 inclusion_is work x (Choices cs) e h = let at = h.1 in absurd cc
 inclusion_is work x (ErrorText text) e h = let at = h.1 in absurd cc
 inclusion_is work x Inclusion e h = refl
+
+-- one that is none of these is left to be done
+pub shape_left : (work : Work) (x : code_shape.CoreShape) (m : Shape) → ShapeFor work x m → ((n : number.Tree) → x ≡ shapes.Quote n → ⊥) → ((n : ℕ) → x ≡ shapes.SyntaxError n → ⊥) → (x ≡ shapes.Include → ⊥) → IsLeft m
+shape_left work x (Quoted t) h quoted text inclusion = quoted h.0 h.1
+shape_left work x (Quasi t p) h quoted text inclusion = tt
+shape_left work x (Procedure d) h quoted text inclusion = tt
+shape_left work x (Procedures cs) h quoted text inclusion = tt
+shape_left work x (Conditional us) h quoted text inclusion = tt
+shape_left work x (Assignment p) h quoted text inclusion = tt
+shape_left work x (Sequence us) h quoted text inclusion = tt
+shape_left work x (Definition d) h quoted text inclusion = tt
+shape_left work x (Several p) h quoted text inclusion = tt
+shape_left work x (RecordType r) h quoted text inclusion = tt
+shape_left work x (Syntax p) h quoted text inclusion = tt
+shape_left work x (Local l) h quoted text inclusion = tt
+shape_left work x (Choices cs) h quoted text inclusion = tt
+shape_left work x (ErrorText text) h quoted error inclusion = error h.0 h.1
+shape_left work x Inclusion h quoted text inclusion = inclusion h

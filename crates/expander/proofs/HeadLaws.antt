@@ -1,19 +1,17 @@
 -- What the head of a form is, by what the code was told.
-use Rattle.std.proofs.Common.{◌≡◌, ℕ, List, Bool, true, false, slice_get, Option, Some, None, refl, sym, ap, ◌∙◌, subst}
+use Rattle.std.proofs.Common.{◌≡◌, ℕ, List, Bool, slice_get, Option, Some, None, refl, sym, ap, ◌∙◌, subst}
 use Rattle.std.specs.Option.{option_map}
 use Rattle.std.proofs.lemmas.Option.{same_Some}
-use Rattle.scheme_model.specs.Meaning.{Meaning, Local, Global, Standard, Free, Head, IsCore, IsAuxiliary, IsMacro, IsNone, macro_or_none, other_standard, standard_head, head_as}
+use Rattle.scheme_model.specs.Meaning.{Meaning, Local, Global, Standard, Free, other_standard, standard_head, head_as}
 use Rattle.scheme_model.specs.Keywords.{CoreKeyword, core_named, Auxiliary, auxiliary_named}
 use Rattle.syntax_tree.specs.Names.{Names}
 use Rattle.syntax_tree.specs.Meant.{IsMeaning}
-use Rattle.syntax_tree.specs.declared.meaning.Meaning as code
 use Rattle.syntax_tree.specs.declared.meaning.Meaning.TheVariants as meanings
 use Rattle.syntax_tree.proofs.Places.{none_some}
 use Rattle.core_forms.specs.Ends.{keyword_as}
 use Rattle.core_forms.specs.declared.shape.CoreKeyword as code_keyword
 use Rattle.expander.specs.Heads.{auxiliary_as, IsHead}
 use Rattle.expander.specs.declared.heads.Auxiliary as code_auxiliary
-use Rattle.expander.specs.declared.heads.Head as code_head
 use Rattle.expander.specs.declared.heads.Head.TheVariants as heads
 
 module _ (names : Names) (unit form : ℕ) (is_macro : Meaning → Bool) where

@@ -1,12 +1,12 @@
 -- The datum of a quasiquotation is its tree with the holes taken out, also with symbols in place of identifiers.
-use Rattle.std.proofs.Common.{◌≡◌, ℕ, zero, suc, ◌+◌, List, [], ◌∷◌, ◌++◌, Bool, true, false, Option, Some, None, Result, Ok, Err, refl, sym, ap, ◌∙◌, subst}
+use Rattle.std.proofs.Common.{◌≡◌, ℕ, zero, suc, ◌+◌, List, [], ◌++◌, Bool, true, false, Option, Some, None, Result, Ok, Err, refl, ap, ◌∙◌, subst}
 use Rattle.scheme_model.specs.declared.Occ.{Occ}
 use Rattle.scheme_model.specs.Trees.{Tree, name, atom, list, vector, Trees, no_trees, tree, Tail, proper, dotted, map_tree, map_trees, map_tail}
 use Rattle.scheme_model.specs.ExpansionFaults.{Fault, ◌>>◌}
 use Rattle.scheme_model.specs.Shapes.{one_of}
 use Rattle.scheme_model.specs.Cores.{hole_weight, weight, weights, tail_weight}
 use Rattle.scheme_model.specs.Holes.{places_in, places_among, places_behind, hole_places, IsLike, AreLike, IsTailLike, FillsHole, HasHoles}
-use Rattle.scheme_model.specs.Quasiquote.{Mark, Nested, Unquoted, Spliced, Pieces, RowPieces, pieces, row_pieces, before, hole_of, behind, by_mark, pieces_of, row_of, parts_of, tail_of, quasi_of}
+use Rattle.scheme_model.specs.Quasiquote.{Mark, Nested, Unquoted, Spliced, Pieces, RowPieces, pieces, row_pieces, before, hole_of, by_mark, pieces_of, row_of, parts_of, tail_of, quasi_of}
 use Rattle.scheme_model.specs.Expression.{symbol_or_hole}
 use Rattle.scheme_model.specs.Ident.{Ident as Identifier}
 

@@ -28,7 +28,6 @@ use Rattle.expander.specs.Stepped.{kept, with_macros}
 use Rattle.expander.specs.Outcomes.{CanLook, Stays, EndsHere}
 use Rattle.expander.specs.Searched.{searched}
 use Rattle.expander.specs.declared.fault.ExpandFault.{ExpandFault}
-use Rattle.expander.specs.declared.fault.ExpandFault.TheVariants as fault
 use Rattle.expander.specs.declared.macros.Macro.{Macro}
 use Rattle.expander.specs.declared.macros.Macros.{Macros}
 use Rattle.expander.specs.declared.scope.UnitScope.{UnitScope}

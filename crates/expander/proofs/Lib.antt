@@ -68,6 +68,7 @@ pub mod PassSteps
 pub mod WeightLaws
 pub mod PassLaws
 pub mod ShapeKinds
+pub mod ShapeParts
 pub mod HoleLaws
 pub mod PassLoop
 pub mod BodyPass
@@ -85,3 +86,11 @@ pub mod LoopLaws
 pub mod FormLaws
 pub mod StepLaws
 pub mod ListLaws
+pub mod ExpandLaws
+pub mod RowRuns
+pub mod KeptKinds
+pub mod BodyRuns
+pub mod FormRuns
+pub mod LocalRuns
+pub mod ItemRuns
+pub mod CycleCalls

@@ -1,5 +1,5 @@
 -- A list that is read: a core form by its keyword, or a call.
-use Rattle.std.proofs.Common.{◌≡◌, ℕ, ◌+◌, ◌≤◌, List, [], ◌∷◌, Bool, true, false, Option, Some, None, Result, Ok, Err, refl, sym, ap, ◌∙◌, subst, ◌⊎◌, inl, inr, Vec, arith}
+use Rattle.std.proofs.Common.{◌≡◌, ℕ, List, [], ◌∷◌, Bool, true, false, Option, Some, None, Result, Ok, Err, refl, sym, ap, ◌∙◌, subst, ◌⊎◌, inl, inr, Vec, arith}
 use Rattle.std.specs.Result.{IsErrAnd}
 use Rattle.std.specs.declared.alloc.Global.{Global}
 use Rattle.scheme_model.specs.declared.Occ.{Occ}
@@ -12,7 +12,7 @@ use Rattle.scheme_model.specs.Requirements.{Known}
 use Rattle.scheme_model.specs.Cores.{Core, Call, Target}
 use Rattle.scheme_model.specs.Steps.{Broken, Step, ◌>>=◌, done, fails}
 use Rattle.scheme_model.specs.Order.{Here, head_of, target_of}
-use Rattle.scheme_model.specs.Expression.{Expander, whole, node, each, call, by_head, core_form, expression}
+use Rattle.scheme_model.specs.Expression.{whole, node, each, call, by_head, core_form, expression}
 use Rattle.scheme_model.specs.ScopedExpansion.{Frames, ScopedState}
 use Rattle.syntax_tree.specs.Looks.{PartsStand, EndStands, AllNamed}
 use Rattle.syntax_tree.specs.declared.trees.Work.{Work}
@@ -24,13 +24,12 @@ use Rattle.core_forms.specs.declared.shape.CoreKeyword as code_keyword
 use Rattle.core_forms.specs.declared.shape.NamePart.{NamePart}
 use Rattle.core_tree.specs.declared.cores.Target as code_target
 use Rattle.core_tree.specs.Names.{IsTarget}
-use Rattle.expander.specs.Counts.{plain_fault}
 use Rattle.expander.specs.Heads.{IsHead}
 use Rattle.expander.specs.State.{Stands}
 use Rattle.expander.specs.Stepped.{met, with_keyword}
-use Rattle.expander.specs.Outcomes.{Stays, Leaves, MayFill}
+use Rattle.expander.specs.Outcomes.{Stays}
 use Rattle.expander.specs.Seen.{head_name_of}
-use Rattle.expander.specs.Ready.{Expanding, not_macro, IsSettled, IsPlain, not_core, IsCall, ReadyFor, Reads}
+use Rattle.expander.specs.Ready.{Expanding, not_macro, IsSettled, IsPlain, not_core, IsCall, Reads}
 use Rattle.expander.specs.Searched.{searched}
 use Rattle.expander.specs.declared.expressions.Ready as code_ready
 use Rattle.expander.specs.declared.expressions.Ready.TheVariants as ready

@@ -1,5 +1,5 @@
 -- Loops that do steps in a row, whatever state the scopes of the code stand for.
-use Rattle.std.proofs.Common.{◌≡◌, ℕ, suc, ◌+◌, ◌≤◌, List, [], ◌∷◌, ◌++◌, take, Option, Result, Ok, Err, refl, sym, ap, ◌∙◌, subst, arith}
+use Rattle.std.proofs.Common.{◌≡◌, ℕ, suc, List, [], ◌∷◌, ◌++◌, take, Result, Ok, Err, refl, sym, subst, arith}
 use Rattle.std.specs.Result.{IsErrAnd}
 use Rattle.std.specs.BTreeSet.{BTreeSet}
 use Rattle.std.specs.Prelude.{String}
@@ -11,14 +11,13 @@ use Rattle.syntax_tree.specs.declared.trees.Work.{Work}
 use Rattle.syntax_tree.specs.declared.trees.table.Region.{Region}
 use Rattle.core_tree.specs.Names.{AllMatch}
 use Rattle.expander.specs.Judged.{Knows}
-use Rattle.expander.specs.State.{Stands}
-use Rattle.expander.specs.Outcomes.{At, Grows, SameForm, Moves, Ends, Runs, CanLook}
+use Rattle.expander.specs.Outcomes.{At, SameForm, Moves, Ends, Runs, CanLook}
 use Rattle.expander.specs.declared.fault.ExpandFault.{ExpandFault}
 use Rattle.expander.specs.declared.fault.ExpandFault.TheVariants as fault
 use Rattle.expander.specs.declared.scope.UnitScope.{UnitScope}
-use Rattle.expander.proofs.OutcomeLaws.{grows_itself, grows_on, same_itself, same_on, stays_itself, moves_here, ends_fails, leaves_itself}
+use Rattle.expander.proofs.OutcomeLaws.{grows_itself, grows_on, same_itself, same_on, stays_itself, moves_here, ends_fails}
 use Rattle.expander.proofs.NodeLaws.{ends_err}
-use Rattle.expander.proofs.AfterLaws.{IsAfter, runs_after}
+use Rattle.expander.proofs.AfterLaws.{IsAfter}
 use Rattle.expander.proofs.RowLaws.{row, row_goes, row_fails, ends_mapped}
 
 -- ---- what can be done after calls

@@ -1,6 +1,6 @@
 -- A core node that begins, and nodes that are counted: from what the code does to its counts to how the definition's step goes on or
 -- fails, with what the code has after it.
-use Rattle.std.proofs.Common.{◌≡◌, ℕ, zero, suc, ◌+◌, ◌<◌, ◌≤◌, List, Bool, true, false, cond, leb, Option, Some, None, Result, Ok, Err, refl, sym, ap, ◌∙◌, subst, inl, inr, arith}
+use Rattle.std.proofs.Common.{◌≡◌, ℕ, zero, suc, ◌+◌, ◌<◌, ◌≤◌, List, Bool, cond, Option, None, Result, Ok, Err, refl, sym, ap, ◌∙◌, subst, inl, inr, arith}
 use Rattle.std.proofs.lemmas.Bool.{le-leb, lt-leb}
 use Rattle.scheme_model.specs.declared.Occ.{Occ}
 use Rattle.scheme_model.specs.Ident.{Ident as Identifier}
@@ -18,10 +18,9 @@ use Rattle.core_tree.specs.Traces.{IsFault, IsNamedBy, error_text}
 use Rattle.expander.specs.Counts.{plain_fault, with_nodes, Counts, FailsToBegin, Begins}
 use Rattle.expander.specs.State.{Stands}
 use Rattle.expander.specs.Stepped.{spent}
-use Rattle.expander.specs.Outcomes.{Grows, SameForm, Stays, Moves, Breaks, Ends, EndsHere}
+use Rattle.expander.specs.Outcomes.{Stays, Moves, Ends, EndsHere}
 use Rattle.expander.specs.Searched.{searched}
 use Rattle.expander.specs.declared.fault.ExpandFault.{ExpandFault}
-use Rattle.expander.specs.declared.fault.ExpandFault.TheVariants as fault
 use Rattle.expander.specs.declared.scope.UnitScope.{UnitScope}
 use Rattle.expander.proofs.CountingStands.{nodes_stand}
 use Rattle.expander.proofs.OutcomeLaws.{grows_itself, stays_itself, ends_after, bound_goes, moves_here}

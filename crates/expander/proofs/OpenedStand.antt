@@ -1,7 +1,7 @@
 -- A unit is begun: its own scope is new and binds what it imports, and all that stood before stands.
 use Rattle.std.proofs.Common.{◌≡◌, ℕ, ◌+◌, ◌<◌, ◌==◌, ◌&&◌, List, [], ◌∷◌, ◌++◌, length, slice_get, Bool, true, false, cond, Option, Some, None, inl, inr, refl, sym, ap, ◌∙◌, subst, eq-eqb, arith}
 use Rattle.std.specs.Prelude.{◌⊎◌}
-use Rattle.std.specs.Option.{option_map, option_and_then}
+use Rattle.std.specs.Option.{option_and_then}
 use Rattle.std.specs.FinMap as map
 use Rattle.std.specs.FinMap.{get-insert}
 use Rattle.std.specs.Ordering.{nat_cmp, eq_by_cmp}
@@ -22,16 +22,16 @@ use Rattle.syntax_tree.specs.Names.{Names, AreToldApart}
 use Rattle.syntax_tree.specs.Macros.{IsIdent}
 use Rattle.syntax_tree.specs.Meant.{IsSymbol, IsGivenMeaning}
 use Rattle.syntax_tree.specs.declared.meaning.Meaning.{Meaning}
-use Rattle.syntax_tree.proofs.Places.{none_some, get_front, get_next, push_cases}
+use Rattle.syntax_tree.proofs.Places.{none_some, get_front, push_cases}
 use Rattle.scope_env.specs.Environment.{Environment, Scope, IsSound, new_scope, with_root, with_bound, bound_in}
-use Rattle.scope_env.specs.Resolved.{bound_at, own}
+use Rattle.scope_env.specs.Resolved.{bound_at}
 use Rattle.scope_env.specs.Standing.{StandsFor, Gives, EnvFor}
 use Rattle.scope_env.specs.Moved.{parent_of, with_given, IsNamed, AreNamed, AreGivenNamed}
 use Rattle.scope_env.proofs.Places.{length-changed_at}
 use Rattle.scope_env.proofs.StandingLaws.{root_stands, root_beside, root_env, root_stays, root_env_bound}
 use Rattle.expander.specs.Chains.{chain_in, uses_in, imported_in, given_in}
 use Rattle.expander.specs.Opened.{with_imports, started, ImportsFor}
-use Rattle.expander.specs.State.{IsBegun, AreBegun, BodiesBegun, HasBegun, IsEntered, AreEntered, AreDefined, EnvStands}
+use Rattle.expander.specs.State.{IsBegun, AreBegun, BodiesBegun, HasBegun, AreEntered, AreDefined, EnvStands}
 use Rattle.expander.specs.declared.scope.Imported.{Imported}
 use Rattle.expander.proofs.LayoutLaws.{parent_bound}
 
@@ -238,7 +238,7 @@ module _ (s : ScopedState) (unit : ℕ) (program : Bool) (x : List ℕ) (m : mod
   more_so = λ k v i. given_by v i k
 
   module _ (names : Names) (apart : AreToldApart names.idents) (env : Environment) (sound : IsSound env) (ls : List Frames) (root ident : ℕ) (c : Meaning) (at : map.get env.roots unit ≡ Some root) (is : IsIdent names ident (Written unit x))
-    (means : IsGivenMeaning names c m) (e : EnvStands names env ls before) where
+      (means : IsGivenMeaning names c m) (e : EnvStands names env ls before) where
     named_by : (v : ℕ) (j : Identifier) (n : model.Meaning) (q : Bool) → (unit == v && same_ident (Written unit x) j) ≡ q → cond q (Some m) (given_in before v j) ≡ Some n → IsNamed names j
     named_by v j n true h found = subst (IsNamed names) (ident_told (Written unit x) j (both (unit == v) (same_ident (Written unit x) j) h).1) (ident, is)
     named_by v j n false h found = e.given_named v j n found

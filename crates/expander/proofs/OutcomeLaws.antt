@@ -1,24 +1,20 @@
 -- How steps follow one another: what each leaves adds up, and a fault ends what comes behind it.
-use Rattle.std.proofs.Common.{◌≡◌, ℕ, ◌+◌, ◌-◌, ◌*◌, ◌^◌, ◌<◌, ◌≤◌, List, [], ◌∷◌, Option, Some, None, Result, Ok, Err, refl, sym, ap, ◌∙◌, subst, inl, inr, arith}
-use Rattle.std.specs.List.{AllByRecursion}
+use Rattle.std.proofs.Common.{◌≡◌, ℕ, ◌≤◌, List, [], ◌∷◌, Option, Some, None, Result, Ok, Err, refl, sym, ap, ◌∙◌, subst, inl, inr, arith}
 use Rattle.std.specs.Option.{option_map}
 use Rattle.std.specs.FinMap as map
 use Rattle.scheme_model.specs.Trees.{Tree, Trees, no_trees, tree}
 use Rattle.scheme_model.specs.Ident.{Ident as Identifier}
-use Rattle.scheme_model.specs.Steps.{Broken, Step, ◌>>=◌, done}
+use Rattle.scheme_model.specs.Steps.{Broken, Step, ◌>>=◌}
 use Rattle.scheme_model.specs.ScopedExpansion.{Frames, ScopedState}
 use Rattle.syntax_tree.specs.Names.{Names, KeepsNames}
 use Rattle.syntax_tree.specs.Nodes.{Lived}
-use Rattle.syntax_tree.specs.Kept.{numbers}
-use Rattle.syntax_tree.specs.Regions.{MayName}
 use Rattle.syntax_tree.specs.Looks.{PartsStand, AllNamed}
-use Rattle.syntax_tree.specs.Works.{StandsFor, CanName, IsOpened, KeepsTrees, SameRegions, AddsIn, live_count}
+use Rattle.syntax_tree.specs.Works.{CanName, KeepsTrees, AddsIn}
 use Rattle.syntax_tree.specs.declared.trees.Work.{Work}
 use Rattle.syntax_tree.specs.declared.trees.nodes.Tree as number
 use Rattle.syntax_tree.specs.declared.trees.table.Region.{Region}
-use Rattle.core_tree.specs.declared.traces.FormFault.{FormFault}
-use Rattle.expander.specs.State.{FormStands, Stands}
-use Rattle.expander.specs.Outcomes.{At, Grows, Leaves, SameForm, Stays, Moves, MayFill, Breaks, Ends, EndsHere, WorksOn, Spends, HasRoom}
+use Rattle.expander.specs.State.{Stands}
+use Rattle.expander.specs.Outcomes.{Grows, Leaves, SameForm, Stays, Moves, MayFill, Ends, EndsHere, WorksOn}
 use Rattle.expander.specs.declared.fault.ExpandFault.{ExpandFault}
 use Rattle.expander.specs.declared.fault.ExpandFault.TheVariants as fault
 use Rattle.expander.specs.declared.scope.UnitScope.{UnitScope}

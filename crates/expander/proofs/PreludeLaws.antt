@@ -28,7 +28,7 @@ use Rattle.syntax_tree.specs.declared.meaning.Meaning.TheVariants as code
 use Rattle.syntax_tree.specs.declared.trees.Work.{Work}
 use Rattle.syntax_tree.proofs.Places.{none_some}
 use Rattle.scope_env.specs.Environment.{Environment, IsSound, no_scopes, number_cmp}
-use Rattle.scope_env.specs.Resolved.{bound_at, own}
+use Rattle.scope_env.specs.Resolved.{bound_at}
 use Rattle.scope_env.specs.Standing.{StandsFor, Gives, EnvFor}
 use Rattle.expander.specs.Chains.{chain_in, uses_in, given_in}
 use Rattle.expander.specs.Kept.{NotesFor}

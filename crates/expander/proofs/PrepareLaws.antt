@@ -1,12 +1,12 @@
 -- An expression that was settled and read: what is left of it.
-use Rattle.std.proofs.Common.{◌≡◌, ℕ, suc, ◌+◌, ◌≤◌, List, Option, Some, Result, Ok, Err, refl, sym, ap, ◌∙◌, subst, arith}
+use Rattle.std.proofs.Common.{◌≡◌, ℕ, List, Option, Some, Result, Ok, Err, refl, sym, ◌∙◌, subst}
 use Rattle.scheme_model.specs.declared.Occ.{Occ}
 use Rattle.scheme_model.specs.Trees.{Tree, Trees}
 use Rattle.scheme_model.specs.Ident.{Ident as Identifier}
 use Rattle.scheme_model.specs.Keywords.{CoreKeyword}
 use Rattle.scheme_model.specs.Requirements.{Known}
 use Rattle.scheme_model.specs.Cores.{Core, Call}
-use Rattle.scheme_model.specs.Steps.{Broken, Step, ◌>>=◌, done}
+use Rattle.scheme_model.specs.Steps.{Broken, ◌>>=◌, done}
 use Rattle.scheme_model.specs.Expression.{whole, expression, expand, node, each}
 use Rattle.scheme_model.specs.ScopedExpansion.{Frames, ScopedState}
 use Rattle.syntax_tree.specs.Looks.{PartsStand, AllNamed}
@@ -15,19 +15,18 @@ use Rattle.syntax_tree.specs.declared.trees.nodes.Tree as number
 use Rattle.syntax_tree.specs.declared.trees.table.Region.{Region}
 use Rattle.core_forms.specs.Ends.{keyword_as, ShapeFor}
 use Rattle.core_forms.specs.Forms.{Shape}
-use Rattle.core_forms.specs.Named.{ShapeNamed}
 use Rattle.core_forms.specs.declared.shape.CoreKeyword as code_keyword
 use Rattle.core_forms.specs.declared.shape.CoreShape as code_shape
 use Rattle.core_tree.specs.Cores.{CoreStands}
 use Rattle.core_tree.specs.declared.cores.Core as code_core
 use Rattle.std.specs.Prelude.{Vec}
 use Rattle.std.specs.declared.alloc.Global.{Global}
-use Rattle.expander.specs.CoreSteps.{core_step}
+use Rattle.expander.specs.CoreSteps.{core_step, IsLeft}
 use Rattle.expander.specs.State.{Stands}
 use Rattle.std.specs.Result.{IsErrAnd}
-use Rattle.expander.specs.Outcomes.{At, Stays, Ends, WorksOn, IsEnough, IsEnoughBelow}
+use Rattle.expander.specs.Outcomes.{At, Ends, WorksOn, IsEnoughBelow}
 use Rattle.expander.specs.Passed.{ShapeFits}
-use Rattle.expander.specs.Ready.{Expanding, IsSettled, Settled, Settles, ReadyFor, Reads, Prepares}
+use Rattle.expander.specs.Ready.{IsSettled, Settles, Reads, Prepares}
 use Rattle.expander.specs.Searched.{searched}
 use Rattle.expander.specs.declared.expressions.Ready as code_ready
 use Rattle.expander.specs.declared.expressions.Ready.TheVariants as ready
@@ -100,7 +99,7 @@ module _ (known : Known) (depth : ℕ) (old mid : Work) (region : Region) (u w :
       (next h.0 h.6.0 h.2 h.3.stands h.4 h.6.1 h.6.2))
 
   pub prepared_shape : {V : Type 0} (Q : List Frames → V → Core → Type 0) (new : Work) (v : UnitScope) (k : code_keyword.CoreKeyword) (shape : code_shape.CoreShape) (result : Result V ExpandFault) → Prepares known depth old mid region u w ls fs (Ok (here, ready.Shape k shape)) p →
-      ((left : ℕ) (c : CoreKeyword) (m : Shape) (t : ScopedState) → Stands mid w ls t → IsEnoughBelow depth w.form.budget.uses left → keyword_as k ≡ Some c → ShapeFor mid shape m →
+      ((left : ℕ) (c : CoreKeyword) (m : Shape) (t : ScopedState) → Stands mid w ls t → IsEnoughBelow depth w.form.budget.uses left → keyword_as k ≡ Some c → ShapeFor mid shape m → ShapeFits m → IsLeft m →
       Ends Q mid new region w v ls result (core_step (expand (searched known) left) (searched known) depth here fs c m t)) →
       Ends Q old new region u v ls result p
   prepared_shape Q new v k shape result h next =
@@ -108,7 +107,7 @@ module _ (known : Known) (depth : ℕ) (old mid : Work) (region : Region) (u w :
       let all = h.5 ∙ h.6.6 f in
       subst (λ (q : Result Core Broken × ScopedState). Ends Q old new region u v ls result q) (sym all)
       (stays_then Q old mid new region u w v ls h.2 result (core_step f (searched known) depth here fs h.6.0 h.6.1 h.2) h.3
-      (next h.0 h.6.0 h.6.1 h.2 h.3.stands h.4 h.6.2 h.6.3))
+      (next h.0 h.6.0 h.6.1 h.2 h.3.stands h.4 h.6.2 h.6.3 h.6.5.0 h.6.5.1))
 
 -- ---- faults and looks
 

@@ -1,5 +1,5 @@
 -- How an expression is read: heads, keywords, identifiers as values, and what was read.
-use Rattle.std.proofs.Common.{◌≡◌, ℕ, ◌+◌, ◌<◌, List, [], ◌∷◌, length, slice_get, Bool, true, false, Option, Some, None, Result, Ok, Err, refl, sym, ap, ◌∙◌, subst, arith}
+use Rattle.std.proofs.Common.{◌≡◌, ℕ, List, Bool, true, false, Option, Some, None, Result, Err, refl, sym, ap, ◌∙◌, subst}
 use Rattle.scheme_model.specs.declared.Occ.{Occ}
 use Rattle.scheme_model.specs.Trees.{Tree, name, atom, list, vector, Trees, no_trees, tree, Tail}
 use Rattle.scheme_model.specs.Ident.{Ident as Identifier}
@@ -15,16 +15,14 @@ use Rattle.scheme_model.specs.Expression.{unless_keyword}
 use Rattle.scheme_model.specs.ScopedExpansion.{Frames, ScopedState, macro_at}
 use Rattle.scheme_model.specs.CountedExpansion.{means_here}
 use Rattle.syntax_tree.specs.Names.{Names}
-use Rattle.syntax_tree.specs.Macros.{IsIdent}
 use Rattle.syntax_tree.specs.declared.trees.Work.{Work}
 use Rattle.core_forms.specs.Parts.{IsName, IsNameIfAny}
 use Rattle.core_forms.specs.declared.shape.NamePart.{NamePart}
-use Rattle.core_forms.specs.Ends.{keyword_as}
 use Rattle.core_tree.specs.Names.{IsTarget}
 use Rattle.core_tree.specs.Traces.{IsFault}
 use Rattle.core_tree.specs.declared.cores.Target as code_target
 use Rattle.expander.specs.Counts.{placed_in}
-use Rattle.expander.specs.Heads.{auxiliary_as, IsHead}
+use Rattle.expander.specs.Heads.{IsHead}
 use Rattle.expander.specs.declared.heads.Head as code_head
 use Rattle.expander.specs.declared.heads.Head.TheVariants as heads
 use Rattle.expander.specs.Ready.{not_macro, IsSettled, TestsVariable}

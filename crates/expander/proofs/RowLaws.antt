@@ -1,5 +1,5 @@
 -- Steps in a row, one for each of a list: what a loop has done so far is the row of the first ones.
-use Rattle.std.proofs.Common.{◌≡◌, ℕ, zero, suc, ◌+◌, ◌<◌, ◌≤◌, List, [], ◌∷◌, ◌++◌, length, get_or, take, drop, Result, Ok, Err, refl, sym, ap, ◌∙◌, subst, arith, add-one}
+use Rattle.std.proofs.Common.{◌≡◌, ℕ, zero, suc, ◌<◌, ◌≤◌, List, [], ◌∷◌, ◌++◌, length, get_or, take, drop, Result, Ok, Err, refl, sym, ap, ◌∙◌, subst, arith}
 use Rattle.scheme_model.specs.Trees.{Tree, Trees, no_trees, tree}
 use Rattle.scheme_model.specs.Ident.{Ident as Identifier}
 use Rattle.scheme_model.specs.Cores.{Core, Cores, no_cores, core, Clauses, no_clauses, clause, Parts, no_parts, part, Part, Expression as expression_part, Binders}

@@ -12,7 +12,7 @@ use Rattle.scheme_model.specs.Expression.{heads}
 use Rattle.scheme_model.specs.ScopedExpansion.{Frames, ScopedState}
 use Rattle.syntax_tree.specs.Works.{StandsFor}
 use Rattle.syntax_tree.specs.declared.trees.Work.{Work}
-use Rattle.core_forms.specs.Parts.{IsMacro, AreMacros}
+use Rattle.core_forms.specs.Parts.{AreMacros}
 use Rattle.core_forms.specs.declared.shape.LocalMacro.{LocalMacro}
 use Rattle.expander.specs.RulesTold.{Tests}
 use Rattle.expander.specs.Searched.{searched}

@@ -1,32 +1,29 @@
 -- Macro uses at the head of an expression, one after another.
-use Rattle.std.proofs.Common.{◌≡◌, ℕ, zero, suc, ◌+◌, ◌*◌, ◌^◌, ◌<◌, ◌≤◌, List, Option, Some, None, Result, Ok, Err, refl, sym, ap, ◌∙◌, subst, arith}
+use Rattle.std.proofs.Common.{◌≡◌, ℕ, zero, suc, ◌+◌, ◌≤◌, List, Option, Some, Result, Ok, Err, refl, sym, ap, ◌∙◌, subst, arith}
 use Rattle.std.specs.Result.{IsErrAnd}
 use Rattle.scheme_model.specs.declared.Occ.{Occ}
-use Rattle.scheme_model.specs.Trees.{Tree, name, list, Trees, tree, Tail}
+use Rattle.scheme_model.specs.Trees.{Tree, name, Trees, Tail}
 use Rattle.scheme_model.specs.Ident.{Ident as Identifier}
 use Rattle.scheme_model.specs.ExpansionFaults.{named}
-use Rattle.scheme_model.specs.Meaning.{Head, IsMacro}
+use Rattle.scheme_model.specs.Meaning.{Head}
 use Rattle.scheme_model.specs.Requirements.{Known}
 use Rattle.scheme_model.specs.Cores.{Core, Target}
-use Rattle.scheme_model.specs.Steps.{Broken, Step, ◌>>=◌, done}
-use Rattle.scheme_model.specs.Order.{Here, Transformer, head_of, target_of, here_at, use_of}
+use Rattle.scheme_model.specs.Steps.{Broken, ◌>>=◌}
+use Rattle.scheme_model.specs.Order.{Transformer, target_of, here_at, use_of}
 use Rattle.scheme_model.specs.Expression.{Expander, whole, expand, expression, by_head, macro_use}
-use Rattle.scheme_model.specs.ScopedExpansion.{Frames, ScopedState, macro_at}
-use Rattle.scheme_model.specs.CountedExpansion.{means_here}
-use Rattle.syntax_tree.specs.Works.{StandsFor, IsOpened}
+use Rattle.scheme_model.specs.ScopedExpansion.{Frames, ScopedState}
+use Rattle.syntax_tree.specs.Works.{StandsFor}
 use Rattle.syntax_tree.specs.declared.trees.Work.{Work}
 use Rattle.syntax_tree.specs.declared.trees.nodes.Tree as number
 use Rattle.syntax_tree.specs.declared.trees.table.Region.{Region}
-use Rattle.core_tree.specs.Traces.{IsFault}
 use Rattle.core_tree.specs.declared.cores.Target as code_target
 use Rattle.expander.specs.State.{Stands}
-use Rattle.expander.specs.Used.{UseFor, CanUse}
-use Rattle.expander.specs.Outcomes.{At, Stays, Leaves, MayFill, EndsHere, WorksOn, IsEnough, CanLook}
-use Rattle.expander.specs.Ready.{IsSettled, IsMacroKeyword, Settled, Settles}
+use Rattle.expander.specs.Used.{UseFor}
+use Rattle.expander.specs.Outcomes.{Stays, EndsHere, WorksOn, IsEnough}
+use Rattle.expander.specs.Ready.{IsSettled, IsMacroKeyword, Settles}
 use Rattle.expander.specs.Searched.{searched}
 use Rattle.expander.specs.declared.fault.ExpandFault.{ExpandFault}
 use Rattle.expander.specs.declared.fault.ExpandFault.TheVariants as fault
-use Rattle.expander.specs.declared.uses.Use as code
 use Rattle.expander.specs.declared.scope.UnitScope.{UnitScope}
 use Rattle.expander.proofs.OutcomeLaws.{stays_itself, stays_on, leaves_on, fills_on, moves_here, bound_goes, bound_fails}
 

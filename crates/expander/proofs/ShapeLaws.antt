@@ -1,18 +1,18 @@
 -- A core form as an expression is read as its shape, and then done as the shape is.
-use Rattle.std.proofs.Common.{◌≡◌, ℕ, List, Option, Some, None, Bool, true, Result, Ok, Err, refl, sym, ap, ◌∙◌}
+use Rattle.std.proofs.Common.{◌≡◌, ℕ, Option, true, Result, Ok, Err, refl, ap, ◌∙◌}
 use Rattle.scheme_model.specs.Trees.{Tree, Trees, Tail}
 use Rattle.scheme_model.specs.ExpansionFaults.{Fault, BadPlace, ◌>>◌}
 use Rattle.scheme_model.specs.Keywords.{CoreKeyword, IsQuote, IsQuasiquote, IsLambda, IsCaseLambda, IsIf, IsSet, IsBegin, IsDefine, IsDefineValues, IsDefineRecordType, IsDefineSyntax, IsLetSyntax, IsLetrecSyntax, IsCondExpand, IsSyntaxError, IsInclude}
 use Rattle.scheme_model.specs.Quasiquote.{Mark, Pieces, quasi_of}
 use Rattle.scheme_model.specs.Shapes.{one_of, some_of, if_of, lambda_of, case_lambda_of, named_tree_of, error_text_of, definition_of, values_of, local_macros_of}
-use Rattle.scheme_model.specs.Requirements.{Known, chosen_of}
-use Rattle.scheme_model.specs.Ident.{Ident as Identifier, same_ident, symbol_of}
+use Rattle.scheme_model.specs.Requirements.{Known}
+use Rattle.scheme_model.specs.Ident.{Ident as Identifier, same_ident}
 use Rattle.scheme_model.specs.Cores.{Core}
-use Rattle.scheme_model.specs.Steps.{Broken, Step, ◌>>=◌, done, fails}
+use Rattle.scheme_model.specs.Steps.{Broken, Step, ◌>>=◌}
 use Rattle.scheme_model.specs.Order.{Here, head_of, given}
 use Rattle.scheme_model.specs.Expression.{Expander, mark_of, misplaced, chosen_sequence, core_form, quasi}
 use Rattle.scheme_model.specs.ScopedExpansion.{Frames, ScopedState}
-use Rattle.core_forms.specs.Forms.{Shape, Quoted, Quasi, Procedure, Procedures, Conditional, Assignment, Sequence, Definition, Several, RecordType, Syntax, Local, Choices, ErrorText, Inclusion, unless_expression, choices_in, shape_of}
+use Rattle.core_forms.specs.Forms.{Shape, Quoted, Quasi, Procedure, Procedures, Conditional, Assignment, Sequence, Local, Choices, ErrorText, choices_in, shape_of}
 use Rattle.expander.specs.Judged.{chosen_among}
 use Rattle.expander.specs.CoreSteps.{core_step}
 use Rattle.expander.specs.Searched.{searched}

@@ -1,5 +1,5 @@
 -- Steps that calls do, from whatever state and frames the scopes of the code stand for: made of the steps of other calls.
-use Rattle.std.proofs.Common.{◌≡◌, ℕ, ◌+◌, ◌≤◌, List, Option, Result, Ok, Err, refl, sym, ap, ◌∙◌, subst, arith}
+use Rattle.std.proofs.Common.{◌≡◌, ℕ, List, Option, Result, Ok, Err, sym, subst}
 use Rattle.std.specs.Result.{IsErrAnd}
 use Rattle.scheme_model.specs.declared.Occ.{Occ}
 use Rattle.scheme_model.specs.Requirements.{Known}
@@ -11,12 +11,11 @@ use Rattle.syntax_tree.specs.declared.trees.table.Region.{Region}
 use Rattle.expander.specs.Judged.{Knows}
 use Rattle.expander.specs.State.{Stands}
 use Rattle.expander.specs.Stepped.{spent}
-use Rattle.expander.specs.Outcomes.{At, Moves, Ends, Runs}
+use Rattle.expander.specs.Outcomes.{At, Ends, Runs}
 use Rattle.expander.specs.Ready.{BeginsBelow}
 use Rattle.expander.specs.Searched.{searched}
 use Rattle.expander.specs.declared.expressions.At as code_at
 use Rattle.expander.specs.declared.fault.ExpandFault.{ExpandFault}
-use Rattle.expander.specs.declared.fault.ExpandFault.TheVariants as fault
 use Rattle.expander.specs.declared.scope.UnitScope.{UnitScope}
 use Rattle.expander.proofs.OutcomeLaws.{ends_fails}
 use Rattle.expander.proofs.NodeLaws.{ends_err, ends_then}

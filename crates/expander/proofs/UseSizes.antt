@@ -1,5 +1,5 @@
 -- A use gives a tree of at most 4,194,304 nodes.
-use Rattle.std.proofs.Common.{◌≡◌, ℕ, ◌-◌, ◌≤◌, Bool, true, false, ◌&&◌, cond, Option, Some, None, Result, Ok, Err, refl, sym, ap, ◌∙◌, subst, arith}
+use Rattle.std.proofs.Common.{◌≡◌, ℕ, ◌-◌, ◌≤◌, Bool, true, false, ◌&&◌, cond, Option, Some, None, Result, Ok, Err, refl, subst, arith}
 use Rattle.std.specs.Prelude.{nat_le, nat_lt}
 use Rattle.std.proofs.lemmas.Bool.Decides.{nat_tests}
 use Rattle.scheme_model.specs.declared.Occ.{Occ}
@@ -13,7 +13,7 @@ use Rattle.scheme_model.specs.RulesShape.{Rules, dots_of}
 use Rattle.scheme_model.specs.Matching.{Chosen}
 use Rattle.scheme_model.specs.Building.{Built, build_tree, within, or_lengths}
 use Rattle.scheme_model.specs.Cores.{Target}
-use Rattle.scheme_model.specs.Steps.{Broken, Step, ◌>>=◌, done}
+use Rattle.scheme_model.specs.Steps.{Broken, ◌>>=◌, done}
 use Rattle.scheme_model.specs.Order.{Transformer, given, use_of}
 use Rattle.scheme_model.specs.Order as order
 use Rattle.scheme_model.specs.ScopedExpansion.{Frames, ScopedState, next_number}

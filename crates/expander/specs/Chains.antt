@@ -1,11 +1,11 @@
 -- The binders that frames are: a body is those that it has defined by now.
-use Rattle.std.specs.Prelude.{ℕ, ◌==◌, List, [], ◌∷◌, ◌++◌, Option, None, if◌then◌else◌}
+use Rattle.std.specs.Prelude.{ℕ, ◌==◌, [], ◌∷◌, ◌++◌, Option, None, if◌then◌else◌}
 use Rattle.scheme_model.specs.Ident.{Ident as Identifier, Written, Inserted}
 use Rattle.scheme_model.specs.Meaning.{Meaning}
 use Rattle.scheme_model.specs.Identifiers.{Number, same_number}
-use Rattle.scheme_model.specs.Scopes.{Bound, Chain, Uses, Own, defined_or}
+use Rattle.scheme_model.specs.Scopes.{Chain, Uses, Own, defined_or}
 use Rattle.scheme_model.specs.Substitution.{Entries, defined_in}
-use Rattle.scheme_model.specs.ScopedExpansion.{Frame, Bind, Enter, Frames, BodyDefinition, BodyDefinitions, ScopedState, around}
+use Rattle.scheme_model.specs.ScopedExpansion.{Bind, Enter, Frames, BodyDefinitions, ScopedState, around}
 
 -- what a body has defined, latest first
 abbrev pub body_chain : BodyDefinitions → Number → Chain

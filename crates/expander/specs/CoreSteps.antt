@@ -1,8 +1,7 @@
 -- What is done with a core form as an expression, once it was read (R7RS 4.1, 4.2).
-use Rattle.std.specs.Prelude.{◌≡◌, ℕ, ◌+◌, List, Option, Result, Ok, Err}
+use Rattle.std.specs.Prelude.{ℕ}
 use Rattle.scheme_model.specs.Ident.{Ident as Identifier}
 use Rattle.scheme_model.specs.Keywords.{CoreKeyword, IsQuote, IsQuasiquote, IsLambda, IsCaseLambda, IsIf, IsSet, IsBegin, IsDefine, IsDefineValues, IsDefineRecordType, IsDefineSyntax, IsLetSyntax, IsLetrecSyntax, IsCondExpand, IsSyntaxError, IsInclude}
-use Rattle.scheme_model.specs.Trees.{Tree}
 use Rattle.scheme_model.specs.Shapes.{LocalMacros}
 use Rattle.scheme_model.specs.ExpansionFaults.{BadPlace, SyntaxError, IncludeRefused}
 use Rattle.scheme_model.specs.Cores.{Core, CaseLambda, If}
@@ -47,3 +46,21 @@ core_step f ops depth here e k (Definition d) s = fails here BadPlace s
 core_step f ops depth here e k (Several d) s = fails here BadPlace s
 core_step f ops depth here e k (RecordType r) s = fails here BadPlace s
 core_step f ops depth here e k (Syntax d) s = fails here BadPlace s
+
+-- a shape that is left to be done once it was read: a datum that is quoted, the text of a fault and an inclusion are done at once
+abbrev pub IsLeft : Shape → Type 0
+IsLeft (Quoted t) = ⊥
+IsLeft (Quasi t p) = Unit {0}
+IsLeft (Procedure c) = Unit {0}
+IsLeft (Procedures cs) = Unit {0}
+IsLeft (Conditional us) = Unit {0}
+IsLeft (Assignment p) = Unit {0}
+IsLeft (Sequence ts) = Unit {0}
+IsLeft (Definition d) = Unit {0}
+IsLeft (Several d) = Unit {0}
+IsLeft (RecordType r) = Unit {0}
+IsLeft (Syntax d) = Unit {0}
+IsLeft (Local m) = Unit {0}
+IsLeft (Choices cs) = Unit {0}
+IsLeft (ErrorText text) = ⊥
+IsLeft Inclusion = ⊥

@@ -1,9 +1,8 @@
 -- What the heads of the code stand for.
-use Rattle.std.specs.Prelude.{◌≡◌, Option, Some, None}
-use Rattle.scheme_model.specs.Meaning.{Meaning, Head, IsCore, IsAuxiliary, IsMacro, IsNone}
-use Rattle.scheme_model.specs.Keywords.{CoreKeyword, Auxiliary, IsSyntaxRules, IsUnquote, IsUnquoteSplicing, IsOther}
+use Rattle.std.specs.Prelude.{◌≡◌, Some}
+use Rattle.scheme_model.specs.Meaning.{Head, IsCore, IsAuxiliary, IsMacro, IsNone}
+use Rattle.scheme_model.specs.Keywords.{Auxiliary, IsSyntaxRules, IsUnquote, IsUnquoteSplicing, IsOther}
 use Rattle.core_forms.specs.Ends.{keyword_as}
-use Rattle.core_forms.specs.declared.shape.CoreKeyword as code_keyword
 use Rattle.expander.specs.declared.heads.Auxiliary as code_auxiliary
 use Rattle.expander.specs.declared.heads.Auxiliary.TheVariants as auxiliaries
 use Rattle.expander.specs.declared.heads.Head as code_head

@@ -21,7 +21,6 @@ use Rattle.core_tree.specs.Names.{AllMatch, IsBinder, IsField}
 use Rattle.core_tree.specs.Cores.{AreBinders}
 use Rattle.core_tree.specs.declared.cores.Binder as code_binder
 use Rattle.core_tree.specs.declared.cores.FieldUse as code_field
-use Rattle.expander.specs.State.{Stands}
 use Rattle.expander.specs.Stepped.{IsOpenBody, BindsBody}
 use Rattle.expander.specs.Asks.{AskedStands}
 use Rattle.expander.specs.Outcomes.{At, WorksOn}

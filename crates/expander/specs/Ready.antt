@@ -1,5 +1,5 @@
 -- How an expression is read in the code, up to its parts that are to be expanded (R7RS 4.1, 4.2).
-use Rattle.std.specs.Prelude.{◌≡◌, ◌⊎◌, ℕ, suc, List, [], Vec, Bool, true, false, Option, Some, None, Result, Ok, Err}
+use Rattle.std.specs.Prelude.{◌≡◌, ◌⊎◌, ℕ, suc, List, [], Vec, true, false, Option, Some, None, Result, Ok, Err}
 use Rattle.scheme_model.specs.declared.Occ.{Occ}
 use Rattle.scheme_model.specs.Ident.{Ident as Identifier}
 use Rattle.scheme_model.specs.Keywords.{CoreKeyword}
@@ -23,13 +23,11 @@ use Rattle.core_forms.specs.Ends.{keyword_as, ShapeFor}
 use Rattle.core_forms.specs.Forms.{Shape}
 use Rattle.core_forms.specs.Named.{ShapeNamed}
 use Rattle.core_forms.specs.declared.shape.CoreKeyword as code_keyword
-use Rattle.core_forms.specs.declared.shape.CoreShape as code_shape
 use Rattle.core_tree.specs.Cores.{CoreStands}
 use Rattle.core_tree.specs.Traces.{IsFault}
-use Rattle.core_tree.specs.declared.cores.Core as code_core
 use Rattle.std.specs.declared.alloc.Global.{Global}
 use Rattle.expander.specs.Counts.{plain_fault, Begins}
-use Rattle.expander.specs.CoreSteps.{core_step}
+use Rattle.expander.specs.CoreSteps.{core_step, IsLeft}
 use Rattle.expander.specs.Outcomes.{Stays, Leaves, MayFill, Breaks, WorksOn, IsEnough, IsEnoughBelow}
 use Rattle.expander.specs.Passed.{ShapeFits}
 use Rattle.expander.specs.Searched.{searched}
@@ -126,7 +124,7 @@ ReadyFor known depth here work region unit form fs (ready.Call parts) step t =
     (ts : Trees Identifier) × PartsStand work parts.items ts × AllNamed work region parts.items
     × ((f : Expanding) → step f ≡ node (searched known) here 1 depth (λ below t1. each (λ u. f below here fs (whole u)) ts t1 >>= λ cs. done (Call cs)) t)
 ReadyFor known depth here work region unit form fs (ready.Shape k shape) step t =
-    (c : CoreKeyword) × (m : Shape) × (keyword_as k ≡ Some c) × ShapeFor work shape m × ShapeNamed work region shape × ShapeFits m
+    (c : CoreKeyword) × (m : Shape) × (keyword_as k ≡ Some c) × ShapeFor work shape m × ShapeNamed work region shape × (ShapeFits m × IsLeft m)
     × ((f : Expanding) → step f ≡ core_step f (searched known) depth here fs c m t)
 
 abbrev pub Reads : Known → (depth : ℕ) → Option Occ → Work → Region → UnitScope → UnitScope → List Frames → Frames → Result code_ready.Ready ExpandFault → (Expanding → Result Core Broken × ScopedState) → Type 0

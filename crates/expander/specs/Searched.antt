@@ -3,7 +3,7 @@
 -- `notes_are_searched`.
 use Rattle.std.specs.Prelude.{ℕ, List, [], take, Bool, ◌||◌, ◌&&◌, Option, Result, Ok, Err, if◌then◌else◌}
 use Rattle.scheme_model.specs.Identifiers.{Number}
-use Rattle.scheme_model.specs.Ident.{Ident, Written, Inserted, same_ident}
+use Rattle.scheme_model.specs.Ident.{Ident, Written}
 use Rattle.scheme_model.specs.Trees.{Tree}
 use Rattle.scheme_model.specs.ExpansionFaults.{Named, Fault, KeywordRedefined, Duplicate}
 use Rattle.scheme_model.specs.Requirements.{Known}

@@ -1,7 +1,7 @@
 -- What is seen of forms while they are gone through, and what a record defines (R7RS 4.3, 5.3.2, 5.5).
-use Rattle.std.specs.Prelude.{ℕ, List, map, Bool, true, false, Option, Some, None, ◌≡◌, [], ◌∷◌}
+use Rattle.std.specs.Prelude.{ℕ, List, map, Bool, true, false, Option, Some, None}
 use Rattle.scheme_model.specs.declared.Occ.{Occ}
-use Rattle.scheme_model.specs.Trees.{Tree, name, atom, list, vector, no_trees, tree, Trees}
+use Rattle.scheme_model.specs.Trees.{Tree, name, atom, list, vector, no_trees, tree}
 use Rattle.scheme_model.specs.Keywords.{CoreKeyword, IsQuote, IsQuasiquote, IsLambda, IsCaseLambda, IsIf, IsSet, IsBegin, IsDefine, IsDefineValues, IsDefineRecordType, IsDefineSyntax, IsLetSyntax, IsLetrecSyntax, IsCondExpand, IsSyntaxError, IsInclude}
 use Rattle.scheme_model.specs.ExpansionFaults.{Named}
 use Rattle.scheme_model.specs.Shapes.{FieldShape as ModelField}

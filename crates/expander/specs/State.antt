@@ -8,7 +8,7 @@ use Rattle.std.specs.Ordering.{nat_cmp}
 use Rattle.scheme_model.specs.Identifiers.{Number}
 use Rattle.scheme_model.specs.Ident.{Ident as Identifier}
 use Rattle.scheme_model.specs.Meaning.{Meaning, Local, Global, Standard, Free}
-use Rattle.scheme_model.specs.Leaves.{Leaf, leaves_of}
+use Rattle.scheme_model.specs.Leaves.{leaves_of}
 use Rattle.scheme_model.specs.Order.{Transformer, is_some, max_uses, max_nodes}
 use Rattle.scheme_model.specs.Substitution.{Defined, Table, defined_in, definition_count}
 use Rattle.scheme_model.specs.ScopedExpansion.{Frame, Bind, Enter, Frames, BodyDefinitions, ScopedState, around, macro_at}
@@ -23,7 +23,6 @@ use Rattle.syntax_tree.specs.declared.units.UnitKind.TheVariants as kind
 use Rattle.scope_env.specs.Environment.{Environment}
 use Rattle.scope_env.specs.Standing.{EnvFor, StandsFor}
 use Rattle.scope_env.specs.Moved.{parent_of, IsNamed, AreNamed, AreGivenNamed}
-use Rattle.core_forms.specs.Parts.{IsName}
 use Rattle.core_tree.specs.Names.{AllMatch, IsTarget, IsUse}
 use Rattle.core_tree.specs.Units.{IsDefinition, defined_by}
 use Rattle.core_tree.specs.declared.cores.Binder as code_binder

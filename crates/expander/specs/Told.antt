@@ -1,5 +1,5 @@
 -- The faults of forms that were misread, and of rules that are none, as the definition tells them.
-use Rattle.std.specs.Prelude.{◌≡◌, ℕ, Option, Some, None, Result, Err, Ok}
+use Rattle.std.specs.Prelude.{◌≡◌, ℕ, Option, Some, None, Result, Err}
 use Rattle.std.specs.Option.{option_map}
 use Rattle.scheme_model.specs.declared.Occ.{Occ}
 use Rattle.scheme_model.specs.ExpansionFaults.{Named, named, Fault, BadRules, TwoEllipses, DuplicateVariable, EllipsisDepth, IdleEllipsis, BadForm, DuplicateBinder, BadPlace, BadRecord, BadQuasi, fault_code, fault_name}

@@ -28,14 +28,13 @@ use Rattle.rules_build.specs.declared.fault.BuildFault.TheVariants as builds
 use Rattle.rules_match.specs.Matches.{means_same}
 use Rattle.core_tree.specs.Names.{IsTarget}
 use Rattle.expander.specs.State.{Stands}
-use Rattle.expander.specs.Kept.{NoteFor, NotesFor}
+use Rattle.expander.specs.Kept.{NoteFor}
 use Rattle.expander.specs.Outcomes.{At, MayFill}
 use Rattle.expander.specs.Counts.{plain_fault, with_nodes}
 use Rattle.expander.specs.Macros.{macro_in}
 use Rattle.expander.specs.declared.macros.Macro.{Macro}
 use Rattle.expander.specs.declared.fault.ExpandFault.{ExpandFault}
 use Rattle.expander.specs.declared.fault.ExpandFault.TheVariants as fault
-use Rattle.expander.specs.declared.asked.Asked.{Asked}
 use Rattle.expander.specs.declared.asked.Note as code_note
 use Rattle.expander.specs.declared.asked.Note.TheVariants as notes
 use Rattle.expander.specs.declared.scope.UnitScope.{UnitScope}

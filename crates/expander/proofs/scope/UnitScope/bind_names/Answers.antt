@@ -1,10 +1,9 @@
-use Rattle.std.proofs.Common.{◌≡◌, ℕ, ◌+◌, ◌<◌, List, [], ◌∷◌, ◌++◌, length, take, get_or, None, sym, ap, ◌∙◌, subst, arith}
-use Rattle.std.proofs.lemmas.List.{length-append}
-use Rattle.scope_env.specs.Environment.{Environment, with_child, with_bound, new_scope}
+use Rattle.std.proofs.Common.{◌≡◌, ◌+◌, [], ◌∷◌, ◌++◌, length, take, get_or, None, sym, ap, ◌∙◌, arith}
+use Rattle.scope_env.specs.Environment.{with_child, with_bound}
 use Rattle.syntax_tree.specs.declared.meaning.Meaning.TheVariants.{Local}
 use Rattle.core_forms.specs.declared.shape.NamePart.{NamePart}
 use Rattle.expander.specs.declared.scope.UnitScope.{UnitScope}
-use Rattle.expander.specs.Binds.{local_binder, local_binders, with_locals, with_names}
+use Rattle.expander.specs.Binds.{local_binder, local_binders, with_locals}
 use Rattle.expander.proofs.BindLaws.{binders_more, names_more, child_count, scopes_stay}
 use Rattle.expander.proofs.scope.UnitScope.bind_names.Goals as goal
 

@@ -1,4 +1,4 @@
-use Rattle.std.proofs.Common.{ℕ, Ok, Err, refl}
+use Rattle.std.proofs.Common.{ℕ, refl}
 use Rattle.scheme_model.specs.Cores.{Core, Const}
 use Rattle.scheme_model.specs.Steps.{Step, done}
 use Rattle.scheme_model.specs.Expression.{node}

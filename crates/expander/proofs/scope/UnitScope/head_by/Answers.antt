@@ -1,4 +1,4 @@
-use Rattle.std.proofs.Common.{subst, sym, true}
+use Rattle.std.proofs.Common.{subst}
 use Rattle.scheme_model.specs.Order.{is_some}
 use Rattle.scheme_model.specs.ScopedExpansion.{macro_at}
 use Rattle.syntax_tree.specs.Meant.{IsMeaning}

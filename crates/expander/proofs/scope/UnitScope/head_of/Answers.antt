@@ -1,4 +1,3 @@
-use Rattle.std.proofs.Common.{ℕ, ◌<◌}
 use Rattle.syntax_tree.proofs.Places.{get_within}
 use Rattle.scheme_model.specs.CountedExpansion.{means_here}
 use Rattle.expander.proofs.scope.UnitScope.head_of.Goals as goal

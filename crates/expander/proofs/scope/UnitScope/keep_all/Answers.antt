@@ -1,4 +1,4 @@
-use Rattle.std.proofs.Common.{◌≡◌, ℕ, ◌+◌, ◌<◌, ◌≤◌, List, [], length, get_or, true, Option, None, Result, Ok, Err, refl, sym, ap, ◌∙◌, subst, arith}
+use Rattle.std.proofs.Common.{◌<◌, ◌≤◌, length, get_or, true, None, refl, ◌∙◌, arith}
 use Rattle.core_forms.specs.declared.shape.LocalMacro.{LocalMacro}
 use Rattle.core_tree.specs.declared.cores.Binder as code_binder
 use Rattle.expander.proofs.KeepLaws.{heads_tell, next_macro, rules_there, looks_on, none_kept, one_kept, rules_fail, all_kept}

@@ -1,5 +1,4 @@
-use Rattle.std.proofs.Common.{List, map, filter, ap, ◌∙◌}
-use Rattle.expander.specs.declared.uses.Comparison.{Comparison}
+use Rattle.std.proofs.Common.{ap, ◌∙◌}
 use Rattle.expander.proofs.HeldLaws.{are_held, pairs_held}
 use Rattle.expander.proofs.scope.UnitScope.make_use.Goals as goal
 

@@ -1,4 +1,4 @@
-use Rattle.std.proofs.Common.{◌≡◌, ℕ, ◌+◌, ◌≤◌, Result, Ok, Err, refl, subst, arith, ap, ◌∙◌}
+use Rattle.std.proofs.Common.{◌≡◌, ℕ, ◌+◌, ◌≤◌, Ok, Err, refl, subst, arith}
 use Rattle.scheme_model.specs.Ident.{symbol_of}
 use Rattle.scheme_model.specs.Measures.{tree_size}
 use Rattle.scheme_model.specs.Trees.{map_tree}
@@ -12,22 +12,6 @@ use Rattle.expander.specs.Searched.{searched}
 use Rattle.expander.specs.Stepped.{spent}
 use Rattle.expander.specs.Outcomes.{EndsHere}
 use Rattle.expander.proofs.NodeLaws.{begins_goes, begins_fails, here_done, here_err}
-use Rattle.expander.proofs.FitLaws.{shape_fits}
-use Rattle.expander.proofs.ShapeLaws.{core_form_is}
-use Rattle.expander.proofs.CoreStandLaws.{core_on}
-use Rattle.expander.proofs.HeldLaws.{are_held}
-use Rattle.expander.proofs.ReadLaws.{keyword_fault}
-use Rattle.expander.proofs.RowLaws.{row_goes}
-use Rattle.expander.proofs.AfterLaws.{runs_after}
-use Rattle.expander.proofs.CoreLaws.{macros_are}
-use Rattle.expander.proofs.SettleLaws.{so_far_settles}
-use Rattle.expander.proofs.PrepareLaws.{prepares}
-use Rattle.expander.proofs.HoleLaws.{quasi_holes}
-use Rattle.expander.proofs.BelowLaws.{node_below}
-use Rattle.expander.proofs.LoopLaws.{runs_more}
-use Rattle.expander.proofs.FormLaws.{quoted_is}
-use Rattle.expander.proofs.StepLaws.{node_runs}
-use Rattle.expander.proofs.ListLaws.{call_reads}
 use Rattle.expander.proofs.scope.UnitScope.quote.Goals as goal
 
 pub overflow_add-size : goal.overflow_add-size

@@ -1,7 +1,7 @@
-use Rattle.std.proofs.Common.{refl, sym, ap, ◌∙◌, subst}
-use Rattle.scheme_model.specs.Trees.{Tree, list}
+use Rattle.std.proofs.Common.{sym, ap, ◌∙◌, subst}
+use Rattle.scheme_model.specs.Trees.{Tree}
 use Rattle.scheme_model.specs.Ident.{Ident as Identifier}
-use Rattle.scheme_model.specs.Cores.{Core, Const}
+use Rattle.scheme_model.specs.Cores.{Const}
 use Rattle.scheme_model.specs.Steps.{done}
 use Rattle.scheme_model.specs.Expression.{node, quote, reference, expression}
 use Rattle.syntax_tree.specs.Works.{StandsFor}

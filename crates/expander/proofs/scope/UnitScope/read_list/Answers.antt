@@ -1,5 +1,5 @@
 use Rattle.std.proofs.Common.{subst}
-use Rattle.scheme_model.specs.Trees.{Tree, list, tree, name}
+use Rattle.scheme_model.specs.Trees.{Tree, list, name}
 use Rattle.scheme_model.specs.Ident.{Ident as Identifier}
 use Rattle.scheme_model.specs.Order.{target_of}
 use Rattle.scheme_model.specs.Expression.{core_form, expression}

@@ -1,8 +1,5 @@
-use Rattle.std.proofs.Common.{ℕ, ◌+◌, ◌*◌, ◌^◌, Result}
-use Rattle.scheme_model.specs.Steps.{Broken}
-use Rattle.scheme_model.specs.Cores.{Core}
+use Rattle.std.proofs.Common.{ℕ, ◌+◌, ◌*◌, ◌^◌}
 use Rattle.scheme_model.specs.Expression.{whole, expand}
-use Rattle.scheme_model.specs.ScopedExpansion.{ScopedState}
 use Rattle.expander.specs.Searched.{searched}
 use Rattle.expander.proofs.AfterLaws.{all_known, enough_there}
 use Rattle.expander.proofs.LoopLaws.{knows_on}

@@ -1,4 +1,4 @@
-use Rattle.std.proofs.Common.{◌≡◌, ℕ, ◌+◌, ◌*◌, ◌^◌, ◌≤◌, refl, ◌∙◌, arith}
+use Rattle.std.proofs.Common.{◌≡◌, ◌+◌, ◌*◌, ◌^◌, ◌≤◌, refl, ◌∙◌, arith}
 use Rattle.scheme_model.specs.Expression.{whole, expand}
 use Rattle.scheme_model.specs.Order.{use_of}
 use Rattle.expander.specs.Searched.{searched}

@@ -1,6 +1,5 @@
-use Rattle.std.proofs.Common.{◌≡◌, ℕ, ◌+◌, List, [], ◌∷◌, ◌++◌, take, get_or, None, sym, ap, ◌∙◌, arith}
+use Rattle.std.proofs.Common.{◌≡◌, ◌+◌, [], ◌∷◌, ◌++◌, take, get_or, None, sym, ap, ◌∙◌, arith}
 use Rattle.core_forms.specs.declared.shape.NamePart.{NamePart}
-use Rattle.core_tree.specs.declared.cores.Binder.{Binder}
 use Rattle.expander.specs.declared.scope.UnitScope.{UnitScope}
 use Rattle.expander.specs.Binds.{local_binder, local_binders, with_locals}
 use Rattle.expander.proofs.BindLaws.{binders_more}

@@ -1,11 +1,10 @@
-use Rattle.std.proofs.Common.{◌≡◌, ℕ, ◌+◌, ◌<◌, ◌≤◌, List, [], length, Option, None, Result, Ok, Err, refl, sym, ap, ◌∙◌, subst, arith}
+use Rattle.std.proofs.Common.{◌+◌, [], None, Ok, Err, refl, sym, subst}
 use Rattle.scheme_model.specs.Trees.{Trees}
 use Rattle.scheme_model.specs.Matching.{behind}
 use Rattle.scheme_model.specs.Expression.{heads}
 use Rattle.core_forms.specs.declared.shape.LocalMacro.{LocalMacro}
 use Rattle.expander.specs.RulesTold.{Tests}
 use Rattle.expander.specs.Searched.{searched}
-use Rattle.expander.specs.declared.fault.ExpandFault.{ExpandFault}
 use Rattle.expander.proofs.RulesHeads.{macro_there, macros_past, one_tested, head_fails, tests_err}
 use Rattle.expander.proofs.scope.UnitScope.test_all_rules.Goals as goal
 

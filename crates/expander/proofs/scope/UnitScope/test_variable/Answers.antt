@@ -1,6 +1,6 @@
-use Rattle.std.proofs.Common.{◌≡◌, true, false, Err, sym, ◌∙◌, subst}
+use Rattle.std.proofs.Common.{◌≡◌, true, Err, sym, ◌∙◌, subst}
 use Rattle.scheme_model.specs.Order.{head_of}
-use Rattle.scheme_model.specs.Meaning.{Head, is_keyword}
+use Rattle.scheme_model.specs.Meaning.{is_keyword}
 use Rattle.expander.specs.Ready.{TestsVariable}
 use Rattle.expander.specs.Searched.{searched}
 use Rattle.expander.specs.declared.fault.ExpandFault.{ExpandFault}
