@@ -8,22 +8,19 @@ ghost use Rattle.scheme_model.specs.Measures.{trees_size};
 ghost use Rattle.scheme_model.specs.Requirements.{Known};
 ghost use Rattle.scheme_model.specs.Trees.{Trees};
 ghost use Rattle.scheme_model.specs.Steps.{done};
-ghost use Rattle.scheme_model.specs.Cores.{Core as ModelCore, Set};
-ghost use Rattle.scheme_model.specs.Order.{RulesParts, target_of};
+ghost use Rattle.scheme_model.specs.Order.{RulesParts};
 ghost use Rattle.scheme_model.specs.Expression.{heads, keep_all, local_defs};
 ghost use Rattle.scheme_model.specs.ScopedExpansion.{Frames, ScopedState};
 ghost use Rattle.syntax_tree.specs.Looks.{PartsStand};
 ghost use Rattle.syntax_tree.specs.Works.{IsOpened};
 ghost use Rattle.syntax_tree.specs.declared.trees.table.Region.{Region as AnyRegion};
-ghost use Rattle.core_forms.specs.Parts.{AreMacros, IsName};
-ghost use Rattle.core_tree.specs.Cores.{CoreStands};
+ghost use Rattle.core_forms.specs.Parts.{AreMacros};
 ghost use Rattle.core_tree.specs.Names.{AllMatch, IsMacro as IsMacroDef};
 ghost use Rattle.expander.specs.Bodies.{AreLocalMacros, BodyFor, CanEnter, CanKeep, HaveHeads, HaveNumbers, HaveRules, body_pass};
 ghost use Rattle.expander.specs.Searched.{searched};
 ghost use Rattle.expander.specs.State.{Stands};
 ghost use Rattle.expander.specs.Outcomes.{At as Stand, CanLook, EndsHere, Runs};
 ghost use Rattle.expander.specs.RulesTold.{Tests};
-ghost use Rattle.expander.specs.Defining.{HasNumber};
 
 
 use crate::asked::Asked;
@@ -32,7 +29,7 @@ use crate::fault::ExpandFault;
 use crate::items::{Form, Kept, Pending, Spot};
 use crate::scope::UnitScope;
 use core_forms::{LocalMacro, NamePart};
-use core_tree::cores::{Binder, Core, MacroDef};
+use core_tree::cores::{Binder, MacroDef};
 use ls_base::Mem;
 use scheme_model::Occ;
 use scope_env::ScopeNo;
@@ -175,26 +172,5 @@ impl UnitScope {
             defs.push(def)?;
         }
         Ok(defs)
-    }
-
-    /// An assignment that a later definition of a program's variable is read as.
-    pub(crate) fn assigned(
-        &self,
-        alloc: Global,
-        work: &Work,
-        at: At,
-        name: NamePart,
-        value: Core,
-    ) -> Mem<Core>
-        requires look { CanLook work.now self.now at.scope }
-        requires name { HasNumber work.now name }
-        ensures { (known : Known) (ls : List Frames) (s : ScopedState) (fs : Frames) (n : Named Identifier) (m : ModelCore) → Stands work.now self.now ls s → Stand ls at.scope fs →
-            IsName work.now name n → CoreStands work.now s.unit s.form value m →
-            IfOk result (λ core. CoreStands work.now s.unit s.form core (Set (target_of (searched known) fs s n.name n.occ) m)) }
-    {
-        Ok(Core::Set {
-            target: self.target(work, at.scope, name),
-            value: Box::new(alloc, value)?,
-        })
     }
 }
