@@ -103,7 +103,7 @@ numbers_are unit form n (m ∷ ns) (x ∷ xs) h =
 
 -- ---- the scope of the names
 
-roots_stay : (env : Environment) (at n : ℕ) (xs : List NamePart) → (with_names env at n xs).roots ≡ env.roots
+pub roots_stay : (env : Environment) (at n : ℕ) (xs : List NamePart) → (with_names env at n xs).roots ≡ env.roots
 roots_stay env at n [] = refl
 roots_stay env at n (x ∷ xs) = roots_stay (with_bound env at x.ident (Local n)) at (n + 1) xs
 

@@ -75,7 +75,7 @@ module _ (work : Work) (region : Region) (u w : UnitScope) (scope inner : ℕ) (
       stands = body_stands work u ls s scope fs sound at e;
       work = grows_itself work region;
       counted = omega arith;
-      same = record { unit = refl; number = refl; root = refl; libraries = refl; uses = omega arith; nodes = omega arith };
+      same = record { unit = refl; number = refl; root = refl; libraries = refl; roots = refl; uses = omega arith; nodes = omega arith };
     }
 
     pub inside_stands : Stands work w inside (entered s)

@@ -21,7 +21,7 @@ use Rattle.syntax_tree.specs.Names.{AreToldApart}
 use Rattle.syntax_tree.specs.declared.trees.Work.{Work}
 use Rattle.syntax_tree.specs.declared.trees.table.Region.{Region}
 use Rattle.syntax_tree.proofs.Places.{get_front, get_next}
-use Rattle.scope_env.specs.Environment.{IsSound}
+use Rattle.scope_env.specs.Environment.{IsSound, with_child}
 use Rattle.core_forms.specs.Parts.{AllMatch as AllParts, IsName}
 use Rattle.core_forms.specs.declared.shape.NamePart.{NamePart}
 use Rattle.core_tree.specs.Names.{AllMatch, IsBinder}
@@ -89,6 +89,7 @@ module _ (work : Work) (region : Region) (u w : UnitScope) (ls : List Frames) (s
         number = ap (λ (x : UnitScope). x.form.number) h.after;
         root = ap (λ (x : UnitScope). x.root) h.after;
         libraries = ap (λ (x : UnitScope). x.libraries) h.after;
+        roots = ap (λ (x : UnitScope). x.env.roots) h.after ∙ roots_stay (with_child u.env scope) (length u.env.scopes) u.form.budget.locals xs;
         uses = omega (arith, ap (λ (x : UnitScope). x.form.budget.uses) h.after);
         nodes = omega (arith, ap (λ (x : UnitScope). x.form.budget.nodes) h.after);
       };

@@ -223,26 +223,26 @@ pub record SamePlace (u w : UnitScope) : Type 0 where
   pub same : SameForm u w
   pub takes : Takes 1 u w
 
-same_but : (u w : UnitScope) → w.unit ≡ u.unit → w.root ≡ u.root → w.libraries ≡ u.libraries → w.form.number ≡ u.form.number → w.form.budget.locals ≤ u.form.budget.locals + 1 → w.form.budget.uses ≡ u.form.budget.uses → w.form.budget.nodes ≡ u.form.budget.nodes → SamePlace u w
-same_but u w unit root libraries number locals uses nodes = record {
-  same = record { unit = unit; number = number; root = root; libraries = libraries; uses = omega (arith, uses); nodes = omega (arith, nodes) };
+same_but : (u w : UnitScope) → w.unit ≡ u.unit → w.root ≡ u.root → w.libraries ≡ u.libraries → w.env.roots ≡ u.env.roots → w.form.number ≡ u.form.number → w.form.budget.locals ≤ u.form.budget.locals + 1 → w.form.budget.uses ≡ u.form.budget.uses → w.form.budget.nodes ≡ u.form.budget.nodes → SamePlace u w
+same_but u w unit root libraries roots number locals uses nodes = record {
+  same = record { unit = unit; number = number; root = root; libraries = libraries; roots = roots; uses = omega (arith, uses); nodes = omega (arith, nodes) };
   takes = record { locals = locals; uses = uses; nodes = nodes };
 }
 
 pub same_placed : (u w : UnitScope) (b k : Bool) (scope ident : ℕ) (m : Meaning) → Places u w b scope ident m k → SamePlace u w
 same_placed u w true k scope ident m p =
-    same_but u w (λ j. (p j).unit) (λ j. (p j).root) (λ j. (p j).libraries) (λ j. (p j).form.number)
+    same_but u w (λ j. (p j).unit) (λ j. (p j).root) (λ j. (p j).libraries) (λ j. (p j).env.roots) (λ j. (p j).form.number)
     (let e : w.form.budget.locals ≡ u.form.budget.locals + 1 = λ j. (p j).form.budget.locals in omega arith) (λ j. (p j).form.budget.uses) (λ j. (p j).form.budget.nodes)
 same_placed u w false k scope ident m p =
     let q = p.1 in
-    same_but u w (λ j. (q j).unit) (λ j. (q j).root) (λ j. (q j).libraries) (λ j. (q j).form.number)
+    same_but u w (λ j. (q j).unit) (λ j. (q j).root) (λ j. (q j).libraries) (λ j. (q j).env.roots) (λ j. (q j).form.number)
     (let e : w.form.budget.locals ≡ u.form.budget.locals = λ j. (q j).form.budget.locals in omega arith) (λ j. (q j).form.budget.uses) (λ j. (q j).form.budget.nodes)
 
 pub same_kept : (u w : UnitScope) (ms : Macros) → SamePlace u w → SamePlace u (with_macros w ms)
 same_kept u w ms h =
     let a = h.same in
     let b = h.takes in
-    same_but u (with_macros w ms) a.unit a.root a.libraries a.number b.locals b.uses b.nodes
+    same_but u (with_macros w ms) a.unit a.root a.libraries a.roots a.number b.locals b.uses b.nodes
 
 -- ---- it ends well
 

@@ -294,7 +294,7 @@ in_after_same P work u w v ls spot fs (Err fault.Memory) x same h = h
 -- ---- records
 
 pub taken_same : (u : UnitScope) (n : ℕ) → SameForm u (with_locals u (u.form.budget.locals + n))
-taken_same u n = record { unit = refl; number = refl; root = refl; libraries = refl; uses = omega arith; nodes = omega arith }
+taken_same u n = record { unit = refl; number = refl; root = refl; libraries = refl; roots = refl; uses = omega arith; nodes = omega arith }
 
 abbrev pub with_fields : List Binder → List Binder × Pending Identifier Place → Step ScopedState (List Binder × (List Binder × Pending Identifier Place))
 with_fields bs q = done (bs, q)

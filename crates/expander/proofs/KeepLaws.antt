@@ -188,7 +188,7 @@ module _ (known : Known) (here : Here) (fs : Frames) (work : Work) (region : Reg
             stands = kept_stands work w ls t ms (meanings.Local b.number) (Local n.number) m (record { env = fs; rules = ends.0 }) apart told keeps tt (number_there t ends.1) ends.3 ends.1.stands;
             work = grows_itself work region;
             counted = omega arith;
-            same = record { unit = refl; number = refl; root = refl; libraries = refl; uses = omega arith; nodes = omega arith };
+            same = record { unit = refl; number = refl; root = refl; libraries = refl; roots = refl; uses = omega arith; nodes = omega arith };
           });
           rest = split ∙ bound_goes one next_kept ends.0 ends.2;
         }

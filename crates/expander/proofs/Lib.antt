@@ -39,7 +39,6 @@ pub mod DeclareLaws
 pub mod PreludeLaws
 pub mod CopyLaws
 pub mod NodeLaws
-pub mod EqualMeanings
 pub mod SearchedNotes
 pub mod DefineLaws
 pub mod DefinitionSteps

@@ -180,7 +180,7 @@ meets work region u v ls s x k is for e = subst (λ (w : UnitScope). Stays work 
   stands = keyword_stands work u ls s x k for e;
   work = grows_itself work region;
   counted = omega arith;
-  same = record { unit = refl; number = refl; root = refl; libraries = refl; uses = omega arith; nodes = omega arith };
+  same = record { unit = refl; number = refl; root = refl; libraries = refl; roots = refl; uses = omega arith; nodes = omega arith };
 })
 
 pub meets_here : (work : Work) (u v : UnitScope) (ls : List Frames) (s : ScopedState) (x : code_target.Target) (k : Target) → v ≡ with_keyword u x → IsTarget work.symbols s.unit s.form x k → Stands work u ls s → Stands work v ls (met k s)

@@ -51,7 +51,7 @@ spends work region u ls s n within e = record {
   stands = nodes_stand work u ls s n within e;
   work = grows_itself work region;
   counted = omega arith;
-  same = record { unit = refl; number = refl; root = refl; libraries = refl; uses = omega arith; nodes = omega arith };
+  same = record { unit = refl; number = refl; root = refl; libraries = refl; roots = refl; uses = omega arith; nodes = omega arith };
 }
 
 module _ (known : Known) (work : Work) (region : Region) (u : UnitScope) (ls : List Frames) (s : ScopedState) (here : Option Occ) (n : ℕ) (e : Stands work u ls s) where

@@ -182,7 +182,7 @@ keyword_stays work region u ls s x k is e = record {
   stands = keyword_stands work u ls s x k is e;
   work = grows_itself work region;
   counted = omega arith;
-  same = record { unit = refl; number = refl; root = refl; libraries = refl; uses = omega arith; nodes = omega arith };
+  same = record { unit = refl; number = refl; root = refl; libraries = refl; roots = refl; uses = omega arith; nodes = omega arith };
 }
 
 -- what definitions demand

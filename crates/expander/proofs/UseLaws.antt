@@ -211,7 +211,7 @@ module _ (known : Known) (here : Option Occ) (fs : Frames) (keyword : Target) (m
       begun_stands = use_begins work u ls s scope m.env there (omega (arith, few)) e
 
       begun_stays : Stays work work region u (with_use_begun u scope) ls begun
-      begun_stays = record { stands = begun_stands; work = grows_itself work region; counted = omega arith; same = record { unit = refl; number = refl; root = refl; libraries = refl; uses = omega arith; nodes = omega arith } }
+      begun_stays = record { stands = begun_stands; work = grows_itself work region; counted = omega arith; same = record { unit = refl; number = refl; root = refl; libraries = refl; roots = refl; uses = omega arith; nodes = omega arith } }
 
       placed : (unit form : ℕ) (i : Identifier) (o : Option Occ) → placed_in unit form here o ≡ fault_occ unit form (Some (named i o)) here
       placed unit form i None = refl
@@ -293,7 +293,7 @@ module _ (known : Known) (here : Option Occ) (fs : Frames) (keyword : Target) (m
                 stands = use_stands new grown ls (spent b.count begun) (record { keyword = x; literals = met }) (met_now c) (record { keyword = target_on work new grows.trees grows.names apart told s.unit s.form x keyword target; literals = literals }) grown_stands;
                 work = grows;
                 counted = omega (arith, few);
-                same = record { unit = refl; number = refl; root = refl; libraries = refl; uses = omega arith; nodes = omega arith };
+                same = record { unit = refl; number = refl; root = refl; libraries = refl; roots = refl; uses = omega arith; nodes = omega arith };
               },
               refl,
               (stands, can),
