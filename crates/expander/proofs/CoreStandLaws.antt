@@ -115,7 +115,7 @@ module _ (old new : Work) (trees : KeepsTrees old new) (names : KeepsNames old.s
     leaf_on : (x : code_leaf.RuleLeaf) (l : RuleLeaf) → IsLeaf old.symbols unit form x l → IsLeaf new.symbols unit form x l
     leaf_on x l h = record { target = target_on x.target l.target h.target; literal = h.literal }
 
-    macro_def_on : (x : code_macro.MacroDef) (d : MacroDef) → IsMacro old unit form x d → IsMacro new unit form x d
+    pub macro_def_on : (x : code_macro.MacroDef) (d : MacroDef) → IsMacro old unit form x d → IsMacro new unit form x d
     macro_def_on x d h = record {
       binder = binder_on x.binder d.binder h.binder;
       rules = rules_stand_on x.rules d.rules h.rules;

@@ -32,7 +32,7 @@ use Rattle.core_forms.specs.declared.fault.CoreFault.{CoreFault}
 use Rattle.core_tree.specs.Cores.{CoreStands}
 use Rattle.core_tree.specs.Traces.{IsFault}
 use Rattle.core_tree.specs.declared.cores.Core as code_core
-use Rattle.expander.specs.CoreSteps.{core_step}
+use Rattle.expander.specs.CoreSteps.{core_step, IsLeft}
 use Rattle.expander.specs.Counts.{plain_fault, text_fault}
 use Rattle.expander.specs.Marked.{mark_within, mark_here}
 use Rattle.expander.specs.Passed.{ShapeFits}
@@ -187,12 +187,12 @@ module _ (known : Known) (depth : ℕ) (here : Here) (fs : Frames) (s : ScopedSt
         go fault.Full h = absurd h
         go fault.Memory h = leaves_itself work region u stands.form.few_nodes
 
-    pub shape_reads : (k : code_keyword.CoreKeyword) (shape : code_shape.CoreShape) (m : Shape) → keyword_as k ≡ Some c → shape_here ≡ Ok m → ShapeFor work shape m → ShapeNamed work region shape → trees_size ts ≤ 4194304 →
+    pub shape_reads : (k : code_keyword.CoreKeyword) (shape : code_shape.CoreShape) (m : Shape) → keyword_as k ≡ Some c → shape_here ≡ Ok m → ShapeFor work shape m → ShapeNamed work region shape → trees_size ts ≤ 4194304 → IsLeft m →
         Reads known depth here work region u u ls fs (Ok (ready.Shape k shape)) forms
-    shape_reads k shape m is read for named few = (
+    shape_reads k shape m is read for named few left = (
       s,
       stays_itself work region u ls s stands,
-      (c, m, is, for, named, shape_fits c true (λ i. mark_of (head_of (searched known) fs s i)) ts tail m few read, λ f. shaped_goes f m read),
+      (c, m, is, for, named, (shape_fits c true (λ i. mark_of (head_of (searched known) fs s i)) ts tail m few read, left), λ f. shaped_goes f m read),
     )
 
     -- a fault at once
@@ -280,3 +280,21 @@ inclusion_is work x (Local l) e h = let at = h.1.1 in absurd cc
 inclusion_is work x (Choices cs) e h = let at = h.1 in absurd cc
 inclusion_is work x (ErrorText text) e h = let at = h.1 in absurd cc
 inclusion_is work x Inclusion e h = refl
+
+-- one that is none of these is left to be done
+pub shape_left : (work : Work) (x : code_shape.CoreShape) (m : Shape) → ShapeFor work x m → ((n : number.Tree) → x ≡ shapes.Quote n → ⊥) → ((n : ℕ) → x ≡ shapes.SyntaxError n → ⊥) → (x ≡ shapes.Include → ⊥) → IsLeft m
+shape_left work x (Quoted t) h quoted text inclusion = quoted h.0 h.1
+shape_left work x (Quasi t p) h quoted text inclusion = tt
+shape_left work x (Procedure d) h quoted text inclusion = tt
+shape_left work x (Procedures cs) h quoted text inclusion = tt
+shape_left work x (Conditional us) h quoted text inclusion = tt
+shape_left work x (Assignment p) h quoted text inclusion = tt
+shape_left work x (Sequence us) h quoted text inclusion = tt
+shape_left work x (Definition d) h quoted text inclusion = tt
+shape_left work x (Several p) h quoted text inclusion = tt
+shape_left work x (RecordType r) h quoted text inclusion = tt
+shape_left work x (Syntax p) h quoted text inclusion = tt
+shape_left work x (Local l) h quoted text inclusion = tt
+shape_left work x (Choices cs) h quoted text inclusion = tt
+shape_left work x (ErrorText text) h quoted error inclusion = error h.0 h.1
+shape_left work x Inclusion h quoted text inclusion = inclusion h

@@ -65,6 +65,7 @@ pub mod PassSteps
 pub mod WeightLaws
 pub mod PassLaws
 pub mod ShapeKinds
+pub mod ShapeParts
 pub mod HoleLaws
 pub mod PassLoop
 pub mod BodyPass
@@ -82,3 +83,9 @@ pub mod LoopLaws
 pub mod FormLaws
 pub mod StepLaws
 pub mod ListLaws
+pub mod ExpandLaws
+pub mod RowRuns
+pub mod KeptKinds
+pub mod BodyRuns
+pub mod FormRuns
+pub mod LocalRuns

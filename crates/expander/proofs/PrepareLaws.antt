@@ -22,7 +22,7 @@ use Rattle.core_tree.specs.Cores.{CoreStands}
 use Rattle.core_tree.specs.declared.cores.Core as code_core
 use Rattle.std.specs.Prelude.{Vec}
 use Rattle.std.specs.declared.alloc.Global.{Global}
-use Rattle.expander.specs.CoreSteps.{core_step}
+use Rattle.expander.specs.CoreSteps.{core_step, IsLeft}
 use Rattle.expander.specs.State.{Stands}
 use Rattle.std.specs.Result.{IsErrAnd}
 use Rattle.expander.specs.Outcomes.{At, Stays, Ends, WorksOn, IsEnough, IsEnoughBelow}
@@ -100,7 +100,7 @@ module _ (known : Known) (depth : ℕ) (old mid : Work) (region : Region) (u w :
       (next h.0 h.6.0 h.2 h.3.stands h.4 h.6.1 h.6.2))
 
   pub prepared_shape : {V : Type 0} (Q : List Frames → V → Core → Type 0) (new : Work) (v : UnitScope) (k : code_keyword.CoreKeyword) (shape : code_shape.CoreShape) (result : Result V ExpandFault) → Prepares known depth old mid region u w ls fs (Ok (here, ready.Shape k shape)) p →
-      ((left : ℕ) (c : CoreKeyword) (m : Shape) (t : ScopedState) → Stands mid w ls t → IsEnoughBelow depth w.form.budget.uses left → keyword_as k ≡ Some c → ShapeFor mid shape m →
+      ((left : ℕ) (c : CoreKeyword) (m : Shape) (t : ScopedState) → Stands mid w ls t → IsEnoughBelow depth w.form.budget.uses left → keyword_as k ≡ Some c → ShapeFor mid shape m → ShapeFits m → IsLeft m →
       Ends Q mid new region w v ls result (core_step (expand (searched known) left) (searched known) depth here fs c m t)) →
       Ends Q old new region u v ls result p
   prepared_shape Q new v k shape result h next =
@@ -108,7 +108,7 @@ module _ (known : Known) (depth : ℕ) (old mid : Work) (region : Region) (u w :
       let all = h.5 ∙ h.6.6 f in
       subst (λ (q : Result Core Broken × ScopedState). Ends Q old new region u v ls result q) (sym all)
       (stays_then Q old mid new region u w v ls h.2 result (core_step f (searched known) depth here fs h.6.0 h.6.1 h.2) h.3
-      (next h.0 h.6.0 h.6.1 h.2 h.3.stands h.4 h.6.2 h.6.3))
+      (next h.0 h.6.0 h.6.1 h.2 h.3.stands h.4 h.6.2 h.6.3 h.6.5.0 h.6.5.1))
 
 -- ---- faults and looks
 

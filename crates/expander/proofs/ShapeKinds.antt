@@ -57,7 +57,7 @@ code_kind (shapes.CondExpand cs) = 12
 code_kind (shapes.SyntaxError s) = 13
 code_kind shapes.Include = 14
 
-same_kind : (work : Work) (x : code.CoreShape) (m : Shape) → ShapeFor work x m → code_kind x ≡ kind m
+pub same_kind : (work : Work) (x : code.CoreShape) (m : Shape) → ShapeFor work x m → code_kind x ≡ kind m
 same_kind work x (Quoted t) h = ap code_kind h.1
 same_kind work x (Quasi t p) h = ap code_kind h.1.1.1
 same_kind work x (Procedure c) h = ap code_kind h.1

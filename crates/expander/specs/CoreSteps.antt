@@ -47,3 +47,21 @@ core_step f ops depth here e k (Definition d) s = fails here BadPlace s
 core_step f ops depth here e k (Several d) s = fails here BadPlace s
 core_step f ops depth here e k (RecordType r) s = fails here BadPlace s
 core_step f ops depth here e k (Syntax d) s = fails here BadPlace s
+
+-- a shape that is left to be done once it was read: a datum that is quoted, the text of a fault and an inclusion are done at once
+abbrev pub IsLeft : Shape → Type 0
+IsLeft (Quoted t) = ⊥
+IsLeft (Quasi t p) = Unit {0}
+IsLeft (Procedure c) = Unit {0}
+IsLeft (Procedures cs) = Unit {0}
+IsLeft (Conditional us) = Unit {0}
+IsLeft (Assignment p) = Unit {0}
+IsLeft (Sequence ts) = Unit {0}
+IsLeft (Definition d) = Unit {0}
+IsLeft (Several d) = Unit {0}
+IsLeft (RecordType r) = Unit {0}
+IsLeft (Syntax d) = Unit {0}
+IsLeft (Local m) = Unit {0}
+IsLeft (Choices cs) = Unit {0}
+IsLeft (ErrorText text) = ⊥
+IsLeft Inclusion = ⊥

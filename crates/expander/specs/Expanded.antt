@@ -25,6 +25,7 @@ use Rattle.core_tree.specs.Cores.{CoreStands, IsClause}
 use Rattle.core_tree.specs.Names.{AllMatch}
 use Rattle.core_tree.specs.declared.cores.Clause as core_clause
 use Rattle.core_tree.specs.declared.cores.Core as code_core
+use Rattle.expander.specs.CoreSteps.{IsLeft}
 use Rattle.expander.specs.Kept.{ClauseFor, KeptFor}
 use Rattle.expander.specs.Passed.{ShapeFits}
 use Rattle.expander.specs.declared.items.Kept as code_kept
@@ -40,7 +41,7 @@ abbrev pub BodyAtWork : Work → Region → List number.Tree → Type 0
 BodyAtWork work region ns = (ts : Trees Identifier) × PartsStand work ns ts × AllNamed work region ns × (trees_size ts ≤ 4194304)
 
 abbrev pub ShapeAtWork : Work → Region → code_shape.CoreShape → Type 0
-ShapeAtWork work region x = (m : Shape) × ShapeFor work x m × ShapeNamed work region x × ShapeFits m
+ShapeAtWork work region x = (m : Shape) × ShapeFor work x m × ShapeNamed work region x × ShapeFits m × IsLeft m
 
 abbrev pub ClauseAtWork : Work → Region → code_clause.ClauseShape → Type 0
 ClauseAtWork work region x = (c : Clause Identifier) × ClauseFor work region x c

@@ -29,7 +29,7 @@ use Rattle.core_tree.specs.Traces.{IsFault}
 use Rattle.core_tree.specs.declared.cores.Core as code_core
 use Rattle.std.specs.declared.alloc.Global.{Global}
 use Rattle.expander.specs.Counts.{plain_fault, Begins}
-use Rattle.expander.specs.CoreSteps.{core_step}
+use Rattle.expander.specs.CoreSteps.{core_step, IsLeft}
 use Rattle.expander.specs.Outcomes.{Stays, Leaves, MayFill, Breaks, WorksOn, IsEnough, IsEnoughBelow}
 use Rattle.expander.specs.Passed.{ShapeFits}
 use Rattle.expander.specs.Searched.{searched}
@@ -126,7 +126,7 @@ ReadyFor known depth here work region unit form fs (ready.Call parts) step t =
     (ts : Trees Identifier) × PartsStand work parts.items ts × AllNamed work region parts.items
     × ((f : Expanding) → step f ≡ node (searched known) here 1 depth (λ below t1. each (λ u. f below here fs (whole u)) ts t1 >>= λ cs. done (Call cs)) t)
 ReadyFor known depth here work region unit form fs (ready.Shape k shape) step t =
-    (c : CoreKeyword) × (m : Shape) × (keyword_as k ≡ Some c) × ShapeFor work shape m × ShapeNamed work region shape × ShapeFits m
+    (c : CoreKeyword) × (m : Shape) × (keyword_as k ≡ Some c) × ShapeFor work shape m × ShapeNamed work region shape × (ShapeFits m × IsLeft m)
     × ((f : Expanding) → step f ≡ core_step f (searched known) depth here fs c m t)
 
 abbrev pub Reads : Known → (depth : ℕ) → Option Occ → Work → Region → UnitScope → UnitScope → List Frames → Frames → Result code_ready.Ready ExpandFault → (Expanding → Result Core Broken × ScopedState) → Type 0

@@ -16,7 +16,7 @@ ghost use Rattle.core_forms.specs.Parts.{AreMacros};
 ghost use Rattle.core_forms.specs.Named.{ShapeNamed};
 ghost use Rattle.core_tree.specs.Cores.{CoreStands, CoresStand, ClausesStand, PartStands, PartsStand as PartsOfCores};
 ghost use Rattle.core_tree.specs.Names.{AllMatch};
-ghost use Rattle.expander.specs.CoreSteps.{core_step, local_step};
+ghost use Rattle.expander.specs.CoreSteps.{core_step, IsLeft};
 ghost use Rattle.expander.specs.Searched.{searched};
 ghost use Rattle.expander.specs.Kept.{ClauseFor, KeptFor};
 ghost use Rattle.expander.specs.Passed.{ShapeFits};
@@ -111,7 +111,7 @@ impl UnitScope {
         requires core { (c : ModelKeyword) × (keyword_as core ≡ Some c) }
         requires shape { ShapeAtWork work.old region.now shape }
         requires room { HasRoom (2 ^ 43) self.old }
-        ensures runs { (c : ModelKeyword) (m : Shape) (turns : ℕ) → keyword_as core ≡ Some c → ShapeFor work.old shape m → IsEnoughBelow at.depth self.old.form.budget.uses turns →
+        ensures runs { (c : ModelKeyword) (m : Shape) (turns : ℕ) → keyword_as core ≡ Some c → ShapeFor work.old shape m → ShapeFits m → IsLeft m → IsEnoughBelow at.depth self.old.form.budget.uses turns →
             Runs (λ ls. CoreStands work.new self.new.unit self.new.form.number) work.old work.new region.now self.old self.new at.scope result (λ known fs. core_step (expand (searched known) turns) (searched known) at.depth at.here fs c m) }
         ensures locals { OnOk result (Spends 0 self.old self.new) }
     {
@@ -121,6 +121,7 @@ impl UnitScope {
                 places,
                 parts,
             } => {
+                work.trees_fit();
                 let below = self.below(at, outside(work, datum, &parts))?;
                 let parts = self.expand_all(alloc, work, region, below, &parts)?;
                 Ok(Core::Quasi {

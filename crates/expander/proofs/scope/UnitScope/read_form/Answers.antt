@@ -15,7 +15,7 @@ use Rattle.expander.specs.Told.{told, core_fault}
 use Rattle.expander.specs.declared.fault.ExpandFault.{ExpandFault}
 use Rattle.expander.proofs.NodeLaws.{plain_is}
 use Rattle.expander.proofs.ToldLaws.{misread_is}
-use Rattle.expander.proofs.FormLaws.{parsed_as, marks_there, shape_here, shaped_goes, misread_reads, shape_reads, refused_reads, here_reads, here_unread, quoted_is, text_is, inclusion_is}
+use Rattle.expander.proofs.FormLaws.{parsed_as, marks_there, shape_here, shaped_goes, misread_reads, shape_reads, refused_reads, here_reads, here_unread, quoted_is, text_is, inclusion_is, shape_left}
 use Rattle.expander.proofs.scope.UnitScope.read_form.Goals as goal
 
 pub returns-in-Err-clause-read : goal.returns-in-Err-clause-read
@@ -109,6 +109,7 @@ returns c = record {
       let t = list (tree head ts) end o in
       let read = parsed_as w c.args.core k c.in_ok-marks.marks (mark_here s fs) head ts end o (Ok c.in-Ok.shape) is (λ q. c.in_ok-marks.ensures.marks q ls s fs t e at works.0) c.in_ok-marks.ensures.none (λ m are. c.in-Ok.ensures.shape k m t is are works.0) in
       let few : trees_size ts ≤ 4194304 = omega (arith, c.trees_fit.ensures.nodes c.args.form t works.0) in
-      shape_reads known c.args.at.depth c.args.at.here fs s k ts end w region c.args.self.now ls e c.args.core c.in-Ok.shape read.0 is read.1 read.2 (c.in-Ok.ensures.named region works.1) few;
+      shape_reads known c.args.at.depth c.args.at.here fs s k ts end w region c.args.self.now ls e c.args.core c.in-Ok.shape read.0 is read.1 read.2 (c.in-Ok.ensures.named region works.1) few
+      (shape_left w c.in-Ok.shape read.0 read.2 c.in_default.not-Quote c.in_default.not-SyntaxError c.in_default.not-Include);
   locals = refl;
 }

@@ -1,0 +1,151 @@
+-- A body is gone through and then expanded; procedures and local macros, in whose scope one stands.
+use Rattle.std.proofs.Common.{◌≡◌, ℕ, zero, suc, ◌+◌, ◌*◌, ◌^◌, ◌<◌, ◌≤◌, List, [], ◌∷◌, ◌++◌, length, Option, Result, Ok, Err, Vec, refl, sym, ap, ◌∙◌, subst, arith}
+use Rattle.std.specs.declared.alloc.Global.{Global}
+use Rattle.scheme_model.specs.declared.Occ.{Occ}
+use Rattle.scheme_model.specs.Trees.{Tree, Trees, no_trees, tree}
+use Rattle.scheme_model.specs.Ident.{Ident as Identifier}
+use Rattle.scheme_model.specs.ExpansionFaults.{Named}
+use Rattle.scheme_model.specs.Requirements.{Known}
+use Rattle.scheme_model.specs.Cores.{Core, Body, Parts}
+use Rattle.scheme_model.specs.Steps.{Broken, Step, ◌>>=◌, done}
+use Rattle.scheme_model.specs.Order.{Item}
+use Rattle.scheme_model.specs.Expression.{body, expand, node, parts, item_part, body_in}
+use Rattle.scheme_model.specs.ScopedExpansion.{Frames, ScopedState, next_number}
+use Rattle.syntax_tree.specs.Names.{AreToldApart}
+use Rattle.syntax_tree.specs.Looks.{PartsStand}
+use Rattle.syntax_tree.specs.declared.trees.Work.{Work}
+use Rattle.syntax_tree.specs.declared.trees.nodes.Tree as number
+use Rattle.syntax_tree.specs.declared.trees.table.Region.{Region}
+use Rattle.syntax_tree.proofs.WorkLaws.{stands_once}
+use Rattle.scope_env.specs.Environment.{IsSound}
+use Rattle.core_forms.specs.Parts.{AllMatch as AllParts, IsName}
+use Rattle.core_forms.specs.declared.shape.NamePart.{NamePart}
+use Rattle.core_tree.specs.Names.{AllMatch}
+use Rattle.core_tree.specs.Cores.{CoreStands, PartsStand as PartsOfCores}
+use Rattle.core_tree.specs.declared.cores.Binder as code_binder
+use Rattle.core_tree.specs.declared.cores.Core as code_core
+use Rattle.core_tree.specs.declared.cores.Core.TheVariants as cores
+use Rattle.core_tree.specs.declared.cores.CorePart as code_part
+use Rattle.expander.specs.Binds.{Binds}
+use Rattle.expander.specs.Bodies.{BodyFor, body_pass}
+use Rattle.expander.specs.Judged.{Knows}
+use Rattle.expander.specs.Kept.{KeptFor}
+use Rattle.expander.specs.Outcomes.{At, CanLook, Ends, Runs, Moves, SameForm, IsEnough}
+use Rattle.expander.specs.Ready.{BeginsBelow}
+use Rattle.expander.specs.Searched.{searched}
+use Rattle.expander.specs.State.{Stands, most_locals}
+use Rattle.expander.specs.Stepped.{spent, taken, bound_frames, entered, entered_frames}
+use Rattle.expander.specs.declared.expressions.At as code_at
+use Rattle.expander.specs.declared.fault.ExpandFault.{ExpandFault}
+use Rattle.expander.specs.declared.items.Kept as code_kept
+use Rattle.expander.specs.declared.scope.UnitScope.{UnitScope}
+use Rattle.expander.proofs.AfterLaws.{IsAfter}
+use Rattle.expander.proofs.BelowLaws.{below_at, below_knows, node_below}
+use Rattle.expander.proofs.BindersStand.{binders_stand, BindersStand}
+use Rattle.expander.proofs.CoreLaws.{binds_moves, body_is, inner_at}
+use Rattle.expander.proofs.LoopLaws.{knows_on}
+use Rattle.expander.proofs.NodeLaws.{ends_then}
+use Rattle.expander.proofs.OutcomeLaws.{ends_fails}
+use Rattle.expander.proofs.RowLaws.{ends_mapped}
+
+-- ---- trees stand for the same
+
+pub parts_once : (work : Work) (ns : List number.Tree) (ts us : Trees Identifier) → PartsStand work ns ts → PartsStand work ns us → ts ≡ us
+parts_once work [] no_trees no_trees h g = refl
+parts_once work [] no_trees (tree u us) h g = absurd g
+parts_once work [] (tree t ts) us h g = absurd h
+parts_once work (n ∷ ns) no_trees us h g = absurd h
+parts_once work (n ∷ ns) (tree t ts) no_trees h g = absurd g
+parts_once work (n ∷ ns) (tree t ts) (tree u us) h g = (λ j. tree (stands_once work n t u h.0 g.0 j) (parts_once work ns ts us h.1 g.1 j))
+
+-- ---- names that were bound: the newest scope is theirs
+
+module _ (work : Work) (region : Region) (u w : UnitScope) (scope : ℕ) (xs : List NamePart) (ns : List (Named Identifier)) (inner : ℕ) (bs : List code_binder.Binder)
+    (apart : AreToldApart work.symbols.idents) (sound : IsSound u.env) (names : AllParts (IsName work) xs ns) (room : u.form.budget.locals + length xs ≤ most_locals u.form.budget.nodes) (h : Binds u w scope xs inner bs) where
+  module _ (ls : List Frames) (s : ScopedState) (fs : Frames) (e : Stands work u ls s) (at : At ls scope fs) where
+    pub binds_stand : BindersStand work w ls s fs ns inner bs
+    binds_stand = binders_stand work u w ls s scope fs xs ns inner bs apart sound names room at e h
+
+    pub binds_inner : At (ls ++ bound_frames (next_number s s.locals) ns fs ∷ []) inner (bound_frames (next_number s s.locals) ns fs)
+    binds_inner = inner_at work region u w ls s scope fs xs ns inner bs binds_stand
+
+  pub binds_after : CanLook work u scope → IsAfter work work region u w inner
+  binds_after l =
+      let m = binds_moves work region u w l.layout l.state scope l.frames xs ns inner bs (binds_stand l.layout l.state l.frames l.stands l.at) h in
+      record {
+        look = record {
+          layout = l.layout ++ bound_frames (next_number l.state l.state.locals) ns l.frames ∷ [];
+          state = taken (length ns) l.state;
+          frames = bound_frames (next_number l.state l.state.locals) ns l.frames;
+          stands = (binds_stand l.layout l.state l.frames l.stands l.at).stands;
+          at = binds_inner l.layout l.state l.frames l.stands l.at;
+        };
+        work = m.stays.work;
+        same = m.stays.same;
+      }
+
+-- ---- a body
+
+module _ (old mid new : Work) (region : Region) (u w1 w v : UnitScope) (at below : code_at.At) (turns : ℕ) (ts : Trees Identifier) (h : BeginsBelow u w1 at 1 (Ok below)) where
+  abbrev goes_through : Known → Frames → Step ScopedState (Frames × List (Item Identifier))
+  goes_through = body_pass turns below.here ts
+
+  abbrev set_aside : Known → Frames × List (Item Identifier) → Step ScopedState Parts
+  set_aside known m = parts (item_part (expand (searched known) turns) (searched known) below.depth m.0) m.1
+
+  abbrev whole_body : Known → Frames → ℕ → Option Occ → Step ScopedState Core
+  whole_body known fs d o t = body_in (searched known) turns (item_part (expand (searched known) turns) (searched known) d) o (record { env = entered_frames t fs; trees = ts; state = entered t })
+
+  abbrev PartsFor : List Frames → Vec code_part.CorePart Global → Parts → Type 0
+  PartsFor ls ps ms = PartsOfCores new v.unit v.form.number ps.items ms
+
+  abbrev BodyStands : List Frames → code_core.Core → Core → Type 0
+  BodyStands ls = CoreStands new v.unit v.form.number
+
+  -- the steps of a body from where its node began
+  from_below : {V : Type 0} (Q : List Frames → V → Core → Type 0) (result : Result V ExpandFault) (known : Known) (ls : List Frames) (s : ScopedState) (fs : Frames) → Stands old u ls s →
+      (Stands old w1 ls (spent 1 s) → Ends Q old new region w1 v ls result ((goes_through known fs (spent 1 s) >>= set_aside known) >>= λ ps. done (Body ps))) →
+      Ends Q old new region u v ls result (expand (searched known) (suc turns) at.depth at.here fs (body ts) s)
+  from_below Q result known ls s fs e next =
+      node_below known old new region u w1 v ls s at below 1 e h Q (whole_body known fs) result
+      (λ stands. subst (λ (p : Result Core Broken × ScopedState). Ends Q old new region w1 v ls result p) (sym (body_is known turns below.depth below.here fs ts (spent 1 s) below.depth)) (next stands))
+
+  module _ (scope : ℕ) (aside : Vec code_kept.Kept Global) (passed : Runs (BodyFor mid region w.unit w.form.number) old mid region w1 w below.scope (Ok (scope, aside)) goes_through) where
+    abbrev KeptRuns : Result (Vec code_part.CorePart Global) ExpandFault → Type 0
+    KeptRuns result = (is : List (Item Identifier)) → AllMatch (KeptFor mid region w.unit w.form.number) aside.items is →
+        Runs PartsFor mid new region w v scope result (λ known fs. parts (item_part (expand (searched known) turns) (searched known) below.depth fs) is)
+
+    then_kept : (result : Result (Vec code_part.CorePart Global) ExpandFault) → KeptRuns result → (known : Known) (ls : List Frames) (s : ScopedState) (fs : Frames) → Knows u.libraries known → At ls at.scope fs → Stands old w1 ls (spent 1 s) →
+        Ends PartsFor old new region w1 v ls result (goes_through known fs (spent 1 s) >>= set_aside known)
+    then_kept result kept known ls s fs knows there now =
+        let first = passed known ls (spent 1 s) fs (below_knows u w1 at below 1 h known knows) now (below_at u w1 at below 1 h ls fs there) in
+        ends_then (BodyFor mid region w.unit w.form.number) PartsFor old mid new region w1 w v ls (scope, aside) result (goes_through known fs (spent 1 s)) (set_aside known) first
+        (λ y m held. kept y.1 held.1 known m.layout (goes_through known fs (spent 1 s)).1 y.0 (knows_on known w1 w m.stays.same (below_knows u w1 at below 1 h known knows)) m.stays.stands held.0)
+
+    pub body_runs : (ps : Vec code_part.CorePart Global) → KeptRuns (Ok ps) → Runs BodyStands old new region u v at.scope (Ok (cores.Body ps)) (λ known fs. expand (searched known) (suc turns) at.depth at.here fs (body ts))
+    body_runs ps kept = λ known ls s fs knows e there.
+        from_below BodyStands (Ok (cores.Body ps)) known ls s fs e
+        (λ now. ends_mapped PartsFor BodyStands old new region w1 v ls ps (cores.Body ps) (goes_through known fs (spent 1 s) >>= set_aside known) Body (λ layout ms held. (ps, refl, held)) (then_kept (Ok ps) kept known ls s fs knows there now))
+
+    pub body_fails : {V : Type 0} (Q : List Frames → V → Core → Type 0) (x : ExpandFault) → KeptRuns (Err x) → Runs Q old new region u v at.scope (Err x) (λ known fs. expand (searched known) (suc turns) at.depth at.here fs (body ts))
+    body_fails Q x kept = λ known ls s fs knows e there.
+        from_below Q (Err x) known ls s fs e
+        (λ now. ends_fails PartsFor Q old new region w1 v ls x (goes_through known fs (spent 1 s) >>= set_aside known) (λ ps. done (Body ps)) (then_kept (Err x) kept known ls s fs knows there now))
+
+-- its forms can't be gone through
+module _ (old mid : Work) (region : Region) (u w1 w : UnitScope) (at below : code_at.At) (turns : ℕ) (ts : Trees Identifier) (h : BeginsBelow u w1 at 1 (Ok below)) where
+  pub body_stops : {V : Type 0} (Q : List Frames → V → Core → Type 0) (x : ExpandFault) → Runs (BodyFor mid region w.unit w.form.number) old mid region w1 w below.scope (Err x) (body_pass turns below.here ts) →
+      Runs Q old mid region u w at.scope (Err x) (λ known fs. expand (searched known) (suc turns) at.depth at.here fs (body ts))
+  body_stops Q x passed = λ known ls s fs knows e there.
+      let P = BodyFor mid region w.unit w.form.number in
+      let next : Known → Frames × List (Item Identifier) → Step ScopedState Parts = λ k m. parts (item_part (expand (searched k) turns) (searched k) below.depth m.0) m.1 in
+      from_below old mid mid region u w1 w w at below turns ts h Q (Err x) known ls s fs e
+      (λ now.
+      let first = passed known ls (spent 1 s) fs (below_knows u w1 at below 1 h known knows) now (below_at u w1 at below 1 h ls fs there) in
+      let two = ends_fails P (λ (layout : List Frames) (y : Vec code_part.CorePart Global) (z : Parts). PartsOfCores mid w.unit w.form.number y.items z) old mid region w1 w ls x (body_pass turns below.here ts known fs (spent 1 s)) (next known) first in
+      ends_fails (λ (layout : List Frames) (y : Vec code_part.CorePart Global) (z : Parts). PartsOfCores mid w.unit w.form.number y.items z) Q old mid region w1 w ls x (body_pass turns below.here ts known fs (spent 1 s) >>= next known) (λ ps. done (Body ps)) two)
+
+-- enough turns are some
+pub some_turns : (depth uses turns : ℕ) → uses ≤ 10000 → IsEnough depth uses turns → (n : ℕ) × (turns ≡ suc n) × (2 ^ 39 ≤ n) × (depth * 2 ^ 40 ≤ n + uses)
+some_turns depth uses zero few h = absurd (omega (arith, few, h))
+some_turns depth uses (suc n) few h = (n, refl, omega (arith, few, h), omega (arith, few, h))

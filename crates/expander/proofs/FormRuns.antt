@@ -1,0 +1,203 @@
+-- Core forms with parts, each by the calls that the code makes for it: assignments, procedures, sequences, chosen forms.
+use Rattle.std.proofs.Common.{◌≡◌, ℕ, ◌+◌, ◌≤◌, List, [], ◌∷◌, Bool, false, Option, None, Result, Ok, Err, Vec, refl, sym, ap, ◌∙◌, subst, arith}
+use Rattle.std.specs.Global.{Box}
+use Rattle.std.specs.declared.alloc.Global.{Global}
+use Rattle.scheme_model.specs.declared.Occ.{Occ}
+use Rattle.scheme_model.specs.Trees.{Tree, Trees, no_trees, tree}
+use Rattle.scheme_model.specs.Ident.{Ident as Identifier}
+use Rattle.scheme_model.specs.ExpansionFaults.{Named, Fault, BadForm, BadPlace, fault_code, fault_name, ◌>>◌}
+use Rattle.scheme_model.specs.Keywords.{CoreKeyword}
+use Rattle.scheme_model.specs.Requirements.{Known}
+use Rattle.scheme_model.specs.Shapes.{Clause}
+use Rattle.scheme_model.specs.Cores.{Core, Set, Lambda, Body, Parts, Binders}
+use Rattle.scheme_model.specs.Steps.{Broken, Step, ◌>>=◌, done, fails}
+use Rattle.scheme_model.specs.Order.{Here, head_of, target_of, given}
+use Rattle.scheme_model.specs.Expression.{Expander, whole, expand, node, procedure, lambda, sequence, expressions, assignment, set, chosen_sequence, unless_keyword}
+use Rattle.scheme_model.specs.ScopedExpansion.{Frames, ScopedState}
+use Rattle.scheme_model.specs.CountedExpansion.{means_here}
+use Rattle.syntax_tree.specs.declared.trees.Work.{Work}
+use Rattle.syntax_tree.specs.declared.trees.nodes.Tree as number
+use Rattle.syntax_tree.specs.declared.trees.table.Region.{Region}
+use Rattle.core_forms.specs.Forms.{Shape, Quoted, Quasi, Procedure, Procedures, Conditional, Assignment, Sequence, Definition, Several, RecordType, Syntax, Local, Choices, ErrorText, Inclusion}
+use Rattle.core_forms.specs.Parts.{AllMatch as AllParts, IsName, IsChoice, AreTrees}
+use Rattle.core_forms.specs.declared.shape.Choice.{Choice}
+use Rattle.core_forms.specs.declared.shape.NamePart.{NamePart}
+use Rattle.core_tree.specs.Names.{IsTarget}
+use Rattle.core_tree.specs.Traces.{error_text}
+use Rattle.core_tree.specs.Cores.{CoreStands, PartsStand as PartsOfCores}
+use Rattle.core_tree.specs.declared.cores.Clause as code_clause
+use Rattle.core_tree.specs.declared.cores.Core as code_core
+use Rattle.core_tree.specs.declared.cores.Core.TheVariants as cores
+use Rattle.core_tree.specs.declared.cores.CorePart as code_part
+use Rattle.core_tree.specs.declared.cores.Target as code_target
+use Rattle.expander.specs.CoreSteps.{core_step}
+use Rattle.expander.specs.Counts.{plain_fault}
+use Rattle.expander.specs.Expanded.{ClauseStands}
+use Rattle.expander.specs.Judged.{Knows, ChoosesForms, chosen_among, forms_chosen, some_chosen}
+use Rattle.expander.specs.Outcomes.{At, Grows, SameForm, Ends, EndsHere, Runs}
+use Rattle.expander.specs.Ready.{BeginsBelow, TestsVariable}
+use Rattle.expander.specs.Searched.{searched}
+use Rattle.expander.specs.State.{Stands}
+use Rattle.expander.specs.Stepped.{spent}
+use Rattle.expander.specs.declared.expressions.At as code_at
+use Rattle.expander.specs.declared.fault.ExpandFault.{ExpandFault}
+use Rattle.expander.specs.declared.fault.ExpandFault.TheVariants as fault
+use Rattle.expander.specs.declared.scope.UnitScope.{UnitScope}
+use Rattle.expander.proofs.BelowLaws.{same_fault}
+use Rattle.expander.proofs.ChoiceLaws.{chosen_sequence_is}
+use Rattle.expander.proofs.CoreStandLaws.{target_on}
+use Rattle.expander.proofs.NodeLaws.{fails_here}
+use Rattle.expander.proofs.OutcomeLaws.{here_ends, leaves_itself}
+use Rattle.expander.proofs.ReadLaws.{unless_goes, tested_fails, target_at}
+use Rattle.expander.proofs.ShapeParts.{IsMisplaced}
+use Rattle.expander.proofs.StepLaws.{node_runs, node_stops, node_none}
+
+-- a fault at once, with nothing done
+pub fault_ends : {V B : Type 0} (Q : List Frames → V → B → Type 0) (work : Work) (region : Region) (u : UnitScope) (ls : List Frames) (s : ScopedState) (here : Option Occ) (f : Fault Identifier) → Stands work u ls s → fault_name f ≡ None → error_text f ≡ None →
+    Ends Q work work region u u ls (Err (plain_fault here (fault_code f))) (fails {A = B} here f s)
+fault_ends {V} {B} Q work region u ls s here f e named text =
+    same_fault (λ (layout : List Frames) (x : V) (y : B). Unit {0}) Q work work region u u ls (plain_fault here (fault_code f)) (fails {A = B} here f s)
+    (here_ends (λ (x : V) (y : B). Unit {0}) work work region u u ls (Err (plain_fault here (fault_code f))) (fails {A = B} here f s) (fails_here (λ (x : V) (y : B). Unit {0}) work region u ls s here f e named text))
+
+-- ---- assignments
+
+module _ (old new : Work) (region : Region) (u w v : UnitScope) (at below : code_at.At) (h : BeginsBelow u w at 1 (Ok below)) (x : NamePart) (n : Named Identifier) (name : IsName old x n) (value : Known → Frames → ℕ → Option Occ → Step ScopedState Core) where
+  abbrev assign : Known → Frames → Step ScopedState Core
+  assign known fs = node (searched known) at.here 1 at.depth (λ d t. value known fs d at.here t >>= λ c. done (Set (target_of (searched known) fs t n.name n.occ) c))
+
+  abbrev ValueRuns : Result code_core.Core ExpandFault → Type 0
+  ValueRuns result = Runs (λ (layout : List Frames). CoreStands new v.unit v.form.number) old new region w v below.scope result (λ known fs. value known fs below.depth below.here)
+
+  -- what the name means where the node has begun
+  abbrev Targets : code_target.Target → Type 0
+  Targets target = (ls : List Frames) (s : ScopedState) (fs : Frames) (n : Named Identifier) → Stands old w ls s → At ls at.scope fs → IsName old x n →
+      IsTarget old.symbols s.unit s.form target (record { meaning = means_here s fs n.name; ident = n.name; occ = n.occ })
+
+  pub assigned_runs : (target : code_target.Target) (y : Box code_core.Core) → Grows old new region → SameForm w v → Targets target → ValueRuns (Ok y.value) →
+      Runs (λ (layout : List Frames). CoreStands new v.unit v.form.number) old new region u v at.scope (Ok (cores.Set target y)) assign
+  assigned_runs target y grows same targets runs =
+      node_runs old new region u w v at below 1 h (λ (layout : List Frames). CoreStands new v.unit v.form.number) (λ (layout : List Frames). CoreStands new v.unit v.form.number)
+      value y.value (cores.Set target y) (λ known fs t c. Set (target_of (searched known) fs t n.name n.occ) c)
+      (λ known ls s fs layout m e there held.
+      let t = target_of (searched known) fs (spent 1 s) n.name n.occ in
+      let on = target_on old new grows.trees grows.names s.unit s.form target t (targets ls (spent 1 s) fs n e there name) in
+      (target, y, refl, target_at new.symbols v.unit v.form.number s.unit s.form target t (same.unit ∙ e.unit) (same.number ∙ e.form.number) on, held)) runs
+
+  pub assigned_fails : {V : Type 0} (Q : List Frames → V → Core → Type 0) (e : ExpandFault) → ValueRuns (Err e) → Runs Q old new region u v at.scope (Err e) assign
+  assigned_fails Q e runs =
+      node_stops old new region u w v at below 1 h (λ (layout : List Frames). CoreStands new v.unit v.form.number) Q value e (λ known fs t c. done (Set (target_of (searched known) fs t n.name n.occ) c)) runs
+
+-- a variable that is assigned is no keyword
+module _ (work new : Work) (region : Region) (u v : UnitScope) (at : code_at.At) (x : NamePart) (n : Named Identifier) (name : IsName work x n) where
+  abbrev TestRuns : Result (Unit {0}) ExpandFault → Type 0
+  TestRuns result = (known : Known) (ls : List Frames) (s : ScopedState) (fs : Frames) (n : Named Identifier) → Stands work u ls s → At ls at.scope fs → IsName work x n → TestsVariable work s at.here n (head_of (searched known) fs s n.name) result
+
+  pub tested_runs : {V : Type 0} (Q : List Frames → V → Core → Type 0) (passed : Unit {0}) (go : Known → Frames → Step ScopedState Core) (result : Result V ExpandFault) → TestRuns (Ok passed) → Runs Q work new region u v at.scope result go →
+      Runs Q work new region u v at.scope result (λ known fs s. unless_keyword (searched known) at.here (head_of (searched known) fs s n.name) n (go known fs) s)
+  tested_runs Q passed go result tests runs = λ known ls s fs knows e there.
+      let h = head_of (searched known) fs s n.name in
+      subst (λ (p : Result Core Broken × ScopedState). Ends Q work new region u v ls result p) (sym (unless_goes known at.here n (go known fs) s h (tests known ls s fs n e there name))) (runs known ls s fs knows e there)
+
+  pub untested_runs : {V : Type 0} (P : V → Core → Type 0) (go : Known → Frames → Step ScopedState Core) (e : ExpandFault) → TestRuns (Err e) →
+      Runs (λ (layout : List Frames). P) work work region u u at.scope (Err e) (λ known fs s. unless_keyword (searched known) at.here (head_of (searched known) fs s n.name) n (go known fs) s)
+  untested_runs P go e tests = λ known ls s fs knows stands there.
+      let h = head_of (searched known) fs s n.name in
+      here_ends P work work region u u ls (Err e) (unless_keyword (searched known) at.here h n (go known fs) s) (tested_fails known work region u ls s at.here n (go known fs) h P e stands (tests known ls s fs n stands there name))
+
+-- ---- procedures
+
+module _ (old new : Work) (region : Region) (u w v : UnitScope) (at below : code_at.At) (h : BeginsBelow u w at 1 (Ok below)) (turns : ℕ) (c : Clause Identifier) where
+  abbrev ClauseRuns : Result code_clause.Clause ExpandFault → Type 0
+  ClauseRuns result = Runs (λ (layout : List Frames). ClauseStands new v.unit v.form.number) old new region w v below.scope result (λ known fs. procedure (expand (searched known) turns) (searched known) below.depth below.here fs c)
+
+  pub lambda_runs : (x : code_clause.Clause) → ClauseRuns (Ok x) → Runs (λ (layout : List Frames). CoreStands new v.unit v.form.number) old new region u v at.scope (Ok (cores.Lambda x)) (λ known fs. lambda (expand (searched known) turns) (searched known) at.depth at.here fs c)
+  lambda_runs x runs =
+      node_runs old new region u w v at below 1 h (λ (layout : List Frames). ClauseStands new v.unit v.form.number) (λ (layout : List Frames). CoreStands new v.unit v.form.number)
+      (λ known fs d o. procedure (expand (searched known) turns) (searched known) d o fs c) x (cores.Lambda x) (λ known fs t q. Lambda q.0 q.1)
+      (λ known ls s fs layout q e there held. (x, held.0, refl, held.1, held.2)) runs
+
+  pub lambda_fails : {V : Type 0} (Q : List Frames → V → Core → Type 0) (e : ExpandFault) → ClauseRuns (Err e) → Runs Q old new region u v at.scope (Err e) (λ known fs. lambda (expand (searched known) turns) (searched known) at.depth at.here fs c)
+  lambda_fails Q e runs =
+      node_stops old new region u w v at below 1 h (λ (layout : List Frames). ClauseStands new v.unit v.form.number) Q
+      (λ known fs d o. procedure (expand (searched known) turns) (searched known) d o fs c) e (λ known fs t q. done (Lambda q.0 q.1)) runs
+
+-- ---- sequences
+
+module _ (old new : Work) (region : Region) (u w v : UnitScope) (at below : code_at.At) (h : BeginsBelow u w at 1 (Ok below)) (turns : ℕ) (ts : Trees Identifier) where
+  abbrev PartsFor : List Frames → Vec code_part.CorePart Global → Parts → Type 0
+  PartsFor layout ps ms = PartsOfCores new v.unit v.form.number ps.items ms
+
+  abbrev PartsRun : Result (Vec code_part.CorePart Global) ExpandFault → Type 0
+  PartsRun result = Runs PartsFor old new region w v below.scope result (λ known fs. expressions (λ u. expand (searched known) turns below.depth below.here fs (whole u)) ts)
+
+  pub sequence_runs : (ps : Vec code_part.CorePart Global) → PartsRun (Ok ps) → Runs (λ (layout : List Frames). CoreStands new v.unit v.form.number) old new region u v at.scope (Ok (cores.Body ps)) (λ known fs. sequence (expand (searched known) turns) (searched known) at.depth at.here fs ts)
+  sequence_runs ps runs =
+      node_runs old new region u w v at below 1 h PartsFor (λ (layout : List Frames). CoreStands new v.unit v.form.number)
+      (λ known fs d o. expressions (λ u. expand (searched known) turns d o fs (whole u)) ts) ps (cores.Body ps) (λ known fs t ms. Body ms) (λ known ls s fs layout ms e there held. (ps, refl, held)) runs
+
+  pub sequence_fails : {V : Type 0} (Q : List Frames → V → Core → Type 0) (e : ExpandFault) → PartsRun (Err e) → Runs Q old new region u v at.scope (Err e) (λ known fs. sequence (expand (searched known) turns) (searched known) at.depth at.here fs ts)
+  sequence_fails Q e runs =
+      node_stops old new region u w v at below 1 h PartsFor Q (λ known fs d o. expressions (λ u. expand (searched known) turns d o fs (whole u)) ts) e (λ known fs t ms. done (Body ms)) runs
+
+-- ---- the chosen forms of `cond-expand`
+
+module _ (known : Known) (turns depth : ℕ) (here : Here) (fs : Frames) (cs : List (Tree Identifier × Trees Identifier)) (s : ScopedState) where
+  abbrev goes : Result (Trees Identifier) (Fault Identifier) → Result Core Broken × ScopedState
+  goes r = given (λ (i : Identifier). i) here r s >>= sequence (expand (searched known) turns) (searched known) depth here fs
+
+  choices_step : (r : Result (Option (Trees Identifier)) (Fault Identifier)) → (given (λ (i : Identifier). i) here r s >>= chosen_sequence (expand (searched known) turns) (searched known) depth here fs) ≡ goes (r >> some_chosen)
+  choices_step (Ok c) = chosen_sequence_is (expand (searched known) turns) (searched known) depth here fs c s
+  choices_step (Err e) = refl
+
+  pub choices_goes : (k : CoreKeyword) (ts : Trees Identifier) → forms_chosen known cs ≡ Ok ts → core_step (expand (searched known) turns) (searched known) depth here fs k (Choices cs) s ≡ sequence (expand (searched known) turns) (searched known) depth here fs ts s
+  choices_goes k ts h = choices_step (chosen_among known cs) ∙ ap goes h
+
+  pub choices_fails : (k : CoreKeyword) → forms_chosen known cs ≡ Err BadForm → core_step (expand (searched known) turns) (searched known) depth here fs k (Choices cs) s ≡ fails here BadForm s
+  choices_fails k h = choices_step (chosen_among known cs) ∙ ap goes h
+
+module _ (work : Work) (region : Region) (u : UnitScope) (at : code_at.At) (turns : ℕ) (choices : List Choice) (k : CoreKeyword) (cs : List (Tree Identifier × Trees Identifier)) (are : AllParts (IsChoice work) choices cs) where
+  abbrev pub Chosen : Result (Vec number.Tree Global) ExpandFault → Type 0
+  Chosen result = (known : Known) (ps : List (Tree Identifier × Trees Identifier)) → Knows u.libraries known → AllParts (IsChoice work) choices ps → ChoosesForms work at.here result (forms_chosen known ps)
+
+  pub chosen_runs : {V : Type 0} (Q : List Frames → V → Core → Type 0) (new : Work) (v : UnitScope) (ns : Vec number.Tree Global) (result : Result V ExpandFault) → Chosen (Ok ns) →
+      ((ts : Trees Identifier) → AreTrees work ns ts → Runs Q work new region u v at.scope result (λ known fs. sequence (expand (searched known) turns) (searched known) at.depth at.here fs ts)) →
+      Runs Q work new region u v at.scope result (λ known fs. core_step (expand (searched known) turns) (searched known) at.depth at.here fs k (Choices cs))
+  chosen_runs Q new v ns result chosen runs = λ known ls s fs knows e there.
+      let q = chosen known cs knows are in
+      subst (λ (p : Result Core Broken × ScopedState). Ends Q work new region u v ls result p) (sym (choices_goes known turns at.depth at.here fs cs s k q.0 q.1)) (runs q.0 q.2 known ls s fs knows e there)
+
+  pub chosen_fails : {V : Type 0} (Q : List Frames → V → Core → Type 0) (e : ExpandFault) → Chosen (Err e) →
+      Runs Q work work region u u at.scope (Err e) (λ known fs. core_step (expand (searched known) turns) (searched known) at.depth at.here fs k (Choices cs))
+  chosen_fails {V} Q (fault.At e) chosen = λ known ls s fs knows stands there.
+      let q = chosen known cs knows are in
+      subst (λ (p : Result Core Broken × ScopedState). Ends Q work work region u u ls (Err (fault.At e)) p) (sym (choices_fails known turns at.depth at.here fs cs s k q.0))
+      (subst (λ (x : ExpandFault). Ends Q work work region u u ls (Err x) (fails {A = Core} at.here BadForm s)) (sym q.1)
+      (fault_ends Q work region u ls s at.here BadForm stands refl refl))
+  chosen_fails Q fault.Full chosen = λ known ls s fs knows stands there. absurd (chosen known cs knows are)
+  chosen_fails Q fault.Memory chosen = λ known ls s fs knows stands there. leaves_itself work region u stands.form.few_nodes
+
+-- ---- definitions, which have no place among expressions
+
+module _ (work : Work) (region : Region) (u : UnitScope) (at : code_at.At) (turns : ℕ) (k : CoreKeyword) where
+  abbrev form_step : Shape → Known → Frames → Step ScopedState Core
+  form_step m known fs = core_step (expand (searched known) turns) (searched known) at.depth at.here fs k m
+
+  placed_nowhere : {V : Type 0} (Q : List Frames → V → Core → Type 0) → Runs Q work work region u u at.scope (Err (plain_fault at.here 33)) (λ known fs. fails {A = Core} at.here BadPlace)
+  placed_nowhere Q = λ known ls s fs knows e there. fault_ends Q work region u ls s at.here BadPlace e refl refl
+
+  pub misplaced_runs : {V : Type 0} (Q : List Frames → V → Core → Type 0) (m : Shape) → IsMisplaced m → Runs Q work work region u u at.scope (Err (plain_fault at.here 33)) (form_step m)
+  misplaced_runs Q (Definition d) is = placed_nowhere Q
+  misplaced_runs Q (Several p) is = placed_nowhere Q
+  misplaced_runs Q (RecordType r) is = placed_nowhere Q
+  misplaced_runs Q (Syntax p) is = placed_nowhere Q
+  misplaced_runs Q (Quoted t) is = absurd is
+  misplaced_runs Q (Quasi t p) is = absurd is
+  misplaced_runs Q (Procedure c) is = absurd is
+  misplaced_runs Q (Procedures cs) is = absurd is
+  misplaced_runs Q (Conditional ts) is = absurd is
+  misplaced_runs Q (Assignment p) is = absurd is
+  misplaced_runs Q (Sequence ts) is = absurd is
+  misplaced_runs Q (Local m) is = absurd is
+  misplaced_runs Q (Choices cs) is = absurd is
+  misplaced_runs Q (ErrorText text) is = absurd is
+  misplaced_runs Q Inclusion is = absurd is

@@ -1,0 +1,305 @@
+-- Local macros by the calls that the code makes for them: their names are bound, the heads of their rules are tested, they are kept,
+-- and their body is expanded.
+use Rattle.std.proofs.Common.{◌≡◌, ℕ, suc, ◌+◌, ◌*◌, ◌^◌, ◌≤◌, List, [], ◌∷◌, ◌++◌, length, Bool, true, false, Option, Some, None, Result, Ok, Err, Vec, refl, sym, ap, ◌∙◌, subst, arith}
+use Rattle.std.specs.Prelude.{if◌then◌else◌}
+use Rattle.std.specs.Global.{Box}
+use Rattle.std.specs.declared.alloc.Global.{Global}
+use Rattle.scheme_model.specs.Identifiers.{Number}
+use Rattle.scheme_model.specs.Trees.{Tree, Trees, no_trees, tree}
+use Rattle.scheme_model.specs.Ident.{Ident as Identifier}
+use Rattle.scheme_model.specs.ExpansionFaults.{Named, BadForm}
+use Rattle.scheme_model.specs.Requirements.{Known}
+use Rattle.scheme_model.specs.Shapes.{LocalMacros}
+use Rattle.scheme_model.specs.Cores.{Core, Binder, LocalNumber, LetSyntax}
+use Rattle.scheme_model.specs.Steps.{Broken, Step, ◌>>=◌, done, fails}
+use Rattle.scheme_model.specs.Order.{Here, RulesParts, rules_parts, rules_parts_of, head_of, is_rules}
+use Rattle.scheme_model.specs.Expression.{body, expand, node, heads, keep_all, local_defs, local_macros, numbers}
+use Rattle.scheme_model.specs.ScopedExpansion.{Frames, ScopedState, next_number}
+use Rattle.syntax_tree.specs.Names.{AreToldApart}
+use Rattle.syntax_tree.specs.declared.trees.Work.{Work}
+use Rattle.syntax_tree.specs.declared.trees.table.Region.{Region}
+use Rattle.syntax_tree.proofs.Places.{get_front}
+use Rattle.scope_env.specs.Environment.{IsSound}
+use Rattle.core_forms.specs.Parts.{AllMatch as AllParts, AreMacros, IsName}
+use Rattle.core_forms.specs.declared.shape.LocalMacro.{LocalMacro}
+use Rattle.core_forms.specs.declared.shape.NamePart.{NamePart}
+use Rattle.core_tree.specs.Names.{AllMatch, IsBinder, IsMacro as IsMacroDef}
+use Rattle.core_tree.specs.Cores.{CoreStands}
+use Rattle.core_tree.specs.declared.cores.Binder as code_binder
+use Rattle.core_tree.specs.declared.cores.Core as code_core
+use Rattle.core_tree.specs.declared.cores.Core.TheVariants as cores
+use Rattle.core_tree.specs.declared.cores.MacroDef as code_macro
+use Rattle.expander.specs.Binds.{Binds, local_binders}
+use Rattle.expander.specs.Bodies.{AreLocalMacros, CanKeep, HaveHeads, HaveNumbers, RulesAre}
+use Rattle.expander.specs.Expanded.{macros_step}
+use Rattle.expander.specs.Judged.{Knows}
+use Rattle.expander.specs.Outcomes.{At, CanLook, Grows, SameForm, Stays, Moves, Ends, EndsHere, Runs}
+use Rattle.expander.specs.Ready.{BeginsBelow}
+use Rattle.expander.specs.RulesTold.{Tests}
+use Rattle.expander.specs.Searched.{searched}
+use Rattle.expander.specs.State.{Stands, most_locals}
+use Rattle.expander.specs.Stepped.{spent, taken, after, bound_frames, bound_binders}
+use Rattle.expander.specs.declared.expressions.At as code_at
+use Rattle.expander.specs.declared.fault.ExpandFault.{ExpandFault}
+use Rattle.expander.specs.declared.fault.ExpandFault.TheVariants as fault
+use Rattle.expander.specs.declared.scope.UnitScope.{UnitScope}
+use Rattle.expander.proofs.BelowLaws.{below_knows, node_below, node_unbegun}
+use Rattle.expander.proofs.BindersStand.{BindersStand, numbers_are}
+use Rattle.expander.proofs.BodyRuns.{binds_stand, binds_inner}
+use Rattle.expander.proofs.CoreLaws.{binds_moves, macros_are}
+use Rattle.expander.proofs.CoreStandLaws.{every_on, macro_def_on}
+use Rattle.expander.proofs.KeepLaws.{heads_tell}
+use Rattle.expander.proofs.LoopLaws.{knows_on}
+use Rattle.expander.proofs.NodeLaws.{here_then}
+use Rattle.expander.proofs.OutcomeLaws.{stays_itself, moves_here, here_ends, ends_after, ends_fails, leaves_itself, bound_fails, bound_goes}
+use Rattle.expander.proofs.RowLaws.{ends_mapped}
+
+-- ---- the heads of rules are the same when nodes were counted
+
+module _ (known : Known) (here : Here) (fs : Frames) (s : ScopedState) (n : ℕ) where
+  abbrev Heads : Type 0
+  Heads = Result (List (RulesParts Identifier)) Broken × ScopedState
+
+  abbrev with_head : RulesParts Identifier → Heads → Heads
+  with_head r q = q >>= λ rs. done (r ∷ rs)
+
+  put_head : (r : RulesParts Identifier) (q : Heads) → with_head r (q.0, spent n s) ≡ ((with_head r q).0, spent n s)
+  put_head r (Ok rs, t) = refl
+  put_head r (Err e, t) = refl
+
+  abbrev tested : Bool → RulesParts Identifier → Trees Identifier → ScopedState → Heads
+  tested b r ts t = (if b then done r t else fails here BadForm t) >>= λ q t1. heads (searched known) here fs ts t1 >>= λ rs. done (q ∷ rs)
+
+  by_test : (b : Bool) (r : RulesParts Identifier) (ts : Trees Identifier) → heads (searched known) here fs ts (spent n s) ≡ ((heads (searched known) here fs ts s).0, spent n s) → tested b r ts (spent n s) ≡ ((tested b r ts s).0, spent n s)
+  by_test true r ts later = ap (with_head r) later ∙ put_head r (heads (searched known) here fs ts s)
+  by_test false r ts later = refl
+
+  abbrev parted : Option (RulesParts Identifier) → Trees Identifier → ScopedState → Heads
+  parted o ts t = rules_parts (searched known) here fs o t >>= λ q t1. heads (searched known) here fs ts t1 >>= λ rs. done (q ∷ rs)
+
+  by_parts : (o : Option (RulesParts Identifier)) (ts : Trees Identifier) → heads (searched known) here fs ts (spent n s) ≡ ((heads (searched known) here fs ts s).0, spent n s) → parted o ts (spent n s) ≡ ((parted o ts s).0, spent n s)
+  by_parts None ts later = refl
+  by_parts (Some r) ts later = by_test (is_rules (head_of (searched known) fs s r.head)) r ts later
+
+  pub heads_spent : (ts : Trees Identifier) → heads (searched known) here fs ts (spent n s) ≡ ((heads (searched known) here fs ts s).0, spent n s)
+  heads_spent no_trees = refl
+  heads_spent (tree t ts) = by_parts (rules_parts_of t) ts (heads_spent ts)
+
+  pub heads_later : (ts : Trees Identifier) (rs : List (RulesParts Identifier)) → heads (searched known) here fs ts s ≡ done rs s → heads (searched known) here fs ts (spent n s) ≡ done rs (spent n s)
+  heads_later ts rs h = heads_spent ts ∙ (λ j. ((h j).0, spent n s))
+
+-- ---- numbers and names of the binders
+
+same_length : {X Y : Type 0} (P : X → Y → Type 0) (xs : List X) (ys : List Y) → AllParts P xs ys → length xs ≡ length ys
+same_length P [] [] h = refl
+same_length P [] (y ∷ ys) h = absurd h
+same_length P (x ∷ xs) [] h = absurd h
+same_length P (x ∷ xs) (y ∷ ys) h = ap suc (same_length P xs ys h.1)
+
+numbers_match : (t : ScopedState) (bs : List code_binder.Binder) (vs : List Number) → AllMatch (λ (b : code_binder.Binder) (v : Number). v ≡ record { unit = t.unit; form = t.form; count = b.number }) bs vs → HaveNumbers t bs vs
+numbers_match t [] [] h = tt
+numbers_match t [] (v ∷ vs) h = absurd h
+numbers_match t (b ∷ bs) [] h = absurd h
+numbers_match t (b ∷ bs) (v ∷ vs) h = (h.0, numbers_match t bs vs h.1)
+
+pub have_numbers : (t : ScopedState) (n : ℕ) (xs : List NamePart) (ns : List (Named Identifier)) (bs : List code_binder.Binder) (v : Number) → length xs ≡ length ns → bs ≡ local_binders n xs → v ≡ record { unit = t.unit; form = t.form; count = n } → HaveNumbers t bs (numbers v ns)
+have_numbers t n xs ns bs v count is number =
+    subst (λ (ys : List code_binder.Binder). HaveNumbers t ys (numbers v ns)) (sym is)
+    (subst (λ (w : Number). HaveNumbers t (local_binders n xs) (numbers w ns)) (sym number)
+    (numbers_match t (local_binders n xs) (numbers (record { unit = t.unit; form = t.form; count = n }) ns) (numbers_are t.unit t.form n ns xs count)))
+
+next_is : (v : Number) → after v ≡ record { unit = v.unit; form = v.form; count = suc v.count }
+next_is v = let e : v.count + 1 ≡ suc v.count = omega arith in λ j. record { unit = v.unit; form = v.form; count = e j }
+
+pub local_binders_are : (work : Work) (t : ScopedState) (bs : List code_binder.Binder) (v : Number) (ns : List (Named Identifier)) → AllMatch (IsBinder work.symbols t.unit t.form) bs (bound_binders v ns) → AreLocalMacros work t bs (numbers v ns) ns
+local_binders_are work t [] v [] h = tt
+local_binders_are work t [] v (n ∷ ns) h = absurd h
+local_binders_are work t (b ∷ bs) v [] h = absurd h
+local_binders_are work t (b ∷ bs) v (n ∷ ns) h =
+    (h.0, local_binders_are work t bs (record { unit = v.unit; form = v.form; count = suc v.count }) ns (subst (λ (w : Number). AllMatch (IsBinder work.symbols t.unit t.form) bs (bound_binders w ns)) (next_is v) h.1))
+
+-- ---- local macros
+
+-- the scope in which the rules are read
+abbrev pub RulesAt : Bool → (rules_at inner scope : ℕ) → Type 0
+RulesAt true rules_at inner scope = rules_at ≡ inner
+RulesAt false rules_at inner scope = rules_at ≡ scope
+
+-- and its frames
+abbrev pub rules_frames : Bool → Frames → Frames → Frames
+rules_frames true gs fs = gs
+rules_frames false gs fs = fs
+
+module _ (work : Work) (region : Region) (u w1 : UnitScope) (at : code_at.At) (again : Bool) (m : LocalMacros Identifier) (macros : List LocalMacro) (xs : List NamePart) (inner rules_at : ℕ) (bs : List code_binder.Binder)
+    (apart : AreToldApart work.symbols.idents) (sound : IsSound u.env) (names : AllParts (IsName work) xs m.names) (room : u.form.budget.locals + length xs ≤ most_locals u.form.budget.nodes) (h : Binds u w1 at.scope xs inner bs)
+    (place : RulesAt again rules_at inner at.scope) (are : AreMacros work macros m.names m.rules) where
+  module _ (ls : List Frames) (s : ScopedState) (fs : Frames) (e : Stands work u ls s) (there : At ls at.scope fs) where
+    abbrev first : Number
+    first = next_number s s.locals
+
+    abbrev pub inner_frames : Frames
+    inner_frames = bound_frames first m.names fs
+
+    abbrev pub bound_layout : List Frames
+    bound_layout = ls ++ inner_frames ∷ []
+
+    abbrev pub bound_state : ScopedState
+    bound_state = taken (length m.names) s
+
+    abbrev pub frames_of_rules : Frames
+    frames_of_rules = rules_frames again inner_frames fs
+
+    stand : BindersStand work w1 ls s fs m.names inner bs
+    stand = binds_stand work region u w1 at.scope xs m.names inner bs apart sound names room h ls s fs e there
+
+    pub rules_there : At bound_layout rules_at frames_of_rules
+    rules_there = by again place
+      where
+        by : (b : Bool) → RulesAt b rules_at inner at.scope → At bound_layout rules_at (rules_frames b inner_frames fs)
+        by true is = subst (λ (n : ℕ). At bound_layout n inner_frames) (sym is) (binds_inner work region u w1 at.scope xs m.names inner bs apart sound names room h ls s fs e there)
+        by false is = subst (λ (n : ℕ). At bound_layout n fs) (sym is) (get_front ls (inner_frames ∷ []) at.scope fs there)
+
+    pub bound_stands : Stands work w1 bound_layout bound_state
+    bound_stands = stand.stands
+
+    abbrev pub macro_numbers : List Number
+    macro_numbers = numbers first m.names
+
+    abbrev pub known_step : Known → ℕ → Result Core Broken × ScopedState
+    known_step known turns = macros_step again (expand (searched known) turns) (searched known) at.depth at.here fs m s
+
+    abbrev pub bound_step : Known → ℕ → Result Core Broken × ScopedState
+    bound_step known turns = local_macros (expand (searched known) turns) (searched known) at.depth at.here macro_numbers m.names frames_of_rules m.rules inner_frames m.body bound_state
+
+    unfoldable bound_moves : Moves work work region u w1 ls bound_state
+    bound_moves = binds_moves work region u w1 ls s at.scope fs xs m.names inner bs stand h
+
+    -- the names are bound first
+    pub from_bound : {V : Type 0} (Q : List Frames → V → Core → Type 0) (known : Known) (turns : ℕ) (new : Work) (v : UnitScope) (result : Result V ExpandFault) → Ends Q work new region w1 v bound_layout result (bound_step known turns) → Ends Q work new region u v ls result (known_step known turns)
+    unfolding bound_moves binds_moves
+    from_bound Q known turns new v result ends =
+        subst (λ (p : Result Core Broken × ScopedState). Ends Q work new region u v ls result p) (sym (macros_are again known (expand (searched known) turns) at.depth at.here fs m s frames_of_rules (λ is. ap (λ (b : Bool). rules_frames b inner_frames fs) is) (λ is. ap (λ (b : Bool). rules_frames b inner_frames fs) is)))
+        (ends_after Q work work new region u w1 v ls bound_state result (bound_step known turns) bound_moves ends)
+
+    -- ---- the heads are tested
+
+    abbrev TestsHeads : Known → Result (Unit {0}) ExpandFault → Type 0
+    TestsHeads known result = Tests work bound_state result (heads (searched known) at.here frames_of_rules m.rules bound_state)
+
+    abbrev node_step : Known → ℕ → List (RulesParts Identifier) → ScopedState → Result Core Broken × ScopedState
+    node_step known turns rs t =
+        node (searched known) at.here 1 at.depth (λ below t1. keep_all (searched known) at.here frames_of_rules macro_numbers m.rules rs t1 >>= λ kept t2.
+        expand (searched known) turns below at.here inner_frames (body m.body) t2 >>= λ c. done (LetSyntax (local_defs (searched known) t2 macro_numbers m.names) c)) t
+
+    pub tests_goes : (known : Known) (turns : ℕ) (passed : Unit {0}) (q : TestsHeads known (Ok passed)) → bound_step known turns ≡ node_step known turns q.0 bound_state
+    tests_goes known turns passed q = ap (λ (x : Result (List (RulesParts Identifier)) Broken × ScopedState). x >>= node_step known turns) q.1
+
+    pub tests_fail : {V : Type 0} (Q : List Frames → V → Core → Type 0) (known : Known) (turns : ℕ) (x : ExpandFault) → TestsHeads known (Err x) → Ends Q work work region w1 w1 bound_layout (Err x) (bound_step known turns)
+    unfolding moves_here
+    tests_fail Q known turns (fault.At e) q =
+        let same : bound_step known turns ≡ (Err q.0, bound_state) = ap (λ (x : Result (List (RulesParts Identifier)) Broken × ScopedState). x >>= node_step known turns) q.1 in
+        subst (λ (p : Result Core Broken × ScopedState). Ends Q work work region w1 w1 bound_layout (Err (fault.At e)) p) (sym same)
+        (moves_here work work region w1 w1 bound_layout bound_state (stays_itself work region w1 bound_layout bound_state bound_stands), (q.0, refl, q.2))
+    tests_fail Q known turns fault.Full q = absurd q
+    tests_fail Q known turns fault.Memory q = leaves_itself work region w1 bound_stands.form.few_nodes
+
+    -- ---- the node begins, the macros are kept, and the body is expanded
+
+    module _ (known : Known) (turns : ℕ) (knows : Knows u.libraries known) (rs : List (RulesParts Identifier)) (read : heads (searched known) at.here frames_of_rules m.rules bound_state ≡ done rs bound_state) (w2 : UnitScope) where
+      pub unbegun : {V : Type 0} (Q : List Frames → V → Core → Type 0) (x : ExpandFault) → BeginsBelow w1 w2 at 1 (Err x) → Ends Q work work region w1 w2 bound_layout (Err x) (node_step known turns rs bound_state)
+      unbegun Q x b =
+          node_unbegun Q known work region w1 w2 bound_layout bound_state at 1 x
+          (λ below t1. keep_all (searched known) at.here frames_of_rules macro_numbers m.rules rs t1 >>= λ kept t2.
+          expand (searched known) turns below at.here inner_frames (body m.body) t2 >>= λ c. done (LetSyntax (local_defs (searched known) t2 macro_numbers m.names) c)) bound_stands b
+
+      module _ (below : code_at.At) (b : BeginsBelow w1 w2 at 1 (Ok below)) where
+        abbrev begun : ScopedState
+        begun = spent 1 bound_state
+
+        abbrev keeps : Result (Unit {0}) Broken × ScopedState
+        keeps = keep_all (searched known) at.here frames_of_rules macro_numbers m.rules rs begun
+
+        abbrev kept_state : ScopedState
+        kept_state = keeps.1
+
+        abbrev then_body : Unit {0} → Step ScopedState Core
+        then_body kept t2 = expand (searched known) turns below.depth below.here inner_frames (body m.body) t2 >>= λ c. done (LetSyntax (local_defs (searched known) t2 macro_numbers m.names) c)
+
+        abbrev Kept : UnitScope → Result (Unit {0}) ExpandFault → Type 0
+        Kept w3 result = EndsHere (λ (kept : Unit {0}) (also : Unit {0}). Unit {0}) work work region w2 w3 bound_layout result keeps
+
+        pub from_begun : {V : Type 0} (Q : List Frames → V → Core → Type 0) (new : Work) (v : UnitScope) (result : Result V ExpandFault) → (Stands work w2 bound_layout begun → Ends Q work new region w2 v bound_layout result (keeps >>= then_body)) →
+            Ends Q work new region w1 v bound_layout result (node_step known turns rs bound_state)
+        from_begun Q new v result next =
+            node_below known work new region w1 w2 v bound_layout bound_state at below 1 bound_stands b Q
+            (λ d o t1. keep_all (searched known) at.here frames_of_rules macro_numbers m.rules rs t1 >>= λ kept t2. expand (searched known) turns d o inner_frames (body m.body) t2 >>= λ c. done (LetSyntax (local_defs (searched known) t2 macro_numbers m.names) c)) result next
+
+        pub kept_numbers : HaveNumbers begun bs macro_numbers
+        kept_numbers = have_numbers begun u.form.budget.locals xs m.names bs first (same_length (IsName work) xs m.names names) h.bound (λ j. record { unit = s.unit; form = s.form; count = sym e.form.locals j })
+
+        pub kept_heads : heads (searched known) at.here frames_of_rules m.rules begun ≡ done rs begun
+        kept_heads = heads_later known at.here frames_of_rules bound_state 1 m.rules rs read
+
+        pub kept_fails : {V : Type 0} (Q : List Frames → V → Core → Type 0) (w3 : UnitScope) (x : ExpandFault) → Kept w3 (Err x) → Ends Q work work region w2 w3 bound_layout (Err x) (keeps >>= then_body)
+        kept_fails Q w3 x kept =
+            ends_fails (λ (layout : List Frames) (kept : Unit {0}) (also : Unit {0}). Unit {0}) Q work work region w2 w3 bound_layout x keeps then_body
+            (here_ends (λ (kept : Unit {0}) (also : Unit {0}). Unit {0}) work work region w2 w3 bound_layout (Err x) keeps kept)
+
+        module _ (w3 : UnitScope) (passed : Unit {0}) (kept : Kept w3 (Ok passed)) where
+          pub kept_stays : Stays work work region w2 w3 bound_layout kept_state
+          kept_stays = kept.1
+
+          pub kept_knows : Knows w3.libraries known
+          kept_knows =
+              knows_on known w2 w3 kept.1.same (below_knows w1 w2 at below 1 b known (subst (λ (x : UnitScope). Knows x.libraries known) (sym h.after) knows))
+
+          pub kept_inner : At bound_layout inner inner_frames
+          kept_inner = binds_inner work region u w1 at.scope xs m.names inner bs apart sound names room h ls s fs e there
+
+          pub after_kept : {V : Type 0} (Q : List Frames → V → Core → Type 0) (new : Work) (v : UnitScope) (result : Result V ExpandFault) → Ends Q work new region w3 v bound_layout result (then_body tt kept_state) → Ends Q work new region w2 v bound_layout result (keeps >>= then_body)
+          after_kept Q new v result next =
+              here_then (λ (kept : Unit {0}) (also : Unit {0}). Unit {0}) Q work work new region w2 w3 v bound_layout passed result keeps then_body kept (λ y stays held. next)
+
+          -- the state stands for a unit and a form that stay the same
+          pub kept_unit : kept_state.unit ≡ s.unit
+          kept_unit = sym kept.1.stands.unit ∙ (kept.1.same.unit ∙ (ap (λ (x : UnitScope). x.unit) b.2.2 ∙ (ap (λ (x : UnitScope). x.unit) h.after ∙ e.unit)))
+
+          pub kept_form : kept_state.form ≡ s.form
+          kept_form = sym kept.1.stands.form.number ∙ (kept.1.same.number ∙ (ap (λ (x : UnitScope). x.form.number) b.2.2 ∙ (ap (λ (x : UnitScope). x.form.number) h.after ∙ e.form.number)))
+
+          pub kept_binders : AreLocalMacros work kept_state bs macro_numbers m.names
+          kept_binders =
+              local_binders_are work kept_state bs first m.names
+              (subst (λ (n : ℕ). AllMatch (IsBinder work.symbols n kept_state.form) bs (bound_binders first m.names)) (sym kept_unit)
+              (subst (λ (n : ℕ). AllMatch (IsBinder work.symbols s.unit n) bs (bound_binders first m.names)) (sym kept_form) stand.binders))
+
+          pub can_keep : CanKeep work w3 bs
+          can_keep = record { layout = bound_layout; state = kept_state; numbers = macro_numbers; names = m.names; stands = kept.1.stands; are = kept_binders }
+
+          pub inner_look : CanLook work w3 inner
+          inner_look = record { layout = bound_layout; state = kept_state; frames = inner_frames; stands = kept.1.stands; at = kept_inner }
+
+          module _ (new : Work) (v : UnitScope) where
+            abbrev BodyRuns : Result code_core.Core ExpandFault → Type 0
+            BodyRuns result = Runs (λ (layout : List Frames). CoreStands new v.unit v.form.number) work new region w3 v inner result (λ known fs. expand (searched known) turns below.depth below.here fs (body m.body))
+
+            body_ends : (result : Result code_core.Core ExpandFault) → BodyRuns result → Ends (λ (layout : List Frames). CoreStands new v.unit v.form.number) work new region w3 v bound_layout result (expand (searched known) turns below.depth below.here inner_frames (body m.body) kept_state)
+            body_ends result runs = runs known bound_layout kept_state inner_frames kept_knows kept.1.stands kept_inner
+
+            pub body_fails : {V : Type 0} (Q : List Frames → V → Core → Type 0) (x : ExpandFault) → BodyRuns (Err x) → Ends Q work new region w3 v bound_layout (Err x) (then_body tt kept_state)
+            body_fails Q x runs =
+                ends_fails (λ (layout : List Frames). CoreStands new v.unit v.form.number) Q work new region w3 v bound_layout x (expand (searched known) turns below.depth below.here inner_frames (body m.body) kept_state)
+                (λ c. done (LetSyntax (local_defs (searched known) kept_state macro_numbers m.names) c)) (body_ends (Err x) runs)
+
+            pub body_goes : (defs : Vec code_macro.MacroDef Global) (y : Box code_core.Core) → AllMatch (IsMacroDef work kept_state.unit kept_state.form) defs.items (local_defs (searched known) kept_state macro_numbers m.names) → BodyRuns (Ok y.value) →
+                Ends (λ (layout : List Frames). CoreStands new v.unit v.form.number) work new region w3 v bound_layout (Ok (cores.LetSyntax defs y)) (then_body tt kept_state)
+            body_goes defs y told runs =
+                let ends = body_ends (Ok y.value) runs in
+                let grows = ends.1.stays.work in
+                let unit : v.unit ≡ kept_state.unit = ends.1.stays.same.unit ∙ kept.1.stands.unit in
+                let form : v.form.number ≡ kept_state.form = ends.1.stays.same.number ∙ kept.1.stands.form.number in
+                let ds = local_defs (searched known) kept_state macro_numbers m.names in
+                let on = every_on (IsMacroDef work kept_state.unit kept_state.form) (IsMacroDef new kept_state.unit kept_state.form) (macro_def_on work new grows.trees grows.names kept_state.unit kept_state.form) defs.items ds told in
+                let now = subst (λ (n : ℕ). AllMatch (IsMacroDef new n v.form.number) defs.items ds) (sym unit) (subst (λ (n : ℕ). AllMatch (IsMacroDef new kept_state.unit n) defs.items ds) (sym form) on) in
+                ends_mapped (λ (layout : List Frames). CoreStands new v.unit v.form.number) (λ (layout : List Frames). CoreStands new v.unit v.form.number) work new region w3 v bound_layout y.value (cores.LetSyntax defs y)
+                (expand (searched known) turns below.depth below.here inner_frames (body m.body) kept_state) (λ c. LetSyntax ds c) (λ layout c held. (defs, y, refl, now, held)) ends
