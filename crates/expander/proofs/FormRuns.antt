@@ -3,22 +3,25 @@ use Rattle.std.proofs.Common.{◌≡◌, ℕ, ◌+◌, ◌≤◌, List, [], ◌�
 use Rattle.std.specs.Global.{Box}
 use Rattle.std.specs.declared.alloc.Global.{Global}
 use Rattle.scheme_model.specs.declared.Occ.{Occ}
-use Rattle.scheme_model.specs.Trees.{Tree, Trees, no_trees, tree}
-use Rattle.scheme_model.specs.Ident.{Ident as Identifier}
+use Rattle.scheme_model.specs.Trees.{Tree, Trees, no_trees, tree, map_tree}
+use Rattle.scheme_model.specs.Holes.{hole_places}
+use Rattle.scheme_model.specs.Quasiquote.{Mark, Pieces, quasi_of}
+use Rattle.scheme_model.specs.Ident.{Ident as Identifier, symbol_of}
 use Rattle.scheme_model.specs.ExpansionFaults.{Named, Fault, BadForm, BadPlace, fault_code, fault_name, ◌>>◌}
 use Rattle.scheme_model.specs.Keywords.{CoreKeyword}
 use Rattle.scheme_model.specs.Requirements.{Known}
 use Rattle.scheme_model.specs.Shapes.{Clause}
-use Rattle.scheme_model.specs.Cores.{Core, Set, Lambda, Body, Parts, Binders}
+use Rattle.scheme_model.specs.Cores.{Core, Set, Quasi, Lambda, Body, Parts, Binders, outside}
 use Rattle.scheme_model.specs.Steps.{Broken, Step, ◌>>=◌, done, fails}
 use Rattle.scheme_model.specs.Order.{Here, head_of, target_of, given}
-use Rattle.scheme_model.specs.Expression.{Expander, whole, expand, node, procedure, lambda, sequence, expressions, assignment, set, chosen_sequence, unless_keyword}
+use Rattle.scheme_model.specs.Expression.{Expander, whole, expand, node, procedure, lambda, sequence, expressions, assignment, set, chosen_sequence, unless_keyword, quasi, each_of, symbol_or_hole}
 use Rattle.scheme_model.specs.ScopedExpansion.{Frames, ScopedState}
 use Rattle.scheme_model.specs.CountedExpansion.{means_here}
+use Rattle.syntax_tree.specs.Works.{StandsFor}
 use Rattle.syntax_tree.specs.declared.trees.Work.{Work}
 use Rattle.syntax_tree.specs.declared.trees.nodes.Tree as number
 use Rattle.syntax_tree.specs.declared.trees.table.Region.{Region}
-use Rattle.core_forms.specs.Forms.{Shape, Quoted, Quasi, Procedure, Procedures, Conditional, Assignment, Sequence, Definition, Several, RecordType, Syntax, Local, Choices, ErrorText, Inclusion}
+use Rattle.core_forms.specs.Forms.{Shape, Quoted, Quasi as quasi_shape, Procedure, Procedures, Conditional, Assignment, Sequence, Definition, Several, RecordType, Syntax, Local, Choices, ErrorText, Inclusion}
 use Rattle.core_forms.specs.Parts.{AllMatch as AllParts, IsName, IsChoice, AreTrees}
 use Rattle.core_forms.specs.declared.shape.Choice.{Choice}
 use Rattle.core_forms.specs.declared.shape.NamePart.{NamePart}
@@ -46,6 +49,8 @@ use Rattle.expander.specs.declared.scope.UnitScope.{UnitScope}
 use Rattle.expander.proofs.BelowLaws.{same_fault}
 use Rattle.expander.proofs.ChoiceLaws.{chosen_sequence_is}
 use Rattle.expander.proofs.CoreStandLaws.{target_on}
+use Rattle.expander.proofs.ExpandLaws.{EachRuns, each_node, each_node_fails}
+use Rattle.expander.proofs.HoleLaws.{quasi_holes, quasi_places}
 use Rattle.expander.proofs.NodeLaws.{fails_here}
 use Rattle.expander.proofs.OutcomeLaws.{here_ends, leaves_itself}
 use Rattle.expander.proofs.ReadLaws.{unless_goes, tested_fails, target_at}
@@ -176,6 +181,26 @@ module _ (work : Work) (region : Region) (u : UnitScope) (at : code_at.At) (turn
   chosen_fails Q fault.Full chosen = λ known ls s fs knows stands there. absurd (chosen known cs knows are)
   chosen_fails Q fault.Memory chosen = λ known ls s fs knows stands there. leaves_itself work region u stands.form.few_nodes
 
+-- ---- quasiquotations
+
+module _ (old new : Work) (region : Region) (u w v : UnitScope) (at below : code_at.At) (count : ℕ) (h : BeginsBelow u w at count (Ok below)) (turns : ℕ) (n : number.Tree) (t : Tree Identifier) (p : Pieces Identifier) (counted : count ≡ 1 + outside p.datum) where
+  abbrev quasi_step : ℕ → Known → Frames → Step ScopedState Core
+  quasi_step k known fs = node (searched known) at.here k at.depth (λ d t. each_of (λ x. expand (searched known) turns d at.here fs (whole x)) p.holes t >>= λ cs. done (Quasi (map_tree (symbol_or_hole symbol_of) p.datum) cs))
+
+  pub quasi_runs : (mark : Identifier → Option Mark) (places : Vec ℕ Global) (xs : Vec code_core.Core Global) → StandsFor new n t → quasi_of mark t ≡ Ok p → places.items ≡ hole_places p.datum → EachRuns old new region u w v at below count turns h p.holes (Ok xs) →
+      Runs (λ (layout : List Frames). CoreStands new v.unit v.form.number) old new region u v at.scope (Ok (cores.Quasi n places xs)) (λ known fs. quasi (expand (searched known) turns) (searched known) at.depth at.here fs p)
+  quasi_runs mark places xs stands read there runs =
+      let holed = map_tree (symbol_or_hole symbol_of) p.datum in
+      subst (λ (k : ℕ). Runs (λ (layout : List Frames). CoreStands new v.unit v.form.number) old new region u v at.scope (Ok (cores.Quasi n places xs)) (quasi_step k)) counted
+      (each_node old new region u w v at below count turns h p.holes xs (cores.Quasi n places xs) (λ ms. Quasi holed ms)
+      (λ ms held. (n, places, xs, refl, (t, stands, quasi_holes symbol_of mark t p read, there ∙ sym (quasi_places symbol_of p)), held)) runs)
+
+  pub quasi_fails : {V : Type 0} (Q : List Frames → V → Core → Type 0) (e : ExpandFault) → EachRuns old new region u w v at below count turns h p.holes (Err e) →
+      Runs Q old new region u v at.scope (Err e) (λ known fs. quasi (expand (searched known) turns) (searched known) at.depth at.here fs p)
+  quasi_fails Q e runs =
+      subst (λ (k : ℕ). Runs Q old new region u v at.scope (Err e) (quasi_step k)) counted
+      (each_node_fails old new region u w v at below count turns h p.holes Q e (λ ms. Quasi (map_tree (symbol_or_hole symbol_of) p.datum) ms) runs)
+
 -- ---- definitions, which have no place among expressions
 
 module _ (work : Work) (region : Region) (u : UnitScope) (at : code_at.At) (turns : ℕ) (k : CoreKeyword) where
@@ -191,7 +216,7 @@ module _ (work : Work) (region : Region) (u : UnitScope) (at : code_at.At) (turn
   misplaced_runs Q (RecordType r) is = placed_nowhere Q
   misplaced_runs Q (Syntax p) is = placed_nowhere Q
   misplaced_runs Q (Quoted t) is = absurd is
-  misplaced_runs Q (Quasi t p) is = absurd is
+  misplaced_runs Q (quasi_shape t p) is = absurd is
   misplaced_runs Q (Procedure c) is = absurd is
   misplaced_runs Q (Procedures cs) is = absurd is
   misplaced_runs Q (Conditional ts) is = absurd is

@@ -89,3 +89,4 @@ pub mod KeptKinds
 pub mod BodyRuns
 pub mod FormRuns
 pub mod LocalRuns
+pub mod ItemRuns
