@@ -30,7 +30,7 @@ use Rattle.expander.specs.Binds.{Binds}
 use Rattle.expander.specs.Bodies.{BodyFor, body_pass}
 use Rattle.expander.specs.Judged.{Knows}
 use Rattle.expander.specs.Kept.{KeptFor}
-use Rattle.expander.specs.Outcomes.{At, CanLook, Ends, Runs, Moves, SameForm, IsEnough}
+use Rattle.expander.specs.Outcomes.{At, CanLook, Ends, Runs, Moves, SameForm, IsEnough, HasRoom, Spends}
 use Rattle.expander.specs.Ready.{BeginsBelow}
 use Rattle.expander.specs.Searched.{searched}
 use Rattle.expander.specs.State.{Stands, most_locals}
@@ -149,3 +149,19 @@ module _ (old mid : Work) (region : Region) (u w1 w : UnitScope) (at below : cod
 pub some_turns : (depth uses turns : ℕ) → uses ≤ 10000 → IsEnough depth uses turns → (n : ℕ) × (turns ≡ suc n) × (2 ^ 39 ≤ n) × (depth * 2 ^ 40 ≤ n + uses)
 some_turns depth uses zero few h = absurd (omega (arith, few, h))
 some_turns depth uses (suc n) few h = (n, refl, omega (arith, few, h), omega (arith, few, h))
+
+-- ---- locals
+
+-- names were bound, and a node or more was counted
+pub room_bound : (u w : UnitScope) (count : ℕ) → w.form.budget.locals ≡ u.form.budget.locals + count → u.form.budget.nodes ≤ w.form.budget.nodes → count ≤ 4194304 → HasRoom (2 ^ 43) u → HasRoom (2 ^ 42) w
+room_bound u w count locals nodes few room = omega (arith, locals, nodes, few, room)
+
+pub spends_bound : (u w v : UnitScope) (count : ℕ) → w.form.budget.locals ≡ u.form.budget.locals + count → u.form.budget.nodes ≤ w.form.budget.nodes → count ≤ 4194304 → Spends (2 ^ 43) w v → Spends 0 u v
+spends_bound u w v count locals nodes few spends = omega (arith, locals, nodes, few, spends)
+
+-- the forms of a body were gone through behind its node
+pub room_passed : (u w1 w : UnitScope) → w1.form.budget.locals ≡ u.form.budget.locals → w1.form.budget.nodes ≡ u.form.budget.nodes + 1 → w.form.budget.locals ≤ w1.form.budget.locals + 2 ^ 38 → w1.form.budget.nodes ≤ w.form.budget.nodes → HasRoom (2 ^ 42) u → HasRoom (2 ^ 43) w
+room_passed u w1 w locals nodes passed more room = omega (arith, locals, nodes, passed, more, room)
+
+pub spends_passed : (u w1 w v : UnitScope) → w1.form.budget.locals ≡ u.form.budget.locals → w1.form.budget.nodes ≡ u.form.budget.nodes + 1 → w.form.budget.locals ≤ w1.form.budget.locals + 2 ^ 38 → w1.form.budget.nodes ≤ w.form.budget.nodes → Spends 0 w v → Spends (2 ^ 43) u v
+spends_passed u w1 w v locals nodes passed more spends = omega (arith, locals, nodes, passed, more, spends)

@@ -112,7 +112,7 @@ module _ (old mid : Work) (region : Region) (u w : UnitScope) (at : code_at.At) 
 
 module _ (mid new : Work) (region : Region) (w v0 v : UnitScope) (at below : code_at.At) (n left : ℕ) (h : BeginsBelow w v0 at n (Ok below)) (ts : List (Tree Identifier)) where
   abbrev pub EachRuns : Result (Vec code_core.Core Global) ExpandFault → Type 0
-  EachRuns result = Runs (λ ls cs ms. CoresStand new v.unit v.form.number cs.items ms) mid new region v0 v below.scope result (λ known fs. each_of (λ t. expand (searched known) left below.depth below.here fs (whole t)) ts)
+  EachRuns result = Runs (λ (layout : List Frames) (cs : Vec code_core.Core Global). CoresStand new v.unit v.form.number cs.items) mid new region v0 v below.scope result (λ known fs. each_of (λ t. expand (searched known) left below.depth below.here fs (whole t)) ts)
 
   pub each_node : (xs : Vec code_core.Core Global) (z : code_core.Core) (k : Cores → Core) → ((ms : Cores) → CoresStand new v.unit v.form.number xs.items ms → CoreStands new v.unit v.form.number z (k ms)) → EachRuns (Ok xs) →
       Runs (λ layout. CoreStands new v.unit v.form.number) mid new region w v at.scope (Ok z) (λ known fs. node (searched known) at.here n at.depth (λ d t. each_of (λ x. expand (searched known) left d at.here fs (whole x)) ts t >>= λ cs. done (k cs)))

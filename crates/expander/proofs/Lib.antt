@@ -90,3 +90,4 @@ pub mod BodyRuns
 pub mod FormRuns
 pub mod LocalRuns
 pub mod ItemRuns
+pub mod CycleCalls
