@@ -91,8 +91,9 @@ module _ (old new : Work) (region : Region) (u v : UnitScope) (at : code_at.At) 
   pub pass_after : (forms : List number.Tree) (scope : ℕ) (aside : Vec code_kept.Kept Global) → CanLook old u at.scope → BodyAtWork old region forms → PassRuns forms (Ok (scope, aside)) → IsPassed scope aside.items
   pass_after forms scope aside look works h =
       let k = all_known u.libraries in
-      let ends = h works.0 (2 ^ 39) works.1 works.3 (omega arith) k.0 look.layout look.state look.frames k.1 look.stands look.at in
+      let turns : ℕ = 2 ^ 39 + at.depth in
+      let ends = h works.0 turns works.1 works.3 (omega arith) k.0 look.layout look.state look.frames k.1 look.stands look.at in
       record {
-        after = record { look = record { layout = ends.1.layout; state = (body_pass (2 ^ 39) at.here works.0 k.0 look.frames look.state).1; frames = ends.0.0; stands = ends.1.stays.stands; at = ends.3.0 }; work = ends.1.stays.work; same = ends.1.stays.same };
+        after = record { look = record { layout = ends.1.layout; state = (body_pass turns at.here works.0 k.0 look.frames look.state).1; frames = ends.0.0; stands = ends.1.stays.stands; at = ends.3.0 }; work = ends.1.stays.work; same = ends.1.stays.same };
         kept = (ends.0.1, ends.3.1);
       }
