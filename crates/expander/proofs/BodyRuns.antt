@@ -47,6 +47,7 @@ use Rattle.expander.proofs.LoopLaws.{knows_on}
 use Rattle.expander.proofs.NodeLaws.{ends_then}
 use Rattle.expander.proofs.OutcomeLaws.{ends_fails}
 use Rattle.expander.proofs.RowLaws.{ends_mapped}
+use Rattle.expander.proofs.StepLaws.{node_none}
 
 -- ---- trees stand for the same
 
@@ -144,6 +145,17 @@ module _ (old mid : Work) (region : Region) (u w1 w : UnitScope) (at below : cod
       let first = passed known ls (spent 1 s) fs (below_knows u w1 at below 1 h known knows) now (below_at u w1 at below 1 h ls fs there) in
       let two = ends_fails P (λ (layout : List Frames) (y : Vec code_part.CorePart Global) (z : Parts). PartsOfCores mid w.unit w.form.number y.items z) old mid region w1 w ls x (body_pass turns below.here ts known fs (spent 1 s)) (next known) first in
       ends_fails (λ (layout : List Frames) (y : Vec code_part.CorePart Global) (z : Parts). PartsOfCores mid w.unit w.form.number y.items z) Q old mid region w1 w ls x (body_pass turns below.here ts known fs (spent 1 s) >>= next known) (λ ps. done (Body ps)) two)
+
+-- its node can't begin
+pub body_unbegun : (work : Work) (region : Region) (u w : UnitScope) (at : code_at.At) (turns : ℕ) (ts : Trees Identifier) {V : Type 0} (Q : List Frames → V → Core → Type 0) (x : ExpandFault) → BeginsBelow u w at 1 (Err x) →
+    Runs Q work work region u w at.scope (Err x) (λ known fs. expand (searched known) (suc turns) at.depth at.here fs (body ts))
+body_unbegun work region u w at turns ts Q x h =
+    node_none Q work region u w at 1 x (λ known fs below t. body_in (searched known) turns (item_part (expand (searched known) turns) (searched known) below) at.here (record { env = entered_frames t fs; trees = ts; state = entered t })) h
+
+-- one turn is the body's
+pub body_turned : (old new : Work) (region : Region) (u v : UnitScope) (at : code_at.At) (turns n : ℕ) (ts : Trees Identifier) → turns ≡ suc n → {V : Type 0} (Q : List Frames → V → Core → Type 0) (result : Result V ExpandFault) →
+    Runs Q old new region u v at.scope result (λ known fs. expand (searched known) (suc n) at.depth at.here fs (body ts)) → Runs Q old new region u v at.scope result (λ known fs. expand (searched known) turns at.depth at.here fs (body ts))
+body_turned old new region u v at turns n ts is Q result runs = subst (λ (k : ℕ). Runs Q old new region u v at.scope result (λ known fs. expand (searched known) k at.depth at.here fs (body ts))) (sym is) runs
 
 -- enough turns are some
 pub some_turns : (depth uses turns : ℕ) → uses ≤ 10000 → IsEnough depth uses turns → (n : ℕ) × (turns ≡ suc n) × (2 ^ 39 ≤ n) × (depth * 2 ^ 40 ≤ n + uses)

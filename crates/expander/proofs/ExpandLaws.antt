@@ -47,6 +47,9 @@ module _ (old mid : Work) (region : Region) (u w : UnitScope) (at : code_at.At) 
   ReadyRuns result = (known : Known) (turns : ℕ) (ls : List Frames) (s : ScopedState) (fs : Frames) (t : Tree Identifier) → Knows u.libraries known → Stands old u ls s → At ls at.scope fs →
       WorksOn old region form t → IsEnough at.depth u.form.budget.uses turns → Prepares known at.depth old mid region u w ls fs result (expand (searched known) turns at.depth at.here fs (whole t) s)
 
+  read_as : (here : Option Occ) (r q : code_ready.Ready) → r ≡ q → ReadyRuns (Ok (here, r)) → ReadyRuns (Ok (here, q))
+  read_as here r q is h = subst (λ (x : code_ready.Ready). ReadyRuns (Ok (here, x))) is h
+
   module _ (look : CanLook old u at.scope) (works : IsAtWork old region form) where
     abbrev known_here : Known
     known_here = (all_known u.libraries).0
@@ -61,14 +64,14 @@ module _ (old mid : Work) (region : Region) (u w : UnitScope) (at : code_at.At) 
     pub ready_after : (x : Option Occ × code_ready.Ready) → ReadyRuns (Ok x) → IsAfter old mid region u w at.scope
     ready_after x h = prepares_after known_here at.depth old mid region u w at.scope look.layout look.frames x some_step look.at (prepared (Ok x) h)
 
-    pub ready_parts : (here : Option Occ) (parts : Vec number.Tree Global) → ReadyRuns (Ok (here, ready.Call parts)) → AreAtWork mid region parts.items
-    ready_parts here parts h = let q = prepared (Ok (here, ready.Call parts)) h in (q.6.0, q.6.1, q.6.2)
+    pub ready_parts : (here : Option Occ) (r : code_ready.Ready) (parts : Vec number.Tree Global) → r ≡ ready.Call parts → ReadyRuns (Ok (here, r)) → AreAtWork mid region parts.items
+    ready_parts here r parts is h = let q = prepared (Ok (here, ready.Call parts)) (read_as here r (ready.Call parts) is h) in (q.6.0, q.6.1, q.6.2)
 
-    pub ready_keyword : (here : Option Occ) (k : code_keyword.CoreKeyword) (shape : code_shape.CoreShape) → ReadyRuns (Ok (here, ready.Shape k shape)) → (c : CoreKeyword) × (keyword_as k ≡ Some c)
-    ready_keyword here k shape h = let q = prepared (Ok (here, ready.Shape k shape)) h in (q.6.0, q.6.2)
+    pub ready_keyword : (here : Option Occ) (r : code_ready.Ready) (k : code_keyword.CoreKeyword) (shape : code_shape.CoreShape) → r ≡ ready.Shape k shape → ReadyRuns (Ok (here, r)) → (c : CoreKeyword) × (keyword_as k ≡ Some c)
+    ready_keyword here r k shape is h = let q = prepared (Ok (here, ready.Shape k shape)) (read_as here r (ready.Shape k shape) is h) in (q.6.0, q.6.2)
 
-    pub ready_shape : (here : Option Occ) (k : code_keyword.CoreKeyword) (shape : code_shape.CoreShape) → ReadyRuns (Ok (here, ready.Shape k shape)) → ShapeAtWork mid region shape
-    ready_shape here k shape h = let q = prepared (Ok (here, ready.Shape k shape)) h in (q.6.1, q.6.3, q.6.4, q.6.5.0, q.6.5.1)
+    pub ready_shape : (here : Option Occ) (r : code_ready.Ready) (k : code_keyword.CoreKeyword) (shape : code_shape.CoreShape) → r ≡ ready.Shape k shape → ReadyRuns (Ok (here, r)) → ShapeAtWork mid region shape
+    ready_shape here r k shape is h = let q = prepared (Ok (here, ready.Shape k shape)) (read_as here r (ready.Shape k shape) is h) in (q.6.1, q.6.3, q.6.4, q.6.5.0, q.6.5.1)
 
   -- ---- what becomes of it
 
@@ -80,9 +83,9 @@ module _ (old mid : Work) (region : Region) (u w : UnitScope) (at : code_at.At) 
     expand_fails Q x h = λ known ls s fs knows e there.
         prepared_fails known at.depth old mid region u w ls fs at.here (step known fs s) Q x (h known turns ls s fs t knows e there (stands, named) enough)
 
-    pub expand_core : (here : Option Occ) (c : code_core.Core) → ReadyRuns (Ok (here, ready.Core c)) → Runs (λ layout. CoreStands mid w.unit w.form.number) old mid region u w at.scope (Ok c) step
-    expand_core here c h = λ known ls s fs knows e there.
-        prepared_core known at.depth old mid region u w ls fs here (step known fs s) c (h known turns ls s fs t knows e there (stands, named) enough)
+    pub expand_core : (here : Option Occ) (r : code_ready.Ready) (c : code_core.Core) → r ≡ ready.Core c → ReadyRuns (Ok (here, r)) → Runs (λ layout. CoreStands mid w.unit w.form.number) old mid region u w at.scope (Ok c) step
+    expand_core here r c is h = λ known ls s fs knows e there.
+        prepared_core known at.depth old mid region u w ls fs here (step known fs s) c (read_as here r (ready.Core c) is h known turns ls s fs t knows e there (stands, named) enough)
 
     module _ {V : Type 0} (Q : List Frames → V → Core → Type 0) (new : Work) (v : UnitScope) (here : Option Occ) (placed : code_at.At) (is : placed ≡ record at { here = here }) (result : Result V ExpandFault) where
       -- the call goes on where the expression was read
@@ -90,9 +93,9 @@ module _ (old mid : Work) (region : Region) (u w : UnitScope) (at : code_at.At) 
       CallRuns parts a = (left : ℕ) (ts : Trees Identifier) → PartsStand mid parts.items ts → IsEnoughBelow a.depth w.form.budget.uses left →
           Runs Q mid new region w v a.scope result (λ known fs. node (searched known) a.here 1 a.depth (λ below t1. each (λ x. expand (searched known) left below a.here fs (whole x)) ts t1 >>= λ cs. done (Call cs)))
 
-      pub expand_call : (parts : Vec number.Tree Global) → ReadyRuns (Ok (here, ready.Call parts)) → CallRuns parts placed → Runs Q old new region u v at.scope result step
-      expand_call parts h next = λ known ls s fs knows e there.
-          let q = h known turns ls s fs t knows e there (stands, named) enough in
+      pub expand_call : (r : code_ready.Ready) (parts : Vec number.Tree Global) → r ≡ ready.Call parts → ReadyRuns (Ok (here, r)) → CallRuns parts placed → Runs Q old new region u v at.scope result step
+      expand_call r parts read h next = λ known ls s fs knows e there.
+          let q = read_as here r (ready.Call parts) read h known turns ls s fs t knows e there (stands, named) enough in
           let goes = subst (CallRuns parts) is next in
           prepared_call known at.depth old mid region u w ls fs here (step known fs s) Q new v parts result q
           (λ left ts t1 later less parts1 named1. goes left ts parts1 less known ls t1 fs (knows_on known u w q.3.same knows) later there)
@@ -101,9 +104,9 @@ module _ (old mid : Work) (region : Region) (u w : UnitScope) (at : code_at.At) 
       ShapeRuns k shape a = (c : CoreKeyword) (m : Shape) (left : ℕ) → keyword_as k ≡ Some c → ShapeFor mid shape m → ShapeFits m → IsLeft m → IsEnoughBelow a.depth w.form.budget.uses left →
           Runs Q mid new region w v a.scope result (λ known fs. core_step (expand (searched known) left) (searched known) a.depth a.here fs c m)
 
-      pub expand_form : (k : code_keyword.CoreKeyword) (shape : code_shape.CoreShape) → ReadyRuns (Ok (here, ready.Shape k shape)) → ShapeRuns k shape placed → Runs Q old new region u v at.scope result step
-      expand_form k shape h next = λ known ls s fs knows e there.
-          let q = h known turns ls s fs t knows e there (stands, named) enough in
+      pub expand_form : (r : code_ready.Ready) (k : code_keyword.CoreKeyword) (shape : code_shape.CoreShape) → r ≡ ready.Shape k shape → ReadyRuns (Ok (here, r)) → ShapeRuns k shape placed → Runs Q old new region u v at.scope result step
+      expand_form r k shape read h next = λ known ls s fs knows e there.
+          let q = read_as here r (ready.Shape k shape) read h known turns ls s fs t knows e there (stands, named) enough in
           let goes = subst (ShapeRuns k shape) is next in
           prepared_shape known at.depth old mid region u w ls fs here (step known fs s) Q new v k shape result q
           (λ left c m t1 later less keyword for fits is_left. goes c m left keyword for fits is_left less known ls t1 fs (knows_on known u w q.3.same knows) later there)

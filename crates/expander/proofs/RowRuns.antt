@@ -26,6 +26,7 @@ use Rattle.expander.specs.declared.fault.ExpandFault.{ExpandFault}
 use Rattle.expander.specs.declared.fault.ExpandFault.TheVariants as fault
 use Rattle.expander.specs.declared.items.Kept as code_kept
 use Rattle.expander.specs.declared.scope.UnitScope.{UnitScope}
+use Rattle.expander.proofs.BelowLaws.{same_fault}
 use Rattle.expander.proofs.CoreStandLaws.{core_on, part_on, binders_on, clause_on, kept_on}
 use Rattle.expander.proofs.LoopLaws.{runs_more, runs_stop, memory_behind}
 use Rattle.expander.proofs.OutcomeLaws.{named_on}
@@ -47,16 +48,25 @@ module _ {A X Y E : Type 0} (f : Known → Frames → A → Step ScopedState Y) 
       subst (λ (zs : List X). Runs (λ (layout : List Frames). AllMatch Q) a c region u v scope (Ok zs) (λ known fs. row (f known fs) (take (k + 1) es))) (sym is)
       (subst (λ (n : ℕ). Runs (λ (layout : List Frames). AllMatch Q) a c region u v scope (Ok (xs ++ x ∷ [])) (λ known fs. row (f known fs) (take n es))) next goes)
 
-  pub row_stops : {V : Type 0} (S : List Frames → V → List Y → Type 0) (x : ExpandFault) → Now (Err x) → Runs S a c region u v scope (Err x) (λ known fs. row (f known fs) es)
-  row_stops S x now =
-      let m = match_at R k ns es d match within in
-      runs_stop f P Q on a b c region u w v scope xs k es m.found m.split before S x (now m.found m.matches)
+-- ---- faults, which say nothing of values
+
+pub runs_fault : {X Y V : Type 0} (P : List Frames → X → Y → Type 0) (Q : List Frames → V → Y → Type 0) (a c : Work) (region : Region) (u v : UnitScope) (scope : ℕ) (e : ExpandFault) (f : Known → Frames → Step ScopedState Y) → Runs P a c region u v scope (Err e) f → Runs Q a c region u v scope (Err e) f
+runs_fault P Q a c region u v scope e f runs = λ known ls s fs knows stands at. same_fault P Q a c region u v ls e (f known fs s) (runs known ls s fs knows stands at)
 
 -- ---- want of memory behind a call that went on
 
 pub runs_memory : {X Y V Z : Type 0} (P : List Frames → X → Y → Type 0) (Q : List Frames → V → Z → Type 0) (a c : Work) (region : Region) (u v : UnitScope) (scope : ℕ) (x : X) (f : Known → Frames → Step ScopedState Y) (g : Known → Frames → Step ScopedState Z) →
     Runs P a c region u v scope (Ok x) f → Runs Q a c region u v scope (Err fault.Memory) g
 runs_memory P Q a c region u v scope x f g runs = λ known ls s fs knows e at. memory_behind P Q a c region u v ls x (f known fs s) (g known fs s) (runs known ls s fs knows e at)
+
+module _ {A X Y E : Type 0} (f : Known → Frames → A → Step ScopedState Y) (R : E → A → Type 0) (P : X → Y → Type 0) (a b c : Work) (region : Region) (u w v : UnitScope) (scope : ℕ)
+    (xs : List X) (k : ℕ) (ns : List E) (es : List A) (d : E) (match : AllMatch R ns es) (within : k < length ns)
+    (before : Runs (λ (layout : List Frames). AllMatch P) a b region u w scope (Ok xs) (λ known fs. row (f known fs) (take k es))) where
+  pub row_stops : {V Z : Type 0} (Q : List Frames → V → Y → Type 0) (S : List Frames → Z → List Y → Type 0) (x : ExpandFault) → ((e : A) → R (get_or ns k d) e → Runs Q b c region w v scope (Err x) (λ known fs. f known fs e)) →
+      Runs S a c region u v scope (Err x) (λ known fs. row (f known fs) es)
+  row_stops Q S x now =
+      let m = match_at R k ns es d match within in
+      runs_stop f P P (λ y z q. q) a b c region u w v scope xs k es m.found m.split before S x (runs_fault Q (λ (layout : List Frames). P) b c region w v scope x (λ known fs. f known fs m.found) (now m.found m.matches))
 
 -- ---- what stood for cores, clauses and parts before a call
 

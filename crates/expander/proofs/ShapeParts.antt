@@ -124,8 +124,8 @@ again_of (Some IsLetrecSyntax) = true
 again_of (Some k) = false
 
 again_is : (k : code_keyword.CoreKeyword) (again : Bool) → (k ≡ word.LetrecSyntax → again ≡ true) → ((k ≡ word.LetrecSyntax → ⊥) → again ≡ false) → again ≡ again_of (keyword_as k)
-again_is word.LetrecSyntax again yes no = yes refl
-again_is k again yes no = no (λ e. cc)
+again_is word.LetrecSyntax again same other = same refl
+again_is k again same other = other (λ e. cc)
 
 module _ {E L S : Type 0} (f : Expander E Identifier S) (ops : Ops E Identifier L S) (depth : ℕ) (here : Here) (e : E) (m : LocalMacros Identifier) (s : S) where
   by_keyword : (c : CoreKeyword) → local_step f ops depth here e c m s ≡ macros_step (again_of (Some c)) f ops depth here e m s
@@ -134,6 +134,6 @@ module _ {E L S : Type 0} (f : Expander E Identifier S) (ops : Ops E Identifier 
 
   pub local_is : (k : code_keyword.CoreKeyword) (c : CoreKeyword) (again : Bool) → keyword_as k ≡ Some c → (k ≡ word.LetrecSyntax → again ≡ true) → ((k ≡ word.LetrecSyntax → ⊥) → again ≡ false) →
       local_step f ops depth here e c m s ≡ macros_step again f ops depth here e m s
-  local_is k c again is yes no =
-      let same : again ≡ again_of (Some c) = again_is k again yes no ∙ ap again_of is in
+  local_is k c again is true_there false_else =
+      let same : again ≡ again_of (Some c) = again_is k again true_there false_else ∙ ap again_of is in
       by_keyword c ∙ ap (λ (b : Bool). macros_step b f ops depth here e m s) (sym same)
