@@ -1,5 +1,6 @@
 -- A body is gone through and then expanded; procedures and local macros, in whose scope one stands.
 use Rattle.std.proofs.Common.{◌≡◌, ℕ, zero, suc, ◌+◌, ◌*◌, ◌^◌, ◌<◌, ◌≤◌, List, [], ◌∷◌, ◌++◌, length, Option, Result, Ok, Err, Vec, refl, sym, ap, ◌∙◌, subst, arith}
+use Rattle.std.proofs.lemmas.Option.{slice_get_within}
 use Rattle.std.specs.declared.alloc.Global.{Global}
 use Rattle.scheme_model.specs.declared.Occ.{Occ}
 use Rattle.scheme_model.specs.Trees.{Tree, Trees, no_trees, tree}
@@ -37,6 +38,7 @@ use Rattle.expander.specs.State.{Stands, most_locals}
 use Rattle.expander.specs.Stepped.{spent, taken, bound_frames, entered, entered_frames}
 use Rattle.expander.specs.declared.expressions.At as code_at
 use Rattle.expander.specs.declared.fault.ExpandFault.{ExpandFault}
+use Rattle.expander.specs.declared.fault.ExpandFault.TheVariants as fault
 use Rattle.expander.specs.declared.items.Kept as code_kept
 use Rattle.expander.specs.declared.scope.UnitScope.{UnitScope}
 use Rattle.expander.proofs.AfterLaws.{IsAfter}
@@ -45,7 +47,7 @@ use Rattle.expander.proofs.BindersStand.{binders_stand, BindersStand}
 use Rattle.expander.proofs.CoreLaws.{binds_moves, body_is, inner_at}
 use Rattle.expander.proofs.LoopLaws.{knows_on}
 use Rattle.expander.proofs.NodeLaws.{ends_then}
-use Rattle.expander.proofs.OutcomeLaws.{ends_fails}
+use Rattle.expander.proofs.OutcomeLaws.{ends_fails, leaves_itself}
 use Rattle.expander.proofs.RowLaws.{ends_mapped}
 use Rattle.expander.proofs.StepLaws.{node_none}
 
@@ -170,6 +172,26 @@ room_bound u w count locals nodes few room = omega (arith, locals, nodes, few, r
 
 pub spends_bound : (u w v : UnitScope) (count : ℕ) → w.form.budget.locals ≡ u.form.budget.locals + count → u.form.budget.nodes ≤ w.form.budget.nodes → count ≤ 4194304 → Spends (2 ^ 43) w v → Spends 0 u v
 spends_bound u w v count locals nodes few spends = omega (arith, locals, nodes, few, spends)
+
+-- names may be bound
+pub few_bound : (u : UnitScope) (count : ℕ) → u.form.budget.nodes ≤ 200000 → count ≤ 4194304 → HasRoom (2 ^ 43) u → u.form.budget.locals + count < 2 ^ 64
+few_bound u count nodes few room = omega (arith, nodes, few, room)
+
+pub bound_within : (u : UnitScope) (count : ℕ) → count ≤ 4194304 → HasRoom (2 ^ 43) u → u.form.budget.locals + count ≤ most_locals u.form.budget.nodes
+bound_within u count few room = omega (arith, few, room)
+
+pub scope_within : (work : Work) (u : UnitScope) (scope : ℕ) (l : CanLook work u scope) → scope < length u.env.scopes
+scope_within work u scope l = subst (λ (len : ℕ). scope < len) l.stands.env.count (slice_get_within l.layout scope l.frames l.at)
+
+pub names_count : {X Y : Type 0} (P : X → Y → Type 0) (xs : List X) (ys : List Y) → AllParts P xs ys → length xs ≡ length ys
+names_count P [] [] h = refl
+names_count P [] (y ∷ ys) h = absurd h
+names_count P (x ∷ xs) [] h = absurd h
+names_count P (x ∷ xs) (y ∷ ys) h = ap suc (names_count P xs ys h.1)
+
+-- want of memory before anything was done
+pub runs_nothing : {X Y : Type 0} (Q : List Frames → X → Y → Type 0) (work : Work) (region : Region) (u v : UnitScope) (scope : ℕ) (f : Known → Frames → Step ScopedState Y) → Runs Q work work region u v scope (Err fault.Memory) f
+runs_nothing Q work region u v scope f = λ known ls s fs knows e at. leaves_itself work region u e.form.few_nodes
 
 -- the forms of a body were gone through behind its node
 pub room_passed : (u w1 w : UnitScope) → w1.form.budget.locals ≡ u.form.budget.locals → w1.form.budget.nodes ≡ u.form.budget.nodes + 1 → w.form.budget.locals ≤ w1.form.budget.locals + 2 ^ 38 → w1.form.budget.nodes ≤ w.form.budget.nodes → HasRoom (2 ^ 42) u → HasRoom (2 ^ 43) w

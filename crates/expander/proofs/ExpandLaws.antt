@@ -34,7 +34,7 @@ use Rattle.expander.specs.declared.expressions.Ready as code_ready
 use Rattle.expander.specs.declared.expressions.Ready.TheVariants as ready
 use Rattle.expander.specs.declared.fault.ExpandFault.{ExpandFault}
 use Rattle.expander.specs.declared.scope.UnitScope.{UnitScope}
-use Rattle.expander.proofs.AfterLaws.{IsAfter, all_known, enough_there}
+use Rattle.expander.proofs.AfterLaws.{IsAfter, all_known, enough_there, runs_after}
 use Rattle.expander.proofs.LoopLaws.{knows_on}
 use Rattle.expander.proofs.PrepareLaws.{prepared_fails, prepared_core, prepared_call, prepared_shape, prepares_after}
 use Rattle.expander.proofs.RowLaws.{each_list, trees_in}
@@ -152,3 +152,11 @@ module _ (mid new : Work) (region : Region) (w v0 v : UnitScope) (at below : cod
       (λ known fs. node (searched known) at.here n at.depth (λ d t. each (λ x. expand (searched known) left d at.here fs (whole x)) ts t >>= λ cs. done (k cs)))
       (λ known fs. node (searched known) at.here n at.depth (λ d t. each_of (λ x. expand (searched known) left d at.here fs (whole x)) (trees_in ts) t >>= λ cs. done (k cs)))
       (λ known fs s. each_told known at.here n left at.depth fs ts k s) (each_node_fails mid new region w v0 v at below n left h (trees_in ts) Q x k runs)
+
+-- what can be done after the parts were expanded
+pub each_after : (old new : Work) (region : Region) (u v : UnitScope) (at : code_at.At) (es : List (Tree Identifier)) (xs : Vec code_core.Core Global) → CanLook old u at.scope →
+    ((turns : ℕ) → IsEnough at.depth u.form.budget.uses turns → Runs (λ (layout : List Frames) (cs : Vec code_core.Core Global). CoresStand new v.unit v.form.number cs.items) old new region u v at.scope (Ok xs) (λ known fs. each_of (λ t. expand (searched known) turns at.depth at.here fs (whole t)) es)) →
+    IsAfter old new region u v at.scope
+each_after old new region u v at es xs look runs =
+    let turns : ℕ = (at.depth + 1) * 2 ^ 40 in
+    runs_after (λ (layout : List Frames) (cs : Vec code_core.Core Global). CoresStand new v.unit v.form.number cs.items) old new region u v at.scope xs (λ known fs. each_of (λ t. expand (searched known) turns at.depth at.here fs (whole t)) es) look (runs turns (enough_there at.depth u.form.budget.uses))

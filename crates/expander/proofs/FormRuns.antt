@@ -1,6 +1,8 @@
 -- Core forms with parts, each by the calls that the code makes for it: assignments, procedures, sequences, chosen forms.
 use Rattle.std.proofs.Common.{◌≡◌, ℕ, ◌+◌, ◌≤◌, List, [], ◌∷◌, Bool, false, Option, None, Result, Ok, Err, Vec, refl, sym, ap, ◌∙◌, subst, arith}
 use Rattle.std.specs.Global.{Box}
+use Rattle.std.specs.BTreeSet.{BTreeSet}
+use Rattle.std.specs.Prelude.{String}
 use Rattle.std.specs.declared.alloc.Global.{Global}
 use Rattle.scheme_model.specs.declared.Occ.{Occ}
 use Rattle.scheme_model.specs.Trees.{Tree, Trees, no_trees, tree, map_tree}
@@ -181,6 +183,13 @@ module _ (work : Work) (region : Region) (u : UnitScope) (at : code_at.At) (turn
   chosen_fails Q fault.Full chosen = λ known ls s fs knows stands there. absurd (chosen known cs knows are)
   chosen_fails Q fault.Memory chosen = λ known ls s fs knows stands there. leaves_itself work region u stands.form.few_nodes
 
+-- the judge has the works and the libraries of the call
+pub chosen_here : (work : Work) (region : Region) (u : UnitScope) (at : code_at.At) (turns : ℕ) (choices : List Choice) (k : CoreKeyword) (cs : List (Tree Identifier × Trees Identifier)) (are : AllParts (IsChoice work) choices cs) (seen : Work) (libraries : BTreeSet (String Global)) (result : Result (Vec number.Tree Global) ExpandFault) →
+    seen ≡ work → libraries ≡ u.libraries → ((known : Known) (ps : List (Tree Identifier × Trees Identifier)) → Knows libraries known → AllParts (IsChoice seen) choices ps → ChoosesForms seen at.here result (forms_chosen known ps)) → Chosen work region u at turns choices k cs are result
+chosen_here work region u at turns choices k cs are seen libraries result same known_ones h = λ known ps knows match.
+    subst (λ (x : Work). ChoosesForms x at.here result (forms_chosen known ps)) same
+    (h known ps (subst (λ (l : BTreeSet (String Global)). Knows l known) (sym known_ones) knows) (subst (λ (x : Work). AllParts (IsChoice x) choices ps) (sym same) match))
+
 -- ---- quasiquotations
 
 module _ (old new : Work) (region : Region) (u w v : UnitScope) (at below : code_at.At) (count : ℕ) (h : BeginsBelow u w at count (Ok below)) (turns : ℕ) (n : number.Tree) (t : Tree Identifier) (p : Pieces Identifier) (counted : count ≡ 1 + outside p.datum) where
@@ -200,6 +209,12 @@ module _ (old new : Work) (region : Region) (u w v : UnitScope) (at below : code
   quasi_fails Q e runs =
       subst (λ (k : ℕ). Runs Q old new region u v at.scope (Err e) (quasi_step k)) counted
       (each_node_fails old new region u w v at below count turns h p.holes Q e (λ ms. Quasi (map_tree (symbol_or_hole symbol_of) p.datum) ms) runs)
+
+pub quasi_unbegun : (work : Work) (region : Region) (u w : UnitScope) (at : code_at.At) (count turns : ℕ) (p : Pieces Identifier) → count ≡ 1 + outside p.datum → {V : Type 0} (Q : List Frames → V → Core → Type 0) (e : ExpandFault) → BeginsBelow u w at count (Err e) →
+    Runs Q work work region u w at.scope (Err e) (λ known fs. quasi (expand (searched known) turns) (searched known) at.depth at.here fs p)
+quasi_unbegun work region u w at count turns p counted Q e h =
+    subst (λ (k : ℕ). Runs Q work work region u w at.scope (Err e) (λ known fs. node (searched known) at.here k at.depth (λ d t. each_of (λ x. expand (searched known) turns d at.here fs (whole x)) p.holes t >>= λ cs. done (Quasi (map_tree (symbol_or_hole symbol_of) p.datum) cs)))) counted
+    (node_none Q work region u w at count e (λ known fs d t. each_of (λ x. expand (searched known) turns d at.here fs (whole x)) p.holes t >>= λ cs. done (Quasi (map_tree (symbol_or_hole symbol_of) p.datum) cs)) h)
 
 -- ---- definitions, which have no place among expressions
 

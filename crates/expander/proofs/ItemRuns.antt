@@ -8,26 +8,34 @@ use Rattle.scheme_model.specs.Ident.{Ident as Identifier}
 use Rattle.scheme_model.specs.ExpansionFaults.{Named}
 use Rattle.scheme_model.specs.Requirements.{Known}
 use Rattle.scheme_model.specs.Shapes.{Clause}
-use Rattle.scheme_model.specs.Cores.{Core, Set, Binder, Binders, Part, Expression as expression_part, Define as define_part, Values as values_part}
+use Rattle.scheme_model.specs.Cores.{Core, Set, Binder, Binders, RecordType, Part, Expression as expression_part, Define as define_part, Values as values_part, Fields as fields_part, Syntax as syntax_part}
 use Rattle.scheme_model.specs.Steps.{Broken, Step, ◌>>=◌, done}
 use Rattle.scheme_model.specs.Order.{Form, Item, target_of}
 use Rattle.scheme_model.specs.Order as model
-use Rattle.scheme_model.specs.Expression.{whole, expand, lambda, assignment, item_part}
+use Rattle.scheme_model.specs.Expression.{whole, expand, lambda, assignment, item_part, macro_def, meaning_of}
 use Rattle.scheme_model.specs.ScopedExpansion.{Frames, ScopedState}
 use Rattle.syntax_tree.specs.declared.trees.Work.{Work}
 use Rattle.syntax_tree.specs.declared.trees.table.Region.{Region}
-use Rattle.core_tree.specs.Names.{IsBinder}
+use Rattle.syntax_tree.specs.Meant.{IsMeaning}
+use Rattle.syntax_tree.specs.declared.meaning.Meaning as code_meaning
+use Rattle.core_tree.specs.Names.{AllMatch, IsBinder, IsField, IsMacro as IsMacroDef}
+use Rattle.core_tree.specs.declared.cores.FieldUse as code_field
+use Rattle.core_tree.specs.declared.cores.MacroDef as code_macro
 use Rattle.core_tree.specs.Cores.{AreBinders, CoreStands, PartStands}
 use Rattle.core_tree.specs.declared.cores.Binder as code_binder
 use Rattle.core_tree.specs.declared.cores.Core as code_core
 use Rattle.core_tree.specs.declared.cores.CorePart as code_part
 use Rattle.core_tree.specs.declared.cores.CorePart.TheVariants as parts
-use Rattle.expander.specs.Outcomes.{Grows, SameForm, Runs}
+use Rattle.expander.specs.Outcomes.{CanLook, Grows, SameForm, IsEnough, IsEnoughBelow, Runs}
+use Rattle.expander.specs.RulesTold.{CanTell}
 use Rattle.expander.specs.Searched.{searched}
+use Rattle.expander.specs.State.{Stands}
 use Rattle.expander.specs.declared.expressions.At as code_at
 use Rattle.expander.specs.declared.fault.ExpandFault.{ExpandFault}
 use Rattle.expander.specs.declared.scope.UnitScope.{UnitScope}
 use Rattle.expander.proofs.CoreStandLaws.{binder_on, binders_on}
+use Rattle.expander.proofs.NodeLaws.{here_done}
+use Rattle.expander.proofs.OutcomeLaws.{here_ends, stays_itself}
 use Rattle.expander.proofs.RowRuns.{at_form}
 use Rattle.expander.proofs.StepLaws.{runs_mapped, runs_fails}
 
@@ -107,3 +115,41 @@ module _ (old new : Work) (region : Region) (u v : UnitScope) (scope turns depth
   pub item_assigned_function_fails : {X V : Type 0} (P : List Frames → X → Core → Type 0) (Q : List Frames → V → Part → Type 0) (n : Named Identifier) (here : Option Occ) (m : Clause Identifier) (e : ExpandFault) → Runs P old new region u v scope (Err e) (assigned_clause_step n here m) →
       Runs Q old new region u v scope (Err e) (part_step (model.AssignedFunction n here m))
   item_assigned_function_fails P Q n here m e runs = runs_fails P Q old new region u v scope (assigned_clause_step n here m) e (λ known fs c. done (expression_part c)) runs
+
+-- ---- what needs no expansion
+
+-- a step that does nothing but give a value
+module _ {X Y : Type 0} (P : X → Y → Type 0) (work : Work) (region : Region) (u : UnitScope) (scope : ℕ) (x : X) (y : Known → Frames → ScopedState → Y) where
+  pub given_runs : ((known : Known) (ls : List Frames) (s : ScopedState) (fs : Frames) → Stands work u ls s → P x (y known fs s)) → Runs (λ (layout : List Frames). P) work work region u u scope (Ok x) (λ known fs s. done (y known fs s) s)
+  given_runs held = λ known ls s fs knows e there.
+      here_ends P work work region u u ls (Ok x) (done (y known fs s) s) (here_done P work work region u u ls x (done (y known fs s) s) (y known fs s) s refl (stays_itself work region u ls s e) (held known ls s fs e))
+
+module _ (work : Work) (region : Region) (u : UnitScope) (scope turns depth : ℕ) where
+  pub record_runs : (r : RecordType) (bs fs : Vec code_binder.Binder Global) (ms : Vec ℕ Global) (us : Vec code_field.FieldUse Global) → AllMatch (IsBinder work.symbols u.unit u.form.number) bs.items r.binders → AllMatch (IsBinder work.symbols u.unit u.form.number) fs.items r.fields →
+      ms.items ≡ r.modified → AllMatch IsField us.items r.used → Runs (λ (layout : List Frames). PartStands work u.unit u.form.number) work work region u u scope (Ok (parts.Fields bs fs ms us)) (λ known fs. item_part (expand (searched known) turns) (searched known) depth fs (model.Record r))
+  record_runs r bs fs ms us binders fields modified used =
+      given_runs (PartStands work u.unit u.form.number) work region u scope (parts.Fields bs fs ms us) (λ known fs s. fields_part r) (λ known ls s frames e. (bs, fs, ms, us, refl, binders, fields, modified, used))
+
+  pub macro_runs : (d : Binder) (here : Option Occ) (b : code_binder.Binder) (m : code_meaning.Meaning) (x : code_macro.MacroDef) → IsBinder work.symbols u.unit u.form.number b d → IsMeaning work.symbols u.unit u.form.number m (meaning_of d.bound d.ident) →
+      ((known : Known) (ls : List Frames) (s : ScopedState) (b2 : Binder) → Stands work u ls s → IsBinder work.symbols s.unit s.form b b2 → IsMeaning work.symbols s.unit s.form m (meaning_of b2.bound b2.ident) → IsMacroDef work s.unit s.form x (macro_def (searched known) s b2)) →
+      Runs (λ (layout : List Frames). PartStands work u.unit u.form.number) work work region u u scope (Ok (parts.Syntax x)) (λ known fs. item_part (expand (searched known) turns) (searched known) depth fs (model.Macro d here))
+  macro_runs d here b m x binder meaning told =
+      given_runs (PartStands work u.unit u.form.number) work region u scope (parts.Syntax x) (λ known fs s. syntax_part (macro_def (searched known) s d))
+      (λ known ls s fs e.
+      let on : (P : ℕ → ℕ → Type 0) → P u.unit u.form.number → P s.unit s.form = λ P h. subst (λ (n : ℕ). P n s.form) e.unit (subst (P u.unit) e.form.number h) in
+      let back : (P : ℕ → ℕ → Type 0) → P s.unit s.form → P u.unit u.form.number = λ P h. subst (λ (n : ℕ). P n u.form.number) (sym e.unit) (subst (P s.unit) (sym e.form.number) h) in
+      (x, refl, back (λ unit form. IsMacroDef work unit form x (macro_def (searched known) s d))
+      (told known ls s d e (on (λ unit form. IsBinder work.symbols unit form b d) binder) (on (λ unit form. IsMeaning work.symbols unit form m (meaning_of d.bound d.ident)) meaning))))
+
+pub macro_told : (work : Work) (u : UnitScope) (scope : ℕ) (m : code_meaning.Meaning) (d : Binder) → CanLook work u scope → IsMeaning work.symbols u.unit u.form.number m (meaning_of d.bound d.ident) → CanTell work u m
+macro_told work u scope m d l h = record {
+  layout = l.layout;
+  state = l.state;
+  meaning = meaning_of d.bound d.ident;
+  stands = l.stands;
+  means = subst (λ (n : ℕ). IsMeaning work.symbols n l.state.form m (meaning_of d.bound d.ident)) l.stands.unit (subst (λ (n : ℕ). IsMeaning work.symbols u.unit n m (meaning_of d.bound d.ident)) l.stands.form.number h);
+}
+
+-- so many turns are enough for what stands deeper
+pub enough_here : (depth uses turns : ℕ) → IsEnough depth uses turns → IsEnoughBelow depth uses turns
+enough_here depth uses turns h = omega (arith, h)

@@ -1,6 +1,6 @@
 -- Local macros by the calls that the code makes for them: their names are bound, the heads of their rules are tested, they are kept,
 -- and their body is expanded.
-use Rattle.std.proofs.Common.{◌≡◌, ℕ, suc, ◌+◌, ◌*◌, ◌^◌, ◌≤◌, List, [], ◌∷◌, ◌++◌, length, Bool, true, false, Option, Some, None, Result, Ok, Err, Vec, refl, sym, ap, ◌∙◌, subst, arith}
+use Rattle.std.proofs.Common.{◌≡◌, ℕ, suc, ◌+◌, ◌*◌, ◌^◌, ◌≤◌, List, [], ◌∷◌, ◌++◌, length, map, Bool, true, false, Option, Some, None, Result, Ok, Err, Vec, refl, sym, ap, ◌∙◌, subst, arith}
 use Rattle.std.specs.Prelude.{if◌then◌else◌}
 use Rattle.std.specs.Global.{Box}
 use Rattle.std.specs.declared.alloc.Global.{Global}
@@ -31,7 +31,7 @@ use Rattle.core_tree.specs.declared.cores.Core.TheVariants as cores
 use Rattle.core_tree.specs.declared.cores.MacroDef as code_macro
 use Rattle.expander.specs.Binds.{Binds, local_binders}
 use Rattle.expander.specs.Bodies.{AreLocalMacros, CanKeep, HaveHeads, HaveNumbers, RulesAre}
-use Rattle.expander.specs.Expanded.{macros_step}
+use Rattle.expander.specs.Expanded.{MacrosAtWork, macros_step}
 use Rattle.expander.specs.Judged.{Knows}
 use Rattle.expander.specs.Outcomes.{At, CanLook, Grows, SameForm, Stays, Moves, Ends, EndsHere, Runs}
 use Rattle.expander.specs.Ready.{BeginsBelow}
@@ -43,16 +43,19 @@ use Rattle.expander.specs.declared.expressions.At as code_at
 use Rattle.expander.specs.declared.fault.ExpandFault.{ExpandFault}
 use Rattle.expander.specs.declared.fault.ExpandFault.TheVariants as fault
 use Rattle.expander.specs.declared.scope.UnitScope.{UnitScope}
+use Rattle.expander.proofs.AfterLaws.{all_known, begins_look}
 use Rattle.expander.proofs.BelowLaws.{below_knows, node_below, node_unbegun}
 use Rattle.expander.proofs.BindersStand.{BindersStand, numbers_are}
 use Rattle.expander.proofs.BodyRuns.{binds_stand, binds_inner}
 use Rattle.expander.proofs.CoreLaws.{binds_moves, macros_are}
 use Rattle.expander.proofs.CoreStandLaws.{every_on, macro_def_on}
+use Rattle.expander.proofs.CountingStands.{nodes_stand}
 use Rattle.expander.proofs.KeepLaws.{heads_tell}
 use Rattle.expander.proofs.LoopLaws.{knows_on}
 use Rattle.expander.proofs.NodeLaws.{here_then}
 use Rattle.expander.proofs.OutcomeLaws.{stays_itself, moves_here, here_ends, ends_after, ends_fails, leaves_itself, bound_fails, bound_goes}
 use Rattle.expander.proofs.RowLaws.{ends_mapped}
+use Rattle.expander.proofs.ShapeParts.{macros_named, names_of_macros}
 
 -- ---- the heads of rules are the same when nodes were counted
 
@@ -117,6 +120,10 @@ local_binders_are work t [] v (n ∷ ns) h = absurd h
 local_binders_are work t (b ∷ bs) v [] h = absurd h
 local_binders_are work t (b ∷ bs) v (n ∷ ns) h =
     (h.0, local_binders_are work t bs (record { unit = v.unit; form = v.form; count = suc v.count }) ns (subst (λ (w : Number). AllMatch (IsBinder work.symbols t.unit t.form) bs (bound_binders w ns)) (next_is v) h.1))
+
+-- a node that has begun
+spends_stand : (work : Work) (region : Region) (u w : UnitScope) (ls : List Frames) (s : ScopedState) (at below : code_at.At) (n : ℕ) → Stands work u ls s → BeginsBelow u w at n (Ok below) → Stands work w ls (spent n s)
+spends_stand work region u w ls s at below n e h = subst (λ (x : UnitScope). Stands work x ls (spent n s)) (sym h.2.2) (nodes_stand work u ls s n h.2.1 e)
 
 -- ---- local macros
 
@@ -303,3 +310,133 @@ module _ (work : Work) (region : Region) (u w1 : UnitScope) (at : code_at.At) (a
                 let now = subst (λ (n : ℕ). AllMatch (IsMacroDef new n v.form.number) defs.items ds) (sym unit) (subst (λ (n : ℕ). AllMatch (IsMacroDef new kept_state.unit n) defs.items ds) (sym form) on) in
                 ends_mapped (λ (layout : List Frames). CoreStands new v.unit v.form.number) (λ (layout : List Frames). CoreStands new v.unit v.form.number) work new region w3 v bound_layout y.value (cores.LetSyntax defs y)
                 (expand (searched known) turns below.depth below.here inner_frames (body m.body) kept_state) (λ c. LetSyntax ds c) (λ layout c held. (defs, y, refl, now, held)) ends
+
+  -- ---- the calls, from whatever state the scopes of the code stand for
+
+  abbrev pub TestsRun : Result (Unit {0}) ExpandFault → Type 0
+  TestsRun result = (known : Known) (ls : List Frames) (s : ScopedState) (fs : Frames) (ns : List (Named Identifier)) (ts : Trees Identifier) → Stands work w1 ls s → At ls rules_at fs → AreMacros work macros ns ts → Tests work s result (heads (searched known) at.here fs ts s)
+
+  abbrev pub KeepsRun : UnitScope → UnitScope → Result (Unit {0}) ExpandFault → Type 0
+  KeepsRun w2 w3 result = (known : Known) (region : Region) (ls : List Frames) (s : ScopedState) (fs : Frames) (ns : List (Named Identifier)) (ts : Trees Identifier) (vs : List Number) (rs : List (RulesParts Identifier)) → Stands work w2 ls s → At ls rules_at fs →
+      AreMacros work macros ns ts → HaveNumbers s bs vs → heads (searched known) at.here fs ts s ≡ done rs s → EndsHere (λ (kept : Unit {0}) (also : Unit {0}). Unit {0}) work work region w2 w3 ls result (keep_all (searched known) at.here fs vs ts rs s)
+
+  abbrev pub DefsRun : UnitScope → Vec code_macro.MacroDef Global → Type 0
+  DefsRun w3 defs = (known : Known) (ls : List Frames) (s : ScopedState) (vs : List Number) (ns : List (Named Identifier)) → Stands work w3 ls s → AreLocalMacros work s bs vs ns → AllMatch (IsMacroDef work s.unit s.form) defs.items (local_defs (searched known) s vs ns)
+
+  abbrev local_step_of : ℕ → Known → Frames → Step ScopedState Core
+  local_step_of turns known fs = macros_step again (expand (searched known) turns) (searched known) at.depth at.here fs m
+
+  pub rules_look : CanLook work u at.scope → CanLook work w1 rules_at
+  rules_look l = record {
+    layout = bound_layout l.layout l.state l.frames l.stands l.at;
+    state = bound_state l.layout l.state l.frames l.stands l.at;
+    frames = frames_of_rules l.layout l.state l.frames l.stands l.at;
+    stands = bound_stands l.layout l.state l.frames l.stands l.at;
+    at = rules_there l.layout l.state l.frames l.stands l.at;
+  }
+
+  pub local_untested : {V : Type 0} (Q : List Frames → V → Core → Type 0) (turns : ℕ) (x : ExpandFault) → TestsRun (Err x) → Runs Q work work region u w1 at.scope (Err x) (local_step_of turns)
+  local_untested Q turns x tests = λ known ls s fs knows e there.
+      from_bound ls s fs e there Q known turns work w1 (Err x)
+      (tests_fail ls s fs e there Q known turns x (tests known (bound_layout ls s fs e there) (bound_state ls s fs e there) (frames_of_rules ls s fs e there) m.names m.rules (bound_stands ls s fs e there) (rules_there ls s fs e there) are))
+
+  module _ (passed : Unit {0}) (tests : TestsRun (Ok passed)) (w2 : UnitScope) where
+    tested_at : (known : Known) (ls : List Frames) (s : ScopedState) (fs : Frames) (e : Stands work u ls s) (there : At ls at.scope fs) → TestsHeads ls s fs e there known (Ok passed)
+    tested_at known ls s fs e there = tests known (bound_layout ls s fs e there) (bound_state ls s fs e there) (frames_of_rules ls s fs e there) m.names m.rules (bound_stands ls s fs e there) (rules_there ls s fs e there) are
+
+    from_tested : {V : Type 0} (Q : List Frames → V → Core → Type 0) (known : Known) (turns : ℕ) (new : Work) (v : UnitScope) (result : Result V ExpandFault) (ls : List Frames) (s : ScopedState) (fs : Frames) (e : Stands work u ls s) (there : At ls at.scope fs) →
+        Ends Q work new region w1 v (bound_layout ls s fs e there) result (node_step ls s fs e there known turns (tested_at known ls s fs e there).0 (bound_state ls s fs e there)) → Ends Q work new region u v ls result (local_step_of turns known fs s)
+    from_tested Q known turns new v result ls s fs e there ends =
+        from_bound ls s fs e there Q known turns new v result
+        (subst (λ (p : Result Core Broken × ScopedState). Ends Q work new region w1 v (bound_layout ls s fs e there) result p) (sym (tests_goes ls s fs e there known turns passed (tested_at known ls s fs e there))) ends)
+
+    pub local_unbegun : {V : Type 0} (Q : List Frames → V → Core → Type 0) (turns : ℕ) (x : ExpandFault) → BeginsBelow w1 w2 at 1 (Err x) → Runs Q work work region u w2 at.scope (Err x) (local_step_of turns)
+    local_unbegun Q turns x b = λ known ls s fs knows e there.
+        let q = tested_at known ls s fs e there in
+        from_tested Q known turns work w2 (Err x) ls s fs e there (unbegun ls s fs e there known turns knows q.0 q.1 w2 Q x b)
+
+    pub local_heads : CanLook work u at.scope → HaveHeads work macros
+    local_heads l =
+        let k = all_known u.libraries in
+        let q = tested_at k.0 l.layout l.state l.frames l.stands l.at in
+        (m.names, m.rules, q.0, are, heads_tell k.0 at.here (frames_of_rules l.layout l.state l.frames l.stands l.at) (bound_state l.layout l.state l.frames l.stands l.at) m.rules q.0 q.1)
+
+    module _ (below : code_at.At) (b : BeginsBelow w1 w2 at 1 (Ok below)) where
+      pub begun_rules_look : CanLook work u at.scope → CanLook work w2 rules_at
+      begun_rules_look l = begins_look work w1 w2 rules_at at.here 1 at.depth below.depth (rules_look l) b.2
+
+      keeps_at : (w3 : UnitScope) (result : Result (Unit {0}) ExpandFault) → KeepsRun w2 w3 result → (known : Known) (turns : ℕ) (knows : Knows u.libraries known) (ls : List Frames) (s : ScopedState) (fs : Frames) (e : Stands work u ls s) (there : At ls at.scope fs) →
+          Stands work w2 (bound_layout ls s fs e there) (begun ls s fs e there known turns knows (tested_at known ls s fs e there).0 (tested_at known ls s fs e there).1 w2 below b) →
+          Kept ls s fs e there known turns knows (tested_at known ls s fs e there).0 (tested_at known ls s fs e there).1 w2 below b w3 result
+      keeps_at w3 result keeps known turns knows ls s fs e there now =
+          let q = tested_at known ls s fs e there in
+          keeps known region (bound_layout ls s fs e there) (begun ls s fs e there known turns knows q.0 q.1 w2 below b) (frames_of_rules ls s fs e there) m.names m.rules (macro_numbers ls s fs e there) q.0 now (rules_there ls s fs e there) are
+          (kept_numbers ls s fs e there known turns knows q.0 q.1 w2 below b) (kept_heads ls s fs e there known turns knows q.0 q.1 w2 below b)
+
+      pub local_unkept : {V : Type 0} (Q : List Frames → V → Core → Type 0) (turns : ℕ) (w3 : UnitScope) (x : ExpandFault) → KeepsRun w2 w3 (Err x) → Runs Q work work region u w3 at.scope (Err x) (local_step_of turns)
+      local_unkept Q turns w3 x keeps = λ known ls s fs knows e there.
+          let q = tested_at known ls s fs e there in
+          from_tested Q known turns work w3 (Err x) ls s fs e there
+          (from_begun ls s fs e there known turns knows q.0 q.1 w2 below b Q work w3 (Err x)
+          (λ now. kept_fails ls s fs e there known turns knows q.0 q.1 w2 below b Q w3 x (keeps_at w3 (Err x) keeps known turns knows ls s fs e there now)))
+
+      module _ (w3 : UnitScope) (done_so : Unit {0}) (keeps : KeepsRun w2 w3 (Ok done_so)) where
+        -- what there is once the macros were kept
+        pub record IsKept : Type 0 where
+          pub keep : CanKeep work w3 bs
+          pub look : CanLook work w3 inner
+          pub same : SameForm w2 w3
+
+        pub kept_there : CanLook work u at.scope → IsKept
+        kept_there l =
+            let k = all_known u.libraries in
+            let q = tested_at k.0 l.layout l.state l.frames l.stands l.at in
+            let now = spends_stand work region w1 w2 (bound_layout l.layout l.state l.frames l.stands l.at) (bound_state l.layout l.state l.frames l.stands l.at) at below 1 (bound_stands l.layout l.state l.frames l.stands l.at) b in
+            let kept = keeps_at w3 (Ok done_so) keeps k.0 0 k.1 l.layout l.state l.frames l.stands l.at now in
+            record {
+              keep = can_keep l.layout l.state l.frames l.stands l.at k.0 0 k.1 q.0 q.1 w2 below b w3 done_so kept;
+              look = inner_look l.layout l.state l.frames l.stands l.at k.0 0 k.1 q.0 q.1 w2 below b w3 done_so kept;
+              same = kept.1.same;
+            }
+
+        module _ (new : Work) (v : UnitScope) (turns : ℕ) where
+          abbrev pub LocalBody : Result code_core.Core ExpandFault → Type 0
+          LocalBody result = Runs (λ (layout : List Frames). CoreStands new v.unit v.form.number) work new region w3 v inner result (λ known fs. expand (searched known) turns below.depth below.here fs (body m.body))
+
+          pub local_body_fails : {V : Type 0} (Q : List Frames → V → Core → Type 0) (x : ExpandFault) → LocalBody (Err x) → Runs Q work new region u v at.scope (Err x) (local_step_of turns)
+          local_body_fails Q x runs = λ known ls s fs knows e there.
+              let q = tested_at known ls s fs e there in
+              from_tested Q known turns new v (Err x) ls s fs e there
+              (from_begun ls s fs e there known turns knows q.0 q.1 w2 below b Q new v (Err x)
+              (λ now.
+              let kept = keeps_at w3 (Ok done_so) keeps known turns knows ls s fs e there now in
+              after_kept ls s fs e there known turns knows q.0 q.1 w2 below b w3 done_so kept Q new v (Err x) (body_fails ls s fs e there known turns knows q.0 q.1 w2 below b w3 done_so kept new v Q x runs)))
+
+          pub local_body_goes : (defs : Vec code_macro.MacroDef Global) (y : Box code_core.Core) → DefsRun w3 defs → LocalBody (Ok y.value) →
+              Runs (λ (layout : List Frames). CoreStands new v.unit v.form.number) work new region u v at.scope (Ok (cores.LetSyntax defs y)) (local_step_of turns)
+          local_body_goes defs y told runs = λ known ls s fs knows e there.
+              let Q : List Frames → code_core.Core → Core → Type 0 = λ layout. CoreStands new v.unit v.form.number in
+              let q = tested_at known ls s fs e there in
+              from_tested Q known turns new v (Ok (cores.LetSyntax defs y)) ls s fs e there
+              (from_begun ls s fs e there known turns knows q.0 q.1 w2 below b Q new v (Ok (cores.LetSyntax defs y))
+              (λ now.
+              let kept = keeps_at w3 (Ok done_so) keeps known turns knows ls s fs e there now in
+              after_kept ls s fs e there known turns knows q.0 q.1 w2 below b w3 done_so kept Q new v (Ok (cores.LetSyntax defs y))
+              (body_goes ls s fs e there known turns knows q.0 q.1 w2 below b w3 done_so kept new v defs y
+              (told known (bound_layout ls s fs e there) (kept_state ls s fs e there known turns knows q.0 q.1 w2 below b) (macro_numbers ls s fs e there) m.names kept.1.stands (kept_binders ls s fs e there known turns knows q.0 q.1 w2 below b w3 done_so kept)) runs)))
+
+-- ---- how many there are
+
+pub macros_few : (work : Work) (macros : List LocalMacro) (xs : List NamePart) → MacrosAtWork work macros → xs ≡ map (λ (m : LocalMacro). m.name) macros → length xs ≤ 4194304
+macros_few work macros xs h is =
+    let names = subst (λ (l : List NamePart). AllParts (IsName work) l h.0) (sym is) (macros_named work macros h.0 h.1 h.2) in
+    omega (arith, same_length (IsName work) xs h.0 names, h.3)
+
+local_count : (n : ℕ) (xs : List NamePart) → length (local_binders n xs) ≡ length xs
+local_count n [] = refl
+local_count n (x ∷ xs) = ap suc (local_count (n + 1) xs)
+
+pub binders_count : (work : Work) (macros : List LocalMacro) (xs : List NamePart) (bs : List code_binder.Binder) (n : ℕ) → MacrosAtWork work macros → xs ≡ map (λ (m : LocalMacro). m.name) macros → bs ≡ local_binders n xs → (ys : List code_binder.Binder) → ys ≡ bs → length ys ≡ length macros
+binders_count work macros xs bs n h is bound ys same =
+    let names = subst (λ (l : List NamePart). AllParts (IsName work) l h.0) (sym is) (macros_named work macros h.0 h.1 h.2) in
+    ap length same ∙ (ap length bound ∙ (local_count n xs ∙ (same_length (IsName work) xs h.0 names ∙ sym (names_of_macros work macros h.0 h.1 h.2))))

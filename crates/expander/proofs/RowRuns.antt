@@ -105,3 +105,17 @@ tree_at_work a b region ns k d keeps h lt =
 -- something that matches one at a place
 pub matches_there : {X Y : Type 0} (P : X → Y → Type 0) (k : ℕ) (xs : List X) (ys : List Y) (d : X) → AllMatch P xs ys → k < length xs → (y : Y) × P (get_or xs k d) y
 matches_there P k xs ys d h lt = let m = match_at P k xs ys d h lt in (m.found, m.matches)
+
+pub clause_at_work : (a b : Work) (region : Region) (xs : List ClauseShape) (k : ℕ) (d : ClauseShape) → Grows a b region → ClausesAtWork a region xs → k < length xs → ClauseAtWork b region (get_or xs k d)
+clause_at_work a b region xs k d grows h lt =
+    let m = matches_there (ClauseFor a region) k xs h.0 d h.1 lt in
+    (m.0, clause_on a b grows.trees grows.names 0 0 region (get_or xs k d) m.0 m.1)
+
+pub kept_at_work : (a b : Work) (region : Region) (u w : UnitScope) (ks : List code_kept.Kept) (k : ℕ) (d : code_kept.Kept) → Grows a b region → SameForm u w → AreKeptAtWork a region u ks → k < length ks → KeptAtWork b region w (get_or ks k d)
+kept_at_work a b region u w ks k d grows same h lt =
+    let m = matches_there (KeptFor a region u.unit u.form.number) k ks h.0 d h.1 lt in
+    (m.0, kept_goes_on a b region u w grows same (get_or ks k d) m.0 m.1)
+
+-- what is read at a place is what stands there
+pub item_as : {E : Type 0} (P : E → Type 0) (k : ℕ) (ns : List E) (x : E) → x ≡ get_or ns k x → P (get_or ns k x) → P x
+item_as P k ns x is h = subst P (sym is) h

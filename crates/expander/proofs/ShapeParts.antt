@@ -15,6 +15,7 @@ use Rattle.scheme_model.specs.Steps.{Broken, Step}
 use Rattle.scheme_model.specs.Order.{Here, Ops}
 use Rattle.scheme_model.specs.Expression.{Expander}
 use Rattle.scheme_model.specs.Ident.{Ident as Identifier}
+use Rattle.syntax_tree.specs.Looks.{PartsStand}
 use Rattle.syntax_tree.specs.Works.{StandsFor}
 use Rattle.syntax_tree.specs.declared.trees.Work.{Work}
 use Rattle.syntax_tree.specs.declared.trees.nodes.Tree as number
@@ -23,6 +24,7 @@ use Rattle.core_forms.specs.Ends.{keyword_as, ShapeFor}
 use Rattle.core_forms.specs.Forms.{Shape, Quoted, Quasi, Procedure, Procedures, Conditional, Assignment, Sequence, Definition, Several, RecordType, Syntax, Local, Choices, ErrorText, Inclusion}
 use Rattle.core_forms.specs.Named.{ClauseNamed}
 use Rattle.core_forms.specs.Parts.{AllMatch as AllParts, IsName, IsClause, AreTrees, AreClauses, AreMacros, IsMacro}
+use Rattle.core_forms.specs.declared.shape.Choice.{Choice}
 use Rattle.core_forms.specs.declared.shape.ClauseShape.{ClauseShape}
 use Rattle.core_forms.specs.declared.shape.CoreKeyword as code_keyword
 use Rattle.core_forms.specs.declared.shape.CoreKeyword.TheVariants as word
@@ -98,6 +100,38 @@ parts_match P [] [] h = tt
 parts_match P [] (y ∷ ys) h = absurd h
 parts_match P (x ∷ xs) [] h = absurd h
 parts_match P (x ∷ xs) (y ∷ ys) h = (h.0, parts_match P xs ys h.1)
+
+-- trees in a row
+abbrev pub trees_of : List (Tree Identifier) → Trees Identifier
+trees_of [] = no_trees
+trees_of (t ∷ ts) = tree t (trees_of ts)
+
+pub trees_stand : (work : Work) (ns : List number.Tree) (ts : List (Tree Identifier)) → AllParts (StandsFor work) ns ts → PartsStand work ns (trees_of ts)
+trees_stand work [] [] h = tt
+trees_stand work [] (t ∷ ts) h = absurd h
+trees_stand work (n ∷ ns) [] h = absurd h
+trees_stand work (n ∷ ns) (t ∷ ts) h = (h.0, trees_stand work ns ts h.1)
+
+-- ---- definitions
+
+pub misplaced_is : (work : Work) (x : code.CoreShape) (m : Shape) → ShapeFor work x m → IsLeft m → ((n : number.Tree) (ns : Vec number.Tree Global) (places : Vec ℕ Global) → x ≡ shapes.Quasi n ns places → ⊥) → ((d : ClauseShape) → x ≡ shapes.Lambda d → ⊥) → ((ds : Vec ClauseShape Global) → x ≡ shapes.CaseLambda ds → ⊥) →
+    ((ns : Vec number.Tree Global) → x ≡ shapes.If ns → ⊥) → ((n : NamePart) (v : number.Tree) → x ≡ shapes.Set n v → ⊥) → ((ns : Vec number.Tree Global) → x ≡ shapes.Begin ns → ⊥) → ((ms : Vec LocalMacro Global) (ns : Vec number.Tree Global) → x ≡ shapes.LetSyntax ms ns → ⊥) →
+    ((cs : Vec Choice Global) → x ≡ shapes.CondExpand cs → ⊥) → IsMisplaced m
+misplaced_is work x (Quoted t) h left a b c d e f g i = absurd left
+misplaced_is work x (Quasi t p) h left a b c d e f g i = absurd (a h.0 h.1.0 h.1.1.0 h.1.1.1)
+misplaced_is work x (Procedure m) h left a b c d e f g i = absurd (b h.0 h.1)
+misplaced_is work x (Procedures ms) h left a b c d e f g i = absurd (c h.0 h.1)
+misplaced_is work x (Conditional ts) h left a b c d e f g i = absurd (d h.0 h.1)
+misplaced_is work x (Assignment p) h left a b c d e f g i = absurd (e h.0 h.1.0 h.1.1)
+misplaced_is work x (Sequence ts) h left a b c d e f g i = absurd (f h.0 h.1)
+misplaced_is work x (Definition m) h left a b c d e f g i = tt
+misplaced_is work x (Several p) h left a b c d e f g i = tt
+misplaced_is work x (RecordType r) h left a b c d e f g i = tt
+misplaced_is work x (Syntax p) h left a b c d e f g i = tt
+misplaced_is work x (Local l) h left a b c d e f g i = absurd (g h.0 h.1.0 h.1.1)
+misplaced_is work x (Choices ps) h left a b c d e f g i = absurd (i h.0 h.1)
+misplaced_is work x (ErrorText text) h left a b c d e f g i = absurd left
+misplaced_is work x Inclusion h left a b c d e f g i = absurd left
 
 -- ---- local macros
 
