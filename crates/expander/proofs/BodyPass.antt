@@ -54,6 +54,9 @@ below_turns n turns few enough = omega (arith, few, enough)
 room_inside : (locals n most : ℕ) → n < 2 ^ 38 → locals + 2 ^ 42 ≤ most → locals + n + 0 ≤ most
 room_inside locals n most few room = omega (arith, few, room)
 
+few_locals : (v w u n : ℕ) → v ≤ w + n → w ≡ u → n < 2 ^ 38 → v ≤ u + 2 ^ 38
+few_locals v w u n h same few = omega (arith, h, same, few)
+
 module _ (work : Work) (region : Region) (u w : UnitScope) (scope inner : ℕ) (here : Here) (ns : List number.Tree) (ts : Trees Identifier) (todo : code_pending.Pending) (asked : Asked)
     (child : w ≡ record u { env = with_child u.env scope }) (newest : inner ≡ length u.env.scopes) (sound : IsSound u.env) (none : asked.notes.items ≡ []) (asks : AskedStands work.symbols asked)
     (forms : todo.todo.items ≡ map (form_at here) (reverse ns)) (aside : todo.aside.items ≡ []) (stand : PartsStand work ns ts) (named : AllNamed work region ns) (small : trees_size ts ≤ 4194304) where
@@ -161,3 +164,6 @@ module _ (work : Work) (region : Region) (u w : UnitScope) (scope inner : ℕ) (
           (leaves_on work work new region u opened ls (entered s) moves_in g.0, fills_on work work region u opened ls (entered s) moves_in g.1)
       body_fails most kept asked2 Q fault.Memory h =
           leaves_on work work new region u opened ls (entered s) moves_in (subst (λ (x : UnitScope). Passes work new region x v inside spot (entered_frames s fs) most kept asked2 (Err fault.Memory) went) child h)
+
+      pub body_locals : (kept : List code_kept.Kept) (asked2 : Asked) → Passes work new region w v inside spot (entered_frames s fs) (left_with start.todo w.form.budget.uses) kept asked2 (Ok tt) went → v.form.budget.locals ≤ u.form.budget.locals + 2 ^ 38
+      body_locals kept asked2 h = few_locals v.form.budget.locals w.form.budget.locals u.form.budget.locals (left_with start.todo w.form.budget.uses) h.4 (λ j. (child j).form.budget.locals) left_inside

@@ -19,7 +19,7 @@ use Rattle.syntax_tree.specs.declared.trees.table.Region.{Region}
 use Rattle.core_forms.specs.Ends.{IsRecord, ShapeFor}
 use Rattle.core_forms.specs.Forms.{Shape}
 use Rattle.core_forms.specs.Named.{ChoiceNamed, ShapeNamed}
-use Rattle.core_forms.specs.Parts.{AllMatch, IsName, IsFormals, IsChoice}
+use Rattle.core_forms.specs.Parts.{AllMatch, IsName, IsField, IsFormals, IsChoice}
 use Rattle.core_forms.specs.declared.shape.Choice.{Choice}
 use Rattle.core_forms.specs.declared.shape.ClauseShape.{ClauseShape}
 use Rattle.core_forms.specs.declared.shape.CoreShape as code
@@ -27,7 +27,7 @@ use Rattle.core_forms.specs.declared.shape.CoreShape.TheVariants as shapes
 use Rattle.core_forms.specs.declared.shape.FieldShape.{FieldShape}
 use Rattle.core_forms.specs.declared.shape.Formals as code_formals
 use Rattle.core_forms.specs.declared.shape.NamePart.{NamePart}
-use Rattle.expander.specs.Judged.{chosen_among}
+use Rattle.expander.specs.Judged.{AreChoosable, chosen_among}
 use Rattle.expander.specs.Defining.{HasNumber}
 use Rattle.expander.specs.Kept.{ClauseFor}
 use Rattle.expander.specs.Outcomes.{WorksOn}
@@ -101,8 +101,11 @@ module _ (work : Work) (x : code.CoreShape) (m : Shape) (stands : ShapeFor work 
       as_values work (λ q. ((d : Formals Identifier) × IsFormals work a d) × (length a.names.items ≤ shape_weight q)) a v m (stand_at (shapes.Values a v) is)
       (λ d t formals value. let same = matched_length (IsName work) a.names.items d.names formals.names in ((d, formals), omega (arith, same)))
 
+  pub choices_demands : (cs : Vec Choice Global) → x ≡ shapes.CondExpand cs → AreChoosable work cs.items
+  choices_demands cs is = as_choices work (λ q. AreChoosable work cs.items) cs m (stand_at (shapes.CondExpand cs) is) (λ ps are. (ps, are))
+
   pub record_demands : (n c : NamePart) (us : Vec NamePart Global) (p : NamePart) (ys : Vec FieldShape Global) → x ≡ shapes.RecordType n c us p ys →
-      ((r : RecordShape Identifier) × IsRecord work n c us p ys r) × ((r : RecordShape Identifier) → IsRecord work n c us p ys r → length r.fields + length (record_names r) ≤ shape_weight m)
+      ((r : RecordShape Identifier) × IsRecord work n c us p ys r) × ((r : RecordShape Identifier) → IsRecord work n c us p ys r → length r.fields + length (record_names r) ≤ shape_weight m) × (length ys.items ≤ shape_weight m)
   record_demands n c us p ys is =
-      as_record work (λ q. ((r : RecordShape Identifier) × IsRecord work n c us p ys r) × ((r : RecordShape Identifier) → IsRecord work n c us p ys r → length r.fields + length (record_names r) ≤ shape_weight q)) n c us p ys m (stand_at (shapes.RecordType n c us p ys) is)
-      (λ r stand. ((r, stand), λ q other. let same = records_alike work n c us p ys q r other stand in omega (arith, same)))
+      as_record work (λ q. ((r : RecordShape Identifier) × IsRecord work n c us p ys r) × ((r : RecordShape Identifier) → IsRecord work n c us p ys r → length r.fields + length (record_names r) ≤ shape_weight q) × (length ys.items ≤ shape_weight q)) n c us p ys m (stand_at (shapes.RecordType n c us p ys) is)
+      (λ r stand. let count = matched_length (IsField work) ys.items r.fields stand.fields in ((r, stand), λ q other. let same = records_alike work n c us p ys q r other stand in omega (arith, same), omega (arith, count)))

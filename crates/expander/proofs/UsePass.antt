@@ -16,7 +16,7 @@ use Rattle.syntax_tree.specs.declared.trees.table.Region.{Region}
 use Rattle.core_tree.specs.Names.{AllMatch}
 use Rattle.expander.specs.State.{Stands}
 use Rattle.expander.specs.Kept.{FormFor, KeptFor, PendingFor, PlaceFor, NoteFor, NotesFor, SpotFor, forms_size, left_with}
-use Rattle.expander.specs.Outcomes.{Grows, Stays, WorksOn, EndsHere}
+use Rattle.expander.specs.Outcomes.{Grows, Leaves, Stays, WorksOn, EndsHere}
 use Rattle.expander.specs.Passed.{Reaches, Stops, GoesOn}
 use Rattle.expander.specs.Searched.{searched}
 use Rattle.expander.specs.declared.asked.Asked.{Asked}
@@ -118,3 +118,10 @@ module _ (known : Known) (old new : Work) (region : Region) (u v : UnitScope) (l
       }, ends.1.2, λ go. caught_fails noted_all.notes used ends.1.0 ends.1.1 (next go))
   use_fails fault.Full ends = ends
   use_fails fault.Memory ends = ends
+
+-- want of memory behind it
+pub use_left : (old new : Work) (region : Region) (u v : UnitScope) (ls : List Frames) (used : Result (Tree Identifier) Broken × ScopedState) (tree : number.Tree) → EndsHere (WorksOn new region) old new region u v ls (Ok tree) used → Leaves old new region u
+use_left old new region u v ls used tree h =
+    let counted = h.1.counted in
+    let few = h.1.stands.form.few_nodes in
+    record { work = h.1.work; few = omega (arith, counted, few) }

@@ -308,7 +308,7 @@ impl UnitScope {
         pending: &mut Pending,
         asked: &mut Asked,
     ) -> Result<(), ExpandFault>
-        requires shape { (m : Shape) × ShapeFor work.now shape m × ((region : AnyRegion) × CanPass work.now region self.old spot (shape_weight m) pending.old asked.old) }
+        requires shape { (m : Shape) × ShapeFor work.now shape m × (shape_weight m ≤ 4194304) × ((region : AnyRegion) × CanPass work.now region self.old spot (shape_weight m) pending.old asked.old) }
         ensures { (known : Known) (region : AnyRegion) (ls : List Frames) (s : ScopedState) (fs : Frames) (form : ModelForm Identifier) (m : Shape) (p : ModelPending Identifier Place) (given : ℕ) →
             Knows self.old.libraries known → Stands work.now self.old ls s → SpotFor work.now self.old ls s spot fs → ShapeFor work.now shape m → ShapeNamed work.now region shape → IsPassed m → ShapeFits m →
             PendingFor work.now region self.old.unit self.old.form.number pending.old p → NotesFor work.now ls asked.old p.notes → shape_weight m < given →

@@ -27,9 +27,9 @@ define_variable-requires c =
     let h = c.requires.shape in
     let d = variable_demands work c.args.shape h.0 h.1 c.in-Define.name c.in-Define.value c.in-Define.is in
     record {
-      can = can_go work h.2.0 u c.args.spot (shape_weight h.0) c.args.pending.now c.args.asked.now h.2.1;
+      can = can_go work h.3.0 u c.args.spot (shape_weight h.0) c.args.pending.now c.args.asked.now h.3.1;
       name = d.0;
-      room = room_for work h.2.0 u c.args.spot (shape_weight h.0) 1 c.args.pending.now c.args.asked.now h.2.1 d.1;
+      room = room_for work h.3.0 u c.args.spot (shape_weight h.0) 1 c.args.pending.now c.args.asked.now h.3.1 d.1;
     }
 
 pub define_function-requires : goal.define_function-requires
@@ -39,9 +39,9 @@ define_function-requires c =
     let h = c.requires.shape in
     let d = procedure_demands work c.args.shape h.0 h.1 c.in-Procedure.name c.in-Procedure.clause c.in-Procedure.is in
     record {
-      can = can_go work h.2.0 u c.args.spot (shape_weight h.0) c.args.pending.now c.args.asked.now h.2.1;
+      can = can_go work h.3.0 u c.args.spot (shape_weight h.0) c.args.pending.now c.args.asked.now h.3.1;
       name = d.0;
-      room = room_for work h.2.0 u c.args.spot (shape_weight h.0) 1 c.args.pending.now c.args.asked.now h.2.1 d.1;
+      room = room_for work h.3.0 u c.args.spot (shape_weight h.0) 1 c.args.pending.now c.args.asked.now h.3.1 d.1;
     }
 
 pub define_values-requires : goal.define_values-requires
@@ -51,9 +51,9 @@ define_values-requires c =
     let h = c.requires.shape in
     let d = values_demands work c.args.shape h.0 h.1 c.in-Values.formals c.in-Values.value c.in-Values.is in
     record {
-      can = can_go work h.2.0 u c.args.spot (shape_weight h.0) c.args.pending.now c.args.asked.now h.2.1;
+      can = can_go work h.3.0 u c.args.spot (shape_weight h.0) c.args.pending.now c.args.asked.now h.3.1;
       names = d.0;
-      room = room_for work h.2.0 u c.args.spot (shape_weight h.0) (length c.in-Values.formals.names.items) c.args.pending.now c.args.asked.now h.2.1 d.1;
+      room = room_for work h.3.0 u c.args.spot (shape_weight h.0) (length c.in-Values.formals.names.items) c.args.pending.now c.args.asked.now h.3.1 d.1;
     }
 
 pub define_syntax-requires : goal.define_syntax-requires
@@ -63,10 +63,10 @@ define_syntax-requires c =
     let h = c.requires.shape in
     let d = syntax_demands work c.args.shape h.0 h.1 c.in-DefineSyntax.name c.in-DefineSyntax.rules c.in-DefineSyntax.is in
     record {
-      can = can_go work h.2.0 u c.args.spot (shape_weight h.0) c.args.pending.now c.args.asked.now h.2.1;
+      can = can_go work h.3.0 u c.args.spot (shape_weight h.0) c.args.pending.now c.args.asked.now h.3.1;
       name = d.0;
       rules = d.1;
-      room = room_for work h.2.0 u c.args.spot (shape_weight h.0) 1 c.args.pending.now c.args.asked.now h.2.1 d.2;
+      room = room_for work h.3.0 u c.args.spot (shape_weight h.0) 1 c.args.pending.now c.args.asked.now h.3.1 d.2;
     }
 
 pub returns-in-Define : goal.returns-in-Define
