@@ -109,6 +109,9 @@ fields_size (tree t ts) fs h =
 abbrev kept_or : Bool → RecordShape Identifier → Result (RecordShape Identifier) (Fault Identifier)
 kept_or b s = if b then Ok s else Err BadForm
 
+three_more : (n a b0 b1 q0 q1 x0 x1 w : ℕ) → a ≡ n → b0 + b1 ≤ a → q0 + q1 ≤ b1 → x0 + x1 ≤ q1 → 1 ≤ b0 → 1 ≤ q0 → 1 ≤ x0 → w ≤ x1 → 3 + w ≤ n
+three_more n a b0 b1 q0 q1 x0 x1 w whole first second third one two three fields = omega (arith, whole, first, second, third, one, two, three, fields)
+
 record_in_size : (ts : Trees Identifier) (tail : Tail Identifier) (r : RecordShape Identifier) → record_in same_ident ts tail ≡ Ok r → 3 + fields_weight r.fields ≤ trees_size ts
 record_in_size ts tail r h =
     let a = made (proper_of ts tail) (λ us. first_of us >> λ p. name_of p.0 >> λ n. first_of p.1 >> λ q. constructor_of q.0 >> λ c. first_of q.1 >> λ x. name_of x.0 >> λ pred. fields_of x.1 >> λ fs. distinct same_ident (map (λ f. f.field) fs) >> λ done. if all_among same_ident c.1 (map (λ f. f.field) fs) then Ok (record { type = n; constructor = c.0; used = c.1; predicate = pred; fields = fs }) else Err BadForm) r h in
@@ -129,7 +132,7 @@ record_in_size ts tail r h =
     let three = some_node x.first.0 in
     let fields = fields_size x.first.1 z.first z.read in
     subst (λ (fs : List (FieldShape Identifier)). 3 + fields_weight fs ≤ trees_size ts) (by (all_among same_ident c.first.1 (map (λ f. f.field) z.first)) (record { type = n.first; constructor = c.first.0; used = c.first.1; predicate = y.first; fields = z.first }) w.then)
-    (omega (arith, whole, first, second, third, one, two, three, fields))
+    (three_more (trees_size ts) (trees_size a.first) (tree_size b.first.0) (trees_size b.first.1) (tree_size q.first.0) (trees_size q.first.1) (tree_size x.first.0) (trees_size x.first.1) (fields_weight z.first) whole first second third one two three fields)
   where
     by : (b : Bool) (s : RecordShape Identifier) → kept_or b s ≡ Ok r → s.fields ≡ r.fields
     by true s e = let same : s ≡ r = cc in ap (λ (x : RecordShape Identifier). x.fields) same

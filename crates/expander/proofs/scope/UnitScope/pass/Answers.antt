@@ -42,3 +42,23 @@ forms-preserved c = λ known ls s fs p turns knows stands placed pending notes l
     let rest = pending_behind c.forms.work region c.forms.self.unit c.forms.self.form.number c.forms.pending c.pop.new.pending h.left c.in-Some.form next ? h.pending in
     let goes = c.in_ok-pass_form.ensures known ls h.state fs next.head (behind_it h.left next.rest) (subst (λ l. Knows l known) (sym h.stays.same.libraries) knows) h.stays.stands h.placed next.first rest h.notes in
     one_more_passed known c.args.work.now region u ls c.args.spot fs s p turns c.forms.work c.forms.self c.forms.pending c.pop.new.pending c.forms.asked c.forms._turn h c.in-Some.form next c.pass_form.new.work c.pass_form.new.self c.pass_form.new.pending c.pass_form.new.asked goes
+
+pub returns-in_default : goal.returns-in_default
+returns-in_default c = λ known ls s fs p turns knows stands placed pending notes less.
+    let h = c.forms.invariant known ls s fs p turns knows stands placed pending notes less in
+    passing_ends known c.args.work.now c.args.region.now c.args.self.now ls c.args.spot fs s p turns c.forms.work c.forms.self c.forms.pending c.forms.asked c.forms._turn c.forms.pending.aside.items h ? refl
+
+pub returns-in_err-pass_form : goal.returns-in_err-pass_form
+returns-in_err-pass_form c = λ known ls s fs p turns knows stands placed pending notes less.
+    let u = c.args.self.now in
+    let region = c.args.region.now in
+    let h = c.forms.invariant known ls s fs p turns knows stands placed pending notes less in
+    let next = next_form c.forms.work region c.forms.self.unit c.forms.self.form.number c.forms.pending h.left c.in-Some.form ? ? h.pending in
+    let rest = pending_behind c.forms.work region c.forms.self.unit c.forms.self.form.number c.forms.pending c.pop.new.pending h.left c.in-Some.form next ? h.pending in
+    let e = c.in_err-pass_form.field-0.0 in
+    let goes = c.in_err-pass_form.ensures known ls h.state fs next.head (behind_it h.left next.rest) (subst (λ l. Knows l known) (sym h.stays.same.libraries) knows) h.stays.stands h.placed next.first rest h.notes in
+    passing_err known c.args.work.now region u ls c.args.spot fs s p turns c.pass_form.new.work c.pass_form.new.self c.pass_form.new.asked (left_with p.todo u.form.budget.uses) c.pass_form.new.pending.aside.items c.from_residual.result e c.from_residual.ensures.1
+    (next_fails known c.args.work.now region u ls c.args.spot fs s p turns c.forms.work c.forms.self c.forms.pending c.pop.new.pending c.forms.asked c.forms._turn h c.in-Some.form next c.pass_form.new.work c.pass_form.new.self c.pass_form.new.pending c.pass_form.new.asked (left_with p.todo u.form.budget.uses) c.pass_form.new.pending.aside.items e goes)
+
+pub returns : goal.returns
+returns c = ?

@@ -66,8 +66,10 @@ pass_shape-requires c =
     let less = in_weight k.0 unmarked h.0 effect f.0 h.1 in
     let size = c.trees_fit.ensures.nodes c.args.form.tree f.0 f.1 in
     let can = can_pass_met work region u c.args.spot (tree_size f.0) (shape_weight h.0) c.args.pending.now c.args.asked.now c.args.keyword target.0 (c.requires.can.1 f.0 f.1) target.1 (below (shape_weight h.0) (tree_size f.0) less) in
-    (h.0, h.2, within (shape_weight h.0) (tree_size f.0) 4194304 less size,
-      (region, subst (λ (w : UnitScope). CanPass work region w c.args.spot (shape_weight h.0) c.args.pending.now c.args.asked.now) (sym (ap (with_keywords u) c.in_ok-push-2.ensures.ok)) can))
+    record {
+      shape = (h.0, h.2, within (shape_weight h.0) (tree_size f.0) 4194304 less size,
+        (region, subst (λ (w : UnitScope). CanPass work region w c.args.spot (shape_weight h.0) c.args.pending.now c.args.asked.now) (sym (ap (with_keywords u) c.in_ok-push-2.ensures.ok)) can));
+    }
 
 pub returns-in_err-push : goal.returns-in_err-push
 returns-in_err-push c = λ known region ls s fs k t m head ts tail o p knows stands placed is target on split pending notes.
