@@ -63,11 +63,11 @@ module _ (work : Work) (region : Region) (u w : UnitScope) (scope inner : ℕ) (
   abbrev spot : Spot
   spot = record { scope = inner; in_body = true }
 
-  abbrev start : Pending Identifier Place
+  abbrev pub start : Pending Identifier Place
   start = record { todo = forms_at here ts; aside = []; notes = [] }
 
   module _ (ls : List Frames) (s : ScopedState) (fs : Frames) (at : At ls scope fs) (e : Stands work u ls s) where
-    abbrev inside : List Frames
+    abbrev pub inside : List Frames
     inside = ls ++ entered_frames s fs ∷ []
 
     abbrev opened : UnitScope

@@ -192,7 +192,11 @@ impl UnitScope {
                 };
                 self.pass_use(alloc, work, region, at, pending, asked)
             }
-            Head::Auxiliary(_) | Head::Other => {
+            Head::Auxiliary(_) => {
+                pending.aside.push(Kept::Expression(form))?;
+                Ok(())
+            }
+            Head::Other => {
                 pending.aside.push(Kept::Expression(form))?;
                 Ok(())
             }

@@ -48,7 +48,7 @@ pass-requires-clause-can c =
     let h = c.requires.can in
     let l = h.look in
     can_pass_inside work region u (in_env u c.child.new.self) c.args.at.scope c.in_ok-scope.scope c.args.at.here c.args.forms.now h.trees (record { todo = c.in_ok-forms_at.field-0; aside = c.new.result }) c.new-asked.result
-    (ap (in_env u) c.in_ok-scope.ensures.added) c.in_ok-scope.ensures.ok c.sound.ensures c.new-asked.ensures.notes (c.new-asked.ensures.stands work.symbols) c.in_ok-forms_at.ensures c.new.ensures h.stand h.named h.small
+    (ap (in_env u) c.in_ok-scope.ensures.added) c.in_ok-scope.ensures.ok c.sound.ensures c.new-asked.ensures.notes (c.new-asked.ensures.stands work.symbols) c.in_ok-forms_at.ensures c.new.ensures.items h.stand h.named h.small
     l.layout l.state l.frames l.at l.stands h.room
 
 pub returns-in_err-pass-clause-passed : goal.returns-in_err-pass-clause-passed
@@ -67,7 +67,7 @@ returns-in_err-pass-clause-passed c = λ ts turns stand small enough known ls s 
     let none = c.new-asked.ensures.notes in
     let asks = c.new-asked.ensures.stands work.symbols in
     let forms = c.in_ok-forms_at.ensures in
-    let aside = c.new.ensures in
+    let aside = c.new.ensures.items in
     let named = c.requires.can.named in
     let new = c.pass.new.work in
     let v = c.pass.new.self in
@@ -99,7 +99,7 @@ returns-clause-passed c = λ ts turns stand small enough known ls s fs knows sta
     let none = c.new-asked.ensures.notes in
     let asks = c.new-asked.ensures.stands work.symbols in
     let forms = c.in_ok-forms_at.ensures in
-    let aside = c.new.ensures in
+    let aside = c.new.ensures.items in
     let named = c.requires.can.named in
     let new = c.pass.new.work in
     let v = c.pass.new.self in
@@ -132,7 +132,7 @@ returns-clause-locals c =
     let none = c.new-asked.ensures.notes in
     let asks = c.new-asked.ensures.stands work.symbols in
     let forms = c.in_ok-forms_at.ensures in
-    let aside = c.new.ensures in
+    let aside = c.new.ensures.items in
     let new = c.pass.new.work in
     let v = c.pass.new.self in
     let h = c.in_ok-pass.ensures k.0 (inside work region u w c.args.at.scope inner here ns ts todo asked child newest c.sound.ensures none asks forms aside can.stand can.named can.small l.layout l.state l.frames l.at l.stands) _ _

@@ -138,3 +138,29 @@ returns-in-Macro c = λ known ls s fs m p knows stands placed on pending notes.
     (c.pass_use.ensures known ls s spot fs t k.0 m n.parts n.tail q (tree_size m.tree) knows stands placed placed.at
     (use_for known work s fs spot.scope here c.args.form.tree m.tree c.in-Some.name c.target-keyword.result n k.0 (c.target-keyword.ensures ls s fs named stands placed.at n.named) k.2 on.1.0)
     (noted_pending work region u.unit u.form.number c.args.pending.now p (note_in s fs n.ident ∷ []) pending) found (some_node m.tree))
+
+pub returns-in_ok-push-in-Auxiliary : goal.returns-in_ok-push-in-Auxiliary
+returns-in_ok-push-in-Auxiliary c = λ known ls s fs m p knows stands placed on pending notes.
+    let work = c.args.work.now in
+    let n = head_named work m.tree c.in-Some.name (c.in-Some.ensures m.tree on.1.0) in
+    let named : Named Identifier = record { name = n.ident; occ = n.place } in
+    let here = c.here_at-here.result in
+    let is_here : here ≡ here_at (λ i. i) m.tree m.here = c.here_at-here.ensures m.tree on.1.0 ∙ ap (here_at (λ i. i) m.tree) on.0 in
+    let is = c.head_of-head.ensures ls s fs n.ident stands placed.at n.named.0 in
+    let found = c.in_ok-note_head.ensures ls s fs named (head_in s fs n.ident) p.notes stands placed n.named is notes in
+    let a = auxiliary_head c.in-Auxiliary.field-0 (head_in s fs n.ident) (c.in-Auxiliary.ensures ls s fs n.ident stands placed.at n.named.0) in
+    sets_aside work c.args.region.now c.args.self.now ls c.args.spot fs s p (note_in s fs n.ident ∷ []) c.args.pending.now (record { todo = c.args.pending.now.todo; aside = c.push-in-Auxiliary.new.self }) c.note_head.new.asked m c.args.form
+    (λ go. run_form (searched known) go fs (here_at (λ i. i) m.tree m.here) m m.tree p s) (by_auxiliary known work fs s m p c.in-Some.name here is_here n a.0 a.1) stands placed on pending found refl c.in_ok-push-in-Auxiliary.ensures.items
+
+pub returns-in_ok-push-in-Other : goal.returns-in_ok-push-in-Other
+returns-in_ok-push-in-Other c = λ known ls s fs m p knows stands placed on pending notes.
+    let work = c.args.work.now in
+    let n = head_named work m.tree c.in-Some.name (c.in-Some.ensures m.tree on.1.0) in
+    let named : Named Identifier = record { name = n.ident; occ = n.place } in
+    let here = c.here_at-here.result in
+    let is_here : here ≡ here_at (λ i. i) m.tree m.here = c.here_at-here.ensures m.tree on.1.0 ∙ ap (here_at (λ i. i) m.tree) on.0 in
+    let is = c.head_of-head.ensures ls s fs n.ident stands placed.at n.named.0 in
+    let found = c.in_ok-note_head.ensures ls s fs named (head_in s fs n.ident) p.notes stands placed n.named is notes in
+    let a = no_keyword (head_in s fs n.ident) (c.in-Other.ensures ls s fs n.ident stands placed.at n.named.0) in
+    sets_aside work c.args.region.now c.args.self.now ls c.args.spot fs s p (note_in s fs n.ident ∷ []) c.args.pending.now (record { todo = c.args.pending.now.todo; aside = c.push-in-Other.new.self }) c.note_head.new.asked m c.args.form
+    (λ go. run_form (searched known) go fs (here_at (λ i. i) m.tree m.here) m m.tree p s) (by_none known work fs s m p c.in-Some.name here is_here n a) stands placed on pending found refl c.in_ok-push-in-Other.ensures.items

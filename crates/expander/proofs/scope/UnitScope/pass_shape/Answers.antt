@@ -1,7 +1,7 @@
 use Rattle.std.proofs.Common.{◌≡◌, ℕ, ◌+◌, ◌^◌, ◌<◌, ◌≤◌, ◌++◌, List, [], ◌∷◌, length, true, Option, Some, None, Result, Ok, Err, IfSome, refl, sym, ap, ◌∙◌, subst, arith}
 use Rattle.std.specs.Prelude.{Vec}
 use Rattle.std.specs.declared.alloc.Global.{Global}
-use Rattle.scheme_model.specs.Trees.{Trees}
+use Rattle.scheme_model.specs.Trees.{Trees, no_trees}
 use Rattle.scheme_model.specs.Measures.{trees_size}
 use Rattle.scheme_model.specs.Order.{Going, Pass, or_none, read_then, record_names, splice}
 use Rattle.scheme_model.specs.Ident.{Ident as Identifier}
@@ -17,6 +17,7 @@ use Rattle.expander.specs.Searched.{searched}
 use Rattle.expander.specs.State.{most_locals}
 use Rattle.expander.proofs.PassForms.{can_go, room_for, goes_bad, read_is}
 use Rattle.expander.proofs.PassLaws.{goes_so, goes_err}
+use Rattle.expander.proofs.ShapeKinds.{none_passed}
 use Rattle.expander.proofs.ShapePass.{begin_goes, choices_goes, variable_goes, procedure_goes, values_goes, syntax_goes, record_goes, variable_demands, procedure_demands, values_demands, syntax_demands, record_demands, choices_demands, chosen_here, named_here}
 use Rattle.expander.proofs.WeightLaws.{chosen_fits}
 use Rattle.expander.proofs.scope.UnitScope.pass_shape.Goals as goal
@@ -182,8 +183,26 @@ returns-in-Some c = λ known region ls s fs form m p given knows stands placed s
         (c.splice-in-Some.ensures known work region ls s c.args.spot fs asked ts p given stands placed (subst (λ (l : List number.Tree). PartsStand work l ts) seen chosen.2) (subst (λ (l : List number.Tree). AllNamed work region l) seen names) pending notes
         (at_most (trees_size ts) (choices_size ps) given (chosen_fits known ps (Some ts) chosen.1) few)))
 
+none_given : (n given : ℕ) → n < given → 0 < given
+none_given n given h = omega (arith, h)
+
 pub returns-in-CondExpand : goal.returns-in-CondExpand
-returns-in-CondExpand c = let q = c.in-None in let r = c.splice-in-CondExpand in ?
+returns-in-CondExpand c = λ known region ls s fs form m p given knows stands placed shape named passed fits pending notes less.
+    let work = c.args.work.now in
+    let u = c.args.self.now in
+    let here = c.args.here in
+    let asked = c.args.asked.now in
+    let cs = c.deref-in-CondExpand.result.now in
+    let v = c.splice-in-None.new.self in
+    let new = c.splice-in-None.new.pending in
+    choices_goes known work region s fs here form p given (λ (f : Step). GoesOn work work region u v ls c.args.spot fs p.todo given new asked c.splice-in-None.result f)
+    c.args.shape m shape named fits less c.in-CondExpand.choices cs c.in-CondExpand.is c.deref-in-CondExpand.ensures.value
+    (λ ps are may few.
+        let chosen = subst (λ (x : Option (Vec number.Tree Global)). Chooses work here (Ok x) (chosen_among known ps)) c.in-None.is
+            (chosen_here work c.judge.result.work.now u.libraries c.judge.result.libraries.now cs here c.judge.ensures.work c.judge.ensures.libraries (Ok c.in_ok-chosen-in-CondExpand.chosen) c.in_ok-chosen-in-CondExpand.ensures.chosen known ps knows are) in
+        goes_so region ls c.args.spot fs p.todo given new asked work work u v c.splice-in-None.result (λ go. read_then (searched known) here p (chosen_among known ps) (λ x. splice (searched known) go here p (or_none x)) s) (λ go. splice (searched known) go here p no_trees s)
+        (λ go. read_is known here p (chosen_among known ps) None (λ x. splice (searched known) go here p (or_none x)) s chosen)
+        (c.splice-in-None.ensures known work region ls s c.args.spot fs asked no_trees p given stands placed tt tt pending notes (none_given (choices_size ps) given few)))
 
 pub returns-in-RecordType : goal.returns-in-RecordType
 returns-in-RecordType c = λ known region ls s fs form m p given knows stands placed shape named passed fits pending notes less.
@@ -194,4 +213,6 @@ returns-in-RecordType c = λ known region ls s fs form m p given knows stands pl
     (λ r stand few. c.define_record.ensures known region ls s fs r p given knows stands placed stand pending notes (no_more (length r.fields + length (record_names r)) given few))
 
 pub returns : goal.returns
-returns c = let q = c.in_default in ?
+returns c = λ known region ls s fs form m p given knows stands placed shape named passed fits pending notes less.
+    let d = c.in_default in
+    none_passed c.args.work.now c.args.shape m shape passed d.not-Begin d.not-CondExpand d.not-Define d.not-Procedure d.not-Values d.not-RecordType d.not-DefineSyntax
