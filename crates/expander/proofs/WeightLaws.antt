@@ -127,6 +127,9 @@ behind_name n q = constructor_of q.0 >> λ c. first_of q.1 >> behind_constructor
 abbrev behind_type : Tree Identifier × Trees Identifier → Result (RecordShape Identifier) (Fault Identifier)
 behind_type p = name_of p.0 >> λ n. first_of p.1 >> behind_name n
 
+first_more : (n a b w : ℕ) → a + b ≤ n → 1 ≤ a → w ≤ b → 1 + w ≤ n
+first_more n a b w first one rest = omega (arith, first, one, rest)
+
 one_more : (n a b w k : ℕ) → a + b ≤ n → 1 ≤ a → k + w ≤ b → (k + 1) + w ≤ n
 one_more n a b w k first one rest = omega (arith, first, one, rest)
 
@@ -141,7 +144,7 @@ predicate_within : (n : Named Identifier) (c : Named Identifier × List (Named I
 predicate_within n c ts r h =
     let a = made (first_of ts) (behind_constructor n c) r h in
     let b = made (name_of a.first.0) (λ pred. fields_of a.first.1 >> behind_fields n c pred) r a.then in
-    one_more (trees_size ts) (tree_size a.first.0) (trees_size a.first.1) (fields_weight r.fields) 0 (first_size ts a.first a.read) (some_node a.first.0) (fields_within n c b.first a.first.1 r b.then)
+    first_more (trees_size ts) (tree_size a.first.0) (trees_size a.first.1) (fields_weight r.fields) (first_size ts a.first a.read) (some_node a.first.0) (fields_within n c b.first a.first.1 r b.then)
 
 constructor_within : (n : Named Identifier) (ts : Trees Identifier) (r : RecordShape Identifier) → (first_of ts >> behind_name n) ≡ Ok r → 2 + fields_weight r.fields ≤ trees_size ts
 constructor_within n ts r h =

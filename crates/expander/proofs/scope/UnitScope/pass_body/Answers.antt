@@ -2,6 +2,7 @@ use Rattle.std.proofs.Common.{◌≡◌, ℕ, ◌+◌, ◌^◌, ◌<◌, ◌≤�
 use Rattle.std.proofs.lemmas.Option.{slice_get_within}
 use Rattle.scheme_model.specs.Measures.{trees_size}
 use Rattle.expander.specs.Bodies.{BodyFor, body_pass}
+use Rattle.expander.specs.Kept.{left_with}
 use Rattle.expander.specs.Searched.{searched}
 use Rattle.expander.specs.Judged.{Knows}
 use Rattle.scope_env.specs.Environment.{Environment}
@@ -81,7 +82,7 @@ returns-in_err-pass-clause-passed c = λ ts turns stand small enough known ls s 
         (turns_inside work region u w c.args.at.scope inner here ns ts todo asked child newest c.sound.ensures none asks forms aside stand named small ls s fs at stands turns enough) in
     let P = BodyFor new region v.unit v.form.number in
     ends_err P work new region u v ls c.from_residual-in_err-pass.result e (body_pass turns here ts known fs s) c.from_residual-in_err-pass.ensures.1
-    (body_fails work region u w c.args.at.scope inner here ns ts todo asked child newest c.sound.ensures none asks forms aside stand named small ls s fs at stands known turns new v _ c.pass.new.pending.aside.items c.pass.new.asked P e h)
+    (body_fails work region u w c.args.at.scope inner here ns ts todo asked child newest c.sound.ensures none asks forms aside stand named small ls s fs at stands known turns new v (left_with (start work region u w c.args.at.scope inner here ns ts todo asked child newest c.sound.ensures none asks forms aside stand named small).todo w.form.budget.uses) c.pass.new.pending.aside.items c.pass.new.asked P e h)
 
 pub returns-clause-passed : goal.returns-clause-passed
 returns-clause-passed c = λ ts turns stand small enough known ls s fs knows stands at.
@@ -110,7 +111,7 @@ returns-clause-passed c = λ ts turns stand small enough known ls s fs knows sta
         (pending_inside work region u w c.args.at.scope inner here ns ts todo asked child newest c.sound.ensures none asks forms aside stand named small ls s fs at stands)
         (notes_inside work region u w c.args.at.scope inner here ns ts todo asked child newest c.sound.ensures none asks forms aside stand named small ls s fs at stands)
         (turns_inside work region u w c.args.at.scope inner here ns ts todo asked child newest c.sound.ensures none asks forms aside stand named small ls s fs at stands turns enough) in
-    body_ends work region u w c.args.at.scope inner here ns ts todo asked child newest c.sound.ensures none asks forms aside stand named small ls s fs at stands known turns new v _ c.pass.new.pending.aside c.pass.new.asked h
+    body_ends work region u w c.args.at.scope inner here ns ts todo asked child newest c.sound.ensures none asks forms aside stand named small ls s fs at stands known turns new v (left_with (start work region u w c.args.at.scope inner here ns ts todo asked child newest c.sound.ensures none asks forms aside stand named small).todo w.form.budget.uses) c.pass.new.pending.aside c.pass.new.asked h
 
 pub returns-clause-locals : goal.returns-clause-locals
 returns-clause-locals c =
