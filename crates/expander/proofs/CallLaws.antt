@@ -34,6 +34,7 @@ use Rattle.expander.specs.declared.items.Item as code_item
 use Rattle.expander.specs.declared.scope.Budget.{Budget}
 use Rattle.expander.specs.declared.scope.FormAtWork.{FormAtWork}
 use Rattle.expander.specs.declared.scope.UnitScope.{UnitScope}
+use Rattle.expander.proofs.FormsStand.{without_form}
 
 -- ---- between two calls
 
@@ -66,21 +67,6 @@ with_form work u f ls s n form e =
       known = e.known;
       count = e.count;
     }
-
--- and go
-pub without_form : (work : Work) (u : UnitScope) (f : FormAtWork) (ls : List Frames) (s : ScopedState) → Stands work u ls s → Rests work (record u { form = f }) ls s
-without_form work u f ls s e = record {
-  unit = e.unit;
-  program = e.program;
-  env = e.env;
-  macros = e.macros;
-  root = e.root;
-  own = e.own;
-  begun = e.begun;
-  defined = e.defined;
-  known = e.known;
-  count = e.count;
-}
 
 -- what was looked up is no part of what stands
 pub with_asked : (work : Work) (u : UnitScope) (a : Asked) (ls : List Frames) (s : ScopedState) → Stands work u ls s → Stands work (record u { asked = a }) ls s

@@ -22,11 +22,12 @@ use Rattle.syntax_tree.specs.declared.trees.Work.{Work}
 use Rattle.syntax_tree.proofs.RoleLaws.{same_by_number}
 use Rattle.scope_env.specs.Moved.{IsNamed}
 use Rattle.expander.specs.Macros.{macro_in, same_key, IsBound, Keeps}
-use Rattle.expander.specs.State.{IsMacro, IsMacroIfAny, MacrosStand, IsBegun, Stands}
+use Rattle.expander.specs.State.{IsMacro, IsMacroIfAny, MacrosStand, IsBegun, Rests, Stands}
 use Rattle.expander.specs.Stepped.{kept, with_macros}
 use Rattle.expander.specs.declared.macros.Macro.{Macro}
 use Rattle.expander.specs.declared.macros.Macros.{Macros}
 use Rattle.expander.specs.declared.scope.UnitScope.{UnitScope}
+use Rattle.expander.proofs.FormsStand.{rests_now, stands_now}
 
 -- ---- one key, one meaning
 
@@ -236,12 +237,11 @@ begun_by roots w t o true now before h = now refl
 begun_by roots w t o false now before h = before h
 
 -- a macro more, by what means it in the form at work
-pub kept_stands : (work : Work) (u : UnitScope) (ls : List Frames) (s : ScopedState) (ms : Macros) (c : Meaning) (l : model.Meaning) (k : Macro) (t : Transformer Frames Identifier) →
-    AreToldApart work.symbols.idents → AreToldApart work.symbols.symbols → Keeps u.macros ms u.form.number c k → IsBound c → IsMeaning work.symbols s.unit s.form c l → IsMacro work ls k t →
-    Stands work u ls s → Stands work (with_macros u ms) ls (kept l t s)
-kept_stands work u ls s ms c l k t apart told keeps bound means is e =
+pub kept_rests : (work : Work) (u : UnitScope) (ls : List Frames) (s : ScopedState) (ms : Macros) (c : Meaning) (l : model.Meaning) (k : Macro) (t : Transformer Frames Identifier) →
+    AreToldApart work.symbols.idents → AreToldApart work.symbols.symbols → Keeps u.macros ms s.form c k → IsBound c → IsMeaning work.symbols s.unit s.form c l → IsMacro work ls k t →
+    Rests work u ls s → Rests work (with_macros u ms) ls (kept l t s)
+kept_rests work u ls s ms c l k t apart told keeps bound means is e =
     let v = e.env in
-    let f = e.form in
     record {
       unit = e.unit;
       program = e.program;
@@ -257,7 +257,7 @@ kept_stands work u ls s ms c l k t apart told keeps bound means is e =
         named = v.named;
         given_named = v.given_named;
       };
-      macros = kept_macros work apart told ls s u.macros ms s.form c l k t (subst (λ (n : ℕ). Keeps u.macros ms n c k) e.form.number keeps) bound means is e.macros;
+      macros = kept_macros work apart told ls s u.macros ms s.form c l k t keeps bound means is e.macros;
       root = e.root;
       own = e.own;
       begun = record {
@@ -266,18 +266,25 @@ kept_stands work u ls s ms c l k t apart told keeps bound means is e =
         macros = λ w h. begun_by u.env.roots w t (macro_at s.macros (model.Local w)) (same_meaning l (model.Local w))
             (is_begun work.symbols s.unit s.form u.env.roots c l w (u.root, ap (map.get u.env.roots) (sym e.unit) ∙ e.own) means bound) (e.begun.macros w) h;
       };
-      form = record {
-        number = f.number;
-        locals = f.locals;
-        uses = f.uses;
-        nodes = f.nodes;
-        few_uses = f.few_uses;
-        few_nodes = f.few_nodes;
-        few_locals = f.few_locals;
-        keywords = f.keywords;
-        met = f.met;
-      };
       defined = e.defined;
       known = e.known;
       count = e.count;
     }
+
+pub kept_stands : (work : Work) (u : UnitScope) (ls : List Frames) (s : ScopedState) (ms : Macros) (c : Meaning) (l : model.Meaning) (k : Macro) (t : Transformer Frames Identifier) →
+    AreToldApart work.symbols.idents → AreToldApart work.symbols.symbols → Keeps u.macros ms u.form.number c k → IsBound c → IsMeaning work.symbols s.unit s.form c l → IsMacro work ls k t →
+    Stands work u ls s → Stands work (with_macros u ms) ls (kept l t s)
+kept_stands work u ls s ms c l k t apart told keeps bound means is e =
+    let f = e.form in
+    stands_now work (with_macros u ms) ls (kept l t s) (kept_rests work u ls s ms c l k t apart told (subst (λ (n : ℕ). Keeps u.macros ms n c k) e.form.number keeps) bound means is (rests_now work u ls s e)) (record {
+      number = f.number;
+      locals = f.locals;
+      uses = f.uses;
+      nodes = f.nodes;
+      few_uses = f.few_uses;
+      few_nodes = f.few_nodes;
+      few_locals = f.few_locals;
+      definitions = f.definitions;
+      keywords = f.keywords;
+      met = f.met;
+    })

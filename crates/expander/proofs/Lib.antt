@@ -14,6 +14,8 @@ pub mod DefinedMacros
 pub mod BodyScopes
 pub mod ComingDefinitions
 pub mod FormsStand
+pub mod NumberedLaws
+pub mod FormsDefine
 pub mod JudgeLaws
 pub mod QuasiMarks
 pub mod QuasiReads
