@@ -90,11 +90,11 @@ key_is Greater a n h = let e : nat_eq n a ≡ false = grind (arith, nat_tests) i
 pub at_key : (a n : ℕ) → is_eq (nat_cmp a n) ≡ nat_eq n a
 at_key a n = key_is (nat_cmp a n) a n (ranked a n (nat_cmp a n) refl)
 
-keyword_by : (d : Defined) (q : Bool) (o : Option Defined) → option_map (λ (x : Defined). x.keyword) (cond q (Some d) o) ≡ cond q (Some d.keyword) (option_map (λ (x : Defined). x.keyword) o)
+pub keyword_by : (d : Defined) (q : Bool) (o : Option Defined) → option_map (λ (x : Defined). x.keyword) (cond q (Some d) o) ≡ cond q (Some d.keyword) (option_map (λ (x : Defined). x.keyword) o)
 keyword_by d true o = refl
 keyword_by d false o = refl
 
-known_by : (names : Names) (ident n : ℕ) (i : Identifier) (k v : Bool) (o : Option Bool) (q : Bool) → nat_eq n ident ≡ q → IsIdent names ident i → (o ≡ Some k → n < length names.idents) → cond q (Some v) o ≡ Some k → n < length names.idents
+pub known_by : (names : Names) (ident n : ℕ) (i : Identifier) (k v : Bool) (o : Option Bool) (q : Bool) → nat_eq n ident ≡ q → IsIdent names ident i → (o ≡ Some k → n < length names.idents) → cond q (Some v) o ≡ Some k → n < length names.idents
 known_by names ident n i k v o true same is before h = subst (λ (x : ℕ). x < length names.idents) (sym (eqb-true n ident same)) (slice_get_within names.idents ident i is)
 known_by names ident n i k v o false other is before h = before h
 
