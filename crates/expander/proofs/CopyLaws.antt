@@ -1,12 +1,14 @@
 -- A copy of units stands for what they stand for.
 use Rattle.std.proofs.Common.{◌≡◌, ℕ, List, [], ◌∷◌, reverse, slice_get, Bool, true, ◌||◌, Option, Some, None, MatchOption, vec_len, refl, sym, ap, ◌∙◌, subst}
 use Rattle.std.specs.Prelude.{String, Vec}
-use Rattle.std.specs.declared.alloc.Global.{Global}
+use Rattle.std.specs.declared.alloc.Global as alloc
 use Rattle.std.specs.List.{AllZip, list_any}
 use Rattle.std.specs.Option.{IsSomeAnd}
 use Rattle.std.specs.String.{string_bytes}
 use Rattle.std.specs.Cmp.Lexicographic.{slice_cmp}
 use Rattle.std.specs.BTreeSet.{BTreeSet, contains_text}
+use Rattle.std.specs.BTreeMap.{get}
+use Rattle.rules_match.specs.Found.{pair_cmp}
 use Rattle.std.specs.Ordering.{nat_cmp, is_eq}
 use Rattle.std.specs.FinMap as map
 use Rattle.scheme_model.specs.Ident.{Ident as Identifier}
@@ -14,7 +16,7 @@ use Rattle.scheme_model.specs.Order.{Note, Transformer, is_some}
 use Rattle.scheme_model.specs.Leaves.{leaves_of}
 use Rattle.scheme_model.specs.ScopedExpansion.{Frames, Place, ScopedState, macro_at}
 use Rattle.syntax_tree.specs.Macros.{identifiers, RulesFor, AreChecked}
-use Rattle.syntax_tree.specs.declared.meaning.Meaning.TheVariants.{Global, Standard}
+use Rattle.syntax_tree.specs.declared.meaning.Meaning.TheVariants.{Local, Global, Standard, Free}
 use Rattle.syntax_tree.specs.declared.rules.Rules as code_rules
 use Rattle.syntax_tree.specs.declared.trees.Work.{Work}
 use Rattle.rules_check.specs.Gathered.{AreLeaves}
@@ -97,6 +99,12 @@ found_again None (Some l) h = absurd cc
 found_again (Some k) None h = absurd h
 found_again (Some k) (Some l) h = h
 
+pub macros_again : (ms ns : Macros) → ((k : ℕ × ℕ) → SameIfAny (get pair_cmp ms.locals k) (get pair_cmp ns.locals k)) → ((k : ℕ × ℕ) → SameIfAny (get pair_cmp ms.globals k) (get pair_cmp ns.globals k)) → ((k : ℕ) → SameIfAny (get nat_cmp ms.standards k) (get nat_cmp ns.standards k)) → SameMacros ms ns
+macros_again ms ns locals globals standards form (Local n) = locals (form, n)
+macros_again ms ns locals globals standards form (Global u i) = globals (u, i)
+macros_again ms ns locals globals standards form (Standard x) = standards x
+macros_again ms ns locals globals standards form (Free x) = tt
+
 each_again : (C : ℕ → ℕ → Type 0) → ((x y : ℕ) → C x y → y ≡ x) → (xs ys : List ℕ) → AllZip C xs ys → ys ≡ xs
 each_again C same [] [] h = refl
 each_again C same [] (y ∷ ys) h = absurd h
@@ -106,17 +114,11 @@ each_again C same (x ∷ xs) (y ∷ ys) h =
     let rest = each_again C same xs ys h.1 in
     λ j. here j ∷ rest j
 
-pub numbers_again : (C : ℕ → ℕ → Type 0) → ((x y : ℕ) → C x y → y ≡ x) → (o p : Option (Vec ℕ Global)) → MatchOption o (p ≡ None) (λ v. IsSomeAnd p (λ w. AllZip C v.items w.items × (vec_len w ≡ vec_len v))) → items_of p ≡ items_of o
+pub numbers_again : (C : ℕ → ℕ → Type 0) → ((x y : ℕ) → C x y → y ≡ x) → (o p : Option (Vec ℕ alloc.Global)) → MatchOption o (p ≡ None) (λ v. IsSomeAnd p (λ w. AllZip C v.items w.items × (vec_len w ≡ vec_len v))) → items_of p ≡ items_of o
 numbers_again C same None None h = refl
 numbers_again C same None (Some w) h = absurd cc
 numbers_again C same (Some v) None h = absurd h
 numbers_again C same (Some v) (Some w) h = each_again C same v.items w.items h.0
-
-pub found_again_same : {X : Type 0} (C : X → X → Type 0) → ((x y : X) → C x y → y ≡ x) → (o p : Option X) → MatchOption o (p ≡ None) (λ v. IsSomeAnd p (C v)) → p ≡ o
-found_again_same C same None None h = refl
-found_again_same C same None (Some w) h = absurd cc
-found_again_same C same (Some v) None h = absurd h
-found_again_same C same (Some v) (Some w) h = ap Some (same v w h)
 
 any_again : {A : Type 0} (C : A → A → Type 0) (test : A → Bool) → ((x y : A) → C x y → test y ≡ test x) → (xs ys : List A) → AllZip C xs ys → list_any test ys ≡ list_any test xs
 any_again C test same [] [] h = refl
@@ -127,5 +129,5 @@ any_again C test same (x ∷ xs) (y ∷ ys) h =
     let rest = any_again C test same xs ys h.1 in
     λ j. here j || rest j
 
-pub texts_again : (C : String Global → String Global → Type 0) → ((s t : String Global) → C s t → string_bytes t ≡ string_bytes s) → (s t : BTreeSet (String Global)) → AllZip C s.keys t.keys → (x : List ℕ) → contains_text t x ≡ contains_text s x
+pub texts_again : (C : String alloc.Global → String alloc.Global → Type 0) → ((s t : String alloc.Global) → C s t → string_bytes t ≡ string_bytes s) → (s t : BTreeSet (String alloc.Global)) → AllZip C s.keys t.keys → (x : List ℕ) → contains_text t x ≡ contains_text s x
 texts_again C same s t h x = any_again C (λ k. is_eq (slice_cmp nat_cmp x (string_bytes k))) (λ k l is. ap (λ b. is_eq (slice_cmp nat_cmp x b)) (same k l is)) s.keys t.keys h

@@ -115,6 +115,7 @@ module _ (old new : Work) (region : Region) (u w : UnitScope) (a b : Asked) wher
   moves_back ls t m = record { layout = m.layout; kept = m.kept; stays = stays_back m.layout t m.stays }
 
   pub ends_back : {X Y : Type 0} (P : List Frames → X → Y → Type 0) (ls : List Frames) (r : Result X ExpandFault) (p : Result Y Broken × ScopedState) → Ends P old new region (asking u a) w ls r p → Ends P old new region u back ls r p
+  unfolding moves_back
   ends_back P ls (Ok x) p h = (h.0, moves_back ls p.1 h.1, h.2, h.3)
   ends_back P ls (Err (fault.At e)) p h = (moves_back ls p.1 h.0, h.1)
   ends_back P ls (Err fault.Full) p h = (leaves_back h.0, h.1)

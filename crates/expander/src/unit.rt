@@ -360,9 +360,9 @@ impl UnitScope {
             here: None,
             depth: MAX_DEPTH,
         };
-        let asked = mem::replace(&mut self.asked, Asked::new(alloc));
+        let before = mem::replace(&mut self.asked, Asked::new(alloc));
         let part = self.expand_kept_item(alloc, work, region, at, &item.kept);
-        self.asked = asked;
+        self.asked = before;
         part
     }
 
