@@ -17,14 +17,14 @@ use Rattle.core_forms.specs.Parts.{IsName}
 use Rattle.core_forms.specs.declared.shape.NamePart.{NamePart}
 use Rattle.expander.specs.Binds.{with_locals}
 use Rattle.expander.specs.Macros.{Keeps}
-use Rattle.expander.specs.State.{IsMacro, Rests, Stands, most_locals}
+use Rattle.expander.specs.State.{IsMacro, Stands, most_locals}
 use Rattle.expander.specs.Stepped.{IsOpenBody, with_told, with_definition, with_macros}
 use Rattle.expander.specs.declared.macros.Macro.{Macro}
 use Rattle.expander.specs.declared.macros.Macros.{Macros}
 use Rattle.expander.specs.declared.scope.UnitScope.{UnitScope}
 use Rattle.expander.proofs.BodiesStand.{definition_stands}
-use Rattle.expander.proofs.UnitsStand.{own_definition_rests, own_definition_stands}
-use Rattle.expander.proofs.KeptStands.{kept_rests, kept_stands}
+use Rattle.expander.proofs.UnitsStand.{own_definition_stands}
+use Rattle.expander.proofs.KeptStands.{kept_stands}
 
 -- a macro in an open body
 pub macro_definition_stands : (work : Work) (u : UnitScope) (ls : List Frames) (s : ScopedState) (scope : ℕ) (b : Number) (fs gs : Frames) (ident : ℕ) (n : Named Identifier) (ms : Macros) (k : Macro) (r : Rules Identifier) →
@@ -42,7 +42,7 @@ macro_definition_stands work u ls s scope b fs gs ident n ms k r apart told soun
 pub own_variable_stands : (work : Work) (u : UnitScope) (ls : List Frames) (s : ScopedState) (fs : Frames) (name : NamePart) (n : Named Identifier) (defined : BTreeMap ℕ Bool) →
     AreToldApart work.symbols.idents → IsSound u.env → IsName work name n → ((m : ℕ) → get nat_cmp defined m ≡ cond (is_eq (nat_cmp name.ident m)) (Some false) (get nat_cmp u.defined m)) →
     btree_map_len defined ≡ btree_map_len u.defined + 1 → Stands work u ls s → Stands work (with_definition (with_told u name) name.ident defined) ls (definition_added None n None fs s)
-own_variable_stands work u ls s fs name n defined apart sound is put more e = own_definition_stands work u ls s name n false defined apart sound is put more e
+own_variable_stands work u ls s fs name n defined apart sound is put more e = own_definition_stands work u ls s name n.name n.occ false defined apart sound is.0 is.1 put more e
 
 -- a macro of the unit
 pub own_macro_stands : (work : Work) (u : UnitScope) (ls : List Frames) (s : ScopedState) (fs : Frames) (name : NamePart) (n : Named Identifier) (defined : BTreeMap ℕ Bool) (ms : Macros) (k : Macro) (r : Rules Identifier) →
@@ -52,14 +52,4 @@ pub own_macro_stands : (work : Work) (u : UnitScope) (ls : List Frames) (s : Sco
     Stands work (with_macros (with_definition (with_told u name) name.ident defined) ms) ls (definition_added None n (Some r) fs s)
 own_macro_stands work u ls s fs name n defined ms k r apart told sound is put more keeps kept e =
     kept_stands work (with_definition (with_told u name) name.ident defined) ls _ ms (Global u.unit name.ident) (model.Global s.unit n.name) k (record { env = fs; rules = r }) apart told keeps tt (e.unit, is.0) kept
-    (own_definition_stands work u ls s name n true defined apart sound is put more e)
-
--- the same where no form is at work
-pub own_macro_rests : (work : Work) (u : UnitScope) (ls : List Frames) (s : ScopedState) (fs : Frames) (ident : ℕ) (n : Named Identifier) (defined : BTreeMap ℕ Bool) (ms : Macros) (k : Macro) (r : Rules Identifier) →
-    AreToldApart work.symbols.idents → AreToldApart work.symbols.symbols → IsSound u.env → IsIdent work.symbols ident n.name →
-    ((m : ℕ) → get nat_cmp defined m ≡ cond (is_eq (nat_cmp ident m)) (Some true) (get nat_cmp u.defined m)) → btree_map_len defined ≡ btree_map_len u.defined + 1 →
-    Keeps u.macros ms s.form (Global u.unit ident) k → IsMacro work ls k (record { env = fs; rules = r }) → Rests work u ls s →
-    Rests work (with_macros (with_definition u ident defined) ms) ls (definition_added None n (Some r) fs s)
-own_macro_rests work u ls s fs ident n defined ms k r apart told sound is put more keeps kept e =
-    kept_rests work (with_definition u ident defined) ls _ ms (Global u.unit ident) (model.Global s.unit n.name) k (record { env = fs; rules = r }) apart told keeps tt (e.unit, is) kept
-    (own_definition_rests work u ls s ident n.name n.occ true defined apart sound is put more e)
+    (own_definition_stands work u ls s name n.name n.occ true defined apart sound is.0 is.1 put more e)

@@ -5,44 +5,10 @@ use Rattle.syntax_tree.specs.Names.{Names}
 use Rattle.syntax_tree.specs.declared.trees.Work.{Work}
 use Rattle.core_tree.specs.Names.{AllMatch, IsTarget, IsUse}
 use Rattle.core_tree.specs.declared.cores.Binder as code_binder
-use Rattle.expander.specs.State.{numbered_in, IsNumbered, FormStands, Rests, Stands}
+use Rattle.expander.specs.State.{IsNumbered, FormStands, Stands}
 use Rattle.expander.specs.Stepped.{turned, IsFresh}
 use Rattle.expander.specs.declared.scope.FormAtWork.{FormAtWork}
 use Rattle.expander.specs.declared.scope.UnitScope.{UnitScope}
-
--- work leaves a form
-pub without_form : (work : Work) (u : UnitScope) (f : FormAtWork) (ls : List Frames) (s : ScopedState) → Stands work u ls s → Rests work (record u { form = f }) ls s
-without_form work u f ls s e = record {
-  unit = e.unit;
-  program = e.program;
-  env = e.env;
-  macros = e.macros;
-  root = e.root;
-  own = e.own;
-  begun = e.begun;
-  defined = e.defined;
-  known = e.known;
-  count = e.count;
-}
-
-pub rests_now : (work : Work) (u : UnitScope) (ls : List Frames) (s : ScopedState) → Stands work u ls s → Rests work u ls s
-rests_now work u ls s e = without_form work u u.form ls s e
-
--- and goes on with it
-pub stands_now : (work : Work) (u : UnitScope) (ls : List Frames) (s : ScopedState) → Rests work u ls s → FormStands work.symbols u.form s → Stands work u ls s
-stands_now work u ls s e form = record {
-  unit = e.unit;
-  program = e.program;
-  env = e.env;
-  macros = e.macros;
-  root = e.root;
-  own = e.own;
-  begun = e.begun;
-  form = form;
-  defined = e.defined;
-  known = e.known;
-  count = e.count;
-}
 
 pub turned_stands : (work : Work) (u : UnitScope) (ls : List Frames) (s : ScopedState) (n : ℕ) (f : FormAtWork) → FormStands work.symbols f (turned n s) → Stands work u ls s → Stands work (record u { form = f }) ls (turned n s)
 turned_stands work u ls s n f form e =

@@ -42,7 +42,6 @@ use Rattle.expander.specs.declared.macros.Macro.{Macro}
 use Rattle.expander.specs.declared.macros.Macros.{Macros}
 use Rattle.expander.specs.declared.scope.FormAtWork.{FormAtWork}
 use Rattle.expander.specs.declared.scope.UnitScope.{UnitScope}
-use Rattle.expander.proofs.FormsStand.{rests_now, stands_now}
 
 all_on : {X Y : Type 0} (P Q : X → Y → Type 0) → ((x : X) (y : Y) → P x y → Q x y) → (xs : List X) (ys : List Y) → AllMatch P xs ys → AllMatch Q xs ys
 all_on P Q on [] [] h = h
@@ -217,17 +216,25 @@ module _ (old new : Work) (trees : KeepsTrees old new) (names : KeepsNames old.s
   not_defined None (Some d) f g = absurd (g d refl)
   not_defined (Some k) p f g = absurd (f k refl)
 
-  module _ (u : UnitScope) (ls : List Frames) (s : ScopedState) (e : Rests old u ls s) where
+  module _ (u : UnitScope) (ls : List Frames) (s : ScopedState) (env : EnvStands old.symbols u.env ls s) (known : (n : ℕ) (k : Bool) → get nat_cmp u.defined n ≡ Some k → n < length old.symbols.idents)
+    (defined : (n : ℕ) (i : Identifier) → IsIdent old.symbols n i → get nat_cmp u.defined n ≡ option_map (λ (d : Defined). d.keyword) (defined_in s.table s.unit i)) where
     defined_by : (n : ℕ) (i : Identifier) (o : Option Identifier) → slice_get old.symbols.idents n ≡ o → IsIdent new.symbols n i → get nat_cmp u.defined n ≡ option_map (λ (d : Defined). d.keyword) (defined_in s.table s.unit i)
-    defined_by n i (Some j) here there = e.defined n i (here ∙ ap Some (same_Some j i (sym (names.idents n j here) ∙ there)))
+    defined_by n i (Some j) here there = defined n i (here ∙ ap Some (same_Some j i (sym (names.idents n j here) ∙ there)))
     defined_by n i None none there =
         not_defined (get nat_cmp u.defined n) (defined_in s.table s.unit i)
-        (λ k h. not_within old.symbols.idents n none (e.known n k h))
-        (λ d h. let m = e.env.given_named s.unit i (model.Global s.unit i) (ap (λ (x : Option Defined). defined_or x s.unit i (imported_in s.entry s.unit i)) h) in
+        (λ k h. not_within old.symbols.idents n none (known n k h))
+        (λ d h. let m = env.given_named s.unit i (model.Global s.unit i) (ap (λ (x : Option Defined). defined_or x s.unit i (imported_in s.entry s.unit i)) h) in
         not_elsewhere old.symbols.idents new.symbols.idents names.idents apart n m.0 i none there m.1)
 
-    pub growth_rests : Rests new u ls s
-    growth_rests = record {
+    defined_on : (n : ℕ) (i : Identifier) → IsIdent new.symbols n i → get nat_cmp u.defined n ≡ option_map (λ (d : Defined). d.keyword) (defined_in s.table s.unit i)
+    defined_on n i there = defined_by n i (slice_get old.symbols.idents n) refl there
+
+    known_on : (n : ℕ) (k : Bool) → get nat_cmp u.defined n ≡ Some k → n < length new.symbols.idents
+    known_on n k h = longer old.symbols.idents new.symbols.idents names.idents n (known n k h)
+
+  module _ (u : UnitScope) (ls : List Frames) (s : ScopedState) where
+    pub growth_stands : Stands old u ls s → Stands new u ls s
+    growth_stands e = record {
       unit = e.unit;
       program = e.program;
       env = env_on u.env ls s e.env;
@@ -235,10 +242,23 @@ module _ (old new : Work) (trees : KeepsTrees old new) (names : KeepsNames old.s
       root = e.root;
       own = e.own;
       begun = e.begun;
-      defined = λ n i there. defined_by n i (slice_get old.symbols.idents n) refl there;
-      known = λ n k h. longer old.symbols.idents new.symbols.idents names.idents n (e.known n k h);
+      form = form_on u.form s e.form;
+      defined = defined_on u ls s e.env e.known e.defined;
+      known = known_on u ls s e.env e.known e.defined;
       count = e.count;
     }
 
-  pub growth_stands : (u : UnitScope) (ls : List Frames) (s : ScopedState) → Stands old u ls s → Stands new u ls s
-  growth_stands u ls s e = stands_now new u ls s (growth_rests u ls s (rests_now old u ls s e)) (form_on u.form s e.form)
+    -- the same between two calls
+    pub growth_rests : Rests old u ls s → Rests new u ls s
+    growth_rests e = record {
+      unit = e.unit;
+      program = e.program;
+      env = env_on u.env ls s e.env;
+      macros = macros_on u.macros ls s e.macros;
+      root = e.root;
+      own = e.own;
+      begun = e.begun;
+      defined = defined_on u ls s e.env e.known e.defined;
+      known = known_on u ls s e.env e.known e.defined;
+      count = e.count;
+    }

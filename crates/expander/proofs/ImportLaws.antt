@@ -29,6 +29,7 @@ use Rattle.syntax_tree.proofs.WorkLaws.{names_keep}
 use Rattle.scope_env.specs.Environment.{Environment, IsSound, new_scope, with_root, with_bound, bound_in}
 use Rattle.scope_env.proofs.Places.{length-changed_at}
 use Rattle.scope_env.proofs.GrowthLaws.{meaning_grows}
+use Rattle.expander.specs.Asks.{AskedStands}
 use Rattle.expander.specs.Macros.{macro_in}
 use Rattle.expander.specs.Asks.{AskedStands}
 use Rattle.expander.specs.Opened.{with_imports, started, ImportsFor, HasUnits, BindsImport}

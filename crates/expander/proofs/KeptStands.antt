@@ -22,12 +22,11 @@ use Rattle.syntax_tree.specs.declared.trees.Work.{Work}
 use Rattle.syntax_tree.proofs.RoleLaws.{same_by_number}
 use Rattle.scope_env.specs.Moved.{IsNamed}
 use Rattle.expander.specs.Macros.{macro_in, same_key, IsBound, Keeps}
-use Rattle.expander.specs.State.{IsMacro, IsMacroIfAny, MacrosStand, IsBegun, Rests, Stands}
+use Rattle.expander.specs.State.{IsMacro, IsMacroIfAny, MacrosStand, IsBegun, Stands}
 use Rattle.expander.specs.Stepped.{kept, with_macros}
 use Rattle.expander.specs.declared.macros.Macro.{Macro}
 use Rattle.expander.specs.declared.macros.Macros.{Macros}
 use Rattle.expander.specs.declared.scope.UnitScope.{UnitScope}
-use Rattle.expander.proofs.FormsStand.{rests_now, stands_now}
 
 -- ---- one key, one meaning
 
@@ -217,7 +216,7 @@ module _ (work : Work) (apart : AreToldApart work.symbols.idents) (told : AreTol
   }
 
 -- what was kept means a local of the unit at work, or no local
-is_begun : (names : Names) (unit form : ℕ) (roots : map.FinMap nat_cmp ℕ) (c : Meaning) (l : model.Meaning) (w : Number) → (r : ℕ) × (map.get roots unit ≡ Some r) → IsMeaning names unit form c l → IsBound c → same_meaning l (model.Local w) ≡ true → IsBegun roots w
+pub is_begun : (names : Names) (unit form : ℕ) (roots : map.FinMap nat_cmp ℕ) (c : Meaning) (l : model.Meaning) (w : Number) → (r : ℕ) × (map.get roots unit ≡ Some r) → IsMeaning names unit form c l → IsBound c → same_meaning l (model.Local w) ≡ true → IsBegun roots w
 is_begun names unit form roots (Local n) l w root means bound same =
     let v : Number = record { unit = unit; form = form; count = n } in
     let told : same_number v w ≡ true = sym (ap (λ (m : model.Meaning). same_meaning m (model.Local w)) means) ∙ same in
@@ -232,16 +231,17 @@ is_begun names unit form roots (Standard n) (model.Standard x) w root means boun
 is_begun names unit form roots (Standard n) (model.Free x) w root means bound same = absurd means
 is_begun names unit form roots (Free n) l w root means bound same = absurd bound
 
-begun_by : (roots : map.FinMap nat_cmp ℕ) (w : Number) (t : Transformer Frames Identifier) (o : Option (Transformer Frames Identifier)) (q : Bool) → (q ≡ true → IsBegun roots w) → (is_some o ≡ true → IsBegun roots w) → is_some (cond q (Some t) o) ≡ true → IsBegun roots w
+pub begun_by : (roots : map.FinMap nat_cmp ℕ) (w : Number) (t : Transformer Frames Identifier) (o : Option (Transformer Frames Identifier)) (q : Bool) → (q ≡ true → IsBegun roots w) → (is_some o ≡ true → IsBegun roots w) → is_some (cond q (Some t) o) ≡ true → IsBegun roots w
 begun_by roots w t o true now before h = now refl
 begun_by roots w t o false now before h = before h
 
 -- a macro more, by what means it in the form at work
-pub kept_rests : (work : Work) (u : UnitScope) (ls : List Frames) (s : ScopedState) (ms : Macros) (c : Meaning) (l : model.Meaning) (k : Macro) (t : Transformer Frames Identifier) →
-    AreToldApart work.symbols.idents → AreToldApart work.symbols.symbols → Keeps u.macros ms s.form c k → IsBound c → IsMeaning work.symbols s.unit s.form c l → IsMacro work ls k t →
-    Rests work u ls s → Rests work (with_macros u ms) ls (kept l t s)
-kept_rests work u ls s ms c l k t apart told keeps bound means is e =
+pub kept_stands : (work : Work) (u : UnitScope) (ls : List Frames) (s : ScopedState) (ms : Macros) (c : Meaning) (l : model.Meaning) (k : Macro) (t : Transformer Frames Identifier) →
+    AreToldApart work.symbols.idents → AreToldApart work.symbols.symbols → Keeps u.macros ms u.form.number c k → IsBound c → IsMeaning work.symbols s.unit s.form c l → IsMacro work ls k t →
+    Stands work u ls s → Stands work (with_macros u ms) ls (kept l t s)
+kept_stands work u ls s ms c l k t apart told keeps bound means is e =
     let v = e.env in
+    let f = e.form in
     record {
       unit = e.unit;
       program = e.program;
@@ -257,7 +257,7 @@ kept_rests work u ls s ms c l k t apart told keeps bound means is e =
         named = v.named;
         given_named = v.given_named;
       };
-      macros = kept_macros work apart told ls s u.macros ms s.form c l k t keeps bound means is e.macros;
+      macros = kept_macros work apart told ls s u.macros ms s.form c l k t (subst (λ (n : ℕ). Keeps u.macros ms n c k) e.form.number keeps) bound means is e.macros;
       root = e.root;
       own = e.own;
       begun = record {
@@ -266,25 +266,19 @@ kept_rests work u ls s ms c l k t apart told keeps bound means is e =
         macros = λ w h. begun_by u.env.roots w t (macro_at s.macros (model.Local w)) (same_meaning l (model.Local w))
             (is_begun work.symbols s.unit s.form u.env.roots c l w (u.root, ap (map.get u.env.roots) (sym e.unit) ∙ e.own) means bound) (e.begun.macros w) h;
       };
+      form = record {
+        number = f.number;
+        locals = f.locals;
+        uses = f.uses;
+        nodes = f.nodes;
+        few_uses = f.few_uses;
+        few_nodes = f.few_nodes;
+        few_locals = f.few_locals;
+        definitions = f.definitions;
+        keywords = f.keywords;
+        met = f.met;
+      };
       defined = e.defined;
       known = e.known;
       count = e.count;
     }
-
-pub kept_stands : (work : Work) (u : UnitScope) (ls : List Frames) (s : ScopedState) (ms : Macros) (c : Meaning) (l : model.Meaning) (k : Macro) (t : Transformer Frames Identifier) →
-    AreToldApart work.symbols.idents → AreToldApart work.symbols.symbols → Keeps u.macros ms u.form.number c k → IsBound c → IsMeaning work.symbols s.unit s.form c l → IsMacro work ls k t →
-    Stands work u ls s → Stands work (with_macros u ms) ls (kept l t s)
-kept_stands work u ls s ms c l k t apart told keeps bound means is e =
-    let f = e.form in
-    stands_now work (with_macros u ms) ls (kept l t s) (kept_rests work u ls s ms c l k t apart told (subst (λ (n : ℕ). Keeps u.macros ms n c k) e.form.number keeps) bound means is (rests_now work u ls s e)) (record {
-      number = f.number;
-      locals = f.locals;
-      uses = f.uses;
-      nodes = f.nodes;
-      few_uses = f.few_uses;
-      few_nodes = f.few_nodes;
-      few_locals = f.few_locals;
-      definitions = f.definitions;
-      keywords = f.keywords;
-      met = f.met;
-    })

@@ -37,6 +37,7 @@ pub mod SearchedPrograms
 pub mod OpenedStand
 pub mod ImportLaws
 pub mod CallLaws
+pub mod RestLaws
 pub mod DeclareLaws
 pub mod PreludeLaws
 pub mod CopyLaws

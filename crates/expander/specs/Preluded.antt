@@ -43,7 +43,7 @@ abbrev pub prelude_state : List PreludeMacro → ScopedState
 prelude_state [] = prelude_begun
 prelude_state (m ∷ ms) = prelude_with m.name (prelude_rules (rules_parts m.parts proper)) (prelude_state ms)
 
--- no form was at work yet, and no other unit was begun
+-- no other unit was begun
 pub record IsPrelude (s : ScopedState) : Type 0 where
   pub unit : s.unit ≡ prelude_unit
   pub form : s.form ≡ 0
