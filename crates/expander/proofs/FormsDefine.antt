@@ -125,8 +125,8 @@ module _ (names : Names) where
       let high = order.1 in
       absurd (omega (arith, low, high))
   gathered form (c ∷ cs) ds order tell =
-      let own = map (λ b. (form, b)) c.trace.definitions in
-      let more = definitions_from (suc form) cs in
+      let own : List (ℕ × code_binder.Binder) = map (λ b. (form, b)) c.trace.definitions in
+      let more : List (ℕ × code_binder.Binder) = definitions_from (suc form) cs in
       let end : form + length (c ∷ cs) ≡ suc form + length cs = omega arith in
       let rest = gathered (suc form) cs (above of_pair form ds) (subst (λ n. InOrder of_pair (suc form) n (above of_pair form ds)) end (in_order_above of_pair form (form + length (c ∷ cs)) ds order)) (tell_above form (suc form) cs ds (omega arith) tell.1) in
       let here = with_form form (reverse c.trace.definitions) (at of_pair form ds) tell.0 in

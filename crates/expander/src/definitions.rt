@@ -125,13 +125,7 @@ impl UnitScope {
 
     /// Binds a name that has no definition there yet: in a body to the next local, in a unit as one that it defines, which the
     /// form tells.
-    fn place(
-        &mut self,
-        spot: Spot,
-        name: NamePart,
-        meaning: Meaning,
-        is_macro: bool,
-    ) -> Mem<()>
+    fn place(&mut self, spot: Spot, name: NamePart, meaning: Meaning, is_macro: bool) -> Mem<()>
         requires scope { spot.scope < length self.old.env.scopes }
         requires room { self.old.form.budget.locals + 1 < 2 ^ 64 }
         requires undefined { spot.in_body ≡ false → get nat_cmp self.old.defined name.ident ≡ None }
