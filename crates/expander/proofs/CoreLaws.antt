@@ -40,7 +40,7 @@ use Rattle.expander.specs.Expanded.{ClauseStands, macros_step}
 use Rattle.expander.specs.Searched.{searched}
 use Rattle.expander.specs.declared.fault.ExpandFault.{ExpandFault}
 use Rattle.expander.specs.declared.scope.UnitScope.{UnitScope}
-use Rattle.expander.proofs.BindersStand.{bound_is, binders_stand, BindersStand}
+use Rattle.expander.proofs.BindersStand.{bound_is, roots_stay, binders_stand, BindersStand}
 use Rattle.expander.proofs.OutcomeLaws.{grows_itself, ends_after, ends_fails}
 use Rattle.expander.proofs.RowLaws.{ends_mapped}
 use Rattle.expander.proofs.CoreStandLaws.{binders_on}

@@ -214,6 +214,7 @@ impl UnitScope {
         ensures begun { OnOk result (self.new ≡ with_use_begun self.old scope) }
         ensures scopes { self.new.env.scopes ≡ self.old.env.scopes }
         ensures number { IfOk result (λ number. number_of number ≡ use_number self.old) }
+        ensures scopes { self.new.env.scopes ≡ self.old.env.scopes }
     {
         let number = UseNo {
             unit: self.unit,
