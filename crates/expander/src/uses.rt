@@ -212,7 +212,6 @@ impl UnitScope {
         requires scope { scope < length self.old.env.scopes }
         requires few { self.old.form.budget.uses < 10000 }
         ensures begun { OnOk result (self.new ≡ with_use_begun self.old scope) }
-        ensures scopes { self.new.env.scopes ≡ self.old.env.scopes }
         ensures number { IfOk result (λ number. number_of number ≡ use_number self.old) }
         ensures scopes { self.new.env.scopes ≡ self.old.env.scopes }
     {
