@@ -1,20 +1,19 @@
 -- How steps of forms that are gone through follow one another: what was left, where forms are gone through, and spliced forms.
-use Rattle.std.proofs.Common.{◌≡◌, ℕ, zero, suc, drop, get_or, ◌+◌, ◌*◌, ◌-◌, ◌<◌, ◌≤◌, List, [], ◌∷◌, ◌++◌, append_assoc, append-nil, length, map, reverse, slice_get, Bool, true, false, Option, Some, None, Result, Ok, Err, refl, sym, ap, ◌∙◌, subst, arith}
+use Rattle.std.proofs.Common.{◌≡◌, ℕ, zero, suc, drop, get_or, ◌+◌, ◌*◌, ◌-◌, ◌<◌, ◌≤◌, List, [], ◌∷◌, ◌++◌, length, map, reverse, slice_get, Bool, true, false, Some, Result, Ok, Err, refl, sym, ap, ◌∙◌, subst, arith}
 use Rattle.std.proofs.lemmas.List.{reverse-append}
 use Rattle.std.proofs.lemmas.Option.{slice_get_within}
 use Rattle.std.proofs.lemmas.Grind.{reverse_onto}
 use Rattle.std.specs.Option.{option_and_then}
 use Rattle.std.specs.FinMap.{get}
 use Rattle.std.specs.Result.{IsErrAnd}
-use Rattle.scheme_model.specs.declared.Occ.{Occ}
-use Rattle.scheme_model.specs.Trees.{Tree, Trees, no_trees, tree}
-use Rattle.scheme_model.specs.Measures.{tree_size, trees_size}
+use Rattle.scheme_model.specs.Trees.{Trees, no_trees, tree}
+use Rattle.scheme_model.specs.Measures.{trees_size}
 use Rattle.scheme_model.specs.ExpansionFaults.{NodeBudget, Fault}
 use Rattle.scheme_model.specs.Ident.{Ident as Identifier}
 use Rattle.scheme_model.specs.Requirements.{Known}
-use Rattle.scheme_model.specs.Steps.{Broken, done, fails}
-use Rattle.scheme_model.specs.Order.{Here, Form, Note, LookedUp, Compared, Pending, Pass, Going, first, forms_at, counting, caught, read_then, splice}
-use Rattle.scheme_model.specs.ScopedExpansion.{Enter, Frames, Place, ScopedState}
+use Rattle.scheme_model.specs.Steps.{Broken, done}
+use Rattle.scheme_model.specs.Order.{Here, Form, Note, LookedUp, Compared, Pending, Pass, Going, first, forms_at, caught, read_then, splice}
+use Rattle.scheme_model.specs.ScopedExpansion.{Frames, Place, ScopedState}
 use Rattle.syntax_tree.specs.Names.{KeepsNames, AreToldApart}
 use Rattle.syntax_tree.specs.Looks.{PartsStand, AllNamed}
 use Rattle.syntax_tree.specs.declared.trees.Work.{Work}
@@ -26,14 +25,14 @@ use Rattle.core_tree.specs.Names.{AllMatch}
 use Rattle.core_tree.specs.Traces.{IsFault}
 use Rattle.expander.specs.Asks.{AreWithin, AskedStands}
 use Rattle.expander.specs.Chains.{body_chain}
-use Rattle.expander.specs.Counts.{plain_fault, with_nodes, Counts}
+use Rattle.expander.specs.Counts.{with_nodes, Counts}
 use Rattle.expander.specs.State.{Stands}
 use Rattle.expander.specs.Stepped.{spent}
 use Rattle.expander.specs.Seen.{form_at}
 use Rattle.expander.specs.Told.{Tells}
-use Rattle.expander.specs.Kept.{FormFor, KeptFor, PendingFor, NoteFor, NotesFor, IsInBody, IsIn, SpotFor, forms_size, left_with}
-use Rattle.expander.specs.Outcomes.{SameForm, Stays, Leaves, MayFill}
-use Rattle.expander.specs.Passed.{Reaches, Stops, GoesOn}
+use Rattle.expander.specs.Kept.{FormFor, KeptFor, PendingFor, NoteFor, NotesFor, IsIn, SpotFor, forms_size, left_with}
+use Rattle.expander.specs.Outcomes.{Stays}
+use Rattle.expander.specs.Passed.{GoesOn}
 use Rattle.expander.specs.Searched.{searched}
 use Rattle.expander.specs.Used.{ComparisonFor, note_of}
 use Rattle.expander.specs.declared.asked.Asked.{Asked}

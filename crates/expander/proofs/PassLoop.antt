@@ -1,13 +1,11 @@
 -- Forms that are gone through one after another: what was come to so far, and how the pass ends.
-use Rattle.std.proofs.Common.{◌≡◌, ℕ, zero, suc, ◌+◌, ◌*◌, ◌-◌, ◌^◌, ◌<◌, ◌≤◌, List, [], ◌∷◌, ◌++◌, length, reverse, Bool, true, false, Option, Some, None, Result, Ok, Err, refl, sym, ap, ◌∙◌, subst, arith}
+use Rattle.std.proofs.Common.{◌≡◌, ℕ, zero, suc, ◌+◌, ◌*◌, ◌-◌, ◌^◌, ◌<◌, ◌≤◌, List, [], ◌∷◌, ◌++◌, reverse, Result, Ok, Err, refl, sym, ap, ◌∙◌, subst, arith}
 use Rattle.std.proofs.lemmas.List.{reverse-append}
 use Rattle.std.specs.Result.{IsErrAnd}
-use Rattle.scheme_model.specs.Trees.{Tree}
 use Rattle.scheme_model.specs.Measures.{tree_size}
 use Rattle.scheme_model.specs.Ident.{Ident as Identifier}
 use Rattle.scheme_model.specs.Requirements.{Known}
-use Rattle.scheme_model.specs.Steps.{Broken}
-use Rattle.scheme_model.specs.Order.{Form, Item, Note, Pending, Pass, Going, here_at, run, run_next, run_form}
+use Rattle.scheme_model.specs.Order.{Form, Pending, Pass, Going, here_at, run, run_next, run_form}
 use Rattle.scheme_model.specs.ScopedExpansion.{Frames, Place, ScopedState}
 use Rattle.syntax_tree.specs.declared.trees.Work.{Work}
 use Rattle.syntax_tree.specs.declared.trees.table.Region.{Region}
@@ -15,7 +13,7 @@ use Rattle.core_tree.specs.Names.{AllMatch}
 use Rattle.expander.specs.State.{Stands, most_locals}
 use Rattle.expander.specs.Kept.{FormFor, KeptFor, PendingFor, NotesFor, SpotFor, forms_size, left_with}
 use Rattle.expander.specs.Outcomes.{Stays}
-use Rattle.expander.specs.Passed.{CanPass, Reaches, Stops, GoesOn, Passes}
+use Rattle.expander.specs.Passed.{CanPass, GoesOn, Passes}
 use Rattle.expander.specs.Searched.{searched}
 use Rattle.expander.specs.declared.asked.Asked.{Asked}
 use Rattle.expander.specs.declared.fault.ExpandFault.{ExpandFault}

@@ -1,5 +1,5 @@
 -- A macro use that is gone through: its comparisons are noted, and the tree that it gives comes next.
-use Rattle.std.proofs.Common.{◌≡◌, ℕ, suc, ◌+◌, ◌*◌, ◌-◌, ◌<◌, ◌≤◌, List, [], ◌∷◌, ◌++◌, reverse, Bool, true, false, Option, Some, None, Result, Ok, Err, refl, sym, ap, ◌∙◌, subst, arith}
+use Rattle.std.proofs.Common.{◌≡◌, ℕ, ◌+◌, ◌*◌, ◌-◌, ◌<◌, ◌≤◌, List, [], ◌∷◌, ◌++◌, reverse, Some, Result, Ok, Err, refl, sym, ap, ◌∙◌, subst, arith}
 use Rattle.std.proofs.lemmas.List.{reverse-append}
 use Rattle.scheme_model.specs.Trees.{Tree, Trees, Tail}
 use Rattle.scheme_model.specs.Measures.{tree_size}
@@ -7,7 +7,7 @@ use Rattle.scheme_model.specs.Ident.{Ident as Identifier}
 use Rattle.scheme_model.specs.Requirements.{Known}
 use Rattle.scheme_model.specs.Cores.{Target}
 use Rattle.scheme_model.specs.Steps.{Broken}
-use Rattle.scheme_model.specs.Order.{Here, Form, Note, LookedUp, Compared, Pending, Pass, Going, Transformer, first, noted, caught, comparisons, use_of, run_use}
+use Rattle.scheme_model.specs.Order.{Here, Form, Note, LookedUp, Compared, Pending, Pass, Going, Transformer, first, noted, comparisons, use_of, run_use}
 use Rattle.scheme_model.specs.ScopedExpansion.{Frames, Place, ScopedState}
 use Rattle.syntax_tree.specs.Names.{KeepsNames, AreToldApart}
 use Rattle.syntax_tree.specs.declared.trees.Work.{Work}
@@ -15,9 +15,9 @@ use Rattle.syntax_tree.specs.declared.trees.nodes.Tree as number
 use Rattle.syntax_tree.specs.declared.trees.table.Region.{Region}
 use Rattle.core_tree.specs.Names.{AllMatch}
 use Rattle.expander.specs.State.{Stands}
-use Rattle.expander.specs.Kept.{FormFor, KeptFor, PendingFor, PlaceFor, NoteFor, NotesFor, SpotFor, forms_size, left_with}
+use Rattle.expander.specs.Kept.{FormFor, KeptFor, PendingFor, PlaceFor, NoteFor, NotesFor, SpotFor, forms_size}
 use Rattle.expander.specs.Outcomes.{Grows, Leaves, Stays, WorksOn, EndsHere}
-use Rattle.expander.specs.Passed.{Reaches, Stops, GoesOn}
+use Rattle.expander.specs.Passed.{GoesOn}
 use Rattle.expander.specs.Searched.{searched}
 use Rattle.expander.specs.declared.asked.Asked.{Asked}
 use Rattle.expander.specs.declared.asked.Asking.{Asking}

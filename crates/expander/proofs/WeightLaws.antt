@@ -1,8 +1,8 @@
 -- A core form that splices or defines hands on fewer nodes, or defines and binds fewer names, than it has nodes.
-use Rattle.std.proofs.Common.{◌≡◌, ℕ, suc, ◌+◌, ◌<◌, ◌≤◌, List, [], ◌∷◌, ◌++◌, map, length, Bool, true, false, Option, Some, None, Result, Ok, Err, refl, sym, ap, ◌∙◌, subst, arith}
+use Rattle.std.proofs.Common.{◌≡◌, ℕ, ◌+◌, ◌<◌, ◌≤◌, List, [], ◌∷◌, map, length, Bool, true, false, Option, Some, None, Result, Ok, Err, ap, subst, arith}
 use Rattle.std.specs.Prelude.{if◌then◌else◌}
 use Rattle.std.proofs.lemmas.List.{length-append, length-map}
-use Rattle.scheme_model.specs.Trees.{Tree, Trees, no_trees, tree, Tail, list}
+use Rattle.scheme_model.specs.Trees.{Tree, Trees, no_trees, tree, Tail}
 use Rattle.scheme_model.specs.Measures.{tree_size, trees_size, tail_size}
 use Rattle.scheme_model.specs.ExpansionFaults.{Named, Fault, BadForm, ◌>>◌}
 use Rattle.scheme_model.specs.Keywords.{CoreKeyword, IsQuote, IsQuasiquote, IsLambda, IsCaseLambda, IsIf, IsSet, IsBegin, IsDefine, IsDefineValues, IsDefineRecordType, IsDefineSyntax, IsLetSyntax, IsLetrecSyntax, IsCondExpand, IsSyntaxError, IsInclude}
@@ -15,7 +15,7 @@ use Rattle.core_forms.specs.Forms.{Shape, Sequence, Definition, Several, RecordT
 use Rattle.expander.specs.Judged.{clause_judged, is_nil, chosen_among}
 use Rattle.expander.specs.Passed.{IsPassed, choices_size, shape_weight}
 use Rattle.expander.specs.Seen.{takes_effect}
-use Rattle.expander.proofs.FitLaws.{Made, made, some_node, names_count, proper_is, some_is, list_size, first_size, formals_count}
+use Rattle.expander.proofs.FitLaws.{made, some_node, names_count, proper_is, some_is, list_size, first_size, formals_count}
 
 -- ---- clauses of `cond-expand`
 

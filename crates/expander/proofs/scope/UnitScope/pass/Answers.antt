@@ -1,8 +1,5 @@
-use Rattle.std.proofs.Common.{◌≡◌, ℕ, suc, ◌+◌, ◌*◌, ◌^◌, ◌<◌, ◌≤◌, ◌++◌, List, [], ◌∷◌, length, reverse, Option, Some, None, Result, Ok, Err, refl, sym, ap, ◌∙◌, subst, arith}
-use Rattle.scheme_model.specs.Requirements.{Known}
-use Rattle.scheme_model.specs.Trees.{Tree}
+use Rattle.std.proofs.Common.{◌≡◌, ℕ, suc, ◌+◌, ◌*◌, ◌^◌, ◌≤◌, List, [], ◌∷◌, length, refl, sym, ap, subst, arith}
 use Rattle.scheme_model.specs.Measures.{tree_size}
-use Rattle.scheme_model.specs.Ident.{Ident as Identifier}
 use Rattle.syntax_tree.proofs.StandingLaws.{stands_once}
 use Rattle.expander.specs.Judged.{Knows}
 use Rattle.expander.specs.Kept.{left_with}

@@ -1,16 +1,12 @@
-use Rattle.std.proofs.Common.{◌≡◌, ℕ, ◌+◌, ◌^◌, ◌<◌, ◌≤◌, ◌++◌, List, [], ◌∷◌, length, map, reverse, true, Option, Some, None, Result, Ok, Err, refl, sym, ap, ◌∙◌, subst, arith}
+use Rattle.std.proofs.Common.{◌^◌, ◌<◌, length, Ok, Err, ap, arith}
 use Rattle.std.proofs.lemmas.Option.{slice_get_within}
-use Rattle.scheme_model.specs.Measures.{trees_size}
 use Rattle.expander.specs.Bodies.{BodyFor, body_pass}
-use Rattle.expander.specs.Kept.{left_with}
-use Rattle.expander.specs.Searched.{searched}
-use Rattle.expander.specs.Judged.{Knows}
 use Rattle.scope_env.specs.Environment.{Environment}
 use Rattle.expander.specs.declared.fault.ExpandFault.TheVariants as fault
 use Rattle.expander.specs.declared.items.Pending as code_pending
 use Rattle.expander.specs.declared.scope.UnitScope.{UnitScope}
 use Rattle.expander.proofs.AfterLaws.{all_known}
-use Rattle.expander.proofs.BodyPass.{inside, start, inside_stands, spot_inside, pending_inside, notes_inside, turns_inside, can_pass_inside, body_ends, body_fails, body_locals}
+use Rattle.expander.proofs.BodyPass.{can_pass_inside, pass_inside, body_ends, body_fails, body_locals}
 use Rattle.expander.proofs.NodeLaws.{ends_err}
 use Rattle.expander.proofs.OutcomeLaws.{leaves_itself}
 use Rattle.expander.proofs.scope.UnitScope.pass_body.Goals as goal
@@ -72,17 +68,12 @@ returns-in_err-pass-clause-passed c = λ ts turns stand small enough known ls s 
     let named = c.requires.can.named in
     let new = c.pass.new.work in
     let v = c.pass.new.self in
+    let kept = c.pass.new.pending.aside.items in
     let e = c.in_err-pass.field-0.0 in
-    let h = c.in_err-pass.ensures known (inside work region u w c.args.at.scope inner here ns ts todo asked child newest c.sound.ensures none asks forms aside stand named small ls s fs at stands) _ _
-        (start work region u w c.args.at.scope inner here ns ts todo asked child newest c.sound.ensures none asks forms aside stand named small) turns knows
-        (inside_stands work region u w c.args.at.scope inner here ns ts todo asked child newest c.sound.ensures none asks forms aside stand named small ls s fs at stands)
-        (spot_inside work region u w c.args.at.scope inner here ns ts todo asked child newest c.sound.ensures none asks forms aside stand named small ls s fs at stands)
-        (pending_inside work region u w c.args.at.scope inner here ns ts todo asked child newest c.sound.ensures none asks forms aside stand named small ls s fs at stands)
-        (notes_inside work region u w c.args.at.scope inner here ns ts todo asked child newest c.sound.ensures none asks forms aside stand named small ls s fs at stands)
-        (turns_inside work region u w c.args.at.scope inner here ns ts todo asked child newest c.sound.ensures none asks forms aside stand named small ls s fs at stands turns enough) in
+    let h = pass_inside work region u w c.args.at.scope inner here ns ts todo asked child newest c.sound.ensures none asks forms aside stand named small ls s fs at stands known turns new v kept c.pass.new.asked (Err e) knows enough c.in_err-pass.ensures in
     let P = BodyFor new region v.unit v.form.number in
     ends_err P work new region u v ls c.from_residual-in_err-pass.result e (body_pass turns here ts known fs s) c.from_residual-in_err-pass.ensures.1
-    (body_fails work region u w c.args.at.scope inner here ns ts todo asked child newest c.sound.ensures none asks forms aside stand named small ls s fs at stands known turns new v (left_with (start work region u w c.args.at.scope inner here ns ts todo asked child newest c.sound.ensures none asks forms aside stand named small).todo w.form.budget.uses) c.pass.new.pending.aside.items c.pass.new.asked P e h)
+    (body_fails work region u w c.args.at.scope inner here ns ts todo asked child newest c.sound.ensures none asks forms aside stand named small ls s fs at stands known turns new v kept c.pass.new.asked P e h)
 
 pub returns-clause-passed : goal.returns-clause-passed
 returns-clause-passed c = λ ts turns stand small enough known ls s fs knows stands at.
@@ -104,14 +95,9 @@ returns-clause-passed c = λ ts turns stand small enough known ls s fs knows sta
     let named = c.requires.can.named in
     let new = c.pass.new.work in
     let v = c.pass.new.self in
-    let h = c.in_ok-pass.ensures known (inside work region u w c.args.at.scope inner here ns ts todo asked child newest c.sound.ensures none asks forms aside stand named small ls s fs at stands) _ _
-        (start work region u w c.args.at.scope inner here ns ts todo asked child newest c.sound.ensures none asks forms aside stand named small) turns knows
-        (inside_stands work region u w c.args.at.scope inner here ns ts todo asked child newest c.sound.ensures none asks forms aside stand named small ls s fs at stands)
-        (spot_inside work region u w c.args.at.scope inner here ns ts todo asked child newest c.sound.ensures none asks forms aside stand named small ls s fs at stands)
-        (pending_inside work region u w c.args.at.scope inner here ns ts todo asked child newest c.sound.ensures none asks forms aside stand named small ls s fs at stands)
-        (notes_inside work region u w c.args.at.scope inner here ns ts todo asked child newest c.sound.ensures none asks forms aside stand named small ls s fs at stands)
-        (turns_inside work region u w c.args.at.scope inner here ns ts todo asked child newest c.sound.ensures none asks forms aside stand named small ls s fs at stands turns enough) in
-    body_ends work region u w c.args.at.scope inner here ns ts todo asked child newest c.sound.ensures none asks forms aside stand named small ls s fs at stands known turns new v (left_with (start work region u w c.args.at.scope inner here ns ts todo asked child newest c.sound.ensures none asks forms aside stand named small).todo w.form.budget.uses) c.pass.new.pending.aside c.pass.new.asked h
+    let kept = c.pass.new.pending.aside in
+    let h = pass_inside work region u w c.args.at.scope inner here ns ts todo asked child newest c.sound.ensures none asks forms aside stand named small ls s fs at stands known turns new v kept.items c.pass.new.asked (Ok tt) knows enough c.in_ok-pass.ensures in
+    body_ends work region u w c.args.at.scope inner here ns ts todo asked child newest c.sound.ensures none asks forms aside stand named small ls s fs at stands known turns new v kept c.pass.new.asked h
 
 pub returns-clause-locals : goal.returns-clause-locals
 returns-clause-locals c =
@@ -136,11 +122,6 @@ returns-clause-locals c =
     let aside = c.new.ensures.items in
     let new = c.pass.new.work in
     let v = c.pass.new.self in
-    let h = c.in_ok-pass.ensures k.0 (inside work region u w c.args.at.scope inner here ns ts todo asked child newest c.sound.ensures none asks forms aside can.stand can.named can.small l.layout l.state l.frames l.at l.stands) _ _
-        (start work region u w c.args.at.scope inner here ns ts todo asked child newest c.sound.ensures none asks forms aside can.stand can.named can.small) (2 ^ 39) k.1
-        (inside_stands work region u w c.args.at.scope inner here ns ts todo asked child newest c.sound.ensures none asks forms aside can.stand can.named can.small l.layout l.state l.frames l.at l.stands)
-        (spot_inside work region u w c.args.at.scope inner here ns ts todo asked child newest c.sound.ensures none asks forms aside can.stand can.named can.small l.layout l.state l.frames l.at l.stands)
-        (pending_inside work region u w c.args.at.scope inner here ns ts todo asked child newest c.sound.ensures none asks forms aside can.stand can.named can.small l.layout l.state l.frames l.at l.stands)
-        (notes_inside work region u w c.args.at.scope inner here ns ts todo asked child newest c.sound.ensures none asks forms aside can.stand can.named can.small l.layout l.state l.frames l.at l.stands)
-        (turns_inside work region u w c.args.at.scope inner here ns ts todo asked child newest c.sound.ensures none asks forms aside can.stand can.named can.small l.layout l.state l.frames l.at l.stands (2 ^ 39) (omega arith)) in
-    body_locals work region u w c.args.at.scope inner here ns ts todo asked child newest c.sound.ensures none asks forms aside can.stand can.named can.small l.layout l.state l.frames l.at l.stands k.0 (2 ^ 39) new v c.pass.new.pending.aside.items c.pass.new.asked h
+    let kept = c.pass.new.pending.aside.items in
+    let h = pass_inside work region u w c.args.at.scope inner here ns ts todo asked child newest c.sound.ensures none asks forms aside can.stand can.named can.small l.layout l.state l.frames l.at l.stands k.0 (2 ^ 39) new v kept c.pass.new.asked (Ok tt) k.1 (omega arith) c.in_ok-pass.ensures in
+    body_locals work region u w c.args.at.scope inner here ns ts todo asked child newest c.sound.ensures none asks forms aside can.stand can.named can.small l.layout l.state l.frames l.at l.stands k.0 (2 ^ 39) new v kept c.pass.new.asked h

@@ -1,13 +1,11 @@
-use Rattle.std.proofs.Common.{◌≡◌, ℕ, ◌+◌, ◌<◌, ◌≤◌, ◌++◌, List, [], ◌∷◌, length, Bool, true, false, Option, Some, None, Result, Ok, Err, refl, sym, ap, ◌∙◌, subst, arith}
+use Rattle.std.proofs.Common.{◌≡◌, ℕ, ◌<◌, ◌≤◌, List, [], Bool, true, false, Option, Some, None, refl, sym, ap, ◌∙◌, subst, arith}
 use Rattle.std.specs.Option.{option_map_or}
 use Rattle.scheme_model.specs.Ident.{Ident as Identifier}
 use Rattle.scheme_model.specs.Keywords.{CoreKeyword}
 use Rattle.scheme_model.specs.Measures.{tree_size}
 use Rattle.scheme_model.specs.Order.{Going, Pass, run_core}
-use Rattle.scheme_model.specs.Trees.{Tree}
-use Rattle.scheme_model.specs.ScopedExpansion.{Frames, Place, ScopedState}
+use Rattle.scheme_model.specs.ScopedExpansion.{Place, ScopedState}
 use Rattle.scheme_model.specs.Quasiquote.{Mark}
-use Rattle.core_forms.specs.Forms.{shape_in}
 use Rattle.core_forms.specs.Marks.{AreMarks}
 use Rattle.core_forms.specs.declared.shape.QuasiMark.{QuasiMark}
 use Rattle.core_tree.specs.declared.cores.Target as code_target
@@ -24,7 +22,6 @@ use Rattle.expander.proofs.DefinitionSteps.{goes_without}
 use Rattle.expander.proofs.PassForms.{in_weight, in_passes, in_fits, can_pass_met, keyword_stays, sets_aside}
 use Rattle.expander.proofs.PassLaws.{spot_same}
 use Rattle.expander.proofs.PassSteps.{set_aside}
-use Rattle.expander.proofs.ReadLaws.{target_at}
 use Rattle.expander.proofs.scope.UnitScope.pass_core.Goals as goal
 
 -- no identifier marks anything in a form that is gone through
@@ -40,9 +37,6 @@ effect_of o c b is h = sym (h ∙ ap (λ (x : Option CoreKeyword). option_map_or
 
 below : (a b : ℕ) → a < b → a ≤ b
 below a b h = omega (arith, h)
-
-no_more : (a b : ℕ) → a ≤ b → a ≤ b
-no_more a b h = h
 
 within : (a b most : ℕ) → a < b → b ≤ most → a ≤ most
 within a b most h g = omega (arith, h, g)
@@ -112,4 +106,4 @@ returns c = λ known region ls s fs k t m head ts tail o p knows stands placed i
     core_goes known work region u w ls c.args.spot fs s p k c.args.keyword t m c.args.here head ts tail o (tree_size m.tree) c.pass_shape.new.pending c.pass_shape.new.asked unmarked effect split meets target stands
     h.0 c.pass_shape.new.self c.pass_shape.result h.1
     (c.pass_shape.ensures known region ls (met t s) fs m h.0 p (tree_size m.tree) knows (subst (λ (v : UnitScope). Stands work v ls (met t s)) (sym meets) after.stands) (subst (λ (v : UnitScope). SpotFor work v ls (met t s) c.args.spot fs) (sym meets) there) h.2 (c.in-Ok.ensures.named region on.1.1)
-    (in_passes k unmarked h.0 effect m.tree h.1) (in_fits k unmarked h.0 effect m.tree (no_more (tree_size m.tree) 4194304 size) h.1) pending notes (in_weight k unmarked h.0 effect m.tree h.1))
+    (in_passes k unmarked h.0 effect m.tree h.1) (in_fits k unmarked h.0 effect m.tree size h.1) pending notes (in_weight k unmarked h.0 effect m.tree h.1))

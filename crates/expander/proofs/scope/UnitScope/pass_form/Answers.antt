@@ -1,12 +1,12 @@
-use Rattle.std.proofs.Common.{◌≡◌, ℕ, ◌+◌, ◌<◌, ◌≤◌, ◌++◌, List, [], ◌∷◌, length, true, Option, Some, None, Result, Ok, Err, refl, sym, ap, ◌∙◌, subst, arith}
+use Rattle.std.proofs.Common.{◌≡◌, [], ◌∷◌, true, Some, refl, ap, ◌∙◌}
 use Rattle.std.proofs.lemmas.Option.{slice_get_within}
-use Rattle.scheme_model.specs.Trees.{Tree, name}
+use Rattle.scheme_model.specs.Trees.{name}
 use Rattle.scheme_model.specs.Measures.{tree_size}
 use Rattle.scheme_model.specs.ExpansionFaults.{Named}
 use Rattle.scheme_model.specs.Ident.{Ident as Identifier}
 use Rattle.scheme_model.specs.Meaning.{Head, is_keyword, head_as}
 use Rattle.scheme_model.specs.Cores.{Target}
-use Rattle.scheme_model.specs.Order.{Here, Form, Going, LookedUp, Note, Pending, Pass, here_at, is_some, target_of, noted, run_core, run_form, run_use}
+use Rattle.scheme_model.specs.Order.{LookedUp, Note, here_at, is_some, target_of, noted, run_core, run_form, run_use}
 use Rattle.scheme_model.specs.CountedExpansion.{means_here}
 use Rattle.scheme_model.specs.ScopedExpansion.{Frames, Place, ScopedState, macro_at}
 use Rattle.expander.specs.Searched.{searched}

@@ -1,12 +1,10 @@
-use Rattle.std.proofs.Common.{◌≡◌, ℕ, ◌+◌, ◌^◌, ◌<◌, ◌≤◌, ◌++◌, List, [], ◌∷◌, length, true, Option, Some, None, Result, Ok, Err, IfSome, refl, sym, ap, ◌∙◌, subst, arith}
+use Rattle.std.proofs.Common.{ℕ, ◌+◌, ◌^◌, ◌<◌, ◌≤◌, List, length, Option, Some, None, Ok, Err, IfSome, sym, subst, arith}
 use Rattle.std.specs.Prelude.{Vec}
 use Rattle.std.specs.declared.alloc.Global.{Global}
-use Rattle.scheme_model.specs.Trees.{Trees, no_trees}
+use Rattle.scheme_model.specs.Trees.{no_trees}
 use Rattle.scheme_model.specs.Measures.{trees_size}
 use Rattle.scheme_model.specs.Order.{Going, Pass, or_none, read_then, record_names, splice}
 use Rattle.scheme_model.specs.Ident.{Ident as Identifier}
-use Rattle.scheme_model.specs.Requirements.{Known}
-use Rattle.scheme_model.specs.Shapes.{RecordShape}
 use Rattle.scheme_model.specs.ScopedExpansion.{Place, ScopedState}
 use Rattle.syntax_tree.specs.Looks.{PartsStand, AllNamed}
 use Rattle.syntax_tree.specs.declared.trees.nodes.Tree as number
@@ -18,7 +16,7 @@ use Rattle.expander.specs.State.{most_locals}
 use Rattle.expander.proofs.PassForms.{can_go, room_for, goes_bad, read_is}
 use Rattle.expander.proofs.PassLaws.{goes_so, goes_err}
 use Rattle.expander.proofs.ShapeKinds.{none_passed}
-use Rattle.expander.proofs.ShapePass.{begin_goes, choices_goes, variable_goes, procedure_goes, values_goes, syntax_goes, record_goes, variable_demands, procedure_demands, values_demands, syntax_demands, record_demands, choices_demands, chosen_here, named_here}
+use Rattle.expander.proofs.ShapePass.{begin_goes, choices_goes, variable_goes, procedure_goes, values_goes, syntax_goes, record_goes, variable_demands, procedure_demands, values_demands, syntax_demands, record_demands, chosen_here, named_here}
 use Rattle.expander.proofs.WeightLaws.{chosen_fits}
 use Rattle.expander.proofs.scope.UnitScope.pass_shape.Goals as goal
 
