@@ -11,7 +11,10 @@ use Rattle.core_tree.specs.Names.{AllMatch}
 use Rattle.core_tree.specs.Units.{IsDefinition, AreDefinitions, definitions_from, defined_by}
 use Rattle.core_tree.specs.declared.cores.Binder as code_binder
 use Rattle.core_tree.specs.declared.units.UnitForm.{UnitForm}
-use Rattle.expander.specs.State.{numbered, IsNumbered}
+use Rattle.expander.specs.State.{numbered, numbered_in, IsNumbered}
+
+unequal : (a b : ℕ) → a < b → (a == b) ≡ false
+unequal a b lt = grind (arith, nat_tests)
 
 -- things of forms from one on, each of no later form than the one before it
 module _ {X : Type 0} (of : X → ℕ) where
@@ -58,9 +61,6 @@ module _ {X : Type 0} (of : X → ℕ) where
   within_by form later x xs false is lt rest =
       let le = ltb-false form (of x) is in
       rest ∙ ap (λ b. cond b (x ∷ at later xs) (at later xs)) (sym (unequal (of x) later (omega (arith, le, lt))))
-    where
-      unequal : (a b : ℕ) → a < b → (a == b) ≡ false
-      unequal a b lt = grind (arith, nat_tests)
 
   within : (form later : ℕ) (xs : List X) → form < later → at later (above form xs) ≡ at later xs
   within form later [] lt = refl
@@ -78,12 +78,22 @@ module _ {X : Type 0} (of : X → ℕ) where
   in_order_above form behind [] h = tt
   in_order_above form behind (x ∷ xs) h = above_by form behind x xs (nat_lt form (of x)) refl h (in_order_above form (suc (of x)) xs h.2)
 
+  none_at : (form first behind : ℕ) (xs : List X) → behind ≤ form → InOrder first behind xs → at form xs ≡ []
+  none_at form first behind [] le h = refl
+  none_at form first behind (x ∷ xs) le h =
+      let below : of x < behind = h.1 in
+      ap (λ b. cond b (x ∷ at form xs) (at form xs)) (unequal (of x) form (omega (arith, below, le))) ∙ none_at form first (suc (of x)) xs (omega (arith, below, le)) h.2
+
 abbrev pub of_pair : ℕ × Defined → ℕ
 of_pair d = d.1.form
 
 order_numbered : (first behind : ℕ) (ds : List Defined) → InOrder (λ (d : Defined). d.form) first behind ds → InOrder of_pair first behind (numbered ds)
 order_numbered first behind [] h = tt
 order_numbered first behind (d ∷ ds) h = (h.0, h.1, order_numbered first (suc d.form) ds h.2)
+
+-- a form behind all that define anything has no definition yet
+pub none_yet : (unit form first : ℕ) (table : Table) → InOrder (λ (d : Defined). d.form) first form (defined_by unit table) → numbered_in unit form table ≡ []
+none_yet unit form first table order = none_at of_pair form first form (numbered (defined_by unit table)) (omega arith) (order_numbered first form (defined_by unit table) order)
 
 all_append : {X Y : Type 0} (P : X → Y → Type 0) (xs : List X) (ys : List Y) (vs : List X) (ws : List Y) → AllMatch P xs ys → AllMatch P vs ws → AllMatch P (xs ++ vs) (ys ++ ws)
 all_append P [] [] vs ws h more = more

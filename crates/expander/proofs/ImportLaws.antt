@@ -31,7 +31,6 @@ use Rattle.scope_env.proofs.Places.{length-changed_at}
 use Rattle.scope_env.proofs.GrowthLaws.{meaning_grows}
 use Rattle.expander.specs.Asks.{AskedStands}
 use Rattle.expander.specs.Macros.{macro_in}
-use Rattle.expander.specs.Asks.{AskedStands}
 use Rattle.expander.specs.Opened.{with_imports, started, ImportsFor, HasUnits, BindsImport}
 use Rattle.core_tree.specs.Names.{AllMatch}
 use Rattle.expander.specs.Kept.{NoteFor}

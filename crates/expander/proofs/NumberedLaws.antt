@@ -1,5 +1,5 @@
 -- Definitions of units by their numbers: what one more comes to.
-use Rattle.std.proofs.Common.{◌≡◌, ℕ, suc, ◌==◌, List, [], ◌∷◌, ◌++◌, reverse, length, Bool, true, false, cond, refl, sym, ap, ◌∙◌, subst, eq-eqb}
+use Rattle.std.proofs.Common.{◌≡◌, ℕ, suc, ◌==◌, List, [], ◌∷◌, ◌++◌, reverse, length, Bool, true, false, cond, refl, sym, ap, ◌∙◌, subst, arith, eq-eqb}
 use Rattle.std.specs.Prelude.{filter}
 use Rattle.std.proofs.lemmas.List.{reverse-append}
 use Rattle.scheme_model.specs.Substitution.{Defined, Table, definition_count}
@@ -19,6 +19,14 @@ count_by d ds n false h = h
 pub count_is : (unit : ℕ) (table : Table) → length (defined_by unit table) ≡ definition_count table unit
 count_is unit [] = refl
 count_is unit (d ∷ ds) = count_by d (defined_by unit ds) (definition_count ds unit) (d.unit == unit) (count_is unit ds)
+
+none_of : (ds : List Defined) → length ds ≡ 0 → ds ≡ []
+none_of [] h = refl
+none_of (d ∷ ds) h = absurd (omega (arith, h))
+
+-- a unit that has defined nothing has no definition of any form
+pub none_numbered : (unit form : ℕ) (table : Table) → definition_count table unit ≡ 0 → numbered_in unit form table ≡ []
+none_numbered unit form table none = ap (λ ds. filter (λ (d : ℕ × Defined). d.1.form == form) (numbered ds)) (none_of (defined_by unit table) (count_is unit table ∙ none))
 
 module _ (unit form : ℕ) (d : Defined) (ds : Table) where
   abbrev of_form : ℕ × Defined → Bool
