@@ -138,7 +138,7 @@ module _ (work : Work) (region : Region) (u w : UnitScope) (scope inner : ℕ) (
       -- what the pass says of these forms
       pub pass_inside : (kept : List code_kept.Kept) (asked2 : Asked) (result : Result (Unit {0}) ExpandFault) → Knows u.libraries known → 2 ^ 39 ≤ turns →
           ((known : Known) (ls : List Frames) (s : ScopedState) (fs : Frames) (p : Pending Identifier Place) (turns : ℕ) → Knows u.libraries known → Stands work w ls s → SpotFor work w ls s spot fs → PendingFor work region w.unit w.form.number todo p →
-            NotesFor work ls asked p.notes → left_with p.todo w.form.budget.uses < turns → Passes work new region w v ls spot fs (left_with p.todo w.form.budget.uses) kept asked2 result (run (searched known) turns fs p s)) →
+          NotesFor work ls asked p.notes → left_with p.todo w.form.budget.uses < turns → Passes work new region w v ls spot fs (left_with p.todo w.form.budget.uses) kept asked2 result (run (searched known) turns fs p s)) →
           Passes work new region w v inside spot (entered_frames s fs) (left_with start.todo w.form.budget.uses) kept asked2 result went
       pass_inside kept asked2 result knows enough passes = passes known inside (entered s) (entered_frames s fs) start turns knows inside_stands spot_inside pending_inside notes_inside (turns_inside turns enough)
 

@@ -96,26 +96,36 @@ module _ (known : Known) (old new : Work) (region : Region) (u v : UnitScope) (l
       let f : code_form.Form = record { here = here; tree = tree } in
       let grown = pending_on old new region u.unit u.form.number v.unit v.form.number before p stays.work stays.same.unit stays.same.number pending in
       let small = (use_leaves known here fs keyword m ts tail s).small t ends.2 in
-      let few = stays.stands.form.few_uses in
-      (first (record { here = here; tree = t } ∷ []) noted_all, used.1, record {
-        stays = stays;
-        placed = spot_after stays;
-        pending = record {
-          todo = subst (λ (xs : List code_form.Form). AllMatch (FormFor new region) xs (record { here = here; tree = t } ∷ p.todo)) (sym (ap reverse todo ∙ reverse-append before.todo.items (f ∷ []))) ((refl, ends.3), grown.todo);
-          aside = subst (λ (xs : List code_kept.Kept). AllMatch (KeptFor new region v.unit v.form.number) xs p.aside) (sym aside) grown.aside;
-        };
-        notes = notes_on old new ls stays.work.names apart asked (comparisons (searched known) fs m ts tail s ++ p.notes) found;
-        less = use_less (tree_size t) (forms_size p.todo) u.form.budget.uses v.form.budget.uses given small uses few;
-        locals = use_locals u.form.budget.locals v.form.budget.locals (tree_size t) (forms_size p.todo) u.form.budget.uses v.form.budget.uses given locals small uses few;
-      }, λ go. caught_goes noted_all.notes used t ends.2 (next go))
+      let few = stays.stands.form.few_uses in (
+        first (record { here = here; tree = t } ∷ []) noted_all,
+        used.1,
+        record {
+          stays = stays;
+          placed = spot_after stays;
+          pending = record {
+            todo = subst (λ (xs : List code_form.Form). AllMatch (FormFor new region) xs (record { here = here; tree = t } ∷ p.todo)) (sym (ap reverse todo ∙ reverse-append before.todo.items (f ∷ []))) ((refl, ends.3), grown.todo);
+            aside = subst (λ (xs : List code_kept.Kept). AllMatch (KeptFor new region v.unit v.form.number) xs p.aside) (sym aside) grown.aside;
+          };
+          notes = notes_on old new ls stays.work.names apart asked (comparisons (searched known) fs m ts tail s ++ p.notes) found;
+          less = use_less (tree_size t) (forms_size p.todo) u.form.budget.uses v.form.budget.uses given small uses few;
+          locals = use_locals u.form.budget.locals v.form.budget.locals (tree_size t) (forms_size p.todo) u.form.budget.uses v.form.budget.uses given locals small uses few;
+        },
+        λ go. caught_goes noted_all.notes used t ends.2 (next go),
+      )
 
   pub use_fails : (e : ExpandFault) → EndsHere (WorksOn new region) old new region u v ls (Err e) used → GoesOn old new region u v ls spot fs p.todo given after asked (Err e) (λ go. run_use (searched known) go here fs keyword (Some m) form ts tail p s)
-  use_fails (fault.At e) ends =
-      (noted_all.notes, ends.1.0, used.1, record {
-        stays = ends.0;
-        placed = spot_after ends.0;
-        notes = notes_on old new ls ends.0.work.names apart asked (comparisons (searched known) fs m ts tail s ++ p.notes) found;
-      }, ends.1.2, λ go. caught_fails noted_all.notes used ends.1.0 ends.1.1 (next go))
+  use_fails (fault.At e) ends = (
+    noted_all.notes,
+    ends.1.0,
+    used.1,
+    record {
+      stays = ends.0;
+      placed = spot_after ends.0;
+      notes = notes_on old new ls ends.0.work.names apart asked (comparisons (searched known) fs m ts tail s ++ p.notes) found;
+    },
+    ends.1.2,
+    λ go. caught_fails noted_all.notes used ends.1.0 ends.1.1 (next go),
+  )
   use_fails fault.Full ends = ends
   use_fails fault.Memory ends = ends
 

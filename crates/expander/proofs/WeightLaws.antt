@@ -215,10 +215,10 @@ weight_within IsLetrecSyntax mark ts tail m e h = absurd cc
 weight_within IsCondExpand mark ts tail m e h =
     weighs (some_of ts tail >> choices_in) Choices m (1 + trees_size ts)
     (λ cs is.
-        let a = made (some_of ts tail) choices_in cs is in
-        let same : trees_size a.first ≡ trees_size ts = ap trees_size (some_is ts a.first tail a.read) in
-        let few = choices_fit a.first cs a.then in
-        omega (arith, same, few)) h
+    let a = made (some_of ts tail) choices_in cs is in
+    let same : trees_size a.first ≡ trees_size ts = ap trees_size (some_is ts a.first tail a.read) in
+    let few = choices_fit a.first cs a.then in
+    omega (arith, same, few)) h
 weight_within IsSyntaxError mark ts tail m e h = absurd cc
 weight_within IsInclude mark ts tail m e h = absurd cc
 

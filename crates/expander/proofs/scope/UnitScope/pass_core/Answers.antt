@@ -61,8 +61,12 @@ pass_shape-requires c =
     let size = c.trees_fit.ensures.nodes c.args.form.tree f.0 f.1 in
     let can = can_pass_met work region u c.args.spot (tree_size f.0) (shape_weight h.0) c.args.pending.now c.args.asked.now c.args.keyword target.0 (c.requires.can.1 f.0 f.1) target.1 (below (shape_weight h.0) (tree_size f.0) less) in
     record {
-      shape = (h.0, h.2, within (shape_weight h.0) (tree_size f.0) 4194304 less size,
-        (region, subst (λ (w : UnitScope). CanPass work region w c.args.spot (shape_weight h.0) c.args.pending.now c.args.asked.now) (sym (ap (with_keywords u) c.in_ok-push-2.ensures.ok)) can));
+      shape = (
+        h.0,
+        h.2,
+        within (shape_weight h.0) (tree_size f.0) 4194304 less size,
+        (region, subst (λ (w : UnitScope). CanPass work region w c.args.spot (shape_weight h.0) c.args.pending.now c.args.asked.now) (sym (ap (with_keywords u) c.in_ok-push-2.ensures.ok)) can),
+      );
     }
 
 pub returns-in_err-push : goal.returns-in_err-push

@@ -66,12 +66,15 @@ pass_core-requires c =
       core = (k.0, k.2);
       keyword = (t, target_at work.symbols u.unit u.form.number can.state.unit can.state.form c.target-keyword.result t can.stands.unit can.stands.form.number (c.target-keyword.ensures can.layout can.state can.frames named can.stands can.placed.at n.named));
       form = f;
-      can = (region, λ m stand.
-          let again = c.requires.can m stand in
-          let x = head_named work m c.in-Some.name (c.in-Some.ensures m stand) in
-          can_pass_noted work region u c.args.spot (tree_size m) c.args.pending.now c.args.asked.now c.note_head.new.asked again (note_in again.state again.frames x.ident)
-          (c.in_ok-note_head.ensures again.layout again.state again.frames (record { name = x.ident; occ = x.place }) (head_in again.state again.frames x.ident) again.left.notes again.stands again.placed x.named
-          (c.head_of-head.ensures again.layout again.state again.frames x.ident again.stands again.placed.at x.named.0) again.notes));
+      can = (
+        region,
+        λ m stand.
+            let again = c.requires.can m stand in
+            let x = head_named work m c.in-Some.name (c.in-Some.ensures m stand) in
+            can_pass_noted work region u c.args.spot (tree_size m) c.args.pending.now c.args.asked.now c.note_head.new.asked again (note_in again.state again.frames x.ident)
+            (c.in_ok-note_head.ensures again.layout again.state again.frames (record { name = x.ident; occ = x.place }) (head_in again.state again.frames x.ident) again.left.notes again.stands again.placed x.named
+            (c.head_of-head.ensures again.layout again.state again.frames x.ident again.stands again.placed.at x.named.0) again.notes),
+      );
     }
 
 pub pass_use-requires : goal.pass_use-requires

@@ -152,10 +152,10 @@ returns-in_err-chosen-in-CondExpand c = λ known region ls s fs form m p given k
     choices_goes known work region s fs here form p given (λ (f : Step). GoesOn work work region u u ls c.args.spot fs p.todo given before c.args.asked.now c.from_residual.result f)
     c.args.shape m shape named fits less c.in-CondExpand.choices c.deref-in-CondExpand.result.now c.in-CondExpand.is c.deref-in-CondExpand.ensures.value
     (λ ps are may few.
-        let step : Step = λ go. read_then (searched known) here p (chosen_among known ps) (λ o. splice (searched known) go here p (or_none o)) s in
-        goes_err region ls c.args.spot fs p.todo given before c.args.asked.now work work u u c.from_residual.result e step c.from_residual.ensures.1
-        (goes_bad region ls c.args.spot fs p.todo given before c.args.asked.now known work u s here e (chosen_among known ps) p (λ go o. splice (searched known) go here p (or_none o)) stands placed notes
-        (chosen_here work c.judge.result.work.now u.libraries c.judge.result.libraries.now c.deref-in-CondExpand.result.now here c.judge.ensures.work c.judge.ensures.libraries (Err e) c.in_err-chosen-in-CondExpand.ensures.chosen known ps knows are)))
+    let step : Step = λ go. read_then (searched known) here p (chosen_among known ps) (λ o. splice (searched known) go here p (or_none o)) s in
+    goes_err region ls c.args.spot fs p.todo given before c.args.asked.now work work u u c.from_residual.result e step c.from_residual.ensures.1
+    (goes_bad region ls c.args.spot fs p.todo given before c.args.asked.now known work u s here e (chosen_among known ps) p (λ go o. splice (searched known) go here p (or_none o)) stands placed notes
+    (chosen_here work c.judge.result.work.now u.libraries c.judge.result.libraries.now c.deref-in-CondExpand.result.now here c.judge.ensures.work c.judge.ensures.libraries (Err e) c.in_err-chosen-in-CondExpand.ensures.chosen known ps knows are)))
 
 pub returns-in-Some : goal.returns-in-Some
 returns-in-Some c = λ known region ls s fs form m p given knows stands placed shape named passed fits pending notes less.
@@ -170,16 +170,16 @@ returns-in-Some c = λ known region ls s fs form m p given knows stands placed s
     choices_goes known work region s fs here form p given (λ (f : Step). GoesOn work work region u v ls c.args.spot fs p.todo given new asked c.splice-in-Some.result f)
     c.args.shape m shape named fits less c.in-CondExpand.choices cs c.in-CondExpand.is c.deref-in-CondExpand.ensures.value
     (λ ps are may few.
-        let chosen = subst (λ (x : Option (Vec number.Tree Global)). Chooses work here (Ok x) (chosen_among known ps)) c.in-Some.is
-            (chosen_here work c.judge.result.work.now u.libraries c.judge.result.libraries.now cs here c.judge.ensures.work c.judge.ensures.libraries (Ok o) c.in_ok-chosen-in-CondExpand.ensures.chosen known ps knows are) in
-        let names = subst (λ (x : Option (Vec number.Tree Global)). IfSome x (TreesNamed work region)) c.in-Some.is
-            (named_here work c.judge.result.work.now u.libraries c.judge.result.libraries.now cs here c.judge.ensures.work c.judge.ensures.libraries o c.in_ok-chosen-in-CondExpand.ensures.named region may) in
-        let ts = chosen.0 in
-        let seen = sym c.deref-in-Some.ensures.value in
-        goes_so region ls c.args.spot fs p.todo given new asked work work u v c.splice-in-Some.result (λ go. read_then (searched known) here p (chosen_among known ps) (λ x. splice (searched known) go here p (or_none x)) s) (λ go. splice (searched known) go here p ts s)
-        (λ go. read_is known here p (chosen_among known ps) (Some ts) (λ x. splice (searched known) go here p (or_none x)) s chosen.1)
-        (c.splice-in-Some.ensures known work region ls s c.args.spot fs asked ts p given stands placed (subst (λ (l : List number.Tree). PartsStand work l ts) seen chosen.2) (subst (λ (l : List number.Tree). AllNamed work region l) seen names) pending notes
-        (at_most (trees_size ts) (choices_size ps) given (chosen_fits known ps (Some ts) chosen.1) few)))
+    let chosen = subst (λ (x : Option (Vec number.Tree Global)). Chooses work here (Ok x) (chosen_among known ps)) c.in-Some.is
+    (chosen_here work c.judge.result.work.now u.libraries c.judge.result.libraries.now cs here c.judge.ensures.work c.judge.ensures.libraries (Ok o) c.in_ok-chosen-in-CondExpand.ensures.chosen known ps knows are) in
+    let names = subst (λ (x : Option (Vec number.Tree Global)). IfSome x (TreesNamed work region)) c.in-Some.is
+    (named_here work c.judge.result.work.now u.libraries c.judge.result.libraries.now cs here c.judge.ensures.work c.judge.ensures.libraries o c.in_ok-chosen-in-CondExpand.ensures.named region may) in
+    let ts = chosen.0 in
+    let seen = sym c.deref-in-Some.ensures.value in
+    goes_so region ls c.args.spot fs p.todo given new asked work work u v c.splice-in-Some.result (λ go. read_then (searched known) here p (chosen_among known ps) (λ x. splice (searched known) go here p (or_none x)) s) (λ go. splice (searched known) go here p ts s)
+    (λ go. read_is known here p (chosen_among known ps) (Some ts) (λ x. splice (searched known) go here p (or_none x)) s chosen.1)
+    (c.splice-in-Some.ensures known work region ls s c.args.spot fs asked ts p given stands placed (subst (λ (l : List number.Tree). PartsStand work l ts) seen chosen.2) (subst (λ (l : List number.Tree). AllNamed work region l) seen names) pending notes
+    (at_most (trees_size ts) (choices_size ps) given (chosen_fits known ps (Some ts) chosen.1) few)))
 
 none_given : (n given : ℕ) → n < given → 0 < given
 none_given n given h = omega (arith, h)
@@ -196,11 +196,11 @@ returns-in-CondExpand c = λ known region ls s fs form m p given knows stands pl
     choices_goes known work region s fs here form p given (λ (f : Step). GoesOn work work region u v ls c.args.spot fs p.todo given new asked c.splice-in-None.result f)
     c.args.shape m shape named fits less c.in-CondExpand.choices cs c.in-CondExpand.is c.deref-in-CondExpand.ensures.value
     (λ ps are may few.
-        let chosen = subst (λ (x : Option (Vec number.Tree Global)). Chooses work here (Ok x) (chosen_among known ps)) c.in-None.is
-            (chosen_here work c.judge.result.work.now u.libraries c.judge.result.libraries.now cs here c.judge.ensures.work c.judge.ensures.libraries (Ok c.in_ok-chosen-in-CondExpand.chosen) c.in_ok-chosen-in-CondExpand.ensures.chosen known ps knows are) in
-        goes_so region ls c.args.spot fs p.todo given new asked work work u v c.splice-in-None.result (λ go. read_then (searched known) here p (chosen_among known ps) (λ x. splice (searched known) go here p (or_none x)) s) (λ go. splice (searched known) go here p no_trees s)
-        (λ go. read_is known here p (chosen_among known ps) None (λ x. splice (searched known) go here p (or_none x)) s chosen)
-        (c.splice-in-None.ensures known work region ls s c.args.spot fs asked no_trees p given stands placed tt tt pending notes (none_given (choices_size ps) given few)))
+    let chosen = subst (λ (x : Option (Vec number.Tree Global)). Chooses work here (Ok x) (chosen_among known ps)) c.in-None.is
+    (chosen_here work c.judge.result.work.now u.libraries c.judge.result.libraries.now cs here c.judge.ensures.work c.judge.ensures.libraries (Ok c.in_ok-chosen-in-CondExpand.chosen) c.in_ok-chosen-in-CondExpand.ensures.chosen known ps knows are) in
+    goes_so region ls c.args.spot fs p.todo given new asked work work u v c.splice-in-None.result (λ go. read_then (searched known) here p (chosen_among known ps) (λ x. splice (searched known) go here p (or_none x)) s) (λ go. splice (searched known) go here p no_trees s)
+    (λ go. read_is known here p (chosen_among known ps) None (λ x. splice (searched known) go here p (or_none x)) s chosen)
+    (c.splice-in-None.ensures known work region ls s c.args.spot fs asked no_trees p given stands placed tt tt pending notes (none_given (choices_size ps) given few)))
 
 pub returns-in-RecordType : goal.returns-in-RecordType
 returns-in-RecordType c = λ known region ls s fs form m p given knows stands placed shape named passed fits pending notes less.
