@@ -113,6 +113,7 @@ entered_stands work u ls s e =
         few_uses = f.few_uses;
         few_nodes = f.few_nodes;
         few_locals = f.few_locals;
+        definitions = f.definitions;
         keywords = f.keywords;
         met = f.met;
       };
@@ -254,6 +255,7 @@ scopes_after work u env ls s ds roots begun now e =
         few_uses = f.few_uses;
         few_nodes = f.few_nodes;
         few_locals = f.few_locals;
+        definitions = f.definitions;
         keywords = f.keywords;
         met = f.met;
       };

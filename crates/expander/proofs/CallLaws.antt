@@ -7,9 +7,9 @@ use Rattle.scheme_model.specs.Ident.{Ident as Identifier}
 use Rattle.scheme_model.specs.Requirements.{Known}
 use Rattle.scheme_model.specs.Cores.{Part}
 use Rattle.scheme_model.specs.Steps.{Broken}
-use Rattle.scheme_model.specs.Order.{Note, LookedUp, Compared, Pass}
+use Rattle.scheme_model.specs.Order.{Note, Pass}
 use Rattle.scheme_model.specs.ScopedExpansion.{Frames, Place, ScopedState}
-use Rattle.syntax_tree.specs.Names.{Names, KeepsNames}
+use Rattle.syntax_tree.specs.Names.{Names, AreToldApart}
 use Rattle.syntax_tree.specs.Works.{live_count}
 use Rattle.syntax_tree.specs.declared.trees.Work.{Work}
 use Rattle.syntax_tree.specs.declared.trees.table.Region.{Region}
@@ -20,20 +20,19 @@ use Rattle.core_tree.specs.declared.cores.CorePart.{CorePart}
 use Rattle.core_tree.specs.declared.traces.FormFault.{FormFault}
 use Rattle.core_tree.specs.declared.traces.Trace.{Trace}
 use Rattle.expander.specs.Judged.{Knows, library_text}
-use Rattle.expander.specs.Kept.{NoteFor, NotesFor}
+use Rattle.expander.specs.Kept.{NotesFor}
 use Rattle.expander.specs.Outcomes.{At, Leaves, SameForm, Stays, Moves, MayFill, Ends}
 use Rattle.expander.specs.State.{FormStands, Rests, Stands}
 use Rattle.expander.specs.Stepped.{turned}
 use Rattle.expander.specs.Units.{UnitStands, form_at, CountsFor, ItemFor, CanDeclare, CanSet, Goes, Adds, Counts, Sets, Declares, Expands}
 use Rattle.expander.specs.declared.asked.Asked.{Asked}
-use Rattle.expander.specs.declared.asked.Note as code_note
-use Rattle.expander.specs.declared.asked.Note.TheVariants as notes
 use Rattle.expander.specs.declared.fault.ExpandFault.{ExpandFault}
 use Rattle.expander.specs.declared.fault.ExpandFault.TheVariants as fault
 use Rattle.expander.specs.declared.items.Item as code_item
 use Rattle.expander.specs.declared.scope.Budget.{Budget}
 use Rattle.expander.specs.declared.scope.FormAtWork.{FormAtWork}
 use Rattle.expander.specs.declared.scope.UnitScope.{UnitScope}
+use Rattle.expander.proofs.NotesStand.{notes_on}
 
 -- ---- between two calls
 
@@ -97,6 +96,26 @@ with_asked work u a ls s e = record {
   known = e.known;
   count = e.count;
 }
+
+-- nor are the libraries that there are
+pub with_libraries : (work : Work) (u : UnitScope) (libraries : BTreeSet (String Global)) (ls : List Frames) (s : ScopedState) (ns : List (Note Place)) → UnitStands work u ls s ns → UnitStands work (record u { libraries = libraries }) ls s ns
+with_libraries work u libraries ls s ns h =
+    let e = h.rests in
+    record {
+      rests = record {
+        unit = e.unit;
+        program = e.program;
+        env = e.env;
+        macros = e.macros;
+        root = e.root;
+        own = e.own;
+        begun = e.begun;
+        defined = e.defined;
+        known = e.known;
+        count = e.count;
+      };
+      notes = h.notes;
+    }
 
 -- ---- the form's counts
 
@@ -163,26 +182,11 @@ module _ (old new : Work) (region : Region) (u u1 v w : UnitScope) (number : ℕ
   -- ---- what an item comes to
 
   -- what is expanded asks nothing that definitions heed
-  notes_on : (ls layout : List Frames) (ns : List (Note Place)) (a : Asked) → ((n : ℕ) (fs : Frames) → At ls n fs → At layout n fs) → KeepsNames old.symbols new.symbols → NotesFor old ls a ns → NotesFor new layout a ns
-  notes_on ls layout ns a kept names h = each a.notes.items (reverse ns) h
-    where
-      note_on : (n : code_note.Note) (m : Note Place) → NoteFor old ls n m → NoteFor new layout n m
-      note_on (notes.LookedUp x hd k) (LookedUp p head keyword) q = ((kept x.scope p.frames q.0.0, names.idents x.ident p.ident q.0.1), q.1, q.2)
-      note_on (notes.LookedUp x hd k) (Compared p r held) q = absurd q
-      note_on (notes.Compared l x hd) (LookedUp p head keyword) q = absurd q
-      note_on (notes.Compared l x hd) (Compared p r held) q = ((kept l.scope p.frames q.0.0, names.idents l.ident p.ident q.0.1), (kept x.scope r.frames q.1.0, names.idents x.ident r.ident q.1.1), q.2)
-
-      each : (xs : List code_note.Note) (ms : List (Note Place)) → AllMatch (NoteFor old ls) xs ms → AllMatch (NoteFor new layout) xs ms
-      each [] [] q = q
-      each [] (m ∷ ms) q = absurd q
-      each (x ∷ xs) [] q = absurd q
-      each (x ∷ xs) (m ∷ ms) q = (note_on x m q.0, each xs ms q.1)
-
-  module _ (ls : List Frames) (ns : List (Note Place)) (asked : v.asked ≡ u1.asked) (before : NotesFor old ls u.asked ns) where
+  module _ (ls : List Frames) (ns : List (Note Place)) (asked : v.asked ≡ u1.asked) (before : NotesFor old ls u.asked ns) (apart : AreToldApart new.symbols.idents) where
     went : (t : ScopedState) (m : Moves old new region u1 v ls t) → Goes old new region u w budget after ls number traced ns t
     went t m =
         let same : v.asked ≡ u.asked = asked ∙ ap (λ (x : UnitScope). x.asked) turn in
-        goes ls m.layout ns t m.kept m.stays (subst (λ (a : Asked). NotesFor new m.layout a ns) (sym same) (notes_on ls m.layout ns u.asked m.kept m.stays.work.names before))
+        goes ls m.layout ns t m.kept m.stays (subst (λ (a : Asked). NotesFor new m.layout a ns) (sym same) (notes_on old new ls m.layout m.stays.work.names m.kept u.asked ns apart before))
 
     pub expands : (x : CorePart) (count : ℕ) (p : Result Part Broken × ScopedState) → count + budget.nodes ≡ after.nodes → Ends (λ layout. PartStands new v.unit v.form.number) old new region u1 v ls (Ok x) p →
         Expands old new region u w budget after ls number traced ns (Ok (record { part = x; count = count })) p

@@ -1,18 +1,29 @@
 -- A copy of units stands for what they stand for.
-use Rattle.std.proofs.Common.{◌≡◌, ℕ, List, reverse, slice_get, Bool, true, Option, Some, None, refl, sym, ap, ◌∙◌, subst}
+use Rattle.std.proofs.Common.{◌≡◌, ℕ, List, [], ◌∷◌, reverse, slice_get, Bool, true, ◌||◌, Option, Some, None, MatchOption, vec_len, refl, sym, ap, ◌∙◌, subst}
+use Rattle.std.specs.Prelude.{String, Vec}
+use Rattle.std.specs.declared.alloc.Global as alloc
+use Rattle.std.specs.List.{AllZip, list_any}
+use Rattle.std.specs.Option.{IsSomeAnd}
+use Rattle.std.specs.String.{string_bytes}
+use Rattle.std.specs.Cmp.Lexicographic.{slice_cmp}
+use Rattle.std.specs.BTreeSet.{BTreeSet, contains_text}
+use Rattle.std.specs.BTreeMap.{get}
+use Rattle.rules_match.specs.Found.{pair_cmp}
+use Rattle.std.specs.Ordering.{nat_cmp, is_eq}
 use Rattle.std.specs.FinMap as map
 use Rattle.scheme_model.specs.Ident.{Ident as Identifier}
 use Rattle.scheme_model.specs.Order.{Note, Transformer, is_some}
 use Rattle.scheme_model.specs.Leaves.{leaves_of}
 use Rattle.scheme_model.specs.ScopedExpansion.{Frames, Place, ScopedState, macro_at}
 use Rattle.syntax_tree.specs.Macros.{identifiers, RulesFor, AreChecked}
-use Rattle.syntax_tree.specs.declared.meaning.Meaning.TheVariants.{Global, Standard}
+use Rattle.syntax_tree.specs.declared.meaning.Meaning.TheVariants.{Local, Global, Standard, Free}
 use Rattle.syntax_tree.specs.declared.rules.Rules as code_rules
 use Rattle.syntax_tree.specs.declared.trees.Work.{Work}
 use Rattle.rules_check.specs.Gathered.{AreLeaves}
 use Rattle.rules_check.specs.declared.leaf.RuleLeaf.{RuleLeaf}
 use Rattle.core_tree.specs.Names.{AllMatch}
 use Rattle.scope_env.specs.Environment.{Environment}
+use Rattle.expander.specs.Asks.{asked_from, items_of, AreNotesKnown}
 use Rattle.expander.specs.Copied.{SameMacro, SameIfAny, SameMacros, SameUnits}
 use Rattle.expander.specs.Kept.{NoteFor}
 use Rattle.expander.specs.Macros.{macro_in}
@@ -70,5 +81,53 @@ module _ (work : Work) (ls : List Frames) where
           known = λ n k found. e.known n k (sym (same.defined n) ∙ found);
           count = same.count ∙ e.count;
         };
-        notes = subst (λ (xs : List code_note.Note). AllMatch (NoteFor work ls) xs (reverse ns)) (sym same.notes) h.notes;
+        notes = record {
+          notes = subst (λ (xs : List code_note.Note). AllMatch (NoteFor work ls) xs (reverse ns)) (sym same.notes) h.notes.notes;
+          asks = record {
+            numbers = λ n x is. same.asking n ∙ (h.notes.asks.numbers n x is ∙ ap (asked_from work.symbols x 0) (sym same.notes));
+            others = λ n le. same.asking n ∙ h.notes.asks.others n le;
+            known = subst (AreNotesKnown work.symbols) (sym same.notes) h.notes.asks.known;
+          };
+        };
       }
+
+-- ---- what clones are
+
+pub found_again : (o p : Option Macro) → MatchOption o (p ≡ None) (λ k. IsSomeAnd p (SameMacro k)) → SameIfAny o p
+found_again None None h = tt
+found_again None (Some l) h = absurd cc
+found_again (Some k) None h = absurd h
+found_again (Some k) (Some l) h = h
+
+pub macros_again : (ms ns : Macros) → ((k : ℕ × ℕ) → SameIfAny (get pair_cmp ms.locals k) (get pair_cmp ns.locals k)) → ((k : ℕ × ℕ) → SameIfAny (get pair_cmp ms.globals k) (get pair_cmp ns.globals k)) → ((k : ℕ) → SameIfAny (get nat_cmp ms.standards k) (get nat_cmp ns.standards k)) → SameMacros ms ns
+macros_again ms ns locals globals standards form (Local n) = locals (form, n)
+macros_again ms ns locals globals standards form (Global u i) = globals (u, i)
+macros_again ms ns locals globals standards form (Standard x) = standards x
+macros_again ms ns locals globals standards form (Free x) = tt
+
+each_again : (C : ℕ → ℕ → Type 0) → ((x y : ℕ) → C x y → y ≡ x) → (xs ys : List ℕ) → AllZip C xs ys → ys ≡ xs
+each_again C same [] [] h = refl
+each_again C same [] (y ∷ ys) h = absurd h
+each_again C same (x ∷ xs) [] h = absurd h
+each_again C same (x ∷ xs) (y ∷ ys) h =
+    let here = same x y h.0 in
+    let rest = each_again C same xs ys h.1 in
+    λ j. here j ∷ rest j
+
+pub numbers_again : (C : ℕ → ℕ → Type 0) → ((x y : ℕ) → C x y → y ≡ x) → (o p : Option (Vec ℕ alloc.Global)) → MatchOption o (p ≡ None) (λ v. IsSomeAnd p (λ w. AllZip C v.items w.items × (vec_len w ≡ vec_len v))) → items_of p ≡ items_of o
+numbers_again C same None None h = refl
+numbers_again C same None (Some w) h = absurd cc
+numbers_again C same (Some v) None h = absurd h
+numbers_again C same (Some v) (Some w) h = each_again C same v.items w.items h.0
+
+any_again : {A : Type 0} (C : A → A → Type 0) (test : A → Bool) → ((x y : A) → C x y → test y ≡ test x) → (xs ys : List A) → AllZip C xs ys → list_any test ys ≡ list_any test xs
+any_again C test same [] [] h = refl
+any_again C test same [] (y ∷ ys) h = absurd h
+any_again C test same (x ∷ xs) [] h = absurd h
+any_again C test same (x ∷ xs) (y ∷ ys) h =
+    let here = same x y h.0 in
+    let rest = any_again C test same xs ys h.1 in
+    λ j. here j || rest j
+
+pub texts_again : (C : String alloc.Global → String alloc.Global → Type 0) → ((s t : String alloc.Global) → C s t → string_bytes t ≡ string_bytes s) → (s t : BTreeSet (String alloc.Global)) → AllZip C s.keys t.keys → (x : List ℕ) → contains_text t x ≡ contains_text s x
+texts_again C same s t h x = any_again C (λ k. is_eq (slice_cmp nat_cmp x (string_bytes k))) (λ k l is. ap (λ b. is_eq (slice_cmp nat_cmp x b)) (same k l is)) s.keys t.keys h

@@ -1,5 +1,5 @@
 -- A core form that is gone through: the keyword is met, the form is read, and its shape is done or its fault ends the pass.
-use Rattle.std.proofs.Common.{◌≡◌, ℕ, List, Bool, true, false, Option, Some, None, Result, Ok, Err, refl, sym, ap, ◌∙◌, subst}
+use Rattle.std.proofs.Common.{◌≡◌, ℕ, List, true, false, Option, Result, Ok, Err, refl, sym, ap, ◌∙◌, subst}
 use Rattle.scheme_model.specs.Trees.{Tree, list, Trees, tree, Tail}
 use Rattle.scheme_model.specs.ExpansionFaults.{Fault}
 use Rattle.scheme_model.specs.Ident.{Ident as Identifier}
@@ -12,11 +12,11 @@ use Rattle.scheme_model.specs.ScopedExpansion.{Frames, Place, ScopedState}
 use Rattle.syntax_tree.specs.declared.trees.Work.{Work}
 use Rattle.syntax_tree.specs.declared.trees.table.Region.{Region}
 use Rattle.core_forms.specs.Ends.{Refuses}
-use Rattle.core_forms.specs.Forms.{Shape, shape_in, shape_of}
+use Rattle.core_forms.specs.Forms.{Shape, shape_in}
 use Rattle.core_forms.specs.declared.fault.CoreFault.{CoreFault}
 use Rattle.core_tree.specs.Names.{IsTarget}
 use Rattle.core_tree.specs.declared.cores.Target as code_target
-use Rattle.expander.specs.Kept.{PendingFor, NotesFor, SpotFor}
+use Rattle.expander.specs.Kept.{NotesFor, SpotFor}
 use Rattle.expander.specs.Passed.{GoesOn, pass_step}
 use Rattle.expander.specs.Searched.{searched}
 use Rattle.expander.specs.Seen.{takes_effect}

@@ -77,6 +77,7 @@ nodes_stand work u ls s n within e =
       few_uses = f.few_uses;
       few_nodes = within;
       few_locals = omega (arith, f.few_locals);
+      definitions = f.definitions;
       keywords = f.keywords;
       met = f.met;
     })
@@ -95,6 +96,7 @@ locals_stand work u ls s n within e =
       few_uses = f.few_uses;
       few_nodes = f.few_nodes;
       few_locals = within;
+      definitions = f.definitions;
       keywords = f.keywords;
       met = f.met;
     })
@@ -131,6 +133,7 @@ keyword_stands work u ls s x t for e =
       few_uses = f.few_uses;
       few_nodes = f.few_nodes;
       few_locals = f.few_locals;
+      definitions = f.definitions;
       keywords = met_last (IsTarget work.symbols s.unit s.form) s.form s.keywords u.form.trace.keywords x t f.keywords for;
       met = f.met;
     })
@@ -146,6 +149,7 @@ use_stands work u ls s x t for e =
       few_uses = f.few_uses;
       few_nodes = f.few_nodes;
       few_locals = f.few_locals;
+      definitions = f.definitions;
       keywords = f.keywords;
       met = met_last (IsUse work.symbols s.unit s.form) s.form s.met u.form.trace.uses x t f.met for;
     })

@@ -1,5 +1,6 @@
 -- A form of a unit is gone through, and what it set aside is expanded: what was asked stands beside it.
 use Rattle.std.proofs.Common.{◌≡◌, ℕ, ◌+◌, ◌-◌, ◌*◌, ◌^◌, ◌<◌, ◌≤◌, List, [], ◌∷◌, map, reverse, Option, None, Result, Ok, Err, false, refl, sym, ap, ◌∙◌, subst, arith}
+use Rattle.std.specs.Result.{IsErrAnd}
 use Rattle.scheme_model.specs.Ident.{Ident as Identifier}
 use Rattle.scheme_model.specs.Measures.{tree_size}
 use Rattle.scheme_model.specs.Trees.{Tree}
@@ -114,6 +115,7 @@ module _ (old new : Work) (region : Region) (u w : UnitScope) (a b : Asked) wher
   moves_back ls t m = record { layout = m.layout; kept = m.kept; stays = stays_back m.layout t m.stays }
 
   pub ends_back : {X Y : Type 0} (P : List Frames → X → Y → Type 0) (ls : List Frames) (r : Result X ExpandFault) (p : Result Y Broken × ScopedState) → Ends P old new region (asking u a) w ls r p → Ends P old new region u back ls r p
+  unfolding moves_back
   ends_back P ls (Ok x) p h = (h.0, moves_back ls p.1 h.1, h.2, h.3)
   ends_back P ls (Err (fault.At e)) p h = (moves_back ls p.1 h.0, h.1)
   ends_back P ls (Err fault.Full) p h = (leaves_back h.0, h.1)
@@ -122,3 +124,8 @@ module _ (old new : Work) (region : Region) (u w : UnitScope) (a b : Asked) wher
 -- before the form was gone through
 pub sets_none : (work : Work) (region : Region) (u : UnitScope) (ls : List Frames) (s : ScopedState) → Stands work u ls s → Leaves work work region u
 sets_none work region u ls s e = leaves_itself work region u e.form.few_nodes
+
+-- a fault is handed on
+pub sets_handed : (old new : Work) (region : Region) (u v : UnitScope) (ls : List Frames) (r : Result (List code_item.Item) ExpandFault) (e : ExpandFault) (p : Pass Identifier Place × ScopedState) → IsErrAnd r (λ f. f ≡ e) → Sets old new region u v ls (Err e) p → Sets old new region u v ls r p
+sets_handed old new region u v ls (Ok xs) e p same h = absurd same
+sets_handed old new region u v ls (Err f) e p same h = subst (λ (g : ExpandFault). Sets old new region u v ls (Err g) p) (sym same) h

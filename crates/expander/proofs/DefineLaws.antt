@@ -37,7 +37,7 @@ use Rattle.expander.specs.Chains.{body_chain}
 use Rattle.expander.specs.Counts.{placed_in, named_fault}
 use Rattle.expander.specs.Macros.{IsBound as IsBound_meaning, Keeps}
 use Rattle.expander.specs.State.{IsMacro, EnvStands, Stands, is_program, most_locals}
-use Rattle.expander.specs.Stepped.{BindsBody, with_definition, with_macros}
+use Rattle.expander.specs.Stepped.{BindsBody, with_told, with_definition, with_macros}
 use Rattle.expander.specs.Searched.{speaks_of, define_searched}
 use Rattle.expander.specs.Kept.{IsInBody, IsIn, SpotFor}
 use Rattle.expander.specs.Outcomes.{At, SameForm}
@@ -92,74 +92,74 @@ module _ (work : Work) (u : UnitScope) (ls : List Frames) (s : ScopedState) (sco
   bound_in_unit h =
       subst (λ (o : Option Number). IsBound s.unit s.form (btree_map_len u.defined) (bound_next s o)) (sym (ap body_around h)) (refl, sym e.count)
 
-  module _ (ident : ℕ) (n : Named Identifier) (apart : AreToldApart work.symbols.idents) (sound : IsSound u.env) (is : IsIdent work.symbols ident n.name) where
+  module _ (name : NamePart) (n : Named Identifier) (apart : AreToldApart work.symbols.idents) (sound : IsSound u.env) (is : IsName work name n) where
     -- ---- what it comes to
 
     pub comes_here : (b k : Bool) (r : Option (Rules Identifier)) → IsIn work u ls s scope fs b →
-        ComesTo work u ls (definition_added (body_around fs) n r fs s) (record { bound = record { scope = scope; ident = ident; meaning = next_here u b ident }; is_macro = k }) (meaning_next s (body_around fs) n.name)
+        ComesTo work u ls (definition_added (body_around fs) n r fs s) (record { bound = record { scope = scope; ident = name.ident; meaning = next_here u b name.ident }; is_macro = k }) (meaning_next s (body_around fs) n.name)
     comes_here true k r h =
-        let c : Coming = record { bound = record { scope = scope; ident = ident; meaning = Local u.form.budget.locals }; is_macro = k } in
+        let c : Coming = record { bound = record { scope = scope; ident = name.ident; meaning = Local u.form.budget.locals }; is_macro = k } in
         subst (λ (o : Option Number). ComesTo work u ls (definition_added o n r fs s) c (meaning_next s o n.name)) (sym (ap body_around h.frames)) (record {
-          env = coming_in_body work u ls s scope h.body h.outer fs ident n r apart sound h.opened is e;
+          env = coming_in_body work u ls s scope h.body h.outer fs name.ident n r apart sound h.opened is.0 e;
           meaning = λ j. model.Local (record { unit = s.unit; form = s.form; count = sym e.form.locals j });
         })
     comes_here false k r h =
-        let c : Coming = record { bound = record { scope = scope; ident = ident; meaning = Global u.unit ident }; is_macro = k } in
+        let c : Coming = record { bound = record { scope = scope; ident = name.ident; meaning = Global u.unit name.ident }; is_macro = k } in
         subst (λ (o : Option Number). ComesTo work u ls (definition_added o n r fs s) c (meaning_next s o n.name)) (sym (ap body_around h.1)) (record {
-          env = subst (λ (x : ℕ). EnvStands work.symbols (with_bound u.env x ident (Global u.unit ident)) ls (definition_added None n r fs s)) (sym h.0) (coming_in_unit work u ls s fs ident n r apart sound is e);
-          meaning = (e.unit, is);
+          env = subst (λ (x : ℕ). EnvStands work.symbols (with_bound u.env x name.ident (Global u.unit name.ident)) ls (definition_added None n r fs s)) (sym h.0) (coming_in_unit work u ls s fs name.ident n r apart sound is.0 e);
+          meaning = (e.unit, is.0);
         })
 
-    pub comes_so : (b k : Bool) (m : Meaning) (r : Option (Rules Identifier)) → m ≡ next_here u b ident → IsIn work u ls s scope fs b →
-        ComesTo work u ls (definition_added (body_around fs) n r fs s) (record { bound = record { scope = scope; ident = ident; meaning = m }; is_macro = k }) (meaning_next s (body_around fs) n.name)
+    pub comes_so : (b k : Bool) (m : Meaning) (r : Option (Rules Identifier)) → m ≡ next_here u b name.ident → IsIn work u ls s scope fs b →
+        ComesTo work u ls (definition_added (body_around fs) n r fs s) (record { bound = record { scope = scope; ident = name.ident; meaning = m }; is_macro = k }) (meaning_next s (body_around fs) n.name)
     comes_so b k m r value h =
-        subst (λ (x : Meaning). ComesTo work u ls (definition_added (body_around fs) n r fs s) (record { bound = record { scope = scope; ident = ident; meaning = x }; is_macro = k }) (meaning_next s (body_around fs) n.name)) (sym value) (comes_here b k r h)
+        subst (λ (x : Meaning). ComesTo work u ls (definition_added (body_around fs) n r fs s) (record { bound = record { scope = scope; ident = name.ident; meaning = x }; is_macro = k }) (meaning_next s (body_around fs) n.name)) (sym value) (comes_here b k r h)
 
     module _ (at : At ls scope fs) (room : u.form.budget.locals + 1 ≤ most_locals u.form.budget.nodes) (w : UnitScope) where
       -- ---- it is made
 
       abbrev in_unit : BTreeMap ℕ Bool → UnitScope
-      in_unit defined = record u { env = with_bound u.env scope ident (Global u.unit ident); defined = defined }
+      in_unit defined = record (with_told u name) { env = with_bound u.env scope name.ident (Global u.unit name.ident); defined = defined }
 
-      at_root : (defined : BTreeMap ℕ Bool) → scope ≡ u.root → w ≡ in_unit defined → with_definition u ident defined ≡ w
-      at_root defined root p = (λ j. record u { env = with_bound u.env (sym root j) ident (Global u.unit ident); defined = defined }) ∙ sym p
+      at_root : (defined : BTreeMap ℕ Bool) → scope ≡ u.root → w ≡ in_unit defined → with_definition (with_told u name) name.ident defined ≡ w
+      at_root defined root p = (λ j. record (with_told u name) { env = with_bound u.env (sym root j) name.ident (Global u.unit name.ident); defined = defined }) ∙ sym p
 
-      pub variable_stands : (b : Bool) → IsIn work u ls s scope fs b → Places u w b scope ident (next_here u b ident) false → Stands work w ls (definition_added (body_around fs) n None fs s)
+      pub variable_stands : (b : Bool) → IsIn work u ls s scope fs b → Places u w b scope name (next_here u b name.ident) false → Stands work w ls (definition_added (body_around fs) n None fs s)
       variable_stands true h p =
           subst (λ (v : UnitScope). Stands work v ls (definition_added (body_around fs) n None fs s)) (sym p)
-          (subst (λ (o : Option Number). Stands work (record (with_locals u (u.form.budget.locals + 1)) { env = with_bound u.env scope ident (Local u.form.budget.locals) }) ls (definition_added o n None fs s)) (sym (ap body_around h.frames))
-          (definition_stands work u ls s scope h.body h.outer fs ident n apart sound h.opened is room e))
+          (subst (λ (o : Option Number). Stands work (record (with_locals u (u.form.budget.locals + 1)) { env = with_bound u.env scope name.ident (Local u.form.budget.locals) }) ls (definition_added o n None fs s)) (sym (ap body_around h.frames))
+          (definition_stands work u ls s scope h.body h.outer fs name.ident n apart sound h.opened is.0 room e))
       variable_stands false h p =
           subst (λ (v : UnitScope). Stands work v ls (definition_added (body_around fs) n None fs s)) (at_root p.0 h.0 p.1)
-          (subst (λ (o : Option Number). Stands work (with_definition u ident p.0) ls (definition_added o n None fs s)) (sym (ap body_around h.1))
-          (own_variable_stands work u ls s fs ident n p.0 apart sound is p.2 p.3 e))
+          (subst (λ (o : Option Number). Stands work (with_definition (with_told u name) name.ident p.0) ls (definition_added o n None fs s)) (sym (ap body_around h.1))
+          (own_variable_stands work u ls s fs name n p.0 apart sound is p.2 p.3 e))
 
-      pub macro_stands : (b : Bool) (ms : Macros) (k : Macro) (r : Rules Identifier) → AreToldApart work.symbols.symbols → IsIn work u ls s scope fs b → Places u w b scope ident (next_here u b ident) true →
-          Keeps w.macros ms w.form.number (next_here u b ident) k → IsMacro work ls k (record { env = fs; rules = r }) → Stands work (with_macros w ms) ls (definition_added (body_around fs) n (Some r) fs s)
+      pub macro_stands : (b : Bool) (ms : Macros) (k : Macro) (r : Rules Identifier) → AreToldApart work.symbols.symbols → IsIn work u ls s scope fs b → Places u w b scope name (next_here u b name.ident) true →
+          Keeps w.macros ms w.form.number (next_here u b name.ident) k → IsMacro work ls k (record { env = fs; rules = r }) → Stands work (with_macros w ms) ls (definition_added (body_around fs) n (Some r) fs s)
       macro_stands true ms k r told h p keeps kept =
-          let v : UnitScope = record (with_locals u (u.form.budget.locals + 1)) { env = with_bound u.env scope ident (Local u.form.budget.locals) } in
+          let v : UnitScope = record (with_locals u (u.form.budget.locals + 1)) { env = with_bound u.env scope name.ident (Local u.form.budget.locals) } in
           subst (λ (x : UnitScope). Stands work (with_macros x ms) ls (definition_added (body_around fs) n (Some r) fs s)) (sym p)
           (subst (λ (o : Option Number). Stands work (with_macros v ms) ls (definition_added o n (Some r) fs s)) (sym (ap body_around h.frames))
-          (macro_definition_stands work u ls s scope h.body h.outer fs ident n ms k r apart told sound h.opened is room
+          (macro_definition_stands work u ls s scope h.body h.outer fs name.ident n ms k r apart told sound h.opened is.0 room
           (subst (λ (x : UnitScope). Keeps x.macros ms x.form.number (Local u.form.budget.locals) k) p keeps) kept e))
       macro_stands false ms k r told h p keeps kept =
           subst (λ (x : UnitScope). Stands work (with_macros x ms) ls (definition_added (body_around fs) n (Some r) fs s)) (at_root p.0 h.0 p.1)
-          (subst (λ (o : Option Number). Stands work (with_macros (with_definition u ident p.0) ms) ls (definition_added o n (Some r) fs s)) (sym (ap body_around h.1))
-          (own_macro_stands work u ls s fs ident n p.0 ms k r apart told sound is p.2 p.3
-          (subst (λ (x : UnitScope). Keeps x.macros ms x.form.number (Global u.unit ident) k) p.1 keeps) kept e))
+          (subst (λ (o : Option Number). Stands work (with_macros (with_definition (with_told u name) name.ident p.0) ms) ls (definition_added o n (Some r) fs s)) (sym (ap body_around h.1))
+          (own_macro_stands work u ls s fs name n p.0 ms k r apart told sound is p.2 p.3
+          (subst (λ (x : UnitScope). Keeps x.macros ms x.form.number (Global u.unit name.ident) k) p.1 keeps) kept e))
 
       -- forms are gone through there as before
-      pub in_after : (b k : Bool) (r : Option (Rules Identifier)) → IsIn work u ls s scope fs b → Places u w b scope ident (next_here u b ident) k → IsIn work w ls (definition_added (body_around fs) n r fs s) scope fs b
+      pub in_after : (b k : Bool) (r : Option (Rules Identifier)) → IsIn work u ls s scope fs b → Places u w b scope name (next_here u b name.ident) k → IsIn work w ls (definition_added (body_around fs) n r fs s) scope fs b
       in_after true k r h p =
           let d : BodyDefinition = record { body = h.body; ident = n.name; binder = next_number s s.locals } in
           let x = get_within u.env.scopes scope (subst (λ (len : ℕ). scope < len) e.env.count (slice_get_within ls scope fs at)) in
-          let more : BindsBody work.symbols (with_bound u.env scope ident (Local (s.locals s.form))) scope (record s { definitions = d ∷ s.definitions }) h.body = binds_more work.symbols u.env scope ident s d x.0 apart is x.1 h.binds in
+          let more : BindsBody work.symbols (with_bound u.env scope name.ident (Local (s.locals s.form))) scope (record s { definitions = d ∷ s.definitions }) h.body = binds_more work.symbols u.env scope name.ident s d x.0 apart is.0 x.1 h.binds in
           subst (λ (o : Option Number). IsIn work w ls (definition_added o n r fs s) scope fs true) (sym (ap body_around h.frames)) (record {
             body = h.body;
             outer = h.outer;
             opened = h.opened;
             frames = h.frames;
-            binds = λ m. (λ j. bound_at (p j).env scope m) ∙ ((λ j. bound_at (with_bound u.env scope ident (Local (e.form.locals j))) scope m) ∙ more m);
+            binds = λ m. (λ j. bound_at (p j).env scope m) ∙ ((λ j. bound_at (with_bound u.env scope name.ident (Local (e.form.locals j))) scope m) ∙ more m);
           })
       in_after false k r h p = (h.0 ∙ (λ j. (sym p.1 j).root), h.1)
 
@@ -229,11 +229,11 @@ same_but u w unit root libraries roots number locals uses nodes = record {
   takes = record { locals = locals; uses = uses; nodes = nodes };
 }
 
-pub same_placed : (u w : UnitScope) (b k : Bool) (scope ident : ℕ) (m : Meaning) → Places u w b scope ident m k → SamePlace u w
-same_placed u w true k scope ident m p =
+pub same_placed : (u w : UnitScope) (b k : Bool) (scope : ℕ) (name : NamePart) (m : Meaning) → Places u w b scope name m k → SamePlace u w
+same_placed u w true k scope name m p =
     same_but u w (λ j. (p j).unit) (λ j. (p j).root) (λ j. (p j).libraries) (λ j. (p j).env.roots) (λ j. (p j).form.number)
     (let e : w.form.budget.locals ≡ u.form.budget.locals + 1 = λ j. (p j).form.budget.locals in omega arith) (λ j. (p j).form.budget.uses) (λ j. (p j).form.budget.nodes)
-same_placed u w false k scope ident m p =
+same_placed u w false k scope name m p =
     let q = p.1 in
     same_but u w (λ j. (q j).unit) (λ j. (q j).root) (λ j. (q j).libraries) (λ j. (q j).env.roots) (λ j. (q j).form.number)
     (let e : w.form.budget.locals ≡ u.form.budget.locals = λ j. (q j).form.budget.locals in omega arith) (λ j. (q j).form.budget.uses) (λ j. (q j).form.budget.nodes)

@@ -13,10 +13,12 @@ use Rattle.syntax_tree.specs.Macros.{IsIdent}
 use Rattle.syntax_tree.specs.declared.meaning.Meaning.TheVariants.{Local, Global}
 use Rattle.syntax_tree.specs.declared.trees.Work.{Work}
 use Rattle.scope_env.specs.Environment.{IsSound, with_bound}
+use Rattle.core_forms.specs.Parts.{IsName}
+use Rattle.core_forms.specs.declared.shape.NamePart.{NamePart}
 use Rattle.expander.specs.Binds.{with_locals}
 use Rattle.expander.specs.Macros.{Keeps}
 use Rattle.expander.specs.State.{IsMacro, Stands, most_locals}
-use Rattle.expander.specs.Stepped.{IsOpenBody, with_definition, with_macros}
+use Rattle.expander.specs.Stepped.{IsOpenBody, with_told, with_definition, with_macros}
 use Rattle.expander.specs.declared.macros.Macro.{Macro}
 use Rattle.expander.specs.declared.macros.Macros.{Macros}
 use Rattle.expander.specs.declared.scope.UnitScope.{UnitScope}
@@ -37,17 +39,17 @@ macro_definition_stands work u ls s scope b fs gs ident n ms k r apart told soun
     (definition_stands work u ls s scope b fs gs ident n apart sound body is room e)
 
 -- a variable of the unit
-pub own_variable_stands : (work : Work) (u : UnitScope) (ls : List Frames) (s : ScopedState) (fs : Frames) (ident : ℕ) (n : Named Identifier) (defined : BTreeMap ℕ Bool) →
-    AreToldApart work.symbols.idents → IsSound u.env → IsIdent work.symbols ident n.name → ((m : ℕ) → get nat_cmp defined m ≡ cond (is_eq (nat_cmp ident m)) (Some false) (get nat_cmp u.defined m)) →
-    btree_map_len defined ≡ btree_map_len u.defined + 1 → Stands work u ls s → Stands work (with_definition u ident defined) ls (definition_added None n None fs s)
-own_variable_stands work u ls s fs ident n defined apart sound is put more e = own_definition_stands work u ls s ident n.name n.occ false defined apart sound is put more e
+pub own_variable_stands : (work : Work) (u : UnitScope) (ls : List Frames) (s : ScopedState) (fs : Frames) (name : NamePart) (n : Named Identifier) (defined : BTreeMap ℕ Bool) →
+    AreToldApart work.symbols.idents → IsSound u.env → IsName work name n → ((m : ℕ) → get nat_cmp defined m ≡ cond (is_eq (nat_cmp name.ident m)) (Some false) (get nat_cmp u.defined m)) →
+    btree_map_len defined ≡ btree_map_len u.defined + 1 → Stands work u ls s → Stands work (with_definition (with_told u name) name.ident defined) ls (definition_added None n None fs s)
+own_variable_stands work u ls s fs name n defined apart sound is put more e = own_definition_stands work u ls s name n.name n.occ false defined apart sound is.0 is.1 put more e
 
 -- a macro of the unit
-pub own_macro_stands : (work : Work) (u : UnitScope) (ls : List Frames) (s : ScopedState) (fs : Frames) (ident : ℕ) (n : Named Identifier) (defined : BTreeMap ℕ Bool) (ms : Macros) (k : Macro) (r : Rules Identifier) →
-    AreToldApart work.symbols.idents → AreToldApart work.symbols.symbols → IsSound u.env → IsIdent work.symbols ident n.name →
-    ((m : ℕ) → get nat_cmp defined m ≡ cond (is_eq (nat_cmp ident m)) (Some true) (get nat_cmp u.defined m)) → btree_map_len defined ≡ btree_map_len u.defined + 1 →
-    Keeps u.macros ms u.form.number (Global u.unit ident) k → IsMacro work ls k (record { env = fs; rules = r }) → Stands work u ls s →
-    Stands work (with_macros (with_definition u ident defined) ms) ls (definition_added None n (Some r) fs s)
-own_macro_stands work u ls s fs ident n defined ms k r apart told sound is put more keeps kept e =
-    kept_stands work (with_definition u ident defined) ls _ ms (Global u.unit ident) (model.Global s.unit n.name) k (record { env = fs; rules = r }) apart told keeps tt (e.unit, is) kept
-    (own_definition_stands work u ls s ident n.name n.occ true defined apart sound is put more e)
+pub own_macro_stands : (work : Work) (u : UnitScope) (ls : List Frames) (s : ScopedState) (fs : Frames) (name : NamePart) (n : Named Identifier) (defined : BTreeMap ℕ Bool) (ms : Macros) (k : Macro) (r : Rules Identifier) →
+    AreToldApart work.symbols.idents → AreToldApart work.symbols.symbols → IsSound u.env → IsName work name n →
+    ((m : ℕ) → get nat_cmp defined m ≡ cond (is_eq (nat_cmp name.ident m)) (Some true) (get nat_cmp u.defined m)) → btree_map_len defined ≡ btree_map_len u.defined + 1 →
+    Keeps u.macros ms u.form.number (Global u.unit name.ident) k → IsMacro work ls k (record { env = fs; rules = r }) → Stands work u ls s →
+    Stands work (with_macros (with_definition (with_told u name) name.ident defined) ms) ls (definition_added None n (Some r) fs s)
+own_macro_stands work u ls s fs name n defined ms k r apart told sound is put more keeps kept e =
+    kept_stands work (with_definition (with_told u name) name.ident defined) ls _ ms (Global u.unit name.ident) (model.Global s.unit n.name) k (record { env = fs; rules = r }) apart told keeps tt (e.unit, is.0) kept
+    (own_definition_stands work u ls s name n.name n.occ true defined apart sound is.0 is.1 put more e)

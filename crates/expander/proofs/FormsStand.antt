@@ -4,7 +4,8 @@ use Rattle.scheme_model.specs.ScopedExpansion.{Frames, ScopedState}
 use Rattle.syntax_tree.specs.Names.{Names}
 use Rattle.syntax_tree.specs.declared.trees.Work.{Work}
 use Rattle.core_tree.specs.Names.{AllMatch, IsTarget, IsUse}
-use Rattle.expander.specs.State.{FormStands, Stands}
+use Rattle.core_tree.specs.declared.cores.Binder as code_binder
+use Rattle.expander.specs.State.{IsNumbered, FormStands, Stands}
 use Rattle.expander.specs.Stepped.{turned, IsFresh}
 use Rattle.expander.specs.declared.scope.FormAtWork.{FormAtWork}
 use Rattle.expander.specs.declared.scope.UnitScope.{UnitScope}
@@ -38,9 +39,9 @@ turned_stands work u ls s n f form e =
       count = e.count;
     }
 
--- a form that has counted and met nothing
-pub fresh_stands : (names : Names) (f : FormAtWork) (s : ScopedState) (n : ℕ) → f.number ≡ n → f.budget.locals ≡ 0 → f.budget.uses ≡ 0 → f.budget.nodes ≡ 0 → f.trace.keywords ≡ [] → f.trace.uses ≡ [] → IsFresh s n → FormStands names f (turned n s)
-fresh_stands names f s n number locals uses nodes keywords met fresh = record {
+-- a form that has counted, met and defined nothing
+pub fresh_stands : (names : Names) (f : FormAtWork) (s : ScopedState) (n : ℕ) → f.number ≡ n → f.budget.locals ≡ 0 → f.budget.uses ≡ 0 → f.budget.nodes ≡ 0 → f.trace.definitions ≡ [] → f.trace.keywords ≡ [] → f.trace.uses ≡ [] → IsFresh s n → FormStands names f (turned n s)
+fresh_stands names f s n number locals uses nodes definitions keywords met fresh = record {
   number = number;
   locals = locals ∙ sym fresh.locals;
   uses = uses ∙ sym fresh.uses;
@@ -48,6 +49,7 @@ fresh_stands names f s n number locals uses nodes keywords met fresh = record {
   few_uses = omega (arith, uses);
   few_nodes = omega (arith, nodes);
   few_locals = omega (arith, locals, nodes);
+  definitions = subst (λ ds. AllMatch (IsNumbered names n) (reverse f.trace.definitions) ds) (sym fresh.definitions) (subst (λ (bs : List code_binder.Binder). AllMatch (IsNumbered names n) (reverse bs) []) (sym definitions) tt);
   keywords = subst (λ ts. AllMatch (IsTarget names s.unit n) f.trace.keywords (reverse ts)) (sym fresh.keywords) (subst (λ ts. AllMatch (IsTarget names s.unit n) ts []) (sym keywords) tt);
   met = subst (λ us. AllMatch (IsUse names s.unit n) f.trace.uses (reverse us)) (sym fresh.met) (subst (λ us. AllMatch (IsUse names s.unit n) us []) (sym met) tt);
 }

@@ -1,5 +1,5 @@
 -- Trees, symbols and identifiers are added: the state stands as it did.
-use Rattle.std.proofs.Common.{◌≡◌, ℕ, ◌<◌, List, [], ◌∷◌, length, slice_get, Bool, true, Option, Some, None, refl, sym, ap, ◌∙◌, subst}
+use Rattle.std.proofs.Common.{◌≡◌, ℕ, ◌<◌, List, [], ◌∷◌, length, reverse, slice_get, Bool, true, Option, Some, None, refl, sym, ap, ◌∙◌, subst}
 use Rattle.std.specs.Option.{option_map}
 use Rattle.std.specs.BTreeMap.{get}
 use Rattle.std.specs.Ordering.{nat_cmp}
@@ -35,7 +35,7 @@ use Rattle.core_tree.specs.declared.cores.Target as code_target
 use Rattle.core_tree.specs.declared.traces.MacroUse as code_use
 use Rattle.expander.specs.Chains.{chain_in, uses_in, imported_in, given_in}
 use Rattle.expander.specs.Macros.{macro_in}
-use Rattle.expander.specs.State.{IsMacro, IsMacroIfAny, MacrosStand, EnvStands, FormStands, Stands}
+use Rattle.expander.specs.State.{IsMacro, IsMacroIfAny, MacrosStand, EnvStands, numbered_in, IsNumbered, FormStands, Rests, Stands}
 use Rattle.rules_check.specs.Gathered.{AreLeaves}
 use Rattle.rules_check.specs.declared.leaf.RuleLeaf.{RuleLeaf}
 use Rattle.expander.specs.declared.macros.Macro.{Macro}
@@ -204,6 +204,7 @@ module _ (old new : Work) (trees : KeepsTrees old new) (names : KeepsNames old.s
     few_uses = e.few_uses;
     few_nodes = e.few_nodes;
     few_locals = e.few_locals;
+    definitions = all_on (IsNumbered old.symbols s.form) (IsNumbered new.symbols s.form) (λ b d h. record { form = h.form; number_is = h.number_is; ident = names.idents b.ident d.1.ident h.ident; place = h.place }) (reverse f.trace.definitions) (numbered_in s.unit s.form s.table) e.definitions;
     keywords = all_on (IsTarget old.symbols s.unit s.form) (IsTarget new.symbols s.unit s.form) (target_on s.unit s.form) f.trace.keywords _ e.keywords;
     met = all_on (IsUse old.symbols s.unit s.form) (IsUse new.symbols s.unit s.form) (use_on s.unit s.form) f.trace.uses _ e.met;
   }
@@ -215,17 +216,25 @@ module _ (old new : Work) (trees : KeepsTrees old new) (names : KeepsNames old.s
   not_defined None (Some d) f g = absurd (g d refl)
   not_defined (Some k) p f g = absurd (f k refl)
 
-  module _ (u : UnitScope) (ls : List Frames) (s : ScopedState) (e : Stands old u ls s) where
+  module _ (u : UnitScope) (ls : List Frames) (s : ScopedState) (env : EnvStands old.symbols u.env ls s) (known : (n : ℕ) (k : Bool) → get nat_cmp u.defined n ≡ Some k → n < length old.symbols.idents)
+    (defined : (n : ℕ) (i : Identifier) → IsIdent old.symbols n i → get nat_cmp u.defined n ≡ option_map (λ (d : Defined). d.keyword) (defined_in s.table s.unit i)) where
     defined_by : (n : ℕ) (i : Identifier) (o : Option Identifier) → slice_get old.symbols.idents n ≡ o → IsIdent new.symbols n i → get nat_cmp u.defined n ≡ option_map (λ (d : Defined). d.keyword) (defined_in s.table s.unit i)
-    defined_by n i (Some j) here there = e.defined n i (here ∙ ap Some (same_Some j i (sym (names.idents n j here) ∙ there)))
+    defined_by n i (Some j) here there = defined n i (here ∙ ap Some (same_Some j i (sym (names.idents n j here) ∙ there)))
     defined_by n i None none there =
         not_defined (get nat_cmp u.defined n) (defined_in s.table s.unit i)
-        (λ k h. not_within old.symbols.idents n none (e.known n k h))
-        (λ d h. let m = e.env.given_named s.unit i (model.Global s.unit i) (ap (λ (x : Option Defined). defined_or x s.unit i (imported_in s.entry s.unit i)) h) in
+        (λ k h. not_within old.symbols.idents n none (known n k h))
+        (λ d h. let m = env.given_named s.unit i (model.Global s.unit i) (ap (λ (x : Option Defined). defined_or x s.unit i (imported_in s.entry s.unit i)) h) in
         not_elsewhere old.symbols.idents new.symbols.idents names.idents apart n m.0 i none there m.1)
 
-    pub growth_stands : Stands new u ls s
-    growth_stands = record {
+    defined_on : (n : ℕ) (i : Identifier) → IsIdent new.symbols n i → get nat_cmp u.defined n ≡ option_map (λ (d : Defined). d.keyword) (defined_in s.table s.unit i)
+    defined_on n i there = defined_by n i (slice_get old.symbols.idents n) refl there
+
+    known_on : (n : ℕ) (k : Bool) → get nat_cmp u.defined n ≡ Some k → n < length new.symbols.idents
+    known_on n k h = longer old.symbols.idents new.symbols.idents names.idents n (known n k h)
+
+  module _ (u : UnitScope) (ls : List Frames) (s : ScopedState) where
+    pub growth_stands : Stands old u ls s → Stands new u ls s
+    growth_stands e = record {
       unit = e.unit;
       program = e.program;
       env = env_on u.env ls s e.env;
@@ -234,7 +243,22 @@ module _ (old new : Work) (trees : KeepsTrees old new) (names : KeepsNames old.s
       own = e.own;
       begun = e.begun;
       form = form_on u.form s e.form;
-      defined = λ n i there. defined_by n i (slice_get old.symbols.idents n) refl there;
-      known = λ n k h. longer old.symbols.idents new.symbols.idents names.idents n (e.known n k h);
+      defined = defined_on u ls s e.env e.known e.defined;
+      known = known_on u ls s e.env e.known e.defined;
+      count = e.count;
+    }
+
+    -- the same between two calls
+    pub growth_rests : Rests old u ls s → Rests new u ls s
+    growth_rests e = record {
+      unit = e.unit;
+      program = e.program;
+      env = env_on u.env ls s e.env;
+      macros = macros_on u.macros ls s e.macros;
+      root = e.root;
+      own = e.own;
+      begun = e.begun;
+      defined = defined_on u ls s e.env e.known e.defined;
+      known = known_on u ls s e.env e.known e.defined;
       count = e.count;
     }

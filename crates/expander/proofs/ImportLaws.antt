@@ -29,6 +29,7 @@ use Rattle.syntax_tree.proofs.WorkLaws.{names_keep}
 use Rattle.scope_env.specs.Environment.{Environment, IsSound, new_scope, with_root, with_bound, bound_in}
 use Rattle.scope_env.proofs.Places.{length-changed_at}
 use Rattle.scope_env.proofs.GrowthLaws.{meaning_grows}
+use Rattle.expander.specs.Asks.{AskedStands}
 use Rattle.expander.specs.Macros.{macro_in}
 use Rattle.expander.specs.Opened.{with_imports, started, ImportsFor, HasUnits, BindsImport}
 use Rattle.core_tree.specs.Names.{AllMatch}
@@ -185,6 +186,7 @@ pub record Started (u v w : UnitScope) (unit root : ℕ) (kind : UnitKind) : Typ
   pub defined : (n : ℕ) → get nat_cmp w.defined n ≡ None
   pub count : btree_map_len w.defined ≡ 0
   pub asked : w.asked.notes.items ≡ []
+  pub asks : (names : Names) → AskedStands names w.asked
 
 module _ (start now : Work) (u v w : UnitScope) (unit : ℕ) (kind : UnitKind) (xs : List Imported) (sound : IsSound u.env) (new : map.get u.env.roots unit ≡ None) (apart : AreToldApart now.symbols.idents) (told : AreToldApart now.symbols.symbols)
   (h : Importing start now u v unit (is_program kind) xs (length xs)) (f : Started u v w unit (length u.env.scopes) kind) where
@@ -214,5 +216,5 @@ module _ (start now : Work) (u v w : UnitScope) (unit : ℕ) (kind : UnitKind) (
           known = λ n k found. none_some k (sym (f.defined n) ∙ found);
           count = f.count ∙ sym (none_counted s.table unit none);
         };
-        notes = subst (λ ns. AllMatch (NoteFor now (ls ++ [] ∷ [])) ns []) (sym f.asked) tt;
+        notes = record { notes = subst (λ ns. AllMatch (NoteFor now (ls ++ [] ∷ [])) ns []) (sym f.asked) tt; asks = f.asks now.symbols };
       }

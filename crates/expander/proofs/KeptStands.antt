@@ -216,7 +216,7 @@ module _ (work : Work) (apart : AreToldApart work.symbols.idents) (told : AreTol
   }
 
 -- what was kept means a local of the unit at work, or no local
-is_begun : (names : Names) (unit form : ℕ) (roots : map.FinMap nat_cmp ℕ) (c : Meaning) (l : model.Meaning) (w : Number) → (r : ℕ) × (map.get roots unit ≡ Some r) → IsMeaning names unit form c l → IsBound c → same_meaning l (model.Local w) ≡ true → IsBegun roots w
+pub is_begun : (names : Names) (unit form : ℕ) (roots : map.FinMap nat_cmp ℕ) (c : Meaning) (l : model.Meaning) (w : Number) → (r : ℕ) × (map.get roots unit ≡ Some r) → IsMeaning names unit form c l → IsBound c → same_meaning l (model.Local w) ≡ true → IsBegun roots w
 is_begun names unit form roots (Local n) l w root means bound same =
     let v : Number = record { unit = unit; form = form; count = n } in
     let told : same_number v w ≡ true = sym (ap (λ (m : model.Meaning). same_meaning m (model.Local w)) means) ∙ same in
@@ -231,7 +231,7 @@ is_begun names unit form roots (Standard n) (model.Standard x) w root means boun
 is_begun names unit form roots (Standard n) (model.Free x) w root means bound same = absurd means
 is_begun names unit form roots (Free n) l w root means bound same = absurd bound
 
-begun_by : (roots : map.FinMap nat_cmp ℕ) (w : Number) (t : Transformer Frames Identifier) (o : Option (Transformer Frames Identifier)) (q : Bool) → (q ≡ true → IsBegun roots w) → (is_some o ≡ true → IsBegun roots w) → is_some (cond q (Some t) o) ≡ true → IsBegun roots w
+pub begun_by : (roots : map.FinMap nat_cmp ℕ) (w : Number) (t : Transformer Frames Identifier) (o : Option (Transformer Frames Identifier)) (q : Bool) → (q ≡ true → IsBegun roots w) → (is_some o ≡ true → IsBegun roots w) → is_some (cond q (Some t) o) ≡ true → IsBegun roots w
 begun_by roots w t o true now before h = now refl
 begun_by roots w t o false now before h = before h
 
@@ -274,6 +274,7 @@ kept_stands work u ls s ms c l k t apart told keeps bound means is e =
         few_uses = f.few_uses;
         few_nodes = f.few_nodes;
         few_locals = f.few_locals;
+        definitions = f.definitions;
         keywords = f.keywords;
         met = f.met;
       };

@@ -14,6 +14,8 @@ pub mod DefinedMacros
 pub mod BodyScopes
 pub mod ComingDefinitions
 pub mod FormsStand
+pub mod NumberedLaws
+pub mod FormsDefine
 pub mod JudgeLaws
 pub mod QuasiMarks
 pub mod QuasiReads
@@ -35,6 +37,7 @@ pub mod SearchedPrograms
 pub mod OpenedStand
 pub mod ImportLaws
 pub mod CallLaws
+pub mod RestLaws
 pub mod DeclareLaws
 pub mod PreludeLaws
 pub mod CopyLaws

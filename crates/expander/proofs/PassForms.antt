@@ -1,9 +1,9 @@
 -- A form that is gone through, by its head: what the definition does with it, and what the code demands for that.
-use Rattle.std.proofs.Common.{◌≡◌, ℕ, ◌+◌, ◌<◌, ◌≤◌, List, [], ◌∷◌, ◌++◌, Bool, true, false, Option, Some, None, Result, Ok, Err, refl, sym, ap, ◌∙◌, subst, arith}
+use Rattle.std.proofs.Common.{◌≡◌, ℕ, ◌+◌, ◌<◌, ◌≤◌, List, [], ◌∷◌, ◌++◌, true, false, Option, Some, None, Result, Ok, Err, refl, sym, ap, ◌∙◌, subst, arith}
 use Rattle.scheme_model.specs.Trees.{Tree, name, atom, list, vector, Trees, no_trees, tree, Tail}
 use Rattle.scheme_model.specs.Measures.{tree_size, trees_size, tail_size}
 use Rattle.scheme_model.specs.Quasiquote.{Mark}
-use Rattle.scheme_model.specs.ExpansionFaults.{Named, Fault, BadForm}
+use Rattle.scheme_model.specs.ExpansionFaults.{Fault, BadForm}
 use Rattle.scheme_model.specs.Ident.{Ident as Identifier}
 use Rattle.scheme_model.specs.Keywords.{CoreKeyword, Auxiliary}
 use Rattle.scheme_model.specs.Meaning.{Meaning, Head, IsCore, IsAuxiliary, IsMacro, IsNone, is_keyword}

@@ -1,20 +1,19 @@
 -- How steps of forms that are gone through follow one another: what was left, where forms are gone through, and spliced forms.
-use Rattle.std.proofs.Common.{◌≡◌, ℕ, zero, suc, drop, get_or, ◌+◌, ◌*◌, ◌-◌, ◌<◌, ◌≤◌, List, [], ◌∷◌, ◌++◌, append_assoc, append-nil, length, map, reverse, slice_get, Bool, true, false, Option, Some, None, Result, Ok, Err, refl, sym, ap, ◌∙◌, subst, arith}
+use Rattle.std.proofs.Common.{◌≡◌, ℕ, zero, suc, drop, get_or, ◌+◌, ◌*◌, ◌-◌, ◌<◌, ◌≤◌, List, [], ◌∷◌, ◌++◌, length, map, reverse, slice_get, Bool, true, false, Some, Result, Ok, Err, refl, sym, ap, ◌∙◌, subst, arith}
 use Rattle.std.proofs.lemmas.List.{reverse-append}
 use Rattle.std.proofs.lemmas.Option.{slice_get_within}
 use Rattle.std.proofs.lemmas.Grind.{reverse_onto}
 use Rattle.std.specs.Option.{option_and_then}
 use Rattle.std.specs.FinMap.{get}
 use Rattle.std.specs.Result.{IsErrAnd}
-use Rattle.scheme_model.specs.declared.Occ.{Occ}
-use Rattle.scheme_model.specs.Trees.{Tree, Trees, no_trees, tree}
-use Rattle.scheme_model.specs.Measures.{tree_size, trees_size}
+use Rattle.scheme_model.specs.Trees.{Trees, no_trees, tree}
+use Rattle.scheme_model.specs.Measures.{trees_size}
 use Rattle.scheme_model.specs.ExpansionFaults.{NodeBudget, Fault}
 use Rattle.scheme_model.specs.Ident.{Ident as Identifier}
 use Rattle.scheme_model.specs.Requirements.{Known}
-use Rattle.scheme_model.specs.Steps.{Broken, done, fails}
-use Rattle.scheme_model.specs.Order.{Here, Form, Note, LookedUp, Compared, Pending, Pass, Going, first, forms_at, counting, caught, read_then, splice}
-use Rattle.scheme_model.specs.ScopedExpansion.{Enter, Frames, Place, ScopedState}
+use Rattle.scheme_model.specs.Steps.{Broken, done}
+use Rattle.scheme_model.specs.Order.{Here, Form, Note, LookedUp, Compared, Pending, Pass, Going, first, forms_at, caught, read_then, splice}
+use Rattle.scheme_model.specs.ScopedExpansion.{Frames, Place, ScopedState}
 use Rattle.syntax_tree.specs.Names.{KeepsNames, AreToldApart}
 use Rattle.syntax_tree.specs.Looks.{PartsStand, AllNamed}
 use Rattle.syntax_tree.specs.declared.trees.Work.{Work}
@@ -26,14 +25,14 @@ use Rattle.core_tree.specs.Names.{AllMatch}
 use Rattle.core_tree.specs.Traces.{IsFault}
 use Rattle.expander.specs.Asks.{AreWithin, AskedStands}
 use Rattle.expander.specs.Chains.{body_chain}
-use Rattle.expander.specs.Counts.{plain_fault, with_nodes, Counts}
+use Rattle.expander.specs.Counts.{with_nodes, Counts}
 use Rattle.expander.specs.State.{Stands}
 use Rattle.expander.specs.Stepped.{spent}
 use Rattle.expander.specs.Seen.{form_at}
 use Rattle.expander.specs.Told.{Tells}
-use Rattle.expander.specs.Kept.{FormFor, KeptFor, PendingFor, NoteFor, NotesFor, IsInBody, IsIn, SpotFor, forms_size, left_with}
-use Rattle.expander.specs.Outcomes.{SameForm, Stays, Leaves, MayFill}
-use Rattle.expander.specs.Passed.{Reaches, Stops, GoesOn}
+use Rattle.expander.specs.Kept.{FormFor, KeptFor, PendingFor, NoteFor, NotesFor, IsIn, SpotFor, forms_size, left_with}
+use Rattle.expander.specs.Outcomes.{Stays}
+use Rattle.expander.specs.Passed.{GoesOn}
 use Rattle.expander.specs.Searched.{searched}
 use Rattle.expander.specs.Used.{ComparisonFor, note_of}
 use Rattle.expander.specs.declared.asked.Asked.{Asked}
@@ -100,16 +99,20 @@ module _ (region : Region) (ls : List Frames) (spot : Spot) (fs : Frames) (befor
   pub goes_after : (a b c : Work) (u w v : UnitScope) (s : ScopedState) (result : Result (Unit {0}) ExpandFault) (f : Going Identifier Place ScopedState → Pass Identifier Place × ScopedState) → Stays a b region u w ls s →
       w.form.budget.uses ≡ u.form.budget.uses → w.form.budget.locals ≡ u.form.budget.locals → GoesOn b c region w v ls spot fs before given todo asked result f → GoesOn a c region u v ls spot fs before given todo asked result f
   goes_after a b c u w v s (Ok done) f m uses locals h =
-      let r = h.2 in
-      (h.0, h.1, record {
-        stays = stays_on a b c region u w v ls s h.1 m r.stays;
-        placed = r.placed;
-        pending = r.pending;
-        notes = r.notes;
-        less = subst (λ (n : ℕ). left_with h.0.todo v.form.budget.uses < left_with before n + given) uses r.less;
-        locals = subst (λ (n : ℕ). v.form.budget.locals + left_with h.0.todo v.form.budget.uses ≤ n + left_with before u.form.budget.uses + given) locals
-            (subst (λ (n : ℕ). v.form.budget.locals + left_with h.0.todo v.form.budget.uses ≤ w.form.budget.locals + left_with before n + given) uses r.locals);
-      }, h.3)
+      let r = h.2 in (
+        h.0,
+        h.1,
+        record {
+          stays = stays_on a b c region u w v ls s h.1 m r.stays;
+          placed = r.placed;
+          pending = r.pending;
+          notes = r.notes;
+          less = subst (λ (n : ℕ). left_with h.0.todo v.form.budget.uses < left_with before n + given) uses r.less;
+          locals = subst (λ (n : ℕ). v.form.budget.locals + left_with h.0.todo v.form.budget.uses ≤ n + left_with before u.form.budget.uses + given) locals
+              (subst (λ (n : ℕ). v.form.budget.locals + left_with h.0.todo v.form.budget.uses ≤ w.form.budget.locals + left_with before n + given) uses r.locals);
+        },
+        h.3,
+      )
   goes_after a b c u w v s (Err (fault.At e)) f m uses locals h =
       (h.0, h.1, h.2, record { stays = stays_on a b c region u w v ls s h.2 m h.3.stays; placed = h.3.placed; notes = h.3.notes }, h.4, h.5)
   goes_after a b c u w v s (Err fault.Full) f m uses locals h =
@@ -131,9 +134,14 @@ module _ (region : Region) (ls : List Frames) (spot : Spot) (fs : Frames) (befor
       Tells work.symbols unit form here e r → GoesOn work work region u u ls spot fs before given todo asked (Err e) (λ go. read_then (searched known) here p r (next go) s)
   goes_misread {B} known work u s unit form here (fault.At e) r p next few is_unit is_form stands placed notes h =
       let b : Broken = record { fault = h.0; here = here } in
-      let told : IsFault work.symbols s.unit s.form e b = subst (λ (n : ℕ). IsFault work.symbols n s.form e b) (sym is_unit) (subst (λ (n : ℕ). IsFault work.symbols unit n e b) (sym is_form) h.2) in
-      (p.notes, b, s, record { stays = stays_itself work region u ls s stands; placed = placed; notes = notes }, told,
-        λ go. ap (λ (x : Result B (Fault Identifier)). read_then (searched known) here p x (next go) s) h.1 ∙ ap (broken_pass p.notes here s) (fault_same h.0))
+      let told : IsFault work.symbols s.unit s.form e b = subst (λ (n : ℕ). IsFault work.symbols n s.form e b) (sym is_unit) (subst (λ (n : ℕ). IsFault work.symbols unit n e b) (sym is_form) h.2) in (
+        p.notes,
+        b,
+        s,
+        record { stays = stays_itself work region u ls s stands; placed = placed; notes = notes },
+        told,
+        λ go. ap (λ (x : Result B (Fault Identifier)). read_then (searched known) here p x (next go) s) h.1 ∙ ap (broken_pass p.notes here s) (fault_same h.0),
+      )
   goes_misread known work u s unit form here fault.Full r p next few is_unit is_form stands placed notes h = absurd h
   goes_misread known work u s unit form here fault.Memory r p next few is_unit is_form stands placed notes h = record { work = (stays_itself work region u ls s stands).work; few = omega (arith, few) }
 
@@ -174,27 +182,36 @@ module _ (known : Known) (work : Work) (region : Region) (u v : UnitScope) (ls :
       (let w = with_nodes u 1 in
       let q = first (forms_at here ts) p in
       let t = spent 1 s in
-      let size = forms_added here ts p.todo in
-      (q, t, record {
-        stays = spends work region u ls s 1 counts.0 e;
-        placed = spot_same work u w ls s t spot fs refl refl refl placed;
-        pending = record {
-          todo = todo_first work region here ns ts old.todo.items new.todo.items p.todo stand named todo pending.todo;
-          aside = subst (λ (xs : List code_kept.Kept). AllMatch (KeptFor work region u.unit u.form.number) xs p.aside) (sym aside) pending.aside;
-        };
-        notes = notes;
-        less = less_spliced (forms_size (forms_at here ts ++ p.todo)) (trees_size ts) (forms_size p.todo) (4194305 * (10000 - u.form.budget.uses)) given size less;
-        locals = locals_spliced u.form.budget.locals (forms_size (forms_at here ts ++ p.todo)) (trees_size ts) (forms_size p.todo) (4194305 * (10000 - u.form.budget.uses)) given size less;
-      }, λ go. ap (λ (x : Result (Unit {0}) Broken × ScopedState). caught p.notes x (λ done. go q)) (counting_goes known work region u ls s here 1 e counts.0)))
+      let size = forms_added here ts p.todo in (
+        q,
+        t,
+        record {
+          stays = spends work region u ls s 1 counts.0 e;
+          placed = spot_same work u w ls s t spot fs refl refl refl placed;
+          pending = record {
+            todo = todo_first work region here ns ts old.todo.items new.todo.items p.todo stand named todo pending.todo;
+            aside = subst (λ (xs : List code_kept.Kept). AllMatch (KeptFor work region u.unit u.form.number) xs p.aside) (sym aside) pending.aside;
+          };
+          notes = notes;
+          less = less_spliced (forms_size (forms_at here ts ++ p.todo)) (trees_size ts) (forms_size p.todo) (4194305 * (10000 - u.form.budget.uses)) given size less;
+          locals = locals_spliced u.form.budget.locals (forms_size (forms_at here ts ++ p.todo)) (trees_size ts) (forms_size p.todo) (4194305 * (10000 - u.form.budget.uses)) given size less;
+        },
+        λ go. ap (λ (x : Result (Unit {0}) Broken × ScopedState). caught p.notes x (λ done. go q)) (counting_goes known work region u ls s here 1 e counts.0),
+      ))
 
   pub splice_fails : (x : ExpandFault) → Counts u v here 1 (Err x) → GoesOn work work region u v ls spot fs p.todo given new asked (Err x) (λ go. splice (searched known) go here p ts s)
   splice_fails x counts =
       let q = first (forms_at here ts) p in
       let b : Broken = record { fault = NodeBudget; here = here } in
       subst (λ (w : UnitScope). GoesOn work work region u w ls spot fs p.todo given new asked (Err x) (λ go. splice (searched known) go here p ts s)) (sym counts.1)
-      (subst (λ (y : ExpandFault). GoesOn work work region u u ls spot fs p.todo given new asked (Err y) (λ go. splice (searched known) go here p ts s)) (sym counts.2)
-      (p.notes, b, s, record { stays = stays_itself work region u ls s e; placed = placed; notes = notes }, plain_is work.symbols s.unit s.form here NodeBudget refl refl,
-        λ go. ap (λ (x : Result (Unit {0}) Broken × ScopedState). caught p.notes x (λ done. go q)) (counting_fails known work region u ls s here 1 e counts.0)))
+      (subst (λ (y : ExpandFault). GoesOn work work region u u ls spot fs p.todo given new asked (Err y) (λ go. splice (searched known) go here p ts s)) (sym counts.2) (
+        p.notes,
+        b,
+        s,
+        record { stays = stays_itself work region u ls s e; placed = placed; notes = notes },
+        plain_is work.symbols s.unit s.form here NodeBudget refl refl,
+        λ go. ap (λ (x : Result (Unit {0}) Broken × ScopedState). caught p.notes x (λ done. go q)) (counting_fails known work region u ls s here 1 e counts.0),
+      ))
 
 -- ---- comparisons that are noted
 

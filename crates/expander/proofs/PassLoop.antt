@@ -1,13 +1,11 @@
 -- Forms that are gone through one after another: what was come to so far, and how the pass ends.
-use Rattle.std.proofs.Common.{◌≡◌, ℕ, zero, suc, ◌+◌, ◌*◌, ◌-◌, ◌^◌, ◌<◌, ◌≤◌, List, [], ◌∷◌, ◌++◌, length, reverse, Bool, true, false, Option, Some, None, Result, Ok, Err, refl, sym, ap, ◌∙◌, subst, arith}
+use Rattle.std.proofs.Common.{◌≡◌, ℕ, zero, suc, ◌+◌, ◌*◌, ◌-◌, ◌^◌, ◌<◌, ◌≤◌, List, [], ◌∷◌, ◌++◌, reverse, Result, Ok, Err, refl, sym, ap, ◌∙◌, subst, arith}
 use Rattle.std.proofs.lemmas.List.{reverse-append}
 use Rattle.std.specs.Result.{IsErrAnd}
-use Rattle.scheme_model.specs.Trees.{Tree}
 use Rattle.scheme_model.specs.Measures.{tree_size}
 use Rattle.scheme_model.specs.Ident.{Ident as Identifier}
 use Rattle.scheme_model.specs.Requirements.{Known}
-use Rattle.scheme_model.specs.Steps.{Broken}
-use Rattle.scheme_model.specs.Order.{Form, Item, Note, Pending, Pass, Going, here_at, run, run_next, run_form}
+use Rattle.scheme_model.specs.Order.{Form, Pending, Pass, Going, here_at, run, run_next, run_form}
 use Rattle.scheme_model.specs.ScopedExpansion.{Frames, Place, ScopedState}
 use Rattle.syntax_tree.specs.declared.trees.Work.{Work}
 use Rattle.syntax_tree.specs.declared.trees.table.Region.{Region}
@@ -15,7 +13,7 @@ use Rattle.core_tree.specs.Names.{AllMatch}
 use Rattle.expander.specs.State.{Stands, most_locals}
 use Rattle.expander.specs.Kept.{FormFor, KeptFor, PendingFor, NotesFor, SpotFor, forms_size, left_with}
 use Rattle.expander.specs.Outcomes.{Stays}
-use Rattle.expander.specs.Passed.{CanPass, Reaches, Stops, GoesOn, Passes}
+use Rattle.expander.specs.Passed.{CanPass, GoesOn, Passes}
 use Rattle.expander.specs.Searched.{searched}
 use Rattle.expander.specs.declared.asked.Asked.{Asked}
 use Rattle.expander.specs.declared.fault.ExpandFault.{ExpandFault}
@@ -180,9 +178,13 @@ module _ (known : Known) (old : Work) (region : Region) (u : UnitScope) (ls : Li
   passing_ends new v todo asked turn aside h none is =
       let nothing = none_left (FormFor new region) h.left.todo (subst (λ (l : List code_form.Form). AllMatch (FormFor new region) (reverse l) h.left.todo) none h.pending.todo) in
       let end : whole ≡ (record { notes = h.left.notes; items = Ok h.left.aside }, h.state) = h.same ∙ ap (λ (l : List (Form Identifier)). run_next (searched known) (run (searched known) h.more fs) fs l h.left h.state) nothing in
-      subst (λ (x : Pass Identifier Place × ScopedState). Passes old new region u v ls spot fs (left_with p.todo u.form.budget.uses) aside asked (Ok tt) x) (sym end)
-      (h.left.aside, refl, record { stays = h.stays; placed = h.placed; notes = h.notes },
-        subst (λ (l : List code_kept.Kept). AllMatch (KeptFor new region v.unit v.form.number) l h.left.aside) (sym is) h.pending.aside, only_locals v.form.budget.locals (left_with h.left.todo v.form.budget.uses) (u.form.budget.locals + left_with p.todo u.form.budget.uses) h.locals)
+      subst (λ (x : Pass Identifier Place × ScopedState). Passes old new region u v ls spot fs (left_with p.todo u.form.budget.uses) aside asked (Ok tt) x) (sym end) (
+        h.left.aside,
+        refl,
+        record { stays = h.stays; placed = h.placed; notes = h.notes },
+        subst (λ (l : List code_kept.Kept). AllMatch (KeptFor new region v.unit v.form.number) l h.left.aside) (sym is) h.pending.aside,
+        only_locals v.form.budget.locals (left_with h.left.todo v.form.budget.uses) (u.form.budget.locals + left_with p.todo u.form.budget.uses) h.locals,
+      )
 
   pub passing_err : (new : Work) (v : UnitScope) (asked : Asked) (most : ℕ) (aside : List code_kept.Kept) (result : Result (Unit {0}) ExpandFault) (e : ExpandFault) → IsErrAnd result (λ x. x ≡ e) → Passes old new region u v ls spot fs most aside asked (Err e) whole →
       Passes old new region u v ls spot fs most aside asked result whole

@@ -1,16 +1,15 @@
 -- A form that is gone through: a core form that splices or defines is read as its shape and then done as the shape is, and any other
 -- is set aside.
-use Rattle.std.proofs.Common.{◌≡◌, ℕ, List, [], ◌∷◌, Bool, true, false, Option, Some, None, Result, Ok, Err, refl, sym, ap, ◌∙◌}
+use Rattle.std.proofs.Common.{◌≡◌, true, false, Option, None, Result, Ok, Err, refl, ap, ◌∙◌}
 use Rattle.scheme_model.specs.Trees.{Tree, name, atom, list, vector, Trees, no_trees, tree, Tail}
-use Rattle.scheme_model.specs.ExpansionFaults.{Named, Fault, fault_map, BadRules, TwoEllipses, DuplicateVariable, EllipsisDepth, IdleEllipsis, NoRule, EllipsisLength, BadForm, DuplicateBinder, BadPlace, BadRecord, BadQuasi, KeywordRedefined, Duplicate, KeywordAsValue, UseBudget, NodeBudget, DepthBudget, SyntaxError, IncludeRefused, OutOfTurns, ◌>>◌}
+use Rattle.scheme_model.specs.ExpansionFaults.{Fault, fault_map, BadRules, TwoEllipses, DuplicateVariable, EllipsisDepth, IdleEllipsis, NoRule, EllipsisLength, BadForm, DuplicateBinder, BadPlace, BadRecord, BadQuasi, KeywordRedefined, Duplicate, KeywordAsValue, UseBudget, NodeBudget, DepthBudget, SyntaxError, IncludeRefused, OutOfTurns, ◌>>◌}
 use Rattle.scheme_model.specs.Keywords.{CoreKeyword, IsQuote, IsQuasiquote, IsLambda, IsCaseLambda, IsIf, IsSet, IsBegin, IsDefine, IsDefineValues, IsDefineRecordType, IsDefineSyntax, IsLetSyntax, IsLetrecSyntax, IsCondExpand, IsSyntaxError, IsInclude}
 use Rattle.scheme_model.specs.Quasiquote.{Mark}
 use Rattle.scheme_model.specs.Shapes.{proper_of, some_of, definition_of, values_of, record_of, named_tree_of}
 use Rattle.scheme_model.specs.Requirements.{Known}
 use Rattle.scheme_model.specs.Ident.{Ident as Identifier, same_ident}
 use Rattle.scheme_model.specs.Cores.{Target}
-use Rattle.scheme_model.specs.Meaning.{Head, IsCore, IsAuxiliary, IsMacro, IsNone, is_keyword}
-use Rattle.scheme_model.specs.Order.{Here, Form, Expression, LookedUp, Pending, Pass, Going, or_none, put, noted, read_then, splice, head_of, target_of, run_core, run_head, run_form}
+use Rattle.scheme_model.specs.Order.{Here, Form, Expression, Pending, Pass, Going, or_none, put, read_then, splice, run_core, run_form}
 use Rattle.scheme_model.specs.ScopedExpansion.{Frames, Place, ScopedState}
 use Rattle.core_forms.specs.Forms.{Shape, Sequence, Definition, Several, RecordType, Syntax, Choices, choices_in, shape_of}
 use Rattle.syntax_tree.specs.declared.trees.Work.{Work}

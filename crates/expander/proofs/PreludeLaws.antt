@@ -1,5 +1,5 @@
 -- The prelude's unit: it is begun when there is nothing yet, and each macro that is added stands.
-use Rattle.std.proofs.Common.{◌≡◌, ℕ, ◌+◌, ◌<◌, ◌==◌, ◌&&◌, List, [], ◌∷◌, map, length, slice_get, Bool, true, false, cond, ◌||◌, Option, Some, None, refl, sym, ap, ◌∙◌, subst}
+use Rattle.std.proofs.Common.{◌≡◌, ℕ, ◌+◌, ◌<◌, ◌==◌, ◌&&◌, List, [], ◌∷◌, map, length, slice_get, Bool, true, false, cond, ◌||◌, Option, Some, None, Result, Ok, Err, OnOk, refl, sym, ap, ◌∙◌, subst}
 use Rattle.std.specs.List.{list_any}
 use Rattle.std.specs.Str.{bytes_eq}
 use Rattle.std.specs.BTreeMap.{get}
@@ -16,7 +16,7 @@ use Rattle.scheme_model.specs.Prelude.{PreludeMacro, prelude}
 use Rattle.scheme_model.specs.Program.{Prepared, is_program as is_program_source, prelude_unit, prelude_entry, prelude_meaning, prelude_definitions, is_standard}
 use Rattle.scheme_model.specs.RulesShape.{Rules, rules_parts}
 use Rattle.scheme_model.specs.Trees.{proper}
-use Rattle.scheme_model.specs.Scopes.{found, given_or, defined_or, means}
+use Rattle.scheme_model.specs.Scopes.{Chain, Uses, Own, found, given_or, defined_or, means}
 use Rattle.scheme_model.specs.Substitution.{Defined, Table, Entries, defined_in}
 use Rattle.scheme_model.specs.ScopedExpansion.{Frames, ScopedState, ScopedMacro, macro_at, definition_added}
 use Rattle.scheme_model.specs.ScopedProgram.{ScopedProgress, scoped_start_of, prelude_rules, scoped_prelude_macro, scoped_before}
@@ -31,22 +31,21 @@ use Rattle.syntax_tree.proofs.Places.{none_some}
 use Rattle.scope_env.specs.Environment.{Environment, IsSound, no_scopes, number_cmp}
 use Rattle.scope_env.specs.Resolved.{local, bound_at, own}
 use Rattle.scope_env.specs.Standing.{StandsFor, Gives, EnvFor}
-use Rattle.core_tree.specs.declared.traces.Trace.{Trace}
 use Rattle.expander.specs.Chains.{chain_in, uses_in, imported_in, given_in}
+use Rattle.expander.specs.Kept.{NotesFor}
 use Rattle.expander.specs.Macros.{macro_in, Keeps}
 use Rattle.expander.specs.Opened.{with_imports, started, nothing_yet, HasUnits}
 use Rattle.expander.specs.Preluded.{standard_names, prelude_begun, prelude_with, prelude_state, IsPrelude, Continues, AddsMacro}
-use Rattle.expander.specs.State.{EnvStands, IsMacro, IsMacroIfAny, MacrosStand, FormStands, Rests, Stands}
-use Rattle.expander.specs.Stepped.{kept, turned, with_definition, with_macros}
+use Rattle.expander.specs.State.{EnvStands, IsMacro, IsMacroIfAny, MacrosStand, Rests}
+use Rattle.expander.specs.Stepped.{kept, with_definition, with_macros}
+use Rattle.expander.specs.Units.{UnitStands}
+use Rattle.expander.specs.declared.asked.Asked.{Asked}
 use Rattle.expander.specs.declared.macros.Macro.{Macro}
 use Rattle.expander.specs.declared.macros.Macros.{Macros}
-use Rattle.expander.specs.declared.scope.FormAtWork.{FormAtWork}
 use Rattle.expander.specs.declared.scope.UnitScope.{UnitScope}
-use Rattle.expander.proofs.CallLaws.{with_form, without_form}
-use Rattle.expander.proofs.DefinedMacros.{own_macro_stands}
-use Rattle.expander.proofs.FormsStand.{fresh_stands}
-use Rattle.expander.proofs.GrowthStands.{growth_stands}
-use Rattle.expander.proofs.KeptStands.{kept_stands}
+use Rattle.expander.proofs.GrowthStands.{growth_rests}
+use Rattle.expander.proofs.NotesStand.{notes_on}
+use Rattle.expander.proofs.RestLaws.{kept_rests, own_macro_rests}
 
 -- ---- nothing yet
 
@@ -157,61 +156,67 @@ module _ (names : Names) (unit form : ℕ) (x : List ℕ) where
 
 -- ---- a macro more
 
-abbrev no_trace : Trace
-no_trace = record { keywords = []; uses = [] }
-
--- the unit with a form that has done nothing
-abbrev no_form : FormAtWork
-no_form = record { number = 0; budget = record { uses = 0; nodes = 0; locals = 0 }; trace = no_trace }
-
-abbrev pub idle : UnitScope → UnitScope
-idle u = record u { form = no_form }
-
 module _ (old new : Work) (trees : KeepsTrees old new) (names : KeepsNames old.symbols new.symbols) (apart : AreToldApart new.symbols.idents) (told : AreToldApart new.symbols.symbols) (u : UnitScope) (s : ScopedState) (is : IsPrelude s)
-  (x : List ℕ) (r : Rules Identifier) (ident : ℕ) (k : Macro) (at : IsIdent new.symbols ident (prelude_name x)) (macro : IsMacro new ([] ∷ []) k (record { env = []; rules = r })) (e : Rests old u ([] ∷ []) s) where
-  idle_stands : Stands new (idle u) ([] ∷ []) s
-  idle_stands =
-      let fresh = fresh_stands old.symbols no_form s 0 refl refl refl refl refl refl is.fresh in
-      let stands = with_form old u no_form ([] ∷ []) s 0 fresh e in
-      growth_stands old new trees names apart told (idle u) ([] ∷ []) s (subst (λ (t : ScopedState). Stands old (idle u) ([] ∷ []) t) (λ j. record s { form = sym is.form j }) stands)
+  (x : List ℕ) (ident : ℕ) (at : IsIdent new.symbols ident (prelude_name x)) (none : defined_in s.table prelude_unit (prelude_name x) ≡ None) (e : Rests old u ([] ∷ []) s) where
+  grown : Rests new u ([] ∷ []) s
+  grown = growth_rests old new trees names apart told u ([] ∷ []) s e
 
-  pub undefined_there : defined_in s.table prelude_unit (prelude_name x) ≡ None → get nat_cmp u.defined ident ≡ None
-  undefined_there none = idle_stands.defined ident (prelude_name x) at ∙ (λ j. option_map (λ (d : Defined). d.keyword) (defined_in s.table (is.unit j) (prelude_name x))) ∙ ap (option_map (λ (d : Defined). d.keyword)) none
+  pub undefined_there : get nat_cmp u.defined ident ≡ None
+  undefined_there = grown.defined ident (prelude_name x) at ∙ (λ j. option_map (λ (d : Defined). d.keyword) (defined_in s.table (is.unit j) (prelude_name x))) ∙ ap (option_map (λ (d : Defined). d.keyword)) none
 
-  -- of a standard name
-  pub standard_added : (n : ℕ) (ms : Macros) → IsSymbol new.symbols n x → is_standard x ≡ true → Keeps u.macros ms 0 (code.Standard n) k → Rests new (with_macros u ms) ([] ∷ []) (prelude_with x r s)
-  standard_added n ms spelt standard keeps =
-      let t : Transformer Frames Identifier = record { env = []; rules = r } in
-      let stands = kept_stands new (idle u) ([] ∷ []) s ms (code.Standard n) (model.Standard x) k t apart told keeps tt spelt macro idle_stands in
-      let path : kept (model.Standard x) t s ≡ prelude_with x r s =
-      λ j. record s {
-        table = cond (sym standard j) s.table (record { unit = prelude_unit; form = 0; ident = prelude_name x; keyword = true; occ = None } ∷ s.table);
-        macros = record { meaning = cond (sym standard j) (model.Standard x) (model.Global prelude_unit (prelude_name x)); frames = []; rules = r } ∷ s.macros;
-      } in
-      subst (Rests new (with_macros u ms) ([] ∷ [])) path (without_form new (with_macros (idle u) ms) u.form ([] ∷ []) (kept (model.Standard x) t s) stands)
+  pub meant_there : (m : Meaning) → ((given : Own) (uses : Uses) (c : Chain) (unit form : ℕ) (i : Identifier) → IsIdent new.symbols ident i → EnvFor new.symbols u.env given uses → StandsFor new.symbols u.env (Some u.root) c →
+      IsMeaning new.symbols unit form m (of_form unit form (means given uses c i))) → IsMeaning new.symbols prelude_unit 0 m (of_form prelude_unit 0 (named_there (is_standard x) x))
+  meant_there m resolved = subst (λ (y : model.Meaning). IsMeaning new.symbols prelude_unit 0 m (of_form prelude_unit 0 y)) (means_there s x is none)
+      (resolved (given_in s) (uses_in s) (chain_in s []) prelude_unit 0 (prelude_name x) at grown.env.given (grown.env.scopes u.root [] grown.root))
 
-  -- of a name of its own
-  pub own_added : (v : UnitScope) → IsSound u.env → is_standard x ≡ false → AddsMacro u v ident k → Rests new v ([] ∷ []) (prelude_with x r s)
-  own_added v sound other h =
-      let n : Named Identifier = record { name = prelude_name x; occ = None } in
-      let stands = own_macro_stands new (idle u) ([] ∷ []) s [] ident n h.defined h.macros k r apart told sound at h.put h.more h.keeps macro idle_stands in
-      let path : definition_added None n (Some r) [] s ≡ prelude_with x r s =
-      λ j. record s {
-        table = cond (sym other j) s.table (record { unit = is.unit j; form = is.form j; ident = prelude_name x; keyword = true; occ = None } ∷ s.table);
-        macros = record { meaning = cond (sym other j) (model.Standard x) (model.Global (is.unit j) (prelude_name x)); frames = []; rules = r } ∷ s.macros;
-      } in
-      subst (λ (w : UnitScope). Rests new w ([] ∷ []) (prelude_with x r s)) (sym h.after)
-      (subst (Rests new (with_macros (with_definition u ident h.defined) h.macros) ([] ∷ [])) path
-      (without_form new (with_macros (with_definition (idle u) ident h.defined) h.macros) u.form ([] ∷ []) (definition_added None n (Some r) [] s) stands))
+  module _ (r : Rules Identifier) (k : Macro) (macro : IsMacro new ([] ∷ []) k (record { env = []; rules = r })) (notes : NotesFor old ([] ∷ []) u.asked []) where
+    noted : NotesFor new ([] ∷ []) u.asked []
+    noted = notes_on old new ([] ∷ []) ([] ∷ []) names (λ n fs there. there) u.asked [] apart notes
+
+    -- of a standard name
+    standard_rests : (n : ℕ) (ms : Macros) → IsSymbol new.symbols n x → is_standard x ≡ true → Keeps u.macros ms 0 (code.Standard n) k → Rests new (with_macros u ms) ([] ∷ []) (prelude_with x r s)
+    standard_rests n ms spelt standard keeps =
+        let t : Transformer Frames Identifier = record { env = []; rules = r } in
+        let path : kept (model.Standard x) t s ≡ prelude_with x r s =
+        λ j. record s {
+          table = cond (sym standard j) s.table (record { unit = prelude_unit; form = 0; ident = prelude_name x; keyword = true; occ = None } ∷ s.table);
+          macros = record { meaning = cond (sym standard j) (model.Standard x) (model.Global prelude_unit (prelude_name x)); frames = []; rules = r } ∷ s.macros;
+        } in
+        subst (Rests new (with_macros u ms) ([] ∷ [])) path (kept_rests new u ([] ∷ []) s ms 0 (code.Standard n) (model.Standard x) k t apart told keeps tt spelt macro grown)
+
+    pub standard_added : (n : ℕ) (ms : Macros) → IsSymbol new.symbols n x → is_standard x ≡ true → Keeps u.macros ms 0 (code.Standard n) k → UnitStands new (with_macros u ms) ([] ∷ []) (prelude_with x r s) []
+    standard_added n ms spelt standard keeps = record { rests = standard_rests n ms spelt standard keeps; notes = noted }
+
+    -- of a name of its own
+    own_rests : (v : UnitScope) → IsSound u.env → is_standard x ≡ false → AddsMacro u v ident k → Rests new v ([] ∷ []) (prelude_with x r s)
+    own_rests v sound other h =
+        let n : Named Identifier = record { name = prelude_name x; occ = None } in
+        let path : definition_added None n (Some r) [] s ≡ prelude_with x r s =
+        λ j. record s {
+          table = cond (sym other j) s.table (record { unit = is.unit j; form = is.form j; ident = prelude_name x; keyword = true; occ = None } ∷ s.table);
+          macros = record { meaning = cond (sym other j) (model.Standard x) (model.Global (is.unit j) (prelude_name x)); frames = []; rules = r } ∷ s.macros;
+        } in
+        subst (λ (w : UnitScope). Rests new w ([] ∷ []) (prelude_with x r s)) (sym h.after)
+        (subst (Rests new (with_macros (with_definition u ident h.defined) h.macros) ([] ∷ [])) path (own_macro_rests new u ([] ∷ []) s [] 0 ident n h.defined h.macros k r apart told sound at h.put h.more h.keeps macro grown))
+
+    pub own_added : (v : UnitScope) → IsSound u.env → is_standard x ≡ false → AddsMacro u v ident k → UnitStands new v ([] ∷ []) (prelude_with x r s) []
+    own_added v sound other h = record {
+      rests = own_rests v sound other h;
+      notes = subst (λ (a : Asked). NotesFor new ([] ∷ []) a []) (sym (ap (λ (w : UnitScope). w.asked) h.after)) noted;
+    }
+
+-- what holds unless memory ran out
+pub on_ok : {T E P Q : Type 0} (r : Result T E) → (P → Q) → OnOk r P → OnOk r Q
+on_ok (Ok x) f h = f h
+on_ok (Err e) f h = h
 
 -- ---- all macros
 
 pub prelude_is : (ms : List PreludeMacro) → IsPrelude (prelude_state ms)
-prelude_is [] = record { unit = refl; form = refl; entry = refl; places = refl; definitions = refl; fresh = record { locals = refl; uses = refl; nodes = refl; keywords = refl; met = refl } }
+prelude_is [] = record { unit = refl; form = refl; entry = refl; places = refl; definitions = refl }
 prelude_is (m ∷ ms) =
     let p = prelude_is ms in
-    let f = p.fresh in
-    record { unit = p.unit; form = p.form; entry = p.entry; places = p.places; definitions = p.definitions; fresh = record { locals = f.locals; uses = f.uses; nodes = f.nodes; keywords = f.keywords; met = f.met } }
+    record { unit = p.unit; form = p.form; entry = p.entry; places = p.places; definitions = p.definitions }
 
 table_is : (ms : List PreludeMacro) → (prelude_state ms).table ≡ prelude_definitions ms
 table_is [] = refl

@@ -1,5 +1,5 @@
 -- A shape of the code that splices or defines stands for a shape of the same kind.
-use Rattle.std.proofs.Common.{◌≡◌, ℕ, suc, ◌+◌, List, [], ◌∷◌, ◌++◌, map, length, Option, Some, None, refl, sym, ap, ◌∙◌, subst, arith}
+use Rattle.std.proofs.Common.{◌≡◌, ℕ, ◌+◌, List, [], ◌∷◌, map, length, Option, Some, None, refl, ap, subst, arith}
 use Rattle.std.proofs.lemmas.List.{length-append, length-map}
 use Rattle.std.specs.Prelude.{Vec}
 use Rattle.std.specs.declared.alloc.Global.{Global}
@@ -21,6 +21,7 @@ use Rattle.core_forms.specs.declared.shape.CoreShape.TheVariants as shapes
 use Rattle.core_forms.specs.declared.shape.FieldShape.{FieldShape}
 use Rattle.core_forms.specs.declared.shape.Formals as code_formals
 use Rattle.core_forms.specs.declared.shape.NamePart.{NamePart}
+use Rattle.expander.specs.Passed.{IsPassed}
 
 abbrev kind : Shape → ℕ
 kind (Quoted t) = 0
@@ -133,6 +134,27 @@ module _ (work : Work) (P : Shape → Type 0) where
       (subst (λ (x : NamePart). IsRecord work h.0 h.1.0 h.1.1.0 x fs r) e
       (subst (λ (x : Vec FieldShape Global). IsRecord work h.0 h.1.0 h.1.1.0 h.1.1.1.0 x r) g h.1.1.1.1.2)))))
   as_record n c us p fs m h f = let k = same_kind work (shapes.RecordType n c us p fs) m h in absurd (omega (arith, k))
+
+-- a shape that splices or defines is none but these
+pub none_passed : {P : Type 0} (work : Work) (x : code.CoreShape) (m : Shape) → ShapeFor work x m → IsPassed m → ((ns : Vec number.Tree Global) → x ≡ shapes.Begin ns → ⊥) → ((cs : Vec Choice Global) → x ≡ shapes.CondExpand cs → ⊥) →
+    ((n : NamePart) (v : number.Tree) → x ≡ shapes.Define n v → ⊥) → ((n : NamePart) (c : ClauseShape) → x ≡ shapes.Procedure n c → ⊥) → ((a : code_formals.Formals) (v : number.Tree) → x ≡ shapes.Values a v → ⊥) →
+    ((n c : NamePart) (us : Vec NamePart Global) (p : NamePart) (fs : Vec FieldShape Global) → x ≡ shapes.RecordType n c us p fs → ⊥) → ((n : NamePart) (v : number.Tree) → x ≡ shapes.DefineSyntax n v → ⊥) → P
+none_passed work x (Sequence ts) h is b c d q v r y = absurd (b h.0 h.1)
+none_passed work x (Choices ps) h is b c d q v r y = absurd (c h.0 h.1)
+none_passed work x (Definition (Variable i t)) h is b c d q v r y = absurd (d h.0 h.1.0 h.1.1)
+none_passed work x (Definition (procedure i k)) h is b c d q v r y = absurd (q h.0 h.1.0 h.1.1)
+none_passed work x (Several p) h is b c d q v r y = absurd (v h.0 h.1.0 h.1.1)
+none_passed work x (RecordType k) h is b c d q v r y = absurd (r h.0 h.1.0 h.1.1.0 h.1.1.1.0 h.1.1.1.1.0 h.1.1.1.1.1)
+none_passed work x (Syntax p) h is b c d q v r y = absurd (y h.0 h.1.0 h.1.1)
+none_passed work x (Quoted t) h is b c d q v r y = absurd is
+none_passed work x (Quasi t p) h is b c d q v r y = absurd is
+none_passed work x (Procedure k) h is b c d q v r y = absurd is
+none_passed work x (Procedures cs) h is b c d q v r y = absurd is
+none_passed work x (Conditional ts) h is b c d q v r y = absurd is
+none_passed work x (Assignment p) h is b c d q v r y = absurd is
+none_passed work x (Local k) h is b c d q v r y = absurd is
+none_passed work x (ErrorText text) h is b c d q v r y = absurd is
+none_passed work x Inclusion h is b c d q v r y = absurd is
 
 -- ---- a record's definition defines so many names whatever it stands for
 

@@ -1,6 +1,7 @@
 -- A core form that splices or defines, by the shape that the code has of it.
-use Rattle.std.proofs.Common.{◌≡◌, ℕ, ◌+◌, ◌<◌, ◌≤◌, List, length, Result, refl, sym, ap, ◌∙◌, subst, arith}
-use Rattle.std.specs.Prelude.{Vec}
+use Rattle.std.proofs.Common.{◌≡◌, ℕ, ◌+◌, ◌<◌, ◌≤◌, List, length, Option, Result, IfSome, sym, subst, arith}
+use Rattle.std.specs.Prelude.{Vec, String}
+use Rattle.std.specs.BTreeSet.{BTreeSet}
 use Rattle.std.specs.declared.alloc.Global.{Global}
 use Rattle.std.specs.List.{AllByRecursion}
 use Rattle.scheme_model.specs.Trees.{Tree, Trees}
@@ -12,14 +13,14 @@ use Rattle.scheme_model.specs.Shapes.{Formals, Clause, RecordShape, Variable, Pr
 use Rattle.scheme_model.specs.Order.{Here, Form, Pending, Pass, Going, or_none, read_then, splice, record_names, run_define, run_values, run_record, run_syntax}
 use Rattle.scheme_model.specs.ScopedExpansion.{Frames, Place, ScopedState}
 use Rattle.syntax_tree.specs.Looks.{PartsStand, AllNamed}
-use Rattle.syntax_tree.specs.Works.{StandsFor, CanName, IsStanding}
+use Rattle.syntax_tree.specs.Works.{StandsFor, IsStanding}
 use Rattle.syntax_tree.specs.declared.trees.Work.{Work}
 use Rattle.syntax_tree.specs.declared.trees.nodes.Tree as number
 use Rattle.syntax_tree.specs.declared.trees.table.Region.{Region}
 use Rattle.core_forms.specs.Ends.{IsRecord, ShapeFor}
 use Rattle.core_forms.specs.Forms.{Shape}
-use Rattle.core_forms.specs.Named.{ChoiceNamed, ShapeNamed}
-use Rattle.core_forms.specs.Parts.{AllMatch, IsName, IsFormals, IsChoice}
+use Rattle.core_forms.specs.Named.{ChoiceNamed, ShapeNamed, TreesNamed}
+use Rattle.core_forms.specs.Parts.{AllMatch, IsName, IsField, IsFormals, IsChoice}
 use Rattle.core_forms.specs.declared.shape.Choice.{Choice}
 use Rattle.core_forms.specs.declared.shape.ClauseShape.{ClauseShape}
 use Rattle.core_forms.specs.declared.shape.CoreShape as code
@@ -27,12 +28,13 @@ use Rattle.core_forms.specs.declared.shape.CoreShape.TheVariants as shapes
 use Rattle.core_forms.specs.declared.shape.FieldShape.{FieldShape}
 use Rattle.core_forms.specs.declared.shape.Formals as code_formals
 use Rattle.core_forms.specs.declared.shape.NamePart.{NamePart}
-use Rattle.expander.specs.Judged.{chosen_among}
+use Rattle.expander.specs.Judged.{AreChoosable, Chooses, Knows, chosen_among}
 use Rattle.expander.specs.Defining.{HasNumber}
 use Rattle.expander.specs.Kept.{ClauseFor}
 use Rattle.expander.specs.Outcomes.{WorksOn}
 use Rattle.expander.specs.Passed.{ShapeFits, choices_size, pass_step, shape_weight}
 use Rattle.expander.specs.Searched.{searched}
+use Rattle.expander.specs.declared.fault.ExpandFault.{ExpandFault}
 use Rattle.expander.proofs.DefinitionSteps.{matched_length}
 use Rattle.expander.proofs.ShapeKinds.{as_sequence, as_choices, as_variable, as_procedure, as_values, as_syntax, as_record, records_alike}
 
@@ -101,8 +103,26 @@ module _ (work : Work) (x : code.CoreShape) (m : Shape) (stands : ShapeFor work 
       as_values work (λ q. ((d : Formals Identifier) × IsFormals work a d) × (length a.names.items ≤ shape_weight q)) a v m (stand_at (shapes.Values a v) is)
       (λ d t formals value. let same = matched_length (IsName work) a.names.items d.names formals.names in ((d, formals), omega (arith, same)))
 
+  pub choices_demands : (cs : Vec Choice Global) → x ≡ shapes.CondExpand cs → AreChoosable work cs.items
+  choices_demands cs is = as_choices work (λ q. AreChoosable work cs.items) cs m (stand_at (shapes.CondExpand cs) is) (λ ps are. (ps, are))
+
   pub record_demands : (n c : NamePart) (us : Vec NamePart Global) (p : NamePart) (ys : Vec FieldShape Global) → x ≡ shapes.RecordType n c us p ys →
-      ((r : RecordShape Identifier) × IsRecord work n c us p ys r) × ((r : RecordShape Identifier) → IsRecord work n c us p ys r → length r.fields + length (record_names r) ≤ shape_weight m)
+      ((r : RecordShape Identifier) × IsRecord work n c us p ys r) × ((r : RecordShape Identifier) → IsRecord work n c us p ys r → length r.fields + length (record_names r) ≤ shape_weight m) × (length ys.items ≤ shape_weight m)
   record_demands n c us p ys is =
-      as_record work (λ q. ((r : RecordShape Identifier) × IsRecord work n c us p ys r) × ((r : RecordShape Identifier) → IsRecord work n c us p ys r → length r.fields + length (record_names r) ≤ shape_weight q)) n c us p ys m (stand_at (shapes.RecordType n c us p ys) is)
-      (λ r stand. ((r, stand), λ q other. let same = records_alike work n c us p ys q r other stand in omega (arith, same)))
+      as_record work (λ q. ((r : RecordShape Identifier) × IsRecord work n c us p ys r) × ((r : RecordShape Identifier) → IsRecord work n c us p ys r → length r.fields + length (record_names r) ≤ shape_weight q) × (length ys.items ≤ shape_weight q)) n c us p ys m (stand_at (shapes.RecordType n c us p ys) is)
+      (λ r stand. let count = matched_length (IsField work) ys.items r.fields stand.fields in ((r, stand), λ q other. let same = records_alike work n c us p ys q r other stand in omega (arith, same), omega (arith, count)))
+
+-- ---- the chosen clause, by what it is judged by
+
+module _ (work w : Work) (libraries l : BTreeSet (String Global)) (cs : List Choice) (here : Here) (same : w ≡ work) (known_same : l ≡ libraries) where
+  pub chosen_here : (r : Result (Option (Vec number.Tree Global)) ExpandFault) →
+      ((known : Known) (ps : List (Tree Identifier × Trees Identifier)) → Knows l known → AllMatch (IsChoice w) cs ps → Chooses w here r (chosen_among known ps)) →
+      (known : Known) (ps : List (Tree Identifier × Trees Identifier)) → Knows libraries known → AllMatch (IsChoice work) cs ps → Chooses work here r (chosen_among known ps)
+  chosen_here r f known ps knows are =
+      subst (λ (x : Work). Chooses x here r (chosen_among known ps)) same
+      (f known ps (subst (λ (x : BTreeSet (String Global)). Knows x known) (sym known_same) knows) (subst (λ (x : Work). AllMatch (IsChoice x) cs ps) (sym same) are))
+
+  pub named_here : (chosen : Option (Vec number.Tree Global)) → ((region : Region) → AllByRecursion (ChoiceNamed w region) cs → IfSome chosen (TreesNamed w region)) →
+      (region : Region) → AllByRecursion (ChoiceNamed work region) cs → IfSome chosen (TreesNamed work region)
+  named_here chosen f region named =
+      subst (λ (x : Work). IfSome chosen (TreesNamed x region)) same (f region (subst (λ (x : Work). AllByRecursion (ChoiceNamed x region) cs) (sym same) named))

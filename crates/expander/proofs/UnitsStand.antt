@@ -27,11 +27,13 @@ use Rattle.scope_env.specs.Standing.{EnvFor}
 use Rattle.scope_env.specs.Moved.{with_given, IsNamed}
 use Rattle.scope_env.proofs.Places.{length-changed_at}
 use Rattle.scope_env.proofs.StandingLaws.{root_stays, root_env_bound}
+use Rattle.core_forms.specs.declared.shape.NamePart.{NamePart}
 use Rattle.expander.specs.Chains.{chain_in, uses_in, imported_in, given_in}
-use Rattle.expander.specs.State.{EnvStands, Stands}
-use Rattle.expander.specs.Stepped.{with_definition, defined_here}
+use Rattle.expander.specs.State.{EnvStands, FormStands, Stands}
+use Rattle.expander.specs.Stepped.{own_binder, with_told, with_definition, defined_here}
 use Rattle.expander.specs.declared.scope.UnitScope.{UnitScope}
 use Rattle.expander.proofs.LayoutLaws.{parent_bound}
+use Rattle.expander.proofs.NumberedLaws.{count_is, one_more_numbered}
 
 -- ---- what the unit gives
 
@@ -90,23 +92,42 @@ key_is Greater a n h = let e : nat_eq n a ≡ false = grind (arith, nat_tests) i
 pub at_key : (a n : ℕ) → is_eq (nat_cmp a n) ≡ nat_eq n a
 at_key a n = key_is (nat_cmp a n) a n (ranked a n (nat_cmp a n) refl)
 
-keyword_by : (d : Defined) (q : Bool) (o : Option Defined) → option_map (λ (x : Defined). x.keyword) (cond q (Some d) o) ≡ cond q (Some d.keyword) (option_map (λ (x : Defined). x.keyword) o)
+pub keyword_by : (d : Defined) (q : Bool) (o : Option Defined) → option_map (λ (x : Defined). x.keyword) (cond q (Some d) o) ≡ cond q (Some d.keyword) (option_map (λ (x : Defined). x.keyword) o)
 keyword_by d true o = refl
 keyword_by d false o = refl
 
-known_by : (names : Names) (ident n : ℕ) (i : Identifier) (k v : Bool) (o : Option Bool) (q : Bool) → nat_eq n ident ≡ q → IsIdent names ident i → (o ≡ Some k → n < length names.idents) → cond q (Some v) o ≡ Some k → n < length names.idents
+pub known_by : (names : Names) (ident n : ℕ) (i : Identifier) (k v : Bool) (o : Option Bool) (q : Bool) → nat_eq n ident ≡ q → IsIdent names ident i → (o ≡ Some k → n < length names.idents) → cond q (Some v) o ≡ Some k → n < length names.idents
 known_by names ident n i k v o true same is before h = subst (λ (x : ℕ). x < length names.idents) (sym (eqb-true n ident same)) (slice_get_within names.idents ident i is)
 known_by names ident n i k v o false other is before h = before h
 
 -- ---- the whole
 
-pub own_definition_stands : (work : Work) (u : UnitScope) (ls : List Frames) (s : ScopedState) (ident : ℕ) (i : Identifier) (occ : Option Occ) (keyword : Bool) (defined : BTreeMap ℕ Bool) →
-    AreToldApart work.symbols.idents → IsSound u.env → IsIdent work.symbols ident i → ((n : ℕ) → get nat_cmp defined n ≡ cond (is_eq (nat_cmp ident n)) (Some keyword) (get nat_cmp u.defined n)) → btree_map_len defined ≡ btree_map_len u.defined + 1 → Stands work u ls s →
-    Stands work (with_definition u ident defined) ls (defined_here i occ keyword s)
-own_definition_stands work u ls s ident i occ keyword defined apart sound is put more e =
+-- the form at work tells it
+told_stands : (names : Names) (u : UnitScope) (s : ScopedState) (name : NamePart) (i : Identifier) (occ : Option Occ) (keyword : Bool) → IsIdent names name.ident i → name.occ ≡ occ → btree_map_len u.defined ≡ definition_count s.table s.unit → FormStands names u.form s →
+    FormStands names (with_told u name).form (defined_here i occ keyword s)
+told_stands names u s name i occ keyword is place count f =
+    let d : Defined = record { unit = s.unit; form = s.form; ident = i; keyword = keyword; occ = occ } in
+    record {
+      number = f.number;
+      locals = f.locals;
+      uses = f.uses;
+      nodes = f.nodes;
+      few_uses = f.few_uses;
+      few_nodes = f.few_nodes;
+      few_locals = f.few_locals;
+      definitions = one_more_numbered names s.unit s.form u.form.trace.definitions (own_binder u name) d s.table refl refl
+          (record { form = refl; number_is = count ∙ sym (count_is s.unit s.table); ident = is; place = place }) f.definitions;
+      keywords = f.keywords;
+      met = f.met;
+    }
+
+pub own_definition_stands : (work : Work) (u : UnitScope) (ls : List Frames) (s : ScopedState) (name : NamePart) (i : Identifier) (occ : Option Occ) (keyword : Bool) (defined : BTreeMap ℕ Bool) →
+    AreToldApart work.symbols.idents → IsSound u.env → IsIdent work.symbols name.ident i → name.occ ≡ occ → ((n : ℕ) → get nat_cmp defined n ≡ cond (is_eq (nat_cmp name.ident n)) (Some keyword) (get nat_cmp u.defined n)) → btree_map_len defined ≡ btree_map_len u.defined + 1 → Stands work u ls s →
+    Stands work (with_definition (with_told u name) name.ident defined) ls (defined_here i occ keyword s)
+own_definition_stands work u ls s name i occ keyword defined apart sound is place put more e =
+    let ident = name.ident in
     let d : Defined = record { unit = s.unit; form = s.form; ident = i; keyword = keyword; occ = occ } in
     let m = e.macros in
-    let f = e.form in
     let at : map.get u.env.roots s.unit ≡ Some u.root = ap (map.get u.env.roots) (sym e.unit) ∙ e.own in
     let itself = eq-eqb s.unit s.unit refl in
     let found : (n : ℕ) → get nat_cmp defined n ≡ cond (nat_eq n ident) (Some keyword) (get nat_cmp u.defined n) = λ n. put n ∙ ap (λ b. cond b (Some keyword) (get nat_cmp u.defined n)) (at_key ident n) in
@@ -118,17 +139,7 @@ own_definition_stands work u ls s ident i occ keyword defined apart sound is put
       root = e.root;
       own = e.own;
       begun = record { frames = e.begun.frames; bodies = e.begun.bodies; macros = e.begun.macros };
-      form = record {
-        number = f.number;
-        locals = f.locals;
-        uses = f.uses;
-        nodes = f.nodes;
-        few_uses = f.few_uses;
-        few_nodes = f.few_nodes;
-        few_locals = f.few_locals;
-        keywords = f.keywords;
-        met = f.met;
-      };
+      form = told_stands work.symbols u s name i occ keyword is place e.count e.form;
       defined = λ n j there.
           found n
           ∙ ((λ k. cond (sym (same_by_number work.symbols apart ident n i j is there) k) (Some keyword) (e.defined n j there k))

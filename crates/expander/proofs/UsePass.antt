@@ -1,5 +1,5 @@
 -- A macro use that is gone through: its comparisons are noted, and the tree that it gives comes next.
-use Rattle.std.proofs.Common.{◌≡◌, ℕ, suc, ◌+◌, ◌*◌, ◌-◌, ◌<◌, ◌≤◌, List, [], ◌∷◌, ◌++◌, reverse, Bool, true, false, Option, Some, None, Result, Ok, Err, refl, sym, ap, ◌∙◌, subst, arith}
+use Rattle.std.proofs.Common.{◌≡◌, ℕ, ◌+◌, ◌*◌, ◌-◌, ◌<◌, ◌≤◌, List, [], ◌∷◌, ◌++◌, reverse, Some, Result, Ok, Err, refl, sym, ap, ◌∙◌, subst, arith}
 use Rattle.std.proofs.lemmas.List.{reverse-append}
 use Rattle.scheme_model.specs.Trees.{Tree, Trees, Tail}
 use Rattle.scheme_model.specs.Measures.{tree_size}
@@ -7,7 +7,7 @@ use Rattle.scheme_model.specs.Ident.{Ident as Identifier}
 use Rattle.scheme_model.specs.Requirements.{Known}
 use Rattle.scheme_model.specs.Cores.{Target}
 use Rattle.scheme_model.specs.Steps.{Broken}
-use Rattle.scheme_model.specs.Order.{Here, Form, Note, LookedUp, Compared, Pending, Pass, Going, Transformer, first, noted, caught, comparisons, use_of, run_use}
+use Rattle.scheme_model.specs.Order.{Here, Form, Note, LookedUp, Compared, Pending, Pass, Going, Transformer, first, noted, comparisons, use_of, run_use}
 use Rattle.scheme_model.specs.ScopedExpansion.{Frames, Place, ScopedState}
 use Rattle.syntax_tree.specs.Names.{KeepsNames, AreToldApart}
 use Rattle.syntax_tree.specs.declared.trees.Work.{Work}
@@ -15,9 +15,9 @@ use Rattle.syntax_tree.specs.declared.trees.nodes.Tree as number
 use Rattle.syntax_tree.specs.declared.trees.table.Region.{Region}
 use Rattle.core_tree.specs.Names.{AllMatch}
 use Rattle.expander.specs.State.{Stands}
-use Rattle.expander.specs.Kept.{FormFor, KeptFor, PendingFor, PlaceFor, NoteFor, NotesFor, SpotFor, forms_size, left_with}
-use Rattle.expander.specs.Outcomes.{Grows, Stays, WorksOn, EndsHere}
-use Rattle.expander.specs.Passed.{Reaches, Stops, GoesOn}
+use Rattle.expander.specs.Kept.{FormFor, KeptFor, PendingFor, PlaceFor, NoteFor, NotesFor, SpotFor, forms_size}
+use Rattle.expander.specs.Outcomes.{Grows, Leaves, Stays, WorksOn, EndsHere}
+use Rattle.expander.specs.Passed.{GoesOn}
 use Rattle.expander.specs.Searched.{searched}
 use Rattle.expander.specs.declared.asked.Asked.{Asked}
 use Rattle.expander.specs.declared.asked.Asking.{Asking}
@@ -96,25 +96,42 @@ module _ (known : Known) (old new : Work) (region : Region) (u v : UnitScope) (l
       let f : code_form.Form = record { here = here; tree = tree } in
       let grown = pending_on old new region u.unit u.form.number v.unit v.form.number before p stays.work stays.same.unit stays.same.number pending in
       let small = (use_leaves known here fs keyword m ts tail s).small t ends.2 in
-      let few = stays.stands.form.few_uses in
-      (first (record { here = here; tree = t } ∷ []) noted_all, used.1, record {
-        stays = stays;
-        placed = spot_after stays;
-        pending = record {
-          todo = subst (λ (xs : List code_form.Form). AllMatch (FormFor new region) xs (record { here = here; tree = t } ∷ p.todo)) (sym (ap reverse todo ∙ reverse-append before.todo.items (f ∷ []))) ((refl, ends.3), grown.todo);
-          aside = subst (λ (xs : List code_kept.Kept). AllMatch (KeptFor new region v.unit v.form.number) xs p.aside) (sym aside) grown.aside;
-        };
-        notes = notes_on old new ls stays.work.names apart asked (comparisons (searched known) fs m ts tail s ++ p.notes) found;
-        less = use_less (tree_size t) (forms_size p.todo) u.form.budget.uses v.form.budget.uses given small uses few;
-        locals = use_locals u.form.budget.locals v.form.budget.locals (tree_size t) (forms_size p.todo) u.form.budget.uses v.form.budget.uses given locals small uses few;
-      }, λ go. caught_goes noted_all.notes used t ends.2 (next go))
+      let few = stays.stands.form.few_uses in (
+        first (record { here = here; tree = t } ∷ []) noted_all,
+        used.1,
+        record {
+          stays = stays;
+          placed = spot_after stays;
+          pending = record {
+            todo = subst (λ (xs : List code_form.Form). AllMatch (FormFor new region) xs (record { here = here; tree = t } ∷ p.todo)) (sym (ap reverse todo ∙ reverse-append before.todo.items (f ∷ []))) ((refl, ends.3), grown.todo);
+            aside = subst (λ (xs : List code_kept.Kept). AllMatch (KeptFor new region v.unit v.form.number) xs p.aside) (sym aside) grown.aside;
+          };
+          notes = notes_on old new ls stays.work.names apart asked (comparisons (searched known) fs m ts tail s ++ p.notes) found;
+          less = use_less (tree_size t) (forms_size p.todo) u.form.budget.uses v.form.budget.uses given small uses few;
+          locals = use_locals u.form.budget.locals v.form.budget.locals (tree_size t) (forms_size p.todo) u.form.budget.uses v.form.budget.uses given locals small uses few;
+        },
+        λ go. caught_goes noted_all.notes used t ends.2 (next go),
+      )
 
   pub use_fails : (e : ExpandFault) → EndsHere (WorksOn new region) old new region u v ls (Err e) used → GoesOn old new region u v ls spot fs p.todo given after asked (Err e) (λ go. run_use (searched known) go here fs keyword (Some m) form ts tail p s)
-  use_fails (fault.At e) ends =
-      (noted_all.notes, ends.1.0, used.1, record {
-        stays = ends.0;
-        placed = spot_after ends.0;
-        notes = notes_on old new ls ends.0.work.names apart asked (comparisons (searched known) fs m ts tail s ++ p.notes) found;
-      }, ends.1.2, λ go. caught_fails noted_all.notes used ends.1.0 ends.1.1 (next go))
+  use_fails (fault.At e) ends = (
+    noted_all.notes,
+    ends.1.0,
+    used.1,
+    record {
+      stays = ends.0;
+      placed = spot_after ends.0;
+      notes = notes_on old new ls ends.0.work.names apart asked (comparisons (searched known) fs m ts tail s ++ p.notes) found;
+    },
+    ends.1.2,
+    λ go. caught_fails noted_all.notes used ends.1.0 ends.1.1 (next go),
+  )
   use_fails fault.Full ends = ends
   use_fails fault.Memory ends = ends
+
+-- want of memory behind it
+pub use_left : (old new : Work) (region : Region) (u v : UnitScope) (ls : List Frames) (used : Result (Tree Identifier) Broken × ScopedState) (tree : number.Tree) → EndsHere (WorksOn new region) old new region u v ls (Ok tree) used → Leaves old new region u
+use_left old new region u v ls used tree h =
+    let counted = h.1.counted in
+    let few = h.1.stands.form.few_nodes in
+    record { work = h.1.work; few = omega (arith, counted, few) }

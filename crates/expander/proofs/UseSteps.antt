@@ -1,21 +1,20 @@
 -- A macro use gives a tree of at most 4,194,304 nodes, and defines nothing.
-use Rattle.std.proofs.Common.{◌≡◌, ℕ, ◌-◌, ◌≤◌, List, map, Bool, true, false, Option, Some, None, Result, Ok, Err, refl, sym, ap, ◌∙◌, subst, arith}
+use Rattle.std.proofs.Common.{◌≡◌, ℕ, ◌-◌, ◌≤◌, map, Bool, true, false, Option, Some, None, Result, Ok, Err, refl, sym, ap, ◌∙◌, subst}
 use Rattle.std.specs.Prelude.{◌&&◌, nat_le, nat_lt, if◌then◌else◌}
 use Rattle.std.proofs.lemmas.Bool.{leb-true}
 use Rattle.scheme_model.specs.Trees.{Tree, Trees, Tail}
 use Rattle.scheme_model.specs.Measures.{tree_size, tree_depth}
 use Rattle.scheme_model.specs.Identifiers.{Number}
 use Rattle.scheme_model.specs.Ident.{Ident as Identifier, Inserted}
-use Rattle.scheme_model.specs.ExpansionFaults.{Fault, named, NoRule, UseBudget, NodeBudget, DepthBudget, EllipsisLength, ◌>>◌}
-use Rattle.scheme_model.specs.RulesShape.{Rules, Names, dots_of}
+use Rattle.scheme_model.specs.ExpansionFaults.{Fault, named, NoRule, UseBudget, NodeBudget, DepthBudget, ◌>>◌}
+use Rattle.scheme_model.specs.RulesShape.{dots_of}
 use Rattle.scheme_model.specs.Meaning.{same_meaning}
-use Rattle.scheme_model.specs.Matching.{Chosen, matcher, first_match, Binding}
+use Rattle.scheme_model.specs.Matching.{Chosen, matcher, first_match}
 use Rattle.scheme_model.specs.Building.{Built, build_tree, within, or_lengths, build}
 use Rattle.scheme_model.specs.Requirements.{Known}
 use Rattle.scheme_model.specs.Cores.{Target}
 use Rattle.scheme_model.specs.Steps.{Broken, ◌>>=◌, done, fails}
 use Rattle.scheme_model.specs.Order.{Here, Transformer, given, target_of, used, use_of, max_uses, max_nodes}
-use Rattle.scheme_model.specs.CountedExpansion.{means_here}
 use Rattle.scheme_model.specs.ScopedExpansion.{Frames, ScopedState}
 use Rattle.expander.specs.Searched.{searched}
 

@@ -108,6 +108,7 @@ use_begins work u ls s scope fs at room e =
         few_uses = room;
         few_nodes = f.few_nodes;
         few_locals = f.few_locals;
+        definitions = f.definitions;
         keywords = f.keywords;
         met = f.met;
       };

@@ -1,8 +1,8 @@
 -- A core form that splices or defines hands on fewer nodes, or defines and binds fewer names, than it has nodes.
-use Rattle.std.proofs.Common.{◌≡◌, ℕ, suc, ◌+◌, ◌<◌, ◌≤◌, List, [], ◌∷◌, ◌++◌, map, length, Bool, true, false, Option, Some, None, Result, Ok, Err, refl, sym, ap, ◌∙◌, subst, arith}
+use Rattle.std.proofs.Common.{◌≡◌, ℕ, ◌+◌, ◌<◌, ◌≤◌, List, [], ◌∷◌, map, length, Bool, true, false, Option, Some, None, Result, Ok, Err, ap, subst, arith}
 use Rattle.std.specs.Prelude.{if◌then◌else◌}
 use Rattle.std.proofs.lemmas.List.{length-append, length-map}
-use Rattle.scheme_model.specs.Trees.{Tree, Trees, no_trees, tree, Tail, list}
+use Rattle.scheme_model.specs.Trees.{Tree, Trees, no_trees, tree, Tail}
 use Rattle.scheme_model.specs.Measures.{tree_size, trees_size, tail_size}
 use Rattle.scheme_model.specs.ExpansionFaults.{Named, Fault, BadForm, ◌>>◌}
 use Rattle.scheme_model.specs.Keywords.{CoreKeyword, IsQuote, IsQuasiquote, IsLambda, IsCaseLambda, IsIf, IsSet, IsBegin, IsDefine, IsDefineValues, IsDefineRecordType, IsDefineSyntax, IsLetSyntax, IsLetrecSyntax, IsCondExpand, IsSyntaxError, IsInclude}
@@ -15,7 +15,7 @@ use Rattle.core_forms.specs.Forms.{Shape, Sequence, Definition, Several, RecordT
 use Rattle.expander.specs.Judged.{clause_judged, is_nil, chosen_among}
 use Rattle.expander.specs.Passed.{IsPassed, choices_size, shape_weight}
 use Rattle.expander.specs.Seen.{takes_effect}
-use Rattle.expander.proofs.FitLaws.{Made, made, some_node, names_count, proper_is, some_is, list_size, first_size, formals_count}
+use Rattle.expander.proofs.FitLaws.{made, some_node, names_count, proper_is, some_is, list_size, first_size, formals_count}
 
 -- ---- clauses of `cond-expand`
 
@@ -109,31 +109,59 @@ fields_size (tree t ts) fs h =
 abbrev kept_or : Bool → RecordShape Identifier → Result (RecordShape Identifier) (Fault Identifier)
 kept_or b s = if b then Ok s else Err BadForm
 
+kept_fields : (b : Bool) (s r : RecordShape Identifier) → kept_or b s ≡ Ok r → s.fields ≡ r.fields
+kept_fields true s r e = let same : s ≡ r = cc in ap (λ (x : RecordShape Identifier). x.fields) same
+kept_fields false s r e = absurd cc
+
+-- what is read behind the fields, behind the predicate, and so on
+abbrev behind_fields : Named Identifier → Named Identifier × List (Named Identifier) → Named Identifier → List (FieldShape Identifier) → Result (RecordShape Identifier) (Fault Identifier)
+behind_fields n c pred fs =
+    distinct same_ident (map (λ f. f.field) fs) >> λ done. kept_or (all_among same_ident c.1 (map (λ f. f.field) fs)) (record { type = n; constructor = c.0; used = c.1; predicate = pred; fields = fs })
+
+abbrev behind_constructor : Named Identifier → Named Identifier × List (Named Identifier) → Tree Identifier × Trees Identifier → Result (RecordShape Identifier) (Fault Identifier)
+behind_constructor n c x = name_of x.0 >> λ pred. fields_of x.1 >> behind_fields n c pred
+
+abbrev behind_name : Named Identifier → Tree Identifier × Trees Identifier → Result (RecordShape Identifier) (Fault Identifier)
+behind_name n q = constructor_of q.0 >> λ c. first_of q.1 >> behind_constructor n c
+
+abbrev behind_type : Tree Identifier × Trees Identifier → Result (RecordShape Identifier) (Fault Identifier)
+behind_type p = name_of p.0 >> λ n. first_of p.1 >> behind_name n
+
+first_more : (n a b w : ℕ) → a + b ≤ n → 1 ≤ a → w ≤ b → 1 + w ≤ n
+first_more n a b w first one rest = omega (arith, first, one, rest)
+
+one_more : (n a b w k : ℕ) → a + b ≤ n → 1 ≤ a → k + w ≤ b → (k + 1) + w ≤ n
+one_more n a b w k first one rest = omega (arith, first, one, rest)
+
+fields_within : (n : Named Identifier) (c : Named Identifier × List (Named Identifier)) (pred : Named Identifier) (ts : Trees Identifier) (r : RecordShape Identifier) → (fields_of ts >> behind_fields n c pred) ≡ Ok r → fields_weight r.fields ≤ trees_size ts
+fields_within n c pred ts r h =
+    let a = made (fields_of ts) (behind_fields n c pred) r h in
+    let b = made (distinct same_ident (map (λ f. f.field) a.first)) (λ done. kept_or (all_among same_ident c.1 (map (λ f. f.field) a.first)) (record { type = n; constructor = c.0; used = c.1; predicate = pred; fields = a.first })) r a.then in
+    let same = kept_fields (all_among same_ident c.1 (map (λ f. f.field) a.first)) (record { type = n; constructor = c.0; used = c.1; predicate = pred; fields = a.first }) r b.then in
+    subst (λ (fs : List (FieldShape Identifier)). fields_weight fs ≤ trees_size ts) same (fields_size ts a.first a.read)
+
+predicate_within : (n : Named Identifier) (c : Named Identifier × List (Named Identifier)) (ts : Trees Identifier) (r : RecordShape Identifier) → (first_of ts >> behind_constructor n c) ≡ Ok r → 1 + fields_weight r.fields ≤ trees_size ts
+predicate_within n c ts r h =
+    let a = made (first_of ts) (behind_constructor n c) r h in
+    let b = made (name_of a.first.0) (λ pred. fields_of a.first.1 >> behind_fields n c pred) r a.then in
+    first_more (trees_size ts) (tree_size a.first.0) (trees_size a.first.1) (fields_weight r.fields) (first_size ts a.first a.read) (some_node a.first.0) (fields_within n c b.first a.first.1 r b.then)
+
+constructor_within : (n : Named Identifier) (ts : Trees Identifier) (r : RecordShape Identifier) → (first_of ts >> behind_name n) ≡ Ok r → 2 + fields_weight r.fields ≤ trees_size ts
+constructor_within n ts r h =
+    let a = made (first_of ts) (behind_name n) r h in
+    let b = made (constructor_of a.first.0) (λ c. first_of a.first.1 >> behind_constructor n c) r a.then in
+    one_more (trees_size ts) (tree_size a.first.0) (trees_size a.first.1) (fields_weight r.fields) 1 (first_size ts a.first a.read) (some_node a.first.0) (predicate_within n b.first a.first.1 r b.then)
+
+type_within : (ts : Trees Identifier) (r : RecordShape Identifier) → (first_of ts >> behind_type) ≡ Ok r → 3 + fields_weight r.fields ≤ trees_size ts
+type_within ts r h =
+    let a = made (first_of ts) behind_type r h in
+    let b = made (name_of a.first.0) (λ n. first_of a.first.1 >> behind_name n) r a.then in
+    one_more (trees_size ts) (tree_size a.first.0) (trees_size a.first.1) (fields_weight r.fields) 2 (first_size ts a.first a.read) (some_node a.first.0) (constructor_within b.first a.first.1 r b.then)
+
 record_in_size : (ts : Trees Identifier) (tail : Tail Identifier) (r : RecordShape Identifier) → record_in same_ident ts tail ≡ Ok r → 3 + fields_weight r.fields ≤ trees_size ts
 record_in_size ts tail r h =
-    let a = made (proper_of ts tail) (λ us. first_of us >> λ p. name_of p.0 >> λ n. first_of p.1 >> λ q. constructor_of q.0 >> λ c. first_of q.1 >> λ x. name_of x.0 >> λ pred. fields_of x.1 >> λ fs. distinct same_ident (map (λ f. f.field) fs) >> λ done. if all_among same_ident c.1 (map (λ f. f.field) fs) then Ok (record { type = n; constructor = c.0; used = c.1; predicate = pred; fields = fs }) else Err BadForm) r h in
-    let whole : trees_size a.first ≡ trees_size ts = ap trees_size (proper_is ts a.first tail a.read) in
-    let b = made (first_of a.first) (λ p. name_of p.0 >> λ n. first_of p.1 >> λ q. constructor_of q.0 >> λ c. first_of q.1 >> λ x. name_of x.0 >> λ pred. fields_of x.1 >> λ fs. distinct same_ident (map (λ f. f.field) fs) >> λ done. if all_among same_ident c.1 (map (λ f. f.field) fs) then Ok (record { type = n; constructor = c.0; used = c.1; predicate = pred; fields = fs }) else Err BadForm) r a.then in
-    let n = made (name_of b.first.0) (λ n. first_of b.first.1 >> λ q. constructor_of q.0 >> λ c. first_of q.1 >> λ x. name_of x.0 >> λ pred. fields_of x.1 >> λ fs. distinct same_ident (map (λ f. f.field) fs) >> λ done. if all_among same_ident c.1 (map (λ f. f.field) fs) then Ok (record { type = n; constructor = c.0; used = c.1; predicate = pred; fields = fs }) else Err BadForm) r b.then in
-    let q = made (first_of b.first.1) (λ q. constructor_of q.0 >> λ c. first_of q.1 >> λ x. name_of x.0 >> λ pred. fields_of x.1 >> λ fs. distinct same_ident (map (λ f. f.field) fs) >> λ done. if all_among same_ident c.1 (map (λ f. f.field) fs) then Ok (record { type = n.first; constructor = c.0; used = c.1; predicate = pred; fields = fs }) else Err BadForm) r n.then in
-    let c = made (constructor_of q.first.0) (λ c. first_of q.first.1 >> λ x. name_of x.0 >> λ pred. fields_of x.1 >> λ fs. distinct same_ident (map (λ f. f.field) fs) >> λ done. if all_among same_ident c.1 (map (λ f. f.field) fs) then Ok (record { type = n.first; constructor = c.0; used = c.1; predicate = pred; fields = fs }) else Err BadForm) r q.then in
-    let x = made (first_of q.first.1) (λ x. name_of x.0 >> λ pred. fields_of x.1 >> λ fs. distinct same_ident (map (λ f. f.field) fs) >> λ done. if all_among same_ident c.first.1 (map (λ f. f.field) fs) then Ok (record { type = n.first; constructor = c.first.0; used = c.first.1; predicate = pred; fields = fs }) else Err BadForm) r c.then in
-    let y = made (name_of x.first.0) (λ pred. fields_of x.first.1 >> λ fs. distinct same_ident (map (λ f. f.field) fs) >> λ done. if all_among same_ident c.first.1 (map (λ f. f.field) fs) then Ok (record { type = n.first; constructor = c.first.0; used = c.first.1; predicate = pred; fields = fs }) else Err BadForm) r x.then in
-    let z = made (fields_of x.first.1) (λ fs. distinct same_ident (map (λ f. f.field) fs) >> λ done. if all_among same_ident c.first.1 (map (λ f. f.field) fs) then Ok (record { type = n.first; constructor = c.first.0; used = c.first.1; predicate = y.first; fields = fs }) else Err BadForm) r y.then in
-    let w = made (distinct same_ident (map (λ f. f.field) z.first)) (λ done. if all_among same_ident c.first.1 (map (λ f. f.field) z.first) then Ok (record { type = n.first; constructor = c.first.0; used = c.first.1; predicate = y.first; fields = z.first }) else Err BadForm) r z.then in
-    let first = first_size a.first b.first b.read in
-    let second = first_size b.first.1 q.first q.read in
-    let third = first_size q.first.1 x.first x.read in
-    let one = some_node b.first.0 in
-    let two = some_node q.first.0 in
-    let three = some_node x.first.0 in
-    let fields = fields_size x.first.1 z.first z.read in
-    subst (λ (fs : List (FieldShape Identifier)). 3 + fields_weight fs ≤ trees_size ts) (by (all_among same_ident c.first.1 (map (λ f. f.field) z.first)) (record { type = n.first; constructor = c.first.0; used = c.first.1; predicate = y.first; fields = z.first }) w.then)
-    (omega (arith, whole, first, second, third, one, two, three, fields))
-  where
-    by : (b : Bool) (s : RecordShape Identifier) → kept_or b s ≡ Ok r → s.fields ≡ r.fields
-    by true s e = let same : s ≡ r = cc in ap (λ (x : RecordShape Identifier). x.fields) same
-    by false s e = absurd cc
+    let a = made (proper_of ts tail) (λ us. first_of us >> behind_type) r h in
+    subst (λ (us : Trees Identifier). 3 + fields_weight r.fields ≤ trees_size us) (proper_is ts a.first tail a.read) (type_within a.first r a.then)
 
 record_size : (ts : Trees Identifier) (tail : Tail Identifier) (r : RecordShape Identifier) → record_of same_ident ts tail ≡ Ok r → length r.fields + length (record_names r) ≤ trees_size ts
 record_size ts tail r h =
@@ -187,10 +215,10 @@ weight_within IsLetrecSyntax mark ts tail m e h = absurd cc
 weight_within IsCondExpand mark ts tail m e h =
     weighs (some_of ts tail >> choices_in) Choices m (1 + trees_size ts)
     (λ cs is.
-        let a = made (some_of ts tail) choices_in cs is in
-        let same : trees_size a.first ≡ trees_size ts = ap trees_size (some_is ts a.first tail a.read) in
-        let few = choices_fit a.first cs a.then in
-        omega (arith, same, few)) h
+    let a = made (some_of ts tail) choices_in cs is in
+    let same : trees_size a.first ≡ trees_size ts = ap trees_size (some_is ts a.first tail a.read) in
+    let few = choices_fit a.first cs a.then in
+    omega (arith, same, few)) h
 weight_within IsSyntaxError mark ts tail m e h = absurd cc
 weight_within IsInclude mark ts tail m e h = absurd cc
 

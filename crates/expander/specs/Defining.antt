@@ -19,6 +19,7 @@ use Rattle.scope_env.specs.Environment.{with_bound}
 use Rattle.core_forms.specs.Parts.{IsName}
 use Rattle.core_forms.specs.declared.shape.NamePart.{NamePart}
 use Rattle.expander.specs.Binds.{with_locals}
+use Rattle.expander.specs.Stepped.{with_told}
 use Rattle.expander.specs.State.{IsMacro, EnvStands, Stands}
 use Rattle.expander.specs.Kept.{NotesFor, SpotFor}
 use Rattle.expander.specs.Outcomes.{SameForm, Breaks}
@@ -68,12 +69,13 @@ abbrev pub next_here : UnitScope → (in_body : Bool) → (ident : ℕ) → code
 next_here u true ident = meanings.Local u.form.budget.locals
 next_here u false ident = meanings.Global u.unit ident
 
--- the scope binds an identifier to what it means now; a body takes a local, and a unit tells which identifiers it defines
-abbrev pub Places : UnitScope → UnitScope → (in_body : Bool) → (scope ident : ℕ) → code_meaning.Meaning → (is_macro : Bool) → Type 0
-Places old new true scope ident m k = new ≡ record (with_locals old (old.form.budget.locals + 1)) { env = with_bound old.env scope ident m }
-Places old new false scope ident m k =
-    (defined : BTreeMap ℕ Bool) × (new ≡ record old { env = with_bound old.env scope ident m; defined = defined })
-    × ((n : ℕ) → get nat_cmp defined n ≡ (if is_eq (nat_cmp ident n) then Some k else get nat_cmp old.defined n)) × (btree_map_len defined ≡ btree_map_len old.defined + 1)
+-- the scope binds a name to what it means now; a body takes a local, and a unit tells which identifiers it defines, and its form
+-- the binder
+abbrev pub Places : UnitScope → UnitScope → (in_body : Bool) → (scope : ℕ) → NamePart → code_meaning.Meaning → (is_macro : Bool) → Type 0
+Places old new true scope name m k = new ≡ record (with_locals old (old.form.budget.locals + 1)) { env = with_bound old.env scope name.ident m }
+Places old new false scope name m k =
+    (defined : BTreeMap ℕ Bool) × (new ≡ record (with_told old name) { env = with_bound old.env scope name.ident m; defined = defined })
+    × ((n : ℕ) → get nat_cmp defined n ≡ (if is_eq (nat_cmp name.ident n) then Some k else get nat_cmp old.defined n)) × (btree_map_len defined ≡ btree_map_len old.defined + 1)
 
 -- ---- definitions
 

@@ -16,7 +16,7 @@ use Rattle.syntax_tree.specs.declared.trees.Work.{Work}
 use Rattle.syntax_tree.specs.declared.meaning.Meaning.TheVariants.{Global}
 use Rattle.expander.specs.Macros.{Keeps}
 use Rattle.expander.specs.Opened.{started, nothing_yet}
-use Rattle.expander.specs.Stepped.{IsFresh, with_definition, with_macros}
+use Rattle.expander.specs.Stepped.{with_definition, with_macros}
 use Rattle.expander.specs.Units.{UnitStands}
 use Rattle.expander.specs.declared.macros.Macro.{Macro}
 use Rattle.expander.specs.declared.macros.Macros.{Macros}
@@ -43,14 +43,13 @@ abbrev pub prelude_state : List PreludeMacro → ScopedState
 prelude_state [] = prelude_begun
 prelude_state (m ∷ ms) = prelude_with m.name (prelude_rules (rules_parts m.parts proper)) (prelude_state ms)
 
--- no form was at work yet, and no other unit was begun
+-- no other unit was begun
 pub record IsPrelude (s : ScopedState) : Type 0 where
   pub unit : s.unit ≡ prelude_unit
   pub form : s.form ≡ 0
   pub entry : s.entry ≡ prelude_entry
   pub places : s.places ≡ []
   pub definitions : s.definitions ≡ []
-  pub fresh : IsFresh s 0
 
 -- a macro of this name can be added: it is in the unit's own scope, and has no definition yet
 pub record CanAdd (work : Work) (u : UnitScope) (name : ℕ) : Type 0 where

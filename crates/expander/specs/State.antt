@@ -1,6 +1,6 @@
 -- What the scopes, the macros and the counts of the code stand for: a state of the expansion by scopes. A scope's number stands for
 -- the frames that its place in a list tells.
-use Rattle.std.specs.Prelude.{◌≡◌, ℕ, ◌+◌, ◌*◌, ◌^◌, ◌<◌, ◌≤◌, List, [], ◌∷◌, Bool, true, false, reverse, length, slice_get, Option, Some, None}
+use Rattle.std.specs.Prelude.{◌≡◌, ℕ, ◌+◌, ◌*◌, ◌^◌, ◌<◌, ◌≤◌, ◌==◌, List, [], ◌∷◌, Bool, true, false, filter, reverse, length, slice_get, Option, Some, None}
 use Rattle.std.specs.Option.{option_map}
 use Rattle.std.specs.FinMap as map
 use Rattle.std.specs.BTreeMap.{get, btree_map_len}
@@ -10,7 +10,7 @@ use Rattle.scheme_model.specs.Ident.{Ident as Identifier}
 use Rattle.scheme_model.specs.Meaning.{Meaning, Local, Global, Standard, Free}
 use Rattle.scheme_model.specs.Leaves.{Leaf, leaves_of}
 use Rattle.scheme_model.specs.Order.{Transformer, is_some, max_uses, max_nodes}
-use Rattle.scheme_model.specs.Substitution.{defined_in, definition_count}
+use Rattle.scheme_model.specs.Substitution.{Defined, Table, defined_in, definition_count}
 use Rattle.scheme_model.specs.ScopedExpansion.{Frame, Bind, Enter, Frames, BodyDefinitions, ScopedState, around, macro_at}
 use Rattle.syntax_tree.specs.Names.{Names}
 use Rattle.syntax_tree.specs.Macros.{identifiers, IsIdent, RulesFor, AreChecked}
@@ -25,6 +25,8 @@ use Rattle.scope_env.specs.Standing.{EnvFor, StandsFor}
 use Rattle.scope_env.specs.Moved.{parent_of, IsNamed, AreNamed, AreGivenNamed}
 use Rattle.core_forms.specs.Parts.{IsName}
 use Rattle.core_tree.specs.Names.{AllMatch, IsTarget, IsUse}
+use Rattle.core_tree.specs.Units.{IsDefinition, defined_by}
+use Rattle.core_tree.specs.declared.cores.Binder as code_binder
 use Rattle.expander.specs.Chains.{chain_in, uses_in, given_in}
 use Rattle.rules_check.specs.Gathered.{AreLeaves}
 use Rattle.expander.specs.declared.macros.Macro as code_macro
@@ -111,6 +113,21 @@ pub record EnvStands (names : Names) (env : Environment) (ls : List Frames) (s :
   pub named : (n : ℕ) (fs : Frames) → slice_get ls n ≡ Some fs → AreNamed names (chain_in s fs)
   pub given_named : AreGivenNamed names (given_in s)
 
+-- ---- definitions of units
+
+-- definitions, latest first, each with how many there were before it
+abbrev pub numbered : List Defined → List (ℕ × Defined)
+numbered [] = []
+numbered (d ∷ ds) = (length ds, d) ∷ numbered ds
+
+-- those of a unit that are of this form, as the unit numbers them
+abbrev pub numbered_in : (unit form : ℕ) → Table → List (ℕ × Defined)
+numbered_in unit form table = filter (λ (d : ℕ × Defined). d.1.form == form) (numbered (defined_by unit table))
+
+-- the definition of a form by its number
+abbrev pub IsNumbered : Names → (form : ℕ) → code_binder.Binder → ℕ × Defined → Type 0
+IsNumbered names form b d = IsDefinition names d.0 (form, b) d.1
+
 -- ---- the form at work
 
 -- the most locals of a form that has counted so many nodes
@@ -126,6 +143,7 @@ pub record FormStands (names : Names) (f : code_form.FormAtWork) (s : ScopedStat
   pub few_uses : f.budget.uses ≤ max_uses
   pub few_nodes : f.budget.nodes ≤ max_nodes
   pub few_locals : f.budget.locals ≤ most_locals f.budget.nodes
+  pub definitions : AllMatch (IsNumbered names s.form) (reverse f.trace.definitions) (numbered_in s.unit s.form s.table)
   pub keywords : AllMatch (IsTarget names s.unit s.form) f.trace.keywords (reverse (s.keywords s.form))
   pub met : AllMatch (IsUse names s.unit s.form) f.trace.uses (reverse (s.met s.form))
 

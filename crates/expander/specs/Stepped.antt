@@ -1,6 +1,6 @@
 -- What the operations make of a state and of frames, and what the code makes of its counts and scopes there.
 use Rattle.std.specs.Prelude.{◌≡◌, ℕ, suc, ◌+◌, List, [], ◌∷◌, ◌++◌, length, slice_get, Bool, false, ◌||◌, Option, Some}
-use Rattle.std.specs.BTreeMap.{BTreeMap}
+use Rattle.std.specs.BTreeMap.{BTreeMap, btree_map_len}
 use Rattle.scheme_model.specs.declared.Occ.{Occ}
 use Rattle.scheme_model.specs.Identifiers.{Number, same_number}
 use Rattle.scheme_model.specs.Ident.{Ident as Identifier}
@@ -16,9 +16,12 @@ use Rattle.syntax_tree.specs.Names.{Names}
 use Rattle.scope_env.specs.Environment.{Environment, with_bound, with_use}
 use Rattle.scope_env.specs.Resolved.{bound_at}
 use Rattle.scope_env.specs.Standing.{bound_by}
+use Rattle.core_forms.specs.declared.shape.NamePart.{NamePart}
+use Rattle.core_tree.specs.declared.cores.Binder as code_binder
 use Rattle.core_tree.specs.declared.cores.Target as code_target
 use Rattle.core_tree.specs.declared.traces.MacroUse as code_use
 use Rattle.expander.specs.Chains.{body_chain}
+use Rattle.expander.specs.State.{numbered_in}
 use Rattle.expander.specs.declared.macros.Macros as code_macros
 use Rattle.expander.specs.declared.scope.UnitScope.{UnitScope}
 
@@ -114,6 +117,13 @@ used fs s = record s { uses = at_form s.form suc s.uses; places = record { use_n
 abbrev pub with_definition : UnitScope → ℕ → BTreeMap ℕ Bool → UnitScope
 with_definition u ident defined = record u { env = with_bound u.env u.root ident (Global u.unit ident); defined = defined }
 
+-- the form at work tells what it defines
+abbrev pub own_binder : UnitScope → NamePart → code_binder.Binder
+own_binder u name = record { number = btree_map_len u.defined; ident = name.ident; occ = name.occ }
+
+abbrev pub with_told : UnitScope → NamePart → UnitScope
+with_told u name = record u { form = record u.form { trace = record u.form.trace { definitions = u.form.trace.definitions ++ own_binder u name ∷ [] } } }
+
 abbrev pub defined_here : Identifier → Option Occ → Bool → ScopedState → ScopedState
 defined_here i occ keyword s = record s { table = record { unit = s.unit; form = s.form; ident = i; keyword = keyword; occ = occ } ∷ s.table }
 
@@ -123,10 +133,11 @@ defined_here i occ keyword s = record s { table = record { unit = s.unit; form =
 abbrev pub turned : ℕ → ScopedState → ScopedState
 turned n s = record s { form = n }
 
--- the form has counted and met nothing yet
+-- the form has counted, met and defined nothing yet
 pub record IsFresh (s : ScopedState) (n : ℕ) : Type 0 where
   pub locals : s.locals n ≡ 0
   pub uses : s.uses n ≡ 0
   pub nodes : s.nodes n ≡ 0
   pub keywords : s.keywords n ≡ []
   pub met : s.met n ≡ []
+  pub definitions : numbered_in s.unit n s.table ≡ []

@@ -1,5 +1,5 @@
 //! What was looked up and compared before a definition (R7RS 5.3, 5.4): a definition that would change an answer is refused.
-ghost use Rattle.std.specs.Prelude.{◌≡◌, ℕ, ◌≤◌, ◌<◌, [], ◌∷◌, ◌++◌, length, slice_get, false, nat_eq, Some, OnOk, if◌then◌else◌};
+ghost use Rattle.std.specs.Prelude.{◌≡◌, ℕ, ◌≤◌, ◌<◌, [], ◌∷◌, ◌++◌, length, slice_get, false, nat_eq, Some, IfOk, OnOk, if◌then◌else◌};
 ghost use Rattle.scheme_model.specs.Ident.{Ident as Identifier};
 ghost use Rattle.syntax_tree.specs.Names.{Names};
 ghost use Rattle.syntax_tree.specs.Macros.{IsIdent};
@@ -53,6 +53,18 @@ impl Asked {
             notes: Vec::new(alloc),
             asking: BTreeMap::new(alloc),
         }
+    }
+
+    /// The same notes once more.
+    pub fn copy(&self) -> Mem<Asked>
+        ensures notes { IfOk result (λ asked. asked.notes.items ≡ self.now.notes.items) }
+        ensures asking { IfOk result (λ asked. (n : ℕ) → numbers_in asked n ≡ numbers_in self.now n) }
+    {
+        Ok(Asked {
+            alloc: self.alloc,
+            notes: Vec::from_slice(self.alloc, self.notes.as_slice())?,
+            asking: self.asking.clone()?,
+        })
     }
 
     /// Adds a note.

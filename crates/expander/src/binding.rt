@@ -53,7 +53,8 @@ impl UnitScope {
         let mut binders = Vec::new(self.alloc);
         for name in names {
             let binder = self.take_local(*name);
-            self.env.bind(inner, name.ident, Meaning::Local(binder.number))?;
+            self.env
+                .bind(inner, name.ident, Meaning::Local(binder.number))?;
             binders.push(binder)?;
         }
         Ok((inner, binders))

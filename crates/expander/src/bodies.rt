@@ -22,7 +22,6 @@ ghost use Rattle.expander.specs.State.{Stands};
 ghost use Rattle.expander.specs.Outcomes.{At as Stand, CanLook, EndsHere, Runs};
 ghost use Rattle.expander.specs.RulesTold.{Tests};
 
-
 use crate::asked::Asked;
 use crate::expressions::At;
 use crate::fault::ExpandFault;
@@ -145,11 +144,8 @@ impl UnitScope {
         work.symbols.told_apart();
         for k in 0..macros.len() {
             let kept = self.read_macro(alloc, work, scope, here, macros[k].rules)?;
-            self.macros.keep(
-                self.form.number,
-                Meaning::Local(binders[k].number),
-                kept,
-            )?;
+            self.macros
+                .keep(self.form.number, Meaning::Local(binders[k].number), kept)?;
         }
         Ok(())
     }

@@ -16,24 +16,43 @@ pub const MAX_NODES: u32 = 200_000;
 /// The codes of faults.
 pub mod code {
     pub const BAD_RULES: u32 = 21;
+
     pub const TWO_ELLIPSES: u32 = 22;
+
     pub const DUPLICATE_VARIABLE: u32 = 23;
+
     pub const ELLIPSIS_DEPTH: u32 = 24;
+
     pub const IDLE_ELLIPSIS: u32 = 25;
+
     pub const NO_RULE: u32 = 26;
+
     pub const ELLIPSIS_LENGTH: u32 = 27;
+
     pub const BAD_FORM: u32 = 31;
+
     pub const DUPLICATE_BINDER: u32 = 32;
+
     pub const BAD_PLACE: u32 = 33;
+
     pub const BAD_RECORD: u32 = 34;
+
     pub const BAD_QUASI: u32 = 35;
+
     pub const KEYWORD_REDEFINED: u32 = 41;
+
     pub const DUPLICATE: u32 = 42;
+
     pub const KEYWORD_AS_VALUE: u32 = 43;
+
     pub const USE_BUDGET: u32 = 44;
+
     pub const NODE_BUDGET: u32 = 45;
+
     pub const DEPTH_BUDGET: u32 = 46;
+
     pub const SYNTAX_ERROR: u32 = 47;
+
     pub const INCLUDE_REFUSED: u32 = 48;
 }
 

@@ -113,7 +113,7 @@ impl UnitScope {
         if self.is_defined(spot, name.ident) {
             return Err(self.fails_at(here, code::DUPLICATE, name));
         }
-        self.place(spot, name.ident, meaning, coming.is_macro)?;
+        self.place(spot, name, meaning, coming.is_macro)?;
         match kept {
             None => Ok(()),
             Some(kept) => {
@@ -123,18 +123,25 @@ impl UnitScope {
         }
     }
 
-    /// Binds an identifier that has no definition there yet: in a body to the next local, in a unit as one that it defines.
-    fn place(&mut self, spot: Spot, ident: IdNo, meaning: Meaning, is_macro: bool) -> Mem<()>
+    /// Binds a name that has no definition there yet: in a body to the next local, in a unit as one that it defines, which the
+    /// form tells.
+    fn place(&mut self, spot: Spot, name: NamePart, meaning: Meaning, is_macro: bool) -> Mem<()>
         requires scope { spot.scope < length self.old.env.scopes }
         requires room { self.old.form.budget.locals + 1 < 2 ^ 64 }
-        requires undefined { spot.in_body ≡ false → get nat_cmp self.old.defined ident ≡ None }
-        ensures { OnOk result (Places self.old self.new spot.in_body spot.scope ident meaning is_macro) }
+        requires undefined { spot.in_body ≡ false → get nat_cmp self.old.defined name.ident ≡ None }
+        ensures { OnOk result (Places self.old self.new spot.in_body spot.scope name meaning is_macro) }
     {
-        self.env.bind(spot.scope, ident, meaning)?;
+        self.env.bind(spot.scope, name.ident, meaning)?;
         if spot.in_body {
             self.form.budget.locals += 1;
         } else {
-            self.defined.insert(ident, is_macro)?;
+            let binder = Binder {
+                number: self.defined.len() as u64,
+                ident: name.ident,
+                occ: name.occ,
+            };
+            self.defined.insert(name.ident, is_macro)?;
+            self.form.trace.definitions.push(binder)?;
         }
         Ok(())
     }

@@ -13,6 +13,7 @@ mod expressions;
 mod fault;
 mod heads;
 mod items;
+mod known;
 pub mod laws;
 mod libraries;
 mod macros;
@@ -27,5 +28,6 @@ mod uses;
 
 pub use fault::ExpandFault;
 pub use items::Item;
+pub use known::Libraries;
 pub use prelude::units_go_on;
 pub use scope::{Budget, Imported, UnitScope};

@@ -36,12 +36,11 @@ ghost use Rattle.syntax_tree.specs.declared.trees.Work.{Work as AnyWork};
 ghost use Rattle.expander.specs.declared.asked.Asked.{Asked as AnyAsked};
 ghost use Rattle.expander.specs.declared.items.Spot.{Spot as AnySpot};
 
-
 use crate::asked::{Asked, Asking, Note};
 use crate::bodies::forms_at;
 use crate::counting::misread;
-use crate::fault::ExpandFault;
 use crate::defining::Record;
+use crate::fault::ExpandFault;
 use crate::heads::Head;
 use crate::items::{Form, Kept, Pending, Spot};
 use crate::requirements::{Judge, choose};
@@ -54,7 +53,7 @@ use scheme_model::Occ;
 use scope_env::ScopeNo;
 use std::alloc::Global;
 use syntax_tree::look::{Look, look_at};
-use syntax_tree::symbols::{Ident, IdNo};
+use syntax_tree::symbols::{IdNo, Ident};
 use syntax_tree::trees::{Leaf, Node, Region, Tree, Work};
 
 /// The place of the innermost form read from a text, once this tree is come to. An identifier that a use inserted wasn't read.
@@ -182,7 +181,9 @@ impl UnitScope {
         let head = self.head_of(work, spot.scope, name.ident);
         self.note_head(work, spot, name, head, asked)?;
         match head {
-            Head::Core(core) => self.pass_core(alloc, work, spot, here, core, keyword, form, pending, asked),
+            Head::Core(core) => self.pass_core(
+                alloc, work, spot, here, core, keyword, form, pending, asked,
+            ),
             Head::Macro => {
                 let at = Use {
                     scope: spot.scope,
@@ -192,7 +193,11 @@ impl UnitScope {
                 };
                 self.pass_use(alloc, work, region, at, pending, asked)
             }
-            Head::Auxiliary(_) | Head::Other => {
+            Head::Auxiliary(_) => {
+                pending.aside.push(Kept::Expression(form))?;
+                Ok(())
+            }
+            Head::Other => {
                 pending.aside.push(Kept::Expression(form))?;
                 Ok(())
             }
@@ -308,7 +313,7 @@ impl UnitScope {
         pending: &mut Pending,
         asked: &mut Asked,
     ) -> Result<(), ExpandFault>
-        requires shape { (m : Shape) × ShapeFor work.now shape m × ((region : AnyRegion) × CanPass work.now region self.old spot (shape_weight m) pending.old asked.old) }
+        requires shape { (m : Shape) × ShapeFor work.now shape m × (shape_weight m ≤ 4194304) × ((region : AnyRegion) × CanPass work.now region self.old spot (shape_weight m) pending.old asked.old) }
         ensures { (known : Known) (region : AnyRegion) (ls : List Frames) (s : ScopedState) (fs : Frames) (form : ModelForm Identifier) (m : Shape) (p : ModelPending Identifier Place) (given : ℕ) →
             Knows self.old.libraries known → Stands work.now self.old ls s → SpotFor work.now self.old ls s spot fs → ShapeFor work.now shape m → ShapeNamed work.now region shape → IsPassed m → ShapeFits m →
             PendingFor work.now region self.old.unit self.old.form.number pending.old p → NotesFor work.now ls asked.old p.notes → shape_weight m < given →

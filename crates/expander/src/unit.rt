@@ -1,20 +1,20 @@
 //! Units, one after another, and their forms: the calls of this crate (R7RS 5.1, 5.6).
 ghost use Rattle.std.specs.Prelude.{◌≡◌, ℕ, List, [], ◌∷◌, ◌++◌, length, map, Option, IfOk, ◌+◌, ◌-◌, ◌^◌, ◌<◌, ◌≤◌, Err, OnOk};
-ghost use Rattle.std.specs.BTreeSet.{contains_text};
-ghost use Rattle.scheme_model.specs.Program.{has_name, enough_turns};
+ghost use Rattle.scheme_model.specs.Program.{enough_turns};
 ghost use Rattle.expander.specs.Seen.{item_of};
 ghost use Rattle.scheme_model.specs.Ident.{Ident as Identifier};
 ghost use Rattle.scheme_model.specs.Expression.{expand, item_part};
 ghost use Rattle.scheme_model.specs.UnitExpansion.{max_depth};
 ghost use Rattle.core_tree.specs.Cores.{PartStands};
-ghost use Rattle.scheme_model.specs.Requirements.{Known, LibraryName};
+ghost use Rattle.scheme_model.specs.Requirements.{Known};
 ghost use Rattle.scheme_model.specs.Trees.{Tree as ModelTree};
 ghost use Rattle.scheme_model.specs.Order.{Note, Item as ModelItem};
 ghost use Rattle.scheme_model.specs.ScopedExpansion.{Frames, Place, ScopedState};
 ghost use Rattle.syntax_tree.specs.Names.{KeepsNames};
 ghost use Rattle.syntax_tree.specs.Works.{IsOpened, StandsFor, KeepsTrees, SameRegions, AddsIn, live_count};
 ghost use Rattle.core_tree.specs.Names.{AllMatch};
-ghost use Rattle.expander.specs.Judged.{Knows, library_text};
+ghost use Rattle.expander.specs.Judged.{Knows};
+ghost use Rattle.expander.specs.Copied.{SameUnits};
 ghost use Rattle.expander.specs.Opened.{IsNew, AreNumbered, ImportsFor, HasUnits, BindsImport, nothing_yet, started, with_imports};
 ghost use Rattle.syntax_tree.specs.declared.trees.Work.{Work as AnyWork};
 ghost use Rattle.expander.specs.Outcomes.{IsAtWork, Ends, MayFill, HasRoom, Spends};
@@ -29,13 +29,14 @@ use crate::bodies::forms_at;
 use crate::expressions::At;
 use crate::fault::ExpandFault;
 use crate::items::{Item, Kept, Pending, Spot};
+use crate::known::Libraries;
 use crate::macros::Macros;
 use crate::prelude::PRELUDE;
 use crate::scope::{Budget, FormAtWork, Imported, UnitScope};
 use core_tree::cores::CorePart;
 use core_tree::traces::Trace;
 use core_tree::units::ExpandedItem;
-use ls_base::{Items, Mem, Steps, Text};
+use ls_base::{Items, Mem, Steps};
 use scope_env::{Env, ScopeNo};
 use std::alloc::Global;
 use std::collections::{BTreeMap, BTreeSet};
@@ -64,44 +65,40 @@ impl UnitScope {
             libraries: BTreeSet::new(alloc),
             defined: BTreeMap::new(alloc),
             asked: Asked::new(alloc),
-            form: FormAtWork {
-                number: 0,
-                budget: Budget {
-                    uses: 0,
-                    nodes: 0,
-                    locals: 0,
-                },
-                trace: Trace {
-                    definitions: Items::new(alloc),
-                    keywords: Items::new(alloc),
-                    uses: Items::new(alloc),
-                },
-            },
+            form: no_form(alloc),
         }
     }
 
-    /// Opens a unit that wasn't opened before, with what it imports, and with the names of the libraries that there are. The
-    /// scopes and macros of the units before stay.
+    /// From now on these are the libraries that there are.
+    pub fn know(&mut self, libraries: Libraries)
+        ensures after { self.new ≡ record self.old { libraries = libraries.names } }
+        ensures knows { (known : Known) → Knows libraries.names known → Knows self.new.libraries known }
+        ensures rests { (work : AnyWork) (ls : List Frames) (s : ScopedState) (notes : List (Note Place)) → UnitStands work self.old ls s notes → UnitStands work self.new ls s notes }
+    {
+        let Libraries { names } = libraries;
+        self.libraries = names;
+    }
+
+    /// Opens a unit that wasn't opened before, with what it imports. The scopes and macros of the units before stay, and so do the
+    /// libraries that there are.
     pub fn begin_unit(
         &mut self,
         work: &mut Work,
         unit: u32,
         kind: UnitKind,
         imports: &[Imported],
-        libraries: &Items<Text>,
     ) -> Mem<()>
         requires new { IsNew self.old unit }
         requires numbered { AreNumbered work.old.symbols imports.now }
         ensures rests { (ls : List Frames) (s : ScopedState) (notes : List (Note Place)) (imported : List ℕ → Option ModelMeaning) →
             UnitStands work.old self.old ls s notes → ImportsFor work.old.symbols imports.now imported →
             OnOk result (UnitStands work.new self.new (ls ++ [] ∷ []) (started unit (is_program kind) (with_imports unit imported s.entry) s) []) }
-        ensures knows { (known : Known) → ((n : LibraryName) → known n ≡ has_name libraries.now (library_text n)) → OnOk result (Knows self.new.libraries known) }
+        ensures knows { (known : Known) → Knows self.old.libraries known → Knows self.new.libraries known }
         ensures others { (v : ℕ) → (v ≡ unit → ⊥) → IsNew self.old v → OnOk result (IsNew self.new v) }
         ensures trees { work.new.trees ≡ work.old.trees }
         ensures symbols { work.new.symbols.symbols ≡ work.old.symbols.symbols }
         ensures names { KeepsNames work.old.symbols work.new.symbols }
     {
-        self.libraries = names(self.alloc, libraries.as_slice())?;
         self.start_unit(work, unit, kind, imports)
     }
 
@@ -163,6 +160,28 @@ impl UnitScope {
         work.symbols.told_apart();
         self.env.bind(root, ident, imported.meaning)?;
         Ok(())
+    }
+
+    /// The same units once more, while no form is at work. What is done with one doesn't change the other.
+    pub fn copy(&self) -> Mem<UnitScope>
+        ensures same { IfOk result (SameUnits self.now) }
+        ensures rests { (work : AnyWork) (ls : List Frames) (s : ScopedState) (notes : List (Note Place)) → UnitStands work self.now ls s notes →
+            IfOk result (λ u. UnitStands work u ls s notes) }
+        ensures knows { (known : Known) → Knows self.now.libraries known → IfOk result (λ u. Knows u.libraries known) }
+        ensures others { (v : ℕ) → IsNew self.now v → IfOk result (λ u. IsNew u v) }
+    {
+        Ok(UnitScope {
+            alloc: self.alloc,
+            env: self.env.copy()?,
+            macros: self.macros.copy()?,
+            unit: self.unit,
+            kind: self.kind,
+            root: self.root,
+            libraries: self.libraries.clone()?,
+            defined: self.defined.clone()?,
+            asked: self.asked.copy()?,
+            form: no_form(self.alloc),
+        })
     }
 
     /// Goes through a form of the open unit: what it sets aside. Its definitions take effect.
@@ -236,7 +255,9 @@ impl UnitScope {
     {
         self.turn(number, *budget, trace);
         let before = budget.nodes;
-        match self.expand_apart(work, region, item) {
+        let part = self.expand_apart(work, region, item);
+        work.symbols.told_apart();
+        match part {
             Ok(part) => {
                 self.rest(budget, trace, steps);
                 Ok(ExpandedItem {
@@ -309,7 +330,7 @@ impl UnitScope {
         self.asked = asked;
         passed?;
         let Pending { todo: _, aside } = pending;
-        items(alloc, aside)
+        Ok(items(alloc, aside)?)
     }
 
     /// What the form at work has set aside, expanded. What the unit was asked stays.
@@ -339,9 +360,9 @@ impl UnitScope {
             here: None,
             depth: MAX_DEPTH,
         };
-        let asked = mem::replace(&mut self.asked, Asked::new(alloc));
+        let before = mem::replace(&mut self.asked, Asked::new(alloc));
         let part = self.expand_kept_item(alloc, work, region, at, &item.kept);
-        self.asked = asked;
+        self.asked = before;
         part
     }
 
@@ -356,30 +377,36 @@ impl UnitScope {
     }
 }
 
-/// The names of libraries.
-fn names(alloc: Global, libraries: &[Text]) -> Mem<BTreeSet<String>>
-    ensures { IfOk result (λ names. (s : List ℕ) → contains_text names s ≡ has_name libraries.now s) }
-{
-    let mut names = BTreeSet::new(alloc);
-    for library in libraries {
-        names.insert(String::from_str(alloc, library.as_str())?)?;
-    }
-    Ok(names)
-}
-
 /// What was set aside, as items.
-fn items(alloc: Global, aside: Vec<Kept>) -> Result<Items<Item>, ExpandFault>
+fn items(alloc: Global, aside: Vec<Kept>) -> Mem<Items<Item>>
     ensures { IfOk result (λ items. items ≡ map item_of aside.items) }
 {
     let items = aside.into_iter().map(|kept| Item { kept }).collect(alloc)?;
     Ok(Items::from_vec(items))
 }
 
+/// No form is at work.
+fn no_form(alloc: Global) -> FormAtWork {
+    FormAtWork {
+        number: 0,
+        budget: Budget {
+            uses: 0,
+            nodes: 0,
+            locals: 0,
+        },
+        trace: Trace {
+            definitions: Items::new(alloc),
+            keywords: Items::new(alloc),
+            uses: Items::new(alloc),
+        },
+    }
+}
+
 /// One tick for each macro use.
 fn tick<L: Ledger>(steps: &mut Steps<L>, uses: u32)
     ensures { steps.new ≡ steps.old + uses }
 {
-    for _ in 0..uses {
+    'uses: for _use in 0..uses {
         steps.tick();
     }
 }

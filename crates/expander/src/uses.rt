@@ -213,6 +213,7 @@ impl UnitScope {
         requires few { self.old.form.budget.uses < 10000 }
         ensures begun { OnOk result (self.new ≡ with_use_begun self.old scope) }
         ensures number { IfOk result (λ number. number_of number ≡ use_number self.old) }
+        ensures scopes { self.new.env.scopes ≡ self.old.env.scopes }
     {
         let number = UseNo {
             unit: self.unit,
@@ -241,6 +242,7 @@ impl UnitScope {
             RulesFor work.old k.rules r → MatchedFor work.old matched.now r m →
             Instances work.old work.new region.now self.old self.new at.here (instance r (number_of number) m (200000 - self.old.form.budget.nodes)) result }
         ensures grows { Grows work.old work.new region.now }
+        ensures scopes { self.new.env.scopes ≡ self.old.env.scopes }
     {
         let Some(used) = self.macros.meaning(self.form.number, at.keyword.meaning) else {
             return Err(fails(at.here, code::BAD_FORM));

@@ -1,6 +1,4 @@
-use Rattle.std.proofs.Common.{◌≡◌, ℕ, ◌+◌, ◌-◌, ◌<◌, ◌≤◌, ◌++◌, List, [], ◌∷◌, length, drop, false, refl, sym, ap, ◌∙◌, subst, arith}
-use Rattle.scheme_model.specs.Order.{Note}
-use Rattle.scheme_model.specs.ScopedExpansion.{Place}
+use Rattle.std.proofs.Common.{◌≡◌, ℕ, ◌-◌, ◌++◌, length, drop, false, subst, arith}
 use Rattle.expander.specs.Kept.{NotesFor}
 use Rattle.expander.specs.declared.uses.Comparison.{Comparison}
 use Rattle.expander.proofs.PassLaws.{within_here, noted_more, none_noted}

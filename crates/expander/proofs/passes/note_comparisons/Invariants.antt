@@ -1,4 +1,4 @@
-use Rattle.std.proofs.Common.{ℕ, ◌≤◌, ◌++◌, List, length, drop}
+use Rattle.std.proofs.Common.{◌≤◌, ◌++◌, List, length, drop}
 use Rattle.scheme_model.specs.Order.{Note}
 use Rattle.scheme_model.specs.ScopedExpansion.{Frames, Place}
 use Rattle.core_tree.specs.Names.{AllMatch}

@@ -164,3 +164,18 @@ returns-clause-locals c =
     let h = has_match_then w r u c.begin_use.new.self at c.in-Some.matched c.macro_scope-scope.result c.in_ok-number.ensures.begun
     (has_match w r u at c.in_ok-matched.matched c.in-Some.matched c.in-Some.is (c.in_ok-matched.ensures.matched r c.requires.named)) in
     no_locals w c.instance.new.work r u c.begin_use.new.self c.instance.new.self at c.requires.usable c.macro_scope-scope.result c.in-Some.matched (number_of c.in_ok-number.number) c.in_ok-tree.tree few c.in_ok-number.ensures.begun h c.in_ok-tree.ensures.built
+
+pub returns-in_err-number-clause-scopes : goal.returns-in_err-number-clause-scopes
+returns-in_err-number-clause-scopes c = c.begin_use.ensures.scopes
+
+pub returns-in_err-tree-clause-scopes : goal.returns-in_err-tree-clause-scopes
+returns-in_err-tree-clause-scopes c = c.instance.ensures.scopes ∙ c.begin_use.ensures.scopes
+
+pub returns-in_err-met-clause-scopes : goal.returns-in_err-met-clause-scopes
+returns-in_err-met-clause-scopes c = c.instance.ensures.scopes ∙ c.begin_use.ensures.scopes
+
+pub returns-in_err-push-clause-scopes : goal.returns-in_err-push-clause-scopes
+returns-in_err-push-clause-scopes c = c.instance.ensures.scopes ∙ c.begin_use.ensures.scopes
+
+pub returns-clause-scopes : goal.returns-clause-scopes
+returns-clause-scopes c = c.instance.ensures.scopes ∙ c.begin_use.ensures.scopes

@@ -12,8 +12,8 @@ pub bind-requires : goal.bind-requires
 bind-requires c =
     let old = c.args.self.now in
     let count : length c.take_local-binder.new.self.env.scopes ≡ length old.env.scopes + 1 =
-        ap (λ (s : UnitScope). length s.env.scopes) c.take_local-binder.ensures.taken ∙ ap (λ (s : UnitScope). length s.env.scopes) c.loop-name.invariant.taken
-        ∙ scopes_stay (with_child old.env c.args.scope) (length old.env.scopes) old.form.budget.locals (take c.loop-name.name-index c.args.names.now) ∙ child_count old.env c.args.scope in
+    ap (λ (s : UnitScope). length s.env.scopes) c.take_local-binder.ensures.taken ∙ ap (λ (s : UnitScope). length s.env.scopes) c.loop-name.invariant.taken
+    ∙ scopes_stay (with_child old.env c.args.scope) (length old.env.scopes) old.form.budget.locals (take c.loop-name.name-index c.args.names.now) ∙ child_count old.env c.args.scope in
     let number : c.in_ok-inner.inner ≡ length old.env.scopes = c.in_ok-inner.ensures.ok in
     omega arith
 
@@ -28,7 +28,7 @@ loop-name-preserved c =
     let number : c.in_ok-inner.inner ≡ at = c.in_ok-inner.ensures.ok in
     let e : n + k + 1 ≡ n + (k + 1) = omega arith in
     let bound : c.bind.new.self ≡ with_bound c.loop-name.self.env at x.ident (Local c.loop-name.self.form.budget.locals) =
-        c.in_ok-bind.ensures.bound ∙ (λ j. with_bound (c.take_local-binder.ensures.taken j).env (number j) x.ident (Local (c.take_local-binder.ensures.binder j).number)) in
+    c.in_ok-bind.ensures.bound ∙ (λ j. with_bound (c.take_local-binder.ensures.taken j).env (number j) x.ident (Local (c.take_local-binder.ensures.binder j).number)) in
     record {
       taken =
           (λ j. record (c.take_local-binder.ensures.taken j) { env = bound j })

@@ -32,7 +32,7 @@ is_refused-requires c =
       means = meaning_next can.state (body_around can.frames) n.name;
       ident = n.name;
       found = can.found;
-      comes = comes_so work u can.layout can.state spot.scope can.frames can.stands name.ident n c.told_apart.ensures.idents c.sound.ensures c.requires.name.1.0 spot.in_body c.is_some.result c.next_meaning-meaning.result None c.next_meaning-meaning.ensures.value can.placed.inside;
+      comes = comes_so work u can.layout can.state spot.scope can.frames can.stands name n c.told_apart.ensures.idents c.sound.ensures c.requires.name.1 spot.in_body c.is_some.result c.next_meaning-meaning.result None c.next_meaning-meaning.ensures.value can.placed.inside;
       is = c.requires.name.1.0;
       notes = can.notes;
     }
@@ -67,7 +67,7 @@ returns-then-is_refused c = record {
       let b = body_around fs in
       let t = definition_added b n r fs s in
       let m = meaning_next s b n.name in
-      let comes = comes_so work u ls s spot.scope fs stands name.ident n c.told_apart.ensures.idents c.sound.ensures is.0 spot.in_body c.is_some.result c.next_meaning-meaning.result r c.next_meaning-meaning.ensures.value placed.inside in
+      let comes = comes_so work u ls s spot.scope fs stands name n c.told_apart.ensures.idents c.sound.ensures is spot.in_body c.is_some.result c.next_meaning-meaning.result r c.next_meaning-meaning.ensures.value placed.inside in
       let tells : c.is_some.result ≡ is_some r = c.is_some.ensures ∙ kept_tells work ls fs c.args.kept r kept in
       let so = ap (λ (k : Bool). changes n.name t m k p.notes) (sym tells) ∙ (sym (c.is_refused.ensures ls t m n.name p.notes comes is.0 notes) ∙ c.if-is_refused.true) in
       let q = told here (define_searched b n r fs p s) in
@@ -87,7 +87,7 @@ returns-then-is_defined c = record {
       let b = body_around fs in
       let t = definition_added b n r fs s in
       let m = meaning_next s b n.name in
-      let comes = comes_so work u ls s spot.scope fs stands name.ident n c.told_apart.ensures.idents c.sound.ensures is.0 spot.in_body c.is_some.result c.next_meaning-meaning.result r c.next_meaning-meaning.ensures.value placed.inside in
+      let comes = comes_so work u ls s spot.scope fs stands name n c.told_apart.ensures.idents c.sound.ensures is spot.in_body c.is_some.result c.next_meaning-meaning.result r c.next_meaning-meaning.ensures.value placed.inside in
       let tells : c.is_some.result ≡ is_some r = c.is_some.ensures ∙ kept_tells work ls fs c.args.kept r kept in
       let so = ap (λ (k : Bool). changes n.name t m k p.notes) (sym tells) ∙ (sym (c.is_refused.ensures ls t m n.name p.notes comes is.0 notes) ∙ c.if-is_refused.false) in
       let again = sym (c.is_defined.ensures work ls s fs n.name stands placed is.0) ∙ c.if-is_defined.true in
@@ -105,8 +105,8 @@ returns-in-None c =
     let w = c.place.new.self in
     let value = c.next_meaning-meaning.ensures.value in
     let k : c.is_some.result ≡ false = c.is_some.ensures ∙ ap is_kept c.in-None.is in
-    let put : Places u w spot.in_body spot.scope name.ident (next_here u spot.in_body name.ident) false = subst (λ (m : Meaning). Places u w spot.in_body spot.scope name.ident m false) value (subst (λ (b : Bool). Places u w spot.in_body spot.scope name.ident c.next_meaning-meaning.result b) k c.in_ok-place.ensures) in
-    let same = same_placed u w spot.in_body false spot.scope name.ident (next_here u spot.in_body name.ident) put in
+    let put : Places u w spot.in_body spot.scope name (next_here u spot.in_body name.ident) false = subst (λ (m : Meaning). Places u w spot.in_body spot.scope name m false) value (subst (λ (b : Bool). Places u w spot.in_body spot.scope name c.next_meaning-meaning.result b) k c.in_ok-place.ensures) in
+    let same = same_placed u w spot.in_body false spot.scope name (next_here u spot.in_body name.ident) put in
     record {
       defined = λ known ls s fs n r p stands placed is kept notes.
           let work = c.args.work.now in
@@ -114,13 +114,13 @@ returns-in-None c =
           let none = none_kept work ls fs c.args.kept r c.in-None.is kept in
           let m = meaning_next s b n.name in
           let t = definition_added b n None fs s in
-          let comes = comes_so work u ls s spot.scope fs stands name.ident n c.told_apart.ensures.idents c.sound.ensures is.0 spot.in_body c.is_some.result c.next_meaning-meaning.result None value placed.inside in
+          let comes = comes_so work u ls s spot.scope fs stands name n c.told_apart.ensures.idents c.sound.ensures is spot.in_body c.is_some.result c.next_meaning-meaning.result None value placed.inside in
           let so = sym (c.is_refused.ensures ls t m n.name p.notes comes is.0 notes) ∙ c.if-is_refused.false in
           let first = sym (c.is_defined.ensures work ls s fs n.name stands placed is.0) ∙ c.if-is_defined.false in
           subst (λ (o : Option (Rules Identifier)). EndsIn (λ done. Same done p) work u w ls spot fs (Ok tt) (told c.args.here (define_searched b n o fs p s))) (sym none)
           (made_ends work u w ls s spot fs c.args.here n None p c.is_some.result k so first
-          (variable_stands work u ls s spot.scope fs stands name.ident n c.told_apart.ensures.idents c.sound.ensures is.0 placed.at c.requires.room w spot.in_body placed.inside put)
-          (record { at = placed.at; inside = in_after work u ls s spot.scope fs stands name.ident n c.told_apart.ensures.idents c.sound.ensures is.0 placed.at c.requires.room w spot.in_body false None placed.inside put })
+          (variable_stands work u ls s spot.scope fs stands name n c.told_apart.ensures.idents c.sound.ensures is placed.at c.requires.room w spot.in_body placed.inside put)
+          (record { at = placed.at; inside = in_after work u ls s spot.scope fs stands name n c.told_apart.ensures.idents c.sound.ensures is placed.at c.requires.room w spot.in_body false None placed.inside put })
           same);
       counts = same.takes;
     }
@@ -135,9 +135,9 @@ returns-in_ok-keep-in-Some c =
     let here = next_here u spot.in_body name.ident in
     let value = c.next_meaning-meaning.ensures.value in
     let k : c.is_some.result ≡ true = c.is_some.ensures ∙ ap is_kept c.in-Some.is in
-    let put : Places u w spot.in_body spot.scope name.ident here true = subst (λ (m : Meaning). Places u w spot.in_body spot.scope name.ident m true) value (subst (λ (b : Bool). Places u w spot.in_body spot.scope name.ident c.next_meaning-meaning.result b) k c.in_ok-place.ensures) in
+    let put : Places u w spot.in_body spot.scope name here true = subst (λ (m : Meaning). Places u w spot.in_body spot.scope name m true) value (subst (λ (b : Bool). Places u w spot.in_body spot.scope name c.next_meaning-meaning.result b) k c.in_ok-place.ensures) in
     let keeps : Keeps w.macros ms w.form.number here c.in-Some.kept = subst (λ (m : Meaning). Keeps w.macros ms w.form.number m c.in-Some.kept) value c.in_ok-keep-in-Some.ensures.kept in
-    let same = same_kept u w ms (same_placed u w spot.in_body true spot.scope name.ident here put) in
+    let same = same_kept u w ms (same_placed u w spot.in_body true spot.scope name here put) in
     record {
       defined = λ known ls s fs n r p stands placed is kept notes.
           let work = c.args.work.now in
@@ -145,13 +145,13 @@ returns-in_ok-keep-in-Some c =
           let rules = some_kept work ls fs c.args.kept c.in-Some.kept r c.in-Some.is kept in
           let m = meaning_next s b n.name in
           let t = definition_added b n (Some rules.0) fs s in
-          let comes = comes_so work u ls s spot.scope fs stands name.ident n c.told_apart.ensures.idents c.sound.ensures is.0 spot.in_body c.is_some.result c.next_meaning-meaning.result (Some rules.0) value placed.inside in
+          let comes = comes_so work u ls s spot.scope fs stands name n c.told_apart.ensures.idents c.sound.ensures is spot.in_body c.is_some.result c.next_meaning-meaning.result (Some rules.0) value placed.inside in
           let so = sym (c.is_refused.ensures ls t m n.name p.notes comes is.0 notes) ∙ c.if-is_refused.false in
           let first = sym (c.is_defined.ensures work ls s fs n.name stands placed is.0) ∙ c.if-is_defined.false in
-          let inside = in_after work u ls s spot.scope fs stands name.ident n c.told_apart.ensures.idents c.sound.ensures is.0 placed.at c.requires.room w spot.in_body true (Some rules.0) placed.inside put in
+          let inside = in_after work u ls s spot.scope fs stands name n c.told_apart.ensures.idents c.sound.ensures is placed.at c.requires.room w spot.in_body true (Some rules.0) placed.inside put in
           subst (λ (o : Option (Rules Identifier)). EndsIn (λ done. Same done p) work u (with_macros w ms) ls spot fs (Ok tt) (told c.args.here (define_searched b n o fs p s))) (sym rules.1)
           (made_ends work u (with_macros w ms) ls s spot fs c.args.here n (Some rules.0) p c.is_some.result k so first
-          (macro_stands work u ls s spot.scope fs stands name.ident n c.told_apart.ensures.idents c.sound.ensures is.0 placed.at c.requires.room w spot.in_body ms c.in-Some.kept rules.0 c.told_apart.ensures.symbols placed.inside put keeps rules.2)
+          (macro_stands work u ls s spot.scope fs stands name n c.told_apart.ensures.idents c.sound.ensures is placed.at c.requires.room w spot.in_body ms c.in-Some.kept rules.0 c.told_apart.ensures.symbols placed.inside put keeps rules.2)
           (record { at = placed.at; inside = is_in_on work ls spot.scope fs w (with_macros w ms) t t spot.in_body refl refl refl inside })
           same);
       counts = same.takes;

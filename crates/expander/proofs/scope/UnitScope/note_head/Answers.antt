@@ -1,4 +1,4 @@
-use Rattle.std.proofs.Common.{List, true, refl}
+use Rattle.std.proofs.Common.{true, refl}
 use Rattle.scheme_model.specs.Meaning.{is_keyword}
 use Rattle.scheme_model.specs.Order.{LookedUp}
 use Rattle.expander.specs.declared.asked.Note.TheVariants as notes

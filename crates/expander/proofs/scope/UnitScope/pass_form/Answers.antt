@@ -1,12 +1,12 @@
-use Rattle.std.proofs.Common.{◌≡◌, ℕ, ◌+◌, ◌<◌, ◌≤◌, ◌++◌, List, [], ◌∷◌, length, true, Option, Some, None, Result, Ok, Err, refl, sym, ap, ◌∙◌, subst, arith}
+use Rattle.std.proofs.Common.{◌≡◌, [], ◌∷◌, true, Some, refl, ap, ◌∙◌}
 use Rattle.std.proofs.lemmas.Option.{slice_get_within}
-use Rattle.scheme_model.specs.Trees.{Tree, name}
+use Rattle.scheme_model.specs.Trees.{name}
 use Rattle.scheme_model.specs.Measures.{tree_size}
 use Rattle.scheme_model.specs.ExpansionFaults.{Named}
 use Rattle.scheme_model.specs.Ident.{Ident as Identifier}
 use Rattle.scheme_model.specs.Meaning.{Head, is_keyword, head_as}
 use Rattle.scheme_model.specs.Cores.{Target}
-use Rattle.scheme_model.specs.Order.{Here, Form, Going, LookedUp, Note, Pending, Pass, here_at, is_some, target_of, noted, run_core, run_form, run_use}
+use Rattle.scheme_model.specs.Order.{LookedUp, Note, here_at, is_some, target_of, noted, run_core, run_form, run_use}
 use Rattle.scheme_model.specs.CountedExpansion.{means_here}
 use Rattle.scheme_model.specs.ScopedExpansion.{Frames, Place, ScopedState, macro_at}
 use Rattle.expander.specs.Searched.{searched}
@@ -66,12 +66,15 @@ pass_core-requires c =
       core = (k.0, k.2);
       keyword = (t, target_at work.symbols u.unit u.form.number can.state.unit can.state.form c.target-keyword.result t can.stands.unit can.stands.form.number (c.target-keyword.ensures can.layout can.state can.frames named can.stands can.placed.at n.named));
       form = f;
-      can = (region, λ m stand.
-          let again = c.requires.can m stand in
-          let x = head_named work m c.in-Some.name (c.in-Some.ensures m stand) in
-          can_pass_noted work region u c.args.spot (tree_size m) c.args.pending.now c.args.asked.now c.note_head.new.asked again (note_in again.state again.frames x.ident)
-          (c.in_ok-note_head.ensures again.layout again.state again.frames (record { name = x.ident; occ = x.place }) (head_in again.state again.frames x.ident) again.left.notes again.stands again.placed x.named
-          (c.head_of-head.ensures again.layout again.state again.frames x.ident again.stands again.placed.at x.named.0) again.notes));
+      can = (
+        region,
+        λ m stand.
+            let again = c.requires.can m stand in
+            let x = head_named work m c.in-Some.name (c.in-Some.ensures m stand) in
+            can_pass_noted work region u c.args.spot (tree_size m) c.args.pending.now c.args.asked.now c.note_head.new.asked again (note_in again.state again.frames x.ident)
+            (c.in_ok-note_head.ensures again.layout again.state again.frames (record { name = x.ident; occ = x.place }) (head_in again.state again.frames x.ident) again.left.notes again.stands again.placed x.named
+            (c.head_of-head.ensures again.layout again.state again.frames x.ident again.stands again.placed.at x.named.0) again.notes),
+      );
     }
 
 pub pass_use-requires : goal.pass_use-requires
@@ -138,3 +141,29 @@ returns-in-Macro c = λ known ls s fs m p knows stands placed on pending notes.
     (c.pass_use.ensures known ls s spot fs t k.0 m n.parts n.tail q (tree_size m.tree) knows stands placed placed.at
     (use_for known work s fs spot.scope here c.args.form.tree m.tree c.in-Some.name c.target-keyword.result n k.0 (c.target-keyword.ensures ls s fs named stands placed.at n.named) k.2 on.1.0)
     (noted_pending work region u.unit u.form.number c.args.pending.now p (note_in s fs n.ident ∷ []) pending) found (some_node m.tree))
+
+pub returns-in_ok-push-in-Auxiliary : goal.returns-in_ok-push-in-Auxiliary
+returns-in_ok-push-in-Auxiliary c = λ known ls s fs m p knows stands placed on pending notes.
+    let work = c.args.work.now in
+    let n = head_named work m.tree c.in-Some.name (c.in-Some.ensures m.tree on.1.0) in
+    let named : Named Identifier = record { name = n.ident; occ = n.place } in
+    let here = c.here_at-here.result in
+    let is_here : here ≡ here_at (λ i. i) m.tree m.here = c.here_at-here.ensures m.tree on.1.0 ∙ ap (here_at (λ i. i) m.tree) on.0 in
+    let is = c.head_of-head.ensures ls s fs n.ident stands placed.at n.named.0 in
+    let found = c.in_ok-note_head.ensures ls s fs named (head_in s fs n.ident) p.notes stands placed n.named is notes in
+    let a = auxiliary_head c.in-Auxiliary.field-0 (head_in s fs n.ident) (c.in-Auxiliary.ensures ls s fs n.ident stands placed.at n.named.0) in
+    sets_aside work c.args.region.now c.args.self.now ls c.args.spot fs s p (note_in s fs n.ident ∷ []) c.args.pending.now (record { todo = c.args.pending.now.todo; aside = c.push-in-Auxiliary.new.self }) c.note_head.new.asked m c.args.form
+    (λ go. run_form (searched known) go fs (here_at (λ i. i) m.tree m.here) m m.tree p s) (by_auxiliary known work fs s m p c.in-Some.name here is_here n a.0 a.1) stands placed on pending found refl c.in_ok-push-in-Auxiliary.ensures.items
+
+pub returns-in_ok-push-in-Other : goal.returns-in_ok-push-in-Other
+returns-in_ok-push-in-Other c = λ known ls s fs m p knows stands placed on pending notes.
+    let work = c.args.work.now in
+    let n = head_named work m.tree c.in-Some.name (c.in-Some.ensures m.tree on.1.0) in
+    let named : Named Identifier = record { name = n.ident; occ = n.place } in
+    let here = c.here_at-here.result in
+    let is_here : here ≡ here_at (λ i. i) m.tree m.here = c.here_at-here.ensures m.tree on.1.0 ∙ ap (here_at (λ i. i) m.tree) on.0 in
+    let is = c.head_of-head.ensures ls s fs n.ident stands placed.at n.named.0 in
+    let found = c.in_ok-note_head.ensures ls s fs named (head_in s fs n.ident) p.notes stands placed n.named is notes in
+    let a = no_keyword (head_in s fs n.ident) (c.in-Other.ensures ls s fs n.ident stands placed.at n.named.0) in
+    sets_aside work c.args.region.now c.args.self.now ls c.args.spot fs s p (note_in s fs n.ident ∷ []) c.args.pending.now (record { todo = c.args.pending.now.todo; aside = c.push-in-Other.new.self }) c.note_head.new.asked m c.args.form
+    (λ go. run_form (searched known) go fs (here_at (λ i. i) m.tree m.here) m m.tree p s) (by_none known work fs s m p c.in-Some.name here is_here n a) stands placed on pending found refl c.in_ok-push-in-Other.ensures.items

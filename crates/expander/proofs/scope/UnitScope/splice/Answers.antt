@@ -1,4 +1,4 @@
-use Rattle.std.proofs.Common.{◌≡◌, ◌++◌, List, refl, sym, ap, ◌∙◌}
+use Rattle.std.proofs.Common.{◌++◌, List, refl, ap, ◌∙◌}
 use Rattle.scheme_model.specs.Order.{splice}
 use Rattle.expander.specs.Searched.{searched}
 use Rattle.expander.specs.declared.items.Form as code_form

@@ -57,6 +57,7 @@ returns-clause-rests c = λ ls s imported units is.
       defined = λ n. λ j. lookup (is_at (nat_cmp n)) (c.new.ensures.empty j);
       count = c.new.ensures.len;
       asked = c.new-2.ensures.notes;
+      asks = c.new-2.ensures.stands;
     }) ls s imported units is
 
 pub returns-clause-others : goal.returns-clause-others
