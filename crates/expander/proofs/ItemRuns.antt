@@ -137,9 +137,12 @@ module _ (work : Work) (region : Region) (u : UnitScope) (scope turns depth : �
       given_runs (PartStands work u.unit u.form.number) work region u scope (parts.Syntax x) (λ known fs s. syntax_part (macro_def (searched known) s d))
       (λ known ls s fs e.
       let on : (P : ℕ → ℕ → Type 0) → P u.unit u.form.number → P s.unit s.form = λ P h. subst (λ (n : ℕ). P n s.form) e.unit (subst (P u.unit) e.form.number h) in
-      let back : (P : ℕ → ℕ → Type 0) → P s.unit s.form → P u.unit u.form.number = λ P h. subst (λ (n : ℕ). P n u.form.number) (sym e.unit) (subst (P s.unit) (sym e.form.number) h) in
-      (x, refl, back (λ unit form. IsMacroDef work unit form x (macro_def (searched known) s d))
-      (told known ls s d e (on (λ unit form. IsBinder work.symbols unit form b d) binder) (on (λ unit form. IsMeaning work.symbols unit form m (meaning_of d.bound d.ident)) meaning))))
+      let back : (P : ℕ → ℕ → Type 0) → P s.unit s.form → P u.unit u.form.number = λ P h. subst (λ (n : ℕ). P n u.form.number) (sym e.unit) (subst (P s.unit) (sym e.form.number) h) in (
+        x,
+        refl,
+        back (λ unit form. IsMacroDef work unit form x (macro_def (searched known) s d))
+            (told known ls s d e (on (λ unit form. IsBinder work.symbols unit form b d) binder) (on (λ unit form. IsMeaning work.symbols unit form m (meaning_of d.bound d.ident)) meaning)),
+      ))
 
 pub macro_told : (work : Work) (u : UnitScope) (scope : ℕ) (m : code_meaning.Meaning) (d : Binder) → CanLook work u scope → IsMeaning work.symbols u.unit u.form.number m (meaning_of d.bound d.ident) → CanTell work u m
 macro_told work u scope m d l h = record {

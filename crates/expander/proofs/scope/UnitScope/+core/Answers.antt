@@ -5,7 +5,6 @@ mod Items
 mod Assigned
 mod Shapes
 mod Locals
-
 use Rattle.expander.proofs.scope.UnitScope.+core.Answers.Bodies as bodies
 use Rattle.expander.proofs.scope.UnitScope.+core.Answers.Rows as rows
 use Rattle.expander.proofs.scope.UnitScope.+core.Answers.Items as items

@@ -78,10 +78,16 @@ expand_kept_item-expand-requires-in-Assigned t c =
     let h = c.in_ok-below-in-Assigned.ensures in
     let deeper : c.args.at.depth ≡ below.depth + 1 = sym (ap (λ (x : code_at.At). x.depth) c.in_place-in-Assigned.ensures) ∙ h.2.0 in (
       first_of (omega (arith, deeper), omega arith, search rules, grind arith),
-      (c.requires.opened, (below_look u w placed below 1 h a (subst (λ (x : code_at.At). CanLook a u x.scope) (sym c.in_place-in-Assigned.ensures) c.requires.look), (
-        as_assigned a region u.unit u.form.number (λ x. IsAtWork a region c.in-Assigned.form.tree) c.in-Assigned.name c.in-Assigned.form i (subst (λ (x : code_kept.Kept). KeptFor a region u.unit u.form.number x i) c.in-Assigned.is for) (λ n m name form. ((m.tree, form.1.0), form.1.1)),
-        below_room u w placed below 1 h (2 ^ 43) c.requires.room,
-      ))),
+      (
+        c.requires.opened,
+        (
+          below_look u w placed below 1 h a (subst (λ (x : code_at.At). CanLook a u x.scope) (sym c.in_place-in-Assigned.ensures) c.requires.look),
+          (
+            as_assigned a region u.unit u.form.number (λ x. IsAtWork a region c.in-Assigned.form.tree) c.in-Assigned.name c.in-Assigned.form i (subst (λ (x : code_kept.Kept). KeptFor a region u.unit u.form.number x i) c.in-Assigned.is for) (λ n m name form. ((m.tree, form.1.0), form.1.1)),
+            below_room u w placed below 1 h (2 ^ 43) c.requires.room,
+          ),
+        ),
+      ),
     )
 
 pub expand_kept_item-returns-in_err-value-in-Assigned-clause-runs : goal.expand_kept_item-returns-in_err-value-in-Assigned-clause-runs
@@ -143,7 +149,7 @@ expand_kept_item-returns-in_ok-new-in-Assigned-clause-runs t c = λ i turns for 
     let P : List Frames → code_core.Core → Core → Type 0 = λ layout. CoreStands d v.unit v.form.number in
     let Q : List Frames → code_part.CorePart → Part → Type 0 = λ layout. PartStands d v.unit v.form.number in
     let f : Item Identifier → Known → Frames → Step ScopedState Part = λ x known fs. item_part (expand (searched known) turns) (searched known) at.depth fs x in
-    as_assigned a region u.unit u.form.number (λ z. Runs Q a d region u v at.scope (Ok (core_parts.Expression (cores.Set x y))) (f z)) c.in-Assigned.name c.in-Assigned.form i (subst (λ (x : code_kept.Kept). KeptFor a region u.unit u.form.number x i) c.in-Assigned.is for) (λ n m name form. 
+    as_assigned a region u.unit u.form.number (λ z. Runs Q a d region u v at.scope (Ok (core_parts.Expression (cores.Set x y))) (f z)) c.in-Assigned.name c.in-Assigned.form i (subst (λ (x : code_kept.Kept). KeptFor a region u.unit u.form.number x i) c.in-Assigned.is for) (λ n m name form.
     let after = expand_after a d region w v below c.in-Assigned.form.tree c.in_ok-value-in-Assigned.value (below_look u w placed below 1 h a (subst (λ (x : code_at.At). CanLook a u x.scope) (sym c.in_place-in-Assigned.ensures) c.requires.look)) ((m.tree, form.1.0), form.1.1) c.in_ok-value-in-Assigned.ensures.runs in
     item_assigned a d region u v at.scope turns at.depth n m (cores.Set x y)
     (placed_runs P a d region u v at placed m.here (c.in_place-in-Assigned.ensures ∙ ap (λ (o : Option Occ). record at { here = o }) form.0) (Ok (cores.Set x y)) (λ depth o known fs. node (searched known) o 1 depth (λ below t1. expand (searched known) turns below o fs (whole m.tree) t1 >>= λ x. done (Set (target_of (searched known) fs t1 n.name n.occ) x)))
@@ -199,10 +205,16 @@ expand_kept_item-lambda-requires-in-AssignedFunction t c =
     let h = c.in_ok-below-in-AssignedFunction.ensures in
     let deeper : c.args.at.depth ≡ below.depth + 1 = sym (ap (λ (x : code_at.At). x.depth) c.in_place-in-AssignedFunction.ensures) ∙ h.2.0 in (
       first_of (omega (arith, deeper), omega arith, search rules, grind arith),
-      (c.requires.opened, (below_look u w placed below 1 h a (subst (λ (x : code_at.At). CanLook a u x.scope) (sym c.in_place-in-AssignedFunction.ensures) c.requires.look), (
-        as_assigned_function a region u.unit u.form.number (λ x. ClauseAtWork a region c.in-AssignedFunction.clause) c.in-AssignedFunction.name c.in-AssignedFunction.here c.in-AssignedFunction.clause i (subst (λ (x : code_kept.Kept). KeptFor a region u.unit u.form.number x i) c.in-AssignedFunction.is for) (λ n m name clause. (m, clause)),
-        below_room u w placed below 1 h (2 ^ 43) c.requires.room,
-      ))),
+      (
+        c.requires.opened,
+        (
+          below_look u w placed below 1 h a (subst (λ (x : code_at.At). CanLook a u x.scope) (sym c.in_place-in-AssignedFunction.ensures) c.requires.look),
+          (
+            as_assigned_function a region u.unit u.form.number (λ x. ClauseAtWork a region c.in-AssignedFunction.clause) c.in-AssignedFunction.name c.in-AssignedFunction.here c.in-AssignedFunction.clause i (subst (λ (x : code_kept.Kept). KeptFor a region u.unit u.form.number x i) c.in-AssignedFunction.is for) (λ n m name clause. (m, clause)),
+            below_room u w placed below 1 h (2 ^ 43) c.requires.room,
+          ),
+        ),
+      ),
     )
 
 pub expand_kept_item-returns-in_err-value-in-AssignedFunction-clause-runs : goal.expand_kept_item-returns-in_err-value-in-AssignedFunction-clause-runs
@@ -264,7 +276,7 @@ expand_kept_item-returns-in_ok-new-in-AssignedFunction-clause-runs t c = λ i tu
     let P : List Frames → code_core.Core → Core → Type 0 = λ layout. CoreStands d v.unit v.form.number in
     let Q : List Frames → code_part.CorePart → Part → Type 0 = λ layout. PartStands d v.unit v.form.number in
     let f : Item Identifier → Known → Frames → Step ScopedState Part = λ x known fs. item_part (expand (searched known) turns) (searched known) at.depth fs x in
-    as_assigned_function a region u.unit u.form.number (λ z. Runs Q a d region u v at.scope (Ok (core_parts.Expression (cores.Set x y))) (f z)) c.in-AssignedFunction.name c.in-AssignedFunction.here c.in-AssignedFunction.clause i (subst (λ (x : code_kept.Kept). KeptFor a region u.unit u.form.number x i) c.in-AssignedFunction.is for) (λ n m name clause. 
+    as_assigned_function a region u.unit u.form.number (λ z. Runs Q a d region u v at.scope (Ok (core_parts.Expression (cores.Set x y))) (f z)) c.in-AssignedFunction.name c.in-AssignedFunction.here c.in-AssignedFunction.clause i (subst (λ (x : code_kept.Kept). KeptFor a region u.unit u.form.number x i) c.in-AssignedFunction.is for) (λ n m name clause.
     let after = lambda_after a d region w v below c.in-AssignedFunction.clause c.in_ok-value-in-AssignedFunction.value (below_look u w placed below 1 h a (subst (λ (x : code_at.At). CanLook a u x.scope) (sym c.in_place-in-AssignedFunction.ensures) c.requires.look)) (m, clause) c.in_ok-value-in-AssignedFunction.ensures.runs in
     item_assigned_function a d region u v at.scope turns at.depth n c.in-AssignedFunction.here m (cores.Set x y)
     (placed_runs P a d region u v at placed c.in-AssignedFunction.here c.in_place-in-AssignedFunction.ensures (Ok (cores.Set x y)) (λ depth o known fs. node (searched known) o 1 depth (λ below t1. lambda (expand (searched known) turns) (searched known) below o fs m t1 >>= λ x. done (Set (target_of (searched known) fs t1 n.name n.occ) x)))

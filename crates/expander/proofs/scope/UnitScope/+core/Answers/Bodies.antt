@@ -302,8 +302,7 @@ procedures-loop-clause-init t c = record {
 
 pub procedures-procedure-requires : goal.procedures-procedure-requires
 procedures-procedure-requires t c =
-    let h = c.loop-clause.invariant in
-    (
+    let h = c.loop-clause.invariant in (
       first_of (omega arith, search rules, grind arith),
       (opened_on c.args.work.now c.loop-clause.work c.args.region.now h.after.work c.requires.opened, (h.after.look, (item_as (ClauseAtWork c.loop-clause.work c.args.region.now) c.loop-clause.clause-index c.args.shapes.now c.clause-item.result c.clause-item.is (clause_at_work c.args.work.now c.loop-clause.work c.args.region.now c.args.shapes.now c.loop-clause.clause-index c.clause-item.result h.after.work c.requires.clauses c.loop-clause-test.true), room_on (2 ^ 43) c.args.self.now c.loop-clause.self h.spends c.requires.room))),
     )

@@ -49,8 +49,7 @@ expand_kept-loop-kept-init t c = record {
 
 pub expand_kept-expand_kept_item-requires : goal.expand_kept-expand_kept_item-requires
 expand_kept-expand_kept_item-requires t c =
-    let h = c.loop-kept.invariant in
-    (
+    let h = c.loop-kept.invariant in (
       first_of (omega arith, search rules, grind arith),
       (opened_on c.args.work.now c.loop-kept.work c.args.region.now h.after.work c.requires.opened, (h.after.look, (item_as (KeptAtWork c.loop-kept.work c.args.region.now c.loop-kept.self) c.loop-kept.kept-index c.args.aside.now c.kept-item.result c.kept-item.is (kept_at_work c.args.work.now c.loop-kept.work c.args.region.now c.args.self.now c.loop-kept.self c.args.aside.now c.loop-kept.kept-index c.kept-item.result h.after.work h.after.same c.requires.aside c.loop-kept-test.true), room_on (2 ^ 43) c.args.self.now c.loop-kept.self h.spends c.requires.room))),
     )
@@ -144,10 +143,16 @@ expand_kept_item-expand-requires t c =
     let for = c.requires.kept.1 in
     let depth : c.in_place.result.depth ≡ c.args.at.depth = ap (λ (x : code_at.At). x.depth) c.in_place.ensures in (
       first_of (omega (arith, depth), omega arith, search rules, grind arith),
-      (c.requires.opened, (subst (λ (x : code_at.At). CanLook a u x.scope) (sym c.in_place.ensures) c.requires.look, (
-        as_expression a region u.unit u.form.number (λ x. IsAtWork a region c.in-Expression.form.tree) c.in-Expression.form i (subst (λ (x : code_kept.Kept). KeptFor a region u.unit u.form.number x i) c.in-Expression.is for) (λ m form. ((m.tree, form.1.0), form.1.1)),
-        c.requires.room,
-      ))),
+      (
+        c.requires.opened,
+        (
+          subst (λ (x : code_at.At). CanLook a u x.scope) (sym c.in_place.ensures) c.requires.look,
+          (
+            as_expression a region u.unit u.form.number (λ x. IsAtWork a region c.in-Expression.form.tree) c.in-Expression.form i (subst (λ (x : code_kept.Kept). KeptFor a region u.unit u.form.number x i) c.in-Expression.is for) (λ m form. ((m.tree, form.1.0), form.1.1)),
+            c.requires.room,
+          ),
+        ),
+      ),
     )
 
 pub expand_kept_item-returns-in_err-expand-in-Expression-clause-runs : goal.expand_kept_item-returns-in_err-expand-in-Expression-clause-runs
@@ -191,10 +196,16 @@ expand_kept_item-expand-requires-in-Value t c =
     let for = c.requires.kept.1 in
     let depth : c.in_place-in-Value.result.depth ≡ c.args.at.depth = ap (λ (x : code_at.At). x.depth) c.in_place-in-Value.ensures in (
       first_of (omega (arith, depth), omega arith, search rules, grind arith),
-      (c.requires.opened, (subst (λ (x : code_at.At). CanLook a u x.scope) (sym c.in_place-in-Value.ensures) c.requires.look, (
-        as_value a region u.unit u.form.number (λ x. IsAtWork a region c.in-Value.form.tree) c.in-Value.binder c.in-Value.form i (subst (λ (x : code_kept.Kept). KeptFor a region u.unit u.form.number x i) c.in-Value.is for) (λ b m binder form. ((m.tree, form.1.0), form.1.1)),
-        c.requires.room,
-      ))),
+      (
+        c.requires.opened,
+        (
+          subst (λ (x : code_at.At). CanLook a u x.scope) (sym c.in_place-in-Value.ensures) c.requires.look,
+          (
+            as_value a region u.unit u.form.number (λ x. IsAtWork a region c.in-Value.form.tree) c.in-Value.binder c.in-Value.form i (subst (λ (x : code_kept.Kept). KeptFor a region u.unit u.form.number x i) c.in-Value.is for) (λ b m binder form. ((m.tree, form.1.0), form.1.1)),
+            c.requires.room,
+          ),
+        ),
+      ),
     )
 
 pub expand_kept_item-returns-in_err-value-in-Value-clause-runs : goal.expand_kept_item-returns-in_err-value-in-Value-clause-runs
@@ -240,10 +251,16 @@ expand_kept_item-expand-requires-in-Values t c =
     let for = c.requires.kept.1 in
     let depth : c.in_place-in-Values.result.depth ≡ c.args.at.depth = ap (λ (x : code_at.At). x.depth) c.in_place-in-Values.ensures in (
       first_of (omega (arith, depth), omega arith, search rules, grind arith),
-      (c.requires.opened, (subst (λ (x : code_at.At). CanLook a u x.scope) (sym c.in_place-in-Values.ensures) c.requires.look, (
-        as_values a region u.unit u.form.number (λ x. IsAtWork a region c.in-Values.form.tree) c.in-Values.binders c.in-Values.dotted c.in-Values.form i (subst (λ (x : code_kept.Kept). KeptFor a region u.unit u.form.number x i) c.in-Values.is for) (λ bs m binders form. ((m.tree, form.1.0), form.1.1)),
-        c.requires.room,
-      ))),
+      (
+        c.requires.opened,
+        (
+          subst (λ (x : code_at.At). CanLook a u x.scope) (sym c.in_place-in-Values.ensures) c.requires.look,
+          (
+            as_values a region u.unit u.form.number (λ x. IsAtWork a region c.in-Values.form.tree) c.in-Values.binders c.in-Values.dotted c.in-Values.form i (subst (λ (x : code_kept.Kept). KeptFor a region u.unit u.form.number x i) c.in-Values.is for) (λ bs m binders form. ((m.tree, form.1.0), form.1.1)),
+            c.requires.room,
+          ),
+        ),
+      ),
     )
 
 pub expand_kept_item-returns-in_err-value-in-Values-clause-runs : goal.expand_kept_item-returns-in_err-value-in-Values-clause-runs
@@ -293,10 +310,16 @@ expand_kept_item-lambda-requires t c =
     let for = c.requires.kept.1 in
     let depth : c.in_place-in-Function.result.depth ≡ c.args.at.depth = ap (λ (x : code_at.At). x.depth) c.in_place-in-Function.ensures in (
       first_of (omega (arith, depth), omega arith, search rules, grind arith),
-      (c.requires.opened, (subst (λ (x : code_at.At). CanLook a u x.scope) (sym c.in_place-in-Function.ensures) c.requires.look, (
-        as_function a region u.unit u.form.number (λ x. ClauseAtWork a region c.in-Function.clause) c.in-Function.binder c.in-Function.here c.in-Function.clause i (subst (λ (x : code_kept.Kept). KeptFor a region u.unit u.form.number x i) c.in-Function.is for) (λ b m binder clause. (m, clause)),
-        c.requires.room,
-      ))),
+      (
+        c.requires.opened,
+        (
+          subst (λ (x : code_at.At). CanLook a u x.scope) (sym c.in_place-in-Function.ensures) c.requires.look,
+          (
+            as_function a region u.unit u.form.number (λ x. ClauseAtWork a region c.in-Function.clause) c.in-Function.binder c.in-Function.here c.in-Function.clause i (subst (λ (x : code_kept.Kept). KeptFor a region u.unit u.form.number x i) c.in-Function.is for) (λ b m binder clause. (m, clause)),
+            c.requires.room,
+          ),
+        ),
+      ),
     )
 
 pub expand_kept_item-returns-in_err-value-in-Function-clause-runs : goal.expand_kept_item-returns-in_err-value-in-Function-clause-runs

@@ -152,8 +152,7 @@ pub expand_shape-sequence-requires : goal.expand_shape-sequence-requires
 expand_shape-sequence-requires t c =
     let a = c.args.work.now in
     let region = c.args.region.now in
-    let s = c.requires.shape in
-    (
+    let s = c.requires.shape in (
       first_of (omega arith, search rules, grind arith),
       (c.requires.opened, (c.requires.look, (subst (AreAtWork a region) (sym c.deref-in-Begin.ensures.value) (as_sequence a (λ x. ShapeFits x → AreAtWork a region c.in-Begin.forms.items) c.in-Begin.forms s.0 (subst (λ (x : code_shape.CoreShape). ShapeFor a x s.0) c.in-Begin.is s.1) (λ ts stand fit. (ts, stand, (subst (ShapeNamed a region) c.in-Begin.is c.requires.shape.2))) s.3), c.requires.room))),
     )
