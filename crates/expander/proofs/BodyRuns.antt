@@ -1,5 +1,5 @@
 -- A body is gone through and then expanded; procedures and local macros, in whose scope one stands.
-use Rattle.std.proofs.Common.{◌≡◌, ℕ, zero, suc, ◌+◌, ◌*◌, ◌^◌, ◌<◌, ◌≤◌, List, [], ◌∷◌, ◌++◌, length, Option, Result, Ok, Err, Vec, refl, sym, ap, ◌∙◌, subst, arith}
+use Rattle.std.proofs.Common.{◌≡◌, ℕ, zero, suc, ◌+◌, ◌*◌, ◌^◌, ◌<◌, ◌≤◌, List, [], ◌∷◌, ◌++◌, length, Option, Result, Ok, Err, Vec, refl, sym, ap, subst, arith}
 use Rattle.std.proofs.lemmas.Option.{slice_get_within}
 use Rattle.std.specs.declared.alloc.Global.{Global}
 use Rattle.scheme_model.specs.declared.Occ.{Occ}
@@ -10,7 +10,7 @@ use Rattle.scheme_model.specs.Requirements.{Known}
 use Rattle.scheme_model.specs.Cores.{Core, Body, Parts}
 use Rattle.scheme_model.specs.Steps.{Broken, Step, ◌>>=◌, done}
 use Rattle.scheme_model.specs.Order.{Item}
-use Rattle.scheme_model.specs.Expression.{body, expand, node, parts, item_part, body_in}
+use Rattle.scheme_model.specs.Expression.{body, expand, parts, item_part, body_in}
 use Rattle.scheme_model.specs.ScopedExpansion.{Frames, ScopedState, next_number}
 use Rattle.syntax_tree.specs.Names.{AreToldApart}
 use Rattle.syntax_tree.specs.Looks.{PartsStand}
@@ -31,7 +31,7 @@ use Rattle.expander.specs.Binds.{Binds}
 use Rattle.expander.specs.Bodies.{BodyFor, body_pass}
 use Rattle.expander.specs.Judged.{Knows}
 use Rattle.expander.specs.Kept.{KeptFor}
-use Rattle.expander.specs.Outcomes.{At, CanLook, Ends, Runs, Moves, SameForm, IsEnough, HasRoom, Spends}
+use Rattle.expander.specs.Outcomes.{At, CanLook, Ends, Runs, IsEnough, HasRoom, Spends}
 use Rattle.expander.specs.Ready.{BeginsBelow}
 use Rattle.expander.specs.Searched.{searched}
 use Rattle.expander.specs.State.{Stands, most_locals}

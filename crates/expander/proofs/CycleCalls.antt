@@ -1,23 +1,20 @@
 -- What can be done after each call of the cycle of cores that was made: it was given something that stands, and turns enough.
-use Rattle.std.proofs.Common.{◌≡◌, ℕ, ◌+◌, ◌*◌, ◌^◌, ◌≤◌, List, Option, Result, Ok, Err, Vec, refl, sym, ap, ◌∙◌, subst, arith}
+use Rattle.std.proofs.Common.{ℕ, ◌+◌, ◌*◌, ◌^◌, ◌≤◌, List, Result, Ok, Vec, arith}
 use Rattle.std.specs.declared.alloc.Global.{Global}
 use Rattle.scheme_model.specs.Trees.{Tree, Trees}
 use Rattle.scheme_model.specs.Ident.{Ident as Identifier}
 use Rattle.scheme_model.specs.Measures.{trees_size}
-use Rattle.scheme_model.specs.Requirements.{Known}
 use Rattle.scheme_model.specs.Shapes.{Clause}
-use Rattle.scheme_model.specs.Cores.{Core, Part}
-use Rattle.scheme_model.specs.Steps.{Broken, Step}
+use Rattle.scheme_model.specs.Cores.{Core}
 use Rattle.scheme_model.specs.Order.{Item}
 use Rattle.scheme_model.specs.Expression.{whole, expand, procedure, lambda, item_part}
-use Rattle.scheme_model.specs.ScopedExpansion.{Frames, ScopedState}
+use Rattle.scheme_model.specs.ScopedExpansion.{Frames}
 use Rattle.syntax_tree.specs.Looks.{PartsStand}
 use Rattle.syntax_tree.specs.Works.{StandsFor}
 use Rattle.syntax_tree.specs.declared.trees.Work.{Work}
 use Rattle.syntax_tree.specs.declared.trees.nodes.Tree as number
 use Rattle.syntax_tree.specs.declared.trees.table.Region.{Region}
 use Rattle.core_forms.specs.declared.shape.ClauseShape.{ClauseShape}
-use Rattle.core_tree.specs.Names.{AllMatch}
 use Rattle.core_tree.specs.Cores.{CoreStands, PartStands}
 use Rattle.core_tree.specs.declared.cores.Clause as code_clause
 use Rattle.core_tree.specs.declared.cores.Core as code_core
@@ -25,7 +22,7 @@ use Rattle.core_tree.specs.declared.cores.CorePart as code_part
 use Rattle.expander.specs.Bodies.{BodyFor, body_pass}
 use Rattle.expander.specs.Expanded.{AreKeptAtWork, BodyAtWork, ClauseAtWork, ClauseStands, KeptAtWork}
 use Rattle.expander.specs.Kept.{ClauseFor, KeptFor}
-use Rattle.expander.specs.Outcomes.{At, Grows, SameForm, CanLook, Ends, IsAtWork, IsEnough, IsEnoughBelow, Runs}
+use Rattle.expander.specs.Outcomes.{At, CanLook, IsAtWork, IsEnough, IsEnoughBelow, Runs}
 use Rattle.expander.specs.Searched.{searched}
 use Rattle.expander.specs.declared.expressions.At as code_at
 use Rattle.expander.specs.declared.fault.ExpandFault.{ExpandFault}

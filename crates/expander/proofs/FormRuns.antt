@@ -1,11 +1,11 @@
 -- Core forms with parts, each by the calls that the code makes for it: assignments, procedures, sequences, chosen forms.
-use Rattle.std.proofs.Common.{◌≡◌, ℕ, ◌+◌, ◌≤◌, List, [], ◌∷◌, Bool, false, Option, None, Result, Ok, Err, Vec, refl, sym, ap, ◌∙◌, subst, arith}
+use Rattle.std.proofs.Common.{◌≡◌, ℕ, ◌+◌, List, Option, None, Result, Ok, Err, Vec, refl, sym, ap, ◌∙◌, subst}
 use Rattle.std.specs.Global.{Box}
 use Rattle.std.specs.BTreeSet.{BTreeSet}
 use Rattle.std.specs.Prelude.{String}
 use Rattle.std.specs.declared.alloc.Global.{Global}
 use Rattle.scheme_model.specs.declared.Occ.{Occ}
-use Rattle.scheme_model.specs.Trees.{Tree, Trees, no_trees, tree, map_tree}
+use Rattle.scheme_model.specs.Trees.{Tree, Trees, map_tree}
 use Rattle.scheme_model.specs.Holes.{hole_places}
 use Rattle.scheme_model.specs.Quasiquote.{Mark, Pieces, quasi_of}
 use Rattle.scheme_model.specs.Ident.{Ident as Identifier, symbol_of}
@@ -13,10 +13,10 @@ use Rattle.scheme_model.specs.ExpansionFaults.{Named, Fault, BadForm, BadPlace, 
 use Rattle.scheme_model.specs.Keywords.{CoreKeyword}
 use Rattle.scheme_model.specs.Requirements.{Known}
 use Rattle.scheme_model.specs.Shapes.{Clause}
-use Rattle.scheme_model.specs.Cores.{Core, Set, Quasi, Lambda, Body, Parts, Binders, outside}
+use Rattle.scheme_model.specs.Cores.{Core, Set, Quasi, Lambda, Body, Parts, outside}
 use Rattle.scheme_model.specs.Steps.{Broken, Step, ◌>>=◌, done, fails}
 use Rattle.scheme_model.specs.Order.{Here, head_of, target_of, given}
-use Rattle.scheme_model.specs.Expression.{Expander, whole, expand, node, procedure, lambda, sequence, expressions, assignment, set, chosen_sequence, unless_keyword, quasi, each_of, symbol_or_hole}
+use Rattle.scheme_model.specs.Expression.{whole, expand, node, procedure, lambda, sequence, expressions, chosen_sequence, unless_keyword, quasi, each_of, symbol_or_hole}
 use Rattle.scheme_model.specs.ScopedExpansion.{Frames, ScopedState}
 use Rattle.scheme_model.specs.CountedExpansion.{means_here}
 use Rattle.syntax_tree.specs.Works.{StandsFor}
@@ -39,7 +39,7 @@ use Rattle.expander.specs.CoreSteps.{core_step}
 use Rattle.expander.specs.Counts.{plain_fault}
 use Rattle.expander.specs.Expanded.{ClauseStands}
 use Rattle.expander.specs.Judged.{Knows, ChoosesForms, chosen_among, forms_chosen, some_chosen}
-use Rattle.expander.specs.Outcomes.{At, Grows, SameForm, Ends, EndsHere, Runs}
+use Rattle.expander.specs.Outcomes.{At, Grows, SameForm, Ends, Runs}
 use Rattle.expander.specs.Ready.{BeginsBelow, TestsVariable}
 use Rattle.expander.specs.Searched.{searched}
 use Rattle.expander.specs.State.{Stands}

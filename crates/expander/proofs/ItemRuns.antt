@@ -1,16 +1,14 @@
 -- What was set aside is expanded, each kind by the calls that the code makes for it.
-use Rattle.std.proofs.Common.{◌≡◌, ℕ, ◌+◌, ◌≤◌, List, [], ◌∷◌, Bool, Option, Result, Ok, Err, Vec, refl, sym, ap, ◌∙◌, subst, arith}
-use Rattle.std.specs.Global.{Box}
+use Rattle.std.proofs.Common.{◌≡◌, ℕ, List, Bool, Option, Result, Ok, Err, Vec, refl, sym, subst, arith}
 use Rattle.std.specs.declared.alloc.Global.{Global}
 use Rattle.scheme_model.specs.declared.Occ.{Occ}
-use Rattle.scheme_model.specs.Trees.{Tree, Trees}
 use Rattle.scheme_model.specs.Ident.{Ident as Identifier}
 use Rattle.scheme_model.specs.ExpansionFaults.{Named}
 use Rattle.scheme_model.specs.Requirements.{Known}
 use Rattle.scheme_model.specs.Shapes.{Clause}
-use Rattle.scheme_model.specs.Cores.{Core, Set, Binder, Binders, RecordType, Part, Expression as expression_part, Define as define_part, Values as values_part, Fields as fields_part, Syntax as syntax_part}
-use Rattle.scheme_model.specs.Steps.{Broken, Step, ◌>>=◌, done}
-use Rattle.scheme_model.specs.Order.{Form, Item, target_of}
+use Rattle.scheme_model.specs.Cores.{Core, Binder, Binders, RecordType, Part, Expression as expression_part, Define as define_part, Values as values_part, Fields as fields_part, Syntax as syntax_part}
+use Rattle.scheme_model.specs.Steps.{Step, done}
+use Rattle.scheme_model.specs.Order.{Form, Item}
 use Rattle.scheme_model.specs.Order as model
 use Rattle.scheme_model.specs.Expression.{whole, expand, lambda, assignment, item_part, macro_def, meaning_of}
 use Rattle.scheme_model.specs.ScopedExpansion.{Frames, ScopedState}

@@ -1,5 +1,5 @@
 -- What was set aside in the code stands for an item of the same kind.
-use Rattle.std.proofs.Common.{◌≡◌, ℕ, ◌+◌, List, Bool, Option, refl, sym, ap, ◌∙◌, subst, arith, Vec}
+use Rattle.std.proofs.Common.{◌≡◌, ℕ, Bool, Option, ap, subst, arith, Vec}
 use Rattle.std.specs.declared.alloc.Global.{Global}
 use Rattle.scheme_model.specs.declared.Occ.{Occ}
 use Rattle.scheme_model.specs.ExpansionFaults.{Named}

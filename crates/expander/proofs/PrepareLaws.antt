@@ -1,12 +1,12 @@
 -- An expression that was settled and read: what is left of it.
-use Rattle.std.proofs.Common.{◌≡◌, ℕ, suc, ◌+◌, ◌≤◌, List, Option, Some, Result, Ok, Err, refl, sym, ap, ◌∙◌, subst, arith}
+use Rattle.std.proofs.Common.{◌≡◌, ℕ, List, Option, Some, Result, Ok, Err, refl, sym, ◌∙◌, subst}
 use Rattle.scheme_model.specs.declared.Occ.{Occ}
 use Rattle.scheme_model.specs.Trees.{Tree, Trees}
 use Rattle.scheme_model.specs.Ident.{Ident as Identifier}
 use Rattle.scheme_model.specs.Keywords.{CoreKeyword}
 use Rattle.scheme_model.specs.Requirements.{Known}
 use Rattle.scheme_model.specs.Cores.{Core, Call}
-use Rattle.scheme_model.specs.Steps.{Broken, Step, ◌>>=◌, done}
+use Rattle.scheme_model.specs.Steps.{Broken, ◌>>=◌, done}
 use Rattle.scheme_model.specs.Expression.{whole, expression, expand, node, each}
 use Rattle.scheme_model.specs.ScopedExpansion.{Frames, ScopedState}
 use Rattle.syntax_tree.specs.Looks.{PartsStand, AllNamed}
@@ -15,7 +15,6 @@ use Rattle.syntax_tree.specs.declared.trees.nodes.Tree as number
 use Rattle.syntax_tree.specs.declared.trees.table.Region.{Region}
 use Rattle.core_forms.specs.Ends.{keyword_as, ShapeFor}
 use Rattle.core_forms.specs.Forms.{Shape}
-use Rattle.core_forms.specs.Named.{ShapeNamed}
 use Rattle.core_forms.specs.declared.shape.CoreKeyword as code_keyword
 use Rattle.core_forms.specs.declared.shape.CoreShape as code_shape
 use Rattle.core_tree.specs.Cores.{CoreStands}
@@ -25,9 +24,9 @@ use Rattle.std.specs.declared.alloc.Global.{Global}
 use Rattle.expander.specs.CoreSteps.{core_step, IsLeft}
 use Rattle.expander.specs.State.{Stands}
 use Rattle.std.specs.Result.{IsErrAnd}
-use Rattle.expander.specs.Outcomes.{At, Stays, Ends, WorksOn, IsEnough, IsEnoughBelow}
+use Rattle.expander.specs.Outcomes.{At, Ends, WorksOn, IsEnoughBelow}
 use Rattle.expander.specs.Passed.{ShapeFits}
-use Rattle.expander.specs.Ready.{Expanding, IsSettled, Settled, Settles, ReadyFor, Reads, Prepares}
+use Rattle.expander.specs.Ready.{IsSettled, Settles, Reads, Prepares}
 use Rattle.expander.specs.Searched.{searched}
 use Rattle.expander.specs.declared.expressions.Ready as code_ready
 use Rattle.expander.specs.declared.expressions.Ready.TheVariants as ready

@@ -1,14 +1,14 @@
 -- Loops that do a step for each of a list: one more, a fault, want of memory, and the end.
-use Rattle.std.proofs.Common.{◌≡◌, ℕ, zero, suc, ◌+◌, ◌<◌, ◌≤◌, List, [], ◌∷◌, ◌++◌, length, get_or, take, Result, Ok, Err, refl, sym, ap, ◌∙◌, subst, arith}
+use Rattle.std.proofs.Common.{◌≡◌, ℕ, zero, suc, ◌+◌, ◌<◌, List, [], ◌∷◌, ◌++◌, length, get_or, take, Result, Ok, Err, sym, subst, arith}
 use Rattle.scheme_model.specs.Trees.{Tree, Trees, no_trees, tree}
 use Rattle.scheme_model.specs.Ident.{Ident as Identifier}
 use Rattle.scheme_model.specs.Requirements.{Known}
-use Rattle.scheme_model.specs.Steps.{Broken, Step}
+use Rattle.scheme_model.specs.Steps.{Step}
 use Rattle.scheme_model.specs.Shapes.{Clause}
 use Rattle.scheme_model.specs.Order.{Item}
 use Rattle.scheme_model.specs.ScopedExpansion.{Frames, ScopedState}
 use Rattle.syntax_tree.specs.Looks.{PartsStand, AllNamed}
-use Rattle.syntax_tree.specs.Works.{StandsFor, KeepsTrees, CanName}
+use Rattle.syntax_tree.specs.Works.{KeepsTrees}
 use Rattle.syntax_tree.specs.declared.trees.Work.{Work}
 use Rattle.syntax_tree.specs.declared.trees.nodes.Tree as number
 use Rattle.syntax_tree.specs.declared.trees.table.Region.{Region}
@@ -21,7 +21,7 @@ use Rattle.core_tree.specs.declared.cores.CorePart as code_part
 use Rattle.scheme_model.specs.Cores.{Core, Part, Binders}
 use Rattle.expander.specs.Expanded.{AreAtWork, ClauseStands, ClausesAtWork, ClauseAtWork, AreKeptAtWork, KeptAtWork}
 use Rattle.expander.specs.Kept.{ClauseFor, KeptFor}
-use Rattle.expander.specs.Outcomes.{Grows, SameForm, Ends, Runs, IsAtWork}
+use Rattle.expander.specs.Outcomes.{Grows, SameForm, Runs, IsAtWork}
 use Rattle.expander.specs.declared.fault.ExpandFault.{ExpandFault}
 use Rattle.expander.specs.declared.fault.ExpandFault.TheVariants as fault
 use Rattle.expander.specs.declared.items.Kept as code_kept

@@ -1,6 +1,6 @@
 -- A shape of the code with parts that are to be expanded stands for a shape of the same kind, and what is demanded of these parts
 -- holds of them.
-use Rattle.std.proofs.Common.{◌≡◌, ℕ, ◌+◌, ◌≤◌, suc, List, [], ◌∷◌, length, map, Bool, true, false, Option, Some, None, Result, Ok, Err, refl, sym, ap, ◌∙◌, subst, arith}
+use Rattle.std.proofs.Common.{◌≡◌, ℕ, suc, List, [], ◌∷◌, length, map, Bool, true, false, Option, Some, None, refl, sym, ap, ◌∙◌, subst, arith}
 use Rattle.std.specs.Prelude.{Vec}
 use Rattle.std.specs.List.{AllByRecursion}
 use Rattle.std.specs.declared.alloc.Global.{Global}
@@ -8,10 +8,8 @@ use Rattle.scheme_model.specs.Trees.{Tree, Trees, no_trees, tree}
 use Rattle.scheme_model.specs.Holes.{hole_places}
 use Rattle.scheme_model.specs.ExpansionFaults.{Named}
 use Rattle.scheme_model.specs.Keywords.{CoreKeyword, IsLetrecSyntax}
-use Rattle.scheme_model.specs.Quasiquote.{Mark, Pieces, quasi_of}
+use Rattle.scheme_model.specs.Quasiquote.{Pieces}
 use Rattle.scheme_model.specs.Shapes.{Clause, LocalMacros}
-use Rattle.scheme_model.specs.Cores.{Core}
-use Rattle.scheme_model.specs.Steps.{Broken, Step}
 use Rattle.scheme_model.specs.Order.{Here, Ops}
 use Rattle.scheme_model.specs.Expression.{Expander}
 use Rattle.scheme_model.specs.Ident.{Ident as Identifier}
@@ -23,7 +21,7 @@ use Rattle.syntax_tree.specs.declared.trees.table.Region.{Region}
 use Rattle.core_forms.specs.Ends.{keyword_as, ShapeFor}
 use Rattle.core_forms.specs.Forms.{Shape, Quoted, Quasi, Procedure, Procedures, Conditional, Assignment, Sequence, Definition, Several, RecordType, Syntax, Local, Choices, ErrorText, Inclusion}
 use Rattle.core_forms.specs.Named.{ClauseNamed}
-use Rattle.core_forms.specs.Parts.{AllMatch as AllParts, IsName, IsClause, AreTrees, AreClauses, AreMacros, IsMacro}
+use Rattle.core_forms.specs.Parts.{AllMatch as AllParts, IsName, IsClause, AreTrees, AreClauses, AreMacros}
 use Rattle.core_forms.specs.declared.shape.Choice.{Choice}
 use Rattle.core_forms.specs.declared.shape.ClauseShape.{ClauseShape}
 use Rattle.core_forms.specs.declared.shape.CoreKeyword as code_keyword
@@ -35,7 +33,7 @@ use Rattle.core_forms.specs.declared.shape.NamePart.{NamePart}
 use Rattle.core_tree.specs.Names.{AllMatch}
 use Rattle.expander.specs.CoreSteps.{IsLeft, local_step}
 use Rattle.expander.specs.Expanded.{macros_step}
-use Rattle.expander.specs.Kept.{ClauseFits, ClauseFor}
+use Rattle.expander.specs.Kept.{ClauseFor}
 use Rattle.expander.specs.Passed.{ClausesFit}
 use Rattle.expander.proofs.ShapeKinds.{same_kind}
 

@@ -1,4 +1,4 @@
-use Rattle.std.proofs.Common.{◌≡◌, ℕ, ◌*◌, ◌+◌, List, take, Ok}
+use Rattle.std.proofs.Common.{ℕ, ◌*◌, ◌+◌, List, take, Ok}
 use Rattle.scheme_model.specs.Trees.{Tree}
 use Rattle.scheme_model.specs.Ident.{Ident as Identifier}
 use Rattle.scheme_model.specs.Shapes.{Clause}

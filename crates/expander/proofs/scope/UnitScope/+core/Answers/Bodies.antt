@@ -35,7 +35,7 @@ use Rattle.expander.proofs.CoreStandLaws.{clause_on}
 use Rattle.expander.proofs.CycleCalls.{procedure_after, pass_after}
 use Rattle.expander.proofs.FormRuns.{lambda_runs, lambda_fails}
 use Rattle.expander.proofs.LoopLaws.{after_itself, after_on, runs_none, runs_told, runs_failed}
-use Rattle.expander.proofs.RowLaws.{row, clauses_row, clauses_of, clauses_stand, match_all}
+use Rattle.expander.proofs.RowLaws.{clauses_row, clauses_of, clauses_stand, match_all}
 use Rattle.expander.proofs.RowRuns.{row_one_more, row_stops, runs_memory, clauses_go_on, clause_at_work, item_as}
 use Rattle.expander.proofs.StepLaws.{runs_err, node_none}
 use Rattle.expander.proofs.scope.UnitScope.+core.Goals as goal

@@ -8,7 +8,7 @@ use Rattle.scheme_model.specs.Cores.{Core, Part}
 use Rattle.scheme_model.specs.Steps.{Step}
 use Rattle.scheme_model.specs.Order.{Item}
 use Rattle.scheme_model.specs.Order as model
-use Rattle.scheme_model.specs.Expression.{whole, expand, lambda, set, parts, item_part}
+use Rattle.scheme_model.specs.Expression.{whole, expand, lambda, parts, item_part}
 use Rattle.scheme_model.specs.ScopedExpansion.{Frames, ScopedState}
 use Rattle.core_tree.specs.Names.{AllMatch, IsBinder, IsField}
 use Rattle.core_tree.specs.Cores.{CoreStands, PartStands, PartsStand as PartsOfCores}
