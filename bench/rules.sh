@@ -1,6 +1,7 @@
 #!/usr/bin/env bash
-# Times macro uses: which rule a use matches and what its template gives, at a quarter, a half and the whole of a size (two
+# Measures macro uses: which rule a use matches and what its template gives, at a quarter, a half and the whole of a size (two
 # doublings): one ellipsis, an ellipsis in an ellipsis, a tail, variables in a row, and variables under an ellipsis each.
+# It prints seconds, and where valgrind is installed millions of instructions, which no other work on the machine changes.
 # Run by hand, outside the gate: bench/rules.sh
 # The timed program is made in a scratch repository, over copies of the crates that it stands on, and is proved before it is built.
 set -euo pipefail
@@ -128,7 +129,8 @@ ANTT
 echo "building the timed program .." >&2
 (cd "$timed" && rt run < /dev/null) > "$work/build.log" 2>&1 || { tail -20 "$work/build.log" >&2; exit 1; }
 
-# writes a macro and a use of it, of so many parts
+# writes a macro and a use of it, of so many parts. The same three rules stand in another order, so that the first which matches is
+# one that takes anything for a constant, one with the pattern for a constant, or one with the pattern and the template
 text() {
   python3 - "$@" <<'PYTHON'
 import math, sys
@@ -143,31 +145,49 @@ pattern, template, use = {
     'names': (row('x#'), '(%s)' % row('x#'), row('a')),
     'each': (row('(x# ...)'), '(%s)' % row('(x# ...)'), row('(a)')),
 }[shape]
-open(path, 'w').write('(syntax-rules () ((_ %s) %s)) (m %s)' % (pattern, template, use))
+anything, matched, built = '((_ . r) 1)', '((_ %s) 1)' % pattern, '((_ %s) %s)' % (pattern, template)
+orders = {'read': [anything, matched, built], 'matched': [matched, anything, built], 'built': [built, anything, matched]}
+for name, rules in orders.items():
+    open(path + '.' + name, 'w').write('(syntax-rules () %s) (m %s)' % (' '.join(rules), use))
 PYTHON
 }
 
-# the least times of five runs on the text, in seconds, and the count of nodes
+# the least times of seven runs on the text, in seconds, and the count of nodes
 seconds() {
-  for _ in 1 2 3 4 5; do
-    "$timed/out/rules_timed" < "$work/text"
+  for _ in 1 2 3 4 5 6 7; do
+    "$timed/out/rules_timed" < "$work/text.built"
   done | awk 'NF != 3 { print "not built" > "/dev/stderr"; exit 1 } NR == 1 || $1 < m { m = $1 } NR == 1 || $2 < b { b = $2 } { nodes = $3 }
     END { printf "%.4f %.4f %d", m / 1000000, b / 1000000, nodes }'
 }
 
-ratio() { awk -v a="$1" -v b="$2" 'BEGIN { print b == "" ? "-" : sprintf("%.2f", a / b) }'; }
+# the instructions of a run on the text with the rules in an order
+instructions() {
+  valgrind --tool=cachegrind --cache-sim=no --cachegrind-out-file=/dev/null "$timed/out/rules_timed" < "$work/text.$1" 2>&1 |
+    awk '/I +refs:/ { gsub(",", "", $NF); print $NF }'
+}
 
-printf '%-7s %8s %8s %9s %6s %9s %6s\n' shape parts nodes match ratio build ratio
+# millions of instructions of the match and of the build
+millions() {
+  command -v valgrind > /dev/null || { echo "- -"; return; }
+  awk -v r="$(instructions read)" -v m="$(instructions matched)" -v b="$(instructions built)" 'BEGIN { printf "%.2f %.2f", (m - r) / 1000000, (b - m) / 1000000 }'
+}
+
+ratio() { awk -v a="$1" -v b="$2" 'BEGIN { print b + 0 == 0 ? "-" : sprintf("%.2f", a / b) }'; }
+
+printf '%-7s %8s %8s | %9s %6s %9s %6s | %9s %6s %9s %6s\n' shape parts nodes "match, s" ratio "build, s" ratio "match, M" ratio "build, M" ratio
 for shape in row square tail names each; do
-  m= b=
-  count=100000
-  [ "$shape" != square ] || count=90000
-  [ "$shape" != each ] || count=20000
-  [ "$shape" != names ] || count=50000
+  m= b= mm= bm=
+  count=400000
+  [ "$shape" != square ] || count=360000
+  [ "$shape" != each ] || count=24000
+  [ "$shape" != names ] || count=44000
   for parts in $((count / 4)) $((count / 2)) "$count"; do
     text "$shape" "$work/text" "$parts"
     read -r matching building nodes <<< "$(seconds)"
-    printf '%-7s %8d %8d %9s %6s %9s %6s\n' "$shape" "$parts" "$nodes" "$matching" "$(ratio "$matching" "$m")" "$building" "$(ratio "$building" "$b")"
-    m=$matching b=$building
+    read -r match_millions build_millions <<< "$(millions)"
+    printf '%-7s %8d %8d | %9s %6s %9s %6s | %9s %6s %9s %6s\n' "$shape" "$parts" "$nodes" \
+      "$matching" "$(ratio "$matching" "$m")" "$building" "$(ratio "$building" "$b")" \
+      "$match_millions" "$(ratio "$match_millions" "$mm")" "$build_millions" "$(ratio "$build_millions" "$bm")"
+    m=$matching b=$building mm=$match_millions bm=$build_millions
   done
 done
