@@ -94,3 +94,5 @@ pub mod FormRuns
 pub mod LocalRuns
 pub mod ItemRuns
 pub mod CycleCalls
+pub mod OtherForms
+pub mod OtherCounts

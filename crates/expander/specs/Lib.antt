@@ -26,3 +26,4 @@ pub mod Units
 pub mod Opened
 pub mod Preluded
 pub mod Copied
+pub mod Others

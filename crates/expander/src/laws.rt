@@ -1,10 +1,22 @@
 //! Laws of the definitions. Each is the contract of a function that does nothing.
-ghost use Rattle.std.specs.Prelude.{◌≡◌, ℕ, true, List};
+ghost use Rattle.std.specs.Prelude.{◌≡◌, ℕ, suc, ◌≤◌, true, List};
+ghost use Rattle.scheme_model.specs.Ident.{Ident as Identifier};
+ghost use Rattle.scheme_model.specs.Trees.{Tree};
+ghost use Rattle.scheme_model.specs.Order.{Item as ModelItem, Note};
+ghost use Rattle.scheme_model.specs.ScopedExpansion.{Place, ScopedState};
+ghost use Rattle.scheme_model.specs.Substitution.{Defined};
 ghost use Rattle.scheme_model.specs.Requirements.{Known};
 ghost use Rattle.scheme_model.specs.Program.{Placed, Prepared, is_ready};
 ghost use Rattle.scheme_model.specs.CountedExpansion.{counted};
 ghost use Rattle.scheme_model.specs.ScopedProgram.{scoped_work, scoped_before, scoped_unit_over, scoped_start_after};
+ghost use Rattle.syntax_tree.specs.Names.{KeepsNames};
+ghost use Rattle.syntax_tree.specs.declared.trees.Work.{Work as AnyWork};
+ghost use Rattle.core_tree.specs.Units.{defined_by};
+ghost use Rattle.core_tree.specs.declared.traces.Trace.{Trace as AnyTrace};
+ghost use Rattle.expander.specs.Others.{OthersStay, InOrder};
 ghost use Rattle.expander.specs.Searched.{searched, searched_unit_over, all_passed, front_passed, front_finished};
+ghost use Rattle.expander.specs.Units.{CountsFor, declared, expanded};
+ghost use Rattle.expander.specs.declared.scope.Budget.{Budget as AnyBudget};
 
 /// Each unit that is ready, whatever was worked on before it, comes to the same forms and the same state where a definition goes
 /// through the notes that speak of its identifier as where it goes through all (R7RS 4.3, 5.3): the whole unit, its forms as they are
@@ -19,4 +31,16 @@ pub fn notes_are_searched()
     ensures each_finished { (all : List Placed) (units : List Prepared) (known : Known) (n : ℕ) (p : Prepared) →
         let g = scoped_work all units known n scoped_before in is_ready all units g.results p ≡ true → (k : ℕ) →
         let q = all_passed (counted known) p (scoped_start_after all p g) in front_finished (searched known) k q ≡ front_finished (counted known) k q }
+{}
+
+/// A step of one form of a unit leaves its other forms as they are, whether the form is gone through or what it set aside is expanded
+/// (R7RS 5.3). What another form counted, met and defined stands for the same afterwards, in a work that has only grown; and the
+/// unit's definitions stay in the order of their forms.
+pub fn other_forms_stay()
+    ensures declared { (known : Known) (n : ℕ) (t : Tree Identifier) (notes : List (Note Place)) (s : ScopedState) → OthersStay n s (declared known n t notes s).1 }
+    ensures expanded { (known : Known) (n : ℕ) (i : ModelItem Identifier) (s : ScopedState) → OthersStay n s (expanded known n i s).1 }
+    ensures counts { (old new : AnyWork) (n m : ℕ) (budget : AnyBudget) (trace : AnyTrace) (s t : ScopedState) → (m ≡ n → ⊥) → OthersStay n s t →
+        KeepsNames old.symbols new.symbols → CountsFor old s m budget trace → CountsFor new t m budget trace }
+    ensures in_order { (n first behind : ℕ) (s t : ScopedState) → OthersStay n s t → first ≤ n → behind ≤ suc n →
+        InOrder (λ (d : Defined). d.form) first behind (defined_by s.unit s.table) → InOrder (λ (d : Defined). d.form) first (suc n) (defined_by t.unit t.table) }
 {}
