@@ -96,3 +96,4 @@ pub mod ItemRuns
 pub mod CycleCalls
 pub mod OtherForms
 pub mod OtherCounts
+pub mod ItemTables

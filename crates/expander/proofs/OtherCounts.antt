@@ -1,9 +1,9 @@
 -- What another form has counted, met and defined stands for the same after a step, and definitions stay in the order of their forms.
-use Rattle.std.proofs.Common.{◌≡◌, ℕ, suc, ◌+◌, ◌==◌, ◌≤◌, ◌<◌, List, [], ◌∷◌, ◌++◌, reverse, cond, refl, sym, ap, ◌∙◌, subst, arith, eq-eqb}
+use Rattle.std.proofs.Common.{◌≡◌, ℕ, suc, ◌≤◌, ◌<◌, List, [], ◌∷◌, ◌++◌, reverse, cond, refl, sym, ap, ◌∙◌, subst, arith, eq-eqb}
 use Rattle.std.proofs.lemmas.Bool.{ne_eqb}
 use Rattle.scheme_model.specs.Meaning as model
 use Rattle.scheme_model.specs.Cores.{Target, MacroUse}
-use Rattle.scheme_model.specs.Substitution.{Defined, Table}
+use Rattle.scheme_model.specs.Substitution.{Defined}
 use Rattle.scheme_model.specs.ScopedExpansion.{ScopedState}
 use Rattle.syntax_tree.specs.Names.{Names, KeepsNames}
 use Rattle.syntax_tree.specs.Meant.{IsMeaning}
@@ -86,7 +86,7 @@ module _ (form : ℕ) (s t : ScopedState) (stay : OthersStay form s t) where
   others_count old new m b trace apart names h =
       let c = stay.counts m apart in
       let same : numbered_in t.unit m t.table ≡ numbered_in s.unit m s.table =
-          ap (λ (u : ℕ). numbered_in u m t.table) stay.unit ∙ (ap (numbered_in s.unit m) stay.table.whole ∙ else_numbered s.unit s.unit form m apart stay.table.front s.table stay.table.each) in
+      ap (λ (u : ℕ). numbered_in u m t.table) stay.unit ∙ (ap (numbered_in s.unit m) stay.table.whole ∙ else_numbered s.unit s.unit form m apart stay.table.front s.table stay.table.each) in
       record {
         number = h.number;
         locals = h.locals ∙ sym c.locals;

@@ -16,7 +16,7 @@ use Rattle.scheme_model.specs.UnitExpansion.{max_depth}
 use Rattle.scheme_model.specs.Expression.{expand}
 use Rattle.scheme_model.specs.Program.{enough_turns}
 use Rattle.scheme_model.specs.Substitution.{at_form, any}
-use Rattle.scheme_model.specs.ScopedExpansion.{Frames, Place, ScopedMacro, ScopedState, next_number, macro_added, body_around, definition_added, meaning_next, is_defined}
+use Rattle.scheme_model.specs.ScopedExpansion.{Frames, Place, ScopedState, next_number, macro_added, body_around, definition_added, meaning_next, is_defined}
 use Rattle.scheme_model.specs.CountedExpansion.{refused_here}
 use Rattle.scheme_model.proofs.FrameAsks.{AllOf}
 use Rattle.scheme_model.proofs.FrameHeads.{IfMacro}
@@ -111,13 +111,13 @@ module _ (form : ℕ) where
 
   module _ (s : ScopedState) (work : s.form ≡ form) where
     spent_on : (n : ℕ) → OthersStay form s (record s { nodes = at_form s.form (λ m. m + n) s.nodes })
-    spent_on n = counted_on s _ refl refl refl refl refl (λ m apart. record { locals = refl; uses = refl; nodes = else_at s.form m _ s.nodes work apart; bodies = refl; keywords = refl; met = refl })
+    spent_on n = counted_on s _ refl refl refl refl refl (λ m apart. record { locals = refl; uses = refl; nodes = else_at s.form m (λ m. m + n) s.nodes work apart; bodies = refl; keywords = refl; met = refl })
 
     met_on : (t : Target) → OthersStay form s (record s { keywords = at_form s.form (λ ts. t ∷ ts) s.keywords })
-    met_on t = counted_on s _ refl refl refl refl refl (λ m apart. record { locals = refl; uses = refl; nodes = refl; bodies = refl; keywords = else_at s.form m _ s.keywords work apart; met = refl })
+    met_on t = counted_on s _ refl refl refl refl refl (λ m apart. record { locals = refl; uses = refl; nodes = refl; bodies = refl; keywords = else_at s.form m (λ ts. t ∷ ts) s.keywords work apart; met = refl })
 
     use_met_on : (u : MacroUse) → OthersStay form s (record s { met = at_form s.form (λ us. u ∷ us) s.met })
-    use_met_on u = counted_on s _ refl refl refl refl refl (λ m apart. record { locals = refl; uses = refl; nodes = refl; bodies = refl; keywords = refl; met = else_at s.form m _ s.met work apart })
+    use_met_on u = counted_on s _ refl refl refl refl refl (λ m apart. record { locals = refl; uses = refl; nodes = refl; bodies = refl; keywords = refl; met = else_at s.form m (λ us. u ∷ us) s.met work apart })
 
     begun_on : (fs : Frames) → OthersStay form s (record s { uses = at_form s.form suc s.uses; places = record { use_number = next_number s s.uses; frames = fs } ∷ s.places })
     begun_on fs = counted_on s _ refl refl refl refl refl (λ m apart. record { locals = refl; uses = else_at s.form m suc s.uses work apart; nodes = refl; bodies = refl; keywords = refl; met = refl })
@@ -180,6 +180,8 @@ module _ (form : ℕ) where
     good = λ s. s.form ≡ form;
     fits = λ s fs. Unit {0};
     noted = λ s l. Unit {0};
+    defines = λ fs. Unit {0};
+    inside = λ s fs ts. tt;
     later = OthersStay form;
     itself = others_itself;
     then_ = others_then;
@@ -195,8 +197,8 @@ module _ (form : ℕ) where
     keep = λ s g fs h v r. (g, kept_on s g v r fs);
     enter = λ s g fs h ts. ((g, entered_on s g), tt);
     transformer = λ s g m. any_macro _;
-    same = λ s g fs h n r p ns. refl;
-    defined = λ s g fs h n r p. defined_on s g (body_around fs) n r fs p (is_refused_here n r fs p s) (is_defined s (body_around fs) n.name);
+    same = λ s g fs defines h n r p ns. refl;
+    defined = λ s g fs defines h n r p. defined_on s g (body_around fs) n r fs p (is_refused_here n r fs p s) (is_defined s (body_around fs) n.name);
     left = λ s fs n r p. notes_left s (definition_added (body_around fs) n r fs s) n p (is_refused_here n r fs p s) (is_defined s (body_around fs) n.name);
   }
 
@@ -214,7 +216,7 @@ module _ (form : ℕ) where
   pub declared_stays : (known : Known) (t : Tree Ident) (notes : List (Note Place)) (s : ScopedState) → OthersStay form s (declared known form t notes s).1
   declared_stays known t notes s =
       of_turned s (declared known form t notes s).1
-      (ran_after (searched known) (staying known) (run_alike (searched known) (staying known) [] enough_turns (record { todo = record { here = None; tree = t } ∷ []; aside = []; notes = notes }) (turned form s) (refl, tt) (any_notes notes))).1
+      (ran_after (searched known) (staying known) (run_alike (searched known) (staying known) [] tt enough_turns (record { todo = record { here = None; tree = t } ∷ []; aside = []; notes = notes }) (turned form s) (refl, tt) (any_notes notes))).1
 
   pub expanded_stays : (known : Known) (i : Item Ident) (s : ScopedState) → OthersStay form s (expanded known form i s).1
   expanded_stays known i s =

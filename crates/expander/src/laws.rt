@@ -34,11 +34,12 @@ pub fn notes_are_searched()
 {}
 
 /// A step of one form of a unit leaves its other forms as they are, whether the form is gone through or what it set aside is expanded
-/// (R7RS 5.3). What another form counted, met and defined stands for the same afterwards, in a work that has only grown; and the
-/// unit's definitions stay in the order of their forms.
+/// (R7RS 5.3): only the former defines anything in the unit. What another form counted, met and defined stands for the same
+/// afterwards, in a work that has only grown; and the unit's definitions stay in the order of their forms.
 pub fn other_forms_stay()
     ensures declared { (known : Known) (n : ℕ) (t : Tree Identifier) (notes : List (Note Place)) (s : ScopedState) → OthersStay n s (declared known n t notes s).1 }
     ensures expanded { (known : Known) (n : ℕ) (i : ModelItem Identifier) (s : ScopedState) → OthersStay n s (expanded known n i s).1 }
+    ensures table { (known : Known) (n : ℕ) (i : ModelItem Identifier) (s : ScopedState) → (expanded known n i s).1.table ≡ s.table }
     ensures counts { (old new : AnyWork) (n m : ℕ) (budget : AnyBudget) (trace : AnyTrace) (s t : ScopedState) → (m ≡ n → ⊥) → OthersStay n s t →
         KeepsNames old.symbols new.symbols → CountsFor old s m budget trace → CountsFor new t m budget trace }
     ensures in_order { (n first behind : ℕ) (s t : ScopedState) → OthersStay n s t → first ≤ n → behind ≤ suc n →
