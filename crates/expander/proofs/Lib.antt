@@ -97,3 +97,5 @@ pub mod CycleCalls
 pub mod OtherForms
 pub mod OtherCounts
 pub mod ItemTables
+pub mod FreshLaws
+pub mod PartsStay

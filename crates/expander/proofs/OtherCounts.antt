@@ -49,7 +49,7 @@ module _ (old new : Names) (names : KeepsNames old new) (unit form : ℕ) where
   target_on : (t : code_target.Target) (m : Target) → IsTarget old unit form t m → IsTarget new unit form t m
   target_on t m h = record { meaning = meaning_on t.meaning m.meaning h.meaning; ident = names.idents t.ident m.ident h.ident; place = h.place }
 
-  use_on : (u : code_use.MacroUse) (m : MacroUse) → IsUse old unit form u m → IsUse new unit form u m
+  pub use_on : (u : code_use.MacroUse) (m : MacroUse) → IsUse old unit form u m → IsUse new unit form u m
   use_on u m h = record { keyword = target_on u.keyword m.keyword h.keyword; literals = matches_on (IsTarget old unit form) (IsTarget new unit form) target_on u.literals.items m.literals h.literals }
 
   binder_on : (b : code_binder.Binder) (d : ℕ × Defined) → IsNumbered old form b d → IsNumbered new form b d

@@ -1,21 +1,34 @@
 //! Laws of the definitions. Each is the contract of a function that does nothing.
-ghost use Rattle.std.specs.Prelude.{◌≡◌, ℕ, suc, ◌≤◌, true, List};
+ghost use Rattle.std.specs.Prelude.{◌≡◌, ℕ, suc, ◌+◌, ◌^◌, ◌≤◌, true, List, []};
 ghost use Rattle.scheme_model.specs.Ident.{Ident as Identifier};
 ghost use Rattle.scheme_model.specs.Trees.{Tree};
+ghost use Rattle.scheme_model.specs.Cores.{Part as ModelPart, Parts as ModelParts};
+ghost use Rattle.scheme_model.specs.Steps.{Broken};
 ghost use Rattle.scheme_model.specs.Order.{Item as ModelItem, Note};
+ghost use Rattle.scheme_model.specs.UnitExpansion.{Formed};
 ghost use Rattle.scheme_model.specs.ScopedExpansion.{Place, ScopedState};
 ghost use Rattle.scheme_model.specs.Substitution.{Defined};
 ghost use Rattle.scheme_model.specs.Requirements.{Known};
 ghost use Rattle.scheme_model.specs.Program.{Placed, Prepared, is_ready};
 ghost use Rattle.scheme_model.specs.CountedExpansion.{counted};
 ghost use Rattle.scheme_model.specs.ScopedProgram.{scoped_work, scoped_before, scoped_unit_over, scoped_start_after};
-ghost use Rattle.syntax_tree.specs.Names.{KeepsNames};
+ghost use Rattle.syntax_tree.specs.Names.{Names as AnyNames, KeepsNames};
+ghost use Rattle.syntax_tree.specs.Works.{KeepsTrees};
 ghost use Rattle.syntax_tree.specs.declared.trees.Work.{Work as AnyWork};
-ghost use Rattle.core_tree.specs.Units.{defined_by};
+ghost use Rattle.syntax_tree.specs.declared.trees.table.Region.{Region as AnyRegion};
+ghost use Rattle.core_tree.specs.Names.{AllMatch};
+ghost use Rattle.core_tree.specs.Cores.{PartStands, PartsStand};
+ghost use Rattle.core_tree.specs.Traces.{IsFault};
+ghost use Rattle.core_tree.specs.Units.{FormsStand, defined_by};
+ghost use Rattle.core_tree.specs.declared.cores.CorePart.{CorePart as AnyPart};
+ghost use Rattle.core_tree.specs.declared.traces.FormFault.{FormFault as AnyFault};
+ghost use Rattle.core_tree.specs.declared.units.UnitForm.{UnitForm as AnyForm};
 ghost use Rattle.core_tree.specs.declared.traces.Trace.{Trace as AnyTrace};
 ghost use Rattle.expander.specs.Others.{OthersStay, InOrder};
 ghost use Rattle.expander.specs.Searched.{searched, searched_unit_over, all_passed, front_passed, front_finished};
-ghost use Rattle.expander.specs.Units.{CountsFor, declared, expanded};
+ghost use Rattle.expander.specs.Stepped.{IsFresh};
+ghost use Rattle.expander.specs.Units.{CountsFor, HasSpace, ItemFor, declared, expanded};
+ghost use Rattle.expander.specs.declared.items.Item.{Item as AnyItem};
 ghost use Rattle.expander.specs.declared.scope.Budget.{Budget as AnyBudget};
 
 /// Each unit that is ready, whatever was worked on before it, comes to the same forms and the same state where a definition goes
@@ -44,4 +57,30 @@ pub fn other_forms_stay()
         KeepsNames old.symbols new.symbols → CountsFor old s m budget trace → CountsFor new t m budget trace }
     ensures in_order { (n first behind : ℕ) (s t : ScopedState) → OthersStay n s t → first ≤ n → behind ≤ suc n →
         InOrder (λ (d : Defined). d.form) first behind (defined_by s.unit s.table) → InOrder (λ (d : Defined). d.form) first (suc n) (defined_by t.unit t.table) }
+{}
+
+/// Where no form has counted, met or defined anything yet, as in a unit that was begun just now, counts of nothing are each form's
+/// (R7RS 5.1): there is space for its first step, and the unit's definitions, which are none, are in order.
+pub fn fresh_counts()
+    ensures counts { (work : AnyWork) (s : ScopedState) (m : ℕ) (budget : AnyBudget) (trace : AnyTrace) → IsFresh s m → budget.uses ≡ 0 → budget.nodes ≡ 0 → budget.locals ≡ 0 →
+        trace.definitions ≡ [] → trace.keywords ≡ [] → trace.uses ≡ [] → CountsFor work s m budget trace }
+    ensures space { (budget : AnyBudget) → budget.locals ≡ 0 → HasSpace (2 ^ 43 + 2 ^ 40) budget }
+    ensures in_order { (s : ScopedState) → ((m : ℕ) → IsFresh s m) → InOrder (λ (d : Defined). d.form) 0 0 (defined_by s.unit s.table) }
+{}
+
+/// What a form set aside it still set aside in a work that has only grown, as it has after each call (R7RS 5.3).
+pub fn items_stay()
+    ensures item { (old new : AnyWork) (region : AnyRegion) (unit form : ℕ) (x : AnyItem) (i : ModelItem Identifier) → KeepsTrees old new → KeepsNames old.symbols new.symbols →
+        ItemFor old region unit form x i → ItemFor new region unit form x i }
+    ensures items { (old new : AnyWork) (region : AnyRegion) (unit form : ℕ) (xs : List AnyItem) (ys : List (ModelItem Identifier)) → KeepsTrees old new → KeepsNames old.symbols new.symbols →
+        AllMatch (ItemFor old region unit form) xs ys → AllMatch (ItemFor new region unit form) xs ys }
+{}
+
+/// What was expanded stands for the same in a work that has only grown: a part, the parts of a form, a form's fault, and the forms of
+/// a unit from one on.
+pub fn parts_stay()
+    ensures part { (old new : AnyWork) (unit form : ℕ) (x : AnyPart) (p : ModelPart) → KeepsTrees old new → KeepsNames old.symbols new.symbols → PartStands old unit form x p → PartStands new unit form x p }
+    ensures parts { (old new : AnyWork) (unit form : ℕ) (xs : List AnyPart) (ps : ModelParts) → KeepsTrees old new → KeepsNames old.symbols new.symbols → PartsStand old unit form xs ps → PartsStand new unit form xs ps }
+    ensures fault { (old new : AnyNames) (unit form : ℕ) (e : AnyFault) (b : Broken) → KeepsNames old new → IsFault old unit form e b → IsFault new unit form e b }
+    ensures forms { (old new : AnyWork) (unit form : ℕ) (cs : List AnyForm) (fs : List Formed) → KeepsTrees old new → KeepsNames old.symbols new.symbols → FormsStand old unit form cs fs → FormsStand new unit form cs fs }
 {}
