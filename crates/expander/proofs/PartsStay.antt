@@ -1,5 +1,5 @@
 -- What stood for a form's items, parts or fault in a work still does in one that grew.
-use Rattle.std.proofs.Common.{◌≡◌, ℕ, suc, List, [], ◌∷◌, map, reverse, Option, Some, None, Result, Ok, Err, inl, inr}
+use Rattle.std.proofs.Common.{ℕ, suc, List, [], ◌∷◌, map, reverse, Option, Some, None, Result, Ok, Err, inl, inr}
 use Rattle.scheme_model.specs.Ident.{Ident as Identifier}
 use Rattle.scheme_model.specs.ExpansionFaults.{Named, fault_name}
 use Rattle.scheme_model.specs.Cores.{Parts}

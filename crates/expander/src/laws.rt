@@ -25,6 +25,7 @@ ghost use Rattle.core_tree.specs.declared.traces.FormFault.{FormFault as AnyFaul
 ghost use Rattle.core_tree.specs.declared.units.UnitForm.{UnitForm as AnyForm};
 ghost use Rattle.core_tree.specs.declared.traces.Trace.{Trace as AnyTrace};
 ghost use Rattle.expander.specs.Others.{OthersStay, InOrder};
+ghost use Rattle.expander.specs.Outcomes.{Grows};
 ghost use Rattle.expander.specs.Searched.{searched, searched_unit_over, all_passed, front_passed, front_finished};
 ghost use Rattle.expander.specs.Stepped.{IsFresh};
 ghost use Rattle.expander.specs.Units.{CountsFor, HasSpace, ItemFor, declared, expanded};
@@ -66,6 +67,16 @@ pub fn fresh_counts()
         trace.definitions ≡ [] → trace.keywords ≡ [] → trace.uses ≡ [] → CountsFor work s m budget trace }
     ensures space { (budget : AnyBudget) → budget.locals ≡ 0 → HasSpace (2 ^ 43 + 2 ^ 40) budget }
     ensures in_order { (s : ScopedState) → ((m : ℕ) → IsFresh s m) → InOrder (λ (d : Defined). d.form) 0 0 (defined_by s.unit s.table) }
+{}
+
+/// What each call leaves of a work adds up: a work grows by nothing, and by one step behind another. Where the same nodes stand over
+/// more names, trees are kept, as where a unit is begun.
+pub fn works_grow()
+    ensures itself { (w : AnyWork) (region : AnyRegion) → Grows w w region }
+    ensures steps { (a b c : AnyWork) (region : AnyRegion) → Grows a b region → Grows b c region → Grows a c region }
+    ensures trees { (a b c : AnyWork) → KeepsTrees a b → KeepsTrees b c → KeepsTrees a c }
+    ensures names { (a b c : AnyNames) → KeepsNames a b → KeepsNames b c → KeepsNames a c }
+    ensures same { (old new : AnyWork) → new.trees ≡ old.trees → KeepsNames old.symbols new.symbols → KeepsTrees old new }
 {}
 
 /// What a form set aside it still set aside in a work that has only grown, as it has after each call (R7RS 5.3).
