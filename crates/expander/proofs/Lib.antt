@@ -99,3 +99,6 @@ pub mod OtherCounts
 pub mod ItemTables
 pub mod FreshLaws
 pub mod PartsStay
+pub mod TopRuns
+pub mod TopCores
+pub mod TopForms

@@ -27,3 +27,4 @@ pub mod Opened
 pub mod Preluded
 pub mod Copied
 pub mod Others
+pub mod Tops

@@ -1,5 +1,5 @@
 //! Laws of the definitions. Each is the contract of a function that does nothing.
-ghost use Rattle.std.specs.Prelude.{◌≡◌, ℕ, suc, ◌+◌, ◌^◌, ◌≤◌, true, List, []};
+ghost use Rattle.std.specs.Prelude.{◌≡◌, ℕ, suc, ◌+◌, ◌^◌, ◌≤◌, true, false, List, []};
 ghost use Rattle.scheme_model.specs.Ident.{Ident as Identifier};
 ghost use Rattle.scheme_model.specs.Trees.{Tree};
 ghost use Rattle.scheme_model.specs.Cores.{Part as ModelPart, Parts as ModelParts};
@@ -18,6 +18,7 @@ ghost use Rattle.syntax_tree.specs.declared.trees.Work.{Work as AnyWork};
 ghost use Rattle.syntax_tree.specs.declared.trees.table.Region.{Region as AnyRegion};
 ghost use Rattle.core_tree.specs.Names.{AllMatch};
 ghost use Rattle.core_tree.specs.Cores.{PartStands, PartsStand};
+ghost use Rattle.core_tree.specs.Levels.{PartBinds};
 ghost use Rattle.core_tree.specs.Traces.{IsFault};
 ghost use Rattle.core_tree.specs.Units.{FormsStand, defined_by};
 ghost use Rattle.core_tree.specs.declared.cores.CorePart.{CorePart as AnyPart};
@@ -28,6 +29,7 @@ ghost use Rattle.expander.specs.Others.{OthersStay, InOrder};
 ghost use Rattle.expander.specs.Outcomes.{Grows};
 ghost use Rattle.expander.specs.Searched.{searched, searched_unit_over, all_passed, front_passed, front_finished};
 ghost use Rattle.expander.specs.Stepped.{IsFresh};
+ghost use Rattle.expander.specs.Tops.{OfOk, ItemBinds, ItemsBind};
 ghost use Rattle.expander.specs.Units.{CountsFor, HasSpace, ItemFor, declared, expanded};
 ghost use Rattle.expander.specs.declared.items.Item.{Item as AnyItem};
 ghost use Rattle.expander.specs.declared.scope.Budget.{Budget as AnyBudget};
@@ -94,4 +96,11 @@ pub fn parts_stay()
     ensures parts { (old new : AnyWork) (unit form : ℕ) (xs : List AnyPart) (ps : ModelParts) → KeepsTrees old new → KeepsNames old.symbols new.symbols → PartsStand old unit form xs ps → PartsStand new unit form xs ps }
     ensures fault { (old new : AnyNames) (unit form : ℕ) (e : AnyFault) (b : Broken) → KeepsNames old new → IsFault old unit form e b → IsFault new unit form e b }
     ensures forms { (old new : AnyWork) (unit form : ℕ) (cs : List AnyForm) (fs : List Formed) → KeepsTrees old new → KeepsNames old.symbols new.symbols → FormsStand old unit form cs fs → FormsStand new unit form cs fs }
+{}
+
+/// What a form of a unit sets aside binds definitions of the unit, and so does each part that comes of it; all that stands inside binds
+/// locals (R7RS 5.3).
+pub fn forms_define_on_top()
+    ensures declared { (known : Known) (n : ℕ) (t : Tree Identifier) (notes : List (Note Place)) (s : ScopedState) → OfOk (ItemsBind false) (declared known n t notes s).0.items }
+    ensures expanded { (known : Known) (n : ℕ) (i : ModelItem Identifier) (s : ScopedState) → ItemBinds false i → OfOk (PartBinds false) (expanded known n i s).0 }
 {}
