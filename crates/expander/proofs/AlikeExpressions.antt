@@ -136,7 +136,7 @@ module _ {E A L S : Type 0} (ops : Ops E A L S) (k : Likeness ops) where
         let r = ops.enter e ts t in
         let a = k.enter t i.0 e i.1 ts in
         since ops k t r.state a.0
-        (made_alike r.state _ (alike_bind ops k r.state _ _ (items_alike r.state (run_alike ops k r.env turns (record { todo = forms_at here r.trees; aside = []; notes = [] }) r.state (a.0.0, a.1) tt))
+        (made_alike r.state _ (alike_bind ops k r.state _ _ (items_alike r.state (run_alike ops k r.env (k.inside t e ts) turns (record { todo = forms_at here r.trees; aside = []; notes = [] }) r.state (a.0.0, a.1) tt))
         (λ is u b z. all_items_alike below r.env is u (on_after ops k r.env r.state u (a.0.0, a.1) b))))) s h
 
     sequence_alike : (depth : ℕ) (here : Here) (e : E) (ts : Trees A) → StepsAlike e (sequence F ops depth here e ts) (sequence G (other ops k) depth here e ts)

@@ -13,7 +13,7 @@ use Rattle.scheme_model.proofs.FrameHeads.{IfMacro}
 use Rattle.scheme_model.proofs.FrameHeld.{all_append, NoteAll}
 use Rattle.expander.proofs.AlikeSteps.{Likeness, other, After, On, Notes, after_then, on_after, notes_after, alike, alike_bind, counting_alike, given_alike, use_alike, compared_noted, define_alike, names_alike, fields_alike, parts_alike, rules_alike, rules_noted, here_after, Ran, ran, ran_since, caught_alike}
 
-module _ {E A L S : Type 0} (ops : Ops E A L S) (k : Likeness ops) (e : E) where
+module _ {E A L S : Type 0} (ops : Ops E A L S) (k : Likeness ops) (e : E) (defines : k.defines e) where
   abbrev pub Goes_on : Type 0
   Goes_on = Going A L S
 
@@ -26,7 +26,7 @@ module _ {E A L S : Type 0} (ops : Ops E A L S) (k : Likeness ops) (e : E) where
       -- a name is defined, and then it goes on
       one_alike : (n : Named A) (t : Item A) (p : Pending A L) (s : S) → On ops k e s → Notes ops k s p.notes
           → Ran ops k s (caught p.notes (told here (ops.define n None e (put t p) s)) f) (caught p.notes (told here (k.define n None e (put t p) s)) f')
-      one_alike n t p s h l = caught_alike ops k s p.notes f f' (define_alike ops k here n None e (put t p) s h l) (λ q u a z. law q u (on_after ops k e s u h a) z)
+      one_alike n t p s h l = caught_alike ops k s p.notes f f' (define_alike ops k here n None e defines (put t p) s h l) (λ q u a z. law q u (on_after ops k e s u h a) z)
 
       variable_alike : (n : Named A) (t : Tree A) (b : Bool) (p : Pending A L) (s : S) → On ops k e s → Notes ops k s p.notes → Ran ops k s (run_variable ops f here e n t b p s) (run_variable (other ops k) f' here e n t b p s)
       variable_alike n t true p s h l = law (put (Assigned n (record { here = here; tree = t })) p) s h l
@@ -47,14 +47,14 @@ module _ {E A L S : Type 0} (ops : Ops E A L S) (k : Likeness ops) (e : E) where
       values_runs : (p : Pending A L) (d : Formals A × Tree A) (s : S) → On ops k e s → Notes ops k s p.notes → Ran ops k s (run_values ops f here e p d s) (run_values (other ops k) f' here e p d s)
       values_runs p d s h l =
           caught_alike ops k s p.notes (λ r. f (values_put r.0 d.0.rest r.1 r.1.todo)) (λ r. f' (values_put r.0 d.0.rest r.1 r.1.todo))
-          (names_alike ops k here e d.0.names (record { here = here; tree = d.1 } ∷ []) p s h l) (λ r u a z. put_values r.0 d.0.rest r.1 r.1.todo u (on_after ops k e s u h a) z)
+          (names_alike ops k here e defines d.0.names (record { here = here; tree = d.1 } ∷ []) p s h l) (λ r u a z. put_values r.0 d.0.rest r.1 r.1.todo u (on_after ops k e s u h a) z)
 
       record_runs : (p : Pending A L) (r : RecordShape A) (s : S) → On ops k e s → Notes ops k s p.notes → Ran ops k s (run_record ops f here e p r s) (run_record (other ops k) f' here e p r s)
       record_runs p r s h l =
           caught_alike ops k {V = List Binder × (List Binder × Pending A L)} {G = λ t q. Notes ops k t q.1.1.notes} s p.notes
           (λ q. f (put (Record (record_part ops.names.same r q.1.0 q.0)) q.1.1)) (λ q. f' (put (Record (record_part ops.names.same r q.1.0 q.0)) q.1.1))
           (alike_bind ops k s _ _ (fields_alike ops k (map (λ x. x.field) r.fields) s h.0)
-          (λ bs u a y. alike_bind ops k u _ _ (names_alike ops k here e (record_names r) [] p u (on_after ops k e s u h a) (notes_after ops k s u a p.notes l)) (λ q v b z. alike refl (here_after ops k v b.0) z)))
+          (λ bs u a y. alike_bind ops k u _ _ (names_alike ops k here e defines (record_names r) [] p u (on_after ops k e s u h a) (notes_after ops k s u a p.notes l)) (λ q v b z. alike refl (here_after ops k v b.0) z)))
           (λ q u a z. law (put (Record (record_part ops.names.same r q.1.0 q.0)) q.1.1) u (on_after ops k e s u h a) z)
 
       -- ---- macro definitions
@@ -67,7 +67,7 @@ module _ {E A L S : Type 0} (ops : Ops E A L S) (k : Likeness ops) (e : E) where
           (alike_bind ops k s _ _ (parts_alike ops k here e (rules_parts_of d.1) s h.0) (λ r t0 a y.
           alike_bind ops k t0 _ _ (rules_alike ops k here d.1 r t0 a.0) (λ rules t b x.
           let c = after_then ops k s t0 t a b in
-          alike_bind ops k t _ _ (define_alike ops k here d.0 (Some rules) e q t (on_after ops k e s t h c) (notes_after ops k s t c q.notes l)) (λ q2 v g z. alike refl (here_after ops k v g.0) z))))
+          alike_bind ops k t _ _ (define_alike ops k here d.0 (Some rules) e defines q t (on_after ops k e s t h c) (notes_after ops k s t c q.notes l)) (λ q2 v g z. alike refl (here_after ops k v g.0) z))))
           (λ r u a z. law (put (Macro r.0 here) r.1) u (on_after ops k e s u h a) z)
 
       syntax_runs : (p : Pending A L) (d : Named A × Tree A) (s : S) → On ops k e s → Notes ops k s p.notes → Ran ops k s (run_syntax ops f here e p d s) (run_syntax (other ops k) f' here e p d s)

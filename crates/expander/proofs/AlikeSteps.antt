@@ -19,13 +19,14 @@ use Rattle.scheme_model.proofs.FrameHeads.{IfMacro}
 use Rattle.scheme_model.proofs.FrameHeld.{NoteAll, notes_more}
 use Rattle.scheme_model.proofs.CountedForms.{OkAll}
 
--- What holds of the states of an expansion and of what stands in them, and goes on to hold of those after them; and another way to
--- define, which there is the same.
+-- What holds of the states of an expansion and of what stands in them, and goes on to hold of those after them; where definitions are
+-- made; and another way to define, which there is the same.
 pub record Likeness {E A L S : Type 0} (ops : Ops E A L S) : Type 1 where
   pub define : Named A → Option (Rules A) → E → Pending A L → S → Result (Pending A L) (Fault Ident) × S
   pub good : S → Type 0
   pub fits : S → E → Type 0
   pub noted : S → L → Type 0
+  pub defines : E → Type 0
   pub later : S → S → Type 0
   pub itself : (s : S) → later s s
   pub then_ : (s t u : S) → later s t → later t u → later s u
@@ -40,9 +41,10 @@ pub record Likeness {E A L S : Type 0} (ops : Ops E A L S) : Type 1 where
   pub bind : (s : S) → good s → (e : E) → fits s e → (x : A) (ts : Trees A) → (good (ops.bind x e ts s).state × later s (ops.bind x e ts s).state) × fits (ops.bind x e ts s).state (ops.bind x e ts s).env
   pub keep : (s : S) → good s → (e : E) → fits s e → (v : Number) (r : Rules A) → good (ops.keep v r e s) × later s (ops.keep v r e s)
   pub enter : (s : S) → good s → (e : E) → fits s e → (ts : Trees A) → (good (ops.enter e ts s).state × later s (ops.enter e ts s).state) × fits (ops.enter e ts s).state (ops.enter e ts s).env
+  pub inside : (s : S) (e : E) (ts : Trees A) → defines (ops.enter e ts s).env
   pub transformer : (s : S) → good s → (m : Meaning) → IfMacro (λ (t : Transformer E A). fits s t.env) (ops.transformer s m)
-  pub same : (s : S) → good s → (e : E) → fits s e → (n : Named A) (r : Option (Rules A)) (p : Pending A L) → AllOf (NoteAll (noted s)) p.notes → define n r e p s ≡ ops.define n r e p s
-  pub defined : (s : S) → good s → (e : E) → fits s e → (n : Named A) (r : Option (Rules A)) (p : Pending A L) → good (ops.define n r e p s).1 × later s (ops.define n r e p s).1
+  pub same : (s : S) → good s → (e : E) → defines e → fits s e → (n : Named A) (r : Option (Rules A)) (p : Pending A L) → AllOf (NoteAll (noted s)) p.notes → define n r e p s ≡ ops.define n r e p s
+  pub defined : (s : S) → good s → (e : E) → defines e → fits s e → (n : Named A) (r : Option (Rules A)) (p : Pending A L) → good (ops.define n r e p s).1 × later s (ops.define n r e p s).1
   pub left : (s : S) (e : E) (n : Named A) (r : Option (Rules A)) (p : Pending A L) → OkAll (λ (q : Pending A L). q.notes ≡ p.notes) (ops.define n r e p s).0
 
 module _ {E A L S : Type 0} (ops : Ops E A L S) (k : Likeness ops) where
@@ -151,9 +153,9 @@ module _ {E A L S : Type 0} (ops : Ops E A L S) (k : Likeness ops) where
   abbrev pub Left : S → Pending A L → Type 0
   Left s p = Notes s p.notes
 
-  pub define_alike : (here : Here) (n : Named A) (r : Option (Rules A)) (e : E) (p : Pending A L) (s : S) → On e s → Notes s p.notes → Alike Left s (told here (ops.define n r e p s)) (told here (other.define n r e p s))
-  define_alike here n r e p s h ns =
-      alike_at (ap (told here) (k.same s h.0 e h.1 n r p ns)) (go (ops.define n r e p s) (k.defined s h.0 e h.1 n r p) (k.left s e n r p))
+  pub define_alike : (here : Here) (n : Named A) (r : Option (Rules A)) (e : E) → k.defines e → (p : Pending A L) (s : S) → On e s → Notes s p.notes → Alike Left s (told here (ops.define n r e p s)) (told here (other.define n r e p s))
+  define_alike here n r e defines p s h ns =
+      alike_at (ap (told here) (k.same s h.0 e defines h.1 n r p ns)) (go (ops.define n r e p s) (k.defined s h.0 e defines h.1 n r p) (k.left s e n r p))
     where
       go : (q : Result (Pending A L) (Fault Ident) × S) → After s q.1 → OkAll (λ (z : Pending A L). z.notes ≡ p.notes) q.0 → Alike Left s (told here q) (told here q)
       go (Ok z, t) a d = alike refl a (subst (Notes t) (sym d) (notes_after s t a p.notes ns))
@@ -163,7 +165,7 @@ module _ {E A L S : Type 0} (ops : Ops E A L S) (k : Likeness ops) where
   abbrev pub Many : S → List Binder × Pending A L → Type 0
   Many s q = Notes s q.1.notes
 
-  module _ (here : Here) (e : E) where
+  module _ (here : Here) (e : E) (defines : k.defines e) where
     abbrev AllAlike : List (Named A) → Type 0
     AllAlike ns = (p : Pending A L) (s : S) → On e s → Notes s p.notes → Alike Many s (define_all ops here e ns p s) (define_all other here e ns p s)
 
@@ -171,7 +173,7 @@ module _ {E A L S : Type 0} (ops : Ops E A L S) (k : Likeness ops) where
       by_name : (fs : List (Form A)) (o : Option (Named A)) → Alike Many s (define_next ops here e (define_all ops here e ns) p (with_rest fs p o) s) (define_next other here e (define_all other here e ns) p (with_rest fs p o) s)
       by_name fs None = alike refl (here_after s h.0) l
       by_name fs (Some x) =
-          alike_bind s _ _ (define_alike here x None e (record { todo = fs; aside = p.aside; notes = p.notes }) s h l)
+          alike_bind s _ _ (define_alike here x None e defines (record { todo = fs; aside = p.aside; notes = p.notes }) s h l)
           (λ r u a z. alike_bind u _ _ (ih r u (on_after e s u h a) z) (λ more v b y. alike refl (here_after v b.0) y))
 
       by_todo : (fs : List (Form A)) → Alike Many s (define_next ops here e (define_all ops here e ns) p (next_name p fs) s) (define_next other here e (define_all other here e ns) p (next_name p fs) s)
@@ -182,8 +184,8 @@ module _ {E A L S : Type 0} (ops : Ops E A L S) (k : Likeness ops) where
     all_alike [] p s h l = alike refl (here_after s h.0) l
     all_alike (n ∷ ns) p s h l = by_todo ns (all_alike ns) p s h l p.todo
 
-  pub names_alike : (here : Here) (e : E) (ns : List (Named A)) (fs : List (Form A)) (p : Pending A L) (s : S) → On e s → Notes s p.notes → Alike Many s (define_names ops here e ns fs p s) (define_names other here e ns fs p s)
-  names_alike here e ns fs p s h l = all_alike here e ns (first (names_at here ns ++ fs) p) s h l
+  pub names_alike : (here : Here) (e : E) → k.defines e → (ns : List (Named A)) (fs : List (Form A)) (p : Pending A L) (s : S) → On e s → Notes s p.notes → Alike Many s (define_names ops here e ns fs p s) (define_names other here e ns fs p s)
+  names_alike here e defines ns fs p s h l = all_alike here e defines ns (first (names_at here ns ++ fs) p) s h l
 
   pub fields_alike : (ns : List (Named A)) (s : S) → k.good s → Goes s (fields_bound ops ns s) (fields_bound other ns s)
   fields_alike [] s g = goes_same s [] g

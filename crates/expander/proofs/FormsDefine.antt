@@ -11,6 +11,7 @@ use Rattle.core_tree.specs.Names.{AllMatch}
 use Rattle.core_tree.specs.Units.{IsDefinition, AreDefinitions, definitions_from, defined_by}
 use Rattle.core_tree.specs.declared.cores.Binder as code_binder
 use Rattle.core_tree.specs.declared.units.UnitForm.{UnitForm}
+use Rattle.expander.specs.Others.{InOrder}
 use Rattle.expander.specs.State.{numbered, numbered_in, IsNumbered}
 
 unequal : (a b : ℕ) → a < b → (a == b) ≡ false
@@ -18,28 +19,24 @@ unequal a b lt = grind (arith, nat_tests)
 
 -- things of forms from one on, each of no later form than the one before it
 module _ {X : Type 0} (of : X → ℕ) where
-  abbrev pub InOrder : (first behind : ℕ) → List X → Type 0
-  InOrder first behind [] = Unit {0}
-  InOrder first behind (x ∷ xs) = (first ≤ of x) × (of x < behind) × InOrder first (suc (of x)) xs
-
   abbrev pub at : ℕ → List X → List X
   at form xs = filter (λ x. of x == form) xs
 
   abbrev above : ℕ → List X → List X
   above form xs = filter (λ x. nat_lt form (of x)) xs
 
-  none_above : (form : ℕ) (xs : List X) → InOrder form (suc form) xs → above form xs ≡ []
+  none_above : (form : ℕ) (xs : List X) → InOrder of form (suc form) xs → above form xs ≡ []
   none_above form [] h = refl
   none_above form (x ∷ xs) h =
       let low = h.0 in
       let high = h.1 in
       let same : of x ≡ form = omega (arith, low, high) in
-      ap (λ b. cond b (x ∷ above form xs) (above form xs)) (le-ltb form (of x) (omega (arith, same))) ∙ none_above form xs (subst (λ n. InOrder form (suc n) xs) same h.2)
+      ap (λ b. cond b (x ∷ above form xs) (above form xs)) (le-ltb form (of x) (omega (arith, same))) ∙ none_above form xs (subst (λ n. InOrder of form (suc n) xs) same h.2)
 
-  split_by : (form behind : ℕ) (x : X) (xs : List X) (q : Bool) → (of x == form) ≡ q → InOrder form behind (x ∷ xs) → xs ≡ above form xs ++ at form xs → x ∷ xs ≡ above form (x ∷ xs) ++ at form (x ∷ xs)
+  split_by : (form behind : ℕ) (x : X) (xs : List X) (q : Bool) → (of x == form) ≡ q → InOrder of form behind (x ∷ xs) → xs ≡ above form xs ++ at form xs → x ∷ xs ≡ above form (x ∷ xs) ++ at form (x ∷ xs)
   split_by form behind x xs true is h rest =
       let same = eqb-true (of x) form is in
-      let none = none_above form xs (subst (λ n. InOrder form (suc n) xs) same h.2) in
+      let none = none_above form xs (subst (λ n. InOrder of form (suc n) xs) same h.2) in
       ap (λ ys. x ∷ ys) (rest ∙ ap (λ ys. ys ++ at form xs) none)
       ∙ (ap (λ ys. ys ++ x ∷ at form xs) (sym none)
       ∙ (λ k. cond (sym (le-ltb form (of x) (omega (arith, same))) k) (x ∷ above form xs) (above form xs) ++ cond (sym is k) (x ∷ at form xs) (at form xs)))
@@ -52,7 +49,7 @@ module _ {X : Type 0} (of : X → ℕ) where
       less : (a b : ℕ) → a ≤ b → (b ≡ a → ⊥) → a < b
       less a b le not = omega (arith, le, not)
 
-  split : (form behind : ℕ) (xs : List X) → InOrder form behind xs → xs ≡ above form xs ++ at form xs
+  split : (form behind : ℕ) (xs : List X) → InOrder of form behind xs → xs ≡ above form xs ++ at form xs
   split form behind [] h = refl
   split form behind (x ∷ xs) h = split_by form behind x xs (of x == form) refl h (split form (suc (of x)) xs h.2)
 
@@ -66,19 +63,19 @@ module _ {X : Type 0} (of : X → ℕ) where
   within form later [] lt = refl
   within form later (x ∷ xs) lt = within_by form later x xs (nat_lt form (of x)) refl lt (within form later xs lt)
 
-  above_by : (form behind : ℕ) (x : X) (xs : List X) (q : Bool) → nat_lt form (of x) ≡ q → InOrder form behind (x ∷ xs) → InOrder (suc form) (suc (of x)) (above form xs) → InOrder (suc form) behind (cond q (x ∷ above form xs) (above form xs))
+  above_by : (form behind : ℕ) (x : X) (xs : List X) (q : Bool) → nat_lt form (of x) ≡ q → InOrder of form behind (x ∷ xs) → InOrder of (suc form) (suc (of x)) (above form xs) → InOrder of (suc form) behind (cond q (x ∷ above form xs) (above form xs))
   above_by form behind x xs true is h rest = (ltb-true form (of x) is, h.1, rest)
   above_by form behind x xs false is h rest =
       let low = h.0 in
       let high = ltb-false form (of x) is in
       let same : of x ≡ form = omega (arith, low, high) in
-      subst (InOrder (suc form) behind) (sym (none_above form xs (subst (λ n. InOrder form (suc n) xs) same h.2))) tt
+      subst (InOrder of (suc form) behind) (sym (none_above form xs (subst (λ n. InOrder of form (suc n) xs) same h.2))) tt
 
-  in_order_above : (form behind : ℕ) (xs : List X) → InOrder form behind xs → InOrder (suc form) behind (above form xs)
+  in_order_above : (form behind : ℕ) (xs : List X) → InOrder of form behind xs → InOrder of (suc form) behind (above form xs)
   in_order_above form behind [] h = tt
   in_order_above form behind (x ∷ xs) h = above_by form behind x xs (nat_lt form (of x)) refl h (in_order_above form (suc (of x)) xs h.2)
 
-  none_at : (form first behind : ℕ) (xs : List X) → behind ≤ form → InOrder first behind xs → at form xs ≡ []
+  none_at : (form first behind : ℕ) (xs : List X) → behind ≤ form → InOrder of first behind xs → at form xs ≡ []
   none_at form first behind [] le h = refl
   none_at form first behind (x ∷ xs) le h =
       let below : of x < behind = h.1 in

@@ -123,7 +123,7 @@ module _ (start : Work) (u : UnitScope) (unit : ℕ) (program : Bool) (xs : List
 
 -- ---- the unit
 
-none_counted : (t : Table) (unit : ℕ) → ((i : Identifier) → defined_in t unit i ≡ None) → definition_count t unit ≡ 0
+pub none_counted : (t : Table) (unit : ℕ) → ((i : Identifier) → defined_in t unit i ≡ None) → definition_count t unit ≡ 0
 none_counted [] unit none = refl
 none_counted (d ∷ ds) unit none = by (d.unit == unit) refl (none_counted ds unit)
   where

@@ -8,7 +8,7 @@ use Rattle.scheme_model.specs.Requirements.{Known}
 use Rattle.scheme_model.specs.Shapes.{Clause}
 use Rattle.scheme_model.specs.Cores.{Core, Binder, Binders, RecordType, Part, Expression as expression_part, Define as define_part, Values as values_part, Fields as fields_part, Syntax as syntax_part}
 use Rattle.scheme_model.specs.Steps.{Step, done}
-use Rattle.scheme_model.specs.Order.{Form, Item, target_of}
+use Rattle.scheme_model.specs.Order.{Form, Item}
 use Rattle.scheme_model.specs.Order as model
 use Rattle.scheme_model.specs.Expression.{whole, expand, lambda, assignment, item_part, macro_def, meaning_of}
 use Rattle.scheme_model.specs.ScopedExpansion.{Frames, ScopedState}

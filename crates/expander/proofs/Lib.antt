@@ -94,3 +94,11 @@ pub mod FormRuns
 pub mod LocalRuns
 pub mod ItemRuns
 pub mod CycleCalls
+pub mod OtherForms
+pub mod OtherCounts
+pub mod ItemTables
+pub mod FreshLaws
+pub mod PartsStay
+pub mod TopRuns
+pub mod TopCores
+pub mod TopForms

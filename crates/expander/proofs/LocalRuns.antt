@@ -10,7 +10,7 @@ use Rattle.scheme_model.specs.Ident.{Ident as Identifier}
 use Rattle.scheme_model.specs.ExpansionFaults.{Named, BadForm}
 use Rattle.scheme_model.specs.Requirements.{Known}
 use Rattle.scheme_model.specs.Shapes.{LocalMacros}
-use Rattle.scheme_model.specs.Cores.{Core, LetSyntax}
+use Rattle.scheme_model.specs.Cores.{Core, Binder, LetSyntax}
 use Rattle.scheme_model.specs.Steps.{Broken, Step, ◌>>=◌, done, fails}
 use Rattle.scheme_model.specs.Order.{Here, RulesParts, rules_parts, rules_parts_of, head_of, is_rules}
 use Rattle.scheme_model.specs.Expression.{body, expand, node, heads, keep_all, local_defs, local_macros, numbers}
@@ -46,7 +46,7 @@ use Rattle.expander.specs.declared.scope.UnitScope.{UnitScope}
 use Rattle.expander.proofs.AfterLaws.{all_known, begins_look}
 use Rattle.expander.proofs.BelowLaws.{below_knows, node_below, node_unbegun}
 use Rattle.expander.proofs.BindersStand.{BindersStand, numbers_are}
-use Rattle.expander.proofs.BodyRuns.{binds_stand, binds_inner}
+use Rattle.expander.proofs.BodyRuns.{binds_stand, binds_inner, names_count}
 use Rattle.expander.proofs.CoreLaws.{binds_moves, macros_are}
 use Rattle.expander.proofs.CoreStandLaws.{every_on, macro_def_on}
 use Rattle.expander.proofs.CountingStands.{nodes_stand}
@@ -92,12 +92,6 @@ module _ (known : Known) (here : Here) (fs : Frames) (s : ScopedState) (n : ℕ)
   heads_later ts rs h = heads_spent ts ∙ (λ j. ((h j).0, spent n s))
 
 -- ---- numbers and names of the binders
-
-same_length : {X Y : Type 0} (P : X → Y → Type 0) (xs : List X) (ys : List Y) → AllParts P xs ys → length xs ≡ length ys
-same_length P [] [] h = refl
-same_length P [] (y ∷ ys) h = absurd h
-same_length P (x ∷ xs) [] h = absurd h
-same_length P (x ∷ xs) (y ∷ ys) h = ap suc (same_length P xs ys h.1)
 
 numbers_match : (t : ScopedState) (bs : List code_binder.Binder) (vs : List Number) → AllMatch (λ (b : code_binder.Binder) (v : Number). v ≡ record { unit = t.unit; form = t.form; count = b.number }) bs vs → HaveNumbers t bs vs
 numbers_match t [] [] h = tt
@@ -242,7 +236,7 @@ module _ (work : Work) (region : Region) (u w1 : UnitScope) (at : code_at.At) (a
             (λ d o t1. keep_all (searched known) at.here frames_of_rules macro_numbers m.rules rs t1 >>= λ kept t2. expand (searched known) turns d o inner_frames (body m.body) t2 >>= λ c. done (LetSyntax (local_defs (searched known) t2 macro_numbers m.names) c)) result next
 
         pub kept_numbers : HaveNumbers begun bs macro_numbers
-        kept_numbers = have_numbers begun u.form.budget.locals xs m.names bs first (same_length (IsName work) xs m.names names) h.bound (λ j. record { unit = s.unit; form = s.form; count = sym e.form.locals j })
+        kept_numbers = have_numbers begun u.form.budget.locals xs m.names bs first (names_count (IsName work) xs m.names names) h.bound (λ j. record { unit = s.unit; form = s.form; count = sym e.form.locals j })
 
         pub kept_heads : heads (searched known) at.here frames_of_rules m.rules begun ≡ done rs begun
         kept_heads = heads_later known at.here frames_of_rules bound_state 1 m.rules rs read
@@ -430,7 +424,7 @@ module _ (work : Work) (region : Region) (u w1 : UnitScope) (at : code_at.At) (a
 pub macros_few : (work : Work) (macros : List LocalMacro) (xs : List NamePart) → MacrosAtWork work macros → xs ≡ map (λ (m : LocalMacro). m.name) macros → length xs ≤ 4194304
 macros_few work macros xs h is =
     let names = subst (λ (l : List NamePart). AllParts (IsName work) l h.0) (sym is) (macros_named work macros h.0 h.1 h.2) in
-    omega (arith, same_length (IsName work) xs h.0 names, h.3)
+    omega (arith, names_count (IsName work) xs h.0 names, h.3)
 
 local_count : (n : ℕ) (xs : List NamePart) → length (local_binders n xs) ≡ length xs
 local_count n [] = refl
@@ -439,4 +433,4 @@ local_count n (x ∷ xs) = ap suc (local_count (n + 1) xs)
 pub binders_count : (work : Work) (macros : List LocalMacro) (xs : List NamePart) (bs : List code_binder.Binder) (n : ℕ) → MacrosAtWork work macros → xs ≡ map (λ (m : LocalMacro). m.name) macros → bs ≡ local_binders n xs → (ys : List code_binder.Binder) → ys ≡ bs → length ys ≡ length macros
 binders_count work macros xs bs n h is bound ys same =
     let names = subst (λ (l : List NamePart). AllParts (IsName work) l h.0) (sym is) (macros_named work macros h.0 h.1 h.2) in
-    ap length same ∙ (ap length bound ∙ (local_count n xs ∙ (same_length (IsName work) xs h.0 names ∙ sym (names_of_macros work macros h.0 h.1 h.2))))
+    ap length same ∙ (ap length bound ∙ (local_count n xs ∙ (names_count (IsName work) xs h.0 names ∙ sym (names_of_macros work macros h.0 h.1 h.2))))

@@ -100,6 +100,8 @@ module _ (w : Era) where
     good = Bounded w;
     fits = Fits;
     noted = λ s l. Fits s l.frames;
+    defines = λ fs. Unit {0};
+    inside = λ s fs ts. tt;
     later = λ s t. Leq s.locals t.locals;
     itself = λ s. leq_itself s.locals;
     then_ = λ s t u a b. leq_then s.locals t.locals u.locals a b;
@@ -118,7 +120,7 @@ module _ (w : Era) where
     keep = λ s g fs h v r. (kept s g fs h (Local v) r, leq_itself s.locals);
     enter = λ s g fs h ts. ((still s g s.nodes s.keywords s.met (at_form s.form suc s.bodies), leq_itself s.locals), h);
     transformer = λ s g m. among s.locals s.macros g.macros m;
-    same = λ s g fs h n r p ns. ap (λ t. defined_unless t (body_around fs) n r fs p s) (any_spoken w s g n r fs (body_around fs) p.notes ns);
-    defined = λ s g fs h n r p. defined_bounded s g fs h (body_around fs) n r p (any (refused_now (definition_added (body_around fs) n r fs s) (meaning_next s (body_around fs) n.name) (is_some r)) p.notes) (is_defined s (body_around fs) n.name);
+    same = λ s g fs defines h n r p ns. ap (λ t. defined_unless t (body_around fs) n r fs p s) (any_spoken w s g n r fs (body_around fs) p.notes ns);
+    defined = λ s g fs defines h n r p. defined_bounded s g fs h (body_around fs) n r p (any (refused_now (definition_added (body_around fs) n r fs s) (meaning_next s (body_around fs) n.name) (is_some r)) p.notes) (is_defined s (body_around fs) n.name);
     left = λ s fs n r p. left_same s (definition_added (body_around fs) n r fs s) n p (any (refused_now (definition_added (body_around fs) n r fs s) (meaning_next s (body_around fs) n.name) (is_some r)) p.notes) (is_defined s (body_around fs) n.name);
   }

@@ -56,7 +56,7 @@ module _ (w : Era) (known : Known) where
       let begins = form_begins w s1 k.fine.0 fd l k.fine.1.stands k.entries in
       let one = run_same w known every s1 begins turns t.1 h.0 ns hn in
       let sought = run_same w known speaks_of s1 begins turns t.1 h.0 ns hn in
-      let walked = run_alike (scoped known) (searching w known) [] turns p s1 (turned_bounded w s g t.0, tt) (notes_more (UnitPlace w known s1) (λ (l : Place). BindersCounted w s1.locals l.frames) (λ l q. subst (BindersCounted w s1.locals) (sym q.0) tt) ns hn) in
+      let walked = run_alike (scoped known) (searching w known) [] tt turns p s1 (turned_bounded w s g t.0, tt) (notes_more (UnitPlace w known s1) (λ (l : Place). BindersCounted w s1.locals l.frames) (λ l q. subst (BindersCounted w s1.locals) (sym q.0) tt) ns hn) in
       let rest = passes_searched turns ts r.0.notes r.1 done.unit_state one.holds.formed (locals_later w s1 s1.form r.1 one.holds) (forms_later w known turns s1 r.1 done.grows ts h.1) done.stood (ran_after (scoped known) (searching w known) walked).0 in
       record {
         same = form_same t.0 (passes (searched known) turns [] ts) (passes (counted known) turns [] ts) _ _ r (sought.same ∙ ran_is (scoped known) (searching w known) walked) one.same rest.same;

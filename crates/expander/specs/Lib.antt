@@ -26,3 +26,5 @@ pub mod Units
 pub mod Opened
 pub mod Preluded
 pub mod Copied
+pub mod Others
+pub mod Tops

@@ -1,19 +1,16 @@
 //! The parts of expressions, expanded: procedures, bodies, local macros (R7RS 4.1.4, 4.2.3, 4.3.1, 5.3.2).
-ghost use Rattle.std.specs.Prelude.{◌≡◌, ℕ, ◌+◌, ◌*◌, ◌^◌, ◌≤◌, List, Some, OnOk, length};
-ghost use Rattle.scheme_model.specs.ExpansionFaults.{Named};
+ghost use Rattle.std.specs.Prelude.{◌≡◌, ℕ, ◌^◌, List, Some, OnOk};
 ghost use Rattle.scheme_model.specs.Ident.{Ident as Identifier};
 ghost use Rattle.scheme_model.specs.Keywords.{CoreKeyword as ModelKeyword};
-ghost use Rattle.scheme_model.specs.Requirements.{Known};
 ghost use Rattle.scheme_model.specs.Trees.{Tree as ModelTree, Trees};
 ghost use Rattle.scheme_model.specs.Shapes.{Clause as ModelClause, LocalMacros};
 ghost use Rattle.scheme_model.specs.Order.{Item};
-ghost use Rattle.scheme_model.specs.Expression.{whole, body, expand, each_of, procedure, clauses, lambda, sequence, let_syntax, letrec_syntax, item_part, parts};
+ghost use Rattle.scheme_model.specs.Expression.{whole, body, expand, each_of, procedure, clauses, lambda, sequence, item_part, parts};
 ghost use Rattle.syntax_tree.specs.Works.{IsOpened, StandsFor};
-ghost use Rattle.syntax_tree.specs.Looks.{PartsStand, AllNamed};
+ghost use Rattle.syntax_tree.specs.Looks.{PartsStand};
 ghost use Rattle.core_forms.specs.Ends.{keyword_as, ShapeFor};
 ghost use Rattle.core_forms.specs.Forms.{Shape};
 ghost use Rattle.core_forms.specs.Parts.{AreMacros};
-ghost use Rattle.core_forms.specs.Named.{ShapeNamed};
 ghost use Rattle.core_tree.specs.Cores.{CoreStands, CoresStand, ClausesStand, PartStands, PartsStand as PartsOfCores};
 ghost use Rattle.core_tree.specs.Names.{AllMatch};
 ghost use Rattle.expander.specs.CoreSteps.{core_step, IsLeft};

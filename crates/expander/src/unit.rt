@@ -18,6 +18,7 @@ ghost use Rattle.expander.specs.Opened.{IsNew, AreNumbered, ImportsFor, HasUnits
 ghost use Rattle.syntax_tree.specs.declared.trees.Work.{Work as AnyWork};
 ghost use Rattle.expander.specs.Outcomes.{IsAtWork, Ends, MayFill, HasRoom, Spends};
 ghost use Rattle.expander.specs.State.{Stands, is_program};
+ghost use Rattle.expander.specs.Stepped.{IsFresh};
 ghost use Rattle.expander.specs.Kept.{NotesFor};
 ghost use Rattle.expander.specs.Searched.{searched};
 ghost use Rattle.scheme_model.specs.Meaning.{Meaning as ModelMeaning};
@@ -79,7 +80,7 @@ impl UnitScope {
     }
 
     /// Opens a unit that wasn't opened before, with what it imports. The scopes and macros of the units before stay, and so do the
-    /// libraries that there are.
+    /// libraries that there are. No form of the unit has counted, met or defined anything yet.
     pub fn begin_unit(
         &mut self,
         work: &mut Work,
@@ -92,6 +93,8 @@ impl UnitScope {
         ensures rests { (ls : List Frames) (s : ScopedState) (notes : List (Note Place)) (imported : List ℕ → Option ModelMeaning) →
             UnitStands work.old self.old ls s notes → ImportsFor work.old.symbols imports.now imported →
             OnOk result (UnitStands work.new self.new (ls ++ [] ∷ []) (started unit (is_program kind) (with_imports unit imported s.entry) s) []) }
+        ensures fresh { (ls : List Frames) (s : ScopedState) (notes : List (Note Place)) (imported : List ℕ → Option ModelMeaning) → UnitStands work.old self.old ls s notes →
+            OnOk result ((m : ℕ) → IsFresh (started unit (is_program kind) (with_imports unit imported s.entry) s) m) }
         ensures knows { (known : Known) → Knows self.old.libraries known → Knows self.new.libraries known }
         ensures others { (v : ℕ) → (v ≡ unit → ⊥) → IsNew self.old v → OnOk result (IsNew self.new v) }
         ensures trees { work.new.trees ≡ work.old.trees }
@@ -114,6 +117,8 @@ impl UnitScope {
         ensures rests { (ls : List Frames) (s : ScopedState) (imported : List ℕ → Option ModelMeaning) → HasUnits work.old self.old ls s →
             ImportsFor work.old.symbols imports.now imported →
             OnOk result (UnitStands work.new self.new (ls ++ [] ∷ []) (started unit (is_program kind) (with_imports unit imported s.entry) s) []) }
+        ensures fresh { (ls : List Frames) (s : ScopedState) (imported : List ℕ → Option ModelMeaning) → HasUnits work.old self.old ls s →
+            OnOk result ((m : ℕ) → IsFresh (started unit (is_program kind) (with_imports unit imported s.entry) s) m) }
         ensures others { (v : ℕ) → (v ≡ unit → ⊥) → IsNew self.old v → OnOk result (IsNew self.new v) }
         ensures libraries { self.new.libraries ≡ self.old.libraries }
         ensures trees { work.new.trees ≡ work.old.trees }

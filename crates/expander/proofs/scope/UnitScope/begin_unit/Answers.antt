@@ -10,3 +10,6 @@ returns-clause-rests c = λ ls s notes imported h is. c.start_unit.ensures.rests
 
 pub returns-clause-knows : goal.returns-clause-knows
 returns-clause-knows c = λ known h. subst (λ (l : BTreeSet (String Global)). Knows l known) (sym c.start_unit.ensures.libraries) h
+
+pub returns-clause-fresh : goal.returns-clause-fresh
+returns-clause-fresh c = λ ls s notes imported h. c.start_unit.ensures.fresh ls s imported (record { env = h.rests.env; macros = h.rests.macros; begun = h.rests.begun })

@@ -10,6 +10,7 @@ use Rattle.expander.specs.Opened.{BindsImport}
 use Rattle.expander.specs.State.{is_program}
 use Rattle.expander.specs.declared.scope.Imported.{Imported}
 use Rattle.expander.specs.declared.scope.UnitScope.{UnitScope}
+use Rattle.expander.proofs.FreshLaws.{unit_fresh}
 use Rattle.expander.proofs.ImportLaws.{Importing, importing_none, importing_more, other_root, unit_started}
 use Rattle.expander.proofs.scope.UnitScope.start_unit.Goals as goal
 
@@ -63,3 +64,6 @@ pub returns-clause-others : goal.returns-clause-others
 returns-clause-others c = λ v other new.
     let u = c.args.self.now in
     ap (λ r. map.get r v) c.loop-imported.invariant.roots ∙ other_root u.env.roots c.args.unit (length u.env.scopes) v other new
+
+pub returns-clause-fresh : goal.returns-clause-fresh
+returns-clause-fresh c = λ ls s imported units. unit_fresh c.args.work.now c.args.self.now c.args.unit (is_program c.args.kind) c.sound.ensures c.requires.new ls s imported units
