@@ -7,3 +7,4 @@ pub mod DiagnosticRows
 pub mod SmallArrowRows
 pub mod ChangeRows
 pub mod ClassRows
+pub mod MacroRows
