@@ -11,7 +11,7 @@ use Rattle.scheme_model.specs.UnitExpansion.{Formed}
 use Rattle.scheme_model.specs.ScopedExpansion.{ScopedMacro, ScopedState}
 use Rattle.scheme_model.specs.CountedExpansion.{counted}
 use Rattle.scheme_model.specs.Entries.{Entry}
-use Rattle.scheme_model.specs.Program.{Placed, Prepared, WholeFault, TooLarge, fault_before, UnitResult, result_at, unit_entries, enough_turns, total, max_total, export_all, names_of_unit, broken_result, unit_result, is_ready, first_ready, is_standard, prelude_unit}
+use Rattle.scheme_model.specs.Program.{Placed, Prepared, WholeFault, TooLarge, fault_before, UnitResult, result_at, unit_entries, enough_turns, export_all, names_of_unit, broken_result, unit_result, is_ready, first_ready, is_standard, prelude_unit}
 use Rattle.scheme_model.specs.ScopedProgram.{ScopedProgress, scoped_unit_over, scoped_start_after, scoped_by_fault, scoped_worked, scoped_work, scoped_before}
 use Rattle.expander.specs.Searched.{searched, forms_of, searched_unit_over, all_passed, front_passed, front_finished}
 use Rattle.scheme_model.proofs.FrameEras.{Era}
@@ -70,29 +70,25 @@ module _ (all : List Placed) (known : Known) (p : Prepared) (g : ScopedProgress)
   imports_settled : Fits (DoneBy g.results) (unit_entries all g.results p).0
   imports_settled = unit_entries_fit (DoneBy g.results) (λ s. tt) all g.results h.exports p
 
-  abbrev by_scopes : List Formed × ScopedState
+  abbrev by_scopes : Option (List Formed) × ScopedState
   by_scopes = scoped_unit_over known p (scoped_start_after all p g)
 
   abbrev result : UnitResult
   result = unit_result p (unit_entries all g.results p) by_scopes.1.table by_scopes.0
 
-  abbrev whole : UnitResult
-  whole = let exports = export_all (names_of_unit by_scopes.1.table p.number (unit_entries all g.results p).0) [] p.exports in
-      record { unit = p; fault = None; sets = (unit_entries all g.results p).1; entries = (unit_entries all g.results p).0; forms = by_scopes.0; exports = exports.entries; export_faults = exports.faults }
-
   number_is : result.unit.number ≡ p.number
-  number_is = go (nat_lt max_total (total by_scopes.0))
+  number_is = go by_scopes.0
     where
-      go : (t : Bool) → (cond t (broken_result p TooLarge) whole).unit.number ≡ p.number
-      go true = refl
-      go false = refl
+      go : (forms : Option (List Formed)) → (unit_result p (unit_entries all g.results p) by_scopes.1.table forms).unit.number ≡ p.number
+      go None = refl
+      go (Some forms) = refl
 
   exports_settled : Fits (DoneBy (result ∷ g.results)) result.exports
-  exports_settled = go (nat_lt max_total (total by_scopes.0))
+  exports_settled = go by_scopes.0
     where
-      go : (t : Bool) → Fits (DoneBy (result ∷ g.results)) (cond t (broken_result p TooLarge) whole).exports
-      go true = tt
-      go false = exports_all_fit (DoneBy (result ∷ g.results)) by_scopes.1.table p.number (λ i. done_itself result g.results p.number number_is) (unit_entries all g.results p).0 (fits_still result g.results (unit_entries all g.results p).0 imports_settled) p.exports
+      go : (forms : Option (List Formed)) → Fits (DoneBy (result ∷ g.results)) (unit_result p (unit_entries all g.results p) by_scopes.1.table forms).exports
+      go None = tt
+      go (Some forms) = exports_all_fit (DoneBy (result ∷ g.results)) by_scopes.1.table p.number (λ i. done_itself result g.results p.number number_is) (unit_entries all g.results p).0 (fits_still result g.results (unit_entries all g.results p).0 imports_settled) p.exports
 
   step_settled : (f : Option WholeFault) → Settled (scoped_by_fault all known p f g)
   step_settled (Some fault) = record {

@@ -1,5 +1,5 @@
 -- A unit whose definitions ask the notes that speak of their identifiers is the unit by counts.
-use Rattle.std.proofs.Common.{◌≡◌, ℕ, zero, suc, List, [], ◌∷◌, take, false, None, Result, Ok, Err, refl, sym, ap, ◌∙◌, subst}
+use Rattle.std.proofs.Common.{◌≡◌, ℕ, zero, suc, List, [], ◌∷◌, map, take, false, None, Result, Ok, Err, refl, sym, ap, ◌∙◌, subst}
 use Rattle.scheme_model.specs.Ident.{Ident}
 use Rattle.scheme_model.specs.Trees.{Tree}
 use Rattle.scheme_model.specs.Requirements.{Known}
@@ -7,7 +7,7 @@ use Rattle.scheme_model.specs.Cores.{Parts}
 use Rattle.scheme_model.specs.Steps.{Broken, ◌>>=◌}
 use Rattle.scheme_model.specs.Order.{Note, Pending, Pass, run}
 use Rattle.scheme_model.specs.Expression.{expand, item_part, parts}
-use Rattle.scheme_model.specs.UnitExpansion.{Formed as FormResult, max_depth, passes, from_items, finished, unit}
+use Rattle.scheme_model.specs.UnitExpansion.{Formed as FormResult, max_depth, passes, from_items, finished, first_over, fronts, item_fronts, states_passed, states_finished, or_ended, some_of, unit}
 use Rattle.scheme_model.specs.ScopedExpansion.{Place, ScopedState, scoped}
 use Rattle.scheme_model.specs.CountedExpansion.{counted}
 use Rattle.expander.specs.Searched.{speaks_of, searched}
@@ -18,9 +18,10 @@ use Rattle.scheme_model.proofs.FrameStates.{FineState, Grows, grows_itself}
 use Rattle.scheme_model.proofs.FrameHeld.{NoteAll, notes_more}
 use Rattle.scheme_model.proofs.FrameForms.{forms_law}
 use Rattle.scheme_model.proofs.FrameUnit.{UnitLeaf, UnitPlace, UnitRule, UnitState, UnitInside, Noted, unit_facts}
+use Rattle.scheme_model.proofs.UnitEnds.{all_fronts, states_same}
 use Rattle.scheme_model.proofs.FrameUnits.{Aside, FormHeld, passed, forms_later}
 use Rattle.scheme_model.proofs.CountedStates.{Formed, LocalsKept, Holds, locals_later, form_begins}
-use Rattle.scheme_model.proofs.CountedUnits.{every, run_same, parts_same, turned, SetStands, sets_later, passes_same, expanded, aside_same}
+use Rattle.scheme_model.proofs.CountedUnits.{every, run_same, parts_same, turned, SetStands, sets_later, passes_same, expanded, aside_same, fronts_stand}
 use Rattle.expander.proofs.AlikeSteps.{other, goes_is, goes_after, ran_is, ran_after}
 use Rattle.expander.proofs.AlikeRuns.{run_alike}
 use Rattle.expander.proofs.AlikeExpressions.{all_items_alike, expand_alike}
@@ -121,5 +122,16 @@ module _ (w : Era) (known : Known) where
         let p = passes_same w known turns ts [] s k fd l h tt in
         let q = passes (scoped known) turns [] ts [] s in
         let sought = passes_searched turns ts [] s k fd l h tt g in
-        ap (λ (x : List (ℕ × Aside Ident) × ScopedState). finished (searched known) (expand (searched known) turns) [] x.0 x.1) sought.same
-        ∙ subst (Alike_from (λ rs. rs)) (sym p.same) (finished_searched turns q.0 q.1 p.unit_state.fine p.formed p.locals p.unit_state.entries p.sets sought.bounded)
+        let fs = map (λ (t : ℕ × Tree Ident). t.0) ts in
+        let each : (rs : List (ℕ × Aside Ident)) → AllOf (SetStands w known q.1) rs → finished (searched known) (expand (searched known) turns) [] rs q.1 ≡ finished (counted known) (expand (counted known) turns) [] rs q.1 =
+            λ rs a. finished_searched turns rs q.1 p.unit_state.fine p.formed p.locals p.unit_state.entries a sought.bounded in
+        let one : states_passed (searched known) turns [] ts s ≡ states_passed (counted known) turns [] ts s =
+            states_same (AllOf (FormHeld w known s)) (λ front. (passes (searched known) turns [] front [] s).1) (λ front. (passes (counted known) turns [] front [] s).1)
+            (λ front a. ap (λ (x : List (ℕ × Aside Ident) × ScopedState). x.1) (passes_searched turns front [] s k fd l a tt g).same) (fronts ts) (all_fronts (FormHeld w known s) ts h) in
+        let two : states_finished (searched known) turns [] q.0 q.1 ≡ states_finished (counted known) turns [] q.0 q.1 =
+            states_same (AllOf (SetStands w known q.1)) (λ front. (finished (searched known) (expand (searched known) turns) [] front q.1).1) (λ front. (finished (counted known) (expand (counted known) turns) [] front q.1).1)
+            (λ rs a. ap (λ (x : List FormResult × ScopedState). x.1) (each rs a)) (item_fronts q.0) (fronts_stand w known q.1 q.0 p.sets) in
+        let three = each q.0 p.sets in
+        ap (λ (x : List (ℕ × Aside Ident) × ScopedState). or_ended (first_over (searched known) fs (states_passed (searched known) turns [] ts s)) (or_ended (first_over (searched known) fs (states_finished (searched known) turns [] x.0 x.1)) (some_of (finished (searched known) (expand (searched known) turns) [] x.0 x.1)))) (sought.same ∙ p.same)
+        ∙ (λ j. or_ended (first_over (counted known) fs (one j)) (or_ended (first_over (counted known) fs (two j)) (some_of (three j))))
+        ∙ sym (ap (λ (x : List (ℕ × Aside Ident) × ScopedState). or_ended (first_over (counted known) fs (states_passed (counted known) turns [] ts s)) (or_ended (first_over (counted known) fs (states_finished (counted known) turns [] x.0 x.1)) (some_of (finished (counted known) (expand (counted known) turns) [] x.0 x.1)))) p.same)

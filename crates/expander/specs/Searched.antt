@@ -39,7 +39,7 @@ searched known = record (counted known) { define = λ n r fs p s. define_searche
 abbrev pub forms_of : Prepared → List (ℕ × Tree Ident)
 forms_of p = forms_over (Written p.number) p.number 0 p.forms
 
-abbrev pub searched_unit_over : Known → Prepared → ScopedState → List Formed × ScopedState
+abbrev pub searched_unit_over : Known → Prepared → ScopedState → Option (List Formed) × ScopedState
 searched_unit_over known p s = unit (searched known) enough_turns [] (forms_of p) s
 
 -- what each form set aside, or its fault, and the state then

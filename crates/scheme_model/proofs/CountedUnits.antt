@@ -12,7 +12,7 @@ use Rattle.scheme_model.specs.Cores.{Parts}
 use Rattle.scheme_model.specs.Steps.{Broken, ◌>>=◌}
 use Rattle.scheme_model.specs.Order.{Item, Expression, Value, Function, Assigned, AssignedFunction, ValuesOf, Record, Macro, Note, LookedUp, Compared, Pending, Pass, Ops, is_some, run}
 use Rattle.scheme_model.specs.Expression.{expand, item_part, parts}
-use Rattle.scheme_model.specs.UnitExpansion.{Formed as FormResult, max_depth, passes, from_items, finished, unit}
+use Rattle.scheme_model.specs.UnitExpansion.{Formed as FormResult, max_depth, passes, from_items, finished, first_over, fronts, item_fronts, states_passed, states_finished, or_ended, some_of, unit}
 use Rattle.scheme_model.specs.Substitution.{State, item_map, note_map, any, differ}
 use Rattle.scheme_model.specs.ScopedExpansion.{Frames, Place, ScopedState, means_at, body_around, definition_added, meaning_next, is_defined, refused_now, scoped}
 use Rattle.scheme_model.specs.CountedExpansion.{means_here, refused_here, counted}
@@ -27,6 +27,7 @@ use Rattle.scheme_model.proofs.FrameHeld.{NoteAll, ItemHeld}
 use Rattle.scheme_model.proofs.FramePlaces.{Came, came, broke, Together}
 use Rattle.scheme_model.proofs.FrameForms.{forms_law}
 use Rattle.scheme_model.proofs.FrameUnit.{UnitLeaf, UnitPlace, UnitRule, UnitState, UnitInside, Noted, unit_facts, leaf_later}
+use Rattle.scheme_model.proofs.UnitEnds.{all_fronts, all_both, all_item_fronts, ended_in, states_same, all_mapped}
 use Rattle.scheme_model.proofs.FrameUnits.{Aside, AsideMade, FormHeld, passed, forms_later, aside_law}
 use Rattle.scheme_model.proofs.CountedOps.{Setting, seen, Side, B, D, T, M, ident, at, define_cases, defined_seen, then_, then_holds, over, side, goes}
 use Rattle.scheme_model.proofs.CountedForms.{ToldItem, OkAll, left_seen, Ran, ran}
@@ -340,9 +341,37 @@ module _ (w : Era) (known : Known) where
     pub same : unit (counted known) turns [] ts s ≡ unit (scoped known) turns [] ts s
     pub formed : Formed (unit (scoped known) turns [] ts s).1.places (unit (scoped known) turns [] ts s).1.definitions
 
+  cut : (s : ScopedState) (form : ℕ) (is : List (Item Ident)) → SetStands s (form, Ok is) → AllOf (λ front. SetStands s (form, Ok front)) (fronts is)
+  cut s form is h =
+      all_both (AllOf (ItemHeld (UnitLeaf w known s))) (AllOf (ToldItem (told_by w.unit form))) (fronts is) (all_fronts (ItemHeld (UnitLeaf w known s)) is h.0) (all_fronts (ToldItem (told_by w.unit form)) is h.1)
+
+  -- each front of what forms set aside stands
+  pub fronts_stand : (s : ScopedState) (rs : List (ℕ × Aside Ident)) → AllOf (SetStands s) rs → AllOf (AllOf (SetStands s)) (item_fronts rs)
+  fronts_stand s rs h = all_item_fronts (SetStands s) (cut s) rs h
+
+  abbrev pub FormedState : ScopedState → Type 0
+  FormedState s = Formed s.places s.definitions
+
   pub unit_same : (turns : ℕ) (ts : List (ℕ × Tree Ident)) (s : ScopedState) → UnitState w known s → Formed s.places s.definitions → LocalsKept w s → AllOf (FormHeld w known s) ts → UnitSame turns ts s
   unit_same turns ts s k fd l h =
       let p = passes_same turns ts [] s k fd l h tt in
       let q = passes (scoped known) turns [] ts [] s in
       let z = finished_same turns q.0 q.1 p.unit_state.fine p.formed p.locals p.unit_state.entries p.sets in
-      record { same = ap (λ (x : List (ℕ × Aside Ident) × ScopedState). finished (counted known) (expand (counted known) turns) [] x.0 x.1) p.same ∙ z.same; formed = z.formed }
+      let fs = map (λ (t : ℕ × Tree Ident). t.0) ts in
+      let held = all_fronts (FormHeld w known s) ts h in
+      let stood = fronts_stand q.1 q.0 p.sets in
+      let each : (front : List (ℕ × Tree Ident)) → AllOf (FormHeld w known s) front → PassesSame turns front [] s = λ front a. passes_same turns front [] s k fd l a tt in
+      let each_finished : (rs : List (ℕ × Aside Ident)) → AllOf (SetStands q.1) rs → FinishedSame turns rs q.1 = λ rs a. finished_same turns rs q.1 p.unit_state.fine p.formed p.locals p.unit_state.entries a in
+      let one : states_passed (counted known) turns [] ts s ≡ states_passed (scoped known) turns [] ts s =
+          states_same (AllOf (FormHeld w known s)) (λ front. (passes (counted known) turns [] front [] s).1) (λ front. (passes (scoped known) turns [] front [] s).1) (λ front a. ap (λ (x : List (ℕ × Aside Ident) × ScopedState). x.1) (each front a).same) (fronts ts) held in
+      let two : states_finished (counted known) turns [] q.0 q.1 ≡ states_finished (scoped known) turns [] q.0 q.1 =
+          states_same (AllOf (SetStands q.1)) (λ front. (finished (counted known) (expand (counted known) turns) [] front q.1).1) (λ front. (finished (scoped known) (expand (scoped known) turns) [] front q.1).1) (λ rs a. ap (λ (x : List FormResult × ScopedState). x.1) (each_finished rs a).same) (item_fronts q.0) stood in
+      let o = z.same in
+      let r = p.same in
+      record {
+        same = ap (λ (x : List (ℕ × Aside Ident) × ScopedState). or_ended (first_over (counted known) fs (states_passed (counted known) turns [] ts s)) (or_ended (first_over (counted known) fs (states_finished (counted known) turns [] x.0 x.1)) (some_of (finished (counted known) (expand (counted known) turns) [] x.0 x.1)))) r
+            ∙ (λ j. or_ended (first_over (scoped known) fs (one j)) (or_ended (first_over (scoped known) fs (two j)) (some_of (o j))));
+        formed =
+            ended_in FormedState (scoped known) fs (states_passed (scoped known) turns [] ts s) (all_mapped (AllOf (FormHeld w known s)) FormedState (λ front. (passes (scoped known) turns [] front [] s).1) (λ front a. (each front a).formed) (fronts ts) held) _ _
+            (ended_in FormedState (scoped known) fs (states_finished (scoped known) turns [] q.0 q.1) (all_mapped (AllOf (SetStands q.1)) FormedState (λ front. (finished (scoped known) (expand (scoped known) turns) [] front q.1).1) (λ rs a. (each_finished rs a).formed) (item_fronts q.0) stood) _ _ z.formed);
+      }

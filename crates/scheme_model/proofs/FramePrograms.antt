@@ -23,7 +23,7 @@ use Rattle.scheme_model.specs.FrameImages.{frame_image, image_outside, DefinesOu
 use Rattle.scheme_model.specs.Prelude.{PreludeMacro, prelude}
 use Rattle.scheme_model.specs.Entries.{Entry}
 use Rattle.scheme_model.specs.Declarations.{UnitForm}
-use Rattle.scheme_model.specs.Program.{Document, known_in, units_of, prepare, Placed, Prepared, WholeFault, TooLarge, fault_before, SetResult, UnitResult, Progress, result_at, unit_entries, with_entries, form_trees, start_of, enough_turns, total, max_total, export_all, names_of_unit, broken_result, unit_result, expanded_unit, by_fault, is_ready, first_ready, worked, work, written_rules, is_standard, prelude_unit, prelude_entry, prelude_meaning, prelude_macro, prelude_definitions, progress_before, in_order, program_of}
+use Rattle.scheme_model.specs.Program.{Document, known_in, units_of, prepare, Placed, Prepared, WholeFault, TooLarge, fault_before, SetResult, UnitResult, Progress, result_at, unit_entries, with_entries, form_trees, start_of, enough_turns, export_all, names_of_unit, broken_result, unit_result, expanded_unit, by_fault, is_ready, first_ready, worked, work, written_rules, is_standard, prelude_unit, prelude_entry, prelude_meaning, prelude_macro, prelude_definitions, progress_before, in_order, program_of}
 use Rattle.scheme_model.specs.ScopedProgram.{ScopedProgress, forms_over, scoped_start_of, scoped_unit_over, numbered_unit_over, scoped_start_after, scoped_expanded, scoped_by_fault, scoped_worked, scoped_work, prelude_rules, scoped_prelude_macro, scoped_before, scoped_program_of, imaged_macro, imaged}
 use Rattle.scheme_model.proofs.RenamingLaws.{map_after}
 use Rattle.scheme_model.proofs.IdentKinds.{rules_kind, rules_fused}
@@ -166,7 +166,7 @@ module _ (known : Known) (g : ScopedProgress) (h : Between g) (p : Prepared) (ne
     abbrev start : ScopedState
     start = scoped_start_of p g entry
 
-    abbrev by_scopes : List Formed × ScopedState
+    abbrev by_scopes : Option (List Formed) × ScopedState
     by_scopes = scoped_unit_over known p start
 
     entries_fit : (u : ℕ) (s : List ℕ) → GivenNoLocal (entry u s)
@@ -199,23 +199,23 @@ module _ (known : Known) (g : ScopedProgress) (h : Between g) (p : Prepared) (ne
     forms_seen : map (form_seen (names start [])) (forms_over (Written p.number) p.number 0 p.forms) ≡ form_trees p.number 0 p.forms
     forms_seen = forms_mapped (names start []) (Written p.number) p.number 0 p.forms ∙ forms_same p.number 0 p.forms
 
-    abbrev by_substitution : List Formed × State
+    abbrev by_substitution : Option (List Formed) × State
     by_substitution = unit (model known) enough_turns tt (form_trees p.number 0 p.forms) (start_of p g.table (map (imaged_macro g.places g.definitions) g.macros) entry)
 
     -- by counts and by whole numbers alike
     told_same : UnitSame w known enough_turns (forms_over (Written p.number) p.number 0 p.forms) start
     told_same = counted_same w known enough_turns (forms_over (Written p.number) p.number 0 p.forms) start start_unit h.formed (locals_none w start g.macros (h.fine p.number new).macros) forms_held
 
-    abbrev by_numbers : List Formed × ScopedState
+    abbrev by_numbers : Option (List Formed) × ScopedState
     by_numbers = unit (scoped known) enough_turns [] (forms_over (Written p.number) p.number 0 p.forms) start
 
     unit_same : AllFormed w known by_scopes by_substitution
     unit_same =
-        subst (λ (q : List Formed × ScopedState). AllFormed w known q by_substitution) (sym told_same.same)
+        subst (λ (q : Option (List Formed) × ScopedState). AllFormed w known q by_substitution) (sym told_same.same)
         (subst (AllFormed w known by_numbers) (ap (λ ts. unit (model known) enough_turns tt ts (start_of p g.table (map (imaged_macro g.places g.definitions) g.macros) entry)) forms_seen)
         (unit_law w known enough_turns (forms_over (Written p.number) p.number 0 p.forms) start false [] start_unit forms_held))
 
-    abbrev built : List Formed → State → Progress
+    abbrev built : Option (List Formed) → State → Progress
     built forms s = record { table = s.table; macros = s.macros; entry = entry; results = unit_result p imports s.table forms ∷ g.results }
 
     pub step_same : (all : List Placed) → expanded_unit all known p imports (imaged g) ≡ imaged (scoped_expanded known p imports g)
@@ -224,23 +224,19 @@ module _ (known : Known) (g : ScopedProgress) (h : Between g) (p : Prepared) (ne
     abbrev result : UnitResult
     result = unit_result p imports by_scopes.1.table by_scopes.0
 
-    abbrev whole : UnitResult
-    whole = let exports = export_all (names_of_unit by_scopes.1.table p.number imports.0) [] p.exports in
-        record { unit = p; fault = None; sets = imports.1; entries = imports.0; forms = by_scopes.0; exports = exports.entries; export_faults = exports.faults }
-
     result_number : result.unit.number ≡ p.number
-    result_number = go (nat_lt max_total (total by_scopes.0))
+    result_number = go by_scopes.0
       where
-        go : (t : Bool) → (cond t (broken_result p TooLarge) whole).unit.number ≡ p.number
-        go true = refl
-        go false = refl
+        go : (forms : Option (List Formed)) → (unit_result p imports by_scopes.1.table forms).unit.number ≡ p.number
+        go None = refl
+        go (Some forms) = refl
 
     result_exports : Fits NoLocal result.exports
-    result_exports = go (nat_lt max_total (total by_scopes.0))
+    result_exports = go by_scopes.0
       where
-        go : (t : Bool) → Fits NoLocal (cond t (broken_result p TooLarge) whole).exports
-        go true = tt
-        go false = exports_all_fit NoLocal by_scopes.1.table p.number (λ i. tt) imports.0 fit p.exports
+        go : (forms : Option (List Formed)) → Fits NoLocal (unit_result p imports by_scopes.1.table forms).exports
+        go None = tt
+        go (Some forms) = exports_all_fit NoLocal by_scopes.1.table p.number (λ i. tt) imports.0 fit p.exports
 
     pub step_between : Between (scoped_expanded known p imports g)
     step_between =
@@ -250,7 +246,7 @@ module _ (known : Known) (g : ScopedProgress) (h : Between g) (p : Prepared) (ne
           outside = λ v i es e. (unit_same.fine.1.outside v i e).1 es;
           entries = entries_fit;
           exports = (result_exports, h.exports);
-          formed = subst (λ (q : List Formed × ScopedState). FormedBy q.1.places q.1.definitions) (sym told_same.same) told_same.formed;
+          formed = subst (λ (q : Option (List Formed) × ScopedState). FormedBy q.1.places q.1.definitions) (sym told_same.same) told_same.formed;
         }
 
 -- ---- all units

@@ -1,5 +1,5 @@
 -- The law of units: both sides go through the forms in order, and then expand what each set aside, to the same.
-use Rattle.std.proofs.Common.{◌≡◌, ℕ, List, [], ◌∷◌, map, Bool, false, None, Result, Ok, Err, refl, sym, ap, ◌∙◌, subst}
+use Rattle.std.proofs.Common.{◌≡◌, ℕ, ◌+◌, List, [], ◌∷◌, map, Bool, false, Option, Some, None, Result, Ok, Err, refl, sym, ap, ◌∙◌, subst}
 use Rattle.scheme_model.specs.Identifiers.{Number, Name}
 use Rattle.scheme_model.specs.Ident.{Ident}
 use Rattle.scheme_model.specs.Trees.{Tree, map_tree}
@@ -8,7 +8,7 @@ use Rattle.scheme_model.specs.Cores.{Parts}
 use Rattle.scheme_model.specs.Steps.{Broken, ◌>>=◌}
 use Rattle.scheme_model.specs.Order.{Item, Note, Pending, Pass}
 use Rattle.scheme_model.specs.Expression.{Expander, expand, item_part, parts}
-use Rattle.scheme_model.specs.UnitExpansion.{Formed, max_depth, passes, from_items, finished, unit}
+use Rattle.scheme_model.specs.UnitExpansion.{Formed, max_depth, passes, from_items, finished, nodes_in, first_over, fronts, item_fronts, states_passed, states_finished, or_ended, some_of, unit}
 use Rattle.scheme_model.specs.Substitution.{State, Clock, item_map, note_map, model}
 use Rattle.scheme_model.specs.ScopedExpansion.{Frames, Place, ScopedState, scoped}
 use Rattle.scheme_model.proofs.OpenBodies.{Leq}
@@ -25,6 +25,7 @@ use Rattle.scheme_model.proofs.FrameForms.{forms_law}
 use Rattle.scheme_model.proofs.FrameItems.{ItemMade, parts_law}
 use Rattle.scheme_model.proofs.FrameExpressions.{WholeLaw, BodyLaw}
 use Rattle.scheme_model.proofs.FrameWhole.{expand_law}
+use Rattle.scheme_model.proofs.UnitEnds.{all_fronts, all_item_fronts, fronts_seen, item_fronts_seen, Beside, BothEnd, beside, both_end, aside_mapped, set_mapped}
 use Rattle.scheme_model.proofs.FrameUnit.{UnitLeaf, UnitPlace, UnitRule, UnitState, UnitInside, Noted, unit_facts, leaf_later}
 
 -- what a form set aside, or its fault
@@ -32,11 +33,10 @@ abbrev pub Aside : Type 0 → Type 0
 Aside A = Result (List (Item A)) Broken
 
 abbrev pub aside_seen : (Ident → Name) → Aside Ident → Aside Name
-aside_seen f (Ok xs) = Ok (map (item_map f) xs)
-aside_seen f (Err e) = Err e
+aside_seen f r = aside_mapped f r
 
 abbrev pub set_seen : (Ident → Name) → ℕ × Aside Ident → ℕ × Aside Name
-set_seen f r = (r.0, aside_seen f r.1)
+set_seen f r = set_mapped f r
 
 -- the forms of a unit with their numbers
 abbrev pub form_seen : (Ident → Name) → ℕ × Tree Ident → ℕ × Tree Name
@@ -175,15 +175,15 @@ module _ (w : Era) (known : Known) where
 
   -- ---- what was set aside, expanded
 
-  pub record AllFormed (q : List Formed × ScopedState) (m : List Formed × State) : Type 0 where
+  pub record AllFormed {F : Type 0} (q : F × ScopedState) (m : F × State) : Type 0 where
     pub in_body : Bool
     pub mine : List Number
     pub fine : FineState w q.1
     pub state : m.1 ≡ view in_body mine q.1
     pub forms : m.0 ≡ q.0
 
-  formed_at : {q q' : List Formed × ScopedState} {m m' : List Formed × State} → q' ≡ q → m' ≡ m → AllFormed q m → AllFormed q' m'
-  formed_at {q} {q'} {m} {m'} e d h = subst (λ (x : List Formed × ScopedState). AllFormed x m') (sym e) (subst (AllFormed q) (sym d) h)
+  formed_at : {F : Type 0} {q q' : F × ScopedState} {m m' : F × State} → q' ≡ q → m' ≡ m → AllFormed q m → AllFormed q' m'
+  formed_at {F} {q} {q'} {m} {m'} e d h = subst (λ (x : F × ScopedState). AllFormed x m') (sym e) (subst (AllFormed q) (sym d) h)
 
   module _ (turns : ℕ) where
     abbrev F : Expander Frames Ident ScopedState
@@ -236,9 +236,79 @@ module _ (w : Era) (known : Known) where
 
     -- ---- the whole unit
 
-    pub unit_law : (ts : List (ℕ × Tree Ident)) (s : ScopedState) (i : Bool) (n : List Number) → UnitState w known s → AllOf (FormHeld s) ts
-        → AllFormed (unit (scoped known) turns [] ts s) (unit (model known) turns tt (map (form_seen (names s [])) ts) (view i n s))
-    unit_law ts s i n k h =
-        let p = passes_law turns ts [] s i n k h tt in
-        let q = passes (scoped known) turns [] ts [] s in
-        formed_at refl (let a = p.sets in let b = p.state in λ j. finished (model known) G tt (a j) (b j)) (finished_law q.0 q.1 p.in_body p.mine p.unit_state.fine p.made)
+    -- a state that both sides reach
+    abbrev Reached : ScopedState → State → Type 0
+    Reached s t = AllFormed {F = Unit {0}} (tt, s) (tt, t)
+
+    alike : (fs : List ℕ) (i : Bool) (n : List Number) (s : ScopedState) → nodes_in (model known) fs (view i n s) ≡ nodes_in (scoped known) fs s
+    alike [] i n s = refl
+    alike (f ∷ fs) i n s = ap (λ m. s.nodes f + m) (alike fs i n s)
+
+    reached_alike : (fs : List ℕ) (s : ScopedState) (t : State) → Reached s t → nodes_in (model known) fs t ≡ nodes_in (scoped known) fs s
+    reached_alike fs s t h = ap (nodes_in (model known) fs) h.state ∙ alike fs h.in_body h.mine s
+
+    ended_law : (o : Option ScopedState) (r : Option State) → BothEnd Reached o r → (q : Option (List Formed) × ScopedState) (m : Option (List Formed) × State) → AllFormed q m → AllFormed (or_ended o q) (or_ended r m)
+    ended_law None None h q m k = k
+    ended_law None (Some t) h q m k = absurd h
+    ended_law (Some s) None h q m k = absurd h
+    ended_law (Some s) (Some t) h q m k = record { in_body = h.in_body; mine = h.mine; fine = h.fine; state = h.state; forms = refl }
+
+    cut : (u : Clock) (form : ℕ) (xs : List (Item Ident)) → SetMade w u (form, Ok xs) → AllOf (λ front. SetMade w u (form, Ok front)) (fronts xs)
+    cut u form xs h = all_fronts (ItemHeld (Below w u)) xs h
+
+    numbers_same : (f : Ident → Name) (ts : List (ℕ × Tree Ident)) → map (λ t. t.0) (map (form_seen f) ts) ≡ map (λ t. t.0) ts
+    numbers_same f [] = refl
+    numbers_same f (t ∷ ts) = ap (λ (fs : List ℕ). t.0 ∷ fs) (numbers_same f ts)
+
+    module _ (ts : List (ℕ × Tree Ident)) (s : ScopedState) (i : Bool) (n : List Number) (k : UnitState w known s) (h : AllOf (FormHeld s) ts) where
+      abbrev seen : List (ℕ × Tree Name)
+      seen = map (form_seen (names s [])) ts
+
+      abbrev numbers : List ℕ
+      numbers = map (λ t. t.0) ts
+
+      abbrev q : Sets Ident × ScopedState
+      q = passes (scoped known) turns [] ts [] s
+
+      abbrev m : Sets Name × State
+      m = passes (model known) turns tt seen [] (view i n s)
+
+      p : AllPassed s q m
+      p = passes_law turns ts [] s i n k h tt
+
+      states_passed_so : Beside Reached (states_passed (scoped known) turns [] ts s) (states_passed (model known) turns tt seen (view i n s))
+      states_passed_so =
+          subst (λ (fss : List (List (ℕ × Tree Name))). Beside Reached (states_passed (scoped known) turns [] ts s) (map (λ front. (passes (model known) turns tt front [] (view i n s)).1) fss)) (sym (fronts_seen (form_seen (names s [])) ts))
+          (beside Reached (AllOf (FormHeld s)) (λ front. (passes (scoped known) turns [] front [] s).1) (λ front. (passes (model known) turns tt front [] (view i n s)).1) (map (form_seen (names s [])))
+          (λ front held. let a = passes_law turns front [] s i n k held tt in record { in_body = a.in_body; mine = a.mine; fine = a.unit_state.fine; state = a.state; forms = refl }) (fronts ts) (all_fronts (FormHeld s) ts h))
+
+      abbrev FinishedTo : Sets Name → State → Type 0
+      FinishedTo rs t = AllFormed (some_of (finished (scoped known) F [] q.0 q.1)) (some_of (finished (model known) G tt rs t))
+
+      abbrev Finishing : Sets Name → State → Type 0
+      Finishing rs t = Beside Reached (states_finished (scoped known) turns [] q.0 q.1) (states_finished (model known) turns tt rs t)
+
+      finished_so : FinishedTo (map (set_seen (names q.1 [])) q.0) (view p.in_body p.mine q.1)
+      finished_so = let a = finished_law q.0 q.1 p.in_body p.mine p.unit_state.fine p.made in record { in_body = a.in_body; mine = a.mine; fine = a.fine; state = a.state; forms = ap Some a.forms }
+
+      states_finished_so : Finishing (map (set_seen (names q.1 [])) q.0) (view p.in_body p.mine q.1)
+      states_finished_so =
+          subst (λ (fss : List (Sets Name)). Beside Reached (states_finished (scoped known) turns [] q.0 q.1) (map (λ front. (finished (model known) G tt front (view p.in_body p.mine q.1)).1) fss)) (sym (item_fronts_seen (names q.1 []) q.0))
+          (beside Reached (AllOf (SetMade w q.1.uses)) (λ front. (finished (scoped known) F [] front q.1).1) (λ front. (finished (model known) G tt front (view p.in_body p.mine q.1)).1) (map (set_seen (names q.1 [])))
+          (λ front held. let a = finished_law front q.1 p.in_body p.mine p.unit_state.fine held in record { in_body = a.in_body; mine = a.mine; fine = a.fine; state = a.state; forms = refl }) (item_fronts q.0) (all_item_fronts (SetMade w q.1.uses) (cut q.1.uses) q.0 p.made))
+
+      -- what both sides do behind the forms that they went through
+      behind : (rs : Sets Name) (t : State) → rs ≡ map (set_seen (names q.1 [])) q.0 → t ≡ view p.in_body p.mine q.1
+          → AllFormed (or_ended (first_over (scoped known) numbers (states_finished (scoped known) turns [] q.0 q.1)) (some_of (finished (scoped known) F [] q.0 q.1))) (or_ended (first_over (model known) numbers (states_finished (model known) turns tt rs t)) (some_of (finished (model known) G tt rs t)))
+      behind rs t a b =
+          ended_law (first_over (scoped known) numbers (states_finished (scoped known) turns [] q.0 q.1)) (first_over (model known) numbers (states_finished (model known) turns tt rs t))
+          (both_end Reached (scoped known) (model known) numbers (reached_alike numbers) (states_finished (scoped known) turns [] q.0 q.1) (states_finished (model known) turns tt rs t)
+          (subst (λ (x : Sets Name × State). Finishing x.0 x.1) (λ j. (sym a j, sym b j)) states_finished_so))
+          (some_of (finished (scoped known) F [] q.0 q.1)) (some_of (finished (model known) G tt rs t)) (subst (λ (x : Sets Name × State). FinishedTo x.0 x.1) (λ j. (sym a j, sym b j)) finished_so)
+
+      pub unit_law : AllFormed (unit (scoped known) turns [] ts s) (unit (model known) turns tt seen (view i n s))
+      unit_law =
+          subst (λ (fs : List ℕ). AllFormed (unit (scoped known) turns [] ts s) (or_ended (first_over (model known) fs (states_passed (model known) turns tt seen (view i n s))) (or_ended (first_over (model known) fs (states_finished (model known) turns tt m.0 m.1)) (some_of (finished (model known) G tt m.0 m.1)))))
+          (sym (numbers_same (names s []) ts))
+          (ended_law (first_over (scoped known) numbers (states_passed (scoped known) turns [] ts s)) (first_over (model known) numbers (states_passed (model known) turns tt seen (view i n s)))
+          (both_end Reached (scoped known) (model known) numbers (reached_alike numbers) (states_passed (scoped known) turns [] ts s) (states_passed (model known) turns tt seen (view i n s)) states_passed_so) _ _ (behind m.0 m.1 p.sets p.state))

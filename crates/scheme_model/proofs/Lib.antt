@@ -42,6 +42,7 @@ pub mod FrameBodyFacts
 pub mod FrameWhole
 pub mod EntryLaws
 pub mod FrameUnit
+pub mod UnitEnds
 pub mod FrameUnits
 pub mod FrameBetween
 pub mod FramePrograms

@@ -145,9 +145,14 @@ start more = record {
   mine = [];
 }
 
+-- none where work on the unit ended
+abbrev forms_or_none : Option (List Formed) → List Formed
+forms_or_none None = []
+forms_or_none (Some fs) = fs
+
 -- the forms of a program from one on, which imports `(scheme base)`, or also `(scheme case-lambda)`
 abbrev pub program_rows : Bool → ℕ → List (Tree Name) → List FormRow
-program_rows more form ts = rows_of (unit (model known) 400 tt (numbered form ts) (start more)).0
+program_rows more form ts = rows_of (forms_or_none (unit (model known) 400 tt (numbered form ts) (start more)).0)
 
 -- ---- the same by scopes
 
@@ -170,7 +175,7 @@ scoped_start more = record {
 }
 
 abbrev pub scoped_rows : Bool → ℕ → List (Tree Name) → List FormRow
-scoped_rows more form ts = rows_of (unit (scoped known) 400 [] (map (λ t. (t.0, map_tree erase t.1)) (numbered form ts)) (scoped_start more)).0
+scoped_rows more form ts = rows_of (forms_or_none (unit (scoped known) 400 [] (map (λ t. (t.0, map_tree erase t.1)) (numbered form ts)) (scoped_start more)).0)
 
 -- ---- whole programs
 

@@ -376,14 +376,6 @@ start_of p table macros entry = record {
 abbrev pub enough_turns : ℕ
 enough_turns = 2 ^ 64
 
-abbrev pub total : List Formed → ℕ
-total [] = 0
-total (f ∷ fs) = f.counted.nodes + total fs
-
--- the most nodes of a unit
-abbrev pub max_total : ℕ
-max_total = 500000
-
 -- ---- exports
 
 -- what a symbol of a unit names: a definition before an import
@@ -424,14 +416,14 @@ broken_result p fault = record { unit = p; fault = Some fault; sets = []; entrie
 abbrev pub broken_unit : Prepared → WholeFault → Progress → Progress
 broken_unit p fault g = record g { results = broken_result p fault ∷ g.results }
 
--- by what it imports, what is defined by then, and what its forms came to
-abbrev pub unit_result : Prepared → List Entry × List SetResult → Table → List Formed → UnitResult
-unit_result p imports table forms =
+-- by what it imports, what is defined by then, and what its forms came to, unless work on it ended
+abbrev pub unit_result : Prepared → List Entry × List SetResult → Table → Option (List Formed) → UnitResult
+unit_result p imports table None = broken_result p TooLarge
+unit_result p imports table (Some forms) =
     let exports = export_all (names_of_unit table p.number imports.0) [] p.exports in
-    if nat_lt max_total (total forms) then broken_result p TooLarge
-    else record { unit = p; fault = None; sets = imports.1; entries = imports.0; forms = forms; exports = exports.entries; export_faults = exports.faults }
+    record { unit = p; fault = None; sets = imports.1; entries = imports.0; forms = forms; exports = exports.entries; export_faults = exports.faults }
 
-abbrev pub unit_over : Known → List (ℕ × Tree Name) → State → List Formed × State
+abbrev pub unit_over : Known → List (ℕ × Tree Name) → State → Option (List Formed) × State
 unit_over known ts s = unit (model known) enough_turns tt ts s
 
 abbrev pub expanded_unit : List Placed → Known → Prepared → List Entry × List SetResult → Progress → Progress

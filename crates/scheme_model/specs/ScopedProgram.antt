@@ -54,14 +54,14 @@ scoped_start_of p g entry = record {
   definitions = g.definitions;
 }
 
-abbrev pub scoped_unit_over : Known → Prepared → ScopedState → List Formed × ScopedState
+abbrev pub scoped_unit_over : Known → Prepared → ScopedState → Option (List Formed) × ScopedState
 scoped_unit_over known p s = unit (counted known) enough_turns [] (forms_over (Written p.number) p.number 0 p.forms) s
 
 -- the same where a local is told by its whole number
-abbrev pub numbered_unit_over : Known → Prepared → ScopedState → List Formed × ScopedState
+abbrev pub numbered_unit_over : Known → Prepared → ScopedState → Option (List Formed) × ScopedState
 numbered_unit_over known p s = unit (scoped known) enough_turns [] (forms_over (Written p.number) p.number 0 p.forms) s
 
-abbrev pub after_unit : Prepared → List Entry × List SetResult → Entries → List UnitResult → List Formed × ScopedState → ScopedProgress
+abbrev pub after_unit : Prepared → List Entry × List SetResult → Entries → List UnitResult → Option (List Formed) × ScopedState → ScopedProgress
 after_unit p imports entry results q = record {
   table = q.1.table;
   macros = q.1.macros;
