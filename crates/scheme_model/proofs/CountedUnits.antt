@@ -363,9 +363,9 @@ module _ (w : Era) (known : Known) where
       let each : (front : List (ℕ × Tree Ident)) → AllOf (FormHeld w known s) front → PassesSame turns front [] s = λ front a. passes_same turns front [] s k fd l a tt in
       let each_finished : (rs : List (ℕ × Aside Ident)) → AllOf (SetStands q.1) rs → FinishedSame turns rs q.1 = λ rs a. finished_same turns rs q.1 p.unit_state.fine p.formed p.locals p.unit_state.entries a in
       let one : states_passed (counted known) turns [] ts s ≡ states_passed (scoped known) turns [] ts s =
-          states_same (AllOf (FormHeld w known s)) (λ front. (passes (counted known) turns [] front [] s).1) (λ front. (passes (scoped known) turns [] front [] s).1) (λ front a. ap (λ (x : List (ℕ × Aside Ident) × ScopedState). x.1) (each front a).same) (fronts ts) held in
+      states_same (AllOf (FormHeld w known s)) (λ front. (passes (counted known) turns [] front [] s).1) (λ front. (passes (scoped known) turns [] front [] s).1) (λ front a. ap (λ (x : List (ℕ × Aside Ident) × ScopedState). x.1) (each front a).same) (fronts ts) held in
       let two : states_finished (counted known) turns [] q.0 q.1 ≡ states_finished (scoped known) turns [] q.0 q.1 =
-          states_same (AllOf (SetStands q.1)) (λ front. (finished (counted known) (expand (counted known) turns) [] front q.1).1) (λ front. (finished (scoped known) (expand (scoped known) turns) [] front q.1).1) (λ rs a. ap (λ (x : List FormResult × ScopedState). x.1) (each_finished rs a).same) (item_fronts q.0) stood in
+      states_same (AllOf (SetStands q.1)) (λ front. (finished (counted known) (expand (counted known) turns) [] front q.1).1) (λ front. (finished (scoped known) (expand (scoped known) turns) [] front q.1).1) (λ rs a. ap (λ (x : List FormResult × ScopedState). x.1) (each_finished rs a).same) (item_fronts q.0) stood in
       let o = z.same in
       let r = p.same in
       record {

@@ -6,7 +6,7 @@ use Rattle.scheme_model.specs.Steps.{Broken}
 use Rattle.scheme_model.specs.Order.{Item, Ops}
 use Rattle.scheme_model.specs.Substitution.{item_map}
 use Rattle.scheme_model.specs.UnitExpansion.{max_total, nodes_in, first_over, fronts, form_fronts, item_fronts, or_ended}
-use Rattle.scheme_model.proofs.FrameAsks.{AllOf, all_of_more}
+use Rattle.scheme_model.proofs.FrameAsks.{AllOf}
 
 -- ---- fronts of what is so
 

@@ -1,6 +1,6 @@
 -- The program of the open documents (R7RS 5): its units in order, what each imports, defines and exports, and what its forms
 -- expand to. A document is handed in as its data, where it reads. The units' numbers are their places in the list.
-use Rattle.std.specs.Prelude.{ℕ, zero, suc, ◌+◌, ◌==◌, nat_le, nat_lt, List, [], ◌∷◌, ◌++◌, map, length, Bool, true, false, not, ◌&&◌, ◌||◌, Option, Some, None, Result, Ok, Err, codes, if◌then◌else◌, ◌^◌}
+use Rattle.std.specs.Prelude.{ℕ, zero, suc, ◌==◌, nat_le, nat_lt, List, [], ◌∷◌, ◌++◌, map, length, Bool, true, false, not, ◌&&◌, ◌||◌, Option, Some, None, Result, Ok, Err, codes, if◌then◌else◌, ◌^◌}
 use Rattle.std.specs.Str.{bytes_eq}
 use Rattle.scheme_model.specs.Identifiers.{Name, Written}
 use Rattle.scheme_model.specs.Ident.{Written as WrittenIdent}
