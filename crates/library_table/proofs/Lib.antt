@@ -17,3 +17,4 @@ mod FlatRows
 mod ClauseRows
 mod ChoiceRows
 mod LibraryRows
+mod PlaceLaws

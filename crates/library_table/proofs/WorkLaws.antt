@@ -5,7 +5,10 @@ use Rattle.std.proofs.lemmas.Bool.Decides.{nat_tests}
 use Rattle.std.proofs.lemmas.List.{reverse-append}
 use Rattle.scheme_model.specs.Order.{is_some}
 use Rattle.scheme_model.specs.Requirements.{Known}
-use Rattle.scheme_model.specs.Program.{Placed, Prepared, UnitResult, Progress, WholeFault, result_at, is_in, fault_before, by_fault, all_done, is_ready, first_ready, worked, work}
+use Rattle.scheme_model.specs.Substitution.{Table}
+use Rattle.scheme_model.specs.UnitExpansion.{Formed}
+use Rattle.scheme_model.specs.Entries.{Entry}
+use Rattle.scheme_model.specs.Program.{Placed, Prepared, UnitResult, SetResult, Progress, WholeFault, result_at, is_in, fault_before, unit_entries, with_entries, form_trees, start_of, unit_over, unit_result, by_fault, all_done, is_ready, first_ready, worked, work}
 use Rattle.import_sets.specs.InTurn.{all_in, is_open, and_then, in_turn}
 use Rattle.library_table.specs.Orders.{numbers, HaveNoFault}
 use Rattle.import_sets.proofs.ReachLaws.{in_append, or_none, or_turned}
@@ -46,13 +49,16 @@ first_same f h (p ∷ ps) same = (λ j. cond (same 0 p refl j) (Some p) (first_s
 
 -- ---- one unit more
 
-unit_of_either : (p : Prepared) (b : Bool) (x y : UnitResult) → x.unit ≡ p → y.unit ≡ p → (cond b x y).unit ≡ p
-unit_of_either p true x y h k = h
-unit_of_either p false x y h k = k
+unit_of_result : (p : Prepared) (imports : List Entry × List SetResult) (table : Table) (forms : Option (List Formed)) → (unit_result p imports table forms).unit ≡ p
+unit_of_result p imports table None = refl
+unit_of_result p imports table (Some fs) = refl
 
 fault_numbers : (all : List Placed) (ps : List Prepared) (known : Known) (p : Prepared) (f : Option WholeFault) (g : Progress) → numbers (by_fault all ps known p f g).results ≡ p.number ∷ numbers g.results
 fault_numbers all ps known p (Some fault) g = refl
-fault_numbers all ps known p None g = ap (λ (u : Prepared). u.number ∷ numbers g.results) (unit_of_either p _ _ _ refl refl)
+fault_numbers all ps known p None g =
+    let imports = unit_entries all g.results p in
+    let q = unit_over known (form_trees p.number 0 p.forms) (start_of p g.table g.macros (with_entries p.number imports.0 g.entry)) in
+    ap (λ (u : Prepared). u.number ∷ numbers g.results) (unit_of_result p imports q.1.table q.0)
 
 stays : (ps : List Prepared) (done : List ℕ) → first_ready (is_open done) ps ≡ None → (t : ℕ) → in_turn ps t done ≡ []
 stays ps done none zero = refl

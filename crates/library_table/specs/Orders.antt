@@ -1,5 +1,5 @@
 -- The order of units, each after what it imports, and the libraries that import one another in a circle (R7RS 5.6).
-use Rattle.std.specs.Prelude.{◌≡◌, ◌≢◌, ℕ, ◌<◌, List, [], ◌∷◌, ◌++◌, map, filter, length, slice_get, true, Option, Some, None, Result, Ok, Err}
+use Rattle.std.specs.Prelude.{◌≡◌, ◌≢◌, ℕ, ◌<◌, List, [], ◌∷◌, ◌++◌, map, filter, length, slice_get, true, false, Option, Some, None, Result, Ok, Err}
 use Rattle.scheme_model.specs.Requirements.{LibraryName}
 use Rattle.scheme_model.specs.Program.{Placed, Prepared, prepare, is_in, on_circle, name_if, UnitResult, fault_before}
 use Rattle.import_sets.specs.InTurn.{in_turn, ComesAfter}
@@ -36,6 +36,11 @@ abbrev pub HaveNoFault : List Placed → List Prepared → Type 0
 HaveNoFault all ps = (n : ℕ) (p : Prepared) → slice_get ps n ≡ Some p → fault_before all ps p ≡ None
 
 -- ---- answers
+
+-- places of so many units, each of them once
+pub record ArePlaces (count : ℕ) (places : List ℕ) : Type 0 where
+  pub within : (n : ℕ) → is_in n places ≡ true → n < count
+  pub once : (n : ℕ) (before rest : List ℕ) → places ≡ before ++ n ∷ rest → is_in n before ≡ false
 
 -- no unit is on a circle, and these are the units in their turns: all of them, and each once and after what it imports
 pub record AreInTurn (all : List Placed) (places : List ℕ) : Type 0 where

@@ -7,7 +7,7 @@ mod export_specs;
 mod exported;
 pub mod exporting;
 pub mod fault;
-mod firsts;
+pub mod firsts;
 mod flattening;
 mod graph;
 pub mod laws;

@@ -1,9 +1,9 @@
 //! The order of units, each after what it imports (R7RS 5.6).
-ghost use Rattle.std.specs.Prelude.{◌<◌, ◌^◌, ℕ, List, length};
+ghost use Rattle.std.specs.Prelude.{◌<◌, ◌^◌, ℕ, List, length, IfOk};
 ghost use Rattle.scheme_model.specs.Requirements.{LibraryName};
 ghost use Rattle.scheme_model.specs.Program.{Placed};
 ghost use Rattle.library_table.specs.Sources.{TellsNames, AreUnits};
-ghost use Rattle.library_table.specs.Orders.{Answers};
+ghost use Rattle.library_table.specs.Orders.{Answers, ArePlaces};
 
 use crate::circles::names_at;
 use crate::fault::LibraryFault;
@@ -19,8 +19,10 @@ use std::alloc::Global;
 /// name means the first unit that has it. Who calls it and is answered `Cycle` gives the units again, those without their imports.
 pub fn order(alloc: Global, units: &[UnitSource]) -> Result<Items<u32>, LibraryFault>
     requires { length units.now < 2 ^ 32 }
-    ensures { (spelled : LibraryName → List ℕ) → TellsNames spelled → (all : List Placed) → AreUnits spelled units.now all →
+    ensures answers { (spelled : LibraryName → List ℕ) → TellsNames spelled → (all : List Placed) → AreUnits spelled units.now all →
         Answers spelled all result }
+    // Whatever the units are.
+    ensures places { IfOk result (ArePlaces (length units.now)) }
 {
     let graph = graph(alloc, units)?;
     let rows = graph.as_slice();

@@ -1,8 +1,8 @@
 //! Libraries whose name an earlier library has.
-ghost use Rattle.std.specs.Prelude.{◌≡◌, ◌<◌, ◌^◌, ◌++◌, ◌∷◌, [], ℕ, List, IfOk, OnOk, length, if◌then◌else◌};
+ghost use Rattle.std.specs.Prelude.{◌≡◌, ◌<◌, ◌^◌, ◌++◌, ◌∷◌, [], ℕ, List, IfOk, OnOk, length, true, if◌then◌else◌};
 ghost use Rattle.std.specs.BTreeMap.{get_by_text};
 ghost use Rattle.scheme_model.specs.Requirements.{LibraryName};
-ghost use Rattle.scheme_model.specs.Program.{Placed};
+ghost use Rattle.scheme_model.specs.Program.{Placed, is_in};
 ghost use Rattle.library_table.specs.Named.{place_named, is_other, is_later, later_from};
 ghost use Rattle.library_table.specs.Sources.{TellsNames, AreUnits};
 ghost use Rattle.library_table.specs.Repeated.{repeated_places};
@@ -18,8 +18,10 @@ use std::collections::BTreeMap;
 /// declaration, is given without a name. Which names are standard isn't known here: who calls it adds the libraries with those.
 pub fn repeated(alloc: Global, units: &[UnitSource]) -> Mem<Items<u32>>
     requires { length units.now < 2 ^ 32 }
-    ensures { (spelled : LibraryName → List ℕ) → TellsNames spelled → (all : List Placed) → AreUnits spelled units.now all →
+    ensures repeated { (spelled : LibraryName → List ℕ) → TellsNames spelled → (all : List Placed) → AreUnits spelled units.now all →
         IfOk result (λ places. places ≡ repeated_places all) }
+    // Whatever the units are.
+    ensures within { IfOk result (λ places. (n : ℕ) → is_in n places ≡ true → n < length units.now) }
 {
     let firsts = first_places(alloc, units)?;
     Ok(later_places(alloc, units, &firsts)?)

@@ -7,6 +7,7 @@ use Rattle.library_table.specs.Graphs.{names_at}
 use Rattle.library_table.specs.Orders.{with_imports}
 use Rattle.library_table.proofs.GraphLaws.{graph_size, rows_within, are_numbered, is_graph}
 use Rattle.library_table.proofs.OrderLaws.{in_turns, on_circle_names}
+use Rattle.library_table.proofs.PlaceLaws.{turns_are_places}
 use Rattle.library_table.proofs.orders.order.Goals as goal
 
 pub on_circles-requires : goal.on_circles-requires
@@ -19,8 +20,8 @@ turns-requires-clause-few c =
 pub turns-requires-clause-within : goal.turns-requires-clause-within
 turns-requires-clause-within c = subst AreWithin (sym c.as_slice-rows.ensures.value) (rows_within c.args.units.now c.in_ok-graph.graph.items c.in_ok-graph.ensures)
 
-pub returns-then-is_empty : goal.returns-then-is_empty
-returns-then-is_empty c = λ spelled tells all are.
+pub returns-then-is_empty-clause-answers : goal.returns-then-is_empty-clause-answers
+returns-then-is_empty-clause-answers c = λ spelled tells all are.
     let us = c.args.units.now in
     let g = c.in_ok-graph.graph.items in
     let e = c.as_slice-rows.ensures.value in
@@ -30,6 +31,13 @@ returns-then-is_empty c = λ spelled tells all are.
     (λ ps is. c.in_ok-circles.ensures.circular ps (subst (λ (h : List (List ℕ)). IsGraph h ps) (sym e) is) ∙ ap (λ (h : List (List ℕ)). passing (is_circular ps) (length h)) e)
     (c.in_ok-turns.ensures (with_imports all) (subst (λ (h : List (List ℕ)). IsGraph h (with_imports all)) (sym e) (is_graph spelled tells us all are g c.in_ok-graph.ensures)) (are_numbered all))
 
+pub returns-then-is_empty-clause-places : goal.returns-then-is_empty-clause-places
+returns-then-is_empty-clause-places c =
+    let us = c.args.units.now in
+    let g = c.in_ok-graph.graph.items in
+    turns_are_places g (length us) c.in_ok-turns.field-0 (graph_size us g c.in_ok-graph.ensures)
+    (λ ps is numbered. c.in_ok-turns.ensures ps (subst (λ (h : List (List ℕ)). IsGraph h ps) (sym c.as_slice-rows.ensures.value) is) numbered)
+
 pub names_at-requires : goal.names_at-requires
 names_at-requires c = λ n i.
     let lt = c.in_ok-circles.ensures.below n (sym (ap (is_in n) c.as_slice-places.ensures) ∙ i) in
@@ -37,8 +45,8 @@ names_at-requires c = λ n i.
     let size = graph_size c.args.units.now c.in_ok-graph.graph.items c.in_ok-graph.ensures in
     omega arith
 
-pub returns : goal.returns
-returns c = λ spelled tells all are.
+pub returns-clause-answers : goal.returns-clause-answers
+returns-clause-answers c = λ spelled tells all are.
     let us = c.args.units.now in
     let g = c.in_ok-graph.graph.items in
     let e = c.as_slice-rows.ensures.value in
