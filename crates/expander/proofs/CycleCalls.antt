@@ -5,7 +5,6 @@ use Rattle.scheme_model.specs.Trees.{Tree, Trees}
 use Rattle.scheme_model.specs.Ident.{Ident as Identifier}
 use Rattle.scheme_model.specs.Measures.{trees_size}
 use Rattle.scheme_model.specs.Shapes.{Clause}
-use Rattle.scheme_model.specs.Cores.{Core}
 use Rattle.scheme_model.specs.Order.{Item}
 use Rattle.scheme_model.specs.Expression.{whole, expand, procedure, lambda, item_part}
 use Rattle.scheme_model.specs.ScopedExpansion.{Frames}
@@ -22,7 +21,7 @@ use Rattle.core_tree.specs.declared.cores.CorePart as code_part
 use Rattle.expander.specs.Bodies.{BodyFor, body_pass}
 use Rattle.expander.specs.Expanded.{AreKeptAtWork, BodyAtWork, ClauseAtWork, ClauseStands, KeptAtWork}
 use Rattle.expander.specs.Kept.{ClauseFor, KeptFor}
-use Rattle.expander.specs.Outcomes.{At, CanLook, IsAtWork, IsEnough, IsEnoughBelow, Runs}
+use Rattle.expander.specs.Outcomes.{CanLook, IsAtWork, IsEnough, IsEnoughBelow, Runs}
 use Rattle.expander.specs.Searched.{searched}
 use Rattle.expander.specs.declared.expressions.At as code_at
 use Rattle.expander.specs.declared.fault.ExpandFault.{ExpandFault}

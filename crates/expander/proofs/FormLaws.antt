@@ -1,21 +1,21 @@
 -- A core form that was parsed: it goes on as its shape, or fails as it was misread.
-use Rattle.std.proofs.Common.{◌≡◌, ℕ, ◌+◌, ◌≤◌, List, [], Bool, true, Option, Some, None, Result, Ok, Err, refl, sym, ap, ◌∙◌, subst, ◌⊎◌, inl, inr, arith, slice_get}
+use Rattle.std.proofs.Common.{◌≡◌, ℕ, ◌≤◌, List, [], true, Option, Some, None, Result, Ok, Err, refl, sym, ap, ◌∙◌, subst, ◌⊎◌, inl, inr, slice_get}
 use Rattle.std.specs.Result.{IsErrAnd}
 use Rattle.scheme_model.specs.declared.Occ.{Occ}
 use Rattle.scheme_model.specs.Trees.{Tree, list, Trees, tree, Tail}
 use Rattle.scheme_model.specs.Ident.{Ident as Identifier}
-use Rattle.scheme_model.specs.Measures.{tree_size, trees_size}
+use Rattle.scheme_model.specs.Measures.{trees_size}
 use Rattle.scheme_model.specs.ExpansionFaults.{Fault, fault_map, BadRules, TwoEllipses, DuplicateVariable, EllipsisDepth, IdleEllipsis, NoRule, EllipsisLength, BadForm, DuplicateBinder, BadPlace, BadRecord, BadQuasi, KeywordRedefined, Duplicate, KeywordAsValue, UseBudget, NodeBudget, DepthBudget, SyntaxError, IncludeRefused, OutOfTurns}
 use Rattle.scheme_model.specs.Keywords.{CoreKeyword, IsQuote, IsQuasiquote, IsLambda, IsCaseLambda, IsIf, IsSet, IsBegin, IsDefine, IsDefineValues, IsDefineRecordType, IsDefineSyntax, IsLetSyntax, IsLetrecSyntax, IsCondExpand, IsSyntaxError, IsInclude}
 use Rattle.scheme_model.specs.Quasiquote.{Mark}
 use Rattle.scheme_model.specs.Requirements.{Known}
 use Rattle.scheme_model.specs.Shapes.{Variable, Procedure as define_procedure}
 use Rattle.scheme_model.specs.Cores.{Core}
-use Rattle.scheme_model.specs.Steps.{Broken, Step, ◌>>=◌, done, fails}
+use Rattle.scheme_model.specs.Steps.{Broken, ◌>>=◌}
 use Rattle.scheme_model.specs.Order.{Here, head_of, given}
-use Rattle.scheme_model.specs.Expression.{Expander, mark_of, quote, core_form}
+use Rattle.scheme_model.specs.Expression.{mark_of, core_form}
 use Rattle.scheme_model.specs.ScopedExpansion.{Frames, ScopedState}
-use Rattle.syntax_tree.specs.Works.{StandsFor, CanName}
+use Rattle.syntax_tree.specs.Works.{StandsFor}
 use Rattle.syntax_tree.specs.declared.trees.Work.{Work}
 use Rattle.syntax_tree.specs.declared.trees.nodes.Tree as number
 use Rattle.syntax_tree.specs.declared.trees.table.Region.{Region}
@@ -33,25 +33,21 @@ use Rattle.core_tree.specs.Cores.{CoreStands}
 use Rattle.core_tree.specs.Traces.{IsFault}
 use Rattle.core_tree.specs.declared.cores.Core as code_core
 use Rattle.expander.specs.CoreSteps.{core_step, IsLeft}
-use Rattle.expander.specs.Counts.{plain_fault, text_fault}
-use Rattle.expander.specs.Marked.{mark_within, mark_here}
-use Rattle.expander.specs.Passed.{ShapeFits}
-use Rattle.expander.specs.Ready.{Expanding, ReadyFor, Reads}
+use Rattle.expander.specs.Marked.{mark_within}
+use Rattle.expander.specs.Ready.{Expanding, Reads}
 use Rattle.expander.specs.Searched.{searched}
 use Rattle.expander.specs.State.{Stands}
-use Rattle.expander.specs.Outcomes.{Stays, Leaves, MayFill, EndsHere}
-use Rattle.expander.specs.Told.{told, core_fault, Tells}
+use Rattle.expander.specs.Outcomes.{EndsHere}
+use Rattle.expander.specs.Told.{told, Tells}
 use Rattle.expander.specs.declared.expressions.Ready as code_ready
 use Rattle.expander.specs.declared.expressions.Ready.TheVariants as ready
 use Rattle.expander.specs.declared.fault.ExpandFault.{ExpandFault}
 use Rattle.expander.specs.declared.fault.ExpandFault.TheVariants as fault
 use Rattle.expander.specs.declared.scope.UnitScope.{UnitScope}
 use Rattle.expander.proofs.OutcomeLaws.{stays_itself, leaves_itself}
-use Rattle.expander.proofs.NodeLaws.{plain_is}
 use Rattle.expander.proofs.FitLaws.{shape_fits}
 use Rattle.expander.proofs.ShapeLaws.{core_form_is}
 use Rattle.expander.proofs.QuasiReads.{marks_within}
-use Rattle.expander.proofs.ToldLaws.{misread_is}
 
 -- ---- marks
 

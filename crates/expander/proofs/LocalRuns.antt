@@ -10,7 +10,7 @@ use Rattle.scheme_model.specs.Ident.{Ident as Identifier}
 use Rattle.scheme_model.specs.ExpansionFaults.{Named, BadForm}
 use Rattle.scheme_model.specs.Requirements.{Known}
 use Rattle.scheme_model.specs.Shapes.{LocalMacros}
-use Rattle.scheme_model.specs.Cores.{Core, Binder, LetSyntax}
+use Rattle.scheme_model.specs.Cores.{Core, LetSyntax}
 use Rattle.scheme_model.specs.Steps.{Broken, Step, ◌>>=◌, done, fails}
 use Rattle.scheme_model.specs.Order.{Here, RulesParts, rules_parts, rules_parts_of, head_of, is_rules}
 use Rattle.scheme_model.specs.Expression.{body, expand, node, heads, keep_all, local_defs, local_macros, numbers}

@@ -1,10 +1,9 @@
 -- Loops that do a step for each of a list: one more, a fault, want of memory, and the end.
 use Rattle.std.proofs.Common.{◌≡◌, ℕ, zero, suc, ◌+◌, ◌<◌, List, [], ◌∷◌, ◌++◌, length, get_or, take, Result, Ok, Err, sym, subst, arith}
-use Rattle.scheme_model.specs.Trees.{Tree, Trees, no_trees, tree}
+use Rattle.scheme_model.specs.Trees.{Trees, no_trees, tree}
 use Rattle.scheme_model.specs.Ident.{Ident as Identifier}
 use Rattle.scheme_model.specs.Requirements.{Known}
 use Rattle.scheme_model.specs.Steps.{Step}
-use Rattle.scheme_model.specs.Shapes.{Clause}
 use Rattle.scheme_model.specs.Order.{Item}
 use Rattle.scheme_model.specs.ScopedExpansion.{Frames, ScopedState}
 use Rattle.syntax_tree.specs.Looks.{PartsStand, AllNamed}

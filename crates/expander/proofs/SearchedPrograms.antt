@@ -1,7 +1,7 @@
 -- The units of a program, with definitions that ask the notes that speak of their identifiers: each comes to what it comes to by counts.
 -- What units import and export is standard, or is defined by a unit that is done, so a unit at work imports nothing of its own.
 use Rattle.std.proofs.Common.{◌≡◌, ℕ, zero, suc, List, [], ◌∷◌, Bool, true, false, cond, Option, Some, None, refl, sym, ap, ◌∙◌, subst, arith}
-use Rattle.std.specs.Prelude.{◌==◌, ◌&&◌, nat_lt}
+use Rattle.std.specs.Prelude.{◌==◌, ◌&&◌}
 use Rattle.std.proofs.lemmas.Bool.{false_from_ne_true, eq-eqb}
 use Rattle.std.proofs.lemmas.Bool.Decides.{nat_tests}
 use Rattle.scheme_model.specs.Meaning.{Meaning, Local, Global, Standard, Free}
@@ -11,7 +11,7 @@ use Rattle.scheme_model.specs.UnitExpansion.{Formed}
 use Rattle.scheme_model.specs.ScopedExpansion.{ScopedMacro, ScopedState}
 use Rattle.scheme_model.specs.CountedExpansion.{counted}
 use Rattle.scheme_model.specs.Entries.{Entry}
-use Rattle.scheme_model.specs.Program.{Placed, Prepared, WholeFault, TooLarge, fault_before, UnitResult, result_at, unit_entries, enough_turns, export_all, names_of_unit, broken_result, unit_result, is_ready, first_ready, is_standard, prelude_unit}
+use Rattle.scheme_model.specs.Program.{Placed, Prepared, WholeFault, fault_before, UnitResult, result_at, unit_entries, enough_turns, broken_result, unit_result, is_ready, first_ready, is_standard, prelude_unit}
 use Rattle.scheme_model.specs.ScopedProgram.{ScopedProgress, scoped_unit_over, scoped_start_after, scoped_by_fault, scoped_worked, scoped_work, scoped_before}
 use Rattle.expander.specs.Searched.{searched, forms_of, searched_unit_over, all_passed, front_passed, front_finished}
 use Rattle.scheme_model.proofs.FrameEras.{Era}

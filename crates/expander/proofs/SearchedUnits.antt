@@ -124,13 +124,13 @@ module _ (w : Era) (known : Known) where
         let sought = passes_searched turns ts [] s k fd l h tt g in
         let fs = map (λ (t : ℕ × Tree Ident). t.0) ts in
         let each : (rs : List (ℕ × Aside Ident)) → AllOf (SetStands w known q.1) rs → finished (searched known) (expand (searched known) turns) [] rs q.1 ≡ finished (counted known) (expand (counted known) turns) [] rs q.1 =
-            λ rs a. finished_searched turns rs q.1 p.unit_state.fine p.formed p.locals p.unit_state.entries a sought.bounded in
+        λ rs a. finished_searched turns rs q.1 p.unit_state.fine p.formed p.locals p.unit_state.entries a sought.bounded in
         let one : states_passed (searched known) turns [] ts s ≡ states_passed (counted known) turns [] ts s =
-            states_same (AllOf (FormHeld w known s)) (λ front. (passes (searched known) turns [] front [] s).1) (λ front. (passes (counted known) turns [] front [] s).1)
-            (λ front a. ap (λ (x : List (ℕ × Aside Ident) × ScopedState). x.1) (passes_searched turns front [] s k fd l a tt g).same) (fronts ts) (all_fronts (FormHeld w known s) ts h) in
+        states_same (AllOf (FormHeld w known s)) (λ front. (passes (searched known) turns [] front [] s).1) (λ front. (passes (counted known) turns [] front [] s).1)
+        (λ front a. ap (λ (x : List (ℕ × Aside Ident) × ScopedState). x.1) (passes_searched turns front [] s k fd l a tt g).same) (fronts ts) (all_fronts (FormHeld w known s) ts h) in
         let two : states_finished (searched known) turns [] q.0 q.1 ≡ states_finished (counted known) turns [] q.0 q.1 =
-            states_same (AllOf (SetStands w known q.1)) (λ front. (finished (searched known) (expand (searched known) turns) [] front q.1).1) (λ front. (finished (counted known) (expand (counted known) turns) [] front q.1).1)
-            (λ rs a. ap (λ (x : List FormResult × ScopedState). x.1) (each rs a)) (item_fronts q.0) (fronts_stand w known q.1 q.0 p.sets) in
+        states_same (AllOf (SetStands w known q.1)) (λ front. (finished (searched known) (expand (searched known) turns) [] front q.1).1) (λ front. (finished (counted known) (expand (counted known) turns) [] front q.1).1)
+        (λ rs a. ap (λ (x : List FormResult × ScopedState). x.1) (each rs a)) (item_fronts q.0) (fronts_stand w known q.1 q.0 p.sets) in
         let three = each q.0 p.sets in
         ap (λ (x : List (ℕ × Aside Ident) × ScopedState). or_ended (first_over (searched known) fs (states_passed (searched known) turns [] ts s)) (or_ended (first_over (searched known) fs (states_finished (searched known) turns [] x.0 x.1)) (some_of (finished (searched known) (expand (searched known) turns) [] x.0 x.1)))) (sought.same ∙ p.same)
         ∙ (λ j. or_ended (first_over (counted known) fs (one j)) (or_ended (first_over (counted known) fs (two j)) (some_of (three j))))

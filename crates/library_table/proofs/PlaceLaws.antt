@@ -1,11 +1,11 @@
 -- The turns of any graph are its places, each of them once; and so are the places of names that stand twice.
 use Rattle.std.proofs.Common.{◌≡◌, ℕ, zero, suc, ◌+◌, ◌<◌, Bool, true, false, cond, ◌⊎◌, inl, inr, List, [], ◌∷◌, ◌++◌, length, slice_get, Option, Some, None, Ok, refl, sym, ap, ◌∙◌, arith}
-use Rattle.std.specs.Prelude.{◌==◌, ◌||◌}
+use Rattle.std.specs.Prelude.{◌==◌}
 use Rattle.std.proofs.lemmas.Bool.{eqb-true, or_cases}
 use Rattle.std.proofs.lemmas.Bool.Decides.{nat_tests}
-use Rattle.std.proofs.lemmas.Option.{same_Some, slice_get_within}
+use Rattle.std.proofs.lemmas.Option.{slice_get_within}
 use Rattle.scheme_model.specs.Data.{Place}
-use Rattle.scheme_model.specs.Declarations.{UnitSource, IsProgram}
+use Rattle.scheme_model.specs.Declarations.{IsProgram}
 use Rattle.scheme_model.specs.Program.{Placed, Prepared, imports_at, is_in, first_ready}
 use Rattle.import_sets.specs.InTurn.{is_open, and_then, in_turn}
 use Rattle.import_sets.specs.Graphs.{row, IsGraph, AreNumbered}

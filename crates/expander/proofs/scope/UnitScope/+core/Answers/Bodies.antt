@@ -1,12 +1,12 @@
 -- Bodies, clauses and procedures.
-use Rattle.std.proofs.Common.{◌≡◌, ◌+◌, ◌^◌, ◌≤◌, List, length, true, false, Ok, Err, Vec, rules, refl, sym, ap, subst, arith}
+use Rattle.std.proofs.Common.{◌≡◌, ◌+◌, ◌^◌, ◌≤◌, List, length, Ok, Err, Vec, rules, refl, sym, ap, subst, arith}
 use Rattle.std.specs.declared.alloc.Global.{Global}
-use Rattle.scheme_model.specs.Trees.{Tree, Trees}
+use Rattle.scheme_model.specs.Trees.{Trees}
 use Rattle.scheme_model.specs.Measures.{trees_size}
 use Rattle.scheme_model.specs.Ident.{Ident as Identifier}
 use Rattle.scheme_model.specs.Requirements.{Known}
 use Rattle.scheme_model.specs.Shapes.{Clause}
-use Rattle.scheme_model.specs.Cores.{Core, Lambda, Body, Binders}
+use Rattle.scheme_model.specs.Cores.{Core, Lambda, Binders}
 use Rattle.scheme_model.specs.Steps.{Step, ◌>>=◌, done}
 use Rattle.scheme_model.specs.Expression.{body, expand, procedure, clauses, lambda}
 use Rattle.scheme_model.specs.ScopedExpansion.{Frames, ScopedState}

@@ -1,5 +1,5 @@
 -- What was set aside.
-use Rattle.std.proofs.Common.{◌≡◌, ◌^◌, List, true, false, Option, Ok, Err, Vec, rules, sym, ap, ◌∙◌, subst, arith}
+use Rattle.std.proofs.Common.{◌≡◌, ◌^◌, List, Option, Ok, Err, Vec, rules, sym, ap, ◌∙◌, subst, arith}
 use Rattle.std.specs.declared.alloc.Global.{Global}
 use Rattle.scheme_model.specs.declared.Occ.{Occ}
 use Rattle.scheme_model.specs.Ident.{Ident as Identifier}
@@ -19,7 +19,7 @@ use Rattle.core_tree.specs.declared.cores.CorePart.TheVariants as core_parts
 use Rattle.core_tree.specs.declared.cores.FieldUse as code_field
 use Rattle.expander.specs.Expanded.{ClauseAtWork, KeptAtWork}
 use Rattle.expander.specs.Kept.{KeptFor}
-use Rattle.expander.specs.Outcomes.{At, CanLook, IsAtWork, IsEnough, IsEnoughBelow, Runs}
+use Rattle.expander.specs.Outcomes.{CanLook, IsAtWork, IsEnough, IsEnoughBelow, Runs}
 use Rattle.expander.specs.RulesTold.{CanTell}
 use Rattle.expander.specs.Searched.{searched}
 use Rattle.expander.specs.declared.expressions.At as code_at

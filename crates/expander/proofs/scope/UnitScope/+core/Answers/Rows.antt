@@ -1,12 +1,12 @@
 -- Expressions, alone and one after another.
-use Rattle.std.proofs.Common.{◌≡◌, ◌+◌, ◌^◌, List, true, false, Ok, Err, Vec, rules, refl, sym, ap, ◌∙◌, subst, arith}
+use Rattle.std.proofs.Common.{◌≡◌, ◌+◌, ◌^◌, List, Ok, Err, Vec, rules, refl, sym, ap, ◌∙◌, subst, arith}
 use Rattle.std.specs.declared.alloc.Global.{Global}
 use Rattle.scheme_model.specs.Trees.{Tree}
 use Rattle.scheme_model.specs.Ident.{Ident as Identifier}
 use Rattle.scheme_model.specs.Requirements.{Known}
 use Rattle.scheme_model.specs.Cores.{Core, Call, Body, Part, Parts, Expression as expression_part}
 use Rattle.scheme_model.specs.Steps.{Step, ◌>>=◌, done}
-use Rattle.scheme_model.specs.Expression.{whole, expand, each_of, sequence, expressions, parts, each}
+use Rattle.scheme_model.specs.Expression.{whole, expand, each_of, sequence, expressions, each}
 use Rattle.scheme_model.specs.ScopedExpansion.{Frames, ScopedState}
 use Rattle.syntax_tree.specs.Works.{StandsFor}
 use Rattle.syntax_tree.specs.declared.trees.nodes.Tree as number
@@ -17,7 +17,7 @@ use Rattle.core_tree.specs.declared.cores.Core.TheVariants as cores
 use Rattle.core_tree.specs.declared.cores.CorePart as code_part
 use Rattle.core_tree.specs.declared.cores.CorePart.TheVariants as core_parts
 use Rattle.expander.specs.Expanded.{AreAtWork}
-use Rattle.expander.specs.Outcomes.{At, CanLook}
+use Rattle.expander.specs.Outcomes.{CanLook}
 use Rattle.expander.specs.Searched.{searched}
 use Rattle.expander.specs.declared.expressions.At as code_at
 use Rattle.expander.specs.declared.fault.ExpandFault.TheVariants as fault

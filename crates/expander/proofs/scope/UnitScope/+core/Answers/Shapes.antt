@@ -4,14 +4,12 @@ use Rattle.std.proofs.lemmas.Option.{slice_get_within}
 use Rattle.std.specs.List.{AllByRecursion}
 use denote.Enum.Bare.{true_same, false_same}
 use Rattle.std.specs.declared.alloc.Global.{Global}
-use Rattle.scheme_model.specs.Trees.{Tree}
 use Rattle.scheme_model.specs.Measures.{tree_size}
 use Rattle.scheme_model.specs.Requirements.{Known}
-use Rattle.scheme_model.specs.Shapes.{Clause}
-use Rattle.scheme_model.specs.Cores.{Core, If, CaseLambda, Lambda, Set, outside}
+use Rattle.scheme_model.specs.Cores.{Core, If, CaseLambda, Lambda, Set}
 use Rattle.scheme_model.specs.Steps.{Step, ◌>>=◌, done}
 use Rattle.scheme_model.specs.Order.{target_of}
-use Rattle.scheme_model.specs.Expression.{whole, body, expand, procedure, clauses, sequence, parts, node, each}
+use Rattle.scheme_model.specs.Expression.{whole, expand, procedure, clauses, node, each}
 use Rattle.scheme_model.specs.ScopedExpansion.{Frames, ScopedState}
 use Rattle.syntax_tree.specs.Looks.{PartsStand}
 use Rattle.syntax_tree.specs.Works.{StandsFor}
