@@ -1,5 +1,6 @@
 -- The leaves of a program of the code are those of the definition's program.
-use Rattle.std.proofs.Common.{◌≡◌, inl, inr, ℕ, suc, List, [], ◌∷◌, ◌++◌, map, false, Option, Some, None, Result, Ok, Err, refl, sym, ap, ◌∙◌, subst, append_assoc}
+use Rattle.std.proofs.Common.{◌≡◌, inl, inr, ℕ, zero, suc, ◌+◌, List, [], ◌∷◌, ◌++◌, map, false, Option, Some, None, Result, Ok, Err, refl, sym, ap, ◌∙◌, subst, append_assoc, arith}
+use Rattle.std.specs.Prelude.{slice_get}
 use Rattle.std.specs.List.{flat_map}
 use Rattle.scheme_model.specs.Cores.{Parts}
 use Rattle.scheme_model.specs.Steps.{Broken}
@@ -16,6 +17,7 @@ use Rattle.core_tree.specs.declared.traces.FormFault.{FormFault}
 use Rattle.core_tree.specs.declared.units.ExpandedItem.{ExpandedItem}
 use Rattle.core_tree.specs.declared.units.UnitForm.{UnitForm}
 use Rattle.core_tree.specs.declared.units.Unit.{Unit as CodeUnit}
+use Rattle.arrow_index.specs.Formed.{IsFormed, AreFormedIn}
 use Rattle.arrow_index.specs.Leaves.{Seen, part_seen, items_seen, AreSeen}
 use Rattle.arrow_index.specs.Placed.{PlacedSeen, at_form, unless_fault, forms_seen, units_seen, AreAllSeen}
 use Rattle.arrow_index.proofs.LeafLaws.{parts_leaves}
@@ -72,3 +74,50 @@ units_leaves work text uris all p place [] (r ∷ rs) h = absurd h
 units_leaves work text uris all p place (c ∷ cs) [] h = absurd h
 units_leaves work text uris all p place (c ∷ cs) (r ∷ rs) h =
     all_both work (forms_seen place 0 c.forms) (units_seen (suc place) cs) (unit_leaves r.forms) (program_leaves rs) (forms_leaves work place 0 c.forms r.forms h.0.forms) (units_leaves work text uris all p (suc place) cs rs h.1)
+
+-- ---- units whose forms stand for something
+
+-- units from a place on, each at its place
+abbrev pub FormedFrom : Work → (place : ℕ) → List CodeUnit → Type 0
+FormedFrom work place cs = (n : ℕ) (u : CodeUnit) → slice_get cs n ≡ Some u → IsFormed work (place + n) u.forms
+
+formed_rest : (work : Work) (place : ℕ) (c : CodeUnit) (cs : List CodeUnit) → FormedFrom work place (c ∷ cs) → FormedFrom work (suc place) cs
+formed_rest work place c cs h n u at =
+    let e : place + suc n ≡ suc place + n = omega arith in
+    subst (λ (k : ℕ). IsFormed work k u.forms) e (h (suc n) u at)
+
+formed_first : (work : Work) (place : ℕ) (c : CodeUnit) (cs : List CodeUnit) → FormedFrom work place (c ∷ cs) → IsFormed work place c.forms
+formed_first work place c cs h =
+    let e : place + 0 ≡ place = omega arith in
+    subst (λ (k : ℕ). IsFormed work k c.forms) e (h 0 c refl)
+
+formed_leaves : (work : Work) (place : ℕ) (cs : List CodeUnit) → FormedFrom work place cs → (ls : List CoreLeaf) × AreAllSeen work (units_seen place cs) ls
+formed_leaves work place [] h = ([], refl)
+formed_leaves work place (c ∷ cs) h =
+    let one = formed_first work place c cs h in
+    let rest = formed_leaves work (suc place) cs (formed_rest work place c cs h) in (
+      unit_leaves one.0 ++ rest.0,
+      all_both work (forms_seen place 0 c.forms) (units_seen (suc place) cs) (unit_leaves one.0) rest.0 (forms_leaves work place 0 c.forms one.0 one.1) rest.1,
+    )
+
+-- the leaves of such units are some
+pub units_seen_are : (work : Work) (cs : List CodeUnit) → AreFormedIn work cs → (ls : List CoreLeaf) × AreAllSeen work (units_seen 0 cs) ls
+units_seen_are work cs h = formed_leaves work 0 cs (λ n u at. let e : n ≡ 0 + n = omega arith in subst (λ (k : ℕ). IsFormed work k u.forms) e (h n u at))
+
+formed_from : (work : Work) (text : LibraryName → List ℕ) (uris : List (List ℕ)) (all : List Placed) (p : Program) (place : ℕ) (cs : List CodeUnit) (rs : List UnitResult) → UnitsStand work text uris all p place cs rs → FormedFrom work place cs
+formed_from work text uris all p place [] [] h n u at = cc
+formed_from work text uris all p place [] (r ∷ rs) h n u at = absurd h
+formed_from work text uris all p place (c ∷ cs) [] h n u at = absurd h
+formed_from work text uris all p place (c ∷ cs) (r ∷ rs) h zero u at =
+    let same : c ≡ u = cc in
+    let e : place ≡ place + 0 = omega arith in
+    subst (λ (k : ℕ). IsFormed work k u.forms) e (subst (λ (x : CodeUnit). IsFormed work place x.forms) same (r.forms, h.0.forms))
+formed_from work text uris all p place (c ∷ cs) (r ∷ rs) h (suc n) u at =
+    let e : suc place + n ≡ place + suc n = omega arith in
+    subst (λ (k : ℕ). IsFormed work k u.forms) e (formed_from work text uris all p (suc place) cs rs h.1 n u at)
+
+-- the units of a program that stands for one are such
+pub units_formed : (work : Work) (text : LibraryName → List ℕ) (uris : List (List ℕ)) (all : List Placed) (p : Program) (cs : List CodeUnit) → UnitsStand work text uris all p 0 cs p.units → AreFormedIn work cs
+units_formed work text uris all p cs h n u at =
+    let e : 0 + n ≡ n = omega arith in
+    subst (λ (k : ℕ). IsFormed work k u.forms) e (formed_from work text uris all p 0 cs p.units h n u at)

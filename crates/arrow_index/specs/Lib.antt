@@ -1,4 +1,5 @@
 pub mod Adds
+pub mod Formed
 pub mod Leaves
 pub mod Members
 pub mod Names

@@ -12,7 +12,8 @@ ghost use Rattle.scheme_model.specs.Requirements.{LibraryName};
 ghost use Rattle.syntax_tree.specs.Meant.{IsMeaning};
 ghost use Rattle.syntax_tree.specs.declared.trees.Work.{Work as AnyWork};
 ghost use Rattle.core_tree.specs.Names.{AllMatch, IsLeaf};
-ghost use Rattle.core_tree.specs.Units.{ProgramStands, IsProgramOf};
+ghost use Rattle.core_tree.specs.Units.{ProgramStands};
+ghost use Rattle.arrow_index.specs.Formed.{AreFormedIn};
 ghost use Rattle.arrow_index.specs.Members.{IsIn};
 ghost use Rattle.arrow_index.specs.Placed.{placed_of, use_of, AreAllSeen, IsUseOf};
 ghost use Rattle.arrow_index.specs.Leaves.{seen_of, IsSeen};
@@ -170,7 +171,7 @@ fn add_all_names(sight: &Sight<'_>, units: &[Unit], pairs: &mut Vec<Pair>) -> Me
 
 /// The arrows of a program in no order, of which some may stand twice.
 fn all_arrows(alloc: Global, work: &Work, program: &Program) -> Mem<Vec<Pair>>
-    requires { IsProgramOf work.now program.now }
+    requires { AreFormedIn work.now program.now.units }
     ensures { (text : LibraryName → List ℕ) (uris : List (List ℕ)) (all : List Placed) (p : ModelProgram) →
         ProgramStands work.now text uris all program.now p →
         IfOk result (λ pairs. (a : Arrow) → IsIn a (map as_arrow pairs.items) ↔ IsIn a (arrows_of all p)) }
@@ -195,7 +196,7 @@ fn pairs_in_order(pairs: Vec<Pair>) -> Mem<Items<Pair>>
 
 /// The arrows of a program: the pairs of a binder and one of its uses, sorted by binder and use, each once.
 pub fn arrows(alloc: Global, work: &Work, program: &Program) -> Mem<Items<Pair>>
-    requires { IsProgramOf work.now program.now }
+    requires { AreFormedIn work.now program.now.units }
     ensures { (text : LibraryName → List ℕ) (uris : List (List ℕ)) (all : List Placed) (p : ModelProgram) →
         ProgramStands work.now text uris all program.now p → IfOk result (λ pairs. AreArrows pairs (arrows_of all p)) }
 {

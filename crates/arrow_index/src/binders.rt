@@ -8,7 +8,8 @@ ghost use Rattle.scheme_model.specs.Live.{CoreLeaf};
 ghost use Rattle.scheme_model.specs.ProgramArrows.{any, arrows_of, leaf_binders, itself_among, binders_at, binders_in as program_binders};
 ghost use Rattle.scheme_model.specs.Program.{Placed, Program as ModelProgram};
 ghost use Rattle.scheme_model.specs.Requirements.{LibraryName};
-ghost use Rattle.core_tree.specs.Units.{ProgramStands, IsProgramOf};
+ghost use Rattle.core_tree.specs.Units.{ProgramStands};
+ghost use Rattle.arrow_index.specs.Formed.{AreFormedIn};
 ghost use Rattle.arrow_index.specs.Leaves.{seen_of, IsSeen};
 ghost use Rattle.arrow_index.specs.Members.{IsIn};
 ghost use Rattle.arrow_index.specs.Placed.{occ_cmp, placed_of, AreAllSeen};
@@ -168,7 +169,7 @@ pub fn binders_of(
     pairs: &[Pair],
     occ: Occ,
 ) -> Mem<Items<Occ>>
-    requires { IsProgramOf work.now program.now }
+    requires { AreFormedIn work.now program.now.units }
     ensures { (text : LibraryName → List ℕ) (uris : List (List ℕ)) (all : List Placed) (p : ModelProgram) →
         ProgramStands work.now text uris all program.now p → AreArrows pairs.now (arrows_of all p) →
         IfOk result (λ binders. AreOccs binders (binders_at (program_binders p) (arrows_of all p) occ)) }

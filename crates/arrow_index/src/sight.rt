@@ -1,6 +1,6 @@
 //! What a program has that arrows and links need: the leaves of its cores with their forms, where locals and definitions stand, and
 //! which occurrences are live.
-ghost use Rattle.std.specs.Prelude.{◌≡◌, ℕ, List, Option, IfOk};
+ghost use Rattle.std.specs.Prelude.{◌≡◌, ℕ, List, map, Option, IfOk};
 ghost use Rattle.std.specs.BTreeMap.{get};
 ghost use Rattle.scheme_model.specs.Cores.{Target as ModelTarget};
 ghost use Rattle.scheme_model.specs.Live.{CoreLeaf, NameUse as ModelName};
@@ -11,7 +11,8 @@ ghost use Rattle.scheme_model.specs.Program.{Placed, Program as ModelProgram};
 ghost use Rattle.scheme_model.specs.Requirements.{LibraryName};
 ghost use Rattle.syntax_tree.specs.Meant.{IsMeaning};
 ghost use Rattle.syntax_tree.specs.declared.trees.Work.{Work as AnyWork};
-ghost use Rattle.core_tree.specs.Units.{ProgramStands, IsProgramOf};
+ghost use Rattle.core_tree.specs.Units.{ProgramStands};
+ghost use Rattle.arrow_index.specs.Formed.{AreFormedIn};
 
 use crate::gathering::{definitions_of, leaves_of, locals_of, met_in};
 use crate::leaves::Leaf;
@@ -73,13 +74,14 @@ pub struct Sight<'a> {
 }
 
 impl<'a> Sight<'a> {
-    ghost use Rattle.arrow_index.specs.Placed.{local_cmp, global_cmp, place_in};
+    ghost use Rattle.arrow_index.specs.Placed.{local_cmp, global_cmp, place_in, placed_of, AreAllSeen};
     ghost use Rattle.arrow_index.specs.Sights.{Sees, SeesProgram};
 
     /// What a program has.
     pub fn of(alloc: Global, work: &Work, program: &'a Program) -> Mem<Sight<'a>>
-        requires { IsProgramOf work.now program.now }
-        ensures { (text : LibraryName → List ℕ) (uris : List (List ℕ)) (all : List Placed) (p : ModelProgram) →
+        requires { AreFormedIn work.now program.now.units }
+        ensures seen { IfOk result (λ sight. (ls : List CoreLeaf) × AreAllSeen work.now (map placed_of sight.leaves.items) ls) }
+        ensures program { (text : LibraryName → List ℕ) (uris : List (List ℕ)) (all : List Placed) (p : ModelProgram) →
             ProgramStands work.now text uris all program.now p → IfOk result (λ sight. SeesProgram work.now sight all p) }
     {
         work.symbols.told_apart();

@@ -10,17 +10,21 @@ use Rattle.arrow_index.specs.Placed.{placed_of, use_of, AreAllSeen, IsUseOf}
 use Rattle.arrow_index.specs.Sights.{IsNameOf, all_names}
 use Rattle.arrow_index.proofs.ToldLaws.{names_told}
 use Rattle.arrow_index.specs.Links.{as_link}
+use Rattle.arrow_index.proofs.PlacedLaws.{units_formed}
 use Rattle.arrow_index.proofs.SpelledLaws.{links_law}
 use Rattle.arrow_index.proofs.spelled.all_links.Goals as goal
 
+pub of-requires : goal.of-requires
+of-requires c = let q = c.requires in units_formed c.args.work.now q.0 q.1 q.2 q.3 c.args.program.now.units q.4
+
 pub binders_in-requires : goal.binders_in-requires
-binders_in-requires c = let q = c.requires in (program_leaves q.3.units, (c.in_ok-sight.ensures q.0 q.1 q.2 q.3 q.4).leaves_are)
+binders_in-requires c = c.in_ok-sight.ensures.seen
 
 pub link_uses-requires-clause-leaves : goal.link_uses-requires-clause-leaves
 link_uses-requires-clause-leaves c =
     let q = c.requires in
     let ls = program_leaves q.3.units in
-    (ls, subst (λ (xs : List PlacedLeaf). AreAllSeen c.args.work.now (map placed_of xs) ls) (sym c.as_slice.ensures.value) (c.in_ok-sight.ensures q.0 q.1 q.2 q.3 q.4).leaves_are)
+    (ls, subst (λ (xs : List PlacedLeaf). AreAllSeen c.args.work.now (map placed_of xs) ls) (sym c.as_slice.ensures.value) (c.in_ok-sight.ensures.program q.0 q.1 q.2 q.3 q.4).leaves_are)
 
 pub link_uses-requires-clause-entries : goal.link_uses-requires-clause-entries
 link_uses-requires-clause-entries c = let q = c.requires in (q.3.units, c.in_ok-entries.ensures c.args.work.now q.0 q.1 q.2 q.3 q.4)
@@ -28,7 +32,7 @@ link_uses-requires-clause-entries c = let q = c.requires in (q.3.units, c.in_ok-
 pub link_targets-requires-clause-targets : goal.link_targets-requires-clause-targets
 link_targets-requires-clause-targets c =
     let q = c.requires in
-    let met = (c.in_ok-sight.ensures q.0 q.1 q.2 q.3 q.4).met_are in
+    let met = (c.in_ok-sight.ensures.program q.0 q.1 q.2 q.3 q.4).met_are in
     (met.told, subst (λ (xs : List PlacedTarget). AllMatch (IsUseOf c.args.work.now) (map use_of xs) met.told) (sym c.as_slice-2.ensures.value) met.match)
 
 pub link_targets-requires-clause-entries : goal.link_targets-requires-clause-entries
@@ -44,7 +48,7 @@ pub link_macros-requires-clause-leaves : goal.link_macros-requires-clause-leaves
 link_macros-requires-clause-leaves c =
     let q = c.requires in
     let ls = program_leaves q.3.units in
-    (ls, subst (λ (xs : List PlacedLeaf). AreAllSeen c.args.work.now (map placed_of xs) ls) (sym c.as_slice-5.ensures.value) (c.in_ok-sight.ensures q.0 q.1 q.2 q.3 q.4).leaves_are)
+    (ls, subst (λ (xs : List PlacedLeaf). AreAllSeen c.args.work.now (map placed_of xs) ls) (sym c.as_slice-5.ensures.value) (c.in_ok-sight.ensures.program q.0 q.1 q.2 q.3 q.4).leaves_are)
 
 pub link_macros-requires-clause-entries : goal.link_macros-requires-clause-entries
 link_macros-requires-clause-entries c = let q = c.requires in (q.3.units, c.in_ok-entries.ensures c.args.work.now q.0 q.1 q.2 q.3 q.4)
@@ -58,7 +62,7 @@ returns c = λ text uris all p h l.
     let table = program_table p in
     let rs = p.units in
     let live = is_live_at ls ks ms in
-    let sees = c.in_ok-sight.ensures text uris all p h in
+    let sees = c.in_ok-sight.ensures.program text uris all p h in
     let gives = c.in_ok-entries.ensures w text uris all p h in
     let met = sees.met_are in
     let found = names_told w text uris all p 0 c.args.program.now.units p.units h in

@@ -6,7 +6,7 @@ use Rattle.arrow_index.specs.declared.sight.PlacedLeaf.{PlacedLeaf}
 use Rattle.arrow_index.specs.declared.sight.PlacedTarget.{PlacedTarget}
 use Rattle.arrow_index.specs.Placed.{local_in, PlacedSeen, placed_of, use_of, units_seen, units_met, AreAllSeen, IsUseOf, place_in}
 use Rattle.arrow_index.specs.Sights.{all_names, name_at, use_at}
-use Rattle.arrow_index.proofs.PlacedLaws.{units_leaves}
+use Rattle.arrow_index.proofs.PlacedLaws.{units_leaves, units_seen_are}
 use Rattle.arrow_index.proofs.ToldLaws.{tells_as, units_told, names_told}
 use Rattle.arrow_index.proofs.LocalLaws.{local_law}
 use Rattle.arrow_index.proofs.GivenLaws.{units_law}
@@ -16,13 +16,18 @@ use Rattle.arrow_index.proofs.sight.Sight.of.Goals as goal
 pub live_in-requires : goal.live_in-requires
 live_in-requires c =
     let w = c.args.work.now in
-    let q = c.requires in
-    let seen = units_leaves w q.0 q.1 q.2 q.3 0 c.args.program.now.units q.3.units q.4 in
+    let seen = units_seen_are w c.args.program.now.units c.requires in
     let told : map placed_of c.as_slice-2.result.now ≡ units_seen 0 c.args.program.now.units = ap (λ (ls : List PlacedLeaf). map placed_of ls) c.as_slice-2.ensures.value ∙ c.in_ok-leaves.ensures in
-    (program_leaves q.3.units, subst (λ (xs : List PlacedSeen). AreAllSeen w xs (program_leaves q.3.units)) (sym told) seen)
+    (seen.0, subst (λ (xs : List PlacedSeen). AreAllSeen w xs seen.0) (sym told) seen.1)
 
-pub returns : goal.returns
-returns c = λ text uris all p h.
+pub returns-clause-seen : goal.returns-clause-seen
+returns-clause-seen c =
+    let w = c.args.work.now in
+    let seen = units_seen_are w c.args.program.now.units c.requires in
+    (seen.0, subst (λ (xs : List PlacedSeen). AreAllSeen w xs seen.0) (sym c.in_ok-leaves.ensures) seen.1)
+
+pub returns-clause-program : goal.returns-clause-program
+returns-clause-program c = λ text uris all p h.
     let w = c.args.work.now in
     let units = c.args.program.now.units in
     let ls = program_leaves p.units in
