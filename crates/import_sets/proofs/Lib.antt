@@ -1,9 +1,9 @@
 mod MeaningLaws
 mod OriginLaws
-mod EntryLaws
-mod GatherLaws
-mod SetLaws
-mod NameLaws
+pub mod EntryLaws
+pub mod GatherLaws
+pub mod SetLaws
+pub mod NameLaws
 mod PlaceLaws
 mod KeyLaws
 pub mod FirstLaws

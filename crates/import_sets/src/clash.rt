@@ -39,7 +39,7 @@ fn both(alloc: Global, origins: Items<Origin>, more: Items<Origin>) -> Mem<Items
 }
 
 /// The entries with all their origins.
-fn finished(alloc: Global, groups: Vec<Group>) -> Mem<Items<Entry>>
+pub fn finished(alloc: Global, groups: Vec<Group>) -> Mem<Items<Entry>>
     ensures { IfOk result (λ all. all ≡ map finished groups.items) }
 {
     let mut all = Items::new(alloc);

@@ -2,12 +2,12 @@
 #![tactic(auto)]
 
 pub mod circles;
-mod clash;
-mod copy;
+pub mod clash;
+pub mod copy;
 pub mod entries;
 pub mod fault;
 pub mod firsts;
-mod gather;
+pub mod gather;
 mod joining;
 mod modify;
 mod names;
