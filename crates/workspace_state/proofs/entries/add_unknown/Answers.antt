@@ -1,0 +1,7 @@
+use Rattle.std.proofs.Common.{ap, arith}
+use Rattle.workspace_state.specs.declared.findings.At.{At}
+use Rattle.workspace_state.proofs.FoundLaws.{at_in}
+use Rattle.workspace_state.proofs.entries.add_unknown.Goals as goal
+
+pub returns : goal.returns
+returns c = λ count lt found. c.in_ok-add_found.ensures count (at_in count c.at-at.result (let e = ap (λ (a : At). a.document) c.at-at.ensures in omega arith)) found

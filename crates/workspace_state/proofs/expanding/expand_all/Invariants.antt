@@ -1,0 +1,21 @@
+use Rattle.std.proofs.Common.{◌≡◌, ℕ, ◌≤◌, length, vec_len, slice_get, Some}
+use Rattle.expander.specs.Opened.{IsNew}
+use Rattle.workspace_state.specs.Formed.{CameFormed}
+use Rattle.workspace_state.specs.Forms.{IsBench}
+use Rattle.workspace_state.specs.Libraries.{ExportsMean}
+use Rattle.workspace_state.specs.Places.{HeadsStay}
+use Rattle.workspace_state.specs.UnitsExpanded.{AreAllFound}
+use Rattle.workspace_state.proofs.expanding.expand_all.Given as goal
+
+-- the units so far came to something, and those to come are still to be begun
+abbrev pub invariant-loop-place : goal.invariant-loop-place
+invariant-loop-place g l = record {
+  bench : IsBench l.bench;
+  heads : HeadsStay l.fn.units.heads.items l.units.heads.items;
+  sources : l.units.sources ≡ l.fn.units.sources;
+  count : vec_len l.all ≡ vec_len l.fn.units.heads;
+  found : AreAllFound (length l.documents) l.all.items;
+  mean : ExportsMean l.bench.work.symbols l.all.items;
+  formed : CameFormed l.bench.work l.all.items;
+  new : (k u : ℕ) → l.place-index ≤ k → slice_get l.order k ≡ Some u → IsNew l.bench.scope u;
+}

@@ -1,0 +1,85 @@
+-- The unit's head and source are there, and so is its document.
+use Rattle.std.proofs.Common.{◌≡◌, List, length, refl, sym, subst, arith, Bool, Option}
+use Rattle.std.proofs.lemmas.Option.{slice_get_read}
+use Rattle.workspace_state.specs.declared.breaking.WholeFault.{WholeFault}
+use Rattle.workspace_state.specs.declared.breaking.WholeFault.TheVariants as fault
+use Rattle.workspace_state.specs.declared.expanding.Expanded.{Expanded}
+use Rattle.workspace_state.specs.declared.listing.Head.{Head}
+use Rattle.workspace_state.specs.Broken.{broken_if}
+use Rattle.arrow_index.specs.Formed.{IsFormed}
+use Rattle.workspace_state.specs.Libraries.{ExportsMean, HaveMeaning}
+use Rattle.workspace_state.specs.Places.{SameHead, AreHeadsIn, AreFoundIn}
+use Rattle.expander.proofs.ImportLaws.{same_trees}
+use Rattle.expander.proofs.OutcomeLaws.{trees_on}
+use Rattle.workspace_state.proofs.BenchLaws.{bench_in}
+use Rattle.workspace_state.proofs.BrokenLaws.{heads_itself, head_set, head_broken}
+use Rattle.workspace_state.proofs.MeaningLaws.{names_on}
+use Rattle.workspace_state.proofs.SoundKept.{source_read, some_document}
+use Rattle.workspace_state.proofs.UnitsTurns.{of_some, all_mean, one_found, one_means, one_formed}
+use Rattle.workspace_state.proofs.expanding.expand_at.Goals as goal
+
+-- a head that may have broken stays otherwise
+head_stays : (b : Bool) (f : WholeFault) (h g : Head) → g ≡ broken_if b f h → SameHead h g
+head_stays b f h g is = subst (λ (k : Head). SameHead h k) (sym is) (head_broken b f h)
+
+pub given_to-requires-clause-documents : goal.given_to-requires-clause-documents
+given_to-requires-clause-documents g c = some_document (length c.args.documents.now) c.args.units.now.heads.items c.args.place c.requires.units.heads (omega (arith, c.requires.place, c.args.units.now.heads.ok.0))
+
+pub given_to-requires-clause-places : goal.given_to-requires-clause-places
+given_to-requires-clause-places g c = subst (λ (hs : List Head). AreHeadsIn (length c.args.documents.now) hs) (sym c.as_slice-heads.ensures.value) c.requires.units.heads
+
+pub given_to-requires-clause-libraries : goal.given_to-requires-clause-libraries
+given_to-requires-clause-libraries g c = subst (λ (es : List (Option Expanded)). ExportsMean c.args.bench.now.work.symbols es) (sym c.as_slice-expanded.ensures.value) c.requires.mean
+
+pub expand_unit-requires-clause-bench : goal.expand_unit-requires-clause-bench
+expand_unit-requires-clause-bench g c =
+    bench_in c.args.bench.now c.given_to.new.work c.in_ok-given.ensures.trees c.in_ok-given.ensures.names c.told_apart.ensures.idents c.told_apart.ensures.symbols c.requires.bench
+
+pub expand_unit-requires-clause-read : goal.expand_unit-requires-clause-read
+expand_unit-requires-clause-read g c =
+    let ss = c.args.units.now.sources.items in
+    source_read ss c.args.place c.index-source.result.now c.requires.units.read
+    (slice_get_read ss (length ss) c.args.place c.index-source.result.now refl (omega (arith, c.requires.place, c.requires.units.sources, c.args.units.now.sources.ok.0, c.args.units.now.heads.ok.0)) c.index-source.ensures)
+
+pub expand_unit-requires-clause-documents : goal.expand_unit-requires-clause-documents
+expand_unit-requires-clause-documents g c = some_document (length c.args.documents.now) c.args.units.now.heads.items c.args.place c.requires.units.heads (omega (arith, c.requires.place, c.args.units.now.heads.ok.0))
+
+pub expand_unit-requires-clause-places : goal.expand_unit-requires-clause-places
+expand_unit-requires-clause-places g c = subst (λ (hs : List Head). AreHeadsIn (length c.args.documents.now) hs) (sym c.as_slice-heads.ensures.value) c.requires.units.heads
+
+pub expand_unit-requires-clause-exports : goal.expand_unit-requires-clause-exports
+expand_unit-requires-clause-exports g c =
+    let old = c.args.bench.now.work.symbols in
+    let now = c.given_to.new.work.symbols in
+    subst (λ (es : List (Option Expanded)). ExportsMean now es) (sym c.as_slice-expanded.ensures.value) (all_mean old now c.in_ok-given.ensures.names c.args.all.now.items c.requires.mean)
+
+pub returns-then-is_some-clause-heads : goal.returns-then-is_some-clause-heads
+returns-then-is_some-clause-heads g c = heads_itself c.args.units.now.heads.items
+
+pub returns-clause-heads : goal.returns-clause-heads
+returns-clause-heads g c =
+    let hs = c.args.units.now.heads.items in
+    let h = c.index_mut.result.now in
+    let at = slice_get_read hs (length hs) c.args.place h refl (omega (arith, c.args.units.now.heads.ok.0, c.requires.place)) c.index_mut.ensures.value in
+    head_set hs hs c.args.place h c.break_if.new.head (heads_itself hs) at (head_stays c.is_none.result fault.TooLarge h c.break_if.new.head c.break_if.ensures)
+
+pub returns-clause-found : goal.returns-clause-found
+returns-clause-found g c = one_found (length c.args.documents.now) c.args.all.now.items c.args.place c.in_ok-came.came c.requires.found
+    (of_some (λ (e : Expanded). AreFoundIn (length c.args.documents.now) e.findings.items) c.in_ok-came.came c.in_ok-came.ensures.findings)
+
+pub returns-clause-mean : goal.returns-clause-mean
+returns-clause-mean g c =
+    let old = c.args.bench.now.work.symbols in
+    let mid = c.given_to.new.work.symbols in
+    let now = c.expand_unit.new.bench.work.symbols in
+    one_means old now (names_on old mid now c.in_ok-given.ensures.names c.in_ok-came.ensures.names) c.args.all.now.items c.args.place c.in_ok-came.came c.requires.mean
+    (of_some (λ (e : Expanded). HaveMeaning now e.exports) c.in_ok-came.came c.in_ok-came.ensures.exports)
+
+pub returns-clause-formed : goal.returns-clause-formed
+returns-clause-formed g c =
+    let old = c.args.bench.now.work in
+    let mid = c.given_to.new.work in
+    let now = c.expand_unit.new.bench.work in
+    one_formed old now (trees_on old mid now (same_trees old mid c.in_ok-given.ensures.trees c.in_ok-given.ensures.names) c.in_ok-came.ensures.trees)
+    (names_on old.symbols mid.symbols now.symbols c.in_ok-given.ensures.names c.in_ok-came.ensures.names) c.args.all.now.items c.args.place c.in_ok-came.came c.requires.formed
+    (of_some (λ (e : Expanded). IsFormed now c.args.place e.forms) c.in_ok-came.came c.in_ok-came.ensures.formed)

@@ -1,0 +1,111 @@
+-- The unit is begun with what it is given, and its forms are told over names that stay.
+use Rattle.std.proofs.Common.{List, refl, sym, subst}
+use Rattle.syntax_tree.specs.Names.{KeepsNames}
+use Rattle.syntax_tree.specs.declared.units.Entry.{Entry}
+use Rattle.core_tree.specs.Names.{AllMatch}
+use Rattle.core_tree.specs.declared.units.UnitForm as core
+use Rattle.library_table.specs.UnitsRead.{forms_of}
+use Rattle.library_table.specs.declared.units.UnitForm.{UnitForm}
+use Rattle.expander.specs.Opened.{AreNumbered}
+use Rattle.expander.specs.State.{is_program}
+use Rattle.expander.specs.declared.scope.Imported.{Imported}
+use Rattle.expander.proofs.ImportLaws.{same_trees}
+use Rattle.expander.proofs.OutcomeLaws.{trees_on}
+use Rattle.workspace_state.specs.Begun.{IsImport}
+use Rattle.arrow_index.specs.Formed.{IsFormed}
+use Rattle.workspace_state.specs.Forms.{AreFormed}
+use Rattle.workspace_state.specs.WereRead.{WereRead}
+use Rattle.workspace_state.proofs.BenchLaws.{bench_in}
+use Rattle.workspace_state.proofs.ImportedNames.{are_numbered}
+use Rattle.workspace_state.proofs.MeaningLaws.{mean_kept, names_on}
+use Rattle.workspace_state.proofs.UnitLaws.{imports_given, unit_begun}
+use Rattle.workspace_state.proofs.UnitsTurns.{all_mean, formed_on, of_some}
+use Rattle.workspace_state.proofs.expanding.expand_unit.Goals as goal
+
+pub begin_unit-requires-clause-numbered : goal.begin_unit-requires-clause-numbered
+begin_unit-requires-clause-numbered g c =
+    let names = c.imported.new.work.symbols in
+    subst (λ (xs : List Imported). AreNumbered names xs) (sym c.as_slice-2.ensures.value) (are_numbered names c.in_ok-imports.imports.items c.as_slice.result.now c.in_ok-imports.ensures.imports)
+
+pub expand_forms-requires-clause-begun : goal.expand_forms-requires-clause-begun
+expand_forms-requires-clause-begun g c =
+    let b = c.args.bench.now in
+    let w = c.imported.new.work in
+    let xs = c.as_slice-2.result.now in
+    let es = c.args.given.joined.entries.items in
+    let all : AllMatch (IsImport w.symbols) xs es = subst (λ (ys : List Entry). AllMatch (IsImport w.symbols) xs ys) c.as_slice.ensures.value
+    (subst (λ (ys : List Imported). AllMatch (IsImport w.symbols) ys c.as_slice.result.now) (sym c.as_slice-2.ensures.value) c.in_ok-imports.ensures.imports) in
+    let given = imports_given b.work.symbols w.symbols c.in_ok-imports.ensures.names xs es all c.requires.entries c.requires.once in
+    unit_begun b (record { work = c.begin_unit.new.work; region = b.region; scope = c.begin_unit.new.self }) w c.args.unit (is_program c.args.source.now.kind) xs given.0 c.requires.bench c.in_ok-imports.ensures.trees c.in_ok-imports.ensures.names
+    c.told_apart.ensures.idents c.told_apart.ensures.symbols given.1 refl c.in_ok-begin_unit.ensures.trees c.in_ok-begin_unit.ensures.names c.in_ok-begin_unit.ensures.rests c.in_ok-begin_unit.ensures.fresh
+
+pub expand_forms-requires-clause-read : goal.expand_forms-requires-clause-read
+expand_forms-requires-clause-read g c = subst (λ (fs : List UnitForm). WereRead (forms_of fs)) (sym c.as_slice-3.ensures) c.requires.read
+
+pub finished-requires-clause-exports : goal.finished-requires-clause-exports
+finished-requires-clause-exports g c =
+    let old = c.args.bench.now.work.symbols in
+    let now = c.expand_forms.new.bench.work.symbols in
+    let keeps : KeepsNames old now = names_on old c.imported.new.work.symbols now c.in_ok-imports.ensures.names (names_on c.imported.new.work.symbols c.begin_unit.new.work.symbols now c.in_ok-begin_unit.ensures.names c.in_ok-expanded.ensures.stays.names) in
+    all_mean old now keeps c.args.libraries.expanded.now c.requires.exports
+
+pub finished-requires-clause-entries : goal.finished-requires-clause-entries
+finished-requires-clause-entries g c =
+    let old = c.args.bench.now.work.symbols in
+    let now = c.expand_forms.new.bench.work.symbols in
+    let keeps : KeepsNames old now = names_on old c.imported.new.work.symbols now c.in_ok-imports.ensures.names (names_on c.imported.new.work.symbols c.begin_unit.new.work.symbols now c.in_ok-begin_unit.ensures.names c.in_ok-expanded.ensures.stays.names) in
+    mean_kept old now keeps c.args.given.joined.entries.items c.requires.entries
+
+pub returns-in-None-clause-names : goal.returns-in-None-clause-names
+returns-in-None-clause-names g c =
+    let old = c.args.bench.now.work.symbols in
+    let now = c.expand_forms.new.bench.work.symbols in
+    names_on old c.imported.new.work.symbols now c.in_ok-imports.ensures.names (names_on c.imported.new.work.symbols c.begin_unit.new.work.symbols now c.in_ok-begin_unit.ensures.names c.in_ok-expanded.ensures.stays.names)
+
+pub returns-in-None-clause-others : goal.returns-in-None-clause-others
+returns-in-None-clause-others g c = λ v ne new. c.in_ok-expanded.ensures.stays.others v (c.in_ok-begin_unit.ensures.others v ne new)
+
+pub returns-in_ok-came-in-Some-clause-names : goal.returns-in_ok-came-in-Some-clause-names
+returns-in_ok-came-in-Some-clause-names g c =
+    let old = c.args.bench.now.work.symbols in
+    let now = c.expand_forms.new.bench.work.symbols in
+    names_on old now c.finished.new.work.symbols (names_on old c.imported.new.work.symbols now c.in_ok-imports.ensures.names (names_on c.imported.new.work.symbols c.begin_unit.new.work.symbols now c.in_ok-begin_unit.ensures.names c.in_ok-expanded.ensures.stays.names))
+    c.in_ok-came-in-Some.ensures.names
+
+pub returns-in_ok-came-in-Some-clause-others : goal.returns-in_ok-came-in-Some-clause-others
+returns-in_ok-came-in-Some-clause-others g c = λ v ne new. c.in_ok-expanded.ensures.stays.others v (c.in_ok-begin_unit.ensures.others v ne new)
+
+pub returns-in_ok-came-in-Some-clause-bench : goal.returns-in_ok-came-in-Some-clause-bench
+returns-in_ok-came-in-Some-clause-bench g c =
+    bench_in c.expand_forms.new.bench c.finished.new.work c.in_ok-came-in-Some.ensures.trees c.in_ok-came-in-Some.ensures.names c.told_apart-in-Some.ensures.idents c.told_apart-in-Some.ensures.symbols c.in_ok-expanded.ensures.bench
+
+pub finished-requires-clause-forms : goal.finished-requires-clause-forms
+finished-requires-clause-forms g c = of_some (AreFormed c.expand_forms.new.bench.work c.args.unit) c.in_ok-expanded.expanded c.in_ok-expanded.ensures.formed c.in-Some.forms c.in-Some.is
+
+pub returns-in-None-clause-trees : goal.returns-in-None-clause-trees
+returns-in-None-clause-trees g c =
+    let a = c.args.bench.now.work in
+    let b = c.imported.new.work in
+    let d = c.begin_unit.new.work in
+    trees_on a d c.expand_forms.new.bench.work
+    (trees_on a b d (same_trees a b c.in_ok-imports.ensures.trees c.in_ok-imports.ensures.names) (same_trees b d c.in_ok-begin_unit.ensures.trees c.in_ok-begin_unit.ensures.names)) c.in_ok-expanded.ensures.stays.trees
+
+pub returns-in_ok-came-in-Some-clause-trees : goal.returns-in_ok-came-in-Some-clause-trees
+returns-in_ok-came-in-Some-clause-trees g c =
+    let a = c.args.bench.now.work in
+    let b = c.imported.new.work in
+    let d = c.begin_unit.new.work in
+    let e = c.expand_forms.new.bench.work in
+    let f = c.finished.new.work in
+    trees_on a e f
+    (trees_on a d e (trees_on a b d (same_trees a b c.in_ok-imports.ensures.trees c.in_ok-imports.ensures.names) (same_trees b d c.in_ok-begin_unit.ensures.trees c.in_ok-begin_unit.ensures.names)) c.in_ok-expanded.ensures.stays.trees)
+    (same_trees e f c.in_ok-came-in-Some.ensures.trees c.in_ok-came-in-Some.ensures.names)
+
+pub returns-in_ok-came-in-Some-clause-formed : goal.returns-in_ok-came-in-Some-clause-formed
+returns-in_ok-came-in-Some-clause-formed g c =
+    let e = c.expand_forms.new.bench.work in
+    let f = c.finished.new.work in
+    let unit = c.args.unit in
+    let are = of_some (AreFormed e unit) c.in_ok-expanded.expanded c.in_ok-expanded.ensures.formed c.in-Some.forms c.in-Some.is in
+    subst (λ (fs : List core.UnitForm). IsFormed f unit fs) (sym c.in_ok-came-in-Some.ensures.forms)
+    (formed_on e f (same_trees e f c.in_ok-came-in-Some.ensures.trees c.in_ok-came-in-Some.ensures.names) c.in_ok-came-in-Some.ensures.names unit c.in-Some.forms (are.formed, are.stand))

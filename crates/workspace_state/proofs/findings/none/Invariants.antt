@@ -1,0 +1,6 @@
+use Rattle.std.proofs.Common.{◌≡◌, vec_len}
+use Rattle.workspace_state.proofs.findings.none.Given as goal
+
+-- as many as turns
+abbrev pub invariant-loop : goal.invariant-loop
+invariant-loop l = vec_len l.all ≡ l.counter

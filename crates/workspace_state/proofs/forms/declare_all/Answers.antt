@@ -1,0 +1,48 @@
+use Rattle.std.proofs.Common.{◌+◌, ◌≤◌, List, length, sym, ap, ◌∙◌, subst, arith}
+use Rattle.std.proofs.lemmas.List.{length_push}
+use Rattle.workspace_state.specs.declared.forms.Declared as code
+use Rattle.workspace_state.proofs.BenchLaws.{stays_itself, stays_on}
+use Rattle.workspace_state.proofs.FormsHold.{Holds, none_held, next_form, can_pass, read_here, few_more}
+use Rattle.workspace_state.proofs.forms.declare_all.Goals as goal
+
+pub loop-place-init : goal.loop-place-init
+loop-place-init g c = record {
+  holds = subst (λ (ds : List code.Declared). Holds c.args.bench.now c.args.unit ds) (sym c.new-all.ensures.items) (none_held c.args.bench.now c.args.unit c.requires.begun);
+  count = ap (λ (ds : List code.Declared). length ds) c.new-all.ensures.items;
+  few = omega (arith, c.requires.nothing);
+  stays = stays_itself c.args.bench.now c.requires.begun.region;
+}
+
+pub declare-requires-clause-read : goal.declare-requires-clause-read
+declare-requires-clause-read g c = read_here c.args.forms.now c.requires.read c.loop-place.place c.index-forms-place.result c.loop-place-test.true c.index-forms-place.is
+
+pub declare-requires-clause-stands : goal.declare-requires-clause-stands
+declare-requires-clause-stands g c =
+    let i = c.loop-place.invariant in
+    can_pass c.loop-place.bench c.args.unit c.loop-place.all.items i.holds c.in_ok-number.number (omega (arith, i.count, c.in_ok-number.ensures))
+
+pub loop-place-preserved : goal.loop-place-preserved
+loop-place-preserved g c =
+    let l = c.loop-place in let i = l.invariant in let d = c.in_ok-declared.declared in let e = c.in_ok-declared.ensures in
+    let items = c.in_ok-push.ensures.items in let long = length_push l.all.items d in
+    record {
+      holds = subst (λ (ds : List code.Declared). Holds c.declare.new.bench c.args.unit ds) (sym items)
+          (next_form l.bench c.args.unit l.all.items i.holds d c.declare.new.bench c.in_ok-number.number (c.in_ok-number.ensures ∙ sym i.count) c.index-forms-place.result e.blank e.same e.passes);
+      count = ap (λ (ds : List code.Declared). length ds) items ∙ (let at = i.count in omega (arith, long, at));
+      few = few_more l.total d.budget.nodes (sym c.is_large.ensures ∙ c.if-is_large.false) e.few;
+      stays = stays_on c.args.bench.now l.bench c.declare.new.bench i.stays e.stays;
+    }
+
+pub declare-requires-clause-region : goal.declare-requires-clause-region
+declare-requires-clause-region g c = c.loop-place.invariant.stays.opened
+
+pub overflow_add-total : goal.overflow_add-total
+overflow_add-total g c =
+    let few : c.loop-place.total + c.in_ok-declared.declared.budget.nodes ≤ 700000 = few_more c.loop-place.total c.in_ok-declared.declared.budget.nodes (sym c.is_large.ensures ∙ c.if-is_large.false) c.in_ok-declared.ensures.few in
+    omega arith
+
+pub returns-clause-held : goal.returns-clause-held
+returns-clause-held g c = c.loop-place.invariant.holds.held
+
+pub returns-clause-stays : goal.returns-clause-stays
+returns-clause-stays g c = c.loop-place.invariant.stays

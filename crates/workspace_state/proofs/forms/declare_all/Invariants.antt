@@ -1,0 +1,12 @@
+use Rattle.std.proofs.Common.{◌≡◌, ◌≤◌, length}
+use Rattle.workspace_state.specs.Forms.{Stays}
+use Rattle.workspace_state.proofs.FormsHold.{Holds}
+use Rattle.workspace_state.proofs.forms.declare_all.Given as goal
+
+abbrev pub invariant-loop-place : goal.invariant-loop-place
+invariant-loop-place g l = record {
+  holds : Holds l.bench l.unit l.all.items;
+  count : length l.all.items ≡ l.place;
+  few : l.total ≤ 700000;
+  stays : Stays l.fn.bench l.bench;
+}

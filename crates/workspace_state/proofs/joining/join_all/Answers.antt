@@ -1,0 +1,13 @@
+use Rattle.std.proofs.Common.{sym, subst}
+use Rattle.import_sets.specs.Given.{Gathered}
+use Rattle.import_sets.specs.Seen.{seen}
+use Rattle.workspace_state.specs.Joining.{AreApart, GroupsMean}
+use Rattle.workspace_state.proofs.JoiningLaws.{all_mean, all_apart}
+use Rattle.workspace_state.proofs.joining.join_all.Goals as goal
+
+pub returns-clause-means : goal.returns-clause-means
+returns-clause-means c = λ names apart means entries.
+    subst (λ (g : Gathered). GroupsMean names g.groups) (sym c.in_ok-take_all.ensures) (all_mean names apart (seen c.args.gathering) c.args.entries means entries)
+
+pub returns-clause-apart : goal.returns-clause-apart
+returns-clause-apart c = λ apart. subst (λ (g : Gathered). AreApart g.groups) (sym c.in_ok-take_all.ensures) (all_apart (seen c.args.gathering) c.args.entries apart)

@@ -1,0 +1,20 @@
+-- An Error stands in one of the documents.
+use Rattle.std.proofs.Common.{◌<◌, ℕ, List, Option, length, sym, ap, subst, arith}
+use Rattle.std.specs.FinMap.{entries}
+use Rattle.document_store.specs.Texts.{Texts}
+use Rattle.workspace_state.specs.declared.findings.At.{At}
+use Rattle.workspace_state.specs.Belongs.{AreErrorsIn}
+use Rattle.workspace_state.specs.Places.{bytes_at}
+use Rattle.workspace_state.proofs.TextLaws.{as_many}
+use Rattle.workspace_state.proofs.open.Open.first_error.Goals as goal
+
+pub place-requires : goal.place-requires
+place-requires c =
+    let many = as_many (entries c.self.inside.store) c.self.inside.documents.items c.self.invariant.documents in
+    let seen = ap (λ (t : Texts). length (entries t)) c.self.view_is in
+    let errors : AreErrorsIn (length c.self.inside.documents.items) c.as_slice.result.now = subst (λ (es : List (Option (At × ℕ))). AreErrorsIn (length c.self.inside.documents.items) es) (sym c.as_slice.ensures.value) c.self.invariant.errors in
+    let below : c.in-Some.at.document < length c.self.inside.documents.items = c.in-Some.ensures (length c.self.inside.documents.items) errors in
+    omega arith
+
+pub returns : goal.returns
+returns c = (bytes_at c.in-Some.at, c.in_ok-place.ensures)

@@ -1,0 +1,107 @@
+-- Each unit's head is there, what is found of it stands in the documents, and so does its first Error; its forms stand for something.
+use Rattle.std.proofs.Common.{◌≡◌, ◌<◌, ℕ, List, length, vec_len, refl, sym, ap, ◌∙◌, subst, arith, Option, Some, slice_get}
+use Rattle.std.specs.Prelude.{IfSome}
+use Rattle.std.proofs.lemmas.Iterator.Adapters.{YieldsList-from_vec}
+use Rattle.std.proofs.lemmas.Iterator.Consumers.{YieldsList-turn, YieldsList-from_enumerate}
+use Rattle.std.proofs.lemmas.List.{length_push}
+use Rattle.std.proofs.lemmas.Option.{slice_get_read}
+use Rattle.core_tree.specs.declared.units.UnitForm.{UnitForm}
+use Rattle.core_tree.specs.declared.units.Unit.{Unit as CodeUnit}
+use Rattle.workspace_state.specs.declared.expanding.Expanded.{Expanded}
+use Rattle.workspace_state.specs.declared.findings.Finding.{Finding}
+use Rattle.workspace_state.specs.declared.findings.At.{At}
+use Rattle.workspace_state.specs.declared.listing.Head.{Head}
+use Rattle.workspace_state.specs.Belongs.{AreErrorsIn}
+use Rattle.arrow_index.specs.Formed.{IsFormed, AreFormedIn}
+use Rattle.workspace_state.specs.Places.{AreFoundIn, AreHeadsIn}
+use Rattle.workspace_state.proofs.BrokenLaws.{heads_itself, heads_in, head_set}
+use Rattle.workspace_state.proofs.Enumerated.{next_placed}
+use Rattle.workspace_state.proofs.ReadingLaws.{errors_none, errors_more, found_in, formed_at, formed_none, formed_more}
+use Rattle.workspace_state.proofs.SoundKept.{some_document}
+use Rattle.workspace_state.proofs.program.collect.Goals as goal
+use Rattle.workspace_state.proofs.program.collect.Goals.{In-Some}
+
+-- the unit's place, and what it came to
+turn : (c : In-Some) → (c.in-Some.place ≡ length c.loop-place.yielded) × (slice_get c.args.expanded.items (length c.loop-place.yielded) ≡ Some c.in-Some.came) × (length c.loop-place.yielded < length c.args.expanded.items)
+turn c =
+    let all = c.args.expanded.items in
+    next_placed all (length c.loop-place.yielded) (c.in-Some.place, c.in-Some.came)
+    (YieldsList-turn (YieldsList-from_enumerate (YieldsList-from_vec all (cc) (cc)) (cc)) c.loop-place.yielded c.loop-place.place-iterator c.loop-place.yielded_by c.next.result c.next.new.self (c.in-Some.place, c.in-Some.came) c.in-Some.is c.next.ensures.steps)
+
+pub add-requires : goal.add-requires
+add-requires c =
+    let same : length c.as_slice.result.now ≡ vec_len c.in_ok-findings.findings = omega (arith, c.as_slice.ensures.len, c.in_ok-findings.ensures, c.len.ensures) in
+    subst (λ (n : ℕ). AreFoundIn n c.in_ok-unread_findings.field-0.items) same c.in_ok-unread_findings.ensures
+
+pub loop-place-init : goal.loop-place-init
+loop-place-init c = record {
+  heads = heads_itself c.args.units.heads.items;
+  findings = omega (arith, c.in_ok-add.ensures, c.in_ok-findings.ensures, c.len.ensures);
+  errors = subst (λ (es : List (Option (At × ℕ))). AreErrorsIn (vec_len c.args.documents) es) (sym c.new-first_errors.ensures.items) (errors_none (vec_len c.args.documents));
+  count = ap (λ (us : List CodeUnit). length us) c.new-program.ensures;
+  formed = subst (λ (us : List CodeUnit). AreFormedIn c.args.work us) (sym c.new-program.ensures) (formed_none c.args.work);
+}
+
+pub came_to-requires-clause-documents : goal.came_to-requires-clause-documents
+came_to-requires-clause-documents c =
+    let t = turn (goal.at.came_to-requires-clause-documents c).In-Some in
+    let there : length c.loop-place.yielded < length c.args.units.heads.items = omega (arith, t.2, c.requires.count, c.args.expanded.ok.0, c.args.units.heads.ok.0) in
+    let some = some_document (vec_len c.args.documents) c.args.units.heads.items (length c.loop-place.yielded) c.requires.units.heads there in
+    omega (arith, some, c.as_slice-in-loop-place.ensures.len)
+
+pub came_to-requires-clause-places : goal.came_to-requires-clause-places
+came_to-requires-clause-places c =
+    subst (λ (n : ℕ). AreHeadsIn n c.as_slice-in-loop-place-2.result.now) (sym c.as_slice-in-loop-place.ensures.len)
+    (subst (λ (hs : List Head). AreHeadsIn (vec_len c.args.documents) hs) (sym c.as_slice-in-loop-place-2.ensures.value)
+    (heads_in (vec_len c.args.documents) c.args.units.heads.items c.loop-place.heads.items c.loop-place.invariant.heads c.requires.units.heads))
+
+pub came_to-requires-clause-found : goal.came_to-requires-clause-found
+came_to-requires-clause-found c =
+    let t = turn (goal.at.came_to-requires-clause-found c).In-Some in
+    subst (λ (n : ℕ). IfSome c.in-Some.came (λ (e : Expanded). AreFoundIn n e.findings.items)) (sym c.as_slice-in-loop-place.ensures.len)
+    (found_in (vec_len c.args.documents) c.args.expanded.items (length c.loop-place.yielded) c.in-Some.came c.requires.found t.1)
+
+pub unit_of-requires : goal.unit_of-requires
+unit_of-requires c =
+    let t = turn (goal.at.unit_of-requires c).In-Some in
+    let count = vec_len c.args.documents in
+    let hs = c.loop-place.heads.items in
+    let h = c.index_mut.result.now in
+    let size = c.loop-place.invariant.heads.size in
+    let within : c.in-Some.place < length hs = omega (arith, t.0, t.2, size, c.requires.count, c.args.expanded.ok.0, c.args.units.heads.ok.0) in
+    let below = heads_in count c.args.units.heads.items hs c.loop-place.invariant.heads c.requires.units.heads c.in-Some.place h (slice_get_read hs (length hs) c.in-Some.place h refl within c.index_mut.ensures.value) in
+    omega (arith, below, c.as_slice-in-loop-place-3.ensures.len)
+
+pub add-requires-in-loop-place : goal.add-requires-in-loop-place
+add-requires-in-loop-place c =
+    let same : c.in_ok-came.came.findings.items ≡ c.in_ok-unit.found.items = cc (c.in_ok-unit.ensures.findings) in
+    let many : length c.as_slice-in-loop-place.result.now ≡ vec_len c.loop-place.findings = c.as_slice-in-loop-place.ensures.len ∙ sym c.loop-place.invariant.findings in
+    subst (λ (n : ℕ). AreFoundIn n c.in_ok-unit.found.items) many (subst (λ (fs : List Finding). AreFoundIn (length c.as_slice-in-loop-place.result.now) fs) same c.in_ok-came.ensures.found)
+
+pub loop-place-preserved : goal.loop-place-preserved
+loop-place-preserved c =
+    let t = turn (goal.at.loop-place-preserved c).In-Some in
+    let l = c.loop-place in
+    let work = c.args.work in
+    let count = vec_len c.args.documents in
+    let hs = l.heads.items in
+    let h = c.index_mut.result.now in
+    let size = l.invariant.heads.size in
+    let within : c.in-Some.place < length hs = omega (arith, t.0, t.2, size, c.requires.count, c.args.expanded.ok.0, c.args.units.heads.ok.0) in
+    let same : c.in_ok-came.came.findings.items ≡ c.as_slice-in-loop-place-4.result.now = cc (c.in_ok-unit.ensures.findings, c.as_slice-in-loop-place-4.ensures.value) in
+    let found = subst (λ (n : ℕ). AreFoundIn n c.as_slice-in-loop-place-4.result.now) c.as_slice-in-loop-place.ensures.len
+    (subst (λ (fs : List Finding). AreFoundIn (length c.as_slice-in-loop-place.result.now) fs) same c.in_ok-came.ensures.found) in
+    let came : IfSome c.in-Some.came (λ (e : Expanded). IsFormed work c.in-Some.place e.forms) = subst (λ (n : ℕ). IfSome c.in-Some.came (λ (e : Expanded). IsFormed work n e.forms)) (sym t.0)
+    (formed_at work c.args.expanded.items (length l.yielded) c.in-Some.came c.requires.formed t.1) in
+    let pushed = c.in_ok-push-2.ensures.ok in
+    record {
+      heads = head_set c.args.units.heads.items hs c.in-Some.place h c.unit_of.new.head l.invariant.heads (slice_get_read hs (length hs) c.in-Some.place h refl within c.index_mut.ensures.value) c.unit_of.ensures.head;
+      findings = c.in_ok-add-2.ensures ∙ l.invariant.findings;
+      errors = errors_more count l.first_errors.items c.push.new.self.items c.first_error.result c.in_ok-push.ensures.items (c.first_error.ensures count found) l.invariant.errors;
+      count = omega (arith, ap (λ (us : List CodeUnit). length us) pushed, length_push l.program c.in_ok-unit.unit, length_push l.yielded (c.in-Some.place, c.in-Some.came), l.invariant.count);
+      formed = formed_more work l.program c.push-in-loop-place.new.self c.in_ok-unit.unit c.in-Some.place pushed (l.invariant.count ∙ sym t.0)
+          (subst (λ (fs : List UnitForm). IsFormed work c.in-Some.place fs) (sym c.in_ok-unit.ensures.forms) (c.in_ok-came.ensures.formed work came)) l.invariant.formed;
+    }
+
+pub returns-clause-heads : goal.returns-clause-heads
+returns-clause-heads c = heads_in (vec_len c.args.documents) c.args.units.heads.items c.loop-place.heads.items c.loop-place.invariant.heads c.requires.units.heads

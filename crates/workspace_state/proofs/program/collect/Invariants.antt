@@ -1,0 +1,15 @@
+use Rattle.std.proofs.Common.{◌≡◌, length, vec_len}
+use Rattle.workspace_state.specs.Belongs.{AreErrorsIn}
+use Rattle.arrow_index.specs.Formed.{AreFormedIn}
+use Rattle.workspace_state.specs.Places.{HeadsStay}
+use Rattle.workspace_state.proofs.program.collect.Given as goal
+
+-- heads stay, what is found of the units so far stands in the documents, and their forms stand for something
+abbrev pub invariant-loop-place : goal.invariant-loop-place
+invariant-loop-place l = record {
+  heads : HeadsStay l.fn.units.heads.items l.heads.items;
+  findings : vec_len l.findings ≡ vec_len l.documents;
+  errors : AreErrorsIn (vec_len l.documents) l.first_errors.items;
+  count : length l.program ≡ length l.yielded;
+  formed : AreFormedIn l.work l.program;
+}

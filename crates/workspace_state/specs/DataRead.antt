@@ -1,0 +1,13 @@
+-- Data of documents that were read from texts.
+use Rattle.std.specs.Prelude.{◌≡◌, ℕ, List, slice_get, Some}
+use Rattle.datum_reader.specs.declared.datum.Datum as code
+use Rattle.datum_reader.specs.Views.{datum_of}
+use Rattle.datum_reader.specs.Right.{WasRead}
+use Rattle.workspace_state.specs.declared.documents.Document.{Document}
+
+abbrev pub DataWereRead : List code.Datum → Type 0
+DataWereRead ds = (n : ℕ) (d : code.Datum) → slice_get ds n ≡ Some d → WasRead (datum_of d)
+
+-- the data of each document were read
+abbrev pub AreReadIn : List Document → Type 0
+AreReadIn cs = (n : ℕ) (c : Document) → slice_get cs n ≡ Some c → DataWereRead c.items

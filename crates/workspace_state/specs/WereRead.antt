@@ -1,0 +1,16 @@
+-- Forms of units that were read from texts.
+use Rattle.std.specs.Prelude.{◌≡◌, List, [], ◌∷◌, false}
+use Rattle.scheme_model.specs.Declarations.{UnitForm}
+use Rattle.datum_reader.specs.Right.{WasRead}
+use Rattle.library_table.specs.UnitsRead.{forms_of}
+use Rattle.library_table.specs.declared.units.UnitSource.{UnitSource}
+
+-- the forms that are expanded were read
+abbrev pub WereRead : List UnitForm → Type 0
+WereRead [] = Unit {0}
+WereRead (f ∷ fs) = (f.declared ≡ false → WasRead f.datum) × WereRead fs
+
+-- the same of each unit
+abbrev pub AreSourcesRead : List UnitSource → Type 0
+AreSourcesRead [] = Unit {0}
+AreSourcesRead (s ∷ ss) = WereRead (forms_of s.forms) × AreSourcesRead ss

@@ -1,0 +1,155 @@
+//! What the forms of a unit define (R7RS 5.3), and which of these hide an import.
+ghost use Rattle.std.specs.Prelude.{◌≡◌, ◌<◌, ◌++◌, ℕ, map, length, slice_get, Some, OnOk, IfOk};
+ghost use Rattle.std.specs.Option.{option_map};
+ghost use Rattle.scheme_model.specs.Ident.{Ident as Identifier};
+ghost use Rattle.syntax_tree.specs.Names.{Names};
+ghost use Rattle.core_tree.specs.Units.{definitions_from};
+ghost use Rattle.workspace_state.specs.Defined.{AreKnown, written_symbol};
+ghost use Rattle.workspace_state.specs.Libraries.{HaveMeaning};
+ghost use Rattle.workspace_state.specs.Places.{AreFoundIn, CanPlace};
+
+use crate::entries::add_found;
+use crate::findings::Finding;
+use crate::joining::{Joined, own_origin};
+use crate::places::Places;
+use core_tree::cores::Binder;
+use core_tree::units::UnitForm;
+use import_sets::copy::copy_of_entries;
+use ls_base::{Items, Mem, Memory, Text};
+use std::alloc::Global;
+use syntax_tree::meaning::Meaning;
+use syntax_tree::symbols::{IdNo, Ident, Symbols};
+use syntax_tree::units::Entry;
+
+/// The symbol of an identifier that is written, and not inserted.
+fn written(symbols: &Symbols, ident: IdNo) -> Option<&str>
+    requires { ident < length symbols.now.idents }
+    ensures { (i : Identifier) → slice_get symbols.now.idents ident ≡ Some i → option_map (λ s. s.now) result ≡ written_symbol i }
+{
+    match symbols.ident_at(ident) {
+        Ident::Written { unit: _, symbol } => Some(symbols.name(symbol)),
+        Ident::Inserted { id: _, number: _ } => None,
+    }
+}
+
+/// A form's number. Memory for more than 2^32 forms isn't there.
+pub fn number_of(place: usize) -> Mem<u32>
+    ensures { IfOk result (λ n. n ≡ place) }
+{
+    match u32::try_from(place) {
+        Ok(number) => Ok(number),
+        Err(_) => Err(Memory),
+    }
+}
+
+/// What forms define, in order, each with its form.
+pub fn definitions(alloc: Global, forms: &[UnitForm]) -> Mem<Vec<(u32, Binder)>>
+    ensures { IfOk result (λ all. all.items ≡ definitions_from 0 forms.now) }
+{
+    let mut all = Vec::new(alloc);
+    for (place, form) in forms.iter().enumerate() {
+        let number = number_of(place)?;
+        add_definitions(&mut all, number, form.trace.definitions.as_slice())?;
+    }
+    Ok(all)
+}
+
+/// Adds what a form defines.
+fn add_definitions(all: &mut Vec<(u32, Binder)>, form: u32, binders: &[Binder]) -> Mem<()>
+    ensures { OnOk result (all.new.items ≡ all.old.items ++ map (λ b. (form, b)) binders.now) }
+{
+    for binder in binders {
+        all.push((form, *binder))?;
+    }
+    Ok(())
+}
+
+/// What can be exported of a unit: what it defines under written names, and then what it imports.
+pub fn names_of(
+    alloc: Global,
+    symbols: &Symbols,
+    unit: u32,
+    defined: &[(u32, Binder)],
+    joined: &Joined,
+) -> Mem<Vec<Entry>>
+    requires known { AreKnown symbols.now defined.now }
+    requires imported { HaveMeaning symbols.now joined.now.entries.items }
+    ensures { IfOk result (λ names. HaveMeaning symbols.now names.items) }
+{
+    let mut names = Vec::new(alloc);
+    for (_, binder) in defined {
+        add_name(alloc, &mut names, symbols, unit, *binder)?;
+    }
+    add_entries(
+        &mut names,
+        copy_of_entries(alloc, joined.entries.as_slice())?,
+    )?;
+    Ok(names)
+}
+
+/// Adds entries at the end.
+fn add_entries(names: &mut Vec<Entry>, entries: Items<Entry>) -> Mem<()>
+    ensures { OnOk result (names.new.items ≡ names.old.items ++ entries) }
+{
+    for entry in entries.into_vec() {
+        names.push(entry)?;
+    }
+    Ok(())
+}
+
+/// Adds a definition as a name that can be exported, if it is written.
+fn add_name(
+    alloc: Global,
+    names: &mut Vec<Entry>,
+    symbols: &Symbols,
+    unit: u32,
+    binder: Binder,
+) -> Mem<()>
+    requires { binder.ident < length symbols.now.idents }
+    ensures { HaveMeaning symbols.now names.old.items → OnOk result (HaveMeaning symbols.now names.new.items) }
+{
+    let Some(name) = written(symbols, binder.ident) else {
+        return Ok(());
+    };
+    names.push(Entry {
+        name: Text::of(alloc, name)?,
+        meaning: Meaning::Global {
+            unit,
+            ident: binder.ident,
+        },
+        origins: own_origin(alloc, binder.occ)?,
+    })?;
+    Ok(())
+}
+
+/// Adds the definitions that hide an import.
+pub fn add_hiding(
+    alloc: Global,
+    symbols: &Symbols,
+    places: Places<'_>,
+    unit: u32,
+    defined: &[(u32, Binder)],
+    joined: &Joined,
+    findings: &mut Vec<Finding>,
+) -> Mem<()>
+    requires known { AreKnown symbols.now defined.now }
+    requires documents { 0 < length places.documents.now }
+    requires places { CanPlace places }
+    ensures { AreFoundIn (length places.entry.documents.now) findings.old.items → OnOk result (AreFoundIn (length places.entry.documents.now) findings.new.items) }
+{
+    for (form, binder) in defined {
+        if let Some(name) = hidden(symbols, joined, *binder) {
+            let at = places.at_or_form(binder.occ, unit, *form);
+            add_found(alloc, findings, Some(at), *form, 101, name)?;
+        }
+    }
+    Ok(())
+}
+
+/// The imported name that a definition hides, where it hides one.
+fn hidden<'a>(symbols: &'a Symbols, joined: &Joined, binder: Binder) -> Option<&'a str>
+    requires { binder.ident < length symbols.now.idents }
+{
+    let name = written(symbols, binder.ident)?;
+    if joined.has(name) { Some(name) } else { None }
+}

@@ -1,0 +1,439 @@
+//! What a unit imports (R7RS 5.2, 5.6.1), and what is wrong in its import sets.
+#![tactic(auto, using(crate::proofs::MeaningLaws::names_itself, crate::proofs::MeaningLaws::names_on, crate::proofs::MeaningLaws::mean_kept, crate::proofs::ImportLaws::exports_kept, crate::proofs::ImportLaws::groups_kept))]
+
+ghost use Rattle.std.specs.Prelude.{◌≡◌, ◌<◌, ◌&&◌, ◌==◌, ℕ, List, [], map, length, Option, Some, OnOk, IfOk, IfSome};
+ghost use Rattle.scheme_model.specs.Program.{standard_entry};
+ghost use Rattle.syntax_tree.specs.Names.{Names, KeepsNames};
+ghost use Rattle.syntax_tree.specs.Meant.{AreEntries, IsEntry};
+ghost use Rattle.import_sets.specs.Sets.{TellsApart};
+ghost use Rattle.workspace_state.specs.Joining.{AreApart, GroupsMean};
+ghost use Rattle.workspace_state.specs.Libraries.{EachOnce, ExportsMean, HaveMeaning};
+ghost use Rattle.workspace_state.specs.Places.{AreFoundIn, IsAtIn, CanPlace};
+ghost use Rattle.workspace_state.specs.Imports.{SetMeans};
+
+use crate::breaking::{Firsts, library_in};
+use crate::expanding::Expanded;
+use crate::findings::{At, Finding};
+use crate::joining::{Joined, join_all, origin};
+use crate::places::Places;
+use base_library::standard;
+use import_sets::copy::copy_of_entries;
+use import_sets::firsts::place_for;
+use import_sets::gather::Gathering;
+use import_sets::{ImportFault, ImportSet, entries_of};
+use library_table::{ImportSpec, UnitForm, UnitSource};
+use ls_base::{Items, Mem, Memory, Span, Text};
+use scheme_model::Occ;
+use std::alloc::Global;
+use syntax_tree::meaning::Meaning;
+use syntax_tree::symbols::Symbols;
+use syntax_tree::trees::Work;
+use syntax_tree::units::{Entry, UnitKind};
+
+/// The libraries that were expanded: by a name the place of the first unit that has it, and by its place what it came to.
+#[derive(Clone, Copy)]
+pub struct Libraries<'a> {
+    pub firsts: &'a Firsts,
+    pub expanded: &'a [Option<Expanded>],
+}
+
+/// What a unit imports, and what is wrong in its sets.
+#[derive(Drop)]
+pub struct Given {
+    pub joined: Joined,
+    pub findings: Vec<Finding>,
+}
+
+/// A set with its document and its form.
+#[derive(Clone, Copy)]
+struct SetAt<'a> {
+    spec: &'a ImportSpec,
+    document: usize,
+    form: u32,
+}
+
+impl SetAt<'_> {
+    /// Bytes of the set's document.
+    fn at(&self, span: Span) -> At
+        ensures { result ≡ record { document = self.now.document; span = span } }
+    {
+        At {
+            document: self.document,
+            span,
+        }
+    }
+}
+
+/// What an import set comes to: entries, nothing where its library isn't known or is broken, or its fault.
+#[derive(Drop)]
+enum SetGives {
+    Entries(Items<Entry>),
+    Unknown,
+    Faulty(ImportFault),
+}
+
+/// Whether a unit is a program without an import, which has `(scheme base)`.
+pub fn imports_nothing(source: &UnitSource) -> bool {
+    source.kind == UnitKind::Program && source.imports.as_slice().is_empty()
+}
+
+/// What a unit imports.
+pub fn given_to(
+    alloc: Global,
+    work: &mut Work,
+    places: Places<'_>,
+    libraries: Libraries<'_>,
+    unit: u32,
+    source: &UnitSource,
+) -> Mem<Given>
+    requires documents { 0 < length places.documents.now }
+    requires places { CanPlace places }
+    requires libraries { ExportsMean work.old.symbols libraries.expanded.now }
+    ensures trees { work.new.trees ≡ work.old.trees }
+    ensures names { KeepsNames work.old.symbols work.new.symbols }
+    ensures entries { IfOk result (λ given. HaveMeaning work.new.symbols given.joined.entries.items) }
+    ensures once { IfOk result (λ given. EachOnce given.joined.entries.items) }
+    ensures findings { IfOk result (λ given. AreFoundIn (length places.entry.documents.now) given.findings.items) }
+{
+    let mut findings = Vec::new(alloc);
+    let gathering = gathered(
+        alloc,
+        &mut work.symbols,
+        places,
+        libraries,
+        unit,
+        source,
+        &mut findings,
+    )?;
+    Ok(Given {
+        joined: Joined::of(alloc, gathering)?,
+        findings,
+    })
+}
+
+/// What `(scheme base)` or the import sets of a unit give; what is wrong in them is added.
+fn gathered(
+    alloc: Global,
+    symbols: &mut Symbols,
+    places: Places<'_>,
+    libraries: Libraries<'_>,
+    unit: u32,
+    source: &UnitSource,
+    findings: &mut Vec<Finding>,
+) -> Mem<Gathering>
+    requires documents { 0 < length places.documents.now }
+    requires places { CanPlace places }
+    requires libraries { ExportsMean symbols.old libraries.expanded.now }
+    requires findings { AreFoundIn (length places.documents.now) findings.old.items }
+    ensures names { KeepsNames symbols.old symbols.new }
+    ensures means { IfOk result (λ g. GroupsMean symbols.new g.groups.items) }
+    ensures apart { IfOk result (λ g. AreApart g.groups.items) }
+    ensures findings { OnOk result (AreFoundIn (length places.entry.documents.now) findings.new.items) }
+{
+    if imports_nothing(source) {
+        return Ok(base_given(alloc, symbols)?);
+    }
+    let document = places.start(unit).document;
+    sets_given(
+        alloc, symbols, places, libraries, document, source, findings,
+    )
+}
+
+/// What `(scheme base)` gives.
+fn base_given(alloc: Global, symbols: &mut Symbols) -> Mem<Gathering>
+    ensures names { KeepsNames symbols.old symbols.new }
+    ensures means { IfOk result (λ g. GroupsMean symbols.new g.groups.items) }
+    ensures apart { IfOk result (λ g. AreApart g.groups.items) }
+{
+    let gathering = Gathering::new(alloc);
+    match standard(alloc, "(scheme base)")? {
+        None => Ok(gathering),
+        Some(names) => {
+            let entries = standard_entries(alloc, symbols, names.as_slice())?;
+            symbols.told_apart();
+            Ok(join_all(alloc, gathering, entries)?)
+        }
+    }
+}
+
+/// What the import sets of a unit give; what is wrong in them is added.
+fn sets_given(
+    alloc: Global,
+    symbols: &mut Symbols,
+    places: Places<'_>,
+    libraries: Libraries<'_>,
+    document: usize,
+    source: &UnitSource,
+    findings: &mut Vec<Finding>,
+) -> Mem<Gathering>
+    requires document { document < length places.documents.now }
+    requires places { CanPlace places }
+    requires libraries { ExportsMean symbols.old libraries.expanded.now }
+    requires findings { AreFoundIn (length places.documents.now) findings.old.items }
+    ensures names { KeepsNames symbols.old symbols.new }
+    ensures means { IfOk result (λ g. GroupsMean symbols.new g.groups.items) }
+    ensures apart { IfOk result (λ g. AreApart g.groups.items) }
+    ensures findings { OnOk result (AreFoundIn (length places.entry.documents.now) findings.new.items) }
+{
+    let mut gathering = Gathering::new(alloc);
+    for spec in source.imports.as_slice() {
+        let form = form_at(source.forms.as_slice(), spec.span.start);
+        let set = SetAt {
+            spec,
+            document,
+            form,
+        };
+        gathering = with_set(alloc, symbols, places, libraries, set, gathering, findings)?;
+    }
+    Ok(gathering)
+}
+
+/// With what a set gives; what is wrong in it is added.
+fn with_set(
+    alloc: Global,
+    symbols: &mut Symbols,
+    places: Places<'_>,
+    libraries: Libraries<'_>,
+    set: SetAt<'_>,
+    gathering: Gathering,
+    findings: &mut Vec<Finding>,
+) -> Mem<Gathering>
+    requires document { set.document < length places.documents.now }
+    requires places { CanPlace places }
+    requires libraries { ExportsMean symbols.old libraries.expanded.now }
+    requires means { GroupsMean symbols.old gathering.groups.items }
+    requires apart { AreApart gathering.groups.items }
+    requires findings { AreFoundIn (length places.documents.now) findings.old.items }
+    ensures names { KeepsNames symbols.old symbols.new }
+    ensures means { IfOk result (λ g. GroupsMean symbols.new g.groups.items) }
+    ensures apart { IfOk result (λ g. AreApart g.groups.items) }
+    ensures findings { OnOk result (AreFoundIn (length places.entry.documents.now) findings.new.items) }
+{
+    match of_set(alloc, symbols, libraries, &set.spec.set)? {
+        SetGives::Entries(entries) => {
+            symbols.told_apart();
+            Ok(with_entries(alloc, gathering, findings, set, entries)?)
+        }
+        SetGives::Unknown => {
+            add_unknown(alloc, findings, set)?;
+            Ok(gathering)
+        }
+        SetGives::Faulty(fault) => {
+            add_fault(alloc, findings, places, set, fault)?;
+            Ok(gathering)
+        }
+    }
+}
+
+/// The form in which the bytes from here on stand.
+fn form_at(forms: &[UnitForm], start: u32) -> u32 {
+    let behind = forms.partition_point(|form| form.datum.span.start <= start);
+    match u32::try_from(behind.saturating_sub(1)) {
+        Ok(form) => form,
+        Err(_) => u32::MAX,
+    }
+}
+
+/// What a standard library gives.
+fn standard_entries(alloc: Global, symbols: &mut Symbols, names: &[Text]) -> Mem<Items<Entry>>
+    ensures names { KeepsNames symbols.old symbols.new }
+    ensures entries { IfOk result (λ es. AreEntries symbols.new es (map standard_entry names.now)) }
+{
+    let mut entries = Items::new(alloc);
+    for name in names {
+        entries.push(standard_entry(alloc, symbols, name.as_str())?)?;
+    }
+    Ok(entries)
+}
+
+/// What a standard library gives under a name.
+fn standard_entry(alloc: Global, symbols: &mut Symbols, name: &str) -> Mem<Entry>
+    ensures names { KeepsNames symbols.old symbols.new }
+    ensures entry { IfOk result (λ e. IsEntry symbols.new e (standard_entry name.now)) }
+{
+    let symbol = symbols.symbol(name)?;
+    Ok(Entry {
+        name: Text::of(alloc, name)?,
+        meaning: Meaning::Standard(symbol),
+        origins: origin(alloc, None)?,
+    })
+}
+
+/// What an import set comes to.
+fn of_set(
+    alloc: Global,
+    symbols: &mut Symbols,
+    libraries: Libraries<'_>,
+    set: &ImportSet,
+) -> Mem<SetGives>
+    requires { ExportsMean symbols.old libraries.expanded.now }
+    ensures names { KeepsNames symbols.old symbols.new }
+    ensures means { IfOk result (SetMeans symbols.new) }
+{
+    if library_in(set).is_none() {
+        return Ok(SetGives::Faulty(ImportFault::BadSet));
+    }
+    match library_entries(alloc, symbols, libraries, set)? {
+        None => Ok(SetGives::Unknown),
+        Some(exports) => {
+            symbols.told_apart();
+            Ok(chosen(alloc, symbols, set, exports.as_slice())?)
+        }
+    }
+}
+
+/// What a set gives of what its library exports.
+fn chosen(alloc: Global, symbols: &Symbols, set: &ImportSet, exports: &[Entry]) -> Mem<SetGives>
+    requires { HaveMeaning symbols.now exports.now }
+    ensures { IfOk result (SetMeans symbols.now) }
+{
+    symbols.told_apart();
+    match entries_of(alloc, set, exports) {
+        Ok(entries) => Ok(SetGives::Entries(entries)),
+        Err(ImportFault::Memory) => Err(Memory),
+        Err(fault) => Ok(SetGives::Faulty(fault)),
+    }
+}
+
+/// What the library of a set exports. `None` where the set has no shape, or its library isn't known or is broken.
+pub fn library_entries(
+    alloc: Global,
+    symbols: &mut Symbols,
+    libraries: Libraries<'_>,
+    set: &ImportSet,
+) -> Mem<Option<Items<Entry>>>
+    requires { ExportsMean symbols.old libraries.expanded.now }
+    ensures names { KeepsNames symbols.old symbols.new }
+    ensures means { IfOk result (λ exports. IfSome exports (HaveMeaning symbols.new)) }
+{
+    let Some(name) = library_in(set) else {
+        return Ok(None);
+    };
+    if let Some(names) = standard(alloc, name)? {
+        let entries = standard_entries(alloc, symbols, names.as_slice())?;
+        return Ok(Some(entries));
+    }
+    match exports_named(libraries, name) {
+        None => Ok(None),
+        Some(exports) => Ok(Some(copy_of_entries(alloc, exports)?)),
+    }
+}
+
+/// What the library with a name exports, where there is one that isn't broken.
+fn exports_named<'a>(libraries: Libraries<'a>, name: &str) -> Option<&'a [Entry]>
+    ensures { (names : Names) → ExportsMean names libraries.entry.expanded.now → IfSome result (λ exports. HaveMeaning names exports.now) }
+{
+    let place = place_for(libraries.firsts, name)?;
+    let expanded = libraries.expanded.get(place)?;
+    match expanded {
+        None => None,
+        Some(expanded) => Some(expanded.exports.as_slice()),
+    }
+}
+
+/// With entries; what clashes of them with those before is added.
+fn with_entries(
+    alloc: Global,
+    gathering: Gathering,
+    findings: &mut Vec<Finding>,
+    set: SetAt<'_>,
+    entries: Items<Entry>,
+) -> Mem<Gathering>
+    ensures means { (names : Names) → TellsApart names → GroupsMean names gathering.groups.items → HaveMeaning names entries →
+        IfOk result (λ g. GroupsMean names g.groups.items) }
+    ensures apart { AreApart gathering.groups.items → IfOk result (λ g. AreApart g.groups.items) }
+    ensures findings { (count : ℕ) → set.entry.document < count → AreFoundIn count findings.old.items → OnOk result (AreFoundIn count findings.new.items) }
+{
+    let Gathering {
+        groups,
+        places,
+        clashes,
+    } = join_all(alloc, gathering, entries)?;
+    add_clashes(alloc, findings, set, clashes)?;
+    Ok(Gathering {
+        groups,
+        places,
+        clashes: Vec::new(alloc),
+    })
+}
+
+/// Adds the names that clash.
+fn add_clashes(
+    alloc: Global,
+    findings: &mut Vec<Finding>,
+    set: SetAt<'_>,
+    clashes: Vec<Text>,
+) -> Mem<()>
+    ensures { (count : ℕ) → set.entry.document < count → AreFoundIn count findings.old.items → OnOk result (AreFoundIn count findings.new.items) }
+{
+    for name in clashes {
+        let at = set.at(set.spec.span);
+        add_found(alloc, findings, Some(at), set.form, 52, name.as_str())?;
+    }
+    Ok(())
+}
+
+/// Adds a set whose library isn't known.
+fn add_unknown(alloc: Global, findings: &mut Vec<Finding>, set: SetAt<'_>) -> Mem<()>
+    ensures { (count : ℕ) → set.entry.document < count → AreFoundIn count findings.old.items → OnOk result (AreFoundIn count findings.new.items) }
+{
+    let at = set.at(set.spec.library);
+    Ok(add_found(alloc, findings, Some(at), set.form, 102, "")?)
+}
+
+/// Adds the fault of a set.
+fn add_fault(
+    alloc: Global,
+    findings: &mut Vec<Finding>,
+    places: Places<'_>,
+    set: SetAt<'_>,
+    fault: ImportFault,
+) -> Mem<()>
+    requires document { set.document < length places.documents.now }
+    requires places { CanPlace places }
+    ensures { AreFoundIn (length places.entry.documents.now) findings.old.items → OnOk result (AreFoundIn (length places.entry.documents.now) findings.new.items) }
+{
+    let whole = set.at(set.spec.span);
+    match &fault {
+        ImportFault::NotThere(name) => {
+            let at = place_if(places, name.occ);
+            add_found(alloc, findings, at, set.form, 51, name.name.as_str())
+        }
+        ImportFault::Clash(name) => add_found(
+            alloc,
+            findings,
+            Some(whole),
+            set.form,
+            52,
+            name.as_str(),
+        ),
+        ImportFault::BadSet => add_found(alloc, findings, Some(whole), set.form, 53, ""),
+        ImportFault::Memory => Err(Memory),
+    }
+}
+
+/// Adds what is found.
+pub fn add_found(
+    alloc: Global,
+    findings: &mut Vec<Finding>,
+    at: Option<At>,
+    form: u32,
+    code: u32,
+    name: &str,
+) -> Mem<()>
+    ensures { (count : ℕ) → IsAtIn count at → AreFoundIn count findings.old.items → OnOk result (AreFoundIn count findings.new.items) }
+{
+    findings.push(Finding::new(alloc, at, form, code, name)?)?;
+    Ok(())
+}
+
+/// The bytes of an occurrence, where there is one.
+pub fn place_if(places: Places<'_>, occ: Option<Occ>) -> Option<At>
+    requires { CanPlace places }
+    ensures { 0 < length places.entry.documents.now → IsAtIn (length places.entry.documents.now) result }
+{
+    match occ {
+        None => None,
+        Some(occ) => Some(places.at(occ)),
+    }
+}

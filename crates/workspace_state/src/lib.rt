@@ -1,0 +1,31 @@
+//! The open documents, the program that they are (R7RS 5), and what is wrong in it: read and expanded anew at each event.
+#![tactic(auto)]
+
+mod breaking;
+mod defined;
+mod diagnosing;
+mod documents;
+mod entries;
+mod events;
+mod expanding;
+mod expansion;
+mod exported;
+mod findings;
+mod forms;
+mod joining;
+mod known;
+mod listing;
+mod lists;
+mod names;
+mod open;
+mod places;
+mod prelude;
+mod program;
+mod texts;
+mod unbound;
+mod wording;
+mod workspace;
+
+pub use events::{DocEvent, Published, Updated};
+pub use places::PlacedError;
+pub use workspace::Workspace;

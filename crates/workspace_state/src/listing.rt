@@ -1,0 +1,172 @@
+//! The units of the documents, in their order (R7RS 5.1, 5.6): the libraries of a document, and then its program.
+ghost use Rattle.std.specs.Prelude.{◌≡◌, ◌+◌, ◌<◌, ◌^◌, length, map, vec_len, IfOk, OnOk};
+ghost use Rattle.datum_reader.specs.Views.{datum_of};
+ghost use Rattle.datum_reader.specs.Right.{WasRead};
+ghost use Rattle.library_table.specs.UnitsRead.{forms_of};
+ghost use Rattle.workspace_state.specs.Sound.{IsSound};
+ghost use Rattle.workspace_state.specs.DataRead.{AreReadIn, DataWereRead};
+ghost use Rattle.workspace_state.specs.WereRead.{WereRead};
+
+use crate::breaking::WholeFault;
+use crate::documents::Document;
+use crate::known::library_name;
+use datum_reader::Datum;
+use datum_reader::heads::{first_token, is_headed};
+use library_table::{LibraryFault, UnitForm, UnitSource, read_program, read_unit};
+use ls_base::limits::MAX_UNITS;
+use ls_base::{Items, Mem, Memory, Span, Text};
+use std::alloc::Global;
+use syntax_tree::units::UnitKind;
+
+/// What a unit is besides its source: its document, its library's name, its first token, the numbers of the first tokens of its
+/// forms, the places of the units that it imports, and what breaks it as a whole.
+#[derive(Drop)]
+pub struct Head {
+    pub document: usize,
+    pub kind: UnitKind,
+    pub name: Option<Text>,
+    pub span: Span,
+    pub firsts: Vec<u32>,
+    pub imports: Items<u32>,
+    pub fault: Option<WholeFault>,
+}
+
+/// The units in their order: their heads and their sources. The source of a unit that isn't read has no name.
+#[derive(Drop)]
+pub struct Units {
+    pub heads: Vec<Head>,
+    pub sources: Vec<UnitSource>,
+}
+
+/// The units of all documents.
+pub fn list_units(alloc: Global, documents: &[Document], known: &Items<Text>) -> Mem<Units>
+    requires { AreReadIn documents.now }
+    ensures { IfOk result (IsSound (length documents.now)) }
+{
+    let mut units = Units {
+        heads: Vec::new(alloc),
+        sources: Vec::new(alloc),
+    };
+    for (number, document) in documents.iter().enumerate() {
+        add_libraries(alloc, &mut units, number, document.items.as_slice(), known)?;
+        add_program(alloc, &mut units, number, &document.items)?;
+    }
+    Ok(units)
+}
+
+/// Adds the libraries of a document.
+fn add_libraries(
+    alloc: Global,
+    units: &mut Units,
+    document: usize,
+    items: &[Datum],
+    known: &Items<Text>,
+) -> Mem<()>
+    requires units { IsSound (document + 1) units.old }
+    requires read { DataWereRead items.now }
+    ensures { OnOk result (IsSound (document + 1) units.new) }
+{
+    for datum in items {
+        if is_headed("define-library", datum) {
+            add_library(alloc, units, document, datum, known)?;
+        }
+    }
+    Ok(())
+}
+
+/// Adds a library.
+fn add_library(
+    alloc: Global,
+    units: &mut Units,
+    document: usize,
+    datum: &Datum,
+    known: &Items<Text>,
+) -> Mem<()>
+    requires units { IsSound (document + 1) units.old }
+    requires read { WasRead (datum_of datum.now) }
+    ensures { OnOk result (IsSound (document + 1) units.new) }
+{
+    let name = library_name(alloc, datum)?;
+    let number = units.sources.len() as u32;
+    match read_unit(alloc, datum, number, known) {
+        Ok(source) => Ok(add(alloc, units, document, name, source, None)?),
+        Err(LibraryFault::BadDeclaration(span)) => {
+            let bad = Some(WholeFault::BadDeclaration(span));
+            let source = unread(alloc, datum);
+            Ok(add(alloc, units, document, name, source, bad)?)
+        }
+        Err(_) => Err(Memory),
+    }
+}
+
+/// The source of a library that isn't read.
+fn unread(alloc: Global, datum: &Datum) -> UnitSource
+    ensures { WereRead (forms_of result.forms) }
+{
+    UnitSource {
+        kind: UnitKind::Library,
+        name: None,
+        span: first_token(datum),
+        imports: Items::new(alloc),
+        exports: Items::new(alloc),
+        forms: Items::new(alloc),
+    }
+}
+
+/// Adds the program of a document, where it has one.
+fn add_program(alloc: Global, units: &mut Units, document: usize, items: &Items<Datum>) -> Mem<()>
+    requires units { IsSound (document + 1) units.old }
+    requires read { DataWereRead items.now }
+    ensures { OnOk result (IsSound (document + 1) units.new) }
+{
+    let number = units.sources.len() as u32;
+    match read_program(alloc, items, number)? {
+        None => Ok(()),
+        Some(source) => Ok(add(alloc, units, document, None, source, None)?),
+    }
+}
+
+/// Adds a unit. More than a number can tell are answered as want of memory.
+fn add(
+    alloc: Global,
+    units: &mut Units,
+    document: usize,
+    name: Option<Text>,
+    source: UnitSource,
+    bad: Option<WholeFault>,
+) -> Mem<()>
+    requires units { IsSound (document + 1) units.old }
+    requires read { WereRead (forms_of source.forms) }
+    ensures { OnOk result (IsSound (document + 1) units.new) }
+{
+    if units.heads.len() >= u32::MAX as usize {
+        return Err(Memory);
+    }
+    let fault = if units.sources.len() < MAX_UNITS {
+        bad
+    } else {
+        Some(WholeFault::TooMany)
+    };
+    units.heads.push(Head {
+        document,
+        kind: source.kind,
+        name,
+        span: source.span,
+        firsts: firsts_of(alloc, source.forms.as_slice())?,
+        imports: Items::new(alloc),
+        fault,
+    })?;
+    units.sources.push(source)?;
+    Ok(())
+}
+
+/// The numbers of the first tokens of forms.
+fn firsts_of(alloc: Global, forms: &[UnitForm]) -> Mem<Vec<u32>>
+    ensures { IfOk result (λ firsts. firsts.items ≡ map (λ f. f.datum.first) forms.now) }
+{
+    let mut firsts = Vec::new(alloc);
+    for form in forms {
+        firsts.push(form.datum.first)?;
+    }
+    Ok(firsts)
+}

@@ -1,0 +1,169 @@
+//! The open documents, with what they are read as and where their units stand.
+ghost use Rattle.std.specs.Prelude.{◌≡◌, ◌<◌, ◌==◌, ℕ, List, length, IfOk, IfSome};
+ghost use Rattle.std.specs.Option.{option_map};
+ghost use Rattle.std.specs.FinMap.{empty, entries};
+ghost use Rattle.document_store.specs.Texts.{text_at};
+ghost use Rattle.workspace_state.specs.Belongs.{AreErrorsIn, Belongs};
+ghost use Rattle.workspace_state.specs.Readings.{Read, AreReadAs, AreDocuments, first_unread};
+ghost use Rattle.workspace_state.specs.Placed.{IsIn, IsPlace};
+ghost use Rattle.workspace_state.specs.Places.{CanPlace, bytes_at};
+
+use crate::documents::{Document, first_unread};
+use crate::findings::At;
+use crate::listing::Head;
+use crate::lists::{range, text_in};
+use crate::places::{PlacedError, Places};
+use document_store::Store;
+use ls_base::{Encoding, Mem, Place};
+use scheme_model::Occ;
+use std::alloc::Global;
+use std::marker::Model;
+
+/// The open documents: their texts, what they are read as, where their units stand, and the first Error of each unit. Contracts see
+/// the texts, which the rest belongs to.
+#[derive(Drop)]
+pub struct Open {
+    store: Store,
+    documents: Vec<Document>,
+    heads: Vec<Head>,
+    errors: Vec<Option<(At, u32)>>,
+}
+
+impl Model for Open {
+    ghost use Rattle.document_store.specs.Texts.{Texts};
+    ghost use Rattle.document_store.specs.Docs.{coded_texts};
+    ghost use Rattle.workspace_state.specs.Belongs.{Belongs};
+
+    ghost Value = { Texts };
+
+    ghost coded = { coded_texts };
+
+    ghost view = { λ o. o.store };
+
+    ghost invariant = { λ o. Belongs o.store o.documents.items o.heads.items o.errors.items };
+}
+
+impl Open {
+    /// No documents.
+    pub fn new(alloc: Global) -> Open
+        ensures { result ≡ empty }
+    {
+        Open {
+            store: Store::new(alloc),
+            documents: Vec::new(alloc),
+            heads: Vec::new(alloc),
+            errors: Vec::new(alloc),
+        }
+    }
+
+    /// Documents with what belongs to them.
+    pub fn of(
+        store: Store,
+        documents: Vec<Document>,
+        heads: Vec<Head>,
+        errors: Vec<Option<(At, u32)>>,
+    ) -> Open
+        requires { Belongs store documents.items heads.items errors.items }
+        ensures { result ≡ store }
+    {
+        Open {
+            store,
+            documents,
+            heads,
+            errors,
+        }
+    }
+
+    /// The texts.
+    pub fn store(&self) -> &Store
+        ensures { result.now ≡ self.now }
+    {
+        &self.store
+    }
+
+    /// Whether no document is open.
+    pub fn is_empty(&self) -> bool
+        ensures { result ≡ (length (entries self.now) == 0) }
+    {
+        self.documents().is_empty()
+    }
+
+    /// The documents as they are read.
+    pub fn documents(&self) -> &[Document]
+        ensures { AreDocuments (entries self.now) result.now }
+    {
+        self.documents.as_slice()
+    }
+
+    /// The first document whose text doesn't read. `None` where all do.
+    pub fn unreadable(&self) -> Option<&str>
+        ensures { (rs : List Read) → AreReadAs (entries self.now) rs → option_map (λ uri. uri.now) result ≡ first_unread (entries self.now) rs }
+    {
+        first_unread(self.documents.as_slice())
+    }
+
+    /// The documents and units, by which an occurrence has a place.
+    fn places(&self) -> Places<'_>
+        ensures documents { length result.documents.now ≡ length (entries self.now) }
+        ensures places { CanPlace result }
+    {
+        Places {
+            documents: self.documents.as_slice(),
+            heads: self.heads.as_slice(),
+        }
+    }
+
+    /// The place of a token.
+    pub fn place_of(&self, occ: Occ, encoding: Encoding) -> Mem<Place>
+        requires { 0 < length (entries self.now) }
+        ensures { IfOk result (IsIn encoding (entries self.now)) }
+    {
+        let place = self.place(self.places().at(occ), encoding)?;
+        Ok(place)
+    }
+
+    /// The place of a form's first token; that of the unit where it has no such form; that of the last unit where there is no such
+    /// unit.
+    pub fn form_place(&self, unit: u32, form: u32, encoding: Encoding) -> Mem<Place>
+        requires { 0 < length (entries self.now) }
+        ensures { IfOk result (IsIn encoding (entries self.now)) }
+    {
+        let last = self.heads.len().saturating_sub(1);
+        let unit = last.min(unit as usize) as u32;
+        let place = self.place(self.places().form_start(unit, form), encoding)?;
+        Ok(place)
+    }
+
+    /// The place of the first Error of a unit, with its code. `None` exactly where it has none.
+    pub fn first_error(&self, unit: u32, encoding: Encoding) -> Mem<Option<PlacedError>>
+        ensures { IfOk result (λ e. IfSome e (λ p. IsIn encoding (entries self.now) p.place)) }
+    {
+        let Some((at, code)) = error_at(self.errors.as_slice(), unit) else {
+            return Ok(None);
+        };
+        let place = self.place(at, encoding)?;
+        Ok(Some(PlacedError { place, code }))
+    }
+
+    /// Bytes of a document as a place.
+    fn place(&self, at: At, encoding: Encoding) -> Mem<Place>
+        requires { at.document < length (entries self.now) }
+        ensures { IfOk result (IsPlace encoding (entries self.now) (bytes_at at)) }
+    {
+        let document = &self.documents[at.document];
+        let text = text_in(&self.store, document);
+        let range = range(&document.lines, text, at.span, encoding);
+        let uri = document.uri.clone()?;
+        Ok(Place { uri, range })
+    }
+}
+
+/// The first Error of the unit at a place, where there is one.
+fn error_at(errors: &[Option<(At, u32)>], unit: u32) -> Option<(At, u32)>
+    ensures { (count : ℕ) → AreErrorsIn count errors.now → IfSome result (λ e. e.0.document < count) }
+{
+    match errors.get(unit as usize) {
+        Some(error) => *error,
+        None => None,
+    }
+}

@@ -1,0 +1,167 @@
+//! The program of the open documents (R7RS 5), and all that is wrong in it.
+ghost use Rattle.std.specs.Prelude.{◌≡◌, ℕ, ◌<◌, length, vec_len, IfOk, IfSome, OnOk};
+ghost use Rattle.syntax_tree.specs.declared.trees.Work.{Work as AnyWork};
+ghost use Rattle.workspace_state.specs.Belongs.{AreErrorsIn, IsReading};
+ghost use Rattle.arrow_index.specs.Formed.{AreFormedIn, IsFormed};
+ghost use Rattle.workspace_state.specs.Formed.{CameFormed};
+ghost use Rattle.workspace_state.specs.Places.{AreFoundIn, AreHeadsIn, CanPlace, SameHead};
+ghost use Rattle.workspace_state.specs.Sound.{IsSound};
+ghost use Rattle.workspace_state.specs.UnitsExpanded.{AreAllFound};
+
+use crate::breaking::{Firsts, WholeFault, firsts, judge};
+use crate::defined::number_of;
+use crate::diagnosing::unread_findings;
+use crate::documents::{Document, read};
+use crate::expanding::{Expanded, broken, expand_all};
+use crate::findings::{At, Finding, Sorted, add, errors, first_error, none};
+use crate::known::known;
+use crate::listing::{Head, Units, list_units};
+use crate::places::Places;
+use crate::prelude::begin;
+use core_tree::units::{Program, Unit};
+use document_store::Store;
+use expander::Libraries;
+use ls_base::{Items, Mem, Steps};
+use std::alloc::Global;
+use std::mem;
+use std::sync::ledger::Ledger;
+use syntax_tree::trees::Work;
+
+/// The documents as they are read, the units, the program with the trees that it is over, the findings of each document, and the
+/// first Error of each unit.
+#[derive(Drop)]
+pub struct Reading {
+    pub documents: Vec<Document>,
+    pub heads: Vec<Head>,
+    pub work: Work,
+    pub program: Program,
+    pub findings: Vec<Sorted>,
+    pub errors: Vec<Option<(At, u32)>>,
+}
+
+/// Reads all documents and expands their units, from nothing.
+pub fn read_program<L: Ledger>(alloc: Global, store: &Store, steps: &mut Steps<L>) -> Mem<Reading>
+    ensures { IfOk result (IsReading store.now) }
+{
+    let documents = read(alloc, store)?;
+    let known = known(alloc, documents.as_slice())?;
+    let mut units = list_units(alloc, documents.as_slice(), &known)?;
+    let firsts: Firsts = firsts(alloc, units.sources.as_slice())?;
+    let order = judge(alloc, &mut units, &firsts)?;
+    let mut bench = begin(alloc)?;
+    bench.scope.know(Libraries::of(alloc, &known)?);
+    let expanded = expand_all(
+        alloc,
+        &mut bench,
+        documents.as_slice(),
+        &mut units,
+        &firsts,
+        order.as_slice(),
+        steps,
+    )?;
+    Ok(collect(alloc, documents, units, bench.work, expanded)?)
+}
+
+/// All that was read, put together.
+fn collect(
+    alloc: Global,
+    documents: Vec<Document>,
+    units: Units,
+    work: Work,
+    expanded: Vec<Option<Expanded>>,
+) -> Mem<Reading>
+    requires units { IsSound (vec_len documents) units }
+    requires count { vec_len expanded ≡ vec_len units.heads }
+    requires found { AreAllFound (vec_len documents) expanded.items }
+    requires formed { CameFormed work expanded.items }
+    ensures documents { IfOk result (λ reading. reading.documents ≡ documents) }
+    ensures heads { IfOk result (λ reading. AreHeadsIn (vec_len documents) reading.heads.items) }
+    ensures errors { IfOk result (λ reading. AreErrorsIn (vec_len documents) reading.errors.items) }
+    ensures findings { IfOk result (λ reading. vec_len reading.findings ≡ vec_len documents) }
+    ensures formed { IfOk result (λ reading. AreFormedIn reading.work reading.program.units) }
+{
+    let Units { mut heads, sources } = units;
+    let mut findings = none(alloc, documents.len())?;
+    add(&mut findings, unread_findings(alloc, documents.as_slice())?)?;
+    let mut first_errors = Vec::new(alloc);
+    let mut program = Items::new(alloc);
+    for (place, came) in expanded.into_iter().enumerate() {
+        let places = Places {
+            documents: documents.as_slice(),
+            heads: heads.as_slice(),
+        };
+        let count = sources[place].forms.as_slice().len();
+        let came = came_to(alloc, places, place, count, came)?;
+        let (unit, found) = unit_of(alloc, documents.as_slice(), &mut heads[place], came)?;
+        first_errors.push(first_error(found.as_slice()))?;
+        add(&mut findings, found)?;
+        program.push(unit)?;
+    }
+    Ok(Reading {
+        documents,
+        heads,
+        work,
+        program: Program { units: program },
+        findings,
+        errors: first_errors,
+    })
+}
+
+/// What the unit at a place came to, where it is broken as a whole or isn't.
+fn came_to(
+    alloc: Global,
+    places: Places<'_>,
+    place: usize,
+    count: usize,
+    came: Option<Expanded>,
+) -> Mem<Expanded>
+    requires place { place < length places.heads.now }
+    requires documents { 0 < length places.documents.now }
+    requires places { CanPlace places }
+    requires found { IfSome came (λ came. AreFoundIn (length places.documents.now) came.findings.items) }
+    ensures found { IfOk result (λ came. AreFoundIn (length places.entry.documents.now) came.findings.items) }
+    ensures formed { (work : AnyWork) → IfSome came (λ came. IsFormed work place came.forms) → IfOk result (λ came. IsFormed work place came.forms) }
+{
+    if let Some(came) = came {
+        return Ok(came);
+    }
+    let fault = match places.heads[place].fault {
+        Some(fault) => fault,
+        None => WholeFault::TooLarge,
+    };
+    let unit = number_of(place)?;
+    Ok(broken(alloc, places, unit, fault, count)?)
+}
+
+/// A unit by what it came to, and what is found wrong in it. What it imports is taken out of its head.
+fn unit_of(
+    alloc: Global,
+    documents: &[Document],
+    head: &mut Head,
+    came: Expanded,
+) -> Mem<(Unit, Vec<Finding>)>
+    requires { head.old.document < length documents.now }
+    ensures head { SameHead head.old head.new }
+    ensures findings { IfOk result (λ unit. unit.1 ≡ came.findings) }
+    ensures forms { IfOk result (λ unit. unit.0.forms ≡ came.forms) }
+{
+    let Expanded {
+        entries,
+        forms,
+        names,
+        exports,
+        findings,
+    } = came;
+    let unit = Unit {
+        uri: documents[head.document].uri.clone()?,
+        kind: head.kind,
+        name: mem::replace(&mut head.name, None),
+        forms,
+        imports: mem::replace(&mut head.imports, Items::new(alloc)),
+        names,
+        entries: Items::from_vec(entries),
+        exports,
+        errors: errors(alloc, findings.as_slice())?,
+    };
+    Ok((unit, findings))
+}

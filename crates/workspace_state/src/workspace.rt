@@ -1,0 +1,183 @@
+//! The workspace: the open documents and the program that they are. Each event reads and expands all of them anew.
+ghost use Rattle.std.specs.Prelude.{◌≡◌, ◌<◌, ◌==◌, List, length, true, IfOk, IfSome, OnOk, OnErr};
+ghost use Rattle.std.specs.Option.{option_map};
+ghost use Rattle.std.specs.FinMap.{empty, entries};
+ghost use Rattle.document_store.specs.Texts as store;
+ghost use Rattle.workspace_state.specs.Readings.{Read, AreReadAs, first_unread};
+ghost use Rattle.arrow_index.specs.Formed.{AreFormedIn};
+ghost use Rattle.workspace_state.specs.Placed.{IsIn};
+ghost use Rattle.workspace_state.specs.Events.{leaves, event_of, fault_of};
+
+use crate::events::{DocEvent, Updated};
+use crate::expansion::Expansion;
+use crate::findings::Sorted;
+use crate::lists::{Lists, lists, published};
+use crate::open::Open;
+use crate::places::PlacedError;
+use crate::program::{Reading, read_program};
+use crate::texts::{After, after_event};
+use core_tree::units::Program;
+use document_store::Store;
+use ls_base::{Encoding, Items, Mem, Place, Steps};
+use scheme_model::Occ;
+use std::alloc::Global;
+use std::collections::BTreeMap;
+use std::sync::ledger::Ledger;
+use syntax_tree::trees::Work;
+
+/// The open documents, the program that they are with the trees that it is over, their diagnostics, and the encoding of positions.
+#[derive(Drop)]
+pub struct Workspace {
+    alloc: Global,
+    encoding: Encoding,
+    texts: Open,
+    expansion: Expansion,
+    lists: Lists,
+}
+
+impl Workspace {
+    /// A workspace without documents, whose positions are in UTF-16.
+    pub fn new(alloc: Global) -> Mem<Workspace>
+        ensures { IfOk result (λ w. w.texts ≡ empty) }
+    {
+        Ok(Workspace {
+            alloc,
+            encoding: Encoding::Utf16,
+            texts: Open::new(alloc),
+            expansion: Expansion::new(alloc),
+            lists: BTreeMap::new(alloc),
+        })
+    }
+
+    /// From now on positions are in this encoding.
+    pub fn set_encoding(&mut self, encoding: Encoding)
+        ensures { self.new ≡ record self.old { encoding = encoding } }
+    {
+        self.encoding = encoding;
+    }
+
+    /// Takes an event in, reads all documents and expands their units. Published are the list of the event's document, and each that
+    /// isn't as before; after a refusal that leaves the documents as they were nothing is. After want of memory the documents are as
+    /// before.
+    pub fn update<L: Ledger>(&mut self, event: &DocEvent, steps: &mut Steps<L>) -> Mem<Updated>
+        // The texts are what the event leaves, whether it is refused or not; after want of memory they are as before.
+        ensures texts { OnOk result (self.new.texts ≡ (store.after self.old.encoding self.old.texts (event_of event.now)).0) }
+        ensures kept { OnErr result (self.new ≡ self.old) }
+        ensures still { OnOk result (leaves (event_of event.now) (store.after self.old.encoding self.old.texts (event_of event.now)).1 ≡ true → self.new ≡ self.old) }
+        ensures encoding { self.new.encoding ≡ self.old.encoding }
+
+        // The refusal is the store's.
+        ensures refused { IfOk result (λ updated. updated.refused
+            ≡ option_map fault_of (store.after self.old.encoding self.old.texts (event_of event.now)).1) }
+    {
+        let alloc = self.alloc;
+        let encoding = self.encoding;
+        let after = after_event(alloc, self.texts.store(), event, encoding)?;
+        let After { store, refused } = after;
+        if event.is_left(refused) {
+            let lists = Items::new(alloc);
+            return Ok(Updated { refused, lists });
+        }
+        let read = read_all(alloc, store, steps)?;
+        let (texts, told) = read;
+        let now = lists(alloc, &texts, told.findings.as_slice(), encoding)?;
+        let lists = published(alloc, event.uri(), texts.documents(), &self.lists, &now)?;
+        let Told { expansion, .. } = told;
+        self.texts = texts;
+        self.expansion = expansion;
+        self.lists = now;
+        Ok(Updated { refused, lists })
+    }
+
+    /// The text of a document. `None` exactly where it isn't open.
+    pub fn text(&self, uri: &str) -> Option<&str>
+        ensures { option_map (λ text. text.now) result ≡ store.text_at self.now.texts uri.now }
+    {
+        self.texts.store().text(uri)
+    }
+
+    /// Whether no document is open.
+    pub fn is_empty(&self) -> bool
+        ensures { result ≡ (length (entries self.now.texts) == 0) }
+    {
+        self.texts.is_empty()
+    }
+
+    /// The first document whose text doesn't read. `None` where all do.
+    pub fn unreadable(&self) -> Option<&str>
+        ensures { (rs : List Read) → AreReadAs (entries self.now.texts) rs → option_map (λ uri. uri.now) result ≡ first_unread (entries self.now.texts) rs }
+    {
+        self.texts.unreadable()
+    }
+
+    /// The units of all documents.
+    pub fn program(&self) -> &Program
+        ensures program { result.now ≡ self.now.expansion.program }
+        // The forms of each unit stand for something of the definitions.
+        ensures formed { AreFormedIn self.now.expansion.work result.now.units }
+    {
+        self.expansion.program()
+    }
+
+    /// The trees and names that the program is over.
+    pub fn work(&self) -> &Work
+        ensures { result.now ≡ self.now.expansion.work }
+    {
+        self.expansion.work()
+    }
+
+    /// The place of a token, in one of the documents, of which there is one.
+    pub fn place_of(&self, occ: Occ) -> Mem<Place>
+        requires { 0 < length (entries self.now.texts) }
+        ensures { IfOk result (IsIn self.now.encoding (entries self.now.texts)) }
+    {
+        Ok(self.texts.place_of(occ, self.encoding)?)
+    }
+
+    /// The place of a form's first token; that of the unit where it has no such form; that of the last unit where there is no such
+    /// unit.
+    pub fn form_place(&self, unit: u32, form: u32) -> Mem<Place>
+        requires { 0 < length (entries self.now.texts) }
+        ensures { IfOk result (IsIn self.now.encoding (entries self.now.texts)) }
+    {
+        Ok(self.texts.form_place(unit, form, self.encoding)?)
+    }
+
+    /// The first Error of a unit, by document, start and code. `None` exactly where it has none.
+    pub fn first_error(&self, unit: u32) -> Mem<Option<PlacedError>>
+        ensures { IfOk result (λ e. IfSome e (λ p. IsIn self.now.encoding (entries self.now.texts) p.place)) }
+    {
+        Ok(self.texts.first_error(unit, self.encoding)?)
+    }
+}
+
+/// What is told of documents: their program with the trees that it is over, and their findings.
+#[derive(Drop)]
+struct Told {
+    expansion: Expansion,
+    findings: Vec<Sorted>,
+}
+
+/// Reads all documents and expands their units.
+fn read_all<L: Ledger>(alloc: Global, store: Store, steps: &mut Steps<L>) -> Mem<(Open, Told)>
+    ensures texts { IfOk result (λ read. read.0 ≡ store) }
+    ensures findings { IfOk result (λ read. length read.1.findings.items ≡ length (entries store)) }
+{
+    let reading = read_program(alloc, &store, steps)?;
+    let Reading {
+        documents,
+        heads,
+        work,
+        program,
+        findings,
+        errors,
+    } = reading;
+    let texts = Open::of(store, documents, heads, errors);
+    Ok((
+        texts,
+        Told {
+            expansion: Expansion::of(work, program),
+            findings,
+        },
+    ))
+}
