@@ -1,2 +1,4 @@
 mod RuleParts
 mod MatchParts
+mod Layers
+mod FormsShown

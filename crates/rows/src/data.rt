@@ -4,7 +4,6 @@ use crate::fault::{Row, RowFault};
 use crate::shown::Shown;
 use crate::tokens::show_fault;
 use datum_reader::{Atom, Datum, Mark, Shape, read_all};
-use ls_base::Text;
 use serde_json::Value;
 
 pub fn answer(out: &mut Shown, call: &str, argument: &Value) -> Row<()> {
@@ -67,18 +66,10 @@ fn show(out: &mut Shown, datum: &Datum) {
         }
         Shape::Bytes(numerals) => {
             begin(out, "bytes", datum);
-            show_texts(out, numerals);
+            out.texts(numerals);
             out.close();
         }
     }
-}
-
-pub fn show_texts(out: &mut Shown, texts: &[Text]) {
-    out.open();
-    for text in texts {
-        out.string(text.as_str());
-    }
-    out.close();
 }
 
 fn show_atom(out: &mut Shown, atom: &Atom, datum: &Datum) {

@@ -172,6 +172,32 @@
 //!     units/order [TEXT,..]       the places of units, each after what it imports, or the libraries on a circle
 //!         ["(import (a))","(define-library (a))"]   -> [1,0]
 //!
+//! Documents, which are opened one after another in a new workspace; the other calls ask about those that were opened last. A PLACE is
+//! here `[URI,START,END]`, in bytes. A unit is `{"broken":CODE or null,"forms":[FORM,..],"kind":KIND,"name":NAME or null,"uri":URI}`,
+//! without forms where it is broken as a whole. A FORM is `{"items":[PART,..],"keywords":[TARGET,..],"uses":NUMBER}`: what it comes to,
+//! the keywords of its core forms as they are met, and how many macros are used; or where it has a fault
+//! `{"fault":{"at":OCC or null,"code":CODE,"name":NAME or null}}`. MEANINGs are here `["local",UNIT,FORM,NUMBER]`, `["global",UNIT,IDENTIFIER]`,
+//! `["standard",NAME]` and `["free",NAME]`; a TARGET is `[MEANING,NAME,OCC]`, and a BINDER `[[UNIT,FORM,NUMBER],NAME,OCC]`, or on the top
+//! level of a unit `[["global",UNIT,NUMBER],NAME,OCC]`. Locals and macro uses are counted from 1, definitions from 0. A CORE is one of
+//! `["ref",MEANING,NAME,OCC]`, `["const",DATUM]`, `["quote",DATUM]`, `["quasi",[CORE,..]]` with what is unquoted, `["lambda",CLAUSE]`,
+//! `["case-lambda",[CLAUSE,..]]`, `["if",[CORE,..]]`, `["set",TARGET,CORE]`, `["call",[CORE,..]]`, `["body",[PART,..]]` and
+//! `["let-syntax",[MACRO,..],CORE]`; a CLAUSE `[[BINDER,..],DOTTED,CORE]`; a DATUM `["symbol",NAME,OCC]`, `[KIND,VALUE]`, or
+//! `["list",[DATUM,..]]` and `["vector",[DATUM,..]]` with the tail of a list behind; a PART `["expression",CORE]`,
+//! `["define",BINDER,CORE]`, `["values",[BINDER,..],DOTTED,CORE]`, `["syntax",MACRO]`, or of a record `["fields",[BINDER,..],[BINDER,..],
+//! [FIELD,..],[[FIELD,OCC],..]]`: what it defines, its fields, those with a modifier and those that the constructor takes, by their
+//! places; a MACRO `["macro",BINDER,[[TARGET,LITERAL],..]]` with the leaves of its rules, and whether they are literals.
+//!
+//!     programs/open [[URI,TEXT],..]   of each document the diagnostics that were published last, `[START,END,CODE,SEVERITY,MESSAGE]`
+//!         [["a","(list"]]         -> [["a",[[0,1,5,1,"open list"]]]]
+//!     programs/errors null        the first document that doesn't read or null, and of each unit the first Error with its code, or null
+//!         null                    -> ["a",[]]
+//!     programs/units null         the units
+//!         null                    -> []
+//!     programs/counts null        of each part of each form of each unit how many nodes it has
+//!         null                    -> []
+//!     programs/arrows null        the arrows, `[PLACE,PLACE,NAME]`: a binder, its use, and the use as it is written; a document is open
+//!         null                    -> []
+//!
 //! What all crates share.
 //!
 //!     base/texts [STRING,STRING]  a copy of the first, whether they are equal, and how they compare, by two calls
@@ -185,16 +211,22 @@
 mod argument;
 mod arrows;
 mod base;
+mod cores;
 mod data;
 mod fault;
 mod frames;
+mod lines;
 mod messages;
 mod positions;
+mod program_arrows;
+mod program_forms;
+mod programs;
 mod replies;
 mod rules;
 mod scopes;
 mod session;
 mod shown;
+mod spans;
 mod standard;
 mod store;
 mod symbols;
@@ -204,18 +236,30 @@ mod units;
 
 use document_store::Store;
 use fault::{Row, RowFault};
+use lines::{Call, call_of, print};
+use ls_base::Mem;
 use serde_json::Value;
 use session_core::Session;
 use shown::Shown;
 use std::alloc::Global;
 use std::io;
 use std::io::{BufRead, BufReader, BufWriter, Write};
+use workspace_state::Workspace;
 
 /// What the calls of one row leave to the next.
 #[derive(Drop)]
 struct Bench {
     store: Store,
     session: Session,
+    workspace: Workspace,
+}
+
+fn new_bench(alloc: Global) -> Mem<Bench> {
+    Ok(Bench {
+        store: Store::new(alloc),
+        session: Session::new(alloc)?,
+        workspace: Workspace::new(alloc)?,
+    })
 }
 
 /// Writes the answer to a call whose argument is JSON.
@@ -239,6 +283,7 @@ fn by_value(
         "rules" => Ok(rules::answer(out, call, argument)?),
         "units" => Ok(units::answer(out, call, argument)?),
         "standard" => Ok(standard::answer(out, call, argument)?),
+        "programs" => Ok(programs::answer(out, &mut bench.workspace, call, argument)?),
         "base" => Ok(base::answer(out, call, argument)?),
         _ => Err(RowFault::NoCall),
     }
@@ -246,41 +291,27 @@ fn by_value(
 
 /// The answer to a row.
 fn answer(alloc: Global, bench: &mut Bench, line: &str) -> Row<String> {
-    let (name, argument) = line.split_once('\t').ok_or(RowFault::NoTab)?;
-    let (group, call) = name.split_once('/').ok_or(RowFault::NoCall)?;
+    let Call {
+        group,
+        name,
+        argument,
+    } = call_of(line)?;
     match group {
-        "messages" => Ok(messages::answer(alloc, call, argument)?),
-        "session" => Ok(session::answer(alloc, &mut bench.session, call, argument)?),
+        "messages" => Ok(messages::answer(alloc, name, argument)?),
+        "session" => Ok(session::answer(alloc, &mut bench.session, name, argument)?),
         _ => {
             let value = argument::json(alloc, argument)?;
             let mut out = Shown::new(alloc);
-            by_value(&mut out, bench, group, call, &value)?;
+            by_value(&mut out, bench, group, name, &value)?;
             Ok(out.into_text()?)
         }
     }
 }
 
-/// Prints an answer, or why there is none.
-fn print<W: io::Write>(out: &mut W, answer: &Row<String>) -> io::Result<()> {
-    match answer {
-        Ok(text) => out.write_all(text.as_bytes())?,
-        Err(fault) => {
-            out.write_all(b"no answer: ")?;
-            out.write_all(fault.words().as_bytes())?;
-        }
-    }
-    out.write_all(b"\n")
-}
-
 fn main(rt: HostRuntime) -> io::Result<()> {
     let alloc = rt.alloc();
-    let session = match Session::new(alloc) {
-        Ok(session) => session,
-        Err(_) => return Err(io::Error::from(io::ErrorKind::OutOfMemory)),
-    };
-    let mut bench = Bench {
-        store: Store::new(alloc),
-        session,
+    let Ok(mut bench) = new_bench(alloc) else {
+        return Err(io::Error::from(io::ErrorKind::OutOfMemory));
     };
     let mut out = BufWriter::new(alloc, io::writer(&rt))?;
     for line in BufReader::new(alloc, rt.reader())?.lines(alloc) {

@@ -204,7 +204,7 @@ fn built(
 fn show_ident(out: &mut Shown, symbols: &Symbols, id: IdNo)
     requires { id < length symbols.now.idents }
 {
-    let text = ident_text(out.alloc(), symbols, id);
+    let text = ident_text(out.alloc(), symbols, id, 0);
     out.string_or_fail(text);
 }
 

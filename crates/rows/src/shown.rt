@@ -1,5 +1,6 @@
 //! Answers as they are written: compact JSON, item by item.
 use crate::fault::{Row, RowFault};
+use ls_base::Text;
 use serde_json::Value;
 use std::alloc::Global;
 
@@ -127,6 +128,15 @@ impl Shown {
         self.open();
         for number in numbers {
             self.number(*number as u64);
+        }
+        self.close();
+    }
+
+    /// A list of texts.
+    pub fn texts(&mut self, texts: &[Text]) {
+        self.open();
+        for text in texts {
+            self.string(text.as_str());
         }
         self.close();
     }

@@ -4,7 +4,6 @@ ghost use Rattle.syntax_tree.specs.Macros.{AreChecked};
 ghost use Rattle.base_library.specs.declared.macros.PreludeMacro.{PreludeMacro as AnyMacro};
 
 use crate::argument::text;
-use crate::data::show_texts;
 use crate::fault::{Row, RowFault};
 use crate::rules::show_rules;
 use crate::shown::Shown;
@@ -17,7 +16,7 @@ pub fn answer(out: &mut Shown, call: &str, argument: &Value) -> Row<()> {
     let name = text(argument)?;
     match call {
         "names" => match standard(out.alloc(), name)? {
-            Some(names) => show_texts(out, names.as_slice()),
+            Some(names) => out.texts(names.as_slice()),
             None => out.null(),
         },
         "macro" => macro_named(out, name)?,

@@ -3,7 +3,6 @@ ghost use Rattle.std.specs.Prelude.{◌≡◌, ◌^◌, ◌<◌, ◌≤◌, All,
 ghost use Rattle.ls_base.specs.Limits.{max_text};
 ghost use Rattle.scheme_model.specs.Trees.{Tree as ModelTree};
 ghost use Rattle.scheme_model.specs.Ident.{Ident as Identifier};
-ghost use Rattle.syntax_tree.specs.Numbered.{IsPlaced};
 ghost use Rattle.syntax_tree.specs.Standing.{leaf_tree};
 ghost use Rattle.syntax_tree.specs.Works.{IsOpened, IsStanding, KeepsTrees, LiesIn};
 
@@ -116,31 +115,35 @@ pub fn begin(out: &mut Shown, kind: &str, occ: Option<Occ>) {
     out.numbers(&[occ.unit, occ.form, occ.token]);
 }
 
-/// A written name and its unit, as `NAME@UNIT`.
-fn written_text(alloc: Global, symbols: &Symbols, ident: Ident) -> Row<String>
-    requires { IsPlaced symbols.now ident }
+/// The most macro uses that insert an identifier of a row, one behind another.
+const MOST_USES: u32 = 1_000;
+
+/// An identifier: a written name and its unit, as `NAME@UNIT`, and `+UNIT/FORM/COUNT` behind it for each macro use that inserted it. Uses
+/// are counted from this number on.
+pub fn ident_text(alloc: Global, symbols: &Symbols, id: IdNo, first: u32) -> Row<String>
+    requires { id < length symbols.now.idents }
 {
-    match ident {
+    Ok(inserted_text(alloc, symbols, id, first, MOST_USES)?)
+}
+
+/// The same, where at most so many uses inserted it.
+fn inserted_text(alloc: Global, symbols: &Symbols, id: IdNo, first: u32, most: u32) -> Row<String>
+    requires { id < length symbols.now.idents }
+{
+    match symbols.ident_at(id) {
         Ident::Written { unit, symbol } => {
             let name = symbols.name(symbol);
             Ok(format!(in alloc; "{name}@{unit}")?)
         }
-        Ident::Inserted { .. } => Err(RowFault::NotShown),
-    }
-}
-
-/// An identifier: as such a name, and `+UNIT/FORM/COUNT` behind it where a macro use inserted it.
-pub fn ident_text(alloc: Global, symbols: &Symbols, id: IdNo) -> Row<String>
-    requires { id < length symbols.now.idents }
-{
-    let ident = symbols.ident_at(id);
-    match ident {
-        Ident::Written { .. } => Ok(written_text(alloc, symbols, ident)?),
         Ident::Inserted { id, number } => {
-            let name = written_text(alloc, symbols, symbols.ident_at(id))?;
-            let name = name.as_str();
+            if most == 0 {
+                return Err(RowFault::TooLong);
+            }
+            let inner = inserted_text(alloc, symbols, id, first, most - 1)?;
+            let inner = inner.as_str();
             let UseNo { unit, form, count } = number;
-            Ok(format!(in alloc; "{name}+{unit}/{form}/{count}")?)
+            let count = count.saturating_add(first);
+            Ok(format!(in alloc; "{inner}+{unit}/{form}/{count}")?)
         }
     }
 }
@@ -151,7 +154,7 @@ fn show_leaf(out: &mut Shown, symbols: &Symbols, leaf: Leaf, occ: Option<Occ>)
 {
     match leaf {
         Leaf::Name(id) => {
-            let text = ident_text(out.alloc(), symbols, id);
+            let text = ident_text(out.alloc(), symbols, id, 0);
             begin(out, "name", occ);
             out.string_or_fail(text);
         }

@@ -1,6 +1,5 @@
 //! Rows of import_sets and library_table: units, what they import and export, and their order.
 use crate::argument::{item, list, made, made_bytes, text};
-use crate::data::show_texts;
 use crate::fault::{Row, RowFault};
 use crate::scopes::{meaning_of, show_meaning};
 use crate::shown::Shown;
@@ -161,7 +160,7 @@ fn show_fault(out: &mut Shown, fault: &LibraryFault) {
         }
         LibraryFault::Cycle(names) => {
             out.string("cycle");
-            show_texts(out, names.as_slice());
+            out.texts(names.as_slice());
         }
         LibraryFault::SameLibrary => out.string("same library"),
         LibraryFault::NotDefined(name) => {
