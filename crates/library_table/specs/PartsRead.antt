@@ -1,5 +1,7 @@
 -- How parts of declarations are read: what is answered, and the texts of libraries' names.
-use Rattle.std.specs.Prelude.{◌≡◌, ℕ, List, [], ◌∷◌, ◌++◌, false, Result, Ok, Err}
+use Rattle.std.specs.Prelude.{◌≡◌, ℕ, List, [], ◌∷◌, ◌++◌, false, Result, Ok, Err, String}
+use Rattle.std.specs.declared.alloc.Global.{Global}
+use Rattle.std.specs.BTreeSet.{BTreeSet, contains_text}
 use Rattle.std.specs.Str.{chars, encode_utf8_all}
 use Rattle.scheme_tokens.specs.Mirror.Spelled.{spelled}
 use Rattle.scheme_model.specs.Trees.{Trees, Tail}
@@ -51,6 +53,10 @@ library_text n = 40 ∷ (with_spaces n ++ 41 ∷ [])
 -- the libraries whose names have these texts
 abbrev pub knows : List (List ℕ) → Known
 knows texts n = has_name texts (library_text n)
+
+-- the same, where they are a set
+abbrev pub Knows : BTreeSet (String Global) → Known → Type 0
+Knows texts known = (n : LibraryName) → known n ≡ contains_text texts (library_text n)
 
 -- ---- what is added to a text
 

@@ -1,0 +1,36 @@
+//! The libraries that there are, by their names (R7RS 4.2.1, 5.6): those for which a requirement `(library name)` holds.
+ghost use Rattle.std.specs.Prelude.{◌≡◌, ℕ, List, IfOk};
+ghost use Rattle.std.specs.BTreeSet.{contains_text};
+ghost use Rattle.scheme_model.specs.Program.{has_name};
+ghost use Rattle.library_table.specs.PartsRead.{Knows, knows};
+
+use ls_base::{Items, Mem, Text};
+use std::alloc::Global;
+use std::collections::BTreeSet;
+
+/// The libraries that there are, made once for all that are read.
+#[derive(Drop)]
+pub struct KnownLibraries {
+    pub(crate) names: BTreeSet<String>,
+}
+
+impl KnownLibraries {
+    /// The libraries whose names have these texts: their parts in parentheses, with one space between each two.
+    pub fn of(alloc: Global, listed: &Items<Text>) -> Mem<KnownLibraries>
+        ensures { IfOk result (λ known. Knows known.names (knows listed.now)) }
+    {
+        let names = names(alloc, listed.as_slice())?;
+        Ok(KnownLibraries { names })
+    }
+}
+
+/// A set of these names.
+fn names(alloc: Global, listed: &[Text]) -> Mem<BTreeSet<String>>
+    ensures { IfOk result (λ names. (s : List ℕ) → contains_text names s ≡ has_name listed.now s) }
+{
+    let mut names = BTreeSet::new(alloc);
+    for library in listed {
+        names.insert(String::from_str(alloc, library.as_str())?)?;
+    }
+    Ok(names)
+}
