@@ -16,3 +16,9 @@ pub mod EveryText
 pub mod Examples
 pub mod Same
 pub mod Apart
+pub mod Decoded
+pub mod PartChars
+pub mod OnePart
+pub mod NamesTold
+pub mod EveryName
+pub mod NameTrees

@@ -5,3 +5,5 @@ pub mod Spelling
 pub mod Mirror
 pub mod Views
 pub mod Apart
+pub mod Symbols
+pub mod LibraryNames
