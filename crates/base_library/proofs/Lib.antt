@@ -2,3 +2,4 @@ pub mod TextLaws
 pub mod RowLaws
 pub mod MacroLaws
 pub mod PreludeLaws
+pub mod StandardTexts

@@ -18,3 +18,5 @@ mod ClauseRows
 mod ChoiceRows
 mod LibraryRows
 mod PlaceLaws
+mod ProperNames
+mod KnownTexts

@@ -1,13 +1,12 @@
--- How parts of declarations are read: what is answered, and the texts of libraries' names.
+-- How parts of declarations are read: what is answered, and what libraries' names are known by.
 use Rattle.std.specs.Prelude.{◌≡◌, ℕ, List, [], ◌∷◌, ◌++◌, false, Result, Ok, Err}
-use Rattle.std.specs.Str.{chars, encode_utf8_all}
-use Rattle.scheme_tokens.specs.Mirror.Spelled.{spelled}
 use Rattle.scheme_model.specs.Trees.{Trees, Tail}
 use Rattle.scheme_model.specs.ExpansionFaults.{Named, Fault, BadForm, ◌>>◌}
 use Rattle.scheme_model.specs.Shapes.{name_of, names_of, first_of, one_of, some_of, proper_of}
 use Rattle.scheme_model.specs.Entries.{pairs_of}
-use Rattle.scheme_model.specs.Requirements.{LibraryPart, Symbol, Digits, LibraryName, Known, parts_of}
+use Rattle.scheme_model.specs.Requirements.{LibraryPart, LibraryName, Known, parts_of}
 use Rattle.scheme_model.specs.Program.{has_name}
+pub use Rattle.scheme_tokens.specs.LibraryNames.{part_text, behind_spaces, library_text}
 use Rattle.datum_reader.specs.declared.shape_fault.ShapeFault.{ShapeFault}
 use Rattle.datum_reader.specs.declared.shape_fault.ShapeFault.TheVariants as fault
 
@@ -27,26 +26,7 @@ abbrev pub map_ok : {A B C : Type 0} → (A → B) → Result A C → Result B C
 map_ok f (Ok a) = Ok (f a)
 map_ok f (Err e) = Err e
 
--- ---- the text of a library's name
-
--- a symbol as it is written, with bars where it needs them; a numeral as it stands
-abbrev pub part_text : LibraryPart → List ℕ
-part_text (Symbol s) = encode_utf8_all (spelled (chars s) false)
-part_text (Digits s) = s
-
--- parts, each behind a space
-abbrev pub behind_spaces : LibraryName → List ℕ
-behind_spaces [] = []
-behind_spaces (p ∷ ps) = 32 ∷ (part_text p ++ behind_spaces ps)
-
--- parts with one space between each two
-abbrev pub with_spaces : LibraryName → List ℕ
-with_spaces [] = []
-with_spaces (p ∷ ps) = part_text p ++ behind_spaces ps
-
--- in parentheses
-abbrev pub library_text : LibraryName → List ℕ
-library_text n = 40 ∷ (with_spaces n ++ 41 ∷ [])
+-- ---- libraries by the texts of their names
 
 -- the libraries whose names have these texts
 abbrev pub knows : List (List ℕ) → Known

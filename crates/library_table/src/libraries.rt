@@ -5,9 +5,10 @@ ghost use Rattle.std.specs.BTreeSet.{contains_text};
 ghost use Rattle.scheme_model.specs.Data.{Datum as ModelDatum, part, row};
 ghost use Rattle.scheme_model.specs.Declarations.{library_of, library_with, declarations};
 ghost use Rattle.scheme_model.specs.Program.{has_name};
-ghost use Rattle.scheme_model.specs.Requirements.{LibraryName};
+ghost use Rattle.scheme_model.specs.Requirements.{LibraryName, Known};
 ghost use Rattle.datum_reader.specs.Views.{datum_of, data_of};
 ghost use Rattle.datum_reader.specs.Looks.{end_with, IsListOf};
+ghost use Rattle.scheme_tokens.specs.LibraryNames.{IsProper};
 ghost use Rattle.library_table.specs.PartsRead.{knows, library_text};
 ghost use Rattle.library_table.specs.LibrariesRead.{IsLibraryRead, library_named};
 
@@ -37,7 +38,8 @@ pub fn read_unit(
     unit: u32,
     known: &Items<Text>,
 ) -> Result<UnitSource, LibraryFault>
-    ensures { IsLibraryRead unit (datum_of datum.now) (library_of (knows known.now) (datum_of datum.now)) result }
+    ensures { (all : Known) → ((n : LibraryName) → IsProper n → all n ≡ has_name known.now (library_text n)) →
+        IsLibraryRead unit (datum_of datum.now) (library_of all (datum_of datum.now)) result }
 {
     match look_at(datum) {
         Look::List(parts, dotted) => {

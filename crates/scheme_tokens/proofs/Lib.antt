@@ -22,3 +22,4 @@ pub mod OnePart
 pub mod NamesTold
 pub mod EveryName
 pub mod NameTrees
+pub mod StandardProper
