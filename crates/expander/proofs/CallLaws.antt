@@ -201,7 +201,7 @@ module _ (old new : Work) (region : Region) (u u1 v w : UnitScope) (number : ℕ
 
 -- the libraries that there are, as the definition knows them
 pub all_known : (libraries : BTreeSet (String Global)) → (known : Known) × Knows libraries known
-all_known libraries = (λ n. contains_text libraries (library_text n), λ n proper. refl)
+all_known libraries = (λ n. contains_text libraries (library_text n), λ n written. refl)
 
 module _ (old new : Work) (region : Region) (u v : UnitScope) where
   adds_left : Leaves old new region u → Adds old new region u.form.budget

@@ -402,7 +402,7 @@ known_more known i t key s old new lt is k o n =
 
 -- what has the names of libraries knows the libraries of these texts
 pub knows_listed : (libraries : BTreeSet (String Global)) (texts : List (List ℕ)) → ((s : List ℕ) → contains_text libraries s ≡ has_name texts s) → Knows libraries (λ n. has_name texts (library_text n))
-knows_listed libraries texts h n proper = sym (h (library_text n))
+knows_listed libraries texts h n written = sym (h (library_text n))
 
 pub dotted_name : (ts : Trees Identifier) (u : Tree Identifier) → name_in_list ts (dotted u) ≡ Err BadForm
 dotted_name no_trees u = refl

@@ -17,4 +17,4 @@ pub returns : goal.returns
 returns c = λ known ts knows h.
     let p = only_part c.args.self.now.work.now c.args.parts.now _ ts c.if-parts-ne1.false h in
     let libraries = c.args.self.now.libraries.now in
-    known_name libraries known p.0 ts c.in_ok-name.name _ knows p.1 (c.in_ok-name.ensures p.0 p.2) (c.contains.ensures ∙ ap (contains_text libraries) c.as_str.ensures)
+    known_name libraries known p.0 ts c.in_ok-name.name _ knows p.1 (c.in_ok-name.ensures p.0 p.2) (c.contains.ensures ∙ ap (contains_text libraries) c.as_str.ensures.value)
