@@ -19,4 +19,4 @@ mod ChoiceRows
 mod LibraryRows
 mod PlaceLaws
 mod ProperNames
-mod KnownTexts
+pub mod KnownTexts

@@ -36,7 +36,7 @@ stays_by b c opened same trees names added regions roots libraries = record {
   added = added;
   regions = regions;
   others = λ v new. ap (λ (m : map.FinMap nat_cmp ℕ). map.get m v) roots ∙ new;
-  libraries = λ known knows n. knows n ∙ ap (λ l. contains_text l (library_text n)) (sym libraries);
+  libraries = λ known knows n written. knows n written ∙ ap (λ l. contains_text l (library_text n)) (sym libraries);
 }
 
 pub stays_itself : (b : Bench) → IsOpened b.work b.region → Stays b b

@@ -33,3 +33,4 @@ pub mod UnboundLaws
 pub mod ImportLaws
 pub mod DefinedLaws
 pub mod ExportLaws
+pub mod KnownLaws

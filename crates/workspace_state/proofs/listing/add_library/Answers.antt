@@ -1,5 +1,5 @@
 -- The forms of a library were read with it, and one that is bad has none.
-use Rattle.std.proofs.Common.{arith}
+use Rattle.std.proofs.Common.{refl, arith}
 use Rattle.library_table.specs.PartsRead.{knows}
 use Rattle.library_table.specs.UnitsRead.{forms_of}
 use Rattle.datum_reader.specs.Views.{datum_of}
@@ -10,4 +10,4 @@ pub overflow_cast-number : goal.overflow_cast-number
 overflow_cast-number c = omega (arith, c.requires.units.few, c.requires.units.sources, c.args.units.now.sources.ok)
 
 pub add-requires-clause-read : goal.add-requires-clause-read
-add-requires-clause-read c = library_read (knows c.args.known.now) (datum_of c.args.datum.now) (forms_of c.in-Ok.source.forms) c.requires.read c.in-Ok.ensures.forms
+add-requires-clause-read c = library_read (knows c.args.known.now) (datum_of c.args.datum.now) (forms_of c.in-Ok.source.forms) c.requires.read (c.in-Ok.ensures (knows c.args.known.now) (λ n written. refl)).forms
