@@ -1,6 +1,9 @@
--- What a datum is as a library rests on which proper names there are, and on no others.
-use Rattle.std.proofs.Common.{◌≡◌, ℕ, Bool, true, false, cond, List, [], ◌∷◌, ◌++◌, Option, Some, None, Result, Ok, Err, IfOk, refl, ap, ◌∙◌}
-use Rattle.std.specs.Prelude.{◌&&◌, ◌||◌, not, codes}
+-- Names that are read are proper: a requirement is met as a set of texts knows libraries, and what a datum is as a library rests on
+-- which proper names there are, and on no others.
+use Rattle.std.proofs.Common.{◌≡◌, ℕ, Bool, true, false, cond, List, [], ◌∷◌, ◌++◌, length, arith, Option, Some, None, Result, Ok, Err, IfOk, refl, sym, ap, ◌∙◌}
+use Rattle.std.specs.Prelude.{◌&&◌, ◌||◌, not, codes, String}
+use Rattle.std.specs.declared.alloc.Global.{Global}
+use Rattle.std.specs.BTreeSet.{BTreeSet, contains_text}
 use Rattle.std.specs.Str.{bytes_eq}
 use Rattle.scheme_model.specs.Data.{Datum, atom as atom_datum, list as list_datum, vector as vector_datum, bytes, Data, none, part, tail, place_of}
 use Rattle.scheme_model.specs.Trees.{Tree, name, atom, list, vector, Trees, no_trees, tree, Tail, proper, dotted}
@@ -8,9 +11,15 @@ use Rattle.scheme_model.specs.ExpansionFaults.{Fault, BadForm, ◌>>◌}
 use Rattle.scheme_model.specs.Shapes.{one_of}
 use Rattle.scheme_model.specs.Requirements.{LibraryName, Known, library_name_of, holds, all_hold, some_holds, none_holds, is_else, clause_holds}
 use Rattle.scheme_model.specs.Declarations.{symbol_in, proper_parts, symbol_tree, Flat, ◌>>=◌, or_bad, Clause, later_clauses, picked, chosen_clause, flat_of, some_clauses, both, parts_or, Declared, Exports, Imports, Begins, Chooses, Includes, Undeclared, declared_by, declared_as, declaration, declarations, clauses, clause_of, UnitSource, IsLibrary, name_or, no_name, library_with, behind_head, library_of}
-use Rattle.scheme_tokens.specs.LibraryNames.{IsProper}
+use Rattle.scheme_model.specs.declared.Occ.{Occ}
+use Rattle.datum_reader.specs.declared.datum.Datum as code
+use Rattle.datum_reader.specs.Views.{datum_of}
+use Rattle.datum_reader.specs.Looks.{tree_at, trees_at}
+use Rattle.scheme_tokens.specs.LibraryNames.{library_text, IsProper}
 use Rattle.scheme_tokens.specs.Symbols.{HasEncoded, HaveEncoded}
-use Rattle.scheme_tokens.proofs.NameTrees.{name_proper, datum_encoded}
+use Rattle.scheme_tokens.proofs.NameTrees.{name_proper, tree_encoded, datum_encoded}
+use Rattle.library_table.specs.Chosen.{library_holds}
+use Rattle.library_table.specs.PartsRead.{Knows, map_ok}
 
 abbrev itself : List ℕ → List ℕ
 itself s = s
@@ -26,6 +35,22 @@ told_by known n = Ok (known n)
 
 abbrev clause_with : Datum → Flat → List Datum → Result Clause Datum
 clause_with d forms rest = Ok (record { requirement = symbol_tree d; forms = forms })
+
+-- ---- a requirement by a library's name
+
+answered : (texts : BTreeSet (String Global)) (has : Known) → Knows texts has → (r : Result LibraryName F) → IfOk r IsProper → (s : List ℕ) → map_ok library_text r ≡ Ok s → (r >> told_by has) ≡ Ok (contains_text texts s)
+answered texts has knows (Ok n) h s e = let same : library_text n ≡ s = cc in ap Ok (knows n h ∙ ap (contains_text texts) same)
+answered texts has knows (Err f) h s e = absurd cc
+
+pub library_known : (texts : BTreeSet (String Global)) (has : Known) (place : ℕ → Occ) (ds : List code.Datum) (d : code.Datum) (es : List code.Datum) (s : List ℕ) (here : Bool) → Knows texts has → ds ≡ d ∷ es → length es ≡ 0 →
+    map_ok library_text (library_name_of itself (tree_at place d)) ≡ Ok s → here ≡ contains_text texts s → library_holds has (trees_at place ds) ≡ Ok here
+library_known texts has place ds d [] s here knows is few named there =
+    ap (λ (xs : List code.Datum). library_holds has (trees_at place xs)) is
+    ∙ answered texts has knows (library_name_of itself (tree_at place d)) (name_proper itself (tree_at place d) (tree_encoded place (datum_of d))) s named
+    ∙ ap Ok (sym there)
+library_known texts has place ds d (e ∷ es) s here knows is few named there = absurd (omega (arith, few))
+
+-- ---- libraries that agree on proper names
 
 module _ (a b : Known) (agree : (n : LibraryName) → IsProper n → a n ≡ b n) where
   -- ---- requirements

@@ -1,11 +1,13 @@
 -- How parts of declarations are read: what is answered, and what libraries' names are known by.
-use Rattle.std.specs.Prelude.{◌≡◌, ℕ, List, [], ◌∷◌, ◌++◌, false, Result, Ok, Err}
+use Rattle.std.specs.Prelude.{◌≡◌, ℕ, List, [], ◌∷◌, ◌++◌, false, Result, Ok, Err, String}
+use Rattle.std.specs.declared.alloc.Global.{Global}
+use Rattle.std.specs.BTreeSet.{BTreeSet, contains_text}
 use Rattle.scheme_model.specs.Trees.{Trees, Tail}
 use Rattle.scheme_model.specs.ExpansionFaults.{Named, Fault, BadForm, ◌>>◌}
 use Rattle.scheme_model.specs.Shapes.{name_of, names_of, first_of, one_of, some_of, proper_of}
 use Rattle.scheme_model.specs.Entries.{pairs_of}
 use Rattle.scheme_model.specs.Requirements.{LibraryPart, LibraryName, Known, parts_of}
-use Rattle.scheme_model.specs.Program.{has_name}
+use Rattle.scheme_tokens.specs.LibraryNames.{IsProper}
 pub use Rattle.scheme_tokens.specs.LibraryNames.{part_text, behind_spaces, library_text}
 use Rattle.datum_reader.specs.declared.shape_fault.ShapeFault.{ShapeFault}
 use Rattle.datum_reader.specs.declared.shape_fault.ShapeFault.TheVariants as fault
@@ -28,9 +30,9 @@ map_ok f (Err e) = Err e
 
 -- ---- libraries by the texts of their names
 
--- the libraries whose names have these texts
-abbrev pub knows : List (List ℕ) → Known
-knows texts n = has_name texts (library_text n)
+-- the texts are those of the libraries that there are, among names that can be read
+abbrev pub Knows : BTreeSet (String Global) → Known → Type 0
+Knows texts known = (n : LibraryName) → IsProper n → known n ≡ contains_text texts (library_text n)
 
 -- ---- what is added to a text
 

@@ -4,10 +4,10 @@ ghost use Rattle.std.specs.Option.{is_some};
 ghost use Rattle.std.specs.BTreeSet.{contains_text};
 ghost use Rattle.scheme_model.specs.Data.{Datum as ModelDatum, row};
 ghost use Rattle.scheme_model.specs.Declarations.{all_export_parts, is_export_part, is_rename, proper_parts, plain_form, declaration, declarations, clauses, declared_as, declared_by, symbol_in};
-ghost use Rattle.scheme_model.specs.Program.{has_name};
+ghost use Rattle.scheme_model.specs.Requirements.{Known};
 ghost use Rattle.datum_reader.specs.Views.{datum_of, data_of};
 ghost use Rattle.datum_reader.specs.Looks.{end_with, bytes_of, IsListOf};
-ghost use Rattle.library_table.specs.PartsRead.{knows};
+ghost use Rattle.library_table.specs.PartsRead.{Knows};
 ghost use Rattle.library_table.specs.UnitsRead.{forms_of};
 ghost use Rattle.library_table.specs.Flattened.{Flattens, IsClause, Chooses, OrFirst, is_declared, kept, begun_of, choice_of, two_symbols};
 ghost use Rattle.library_table.specs.Weights.{row_weight};
@@ -239,8 +239,8 @@ fn chosen<'a>(
     parts: &'a [Datum],
     dotted: bool,
 ) -> Result<&'a [Datum], ShapeFault>
-    ensures whole { (all : List (List ℕ)) → ((s : List ℕ) → contains_text known.now s ≡ has_name all s) → (d : ModelDatum) (end : Option ModelDatum) → is_some end ≡ dotted →
-        Chooses (knows all) d result (row (data_of parts.now) (end_with end)) }
+    ensures whole { (has : Known) → Knows known.now has → (d : ModelDatum) (end : Option ModelDatum) → is_some end ≡ dotted →
+        Chooses has d result (row (data_of parts.now) (end_with end)) }
     ensures smaller { IfOk result (λ forms. row_weight (data_of forms.now) < row_weight (data_of parts.now)) }
 {
     if dotted {
@@ -276,8 +276,8 @@ pub fn declarations(
     dotted: bool,
     forms: &mut Vec<UnitForm>,
 ) -> Result<(), LibraryFault>
-    ensures { (all : List (List ℕ)) → ((s : List ℕ) → contains_text known.now s ≡ has_name all s) → (end : Option ModelDatum) → is_some end ≡ dotted →
-        Flattens forms.old.items forms.new.items result (declarations (knows all) (datum_of whole.now) (row (data_of parts.now) (end_with end))) }
+    ensures { (has : Known) → Knows known.now has → (end : Option ModelDatum) → is_some end ≡ dotted →
+        Flattens forms.old.items forms.new.items result (declarations has (datum_of whole.now) (row (data_of parts.now) (end_with end))) }
 {
     for part in parts {
         declaration(alloc, known, part, forms)?;
@@ -296,8 +296,8 @@ fn declaration(
     datum: &Datum,
     forms: &mut Vec<UnitForm>,
 ) -> Result<(), LibraryFault>
-    ensures { (all : List (List ℕ)) → ((s : List ℕ) → contains_text known.now s ≡ has_name all s) →
-        Flattens forms.old.items forms.new.items result (declaration (knows all) (datum_of datum.now)) }
+    ensures { (has : Known) → Knows known.now has →
+        Flattens forms.old.items forms.new.items result (declaration has (datum_of datum.now)) }
 {
     match look_at(datum) {
         Look::List(parts, dotted) => list_declaration(alloc, known, datum, parts, dotted, forms),
@@ -319,8 +319,8 @@ fn list_declaration(
     forms: &mut Vec<UnitForm>,
 ) -> Result<(), LibraryFault>
     requires { IsListOf parts.now dotted (datum_of datum.now) }
-    ensures { (all : List (List ℕ)) → ((s : List ℕ) → contains_text known.now s ≡ has_name all s) →
-        Flattens forms.old.items forms.new.items result (declaration (knows all) (datum_of datum.now)) }
+    ensures { (has : Known) → Knows known.now has →
+        Flattens forms.old.items forms.new.items result (declaration has (datum_of datum.now)) }
 {
     match row_of(parts) {
         Row::Empty => Err(bad(datum)),
@@ -342,9 +342,9 @@ fn declare(
     dotted: bool,
     forms: &mut Vec<UnitForm>,
 ) -> Result<(), LibraryFault>
-    ensures { (all : List (List ℕ)) → ((s : List ℕ) → contains_text known.now s ≡ has_name all s) → (end : Option ModelDatum) → is_some end ≡ dotted →
+    ensures { (has : Known) → Knows known.now has → (end : Option ModelDatum) → is_some end ≡ dotted →
         let ds = row (data_of rest.now) (end_with end) in
-        Flattens forms.old.items forms.new.items result (declared_as (knows all) (is_declared kind) (datum_of datum.now) (proper_parts ds) (clauses (knows all) (datum_of datum.now) ds)) }
+        Flattens forms.old.items forms.new.items result (declared_as has (is_declared kind) (datum_of datum.now) (proper_parts ds) (clauses has (datum_of datum.now) ds)) }
 {
     match kind {
         Declared::Exports => keep(alloc, datum, !exports(rest, dotted), forms),
@@ -366,8 +366,8 @@ fn choice(
     dotted: bool,
     forms: &mut Vec<UnitForm>,
 ) -> Result<(), LibraryFault>
-    ensures { (all : List (List ℕ)) → ((s : List ℕ) → contains_text known.now s ≡ has_name all s) → (end : Option ModelDatum) → is_some end ≡ dotted →
-        Flattens forms.old.items forms.new.items result (choice_of (knows all) (datum_of datum.now) (row (data_of rest.now) (end_with end))) }
+    ensures { (has : Known) → Knows known.now has → (end : Option ModelDatum) → is_some end ≡ dotted →
+        Flattens forms.old.items forms.new.items result (choice_of has (datum_of datum.now) (row (data_of rest.now) (end_with end))) }
 {
     match chosen(alloc, known, rest, dotted) {
         Ok(parts) => declarations(alloc, known, datum, parts, false, forms),

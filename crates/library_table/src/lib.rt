@@ -10,6 +10,7 @@ pub mod fault;
 pub mod firsts;
 mod flattening;
 mod graph;
+pub mod known;
 pub mod laws;
 pub mod libraries;
 mod library_names;
@@ -24,6 +25,7 @@ pub mod units;
 
 pub use exporting::{ExportFault, Exports, exports_of};
 pub use fault::LibraryFault;
+pub use known::KnownLibraries;
 pub use libraries::read_unit;
 pub use orders::order;
 pub use programs::read_program;

@@ -1,51 +1,44 @@
 //! A library as it is written (R7RS 5.6.1).
 ghost use Rattle.std.specs.Prelude.{◌≡◌, ◌∷◌, ℕ, List, Option, Some};
 ghost use Rattle.std.specs.Option.{is_some};
-ghost use Rattle.std.specs.BTreeSet.{contains_text};
 ghost use Rattle.scheme_model.specs.Data.{Datum as ModelDatum, part, row};
 ghost use Rattle.scheme_model.specs.Declarations.{library_of, library_with, declarations};
-ghost use Rattle.scheme_model.specs.Program.{has_name};
-ghost use Rattle.scheme_model.specs.Requirements.{LibraryName, Known};
+ghost use Rattle.scheme_model.specs.Requirements.{Known, LibraryName};
 ghost use Rattle.datum_reader.specs.Views.{datum_of, data_of};
 ghost use Rattle.datum_reader.specs.Looks.{end_with, IsListOf};
-ghost use Rattle.scheme_tokens.specs.LibraryNames.{IsProper};
-ghost use Rattle.library_table.specs.PartsRead.{knows, library_text};
+ghost use Rattle.library_table.specs.PartsRead.{Knows, library_text};
 ghost use Rattle.library_table.specs.LibrariesRead.{IsLibraryRead, library_named};
 
 use crate::export_specs::exports_read;
 use crate::fault::LibraryFault;
 use crate::flattening::{bad, declarations};
+use crate::known::KnownLibraries;
 use crate::library_names::library_name;
 use crate::parts::imports_of;
-use crate::requirements::known_names;
 use crate::units::UnitSource;
 use datum_reader::Datum;
 use datum_reader::heads::first_token;
 use datum_reader::look::{Look, Row, look_at, row_of};
 use datum_reader::shape_fault::ShapeFault;
-use ls_base::{Items, Mem, Text};
+use ls_base::{Items, Text};
 use std::alloc::Global;
 use std::collections::BTreeSet;
 use syntax_tree::units::UnitKind;
 
 /// The library that a datum is: its name, imports, exports and forms. Its declarations are flattened: a `begin` gives its data,
-/// a `cond-expand` what its chosen clause gives, every other declaration itself. `known` are the names for which a requirement
-/// `(library name)` holds, as texts. The one refusal is `BadDeclaration`, with the bytes of the first bad declaration: where the
+/// a `cond-expand` what its chosen clause gives, every other declaration itself. `known` are the libraries for which a requirement
+/// `(library name)` holds. The one refusal is `BadDeclaration`, with the bytes of the first bad declaration: where the
 /// library has no name, or a clause of a `cond-expand` no shape, of that whole.
 pub fn read_unit(
     alloc: Global,
     datum: &Datum,
     unit: u32,
-    known: &Items<Text>,
+    known: &KnownLibraries,
 ) -> Result<UnitSource, LibraryFault>
-    ensures { (all : Known) → ((n : LibraryName) → IsProper n → all n ≡ has_name known.now (library_text n)) →
-        IsLibraryRead unit (datum_of datum.now) (library_of all (datum_of datum.now)) result }
+    ensures { (has : Known) → Knows known.now.names has → IsLibraryRead unit (datum_of datum.now) (library_of has (datum_of datum.now)) result }
 {
     match look_at(datum) {
-        Look::List(parts, dotted) => {
-            let names = known_names(alloc, known.as_slice())?;
-            list_unit(alloc, datum, parts, dotted, unit, &names)
-        }
+        Look::List(parts, dotted) => { list_unit(alloc, datum, parts, dotted, unit, &known.names) }
         Look::Name(_) => Err(bad(datum)),
         Look::Implied(_) => Err(bad(datum)),
         Look::Numeral(_) => Err(bad(datum)),
@@ -63,8 +56,8 @@ fn list_unit(
     known: &BTreeSet<String>,
 ) -> Result<UnitSource, LibraryFault>
     requires { IsListOf parts.now dotted (datum_of datum.now) }
-    ensures { (all : List (List ℕ)) → ((s : List ℕ) → contains_text known.now s ≡ has_name all s) →
-        IsLibraryRead unit (datum_of datum.now) (library_of (knows all) (datum_of datum.now)) result }
+    ensures { (has : Known) → Knows known.now has →
+        IsLibraryRead unit (datum_of datum.now) (library_of has (datum_of datum.now)) result }
 {
     match row_of(parts) {
         Row::Empty => Err(bad(datum)),
@@ -85,8 +78,8 @@ fn read_named(
     unit: u32,
     known: &BTreeSet<String>,
 ) -> Result<UnitSource, LibraryFault>
-    ensures { (all : List (List ℕ)) → ((s : List ℕ) → contains_text known.now s ≡ has_name all s) → (end : Option ModelDatum) → is_some end ≡ dotted →
-        IsLibraryRead unit (datum_of datum.now) (library_with (knows all) (datum_of datum.now) (part (datum_of name.now) (row (data_of rest.now) (end_with end)))) result }
+    ensures { (has : Known) → Knows known.now has → (end : Option ModelDatum) → is_some end ≡ dotted →
+        IsLibraryRead unit (datum_of datum.now) (library_with has (datum_of datum.now) (part (datum_of name.now) (row (data_of rest.now) (end_with end)))) result }
 {
     match library_name(alloc, name) {
         Ok(text) => read_declared(alloc, datum, text, rest, dotted, unit, known),
@@ -105,9 +98,9 @@ fn read_declared(
     unit: u32,
     known: &BTreeSet<String>,
 ) -> Result<UnitSource, LibraryFault>
-    ensures { (all : List (List ℕ)) → ((s : List ℕ) → contains_text known.now s ≡ has_name all s) → (end : Option ModelDatum) → is_some end ≡ dotted →
+    ensures { (has : Known) → Knows known.now has → (end : Option ModelDatum) → is_some end ≡ dotted →
         (n : LibraryName) → library_text n ≡ name →
-        IsLibraryRead unit (datum_of datum.now) (library_named n (datum_of datum.now) (declarations (knows all) (datum_of datum.now) (row (data_of rest.now) (end_with end)))) result }
+        IsLibraryRead unit (datum_of datum.now) (library_named n (datum_of datum.now) (declarations has (datum_of datum.now) (row (data_of rest.now) (end_with end)))) result }
 {
     let mut forms = Vec::new(alloc);
     declarations(alloc, known, datum, rest, dotted, &mut forms)?;

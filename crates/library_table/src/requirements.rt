@@ -1,19 +1,16 @@
 //! The requirements of `cond-expand` (R7RS 4.2.1), and which of its clauses is chosen.
 ghost use Rattle.std.specs.Prelude.{◌≡◌, ◌&&◌, ◌||◌, ℕ, List, Option, IfOk};
-ghost use Rattle.std.specs.BTreeSet.{contains_text};
 ghost use Rattle.scheme_model.specs.declared.Occ.{Occ};
 ghost use Rattle.scheme_model.specs.Trees.{Trees, Tail, list as list_tree};
-ghost use Rattle.scheme_model.specs.Requirements.{holds, all_hold, some_holds, none_holds, is_else, clause_holds};
-ghost use Rattle.scheme_model.specs.Program.{has_name};
+ghost use Rattle.scheme_model.specs.Requirements.{Known, holds, all_hold, some_holds, none_holds, is_else, clause_holds};
 ghost use Rattle.datum_reader.specs.Looks.{tree_at, trees_at, is_dotted};
-ghost use Rattle.library_table.specs.PartsRead.{Reads, knows};
+ghost use Rattle.library_table.specs.PartsRead.{Knows, Reads};
 ghost use Rattle.library_table.specs.Chosen.{library_holds, connective_named, word_holds, is_empty};
 
 use crate::library_names::library_name;
 use datum_reader::Datum;
 use datum_reader::look::{Look, Row, look_at, row_of, word_in};
 use datum_reader::shape_fault::ShapeFault;
-use ls_base::{Mem, Text};
 use std::alloc::Global;
 use std::collections::BTreeSet;
 
@@ -57,25 +54,14 @@ fn either(a: bool, b: bool) -> bool
     a || b
 }
 
-/// The names for which there is a library.
-pub fn known_names(alloc: Global, known: &[Text]) -> Mem<BTreeSet<String>>
-    ensures { IfOk result (λ names. (s : List ℕ) → contains_text names s ≡ has_name known.now s) }
-{
-    let mut names = BTreeSet::new(alloc);
-    for name in known {
-        names.insert(String::from_str(alloc, name.as_str())?)?;
-    }
-    Ok(names)
-}
-
 /// Whether there is the one library that is named.
 fn library_holds(
     alloc: Global,
     known: &BTreeSet<String>,
     parts: &[Datum],
 ) -> Result<bool, ShapeFault>
-    ensures { (all : List (List ℕ)) → ((s : List ℕ) → contains_text known.now s ≡ has_name all s) → (place : ℕ → Occ) →
-        Reads (λ b. b) result (library_holds (knows all) (trees_at place parts.now)) }
+    ensures { (has : Known) → Knows known.now has → (place : ℕ → Occ) →
+        Reads (λ b. b) result (library_holds has (trees_at place parts.now)) }
 {
     match row_of(parts) {
         Row::Empty => Err(ShapeFault::BadForm),
@@ -92,8 +78,8 @@ fn library_holds(
 /// Whether a requirement holds.
 #[cycle(requirements)]
 fn holds(alloc: Global, known: &BTreeSet<String>, datum: &Datum) -> Result<bool, ShapeFault>
-    ensures { (all : List (List ℕ)) → ((s : List ℕ) → contains_text known.now s ≡ has_name all s) → (place : ℕ → Occ) →
-        Reads (λ b. b) result (holds (λ s. s) (knows all) (tree_at place datum.now)) }
+    ensures { (has : Known) → Knows known.now has → (place : ℕ → Occ) →
+        Reads (λ b. b) result (holds (λ s. s) has (tree_at place datum.now)) }
 {
     match look_at(datum) {
         Look::Name(word) => Ok(word == "r7rs"),
@@ -112,8 +98,8 @@ fn list_holds(
     parts: &[Datum],
     dotted: bool,
 ) -> Result<bool, ShapeFault>
-    ensures { (all : List (List ℕ)) → ((s : List ℕ) → contains_text known.now s ≡ has_name all s) → (place : ℕ → Occ) (end : Tail (List ℕ)) (o : Option Occ) → is_dotted end ≡ dotted →
-        Reads (λ b. b) result (holds (λ s. s) (knows all) (list_tree (trees_at place parts.now) end o)) }
+    ensures { (has : Known) → Knows known.now has → (place : ℕ → Occ) (end : Tail (List ℕ)) (o : Option Occ) → is_dotted end ≡ dotted →
+        Reads (λ b. b) result (holds (λ s. s) has (list_tree (trees_at place parts.now) end o)) }
 {
     if dotted {
         return Err(ShapeFault::BadForm);
@@ -135,8 +121,8 @@ fn word_holds(
     word: &str,
     parts: &[Datum],
 ) -> Result<bool, ShapeFault>
-    ensures { (all : List (List ℕ)) → ((s : List ℕ) → contains_text known.now s ≡ has_name all s) → (place : ℕ → Occ) →
-        Reads (λ b. b) result (word_holds (knows all) word.now (trees_at place parts.now)) }
+    ensures { (has : Known) → Knows known.now has → (place : ℕ → Occ) →
+        Reads (λ b. b) result (word_holds has word.now (trees_at place parts.now)) }
 {
     match connective_in(word) {
         Connective::And => all_hold(alloc, known, parts),
@@ -150,8 +136,8 @@ fn word_holds(
 /// Whether all requirements hold. Each of them has a shape.
 #[cycle(requirements)]
 fn all_hold(alloc: Global, known: &BTreeSet<String>, parts: &[Datum]) -> Result<bool, ShapeFault>
-    ensures { (all : List (List ℕ)) → ((s : List ℕ) → contains_text known.now s ≡ has_name all s) → (place : ℕ → Occ) →
-        Reads (λ b. b) result (all_hold (λ s. s) (knows all) (trees_at place parts.now)) }
+    ensures { (has : Known) → Knows known.now has → (place : ℕ → Occ) →
+        Reads (λ b. b) result (all_hold (λ s. s) has (trees_at place parts.now)) }
 {
     let mut hold = true;
     for part in parts {
@@ -165,8 +151,8 @@ fn all_hold(alloc: Global, known: &BTreeSet<String>, parts: &[Datum]) -> Result<
 /// Whether some requirement holds. Each of them has a shape.
 #[cycle(requirements)]
 fn some_holds(alloc: Global, known: &BTreeSet<String>, parts: &[Datum]) -> Result<bool, ShapeFault>
-    ensures { (all : List (List ℕ)) → ((s : List ℕ) → contains_text known.now s ≡ has_name all s) → (place : ℕ → Occ) →
-        Reads (λ b. b) result (some_holds (λ s. s) (knows all) (trees_at place parts.now)) }
+    ensures { (has : Known) → Knows known.now has → (place : ℕ → Occ) →
+        Reads (λ b. b) result (some_holds (λ s. s) has (trees_at place parts.now)) }
 {
     let mut hold = false;
     for part in parts {
@@ -180,8 +166,8 @@ fn some_holds(alloc: Global, known: &BTreeSet<String>, parts: &[Datum]) -> Resul
 /// Whether the one requirement doesn't hold.
 #[cycle(requirements)]
 fn none_holds(alloc: Global, known: &BTreeSet<String>, parts: &[Datum]) -> Result<bool, ShapeFault>
-    ensures { (all : List (List ℕ)) → ((s : List ℕ) → contains_text known.now s ≡ has_name all s) → (place : ℕ → Occ) →
-        Reads (λ b. b) result (none_holds (λ s. s) (knows all) (trees_at place parts.now)) }
+    ensures { (has : Known) → Knows known.now has → (place : ℕ → Occ) →
+        Reads (λ b. b) result (none_holds (λ s. s) has (trees_at place parts.now)) }
 {
     match row_of(parts) {
         Row::Empty => Err(ShapeFault::BadForm),
@@ -202,8 +188,8 @@ pub fn clause_holds(
     datum: &Datum,
     last: bool,
 ) -> Result<bool, ShapeFault>
-    ensures { (all : List (List ℕ)) → ((s : List ℕ) → contains_text known.now s ≡ has_name all s) → (place : ℕ → Occ) (later : Trees (List ℕ)) → is_empty later ≡ last →
-        Reads (λ b. b) result (clause_holds (λ s. s) (knows all) (tree_at place datum.now) later) }
+    ensures { (has : Known) → Knows known.now has → (place : ℕ → Occ) (later : Trees (List ℕ)) → is_empty later ≡ last →
+        Reads (λ b. b) result (clause_holds (λ s. s) has (tree_at place datum.now) later) }
 {
     if is_else(datum) {
         if last {

@@ -7,8 +7,8 @@ use crate::trees::begin;
 use datum_reader::read_all;
 use import_sets::{ImportFault, ImportSet, NamePair, SetName, entries_of};
 use library_table::{
-    ExportFault, ExportSpec, ImportSpec, LibraryFault, UnitForm, UnitSource, exports_of, order,
-    read_program, read_unit, repeated,
+    ExportFault, ExportSpec, ImportSpec, KnownLibraries, LibraryFault, UnitForm, UnitSource,
+    exports_of, order, read_program, read_unit, repeated,
 };
 use ls_base::{Items, Span, Text};
 use serde_json::Value;
@@ -40,7 +40,7 @@ fn unit_of(
         return Ok(Ok(program));
     }
     match data.as_slice().last() {
-        Some(datum) => Ok(read_unit(alloc, datum, 0, known)),
+        Some(datum) => Ok(read_unit(alloc, datum, 0, &KnownLibraries::of(alloc, known)?)),
         None => Err(RowFault::NotShown),
     }
 }

@@ -6,7 +6,7 @@ ghost use Rattle.base_library.specs.Texts.{name_text};
 use crate::documents::Document;
 use datum_reader::heads::is_headed;
 use datum_reader::{Datum, Shape};
-use library_table::{LibraryFault, read_unit};
+use library_table::{KnownLibraries, LibraryFault, read_unit};
 use ls_base::{Items, Mem, Memory, Text};
 use std::alloc::Global;
 
@@ -69,7 +69,8 @@ pub fn library_name(alloc: Global, datum: &Datum) -> Mem<Option<Text>> {
         return Ok(None);
     }
     let front = front_of(alloc, datum)?;
-    match read_unit(alloc, &front, 0, &Items::new(alloc)) {
+    let none = KnownLibraries::of(alloc, &Items::new(alloc))?;
+    match read_unit(alloc, &front, 0, &none) {
         Ok(source) => Ok(source.name),
         Err(LibraryFault::Memory) => Err(Memory),
         Err(_) => Ok(None),

@@ -12,7 +12,7 @@ use crate::documents::Document;
 use crate::known::library_name;
 use datum_reader::Datum;
 use datum_reader::heads::{first_token, is_headed};
-use library_table::{LibraryFault, UnitForm, UnitSource, read_program, read_unit};
+use library_table::{KnownLibraries, LibraryFault, UnitForm, UnitSource, read_program, read_unit};
 use ls_base::limits::MAX_UNITS;
 use ls_base::{Items, Mem, Memory, Span, Text};
 use std::alloc::Global;
@@ -39,7 +39,7 @@ pub struct Units {
 }
 
 /// The units of all documents.
-pub fn list_units(alloc: Global, documents: &[Document], known: &Items<Text>) -> Mem<Units>
+pub fn list_units(alloc: Global, documents: &[Document], known: &KnownLibraries) -> Mem<Units>
     requires { AreReadIn documents.now }
     ensures { IfOk result (IsSound (length documents.now)) }
 {
@@ -60,7 +60,7 @@ fn add_libraries(
     units: &mut Units,
     document: usize,
     items: &[Datum],
-    known: &Items<Text>,
+    known: &KnownLibraries,
 ) -> Mem<()>
     requires units { IsSound (document + 1) units.old }
     requires read { DataWereRead items.now }
@@ -80,7 +80,7 @@ fn add_library(
     units: &mut Units,
     document: usize,
     datum: &Datum,
-    known: &Items<Text>,
+    known: &KnownLibraries,
 ) -> Mem<()>
     requires units { IsSound (document + 1) units.old }
     requires read { WasRead (datum_of datum.now) }

@@ -21,6 +21,7 @@ use crate::prelude::begin;
 use core_tree::units::{Program, Unit};
 use document_store::Store;
 use expander::Libraries;
+use library_table::KnownLibraries;
 use ls_base::{Items, Mem, Steps};
 use std::alloc::Global;
 use std::mem;
@@ -45,7 +46,8 @@ pub fn read_program<L: Ledger>(alloc: Global, store: &Store, steps: &mut Steps<L
 {
     let documents = read(alloc, store)?;
     let known = known(alloc, documents.as_slice())?;
-    let mut units = list_units(alloc, documents.as_slice(), &known)?;
+    let libraries = KnownLibraries::of(alloc, &known)?;
+    let mut units = list_units(alloc, documents.as_slice(), &libraries)?;
     let firsts: Firsts = firsts(alloc, units.sources.as_slice())?;
     let order = judge(alloc, &mut units, &firsts)?;
     let mut bench = begin(alloc)?;

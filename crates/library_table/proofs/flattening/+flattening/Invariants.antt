@@ -1,10 +1,9 @@
-use Rattle.std.proofs.Common.{◌≡◌, ◌+◌, ◌*◌, ℕ, List, Option}
+use Rattle.std.proofs.Common.{◌≡◌, ◌+◌, ◌*◌, Option}
 use Rattle.std.specs.Option.{is_some}
-use Rattle.std.specs.BTreeSet.{contains_text}
 use Rattle.scheme_model.specs.Data.{Datum}
-use Rattle.scheme_model.specs.Program.{has_name}
 use Rattle.datum_reader.specs.Views.{datum_of, data_of}
-use Rattle.library_table.specs.PartsRead.{knows}
+use Rattle.scheme_model.specs.Requirements.{Known}
+use Rattle.library_table.specs.PartsRead.{Knows}
 use Rattle.library_table.specs.Weights.{weight, row_weight}
 use Rattle.library_table.proofs.FlatRows.{FlatUpTo}
 use Rattle.library_table.proofs.flattening.+flattening.Given as goal
@@ -25,5 +24,5 @@ abbrev pub decreases-choice : goal.decreases-choice
 decreases-choice l = 4 * row_weight (data_of l.rest.now) + 2
 
 abbrev pub invariant-declarations-loop-part : goal.invariant-declarations-loop-part
-invariant-declarations-loop-part l = (all : List (List ℕ)) → ((s : List ℕ) → contains_text l.known s ≡ has_name all s) → (end : Option Datum) → is_some end ≡ l.dotted →
-    FlatUpTo (knows all) (datum_of l.whole) l.parts end l.part-index l.initial.forms.items l.forms.items
+invariant-declarations-loop-part l = (has : Known) → Knows l.known has → (end : Option Datum) → is_some end ≡ l.dotted →
+    FlatUpTo has (datum_of l.whole) l.parts end l.part-index l.initial.forms.items l.forms.items

@@ -6,7 +6,6 @@ use Rattle.scheme_model.specs.Data.{row}
 use Rattle.datum_reader.specs.declared.datum.Datum as code
 use Rattle.datum_reader.specs.Views.{data_of}
 use Rattle.datum_reader.specs.Looks.{end_with}
-use Rattle.library_table.specs.PartsRead.{knows}
 use Rattle.library_table.proofs.ClauseRows.{picks, chooses_dotted}
 use Rattle.library_table.proofs.ChoiceRows.{last_is, requirement_stops, chosen_more, all_same, chosen_end, choice_err, lighter_more, some_weight}
 use Rattle.library_table.proofs.flattening.chosen.Goals as goal
@@ -16,18 +15,18 @@ abbrev alone : ℕ → Occ
 alone n = record { unit = 0; form = 0; token = n }
 
 pub returns-then-dotted-clause-whole : goal.returns-then-dotted-clause-whole
-returns-then-dotted-clause-whole c = λ all k d end e. chooses_dotted (knows all) d c.args.parts.now end (e ∙ c.if-dotted.true)
+returns-then-dotted-clause-whole c = λ has k d end e. chooses_dotted has d c.args.parts.now end (e ∙ c.if-dotted.true)
 
 pub returns-in_err-hold-clause-whole : goal.returns-in_err-hold-clause-whole
-returns-in_err-hold-clause-whole c = λ all k d end e.
+returns-in_err-hold-clause-whole c = λ has k d end e.
     let ds = c.args.parts.now in
     let i = c.loop-place.place in
     let cl = c.in-Some.clause in
     let some : 0 < length ds = omega arith in
     let r = row (data_of ds) (end_with end) in
-    choice_err (knows all) d c.from_residual.result c.in_err-hold.field-0.0 r c.from_residual.ensures.1
-    (requirement_stops (knows all) d ds i c.index-parts-place.result c.loop-place.chosen (omega arith) c.index-parts-place.is (c.loop-place.invariant.whole all k d) cl.requirement.now cl.forms.now (c.in-Some.ensures.0 (knows all) d) c.in_err-hold.field-0.0
-    (λ later q. c.in_err-hold.ensures all k alone later (q ∙ last_is ds (i + 1) _ (omega arith) refl)) r (all_same (knows all) d ds end (e ∙ c.if-dotted.false) some))
+    choice_err has d c.from_residual.result c.in_err-hold.field-0.0 r c.from_residual.ensures.1
+    (requirement_stops has d ds i c.index-parts-place.result c.loop-place.chosen (omega arith) c.index-parts-place.is (c.loop-place.invariant.whole has k d) cl.requirement.now cl.forms.now (c.in-Some.ensures.0 has d) c.in_err-hold.field-0.0
+    (λ later q. c.in_err-hold.ensures has k alone later (q ∙ last_is ds (i + 1) _ (omega arith) refl)) r (all_same has d ds end (e ∙ c.if-dotted.false) some))
 
 pub loop-place-preserved : goal.loop-place-preserved
 loop-place-preserved c =
@@ -35,24 +34,24 @@ loop-place-preserved c =
     let i = c.loop-place.place in
     let cl = c.in-Some.clause in
     record {
-      whole = λ all k d. chosen_more (knows all) d ds i c.index-parts-place.result c.loop-place.chosen (omega arith) c.index-parts-place.is (c.loop-place.invariant.whole all k d) cl.requirement.now cl.forms.now (c.in-Some.ensures.0 (knows all) d) c.in_ok-hold.hold
-          c.or_these-chosen.result (λ later q. c.in_ok-hold.ensures all k alone later (q ∙ last_is ds (i + 1) _ (omega arith) refl)) c.or_these-chosen.ensures;
+      whole = λ has k d. chosen_more has d ds i c.index-parts-place.result c.loop-place.chosen (omega arith) c.index-parts-place.is (c.loop-place.invariant.whole has k d) cl.requirement.now cl.forms.now (c.in-Some.ensures.0 has d) c.in_ok-hold.hold
+          c.or_these-chosen.result (λ later q. c.in_ok-hold.ensures has k alone later (q ∙ last_is ds (i + 1) _ (omega arith) refl)) c.or_these-chosen.ensures;
       smaller = lighter_more ds i c.index-parts-place.result c.loop-place.chosen c.in_ok-hold.hold cl c.or_these-chosen.result (omega arith) c.index-parts-place.is c.in-Some.ensures c.loop-place.invariant.smaller c.or_these-chosen.ensures;
     }
 
 pub returns-in-None-clause-whole : goal.returns-in-None-clause-whole
-returns-in-None-clause-whole c = λ all k d end e.
+returns-in-None-clause-whole c = λ has k d end e.
     let ds = c.args.parts.now in
     let some : 0 < length ds = grind (arith, nat_tests) in
-    all_same (knows all) d ds end (e ∙ c.if-dotted.false) some ∙ chosen_end (knows all) d ds c.loop-place.place c.loop-place.chosen (omega arith) (c.loop-place.invariant.whole all k d)
-    ∙ ap (λ (o : Option (Bor (List code.Datum))). picks (knows all) d o (Ok (Ok []))) c.in-None.is
+    all_same has d ds end (e ∙ c.if-dotted.false) some ∙ chosen_end has d ds c.loop-place.place c.loop-place.chosen (omega arith) (c.loop-place.invariant.whole has k d)
+    ∙ ap (λ (o : Option (Bor (List code.Datum))). picks has d o (Ok (Ok []))) c.in-None.is
 
 pub returns-in-None-clause-smaller : goal.returns-in-None-clause-smaller
 returns-in-None-clause-smaller c = some_weight c.args.parts.now (grind (arith, nat_tests))
 
 pub returns-in-Some-chosen-clause-whole : goal.returns-in-Some-chosen-clause-whole
-returns-in-Some-chosen-clause-whole c = λ all k d end e.
+returns-in-Some-chosen-clause-whole c = λ has k d end e.
     let ds = c.args.parts.now in
     let some : 0 < length ds = grind (arith, nat_tests) in
-    all_same (knows all) d ds end (e ∙ c.if-dotted.false) some ∙ chosen_end (knows all) d ds c.loop-place.place c.loop-place.chosen (omega arith) (c.loop-place.invariant.whole all k d)
-    ∙ ap (λ (o : Option (Bor (List code.Datum))). picks (knows all) d o (Ok (Ok []))) c.in-Some-chosen.is
+    all_same has d ds end (e ∙ c.if-dotted.false) some ∙ chosen_end has d ds c.loop-place.place c.loop-place.chosen (omega arith) (c.loop-place.invariant.whole has k d)
+    ∙ ap (λ (o : Option (Bor (List code.Datum))). picks has d o (Ok (Ok []))) c.in-Some-chosen.is

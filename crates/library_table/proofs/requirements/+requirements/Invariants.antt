@@ -1,12 +1,10 @@
-use Rattle.std.proofs.Common.{◌≡◌, ℕ, ◌*◌, ◌+◌, Bool, List, drop}
+use Rattle.std.proofs.Common.{◌≡◌, ℕ, ◌*◌, ◌+◌, Bool, drop}
 use Rattle.std.specs.Prelude.{◌&&◌, ◌||◌}
-use Rattle.std.specs.BTreeSet.{contains_text}
 use Rattle.scheme_model.specs.declared.Occ.{Occ}
-use Rattle.scheme_model.specs.Requirements.{all_hold, some_holds}
-use Rattle.scheme_model.specs.Program.{has_name}
+use Rattle.scheme_model.specs.Requirements.{Known, all_hold, some_holds}
 use Rattle.datum_reader.specs.Views.{datum_of, data_of}
 use Rattle.datum_reader.specs.Looks.{trees_at}
-use Rattle.library_table.specs.PartsRead.{map_ok, knows}
+use Rattle.library_table.specs.PartsRead.{Knows, map_ok}
 use Rattle.library_table.specs.Weights.{weight, row_weight}
 use Rattle.library_table.proofs.requirements.+requirements.Given as goal
 
@@ -29,9 +27,9 @@ abbrev pub decreases-none_holds : goal.decreases-none_holds
 decreases-none_holds l = 4 * row_weight (data_of l.parts.now) + 1
 
 abbrev pub invariant-all_hold-loop-part : goal.invariant-all_hold-loop-part
-invariant-all_hold-loop-part l = (all : List (List ℕ)) → ((s : List ℕ) → contains_text l.known s ≡ has_name all s) → (place : ℕ → Occ) →
-    all_hold (λ s. s) (knows all) (trees_at place l.parts) ≡ map_ok (λ (b : Bool). l.hold && b) (all_hold (λ s. s) (knows all) (trees_at place (drop l.part-index l.parts)))
+invariant-all_hold-loop-part l = (has : Known) → Knows l.known has → (place : ℕ → Occ) →
+    all_hold (λ s. s) has (trees_at place l.parts) ≡ map_ok (λ (b : Bool). l.hold && b) (all_hold (λ s. s) has (trees_at place (drop l.part-index l.parts)))
 
 abbrev pub invariant-some_holds-loop-part : goal.invariant-some_holds-loop-part
-invariant-some_holds-loop-part l = (all : List (List ℕ)) → ((s : List ℕ) → contains_text l.known s ≡ has_name all s) → (place : ℕ → Occ) →
-    some_holds (λ s. s) (knows all) (trees_at place l.parts) ≡ map_ok (λ (b : Bool). l.hold || b) (some_holds (λ s. s) (knows all) (trees_at place (drop l.part-index l.parts)))
+invariant-some_holds-loop-part l = (has : Known) → Knows l.known has → (place : ℕ → Occ) →
+    some_holds (λ s. s) has (trees_at place l.parts) ≡ map_ok (λ (b : Bool). l.hold || b) (some_holds (λ s. s) has (trees_at place (drop l.part-index l.parts)))
