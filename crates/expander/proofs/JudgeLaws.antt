@@ -255,11 +255,12 @@ puts_end ts k old new h u =
 -- a name and its text by its first part and the others
 pub row_name : (t : Tree Identifier) (ts : Trees Identifier) (p : LibraryPart) (ps : LibraryName) (a b c : List ℕ) (d : String Global) → part_of symbol_of t ≡ Ok p → parts_of symbol_of ts ≡ Ok ps →
     a ≡ 40 ∷ [] → b ≡ a ++ part_text p → c ≡ b ++ behind_spaces ps → string_bytes d ≡ c ++ 41 ∷ [] → IsProperPart p → AreProper ps → ReadsName (Ok d) (parts_of symbol_of (tree t ts))
-row_name t ts p ps a b c d first others e f g h is are =
-    (p ∷ ps,
-    ap (λ r. r >> λ q. parts_of symbol_of ts >> λ qs. Ok (q ∷ qs)) first ∙ ap (λ r. r >> λ qs. Ok (p ∷ qs)) others,
-    h ∙ ap (λ (x : List ℕ). x ++ 41 ∷ []) (g ∙ ap (λ (x : List ℕ). x ++ behind_spaces ps) (f ∙ ap (λ (x : List ℕ). x ++ part_text p) e)),
-    (is, are))
+row_name t ts p ps a b c d first others e f g h is are = (
+  p ∷ ps,
+  ap (λ r. r >> λ q. parts_of symbol_of ts >> λ qs. Ok (q ∷ qs)) first ∙ ap (λ r. r >> λ qs. Ok (p ∷ qs)) others,
+  h ∙ ap (λ (x : List ℕ). x ++ 41 ∷ []) (g ∙ ap (λ (x : List ℕ). x ++ behind_spaces ps) (f ∙ ap (λ (x : List ℕ). x ++ part_text p) e)),
+  (is, are),
+)
 
 -- the fault of the first part, or of a later one
 pub row_first_fails : (e : ShapeFault) (t : Tree Identifier) (ts : Trees Identifier) → Fails e (part_of symbol_of t) → Fails e (parts_of symbol_of (tree t ts))

@@ -20,8 +20,40 @@ AreAllProper (l ∷ ls) = IsProper l.name × AreAllProper ls
 
 pub standard_proper : AreAllProper standard_libraries
 unfolding standard_libraries
-standard_proper =
-    (scheme_proper (codes "base") refl, (scheme_proper (codes "case-lambda") refl, (scheme_proper (codes "char") refl, (scheme_proper (codes "complex") refl,
-    (scheme_proper (codes "cxr") refl, (scheme_proper (codes "eval") refl, (scheme_proper (codes "file") refl, (scheme_proper (codes "inexact") refl,
-    (scheme_proper (codes "lazy") refl, (scheme_proper (codes "load") refl, (scheme_proper (codes "process-context") refl, (scheme_proper (codes "read") refl,
-    (scheme_proper (codes "repl") refl, (scheme_proper (codes "time") refl, (scheme_proper (codes "write") refl, tt)))))))))))))))
+standard_proper = (
+  scheme_proper (codes "base") refl,
+  (
+    scheme_proper (codes "case-lambda") refl,
+    (
+      scheme_proper (codes "char") refl,
+      (
+        scheme_proper (codes "complex") refl,
+        (
+          scheme_proper (codes "cxr") refl,
+          (
+            scheme_proper (codes "eval") refl,
+            (
+              scheme_proper (codes "file") refl,
+              (
+                scheme_proper (codes "inexact") refl,
+                (
+                  scheme_proper (codes "lazy") refl,
+                  (
+                    scheme_proper (codes "load") refl,
+                    (
+                      scheme_proper (codes "process-context") refl,
+                      (
+                        scheme_proper (codes "read") refl,
+                        (scheme_proper (codes "repl") refl, (scheme_proper (codes "time") refl, (scheme_proper (codes "write") refl, tt))),
+                      ),
+                    ),
+                  ),
+                ),
+              ),
+            ),
+          ),
+        ),
+      ),
+    ),
+  ),
+)
