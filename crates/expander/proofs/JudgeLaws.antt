@@ -37,7 +37,7 @@ use Rattle.core_forms.proofs.Reading.{after, after_none, after_one, then_ok}
 use Rattle.expander.specs.declared.requirements.ShapeFault.{ShapeFault}
 use Rattle.expander.specs.declared.requirements.ShapeFault.TheVariants as fault
 use Rattle.expander.specs.declared.requirements.Connective.TheVariants as word
-use Rattle.scheme_tokens.specs.LibraryNames.{IsProperPart, AreProper, IsProper}
+use Rattle.scheme_tokens.specs.LibraryNames.{IsProperPart, AreProper}
 use Rattle.expander.specs.Judged.{Knows, Fails, Reads, Puts, PutsAll, ReadsPart, ReadsName, map_ok, part_text, behind_spaces, library_text, name_in_list, library_holds, word_holds, by_connective, clause_judged}
 
 -- ---- answers

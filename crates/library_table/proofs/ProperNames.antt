@@ -1,12 +1,12 @@
 -- Names that are read are proper: a requirement is met as a set of texts knows libraries, and what a datum is as a library rests on
 -- which proper names there are, and on no others.
-use Rattle.std.proofs.Common.{◌≡◌, ℕ, Bool, true, false, cond, List, [], ◌∷◌, ◌++◌, length, arith, Option, Some, None, Result, Ok, Err, IfOk, refl, sym, ap, ◌∙◌}
+use Rattle.std.proofs.Common.{◌≡◌, ℕ, Bool, true, cond, List, [], ◌∷◌, length, arith, Option, Result, Ok, Err, IfOk, refl, sym, ap, ◌∙◌}
 use Rattle.std.specs.Prelude.{◌&&◌, ◌||◌, not, codes, String}
 use Rattle.std.specs.declared.alloc.Global.{Global}
 use Rattle.std.specs.BTreeSet.{BTreeSet, contains_text}
 use Rattle.std.specs.Str.{bytes_eq}
 use Rattle.scheme_model.specs.Data.{Datum, atom as atom_datum, list as list_datum, vector as vector_datum, bytes, Data, none, part, tail, place_of}
-use Rattle.scheme_model.specs.Trees.{Tree, name, atom, list, vector, Trees, no_trees, tree, Tail, proper, dotted}
+use Rattle.scheme_model.specs.Trees.{Tree, name, atom, list, vector, Trees, no_trees, tree, proper, dotted}
 use Rattle.scheme_model.specs.ExpansionFaults.{Fault, BadForm, ◌>>◌}
 use Rattle.scheme_model.specs.Shapes.{one_of}
 use Rattle.scheme_model.specs.Requirements.{LibraryName, Known, library_name_of, holds, all_hold, some_holds, none_holds, is_else, clause_holds}

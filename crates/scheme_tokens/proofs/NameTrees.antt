@@ -1,16 +1,15 @@
 -- The name that a tree is has a part at least, and proper ones, where the tree's symbols are the bytes of their characters.
-use Rattle.std.proofs.Common.{◌≡◌, ℕ, Bool, true, false, cond, List, [], ◌∷◌, Result, Ok, Err, IfOk, refl, sym}
+use Rattle.std.proofs.Common.{◌≡◌, ℕ, Bool, true, false, cond, List, [], ◌∷◌, Result, Ok, Err, IfOk, refl}
 use Rattle.std.specs.List.{list_all}
 use Rattle.std.specs.Char.{is_ascii_digit}
-use Rattle.std.specs.Str.{encode_utf8_all}
 use Rattle.scheme_model.specs.declared.Occ.{Occ}
 use Rattle.scheme_model.specs.Kinds.{Mark, Quote, Quasi, Unquote, Splice, Name, Numeral as NumeralLeaf, Quoted as QuotedLeaf, Character as CharacterLeaf, Truth}
 use Rattle.scheme_model.specs.Data.{Atom, spelled, implied, Datum, atom as atom_datum, list as list_datum, vector as vector_datum, bytes, Data, none, part, tail}
 use Rattle.scheme_model.specs.DataTrees as trees
 use Rattle.scheme_model.specs.Declarations.{symbol_tree}
-use Rattle.scheme_model.specs.Trees.{Numeral, Quoted, Character, Boolean, Bytes, Tree, name, atom, list, vector, Trees, no_trees, tree, Tail, proper, dotted}
+use Rattle.scheme_model.specs.Trees.{Numeral, Quoted, Character, Boolean, Bytes, Tree, name, atom, list, vector, Trees, no_trees, tree, proper, dotted}
 use Rattle.scheme_model.specs.ExpansionFaults.{Fault, BadForm, ◌>>◌}
-use Rattle.scheme_model.specs.Requirements.{LibraryPart, Symbol, Digits, LibraryName, part_in, part_of, parts_of, library_name_of}
+use Rattle.scheme_model.specs.Requirements.{LibraryPart, Digits, LibraryName, part_of, parts_of, library_name_of}
 use Rattle.scheme_tokens.specs.Symbols.{IsEncoded, HasEncoded, HaveEncoded, TailEncoded}
 use Rattle.scheme_tokens.specs.LibraryNames.{IsProperPart, AreProper, IsProper}
 use Rattle.scheme_tokens.proofs.Decoded.{bytes_encoded, is_encoded}

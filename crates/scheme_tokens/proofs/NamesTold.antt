@@ -1,6 +1,5 @@
 -- Proper names with one text are one name.
-use Rattle.std.proofs.Common.{◌≡◌, ℕ, List, [], ◌∷◌, ◌++◌, refl, sym, ap, ◌∙◌, subst, arith, inl, inr}
-use Rattle.std.specs.Str.{encode_utf8_all}
+use Rattle.std.proofs.Common.{◌≡◌, ℕ, List, [], ◌∷◌, ◌++◌, refl, sym, ◌∙◌, subst, arith, inl, inr}
 use Rattle.std.proofs.lemmas.Str.{encodes_same}
 use Rattle.scheme_model.specs.Requirements.{LibraryName}
 use Rattle.scheme_tokens.specs.LibraryNames.{part_text, behind_spaces, library_text, AreProper, IsProper}
