@@ -21,7 +21,7 @@ abbrev AllProper : List LibraryName → Type 0
 AllProper [] = Unit {0}
 AllProper (n ∷ ns) = IsProper n × AllProper ns
 
-abbrev IfProper : Option LibraryName → Type 0
+abbrev pub IfProper : Option LibraryName → Type 0
 IfProper None = Unit {0}
 IfProper (Some n) = IsProper n
 
@@ -29,7 +29,7 @@ or_proper : (r : Result LibraryName (Fault (List ℕ))) → IfOk r IsProper → 
 or_proper (Ok n) h = h
 or_proper (Err e) h = tt
 
-unit_proper : (known : Known) (d : Datum) (ds : Data) → IfProper (library_with known d ds).name
+pub unit_proper : (known : Known) (d : Datum) (ds : Data) → IfProper (library_with known d ds).name
 unit_proper known d none = tt
 unit_proper known d (tail e) = tt
 unit_proper known d (part n ds) = or_proper (library_name_of (λ s. s) (symbol_tree n)) (datum_name_proper n)

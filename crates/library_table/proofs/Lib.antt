@@ -20,3 +20,4 @@ mod LibraryRows
 mod PlaceLaws
 mod ProperNames
 pub mod KnownTexts
+pub mod SpelledSources
