@@ -36,7 +36,7 @@ echo 'expand_timed: workspace_state datum_reader core_tree ls_base' >> "$work/cr
 cat > "$timed/src/main.rt" <<'RATTLE'
 //! Reads a program from standard input, and times how long it takes to read its data, and to take it into a workspace.
 #![tactic(auto)]
-ghost use Rattle.std.specs.Prelude.{length, ◌<◌, ◌^◌};
+ghost use Rattle.std.specs.Prelude.{◌≡◌, ◌<◌, ◌^◌, length};
 
 use datum_reader::read_all;
 use ls_base::limits::MAX_TEXT;
@@ -78,8 +78,23 @@ fn opened(alloc: Global, text: &str) -> Mem<DocEvent> {
     })
 }
 
+/// Takes an event in.
+fn taken_in<L: Ledger>(blank: Blank, workspace: &mut Workspace, event: &DocEvent) -> Mem<Updated>
+    requires name { blank.name ≡ L.name }
+    requires parts { blank.parts ≡ L.parts }
+    requires some { 0 < blank.parts }
+{
+    let mut steps = Steps::<L>::new(blank);
+    Ok(workspace.update(event, &mut steps)?)
+}
+
+/// The same, with a count of steps of its own.
+fn updated(workspace: &mut Workspace, event: &DocEvent) -> Mem<Updated> {
+    Ok(taken_in::<Brand>(Blank::new(1), workspace, event)?)
+}
+
 /// The microseconds of reading a text and of taking it in, and how many items and diagnostics it has.
-fn times<L: Ledger>(alloc: Global, clock: &impl Clock, blank: Blank, text: &str) -> Option<(u128, u128, usize, usize)>
+fn times(alloc: Global, clock: &impl Clock, text: &str) -> Option<(u128, u128, usize, usize)>
     requires { length text.now < 2 ^ 32 }
 {
     let start = Instant::now(clock).ok()?;
@@ -87,10 +102,9 @@ fn times<L: Ledger>(alloc: Global, clock: &impl Clock, blank: Blank, text: &str)
     let reading = start.elapsed(clock).ok()?;
     data.ok()?;
     let event = opened(alloc, text).ok()?;
-    let mut steps = Steps::<L>::new(blank);
     let mut workspace = Workspace::new(alloc).ok()?;
     let start = Instant::now(clock).ok()?;
-    let updated = workspace.update(&event, &mut steps);
+    let updated = updated(&mut workspace, &event);
     let taking = start.elapsed(clock).ok()?;
     let found = diagnostics(&updated.ok()?);
     Some((reading.as_micros(), taking.as_micros(), items(&workspace), found))
@@ -102,12 +116,20 @@ fn main(rt: HostRuntime) -> io::Result<()> {
     if text.len() > MAX_TEXT {
         return println!(rt; "too long");
     }
-    match times::<Brand>(alloc, &rt, Blank::new(1), text.as_str()) {
+    match times(alloc, &rt, text.as_str()) {
         Some((reading, taking, items, found)) => println!(rt; "{reading} {taking} {items} {found}"),
         None => println!(rt; "not expanded"),
     }
 }
 RATTLE
+
+mkdir -p "$timed/proofs/updated"
+cat > "$timed/proofs/updated/Invariants.antt" <<'ANTT'
+use Rattle.expand_timed.proofs.updated.Given as goal
+
+abbrev pub ghosts-taken_in : goal.ghosts-taken_in
+ghosts-taken_in a = record { name = a.blank.name; parts = a.blank.parts }
+ANTT
 
 echo "building the timed program .." >&2
 (cd "$timed" && rt run < /dev/null) > "$work/build.log" 2>&1 || { tail -20 "$work/build.log" >&2; exit 1; }
