@@ -195,7 +195,7 @@ module _ {E A L S : Type 0} (ops : Ops E A L S) (turns : ℕ) (e : E) where
 -- ---- what a form set aside
 
 -- parts behind parts
-pub parts_join : Parts → Parts → Parts
+abbrev pub parts_join : Parts → Parts → Parts
 parts_join no_parts qs = qs
 parts_join (part p ps) qs = part p (parts_join ps qs)
 
@@ -208,7 +208,6 @@ module _ {A S : Type 0} (f : Item A → Step S Part) where
   as_done (Err b, s) = refl
 
   put_first : (p : Part) (q : Result Parts Broken × S) (ps : Parts) → ((q >>= λ qs. done (parts_join ps qs)) >>= λ x. done (part p x)) ≡ (q >>= λ qs. done (parts_join (part p ps) qs))
-  unfolding parts_join
   put_first p (Ok qs, u) ps = refl
   put_first p (Err b, u) ps = refl
 
@@ -224,7 +223,6 @@ module _ {A S : Type 0} (f : Item A → Step S Part) where
   behind is js (Err b, t) later = refl
 
   parts_append : (is js : List (Item A)) (s : S) → parts f (is ++ js) s ≡ (parts f is s >>= λ ps u. parts f js u >>= λ qs. done (parts_join ps qs))
-  unfolding parts_join
   parts_append [] js s = as_done (parts f js s)
   parts_append (i ∷ is) js s = behind is js (f i s) (λ t. parts_append is js t)
 
