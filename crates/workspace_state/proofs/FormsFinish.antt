@@ -367,16 +367,16 @@ module _ (old b : Bench) (unit form : ℕ) (d : code.Declared) (none : d.fault �
   x_at = subst (λ (ys : List code_item.Item). slice_get ys k ≡ Some x) whole (item_at xs k x low ∙ ap (λ (y : code_item.Item). Some y) (sym is))
 
   -- the item that it stands for
-  record Here (is : List (Item Identifier)) : Type 0 where
+  record Here (set : List (Item Identifier)) : Type 0 where
     item : Item Identifier
-    there : slice_get is k ≡ Some item
+    there : slice_get set k ≡ Some item
     stands : ItemFor b.work b.region b.scope.unit form x item
     binds : ItemBinds false item
 
-  item_is : (known : Known) (s : ScopedState) (is : List (Item Identifier)) → IsDeclared old.work old.region unit form s d (Ok is) → Finishing old b known unit form (Ok (take k is)) s start total before trace items → Here is
-  item_is known s is h f =
-      let i = item_there old b unit form s d is h none stay.trees stay.names stay.region k x x_at in
-      record { item = i.0; there = i.1; stands = item_here old b known unit form (Ok (take k is)) s start total before trace items f x i.0 i.2; binds = i.3 }
+  item_is : (known : Known) (s : ScopedState) (set : List (Item Identifier)) → IsDeclared old.work old.region unit form s d (Ok set) → Finishing old b known unit form (Ok (take k set)) s start total before trace items → Here set
+  item_is known s set h f =
+      let i = item_there old b unit form s d set h none stay.trees stay.names stay.region k x x_at in
+      record { item = i.0; there = i.1; stands = item_here old b known unit form (Ok (take k set)) s start total before trace items f x i.0 i.2; binds = i.3 }
 
   abbrev all_known : Known
   all_known = known_by old.scope.libraries
@@ -386,53 +386,53 @@ module _ (old b : Bench) (unit form : ℕ) (d : code.Declared) (none : d.fault �
 
   module _ (c : Bench) (after : Budget) (next : Trace) (trees : KeepsTrees b.work c.work) (names : KeepsNames b.work.symbols c.work.symbols) (added : AddsIn b.work c.work b.region) (regions : SameRegions b.work c.work) (same : c.region ≡ b.region) where
     pub ok_finishes : (y : ExpandedItem) → nat_lt max_total total ≡ false → Step b c form before after trace next x (Ok y) → Continues old c unit form d (suc k) start (total + y.count) after next (items ++ y ∷ [])
-    ok_finishes y few step known ls s notes (Err e) knows stands own h = no_fault old.work old.region unit form s d e h none
-    ok_finishes y few step known ls s notes (Ok is) knows stands own h =
+    ok_finishes y few call known ls s notes (Err e) knows stands own h = no_fault old.work old.region unit form s d e h none
+    ok_finishes y few call known ls s notes (Ok is) knows stands own h =
         let f = so known ls s notes (Ok is) knows stands own h in
         let i = item_is known s is h f in
         subst (λ (js : List (Item Identifier)). Finishing old c known unit form (Ok js) s start (total + y.count) after next (items ++ y ∷ [])) (sym (take_next is k i.item i.there))
-        (item_finished known old b c unit form (take k is) s start total before after trace next items f i.item trees names same y i.binds few (step known f.layout f.state f.notes i.item (stay.libraries known knows) f.stands f.counts i.stands))
+        (item_finished known old b c unit form (take k is) s start total before after trace next items f i.item trees names same y i.binds few (call known f.layout f.state f.notes i.item (stay.libraries known knows) f.stands f.counts i.stands))
 
     pub at_finishes : (e : FormFault) (more : ℕ) → more + before.nodes ≡ total + after.nodes → nat_lt max_total total ≡ false → Step b c form before after trace next x (Err (fault.At e)) →
         (q : code_form.UnitForm) → q.fault ≡ Some e → q.trace.definitions ≡ next.definitions → Finished old c unit form d start more q
-    at_finishes e more nodes few step q told defines known ls s notes (Err x) knows stands own h = no_fault old.work old.region unit form s d x h none
-    at_finishes e more nodes few step q told defines known ls s notes (Ok is) knows stands own h =
+    at_finishes e more nodes few call q told defines known ls s notes (Err x) knows stands own h = no_fault old.work old.region unit form s d x h none
+    at_finishes e more nodes few call q told defines known ls s notes (Ok is) knows stands own h =
         let f = so known ls s notes (Ok is) knows stands own h in
         let i = item_is known s is h f in
         subst (λ (js : List (Item Identifier)). FinishesForm old c known unit form (Ok js) s start more q) (parted_at is k i.item i.there)
         (broken_now known old b c unit form (take k is) s start total before after trace next items f i.item trees names same (drop (suc k) is) e q more nodes few told defines
-        (step known f.layout f.state f.notes i.item (stay.libraries known knows) f.stands f.counts i.stands))
+        (call known f.layout f.state f.notes i.item (stay.libraries known knows) f.stands f.counts i.stands))
 
     -- what the call leaves, by the state that there is
     module _ (ls : List Frames) (s : ScopedState) (notes : List (Note Place)) (stands : UnitStands old.work old.scope ls s notes) (own : s.unit ≡ unit) where
       goes_ok : (is : List (Item Identifier)) → IsDeclared old.work old.region unit form s d (Ok is) → (y : ExpandedItem) → Step b c form before after trace next x (Ok y) → Stays old c
-      goes_ok is h y step =
+      goes_ok is h y call =
           let f = so all_known ls s notes (Ok is) all_there stands own h in
           let i = item_is all_known s is h f in
-          let goes = (step all_known f.layout f.state f.notes i.item (stay.libraries all_known all_there) f.stands f.counts i.stands).2 in
+          let goes = (call all_known f.layout f.state f.notes i.item (stay.libraries all_known all_there) f.stands f.counts i.stands).2 in
           stays_on old b c stay (stays_by b c stay.opened same trees names added regions goes.units goes.libraries)
 
       goes_at : (is : List (Item Identifier)) → IsDeclared old.work old.region unit form s d (Ok is) → (e : FormFault) → Step b c form before after trace next x (Err (fault.At e)) → Stays old c × (before.nodes ≤ after.nodes)
-      goes_at is h e step =
+      goes_at is h e call =
           let f = so all_known ls s notes (Ok is) all_there stands own h in
           let i = item_is all_known s is h f in
-          let gone = step all_known f.layout f.state f.notes i.item (stay.libraries all_known all_there) f.stands f.counts i.stands in
+          let gone = call all_known f.layout f.state f.notes i.item (stay.libraries all_known all_there) f.stands f.counts i.stands in
           (stays_on old b c stay (stays_by b c stay.opened same trees names added regions gone.2.units gone.2.libraries),
           counts_more all_known old b c unit form (Ok (take k is)) s start total before after trace next items f i.item e trees gone)
 
       pub stays_ok : (r : Passing) → IsDeclared old.work old.region unit form s d r → (y : ExpandedItem) → Step b c form before after trace next x (Ok y) → Stays old c
-      stays_ok (Ok is) h y step = goes_ok is h y step
-      stays_ok (Err e) h y step = no_fault old.work old.region unit form s d e h none
+      stays_ok (Ok is) h y call = goes_ok is h y call
+      stays_ok (Err e) h y call = no_fault old.work old.region unit form s d e h none
 
       pub stays_at : (r : Passing) → IsDeclared old.work old.region unit form s d r → (e : FormFault) → Step b c form before after trace next x (Err (fault.At e)) → Stays old c × (before.nodes ≤ after.nodes)
-      stays_at (Ok is) h e step = goes_at is h e step
-      stays_at (Err b) h e step = no_fault old.work old.region unit form s d b h none
+      stays_at (Ok is) h e call = goes_at is h e call
+      stays_at (Err b) h e call = no_fault old.work old.region unit form s d b h none
 
     pub ok_stays : CanFinish old unit form d → (y : ExpandedItem) → Step b c form before after trace next x (Ok y) → Stays old c
-    ok_stays can y step = stays_ok can.layout can.state can.notes can.stands can.number can.result can.form_is y step
+    ok_stays can y call = stays_ok can.layout can.state can.notes can.stands can.number can.result can.form_is y call
 
     pub at_stays : CanFinish old unit form d → (e : FormFault) → Step b c form before after trace next x (Err (fault.At e)) → Stays old c × (before.nodes ≤ after.nodes)
-    at_stays can e step = stays_at can.layout can.state can.notes can.stands can.number can.result can.form_is e step
+    at_stays can e call = stays_at can.layout can.state can.notes can.stands can.number can.result can.form_is e call
 
   ready : (known : Known) (ls : List Frames) (s : ScopedState) (notes : List (Note Place)) (r : Passing) → Knows old.scope.libraries known → UnitStands old.work old.scope ls s notes → s.unit ≡ unit → IsDeclared old.work old.region unit form s d r →
       (i : Item Identifier) × ItemFor b.work b.region b.scope.unit form x i

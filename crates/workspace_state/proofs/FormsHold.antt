@@ -170,6 +170,10 @@ dropped_all [] (suc k) le = refl
 dropped_all (f ∷ fs) zero le = absurd (omega (arith, le))
 dropped_all (f ∷ fs) (suc k) le = dropped_all fs k (omega (arith, le))
 
+-- what a form counted that had counted nothing
+counted_on : (now was total nodes before after : ℕ) → now + before ≡ was + after → was ≡ total → before ≡ 0 → nodes ≡ after → now ≡ total + nodes
+counted_on now was total nodes before after moved so none all = omega (arith, moved, so, none, all)
+
 module _ (known : Known) (unit : ℕ) (ts : List (ℕ × Tree Identifier)) (s : ScopedState) where
   abbrev done : List (ℕ × Tree Identifier) → List (ℕ × Passing) × ScopedState
   done front = passes (searched known) enough_turns [] front [] s
@@ -251,12 +255,8 @@ module _ (known : Known) (unit : ℕ) (ts : List (ℕ × Tree Identifier)) (s : 
       counted_so =
           let here : IsAmong place (numbers_of ts) = subst (λ (xs : List (ℕ × Tree Identifier)). IsAmong place (numbers_of xs)) (sym (append_assoc a.front (tree ∷ []) behind) ∙ parted_so) (among a.front behind tree) in
           let stay = declared_stays place known (seeded unit place (datum_of f.datum)) a.base.held.notes was in
-          let moved : nodes_in (searched known) (numbers_of ts) now.1 + was.nodes place ≡ nodes_in (searched known) (numbers_of ts) was + now.1.nodes place =
-              step_counted (searched known) place was now.1 (λ m apart. (stay.counts m apart).nodes) 0 (numbers_of ts) rise here in
-          let before : nodes_in (searched known) (numbers_of ts) was ≡ total = a.ends.counted in
-          let none : was.nodes place ≡ 0 = (a.base.fresh place (omega (arith, at))).nodes in
-          let all : d.budget.nodes ≡ now.1.nodes place = n.form_is.counts.nodes in
-          omega (arith, moved, before, none, all)
+          counted_on (nodes_in (searched known) (numbers_of ts) now.1) (nodes_in (searched known) (numbers_of ts) was) total d.budget.nodes (was.nodes place) (now.1.nodes place)
+          (step_counted (searched known) place was now.1 (λ m apart. (stay.counts m apart).nodes) 0 (numbers_of ts) rise here) a.ends.counted (a.base.fresh place (omega (arith, at))).nodes n.form_is.counts.nodes
 
       next_so : PassedSo c (total + d.budget.nodes) (ds ++ d ∷ []) (suc place) left
       unfolding next_held

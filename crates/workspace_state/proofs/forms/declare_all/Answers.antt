@@ -1,9 +1,13 @@
-use Rattle.std.proofs.Common.{◌≡◌, ℕ, suc, ◌+◌, ◌≤◌, List, length, sym, ap, ◌∙◌, subst, arith}
+use Rattle.std.proofs.Common.{◌≡◌, ℕ, suc, ◌+◌, ◌≤◌, List, drop, length, sym, ap, ◌∙◌, subst, arith, true≢false}
 use Rattle.std.proofs.lemmas.List.{length_push}
+use Rattle.scheme_model.specs.Ident.{Written}
+use Rattle.scheme_model.specs.ScopedProgram.{forms_over}
+use Rattle.library_table.specs.UnitsRead.{forms_of}
 use Rattle.workspace_state.specs.declared.forms.Declared as code
 use Rattle.workspace_state.proofs.BenchLaws.{stays_itself, stays_on}
-use Rattle.workspace_state.proofs.FormsHold.{Holds, PassedFrom, none_held, next_form, none_from, next_from, can_pass, read_here, few_more}
+use Rattle.workspace_state.proofs.FormsHold.{Holds, PassedFrom, none_held, next_form, none_from, next_from, all_passed, dropped_all, can_pass, read_here, few_more}
 use Rattle.workspace_state.proofs.forms.declare_all.Goals as goal
+use Rattle.workspace_state.proofs.forms.declare_all.Goals.{else-loop-place-test, then-loop-place-test+then-is_large}
 
 pub loop-place-init : goal.loop-place-init
 loop-place-init g c = record {
@@ -57,4 +61,11 @@ pub returns-clause-stays : goal.returns-clause-stays
 returns-clause-stays g c = c.loop-place.invariant.stays
 
 pub returns-clause-passes : goal.returns-clause-passes
-returns-clause-passes g c = λ known ls s knows stands own fresh. ?
+returns-clause-passes g c = λ known ls s knows stands own fresh.
+    let l = c.loop-place in let fs = c.args.forms.now in
+    all_passed known c.args.unit (forms_over (Written c.args.unit) c.args.unit 0 (forms_of fs)) s l.bench l.total l.place l.all.items (drop l.place (forms_of fs)) (l.invariant.so known ls s knows stands own fresh)
+    (λ few.
+    elim c.loop-place-test.branch [
+      | else-loop-place-test w ↦ dropped_all fs l.place w.loop-place-test.false
+      | then-loop-place-test+then-is_large w ↦ absurd (true≢false (sym w.if-is_large.true ∙ w.is_large.ensures ∙ few))
+    ])

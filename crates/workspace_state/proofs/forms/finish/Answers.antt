@@ -1,16 +1,18 @@
 -- What a form set aside is expanded, item by item.
-use Rattle.std.proofs.Common.{◌≡◌, ℕ, suc, ◌+◌, ◌-◌, ◌≤◌, ◌<◌, List, [], length, Some, None, Err, sym, ap, ◌∙◌, subst, refl, arith, true≢false}
+use Rattle.std.proofs.Common.{◌≡◌, ℕ, suc, ◌+◌, ◌-◌, ◌≤◌, ◌<◌, List, [], length, Some, None, Err, sym, ap, ◌∙◌, subst, refl, inl, inr, arith, true≢false}
 use Rattle.std.specs.Option.{is_some}
 use Rattle.scheme_model.specs.UnitExpansion.{max_total}
 use Rattle.core_tree.specs.declared.traces.FormFault.{FormFault}
 use Rattle.core_tree.specs.declared.traces.Trace.{Trace}
 use Rattle.core_tree.specs.declared.units.ExpandedItem.{ExpandedItem}
 use Rattle.expander.specs.declared.fault.ExpandFault.{ExpandFault}
+use Rattle.expander.specs.declared.items.Item as code_item
 use Rattle.workspace_state.specs.Forms.{HasSpaceLeft}
 use Rattle.workspace_state.proofs.BenchLaws.{stays_itself}
 use Rattle.workspace_state.proofs.FormsHold.{is_few}
 use Rattle.workspace_state.proofs.FormsFinish.{none_of, none_there, broken_first, nothing_finished, can_go_on, item_ready, ok_stays, at_stays, ok_finishes, at_finishes, finishes_by, Step, Continues}
 use Rattle.workspace_state.proofs.forms.finish.Goals as goal
+use Rattle.workspace_state.proofs.forms.finish.Goals.{else-loop-item-test, then-loop-item-test+then-is_large}
 
 pub returns-then-is_some-clause-finishes : goal.returns-then-is_some-clause-finishes
 returns-then-is_some-clause-finishes g c = λ known ls s notes r knows stands own h.
@@ -95,7 +97,11 @@ returns-in-Err-At-clause-same g c = λ un. none_there c.as_slice-item-items.resu
 pub returns-clause-finishes : goal.returns-clause-finishes
 returns-clause-finishes g c =
     let none = none_of c.args.form.fault (sym c.is_some.ensures ∙ c.if-is_some.false) in let l = c.loop-item in
-    finishes_by c.args.bench.now l.bench c.args.unit c.args.number c.args.form none l.item-index c.args.total.now l.total l.budget l.trace l.items l.invariant.so ?
+    finishes_by c.args.bench.now l.bench c.args.unit c.args.number c.args.form none l.item-index c.args.total.now l.total l.budget l.trace l.items l.invariant.so
+    (elim c.loop-item-test.branch [
+      | else-loop-item-test w ↦ inl (subst (λ (xs : List code_item.Item). length xs ≤ l.item-index) c.as_slice-item-items.ensures w.loop-item-test.false)
+      | then-loop-item-test+then-is_large w ↦ inr (sym w.is_large.ensures ∙ w.if-is_large.true)
+    ])
 
 pub returns-clause-blank : goal.returns-clause-blank
 returns-clause-blank g c = λ un.
