@@ -2,7 +2,7 @@
 use Rattle.std.proofs.Common.{◌≡◌, ℕ, zero, suc, ◌+◌, ◌≤◌, ◌<◌, List, [], ◌∷◌, ◌++◌, map, take, drop, reverse, length, get_or, slice_get, true, false, Option, Some, None, Result, Ok, Err, refl, sym, ap, ◌∙◌, subst, ◌⊎◌, inl, inr, arith, true≢false}
 use Rattle.std.specs.Prelude.{nat_lt}
 use Rattle.std.specs.Option.{is_some}
-use Rattle.std.proofs.lemmas.List.{map-append, append_assoc, take_all, take-append-drop}
+use Rattle.std.proofs.lemmas.List.{map-append, take_all, take-append-drop}
 use Rattle.std.proofs.lemmas.Option.{same_Some}
 use Rattle.scheme_model.specs.Ident.{Ident as Identifier}
 use Rattle.scheme_model.specs.Order.{Item, Note}
@@ -42,7 +42,7 @@ use Rattle.expander.proofs.CoreStandLaws.{parts_stand_on, kept_on}
 use Rattle.expander.proofs.ItemTables.{expanded_table}
 use Rattle.expander.proofs.OtherForms.{expanded_stays}
 use Rattle.expander.proofs.TopForms.{expanded_binds}
-use Rattle.workspace_state.specs.Ends.{Ends, item_states}
+use Rattle.workspace_state.specs.Ends.{item_states}
 use Rattle.workspace_state.specs.Forms.{Passing, IsSetAside, IsDeclared, KeepsOthers, HaveCounted, GoesTo, expanding, expanding_states, Finishing, FinishesTo, FinishesForm, CanFinish, Stays, known_by}
 use Rattle.workspace_state.specs.declared.forms.Bench.{Bench}
 use Rattle.workspace_state.specs.declared.forms.Declared as code
@@ -51,7 +51,7 @@ use Rattle.workspace_state.proofs.FormAtWork.{item_form, same_turned, unit_turne
 use Rattle.workspace_state.proofs.FormSteps.{others_kept}
 use Rattle.workspace_state.proofs.Live.{live_on}
 use Rattle.workspace_state.proofs.Matched.{matched_at}
-use Rattle.workspace_state.proofs.UnitForms.{nodes_at, same_counted, step_counted}
+use Rattle.workspace_state.proofs.UnitForms.{same_counted, step_counted}
 use Rattle.workspace_state.proofs.UnitSteps.{parts_join, parts_more, parts_fail, parts_stop, item_more, item_anyway, item_still, ends_more, ends_same, none_ends}
 
 -- ---- lists
@@ -416,9 +416,10 @@ module _ (old b : Bench) (unit form : ℕ) (d : code.Declared) (none : d.fault �
       goes_at is h e call =
           let f = so all_known ls s notes (Ok is) all_there stands own h in
           let i = item_is all_known s is h f in
-          let gone = call all_known f.layout f.state f.notes i.item (stay.libraries all_known all_there) f.stands f.counts i.stands in
-          (stays_on old b c stay (stays_by b c stay.opened same trees names added regions gone.2.units gone.2.libraries),
-          counts_more all_known old b c unit form (Ok (take k is)) s start total before after trace next items f i.item e trees gone)
+          let gone = call all_known f.layout f.state f.notes i.item (stay.libraries all_known all_there) f.stands f.counts i.stands in (
+            stays_on old b c stay (stays_by b c stay.opened same trees names added regions gone.2.units gone.2.libraries),
+            counts_more all_known old b c unit form (Ok (take k is)) s start total before after trace next items f i.item e trees gone,
+          )
 
       pub stays_ok : (r : Passing) → IsDeclared old.work old.region unit form s d r → (y : ExpandedItem) → Step b c form before after trace next x (Ok y) → Stays old c
       stays_ok (Ok is) h y call = goes_ok is h y call

@@ -1,9 +1,9 @@
 -- What forms set aside is expanded, one form more at a time.
-use Rattle.std.proofs.Common.{◌≡◌, ℕ, zero, suc, ◌+◌, ◌≤◌, ◌<◌, List, [], ◌∷◌, ◌++◌, map, drop, reverse, length, slice_get, Bool, true, false, Some, None, Result, Ok, refl, sym, ap, ◌∙◌, subst, inl, inr, arith}
+use Rattle.std.proofs.Common.{◌≡◌, ℕ, zero, suc, ◌+◌, List, [], ◌∷◌, ◌++◌, map, drop, reverse, length, slice_get, Bool, true, false, Some, Result, Ok, refl, sym, ap, ◌∙◌, subst, inl, inr, arith}
 use Rattle.std.specs.Prelude.{nat_lt}
 use Rattle.std.proofs.lemmas.List.{append_assoc, append-nil, length_push}
 use Rattle.std.proofs.lemmas.Option.{same_Some}
-use Rattle.scheme_model.specs.Order.{Counted, Note}
+use Rattle.scheme_model.specs.Order.{Counted}
 use Rattle.scheme_model.specs.Cores.{Parts, no_parts}
 use Rattle.scheme_model.specs.Steps.{Broken}
 use Rattle.scheme_model.specs.Program.{enough_turns}
@@ -33,7 +33,7 @@ use Rattle.expander.proofs.FormsDefine.{Tell, forms_define}
 use Rattle.expander.proofs.OutcomeLaws.{grows_itself}
 use Rattle.expander.proofs.PartsStay.{forms_on}
 use Rattle.workspace_state.specs.Ends.{numbers_of, Rise, IsAmong, Ends, items_expanded, item_states}
-use Rattle.workspace_state.specs.Forms.{Passing, IsUntouched, IsDeclared, HaveCounted, expanding_states, FinishesTo, FinishesForm, CanFinish, CanFinishAll, FormsHeld, AreDeclared, AreFormed, Finishes, Stays, known_by}
+use Rattle.workspace_state.specs.Forms.{Passing, IsUntouched, HaveCounted, expanding_states, FinishesTo, FinishesForm, CanFinish, CanFinishAll, FormsHeld, AreDeclared, AreFormed, Finishes, Stays, known_by}
 use Rattle.workspace_state.specs.declared.forms.Bench.{Bench}
 use Rattle.workspace_state.specs.declared.forms.Declared as code
 use Rattle.workspace_state.proofs.DeclaredForms.{declared_on}
@@ -346,9 +346,9 @@ module _ (known : Known) (unit : ℕ) (rs : List (ℕ × Passing)) (s : ScopedSt
   unfolding all_finished_formed
   all_so b total place cs a all =
       let whole : nat_lt max_total total ≡ false → a.front ≡ rs = λ few.
-          let g = a.whole few in
-          let none : a.rest ≡ [] = none_left b a.base.held.state place (drop place ds) a.rest (dropped_all ds place (all few)) g.left in
-          sym (append-nil a.front) ∙ (ap (λ (qs : List (ℕ × Passing)). a.front ++ qs) (sym none) ∙ a.parted) in
+      let g = a.whole few in
+      let none : a.rest ≡ [] = none_left b a.base.held.state place (drop place ds) a.rest (dropped_all ds place (all few)) g.left in
+      sym (append-nil a.front) ∙ (ap (λ (qs : List (ℕ × Passing)). a.front ++ qs) (sym none) ∙ a.parted) in
       record {
         layout = a.base.held.layout;
         last = a.base.held.state;

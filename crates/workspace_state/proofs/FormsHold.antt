@@ -288,7 +288,7 @@ module _ (known : Known) (unit : ℕ) (ts : List (ℕ × Tree Identifier)) (s : 
   pub all_passed : (b : Bench) (total place : ℕ) (ds : List code.Declared) (left : List UnitForm) → PassedSo b total ds place left → (nat_lt max_total total ≡ false → left ≡ []) → Passes b unit known ts s total ds
   all_passed b total place ds left a all =
       let whole : nat_lt max_total total ≡ false → a.front ≡ ts = λ few.
-          sym (append-nil a.front) ∙ (ap (λ (fs : List UnitForm). a.front ++ forms_over (Written unit) unit place fs) (sym (all few)) ∙ a.parted) in
+      sym (append-nil a.front) ∙ (ap (λ (fs : List UnitForm). a.front ++ forms_over (Written unit) unit place fs) (sym (all few)) ∙ a.parted) in
       record {
         held = a.base.held;
         ends = by (nat_lt max_total total) refl whole;
@@ -319,7 +319,7 @@ pub next_from : (old b c : Bench) (unit total place : ℕ) (fs : List source.Uni
 next_from old b c unit total place fs ds so stay at few d n same_n f low is blank same passes known ls s knows stands own fresh =
     let ts = forms_over (Written unit) unit 0 (forms_of fs) in
     let a : PassedSo known unit ts s b total ds place (form_of f ∷ drop (suc place) (forms_of fs)) =
-        subst (λ (left : List UnitForm). PassedSo known unit ts s b total ds place left) (dropped_form fs place f low is) (so known ls s knows stands own fresh) in
+    subst (λ (left : List UnitForm). PassedSo known unit ts s b total ds place left) (dropped_form fs place f low is) (so known ls s knows stands own fresh) in
     let was = a.base.held in
     one_so known unit ts s b total place ds f (drop (suc place) (forms_of fs)) a at d (forms_rise (Written unit) unit 0 (forms_of fs)) few c blank same
     (λ off. subst (λ (m : ℕ). PassesForm b c known unit m (datum_of f.datum) was.notes was.state d) same_n

@@ -1,5 +1,5 @@
 -- What a unit's forms come to, once they were gone through and what they set aside was expanded.
-use Rattle.std.proofs.Common.{◌≡◌, ℕ, List, [], true, false, Option, Some, None, refl, sym, ap, ◌∙◌, subst}
+use Rattle.std.proofs.Common.{◌≡◌, ℕ, List, [], true, false, Option, Some, None, sym, ap, ◌∙◌, subst}
 use Rattle.std.specs.Prelude.{nat_lt, reverse}
 use Rattle.scheme_model.specs.Ident.{Ident as Identifier, Written}
 use Rattle.scheme_model.specs.Order.{Note}
@@ -15,7 +15,7 @@ use Rattle.core_tree.specs.Units.{FormsStand, AreDefinitions, definitions_from, 
 use Rattle.core_tree.specs.declared.units.UnitForm as code_form
 use Rattle.expander.specs.Searched.{searched, searched_unit_over}
 use Rattle.expander.specs.Units.{UnitStands}
-use Rattle.workspace_state.specs.Ends.{numbers_of, Rise, Ends}
+use Rattle.workspace_state.specs.Ends.{numbers_of, Rise}
 use Rattle.workspace_state.specs.Forms.{Passing, StandsAt, AreUnfolded, Unfolds, Passes, Finishes, CanFinishAll}
 use Rattle.workspace_state.specs.declared.forms.Bench.{Bench}
 use Rattle.workspace_state.specs.declared.forms.Declared as code
@@ -89,10 +89,10 @@ module _ (known : Known) (p : Prepared) (s : ScopedState) (n : ℕ) (own : p.num
       all_unfolds still =
           let f = finished (searched known) (expand (searched known) enough_turns) [] gone.0 h.held.state in
           let is : searched_unit_over known p s ≡ (Some f.0, k.last) =
-              unit_is
-              ∙ (goes_through (searched known) enough_turns [] ts s none_before (ended None (not_over (searched known) (numbers_of gone.0) k.ends still))
-              ∙ (ap (λ (t : ScopedState). let g = finished (searched known) (expand (searched known) enough_turns) [] gone.0 t in (Some g.0, g.1)) (sym (h.state few))
-              ∙ ap (λ (t : ScopedState). (Some f.0, t)) (sym (k.state still)))) in
+          unit_is
+          ∙ (goes_through (searched known) enough_turns [] ts s none_before (ended None (not_over (searched known) (numbers_of gone.0) k.ends still))
+          ∙ (ap (λ (t : ScopedState). let g = finished (searched known) (expand (searched known) enough_turns) [] gone.0 t in (Some g.0, g.1)) (sym (h.state few))
+          ∙ ap (λ (t : ScopedState). (Some f.0, t)) (sym (k.state still)))) in
           some_unfolds c known p s k.last k.layout k.notes k.stands cs f.0
           (subst (λ (m : ℕ). FormsStand c.work m 0 cs f.0) (sym own) (k.forms still))
           (subst (λ (m : ℕ). AreDefinitions c.work.symbols (reverse (definitions_from 0 cs)) (defined_by m k.last.table)) (sym own) (k.definitions still))

@@ -1,6 +1,5 @@
 -- The forms of a unit by their numbers: what they count together, and what the unit comes to.
-use Rattle.std.proofs.Common.{◌≡◌, ℕ, zero, suc, ◌+◌, ◌≤◌, ◌<◌, List, [], ◌∷◌, ◌++◌, map, length, Bool, true, false, cond, Option, Some, None, Result, Ok, Err, refl, sym, ap, ◌∙◌, subst, inl, inr, arith}
-use Rattle.scheme_model.specs.Ident.{Ident, Written}
+use Rattle.std.proofs.Common.{◌≡◌, ℕ, suc, ◌+◌, ◌≤◌, ◌<◌, List, [], ◌∷◌, ◌++◌, Bool, true, false, cond, Option, Some, None, refl, ap, ◌∙◌, inl, inr, arith}
 use Rattle.scheme_model.specs.Data.{place_of}
 use Rattle.scheme_model.specs.DataTrees.{tree_of}
 use Rattle.scheme_model.specs.Trees.{Tree, placed_in}
@@ -8,7 +7,7 @@ use Rattle.scheme_model.specs.Order.{Ops}
 use Rattle.scheme_model.specs.Expression.{expand}
 use Rattle.scheme_model.specs.Declarations.{UnitForm}
 use Rattle.scheme_model.specs.ScopedProgram.{forms_over}
-use Rattle.scheme_model.specs.UnitExpansion.{Formed, passes, finished, nodes_in, first_over, states_passed, states_finished, or_ended, some_of, unit}
+use Rattle.scheme_model.specs.UnitExpansion.{passes, finished, nodes_in, first_over, states_passed, states_finished, or_ended, some_of, unit}
 use Rattle.workspace_state.specs.Ends.{numbers_of, Rise, IsAmong}
 
 -- ---- numbers

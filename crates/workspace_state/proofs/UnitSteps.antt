@@ -1,5 +1,5 @@
 -- The forms of a unit one more at a time: what is gone through and expanded by then, and whether work has ended.
-use Rattle.std.proofs.Common.{◌≡◌, ℕ, zero, suc, ◌+◌, ◌≤◌, ◌<◌, List, [], ◌∷◌, ◌++◌, map, Bool, true, false, cond, Option, Some, None, Result, Ok, Err, refl, sym, ap, ◌∙◌, subst, inl, inr, arith}
+use Rattle.std.proofs.Common.{◌≡◌, ℕ, ◌≤◌, List, [], ◌∷◌, ◌++◌, map, Bool, true, false, cond, Some, None, Result, Ok, Err, refl, sym, ap, ◌∙◌, subst}
 use Rattle.std.specs.Prelude.{nat_lt}
 use Rattle.std.proofs.lemmas.Bool.{le-ltb}
 use Rattle.std.proofs.lemmas.List.{map-append, map-id, append-nil, append_assoc}
@@ -7,9 +7,9 @@ use Rattle.scheme_model.specs.Trees.{Tree}
 use Rattle.scheme_model.specs.Cores.{Parts, no_parts, part, Part}
 use Rattle.scheme_model.specs.Steps.{Broken, Step, ◌>>=◌, done}
 use Rattle.scheme_model.specs.Order.{Item, Note, Pass, Ops, run}
-use Rattle.scheme_model.specs.Expression.{Expander, expand, item_part, parts}
-use Rattle.scheme_model.specs.UnitExpansion.{Formed, max_depth, passes, from_items, finished, max_total, nodes_in, first_over, fronts, form_fronts, item_fronts, states_passed, states_finished, or_ended}
-use Rattle.workspace_state.specs.Ends.{numbers_of, Rise, IsAmong, if_over, Ends, items_expanded, item_states}
+use Rattle.scheme_model.specs.Expression.{expand, item_part, parts}
+use Rattle.scheme_model.specs.UnitExpansion.{Formed, max_depth, passes, finished, max_total, nodes_in, first_over, fronts, form_fronts, item_fronts, states_passed, states_finished}
+use Rattle.workspace_state.specs.Ends.{numbers_of, Ends, items_expanded, item_states}
 
 -- ---- fronts
 

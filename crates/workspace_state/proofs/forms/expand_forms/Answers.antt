@@ -3,9 +3,6 @@ use Rattle.std.proofs.Common.{sym, ◌∙◌}
 use Rattle.workspace_state.proofs.BenchLaws.{stays_on}
 use Rattle.workspace_state.proofs.FormsHold.{held_bench}
 use Rattle.workspace_state.proofs.FormsUnfold.{passing_unfolds, can_finish_all, finishing_unfolds, all_unfolds}
-use Rattle.scheme_model.specs.Requirements.{Known}
-use Rattle.scheme_model.specs.Program.{Prepared}
-use Rattle.scheme_model.specs.ScopedExpansion.{Frames, ScopedState}
 use Rattle.library_table.specs.UnitsRead.{forms_of}
 use Rattle.workspace_state.proofs.forms.expand_forms.Goals as goal
 

@@ -1,5 +1,5 @@
 -- What a form set aside is expanded, item by item.
-use Rattle.std.proofs.Common.{◌≡◌, ℕ, suc, ◌+◌, ◌-◌, ◌≤◌, ◌<◌, List, [], length, Some, None, Err, sym, ap, ◌∙◌, subst, refl, inl, inr, arith, true≢false}
+use Rattle.std.proofs.Common.{◌≡◌, ℕ, suc, ◌+◌, ◌-◌, ◌≤◌, List, length, Some, Err, sym, ap, ◌∙◌, subst, refl, inl, inr, arith, true≢false}
 use Rattle.std.specs.Option.{is_some}
 use Rattle.scheme_model.specs.UnitExpansion.{max_total}
 use Rattle.core_tree.specs.declared.traces.FormFault.{FormFault}
@@ -76,7 +76,7 @@ returns-in-Err-At-clause-finishes g c =
     let few = sym c.is_large.ensures ∙ c.if-is_large.false in
     let step = (subst (λ (x : ExpandFault). Step l.bench e.new.bench c.args.number l.budget e.new.budget l.trace e.new.trace c.item-item.result (Err x)) c.in-Err-At.field-0-is c.in-Err-At.ensures.expanded) in
     let more : l.budget.nodes ≤ e.new.budget.nodes = (at_stays c.args.bench.now l.bench c.args.unit c.args.number c.args.form none l.invariant.stays l.item-index c.args.total.now l.total l.budget l.trace l.items l.invariant.so c.as_slice-item-items.result.now c.as_slice-item-items.ensures c.item-item.result c.loop-item-test.true c.item-item.is
-        e.new.bench e.new.budget e.new.trace e.ensures.keeps e.ensures.names e.ensures.added e.ensures.regions e.ensures.region c.requires.stands c.in-Err-At.fault step).1 in
+    e.new.bench e.new.budget e.new.trace e.ensures.keeps e.ensures.names e.ensures.added e.ensures.regions e.ensures.region c.requires.stands c.in-Err-At.fault step).1 in
     at_finishes c.args.bench.now l.bench c.args.unit c.args.number c.args.form none l.invariant.stays l.item-index c.args.total.now l.total l.budget l.trace l.items l.invariant.so c.as_slice-item-items.result.now c.as_slice-item-items.ensures c.item-item.result c.loop-item-test.true c.item-item.is
     e.new.bench e.new.budget e.new.trace e.ensures.keeps e.ensures.names e.ensures.added e.ensures.regions e.ensures.region c.in-Err-At.fault (l.total + (e.new.budget.nodes - l.budget.nodes)) (omega (arith, more)) few step
     c.broken-in-Err-At.result (c.broken-in-Err-At.ensures.fault ∙ ap (λ (f : FormFault). Some f) c.in-Err-At.fault-is) c.broken-in-Err-At.ensures.definitions

@@ -42,7 +42,7 @@ loop-place-preserved g c =
     let l = c.loop-place in let ds = c.args.declared.items in let e = c.in_ok-finish.ensures in let k = c.in_ok-finish.field-0 in
     let p = turn g (goal.at.loop-place-preserved g c).In-Some in
     let done : Finished l.bench c.finish.new.bench c.args.unit (length l.yielded) c.in-Some.form l.total c.finish.new.total k =
-        subst (λ (m : ℕ). Finished l.bench c.finish.new.bench c.args.unit m c.in-Some.form l.total c.finish.new.total k) (c.in_ok-number.ensures ∙ p.0) e.finishes in
+    subst (λ (m : ℕ). Finished l.bench c.finish.new.bench c.args.unit m c.in-Some.form l.total c.finish.new.total k) (c.in_ok-number.ensures ∙ p.0) e.finishes in
     let x = finished_at l.bench c.finish.new.bench c.args.unit (length l.yielded) ds l.forms k l.invariant.finished e.stays.trees e.stays.names c.in-Some.form p.1 l.total c.finish.new.total done in
     let next : suc (length l.yielded) ≡ length (l.yielded ++ (c.in-Some.place, c.in-Some.form) ∷ []) = let long = length_push l.yielded (c.in-Some.place, c.in-Some.form) in omega (arith, long) in
     record {
