@@ -33,3 +33,9 @@ pub mod UnboundLaws
 pub mod ImportLaws
 pub mod DefinedLaws
 pub mod ExportLaws
+pub mod NamedUnits
+pub mod TurnGraph
+pub mod TurnResults
+pub mod TurnSteps
+pub mod TurnWork
+pub mod TurnedLaws
