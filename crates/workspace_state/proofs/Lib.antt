@@ -39,3 +39,7 @@ pub mod TurnResults
 pub mod TurnSteps
 pub mod TurnWork
 pub mod TurnedLaws
+pub mod BrokenSteps
+pub mod CircleNames
+pub mod Handed
+pub mod JudgedLaws

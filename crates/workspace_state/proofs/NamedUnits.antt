@@ -1,12 +1,11 @@
 -- Which units a unit imports: those that are named first, among those that aren't too many.
-use Rattle.std.proofs.Common.{◌≡◌, ℕ, zero, suc, ◌+◌, ◌<◌, ◌≤◌, Bool, true, false, cond, ◌⊎◌, inl, inr, List, [], ◌∷◌, ◌++◌, length, map, take, slice_get, Option, Some, None, refl, sym, ap, ◌∙◌, subst, arith, ltb}
-use Rattle.std.specs.Prelude.{◌||◌, ◌==◌, nat_lt}
+use Rattle.std.proofs.Common.{◌≡◌, ℕ, zero, suc, ◌+◌, ◌<◌, ◌≤◌, Bool, true, false, cond, ◌⊎◌, inl, inr, List, [], ◌∷◌, take, slice_get, Option, Some, None, refl, sym, ap, ◌∙◌, arith}
+use Rattle.std.specs.Prelude.{◌==◌, nat_lt}
 use Rattle.std.proofs.lemmas.Bool.{eqb-true, or_cases, ltb-true}
-use Rattle.std.proofs.lemmas.Bool.Decides.{nat_tests}
 use Rattle.std.proofs.lemmas.Option.{same_Some}
 use Rattle.scheme_model.specs.Requirements.{LibraryName}
 use Rattle.scheme_model.specs.Entries.{library_in}
-use Rattle.scheme_model.specs.Program.{Placed, ImportSpec, Prepared, prepared, prepare, max_units, imports_at, imported_units, name_if, is_named, unit_named, is_in, specs_from, exports_from, forms_or_none}
+use Rattle.scheme_model.specs.Program.{Placed, ImportSpec, Prepared, prepared, prepare, imports_at, imported_units, name_if, is_named, unit_named, is_in, specs_from, forms_or_none}
 
 one_more : (k i : ℕ) → suc k + i ≡ k + suc i
 one_more k i = omega arith
@@ -121,7 +120,7 @@ module _ (us vs : List Placed) (same : (l : LibraryName) → unit_named l 0 us �
   prepare_same [] k = refl
   prepare_same (w ∷ ws) k = λ j. prepared_same k w j ∷ prepare_same ws (suc k) j
 
-prepare_taken : (us vs : List Placed) (m k : ℕ) → prepare us k (take m vs) ≡ take m (prepare us k vs)
+pub prepare_taken : (us vs : List Placed) (m k : ℕ) → prepare us k (take m vs) ≡ take m (prepare us k vs)
 prepare_taken us vs zero k = refl
 prepare_taken us [] (suc m) k = refl
 prepare_taken us (v ∷ vs) (suc m) k = ap (λ (ps : List Prepared). prepared us k v ∷ ps) (prepare_taken us vs m (suc k))

@@ -1,15 +1,14 @@
 -- Units wait for units that aren't too many, and in no circle: those on one are broken. So each comes in its turn, and once.
-use Rattle.std.proofs.Common.{◌≡◌, ℕ, zero, suc, ◌+◌, ◌<◌, ◌≤◌, Bool, true, false, cond, ◌⊎◌, inl, inr, List, [], ◌∷◌, ◌++◌, length, map, take, drop, slice_get, Option, Some, None, Result, Ok, Err, refl, sym, ap, ◌∙◌, subst, arith, ltb}
-use Rattle.std.specs.Prelude.{◌||◌, ◌==◌, nat_lt}
-use Rattle.std.proofs.lemmas.Bool.{eqb-true, eq-eqb, or_cases, ltb-true}
+use Rattle.std.proofs.Common.{◌≡◌, ℕ, zero, suc, ◌+◌, ◌<◌, ◌≤◌, Bool, true, false, cond, ◌⊎◌, inl, inr, List, [], ◌∷◌, ◌++◌, length, map, take, slice_get, Option, Some, None, Result, Ok, Err, refl, sym, ap, ◌∙◌, arith}
+use Rattle.std.specs.Prelude.{◌==◌}
+use Rattle.std.proofs.lemmas.Bool.{eqb-true, eq-eqb, or_cases}
 use Rattle.std.proofs.lemmas.Bool.Decides.{nat_tests}
 use Rattle.std.proofs.lemmas.Option.{same_Some, slice_get_within}
 use Rattle.std.proofs.lemmas.List.{length-map}
 use Rattle.scheme_model.specs.Requirements.{LibraryName}
-use Rattle.scheme_model.specs.Entries.{library_in}
 use Rattle.scheme_model.specs.Declarations.{UnitForm}
 use Rattle.scheme_model.specs.Data.{Datum}
-use Rattle.scheme_model.specs.Program.{Placed, ImportSpec, Prepared, prepared, prepare, max_units, imports_at, imported_units, is_named, unit_named, is_in, reached, on_circle, WholeFault, TooMany, DefinedTwice, ImportCycle, declared_fault, fault_before, first_ready}
+use Rattle.scheme_model.specs.Program.{Placed, Prepared, prepared, prepare, imports_at, unit_named, is_in, reached, on_circle, WholeFault, TooMany, DefinedTwice, ImportCycle, declared_fault, fault_before, first_ready}
 use Rattle.import_sets.specs.InTurn.{is_open, and_then, in_turn, ComesAfter}
 use Rattle.import_sets.specs.Graphs.{AreNumbered, is_circular}
 use Rattle.import_sets.proofs.ReachLaws.{IsWithin, reached_closed, reached_start, reached_within}
@@ -22,13 +21,13 @@ use Rattle.workspace_state.specs.Turned.{waits_if, waits, waiting, turns}
 one_more : (k i : ℕ) → suc k + i ≡ k + suc i
 one_more k i = omega arith
 
-abbrev AreFrom : ℕ → List Prepared → Type 0
+abbrev pub AreFrom : ℕ → List Prepared → Type 0
 AreFrom k ps = (i : ℕ) (p : Prepared) → slice_get ps i ≡ Some p → p.number ≡ k + i
 
 next_from : (k : ℕ) (x : Prepared) (xs : List Prepared) → AreFrom k (x ∷ xs) → AreFrom (suc k) xs
 next_from k x xs h i p at = h (suc i) p at ∙ sym (one_more k i)
 
-prepared_from : (all us : List Placed) (k : ℕ) → AreFrom k (prepare all k us)
+pub prepared_from : (all us : List Placed) (k : ℕ) → AreFrom k (prepare all k us)
 prepared_from all [] k i p h = absurd cc
 prepared_from all (u ∷ us) k zero p h = let same : prepared all k u ≡ p = same_Some (prepared all k u) p h in let e : p.number ≡ k = ap (λ (q : Prepared). q.number) (sym same) in omega arith
 prepared_from all (u ∷ us) k (suc i) p h = prepared_from all us (suc k) i p h ∙ one_more k i
@@ -104,7 +103,7 @@ waits_for_fewer all (suc k) (x ∷ ps) n m h = go (waits_for_fewer all k ps n m)
 
 -- ---- all that units wait for are units, and not too many
 
-abbrev IsLow : List Placed → ℕ → Type 0
+abbrev pub IsLow : List Placed → ℕ → Type 0
 IsLow us m = (m < length us) × (m < 128)
 
 named_low : (us : List Placed) (l : LibraryName) (m : ℕ) → unit_named l 0 us ≡ Some m → IsLow us m
@@ -114,7 +113,7 @@ named_low us l m h =
     let e = at.number in
     (omega arith, few_named l m at.unit at.named)
 
-row_low : (all : List Placed) (n m : ℕ) → is_in m (imports_at (prepare all 0 all) n) ≡ true → IsLow all m
+pub row_low : (all : List Placed) (n m : ℕ) → is_in m (imports_at (prepare all 0 all) n) ≡ true → IsLow all m
 row_low all n m h = imports_hold all (IsLow all) (named_low all) all 0 n m h
 
 pub taken_has : {A : Type 0} (k : ℕ) (xs : List A) (m : ℕ) → m < length xs → m < k → m < length (take k xs)
@@ -129,7 +128,7 @@ waiting_length all = length-map (take 128 (prepare all 0 all)) (waits all)
 pub low_waits : (all : List Placed) (m : ℕ) → IsLow all m → m < length (waiting all)
 low_waits all m low = let e = waiting_length all in let f = as_many all all 0 in let r = taken_has 128 (prepare all 0 all) m (let lt = low.0 in omega arith) low.1 in omega arith
 
-all_within : (all : List Placed) → IsWithin (prepare all 0 all)
+pub all_within : (all : List Placed) → IsWithin (prepare all 0 all)
 all_within all n m h = let e = as_many all all 0 in let lt = (row_low all n m h).0 in omega arith
 
 waiting_within : (all : List Placed) → IsWithin (waiting all)

@@ -1,5 +1,5 @@
 -- What the program has of each unit, where they come in turns.
-use Rattle.std.proofs.Common.{◌≡◌, ℕ, zero, suc, ◌+◌, ◌<◌, ◌≤◌, Bool, true, false, cond, ◌⊎◌, inl, inr, List, [], ◌∷◌, ◌++◌, append_assoc, length, map, take, drop, slice_get, Option, Some, None, refl, sym, ap, ◌∙◌, subst, arith}
+use Rattle.std.proofs.Common.{◌≡◌, ℕ, zero, suc, ◌+◌, ◌<◌, ◌≤◌, Bool, true, false, cond, ◌⊎◌, inl, inr, List, [], ◌∷◌, ◌++◌, length, map, take, drop, slice_get, Option, Some, None, refl, sym, ap, ◌∙◌, arith}
 use Rattle.std.specs.Prelude.{◌-◌, ◌==◌, reverse}
 use Rattle.std.proofs.lemmas.Bool.{eq-eqb, cases_lt}
 use Rattle.std.proofs.lemmas.Bool.Decides.{nat_tests}
@@ -7,10 +7,10 @@ use Rattle.std.proofs.lemmas.Option.{same_Some, slice_get_within, slice_get-map}
 use Rattle.std.specs.Option.{option_map}
 use Rattle.scheme_model.specs.Order.{is_some}
 use Rattle.scheme_model.specs.Requirements.{Known}
-use Rattle.scheme_model.specs.Program.{Placed, Prepared, prepare, UnitResult, TooMany, max_units, broken_result, result_at, in_order, is_in, work, progress_before}
+use Rattle.scheme_model.specs.Program.{Placed, Prepared, prepare, UnitResult, TooMany, broken_result, result_at, in_order, is_in}
 use Rattle.scheme_model.specs.ScopedProgram.{ScopedProgress, scoped_work, scoped_before}
 use Rattle.workspace_state.specs.Turned.{turns, waiting, scoped_at, left_out}
-use Rattle.workspace_state.proofs.TurnSteps.{numbers, done_there}
+use Rattle.workspace_state.proofs.TurnSteps.{done_there}
 use Rattle.workspace_state.proofs.TurnGraph.{at_numbers, taken_has, waiting_length, each_turn}
 use Rattle.workspace_state.proofs.TurnedLaws.{one_before, stands, many, scoped_by_turns, scoped_done}
 

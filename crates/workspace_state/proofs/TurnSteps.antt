@@ -1,13 +1,12 @@
 -- One turn more: the first unit that is open is the one on which the definition of a program works next, also where units are broken.
-use Rattle.std.proofs.Common.{◌≡◌, ℕ, zero, suc, ◌+◌, ◌<◌, ◌≤◌, Bool, true, false, cond, List, [], ◌∷◌, ◌++◌, length, map, take, drop, slice_get, Option, Some, None, refl, sym, ap, ◌∙◌, subst, arith}
+use Rattle.std.proofs.Common.{◌≡◌, ℕ, zero, suc, Bool, true, false, cond, List, [], ◌∷◌, map, take, slice_get, Option, Some, None, refl, sym, ap, ◌∙◌, arith}
 use Rattle.std.specs.Prelude.{◌||◌, ◌&&◌, ◌==◌, not, reverse}
 use Rattle.std.proofs.lemmas.Bool.Decides.{nat_tests}
 use Rattle.std.proofs.lemmas.List.{reverse-append}
 use Rattle.std.proofs.lemmas.Option.{same_Some}
 use Rattle.scheme_model.specs.Order.{is_some}
-use Rattle.scheme_model.specs.Program.{Placed, Prepared, prepared, prepare, imports_at, WholeFault, UnitResult, result_at, is_in, fault_before, all_done, is_ready, first_ready}
+use Rattle.scheme_model.specs.Program.{Placed, Prepared, prepare, WholeFault, UnitResult, result_at, is_in, fault_before, all_done, is_ready, first_ready}
 use Rattle.import_sets.specs.InTurn.{all_in, is_open}
-use Rattle.import_sets.specs.Graphs.{AreNumbered}
 use Rattle.import_sets.proofs.ReachLaws.{in_append, or_none, or_turned}
 use Rattle.import_sets.proofs.TurnLaws.{ready_found}
 use Rattle.workspace_state.specs.Turned.{waits_if, waits, waiting}

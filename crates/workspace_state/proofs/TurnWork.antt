@@ -1,15 +1,14 @@
 -- Work in turns: after some turns the units at these places are expanded, and no others; and those behind come last.
-use Rattle.std.proofs.Common.{◌≡◌, ℕ, zero, suc, ◌+◌, ◌<◌, ◌≤◌, Bool, true, false, ◌⊎◌, inl, inr, List, [], ◌∷◌, ◌++◌, append-nil, append_assoc, length, map, slice_get, Option, Some, None, refl, sym, ap, ◌∙◌, subst, arith}
+use Rattle.std.proofs.Common.{◌≡◌, ℕ, zero, suc, ◌+◌, ◌<◌, ◌≤◌, Bool, true, false, ◌⊎◌, inl, inr, List, [], ◌∷◌, ◌++◌, append-nil, append_assoc, length, slice_get, Option, Some, None, refl, sym, ap, ◌∙◌, subst, arith}
 use Rattle.std.specs.Prelude.{◌-◌, ◌||◌, ◌&&◌, ◌==◌, not, reverse}
 use Rattle.std.specs.List.{fold}
-use Rattle.std.proofs.lemmas.Bool.{eqb-true, eq-eqb, cases_lt}
+use Rattle.std.proofs.lemmas.Bool.{cases_lt}
 use Rattle.std.proofs.lemmas.Bool.Decides.{nat_tests}
 use Rattle.std.proofs.lemmas.List.{reverse-append}
-use Rattle.std.proofs.lemmas.Option.{slice_get_within}
 use Rattle.scheme_model.specs.Order.{is_some}
-use Rattle.scheme_model.specs.Program.{Placed, Prepared, prepare, WholeFault, UnitResult, is_in, fault_before, all_done, is_ready, first_ready}
+use Rattle.scheme_model.specs.Program.{Placed, Prepared, prepare, UnitResult, is_in, fault_before, all_done, is_ready, first_ready}
 use Rattle.import_sets.specs.InTurn.{is_open, in_turn, and_then}
-use Rattle.import_sets.proofs.ReachLaws.{or_left, or_right, or_one, in_push}
+use Rattle.import_sets.proofs.ReachLaws.{or_left, or_right, in_push}
 use Rattle.import_sets.proofs.TurnLaws.{ready_at, ready_none}
 use Rattle.workspace_state.specs.Turned.{waiting}
 use Rattle.workspace_state.proofs.TurnSteps.{numbers, done_there, IsTurn, turn_next}

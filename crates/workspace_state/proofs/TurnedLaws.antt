@@ -1,24 +1,23 @@
 -- The turns of units where some are broken are the order in which the definition of a program works on them, and those that are too
 -- many come last and change nothing.
-use Rattle.std.proofs.Common.{◌≡◌, ℕ, zero, suc, ◌+◌, ◌<◌, ◌≤◌, Bool, true, false, cond, ◌⊎◌, inl, inr, List, [], ◌∷◌, ◌++◌, append-nil, append_assoc, length, map, take, drop, slice_get, Option, Some, None, refl, sym, ap, ◌∙◌, subst, arith}
-use Rattle.std.specs.Prelude.{◌-◌, ◌==◌, nat_le, reverse}
+use Rattle.std.proofs.Common.{◌≡◌, ℕ, zero, suc, ◌+◌, ◌<◌, ◌≤◌, Bool, true, false, cond, List, [], ◌∷◌, ◌++◌, append-nil, append_assoc, length, map, take, drop, slice_get, Option, Some, None, refl, sym, ap, ◌∙◌, arith}
+use Rattle.std.specs.Prelude.{◌-◌, nat_le, reverse}
 use Rattle.std.specs.List.{fold}
-use Rattle.std.proofs.lemmas.Bool.{eq-eqb, cases_lt}
 use Rattle.std.proofs.lemmas.Bool.Decides.{nat_tests}
-use Rattle.std.proofs.lemmas.List.{reverse-append, length-drop, length-take-le}
+use Rattle.std.proofs.lemmas.List.{reverse-append}
 use Rattle.std.proofs.lemmas.Option.{slice_get_within}
 use Rattle.scheme_model.specs.Order.{is_some}
 use Rattle.scheme_model.specs.Requirements.{Known}
 use Rattle.scheme_model.specs.Substitution.{Table}
 use Rattle.scheme_model.specs.UnitExpansion.{Formed}
 use Rattle.scheme_model.specs.Entries.{Entry}
-use Rattle.scheme_model.specs.Program.{Placed, Prepared, prepare, UnitResult, SetResult, Progress, WholeFault, TooMany, max_units, broken_result, result_at, is_in, declared_fault, fault_before, unit_entries, with_entries, form_trees, start_of, unit_over, unit_result, by_fault, is_ready, first_ready, worked, work, progress_before}
+use Rattle.scheme_model.specs.Program.{Placed, Prepared, prepare, UnitResult, SetResult, Progress, WholeFault, TooMany, broken_result, is_in, fault_before, unit_entries, with_entries, form_trees, start_of, unit_over, unit_result, by_fault, worked, work, progress_before}
 use Rattle.scheme_model.specs.ScopedProgram.{ScopedProgress, scoped_start_of, scoped_unit_over, scoped_by_fault, scoped_worked, scoped_work, scoped_before}
 use Rattle.import_sets.specs.InTurn.{in_turn}
-use Rattle.workspace_state.specs.Turned.{waiting, turns, by_number, scoped_by_number, expanded_at, scoped_at, left_out}
-use Rattle.workspace_state.proofs.TurnSteps.{numbers, done_there, IsTurn}
+use Rattle.workspace_state.specs.Turned.{waiting, turns, expanded_at, scoped_at, left_out}
+use Rattle.workspace_state.proofs.TurnSteps.{numbers, IsTurn}
 use Rattle.workspace_state.proofs.TurnWork.{IsWork, AfterTurns, by_turns, turn_there, works_on, rest_last}
-use Rattle.workspace_state.proofs.TurnGraph.{at_numbers, as_many, waiting_length, each_turn, turn_below, few_turns}
+use Rattle.workspace_state.proofs.TurnGraph.{at_numbers, waiting_length, each_turn, turn_below, few_turns}
 
 pub one_before : (r : UnitResult) (xs rs : List UnitResult) → reverse xs ++ r ∷ rs ≡ reverse (r ∷ xs) ++ rs
 one_before r xs rs = sym (append_assoc (reverse xs) (r ∷ []) rs) ∙ ap (λ (l : List UnitResult). l ++ rs) (sym (reverse-append (r ∷ []) xs))
