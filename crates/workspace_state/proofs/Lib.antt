@@ -43,3 +43,4 @@ pub mod BrokenSteps
 pub mod CircleNames
 pub mod Handed
 pub mod JudgedLaws
+pub mod TurnCited

@@ -194,3 +194,7 @@ scoped_by_turns all known =
 -- just the units in their turns are done then
 pub scoped_done : (all : List Placed) (known : Known) → reverse (numbers (scoped_at all known (turns all)).results) ≡ turns all
 scoped_done all known = all_done all (λ (g : ScopedProgress). g.results) (scoped_worked all (prepare all 0 all) known) (scoped_work all (prepare all 0 all) known) (is_scoped all known) scoped_before refl
+
+pub scoped_done_after : (all : List Placed) (known : Known) (x y : List ℕ) → turns all ≡ x ++ y → reverse (numbers (scoped_at all known x).results) ≡ x
+scoped_done_after all known x y h =
+    (after all (λ (g : ScopedProgress). g.results) (scoped_worked all (prepare all 0 all) known) (scoped_work all (prepare all 0 all) known) (is_scoped all known) scoped_before refl x y h).done
