@@ -224,6 +224,11 @@ few_taken zero xs = omega arith
 few_taken (suc n) [] = omega arith
 few_taken (suc n) (x ∷ xs) = let le = few_taken n xs in omega arith
 
+-- a name's text has the place of the unit that the name means
+pub unit_found : (spelled : LibraryName → List ℕ) → SpellsStandard spelled → (all : List Placed) (cs : List code.UnitSource) → AreUnits spelled cs (take 128 all) → (find : List ℕ → Option ℕ) → ((s : List ℕ) → find s ≡ place_named s 0 cs) →
+    (l : LibraryName) → find (spelled l) ≡ unit_named l 0 all
+unit_found spelled is all cs are find named l = named (spelled l) ∙ place_same spelled is.tells l 0 cs (take 128 all) are ∙ named_of_taken l all
+
 -- ---- the heads
 
 module _ (spelled : LibraryName → List ℕ) (is : SpellsStandard spelled) (all : List Placed) (cs : List code.UnitSource) (are : AreUnits spelled cs (take 128 all)) (find : List ℕ → Option ℕ) (named : (s : List ℕ) → find s ≡ place_named s 0 cs)
