@@ -16,6 +16,10 @@ pub mod BrokenLaws
 pub mod MeaningLaws
 pub mod JoiningLaws
 pub mod FoundLaws
+pub mod PutLaws
+pub mod SortedLaws
+pub mod KeptLaws
+pub mod FirstLaws
 pub mod Nths
 pub mod Copies
 pub mod AfterLaws

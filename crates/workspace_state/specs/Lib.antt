@@ -1,6 +1,7 @@
 pub mod Events
 pub mod Readings
 pub mod Listed
+pub mod Found
 pub mod Placed
 pub mod Formed
 pub mod Expansions
