@@ -37,3 +37,5 @@ pub mod UnboundLaws
 pub mod ImportLaws
 pub mod DefinedLaws
 pub mod ExportLaws
+pub mod ListLaws
+pub mod PublishLaws
