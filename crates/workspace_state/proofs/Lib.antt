@@ -39,3 +39,4 @@ pub mod DefinedLaws
 pub mod ExportLaws
 pub mod ListLaws
 pub mod PublishLaws
+pub mod DiagnosedLaws
