@@ -98,10 +98,10 @@ names_text names e b unit form is none = ap (named_text None) is.text ∙ sym (n
 
 -- ---- findings, one behind the other
 
-told_both : (xs ys : List Finding) → all_told (xs ++ ys) ≡ all_told xs ++ all_told ys
+pub told_both : (xs ys : List Finding) → all_told (xs ++ ys) ≡ all_told xs ++ all_told ys
 told_both xs ys = flat_map-append told xs ys
 
-errors_both : (xs ys : List Finding) → errors_in (xs ++ ys) ≡ errors_in xs ++ errors_in ys
+pub errors_both : (xs ys : List Finding) → errors_in (xs ++ ys) ≡ errors_in xs ++ errors_in ys
 errors_both xs ys = ap (map (λ (f : Finding). (f.code, f.form))) (filter-append (λ (f : Finding). is_error f.code) xs ys) ∙ map-append (λ (f : Finding). (f.code, f.form)) (filter (λ (f : Finding). is_error f.code) xs) (filter (λ (f : Finding). is_error f.code) ys)
 
 pub adds_more : (old new more : List Finding) (ds : List Diagnostic) (es : List (ℕ × ℕ)) → new ≡ old ++ more → all_told more ≡ ds → errors_in more ≡ es → Adds old new ds es

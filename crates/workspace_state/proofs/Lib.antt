@@ -40,3 +40,6 @@ pub mod ExportLaws
 pub mod ListLaws
 pub mod PublishLaws
 pub mod DiagnosedLaws
+pub mod UnboundFound
+pub mod WholeLaws
+pub mod StopsLaws

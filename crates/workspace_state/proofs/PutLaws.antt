@@ -139,3 +139,39 @@ module _ {A : Type 0} {R : A → A → Ordering} (o : IsTotalOrder R) where
       go rest Less q = before (p d) (above_filter p d (e ∷ es) (q, above_more d e es q h.0))
       go rest Equal q = subst (λ b. cond (p d) (d ∷ filter p es) (filter p es) ≡ cond (p d) (over R d (cond b (e ∷ filter p es) (filter p es))) (cond b (e ∷ filter p es) (filter p es))) (alike d e q) (same (p d) q)
       go rest Greater q = ap (λ ys. cond (p e) (e ∷ ys) ys) rest ∙ later (p d) (p e) q
+
+  in_front_kept : (d : A) (es : List A) → Above R d es → keep R d es ≡ d ∷ es
+  in_front_kept d [] h = refl
+  in_front_kept d (e ∷ es) h = ap (λ r. match_ordering r (d ∷ e ∷ es) (e ∷ es) (e ∷ keep R d es)) h.0
+
+  filter_keep : (p : A → Bool) → ((a b : A) → R a b ≡ Equal → p a ≡ p b) → (d : A) (es : List A) → Rise R es → filter p (keep R d es) ≡ cond (p d) (keep R d (filter p es)) (filter p es)
+  filter_keep p alike d [] h = refl
+  filter_keep p alike d (e ∷ es) h = go (filter_keep p alike d es h.1) (R d e) refl
+    where
+      before : (b : Bool) → Above R d (filter p (e ∷ es)) → cond b (d ∷ filter p (e ∷ es)) (filter p (e ∷ es)) ≡ cond b (keep R d (filter p (e ∷ es))) (filter p (e ∷ es))
+      before true k = sym (in_front_kept d (filter p (e ∷ es)) k)
+      before false k = refl
+
+      same : (b : Bool) → R d e ≡ Equal → cond b (e ∷ filter p es) (filter p es) ≡ cond b (keep R d (cond b (e ∷ filter p es) (filter p es))) (cond b (e ∷ filter p es) (filter p es))
+      same true q = ap (λ r. match_ordering r (d ∷ e ∷ filter p es) (e ∷ filter p es) (e ∷ keep R d (filter p es))) (sym q)
+      same false q = refl
+
+      later : (a b : Bool) → R d e ≡ Greater → cond b (e ∷ cond a (keep R d (filter p es)) (filter p es)) (cond a (keep R d (filter p es)) (filter p es)) ≡ cond a (keep R d (cond b (e ∷ filter p es) (filter p es))) (cond b (e ∷ filter p es) (filter p es))
+      later true true q = ap (λ r. match_ordering r (d ∷ e ∷ filter p es) (e ∷ filter p es) (e ∷ keep R d (filter p es))) (sym q)
+      later false true q = refl
+      later true false q = refl
+      later false false q = refl
+
+      go : filter p (keep R d es) ≡ cond (p d) (keep R d (filter p es)) (filter p es) → (r : Ordering) → R d e ≡ r → filter p (match_ordering r (d ∷ e ∷ es) (e ∷ es) (e ∷ keep R d es)) ≡ cond (p d) (keep R d (filter p (e ∷ es))) (filter p (e ∷ es))
+      go rest Less q = before (p d) (above_filter p d (e ∷ es) (q, above_more d e es q h.0))
+      go rest Equal q = subst (λ b. cond b (e ∷ filter p es) (filter p es) ≡ cond (p d) (keep R d (cond b (e ∷ filter p es) (filter p es))) (cond b (e ∷ filter p es) (filter p es))) (alike d e q) (same (p d) q)
+      go rest Greater q = ap (λ ys. cond (p e) (e ∷ ys) ys) rest ∙ later (p d) (p e) q
+
+  -- those that pass, in order
+  pub filter_in_order : (p : A → Bool) → ((a b : A) → R a b ≡ Equal → p a ≡ p b) → (xs : List A) → filter p (in_order R xs) ≡ in_order R (filter p xs)
+  filter_in_order p alike [] = refl
+  filter_in_order p alike (x ∷ xs) = filter_keep p alike x (in_order R xs) (rise_in_order xs) ∙ go (p x) (filter_in_order p alike xs)
+    where
+      go : (b : Bool) → filter p (in_order R xs) ≡ in_order R (filter p xs) → cond b (keep R x (filter p (in_order R xs))) (filter p (in_order R xs)) ≡ in_order R (cond b (x ∷ filter p xs) (filter p xs))
+      go true rest = ap (keep R x) rest
+      go false rest = rest

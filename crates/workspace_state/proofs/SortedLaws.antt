@@ -9,7 +9,7 @@ use Rattle.std.proofs.lemmas.Cmp.{on_total, then_total, nat_cmp_total, nat_list_
 use Rattle.scheme_model.specs.Entries.{is_below}
 use Rattle.scheme_model.specs.Diagnostics.{Diagnostic, is_before, put_in, sorted}
 use Rattle.workspace_state.specs.Found.{in_document, kept}
-use Rattle.workspace_state.proofs.PutLaws.{keep, over, in_order, Rise, in_order_push, rise_in_order, filter_over}
+use Rattle.workspace_state.proofs.PutLaws.{keep, over, in_order, Rise, in_order_push, rise_in_order, filter_over, filter_in_order}
 
 -- by start, code and text
 abbrev pub key_cmp : ℕ × ℕ × List ℕ → ℕ × ℕ × List ℕ → Ordering
@@ -157,3 +157,7 @@ kept_here n ds d p =
 pub kept_there : (n : ℕ) (ds : List Diagnostic) (d : Diagnostic) → (d.document == n) ≡ false → map kept (in_document n (sorted (ds ++ d ∷ []))) ≡ map kept (in_document n (sorted ds))
 kept_there n ds d p =
     ap (map kept) (filter_push (λ x. x.document == n) (by_document n) ds d ∙ ap (λ b. cond b (over cmp d (in_document n (sorted ds))) (in_document n (sorted ds))) p)
+
+-- a document's part in order is its part of the order
+pub in_document_sorted : (n : ℕ) (ds : List Diagnostic) → in_document n (sorted ds) ≡ sorted (in_document n ds)
+in_document_sorted n ds = ap (in_document n) (sorted_is ds) ∙ filter_in_order cmp_total (λ x. x.document == n) (by_document n) ds ∙ sym (sorted_is (in_document n ds))

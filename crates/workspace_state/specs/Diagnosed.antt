@@ -1,5 +1,5 @@
 -- What the code finds in forms, beside the definition's diagnostics and Errors.
-use Rattle.std.specs.Prelude.{◌≡◌, ℕ, List, [], ◌∷◌, ◌++◌, Option, Some, None, Result, Ok, Err, codes}
+use Rattle.std.specs.Prelude.{◌≡◌, ℕ, suc, List, [], ◌∷◌, ◌++◌, Option, Some, None, Result, Ok, Err, codes}
 use Rattle.scheme_model.specs.declared.Occ.{Occ}
 use Rattle.scheme_model.specs.Ident.{Ident, symbol_of}
 use Rattle.scheme_model.specs.ExpansionFaults.{Named, Fault, fault_code, fault_name}
@@ -15,6 +15,9 @@ use Rattle.workspace_state.specs.declared.breaking.WholeFault.{WholeFault}
 use Rattle.workspace_state.specs.declared.breaking.WholeFault.TheVariants as code
 use Rattle.workspace_state.specs.declared.findings.At.{At}
 use Rattle.workspace_state.specs.declared.findings.Finding.{Finding}
+use Rattle.workspace_state.specs.declared.documents.Unread.{Unread}
+use Rattle.workspace_state.specs.Readings.{Read, Reads, Stops}
+use Rattle.workspace_state.specs.Wording.{worded}
 use Rattle.workspace_state.specs.Found.{all_told, errors_in}
 
 -- findings with more of them: these diagnostics, and these Errors by code and form
@@ -111,3 +114,19 @@ whole_at start (code.BadDeclaration s) = record { document = start.document; spa
 whole_at start code.DefinedTwice = start
 whole_at start code.ImportCycle = start
 whole_at start code.TooLarge = start
+
+-- ---- documents
+
+-- where a document doesn't read, if it doesn't
+abbrev pub stop_found : ℕ → Read → List Finding
+stop_found place (Reads ds spans) = []
+stop_found place (Stops f) = record { at = Some (record { document = place; span = record { start = f.start; end = f.end } }); form = 0; code = f.number; message = worded f.number [] } ∷ []
+
+abbrev pub stops_found : ℕ → List Read → List Finding
+stops_found place [] = []
+stops_found place (r ∷ rs) = stop_found place r ++ stops_found (suc place) rs
+
+-- the same by the fault that the code keeps
+abbrev pub unread_found : ℕ → Option Unread → List Finding
+unread_found place None = []
+unread_found place (Some u) = record { at = Some (record { document = place; span = u.span }); form = 0; code = u.number; message = worded u.number [] } ∷ []

@@ -14,8 +14,11 @@ ghost use Rattle.core_tree.specs.declared.traces.FormFault.{FormFault as Fault};
 ghost use Rattle.core_tree.specs.Traces.{IsFault};
 ghost use Rattle.core_tree.specs.Units.{FormsStand, form_errors, whole_code};
 ghost use Rattle.workspace_state.specs.declared.findings.At.{At as Found};
-ghost use Rattle.workspace_state.specs.Readings.{Read};
-ghost use Rattle.workspace_state.specs.Diagnosed.{Adds, IsWhole, fault_names, fault_found, unbound_found, whole_at, whole_number};
+ghost use Rattle.document_store.specs.Texts.{Document as Entry};
+ghost use Rattle.workspace_state.specs.Readings.{Read, AreReadAs, AreDocuments};
+ghost use Rattle.workspace_state.specs.Found.{all_told};
+ghost use Rattle.workspace_state.specs.Listed.{stops_told};
+ghost use Rattle.workspace_state.specs.Diagnosed.{Adds, IsWhole, fault_names, fault_found, unbound_found, unread_found, whole_at, whole_number};
 ghost use Rattle.workspace_state.specs.Places.{AreFoundIn, ArePlaces, CanPlace, spans_of};
 ghost use Rattle.workspace_state.specs.StandIn.{StandIn};
 ghost use Rattle.workspace_state.specs.Unbound.{IsUnbound};
@@ -203,7 +206,8 @@ fn whole_number(fault: WholeFault) -> u32
 
 /// Where documents can't be read on.
 pub fn unread_findings(alloc: Global, documents: &[Document]) -> Mem<Vec<Finding>>
-    ensures { IfOk result (λ findings. AreFoundIn (length documents.now) findings.items) }
+    ensures inside { IfOk result (λ findings. AreFoundIn (length documents.now) findings.items) }
+    ensures exact { (ds : List (List ℕ × Entry)) (rs : List Read) → AreDocuments ds documents.now → AreReadAs ds rs → IfOk result (λ findings. all_told findings.items ≡ stops_told 0 rs) }
 {
     let mut findings = Vec::new(alloc);
     for (place, document) in documents.iter().enumerate() {
@@ -219,7 +223,8 @@ fn add_unread(
     document: &Document,
     findings: &mut Vec<Finding>,
 ) -> Mem<()>
-    ensures { (count : ℕ) → place < count → AreFoundIn count findings.old.items → OnOk result (AreFoundIn count findings.new.items) }
+    ensures inside { (count : ℕ) → place < count → AreFoundIn count findings.old.items → OnOk result (AreFoundIn count findings.new.items) }
+    ensures exact { OnOk result (findings.new.items ≡ findings.old.items ++ unread_found place document.now.fault) }
 {
     if let Some(fault) = document.fault {
         let spot = At::new(place, fault.span);

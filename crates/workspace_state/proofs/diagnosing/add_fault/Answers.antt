@@ -23,5 +23,5 @@ returns-clause-fault c = λ rs us names fault e are kept has is.
     let same : fault ≡ c.in-Some.fault = cc in
     let here : IsFault names c.args.unit c.args.number c.in-Some.fault e = subst (λ (x : FormFault). IsFault names c.args.unit c.args.number x e) same is in
     let one = fault_is_found (bytes_of (spans_of rs) us) c.args.unit c.args.number names c.in-Some.fault e here c.at_or_form-spot.result c.name_of-name.result.now
-        (c.at_or_form-spot.ensures.exact rs us are) (c.name_of-name.ensures names c.args.unit c.args.number e kept here) c.in_ok-finding.finding c.in_ok-finding.ensures in
+    (c.at_or_form-spot.ensures.exact rs us are) (c.name_of-name.ensures names c.args.unit c.args.number e kept here) c.in_ok-finding.finding c.in_ok-finding.ensures in
     c.in_ok-push.ensures.items ∙ ap (λ (f : Finding). c.args.findings.now.items ++ f ∷ []) one

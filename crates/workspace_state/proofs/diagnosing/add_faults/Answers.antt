@@ -31,7 +31,7 @@ loop-place-preserved c =
           come_more (bytes_of (spans_of rs) us) work c.args.unit fs c.args.findings.now.items c.loop-place.findings.items c.add_fault.new.findings.items c.loop-place.place (c.loop-place.place + 1) c.index-forms-place.result c.args.forms.now at (add-one c.loop-place.place)
           (c.loop-place.invariant.exact rs us work fs are kept stand) c.in_ok-add_fault.ensures.whole
           (λ fault e has is. subst (λ n. IsFault work.symbols c.args.unit n fault e → c.add_fault.new.findings.items ≡ c.loop-place.findings.items ++ fault_found (bytes_of (spans_of rs) us) c.args.unit n e ∷ []) c.in_ok-number.ensures
-              (λ h. c.in_ok-add_fault.ensures.fault rs us work.symbols fault e are kept has h) is);
+          (λ h. c.in_ok-add_fault.ensures.fault rs us work.symbols fault e are kept has h) is);
     }
 
 pub returns-clause-exact : goal.returns-clause-exact
