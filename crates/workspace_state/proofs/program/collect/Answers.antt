@@ -31,7 +31,7 @@ turn c =
 pub add-requires : goal.add-requires
 add-requires c =
     let same : length c.as_slice.result.now ≡ vec_len c.in_ok-findings.findings = omega (arith, c.as_slice.ensures.len, c.in_ok-findings.ensures.count, c.len.ensures) in
-    subst (λ (n : ℕ). AreFoundIn n c.in_ok-unread_findings.field-0.items) same c.in_ok-unread_findings.ensures
+    subst (λ (n : ℕ). AreFoundIn n c.in_ok-unread_findings.field-0.items) same c.in_ok-unread_findings.ensures.inside
 
 pub loop-place-init : goal.loop-place-init
 loop-place-init c = record {
