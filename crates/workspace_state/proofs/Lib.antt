@@ -22,6 +22,10 @@ pub mod BrokenLaws
 pub mod MeaningLaws
 pub mod JoiningLaws
 pub mod FoundLaws
+pub mod PutLaws
+pub mod SortedLaws
+pub mod KeptLaws
+pub mod FirstLaws
 pub mod Nths
 pub mod Copies
 pub mod AfterLaws
@@ -51,3 +55,9 @@ pub mod CircleNames
 pub mod Handed
 pub mod JudgedLaws
 pub mod TurnCited
+pub mod ListLaws
+pub mod PublishLaws
+pub mod DiagnosedLaws
+pub mod UnboundFound
+pub mod WholeLaws
+pub mod StopsLaws

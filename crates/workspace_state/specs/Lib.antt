@@ -1,6 +1,7 @@
 pub mod Events
 pub mod Readings
 pub mod Listed
+pub mod Found
 pub mod Placed
 pub mod Formed
 pub mod Expansions
@@ -26,3 +27,5 @@ pub mod Listings
 pub mod Kept
 pub mod StandIn
 pub mod Turned
+pub mod Updates
+pub mod Diagnosed
