@@ -3,9 +3,15 @@ pub mod Enumerated
 pub mod Turns
 pub mod Matched
 pub mod BenchLaws
+pub mod UnitSteps
+pub mod UnitForms
+pub mod FormAtWork
 pub mod FormSteps
+pub mod DeclaredForms
 pub mod FormsHold
 pub mod FormsFinish
+pub mod FormsFinished
+pub mod FormsUnfold
 pub mod StandardNames
 pub mod PreludeMacros
 pub mod ImportedNames

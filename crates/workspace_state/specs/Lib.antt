@@ -4,6 +4,7 @@ pub mod Listed
 pub mod Placed
 pub mod Formed
 pub mod Expansions
+pub mod Ends
 pub mod Forms
 pub mod Begun
 pub mod Wording

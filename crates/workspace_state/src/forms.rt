@@ -1,9 +1,11 @@
 //! The forms of a unit (R7RS 5.1): all are gone through in order, and then what they set aside is expanded in order.
 ghost use Rattle.std.specs.Prelude.{◌≡◌, ℕ, ◌^◌, ◌≤◌, List, [], nat_lt, true, false, None, OnOk, IfOk, IfSome};
-ghost use Rattle.scheme_model.specs.Ident.{Ident as Identifier};
+ghost use Rattle.scheme_model.specs.Ident.{Ident as Identifier, Written};
 ghost use Rattle.scheme_model.specs.Trees.{Tree as ModelTree};
 ghost use Rattle.scheme_model.specs.UnitExpansion.{max_total};
 ghost use Rattle.scheme_model.specs.Requirements.{Known};
+ghost use Rattle.scheme_model.specs.Program.{Prepared};
+ghost use Rattle.scheme_model.specs.ScopedProgram.{forms_over};
 ghost use Rattle.scheme_model.specs.Order.{Note, Item as ModelItem};
 ghost use Rattle.scheme_model.specs.ScopedExpansion.{Frames, Place, ScopedState};
 ghost use Rattle.syntax_tree.specs.Names.{KeepsNames};
@@ -11,11 +13,12 @@ ghost use Rattle.syntax_tree.specs.Works.{IsOpened, StandsFor, KeepsTrees, SameR
 ghost use Rattle.datum_reader.specs.Right.{WasRead};
 ghost use Rattle.datum_reader.specs.Views.{datum_of};
 ghost use Rattle.library_table.specs.UnitsRead.{forms_of};
+ghost use Rattle.core_tree.specs.Units.{IsBlank};
 ghost use Rattle.expander.specs.Judged.{Knows};
 ghost use Rattle.expander.specs.Stepped.{IsFresh};
 ghost use Rattle.expander.specs.Outcomes.{IsAtWork};
 ghost use Rattle.expander.specs.Units.{UnitStands, CountsFor, HasSpace, ItemFor, CanDeclare, Expands, declared, expanded};
-ghost use Rattle.workspace_state.specs.Forms.{IsBench, IsBegun, IsUntouched, IsDeclared, Passing, PassesTo, PassesForm, FinishesTo, CanPass, CanFinish, FormsHeld, AreFormed, Stays};
+ghost use Rattle.workspace_state.specs.Forms.{IsBench, IsBegun, IsUntouched, IsDeclared, Passing, PassesTo, PassesForm, FinishesForm, CanPass, CanFinish, CanFinishAll, FormsHeld, Passes, Finishes, AreFormed, Unfolds, Stays};
 ghost use Rattle.workspace_state.specs.WereRead.{WereRead};
 
 use crate::defined::number_of;
@@ -61,6 +64,9 @@ pub fn expand_forms<L: Ledger>(
     ensures formed { IfOk result (λ forms. IfSome forms (AreFormed bench.new.work unit)) }
     ensures bench { OnOk result (IsBench bench.new) }
     ensures stays { OnOk result (Stays bench.old bench.new) }
+    // They are the definition's, or work on the unit ended, and the bench stands for the state in which it did.
+    ensures unfolds { (known : Known) (ls : List Frames) (s : ScopedState) (p : Prepared) → Knows bench.old.scope.libraries known → UnitStands bench.old.work bench.old.scope ls s [] → s.unit ≡ unit →
+        ((form : ℕ) → IsFresh s form) → p.number ≡ unit → p.forms ≡ forms_of forms.now → IfOk result (Unfolds bench.new known p s) }
 {
     let mut total = 0;
     let declared = declare_all(alloc, bench, unit, forms, &mut total, steps)?;
@@ -95,6 +101,8 @@ fn declare_all<L: Ledger>(
     requires nothing { total.old ≡ 0 }
     ensures held { IfOk result (λ all. FormsHeld bench.new unit 0 all.items) }
     ensures stays { OnOk result (Stays bench.old bench.new) }
+    ensures passes { (known : Known) (ls : List Frames) (s : ScopedState) → Knows bench.old.scope.libraries known → UnitStands bench.old.work bench.old.scope ls s [] → s.unit ≡ unit → ((form : ℕ) → IsFresh s form) →
+        IfOk result (λ all. Passes bench.new unit known (forms_over (Written unit) unit 0 (forms_of forms.now)) s total.new all.items) }
 {
     let mut all = Vec::new(alloc);
     for (place, form) in forms.iter().enumerate() {
@@ -241,6 +249,8 @@ fn finish_all<L: Ledger>(
     ensures formed { IfOk result (λ forms. nat_lt max_total total.new ≡ false → AreFormed bench.new.work unit forms) }
     ensures bench { OnOk result (IsBench bench.new) }
     ensures stays { OnOk result (Stays bench.old bench.new) }
+    ensures finishes { (known : Known) (h : FormsHeld bench.old unit 0 declared.items) (rs : List (ℕ × Passing)) → Knows bench.old.scope.libraries known →
+        CanFinishAll bench.old unit known rs h.state total.old declared.items → IfOk result (Finishes bench.new unit known rs h.state total.new) }
 {
     let mut forms = Items::new(alloc);
     for (place, form) in declared.into_iter().enumerate() {
@@ -266,9 +276,11 @@ fn finish<L: Ledger>(
     requires region { IsOpened bench.old.work bench.old.region }
     requires stands { CanFinish bench.old unit number form }
     requires few { total.old ≤ max_total }
-    ensures finishes { (ls : List Frames) (s : ScopedState) (notes : List (Note Place)) (r : Passing) →
+    ensures blank { IsUntouched form → IfOk result IsBlank }
+    ensures same { IsUntouched form → OnOk result ((bench.new ≡ bench.old) × (total.new ≡ total.old)) }
+    ensures finishes { (known : Known) (ls : List Frames) (s : ScopedState) (notes : List (Note Place)) (r : Passing) → Knows bench.old.scope.libraries known →
         UnitStands bench.old.work bench.old.scope ls s notes → s.unit ≡ unit → IsDeclared bench.old.work bench.old.region unit number s form r →
-        IfOk result (FinishesTo bench.old bench.new unit number s) }
+        IfOk result (FinishesForm bench.old bench.new known unit number r s total.old total.new) }
     ensures stays { OnOk result (Stays bench.old bench.new) }
 {
     let Declared {
