@@ -1,7 +1,7 @@
-mod NamedLaws
-mod RepeatedLaws
+pub mod NamedLaws
+pub mod RepeatedLaws
 mod ExportLaws
-mod GraphLaws
+pub mod GraphLaws
 mod CircleLaws
 mod OrderLaws
 mod WorkLaws

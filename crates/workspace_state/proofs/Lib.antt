@@ -39,3 +39,14 @@ pub mod UnboundLaws
 pub mod ImportLaws
 pub mod DefinedLaws
 pub mod ExportLaws
+pub mod NamedUnits
+pub mod TurnGraph
+pub mod TurnResults
+pub mod TurnSteps
+pub mod TurnWork
+pub mod TurnedLaws
+pub mod BrokenSteps
+pub mod CircleNames
+pub mod Handed
+pub mod JudgedLaws
+pub mod TurnCited

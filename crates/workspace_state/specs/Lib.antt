@@ -25,3 +25,4 @@ pub mod Belongs
 pub mod Listings
 pub mod Kept
 pub mod StandIn
+pub mod Turned

@@ -1,9 +1,11 @@
 -- The units are sound throughout, and those that are expanded are new on the bench.
-use Rattle.std.proofs.Common.{◌≡◌, ℕ, ◌<◌, [], ◌∷◌, List, true, length, vec_len, sym, ap, ◌∙◌, subst, arith}
+use Rattle.std.proofs.Common.{◌≡◌, ℕ, ◌<◌, [], ◌∷◌, List, true, length, take, vec_len, sym, ap, ◌∙◌, subst, arith}
 use Rattle.std.specs.FinMap as map
 use Rattle.std.specs.FinMap.{entries}
 use Rattle.scheme_model.specs.Prelude.{prelude}
 use Rattle.scheme_model.specs.Program.{is_in, prelude_unit, max_units}
+use Rattle.library_table.specs.declared.units.UnitSource.{UnitSource}
+use Rattle.library_table.specs.Named.{place_named}
 use Rattle.library_table.specs.Orders.{ArePlaces}
 use Rattle.expander.specs.Preluded.{prelude_state}
 use Rattle.expander.specs.declared.scope.UnitScope.{UnitScope}
@@ -31,6 +33,9 @@ judge-requires-clause-within g c =
     let u = c.in_ok-units.units in
     let same : length c.as_slice-3.result.now ≡ vec_len u.heads = omega (arith, c.as_slice-3.ensures.len, c.in_ok-units.ensures.sources, u.sources.ok.0, u.heads.ok.0) in
     subst (λ (n : ℕ). FindsBelow n c.in_ok-firsts.firsts) same c.in_ok-firsts.ensures.within
+
+pub judge-requires-clause-named : goal.judge-requires-clause-named
+judge-requires-clause-named g c = λ s. c.in_ok-firsts.ensures.named s ∙ ap (λ (us : List UnitSource). place_named s 0 (take max_units us)) c.as_slice-3.ensures.value
 
 pub expand_all-requires-clause-bench : goal.expand_all-requires-clause-bench
 expand_all-requires-clause-bench g c = record {
