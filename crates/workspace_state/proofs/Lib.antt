@@ -50,3 +50,10 @@ pub mod CircleNames
 pub mod Handed
 pub mod JudgedLaws
 pub mod TurnCited
+pub mod UnitGoes
+pub mod UnitCame
+pub mod CameKept
+pub mod NamesStay
+pub mod UpTo
+pub mod UpToNext
+pub mod ProgramOf

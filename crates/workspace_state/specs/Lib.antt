@@ -26,3 +26,4 @@ pub mod Listings
 pub mod Kept
 pub mod StandIn
 pub mod Turned
+pub mod Came
