@@ -57,3 +57,5 @@ pub mod NamesStay
 pub mod UpTo
 pub mod UpToNext
 pub mod ProgramOf
+pub mod CollectLaws
+pub mod Collecting

@@ -8,7 +8,8 @@ use Rattle.scheme_model.specs.Ident.{Ident}
 use Rattle.scheme_model.specs.Order.{is_some}
 use Rattle.scheme_model.specs.Requirements.{Known, LibraryName}
 use Rattle.scheme_model.specs.Substitution.{Defined, Table, defined_in}
-use Rattle.scheme_model.specs.Program.{Placed, Prepared, prepared, prepare, WholeFault, TooMany, UnitResult, Program, result_at, imported_units, all_done, is_in, in_order, broken_result, fault_before}
+use Rattle.scheme_model.specs.Program.{Placed, Prepared, prepared, prepare, ExportSpec, WholeFault, TooMany, UnitResult, Program, result_at, imported_units, all_done, is_in, in_order, broken_result, fault_before}
+use Rattle.scheme_model.specs.Live.{NameUse}
 use Rattle.scheme_model.specs.ProgramArrows.{is_whole, program_table, unit_names}
 use Rattle.scheme_model.specs.ScopedProgram.{ScopedProgress, scoped_work, scoped_before, scoped_program_with}
 use Rattle.syntax_tree.specs.declared.trees.Work.{Work}
@@ -165,8 +166,8 @@ module _ (us : List Placed) (known : Known) where
         forms = h.forms;
         count = h.count;
         definitions = subst (λ (t : Table). AreDefinitions work.symbols (reverse (definitions_from 0 c.forms)) (defined_by r.unit.number t)) (sym table_is) h.definitions;
-        names = subst (λ xs. AreNames work.symbols r.unit.number c.names _ xs) (sym (externals_same us (so_far turned) whole r keeps_turned imports defines))
-            (subst (λ ms. AreNames work.symbols r.unit.number c.names ms _) (sym (unit_names_same us (so_far turned) whole r keeps_turned imports defines)) h.names);
+        names = subst (λ (xs : List ExportSpec). AreNames work.symbols r.unit.number c.names (unit_names us whole r) xs) (sym (externals_same us (so_far turned) whole r keeps_turned imports defines))
+            (subst (λ (ms : List NameUse). AreNames work.symbols r.unit.number c.names ms (externals turned.table r)) (sym (unit_names_same us (so_far turned) whole r keeps_turned imports defines)) h.names);
         exports = h.exports;
       }
 
@@ -211,6 +212,29 @@ module _ (us : List Placed) (known : Known) where
       go (Some s) e h =
           let same : s ≡ r = same_Some s r (sym (keeps_turned n (ap (λ (v : Option UnitResult). is_some v) e) ∙ e) ∙ here) in
           subst (λ (q : UnitResult). ComesTo us whole work o q) same (lasts o s (done n s e) h)
+
+  -- each is of the unit at its place
+  pub unit_prepared : (n : ℕ) (r : UnitResult) → slice_get whole.units n ≡ Some r → (u : Placed) × ((slice_get us n ≡ Some u) × (r.unit ≡ prepared us n u))
+  unit_prepared n r at = by (cases_lt n 128)
+    where
+      lt : n < length ps
+      lt = let within = slice_get_within whole.units n r at in let e = (scoped_units us known).0 in omega arith
+
+      found : result_at last.results n ≡ Some r
+      found = sym ((scoped_units us known).1 n lt) ∙ at
+
+      get : (xs : List Prepared) (n : ℕ) → n < length xs → (p : Prepared) × (slice_get xs n ≡ Some p)
+      get [] n lt = absurd (omega arith)
+      get (x ∷ xs) zero lt = (x, refl)
+      get (x ∷ xs) (suc n) lt = get xs n (omega arith)
+
+      by : (n < 128) ⊎ (128 ≤ n) → (u : Placed) × ((slice_get us n ≡ Some u) × (r.unit ≡ prepared us n u))
+      by (inl few) = let d = done_at us known (turns us) [] (sym (append-nil (turns us))) n r (sym (scoped_result us known n few) ∙ found) in (d.unit, (d.there, d.is))
+      by (inr many) =
+          let p = get ps n lt in
+          let is : r ≡ broken_result p.0 TooMany = same_Some r (broken_result p.0 TooMany) (sym found ∙ scoped_left us known n p.0 many p.1) in
+          let u = prepared_at us us 0 n p.0 p.1 in
+          (u.0, (u.1.0, ap (λ (s : UnitResult). s.unit) is ∙ (sym u.1.1 ∙ ap (λ k. prepared us k u.0) (from_zero n))))
 
   -- what whole units define is in the program's table, and what broken ones do isn't
   pub defined_whole : (n : ℕ) (r : UnitResult) → slice_get whole.units n ≡ Some r → r.fault ≡ None → defined_by n (program_table whole) ≡ defined_by n whole.table

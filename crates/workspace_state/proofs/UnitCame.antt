@@ -18,9 +18,8 @@ use Rattle.syntax_tree.specs.declared.units.Entry as code
 use Rattle.syntax_tree.specs.declared.units.UnitKind.{UnitKind}
 use Rattle.syntax_tree.specs.declared.units.UnitKind.TheVariants as kinds
 use Rattle.core_tree.specs.Names.{AllMatch}
-use Rattle.core_tree.specs.Units.{FormsStand, AreDefinitions, definitions_from, defined_by}
+use Rattle.core_tree.specs.Units.{FormsStand, AreDefinitions, definitions_from, defined_by, kind_as}
 use Rattle.core_tree.specs.declared.units.UnitForm.{UnitForm}
-use Rattle.library_table.specs.UnitsRead.{kind_of}
 use Rattle.expander.specs.Opened.{ImportsFor, started, with_imports}
 use Rattle.expander.specs.Preluded.{Continues}
 use Rattle.expander.specs.Searched.{searched_unit_over}
@@ -62,11 +61,11 @@ imports_entered names xs ds h = record {
 
 -- ---- the start
 
-same_kind : (k : UnitKind) → is_program_kind k ≡ is_program (kind_of k)
+same_kind : (k : UnitKind) → is_program_kind k ≡ is_program (kind_as k)
 same_kind kinds.Library = refl
 same_kind kinds.Program = refl
 
-start_is : (kind : UnitKind) (unit : ℕ) (p : Prepared) (g : ScopedProgress) (ds : List Entry) (s : ScopedState) → Continues s g → p.number ≡ unit → kind_of kind ≡ p.placed.source.kind →
+start_is : (kind : UnitKind) (unit : ℕ) (p : Prepared) (g : ScopedProgress) (ds : List Entry) (s : ScopedState) → Continues s g → p.number ≡ unit → kind_as kind ≡ p.placed.source.kind →
     started unit (is_program_kind kind) (with_imports unit (imported_by ds) s.entry) s ≡ scoped_start_of p g (with_entries p.number ds g.entry)
 start_is kind unit p g ds s h own k =
     ap (λ (n : ℕ). started n (is_program_kind kind) (with_imports n (imported_by ds) s.entry) s) (sym own)
@@ -80,7 +79,7 @@ pub record BeginsAt (b : Bench) (s : ScopedState) : Type 0 where
   pub stands : UnitStands b.work b.scope layout s []
   pub fresh : (m : ℕ) → IsFresh s m
 
-pub goes_begun : (b c : Bench) (w : Work) (unit : ℕ) (kind : UnitKind) (xs : List Imported) (es : List code.Entry) (p : Prepared) (g : ScopedProgress) (ds : List Entry) → GoesOn b g → p.number ≡ unit → kind_of kind ≡ p.placed.source.kind →
+pub goes_begun : (b c : Bench) (w : Work) (unit : ℕ) (kind : UnitKind) (xs : List Imported) (es : List code.Entry) (p : Prepared) (g : ScopedProgress) (ds : List Entry) → GoesOn b g → p.number ≡ unit → kind_as kind ≡ p.placed.source.kind →
     w.trees ≡ b.work.trees → KeepsNames b.work.symbols w.symbols → AreToldApart w.symbols.idents → AreToldApart w.symbols.symbols → AllMatch (IsImport w.symbols) xs es → AreEntries b.work.symbols es ds → EachOnce es →
     ((ls : List Frames) (s : ScopedState) (notes : List (Note Place)) (given : List ℕ → Option Meaning) → UnitStands w b.scope ls s notes → ImportsFor w.symbols xs given →
     UnitStands c.work c.scope (ls ++ [] ∷ []) (started unit (is_program_kind kind) (with_imports unit given s.entry) s) []) →

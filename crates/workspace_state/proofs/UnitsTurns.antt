@@ -61,7 +61,7 @@ all_mean old new names all was n e at = mean_kept old new names e.exports (was n
 -- ---- what the forms of each stand for
 
 -- blank forms stand for none
-blank_stand : (work : Work) (unit form : ℕ) (cs : List UnitForm) → All IsBlank cs → FormsStand work unit form cs []
+pub blank_stand : (work : Work) (unit form : ℕ) (cs : List UnitForm) → All IsBlank cs → FormsStand work unit form cs []
 blank_stand work unit form [] h = tt
 blank_stand work unit form (c ∷ cs) h = (h 0 c (omega arith), blank_stand work unit (suc form) cs (λ k d lt. h (suc k) d (omega arith)))
 

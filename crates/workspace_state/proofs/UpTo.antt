@@ -10,11 +10,13 @@ use Rattle.scheme_model.specs.Requirements.{Known}
 use Rattle.scheme_model.specs.Entries.{Entry}
 use Rattle.scheme_model.specs.Substitution.{Defined, Table, Entries, defined_in}
 use Rattle.scheme_model.specs.UnitExpansion.{Formed}
-use Rattle.scheme_model.specs.Program.{Placed, Prepared, prepared, prepare, WholeFault, SetResult, UnitResult, Program, result_at, imported_units, is_in, all_done, is_ready, broken_result, unit_result, unit_entries, fault_before}
+use Rattle.scheme_model.specs.Program.{Placed, Prepared, prepared, prepare, ExportSpec, WholeFault, SetResult, UnitResult, Program, result_at, imported_units, is_in, all_done, is_ready, broken_result, unit_result, unit_entries, fault_before}
+use Rattle.scheme_model.specs.Live.{NameUse}
+use Rattle.scheme_model.specs.ProgramArrows.{unit_names}
 use Rattle.scheme_model.specs.ScopedProgram.{ScopedProgress, scoped_by_fault, scoped_before}
 use Rattle.syntax_tree.specs.declared.trees.Work.{Work}
 use Rattle.syntax_tree.proofs.Places.{none_some}
-use Rattle.core_tree.specs.Units.{AreDefinitions, definitions_from, defined_by, AreNames}
+use Rattle.core_tree.specs.Units.{AreDefinitions, definitions_from, defined_by, AreNames, externals}
 use Rattle.expander.specs.Others.{InFront}
 use Rattle.workspace_state.specs.Came.{CameTo, ComesTo, IsCome, HaveCome, so_far}
 use Rattle.workspace_state.specs.Turned.{turns, scoped_at}
@@ -147,7 +149,9 @@ module _ (all : List Placed) (rs : List UnitResult) (n : ℕ) (u : Placed) (ther
           forms = h.forms;
           count = h.count;
           definitions = subst (λ (ds : List Defined). AreDefinitions work.symbols (reverse (definitions_from 0 c.forms)) ds) (sym (others_define n s.unit.number away old.table now.table front)) h.definitions;
-          names = subst (λ xs. AreNames work.symbols s.unit.number c.names _ xs) (sym (externals_same all old now s keep imports defines)) (subst (λ ms. AreNames work.symbols s.unit.number c.names ms _) (sym (unit_names_same all old now s keep imports defines)) h.names);
+          names =
+              subst (λ (xs : List ExportSpec). AreNames work.symbols s.unit.number c.names (unit_names all now s) xs) (sym (externals_same all old now s keep imports defines))
+              (subst (λ (ms : List NameUse). AreNames work.symbols s.unit.number c.names ms (externals old.table s)) (sym (unit_names_same all old now s keep imports defines)) h.names);
           exports = h.exports;
         }
 
@@ -172,7 +176,9 @@ module _ (all : List Placed) (rs : List UnitResult) (n : ℕ) (u : Placed) (ther
           forms = h.forms;
           count = h.count;
           definitions = subst (λ (t : Table). AreDefinitions work.symbols (reverse (definitions_from 0 c.forms)) (defined_by r.unit.number t)) (sym same) h.definitions;
-          names = subst (λ xs. AreNames work.symbols r.unit.number c.names _ xs) (sym (externals_same all old now r keep_own imports defines)) (subst (λ ms. AreNames work.symbols r.unit.number c.names ms _) (sym (unit_names_same all old now r keep_own imports defines)) h.names);
+          names =
+              subst (λ (xs : List ExportSpec). AreNames work.symbols r.unit.number c.names (unit_names all now r) xs) (sym (externals_same all old now r keep_own imports defines))
+              (subst (λ (ms : List NameUse). AreNames work.symbols r.unit.number c.names ms (externals old.table r)) (sym (unit_names_same all old now r keep_own imports defines)) h.names);
           exports = h.exports;
         }
 

@@ -1,10 +1,11 @@
 -- The unit whose turn it is, broken or expanded: all units up to it are what the definition has of them.
-use Rattle.std.proofs.Common.{◌≡◌, ℕ, ◌⊎◌, inl, inr, List, [], ◌∷◌, ◌++◌, Bool, true, false, cond, length, slice_get, slice_set, Option, Some, None, refl, sym, ap, ◌∙◌, subst}
+use Rattle.std.proofs.Common.{◌≡◌, ℕ, zero, suc, ◌<◌, ◌⊎◌, inl, inr, List, [], ◌∷◌, ◌++◌, Bool, true, false, cond, length, slice_get, slice_set, Option, Some, None, refl, sym, ap, ◌∙◌, subst, arith}
 use Rattle.std.specs.Prelude.{◌==◌}
 use Rattle.std.specs.Option.{option_map, is_some as is_there, is_none}
-use Rattle.std.proofs.lemmas.Option.{same_Some}
+use Rattle.std.proofs.lemmas.List.{length-set}
+use Rattle.std.proofs.lemmas.Option.{same_Some, slice_get_within}
 use Rattle.scheme_model.specs.Order.{is_some}
-use Rattle.scheme_model.specs.Requirements.{Known}
+use Rattle.scheme_model.specs.Requirements.{LibraryName, Known}
 use Rattle.scheme_model.specs.Entries.{Entry}
 use Rattle.scheme_model.specs.Substitution.{Table, Entries}
 use Rattle.scheme_model.specs.ScopedExpansion.{ScopedState}
@@ -19,7 +20,9 @@ use Rattle.expander.specs.Searched.{searched_unit_over}
 use Rattle.expander.proofs.OtherForms.{none_in_front}
 use Rattle.expander.proofs.SearchedPrograms.{unit_law}
 use Rattle.workspace_state.specs.Broken.{told, or_fault, broken_by, broken_if}
-use Rattle.workspace_state.specs.Came.{AreSourcesOf, ComesTo, HaveCome, so_far, with_unit, fault_by, HeadsBy, GoesOn, expanded_after, Expands, IsUpTo}
+use Rattle.workspace_state.specs.Came.{AreSourcesOf, FindsLibraries, ComesTo, IsCome, HaveCome, so_far, with_unit, fault_by, HeadsBy, GoesOn, expanded_after, Expands, IsUpTo}
+use Rattle.workspace_state.specs.SetsGiven.{AreEntriesIf, AreLibraries, exports_of}
+use Rattle.workspace_state.specs.declared.entries.Libraries.{Libraries}
 use Rattle.workspace_state.specs.Turned.{turns, scoped_at}
 use Rattle.workspace_state.specs.declared.breaking.WholeFault.{WholeFault}
 use Rattle.workspace_state.specs.declared.breaking.WholeFault.TheVariants as fault
@@ -30,7 +33,7 @@ use Rattle.workspace_state.specs.declared.listing.Units.{Units}
 use Rattle.workspace_state.proofs.ChangedLaws.{set_cases}
 use Rattle.workspace_state.proofs.TurnCited.{TurnOf, turn_of, turn_broken, turn_expanded}
 use Rattle.workspace_state.proofs.UnitGoes.{IsOfUnit, searched_goes}
-use Rattle.workspace_state.proofs.UpTo.{test, other_result, own_result, imports_done, done_at, come_none, come_set, comes_own}
+use Rattle.workspace_state.proofs.UpTo.{test, other_result, own_result, imports_done, done_at, AreDone, come_none, come_set, comes_own}
 
 -- ---- faults
 
@@ -97,14 +100,44 @@ module _ (us : List Placed) (g k : ScopedProgress) (n : ℕ) (u : Placed) (there
       go (inr t) =
           by m v h at head ∙ sym (ap (λ (o : Option UnitResult). option_map told (fault_by us o (prepared us m v))) (ap (λ (ts : List UnitResult). result_at ts m) next ∙ other_result g.results r new m t))
 
+-- ---- libraries
+
+module _ (spelled : LibraryName → List ℕ) (us : List Placed) (g : ScopedProgress) (work : Work) (c : Libraries) (finds : FindsLibraries spelled us c.firsts.now) (come : HaveCome us g work c.expanded.now) (long : length c.expanded.now ≡ length us)
+    (done : AreDone us g.results) where
+  there_none : (r : UnitResult) (f : model.WholeFault) → r ≡ broken_result r.unit f → model.exports_if (Some r) ≡ None
+  there_none r f h = ap (λ (o : Option model.WholeFault). cond (is_some o) None (Some r.exports)) (ap (λ (q : UnitResult). q.fault) h)
+
+  there_some : (r : UnitResult) → r.fault ≡ None → model.exports_if (Some r) ≡ Some r.exports
+  there_some r h = ap (λ (o : Option model.WholeFault). cond (is_some o) None (Some r.exports)) h
+
+  exports_at_place : (n : ℕ) (e : Option (Option Expanded)) → slice_get c.expanded.now n ≡ e → (o : Option UnitResult) → result_at g.results n ≡ o → ((v : Option Expanded) → e ≡ Some v → IsCome us (so_far g) work v o) →
+      AreEntriesIf work.symbols (exports_of e) (model.exports_if o)
+  exports_at_place n None at None is h = refl
+  exports_at_place n None at (Some r) is h = absurd (beyond c.expanded.now n at (let d = done n r is in let lt = slice_get_within us n d.unit d.there in omega arith))
+    where
+      beyond : (es : List (Option Expanded)) (n : ℕ) → slice_get es n ≡ None → n < length es → ⊥
+      beyond [] n at lt = absurd (omega arith)
+      beyond (e ∷ es) zero at lt = absurd cc
+      beyond (e ∷ es) (suc n) at lt = beyond es n at (omega arith)
+  exports_at_place n (Some v) at None is h = subst (λ (w : Option Expanded). AreEntriesIf work.symbols (exports_of (Some w)) None) (sym (h v refl)) refl
+  exports_at_place n (Some None) at (Some r) is h = let b = h None refl in there_none r b.0 b.1
+  exports_at_place n (Some (Some e)) at (Some r) is h = let b = h (Some e) refl in (r.exports, there_some r b.whole, b.exports)
+
+  pub libraries_of : AreLibraries work.symbols c spelled us g.results
+  libraries_of = record {
+    spells = finds.spells;
+    units = finds.units;
+    exports = λ n. exports_at_place n (slice_get c.expanded.now n) refl (result_at g.results n) refl (λ v at. come n v at);
+  }
+
 -- ---- the next unit
 
-module _ (us : List Placed) (known : Known) (x y : List ℕ) (n : ℕ) (order : turns us ≡ x ++ n ∷ y) (b : Bench) (units : Units) (es : List (Option Expanded)) (up : IsUpTo us known x b units es)
+module _ (spelled : LibraryName → List ℕ) (us : List Placed) (known : Known) (x y : List ℕ) (n : ℕ) (order : turns us ≡ x ++ n ∷ y) (b : Bench) (units : Units) (es : List (Option Expanded)) (up : IsUpTo spelled us known x b units es)
     (hd : Head) (place : slice_get units.heads.items n ≡ Some hd) where
   abbrev g : ScopedProgress
   g = scoped_at us known x
 
-  turn : TurnOf us known x n
+  abbrev turn : TurnOf us known x n
   turn = turn_of us known x y n order
 
   abbrev p : Prepared
@@ -113,7 +146,7 @@ module _ (us : List Placed) (known : Known) (x y : List ℕ) (n : ℕ) (order : 
   before : hd.fault ≡ option_map told (fault_before us (prepare us 0 us) p)
   before = up.heads n turn.unit hd turn.there place ∙ ap (λ (o : Option UnitResult). option_map told (fault_by us o p)) (no_result (result_at g.results n) turn.fresh)
 
-  pub broken_next : is_there hd.fault ≡ true → IsUpTo us known (x ++ n ∷ []) b units es
+  pub broken_next : is_there hd.fault ≡ true → IsUpTo spelled us known (x ++ n ∷ []) b units es
   broken_next h =
       let e = told_some (fault_before us (prepare us 0 us) p) hd.fault before h in
       let r = broken_result p e.0 in
@@ -129,6 +162,7 @@ module _ (us : List Placed) (known : Known) (x y : List ℕ) (n : ℕ) (order : 
         heads = subst (λ (q : ScopedProgress). HeadsBy us q units.heads.items) (sym is)
             (heads_kept us g k n turn.unit turn.there r refl turn.fresh refl units.heads.items up.heads hd place (before ∙ ap (option_map told) e.1));
         sources = up.sources;
+        count = up.count;
       }
 
   module _ (whole : is_there hd.fault ≡ false) where
@@ -176,7 +210,7 @@ module _ (us : List Placed) (known : Known) (x y : List ℕ) (n : ℕ) (order : 
     front = (searched_goes known p (scoped_start_of p g entry)).table
 
     pub expanded_next : (c : Bench) (v : Units) (came : Option Expanded) → Knows c.scope.libraries known → HaveCome us g c.work es → Expands us known c g p imports came → v.sources ≡ units.sources →
-        v.heads.items ≡ slice_set units.heads.items n (broken_if (is_none came) fault.TooLarge hd) → IsUpTo us known (x ++ n ∷ []) c v (slice_set es n came)
+        v.heads.items ≡ slice_set units.heads.items n (broken_if (is_none came) fault.TooLarge hd) → IsUpTo spelled us known (x ++ n ∷ []) c v (slice_set es n came)
     expanded_next c v came knows come expands sources heads =
         let done = done_at us known x (n ∷ y) order in
         let fresh : is_some (result_at g.results r.unit.number) ≡ false = ap (λ m. is_some (result_at g.results m)) own ∙ turn.fresh in
@@ -189,5 +223,6 @@ module _ (us : List Placed) (known : Known) (x y : List ℕ) (n : ℕ) (order : 
               (subst (λ (hs : List Head). HeadsBy us k hs) (sym heads)
               (heads_set us g k n turn.unit turn.there r own fresh refl units.heads.items up.heads (broken_if (is_none came) fault.TooLarge hd)
               (now_broken us (with_unit g gone.1) c.work p imports gone.1.table gone.0 hd came (none_there hd.fault whole) expands.comes)));
-          sources = subst (λ ss. AreSourcesOf us ss) (ap (λ ss. ss.items) (sym sources)) up.sources;
+          sources = subst (λ ss. AreSourcesOf spelled us ss) (ap (λ ss. ss.items) (sym sources)) up.sources;
+          count = length-set es n came ∙ up.count;
         }

@@ -2,26 +2,29 @@
 use Rattle.std.specs.Prelude.{◌≡◌, ℕ, List, length, reverse, slice_get, Option, Some, None, String}
 use Rattle.std.specs.declared.alloc.Global.{Global}
 use Rattle.std.specs.BTreeMap.{BTreeMap, get_by_text}
-use Rattle.std.specs.List.{Contains}
 use Rattle.std.specs.Option.{option_map}
 use Rattle.scheme_model.specs.Requirements.{LibraryName, Known}
 use Rattle.scheme_model.specs.ScopedExpansion.{ScopedState}
-use Rattle.scheme_model.specs.Entries.{Entry, library_in}
+use Rattle.scheme_model.specs.Entries.{Entry}
 use Rattle.scheme_model.specs.UnitExpansion.{Formed}
-use Rattle.scheme_model.specs.Program.{Placed, Prepared, prepared, prepare, ImportSpec, unit_named, WholeFault, fault_before, SetResult, UnitResult, Program, result_at, with_entries, broken_result, unit_result}
+use Rattle.scheme_model.specs.Program.{Placed, Prepared, prepared, prepare, unit_named, WholeFault, fault_before, SetResult, UnitResult, Program, result_at, with_entries, broken_result, unit_result}
 use Rattle.scheme_model.specs.ProgramArrows.{unit_names}
 use Rattle.scheme_model.specs.ScopedProgram.{ScopedProgress, scoped_start_of, after_unit}
 use Rattle.syntax_tree.specs.Meant.{AreEntries}
 use Rattle.syntax_tree.specs.declared.trees.Work.{Work}
-use Rattle.core_tree.specs.Units.{FormsStand, AreDefinitions, definitions_from, defined_by, AreNames, externals}
-use Rattle.library_table.specs.PartsRead.{library_text}
-use Rattle.library_table.specs.UnitsRead.{forms_of, kind_of, AreSpecs, AreExportsRead}
+use Rattle.core_tree.specs.Names.{AllMatch}
+use Rattle.core_tree.specs.Units.{FormsStand, AreDefinitions, definitions_from, defined_by, AreNames, externals, kind_as}
+use Rattle.base_library.specs.Texts.{SpellsStandard}
+use Rattle.library_table.specs.Sources.{AreExports}
+use Rattle.library_table.specs.UnitsRead.{forms_of}
 use Rattle.library_table.specs.declared.units.UnitSource.{UnitSource}
 use Rattle.expander.specs.Judged.{Knows}
 use Rattle.expander.specs.Preluded.{Continues}
 use Rattle.expander.specs.Searched.{searched_unit_over}
 use Rattle.workspace_state.specs.Broken.{told}
 use Rattle.workspace_state.specs.Forms.{StandsAt}
+use Rattle.workspace_state.specs.NamesUsed.{HaveOneIfSame}
+use Rattle.workspace_state.specs.SetsGiven.{IsSpec}
 use Rattle.workspace_state.specs.Turned.{scoped_at}
 use Rattle.workspace_state.specs.declared.expanding.Expanded.{Expanded}
 use Rattle.workspace_state.specs.declared.forms.Bench.{Bench}
@@ -31,19 +34,21 @@ use Rattle.workspace_state.specs.declared.listing.Units.{Units}
 -- ---- sources
 
 -- the source of a unit, whose imports are there unless it is broken
-pub record IsSourceOf (p : Prepared) (broken : Option WholeFault) (c : UnitSource) : Type 0 where
-  pub kind : kind_of c.kind ≡ p.placed.source.kind
+pub record IsSourceOf (spelled : LibraryName → List ℕ) (p : Prepared) (broken : Option WholeFault) (c : UnitSource) : Type 0 where
+  pub kind : kind_as c.kind ≡ p.placed.source.kind
   pub forms : p.forms ≡ forms_of c.forms
-  pub imports : broken ≡ None → AreSpecs c.imports p.specs
-  pub exports : AreExportsRead c.exports p.exports
+  pub imports : broken ≡ None → AllMatch (IsSpec spelled) c.imports p.specs
+  pub exports : AreExports c.exports p.exports
+  pub single : HaveOneIfSame p.exports
 
 -- each unit has one
-abbrev pub AreSourcesOf : List Placed → List UnitSource → Type 0
-AreSourcesOf all cs = (n : ℕ) (u : Placed) (c : UnitSource) → slice_get all n ≡ Some u → slice_get cs n ≡ Some c → IsSourceOf (prepared all n u) (fault_before all (prepare all 0 all) (prepared all n u)) c
+abbrev pub AreSourcesOf : (LibraryName → List ℕ) → List Placed → List UnitSource → Type 0
+AreSourcesOf spelled all cs = (n : ℕ) (u : Placed) (c : UnitSource) → slice_get all n ≡ Some u → slice_get cs n ≡ Some c → IsSourceOf spelled (prepared all n u) (fault_before all (prepare all 0 all) (prepared all n u)) c
 
--- the libraries that import sets are of are found by their texts
-abbrev pub FindsLibraries : List Placed → BTreeMap (String Global) ℕ → Type 0
-FindsLibraries all firsts = (p : Prepared) (s : ImportSpec) (n : LibraryName) → Contains (prepare all 0 all) p → Contains p.specs s → library_in s.set ≡ Some n → get_by_text firsts (library_text n) ≡ unit_named n 0 all
+-- names lead to the first units that have them
+pub record FindsLibraries (spelled : LibraryName → List ℕ) (all : List Placed) (firsts : BTreeMap (String Global) ℕ) : Type 0 where
+  pub spells : SpellsStandard spelled
+  pub units : (n : LibraryName) → get_by_text firsts (spelled n) ≡ unit_named n 0 all
 
 -- ---- what units came to
 
@@ -105,9 +110,10 @@ pub record Expands (all : List Placed) (known : Known) (b : Bench) (g : ScopedPr
   pub comes : ComesTo all (with_unit g (expanded_after known g p imports.0).1) b.work came (unit_result p imports (expanded_after known g p imports.0).1.table (expanded_after known g p imports.0).0)
 
 -- the units at these places are done
-pub record IsUpTo (all : List Placed) (known : Known) (x : List ℕ) (b : Bench) (u : Units) (es : List (Option Expanded)) : Type 0 where
+pub record IsUpTo (spelled : LibraryName → List ℕ) (all : List Placed) (known : Known) (x : List ℕ) (b : Bench) (u : Units) (es : List (Option Expanded)) : Type 0 where
   pub knows : Knows b.scope.libraries known
   pub goes : GoesOn b (scoped_at all known x)
   pub come : HaveCome all (scoped_at all known x) b.work es
   pub heads : HeadsBy all (scoped_at all known x) u.heads.items
-  pub sources : AreSourcesOf all u.sources.items
+  pub sources : AreSourcesOf spelled all u.sources.items
+  pub count : length es ≡ length all

@@ -27,3 +27,6 @@ pub mod Kept
 pub mod StandIn
 pub mod Turned
 pub mod Came
+pub mod SetsGiven
+pub mod NamesUsed
+pub mod Collected

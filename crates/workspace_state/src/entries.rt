@@ -1,13 +1,11 @@
 //! What a unit imports (R7RS 5.2, 5.6.1), and what is wrong in its import sets.
 #![tactic(auto, using(crate::proofs::MeaningLaws::names_itself, crate::proofs::MeaningLaws::names_on, crate::proofs::MeaningLaws::mean_kept, crate::proofs::ImportLaws::exports_kept, crate::proofs::ImportLaws::groups_kept))]
 
-ghost use Rattle.std.specs.Prelude.{◌≡◌, ◌<◌, ◌&&◌, ◌==◌, ℕ, List, [], map, length, Option, Some, None, OnOk, IfOk, IfSome};
-ghost use Rattle.scheme_model.specs.Program.{Placed, Prepared, standard_entry, unit_entries};
-ghost use Rattle.scheme_model.specs.ScopedProgram.{ScopedProgress};
+ghost use Rattle.std.specs.Prelude.{◌≡◌, ◌<◌, ◌&&◌, ◌==◌, ℕ, List, [], map, length, Option, Some, OnOk, IfOk, IfSome};
+ghost use Rattle.scheme_model.specs.Program.{standard_entry};
 ghost use Rattle.syntax_tree.specs.Names.{Names, KeepsNames};
 ghost use Rattle.syntax_tree.specs.Meant.{AreEntries, IsEntry};
 ghost use Rattle.import_sets.specs.Sets.{TellsApart};
-ghost use Rattle.workspace_state.specs.Came.{FindsLibraries, HaveCome, IsSourceOf};
 ghost use Rattle.workspace_state.specs.Joining.{AreApart, GroupsMean};
 ghost use Rattle.workspace_state.specs.Libraries.{EachOnce, ExportsMean, HaveMeaning};
 ghost use Rattle.workspace_state.specs.Places.{AreFoundIn, IsAtIn, CanPlace};
@@ -95,9 +93,6 @@ pub fn given_to(
     ensures names { KeepsNames work.old.symbols work.new.symbols }
     ensures entries { IfOk result (λ given. HaveMeaning work.new.symbols given.joined.entries.items) }
     ensures once { IfOk result (λ given. EachOnce given.joined.entries.items) }
-    // They are the entries that the definition gives the unit.
-    ensures given { (us : List Placed) (g : ScopedProgress) (p : Prepared) → p.number ≡ unit → IsSourceOf p None source.now → FindsLibraries us libraries.firsts.now → HaveCome us g work.old libraries.expanded.now →
-        IfOk result (λ given. AreEntries work.new.symbols given.joined.entries.items (unit_entries us g.results p).0) }
     ensures findings { IfOk result (λ given. AreFoundIn (length places.entry.documents.now) given.findings.items) }
 {
     let mut findings = Vec::new(alloc);

@@ -2,7 +2,7 @@
 ghost use Rattle.std.specs.Prelude.{◌≡◌, ℕ, ◌<◌, List, [], ◌∷◌, ◌++◌, All, length, replicate, reverse, vec_len, Some, None, IfOk, OnOk, IfSome, true};
 ghost use Rattle.scheme_model.specs.Entries.{Entry as ModelEntry};
 ghost use Rattle.scheme_model.specs.Program.{Placed, Prepared, Program, SetResult, is_in, unit_result};
-ghost use Rattle.scheme_model.specs.Requirements.{Known};
+ghost use Rattle.scheme_model.specs.Requirements.{Known, LibraryName};
 ghost use Rattle.scheme_model.specs.ScopedProgram.{ScopedProgress, scoped_before};
 ghost use Rattle.scheme_model.specs.UnitExpansion.{Formed};
 ghost use Rattle.syntax_tree.specs.Meant.{AreEntries};
@@ -16,13 +16,14 @@ ghost use Rattle.library_table.specs.UnitsRead.{forms_of};
 ghost use Rattle.expander.specs.Judged.{Knows};
 ghost use Rattle.expander.specs.Opened.{IsNew};
 ghost use Rattle.workspace_state.specs.Begun.{IsImport};
-ghost use Rattle.workspace_state.specs.Came.{AreSourcesOf, CameTo, Expands, FindsLibraries, GoesOn, HaveCome, HeadsBy, IsSourceOf, IsUpTo};
+ghost use Rattle.workspace_state.specs.Came.{AreSourcesOf, CameTo, Expands, FindsLibraries, GoesOn, HeadsBy, IsSourceOf, IsUpTo};
 ghost use Rattle.arrow_index.specs.Formed.{IsFormed};
 ghost use Rattle.workspace_state.specs.Formed.{CameFormed};
 ghost use Rattle.workspace_state.specs.Forms.{IsBench, AreFormed};
 ghost use Rattle.workspace_state.specs.Libraries.{FindsBelow, HaveMeaning, EachOnce, ExportsMean};
 ghost use Rattle.workspace_state.specs.Places.{AreFoundIn, CanPlace, HeadsStay};
 ghost use Rattle.workspace_state.specs.Sound.{IsSound};
+ghost use Rattle.workspace_state.specs.SetsGiven.{AreLibraries};
 ghost use Rattle.workspace_state.specs.StandIn.{StandIn};
 ghost use Rattle.workspace_state.specs.Turned.{turns};
 ghost use Rattle.workspace_state.specs.UnitsExpanded.{AreAllFound};
@@ -82,8 +83,9 @@ pub fn expand_all<L: Ledger>(
     ensures found { IfOk result (λ all. AreAllFound (length documents.now) all.items) }
     ensures formed { IfOk result (λ all. CameFormed bench.new.work all.items) }
     // In their turns the units come to what the definition has of them.
-    ensures up { (us : List Placed) (known : Known) → order.now ≡ turns us → FindsLibraries us firsts.now → Knows bench.old.scope.libraries known → GoesOn bench.old scoped_before →
-        HeadsBy us scoped_before units.old.heads.items → AreSourcesOf us units.old.sources.items → IfOk result (λ all. IsUpTo us known (turns us) bench.new units.new all.items) }
+    ensures up { (spelled : LibraryName → List ℕ) (us : List Placed) (known : Known) → order.now ≡ turns us → vec_len units.old.heads ≡ length us → FindsLibraries spelled us firsts.now →
+        Knows bench.old.scope.libraries known → GoesOn bench.old scoped_before → HeadsBy us scoped_before units.old.heads.items → AreSourcesOf spelled us units.old.sources.items →
+        IfOk result (λ all. IsUpTo spelled us known (turns us) bench.new units.new all.items) }
 {
     let mut all = nothing(alloc, units.heads.len())?;
     for place in order {
@@ -122,8 +124,8 @@ fn expand_at<L: Ledger>(
     ensures formed { OnOk result (CameFormed bench.new.work all.new.items) }
     ensures others { (v : ℕ) → (v ≡ place → ⊥) → IsNew bench.old.scope v → OnOk result (IsNew bench.new.scope v) }
     // In its turn it comes to what the definition has of it.
-    ensures next { (us : List Placed) (known : Known) (x y : List ℕ) → turns us ≡ x ++ place ∷ y → FindsLibraries us firsts.now → IsUpTo us known x bench.old units.old all.old.items →
-        OnOk result (IsUpTo us known (x ++ place ∷ []) bench.new units.new all.new.items) }
+    ensures next { (spelled : LibraryName → List ℕ) (us : List Placed) (known : Known) (x y : List ℕ) → turns us ≡ x ++ place ∷ y → FindsLibraries spelled us firsts.now →
+        IsUpTo spelled us known x bench.old units.old all.old.items → OnOk result (IsUpTo spelled us known (x ++ place ∷ []) bench.new units.new all.new.items) }
 {
     let unit = place as usize;
     if units.heads[unit].fault.is_some() {
@@ -182,8 +184,8 @@ fn expand_unit<L: Ledger>(
     ensures exports { IfOk result (λ came. IfSome came (λ came. HaveMeaning bench.new.work.symbols came.exports)) }
     ensures libraries { (known : Known) → Knows bench.old.scope.libraries known → OnOk result (Knows bench.new.scope.libraries known) }
     // The unit comes to what the definition gives, and the bench goes on behind it.
-    ensures expands { (us : List Placed) (known : Known) (g : ScopedProgress) (p : Prepared) (given_entries : List ModelEntry × List SetResult) → Knows bench.old.scope.libraries known → GoesOn bench.old g →
-        p.number ≡ unit → IsSourceOf p None source.now → FindsLibraries us libraries.firsts.now → HaveCome us g bench.old.work libraries.expanded.now →
+    ensures expands { (spelled : LibraryName → List ℕ) (us : List Placed) (known : Known) (g : ScopedProgress) (p : Prepared) (given_entries : List ModelEntry × List SetResult) → Knows bench.old.scope.libraries known →
+        GoesOn bench.old g → p.number ≡ unit → IsSourceOf spelled p None source.now → AreLibraries bench.old.work.symbols libraries.entry spelled us g.results →
         AreEntries bench.old.work.symbols given.joined.entries.items given_entries.0 → IfOk result (Expands us known bench.new g p given_entries) }
 {
     let imports = imported(alloc, &mut bench.work, given.joined.entries.as_slice())?;
@@ -251,8 +253,8 @@ fn finished(
     ensures findings { IfOk result (λ came. AreFoundIn (length places.entry.documents.now) came.findings.items) }
     ensures exports { IfOk result (λ came. HaveMeaning work.new.symbols came.exports) }
     // They are what the definition has of the unit, where forms stand for what it has of them.
-    ensures came { (us : List Placed) (g : ScopedProgress) (q : Program) (p : Prepared) (given_entries : List ModelEntry × List SetResult) (fs : List Formed) → p.number ≡ unit → IsSourceOf p None source.now →
-        FindsLibraries us libraries.firsts.now → HaveCome us g work.old libraries.expanded.now → q.units ≡ g.results → AreEntries work.old.symbols given.joined.entries.items given_entries.0 →
+    ensures came { (spelled : LibraryName → List ℕ) (us : List Placed) (q : Program) (p : Prepared) (given_entries : List ModelEntry × List SetResult) (fs : List Formed) → p.number ≡ unit → IsSourceOf spelled p None source.now →
+        AreLibraries work.old.symbols libraries.entry spelled us q.units → AreEntries work.old.symbols given.joined.entries.items given_entries.0 →
         length forms ≡ length p.forms → FormsStand work.old unit 0 forms fs → AreDefinitions work.old.symbols (reverse (definitions_from 0 forms)) (defined_by unit q.table) →
         IfOk result (λ came. CameTo us q work.new came (unit_result p given_entries q.table (Some fs))) }
 {
@@ -341,6 +343,9 @@ pub fn broken(
     ensures forms { IfOk result (λ came. All IsBlank came.forms) }
     ensures formed { (work : AnyWork) → IfOk result (λ came. IsFormed work unit came.forms) }
     ensures count { IfOk result (λ came. length came.forms ≡ count) }
+    ensures names { IfOk result (λ came. came.names ≡ []) }
+    ensures entries { IfOk result (λ came. came.entries.items ≡ []) }
+    ensures exports { IfOk result (λ came. came.exports ≡ []) }
     ensures findings { IfOk result (λ came. AreFoundIn (length places.entry.documents.now) came.findings.items) }
 {
     let mut findings = Vec::new(alloc);

@@ -35,8 +35,8 @@ loop-place-init g c =
       found = subst (λ (xs : List (Option Expanded)). AreAllFound (length c.args.documents.now) xs) (sym is) (none_found (length c.args.documents.now) c.len.result);
       mean = subst (λ (xs : List (Option Expanded)). ExportsMean c.args.bench.now.work.symbols xs) (sym is) (none_mean c.args.bench.now.work.symbols c.len.result);
       formed = subst (λ (xs : List (Option Expanded)). CameFormed c.args.bench.now.work xs) (sym is) (none_formed c.args.bench.now.work c.len.result);
-      up = λ us known order finds knows goes heads sources.
-          record { knows = knows; goes = goes; come = subst (λ (xs : List (Option Expanded)). HaveCome us scoped_before c.args.bench.now.work xs) (sym is) (none_come us scoped_before refl c.args.bench.now.work c.len.result); heads = heads; sources = sources };
+      up = λ spelled us known order many finds knows goes heads sources.
+          record { knows = knows; goes = goes; come = subst (λ (xs : List (Option Expanded)). HaveCome us scoped_before c.args.bench.now.work xs) (sym is) (none_come us scoped_before refl c.args.bench.now.work c.len.result); heads = heads; sources = sources; count = ap (λ (xs : List (Option Expanded)). length xs) is ∙ (length-replicate c.len.result none ∙ (c.len.ensures ∙ many)) };
       new = λ k u le at. c.requires.new u (in_at c.args.order.now k u at);
     }
 
@@ -76,14 +76,14 @@ loop-place-preserved g c =
       found = c.in_ok-expand_at.ensures.found;
       mean = c.in_ok-expand_at.ensures.mean;
       formed = c.in_ok-expand_at.ensures.formed;
-      up = λ us known order finds knows goes heads sources.
-          subst (λ (done : List ℕ). IsUpTo us known done c.expand_at.new.bench c.expand_at.new.units c.expand_at.new.all.items) (sym (take_more c.args.order.now i p lt))
-          (c.in_ok-expand_at.ensures.next us known (take i c.args.order.now) (drop (suc i) c.args.order.now) (sym order ∙ split_at c.args.order.now i p lt) finds
-          (c.loop-place.invariant.up us known order finds knows goes heads sources));
+      up = λ spelled us known order many finds knows goes heads sources.
+          subst (λ (done : List ℕ). IsUpTo spelled us known done c.expand_at.new.bench c.expand_at.new.units c.expand_at.new.all.items) (sym (take_more c.args.order.now i 0 lt))
+          (c.in_ok-expand_at.ensures.next spelled us known (take i c.args.order.now) (drop (suc i) c.args.order.now) (sym order ∙ split_at c.args.order.now i 0 lt) finds
+          (c.loop-place.invariant.up spelled us known order many finds knows goes heads sources));
       new = later_hold c.args.order.now c.requires.order.once (IsNew c.loop-place.bench.scope) (IsNew c.expand_at.new.bench.scope) i p at c.in_ok-expand_at.ensures.others c.loop-place.invariant.new;
     }
 
 pub returns-clause-up : goal.returns-clause-up
-returns-clause-up g c = λ us known order finds knows goes heads sources.
-    subst (λ (done : List ℕ). IsUpTo us known done c.loop-place.bench c.loop-place.units c.loop-place.all.items) (take_all c.loop-place.place-index c.args.order.now (omega arith) ∙ order)
-    (c.loop-place.invariant.up us known order finds knows goes heads sources)
+returns-clause-up g c = λ spelled us known order many finds knows goes heads sources.
+    subst (λ (done : List ℕ). IsUpTo spelled us known done c.loop-place.bench c.loop-place.units c.loop-place.all.items) (take_all c.loop-place.place-index c.args.order.now (omega arith) ∙ order)
+    (c.loop-place.invariant.up spelled us known order many finds knows goes heads sources)

@@ -1,6 +1,6 @@
 use Rattle.std.proofs.Common.{◌≡◌, ℕ, ◌≤◌, List, length, take, vec_len, slice_get, Some}
 use Rattle.scheme_model.specs.Program.{Placed}
-use Rattle.scheme_model.specs.Requirements.{Known}
+use Rattle.scheme_model.specs.Requirements.{Known, LibraryName}
 use Rattle.scheme_model.specs.ScopedProgram.{scoped_before}
 use Rattle.expander.specs.Judged.{Knows}
 use Rattle.expander.specs.Opened.{IsNew}
@@ -23,7 +23,7 @@ invariant-loop-place g l = record {
   found : AreAllFound (length l.documents) l.all.items;
   mean : ExportsMean l.bench.work.symbols l.all.items;
   formed : CameFormed l.bench.work l.all.items;
-  up : (us : List Placed) (known : Known) → l.order ≡ turns us → FindsLibraries us l.firsts → Knows l.fn.bench.scope.libraries known → GoesOn l.fn.bench scoped_before → HeadsBy us scoped_before l.fn.units.heads.items →
-      AreSourcesOf us l.fn.units.sources.items → IsUpTo us known (take l.place-index l.order) l.bench l.units l.all.items;
+  up : (spelled : LibraryName → List ℕ) (us : List Placed) (known : Known) → l.order ≡ turns us → vec_len l.fn.units.heads ≡ length us → FindsLibraries spelled us l.firsts → Knows l.fn.bench.scope.libraries known → GoesOn l.fn.bench scoped_before → HeadsBy us scoped_before l.fn.units.heads.items →
+      AreSourcesOf spelled us l.fn.units.sources.items → IsUpTo spelled us known (take l.place-index l.order) l.bench l.units l.all.items;
   new : (k u : ℕ) → l.place-index ≤ k → slice_get l.order k ≡ Some u → IsNew l.bench.scope u;
 }
