@@ -28,7 +28,7 @@ use Rattle.workspace_state.specs.declared.listing.Head.{Head}
 use Rattle.workspace_state.proofs.ProgramOf.{comes_last, defined_whole, defined_broken, unit_prepared, units_stand}
 use Rattle.workspace_state.proofs.TurnGraph.{as_many}
 use Rattle.workspace_state.proofs.TurnResults.{scoped_units}
-use Rattle.workspace_state.proofs.UnitsTurns.{blank_stand}
+use Rattle.workspace_state.proofs.Collecting.{blank_stand}
 
 blank_define : (form : ℕ) (cs : List core.UnitForm) → All IsBlank cs → definitions_from form cs ≡ []
 blank_define form [] h = refl

@@ -2,8 +2,9 @@
 use Rattle.std.proofs.Common.{◌≡◌, ℕ, zero, suc, ◌+◌, ◌<◌, ◌≤◌, ◌⊎◌, inl, inr, List, [], ◌∷◌, ◌++◌, All, length, slice_get, slice_set, Option, Some, None, refl, sym, ap, ◌∙◌, subst, arith}
 use Rattle.std.proofs.lemmas.Option.{same_Some}
 use Rattle.syntax_tree.proofs.Places.{push_cases}
-use Rattle.core_tree.specs.Units.{IsBlank}
-use Rattle.core_tree.specs.declared.units.UnitForm as core
+use Rattle.core_tree.specs.Units.{IsBlank, FormsStand}
+use Rattle.syntax_tree.specs.declared.trees.Work.{Work}
+use Rattle.core_tree.specs.declared.units.UnitForm.{UnitForm}
 use Rattle.core_tree.specs.declared.units.Unit as code
 use Rattle.library_table.specs.declared.units.UnitSource.{UnitSource}
 use Rattle.workspace_state.specs.Collected.{Has, IsNothing, HasNothing, HasCome, IsCollected}
@@ -36,8 +37,8 @@ pub has_come : (count : ℕ) (o : Option Expanded) (e : Expanded) (c : code.Unit
 has_come count None e c some none has =
     let n = none refl in
     record {
-      blank = subst (λ (fs : List core.UnitForm). All IsBlank fs) (sym has.forms) n.blank;
-      count = ap (λ (fs : List core.UnitForm). length fs) has.forms ∙ n.count;
+      blank = subst (λ (fs : List UnitForm). All IsBlank fs) (sym has.forms) n.blank;
+      count = ap (λ (fs : List UnitForm). length fs) has.forms ∙ n.count;
       names = has.names ∙ n.names;
       entries = has.entries ∙ n.entries;
       exports = has.exports ∙ n.exports;
@@ -51,3 +52,8 @@ set_other (x ∷ xs) zero y zero lt = absurd (omega arith)
 set_other (x ∷ xs) zero y (suc k) lt = refl
 set_other (x ∷ xs) (suc p) y zero lt = absurd (omega arith)
 set_other (x ∷ xs) (suc p) y (suc k) lt = set_other xs p y k (omega arith)
+
+-- blank forms stand for none
+pub blank_stand : (work : Work) (unit form : ℕ) (cs : List UnitForm) → All IsBlank cs → FormsStand work unit form cs []
+blank_stand work unit form [] h = tt
+blank_stand work unit form (c ∷ cs) h = (h 0 c (omega arith), blank_stand work unit (suc form) cs (λ k d lt. h (suc k) d (omega arith)))

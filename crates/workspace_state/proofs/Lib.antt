@@ -59,3 +59,4 @@ pub mod UpToNext
 pub mod ProgramOf
 pub mod CollectLaws
 pub mod Collecting
+pub mod ReadUnits
