@@ -71,7 +71,7 @@ module _ (text : LibraryName → List ℕ) (uris : List (List ℕ)) (us : List P
       uri = ap (slice_get uris) (sym head.document) ∙ k.uri;
       kind = ap kind_as k.kind ∙ head.kind;
       name = k.name ∙ head.name;
-      count = k.come.count ∙ (sym (length-map s.forms form_of) ∙ ap (λ (fs : List UnitForm). length fs) (sym source));
+      count = k.come.as_many ∙ (sym (length-map s.forms form_of) ∙ ap (λ (fs : List UnitForm). length fs) (sym source));
       forms = subst (λ (fs : List Formed). FormsStand work n 0 c.forms fs) (sym (ap (λ (q : UnitResult). q.forms) is)) (blank_stand work n 0 c.forms k.come.blank);
       definitions =
           subst (λ (ds : List Defined). AreDefinitions work.symbols (reverse (definitions_from 0 c.forms)) ds) (sym (defined_broken us known n r f at (ap (λ (q : UnitResult). q.fault) is)))

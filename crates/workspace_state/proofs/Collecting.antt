@@ -38,7 +38,7 @@ has_come count None e c some none has =
     let n = none refl in
     record {
       blank = subst (λ (fs : List UnitForm). All IsBlank fs) (sym has.forms) n.blank;
-      count = ap (λ (fs : List UnitForm). length fs) has.forms ∙ n.count;
+      as_many = ap (λ (fs : List UnitForm). length fs) has.forms ∙ n.as_many;
       names = has.names ∙ n.names;
       entries = has.entries ∙ n.entries;
       exports = has.exports ∙ n.exports;

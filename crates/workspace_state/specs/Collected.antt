@@ -18,7 +18,7 @@ pub record Has (c : code.Unit) (e : Expanded) : Type 0 where
 -- nothing came of a unit but as many blank forms as were read
 pub record IsNothing (count : ℕ) (e : Expanded) : Type 0 where
   pub blank : All IsBlank e.forms
-  pub count : length e.forms ≡ count
+  pub as_many : length e.forms ≡ count
   pub names : e.names ≡ []
   pub entries : e.entries.items ≡ []
   pub exports : e.exports ≡ []
@@ -26,7 +26,7 @@ pub record IsNothing (count : ℕ) (e : Expanded) : Type 0 where
 -- one that is broken has as many blank forms as were read, and nothing else
 pub record HasNothing (count : ℕ) (c : code.Unit) : Type 0 where
   pub blank : All IsBlank c.forms
-  pub count : length c.forms ≡ count
+  pub as_many : length c.forms ≡ count
   pub names : c.names ≡ []
   pub entries : c.entries ≡ []
   pub exports : c.exports ≡ []

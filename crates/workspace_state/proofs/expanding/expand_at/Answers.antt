@@ -1,5 +1,6 @@
 -- The unit's head and source are there, and so is its document.
-use Rattle.std.proofs.Common.{◌≡◌, List, ◌∷◌, length, slice_set, false, refl, sym, ap, ◌∙◌, subst, arith, Bool, Option}
+use Rattle.std.proofs.Common.{◌≡◌, List, ◌∷◌, length, slice_set, true, false, refl, sym, ap, ◌∙◌, subst, arith, Bool, Option}
+use Rattle.std.specs.Prelude.{not}
 use Rattle.std.specs.Option.{is_some as is_there}
 use Rattle.std.proofs.lemmas.Option.{slice_get_read, same_Some}
 use Rattle.scheme_model.specs.Program as model
@@ -98,6 +99,10 @@ returns-clause-formed g c =
 
 -- ---- what the definition has of the unit
 
+flipped : (a b : Bool) → a ≡ not b → b ≡ not a
+flipped a true h = sym (ap not h)
+flipped a false h = sym (ap not h)
+
 pub returns-then-is_some-clause-next : goal.returns-then-is_some-clause-next
 returns-then-is_some-clause-next g c = λ spelled us known x y order finds up.
     let hs = c.args.units.now.heads.items in
@@ -138,4 +143,4 @@ returns-clause-next g c = λ spelled us known x y order finds up.
     let expands = c.in_ok-came.ensures.expands spelled us known gp p (unit_entries us gp.results p) up.knows goes refl source (libraries_kept b.work.symbols mid.symbols c.in_ok-given.ensures.names lib spelled us gp.results libraries) given in
     expanded_next spelled us known x y n order b c.args.units.now es up h at whole now _ c.in_ok-came.came (c.in_ok-came.ensures.libraries known up.knows)
     (have_kept b.work now.work (trees_on b.work mid now.work trees c.in_ok-came.ensures.trees) (names_on b.work.symbols mid.symbols now.work.symbols c.in_ok-given.ensures.names c.in_ok-came.ensures.names) us gp es up.come)
-    expands refl (ap (λ (k : Head). slice_set hs n k) (c.break_if.ensures ∙ ap (λ (q : Bool). broken_if q fault.TooLarge h) c.is_none.ensures))
+    expands refl (ap (λ (k : Head). slice_set hs n k) (c.break_if.ensures ∙ ap (λ (q : Bool). broken_if q fault.TooLarge h) (flipped (is_there c.in_ok-came.came) c.is_none.result c.is_none.ensures)))
