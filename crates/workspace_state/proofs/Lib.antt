@@ -61,3 +61,13 @@ pub mod DiagnosedLaws
 pub mod UnboundFound
 pub mod WholeLaws
 pub mod StopsLaws
+pub mod UnitGoes
+pub mod UnitCame
+pub mod CameKept
+pub mod NamesStay
+pub mod UpTo
+pub mod UpToNext
+pub mod ProgramOf
+pub mod CollectLaws
+pub mod Collecting
+pub mod ReadUnits

@@ -67,7 +67,7 @@ abbrev pub before : Option ℕ → List ℕ → List ℕ
 before None rest = rest
 before (Some n) rest = n ∷ rest
 
-unit_before : (us : List Placed) (s : ImportSpec) (ss : List ImportSpec) (o : Option LibraryName) → library_in s.set ≡ o → imported_units us (s ∷ ss) ≡ before (place_for us o) (imported_units us ss)
+pub unit_before : (us : List Placed) (s : ImportSpec) (ss : List ImportSpec) (o : Option LibraryName) → library_in s.set ≡ o → imported_units us (s ∷ ss) ≡ before (place_for us o) (imported_units us ss)
 unit_before us s ss None e = rw e refl
 unit_before us s ss (Some n) e = go (unit_named n 0 us) refl
   where

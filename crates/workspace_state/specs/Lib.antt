@@ -29,3 +29,7 @@ pub mod StandIn
 pub mod Turned
 pub mod Updates
 pub mod Diagnosed
+pub mod Came
+pub mod SetsGiven
+pub mod NamesUsed
+pub mod Collected

@@ -1,5 +1,5 @@
 //! The forms of a unit (R7RS 5.1): all are gone through in order, and then what they set aside is expanded in order.
-ghost use Rattle.std.specs.Prelude.{◌≡◌, ℕ, ◌^◌, ◌≤◌, List, [], nat_lt, true, false, None, OnOk, IfOk, IfSome};
+ghost use Rattle.std.specs.Prelude.{◌≡◌, ℕ, ◌^◌, ◌≤◌, List, [], length, vec_len, nat_lt, true, false, None, OnOk, IfOk, IfSome};
 ghost use Rattle.scheme_model.specs.Ident.{Ident as Identifier, Written};
 ghost use Rattle.scheme_model.specs.Trees.{Tree as ModelTree};
 ghost use Rattle.scheme_model.specs.UnitExpansion.{max_total};
@@ -67,6 +67,7 @@ pub fn expand_forms<L: Ledger>(
     // They are the definition's, or work on the unit ended, and the bench stands for the state in which it did.
     ensures unfolds { (known : Known) (ls : List Frames) (s : ScopedState) (p : Prepared) → Knows bench.old.scope.libraries known → UnitStands bench.old.work bench.old.scope ls s [] → s.unit ≡ unit →
         ((form : ℕ) → IsFresh s form) → p.number ≡ unit → p.forms ≡ forms_of forms.now → IfOk result (Unfolds bench.new known p s) }
+    ensures count { IfOk result (λ expanded. IfSome expanded (λ expanded. length expanded ≡ length forms.now)) }
 {
     let mut total = 0;
     let declared = declare_all(alloc, bench, unit, forms, &mut total, steps)?;
@@ -100,6 +101,7 @@ fn declare_all<L: Ledger>(
     requires read { WereRead (forms_of forms.now) }
     requires nothing { total.old ≡ 0 }
     ensures held { IfOk result (λ all. FormsHeld bench.new unit 0 all.items) }
+    ensures count { IfOk result (λ all. nat_lt max_total total.new ≡ false → vec_len all ≡ length forms.now) }
     ensures stays { OnOk result (Stays bench.old bench.new) }
     ensures passes { (known : Known) (ls : List Frames) (s : ScopedState) → Knows bench.old.scope.libraries known → UnitStands bench.old.work bench.old.scope ls s [] → s.unit ≡ unit → ((form : ℕ) → IsFresh s form) →
         IfOk result (λ all. Passes bench.new unit known (forms_over (Written unit) unit 0 (forms_of forms.now)) s total.new all.items) }
@@ -247,6 +249,7 @@ fn finish_all<L: Ledger>(
     requires region { IsOpened bench.old.work bench.old.region }
     requires held { FormsHeld bench.old unit 0 declared.items }
     ensures formed { IfOk result (λ forms. nat_lt max_total total.new ≡ false → AreFormed bench.new.work unit forms) }
+    ensures count { IfOk result (λ forms. nat_lt max_total total.new ≡ false → length forms ≡ vec_len declared) }
     ensures bench { OnOk result (IsBench bench.new) }
     ensures stays { OnOk result (Stays bench.old bench.new) }
     ensures finishes { (known : Known) (h : FormsHeld bench.old unit 0 declared.items) (rs : List (ℕ × Passing)) → Knows bench.old.scope.libraries known →

@@ -13,6 +13,7 @@ pub loop-place-init : goal.loop-place-init
 loop-place-init g c = record {
   holds = subst (λ (ds : List code.Declared). Holds c.args.bench.now c.args.unit ds) (sym c.new-all.ensures.items) (none_held c.args.bench.now c.args.unit c.requires.begun);
   count = ap (λ (ds : List code.Declared). length ds) c.new-all.ensures.items;
+  within = omega arith;
   few = omega (arith, c.requires.nothing);
   stays = stays_itself c.args.bench.now c.requires.begun.region;
   so =
@@ -37,6 +38,7 @@ loop-place-preserved g c =
       holds = subst (λ (ds : List code.Declared). Holds c.declare.new.bench c.args.unit ds) (sym items)
           (next_form l.bench c.args.unit l.all.items i.holds d c.declare.new.bench c.in_ok-number.number (c.in_ok-number.ensures ∙ sym i.count) c.index-forms-place.result e.blank e.same e.passes);
       count = ap (λ (ds : List code.Declared). length ds) items ∙ (let at = i.count in omega (arith, long, at));
+      within = let here = c.loop-place-test.true in omega (arith, here);
       few = few_more l.total d.budget.nodes (sym c.is_large.ensures ∙ c.if-is_large.false) e.few;
       stays = stays_on c.args.bench.now l.bench c.declare.new.bench i.stays e.stays;
       so =
@@ -69,3 +71,13 @@ returns-clause-passes g c = λ known ls s knows stands own fresh.
       | else-loop-place-test w ↦ dropped_all fs l.place w.loop-place-test.false
       | then-loop-place-test+then-is_large w ↦ absurd (true≢false (sym w.if-is_large.true ∙ w.is_large.ensures ∙ few))
     ])
+
+pub returns-clause-count : goal.returns-clause-count
+returns-clause-count g c = λ few.
+    let l = c.loop-place in
+    let at = l.invariant.count in
+    let within = l.invariant.within in
+    elim c.loop-place-test.branch [
+      | else-loop-place-test w ↦ omega (arith, at, within, w.loop-place-test.false, l.all.ok.0)
+      | then-loop-place-test+then-is_large w ↦ absurd (true≢false (sym w.if-is_large.true ∙ w.is_large.ensures ∙ few))
+    ]

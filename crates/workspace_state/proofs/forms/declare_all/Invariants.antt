@@ -7,6 +7,7 @@ abbrev pub invariant-loop-place : goal.invariant-loop-place
 invariant-loop-place g l = record {
   holds : Holds l.bench l.unit l.all.items;
   count : length l.all.items ≡ l.place;
+  within : l.place ≤ length l.forms;
   few : l.total ≤ 700000;
   stays : Stays l.fn.bench l.bench;
   so : PassedFrom l.fn.bench l.bench l.unit l.total l.place l.forms l.all.items;

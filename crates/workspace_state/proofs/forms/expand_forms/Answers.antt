@@ -53,3 +53,7 @@ returns-clause-unfolds g c = λ known ls s p knows stands own fresh number forms
     let can = can_finish_all known p s c.args.unit number fs forms b c.declare_all.new.total ds h few in
     all_unfolds known p s c.args.unit number fs forms b c.declare_all.new.total ds h few c.finish_all.new.bench c.finish_all.new.total c.in_ok-expanded.expanded
     (c.in_ok-expanded.ensures.finishes known h.held _ (c.in_ok-declared.ensures.stays.libraries known knows) can) (sym c.is_large-2.ensures ∙ c.if-is_large-2.false)
+
+pub returns-clause-count : goal.returns-clause-count
+returns-clause-count g c =
+    c.in_ok-expanded.ensures.count (sym c.is_large-2.ensures ∙ c.if-is_large-2.false) ∙ c.in_ok-declared.ensures.count (sym c.is_large.ensures ∙ c.if-is_large.false)

@@ -1,5 +1,5 @@
 -- Each form more is finished, and stands for what came of it.
-use Rattle.std.proofs.Common.{◌≡◌, suc, ◌∷◌, [], ◌++◌, ◌<◌, slice_get, Some, List, ℕ, length, sym, ◌∙◌, subst, arith, true≢false}
+use Rattle.std.proofs.Common.{◌≡◌, suc, ◌∷◌, [], ◌++◌, ◌<◌, slice_get, Some, List, ℕ, length, sym, ap, ◌∙◌, subst, arith, true≢false}
 use Rattle.std.proofs.lemmas.List.{length_push}
 use Rattle.std.proofs.lemmas.Iterator.Adapters.{YieldsList-from_vec}
 use Rattle.std.proofs.lemmas.Iterator.Consumers.{YieldsList-from_enumerate, YieldsList-turn, YieldsList-end}
@@ -25,6 +25,7 @@ loop-place-init g c = record {
   finished =
       subst (λ (cs : List UnitForm). AreFinished c.args.bench.now c.args.unit 0 c.args.declared.items cs) (sym c.new-forms.ensures)
       (none_finished c.args.bench.now c.args.unit c.args.declared.items c.requires.held);
+  count = ap (λ (cs : List UnitForm). length cs) c.new-forms.ensures;
   stays = stays_itself c.args.bench.now c.requires.region;
   so =
       subst (λ (cs : List UnitForm). AllFrom c.args.bench.now c.args.bench.now c.args.unit c.args.declared.items c.args.total.now c.args.total.now 0 cs) (sym c.new-forms.ensures)
@@ -49,6 +50,7 @@ loop-place-preserved g c =
       finished =
           subst (λ (cs : List UnitForm). AreFinished c.finish.new.bench c.args.unit (length (l.yielded ++ (c.in-Some.place, c.in-Some.form) ∷ [])) ds cs) (sym c.in_ok-push.ensures.ok)
           (subst (λ (n : ℕ). AreFinished c.finish.new.bench c.args.unit n ds (l.forms ++ k ∷ [])) next x);
+      count = ap (λ (cs : List UnitForm). length cs) c.in_ok-push.ensures.ok ∙ (let one = length_push l.forms k in let at = l.invariant.count in omega (arith, one, at, next));
       stays = stays_on c.args.bench.now l.bench c.finish.new.bench l.invariant.stays e.stays;
       so =
           subst (λ (cs : List UnitForm). AllFrom c.args.bench.now c.finish.new.bench c.args.unit ds c.args.total.now c.finish.new.total (length (l.yielded ++ (c.in-Some.place, c.in-Some.form) ∷ [])) cs) (sym c.in_ok-push.ensures.ok)
@@ -90,3 +92,14 @@ returns-clause-finishes g c =
           all_placed ds (length l.yielded) t.1
       | in-Some+then-is_large w ↦ absurd (true≢false (sym w.if-is_large.true ∙ w.is_large.ensures ∙ few))
     ])
+
+pub returns-clause-count : goal.returns-clause-count
+returns-clause-count g c = λ few.
+    let l = c.loop-place in let ds = c.args.declared.items in
+    let at = l.invariant.count in
+    elim c.match-next.branch [
+      | in-None w ↦
+          let t = YieldsList-end (YieldsList-from_enumerate (YieldsList-from_vec ds (cc) (cc)) (cc)) l.yielded l.place-iterator l.yielded_by c.next.result c.next.new.self w.in-None.is c.next.ensures.steps in
+          let all = all_placed ds (length l.yielded) t.1 in omega (arith, at, all, c.args.declared.ok.0)
+      | in-Some+then-is_large w ↦ absurd (true≢false (sym w.if-is_large.true ∙ w.is_large.ensures ∙ few))
+    ]
