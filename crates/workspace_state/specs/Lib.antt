@@ -17,6 +17,8 @@ pub mod Broken
 pub mod Libraries
 pub mod Joining
 pub mod Imports
+pub mod SetsGiven
+pub mod NamesUsed
 pub mod Defined
 pub mod Unbound
 pub mod Sound
@@ -26,3 +28,4 @@ pub mod Listings
 pub mod Kept
 pub mod StandIn
 pub mod Turned
+pub mod Found
