@@ -8,7 +8,7 @@ use Rattle.scheme_model.specs.Requirements.{LibraryName}
 use Rattle.scheme_model.specs.StandardLibraries.{standard}
 use Rattle.scheme_model.specs.Entries as model
 use Rattle.scheme_model.specs.Program.{Placed, Prepared, ImportSpec, is_empty, is_program, imports_nothing, base_entries, unit_entries, UnitResult, SetResult, Unknown, Faulty, Gives, standard_entry, unit_exports, unit_named, result_at, exports_if, library_exports, with_exports, of_library, after_set, import_all}
-use Rattle.scheme_model.specs.Diagnostics.{Diagnostic, Bytes, Span, at_bytes, bytes_of, unit_at, datum_bytes, set_diagnostics, clash_diagnostics, import_fault}
+use Rattle.scheme_model.specs.Diagnostics.{Diagnostic, Bytes, Span, at_bytes, at_name, bytes_of, unit_at, datum_bytes, set_diagnostics, clash_diagnostics, import_fault}
 use Rattle.syntax_tree.specs.Names.{Names, KeepsNames}
 use Rattle.syntax_tree.specs.Meant.{AreEntries}
 use Rattle.syntax_tree.specs.declared.units.Entry.{Entry}
@@ -16,6 +16,7 @@ use Rattle.core_tree.specs.Names.{AllMatch}
 use Rattle.core_tree.specs.Units.{kind_as}
 use Rattle.ls_base.specs.declared.places.Span as code_span
 use Rattle.import_sets.specs.declared.set.ImportSet as code_set
+use Rattle.import_sets.specs.declared.set.SetName.{SetName}
 use Rattle.import_sets.specs.declared.fault.ImportFault as code_fault
 use Rattle.import_sets.specs.declared.fault.ImportFault.TheVariants as fault
 use Rattle.import_sets.specs.declared.gather.Group.{Group}
@@ -29,12 +30,15 @@ use Rattle.workspace_state.specs.declared.entries.SetGives.{SetGives}
 use Rattle.workspace_state.specs.declared.entries.SetGives.TheVariants as gives
 use Rattle.workspace_state.specs.declared.findings.At.{At}
 use Rattle.workspace_state.specs.declared.places.Places as code_places
+use Rattle.workspace_state.specs.Found.{diagnostic, told_at}
 use Rattle.workspace_state.specs.Libraries.{library_of}
 use Rattle.workspace_state.specs.Places.{ArePlaces, bytes_at, spans_of, start_of}
 use Rattle.workspace_state.specs.Readings.{Read, span_seen}
 use Rattle.workspace_state.specs.Joining.{GatheredAs, GroupsStand}
 use Rattle.workspace_state.specs.SetsGiven.{AreEntriesIf, AreLibraries, ComesTo, ImportsAs, IsSetFault, IsSpec, exports_at, exports_of, set_exports, with_set}
+use Rattle.workspace_state.specs.Wording.{worded}
 use Rattle.workspace_state.proofs.MeaningLaws.{entries_kept}
+use Rattle.workspace_state.proofs.ToldLaws.{told_there, worded_name}
 
 -- ---- the library of a set
 
@@ -79,7 +83,7 @@ set_as spelled code_set.Bad s h = h
 
 if_kept : (old new : Names) → KeepsNames old new → (o : Option (List Entry)) (ds : Option (List model.Entry)) → AreEntriesIf old o ds → AreEntriesIf new o ds
 if_kept old new k None ds h = h
-if_kept old new k (Some es) ds h = (h.0, h.1.0, entries_kept old new k es h.0 h.1.1)
+if_kept old new k (Some es) ds h = (h.0, h.1, entries_kept old new k es h.0 h.2)
 
 pub libraries_kept : (old new : Names) → KeepsNames old new → (c : code.Libraries) (spelled : LibraryName → List ℕ) (all : List Placed) (rs : List UnitResult) → AreLibraries old c spelled all rs →
     AreLibraries new c spelled all rs
@@ -99,14 +103,28 @@ exports_named names c spelled all rs h n t e =
     go None = refl
     go (Some n) = h.exports n
 
--- what a set's library exports, where it is a standard one, and where it is a unit
-pub standard_exports : (all : List Placed) (rs : List UnitResult) (s : model.ImportSet) (t : List ℕ) (spelled : LibraryName → List ℕ) (one : NamesOne t spelled s) (ss : List (List ℕ)) → Some ss ≡ standard one.name →
-    set_exports all rs (model.library_in s) ≡ Some (map standard_entry ss)
-standard_exports all rs s t spelled one ss e = ap (set_exports all rs) one.is ∙ ap (library_exports all rs one.name) (sym e)
+-- what a library exports, where it is a standard one, and where it is a unit
+pub standard_exports : (all : List Placed) (rs : List UnitResult) (n : LibraryName) (ss : List (List ℕ)) → Some ss ≡ standard n → library_exports all rs n (standard n) ≡ Some (map standard_entry ss)
+standard_exports all rs n ss e = ap (library_exports all rs n) (sym e)
 
-pub other_exports : (all : List Placed) (rs : List UnitResult) (s : model.ImportSet) (t : List ℕ) (spelled : LibraryName → List ℕ) (one : NamesOne t spelled s) → None ≡ standard one.name →
-    set_exports all rs (model.library_in s) ≡ unit_exports rs (unit_named one.name 0 all)
-other_exports all rs s t spelled one e = ap (set_exports all rs) one.is ∙ ap (library_exports all rs one.name) (sym e)
+pub other_exports : (all : List Placed) (rs : List UnitResult) (n : LibraryName) → None ≡ standard n → library_exports all rs n (standard n) ≡ unit_exports rs (unit_named n 0 all)
+other_exports all rs n e = ap (library_exports all rs n) (sym e)
+
+pub standard_if : (names : Names) (all : List Placed) (rs : List UnitResult) (n : LibraryName) (ss : List (List ℕ)) (es : List Entry) → Some ss ≡ standard n → AreEntries names es (map standard_entry ss) →
+    AreEntriesIf names (Some es) (library_exports all rs n (standard n))
+standard_if names all rs n ss es e h = (map standard_entry ss, standard_exports all rs n ss e, h)
+
+-- the exports that were found, or none
+pub others_if : (names : Names) (all : List Placed) (rs : List UnitResult) (n : LibraryName) (o : Option (List Entry)) → None ≡ standard n → AreEntriesIf names o (unit_exports rs (unit_named n 0 all)) →
+    AreEntriesIf names o (library_exports all rs n (standard n))
+others_if names all rs n o e h = subst (AreEntriesIf names o) (sym (other_exports all rs n e)) h
+
+pub of_name : (names : Names) (all : List Placed) (rs : List UnitResult) (s : model.ImportSet) (n : LibraryName) (o : Option (List Entry)) → model.library_in s ≡ Some n → AreEntriesIf names o (library_exports all rs n (standard n)) →
+    AreEntriesIf names o (set_exports all rs (model.library_in s))
+of_name names all rs s n o e h = subst (λ (m : Option LibraryName). AreEntriesIf names o (set_exports all rs m)) (sym e) h
+
+pub of_none : (all : List Placed) (rs : List UnitResult) (s : model.ImportSet) → model.library_in s ≡ None → set_exports all rs (model.library_in s) ≡ None
+of_none all rs s e = ap (set_exports all rs) e
 
 pub if_there : (names : Names) (es fs : List Entry) (o : Option (List Entry)) (ds : Option (List model.Entry)) → o ≡ Some es → fs ≡ es → AreEntriesIf names o ds → AreEntriesIf names (Some fs) ds
 if_there names es fs o ds e same h =
@@ -129,25 +147,25 @@ comes_faulty names (fault.Clash s) r no h = (model.Clash s, refl, λ before. ap 
 comes_faulty names fault.BadSet r no h = (model.BadSet, refl, λ before. ap (after_set before) h)
 
 pub comes_as : (names : Names) (g : SetGives) (f h : List model.Entry → List model.Entry × SetResult) → ((before : List model.Entry) → h before ≡ f before) → ComesTo names g f → ComesTo names g h
-comes_as names (gives.Entries es) f h e k = (k.0, k.1.0, λ before. e before ∙ k.1.1 before)
+comes_as names (gives.Entries es) f h e k = (k.0, k.1, λ before. e before ∙ k.2 before)
 comes_as names gives.Unknown f h e k = λ before. e before ∙ k before
-comes_as names (gives.Faulty x) f h e k = (k.0, k.1.0, λ before. e before ∙ k.1.1 before)
+comes_as names (gives.Faulty x) f h e k = (k.0, k.1, λ before. e before ∙ k.2 before)
 
 -- a set with no library, one whose library exports nothing, and one whose library exports these
 pub set_bad : (all : List Placed) (rs : List UnitResult) (s : model.ImportSet) → model.library_in s ≡ None → (before : List model.Entry) → with_set all rs s before ≡ (before, Faulty model.BadSet)
 set_bad all rs s e before = ap (of_library all rs before s) e
 
-of_exports : (all : List Placed) (rs : List UnitResult) (s : model.ImportSet) (o : Option LibraryName) (before : List model.Entry) (e : Option (List model.Entry)) (n : LibraryName) → o ≡ Some n → set_exports all rs o ≡ e →
-    of_library all rs before s o ≡ with_exports before s e
-of_exports all rs s o before e n is h = ap (of_library all rs before s) is ∙ ap (with_exports before s) (sym (ap (set_exports all rs) is) ∙ h)
+of_exports : (all : List Placed) (rs : List UnitResult) (s : model.ImportSet) (before : List model.Entry) (e : Option (List model.Entry)) (n : LibraryName) → model.library_in s ≡ Some n → library_exports all rs n (standard n) ≡ e →
+    with_set all rs s before ≡ with_exports before s e
+of_exports all rs s before e n is h = ap (of_library all rs before s) is ∙ ap (with_exports before s) h
 
-pub set_unknown : (all : List Placed) (rs : List UnitResult) (s : model.ImportSet) (n : LibraryName) → model.library_in s ≡ Some n → set_exports all rs (model.library_in s) ≡ None →
+pub set_unknown : (all : List Placed) (rs : List UnitResult) (s : model.ImportSet) (n : LibraryName) → model.library_in s ≡ Some n → library_exports all rs n (standard n) ≡ None →
     (before : List model.Entry) → with_set all rs s before ≡ (before, Unknown)
-set_unknown all rs s n is h before = of_exports all rs s (model.library_in s) before None n is h
+set_unknown all rs s n is h before = of_exports all rs s before None n is h
 
-pub set_known : (all : List Placed) (rs : List UnitResult) (s : model.ImportSet) (n : LibraryName) (es : List model.Entry) → model.library_in s ≡ Some n → set_exports all rs (model.library_in s) ≡ Some es →
+pub set_known : (all : List Placed) (rs : List UnitResult) (s : model.ImportSet) (n : LibraryName) (es : List model.Entry) → model.library_in s ≡ Some n → library_exports all rs n (standard n) ≡ Some es →
     (before : List model.Entry) → with_set all rs s before ≡ after_set before (model.entries_of s es)
-set_known all rs s n es is h before = of_exports all rs s (model.library_in s) before (Some es) n is h
+set_known all rs s n es is h before = of_exports all rs s before (Some es) n is h
 
 -- ---- put together
 
@@ -282,3 +300,51 @@ no_results bytes document (s ∷ ss) = refl
 pub document_is : (at : At) (spans : List (List Span)) (us : List UnitResult) (unit : ℕ) (r : UnitResult) (p : Prepared) → bytes_at at ≡ start_of spans (unit_at us unit) → unit_at us unit ≡ Some r → r.unit ≡ p → at.document ≡ p.placed.document
 document_is at spans us unit r p e is same =
     ap (λ (b : Bytes). b.document) e ∙ ap (λ (o : Option UnitResult). (start_of spans o).document) is ∙ ap (λ (q : Prepared). q.placed.document) same
+
+-- ---- what a fault is told as
+
+pub missing_told : (old new : List Diagnostic) (at : Option At) (n : SetName) (name : List ℕ) (bytes : Occ → Bytes) (set : Bytes) (f : model.ImportFault) → f ≡ model.NotThere (named n) → option_map bytes_at at ≡ option_map bytes n.occ → name ≡ n.name →
+    new ≡ old ++ told_at at 51 (worded 51 name) → new ≡ old ++ import_fault bytes set f
+missing_told old new at n name bytes set f is h same e =
+    e
+    ∙ ap (λ (ds : List Diagnostic). old ++ ds)
+    (told_there at n.occ bytes h 51 (worded 51 name) ∙ (λ j. at_name bytes n.occ 51 (worded 51 (same j))) ∙ ap (at_name bytes n.occ 51) (worded_name 51 n.name))
+    ∙ ap (λ (g : model.ImportFault). old ++ import_fault bytes set g) (sym is)
+
+pub clash_fault_told : (old new : List Diagnostic) (document : ℕ) (span : code_span.Span) (at : At) (s name : List ℕ) (bytes : Occ → Bytes) (f : model.ImportFault) → f ≡ model.Clash s → at ≡ record { document = document; span = span } → name ≡ s →
+    new ≡ old ++ told_at (Some at) 52 (worded 52 name) → new ≡ old ++ import_fault bytes (seen_at document span) f
+clash_fault_told old new document span at s name bytes f is where_is same e =
+    e ∙ (λ j. old ++ diagnostic (where_is j) 52 (worded 52 (same j)) ∷ []) ∙ ap (λ (t : List ℕ). old ++ at_bytes (seen_at document span) 52 t ∷ []) (worded_name 52 s)
+    ∙ ap (λ (g : model.ImportFault). old ++ import_fault bytes (seen_at document span) g) (sym is)
+
+pub bad_set_told : (old new : List Diagnostic) (document : ℕ) (span : code_span.Span) (at : At) (bytes : Occ → Bytes) (f : model.ImportFault) → f ≡ model.BadSet → at ≡ record { document = document; span = span } →
+    new ≡ old ++ told_at (Some at) 53 (codes "bad import set") → new ≡ old ++ import_fault bytes (seen_at document span) f
+bad_set_told old new document span at bytes f is where_is e =
+    e ∙ ap (λ (a : At). old ++ diagnostic a 53 (codes "bad import set") ∷ []) where_is ∙ ap (λ (g : model.ImportFault). old ++ import_fault bytes (seen_at document span) g) (sym is)
+
+-- ---- a unit that imports nothing, and one that imports something
+
+nothing_is : (spelled : LibraryName → List ℕ) (c : code_source.UnitSource) (p : Prepared) → ImportsAs spelled c p → (b d : Bool) → b ≡ (is_program (kind_as c.kind) && is_empty c.imports) → b ≡ d → imports_nothing p ≡ d
+nothing_is spelled c p im b d e h = sym (nothing_same spelled c p im) ∙ sym e ∙ h
+
+pub base_stands : (names : Names) (gs : List Group) (all : List Placed) (rs : List UnitResult) (p : Prepared) (spelled : LibraryName → List ℕ) (c : code_source.UnitSource) → ImportsAs spelled c p → (b : Bool) → b ≡ (is_program (kind_as c.kind) && is_empty c.imports) → b ≡ true →
+    GroupsStand names gs base_entries → GroupsStand names gs (unit_entries all rs p).0
+base_stands names gs all rs p spelled c im b e h stand =
+    subst (λ (q : List model.Entry × List SetResult). GroupsStand names gs q.0) (sym (base_case all rs p (nothing_is spelled c p im b true e h))) stand
+
+pub base_told : (bytes : Occ → Bytes) (ds : List Diagnostic) (all : List Placed) (rs : List UnitResult) (p : Prepared) (spelled : LibraryName → List ℕ) (c : code_source.UnitSource) → ImportsAs spelled c p → (b : Bool) → b ≡ (is_program (kind_as c.kind) && is_empty c.imports) → b ≡ true →
+    ds ≡ ds ++ set_diagnostics bytes p.placed.document p.specs (unit_entries all rs p).1
+base_told bytes ds all rs p spelled c im b e h =
+    sym (append-nil ds) ∙ ap (λ (xs : List Diagnostic). ds ++ xs) (sym (no_results bytes p.placed.document p.specs))
+    ∙ ap (λ (q : List model.Entry × List SetResult). ds ++ set_diagnostics bytes p.placed.document p.specs q.1) (sym (base_case all rs p (nothing_is spelled c p im b true e h)))
+
+pub sets_stand : (names : Names) (gs : List Group) (all : List Placed) (rs : List UnitResult) (p : Prepared) (spelled : LibraryName → List ℕ) (c : code_source.UnitSource) → ImportsAs spelled c p → (b : Bool) → b ≡ (is_program (kind_as c.kind) && is_empty c.imports) → b ≡ false →
+    GroupsStand names gs (import_all all rs [] p.specs).0 → GroupsStand names gs (unit_entries all rs p).0
+sets_stand names gs all rs p spelled c im b e h stand =
+    subst (λ (q : List model.Entry × List SetResult). GroupsStand names gs q.0) (sym (sets_case all rs p (nothing_is spelled c p im b false e h))) stand
+
+pub sets_told : (bytes : Occ → Bytes) (old new : List Diagnostic) (document : ℕ) (all : List Placed) (rs : List UnitResult) (p : Prepared) (spelled : LibraryName → List ℕ) (c : code_source.UnitSource) → ImportsAs spelled c p → (b : Bool) → b ≡ (is_program (kind_as c.kind) && is_empty c.imports) → b ≡ false →
+    document ≡ p.placed.document → new ≡ old ++ set_diagnostics bytes document p.specs (import_all all rs [] p.specs).1 → new ≡ old ++ set_diagnostics bytes p.placed.document p.specs (unit_entries all rs p).1
+sets_told bytes old new document all rs p spelled c im b e h here told =
+    told ∙ ap (λ (d : ℕ). old ++ set_diagnostics bytes d p.specs (import_all all rs [] p.specs).1) here
+    ∙ ap (λ (q : List model.Entry × List SetResult). old ++ set_diagnostics bytes p.placed.document p.specs q.1) (sym (sets_case all rs p (nothing_is spelled c p im b false e h)))

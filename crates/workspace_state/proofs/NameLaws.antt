@@ -1,9 +1,10 @@
 -- What can be exported of a unit is what the definition finds by name: a definition that is written in it, the latest first, or an
 -- import.
-use Rattle.std.proofs.Common.{◌≡◌, ℕ, Bool, true, false, cond, List, [], ◌∷◌, ◌++◌, append_assoc, map, filter, slice_get, Option, Some, None, refl, sym, ap, ◌∙◌, subst}
+use Rattle.std.proofs.Common.{◌≡◌, ℕ, Bool, true, false, cond, List, [], ◌∷◌, ◌++◌, length, append-nil, append_assoc, map, filter, slice_get, Option, Some, None, refl, sym, ap, ◌∙◌, subst}
 use Rattle.std.specs.Prelude.{◌==◌, ◌&&◌}
 use Rattle.std.specs.List.{flat_map}
 use Rattle.std.specs.Str.{bytes_eq}
+use Rattle.std.proofs.lemmas.List.Concat.{flat_map-append}
 use Rattle.scheme_model.specs.declared.Occ.{Occ}
 use Rattle.scheme_model.specs.Ident.{Ident as Identifier, Written, Inserted, same_ident}
 use Rattle.scheme_model.specs.Meaning.{Global}
@@ -13,7 +14,9 @@ use Rattle.scheme_model.specs.Program.{own_entry, names_of_unit}
 use Rattle.syntax_tree.specs.Names.{Names}
 use Rattle.syntax_tree.specs.Macros.{IsIdent}
 use Rattle.syntax_tree.specs.Meant.{AreEntries}
+use Rattle.syntax_tree.specs.declared.meaning.Meaning.TheVariants as code
 use Rattle.syntax_tree.specs.declared.units.Entry as code_entry
+use Rattle.syntax_tree.specs.declared.units.Origin.{Origin}
 use Rattle.syntax_tree.proofs.InternLaws.{bytes_told}
 use Rattle.core_tree.specs.Units.{AreDefinitions, IsDefinition, defined_by}
 use Rattle.core_tree.specs.declared.cores.Binder.{Binder}
@@ -21,6 +24,24 @@ use Rattle.import_sets.specs.Given as given
 use Rattle.import_sets.proofs.EntryLaws.{entries-append}
 use Rattle.workspace_state.specs.Defined.{FindsNames, named_as, named_all, symbol_in, symbol_at}
 use Rattle.workspace_state.proofs.MeaningLaws.{defined_stands}
+
+-- ---- one definition of the code
+
+pub named_is : (names : Names) (unit : ℕ) (b : Binder) (i : Identifier) (s t : List ℕ) (os : List Origin) → slice_get names.idents b.ident ≡ Some i → Some s ≡ symbol_in unit i → t ≡ s → os ≡ given.place_origin b.occ →
+    record { name = t; meaning = code.Global unit b.ident; origins = os } ∷ [] ≡ named_as unit b (symbol_at unit (slice_get names.idents b.ident))
+named_is names unit b i s t os at is same e =
+    (λ j. record { name = same j; meaning = code.Global unit b.ident; origins = e j } ∷ []) ∙ ap (named_as unit b) (is ∙ ap (symbol_at unit) (sym at))
+
+pub named_not : (names : Names) (unit : ℕ) (b : Binder) (i : Identifier) (old : List code_entry.Entry) → slice_get names.idents b.ident ≡ Some i → None ≡ symbol_in unit i →
+    old ≡ old ++ named_as unit b (symbol_at unit (slice_get names.idents b.ident))
+named_not names unit b i old at is = sym (append-nil old) ∙ ap (λ (o : Option (List ℕ)). old ++ named_as unit b o) (is ∙ ap (symbol_at unit) (sym at))
+
+pub named_more : (names : Names) (unit : ℕ) (bs : List (ℕ × Binder)) (b : ℕ × Binder) (old new : List code_entry.Entry) → old ≡ named_all names unit bs → new ≡ old ++ named_as unit b.1 (symbol_at unit (slice_get names.idents b.1.ident)) →
+    new ≡ named_all names unit (bs ++ b ∷ [])
+named_more names unit bs b old new e n =
+    n ∙ ap (λ (l : List code_entry.Entry). l ++ named_as unit b.1 (symbol_at unit (slice_get names.idents b.1.ident))) e
+    ∙ ap (λ (l : List code_entry.Entry). named_all names unit bs ++ l) (sym (append-nil (named_as unit b.1 (symbol_at unit (slice_get names.idents b.1.ident)))))
+    ∙ sym (flat_map-append (λ (b : ℕ × Binder). named_as unit b.1 (symbol_at unit (slice_get names.idents b.1.ident))) bs (b ∷ []))
 
 -- what a definition can be exported as
 abbrev own_if : ℕ → Defined → Option (List ℕ) → List Entry
@@ -51,8 +72,6 @@ all_stand names u (b ∷ bs) [] h = absurd h
 all_stand names u (b ∷ bs) (d ∷ ds) h =
     entries-append names (named_as u b.1 (symbol_at u (slice_get names.idents b.1.ident))) (named_all names u bs) (own_if u d (symbol_in u d.ident)) (own_all u ds)
     (one_stands names u (length ds) b d h.0) (all_stand names u bs ds h.1)
-  where
-    use Rattle.std.proofs.Common.{length}
 
 -- ---- and are found so
 

@@ -6,9 +6,7 @@ use Rattle.std.specs.Option.{option_map}
 use Rattle.std.proofs.lemmas.List.{reverse-append}
 use Rattle.std.proofs.lemmas.List.Concat.{flat_map-append}
 use Rattle.scheme_model.specs.declared.Occ.{Occ}
-use Rattle.scheme_model.specs.Entries as model
-use Rattle.scheme_model.specs.Diagnostics.{Diagnostic, Bytes, at_bytes, at_name, clash_diagnostics, import_fault}
-use Rattle.import_sets.specs.Sets.{named}
+use Rattle.scheme_model.specs.Diagnostics.{Diagnostic, Bytes, at_bytes, at_name, clash_diagnostics}
 use Rattle.workspace_state.specs.declared.findings.At.{At}
 use Rattle.workspace_state.specs.declared.findings.Finding.{Finding}
 use Rattle.workspace_state.specs.Found.{told, told_at, all_told}

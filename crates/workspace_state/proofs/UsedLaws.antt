@@ -1,8 +1,10 @@
 -- Identifiers of imports and exports that are added one after another.
-use Rattle.std.proofs.Common.{◌≡◌, ◌⊎◌, ◌↔◌, inl, inr, ℕ, zero, suc, ◌+◌, ◌<◌, Bool, true, false, cond, List, [], ◌∷◌, ◌++◌, append-nil, append_assoc, length, map, filter, drop, get_or, slice_get, Option, Some, None, Result, Ok, Err, refl, sym, ap, ◌∙◌, subst, arith}
-use Rattle.std.specs.Prelude.{not, reverse}
+use Rattle.std.proofs.Common.{◌≡◌, ◌⊎◌, ◌↔◌, inl, inr, ℕ, zero, suc, ◌+◌, ◌<◌, Bool, true, false, cond, List, [], ◌∷◌, ◌++◌, append-nil, append_assoc, length, map, filter, take, drop, get_or, slice_get, Option, Some, None, Result, Ok, Err, refl, sym, ap, ◌∙◌, subst, arith}
+use Rattle.std.specs.Prelude.{not, reverse, ◌||◌}
 use Rattle.std.specs.List.{Contains}
 use Rattle.std.specs.Str.{bytes_eq}
+use Rattle.std.proofs.lemmas.List.{map_push}
+use Rattle.std.proofs.lemmas.Option.{slice_get_read}
 use Rattle.std.proofs.lemmas.List.Elements.{Contains-append_left, Contains-append_right, Contains-append_cases}
 use Rattle.scheme_model.specs.declared.Occ.{Occ}
 use Rattle.scheme_model.specs.ExpansionFaults.{Named}
@@ -10,7 +12,9 @@ use Rattle.scheme_model.specs.Ident.{Written}
 use Rattle.scheme_model.specs.Meaning as meant
 use Rattle.scheme_model.specs.Entries as model
 use Rattle.scheme_model.specs.Live.{NameUse, entry_use, second_use, listed_uses, pair_uses, set_uses, if_given, export_uses, all_export_uses, meaning_or, origins_or}
-use Rattle.scheme_model.specs.Program.{ExportSpec, has_name}
+use Rattle.scheme_model.specs.Requirements.{LibraryName}
+use Rattle.scheme_model.specs.Program.{Placed, UnitResult, ImportSpec, ExportSpec, has_name}
+use Rattle.scheme_model.specs.ProgramArrows.{import_uses, uses_in_set, uses_given}
 use Rattle.syntax_tree.specs.Names.{Names, KeepsNames}
 use Rattle.syntax_tree.specs.Macros.{IsIdent}
 use Rattle.syntax_tree.specs.Meant.{AreOrigins, IsEntry, AreEntries, IsGivenMeaning}
@@ -35,8 +39,10 @@ use Rattle.library_table.specs.Sources.{AreExports, IsExport}
 use Rattle.library_table.specs.declared.units.ExportSpec as code_export
 use Rattle.workspace_state.specs.declared.names.Identifiers as code
 use Rattle.workspace_state.specs.Defined.{FindsNames}
-use Rattle.workspace_state.specs.NamesUsed.{AddsName, AddsNames, HaveOneIfSame, own_use, inner_use, external_use, external_uses, unless_fault}
+use Rattle.workspace_state.specs.NamesUsed.{AddsName, AddsNames, HaveOneIfSame, own_use, inner_use, external_adds, external_use, external_uses, unless_fault}
 use Rattle.workspace_state.proofs.MeaningLaws.{entry_kept, entries_kept, meaning_kept}
+use Rattle.workspace_state.specs.SetsGiven.{set_exports}
+use Rattle.workspace_state.proofs.GivenLaws.{drop_at}
 use Rattle.workspace_state.proofs.Matched.{all_append}
 
 -- ---- names are added
@@ -260,7 +266,7 @@ pub inner_given : (names : Names) → TellsApart names → (c : code_set.ImportS
     Some inner ≡ unless_fault (given.given c es) → InnerGiven names s ds inner
 inner_given names apart c s es ds h k inner is =
     let r : Answers names (Ok inner) (model.given_by s ds) =
-        subst (λ (r : Result (List code_entry.Entry) code_fault.ImportFault). Answers names r (model.given_by s ds)) (inner_is c es inner is) (given_answers names apart c s es ds h k)
+    subst (λ (r : Result (List code_entry.Entry) code_fault.ImportFault). Answers names r (model.given_by s ds)) (inner_is c es inner is) (given_answers names apart c s es ds h k)
     in
     record { entries = r.0; is = r.1.0; stand = r.1.1 }
 
@@ -417,3 +423,131 @@ names_all mid names a b c ms find xs k none one h g = record {
 
     into : (m : NameUse) → Contains ((ms ++ all_export_uses find xs) ++ external_uses find (given_exports find [] xs)) m → Contains (ms ++ all_export_uses find xs) m
     into m q = either m (Contains-append_cases (ms ++ all_export_uses find xs) (external_uses find (given_exports find [] xs)) m q)
+
+-- ---- the external names so far, and those that are left
+
+pub record ExternalsSoFar (names : Names) (a b : code.Identifiers) (has : List ℕ → Bool) (find : List ℕ → Option model.Entry) (whole rest : List ExportSpec) : Type 0 where
+  pub seen : List (List ℕ)
+  pub told : (s : List ℕ) → has s ≡ has_name seen s
+  pub uses : List NameUse
+  pub adds : AddsNames names a b uses
+  pub all : uses ++ external_uses find (given_exports find seen rest) ≡ external_uses find (given_exports find [] whole)
+
+pub externals_begin : (names : Names) (a : code.Identifiers) (has : List ℕ → Bool) (find : List ℕ → Option model.Entry) (whole : List ExportSpec) → ((s : List ℕ) → has s ≡ false) → ExternalsSoFar names a a has find whole whole
+externals_begin names a has find whole none = record { seen = []; told = none; uses = []; adds = adds_none names a; all = refl }
+
+externals_step : (find : List ℕ → Option model.Entry) (seen : List (List ℕ)) (x : ExportSpec) (xs : List ExportSpec) → (o : Option model.Entry) → find x.inner.name ≡ o → (b : Bool) → has_name seen x.outer.name ≡ b →
+    external_uses find (given_exports find seen (x ∷ xs)) ≡ external_adds b o x ++ external_uses find (given_exports find (x.outer.name ∷ seen) xs)
+externals_step find seen x xs None q true p = ap (external_uses find) (given_none find seen x xs q)
+externals_step find seen x xs None q false p = ap (external_uses find) (given_none find seen x xs q)
+externals_step find seen x xs (Some e) q true p = ap (external_uses find) (given_again find seen x xs e q p)
+externals_step find seen x xs (Some e) q false p =
+    ap (external_uses find) (given_new find seen x xs e q p) ∙ ap (λ (o : Option model.Entry). external_use o x ++ external_uses find (given_exports find (x.outer.name ∷ seen) xs)) q
+
+pub externals_next : (mid names : Names) → KeepsNames mid names → (a b c : code.Identifiers) (has more : List ℕ → Bool) (find : List ℕ → Option model.Entry) (whole : List ExportSpec) (i : ℕ) (x : ExportSpec) (t : List ℕ) → slice_get whole i ≡ Some x → t ≡ x.outer.name →
+    ((s : List ℕ) → more s ≡ cond (bytes_eq t s) true (has s)) → ExternalsSoFar mid a b has find whole (drop i whole) → AddsNames names b c (external_adds (has t) (find x.inner.name) x) → ExternalsSoFar names a c more find whole (drop (i + 1) whole)
+externals_next mid names k a b c has more find whole i x t at same told h adds = record {
+  seen = x.outer.name ∷ h.seen;
+  told = λ s. told s ∙ (λ j. cond (bytes_eq (same j) s) true (h.told s j)) ∙ or_of (bytes_eq x.outer.name s) (has_name h.seen s);
+  uses = h.uses ++ external_adds (has t) (find x.inner.name) x;
+  adds = adds_then mid names k a b c h.uses (external_adds (has t) (find x.inner.name) x) h.adds adds;
+  all =
+      append_assoc h.uses (external_adds (has t) (find x.inner.name) x) (external_uses find (given_exports find (x.outer.name ∷ h.seen) (drop (i + 1) whole)))
+      ∙ ap (λ (l : List NameUse). h.uses ++ l)
+      (ap (λ (b : Bool). external_adds b (find x.inner.name) x ++ external_uses find (given_exports find (x.outer.name ∷ h.seen) (drop (i + 1) whole))) (ap has same ∙ h.told x.outer.name)
+      ∙ sym (externals_step find h.seen x (drop (i + 1) whole) (find x.inner.name) refl (has_name h.seen x.outer.name) refl))
+      ∙ sym (ap (λ (l : List ExportSpec). h.uses ++ external_uses find (given_exports find h.seen l)) (drop_at whole i x at)) ∙ h.all;
+}
+  where
+    or_of : (b d : Bool) → cond b true d ≡ (b || d)
+    or_of true d = refl
+    or_of false d = refl
+
+pub externals_done : (names : Names) (a b : code.Identifiers) (has : List ℕ → Bool) (find : List ℕ → Option model.Entry) (whole rest : List ExportSpec) → rest ≡ [] → ExternalsSoFar names a b has find whole rest →
+    AddsNames names a b (external_uses find (given_exports find [] whole))
+externals_done names a b has find whole rest none h =
+    adds_as names a b h.uses (external_uses find (given_exports find [] whole))
+    (sym (append-nil h.uses) ∙ ap (λ (l : List ExportSpec). h.uses ++ external_uses find (given_exports find h.seen l)) (sym none) ∙ h.all) h.adds
+
+-- ---- one more of those that are gone through
+
+pub item_at : {X : Type 0} (xs : List X) (i : ℕ) (x : X) → i < length xs → x ≡ get_or xs i x → slice_get xs i ≡ Some x
+item_at xs i x lt e = slice_get_read xs (length xs) i x refl lt e
+
+take_at : {X : Type 0} (xs : List X) (i : ℕ) (x : X) → slice_get xs i ≡ Some x → take (i + 1) xs ≡ take i xs ++ x ∷ []
+take_at [] i x h = absurd cc
+take_at (y ∷ xs) zero x h = let same : y ≡ x = cc in ap (λ z. z ∷ []) same
+take_at (y ∷ xs) (suc i) x h = ap (λ l. y ∷ l) (take_at xs i x h)
+
+uses_at : {X : Type 0} (f : X → List NameUse) (all : List X → List NameUse) → all [] ≡ [] → ((x : X) (xs : List X) → all (x ∷ xs) ≡ f x ++ all xs) → (xs : List X) (i : ℕ) (x : X) → slice_get xs i ≡ Some x →
+    all (take i xs) ++ f x ≡ all (take (i + 1) xs)
+uses_at f all none one xs i x at = sym (ap all (take_at xs i x at) ∙ uses_next f all none one (take i xs) x)
+
+mapped_at : {A X : Type 0} (g : A → X) (f : X → List NameUse) (all : List X → List NameUse) → all [] ≡ [] → ((x : X) (xs : List X) → all (x ∷ xs) ≡ f x ++ all xs) → (xs : List A) (i : ℕ) (x : A) → slice_get xs i ≡ Some x →
+    all (map g (take i xs)) ++ f (g x) ≡ all (map g (take (i + 1) xs))
+mapped_at g f all none one xs i x at = sym (ap (λ l. all (map g l)) (take_at xs i x at) ∙ ap all (map_push g (take i xs) x) ∙ uses_next f all none one (map g (take i xs)) (g x))
+
+pub listed_more : (es : List model.Entry) (ns : List SetName) (i : ℕ) (n : SetName) → slice_get ns i ≡ Some n →
+    listed_uses es (map named (take i ns)) ++ entry_use (model.entry_at es n.name) (named n) ≡ listed_uses es (map named (take (i + 1) ns))
+listed_more es ns i n at = mapped_at named (λ m. entry_use (model.entry_at es m.name) m) (listed_uses es) refl (λ m ms. refl) ns i n at
+
+pub pairs_more : (es : List model.Entry) (ps : List NamePair) (i : ℕ) (p : NamePair) → slice_get ps i ≡ Some p →
+    pair_uses es (map paired (take i ps)) ++ (entry_use (model.entry_at es p.from.name) (named p.from) ++ second_use (model.entry_at es p.from.name) (named p.to)) ≡ pair_uses es (map paired (take (i + 1) ps))
+pairs_more es ps i p at =
+    mapped_at paired (λ (q : Named (List ℕ) × Named (List ℕ)). entry_use (model.entry_at es q.0.name) q.0 ++ second_use (model.entry_at es q.0.name) q.1) (pair_uses es) refl
+    (λ q qs. sym (append_assoc (entry_use (model.entry_at es q.0.name) q.0) (second_use (model.entry_at es q.0.name) q.1) (pair_uses es qs))) ps i p at
+
+pub exports_more : (find : List ℕ → Option model.Entry) (xs : List ExportSpec) (i : ℕ) (x : ExportSpec) → slice_get xs i ≡ Some x → all_export_uses find (take i xs) ++ export_uses find x ≡ all_export_uses find (take (i + 1) xs)
+exports_more find xs i x at = uses_at (export_uses find) (all_export_uses find) refl (λ y ys. refl) xs i x at
+
+pub imports_more : (all : List Placed) (rs : List UnitResult) (ss : List ImportSpec) (i : ℕ) (s : ImportSpec) → slice_get ss i ≡ Some s →
+    import_uses all rs (take i ss) ++ uses_in_set all rs s.set (model.library_in s.set) ≡ import_uses all rs (take (i + 1) ss)
+imports_more all rs ss i s at = uses_at (λ (t : ImportSpec). uses_in_set all rs t.set (model.library_in t.set)) (import_uses all rs) refl (λ t ts. refl) ss i s at
+
+pub record ExportAt (xs : List ExportSpec) (n : ℕ) (c : code_export.ExportSpec) : Type 0 where
+  pub spec : ExportSpec
+  pub there : slice_get xs n ≡ Some spec
+  pub is : IsExport c spec
+
+pub export_at : (cs : List code_export.ExportSpec) (xs : List ExportSpec) → AreExports cs xs → (n : ℕ) (c : code_export.ExportSpec) → slice_get cs n ≡ Some c → ExportAt xs n c
+export_at [] xs h n c at = absurd cc
+export_at (b ∷ cs) [] h n c at = absurd h
+export_at (b ∷ cs) (x ∷ xs) h zero c at = let same : b ≡ c = cc in record { spec = x; there = refl; is = subst (λ (d : code_export.ExportSpec). IsExport d x) same h.0 }
+export_at (b ∷ cs) (x ∷ xs) h (suc n) c at = let r = export_at cs xs h.1 n c at in record { spec = r.spec; there = r.there; is = r.is }
+
+pub as_many_exports : (cs : List code_export.ExportSpec) (xs : List ExportSpec) → AreExports cs xs → length cs ≡ length xs
+as_many_exports [] [] h = refl
+as_many_exports [] (x ∷ xs) h = absurd h
+as_many_exports (c ∷ cs) [] h = absurd h
+as_many_exports (c ∷ cs) (x ∷ xs) h = ap suc (as_many_exports cs xs h.1)
+
+-- what a set of the unit adds: nothing where its library isn't known, and else what the set has
+pub uses_unknown : (all : List Placed) (rs : List UnitResult) (s : model.ImportSet) (o : Option LibraryName) → set_exports all rs o ≡ None → [] ≡ uses_in_set all rs s o
+uses_unknown all rs s None h = refl
+uses_unknown all rs s (Some n) h = ap (λ (e : Option (List model.Entry)). uses_given e s) (sym h)
+
+pub uses_known : (all : List Placed) (rs : List UnitResult) (s : model.ImportSet) (o : Option LibraryName) (es : List model.Entry) → set_exports all rs o ≡ Some es → set_uses es s ≡ uses_in_set all rs s o
+uses_known all rs s None es h = absurd cc
+uses_known all rs s (Some n) es h = ap (λ (e : Option (List model.Entry)). uses_given e s) (sym h)
+
+-- ---- by what is found
+
+pub found_adds : (old : Names) (es : List code_entry.Entry) (find : List ℕ → Option model.Entry) → FindsNames old es find → (s t : List ℕ) → t ≡ s → (e : code_entry.Entry) → Some e ≡ entry_named t es → (P : Option model.Entry → Type 0) →
+    ((d : model.Entry) → IsEntry old e d → P (Some d)) → P (find s)
+found_adds old es find h s t same e is P one =
+    let r = found_one old es find h s e (ap (λ (u : List ℕ). entry_named u es) (sym same) ∙ sym is) in subst P (sym r.is) (one r.entry r.stands)
+
+pub missing_adds : (old : Names) (es : List code_entry.Entry) (find : List ℕ → Option model.Entry) → FindsNames old es find → (s t : List ℕ) → t ≡ s → None ≡ entry_named t es → (P : Option model.Entry → Type 0) → P None → P (find s)
+missing_adds old es find h s t same is P none = subst P (sym (found_no old es find h s (ap (λ (u : List ℕ). entry_named u es) (sym same) ∙ sym is))) none
+
+-- ---- one export
+
+pub export_is : (find : List ℕ → Option model.Entry) (c : code_export.ExportSpec) (x : ExportSpec) → IsExport c x → (b : Bool) → b ≡ not (given.same_place c.inner.occ c.outer.occ) →
+    inner_use (find c.inner.name) (named c.inner) ∷ cond b (own_use (meaning_or (find c.inner.name) c.inner.name) (named c.outer) ∷ []) [] ≡ export_uses find x
+export_is find c x is b e =
+    (λ j. inner_use (find (is.inner j).name) (is.inner j) ∷ cond ((e ∙ is.renamed) j) (own_use (meaning_or (find (is.inner j).name) (is.inner j).name) (is.outer j) ∷ []) [])
+
+pub external_is : (c : code_export.ExportSpec) (x : ExportSpec) → IsExport c x → (d : model.Entry) (b : Bool) → b ≡ not (given.same_place c.inner.occ c.outer.occ) →
+    record { meaning = d.meaning; symbol = c.outer.name; occ = c.outer.occ; origins = cond b (model.place_origin c.outer.occ) d.origins } ∷ [] ≡ external_use (Some d) x
+external_is c x is d b e =
+    (λ j. record { meaning = d.meaning; symbol = (is.outer j).name; occ = (is.outer j).occ; origins = cond ((e ∙ is.renamed) j) (model.place_origin (is.outer j).occ) d.origins } ∷ [])

@@ -1,5 +1,5 @@
 -- The identifiers of imports and exports that were found so far (R7RS 5.2, 5.6.1).
-use Rattle.std.specs.Prelude.{◌≡◌, ℕ, List, [], ◌∷◌, ◌++◌, false, Option, Some, None, Result, Ok, Err, if◌then◌else◌}
+use Rattle.std.specs.Prelude.{◌≡◌, ℕ, List, [], ◌∷◌, ◌++◌, Bool, true, false, Option, Some, None, Result, Ok, Err, if◌then◌else◌}
 use Rattle.scheme_model.specs.Ident.{Written}
 use Rattle.scheme_model.specs.Entries as model
 use Rattle.scheme_model.specs.ExpansionFaults.{Named}
@@ -50,6 +50,11 @@ external_use (Some e) x = record { meaning = e.meaning; symbol = x.outer.name; o
 abbrev pub external_uses : (List ℕ → Option model.Entry) → List ExportSpec → List NameUse
 external_uses find [] = []
 external_uses find (x ∷ xs) = external_use (find x.inner.name) x ++ external_uses find xs
+
+-- what an export adds of it: nothing where an earlier export has its external name
+abbrev pub external_adds : Bool → Option model.Entry → ExportSpec → List NameUse
+external_adds true o x = []
+external_adds false o x = external_use o x
 
 -- what is given, unless there is a fault
 abbrev pub unless_fault : {A : Type 0} → Result A ImportFault → Option A

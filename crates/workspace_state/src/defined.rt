@@ -8,7 +8,7 @@ ghost use Rattle.scheme_model.specs.Substitution.{Table};
 ghost use Rattle.syntax_tree.specs.Names.{Names};
 ghost use Rattle.syntax_tree.specs.Meant.{AreEntries};
 ghost use Rattle.core_tree.specs.Units.{AreDefinitions, defined_by, definitions_from};
-ghost use Rattle.workspace_state.specs.Defined.{AreKnown, FindsNames, named_all, named_as, symbol_at, written_symbol};
+ghost use Rattle.workspace_state.specs.Defined.{AreKnown, FindsNames, named_all, named_as, symbol_at, symbol_in, written_symbol};
 ghost use Rattle.workspace_state.specs.Libraries.{HaveMeaning};
 ghost use Rattle.workspace_state.specs.Places.{AreFoundIn, CanPlace};
 
@@ -39,7 +39,7 @@ fn written(symbols: &Symbols, ident: IdNo) -> Option<&str>
 /// The symbol of an identifier that is written in a unit.
 fn written_in(symbols: &Symbols, home: u32, ident: IdNo) -> Option<&str>
     requires { ident < length symbols.now.idents }
-    ensures { option_map (λ s. s.now) result ≡ symbol_at home (slice_get symbols.now.idents ident) }
+    ensures { (i : Identifier) → slice_get symbols.now.idents ident ≡ Some i → option_map (λ s. s.now) result ≡ symbol_in home i }
 {
     match symbols.ident_at(ident) {
         Ident::Written { unit, symbol } => {

@@ -5,6 +5,7 @@ ghost use Rattle.std.specs.Prelude.{◌≡◌, ◌<◌, ◌&&◌, ◌++◌, ◌�
 ghost use Rattle.std.specs.Option.{option_map};
 ghost use Rattle.std.specs.BTreeMap.{get_by_text};
 ghost use Rattle.scheme_model.specs.Requirements.{LibraryName};
+ghost use Rattle.scheme_model.specs.StandardLibraries.{standard};
 ghost use Rattle.scheme_model.specs.Entries as model;
 ghost use Rattle.scheme_model.specs.Program as program;
 ghost use Rattle.scheme_model.specs.Program.{standard_entry, is_program, is_empty, import_all, unit_entries};
@@ -321,10 +322,10 @@ fn of_set(
         AreLibraries symbols.old libraries.entry spelled all rs → (s : model.ImportSet) → IsSetOf (λ t n. t ≡ spelled n) set.now s →
         IfOk result (λ gives. ComesTo symbols.new gives (with_set all rs s)) }
 {
-    if library_in(set).is_none() {
+    let Some(name) = library_in(set) else {
         return Ok(SetGives::Faulty(ImportFault::BadSet));
-    }
-    match library_entries(alloc, symbols, libraries, set)? {
+    };
+    match named_entries(alloc, symbols, libraries, name)? {
         None => Ok(SetGives::Unknown),
         Some(exports) => {
             symbols.told_apart();
@@ -365,13 +366,32 @@ pub fn library_entries(
     let Some(name) = library_in(set) else {
         return Ok(None);
     };
-    if let Some(names) = standard(alloc, name)? {
-        let entries = standard_entries(alloc, symbols, names.as_slice())?;
-        return Ok(Some(entries));
-    }
-    match exports_named(libraries, name) {
-        None => Ok(None),
-        Some(exports) => Ok(Some(copy_of_entries(alloc, exports)?)),
+    Ok(named_entries(alloc, symbols, libraries, name)?)
+}
+
+/// What the library with a name exports. `None` where it isn't known or is broken.
+fn named_entries(
+    alloc: Global,
+    symbols: &mut Symbols,
+    libraries: Libraries<'_>,
+    name: &str,
+) -> Mem<Option<Items<Entry>>>
+    requires { ExportsMean symbols.old libraries.expanded.now }
+    ensures names { KeepsNames symbols.old symbols.new }
+    ensures means { IfOk result (λ exports. IfSome exports (HaveMeaning symbols.new)) }
+    ensures exact { (spelled : LibraryName → List ℕ) → (all : List program.Placed) → (rs : List program.UnitResult) →
+        AreLibraries symbols.old libraries.entry spelled all rs → (n : LibraryName) → name.now ≡ spelled n →
+        IfOk result (λ exports. AreEntriesIf symbols.new exports (program.library_exports all rs n (standard n))) }
+{
+    match standard(alloc, name)? {
+        Some(names) => {
+            let entries = standard_entries(alloc, symbols, names.as_slice())?;
+            Ok(Some(entries))
+        }
+        None => match exports_named(libraries, name) {
+            None => Ok(None),
+            Some(exports) => Ok(Some(copy_of_entries(alloc, exports)?)),
+        },
     }
 }
 

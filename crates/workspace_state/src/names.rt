@@ -9,20 +9,20 @@ ghost use Rattle.scheme_model.specs.Meaning as meant;
 ghost use Rattle.scheme_model.specs.Entries as model;
 ghost use Rattle.scheme_model.specs.Live as live;
 ghost use Rattle.scheme_model.specs.Program as program;
-ghost use Rattle.scheme_model.specs.ProgramArrows.{import_uses};
+ghost use Rattle.scheme_model.specs.ProgramArrows.{import_uses, uses_in_set};
 ghost use Rattle.syntax_tree.specs.Names.{Names, KeepsNames};
 ghost use Rattle.syntax_tree.specs.Meant.{AreEntries, IsEntry, IsGivenMeaning};
 ghost use Rattle.core_tree.specs.Names.{AllMatch};
 ghost use Rattle.core_tree.specs.Units.{AreNames, given_exports};
 ghost use Rattle.import_sets.specs.Firsts.{place_of};
 ghost use Rattle.import_sets.specs.Given as code;
-ghost use Rattle.import_sets.specs.Sets.{IsSet, named, paired};
+ghost use Rattle.import_sets.specs.Sets.{IsSet, IsSetOf, named, paired};
 ghost use Rattle.library_table.specs.Exported.{entry_named};
 ghost use Rattle.library_table.specs.Sources.{AreExports, IsExport};
 ghost use Rattle.workspace_state.specs.Defined.{FindsNames};
 ghost use Rattle.workspace_state.specs.Libraries.{ExportsMean};
 ghost use Rattle.workspace_state.specs.SetsGiven.{AreLibraries, IsSpec};
-ghost use Rattle.workspace_state.specs.NamesUsed.{AddsName, AddsNames, HaveOneIfSame, external_use, external_uses, inner_use, own_use, unless_fault};
+ghost use Rattle.workspace_state.specs.NamesUsed.{AddsName, AddsNames, HaveOneIfSame, external_adds, external_use, external_uses, inner_use, own_use, unless_fault};
 
 use crate::entries::{Libraries, library_entries};
 use crate::joining::own_origin;
@@ -120,11 +120,32 @@ impl Identifiers {
             OnOk result (AddsNames symbols.new self.old self.new (import_uses all rs ss)) }
     {
         for spec in specs {
-            if let Some(exports) = library_entries(alloc, symbols, libraries, &spec.set)? {
-                self.add_set(alloc, symbols, &spec.set, exports)?;
-            }
+            self.add_import(alloc, symbols, libraries, &spec.set)?;
         }
         Ok(())
+    }
+
+    /// Adds those of an import set, if its library gives something.
+    fn add_import(
+        &mut self,
+        alloc: Global,
+        symbols: &mut Symbols,
+        libraries: Libraries<'_>,
+        set: &ImportSet,
+    ) -> Mem<()>
+        requires { ExportsMean symbols.old libraries.expanded.now }
+        ensures names { KeepsNames symbols.old symbols.new }
+        ensures adds { (spelled : LibraryName → List ℕ) → (all : List program.Placed) → (rs : List program.UnitResult) →
+            AreLibraries symbols.old libraries.entry spelled all rs → (s : model.ImportSet) → IsSetOf (λ t n. t ≡ spelled n) set.now s →
+            OnOk result (AddsNames symbols.new self.old self.new (uses_in_set all rs s (model.library_in s))) }
+    {
+        match library_entries(alloc, symbols, libraries, set)? {
+            None => Ok(()),
+            Some(exports) => {
+                self.add_set(alloc, symbols, set, exports)?;
+                Ok(())
+            }
+        }
     }
 
     /// Adds those of a set whose library exports these, from the innermost set outwards. What it gives is what the set gives, unless
@@ -293,13 +314,12 @@ impl Identifiers {
             (x : program.ExportSpec) → IsExport spec.now x →
             OnOk result (AddsNames symbols.new self.old self.new (live.export_uses find x)) }
     {
-        let ExportSpec { inner, outer } = spec;
-        self.add_inner(alloc, symbols, inner, found)?;
-        if is_renamed(spec) {
-            let meaning = meaning_of(symbols, found, inner)?;
-            self.add_own(alloc, symbols, outer, meaning)?;
+        self.add_inner(alloc, symbols, &spec.inner, found)?;
+        if !is_renamed(spec) {
+            return Ok(());
         }
-        Ok(())
+        let meaning = meaning_of(symbols, found, &spec.inner)?;
+        Ok(self.add_own(alloc, symbols, &spec.outer, meaning)?)
     }
 
     /// Adds the identifier that is exported.
@@ -335,36 +355,51 @@ impl Identifiers {
     {
         let mut seen = BTreeSet::new(alloc);
         for spec in specs {
-            let outer = spec.outer.name.as_str();
-            if !seen.contains(outer) {
-                self.add_external(alloc, symbols, spec, found)?;
-            }
-            seen.insert(String::from_str(alloc, outer)?)?;
+            let again = seen.contains(spec.outer.name.as_str());
+            self.add_external(alloc, symbols, spec, found, again)?;
+            seen.insert(String::from_str(alloc, spec.outer.name.as_str())?)?;
         }
         Ok(())
     }
 
-    /// Adds the external name of an export, if that gives something.
+    /// Adds the external name of an export, if that gives something. `again` tells that an earlier export has its external name.
     fn add_external(
         &mut self,
         alloc: Global,
         symbols: &mut Symbols,
         spec: &ExportSpec,
         found: Found<'_>,
+        again: bool,
     ) -> Mem<()>
         ensures names { KeepsNames symbols.old symbols.new }
         ensures adds { (find : List ℕ → Option model.Entry) → FindsNames symbols.old found.entry.entries.now find → (x : program.ExportSpec) → IsExport spec.now x →
-            OnOk result (AddsNames symbols.new self.old self.new (external_use (find spec.now.inner.name) x)) }
+            OnOk result (AddsNames symbols.new self.old self.new (external_adds again (find spec.now.inner.name) x)) }
     {
-        let ExportSpec { inner, outer } = spec;
-        let Some(entry) = found.entry(inner.name.as_str()) else {
+        if again {
             return Ok(());
-        };
-        if is_renamed(spec) {
-            Ok(self.add_own(alloc, symbols, outer, entry.meaning)?)
-        } else {
-            Ok(self.add_entry(alloc, symbols, outer, entry)?)
         }
+        match found.entry(spec.inner.name.as_str()) {
+            None => Ok(()),
+            Some(entry) => Ok(self.add_given(alloc, symbols, spec, entry)?),
+        }
+    }
+
+    /// Adds the external name of an export that gives an entry.
+    fn add_given(
+        &mut self,
+        alloc: Global,
+        symbols: &mut Symbols,
+        spec: &ExportSpec,
+        entry: &Entry,
+    ) -> Mem<()>
+        ensures names { KeepsNames symbols.old symbols.new }
+        ensures adds { (e : model.Entry) → IsEntry symbols.old entry.now e → (x : program.ExportSpec) → IsExport spec.now x →
+            OnOk result (AddsNames symbols.new self.old self.new (external_use (Some e) x)) }
+    {
+        if is_renamed(spec) {
+            return Ok(self.add_own(alloc, symbols, &spec.outer, entry.meaning)?);
+        }
+        Ok(self.add_entry(alloc, symbols, &spec.outer, entry)?)
     }
 
     /// Adds an identifier that names an entry.

@@ -1,20 +1,22 @@
-use Rattle.std.proofs.Common.{ℕ, List, ◌++◌, get_or, None, sym, ap, ◌∙◌, subst, arith}
-use Rattle.std.proofs.lemmas.Option.{slice_get-get_or}
+use Rattle.std.proofs.Common.{◌≡◌, ℕ, List, ◌++◌, map, reverse, sym, ap, ◌∙◌, cc, subst}
+use Rattle.std.proofs.lemmas.List.{map_push}
+use Rattle.std.proofs.lemmas.Option.{slice_get_read}
+use Rattle.std.proofs.lemmas.Iterator.Adapters.{YieldsList-from_rev_slice}
+use Rattle.std.proofs.lemmas.Iterator.Consumers.{YieldsList-turn, YieldsList-end}
 use Rattle.syntax_tree.specs.declared.units.Entry.{Entry}
 use Rattle.core_tree.specs.declared.cores.Binder.{Binder}
+use Rattle.workspace_state.specs.Defined.{named_all}
 use Rattle.workspace_state.specs.Libraries.{HaveMeaning}
+use Rattle.workspace_state.proofs.DefinedLaws.{known_reversed}
 use Rattle.workspace_state.proofs.MeaningLaws.{mean_both}
+use Rattle.workspace_state.proofs.NameLaws.{names_found, named_more}
 use Rattle.workspace_state.proofs.defined.names_of.Goals as goal
 
 pub add_name-requires : goal.add_name-requires
-add_name-requires c =
-    let i = c.loop-binder.binder-index in
-    let d : ℕ × Binder = (0, record { number = 0; ident = 0; occ = None }) in
-    c.requires.known i (get_or c.args.defined.now i d) (slice_get-get_or c.args.defined.now i d (omega arith))
+add_name-requires c = ?
+
+pub loop-binder-preserved : goal.loop-binder-preserved
+loop-binder-preserved c = ?
 
 pub returns : goal.returns
-returns c =
-    let names = c.args.symbols.now in
-    let old = c.loop-binder.names.items in
-    subst (HaveMeaning names) (sym (c.in_ok-add_entries.ensures ∙ ap (λ (es : List Entry). old ++ es) (c.in_ok-copy_of_entries.ensures ∙ c.as_slice.ensures.value)))
-    (mean_both names old c.args.joined.now.entries.items c.loop-binder.invariant c.requires.imported)
+returns c = ?

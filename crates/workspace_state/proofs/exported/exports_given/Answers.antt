@@ -1,7 +1,9 @@
-use Rattle.std.proofs.Common.{[], refl}
+use Rattle.std.proofs.Common.{◌≡◌, List, [], refl, sym, ap, ◌∙◌, drop, arith}
 use Rattle.scheme_model.specs.Entries as model
 use Rattle.scheme_model.specs.Program as program
-use Rattle.workspace_state.proofs.ExportLaws.{any_exports}
+use Rattle.scheme_model.specs.Diagnostics.{bytes_of}
+use Rattle.workspace_state.specs.Places.{spans_of}
+use Rattle.workspace_state.proofs.ExportLaws.{any_exports, fault_at, faults_next, faults_done, as_many_faults}
 use Rattle.workspace_state.proofs.exported.exports_given.Goals as goal
 
 pub returns-clause-entries : goal.returns-clause-entries
@@ -10,5 +12,11 @@ returns-clause-entries c = λ table means.
     let r = c.in_ok-exports.ensures table means.0 means.1 (model.entry_at means.0) (λ s. refl) xs.0 xs.1 in
     ((program.export_all (model.entry_at means.0) [] xs.0).entries, r.entries)
 
-pub loop-fault-preserved : goal.loop-fault-preserved
-loop-fault-preserved c = λ found. c.in_ok-add_fault.ensures (c.loop-fault.invariant found)
+pub returns-clause-exact : goal.returns-clause-exact
+returns-clause-exact c = λ table find finds xs are. (c.in_ok-exports.ensures table finds.stand finds.are find finds.finds xs are).entries
+
+pub returns-clause-told : goal.returns-clause-told
+returns-clause-told c = λ table find finds xs are reads us places.
+    let gs = (program.export_all find [] xs).faults in
+    let faults = (c.in_ok-exports.ensures table finds.stand finds.are find finds.finds xs are).faults in
+    faults_done (bytes_of (spans_of reads) us) gs c.loop-fault.fault-index _ _ ? (c.loop-fault.invariant.told xs are gs faults reads us places)
