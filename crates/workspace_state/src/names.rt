@@ -165,34 +165,43 @@ impl Identifiers {
         match set {
             ImportSet::Library(_) => Ok(Some(exports)),
             ImportSet::Only { set, names } => {
-                let Some(inner) = self.add_set(alloc, symbols, set, exports)? else {
-                    return Ok(None);
-                };
+                let inner = self.add_set(alloc, symbols, set, exports)?;
                 symbols.told_apart();
-                self.add_listed(alloc, symbols, names.as_slice(), inner.as_slice())?;
-                Ok(given(only(alloc, inner, names.as_slice()))?)
+                match inner {
+                    None => Ok(None),
+                    Some(inner) => {
+                        self.add_listed(alloc, symbols, names.as_slice(), inner.as_slice())?;
+                        Ok(given(only(alloc, inner, names.as_slice()))?)
+                    }
+                }
             }
             ImportSet::Except { set, names } => {
-                let Some(inner) = self.add_set(alloc, symbols, set, exports)? else {
-                    return Ok(None);
-                };
+                let inner = self.add_set(alloc, symbols, set, exports)?;
                 symbols.told_apart();
-                self.add_listed(alloc, symbols, names.as_slice(), inner.as_slice())?;
-                Ok(given(except(alloc, inner, names.as_slice()))?)
+                match inner {
+                    None => Ok(None),
+                    Some(inner) => {
+                        self.add_listed(alloc, symbols, names.as_slice(), inner.as_slice())?;
+                        Ok(given(except(alloc, inner, names.as_slice()))?)
+                    }
+                }
             }
             ImportSet::Prefix { set, prefix } => {
-                let Some(inner) = self.add_set(alloc, symbols, set, exports)? else {
-                    return Ok(None);
-                };
-                Ok(Some(prefixed(alloc, inner.as_slice(), prefix.as_str())?))
+                match self.add_set(alloc, symbols, set, exports)? {
+                    None => Ok(None),
+                    Some(inner) => Ok(Some(prefixed(alloc, inner.as_slice(), prefix.as_str())?)),
+                }
             }
             ImportSet::Rename { set, pairs } => {
-                let Some(inner) = self.add_set(alloc, symbols, set, exports)? else {
-                    return Ok(None);
-                };
+                let inner = self.add_set(alloc, symbols, set, exports)?;
                 symbols.told_apart();
-                self.add_pairs(alloc, symbols, pairs.as_slice(), inner.as_slice())?;
-                Ok(given(rename(alloc, inner, pairs.as_slice()))?)
+                match inner {
+                    None => Ok(None),
+                    Some(inner) => {
+                        self.add_pairs(alloc, symbols, pairs.as_slice(), inner.as_slice())?;
+                        Ok(given(rename(alloc, inner, pairs.as_slice()))?)
+                    }
+                }
             }
             ImportSet::Bad => Ok(None),
         }
