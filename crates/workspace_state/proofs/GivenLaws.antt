@@ -1,8 +1,9 @@
 -- What import sets of the code come to is what the definition's sets come to.
-use Rattle.std.proofs.Common.{◌≡◌, ℕ, zero, suc, ◌+◌, ◌<◌, Bool, true, false, cond, List, [], ◌∷◌, ◌++◌, append-nil, append_assoc, map, drop, length, slice_get, get_or, Option, Some, None, Result, Ok, Err, refl, sym, ap, ◌∙◌, subst, arith}
+use Rattle.std.proofs.Common.{◌≡◌, ℕ, zero, suc, ◌+◌, ◌<◌, ◌≤◌, Bool, true, false, cond, List, [], ◌∷◌, ◌++◌, append-nil, append_assoc, map, drop, length, slice_get, get_or, Option, Some, None, Result, Ok, Err, refl, sym, ap, ◌∙◌, subst, arith}
 use Rattle.std.specs.Prelude.{codes, reverse, ◌&&◌}
 use Rattle.std.specs.Option.{option_map}
 use Rattle.std.specs.BTreeMap.{get_by_text}
+use Rattle.std.proofs.lemmas.Option.{slice_get_read}
 use Rattle.scheme_model.specs.declared.Occ.{Occ}
 use Rattle.scheme_model.specs.Requirements.{LibraryName}
 use Rattle.scheme_model.specs.StandardLibraries.{standard}
@@ -348,3 +349,23 @@ pub sets_told : (bytes : Occ → Bytes) (old new : List Diagnostic) (document : 
 sets_told bytes old new document all rs p spelled c im b e h here told =
     told ∙ ap (λ (d : ℕ). old ++ set_diagnostics bytes d p.specs (import_all all rs [] p.specs).1) here
     ∙ ap (λ (q : List model.Entry × List SetResult). old ++ set_diagnostics bytes p.placed.document p.specs q.1) (sym (sets_case all rs p (nothing_is spelled c p im b false e h)))
+
+-- ---- at the end of a list
+
+pub drop_past : {A : Type 0} (xs : List A) (n : ℕ) → length xs ≤ n → drop n xs ≡ []
+drop_past [] zero h = refl
+drop_past [] (suc n) h = refl
+drop_past (x ∷ xs) zero h = absurd (omega arith)
+drop_past (x ∷ xs) (suc n) h = drop_past xs n (omega arith)
+
+as_many : {X Y : Type 0} (P : X → Y → Type 0) (xs : List X) (ys : List Y) → AllMatch P xs ys → length xs ≡ length ys
+as_many P [] [] h = refl
+as_many P [] (y ∷ ys) h = absurd h
+as_many P (x ∷ xs) [] h = absurd h
+as_many P (x ∷ xs) (y ∷ ys) h = ap suc (as_many P xs ys h.1)
+
+pub none_left : {X Y : Type 0} (P : X → Y → Type 0) (xs : List X) (ys : List Y) (n : ℕ) → AllMatch P xs ys → length xs ≤ n → drop n ys ≡ []
+none_left P xs ys n h le = drop_past ys n (let e = as_many P xs ys h in omega arith)
+
+pub item_at : {A : Type 0} (xs : List A) (i : ℕ) (x : A) → i < length xs → x ≡ get_or xs i x → slice_get xs i ≡ Some x
+item_at xs i x lt e = slice_get_read xs (length xs) i x refl lt e

@@ -4,7 +4,6 @@ use Rattle.std.specs.Prelude.{not, reverse, ◌||◌}
 use Rattle.std.specs.List.{Contains}
 use Rattle.std.specs.Str.{bytes_eq}
 use Rattle.std.proofs.lemmas.List.{map_push}
-use Rattle.std.proofs.lemmas.Option.{slice_get_read}
 use Rattle.std.proofs.lemmas.List.Elements.{Contains-append_left, Contains-append_right, Contains-append_cases}
 use Rattle.scheme_model.specs.declared.Occ.{Occ}
 use Rattle.scheme_model.specs.ExpansionFaults.{Named}
@@ -470,9 +469,6 @@ externals_done names a b has find whole rest none h =
     (sym (append-nil h.uses) ∙ ap (λ (l : List ExportSpec). h.uses ++ external_uses find (given_exports find h.seen l)) (sym none) ∙ h.all) h.adds
 
 -- ---- one more of those that are gone through
-
-pub item_at : {X : Type 0} (xs : List X) (i : ℕ) (x : X) → i < length xs → x ≡ get_or xs i x → slice_get xs i ≡ Some x
-item_at xs i x lt e = slice_get_read xs (length xs) i x refl lt e
 
 take_at : {X : Type 0} (xs : List X) (i : ℕ) (x : X) → slice_get xs i ≡ Some x → take (i + 1) xs ≡ take i xs ++ x ∷ []
 take_at [] i x h = absurd cc

@@ -489,17 +489,17 @@ fn add_fault(
     match &fault {
         ImportFault::NotThere(name) => {
             let at = place_if(places, name.occ);
-            add_found(alloc, findings, at, set.form, 51, name.name.as_str())
+            Ok(add_found(alloc, findings, at, set.form, 51, name.name.as_str())?)
         }
-        ImportFault::Clash(name) => add_found(
+        ImportFault::Clash(name) => Ok(add_found(
             alloc,
             findings,
             Some(whole),
             set.form,
             52,
             name.as_str(),
-        ),
-        ImportFault::BadSet => add_found(alloc, findings, Some(whole), set.form, 53, ""),
+        )?),
+        ImportFault::BadSet => Ok(add_found(alloc, findings, Some(whole), set.form, 53, "")?),
         ImportFault::Memory => Err(Memory),
     }
 }
