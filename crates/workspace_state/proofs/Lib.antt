@@ -45,6 +45,8 @@ pub mod BaseLaws
 pub mod ExportLaws
 pub mod UsedLaws
 pub mod OneIfSame
+pub mod RisingParts
+pub mod RenamedLaws
 pub mod NamedUnits
 pub mod TurnGraph
 pub mod TurnResults
