@@ -47,6 +47,7 @@ pub mod UsedLaws
 pub mod OneIfSame
 pub mod RisingParts
 pub mod RenamedLaws
+pub mod ExportsRead
 pub mod NamedUnits
 pub mod TurnGraph
 pub mod TurnResults

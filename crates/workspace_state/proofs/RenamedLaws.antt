@@ -13,9 +13,6 @@ use Rattle.scheme_model.specs.Declarations.{UnitForm, is_headed, list_parts, pro
 use Rattle.scheme_model.specs.Program.{ExportSpec, behind_first, export_of, exports_with, exports_in, exports_from}
 use Rattle.import_sets.specs.Given.{same_place}
 use Rattle.datum_reader.specs.Right.{WasRead}
-use Rattle.library_table.specs.Sources.{AreExports}
-use Rattle.library_table.specs.UnitsRead.{AreExportsRead}
-use Rattle.library_table.specs.declared.units.ExportSpec as code
 use Rattle.workspace_state.proofs.RisingParts.{Inner, Rise, read_rises}
 
 -- two identifiers stand at two places exactly where an export is renamed
@@ -145,17 +142,6 @@ abbrev pub AreDeclaredRead : List UnitForm → Type 0
 AreDeclaredRead [] = Unit {0}
 AreDeclaredRead (f ∷ fs) = (f.declared ≡ true → WasRead f.datum) × AreDeclaredRead fs
 
-all_from : (unit form : ℕ) (fs : List UnitForm) → AreDeclaredRead fs → TellRenamed (exports_from unit form fs)
-all_from unit form [] h = tt
-all_from unit form (f ∷ fs) h = both (exports_in unit form f) (exports_from unit (suc form) fs) (all_in unit form f h.0 (f.declared && is_headed (codes "export") f.datum) refl) (all_from unit (suc form) fs h.1)
-
--- exports that are read tell by their places whether they are renamed
-pub exports_told : (cs : List code.ExportSpec) (xs : List ExportSpec) → AreExportsRead cs xs → TellRenamed xs → AreExports cs xs
-exports_told [] [] h k = tt
-exports_told [] (x ∷ xs) h k = absurd h
-exports_told (c ∷ cs) [] h k = absurd h
-exports_told (c ∷ cs) (x ∷ xs) h k =
-    (record { inner = h.0.inner; outer = h.0.outer; renamed = (λ j. not (same_place (h.0.inner j).occ (h.0.outer j).occ)) ∙ k.0 }, exports_told cs xs h.1 k.1)
-
-pub exports_read : (cs : List code.ExportSpec) (unit : ℕ) (fs : List UnitForm) → AreDeclaredRead fs → AreExportsRead cs (exports_from unit 0 fs) → AreExports cs (exports_from unit 0 fs)
-exports_read cs unit fs w h = exports_told cs (exports_from unit 0 fs) h (all_from unit 0 fs w)
+pub renamed_from : (unit form : ℕ) (fs : List UnitForm) → AreDeclaredRead fs → TellRenamed (exports_from unit form fs)
+renamed_from unit form [] h = tt
+renamed_from unit form (f ∷ fs) h = both (exports_in unit form f) (exports_from unit (suc form) fs) (all_in unit form f h.0 (f.declared && is_headed (codes "export") f.datum) refl) (renamed_from unit (suc form) fs h.1)
