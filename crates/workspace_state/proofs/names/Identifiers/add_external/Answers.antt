@@ -15,8 +15,8 @@ returns-in-None-clause-adds c = λ find finds x export.
     (missing_adds c.args.symbols.now c.args.found.entries.now find finds c.args.spec.now.inner.name _ c.as_str.ensures c.in-None.ensures
     (λ (o : Option Entry). AddsNames c.args.symbols.now c.args.self.now c.args.self.now (external_adds false o x)) (adds_none c.args.symbols.now c.args.self.now))
 
-pub returns-in-Some-clause-adds : goal.returns-in-Some-clause-adds
-returns-in-Some-clause-adds c = λ find finds x export.
+pub returns-in_ok-add_given-in-Some-clause-adds : goal.returns-in_ok-add_given-in-Some-clause-adds
+returns-in_ok-add_given-in-Some-clause-adds c = λ find finds x export.
     subst (λ (b : Bool). AddsNames c.add_given.new.symbols c.args.self.now c.add_given.new.self (external_adds b (find c.args.spec.now.inner.name) x)) (sym c.if-again.false)
     (found_adds c.args.symbols.now c.args.found.entries.now find finds c.args.spec.now.inner.name _ c.as_str.ensures _ c.in-Some.ensures
-    (λ (o : Option Entry). AddsNames c.add_given.new.symbols c.args.self.now c.add_given.new.self (external_adds false o x)) (λ e is. c.in_ok-add_given.ensures.adds e is x export))
+    (λ (o : Option Entry). AddsNames c.add_given.new.symbols c.args.self.now c.add_given.new.self (external_adds false o x)) (λ e is. c.in_ok-add_given-in-Some.ensures.adds e is x export))

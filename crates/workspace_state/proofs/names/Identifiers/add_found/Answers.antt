@@ -11,7 +11,7 @@ returns-in-None-clause-adds c = λ find finds.
     missing_adds c.args.symbols.now c.args.found.entries.now find finds c.args.name.now.name _ c.as_str.ensures c.in-None.ensures
     (λ (o : Option Entry). AddsNames c.args.symbols.now c.args.self.now c.args.self.now (entry_use o (named c.args.name.now))) (adds_none c.args.symbols.now c.args.self.now)
 
-pub returns-in-Some-clause-adds : goal.returns-in-Some-clause-adds
-returns-in-Some-clause-adds c = λ find finds.
+pub returns-in_ok-add_entry-in-Some-clause-adds : goal.returns-in_ok-add_entry-in-Some-clause-adds
+returns-in_ok-add_entry-in-Some-clause-adds c = λ find finds.
     found_adds c.args.symbols.now c.args.found.entries.now find finds c.args.name.now.name _ c.as_str.ensures _ c.in-Some.ensures
-    (λ (o : Option Entry). AddsNames c.add_entry.new.symbols c.args.self.now c.add_entry.new.self (entry_use o (named c.args.name.now))) c.in_ok-add_entry.ensures.adds
+    (λ (o : Option Entry). AddsNames c.add_entry.new.symbols c.args.self.now c.add_entry.new.self (entry_use o (named c.args.name.now))) c.in_ok-add_entry-in-Some.ensures.adds
