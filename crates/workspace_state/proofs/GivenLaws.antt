@@ -142,10 +142,10 @@ pub comes_chosen : (names : Names) (c : code_set.ImportSet) (s : model.ImportSet
 comes_chosen names c s es ds h = (h.0, h.1.1, λ before. ap (after_set before) h.1.0)
 
 pub comes_faulty : (names : Names) (e : code_fault.ImportFault) (r : Result (List model.Entry) model.ImportFault) → (e ≡ fault.Memory → ⊥) → FailsAs e r → ComesTo names (gives.Faulty e) (λ before. after_set before r)
-comes_faulty names fault.Memory r no h = absurd (no refl)
-comes_faulty names (fault.NotThere n) r no h = (model.NotThere (named n), refl, λ before. ap (after_set before) h)
-comes_faulty names (fault.Clash s) r no h = (model.Clash s, refl, λ before. ap (after_set before) h)
-comes_faulty names fault.BadSet r no h = (model.BadSet, refl, λ before. ap (after_set before) h)
+comes_faulty names fault.Memory r never h = absurd (never refl)
+comes_faulty names (fault.NotThere n) r never h = (model.NotThere (named n), refl, λ before. ap (after_set before) h)
+comes_faulty names (fault.Clash s) r never h = (model.Clash s, refl, λ before. ap (after_set before) h)
+comes_faulty names fault.BadSet r never h = (model.BadSet, refl, λ before. ap (after_set before) h)
 
 pub comes_as : (names : Names) (g : SetGives) (f h : List model.Entry → List model.Entry × SetResult) → ((before : List model.Entry) → h before ≡ f before) → ComesTo names g f → ComesTo names g h
 comes_as names (gives.Entries es) f h e k = (k.0, k.1, λ before. e before ∙ k.2 before)
@@ -191,7 +191,7 @@ told_after bytes document spec old new s t e h = h ∙ ap (λ (p : List model.En
 pub drop_at : {A : Type 0} (xs : List A) (n : ℕ) (x : A) → slice_get xs n ≡ Some x → drop n xs ≡ x ∷ drop (n + 1) xs
 drop_at [] n x h = absurd cc
 drop_at (y ∷ xs) zero x h = let same : y ≡ x = cc in ap (λ z. z ∷ xs) same
-drop_at (y ∷ xs) (suc n) x h = drop_at xs n x h
+drop_at {A} (y ∷ xs) (suc n) x h = let e : suc (n + 1) ≡ suc n + 1 = omega arith in drop_at xs n x h ∙ ap (λ (k : ℕ). x ∷ drop k (y ∷ xs)) e
 
 set_next : (bytes : Occ → Bytes) (document : ℕ) (s : ImportSpec) (ss : List ImportSpec) (r : SetResult) (rs : List SetResult) →
     set_diagnostics bytes document (s ∷ ss) (r ∷ rs) ≡ set_diagnostics bytes document (s ∷ []) (r ∷ []) ++ set_diagnostics bytes document ss rs

@@ -92,9 +92,9 @@ found_all (d ∷ ds) u es s = go (d.unit == u) refl (same_ident d.ident (Written
   where
     go : (a : Bool) → (d.unit == u) ≡ a → (b : Bool) → same_ident d.ident (Written u s) ≡ b → entry_at (own_all u (defined_by u ds) ++ es) s ≡ own_entry u s (defined_in ds u (Written u s)) (entry_at es s) →
         entry_at (own_all u (defined_by u (d ∷ ds)) ++ es) s ≡ own_entry u s (defined_in (d ∷ ds) u (Written u s)) (entry_at es s)
-    go false p b q rest = rw (p, p) rest
+    go false p b q rest = rw p rest
     go true p b q rest =
-        rw (p, p)
+        rw p
         (ap (λ (l : List Entry). entry_at l s) (append_assoc (own_if u d (symbol_in u d.ident)) (own_all u (defined_by u ds)) es) ∙ found_own u d s (own_all u (defined_by u ds) ++ es) d.ident refl
         ∙ turn (same_ident d.ident (Written u s)))
       where

@@ -278,11 +278,11 @@ pub inner_fails : (names : Names) → TellsApart names → (c : code_set.ImportS
 inner_fails names apart c s es ds h k is = go (given.given c es) (never_memory c es) (given_answers names apart c s es ds h k) is
   where
     go : (r : Result (List code_entry.Entry) code_fault.ImportFault) → NoMemory r → Answers names r (model.given_by s ds) → None ≡ unless_fault r → InnerFails s ds
-    go (Ok xs) no a n = absurd cc
-    go (Err fault.Memory) no a n = absurd (no refl)
-    go (Err (fault.NotThere x)) no a n = record { fault = model.NotThere (named x); is = a }
-    go (Err (fault.Clash t)) no a n = record { fault = model.Clash t; is = a }
-    go (Err fault.BadSet) no a n = record { fault = model.BadSet; is = a }
+    go (Ok xs) never a n = absurd cc
+    go (Err fault.Memory) never a n = absurd (never refl)
+    go (Err (fault.NotThere x)) never a n = record { fault = model.NotThere (named x); is = a }
+    go (Err (fault.Clash t)) never a n = record { fault = model.Clash t; is = a }
+    go (Err fault.BadSet) never a n = record { fault = model.BadSet; is = a }
 
 -- what a modifier makes of it
 pub modified : (c : code_set.ImportSet) (es inner : List code_entry.Entry) (f : List code_entry.Entry → Result (List code_entry.Entry) code_fault.ImportFault) → Some inner ≡ unless_fault (given.given c es) →
@@ -473,7 +473,7 @@ externals_done names a b has find whole rest none h =
 take_at : {X : Type 0} (xs : List X) (i : ℕ) (x : X) → slice_get xs i ≡ Some x → take (i + 1) xs ≡ take i xs ++ x ∷ []
 take_at [] i x h = absurd cc
 take_at (y ∷ xs) zero x h = let same : y ≡ x = cc in ap (λ z. z ∷ []) same
-take_at (y ∷ xs) (suc i) x h = ap (λ l. y ∷ l) (take_at xs i x h)
+take_at (y ∷ xs) (suc i) x h = let e : suc i + 1 ≡ suc (i + 1) = omega arith in ap (λ (k : ℕ). take k (y ∷ xs)) e ∙ ap (λ l. y ∷ l) (take_at xs i x h)
 
 uses_at : {X : Type 0} (f : X → List NameUse) (all : List X → List NameUse) → all [] ≡ [] → ((x : X) (xs : List X) → all (x ∷ xs) ≡ f x ++ all xs) → (xs : List X) (i : ℕ) (x : X) → slice_get xs i ≡ Some x →
     all (take i xs) ++ f x ≡ all (take (i + 1) xs)

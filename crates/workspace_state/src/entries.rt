@@ -164,9 +164,9 @@ fn gathered(
         return Ok(base_given(alloc, symbols)?);
     }
     let document = places.start(unit).document;
-    sets_given(
+    Ok(sets_given(
         alloc, symbols, places, libraries, document, source, findings,
-    )
+    )?)
 }
 
 /// What `(scheme base)` gives.

@@ -73,12 +73,17 @@ fn add_fault(
         return Ok(());
     };
     let occ = outer_place(specs, fault.place);
-    let form = match occ {
-        Some(occ) => occ.form,
-        None => 0,
-    };
+    let form = form_of(occ);
     let at = place_if(places, occ);
     Ok(add_found(alloc, findings, at, form, code, name.as_str())?)
+}
+
+/// The form of an occurrence, and the first where there is none.
+fn form_of(occ: Option<Occ>) -> u32 {
+    match occ {
+        Some(occ) => occ.form,
+        None => 0,
+    }
 }
 
 /// Where the external name of the export at a place stands.

@@ -1,6 +1,4 @@
-use Rattle.std.proofs.Common.{◌≡◌, ◌++◌, [], ◌∷◌, List, ℕ, append-nil, reverse, sym, ap, ◌∙◌, arith}
-use Rattle.std.specs.Prelude.{codes}
-use Rattle.scheme_model.specs.Diagnostics.{at_bytes, clash_diagnostics}
+use Rattle.std.proofs.Common.{◌++◌, [], ◌∷◌, ap, ◌∙◌, arith}
 use Rattle.workspace_state.specs.declared.findings.At.{At}
 use Rattle.workspace_state.specs.Found.{all_told, diagnostic}
 use Rattle.workspace_state.specs.Wording.{worded}
@@ -9,12 +7,11 @@ use Rattle.workspace_state.proofs.GivenLaws.{seen_at}
 use Rattle.workspace_state.proofs.ToldLaws.{clash_told}
 use Rattle.workspace_state.proofs.entries.add_clashes.Goals as goal
 
-pub loop-name-preserved-clause-inside : goal.loop-name-preserved-clause-inside
-loop-name-preserved-clause-inside c = λ count lt found.
-    c.in_ok-add_found.ensures.inside count (at_in count c.at-at.result (let e = ap (λ (a : At). a.document) c.at-at.ensures in omega arith)) (c.loop-name.invariant.inside count lt found)
-
-pub loop-name-preserved-clause-told : goal.loop-name-preserved-clause-told
-loop-name-preserved-clause-told c =
-    let b = seen_at c.args.set.document c.args.set.spec.now.span in
-    clash_told b c.loop-name.clashes.items c.pop.new.self.items c.in-Some.name (all_told c.loop-name.findings.items) _ _ c.pop.ensures
-    (c.in_ok-add_found.ensures.told ∙ ap (λ (a : At). all_told c.loop-name.findings.items ++ diagnostic a 52 (worded 52 c.in-Some.name) ∷ []) c.at-at.ensures) c.loop-name.invariant.told
+pub loop-name-preserved : goal.loop-name-preserved
+loop-name-preserved c = record {
+  inside = λ count lt found.
+      c.in_ok-add_found.ensures.inside count (at_in count c.at-at.result (let e = ap (λ (a : At). a.document) c.at-at.ensures in omega arith)) (c.loop-name.invariant.inside count lt found);
+  told =
+      clash_told (seen_at c.args.set.document c.args.set.spec.now.span) c.loop-name.clashes.items c.pop.new.self.items c.in-Some.name (all_told c.loop-name.findings.items) _ _ c.in-Some.ensures
+      (c.in_ok-add_found.ensures.told ∙ ap (λ (a : At). all_told c.loop-name.findings.items ++ diagnostic a 52 (worded 52 c.in-Some.name) ∷ []) c.at-at.ensures) c.loop-name.invariant.told;
+}

@@ -11,12 +11,12 @@ use Rattle.workspace_state.proofs.entries.add_fault.Goals as goal
 
 pub returns-in-NotThere-clause-told : goal.returns-in-NotThere-clause-told
 returns-in-NotThere-clause-told c = λ f is reads us places.
-    missing_told (all_told c.args.findings.now.items) _ c.place_if-at.result c.in-NotThere.name.now _ (bytes_of (spans_of reads) us) (seen_at c.args.set.document c.args.set.spec.now.span) f
+    missing_told (all_told c.args.findings.now.items) _ c.place_if-at.result c.in-NotThere.name _ (bytes_of (spans_of reads) us) (seen_at c.args.set.document c.args.set.spec.now.span) f
     (subst (λ (g : ImportFault). IsSetFault g f) c.in-NotThere.is is) (c.place_if-at.ensures.exact reads us places) c.as_str.ensures c.in_ok-add_found-in-NotThere.ensures.told
 
 pub returns-in-Clash-clause-told : goal.returns-in-Clash-clause-told
 returns-in-Clash-clause-told c = λ f is reads us places.
-    clash_fault_told (all_told c.args.findings.now.items) _ c.args.set.document c.args.set.spec.now.span c.at-whole.result c.in-Clash.name.now _ (bytes_of (spans_of reads) us) f
+    clash_fault_told (all_told c.args.findings.now.items) _ c.args.set.document c.args.set.spec.now.span c.at-whole.result c.in-Clash.name _ (bytes_of (spans_of reads) us) f
     (subst (λ (g : ImportFault). IsSetFault g f) c.in-Clash.is is) c.at-whole.ensures c.as_str.ensures c.in_ok-add_found-in-Clash.ensures.told
 
 pub returns-in-BadSet-clause-told : goal.returns-in-BadSet-clause-told

@@ -15,12 +15,12 @@ returns-in-None-clause-exact c = λ spelled all rs libs s is.
     let names = c.named_entries.new.symbols in
     let one = names_one spelled c.args.set.now s is c.in-Some.name.now (sym c.in-Some.ensures) in
     set_unknown all rs s one.name one.is
-    (subst (λ (o : Option (List Entry)). AreEntriesIf names o (library_exports all rs one.name (standard one.name))) c.in-None.is (c.in_ok-exports.ensures.exact spelled all rs libs one.name one.text))
+    (subst (λ (o : Option (List Entry)). AreEntriesIf names o (library_exports all rs one.name (standard one.name))) c.in-None.is (c.in_ok-named_entries.ensures.exact spelled all rs libs one.name one.text))
 
-pub returns-in_ok-chosen-in-Some-clause-exact : goal.returns-in_ok-chosen-in-Some-clause-exact
-returns-in_ok-chosen-in-Some-clause-exact c = λ spelled all rs libs s is.
+pub returns-in_ok-chosen-in-Some-2-clause-exact : goal.returns-in_ok-chosen-in-Some-2-clause-exact
+returns-in_ok-chosen-in-Some-2-clause-exact c = λ spelled all rs libs s is.
     let names = c.named_entries.new.symbols in
     let one = names_one spelled c.args.set.now s is c.in-Some.name.now (sym c.in-Some.ensures) in
-    let h = subst (λ (o : Option (List Entry)). AreEntriesIf names o (library_exports all rs one.name (standard one.name))) c.in-Some-2.is (c.in_ok-exports.ensures.exact spelled all rs libs one.name one.text) in
-    comes_as names c.in_ok-chosen-in-Some.field-0 (λ before. after_set before (model.entries_of s h.0)) (with_set all rs s) (set_known all rs s one.name h.0 one.is h.1)
-    (c.in_ok-chosen-in-Some.ensures.exact s (set_as spelled c.args.set.now s is) h.0 h.2)
+    let h = subst (λ (o : Option (List Entry)). AreEntriesIf names o (library_exports all rs one.name (standard one.name))) c.in-Some-2.is (c.in_ok-named_entries.ensures.exact spelled all rs libs one.name one.text) in
+    comes_as names c.in_ok-chosen-in-Some-2.field-0 (λ before. after_set before (model.entries_of s h.0)) (with_set all rs s) (set_known all rs s one.name h.0 one.is h.1)
+    (c.in_ok-chosen-in-Some-2.ensures.exact s (set_as spelled c.args.set.now s is) h.0 h.2)

@@ -12,6 +12,6 @@ use Rattle.workspace_state.proofs.exported.exports_given.Given as goal
 abbrev pub invariant-loop-fault : goal.invariant-loop-fault
 invariant-loop-fault l = record {
   inside : AreFoundIn (length l.places.documents.now) l.initial.findings.items → AreFoundIn (length l.places.documents.now) l.findings.items;
-  told : (xs : List ExportSpec) → AreExports l.source.exports xs → (gs : List ExportFault) → AreFaults xs l.exports.faults gs → (reads : List Read) (us : List UnitResult) → ArePlaces l.places reads us →
+  told : (xs : List ExportSpec) → AreExports l.specs xs → (gs : List ExportFault) → AreFaults xs l.fault-items gs → (reads : List Read) (us : List UnitResult) → ArePlaces l.places reads us →
       all_told l.findings.items ++ export_diagnostics (bytes_of (spans_of reads) us) (drop l.fault-index gs) ≡ all_told l.initial.findings.items ++ export_diagnostics (bytes_of (spans_of reads) us) gs;
 }
