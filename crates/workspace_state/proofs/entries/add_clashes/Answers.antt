@@ -12,6 +12,6 @@ loop-name-preserved c = record {
   inside = λ count lt found.
       c.in_ok-add_found.ensures.inside count (at_in count c.at-at.result (let e = ap (λ (a : At). a.document) c.at-at.ensures in omega arith)) (c.loop-name.invariant.inside count lt found);
   told =
-      clash_told (seen_at c.args.set.document c.args.set.spec.now.span) c.loop-name.clashes.items c.pop.new.self.items c.in-Some.name (all_told c.loop-name.findings.items) _ _ c.in-Some.ensures
-      (c.in_ok-add_found.ensures.told ∙ ap (λ (a : At). all_told c.loop-name.findings.items ++ diagnostic a 52 (worded 52 c.in-Some.name) ∷ []) c.at-at.ensures) c.loop-name.invariant.told;
+      clash_told (seen_at c.args.set.document c.args.set.spec.now.span) c.loop-name.clashes.items c.pop.new.self.items c.in-Some.name (all_told c.loop-name.findings.items) _ _ c.in-Some.ensures.items
+      (c.in_ok-add_found.ensures.told ∙ (λ j. all_told c.loop-name.findings.items ++ diagnostic (c.at-at.ensures j) 52 (worded 52 (c.as_str.ensures j)) ∷ [])) c.loop-name.invariant.told;
 }

@@ -1,4 +1,4 @@
-use Rattle.std.proofs.Common.{List, Option, Some, None, sym, ◌∙◌, subst}
+use Rattle.std.proofs.Common.{List, Option, Some, None, sym, ap, ◌∙◌, subst}
 use Rattle.std.specs.BTreeMap.{get_by_text}
 use Rattle.scheme_model.specs.Program.{unit_exports, unit_named}
 use Rattle.syntax_tree.specs.declared.units.Entry.{Entry}
@@ -8,7 +8,7 @@ use Rattle.workspace_state.proofs.entries.named_entries.Goals as goal
 
 pub returns-in_ok-entries-in-Some-clause-exact : goal.returns-in_ok-entries-in-Some-clause-exact
 returns-in_ok-entries-in-Some-clause-exact c = λ spelled all rs libs n e.
-    standard_if c.standard_entries.new.symbols all rs n c.in-Some.names c.in_ok-entries-in-Some.entries (sym c.in-Some.is ∙ c.in_ok-names.ensures.library spelled libs.spells n e) c.in_ok-entries-in-Some.ensures.entries
+    standard_if c.standard_entries.new.symbols all rs n c.as_slice.result.now c.in_ok-entries-in-Some.entries (ap Some c.as_slice.ensures ∙ sym c.in-Some.is ∙ c.in_ok-names.ensures.library spelled libs.spells n e) c.in_ok-entries-in-Some.ensures.entries
 
 pub returns-in-None-exports_named-clause-exact : goal.returns-in-None-exports_named-clause-exact
 returns-in-None-exports_named-clause-exact c = λ spelled all rs libs n e.
