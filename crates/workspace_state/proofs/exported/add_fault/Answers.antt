@@ -1,4 +1,5 @@
 use Rattle.std.proofs.Common.{◌≡◌, ℕ, List, Option, Some, None, [], ◌∷◌, ◌++◌, length, sym, ap, ◌∙◌}
+use Rattle.std.proofs.lemmas.Option.{same_Some}
 use Rattle.scheme_model.specs.ExpansionFaults.{Named}
 use Rattle.scheme_model.specs.Program.{ExportFault, NotDefined, SameExport}
 use Rattle.scheme_model.specs.Diagnostics.{bytes_of, export_diagnostics}
@@ -9,7 +10,7 @@ use Rattle.workspace_state.proofs.ExportLaws.{spec_at, told_again, told_undefine
 use Rattle.workspace_state.proofs.exported.add_fault.Goals as goal
 
 both_same : (m n : ℕ) (s t : List ℕ) → Some (m, s) ≡ Some (n, t) → (m ≡ n) × (s ≡ t)
-both_same m n s t h = (cc, cc)
+both_same m n s t h = let e = same_Some (m, s) (n, t) h in (ap (λ (q : ℕ × List ℕ). q.0) e, ap (λ (q : ℕ × List ℕ). q.1) e)
 
 pub returns-in_default-clause-told : goal.returns-in_default-clause-told
 returns-in_default-clause-told c = λ xs specs f is reads us places.
