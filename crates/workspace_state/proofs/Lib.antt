@@ -42,8 +42,17 @@ pub mod StandInLaws
 pub mod UnboundLaws
 pub mod ImportLaws
 pub mod DefinedLaws
+pub mod ToldLaws
+pub mod GivenLaws
+pub mod NameLaws
+pub mod BaseLaws
 pub mod ExportLaws
 pub mod KnownLaws
+pub mod UsedLaws
+pub mod OneIfSame
+pub mod RisingParts
+pub mod RenamedLaws
+pub mod ExportsRead
 pub mod NamedUnits
 pub mod TurnGraph
 pub mod TurnResults

@@ -18,6 +18,8 @@ pub mod Broken
 pub mod Libraries
 pub mod Joining
 pub mod Imports
+pub mod SetsGiven
+pub mod NamesUsed
 pub mod Defined
 pub mod Unbound
 pub mod Sound
@@ -33,3 +35,4 @@ pub mod Came
 pub mod SetsGiven
 pub mod NamesUsed
 pub mod Collected
+pub mod Found

@@ -1,10 +1,14 @@
 //! What the forms of a unit define (R7RS 5.3), and which of these hide an import.
-ghost use Rattle.std.specs.Prelude.{◌≡◌, ◌<◌, ◌++◌, ℕ, map, length, slice_get, Some, OnOk, IfOk};
+ghost use Rattle.std.specs.Prelude.{◌≡◌, ◌<◌, ◌++◌, ℕ, List, map, reverse, length, slice_get, Some, OnOk, IfOk};
 ghost use Rattle.std.specs.Option.{option_map};
 ghost use Rattle.scheme_model.specs.Ident.{Ident as Identifier};
+ghost use Rattle.scheme_model.specs.Entries as model;
+ghost use Rattle.scheme_model.specs.Program.{names_of_unit};
+ghost use Rattle.scheme_model.specs.Substitution.{Table};
 ghost use Rattle.syntax_tree.specs.Names.{Names};
-ghost use Rattle.core_tree.specs.Units.{definitions_from};
-ghost use Rattle.workspace_state.specs.Defined.{AreKnown, written_symbol};
+ghost use Rattle.syntax_tree.specs.Meant.{AreEntries};
+ghost use Rattle.core_tree.specs.Units.{AreDefinitions, defined_by, definitions_from};
+ghost use Rattle.workspace_state.specs.Defined.{AreKnown, FindsNames, named_all, named_as, symbol_at, symbol_in, written_symbol};
 ghost use Rattle.workspace_state.specs.Libraries.{HaveMeaning};
 ghost use Rattle.workspace_state.specs.Places.{AreFoundIn, CanPlace};
 
@@ -28,6 +32,23 @@ fn written(symbols: &Symbols, ident: IdNo) -> Option<&str>
 {
     match symbols.ident_at(ident) {
         Ident::Written { unit: _, symbol } => Some(symbols.name(symbol)),
+        Ident::Inserted { id: _, number: _ } => None,
+    }
+}
+
+/// The symbol of an identifier that is written in a unit.
+fn written_in(symbols: &Symbols, home: u32, ident: IdNo) -> Option<&str>
+    requires { ident < length symbols.now.idents }
+    ensures { (i : Identifier) → slice_get symbols.now.idents ident ≡ Some i → option_map (λ s. s.now) result ≡ symbol_in home i }
+{
+    match symbols.ident_at(ident) {
+        Ident::Written { unit, symbol } => {
+            if unit == home {
+                Some(symbols.name(symbol))
+            } else {
+                None
+            }
+        }
         Ident::Inserted { id: _, number: _ } => None,
     }
 }
@@ -64,7 +85,7 @@ fn add_definitions(all: &mut Vec<(u32, Binder)>, form: u32, binders: &[Binder]) 
     Ok(())
 }
 
-/// What can be exported of a unit: what it defines under written names, and then what it imports.
+/// What can be exported of a unit: what it defines under names that are written in it, the latest first, and then what it imports.
 pub fn names_of(
     alloc: Global,
     symbols: &Symbols,
@@ -74,10 +95,14 @@ pub fn names_of(
 ) -> Mem<Vec<Entry>>
     requires known { AreKnown symbols.now defined.now }
     requires imported { HaveMeaning symbols.now joined.now.entries.items }
-    ensures { IfOk result (λ names. HaveMeaning symbols.now names.items) }
+    ensures means { IfOk result (λ names. HaveMeaning symbols.now names.items) }
+    ensures exact { IfOk result (λ names. names.items ≡ named_all symbols.now unit (reverse defined.now) ++ joined.now.entries.items) }
+    ensures finds { (table : Table) → AreDefinitions symbols.now (reverse defined.now) (defined_by unit table) →
+        (es : List model.Entry) → AreEntries symbols.now joined.now.entries.items es →
+        IfOk result (λ names. FindsNames symbols.now names.items (names_of_unit table unit es)) }
 {
     let mut names = Vec::new(alloc);
-    for (_, binder) in defined {
+    for (_, binder) in defined.iter().rev() {
         add_name(alloc, &mut names, symbols, unit, *binder)?;
     }
     add_entries(
@@ -97,7 +122,7 @@ fn add_entries(names: &mut Vec<Entry>, entries: Items<Entry>) -> Mem<()>
     Ok(())
 }
 
-/// Adds a definition as a name that can be exported, if it is written.
+/// Adds a definition as a name that can be exported, if it is written in its unit.
 fn add_name(
     alloc: Global,
     names: &mut Vec<Entry>,
@@ -106,9 +131,10 @@ fn add_name(
     binder: Binder,
 ) -> Mem<()>
     requires { binder.ident < length symbols.now.idents }
-    ensures { HaveMeaning symbols.now names.old.items → OnOk result (HaveMeaning symbols.now names.new.items) }
+    ensures means { HaveMeaning symbols.now names.old.items → OnOk result (HaveMeaning symbols.now names.new.items) }
+    ensures exact { OnOk result (names.new.items ≡ names.old.items ++ named_as unit binder (symbol_at unit (slice_get symbols.now.idents binder.ident))) }
 {
-    let Some(name) = written(symbols, binder.ident) else {
+    let Some(name) = written_in(symbols, unit, binder.ident) else {
         return Ok(());
     };
     names.push(Entry {

@@ -15,6 +15,6 @@ pub loop-form-preserved : goal.loop-form-preserved
 loop-form-preserved c = λ found.
     let n = length c.args.places.documents.now in
     elim c.match-hidden.branch [
-      | in-Some+in_ok-add_found w ↦ rw w.findings-is (w.in_ok-add_found.ensures n (at_in n w.at_or_form-at.result (w.at_or_form-at.ensures.inside c.requires.documents)) (c.loop-form.invariant found))
+      | in-Some+in_ok-add_found w ↦ rw w.findings-is (w.in_ok-add_found.ensures.inside n (at_in n w.at_or_form-at.result (w.at_or_form-at.ensures.inside c.requires.documents)) (c.loop-form.invariant found))
       | in_default w ↦ rw w.findings-is (c.loop-form.invariant found)
     ]

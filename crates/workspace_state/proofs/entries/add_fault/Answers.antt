@@ -1,0 +1,25 @@
+use Rattle.std.proofs.Common.{length, ap, subst, arith}
+use Rattle.scheme_model.specs.Diagnostics.{bytes_of}
+use Rattle.import_sets.specs.declared.fault.ImportFault.{ImportFault}
+use Rattle.workspace_state.specs.Found.{all_told}
+use Rattle.workspace_state.specs.Places.{spans_of}
+use Rattle.workspace_state.specs.SetsGiven.{IsSetFault}
+use Rattle.workspace_state.specs.declared.findings.At.{At}
+use Rattle.workspace_state.proofs.FoundLaws.{at_in}
+use Rattle.workspace_state.proofs.GivenLaws.{bad_set_told, clash_fault_told, missing_told, seen_at}
+use Rattle.workspace_state.proofs.entries.add_fault.Goals as goal
+
+pub returns-in-NotThere-clause-told : goal.returns-in-NotThere-clause-told
+returns-in-NotThere-clause-told c = λ f is reads us places.
+    missing_told (all_told c.args.findings.now.items) _ c.place_if-at.result c.in-NotThere.name _ (bytes_of (spans_of reads) us) (seen_at c.args.set.document c.args.set.spec.now.span) f
+    (subst (λ (g : ImportFault). IsSetFault g f) c.in-NotThere.is is) (c.place_if-at.ensures.exact reads us places) c.as_str.ensures c.in_ok-add_found-in-NotThere.ensures.told
+
+pub returns-in-Clash-clause-told : goal.returns-in-Clash-clause-told
+returns-in-Clash-clause-told c = λ f is reads us places.
+    clash_fault_told (all_told c.args.findings.now.items) _ c.args.set.document c.args.set.spec.now.span c.at-whole.result c.in-Clash.name _ (bytes_of (spans_of reads) us) f
+    (subst (λ (g : ImportFault). IsSetFault g f) c.in-Clash.is is) c.at-whole.ensures c.as_str-in-Clash.ensures c.in_ok-add_found-in-Clash.ensures.told
+
+pub returns-in-BadSet-clause-told : goal.returns-in-BadSet-clause-told
+returns-in-BadSet-clause-told c = λ f is reads us places.
+    bad_set_told (all_told c.args.findings.now.items) _ c.args.set.document c.args.set.spec.now.span c.at-whole.result (bytes_of (spans_of reads) us) f
+    (subst (λ (g : ImportFault). IsSetFault g f) c.in-BadSet.is is) c.at-whole.ensures c.in_ok-add_found-in-BadSet.ensures.told
