@@ -2,7 +2,7 @@ pub mod ByteLaws  -- The numerals of bytevectors
 pub mod StackLaws  -- The stack as the code keeps it, outermost first
 pub mod DatumLaws  -- What data of the code stand for, by their shapes
 pub mod StepLaws  -- What one token changes, with the frame on top taken off
-pub mod Seen  -- Tokens as data see them are those that scheme_tokens tells
+pub mod TokensSeen  -- Tokens as data see them are those that scheme_tokens tells
 pub mod Passing  -- What is open behind data as they are written
 pub mod Begun  -- Data that are partly written
 pub mod Completing  -- A datum that is complete, among data that are partly written
@@ -16,7 +16,7 @@ pub mod Measured  -- The size and the depth of a datum's tree
 pub mod Sizes  -- The tree of a datum has at most twice as many nodes as the datum tokens
 pub mod Depths  -- The tree of a datum is at most one deeper than what is open while the datum is read
 pub mod ReadParts  -- What was read
-pub mod Rights  -- What is read from a text of at most 1,048,576 bytes is what a tree can be made of
+pub mod WellFormedLaws  -- What is read from a text of at most 1,048,576 bytes is what a tree can be made of
 pub mod Growing  -- What added nodes and names leave, and how that adds up
 pub mod LeafLaws  -- Nodes without parts, and the trees that they are of
 pub mod Joining  -- Texts with one space between each two

@@ -22,7 +22,7 @@ use Rattle.expander.specs.Bodies.{BodyFor, body_pass}
 use Rattle.expander.specs.Judged.{Knows}
 use Rattle.expander.specs.State.{Stands, most_locals}
 use Rattle.expander.specs.Stepped.{entered, entered_frames}
-use Rattle.expander.specs.Seen.{form_at}
+use Rattle.expander.specs.FormsSeen.{form_at}
 use Rattle.expander.specs.Kept.{KeptFor, PendingFor, NoteFor, NotesFor, SpotFor, forms_size, left_with}
 use Rattle.expander.specs.Outcomes.{At, Stays, Moves, Ends}
 use Rattle.expander.specs.Passed.{CanPass, Passes}

@@ -19,7 +19,7 @@ use Rattle.core_tree.specs.declared.cores.Target as code_target
 use Rattle.expander.specs.Kept.{NotesFor, SpotFor}
 use Rattle.expander.specs.Passed.{GoesOn, pass_step}
 use Rattle.expander.specs.Searched.{searched}
-use Rattle.expander.specs.Seen.{takes_effect}
+use Rattle.expander.specs.FormsSeen.{takes_effect}
 use Rattle.expander.specs.State.{Stands}
 use Rattle.expander.specs.Stepped.{met, with_keyword}
 use Rattle.expander.specs.Told.{core_fault, told, Tells}

@@ -15,7 +15,7 @@ use Rattle.core_tree.specs.Names.{AllMatch}
 use Rattle.expander.specs.Kept.{KeptFor, FormFor, PendingFor, SpotFor}
 use Rattle.expander.specs.Outcomes.{Leaves, SameForm, Stays, Moves, Ends, IsAtWork, HasRoom}
 use Rattle.expander.specs.Passed.{CanPass, Passes}
-use Rattle.expander.specs.Seen.{form_at, item_of}
+use Rattle.expander.specs.FormsSeen.{form_at, item_of}
 use Rattle.expander.specs.State.{Stands}
 use Rattle.expander.specs.Units.{ItemFor, CanSet, Sets}
 use Rattle.expander.specs.declared.asked.Asked.{Asked}

@@ -33,7 +33,7 @@ use Rattle.expander.specs.Judged.{IsBadForm}
 use Rattle.expander.specs.Kept.{FormFor, PendingFor, NotesFor, SpotFor, left_with}
 use Rattle.expander.specs.Outcomes.{At, CanLook, Stays}
 use Rattle.expander.specs.Passed.{CanPass, GoesOn, IsPassed, ShapeFits, shape_weight}
-use Rattle.expander.specs.Seen.{head_name_of, takes_effect}
+use Rattle.expander.specs.FormsSeen.{head_name_of, takes_effect}
 use Rattle.expander.specs.Used.{CanUse, UseFor}
 use Rattle.expander.specs.Searched.{searched}
 use Rattle.expander.specs.declared.asked.Asked.{Asked}

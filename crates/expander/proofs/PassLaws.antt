@@ -28,7 +28,7 @@ use Rattle.expander.specs.Chains.{body_chain}
 use Rattle.expander.specs.Counts.{with_nodes, Counts}
 use Rattle.expander.specs.State.{Stands}
 use Rattle.expander.specs.Stepped.{spent}
-use Rattle.expander.specs.Seen.{form_at}
+use Rattle.expander.specs.FormsSeen.{form_at}
 use Rattle.expander.specs.Told.{Tells}
 use Rattle.expander.specs.Kept.{FormFor, KeptFor, PendingFor, NoteFor, NotesFor, IsIn, SpotFor, forms_size, left_with}
 use Rattle.expander.specs.Outcomes.{Stays}

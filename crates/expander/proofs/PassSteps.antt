@@ -17,7 +17,7 @@ use Rattle.core_forms.specs.Parts.{IsNameIfAny}
 use Rattle.expander.specs.Judged.{chosen_among}
 use Rattle.expander.specs.Passed.{pass_step}
 use Rattle.expander.specs.Searched.{searched}
-use Rattle.expander.specs.Seen.{takes_effect, head_name_of}
+use Rattle.expander.specs.FormsSeen.{takes_effect, head_name_of}
 use Rattle.expander.specs.Stepped.{met}
 use Rattle.expander.proofs.ChoiceLaws.{chosen_is}
 

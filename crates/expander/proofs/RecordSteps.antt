@@ -20,7 +20,7 @@ use Rattle.core_tree.specs.declared.cores.FieldUse as code_field
 use Rattle.expander.specs.Binds.{local_binders, with_locals}
 use Rattle.expander.specs.State.{Stands, most_locals}
 use Rattle.expander.specs.Stepped.{taken, bound_binders}
-use Rattle.expander.specs.Seen.{used_fields}
+use Rattle.expander.specs.FormsSeen.{used_fields}
 use Rattle.expander.specs.Kept.{PendingFor, NotesFor, SpotFor}
 use Rattle.expander.specs.Defining.{EndsIn, define_each}
 use Rattle.expander.specs.Searched.{searched}

@@ -35,7 +35,7 @@ use Rattle.core_tree.specs.declared.cores.MacroDef as code_def
 use Rattle.core_tree.specs.declared.cores.RuleLeaf as code_leaf
 use Rattle.core_tree.specs.Traces.{IsFault}
 use Rattle.expander.specs.Searched.{searched}
-use Rattle.expander.specs.Seen.{IsRulesHead}
+use Rattle.expander.specs.FormsSeen.{IsRulesHead}
 use Rattle.expander.specs.Told.{rules_fault, told, Tells}
 use Rattle.expander.specs.Counts.{Counts}
 use Rattle.expander.specs.Heads.{auxiliary_as, IsHead}

@@ -9,7 +9,7 @@ pub mod Judged  -- How the requirements of `cond-expand` are judged (R7RS 4.2.1,
 pub mod Outcomes  -- How a call of the expander ends
 pub mod Marked  -- The marks of a quasiquotation by number, and what it counts (R7RS 4.2.8)
 pub mod Told  -- The faults of forms that were misread, and of rules that are none, as the definition tells them
-pub mod Seen  -- What is seen of forms while they are gone through, and what a record defines (R7RS 4.3, 5.3.2, 5.5)
+pub mod FormsSeen  -- What is seen of forms while they are gone through, and what a record defines (R7RS 4.3, 5.3.2, 5.5)
 pub mod Asks  -- What was asked before a definition (R7RS 5.3, 5.4)
 pub mod Searched  -- Expansion by counted scopes where a definition goes through some notes alone
 pub mod Kept  -- What the forms that are gone through, what is set aside, and what was looked up stand for in the code (R7RS 5.3.2)

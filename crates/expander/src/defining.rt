@@ -11,7 +11,7 @@ ghost use Rattle.syntax_tree.specs.declared.trees.Work.{Work as AnyWork};
 ghost use Rattle.core_forms.specs.Parts.{IsName, IsField, AreNames, AllMatch as Match, IsFormals};
 ghost use Rattle.core_forms.specs.Ends.{IsRecord};
 ghost use Rattle.core_tree.specs.Names.{IsField as IsUse, AllMatch, IsBinder};
-ghost use Rattle.expander.specs.Seen.{used_fields};
+ghost use Rattle.expander.specs.FormsSeen.{used_fields};
 ghost use Rattle.scheme_model.specs.Requirements.{Known};
 ghost use Rattle.scheme_model.specs.Trees.{Tree as ModelTree};
 ghost use Rattle.scheme_model.specs.ScopedExpansion.{Frames, FramedIdent, ScopedState};

@@ -10,7 +10,7 @@ ghost use Rattle.syntax_tree.specs.Standing.{leaf_tree};
 ghost use Rattle.syntax_tree.specs.Works.{StandsFor, IsStanding, CanName, IsOpened};
 ghost use Rattle.core_forms.specs.Ends.{keyword_as, ShapeFor};
 ghost use Rattle.core_forms.specs.Parts.{IsNameIfAny, IsName};
-ghost use Rattle.expander.specs.Seen.{head_name_of, takes_effect};
+ghost use Rattle.expander.specs.FormsSeen.{head_name_of, takes_effect};
 ghost use Rattle.scheme_model.specs.ExpansionFaults.{Named};
 ghost use Rattle.scheme_model.specs.Keywords.{CoreKeyword as ModelKeyword};
 ghost use Rattle.scheme_model.specs.Measures.{tree_size, trees_size};

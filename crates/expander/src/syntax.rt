@@ -4,7 +4,7 @@ ghost use Rattle.scheme_model.specs.Ident.{Ident as Identifier};
 ghost use Rattle.scheme_model.specs.Trees.{Tree as ModelTree};
 ghost use Rattle.scheme_model.specs.Order.{rules_parts_of, Note as ModelNote, RulesParts, rules_parts, rules_note, rules_at, is_rules};
 ghost use Rattle.syntax_tree.specs.Works.{StandsFor, IsStanding};
-ghost use Rattle.expander.specs.Seen.{IsRulesHead};
+ghost use Rattle.expander.specs.FormsSeen.{IsRulesHead};
 ghost use Rattle.expander.specs.Told.{rules_fault, told};
 ghost use Rattle.scheme_model.specs.Requirements.{Known};
 ghost use Rattle.scheme_model.specs.Cores.{Binder as ModelBinder};

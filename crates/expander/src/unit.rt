@@ -1,7 +1,7 @@
 //! Units, one after another, and their forms: the calls of this crate (R7RS 5.1, 5.6).
 ghost use Rattle.std.specs.Prelude.{◌≡◌, ℕ, List, [], ◌∷◌, ◌++◌, length, map, Option, IfOk, ◌+◌, ◌-◌, ◌^◌, ◌<◌, ◌≤◌, Err, OnOk};
 ghost use Rattle.scheme_model.specs.Program.{enough_turns};
-ghost use Rattle.expander.specs.Seen.{item_of};
+ghost use Rattle.expander.specs.FormsSeen.{item_of};
 ghost use Rattle.scheme_model.specs.Ident.{Ident as Identifier};
 ghost use Rattle.scheme_model.specs.Expression.{expand, item_part};
 ghost use Rattle.scheme_model.specs.UnitExpansion.{max_depth};

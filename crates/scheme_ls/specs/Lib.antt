@@ -1,6 +1,6 @@
 pub mod Wording  -- The texts that the program says by itself
 pub mod Statuses  -- The statuses of a run, and which one each end of a command has
-pub mod Words  -- The commands that words ask for
+pub mod Arguments  -- The commands that words ask for
 pub mod Reading  -- What was read of a source
 pub mod Printed  -- The bytes that are printed
 pub mod Prints  -- What was printed to a sink

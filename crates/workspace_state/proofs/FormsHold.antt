@@ -17,7 +17,7 @@ use Rattle.scheme_model.specs.ScopedExpansion.{Frames, FramedIdent, ScopedState}
 use Rattle.scheme_model.specs.UnitExpansion.{max_total, passes, nodes_in, states_passed}
 use Rattle.syntax_tree.proofs.Places.{none_some, push_cases}
 use Rattle.core_tree.specs.Units.{defined_by}
-use Rattle.datum_reader.specs.Right.{WasRead}
+use Rattle.datum_reader.specs.WellFormed.{WasRead}
 use Rattle.datum_reader.specs.Views.{datum_of}
 use Rattle.datum_reader.specs.Seeded.{seeded}
 use Rattle.library_table.specs.UnitsRead.{form_of, forms_of}

@@ -10,7 +10,7 @@ ghost use Rattle.scheme_model.specs.Order.{Note, Item as ModelItem};
 ghost use Rattle.scheme_model.specs.ScopedExpansion.{Frames, FramedIdent, ScopedState};
 ghost use Rattle.syntax_tree.specs.Names.{KeepsNames};
 ghost use Rattle.syntax_tree.specs.Works.{IsOpened, StandsFor, KeepsTrees, SameRegions, AddsIn};
-ghost use Rattle.datum_reader.specs.Right.{WasRead};
+ghost use Rattle.datum_reader.specs.WellFormed.{WasRead};
 ghost use Rattle.datum_reader.specs.Views.{datum_of};
 ghost use Rattle.library_table.specs.UnitsRead.{forms_of};
 ghost use Rattle.core_tree.specs.Units.{IsBlank};

@@ -15,7 +15,7 @@ use Rattle.core_forms.proofs.Distinct.{field_names_are}
 use Rattle.core_tree.specs.Names.{AllMatch, IsBinder, IsField as IsUse}
 use Rattle.core_tree.specs.declared.cores.Binder as code_binder
 use Rattle.expander.specs.State.{Stands, most_locals}
-use Rattle.expander.specs.Seen.{used_fields}
+use Rattle.expander.specs.FormsSeen.{used_fields}
 use Rattle.expander.specs.Kept.{SpotFor}
 use Rattle.expander.specs.Defining.{EndsIn, define_each}
 use Rattle.expander.specs.Searched.{searched}

@@ -14,7 +14,7 @@ use Rattle.expander.specs.Passed.{CanPass, shape_weight}
 use Rattle.expander.specs.Searched.{searched}
 use Rattle.expander.specs.Kept.{SpotFor}
 use Rattle.expander.specs.State.{Stands}
-use Rattle.expander.specs.Seen.{takes_effect}
+use Rattle.expander.specs.FormsSeen.{takes_effect}
 use Rattle.expander.specs.Stepped.{met, with_keyword}
 use Rattle.expander.specs.declared.scope.UnitScope.{UnitScope}
 use Rattle.expander.proofs.CorePass.{core_goes, core_misread}
