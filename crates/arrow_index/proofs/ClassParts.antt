@@ -1,6 +1,6 @@
 -- The parts of a class and its standard names: their order, and which they are.
 use Rattle.std.proofs.Common.{◌≡◌, ◌⊎◌, inl, inr, ◌↔◌, ℕ, List, [], ◌∷◌, ◌++◌, map, Bool, true, false, refl, sym, ap, ◌∙◌, subst}
-use Rattle.std.specs.Prelude.{◌&&◌, ◌||◌, not, if◌then◌else◌}
+use Rattle.std.specs.Prelude.{◌&&◌, not, if◌then◌else◌}
 use Rattle.std.specs.Str.{bytes_eq}
 use Rattle.std.specs.List.{Contains, flat_map}
 use Rattle.std.specs.List.Sorted.{IsStrictlySortedBy}
@@ -13,7 +13,7 @@ use Rattle.std.proofs.lemmas.Map.Text.{is_eq-slice_cmp}
 use Rattle.scheme_model.specs.declared.Occ.{Occ}
 use Rattle.scheme_model.specs.Entries.{Source, At, StandardName, same_occ}
 use Rattle.scheme_model.specs.Spelling.{Link, is_member, class_of, has_prefix, prefixes_of, standard_origins}
-use Rattle.syntax_tree.proofs.InternLaws.{bytes_told, bytes_itself}
+use Rattle.syntax_tree.proofs.InternLaws.{bytes_told}
 use Rattle.arrow_index.specs.Members.{IsIn}
 use Rattle.arrow_index.specs.Placed.{occ_cmp}
 use Rattle.arrow_index.specs.Links.{source_of, as_link}
@@ -22,12 +22,10 @@ use Rattle.arrow_index.specs.declared.links.Link as code_link
 use Rattle.arrow_index.specs.declared.links.LinkOrigin.{LinkOrigin}
 use Rattle.arrow_index.specs.declared.links.LinkOrigin.TheVariants.{Place, Standard}
 use Rattle.arrow_index.specs.declared.classes.ClassPart.{ClassPart}
-use Rattle.arrow_index.specs.contracts.classes.ClassPartOrd.TheImpl.{cmp-value}
-use Rattle.arrow_index.specs.contracts.classes.ClassPartPartialEq.TheImpl.{eq-value}
 use Rattle.arrow_index.proofs.KeyLaws.{both_equal, occs_equal, one_occ, left, right}
 use Rattle.arrow_index.proofs.MemberLaws.{in_left, in_right, in_either, in_from, contains_from, in_map, from_map, in_flat_map, from_flat_map}
 use Rattle.arrow_index.proofs.Orders.{occ_total}
-use Rattle.arrow_index.proofs.ClassLaws.{or_left, or_right, same_test, itself, member_in, in_member, same_class}
+use Rattle.arrow_index.proofs.ClassLaws.{or_left, same_test, itself, member_in, in_member, same_class}
 use Rattle.arrow_index.proofs.ClassWalks.{any_from, any_in, same_joined}
 
 -- ---- the order of parts

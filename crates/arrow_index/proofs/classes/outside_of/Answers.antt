@@ -1,4 +1,4 @@
-use Rattle.std.proofs.Common.{◌≡◌, List, [], map, length, sym, subst, arith}
+use Rattle.std.proofs.Common.{◌≡◌, List, map, length, subst, arith}
 use Rattle.std.proofs.lemmas.List.{nil_from_length}
 use Rattle.scheme_model.specs.declared.Occ.{Occ}
 use Rattle.scheme_model.specs.Entries.{same_occ}

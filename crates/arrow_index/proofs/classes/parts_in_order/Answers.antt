@@ -1,6 +1,3 @@
-use Rattle.std.proofs.Common.{[], Bool, subst, IsSorted}
-use Rattle.std.specs.declared.cmp.Ordering.{Ordering}
-use Rattle.std.specs.List.Retain.{IsFiltered, DiffersFromLast}
 use Rattle.arrow_index.proofs.Orders.{each_once}
 use Rattle.arrow_index.proofs.ClassParts.{part_total, part_ties, one_part}
 use Rattle.arrow_index.proofs.classes.parts_in_order.Goals as goal

@@ -1,9 +1,9 @@
-use Rattle.std.proofs.Common.{◌≡◌, ◌+◌, List, [], take, get_or, refl, sym, ap, ◌∙◌, arith}
+use Rattle.std.proofs.Common.{◌+◌, List, take, get_or, ap, ◌∙◌, arith}
 use Rattle.std.proofs.lemmas.List.{take_more}
 use Rattle.scheme_model.specs.declared.Occ.{Occ}
 use Rattle.scheme_model.specs.Entries.{same_occ}
 use Rattle.scheme_model.specs.Spelling.{is_member}
-use Rattle.arrow_index.proofs.ClassWalks.{reaches_none, reaches_again, member_push}
+use Rattle.arrow_index.proofs.ClassWalks.{reaches_again, member_push}
 use Rattle.arrow_index.proofs.classes.reach_all.Goals as goal
 
 pub loop-occ-preserved : goal.loop-occ-preserved
