@@ -27,11 +27,7 @@ fn class(out: &mut Shown, values: &[Value], occ: &Value) -> Row<()> {
     out.open();
     out.flag(is_joined(links.as_slice(), occ));
     show_parts(out, parts.as_slice());
-    out.open();
-    for name in names.as_slice() {
-        out.string(name.as_str());
-    }
-    out.close();
+    out.texts(names.as_slice());
     out.close();
     Ok(())
 }
