@@ -1,4 +1,3 @@
-use Rattle.std.proofs.Common.{◌≡◌}
 use Rattle.workspace_state.proofs.GivenLaws.{comes_chosen}
 use Rattle.workspace_state.proofs.ImportLaws.{any_set, answered_mean}
 use Rattle.scheme_model.specs.Entries as model

@@ -1,7 +1,7 @@
-use Rattle.std.proofs.Common.{◌≡◌, List, [], ◌∷◌, length, subst}
+use Rattle.std.proofs.Common.{[], length, subst}
 use Rattle.scheme_model.specs.Diagnostics.{bytes_of}
 use Rattle.scheme_model.specs.Entries as model
-use Rattle.scheme_model.specs.Program.{Gives, Unknown, Faulty, after_set}
+use Rattle.scheme_model.specs.Program.{Unknown, Faulty}
 use Rattle.import_sets.specs.Sets.{TellsApart}
 use Rattle.workspace_state.specs.declared.entries.SetGives.{SetGives}
 use Rattle.workspace_state.specs.Found.{all_told}
