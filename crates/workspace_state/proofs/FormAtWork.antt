@@ -9,7 +9,7 @@ use Rattle.scheme_model.specs.Order.{Item, Note, Pending}
 use Rattle.scheme_model.specs.UnitExpansion.{max_depth}
 use Rattle.scheme_model.specs.Expression.{expand}
 use Rattle.scheme_model.specs.Program.{enough_turns}
-use Rattle.scheme_model.specs.ScopedExpansion.{Frames, Place, ScopedState, body_around, definition_added, is_defined}
+use Rattle.scheme_model.specs.ScopedExpansion.{Frames, FramedIdent, ScopedState, body_around, definition_added, is_defined}
 use Rattle.syntax_tree.specs.declared.trees.Work.{Work}
 use Rattle.expander.specs.Searched.{define_searched, searched}
 use Rattle.expander.specs.Stepped.{turned}
@@ -24,8 +24,8 @@ module _ (form : ℕ) where
   form_added s work None n r fs = work
   form_added s work (Some b) n r fs = work
 
-  form_defined : (s t : ScopedState) → s.form ≡ form → t.form ≡ form → (n : Named Ident) (p : Pending Ident Place) (refused twice : Bool) →
-      (cond {A = Result (Pending Ident Place) (Fault Ident) × ScopedState} refused (Err (KeywordRedefined n), s) (cond twice (Err (Duplicate n), s) (Ok p, t))).1.form ≡ form
+  form_defined : (s t : ScopedState) → s.form ≡ form → t.form ≡ form → (n : Named Ident) (p : Pending Ident FramedIdent) (refused twice : Bool) →
+      (cond {A = Result (Pending Ident FramedIdent) (Fault Ident) × ScopedState} refused (Err (KeywordRedefined n), s) (cond twice (Err (Duplicate n), s) (Ok p, t))).1.form ≡ form
   form_defined s t work then_ n p true twice = work
   form_defined s t work then_ n p false true = work
   form_defined s t work then_ n p false false = then_
@@ -69,7 +69,7 @@ pub same_turned : (s : ScopedState) (form : ℕ) → s.form ≡ form → turned 
 same_turned s form work = ap (λ (n : ℕ). turned n s) (sym work)
 
 -- between steps it may turn to any form
-pub unit_turned : (work : Work) (u : UnitScope) (ls : List Frames) (s : ScopedState) (n : ℕ) (notes : List (Note Place)) → UnitStands work u ls s notes → UnitStands work u ls (turned n s) notes
+pub unit_turned : (work : Work) (u : UnitScope) (ls : List Frames) (s : ScopedState) (n : ℕ) (notes : List (Note FramedIdent)) → UnitStands work u ls s notes → UnitStands work u ls (turned n s) notes
 unit_turned work u ls s n notes h =
     let e = h.rests in
     let v = e.env in

@@ -12,7 +12,7 @@ use Rattle.scheme_model.specs.Expression.{expand, item_part}
 use Rattle.scheme_model.specs.Program.{enough_turns}
 use Rattle.scheme_model.specs.UnitExpansion.{max_depth, max_total, nodes_in}
 use Rattle.scheme_model.specs.Requirements.{Known}
-use Rattle.scheme_model.specs.ScopedExpansion.{Frames, Place, ScopedState}
+use Rattle.scheme_model.specs.ScopedExpansion.{Frames, FramedIdent, ScopedState}
 use Rattle.syntax_tree.specs.Names.{KeepsNames}
 use Rattle.syntax_tree.specs.Works.{KeepsTrees, SameRegions, AddsIn, live_count}
 use Rattle.syntax_tree.specs.declared.trees.Work.{Work}
@@ -116,7 +116,7 @@ items_of work region unit form s d is h none = subst (λ (f : Option FormFault).
 
 -- ---- a form that is being expanded
 
-pub nothing_finished : (b : Bench) (known : Known) (unit form : ℕ) (ls : List Frames) (s : ScopedState) (notes : List (Note Place)) (d : code.Declared) (r : Passing) (total : ℕ) → UnitStands b.work b.scope ls s notes → s.unit ≡ unit →
+pub nothing_finished : (b : Bench) (known : Known) (unit form : ℕ) (ls : List Frames) (s : ScopedState) (notes : List (Note FramedIdent)) (d : code.Declared) (r : Passing) (total : ℕ) → UnitStands b.work b.scope ls s notes → s.unit ≡ unit →
     IsDeclared b.work b.region unit form s d r → d.fault ≡ None → total ≤ max_total → Finishing b b known unit form (taken 0 r) s total total d.budget d.trace []
 nothing_finished b known unit form ls s notes d (Err e) total stands own h none few = no_fault b.work b.region unit form s d e h none
 nothing_finished b known unit form ls s notes d (Ok is) total stands own h none few = record {
@@ -137,7 +137,7 @@ nothing_finished b known unit form ls s notes d (Ok is) total stands own h none 
 }
 
 -- the form was broken before
-pub broken_before : (b : Bench) (known : Known) (unit form : ℕ) (ls : List Frames) (s : ScopedState) (notes : List (Note Place)) (d : code.Declared) (r : Passing) (total : ℕ) (e : FormFault) (k : code_form.UnitForm) → UnitStands b.work b.scope ls s notes → s.unit ≡ unit →
+pub broken_before : (b : Bench) (known : Known) (unit form : ℕ) (ls : List Frames) (s : ScopedState) (notes : List (Note FramedIdent)) (d : code.Declared) (r : Passing) (total : ℕ) (e : FormFault) (k : code_form.UnitForm) → UnitStands b.work b.scope ls s notes → s.unit ≡ unit →
     IsDeclared b.work b.region unit form s d r → total ≤ max_total → d.fault ≡ Some e → k.fault ≡ Some e → k.trace.definitions ≡ d.trace.definitions → FinishesForm b b known unit form r s total total k
 broken_before b known unit form ls s notes d (Ok is) total e k stands own h few was fault told = absurd (subst (λ (f : Option FormFault). IsSetAside b.work b.region unit form d f (Ok is)) was h.set_aside)
 broken_before b known unit form ls s notes d (Err x) total e k stands own h few was fault told =
@@ -162,7 +162,7 @@ broken_before b known unit form ls s notes d (Err x) total e k stands own h few 
       counted = refl;
     }
 
-pub broken_first : (b : Bench) (known : Known) (unit form : ℕ) (ls : List Frames) (s : ScopedState) (notes : List (Note Place)) (d : code.Declared) (r : Passing) (total : ℕ) (k : code_form.UnitForm) → UnitStands b.work b.scope ls s notes → s.unit ≡ unit →
+pub broken_first : (b : Bench) (known : Known) (unit form : ℕ) (ls : List Frames) (s : ScopedState) (notes : List (Note FramedIdent)) (d : code.Declared) (r : Passing) (total : ℕ) (k : code_form.UnitForm) → UnitStands b.work b.scope ls s notes → s.unit ≡ unit →
     IsDeclared b.work b.region unit form s d r → total ≤ max_total → is_some d.fault ≡ true → k.fault ≡ d.fault → k.trace.definitions ≡ d.trace.definitions → FinishesForm b b known unit form r s total total k
 broken_first b known unit form ls s notes d r total k stands own h few is fault told = by d.fault refl is
   where
@@ -347,17 +347,17 @@ item_at (x ∷ xs) (suc k) d low = item_at xs k d (omega (arith, low))
 
 -- what came of the form so far, from each state that it may have begun in
 abbrev pub Continues : (old b : Bench) (unit form : ℕ) → code.Declared → (k start total : ℕ) → Budget → Trace → List ExpandedItem → Type 0
-Continues old b unit form d k start total budget trace items = (known : Known) (ls : List Frames) (s : ScopedState) (notes : List (Note Place)) (r : Passing) → Knows old.scope.libraries known → UnitStands old.work old.scope ls s notes → s.unit ≡ unit →
+Continues old b unit form d k start total budget trace items = (known : Known) (ls : List Frames) (s : ScopedState) (notes : List (Note FramedIdent)) (r : Passing) → Knows old.scope.libraries known → UnitStands old.work old.scope ls s notes → s.unit ≡ unit →
     IsDeclared old.work old.region unit form s d r → Finishing old b known unit form (taken k r) s start total budget trace items
 
 -- what comes of the form, from each state that it may begin in
 abbrev pub Finished : (old b : Bench) (unit form : ℕ) → code.Declared → (start total : ℕ) → code_form.UnitForm → Type 0
-Finished old b unit form d start total k = (known : Known) (ls : List Frames) (s : ScopedState) (notes : List (Note Place)) (r : Passing) → Knows old.scope.libraries known → UnitStands old.work old.scope ls s notes → s.unit ≡ unit →
+Finished old b unit form d start total k = (known : Known) (ls : List Frames) (s : ScopedState) (notes : List (Note FramedIdent)) (r : Passing) → Knows old.scope.libraries known → UnitStands old.work old.scope ls s notes → s.unit ≡ unit →
     IsDeclared old.work old.region unit form s d r → FinishesForm old b known unit form r s start total k
 
 -- the call that expands the item
 abbrev pub Step : (b c : Bench) (form : ℕ) (before after : Budget) (trace next : Trace) → code_item.Item → Result ExpandedItem ExpandFault → Type 0
-Step b c form before after trace next x result = (known : Known) (ls : List Frames) (s : ScopedState) (notes : List (Note Place)) (i : Item Identifier) → Knows b.scope.libraries known →
+Step b c form before after trace next x result = (known : Known) (ls : List Frames) (s : ScopedState) (notes : List (Note FramedIdent)) (i : Item Identifier) → Knows b.scope.libraries known →
     UnitStands b.work b.scope ls s notes → CountsFor b.work s form before trace → ItemFor b.work b.region b.scope.unit form x i →
     Expands b.work c.work b.region b.scope c.scope before after ls form next notes result (expanded known form i s)
 
@@ -404,7 +404,7 @@ module _ (old b : Bench) (unit form : ℕ) (d : code.Declared) (none : d.fault �
         (call known f.layout f.state f.notes i.item (stay.libraries known knows) f.stands f.counts i.stands))
 
     -- what the call leaves, by the state that there is
-    module _ (ls : List Frames) (s : ScopedState) (notes : List (Note Place)) (stands : UnitStands old.work old.scope ls s notes) (own : s.unit ≡ unit) where
+    module _ (ls : List Frames) (s : ScopedState) (notes : List (Note FramedIdent)) (stands : UnitStands old.work old.scope ls s notes) (own : s.unit ≡ unit) where
       goes_ok : (is : List (Item Identifier)) → IsDeclared old.work old.region unit form s d (Ok is) → (y : ExpandedItem) → Step b c form before after trace next x (Ok y) → Stays old c
       goes_ok is h y call =
           let f = so all_known ls s notes (Ok is) all_there stands own h in
@@ -435,7 +435,7 @@ module _ (old b : Bench) (unit form : ℕ) (d : code.Declared) (none : d.fault �
     pub at_stays : CanFinish old unit form d → (e : FormFault) → Step b c form before after trace next x (Err (fault.At e)) → Stays old c × (before.nodes ≤ after.nodes)
     at_stays can e call = stays_at can.layout can.state can.notes can.stands can.number can.result can.form_is e call
 
-  ready : (known : Known) (ls : List Frames) (s : ScopedState) (notes : List (Note Place)) (r : Passing) → Knows old.scope.libraries known → UnitStands old.work old.scope ls s notes → s.unit ≡ unit → IsDeclared old.work old.region unit form s d r →
+  ready : (known : Known) (ls : List Frames) (s : ScopedState) (notes : List (Note FramedIdent)) (r : Passing) → Knows old.scope.libraries known → UnitStands old.work old.scope ls s notes → s.unit ≡ unit → IsDeclared old.work old.region unit form s d r →
       (i : Item Identifier) × ItemFor b.work b.region b.scope.unit form x i
   ready known ls s notes (Err e) knows stands own h = no_fault old.work old.region unit form s d e h none
   ready known ls s notes (Ok is) knows stands own h = let i = item_is known s is h (so known ls s notes (Ok is) knows stands own h) in (i.item, i.stands)

@@ -13,11 +13,11 @@ use Rattle.std.proofs.lemmas.Bool.{ltb-false}
 use Rattle.scheme_model.specs.Order.{Pass, Note}
 use Rattle.scheme_model.specs.Requirements.{Known}
 use Rattle.scheme_model.specs.Substitution.{Defined}
-use Rattle.scheme_model.specs.ScopedExpansion.{Frames, Place, ScopedState}
+use Rattle.scheme_model.specs.ScopedExpansion.{Frames, FramedIdent, ScopedState}
 use Rattle.scheme_model.specs.UnitExpansion.{max_total, passes, nodes_in, states_passed}
 use Rattle.syntax_tree.proofs.Places.{none_some, push_cases}
 use Rattle.core_tree.specs.Units.{defined_by}
-use Rattle.datum_reader.specs.Right.{WasRead}
+use Rattle.datum_reader.specs.WellFormed.{WasRead}
 use Rattle.datum_reader.specs.Views.{datum_of}
 use Rattle.datum_reader.specs.Seeded.{seeded}
 use Rattle.library_table.specs.UnitsRead.{form_of, forms_of}
@@ -99,7 +99,7 @@ module _ (b : Bench) (unit : ℕ) (ds : List code.Declared) (h : Holds b unit ds
       }
 
   -- one that is
-  pub next_held : (c : Bench) (p : Pass Identifier Place × ScopedState) → PassesTo b c unit (length ds) h.held.state p d → Holds c unit (ds ++ d ∷ [])
+  pub next_held : (c : Bench) (p : Pass Identifier FramedIdent × ScopedState) → PassesTo b c unit (length ds) h.held.state p d → Holds c unit (ds ++ d ∷ [])
   next_held c p n =
       let was = h.held in
       record {
@@ -125,7 +125,7 @@ module _ (b : Bench) (unit : ℕ) (ds : List code.Declared) (h : Holds b unit ds
   one_more c known e false none same passes = next_held c (passed known unit (length ds) e h.held.notes h.held.state) (passes refl)
 
   pub next_form : (c : Bench) (n : ℕ) → n ≡ length ds → (f : source.UnitForm) → (f.declared ≡ true → IsUntouched d) → (f.declared ≡ true → c ≡ b) →
-      ((known : Known) (ls : List Frames) (s : ScopedState) (notes : List (Note Place)) → f.declared ≡ false → Knows b.scope.libraries known → UnitStands b.work b.scope ls s notes → s.unit ≡ unit → IsFresh s n →
+      ((known : Known) (ls : List Frames) (s : ScopedState) (notes : List (Note FramedIdent)) → f.declared ≡ false → Knows b.scope.libraries known → UnitStands b.work b.scope ls s notes → s.unit ≡ unit → IsFresh s n →
       PassesForm b c known unit n (datum_of f.datum) notes s d) →
       Holds c unit (ds ++ d ∷ [])
   next_form c n at f blank same passes =
@@ -230,20 +230,20 @@ module _ (known : Known) (unit : ℕ) (ts : List (ℕ × Tree Identifier)) (s : 
 
     -- one that is
     module _ (rise : Rise 0 (numbers_of ts)) (off : f.declared ≡ false) (few : nat_lt max_total total ≡ false) (c : Bench) (n : PassesForm b c known unit place (datum_of f.datum) a.base.held.notes was d) where
-      abbrev now : Pass Identifier Place × ScopedState
+      abbrev now : Pass Identifier FramedIdent × ScopedState
       now = passed known unit place (datum_of f.datum) a.base.held.notes was
 
-      abbrev with_row : Pass Identifier Place × ScopedState → List (ℕ × Passing) × ScopedState
+      abbrev with_row : Pass Identifier FramedIdent × ScopedState → List (ℕ × Passing) × ScopedState
       with_row q = ((done a.front).0 ++ (place, q.0.items) ∷ [], q.1)
 
-      abbrev step_from : List (Note Place) → ScopedState → Pass Identifier Place × ScopedState
+      abbrev step_from : List (Note FramedIdent) → ScopedState → Pass Identifier FramedIdent × ScopedState
       step_from ns u = next_passed (searched known) enough_turns [] tree ns u
 
-      abbrev notes_so : List (Note Place)
+      abbrev notes_so : List (Note FramedIdent)
       notes_so = notes_after (searched known) enough_turns [] a.front [] s
 
       next_is : step_from notes_so (done a.front).1 ≡ now
-      next_is = ap (λ (ns : List (Note Place)). step_from ns (done a.front).1) (sym a.notes) ∙ ap (λ (u : ScopedState). step_from a.base.held.notes u) (sym a.state)
+      next_is = ap (λ (ns : List (Note FramedIdent)). step_from ns (done a.front).1) (sym a.notes) ∙ ap (λ (u : ScopedState). step_from a.base.held.notes u) (sym a.state)
 
       next_done : done (a.front ++ tree ∷ []) ≡ with_row now
       next_done = passes_append (searched known) enough_turns [] a.front (tree ∷ []) [] s ∙ ap with_row next_is
@@ -265,7 +265,7 @@ module _ (known : Known) (unit : ℕ) (ts : List (ℕ × Tree Identifier)) (s : 
         front = a.front ++ tree ∷ [];
         parted = parted_so;
         state = sym (ap (λ (q : List (ℕ × Passing) × ScopedState). q.1) next_done);
-        notes = sym (notes_append (searched known) enough_turns [] a.front (tree ∷ []) [] s ∙ ap (λ (q : Pass Identifier Place × ScopedState). q.0.notes) next_is);
+        notes = sym (notes_append (searched known) enough_turns [] a.front (tree ∷ []) [] s ∙ ap (λ (q : Pass Identifier FramedIdent × ScopedState). q.0.notes) next_is);
         forms =
             subst (λ (rs : List (ℕ × Passing)). AreDeclared c.work c.region unit 0 now.1 (ds ++ d ∷ []) rs) (sym (ap (λ (q : List (ℕ × Passing) × ScopedState). q.0) next_done))
             (declared_more c.work c.region unit now.1 0 ds (done a.front).0 d (place, now.0.items) (omega (arith, at))
@@ -313,7 +313,7 @@ none_from b unit fs region known ls s knows stands own fresh = none_passed known
 
 pub next_from : (old b c : Bench) (unit total place : ℕ) (fs : List source.UnitForm) (ds : List code.Declared) → PassedFrom old b unit total place fs ds → Stays old b → place ≡ length ds → nat_lt max_total total ≡ false →
     (d : code.Declared) (n : ℕ) → n ≡ place → (f : source.UnitForm) → place < length fs → f ≡ get_or fs place f → (f.declared ≡ true → IsUntouched d) → (f.declared ≡ true → c ≡ b) →
-    ((known : Known) (ls : List Frames) (s : ScopedState) (notes : List (Note Place)) → f.declared ≡ false → Knows b.scope.libraries known → UnitStands b.work b.scope ls s notes → s.unit ≡ unit → IsFresh s n →
+    ((known : Known) (ls : List Frames) (s : ScopedState) (notes : List (Note FramedIdent)) → f.declared ≡ false → Knows b.scope.libraries known → UnitStands b.work b.scope ls s notes → s.unit ≡ unit → IsFresh s n →
     PassesForm b c known unit n (datum_of f.datum) notes s d) →
     PassedFrom old c unit (total + d.budget.nodes) (suc place) fs (ds ++ d ∷ [])
 next_from old b c unit total place fs ds so stay at few d n same_n f low is blank same passes known ls s knows stands own fresh =

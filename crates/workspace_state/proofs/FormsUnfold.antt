@@ -10,7 +10,7 @@ use Rattle.scheme_model.specs.Program.{Prepared, enough_turns}
 use Rattle.scheme_model.specs.ScopedProgram.{forms_over}
 use Rattle.scheme_model.specs.UnitExpansion.{Formed, max_total, passes, finished, nodes_in, first_over, states_passed, states_finished, unit}
 use Rattle.scheme_model.specs.Requirements.{Known}
-use Rattle.scheme_model.specs.ScopedExpansion.{Frames, Place, ScopedState}
+use Rattle.scheme_model.specs.ScopedExpansion.{Frames, FramedIdent, ScopedState}
 use Rattle.core_tree.specs.Units.{FormsStand, AreDefinitions, definitions_from, defined_by}
 use Rattle.core_tree.specs.declared.units.UnitForm as code_form
 use Rattle.expander.specs.Searched.{searched, searched_unit_over}
@@ -23,13 +23,13 @@ use Rattle.workspace_state.proofs.UnitForms.{forms_rise, ends_passing, ends_fini
 use Rattle.workspace_state.proofs.UnitSteps.{not_over, is_over, numbers_passed}
 
 module _ (b : Bench) (known : Known) (p : Prepared) (s : ScopedState) where
-  none_unfolds : (t : ScopedState) (ls : List Frames) (notes : List (Note Place)) → UnitStands b.work b.scope ls t notes → searched_unit_over known p s ≡ (None, t) → Unfolds b known p s None
+  none_unfolds : (t : ScopedState) (ls : List Frames) (notes : List (Note FramedIdent)) → UnitStands b.work b.scope ls t notes → searched_unit_over known p s ≡ (None, t) → Unfolds b known p s None
   none_unfolds t ls notes stands is = record {
     stands = subst (λ (q : Option (List Formed) × ScopedState). StandsAt b q.1) (sym is) (record { layout = ls; notes = notes; stands = stands });
     forms = subst (λ (q : Option (List Formed) × ScopedState). AreUnfolded b p.number q.1 None q.0) (sym is) tt;
   }
 
-  some_unfolds : (t : ScopedState) (ls : List Frames) (notes : List (Note Place)) → UnitStands b.work b.scope ls t notes → (cs : List code_form.UnitForm) (fs : List Formed) → FormsStand b.work p.number 0 cs fs →
+  some_unfolds : (t : ScopedState) (ls : List Frames) (notes : List (Note FramedIdent)) → UnitStands b.work b.scope ls t notes → (cs : List code_form.UnitForm) (fs : List Formed) → FormsStand b.work p.number 0 cs fs →
       AreDefinitions b.work.symbols (reverse (definitions_from 0 cs)) (defined_by p.number t.table) → searched_unit_over known p s ≡ (Some fs, t) → Unfolds b known p s (Some cs)
   some_unfolds t ls notes stands cs fs forms definitions is = record {
     stands = subst (λ (q : Option (List Formed) × ScopedState). StandsAt b q.1) (sym is) (record { layout = ls; notes = notes; stands = stands });

@@ -250,9 +250,10 @@ pub units_stand : (work : Work) (text : LibraryName → List ℕ) (uris : List (
 units_stand work text uris us p place [] [] long h = tt
 units_stand work text uris us p place [] (r ∷ rs) long h = absurd (omega arith)
 units_stand work text uris us p place (c ∷ cs) [] long h = absurd (omega arith)
-units_stand work text uris us p place (c ∷ cs) (r ∷ rs) long h =
-    (subst (λ (k : ℕ). UnitStands work text uris us p k c r) (none_more place) (h 0 c r refl refl),
-    units_stand work text uris us p (suc place) cs rs (omega arith) (λ n d s at there. subst (λ (k : ℕ). UnitStands work text uris us p k d s) (one_more place n) (h (suc n) d s at there)))
+units_stand work text uris us p place (c ∷ cs) (r ∷ rs) long h = (
+  subst (λ (k : ℕ). UnitStands work text uris us p k c r) (none_more place) (h 0 c r refl refl),
+  units_stand work text uris us p (suc place) cs rs (omega arith) (λ n d s at there. subst (λ (k : ℕ). UnitStands work text uris us p k d s) (one_more place n) (h (suc n) d s at there)),
+)
   where
     none_more : (k : ℕ) → k + 0 ≡ k
     none_more k = omega arith

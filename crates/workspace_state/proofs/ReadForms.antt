@@ -6,7 +6,7 @@ use Rattle.scheme_model.specs.Data.{Place, Datum, atom, list, vector, bytes, Dat
 use Rattle.scheme_model.specs.Declarations.{UnitForm, UnitSource, plain_form, Flat, ◌>>=◌, or_bad, Clause, later_clauses, picked, chosen_clause, flat_of, some_clauses, both, parts_or, proper_parts, with_part, all_export_parts, Declared, Exports, Imports, Begins, Chooses, Includes, Undeclared, declared_by, declared_as, declaration, declarations, clauses, clause_of, symbol_in, symbol_tree, no_name, name_or, library_with, library_of, behind_head, is_headed, is_proper, program_forms, program_in}
 use Rattle.datum_reader.specs.declared.datum.Datum as code
 use Rattle.datum_reader.specs.Views.{data_of}
-use Rattle.datum_reader.specs.Right.{IsIn, IsAmong, WasRead}
+use Rattle.datum_reader.specs.WellFormed.{IsIn, IsAmong, WasRead}
 use Rattle.datum_reader.proofs.ReadParts.{part_was_read}
 use Rattle.workspace_state.specs.DataRead.{DataWereRead}
 use Rattle.workspace_state.specs.WereRead.{WereRead}

@@ -12,7 +12,7 @@ use Rattle.scheme_model.specs.Entries.{same_occ}
 use Rattle.scheme_model.specs.Declarations.{UnitForm, is_headed, list_parts, proper_parts}
 use Rattle.scheme_model.specs.Program.{ExportSpec, behind_first, export_of, exports_with, exports_in, exports_from}
 use Rattle.import_sets.specs.Given.{same_place}
-use Rattle.datum_reader.specs.Right.{WasRead}
+use Rattle.datum_reader.specs.WellFormed.{WasRead}
 use Rattle.workspace_state.proofs.RisingParts.{Inner, Rise, read_rises}
 
 -- two identifiers stand at two places exactly where an export is renamed

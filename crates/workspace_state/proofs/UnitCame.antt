@@ -8,7 +8,7 @@ use Rattle.scheme_model.specs.Order.{Note}
 use Rattle.scheme_model.specs.Requirements.{Known}
 use Rattle.scheme_model.specs.Substitution.{Entries}
 use Rattle.scheme_model.specs.UnitExpansion.{Formed}
-use Rattle.scheme_model.specs.ScopedExpansion.{Frames, Place, ScopedState}
+use Rattle.scheme_model.specs.ScopedExpansion.{Frames, FramedIdent, ScopedState}
 use Rattle.scheme_model.specs.Program.{Placed, Prepared, SetResult, TooLarge, entry_meaning, with_entries, is_program, unit_result}
 use Rattle.scheme_model.specs.ScopedProgram.{ScopedProgress, scoped_start_of, after_unit}
 use Rattle.syntax_tree.specs.Names.{Names, KeepsNames, AreToldApart}
@@ -81,9 +81,9 @@ pub record BeginsAt (b : Bench) (s : ScopedState) : Type 0 where
 
 pub goes_begun : (b c : Bench) (w : Work) (unit : ℕ) (kind : UnitKind) (xs : List Imported) (es : List code.Entry) (p : Prepared) (g : ScopedProgress) (ds : List Entry) → GoesOn b g → p.number ≡ unit → kind_as kind ≡ p.placed.source.kind →
     w.trees ≡ b.work.trees → KeepsNames b.work.symbols w.symbols → AreToldApart w.symbols.idents → AreToldApart w.symbols.symbols → AllMatch (IsImport w.symbols) xs es → AreEntries b.work.symbols es ds → EachOnce es →
-    ((ls : List Frames) (s : ScopedState) (notes : List (Note Place)) (given : List ℕ → Option Meaning) → UnitStands w b.scope ls s notes → ImportsFor w.symbols xs given →
+    ((ls : List Frames) (s : ScopedState) (notes : List (Note FramedIdent)) (given : List ℕ → Option Meaning) → UnitStands w b.scope ls s notes → ImportsFor w.symbols xs given →
     UnitStands c.work c.scope (ls ++ [] ∷ []) (started unit (is_program_kind kind) (with_imports unit given s.entry) s) []) →
-    ((ls : List Frames) (s : ScopedState) (notes : List (Note Place)) (given : List ℕ → Option Meaning) → UnitStands w b.scope ls s notes → (m : ℕ) → IsFresh (started unit (is_program_kind kind) (with_imports unit given s.entry) s) m) →
+    ((ls : List Frames) (s : ScopedState) (notes : List (Note FramedIdent)) (given : List ℕ → Option Meaning) → UnitStands w b.scope ls s notes → (m : ℕ) → IsFresh (started unit (is_program_kind kind) (with_imports unit given s.entry) s) m) →
     BeginsAt c (scoped_start_of p g (with_entries p.number ds g.entry))
 goes_begun b c w unit kind xs es p g ds goes own k trees names apart told all are once rests fresh =
     let at = goes.stands in

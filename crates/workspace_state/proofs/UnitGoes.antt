@@ -12,7 +12,7 @@ use Rattle.scheme_model.specs.Expression.{expand, item_part, parts}
 use Rattle.scheme_model.specs.UnitExpansion.{Formed, max_depth, max_total, from_items, passes, finished, nodes_in, first_over, fronts, item_fronts, or_ended, some_of, unit}
 use Rattle.scheme_model.specs.Program.{Prepared, enough_turns}
 use Rattle.scheme_model.specs.Substitution.{Defined}
-use Rattle.scheme_model.specs.ScopedExpansion.{Place, ScopedState}
+use Rattle.scheme_model.specs.ScopedExpansion.{FramedIdent, ScopedState}
 use Rattle.core_tree.specs.Units.{defined_by}
 use Rattle.expander.specs.Others.{Each, InFront, IsOf, OthersStay}
 use Rattle.expander.specs.Searched.{searched, forms_of, searched_unit_over}
@@ -58,7 +58,7 @@ module _ (known : Known) where
   abbrev step : Item Ident → ScopedState → Result Part Broken × ScopedState
   step = item_part (expand (searched known) enough_turns) (searched known) max_depth []
 
-  pub passes_goes : (ts : List (ℕ × Tree Ident)) (notes : List (Note Place)) (s : ScopedState) → UnitGoes s (passes (searched known) enough_turns [] ts notes s).1
+  pub passes_goes : (ts : List (ℕ × Tree Ident)) (notes : List (Note FramedIdent)) (s : ScopedState) → UnitGoes s (passes (searched known) enough_turns [] ts notes s).1
   passes_goes [] notes s = goes_itself s
   passes_goes (t ∷ ts) notes s =
       let d = declared known t.0 t.1 notes s in

@@ -2,7 +2,7 @@
 use Rattle.std.specs.Prelude.{◌≡◌, ℕ, List, slice_get, Some}
 use Rattle.datum_reader.specs.declared.datum.Datum as code
 use Rattle.datum_reader.specs.Views.{datum_of}
-use Rattle.datum_reader.specs.Right.{WasRead}
+use Rattle.datum_reader.specs.WellFormed.{WasRead}
 use Rattle.workspace_state.specs.declared.documents.Document.{Document}
 
 abbrev pub DataWereRead : List code.Datum → Type 0

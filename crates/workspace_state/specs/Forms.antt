@@ -14,7 +14,7 @@ use Rattle.scheme_model.specs.Program.{Prepared, enough_turns}
 use Rattle.scheme_model.specs.Requirements.{Known}
 use Rattle.scheme_model.specs.Substitution.{Defined}
 use Rattle.scheme_model.specs.Trees.{Tree}
-use Rattle.scheme_model.specs.ScopedExpansion.{Frames, Place, ScopedState}
+use Rattle.scheme_model.specs.ScopedExpansion.{Frames, FramedIdent, ScopedState}
 use Rattle.syntax_tree.specs.declared.trees.Work.{Work}
 use Rattle.syntax_tree.specs.declared.trees.table.Region.{Region}
 use Rattle.syntax_tree.specs.Works.{IsOpened, KeepsTrees, SameRegions, AddsIn}
@@ -57,7 +57,7 @@ pub record IsBench (b : Bench) : Type 0 where
   pub region : IsOpened b.work b.region
   pub layout : List Frames
   pub state : ScopedState
-  pub notes : List (Note Place)
+  pub notes : List (Note FramedIdent)
   pub stands : UnitStands b.work b.scope layout state notes
 
 -- a unit was begun of which nothing is done yet
@@ -117,7 +117,7 @@ pub record IsDeclared (work : Work) (region : Region) (unit form : ℕ) (s : Sco
 pub record CanPass (b : Bench) (unit form : ℕ) : Type 0 where
   pub layout : List Frames
   pub state : ScopedState
-  pub notes : List (Note Place)
+  pub notes : List (Note FramedIdent)
   pub stands : UnitStands b.work b.scope layout state notes
   pub number : state.unit ≡ unit
   pub fresh : IsFresh state form
@@ -126,14 +126,14 @@ pub record CanPass (b : Bench) (unit form : ℕ) : Type 0 where
 pub record CanFinish (b : Bench) (unit form : ℕ) (d : code.Declared) : Type 0 where
   pub layout : List Frames
   pub state : ScopedState
-  pub notes : List (Note Place)
+  pub notes : List (Note FramedIdent)
   pub stands : UnitStands b.work b.scope layout state notes
   pub number : state.unit ≡ unit
   pub result : Passing
   pub form_is : IsDeclared b.work b.region unit form state d result
 
 -- a form that is expanded, as it is gone through
-abbrev pub passed : Known → (unit form : ℕ) → Datum → List (Note Place) → ScopedState → Pass Identifier Place × ScopedState
+abbrev pub passed : Known → (unit form : ℕ) → Datum → List (Note FramedIdent) → ScopedState → Pass Identifier FramedIdent × ScopedState
 passed known unit form d notes s = declared known form (seeded unit form d) notes s
 
 abbrev pub AreInOrder : (behind : ℕ) → ScopedState → Type 0
@@ -151,13 +151,13 @@ pub record LeavesOthers (old new : Bench) (unit form : ℕ) (s t : ScopedState) 
   pub in_order : (behind : ℕ) → behind ≤ suc form → AreInOrder behind s → AreInOrder (suc form) t
 
 -- a form that was gone through by this step
-pub record PassesTo (old new : Bench) (unit form : ℕ) (s : ScopedState) (p : Pass Identifier Place × ScopedState) (c : code.Declared) : Type 0 where
+pub record PassesTo (old new : Bench) (unit form : ℕ) (s : ScopedState) (p : Pass Identifier FramedIdent × ScopedState) (c : code.Declared) : Type 0 where
   pub layout : List Frames
   pub stands : UnitStands new.work new.scope layout p.1 p.0.notes
   pub form_is : IsDeclared new.work new.region unit form p.1 c p.0.items
   pub others : LeavesOthers old new unit form s p.1
 
-abbrev pub PassesForm : (old new : Bench) → Known → (unit form : ℕ) → Datum → List (Note Place) → ScopedState → code.Declared → Type 0
+abbrev pub PassesForm : (old new : Bench) → Known → (unit form : ℕ) → Datum → List (Note FramedIdent) → ScopedState → code.Declared → Type 0
 PassesForm old new known unit form d notes s c = PassesTo old new unit form s (passed known unit form d notes s) c
 
 -- what a form set aside is expanded: what came of it, and the states once an item more is
@@ -181,7 +181,7 @@ GoesTo known form s before ss after last = (fs : List ℕ) → HaveCounted known
 pub record Finishing (old new : Bench) (known : Known) (unit form : ℕ) (front : Passing) (s : ScopedState) (before after : ℕ) (budget : Budget) (trace : Trace) (items : List ExpandedItem) : Type 0 where
   pub layout : List Frames
   pub state : ScopedState
-  pub notes : List (Note Place)
+  pub notes : List (Note FramedIdent)
   pub stands : UnitStands new.work new.scope layout state notes
   pub counts : CountsFor new.work state form budget trace
   pub number : state.unit ≡ unit
@@ -198,7 +198,7 @@ pub record Finishing (old new : Bench) (known : Known) (unit form : ℕ) (front 
 pub record FinishesTo (old new : Bench) (unit form : ℕ) (s : ScopedState) (c : code_form.UnitForm) : Type 0 where
   pub layout : List Frames
   pub state : ScopedState
-  pub notes : List (Note Place)
+  pub notes : List (Note FramedIdent)
   pub stands : UnitStands new.work new.scope layout state notes
   pub number : state.unit ≡ unit
   pub kept : KeepsOthers old new unit form s state
@@ -222,7 +222,7 @@ pub record FinishesForm (old new : Bench) (known : Known) (unit form : ℕ) (r :
 pub record FormsHeld (b : Bench) (unit place : ℕ) (ds : List code.Declared) : Type 0 where
   pub layout : List Frames
   pub state : ScopedState
-  pub notes : List (Note Place)
+  pub notes : List (Note FramedIdent)
   pub stands : UnitStands b.work b.scope layout state notes
   pub number : state.unit ≡ unit
   pub held : (m : ℕ) (d : code.Declared) → place ≤ m → slice_get ds m ≡ Some d → (r : Passing) × IsDeclared b.work b.region unit m state d r
@@ -266,7 +266,7 @@ pub record CanFinishAll (b : Bench) (unit : ℕ) (known : Known) (rs : List (ℕ
 pub record Finishes (b : Bench) (unit : ℕ) (known : Known) (rs : List (ℕ × Passing)) (s : ScopedState) (total : ℕ) (cs : List code_form.UnitForm) : Type 0 where
   pub layout : List Frames
   pub last : ScopedState
-  pub notes : List (Note Place)
+  pub notes : List (Note FramedIdent)
   pub stands : UnitStands b.work b.scope layout last notes
   pub ends : Ends (searched known) (numbers_of rs) (states_finished (searched known) enough_turns [] rs s) total last
   pub state : nat_lt max_total total ≡ false → last ≡ (finished (searched known) (expand (searched known) enough_turns) [] rs s).1
@@ -278,7 +278,7 @@ pub record Finishes (b : Bench) (unit : ℕ) (known : Known) (rs : List (ℕ × 
 -- the bench stands for this state
 pub record StandsAt (b : Bench) (s : ScopedState) : Type 0 where
   pub layout : List Frames
-  pub notes : List (Note Place)
+  pub notes : List (Note FramedIdent)
   pub stands : UnitStands b.work b.scope layout s notes
 
 -- what the forms of a unit come to, or nothing where work on it ended

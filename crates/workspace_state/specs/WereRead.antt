@@ -1,7 +1,7 @@
 -- Forms of units that were read from texts.
 use Rattle.std.specs.Prelude.{◌≡◌, List, [], ◌∷◌, false}
 use Rattle.scheme_model.specs.Declarations.{UnitForm}
-use Rattle.datum_reader.specs.Right.{WasRead}
+use Rattle.datum_reader.specs.WellFormed.{WasRead}
 use Rattle.library_table.specs.UnitsRead.{forms_of}
 use Rattle.library_table.specs.declared.units.UnitSource.{UnitSource}
 

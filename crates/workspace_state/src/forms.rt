@@ -7,10 +7,10 @@ ghost use Rattle.scheme_model.specs.Requirements.{Known};
 ghost use Rattle.scheme_model.specs.Program.{Prepared};
 ghost use Rattle.scheme_model.specs.ScopedProgram.{forms_over};
 ghost use Rattle.scheme_model.specs.Order.{Note, Item as ModelItem};
-ghost use Rattle.scheme_model.specs.ScopedExpansion.{Frames, Place, ScopedState};
+ghost use Rattle.scheme_model.specs.ScopedExpansion.{Frames, FramedIdent, ScopedState};
 ghost use Rattle.syntax_tree.specs.Names.{KeepsNames};
 ghost use Rattle.syntax_tree.specs.Works.{IsOpened, StandsFor, KeepsTrees, SameRegions, AddsIn};
-ghost use Rattle.datum_reader.specs.Right.{WasRead};
+ghost use Rattle.datum_reader.specs.WellFormed.{WasRead};
 ghost use Rattle.datum_reader.specs.Views.{datum_of};
 ghost use Rattle.library_table.specs.UnitsRead.{forms_of};
 ghost use Rattle.core_tree.specs.Units.{IsBlank};
@@ -133,7 +133,7 @@ fn declare<L: Ledger>(
     requires stands { CanPass bench.old unit number }
     ensures blank { form.now.declared ≡ true → IfOk result IsUntouched }
     ensures same { form.now.declared ≡ true → OnOk result (bench.new ≡ bench.old) }
-    ensures passes { (known : Known) (ls : List Frames) (s : ScopedState) (notes : List (Note Place)) → form.now.declared ≡ false → Knows bench.old.scope.libraries known →
+    ensures passes { (known : Known) (ls : List Frames) (s : ScopedState) (notes : List (Note FramedIdent)) → form.now.declared ≡ false → Knows bench.old.scope.libraries known →
         UnitStands bench.old.work bench.old.scope ls s notes → s.unit ≡ unit → IsFresh s number →
         IfOk result (PassesForm bench.old bench.new known unit number (datum_of form.now.datum) notes s) }
     ensures few { IfOk result (λ form. form.budget.nodes ≤ 200000) }
@@ -195,7 +195,7 @@ fn declare_tree<L: Ledger>(
     requires form { IsAtWork bench.old.work bench.old.region tree }
     requires stands { CanDeclare bench.old.work bench.old.scope number blank.budget blank.trace }
     requires blank { IsUntouched blank }
-    ensures passes { (known : Known) (ls : List Frames) (s : ScopedState) (notes : List (Note Place)) (t : ModelTree Identifier) → Knows bench.old.scope.libraries known →
+    ensures passes { (known : Known) (ls : List Frames) (s : ScopedState) (notes : List (Note FramedIdent)) (t : ModelTree Identifier) → Knows bench.old.scope.libraries known →
         UnitStands bench.old.work bench.old.scope ls s notes → CountsFor bench.old.work s number blank.budget blank.trace → StandsFor bench.old.work tree t →
         IfOk result (PassesTo bench.old bench.new s.unit number s (declared known number t notes s)) }
     ensures stays { OnOk result (Stays bench.old bench.new) }
@@ -281,7 +281,7 @@ fn finish<L: Ledger>(
     requires few { total.old ≤ max_total }
     ensures blank { IsUntouched form → IfOk result IsBlank }
     ensures same { IsUntouched form → OnOk result ((bench.new ≡ bench.old) × (total.new ≡ total.old)) }
-    ensures finishes { (known : Known) (ls : List Frames) (s : ScopedState) (notes : List (Note Place)) (r : Passing) → Knows bench.old.scope.libraries known →
+    ensures finishes { (known : Known) (ls : List Frames) (s : ScopedState) (notes : List (Note FramedIdent)) (r : Passing) → Knows bench.old.scope.libraries known →
         UnitStands bench.old.work bench.old.scope ls s notes → s.unit ≡ unit → IsDeclared bench.old.work bench.old.region unit number s form r →
         IfOk result (FinishesForm bench.old bench.new known unit number r s total.old total.new) }
     ensures stays { OnOk result (Stays bench.old bench.new) }
@@ -354,7 +354,7 @@ fn expand<L: Ledger>(
     requires item { (i : ModelItem Identifier) × ItemFor bench.old.work bench.old.region bench.old.scope.unit number item.now i }
     requires stands { CanDeclare bench.old.work bench.old.scope number budget.old trace.old }
     requires space { HasSpace (2 ^ 43) budget.old }
-    ensures expanded { (known : Known) (ls : List Frames) (s : ScopedState) (notes : List (Note Place)) (i : ModelItem Identifier) → Knows bench.old.scope.libraries known →
+    ensures expanded { (known : Known) (ls : List Frames) (s : ScopedState) (notes : List (Note FramedIdent)) (i : ModelItem Identifier) → Knows bench.old.scope.libraries known →
         UnitStands bench.old.work bench.old.scope ls s notes → CountsFor bench.old.work s number budget.old trace.old → ItemFor bench.old.work bench.old.region bench.old.scope.unit number item.now i →
         Expands bench.old.work bench.new.work bench.old.region bench.old.scope bench.new.scope budget.old budget.new ls number trace.new notes result (expanded known number i s) }
     ensures space { OnOk result (HasSpace (2 ^ 43) budget.new) }

@@ -8,7 +8,7 @@ ghost use Rattle.syntax_tree.specs.Names.{Names};
 ghost use Rattle.syntax_tree.specs.Meant.{AreEntries};
 ghost use Rattle.import_sets.specs.Sets.{TellsApart};
 ghost use Rattle.import_sets.specs.Given.{finished, has_name, place_origin, take_all};
-ghost use Rattle.import_sets.specs.Seen.{seen};
+ghost use Rattle.import_sets.specs.GatheringSeen.{seen};
 ghost use Rattle.workspace_state.specs.Libraries.{EachOnce, HaveMeaning};
 ghost use Rattle.workspace_state.specs.Joining.{AreApart, GatheredAs, GroupsMean, GroupsStand, plain_origin};
 

@@ -1,7 +1,7 @@
 //! The units of the documents, in their order (R7RS 5.1, 5.6): the libraries of a document, and then its program.
 ghost use Rattle.std.specs.Prelude.{◌≡◌, ◌+◌, ◌<◌, ◌^◌, length, map, vec_len, IfOk, OnOk};
 ghost use Rattle.datum_reader.specs.Views.{datum_of};
-ghost use Rattle.datum_reader.specs.Right.{WasRead};
+ghost use Rattle.datum_reader.specs.WellFormed.{WasRead};
 ghost use Rattle.library_table.specs.UnitsRead.{forms_of};
 ghost use Rattle.workspace_state.specs.Sound.{IsSound};
 ghost use Rattle.workspace_state.specs.DataRead.{AreReadIn, DataWereRead};

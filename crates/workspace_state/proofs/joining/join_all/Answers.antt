@@ -1,7 +1,7 @@
 use Rattle.std.proofs.Common.{[], sym, subst}
 use Rattle.scheme_model.specs.Entries as model
 use Rattle.import_sets.specs.Given.{Gathered}
-use Rattle.import_sets.specs.Seen.{seen}
+use Rattle.import_sets.specs.GatheringSeen.{seen}
 use Rattle.workspace_state.specs.Joining.{AreApart, GatheredAs, GroupsMean}
 use Rattle.workspace_state.proofs.GivenLaws.{gathered_as}
 use Rattle.workspace_state.proofs.JoiningLaws.{all_mean, all_apart}

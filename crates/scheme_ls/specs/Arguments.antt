@@ -3,8 +3,8 @@ use Rattle.std.specs.Prelude.{◌≡◌, ◌⊎◌, ℕ, List, [], ◌∷◌, ma
 use Rattle.std.specs.String.{string_bytes}
 use Rattle.std.specs.declared.string.String.{String}
 use Rattle.std.specs.declared.alloc.Global.{Global}
-use Rattle.scheme_ls.specs.declared.words.Command.{Command}
-use Rattle.scheme_ls.specs.declared.words.Command.TheVariants.{Arrows, Serve, Unknown}
+use Rattle.scheme_ls.specs.declared.arguments.Command.{Command}
+use Rattle.scheme_ls.specs.declared.arguments.Command.TheVariants.{Arrows, Serve, Unknown}
 
 abbrev pub texts : List (String Global) → List (List ℕ)
 texts words = map string_bytes words

@@ -1,24 +1,24 @@
 -- What is read from a text of at most 1,048,576 bytes is what a tree can be made of.
 use Rattle.std.proofs.Common.{◌≡◌, ℕ, ◌+◌, ◌*◌, ◌≤◌, length, List, ◌∷◌, refl, sym, ap, subst, arith, inl, inr}
-use Rattle.datum_reader.proofs.Seen.{few_seen}
+use Rattle.datum_reader.proofs.TokensSeen.{few_seen}
 use Rattle.scheme_tokens.specs.Lexical.{byte_count}
 use Rattle.scheme_model.specs.Data.{Place, Atom, spelled, implied, Datum, atom, list, vector, bytes, Data, none, part, row, tail_of, place_of}
 use Rattle.scheme_model.specs.Numbered.{at, between, up_to}
 use Rattle.scheme_model.specs.Written.{Written, alone, listed, tailed, vectored, byted, abbreviated, Parts, last, next, bytes_meant, meant, parts_meant, parts_depth}
-use Rattle.datum_reader.specs.Right.{IsIn, IsAmong, WasRead, IsRight, AreRight, CanSeed}
+use Rattle.datum_reader.specs.WellFormed.{IsIn, IsAmong, WasRead, IsWellFormed, AreWellFormed, CanSeed}
 use Rattle.datum_reader.proofs.Measured.{datum_size, data_size, datum_depth, data_depth, vector-size, vector-depth, seedable}
 use Rattle.datum_reader.proofs.Sizes.{all_size}
 use Rattle.datum_reader.proofs.Depths.{all_depth}
 
 -- what is meant is right
-tail_right : (d : Datum) → IsRight d → AreRight (tail_of d)
+tail_right : (d : Datum) → IsWellFormed d → AreWellFormed (tail_of d)
 tail_right (atom p k) h = (refl, h)
 tail_right (list p ds) h = h
 tail_right (vector p ds) h = (refl, h)
 tail_right (bytes p texts) h = (refl, h)
 
 mutual
-  written_right : (w : Written) → IsRight (meant w)
+  written_right : (w : Written) → IsWellFormed (meant w)
   written_right (alone s leaf) = tt
   written_right (listed a ps b) = parts_right ps none tt
   written_right (tailed a g w ps dot h t i b) = (written_right w, parts_right ps (tail_of (meant t)) (tail_right (meant t) (written_right t)))
@@ -26,21 +26,21 @@ mutual
   written_right (byted a bs b) = tt
   written_right (abbreviated s mark g w) = (tt, (written_right w, tt))
 
-  parts_right : (ps : Parts) (end : Data) → AreRight end → AreRight (row (parts_meant ps) end)
+  parts_right : (ps : Parts) (end : Data) → AreWellFormed end → AreWellFormed (row (parts_meant ps) end)
   parts_right (last g) end h = h
   parts_right (next g w ps) end h = (written_right w, parts_right ps end h)
 
 -- a datum is right, and its tree is at most so large and so deep
 record Fits (d : Datum) (size deep : ℕ) : Type 0 where
-  right : IsRight d
+  right : IsWellFormed d
   small : datum_size d ≤ size
   shallow : datum_depth d ≤ deep
 
 looser : (d : Datum) (a b m n : ℕ) → a ≤ b → m ≤ n → Fits d a m → Fits d b n
 looser d a b m n h k f = record { right = f.right; small = omega (arith, h, f.small); shallow = omega (arith, k, f.shallow) }
 
-itself : (d e : Datum) → d ≡ e → IsRight e → Fits d (datum_size e) (datum_depth e)
-itself d e h r = record { right = subst IsRight (sym h) r; small = omega (arith, ap datum_size h); shallow = omega (arith, ap datum_depth h) }
+itself : (d e : Datum) → d ≡ e → IsWellFormed e → Fits d (datum_size e) (datum_depth e)
+itself d e h r = record { right = subst IsWellFormed (sym h) r; small = omega (arith, ap datum_size h); shallow = omega (arith, ap datum_depth h) }
 
 -- what stands in a datum, or in what it adds as a tail, fits as the whole does
 record AllFit (e : Datum) : Type 0 where
@@ -59,19 +59,19 @@ in_bytes p texts = record {
   ending = λ d h. looser d _ _ _ _ (omega arith) (omega arith) (itself d (bytes p texts) h tt);
 }
 
-list_fits : (p : Place) (ds : Data) → AreRight ds → ((d : Datum) → IsAmong d ds → Fits d (data_size ds) (data_depth ds)) → (d : Datum) → IsIn d (list p ds) → Fits d (datum_size (list p ds)) (datum_depth (list p ds))
+list_fits : (p : Place) (ds : Data) → AreWellFormed ds → ((d : Datum) → IsAmong d ds → Fits d (data_size ds) (data_depth ds)) → (d : Datum) → IsIn d (list p ds) → Fits d (datum_size (list p ds)) (datum_depth (list p ds))
 list_fits p ds r f d (inl h) = itself d (list p ds) h r
 list_fits p ds r f d (inr h) = looser d _ _ _ _ (omega arith) (omega arith) (f d h)
 
-in_list : (p : Place) (ds : Data) → AreRight ds → ((d : Datum) → IsAmong d ds → Fits d (data_size ds) (data_depth ds)) → AllFit (list p ds)
+in_list : (p : Place) (ds : Data) → AreWellFormed ds → ((d : Datum) → IsAmong d ds → Fits d (data_size ds) (data_depth ds)) → AllFit (list p ds)
 in_list p ds r f = record { parts = list_fits p ds r f; ending = f }
 
-vector_fits : (p : Place) (ds : List Datum) → AreRight (row ds none) → ((d : Datum) → IsAmong d (row ds none) → Fits d (data_size (row ds none)) (data_depth (row ds none))) → (d : Datum) →
+vector_fits : (p : Place) (ds : List Datum) → AreWellFormed (row ds none) → ((d : Datum) → IsAmong d (row ds none) → Fits d (data_size (row ds none)) (data_depth (row ds none))) → (d : Datum) →
     IsIn d (vector p (row ds none)) → Fits d (datum_size (vector p (row ds none))) (datum_depth (vector p (row ds none)))
 vector_fits p ds r f d (inl h) = itself d (vector p (row ds none)) h r
 vector_fits p ds r f d (inr h) = looser d _ _ _ _ (omega (arith, vector-size p ds)) (omega (arith, vector-depth p ds)) (f d h)
 
-in_vector : (p : Place) (ds : List Datum) → AreRight (row ds none) → ((d : Datum) → IsAmong d (row ds none) → Fits d (data_size (row ds none)) (data_depth (row ds none))) → AllFit (vector p (row ds none))
+in_vector : (p : Place) (ds : List Datum) → AreWellFormed (row ds none) → ((d : Datum) → IsAmong d (row ds none) → Fits d (data_size (row ds none)) (data_depth (row ds none))) → AllFit (vector p (row ds none))
 in_vector p ds r f = record {
   parts = vector_fits p ds r f;
   ending = λ d h. looser d _ _ _ _ (omega arith) (omega arith) (vector_fits p ds r f d h);

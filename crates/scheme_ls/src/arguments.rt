@@ -1,6 +1,6 @@
 //! What the words after the program's name ask for.
 ghost use Rattle.std.specs.Prelude.{◌↔◌, IsTrue};
-ghost use Rattle.scheme_ls.specs.Words.{CommandOf, IsAlone, texts};
+ghost use Rattle.scheme_ls.specs.Arguments.{CommandOf, IsAlone, texts};
 
 /// What the program can be asked to do.
 #[derive(Clone, Copy, Debug, PartialEq, Eq)]

@@ -36,19 +36,19 @@ is_list (bytes p texts) = false
 
 -- no tail in it is a list
 abbrev mutual
-  pub IsRight : Datum → Type 0
-  IsRight (atom p a) = Unit {0}
-  IsRight (list p ds) = AreRight ds
-  IsRight (vector p ds) = AreRight ds
-  IsRight (bytes p texts) = Unit {0}
+  pub IsWellFormed : Datum → Type 0
+  IsWellFormed (atom p a) = Unit {0}
+  IsWellFormed (list p ds) = AreWellFormed ds
+  IsWellFormed (vector p ds) = AreWellFormed ds
+  IsWellFormed (bytes p texts) = Unit {0}
 
-  pub AreRight : Data → Type 0
-  AreRight none = Unit {0}
-  AreRight (part d ds) = IsRight d × AreRight ds
-  AreRight (tail d) = (is_list d ≡ false) × IsRight d
+  pub AreWellFormed : Data → Type 0
+  AreWellFormed none = Unit {0}
+  AreWellFormed (part d ds) = IsWellFormed d × AreWellFormed ds
+  AreWellFormed (tail d) = (is_list d ≡ false) × IsWellFormed d
 
 -- what a tree can be made of: the datum is right, and its tree as any form of any unit is small and shallow enough
 pub record CanSeed (d : Datum) : Type 0 where
-  pub right : IsRight d
+  pub right : IsWellFormed d
   pub small : (unit form : ℕ) → tree_size (seeded unit form d) ≤ max_tree_nodes
   pub shallow : (unit form : ℕ) → tree_depth (seeded unit form d) ≤ max_tree_depth

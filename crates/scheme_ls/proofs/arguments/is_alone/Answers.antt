@@ -2,7 +2,7 @@ use Rattle.std.proofs.Common.{◌∙◌, sym, ap}
 use Rattle.std.specs.Str.{bytes_eq}
 use Rattle.std.specs.Prelude.{List, ℕ, codes}
 use Rattle.scheme_ls.proofs.WordLists.{one_text, two_texts, one_is_command, two_are_command, two_are_other}
-use Rattle.scheme_ls.proofs.words.is_alone.Goals as goal
+use Rattle.scheme_ls.proofs.arguments.is_alone.Goals as goal
 
 pub returns-in-len1 : goal.returns-in-len1
 returns-in-len1 c =
