@@ -1,8 +1,7 @@
-use Rattle.std.proofs.Common.{◌≡◌, ℕ, ◌+◌, leb, true, false, rules, arith}
+use Rattle.std.proofs.Common.{◌≡◌, leb, true, false, rules, arith}
 use Rattle.std.specs.List.Sorted.{IsPartitionPoint}
 use Rattle.std.proofs.lemmas.List.Sorted.{IsPartitionPoint-from_clause}
 use Rattle.library_table.specs.declared.units.UnitForm.{UnitForm}
-use Rattle.workspace_state.specs.SetsGiven.{IsInForm}
 use Rattle.workspace_state.proofs.SetErrors.{form_found, forms_parted}
 use Rattle.workspace_state.proofs.entries.form_at.Goals as goal
 
