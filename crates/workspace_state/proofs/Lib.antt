@@ -43,6 +43,7 @@ pub mod DefinedLaws  -- What forms define, one form more
 pub mod UnitLaws  -- A unit that is begun on a bench, and what its forms tell once they are expanded
 pub mod ToldLaws  -- What is found, and the diagnostics that it is
 pub mod GivenLaws  -- What import sets of the code come to is what the definition's sets come to
+pub mod SetErrors  -- The Errors of import sets, by their codes and the forms in which the sets stand
 pub mod NameLaws  -- What can be exported of a unit is what the definition finds by name
 pub mod BaseLaws  -- What `(scheme base)` gives
 pub mod ExportLaws  -- Exports of the code stand for some, and what is wrong in them is the definition's

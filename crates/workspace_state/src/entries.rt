@@ -1,7 +1,8 @@
 //! What a unit imports (R7RS 5.2, 5.6.1), and what is wrong in its import sets.
 #![tactic(auto, using(crate::proofs::MeaningLaws::names_itself, crate::proofs::MeaningLaws::names_on, crate::proofs::MeaningLaws::mean_kept, crate::proofs::ImportLaws::exports_kept, crate::proofs::ImportLaws::groups_kept))]
 
-ghost use Rattle.std.specs.Prelude.{◌≡◌, ◌<◌, ◌&&◌, ◌++◌, ◌∷◌, ℕ, List, [], map, reverse, length, Option, Some, OnOk, IfOk, IfSome};
+ghost use Rattle.std.specs.Prelude.{◌≡◌, ◌<◌, ◌&&◌, ◌++◌, ◌∷◌, ℕ, List, [], map, reverse, length, Option, Some, Result, OnOk, IfOk, IfSome};
+ghost use Rattle.std.specs.List.{zip};
 ghost use Rattle.std.specs.Option.{option_map};
 ghost use Rattle.std.specs.BTreeMap.{get_by_text};
 ghost use Rattle.scheme_model.specs.Requirements.{LibraryName};
@@ -13,15 +14,15 @@ ghost use Rattle.scheme_model.specs.Diagnostics.{Bytes, bytes_of, clash_diagnost
 ghost use Rattle.syntax_tree.specs.Names.{Names, KeepsNames};
 ghost use Rattle.syntax_tree.specs.Meant.{AreEntries, IsEntry};
 ghost use Rattle.core_tree.specs.Names.{AllMatch};
-ghost use Rattle.core_tree.specs.Units.{kind_as};
-ghost use Rattle.import_sets.specs.Sets.{IsSet, IsSetOf, TellsApart};
+ghost use Rattle.core_tree.specs.Units.{import_code, kind_as, set_errors};
+ghost use Rattle.import_sets.specs.Sets.{FailsAs, IsSet, IsSetOf, TellsApart};
 ghost use Rattle.workspace_state.specs.Joining.{AreApart, GroupsMean, GroupsStand};
 ghost use Rattle.workspace_state.specs.Libraries.{EachOnce, ExportsMean, HaveMeaning};
-ghost use Rattle.workspace_state.specs.Found.{all_told, told_at};
+ghost use Rattle.workspace_state.specs.Found.{all_told, error_at, errors_in, told_at};
 ghost use Rattle.workspace_state.specs.Places.{AreFoundIn, ArePlaces, IsAtIn, CanPlace, bytes_at, spans_of};
 ghost use Rattle.workspace_state.specs.Readings.{Read, span_seen};
 ghost use Rattle.workspace_state.specs.Imports.{SetMeans};
-ghost use Rattle.workspace_state.specs.SetsGiven.{AreEntriesIf, AreLibraries, ComesTo, ImportsAs, IsSetFault, IsSpec, exports_at, set_exports, with_set};
+ghost use Rattle.workspace_state.specs.SetsGiven.{AreEntriesIf, AreInForms, AreLibraries, ComesTo, ImportsAs, IsInForm, IsSetFault, IsSpec, exports_at, set_exports, with_set};
 ghost use Rattle.workspace_state.specs.Wording.{worded};
 
 use crate::breaking::{Firsts, library_in};
@@ -116,6 +117,9 @@ pub fn given_to(
         AreLibraries work.old.symbols libraries.entry spelled all rs → (p : program.Prepared) → ImportsAs spelled source.now p →
         (reads : List Read) → (us : List program.UnitResult) → ArePlaces places.entry reads us → (r : program.UnitResult) → unit_at us unit ≡ Some r → r.unit ≡ p →
         IfOk result (λ given. all_told given.findings.items ≡ set_diagnostics (bytes_of (spans_of reads) us) p.placed.document p.specs (unit_entries all rs p).1) }
+    ensures errors { (spelled : LibraryName → List ℕ) → (all : List program.Placed) → (rs : List program.UnitResult) →
+        AreLibraries work.old.symbols libraries.entry spelled all rs → (p : program.Prepared) → ImportsAs spelled source.now p → (forms : List ℕ) → AreInForms source.now forms →
+        IfOk result (λ given. errors_in given.findings.items ≡ set_errors (zip forms (unit_entries all rs p).1)) }
 {
     let mut findings = Vec::new(alloc);
     let gathering = gathered(
@@ -159,6 +163,9 @@ fn gathered(
         (reads : List Read) → (us : List program.UnitResult) → ArePlaces places.entry reads us → (r : program.UnitResult) → unit_at us unit ≡ Some r → r.unit ≡ p →
         OnOk result (all_told findings.new.items
         ≡ all_told findings.old.items ++ set_diagnostics (bytes_of (spans_of reads) us) p.placed.document p.specs (unit_entries all rs p).1) }
+    ensures errors { (spelled : LibraryName → List ℕ) → (all : List program.Placed) → (rs : List program.UnitResult) →
+        AreLibraries symbols.old libraries.entry spelled all rs → (p : program.Prepared) → ImportsAs spelled source.now p → (forms : List ℕ) → AreInForms source.now forms →
+        OnOk result (errors_in findings.new.items ≡ errors_in findings.old.items ++ set_errors (zip forms (unit_entries all rs p).1)) }
 {
     if imports_nothing(source) {
         return Ok(base_given(alloc, symbols)?);
@@ -213,6 +220,9 @@ fn sets_given(
         (reads : List Read) → (us : List program.UnitResult) → ArePlaces places.entry reads us →
         OnOk result (all_told findings.new.items
         ≡ all_told findings.old.items ++ set_diagnostics (bytes_of (spans_of reads) us) document ss (import_all all rs [] ss).1) }
+    ensures errors { (spelled : LibraryName → List ℕ) → (all : List program.Placed) → (rs : List program.UnitResult) →
+        AreLibraries symbols.old libraries.entry spelled all rs → (ss : List program.ImportSpec) → AllMatch (IsSpec spelled) source.now.imports ss → (forms : List ℕ) → AreInForms source.now forms →
+        OnOk result (errors_in findings.new.items ≡ errors_in findings.old.items ++ set_errors (zip forms (import_all all rs [] ss).1)) }
 {
     let mut gathering = Gathering::new(alloc);
     for spec in source.imports.as_slice() {
@@ -257,6 +267,10 @@ fn with_set(
         GroupsStand symbols.old gathering.groups.items es → (reads : List Read) → (us : List program.UnitResult) → ArePlaces places.entry reads us →
         OnOk result (all_told findings.new.items
         ≡ all_told findings.old.items ++ set_diagnostics (bytes_of (spans_of reads) us) set.entry.document (s ∷ []) ((with_set all rs s.set es).1 ∷ [])) }
+    ensures errors { (spelled : LibraryName → List ℕ) → (all : List program.Placed) → (rs : List program.UnitResult) →
+        AreLibraries symbols.old libraries.entry spelled all rs → (s : program.ImportSpec) → IsSpec spelled set.entry.spec.now s → (es : List model.Entry) →
+        GroupsStand symbols.old gathering.groups.items es →
+        OnOk result (errors_in findings.new.items ≡ errors_in findings.old.items ++ set_errors ((set.entry.form, (with_set all rs s.set es).1) ∷ [])) }
 {
     match of_set(alloc, symbols, libraries, &set.spec.set)? {
         SetGives::Entries(entries) => {
@@ -275,7 +289,9 @@ fn with_set(
 }
 
 /// The form in which the bytes from here on stand.
-fn form_at(forms: &[UnitForm], start: u32) -> u32 {
+fn form_at(forms: &[UnitForm], start: u32) -> u32
+    ensures { (n : ℕ) → IsInForm forms.now start n → result ≡ n }
+{
     let behind = forms.partition_point(|form| form.datum.span.start <= start);
     match u32::try_from(behind.saturating_sub(1)) {
         Ok(form) => form,
@@ -344,8 +360,19 @@ fn chosen(alloc: Global, symbols: &Symbols, set: &ImportSet, exports: &[Entry]) 
     symbols.told_apart();
     match entries_of(alloc, set, exports) {
         Ok(entries) => Ok(SetGives::Entries(entries)),
-        Err(ImportFault::Memory) => Err(Memory),
-        Err(fault) => Ok(SetGives::Faulty(fault)),
+        Err(fault) => faulty(fault),
+    }
+}
+
+/// A set's fault, unless memory ran out.
+fn faulty(fault: ImportFault) -> Mem<SetGives>
+    ensures means { (names : Names) → IfOk result (SetMeans names) }
+    ensures exact { (names : Names) → (r : Result (List model.Entry) model.ImportFault) → FailsAs fault r →
+        IfOk result (λ gives. ComesTo names gives (λ before. program.after_set before r)) }
+{
+    match fault {
+        ImportFault::Memory => Err(Memory),
+        _ => Ok(SetGives::Faulty(fault)),
     }
 }
 
@@ -426,6 +453,9 @@ fn with_entries(
     ensures told { (names : Names) → TellsApart names → (es : List model.Entry) → GroupsStand names gathering.groups.items es →
         (ds : List model.Entry) → AreEntries names entries ds → OnOk result (all_told findings.new.items ≡ all_told findings.old.items
         ++ clash_diagnostics (record { document = set.entry.document; span = span_seen set.entry.spec.now.span }) (model.gather es ds []).1) }
+    ensures errors { (names : Names) → TellsApart names → (es : List model.Entry) → GroupsStand names gathering.groups.items es →
+        (ds : List model.Entry) → AreEntries names entries ds → OnOk result (errors_in findings.new.items
+        ≡ errors_in findings.old.items ++ map (λ (name : List ℕ). (52, set.entry.form)) (model.gather es ds []).1) }
     ensures findings { (count : ℕ) → set.entry.document < count → AreFoundIn count findings.old.items → OnOk result (AreFoundIn count findings.new.items) }
 {
     let Gathering {
@@ -451,6 +481,7 @@ fn add_clashes(
     ensures inside { (count : ℕ) → set.entry.document < count → AreFoundIn count findings.old.items → OnOk result (AreFoundIn count findings.new.items) }
     ensures told { OnOk result (all_told findings.new.items
         ≡ all_told findings.old.items ++ clash_diagnostics (record { document = set.entry.document; span = span_seen set.entry.spec.now.span }) (reverse clashes.items)) }
+    ensures errors { OnOk result (errors_in findings.new.items ≡ errors_in findings.old.items ++ map (λ (name : List ℕ). (52, set.entry.form)) (reverse clashes.items)) }
 {
     let mut clashes = clashes;
     while let Some(name) = clashes.pop() {
@@ -465,6 +496,7 @@ fn add_unknown(alloc: Global, findings: &mut Vec<Finding>, set: SetAt<'_>) -> Me
     ensures inside { (count : ℕ) → set.entry.document < count → AreFoundIn count findings.old.items → OnOk result (AreFoundIn count findings.new.items) }
     ensures told { (s : program.ImportSpec) → (spelled : LibraryName → List ℕ) → IsSpec spelled set.entry.spec.now s → (bytes : Occ → Bytes) →
         OnOk result (all_told findings.new.items ≡ all_told findings.old.items ++ set_diagnostics bytes set.entry.document (s ∷ []) (program.Unknown ∷ [])) }
+    ensures errors { OnOk result (errors_in findings.new.items ≡ errors_in findings.old.items) }
 {
     let at = set.at(set.spec.library);
     Ok(add_found(alloc, findings, Some(at), set.form, 102, "")?)
@@ -484,6 +516,8 @@ fn add_fault(
     ensures told { (f : model.ImportFault) → IsSetFault fault f → (reads : List Read) → (us : List program.UnitResult) → ArePlaces places.entry reads us →
         OnOk result (all_told findings.new.items ≡ all_told findings.old.items
         ++ import_fault (bytes_of (spans_of reads) us) (record { document = set.entry.document; span = span_seen set.entry.spec.now.span }) f) }
+    ensures errors { (f : model.ImportFault) → IsSetFault fault f →
+        OnOk result (errors_in findings.new.items ≡ errors_in findings.old.items ++ (import_code f, set.entry.form) ∷ []) }
 {
     let whole = set.at(set.spec.span);
     match &fault {
@@ -515,6 +549,7 @@ pub fn add_found(
 ) -> Mem<()>
     ensures inside { (count : ℕ) → IsAtIn count at → AreFoundIn count findings.old.items → OnOk result (AreFoundIn count findings.new.items) }
     ensures told { OnOk result (all_told findings.new.items ≡ all_told findings.old.items ++ told_at at code (worded code name.now)) }
+    ensures errors { OnOk result (errors_in findings.new.items ≡ errors_in findings.old.items ++ error_at code form) }
 {
     findings.push(Finding::new(alloc, at, form, code, name)?)?;
     Ok(())

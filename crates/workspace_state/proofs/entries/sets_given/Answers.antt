@@ -1,15 +1,16 @@
-use Rattle.std.proofs.Common.{◌≡◌, List, [], length, drop, sym, ap, subst, arith}
-use Rattle.scheme_model.specs.Program.{ImportSpec}
+use Rattle.std.proofs.Common.{◌≡◌, List, [], length, drop, sym, ap, subst, arith, ℕ, ◌∷◌, ◌++◌, ◌∙◌}
 use Rattle.core_tree.specs.Names.{AllMatch}
+use Rattle.core_tree.specs.Units.{set_errors}
 use Rattle.import_sets.specs.Given.{Gathered}
-use Rattle.import_sets.specs.declared.gather.Group.{Group}
 use Rattle.library_table.specs.declared.units.ImportSpec as code
-use Rattle.workspace_state.specs.Found.{all_told}
+use Rattle.library_table.specs.declared.units.UnitForm.{UnitForm}
+use Rattle.workspace_state.specs.Found.{all_told, errors_in}
 use Rattle.workspace_state.specs.Joining.{AreApart, GroupsMean}
-use Rattle.workspace_state.specs.SetsGiven.{IsSpec}
+use Rattle.workspace_state.specs.SetsGiven.{IsInForm, IsSpec, with_set}
 use Rattle.workspace_state.proofs.GivenLaws.{item_at, libraries_kept, none_left, sets_begin, sets_done, sets_next}
 use Rattle.workspace_state.proofs.Matched.{matched_at}
 use Rattle.workspace_state.proofs.MeaningLaws.{names_itself, names_on}
+use Rattle.workspace_state.proofs.SetErrors.{errors_begin, errors_done, errors_go_on}
 use Rattle.workspace_state.proofs.entries.sets_given.Goals as goal
 
 pub loop-spec-init : goal.loop-spec-init
@@ -22,6 +23,7 @@ loop-spec-init c =
       clashes = ap (λ (g : Gathered). g.clashes) c.new-gathering.ensures;
       findings = c.requires.findings;
       sets = λ spelled all rs libs ss specs. sets_begin c.args.symbols.now c.new-gathering.result.groups.items (all_told c.args.findings.now.items) c.args.places c.args.document all rs ss none;
+      errors = λ spelled all rs libs ss specs forms within. errors_begin c.args.symbols.now c.new-gathering.result.groups.items (errors_in c.args.findings.now.items) all rs ss forms none;
     }
 
 pub loop-spec-preserved : goal.loop-spec-preserved
@@ -44,6 +46,19 @@ loop-spec-preserved c =
           let known = libraries_kept old mid c.loop-spec.invariant.names c.args.libraries spelled all rs libs in
           sets_next mid new c.loop-spec.gathering.groups.items c.in_ok-gathering.gathering.groups.items (all_told c.args.findings.now.items) (all_told c.loop-spec.findings.items) (all_told c.with_set.new.findings.items) c.args.places
           c.args.document all rs ss i m.0 m.1 h (c.in_ok-gathering.ensures.exact spelled all rs known m.0 m.2 h.es h.stand) (c.in_ok-gathering.ensures.told spelled all rs known m.0 m.2 h.es h.stand);
+      errors = λ spelled all rs libs ss specs forms within.
+          let there = subst (λ (l : List code.ImportSpec). AllMatch (IsSpec spelled) l ss) (sym c.as_slice-spec-items.ensures) specs in
+          let at = item_at xs i c.spec-item.result (omega arith) c.spec-item.is in
+          let m = matched_at (IsSpec spelled) xs ss i c.spec-item.result there at in
+          let fs = c.args.source.now.forms in
+          let inside = subst (λ (l : List code.ImportSpec). AllMatch (λ (s : code.ImportSpec) (n : ℕ). IsInForm fs s.span.start n) l forms) (sym c.as_slice-spec-items.ensures) within in
+          let k = matched_at (λ (s : code.ImportSpec) (n : ℕ). IsInForm fs s.span.start n) xs forms i c.spec-item.result inside at in
+          let own : c.form_at-form.result ≡ k.0 = c.form_at-form.ensures k.0 (subst (λ (l : List UnitForm). IsInForm l c.spec-item.result.span.start k.0) (sym c.as_slice.ensures) k.2) in
+          let h = c.loop-spec.invariant.errors spelled all rs libs ss specs forms within in
+          let known = libraries_kept old mid c.loop-spec.invariant.names c.args.libraries spelled all rs libs in
+          errors_go_on mid new c.loop-spec.gathering.groups.items c.in_ok-gathering.gathering.groups.items (errors_in c.args.findings.now.items) (errors_in c.loop-spec.findings.items) (errors_in c.with_set.new.findings.items) all rs ss forms i m.0 k.0
+          m.1 k.1 h (c.in_ok-gathering.ensures.exact spelled all rs known m.0 m.2 h.es h.stand)
+          (c.in_ok-gathering.ensures.errors spelled all rs known m.0 m.2 h.es h.stand ∙ ap (λ (n : ℕ). errors_in c.loop-spec.findings.items ++ set_errors ((n, (with_set all rs m.0.set h.es).1) ∷ [])) own);
     }
 
 pub returns-clause-exact : goal.returns-clause-exact
@@ -56,3 +71,8 @@ returns-clause-told c = λ spelled all rs libs ss specs reads us places.
     (sets_done c.loop-spec.symbols c.loop-spec.gathering.groups.items (all_told c.args.findings.now.items) (all_told c.loop-spec.findings.items) c.args.places c.args.document all rs ss (drop c.loop-spec.spec-index ss)
     (none_left (IsSpec spelled) c.args.source.now.imports ss c.loop-spec.spec-index specs (let e = ap (λ (l : List code.ImportSpec). length l) c.as_slice-spec-items.ensures in omega arith)) (c.loop-spec.invariant.sets spelled all rs libs ss specs)).found
     reads us places
+
+pub returns-clause-errors : goal.returns-clause-errors
+returns-clause-errors c = λ spelled all rs libs ss specs forms within.
+    errors_done c.loop-spec.symbols c.loop-spec.gathering.groups.items (errors_in c.args.findings.now.items) (errors_in c.loop-spec.findings.items) all rs ss (drop c.loop-spec.spec-index ss) forms (drop c.loop-spec.spec-index forms)
+    (none_left (IsSpec spelled) c.args.source.now.imports ss c.loop-spec.spec-index specs (let e = ap (λ (l : List code.ImportSpec). length l) c.as_slice-spec-items.ensures in omega arith)) (c.loop-spec.invariant.errors spelled all rs libs ss specs forms within)
