@@ -1,7 +1,6 @@
-use Rattle.std.proofs.Common.{List, Option, Some, None, map, sym, ◌∙◌, subst}
+use Rattle.std.proofs.Common.{List, map, sym, ◌∙◌, subst}
 use Rattle.scheme_model.specs.Entries as model
 use Rattle.scheme_model.specs.Live.{listed_uses, pair_uses, set_uses}
-use Rattle.syntax_tree.specs.Names.{Names}
 use Rattle.syntax_tree.specs.Meant.{AreEntries}
 use Rattle.syntax_tree.specs.declared.units.Entry.{Entry}
 use Rattle.import_sets.specs.Sets.{IsSet, TellsApart, named, paired}
