@@ -42,6 +42,7 @@ pub mod StandInLaws
 pub mod UnboundLaws
 pub mod ImportLaws
 pub mod DefinedLaws
+pub mod HidingLaws
 pub mod ToldLaws
 pub mod GivenLaws
 pub mod NameLaws
