@@ -81,3 +81,4 @@ pub mod Collecting  -- Units that are put together, one more
 pub mod UnitsTurns  -- Units in turn
 pub mod CollectLaws  -- Units that are put together by what they came to are those of the definition's program
 pub mod ReadUnits  -- Units that were judged, as they are handed on to be expanded
+pub mod HidingLaws  -- Definitions that hide an import (R7RS 5.3) are told one after another, the latest first

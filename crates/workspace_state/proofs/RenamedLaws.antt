@@ -1,5 +1,5 @@
 -- An export stands under another name where its two identifiers stand at two places, as they were read from two tokens.
-use Rattle.std.proofs.Common.{◌≡◌, ℕ, suc, ◌-◌, ◌≤◌, ◌<◌, Bool, true, false, List, [], ◌∷◌, ◌++◌, Option, Some, None, refl, sym, ap, ◌∙◌, subst, arith}
+use Rattle.std.proofs.Common.{◌≡◌, ℕ, suc, ◌-◌, ◌≤◌, ◌<◌, Bool, true, false, List, [], ◌∷◌, ◌++◌, Option, Some, None, refl, arith}
 use Rattle.std.specs.Prelude.{codes, not, ◌&&◌, ◌==◌}
 use Rattle.std.proofs.lemmas.Bool.Decides.{nat_tests}
 use Rattle.scheme_model.specs.declared.Occ.{Occ}
@@ -57,7 +57,7 @@ renamed_in unit form first low o (part r (part (list p s) ds)) rise le = tt
 renamed_in unit form first low o (part r (part (vector p s) ds)) rise le = tt
 renamed_in unit form first low o (part r (part (bytes p s) ds)) rise le = tt
 renamed_in unit form first low o (part r (part (atom p (spelled (Name s b))) none)) rise le = tt
-renamed_in unit form first low o (part r (part (atom p (spelled (Name s b))) (tail b))) rise le = tt
+renamed_in unit form first low o (part r (part (atom p (spelled (Name s b))) (tail e))) rise le = tt
 renamed_in unit form first low o (part r (part (atom p (spelled (Name s b))) (part (atom p2 (spelled (Numeral s2))) ds))) rise le = tt
 renamed_in unit form first low o (part r (part (atom p (spelled (Name s b))) (part (atom p2 (spelled (Quoted s2))) ds))) rise le = tt
 renamed_in unit form first low o (part r (part (atom p (spelled (Name s b))) (part (atom p2 (spelled (Character s2))) ds))) rise le = tt

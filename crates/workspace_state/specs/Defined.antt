@@ -1,14 +1,16 @@
 -- What forms define, by the numbers of its identifiers.
-use Rattle.std.specs.Prelude.{◌≡◌, ℕ, ◌<◌, ◌==◌, List, [], ◌∷◌, length, slice_get, Option, Some, None, if◌then◌else◌}
+use Rattle.std.specs.Prelude.{◌≡◌, ℕ, ◌<◌, ◌==◌, List, [], ◌∷◌, ◌++◌, length, slice_get, codes, Option, Some, None, if◌then◌else◌}
 use Rattle.std.specs.List.{flat_map}
+use Rattle.scheme_model.specs.declared.Occ.{Occ}
 use Rattle.scheme_model.specs.Ident.{Ident as Identifier, Written, Inserted}
 use Rattle.scheme_model.specs.Entries as model
+use Rattle.scheme_model.specs.Diagnostics.{Diagnostic, Bytes, at_bytes, or_start}
 use Rattle.syntax_tree.specs.Names.{Names}
 use Rattle.syntax_tree.specs.Meant.{AreEntries}
 use Rattle.syntax_tree.specs.declared.meaning.Meaning.TheVariants as code
 use Rattle.syntax_tree.specs.declared.units.Entry.{Entry}
 use Rattle.core_tree.specs.declared.cores.Binder.{Binder}
-use Rattle.import_sets.specs.Given.{place_origin}
+use Rattle.import_sets.specs.Given.{has_name, place_origin}
 
 -- the symbol of an identifier that is written, and not inserted
 abbrev pub written_symbol : Identifier → Option (List ℕ)
@@ -42,3 +44,13 @@ pub record FindsNames (names : Names) (es : List Entry) (find : List ℕ → Opt
   pub stand : List model.Entry
   pub are : AreEntries names es stand
   pub finds : (s : List ℕ) → find s ≡ model.entry_at stand s
+
+-- the name of a symbol that entries have
+abbrev pub if_named : List Entry → Option (List ℕ) → Option (List ℕ)
+if_named es None = None
+if_named es (Some s) = if has_name es s then Some s else None
+
+-- what is told of a definition that hides this name
+abbrev pub told_hiding : (Occ → Bytes) → (unit form : ℕ) → Option Occ → Option (List ℕ) → List Diagnostic
+told_hiding bytes unit form occ None = []
+told_hiding bytes unit form occ (Some s) = at_bytes (bytes (or_start unit form occ)) 101 (codes "definition hides import " ++ s) ∷ []

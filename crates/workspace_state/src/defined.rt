@@ -3,14 +3,17 @@ ghost use Rattle.std.specs.Prelude.{◌≡◌, ◌<◌, ◌++◌, ℕ, List, map
 ghost use Rattle.std.specs.Option.{option_map};
 ghost use Rattle.scheme_model.specs.Ident.{Ident as Identifier};
 ghost use Rattle.scheme_model.specs.Entries as model;
-ghost use Rattle.scheme_model.specs.Program.{names_of_unit};
+ghost use Rattle.scheme_model.specs.Program.{UnitResult, names_of_unit};
+ghost use Rattle.scheme_model.specs.Diagnostics.{bytes_of, hiding_diagnostics};
 ghost use Rattle.scheme_model.specs.Substitution.{Table};
 ghost use Rattle.syntax_tree.specs.Names.{Names};
 ghost use Rattle.syntax_tree.specs.Meant.{AreEntries};
 ghost use Rattle.core_tree.specs.Units.{AreDefinitions, defined_by, definitions_from};
-ghost use Rattle.workspace_state.specs.Defined.{AreKnown, FindsNames, named_all, named_as, symbol_at, symbol_in, written_symbol};
+ghost use Rattle.workspace_state.specs.Defined.{AreKnown, FindsNames, if_named, named_all, named_as, symbol_at, symbol_in, told_hiding, written_symbol};
+ghost use Rattle.workspace_state.specs.Found.{all_told};
 ghost use Rattle.workspace_state.specs.Libraries.{HaveMeaning};
-ghost use Rattle.workspace_state.specs.Places.{AreFoundIn, CanPlace};
+ghost use Rattle.workspace_state.specs.Places.{AreFoundIn, ArePlaces, CanPlace, spans_of};
+ghost use Rattle.workspace_state.specs.Readings.{Read};
 
 use crate::entries::add_found;
 use crate::findings::Finding;
@@ -148,7 +151,7 @@ fn add_name(
     Ok(())
 }
 
-/// Adds the definitions that hide an import.
+/// Adds the definitions that hide an import, the latest first.
 pub fn add_hiding(
     alloc: Global,
     symbols: &Symbols,
@@ -161,20 +164,50 @@ pub fn add_hiding(
     requires known { AreKnown symbols.now defined.now }
     requires documents { 0 < length places.documents.now }
     requires places { CanPlace places }
-    ensures { AreFoundIn (length places.entry.documents.now) findings.old.items → OnOk result (AreFoundIn (length places.entry.documents.now) findings.new.items) }
+    ensures inside { AreFoundIn (length places.entry.documents.now) findings.old.items → OnOk result (AreFoundIn (length places.entry.documents.now) findings.new.items) }
+    ensures told { (table : Table) → AreDefinitions symbols.now (reverse defined.now) (defined_by unit table) →
+        (es : List model.Entry) → AreEntries symbols.now joined.now.entries.items es →
+        (reads : List Read) → (us : List UnitResult) → ArePlaces places.entry reads us → OnOk result (all_told findings.new.items
+        ≡ all_told findings.old.items ++ hiding_diagnostics (bytes_of (spans_of reads) us) unit es table) }
 {
-    for (form, binder) in defined {
-        if let Some(name) = hidden(symbols, joined, *binder) {
-            let at = places.at_or_form(binder.occ, unit, *form);
-            add_found(alloc, findings, Some(at), *form, 101, name)?;
-        }
+    for definition in defined.iter().rev() {
+        add_hidden(alloc, symbols, places, unit, *definition, joined, findings)?;
     }
     Ok(())
+}
+
+/// Adds a definition with its form, if it hides an import.
+fn add_hidden(
+    alloc: Global,
+    symbols: &Symbols,
+    places: Places<'_>,
+    unit: u32,
+    definition: (u32, Binder),
+    joined: &Joined,
+    findings: &mut Vec<Finding>,
+) -> Mem<()>
+    requires known { definition.1.ident < length symbols.now.idents }
+    requires documents { 0 < length places.documents.now }
+    requires places { CanPlace places }
+    ensures inside { AreFoundIn (length places.entry.documents.now) findings.old.items → OnOk result (AreFoundIn (length places.entry.documents.now) findings.new.items) }
+    ensures told { (i : Identifier) → slice_get symbols.now.idents definition.1.ident ≡ Some i →
+        (reads : List Read) → (us : List UnitResult) → ArePlaces places.entry reads us → OnOk result (all_told findings.new.items
+        ≡ all_told findings.old.items
+        ++ told_hiding (bytes_of (spans_of reads) us) unit definition.0 definition.1.occ (if_named joined.now.entries.items (written_symbol i))) }
+{
+    let (form, binder) = definition;
+    let Some(name) = hidden(symbols, joined, binder) else {
+        return Ok(());
+    };
+    let at = places.at_or_form(binder.occ, unit, form);
+    Ok(add_found(alloc, findings, Some(at), form, 101, name)?)
 }
 
 /// The imported name that a definition hides, where it hides one.
 fn hidden<'a>(symbols: &'a Symbols, joined: &Joined, binder: Binder) -> Option<&'a str>
     requires { binder.ident < length symbols.now.idents }
+    ensures { (i : Identifier) → slice_get symbols.now.idents binder.ident ≡ Some i →
+        option_map (λ s. s.now) result ≡ if_named joined.now.entries.items (written_symbol i) }
 {
     let name = written(symbols, binder.ident)?;
     if joined.has(name) { Some(name) } else { None }

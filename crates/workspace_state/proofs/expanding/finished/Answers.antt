@@ -47,7 +47,7 @@ returns-in_err-names-clause-names c = names_itself c.args.work.now.symbols
 
 pub returns-clause-findings : goal.returns-clause-findings
 returns-clause-findings c =
-    c.in_ok-add_no_import.ensures (c.in_ok-add_unbound_if.ensures (c.in_ok-add_hiding.ensures (c.in_ok-add_faults.ensures.inside (c.in_ok-exports.ensures.findings c.requires.findings))))
+    c.in_ok-add_no_import.ensures (c.in_ok-add_unbound_if.ensures (c.in_ok-add_hiding.ensures.inside (c.in_ok-add_faults.ensures.inside (c.in_ok-exports.ensures.findings c.requires.findings))))
 
 pub returns-clause-exports : goal.returns-clause-exports
 returns-clause-exports c =
