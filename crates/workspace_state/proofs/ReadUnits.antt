@@ -7,17 +7,13 @@ use Rattle.scheme_model.specs.Program.{Placed, Prepared, prepared, prepare, faul
 use Rattle.scheme_model.specs.ScopedProgram.{scoped_before}
 use Rattle.library_table.specs.declared.units.UnitSource.{UnitSource}
 use Rattle.workspace_state.specs.Broken.{told, AreJudged, without_if, Forgets}
-use Rattle.workspace_state.specs.Came.{IsSourceOf, AreSourcesOf, HeadsBy}
+use Rattle.workspace_state.specs.Came.{IsSourceOf, AreSourcesOf, AreReadOf, HeadsBy}
 use Rattle.workspace_state.specs.declared.breaking.WholeFault.{WholeFault}
 use Rattle.workspace_state.specs.declared.listing.Head.{Head}
 
 -- before any is expanded they are broken as they were judged
 pub judged_heads : (us : List Placed) (old new : List Head) → AreJudged us old new → HeadsBy us scoped_before new
 judged_heads us old new judged n u h there at = let j = judged.each n h at in (j.1.1 u there).fault
-
--- each source is that of its unit, as it was read
-abbrev pub AreReadOf : (LibraryName → List ℕ) → List Placed → List UnitSource → Type 0
-AreReadOf spelled us cs = (n : ℕ) (u : Placed) (c : UnitSource) → slice_get us n ≡ Some u → slice_get cs n ≡ Some c → IsSourceOf spelled (prepared us n u) None c
 
 -- a source keeps all but its imports, and these where its unit isn't broken
 module _ (spelled : LibraryName → List ℕ) (p : Prepared) (fault : Option model.WholeFault) (s : UnitSource) (h : IsSourceOf spelled p None s) where
