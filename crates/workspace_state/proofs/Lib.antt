@@ -80,6 +80,7 @@ pub mod Collecting  -- Units that are put together, one more
 pub mod UnitsTurns  -- Units in turn
 pub mod CollectLaws  -- Units that are put together by what they came to are those of the definition's program
 pub mod ReadUnits  -- Units that were judged, as they are handed on to be expanded
+pub mod DocumentsData  -- The data of the documents are those that their texts are read as
 pub mod KnownSteps  -- The names of libraries, one datum and one document more at a time, and the name that the front of a library has
 pub mod ListedUnits  -- Units as they are listed
 pub mod ListedDocuments  -- The units of documents, one datum and one document more at a time
