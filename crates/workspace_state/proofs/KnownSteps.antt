@@ -47,9 +47,9 @@ names_more ds k d old o low is name =
     append_assoc old (names_at (take k ds)) (option_to_list o)
     ∙ ap (λ (ts : List (List ℕ)). old ++ ts)
     (ap (λ (q : Option (List ℕ)). names_at (take k ds) ++ option_to_list q) name
-      ∙ ap (λ (ts : List (List ℕ)). names_at (take k ds) ++ ts) (sym (texts_listed (name_in (datum_of d))))
-      ∙ sym (map-append library_text (library_names (data_of (take k ds))) (option_to_list (name_in (datum_of d))))
-      ∙ ap (map library_text) (sym (one_last (data_of (take k ds)) (datum_of d)) ∙ ap library_names (sym more)))
+    ∙ ap (λ (ts : List (List ℕ)). names_at (take k ds) ++ ts) (sym (texts_listed (name_in (datum_of d))))
+    ∙ sym (map-append library_text (library_names (data_of (take k ds))) (option_to_list (name_in (datum_of d))))
+    ∙ ap (map library_text) (sym (one_last (data_of (take k ds)) (datum_of d)) ∙ ap library_names (sym more)))
 
 -- ---- the names of documents
 
@@ -92,8 +92,8 @@ by_parts (part a none) = None
 by_parts (part a (tail e)) = None
 by_parts (part a (part n ds)) = name_or (library_name_of (λ s. s) (symbol_tree n))
 
-unfolding by_parts
 name_parts : (known : Known) (d : Datum) → (library_of known d).name ≡ by_parts (parts_in d)
+unfolding by_parts
 name_parts known (atom p a) = refl
 name_parts known (vector p ds) = refl
 name_parts known (bytes p bs) = refl

@@ -93,7 +93,7 @@ module _ (spelled : LibraryName → List ℕ) (n : ℕ) (c : UnitSource) where
   source_in us vs p q e h = record {
     kind = h.kind ∙ ap (λ (u : source.UnitSource). u.kind) e;
     forms = sym (ap (λ (u : source.UnitSource). forms_or_none u.forms) e) ∙ h.forms;
-    imports = λ none. subst (λ (u : source.UnitSource). AllMatch (IsSpec spelled) c.imports (specs_from n 0 (forms_or_none u.forms))) e (h.imports refl);
+    imports = λ whole. subst (λ (u : source.UnitSource). AllMatch (IsSpec spelled) c.imports (specs_from n 0 (forms_or_none u.forms))) e (h.imports refl);
     exports = subst (λ (u : source.UnitSource). AreExports c.exports (exports_from n 0 (forms_or_none u.forms))) e h.exports;
     single = subst (λ (u : source.UnitSource). HaveOneIfSame (exports_from n 0 (forms_or_none u.forms))) e h.single;
   }
@@ -105,9 +105,9 @@ module _ (spelled : LibraryName → List ℕ) (written : WritesProper spelled) (
       record {
         kind = kinds_same c.kind ∙ h.kind;
         forms = forms;
-        imports = λ none. subst (λ (fs : List UnitForm). AllMatch (IsSpec spelled) c.imports (specs_from n 0 fs)) (sym forms)
+        imports = λ whole. subst (λ (fs : List UnitForm). AllMatch (IsSpec spelled) c.imports (specs_from n 0 fs)) (sym forms)
             (specs_match spelled c.imports (specs_from n 0 (forms_of c.forms)) h.imports
-              (subst (λ (fs : List UnitForm). AreImports spelled c.imports (specs_from n 0 fs)) forms (imports_spelled spelled written n c u d h)));
+            (subst (λ (fs : List UnitForm). AreImports spelled c.imports (specs_from n 0 fs)) forms (imports_spelled spelled written n c u d h)));
         exports = subst (λ (fs : List UnitForm). AreExports c.exports (exports_from n 0 fs)) (sym forms)
             (exports_read c.exports n (forms_of c.forms) (declared_read (forms_of c.forms) read) h.exports);
         single = all_from n 0 (forms_or_none u.forms);
@@ -117,7 +117,7 @@ module _ (spelled : LibraryName → List ℕ) (written : WritesProper spelled) (
   library_at : (known : Known) (d : Datum) (c : UnitSource) (name : Option (List ℕ)) → FormsRead (forms_of c.forms) → IsSource n c (library_of known d) d → name ≡ option_map library_text (library_of known d).name → IsReadAt spelled n (library_of known d) name c None
   library_at known d c name read h is = record {
     name = is;
-    spells = λ none. is ∙ (sym h.name ∙ source_spelled spelled written known n c d h);
+    spells = λ whole. is ∙ (sym h.name ∙ source_spelled spelled written known n c d h);
     bad = ap (λ (f : Flat). option_map told (declared_fault f None)) (sym h.forms);
     named = source_spelled spelled written known n c d h ∙ ap (option_map spelled) (sym (usable_name (library_of known d) (forms_of c.forms) h.forms));
     source = source_of (library_of known d) c d h read;
@@ -128,7 +128,7 @@ module _ (spelled : LibraryName → List ℕ) (written : WritesProper spelled) (
   blank_at : (known : Known) (d e : Datum) (c : UnitSource) (span : Span) (name : Option (List ℕ)) → IsBlankLibrary c → (library_of known d).forms ≡ Err e → span ≡ bytes_of e → name ≡ option_map library_text (library_of known d).name →
       IsReadAt spelled n (library_of known d) name c (Some (fault.BadDeclaration span))
   blank_at known d e c span name blank bad at is =
-      let none : forms_or_none (library_of known d).forms ≡ [] = ap forms_or_none bad in
+      let nothing : forms_or_none (library_of known d).forms ≡ [] = ap forms_or_none bad in
       record {
         name = is;
         spells = λ k. (let z : Some (model.BadDeclaration e) ≡ None = sym (ap (λ (f : Flat). declared_fault f None) bad) ∙ k in absurd cc);
@@ -136,11 +136,11 @@ module _ (spelled : LibraryName → List ℕ) (written : WritesProper spelled) (
         named = blank.name ∙ ap (option_map spelled) (sym (no_name_if (library_of known d) e bad));
         source = record {
           kind = ap kind_as blank.kind ∙ sym (library_kind known d (behind_head d));
-          forms = none ∙ ap forms_of (sym blank.forms);
+          forms = nothing ∙ ap forms_of (sym blank.forms);
           imports = λ k. subst (λ (cs : List code_import.ImportSpec). AllMatch (IsSpec spelled) cs (specs_from n 0 (forms_or_none (library_of known d).forms))) (sym blank.imports)
-              (subst (λ (fs : List UnitForm). AllMatch (IsSpec spelled) [] (specs_from n 0 fs)) (sym none) tt);
+              (subst (λ (fs : List UnitForm). AllMatch (IsSpec spelled) [] (specs_from n 0 fs)) (sym nothing) tt);
           exports = subst (λ (cs : List code_export.ExportSpec). AreExports cs (exports_from n 0 (forms_or_none (library_of known d).forms))) (sym blank.exports)
-              (subst (λ (fs : List UnitForm). AreExports [] (exports_from n 0 fs)) (sym none) tt);
+              (subst (λ (fs : List UnitForm). AreExports [] (exports_from n 0 fs)) (sym nothing) tt);
           single = all_from n 0 (forms_or_none (library_of known d).forms);
         };
         read = subst (λ (fs : List code_form.UnitForm). FormsRead (forms_of fs)) (sym blank.forms) tt;
@@ -152,7 +152,7 @@ module _ (spelled : LibraryName → List ℕ) (written : WritesProper spelled) (
       let unnamed : u.name ≡ None = program_name ds u one in
       record {
         name = sym (ap (option_map library_text) unnamed);
-        spells = λ none. sym (ap (option_map spelled) unnamed);
+        spells = λ whole. sym (ap (option_map spelled) unnamed);
         bad = ap (λ (f : Flat). option_map told (declared_fault f None)) (sym h.forms);
         named = h.name ∙ ap (option_map library_text) unnamed ∙ sym (ap (option_map spelled) (usable_name u (forms_of c.forms) h.forms ∙ unnamed));
         source = source_of u c d h read;
@@ -181,9 +181,9 @@ module _ (spelled : LibraryName → List ℕ) (n : ℕ) (document : ℕ) (u : so
   faults false = is.bad
 
   names : (f : Flat) → u.forms ≡ f → (b : Bool) → nat_le max_units n ≡ b → cond b (Some model.TooMany) (declared_fault f None) ≡ None → name ≡ option_map spelled (name_if n u)
-  names f e true test none = absurd cc
-  names (Err d) e false test none = absurd cc
-  names (Ok fs) e false test none =
+  names f e true test whole = absurd cc
+  names (Err d) e false test whole = absurd cc
+  names (Ok fs) e false test whole =
       let lt : n < max_units = grind (arith, nat_tests) in
       is.spells (ap (λ (f : Flat). declared_fault f None) e) ∙ ap (option_map spelled) (sym (foremost_name n u lt ∙ usable_name u fs e))
 
@@ -192,7 +192,7 @@ module _ (spelled : LibraryName → List ℕ) (n : ℕ) (document : ℕ) (u : so
     told = record { document = doc; kind = ap kind_as kind ∙ is.source.kind; name = called ∙ is.name };
     listed = record {
       fault = broken ∙ faults (nat_le max_units n);
-      name = λ none. called ∙ names u.forms refl (nat_le max_units n) refl none;
+      name = λ whole. called ∙ names u.forms refl (nat_le max_units n) refl whole;
       imports = imports;
     };
     named = is.named;
@@ -230,7 +230,7 @@ module _ (spelled : LibraryName → List ℕ) (all : List Placed) (old new : Uni
           let d_is : d ≡ c = is_last old.sources.items c (length all) n d far.sources k.0 at in
           subst (λ (m : ℕ). IsOne spelled m q g d) (sym k.0)
           (subst (λ (r : Placed). IsOne spelled (length all) r g d) (sym k.1)
-            (subst (λ (f : Head). IsOne spelled (length all) p f d) (sym g_is) (subst (λ (e : UnitSource). IsOne spelled (length all) p h e) (sym d_is) one)))
+          (subst (λ (f : Head). IsOne spelled (length all) p f d) (sym g_is) (subst (λ (e : UnitSource). IsOne spelled (length all) p h e) (sym d_is) one)))
 
   more_so_far : AreSoFar spelled (all ++ p ∷ []) new
   more_so_far = record {
@@ -246,7 +246,7 @@ pub unit_added : (document : ℕ) (u : source.UnitSource) (old new : Units) (h :
 unit_added document u old new h c name bad read doc kind called imports broken heads sources spelled written all far =
     more_so_far spelled all old new (placed_in document u) h c far heads sources
     (subst (λ (n : ℕ). IsOne spelled n (placed_in document u) h c) far.sources
-      (one_of spelled (length old.sources.items) document u name c bad (read spelled written) h doc kind called imports broken))
+    (one_of spelled (length old.sources.items) document u name c bad (read spelled written) h doc kind called imports broken))
 
 -- ---- units of a document
 
@@ -283,10 +283,11 @@ units_up spelled zero n cs ps many each = tt
 units_up spelled (suc m) n [] [] many each = tt
 units_up spelled (suc m) n [] (p ∷ ps) many each = absurd (omega arith)
 units_up spelled (suc m) n (c ∷ cs) [] many each = absurd (omega arith)
-units_up spelled (suc m) n (c ∷ cs) (p ∷ ps) many each =
-    (subst (λ (k : ℕ). IsUnit spelled k c p.source) (omega arith) (each 0 c p (omega arith) refl refl),
-      units_up spelled m (suc n) cs ps (omega arith)
-      (λ k d q lt at there. subst (λ (i : ℕ). IsUnit spelled i d q.source) (moved k) (each (suc k) d q (omega arith) at there)))
+units_up spelled (suc m) n (c ∷ cs) (p ∷ ps) many each = (
+  subst (λ (k : ℕ). IsUnit spelled k c p.source) (omega arith) (each 0 c p (omega arith) refl refl),
+  units_up spelled m (suc n) cs ps (omega arith)
+      (λ k d q lt at there. subst (λ (i : ℕ). IsUnit spelled i d q.source) (moved k) (each (suc k) d q (omega arith) at there)),
+)
   where
     moved : (k : ℕ) → n + suc k ≡ suc n + k
     moved k = omega arith

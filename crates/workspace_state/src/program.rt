@@ -70,11 +70,7 @@ pub fn read_program<L: Ledger>(alloc: Global, store: &Store, steps: &mut Steps<L
 }
 
 /// Expands the units of documents, from nothing.
-fn work_on<L: Ledger>(
-    alloc: Global,
-    documents: &[Document],
-    steps: &mut Steps<L>,
-) -> Mem<Worked>
+fn work_on<L: Ledger>(alloc: Global, documents: &[Document], steps: &mut Steps<L>) -> Mem<Worked>
     requires { AreReadIn documents.now }
     ensures units { IfOk result (λ worked. IsSound (length documents.now) worked.units) }
     ensures count { IfOk result (λ worked. vec_len worked.expanded ≡ vec_len worked.units.heads) }

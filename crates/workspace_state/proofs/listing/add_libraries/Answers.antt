@@ -30,7 +30,7 @@ loop-datum-preserved c =
       added = λ has knows.
           subst (λ (us : List source.UnitSource). AddsRead c.args.document us c.args.units.now c.add_library.new.units) (libraries_more has c.args.items.now l.datum-index c.datum-item.result c.loop-datum-test.true c.datum-item.is)
           (added_more c.args.document (libraries_in has (data_of (take l.datum-index c.args.items.now))) (libraries_in has (datum_of c.datum-item.result ∷ [])) c.args.units.now l.units c.add_library.new.units (l.invariant.added has knows)
-            (c.in_ok-add_library.ensures.added has knows));
+          (c.in_ok-add_library.ensures.added has knows));
     }
 
 pub returns-clause-sound : goal.returns-clause-sound
