@@ -1,7 +1,7 @@
 -- The names of libraries, one datum and one document more at a time, and the name that the front of a library has.
 use Rattle.std.proofs.Common.{◌≡◌, ℕ, ◌+◌, ◌<◌, ◌≤◌, Bool, true, false, cond, List, [], ◌∷◌, ◌++◌, map, take, length, get_or, Option, Some, None, Ok, Err, refl, sym, ap, ◌∙◌, append_assoc, append-nil}
 use Rattle.std.specs.Option.{option_map, option_to_list}
-use Rattle.std.proofs.lemmas.List.{map_more, map-append, take_all}
+use Rattle.std.proofs.lemmas.List.{map_more, map-append, take_more}
 use Rattle.scheme_model.specs.Data.{Place, Datum, atom, list, vector, bytes, Data, none, part, tail, row}
 use Rattle.scheme_model.specs.Declarations.{is_library, library_of, library_names, symbol_tree, name_or, no_name, Flat}
 use Rattle.scheme_model.specs.Program as program
