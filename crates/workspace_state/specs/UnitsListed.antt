@@ -24,10 +24,10 @@ WritesProper spelled = (n : LibraryName) → IsProper n → spelled n ≡ librar
 -- ---- one unit
 
 -- the unit for a place was read: this is its library's name, its source, and what breaks it whatever the others are
-pub record IsReadAt (spelled : LibraryName → List ℕ) (n : ℕ) (u : source.UnitSource) (name : Option (List ℕ)) (c : UnitSource) (bad : Option WholeFault) : Type 0 where
-  pub name : name ≡ option_map library_text u.name
-  pub spells : declared_fault u.forms None ≡ None → name ≡ option_map spelled u.name
-  pub bad : bad ≡ option_map told (declared_fault u.forms None)
+pub record IsReadAt (spelled : LibraryName → List ℕ) (n : ℕ) (u : source.UnitSource) (called : Option (List ℕ)) (c : UnitSource) (broken : Option WholeFault) : Type 0 where
+  pub name : called ≡ option_map library_text u.name
+  pub spells : declared_fault u.forms None ≡ None → called ≡ option_map spelled u.name
+  pub bad : broken ≡ option_map told (declared_fault u.forms None)
   pub named : c.name ≡ option_map spelled (name_if 0 u)
   pub source : IsSourceOf spelled (prepared [] n (record { document = 0; source = u })) None c
   pub read : FormsRead (forms_of c.forms)

@@ -97,8 +97,8 @@ pub fn library_name(alloc: Global, datum: &Datum) -> Mem<Option<Text>>
     let none = KnownLibraries::of(alloc, &Items::new(alloc))?;
     match read_unit(alloc, &front, 0, &none) {
         Ok(source) => Ok(source.name),
-        Err(LibraryFault::Memory) => Err(Memory),
-        Err(_) => Ok(None),
+        Err(LibraryFault::BadDeclaration(_)) => Ok(None),
+        Err(_) => Err(Memory),
     }
 }
 

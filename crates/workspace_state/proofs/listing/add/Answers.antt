@@ -11,5 +11,5 @@ returns-clause-sound c =
 
 pub returns-clause-added : goal.returns-clause-added
 returns-clause-added c = λ u read.
-    let place : c.len-fault.result ≡ length c.args.units.now.sources.items = omega (arith, c.args.units.now.sources.ok.0) in
+    let place : c.len-2.result ≡ length c.args.units.now.sources.items = omega (arith, c.args.units.now.sources.ok.0) in
     unit_added c.args.document u c.args.units.now _ _ c.args.source c.args.name c.args.bad read refl refl refl c.new.ensures (c.fault_at-fault.ensures ∙ ap (λ (n : ℕ). fault_with n c.args.bad) place) c.in_ok-push.ensures.items c.in_ok-push-2.ensures.items

@@ -25,8 +25,8 @@ returns-in-None-clause-added c =
     subst (λ (o : Option UnitSource). IsProgramRead c.len-number.result (filter not_library (data_of c.args.items.now)) o) c.in-None.is c.in_ok-read_program.ensures in
     subst (λ (us : List source.UnitSource). AddsRead c.args.document us c.args.units.now c.args.units.now) (sym (ap program_in none)) (nothing_added c.args.document c.args.units.now)
 
-pub returns-clause-added : goal.returns-clause-added
-returns-clause-added c =
+pub returns-in_ok-add-in-Some-clause-added : goal.returns-in_ok-add-in-Some-clause-added
+returns-in_ok-add-in-Some-clause-added c =
     let r : IsProgramRead c.len-number.result (filter not_library (data_of c.args.items.now)) (Some c.in-Some.source) =
     subst (λ (o : Option UnitSource). IsProgramRead c.len-number.result (filter not_library (data_of c.args.items.now)) o) c.in-Some.is c.in_ok-read_program.ensures in
     let place : c.len-number.result ≡ length c.args.units.now.sources.items = omega (arith, c.args.units.now.sources.ok.0) in
@@ -34,4 +34,4 @@ returns-clause-added c =
     let read : IsReadFor c.len-number.result r.2 None c.in-Some.source None =
     program_for c.len-number.result (filter not_library (data_of c.args.items.now)) r.2 c.in-Some.source r.0 (program_forms_read not_library c.args.items.now r.0 r.1 r.2 fs c.requires.read r.3 r.4 r.5.forms) r.4 r.5 in
     subst (λ (us : List source.UnitSource). AddsRead c.args.document us c.args.units.now c.add.new.units) (sym r.4)
-    (c.in_ok-add.ensures.added r.2 (subst (λ (n : ℕ). IsReadFor n r.2 None c.in-Some.source None) place read))
+    (c.in_ok-add-in-Some.ensures.added r.2 (subst (λ (n : ℕ). IsReadFor n r.2 None c.in-Some.source None) place read))
