@@ -61,11 +61,12 @@ pub fn read_program<L: Ledger>(alloc: Global, store: &Store, steps: &mut Steps<L
     ensures { IfOk result (IsReading store.now) }
 {
     let documents = read(alloc, store)?;
+    let worked = work_on(alloc, documents.as_slice(), steps)?;
     let Worked {
         bench,
         units,
         expanded,
-    } = work_on(alloc, documents.as_slice(), steps)?;
+    } = worked;
     Ok(collect(alloc, documents, units, bench.work, expanded)?)
 }
 

@@ -14,10 +14,10 @@ pub work_on-requires : goal.work_on-requires
 work_on-requires g c = subst (λ (ds : List Document). AreReadIn ds) (sym c.as_slice.ensures.value) c.in_ok-documents.ensures.read
 
 pub collect-requires-clause-units : goal.collect-requires-clause-units
-collect-requires-clause-units g c = subst (λ (n : ℕ). IsSound n c.in_ok-work_on.field-0.units) c.as_slice.ensures.len c.in_ok-work_on.ensures.units
+collect-requires-clause-units g c = subst (λ (n : ℕ). IsSound n c.in_ok-worked.worked.units) c.as_slice.ensures.len c.in_ok-worked.ensures.units
 
 pub collect-requires-clause-found : goal.collect-requires-clause-found
-collect-requires-clause-found g c = subst (λ (n : ℕ). AreAllFound n c.in_ok-work_on.field-0.expanded.items) c.as_slice.ensures.len c.in_ok-work_on.ensures.found
+collect-requires-clause-found g c = subst (λ (n : ℕ). AreAllFound n c.in_ok-worked.worked.expanded.items) c.as_slice.ensures.len c.in_ok-worked.ensures.found
 
 pub returns : goal.returns
 returns g c =

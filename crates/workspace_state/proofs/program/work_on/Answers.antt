@@ -3,6 +3,7 @@ use Rattle.std.proofs.Common.{◌≡◌, ℕ, ◌<◌, [], ◌∷◌, List, true
 use Rattle.std.specs.FinMap as map
 use Rattle.scheme_model.specs.Prelude.{prelude}
 use Rattle.scheme_model.specs.Program.{is_in, prelude_unit, max_units, known_in, units_of}
+use Rattle.scheme_model.specs.ScopedProgram.{scoped_before}
 use Rattle.library_table.specs.declared.units.UnitSource.{UnitSource}
 use Rattle.library_table.specs.Named.{place_named}
 use Rattle.library_table.specs.Orders.{ArePlaces}
@@ -87,14 +88,14 @@ returns-clause-up g c = λ ds have spelled spells written.
     let told = known_listed ds c.in_ok-known.known (c.in_ok-known.ensures ds have) in
     let listed = c.in_ok-units.ensures.listed ds have (c.in_ok-libraries.ensures.knows (known_in ds) told) spelled written in
     let knows = c.know.ensures.knows (known_in ds) (c.in_ok-of.ensures.knows (known_in ds) told) in
+    let many : vec_len v.heads ≡ length us = omega (arith, listed.listed.count, c.in_ok-order.ensures.heads.size, u.heads.ok.0, v.heads.ok.0) in
     let finds : FindsLibraries spelled us c.in_ok-firsts.firsts =
     record { spells = spells; units = unit_found spelled spells us (take max_units u.sources.items) listed.units _ (λ s. c.in_ok-firsts.ensures.named s ∙ ap (λ (cs : List UnitSource). place_named s 0 (take max_units cs)) c.as_slice.ensures.value) } in
-    let heads : HeadsBy us _ v.heads.items = judged_heads us u.heads.items v.heads.items (c.in_ok-order.ensures.judged spelled spells us listed.units listed.listed) in
+    let heads : HeadsBy us scoped_before v.heads.items = judged_heads us u.heads.items v.heads.items (c.in_ok-order.ensures.judged spelled spells us listed.units listed.listed) in
     let sources : AreSourcesOf spelled us v.sources.items = forgotten_sources spelled us v.heads.items u.sources.items v.sources.items listed.read heads c.in_ok-order.ensures.forgotten in
-    let goes : GoesOn _ _ = record {
+    let goes : GoesOn _ scoped_before = record {
       state = prelude_state prelude;
       stands = record { layout = [] ∷ []; notes = []; stands = c.know.ensures.rests c.in_ok-bench.bench.work ([] ∷ []) (prelude_state prelude) [] c.in_ok-bench.ensures.stands };
       continues = prelude_continues;
     } in
-    let many : vec_len v.heads ≡ length us = omega (arith, listed.listed.count, c.in_ok-order.ensures.heads.size, u.heads.ok.0, v.heads.ok.0) in
     c.in_ok-expanded.ensures.up spelled us (known_in ds) (c.as_slice-2.ensures ∙ c.in_ok-order.ensures.turns spelled spells us listed.units listed.listed) many finds knows goes heads sources
