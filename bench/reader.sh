@@ -21,7 +21,7 @@ cat > "$timed/src/main.rt" <<'RATTLE'
 #![tactic(auto)]
 ghost use Rattle.std.specs.Prelude.{◌≤◌, All, length};
 ghost use Rattle.datum_reader.specs.Views.{datum_of};
-ghost use Rattle.datum_reader.specs.Right.{WasRead};
+ghost use Rattle.datum_reader.specs.WellFormed.{WasRead};
 
 use datum_reader::{Datum, read_all, seed};
 use ls_base::limits::MAX_TEXT;

@@ -8,7 +8,7 @@ use Rattle.scheme_model.specs.Trees.{Tail, proper, placed_in}
 use Rattle.scheme_model.specs.Ident.{Ident as Identifier}
 use Rattle.scheme_model.specs.Measures.{tree_size, trees_size, tail_size, tree_depth, trees_depth, tail_depth}
 use Rattle.scheme_model.specs.Data.{Place, Atom, spelled, implied, Datum, atom, list, vector, bytes, Data, none, part, tail, row, place_of}
-use Rattle.datum_reader.specs.Right.{IsRight, CanSeed}
+use Rattle.datum_reader.specs.WellFormed.{IsWellFormed, CanSeed}
 use Rattle.datum_reader.specs.Seeded.{atom_tree, tree_of, parts_of, end_of}
 
 -- ---- of the tree in unit 0
@@ -100,7 +100,7 @@ module _ (unit : ℕ) (place : ℕ → Occ) where
 -- ---- what a tree can be made of
 
 -- one tree that is small and shallow enough tells of all
-pub seedable : (d : Datum) → IsRight d → datum_size d ≤ max_tree_nodes → datum_depth d ≤ max_tree_depth → CanSeed d
+pub seedable : (d : Datum) → IsWellFormed d → datum_size d ≤ max_tree_nodes → datum_depth d ≤ max_tree_depth → CanSeed d
 seedable d r s h = record {
   right = r;
   small = λ unit form. subst (λ (n : ℕ). n ≤ max_tree_nodes) (sym (size_is unit (placed_in unit form (place_of d).first) d)) s;

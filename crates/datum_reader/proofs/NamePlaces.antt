@@ -7,7 +7,7 @@ use Rattle.scheme_model.specs.Data.{spelled, implied, Datum, atom, list, vector,
 use Rattle.scheme_model.specs.Numbered.{Numbered, number_from}
 use Rattle.scheme_model.specs.Written.{Written, alone, listed, tailed, vectored, byted, abbreviated, Gap, nothing, skipped, Parts, last, next, Bytes, last_byte, byte, token, written_tokens, gap_tokens, parts_tokens, bytes_tokens, meant, parts_meant}
 use Rattle.scheme_model.specs.Trees.{placed_in}
-use Rattle.datum_reader.specs.Right.{IsIn, IsAmong, WasRead}
+use Rattle.datum_reader.specs.WellFormed.{IsIn, IsAmong, WasRead}
 use Rattle.datum_reader.specs.Seeded.{tree_of, parts_of, end_of, seeded}
 use Rattle.datum_reader.specs.NameTokens.{IsNameToken, NamesAreTokens, AllAreTokens, TailIsTokens}
 

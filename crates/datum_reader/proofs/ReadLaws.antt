@@ -12,7 +12,7 @@ use Rattle.scheme_model.specs.Numbered.{number_from}
 use Rattle.datum_reader.specs.Texts.{TextReads, IsReading}
 use Rattle.datum_reader.specs.Open.{State, state, after_all, finished, ends, read}
 use Rattle.datum_reader.specs.declared.datum.Datum as code
-use Rattle.datum_reader.proofs.Seen.{text_once, front_reads}
+use Rattle.datum_reader.proofs.TokensSeen.{text_once, front_reads}
 use Rattle.datum_reader.proofs.Passing.{reads_parts}
 
 -- what is open behind the tokens of a text

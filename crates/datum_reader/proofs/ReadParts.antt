@@ -4,7 +4,7 @@ use Rattle.ls_base.specs.Limits.{max_text}
 use Rattle.scheme_tokens.specs.Lexical.{byte_count}
 use Rattle.scheme_model.specs.Data.{Datum, atom, list, vector, bytes, Data, none, part, tail, row}
 use Rattle.datum_reader.specs.Texts.{IsReading}
-use Rattle.datum_reader.specs.Right.{IsIn, IsAmong, WasRead}
+use Rattle.datum_reader.specs.WellFormed.{IsIn, IsAmong, WasRead}
 
 in_self : (d : Datum) → IsIn d d
 in_self (atom p k) = refl

@@ -21,7 +21,7 @@ use Rattle.datum_reader.specs.declared.datum.Shape.TheVariants as shape
 use Rattle.datum_reader.specs.declared.datum.Shape.TheOpen.{Shape-F}
 use Rattle.datum_reader.specs.declared.datum.Shape.TheFolds.{fold-roll-Shape}
 use Rattle.scheme_model.specs.Data.{Place, Atom, spelled, implied, Datum, atom, list, vector, bytes, Data, none, row}
-use Rattle.datum_reader.specs.Right.{AreRight, WasRead, CanSeed}
+use Rattle.datum_reader.specs.WellFormed.{AreWellFormed, WasRead, CanSeed}
 use Rattle.datum_reader.specs.Seeded.{atom_tree, tree_of, parts_of, end_of}
 use Rattle.datum_reader.specs.Seeding.{part_tree, parts_trees, tail_tree, CanBeSeeded, TailCanBeSeeded}
 use Rattle.datum_reader.specs.Texts.{IsReading}
@@ -69,7 +69,7 @@ all_cons P x xs p q (suc k) d lt = q k d (omega arith)
 
 -- trees can be made of these data
 record CanSeedAll (ds : Data) : Type 0 where
-  right : AreRight ds
+  right : AreWellFormed ds
   small : data_size ds ≤ max_tree_nodes
   shallow : data_depth ds ≤ max_tree_depth
 

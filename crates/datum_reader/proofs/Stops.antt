@@ -16,7 +16,7 @@ use Rattle.datum_reader.specs.Open.{State, state, after, after_all, goes_on, fin
 use Rattle.datum_reader.specs.declared.datum.Datum as code
 use Rattle.scheme_model.specs.Written.{nothing, Parts, last, parts_tokens, parts_meant, parts_depth}
 use Rattle.scheme_model.specs.Stopping.{AreData, CanGoOn, at_token, at_end, at_fault}
-use Rattle.datum_reader.proofs.Seen.{text_once, front_reads}
+use Rattle.datum_reader.proofs.TokensSeen.{text_once, front_reads}
 use Rattle.datum_reader.proofs.StepLaws.{stays_err}
 use Rattle.datum_reader.proofs.ReadLaws.{reading_reads}
 use Rattle.datum_reader.proofs.Passing.{pass_parts}

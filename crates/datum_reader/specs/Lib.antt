@@ -1,10 +1,10 @@
-pub mod Open
-pub mod Right
-pub mod Seeded
-pub mod Seeding
-pub mod Texts
-pub mod Views
-pub mod NameTokens
-pub mod Looks
-pub mod Forms
-pub mod FirstTokens
+pub mod Open  -- What is open while data are read from tokens, and how each token changes it (R7RS 7.1.2)
+pub mod Seeded  -- The tree of a datum (R7RS 7.1.2) as a form of a unit
+pub mod Texts  -- Texts, by the tokens that scheme_tokens tells of them
+pub mod WellFormed  -- Data as reading gives them
+pub mod Views  -- What the values of the code stand for
+pub mod Seeding  -- The trees of parts of a form, and what seeding them leaves of the nodes and names that stood before
+pub mod NameTokens  -- Which tokens of a text the identifiers of a form were read from (R7RS 7.1.2)
+pub mod Looks  -- What is seen of a datum (R7RS 7.1.2)
+pub mod Forms  -- The places of tokens in forms
+pub mod FirstTokens  -- The bytes of the first tokens of data

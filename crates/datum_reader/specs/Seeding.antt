@@ -21,7 +21,7 @@ use Rattle.syntax_tree.specs.declared.trees.table.Region.{Region}
 use Rattle.syntax_tree.specs.declared.trees.faults.PoolFault.{PoolFault}
 use Rattle.syntax_tree.specs.declared.trees.faults.PoolFault.TheVariants as fault
 use Rattle.datum_reader.specs.declared.datum.Datum.{Datum}
-use Rattle.datum_reader.specs.Right.{is_list, CanSeed}
+use Rattle.datum_reader.specs.WellFormed.{is_list, CanSeed}
 use Rattle.datum_reader.specs.Seeded.{tree_of}
 use Rattle.datum_reader.specs.Views.{datum_of}
 

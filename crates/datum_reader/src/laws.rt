@@ -4,7 +4,7 @@ ghost use Rattle.ls_base.specs.Limits.{max_text};
 ghost use Rattle.scheme_tokens.specs.Lexical.{byte_count};
 ghost use Rattle.scheme_model.specs.Data.{Datum, place_of};
 ghost use Rattle.scheme_model.specs.Faults.{Stop};
-ghost use Rattle.datum_reader.specs.Right.{IsIn, WasRead, CanSeed};
+ghost use Rattle.datum_reader.specs.WellFormed.{IsIn, WasRead, CanSeed};
 ghost use Rattle.datum_reader.specs.NameTokens.{NamesAreTokens};
 ghost use Rattle.datum_reader.specs.Seeded.{seeded};
 ghost use Rattle.datum_reader.specs.Texts.{StopsAt, IsReading};

@@ -7,7 +7,7 @@ ghost use Rattle.scheme_model.specs.Ident.{root};
 ghost use Rattle.syntax_tree.specs.Names.{KeepsNames};
 ghost use Rattle.syntax_tree.specs.Interned.{interned};
 ghost use Rattle.syntax_tree.specs.Works.{StandsFor, IsOpened, LiesIn, KeepsTrees, SameRegions, AddsIn, live_count};
-ghost use Rattle.datum_reader.specs.Right.{WasRead};
+ghost use Rattle.datum_reader.specs.WellFormed.{WasRead};
 ghost use Rattle.datum_reader.specs.Seeded.{seeded};
 ghost use Rattle.datum_reader.specs.Seeding.{part_tree, parts_trees, tail_tree, CanBeSeeded, TailCanBeSeeded, Seeds, SeedsAll, SeedsTail, Prepares};
 ghost use Rattle.datum_reader.specs.Views.{datum_of};

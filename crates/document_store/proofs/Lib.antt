@@ -1,3 +1,3 @@
-pub mod TextsOf
-pub mod Events
-pub mod Rising
+pub mod TextsOf  -- The finite map that the entries of a store make
+pub mod Events  -- What events make of the texts
+pub mod Rising  -- Offsets rise with positions

@@ -41,7 +41,7 @@ pub record IsAfter (old new : Work) (region : Region) (u v : UnitScope) (scope :
 
 -- the libraries that there are, as the definition knows them
 pub all_known : (libraries : BTreeSet (String Global)) → (known : Known) × Knows libraries known
-all_known libraries = (λ n. contains_text libraries (library_text n), λ n. refl)
+all_known libraries = (λ n. contains_text libraries (library_text n), λ n written. refl)
 
 pub moves_after : (old new : Work) (region : Region) (u v : UnitScope) (scope : ℕ) (ls : List Frames) (fs : Frames) (t : ScopedState) → At ls scope fs → Moves old new region u v ls t → IsAfter old new region u v scope
 moves_after old new region u v scope ls fs t at m = record {

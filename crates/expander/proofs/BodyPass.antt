@@ -9,7 +9,7 @@ use Rattle.scheme_model.specs.Requirements.{Known}
 use Rattle.scheme_model.specs.Steps.{Broken, ◌>>=◌, done}
 use Rattle.scheme_model.specs.Order.{Here, Item, Pending, Pass, forms_at, run}
 use Rattle.scheme_model.specs.Expression.{items_of}
-use Rattle.scheme_model.specs.ScopedExpansion.{Frames, Place, ScopedState, next_number}
+use Rattle.scheme_model.specs.ScopedExpansion.{Frames, FramedIdent, ScopedState, next_number}
 use Rattle.syntax_tree.specs.Looks.{PartsStand, AllNamed}
 use Rattle.syntax_tree.specs.declared.trees.Work.{Work}
 use Rattle.syntax_tree.specs.declared.trees.nodes.Tree as number
@@ -22,7 +22,7 @@ use Rattle.expander.specs.Bodies.{BodyFor, body_pass}
 use Rattle.expander.specs.Judged.{Knows}
 use Rattle.expander.specs.State.{Stands, most_locals}
 use Rattle.expander.specs.Stepped.{entered, entered_frames}
-use Rattle.expander.specs.Seen.{form_at}
+use Rattle.expander.specs.FormsSeen.{form_at}
 use Rattle.expander.specs.Kept.{KeptFor, PendingFor, NoteFor, NotesFor, SpotFor, forms_size, left_with}
 use Rattle.expander.specs.Outcomes.{At, Stays, Moves, Ends}
 use Rattle.expander.specs.Passed.{CanPass, Passes}
@@ -63,7 +63,7 @@ module _ (work : Work) (region : Region) (u w : UnitScope) (scope inner : ℕ) (
   abbrev spot : Spot
   spot = record { scope = inner; in_body = true }
 
-  abbrev start : Pending Identifier Place
+  abbrev start : Pending Identifier FramedIdent
   start = record { todo = forms_at here ts; aside = []; notes = [] }
 
   module _ (ls : List Frames) (s : ScopedState) (fs : Frames) (at : At ls scope fs) (e : Stands work u ls s) where
@@ -132,12 +132,12 @@ module _ (work : Work) (region : Region) (u w : UnitScope) (scope inner : ℕ) (
     }
 
     module _ (known : Known) (turns : ℕ) (new : Work) (v : UnitScope) where
-      abbrev went : Pass Identifier Place × ScopedState
+      abbrev went : Pass Identifier FramedIdent × ScopedState
       went = run (searched known) turns (entered_frames s fs) start (entered s)
 
       -- what the pass says of these forms
       pub pass_inside : (kept : List code_kept.Kept) (asked2 : Asked) (result : Result (Unit {0}) ExpandFault) → Knows u.libraries known → 2 ^ 39 ≤ turns →
-          ((known : Known) (ls : List Frames) (s : ScopedState) (fs : Frames) (p : Pending Identifier Place) (turns : ℕ) → Knows u.libraries known → Stands work w ls s → SpotFor work w ls s spot fs → PendingFor work region w.unit w.form.number todo p →
+          ((known : Known) (ls : List Frames) (s : ScopedState) (fs : Frames) (p : Pending Identifier FramedIdent) (turns : ℕ) → Knows u.libraries known → Stands work w ls s → SpotFor work w ls s spot fs → PendingFor work region w.unit w.form.number todo p →
           NotesFor work ls asked p.notes → left_with p.todo w.form.budget.uses < turns → Passes work new region w v ls spot fs (left_with p.todo w.form.budget.uses) kept asked2 result (run (searched known) turns fs p s)) →
           Passes work new region w v inside spot (entered_frames s fs) (left_with start.todo w.form.budget.uses) kept asked2 result went
       pass_inside kept asked2 result knows enough passes = passes known inside (entered s) (entered_frames s fs) start turns knows inside_stands spot_inside pending_inside notes_inside (turns_inside turns enough)

@@ -11,7 +11,7 @@ use Rattle.scheme_model.specs.RulesShape.{Rules}
 use Rattle.scheme_model.specs.Order.{Note, LookedUp, Compared, is_some}
 use Rattle.scheme_model.specs.Substitution.{Table, Entries, Clock, Defined, any, differ, defined_in}
 use Rattle.scheme_model.specs.Scopes.{own_of, imported_as, defined_or, given_or}
-use Rattle.scheme_model.specs.ScopedExpansion.{Frames, Bind, Enter, BodyDefinition, BodyDefinitions, UsePlace, Place, ScopedMacro, ScopedState, around, find, defined_as, means_inside, means_outside, means_at, next_number, definition_added, meaning_next, refused_now}
+use Rattle.scheme_model.specs.ScopedExpansion.{Frames, Bind, Enter, BodyDefinition, BodyDefinitions, UsePlace, FramedIdent, ScopedMacro, ScopedState, around, find, defined_as, means_inside, means_outside, means_at, next_number, definition_added, meaning_next, refused_now}
 use Rattle.expander.specs.Searched.{speaks_of}
 use Rattle.expander.specs.Asks.{is_inside}
 use Rattle.scheme_model.proofs.OpenBodies.{NotYet}
@@ -142,13 +142,13 @@ module _ (w : Era) (s : ScopedState) (g : Bounded w s) where
         ∙ not_next w s.locals (next_number s s.locals) next_new (means_at s fs i) (means_counted fs h i)
 
     module _ (b : Option Number) where
-      abbrev refused : Note Place → Bool
+      abbrev refused : Note FramedIdent → Bool
       refused note = refused_now (definition_added b n r home s) (meaning_next s b n.name) (is_some r) note
 
-      abbrev Noted : Place → Type 0
+      abbrev Noted : FramedIdent → Type 0
       Noted l = BindersCounted w s.locals l.frames
 
-      note_spoken : (note : Note Place) → NoteAll Noted note → (speaks_of n.name note && refused note) ≡ refused note
+      note_spoken : (note : Note FramedIdent) → NoteAll Noted note → (speaks_of n.name note && refused note) ≡ refused note
       note_spoken (LookedUp l head keyword) h = go (is_inside n.name l.ident) refl
         where
           go : (t : Bool) → is_inside n.name l.ident ≡ t → (t && refused (LookedUp l head keyword)) ≡ refused (LookedUp l head keyword)
@@ -156,7 +156,7 @@ module _ (w : Era) (s : ScopedState) (g : Bounded w s) where
           go false e = sym (ap (λ t. t && (keyword || (head && is_some r))) (unspoken b l.frames h l.ident e))
       note_spoken (Compared l j held) h = go (is_inside n.name l.ident || is_inside n.name j.ident) refl
         where
-          now : Place → Meaning
+          now : FramedIdent → Meaning
           now p = means_at (definition_added b n r home s) p.frames p.ident
 
           go : (t : Bool) → (is_inside n.name l.ident || is_inside n.name j.ident) ≡ t → (t && refused (Compared l j held)) ≡ refused (Compared l j held)
@@ -167,6 +167,6 @@ module _ (w : Era) (s : ScopedState) (g : Bounded w s) where
               sym (λ i. (a i || c i) && differ held (same_meaning (now l) (now j)))
 
       -- so the notes that speak of x refuse where all do
-      pub any_spoken : (ns : List (Note Place)) → AllOf (NoteAll Noted) ns → any (λ note. speaks_of n.name note && refused note) ns ≡ any refused ns
+      pub any_spoken : (ns : List (Note FramedIdent)) → AllOf (NoteAll Noted) ns → any (λ note. speaks_of n.name note && refused note) ns ≡ any refused ns
       any_spoken [] h = refl
       any_spoken (x ∷ xs) h = let a = note_spoken x h.0 in let c = any_spoken xs h.1 in λ j. a j || c j

@@ -8,7 +8,7 @@ use Rattle.scheme_model.specs.Requirements.{Known}
 use Rattle.scheme_model.specs.Cores.{Part}
 use Rattle.scheme_model.specs.Steps.{Broken}
 use Rattle.scheme_model.specs.Order.{Note, Pass}
-use Rattle.scheme_model.specs.ScopedExpansion.{Frames, Place, ScopedState}
+use Rattle.scheme_model.specs.ScopedExpansion.{Frames, FramedIdent, ScopedState}
 use Rattle.syntax_tree.specs.Names.{Names, AreToldApart}
 use Rattle.syntax_tree.specs.Works.{live_count}
 use Rattle.syntax_tree.specs.declared.trees.Work.{Work}
@@ -98,7 +98,7 @@ with_asked work u a ls s e = record {
 }
 
 -- nor are the libraries that there are
-pub with_libraries : (work : Work) (u : UnitScope) (libraries : BTreeSet (String Global)) (ls : List Frames) (s : ScopedState) (ns : List (Note Place)) → UnitStands work u ls s ns → UnitStands work (record u { libraries = libraries }) ls s ns
+pub with_libraries : (work : Work) (u : UnitScope) (libraries : BTreeSet (String Global)) (ls : List Frames) (s : ScopedState) (ns : List (Note FramedIdent)) → UnitStands work u ls s ns → UnitStands work (record u { libraries = libraries }) ls s ns
 with_libraries work u libraries ls s ns h =
     let e = h.rests in
     record {
@@ -137,7 +137,7 @@ can_set work u u1 number budget trace turn can =
       asked = can.stands.notes;
     })
 
-pub turned_to : (work : Work) (u u1 : UnitScope) (number : ℕ) (budget : Budget) (trace : Trace) (ls : List Frames) (s : ScopedState) (ns : List (Note Place)) → u1 ≡ record u { form = form_at number budget trace } → UnitStands work u ls s ns → CountsFor work s number budget trace → Stands work u1 ls (turned number s)
+pub turned_to : (work : Work) (u u1 : UnitScope) (number : ℕ) (budget : Budget) (trace : Trace) (ls : List Frames) (s : ScopedState) (ns : List (Note FramedIdent)) → u1 ≡ record u { form = form_at number budget trace } → UnitStands work u ls s ns → CountsFor work s number budget trace → Stands work u1 ls (turned number s)
 turned_to work u u1 number budget trace ls s ns turn e counts =
     subst (λ (x : UnitScope). Stands work x ls (turned number s)) (sym turn) (with_form work u (form_at number budget trace) ls s number counts e.rests)
 
@@ -153,7 +153,7 @@ module _ (old new : Work) (region : Region) (u u1 v w : UnitScope) (number : ℕ
   unit_is : w.unit ≡ v.unit
   unit_is = ap (λ (x : UnitScope). x.unit) rest
 
-  goes : (ls layout : List Frames) (ns : List (Note Place)) (t : ScopedState) → ((n : ℕ) (fs : Frames) → At ls n fs → At layout n fs) → Stays old new region u1 v layout t → NotesFor new layout v.asked ns → Goes old new region u w budget after ls number traced ns t
+  goes : (ls layout : List Frames) (ns : List (Note FramedIdent)) (t : ScopedState) → ((n : ℕ) (fs : Frames) → At ls n fs → At layout n fs) → Stays old new region u1 v layout t → NotesFor new layout v.asked ns → Goes old new region u w budget after ls number traced ns t
   goes ls layout ns t kept m notes =
       subst (λ (x : UnitScope). Goes old new region u x budget after ls number traced ns t) (sym rest)
       (subst (λ (b : Budget). Goes old new region u (record v { form = record v.form { trace = back } }) budget b ls number traced ns t) (sym after_is)
@@ -172,17 +172,17 @@ module _ (old new : Work) (region : Region) (u u1 v w : UnitScope) (number : ℕ
 
   -- ---- what a form sets aside
 
-  pub declares : (ls : List Frames) (xs : List code_item.Item) (p : Pass Identifier Place × ScopedState) → Sets old new region u1 v ls (Ok xs) p → Declares old new region u w budget after ls number traced (Ok xs) p
+  pub declares : (ls : List Frames) (xs : List code_item.Item) (p : Pass Identifier FramedIdent × ScopedState) → Sets old new region u1 v ls (Ok xs) p → Declares old new region u w budget after ls number traced (Ok xs) p
   declares ls xs p h =
       (h.0, h.1, goes ls ls p.0.notes p.1 (λ n fs at. at) h.2 h.3, subst (λ (n : ℕ). AllMatch (ItemFor new region n number) xs h.0) (sym unit_is) (subst (λ (n : ℕ). AllMatch (ItemFor new region v.unit n) xs h.0) (numbered h.2.same) h.4))
 
-  pub declares_fault : (ls : List Frames) (e : FormFault) (p : Pass Identifier Place × ScopedState) → Sets old new region u1 v ls (Err (fault.At e)) p → Declares old new region u w budget after ls number traced (Err (fault.At e)) p
+  pub declares_fault : (ls : List Frames) (e : FormFault) (p : Pass Identifier FramedIdent × ScopedState) → Sets old new region u1 v ls (Err (fault.At e)) p → Declares old new region u w budget after ls number traced (Err (fault.At e)) p
   declares_fault ls e p h = (h.0, h.1, goes ls ls p.0.notes p.1 (λ n fs at. at) h.2 h.3, fault_here ls p.1 e h.0 h.2 h.4)
 
   -- ---- what an item comes to
 
   -- what is expanded asks nothing that definitions heed
-  module _ (ls : List Frames) (ns : List (Note Place)) (asked : v.asked ≡ u1.asked) (before : NotesFor old ls u.asked ns) (apart : AreToldApart new.symbols.idents) where
+  module _ (ls : List Frames) (ns : List (Note FramedIdent)) (asked : v.asked ≡ u1.asked) (before : NotesFor old ls u.asked ns) (apart : AreToldApart new.symbols.idents) where
     went : (t : ScopedState) (m : Moves old new region u1 v ls t) → Goes old new region u w budget after ls number traced ns t
     went t m =
         let same : v.asked ≡ u.asked = asked ∙ ap (λ (x : UnitScope). x.asked) turn in
@@ -201,7 +201,7 @@ module _ (old new : Work) (region : Region) (u u1 v w : UnitScope) (number : ℕ
 
 -- the libraries that there are, as the definition knows them
 pub all_known : (libraries : BTreeSet (String Global)) → (known : Known) × Knows libraries known
-all_known libraries = (λ n. contains_text libraries (library_text n), λ n. refl)
+all_known libraries = (λ n. contains_text libraries (library_text n), λ n written. refl)
 
 module _ (old new : Work) (region : Region) (u v : UnitScope) where
   adds_left : Leaves old new region u → Adds old new region u.form.budget
@@ -212,19 +212,19 @@ module _ (old new : Work) (region : Region) (u v : UnitScope) where
       let few : v.form.budget.nodes ≤ 200000 = h.stands.form.few_nodes in
       record { trees = h.work.trees; names = h.work.names; added = h.work.added; regions = h.work.regions; nodes = omega (arith, h.counted, few) }
 
-  pub sets_adds : (ls : List Frames) (r : Result (List code_item.Item) ExpandFault) (p : Pass Identifier Place × ScopedState) → Sets old new region u v ls r p → Adds old new region u.form.budget
+  pub sets_adds : (ls : List Frames) (r : Result (List code_item.Item) ExpandFault) (p : Pass Identifier FramedIdent × ScopedState) → Sets old new region u v ls r p → Adds old new region u.form.budget
   sets_adds ls (Ok xs) p h = adds_stays ls p.1 h.2
   sets_adds ls (Err (fault.At e)) p h = adds_stays ls p.1 h.2
   sets_adds ls (Err fault.Full) p h = adds_left h.0
   sets_adds ls (Err fault.Memory) p h = adds_left h
 
-  pub sets_counts : (ls : List Frames) (r : Result (List code_item.Item) ExpandFault) (p : Pass Identifier Place × ScopedState) → Sets old new region u v ls r p → Counts u v r
+  pub sets_counts : (ls : List Frames) (r : Result (List code_item.Item) ExpandFault) (p : Pass Identifier FramedIdent × ScopedState) → Sets old new region u v ls r p → Counts u v r
   sets_counts ls (Ok xs) p h = h.2.same
   sets_counts ls (Err (fault.At e)) p h = h.2.same
   sets_counts ls (Err fault.Full) p h = tt
   sets_counts ls (Err fault.Memory) p h = tt
 
-  pub sets_full : (ls : List Frames) (r : Result (List code_item.Item) ExpandFault) (p : Pass Identifier Place × ScopedState) → Sets old new region u v ls r p → r ≡ Err fault.Full → MayFill old u
+  pub sets_full : (ls : List Frames) (r : Result (List code_item.Item) ExpandFault) (p : Pass Identifier FramedIdent × ScopedState) → Sets old new region u v ls r p → r ≡ Err fault.Full → MayFill old u
   sets_full ls (Ok xs) p h is = absurd cc
   sets_full ls (Err (fault.At e)) p h is = absurd cc
   sets_full ls (Err fault.Full) p h is = h.1

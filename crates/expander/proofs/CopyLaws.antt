@@ -14,7 +14,7 @@ use Rattle.std.specs.FinMap as map
 use Rattle.scheme_model.specs.Ident.{Ident as Identifier}
 use Rattle.scheme_model.specs.Order.{Note, Transformer, is_some}
 use Rattle.scheme_model.specs.Leaves.{leaves_of}
-use Rattle.scheme_model.specs.ScopedExpansion.{Frames, Place, ScopedState, macro_at}
+use Rattle.scheme_model.specs.ScopedExpansion.{Frames, FramedIdent, ScopedState, macro_at}
 use Rattle.syntax_tree.specs.Macros.{identifiers, RulesFor, AreChecked}
 use Rattle.syntax_tree.specs.declared.meaning.Meaning.TheVariants.{Local, Global, Standard, Free}
 use Rattle.syntax_tree.specs.declared.rules.Rules as code_rules
@@ -65,7 +65,7 @@ module _ (work : Work) (ls : List Frames) where
     known_symbols = λ form n h. e.known_symbols form n (some_before (macro_in ms form (Standard n)) (macro_in ns form (Standard n)) (same form (Standard n)) h);
   }
 
-  pub units_copied : (u v : UnitScope) (s : ScopedState) (ns : List (Note Place)) → SameUnits u v → UnitStands work u ls s ns → UnitStands work v ls s ns
+  pub units_copied : (u v : UnitScope) (s : ScopedState) (ns : List (Note FramedIdent)) → SameUnits u v → UnitStands work u ls s ns → UnitStands work v ls s ns
   units_copied u v s ns same h =
       let e = h.rests in
       record {

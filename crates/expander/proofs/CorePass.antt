@@ -8,7 +8,7 @@ use Rattle.scheme_model.specs.Quasiquote.{Mark}
 use Rattle.scheme_model.specs.Requirements.{Known}
 use Rattle.scheme_model.specs.Cores.{Target}
 use Rattle.scheme_model.specs.Order.{Here, Form, Pending, Pass, Going, read_then, run_core}
-use Rattle.scheme_model.specs.ScopedExpansion.{Frames, Place, ScopedState}
+use Rattle.scheme_model.specs.ScopedExpansion.{Frames, FramedIdent, ScopedState}
 use Rattle.syntax_tree.specs.declared.trees.Work.{Work}
 use Rattle.syntax_tree.specs.declared.trees.table.Region.{Region}
 use Rattle.core_forms.specs.Ends.{Refuses}
@@ -19,7 +19,7 @@ use Rattle.core_tree.specs.declared.cores.Target as code_target
 use Rattle.expander.specs.Kept.{NotesFor, SpotFor}
 use Rattle.expander.specs.Passed.{GoesOn, pass_step}
 use Rattle.expander.specs.Searched.{searched}
-use Rattle.expander.specs.Seen.{takes_effect}
+use Rattle.expander.specs.FormsSeen.{takes_effect}
 use Rattle.expander.specs.State.{Stands}
 use Rattle.expander.specs.Stepped.{met, with_keyword}
 use Rattle.expander.specs.Told.{core_fault, told, Tells}
@@ -33,16 +33,16 @@ use Rattle.expander.proofs.PassLaws.{spot_same, goes_so, goes_after, goes_misrea
 use Rattle.expander.proofs.PassSteps.{core_is}
 use Rattle.expander.proofs.ToldLaws.{misread_is}
 
-module _ (known : Known) (work : Work) (region : Region) (u w : UnitScope) (ls : List Frames) (spot : Spot) (fs : Frames) (s : ScopedState) (p : Pending Identifier Place) (c : CoreKeyword) (x : code_target.Target) (k : Target) (m : Form Identifier) (here : Here)
+module _ (known : Known) (work : Work) (region : Region) (u w : UnitScope) (ls : List Frames) (spot : Spot) (fs : Frames) (s : ScopedState) (p : Pending Identifier FramedIdent) (c : CoreKeyword) (x : code_target.Target) (k : Target) (m : Form Identifier) (here : Here)
     (head : Tree Identifier) (ts : Trees Identifier) (tail : Tail Identifier) (o : Here) (given : ℕ) (todo : code_pending.Pending) (asked : Asked) (mark : Identifier → Option Mark) (effect : takes_effect c ≡ true) (is : m.tree ≡ list (tree head ts) tail o)
     (meets : w ≡ with_keyword u x) (target : IsTarget work.symbols s.unit s.form x k) (stands : Stands work u ls s) where
-  abbrev core : Going Identifier Place ScopedState → Pass Identifier Place × ScopedState
+  abbrev core : Going Identifier FramedIdent ScopedState → Pass Identifier FramedIdent × ScopedState
   core go = run_core (searched known) go here fs c k m ts tail p s
 
-  abbrev read_by : Result Shape (Fault Identifier) → Going Identifier Place ScopedState → Pass Identifier Place × ScopedState
+  abbrev read_by : Result Shape (Fault Identifier) → Going Identifier FramedIdent ScopedState → Pass Identifier FramedIdent × ScopedState
   read_by r go = read_then (searched known) here p r (λ q. pass_step (searched known) go here fs m p q) (met k s)
 
-  read : (go : Going Identifier Place ScopedState) → core go ≡ read_by (shape_in c false mark m.tree) go
+  read : (go : Going Identifier FramedIdent ScopedState) → core go ≡ read_by (shape_in c false mark m.tree) go
   read go = core_is known go here fs m p c k ts tail mark s effect ∙ ap (λ (t : Tree Identifier). read_by (shape_in c false mark t) go) (sym is)
 
   met_so : (v : UnitScope) (result : Result (Unit {0}) ExpandFault) → GoesOn work work region w v ls spot fs p.todo given todo asked result (read_by (shape_in c false mark m.tree)) → GoesOn work work region u v ls spot fs p.todo given todo asked result core

@@ -6,7 +6,7 @@ use Rattle.scheme_model.specs.Measures.{tree_size}
 use Rattle.scheme_model.specs.Trees.{Tree}
 use Rattle.scheme_model.specs.Steps.{Broken}
 use Rattle.scheme_model.specs.Order.{Item, Note, Pass, Pending}
-use Rattle.scheme_model.specs.ScopedExpansion.{Frames, Place, ScopedState}
+use Rattle.scheme_model.specs.ScopedExpansion.{Frames, FramedIdent, ScopedState}
 use Rattle.syntax_tree.specs.Works.{StandsFor, CanName}
 use Rattle.syntax_tree.specs.declared.trees.Work.{Work}
 use Rattle.syntax_tree.specs.declared.trees.nodes.Tree as number
@@ -15,7 +15,7 @@ use Rattle.core_tree.specs.Names.{AllMatch}
 use Rattle.expander.specs.Kept.{KeptFor, FormFor, PendingFor, SpotFor}
 use Rattle.expander.specs.Outcomes.{Leaves, SameForm, Stays, Moves, Ends, IsAtWork, HasRoom}
 use Rattle.expander.specs.Passed.{CanPass, Passes}
-use Rattle.expander.specs.Seen.{form_at, item_of}
+use Rattle.expander.specs.FormsSeen.{form_at, item_of}
 use Rattle.expander.specs.State.{Stands}
 use Rattle.expander.specs.Units.{ItemFor, CanSet, Sets}
 use Rattle.expander.specs.declared.asked.Asked.{Asked}
@@ -34,10 +34,10 @@ asking u a = record u { asked = a }
 
 -- ---- before
 
-abbrev pub one_form : Tree Identifier → List (Note Place) → Pending Identifier Place
+abbrev pub one_form : Tree Identifier → List (Note FramedIdent) → Pending Identifier FramedIdent
 one_form t ns = record { todo = record { here = None; tree = t } ∷ []; aside = []; notes = ns }
 
-pub one_pending : (work : Work) (region : Region) (unit form : ℕ) (todo : code_pending.Pending) (n : number.Tree) (t : Tree Identifier) (ns : List (Note Place)) → todo.todo.items ≡ map (form_at None) (reverse (n ∷ [])) → todo.aside.items ≡ [] → StandsFor work n t → CanName work region n →
+pub one_pending : (work : Work) (region : Region) (unit form : ℕ) (todo : code_pending.Pending) (n : number.Tree) (t : Tree Identifier) (ns : List (Note FramedIdent)) → todo.todo.items ≡ map (form_at None) (reverse (n ∷ [])) → todo.aside.items ≡ [] → StandsFor work n t → CanName work region n →
     PendingFor work region unit form todo (one_form t ns)
 one_pending work region unit form todo n t ns is none stands named = record {
   todo = subst (λ xs. AllMatch (FormFor work region) (reverse xs) (record { here = None; tree = t } ∷ [])) (sym is) ((refl, (stands, named)), tt);
@@ -94,7 +94,7 @@ module _ (old new : Work) (region : Region) (u w : UnitScope) (a b : Asked) wher
   pub leaves_lost : (ls : List Frames) (t : ScopedState) → Stays old new region (asking u a) w ls t → Leaves old new region u
   leaves_lost ls t h = let few : w.form.budget.nodes ≤ 200000 = h.stands.form.few_nodes in record { work = h.work; few = omega (arith, h.counted, few) }
 
-  module _ (ls : List Frames) (spot : code_spot.Spot) (most : ℕ) (aside : List code_kept.Kept) (p : Pass Identifier Place × ScopedState) where
+  module _ (ls : List Frames) (spot : code_spot.Spot) (most : ℕ) (aside : List code_kept.Kept) (p : Pass Identifier FramedIdent × ScopedState) where
     pub sets : Passes old new region (asking u a) w ls spot [] most aside b (Ok tt) p → Sets old new region u back ls (Ok (map item_of aside)) p
     sets h = (h.0, h.1, stays_back ls p.1 h.2.stays, h.2.notes, all_items new region w.unit w.form.number aside h.0 h.3)
 
@@ -124,6 +124,6 @@ pub sets_none : (work : Work) (region : Region) (u : UnitScope) (ls : List Frame
 sets_none work region u ls s e = leaves_itself work region u e.form.few_nodes
 
 -- a fault is handed on
-pub sets_handed : (old new : Work) (region : Region) (u v : UnitScope) (ls : List Frames) (r : Result (List code_item.Item) ExpandFault) (e : ExpandFault) (p : Pass Identifier Place × ScopedState) → IsErrAnd r (λ f. f ≡ e) → Sets old new region u v ls (Err e) p → Sets old new region u v ls r p
+pub sets_handed : (old new : Work) (region : Region) (u v : UnitScope) (ls : List Frames) (r : Result (List code_item.Item) ExpandFault) (e : ExpandFault) (p : Pass Identifier FramedIdent × ScopedState) → IsErrAnd r (λ f. f ≡ e) → Sets old new region u v ls (Err e) p → Sets old new region u v ls r p
 sets_handed old new region u v ls (Ok xs) e p same h = absurd same
 sets_handed old new region u v ls (Err f) e p same h = subst (λ (g : ExpandFault). Sets old new region u v ls (Err g) p) (sym same) h

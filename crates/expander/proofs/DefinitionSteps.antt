@@ -14,7 +14,7 @@ use Rattle.scheme_model.specs.Steps.{Broken, Step, ◌>>=◌, done, fails}
 use Rattle.scheme_model.specs.Order.{Here, Form, Item, Note, Pending, Pass, Going, told, caught, put, first, names_at, binder_at, define_all, define_names, fields_bound, RulesParts, rules_parts, rules_at, is_rules, head_of, given, max_nodes}
 use Rattle.scheme_model.specs.Substitution.{any}
 use Rattle.scheme_model.specs.CountedExpansion.{counted, refused_here}
-use Rattle.scheme_model.specs.ScopedExpansion.{Frames, Place, ScopedState, next_number, body_around, definition_added, meaning_next, is_defined}
+use Rattle.scheme_model.specs.ScopedExpansion.{Frames, FramedIdent, ScopedState, next_number, body_around, definition_added, meaning_next, is_defined}
 use Rattle.syntax_tree.specs.declared.trees.Work.{Work}
 use Rattle.syntax_tree.specs.declared.trees.table.Region.{Region}
 use Rattle.core_forms.specs.Parts as forms
@@ -46,31 +46,31 @@ use Rattle.expander.proofs.OutcomeLaws.{bound_fails, grows_itself, leaves_itself
 pub stays_in : (work : Work) (region : Region) (u v : UnitScope) (ls : List Frames) (spot : Spot) (fs : Frames) (t : ScopedState) → GoesTo work u v ls spot fs t → Stays work work region u v ls t
 stays_in work region u v ls spot fs t h = record { stands = h.stands; work = grows_itself work region; counted = let n = h.same.nodes in omega (arith, n); same = h.same }
 
-module _ {Y : Type 0} (ns : List (Note Place)) (x : Result Y Broken × ScopedState) where
-  pub caught_fails : (b : Broken) → x.0 ≡ Err b → (go : Y → ScopedState → Pass Identifier Place × ScopedState) → caught ns x go ≡ (record { notes = ns; items = Err b }, x.1)
+module _ {Y : Type 0} (ns : List (Note FramedIdent)) (x : Result Y Broken × ScopedState) where
+  pub caught_fails : (b : Broken) → x.0 ≡ Err b → (go : Y → ScopedState → Pass Identifier FramedIdent × ScopedState) → caught ns x go ≡ (record { notes = ns; items = Err b }, x.1)
   caught_fails b h go = ap (λ (r : Result Y Broken). caught ns (r, x.1) go) h
 
-  pub caught_goes : (y : Y) → x.0 ≡ Ok y → (go : Y → ScopedState → Pass Identifier Place × ScopedState) → caught ns x go ≡ go y x.1
+  pub caught_goes : (y : Y) → x.0 ≡ Ok y → (go : Y → ScopedState → Pass Identifier FramedIdent × ScopedState) → caught ns x go ≡ go y x.1
   caught_goes y h go = ap (λ (r : Result Y Broken). caught ns (r, x.1) go) h
 
-module _ (work : Work) (region : Region) (u v : UnitScope) (ls : List Frames) (spot : Spot) (fs : Frames) (before : List (Form Identifier)) (given : ℕ) (todo : code_pending.Pending) (asked : Asked) (ns : List (Note Place)) where
+module _ (work : Work) (region : Region) (u v : UnitScope) (ls : List Frames) (spot : Spot) (fs : Frames) (before : List (Form Identifier)) (given : ℕ) (todo : code_pending.Pending) (asked : Asked) (ns : List (Note FramedIdent)) where
   -- a step that fails
-  pub goes_failing : {X Y : Type 0} (P : X → Y → Type 0) (e : ExpandFault) (x : Result Y Broken × ScopedState) (f : Going Identifier Place ScopedState → Y → ScopedState → Pass Identifier Place × ScopedState) →
+  pub goes_failing : {X Y : Type 0} (P : X → Y → Type 0) (e : ExpandFault) (x : Result Y Broken × ScopedState) (f : Going Identifier FramedIdent ScopedState → Y → ScopedState → Pass Identifier FramedIdent × ScopedState) →
       u.form.budget.nodes ≤ 200000 → EndsIn P work u v ls spot fs (Err e) x → NotesFor work ls asked ns → GoesOn work work region u v ls spot fs before given todo asked (Err e) (λ go. caught ns x (f go))
   goes_failing P (fault.At e) x f few h notes = (ns, h.1.0, x.1, record { stays = stays_in work region u v ls spot fs x.1 h.0; placed = h.0.placed; notes = notes }, h.1.2, λ go. caught_fails ns x h.1.0 h.1.1 (f go))
   goes_failing P fault.Full x f few h notes = absurd h
   goes_failing P fault.Memory x f few h notes = leaves_itself work region u few
 
   -- one that comes to a state, with what is left there
-  pub goes_done : {Y : Type 0} (y : Y) (x : Result Y Broken × ScopedState) (f : Going Identifier Place ScopedState → Y → ScopedState → Pass Identifier Place × ScopedState) (q : Pending Identifier Place) →
+  pub goes_done : {Y : Type 0} (y : Y) (x : Result Y Broken × ScopedState) (f : Going Identifier FramedIdent ScopedState → Y → ScopedState → Pass Identifier FramedIdent × ScopedState) (q : Pending Identifier FramedIdent) →
       GoesTo work u v ls spot fs x.1 → x.0 ≡ Ok y → PendingFor work region v.unit v.form.number todo q → NotesFor work ls asked q.notes →
       left_with q.todo v.form.budget.uses < left_with before u.form.budget.uses + given → v.form.budget.locals + left_with q.todo v.form.budget.uses ≤ u.form.budget.locals + left_with before u.form.budget.uses + given →
-      ((go : Going Identifier Place ScopedState) → f go y x.1 ≡ go q x.1) → GoesOn work work region u v ls spot fs before given todo asked (Ok tt) (λ go. caught ns x (f go))
+      ((go : Going Identifier FramedIdent ScopedState) → f go y x.1 ≡ go q x.1) → GoesOn work work region u v ls spot fs before given todo asked (Ok tt) (λ go. caught ns x (f go))
   goes_done y x f q goes is pending notes less locals same =
       (q, x.1, record { stays = stays_in work region u v ls spot fs x.1 goes; placed = goes.placed; pending = pending; notes = notes; less = less; locals = locals }, λ go. caught_goes ns x y is (f go) ∙ same go)
 
 -- one more was set aside
-pub kept_more : (work : Work) (region : Region) (unit form : ℕ) (old new : code_pending.Pending) (p : Pending Identifier Place) (k : code_kept.Kept) (m : Item Identifier) → new.todo ≡ old.todo → new.aside.items ≡ old.aside.items ++ k ∷ [] →
+pub kept_more : (work : Work) (region : Region) (unit form : ℕ) (old new : code_pending.Pending) (p : Pending Identifier FramedIdent) (k : code_kept.Kept) (m : Item Identifier) → new.todo ≡ old.todo → new.aside.items ≡ old.aside.items ++ k ∷ [] →
     PendingFor work region unit form old p → KeptFor work region unit form k m → PendingFor work region unit form new (put m p)
 kept_more work region unit form old new p k m todo aside h kept = record {
   todo = subst (λ (t : Vec code_form.Form Global). AllMatch (FormFor work region) (reverse t.items) p.todo) (sym todo) h.todo;
@@ -86,35 +86,35 @@ matched_so P (x ∷ xs) (y ∷ ys) h = (h.0, matched_so P xs ys h.1)
 
 -- ---- names are defined
 
-abbrev named_first : Here → List (Named Identifier) → List (Form Identifier) → Pending Identifier Place → Pending Identifier Place
+abbrev named_first : Here → List (Named Identifier) → List (Form Identifier) → Pending Identifier FramedIdent → Pending Identifier FramedIdent
 named_first here ns fs p = first (names_at here ns ++ fs) p
 
-abbrev pub with_pending : Pending Identifier Place → List Binder → Step ScopedState (List Binder × Pending Identifier Place)
+abbrev pub with_pending : Pending Identifier FramedIdent → List Binder → Step ScopedState (List Binder × Pending Identifier FramedIdent)
 with_pending q bs = done (bs, q)
 
 abbrev one_first : Binder → List Binder → Step ScopedState (List Binder)
 one_first b bs = done (b ∷ bs)
 
-abbrev pair_first : Binder → List Binder × Pending Identifier Place → Step ScopedState (List Binder × Pending Identifier Place)
+abbrev pair_first : Binder → List Binder × Pending Identifier FramedIdent → Step ScopedState (List Binder × Pending Identifier FramedIdent)
 pair_first b more = done (b ∷ more.0, more.1)
 
 -- a definition gives what is left as it was
 abbrev outcome : {A : Type 0} → (refused second : Bool) → Named Identifier → A → ScopedState → ScopedState → Result A (Fault Identifier) × ScopedState
 outcome refused second n a t s = if refused then (Err (KeywordRedefined n), s) else if second then (Err (Duplicate n), s) else (Ok a, t)
 
-turned_about : (b : Binder) (q : Pending Identifier Place) (r : Result (List Binder) Broken × ScopedState) → ((r >>= with_pending q) >>= pair_first b) ≡ ((r >>= one_first b) >>= with_pending q)
+turned_about : (b : Binder) (q : Pending Identifier FramedIdent) (r : Result (List Binder) Broken × ScopedState) → ((r >>= with_pending q) >>= pair_first b) ≡ ((r >>= one_first b) >>= with_pending q)
 turned_about b q (Ok bs, s) = refl
 turned_about b q (Err e, s) = refl
 
-module _ (here : Here) (n : Named Identifier) (b : Binder) (q r p : Pending Identifier Place) (t s : ScopedState) (f : Pending Identifier Place → Step ScopedState (List Binder × Pending Identifier Place)) (g : Pending Identifier Place → Step ScopedState (List Binder)) where
+module _ (here : Here) (n : Named Identifier) (b : Binder) (q r p : Pending Identifier FramedIdent) (t s : ScopedState) (f : Pending Identifier FramedIdent → Step ScopedState (List Binder × Pending Identifier FramedIdent)) (g : Pending Identifier FramedIdent → Step ScopedState (List Binder)) where
   one_defined : (refused second : Bool) → f r t ≡ (g p t >>= with_pending q) →
       (told here (outcome refused second n r t s) >>= λ x w. f x w >>= pair_first b) ≡ ((told here (outcome refused second n p t s) >>= λ x w. g x w >>= one_first b) >>= with_pending q)
   one_defined true second h = refl
   one_defined false true h = refl
-  one_defined false false h = ap (λ (x : Result (List Binder × Pending Identifier Place) Broken × ScopedState). x >>= pair_first b) h ∙ turned_about b q (g p t)
+  one_defined false false h = ap (λ (x : Result (List Binder × Pending Identifier FramedIdent) Broken × ScopedState). x >>= pair_first b) h ∙ turned_about b q (g p t)
 
 -- by scopes nothing is substituted: names put first are the names one after another
-module _ (known : Known) (here : Here) (e : Frames) (fs : List (Form Identifier)) (p : Pending Identifier Place) where
+module _ (known : Known) (here : Here) (e : Frames) (fs : List (Form Identifier)) (p : Pending Identifier FramedIdent) where
   pub names_defined : (ns : List (Named Identifier)) (s : ScopedState) → define_names (searched known) here e ns fs p s ≡ (define_each (searched known) here e ns p s >>= with_pending (first fs p))
   names_defined [] s = refl
   names_defined (n ∷ ns) s =
@@ -147,14 +147,14 @@ behind_none (Ok bs, s) = refl
 behind_none (Err e, s) = refl
 
 -- a name that is defined, and the names behind it
-one_goes : (x : Result (Pending Identifier Place) Broken × ScopedState) (f : Pending Identifier Place → Step ScopedState (List Binder)) (b : Binder) (names : List Binder) (y : Pending Identifier Place) → x.0 ≡ Ok y →
+one_goes : (x : Result (Pending Identifier FramedIdent) Broken × ScopedState) (f : Pending Identifier FramedIdent → Step ScopedState (List Binder)) (b : Binder) (names : List Binder) (y : Pending Identifier FramedIdent) → x.0 ≡ Ok y →
     ((x >>= λ q w. f q w >>= one_first b) >>= behind names) ≡ (f y x.1 >>= behind (names ++ b ∷ []))
 one_goes x f b names y is =
-    ap (λ (r : Result (Pending Identifier Place) Broken). ((r, x.1) >>= λ q w. f q w >>= one_first b) >>= behind names) is ∙ behind_one names b (f y x.1)
+    ap (λ (r : Result (Pending Identifier FramedIdent) Broken). ((r, x.1) >>= λ q w. f q w >>= one_first b) >>= behind names) is ∙ behind_one names b (f y x.1)
 
-one_fails : (x : Result (Pending Identifier Place) Broken × ScopedState) (f : Pending Identifier Place → Step ScopedState (List Binder)) (b : Binder) (names : List Binder) (e : Broken) → x.0 ≡ Err e →
+one_fails : (x : Result (Pending Identifier FramedIdent) Broken × ScopedState) (f : Pending Identifier FramedIdent → Step ScopedState (List Binder)) (b : Binder) (names : List Binder) (e : Broken) → x.0 ≡ Err e →
     ((x >>= λ q w. f q w >>= one_first b) >>= behind names) ≡ (Err e, x.1)
-one_fails x f b names e is = ap (λ (r : Result (Pending Identifier Place) Broken). ((r, x.1) >>= λ q w. f q w >>= one_first b) >>= behind names) is
+one_fails x f b names e is = ap (λ (r : Result (Pending Identifier FramedIdent) Broken). ((r, x.1) >>= λ q w. f q w >>= one_first b) >>= behind names) is
 
 -- what stands beside an element, and behind it
 pub matched_here : {X Y : Type 0} (P : X → Y → Type 0) (xs : List X) (ys : List Y) (k : ℕ) (d : X) → forms.AllMatch P xs ys → k < length xs → (y : Y) × P (get_or xs k d) y × (drop k ys ≡ y ∷ drop (k + 1) ys)
@@ -172,7 +172,7 @@ matched_length P [] (y ∷ ys) h = absurd h
 matched_length P (x ∷ xs) [] h = absurd h
 matched_length P (x ∷ xs) (y ∷ ys) h = ap suc (matched_length P xs ys h.1)
 
-module _ (work : Work) (known : Known) (here : Here) (u : UnitScope) (ls : List Frames) (spot : Spot) (fs : Frames) (s : ScopedState) (ns : List (Named Identifier)) (p : Pending Identifier Place) where
+module _ (work : Work) (known : Known) (here : Here) (u : UnitScope) (ls : List Frames) (spot : Spot) (fs : Frames) (s : ScopedState) (ns : List (Named Identifier)) (p : Pending Identifier FramedIdent) where
   -- so many names are defined
   pub record DefinedSoFar (v : UnitScope) (k : ℕ) (bs : List code_binder.Binder) : Type 0 where
     pub state : ScopedState
@@ -194,19 +194,19 @@ module _ (work : Work) (known : Known) (here : Here) (u : UnitScope) (ls : List 
   }
 
   module _ (v w : UnitScope) (k : ℕ) (bs : List code_binder.Binder) (n : Named Identifier) (next : drop k ns ≡ n ∷ drop (k + 1) ns) (h : DefinedSoFar v k bs) where
-    abbrev x : Result (Pending Identifier Place) Broken × ScopedState
+    abbrev x : Result (Pending Identifier FramedIdent) Broken × ScopedState
     x = told here ((searched known).define n None fs p h.state)
 
     abbrev binder : Binder
     binder = binder_at (searched known) fs h.state n
 
-    abbrev behind_it : Pending Identifier Place → Step ScopedState (List Binder)
+    abbrev behind_it : Pending Identifier FramedIdent → Step ScopedState (List Binder)
     behind_it q t = define_each (searched known) here fs (drop (k + 1) ns) p t
 
     split : define_each (searched known) here fs ns p s ≡ ((x >>= λ q t. behind_it q t >>= one_first binder) >>= behind h.names)
     split = h.rest ∙ ap (λ (l : List (Named Identifier)). define_each (searched known) here fs l p h.state >>= behind h.names) next
 
-    pub one_more_defined : (b : code_binder.Binder) → IsBinder work.symbols h.state.unit h.state.form b binder → EndsIn (λ (done : Unit {0}) (q : Pending Identifier Place). q ≡ p) work v w ls spot fs (Ok tt) x → DefinedSoFar w (k + 1) (bs ++ b ∷ [])
+    pub one_more_defined : (b : code_binder.Binder) → IsBinder work.symbols h.state.unit h.state.form b binder → EndsIn (λ (done : Unit {0}) (q : Pending Identifier FramedIdent). q ≡ p) work v w ls spot fs (Ok tt) x → DefinedSoFar w (k + 1) (bs ++ b ∷ [])
     one_more_defined b is ends =
         let unit : h.state.unit ≡ u.unit = sym h.goes.stands.unit ∙ h.goes.same.unit in
         let form : h.state.form ≡ u.form.number = sym h.goes.stands.form.number ∙ h.goes.same.number in
@@ -219,7 +219,7 @@ module _ (work : Work) (known : Known) (here : Here) (u : UnitScope) (ls : List 
           rest = split ∙ one_goes x behind_it binder h.names ends.0 ends.2;
         }
 
-    pub next_fails : {X : Type 0} (Q : X → List Binder → Type 0) (e : ExpandFault) → EndsIn (λ (done : Unit {0}) (q : Pending Identifier Place). q ≡ p) work v w ls spot fs (Err e) x → EndsIn Q work u w ls spot fs (Err e) (define_each (searched known) here fs ns p s)
+    pub next_fails : {X : Type 0} (Q : X → List Binder → Type 0) (e : ExpandFault) → EndsIn (λ (done : Unit {0}) (q : Pending Identifier FramedIdent). q ≡ p) work v w ls spot fs (Err e) x → EndsIn Q work u w ls spot fs (Err e) (define_each (searched known) here fs ns p s)
     next_fails Q (fault.At e) ends =
         subst (λ (r : Result (List Binder) Broken × ScopedState). EndsIn Q work u w ls spot fs (Err (fault.At e)) r) (sym (split ∙ one_fails x behind_it binder h.names ends.1.0 ends.1.1))
         (goes_on v w h.state x.1 h.goes ends.0, (ends.1.0, refl, ends.1.2))
@@ -248,7 +248,7 @@ less_left fs k given u v uses locals le one =
     fewer_by : (a b m n k given : ℕ) → a ≡ b → m ≤ n + k → k ≤ given → m + a ≤ n + b + given
     fewer_by a b m n k given e locals le = omega (arith, e, locals, le)
 
-module _ (work : Work) (region : Region) (u v : UnitScope) (ls : List Frames) (spot : Spot) (fs : Frames) (s : ScopedState) (p : Pending Identifier Place) (old new : code_pending.Pending) (asked : Asked) (given : ℕ) (m : Item Identifier) (k : code_kept.Kept)
+module _ (work : Work) (region : Region) (u v : UnitScope) (ls : List Frames) (spot : Spot) (fs : Frames) (s : ScopedState) (p : Pending Identifier FramedIdent) (old new : code_pending.Pending) (asked : Asked) (given : ℕ) (m : Item Identifier) (k : code_kept.Kept)
     (pending : PendingFor work region u.unit u.form.number old p) (notes : NotesFor work ls asked p.notes) (kept : KeptFor work region u.unit u.form.number k m) (todo : new.todo ≡ old.todo) (aside : new.aside.items ≡ old.aside.items ++ k ∷ []) where
   pub aside_stands : SameForm u v → PendingFor work region v.unit v.form.number new (put m p)
   aside_stands h =
@@ -256,8 +256,8 @@ module _ (work : Work) (region : Region) (u v : UnitScope) (ls : List Frames) (s
       subst (λ (f : ℕ). PendingFor work region v.unit f new (put m p)) (sym h.number) (subst (λ (w : ℕ). PendingFor work region w u.form.number new (put m p)) (sym h.unit) there)
 
   -- after a step that took so many locals
-  pub aside_goes : {Y : Type 0} (taken : ℕ) (y : Y) (x : Result Y Broken × ScopedState) (f : Going Identifier Place ScopedState → Y → ScopedState → Pass Identifier Place × ScopedState) →
-      GoesTo work u v ls spot fs x.1 → x.0 ≡ Ok y → v.form.budget.uses ≡ u.form.budget.uses → v.form.budget.locals ≤ u.form.budget.locals + taken → taken ≤ given → 1 ≤ given → ((go : Going Identifier Place ScopedState) → f go y x.1 ≡ go (put m p) x.1) →
+  pub aside_goes : {Y : Type 0} (taken : ℕ) (y : Y) (x : Result Y Broken × ScopedState) (f : Going Identifier FramedIdent ScopedState → Y → ScopedState → Pass Identifier FramedIdent × ScopedState) →
+      GoesTo work u v ls spot fs x.1 → x.0 ≡ Ok y → v.form.budget.uses ≡ u.form.budget.uses → v.form.budget.locals ≤ u.form.budget.locals + taken → taken ≤ given → 1 ≤ given → ((go : Going Identifier FramedIdent ScopedState) → f go y x.1 ≡ go (put m p) x.1) →
       GoesOn work work region u v ls spot fs p.todo given new asked (Ok tt) (λ go. caught p.notes x (f go))
   aside_goes taken y x f goes is uses locals le one same =
       let less = less_left p.todo taken given u v uses locals le one in
@@ -296,17 +296,17 @@ in_after_same P work u w v ls spot fs (Err fault.Memory) x same h = h
 pub taken_same : (u : UnitScope) (n : ℕ) → SameForm u (with_locals u (u.form.budget.locals + n))
 taken_same u n = record { unit = refl; number = refl; root = refl; libraries = refl; roots = refl; uses = omega arith; nodes = omega arith }
 
-abbrev pub with_fields : List Binder → List Binder × Pending Identifier Place → Step ScopedState (List Binder × (List Binder × Pending Identifier Place))
+abbrev pub with_fields : List Binder → List Binder × Pending Identifier FramedIdent → Step ScopedState (List Binder × (List Binder × Pending Identifier FramedIdent))
 with_fields bs q = done (bs, q)
 
 -- the fields take locals, and then the names are defined
-pub record_steps : (known : Known) (here : Here) (fs : Frames) (fields names : List (Named Identifier)) (p : Pending Identifier Place) (s : ScopedState) →
-    (fields_bound (searched known) fields s >>= λ bs t. define_names (searched known) here fs names [] p t >>= λ q. done {A = List Binder × (List Binder × Pending Identifier Place)} (bs, q))
+pub record_steps : (known : Known) (here : Here) (fs : Frames) (fields names : List (Named Identifier)) (p : Pending Identifier FramedIdent) (s : ScopedState) →
+    (fields_bound (searched known) fields s >>= λ bs t. define_names (searched known) here fs names [] p t >>= λ q. done {A = List Binder × (List Binder × Pending Identifier FramedIdent)} (bs, q))
     ≡ ((define_each (searched known) here fs names p (taken (length fields) s) >>= with_pending p) >>= with_fields (bound_binders (next_number s s.locals) fields))
 record_steps known here fs fields names p s =
     let bs = bound_binders (next_number s s.locals) fields in
-    ap (λ (r : Result (List Binder) Broken × ScopedState). r >>= λ cs t. define_names (searched known) here fs names [] p t >>= λ q. done {A = List Binder × (List Binder × Pending Identifier Place)} (cs, q)) (fields_searched known fields s ∙ fields_are known fields s)
-    ∙ ap (λ (r : Result (List Binder × Pending Identifier Place) Broken × ScopedState). r >>= with_fields bs) (names_defined known here fs [] p names (taken (length fields) s))
+    ap (λ (r : Result (List Binder) Broken × ScopedState). r >>= λ cs t. define_names (searched known) here fs names [] p t >>= λ q. done {A = List Binder × (List Binder × Pending Identifier FramedIdent)} (cs, q)) (fields_searched known fields s ∙ fields_are known fields s)
+    ∙ ap (λ (r : Result (List Binder × Pending Identifier FramedIdent) Broken × ScopedState). r >>= with_fields bs) (names_defined known here fs [] p names (taken (length fields) s))
 
 -- ---- macros
 
@@ -346,11 +346,11 @@ in_handed P work u v ls spot fs (Ok y) e x same h = absurd same
 in_handed P work u v ls spot fs (Err f) e x same h = subst (λ (g : ExpandFault). EndsIn P work u v ls spot fs (Err g) x) (sym same) h
 
 pub goes_handed : (work : Work) (region : Region) (u v : UnitScope) (ls : List Frames) (spot : Spot) (fs : Frames) (before : List (Form Identifier)) (given : ℕ) (todo : code_pending.Pending) (asked : Asked) (r : Result (Unit {0}) ExpandFault) (e : ExpandFault)
-    (step : Going Identifier Place ScopedState → Pass Identifier Place × ScopedState) → IsErrAnd r (λ f. f ≡ e) → GoesOn work work region u v ls spot fs before given todo asked (Err e) step → GoesOn work work region u v ls spot fs before given todo asked r step
+    (step : Going Identifier FramedIdent ScopedState → Pass Identifier FramedIdent × ScopedState) → IsErrAnd r (λ f. f ≡ e) → GoesOn work work region u v ls spot fs before given todo asked (Err e) step → GoesOn work work region u v ls spot fs before given todo asked r step
 goes_handed work region u v ls spot fs before given todo asked (Ok y) e step same h = absurd same
 goes_handed work region u v ls spot fs before given todo asked (Err f) e step same h = subst (λ (g : ExpandFault). GoesOn work work region u v ls spot fs before given todo asked (Err g) step) (sym same) h
 
 -- want of memory
 pub goes_without : (work : Work) (region : Region) (u v : UnitScope) (ls : List Frames) (spot : Spot) (fs : Frames) (before : List (Form Identifier)) (given : ℕ) (todo : code_pending.Pending) (asked : Asked) (r : Result (Unit {0}) ExpandFault)
-    (step : Going Identifier Place ScopedState → Pass Identifier Place × ScopedState) → IsErrAnd r (λ f. f ≡ fault.Memory) → u.form.budget.nodes ≤ 200000 → GoesOn work work region u v ls spot fs before given todo asked r step
+    (step : Going Identifier FramedIdent ScopedState → Pass Identifier FramedIdent × ScopedState) → IsErrAnd r (λ f. f ≡ fault.Memory) → u.form.budget.nodes ≤ 200000 → GoesOn work work region u v ls spot fs before given todo asked r step
 goes_without work region u v ls spot fs before given todo asked r step same few = goes_handed work region u v ls spot fs before given todo asked r fault.Memory step same (leaves_itself work region u few)

@@ -10,7 +10,7 @@ use Rattle.scheme_model.specs.Requirements.{Known}
 use Rattle.scheme_model.specs.RulesShape.{role_of, dots_of}
 use Rattle.scheme_model.specs.Order.{Note, Compared, Transformer, comparisons}
 use Rattle.scheme_model.specs.CountedExpansion.{means_here}
-use Rattle.scheme_model.specs.ScopedExpansion.{Frames, Place, ScopedState}
+use Rattle.scheme_model.specs.ScopedExpansion.{Frames, FramedIdent, ScopedState}
 use Rattle.scheme_model.proofs.IdentLaws.{ident_told}
 use Rattle.syntax_tree.specs.Names.{Names}
 use Rattle.syntax_tree.specs.Macros.{identifiers, IsIdent}
@@ -126,7 +126,7 @@ module _ (work : Work) (known : Known) (ls : List Frames) (s : ScopedState) (fs 
   abbrev mean : Pair → Bool
   mean q = same_meaning (means_here s m.env q.0) (means_here s fs q.1)
 
-  abbrev note : Pair → Note Place
+  abbrev note : Pair → Note FramedIdent
   note q = Compared (record { frames = m.env; ident = q.0 }) (record { frames = fs; ident = q.1 }) (mean q)
 
   pairs_are : (cs : List Comparison) (qs : List Pair) → AllMatch (ComparisonFor work ls literal_scope scope) cs (map note qs) → AllMatch (IsPair work mean) cs qs

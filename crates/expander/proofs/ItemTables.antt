@@ -9,7 +9,7 @@ use Rattle.scheme_model.specs.Order.{Item, Pending}
 use Rattle.scheme_model.specs.UnitExpansion.{max_depth}
 use Rattle.scheme_model.specs.Expression.{expand}
 use Rattle.scheme_model.specs.Program.{enough_turns}
-use Rattle.scheme_model.specs.ScopedExpansion.{Frames, Place, ScopedState, next_number, body_around, definition_added, is_defined}
+use Rattle.scheme_model.specs.ScopedExpansion.{Frames, FramedIdent, ScopedState, next_number, body_around, definition_added, is_defined}
 use Rattle.syntax_tree.proofs.Places.{none_some}
 use Rattle.expander.specs.Searched.{define_searched, searched}
 use Rattle.expander.specs.Stepped.{turned}
@@ -21,8 +21,8 @@ use Rattle.expander.proofs.OtherForms.{any_macro, notes_left, is_refused_here}
 abbrev IsBodyPlace : Frames → Type 0
 IsBodyPlace fs = (b : Number) × (body_around fs ≡ Some b)
 
-defined_in_body : (s : ScopedState) (o : Option Number) (b : Number) → o ≡ Some b → (n : Named Ident) (r : Option (Rules Ident)) (fs : Frames) (p : Pending Ident Place) (refused twice : Bool)
-    → let q = cond {A = Result (Pending Ident Place) (Fault Ident) × ScopedState} refused (Err (KeywordRedefined n), s) (cond twice (Err (Duplicate n), s) (Ok p, definition_added o n r fs s)) in q.1.table ≡ s.table
+defined_in_body : (s : ScopedState) (o : Option Number) (b : Number) → o ≡ Some b → (n : Named Ident) (r : Option (Rules Ident)) (fs : Frames) (p : Pending Ident FramedIdent) (refused twice : Bool)
+    → let q = cond {A = Result (Pending Ident FramedIdent) (Fault Ident) × ScopedState} refused (Err (KeywordRedefined n), s) (cond twice (Err (Duplicate n), s) (Ok p, definition_added o n r fs s)) in q.1.table ≡ s.table
 defined_in_body s None b is n r fs p refused twice = none_some b is
 defined_in_body s (Some v) b is n r fs p true twice = refl
 defined_in_body s (Some v) b is n r fs p false true = refl

@@ -1,12 +1,15 @@
 -- Requirements and the names of libraries as they are read: faults that are passed on, texts part by part, and requirements in a row.
 use Rattle.std.proofs.Common.{◌≡◌, ◌≢◌, ℕ, ◌+◌, ◌<◌, ◌≤◌, List, [], ◌∷◌, ◌++◌, append_assoc, append-nil, length, get_or, take, Bool, true, false, cond, Option, Some, None, Result, Ok, Err, refl, sym, ap, ◌∙◌, subst, arith}
 use Rattle.std.specs.Prelude.{◌&&◌, ◌||◌, codes, slice_get, String}
+use Rattle.std.specs.String.{string_bytes}
 use Rattle.std.specs.declared.alloc.Global.{Global}
 use Rattle.std.specs.BTreeSet.{BTreeSet, contains_text}
 use Rattle.std.proofs.lemmas.List.{take_more}
 use Rattle.scheme_model.specs.Program.{has_name}
 use Rattle.std.specs.Result.{IsErrAnd}
 use Rattle.std.specs.Option.{option_map}
+use Rattle.std.specs.List.{list_all}
+use Rattle.std.specs.Char.{is_ascii_digit}
 use Rattle.std.specs.Str.{bytes_eq, chars, encode_utf8_all, IsUtf8}
 use Rattle.std.proofs.Common.{inl, inr}
 use Rattle.std.proofs.lemmas.Str.{encodes-chars}
@@ -18,7 +21,7 @@ use Rattle.scheme_model.specs.declared.Occ.{Occ}
 use Rattle.scheme_model.specs.Trees.{Atom, Numeral, Quoted, Character, Boolean, Bytes, Tree, name, atom, list, vector, Trees, no_trees, tree, Tail, proper, dotted}
 use Rattle.scheme_model.specs.Matching.{behind}
 use Rattle.scheme_model.specs.ExpansionFaults.{Fault, BadForm, ◌>>◌}
-use Rattle.scheme_model.specs.Requirements.{LibraryPart, Symbol, LibraryName, Known, part_of, part_in, parts_of, holds, all_hold, some_holds, none_holds, is_else}
+use Rattle.scheme_model.specs.Requirements.{LibraryPart, Symbol, Digits, LibraryName, Known, part_of, part_in, parts_of, library_name_of, holds, all_hold, some_holds, none_holds, is_else}
 use Rattle.scheme_model.specs.Ident.{Ident as Identifier, symbol_of}
 use Rattle.syntax_tree.specs.Names.{Names}
 use Rattle.syntax_tree.specs.Standing.{leaf_tree}
@@ -34,7 +37,8 @@ use Rattle.core_forms.proofs.Reading.{after, after_none, after_one, then_ok}
 use Rattle.expander.specs.declared.requirements.ShapeFault.{ShapeFault}
 use Rattle.expander.specs.declared.requirements.ShapeFault.TheVariants as fault
 use Rattle.expander.specs.declared.requirements.Connective.TheVariants as word
-use Rattle.expander.specs.Judged.{Knows, Fails, Reads, Puts, PutsAll, map_ok, part_text, behind_spaces, library_text, name_in_list, library_holds, word_holds, by_connective, clause_judged}
+use Rattle.scheme_tokens.specs.LibraryNames.{IsProperPart, AreProper}
+use Rattle.expander.specs.Judged.{Knows, Fails, Reads, Puts, PutsAll, ReadsPart, ReadsName, map_ok, part_text, behind_spaces, library_text, name_in_list, library_holds, word_holds, by_connective, clause_judged}
 
 -- ---- answers
 
@@ -50,6 +54,10 @@ puts_err old new (Err f) e r h p = subst (λ (f : ShapeFault). Fails f r) (sym h
 pub puts_all_err : (old new : List ℕ) (x : Result Unit ShapeFault) (e : ShapeFault) (r : Result LibraryName (Fault Identifier)) → IsErrAnd x (λ f. f ≡ e) → Fails e r → PutsAll old new x r
 puts_all_err old new (Ok y) e r h p = absurd h
 puts_all_err old new (Err f) e r h p = subst (λ (f : ShapeFault). Fails f r) (sym h) p
+
+pub name_err : (x : Result (String Global) ShapeFault) (e : ShapeFault) (r : Result LibraryName (Fault Identifier)) → IsErrAnd x (λ f. f ≡ e) → Fails e r → ReadsName x r
+name_err (Ok y) e r h p = absurd h
+name_err (Err f) e r h p = subst (λ (f : ShapeFault). Fails f r) (sym h) p
 
 -- a fault as that of what is made of the answer
 pub fails_map : {X Y : Type 0} (e : ShapeFault) (f : X → Y) (r : Result X (Fault Identifier)) → Fails e r → Fails e (map_ok f r)
@@ -69,6 +77,14 @@ fails_same fault.Memory r s same h = tt
 pub reads_same : {X Y : Type 0} (view : X → Y) (x : Result X ShapeFault) (r s : Result Y (Fault Identifier)) → s ≡ r → Reads view x r → Reads view x s
 reads_same view (Ok y) r s same h = same ∙ h
 reads_same view (Err e) r s same h = fails_same e r s same h
+
+pub name_same : (x : Result (String Global) ShapeFault) (r s : Result LibraryName (Fault Identifier)) → s ≡ r → ReadsName x r → ReadsName x s
+name_same (Ok y) r s same h = (h.0, same ∙ h.1, h.2, h.3)
+name_same (Err e) r s same h = fails_same e r s same h
+
+pub part_same : (x : Result (List ℕ) ShapeFault) (r s : Result LibraryPart (Fault Identifier)) → s ≡ r → ReadsPart x r → ReadsPart x s
+part_same (Ok y) r s same h = (h.0, same ∙ h.1, h.2, h.3)
+part_same (Err e) r s same h = fails_same e r s same h
 
 pub ok_of : {X Y : Type 0} (f : X → Y) (r : Result X (Fault Identifier)) (b : Y) → map_ok f r ≡ Ok b → (a : X) × (r ≡ Ok a) × (f a ≡ b)
 ok_of f (Ok a) b h = (a, refl, cc)
@@ -134,6 +150,55 @@ other_leaf names (code.Bytes n) o a h e = kept_text (slice_get names.symbols n) 
 pub other_leaf_of : (names : Names) (leaf d : Leaf) (o : Option Occ) (a : Atom) → leaf ≡ d → IsOther d → leaf_tree names leaf o ≡ Some (atom a o) → map_ok part_text (part_in {A = Identifier} a) ≡ Err BadForm
 other_leaf_of names leaf d o a e h g = ap (map_ok part_text) (other_leaf names leaf o a (subst IsOther (sym e) h) g)
 
+-- ---- proper parts
+
+-- the symbol of an identifier, by its number
+pub symbol_named : (names : Names) (id k : ℕ) (i : Identifier) (s : List ℕ) → slice_get names.idents id ≡ Some i → slice_get names.symbols k ≡ option_map symbol_of (slice_get names.idents id) → slice_get names.symbols k ≡ Some s → s ≡ symbol_of i
+symbol_named names id k i s there stripped named = same_Some s (symbol_of i) (sym named ∙ stripped ∙ ap (option_map symbol_of) there)
+
+pub symbol_part : (i : Identifier) (o : Option Occ) (t : Tree Identifier) (symbol text : List ℕ) → t ≡ name i o → symbol ≡ symbol_of i → IsUtf8 symbol → text ≡ part_text (Symbol symbol) → ReadsPart (Ok text) (part_of symbol_of t)
+symbol_part i o t symbol text is same utf8 h =
+    (Symbol symbol, ap (part_of symbol_of) is ∙ ap (λ (s : List ℕ). Ok (Symbol s)) (sym same), h, sym (encodes-chars symbol utf8))
+
+abbrev answer : LibraryPart → Result LibraryPart (Fault Identifier)
+answer p = Ok p
+
+answered : LibraryPart → Result LibraryPart (Fault Identifier) → LibraryPart
+answered d (Ok q) = q
+answered d (Err f) = d
+
+same_answer : (p q : LibraryPart) → answer p ≡ answer q → p ≡ q
+unfolding answered
+same_answer p q h = ap (answered p) h
+
+digits_proper : (s : List ℕ) (b : Bool) → list_all is_ascii_digit s ≡ b → (p : LibraryPart) → cond b (answer (Digits s)) (Err BadForm) ≡ answer p → IsProperPart p
+digits_proper s true e p h = subst IsProperPart (same_answer (Digits s) p h) e
+digits_proper s false e p h = absurd cc
+
+atom_proper : (a : Atom) (p : LibraryPart) → part_in {A = Identifier} a ≡ Ok p → IsProperPart p
+atom_proper (Numeral s) p h = digits_proper s (list_all is_ascii_digit s) refl p h
+atom_proper (Quoted s) p h = absurd cc
+atom_proper (Character c) p h = absurd cc
+atom_proper (Boolean b) p h = absurd cc
+atom_proper (Bytes s) p h = absurd cc
+
+atom_reads : (a : Atom) (x : Result (List ℕ) ShapeFault) → Reads (λ t. t) x (map_ok part_text (part_in {A = Identifier} a)) → ReadsPart x (part_in {A = Identifier} a)
+atom_reads a (Ok s) h = let p = ok_of part_text (part_in {A = Identifier} a) s h in (p.0, p.1, sym p.2, atom_proper a p.0 p.1)
+atom_reads a (Err e) h = fails_part e part_text (part_in {A = Identifier} a) h
+
+pub atom_part : (a : Atom) (o : Option Occ) (t : Tree Identifier) (x : Result (List ℕ) ShapeFault) → t ≡ atom a o → Reads (λ t. t) x (map_ok part_text (part_in {A = Identifier} a)) → ReadsPart x (part_of symbol_of t)
+atom_part a o t x is h = part_same x (part_in {A = Identifier} a) (part_of symbol_of t) (ap (part_of symbol_of) is) (atom_reads a x h)
+
+-- whether there is the library of a name
+pub known_name : (libraries : BTreeSet (String Global)) (known : Known) (t : Tree Identifier) (ts : Trees Identifier) (s : String Global) (here : Bool) → Knows libraries known → ts ≡ tree t no_trees →
+    ReadsName (Ok s) (library_name_of symbol_of t) → here ≡ contains_text libraries (string_bytes s) → library_holds known ts ≡ Ok here
+known_name libraries known t ts s here knows only h there =
+    ap (library_holds known) only ∙ ap (λ r. r >> λ n. Ok (known n)) h.1 ∙ ap Ok (knows h.0 h.3 ∙ ap (contains_text libraries) (sym h.2) ∙ sym there)
+
+pub unnamed : (known : Known) (t : Tree Identifier) (ts : Trees Identifier) (e : ShapeFault) → ts ≡ tree t no_trees → Fails e (library_name_of symbol_of t) → Fails e (library_holds known ts)
+unnamed known t ts e only h =
+    fails_same e (library_name_of symbol_of t >> λ n. Ok (known n)) (library_holds known ts) (ap (library_holds known) only) (fails_then e (library_name_of symbol_of t) (λ n. Ok (known n)) h)
+
 -- ---- parts behind spaces
 
 pub parts_each : (ts : Trees Identifier) → parts_of symbol_of ts ≡ each_of (part_of symbol_of) ts
@@ -144,6 +209,7 @@ parts_each (tree t ts) = ap (λ (x : Result LibraryName (Fault Identifier)). par
 pub record PutsUpTo (ts : Trees Identifier) (k : ℕ) (old new : List ℕ) : Type 0 where
   pub parts : LibraryName
   pub text : new ≡ old ++ behind_spaces parts
+  pub proper : AreProper parts
   pub so_far : after parts (each_of (part_of symbol_of) (behind k ts)) ≡ each_of (part_of symbol_of) ts
 
 behind_push : (ps : LibraryName) (p : LibraryPart) → behind_spaces (ps ++ p ∷ []) ≡ behind_spaces ps ++ (32 ∷ part_text p)
@@ -151,13 +217,18 @@ behind_push [] p = ap (λ (t : List ℕ). 32 ∷ t) (append-nil (part_text p))
 behind_push (q ∷ ps) p =
     ap (λ (t : List ℕ). 32 ∷ (part_text q ++ t)) (behind_push ps p) ∙ ap (λ (t : List ℕ). 32 ∷ t) (sym (append_assoc (part_text q) (behind_spaces ps) (32 ∷ part_text p)))
 
+proper_push : (ps : LibraryName) (p : LibraryPart) → AreProper ps → IsProperPart p → AreProper (ps ++ p ∷ [])
+proper_push [] p h k = (k, tt)
+proper_push (q ∷ ps) p h k = (h.0, proper_push ps p h.1 k)
+
 pub puts_none : (ts : Trees Identifier) (old : List ℕ) → PutsUpTo ts 0 old old
-puts_none ts old = record { parts = []; text = sym (append-nil old); so_far = after_none (each_of (part_of symbol_of) ts) }
+puts_none ts old = record { parts = []; text = sym (append-nil old); proper = tt; so_far = after_none (each_of (part_of symbol_of) ts) }
 
 pub puts_more : (ts : Trees Identifier) (k : ℕ) (t : Tree Identifier) (old now mid new : List ℕ) (p : LibraryPart) → behind k ts ≡ tree t (behind (k + 1) ts) → PutsUpTo ts k old now → mid ≡ now ++ 32 ∷ [] →
-    part_of symbol_of t ≡ Ok p → new ≡ mid ++ part_text p → PutsUpTo ts (k + 1) old new
-puts_more ts k t old now mid new p split h spaced here put = record {
+    part_of symbol_of t ≡ Ok p → new ≡ mid ++ part_text p → IsProperPart p → PutsUpTo ts (k + 1) old new
+puts_more ts k t old now mid new p split h spaced here put is = record {
   parts = h.parts ++ p ∷ [];
+  proper = proper_push h.parts p h.proper is;
   text =
       put ∙ ap (λ (t : List ℕ). t ++ part_text p) (spaced ∙ ap (λ (t : List ℕ). t ++ 32 ∷ []) h.text) ∙ append_assoc (old ++ behind_spaces h.parts) (32 ∷ []) (part_text p)
       ∙ append_assoc old (behind_spaces h.parts) (32 ∷ part_text p) ∙ ap (λ (t : List ℕ). old ++ t) (sym (behind_push h.parts p));
@@ -177,25 +248,27 @@ puts_fail ts k t old now e split h here =
     fails_same e (after h.parts rest) (parts_of symbol_of ts) (parts_each ts ∙ sym h.so_far)
     (fails_after e h.parts rest (fails_same e (each_of (part_of symbol_of) (tree t (behind (k + 1) ts))) rest (ap (each_of (part_of symbol_of)) split) (fails_then e (part_of symbol_of t) (λ y. each_of (part_of symbol_of) (behind (k + 1) ts) >> λ ys. Ok (y ∷ ys)) here)))
 
-pub puts_end : (ts : Trees Identifier) (k : ℕ) (old new : List ℕ) → behind k ts ≡ no_trees → PutsUpTo ts k old new → (ps : LibraryName) × (parts_of symbol_of ts ≡ Ok ps) × (new ≡ old ++ behind_spaces ps)
+pub puts_end : (ts : Trees Identifier) (k : ℕ) (old new : List ℕ) → behind k ts ≡ no_trees → PutsUpTo ts k old new → (ps : LibraryName) × (parts_of symbol_of ts ≡ Ok ps) × (new ≡ old ++ behind_spaces ps) × AreProper ps
 puts_end ts k old new h u =
-    (u.parts, parts_each ts ∙ sym u.so_far ∙ ap (λ us. after u.parts (each_of (part_of symbol_of) us)) h ∙ ap Ok (append-nil u.parts), u.text)
+    (u.parts, parts_each ts ∙ sym u.so_far ∙ ap (λ us. after u.parts (each_of (part_of symbol_of) us)) h ∙ ap Ok (append-nil u.parts), u.text, u.proper)
 
--- a name's text by its first part and the others
-pub row_text : (t : Tree Identifier) (ts : Trees Identifier) (p : LibraryPart) (ps : LibraryName) (a b c d : List ℕ) → part_of symbol_of t ≡ Ok p → parts_of symbol_of ts ≡ Ok ps →
-    a ≡ 40 ∷ [] → b ≡ a ++ part_text p → c ≡ b ++ behind_spaces ps → d ≡ c ++ 41 ∷ [] → map_ok library_text (parts_of symbol_of (tree t ts)) ≡ Ok d
-row_text t ts p ps a b c d first others e f g h =
-    ap (map_ok library_text) (ap (λ r. r >> λ q. parts_of symbol_of ts >> λ qs. Ok (q ∷ qs)) first ∙ ap (λ r. r >> λ qs. Ok (p ∷ qs)) others)
-    ∙ ap Ok (sym (h ∙ ap (λ (x : List ℕ). x ++ 41 ∷ []) (g ∙ ap (λ (x : List ℕ). x ++ behind_spaces ps) (f ∙ ap (λ (x : List ℕ). x ++ part_text p) e))))
+-- a name and its text by its first part and the others
+pub row_name : (t : Tree Identifier) (ts : Trees Identifier) (p : LibraryPart) (ps : LibraryName) (a b c : List ℕ) (d : String Global) → part_of symbol_of t ≡ Ok p → parts_of symbol_of ts ≡ Ok ps →
+    a ≡ 40 ∷ [] → b ≡ a ++ part_text p → c ≡ b ++ behind_spaces ps → string_bytes d ≡ c ++ 41 ∷ [] → IsProperPart p → AreProper ps → ReadsName (Ok d) (parts_of symbol_of (tree t ts))
+row_name t ts p ps a b c d first others e f g h is are = (
+  p ∷ ps,
+  ap (λ r. r >> λ q. parts_of symbol_of ts >> λ qs. Ok (q ∷ qs)) first ∙ ap (λ r. r >> λ qs. Ok (p ∷ qs)) others,
+  h ∙ ap (λ (x : List ℕ). x ++ 41 ∷ []) (g ∙ ap (λ (x : List ℕ). x ++ behind_spaces ps) (f ∙ ap (λ (x : List ℕ). x ++ part_text p) e)),
+  (is, are),
+)
 
 -- the fault of the first part, or of a later one
-pub row_first_fails : (e : ShapeFault) (t : Tree Identifier) (ts : Trees Identifier) → Fails e (part_of symbol_of t) → Fails e (map_ok library_text (parts_of symbol_of (tree t ts)))
-row_first_fails e t ts h = fails_map e library_text (parts_of symbol_of (tree t ts)) (fails_then e (part_of symbol_of t) (λ p. parts_of symbol_of ts >> λ ps. Ok (p ∷ ps)) h)
+pub row_first_fails : (e : ShapeFault) (t : Tree Identifier) (ts : Trees Identifier) → Fails e (part_of symbol_of t) → Fails e (parts_of symbol_of (tree t ts))
+row_first_fails e t ts h = fails_then e (part_of symbol_of t) (λ p. parts_of symbol_of ts >> λ ps. Ok (p ∷ ps)) h
 
-pub row_later_fails : (e : ShapeFault) (t : Tree Identifier) (ts : Trees Identifier) (p : LibraryPart) → part_of symbol_of t ≡ Ok p → Fails e (parts_of symbol_of ts) → Fails e (map_ok library_text (parts_of symbol_of (tree t ts)))
+pub row_later_fails : (e : ShapeFault) (t : Tree Identifier) (ts : Trees Identifier) (p : LibraryPart) → part_of symbol_of t ≡ Ok p → Fails e (parts_of symbol_of ts) → Fails e (parts_of symbol_of (tree t ts))
 row_later_fails e t ts p first h =
-    fails_map e library_text (parts_of symbol_of (tree t ts))
-    (fails_same e (parts_of symbol_of ts >> λ ps. Ok (p ∷ ps)) (parts_of symbol_of (tree t ts)) (then_ok (part_of symbol_of t) (λ q. parts_of symbol_of ts >> λ ps. Ok (q ∷ ps)) p first) (fails_then e (parts_of symbol_of ts) (λ ps. Ok (p ∷ ps)) h))
+    fails_same e (parts_of symbol_of ts >> λ ps. Ok (p ∷ ps)) (parts_of symbol_of (tree t ts)) (then_ok (part_of symbol_of t) (λ q. parts_of symbol_of ts >> λ ps. Ok (q ∷ ps)) p first) (fails_then e (parts_of symbol_of ts) (λ ps. Ok (p ∷ ps)) h)
 
 -- ---- rows of one part
 
@@ -330,7 +403,7 @@ known_more known i t key s old new lt is k o n =
 
 -- what has the names of libraries knows the libraries of these texts
 pub knows_listed : (libraries : BTreeSet (String Global)) (texts : List (List ℕ)) → ((s : List ℕ) → contains_text libraries s ≡ has_name texts s) → Knows libraries (λ n. has_name texts (library_text n))
-knows_listed libraries texts h n = sym (h (library_text n))
+knows_listed libraries texts h n written = sym (h (library_text n))
 
 pub dotted_name : (ts : Trees Identifier) (u : Tree Identifier) → name_in_list ts (dotted u) ≡ Err BadForm
 dotted_name no_trees u = refl

@@ -21,7 +21,7 @@ use Rattle.syntax_tree.specs.declared.symbols.Ident.TheVariants as idents
 use Rattle.syntax_tree.specs.declared.symbols.UseNo.{UseNo}
 use Rattle.core_forms.specs.Parts.{IsNameIfAny}
 use Rattle.core_forms.proofs.Words.{IsNoName, leaf_name}
-use Rattle.expander.specs.Seen.{head_name_of}
+use Rattle.expander.specs.FormsSeen.{head_name_of}
 
 -- the atom of a leaf
 pub record IsAtom (o : Option Occ) (t : Tree Identifier) : Type 0 where

@@ -28,7 +28,7 @@ use Rattle.expander.specs.Heads.{IsHead}
 use Rattle.expander.specs.State.{Stands}
 use Rattle.expander.specs.Stepped.{met, with_keyword}
 use Rattle.expander.specs.Outcomes.{Stays}
-use Rattle.expander.specs.Seen.{head_name_of}
+use Rattle.expander.specs.FormsSeen.{head_name_of}
 use Rattle.expander.specs.Ready.{Expanding, not_macro, IsSettled, IsPlain, not_core, IsCall, Reads}
 use Rattle.expander.specs.Searched.{searched}
 use Rattle.expander.specs.declared.expressions.Ready as code_ready

@@ -10,7 +10,7 @@ use Rattle.scheme_model.specs.Cores.{Binder}
 use Rattle.scheme_model.specs.Steps.{Broken, Step, ◌>>=◌, done}
 use Rattle.scheme_model.specs.Expression.{meaning_of}
 use Rattle.scheme_model.specs.Order.{Here, Going, Pass, Pending, Macro, RulesParts, caught, put, noted, told, binder_at, rules_parts_of, rules_parts, rules_note, rules_at, run_syntax}
-use Rattle.scheme_model.specs.ScopedExpansion.{Frames, Place, ScopedState, body_around, bound_next, meaning_next}
+use Rattle.scheme_model.specs.ScopedExpansion.{Frames, FramedIdent, ScopedState, body_around, bound_next, meaning_next}
 use Rattle.syntax_tree.specs.Meant.{IsMeaning}
 use Rattle.syntax_tree.specs.declared.meaning.Meaning as code_meaning
 use Rattle.syntax_tree.specs.declared.trees.Work.{Work}
@@ -61,24 +61,24 @@ counted_place work u w ls spot fs s t counts same placed =
 pub counted_stands : (work : Work) (u w : UnitScope) (ls : List Frames) (s : ScopedState) (c : CountsSome u w) → Stands work u ls s → Stands work w ls (spent c.0 s)
 counted_stands work u w ls s c e = subst (λ (v : UnitScope). Stands work v ls (spent c.0 s)) (sym c.2) (nodes_stand work u ls s c.0 c.1 e)
 
-module _ (work : Work) (region : Region) (u : UnitScope) (ls : List Frames) (spot : Spot) (fs : Frames) (s : ScopedState) (known : Known) (here : Here) (n : Named Identifier) (t : Tree Identifier) (p : Pending Identifier Place) (old : code_pending.Pending) (asked : Asked) (given : ℕ)
+module _ (work : Work) (region : Region) (u : UnitScope) (ls : List Frames) (spot : Spot) (fs : Frames) (s : ScopedState) (known : Known) (here : Here) (n : Named Identifier) (t : Tree Identifier) (p : Pending Identifier FramedIdent) (old : code_pending.Pending) (asked : Asked) (given : ℕ)
     (e : Stands work u ls s) (placed : SpotFor work u ls s spot fs) (notes : NotesFor work ls asked (noted (rules_note (searched known) fs s (rules_parts_of t)) p).notes) where
-  abbrev pub with_note : Pending Identifier Place
+  abbrev pub with_note : Pending Identifier FramedIdent
   with_note = noted (rules_note (searched known) fs s (rules_parts_of t)) p
 
-  abbrev then_defined : Rules Identifier → Step ScopedState (Binder × Pending Identifier Place)
+  abbrev then_defined : Rules Identifier → Step ScopedState (Binder × Pending Identifier FramedIdent)
   then_defined rules w = told here ((searched known).define n (Some rules) fs with_note w) >>= λ q. done (binder_at (searched known) fs w n, q)
 
-  abbrev then_read : RulesParts Identifier → Step ScopedState (Binder × Pending Identifier Place)
+  abbrev then_read : RulesParts Identifier → Step ScopedState (Binder × Pending Identifier FramedIdent)
   then_read r w = rules_at (searched known) here t r w >>= then_defined
 
   abbrev Whole : Type 0
-  Whole = Result (Binder × Pending Identifier Place) Broken × ScopedState
+  Whole = Result (Binder × Pending Identifier FramedIdent) Broken × ScopedState
 
   abbrev whole : Whole
   whole = rules_parts (searched known) here fs (rules_parts_of t) s >>= then_read
 
-  abbrev set_aside : Going Identifier Place ScopedState → Binder × Pending Identifier Place → ScopedState → Pass Identifier Place × ScopedState
+  abbrev set_aside : Going Identifier FramedIdent ScopedState → Binder × Pending Identifier FramedIdent → ScopedState → Pass Identifier FramedIdent × ScopedState
   set_aside go r = go (put (Macro r.0 here) r.1)
 
   by_whole : (v : UnitScope) (result : Result (Unit {0}) ExpandFault) (new : code_pending.Pending) (x : Whole) → whole ≡ x → GoesOn work work region u v ls spot fs p.todo given new asked result (λ go. caught with_note.notes x (set_aside go)) →
@@ -120,13 +120,13 @@ module _ (work : Work) (region : Region) (u : UnitScope) (ls : List Frames) (spo
     read_fails fault.Memory h = h
 
     module _ (k : code_macro.Macro) (h : EndsHere MacroIs work work region u w ls (Ok k) reading) where
-      abbrev defining : Result (Pending Identifier Place) Broken × ScopedState
+      abbrev defining : Result (Pending Identifier FramedIdent) Broken × ScopedState
       defining = told here ((searched known).define n (Some h.0) fs with_note reading.1)
 
-      abbrev is_so : Unit {0} → Pending Identifier Place → Type 0
+      abbrev is_so : Unit {0} → Pending Identifier FramedIdent → Type 0
       is_so d q = q ≡ with_note
 
-      abbrev beside : Pending Identifier Place → Step ScopedState (Binder × Pending Identifier Place)
+      abbrev beside : Pending Identifier FramedIdent → Step ScopedState (Binder × Pending Identifier FramedIdent)
       beside q = done (binder_at (searched known) fs reading.1 n, q)
 
       read : whole ≡ (defining >>= beside)
@@ -134,7 +134,7 @@ module _ (work : Work) (region : Region) (u : UnitScope) (ls : List Frames) (spo
 
       pub define_fails : (v : UnitScope) (f : ExpandFault) → EndsIn is_so work w v ls spot fs (Err f) defining → GoesOn work work region u v ls spot fs p.todo given old asked (Err f) (λ go. run_syntax (searched known) go here fs p (n, t) s)
       define_fails v f ends =
-          let any = λ (d : Unit {0}) (x : Binder × Pending Identifier Place). Unit {0} in
+          let any = λ (d : Unit {0}) (x : Binder × Pending Identifier FramedIdent). Unit {0} in
           by_whole v (Err f) old (defining >>= beside) read
           (goes_failing work region u v ls spot fs p.todo given old asked with_note.notes any f (defining >>= beside) set_aside e.form.few_nodes
           (in_fails is_so any work u v ls spot fs f defining beside (in_after_same is_so work u w v ls spot fs (Err f) defining h.1.same ends)) notes)
@@ -157,4 +157,4 @@ module _ (work : Work) (region : Region) (u : UnitScope) (ls : List Frames) (spo
           by_whole v (Ok tt) new x (read ∙ bound_goes defining beside first.0 first.2)
           (aside_goes work region u v ls spot fs s with_note old new asked given (Macro m here) (kept.Macro b c) (record { todo = pending.todo; aside = pending.aside }) notes
           (b, c, refl, kept_binder, kept_meaning) todo aside 1 (m, first.0) x set_aside first.1 refl (takes.uses ∙ uses) (omega (arith, same, locals)) (omega arith) one
-          (λ go. ap (λ (q : Pending Identifier Place). go (put (Macro m here) q) defining.1) first.3))
+          (λ go. ap (λ (q : Pending Identifier FramedIdent). go (put (Macro m here) q) defining.1) first.3))

@@ -16,7 +16,7 @@ use Rattle.scheme_model.specs.UnitExpansion.{max_depth}
 use Rattle.scheme_model.specs.Expression.{expand}
 use Rattle.scheme_model.specs.Program.{enough_turns}
 use Rattle.scheme_model.specs.Substitution.{at_form, any}
-use Rattle.scheme_model.specs.ScopedExpansion.{Frames, Place, ScopedState, next_number, macro_added, body_around, definition_added, meaning_next, is_defined}
+use Rattle.scheme_model.specs.ScopedExpansion.{Frames, FramedIdent, ScopedState, next_number, macro_added, body_around, definition_added, meaning_next, is_defined}
 use Rattle.scheme_model.specs.CountedExpansion.{refused_here}
 use Rattle.scheme_model.proofs.FrameAsks.{AllOf}
 use Rattle.scheme_model.proofs.FrameHeads.{IfMacro}
@@ -51,7 +51,7 @@ more_in_front P xs ys zs a b = record {
 
 -- ---- notes and macros of whatever kind
 
-pub any_notes : (ns : List (Note Place)) → AllOf (NoteAll (λ (l : Place). Unit {0})) ns
+pub any_notes : (ns : List (Note FramedIdent)) → AllOf (NoteAll (λ (l : FramedIdent). Unit {0})) ns
 any_notes [] = tt
 any_notes (LookedUp p head keyword ∷ ns) = (tt, any_notes ns)
 any_notes (Compared p q held ∷ ns) = ((tt, tt), any_notes ns)
@@ -60,13 +60,13 @@ pub any_macro : (o : Option (Transformer Frames Ident)) → IfMacro (λ (t : Tra
 any_macro None = tt
 any_macro (Some t) = tt
 
-pub notes_left : (s t : ScopedState) (n : Named Ident) (p : Pending Ident Place) (refused twice : Bool) → OkAll (λ (q : Pending Ident Place). q.notes ≡ p.notes) (cond {A = Result (Pending Ident Place) (Fault Ident) × ScopedState} refused (Err (KeywordRedefined n), s) (cond twice (Err (Duplicate n), s) (Ok p, t))).0
+pub notes_left : (s t : ScopedState) (n : Named Ident) (p : Pending Ident FramedIdent) (refused twice : Bool) → OkAll (λ (q : Pending Ident FramedIdent). q.notes ≡ p.notes) (cond {A = Result (Pending Ident FramedIdent) (Fault Ident) × ScopedState} refused (Err (KeywordRedefined n), s) (cond twice (Err (Duplicate n), s) (Ok p, t))).0
 notes_left s t n p true twice = tt
 notes_left s t n p false true = tt
 notes_left s t n p false false = refl
 
 -- a definition is refused by what was asked
-abbrev pub is_refused_here : Named Ident → Option (Rules Ident) → Frames → Pending Ident Place → ScopedState → Bool
+abbrev pub is_refused_here : Named Ident → Option (Rules Ident) → Frames → Pending Ident FramedIdent → ScopedState → Bool
 is_refused_here n r fs p s = any (λ note. speaks_of n.name note && refused_here (definition_added (body_around fs) n r fs s) (meaning_next s (body_around fs) n.name) (is_some r) note) p.notes
 
 module _ (form : ℕ) where
@@ -166,8 +166,8 @@ module _ (form : ℕ) where
     form_added None n r fs = work
     form_added (Some b) n r fs = work
 
-    defined_on : (b : Option Number) (n : Named Ident) (r : Option (Rules Ident)) (fs : Frames) (p : Pending Ident Place) (refused twice : Bool)
-        → let q = cond {A = Result (Pending Ident Place) (Fault Ident) × ScopedState} refused (Err (KeywordRedefined n), s) (cond twice (Err (Duplicate n), s) (Ok p, definition_added b n r fs s)) in (q.1.form ≡ form) × OthersStay form s q.1
+    defined_on : (b : Option Number) (n : Named Ident) (r : Option (Rules Ident)) (fs : Frames) (p : Pending Ident FramedIdent) (refused twice : Bool)
+        → let q = cond {A = Result (Pending Ident FramedIdent) (Fault Ident) × ScopedState} refused (Err (KeywordRedefined n), s) (cond twice (Err (Duplicate n), s) (Ok p, definition_added b n r fs s)) in (q.1.form ≡ form) × OthersStay form s q.1
     defined_on b n r fs p true twice = (work, others_itself s)
     defined_on b n r fs p false true = (work, others_itself s)
     defined_on b n r fs p false false = (form_added b n r fs, added_on b n r fs)
@@ -213,7 +213,7 @@ module _ (form : ℕ) where
     macros = h.macros;
   }
 
-  pub declared_stays : (known : Known) (t : Tree Ident) (notes : List (Note Place)) (s : ScopedState) → OthersStay form s (declared known form t notes s).1
+  pub declared_stays : (known : Known) (t : Tree Ident) (notes : List (Note FramedIdent)) (s : ScopedState) → OthersStay form s (declared known form t notes s).1
   declared_stays known t notes s =
       of_turned s (declared known form t notes s).1
       (ran_after (searched known) (staying known) (run_alike (searched known) (staying known) [] tt enough_turns (record { todo = record { here = None; tree = t } ∷ []; aside = []; notes = notes }) (turned form s) (refl, tt) (any_notes notes))).1

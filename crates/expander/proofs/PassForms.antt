@@ -11,7 +11,7 @@ use Rattle.scheme_model.specs.Requirements.{Known}
 use Rattle.scheme_model.specs.Cores.{Target}
 use Rattle.scheme_model.specs.Order.{Here, Form, Expression, Note, LookedUp, Pending, Pass, Going, Transformer, put, noted, read_then, head_of, target_of, here_at, run_core, run_use, run_head, run_form}
 use Rattle.scheme_model.specs.CountedExpansion.{means_here}
-use Rattle.scheme_model.specs.ScopedExpansion.{Frames, Place, ScopedState, macro_at}
+use Rattle.scheme_model.specs.ScopedExpansion.{Frames, FramedIdent, ScopedState, macro_at}
 use Rattle.core_forms.specs.Ends.{keyword_as}
 use Rattle.core_forms.specs.Forms.{Shape, shape_in}
 use Rattle.core_forms.specs.Parts.{IsNameIfAny}
@@ -33,7 +33,7 @@ use Rattle.expander.specs.Judged.{IsBadForm}
 use Rattle.expander.specs.Kept.{FormFor, PendingFor, NotesFor, SpotFor, left_with}
 use Rattle.expander.specs.Outcomes.{At, CanLook, Stays}
 use Rattle.expander.specs.Passed.{CanPass, GoesOn, IsPassed, ShapeFits, shape_weight}
-use Rattle.expander.specs.Seen.{head_name_of, takes_effect}
+use Rattle.expander.specs.FormsSeen.{head_name_of, takes_effect}
 use Rattle.expander.specs.Used.{CanUse, UseFor}
 use Rattle.expander.specs.Searched.{searched}
 use Rattle.expander.specs.declared.asked.Asked.{Asked}
@@ -78,32 +78,32 @@ no_keyword IsNone is = refl
 
 -- ---- what the definition does
 
-module _ (known : Known) (work : Work) (fs : Frames) (s : ScopedState) (m : Form Identifier) (p : Pending Identifier Place) (x : NamePart) (here : Here) (is_here : here ≡ here_at (λ i. i) m.tree m.here) (n : HeadNamed work m.tree x) where
-  abbrev pub looked_up : Note Place
+module _ (known : Known) (work : Work) (fs : Frames) (s : ScopedState) (m : Form Identifier) (p : Pending Identifier FramedIdent) (x : NamePart) (here : Here) (is_here : here ≡ here_at (λ i. i) m.tree m.here) (n : HeadNamed work m.tree x) where
+  abbrev pub looked_up : Note FramedIdent
   looked_up = LookedUp (record { frames = fs; ident = n.ident }) true (is_keyword (head_of (searched known) fs s n.ident))
 
   abbrev pub keyword : Target
   keyword = target_of (searched known) fs s n.ident n.place
 
-  abbrev by_head : Going Identifier Place ScopedState → Head → Pass Identifier Place × ScopedState
+  abbrev by_head : Going Identifier FramedIdent ScopedState → Head → Pass Identifier FramedIdent × ScopedState
   by_head go h = run_head (searched known) go here fs h keyword m n.parts n.tail (noted (looked_up ∷ []) p) s
 
-  headed : (go : Going Identifier Place ScopedState) → run_form (searched known) go fs (here_at (λ i. i) m.tree m.here) m m.tree p s ≡ by_head go (head_of (searched known) fs s n.ident)
+  headed : (go : Going Identifier FramedIdent ScopedState) → run_form (searched known) go fs (here_at (λ i. i) m.tree m.here) m m.tree p s ≡ by_head go (head_of (searched known) fs s n.ident)
   headed go = ap (λ (h : Here). run_form (searched known) go fs h m m.tree p s) (sym is_here) ∙ ap (λ (t : Tree Identifier). run_form (searched known) go fs here m t p s) n.is
 
-  pub by_core : (c : CoreKeyword) → head_of (searched known) fs s n.ident ≡ IsCore c → (go : Going Identifier Place ScopedState) →
+  pub by_core : (c : CoreKeyword) → head_of (searched known) fs s n.ident ≡ IsCore c → (go : Going Identifier FramedIdent ScopedState) →
       run_form (searched known) go fs (here_at (λ i. i) m.tree m.here) m m.tree p s ≡ run_core (searched known) go here fs c keyword m n.parts n.tail (noted (looked_up ∷ []) p) s
   by_core c is go = headed go ∙ ap (by_head go) is
 
-  pub by_auxiliary : (a : Auxiliary) → head_of (searched known) fs s n.ident ≡ IsAuxiliary a → (go : Going Identifier Place ScopedState) →
+  pub by_auxiliary : (a : Auxiliary) → head_of (searched known) fs s n.ident ≡ IsAuxiliary a → (go : Going Identifier FramedIdent ScopedState) →
       run_form (searched known) go fs (here_at (λ i. i) m.tree m.here) m m.tree p s ≡ go (put (Expression m) (noted (looked_up ∷ []) p)) s
   by_auxiliary a is go = headed go ∙ ap (by_head go) is
 
-  pub by_none : head_of (searched known) fs s n.ident ≡ IsNone → (go : Going Identifier Place ScopedState) →
+  pub by_none : head_of (searched known) fs s n.ident ≡ IsNone → (go : Going Identifier FramedIdent ScopedState) →
       run_form (searched known) go fs (here_at (λ i. i) m.tree m.here) m m.tree p s ≡ go (put (Expression m) (noted (looked_up ∷ []) p)) s
   by_none is go = headed go ∙ ap (by_head go) is
 
-  pub by_macro : (d : Meaning) (t : Transformer Frames Identifier) → head_of (searched known) fs s n.ident ≡ IsMacro d → macro_at s.macros d ≡ Some t → (go : Going Identifier Place ScopedState) →
+  pub by_macro : (d : Meaning) (t : Transformer Frames Identifier) → head_of (searched known) fs s n.ident ≡ IsMacro d → macro_at s.macros d ≡ Some t → (go : Going Identifier FramedIdent ScopedState) →
       run_form (searched known) go fs (here_at (λ i. i) m.tree m.here) m m.tree p s ≡ run_use (searched known) go here fs keyword (Some t) m n.parts n.tail (noted (looked_up ∷ []) p) s
   by_macro d t is there go =
       headed go
@@ -112,10 +112,10 @@ module _ (known : Known) (work : Work) (fs : Frames) (s : ScopedState) (m : Form
 
 -- ---- what is left, with one note more
 
-pub noted_pending : (work : Work) (region : Region) (unit form : ℕ) (todo : code_pending.Pending) (p : Pending Identifier Place) (ns : List (Note Place)) → PendingFor work region unit form todo p → PendingFor work region unit form todo (noted ns p)
+pub noted_pending : (work : Work) (region : Region) (unit form : ℕ) (todo : code_pending.Pending) (p : Pending Identifier FramedIdent) (ns : List (Note FramedIdent)) → PendingFor work region unit form todo p → PendingFor work region unit form todo (noted ns p)
 noted_pending work region unit form todo p ns h = record { todo = h.todo; aside = h.aside }
 
-pub can_pass_noted : (work : Work) (region : Region) (u : UnitScope) (spot : Spot) (given : ℕ) (todo : code_pending.Pending) (old new : Asked) (can : CanPass work region u spot given todo old) (q : Note Place) →
+pub can_pass_noted : (work : Work) (region : Region) (u : UnitScope) (spot : Spot) (given : ℕ) (todo : code_pending.Pending) (old new : Asked) (can : CanPass work region u spot given todo old) (q : Note FramedIdent) →
     NotesFor work can.layout new (q ∷ can.left.notes) → CanPass work region u spot given todo new
 can_pass_noted work region u spot given todo old new can q notes = record {
   layout = can.layout;
@@ -204,7 +204,7 @@ Tells_fault names unit form at fault.Memory = ⊥
 
 -- no clause has a shape, or none could be judged
 pub goes_bad : (region : Region) (ls : List Frames) (spot : Spot) (fs : Frames) (before : List (Form Identifier)) (given : ℕ) (todo : code_pending.Pending) (asked : Asked) (known : Known) (work : Work) (u : UnitScope) (s : ScopedState) (here : Here) (e : ExpandFault)
-    (r : Result (Option (Trees Identifier)) (Fault Identifier)) (p : Pending Identifier Place) (next : Going Identifier Place ScopedState → Option (Trees Identifier) → ScopedState → Pass Identifier Place × ScopedState) →
+    (r : Result (Option (Trees Identifier)) (Fault Identifier)) (p : Pending Identifier FramedIdent) (next : Going Identifier FramedIdent ScopedState → Option (Trees Identifier) → ScopedState → Pass Identifier FramedIdent × ScopedState) →
     Stands work u ls s → SpotFor work u ls s spot fs → NotesFor work ls asked p.notes → IsBadForm here e r → GoesOn work work region u u ls spot fs before given todo asked (Err e) (λ go. read_then (searched known) here p r (next go) s)
 goes_bad region ls spot fs before given todo asked known work u s here (fault.At e) r p next stands placed notes h =
     goes_misread region ls spot fs before given todo asked known work u s s.unit s.form here (fault.At e) r p next stands.form.few_nodes refl refl stands placed notes
@@ -213,14 +213,14 @@ goes_bad region ls spot fs before given todo asked known work u s here fault.Ful
 goes_bad region ls spot fs before given todo asked known work u s here fault.Memory r p next stands placed notes h = leaves_itself work region u stands.form.few_nodes
 
 -- what the chosen forms come to
-pub read_is : (known : Known) (here : Here) (p : Pending Identifier Place) (r : Result (Option (Trees Identifier)) (Fault Identifier)) (o : Option (Trees Identifier)) (next : Option (Trees Identifier) → ScopedState → Pass Identifier Place × ScopedState) (s : ScopedState) → r ≡ Ok o →
+pub read_is : (known : Known) (here : Here) (p : Pending Identifier FramedIdent) (r : Result (Option (Trees Identifier)) (Fault Identifier)) (o : Option (Trees Identifier)) (next : Option (Trees Identifier) → ScopedState → Pass Identifier FramedIdent × ScopedState) (s : ScopedState) → r ≡ Ok o →
     read_then (searched known) here p r next s ≡ next o s
 read_is known here p r o next s is = ap (λ (x : Result (Option (Trees Identifier)) (Fault Identifier)). read_then (searched known) here p x next s) is
 
 -- ---- a form that is set aside
 
-pub sets_aside : (work : Work) (region : Region) (u : UnitScope) (ls : List Frames) (spot : Spot) (fs : Frames) (s : ScopedState) (p : Pending Identifier Place) (ns : List (Note Place)) (old new : code_pending.Pending) (asked : Asked) (m : Form Identifier) (x : code_form.Form)
-    (f : Going Identifier Place ScopedState → Pass Identifier Place × ScopedState) → ((go : Going Identifier Place ScopedState) → f go ≡ go (put (Expression m) (noted ns p)) s) → Stands work u ls s → SpotFor work u ls s spot fs → FormFor work region x m →
+pub sets_aside : (work : Work) (region : Region) (u : UnitScope) (ls : List Frames) (spot : Spot) (fs : Frames) (s : ScopedState) (p : Pending Identifier FramedIdent) (ns : List (Note FramedIdent)) (old new : code_pending.Pending) (asked : Asked) (m : Form Identifier) (x : code_form.Form)
+    (f : Going Identifier FramedIdent ScopedState → Pass Identifier FramedIdent × ScopedState) → ((go : Going Identifier FramedIdent ScopedState) → f go ≡ go (put (Expression m) (noted ns p)) s) → Stands work u ls s → SpotFor work u ls s spot fs → FormFor work region x m →
     PendingFor work region u.unit u.form.number old p → NotesFor work ls asked (ns ++ p.notes) → new.todo ≡ old.todo → new.aside.items ≡ old.aside.items ++ kept.Expression x ∷ [] →
     GoesOn work work region u u ls spot fs p.todo (tree_size m.tree) new asked (Ok tt) f
 sets_aside work region u ls spot fs s p ns old new asked m x f same stands placed on pending notes todo aside =

@@ -13,7 +13,7 @@ use Rattle.scheme_model.specs.Ident.{Ident as Identifier}
 use Rattle.scheme_model.specs.Requirements.{Known}
 use Rattle.scheme_model.specs.Steps.{Broken, done}
 use Rattle.scheme_model.specs.Order.{Here, Form, Note, LookedUp, Compared, Pending, Pass, Going, first, forms_at, caught, read_then, splice}
-use Rattle.scheme_model.specs.ScopedExpansion.{Frames, Place, ScopedState}
+use Rattle.scheme_model.specs.ScopedExpansion.{Frames, FramedIdent, ScopedState}
 use Rattle.syntax_tree.specs.Names.{KeepsNames, AreToldApart}
 use Rattle.syntax_tree.specs.Looks.{PartsStand, AllNamed}
 use Rattle.syntax_tree.specs.declared.trees.Work.{Work}
@@ -28,7 +28,7 @@ use Rattle.expander.specs.Chains.{body_chain}
 use Rattle.expander.specs.Counts.{with_nodes, Counts}
 use Rattle.expander.specs.State.{Stands}
 use Rattle.expander.specs.Stepped.{spent}
-use Rattle.expander.specs.Seen.{form_at}
+use Rattle.expander.specs.FormsSeen.{form_at}
 use Rattle.expander.specs.Told.{Tells}
 use Rattle.expander.specs.Kept.{FormFor, KeptFor, PendingFor, NoteFor, NotesFor, IsIn, SpotFor, forms_size, left_with}
 use Rattle.expander.specs.Outcomes.{Stays}
@@ -79,7 +79,7 @@ spot_on old new u v ls s t spot fs keeps apart e scopes root same h = record { a
 -- ---- notes
 
 -- one note more
-pub one_noted : (work : Work) (ls : List Frames) (old new : Asked) (note : code_note.Note) (q : Note Place) (ns : List (Note Place)) → new.notes.items ≡ old.notes.items ++ note ∷ [] → AskedStands work.symbols new → NoteFor work ls note q →
+pub one_noted : (work : Work) (ls : List Frames) (old new : Asked) (note : code_note.Note) (q : Note FramedIdent) (ns : List (Note FramedIdent)) → new.notes.items ≡ old.notes.items ++ note ∷ [] → AskedStands work.symbols new → NoteFor work ls note q →
     NotesFor work ls old ns → NotesFor work ls new (q ∷ ns)
 one_noted work ls old new note q ns items stands is h = record {
   notes = subst (λ (xs : List code_note.Note). AllMatch (NoteFor work ls) xs (reverse (q ∷ ns))) (sym items)
@@ -91,12 +91,12 @@ one_noted work ls old new note q ns items stands is h = record {
 
 module _ (region : Region) (ls : List Frames) (spot : Spot) (fs : Frames) (before : List (Form Identifier)) (given : ℕ) (todo : code_pending.Pending) (asked : Asked) where
   -- a step that is another, whatever goes on behind it
-  pub goes_so : (old new : Work) (u v : UnitScope) (result : Result (Unit {0}) ExpandFault) (f g : Going Identifier Place ScopedState → Pass Identifier Place × ScopedState) → ((go : Going Identifier Place ScopedState) → f go ≡ g go) →
+  pub goes_so : (old new : Work) (u v : UnitScope) (result : Result (Unit {0}) ExpandFault) (f g : Going Identifier FramedIdent ScopedState → Pass Identifier FramedIdent × ScopedState) → ((go : Going Identifier FramedIdent ScopedState) → f go ≡ g go) →
       GoesOn old new region u v ls spot fs before given todo asked result g → GoesOn old new region u v ls spot fs before given todo asked result f
-  goes_so old new u v result f g same h = subst (λ (x : Going Identifier Place ScopedState → Pass Identifier Place × ScopedState). GoesOn old new region u v ls spot fs before given todo asked result x) (λ i go. sym (same go) i) h
+  goes_so old new u v result f g same h = subst (λ (x : Going Identifier FramedIdent ScopedState → Pass Identifier FramedIdent × ScopedState). GoesOn old new region u v ls spot fs before given todo asked result x) (λ i go. sym (same go) i) h
 
   -- behind what counts no use and takes no local
-  pub goes_after : (a b c : Work) (u w v : UnitScope) (s : ScopedState) (result : Result (Unit {0}) ExpandFault) (f : Going Identifier Place ScopedState → Pass Identifier Place × ScopedState) → Stays a b region u w ls s →
+  pub goes_after : (a b c : Work) (u w v : UnitScope) (s : ScopedState) (result : Result (Unit {0}) ExpandFault) (f : Going Identifier FramedIdent ScopedState → Pass Identifier FramedIdent × ScopedState) → Stays a b region u w ls s →
       w.form.budget.uses ≡ u.form.budget.uses → w.form.budget.locals ≡ u.form.budget.locals → GoesOn b c region w v ls spot fs before given todo asked result f → GoesOn a c region u v ls spot fs before given todo asked result f
   goes_after a b c u w v s (Ok done) f m uses locals h =
       let r = h.2 in (
@@ -120,17 +120,17 @@ module _ (region : Region) (ls : List Frames) (spot : Spot) (fs : Frames) (befor
   goes_after a b c u w v s (Err fault.Memory) f m uses locals h = leaves_on a b c region u w ls s (moves_here a b region u w ls s m) h
 
   -- a fault that is handed on
-  pub goes_err : (old new : Work) (u v : UnitScope) (result : Result (Unit {0}) ExpandFault) (e : ExpandFault) (f : Going Identifier Place ScopedState → Pass Identifier Place × ScopedState) → IsErrAnd result (λ x. x ≡ e) →
+  pub goes_err : (old new : Work) (u v : UnitScope) (result : Result (Unit {0}) ExpandFault) (e : ExpandFault) (f : Going Identifier FramedIdent ScopedState → Pass Identifier FramedIdent × ScopedState) → IsErrAnd result (λ x. x ≡ e) →
       GoesOn old new region u v ls spot fs before given todo asked (Err e) f → GoesOn old new region u v ls spot fs before given todo asked result f
   goes_err old new u v (Ok done) e f is h = absurd is
   goes_err old new u v (Err x) e f is h = subst (λ (y : ExpandFault). GoesOn old new region u v ls spot fs before given todo asked (Err y) f) (sym is) h
 
   -- a shape that was misread
-  abbrev broken_pass : List (Note Place) → Here → ScopedState → Fault Identifier → Pass Identifier Place × ScopedState
+  abbrev broken_pass : List (Note FramedIdent) → Here → ScopedState → Fault Identifier → Pass Identifier FramedIdent × ScopedState
   broken_pass ns at t x = (record { notes = ns; items = Err (record { fault = x; here = at }) }, t)
 
-  pub goes_misread : {B : Type 0} (known : Known) (work : Work) (u : UnitScope) (s : ScopedState) (unit form : ℕ) (here : Here) (e : ExpandFault) (r : Result B (Fault Identifier)) (p : Pending Identifier Place)
-      (next : Going Identifier Place ScopedState → B → ScopedState → Pass Identifier Place × ScopedState) → u.form.budget.nodes ≤ 200000 → s.unit ≡ unit → s.form ≡ form → Stands work u ls s → SpotFor work u ls s spot fs → NotesFor work ls asked p.notes →
+  pub goes_misread : {B : Type 0} (known : Known) (work : Work) (u : UnitScope) (s : ScopedState) (unit form : ℕ) (here : Here) (e : ExpandFault) (r : Result B (Fault Identifier)) (p : Pending Identifier FramedIdent)
+      (next : Going Identifier FramedIdent ScopedState → B → ScopedState → Pass Identifier FramedIdent × ScopedState) → u.form.budget.nodes ≤ 200000 → s.unit ≡ unit → s.form ≡ form → Stands work u ls s → SpotFor work u ls s spot fs → NotesFor work ls asked p.notes →
       Tells work.symbols unit form here e r → GoesOn work work region u u ls spot fs before given todo asked (Err e) (λ go. read_then (searched known) here p r (next go) s)
   goes_misread {B} known work u s unit form here (fault.At e) r p next few is_unit is_form stands placed notes h =
       let b : Broken = record { fault = h.0; here = here } in
@@ -173,7 +173,7 @@ less_spliced a b c k given is less = omega (arith, is, less)
 locals_spliced : (l a b c k given : ℕ) → a ≡ b + c → b < given → l + (a + k) ≤ l + (c + k) + given
 locals_spliced l a b c k given is less = omega (arith, is, less)
 
-module _ (known : Known) (work : Work) (region : Region) (u v : UnitScope) (ls : List Frames) (s : ScopedState) (spot : Spot) (fs : Frames) (asked : Asked) (here : Here) (ns : List number.Tree) (ts : Trees Identifier) (p : Pending Identifier Place) (given : ℕ) (old new : code_pending.Pending)
+module _ (known : Known) (work : Work) (region : Region) (u v : UnitScope) (ls : List Frames) (s : ScopedState) (spot : Spot) (fs : Frames) (asked : Asked) (here : Here) (ns : List number.Tree) (ts : Trees Identifier) (p : Pending Identifier FramedIdent) (given : ℕ) (old new : code_pending.Pending)
     (e : Stands work u ls s) (placed : SpotFor work u ls s spot fs) (notes : NotesFor work ls asked p.notes) where
   pub splice_goes : PartsStand work ns ts → AllNamed work region ns → PendingFor work region u.unit u.form.number old p → trees_size ts < given → Counts u v here 1 (Ok tt) → new.todo.items ≡ old.todo.items ++ map (form_at here) (reverse ns) →
       new.aside.items ≡ old.aside.items → GoesOn work work region u v ls spot fs p.todo given new asked (Ok tt) (λ go. splice (searched known) go here p ts s)
@@ -238,22 +238,22 @@ pairs_past P (x ∷ xs) (y ∷ ys) zero h l = absurd (omega (arith, l))
 pairs_past P (x ∷ xs) (y ∷ ys) (suc k) h l = pairs_past P xs ys k h.1 (omega (arith, l))
 
 module _ (work : Work) (ls : List Frames) (literal_scope scope : ℕ) where
-  comparison_within : (c : Comparison) (n : Note Place) → ComparisonFor work ls literal_scope scope c n → AreWithin work.symbols (c.pair.literal ∷ c.pair.ident ∷ [])
+  comparison_within : (c : Comparison) (n : Note FramedIdent) → ComparisonFor work ls literal_scope scope c n → AreWithin work.symbols (c.pair.literal ∷ c.pair.ident ∷ [])
   comparison_within c (LookedUp p head keyword) h = absurd h
   comparison_within c (Compared p q held) h =
       (slice_get_within work.symbols.idents c.pair.literal p.ident h.0.1, (slice_get_within work.symbols.idents c.pair.ident q.ident h.1.1, tt))
 
-  module _ (cs : List Comparison) (qs : List (Note Place)) (are : AllMatch (ComparisonFor work ls literal_scope scope) cs qs) where
+  module _ (cs : List Comparison) (qs : List (Note FramedIdent)) (are : AllMatch (ComparisonFor work ls literal_scope scope) cs qs) where
     pub within_here : (k : ℕ) (d : Comparison) → k < length cs → AreWithin work.symbols ((get_or cs k d).pair.literal ∷ (get_or cs k d).pair.ident ∷ [])
     within_here k d l = let q = pair_there (ComparisonFor work ls literal_scope scope) cs qs k d are l in comparison_within (get_or cs k d) q.other q.held
 
-    pub noted_more : (ns : List (Note Place)) (k left : ℕ) (d : Comparison) (old new : Asked) → left ≡ k + 1 → left ≤ length cs → new.notes.items ≡ old.notes.items ++ note_of literal_scope scope (get_or cs k d) ∷ [] → AskedStands work.symbols new →
+    pub noted_more : (ns : List (Note FramedIdent)) (k left : ℕ) (d : Comparison) (old new : Asked) → left ≡ k + 1 → left ≤ length cs → new.notes.items ≡ old.notes.items ++ note_of literal_scope scope (get_or cs k d) ∷ [] → AskedStands work.symbols new →
         NotesFor work ls old (drop left qs ++ ns) → NotesFor work ls new (drop k qs ++ ns)
     noted_more ns k left d old new next within items stands h =
         let q = pair_there (ComparisonFor work ls literal_scope scope) cs qs k d are (omega (arith, next, within)) in
         let split : drop k qs ≡ q.other ∷ drop left qs = q.split ∙ ap (λ (i : ℕ). q.other ∷ drop i qs) (sym next) in
-        subst (λ (l : List (Note Place)). NotesFor work ls new (l ++ ns)) (sym split)
+        subst (λ (l : List (Note FramedIdent)). NotesFor work ls new (l ++ ns)) (sym split)
         (one_noted work ls old new (note_of literal_scope scope (get_or cs k d)) q.other (drop left qs ++ ns) items stands q.held h)
 
-    pub none_noted : (ns : List (Note Place)) (k : ℕ) (asked : Asked) → length cs ≤ k → NotesFor work ls asked ns → NotesFor work ls asked (drop k qs ++ ns)
-    none_noted ns k asked past h = subst (λ (l : List (Note Place)). NotesFor work ls asked (l ++ ns)) (sym (pairs_past (ComparisonFor work ls literal_scope scope) cs qs k are past)) h
+    pub none_noted : (ns : List (Note FramedIdent)) (k : ℕ) (asked : Asked) → length cs ≤ k → NotesFor work ls asked ns → NotesFor work ls asked (drop k qs ++ ns)
+    none_noted ns k asked past h = subst (λ (l : List (Note FramedIdent)). NotesFor work ls asked (l ++ ns)) (sym (pairs_past (ComparisonFor work ls literal_scope scope) cs qs k are past)) h

@@ -6,7 +6,7 @@ use Rattle.scheme_model.specs.Measures.{tree_size}
 use Rattle.scheme_model.specs.Ident.{Ident as Identifier}
 use Rattle.scheme_model.specs.Requirements.{Known}
 use Rattle.scheme_model.specs.Order.{Form, Pending, Pass, Going, here_at, run, run_next, run_form}
-use Rattle.scheme_model.specs.ScopedExpansion.{Frames, Place, ScopedState}
+use Rattle.scheme_model.specs.ScopedExpansion.{Frames, FramedIdent, ScopedState}
 use Rattle.syntax_tree.specs.declared.trees.Work.{Work}
 use Rattle.syntax_tree.specs.declared.trees.table.Region.{Region}
 use Rattle.core_tree.specs.Names.{AllMatch}
@@ -67,15 +67,15 @@ none_left P [] h = refl
 none_left P (y ∷ ys) h = absurd h
 
 -- the code's list has the next form last
-pub next_form : (work : Work) (region : Region) (unit form : ℕ) (old : code_pending.Pending) (p : Pending Identifier Place) (f : code_form.Form) (xs : List code_form.Form) → old.todo.items ≡ xs ++ f ∷ [] → PendingFor work region unit form old p →
+pub next_form : (work : Work) (region : Region) (unit form : ℕ) (old : code_pending.Pending) (p : Pending Identifier FramedIdent) (f : code_form.Form) (xs : List code_form.Form) → old.todo.items ≡ xs ++ f ∷ [] → PendingFor work region unit form old p →
     Split (FormFor work region) f (reverse xs) p.todo
 next_form work region unit form old p f xs is h =
     split_first (FormFor work region) f (reverse xs) p.todo (subst (λ (l : List code_form.Form). AllMatch (FormFor work region) l p.todo) (ap reverse is ∙ reverse-append xs (f ∷ [])) h.todo)
 
-abbrev pub behind_it : Pending Identifier Place → List (Form Identifier) → Pending Identifier Place
+abbrev pub behind_it : Pending Identifier FramedIdent → List (Form Identifier) → Pending Identifier FramedIdent
 behind_it p rest = record { todo = rest; aside = p.aside; notes = p.notes }
 
-pub pending_behind : (work : Work) (region : Region) (unit form : ℕ) (old new : code_pending.Pending) (p : Pending Identifier Place) (f : code_form.Form) (next : Split (FormFor work region) f (reverse new.todo.items) p.todo) → new.aside.items ≡ old.aside.items → PendingFor work region unit form old p →
+pub pending_behind : (work : Work) (region : Region) (unit form : ℕ) (old new : code_pending.Pending) (p : Pending Identifier FramedIdent) (f : code_form.Form) (next : Split (FormFor work region) f (reverse new.todo.items) p.todo) → new.aside.items ≡ old.aside.items → PendingFor work region unit form old p →
     PendingFor work region unit form new (behind_it p next.rest)
 pending_behind work region unit form old new p f next aside h = record {
   todo = next.others;
@@ -84,12 +84,12 @@ pending_behind work region unit form old new p f next aside h = record {
 
 -- ---- so far
 
-module _ (known : Known) (old : Work) (region : Region) (u : UnitScope) (ls : List Frames) (spot : Spot) (fs : Frames) (s : ScopedState) (p : Pending Identifier Place) (turns : ℕ) where
-  abbrev whole : Pass Identifier Place × ScopedState
+module _ (known : Known) (old : Work) (region : Region) (u : UnitScope) (ls : List Frames) (spot : Spot) (fs : Frames) (s : ScopedState) (p : Pending Identifier FramedIdent) (turns : ℕ) where
+  abbrev whole : Pass Identifier FramedIdent × ScopedState
   whole = run (searched known) turns fs p s
 
   pub record PassedSoFar (new : Work) (v : UnitScope) (todo : code_pending.Pending) (asked : Asked) (turn : ℕ) : Type 0 where
-    pub left : Pending Identifier Place
+    pub left : Pending Identifier FramedIdent
     pub state : ScopedState
     pub stays : Stays old new region u v ls state
     pub placed : SpotFor new v ls state spot fs
@@ -102,10 +102,10 @@ module _ (known : Known) (old : Work) (region : Region) (u : UnitScope) (ls : Li
     pub same : run (searched known) turns fs p s ≡ run (searched known) (suc more) fs left state
 
   module _ (new : Work) (v : UnitScope) (todo rest : code_pending.Pending) (asked : Asked) (turn : ℕ) (h : PassedSoFar new v todo asked turn) (f : code_form.Form) (next : Split (FormFor new region) f (reverse rest.todo.items) h.left.todo) where
-    abbrev behind : Pending Identifier Place
+    abbrev behind : Pending Identifier FramedIdent
     behind = behind_it h.left next.rest
 
-    abbrev step : Going Identifier Place ScopedState → Pass Identifier Place × ScopedState
+    abbrev step : Going Identifier FramedIdent ScopedState → Pass Identifier FramedIdent × ScopedState
     step go = run_form (searched known) go fs (here_at (λ i. i) next.head.tree next.head.here) next.head next.head.tree behind h.state
 
     taken : left_with next.rest v.form.budget.uses + tree_size next.head.tree ≡ left_with h.left.todo v.form.budget.uses
@@ -150,7 +150,7 @@ module _ (known : Known) (old : Work) (region : Region) (u : UnitScope) (ls : Li
     next_fails after w todo2 asked2 most aside (fault.At e) g =
         let m = some_more h.more refl in
         let end = goes_to m.0 m.1 ∙ g.5 (run (searched known) (suc m.0) fs) in
-        subst (λ (x : Pass Identifier Place × ScopedState). Passes old after region u w ls spot fs most aside asked2 (Err (fault.At e)) x) (sym end)
+        subst (λ (x : Pass Identifier FramedIdent × ScopedState). Passes old after region u w ls spot fs most aside asked2 (Err (fault.At e)) x) (sym end)
         (g.1, refl, record { stays = stays_on old new after region u v w ls h.state g.2 h.stays g.3.stays; placed = g.3.placed; notes = g.3.notes }, g.4)
     next_fails after w todo2 asked2 most aside fault.Full g =
         let m = moves_here old new region u v ls h.state h.stays in
@@ -178,7 +178,7 @@ module _ (known : Known) (old : Work) (region : Region) (u : UnitScope) (ls : Li
   passing_ends new v todo asked turn aside h none is =
       let nothing = none_left (FormFor new region) h.left.todo (subst (λ (l : List code_form.Form). AllMatch (FormFor new region) (reverse l) h.left.todo) none h.pending.todo) in
       let end : whole ≡ (record { notes = h.left.notes; items = Ok h.left.aside }, h.state) = h.same ∙ ap (λ (l : List (Form Identifier)). run_next (searched known) (run (searched known) h.more fs) fs l h.left h.state) nothing in
-      subst (λ (x : Pass Identifier Place × ScopedState). Passes old new region u v ls spot fs (left_with p.todo u.form.budget.uses) aside asked (Ok tt) x) (sym end) (
+      subst (λ (x : Pass Identifier FramedIdent × ScopedState). Passes old new region u v ls spot fs (left_with p.todo u.form.budget.uses) aside asked (Ok tt) x) (sym end) (
         h.left.aside,
         refl,
         record { stays = h.stays; placed = h.placed; notes = h.notes },
@@ -191,7 +191,7 @@ module _ (known : Known) (old : Work) (region : Region) (u : UnitScope) (ls : Li
   passing_err new v asked most aside (Ok done) e is h = absurd is
   passing_err new v asked most aside (Err x) e is h = subst (λ (y : ExpandFault). Passes old new region u v ls spot fs most aside asked (Err y) whole) (sym is) h
 
-pub passing_begins : (known : Known) (work : Work) (region : Region) (u : UnitScope) (ls : List Frames) (spot : Spot) (fs : Frames) (s : ScopedState) (p : Pending Identifier Place) (turns : ℕ) (todo : code_pending.Pending) (asked : Asked) →
+pub passing_begins : (known : Known) (work : Work) (region : Region) (u : UnitScope) (ls : List Frames) (spot : Spot) (fs : Frames) (s : ScopedState) (p : Pending Identifier FramedIdent) (turns : ℕ) (todo : code_pending.Pending) (asked : Asked) →
     Stands work u ls s → SpotFor work u ls s spot fs → PendingFor work region u.unit u.form.number todo p → NotesFor work ls asked p.notes → left_with p.todo u.form.budget.uses < turns → PassedSoFar known work region u ls spot fs s p turns work u todo asked 0
 passing_begins known work region u ls spot fs s p zero todo asked e placed pending notes less = absurd (omega (arith, less))
 passing_begins known work region u ls spot fs s p (suc more) todo asked e placed pending notes less = record {

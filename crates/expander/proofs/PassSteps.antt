@@ -10,14 +10,14 @@ use Rattle.scheme_model.specs.Requirements.{Known}
 use Rattle.scheme_model.specs.Ident.{Ident as Identifier, same_ident}
 use Rattle.scheme_model.specs.Cores.{Target}
 use Rattle.scheme_model.specs.Order.{Here, Form, Expression, Pending, Pass, Going, or_none, put, read_then, splice, run_core, run_form}
-use Rattle.scheme_model.specs.ScopedExpansion.{Frames, Place, ScopedState}
+use Rattle.scheme_model.specs.ScopedExpansion.{Frames, FramedIdent, ScopedState}
 use Rattle.core_forms.specs.Forms.{Shape, Sequence, Definition, Several, RecordType, Syntax, Choices, choices_in, shape_of}
 use Rattle.syntax_tree.specs.declared.trees.Work.{Work}
 use Rattle.core_forms.specs.Parts.{IsNameIfAny}
 use Rattle.expander.specs.Judged.{chosen_among}
 use Rattle.expander.specs.Passed.{pass_step}
 use Rattle.expander.specs.Searched.{searched}
-use Rattle.expander.specs.Seen.{takes_effect, head_name_of}
+use Rattle.expander.specs.FormsSeen.{takes_effect, head_name_of}
 use Rattle.expander.specs.Stepped.{met}
 use Rattle.expander.proofs.ChoiceLaws.{chosen_is}
 
@@ -48,8 +48,8 @@ fault_same OutOfTurns = refl
 
 -- ---- core forms
 
-module _ (known : Known) (go : Going Identifier Place ScopedState) (here : Here) (fs : Frames) (form : Form Identifier) (p : Pending Identifier Place) where
-  abbrev step : Shape → ScopedState → Pass Identifier Place × ScopedState
+module _ (known : Known) (go : Going Identifier FramedIdent ScopedState) (here : Here) (fs : Frames) (form : Form Identifier) (p : Pending Identifier FramedIdent) where
+  abbrev step : Shape → ScopedState → Pass Identifier FramedIdent × ScopedState
   step m s = pass_step (searched known) go here fs form p m s
 
   -- what is read of a kind of shape goes on as that kind does
@@ -59,12 +59,12 @@ module _ (known : Known) (go : Going Identifier Place ScopedState) (here : Here)
   read_as (Err e) make s = refl
 
   -- two readings, one after another
-  read_twice : {B C : Type 0} (r : Result B (Fault Identifier)) (f : B → Result C (Fault Identifier)) (next : C → ScopedState → Pass Identifier Place × ScopedState) (s : ScopedState) →
+  read_twice : {B C : Type 0} (r : Result B (Fault Identifier)) (f : B → Result C (Fault Identifier)) (next : C → ScopedState → Pass Identifier FramedIdent × ScopedState) (s : ScopedState) →
       read_then (searched known) here p (r >> f) next s ≡ read_then (searched known) here p r (λ b. read_then (searched known) here p (f b) next) s
   read_twice (Ok b) f next s = refl
   read_twice (Err e) f next s = refl
 
-  abbrev chosen : ScopedState → Result (Option (Trees Identifier)) (Fault Identifier) → Pass Identifier Place × ScopedState
+  abbrev chosen : ScopedState → Result (Option (Trees Identifier)) (Fault Identifier) → Pass Identifier FramedIdent × ScopedState
   chosen s r = read_then (searched known) here p r (λ c. splice (searched known) go here p (or_none c)) s
 
   -- one that takes effect at once

@@ -32,7 +32,7 @@ use Rattle.expander.specs.declared.fault.ExpandFault.TheVariants as fault
 use Rattle.syntax_tree.specs.declared.trees.table.Region.{Region}
 use Rattle.expander.proofs.OutcomeLaws.{stays_itself}
 use Rattle.expander.specs.Searched.{searched}
-use Rattle.expander.specs.Seen.{head_name_of}
+use Rattle.expander.specs.FormsSeen.{head_name_of}
 use Rattle.expander.specs.State.{Stands}
 use Rattle.expander.specs.declared.scope.UnitScope.{UnitScope}
 

@@ -8,7 +8,7 @@ use Rattle.scheme_model.specs.Shapes.{RecordShape}
 use Rattle.scheme_model.specs.Cores.{Binder}
 use Rattle.scheme_model.specs.Steps.{Broken, ◌>>=◌}
 use Rattle.scheme_model.specs.Order.{Here, Going, Item, Pass, Pending, Record, caught, put, record_names, record_part, run_record, modified}
-use Rattle.scheme_model.specs.ScopedExpansion.{Frames, Place, ScopedState, next_number}
+use Rattle.scheme_model.specs.ScopedExpansion.{Frames, FramedIdent, ScopedState, next_number}
 use Rattle.syntax_tree.specs.declared.trees.Work.{Work}
 use Rattle.syntax_tree.specs.declared.trees.table.Region.{Region}
 use Rattle.core_forms.specs.Parts as forms
@@ -20,7 +20,7 @@ use Rattle.core_tree.specs.declared.cores.FieldUse as code_field
 use Rattle.expander.specs.Binds.{local_binders, with_locals}
 use Rattle.expander.specs.State.{Stands, most_locals}
 use Rattle.expander.specs.Stepped.{taken, bound_binders}
-use Rattle.expander.specs.Seen.{used_fields}
+use Rattle.expander.specs.FormsSeen.{used_fields}
 use Rattle.expander.specs.Kept.{PendingFor, NotesFor, SpotFor}
 use Rattle.expander.specs.Defining.{EndsIn, define_each}
 use Rattle.expander.specs.Searched.{searched}
@@ -37,7 +37,7 @@ use Rattle.expander.proofs.OutcomeLaws.{bound_goes}
 use Rattle.expander.proofs.DefinitionSteps.{goes_failing, aside_goes, in_fails, in_after_same, taken_same, record_steps, with_pending, with_fields}
 
 abbrev Answer : Type 0
-Answer = Result (List Binder × (List Binder × Pending Identifier Place)) Broken × ScopedState
+Answer = Result (List Binder × (List Binder × Pending Identifier FramedIdent)) Broken × ScopedState
 
 module _ (work : Work) (u : UnitScope) (ls : List Frames) (spot : Spot) (fs : Frames) (s : ScopedState) (r : RecordShape Identifier) (xs : List NamePart) (e : Stands work u ls s) (placed : SpotFor work u ls s spot fs)
     (names_are : forms.AllMatch (IsName work) xs (map (λ f. f.field) r.fields)) (room : u.form.budget.locals + length xs ≤ most_locals u.form.budget.nodes) where
@@ -54,14 +54,14 @@ module _ (work : Work) (u : UnitScope) (ls : List Frames) (spot : Spot) (fs : Fr
     record { at = placed.at; inside = is_in_on work ls spot.scope fs u field_scope s field_state spot.in_body refl refl refl placed.inside },
   )
 
-  module _ (region : Region) (v : UnitScope) (known : Known) (here : Here) (p : Pending Identifier Place) (old : code_pending.Pending) (asked : Asked) (given : ℕ) (notes : NotesFor work ls asked p.notes) where
+  module _ (region : Region) (v : UnitScope) (known : Known) (here : Here) (p : Pending Identifier FramedIdent) (old : code_pending.Pending) (asked : Asked) (given : ℕ) (notes : NotesFor work ls asked p.notes) where
     abbrev fields_are : List Binder
     fields_are = bound_binders (next_number s s.locals) (map (λ f. f.field) r.fields)
 
     abbrev each : Result (List Binder) Broken × ScopedState
     each = define_each (searched known) here fs (record_names r) p field_state
 
-    abbrev set_aside : Going Identifier Place ScopedState → List Binder × (List Binder × Pending Identifier Place) → ScopedState → Pass Identifier Place × ScopedState
+    abbrev set_aside : Going Identifier FramedIdent ScopedState → List Binder × (List Binder × Pending Identifier FramedIdent) → ScopedState → Pass Identifier FramedIdent × ScopedState
     set_aside go q = go (put (Record (record_part same_ident r q.1.0 q.0)) q.1.1)
 
     abbrev pub BindersAre : Vec code_binder.Binder Global → List Binder → Type 0
@@ -75,8 +75,8 @@ module _ (work : Work) (u : UnitScope) (ls : List Frames) (spot : Spot) (fs : Fr
 
     pub record_fails : (e : ExpandFault) → EndsIn BindersAre work field_scope v ls spot fs (Err e) each → GoesOn work work region u v ls spot fs p.todo given old asked (Err e) (λ go. run_record (searched known) go here fs p r s)
     record_fails f ends =
-        let any = λ (d : Unit {0}) (x : List Binder × Pending Identifier Place). Unit {0} in
-        let all = λ (d : Unit {0}) (x : List Binder × (List Binder × Pending Identifier Place)). Unit {0} in
+        let any = λ (d : Unit {0}) (x : List Binder × Pending Identifier FramedIdent). Unit {0} in
+        let all = λ (d : Unit {0}) (x : List Binder × (List Binder × Pending Identifier FramedIdent)). Unit {0} in
         let first = in_after_same BindersAre work u field_scope v ls spot fs (Err f) each (taken_same u (length xs)) ends in
         by_steps (Err f) old ((each >>= with_pending p) >>= with_fields fields_are) refl
         (goes_failing work region u v ls spot fs p.todo given old asked p.notes all f ((each >>= with_pending p) >>= with_fields fields_are) set_aside e.form.few_nodes
@@ -90,7 +90,7 @@ module _ (work : Work) (u : UnitScope) (ls : List Frames) (spot : Spot) (fs : Fr
         let x : Answer = (Ok (fields_are, (first.0, p)), each.1) in
         let item : Item Identifier = Record (record_part same_ident r first.0 fields_are) in
         let binders : AllMatch (IsBinder work.symbols u.unit u.form.number) (local_binders u.form.budget.locals xs) fields_are = binders_here (local_binders u.form.budget.locals xs) fields_are (fields_stand work u ls s xs (map (λ f. f.field) r.fields) names_are room e).1 in
-        by_steps (Ok tt) new x (ap (λ (y : Result (List Binder × Pending Identifier Place) Broken × ScopedState). y >>= with_fields fields_are) (bound_goes each (with_pending p) first.0 first.2))
+        by_steps (Ok tt) new x (ap (λ (y : Result (List Binder × Pending Identifier FramedIdent) Broken × ScopedState). y >>= with_fields fields_are) (bound_goes each (with_pending p) first.0 first.2))
         (aside_goes work region u v ls spot fs s p old new asked given item (kept.Record bs gs ms us) pending notes
         (bs, gs, ms, us, refl, first.3, subst (λ (l : List code_binder.Binder). AllMatch (IsBinder work.symbols u.unit u.form.number) l fields_are) (sym taken_as) binders, places, uses) todo aside most (fields_are, (first.0, p)) x set_aside first.1 refl same_uses locals le one (λ go. refl))
       where

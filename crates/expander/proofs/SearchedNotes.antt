@@ -6,7 +6,7 @@ use Rattle.std.proofs.lemmas.Option.{same_Some}
 use Rattle.scheme_model.specs.Ident.{Ident as Identifier}
 use Rattle.scheme_model.specs.Order.{Note, LookedUp, Compared}
 use Rattle.scheme_model.specs.Substitution.{any}
-use Rattle.scheme_model.specs.ScopedExpansion.{Frames, Place}
+use Rattle.scheme_model.specs.ScopedExpansion.{Frames, FramedIdent}
 use Rattle.syntax_tree.specs.Names.{Names}
 use Rattle.syntax_tree.specs.declared.trees.Work.{Work}
 use Rattle.core_tree.specs.Names.{AllMatch}
@@ -63,12 +63,12 @@ got_joined (x ∷ xs) ys zero n h = inl (0, h)
 got_joined (x ∷ xs) ys (suc at) n h = elim (got_joined xs ys at n h) [ inl here ↦ inl (suc here.0, here.1) | inr there ↦ inr there ]
 
 -- whether the note that is there is told so
-abbrev pub told_if : (Note Place → Bool) → Option (Note Place) → Bool
+abbrev pub told_if : (Note FramedIdent → Bool) → Option (Note FramedIdent) → Bool
 told_if g None = false
 told_if g (Some q) = g q
 
 -- whether the note of a number is told so
-abbrev pub told_at : (Note Place → Bool) → List (Note Place) → ℕ → Bool
+abbrev pub told_at : (Note FramedIdent → Bool) → List (Note FramedIdent) → ℕ → Bool
 told_at g qs n = told_if g (slice_get qs n)
 
 -- ---- of the notes from one on
@@ -98,7 +98,7 @@ module _ (names : Names) (x : Identifier) where
       (p.2.0, ap (slice_get ns) (sym e) ∙ p.2.1)
 
 module _ (work : Work) (ls : List Frames) (x : Identifier) where
-  speaks : (a : Asking) (p : Place) → PlaceFor work ls a p → is_inside_at work.symbols x a.ident ≡ is_inside x p.ident
+  speaks : (a : Asking) (p : FramedIdent) → PlaceFor work ls a p → is_inside_at work.symbols x a.ident ≡ is_inside x p.ident
   speaks a p h = ap (is_inside_any x) h.1
 
   asked_once : (f : ℕ → Bool) (k : ℕ) (b : Bool) → any f (cond b (k ∷ []) []) ≡ (b && f k)
@@ -115,7 +115,7 @@ module _ (work : Work) (ls : List Frames) (x : Identifier) where
   asked_twice f k false true = or_none (f k)
   asked_twice f k false false = refl
 
-  of_note : (f : ℕ → Bool) (k : ℕ) (note : code.Note) (q : Note Place) → NoteFor work ls note q → any f (asked_by work.symbols x k (idents_of note)) ≡ (speaks_of x q && f k)
+  of_note : (f : ℕ → Bool) (k : ℕ) (note : code.Note) (q : Note FramedIdent) → NoteFor work ls note q → any f (asked_by work.symbols x k (idents_of note)) ≡ (speaks_of x q && f k)
   of_note f k (notes.LookedUp a h w) (LookedUp p head keyword) is =
       asked_once f k (is_inside_at work.symbols x a.ident) ∙ ap (λ (b : Bool). b && f k) (speaks a p is.0)
   of_note f k (notes.LookedUp a h w) (Compared p q held) is = absurd is
@@ -125,7 +125,7 @@ module _ (work : Work) (ls : List Frames) (x : Identifier) where
       ∙ (λ j. (speaks l p is.0 j || speaks a q is.1 j) && f k)
 
   -- by numbers, where the function tells at a number what the other tells of the note
-  by_numbers : (f : ℕ → Bool) (g : Note Place → Bool) (k : ℕ) (ns : List code.Note) (qs : List (Note Place)) → AllMatch (NoteFor work ls) ns qs → ((n : ℕ) (q : Note Place) → slice_get qs n ≡ Some q → f (k + n) ≡ g q) →
+  by_numbers : (f : ℕ → Bool) (g : Note FramedIdent → Bool) (k : ℕ) (ns : List code.Note) (qs : List (Note FramedIdent)) → AllMatch (NoteFor work ls) ns qs → ((n : ℕ) (q : Note FramedIdent) → slice_get qs n ≡ Some q → f (k + n) ≡ g q) →
       any f (asked_from work.symbols x k ns) ≡ any (λ q. speaks_of x q && g q) qs
   by_numbers f g k [] [] h same = refl
   by_numbers f g k [] (q ∷ qs) h same = absurd h
@@ -136,7 +136,7 @@ module _ (work : Work) (ls : List Frames) (x : Identifier) where
       any_join f (asked_by work.symbols x k (idents_of note)) (asked_from work.symbols x (suc k) ns)
       ∙ (λ j. (of_note f k note q h.0 ∙ ap (λ (b : Bool). speaks_of x q && b) here) j || rest j)
 
-  pub among_numbers : (g : Note Place → Bool) (ns : List code.Note) (qs : List (Note Place)) → AllMatch (NoteFor work ls) ns (reverse qs) → any (told_at g (reverse qs)) (asked_from work.symbols x 0 ns) ≡ any (λ q. speaks_of x q && g q) qs
+  pub among_numbers : (g : Note FramedIdent → Bool) (ns : List code.Note) (qs : List (Note FramedIdent)) → AllMatch (NoteFor work ls) ns (reverse qs) → any (told_at g (reverse qs)) (asked_from work.symbols x 0 ns) ≡ any (λ q. speaks_of x q && g q) qs
   among_numbers g ns qs h =
       by_numbers (told_at g (reverse qs)) g 0 ns (reverse qs) h (λ n q at. ap (λ (k : ℕ). told_at g (reverse qs) k) (let e : 0 + n ≡ n = omega arith in e) ∙ ap (told_if g) at)
       ∙ any_turned (λ q. speaks_of x q && g q) qs

@@ -8,7 +8,7 @@ use Rattle.scheme_model.specs.Steps.{Broken, ◌>>=◌}
 use Rattle.scheme_model.specs.Order.{Note, Pending, Pass, run}
 use Rattle.scheme_model.specs.Expression.{expand, item_part, parts}
 use Rattle.scheme_model.specs.UnitExpansion.{Formed as FormResult, max_depth, passes, from_items, finished, first_over, fronts, item_fronts, states_passed, states_finished, or_ended, some_of, unit}
-use Rattle.scheme_model.specs.ScopedExpansion.{Place, ScopedState, scoped}
+use Rattle.scheme_model.specs.ScopedExpansion.{FramedIdent, ScopedState, scoped}
 use Rattle.scheme_model.specs.CountedExpansion.{counted}
 use Rattle.expander.specs.Searched.{speaks_of, searched}
 use Rattle.scheme_model.proofs.FrameEras.{Era}
@@ -36,28 +36,28 @@ all_take P (suc n) (x ∷ xs) h = (h.0, all_take P n xs h.1)
 module _ (w : Era) (known : Known) where
   -- ---- the forms gone through
 
-  pub record PassesSearched (turns : ℕ) (ts : List (ℕ × Tree Ident)) (ns : List (Note Place)) (s : ScopedState) : Type 0 where
+  pub record PassesSearched (turns : ℕ) (ts : List (ℕ × Tree Ident)) (ns : List (Note FramedIdent)) (s : ScopedState) : Type 0 where
     pub same : passes (searched known) turns [] ts ns s ≡ passes (counted known) turns [] ts ns s
     pub bounded : Bounded w (passes (scoped known) turns [] ts ns s).1
 
-  abbrev with_form : ℕ → (List (Note Place) → ScopedState → List (ℕ × Aside Ident) × ScopedState) → Pass Ident Place × ScopedState → List (ℕ × Aside Ident) × ScopedState
+  abbrev with_form : ℕ → (List (Note FramedIdent) → ScopedState → List (ℕ × Aside Ident) × ScopedState) → Pass Ident FramedIdent × ScopedState → List (ℕ × Aside Ident) × ScopedState
   with_form form behind q = let rest = behind q.0.notes q.1 in ((form, q.0.items) ∷ rest.0, rest.1)
 
-  form_same : (form : ℕ) (f g : List (Note Place) → ScopedState → List (ℕ × Aside Ident) × ScopedState) (q q' r : Pass Ident Place × ScopedState) → q ≡ r → q' ≡ r → f r.0.notes r.1 ≡ g r.0.notes r.1 → with_form form f q ≡ with_form form g q'
+  form_same : (form : ℕ) (f g : List (Note FramedIdent) → ScopedState → List (ℕ × Aside Ident) × ScopedState) (q q' r : Pass Ident FramedIdent × ScopedState) → q ≡ r → q' ≡ r → f r.0.notes r.1 ≡ g r.0.notes r.1 → with_form form f q ≡ with_form form g q'
   form_same form f g q q' r a b c = ap (with_form form f) a ∙ ap (λ (after : List (ℕ × Aside Ident) × ScopedState). ((form, r.0.items) ∷ after.0, after.1)) c ∙ sym (ap (with_form form g) b)
 
-  pub passes_searched : (turns : ℕ) (ts : List (ℕ × Tree Ident)) (ns : List (Note Place)) (s : ScopedState) → UnitState w known s → Formed s.places s.definitions → LocalsKept w s → AllOf (FormHeld w known s) ts → AllOf (NoteAll (UnitPlace w known s)) ns → Bounded w s → PassesSearched turns ts ns s
+  pub passes_searched : (turns : ℕ) (ts : List (ℕ × Tree Ident)) (ns : List (Note FramedIdent)) (s : ScopedState) → UnitState w known s → Formed s.places s.definitions → LocalsKept w s → AllOf (FormHeld w known s) ts → AllOf (NoteAll (UnitPlace w known s)) ns → Bounded w s → PassesSearched turns ts ns s
   passes_searched turns [] ns s k fd l h hn g = record { same = refl; bounded = g }
   passes_searched turns (t ∷ ts) ns s k fd l h hn g =
       let s1 = turned w known t.0 s in
-      let p : Pending Ident Place = record { todo = record { here = None; tree = t.1 } ∷ []; aside = []; notes = ns } in
+      let p : Pending Ident FramedIdent = record { todo = record { here = None; tree = t.1 } ∷ []; aside = []; notes = ns } in
       let r = run (scoped known) turns [] p s1 in
       let k1 : UnitState w known s1 = record { fine = k.fine; entries = k.entries } in
       let done = passed w known s1 _ _ (forms_law w known [] (UnitInside w known s1) (Grows w) (UnitLeaf w known) (UnitPlace w known) (UnitRule w known) (Noted w known s1) (unit_facts w known s1) turns p s1 false [] (k1, refl, grows_itself w s1) ((h.0, tt), tt, hn)) in
       let begins = form_begins w s1 k.fine.0 fd l k.fine.1.stands k.entries in
       let one = run_same w known every s1 begins turns t.1 h.0 ns hn in
       let sought = run_same w known speaks_of s1 begins turns t.1 h.0 ns hn in
-      let walked = run_alike (scoped known) (searching w known) [] tt turns p s1 (turned_bounded w s g t.0, tt) (notes_more (UnitPlace w known s1) (λ (l : Place). BindersCounted w s1.locals l.frames) (λ l q. subst (BindersCounted w s1.locals) (sym q.0) tt) ns hn) in
+      let walked = run_alike (scoped known) (searching w known) [] tt turns p s1 (turned_bounded w s g t.0, tt) (notes_more (UnitPlace w known s1) (λ (l : FramedIdent). BindersCounted w s1.locals l.frames) (λ l q. subst (BindersCounted w s1.locals) (sym q.0) tt) ns hn) in
       let rest = passes_searched turns ts r.0.notes r.1 done.unit_state one.holds.formed (locals_later w s1 s1.form r.1 one.holds) (forms_later w known turns s1 r.1 done.grows ts h.1) done.stood (ran_after (scoped known) (searching w known) walked).0 in
       record {
         same = form_same t.0 (passes (searched known) turns [] ts) (passes (counted known) turns [] ts) _ _ r (sought.same ∙ ran_is (scoped known) (searching w known) walked) one.same rest.same;

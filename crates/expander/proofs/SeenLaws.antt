@@ -22,7 +22,7 @@ use Rattle.core_forms.specs.declared.shape.FieldShape.{FieldShape}
 use Rattle.core_forms.proofs.Reading.{matches_more, matches_both}
 use Rattle.core_tree.specs.Names.{IsField as IsUse}
 use Rattle.core_tree.specs.declared.cores.FieldUse as code_use
-use Rattle.expander.specs.Seen.{takes_effect, used_fields}
+use Rattle.expander.specs.FormsSeen.{takes_effect, used_fields}
 
 -- what takes no effect is set aside
 pub set_aside : {E A L S : Type 0} (ops : Ops E A L S) (go : Going A L S) (here : Here) (e : E) (c : CoreKeyword) (k : Target) (form : Form A) (ts : Trees A) (tail : Tail A) (p : Pending A L) (s : S) → takes_effect c ≡ false →

@@ -11,7 +11,7 @@ use Rattle.scheme_model.specs.Ident.{Ident as Identifier}
 use Rattle.scheme_model.specs.Requirements.{Known}
 use Rattle.scheme_model.specs.Shapes.{Formals, Clause, RecordShape, Variable, Procedure as define_procedure}
 use Rattle.scheme_model.specs.Order.{Here, Form, Pending, Pass, Going, or_none, read_then, splice, record_names, run_define, run_values, run_record, run_syntax}
-use Rattle.scheme_model.specs.ScopedExpansion.{Frames, Place, ScopedState}
+use Rattle.scheme_model.specs.ScopedExpansion.{Frames, FramedIdent, ScopedState}
 use Rattle.syntax_tree.specs.Looks.{PartsStand, AllNamed}
 use Rattle.syntax_tree.specs.Works.{StandsFor, IsStanding}
 use Rattle.syntax_tree.specs.declared.trees.Work.{Work}
@@ -39,7 +39,7 @@ use Rattle.expander.proofs.DefinitionSteps.{matched_length}
 use Rattle.expander.proofs.ShapeKinds.{as_sequence, as_choices, as_variable, as_procedure, as_values, as_syntax, as_record, records_alike}
 
 -- G says how the code's step ends; what is to be shown is said of the definition's step by the shape
-module _ (known : Known) (work : Work) (region : Region) (s : ScopedState) (fs : Frames) (here : Here) (form : Form Identifier) (p : Pending Identifier Place) (given : ℕ) (G : (Going Identifier Place ScopedState → Pass Identifier Place × ScopedState) → Type 0)
+module _ (known : Known) (work : Work) (region : Region) (s : ScopedState) (fs : Frames) (here : Here) (form : Form Identifier) (p : Pending Identifier FramedIdent) (given : ℕ) (G : (Going Identifier FramedIdent ScopedState → Pass Identifier FramedIdent × ScopedState) → Type 0)
     (x : code.CoreShape) (m : Shape) (stands : ShapeFor work x m) (named : ShapeNamed work region x) (fits : ShapeFits m) (less : shape_weight m < given) where
   abbrev Goal : Shape → Type 0
   Goal q = ShapeFits q → shape_weight q < given → G (λ go. pass_step (searched known) go here fs form p q s)

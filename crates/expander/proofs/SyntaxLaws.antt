@@ -16,7 +16,7 @@ use Rattle.scheme_model.specs.Cores.{Binder, MacroDef}
 use Rattle.scheme_model.specs.Steps.{Broken, Step, ◌>>=◌, done, fails}
 use Rattle.scheme_model.specs.Expression.{meaning_of, macro_def, macro_with, no_rules}
 use Rattle.scheme_model.specs.Order.{Here, Note, LookedUp, Transformer, head_of, is_rules, given, counting, RulesParts, rules_parts_of, rules_parts, rules_note, rules_at}
-use Rattle.scheme_model.specs.ScopedExpansion.{Frames, Place, ScopedState, macro_at}
+use Rattle.scheme_model.specs.ScopedExpansion.{Frames, FramedIdent, ScopedState, macro_at}
 use Rattle.scheme_model.proofs.Distinct.{ok_same}
 use Rattle.syntax_tree.specs.Names.{Names}
 use Rattle.syntax_tree.specs.Macros.{identifiers, IsIdent, RulesFor}
@@ -35,7 +35,7 @@ use Rattle.core_tree.specs.declared.cores.MacroDef as code_def
 use Rattle.core_tree.specs.declared.cores.RuleLeaf as code_leaf
 use Rattle.core_tree.specs.Traces.{IsFault}
 use Rattle.expander.specs.Searched.{searched}
-use Rattle.expander.specs.Seen.{IsRulesHead}
+use Rattle.expander.specs.FormsSeen.{IsRulesHead}
 use Rattle.expander.specs.Told.{rules_fault, told, Tells}
 use Rattle.expander.specs.Counts.{Counts}
 use Rattle.expander.specs.Heads.{auxiliary_as, IsHead}
@@ -62,7 +62,7 @@ module _ (known : Known) (names : Names) (fs : Frames) (s : ScopedState) where
   no_note None h = refl
   no_note (Some r) h = absurd h
 
-  abbrev pub looked : Identifier → Note Place
+  abbrev pub looked : Identifier → Note FramedIdent
   looked i = LookedUp (record { frames = fs; ident = i }) false (is_keyword (head_of (searched known) fs s i))
 
   pub a_note : (n : ℕ) (o : Option (RulesParts Identifier)) → IsRulesHead names (Some n) o → (i : Identifier) × IsIdent names n i × (rules_note (searched known) fs s o ≡ looked i ∷ [])

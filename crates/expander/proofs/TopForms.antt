@@ -9,7 +9,7 @@ use Rattle.scheme_model.specs.Order.{Item, Note, Pending}
 use Rattle.scheme_model.specs.UnitExpansion.{max_depth}
 use Rattle.scheme_model.specs.Expression.{expand}
 use Rattle.scheme_model.specs.Program.{enough_turns}
-use Rattle.scheme_model.specs.ScopedExpansion.{Frames, Place, ScopedState, body_around, definition_added, is_defined}
+use Rattle.scheme_model.specs.ScopedExpansion.{Frames, FramedIdent, ScopedState, body_around, definition_added, is_defined}
 use Rattle.core_tree.specs.Levels.{PartBinds}
 use Rattle.expander.specs.Searched.{define_searched, searched}
 use Rattle.expander.specs.Stepped.{turned}
@@ -19,16 +19,16 @@ use Rattle.expander.proofs.OtherForms.{is_refused_here}
 use Rattle.expander.proofs.TopRuns.{run_on}
 use Rattle.expander.proofs.TopCores.{expand_on, item_on}
 
-left_by : (s t : ScopedState) (n : Named Ident) (p : Pending Ident Place) (refused twice : Bool) → OfOk (λ (q : Pending Ident Place). q.aside ≡ p.aside) (cond {A = Result (Pending Ident Place) (Fault Ident) × ScopedState} refused (Err (KeywordRedefined n), s) (cond twice (Err (Duplicate n), s) (Ok p, t))).0
+left_by : (s t : ScopedState) (n : Named Ident) (p : Pending Ident FramedIdent) (refused twice : Bool) → OfOk (λ (q : Pending Ident FramedIdent). q.aside ≡ p.aside) (cond {A = Result (Pending Ident FramedIdent) (Fault Ident) × ScopedState} refused (Err (KeywordRedefined n), s) (cond twice (Err (Duplicate n), s) (Ok p, t))).0
 left_by s t n p true twice = tt
 left_by s t n p false true = tt
 left_by s t n p false false = refl
 
 -- a definition leaves what was set aside
-aside_left : (n : Named Ident) (r : Option (Rules Ident)) (fs : Frames) (p : Pending Ident Place) (s : ScopedState) → OfOk (λ (q : Pending Ident Place). q.aside ≡ p.aside) (define_searched (body_around fs) n r fs p s).0
+aside_left : (n : Named Ident) (r : Option (Rules Ident)) (fs : Frames) (p : Pending Ident FramedIdent) (s : ScopedState) → OfOk (λ (q : Pending Ident FramedIdent). q.aside ≡ p.aside) (define_searched (body_around fs) n r fs p s).0
 aside_left n r fs p s = left_by s (definition_added (body_around fs) n r fs s) n p (is_refused_here n r fs p s) (is_defined s (body_around fs) n.name)
 
-pub declared_binds : (known : Known) (n : ℕ) (t : Tree Ident) (notes : List (Note Place)) (s : ScopedState) → OfOk (ItemsBind false) (declared known n t notes s).0.items
+pub declared_binds : (known : Known) (n : ℕ) (t : Tree Ident) (notes : List (Note FramedIdent)) (s : ScopedState) → OfOk (ItemsBind false) (declared known n t notes s).0.items
 declared_binds known n t notes s = run_on (searched known) aside_left false [] (λ u. tt) enough_turns (record { todo = record { here = None; tree = t } ∷ []; aside = []; notes = notes }) (turned n s) tt
 
 pub expanded_binds : (known : Known) (n : ℕ) (i : Item Ident) (s : ScopedState) → ItemBinds false i → OfOk (PartBinds false) (expanded known n i s).0

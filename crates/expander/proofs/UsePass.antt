@@ -8,7 +8,7 @@ use Rattle.scheme_model.specs.Requirements.{Known}
 use Rattle.scheme_model.specs.Cores.{Target}
 use Rattle.scheme_model.specs.Steps.{Broken}
 use Rattle.scheme_model.specs.Order.{Here, Form, Note, LookedUp, Compared, Pending, Pass, Going, Transformer, first, noted, comparisons, use_of, run_use}
-use Rattle.scheme_model.specs.ScopedExpansion.{Frames, Place, ScopedState}
+use Rattle.scheme_model.specs.ScopedExpansion.{Frames, FramedIdent, ScopedState}
 use Rattle.syntax_tree.specs.Names.{KeepsNames, AreToldApart}
 use Rattle.syntax_tree.specs.declared.trees.Work.{Work}
 use Rattle.syntax_tree.specs.declared.trees.nodes.Tree as number
@@ -39,22 +39,22 @@ use Rattle.expander.proofs.UseSteps.{use_leaves}
 -- ---- over a work that has grown
 
 module _ (old new : Work) (ls : List Frames) (keeps : KeepsNames old.symbols new.symbols) (apart : AreToldApart new.symbols.idents) where
-  place_on : (a : Asking) (p : Place) → PlaceFor old ls a p → PlaceFor new ls a p
+  place_on : (a : Asking) (p : FramedIdent) → PlaceFor old ls a p → PlaceFor new ls a p
   place_on a p h = (h.0, keeps.idents a.ident p.ident h.1)
 
-  note_on : (x : code_note.Note) (n : Note Place) → NoteFor old ls x n → NoteFor new ls x n
+  note_on : (x : code_note.Note) (n : Note FramedIdent) → NoteFor old ls x n → NoteFor new ls x n
   note_on (notes.LookedUp a h k) (LookedUp p head keyword) is = (place_on a p is.0, is.1, is.2)
   note_on (notes.LookedUp a h k) (Compared p q held) is = absurd is
   note_on (notes.Compared l a h) (LookedUp p head keyword) is = absurd is
   note_on (notes.Compared l a h) (Compared p q held) is = (place_on l p is.0, place_on a q is.1, is.2)
 
-  pub notes_on : (asked : Asked) (ns : List (Note Place)) → NotesFor old ls asked ns → NotesFor new ls asked ns
+  pub notes_on : (asked : Asked) (ns : List (Note FramedIdent)) → NotesFor old ls asked ns → NotesFor new ls asked ns
   notes_on asked ns h = record {
     notes = every_on (NoteFor old ls) (NoteFor new ls) note_on asked.notes.items (reverse ns) h.notes;
     asks = asked_grows old.symbols new.symbols keeps apart asked h.asks;
   }
 
-pub pending_on : (old new : Work) (region : Region) (unit form later_unit later_form : ℕ) (q : code_pending.Pending) (p : Pending Identifier Place) → Grows old new region → later_unit ≡ unit → later_form ≡ form → PendingFor old region unit form q p →
+pub pending_on : (old new : Work) (region : Region) (unit form later_unit later_form : ℕ) (q : code_pending.Pending) (p : Pending Identifier FramedIdent) → Grows old new region → later_unit ≡ unit → later_form ≡ form → PendingFor old region unit form q p →
     PendingFor new region later_unit later_form q p
 pending_on old new region unit form later_unit later_form q p g u f h =
     subst (λ (n : ℕ). PendingFor new region n later_form q p) (sym u) (subst (λ (n : ℕ). PendingFor new region unit n q p) (sym f) (record {
@@ -73,15 +73,15 @@ use_locals locals after size rest used later given same small is most = let less
 -- ---- the use
 
 module _ (known : Known) (old new : Work) (region : Region) (u v : UnitScope) (ls : List Frames) (s : ScopedState) (spot : Spot) (fs : Frames) (here : Here) (keyword : Target) (m : Transformer Frames Identifier) (form : Form Identifier) (ts : Trees Identifier) (tail : Tail Identifier)
-    (p : Pending Identifier Place) (given : ℕ) (before after : code_pending.Pending) (asked : Asked) (stands : Stands old u ls s) (placed : SpotFor old u ls s spot fs) (pending : PendingFor old region u.unit u.form.number before p)
+    (p : Pending Identifier FramedIdent) (given : ℕ) (before after : code_pending.Pending) (asked : Asked) (stands : Stands old u ls s) (placed : SpotFor old u ls s spot fs) (pending : PendingFor old region u.unit u.form.number before p)
     (found : NotesFor old ls asked (comparisons (searched known) fs m ts tail s ++ p.notes)) (apart : AreToldApart new.symbols.idents) (scopes : v.env.scopes ≡ u.env.scopes) where
-  abbrev noted_all : Pending Identifier Place
+  abbrev noted_all : Pending Identifier FramedIdent
   noted_all = noted (comparisons (searched known) fs m ts tail s) p
 
   abbrev used : Result (Tree Identifier) Broken × ScopedState
   used = use_of (searched known) here fs keyword m ts tail s
 
-  abbrev next : Going Identifier Place ScopedState → Tree Identifier → ScopedState → Pass Identifier Place × ScopedState
+  abbrev next : Going Identifier FramedIdent ScopedState → Tree Identifier → ScopedState → Pass Identifier FramedIdent × ScopedState
   next go t = go (first (record { here = here; tree = t } ∷ []) noted_all)
 
   spot_after : Stays old new region u v ls used.1 → SpotFor new v ls used.1 spot fs

@@ -9,7 +9,7 @@ use Rattle.scheme_model.specs.RulesShape.{Rules}
 use Rattle.scheme_model.specs.Cores.{Binder}
 use Rattle.scheme_model.specs.Steps.{Broken, Step, ◌>>=◌, done}
 use Rattle.scheme_model.specs.Order.{Here, Note, Pending, Ops, told, binder_at}
-use Rattle.scheme_model.specs.ScopedExpansion.{Frames, Place, ScopedState}
+use Rattle.scheme_model.specs.ScopedExpansion.{Frames, FramedIdent, ScopedState}
 use Rattle.syntax_tree.specs.Macros.{IsIdent}
 use Rattle.syntax_tree.specs.Meant.{IsMeaning}
 use Rattle.syntax_tree.specs.declared.meaning.Meaning as code_meaning
@@ -38,7 +38,7 @@ pub record CanGo (work : Work) (u : UnitScope) (spot : code_spot.Spot) (asked : 
   pub layout : List Frames
   pub state : ScopedState
   pub frames : Frames
-  pub found : List (Note Place)
+  pub found : List (Note FramedIdent)
   pub stands : Stands work u layout state
   pub placed : SpotFor work u layout state spot frames
   pub notes : NotesFor work layout asked found
@@ -59,7 +59,7 @@ pub record CanRefuse (work : Work) (u : UnitScope) (c : code_coming.Coming) (ask
   pub state : ScopedState
   pub means : Meaning
   pub ident : Identifier
-  pub found : List (Note Place)
+  pub found : List (Note FramedIdent)
   pub comes : ComesTo work u layout state c means
   pub is : IsIdent work.symbols c.bound.ident ident
   pub notes : NotesFor work layout asked found

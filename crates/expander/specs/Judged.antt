@@ -3,17 +3,19 @@
 use Rattle.std.specs.Prelude.{◌≡◌, ℕ, List, [], ◌∷◌, ◌++◌, Bool, true, false, Option, Some, None, Result, Ok, Err, Vec, slice_get, codes, if◌then◌else◌, String}
 use Rattle.std.specs.declared.alloc.Global.{Global}
 use Rattle.std.specs.Option.{option_map}
-use Rattle.std.specs.Str.{bytes_eq, chars, encode_utf8_all}
+use Rattle.std.specs.Str.{bytes_eq}
+use Rattle.std.specs.String.{string_bytes}
 use Rattle.std.specs.BTreeSet.{BTreeSet, contains_text}
-use Rattle.scheme_tokens.specs.Mirror.Spelled.{spelled}
 use Rattle.scheme_model.specs.declared.Occ.{Occ}
 use Rattle.scheme_model.specs.Trees.{Tree, Trees, Tail, proper}
 use Rattle.scheme_model.specs.ExpansionFaults.{Fault, BadForm, ◌>>◌}
 use Rattle.scheme_model.specs.Shapes.{one_of, some_of}
-use Rattle.scheme_model.specs.Requirements.{LibraryPart, Symbol, Digits, LibraryName, Known, parts_of, library_name_of, holds, all_hold, some_holds, none_holds, is_else, or_chosen}
+use Rattle.scheme_model.specs.Requirements.{LibraryPart, LibraryName, Known, parts_of, library_name_of, holds, all_hold, some_holds, none_holds, is_else, or_chosen}
 use Rattle.scheme_model.specs.Ident.{Ident as Identifier, symbol_of}
 use Rattle.syntax_tree.specs.declared.trees.Work.{Work}
 use Rattle.syntax_tree.specs.declared.trees.nodes.Tree as number
+use Rattle.scheme_tokens.specs.LibraryNames.{IsProperPart, AreProper, IsProper}
+pub use Rattle.scheme_tokens.specs.LibraryNames.{part_text, behind_spaces, library_text}
 use Rattle.core_forms.specs.Parts.{AllMatch, IsChoice, AreTrees}
 use Rattle.core_forms.specs.declared.shape.Choice as code_choice
 use Rattle.expander.specs.Counts.{plain_fault}
@@ -24,30 +26,11 @@ use Rattle.expander.specs.declared.requirements.ShapeFault.TheVariants as fault
 use Rattle.expander.specs.declared.requirements.Connective.{Connective}
 use Rattle.expander.specs.declared.requirements.Connective.TheVariants as word
 
--- ---- the text of a library's name
+-- ---- libraries by the texts of their names
 
--- a symbol as it is written, with bars where it needs them; a numeral as it stands
-abbrev pub part_text : LibraryPart → List ℕ
-part_text (Symbol s) = encode_utf8_all (spelled (chars s) false)
-part_text (Digits s) = s
-
--- parts, each behind a space
-abbrev pub behind_spaces : LibraryName → List ℕ
-behind_spaces [] = []
-behind_spaces (p ∷ ps) = 32 ∷ (part_text p ++ behind_spaces ps)
-
--- parts with one space between each two
-abbrev pub with_spaces : LibraryName → List ℕ
-with_spaces [] = []
-with_spaces (p ∷ ps) = part_text p ++ behind_spaces ps
-
--- in parentheses
-abbrev pub library_text : LibraryName → List ℕ
-library_text n = 40 ∷ (with_spaces n ++ 41 ∷ [])
-
--- the texts are those of the libraries that there are
+-- the texts are those of the libraries that there are, among names that can be read
 abbrev pub Knows : BTreeSet (String Global) → Known → Type 0
-Knows libraries known = (n : LibraryName) → known n ≡ contains_text libraries (library_text n)
+Knows libraries known = (n : LibraryName) → IsProper n → known n ≡ contains_text libraries (library_text n)
 
 -- ---- answers
 
@@ -65,14 +48,24 @@ abbrev pub map_ok : {X Y : Type 0} → (X → Y) → Result X (Fault Identifier)
 map_ok f (Ok a) = Ok (f a)
 map_ok f (Err e) = Err e
 
--- what is added to a text
+-- what is added to a text, of parts that are proper
 abbrev pub Puts : List ℕ → List ℕ → Result Unit ShapeFault → Result LibraryPart (Fault Identifier) → Type 0
-Puts old new (Ok u) r = (p : LibraryPart) × (r ≡ Ok p) × (new ≡ old ++ part_text p)
+Puts old new (Ok u) r = (p : LibraryPart) × (r ≡ Ok p) × (new ≡ old ++ part_text p) × IsProperPart p
 Puts old new (Err e) r = Fails e r
 
 abbrev pub PutsAll : List ℕ → List ℕ → Result Unit ShapeFault → Result LibraryName (Fault Identifier) → Type 0
-PutsAll old new (Ok u) r = (ps : LibraryName) × (r ≡ Ok ps) × (new ≡ old ++ behind_spaces ps)
+PutsAll old new (Ok u) r = (ps : LibraryName) × (r ≡ Ok ps) × (new ≡ old ++ behind_spaces ps) × AreProper ps
 PutsAll old new (Err e) r = Fails e r
+
+-- the text of a part, which is proper
+abbrev pub ReadsPart : Result (List ℕ) ShapeFault → Result LibraryPart (Fault Identifier) → Type 0
+ReadsPart (Ok s) r = (p : LibraryPart) × (r ≡ Ok p) × (s ≡ part_text p) × IsProperPart p
+ReadsPart (Err e) r = Fails e r
+
+-- the text of a name, which is proper
+abbrev pub ReadsName : Result (String Global) ShapeFault → Result LibraryName (Fault Identifier) → Type 0
+ReadsName (Ok s) r = (n : LibraryName) × (r ≡ Ok n) × (string_bytes s ≡ library_text n) × IsProper n
+ReadsName (Err e) r = Fails e r
 
 -- the name that the parts of a list make
 abbrev pub name_in_list : Trees Identifier → Tail Identifier → Result LibraryName (Fault Identifier)

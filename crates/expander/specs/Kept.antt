@@ -7,7 +7,7 @@ use Rattle.scheme_model.specs.Measures.{tree_size, trees_size}
 use Rattle.scheme_model.specs.Expression.{meaning_of}
 use Rattle.scheme_model.specs.Order.{Form, Item, Expression, Value, Function, Assigned, AssignedFunction, ValuesOf, Record, Macro, Note, LookedUp, Compared, Pending}
 use Rattle.scheme_model.specs.Shapes.{Clause}
-use Rattle.scheme_model.specs.ScopedExpansion.{Enter, Frames, Place, ScopedState}
+use Rattle.scheme_model.specs.ScopedExpansion.{Enter, Frames, FramedIdent, ScopedState}
 use Rattle.syntax_tree.specs.Macros.{IsIdent}
 use Rattle.syntax_tree.specs.Meant.{IsMeaning}
 use Rattle.syntax_tree.specs.declared.meaning.Meaning as code_meaning
@@ -67,24 +67,24 @@ KeptFor work region unit form k (Macro b here) =
     (x : code_binder.Binder) × (m : code_meaning.Meaning) × (k ≡ kept.Macro x m) × IsBinder work.symbols unit form x b × IsMeaning work.symbols unit form m (meaning_of b.bound b.ident)
 
 -- the next form is the last of the code's list
-pub record PendingFor (work : Work) (region : Region) (unit form : ℕ) (q : code_pending.Pending) (p : Pending Identifier Place) : Type 0 where
+pub record PendingFor (work : Work) (region : Region) (unit form : ℕ) (q : code_pending.Pending) (p : Pending Identifier FramedIdent) : Type 0 where
   pub todo : AllMatch (FormFor work region) (reverse q.todo.items) p.todo
   pub aside : AllMatch (KeptFor work region unit form) q.aside.items p.aside
 
 -- ---- notes
 
 -- an identifier in the scope in which it was looked up
-abbrev pub PlaceFor : Work → List Frames → code_place.Asking → Place → Type 0
+abbrev pub PlaceFor : Work → List Frames → code_place.Asking → FramedIdent → Type 0
 PlaceFor work ls a p = At ls a.scope p.frames × IsIdent work.symbols a.ident p.ident
 
-abbrev pub NoteFor : Work → List Frames → code_note.Note → Note Place → Type 0
+abbrev pub NoteFor : Work → List Frames → code_note.Note → Note FramedIdent → Type 0
 NoteFor work ls (notes.LookedUp a h k) (LookedUp p head keyword) = PlaceFor work ls a p × (h ≡ head) × (k ≡ keyword)
 NoteFor work ls (notes.LookedUp a h k) (Compared p q held) = ⊥
 NoteFor work ls (notes.Compared l a h) (LookedUp p head keyword) = ⊥
 NoteFor work ls (notes.Compared l a h) (Compared p q held) = PlaceFor work ls l p × PlaceFor work ls a q × (h ≡ held)
 
 -- the notes, of which the newest is the code's last, and those that ask each identifier
-pub record NotesFor (work : Work) (ls : List Frames) (asked : Asked) (ns : List (Note Place)) : Type 0 where
+pub record NotesFor (work : Work) (ls : List Frames) (asked : Asked) (ns : List (Note FramedIdent)) : Type 0 where
   pub notes : AllMatch (NoteFor work ls) asked.notes.items (reverse ns)
   pub asks : AskedStands work.symbols asked
 

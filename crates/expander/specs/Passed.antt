@@ -8,7 +8,7 @@ use Rattle.scheme_model.specs.Trees.{Tree, Trees}
 use Rattle.scheme_model.specs.Quasiquote.{Mark, quasi_of}
 use Rattle.scheme_model.specs.Shapes.{Clause, Variable as define_variable, Procedure as define_procedure}
 use Rattle.scheme_model.specs.Order.{Here, Item, Note, Pending, Pass, Going, Ops, or_none, read_then, splice, record_names, run_define, run_values, run_record, run_syntax, put, Expression, Form}
-use Rattle.scheme_model.specs.ScopedExpansion.{Frames, Place, ScopedState}
+use Rattle.scheme_model.specs.ScopedExpansion.{Frames, FramedIdent, ScopedState}
 use Rattle.syntax_tree.specs.declared.trees.Work.{Work}
 use Rattle.syntax_tree.specs.declared.trees.table.Region.{Region}
 use Rattle.core_forms.specs.Forms.{Shape, Quoted, Quasi, Procedure, Procedures, Conditional, Assignment, Sequence, Definition, Several, RecordType, Syntax, Local, Choices, ErrorText, Inclusion}
@@ -34,7 +34,7 @@ pub record CanPass (work : Work) (region : Region) (u : UnitScope) (spot : code_
   pub layout : List Frames
   pub state : ScopedState
   pub frames : Frames
-  pub left : Pending Identifier Place
+  pub left : Pending Identifier FramedIdent
   pub stands : Stands work u layout state
   pub placed : SpotFor work u layout state spot frames
   pub pending : PendingFor work region u.unit u.form.number todo left
@@ -45,7 +45,7 @@ pub record CanPass (work : Work) (region : Region) (u : UnitScope) (spot : code_
 
 -- what a step leaves, where `before` was left with as many uses as the form had begun, and the step was given so much beside it:
 -- less is left, and locals were taken for what went
-pub record Reaches (old new : Work) (region : Region) (u v : UnitScope) (ls : List Frames) (spot : code_spot.Spot) (fs : Frames) (before : List (Form Identifier)) (given : ℕ) (todo : code_pending.Pending) (asked : Asked) (q : Pending Identifier Place) (t : ScopedState) : Type 0 where
+pub record Reaches (old new : Work) (region : Region) (u v : UnitScope) (ls : List Frames) (spot : code_spot.Spot) (fs : Frames) (before : List (Form Identifier)) (given : ℕ) (todo : code_pending.Pending) (asked : Asked) (q : Pending Identifier FramedIdent) (t : ScopedState) : Type 0 where
   pub stays : Stays old new region u v ls t
   pub placed : SpotFor new v ls t spot fs
   pub pending : PendingFor new region v.unit v.form.number todo q
@@ -54,25 +54,25 @@ pub record Reaches (old new : Work) (region : Region) (u v : UnitScope) (ls : Li
   pub locals : v.form.budget.locals + left_with q.todo v.form.budget.uses ≤ u.form.budget.locals + left_with before u.form.budget.uses + given
 
 -- a fault ends the pass; the notes stay
-pub record Stops (old new : Work) (region : Region) (u v : UnitScope) (ls : List Frames) (spot : code_spot.Spot) (fs : Frames) (asked : Asked) (ns : List (Note Place)) (t : ScopedState) : Type 0 where
+pub record Stops (old new : Work) (region : Region) (u v : UnitScope) (ls : List Frames) (spot : code_spot.Spot) (fs : Frames) (asked : Asked) (ns : List (Note FramedIdent)) (t : ScopedState) : Type 0 where
   pub stays : Stays old new region u v ls t
   pub placed : SpotFor new v ls t spot fs
   pub notes : NotesFor new ls asked ns
 
 -- the code's step is the definition's, whatever goes on behind it
-abbrev pub GoesOn : Work → Work → Region → UnitScope → UnitScope → List Frames → code_spot.Spot → Frames → List (Form Identifier) → (given : ℕ) → code_pending.Pending → Asked → Result (Unit {0}) ExpandFault → (Going Identifier Place ScopedState → Pass Identifier Place × ScopedState) → Type 0
+abbrev pub GoesOn : Work → Work → Region → UnitScope → UnitScope → List Frames → code_spot.Spot → Frames → List (Form Identifier) → (given : ℕ) → code_pending.Pending → Asked → Result (Unit {0}) ExpandFault → (Going Identifier FramedIdent ScopedState → Pass Identifier FramedIdent × ScopedState) → Type 0
 GoesOn old new region u v ls spot fs before given todo asked (Ok done) step =
-    (q : Pending Identifier Place) × (t : ScopedState) × Reaches old new region u v ls spot fs before given todo asked q t × ((go : Going Identifier Place ScopedState) → step go ≡ go q t)
+    (q : Pending Identifier FramedIdent) × (t : ScopedState) × Reaches old new region u v ls spot fs before given todo asked q t × ((go : Going Identifier FramedIdent ScopedState) → step go ≡ go q t)
 GoesOn old new region u v ls spot fs before given todo asked (Err (fault.At e)) step =
-    (ns : List (Note Place)) × (b : Broken) × (t : ScopedState) × Stops old new region u v ls spot fs asked ns t × IsFault new.symbols t.unit t.form e b
-    × ((go : Going Identifier Place ScopedState) → step go ≡ (record { notes = ns; items = Err b }, t))
+    (ns : List (Note FramedIdent)) × (b : Broken) × (t : ScopedState) × Stops old new region u v ls spot fs asked ns t × IsFault new.symbols t.unit t.form e b
+    × ((go : Going Identifier FramedIdent ScopedState) → step go ≡ (record { notes = ns; items = Err b }, t))
 GoesOn old new region u v ls spot fs before given todo asked (Err fault.Full) step = Leaves old new region u × MayFill old u
 GoesOn old new region u v ls spot fs before given todo asked (Err fault.Memory) step = Leaves old new region u
 
 -- ---- the whole pass
 
 -- what was set aside, or the fault; the notes beside it
-abbrev pub Passes : Work → Work → Region → UnitScope → UnitScope → List Frames → code_spot.Spot → Frames → (most : ℕ) → List code_kept.Kept → Asked → Result (Unit {0}) ExpandFault → Pass Identifier Place × ScopedState → Type 0
+abbrev pub Passes : Work → Work → Region → UnitScope → UnitScope → List Frames → code_spot.Spot → Frames → (most : ℕ) → List code_kept.Kept → Asked → Result (Unit {0}) ExpandFault → Pass Identifier FramedIdent × ScopedState → Type 0
 Passes old new region u v ls spot fs most aside asked (Ok done) p =
     (is : List (Item Identifier)) × (p.0.items ≡ Ok is) × Stops old new region u v ls spot fs asked p.0.notes p.1 × AllMatch (KeptFor new region v.unit v.form.number) aside is
     × (v.form.budget.locals ≤ u.form.budget.locals + most)

@@ -13,24 +13,24 @@ use Rattle.scheme_model.specs.Steps.{Broken}
 use Rattle.scheme_model.specs.Expression.{expand}
 use Rattle.scheme_model.specs.UnitExpansion.{Formed, passes, finished, unit}
 use Rattle.scheme_model.specs.Substitution.{any}
-use Rattle.scheme_model.specs.ScopedExpansion.{Frames, Place, ScopedState, body_around, definition_added, meaning_next, is_defined}
+use Rattle.scheme_model.specs.ScopedExpansion.{Frames, FramedIdent, ScopedState, body_around, definition_added, meaning_next, is_defined}
 use Rattle.scheme_model.specs.CountedExpansion.{refused_here, counted}
 use Rattle.scheme_model.specs.Program.{Prepared, enough_turns}
 use Rattle.scheme_model.specs.ScopedProgram.{forms_over}
 use Rattle.expander.specs.Asks.{is_inside}
 
 -- an identifier of the note has x
-abbrev pub speaks_of : Ident → Note Place → Bool
+abbrev pub speaks_of : Ident → Note FramedIdent → Bool
 speaks_of x (LookedUp p head keyword) = is_inside x p.ident
 speaks_of x (Compared p q held) = is_inside x p.ident || is_inside x q.ident
 
-abbrev pub define_searched : Option Number → Named Ident → Option (Rules Ident) → Frames → Pending Ident Place → ScopedState → Result (Pending Ident Place) (Fault Ident) × ScopedState
+abbrev pub define_searched : Option Number → Named Ident → Option (Rules Ident) → Frames → Pending Ident FramedIdent → ScopedState → Result (Pending Ident FramedIdent) (Fault Ident) × ScopedState
 define_searched b n r fs p s =
     if any (λ note. speaks_of n.name note && refused_here (definition_added b n r fs s) (meaning_next s b n.name) (is_some r) note) p.notes then (Err (KeywordRedefined n), s)
     else if is_defined s b n.name then (Err (Duplicate n), s)
     else (Ok p, definition_added b n r fs s)
 
-abbrev pub searched : Known → Ops Frames Ident Place ScopedState
+abbrev pub searched : Known → Ops Frames Ident FramedIdent ScopedState
 searched known = record (counted known) { define = λ n r fs p s. define_searched (body_around fs) n r fs p s }
 
 -- ---- units
@@ -47,12 +47,12 @@ abbrev pub Passed : Type 0
 Passed = List (ℕ × Result (List (Item Ident)) Broken) × ScopedState
 
 -- all forms are gone through; or so many
-abbrev pub all_passed : Ops Frames Ident Place ScopedState → Prepared → ScopedState → Passed
+abbrev pub all_passed : Ops Frames Ident FramedIdent ScopedState → Prepared → ScopedState → Passed
 all_passed ops p s = passes ops enough_turns [] (forms_of p) [] s
 
-abbrev pub front_passed : Ops Frames Ident Place ScopedState → ℕ → Prepared → ScopedState → Passed
+abbrev pub front_passed : Ops Frames Ident FramedIdent ScopedState → ℕ → Prepared → ScopedState → Passed
 front_passed ops n p s = passes ops enough_turns [] (take n (forms_of p)) [] s
 
 -- what so many forms set aside is expanded, once all forms were gone through
-abbrev pub front_finished : Ops Frames Ident Place ScopedState → ℕ → Passed → List Formed × ScopedState
+abbrev pub front_finished : Ops Frames Ident FramedIdent ScopedState → ℕ → Passed → List Formed × ScopedState
 front_finished ops n q = finished ops (expand ops enough_turns) [] (take n q.0) q.1

@@ -9,7 +9,7 @@ use Rattle.scheme_model.specs.Expression.{expand, item_part}
 use Rattle.scheme_model.specs.UnitExpansion.{max_depth}
 use Rattle.scheme_model.specs.Program.{enough_turns}
 use Rattle.scheme_model.specs.Requirements.{Known}
-use Rattle.scheme_model.specs.ScopedExpansion.{Frames, Place, ScopedState}
+use Rattle.scheme_model.specs.ScopedExpansion.{Frames, FramedIdent, ScopedState}
 use Rattle.syntax_tree.specs.Names.{KeepsNames}
 use Rattle.syntax_tree.specs.Works.{KeepsTrees, SameRegions, AddsIn, live_count}
 use Rattle.syntax_tree.specs.declared.trees.Work.{Work}
@@ -34,7 +34,7 @@ use Rattle.expander.specs.declared.scope.UnitScope.{UnitScope}
 -- ---- units between calls
 
 -- what the open unit and the units before it stand for: a state, what its scopes stand for, and the notes of its forms so far
-pub record UnitStands (work : Work) (u : UnitScope) (ls : List Frames) (s : ScopedState) (found : List (Note Place)) : Type 0 where
+pub record UnitStands (work : Work) (u : UnitScope) (ls : List Frames) (s : ScopedState) (found : List (Note FramedIdent)) : Type 0 where
   pub rests : Rests work u ls s
   pub notes : NotesFor work ls u.asked found
 
@@ -57,7 +57,7 @@ ItemFor work region unit form x i = KeptFor work region unit form x.kept i
 -- ---- what calls leave
 
 -- the unit after a call: scopes keep their frames, no more nodes were added than were counted, and no unit was begun
-pub record Goes (old new : Work) (region : Region) (u v : UnitScope) (before after : Budget) (ls : List Frames) (number : ℕ) (trace : Trace) (notes : List (Note Place)) (t : ScopedState) : Type 0 where
+pub record Goes (old new : Work) (region : Region) (u v : UnitScope) (before after : Budget) (ls : List Frames) (number : ℕ) (trace : Trace) (notes : List (Note FramedIdent)) (t : ScopedState) : Type 0 where
   pub layout : List Frames
   pub stands : UnitStands new v layout t notes
   pub kept : (n : ℕ) (fs : Frames) → At ls n fs → At layout n fs
@@ -82,7 +82,7 @@ Counts u v (Err fault.Full) = Unit {0}
 Counts u v (Err fault.Memory) = Unit {0}
 
 -- what a form sets aside, or its fault
-abbrev pub Declares : Work → Work → Region → UnitScope → UnitScope → Budget → Budget → List Frames → (number : ℕ) → Trace → Result (List code_item.Item) ExpandFault → Pass Identifier Place × ScopedState → Type 0
+abbrev pub Declares : Work → Work → Region → UnitScope → UnitScope → Budget → Budget → List Frames → (number : ℕ) → Trace → Result (List code_item.Item) ExpandFault → Pass Identifier FramedIdent × ScopedState → Type 0
 Declares old new region u v before after ls number trace (Ok xs) p =
     (is : List (Item Identifier)) × (p.0.items ≡ Ok is) × Goes old new region u v before after ls number trace p.0.notes p.1 × AllMatch (ItemFor new region v.unit number) xs is
 Declares old new region u v before after ls number trace (Err (fault.At e)) p =
@@ -91,7 +91,7 @@ Declares old new region u v before after ls number trace (Err fault.Full) p = Un
 Declares old new region u v before after ls number trace (Err fault.Memory) p = Unit {0}
 
 -- the same while the form is at work
-abbrev pub Sets : Work → Work → Region → UnitScope → UnitScope → List Frames → Result (List code_item.Item) ExpandFault → Pass Identifier Place × ScopedState → Type 0
+abbrev pub Sets : Work → Work → Region → UnitScope → UnitScope → List Frames → Result (List code_item.Item) ExpandFault → Pass Identifier FramedIdent × ScopedState → Type 0
 Sets old new region u v ls (Ok xs) p =
     (is : List (Item Identifier)) × (p.0.items ≡ Ok is) × Stays old new region u v ls p.1 × NotesFor new ls v.asked p.0.notes × AllMatch (ItemFor new region v.unit v.form.number) xs is
 Sets old new region u v ls (Err (fault.At e)) p = (b : Broken) × (p.0.items ≡ Err b) × Stays old new region u v ls p.1 × NotesFor new ls v.asked p.0.notes × IsFault new.symbols p.1.unit p.1.form e b
@@ -99,7 +99,7 @@ Sets old new region u v ls (Err fault.Full) p = Leaves old new region u × MayFi
 Sets old new region u v ls (Err fault.Memory) p = Leaves old new region u
 
 -- what an item comes to, or its fault
-abbrev pub Expands : Work → Work → Region → UnitScope → UnitScope → Budget → Budget → List Frames → (number : ℕ) → Trace → List (Note Place) → Result ExpandedItem ExpandFault → Result Part Broken × ScopedState → Type 0
+abbrev pub Expands : Work → Work → Region → UnitScope → UnitScope → Budget → Budget → List Frames → (number : ℕ) → Trace → List (Note FramedIdent) → Result ExpandedItem ExpandFault → Result Part Broken × ScopedState → Type 0
 Expands old new region u v before after ls number trace notes (Ok x) p =
     (m : Part) × (p.0 ≡ Ok m) × Goes old new region u v before after ls number trace notes p.1 × PartStands new v.unit number x.part m × (x.count + before.nodes ≡ after.nodes)
 Expands old new region u v before after ls number trace notes (Err (fault.At e)) p =
@@ -112,7 +112,7 @@ Expands old new region u v before after ls number trace notes (Err fault.Memory)
 pub record CanDeclare (work : Work) (u : UnitScope) (number : ℕ) (budget : Budget) (trace : Trace) : Type 0 where
   pub layout : List Frames
   pub state : ScopedState
-  pub notes : List (Note Place)
+  pub notes : List (Note FramedIdent)
   pub stands : UnitStands work u layout state notes
   pub counts : CountsFor work state number budget trace
 
@@ -120,16 +120,16 @@ pub record CanDeclare (work : Work) (u : UnitScope) (number : ℕ) (budget : Bud
 pub record CanSet (work : Work) (u : UnitScope) : Type 0 where
   pub layout : List Frames
   pub state : ScopedState
-  pub notes : List (Note Place)
+  pub notes : List (Note FramedIdent)
   pub stands : Stands work u layout state
   pub asked : NotesFor work layout u.asked notes
 
 -- ---- the definition's steps
 
-abbrev pub set_aside : Known → Tree Identifier → List (Note Place) → ScopedState → Pass Identifier Place × ScopedState
+abbrev pub set_aside : Known → Tree Identifier → List (Note FramedIdent) → ScopedState → Pass Identifier FramedIdent × ScopedState
 set_aside known t notes s = run (searched known) enough_turns [] (record { todo = record { here = None; tree = t } ∷ []; aside = []; notes = notes }) s
 
-abbrev pub declared : Known → (number : ℕ) → Tree Identifier → List (Note Place) → ScopedState → Pass Identifier Place × ScopedState
+abbrev pub declared : Known → (number : ℕ) → Tree Identifier → List (Note FramedIdent) → ScopedState → Pass Identifier FramedIdent × ScopedState
 declared known number t notes s = set_aside known t notes (turned number s)
 
 abbrev pub expanded : Known → (number : ℕ) → Item Identifier → ScopedState → Result Part Broken × ScopedState

@@ -12,7 +12,7 @@ use Rattle.scheme_model.specs.Meaning.{same_meaning}
 use Rattle.scheme_model.specs.Cores.{Target}
 use Rattle.scheme_model.specs.Order.{Note, Compared, Transformer}
 use Rattle.scheme_model.specs.CountedExpansion.{means_here}
-use Rattle.scheme_model.specs.ScopedExpansion.{Frames, Place, ScopedState, macro_at}
+use Rattle.scheme_model.specs.ScopedExpansion.{Frames, FramedIdent, ScopedState, macro_at}
 use Rattle.syntax_tree.specs.Macros.{identifiers, MatchedFor}
 use Rattle.syntax_tree.specs.Bound.{IsMatched, BindingsNamed}
 use Rattle.syntax_tree.specs.Works.{StandsFor, CanName, live_count}
@@ -66,7 +66,7 @@ pub record CanUse (work : Work) (u : UnitScope) (at : code.Use) : Type 0 where
 abbrev pub note_of : (literal_scope scope : ℕ) → Comparison → code_note.Note
 note_of literal_scope scope c = notes.Compared (record { scope = literal_scope; ident = c.pair.literal }) (record { scope = scope; ident = c.pair.ident }) c.held
 
-abbrev pub ComparisonFor : Work → List Frames → (literal_scope scope : ℕ) → Comparison → Note Place → Type 0
+abbrev pub ComparisonFor : Work → List Frames → (literal_scope scope : ℕ) → Comparison → Note FramedIdent → Type 0
 ComparisonFor work ls literal_scope scope c n = NoteFor work ls (note_of literal_scope scope c) n
 
 -- of these pairs of a literal and an identifier exactly those are told that mean the same
@@ -97,7 +97,7 @@ meanings_equal (meanings.Free s) (meanings.Standard t) = false
 meanings_equal (meanings.Free s) (meanings.Free t) = s == t
 
 -- the comparison of a literal inside some frames with an identifier inside others
-abbrev pub comparison_of : ScopedState → Frames → Frames → Identifier × Identifier → Note Place
+abbrev pub comparison_of : ScopedState → Frames → Frames → Identifier × Identifier → Note FramedIdent
 comparison_of s gs fs q =
     Compared (record { frames = gs; ident = q.0 }) (record { frames = fs; ident = q.1 }) (same_meaning (means_here s gs q.0) (means_here s fs q.1))
 

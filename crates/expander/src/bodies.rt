@@ -1,6 +1,6 @@
 //! What bodies and local macros do before their parts are expanded (R7RS 4.3.1, 5.3.2).
 ghost use Rattle.std.specs.Prelude.{◌≡◌, map, reverse, IfOk, ℕ, ◌+◌, ◌^◌, ◌≤◌, List, OnOk, length};
-ghost use Rattle.expander.specs.Seen.{form_at};
+ghost use Rattle.expander.specs.FormsSeen.{form_at};
 ghost use Rattle.scheme_model.specs.ExpansionFaults.{Named};
 ghost use Rattle.scheme_model.specs.Ident.{Ident as Identifier};
 ghost use Rattle.scheme_model.specs.Identifiers.{Number};

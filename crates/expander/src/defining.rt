@@ -11,10 +11,10 @@ ghost use Rattle.syntax_tree.specs.declared.trees.Work.{Work as AnyWork};
 ghost use Rattle.core_forms.specs.Parts.{IsName, IsField, AreNames, AllMatch as Match, IsFormals};
 ghost use Rattle.core_forms.specs.Ends.{IsRecord};
 ghost use Rattle.core_tree.specs.Names.{IsField as IsUse, AllMatch, IsBinder};
-ghost use Rattle.expander.specs.Seen.{used_fields};
+ghost use Rattle.expander.specs.FormsSeen.{used_fields};
 ghost use Rattle.scheme_model.specs.Requirements.{Known};
 ghost use Rattle.scheme_model.specs.Trees.{Tree as ModelTree};
-ghost use Rattle.scheme_model.specs.ScopedExpansion.{Frames, Place, ScopedState};
+ghost use Rattle.scheme_model.specs.ScopedExpansion.{Frames, FramedIdent, ScopedState};
 ghost use Rattle.syntax_tree.specs.declared.trees.table.Region.{Region as AnyRegion};
 ghost use Rattle.expander.specs.Judged.{Knows};
 ghost use Rattle.expander.specs.Searched.{searched};
@@ -53,7 +53,7 @@ impl UnitScope {
         requires can { CanGo work.now self.old spot asked.now }
         requires name { HasNumber work.now name }
         requires room { self.old.form.budget.locals + 1 ≤ most_locals self.old.form.budget.nodes }
-        ensures { (known : Known) (region : AnyRegion) (ls : List Frames) (s : ScopedState) (fs : Frames) (n : Named Identifier) (t : ModelTree Identifier) (p : ModelPending Identifier Place) (given : ℕ) →
+        ensures { (known : Known) (region : AnyRegion) (ls : List Frames) (s : ScopedState) (fs : Frames) (n : Named Identifier) (t : ModelTree Identifier) (p : ModelPending Identifier FramedIdent) (given : ℕ) →
             Knows self.old.libraries known → Stands work.now self.old ls s → SpotFor work.now self.old ls s spot fs → IsName work.now name n → WorksOn work.now region form.tree t →
             PendingFor work.now region self.old.unit self.old.form.number pending.old p → NotesFor work.now ls asked.now p.notes → 1 ≤ given →
             GoesOn work.now work.now region self.old self.new ls spot fs p.todo given pending.new asked.now result (λ go. run_define (searched known) go form.here fs p (Variable n t) s) }
@@ -82,7 +82,7 @@ impl UnitScope {
         requires can { CanGo work.now self.old spot asked.now }
         requires name { HasNumber work.now name }
         requires room { self.old.form.budget.locals + 1 ≤ most_locals self.old.form.budget.nodes }
-        ensures { (known : Known) (region : AnyRegion) (ls : List Frames) (s : ScopedState) (fs : Frames) (n : Named Identifier) (c : ModelClause Identifier) (p : ModelPending Identifier Place) (given : ℕ) →
+        ensures { (known : Known) (region : AnyRegion) (ls : List Frames) (s : ScopedState) (fs : Frames) (n : Named Identifier) (c : ModelClause Identifier) (p : ModelPending Identifier FramedIdent) (given : ℕ) →
             Knows self.old.libraries known → Stands work.now self.old ls s → SpotFor work.now self.old ls s spot fs → IsName work.now name n → ClauseFor work.now region clause c →
             PendingFor work.now region self.old.unit self.old.form.number pending.old p → NotesFor work.now ls asked.now p.notes → 1 ≤ given →
             GoesOn work.now work.now region self.old self.new ls spot fs p.todo given pending.new asked.now result (λ go. run_define (searched known) go here fs p (Procedure n c) s) }
@@ -112,7 +112,7 @@ impl UnitScope {
         requires can { CanGo work.now self.old spot asked.now }
         requires names { (ns : List (Named Identifier)) × Match (IsName work.now) names.now ns }
         requires room { self.old.form.budget.locals + length names.now ≤ most_locals self.old.form.budget.nodes }
-        ensures defined { (known : Known) (ls : List Frames) (s : ScopedState) (fs : Frames) (ns : List (Named Identifier)) (p : ModelPending Identifier Place) →
+        ensures defined { (known : Known) (ls : List Frames) (s : ScopedState) (fs : Frames) (ns : List (Named Identifier)) (p : ModelPending Identifier FramedIdent) →
             Stands work.now self.old ls s → SpotFor work.now self.old ls s spot fs → Match (IsName work.now) names.now ns → NotesFor work.now ls asked.now p.notes →
             EndsIn (λ bs ms. AllMatch (IsBinder work.now.symbols self.old.unit self.old.form.number) bs.items ms) work.now self.old self.new ls spot fs result (define_each (searched known) here fs ns p s) }
         ensures counts { OnOk result (Takes (length names.now) self.old self.new) }
@@ -140,7 +140,7 @@ impl UnitScope {
         requires can { CanGo work.now self.old spot asked.now }
         requires names { (m : ModelFormals Identifier) × IsFormals work.now formals m }
         requires room { self.old.form.budget.locals + length formals.names.items ≤ most_locals self.old.form.budget.nodes }
-        ensures { (known : Known) (region : AnyRegion) (ls : List Frames) (s : ScopedState) (fs : Frames) (m : ModelFormals Identifier) (t : ModelTree Identifier) (p : ModelPending Identifier Place) (given : ℕ) →
+        ensures { (known : Known) (region : AnyRegion) (ls : List Frames) (s : ScopedState) (fs : Frames) (m : ModelFormals Identifier) (t : ModelTree Identifier) (p : ModelPending Identifier FramedIdent) (given : ℕ) →
             Knows self.old.libraries known → Stands work.now self.old ls s → SpotFor work.now self.old ls s spot fs → IsFormals work.now formals m → WorksOn work.now region form.tree t →
             PendingFor work.now region self.old.unit self.old.form.number pending.old p → NotesFor work.now ls asked.now p.notes → length m.names < given →
             GoesOn work.now work.now region self.old self.new ls spot fs p.todo given pending.new asked.now result (λ go. run_values (searched known) go form.here fs p (m, t) s) }
@@ -170,7 +170,7 @@ impl UnitScope {
         requires standing { (m : RecordShape Identifier) × IsRecordFor work.now shape.now m }
         requires small { length shape.now.fields.items < 2 ^ 32 }
         requires room { (m : RecordShape Identifier) → IsRecordFor work.now shape.now m → self.old.form.budget.locals + length m.fields + length (record_names m) ≤ most_locals self.old.form.budget.nodes }
-        ensures { (known : Known) (region : AnyRegion) (ls : List Frames) (s : ScopedState) (fs : Frames) (m : RecordShape Identifier) (p : ModelPending Identifier Place) (given : ℕ) →
+        ensures { (known : Known) (region : AnyRegion) (ls : List Frames) (s : ScopedState) (fs : Frames) (m : RecordShape Identifier) (p : ModelPending Identifier FramedIdent) (given : ℕ) →
             Knows self.old.libraries known → Stands work.now self.old ls s → SpotFor work.now self.old ls s spot fs → IsRecordFor work.now shape.now m →
             PendingFor work.now region self.old.unit self.old.form.number pending.old p → NotesFor work.now ls asked.now p.notes → length m.fields + length (record_names m) ≤ given →
             GoesOn work.now work.now region self.old self.new ls spot fs p.todo given pending.new asked.now result (λ go. run_record (searched known) go here fs p m s) }
@@ -207,7 +207,7 @@ impl UnitScope {
         requires name { HasNumber work.now name }
         requires rules { IsStanding work.now rules }
         requires room { self.old.form.budget.locals + 1 ≤ most_locals self.old.form.budget.nodes }
-        ensures { (known : Known) (region : AnyRegion) (ls : List Frames) (s : ScopedState) (fs : Frames) (n : Named Identifier) (t : ModelTree Identifier) (p : ModelPending Identifier Place) (given : ℕ) →
+        ensures { (known : Known) (region : AnyRegion) (ls : List Frames) (s : ScopedState) (fs : Frames) (n : Named Identifier) (t : ModelTree Identifier) (p : ModelPending Identifier FramedIdent) (given : ℕ) →
             Knows self.old.libraries known → Stands work.now self.old ls s → SpotFor work.now self.old ls s spot fs → IsName work.now name n → StandsFor work.now rules t →
             PendingFor work.now region self.old.unit self.old.form.number pending.old p → NotesFor work.now ls asked.old p.notes → 1 ≤ given →
             GoesOn work.now work.now region self.old self.new ls spot fs p.todo given pending.new asked.new result (λ go. run_syntax (searched known) go here fs p (n, t) s) }

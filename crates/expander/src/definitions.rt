@@ -9,7 +9,7 @@ ghost use Rattle.scheme_model.specs.Meaning.{Meaning as ModelMeaning};
 ghost use Rattle.scheme_model.specs.Requirements.{Known};
 ghost use Rattle.scheme_model.specs.RulesShape.{Rules};
 ghost use Rattle.scheme_model.specs.Order.{Note as ModelNote, Pending, binder_at, told};
-ghost use Rattle.scheme_model.specs.ScopedExpansion.{Frames, Place, ScopedState, body_around, meaning_next, is_defined, assigned};
+ghost use Rattle.scheme_model.specs.ScopedExpansion.{Frames, FramedIdent, ScopedState, body_around, meaning_next, is_defined, assigned};
 ghost use Rattle.scheme_model.specs.Substitution.{any, differ};
 ghost use Rattle.syntax_tree.specs.Macros.{IsIdent};
 ghost use Rattle.syntax_tree.specs.Meant.{IsMeaning};
@@ -91,9 +91,9 @@ impl UnitScope {
         requires can { CanGo work.now self.old spot asked.now }
         requires name { HasNumber work.now name }
         requires room { self.old.form.budget.locals + 1 ≤ most_locals self.old.form.budget.nodes }
-        ensures defined { (known : Known) (ls : List Frames) (s : ScopedState) (fs : Frames) (n : Named Identifier) (r : Option (Rules Identifier)) (p : Pending Identifier Place) →
+        ensures defined { (known : Known) (ls : List Frames) (s : ScopedState) (fs : Frames) (n : Named Identifier) (r : Option (Rules Identifier)) (p : Pending Identifier FramedIdent) →
             Stands work.now self.old ls s → SpotFor work.now self.old ls s spot fs → IsName work.now name n → IsKept work.now ls fs kept r → NotesFor work.now ls asked.now p.notes →
-            EndsIn (λ (done : Unit {0}) (q : Pending Identifier Place). q ≡ p) work.now self.old self.new ls spot fs result (told here ((searched known).define n r fs p s)) }
+            EndsIn (λ (done : Unit {0}) (q : Pending Identifier FramedIdent). q ≡ p) work.now self.old self.new ls spot fs result (told here ((searched known).define n r fs p s)) }
         ensures counts { OnOk result (Takes 1 self.old self.new) }
     {
         work.symbols.told_apart();
@@ -176,7 +176,7 @@ impl UnitScope {
     /// Whether a definition changes what a note was told.
     fn is_refused(&self, work: &Work, coming: Coming, asked: &Asked) -> bool
         requires { CanRefuse work.now self.now coming asked.now }
-        ensures { (ls : List Frames) (t : ScopedState) (m : ModelMeaning) (x : Identifier) (ns : List (ModelNote Place)) → ComesTo work.now self.now ls t coming m →
+        ensures { (ls : List Frames) (t : ScopedState) (m : ModelMeaning) (x : Identifier) (ns : List (ModelNote FramedIdent)) → ComesTo work.now self.now ls t coming m →
             IsIdent work.now.symbols coming.bound.ident x → NotesFor work.now ls asked.now ns → result ≡ any (λ note. speaks_of x note && refused_here t m coming.is_macro note) ns }
     {
         let numbers = asked.of(coming.bound.ident);
@@ -190,8 +190,8 @@ impl UnitScope {
 
     /// Whether a note asked what the definition defines, and would be told otherwise with it.
     fn is_changed(&self, work: &Work, coming: Coming, note: Note) -> bool
-        requires { (ls : List Frames) × (t : ScopedState) × (m : ModelMeaning) × (q : ModelNote Place) × ComesTo work.now self.now ls t coming m × NoteFor work.now ls note q }
-        ensures { (ls : List Frames) (t : ScopedState) (m : ModelMeaning) (q : ModelNote Place) → ComesTo work.now self.now ls t coming m → NoteFor work.now ls note q →
+        requires { (ls : List Frames) × (t : ScopedState) × (m : ModelMeaning) × (q : ModelNote FramedIdent) × ComesTo work.now self.now ls t coming m × NoteFor work.now ls note q }
+        ensures { (ls : List Frames) (t : ScopedState) (m : ModelMeaning) (q : ModelNote FramedIdent) → ComesTo work.now self.now ls t coming m → NoteFor work.now ls note q →
             result ≡ refused_here t m coming.is_macro q }
     {
         work.symbols.told_apart();
@@ -216,7 +216,7 @@ impl UnitScope {
     fn meant_with(&self, work: &Work, coming: Coming, at: Asking) -> Meaning
         requires scope { at.scope < length self.now.env.scopes }
         requires ident { at.ident < length work.now.symbols.idents }
-        ensures { (ls : List Frames) (t : ScopedState) (m : ModelMeaning) (p : Place) → ComesTo work.now self.now ls t coming m → PlaceFor work.now ls at p →
+        ensures { (ls : List Frames) (t : ScopedState) (m : ModelMeaning) (p : FramedIdent) → ComesTo work.now self.now ls t coming m → PlaceFor work.now ls at p →
             IsMeaning work.now.symbols t.unit t.form result (means_here t p.frames p.ident) }
     {
         self.env

@@ -3,6 +3,7 @@ ghost use Rattle.std.specs.Prelude.{◌≡◌, ℕ, List, IfOk};
 ghost use Rattle.std.specs.BTreeSet.{contains_text};
 ghost use Rattle.scheme_model.specs.Program.{has_name};
 ghost use Rattle.scheme_model.specs.Requirements.{Known, LibraryName};
+ghost use Rattle.scheme_tokens.specs.LibraryNames.{IsProper};
 ghost use Rattle.expander.specs.Judged.{Knows, library_text};
 
 use ls_base::{Items, Mem, Text};
@@ -19,7 +20,7 @@ impl Libraries {
     /// The libraries with these names.
     pub fn of(alloc: Global, listed: &Items<Text>) -> Mem<Libraries>
         ensures names { IfOk result (λ l. (s : List ℕ) → contains_text l.names s ≡ has_name listed.now s) }
-        ensures knows { (known : Known) → ((n : LibraryName) → known n ≡ has_name listed.now (library_text n)) → IfOk result (λ l. Knows l.names known) }
+        ensures knows { (known : Known) → ((n : LibraryName) → IsProper n → known n ≡ has_name listed.now (library_text n)) → IfOk result (λ l. Knows l.names known) }
     {
         let names = names(alloc, listed.as_slice())?;
         Ok(Libraries { names })

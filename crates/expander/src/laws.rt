@@ -6,7 +6,7 @@ ghost use Rattle.scheme_model.specs.Cores.{Part as ModelPart, Parts as ModelPart
 ghost use Rattle.scheme_model.specs.Steps.{Broken};
 ghost use Rattle.scheme_model.specs.Order.{Item as ModelItem, Note};
 ghost use Rattle.scheme_model.specs.UnitExpansion.{Formed};
-ghost use Rattle.scheme_model.specs.ScopedExpansion.{Place, ScopedState};
+ghost use Rattle.scheme_model.specs.ScopedExpansion.{FramedIdent, ScopedState};
 ghost use Rattle.scheme_model.specs.Substitution.{Defined};
 ghost use Rattle.scheme_model.specs.Requirements.{Known};
 ghost use Rattle.scheme_model.specs.Program.{Placed, Prepared, is_ready};
@@ -53,7 +53,7 @@ pub fn notes_are_searched()
 /// (R7RS 5.3): only the former defines anything in the unit. What another form counted, met and defined stands for the same
 /// afterwards, in a work that has only grown; and the unit's definitions stay in the order of their forms.
 pub fn other_forms_stay()
-    ensures declared { (known : Known) (n : ℕ) (t : Tree Identifier) (notes : List (Note Place)) (s : ScopedState) → OthersStay n s (declared known n t notes s).1 }
+    ensures declared { (known : Known) (n : ℕ) (t : Tree Identifier) (notes : List (Note FramedIdent)) (s : ScopedState) → OthersStay n s (declared known n t notes s).1 }
     ensures expanded { (known : Known) (n : ℕ) (i : ModelItem Identifier) (s : ScopedState) → OthersStay n s (expanded known n i s).1 }
     ensures table { (known : Known) (n : ℕ) (i : ModelItem Identifier) (s : ScopedState) → (expanded known n i s).1.table ≡ s.table }
     ensures counts { (old new : AnyWork) (n m : ℕ) (budget : AnyBudget) (trace : AnyTrace) (s t : ScopedState) → (m ≡ n → ⊥) → OthersStay n s t →
@@ -101,6 +101,6 @@ pub fn parts_stay()
 /// What a form of a unit sets aside binds definitions of the unit, and so does each part that comes of it; all that stands inside binds
 /// locals (R7RS 5.3).
 pub fn forms_define_on_top()
-    ensures declared { (known : Known) (n : ℕ) (t : Tree Identifier) (notes : List (Note Place)) (s : ScopedState) → OfOk (ItemsBind false) (declared known n t notes s).0.items }
+    ensures declared { (known : Known) (n : ℕ) (t : Tree Identifier) (notes : List (Note FramedIdent)) (s : ScopedState) → OfOk (ItemsBind false) (declared known n t notes s).0.items }
     ensures expanded { (known : Known) (n : ℕ) (i : ModelItem Identifier) (s : ScopedState) → ItemBinds false i → OfOk (PartBinds false) (expanded known n i s).0 }
 {}

@@ -10,7 +10,7 @@ ghost use Rattle.scheme_model.specs.Ident.{Ident as Identifier, symbol_of};
 ghost use Rattle.syntax_tree.specs.Standing.{leaf_tree};
 ghost use Rattle.syntax_tree.specs.Looks.{PartsStand, EndStands, AreStanding};
 ghost use Rattle.syntax_tree.specs.Works.{StandsFor, IsStanding};
-ghost use Rattle.expander.specs.Judged.{Reads, map_ok, part_text, library_text, name_in_list, Puts, PutsAll};
+ghost use Rattle.expander.specs.Judged.{Reads, map_ok, part_text, name_in_list, Puts, PutsAll, ReadsPart, ReadsName};
 
 use crate::requirements::ShapeFault;
 use ls_base::{Mem, Text};
@@ -75,7 +75,7 @@ fn leaf_text(alloc: Global, work: &Work, leaf: Leaf) -> Result<Text, ShapeFault>
 /// The text of a part of a library's name: an identifier as it is spelled, or decimal digits.
 fn part_text(alloc: Global, work: &Work, part: Tree) -> Result<Text, ShapeFault>
     requires { IsStanding work.now part }
-    ensures { (t : ModelTree Identifier) → StandsFor work.now part t → Reads (λ t. t) result (map_ok part_text (part_of symbol_of t)) }
+    ensures { (t : ModelTree Identifier) → StandsFor work.now part t → ReadsPart result (part_of symbol_of t) }
 {
     match look_at(work, part) {
         Look::Name(ident) => Ok(symbol_text(alloc, work.symbols.name(work.symbols.strip(ident)))?),
@@ -115,7 +115,7 @@ fn put_parts(
 /// The text of a library's name: of a proper list of identifiers and of numerals of decimal digits, one at least.
 pub fn library_name(alloc: Global, work: &Work, tree: Tree) -> Result<String, ShapeFault>
     requires { IsStanding work.now tree }
-    ensures { (t : ModelTree Identifier) → StandsFor work.now tree t → Reads string_bytes result (map_ok library_text (library_name_of symbol_of t)) }
+    ensures { (t : ModelTree Identifier) → StandsFor work.now tree t → ReadsName result (library_name_of symbol_of t) }
 {
     match look_at(work, tree) {
         Look::List(parts, end) => name_of_parts(alloc, work, parts, end),
@@ -134,7 +134,7 @@ fn name_of_parts(
 ) -> Result<String, ShapeFault>
     requires { AreStanding work.now parts.now }
     ensures { (ts : Trees Identifier) (tail : Tail Identifier) → PartsStand work.now parts.now ts → EndStands work.now end tail →
-        Reads string_bytes result (map_ok library_text (name_in_list ts tail)) }
+        ReadsName result (name_in_list ts tail) }
 {
     if end.is_some() {
         return Err(ShapeFault::BadForm);
@@ -150,7 +150,7 @@ fn name_of_row(alloc: Global, work: &Work, first: Tree, rest: &[Tree]) -> Result
     requires first { IsStanding work.now first }
     requires rest { AreStanding work.now rest.now }
     ensures { (t : ModelTree Identifier) (ts : Trees Identifier) → StandsFor work.now first t → PartsStand work.now rest.now ts →
-        Reads string_bytes result (map_ok library_text (parts_of symbol_of (tree t ts))) }
+        ReadsName result (parts_of symbol_of (tree t ts)) }
 {
     let mut text = String::from_str(alloc, "(")?;
     put_part(alloc, work, &mut text, first)?;

@@ -10,14 +10,14 @@ ghost use Rattle.syntax_tree.specs.Standing.{leaf_tree};
 ghost use Rattle.syntax_tree.specs.Works.{StandsFor, IsStanding, CanName, IsOpened};
 ghost use Rattle.core_forms.specs.Ends.{keyword_as, ShapeFor};
 ghost use Rattle.core_forms.specs.Parts.{IsNameIfAny, IsName};
-ghost use Rattle.expander.specs.Seen.{head_name_of, takes_effect};
+ghost use Rattle.expander.specs.FormsSeen.{head_name_of, takes_effect};
 ghost use Rattle.scheme_model.specs.ExpansionFaults.{Named};
 ghost use Rattle.scheme_model.specs.Keywords.{CoreKeyword as ModelKeyword};
 ghost use Rattle.scheme_model.specs.Measures.{tree_size, trees_size};
 ghost use Rattle.scheme_model.specs.Requirements.{Known};
 ghost use Rattle.scheme_model.specs.Cores.{Target as ModelTarget};
 ghost use Rattle.scheme_model.specs.Meaning.{Head as ModelHead, is_keyword};
-ghost use Rattle.scheme_model.specs.ScopedExpansion.{Frames, Place, ScopedState};
+ghost use Rattle.scheme_model.specs.ScopedExpansion.{Frames, FramedIdent, ScopedState};
 ghost use Rattle.syntax_tree.specs.Looks.{PartsStand, AllNamed};
 ghost use Rattle.syntax_tree.specs.declared.trees.table.Region.{Region as AnyRegion};
 ghost use Rattle.core_forms.specs.Forms.{Shape};
@@ -137,7 +137,7 @@ impl UnitScope {
     ) -> Result<(), ExpandFault>
         requires opened { IsOpened work.old region.now }
         requires can { CanPass work.old region.now self.old spot 0 pending.old asked.old }
-        ensures { (known : Known) (ls : List Frames) (s : ScopedState) (fs : Frames) (p : ModelPending Identifier Place) (turns : ℕ) →
+        ensures { (known : Known) (ls : List Frames) (s : ScopedState) (fs : Frames) (p : ModelPending Identifier FramedIdent) (turns : ℕ) →
             Knows self.old.libraries known → Stands work.old self.old ls s → SpotFor work.old self.old ls s spot fs →
             PendingFor work.old region.now self.old.unit self.old.form.number pending.old p → NotesFor work.old ls asked.old p.notes →
             left_with p.todo self.old.form.budget.uses < turns →
@@ -166,7 +166,7 @@ impl UnitScope {
         requires opened { IsOpened work.old region.now }
         requires form { IsAtWork work.old region.now form.tree }
         requires can { (m : ModelTree Identifier) → StandsFor work.old form.tree m → CanPass work.old region.now self.old spot (tree_size m) pending.old asked.old }
-        ensures { (known : Known) (ls : List Frames) (s : ScopedState) (fs : Frames) (m : ModelForm Identifier) (p : ModelPending Identifier Place) →
+        ensures { (known : Known) (ls : List Frames) (s : ScopedState) (fs : Frames) (m : ModelForm Identifier) (p : ModelPending Identifier FramedIdent) →
             Knows self.old.libraries known → Stands work.old self.old ls s → SpotFor work.old self.old ls s spot fs → FormFor work.old region.now form m →
             PendingFor work.old region.now self.old.unit self.old.form.number pending.old p → NotesFor work.old ls asked.old p.notes →
             GoesOn work.old work.new region.now self.old self.new ls spot fs p.todo (tree_size m.tree) pending.new asked.new result
@@ -214,7 +214,7 @@ impl UnitScope {
         asked: &mut Asked,
     ) -> Mem<()>
         requires { HasNumber work.now name }
-        ensures { (ls : List Frames) (s : ScopedState) (fs : Frames) (n : Named Identifier) (h : ModelHead) (ns : List (ModelNote Place)) → Stands work.now self.now ls s →
+        ensures { (ls : List Frames) (s : ScopedState) (fs : Frames) (n : Named Identifier) (h : ModelHead) (ns : List (ModelNote FramedIdent)) → Stands work.now self.now ls s →
             SpotFor work.now self.now ls s spot fs → IsName work.now name n → IsHead head h → NotesFor work.now ls asked.old ns →
             OnOk result (NotesFor work.now ls asked.new (LookedUp (record { frames = fs; ident = n.name }) true (is_keyword h) ∷ ns)) }
     {
@@ -246,7 +246,7 @@ impl UnitScope {
         requires usable { CanUse work.old self.old at }
         requires named { CanName work.old region.now at.form }
         ensures { (known : Known) (ls : List Frames) (s : ScopedState) (spot : AnySpot) (fs : Frames) (keyword : ModelTarget) (m : Transformer Frames Identifier) (form : ModelForm Identifier)
-            (ts : Trees Identifier) (tail : Tail Identifier) (p : ModelPending Identifier Place) (given : ℕ) →
+            (ts : Trees Identifier) (tail : Tail Identifier) (p : ModelPending Identifier FramedIdent) (given : ℕ) →
             Knows self.old.libraries known → Stands work.old self.old ls s → SpotFor work.old self.old ls s spot fs → At ls at.scope fs → UseFor work.old s at keyword m ts tail →
             PendingFor work.old region.now self.old.unit self.old.form.number pending.old p → NotesFor work.old ls asked.old p.notes → 1 ≤ given →
             GoesOn work.old work.new region.now self.old self.new ls spot fs p.todo given pending.new asked.new result
@@ -283,7 +283,7 @@ impl UnitScope {
         requires form { IsStanding work.now form.tree }
         requires can { (region : AnyRegion) × ((m : ModelTree Identifier) → StandsFor work.now form.tree m → CanPass work.now region self.old spot (tree_size m) pending.old asked.old) }
         ensures { (known : Known) (region : AnyRegion) (ls : List Frames) (s : ScopedState) (fs : Frames) (c : ModelKeyword) (k : ModelTarget) (m : ModelForm Identifier) (head : ModelTree Identifier)
-            (ts : Trees Identifier) (tail : Tail Identifier) (o : Option Occ) (p : ModelPending Identifier Place) →
+            (ts : Trees Identifier) (tail : Tail Identifier) (o : Option Occ) (p : ModelPending Identifier FramedIdent) →
             Knows self.old.libraries known → Stands work.now self.old ls s → SpotFor work.now self.old ls s spot fs → keyword_as core ≡ Some c → IsTarget work.now.symbols s.unit s.form keyword k →
             FormFor work.now region form m → m.tree ≡ list (tree head ts) tail o →
             PendingFor work.now region self.old.unit self.old.form.number pending.old p → NotesFor work.now ls asked.old p.notes →
@@ -314,7 +314,7 @@ impl UnitScope {
         asked: &mut Asked,
     ) -> Result<(), ExpandFault>
         requires shape { (m : Shape) × ShapeFor work.now shape m × (shape_weight m ≤ 4194304) × ((region : AnyRegion) × CanPass work.now region self.old spot (shape_weight m) pending.old asked.old) }
-        ensures { (known : Known) (region : AnyRegion) (ls : List Frames) (s : ScopedState) (fs : Frames) (form : ModelForm Identifier) (m : Shape) (p : ModelPending Identifier Place) (given : ℕ) →
+        ensures { (known : Known) (region : AnyRegion) (ls : List Frames) (s : ScopedState) (fs : Frames) (form : ModelForm Identifier) (m : Shape) (p : ModelPending Identifier FramedIdent) (given : ℕ) →
             Knows self.old.libraries known → Stands work.now self.old ls s → SpotFor work.now self.old ls s spot fs → ShapeFor work.now shape m → ShapeNamed work.now region shape → IsPassed m → ShapeFits m →
             PendingFor work.now region self.old.unit self.old.form.number pending.old p → NotesFor work.now ls asked.old p.notes → shape_weight m < given →
             GoesOn work.now work.now region self.old self.new ls spot fs p.todo given pending.new asked.new result (λ go. pass_step (searched known) go here fs form p m s) }
@@ -371,7 +371,7 @@ impl UnitScope {
         pending: &mut Pending,
     ) -> Result<(), ExpandFault>
         requires { self.old.form.budget.nodes ≤ 200000 }
-        ensures { (known : Known) (work : AnyWork) (region : AnyRegion) (ls : List Frames) (s : ScopedState) (spot : AnySpot) (fs : Frames) (asked : AnyAsked) (ts : Trees Identifier) (p : ModelPending Identifier Place) (given : ℕ) →
+        ensures { (known : Known) (work : AnyWork) (region : AnyRegion) (ls : List Frames) (s : ScopedState) (spot : AnySpot) (fs : Frames) (asked : AnyAsked) (ts : Trees Identifier) (p : ModelPending Identifier FramedIdent) (given : ℕ) →
             Stands work self.old ls s → SpotFor work self.old ls s spot fs → PartsStand work forms.now ts → AllNamed work region forms.now →
             PendingFor work region self.old.unit self.old.form.number pending.old p → NotesFor work ls asked p.notes → trees_size ts < given →
             GoesOn work work region self.old self.new ls spot fs p.todo given pending.new asked result (λ go. splice (searched known) go here p ts s) }
@@ -403,8 +403,8 @@ fn note_comparisons(
     comparisons: &[Comparison],
     asked: &mut Asked,
 ) -> Mem<()>
-    requires { (ls : List Frames) × (qs : List (ModelNote Place)) × AllMatch (ComparisonFor work.now ls literal_scope scope) comparisons.now qs }
-    ensures { (ls : List Frames) (qs ns : List (ModelNote Place)) → AllMatch (ComparisonFor work.now ls literal_scope scope) comparisons.now qs → NotesFor work.now ls asked.old ns →
+    requires { (ls : List Frames) × (qs : List (ModelNote FramedIdent)) × AllMatch (ComparisonFor work.now ls literal_scope scope) comparisons.now qs }
+    ensures { (ls : List Frames) (qs ns : List (ModelNote FramedIdent)) → AllMatch (ComparisonFor work.now ls literal_scope scope) comparisons.now qs → NotesFor work.now ls asked.old ns →
         OnOk result (NotesFor work.now ls asked.new (qs ++ ns)) }
 {
     let mut left = comparisons.len();

@@ -4,14 +4,14 @@ ghost use Rattle.scheme_model.specs.Ident.{Ident as Identifier};
 ghost use Rattle.scheme_model.specs.Trees.{Tree as ModelTree};
 ghost use Rattle.scheme_model.specs.Order.{rules_parts_of, Note as ModelNote, RulesParts, rules_parts, rules_note, rules_at, is_rules};
 ghost use Rattle.syntax_tree.specs.Works.{StandsFor, IsStanding};
-ghost use Rattle.expander.specs.Seen.{IsRulesHead};
+ghost use Rattle.expander.specs.FormsSeen.{IsRulesHead};
 ghost use Rattle.expander.specs.Told.{rules_fault, told};
 ghost use Rattle.scheme_model.specs.Requirements.{Known};
 ghost use Rattle.scheme_model.specs.Cores.{Binder as ModelBinder};
 ghost use Rattle.scheme_model.specs.Expression.{meaning_of, macro_def};
 ghost use Rattle.scheme_model.specs.Meaning.{Head as ModelHead};
 ghost use Rattle.expander.specs.Heads.{IsHead};
-ghost use Rattle.scheme_model.specs.ScopedExpansion.{Frames, Place, ScopedState};
+ghost use Rattle.scheme_model.specs.ScopedExpansion.{Frames, FramedIdent, ScopedState};
 ghost use Rattle.syntax_tree.specs.Meant.{IsMeaning};
 ghost use Rattle.syntax_tree.specs.declared.trees.table.Region.{Region as AnyRegion};
 ghost use Rattle.scheme_model.specs.Leaves.{Leaf as ModelLeaf};
@@ -112,7 +112,7 @@ impl UnitScope {
         requires look { CanLook work.now self.now scope }
         requires rules { IsStanding work.now rules }
         ensures stands { AskedStands work.now.symbols asked.old → OnOk result (AskedStands work.now.symbols asked.new) }
-        ensures notes { (known : Known) (ls : List Frames) (s : ScopedState) (fs : Frames) (t : ModelTree Identifier) (ns : List (ModelNote Place)) → Stands work.now self.now ls s →
+        ensures notes { (known : Known) (ls : List Frames) (s : ScopedState) (fs : Frames) (t : ModelTree Identifier) (ns : List (ModelNote FramedIdent)) → Stands work.now self.now ls s →
             At ls scope fs → StandsFor work.now rules t → NotesFor work.now ls asked.old ns →
             OnOk result (NotesFor work.now ls asked.new (rules_note (searched known) fs s (rules_parts_of t) ++ ns)) }
     {

@@ -1,7 +1,7 @@
 //! Units, one after another, and their forms: the calls of this crate (R7RS 5.1, 5.6).
 ghost use Rattle.std.specs.Prelude.{◌≡◌, ℕ, List, [], ◌∷◌, ◌++◌, length, map, Option, IfOk, ◌+◌, ◌-◌, ◌^◌, ◌<◌, ◌≤◌, Err, OnOk};
 ghost use Rattle.scheme_model.specs.Program.{enough_turns};
-ghost use Rattle.expander.specs.Seen.{item_of};
+ghost use Rattle.expander.specs.FormsSeen.{item_of};
 ghost use Rattle.scheme_model.specs.Ident.{Ident as Identifier};
 ghost use Rattle.scheme_model.specs.Expression.{expand, item_part};
 ghost use Rattle.scheme_model.specs.UnitExpansion.{max_depth};
@@ -9,7 +9,7 @@ ghost use Rattle.core_tree.specs.Cores.{PartStands};
 ghost use Rattle.scheme_model.specs.Requirements.{Known};
 ghost use Rattle.scheme_model.specs.Trees.{Tree as ModelTree};
 ghost use Rattle.scheme_model.specs.Order.{Note, Item as ModelItem};
-ghost use Rattle.scheme_model.specs.ScopedExpansion.{Frames, Place, ScopedState};
+ghost use Rattle.scheme_model.specs.ScopedExpansion.{Frames, FramedIdent, ScopedState};
 ghost use Rattle.syntax_tree.specs.Names.{KeepsNames};
 ghost use Rattle.syntax_tree.specs.Works.{IsOpened, StandsFor, KeepsTrees, SameRegions, AddsIn, live_count};
 ghost use Rattle.expander.specs.Judged.{Knows};
@@ -73,7 +73,7 @@ impl UnitScope {
     pub fn know(&mut self, libraries: Libraries)
         ensures after { self.new ≡ record self.old { libraries = libraries.names } }
         ensures knows { (known : Known) → Knows libraries.names known → Knows self.new.libraries known }
-        ensures rests { (work : AnyWork) (ls : List Frames) (s : ScopedState) (notes : List (Note Place)) → UnitStands work self.old ls s notes → UnitStands work self.new ls s notes }
+        ensures rests { (work : AnyWork) (ls : List Frames) (s : ScopedState) (notes : List (Note FramedIdent)) → UnitStands work self.old ls s notes → UnitStands work self.new ls s notes }
     {
         let Libraries { names } = libraries;
         self.libraries = names;
@@ -90,10 +90,10 @@ impl UnitScope {
     ) -> Mem<()>
         requires new { IsNew self.old unit }
         requires numbered { AreNumbered work.old.symbols imports.now }
-        ensures rests { (ls : List Frames) (s : ScopedState) (notes : List (Note Place)) (imported : List ℕ → Option ModelMeaning) →
+        ensures rests { (ls : List Frames) (s : ScopedState) (notes : List (Note FramedIdent)) (imported : List ℕ → Option ModelMeaning) →
             UnitStands work.old self.old ls s notes → ImportsFor work.old.symbols imports.now imported →
             OnOk result (UnitStands work.new self.new (ls ++ [] ∷ []) (started unit (is_program kind) (with_imports unit imported s.entry) s) []) }
-        ensures fresh { (ls : List Frames) (s : ScopedState) (notes : List (Note Place)) (imported : List ℕ → Option ModelMeaning) → UnitStands work.old self.old ls s notes →
+        ensures fresh { (ls : List Frames) (s : ScopedState) (notes : List (Note FramedIdent)) (imported : List ℕ → Option ModelMeaning) → UnitStands work.old self.old ls s notes →
             OnOk result ((m : ℕ) → IsFresh (started unit (is_program kind) (with_imports unit imported s.entry) s) m) }
         ensures knows { (known : Known) → Knows self.old.libraries known → Knows self.new.libraries known }
         ensures others { (v : ℕ) → (v ≡ unit → ⊥) → IsNew self.old v → OnOk result (IsNew self.new v) }
@@ -163,7 +163,7 @@ impl UnitScope {
     /// The same units once more, while no form is at work. What is done with one doesn't change the other.
     pub fn copy(&self) -> Mem<UnitScope>
         ensures same { IfOk result (SameUnits self.now) }
-        ensures rests { (work : AnyWork) (ls : List Frames) (s : ScopedState) (notes : List (Note Place)) → UnitStands work self.now ls s notes →
+        ensures rests { (work : AnyWork) (ls : List Frames) (s : ScopedState) (notes : List (Note FramedIdent)) → UnitStands work self.now ls s notes →
             IfOk result (λ u. UnitStands work u ls s notes) }
         ensures knows { (known : Known) → Knows self.now.libraries known → IfOk result (λ u. Knows u.libraries known) }
         ensures others { (v : ℕ) → IsNew self.now v → IfOk result (λ u. IsNew u v) }
@@ -197,7 +197,7 @@ impl UnitScope {
         requires form { IsAtWork work.old region.now form }
         requires stands { CanDeclare work.old self.old number budget.old trace.old }
         requires space { HasSpace (2 ^ 43 + 2 ^ 40) budget.old }
-        ensures declared { (known : Known) (ls : List Frames) (s : ScopedState) (notes : List (Note Place)) (t : ModelTree Identifier) → Knows self.old.libraries known →
+        ensures declared { (known : Known) (ls : List Frames) (s : ScopedState) (notes : List (Note FramedIdent)) (t : ModelTree Identifier) → Knows self.old.libraries known →
             UnitStands work.old self.old ls s notes → CountsFor work.old s number budget.old trace.old → StandsFor work.old form t →
             Declares work.old work.new region.now self.old self.new budget.old budget.new ls number trace.new result (declared known number t notes s) }
         ensures space { OnOk result (HasSpace (2 ^ 43) budget.new) }
@@ -239,7 +239,7 @@ impl UnitScope {
         requires item { (i : ModelItem Identifier) × ItemFor work.old region.now self.old.unit number item.now i }
         requires stands { CanDeclare work.old self.old number budget.old trace.old }
         requires space { HasSpace (2 ^ 43) budget.old }
-        ensures expanded { (known : Known) (ls : List Frames) (s : ScopedState) (notes : List (Note Place)) (i : ModelItem Identifier) → Knows self.old.libraries known →
+        ensures expanded { (known : Known) (ls : List Frames) (s : ScopedState) (notes : List (Note FramedIdent)) (i : ModelItem Identifier) → Knows self.old.libraries known →
             UnitStands work.old self.old ls s notes → CountsFor work.old s number budget.old trace.old → ItemFor work.old region.now self.old.unit number item.now i →
             Expands work.old work.new region.now self.old self.new budget.old budget.new ls number trace.new notes result (expanded known number i s) }
         ensures space { OnOk result (HasSpace (2 ^ 43) budget.new) }
@@ -305,7 +305,7 @@ impl UnitScope {
         requires form { IsAtWork work.old region.now form }
         requires can { CanSet work.old self.old }
         requires space { HasRoom (2 ^ 43 + 2 ^ 40) self.old }
-        ensures sets { (known : Known) (ls : List Frames) (s : ScopedState) (notes : List (Note Place)) (t : ModelTree Identifier) → Knows self.old.libraries known →
+        ensures sets { (known : Known) (ls : List Frames) (s : ScopedState) (notes : List (Note FramedIdent)) (t : ModelTree Identifier) → Knows self.old.libraries known →
             Stands work.old self.old ls s → NotesFor work.old ls self.old.asked notes → StandsFor work.old form t →
             Sets work.old work.new region.now self.old self.new ls result (set_aside known t notes s) }
         ensures work { Adds work.old work.new region.now self.old.form.budget }

@@ -28,7 +28,7 @@ pub struct Gathering {
 
 impl Gathering {
     ghost use Rattle.import_sets.specs.Given.{nothing_yet, take_in, alone};
-    ghost use Rattle.import_sets.specs.Seen.{seen};
+    ghost use Rattle.import_sets.specs.GatheringSeen.{seen};
 
     pub fn new(alloc: Global) -> Gathering
         ensures { seen result ≡ nothing_yet }

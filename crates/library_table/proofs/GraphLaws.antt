@@ -78,7 +78,7 @@ unit_before us s ss (Some n) e = go (unit_named n 0 us) refl
     go None q = rw (e, q) refl
     go (Some m) q = rw (e, q) refl
 
-imports_same : (spelled : LibraryName → List ℕ) (find : List ℕ → Option ℕ) (us : List Placed) → ((n : LibraryName) → find (spelled n) ≡ unit_named n 0 us) → (cs : List code_import.ImportSpec) (ss : List ImportSpec) →
+pub imports_same : (spelled : LibraryName → List ℕ) (find : List ℕ → Option ℕ) (us : List Placed) → ((n : LibraryName) → find (spelled n) ≡ unit_named n 0 us) → (cs : List code_import.ImportSpec) (ss : List ImportSpec) →
     AreImports spelled cs ss → imported_places find cs ≡ imported_units us ss
 imports_same spelled find us finds [] [] h = refl
 imports_same spelled find us finds [] (s ∷ ss) h = absurd h

@@ -1,20 +1,23 @@
-mod NamedLaws
-mod RepeatedLaws
-mod ExportLaws
-mod GraphLaws
-mod CircleLaws
-mod OrderLaws
-mod WorkLaws
-mod Chaining
-mod TreeRows
-mod NameTexts
-mod SetRows
-mod Gathering
-mod ExportRows
-mod ProgramRows
-mod RequirementRows
-mod FlatRows
-mod ClauseRows
-mod ChoiceRows
-mod LibraryRows
-mod PlaceLaws
+pub mod NamedLaws  -- Which unit a library's name means
+pub mod RepeatedLaws  -- A unit is among the repeated ones where the first unit with its name is another
+mod ExportLaws  -- What exports of the code give stands for what the exports give
+pub mod GraphLaws  -- The rows of the code's graph are what the units import; the units stand at their numbers
+mod CircleLaws  -- The units on circles, and their names
+mod OrderLaws  -- What a call on the order of units answers
+mod WorkLaws  -- The turns are the order in which the definition of a program works on its units
+mod Chaining  -- How readings are put together
+mod TreeRows  -- The trees of data in a row
+mod NameTexts  -- The texts of libraries' names, and rows of one identifier
+mod SetRows  -- Import sets as they are read
+mod Gathering  -- What is gathered from the items of a list, each with its number
+mod ExportRows  -- Exports as they are read
+mod ProgramRows  -- The program that data are
+mod RequirementRows  -- Requirements as they are read
+mod FlatRows  -- Declarations as they are flattened
+mod ClauseRows  -- The clauses of `cond-expand` as they are read
+mod ChoiceRows  -- The clauses of a `cond-expand` one after another
+mod LibraryRows  -- The library that a datum is, by its parts
+mod PlaceLaws  -- The turns of any graph are its places, each of them once; and so are the places of names that stand twice
+mod ProperNames  -- Names that are read are proper
+pub mod KnownTexts  -- Which libraries there are, by the texts of their names
+pub mod SpelledSources  -- Libraries' names in what is read, however names are told apart by texts that write each proper one as it is written

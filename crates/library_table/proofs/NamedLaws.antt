@@ -38,7 +38,7 @@ pub library_itself : (n : LibraryName) → same_library n n ≡ true
 library_itself [] = refl
 library_itself (p ∷ ps) = (λ j. part_itself p j && library_itself ps j)
 
-texts_same : (spelled : LibraryName → List ℕ) → TellsNames spelled → (m n : LibraryName) → bytes_eq (spelled m) (spelled n) ≡ same_library m n
+pub texts_same : (spelled : LibraryName → List ℕ) → TellsNames spelled → (m n : LibraryName) → bytes_eq (spelled m) (spelled n) ≡ same_library m n
 texts_same spelled tells m n =
     same_test (bytes_eq (spelled m) (spelled n)) (same_library m n)
     (λ h. ap (same_library m) (sym (tells m n (bytes_told (spelled m) (spelled n) h))) ∙ library_itself m)

@@ -1,15 +1,14 @@
--- How parts of declarations are read: what is answered, and the texts of libraries' names.
-use Rattle.std.specs.Prelude.{◌≡◌, ℕ, List, [], ◌∷◌, ◌++◌, false, Result, Ok, Err, String}
+-- How parts of declarations are read: what is answered, and what libraries' names are known by.
+use Rattle.std.specs.Prelude.{◌≡◌, ℕ, List, ◌++◌, Result, Ok, Err, String}
 use Rattle.std.specs.declared.alloc.Global.{Global}
 use Rattle.std.specs.BTreeSet.{BTreeSet, contains_text}
-use Rattle.std.specs.Str.{chars, encode_utf8_all}
-use Rattle.scheme_tokens.specs.Mirror.Spelled.{spelled}
 use Rattle.scheme_model.specs.Trees.{Trees, Tail}
 use Rattle.scheme_model.specs.ExpansionFaults.{Named, Fault, BadForm, ◌>>◌}
 use Rattle.scheme_model.specs.Shapes.{name_of, names_of, first_of, one_of, some_of, proper_of}
 use Rattle.scheme_model.specs.Entries.{pairs_of}
-use Rattle.scheme_model.specs.Requirements.{LibraryPart, Symbol, Digits, LibraryName, Known, parts_of}
-use Rattle.scheme_model.specs.Program.{has_name}
+use Rattle.scheme_model.specs.Requirements.{LibraryPart, LibraryName, Known, parts_of}
+use Rattle.scheme_tokens.specs.LibraryNames.{IsProper}
+pub use Rattle.scheme_tokens.specs.LibraryNames.{part_text, behind_spaces, library_text}
 use Rattle.datum_reader.specs.declared.shape_fault.ShapeFault.{ShapeFault}
 use Rattle.datum_reader.specs.declared.shape_fault.ShapeFault.TheVariants as fault
 
@@ -29,34 +28,11 @@ abbrev pub map_ok : {A B C : Type 0} → (A → B) → Result A C → Result B C
 map_ok f (Ok a) = Ok (f a)
 map_ok f (Err e) = Err e
 
--- ---- the text of a library's name
+-- ---- libraries by the texts of their names
 
--- a symbol as it is written, with bars where it needs them; a numeral as it stands
-abbrev pub part_text : LibraryPart → List ℕ
-part_text (Symbol s) = encode_utf8_all (spelled (chars s) false)
-part_text (Digits s) = s
-
--- parts, each behind a space
-abbrev pub behind_spaces : LibraryName → List ℕ
-behind_spaces [] = []
-behind_spaces (p ∷ ps) = 32 ∷ (part_text p ++ behind_spaces ps)
-
--- parts with one space between each two
-abbrev pub with_spaces : LibraryName → List ℕ
-with_spaces [] = []
-with_spaces (p ∷ ps) = part_text p ++ behind_spaces ps
-
--- in parentheses
-abbrev pub library_text : LibraryName → List ℕ
-library_text n = 40 ∷ (with_spaces n ++ 41 ∷ [])
-
--- the libraries whose names have these texts
-abbrev pub knows : List (List ℕ) → Known
-knows texts n = has_name texts (library_text n)
-
--- the same, where they are a set
+-- the texts are those of the libraries that there are, among names that can be read
 abbrev pub Knows : BTreeSet (String Global) → Known → Type 0
-Knows texts known = (n : LibraryName) → known n ≡ contains_text texts (library_text n)
+Knows texts known = (n : LibraryName) → IsProper n → known n ≡ contains_text texts (library_text n)
 
 -- ---- what is added to a text
 

@@ -2,7 +2,9 @@
 ghost use Rattle.std.specs.Prelude.{◌≡◌, ℕ, List, IfOk};
 ghost use Rattle.std.specs.BTreeSet.{contains_text};
 ghost use Rattle.scheme_model.specs.Program.{has_name};
-ghost use Rattle.library_table.specs.PartsRead.{Knows, knows};
+ghost use Rattle.scheme_model.specs.Requirements.{Known, LibraryName};
+ghost use Rattle.scheme_tokens.specs.LibraryNames.{library_text, IsProper};
+ghost use Rattle.library_table.specs.PartsRead.{Knows};
 
 use ls_base::{Items, Mem, Text};
 use std::alloc::Global;
@@ -17,7 +19,8 @@ pub struct KnownLibraries {
 impl KnownLibraries {
     /// The libraries whose names have these texts: their parts in parentheses, with one space between each two.
     pub fn of(alloc: Global, listed: &Items<Text>) -> Mem<KnownLibraries>
-        ensures { IfOk result (λ known. Knows known.names (knows listed.now)) }
+        ensures names { IfOk result (λ known. (s : List ℕ) → contains_text known.names s ≡ has_name listed.now s) }
+        ensures knows { (has : Known) → ((n : LibraryName) → IsProper n → has n ≡ has_name listed.now (library_text n)) → IfOk result (λ known. Knows known.names has) }
     {
         let names = names(alloc, listed.as_slice())?;
         Ok(KnownLibraries { names })

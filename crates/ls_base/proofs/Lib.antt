@@ -1,1 +1,1 @@
-pub mod rows
+pub mod rows  -- The definitions on worked rows

@@ -1,4 +1,4 @@
-//! Want of memory, the one answer that no clause ties to a cause.
+//! Want of memory. Any call may answer it; no contract says when.
 ghost use Rattle.std.specs.Prelude.{◌≡◌};
 
 use std::alloc::{AllocError, AllocFailed};

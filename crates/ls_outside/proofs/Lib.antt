@@ -1,3 +1,3 @@
-pub mod Fronts
-pub mod Marks
-pub mod Noted
+pub mod Fronts  -- What a read of a part of the first piece leaves
+pub mod Marks  -- The one machine value of a struct that has a marker alone
+pub mod Noted  -- The bytes of pieces, one piece more

@@ -1,7 +1,7 @@
 -- What the objects in memory that never fail tell.
 use Rattle.std.specs.Prelude.{ℕ, List, Some}
 use Rattle.std.specs.declared.option.Option.{Option}
-use Rattle.ls_outside.specs.Held.{content_or_empty}
+use Rattle.ls_outside.specs.FilesInMemory.{content_or_empty}
 use Rattle.ls_outside.specs.Left.{pieces_left}
 use Rattle.ls_outside.specs.Sources.{bytes_of}
 use Rattle.ls_outside.specs.declared.sure.SureSource.{SureSource}

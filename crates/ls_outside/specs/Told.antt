@@ -3,7 +3,7 @@ use Rattle.std.specs.Prelude.{◌≡◌, ◌⊎◌, ℕ, ◌-◌, min, List, len
 use Rattle.std.specs.declared.option.Option.{Option}
 use Rattle.ls_outside.specs.Left.{pieces_left}
 use Rattle.ls_outside.specs.Plans.{IsNextToFail}
-use Rattle.ls_outside.specs.Held.{content_of}
+use Rattle.ls_outside.specs.FilesInMemory.{content_of}
 use Rattle.ls_outside.specs.declared.plan.Plan.{Plan}
 use Rattle.ls_outside.specs.declared.sink.Put.{Put}
 use Rattle.ls_outside.specs.declared.sink.Put.TheVariants as put

@@ -1,5 +1,5 @@
 //! Files in memory.
-ghost use Rattle.ls_outside.specs.Held.{content_of, IsCopy};
+ghost use Rattle.ls_outside.specs.FilesInMemory.{content_of, IsCopy};
 
 use crate::Fetch;
 use std::alloc::Global;

@@ -161,7 +161,7 @@ pub struct MemFiles {
 
 impl MemFiles {
     ghost use Rattle.std.specs.Prelude.{[]};
-    ghost use Rattle.ls_outside.specs.Held.{content_of};
+    ghost use Rattle.ls_outside.specs.FilesInMemory.{content_of};
     ghost use Rattle.ls_outside.specs.Told.{files_asked, files_faults, files_held, files_plan};
 
     pub fn new(contents: Contents, plan: Plan) -> MemFiles

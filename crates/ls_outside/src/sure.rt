@@ -89,7 +89,7 @@ pub struct SureFiles {
 
 impl SureFiles {
     ghost use Rattle.std.specs.Prelude.{[]};
-    ghost use Rattle.ls_outside.specs.Held.{content_or_empty};
+    ghost use Rattle.ls_outside.specs.FilesInMemory.{content_or_empty};
     ghost use Rattle.ls_outside.specs.SureTold.{sure_asked, sure_held};
 
     pub fn new(contents: Contents) -> SureFiles

@@ -6,8 +6,8 @@ use Rattle.std.proofs.lemmas.Bool.Decides.{nat_tests}
 use Rattle.ls_base.specs.Frames.{Frame, IsFrame, IsHeader, stream, bodies_of, End, rest, fault, IsFrames}
 use Rattle.lsp_framing.specs.Machine.{kind_of, next}
 use Rattle.lsp_framing.specs.Standing.{InHeader, OpenIn, StandsIn}
-use Rattle.lsp_framing.specs.declared.header.Place.{Place}
-use Rattle.lsp_framing.specs.declared.header.Place.TheVariants.{Line}
+use Rattle.lsp_framing.specs.declared.header.HeaderState.{HeaderState}
+use Rattle.lsp_framing.specs.declared.header.HeaderState.TheVariants.{Line}
 use Rattle.lsp_framing.specs.declared.header.State.{State}
 use Rattle.lsp_framing.specs.declared.header.State.TheVariants.{Header, Body}
 use Rattle.lsp_framing.specs.declared.header.Wrong.{Wrong}
@@ -73,7 +73,7 @@ one_byte past fs header body new c e k = ap (λ (q : List ℕ). q ++ c ∷ []) e
 regroup : (past : List ℕ) (c : ℕ) (cs : List ℕ) → HasReading ((past ++ c ∷ []) ++ cs) → HasReading (past ++ (c ∷ cs))
 regroup past c cs r = subst HasReading (append_assoc past (c ∷ []) cs) r
 
-before_body : (r : Result State Wrong) (past : List ℕ) (p : Place) (c : ℕ) (cs : List ℕ) (a : At past (Header p)) → next p (length a.header) c ≡ r → ((t : State) → At (past ++ c ∷ []) t → HasReading ((past ++ c ∷ []) ++ cs)) → HasReading (past ++ (c ∷ cs))
+before_body : (r : Result State Wrong) (past : List ℕ) (p : HeaderState) (c : ℕ) (cs : List ℕ) (a : At past (Header p)) → next p (length a.header) c ≡ r → ((t : State) → At (past ++ c ∷ []) t → HasReading ((past ++ c ∷ []) ++ cs)) → HasReading (past ++ (c ∷ cs))
 before_body (Err w) past p c cs a e go =
     let h = a.stands in
     let begins = a.begins ∙ ap (λ (q : List ℕ). stream a.frames (a.header ++ q)) h.none ∙ ap (stream a.frames) (append-nil a.header) in

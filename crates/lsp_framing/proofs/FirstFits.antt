@@ -6,8 +6,8 @@ use Rattle.std.proofs.lemmas.Bool.Decides.{nat_tests}
 use Rattle.ls_base.specs.Frames.{is_name_byte, is_blank, with_digit, number, max_header, max_body, InLength, PassesLimit, Fits, no_length, FirstFit, fault_order}
 use Rattle.lsp_framing.specs.Machine.{kind_of, letter, is_length, at_empty_line, at_length, at_line, in_name, in_value, before_digits, in_digits, after_digits, at_line_feed, at_digit, onto, step, Peeled, part, onward, peel}
 use Rattle.lsp_framing.specs.Standing.{Reads}
-use Rattle.lsp_framing.specs.declared.header.Place.{Place}
-use Rattle.lsp_framing.specs.declared.header.Place.TheVariants.{Line, Name, Value, BeforeDigits, Digits, AfterDigits, LineFeed, LastLineFeed}
+use Rattle.lsp_framing.specs.declared.header.HeaderState.{HeaderState}
+use Rattle.lsp_framing.specs.declared.header.HeaderState.TheVariants.{Line, Name, Value, BeforeDigits, Digits, AfterDigits, LineFeed, LastLineFeed}
 use Rattle.lsp_framing.specs.declared.header.State.TheVariants.{Body}
 use Rattle.lsp_framing.specs.declared.header.Wrong.{Wrong}
 use Rattle.lsp_framing.specs.declared.header.Wrong.TheVariants.{LongHeader, NoLength, BadLength, LongBody, BadHeader}
@@ -15,7 +15,7 @@ use Rattle.lsp_framing.proofs.Reading.{both, at_fields, at_length_name, in_left,
 use Rattle.lsp_framing.proofs.ReadSoFar.{number_more, all_more}
 
 -- in the value of a length
-abbrev InValue : Place → Type 0
+abbrev InValue : HeaderState → Type 0
 InValue BeforeDigits = Unit {0}
 InValue (Digits n) = Unit {0}
 InValue (AfterDigits n) = Unit {0}
@@ -26,7 +26,7 @@ InValue (LineFeed told) = ⊥
 InValue (LastLineFeed n) = ⊥
 
 -- the byte is a digit with which the number passes the limit
-abbrev Over : Place → ℕ → Type 0
+abbrev Over : HeaderState → ℕ → Type 0
 Over (Digits n) c = (is_ascii_digit c ≡ true) × (max_body < with_digit n c)
 Over BeforeDigits c = ⊥
 Over (AfterDigits n) c = ⊥
@@ -37,14 +37,14 @@ Over (LineFeed told) c = ⊥
 Over (LastLineFeed n) c = ⊥
 
 -- what a fault tells of the place and the byte
-abbrev Cause : Wrong → Place → ℕ → Type 0
+abbrev Cause : Wrong → HeaderState → ℕ → Type 0
 Cause LongHeader s c = ⊥
 Cause NoLength s c = (s ≡ Line None) × (c ≡ 13)
 Cause BadLength s c = InValue s
 Cause LongBody s c = Over s c
 Cause BadHeader s c = InValue s → ⊥
 
-caused : (w v : Wrong) (s : Place) (c : ℕ) → (let r : Result Place Wrong = Err w in r) ≡ Err v → Cause w s c → Cause v s c
+caused : (w v : Wrong) (s : HeaderState) (c : ℕ) → (let r : Result HeaderState Wrong = Err w in r) ≡ Err v → Cause w s c → Cause v s c
 caused w v s c e h = let same : w ≡ v = cc in subst (λ (x : Wrong). Cause x s c) same h
 
 over : (m n : ℕ) → n < m → nat_le m n ≡ false
@@ -109,11 +109,11 @@ last_why : (a : Bool) (n : ℕ) (w : Wrong) (c : ℕ) → (if a then Ok (Body n)
 last_why true n w c e = cc
 last_why false n w c e = let same : BadHeader ≡ w = cc in subst (λ (x : Wrong). Cause x (LastLineFeed n) c) same (λ x. x)
 
-refused : (r : Result Place Wrong) (w : Wrong) → onto r ≡ Err w → r ≡ Err w
+refused : (r : Result HeaderState Wrong) (w : Wrong) → onto r ≡ Err w → r ≡ Err w
 refused (Err v) w e = let same : v ≡ w = cc in ap Err same
 refused (Ok u) w e = cc
 
-why : (s : Place) (c : ℕ) (w : Wrong) → step s c ≡ Err w → Cause w s c
+why : (s : HeaderState) (c : ℕ) (w : Wrong) → step s c ≡ Err w → Cause w s c
 why (Line told) c w e = line_why (c == 13) (is_name_byte c) told w c refl (refused (at_line told c) w e)
 why (Name told k) c w e = name_why (c == 58) (is_name_byte c) (is_length k) told k w c (refused (in_name told k c) w e)
 why (Value told) c w e = value_why (c == 13) (c == 10) told w c (refused (in_value told c) w e)
@@ -150,7 +150,7 @@ digits_inside n p r =
       text = r.7;
     }
 
-inside : (s : Place) (p : List ℕ) → InValue s → Reads s p → (v : List ℕ) × InLength p v
+inside : (s : HeaderState) (p : List ℕ) → InValue s → Reads s p → (v : List ℕ) × InLength p v
 inside BeforeDigits p i r = (r.2, record { fields = r.0; name = r.1; untold = r.3; named = r.4; unended = no_return is_blank r.2 blank_no r.5; text = r.6 })
 inside (Digits n) p i r = (r.2 ++ r.3, digits_inside n p r)
 inside (AfterDigits n) p i r =
@@ -171,7 +171,7 @@ inside (Value told) p i r = absurd i
 inside (LineFeed told) p i r = absurd i
 inside (LastLineFeed n) p i r = absurd i
 
-passes : (s : Place) (p : List ℕ) (c : ℕ) → Over s c → Reads s p → PassesLimit p c
+passes : (s : HeaderState) (p : List ℕ) (c : ℕ) → Over s c → Reads s p → PassesLimit p c
 passes (Digits n) p c o r =
     let l = r.5 in
     record {
@@ -195,29 +195,29 @@ not_13 : (c : ℕ) → not (c == 13) ≡ true → (c == 13) ≡ false
 not_13 c h = grind (arith, nat_tests)
 
 -- a byte other than a return leads on in the value of a length
-before_on : (a b g : Bool) (x : Place → Peeled) (cs : List ℕ) (s : Place) (d : ℕ) →
-    ((u : Place) → InValue u → x u ≡ part s → InValue s) →
+before_on : (a b g : Bool) (x : HeaderState → Peeled) (cs : List ℕ) (s : HeaderState) (d : ℕ) →
+    ((u : HeaderState) → InValue u → x u ≡ part s → InValue s) →
     onward (onto (if a then if g then Ok (Digits d) else Err LongBody else if b then Ok BeforeDigits else Err BadLength)) cs x ≡ part s → InValue s
 before_on true b true x cs s d more e = more (Digits d) tt e
 before_on true b false x cs s d more e = cc
 before_on false true g x cs s d more e = more BeforeDigits tt e
 before_on false false g x cs s d more e = cc
 
-digits_on : (a b g : Bool) (n d : ℕ) (x : Place → Peeled) (cs : List ℕ) (s : Place) →
-    ((u : Place) → InValue u → x u ≡ part s → InValue s) →
+digits_on : (a b g : Bool) (n d : ℕ) (x : HeaderState → Peeled) (cs : List ℕ) (s : HeaderState) →
+    ((u : HeaderState) → InValue u → x u ≡ part s → InValue s) →
     onward (onto (if a then if g then Ok (Digits d) else Err LongBody else if b then Ok (AfterDigits n) else Err BadLength)) cs x ≡ part s → InValue s
 digits_on true b true n d x cs s more e = more (Digits d) tt e
 digits_on true b false n d x cs s more e = cc
 digits_on false true g n d x cs s more e = more (AfterDigits n) tt e
 digits_on false false g n d x cs s more e = cc
 
-after_on : (b : Bool) (n : ℕ) (x : Place → Peeled) (cs : List ℕ) (s : Place) →
-    ((u : Place) → InValue u → x u ≡ part s → InValue s) →
+after_on : (b : Bool) (n : ℕ) (x : HeaderState → Peeled) (cs : List ℕ) (s : HeaderState) →
+    ((u : HeaderState) → InValue u → x u ≡ part s → InValue s) →
     onward (onto (if b then Ok (AfterDigits n) else Err BadLength)) cs x ≡ part s → InValue s
 after_on true n x cs s more e = more (AfterDigits n) tt e
 after_on false n x cs s more e = cc
 
-stays_inside : (v : List ℕ) (u s : Place) → InValue u → list_all (λ c. not (c == 13)) v ≡ true → peel v u ≡ part s → InValue s
+stays_inside : (v : List ℕ) (u s : HeaderState) → InValue u → list_all (λ c. not (c == 13)) v ≡ true → peel v u ≡ part s → InValue s
 stays_inside [] u s i h e = let same : u ≡ s = cc in subst InValue same i
 stays_inside (c ∷ v) BeforeDigits s i h e =
     let p = both (not (c == 13)) (list_all (λ c. not (c == 13)) v) h in
@@ -237,17 +237,17 @@ stays_inside (c ∷ v) (LineFeed told) s i h e = absurd i
 stays_inside (c ∷ v) (LastLineFeed n) s i h e = absurd i
 
 -- the machine is in the value of a length where the bytes are
-to_value : (p v : List ℕ) (s : Place) → InLength p v → peel p (Line None) ≡ part s → InValue s
+to_value : (p v : List ℕ) (s : HeaderState) → InLength p v → peel p (Line None) ≡ part s → InValue s
 to_value p v s i e =
     stays_inside v BeforeDigits s tt i.unended
     (sym (ap (λ (q : List ℕ). peel q (Line None)) i.text ∙ at_fields i.fields (i.name ++ (58 ∷ v)) None i.untold ∙ at_length_name i.name v i.named) ∙ e)
 
 -- the machine is at the start of a line where the bytes are
-to_line : (p : List ℕ) (c : ℕ) (s : Place) → Fits no_length p c → peel p (Line None) ≡ part s → step s c ≡ Err NoLength
+to_line : (p : List ℕ) (c : ℕ) (s : HeaderState) → Fits no_length p c → peel p (Line None) ≡ part s → step s c ≡ Err NoLength
 to_line p c s f e =
     let same : (let q : Peeled = part (Line None) in q) ≡ part s = sym (ap (λ (q : List ℕ). peel q (Line None)) f.3 ∙ at_fields f.1 [] None f.2) ∙ e in
     let is : Line None ≡ s = cc in
-    subst (λ (q : Place). step q c ≡ Err NoLength) is (ap (step (Line None)) f.0)
+    subst (λ (q : HeaderState). step q c ≡ Err NoLength) is (ap (step (Line None)) f.0)
 
 last_digit : (ds : List ℕ) (c : ℕ) → list_all is_ascii_digit (ds ++ c ∷ []) ≡ true → (list_all is_ascii_digit ds ≡ true) × (is_ascii_digit c ≡ true)
 last_digit [] c h = (refl, (both (is_ascii_digit c) true h).0)
@@ -256,7 +256,7 @@ last_digit (d ∷ ds) c h =
     let q = last_digit ds c p.1 in
     (rw p.0 q.0, q.1)
 
-long_by : (p : List ℕ) (c : ℕ) (s : Place) (left digits : List ℕ) → InLength p (left ++ digits) → list_all is_blank left ≡ true → list_all is_ascii_digit digits ≡ true → is_ascii_digit c ≡ true
+long_by : (p : List ℕ) (c : ℕ) (s : HeaderState) (left digits : List ℕ) → InLength p (left ++ digits) → list_all is_blank left ≡ true → list_all is_ascii_digit digits ≡ true → is_ascii_digit c ≡ true
     → number digits ≤ max_body → max_body < number (digits ++ c ∷ []) → peel p (Line None) ≡ part s → step s c ≡ Err LongBody
 long_by p c s left [] i l ds d m o e = let no : true ≡ false = sym (few c d) ∙ over (with_digit 0 c) max_body o in cc
 long_by p c s left (x ∷ xs) i l ds d m o e =
@@ -266,17 +266,17 @@ long_by p c s left (x ∷ xs) i l ds d m o e =
     ∙ in_left left (x ∷ xs) l ∙ ap (λ (q : List ℕ). peel q BeforeDigits) (sym (append-nil (x ∷ xs))) ∙ at_digits (x ∷ xs) [] (omega arith) ds m) ∙ e in
     let is : Digits n ≡ s = cc in
     let big : max_body < with_digit n c = subst (λ (q : ℕ). max_body < q) (number_more (x ∷ xs) c) o in
-    subst (λ (q : Place). step q c ≡ Err LongBody) is (rw (d, over (with_digit n c) max_body big) refl)
+    subst (λ (q : HeaderState). step q c ≡ Err LongBody) is (rw (d, over (with_digit n c) max_body big) refl)
 
-to_long : (p : List ℕ) (c : ℕ) (s : Place) → PassesLimit p c → peel p (Line None) ≡ part s → step s c ≡ Err LongBody
+to_long : (p : List ℕ) (c : ℕ) (s : HeaderState) → PassesLimit p c → peel p (Line None) ≡ part s → step s c ≡ Err LongBody
 to_long p c s f e = let l = last_digit f.digits c f.decimal in long_by p c s f.left f.digits f.inside f.blank l.0 l.1 f.within f.passes e
 
 -- the fault is the first that fits
-pub first : (s : Place) (p : List ℕ) (c : ℕ) (w : Wrong) → Reads s p → peel p (Line None) ≡ part s → length p < max_header → step s c ≡ Err w → FirstFit fault_order p c (kind_of w)
+pub first : (s : HeaderState) (p : List ℕ) (c : ℕ) (w : Wrong) → Reads s p → peel p (Line None) ≡ part s → length p < max_header → step s c ≡ Err w → FirstFit fault_order p c (kind_of w)
 first s p c LongHeader r e l h = absurd (why s c LongHeader h)
 first s p c NoLength r e l h =
     let y = why s c NoLength h in
-    let z = subst (λ (q : Place). Reads q p) y.0 r in
+    let z = subst (λ (q : HeaderState). Reads q p) y.0 r in
     inr (λ x. omega (arith, x), inl ((y.1, z.0, z.1, z.2), refl))
 first s p c BadLength r e l h =
     let y = why s c BadLength h in

@@ -4,28 +4,28 @@ use Rattle.std.specs.List.{list_all}
 use Rattle.ls_base.specs.Frames.{IsHeader}
 use Rattle.lsp_framing.specs.Machine.{letter, step, whole, part, onward, peel}
 use Rattle.lsp_framing.specs.Standing.{Reads}
-use Rattle.lsp_framing.specs.declared.header.Place.{Place}
-use Rattle.lsp_framing.specs.declared.header.Place.TheVariants.{Line, Name, Value, BeforeDigits, Digits, AfterDigits, LineFeed, LastLineFeed}
+use Rattle.lsp_framing.specs.declared.header.HeaderState.{HeaderState}
+use Rattle.lsp_framing.specs.declared.header.HeaderState.TheVariants.{Line, Name, Value, BeforeDigits, Digits, AfterDigits, LineFeed, LastLineFeed}
 use Rattle.lsp_framing.specs.declared.header.State.{State}
 use Rattle.lsp_framing.specs.declared.header.State.TheVariants.{Header, Body}
 use Rattle.lsp_framing.specs.declared.header.Wrong.{Wrong}
 use Rattle.lsp_framing.proofs.Reading.{both}
 use Rattle.lsp_framing.proofs.ReadSoFar.{reads_step}
 
-pub by_step : (s : Place) (c : ℕ) (cs : List ℕ) (r : Result State Wrong) → step s c ≡ r → peel (c ∷ cs) s ≡ onward r cs (peel cs)
+pub by_step : (s : HeaderState) (c : ℕ) (cs : List ℕ) (r : Result State Wrong) → step s c ≡ r → peel (c ∷ cs) s ≡ onward r cs (peel cs)
 by_step s c cs r e = ap (λ (q : Result State Wrong). onward q cs (peel cs)) e
 
-part_by : (c : ℕ) (p q : List ℕ) (a s : Place) (r : Result State Wrong) → ((t : Place) → peel p t ≡ part s → peel (p ++ q) t ≡ peel q s) → step a c ≡ r → peel (c ∷ p) a ≡ part s → peel (c ∷ (p ++ q)) a ≡ peel q s
+part_by : (c : ℕ) (p q : List ℕ) (a s : HeaderState) (r : Result State Wrong) → ((t : HeaderState) → peel p t ≡ part s → peel (p ++ q) t ≡ peel q s) → step a c ≡ r → peel (c ∷ p) a ≡ part s → peel (c ∷ (p ++ q)) a ≡ peel q s
 part_by c p q a s (Err w) more e h = let x = by_step a c p (Err w) e in cc
 part_by c p q a s (Ok (Body n)) more e h = let x = by_step a c p (Ok (Body n)) e in cc
 part_by c p q a s (Ok (Header t)) more e h = by_step a c (p ++ q) (Ok (Header t)) e ∙ more t (sym (by_step a c p (Ok (Header t)) e) ∙ h)
 
 -- a part of what stands before a body goes on with what follows
-pub peel_part : (p q : List ℕ) (a s : Place) → peel p a ≡ part s → peel (p ++ q) a ≡ peel q s
+pub peel_part : (p q : List ℕ) (a s : HeaderState) → peel p a ≡ part s → peel (p ++ q) a ≡ peel q s
 peel_part [] q a s h = let same : a ≡ s = cc in ap (peel q) same
 peel_part (c ∷ p) q a s h = part_by c p q a s (step a c) (λ t. peel_part p q t s) refl h
 
-ends_by : (c : ℕ) (q p : List ℕ) (s : Place) (n : ℕ) (r : Result State Wrong) → ((t : Place) → Reads t (p ++ c ∷ []) → peel q t ≡ whole n [] → IsHeader ((p ++ c ∷ []) ++ q) n) → Reads s p → step s c ≡ r → peel (c ∷ q) s ≡ whole n []
+ends_by : (c : ℕ) (q p : List ℕ) (s : HeaderState) (n : ℕ) (r : Result State Wrong) → ((t : HeaderState) → Reads t (p ++ c ∷ []) → peel q t ≡ whole n [] → IsHeader ((p ++ c ∷ []) ++ q) n) → Reads s p → step s c ≡ r → peel (c ∷ q) s ≡ whole n []
     → IsHeader (p ++ (c ∷ q)) n
 ends_by c q p s n (Err w) more d e h = let x = by_step s c q (Err w) e in cc
 ends_by c q p s n (Ok (Header t)) more d e h =
@@ -37,7 +37,7 @@ ends_by c q p s n (Ok (Body m)) more d e h =
     subst (λ (x : List ℕ). IsHeader (p ++ (c ∷ x)) n) (sym none) (subst (λ (x : ℕ). IsHeader (p ++ c ∷ []) x) size (reads_step s (Body m) c p d e))
 
 -- what the machine reads to its end is a header part
-pub ends : (q p : List ℕ) (s : Place) (n : ℕ) → Reads s p → peel q s ≡ whole n [] → IsHeader (p ++ q) n
+pub ends : (q p : List ℕ) (s : HeaderState) (n : ℕ) → Reads s p → peel q s ≡ whole n [] → IsHeader (p ++ q) n
 ends [] p s n r h = cc
 ends (c ∷ q) p s n r h = ends_by c q p s n (step s c) (λ t. ends q (p ++ c ∷ []) t n) r refl h
 
@@ -46,7 +46,7 @@ abbrev pub finish_line : Option ℕ → List ℕ
 finish_line None = codes "content-length:0" ++ (13 ∷ 10 ∷ 13 ∷ 10 ∷ [])
 finish_line (Some n) = 13 ∷ 10 ∷ []
 
-abbrev pub finish : Place → List ℕ
+abbrev pub finish : HeaderState → List ℕ
 finish (Line told) = finish_line told
 finish (Name told k) = 33 ∷ 58 ∷ 13 ∷ 10 ∷ finish_line told
 finish (Value told) = 13 ∷ 10 ∷ finish_line told
@@ -79,7 +79,7 @@ line_finishes None = (0, refl)
 line_finishes (Some n) = (n, refl)
 
 -- so each place has bytes that complete it
-pub finishes : (s : Place) → (n : ℕ) × (peel (finish s) s ≡ whole n [])
+pub finishes : (s : HeaderState) → (n : ℕ) × (peel (finish s) s ≡ whole n [])
 finishes (Line told) = line_finishes told
 finishes (Name told k) =
     let f = line_finishes told in

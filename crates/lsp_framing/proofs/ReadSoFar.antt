@@ -7,8 +7,8 @@ use Rattle.std.proofs.lemmas.Bool.Decides.{nat_tests}
 use Rattle.ls_base.specs.Frames.{is_name_byte, is_value_byte, is_blank, with_digit, number, max_body, Field, other, sized, field_text, fields_text, IsName, IsLengthName, IsOther, IsSized, Tell, IsHeader}
 use Rattle.lsp_framing.specs.Machine.{letter, is_length, at_empty_line, at_length, at_line, in_name, in_value, before_digits, in_digits, after_digits, at_line_feed, onto, step}
 use Rattle.lsp_framing.specs.Standing.{spelled_by, Reads}
-use Rattle.lsp_framing.specs.declared.header.Place.{Place}
-use Rattle.lsp_framing.specs.declared.header.Place.TheVariants.{Line, Name, Value, BeforeDigits, Digits, AfterDigits, LineFeed, LastLineFeed}
+use Rattle.lsp_framing.specs.declared.header.HeaderState.{HeaderState}
+use Rattle.lsp_framing.specs.declared.header.HeaderState.TheVariants.{Line, Name, Value, BeforeDigits, Digits, AfterDigits, LineFeed, LastLineFeed}
 use Rattle.lsp_framing.specs.declared.header.State.{State}
 use Rattle.lsp_framing.specs.declared.header.State.TheVariants.{Header, Body}
 use Rattle.lsp_framing.specs.declared.header.Wrong.{Wrong}
@@ -65,10 +65,10 @@ within : (m n : ℕ) → nat_le m n ≡ true → m ≤ n
 within m n h = grind (arith, nat_tests)
 
 -- the place that a step gives is the one that it is said to give
-held : (s t : Place) (p : List ℕ) → (let r : Result Place Wrong = Ok s in r) ≡ Ok t → Reads s p → Reads t p
-held s t p e r = let same : s ≡ t = cc in subst (λ (q : Place). Reads q p) same r
+held : (s t : HeaderState) (p : List ℕ) → (let r : Result HeaderState Wrong = Ok s in r) ≡ Ok t → Reads s p → Reads t p
+held s t p e r = let same : s ≡ t = cc in subst (λ (q : HeaderState). Reads q p) same r
 
-line_step : (a b : Bool) (told : Option ℕ) (t : Place) (c : ℕ) (p : List ℕ) → Reads (Line told) p → (c == 13) ≡ a → is_name_byte c ≡ b →
+line_step : (a b : Bool) (told : Option ℕ) (t : HeaderState) (c : ℕ) (p : List ℕ) → Reads (Line told) p → (c == 13) ≡ a → is_name_byte c ≡ b →
     (if a then at_empty_line told else if b then Ok (Name told (letter (Some 0) c)) else Err BadHeader) ≡ Ok t → Reads t (p ++ c ∷ [])
 line_step true b None t c p r h k e = cc
 line_step true b (Some n) t c p r h k e =
@@ -83,7 +83,7 @@ line_step false false told t c p r h k e = cc
 another : (name : List ℕ) (k : Option ℕ) → k ≡ spelled_by name (Some 0) → is_length k ≡ false → IsLengthName name → ⊥
 another name k e h n = let yes = name_of_length name n in let no = ap is_length (sym e) ∙ h in cc
 
-name_step : (a b g : Bool) (told k : Option ℕ) (t : Place) (c : ℕ) (p : List ℕ) → Reads (Name told k) p → (c == 58) ≡ a → is_name_byte c ≡ b → is_length k ≡ g →
+name_step : (a b g : Bool) (told k : Option ℕ) (t : HeaderState) (c : ℕ) (p : List ℕ) → Reads (Name told k) p → (c == 58) ≡ a → is_name_byte c ≡ b → is_length k ≡ g →
     (if a then if g then at_length told else Ok (Value told) else if b then Ok (Name told (letter k c)) else Err BadHeader) ≡ Ok t → Reads t (p ++ c ∷ [])
 name_step true b true (Some n) k t c p r h i j e = cc
 name_step true b true None k t c p r h i j e =
@@ -110,7 +110,7 @@ line_ends p fs name value c f is h e =
     ∙ ap (fields_text fs) (ap (λ (d : ℕ). (name ++ (58 ∷ (value ++ d ∷ []))) ++ 10 ∷ []) (is_13 c h) ∙ flat ∙ sym is)
     ∙ sym (fields_more fs f [])
 
-value_step : (a b : Bool) (told : Option ℕ) (t : Place) (c : ℕ) (p : List ℕ) → Reads (Value told) p → (c == 13) ≡ a → (c == 10) ≡ b →
+value_step : (a b : Bool) (told : Option ℕ) (t : HeaderState) (c : ℕ) (p : List ℕ) → Reads (Value told) p → (c == 13) ≡ a → (c == 10) ≡ b →
     (if a then Ok (LineFeed told) else if b then Err BadHeader else Ok (Value told)) ≡ Ok t → Reads t (p ++ c ∷ [])
 value_step true b told t c p r h i e =
     held (LineFeed told) t (p ++ c ∷ []) e
@@ -121,7 +121,7 @@ value_step false false told t c p r h i e =
     held (Value told) t (p ++ c ∷ []) e
     (r.0, r.1, r.2 ++ c ∷ [], r.3, (r.4.0, r.4.1, all_more is_value_byte r.2 c r.4.2 good), grown p r.0 r.1 r.2 c r.5)
 
-before_step : (a b g : Bool) (t : Place) (c : ℕ) (p : List ℕ) → Reads BeforeDigits p → is_ascii_digit c ≡ a → is_blank c ≡ b → nat_le (with_digit 0 c) max_body ≡ g →
+before_step : (a b g : Bool) (t : HeaderState) (c : ℕ) (p : List ℕ) → Reads BeforeDigits p → is_ascii_digit c ≡ a → is_blank c ≡ b → nat_le (with_digit 0 c) max_body ≡ g →
     (if a then if g then Ok (Digits (with_digit 0 c)) else Err LongBody else if b then Ok BeforeDigits else Err BadLength) ≡ Ok t → Reads t (p ++ c ∷ [])
 before_step true b true t c p r h i j e =
     held (Digits (with_digit 0 c)) t (p ++ c ∷ []) e (
@@ -149,7 +149,7 @@ length_ends p fs name left digits right n c tell is m h e =
       line_ends p fs name (left ++ (digits ++ right)) c (sized name left digits right) (ap (λ (q : List ℕ). name ++ (58 ∷ q)) (sym flat)) h e,
     )
 
-digits_step : (a b d g : Bool) (n : ℕ) (t : Place) (c : ℕ) (p : List ℕ) → Reads (Digits n) p → is_ascii_digit c ≡ a → is_blank c ≡ b → (c == 13) ≡ d → nat_le (with_digit n c) max_body ≡ g →
+digits_step : (a b d g : Bool) (n : ℕ) (t : HeaderState) (c : ℕ) (p : List ℕ) → Reads (Digits n) p → is_ascii_digit c ≡ a → is_blank c ≡ b → (c == 13) ≡ d → nat_le (with_digit n c) max_body ≡ g →
     (if a then if g then Ok (Digits (with_digit n c)) else Err LongBody else if b then Ok (AfterDigits n) else if d then Ok (LineFeed (Some n)) else Err BadLength) ≡ Ok t → Reads t (p ++ c ∷ [])
 digits_step true b d true n t c p r h i j k e =
     let l = r.5 in
@@ -183,7 +183,7 @@ digits_step false false true g n t c p r h i j k e =
     (length_ends p r.0 r.1 r.2 r.3 [] n c r.4 r.5 r.6 j (r.7 ∙ ap (λ (q : List ℕ). fields_text r.0 (r.1 ++ (58 ∷ (r.2 ++ q)))) (sym (append-nil r.3))))
 digits_step false false false g n t c p r h i j k e = cc
 
-after_step : (b d : Bool) (n : ℕ) (t : Place) (c : ℕ) (p : List ℕ) → Reads (AfterDigits n) p → is_blank c ≡ b → (c == 13) ≡ d →
+after_step : (b d : Bool) (n : ℕ) (t : HeaderState) (c : ℕ) (p : List ℕ) → Reads (AfterDigits n) p → is_blank c ≡ b → (c == 13) ≡ d →
     (if b then Ok (AfterDigits n) else if d then Ok (LineFeed (Some n)) else Err BadLength) ≡ Ok t → Reads t (p ++ c ∷ [])
 after_step true d n t c p r h j e =
     let l = r.6 in
@@ -203,7 +203,7 @@ after_step false true n t c p r h j e =
     held (LineFeed (Some n)) t (p ++ c ∷ []) e (length_ends p r.0 r.1 r.2 r.3 r.4 n c r.5 r.6 r.7 j r.8)
 after_step false false n t c p r h j e = cc
 
-feed_step : (a : Bool) (told : Option ℕ) (t : Place) (c : ℕ) (p : List ℕ) → Reads (LineFeed told) p → (c == 10) ≡ a →
+feed_step : (a : Bool) (told : Option ℕ) (t : HeaderState) (c : ℕ) (p : List ℕ) → Reads (LineFeed told) p → (c == 10) ≡ a →
     (if a then Ok (Line told) else Err BadHeader) ≡ Ok t → Reads t (p ++ c ∷ [])
 feed_step true told t c p r h e = held (Line told) t (p ++ c ∷ []) e (r.0, r.1, ap (λ (d : ℕ). p ++ d ∷ []) (is_10 c h) ∙ r.2)
 feed_step false told t c p r h e = cc
@@ -216,12 +216,12 @@ last_step true n t c p r h e =
 last_step false n t c p r h e = cc
 
 -- a step that stays before the body
-stays : (r : Result Place Wrong) (t : State) (bytes : List ℕ) → ((u : Place) → r ≡ Ok u → Reads u bytes) → onto r ≡ Ok t → ReadsTo t bytes
+stays : (r : Result HeaderState Wrong) (t : State) (bytes : List ℕ) → ((u : HeaderState) → r ≡ Ok u → Reads u bytes) → onto r ≡ Ok t → ReadsTo t bytes
 stays (Err w) t bytes h e = cc
 stays (Ok u) t bytes h e = let same : Header u ≡ t = cc in subst (λ (q : State). ReadsTo q bytes) same (h u refl)
 
 -- what was read is kept by each step
-pub reads_step : (s : Place) (t : State) (c : ℕ) (p : List ℕ) → Reads s p → step s c ≡ Ok t → ReadsTo t (p ++ c ∷ [])
+pub reads_step : (s : HeaderState) (t : State) (c : ℕ) (p : List ℕ) → Reads s p → step s c ≡ Ok t → ReadsTo t (p ++ c ∷ [])
 reads_step (Line told) t c p r e = stays (at_line told c) t (p ++ c ∷ []) (λ u k. line_step (c == 13) (is_name_byte c) told u c p r refl refl k) e
 reads_step (Name told k) t c p r e = stays (in_name told k c) t (p ++ c ∷ []) (λ u i. name_step (c == 58) (is_name_byte c) (is_length k) told k u c p r refl refl refl i) e
 reads_step (Value told) t c p r e = stays (in_value told c) t (p ++ c ∷ []) (λ u k. value_step (c == 13) (c == 10) told u c p r refl refl k) e

@@ -8,8 +8,8 @@ use Rattle.std.proofs.lemmas.Bool.Decides.{nat_tests}
 use Rattle.ls_base.specs.Frames.{is_name_byte, is_value_byte, is_blank, with_digit, number, max_body, Field, other, sized, field_text, fields_text, IsName, IsLengthName, IsOther, IsSized, Tell, IsHeader}
 use Rattle.lsp_framing.specs.Machine.{letter, is_length, step, whole, onward, peel}
 use Rattle.lsp_framing.specs.Standing.{spelled_by}
-use Rattle.lsp_framing.specs.declared.header.Place.{Place}
-use Rattle.lsp_framing.specs.declared.header.Place.TheVariants.{Line, Name, Value, BeforeDigits, Digits, AfterDigits}
+use Rattle.lsp_framing.specs.declared.header.HeaderState.{HeaderState}
+use Rattle.lsp_framing.specs.declared.header.HeaderState.TheVariants.{Line, Name, Value, BeforeDigits, Digits, AfterDigits}
 use Rattle.lsp_framing.specs.declared.header.State.{State}
 use Rattle.lsp_framing.specs.declared.header.State.TheVariants.{Header}
 use Rattle.lsp_framing.specs.declared.header.Wrong.{Wrong}
@@ -20,7 +20,7 @@ both true false h = cc
 both false b h = cc
 
 -- a byte leads on to the next place
-moved : (s t : Place) (c : ℕ) (cs : List ℕ) → step s c ≡ Ok (Header t) → peel (c ∷ cs) s ≡ peel cs t
+moved : (s t : HeaderState) (c : ℕ) (cs : List ℕ) → step s c ≡ Ok (Header t) → peel (c ∷ cs) s ≡ peel cs t
 moved s t c cs e = ap (λ (r : Result State Wrong). onward r cs (peel cs)) e
 
 -- a byte of a name is no colon and no return

@@ -6,8 +6,8 @@ use Rattle.std.proofs.lemmas.Bool.Decides.{nat_tests}
 use Rattle.ls_base.specs.Frames.{Field, other, sized, Tell, number, Frame, IsFrame, max_header, max_body, stream, bodies_of, IsGood, FirstFit, fault_order, rest, fault, IsFrames}
 use Rattle.lsp_framing.specs.Machine.{kind_of, next, step}
 use Rattle.lsp_framing.specs.Standing.{InHeader, OpenIn, StandsIn}
-use Rattle.lsp_framing.specs.declared.header.Place.{Place}
-use Rattle.lsp_framing.specs.declared.header.Place.TheVariants.{Line}
+use Rattle.lsp_framing.specs.declared.header.HeaderState.{HeaderState}
+use Rattle.lsp_framing.specs.declared.header.HeaderState.TheVariants.{Line}
 use Rattle.lsp_framing.specs.declared.header.State.{State}
 use Rattle.lsp_framing.specs.declared.header.State.TheVariants.{Header, Body}
 use Rattle.lsp_framing.specs.declared.header.Wrong.{Wrong}
@@ -23,11 +23,11 @@ less m n h = grind (arith, nat_tests)
 not_less : (m n : ℕ) → nat_lt m n ≡ false → n ≤ m
 not_less m n h = grind (arith, nat_tests)
 
-taken_by : (b : Bool) (s : Place) (count c : ℕ) (t : State) → nat_lt count max_header ≡ b → (if b then step s c else Err LongHeader) ≡ Ok t → (count < max_header) × (step s c ≡ Ok t)
+taken_by : (b : Bool) (s : HeaderState) (count c : ℕ) (t : State) → nat_lt count max_header ≡ b → (if b then step s c else Err LongHeader) ≡ Ok t → (count < max_header) × (step s c ≡ Ok t)
 taken_by true s count c t h e = (less count max_header h, e)
 taken_by false s count c t h e = cc
 
-grown : (s : Place) (t : State) (header body : List ℕ) (c : ℕ) → InHeader s header body → length header < max_header → step s c ≡ Ok t → OpenIn t (header ++ c ∷ []) body
+grown : (s : HeaderState) (t : State) (header body : List ℕ) (c : ℕ) → InHeader s header body → length header < max_header → step s c ≡ Ok t → OpenIn t (header ++ c ∷ []) body
 grown s (Header u) header body c h l e = record {
   reads = reads_step s (Header u) c header h.reads e;
   peels = peel_part header (c ∷ []) (Line None) s h.peels ∙ by_step s c [] (Ok (Header u)) e;
@@ -39,7 +39,7 @@ grown s (Body n) header body c h l e =
     (reads_step s (Body n) c header h.reads e, omega (arith, length-append header (c ∷ [])), omega arith)
 
 -- a byte before the body leads on
-pub header_more : (s : Place) (t : State) (header body : List ℕ) (c : ℕ) → InHeader s header body → next s (length header) c ≡ Ok t → OpenIn t (header ++ c ∷ []) body
+pub header_more : (s : HeaderState) (t : State) (header body : List ℕ) (c : ℕ) → InHeader s header body → next s (length header) c ≡ Ok t → OpenIn t (header ++ c ∷ []) body
 header_more s t header body c h e = let x = taken_by (nat_lt (length header) max_header) s (length header) c t refl e in grown s t header body c h x.0 x.1
 
 -- nothing of a frame
@@ -53,7 +53,7 @@ stands_rest past fs (Header s) header body a e h =
     rest_law past fs (header ++ body) a e (subst NoFrame (sym none) (none_part s header h.peels)) (subst IsGood (sym none) (good_part s header h.reads h.short))
 stands_rest past fs (Body n) header body a e h = rest_law past fs (header ++ body) a e (none_body n header body h.0 h.2) (good_body n header body h.0 h.1 h.2)
 
-fault_by : (b : Bool) (past : List ℕ) (fs : List Frame) (s : Place) (header : List ℕ) (c : ℕ) (w : Wrong) (after : List ℕ) → AllByRecursion IsFrame fs → past ≡ stream fs header → InHeader s header [] →
+fault_by : (b : Bool) (past : List ℕ) (fs : List Frame) (s : HeaderState) (header : List ℕ) (c : ℕ) (w : Wrong) (after : List ℕ) → AllByRecursion IsFrame fs → past ≡ stream fs header → InHeader s header [] →
     nat_lt (length header) max_header ≡ b → (if b then step s c else Err LongHeader) ≡ Err w → IsFrames (past ++ (c ∷ after)) (bodies_of fs) (fault (kind_of w) (length past))
 fault_by true past fs s header c w after a e h l r =
     fault_law past fs header c (kind_of w) after a e (none_wrong s header c w after h.peels r) (good_part s header h.reads h.short) (bad_step s header c w h.peels r)
@@ -66,7 +66,7 @@ fault_by false past fs s header c w after a e h l r =
     (subst (λ (q : Wrong). FirstFit fault_order header c (kind_of q)) same (first_long header c full))
 
 -- where the next byte is wrong, whatever follows, the fault is that of the bytes
-pub refused_fault : (past : List ℕ) (fs : List Frame) (s : Place) (header : List ℕ) (c : ℕ) (w : Wrong) (after : List ℕ) → AllByRecursion IsFrame fs → past ≡ stream fs header → InHeader s header [] →
+pub refused_fault : (past : List ℕ) (fs : List Frame) (s : HeaderState) (header : List ℕ) (c : ℕ) (w : Wrong) (after : List ℕ) → AllByRecursion IsFrame fs → past ≡ stream fs header → InHeader s header [] →
     next s (length header) c ≡ Err w → IsFrames (past ++ (c ∷ after)) (bodies_of fs) (fault (kind_of w) (length past))
 refused_fault past fs s header c w after a e h r = fault_by (nat_lt (length header) max_header) past fs s header c w after a e h refl r
 

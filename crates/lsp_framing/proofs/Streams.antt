@@ -7,8 +7,8 @@ use Rattle.std.proofs.Math.Seq.{drop-append-add, drop-append_seam}
 use Rattle.ls_base.specs.Frames.{IsHeader, Frame, IsAnyFrame, IsFrame, max_header, stream, bodies_of, WithinLimit, IsGood, IsWhole, Fault, FirstFit, fault_order, rest, fault, IsFrames}
 use Rattle.lsp_framing.specs.Machine.{step, whole, part, wrong, peel}
 use Rattle.lsp_framing.specs.Standing.{Reads}
-use Rattle.lsp_framing.specs.declared.header.Place.{Place}
-use Rattle.lsp_framing.specs.declared.header.Place.TheVariants.{Line}
+use Rattle.lsp_framing.specs.declared.header.HeaderState.{HeaderState}
+use Rattle.lsp_framing.specs.declared.header.HeaderState.TheVariants.{Line}
 use Rattle.lsp_framing.specs.declared.header.Wrong.{Wrong}
 use Rattle.std.specs.Prelude.{None}
 use Rattle.lsp_framing.proofs.Reading.{at_header}
@@ -131,7 +131,7 @@ length_zeros zero = refl
 length_zeros (suc n) = ap suc (length_zeros n)
 
 -- a part of what stands before a body is good
-pub good_part : (s : Place) (header : List ℕ) → Reads s header → length header ≤ max_header → IsGood header
+pub good_part : (s : HeaderState) (header : List ℕ) → Reads s header → length header ≤ max_header → IsGood header
 good_part s header r l =
     let f = finishes s in
     let h = ends (finish s) header s f.0 r f.1 in
@@ -157,36 +157,36 @@ good_body n header body h l k =
     }
 
 -- a wrong byte is found whatever follows
-found : (s : Place) (header : List ℕ) (c : ℕ) (w : Wrong) (more : List ℕ) → peel header (Line None) ≡ part s → step s c ≡ Err w → peel (header ++ (c ∷ more)) (Line None) ≡ wrong w
+found : (s : HeaderState) (header : List ℕ) (c : ℕ) (w : Wrong) (more : List ℕ) → peel header (Line None) ≡ part s → step s c ≡ Err w → peel (header ++ (c ∷ more)) (Line None) ≡ wrong w
 found s header c w more e h = peel_part header (c ∷ more) (Line None) s e ∙ by_step s c more (Err w) h
 
-bad_by : (s : Place) (header : List ℕ) (c : ℕ) (w : Wrong) (os : List Frame) (more : List ℕ) → peel header (Line None) ≡ part s → step s c ≡ Err w → AllByRecursion IsAnyFrame os → (header ++ c ∷ []) ++ more ≡ stream os [] → ⊥
+bad_by : (s : HeaderState) (header : List ℕ) (c : ℕ) (w : Wrong) (os : List Frame) (more : List ℕ) → peel header (Line None) ≡ part s → step s c ≡ Err w → AllByRecursion IsAnyFrame os → (header ++ c ∷ []) ++ more ≡ stream os [] → ⊥
 bad_by s header c w [] more e h a k =
     let x = sym (found s header c w more e h) ∙ ap (λ (q : List ℕ). peel q (Line None)) (sym (append_assoc header (c ∷ []) more) ∙ k) in cc
 bad_by s header c w (f ∷ os) more e h a k =
     let x = sym (found s header c w more e h) ∙ ap (λ (q : List ℕ). peel q (Line None)) (sym (append_assoc header (c ∷ []) more) ∙ k)
     ∙ at_header f.header (f.body ++ stream os []) (length f.body) a.0 in cc
 
-pub bad_step : (s : Place) (header : List ℕ) (c : ℕ) (w : Wrong) → peel header (Line None) ≡ part s → step s c ≡ Err w → IsGood (header ++ c ∷ []) → ⊥
+pub bad_step : (s : HeaderState) (header : List ℕ) (c : ℕ) (w : Wrong) → peel header (Line None) ≡ part s → step s c ≡ Err w → IsGood (header ++ c ∷ []) → ⊥
 bad_step s header c w e h g = bad_by s header c w g.frames g.more e h g.each g.begins
 
 -- a part of what stands before a body holds no whole header part
-no_header : (s : Place) (header : List ℕ) (f : Frame) (x y : List ℕ) → peel header (Line None) ≡ part s → IsAnyFrame f → length f.header ≤ length header → header ++ y ≡ f.header ++ x → ⊥
+no_header : (s : HeaderState) (header : List ℕ) (f : Frame) (x y : List ℕ) → peel header (Line None) ≡ part s → IsAnyFrame f → length f.header ≤ length header → header ++ y ≡ f.header ++ x → ⊥
 no_header s header f x y e a l k =
     let z = starts f.header header x y l (sym k) in
     let w = sym (at_header f.header z.0 (length f.body) a) ∙ ap (λ (q : List ℕ). peel q (Line None)) (sym z.1) ∙ e in cc
 
-bad_long_by : (s : Place) (header : List ℕ) (c : ℕ) (os : List Frame) (more : List ℕ) → peel header (Line None) ≡ part s → length header ≡ max_header → AllByRecursion IsAnyFrame os
+bad_long_by : (s : HeaderState) (header : List ℕ) (c : ℕ) (os : List Frame) (more : List ℕ) → peel header (Line None) ≡ part s → length header ≡ max_header → AllByRecursion IsAnyFrame os
     → (header ++ c ∷ []) ++ more ≡ stream os [] → WithinLimit os (header ++ c ∷ []) → ⊥
 bad_long_by s header c [] more e h a k l = let x = ap length k in omega (arith, length-append (header ++ c ∷ []) more, length-append header (c ∷ []), x)
 bad_long_by s header c (f ∷ os) more e h a k l =
     let short = l.0 in
     no_header s header f (f.body ++ stream os []) (c ∷ more) e a.0 (omega (arith, length-append header (c ∷ []))) (sym (append_assoc header (c ∷ []) more) ∙ k)
 
-pub bad_long : (s : Place) (header : List ℕ) (c : ℕ) → peel header (Line None) ≡ part s → length header ≡ max_header → IsGood (header ++ c ∷ []) → ⊥
+pub bad_long : (s : HeaderState) (header : List ℕ) (c : ℕ) → peel header (Line None) ≡ part s → length header ≡ max_header → IsGood (header ++ c ∷ []) → ⊥
 bad_long s header c e h g = bad_long_by s header c g.frames g.more e h g.each g.begins g.limit
 
-pub none_part : (s : Place) (header : List ℕ) → peel header (Line None) ≡ part s → NoFrame header
+pub none_part : (s : HeaderState) (header : List ℕ) → peel header (Line None) ≡ part s → NoFrame header
 none_part s header e f more a k =
     let w = sym (at_header f.header (f.body ++ more) (length f.body) a.0) ∙ ap (λ (q : List ℕ). peel q (Line None)) (sym k) ∙ e in cc
 
@@ -199,11 +199,11 @@ none_body n header body h l f more a k =
     let sizes = ap length text in
     omega (arith, length-append f.body more)
 
-pub none_wrong : (s : Place) (header : List ℕ) (c : ℕ) (w : Wrong) (after : List ℕ) → peel header (Line None) ≡ part s → step s c ≡ Err w → NoFrame (header ++ (c ∷ after))
+pub none_wrong : (s : HeaderState) (header : List ℕ) (c : ℕ) (w : Wrong) (after : List ℕ) → peel header (Line None) ≡ part s → step s c ≡ Err w → NoFrame (header ++ (c ∷ after))
 none_wrong s header c w after e h f more a k =
     let x = sym (found s header c w after e h) ∙ ap (λ (q : List ℕ). peel q (Line None)) k ∙ at_header f.header (f.body ++ more) (length f.body) a.0 in cc
 
-pub none_long : (s : Place) (header : List ℕ) (c : ℕ) (after : List ℕ) → peel header (Line None) ≡ part s → length header ≡ max_header → NoFrame (header ++ (c ∷ after))
+pub none_long : (s : HeaderState) (header : List ℕ) (c : ℕ) (after : List ℕ) → peel header (Line None) ≡ part s → length header ≡ max_header → NoFrame (header ++ (c ∷ after))
 none_long s header c after e h f more a k = let short = a.1 in no_header s header f (f.body ++ more) (c ∷ after) e a.0 (omega arith) k
 
 pub stream_append : (fs : List Frame) (x y : List ℕ) → stream fs x ++ y ≡ stream fs (x ++ y)

@@ -3,8 +3,8 @@ use Rattle.std.specs.Prelude.{◌≡◌, ℕ, ◌<◌, ◌≤◌, true, List, []
 use Rattle.std.specs.List.{list_all}
 use Rattle.ls_base.specs.Frames.{Field, IsName, IsLengthName, IsOther, IsSized, IsHeader, Tell, fields_text, is_blank, number, max_header}
 use Rattle.lsp_framing.specs.Machine.{letter, part, peel}
-use Rattle.lsp_framing.specs.declared.header.Place.{Place}
-use Rattle.lsp_framing.specs.declared.header.Place.TheVariants.{Line, Name, Value, BeforeDigits, Digits, AfterDigits, LineFeed, LastLineFeed}
+use Rattle.lsp_framing.specs.declared.header.HeaderState.{HeaderState}
+use Rattle.lsp_framing.specs.declared.header.HeaderState.TheVariants.{Line, Name, Value, BeforeDigits, Digits, AfterDigits, LineFeed, LastLineFeed}
 use Rattle.lsp_framing.specs.declared.header.State.{State}
 use Rattle.lsp_framing.specs.declared.header.State.TheVariants.{Header, Body}
 use Rattle.lsp_framing.specs.declared.partial.Partial.{Partial}
@@ -15,7 +15,7 @@ spelled_by [] spelled = spelled
 spelled_by (byte ∷ bytes) spelled = spelled_by bytes (letter spelled byte)
 
 -- the bytes before a body that bring the machine to a place
-abbrev pub Reads : Place → List ℕ → Type 0
+abbrev pub Reads : HeaderState → List ℕ → Type 0
 Reads (Line told) bytes = (fs : List Field) × Tell fs told × (bytes ≡ fields_text fs [])
 Reads (Name told spelled) bytes =
     (fs : List Field) × (name : List ℕ) × Tell fs told × IsName name × (spelled ≡ spelled_by name (Some 0)) × (bytes ≡ fields_text fs name)
@@ -34,7 +34,7 @@ Reads (LineFeed told) bytes = (fs : List Field) × Tell fs told × (bytes ++ 10 
 Reads (LastLineFeed size) bytes = IsHeader (bytes ++ 10 ∷ []) size
 
 -- the bytes of a frame stop at a place before its body
-pub record InHeader (place : Place) (header body : List ℕ) : Type 0 where
+pub record InHeader (place : HeaderState) (header body : List ℕ) : Type 0 where
   pub reads : Reads place header
   pub peels : peel header (Line None) ≡ part place
   pub short : length header ≤ max_header

@@ -5,7 +5,7 @@ use Rattle.std.specs.Global.{Global}
 use Rattle.ls_base.specs.Frames.{Frame, IsFrame, stream, bodies_of}
 use Rattle.lsp_framing.specs.Machine.{next}
 use Rattle.lsp_framing.specs.Standing.{InHeader, Open, Stands, kept_bytes}
-use Rattle.lsp_framing.specs.declared.header.Place.{Place}
+use Rattle.lsp_framing.specs.declared.header.HeaderState.{HeaderState}
 use Rattle.lsp_framing.specs.declared.header.Wrong.{Wrong}
 use Rattle.lsp_framing.specs.declared.partial.Partial.{Partial}
 use Rattle.lsp_framing.specs.declared.partial.Stop.{Stop}
@@ -24,7 +24,7 @@ pub record Goes (old : Partial) (more : List ℕ) (frames : List Frame) (new : P
 -- of the kept bytes and some more these whole frames were given, and the next byte is wrong
 pub record Breaks (old : Partial) (more : List ℕ) (frames : List Frame) (byte : ℕ) (wrong : Wrong) : Type 0 where
   pub each : AllByRecursion IsFrame frames
-  pub place : Place
+  pub place : HeaderState
   pub header : List ℕ
   pub text : kept_bytes old ++ more ≡ stream frames header
   pub inside : InHeader place header []
@@ -42,7 +42,7 @@ Advances (Ok count) piece at old new =
     (0 < count) × (at + count ≤ length piece) × Open new × (kept_bytes new ≡ kept_bytes old ++ take count (drop at piece))
 Advances (Err stop.Memory) piece at old new = Unit {0}
 Advances (Err (stop.Wrong wrong here)) piece at old new =
-    (here ≡ at) × (place : Place) × InHeader place old.header.items old.body.items × (next place (length old.header.items) (slice_index piece at) ≡ Err wrong)
+    (here ≡ at) × (place : HeaderState) × InHeader place old.header.items old.body.items × (next place (length old.header.items) (slice_index piece at) ≡ Err wrong)
 
 -- a body is whole and is given, and then nothing of a frame is kept; or it isn't, and all stays
 abbrev pub Finishes : Option (Vec ℕ Global) → Partial → Partial → Type 0

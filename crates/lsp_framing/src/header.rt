@@ -26,7 +26,7 @@ pub enum Wrong {
 
 /// Where the next byte before a body stands. `told` is the length that the fields so far told, in bytes.
 #[derive(Clone, Copy)]
-pub enum Place {
+pub enum HeaderState {
     /// At the first byte of a line.
     Line {
         told: Option<u32>,
@@ -63,7 +63,7 @@ pub enum Place {
 /// What the next byte of a frame belongs to.
 #[derive(Clone, Copy)]
 pub enum State {
-    Header(Place),
+    Header(HeaderState),
     /// The body, of this length in bytes.
     Body { length: u32 },
 }
@@ -122,44 +122,44 @@ fn is_length(spelled: Option<usize>) -> bool
 }
 
 /// At the carriage return of the empty line.
-fn at_empty_line(told: Option<u32>) -> Result<Place, Wrong>
+fn at_empty_line(told: Option<u32>) -> Result<HeaderState, Wrong>
     ensures { result ≡ at_empty_line told }
 {
     match told {
-        Some(length) => Ok(Place::LastLineFeed { length }),
+        Some(length) => Ok(HeaderState::LastLineFeed { length }),
         None => Err(Wrong::NoLength),
     }
 }
 
 /// At the colon behind the length's name.
-fn at_length(told: Option<u32>) -> Result<Place, Wrong>
+fn at_length(told: Option<u32>) -> Result<HeaderState, Wrong>
     ensures { result ≡ at_length told }
 {
     match told {
         Some(_) => Err(Wrong::BadHeader),
-        None => Ok(Place::BeforeDigits),
+        None => Ok(HeaderState::BeforeDigits),
     }
 }
 
 /// At the colon behind a name.
-fn at_colon(told: Option<u32>, spelled: Option<usize>) -> Result<Place, Wrong>
+fn at_colon(told: Option<u32>, spelled: Option<usize>) -> Result<HeaderState, Wrong>
     ensures { result ≡ at_colon told spelled }
 {
     if is_length(spelled) {
         Ok(at_length(told)?)
     } else {
-        Ok(Place::Value { told })
+        Ok(HeaderState::Value { told })
     }
 }
 
 /// At a digit behind those of a length.
-fn at_digit(length: u32, byte: u8) -> Result<Place, Wrong>
+fn at_digit(length: u32, byte: u8) -> Result<HeaderState, Wrong>
     requires { is_ascii_digit byte ≡ true }
     ensures { result ≡ at_digit length byte }
 {
     let longer = length as usize * 10 + usize::from(byte - b'0');
     if longer <= MAX_BODY {
-        Ok(Place::Digits {
+        Ok(HeaderState::Digits {
             length: longer as u32,
         })
     } else {
@@ -168,13 +168,13 @@ fn at_digit(length: u32, byte: u8) -> Result<Place, Wrong>
 }
 
 /// At the first byte of a line.
-fn at_line(told: Option<u32>, byte: u8) -> Result<Place, Wrong>
+fn at_line(told: Option<u32>, byte: u8) -> Result<HeaderState, Wrong>
     ensures { result ≡ at_line told byte }
 {
     if byte == b'\r' {
         Ok(at_empty_line(told)?)
     } else if is_name_byte(byte) {
-        Ok(Place::Name {
+        Ok(HeaderState::Name {
             told,
             spelled: letter(Some(0), byte),
         })
@@ -184,13 +184,13 @@ fn at_line(told: Option<u32>, byte: u8) -> Result<Place, Wrong>
 }
 
 /// Behind the first byte of a name.
-fn in_name(told: Option<u32>, spelled: Option<usize>, byte: u8) -> Result<Place, Wrong>
+fn in_name(told: Option<u32>, spelled: Option<usize>, byte: u8) -> Result<HeaderState, Wrong>
     ensures { result ≡ in_name told spelled byte }
 {
     if byte == b':' {
         Ok(at_colon(told, spelled)?)
     } else if is_name_byte(byte) {
-        Ok(Place::Name {
+        Ok(HeaderState::Name {
             told,
             spelled: letter(spelled, byte),
         })
@@ -200,33 +200,33 @@ fn in_name(told: Option<u32>, spelled: Option<usize>, byte: u8) -> Result<Place,
 }
 
 /// In the value of a field that is passed over.
-fn in_value(told: Option<u32>, byte: u8) -> Result<Place, Wrong>
+fn in_value(told: Option<u32>, byte: u8) -> Result<HeaderState, Wrong>
     ensures { result ≡ in_value told byte }
 {
     if byte == b'\r' {
-        Ok(Place::LineFeed { told })
+        Ok(HeaderState::LineFeed { told })
     } else if byte == b'\n' {
         Err(Wrong::BadHeader)
     } else {
-        Ok(Place::Value { told })
+        Ok(HeaderState::Value { told })
     }
 }
 
 /// Before the first digit of a length.
-fn before_digits(byte: u8) -> Result<Place, Wrong>
+fn before_digits(byte: u8) -> Result<HeaderState, Wrong>
     ensures { result ≡ before_digits byte }
 {
     if byte.is_ascii_digit() {
         Ok(at_digit(0, byte)?)
     } else if is_blank(byte) {
-        Ok(Place::BeforeDigits)
+        Ok(HeaderState::BeforeDigits)
     } else {
         Err(Wrong::BadLength)
     }
 }
 
 /// After a digit of a length.
-fn in_digits(length: u32, byte: u8) -> Result<Place, Wrong>
+fn in_digits(length: u32, byte: u8) -> Result<HeaderState, Wrong>
     ensures { result ≡ in_digits length byte }
 {
     if byte.is_ascii_digit() {
@@ -237,24 +237,24 @@ fn in_digits(length: u32, byte: u8) -> Result<Place, Wrong>
 }
 
 /// After a blank behind a length.
-fn after_digits(length: u32, byte: u8) -> Result<Place, Wrong>
+fn after_digits(length: u32, byte: u8) -> Result<HeaderState, Wrong>
     ensures { result ≡ after_digits length byte }
 {
     if is_blank(byte) {
-        Ok(Place::AfterDigits { length })
+        Ok(HeaderState::AfterDigits { length })
     } else if byte == b'\r' {
-        Ok(Place::LineFeed { told: Some(length) })
+        Ok(HeaderState::LineFeed { told: Some(length) })
     } else {
         Err(Wrong::BadLength)
     }
 }
 
 /// At the line feed of a field.
-fn at_line_feed(told: Option<u32>, byte: u8) -> Result<Place, Wrong>
+fn at_line_feed(told: Option<u32>, byte: u8) -> Result<HeaderState, Wrong>
     ensures { result ≡ at_line_feed told byte }
 {
     if byte == b'\n' {
-        Ok(Place::Line { told })
+        Ok(HeaderState::Line { told })
     } else {
         Err(Wrong::BadHeader)
     }
@@ -272,23 +272,23 @@ fn at_last_line_feed(length: u32, byte: u8) -> Result<State, Wrong>
 }
 
 /// Takes a byte before a body.
-fn step(place: Place, byte: u8) -> Result<State, Wrong>
+fn step(place: HeaderState, byte: u8) -> Result<State, Wrong>
     ensures { result ≡ step place byte }
 {
     match place {
-        Place::Line { told } => Ok(State::Header(at_line(told, byte)?)),
-        Place::Name { told, spelled } => Ok(State::Header(in_name(told, spelled, byte)?)),
-        Place::Value { told } => Ok(State::Header(in_value(told, byte)?)),
-        Place::BeforeDigits => Ok(State::Header(before_digits(byte)?)),
-        Place::Digits { length } => Ok(State::Header(in_digits(length, byte)?)),
-        Place::AfterDigits { length } => Ok(State::Header(after_digits(length, byte)?)),
-        Place::LineFeed { told } => Ok(State::Header(at_line_feed(told, byte)?)),
-        Place::LastLineFeed { length } => Ok(at_last_line_feed(length, byte)?),
+        HeaderState::Line { told } => Ok(State::Header(at_line(told, byte)?)),
+        HeaderState::Name { told, spelled } => Ok(State::Header(in_name(told, spelled, byte)?)),
+        HeaderState::Value { told } => Ok(State::Header(in_value(told, byte)?)),
+        HeaderState::BeforeDigits => Ok(State::Header(before_digits(byte)?)),
+        HeaderState::Digits { length } => Ok(State::Header(in_digits(length, byte)?)),
+        HeaderState::AfterDigits { length } => Ok(State::Header(after_digits(length, byte)?)),
+        HeaderState::LineFeed { told } => Ok(State::Header(at_line_feed(told, byte)?)),
+        HeaderState::LastLineFeed { length } => Ok(at_last_line_feed(length, byte)?),
     }
 }
 
 /// Takes a byte before a body, of which this many came.
-pub fn next(place: Place, count: usize, byte: u8) -> Result<State, Wrong>
+pub fn next(place: HeaderState, count: usize, byte: u8) -> Result<State, Wrong>
     ensures { result ≡ next place count byte }
 {
     if count < MAX_HEADER {

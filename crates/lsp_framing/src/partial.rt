@@ -5,7 +5,7 @@ ghost use Rattle.lsp_framing.specs.Standing.{InHeader, Open, Stands, kept_bytes}
 ghost use Rattle.lsp_framing.specs.Taken.{contents, Goes, IfWrong, Advances, Finishes, Takes};
 ghost use Rattle.lsp_framing.specs.Machine.{next};
 
-use crate::header::{Place, State, Wrong, next};
+use crate::header::{HeaderState, State, Wrong, next};
 use ls_base::{Items, Mem, Memory};
 use std::alloc::{AllocError, AllocFailed, Global};
 use std::mem;
@@ -59,7 +59,7 @@ impl Partial {
         Partial {
             alloc,
             header: Vec::new(alloc),
-            state: State::Header(Place::Line { told: None }),
+            state: State::Header(HeaderState::Line { told: None }),
             body: Vec::new(alloc),
         }
     }
@@ -75,7 +75,7 @@ impl Partial {
     }
 
     /// Takes a byte before the body, which stands here in the piece.
-    fn head(&mut self, place: Place, byte: u8, at: usize) -> Result<(), Stop>
+    fn head(&mut self, place: HeaderState, byte: u8, at: usize) -> Result<(), Stop>
         requires { InHeader place self.old.header.items self.old.body.items }
         ensures open { OnOk result (Open self.new) }
         ensures bytes { OnOk result (kept_bytes self.new ≡ kept_bytes self.old ++ (byte ∷ [])) }
@@ -137,7 +137,7 @@ impl Partial {
             return None;
         }
         self.header.clear();
-        self.state = State::Header(Place::Line { told: None });
+        self.state = State::Header(HeaderState::Line { told: None });
         Some(mem::replace(&mut self.body, Vec::new(self.alloc)))
     }
 

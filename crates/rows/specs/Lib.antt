@@ -1,1 +1,1 @@
-pub mod Shown
+pub mod Shown  -- What can be shown of a form

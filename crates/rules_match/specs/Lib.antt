@@ -1,3 +1,3 @@
-pub mod Rows
-pub mod Found
-pub mod Matches
+pub mod Rows  -- Rows of trees
+pub mod Found  -- What matching of a part adds to what was matched before
+pub mod Matches  -- How the calls of matching end

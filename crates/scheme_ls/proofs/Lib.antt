@@ -1,14 +1,14 @@
-pub mod OneOutput
-pub mod PieceEndsSession
-pub mod SessionSoFar
-pub mod Items
-pub mod Sessions
-pub mod AnswerLaws
-pub mod CallLaws
-pub mod ReadLaws
-pub mod Writes
-pub mod Fronts
-pub mod Taken
-pub mod WordLists
-pub mod SomeOutput
-pub mod OneCommand
+pub mod Items  -- The items of a list from a place on
+pub mod Sessions  -- Sessions over bodies that come one after another
+pub mod OneOutput  -- A stream of bytes has one output, and messages that begin it are its front
+pub mod CallLaws  -- Calls that are made one after another
+pub mod ReadLaws  -- Reads one after another
+pub mod Writes  -- Bytes written one after another
+pub mod AnswerLaws  -- Bodies that are answered one after another
+pub mod Fronts  -- Fronts of bytes that are printed piece by piece
+pub mod Taken  -- Bytes taken from the front of what is left, read by read
+pub mod SessionSoFar  -- A session that goes on, read by read
+pub mod PieceEndsSession  -- How a session ends in a piece
+pub mod WordLists  -- Lists of one or two words, and whether they are a command
+pub mod SomeOutput  -- No stream of bytes is without an output
+pub mod OneCommand  -- Words ask for one command

@@ -1,8 +1,8 @@
 -- Words ask for one command.
 use Rattle.std.proofs.Common.{◌≡◌, ℕ, List, [], ◌∷◌, length, refl, sym, ap, ◌∙◌, arith, inl, inr, codes}
-use Rattle.scheme_ls.specs.Words.{CommandOf, IsArrows, IsServe}
-use Rattle.scheme_ls.specs.declared.words.Command.{Command}
-use Rattle.scheme_ls.specs.declared.words.Command.TheVariants.{Arrows, Serve, Unknown}
+use Rattle.scheme_ls.specs.Arguments.{CommandOf, IsArrows, IsServe}
+use Rattle.scheme_ls.specs.declared.arguments.Command.{Command}
+use Rattle.scheme_ls.specs.declared.arguments.Command.TheVariants.{Arrows, Serve, Unknown}
 
 counts_differ : (m n : ℕ) → m ≡ 6 → n ≡ 5 → m ≡ n → ⊥
 counts_differ m n six five same = omega arith

@@ -4,7 +4,7 @@ use Rattle.std.specs.String.{string_bytes}
 use Rattle.std.specs.Str.{bytes_eq}
 use Rattle.std.proofs.lemmas.Slice.Eq.{bytes_eq-Decides}
 use Rattle.std.proofs.lemmas.Bool.{false≢true}
-use Rattle.scheme_ls.specs.Words.{IsAlone, IsArrows, IsServe, texts}
+use Rattle.scheme_ls.specs.Arguments.{IsAlone, IsArrows, IsServe, texts}
 
 pub one_text : (words : List (String Global)) (word : String Global) → 1 ≤ length words → length words < 2 → word ≡ get_or words 0 word → texts words ≡ string_bytes word ∷ []
 one_text [] word some few first = absurd (omega arith)

@@ -1,14 +1,14 @@
-pub mod Wording
-pub mod Statuses
-pub mod Words
-pub mod Reading
-pub mod Printed
-pub mod Prints
-pub mod Streams
-pub mod ReplyFrames
-pub mod SessionOutput
-pub mod BodiesOutcome
-pub mod PieceOutcome
-pub mod ServeOutcome
-pub mod ArrowsOutcome
-pub mod RunOutcome
+pub mod Wording  -- The texts that the program says by itself
+pub mod Statuses  -- The statuses of a run, and which one each end of a command has
+pub mod Arguments  -- The commands that words ask for
+pub mod Reading  -- What was read of a source
+pub mod Printed  -- The bytes that are printed
+pub mod Prints  -- What was printed to a sink
+pub mod Streams  -- What the source and the sink show at a moment
+pub mod ReplyFrames  -- The bytes that replies are written as (LSP 3.17, base protocol)
+pub mod SessionOutput  -- What a session writes in answer to a stream of bytes (LSP 3.17, base protocol and lifecycle)
+pub mod BodiesOutcome  -- What answering bodies one after another leaves, in the middle of a session
+pub mod PieceOutcome  -- What a server makes of a piece of its input
+pub mod ServeOutcome  -- How the command `serve` ends, and why
+pub mod ArrowsOutcome  -- How the command `arrows` ends, and why
+pub mod RunOutcome  -- How a run ends, by the command that its words ask for

@@ -8,13 +8,13 @@ use Rattle.scheme_ls.specs.ServeOutcome.{ServeEndsAs}
 use Rattle.scheme_ls.specs.Statuses.{arrows_status, code_of, session_status}
 use Rattle.scheme_ls.specs.Streams.{Streams}
 use Rattle.scheme_ls.specs.Wording.{usage_text}
-use Rattle.scheme_ls.specs.Words.{CommandOf}
+use Rattle.scheme_ls.specs.Arguments.{CommandOf}
 use Rattle.scheme_ls.specs.declared.arrows.ArrowsEnd.{ArrowsEnd}
 use Rattle.scheme_ls.specs.declared.serve.SessionEnd.{SessionEnd}
 use Rattle.scheme_ls.specs.declared.status.Status.{Status}
 use Rattle.scheme_ls.specs.declared.status.Status.TheVariants.{BadWords, SinkFault}
-use Rattle.scheme_ls.specs.declared.words.Command.{Command}
-use Rattle.scheme_ls.specs.declared.words.Command.TheVariants.{Arrows, Serve, Unknown}
+use Rattle.scheme_ls.specs.declared.arguments.Command.{Command}
+use Rattle.scheme_ls.specs.declared.arguments.Command.TheVariants.{Arrows, Serve, Unknown}
 
 -- what files show at a moment: what names hold, where they tell it, the names asked, and how often a fetch has failed
 pub record FilesSeen : Type 0 where

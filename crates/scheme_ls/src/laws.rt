@@ -2,8 +2,8 @@
 ghost use Rattle.std.specs.Prelude.{◌≡◌, ◌++◌, List, ℕ};
 ghost use Rattle.lsp_messages.specs.declared.reply.Reply.{Reply};
 ghost use Rattle.scheme_ls.specs.SessionOutput.{BeginOutput, IsOutputOf, Output, written};
-ghost use Rattle.scheme_ls.specs.Words.{CommandOf};
-ghost use Rattle.scheme_ls.specs.declared.words.Command.{Command};
+ghost use Rattle.scheme_ls.specs.Arguments.{CommandOf};
+ghost use Rattle.scheme_ls.specs.declared.arguments.Command.{Command};
 
 /// A stream of bytes has one output: no stream is without one, and none has two. Messages that begin it are a front of
 /// what is written.

@@ -5,9 +5,10 @@ ghost use Rattle.std.specs.Prelude.{◌≡◌, ◌<◌, ℕ, drop};
 ghost use Rattle.scheme_ls.specs.Prints.{sink_seen};
 ghost use Rattle.scheme_ls.specs.Reading.{source_seen};
 ghost use Rattle.scheme_ls.specs.RunOutcome.{RunEnds, files_seen, seen};
-ghost use Rattle.scheme_ls.specs.Words.{texts};
+ghost use Rattle.scheme_ls.specs.Arguments.{texts};
 
 mod answering;
+mod arguments;
 mod arrows;
 pub mod laws;
 mod printing;
@@ -18,7 +19,6 @@ mod serve;
 mod server;
 mod status;
 mod wording;
-mod words;
 
 use ls_base::Steps;
 use ls_outside::{Files, Sink, Source, StdFiles, StdSink, StdSource};

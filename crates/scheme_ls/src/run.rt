@@ -3,14 +3,14 @@ ghost use Rattle.std.specs.Prelude.{◌≡◌, ◌⊎◌};
 ghost use Rattle.scheme_ls.specs.Prints.{Prints, PrintsFront, sink_seen};
 ghost use Rattle.scheme_ls.specs.Reading.{source_seen};
 ghost use Rattle.scheme_ls.specs.RunOutcome.{RunEnds, PrintsUsage, files_seen, seen};
-ghost use Rattle.scheme_ls.specs.Words.{texts};
+ghost use Rattle.scheme_ls.specs.Arguments.{texts};
 
+use crate::arguments::{Command, command_of};
 use crate::arrows::arrows;
 use crate::printing::{SinkFailed, print_all};
 use crate::serve::serve;
 use crate::status::Status;
 use crate::wording::USAGE;
-use crate::words::{Command, command_of};
 use ls_base::Steps;
 use ls_outside::{Files, Sink, Source};
 use std::alloc::Global;

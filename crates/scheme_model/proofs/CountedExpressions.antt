@@ -16,7 +16,7 @@ use Rattle.scheme_model.specs.Steps.{Broken, Step, ◌>>=◌, done}
 use Rattle.scheme_model.specs.Order.{Here, Form, Item, Expression, Value, Function, Assigned, AssignedFunction, ValuesOf, Record, Macro, Pass, Region, Transformer, target_of, head_of, here_at, forms_at, RulesParts, run}
 use Rattle.scheme_model.specs.Expression.{whole, body, Expander, node, each, each_of, bound, procedure, lambda, clauses, meaning_of, macro_with, macro_def, assignment, item_part, parts, items_of, body_in, body_core, expressions, sequence, heads, keep_all, numbers, local_defs, local_macros, recursive, let_syntax, letrec_syntax, mark_of, symbol_or_hole, quasi, quote, unless_keyword, set, reference, call, chosen_sequence, core_form, macro_use, by_head, expression, expand}
 use Rattle.scheme_model.specs.Substitution.{clause_map, item_map}
-use Rattle.scheme_model.specs.ScopedExpansion.{Frames, Place, ScopedState, next_number}
+use Rattle.scheme_model.specs.ScopedExpansion.{Frames, FramedIdent, ScopedState, next_number}
 use Rattle.scheme_model.specs.Renaming.{pieces_map, leaf_map, local_macros_map}
 use Rattle.scheme_model.proofs.RenamingLaws.{Reads, map_after, size-map, then_map}
 use Rattle.scheme_model.proofs.ShapeLaws.{some_of-map, one_of-map, if_of-map, named_tree_of-map, error_text_of-map, lambda_of-map, case_lambda_of-map, definition_of-map, values_of-map, local_macros_of-map}
@@ -185,7 +185,7 @@ module _ (c : Setting) (x : Side c) where
     parts_goes depth e [] h s = goes refl
     parts_goes depth e (i ∷ is) h s = goes_bind c _ _ (item_goes depth e i h.0 s) (λ p u. goes_bind c _ _ (parts_goes depth e is h.1 u) (λ ps v. goes refl))
 
-    items_comes : {q : Pass (B c) (M c) × T c} {q' : Pass Ident Place × ScopedState} → Ran c q q' → Comes c (AllOf (ToldItem c.told)) (map (item_map (ident c))) (items_of q) (items_of q')
+    items_comes : {q : Pass (B c) (M c) × T c} {q' : Pass Ident FramedIdent × ScopedState} → Ran c q q' → Comes c (AllOf (ToldItem c.told)) (map (item_map (ident c))) (items_of q) (items_of q')
     items_comes (ran e a) = comes (ap items_of e) a
 
     comes_goes : {V W : Type 0} {H : V → Type 0} {g : V → W} {q : Result V Broken × T c} {q' : Result W Broken × ScopedState} → Comes c H g q q' → Goes c g q q'

@@ -12,7 +12,7 @@ use Rattle.scheme_model.specs.Cores.{Binder}
 use Rattle.scheme_model.specs.Steps.{Broken, Step, ◌>>=◌, done, fails}
 use Rattle.scheme_model.specs.Order.{Here, Form, Item, Expression, Value, Function, Assigned, AssignedFunction, ValuesOf, Record, Macro, Note, LookedUp, Pending, Pass, Going, head_of, here_at, forms_at, counting, given, told, binder_at, put, noted, first, names_at, next_name, define_next, define_all, define_names, fields_bound, record_names, record_part, caught, run_variable, run_function, run_define, values_put, run_values, run_record, is_rules, RulesParts, rules_parts_of, rules_parts, rules_note, rules_at, or_none}
 use Rattle.scheme_model.specs.Substitution.{form_map, clause_map, item_map, note_map, pending_map}
-use Rattle.scheme_model.specs.ScopedExpansion.{Place, ScopedState, body_around, bound_next, assigned}
+use Rattle.scheme_model.specs.ScopedExpansion.{FramedIdent, ScopedState, body_around, bound_next, assigned}
 use Rattle.scheme_model.specs.Renaming.{formals_map, definition_map, field_map, record_map}
 use Rattle.scheme_model.proofs.RenamingLaws.{map-append, map_turned, size-map}
 use Rattle.scheme_model.proofs.RulesLaws.{rules_of-map}
@@ -91,10 +91,10 @@ module _ (c : Setting) where
 
   -- ---- passes
 
-  abbrev pub pass_seen : Pass (B c) (M c) → Pass Ident Place
+  abbrev pub pass_seen : Pass (B c) (M c) → Pass Ident FramedIdent
   pass_seen p = record { notes = map (note_map (at c)) p.notes; items = seen (map (item_map (ident c))) p.items }
 
-  abbrev pub left_seen : Pending (B c) (M c) → Pending Ident Place
+  abbrev pub left_seen : Pending (B c) (M c) → Pending Ident FramedIdent
   left_seen p = pending_map (ident c) (at c) p
 
   abbrev pub ToldItems : List (Item (B c)) → Type 0
@@ -103,27 +103,27 @@ module _ (c : Setting) where
   abbrev pub ToldLeft : Pending (B c) (M c) → Type 0
   ToldLeft p = AllOf (ToldItem c.told) p.aside
 
-  pub data Ran (q : Pass (B c) (M c) × T c) (q' : Pass Ident Place × ScopedState) : Type 0 where
+  pub data Ran (q : Pass (B c) (M c) × T c) (q' : Pass Ident FramedIdent × ScopedState) : Type 0 where
     ran : q' ≡ (pass_seen q.0, q.1.0) → OkAll ToldItems q.0.items → Ran q q'
 
-  pub ran_at : {q : Pass (B c) (M c) × T c} {q' q2 : Pass Ident Place × ScopedState} → q2 ≡ q' → Ran q q' → Ran q q2
+  pub ran_at : {q : Pass (B c) (M c) × T c} {q' q2 : Pass Ident FramedIdent × ScopedState} → q2 ≡ q' → Ran q q' → Ran q q2
   ran_at d (ran e a) = ran (d ∙ e) a
 
   abbrev pub OverGo : Type 0
   OverGo = Going (B c) (M c) (T c)
 
   abbrev pub SideGo : Type 0
-  SideGo = Going Ident Place ScopedState
+  SideGo = Going Ident FramedIdent ScopedState
 
   abbrev pub RanLaw : OverGo → SideGo → Type 0
   RanLaw f f' = (p : Pending (B c) (M c)) (s : T c) → ToldLeft p → Ran (f p s) (f' (left_seen p) s.0)
 
-  caught_from : {V W : Type 0} (G : V → Type 0) (g : V → W) (ns : List (Note (M c))) (r : Result V Broken) (t : T c) (k : V → T c → Pass (B c) (M c) × T c) (k' : W → ScopedState → Pass Ident Place × ScopedState) → OkAll G r
+  caught_from : {V W : Type 0} (G : V → Type 0) (g : V → W) (ns : List (Note (M c))) (r : Result V Broken) (t : T c) (k : V → T c → Pass (B c) (M c) × T c) (k' : W → ScopedState → Pass Ident FramedIdent × ScopedState) → OkAll G r
       → ((v : V) (u : T c) → G v → Ran (k v u) (k' (g v) u.0)) → Ran (caught ns (r, t) k) (caught (map (note_map (at c)) ns) (seen g r, t.0) k')
   caught_from G g ns (Ok v) t k k' a next = next v t a
   caught_from G g ns (Err e) t k k' a next = ran refl tt
 
-  pub caught_comes : {V W : Type 0} {G : V → Type 0} {g : V → W} {q : Result V Broken × T c} {q' : Result W Broken × ScopedState} (ns : List (Note (M c))) (k : V → T c → Pass (B c) (M c) × T c) (k' : W → ScopedState → Pass Ident Place × ScopedState)
+  pub caught_comes : {V W : Type 0} {G : V → Type 0} {g : V → W} {q : Result V Broken × T c} {q' : Result W Broken × ScopedState} (ns : List (Note (M c))) (k : V → T c → Pass (B c) (M c) × T c) (k' : W → ScopedState → Pass Ident FramedIdent × ScopedState)
       → Comes G g q q' → ((v : V) (u : T c) → G v → Ran (k v u) (k' (g v) u.0)) → Ran (caught ns q k) (caught (map (note_map (at c)) ns) q' k')
   caught_comes {G = G} {g = g} {q = q} ns k k' (comes e a) next = ran_at (ap (λ z. caught (map (note_map (at c)) ns) z k') e) (caught_from G g ns q.0 q.1 k k' a next)
 
@@ -134,7 +134,7 @@ module _ (c : Setting) where
   first_seen xs p = ap (λ (ys : List (Form Ident)). record { todo = ys; aside = map (item_map (ident c)) p.aside; notes = map (note_map (at c)) p.notes }) (sym (map-append (form_map (ident c)) xs p.todo))
 
   pub noted_seen : (ns : List (Note (M c))) (p : Pending (B c) (M c)) → noted (map (note_map (at c)) ns) (left_seen p) ≡ left_seen (noted ns p)
-  noted_seen ns p = ap (λ (ms : List (Note Place)). record { todo = map (form_map (ident c)) p.todo; aside = map (item_map (ident c)) p.aside; notes = ms }) (sym (map-append (note_map (at c)) ns p.notes))
+  noted_seen ns p = ap (λ (ms : List (Note FramedIdent)). record { todo = map (form_map (ident c)) p.todo; aside = map (item_map (ident c)) p.aside; notes = ms }) (sym (map-append (note_map (at c)) ns p.notes))
 
   put_told : (t : Item (B c)) (p : Pending (B c) (M c)) → ToldItem c.told t → ToldLeft p → ToldLeft (put t p)
   put_told t p a h = all_append (ToldItem c.told) p.aside (t ∷ []) h (a, tt)
@@ -184,10 +184,10 @@ module _ (c : Setting) (x : Side c) where
 
     -- ---- several names
 
-    abbrev several_seen : List Binder × Pending (B c) (M c) → List Binder × Pending Ident Place
+    abbrev several_seen : List Binder × Pending (B c) (M c) → List Binder × Pending Ident FramedIdent
     several_seen q = (q.0, left_seen c q.1)
 
-    abbrev Several : Result (List Binder × Pending (B c) (M c)) Broken × T c → Result (List Binder × Pending Ident Place) Broken × ScopedState → Type 0
+    abbrev Several : Result (List Binder × Pending (B c) (M c)) Broken × T c → Result (List Binder × Pending Ident FramedIdent) Broken × ScopedState → Type 0
     Several q q' = Comes c (λ (v : List Binder × Pending (B c) (M c)). ToldLeft c v.1) several_seen q q'
 
     abbrev AllGoes : List (Named (B c)) → Type 0

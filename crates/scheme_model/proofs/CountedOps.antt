@@ -12,7 +12,7 @@ use Rattle.scheme_model.specs.Cores.{Target, MacroUse, Bound, LocalNumber, Defin
 use Rattle.scheme_model.specs.Steps.{Broken, Step, ◌>>=◌}
 use Rattle.scheme_model.specs.Order.{Here, Note, Pending, Transformer, Ops, is_some, given}
 use Rattle.scheme_model.specs.Substitution.{Clock, at_form, note_map, pending_map, any}
-use Rattle.scheme_model.specs.ScopedExpansion.{Frames, Bind, Enter, Place, ScopedState, next_number, means_at, macro_at, body_around, bound_next, assigned, definition_added, meaning_next, is_defined, refused_now, scoped}
+use Rattle.scheme_model.specs.ScopedExpansion.{Frames, Bind, Enter, FramedIdent, ScopedState, next_number, means_at, macro_at, body_around, bound_next, assigned, definition_added, meaning_next, is_defined, refused_now, scoped}
 use Rattle.scheme_model.specs.Renaming.{Renames, result_map}
 use Rattle.scheme_model.proofs.RenamingLaws.{Reads, reads}
 use Rattle.scheme_model.proofs.IdentKinds.{rules_kind, faults_fused}
@@ -27,7 +27,7 @@ ToldBound told (Definition u n) = Unit {0}
 -- the meanings that they can have, and `use_here` the numbers of the form's uses. A definition asks the notes of which `asks` holds.
 pub record Setting : Type 1 where
   pub known : Known
-  pub asks : Ident → Note Place → Bool
+  pub asks : Ident → Note FramedIdent → Bool
   pub stands : Ident → Type 0
   pub around : Frames → Type 0
   pub holds : ScopedState → Type 0
@@ -69,7 +69,7 @@ module _ (c : Setting) where
   abbrev pub ident : B → Ident
   ident p = p.0
 
-  abbrev pub at : M → Place
+  abbrev pub at : M → FramedIdent
   at l = record { frames = l.0.0; ident = l.1.0 }
 
   abbrev pub names_over : Names B
@@ -148,17 +148,17 @@ module _ (c : Setting) where
   }
 
   -- what comes of a definition
-  abbrev pub defined_seen : Result (Pending B M) (Fault Ident) × T → Result (Pending Ident Place) (Fault Ident) × ScopedState
+  abbrev pub defined_seen : Result (Pending B M) (Fault Ident) × T → Result (Pending Ident FramedIdent) (Fault Ident) × ScopedState
   defined_seen q = (seen (pending_map ident at) q.0, q.1.0)
 
   -- a side that means and defines as the third does
   pub record Side : Type 0 where
     pub means : Frames → ScopedState → Ident → Meaning
-    pub define : Named Ident → Option (Rules Ident) → Frames → Pending Ident Place → ScopedState → Result (Pending Ident Place) (Fault Ident) × ScopedState
+    pub define : Named Ident → Option (Rules Ident) → Frames → Pending Ident FramedIdent → ScopedState → Result (Pending Ident FramedIdent) (Fault Ident) × ScopedState
     pub same_means : (e : D) (s : T) (i : B) → means e.0 s.0 i.0 ≡ means_at s.0 e.0 i.0
     pub same_define : (n : Named B) (r : Option (Rules B)) (e : D) (p : Pending B M) (s : T) → define (named_map ident n) (option_map (rules_map ident) r) e.0 (pending_map ident at p) s.0 ≡ defined_seen (define_over n r e p s)
 
-  abbrev pub side : Side → Ops Frames Ident Place ScopedState
+  abbrev pub side : Side → Ops Frames Ident FramedIdent ScopedState
   side x = record (scoped c.known) { means = x.means; define = x.define }
 
   -- ---- steps

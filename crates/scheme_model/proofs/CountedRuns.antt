@@ -10,7 +10,7 @@ use Rattle.scheme_model.specs.Cores.{Target, Binder}
 use Rattle.scheme_model.specs.Steps.{◌>>=◌, done}
 use Rattle.scheme_model.specs.Order.{Here, Form, Expression, Macro, Note, LookedUp, Pending, Pass, Transformer, target_of, head_of, forms_at, told, comparisons, use_of, binder_at, put, noted, first, caught, rules_parts_of, rules_parts, rules_note, rules_at, run_syntax, splice, or_none, read_then, run_core, run_use, run_head, run_form, run_next, run}
 use Rattle.scheme_model.specs.Substitution.{form_map}
-use Rattle.scheme_model.specs.ScopedExpansion.{Place, ScopedState}
+use Rattle.scheme_model.specs.ScopedExpansion.{FramedIdent, ScopedState}
 use Rattle.scheme_model.proofs.RenamingLaws.{Reads}
 use Rattle.scheme_model.proofs.ShapeLaws.{proper_of-map, definition_of-map, values_of-map, record_of-map, named_tree_of-map}
 use Rattle.scheme_model.proofs.RequirementLaws.{chosen_of-map}
@@ -25,7 +25,7 @@ module _ (c : Setting) (x : Side c) where
 
       syntax_with : (d : Named (B c) × Tree (B c)) (s : T c) (q : Pending (B c) (M c)) → ToldLeft c q
           → Ran c (caught {B = Binder × Pending (B c) (M c)} q.notes (rules_parts (over c) here e (rules_parts_of d.1) s >>= λ r t0. rules_at (over c) here d.1 r t0 >>= λ rules t. told here ((over c).define d.0 (Some rules) e q t) >>= λ q2. done (binder_at (over c) e t d.0, q2)) (λ r. f (put (Macro r.0 here) r.1)))
-          (caught {B = Binder × Pending Ident Place} (left_seen c q).notes (rules_parts (side c x) here e.0 (rules_parts_of (map_tree (ident c) d.1)) s.0 >>= λ r t0. rules_at (side c x) here (map_tree (ident c) d.1) r t0 >>= λ rules t. told here ((side c x).define (named_map (ident c) d.0) (Some rules) e.0 (left_seen c q) t) >>= λ q2. done (binder_at (side c x) e.0 t (named_map (ident c) d.0), q2)) (λ r. f' (put (Macro r.0 here) r.1)))
+          (caught {B = Binder × Pending Ident FramedIdent} (left_seen c q).notes (rules_parts (side c x) here e.0 (rules_parts_of (map_tree (ident c) d.1)) s.0 >>= λ r t0. rules_at (side c x) here (map_tree (ident c) d.1) r t0 >>= λ rules t. told here ((side c x).define (named_map (ident c) d.0) (Some rules) e.0 (left_seen c q) t) >>= λ q2. done (binder_at (side c x) e.0 t (named_map (ident c) d.0), q2)) (λ r. f' (put (Macro r.0 here) r.1)))
       syntax_with d s q h =
           caught_comes c {G = λ (v : Binder × Pending (B c) (M c)). ToldBound c.told v.0.bound × ToldLeft c v.1} {g = λ (v : Binder × Pending (B c) (M c)). (v.0, left_seen c v.1)} q.notes (λ r. f (put (Macro r.0 here) r.1)) (λ r. f' (put (Macro r.0 here) r.1))
           (comes_bind c _ _ (goes_comes c (rules_parts_goes c x here e d.1 s)) (λ r t0 a. comes_bind c _ _ (goes_comes c (rules_at_goes c x here e d.1 r t0)) (λ rules t a1. comes_bind c _ _ (define_comes c x here d.0 (Some rules) e q t h) (λ q2 u a2. comes refl (told_bound c e t, a2)))))
@@ -36,7 +36,7 @@ module _ (c : Setting) (x : Side c) where
           let note = rules_note (over c) e s (rules_parts_of d.1) in
           let q = ap (λ o. noted (rules_note (side c x) e.0 s.0 o) (left_seen c p)) (parts_of_seen (ident c) d.1) ∙ ap (λ ns. noted ns (left_seen c p)) (note_goes c x f f' law here e s (rules_parts_of d.1)) ∙ noted_seen c note p in
           ran_at c
-          (ap (λ (z : Pending Ident Place). caught {B = Binder × Pending Ident Place} z.notes (rules_parts (side c x) here e.0 (rules_parts_of (map_tree (ident c) d.1)) s.0 >>= λ r t0. rules_at (side c x) here (map_tree (ident c) d.1) r t0 >>= λ rules t. told here ((side c x).define (named_map (ident c) d.0) (Some rules) e.0 z t) >>= λ q2. done (binder_at (side c x) e.0 t (named_map (ident c) d.0), q2)) (λ r. f' (put (Macro r.0 here) r.1))) q)
+          (ap (λ (z : Pending Ident FramedIdent). caught {B = Binder × Pending Ident FramedIdent} z.notes (rules_parts (side c x) here e.0 (rules_parts_of (map_tree (ident c) d.1)) s.0 >>= λ r t0. rules_at (side c x) here (map_tree (ident c) d.1) r t0 >>= λ rules t. told here ((side c x).define (named_map (ident c) d.0) (Some rules) e.0 z t) >>= λ q2. done (binder_at (side c x) e.0 t (named_map (ident c) d.0), q2)) (λ r. f' (put (Macro r.0 here) r.1))) q)
           (syntax_with d s (noted note p) h)
 
       -- ---- core forms
@@ -49,7 +49,7 @@ module _ (c : Setting) (x : Side c) where
       chosen_goes : (p : Pending (B c) (M c)) → ToldLeft c p → (o : Option (Trees (B c))) (s : T c) → Ran c (splice (over c) f here p (or_none o) s) (splice (side c x) f' here (left_seen c p) (or_none (option_map (map_trees (ident c)) o)) s.0)
       chosen_goes p h o s = ran_at c (ap (λ ts. splice (side c x) f' here (left_seen c p) ts s.0) (or_none_seen (ident c) o)) (splice_goes p h (or_none o) s)
 
-      read_goes : {X Y : Type 0} {g : X → Y} {r : Result X (Fault (B c))} {r' : Result Y (Fault Ident)} (p : Pending (B c) (M c)) (k : X → T c → Pass (B c) (M c) × T c) (k' : Y → ScopedState → Pass Ident Place × ScopedState) (s : T c)
+      read_goes : {X Y : Type 0} {g : X → Y} {r : Result X (Fault (B c))} {r' : Result Y (Fault Ident)} (p : Pending (B c) (M c)) (k : X → T c → Pass (B c) (M c) × T c) (k' : Y → ScopedState → Pass Ident FramedIdent × ScopedState) (s : T c)
           → Reads (ident c) g r r' → ((v : X) (u : T c) → Ran c (k v u) (k' (g v) u.0)) → Ran c (read_then (over c) here p r k s) (read_then (side c x) here (left_seen c p) r' k' s.0)
       read_goes p k k' s rd next = caught_comes c p.notes k k' (goes_comes c (goes_read c here s rd)) (λ v u a. next v u)
 
@@ -80,7 +80,7 @@ module _ (c : Setting) (x : Side c) where
       run_use_goes k (Some m) y ts tail p h s =
           let ns = comparisons (over c) e m ts tail s in
           ran_at c
-          (ap (λ (z : Pending Ident Place). caught z.notes (use_of (side c x) here e.0 k (transformer_map c m) (map_trees (ident c) ts) (map_tail (ident c) tail) s.0) (λ t. f' (first (record { here = here; tree = t } ∷ []) z)))
+          (ap (λ (z : Pending Ident FramedIdent). caught z.notes (use_of (side c x) here e.0 k (transformer_map c m) (map_trees (ident c) ts) (map_tail (ident c) tail) s.0) (λ t. f' (first (record { here = here; tree = t } ∷ []) z)))
           (ap (λ zs. noted zs (left_seen c p)) (comparisons_goes c x e m ts tail s) ∙ noted_seen c ns p))
           (caught_comes c (noted ns p).notes (λ t. f (first (record { here = here; tree = t } ∷ []) (noted ns p))) (λ t. f' (first (record { here = here; tree = t } ∷ []) (left_seen c (noted ns p))))
           (goes_comes c (use_goes c x here e k m ts tail s)) (λ t u a. first_goes c x f f' law here e (record { here = here; tree = t } ∷ []) (noted ns p) u h))

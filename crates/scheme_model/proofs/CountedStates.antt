@@ -13,7 +13,7 @@ use Rattle.scheme_model.specs.RulesShape.{Rules}
 use Rattle.scheme_model.specs.Order.{Note, Transformer}
 use Rattle.scheme_model.specs.Substitution.{Table, Entries, Clock, at_form, Defined, defined_in}
 use Rattle.scheme_model.specs.Scopes.{own_of, imported_as, defined_or, given_or}
-use Rattle.scheme_model.specs.ScopedExpansion.{Frames, Bind, Enter, BodyDefinition, BodyDefinitions, UsePlace, Place, ScopedMacro, ScopedState, around, find, defined_as, means_inside, means_outside, means_at, macro_at, macro_added, next_number, body_around, definition_added}
+use Rattle.scheme_model.specs.ScopedExpansion.{Frames, Bind, Enter, BodyDefinition, BodyDefinitions, UsePlace, FramedIdent, ScopedMacro, ScopedState, around, find, defined_as, means_inside, means_outside, means_at, macro_at, macro_added, next_number, body_around, definition_added}
 use Rattle.scheme_model.proofs.OpenBodies.{Before as Counted, Leq, NotYet}
 use Rattle.scheme_model.proofs.IdentLaws.{number_told}
 use Rattle.scheme_model.proofs.IdentKinds.{rules_kind}
@@ -261,7 +261,7 @@ module _ (w : Era) (s0 : ScopedState) where
             }
 
   -- the form as a setting
-  abbrev pub form_setting : Known → (Ident → Note Place → Bool) → ℕ → Setting
+  abbrev pub form_setting : Known → (Ident → Note FramedIdent → Bool) → ℕ → Setting
   form_setting known asks f = record {
     known = known;
     asks = asks;

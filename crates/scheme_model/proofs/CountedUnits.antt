@@ -14,7 +14,7 @@ use Rattle.scheme_model.specs.Order.{Item, Expression, Value, Function, Assigned
 use Rattle.scheme_model.specs.Expression.{expand, item_part, parts}
 use Rattle.scheme_model.specs.UnitExpansion.{Formed as FormResult, max_depth, passes, from_items, finished, first_over, fronts, item_fronts, states_passed, states_finished, or_ended, some_of, unit}
 use Rattle.scheme_model.specs.Substitution.{State, item_map, note_map, any, differ}
-use Rattle.scheme_model.specs.ScopedExpansion.{Frames, Place, ScopedState, means_at, body_around, definition_added, meaning_next, is_defined, refused_now, scoped}
+use Rattle.scheme_model.specs.ScopedExpansion.{Frames, FramedIdent, ScopedState, means_at, body_around, definition_added, meaning_next, is_defined, refused_now, scoped}
 use Rattle.scheme_model.specs.CountedExpansion.{means_here, refused_here, counted}
 use Rattle.scheme_model.proofs.IdentKinds.{item_kind}
 use Rattle.scheme_model.proofs.FrameEras.{Era, Below}
@@ -47,29 +47,29 @@ of_form_told u f u' f' a b (Free s) h = refl
 -- ---- definitions that ask some notes alone
 
 abbrev pub Asks : Type 0
-Asks = Ident → Note Place → Bool
+Asks = Ident → Note FramedIdent → Bool
 
 -- all notes are asked
 abbrev pub every : Asks
 every x note = true
 
-abbrev pub defined_unless : Bool → Option Number → Named Ident → Option (Rules Ident) → Frames → Pending Ident Place → ScopedState → Result (Pending Ident Place) (Fault Ident) × ScopedState
+abbrev pub defined_unless : Bool → Option Number → Named Ident → Option (Rules Ident) → Frames → Pending Ident FramedIdent → ScopedState → Result (Pending Ident FramedIdent) (Fault Ident) × ScopedState
 defined_unless refused b n r fs p s =
     if refused then (Err (KeywordRedefined n), s)
     else if is_defined s b n.name then (Err (Duplicate n), s)
     else (Ok p, definition_added b n r fs s)
 
-abbrev pub refused_by_number : Asks → Option Number → Named Ident → Option (Rules Ident) → Frames → ScopedState → Note Place → Bool
+abbrev pub refused_by_number : Asks → Option Number → Named Ident → Option (Rules Ident) → Frames → ScopedState → Note FramedIdent → Bool
 refused_by_number asks b n r fs s note = asks n.name note && refused_now (definition_added b n r fs s) (meaning_next s b n.name) (is_some r) note
 
-abbrev pub refused_by_count : Asks → Option Number → Named Ident → Option (Rules Ident) → Frames → ScopedState → Note Place → Bool
+abbrev pub refused_by_count : Asks → Option Number → Named Ident → Option (Rules Ident) → Frames → ScopedState → Note FramedIdent → Bool
 refused_by_count asks b n r fs s note = asks n.name note && refused_here (definition_added b n r fs s) (meaning_next s b n.name) (is_some r) note
 
 -- expansion by whole numbers, and by counts; where all notes are asked it is as ever
-abbrev pub numbered_asking : Asks → Known → Ops Frames Ident Place ScopedState
+abbrev pub numbered_asking : Asks → Known → Ops Frames Ident FramedIdent ScopedState
 numbered_asking asks known = record (scoped known) { define = λ n r fs p s. defined_unless (any (refused_by_number asks (body_around fs) n r fs s) p.notes) (body_around fs) n r fs p s }
 
-abbrev pub counted_asking : Asks → Known → Ops Frames Ident Place ScopedState
+abbrev pub counted_asking : Asks → Known → Ops Frames Ident FramedIdent ScopedState
 counted_asking asks known = record (counted known) { define = λ n r fs p s. defined_unless (any (refused_by_count asks (body_around fs) n r fs s) p.notes) (body_around fs) n r fs p s }
 
 module _ (w : Era) (known : Known) (asks : Asks) (s0 : ScopedState) where
@@ -95,7 +95,7 @@ module _ (w : Era) (known : Known) (asks : Asks) (s0 : ScopedState) where
   any_told s x m new (n ∷ ns) = let a = refused_told s m new n in let b = any_told s x m new ns in λ j. (asks x (note_map (at c) n) && a j) || b j
 
   -- the note by which a definition is refused
-  abbrev asked : (n : Named (B c)) (r : Option (Rules (B c))) (e : D c) (s : T c) → Note Place → Bool
+  abbrev asked : (n : Named (B c)) (r : Option (Rules (B c))) (e : D c) (s : T c) → Note FramedIdent → Bool
   asked n r e s note = refused_by_number asks (body_around e.0) (named_map (ident c) n) (option_map (rules_map (ident c)) r) e.0 s.0 note
 
   abbrev by_number : Side c
@@ -149,7 +149,7 @@ module _ (w : Era) (known : Known) (asks : Asks) (s0 : ScopedState) where
 
   -- ---- the forms gone through
 
-  pub record RunSame (turns : ℕ) (p : Pending Ident Place) : Type 0 where
+  pub record RunSame (turns : ℕ) (p : Pending Ident FramedIdent) : Type 0 where
     pub same : run (counted_asking asks known) turns [] p s0 ≡ run (numbered_asking asks known) turns [] p s0
     pub holds : Holds w s0 s0.form (run (numbered_asking asks known) turns [] p s0).1
     pub told : OkAll (AllOf (ToldItem c.told)) (run (numbered_asking asks known) turns [] p s0).0.items
@@ -169,31 +169,31 @@ module _ (w : Era) (known : Known) (asks : Asks) (s0 : ScopedState) where
             let q = run (over c) turns outermost p start in
             record {
               same = e ∙ sym d;
-              holds = subst (λ (z : Pass Ident Place × ScopedState). Holds w s0 s0.form z.1) (sym d) q.1.1;
-              told = subst (λ (z : Pass Ident Place × ScopedState). OkAll (AllOf (ToldItem c.told)) z.0.items) (sym d) (items_told q.0.items b);
+              holds = subst (λ (z : Pass Ident FramedIdent × ScopedState). Holds w s0 s0.form z.1) (sym d) q.1.1;
+              told = subst (λ (z : Pass Ident FramedIdent × ScopedState). OkAll (AllOf (ToldItem c.told)) z.0.items) (sym d) (items_told q.0.items b);
             }
 
-    abbrev lift_place : (l : Place) → UnitPlace w known s0 l → M c
+    abbrev lift_place : (l : FramedIdent) → UnitPlace w known s0 l → M c
     lift_place l h = ((l.frames, subst (OfForm w.unit s0.form) (sym h.0) tt), (l.ident, rooted_stand w s0 s0.form l.ident h.1))
 
-    abbrev lift_note : (n : Note Place) → NoteAll (UnitPlace w known s0) n → Note (M c)
+    abbrev lift_note : (n : Note FramedIdent) → NoteAll (UnitPlace w known s0) n → Note (M c)
     lift_note (LookedUp l head keyword) h = LookedUp (lift_place l h) head keyword
     lift_note (Compared l j held) h = Compared (lift_place l h.0) (lift_place j h.1) held
 
-    lifted_note : (n : Note Place) (h : NoteAll (UnitPlace w known s0) n) → note_map (at c) (lift_note n h) ≡ n
+    lifted_note : (n : Note FramedIdent) (h : NoteAll (UnitPlace w known s0) n) → note_map (at c) (lift_note n h) ≡ n
     lifted_note (LookedUp l head keyword) h = refl
     lifted_note (Compared l j held) h = refl
 
-    abbrev lift_notes : (ns : List (Note Place)) → AllOf (NoteAll (UnitPlace w known s0)) ns → List (Note (M c))
+    abbrev lift_notes : (ns : List (Note FramedIdent)) → AllOf (NoteAll (UnitPlace w known s0)) ns → List (Note (M c))
     lift_notes [] h = []
     lift_notes (n ∷ ns) h = lift_note n h.0 ∷ lift_notes ns h.1
 
-    lifted_notes : (ns : List (Note Place)) (h : AllOf (NoteAll (UnitPlace w known s0)) ns) → map (note_map (at c)) (lift_notes ns h) ≡ ns
+    lifted_notes : (ns : List (Note FramedIdent)) (h : AllOf (NoteAll (UnitPlace w known s0)) ns) → map (note_map (at c)) (lift_notes ns h) ≡ ns
     lifted_notes [] h = refl
     lifted_notes (n ∷ ns) h = let a = lifted_note n h.0 in let b = lifted_notes ns h.1 in λ j. a j ∷ b j
 
     -- one form of the unit
-    pub run_same : (turns : ℕ) (t : Tree Ident) → TreeAll (UnitLeaf w known s0) t → (ns : List (Note Place)) → AllOf (NoteAll (UnitPlace w known s0)) ns → RunSame turns (record { todo = record { here = None; tree = t } ∷ []; aside = []; notes = ns })
+    pub run_same : (turns : ℕ) (t : Tree Ident) → TreeAll (UnitLeaf w known s0) t → (ns : List (Note FramedIdent)) → AllOf (NoteAll (UnitPlace w known s0)) ns → RunSame turns (record { todo = record { here = None; tree = t } ∷ []; aside = []; notes = ns })
     run_same turns t l ns h =
         let l' = tree_more (UnitLeaf w known s0) (Stand w s0 s0.form) (rooted_stand w s0 s0.form) t l in
         let a = lifted_tree (Stand w s0 s0.form) t l' in let b = lifted_notes ns h in
@@ -257,7 +257,7 @@ module _ (w : Era) (known : Known) where
   aside_made s (Ok is) h = all_of_more (ItemHeld (UnitLeaf w known s)) (ItemHeld (Below w s.uses)) (λ i q. (held_more item_kind (UnitLeaf w known s) (Below w s.uses) (λ y l. l.0) i q.0, q.1)) is h
   aside_made s (Err e) h = tt
 
-  pass_rooted : (s : ScopedState) (q : Pass Ident Place × ScopedState) (m : Pass Name Name × State) → Together w known [] (UnitInside w known s) (Grows w) (UnitLeaf w known) (UnitPlace w known) (UnitRule w known) (Noted w known s) q m → AsideRooted q.1 q.0.items
+  pass_rooted : (s : ScopedState) (q : Pass Ident FramedIdent × ScopedState) (m : Pass Name Name × State) → Together w known [] (UnitInside w known s) (Grows w) (UnitLeaf w known) (UnitPlace w known) (UnitRule w known) (Noted w known s) q m → AsideRooted q.1 q.0.items
   pass_rooted s q m h = go h.came_to
     where
       go : Came w known [] (UnitInside w known s) (Grows w) (UnitLeaf w known) (UnitPlace w known) (UnitRule w known) (Noted w known s) q.1 q.0 m.0 → AsideRooted q.1 q.0.items
@@ -266,7 +266,7 @@ module _ (w : Era) (known : Known) where
 
   -- ---- the forms gone through
 
-  pub record PassesSame (turns : ℕ) (ts : List (ℕ × Tree Ident)) (ns : List (Note Place)) (s : ScopedState) : Type 0 where
+  pub record PassesSame (turns : ℕ) (ts : List (ℕ × Tree Ident)) (ns : List (Note FramedIdent)) (s : ScopedState) : Type 0 where
     pub same : passes (counted known) turns [] ts ns s ≡ passes (scoped known) turns [] ts ns s
     pub unit_state : UnitState w known (passes (scoped known) turns [] ts ns s).1
     pub grows : Grows w s (passes (scoped known) turns [] ts ns s).1
@@ -274,11 +274,11 @@ module _ (w : Era) (known : Known) where
     pub locals : LocalsKept w (passes (scoped known) turns [] ts ns s).1
     pub sets : AllOf (SetStands (passes (scoped known) turns [] ts ns s).1) (passes (scoped known) turns [] ts ns s).0
 
-  pub passes_same : (turns : ℕ) (ts : List (ℕ × Tree Ident)) (ns : List (Note Place)) (s : ScopedState) → UnitState w known s → Formed s.places s.definitions → LocalsKept w s → AllOf (FormHeld w known s) ts → AllOf (NoteAll (UnitPlace w known s)) ns → PassesSame turns ts ns s
+  pub passes_same : (turns : ℕ) (ts : List (ℕ × Tree Ident)) (ns : List (Note FramedIdent)) (s : ScopedState) → UnitState w known s → Formed s.places s.definitions → LocalsKept w s → AllOf (FormHeld w known s) ts → AllOf (NoteAll (UnitPlace w known s)) ns → PassesSame turns ts ns s
   passes_same turns [] ns s k fd l h hn = record { same = refl; unit_state = k; grows = grows_itself w s; formed = fd; locals = l; sets = tt }
   passes_same turns (t ∷ ts) ns s k fd l h hn =
       let s1 = turned t.0 s in
-      let p : Pending Ident Place = record { todo = record { here = None; tree = t.1 } ∷ []; aside = []; notes = ns } in
+      let p : Pending Ident FramedIdent = record { todo = record { here = None; tree = t.1 } ∷ []; aside = []; notes = ns } in
       let r = run (scoped known) turns [] p s1 in
       let k1 : UnitState w known s1 = record { fine = k.fine; entries = k.entries } in
       let together = forms_law w known [] (UnitInside w known s1) (Grows w) (UnitLeaf w known) (UnitPlace w known) (UnitRule w known) (Noted w known s1) (unit_facts w known s1) turns p s1 false [] (k1, refl, grows_itself w s1) ((h.0, tt), tt, hn) in
@@ -286,7 +286,7 @@ module _ (w : Era) (known : Known) where
       let one = run_same w known every s1 (form_begins w s1 k.fine.0 fd l k.fine.1.stands k.entries) turns t.1 h.0 ns hn in
       let rest = passes_same turns ts r.0.notes r.1 done.unit_state one.holds.formed (locals_later w s1 s1.form r.1 one.holds) (forms_later w known turns s1 r.1 done.grows ts h.1) done.stood in
       record {
-        same = ap (λ (q : Pass Ident Place × ScopedState). let after = passes (counted known) turns [] ts q.0.notes q.1 in ((t.0, q.0.items) ∷ after.0, after.1)) one.same ∙ ap (λ (after : List (ℕ × Aside Ident) × ScopedState). ((t.0, r.0.items) ∷ after.0, after.1)) rest.same;
+        same = ap (λ (q : Pass Ident FramedIdent × ScopedState). let after = passes (counted known) turns [] ts q.0.notes q.1 in ((t.0, q.0.items) ∷ after.0, after.1)) one.same ∙ ap (λ (after : List (ℕ × Aside Ident) × ScopedState). ((t.0, r.0.items) ∷ after.0, after.1)) rest.same;
         unit_state = rest.unit_state;
         grows = grows_then w s r.1 (passes (scoped known) turns [] ts r.0.notes r.1).1 done.grows rest.grows;
         formed = rest.formed;

@@ -15,7 +15,7 @@ use Rattle.scheme_model.specs.Steps.{Step, ◌>>=◌, done, fails}
 use Rattle.scheme_model.specs.Order.{Here, Transformer, Note, Compared, is_some, target_of, head_of, counting, comparisons, used, use_of, max_uses, max_nodes}
 use Rattle.scheme_model.specs.Expression.{node}
 use Rattle.scheme_model.specs.Substitution.{note_map}
-use Rattle.scheme_model.specs.ScopedExpansion.{Frames, Place, ScopedState, next_number, means_at, macro_at}
+use Rattle.scheme_model.specs.ScopedExpansion.{Frames, FramedIdent, ScopedState, next_number, means_at, macro_at}
 use Rattle.scheme_model.specs.Renaming.{chosen_map, pair_map}
 use Rattle.scheme_model.proofs.RenamingLaws.{Finds, finds, map_after, map_turned}
 use Rattle.scheme_model.proofs.RulesLaws.{role_of-map, dots_of-map}
@@ -139,7 +139,7 @@ module _ (c : Setting) (x : Side c) where
           go true = by_choice (next_number s.0 s.0.uses) (c.next_use s.0 s.1) ((over c).begin_use m.env s) over_chosen side_chosen chosen_found
           go false = goes refl
 
-  abbrev compared_as : D c → Transformer (D c) (B c) → T c → Ident × Ident → Note Place
+  abbrev compared_as : D c → Transformer (D c) (B c) → T c → Ident × Ident → Note FramedIdent
   compared_as e m s q = Compared (record { frames = m.env.0; ident = q.0 }) (record { frames = e.0; ident = q.1 }) (same_meaning (x.means m.env.0 s.0 q.0) (x.means e.0 s.0 q.1))
 
   pub comparisons_goes : (e : D c) (m : Transformer (D c) (B c)) (ts : Trees (B c)) (tail : Tail (B c)) (s : T c)

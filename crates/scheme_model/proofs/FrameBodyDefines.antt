@@ -9,7 +9,7 @@ use Rattle.scheme_model.specs.RulesShape.{rules_map, option_map}
 use Rattle.scheme_model.specs.Order.{Note, LookedUp, Compared, Pending, is_some}
 use Rattle.scheme_model.specs.Substitution.{Defined, defined_in, form_map, item_map, note_map, pending_map, meaning, deep, asks, any, differ, is_refused, is_mine, is_among, is_own, rules_mapped, own_rules}
 use Rattle.scheme_model.specs.Scopes.{defined_or}
-use Rattle.scheme_model.specs.ScopedExpansion.{Frames, BodyDefinitions, Place, ScopedMacro, ScopedState, find, next_number, means_inside, means_outside, means_at}
+use Rattle.scheme_model.specs.ScopedExpansion.{Frames, BodyDefinitions, FramedIdent, ScopedMacro, ScopedState, find, next_number, means_inside, means_outside, means_at}
 use Rattle.scheme_model.specs.FrameImages.{is_before, is_older, entered_as, before_definition, image_inside, image_outside, frame_image}
 use Rattle.scheme_model.proofs.OpenBodies.{NotYet, Entered, PlacesIn, DefinitionsBelow, FramesOk, Other}
 use Rattle.scheme_model.proofs.FrameEras.{Before, below_counted}
@@ -32,7 +32,7 @@ notes_fused : {L M N : Type 0} (g : M → N) (h : L → M) (n : Note L) → note
 notes_fused g h (LookedUp l head keyword) = refl
 notes_fused g h (Compared l j held) = refl
 
-pending_fused : (g : Name → Name) (f : Ident → Name) (h : Place → Name) (p : Pending Ident Place) → pending_map g g (pending_map f h p) ≡ pending_map (λ i. g (f i)) (λ l. g (h l)) p
+pending_fused : (g : Name → Name) (f : Ident → Name) (h : FramedIdent → Name) (p : Pending Ident FramedIdent) → pending_map g g (pending_map f h p) ≡ pending_map (λ i. g (f i)) (λ l. g (h l)) p
 pending_fused g f h p =
     let a = map_after (form_map g) (form_map f) (form_map (λ i. g (f i))) (form_fused Ident Name Name g f) p.todo in
     let b = map_after (item_map g) (item_map f) (item_map (λ i. g (f i))) (item_fused Ident Name Name g f) p.aside in
@@ -73,7 +73,7 @@ module _ (worked : ℕ → Bool) (known : Known) (s0 : ScopedState) (f0 : Fine (
   abbrev mine : BodyDefinitions → List Number
   mine ds = mine_of worked known s0 f0 c st0 ds
 
-  abbrev Stood : ScopedState → Place → Type 0
+  abbrev Stood : ScopedState → FramedIdent → Type 0
   Stood v l = PlaceIn worked known s0 f0 c st0 v l
 
   abbrev X : Name
@@ -102,7 +102,7 @@ module _ (worked : ℕ → Bool) (known : Known) (s0 : ScopedState) (f0 : Fine (
 
   -- ---- what asks x
 
-  asks_place : (l : Place) → Stood t l → asks X (placed t l) ≡ comes_to body x t.places t.definitions l.frames l.ident
+  asks_place : (l : FramedIdent) → Stood t l → asks X (placed t l) ≡ comes_to body x t.places t.definitions l.frames l.ident
   asks_place l (inl q) = subst (λ (fs : Frames). asks X (frame_image t.places t.definitions fs l.ident) ≡ comes_to body x t.places t.definitions fs l.ident) (sym q.0) (asks_image body s0.uses c t.places t.definitions s0.bodies in_places is_young in_definitions in_frames x l.ident q.1.1)
   asks_place l (inr q) = asks_far body s0.uses c t.places t.definitions s0.bodies in_places is_young in_definitions in_frames x l.frames (other l.frames q.0) l.ident (below_counted (era worked s0) s0.uses l.ident q.1)
 
@@ -114,28 +114,28 @@ module _ (worked : ℕ → Bool) (known : Known) (s0 : ScopedState) (f0 : Fine (
       go (Some d) e = inr (outside_far body s0.uses c t.places t.definitions s0.bodies in_places is_young in_definitions in_frames x (Inserted i k) (below_counted (era worked s0) s0.uses (Inserted i k) (o.table k.unit (Inserted i k) (ap is_some e))))
 
   -- what it means once x is added
-  abbrev added_means : Place → Meaning
+  abbrev added_means : FramedIdent → Meaning
   added_means l = means_inside later l.frames l.ident (means_outside t.table t.entry t.places later l.ident)
 
-  means_added : (l : Place) → Stood t l → added_means l ≡ cond (asks X (placed t l)) (Local v) (means_at t l.frames l.ident)
+  means_added : (l : FramedIdent) → Stood t l → added_means l ≡ cond (asks X (placed t l)) (Local v) (means_at t l.frames l.ident)
   means_added l h =
       means_with body x v t.definitions t.table t.entry t.places unasked l.frames l.ident ∙ ap (λ z. cond z (Local v) (means_at t l.frames l.ident)) (sym (asks_place l h))
 
-  pub now_same : (l : Place) → Stood t l → meaning t.table t.entry (deep X v (placed t l)) ≡ added_means l
+  pub now_same : (l : FramedIdent) → Stood t l → meaning t.table t.entry (deep X v (placed t l)) ≡ added_means l
   now_same l h = meaning_deep t.table t.entry X v (placed t l) ∙ ap (cond (asks X (placed t l)) (Local v)) (names_mean (era worked s0) t o.fine l.frames l.ident) ∙ sym (means_added l h)
 
-  binders_of : (l : Place) → Stood t l → BindersCounted (era worked s0) t.locals l.frames
+  binders_of : (l : FramedIdent) → Stood t l → BindersCounted (era worked s0) t.locals l.frames
   binders_of l (inl q) = subst (BindersCounted (era worked s0) t.locals) (sym q.0) (stands_in worked known s0 f0 c st0 t o).1
   binders_of l (inr q) = binders_more (era worked s0) s0.locals t.locals o.grows.locals l.frames q.2
 
   -- nothing means the next local's number yet
-  fresh : (l : Place) → Stood t l → same_meaning (means_at t l.frames l.ident) (Local v) ≡ false
+  fresh : (l : FramedIdent) → Stood t l → same_meaning (means_at t l.frames l.ident) (Local v) ≡ false
   fresh l h =
       not_next (era worked s0) t.locals v (next_new (era worked s0) t o.fine t.locals) (means_at t l.frames l.ident)
       (inside_counted (era worked s0) t.locals t.definitions o.fine.1.binders l.frames (binders_of l h) l.ident (means_outside t.table t.entry t.places t.definitions l.ident)
       (outside_counted (era worked s0) t.locals t.table t.entry o.fine.1.entries t.places o.fine.1.places t.definitions o.fine.1.binders l.ident))
 
-  pub asked_same : (l : Place) → Stood t l → asks X (placed t l) ≡ same_meaning (added_means l) (Local v)
+  pub asked_same : (l : FramedIdent) → Stood t l → asks X (placed t l) ≡ same_meaning (added_means l) (Local v)
   asked_same l h = go (asks X (placed t l)) ∙ ap (λ m. same_meaning m (Local v)) (sym (means_added l h))
     where
       go : (z : Bool) → z ≡ same_meaning (cond z (Local v) (means_at t l.frames l.ident)) (Local v)
@@ -178,14 +178,14 @@ module _ (worked : ℕ → Bool) (known : Known) (s0 : ScopedState) (f0 : Fine (
   -- ---- what is left, once x is defined
 
   module _ (free : find t.definitions body x ≡ None) where
-    place_defined : (l : Place) → Stood t l → deep X v (placed t l) ≡ frame_image t.places later l.frames l.ident
+    place_defined : (l : FramedIdent) → Stood t l → deep X v (placed t l) ≡ frame_image t.places later l.frames l.ident
     place_defined l (inl q) = subst (λ (fs : Frames). deep X v (frame_image t.places t.definitions fs l.ident) ≡ frame_image t.places later fs l.ident) (sym q.0) (defined_image body s0.uses c t.places t.definitions s0.bodies in_places is_young in_definitions in_frames x v free l.ident q.1.1)
     place_defined l (inr q) = far body s0.uses c t.places t.definitions s0.bodies in_places is_young in_definitions in_frames x v free l.frames (other l.frames q.0) l.ident (below_counted (era worked s0) s0.uses l.ident q.1)
 
     leaf_defined : (i : Ident) → Leaf worked known s0 f0 c st0 t i → deep X v (names t frames i) ≡ frame_image t.places later frames i
     leaf_defined i h = place_defined (record { frames = frames; ident = i }) (inl (refl, h))
 
-    pub pending_defined : (p : Pending Ident Place) → PendingHeld (Leaf worked known s0 f0 c st0 t) (Stood t) p
+    pub pending_defined : (p : Pending Ident FramedIdent) → PendingHeld (Leaf worked known s0 f0 c st0 t) (Stood t) p
         → pending_map (deep X v) (deep X v) (pending_map (names t frames) (placed t) p) ≡ pending_map (frame_image t.places later frames) (λ l. frame_image t.places later l.frames l.ident) p
     pending_defined p h =
         pending_fused (deep X v) (names t frames) (placed t) p

@@ -10,7 +10,7 @@ use Rattle.scheme_model.specs.RulesShape.{Rules, rules_map, option_map}
 use Rattle.scheme_model.specs.Cores.{LocalNumber, Definition}
 use Rattle.scheme_model.specs.Order.{Here, Note, Pending, Transformer, is_some, told}
 use Rattle.scheme_model.specs.Substitution.{State, at_form, note_map, pending_map, any, refused_in_body, is_own, rules_mapped, own_rules, with_macro, meaning, deep, asks, defined_local, define_in_body, is_plain, is_variable, defined_in, definition_count, model}
-use Rattle.scheme_model.specs.ScopedExpansion.{Frames, BodyDefinitions, Place, ScopedMacro, ScopedState, find, next_number, means_at, macro_at, macro_added, definition_added, refused_now, define_at}
+use Rattle.scheme_model.specs.ScopedExpansion.{Frames, BodyDefinitions, FramedIdent, ScopedMacro, ScopedState, find, next_number, means_at, macro_at, macro_added, definition_added, refused_now, define_at}
 use Rattle.scheme_model.proofs.OpenBodies.{Before as Counted, Below as BelowCounted, Entered}
 use Rattle.scheme_model.proofs.FrameEras.{Before, Below, below_counted, frames_entered}
 use Rattle.scheme_model.proofs.IdentLaws.{number_itself, ident_told}
@@ -47,7 +47,7 @@ module _ (worked : ℕ → Bool) (known : Known) (s0 : ScopedState) (f0 : Fine (
   abbrev Stands_here : ScopedState → Ident → Type 0
   Stands_here t i = Leaf worked known s0 f0 c st0 t i
 
-  abbrev Stood : ScopedState → Place → Type 0
+  abbrev Stood : ScopedState → FramedIdent → Type 0
   Stood t l = PlaceIn worked known s0 f0 c st0 t l
 
   abbrev Rule_leaf : ScopedState → Transformer Frames Ident → Ident → Type 0
@@ -57,7 +57,7 @@ module _ (worked : ℕ → Bool) (known : Known) (s0 : ScopedState) (f0 : Fine (
   abbrev pub Any : ScopedState → ScopedState → Type 0
   Any s t = Unit {0}
 
-  abbrev pub Dropped : ScopedState → List (Note Place) → List (Note Name) → Type 0
+  abbrev pub Dropped : ScopedState → List (Note FramedIdent) → List (Note Name) → Type 0
   Dropped t ns ms = Unit {0}
 
   -- ---- a definition
@@ -73,7 +73,7 @@ module _ (worked : ℕ → Bool) (known : Known) (s0 : ScopedState) (f0 : Fine (
     then_ = definition_added (Some body) x r frames t
 
     -- refused by a note
-    refused : (p : Pending Ident Place) → PendingHeld (Stands_here t) (Stood t) p
+    refused : (p : Pending Ident FramedIdent) → PendingHeld (Stands_here t) (Stood t) p
         → any (refused_in_body (view true (mine t.definitions) t) X v (is_some (option_map (rules_map (names t frames)) r))) (map (note_map (placed t)) p.notes) ≡ any (refused_now then_ (Local v) (is_some r)) p.notes
     refused p h =
         ap (λ z. any (refused_in_body (view true (mine t.definitions) t) X v z) (map (note_map (placed t)) p.notes)) (some_same (rules_map (names t frames)) r)
@@ -173,13 +173,13 @@ module _ (worked : ℕ → Bool) (known : Known) (s0 : ScopedState) (f0 : Fine (
       state_then : defined_local X (option_map (rules_map (names t frames)) r) (view true (mine t.definitions) t) ≡ view true (mine then_.definitions) then_
       state_then = let m = macros_then r hr in let n = mine_then in λ j. record (view true (mine then_.definitions) then_) { macros = m j; mine = n j }
 
-    abbrev Left : ScopedState → Pending Ident Place → Pending Name Name → Type 0
+    abbrev Left : ScopedState → Pending Ident FramedIdent → Pending Name Name → Type 0
     Left z q q' = PendingHeld (Stands_here z) (Stood z) q × (q' ≡ pending_map (names z frames) (placed z) q)
 
-    abbrev Goal : Here → Pending Ident Place → Result (Pending Ident Place) (Fault Ident) × ScopedState → Result (Pending Name Name) (Fault Ident) × State → Type 0
+    abbrev Goal : Here → Pending Ident FramedIdent → Result (Pending Ident FramedIdent) (Fault Ident) × ScopedState → Result (Pending Name Name) (Fault Ident) × State → Type 0
     Goal here p q m = Agrees (λ z i n. In z i n × Any t z) Left (told here q) (told here m)
 
-    define_cases : (here : Here) (p : Pending Ident Place) → PendingHeld (Stands_here t) (Stood t) p → (y : Bool) (d : Option (Number × BodyDefinitions)) → find t.definitions body x.name ≡ d
+    define_cases : (here : Here) (p : Pending Ident FramedIdent) → PendingHeld (Stands_here t) (Stood t) p → (y : Bool) (d : Option (Number × BodyDefinitions)) → find t.definitions body x.name ≡ d
         → Goal here p (cond y (Err (KeywordRedefined x), t) (cond (is_some d) (Err (Duplicate x), t) (Ok p, then_)))
         (cond y (Err (KeywordRedefined (named (erase X) x.occ)), view true (mine t.definitions) t) (cond (is_some d) (Err (Duplicate (named (erase X) x.occ)), view true (mine t.definitions) t)
         (Ok (pending_map (deep X v) (deep X v) (pending_map (names t frames) (placed t) p)), defined_local X (option_map (rules_map (names t frames)) r) (view true (mine t.definitions) t))))
@@ -193,7 +193,7 @@ module _ (worked : ℕ → Bool) (known : Known) (s0 : ScopedState) (f0 : Fine (
         agree p (pending_map (deep X v) (deep X v) (pending_map (names t frames) (placed t) p)) then_ true (mine then_.definitions) refl
         (ap (λ s. (Ok (pending_map (deep X v) (deep X v) (pending_map (names t frames) (placed t) p)), s)) (state_then e)) ((opened_then e, refl, refl), tt) (h, pending_defined worked known s0 f0 c st0 t o x.name e p h)
 
-    define_law : (here : Here) (p : Pending Ident Place) → PendingHeld (Stands_here t) (Stood t) p
+    define_law : (here : Here) (p : Pending Ident FramedIdent) → PendingHeld (Stands_here t) (Stood t) p
         → Goal here p (define_at (Some body) x r frames p t) (define_in_body (named X x.occ) (option_map (rules_map (names t frames)) r) (pending_map (names t frames) (placed t) p) (view true (mine t.definitions) t))
     define_law here p h =
         agrees_at refl

@@ -11,7 +11,7 @@ use Rattle.scheme_model.specs.Cores.{LocalNumber, Binder}
 use Rattle.scheme_model.specs.Steps.{Broken, Step, ◌>>=◌, done}
 use Rattle.scheme_model.specs.Order.{Here, Form, Item, Value, Function, Assigned, AssignedFunction, ValuesOf, Record, Note, Pending, Pass, Transformer, binder_at, told, put, first, names_at, next_name, define_next, define_all, define_names, fields_bound, position, modifiers, modified, is_some, record_names, record_part, caught, run_variable, run_function, run_define, values_put, run_values, run_record}
 use Rattle.scheme_model.specs.Substitution.{State, at_form, form_map, item_map, note_map, clause_map, model}
-use Rattle.scheme_model.specs.ScopedExpansion.{Frames, Place, ScopedState, next_number, scoped}
+use Rattle.scheme_model.specs.ScopedExpansion.{Frames, FramedIdent, ScopedState, next_number, scoped}
 use Rattle.scheme_model.specs.Renaming.{formals_map, definition_map, field_map, record_map}
 use Rattle.scheme_model.proofs.FrameEras.{Era}
 use Rattle.scheme_model.proofs.RenamingLaws.{map-append, map_turned, append_map}
@@ -76,15 +76,15 @@ module _ (A B : Type 0) (f : A → B) where
 
 -- ---- definitions
 
-module _ (w : Era) (known : Known) (fs : Frames) (Inside : ScopedState → Bool → List Number → Type 0) (Trail : ScopedState → ScopedState → Type 0) (Leaf : ScopedState → Ident → Type 0) (PlaceIn : ScopedState → Place → Type 0) (RuleLeaf : ScopedState → Transformer Frames Ident → Ident → Type 0) (Ended : ScopedState → List (Note Place) → List (Note Name) → Type 0)
+module _ (w : Era) (known : Known) (fs : Frames) (Inside : ScopedState → Bool → List Number → Type 0) (Trail : ScopedState → ScopedState → Type 0) (Leaf : ScopedState → Ident → Type 0) (PlaceIn : ScopedState → FramedIdent → Type 0) (RuleLeaf : ScopedState → Transformer Frames Ident → Ident → Type 0) (Ended : ScopedState → List (Note FramedIdent) → List (Note Name) → Type 0)
     (facts : PlaceFacts w known fs Inside Trail Leaf PlaceIn RuleLeaf Ended) (f : CodeGo w known fs Inside Trail Leaf PlaceIn RuleLeaf Ended) (g : ModelGo w known fs Inside Trail Leaf PlaceIn RuleLeaf Ended) (law : RunLaw w known fs Inside Trail Leaf PlaceIn RuleLeaf Ended f g) (here : Here) where
-  abbrev seen : ScopedState → Pending Ident Place → Pending Name Name
+  abbrev seen : ScopedState → Pending Ident FramedIdent → Pending Name Name
   seen t p = seen_pending w known fs Inside Trail Leaf PlaceIn RuleLeaf Ended t p
 
-  abbrev HeldAt : ScopedState → Pending Ident Place → Type 0
+  abbrev HeldAt : ScopedState → Pending Ident FramedIdent → Type 0
   HeldAt t p = PendingHeld (Leaf t) (PlaceIn t) p
 
-  abbrev Both : Pass Ident Place × ScopedState → Pass Name Name × State → Type 0
+  abbrev Both : Pass Ident FramedIdent × ScopedState → Pass Name Name × State → Type 0
   Both q m = Together w known fs Inside Trail Leaf PlaceIn RuleLeaf Ended q m
 
   abbrev At : ScopedState → ScopedState → Bool → List Number → Type 0
@@ -93,7 +93,7 @@ module _ (w : Era) (known : Known) (fs : Frames) (Inside : ScopedState → Bool 
   on_itself : (s : ScopedState) → Trail s s
   on_itself s = facts.trail s s (grows_itself w s)
 
-  module _ (s : ScopedState) (i : Bool) (n : List Number) (k : Inside s i n) (p : Pending Ident Place) (h : HeldAt s p) where
+  module _ (s : ScopedState) (i : Bool) (n : List Number) (k : Inside s i n) (p : Pending Ident FramedIdent) (h : HeldAt s p) where
     -- a definition, and its item set aside
     one_law : (x : Named Ident) → Leaf s x.name → (t : Item Ident) (t' : Item Name) → t' ≡ item_map (names s fs) t → ItemHeld (Leaf s) t
         → Both (caught p.notes (told here ((scoped known).define x None fs (put t p) s)) f) (caught (map (note_map (placed s)) p.notes) (told here ((model known).define (named_map (names s fs) x) None tt (put t' (seen s p)) (view i n s))) g)
@@ -143,13 +143,13 @@ module _ (w : Era) (known : Known) (fs : Frames) (Inside : ScopedState → Bool 
   -- ---- several names
 
   -- the binders are the same
-  abbrev Several : ScopedState → List Binder × Pending Ident Place → List Binder × Pending Name Name → Type 0
+  abbrev Several : ScopedState → List Binder × Pending Ident FramedIdent → List Binder × Pending Name Name → Type 0
   Several t a b = (b.0 ≡ a.0) × HeldAt t a.1 × (b.1 ≡ seen t a.1)
 
   abbrev AllLaw : List (Named Ident) → List (Named Name) → Type 0
-  AllLaw ns ns' = (p : Pending Ident Place) (s : ScopedState) (i : Bool) (n : List Number) → Inside s i n → HeldAt s p → Agrees (At s) Several (define_all (scoped known) here fs ns p s) (define_all (model known) here tt ns' (seen s p) (view i n s))
+  AllLaw ns ns' = (p : Pending Ident FramedIdent) (s : ScopedState) (i : Bool) (n : List Number) → Inside s i n → HeldAt s p → Agrees (At s) Several (define_all (scoped known) here fs ns p s) (define_all (model known) here tt ns' (seen s p) (view i n s))
 
-  module _ (ns : List (Named Ident)) (ns' : List (Named Name)) (ih : AllLaw ns ns') (s : ScopedState) (i : Bool) (n : List Number) (k : Inside s i n) (p : Pending Ident Place) (h : HeldAt s p) where
+  module _ (ns : List (Named Ident)) (ns' : List (Named Name)) (ih : AllLaw ns ns') (s : ScopedState) (i : Bool) (n : List Number) (k : Inside s i n) (p : Pending Ident FramedIdent) (h : HeldAt s p) where
     next_is : (t : Tree Ident) → TreeAll (Leaf s) t → (hr : Here) (todo : List (Form Ident)) → AllOf (FormAll (Leaf s)) todo
         → Agrees (At s) Several (define_next (scoped known) here fs (define_all (scoped known) here fs ns) p (next_name p (record { here = hr; tree = t } ∷ todo)) s)
         (define_next (model known) here tt (define_all (model known) here tt ns') (seen s p) (next_name (seen s p) (record { here = hr; tree = map_tree (names s fs) t } ∷ map (form_map (names s fs)) todo)) (view i n s))
@@ -175,7 +175,7 @@ module _ (w : Era) (known : Known) (fs : Frames) (Inside : ScopedState → Bool 
   names_held P [] l = tt
   names_held P (x ∷ ns) l = (l.0, names_held P ns l.1)
 
-  pub names_law : (ns : List (Named Ident)) (xs : List (Form Ident)) (p : Pending Ident Place) (s : ScopedState) (i : Bool) (n : List Number) → Inside s i n → HeldAt s p → AllOf (λ (x : Named Ident). Leaf s x.name) ns → AllOf (FormAll (Leaf s)) xs
+  pub names_law : (ns : List (Named Ident)) (xs : List (Form Ident)) (p : Pending Ident FramedIdent) (s : ScopedState) (i : Bool) (n : List Number) → Inside s i n → HeldAt s p → AllOf (λ (x : Named Ident). Leaf s x.name) ns → AllOf (FormAll (Leaf s)) xs
       → Agrees (At s) Several (define_names (scoped known) here fs ns xs p s) (define_names (model known) here tt (map (named_map (names s fs)) ns) (map (form_map (names s fs)) xs) (seen s p) (view i n s))
   names_law ns xs p s i n k h l lx =
       let e = ap (λ zs. zs ++ map (form_map (names s fs)) xs) (names_at-map Ident Name (names s fs) here ns) ∙ sym (map-append (form_map (names s fs)) (names_at here ns) xs) in
@@ -188,7 +188,7 @@ module _ (w : Era) (known : Known) (fs : Frames) (Inside : ScopedState → Bool 
   each_name P (x ∷ ns) = (x.name.1, each_name P ns)
 
   -- the value is the first of what is left
-  values_go : (bs bs' : List Binder) (rest : Bool) → bs' ≡ bs → (q : Pending Ident Place) (t : ScopedState) (i : Bool) (n : List Number) → Inside t i n → HeldAt t q → (todo : List (Form Ident)) → AllOf (FormAll (Leaf t)) todo
+  values_go : (bs bs' : List Binder) (rest : Bool) → bs' ≡ bs → (q : Pending Ident FramedIdent) (t : ScopedState) (i : Bool) (n : List Number) → Inside t i n → HeldAt t q → (todo : List (Form Ident)) → AllOf (FormAll (Leaf t)) todo
       → Both (f (values_put bs rest q todo) t) (g (values_put bs' rest (seen t q) (map (form_map (names t fs)) todo)) (view i n t))
   values_go bs bs' rest e q t i n k h [] l = law q t i n k h
   values_go bs bs' rest e q t i n k h (x ∷ xs) l =
@@ -200,7 +200,7 @@ module _ (w : Era) (known : Known) (fs : Frames) (Inside : ScopedState → Bool 
       form_item : (y : Form Ident) → FormAll (Leaf t) y → ItemHeld (Leaf t) (ValuesOf (record { names = bs; rest = rest }) y)
       form_item y m = (record { made = ValuesOf (record { names = bs; rest = rest }) (record { here = y.here; tree = lift_tree (Leaf t) y.tree m }); same = ap (λ u. ValuesOf (record { names = bs; rest = rest }) (record { here = y.here; tree = u })) (lifted_tree (Leaf t) y.tree m) }, tt)
 
-  module _ (s : ScopedState) (i : Bool) (n : List Number) (k : Inside s i n) (p : Pending Ident Place) (h : HeldAt s p) where
+  module _ (s : ScopedState) (i : Bool) (n : List Number) (k : Inside s i n) (p : Pending Ident FramedIdent) (h : HeldAt s p) where
     values_over : (d : Formals (Holding (Leaf s)) × Tree (Holding (Leaf s)))
         → Both (run_values (scoped known) f here fs p (formals_map (held (Leaf s)) d.0, map_tree (held (Leaf s)) d.1) s)
         (run_values (model known) g here tt (seen s p) (formals_map (names s fs) (formals_map (held (Leaf s)) d.0), map_tree (names s fs) (map_tree (held (Leaf s)) d.1)) (view i n s))
@@ -236,13 +236,13 @@ module _ (w : Era) (known : Known) (fs : Frames) (Inside : ScopedState → Bool 
   grown_bind {go = go} s go' (break x t i n e d k) next = break x t i n (ap (λ y. y >>= go) e) (ap (λ y. y >>= go') d) (k.0, facts.trail s t k.1)
 
   -- what the names of a record come to: the binders of its fields, and of the rest
-  abbrev RecordLeft : ScopedState → List Binder × (List Binder × Pending Ident Place) → List Binder × (List Binder × Pending Name Name) → Type 0
+  abbrev RecordLeft : ScopedState → List Binder × (List Binder × Pending Ident FramedIdent) → List Binder × (List Binder × Pending Name Name) → Type 0
   RecordLeft t a b = (b.0 ≡ a.0) × Several t a.1 b.1
 
   record_names_held : (P : Ident → Type 0) (r : RecordShape (Holding P)) → AllOf (λ (x : Named Ident). P x.name) (record_names (record_map (held P) r))
   record_names_held P r = subst (AllOf (λ (x : Named Ident). P x.name)) (sym (record_names-map (Holding P) Ident (held P) r)) (each_name P (record_names r))
 
-  module _ (s : ScopedState) (i : Bool) (n : List Number) (k : Inside s i n) (p : Pending Ident Place) (h : HeldAt s p) (r0 : RecordShape (Holding (Leaf s))) where
+  module _ (s : ScopedState) (i : Bool) (n : List Number) (k : Inside s i n) (p : Pending Ident FramedIdent) (h : HeldAt s p) (r0 : RecordShape (Holding (Leaf s))) where
     abbrev shape : RecordShape Ident
     shape = record_map (held (Leaf s)) r0
 
@@ -279,6 +279,6 @@ module _ (w : Era) (known : Known) (fs : Frames) (Inside : ScopedState → Bool 
         ∙ ap (λ y. g (put (Record y) (seen t a.1.1)) (view i1 n1 t)) (record_part-map Ident Name (names s fs) same_ident same_name (same_frame_image s.places s.definitions fs) shape a.1.0 a.0))
         (put_law w known fs Inside Trail Leaf PlaceIn RuleLeaf Ended facts f g law t i1 n1 k1 a.1.1 e.1.1 (Record (record_part same_ident shape a.1.0 a.0)) (record { made = Record (record_part same_ident shape a.1.0 a.0); same = refl }, tt)))
 
-  pub record_law : (s : ScopedState) (i : Bool) (n : List Number) → Inside s i n → (p : Pending Ident Place) → HeldAt s p → (r : RecordShape Ident) → Held record_kind (Leaf s) r
+  pub record_law : (s : ScopedState) (i : Bool) (n : List Number) → Inside s i n → (p : Pending Ident FramedIdent) → HeldAt s p → (r : RecordShape Ident) → Held record_kind (Leaf s) r
       → Both (run_record (scoped known) f here fs p r s) (run_record (model known) g here tt (seen s p) (record_map (names s fs) r) (view i n s))
   record_law s i n k p h r q = subst (λ (e : RecordShape Ident). Both (run_record (scoped known) f here fs p e s) (run_record (model known) g here tt (seen s p) (record_map (names s fs) e) (view i n s))) q.same (record_over s i n k p h q.made)

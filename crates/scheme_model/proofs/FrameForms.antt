@@ -14,7 +14,7 @@ use Rattle.scheme_model.specs.Cores.{Target}
 use Rattle.scheme_model.specs.Steps.{Broken}
 use Rattle.scheme_model.specs.Order.{Here, Form, Expression, Note, LookedUp, Compared, Pending, Pass, Transformer, is_some, head_of, target_of, here_at, comparisons, use_of, put, noted, first, caught, or_none, splice, read_then, run_define, run_values, run_record, run_syntax, run_core, run_use, run_head, run_form, run_next, run}
 use Rattle.scheme_model.specs.Substitution.{State, at_form, form_map, item_map, note_map, model}
-use Rattle.scheme_model.specs.ScopedExpansion.{Frames, Place, ScopedState, means_at, macro_at, scoped}
+use Rattle.scheme_model.specs.ScopedExpansion.{Frames, FramedIdent, ScopedState, means_at, macro_at, scoped}
 use Rattle.scheme_model.specs.Renaming.{Renames, pair_map}
 use Rattle.scheme_model.proofs.FrameEras.{Era}
 use Rattle.scheme_model.proofs.RulesLaws.{role_of-map, dots_of-map}
@@ -57,15 +57,15 @@ over P = record { same = λ p q. same_ident p.0 q.0; strip = λ p. symbol_of p.0
 over_told : (P : Ident → Type 0) → Renames (held P) (over P) identifiers
 over_told P = record { same = λ p q. refl; strip = λ p. refl }
 
-module _ (w : Era) (known : Known) (fs : Frames) (Inside : ScopedState → Bool → List Number → Type 0) (Trail : ScopedState → ScopedState → Type 0) (Leaf : ScopedState → Ident → Type 0) (PlaceIn : ScopedState → Place → Type 0) (RuleLeaf : ScopedState → Transformer Frames Ident → Ident → Type 0) (Ended : ScopedState → List (Note Place) → List (Note Name) → Type 0)
+module _ (w : Era) (known : Known) (fs : Frames) (Inside : ScopedState → Bool → List Number → Type 0) (Trail : ScopedState → ScopedState → Type 0) (Leaf : ScopedState → Ident → Type 0) (PlaceIn : ScopedState → FramedIdent → Type 0) (RuleLeaf : ScopedState → Transformer Frames Ident → Ident → Type 0) (Ended : ScopedState → List (Note FramedIdent) → List (Note Name) → Type 0)
     (facts : PlaceFacts w known fs Inside Trail Leaf PlaceIn RuleLeaf Ended) where
-  abbrev seen : ScopedState → Pending Ident Place → Pending Name Name
+  abbrev seen : ScopedState → Pending Ident FramedIdent → Pending Name Name
   seen t p = seen_pending w known fs Inside Trail Leaf PlaceIn RuleLeaf Ended t p
 
-  abbrev HeldAt : ScopedState → Pending Ident Place → Type 0
+  abbrev HeldAt : ScopedState → Pending Ident FramedIdent → Type 0
   HeldAt t p = PendingHeld (Leaf t) (PlaceIn t) p
 
-  abbrev Both : Pass Ident Place × ScopedState → Pass Name Name × State → Type 0
+  abbrev Both : Pass Ident FramedIdent × ScopedState → Pass Name Name × State → Type 0
   Both q m = Together w known fs Inside Trail Leaf PlaceIn RuleLeaf Ended q m
 
   abbrev Scoped_go : Type 0
@@ -77,23 +77,23 @@ module _ (w : Era) (known : Known) (fs : Frames) (Inside : ScopedState → Bool 
   abbrev Runs : Scoped_go → Model_go → Type 0
   Runs f g = RunLaw w known fs Inside Trail Leaf PlaceIn RuleLeaf Ended f g
 
-  at : {q q' : Pass Ident Place × ScopedState} {m m' : Pass Name Name × State} → q' ≡ q → m' ≡ m → Both q m → Both q' m'
+  at : {q q' : Pass Ident FramedIdent × ScopedState} {m m' : Pass Name Name × State} → q' ≡ q → m' ≡ m → Both q m → Both q' m'
   at e d h = together_at w known fs Inside Trail Leaf PlaceIn RuleLeaf Ended e d h
 
   module _ (f : Scoped_go) (g : Model_go) (law : Runs f g) (here : Here) where
     -- ---- a form that is an expression
 
-    expression_law : (s : ScopedState) (i : Bool) (n : List Number) → Inside s i n → (p : Pending Ident Place) → HeldAt s p → (x : Form Ident) → FormAll (Leaf s) x → Both (f (put (Expression x) p) s) (g (put (Expression (form_map (names s fs) x)) (seen s p)) (view i n s))
+    expression_law : (s : ScopedState) (i : Bool) (n : List Number) → Inside s i n → (p : Pending Ident FramedIdent) → HeldAt s p → (x : Form Ident) → FormAll (Leaf s) x → Both (f (put (Expression x) p) s) (g (put (Expression (form_map (names s fs) x)) (seen s p)) (view i n s))
     expression_law s i n k p h x l = put_law w known fs Inside Trail Leaf PlaceIn RuleLeaf Ended facts f g law s i n k p h (Expression x) (expression_held (Leaf s) x l)
 
     -- ---- a core form; its keyword was met
 
-    module _ (s : ScopedState) (i : Bool) (n : List Number) (k : Inside s i n) (p : Pending Ident Place) (h : HeldAt s p) (ts : Trees Ident) (tail : Tail Ident) (l : TreesAll (Leaf s) ts) (e : TailAll (Leaf s) tail) where
-      abbrev readers : (l : Kind) → Reader rest_kind l → (l.of Ident → ScopedState → Pass Ident Place × ScopedState) → (l.of Name → State → Pass Name Name × State) → Type 0
+    module _ (s : ScopedState) (i : Bool) (n : List Number) (k : Inside s i n) (p : Pending Ident FramedIdent) (h : HeldAt s p) (ts : Trees Ident) (tail : Tail Ident) (l : TreesAll (Leaf s) ts) (e : TailAll (Leaf s) tail) where
+      abbrev readers : (l : Kind) → Reader rest_kind l → (l.of Ident → ScopedState → Pass Ident FramedIdent × ScopedState) → (l.of Name → State → Pass Name Name × State) → Type 0
       readers m r go go' = ((a : m.of Ident) → r.read Ident identifiers (ts, tail) ≡ Ok a → Held m (Leaf s) a → Both (go a s) (go' (m.map Ident Name (names s fs) a) (view i n s)))
           → Both (read_then (scoped known) here p (r.read Ident identifiers (ts, tail)) go s) (read_then (model known) here (seen s p) (r.read Name model_names (map_trees (names s fs) ts, map_tail (names s fs) tail)) go' (view i n s))
 
-      reading : (m : Kind) (r : Reader rest_kind m) (go : m.of Ident → ScopedState → Pass Ident Place × ScopedState) (go' : m.of Name → State → Pass Name Name × State) → readers m r go go'
+      reading : (m : Kind) (r : Reader rest_kind m) (go : m.of Ident → ScopedState → Pass Ident FramedIdent × ScopedState) (go' : m.of Name → State → Pass Name Name × State) → readers m r go go'
       reading m r go go' next =
           read_go w known fs Inside Trail Leaf PlaceIn RuleLeaf Ended facts m here s i n k p h (r.read Ident identifiers (ts, tail)) (r.read Name model_names (map_trees (names s fs) ts, map_tail (names s fs) tail)) go go'
           (read_held rest_kind m r (Leaf s) (names s fs) (named_in s fs) (ts, tail) (rest_held (Leaf s) ts tail l e)) next
@@ -120,7 +120,7 @@ module _ (w : Era) (known : Known) (fs : Frames) (Inside : ScopedState → Bool 
 
     -- ---- a macro use
 
-    module _ (s : ScopedState) (i : Bool) (n : List Number) (k : Inside s i n) (p : Pending Ident Place) (h : HeldAt s p) (keyword : Target) (ts : Trees Ident) (tail : Tail Ident) (l : TreesAll (Leaf s) ts) (e : TailAll (Leaf s) tail) where
+    module _ (s : ScopedState) (i : Bool) (n : List Number) (k : Inside s i n) (p : Pending Ident FramedIdent) (h : HeldAt s p) (keyword : Target) (ts : Trees Ident) (tail : Tail Ident) (l : TreesAll (Leaf s) ts) (e : TailAll (Leaf s) tail) where
       module _ (m : Transformer Frames Ident) (mh : MacroHere w known fs Inside Trail Leaf PlaceIn RuleLeaf Ended s i n m) where
         -- what is compared stands in the rules, or in the form
         pairs_held : (qs : List (Holding (RuleLeaf s m) × Holding (Leaf s)))
@@ -138,7 +138,7 @@ module _ (w : Era) (known : Known) (fs : Frames) (Inside : ScopedState → Bool 
             (pairs_held (compared (role_of (over (RuleLeaf s m)) mh.rules.made) (dots_of (over (RuleLeaf s m)) mh.rules.made) mh.rules.made.rules (lift_trees (Leaf s) ts l) (lift_tail (Leaf s) tail e)))
 
         -- what is left, with what was compared
-        abbrev left : Pending Ident Place
+        abbrev left : Pending Ident FramedIdent
         left = noted (comparisons (scoped known) fs m ts tail s) p
 
         left_held : HeldAt s (noted (comparisons (scoped known) fs m ts tail s) p)
@@ -187,7 +187,7 @@ module _ (w : Era) (known : Known) (fs : Frames) (Inside : ScopedState → Bool 
 
     -- ---- a form by its head
 
-    module _ (s : ScopedState) (i : Bool) (n : List Number) (k : Inside s i n) (p : Pending Ident Place) (h : HeldAt s p) (x : Form Ident) (lx : FormAll (Leaf s) x) (ts : Trees Ident) (tail : Tail Ident) (l : TreesAll (Leaf s) ts) (e : TailAll (Leaf s) tail) where
+    module _ (s : ScopedState) (i : Bool) (n : List Number) (k : Inside s i n) (p : Pending Ident FramedIdent) (h : HeldAt s p) (x : Form Ident) (lx : FormAll (Leaf s) x) (ts : Trees Ident) (tail : Tail Ident) (l : TreesAll (Leaf s) ts) (e : TailAll (Leaf s) tail) where
       -- the state in which a keyword was met
       abbrev met : Target → ScopedState
       met t = record s { keywords = at_form s.form (λ ks. t ∷ ks) s.keywords }
@@ -235,7 +235,7 @@ module _ (w : Era) (known : Known) (fs : Frames) (Inside : ScopedState → Bool 
 
     -- ---- any form
 
-    form_law : (s : ScopedState) (i : Bool) (n : List Number) → Inside s i n → (p : Pending Ident Place) → HeldAt s p → (x : Form Ident) → FormAll (Leaf s) x → (t : Tree Ident) → TreeAll (Leaf s) t
+    form_law : (s : ScopedState) (i : Bool) (n : List Number) → Inside s i n → (p : Pending Ident FramedIdent) → HeldAt s p → (x : Form Ident) → FormAll (Leaf s) x → (t : Tree Ident) → TreeAll (Leaf s) t
         → Both (run_form (scoped known) f fs here x t p s) (run_form (model known) g tt here (form_map (names s fs) x) (map_tree (names s fs) t) (seen s p) (view i n s))
     form_law s i n k p h x lx (name y o) l = expression_law s i n k p h x lx
     form_law s i n k p h x lx (atom a o) l = expression_law s i n k p h x lx
@@ -244,7 +244,7 @@ module _ (w : Era) (known : Known) (fs : Frames) (Inside : ScopedState → Bool 
     form_law s i n k p h x lx (list (tree (name y q) ts) tail o) l =
         let hd = head_seen w known s (facts.fine s i n k) i n fs y in let tg = target_seen w known s (facts.fine s i n k) i n fs y q in
         let c = head_of (scoped known) fs s y in
-        let note : List (Note Place) = LookedUp (record { frames = fs; ident = y }) true (is_keyword c) ∷ [] in
+        let note : List (Note FramedIdent) = LookedUp (record { frames = fs; ident = y }) true (is_keyword c) ∷ [] in
         at refl
         ((λ j. run_head (model known) g here tt (hd j) (tg j) (form_map (names s fs) x) (map_trees (names s fs) ts) (map_tail (names s fs) tail) (noted (LookedUp (names s fs y) true (is_keyword (hd j)) ∷ []) (seen s p)) (view i n s))
         ∙ ap (λ z. run_head (model known) g here tt c (target_of (scoped known) fs s y q) (form_map (names s fs) x) (map_trees (names s fs) ts) (map_tail (names s fs) tail) z (view i n s)) (noted_seen (names s fs) (placed s) note p))
@@ -253,7 +253,7 @@ module _ (w : Era) (known : Known) (fs : Frames) (Inside : ScopedState → Bool 
     form_law s i n k p h x lx (list (tree (list us end q) ts) tail o) l = expression_law s i n k p h x lx
     form_law s i n k p h x lx (list (tree (vector us q) ts) tail o) l = expression_law s i n k p h x lx
 
-  next_law : (f : Scoped_go) (g : Model_go) → Runs f g → (todo : List (Form Ident)) (s : ScopedState) (i : Bool) (n : List Number) → Inside s i n → (p : Pending Ident Place) → HeldAt s p → AllOf (FormAll (Leaf s)) todo
+  next_law : (f : Scoped_go) (g : Model_go) → Runs f g → (todo : List (Form Ident)) (s : ScopedState) (i : Bool) (n : List Number) → Inside s i n → (p : Pending Ident FramedIdent) → HeldAt s p → AllOf (FormAll (Leaf s)) todo
       → Both (run_next (scoped known) f fs todo p s) (run_next (model known) g tt (map (form_map (names s fs)) todo) (seen s p) (view i n s))
   next_law f g law [] s i n k p h l = record { in_body = i; mine = n; inside = k; state = refl; came_to = came p.aside refl refl h.1 h.2 refl }
   next_law f g law (x ∷ xs) s i n k p h l =

@@ -7,7 +7,7 @@ use Rattle.scheme_model.specs.ExpansionFaults.{Fault, fault_map}
 use Rattle.scheme_model.specs.RulesShape.{Names}
 use Rattle.scheme_model.specs.Order.{Here, Form, Item, Expression, Value, Function, Assigned, AssignedFunction, ValuesOf, Record, Macro, Note, LookedUp, Compared, Pending, forms_at, put, noted, first}
 use Rattle.scheme_model.specs.Substitution.{form_map, item_map, note_map, pending_map}
-use Rattle.scheme_model.specs.ScopedExpansion.{Place}
+use Rattle.scheme_model.specs.ScopedExpansion.{FramedIdent}
 use Rattle.scheme_model.specs.Renaming.{Renames, result_map}
 use Rattle.scheme_model.proofs.RenamingLaws.{Reads, reads, map-append}
 use Rattle.scheme_model.proofs.IdentKinds.{Kind, item_kind}
@@ -42,7 +42,7 @@ ItemHeld P t = Held item_kind P t × ItemDistinct t
 abbrev pub ItemsHeld : (Ident → Type 0) → List (Item Ident) → Type 0
 ItemsHeld P xs = AllOf (ItemHeld P) xs
 
-abbrev pub PendingHeld : (Ident → Type 0) → (Place → Type 0) → Pending Ident Place → Type 0
+abbrev pub PendingHeld : (Ident → Type 0) → (FramedIdent → Type 0) → Pending Ident FramedIdent → Type 0
 PendingHeld P Q p = AllOf (FormAll P) p.todo × ItemsHeld P p.aside × AllOf (NoteAll Q) p.notes
 
 pub all_append : {X : Type 0} (P : X → Type 0) (xs ys : List X) → AllOf P xs → AllOf P ys → AllOf P (xs ++ ys)
@@ -67,11 +67,11 @@ note_same P f g h (Compared l j held) e = let a = h l e.0 in let b = h j e.1 in 
 pub notes_same : {L M : Type 0} (P : L → Type 0) (f g : L → M) → ((l : L) → P l → f l ≡ g l) → (ns : List (Note L)) → AllOf (NoteAll P) ns → map (note_map f) ns ≡ map (note_map g) ns
 notes_same P f g h ns e = all_same (NoteAll P) (note_map f) (note_map g) (note_same P f g h) ns e
 
-pub pending_more : (P P' : Ident → Type 0) (Q Q' : Place → Type 0) → ((i : Ident) → P i → P' i) → ((l : Place) → Q l → Q' l) → (p : Pending Ident Place) → PendingHeld P Q p → PendingHeld P' Q' p
+pub pending_more : (P P' : Ident → Type 0) (Q Q' : FramedIdent → Type 0) → ((i : Ident) → P i → P' i) → ((l : FramedIdent) → Q l → Q' l) → (p : Pending Ident FramedIdent) → PendingHeld P Q p → PendingHeld P' Q' p
 pending_more P P' Q Q' h k p e =
     (all_of_more (FormAll P) (FormAll P') (λ x t. tree_more P P' h x.tree t) p.todo e.0, all_of_more (ItemHeld P) (ItemHeld P') (λ t q. (held_more item_kind P P' h t q.0, q.1)) p.aside e.1, notes_more Q Q' k p.notes e.2)
 
-pub pending_same : (P : Ident → Type 0) (Q : Place → Type 0) (f g : Ident → Name) (h k : Place → Name) → ((i : Ident) → P i → f i ≡ g i) → ((l : Place) → Q l → h l ≡ k l) → (p : Pending Ident Place) → PendingHeld P Q p → pending_map f h p ≡ pending_map g k p
+pub pending_same : (P : Ident → Type 0) (Q : FramedIdent → Type 0) (f g : Ident → Name) (h k : FramedIdent → Name) → ((i : Ident) → P i → f i ≡ g i) → ((l : FramedIdent) → Q l → h l ≡ k l) → (p : Pending Ident FramedIdent) → PendingHeld P Q p → pending_map f h p ≡ pending_map g k p
 pending_same P Q f g h k e d p q =
     let a = all_same (FormAll P) (form_map f) (form_map g) (λ x t. ap (λ u. record { here = x.here; tree = u }) (tree_same P f g e x.tree t)) p.todo q.0 in
     let b = all_same (ItemHeld P) (item_map f) (item_map g) (λ t r. held_same item_kind P f g e t r.0) p.aside q.1 in
@@ -80,14 +80,14 @@ pending_same P Q f g h k e d p q =
 
 -- ---- putting something before, beside or behind
 
-module _ (f : Ident → Name) (g : Place → Name) where
-  pub put_seen : (t : Item Ident) (p : Pending Ident Place) → put (item_map f t) (pending_map f g p) ≡ pending_map f g (put t p)
+module _ (f : Ident → Name) (g : FramedIdent → Name) where
+  pub put_seen : (t : Item Ident) (p : Pending Ident FramedIdent) → put (item_map f t) (pending_map f g p) ≡ pending_map f g (put t p)
   put_seen t p = ap (λ (xs : List (Item Name)). record { todo = map (form_map f) p.todo; aside = xs; notes = map (note_map g) p.notes }) (sym (map-append (item_map f) p.aside (t ∷ [])))
 
-  pub first_seen : (xs : List (Form Ident)) (p : Pending Ident Place) → first (map (form_map f) xs) (pending_map f g p) ≡ pending_map f g (first xs p)
+  pub first_seen : (xs : List (Form Ident)) (p : Pending Ident FramedIdent) → first (map (form_map f) xs) (pending_map f g p) ≡ pending_map f g (first xs p)
   first_seen xs p = ap (λ (ys : List (Form Name)). record { todo = ys; aside = map (item_map f) p.aside; notes = map (note_map g) p.notes }) (sym (map-append (form_map f) xs p.todo))
 
-  pub noted_seen : (ns : List (Note Place)) (p : Pending Ident Place) → noted (map (note_map g) ns) (pending_map f g p) ≡ pending_map f g (noted ns p)
+  pub noted_seen : (ns : List (Note FramedIdent)) (p : Pending Ident FramedIdent) → noted (map (note_map g) ns) (pending_map f g p) ≡ pending_map f g (noted ns p)
   noted_seen ns p = ap (λ (ms : List (Note Name)). record { todo = map (form_map f) p.todo; aside = map (item_map f) p.aside; notes = ms }) (sym (map-append (note_map g) ns p.notes))
 
   pub forms_seen : (here : Here) (ts : Trees Ident) → forms_at here (map_trees f ts) ≡ map (form_map f) (forms_at here ts)
@@ -98,13 +98,13 @@ pub forms_held : (P : Ident → Type 0) (here : Here) (ts : Trees Ident) → Tre
 forms_held P here no_trees h = tt
 forms_held P here (tree t ts) h = (h.0, forms_held P here ts h.1)
 
-pub put_held : (P : Ident → Type 0) (Q : Place → Type 0) (t : Item Ident) (p : Pending Ident Place) → ItemHeld P t → PendingHeld P Q p → PendingHeld P Q (put t p)
+pub put_held : (P : Ident → Type 0) (Q : FramedIdent → Type 0) (t : Item Ident) (p : Pending Ident FramedIdent) → ItemHeld P t → PendingHeld P Q p → PendingHeld P Q (put t p)
 put_held P Q t p h e = (e.0, all_append (ItemHeld P) p.aside (t ∷ []) e.1 (h, tt), e.2)
 
-pub first_held : (P : Ident → Type 0) (Q : Place → Type 0) (xs : List (Form Ident)) (p : Pending Ident Place) → AllOf (FormAll P) xs → PendingHeld P Q p → PendingHeld P Q (first xs p)
+pub first_held : (P : Ident → Type 0) (Q : FramedIdent → Type 0) (xs : List (Form Ident)) (p : Pending Ident FramedIdent) → AllOf (FormAll P) xs → PendingHeld P Q p → PendingHeld P Q (first xs p)
 first_held P Q xs p h e = (all_append (FormAll P) xs p.todo h e.0, e.1, e.2)
 
-pub noted_held : (P : Ident → Type 0) (Q : Place → Type 0) (ns : List (Note Place)) (p : Pending Ident Place) → AllOf (NoteAll Q) ns → PendingHeld P Q p → PendingHeld P Q (noted ns p)
+pub noted_held : (P : Ident → Type 0) (Q : FramedIdent → Type 0) (ns : List (Note FramedIdent)) (p : Pending Ident FramedIdent) → AllOf (NoteAll Q) ns → PendingHeld P Q p → PendingHeld P Q (noted ns p)
 noted_held P Q ns p h e = (e.0, e.1, all_append (NoteAll Q) ns p.notes h e.2)
 
 pub expression_held : (P : Ident → Type 0) (x : Form Ident) → FormAll P x → ItemHeld P (Expression x)

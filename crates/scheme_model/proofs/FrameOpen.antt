@@ -7,7 +7,7 @@ use Rattle.scheme_model.specs.Meaning.{Meaning, same_meaning}
 use Rattle.scheme_model.specs.Requirements.{Known}
 use Rattle.scheme_model.specs.Order.{Transformer, is_some}
 use Rattle.scheme_model.specs.Substitution.{Table, Clock, at_form, defined_in, is_own}
-use Rattle.scheme_model.specs.ScopedExpansion.{Enter, Frames, BodyDefinitions, UsePlace, Place, ScopedMacro, ScopedState, around, next_number, macro_at}
+use Rattle.scheme_model.specs.ScopedExpansion.{Enter, Frames, BodyDefinitions, UsePlace, FramedIdent, ScopedMacro, ScopedState, around, next_number, macro_at}
 use Rattle.scheme_model.proofs.OpenBodies.{Before as Counted, Leq, NotYet, Entered, PlacesIn, DefinitionsBelow, FramesOk, Other, Sits}
 use Rattle.scheme_model.proofs.FrameEras.{Era, Before, Below, before_more, below_more, below_counted, frames_entered}
 use Rattle.scheme_model.proofs.IdentLaws.{number_told}
@@ -45,7 +45,7 @@ module _ (worked : ℕ → Bool) (known : Known) (s0 : ScopedState) (f0 : Fine (
   abbrev pub Sitting : Clock → List UsePlace → Ident → Type 0
   Sitting u ps i = Below w u i × Sits b s0.uses c ps i
 
-  abbrev pub Placed : Clock → List UsePlace → Place → Type 0
+  abbrev pub Placed : Clock → List UsePlace → FramedIdent → Type 0
   Placed u ps l = ((l.frames ≡ home) × Sitting u ps l.ident) ⊎ (Entered (Before w s0.bodies) l.frames × Below w s0.uses l.ident × BindersCounted w s0.locals l.frames)
 
   -- a macro: the body's own, or one from outside
@@ -69,7 +69,7 @@ module _ (worked : ℕ → Bool) (known : Known) (s0 : ScopedState) (f0 : Fine (
   abbrev pub Leaf : ScopedState → Ident → Type 0
   Leaf t i = Sitting t.uses t.places i
 
-  abbrev pub PlaceIn : ScopedState → Place → Type 0
+  abbrev pub PlaceIn : ScopedState → FramedIdent → Type 0
   PlaceIn t l = Placed t.uses t.places l
 
   abbrev pub RuleLeaf : ScopedState → Transformer Frames Ident → Ident → Type 0
@@ -102,11 +102,11 @@ module _ (worked : ℕ → Bool) (known : Known) (s0 : ScopedState) (f0 : Fine (
     pub stands_in : Stands (era worked s0) t home
     stands_in = ((s0.bodies, refl, entered_body.0, o.grows.uses, o.grows.bodies, young, definitions_in, frames_in), binders_more (era worked s0) s0.locals t.locals o.grows.locals c st0.1)
 
-    pub placed_below : (l : Place) → PlaceIn t l → Below (era worked s0) t.uses l.ident
+    pub placed_below : (l : FramedIdent) → PlaceIn t l → Below (era worked s0) t.uses l.ident
     placed_below l (inl q) = q.1.0
     placed_below l (inr q) = below_more (era worked s0) s0.uses t.uses o.grows.uses l.ident q.1
 
-    placed_entered : (l : Place) → PlaceIn t l → Entered (Before (era worked s0) t.bodies) l.frames
+    placed_entered : (l : FramedIdent) → PlaceIn t l → Entered (Before (era worked s0) t.bodies) l.frames
     placed_entered l (inl q) = subst (Entered (Before (era worked s0) t.bodies)) (sym q.0) (frames_entered (era worked s0) t.definitions t.uses t.bodies home stands_in.0)
     placed_entered l (inr q) = entered_more (Before (era worked s0) s0.bodies) (Before (era worked s0) t.bodies) (before_more (era worked s0) s0.bodies t.bodies o.grows.bodies) l.frames q.0
 
@@ -119,11 +119,11 @@ module _ (worked : ℕ → Bool) (known : Known) (s0 : ScopedState) (f0 : Fine (
     pub leaf_later : (v : ScopedState) → Grows (era worked s0) t v → (i : Ident) → Leaf t i → Leaf v i
     leaf_later v g i h = (below_more (era worked s0) t.uses v.uses g.uses i h.0, sits_later v g i h.0 h.1)
 
-    pub place_later : (v : ScopedState) → Grows (era worked s0) t v → (l : Place) → PlaceIn t l → PlaceIn v l
+    pub place_later : (v : ScopedState) → Grows (era worked s0) t v → (l : FramedIdent) → PlaceIn t l → PlaceIn v l
     place_later v g l (inl q) = inl (q.0, leaf_later v g l.ident q.1)
     place_later v g l (inr q) = inr q
 
-    pub placed_later : (v : ScopedState) → Grows (era worked s0) t v → (l : Place) → PlaceIn t l → placed t l ≡ placed v l
+    pub placed_later : (v : ScopedState) → Grows (era worked s0) t v → (l : FramedIdent) → PlaceIn t l → placed t l ≡ placed v l
     placed_later v g l h = names_far (era worked s0) t v o.fine g l.frames (placed_entered l h) l.ident (placed_below l h)
 
     pub macros_later : (v : ScopedState) → Grows (era worked s0) t v → (ks : List ScopedMacro) → (mine : List Number) → AllOf (MacroSits t.uses t.places mine) ks → AllOf (MacroSits v.uses v.places mine) ks

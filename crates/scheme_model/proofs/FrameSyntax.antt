@@ -13,7 +13,7 @@ use Rattle.scheme_model.specs.Cores.{Binder}
 use Rattle.scheme_model.specs.Steps.{Broken, ◌>>=◌, done, fails}
 use Rattle.scheme_model.specs.Order.{Here, Macro, Note, LookedUp, Pending, Pass, Transformer, head_of, binder_at, counting, given, told, put, noted, caught, RulesParts, rules_parts_of, is_rules, rules_parts, rules_note, rules_at, max_nodes, run_syntax}
 use Rattle.scheme_model.specs.Substitution.{State, Clock, at_form, note_map, model}
-use Rattle.scheme_model.specs.ScopedExpansion.{Frames, Place, ScopedState, scoped}
+use Rattle.scheme_model.specs.ScopedExpansion.{Frames, FramedIdent, ScopedState, scoped}
 use Rattle.scheme_model.proofs.FrameEras.{Era}
 use Rattle.scheme_model.proofs.RenamingLaws.{size-map}
 use Rattle.scheme_model.proofs.IdentKinds.{Kind, rules_kind, pointwise, faults_fused}
@@ -47,15 +47,15 @@ parts_held P (list (tree (vector us p) ts) tail o) l = tt
 head_held : (P : Ident → Type 0) (r : RulesParts Ident) → Held parts_kind P r → P r.head
 head_held P r h = subst (λ (x : RulesParts Ident). P x.head) h.same h.made.head.1
 
-module _ (w : Era) (known : Known) (fs : Frames) (Inside : ScopedState → Bool → List Number → Type 0) (Trail : ScopedState → ScopedState → Type 0) (Leaf : ScopedState → Ident → Type 0) (PlaceIn : ScopedState → Place → Type 0) (RuleLeaf : ScopedState → Transformer Frames Ident → Ident → Type 0) (Ended : ScopedState → List (Note Place) → List (Note Name) → Type 0)
+module _ (w : Era) (known : Known) (fs : Frames) (Inside : ScopedState → Bool → List Number → Type 0) (Trail : ScopedState → ScopedState → Type 0) (Leaf : ScopedState → Ident → Type 0) (PlaceIn : ScopedState → FramedIdent → Type 0) (RuleLeaf : ScopedState → Transformer Frames Ident → Ident → Type 0) (Ended : ScopedState → List (Note FramedIdent) → List (Note Name) → Type 0)
     (facts : PlaceFacts w known fs Inside Trail Leaf PlaceIn RuleLeaf Ended) (f : CodeGo w known fs Inside Trail Leaf PlaceIn RuleLeaf Ended) (g : ModelGo w known fs Inside Trail Leaf PlaceIn RuleLeaf Ended) (law : RunLaw w known fs Inside Trail Leaf PlaceIn RuleLeaf Ended f g) (here : Here) where
-  abbrev seen : ScopedState → Pending Ident Place → Pending Name Name
+  abbrev seen : ScopedState → Pending Ident FramedIdent → Pending Name Name
   seen t p = seen_pending w known fs Inside Trail Leaf PlaceIn RuleLeaf Ended t p
 
-  abbrev HeldAt : ScopedState → Pending Ident Place → Type 0
+  abbrev HeldAt : ScopedState → Pending Ident FramedIdent → Type 0
   HeldAt t p = PendingHeld (Leaf t) (PlaceIn t) p
 
-  abbrev Both : Pass Ident Place × ScopedState → Pass Name Name × State → Type 0
+  abbrev Both : Pass Ident FramedIdent × ScopedState → Pass Name Name × State → Type 0
   Both q m = Together w known fs Inside Trail Leaf PlaceIn RuleLeaf Ended q m
 
   -- a later state that changes no older image
@@ -121,12 +121,12 @@ module _ (w : Era) (known : Known) (fs : Frames) (Inside : ScopedState → Bool 
   note_held s i n k None m = tt
   note_held s i n k (Some r) m = (facts.here s i n k r.head (head_held (Leaf s) r m), tt)
 
-  module _ (s : ScopedState) (i : Bool) (n : List Number) (k : Inside s i n) (p : Pending Ident Place) (h : HeldAt s p) where
+  module _ (s : ScopedState) (i : Bool) (n : List Number) (k : Inside s i n) (p : Pending Ident FramedIdent) (h : HeldAt s p) where
     -- what a macro's definition leaves: its binder, and what is left
-    abbrev MacroLeft : ScopedState → Binder × Pending Ident Place → Binder × Pending Name Name → Type 0
+    abbrev MacroLeft : ScopedState → Binder × Pending Ident FramedIdent → Binder × Pending Name Name → Type 0
     MacroLeft t a b = (b.0 ≡ a.0) × HeldAt t a.1 × (b.1 ≡ seen t a.1)
 
-    define_macro : (x : Named Ident) → Leaf s x.name → (t : ScopedState) (i1 : Bool) (n1 : List Number) → Inside t i1 n1 → Grows w s t → (a : Rules Ident) (b : Rules Name) → SeenHeld rules_kind t a b → (q : Pending Ident Place) → HeldAt s q
+    define_macro : (x : Named Ident) → Leaf s x.name → (t : ScopedState) (i1 : Bool) (n1 : List Number) → Inside t i1 n1 → Grows w s t → (a : Rules Ident) (b : Rules Name) → SeenHeld rules_kind t a b → (q : Pending Ident FramedIdent) → HeldAt s q
         → Agrees (On w known fs Inside Trail Leaf PlaceIn RuleLeaf Ended t) MacroLeft (told here ((scoped known).define x (Some a) fs q t) >>= λ q2. done (binder_at (scoped known) fs t x, q2))
         (told here ((model known).define (named_map (names s fs) x) (Some b) tt (seen s q) (view i1 n1 t)) >>= λ q2. done (binder_at (model known) tt (view i1 n1 t) (named_map (names s fs) x), q2))
     define_macro x l t i1 n1 k1 gr a b e q hq =

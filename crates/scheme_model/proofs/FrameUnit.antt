@@ -11,7 +11,7 @@ use Rattle.scheme_model.specs.Cores.{LocalNumber, Definition}
 use Rattle.scheme_model.specs.Order.{Here, Note, Pending, Transformer, is_some, told}
 use Rattle.scheme_model.specs.Substitution.{State, Table, Entries, Defined, Clock, at_form, note_map, pending_map, any, meaning, refused_in_unit, with_macro, defined_global, define_in_unit, is_plain, is_variable, defined_in, definition_count, model}
 use Rattle.scheme_model.specs.Scopes.{own_of, imported_as, defined_or, given_or}
-use Rattle.scheme_model.specs.ScopedExpansion.{Frames, BodyDefinitions, UsePlace, Place, ScopedMacro, ScopedState, around, next_number, means_inside, means_outside, means_at, macro_at, macro_added, definition_added, refused_now, define_at}
+use Rattle.scheme_model.specs.ScopedExpansion.{Frames, BodyDefinitions, UsePlace, FramedIdent, ScopedMacro, ScopedState, around, next_number, means_inside, means_outside, means_at, macro_at, macro_added, definition_added, refused_now, define_at}
 use Rattle.scheme_model.specs.FrameImages.{image_outside}
 use Rattle.scheme_model.proofs.FrameEras.{Era, Below}
 use Rattle.scheme_model.proofs.IdentLaws.{ident_told}
@@ -56,7 +56,7 @@ module _ (w : Era) (known : Known) where
   abbrev pub UnitLeaf : ScopedState → Ident → Type 0
   UnitLeaf s i = Rooted w s.uses s.places i
 
-  abbrev pub UnitPlace : ScopedState → Place → Type 0
+  abbrev pub UnitPlace : ScopedState → FramedIdent → Type 0
   UnitPlace s l = (l.frames ≡ []) × UnitLeaf s l.ident
 
   abbrev pub UnitRule : ScopedState → Transformer Frames Ident → Ident → Type 0
@@ -72,10 +72,10 @@ module _ (w : Era) (known : Known) where
   pub leaf_later : (s t : ScopedState) → Grows w s t → (i : Ident) → UnitLeaf s i → UnitLeaf t i
   leaf_later s t g i h = rooted_later w s.uses t.uses s.places t.places g.uses g.places i h
 
-  pub place_later : (s t : ScopedState) → Grows w s t → (l : Place) → UnitPlace s l → UnitPlace t l
+  pub place_later : (s t : ScopedState) → Grows w s t → (l : FramedIdent) → UnitPlace s l → UnitPlace t l
   place_later s t g l h = (h.0, leaf_later s t g l.ident h.1)
 
-  pub placed_later : (s t : ScopedState) → FineState w s → Grows w s t → (l : Place) → UnitPlace s l → placed s l ≡ placed t l
+  pub placed_later : (s t : ScopedState) → FineState w s → Grows w s t → (l : FramedIdent) → UnitPlace s l → placed s l ≡ placed t l
   placed_later s t f g l h = subst (λ (fs : Frames). names s fs l.ident ≡ names t fs l.ident) (sym h.0) (names_later w s t f g [] (tt, tt) l.ident h.1.0)
 
   -- ---- a macro that is used
@@ -112,7 +112,7 @@ module _ (w : Era) (known : Known) where
     UnitInside s i n = UnitState s × (i ≡ false) × Grows w s0 s
 
     -- the notes where a fault ends the form
-    pub record Noted (t : ScopedState) (ns : List (Note Place)) (ms : List (Note Name)) : Type 0 where
+    pub record Noted (t : ScopedState) (ns : List (Note FramedIdent)) (ms : List (Note Name)) : Type 0 where
       pub stood : AllOf (NoteAll (UnitPlace t)) ns
       pub same : ms ≡ map (note_map (placed t)) ns
 
@@ -193,10 +193,10 @@ module _ (w : Era) (known : Known) where
           λ j. record (view false n then_) { table = record { unit = s.unit; form = s.form; ident = e j; keyword = y j; occ = x.occ } ∷ s.table; macros = ms j }
 
       -- refused by a note
-      means_then : (p : Place) → meaning then_.table then_.entry (placed s p) ≡ means_at then_ p.frames p.ident
+      means_then : (p : FramedIdent) → meaning then_.table then_.entry (placed s p) ≡ means_at then_ p.frames p.ident
       means_then p = names_mean w then_ fine_then p.frames p.ident
 
-      refused : (p : Pending Ident Place) → PendingHeld (UnitLeaf s) (UnitPlace s) p
+      refused : (p : Pending Ident FramedIdent) → PendingHeld (UnitLeaf s) (UnitPlace s) p
           → any (refused_in_unit (defined_global (named X x.occ) r' (view false n s)) (Global s.unit (erase X)) (is_some r')) (map (note_map (placed s)) p.notes) ≡ any (refused_now then_ (Global s.unit x.name) (is_some r)) p.notes
       refused p h =
           (let t = state_then in let e = er in let y = some_same (rules_map (names s [])) r in λ j. any (refused_in_unit (t j) (Global s.unit (e j)) (y j)) (map (note_map (placed s)) p.notes))
@@ -204,13 +204,13 @@ module _ (w : Era) (known : Known) where
           (refused_same (UnitPlace s) (placed s) (is_some r) (λ q. same_meaning (means_at then_ q.frames q.ident) (Global s.unit x.name)) (λ j. same_meaning (meaning then_.table then_.entry j) (Global s.unit x.name)) (λ q. means_at then_ q.frames q.ident) (λ j. meaning then_.table then_.entry j)
           (λ q d. ap (λ m. same_meaning m (Global s.unit x.name)) (means_then q)) (λ q d. means_then q)) p.notes h.2
 
-      abbrev Left : ScopedState → Pending Ident Place → Pending Name Name → Type 0
+      abbrev Left : ScopedState → Pending Ident FramedIdent → Pending Name Name → Type 0
       Left z q q' = PendingHeld (UnitLeaf z) (UnitPlace z) q × (q' ≡ pending_map (names z []) (placed z) q)
 
-      abbrev Goal : Here → Result (Pending Ident Place) (Fault Ident) × ScopedState → Result (Pending Name Name) (Fault Ident) × State → Type 0
+      abbrev Goal : Here → Result (Pending Ident FramedIdent) (Fault Ident) × ScopedState → Result (Pending Name Name) (Fault Ident) × State → Type 0
       Goal here q m = Agrees (λ z i n1. UnitInside z i n1 × Grows w s z) Left (told here q) (told here m)
 
-      define_cases : (here : Here) (p : Pending Ident Place) → PendingHeld (UnitLeaf s) (UnitPlace s) p → (y d : Bool)
+      define_cases : (here : Here) (p : Pending Ident FramedIdent) → PendingHeld (UnitLeaf s) (UnitPlace s) p → (y d : Bool)
           → Goal here (cond y (Err (KeywordRedefined x), s) (cond d (Err (Duplicate x), s) (Ok p, then_)))
           (cond y (Err (KeywordRedefined (named (erase X) x.occ)), view false n s) (cond d (Err (Duplicate (named (erase X) x.occ)), view false n s) (Ok (pending_map (names s []) (placed s) p), defined_global (named X x.occ) r' (view false n s))))
       define_cases here p h true d =
@@ -220,7 +220,7 @@ module _ (w : Era) (known : Known) where
       define_cases here p h false false =
           agree p (pending_map (names s []) (placed s) p) then_ false n refl (ap (λ z. (Ok (pending_map (names s []) (placed s) p), z)) state_then) ((unit_then, refl, g), grows_itself w s) (h, refl)
 
-      define_law : (here : Here) (p : Pending Ident Place) → PendingHeld (UnitLeaf s) (UnitPlace s) p
+      define_law : (here : Here) (p : Pending Ident FramedIdent) → PendingHeld (UnitLeaf s) (UnitPlace s) p
           → Goal here (define_at None x r [] p s) (define_in_unit (named X x.occ) r' (pending_map (names s []) (placed s) p) (view false n s))
       define_law here p h =
           agrees_at refl

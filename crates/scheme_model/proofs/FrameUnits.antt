@@ -10,7 +10,7 @@ use Rattle.scheme_model.specs.Order.{Item, Note, Pending, Pass}
 use Rattle.scheme_model.specs.Expression.{Expander, expand, item_part, parts}
 use Rattle.scheme_model.specs.UnitExpansion.{Formed, max_depth, passes, from_items, finished, nodes_in, first_over, fronts, item_fronts, states_passed, states_finished, or_ended, some_of, unit}
 use Rattle.scheme_model.specs.Substitution.{State, Clock, item_map, note_map, model}
-use Rattle.scheme_model.specs.ScopedExpansion.{Frames, Place, ScopedState, scoped}
+use Rattle.scheme_model.specs.ScopedExpansion.{Frames, FramedIdent, ScopedState, scoped}
 use Rattle.scheme_model.proofs.OpenBodies.{Leq}
 use Rattle.scheme_model.proofs.FrameEras.{Era, Below, below_more}
 use Rattle.scheme_model.proofs.IdentKinds.{item_kind}
@@ -70,7 +70,7 @@ module _ (w : Era) (known : Known) where
 
   -- ---- a form gone through
 
-  pub record Passed (s : ScopedState) (q : Pass Ident Place × ScopedState) (m : Pass Name Name × State) : Type 0 where
+  pub record Passed (s : ScopedState) (q : Pass Ident FramedIdent × ScopedState) (m : Pass Name Name × State) : Type 0 where
     pub in_body : Bool
     pub mine : List Number
     pub unit_state : UnitState w known q.1
@@ -81,7 +81,7 @@ module _ (w : Era) (known : Known) where
     pub stood : AllOf (NoteAll (UnitPlace w known q.1)) q.0.notes
     pub notes : m.0.notes ≡ map (note_map (placed q.1)) q.0.notes
 
-  pub passed : (s : ScopedState) (q : Pass Ident Place × ScopedState) (m : Pass Name Name × State)
+  pub passed : (s : ScopedState) (q : Pass Ident FramedIdent × ScopedState) (m : Pass Name Name × State)
       → Together w known [] (UnitInside w known s) (Grows w) (UnitLeaf w known) (UnitPlace w known) (UnitRule w known) (Noted w known s) q m → Passed s q m
   passed s q m h = go h.came_to
     where
@@ -125,7 +125,7 @@ module _ (w : Era) (known : Known) where
 
   module _ (turns : ℕ) where
     abbrev PassesLaw : List (ℕ × Tree Ident) → Type 0
-    PassesLaw ts = (ns : List (Note Place)) (s : ScopedState) (i : Bool) (n : List Number) → UnitState w known s → AllOf (FormHeld s) ts → AllOf (NoteAll (UnitPlace w known s)) ns
+    PassesLaw ts = (ns : List (Note FramedIdent)) (s : ScopedState) (i : Bool) (n : List Number) → UnitState w known s → AllOf (FormHeld s) ts → AllOf (NoteAll (UnitPlace w known s)) ns
         → AllPassed s (passes (scoped known) turns [] ts ns s) (passes (model known) turns tt (map (form_seen (names s [])) ts) (map (note_map (placed s)) ns) (view i n s))
 
     forms_still : (s t : ScopedState) → FineState w s → Grows w s t → (ts : List (ℕ × Tree Ident)) → AllOf (FormHeld s) ts → map (form_seen (names s [])) ts ≡ map (form_seen (names t [])) ts
@@ -136,7 +136,7 @@ module _ (w : Era) (known : Known) where
     forms_later s t g ts h = all_of_more (FormHeld s) (FormHeld t) (λ x q. tree_more (UnitLeaf w known s) (UnitLeaf w known t) (leaf_later w known s t g) x.1 q) ts h
 
     -- the forms behind one that was gone through
-    then_law : (form : ℕ) (ts : List (ℕ × Tree Ident)) → PassesLaw ts → (s : ScopedState) → FineState w s → AllOf (FormHeld s) ts → (q : Pass Ident Place × ScopedState) (m : Pass Name Name × State) → Passed s q m
+    then_law : (form : ℕ) (ts : List (ℕ × Tree Ident)) → PassesLaw ts → (s : ScopedState) → FineState w s → AllOf (FormHeld s) ts → (q : Pass Ident FramedIdent × ScopedState) (m : Pass Name Name × State) → Passed s q m
         → AllPassed s (let rest = passes (scoped known) turns [] ts q.0.notes q.1 in ((form, q.0.items) ∷ rest.0, rest.1)) (let rest = passes (model known) turns tt (map (form_seen (names s [])) ts) m.0.notes m.1 in ((form, m.0.items) ∷ rest.0, rest.1))
     then_law form ts law s f h q m p =
         let ih = law q.0.notes q.1 p.in_body p.mine p.unit_state (forms_later s q.1 p.grows ts h) p.stood in
@@ -168,7 +168,7 @@ module _ (w : Era) (known : Known) where
     passes_law [] ns s i n k h l = record { in_body = i; mine = n; unit_state = k; grows = grows_itself w s; state = refl; sets = refl; made = tt }
     passes_law (t ∷ ts) ns s i n k h l =
         let s1 = turned t.0 s in
-        let p : Pending Ident Place = record { todo = record { here = None; tree = t.1 } ∷ []; aside = []; notes = ns } in
+        let p : Pending Ident FramedIdent = record { todo = record { here = None; tree = t.1 } ∷ []; aside = []; notes = ns } in
         let r = then_law t.0 ts (passes_law ts) s1 k.fine h.1 _ _ (passed s1 _ _
         (forms_law w known [] (UnitInside w known s1) (Grows w) (UnitLeaf w known) (UnitPlace w known) (UnitRule w known) (Noted w known s1) (unit_facts w known s1) turns p s1 false n (turned_unit t.0 s k, refl, grows_itself w s1) ((h.0, tt), tt, l))) in
         record { in_body = r.in_body; mine = r.mine; unit_state = r.unit_state; grows = r.grows; state = r.state; sets = r.sets; made = r.made }

@@ -9,7 +9,7 @@ use Rattle.scheme_model.specs.RulesShape.{rules_map, role_of, dots_of}
 use Rattle.scheme_model.specs.Matching.{compared}
 use Rattle.scheme_model.specs.Order.{Transformer, Compared, comparisons}
 use Rattle.scheme_model.specs.Substitution.{meaning, note_map, model}
-use Rattle.scheme_model.specs.ScopedExpansion.{Frames, Place, ScopedState, means_at, scoped}
+use Rattle.scheme_model.specs.ScopedExpansion.{Frames, FramedIdent, ScopedState, means_at, scoped}
 use Rattle.scheme_model.specs.Renaming.{Renames, pair_map}
 use Rattle.scheme_model.proofs.FrameEras.{Era}
 use Rattle.scheme_model.proofs.RenamingLaws.{map_turned}
@@ -26,7 +26,7 @@ named_in s fs = record { same = same_frame_image s.places s.definitions fs; stri
 -- ---- comparisons
 
 -- a note's identifier on the definition's side
-abbrev pub placed : ScopedState → Place → Name
+abbrev pub placed : ScopedState → FramedIdent → Name
 placed s p = names s p.frames p.ident
 
 module _ (w : Era) (known : Known) (s : ScopedState) (f : FineState w s) (in_body : Bool) (mine : List Number) where

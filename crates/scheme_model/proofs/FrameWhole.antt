@@ -11,7 +11,7 @@ use Rattle.scheme_model.specs.Steps.{◌>>=◌, done}
 use Rattle.scheme_model.specs.Order.{Here, Pass, here_at, forms_at, run}
 use Rattle.scheme_model.specs.Expression.{expression, item_part, parts, items_of, body_in, body_core, expand}
 use Rattle.scheme_model.specs.Substitution.{State, is_own, model}
-use Rattle.scheme_model.specs.ScopedExpansion.{Frames, BodyDefinition, BodyDefinitions, Place, ScopedMacro, ScopedState, around, next_number, scoped}
+use Rattle.scheme_model.specs.ScopedExpansion.{Frames, BodyDefinition, BodyDefinitions, FramedIdent, ScopedMacro, ScopedState, around, next_number, scoped}
 use Rattle.scheme_model.proofs.OpenBodies.{Sits}
 use Rattle.scheme_model.proofs.FrameEras.{Era, Before, Below, below_counted}
 use Rattle.scheme_model.proofs.IdentKinds.{item_kind, rules_kind}
@@ -79,7 +79,7 @@ module _ (worked : ℕ → Bool) (known : Known) (s0 : ScopedState) (f0 : Fine (
 
   module _ (F : Scoped (era worked s0) known) (G : Modelled (era worked s0) known) (law : WholeLaw (era worked s0) known F G) (body_law : BodyLaw (era worked s0) known F G) (turns below : ℕ) (here : Here) (i : Bool) (n : List Number) (ts : Trees Ident) (old : TreesAll (Below (era worked s0) s0.uses) ts) where
     -- the body's forms were gone through; what they set aside is expanded
-    after_forms : (q : Pass Ident Place × ScopedState) (m : Pass Name Name × State) → Together (era worked s0) known frames (Inside worked known s0 f0 c st0) (Any worked known s0 f0 c st0) (Leaf worked known s0 f0 c st0) (PlaceIn worked known s0 f0 c st0) (RuleLeaf worked known s0 f0 c st0) (Dropped worked known s0 f0 c st0) q m
+    after_forms : (q : Pass Ident FramedIdent × ScopedState) (m : Pass Name Name × State) → Together (era worked s0) known frames (Inside worked known s0 f0 c st0) (Any worked known s0 f0 c st0) (Leaf worked known s0 f0 c st0) (PlaceIn worked known s0 f0 c st0) (RuleLeaf worked known s0 f0 c st0) (Dropped worked known s0 f0 c st0) q m
         → Same (era worked s0) s0 (items_of q >>= parts (item_part F (scoped known) below frames) >>= λ ps. done (Body ps)) (items_of m >>= parts (item_part G (model known) below tt) >>= λ ps. done (Body ps))
     after_forms q m h = go h.came_to
       where

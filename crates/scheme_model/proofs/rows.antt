@@ -1,3 +1,4 @@
+-- The definitions on worked rows
 pub mod WrittenRows
 pub mod TreeRows
 pub mod CoreRows

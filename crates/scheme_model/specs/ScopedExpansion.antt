@@ -38,7 +38,7 @@ pub record UsePlace : Type 0 where
   pub frames : Frames
 
 -- an identifier where it is looked up
-pub record Place : Type 0 where
+pub record FramedIdent : Type 0 where
   pub frames : Frames
   pub ident : Ident
 
@@ -149,10 +149,10 @@ is_defined s None i = is_some (defined_in s.table s.unit i)
 is_defined s (Some b) i = is_some (find s.definitions b i)
 
 -- a note asked the identifier where it now means this, once it is defined
-abbrev pub refused_now : ScopedState → Meaning → Bool → Note Place → Bool
+abbrev pub refused_now : ScopedState → Meaning → Bool → Note FramedIdent → Bool
 refused_now s m new note = is_refused new (λ p. same_meaning (means_at s p.frames p.ident) m) (λ p. means_at s p.frames p.ident) note
 
-abbrev pub define_at : Option Number → Named Ident → Option (Rules Ident) → Frames → Pending Ident Place → ScopedState → Result (Pending Ident Place) (Fault Ident) × ScopedState
+abbrev pub define_at : Option Number → Named Ident → Option (Rules Ident) → Frames → Pending Ident FramedIdent → ScopedState → Result (Pending Ident FramedIdent) (Fault Ident) × ScopedState
 define_at b n r fs p s =
     if any (refused_now (definition_added b n r fs s) (meaning_next s b n.name) (is_some r)) p.notes then (Err (KeywordRedefined n), s)
     else if is_defined s b n.name then (Err (Duplicate n), s)
@@ -160,7 +160,7 @@ define_at b n r fs p s =
 
 -- ---- the operations
 
-abbrev pub scoped : Known → Ops Frames Ident Place ScopedState
+abbrev pub scoped : Known → Ops Frames Ident FramedIdent ScopedState
 scoped known = record {
   names = record { same = same_ident; strip = symbol_of };
   plain = λ i. i;

@@ -18,13 +18,13 @@ pub record Position : Type 0 where
   pub character : ℕ
 
 -- from one position up to another (LSP 3.17, Range)
-pub record Span : Type 0 where
+pub record Range : Type 0 where
   pub start : Position
   pub end : Position
 
 -- new text for a range, or for all of a document
 pub record Change : Type 0 where
-  pub range : Option Span
+  pub range : Option Range
   pub text : List ℕ
 
 -- the offset of a position in a text, in bytes, by the encoding
@@ -63,12 +63,12 @@ abbrev pub is_before : Position → Position → Bool
 is_before p q = nat_lt p.line q.line || (p.line == q.line && nat_lt p.character q.character)
 
 -- the end of a range stands before its start
-abbrev pub is_backward : Option Span → Bool
+abbrev pub is_backward : Option Range → Bool
 is_backward None = false
 is_backward (Some range) = is_before range.end range.start
 
 -- new text for the bytes of a range, or for all of a text
-abbrev pub replaced : Offsets → Encoding → List ℕ → Option Span → List ℕ → List ℕ
+abbrev pub replaced : Offsets → Encoding → List ℕ → Option Range → List ℕ → List ℕ
 replaced offset encoding text None new = new
 replaced offset encoding text (Some range) new =
     take (offset encoding text range.start) text ++ new ++ drop (offset encoding text range.end) text

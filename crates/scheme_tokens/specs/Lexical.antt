@@ -37,49 +37,49 @@ abbrev pub is_scalar : ℕ → Bool
 is_scalar c = nat_lt c 0xD800 || (nat_lt 0xDFFF c && nat_lt c 0x11_0000)
 
 -- where in an identifier characters of a general category may stand
-pub data Place : Type 0 where
-  anywhere : Place
-  behind_first : Place
-  nowhere : Place
+pub data Standing : Type 0 where
+  anywhere : Standing
+  behind_first : Standing
+  nowhere : Standing
 
-abbrev pub place_of : GeneralCategory → Place
-place_of UppercaseLetter = anywhere
-place_of LowercaseLetter = anywhere
-place_of TitlecaseLetter = anywhere
-place_of ModifierLetter = anywhere
-place_of OtherLetter = anywhere
-place_of NonspacingMark = anywhere
-place_of SpacingMark = behind_first
-place_of EnclosingMark = behind_first
-place_of DecimalNumber = behind_first
-place_of LetterNumber = anywhere
-place_of OtherNumber = anywhere
-place_of ConnectorPunctuation = anywhere
-place_of DashPunctuation = anywhere
-place_of OpenPunctuation = nowhere
-place_of ClosePunctuation = nowhere
-place_of InitialPunctuation = nowhere
-place_of FinalPunctuation = nowhere
-place_of OtherPunctuation = anywhere
-place_of MathSymbol = anywhere
-place_of CurrencySymbol = anywhere
-place_of ModifierSymbol = anywhere
-place_of OtherSymbol = anywhere
-place_of SpaceSeparator = nowhere
-place_of LineSeparator = nowhere
-place_of ParagraphSeparator = nowhere
-place_of Control = nowhere
-place_of Format = nowhere
-place_of Surrogate = nowhere
-place_of PrivateUse = anywhere
-place_of Unassigned = nowhere
+abbrev pub standing_of : GeneralCategory → Standing
+standing_of UppercaseLetter = anywhere
+standing_of LowercaseLetter = anywhere
+standing_of TitlecaseLetter = anywhere
+standing_of ModifierLetter = anywhere
+standing_of OtherLetter = anywhere
+standing_of NonspacingMark = anywhere
+standing_of SpacingMark = behind_first
+standing_of EnclosingMark = behind_first
+standing_of DecimalNumber = behind_first
+standing_of LetterNumber = anywhere
+standing_of OtherNumber = anywhere
+standing_of ConnectorPunctuation = anywhere
+standing_of DashPunctuation = anywhere
+standing_of OpenPunctuation = nowhere
+standing_of ClosePunctuation = nowhere
+standing_of InitialPunctuation = nowhere
+standing_of FinalPunctuation = nowhere
+standing_of OtherPunctuation = anywhere
+standing_of MathSymbol = anywhere
+standing_of CurrencySymbol = anywhere
+standing_of ModifierSymbol = anywhere
+standing_of OtherSymbol = anywhere
+standing_of SpaceSeparator = nowhere
+standing_of LineSeparator = nowhere
+standing_of ParagraphSeparator = nowhere
+standing_of Control = nowhere
+standing_of Format = nowhere
+standing_of Surrogate = nowhere
+standing_of PrivateUse = anywhere
+standing_of Unassigned = nowhere
 
-abbrev pub is_anywhere : Place → Bool
+abbrev pub is_anywhere : Standing → Bool
 is_anywhere anywhere = true
 is_anywhere behind_first = false
 is_anywhere nowhere = false
 
-abbrev pub is_somewhere : Place → Bool
+abbrev pub is_somewhere : Standing → Bool
 is_somewhere anywhere = true
 is_somewhere behind_first = true
 is_somewhere nowhere = false
@@ -88,13 +88,13 @@ is_somewhere nowhere = false
 unfoldable pub is_initial : ℕ → Bool
 is_initial c =
     if is_ascii c then is_ascii_alphabetic c || is_one_of (codes "!$%&*/:<=>?^_~") c
-    else is_one_of (0x200C ∷ 0x200D ∷ []) c || is_anywhere (place_of (general_category c))
+    else is_one_of (0x200C ∷ 0x200D ∷ []) c || is_anywhere (standing_of (general_category c))
 
 -- what an identifier may go on with
 unfoldable pub is_subsequent : ℕ → Bool
 is_subsequent c =
     if is_ascii c then is_initial c || (is_ascii_digit c || is_one_of (codes "+-.@") c)
-    else is_initial c || is_somewhere (place_of (general_category c))
+    else is_initial c || is_somewhere (standing_of (general_category c))
 
 abbrev pub is_sign_subsequent : ℕ → Bool
 is_sign_subsequent c = is_initial c || (is_sign c || c == 64)
@@ -293,7 +293,7 @@ IsToken (Marked Unquote) glyphs rest = (glyphs ≡ codes ",") × Ends (λ c. c =
 IsToken (Marked Splice) glyphs rest = glyphs ≡ codes ",@"
 IsToken (Atomic leaf) glyphs rest = IsLeaf leaf glyphs rest
 
--- ---- texts: tokens with intertoken space before, between and behind them. Places count bytes
+-- ---- texts: tokens with intertoken space before, between and behind them. Offsets count bytes
 
 -- a token and its bytes in the text
 pub record Token : Type 0 where

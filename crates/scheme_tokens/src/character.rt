@@ -1,6 +1,6 @@
 //! Classes of characters (R7RS 7.1.1).
 ghost use Rattle.std.specs.Prelude.{◌≡◌};
-ghost use Rattle.scheme_tokens.specs.Lexical.{is_delimiter, is_line_end, is_blank, is_sign, is_hex_digit, place_of, is_anywhere, is_somewhere, is_initial, is_subsequent, is_sign_subsequent, is_dot_subsequent};
+ghost use Rattle.scheme_tokens.specs.Lexical.{is_delimiter, is_line_end, is_blank, is_sign, is_hex_digit, standing_of, is_anywhere, is_somewhere, is_initial, is_subsequent, is_sign_subsequent, is_dot_subsequent};
 ghost use Rattle.scheme_tokens.specs.Views.{test_of};
 
 use unicode::properties::GeneralCategory;
@@ -61,7 +61,7 @@ pub fn is_hex_digit(c: char) -> bool
 
 /// Whether characters beyond ASCII of this category may begin an identifier.
 fn may_begin(category: GeneralCategory) -> bool
-    ensures { result ≡ is_anywhere (place_of category) }
+    ensures { result ≡ is_anywhere (standing_of category) }
 {
     match category {
         GeneralCategory::UppercaseLetter
@@ -99,7 +99,7 @@ fn may_begin(category: GeneralCategory) -> bool
 
 /// Whether characters beyond ASCII of this category may stand behind the first of an identifier.
 fn may_follow(category: GeneralCategory) -> bool
-    ensures { result ≡ is_somewhere (place_of category) }
+    ensures { result ≡ is_somewhere (standing_of category) }
 {
     match category {
         GeneralCategory::UppercaseLetter

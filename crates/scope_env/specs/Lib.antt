@@ -1,5 +1,5 @@
-pub mod Environment
-pub mod Kept
-pub mod Resolved
-pub mod Standing
-pub mod Moved
+pub mod Environment  -- The scopes of all units, as contracts see them (R7RS 3.1)
+pub mod Kept  -- How scopes are kept, and environments as numbers, by which proofs tell them apart
+pub mod Resolved  -- What an identifier means in a scope, by numbers (R7RS 4.3)
+pub mod Standing  -- What the scopes of an environment stand for
+pub mod Moved  -- What changes of an environment do to what it stands for

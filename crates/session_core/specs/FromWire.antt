@@ -27,7 +27,7 @@ use Rattle.scheme_model.specs.Texts as texts
 abbrev pub said_position : Pos → texts.Position
 said_position p = record { line = p.line; character = p.character }
 
-abbrev pub said_range : Range → texts.Span
+abbrev pub said_range : Range → texts.Range
 said_range r = record { start = said_position r.start; end = said_position r.end }
 
 abbrev pub said_change : Change → texts.Change

@@ -1,5 +1,5 @@
-pub mod FirstLine
-pub mod LinesOf
-pub mod LineStarts
-pub mod Cuts
-pub mod Places
+pub mod FirstLine  -- The first line of a text, character by character
+pub mod LinesOf  -- The lines of a text, one character on
+pub mod LineStarts  -- Where lines begin, character by character
+pub mod Cuts  -- A text is cut where a line begins
+pub mod Places  -- Offsets and positions by the starts of lines

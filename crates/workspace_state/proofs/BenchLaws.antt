@@ -4,7 +4,7 @@ use Rattle.std.specs.BTreeSet.{contains_text}
 use Rattle.std.specs.FinMap as map
 use Rattle.std.specs.Ordering.{nat_cmp}
 use Rattle.scheme_model.specs.Order.{Note}
-use Rattle.scheme_model.specs.ScopedExpansion.{Frames, Place, ScopedState}
+use Rattle.scheme_model.specs.ScopedExpansion.{Frames, FramedIdent, ScopedState}
 use Rattle.syntax_tree.specs.Names.{KeepsNames, AreToldApart}
 use Rattle.syntax_tree.specs.Works.{IsOpened, KeepsTrees, SameRegions, AddsIn}
 use Rattle.syntax_tree.specs.declared.trees.Work.{Work}
@@ -20,7 +20,7 @@ use Rattle.workspace_state.specs.Forms.{IsBench, Stays}
 use Rattle.workspace_state.specs.declared.forms.Bench.{Bench}
 
 pub stands_on : (old new : Work) → KeepsTrees old new → KeepsNames old.symbols new.symbols → AreToldApart new.symbols.idents → AreToldApart new.symbols.symbols →
-    (u : UnitScope) (ls : List Frames) (s : ScopedState) (notes : List (Note Place)) → UnitStands old u ls s notes → UnitStands new u ls s notes
+    (u : UnitScope) (ls : List Frames) (s : ScopedState) (notes : List (Note FramedIdent)) → UnitStands old u ls s notes → UnitStands new u ls s notes
 stands_on old new trees names apart told u ls s notes h = record {
   rests = growth_rests old new trees names apart told u ls s h.rests;
   notes = notes_on old new ls ls names (λ n fs at. at) u.asked notes apart h.notes;
@@ -36,7 +36,7 @@ stays_by b c opened same trees names added regions roots libraries = record {
   added = added;
   regions = regions;
   others = λ v new. ap (λ (m : map.FinMap nat_cmp ℕ). map.get m v) roots ∙ new;
-  libraries = λ known knows n. knows n ∙ ap (λ l. contains_text l (library_text n)) (sym libraries);
+  libraries = λ known knows n written. knows n written ∙ ap (λ l. contains_text l (library_text n)) (sym libraries);
 }
 
 pub stays_itself : (b : Bench) → IsOpened b.work b.region → Stays b b

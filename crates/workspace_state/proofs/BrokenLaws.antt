@@ -16,7 +16,7 @@ use Rattle.workspace_state.specs.declared.listing.Head.{Head}
 use Rattle.workspace_state.specs.declared.breaking.WholeFault.{WholeFault}
 use Rattle.workspace_state.specs.Places.{SameHead, HeadsStay, AreHeadsIn}
 use Rattle.workspace_state.specs.Libraries.{places_by}
-use Rattle.workspace_state.specs.Broken.{or_fault, broken_by, broken_if, Breaks, SameSource, SourcesStay}
+use Rattle.workspace_state.specs.Broken.{or_fault, broken_by, broken_if, Breaks, SameSource}
 use Rattle.workspace_state.proofs.ChangedLaws.{changes_itself, changes_as, changes_on, changes_set}
 
 -- ---- heads stay
@@ -83,21 +83,6 @@ source_itself s = record { kind = refl; name = refl; span = refl; exports = refl
 
 pub source_without : (s : UnitSource) → SameSource s (record s { imports = [] })
 source_without s = record { kind = refl; name = refl; span = refl; exports = refl; forms = refl; imports = inr refl }
-
-pub source_on : (a b c : UnitSource) → SameSource a b → SameSource b c → SameSource a c
-source_on a b c h k = record { kind = k.kind ∙ h.kind; name = k.name ∙ h.name; span = k.span ∙ h.span; exports = k.exports ∙ h.exports; forms = k.forms ∙ h.forms; imports = go k.imports h.imports }
-  where
-    go : (c.imports ≡ b.imports) ⊎ (c.imports ≡ []) → (b.imports ≡ a.imports) ⊎ (b.imports ≡ []) → (c.imports ≡ a.imports) ⊎ (c.imports ≡ [])
-    go (inr e) o = inr e
-    go (inl e) (inl o) = inl (e ∙ o)
-    go (inl e) (inr o) = inr (e ∙ o)
-
-pub sources_itself : (ss : List UnitSource) → SourcesStay ss ss
-sources_itself ss = changes_itself (λ n. SameSource) (λ n s. source_itself s) ss
-
-pub source_set : (xs bs : List UnitSource) (p : ℕ) (s : UnitSource) → SourcesStay xs bs → slice_get bs p ≡ Some s → SourcesStay xs (slice_set bs p (record s { imports = [] }))
-source_set xs bs p s stay at =
-    changes_set (λ n. SameSource) (λ n. SameSource) xs bs p s (record s { imports = [] }) stay at (λ n a b ne k. k) (λ a k. source_on a s (record s { imports = [] }) k (source_without s))
 
 -- ---- places of names
 

@@ -1,6 +1,6 @@
 -- What forms define, one form more.
 use Rattle.std.proofs.Common.{◌≡◌, ℕ, zero, suc, ◌+◌, ◌<◌, List, [], ◌∷◌, ◌++◌, append_assoc, length, map, drop, get_or, slice_get, reverse, Some, sym, ap, ◌∙◌, subst, arith}
-use Rattle.std.proofs.lemmas.List.{drop_more, reverse-append}
+use Rattle.std.proofs.lemmas.List.{drop_more, reverse-append, reverse-reverse}
 use Rattle.std.proofs.lemmas.Option.{same_Some, slice_get_within}
 use Rattle.syntax_tree.proofs.Places.{get_front, get_next}
 use Rattle.scheme_model.specs.Substitution.{Defined}
@@ -45,3 +45,6 @@ have_idents names (x ∷ bs) (d ∷ ds) h = λ n b at. go (have_idents names bs 
 -- the definitions of forms, latest first, stand for some
 pub known_definitions : (names : Names) (bs : List (ℕ × Binder)) (ds : List Defined) → AreDefinitions names (reverse bs) ds → AreKnown names bs
 known_definitions names bs ds h = λ n b at. let r = in_reverse bs n b at in have_idents names (reverse bs) ds h r.0 b r.1
+
+pub known_reversed : (names : Names) (bs : List (ℕ × Binder)) → AreKnown names bs → AreKnown names (reverse bs)
+known_reversed names bs h = λ n b at. let r = in_reverse (reverse bs) n b at in h r.0 b (subst (λ (l : List (ℕ × Binder)). slice_get l r.0 ≡ Some b) (reverse-reverse bs) r.1)

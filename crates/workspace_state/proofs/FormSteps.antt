@@ -3,7 +3,7 @@ use Rattle.std.proofs.Common.{◌≡◌, ℕ, ◌+◌, ◌*◌, ◌^◌, ◌≤�
 use Rattle.scheme_model.specs.Ident.{Ident as Identifier}
 use Rattle.scheme_model.specs.Order.{Item, Pass}
 use Rattle.scheme_model.specs.Steps.{Broken}
-use Rattle.scheme_model.specs.ScopedExpansion.{Frames, Place, ScopedState}
+use Rattle.scheme_model.specs.ScopedExpansion.{Frames, FramedIdent, ScopedState}
 use Rattle.syntax_tree.specs.Names.{KeepsNames}
 use Rattle.syntax_tree.specs.Works.{KeepsTrees}
 use Rattle.syntax_tree.specs.declared.trees.table.Region.{Region}
@@ -93,7 +93,7 @@ module _ (b c : Bench) (trees : KeepsTrees b.work c.work) (names : KeepsNames b.
 
 -- ---- a form that was gone through
 
-module _ (b c : Bench) (trees : KeepsTrees b.work c.work) (names : KeepsNames b.work.symbols c.work.symbols) (same : c.region ≡ b.region) (form : ℕ) (s : ScopedState) (p : Pass Identifier Place × ScopedState) (stay : OthersStay form s p.1) (tops : OfOk (ItemsBind false) p.0.items)
+module _ (b c : Bench) (trees : KeepsTrees b.work c.work) (names : KeepsNames b.work.symbols c.work.symbols) (same : c.region ≡ b.region) (form : ℕ) (s : ScopedState) (p : Pass Identifier FramedIdent × ScopedState) (stay : OthersStay form s p.1) (tops : OfOk (ItemsBind false) p.0.items)
     (before after : Budget) (ls : List Frames) (trace : Trace) where
   pub passes_ok : (xs : List code_item.Item) → HasSpace (2 ^ 43) after → Declares b.work c.work b.region b.scope c.scope before after ls form trace (Ok xs) p →
       PassesTo b c s.unit form s p (record { budget = after; trace = trace; aside = xs; fault = None })
@@ -135,7 +135,7 @@ module _ (b c : Bench) (trees : KeepsTrees b.work c.work) (names : KeepsNames b.
 -- ---- a form that is gone through once its tree was added
 
 -- the form was gone through from a bench that stood for the same state, with fewer trees and names
-pub passes_from : (b m c : Bench) (trees : KeepsTrees b.work m.work) (names : KeepsNames b.work.symbols m.work.symbols) (same : m.region ≡ b.region) (unit form : ℕ) (s : ScopedState) (own : s.unit ≡ unit) (p : Pass Identifier Place × ScopedState) (d : code.Declared) →
+pub passes_from : (b m c : Bench) (trees : KeepsTrees b.work m.work) (names : KeepsNames b.work.symbols m.work.symbols) (same : m.region ≡ b.region) (unit form : ℕ) (s : ScopedState) (own : s.unit ≡ unit) (p : Pass Identifier FramedIdent × ScopedState) (d : code.Declared) →
     PassesTo m c s.unit form s p d → PassesTo b c unit form s p d
 passes_from b m c trees names same unit form s own p d h =
     let x : PassesTo m c unit form s p d = subst (λ (u : ℕ). PassesTo m c u form s p d) own h in

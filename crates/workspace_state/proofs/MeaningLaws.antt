@@ -20,7 +20,7 @@ use Rattle.workspace_state.specs.Libraries.{HaveMeaning}
 
 -- ---- names are added
 
-meaning_kept : (old new : Names) → KeepsNames old new → (unit form : ℕ) (m : code_meaning.Meaning) (n : Meaning) → IsMeaning old unit form m n → IsMeaning new unit form m n
+pub meaning_kept : (old new : Names) → KeepsNames old new → (unit form : ℕ) (m : code_meaning.Meaning) (n : Meaning) → IsMeaning old unit form m n → IsMeaning new unit form m n
 meaning_kept old new k unit form (code.Local v) n h = h
 meaning_kept old new k unit form (code.Global u j) (Local v) h = absurd h
 meaning_kept old new k unit form (code.Global u j) (Global w i) h = (h.0, k.idents j i h.1)

@@ -19,6 +19,10 @@ use Rattle.core_tree.specs.Units.{FormsStand, IsResult}
 use Rattle.core_tree.specs.declared.traces.FormFault.{FormFault}
 use Rattle.core_tree.specs.declared.units.UnitForm.{UnitForm}
 use Rattle.workspace_state.specs.StandIn.{StandIn}
+use Rattle.scheme_model.specs.Meaning.{Meaning, Local, Global, Standard, Free}
+use Rattle.syntax_tree.specs.Meant.{IsMeaning}
+use Rattle.syntax_tree.specs.declared.meaning.Meaning as code_meaning
+use Rattle.syntax_tree.specs.declared.meaning.Meaning.TheVariants as code
 
 abbrev FaultNamed : Names → UnitForm → Type 0
 FaultNamed names c = (f : FormFault) (i : ℕ) → c.fault ≡ Some f → f.name ≡ Some i → (n : Identifier) × (slice_get names.idents i ≡ Some n)
@@ -70,10 +74,17 @@ matched P (z ∷ xs) [] h n x at = absurd h
 matched P (z ∷ xs) (y ∷ ys) h zero x at = let same : z ≡ x = cc in (y, subst (λ w. P w y) same h.0)
 matched P (z ∷ xs) (y ∷ ys) h (suc n) x at = matched P xs ys h.1 n x at
 
--- an unbound identifier of the forms is there
-pub unbound_is_named : (names : Names) (cs : List UnitForm) (ts : List Target) → StandIn names cs →
+free_there : (names : Names) (n : ℕ) (m : Meaning) → IsMeaning names 0 0 (code.Free n) m → (t : List ℕ) × (slice_get names.symbols n ≡ Some t)
+free_there names n (Local v) h = absurd h
+free_there names n (Global u i) h = absurd h
+free_there names n (Standard s) h = absurd h
+free_there names n (Free s) h = (s, h)
+
+-- what a use that means nothing is called is among the symbols
+pub free_is_named : (names : Names) (cs : List UnitForm) (ts : List Target) → StandIn names cs →
     ((work : Work) (unit : ℕ) (rs : List Formed) → FormsStand work unit 0 cs rs → AllMatch (IsUnbound work.symbols) ts (unbound_in (unit_leaves rs))) →
-    (n : ℕ) (t : Target) → slice_get ts n ≡ Some t → t.ident < length names.idents
-unbound_is_named names cs ts are says n t at =
+    (n : ℕ) (t : Target) (symbol : ℕ) → slice_get ts n ≡ Some t → t.meaning ≡ code.Free symbol → symbol < length names.symbols
+free_is_named names cs ts are says n t symbol at is =
     let q = matched (IsUnbound are.work.symbols) ts (unbound_in (unit_leaves are.formed)) (says are.work are.unit are.formed are.stand) n t at in
-    slice_get_within names.idents t.ident q.0.ident (are.kept.idents t.ident q.0.ident q.1.ident)
+    let s = free_there are.work.symbols symbol q.0.meaning (subst (λ (m : code_meaning.Meaning). IsMeaning are.work.symbols 0 0 m q.0.meaning) is (q.1.meaning 0 0)) in
+    slice_get_within names.symbols symbol s.0 (are.kept.symbols symbol s.0 s.1)

@@ -34,7 +34,7 @@ as_many [] (b ∷ cs) are = absurd are
 as_many (d ∷ ds) [] are = absurd are
 as_many (d ∷ ds) (b ∷ cs) are = ap suc (as_many ds cs are.1)
 
-in_store : (texts : Texts) (n : ℕ) (d : List ℕ × Document) (uri : List ℕ) → slice_get (entries texts) n ≡ Some d → uri ≡ d.0 → text_at texts uri ≡ Some d.1.1
+pub in_store : (texts : Texts) (n : ℕ) (d : List ℕ × Document) (uri : List ℕ) → slice_get (entries texts) n ≡ Some d → uri ≡ d.0 → text_at texts uri ≡ Some d.1.1
 in_store texts n d uri at is = ap (λ u. option_map (λ (x : Document). x.1) (get texts u)) is ∙ ap (option_map (λ (x : Document). x.1)) (get_nth texts n d.0 d.1 at)
 
 -- the lines of a document are those of its text in the store

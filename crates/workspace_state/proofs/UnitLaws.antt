@@ -4,7 +4,7 @@ use Rattle.std.proofs.lemmas.Option.{slice_get_within, slice_get-get_or}
 use Rattle.scheme_model.specs.Ident.{Written}
 use Rattle.scheme_model.specs.Meaning.{Meaning}
 use Rattle.scheme_model.specs.Order.{Note}
-use Rattle.scheme_model.specs.ScopedExpansion.{Frames, Place, ScopedState}
+use Rattle.scheme_model.specs.ScopedExpansion.{Frames, FramedIdent, ScopedState}
 use Rattle.syntax_tree.specs.Names.{Names, KeepsNames, AreToldApart}
 use Rattle.syntax_tree.specs.Works.{IsOpened}
 use Rattle.syntax_tree.specs.declared.trees.Work.{Work}
@@ -40,9 +40,9 @@ imports_given old new keeps xs es all mean once =
 -- a unit that is begun on a bench to whose names some were added
 pub unit_begun : (b c : Bench) (w : Work) (unit : ℕ) (program : Bool) (xs : List Imported) (imported : List ℕ → Option Meaning) → IsBench b → w.trees ≡ b.work.trees → KeepsNames b.work.symbols w.symbols → AreToldApart w.symbols.idents →
     AreToldApart w.symbols.symbols → ImportsFor w.symbols xs imported → c.region ≡ b.region → c.work.trees ≡ w.trees → KeepsNames w.symbols c.work.symbols →
-    ((ls : List Frames) (s : ScopedState) (notes : List (Note Place)) (given : List ℕ → Option Meaning) → UnitStands w b.scope ls s notes → ImportsFor w.symbols xs given →
+    ((ls : List Frames) (s : ScopedState) (notes : List (Note FramedIdent)) (given : List ℕ → Option Meaning) → UnitStands w b.scope ls s notes → ImportsFor w.symbols xs given →
     UnitStands c.work c.scope (ls ++ [] ∷ []) (started unit program (with_imports unit given s.entry) s) []) →
-    ((ls : List Frames) (s : ScopedState) (notes : List (Note Place)) (given : List ℕ → Option Meaning) → UnitStands w b.scope ls s notes → (m : ℕ) → IsFresh (started unit program (with_imports unit given s.entry) s) m) →
+    ((ls : List Frames) (s : ScopedState) (notes : List (Note FramedIdent)) (given : List ℕ → Option Meaning) → UnitStands w b.scope ls s notes → (m : ℕ) → IsFresh (started unit program (with_imports unit given s.entry) s) m) →
     IsBegun c unit
 unit_begun b c w unit program xs imported is trees names apart told are region after added rests fresh =
     let at = bench_in b w trees names apart told is in

@@ -6,7 +6,7 @@ use Rattle.syntax_tree.specs.Names.{Names, KeepsNames}
 use Rattle.syntax_tree.specs.Works.{KeepsTrees}
 use Rattle.syntax_tree.specs.declared.trees.Work.{Work}
 use Rattle.syntax_tree.proofs.Places.{none_some}
-use Rattle.core_tree.specs.Units.{IsBlank, FormsStand}
+use Rattle.core_tree.specs.Units.{IsBlank}
 use Rattle.core_tree.specs.declared.units.UnitForm.{UnitForm}
 use Rattle.expander.proofs.PartsStay.{forms_on}
 use Rattle.workspace_state.specs.declared.expanding.Expanded.{Expanded}
@@ -16,6 +16,7 @@ use Rattle.workspace_state.specs.Libraries.{HaveMeaning, ExportsMean}
 use Rattle.workspace_state.specs.Places.{AreFoundIn}
 use Rattle.workspace_state.specs.UnitsExpanded.{AreAllFound}
 use Rattle.workspace_state.proofs.ChangedLaws.{set_cases}
+use Rattle.workspace_state.proofs.Collecting.{blank_stand}
 use Rattle.workspace_state.proofs.MeaningLaws.{mean_kept}
 
 -- what holds of what there is, if there is any
@@ -59,11 +60,6 @@ pub all_mean : (old new : Names) → KeepsNames old new → (all : List (Option 
 all_mean old new names all was n e at = mean_kept old new names e.exports (was n e at)
 
 -- ---- what the forms of each stand for
-
--- blank forms stand for none
-blank_stand : (work : Work) (unit form : ℕ) (cs : List UnitForm) → All IsBlank cs → FormsStand work unit form cs []
-blank_stand work unit form [] h = tt
-blank_stand work unit form (c ∷ cs) h = (h 0 c (omega arith), blank_stand work unit (suc form) cs (λ k d lt. h (suc k) d (omega arith)))
 
 pub blank_formed : (work : Work) (unit : ℕ) (cs : List UnitForm) → All IsBlank cs → IsFormed work unit cs
 blank_formed work unit cs h = ([], blank_stand work unit 0 cs h)

@@ -1,6 +1,6 @@
 -- The forms of a unit as they are gone through and expanded (R7RS 5.1, 5.3): what the code holds of each, and the state of the unit
 -- that the trees and scopes stand for meanwhile.
-use Rattle.std.specs.Prelude.{◌≡◌, ℕ, suc, ◌^◌, ◌≤◌, List, [], map, length, reverse, slice_get, false, Option, Some, None, Result, Ok, Err, String}
+use Rattle.std.specs.Prelude.{◌≡◌, ◌⊎◌, ℕ, suc, ◌^◌, ◌≤◌, ◌<◌, nat_lt, List, [], ◌∷◌, map, length, reverse, slice_get, false, Option, Some, None, Result, Ok, Err, String}
 use Rattle.std.specs.declared.alloc.Global.{Global}
 use Rattle.std.specs.BTreeSet.{BTreeSet, contains_text}
 use Rattle.scheme_model.specs.Ident.{Ident as Identifier}
@@ -8,10 +8,13 @@ use Rattle.scheme_model.specs.Data.{Datum}
 use Rattle.scheme_model.specs.Cores.{Parts}
 use Rattle.scheme_model.specs.Steps.{Broken}
 use Rattle.scheme_model.specs.Order.{Item, Note, Pass, Counted}
-use Rattle.scheme_model.specs.UnitExpansion.{Formed}
+use Rattle.scheme_model.specs.UnitExpansion.{Formed, passes, finished, max_total, nodes_in, states_passed, states_finished}
+use Rattle.scheme_model.specs.Expression.{expand}
+use Rattle.scheme_model.specs.Program.{Prepared, enough_turns}
 use Rattle.scheme_model.specs.Requirements.{Known}
 use Rattle.scheme_model.specs.Substitution.{Defined}
-use Rattle.scheme_model.specs.ScopedExpansion.{Frames, Place, ScopedState}
+use Rattle.scheme_model.specs.Trees.{Tree}
+use Rattle.scheme_model.specs.ScopedExpansion.{Frames, FramedIdent, ScopedState}
 use Rattle.syntax_tree.specs.declared.trees.Work.{Work}
 use Rattle.syntax_tree.specs.declared.trees.table.Region.{Region}
 use Rattle.syntax_tree.specs.Works.{IsOpened, KeepsTrees, SameRegions, AddsIn}
@@ -30,10 +33,12 @@ use Rattle.expander.specs.Judged.{Knows, library_text}
 use Rattle.expander.specs.Opened.{IsNew}
 use Rattle.expander.specs.Others.{InOrder}
 use Rattle.expander.specs.State.{IsNumbered, numbered_in}
-use Rattle.expander.specs.Stepped.{IsFresh}
+use Rattle.expander.specs.Searched.{searched, searched_unit_over}
+use Rattle.expander.specs.Stepped.{turned, IsFresh}
 use Rattle.expander.specs.Tops.{OfOk, ItemsBind}
 use Rattle.expander.specs.Units.{UnitStands, CountsFor, HasSpace, ItemFor, declared}
 use Rattle.expander.specs.declared.scope.Budget.{Budget}
+use Rattle.workspace_state.specs.Ends.{numbers_of, Rise, IsAmong, Ends, items_expanded, item_states}
 use Rattle.workspace_state.specs.declared.forms.Bench.{Bench}
 use Rattle.workspace_state.specs.declared.forms.Declared as code
 
@@ -52,7 +57,7 @@ pub record IsBench (b : Bench) : Type 0 where
   pub region : IsOpened b.work b.region
   pub layout : List Frames
   pub state : ScopedState
-  pub notes : List (Note Place)
+  pub notes : List (Note FramedIdent)
   pub stands : UnitStands b.work b.scope layout state notes
 
 -- a unit was begun of which nothing is done yet
@@ -112,7 +117,7 @@ pub record IsDeclared (work : Work) (region : Region) (unit form : ℕ) (s : Sco
 pub record CanPass (b : Bench) (unit form : ℕ) : Type 0 where
   pub layout : List Frames
   pub state : ScopedState
-  pub notes : List (Note Place)
+  pub notes : List (Note FramedIdent)
   pub stands : UnitStands b.work b.scope layout state notes
   pub number : state.unit ≡ unit
   pub fresh : IsFresh state form
@@ -121,14 +126,14 @@ pub record CanPass (b : Bench) (unit form : ℕ) : Type 0 where
 pub record CanFinish (b : Bench) (unit form : ℕ) (d : code.Declared) : Type 0 where
   pub layout : List Frames
   pub state : ScopedState
-  pub notes : List (Note Place)
+  pub notes : List (Note FramedIdent)
   pub stands : UnitStands b.work b.scope layout state notes
   pub number : state.unit ≡ unit
   pub result : Passing
   pub form_is : IsDeclared b.work b.region unit form state d result
 
 -- a form that is expanded, as it is gone through
-abbrev pub passed : Known → (unit form : ℕ) → Datum → List (Note Place) → ScopedState → Pass Identifier Place × ScopedState
+abbrev pub passed : Known → (unit form : ℕ) → Datum → List (Note FramedIdent) → ScopedState → Pass Identifier FramedIdent × ScopedState
 passed known unit form d notes s = declared known form (seeded unit form d) notes s
 
 abbrev pub AreInOrder : (behind : ℕ) → ScopedState → Type 0
@@ -146,34 +151,54 @@ pub record LeavesOthers (old new : Bench) (unit form : ℕ) (s t : ScopedState) 
   pub in_order : (behind : ℕ) → behind ≤ suc form → AreInOrder behind s → AreInOrder (suc form) t
 
 -- a form that was gone through by this step
-pub record PassesTo (old new : Bench) (unit form : ℕ) (s : ScopedState) (p : Pass Identifier Place × ScopedState) (c : code.Declared) : Type 0 where
+pub record PassesTo (old new : Bench) (unit form : ℕ) (s : ScopedState) (p : Pass Identifier FramedIdent × ScopedState) (c : code.Declared) : Type 0 where
   pub layout : List Frames
   pub stands : UnitStands new.work new.scope layout p.1 p.0.notes
   pub form_is : IsDeclared new.work new.region unit form p.1 c p.0.items
   pub others : LeavesOthers old new unit form s p.1
 
-abbrev pub PassesForm : (old new : Bench) → Known → (unit form : ℕ) → Datum → List (Note Place) → ScopedState → code.Declared → Type 0
+abbrev pub PassesForm : (old new : Bench) → Known → (unit form : ℕ) → Datum → List (Note FramedIdent) → ScopedState → code.Declared → Type 0
 PassesForm old new known unit form d notes s c = PassesTo old new unit form s (passed known unit form d notes s) c
 
--- what a form set aside is being expanded: what came of it so far, and the state by now
-pub record Finishing (old new : Bench) (unit form : ℕ) (s : ScopedState) (budget : Budget) (trace : Trace) (items : List ExpandedItem) : Type 0 where
+-- what a form set aside is expanded: what came of it, and the states once an item more is
+abbrev pub expanding : Known → (form : ℕ) → Passing → ScopedState → Result Parts Broken × ScopedState
+expanding known form r s = items_expanded (searched known) enough_turns [] r (turned form s)
+
+abbrev pub expanding_states : Known → (form : ℕ) → Passing → ScopedState → List ScopedState
+expanding_states known form r s = item_states (searched known) enough_turns [] r (turned form s)
+
+-- forms with these numbers, among which is this one, have counted so many nodes
+pub record HaveCounted (known : Known) (fs : List ℕ) (form : ℕ) (s : ScopedState) (total : ℕ) : Type 0 where
+  pub rise : Rise 0 fs
+  pub among : IsAmong form fs
+  pub counted : nodes_in (searched known) fs s ≡ total
+
+-- from one state a form went through others to the last: work on the unit ends in it if it makes the nodes too many, and in none before it
+abbrev pub GoesTo : Known → (form : ℕ) → (s : ScopedState) (before : ℕ) → List ScopedState → (after : ℕ) → ScopedState → Type 0
+GoesTo known form s before ss after last = (fs : List ℕ) → HaveCounted known fs form s before → Ends (searched known) fs ss after last
+
+-- what a form set aside is being expanded: what came of so much of it, and the state by now
+pub record Finishing (old new : Bench) (known : Known) (unit form : ℕ) (front : Passing) (s : ScopedState) (before after : ℕ) (budget : Budget) (trace : Trace) (items : List ExpandedItem) : Type 0 where
   pub layout : List Frames
   pub state : ScopedState
-  pub notes : List (Note Place)
+  pub notes : List (Note FramedIdent)
   pub stands : UnitStands new.work new.scope layout state notes
   pub counts : CountsFor new.work state form budget trace
   pub number : state.unit ≡ unit
+  pub at_work : state.form ≡ form
   pub kept : KeepsOthers old new unit form s state
   pub table : state.table ≡ s.table
   pub parts : Parts
   pub stand : PartsStand new.work unit form (map (λ i. i.part) items) parts
   pub tops : DefineOnTop parts
+  pub so_far : expanding known form front s ≡ (Ok parts, state)
+  pub ends : GoesTo known form s before (expanding_states known form front s) after state
 
 -- what a form came to, and the state then: the unit's definitions are those that there were
 pub record FinishesTo (old new : Bench) (unit form : ℕ) (s : ScopedState) (c : code_form.UnitForm) : Type 0 where
   pub layout : List Frames
   pub state : ScopedState
-  pub notes : List (Note Place)
+  pub notes : List (Note FramedIdent)
   pub stands : UnitStands new.work new.scope layout state notes
   pub number : state.unit ≡ unit
   pub kept : KeepsOthers old new unit form s state
@@ -183,6 +208,13 @@ pub record FinishesTo (old new : Bench) (unit form : ℕ) (s : ScopedState) (c :
   pub result_is : IsResult new.work unit form c result met
   pub definitions : AllMatch (IsNumbered new.work.symbols form) (reverse c.trace.definitions) (numbered_in unit form state.table)
 
+-- all that a form set aside is expanded, or as much as it takes to count too many nodes
+pub record FinishesForm (old new : Bench) (known : Known) (unit form : ℕ) (r : Passing) (s : ScopedState) (before after : ℕ) (c : code_form.UnitForm) : Type 0 where
+  pub finishes : FinishesTo old new unit form s c
+  pub ends : GoesTo known form s before (expanding_states known form r s) after finishes.state
+  pub whole : nat_lt max_total after ≡ false → expanding known form r s ≡ (finishes.result, finishes.state)
+  pub counted : finishes.met ≡ (searched known).counted finishes.state
+
 -- ---- all forms
 
 -- forms were gone through from the first on, and those from a place on are still held: what each set aside, in the state that is
@@ -190,7 +222,7 @@ pub record FinishesTo (old new : Bench) (unit form : ℕ) (s : ScopedState) (c :
 pub record FormsHeld (b : Bench) (unit place : ℕ) (ds : List code.Declared) : Type 0 where
   pub layout : List Frames
   pub state : ScopedState
-  pub notes : List (Note Place)
+  pub notes : List (Note FramedIdent)
   pub stands : UnitStands b.work b.scope layout state notes
   pub number : state.unit ≡ unit
   pub held : (m : ℕ) (d : code.Declared) → place ≤ m → slice_get ds m ≡ Some d → (r : Passing) × IsDeclared b.work b.region unit m state d r
@@ -206,3 +238,56 @@ pub record AreFormed (work : Work) (unit : ℕ) (cs : List code_form.UnitForm) :
   pub stand : FormsStand work unit 0 cs formed
   pub defined : List Defined
   pub definitions : AreDefinitions work.symbols (reverse (definitions_from 0 cs)) defined
+
+-- the forms from a number on: each is the next that was gone through, or isn't expanded
+abbrev pub AreDeclared : Work → Region → (unit form : ℕ) → ScopedState → List code.Declared → List (ℕ × Passing) → Type 0
+AreDeclared work region unit form s [] [] = Unit {0}
+AreDeclared work region unit form s [] (r ∷ rs) = ⊥
+AreDeclared work region unit form s (d ∷ ds) [] = IsUntouched d × AreDeclared work region unit (suc form) s ds []
+AreDeclared work region unit form s (d ∷ ds) (r ∷ rs) =
+    (IsUntouched d × (form < r.0) × AreDeclared work region unit (suc form) s ds (r ∷ rs))
+    ⊎ ((r.0 ≡ form) × IsDeclared work region unit form s d r.1 × AreDeclared work region unit (suc form) s ds rs)
+
+-- forms with their numbers are gone through: all, or as many as it takes to count too many nodes
+pub record Passes (b : Bench) (unit : ℕ) (known : Known) (ts : List (ℕ × Tree Identifier)) (s : ScopedState) (total : ℕ) (ds : List code.Declared) : Type 0 where
+  pub held : FormsHeld b unit 0 ds
+  pub ends : Ends (searched known) (numbers_of ts) (states_passed (searched known) enough_turns [] ts s) total held.state
+  pub state : nat_lt max_total total ≡ false → held.state ≡ (passes (searched known) enough_turns [] ts [] s).1
+  pub forms : nat_lt max_total total ≡ false → AreDeclared b.work b.region unit 0 held.state ds (passes (searched known) enough_turns [] ts [] s).0
+
+-- forms that were gone through stand with what each set aside, by numbers that rise, and have counted so many nodes, which aren't too many
+pub record CanFinishAll (b : Bench) (unit : ℕ) (known : Known) (rs : List (ℕ × Passing)) (s : ScopedState) (total : ℕ) (ds : List code.Declared) : Type 0 where
+  pub few : nat_lt max_total total ≡ false
+  pub rise : Rise 0 (numbers_of rs)
+  pub counted : nodes_in (searched known) (numbers_of rs) s ≡ total
+  pub forms : AreDeclared b.work b.region unit 0 s ds rs
+
+-- what they set aside is expanded: all of it, or as much as it takes to count too many nodes
+pub record Finishes (b : Bench) (unit : ℕ) (known : Known) (rs : List (ℕ × Passing)) (s : ScopedState) (total : ℕ) (cs : List code_form.UnitForm) : Type 0 where
+  pub layout : List Frames
+  pub last : ScopedState
+  pub notes : List (Note FramedIdent)
+  pub stands : UnitStands b.work b.scope layout last notes
+  pub ends : Ends (searched known) (numbers_of rs) (states_finished (searched known) enough_turns [] rs s) total last
+  pub state : nat_lt max_total total ≡ false → last ≡ (finished (searched known) (expand (searched known) enough_turns) [] rs s).1
+  pub forms : nat_lt max_total total ≡ false → FormsStand b.work unit 0 cs (finished (searched known) (expand (searched known) enough_turns) [] rs s).0
+  pub definitions : nat_lt max_total total ≡ false → AreDefinitions b.work.symbols (reverse (definitions_from 0 cs)) (defined_by unit last.table)
+
+-- ---- the unit
+
+-- the bench stands for this state
+pub record StandsAt (b : Bench) (s : ScopedState) : Type 0 where
+  pub layout : List Frames
+  pub notes : List (Note FramedIdent)
+  pub stands : UnitStands b.work b.scope layout s notes
+
+-- what the forms of a unit come to, or nothing where work on it ended
+abbrev pub AreUnfolded : Bench → (unit : ℕ) → ScopedState → Option (List code_form.UnitForm) → Option (List Formed) → Type 0
+AreUnfolded b unit t None None = Unit {0}
+AreUnfolded b unit t None (Some fs) = ⊥
+AreUnfolded b unit t (Some cs) None = ⊥
+AreUnfolded b unit t (Some cs) (Some fs) = FormsStand b.work unit 0 cs fs × AreDefinitions b.work.symbols (reverse (definitions_from 0 cs)) (defined_by unit t.table)
+
+pub record Unfolds (b : Bench) (known : Known) (p : Prepared) (s : ScopedState) (cs : Option (List code_form.UnitForm)) : Type 0 where
+  pub stands : StandsAt b (searched_unit_over known p s).1
+  pub forms : AreUnfolded b p.number (searched_unit_over known p s).1 cs (searched_unit_over known p s).0

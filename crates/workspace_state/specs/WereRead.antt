@@ -1,7 +1,7 @@
 -- Forms of units that were read from texts.
 use Rattle.std.specs.Prelude.{◌≡◌, List, [], ◌∷◌, false}
 use Rattle.scheme_model.specs.Declarations.{UnitForm}
-use Rattle.datum_reader.specs.Right.{WasRead}
+use Rattle.datum_reader.specs.WellFormed.{WasRead}
 use Rattle.library_table.specs.UnitsRead.{forms_of}
 use Rattle.library_table.specs.declared.units.UnitSource.{UnitSource}
 
@@ -10,7 +10,12 @@ abbrev pub WereRead : List UnitForm → Type 0
 WereRead [] = Unit {0}
 WereRead (f ∷ fs) = (f.declared ≡ false → WasRead f.datum) × WereRead fs
 
--- the same of each unit
+-- all forms were read, also those that are declarations
+abbrev pub FormsRead : List UnitForm → Type 0
+FormsRead [] = Unit {0}
+FormsRead (f ∷ fs) = WasRead f.datum × FormsRead fs
+
+-- the forms that are expanded were read, of each unit
 abbrev pub AreSourcesRead : List UnitSource → Type 0
 AreSourcesRead [] = Unit {0}
 AreSourcesRead (s ∷ ss) = WereRead (forms_of s.forms) × AreSourcesRead ss

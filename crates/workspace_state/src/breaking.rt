@@ -1,13 +1,17 @@
 //! What breaks a unit as a whole, and the order in which the others are expanded (R7RS 5.6).
-ghost use Rattle.std.specs.Prelude.{◌≡◌, ◌<◌, ◌≤◌, ◌++◌, ℕ, List, Some, true, take, length, vec_len, IfOk, OnOk};
+ghost use Rattle.std.specs.Prelude.{◌≡◌, ◌<◌, ◌≤◌, ◌++◌, ℕ, List, Some, true, take, length, slice_get, vec_len, IfOk, OnOk};
 ghost use Rattle.std.specs.Option.{option_map, option_to_list};
 ghost use Rattle.std.specs.BTreeMap.{get_by_text};
-ghost use Rattle.scheme_model.specs.Program.{is_in, max_units};
+ghost use Rattle.scheme_model.specs.Requirements.{LibraryName};
+ghost use Rattle.scheme_model.specs.Program.{Placed, Prepared, is_in, max_units, on_circle};
+ghost use Rattle.base_library.specs.Texts.{SpellsStandard};
 ghost use Rattle.library_table.specs.Named.{place_named, imported_places};
-ghost use Rattle.library_table.specs.Orders.{ArePlaces};
+ghost use Rattle.library_table.specs.Orders.{with_imports, AreInTurn, ArePlaces};
+ghost use Rattle.library_table.specs.Sources.{TellsNames, AreUnits};
 ghost use Rattle.workspace_state.specs.Libraries.{FindsBelow, library_of, places_by};
 ghost use Rattle.workspace_state.specs.Places.{HeadsStay};
-ghost use Rattle.workspace_state.specs.Broken.{has_standard, broken_by, broken_if, Breaks, SourcesStay};
+ghost use Rattle.workspace_state.specs.Broken.{has_standard, broken_by, broken_if, Breaks, BreaksStandard, FindsImports, Forgets, AreListed, AreJudged, SourcesStay};
+ghost use Rattle.workspace_state.specs.Turned.{turns};
 
 use crate::listing::{Head, Units};
 use base_library::standard;
@@ -57,6 +61,13 @@ pub fn judge(alloc: Global, units: &mut Units, firsts: &Firsts) -> Mem<Items<u32
     requires same { vec_len units.old.sources ≡ vec_len units.old.heads }
     requires within { FindsBelow (vec_len units.old.heads) firsts.now }
     requires few { FindsBelow max_units firsts.now }
+    requires named { (s : List ℕ) → get_by_text firsts.now s ≡ place_named s 0 (take max_units units.old.sources.items) }
+    ensures judged { (spelled : LibraryName → List ℕ) → SpellsStandard spelled → (all : List Placed) → AreUnits spelled (take max_units units.old.sources.items) (take max_units all) →
+        AreListed spelled all units.old.heads.items → OnOk result (AreJudged all units.old.heads.items units.new.heads.items) }
+    ensures turns { (spelled : LibraryName → List ℕ) → SpellsStandard spelled → (all : List Placed) → AreUnits spelled (take max_units units.old.sources.items) (take max_units all) →
+        AreListed spelled all units.old.heads.items → IfOk result (λ places. places ≡ turns all) }
+    ensures forgotten { OnOk result (Forgets units.new.heads.items units.old.sources.items units.new.sources.items) }
+    // Whatever the units are.
     ensures heads { OnOk result (HeadsStay units.old.heads.items units.new.heads.items) }
     ensures sources { OnOk result (SourcesStay units.old.sources.items units.new.sources.items) }
     ensures places { IfOk result (ArePlaces (vec_len units.old.heads)) }
@@ -83,7 +94,11 @@ fn break_all(
     requires heads { length sources.now ≤ vec_len heads.old }
     requires within { FindsBelow (vec_len heads.old) firsts.now }
     requires firsts { FindsBelow max_units firsts.now }
-    ensures { OnOk result (HeadsStay heads.old.items heads.new.items) }
+    requires named { (s : List ℕ) → get_by_text firsts.now s ≡ place_named s 0 sources.now }
+    ensures judged { (spelled : LibraryName → List ℕ) → SpellsStandard spelled → (all : List Placed) → AreUnits spelled sources.now (take max_units all) →
+        AreListed spelled all heads.old.items → OnOk result (AreJudged all heads.old.items heads.new.items) }
+    // Whatever the units are.
+    ensures stay { OnOk result (HeadsStay heads.old.items heads.new.items) }
 {
     let places = repeated(alloc, sources)?;
     break_at(heads, places.as_slice(), WholeFault::DefinedTwice);
@@ -96,7 +111,10 @@ fn break_all(
 /// The places of units of which none imports itself, each behind what it imports.
 fn in_order(alloc: Global, sources: &[UnitSource]) -> Mem<Items<u32>>
     requires { length sources.now ≤ max_units }
-    ensures { IfOk result (ArePlaces (length sources.now)) }
+    ensures turns { (spelled : LibraryName → List ℕ) → TellsNames spelled → (all : List Placed) → AreUnits spelled sources.now all →
+        IfOk result (AreInTurn all) }
+    // Whatever the units are.
+    ensures places { IfOk result (ArePlaces (length sources.now)) }
 {
     match order(alloc, sources) {
         Ok(places) => Ok(places),
@@ -134,7 +152,7 @@ fn break_at(heads: &mut Vec<Head>, places: &[u32], fault: WholeFault)
 
 /// Breaks the libraries that have a standard name.
 fn break_standard(alloc: Global, heads: &mut Vec<Head>) -> Mem<()>
-    ensures { OnOk result (HeadsStay heads.old.items heads.new.items) }
+    ensures { OnOk result (BreaksStandard heads.old.items heads.new.items) }
 {
     for place in 0..heads.len() {
         let breaks = has_standard_name(alloc, &heads[place].name)?;
@@ -157,7 +175,11 @@ fn has_standard_name(alloc: Global, name: &Option<Text>) -> Mem<bool>
 fn on_circles(alloc: Global, sources: &[UnitSource], firsts: &Firsts) -> Mem<Items<u32>>
     requires few { length sources.now ≤ max_units }
     requires firsts { FindsBelow max_units firsts.now }
-    ensures { (count : ℕ) → FindsBelow count firsts.now → IfOk result (λ places. (n : ℕ) → is_in n places ≡ true → n < count) }
+    requires named { (s : List ℕ) → get_by_text firsts.now s ≡ place_named s 0 sources.now }
+    ensures circles { (spelled : LibraryName → List ℕ) → TellsNames spelled → (all : List Placed) → AreUnits spelled sources.now all →
+        IfOk result (λ places. (n : ℕ) (p : Prepared) → slice_get (with_imports all) n ≡ Some p → is_in n places ≡ on_circle (with_imports all) p) }
+    // Whatever the units are.
+    ensures within { (count : ℕ) → FindsBelow count firsts.now → IfOk result (λ places. (n : ℕ) → is_in n places ≡ true → n < count) }
 {
     match order(alloc, sources) {
         Ok(_) => Ok(Items::new(alloc)),
@@ -198,7 +220,7 @@ fn find_imports(
 ) -> Mem<()>
     requires sources { length sources.now ≤ vec_len heads.old }
     requires firsts { FindsBelow max_units firsts.now }
-    ensures { OnOk result (HeadsStay heads.old.items heads.new.items) }
+    ensures { OnOk result (FindsImports (λ s. get_by_text firsts.now s) sources.now heads.old.items heads.new.items) }
 {
     for (place, source) in sources.iter().enumerate() {
         heads[place].imports = imports_of(alloc, firsts, source.imports.as_slice())?;
@@ -235,7 +257,7 @@ pub fn library_in(set: &ImportSet) -> Option<&str>
 /// Takes the import sets of broken units away.
 fn forget_imports(alloc: Global, heads: &[Head], sources: &mut Vec<UnitSource>)
     requires { vec_len sources.old ≡ length heads.now }
-    ensures { SourcesStay sources.old.items sources.new.items }
+    ensures { Forgets heads.now sources.old.items sources.new.items }
 {
     for (place, head) in heads.iter().enumerate() {
         if head.fault.is_some() {

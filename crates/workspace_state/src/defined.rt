@@ -1,12 +1,19 @@
 //! What the forms of a unit define (R7RS 5.3), and which of these hide an import.
-ghost use Rattle.std.specs.Prelude.{◌≡◌, ◌<◌, ◌++◌, ℕ, map, length, slice_get, Some, OnOk, IfOk};
+ghost use Rattle.std.specs.Prelude.{◌≡◌, ◌<◌, ◌++◌, ℕ, List, map, reverse, length, slice_get, Some, OnOk, IfOk};
 ghost use Rattle.std.specs.Option.{option_map};
 ghost use Rattle.scheme_model.specs.Ident.{Ident as Identifier};
+ghost use Rattle.scheme_model.specs.Entries as model;
+ghost use Rattle.scheme_model.specs.Program.{UnitResult, names_of_unit};
+ghost use Rattle.scheme_model.specs.Diagnostics.{bytes_of, hiding_diagnostics};
+ghost use Rattle.scheme_model.specs.Substitution.{Table};
 ghost use Rattle.syntax_tree.specs.Names.{Names};
-ghost use Rattle.core_tree.specs.Units.{definitions_from};
-ghost use Rattle.workspace_state.specs.Defined.{AreKnown, written_symbol};
+ghost use Rattle.syntax_tree.specs.Meant.{AreEntries};
+ghost use Rattle.core_tree.specs.Units.{AreDefinitions, defined_by, definitions_from};
+ghost use Rattle.workspace_state.specs.Defined.{AreKnown, FindsNames, if_named, named_all, named_as, symbol_at, symbol_in, told_hiding, written_symbol};
+ghost use Rattle.workspace_state.specs.Found.{all_told};
 ghost use Rattle.workspace_state.specs.Libraries.{HaveMeaning};
-ghost use Rattle.workspace_state.specs.Places.{AreFoundIn, CanPlace};
+ghost use Rattle.workspace_state.specs.Places.{AreFoundIn, ArePlaces, CanPlace, spans_of};
+ghost use Rattle.workspace_state.specs.Readings.{Read};
 
 use crate::entries::add_found;
 use crate::findings::Finding;
@@ -28,6 +35,23 @@ fn written(symbols: &Symbols, ident: IdNo) -> Option<&str>
 {
     match symbols.ident_at(ident) {
         Ident::Written { unit: _, symbol } => Some(symbols.name(symbol)),
+        Ident::Inserted { id: _, number: _ } => None,
+    }
+}
+
+/// The symbol of an identifier that is written in a unit.
+fn written_in(symbols: &Symbols, home: u32, ident: IdNo) -> Option<&str>
+    requires { ident < length symbols.now.idents }
+    ensures { (i : Identifier) → slice_get symbols.now.idents ident ≡ Some i → option_map (λ s. s.now) result ≡ symbol_in home i }
+{
+    match symbols.ident_at(ident) {
+        Ident::Written { unit, symbol } => {
+            if unit == home {
+                Some(symbols.name(symbol))
+            } else {
+                None
+            }
+        }
         Ident::Inserted { id: _, number: _ } => None,
     }
 }
@@ -64,7 +88,7 @@ fn add_definitions(all: &mut Vec<(u32, Binder)>, form: u32, binders: &[Binder]) 
     Ok(())
 }
 
-/// What can be exported of a unit: what it defines under written names, and then what it imports.
+/// What can be exported of a unit: what it defines under names that are written in it, the latest first, and then what it imports.
 pub fn names_of(
     alloc: Global,
     symbols: &Symbols,
@@ -74,10 +98,14 @@ pub fn names_of(
 ) -> Mem<Vec<Entry>>
     requires known { AreKnown symbols.now defined.now }
     requires imported { HaveMeaning symbols.now joined.now.entries.items }
-    ensures { IfOk result (λ names. HaveMeaning symbols.now names.items) }
+    ensures means { IfOk result (λ names. HaveMeaning symbols.now names.items) }
+    ensures exact { IfOk result (λ names. names.items ≡ named_all symbols.now unit (reverse defined.now) ++ joined.now.entries.items) }
+    ensures finds { (table : Table) → AreDefinitions symbols.now (reverse defined.now) (defined_by unit table) →
+        (es : List model.Entry) → AreEntries symbols.now joined.now.entries.items es →
+        IfOk result (λ names. FindsNames symbols.now names.items (names_of_unit table unit es)) }
 {
     let mut names = Vec::new(alloc);
-    for (_, binder) in defined {
+    for (_, binder) in defined.iter().rev() {
         add_name(alloc, &mut names, symbols, unit, *binder)?;
     }
     add_entries(
@@ -97,7 +125,7 @@ fn add_entries(names: &mut Vec<Entry>, entries: Items<Entry>) -> Mem<()>
     Ok(())
 }
 
-/// Adds a definition as a name that can be exported, if it is written.
+/// Adds a definition as a name that can be exported, if it is written in its unit.
 fn add_name(
     alloc: Global,
     names: &mut Vec<Entry>,
@@ -106,9 +134,10 @@ fn add_name(
     binder: Binder,
 ) -> Mem<()>
     requires { binder.ident < length symbols.now.idents }
-    ensures { HaveMeaning symbols.now names.old.items → OnOk result (HaveMeaning symbols.now names.new.items) }
+    ensures means { HaveMeaning symbols.now names.old.items → OnOk result (HaveMeaning symbols.now names.new.items) }
+    ensures exact { OnOk result (names.new.items ≡ names.old.items ++ named_as unit binder (symbol_at unit (slice_get symbols.now.idents binder.ident))) }
 {
-    let Some(name) = written(symbols, binder.ident) else {
+    let Some(name) = written_in(symbols, unit, binder.ident) else {
         return Ok(());
     };
     names.push(Entry {
@@ -122,7 +151,7 @@ fn add_name(
     Ok(())
 }
 
-/// Adds the definitions that hide an import.
+/// Adds the definitions that hide an import, the latest first.
 pub fn add_hiding(
     alloc: Global,
     symbols: &Symbols,
@@ -135,20 +164,50 @@ pub fn add_hiding(
     requires known { AreKnown symbols.now defined.now }
     requires documents { 0 < length places.documents.now }
     requires places { CanPlace places }
-    ensures { AreFoundIn (length places.entry.documents.now) findings.old.items → OnOk result (AreFoundIn (length places.entry.documents.now) findings.new.items) }
+    ensures inside { AreFoundIn (length places.entry.documents.now) findings.old.items → OnOk result (AreFoundIn (length places.entry.documents.now) findings.new.items) }
+    ensures told { (table : Table) → AreDefinitions symbols.now (reverse defined.now) (defined_by unit table) →
+        (es : List model.Entry) → AreEntries symbols.now joined.now.entries.items es →
+        (reads : List Read) → (us : List UnitResult) → ArePlaces places.entry reads us → OnOk result (all_told findings.new.items
+        ≡ all_told findings.old.items ++ hiding_diagnostics (bytes_of (spans_of reads) us) unit es table) }
 {
-    for (form, binder) in defined {
-        if let Some(name) = hidden(symbols, joined, *binder) {
-            let at = places.at_or_form(binder.occ, unit, *form);
-            add_found(alloc, findings, Some(at), *form, 101, name)?;
-        }
+    for definition in defined.iter().rev() {
+        add_hidden(alloc, symbols, places, unit, *definition, joined, findings)?;
     }
     Ok(())
+}
+
+/// Adds a definition with its form, if it hides an import.
+fn add_hidden(
+    alloc: Global,
+    symbols: &Symbols,
+    places: Places<'_>,
+    unit: u32,
+    definition: (u32, Binder),
+    joined: &Joined,
+    findings: &mut Vec<Finding>,
+) -> Mem<()>
+    requires known { definition.1.ident < length symbols.now.idents }
+    requires documents { 0 < length places.documents.now }
+    requires places { CanPlace places }
+    ensures inside { AreFoundIn (length places.entry.documents.now) findings.old.items → OnOk result (AreFoundIn (length places.entry.documents.now) findings.new.items) }
+    ensures told { (i : Identifier) → slice_get symbols.now.idents definition.1.ident ≡ Some i →
+        (reads : List Read) → (us : List UnitResult) → ArePlaces places.entry reads us → OnOk result (all_told findings.new.items
+        ≡ all_told findings.old.items
+        ++ told_hiding (bytes_of (spans_of reads) us) unit definition.0 definition.1.occ (if_named joined.now.entries.items (written_symbol i))) }
+{
+    let (form, binder) = definition;
+    let Some(name) = hidden(symbols, joined, binder) else {
+        return Ok(());
+    };
+    let at = places.at_or_form(binder.occ, unit, form);
+    Ok(add_found(alloc, findings, Some(at), form, 101, name)?)
 }
 
 /// The imported name that a definition hides, where it hides one.
 fn hidden<'a>(symbols: &'a Symbols, joined: &Joined, binder: Binder) -> Option<&'a str>
     requires { binder.ident < length symbols.now.idents }
+    ensures { (i : Identifier) → slice_get symbols.now.idents binder.ident ≡ Some i →
+        option_map (λ s. s.now) result ≡ if_named joined.now.entries.items (written_symbol i) }
 {
     let name = written(symbols, binder.ident)?;
     if joined.has(name) { Some(name) } else { None }

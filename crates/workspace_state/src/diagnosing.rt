@@ -1,9 +1,27 @@
 //! What is found wrong in the forms of a unit, and in a unit that is broken as a whole.
-ghost use Rattle.std.specs.Prelude.{◌≡◌, ◌<◌, ℕ, length, Some, IfOk, OnOk};
-ghost use Rattle.workspace_state.specs.declared.findings.At.{At as Found};
+ghost use Rattle.std.specs.Prelude.{◌≡◌, ◌<◌, ◌++◌, ◌∷◌, ℕ, List, [], length, slice_get, Some, None, IfOk, OnOk};
+ghost use Rattle.scheme_model.specs.Ident.{Ident as Identifier, symbol_of};
+ghost use Rattle.scheme_model.specs.Steps.{Broken};
+ghost use Rattle.scheme_model.specs.UnitExpansion.{Formed};
+ghost use Rattle.scheme_model.specs.Program.{UnitResult, WholeFault as Whole};
+ghost use Rattle.scheme_model.specs.Cores.{Target as CoreTarget};
+ghost use Rattle.scheme_model.specs.Live.{unit_leaves};
+ghost use Rattle.scheme_model.specs.Diagnostics.{bytes_of, unit_at, form_diagnostics, unbound_diagnostics, whole_fault};
+ghost use Rattle.syntax_tree.specs.Names.{Names, KeepsNames};
+ghost use Rattle.syntax_tree.specs.declared.trees.Work.{Work};
+ghost use Rattle.syntax_tree.specs.declared.meaning.Meaning.TheVariants as meant;
 ghost use Rattle.core_tree.specs.declared.traces.FormFault.{FormFault as Fault};
-ghost use Rattle.workspace_state.specs.Places.{AreFoundIn, CanPlace};
+ghost use Rattle.core_tree.specs.Traces.{IsFault};
+ghost use Rattle.core_tree.specs.Units.{FormsStand, form_errors, whole_code};
+ghost use Rattle.workspace_state.specs.declared.findings.At.{At as Found};
+ghost use Rattle.document_store.specs.Texts.{Document as Entry};
+ghost use Rattle.workspace_state.specs.Readings.{Read, AreReadAs, AreDocuments};
+ghost use Rattle.workspace_state.specs.Found.{all_told};
+ghost use Rattle.workspace_state.specs.Listed.{stops_told};
+ghost use Rattle.workspace_state.specs.Diagnosed.{Adds, IsWhole, fault_names, fault_found, unbound_found, unread_found, whole_at, whole_number};
+ghost use Rattle.workspace_state.specs.Places.{AreFoundIn, ArePlaces, CanPlace, spans_of};
 ghost use Rattle.workspace_state.specs.StandIn.{StandIn};
+ghost use Rattle.workspace_state.specs.Unbound.{IsUnbound};
 
 use crate::breaking::WholeFault;
 use crate::defined::number_of;
@@ -16,6 +34,7 @@ use core_tree::traces::FormFault;
 use core_tree::units::UnitForm;
 use ls_base::Mem;
 use std::alloc::Global;
+use syntax_tree::meaning::Meaning;
 use syntax_tree::symbols::{IdNo, Symbols};
 
 /// Adds the faults of forms.
@@ -30,7 +49,9 @@ pub fn add_faults(
     requires forms { StandIn symbols.now forms.now }
     requires documents { 0 < length places.documents.now }
     requires places { CanPlace places }
-    ensures { AreFoundIn (length places.entry.documents.now) findings.old.items → OnOk result (AreFoundIn (length places.entry.documents.now) findings.new.items) }
+    ensures inside { AreFoundIn (length places.entry.documents.now) findings.old.items → OnOk result (AreFoundIn (length places.entry.documents.now) findings.new.items) }
+    ensures exact { (rs : List Read) (us : List UnitResult) (work : Work) (fs : List Formed) → ArePlaces places.entry rs us → KeepsNames work.symbols symbols.now → FormsStand work unit 0 forms.now fs →
+        OnOk result (Adds findings.old.items findings.new.items (form_diagnostics (bytes_of (spans_of rs) us) unit fs) (form_errors fs)) }
 {
     for (place, form) in forms.iter().enumerate() {
         let number = number_of(place)?;
@@ -52,7 +73,11 @@ fn add_fault(
     requires named { (fault : Fault) (name : ℕ) → form.now.fault ≡ Some fault → fault.name ≡ Some name → name < length symbols.now.idents }
     requires documents { 0 < length places.documents.now }
     requires places { CanPlace places }
-    ensures { AreFoundIn (length places.entry.documents.now) findings.old.items → OnOk result (AreFoundIn (length places.entry.documents.now) findings.new.items) }
+    ensures inside { AreFoundIn (length places.entry.documents.now) findings.old.items → OnOk result (AreFoundIn (length places.entry.documents.now) findings.new.items) }
+    ensures whole { form.now.fault ≡ None → OnOk result (findings.new.items ≡ findings.old.items) }
+    ensures fault { (rs : List Read) (us : List UnitResult) (names : Names) (fault : Fault) (e : Broken) → ArePlaces places.entry rs us → KeepsNames names symbols.now →
+        form.now.fault ≡ Some fault → IsFault names unit number fault e →
+        OnOk result (findings.new.items ≡ findings.old.items ++ fault_found (bytes_of (spans_of rs) us) unit number e ∷ []) }
 {
     let Some(fault) = &form.fault else {
         return Ok(());
@@ -67,6 +92,7 @@ fn add_fault(
 /// What a fault names: the symbol of an identifier, or the text of a `syntax-error`.
 fn name_of<'a>(symbols: &'a Symbols, fault: &'a FormFault) -> &'a str
     requires { (name : ℕ) → fault.now.name ≡ Some name → name < length symbols.now.idents }
+    ensures { (names : Names) (unit form : ℕ) (e : Broken) → KeepsNames names symbols.now → IsFault names unit form fault.now e → result.now ≡ fault_names e.fault }
 {
     if let Some(name) = fault.name {
         return symbol_of(symbols, name);
@@ -80,6 +106,7 @@ fn name_of<'a>(symbols: &'a Symbols, fault: &'a FormFault) -> &'a str
 /// The text of the symbol of an identifier.
 fn symbol_of(symbols: &Symbols, name: IdNo) -> &str
     requires { name < length symbols.now.idents }
+    ensures { (i : Identifier) → slice_get symbols.now.idents name ≡ Some i → result.now ≡ symbol_of i }
 {
     symbols.name(symbols.strip(name))
 }
@@ -95,7 +122,9 @@ pub fn add_unbound(
     requires forms { StandIn symbols.now forms.now }
     requires documents { 0 < length places.documents.now }
     requires places { CanPlace places }
-    ensures { AreFoundIn (length places.entry.documents.now) findings.old.items → OnOk result (AreFoundIn (length places.entry.documents.now) findings.new.items) }
+    ensures inside { AreFoundIn (length places.entry.documents.now) findings.old.items → OnOk result (AreFoundIn (length places.entry.documents.now) findings.new.items) }
+    ensures exact { (rs : List Read) (us : List UnitResult) (work : Work) (unit : ℕ) (fs : List Formed) → ArePlaces places.entry rs us → KeepsNames work.symbols symbols.now → FormsStand work unit 0 forms.now fs →
+        OnOk result (Adds findings.old.items findings.new.items (unbound_diagnostics (bytes_of (spans_of rs) us) (unit_leaves fs)) []) }
 {
     for target in unbound(alloc, forms)? {
         add_target(alloc, symbols, places, target, findings)?;
@@ -103,7 +132,7 @@ pub fn add_unbound(
     Ok(())
 }
 
-/// Adds an identifier that means nothing, where it has a place.
+/// Adds a use that means nothing, where it has a place.
 fn add_target(
     alloc: Global,
     symbols: &Symbols,
@@ -111,16 +140,21 @@ fn add_target(
     target: Target,
     findings: &mut Vec<Finding>,
 ) -> Mem<()>
-    requires named { target.ident < length symbols.now.idents }
+    requires named { (symbol : ℕ) → target.meaning ≡ meant.Free symbol → symbol < length symbols.now.symbols }
     requires documents { 0 < length places.documents.now }
     requires places { CanPlace places }
-    ensures { AreFoundIn (length places.entry.documents.now) findings.old.items → OnOk result (AreFoundIn (length places.entry.documents.now) findings.new.items) }
+    ensures inside { AreFoundIn (length places.entry.documents.now) findings.old.items → OnOk result (AreFoundIn (length places.entry.documents.now) findings.new.items) }
+    ensures exact { (rs : List Read) (us : List UnitResult) (names : Names) (m : CoreTarget) → ArePlaces places.entry rs us → KeepsNames names symbols.now → IsUnbound names target m →
+        OnOk result (findings.new.items ≡ findings.old.items ++ unbound_found (bytes_of (spans_of rs) us) m) }
 {
     let Some(occ) = target.occ else {
         return Ok(());
     };
+    let Meaning::Free(symbol) = target.meaning else {
+        return Ok(());
+    };
     let spot = places.at(occ);
-    let name = symbol_of(symbols, target.ident);
+    let name = symbols.name(symbol);
     let finding = Finding::new(alloc, Some(spot), occ.form, 103, name)?;
     findings.push(finding)?;
     Ok(())
@@ -135,22 +169,45 @@ pub fn whole_finding(
 ) -> Mem<Finding>
     requires documents { 0 < length places.documents.now }
     requires places { CanPlace places }
-    ensures { IfOk result (λ found. (at : Found) → found.at ≡ Some at → at.document < length places.entry.documents.now) }
+    ensures inside { IfOk result (λ found. (at : Found) → found.at ≡ Some at → at.document < length places.entry.documents.now) }
+    ensures exact { (rs : List Read) (us : List UnitResult) (r : UnitResult) (f : Whole) → ArePlaces places.entry rs us → unit_at us unit ≡ Some r → IsWhole fault f →
+        IfOk result (λ found. Adds [] (found ∷ []) (whole_fault (spans_of rs) r.unit f ∷ []) ((whole_code f, 0) ∷ [])) }
 {
-    let start = places.start(unit);
-    let (code, at) = match fault {
-        WholeFault::BadDeclaration(span) => (61, At::new(start.document, span)),
-        WholeFault::ImportCycle => (62, start),
-        WholeFault::DefinedTwice => (63, start),
-        WholeFault::TooLarge => (66, start),
-        WholeFault::TooMany => (67, start),
-    };
+    let at = whole_at(places.start(unit), fault);
+    let code = whole_number(fault);
     Ok(Finding::new(alloc, Some(at), 0, code, "")?)
+}
+
+/// Where a unit is broken as a whole: at its bad declaration, or at its start.
+fn whole_at(start: At, fault: WholeFault) -> At
+    ensures { result ≡ whole_at start fault }
+{
+    match fault {
+        WholeFault::BadDeclaration(span) => At::new(start.document, span),
+        WholeFault::ImportCycle => start,
+        WholeFault::DefinedTwice => start,
+        WholeFault::TooLarge => start,
+        WholeFault::TooMany => start,
+    }
+}
+
+/// The code of what breaks a unit as a whole.
+fn whole_number(fault: WholeFault) -> u32
+    ensures { result ≡ whole_number fault }
+{
+    match fault {
+        WholeFault::BadDeclaration(_) => 61,
+        WholeFault::ImportCycle => 62,
+        WholeFault::DefinedTwice => 63,
+        WholeFault::TooLarge => 66,
+        WholeFault::TooMany => 67,
+    }
 }
 
 /// Where documents can't be read on.
 pub fn unread_findings(alloc: Global, documents: &[Document]) -> Mem<Vec<Finding>>
-    ensures { IfOk result (λ findings. AreFoundIn (length documents.now) findings.items) }
+    ensures inside { IfOk result (λ findings. AreFoundIn (length documents.now) findings.items) }
+    ensures exact { (ds : List (List ℕ × Entry)) (rs : List Read) → AreDocuments ds documents.now → AreReadAs ds rs → IfOk result (λ findings. all_told findings.items ≡ stops_told 0 rs) }
 {
     let mut findings = Vec::new(alloc);
     for (place, document) in documents.iter().enumerate() {
@@ -166,7 +223,8 @@ fn add_unread(
     document: &Document,
     findings: &mut Vec<Finding>,
 ) -> Mem<()>
-    ensures { (count : ℕ) → place < count → AreFoundIn count findings.old.items → OnOk result (AreFoundIn count findings.new.items) }
+    ensures inside { (count : ℕ) → place < count → AreFoundIn count findings.old.items → OnOk result (AreFoundIn count findings.new.items) }
+    ensures exact { OnOk result (findings.new.items ≡ findings.old.items ++ unread_found place document.now.fault) }
 {
     if let Some(fault) = document.fault {
         let spot = At::new(place, fault.span);

@@ -1,15 +1,29 @@
 //! What a unit imports (R7RS 5.2, 5.6.1), and what is wrong in its import sets.
 #![tactic(auto, using(crate::proofs::MeaningLaws::names_itself, crate::proofs::MeaningLaws::names_on, crate::proofs::MeaningLaws::mean_kept, crate::proofs::ImportLaws::exports_kept, crate::proofs::ImportLaws::groups_kept))]
 
-ghost use Rattle.std.specs.Prelude.{◌≡◌, ◌<◌, ◌&&◌, ◌==◌, ℕ, List, [], map, length, Option, Some, OnOk, IfOk, IfSome};
-ghost use Rattle.scheme_model.specs.Program.{standard_entry};
+ghost use Rattle.std.specs.Prelude.{◌≡◌, ◌<◌, ◌&&◌, ◌++◌, ◌∷◌, ℕ, List, [], map, reverse, length, Option, Some, Result, OnOk, IfOk, IfSome};
+ghost use Rattle.std.specs.List.{zip};
+ghost use Rattle.std.specs.Option.{option_map};
+ghost use Rattle.std.specs.BTreeMap.{get_by_text};
+ghost use Rattle.scheme_model.specs.Requirements.{LibraryName};
+ghost use Rattle.scheme_model.specs.StandardLibraries.{standard};
+ghost use Rattle.scheme_model.specs.Entries as model;
+ghost use Rattle.scheme_model.specs.Program as program;
+ghost use Rattle.scheme_model.specs.Program.{standard_entry, is_program, is_empty, import_all, unit_entries};
+ghost use Rattle.scheme_model.specs.Diagnostics.{Bytes, bytes_of, clash_diagnostics, import_fault, set_diagnostics, unit_at};
 ghost use Rattle.syntax_tree.specs.Names.{Names, KeepsNames};
 ghost use Rattle.syntax_tree.specs.Meant.{AreEntries, IsEntry};
-ghost use Rattle.import_sets.specs.Sets.{TellsApart};
-ghost use Rattle.workspace_state.specs.Joining.{AreApart, GroupsMean};
+ghost use Rattle.core_tree.specs.Names.{AllMatch};
+ghost use Rattle.core_tree.specs.Units.{import_code, kind_as, set_errors};
+ghost use Rattle.import_sets.specs.Sets.{FailsAs, IsSet, IsSetOf, TellsApart};
+ghost use Rattle.workspace_state.specs.Joining.{AreApart, GroupsMean, GroupsStand};
 ghost use Rattle.workspace_state.specs.Libraries.{EachOnce, ExportsMean, HaveMeaning};
-ghost use Rattle.workspace_state.specs.Places.{AreFoundIn, IsAtIn, CanPlace};
+ghost use Rattle.workspace_state.specs.Found.{all_told, error_at, errors_in, told_at};
+ghost use Rattle.workspace_state.specs.Places.{AreFoundIn, ArePlaces, IsAtIn, CanPlace, bytes_at, spans_of};
+ghost use Rattle.workspace_state.specs.Readings.{Read, span_seen};
 ghost use Rattle.workspace_state.specs.Imports.{SetMeans};
+ghost use Rattle.workspace_state.specs.SetsGiven.{AreEntriesIf, AreInForms, AreLibraries, ComesTo, ImportsAs, IsInForm, IsSetFault, IsSpec, exports_at, set_exports, with_set};
+ghost use Rattle.workspace_state.specs.Wording.{worded};
 
 use crate::breaking::{Firsts, library_in};
 use crate::expanding::Expanded;
@@ -73,7 +87,9 @@ enum SetGives {
 }
 
 /// Whether a unit is a program without an import, which has `(scheme base)`.
-pub fn imports_nothing(source: &UnitSource) -> bool {
+pub fn imports_nothing(source: &UnitSource) -> bool
+    ensures { result ≡ (is_program (kind_as source.now.kind) && is_empty source.now.imports) }
+{
     source.kind == UnitKind::Program && source.imports.as_slice().is_empty()
 }
 
@@ -94,6 +110,16 @@ pub fn given_to(
     ensures entries { IfOk result (λ given. HaveMeaning work.new.symbols given.joined.entries.items) }
     ensures once { IfOk result (λ given. EachOnce given.joined.entries.items) }
     ensures findings { IfOk result (λ given. AreFoundIn (length places.entry.documents.now) given.findings.items) }
+    ensures exact { (spelled : LibraryName → List ℕ) → (all : List program.Placed) → (rs : List program.UnitResult) →
+        AreLibraries work.old.symbols libraries.entry spelled all rs → (p : program.Prepared) → ImportsAs spelled source.now p →
+        IfOk result (λ given. AreEntries work.new.symbols given.joined.entries.items (unit_entries all rs p).0) }
+    ensures told { (spelled : LibraryName → List ℕ) → (all : List program.Placed) → (rs : List program.UnitResult) →
+        AreLibraries work.old.symbols libraries.entry spelled all rs → (p : program.Prepared) → ImportsAs spelled source.now p →
+        (reads : List Read) → (us : List program.UnitResult) → ArePlaces places.entry reads us → (r : program.UnitResult) → unit_at us unit ≡ Some r → r.unit ≡ p →
+        IfOk result (λ given. all_told given.findings.items ≡ set_diagnostics (bytes_of (spans_of reads) us) p.placed.document p.specs (unit_entries all rs p).1) }
+    ensures errors { (spelled : LibraryName → List ℕ) → (all : List program.Placed) → (rs : List program.UnitResult) →
+        AreLibraries work.old.symbols libraries.entry spelled all rs → (p : program.Prepared) → ImportsAs spelled source.now p → (forms : List ℕ) → AreInForms source.now forms →
+        IfOk result (λ given. errors_in given.findings.items ≡ set_errors (zip forms (unit_entries all rs p).1)) }
 {
     let mut findings = Vec::new(alloc);
     let gathering = gathered(
@@ -129,19 +155,31 @@ fn gathered(
     ensures means { IfOk result (λ g. GroupsMean symbols.new g.groups.items) }
     ensures apart { IfOk result (λ g. AreApart g.groups.items) }
     ensures findings { OnOk result (AreFoundIn (length places.entry.documents.now) findings.new.items) }
+    ensures exact { (spelled : LibraryName → List ℕ) → (all : List program.Placed) → (rs : List program.UnitResult) →
+        AreLibraries symbols.old libraries.entry spelled all rs → (p : program.Prepared) → ImportsAs spelled source.now p →
+        IfOk result (λ g. GroupsStand symbols.new g.groups.items (unit_entries all rs p).0) }
+    ensures told { (spelled : LibraryName → List ℕ) → (all : List program.Placed) → (rs : List program.UnitResult) →
+        AreLibraries symbols.old libraries.entry spelled all rs → (p : program.Prepared) → ImportsAs spelled source.now p →
+        (reads : List Read) → (us : List program.UnitResult) → ArePlaces places.entry reads us → (r : program.UnitResult) → unit_at us unit ≡ Some r → r.unit ≡ p →
+        OnOk result (all_told findings.new.items
+        ≡ all_told findings.old.items ++ set_diagnostics (bytes_of (spans_of reads) us) p.placed.document p.specs (unit_entries all rs p).1) }
+    ensures errors { (spelled : LibraryName → List ℕ) → (all : List program.Placed) → (rs : List program.UnitResult) →
+        AreLibraries symbols.old libraries.entry spelled all rs → (p : program.Prepared) → ImportsAs spelled source.now p → (forms : List ℕ) → AreInForms source.now forms →
+        OnOk result (errors_in findings.new.items ≡ errors_in findings.old.items ++ set_errors (zip forms (unit_entries all rs p).1)) }
 {
     if imports_nothing(source) {
         return Ok(base_given(alloc, symbols)?);
     }
     let document = places.start(unit).document;
-    sets_given(
+    Ok(sets_given(
         alloc, symbols, places, libraries, document, source, findings,
-    )
+    )?)
 }
 
 /// What `(scheme base)` gives.
 fn base_given(alloc: Global, symbols: &mut Symbols) -> Mem<Gathering>
     ensures names { KeepsNames symbols.old symbols.new }
+    ensures exact { IfOk result (λ g. GroupsStand symbols.new g.groups.items program.base_entries) }
     ensures means { IfOk result (λ g. GroupsMean symbols.new g.groups.items) }
     ensures apart { IfOk result (λ g. AreApart g.groups.items) }
 {
@@ -174,6 +212,17 @@ fn sets_given(
     ensures means { IfOk result (λ g. GroupsMean symbols.new g.groups.items) }
     ensures apart { IfOk result (λ g. AreApart g.groups.items) }
     ensures findings { OnOk result (AreFoundIn (length places.entry.documents.now) findings.new.items) }
+    ensures exact { (spelled : LibraryName → List ℕ) → (all : List program.Placed) → (rs : List program.UnitResult) →
+        AreLibraries symbols.old libraries.entry spelled all rs → (ss : List program.ImportSpec) → AllMatch (IsSpec spelled) source.now.imports ss →
+        IfOk result (λ g. GroupsStand symbols.new g.groups.items (import_all all rs [] ss).0) }
+    ensures told { (spelled : LibraryName → List ℕ) → (all : List program.Placed) → (rs : List program.UnitResult) →
+        AreLibraries symbols.old libraries.entry spelled all rs → (ss : List program.ImportSpec) → AllMatch (IsSpec spelled) source.now.imports ss →
+        (reads : List Read) → (us : List program.UnitResult) → ArePlaces places.entry reads us →
+        OnOk result (all_told findings.new.items
+        ≡ all_told findings.old.items ++ set_diagnostics (bytes_of (spans_of reads) us) document ss (import_all all rs [] ss).1) }
+    ensures errors { (spelled : LibraryName → List ℕ) → (all : List program.Placed) → (rs : List program.UnitResult) →
+        AreLibraries symbols.old libraries.entry spelled all rs → (ss : List program.ImportSpec) → AllMatch (IsSpec spelled) source.now.imports ss → (forms : List ℕ) → AreInForms source.now forms →
+        OnOk result (errors_in findings.new.items ≡ errors_in findings.old.items ++ set_errors (zip forms (import_all all rs [] ss).1)) }
 {
     let mut gathering = Gathering::new(alloc);
     for spec in source.imports.as_slice() {
@@ -203,11 +252,25 @@ fn with_set(
     requires libraries { ExportsMean symbols.old libraries.expanded.now }
     requires means { GroupsMean symbols.old gathering.groups.items }
     requires apart { AreApart gathering.groups.items }
+    requires clashes { gathering.clashes.items ≡ [] }
     requires findings { AreFoundIn (length places.documents.now) findings.old.items }
     ensures names { KeepsNames symbols.old symbols.new }
     ensures means { IfOk result (λ g. GroupsMean symbols.new g.groups.items) }
     ensures apart { IfOk result (λ g. AreApart g.groups.items) }
     ensures findings { OnOk result (AreFoundIn (length places.entry.documents.now) findings.new.items) }
+    ensures clashes { IfOk result (λ g. g.clashes.items ≡ []) }
+    ensures exact { (spelled : LibraryName → List ℕ) → (all : List program.Placed) → (rs : List program.UnitResult) →
+        AreLibraries symbols.old libraries.entry spelled all rs → (s : program.ImportSpec) → IsSpec spelled set.entry.spec.now s → (es : List model.Entry) →
+        GroupsStand symbols.old gathering.groups.items es → IfOk result (λ g. GroupsStand symbols.new g.groups.items (with_set all rs s.set es).0) }
+    ensures told { (spelled : LibraryName → List ℕ) → (all : List program.Placed) → (rs : List program.UnitResult) →
+        AreLibraries symbols.old libraries.entry spelled all rs → (s : program.ImportSpec) → IsSpec spelled set.entry.spec.now s → (es : List model.Entry) →
+        GroupsStand symbols.old gathering.groups.items es → (reads : List Read) → (us : List program.UnitResult) → ArePlaces places.entry reads us →
+        OnOk result (all_told findings.new.items
+        ≡ all_told findings.old.items ++ set_diagnostics (bytes_of (spans_of reads) us) set.entry.document (s ∷ []) ((with_set all rs s.set es).1 ∷ [])) }
+    ensures errors { (spelled : LibraryName → List ℕ) → (all : List program.Placed) → (rs : List program.UnitResult) →
+        AreLibraries symbols.old libraries.entry spelled all rs → (s : program.ImportSpec) → IsSpec spelled set.entry.spec.now s → (es : List model.Entry) →
+        GroupsStand symbols.old gathering.groups.items es →
+        OnOk result (errors_in findings.new.items ≡ errors_in findings.old.items ++ set_errors ((set.entry.form, (with_set all rs s.set es).1) ∷ [])) }
 {
     match of_set(alloc, symbols, libraries, &set.spec.set)? {
         SetGives::Entries(entries) => {
@@ -226,7 +289,9 @@ fn with_set(
 }
 
 /// The form in which the bytes from here on stand.
-fn form_at(forms: &[UnitForm], start: u32) -> u32 {
+fn form_at(forms: &[UnitForm], start: u32) -> u32
+    ensures { (n : ℕ) → IsInForm forms.now start n → result ≡ n }
+{
     let behind = forms.partition_point(|form| form.datum.span.start <= start);
     match u32::try_from(behind.saturating_sub(1)) {
         Ok(form) => form,
@@ -269,11 +334,14 @@ fn of_set(
     requires { ExportsMean symbols.old libraries.expanded.now }
     ensures names { KeepsNames symbols.old symbols.new }
     ensures means { IfOk result (SetMeans symbols.new) }
+    ensures exact { (spelled : LibraryName → List ℕ) → (all : List program.Placed) → (rs : List program.UnitResult) →
+        AreLibraries symbols.old libraries.entry spelled all rs → (s : model.ImportSet) → IsSetOf (λ t n. t ≡ spelled n) set.now s →
+        IfOk result (λ gives. ComesTo symbols.new gives (with_set all rs s)) }
 {
-    if library_in(set).is_none() {
+    let Some(name) = library_in(set) else {
         return Ok(SetGives::Faulty(ImportFault::BadSet));
-    }
-    match library_entries(alloc, symbols, libraries, set)? {
+    };
+    match named_entries(alloc, symbols, libraries, name)? {
         None => Ok(SetGives::Unknown),
         Some(exports) => {
             symbols.told_apart();
@@ -285,13 +353,26 @@ fn of_set(
 /// What a set gives of what its library exports.
 fn chosen(alloc: Global, symbols: &Symbols, set: &ImportSet, exports: &[Entry]) -> Mem<SetGives>
     requires { HaveMeaning symbols.now exports.now }
-    ensures { IfOk result (SetMeans symbols.now) }
+    ensures means { IfOk result (SetMeans symbols.now) }
+    ensures exact { (s : model.ImportSet) → IsSet set.now s → (es : List model.Entry) → AreEntries symbols.now exports.now es →
+        IfOk result (λ gives. ComesTo symbols.now gives (λ before. program.after_set before (model.entries_of s es))) }
 {
     symbols.told_apart();
     match entries_of(alloc, set, exports) {
         Ok(entries) => Ok(SetGives::Entries(entries)),
-        Err(ImportFault::Memory) => Err(Memory),
-        Err(fault) => Ok(SetGives::Faulty(fault)),
+        Err(fault) => faulty(fault),
+    }
+}
+
+/// A set's fault, unless memory ran out.
+fn faulty(fault: ImportFault) -> Mem<SetGives>
+    ensures means { (names : Names) → IfOk result (SetMeans names) }
+    ensures exact { (names : Names) → (r : Result (List model.Entry) model.ImportFault) → FailsAs fault r →
+        IfOk result (λ gives. ComesTo names gives (λ before. program.after_set before r)) }
+{
+    match fault {
+        ImportFault::Memory => Err(Memory),
+        _ => Ok(SetGives::Faulty(fault)),
     }
 }
 
@@ -305,23 +386,46 @@ pub fn library_entries(
     requires { ExportsMean symbols.old libraries.expanded.now }
     ensures names { KeepsNames symbols.old symbols.new }
     ensures means { IfOk result (λ exports. IfSome exports (HaveMeaning symbols.new)) }
+    ensures exact { (spelled : LibraryName → List ℕ) → (all : List program.Placed) → (rs : List program.UnitResult) →
+        AreLibraries symbols.old libraries.entry spelled all rs → (s : model.ImportSet) → IsSetOf (λ t n. t ≡ spelled n) set.now s →
+        IfOk result (λ exports. AreEntriesIf symbols.new exports (set_exports all rs (model.library_in s))) }
 {
     let Some(name) = library_in(set) else {
         return Ok(None);
     };
-    if let Some(names) = standard(alloc, name)? {
-        let entries = standard_entries(alloc, symbols, names.as_slice())?;
-        return Ok(Some(entries));
-    }
-    match exports_named(libraries, name) {
-        None => Ok(None),
-        Some(exports) => Ok(Some(copy_of_entries(alloc, exports)?)),
+    Ok(named_entries(alloc, symbols, libraries, name)?)
+}
+
+/// What the library with a name exports. `None` where it isn't known or is broken.
+fn named_entries(
+    alloc: Global,
+    symbols: &mut Symbols,
+    libraries: Libraries<'_>,
+    name: &str,
+) -> Mem<Option<Items<Entry>>>
+    requires { ExportsMean symbols.old libraries.expanded.now }
+    ensures names { KeepsNames symbols.old symbols.new }
+    ensures means { IfOk result (λ exports. IfSome exports (HaveMeaning symbols.new)) }
+    ensures exact { (spelled : LibraryName → List ℕ) → (all : List program.Placed) → (rs : List program.UnitResult) →
+        AreLibraries symbols.old libraries.entry spelled all rs → (n : LibraryName) → name.now ≡ spelled n →
+        IfOk result (λ exports. AreEntriesIf symbols.new exports (program.library_exports all rs n (standard n))) }
+{
+    match standard(alloc, name)? {
+        Some(names) => {
+            let entries = standard_entries(alloc, symbols, names.as_slice())?;
+            Ok(Some(entries))
+        }
+        None => match exports_named(libraries, name) {
+            None => Ok(None),
+            Some(exports) => Ok(Some(copy_of_entries(alloc, exports)?)),
+        },
     }
 }
 
 /// What the library with a name exports, where there is one that isn't broken.
 fn exports_named<'a>(libraries: Libraries<'a>, name: &str) -> Option<&'a [Entry]>
-    ensures { (names : Names) → ExportsMean names libraries.entry.expanded.now → IfSome result (λ exports. HaveMeaning names exports.now) }
+    ensures means { (names : Names) → ExportsMean names libraries.entry.expanded.now → IfSome result (λ exports. HaveMeaning names exports.now) }
+    ensures exact { option_map (λ exports. exports.now) result ≡ exports_at libraries.entry.expanded.now (get_by_text libraries.entry.firsts.now name.now) }
 {
     let place = place_for(libraries.firsts, name)?;
     let expanded = libraries.expanded.get(place)?;
@@ -339,9 +443,19 @@ fn with_entries(
     set: SetAt<'_>,
     entries: Items<Entry>,
 ) -> Mem<Gathering>
+    requires { gathering.clashes.items ≡ [] }
     ensures means { (names : Names) → TellsApart names → GroupsMean names gathering.groups.items → HaveMeaning names entries →
         IfOk result (λ g. GroupsMean names g.groups.items) }
     ensures apart { AreApart gathering.groups.items → IfOk result (λ g. AreApart g.groups.items) }
+    ensures clashes { IfOk result (λ g. g.clashes.items ≡ []) }
+    ensures exact { (names : Names) → TellsApart names → (es : List model.Entry) → GroupsStand names gathering.groups.items es →
+        (ds : List model.Entry) → AreEntries names entries ds → IfOk result (λ g. GroupsStand names g.groups.items (model.gather es ds []).0) }
+    ensures told { (names : Names) → TellsApart names → (es : List model.Entry) → GroupsStand names gathering.groups.items es →
+        (ds : List model.Entry) → AreEntries names entries ds → OnOk result (all_told findings.new.items ≡ all_told findings.old.items
+        ++ clash_diagnostics (record { document = set.entry.document; span = span_seen set.entry.spec.now.span }) (model.gather es ds []).1) }
+    ensures errors { (names : Names) → TellsApart names → (es : List model.Entry) → GroupsStand names gathering.groups.items es →
+        (ds : List model.Entry) → AreEntries names entries ds → OnOk result (errors_in findings.new.items
+        ≡ errors_in findings.old.items ++ map (λ (name : List ℕ). (52, set.entry.form)) (model.gather es ds []).1) }
     ensures findings { (count : ℕ) → set.entry.document < count → AreFoundIn count findings.old.items → OnOk result (AreFoundIn count findings.new.items) }
 {
     let Gathering {
@@ -357,16 +471,20 @@ fn with_entries(
     })
 }
 
-/// Adds the names that clash.
+/// Adds the names that clash, the latest first.
 fn add_clashes(
     alloc: Global,
     findings: &mut Vec<Finding>,
     set: SetAt<'_>,
     clashes: Vec<Text>,
 ) -> Mem<()>
-    ensures { (count : ℕ) → set.entry.document < count → AreFoundIn count findings.old.items → OnOk result (AreFoundIn count findings.new.items) }
+    ensures inside { (count : ℕ) → set.entry.document < count → AreFoundIn count findings.old.items → OnOk result (AreFoundIn count findings.new.items) }
+    ensures told { OnOk result (all_told findings.new.items
+        ≡ all_told findings.old.items ++ clash_diagnostics (record { document = set.entry.document; span = span_seen set.entry.spec.now.span }) (reverse clashes.items)) }
+    ensures errors { OnOk result (errors_in findings.new.items ≡ errors_in findings.old.items ++ map (λ (name : List ℕ). (52, set.entry.form)) (reverse clashes.items)) }
 {
-    for name in clashes {
+    let mut clashes = clashes;
+    while let Some(name) = clashes.pop() {
         let at = set.at(set.spec.span);
         add_found(alloc, findings, Some(at), set.form, 52, name.as_str())?;
     }
@@ -375,7 +493,10 @@ fn add_clashes(
 
 /// Adds a set whose library isn't known.
 fn add_unknown(alloc: Global, findings: &mut Vec<Finding>, set: SetAt<'_>) -> Mem<()>
-    ensures { (count : ℕ) → set.entry.document < count → AreFoundIn count findings.old.items → OnOk result (AreFoundIn count findings.new.items) }
+    ensures inside { (count : ℕ) → set.entry.document < count → AreFoundIn count findings.old.items → OnOk result (AreFoundIn count findings.new.items) }
+    ensures told { (s : program.ImportSpec) → (spelled : LibraryName → List ℕ) → IsSpec spelled set.entry.spec.now s → (bytes : Occ → Bytes) →
+        OnOk result (all_told findings.new.items ≡ all_told findings.old.items ++ set_diagnostics bytes set.entry.document (s ∷ []) (program.Unknown ∷ [])) }
+    ensures errors { OnOk result (errors_in findings.new.items ≡ errors_in findings.old.items) }
 {
     let at = set.at(set.spec.library);
     Ok(add_found(alloc, findings, Some(at), set.form, 102, "")?)
@@ -391,23 +512,28 @@ fn add_fault(
 ) -> Mem<()>
     requires document { set.document < length places.documents.now }
     requires places { CanPlace places }
-    ensures { AreFoundIn (length places.entry.documents.now) findings.old.items → OnOk result (AreFoundIn (length places.entry.documents.now) findings.new.items) }
+    ensures inside { AreFoundIn (length places.entry.documents.now) findings.old.items → OnOk result (AreFoundIn (length places.entry.documents.now) findings.new.items) }
+    ensures told { (f : model.ImportFault) → IsSetFault fault f → (reads : List Read) → (us : List program.UnitResult) → ArePlaces places.entry reads us →
+        OnOk result (all_told findings.new.items ≡ all_told findings.old.items
+        ++ import_fault (bytes_of (spans_of reads) us) (record { document = set.entry.document; span = span_seen set.entry.spec.now.span }) f) }
+    ensures errors { (f : model.ImportFault) → IsSetFault fault f →
+        OnOk result (errors_in findings.new.items ≡ errors_in findings.old.items ++ (import_code f, set.entry.form) ∷ []) }
 {
     let whole = set.at(set.spec.span);
     match &fault {
         ImportFault::NotThere(name) => {
             let at = place_if(places, name.occ);
-            add_found(alloc, findings, at, set.form, 51, name.name.as_str())
+            Ok(add_found(alloc, findings, at, set.form, 51, name.name.as_str())?)
         }
-        ImportFault::Clash(name) => add_found(
+        ImportFault::Clash(name) => Ok(add_found(
             alloc,
             findings,
             Some(whole),
             set.form,
             52,
             name.as_str(),
-        ),
-        ImportFault::BadSet => add_found(alloc, findings, Some(whole), set.form, 53, ""),
+        )?),
+        ImportFault::BadSet => Ok(add_found(alloc, findings, Some(whole), set.form, 53, "")?),
         ImportFault::Memory => Err(Memory),
     }
 }
@@ -421,7 +547,9 @@ pub fn add_found(
     code: u32,
     name: &str,
 ) -> Mem<()>
-    ensures { (count : ℕ) → IsAtIn count at → AreFoundIn count findings.old.items → OnOk result (AreFoundIn count findings.new.items) }
+    ensures inside { (count : ℕ) → IsAtIn count at → AreFoundIn count findings.old.items → OnOk result (AreFoundIn count findings.new.items) }
+    ensures told { OnOk result (all_told findings.new.items ≡ all_told findings.old.items ++ told_at at code (worded code name.now)) }
+    ensures errors { OnOk result (errors_in findings.new.items ≡ errors_in findings.old.items ++ error_at code form) }
 {
     findings.push(Finding::new(alloc, at, form, code, name)?)?;
     Ok(())
@@ -430,7 +558,9 @@ pub fn add_found(
 /// The bytes of an occurrence, where there is one.
 pub fn place_if(places: Places<'_>, occ: Option<Occ>) -> Option<At>
     requires { CanPlace places }
-    ensures { 0 < length places.entry.documents.now → IsAtIn (length places.entry.documents.now) result }
+    ensures inside { 0 < length places.entry.documents.now → IsAtIn (length places.entry.documents.now) result }
+    ensures exact { (reads : List Read) → (us : List program.UnitResult) → ArePlaces places.entry reads us →
+        option_map bytes_at result ≡ option_map (bytes_of (spans_of reads) us) occ }
 {
     match occ {
         None => None,

@@ -1,22 +1,31 @@
 //! Units one after another (R7RS 5.6), each after what it imports.
-ghost use Rattle.std.specs.Prelude.{◌≡◌, ℕ, ◌<◌, List, [], All, length, replicate, vec_len, None, IfOk, OnOk, IfSome, true};
-ghost use Rattle.scheme_model.specs.Program.{is_in};
+ghost use Rattle.std.specs.Prelude.{◌≡◌, ℕ, ◌<◌, List, [], ◌∷◌, ◌++◌, All, length, replicate, reverse, vec_len, Some, None, IfOk, OnOk, IfSome, true};
+ghost use Rattle.scheme_model.specs.Entries.{Entry as ModelEntry};
+ghost use Rattle.scheme_model.specs.Program.{Placed, Prepared, Program, SetResult, is_in, unit_result};
+ghost use Rattle.scheme_model.specs.Requirements.{Known, LibraryName};
+ghost use Rattle.scheme_model.specs.ScopedProgram.{ScopedProgress, scoped_before};
+ghost use Rattle.scheme_model.specs.UnitExpansion.{Formed};
+ghost use Rattle.syntax_tree.specs.Meant.{AreEntries};
 ghost use Rattle.syntax_tree.specs.Names.{KeepsNames};
 ghost use Rattle.syntax_tree.specs.Works.{KeepsTrees};
 ghost use Rattle.syntax_tree.specs.declared.trees.Work.{Work as AnyWork};
 ghost use Rattle.core_tree.specs.Names.{AllMatch};
-ghost use Rattle.core_tree.specs.Units.{IsBlank};
+ghost use Rattle.core_tree.specs.Units.{IsBlank, FormsStand, AreDefinitions, definitions_from, defined_by};
 ghost use Rattle.library_table.specs.Orders.{ArePlaces};
 ghost use Rattle.library_table.specs.UnitsRead.{forms_of};
+ghost use Rattle.expander.specs.Judged.{Knows};
 ghost use Rattle.expander.specs.Opened.{IsNew};
 ghost use Rattle.workspace_state.specs.Begun.{IsImport};
+ghost use Rattle.workspace_state.specs.Came.{AreSourcesOf, CameTo, Expands, FindsLibraries, GoesOn, HeadsBy, IsSourceOf, IsUpTo};
 ghost use Rattle.arrow_index.specs.Formed.{IsFormed};
 ghost use Rattle.workspace_state.specs.Formed.{CameFormed};
 ghost use Rattle.workspace_state.specs.Forms.{IsBench, AreFormed};
 ghost use Rattle.workspace_state.specs.Libraries.{FindsBelow, HaveMeaning, EachOnce, ExportsMean};
 ghost use Rattle.workspace_state.specs.Places.{AreFoundIn, CanPlace, HeadsStay};
 ghost use Rattle.workspace_state.specs.Sound.{IsSound};
+ghost use Rattle.workspace_state.specs.SetsGiven.{AreLibraries};
 ghost use Rattle.workspace_state.specs.StandIn.{StandIn};
+ghost use Rattle.workspace_state.specs.Turned.{turns};
 ghost use Rattle.workspace_state.specs.UnitsExpanded.{AreAllFound};
 ghost use Rattle.workspace_state.specs.WereRead.{WereRead};
 
@@ -73,6 +82,10 @@ pub fn expand_all<L: Ledger>(
     ensures count { IfOk result (λ all. vec_len all ≡ vec_len units.old.heads) }
     ensures found { IfOk result (λ all. AreAllFound (length documents.now) all.items) }
     ensures formed { IfOk result (λ all. CameFormed bench.new.work all.items) }
+    // In their turns the units come to what the definition has of them.
+    ensures up { (spelled : LibraryName → List ℕ) (us : List Placed) (known : Known) → order.now ≡ turns us → vec_len units.old.heads ≡ length us → FindsLibraries spelled us firsts.now →
+        Knows bench.old.scope.libraries known → GoesOn bench.old scoped_before → HeadsBy us scoped_before units.old.heads.items → AreSourcesOf spelled us units.old.sources.items →
+        IfOk result (λ all. IsUpTo spelled us known (turns us) bench.new units.new all.items) }
 {
     let mut all = nothing(alloc, units.heads.len())?;
     for place in order {
@@ -110,6 +123,9 @@ fn expand_at<L: Ledger>(
     ensures mean { OnOk result (ExportsMean bench.new.work.symbols all.new.items) }
     ensures formed { OnOk result (CameFormed bench.new.work all.new.items) }
     ensures others { (v : ℕ) → (v ≡ place → ⊥) → IsNew bench.old.scope v → OnOk result (IsNew bench.new.scope v) }
+    // In its turn it comes to what the definition has of it.
+    ensures next { (spelled : LibraryName → List ℕ) (us : List Placed) (known : Known) (x y : List ℕ) → turns us ≡ x ++ place ∷ y → FindsLibraries spelled us firsts.now →
+        IsUpTo spelled us known x bench.old units.old all.old.items → OnOk result (IsUpTo spelled us known (x ++ place ∷ []) bench.new units.new all.new.items) }
 {
     let unit = place as usize;
     if units.heads[unit].fault.is_some() {
@@ -166,6 +182,11 @@ fn expand_unit<L: Ledger>(
     ensures formed { IfOk result (λ came. IfSome came (λ came. IsFormed bench.new.work unit came.forms)) }
     ensures findings { IfOk result (λ came. IfSome came (λ came. AreFoundIn (length places.entry.documents.now) came.findings.items)) }
     ensures exports { IfOk result (λ came. IfSome came (λ came. HaveMeaning bench.new.work.symbols came.exports)) }
+    ensures libraries { (known : Known) → Knows bench.old.scope.libraries known → OnOk result (Knows bench.new.scope.libraries known) }
+    // The unit comes to what the definition gives, and the bench goes on behind it.
+    ensures expands { (spelled : LibraryName → List ℕ) (us : List Placed) (known : Known) (g : ScopedProgress) (p : Prepared) (given_entries : List ModelEntry × List SetResult) → Knows bench.old.scope.libraries known →
+        GoesOn bench.old g → p.number ≡ unit → IsSourceOf spelled p None source.now → AreLibraries bench.old.work.symbols libraries.entry spelled us g.results →
+        AreEntries bench.old.work.symbols given.joined.entries.items given_entries.0 → IfOk result (Expands us known bench.new g p given_entries) }
 {
     let imports = imported(alloc, &mut bench.work, given.joined.entries.as_slice())?;
     bench.work.symbols.told_apart();
@@ -231,6 +252,11 @@ fn finished(
     ensures forms { IfOk result (λ came. came.forms ≡ forms) }
     ensures findings { IfOk result (λ came. AreFoundIn (length places.entry.documents.now) came.findings.items) }
     ensures exports { IfOk result (λ came. HaveMeaning work.new.symbols came.exports) }
+    // They are what the definition has of the unit, where forms stand for what it has of them.
+    ensures came { (spelled : LibraryName → List ℕ) (us : List Placed) (q : Program) (p : Prepared) (given_entries : List ModelEntry × List SetResult) (fs : List Formed) → p.number ≡ unit → IsSourceOf spelled p None source.now →
+        AreLibraries work.old.symbols libraries.entry spelled us q.units → AreEntries work.old.symbols given.joined.entries.items given_entries.0 →
+        length forms ≡ length p.forms → FormsStand work.old unit 0 forms fs → AreDefinitions work.old.symbols (reverse (definitions_from 0 forms)) (defined_by unit q.table) →
+        IfOk result (λ came. CameTo us q work.new came (unit_result p given_entries q.table (Some fs))) }
 {
     let Given {
         joined,
@@ -317,6 +343,9 @@ pub fn broken(
     ensures forms { IfOk result (λ came. All IsBlank came.forms) }
     ensures formed { (work : AnyWork) → IfOk result (λ came. IsFormed work unit came.forms) }
     ensures count { IfOk result (λ came. length came.forms ≡ count) }
+    ensures names { IfOk result (λ came. came.names ≡ []) }
+    ensures entries { IfOk result (λ came. came.entries.items ≡ []) }
+    ensures exports { IfOk result (λ came. came.exports ≡ []) }
     ensures findings { IfOk result (λ came. AreFoundIn (length places.entry.documents.now) came.findings.items) }
 {
     let mut findings = Vec::new(alloc);

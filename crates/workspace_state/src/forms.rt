@@ -1,21 +1,24 @@
 //! The forms of a unit (R7RS 5.1): all are gone through in order, and then what they set aside is expanded in order.
-ghost use Rattle.std.specs.Prelude.{◌≡◌, ℕ, ◌^◌, ◌≤◌, List, [], nat_lt, true, false, None, OnOk, IfOk, IfSome};
-ghost use Rattle.scheme_model.specs.Ident.{Ident as Identifier};
+ghost use Rattle.std.specs.Prelude.{◌≡◌, ℕ, ◌^◌, ◌≤◌, List, [], length, vec_len, nat_lt, true, false, None, OnOk, IfOk, IfSome};
+ghost use Rattle.scheme_model.specs.Ident.{Ident as Identifier, Written};
 ghost use Rattle.scheme_model.specs.Trees.{Tree as ModelTree};
 ghost use Rattle.scheme_model.specs.UnitExpansion.{max_total};
 ghost use Rattle.scheme_model.specs.Requirements.{Known};
+ghost use Rattle.scheme_model.specs.Program.{Prepared};
+ghost use Rattle.scheme_model.specs.ScopedProgram.{forms_over};
 ghost use Rattle.scheme_model.specs.Order.{Note, Item as ModelItem};
-ghost use Rattle.scheme_model.specs.ScopedExpansion.{Frames, Place, ScopedState};
+ghost use Rattle.scheme_model.specs.ScopedExpansion.{Frames, FramedIdent, ScopedState};
 ghost use Rattle.syntax_tree.specs.Names.{KeepsNames};
 ghost use Rattle.syntax_tree.specs.Works.{IsOpened, StandsFor, KeepsTrees, SameRegions, AddsIn};
-ghost use Rattle.datum_reader.specs.Right.{WasRead};
+ghost use Rattle.datum_reader.specs.WellFormed.{WasRead};
 ghost use Rattle.datum_reader.specs.Views.{datum_of};
 ghost use Rattle.library_table.specs.UnitsRead.{forms_of};
+ghost use Rattle.core_tree.specs.Units.{IsBlank};
 ghost use Rattle.expander.specs.Judged.{Knows};
 ghost use Rattle.expander.specs.Stepped.{IsFresh};
 ghost use Rattle.expander.specs.Outcomes.{IsAtWork};
 ghost use Rattle.expander.specs.Units.{UnitStands, CountsFor, HasSpace, ItemFor, CanDeclare, Expands, declared, expanded};
-ghost use Rattle.workspace_state.specs.Forms.{IsBench, IsBegun, IsUntouched, IsDeclared, Passing, PassesTo, PassesForm, FinishesTo, CanPass, CanFinish, FormsHeld, AreFormed, Stays};
+ghost use Rattle.workspace_state.specs.Forms.{IsBench, IsBegun, IsUntouched, IsDeclared, Passing, PassesTo, PassesForm, FinishesForm, CanPass, CanFinish, CanFinishAll, FormsHeld, Passes, Finishes, AreFormed, Unfolds, Stays};
 ghost use Rattle.workspace_state.specs.WereRead.{WereRead};
 
 use crate::defined::number_of;
@@ -61,6 +64,10 @@ pub fn expand_forms<L: Ledger>(
     ensures formed { IfOk result (λ forms. IfSome forms (AreFormed bench.new.work unit)) }
     ensures bench { OnOk result (IsBench bench.new) }
     ensures stays { OnOk result (Stays bench.old bench.new) }
+    // They are the definition's, or work on the unit ended, and the bench stands for the state in which it did.
+    ensures unfolds { (known : Known) (ls : List Frames) (s : ScopedState) (p : Prepared) → Knows bench.old.scope.libraries known → UnitStands bench.old.work bench.old.scope ls s [] → s.unit ≡ unit →
+        ((form : ℕ) → IsFresh s form) → p.number ≡ unit → p.forms ≡ forms_of forms.now → IfOk result (Unfolds bench.new known p s) }
+    ensures count { IfOk result (λ expanded. IfSome expanded (λ expanded. length expanded ≡ length forms.now)) }
 {
     let mut total = 0;
     let declared = declare_all(alloc, bench, unit, forms, &mut total, steps)?;
@@ -94,7 +101,10 @@ fn declare_all<L: Ledger>(
     requires read { WereRead (forms_of forms.now) }
     requires nothing { total.old ≡ 0 }
     ensures held { IfOk result (λ all. FormsHeld bench.new unit 0 all.items) }
+    ensures count { IfOk result (λ all. nat_lt max_total total.new ≡ false → vec_len all ≡ length forms.now) }
     ensures stays { OnOk result (Stays bench.old bench.new) }
+    ensures passes { (known : Known) (ls : List Frames) (s : ScopedState) → Knows bench.old.scope.libraries known → UnitStands bench.old.work bench.old.scope ls s [] → s.unit ≡ unit → ((form : ℕ) → IsFresh s form) →
+        IfOk result (λ all. Passes bench.new unit known (forms_over (Written unit) unit 0 (forms_of forms.now)) s total.new all.items) }
 {
     let mut all = Vec::new(alloc);
     for (place, form) in forms.iter().enumerate() {
@@ -123,7 +133,7 @@ fn declare<L: Ledger>(
     requires stands { CanPass bench.old unit number }
     ensures blank { form.now.declared ≡ true → IfOk result IsUntouched }
     ensures same { form.now.declared ≡ true → OnOk result (bench.new ≡ bench.old) }
-    ensures passes { (known : Known) (ls : List Frames) (s : ScopedState) (notes : List (Note Place)) → form.now.declared ≡ false → Knows bench.old.scope.libraries known →
+    ensures passes { (known : Known) (ls : List Frames) (s : ScopedState) (notes : List (Note FramedIdent)) → form.now.declared ≡ false → Knows bench.old.scope.libraries known →
         UnitStands bench.old.work bench.old.scope ls s notes → s.unit ≡ unit → IsFresh s number →
         IfOk result (PassesForm bench.old bench.new known unit number (datum_of form.now.datum) notes s) }
     ensures few { IfOk result (λ form. form.budget.nodes ≤ 200000) }
@@ -185,7 +195,7 @@ fn declare_tree<L: Ledger>(
     requires form { IsAtWork bench.old.work bench.old.region tree }
     requires stands { CanDeclare bench.old.work bench.old.scope number blank.budget blank.trace }
     requires blank { IsUntouched blank }
-    ensures passes { (known : Known) (ls : List Frames) (s : ScopedState) (notes : List (Note Place)) (t : ModelTree Identifier) → Knows bench.old.scope.libraries known →
+    ensures passes { (known : Known) (ls : List Frames) (s : ScopedState) (notes : List (Note FramedIdent)) (t : ModelTree Identifier) → Knows bench.old.scope.libraries known →
         UnitStands bench.old.work bench.old.scope ls s notes → CountsFor bench.old.work s number blank.budget blank.trace → StandsFor bench.old.work tree t →
         IfOk result (PassesTo bench.old bench.new s.unit number s (declared known number t notes s)) }
     ensures stays { OnOk result (Stays bench.old bench.new) }
@@ -239,8 +249,11 @@ fn finish_all<L: Ledger>(
     requires region { IsOpened bench.old.work bench.old.region }
     requires held { FormsHeld bench.old unit 0 declared.items }
     ensures formed { IfOk result (λ forms. nat_lt max_total total.new ≡ false → AreFormed bench.new.work unit forms) }
+    ensures count { IfOk result (λ forms. nat_lt max_total total.new ≡ false → length forms ≡ vec_len declared) }
     ensures bench { OnOk result (IsBench bench.new) }
     ensures stays { OnOk result (Stays bench.old bench.new) }
+    ensures finishes { (known : Known) (h : FormsHeld bench.old unit 0 declared.items) (rs : List (ℕ × Passing)) → Knows bench.old.scope.libraries known →
+        CanFinishAll bench.old unit known rs h.state total.old declared.items → IfOk result (Finishes bench.new unit known rs h.state total.new) }
 {
     let mut forms = Items::new(alloc);
     for (place, form) in declared.into_iter().enumerate() {
@@ -266,9 +279,11 @@ fn finish<L: Ledger>(
     requires region { IsOpened bench.old.work bench.old.region }
     requires stands { CanFinish bench.old unit number form }
     requires few { total.old ≤ max_total }
-    ensures finishes { (ls : List Frames) (s : ScopedState) (notes : List (Note Place)) (r : Passing) →
+    ensures blank { IsUntouched form → IfOk result IsBlank }
+    ensures same { IsUntouched form → OnOk result ((bench.new ≡ bench.old) × (total.new ≡ total.old)) }
+    ensures finishes { (known : Known) (ls : List Frames) (s : ScopedState) (notes : List (Note FramedIdent)) (r : Passing) → Knows bench.old.scope.libraries known →
         UnitStands bench.old.work bench.old.scope ls s notes → s.unit ≡ unit → IsDeclared bench.old.work bench.old.region unit number s form r →
-        IfOk result (FinishesTo bench.old bench.new unit number s) }
+        IfOk result (FinishesForm bench.old bench.new known unit number r s total.old total.new) }
     ensures stays { OnOk result (Stays bench.old bench.new) }
 {
     let Declared {
@@ -339,7 +354,7 @@ fn expand<L: Ledger>(
     requires item { (i : ModelItem Identifier) × ItemFor bench.old.work bench.old.region bench.old.scope.unit number item.now i }
     requires stands { CanDeclare bench.old.work bench.old.scope number budget.old trace.old }
     requires space { HasSpace (2 ^ 43) budget.old }
-    ensures expanded { (known : Known) (ls : List Frames) (s : ScopedState) (notes : List (Note Place)) (i : ModelItem Identifier) → Knows bench.old.scope.libraries known →
+    ensures expanded { (known : Known) (ls : List Frames) (s : ScopedState) (notes : List (Note FramedIdent)) (i : ModelItem Identifier) → Knows bench.old.scope.libraries known →
         UnitStands bench.old.work bench.old.scope ls s notes → CountsFor bench.old.work s number budget.old trace.old → ItemFor bench.old.work bench.old.region bench.old.scope.unit number item.now i →
         Expands bench.old.work bench.new.work bench.old.region bench.old.scope bench.new.scope budget.old budget.new ls number trace.new notes result (expanded known number i s) }
     ensures space { OnOk result (HasSpace (2 ^ 43) budget.new) }

@@ -1,14 +1,16 @@
 //! What import sets give together (R7RS 5.2, 5.6.1): of a name with two meanings the earlier stays, and with one it has what spells
 //! it in both, each once.
-ghost use Rattle.std.specs.Prelude.{◌≡◌, ℕ, List, map, IfOk};
+ghost use Rattle.std.specs.Prelude.{◌≡◌, ℕ, List, [], map, IfOk};
 ghost use Rattle.std.specs.Option.{is_some};
 ghost use Rattle.std.specs.BTreeMap.{get_by_text};
+ghost use Rattle.scheme_model.specs.Entries as model;
 ghost use Rattle.syntax_tree.specs.Names.{Names};
+ghost use Rattle.syntax_tree.specs.Meant.{AreEntries};
 ghost use Rattle.import_sets.specs.Sets.{TellsApart};
 ghost use Rattle.import_sets.specs.Given.{finished, has_name, place_origin, take_all};
-ghost use Rattle.import_sets.specs.Seen.{seen};
+ghost use Rattle.import_sets.specs.GatheringSeen.{seen};
 ghost use Rattle.workspace_state.specs.Libraries.{EachOnce, HaveMeaning};
-ghost use Rattle.workspace_state.specs.Joining.{AreApart, GroupsMean, plain_origin};
+ghost use Rattle.workspace_state.specs.Joining.{AreApart, GatheredAs, GroupsMean, GroupsStand, plain_origin};
 
 use import_sets::clash::finished;
 use import_sets::gather::Gathering;
@@ -67,6 +69,8 @@ pub fn join_all(alloc: Global, gathering: Gathering, entries: Items<Entry>) -> M
     ensures means { (names : Names) → TellsApart names → GroupsMean names gathering.groups.items → HaveMeaning names entries →
         IfOk result (λ new. GroupsMean names new.groups.items) }
     ensures apart { AreApart gathering.groups.items → IfOk result (λ new. AreApart new.groups.items) }
+    ensures exact { gathering.clashes.items ≡ [] → (names : Names) → TellsApart names → (es : List model.Entry) → GroupsStand names gathering.groups.items es →
+        (ds : List model.Entry) → AreEntries names entries ds → IfOk result (λ new. GatheredAs names (seen new) (model.gather es ds [])) }
 {
     Ok(take_all(alloc, gathering, entries)?)
 }

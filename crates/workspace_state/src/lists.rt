@@ -1,11 +1,14 @@
 //! The diagnostics of documents as lists, and which of them are published after an event (LSP 3.17, publishDiagnostics).
-ghost use Rattle.std.specs.Prelude.{◌≡◌, List, ℕ, length, map, Some, IfOk};
-ghost use Rattle.std.specs.BTreeMap.{get_by_text};
+ghost use Rattle.std.specs.Prelude.{◌≡◌, ◌≢◌, List, ℕ, length, map, Some, IfOk, OnOk, Decides, MatchBool};
+ghost use Rattle.std.specs.BTreeMap.{get_by_text, IsOrdered};
+ghost use Rattle.std.specs.String.{string_cmp};
 ghost use Rattle.std.specs.FinMap.{entries};
 ghost use Rattle.ls_base.specs.Positions.{position_of};
 ghost use Rattle.text_positions.specs.Lines.{AreLinesOf};
-ghost use Rattle.document_store.specs.Texts.{text_at};
-ghost use Rattle.workspace_state.specs.Listed.{range_of, found_told};
+ghost use Rattle.document_store.specs.Texts.{Texts, text_at};
+ghost use Rattle.workspace_state.specs.Readings.{Read, AreReadAs, AreDocuments};
+ghost use Rattle.workspace_state.specs.Listed.{range_of, found_told, lists_told, AreFoundOf};
+ghost use Rattle.workspace_state.specs.Updates.{entries_shown, list_at, AreListsOf, IsNews, Puts, OthersStay, ArePublished};
 ghost use Rattle.workspace_state.specs.Listings.{or_none};
 
 use crate::documents::Document;
@@ -24,6 +27,9 @@ pub type Lists = BTreeMap<String, Items<Diagnostic>>;
 /// The diagnostics of all documents.
 pub fn lists(alloc: Global, opened: &Open, findings: &[Sorted], encoding: Encoding) -> Mem<Lists>
     requires { length findings.now ≡ length (entries opened.now) }
+    ensures told { IfOk result (λ lists. entries_shown lists ≡ lists_told encoding (entries opened.now) findings.now) }
+    ensures listed { (rs : List Read) → AreReadAs (entries opened.now) rs → AreFoundOf rs findings.now →
+        IfOk result (λ lists. AreListsOf encoding opened.now rs (entries_shown lists)) }
 {
     let mut lists = BTreeMap::new(alloc);
     let store = opened.store();
@@ -91,20 +97,50 @@ pub fn published(
     documents: &[Document],
     before: &Lists,
     now: &Lists,
-) -> Mem<Items<Published>> {
+) -> Mem<Items<Published>>
+    ensures { (texts : Texts) → AreDocuments (entries texts) documents.now → OthersStay changed.now texts (list_at before.now) (list_at now.now) →
+        IfOk result (ArePublished changed.now texts (list_at before.now) (list_at now.now)) }
+{
     let mut all = BTreeMap::new(alloc);
-    all.insert(
-        String::from_str(alloc, changed)?,
-        published_as(alloc, changed, None, now)?,
-    )?;
+    put(alloc, &mut all, changed, None, now)?;
     for document in documents {
         let uri = document.uri.as_str();
-        if uri == changed || !same_list(listed(before, uri), listed(now, uri)) {
-            let key = String::from_str(alloc, uri)?;
-            all.insert(key, published_as(alloc, uri, Some(document.version), now)?)?;
+        if is_news(changed, uri, before, now) {
+            put(alloc, &mut all, uri, Some(version_of(document)), now)?;
         }
     }
-    in_order(alloc, all)
+    Ok(in_order(alloc, all)?)
+}
+
+/// The version of a document.
+fn version_of(document: &Document) -> i64
+    ensures { result ≡ document.now.version }
+{
+    document.version
+}
+
+/// Whether the list of a document is published: it is that of the event's document, or it isn't as it was.
+fn is_news(changed: &str, uri: &str, before: &Lists, now: &Lists) -> bool
+    ensures { MatchBool result (IsNews changed.now (list_at before.now) (list_at now.now) uri.now)
+        ((uri.now ≢ changed.now) × (list_at now.now uri.now ≡ list_at before.now uri.now)) }
+{
+    uri == changed || !same_list(listed(now, uri), listed(before, uri))
+}
+
+/// Puts a document with its diagnostics to those that are published.
+fn put(
+    alloc: Global,
+    all: &mut BTreeMap<String, Published>,
+    uri: &str,
+    version: Option<i64>,
+    now: &Lists,
+) -> Mem<()>
+    ensures puts { OnOk result (Puts all.old all.new (record { uri = uri.now; version = version; list = list_at now.now uri.now })) }
+    ensures ordered { OnOk result (IsOrdered string_cmp all.new) }
+{
+    let key = String::from_str(alloc, uri)?;
+    all.insert(key, published_as(alloc, uri, version, now)?)?;
+    Ok(())
 }
 
 /// A document with its diagnostics.
@@ -131,7 +167,9 @@ fn listed<'a>(lists: &'a Lists, uri: &str) -> &'a [Diagnostic]
 }
 
 /// Whether two lists are the same.
-fn same_list(a: &[Diagnostic], b: &[Diagnostic]) -> bool {
+fn same_list(a: &[Diagnostic], b: &[Diagnostic]) -> bool
+    ensures { Decides result (a.now ≡ b.now) }
+{
     if a.len() != b.len() {
         return false;
     }
@@ -144,7 +182,9 @@ fn same_list(a: &[Diagnostic], b: &[Diagnostic]) -> bool {
 }
 
 /// Whether two diagnostics are the same.
-fn same_diagnostic(a: &Diagnostic, b: &Diagnostic) -> bool {
+fn same_diagnostic(a: &Diagnostic, b: &Diagnostic) -> bool
+    ensures { Decides result (a.now ≡ b.now) }
+{
     a.range == b.range
         && a.code == b.code
         && a.severity == b.severity
@@ -168,7 +208,9 @@ fn copy_of(alloc: Global, list: &[Diagnostic]) -> Mem<Items<Diagnostic>>
 }
 
 /// Lists in the order of their uris.
-fn in_order(alloc: Global, all: BTreeMap<String, Published>) -> Mem<Items<Published>> {
+fn in_order(alloc: Global, all: BTreeMap<String, Published>) -> Mem<Items<Published>>
+    ensures { IfOk result (λ lists. lists ≡ map (λ e. e.1) all.entries) }
+{
     let mut lists = Items::new(alloc);
     for (_, list) in all.into_iter() {
         lists.push(list)?;

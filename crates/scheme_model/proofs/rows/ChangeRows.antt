@@ -3,12 +3,12 @@
 -- Written by tests/definitions/rows; each row is checked by computing it.
 use Rattle.std.specs.Prelude.{◌≡◌, ℕ, List, [], ◌∷◌, Option, Some, None, Ok, Err, codes, refl}
 use Rattle.scheme_model.specs.Texts as x
-use Rattle.scheme_model.specs.Texts.{Offsets, Span, Change, edits}
+use Rattle.scheme_model.specs.Texts.{Offsets, Range, Change, edits}
 
-abbrev r : ℕ → ℕ → ℕ → ℕ → Span
+abbrev r : ℕ → ℕ → ℕ → ℕ → Range
 r line character end_line end_character = record { start = record { line = line; character = character }; end = record { line = end_line; character = end_character } }
 
-abbrev c : Option Span → List ℕ → Change
+abbrev c : Option Range → List ℕ → Change
 c range text = record { range = range; text = text }
 
 abbrev offsets : Offsets

@@ -1,4 +1,4 @@
-use Rattle.datum_reader.proofs.Rights as lemmas
+use Rattle.datum_reader.proofs.WellFormedLaws as lemmas
 use Rattle.datum_reader.proofs.laws.read_data_have_trees.Goals as goal
 
 pub returns : goal.returns

@@ -1,5 +1,5 @@
 use Rattle.datum_reader.specs.Views.{datum_of}
-use Rattle.datum_reader.proofs.Rights.{can_seed}
+use Rattle.datum_reader.proofs.WellFormedLaws.{can_seed}
 use Rattle.datum_reader.proofs.FormLaws.{seeded_is_form}
 use Rattle.datum_reader.proofs.seeding.seed.Goals as goal
 

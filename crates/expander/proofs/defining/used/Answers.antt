@@ -5,7 +5,7 @@ use Rattle.scheme_model.specs.Ident.{Ident as Identifier}
 use Rattle.core_forms.specs.Parts.{AllMatch}
 use Rattle.core_forms.specs.declared.shape.NamePart.{NamePart}
 use Rattle.core_tree.specs.Names.{IsField as IsUse}
-use Rattle.expander.specs.Seen.{used_fields}
+use Rattle.expander.specs.FormsSeen.{used_fields}
 use Rattle.expander.proofs.SeenLaws.{name_at_place, names_all, used_more}
 use Rattle.expander.proofs.defining.used.Goals as goal
 

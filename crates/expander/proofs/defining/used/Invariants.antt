@@ -6,7 +6,7 @@ use Rattle.syntax_tree.specs.Names.{AreToldApart}
 use Rattle.syntax_tree.specs.declared.trees.Work.{Work}
 use Rattle.core_forms.specs.Parts.{AllMatch, IsName, IsField}
 use Rattle.core_tree.specs.Names.{IsField as IsUse}
-use Rattle.expander.specs.Seen.{used_fields}
+use Rattle.expander.specs.FormsSeen.{used_fields}
 use Rattle.expander.proofs.defining.used.Given as goal
 
 abbrev pub invariant-loop-name : goal.invariant-loop-name

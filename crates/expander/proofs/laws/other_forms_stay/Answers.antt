@@ -3,7 +3,7 @@ use Rattle.scheme_model.specs.Ident.{Ident}
 use Rattle.scheme_model.specs.Trees.{Tree}
 use Rattle.scheme_model.specs.Requirements.{Known}
 use Rattle.scheme_model.specs.Order.{Item, Note}
-use Rattle.scheme_model.specs.ScopedExpansion.{Place, ScopedState}
+use Rattle.scheme_model.specs.ScopedExpansion.{FramedIdent, ScopedState}
 use Rattle.syntax_tree.specs.declared.trees.Work.{Work}
 use Rattle.core_tree.specs.declared.traces.Trace.{Trace}
 use Rattle.expander.specs.declared.scope.Budget.{Budget}
@@ -14,7 +14,7 @@ use Rattle.expander.proofs.laws.other_forms_stay.Goals as goal
 
 pub returns : goal.returns
 returns c = record {
-  declared = λ (known : Known) (n : ℕ) (t : Tree Ident) (notes : List (Note Place)) (s : ScopedState). declared_stays n known t notes s;
+  declared = λ (known : Known) (n : ℕ) (t : Tree Ident) (notes : List (Note FramedIdent)) (s : ScopedState). declared_stays n known t notes s;
   expanded = λ (known : Known) (n : ℕ) (i : Item Ident) (s : ScopedState). expanded_stays n known i s;
   table = λ (known : Known) (n : ℕ) (i : Item Ident) (s : ScopedState). expanded_table known n i s;
   counts = λ (old new : Work) (n m : ℕ) (budget : Budget) (trace : Trace) (s t : ScopedState) apart stay names h. others_count n s t stay old new m budget trace apart names h;

@@ -27,7 +27,7 @@ loop-part-preserved c = λ ts h.
     let p = part_there w k c.args.parts.now ts (record { number = 0 }) h (omega arith) in
     let put = c.in_ok-put_part.ensures p.part p.stands in
     puts_more ts k p.part (string_bytes c.args.text.now) (string_bytes c.loop-part.text) (string_bytes c.push_str.new.self) (string_bytes c.put_part.new.text) put.0 (split_one w k ts _ p)
-    (c.loop-part.invariant ts h) c.in_ok-push_str.ensures.bytes put.1 put.2
+    (c.loop-part.invariant ts h) c.in_ok-push_str.ensures.bytes put.1 put.2 put.3
 
 pub returns : goal.returns
 returns c = λ ts h.

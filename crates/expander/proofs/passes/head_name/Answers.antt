@@ -4,7 +4,7 @@ use Rattle.scheme_model.specs.Trees.{Tree}
 use Rattle.scheme_model.specs.ExpansionFaults.{Named}
 use Rattle.scheme_model.specs.Ident.{Ident as Identifier}
 use Rattle.core_forms.specs.Parts.{IsNameIfAny}
-use Rattle.expander.specs.Seen.{head_name_of}
+use Rattle.expander.specs.FormsSeen.{head_name_of}
 use Rattle.expander.proofs.LeafLaws.{first_there, first_gone, head_first, head_none}
 use Rattle.expander.proofs.passes.head_name.Goals as goal
 

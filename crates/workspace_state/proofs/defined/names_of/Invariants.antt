@@ -1,5 +1,10 @@
+use Rattle.std.proofs.Common.{◌≡◌, map}
+use Rattle.workspace_state.specs.Defined.{named_all}
 use Rattle.workspace_state.specs.Libraries.{HaveMeaning}
 use Rattle.workspace_state.proofs.defined.names_of.Given as goal
 
 abbrev pub invariant-loop-binder : goal.invariant-loop-binder
-invariant-loop-binder l = HaveMeaning l.symbols l.names.items
+invariant-loop-binder l = record {
+  means : HaveMeaning l.symbols l.names.items;
+  exact : l.names.items ≡ named_all l.symbols l.unit (map (λ b. b.now) l.yielded);
+}

@@ -1,17 +1,30 @@
 -- The unit's head and source are there, and so is its document.
-use Rattle.std.proofs.Common.{◌≡◌, List, length, refl, sym, subst, arith, Bool, Option}
-use Rattle.std.proofs.lemmas.Option.{slice_get_read}
+use Rattle.std.proofs.Common.{◌≡◌, List, ◌∷◌, length, slice_set, true, false, refl, sym, ap, ◌∙◌, subst, arith, Bool, Option}
+use Rattle.std.specs.Prelude.{not}
+use Rattle.std.specs.Option.{is_some as is_there}
+use Rattle.std.proofs.lemmas.Option.{slice_get_read, same_Some}
+use Rattle.scheme_model.specs.Program as model
+use Rattle.scheme_model.specs.Program.{prepared, unit_entries}
 use Rattle.workspace_state.specs.declared.breaking.WholeFault.{WholeFault}
 use Rattle.workspace_state.specs.declared.breaking.WholeFault.TheVariants as fault
+use Rattle.workspace_state.specs.declared.entries.Libraries.{Libraries}
 use Rattle.workspace_state.specs.declared.expanding.Expanded.{Expanded}
 use Rattle.workspace_state.specs.declared.listing.Head.{Head}
 use Rattle.workspace_state.specs.Broken.{broken_if}
+use Rattle.workspace_state.specs.Came.{HaveCome, IsSourceOf}
+use Rattle.workspace_state.specs.SetsGiven.{AreLibraries}
+use Rattle.workspace_state.specs.Turned.{scoped_at}
 use Rattle.arrow_index.specs.Formed.{IsFormed}
 use Rattle.workspace_state.specs.Libraries.{ExportsMean, HaveMeaning}
 use Rattle.workspace_state.specs.Places.{SameHead, AreHeadsIn, AreFoundIn}
 use Rattle.expander.proofs.ImportLaws.{same_trees}
 use Rattle.expander.proofs.OutcomeLaws.{trees_on}
 use Rattle.workspace_state.proofs.BenchLaws.{bench_in}
+use Rattle.workspace_state.proofs.CameKept.{have_kept, libraries_kept}
+use Rattle.workspace_state.proofs.TurnCited.{turn_of}
+use Rattle.workspace_state.proofs.UnitCame.{goes_in}
+use Rattle.workspace_state.proofs.UpTo.{done_at}
+use Rattle.workspace_state.proofs.UpToNext.{libraries_of, broken_next, none_before, expanded_next}
 use Rattle.workspace_state.proofs.BrokenLaws.{heads_itself, head_set, head_broken}
 use Rattle.workspace_state.proofs.MeaningLaws.{names_on}
 use Rattle.workspace_state.proofs.SoundKept.{source_read, some_document}
@@ -83,3 +96,51 @@ returns-clause-formed g c =
     one_formed old now (trees_on old mid now (same_trees old mid c.in_ok-given.ensures.trees c.in_ok-given.ensures.names) c.in_ok-came.ensures.trees)
     (names_on old.symbols mid.symbols now.symbols c.in_ok-given.ensures.names c.in_ok-came.ensures.names) c.args.all.now.items c.args.place c.in_ok-came.came c.requires.formed
     (of_some (λ (e : Expanded). IsFormed now c.args.place e.forms) c.in_ok-came.came c.in_ok-came.ensures.formed)
+
+-- ---- what the definition has of the unit
+
+flipped : (a b : Bool) → a ≡ not b → b ≡ not a
+flipped a true h = sym (ap not h)
+flipped a false h = sym (ap not h)
+
+pub returns-then-is_some-clause-next : goal.returns-then-is_some-clause-next
+returns-then-is_some-clause-next g c = λ spelled us known x y order finds up.
+    let hs = c.args.units.now.heads.items in
+    let h = c.index.result.now in
+    let at = slice_get_read hs (length hs) c.args.place h refl (omega (arith, c.args.units.now.heads.ok.0, c.requires.place)) c.index.ensures in
+    broken_next spelled us known x y c.args.place order c.args.bench.now c.args.units.now c.args.all.now.items up h at (sym c.is_some.ensures ∙ c.if-is_some.true)
+
+pub returns-clause-next : goal.returns-clause-next
+returns-clause-next g c = λ spelled us known x y order finds up.
+    let b = c.args.bench.now in
+    let mid = c.given_to.new.work in
+    let now = c.expand_unit.new.bench in
+    let es = c.args.all.now.items in
+    let n = c.args.place in
+    let hs = c.args.units.now.heads.items in
+    let h = c.index_mut.result.now in
+    let at = slice_get_read hs (length hs) n h refl (omega (arith, c.args.units.now.heads.ok.0, c.requires.place)) c.index_mut.ensures.value in
+    let first = c.index.result.now in
+    let first_at = slice_get_read hs (length hs) n first refl (omega (arith, c.args.units.now.heads.ok.0, c.requires.place)) c.index.ensures in
+    let same : first ≡ h = same_Some first h (sym first_at ∙ at) in
+    let whole : is_there h.fault ≡ false = ap (λ (k : Head). is_there k.fault) (sym same) ∙ (sym c.is_some.ensures ∙ c.if-is_some.false) in
+    let turn = turn_of us known x y n order in
+    let gp = scoped_at us known x in
+    let p = prepared us n turn.unit in
+    let none = none_before spelled us known x y n order b c.args.units.now es up h at whole in
+    let ss = c.args.units.now.sources.items in
+    let source = subst (λ (f : Option model.WholeFault). IsSourceOf spelled p f c.index-source.result.now) none
+    (up.sources n turn.unit c.index-source.result.now turn.there
+    (slice_get_read ss (length ss) n c.index-source.result.now refl (omega (arith, c.requires.place, c.requires.units.sources, c.args.units.now.sources.ok.0, c.args.units.now.heads.ok.0)) c.index-source.ensures)) in
+    let trees = same_trees b.work mid c.in_ok-given.ensures.trees c.in_ok-given.ensures.names in
+    let ls = c.as_slice-expanded.result.now in
+    let come : HaveCome us gp b.work ls = subst (λ (xs : List (Option Expanded)). HaveCome us gp b.work xs) (sym c.as_slice-expanded.ensures.value) up.come in
+    let long : length ls ≡ length us = ap (λ (xs : List (Option Expanded)). length xs) c.as_slice-expanded.ensures.value ∙ up.count in
+    let lib : Libraries = record { firsts = c.args.firsts; expanded = c.as_slice-expanded.result } in
+    let libraries : AreLibraries b.work.symbols lib spelled us gp.results = libraries_of spelled us gp b.work lib finds come long (done_at us known x (n ∷ y) order) in
+    let given = c.in_ok-given.ensures.exact spelled us gp.results libraries p (record { kind = source.kind; specs = source.imports refl }) in
+    let goes = goes_in b mid gp c.in_ok-given.ensures.trees c.in_ok-given.ensures.names c.told_apart.ensures.idents c.told_apart.ensures.symbols up.goes in
+    let expands = c.in_ok-came.ensures.expands spelled us known gp p (unit_entries us gp.results p) up.knows goes refl source (libraries_kept b.work.symbols mid.symbols c.in_ok-given.ensures.names lib spelled us gp.results libraries) given in
+    expanded_next spelled us known x y n order b c.args.units.now es up h at whole now _ c.in_ok-came.came (c.in_ok-came.ensures.libraries known up.knows)
+    (have_kept b.work now.work (trees_on b.work mid now.work trees c.in_ok-came.ensures.trees) (names_on b.work.symbols mid.symbols now.work.symbols c.in_ok-given.ensures.names c.in_ok-came.ensures.names) us gp es up.come)
+    expands refl (ap (λ (k : Head). slice_set hs n k) (c.break_if.ensures ∙ ap (λ (q : Bool). broken_if q fault.TooLarge h) (flipped (is_there c.in_ok-came.came) c.is_none.result c.is_none.ensures)))

@@ -1,13 +1,18 @@
 -- What the forms define and name is among the names, to which those of imports and exports are added.
-use Rattle.std.proofs.Common.{◌≡◌, ℕ, List, sym, ap, ◌∙◌, subst}
+use Rattle.std.proofs.Common.{◌≡◌, ℕ, List, refl, sym, ap, ◌∙◌, subst}
+use Rattle.std.specs.Prelude.{reverse}
+use Rattle.scheme_model.specs.Program.{names_of_unit}
 use Rattle.syntax_tree.specs.declared.units.Entry.{Entry}
-use Rattle.core_tree.specs.Units.{definitions_from}
+use Rattle.core_tree.specs.Units.{AreDefinitions, definitions_from, defined_by}
 use Rattle.core_tree.specs.declared.cores.Binder.{Binder}
 use Rattle.core_tree.specs.declared.units.UnitForm.{UnitForm}
-use Rattle.workspace_state.specs.Defined.{AreKnown}
+use Rattle.expander.proofs.ImportLaws.{same_trees}
+use Rattle.expander.proofs.PartsStay.{forms_on}
+use Rattle.workspace_state.specs.Defined.{AreKnown, FindsNames}
 use Rattle.workspace_state.specs.Libraries.{HaveMeaning}
 use Rattle.workspace_state.specs.StandIn.{StandIn}
-use Rattle.workspace_state.proofs.MeaningLaws.{mean_kept, names_itself}
+use Rattle.workspace_state.proofs.CameKept.{came_of, definitions_kept, finds_kept}
+use Rattle.workspace_state.proofs.MeaningLaws.{entries_kept, mean_kept, names_itself}
 use Rattle.workspace_state.proofs.UnitLaws.{formed_known, formed_in, known_kept}
 use Rattle.workspace_state.proofs.expanding.finished.Goals as goal
 
@@ -42,10 +47,26 @@ returns-in_err-names-clause-names c = names_itself c.args.work.now.symbols
 
 pub returns-clause-findings : goal.returns-clause-findings
 returns-clause-findings c =
-    c.in_ok-add_no_import.ensures (c.in_ok-add_unbound_if.ensures (c.in_ok-add_hiding.ensures (c.in_ok-add_faults.ensures (c.in_ok-exports.ensures.findings c.requires.findings))))
+    c.in_ok-add_no_import.ensures (c.in_ok-add_unbound_if.ensures (c.in_ok-add_hiding.ensures.inside (c.in_ok-add_faults.ensures.inside (c.in_ok-exports.ensures.findings c.requires.findings))))
 
 pub returns-clause-exports : goal.returns-clause-exports
 returns-clause-exports c =
     let old = c.args.work.now.symbols in
     let now = c.names_used.new.work.symbols in
-    c.in_ok-exports.ensures.entries now (subst (λ (es : List Entry). HaveMeaning now es) (sym c.as_slice-4.ensures.value) (mean_kept old now c.in_ok-used.ensures.names c.in_ok-names.names.items c.in_ok-names.ensures))
+    c.in_ok-exports.ensures.entries now (subst (λ (es : List Entry). HaveMeaning now es) (sym c.as_slice-4.ensures.value) (mean_kept old now c.in_ok-used.ensures.names c.in_ok-names.names.items c.in_ok-names.ensures.means))
+
+pub returns-clause-came : goal.returns-clause-came
+returns-clause-came c = λ spelled us q p imports fs own source libraries are many stand told.
+    let old = c.args.work.now in
+    let new = c.names_used.new.work in
+    let unit = c.args.unit in
+    let keeps = c.in_ok-used.ensures.names in
+    let trees = same_trees old new c.names_used.ensures.trees keeps in
+    let find = names_of_unit q.table unit imports.0 in
+    let is : c.as_slice-2.result.now ≡ definitions_from 0 c.args.forms = c.as_slice-2.ensures.value ∙ c.in_ok-defined.ensures ∙ ap (λ (fs : List UnitForm). definitions_from 0 fs) c.as_slice-slice.ensures in
+    let finds = c.in_ok-names.ensures.finds q.table (subst (λ (bs : List (ℕ × Binder)). AreDefinitions old.symbols (reverse bs) (defined_by unit q.table)) (sym is) told) imports.0 are in
+    let names = c.in_ok-names.names.items in
+    let used = c.in_ok-used.ensures.exact spelled us q.units libraries p.specs (source.imports refl) find (subst (λ (es : List Entry). FindsNames old.symbols es find) (sym c.as_slice-3.ensures.value) finds) p.exports source.exports source.single in
+    let exports = c.in_ok-exports.ensures.exact new.symbols find (subst (λ (es : List Entry). FindsNames new.symbols es find) (sym c.as_slice-4.ensures.value) (finds_kept old.symbols new.symbols keeps names find finds)) p.exports source.exports in
+    came_of us q p imports fs new _ unit own (entries_kept old.symbols new.symbols keeps c.args.given.joined.entries.items imports.0 are) (forms_on old new trees keeps unit c.args.forms fs 0 stand) many
+    (definitions_kept old new trees keeps (reverse (definitions_from 0 c.args.forms)) (defined_by unit q.table) told) used exports

@@ -1,6 +1,17 @@
-use Rattle.std.proofs.Common.{length}
-use Rattle.workspace_state.specs.Places.{AreFoundIn}
+use Rattle.std.proofs.Common.{◌≡◌, ◌++◌, List, length, drop}
+use Rattle.scheme_model.specs.Program.{ExportSpec, ExportFault, UnitResult}
+use Rattle.scheme_model.specs.Diagnostics.{bytes_of, export_diagnostics}
+use Rattle.library_table.specs.Exports.{AreFaults}
+use Rattle.library_table.specs.Sources.{AreExports}
+use Rattle.workspace_state.specs.Found.{all_told}
+use Rattle.workspace_state.specs.Places.{AreFoundIn, ArePlaces, spans_of}
+use Rattle.workspace_state.specs.Readings.{Read}
 use Rattle.workspace_state.proofs.exported.exports_given.Given as goal
 
+-- what is told so far, and the faults that are left
 abbrev pub invariant-loop-fault : goal.invariant-loop-fault
-invariant-loop-fault l = AreFoundIn (length l.places.documents.now) l.initial.findings.items → AreFoundIn (length l.places.documents.now) l.findings.items
+invariant-loop-fault l = record {
+  inside : AreFoundIn (length l.places.documents.now) l.initial.findings.items → AreFoundIn (length l.places.documents.now) l.findings.items;
+  told : (xs : List ExportSpec) → AreExports l.specs xs → (gs : List ExportFault) → AreFaults xs l.fault-items gs → (reads : List Read) (us : List UnitResult) → ArePlaces l.places reads us →
+      all_told l.findings.items ++ export_diagnostics (bytes_of (spans_of reads) us) (drop l.fault-index gs) ≡ all_told l.initial.findings.items ++ export_diagnostics (bytes_of (spans_of reads) us) gs;
+}

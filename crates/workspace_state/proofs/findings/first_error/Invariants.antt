@@ -1,7 +1,11 @@
-use Rattle.std.proofs.Common.{◌<◌, ℕ, IfSome}
+use Rattle.std.proofs.Common.{◌<◌, ℕ, IfSome, take}
+use Rattle.workspace_state.specs.Found.{IsFirst}
 use Rattle.workspace_state.specs.Places.{AreFoundIn}
+use Rattle.workspace_state.proofs.FirstLaws.{errors_to}
 use Rattle.workspace_state.proofs.findings.first_error.Given as goal
 
--- the first so far stands in a document
+-- the first of those gone through, which stands in a document
 abbrev pub invariant-loop-finding : goal.invariant-loop-finding
-invariant-loop-finding l = (count : ℕ) → AreFoundIn count l.findings → IfSome l.first (λ e. e.0.document < count)
+invariant-loop-finding l =
+    IsFirst l.first (errors_to (take l.finding-index l.findings))
+    × ((count : ℕ) → AreFoundIn count l.findings → IfSome l.first (λ f. f.0.document < count))

@@ -1,7 +1,9 @@
-use Rattle.std.proofs.Common.{sym, subst}
+use Rattle.std.proofs.Common.{[], sym, subst}
+use Rattle.scheme_model.specs.Entries as model
 use Rattle.import_sets.specs.Given.{Gathered}
-use Rattle.import_sets.specs.Seen.{seen}
-use Rattle.workspace_state.specs.Joining.{AreApart, GroupsMean}
+use Rattle.import_sets.specs.GatheringSeen.{seen}
+use Rattle.workspace_state.specs.Joining.{AreApart, GatheredAs, GroupsMean}
+use Rattle.workspace_state.proofs.GivenLaws.{gathered_as}
 use Rattle.workspace_state.proofs.JoiningLaws.{all_mean, all_apart}
 use Rattle.workspace_state.proofs.joining.join_all.Goals as goal
 
@@ -11,3 +13,7 @@ returns-clause-means c = λ names apart means entries.
 
 pub returns-clause-apart : goal.returns-clause-apart
 returns-clause-apart c = λ apart. subst (λ (g : Gathered). AreApart g.groups) (sym c.in_ok-take_all.ensures) (all_apart (seen c.args.gathering) c.args.entries apart)
+
+pub returns-clause-exact : goal.returns-clause-exact
+returns-clause-exact c = λ none names apart es stand ds are.
+    subst (λ (g : Gathered). GatheredAs names g (model.gather es ds [])) (sym c.in_ok-take_all.ensures) (gathered_as names apart (seen c.args.gathering) c.args.entries es ds none stand are)

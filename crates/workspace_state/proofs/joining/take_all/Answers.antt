@@ -1,6 +1,6 @@
 use Rattle.std.proofs.Common.{sym, ap, ◌∙◌}
 use Rattle.import_sets.specs.Given.{Gathered, take_in}
-use Rattle.import_sets.specs.Seen.{seen}
+use Rattle.import_sets.specs.GatheringSeen.{seen}
 use Rattle.import_sets.proofs.NameLaws.{take_all_more}
 use Rattle.workspace_state.proofs.joining.take_all.Goals as goal
 

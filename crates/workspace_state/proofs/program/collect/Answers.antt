@@ -30,13 +30,13 @@ turn c =
 
 pub add-requires : goal.add-requires
 add-requires c =
-    let same : length c.as_slice.result.now ≡ vec_len c.in_ok-findings.findings = omega (arith, c.as_slice.ensures.len, c.in_ok-findings.ensures, c.len.ensures) in
-    subst (λ (n : ℕ). AreFoundIn n c.in_ok-unread_findings.field-0.items) same c.in_ok-unread_findings.ensures
+    let same : length c.as_slice.result.now ≡ vec_len c.in_ok-findings.findings = omega (arith, c.as_slice.ensures.len, c.in_ok-findings.ensures.count, c.len.ensures) in
+    subst (λ (n : ℕ). AreFoundIn n c.in_ok-unread_findings.field-0.items) same c.in_ok-unread_findings.ensures.inside
 
 pub loop-place-init : goal.loop-place-init
 loop-place-init c = record {
   heads = heads_itself c.args.units.heads.items;
-  findings = omega (arith, c.in_ok-add.ensures, c.in_ok-findings.ensures, c.len.ensures);
+  findings = omega (arith, c.in_ok-add.ensures.count, c.in_ok-findings.ensures.count, c.len.ensures);
   errors = subst (λ (es : List (Option (At × ℕ))). AreErrorsIn (vec_len c.args.documents) es) (sym c.new-first_errors.ensures.items) (errors_none (vec_len c.args.documents));
   count = ap (λ (us : List CodeUnit). length us) c.new-program.ensures;
   formed = subst (λ (us : List CodeUnit). AreFormedIn c.args.work us) (sym c.new-program.ensures) (formed_none c.args.work);
@@ -96,8 +96,8 @@ loop-place-preserved c =
     let pushed = c.in_ok-push-2.ensures.ok in
     record {
       heads = head_set c.args.units.heads.items hs c.in-Some.place h c.unit_of.new.head l.invariant.heads (slice_get_read hs (length hs) c.in-Some.place h refl within c.index_mut.ensures.value) c.unit_of.ensures.head;
-      findings = c.in_ok-add-2.ensures ∙ l.invariant.findings;
-      errors = errors_more count l.first_errors.items c.push.new.self.items c.first_error.result c.in_ok-push.ensures.items (c.first_error.ensures count found) l.invariant.errors;
+      findings = c.in_ok-add-2.ensures.count ∙ l.invariant.findings;
+      errors = errors_more count l.first_errors.items c.push.new.self.items c.first_error.result c.in_ok-push.ensures.items (c.first_error.ensures.inside count found) l.invariant.errors;
       count = omega (arith, ap (λ (us : List CodeUnit). length us) pushed, length_push l.program c.in_ok-unit.unit, length_push l.yielded (c.in-Some.place, c.in-Some.came), l.invariant.count);
       formed = formed_more work l.program c.push-in-loop-place.new.self c.in_ok-unit.unit c.in-Some.place pushed (l.invariant.count ∙ sym t.0)
           (subst (λ (fs : List UnitForm). IsFormed work c.in-Some.place fs) (sym c.in_ok-unit.ensures.forms) (c.in_ok-came.ensures.formed work came)) l.invariant.formed;

@@ -30,7 +30,7 @@ pub returns-clause-rests : goal.returns-clause-rests
 returns-clause-rests c = λ work ls s notes h. units_copied work ls c.args.self.now _ s notes (returns-clause-same c) h
 
 pub returns-clause-knows : goal.returns-clause-knows
-returns-clause-knows c = λ known h n. h n ∙ sym ((returns-clause-same c).libraries (library_text n))
+returns-clause-knows c = λ known h n written. h n written ∙ sym ((returns-clause-same c).libraries (library_text n))
 
 pub returns-clause-others : goal.returns-clause-others
 returns-clause-others c = λ v new. ap (λ (e : Environment). map.get e.roots v) (returns-clause-same c).env ∙ new

@@ -4,7 +4,7 @@ use Rattle.std.proofs.lemmas.Option.{slice_get_within}
 use Rattle.scheme_model.specs.Ident.{Ident as Identifier}
 use Rattle.scheme_model.specs.Order.{Pending, is_some, told}
 use Rattle.scheme_model.specs.RulesShape.{Rules}
-use Rattle.scheme_model.specs.ScopedExpansion.{Place, body_around, meaning_next, definition_added}
+use Rattle.scheme_model.specs.ScopedExpansion.{FramedIdent, body_around, meaning_next, definition_added}
 use Rattle.syntax_tree.specs.declared.meaning.Meaning.{Meaning}
 use Rattle.expander.specs.Macros.{IsBound, Keeps}
 use Rattle.expander.specs.Defining.{next_here, Places, EndsIn}
@@ -15,7 +15,7 @@ use Rattle.expander.proofs.CountingStands.{most_fit}
 use Rattle.expander.proofs.DefineLaws.{comes_so, undefined_here, is_bound_here, changes, refuses, is_second, refused_ends, second_ends, kept_tells, none_kept, some_kept, same_placed, same_kept, variable_stands, macro_stands, in_after, is_in_on, made_ends}
 use Rattle.expander.proofs.scope.UnitScope.define.Goals as goal
 
-abbrev Same : Unit {0} → Pending Identifier Place → Pending Identifier Place → Type 0
+abbrev Same : Unit {0} → Pending Identifier FramedIdent → Pending Identifier FramedIdent → Type 0
 Same done p q = q ≡ p
 
 pub is_refused-requires : goal.is_refused-requires

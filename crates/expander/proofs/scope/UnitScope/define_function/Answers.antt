@@ -1,7 +1,7 @@
 use Rattle.std.proofs.Common.{◌≡◌, Bool, None, Ok, Err, refl, sym, ap, ◌∙◌, subst, arith}
 use Rattle.scheme_model.specs.Ident.{Ident as Identifier}
 use Rattle.scheme_model.specs.Order.{Going, Item, Pass, Pending, Function, AssignedFunction, binder_at, told, put, run_function}
-use Rattle.scheme_model.specs.ScopedExpansion.{Place, ScopedState, body_around, assigned}
+use Rattle.scheme_model.specs.ScopedExpansion.{FramedIdent, ScopedState, body_around, assigned}
 use Rattle.expander.specs.Searched.{searched}
 use Rattle.expander.specs.Passed.{GoesOn}
 use Rattle.expander.specs.declared.items.Kept.TheVariants as kept
@@ -9,7 +9,7 @@ use Rattle.expander.proofs.DefinitionSteps.{goes_handed, goes_failing, aside_goe
 use Rattle.expander.proofs.scope.UnitScope.define_function.Goals as goal
 
 abbrev Step : Type 0
-Step = Going Identifier Place ScopedState → Pass Identifier Place × ScopedState
+Step = Going Identifier FramedIdent ScopedState → Pass Identifier FramedIdent × ScopedState
 
 pub returns-then-is_assigned : goal.returns-then-is_assigned
 returns-then-is_assigned c = λ known region ls s fs n t p given knows stands placed is on pending notes one.
@@ -32,7 +32,7 @@ returns-in_err-define c = λ known region ls s fs n t p given knows stands place
     let e = c.in_err-define.field-0.0 in
     goes_handed work region u c.define.new.self ls c.args.spot fs p.todo given c.args.pending.now c.args.asked.now c.from_residual-in_err-define.result e (step (assigned s (body_around fs) n.name)) c.from_residual-in_err-define.ensures.1
     (subst (λ (f : Step). GoesOn work work region u c.define.new.self ls c.args.spot fs p.todo given c.args.pending.now c.args.asked.now (Err e) f) (sym (ap step so))
-    (goes_failing work region u c.define.new.self ls c.args.spot fs p.todo given c.args.pending.now c.args.asked.now p.notes (λ (done : Unit {0}) (q : Pending Identifier Place). q ≡ put m p) e
+    (goes_failing work region u c.define.new.self ls c.args.spot fs p.todo given c.args.pending.now c.args.asked.now p.notes (λ (done : Unit {0}) (q : Pending Identifier FramedIdent). q ≡ put m p) e
     (told c.args.here ((searched known).define n None fs (put m p) s)) (λ go. go) stands.form.few_nodes ends notes))
 
 pub returns : goal.returns
@@ -49,4 +49,4 @@ returns c = λ known region ls s fs n t p given knows stands placed is on pendin
     let binder = binder_here work u ls s c.next_binder-binder.result b stands (c.next_binder-binder.ensures known work ls s fs n stands placed is) in
     subst (λ (f : Step). GoesOn work work region u v ls c.args.spot fs p.todo given (record { todo = c.args.pending.now.todo; aside = c.push-2.new.self }) c.args.asked.now (Ok tt) f) (sym (ap step so))
     (aside_goes work region u v ls c.args.spot fs s p c.args.pending.now (record { todo = c.args.pending.now.todo; aside = c.push-2.new.self }) c.args.asked.now given m (kept.Function c.next_binder-binder.result c.args.here c.args.clause) pending notes
-    (c.next_binder-binder.result, c.args.clause, refl, binder, on) refl c.in_ok-push-2.ensures.items 1 ends.0 x (λ go. go) ends.1 ends.2 c.in_ok-define.ensures.counts.uses c.in_ok-define.ensures.counts.locals (omega arith) one (λ go. ap (λ (q : Pending Identifier Place). go q x.1) ends.3))
+    (c.next_binder-binder.result, c.args.clause, refl, binder, on) refl c.in_ok-push-2.ensures.items 1 ends.0 x (λ go. go) ends.1 ends.2 c.in_ok-define.ensures.counts.uses c.in_ok-define.ensures.counts.locals (omega arith) one (λ go. ap (λ (q : Pending Identifier FramedIdent). go q x.1) ends.3))

@@ -6,7 +6,7 @@ use Rattle.scheme_model.specs.Ident.{Ident as Identifier}
 use Rattle.scheme_model.specs.Cores.{Binder}
 use Rattle.scheme_model.specs.Shapes.{RecordShape}
 use Rattle.scheme_model.specs.Order.{Going, Pass, record_names, run_record}
-use Rattle.scheme_model.specs.ScopedExpansion.{Place, ScopedState}
+use Rattle.scheme_model.specs.ScopedExpansion.{FramedIdent, ScopedState}
 use Rattle.core_forms.specs.Parts as forms
 use Rattle.core_forms.specs.Parts.{IsName, IsField}
 use Rattle.core_forms.specs.declared.shape.NamePart.{NamePart}
@@ -15,7 +15,7 @@ use Rattle.core_forms.proofs.Distinct.{field_names_are}
 use Rattle.core_tree.specs.Names.{AllMatch, IsBinder, IsField as IsUse}
 use Rattle.core_tree.specs.declared.cores.Binder as code_binder
 use Rattle.expander.specs.State.{Stands, most_locals}
-use Rattle.expander.specs.Seen.{used_fields}
+use Rattle.expander.specs.FormsSeen.{used_fields}
 use Rattle.expander.specs.Kept.{SpotFor}
 use Rattle.expander.specs.Defining.{EndsIn, define_each}
 use Rattle.expander.specs.Searched.{searched}
@@ -102,7 +102,7 @@ returns-in_err-binders c = λ known region ls s fs m p given knows stands placed
     let each = define_each (searched known) c.args.here fs (record_names m) p state in
     let ends = subst (λ (x : UnitScope). EndsIn (λ (bs : Vec code_binder.Binder Global) (ms : List Binder). AllMatch (IsBinder work.symbols x.unit x.form.number) bs.items ms) work x v ls c.args.spot fs (Err e) each) taken
     (c.in_err-binders.ensures.defined known ls state fs (record_names m) p (subst (λ (x : UnitScope). Stands work x ls state) (sym taken) start.0) (subst (λ (x : UnitScope). SpotFor work x ls state c.args.spot fs) (sym taken) start.1) names notes) in
-    let step : Going Identifier Place ScopedState → Pass Identifier Place × ScopedState = λ go. run_record (searched known) go c.args.here fs p m s in
+    let step : Going Identifier FramedIdent ScopedState → Pass Identifier FramedIdent × ScopedState = λ go. run_record (searched known) go c.args.here fs p m s in
     goes_handed work region u v ls c.args.spot fs p.todo given c.args.pending.now c.args.asked.now c.from_residual-in_err-binders.result e step c.from_residual-in_err-binders.ensures.1
     (record_fails work u ls c.args.spot fs s m xs stands placed names_are room region v known c.args.here p c.args.pending.now c.args.asked.now given notes e ends)
 

@@ -2,7 +2,7 @@ use Rattle.std.proofs.Common.{◌≡◌, ◌+◌, ◌++◌, false, Some, refl, a
 use Rattle.scheme_model.specs.Ident.{Ident as Identifier}
 use Rattle.scheme_model.specs.Requirements.{Known}
 use Rattle.scheme_model.specs.Order.{Going, Pass, rules_parts_of, rules_note, run_syntax}
-use Rattle.scheme_model.specs.ScopedExpansion.{Place, ScopedState}
+use Rattle.scheme_model.specs.ScopedExpansion.{FramedIdent, ScopedState}
 use Rattle.expander.specs.Searched.{searched}
 use Rattle.expander.specs.declared.items.Pending as code_pending
 use Rattle.expander.specs.Stepped.{spent}
@@ -54,7 +54,7 @@ define-requires c =
     }
 
 abbrev Step : Type 0
-Step = Going Identifier Place ScopedState → Pass Identifier Place × ScopedState
+Step = Going Identifier FramedIdent ScopedState → Pass Identifier FramedIdent × ScopedState
 
 pub returns-in_err-note_rules : goal.returns-in_err-note_rules
 returns-in_err-note_rules c = λ known region ls s fs n t p given knows stands placed is st pending notes one.

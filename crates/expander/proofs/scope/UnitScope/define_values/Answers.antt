@@ -3,7 +3,7 @@ use Rattle.scheme_model.specs.Ident.{Ident as Identifier}
 use Rattle.scheme_model.specs.Cores.{Binder}
 use Rattle.scheme_model.specs.Steps.{Broken, ◌>>=◌}
 use Rattle.scheme_model.specs.Order.{Form, Going, Item, Pass, Pending, ValuesOf, caught, first, values_put, define_names}
-use Rattle.scheme_model.specs.ScopedExpansion.{Place, ScopedState}
+use Rattle.scheme_model.specs.ScopedExpansion.{FramedIdent, ScopedState}
 use Rattle.core_forms.specs.Parts as forms
 use Rattle.core_forms.specs.Parts.{IsName}
 use Rattle.core_forms.specs.declared.shape.NamePart.{NamePart}
@@ -21,9 +21,9 @@ use Rattle.expander.proofs.DefinitionSteps.{goes_handed, goes_failing, aside_goe
 use Rattle.expander.proofs.scope.UnitScope.define_values.Goals as goal
 
 abbrev Answer : Type 0
-Answer = Result (List Binder × Pending Identifier Place) Broken × ScopedState
+Answer = Result (List Binder × Pending Identifier FramedIdent) Broken × ScopedState
 
-abbrev going_on : Bool → Going Identifier Place ScopedState → List Binder × Pending Identifier Place → ScopedState → Pass Identifier Place × ScopedState
+abbrev going_on : Bool → Going Identifier FramedIdent ScopedState → List Binder × Pending Identifier FramedIdent → ScopedState → Pass Identifier FramedIdent × ScopedState
 going_on rest go r = go (values_put r.0 rest r.1 r.1.todo)
 
 pub define_all-requires : goal.define_all-requires
@@ -44,18 +44,18 @@ returns-in_err-binders c = λ known region ls s fs m t p given knows stands plac
     let u = c.args.self.now in
     let v = c.define_all.new.self in
     let here = c.args.form.here in
-    let q : Pending Identifier Place = first (record { here = here; tree = t } ∷ []) p in
+    let q : Pending Identifier FramedIdent = first (record { here = here; tree = t } ∷ []) p in
     let d = define_each (searched known) here fs m.names p s in
     let names = subst (λ (l : List NamePart). forms.AllMatch (IsName work) l m.names) (sym c.deref.ensures.value) is.names in
     let ends = c.in_err-binders.ensures.defined known ls s fs m.names p stands placed names notes in
     let P = λ (bs : Vec code_binder.Binder Global) (ms : List Binder). AllMatch (IsBinder work.symbols u.unit u.form.number) bs.items ms in
     let whole : Answer = define_names (searched known) here fs m.names (record { here = here; tree = t } ∷ []) p s in
     let e = c.in_err-binders.field-0.0 in
-    let step : Going Identifier Place ScopedState → Pass Identifier Place × ScopedState = λ go. caught p.notes whole (going_on m.rest go) in
+    let step : Going Identifier FramedIdent ScopedState → Pass Identifier FramedIdent × ScopedState = λ go. caught p.notes whole (going_on m.rest go) in
     goes_handed work region u v ls c.args.spot fs p.todo given c.args.pending.now c.args.asked.now c.from_residual.result e step c.from_residual.ensures.1
     (subst (λ (x : Answer). GoesOn work work region u v ls c.args.spot fs p.todo given c.args.pending.now c.args.asked.now (Err e) (λ go. caught p.notes x (going_on m.rest go))) (sym (names_defined known here fs (record { here = here; tree = t } ∷ []) p m.names s))
-    (goes_failing work region u v ls c.args.spot fs p.todo given c.args.pending.now c.args.asked.now p.notes (λ (done : Unit {0}) (x : List Binder × Pending Identifier Place). Unit {0}) e (d >>= with_pending q) (going_on m.rest) stands.form.few_nodes
-    (in_fails P (λ (done : Unit {0}) (x : List Binder × Pending Identifier Place). Unit {0}) work u v ls c.args.spot fs e d (with_pending q) ends) notes))
+    (goes_failing work region u v ls c.args.spot fs p.todo given c.args.pending.now c.args.asked.now p.notes (λ (done : Unit {0}) (x : List Binder × Pending Identifier FramedIdent). Unit {0}) e (d >>= with_pending q) (going_on m.rest) stands.form.few_nodes
+    (in_fails P (λ (done : Unit {0}) (x : List Binder × Pending Identifier FramedIdent). Unit {0}) work u v ls c.args.spot fs e d (with_pending q) ends) notes))
 
 pub returns : goal.returns
 returns c = λ known region ls s fs m t p given knows stands placed is on pending notes few.
@@ -64,7 +64,7 @@ returns c = λ known region ls s fs m t p given knows stands placed is on pendin
     let v = c.define_all.new.self in
     let here = c.args.form.here in
     let f : Form Identifier = record { here = here; tree = t } in
-    let q : Pending Identifier Place = first (f ∷ []) p in
+    let q : Pending Identifier FramedIdent = first (f ∷ []) p in
     let d = define_each (searched known) here fs m.names p s in
     let names = subst (λ (l : List NamePart). forms.AllMatch (IsName work) l m.names) (sym c.deref.ensures.value) is.names in
     let ends = c.in_ok-binders.ensures.defined known ls s fs m.names p stands placed names notes in

@@ -3,7 +3,7 @@ use Rattle.scheme_model.specs.Meaning.{Meaning}
 use Rattle.scheme_model.specs.Order.{Note}
 use Rattle.scheme_model.specs.Substitution.{any}
 use Rattle.scheme_model.specs.CountedExpansion.{refused_here}
-use Rattle.scheme_model.specs.ScopedExpansion.{Frames, Place, ScopedState}
+use Rattle.scheme_model.specs.ScopedExpansion.{Frames, FramedIdent, ScopedState}
 use Rattle.expander.specs.Kept.{NotesFor}
 use Rattle.expander.specs.Defining.{ComesTo}
 use Rattle.expander.proofs.SearchedNotes.{told_at}
@@ -11,5 +11,5 @@ use Rattle.expander.proofs.scope.UnitScope.is_refused.Given as goal
 
 abbrev pub invariant-loop-number : goal.invariant-loop-number
 invariant-loop-number l =
-    (ls : List Frames) (t : ScopedState) (m : Meaning) (ns : List (Note Place)) → ComesTo l.work l.self ls t l.coming m → NotesFor l.work ls l.asked ns →
+    (ls : List Frames) (t : ScopedState) (m : Meaning) (ns : List (Note FramedIdent)) → ComesTo l.work l.self ls t l.coming m → NotesFor l.work ls l.asked ns →
     any (told_at (refused_here t m l.coming.is_macro) (reverse ns)) (take l.number-index l.numbers) ≡ false

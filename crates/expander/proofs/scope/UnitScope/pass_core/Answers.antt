@@ -4,7 +4,7 @@ use Rattle.scheme_model.specs.Ident.{Ident as Identifier}
 use Rattle.scheme_model.specs.Keywords.{CoreKeyword}
 use Rattle.scheme_model.specs.Measures.{tree_size}
 use Rattle.scheme_model.specs.Order.{Going, Pass, run_core}
-use Rattle.scheme_model.specs.ScopedExpansion.{Place, ScopedState}
+use Rattle.scheme_model.specs.ScopedExpansion.{FramedIdent, ScopedState}
 use Rattle.scheme_model.specs.Quasiquote.{Mark}
 use Rattle.core_forms.specs.Marks.{AreMarks}
 use Rattle.core_forms.specs.declared.shape.QuasiMark.{QuasiMark}
@@ -14,7 +14,7 @@ use Rattle.expander.specs.Passed.{CanPass, shape_weight}
 use Rattle.expander.specs.Searched.{searched}
 use Rattle.expander.specs.Kept.{SpotFor}
 use Rattle.expander.specs.State.{Stands}
-use Rattle.expander.specs.Seen.{takes_effect}
+use Rattle.expander.specs.FormsSeen.{takes_effect}
 use Rattle.expander.specs.Stepped.{met, with_keyword}
 use Rattle.expander.specs.declared.scope.UnitScope.{UnitScope}
 use Rattle.expander.proofs.CorePass.{core_goes, core_misread}
@@ -42,7 +42,7 @@ within : (a b most : ℕ) → a < b → b ≤ most → a ≤ most
 within a b most h g = omega (arith, h, g)
 
 abbrev Step : Type 0
-Step = Going Identifier Place ScopedState → Pass Identifier Place × ScopedState
+Step = Going Identifier FramedIdent ScopedState → Pass Identifier FramedIdent × ScopedState
 
 abbrev with_keywords : UnitScope → List code_target.Target → UnitScope
 with_keywords u l = record u { form = record u.form { trace = record u.form.trace { keywords = l } } }

@@ -8,7 +8,7 @@ use Rattle.scheme_model.specs.Meaning.{Head, is_keyword, head_as}
 use Rattle.scheme_model.specs.Cores.{Target}
 use Rattle.scheme_model.specs.Order.{LookedUp, Note, here_at, is_some, target_of, noted, run_core, run_form, run_use}
 use Rattle.scheme_model.specs.CountedExpansion.{means_here}
-use Rattle.scheme_model.specs.ScopedExpansion.{Frames, Place, ScopedState, macro_at}
+use Rattle.scheme_model.specs.ScopedExpansion.{Frames, FramedIdent, ScopedState, macro_at}
 use Rattle.expander.specs.Searched.{searched}
 use Rattle.expander.proofs.FitLaws.{some_node}
 use Rattle.expander.proofs.PassForms.{core_head, auxiliary_head, no_keyword, by_core, by_auxiliary, by_none, by_macro, noted_pending, can_pass_noted, sets_aside, can_look, use_for, can_use}
@@ -20,7 +20,7 @@ use Rattle.expander.proofs.scope.UnitScope.pass_form.Goals as goal
 abbrev head_in : ScopedState → Frames → Identifier → Head
 head_in s fs i = head_as (λ x. is_some (macro_at s.macros x)) (means_here s fs i)
 
-abbrev note_in : ScopedState → Frames → Identifier → Note Place
+abbrev note_in : ScopedState → Frames → Identifier → Note FramedIdent
 note_in s fs i = LookedUp (record { frames = fs; ident = i }) true (is_keyword (head_in s fs i))
 
 pub target-keyword-requires : goal.target-keyword-requires

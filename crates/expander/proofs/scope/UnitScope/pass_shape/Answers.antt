@@ -5,7 +5,7 @@ use Rattle.scheme_model.specs.Trees.{no_trees}
 use Rattle.scheme_model.specs.Measures.{trees_size}
 use Rattle.scheme_model.specs.Order.{Going, Pass, or_none, read_then, record_names, splice}
 use Rattle.scheme_model.specs.Ident.{Ident as Identifier}
-use Rattle.scheme_model.specs.ScopedExpansion.{Place, ScopedState}
+use Rattle.scheme_model.specs.ScopedExpansion.{FramedIdent, ScopedState}
 use Rattle.syntax_tree.specs.Looks.{PartsStand, AllNamed}
 use Rattle.syntax_tree.specs.declared.trees.nodes.Tree as number
 use Rattle.core_forms.specs.Named.{TreesNamed}
@@ -21,7 +21,7 @@ use Rattle.expander.proofs.WeightLaws.{chosen_fits}
 use Rattle.expander.proofs.scope.UnitScope.pass_shape.Goals as goal
 
 abbrev Step : Type 0
-Step = Going Identifier Place ScopedState → Pass Identifier Place × ScopedState
+Step = Going Identifier FramedIdent ScopedState → Pass Identifier FramedIdent × ScopedState
 
 at_least_one : (n : ℕ) → 1 < n → 1 ≤ n
 at_least_one n h = omega (arith, h)
@@ -85,7 +85,7 @@ pub returns-in-Define : goal.returns-in-Define
 returns-in-Define c = λ known region ls s fs form m p given knows stands placed shape named passed fits pending notes less.
     let work = c.args.work.now in
     let u = c.args.self.now in
-    variable_goes known work region s fs c.args.here form p given (λ (f : Going Identifier Place ScopedState → Pass Identifier Place × ScopedState). GoesOn work work region u c.define_variable.new.self ls c.args.spot fs p.todo given c.define_variable.new.pending c.args.asked.now c.define_variable.result f)
+    variable_goes known work region s fs c.args.here form p given (λ (f : Going Identifier FramedIdent ScopedState → Pass Identifier FramedIdent × ScopedState). GoesOn work work region u c.define_variable.new.self ls c.args.spot fs p.todo given c.define_variable.new.pending c.args.asked.now c.define_variable.result f)
     c.args.shape m shape named fits less c.in-Define.name c.in-Define.value c.in-Define.is
     (λ i t name value few. c.define_variable.ensures known region ls s fs i t p given knows stands placed name value pending notes (at_least_one given few))
 
@@ -93,7 +93,7 @@ pub returns-in-Procedure : goal.returns-in-Procedure
 returns-in-Procedure c = λ known region ls s fs form m p given knows stands placed shape named passed fits pending notes less.
     let work = c.args.work.now in
     let u = c.args.self.now in
-    procedure_goes known work region s fs c.args.here form p given (λ (f : Going Identifier Place ScopedState → Pass Identifier Place × ScopedState). GoesOn work work region u c.define_function.new.self ls c.args.spot fs p.todo given c.define_function.new.pending c.args.asked.now c.define_function.result f)
+    procedure_goes known work region s fs c.args.here form p given (λ (f : Going Identifier FramedIdent ScopedState → Pass Identifier FramedIdent × ScopedState). GoesOn work work region u c.define_function.new.self ls c.args.spot fs p.todo given c.define_function.new.pending c.args.asked.now c.define_function.result f)
     c.args.shape m shape named fits less c.in-Procedure.name c.in-Procedure.clause c.in-Procedure.is
     (λ i d name clause few. c.define_function.ensures known region ls s fs i d p given knows stands placed name clause pending notes (at_least_one given few))
 
@@ -101,7 +101,7 @@ pub returns-in-Values : goal.returns-in-Values
 returns-in-Values c = λ known region ls s fs form m p given knows stands placed shape named passed fits pending notes less.
     let work = c.args.work.now in
     let u = c.args.self.now in
-    values_goes known work region s fs c.args.here form p given (λ (f : Going Identifier Place ScopedState → Pass Identifier Place × ScopedState). GoesOn work work region u c.define_values.new.self ls c.args.spot fs p.todo given c.define_values.new.pending c.args.asked.now c.define_values.result f)
+    values_goes known work region s fs c.args.here form p given (λ (f : Going Identifier FramedIdent ScopedState → Pass Identifier FramedIdent × ScopedState). GoesOn work work region u c.define_values.new.self ls c.args.spot fs p.todo given c.define_values.new.pending c.args.asked.now c.define_values.result f)
     c.args.shape m shape named fits less c.in-Values.formals c.in-Values.value c.in-Values.is
     (λ d t formals value few. c.define_values.ensures known region ls s fs d t p given knows stands placed formals value pending notes few)
 
@@ -109,7 +109,7 @@ pub returns-in-DefineSyntax : goal.returns-in-DefineSyntax
 returns-in-DefineSyntax c = λ known region ls s fs form m p given knows stands placed shape named passed fits pending notes less.
     let work = c.args.work.now in
     let u = c.args.self.now in
-    syntax_goes known work region s fs c.args.here form p given (λ (f : Going Identifier Place ScopedState → Pass Identifier Place × ScopedState). GoesOn work work region u c.define_syntax.new.self ls c.args.spot fs p.todo given c.define_syntax.new.pending c.define_syntax.new.asked c.define_syntax.result f)
+    syntax_goes known work region s fs c.args.here form p given (λ (f : Going Identifier FramedIdent ScopedState → Pass Identifier FramedIdent × ScopedState). GoesOn work work region u c.define_syntax.new.self ls c.args.spot fs p.todo given c.define_syntax.new.pending c.define_syntax.new.asked c.define_syntax.result f)
     c.args.shape m shape named fits less c.in-DefineSyntax.name c.in-DefineSyntax.rules c.in-DefineSyntax.is
     (λ i t name value few. c.define_syntax.ensures known region ls s fs i t p given knows stands placed name value pending notes (at_least_one given few))
 

@@ -1,7 +1,7 @@
 use Rattle.std.proofs.Common.{◌≡◌, ◌+◌, List, true, Some, Result, Ok, Err, OnOk, refl, sym, ap, ◌∙◌, subst}
 use Rattle.scheme_model.specs.Order.{Going, Pass, comparisons, run_use, use_of}
 use Rattle.scheme_model.specs.Ident.{Ident as Identifier}
-use Rattle.scheme_model.specs.ScopedExpansion.{Place, ScopedState}
+use Rattle.scheme_model.specs.ScopedExpansion.{FramedIdent, ScopedState}
 use Rattle.core_tree.specs.Names.{AllMatch}
 use Rattle.syntax_tree.specs.declared.trees.nodes.Tree as number
 use Rattle.expander.specs.Outcomes.{WorksOn, EndsHere}
@@ -17,7 +17,7 @@ use Rattle.expander.proofs.UsePass.{use_goes, use_fails, use_left}
 use Rattle.expander.proofs.scope.UnitScope.pass_use.Goals as goal
 
 abbrev Step : Type 0
-Step = Going Identifier Place ScopedState → Pass Identifier Place × ScopedState
+Step = Going Identifier FramedIdent ScopedState → Pass Identifier FramedIdent × ScopedState
 
 pub note_comparisons-requires : goal.note_comparisons-requires
 note_comparisons-requires c =

@@ -1,6 +1,6 @@
 use Rattle.std.proofs.Common.{◌≡◌, Bool, None, Some, length, cond, slice_set, refl, sym, ap, ◌∙◌, arith, rules}
 use Rattle.std.proofs.lemmas.Option.{slice_get_read}
-use Rattle.import_sets.specs.Seen.{seen}
+use Rattle.import_sets.specs.GatheringSeen.{seen}
 use Rattle.import_sets.specs.Given.{place_of, taken, with_more}
 use Rattle.import_sets.proofs.PlaceLaws.{join_new, join_at, place_within}
 use Rattle.import_sets.proofs.gather.Gathering.take_in.Goals as goal

@@ -1,0 +1,86 @@
+-- What is found of a unit that is broken as a whole tells the definition's diagnostic.
+use Rattle.std.proofs.Common.{◌≡◌, ℕ, List, [], ◌∷◌, map, Bool, true, cond, Some, refl, sym, ap, ◌∙◌, subst}
+use Rattle.scheme_model.specs.Program as model
+use Rattle.scheme_model.specs.Program.{Prepared}
+use Rattle.scheme_model.specs.Diagnostics.{Span, Bytes, Diagnostic, at_bytes, unit_start, whole_fault}
+use Rattle.core_tree.specs.Units.{whole_code}
+use Rattle.workspace_state.specs.declared.breaking.WholeFault.{WholeFault}
+use Rattle.workspace_state.specs.declared.breaking.WholeFault.TheVariants as code
+use Rattle.workspace_state.specs.declared.findings.At.{At}
+use Rattle.workspace_state.specs.declared.findings.Finding.{Finding}
+use Rattle.workspace_state.specs.Places.{bytes_at}
+use Rattle.workspace_state.specs.Wording.{worded}
+use Rattle.workspace_state.specs.Found.{diagnostic, told, all_told, is_error, errors_in}
+use Rattle.workspace_state.specs.Diagnosed.{Adds, IsWhole, whole_at, whole_number}
+
+module _ (spans : List (List Span)) (p : Prepared) (start : At) (e : bytes_at start ≡ unit_start spans p) where
+  whole_told : (fault : WholeFault) (f : model.WholeFault) → IsWhole fault f → diagnostic (whole_at start fault) (whole_number fault) (worded (whole_number fault) []) ≡ whole_fault spans p f
+  whole_told code.TooMany model.TooMany h = ap (λ b. at_bytes b 67 (worded 67 [])) e
+  whole_told (code.BadDeclaration s) (model.BadDeclaration d) h = λ i. record { document = (e i).document; start = h.0 i; end = h.1 i; code = 61; text = worded 61 [] }
+  whole_told code.DefinedTwice model.DefinedTwice h = ap (λ b. at_bytes b 63 (worded 63 [])) e
+  whole_told code.ImportCycle model.ImportCycle h = ap (λ b. at_bytes b 62 (worded 62 [])) e
+  whole_told code.TooLarge model.TooLarge h = ap (λ b. at_bytes b 66 (worded 66 [])) e
+  whole_told code.TooMany (model.BadDeclaration d) h = absurd h
+  whole_told code.TooMany model.DefinedTwice h = absurd h
+  whole_told code.TooMany model.ImportCycle h = absurd h
+  whole_told code.TooMany model.TooLarge h = absurd h
+  whole_told (code.BadDeclaration s) model.TooMany h = absurd h
+  whole_told (code.BadDeclaration s) model.DefinedTwice h = absurd h
+  whole_told (code.BadDeclaration s) model.ImportCycle h = absurd h
+  whole_told (code.BadDeclaration s) model.TooLarge h = absurd h
+  whole_told code.DefinedTwice model.TooMany h = absurd h
+  whole_told code.DefinedTwice (model.BadDeclaration d) h = absurd h
+  whole_told code.DefinedTwice model.ImportCycle h = absurd h
+  whole_told code.DefinedTwice model.TooLarge h = absurd h
+  whole_told code.ImportCycle model.TooMany h = absurd h
+  whole_told code.ImportCycle (model.BadDeclaration d) h = absurd h
+  whole_told code.ImportCycle model.DefinedTwice h = absurd h
+  whole_told code.ImportCycle model.TooLarge h = absurd h
+  whole_told code.TooLarge model.TooMany h = absurd h
+  whole_told code.TooLarge (model.BadDeclaration d) h = absurd h
+  whole_told code.TooLarge model.DefinedTwice h = absurd h
+  whole_told code.TooLarge model.ImportCycle h = absurd h
+
+same_number : (fault : WholeFault) (f : model.WholeFault) → IsWhole fault f → whole_number fault ≡ whole_code f
+same_number code.TooMany model.TooMany h = refl
+same_number code.TooMany (model.BadDeclaration d) h = absurd h
+same_number code.TooMany model.DefinedTwice h = absurd h
+same_number code.TooMany model.ImportCycle h = absurd h
+same_number code.TooMany model.TooLarge h = absurd h
+same_number (code.BadDeclaration s) model.TooMany h = absurd h
+same_number (code.BadDeclaration s) (model.BadDeclaration d) h = refl
+same_number (code.BadDeclaration s) model.DefinedTwice h = absurd h
+same_number (code.BadDeclaration s) model.ImportCycle h = absurd h
+same_number (code.BadDeclaration s) model.TooLarge h = absurd h
+same_number code.DefinedTwice model.TooMany h = absurd h
+same_number code.DefinedTwice (model.BadDeclaration d) h = absurd h
+same_number code.DefinedTwice model.DefinedTwice h = refl
+same_number code.DefinedTwice model.ImportCycle h = absurd h
+same_number code.DefinedTwice model.TooLarge h = absurd h
+same_number code.ImportCycle model.TooMany h = absurd h
+same_number code.ImportCycle (model.BadDeclaration d) h = absurd h
+same_number code.ImportCycle model.DefinedTwice h = absurd h
+same_number code.ImportCycle model.ImportCycle h = refl
+same_number code.ImportCycle model.TooLarge h = absurd h
+same_number code.TooLarge model.TooMany h = absurd h
+same_number code.TooLarge (model.BadDeclaration d) h = absurd h
+same_number code.TooLarge model.DefinedTwice h = absurd h
+same_number code.TooLarge model.ImportCycle h = absurd h
+same_number code.TooLarge model.TooLarge h = refl
+
+whole_is_error : (fault : WholeFault) → is_error (whole_number fault) ≡ true
+whole_is_error code.TooMany = refl
+whole_is_error (code.BadDeclaration s) = refl
+whole_is_error code.DefinedTwice = refl
+whole_is_error code.ImportCycle = refl
+whole_is_error code.TooLarge = refl
+
+pub whole_adds : (spans : List (List Span)) (p : Prepared) (start : At) (fault : WholeFault) (f : model.WholeFault) → bytes_at start ≡ unit_start spans p → IsWhole fault f → (found : Finding) →
+    found ≡ record { at = Some (whole_at start fault); form = 0; code = whole_number fault; message = worded (whole_number fault) [] } → Adds [] (found ∷ []) (whole_fault spans p f ∷ []) ((whole_code f, 0) ∷ [])
+whole_adds spans p start fault f e is found same = record {
+  told = ap (λ (g : Finding). all_told (g ∷ [])) same ∙ ap (λ (d : Diagnostic). d ∷ []) (whole_told spans p start e fault f is);
+  errors = ap (λ (g : Finding). errors_in (g ∷ [])) same ∙ ap (λ b. map (λ (g : Finding). (g.code, g.form)) (cond b (found_as ∷ []) [])) (whole_is_error fault) ∙ ap (λ n. (n, 0) ∷ []) (same_number fault f is);
+}
+  where
+    found_as : Finding
+    found_as = record { at = Some (whole_at start fault); form = 0; code = whole_number fault; message = worded (whole_number fault) [] }
