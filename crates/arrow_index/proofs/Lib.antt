@@ -25,3 +25,6 @@ pub mod IdentLaws  -- The walk from an identifier to what spells it
 pub mod SpelledLaws  -- The links that the code gathers are those of the definition's program; the order of links
 pub mod LinkOrders  -- The order of links
 pub mod TargetLaws  -- The origins of a use, by what its meaning is
+pub mod ClassLaws  -- The class of an occurrence, which comes in as many rounds as there are links, is the least set that holds the occurrence and is closed under links both ways
+pub mod ClassWalks  -- Going from an occurrence over links
+pub mod ClassParts  -- The parts of a class and its standard names

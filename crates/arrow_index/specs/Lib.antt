@@ -11,3 +11,4 @@ pub mod Holes  -- The names of data with holes that stand in no hole, and how fa
 pub mod Binders  -- Where definitions of units stand, and the binders of pairs that point to an occurrence
 pub mod Entries  -- The entries of units by their names, and when they are those of a program
 pub mod Links  -- What links of the code say, and when they are those of a program
+pub mod Classes  -- Classes of occurrences

@@ -1,7 +1,5 @@
 //! The arrows of a program, from binders to uses.
 ghost use Rattle.std.specs.Prelude.{◌≡◌, ℕ, ◌++◌, ◌↔◌, ◌||◌, not, [], ◌∷◌, List, map, IfOk, OnOk};
-ghost use Rattle.std.specs.List.{Contains};
-ghost use Rattle.std.specs.List.Sorted.{IsStrictlySortedBy};
 ghost use Rattle.scheme_model.specs.Cores.{Target as ModelTarget, RuleLeaf as ModelLeaf};
 ghost use Rattle.scheme_model.specs.Live.{CoreLeaf, NameUse as ModelName};
 ghost use Rattle.scheme_model.specs.Meaning.{Meaning as ModelMeaning};
@@ -18,12 +16,11 @@ ghost use Rattle.arrow_index.specs.Members.{IsIn};
 ghost use Rattle.arrow_index.specs.Placed.{placed_of, use_of, AreAllSeen, IsUseOf};
 ghost use Rattle.arrow_index.specs.Leaves.{seen_of, IsSeen};
 ghost use Rattle.arrow_index.specs.Sights.{Sees, all_names, IsNameOf};
-ghost use Rattle.arrow_index.specs.declared.pairs.Pair.{Pair as AnyPair};
-ghost use Rattle.arrow_index.specs.Index.{as_arrow, pair_cmp, AreArrows};
+ghost use Rattle.arrow_index.specs.Index.{as_arrow, AreArrows};
 ghost use Rattle.arrow_index.specs.Variables.{all_arrows_at};
 
 use crate::leaves::Leaf;
-use crate::pairs::Pair;
+use crate::pairs::{Pair, pairs_in_order};
 use crate::sight::{FormNo, PlacedLeaf, PlacedTarget, Sight};
 use crate::variables::{add_arrow, add_rules_arrows};
 use core_tree::cores::RuleLeaf;
@@ -182,16 +179,6 @@ fn all_arrows(alloc: Global, work: &Work, program: &Program) -> Mem<Vec<Pair>>
     add_met(&sight, sight.met.as_slice(), &mut pairs)?;
     add_all_names(&sight, program.units.as_slice(), &mut pairs)?;
     Ok(pairs)
-}
-
-/// Pairs in order, each once.
-fn pairs_in_order(pairs: Vec<Pair>) -> Mem<Items<Pair>>
-    ensures { IfOk result (λ sorted. IsStrictlySortedBy pair_cmp sorted × ((q : AnyPair) → Contains sorted q ↔ Contains pairs.items q)) }
-{
-    let mut pairs = pairs;
-    pairs.sort()?;
-    pairs.dedup();
-    Ok(Items::from_vec(pairs))
 }
 
 /// The arrows of a program: the pairs of a binder and one of its uses, sorted by binder and use, each once.

@@ -3,10 +3,12 @@
 
 pub mod arrows;
 pub mod binders;
+pub mod classes;
 pub mod entries;
 pub mod gathering;
 pub mod holes;
 pub mod ident_links;
+pub mod laws;
 pub mod leaves;
 pub mod links;
 pub mod living;

@@ -67,6 +67,13 @@
 //!     arrows/of TEXT              the arrows of a small program, or "not small"
 //!         "(define x 1) x"        -> ["0:8 0:13 x"]
 //!
+//! Classes of occurrences. A LINK is `[ORIGIN,OCC,PREFIX]`: the occurrence takes its characters behind the prefix from its origin,
+//! which is an OCC or a standard name.
+//!
+//!     classes/of [[LINK,..],OCC]  whether a link joins the occurrence, the parts of its class, `[OCC,PREFIX]`, and the standard names
+//!                                 that the class takes characters from
+//!         [[["car",[0,1,2],"s:"]],[0,1,2]]   -> [true,[[[0,1,2],"s:"]],["car"]]
+//!
 //! Frames. After a fault the same one has to come again, without bodies.
 //!
 //!     frames/of [PIECE,..]        the bodies of a stream that comes in these pieces, how many bytes are kept of a frame that is
@@ -211,6 +218,7 @@
 mod argument;
 mod arrows;
 mod base;
+mod classes;
 mod cores;
 mod data;
 mod fault;
@@ -277,6 +285,7 @@ fn by_value(
         "symbols" => Ok(symbols::answer(out, call, argument)?),
         "scopes" => Ok(scopes::answer(out, call, argument)?),
         "arrows" => Ok(arrows::answer(out, call, argument)?),
+        "classes" => Ok(classes::answer(out, call, argument)?),
         "frames" => Ok(frames::answer(out, call, argument)?),
         "positions" => Ok(positions::answer(out, call, argument)?),
         "store" => Ok(store::answer(out, &mut bench.store, call, argument)?),

@@ -1,5 +1,5 @@
 use Rattle.arrow_index.proofs.Orders.{each_once, pair_total, pair_ties, one_pair}
-use Rattle.arrow_index.proofs.arrows.pairs_in_order.Goals as goal
+use Rattle.arrow_index.proofs.pairs.pairs_in_order.Goals as goal
 
 pub returns : goal.returns
 returns c =

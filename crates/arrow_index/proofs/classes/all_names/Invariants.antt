@@ -1,0 +1,9 @@
+use Rattle.std.proofs.Common.{◌≡◌, take}
+use Rattle.std.specs.List.{flat_map}
+use Rattle.std.specs.BTreeSet.{contains}
+use Rattle.arrow_index.specs.Placed.{occ_cmp}
+use Rattle.arrow_index.specs.Classes.{names_from}
+use Rattle.arrow_index.proofs.classes.all_names.Given as goal
+
+abbrev pub invariant-loop-link : goal.invariant-loop-link
+invariant-loop-link l = l.names.items ≡ flat_map (names_from (λ o. contains occ_cmp l.members o)) (take l.link-index l.links)
