@@ -1,8 +1,9 @@
 //! The program of the open documents (R7RS 5), and all that is wrong in it.
-ghost use Rattle.std.specs.Prelude.{◌≡◌, ℕ, ◌<◌, length, vec_len, IfOk, IfSome, OnOk};
+ghost use Rattle.std.specs.Prelude.{◌≡◌, ℕ, ◌<◌, length, map, slice_get, vec_len, Some, None, IfOk, IfSome, OnOk};
 ghost use Rattle.syntax_tree.specs.declared.trees.Work.{Work as AnyWork};
 ghost use Rattle.workspace_state.specs.Belongs.{AreErrorsIn, IsReading};
 ghost use Rattle.arrow_index.specs.Formed.{AreFormedIn, IsFormed};
+ghost use Rattle.workspace_state.specs.Collected.{AreCollected, Has, IsNothing};
 ghost use Rattle.workspace_state.specs.Formed.{CameFormed};
 ghost use Rattle.workspace_state.specs.Places.{AreFoundIn, AreHeadsIn, CanPlace, SameHead};
 ghost use Rattle.workspace_state.specs.Sound.{IsSound};
@@ -81,6 +82,9 @@ fn collect(
     ensures errors { IfOk result (λ reading. AreErrorsIn (vec_len documents) reading.errors.items) }
     ensures findings { IfOk result (λ reading. vec_len reading.findings ≡ vec_len documents) }
     ensures formed { IfOk result (λ reading. AreFormedIn reading.work reading.program.units) }
+    ensures work { IfOk result (λ reading. reading.work ≡ work) }
+    // The program has each unit at its place, by its head and what it came to.
+    ensures collected { IfOk result (λ reading. AreCollected (map (λ document. document.uri) documents.items) units.heads.items units.sources.items expanded.items reading.program.units) }
 {
     let Units { mut heads, sources } = units;
     let mut findings = none(alloc, documents.len())?;
@@ -92,7 +96,8 @@ fn collect(
             documents: documents.as_slice(),
             heads: heads.as_slice(),
         };
-        let count = sources[place].forms.as_slice().len();
+        let source = &sources[place];
+        let count = source.forms.as_slice().len();
         let came = came_to(alloc, places, place, count, came)?;
         let (unit, found) = unit_of(alloc, documents.as_slice(), &mut heads[place], came)?;
         first_errors.push(first_error(found.as_slice()))?;
@@ -123,6 +128,8 @@ fn came_to(
     requires found { IfSome came (λ came. AreFoundIn (length places.documents.now) came.findings.items) }
     ensures found { IfOk result (λ came. AreFoundIn (length places.entry.documents.now) came.findings.items) }
     ensures formed { (work : AnyWork) → IfSome came (λ came. IsFormed work place came.forms) → IfOk result (λ came. IsFormed work place came.forms) }
+    ensures some { IfSome came (λ came. IfOk result (λ unit. unit ≡ came)) }
+    ensures none { came ≡ None → IfOk result (IsNothing count) }
 {
     if let Some(came) = came {
         return Ok(came);
@@ -146,6 +153,11 @@ fn unit_of(
     ensures head { SameHead head.old head.new }
     ensures findings { IfOk result (λ unit. unit.1 ≡ came.findings) }
     ensures forms { IfOk result (λ unit. unit.0.forms ≡ came.forms) }
+    ensures has { IfOk result (λ unit. Has unit.0 came) }
+    ensures uri { IfOk result (λ unit. slice_get (map (λ document. document.uri) documents.now) head.old.document ≡ Some unit.0.uri) }
+    ensures kind { IfOk result (λ unit. unit.0.kind ≡ head.old.kind) }
+    ensures name { IfOk result (λ unit. unit.0.name ≡ head.old.name) }
+    ensures imports { IfOk result (λ unit. unit.0.imports ≡ head.old.imports) }
 {
     let Expanded {
         entries,

@@ -1,5 +1,5 @@
 -- Each unit's head is there, what is found of it stands in the documents, and so does its first Error; its forms stand for something.
-use Rattle.std.proofs.Common.{◌≡◌, ◌<◌, ℕ, List, length, vec_len, refl, sym, ap, ◌∙◌, subst, arith, Option, Some, slice_get}
+use Rattle.std.proofs.Common.{◌≡◌, ◌<◌, ℕ, List, length, map, vec_len, refl, sym, ap, ◌∙◌, subst, arith, Option, Some, slice_get}
 use Rattle.std.specs.Prelude.{IfSome}
 use Rattle.std.proofs.lemmas.Iterator.Adapters.{YieldsList-from_vec}
 use Rattle.std.proofs.lemmas.Iterator.Consumers.{YieldsList-turn, YieldsList-from_enumerate}
@@ -15,9 +15,14 @@ use Rattle.workspace_state.specs.Belongs.{AreErrorsIn}
 use Rattle.arrow_index.specs.Formed.{IsFormed, AreFormedIn}
 use Rattle.workspace_state.specs.Places.{AreFoundIn, AreHeadsIn}
 use Rattle.workspace_state.proofs.BrokenLaws.{heads_itself, heads_in, head_set}
+use Rattle.library_table.specs.declared.units.UnitForm.{UnitForm as SourceForm}
+use Rattle.workspace_state.specs.Collected.{IsNothing}
+use Rattle.workspace_state.specs.declared.documents.Document.{Document}
+use Rattle.workspace_state.proofs.Collecting.{AreCollectedSo, none_collected, one_collected, has_come, set_other}
 use Rattle.workspace_state.proofs.Enumerated.{next_placed}
 use Rattle.workspace_state.proofs.ReadingLaws.{errors_none, errors_more, found_in, formed_at, formed_none, formed_more}
 use Rattle.workspace_state.proofs.SoundKept.{some_document}
+use Rattle.workspace_state.proofs.UnitsTurns.{of_some}
 use Rattle.workspace_state.proofs.program.collect.Goals as goal
 use Rattle.workspace_state.proofs.program.collect.Goals.{In-Some}
 
@@ -40,6 +45,10 @@ loop-place-init c = record {
   errors = subst (λ (es : List (Option (At × ℕ))). AreErrorsIn (vec_len c.args.documents) es) (sym c.new-first_errors.ensures.items) (errors_none (vec_len c.args.documents));
   count = ap (λ (us : List CodeUnit). length us) c.new-program.ensures;
   formed = subst (λ (us : List CodeUnit). AreFormedIn c.args.work us) (sym c.new-program.ensures) (formed_none c.args.work);
+  untouched = λ k le. refl;
+  collected =
+      subst (λ (us : List CodeUnit). AreCollectedSo (map (λ (d : Document). d.uri) c.args.documents.items) c.args.units.heads.items c.args.units.sources.items c.args.expanded.items us) (sym c.new-program.ensures)
+      (none_collected (map (λ (d : Document). d.uri) c.args.documents.items) c.args.units.heads.items c.args.units.sources.items c.args.expanded.items);
 }
 
 pub came_to-requires-clause-documents : goal.came_to-requires-clause-documents
@@ -101,6 +110,31 @@ loop-place-preserved c =
       count = omega (arith, ap (λ (us : List CodeUnit). length us) pushed, length_push l.program c.in_ok-unit.unit, length_push l.yielded (c.in-Some.place, c.in-Some.came), l.invariant.count);
       formed = formed_more work l.program c.push-in-loop-place.new.self c.in_ok-unit.unit c.in-Some.place pushed (l.invariant.count ∙ sym t.0)
           (subst (λ (fs : List UnitForm). IsFormed work c.in-Some.place fs) (sym c.in_ok-unit.ensures.forms) (c.in_ok-came.ensures.formed work came)) l.invariant.formed;
+      untouched = λ k le. set_other hs c.in-Some.place c.unit_of.new.head k (omega (arith, t.0, length_push l.yielded (c.in-Some.place, c.in-Some.came), le)) ∙ l.invariant.untouched k (omega (arith, length_push l.yielded (c.in-Some.place, c.in-Some.came), le));
+      collected =
+          let uris = map (λ (d : Document). d.uri) c.args.documents.items in
+          let hs0 = c.args.units.heads.items in
+          let ss = c.args.units.sources.items in
+          let es = c.args.expanded.items in
+          let n = c.in-Some.place in
+          let s = c.index-source.result.now in
+          let e = c.in_ok-came.came in
+          let u = c.in_ok-unit.unit in
+          let o = c.in-Some.came in
+          let at_head : slice_get hs0 n ≡ Some h = sym (l.invariant.untouched n (omega (arith, t.0))) ∙ slice_get_read hs (length hs) n h refl within c.index_mut.ensures.value in
+          let at_source : slice_get ss n ≡ Some s = slice_get_read ss (length ss) n s refl (omega (arith, within, size, c.requires.units.sources)) c.index-source.ensures in
+          let at_come : slice_get es n ≡ Some o = ap (slice_get es) t.0 ∙ t.1 in
+          let many : c.len-count.result ≡ length s.forms = c.len-count.ensures ∙ ap (λ (fs : List SourceForm). length fs) c.as_slice-count.ensures in
+          one_collected uris hs0 ss es l.program c.push-in-loop-place.new.self u n h s o pushed (l.invariant.count ∙ sym t.0) at_head at_source at_come
+          (record {
+          uri = subst (λ (ds : List Document). slice_get (map (λ (d : Document). d.uri) ds) h.document ≡ Some u.uri) c.as_slice-in-loop-place-3.ensures.value c.in_ok-unit.ensures.uri;
+          kind = c.in_ok-unit.ensures.kind;
+          name = c.in_ok-unit.ensures.name;
+          imports = c.in_ok-unit.ensures.imports;
+          come =
+          has_come (length s.forms) o e u (of_some (λ (v : Expanded). e ≡ v) o c.in_ok-came.ensures.some) (λ none. subst (λ (k : ℕ). IsNothing k e) many (c.in_ok-came.ensures.none none)) c.in_ok-unit.ensures.has;
+          })
+          l.invariant.collected;
     }
 
 pub returns-clause-heads : goal.returns-clause-heads
