@@ -14,6 +14,7 @@ ghost use Rattle.syntax_tree.specs.Names.{Names, KeepsNames};
 ghost use Rattle.syntax_tree.specs.Meant.{AreEntries, IsEntry};
 ghost use Rattle.core_tree.specs.Names.{AllMatch};
 ghost use Rattle.core_tree.specs.Units.{kind_as};
+ghost use Rattle.library_table.specs.UnitsRead.{forms_of};
 ghost use Rattle.import_sets.specs.Sets.{IsSet, IsSetOf, TellsApart};
 ghost use Rattle.workspace_state.specs.Joining.{AreApart, GroupsMean, GroupsStand};
 ghost use Rattle.workspace_state.specs.Libraries.{EachOnce, ExportsMean, HaveMeaning};
@@ -22,6 +23,7 @@ ghost use Rattle.workspace_state.specs.Places.{AreFoundIn, ArePlaces, IsAtIn, Ca
 ghost use Rattle.workspace_state.specs.Readings.{Read, span_seen};
 ghost use Rattle.workspace_state.specs.Imports.{SetMeans};
 ghost use Rattle.workspace_state.specs.SetsGiven.{AreEntriesIf, AreLibraries, ComesTo, ImportsAs, IsSetFault, IsSpec, exports_at, set_exports, with_set};
+ghost use Rattle.workspace_state.specs.UnitsFound.{AreSetsFound};
 ghost use Rattle.workspace_state.specs.Wording.{worded};
 
 use crate::breaking::{Firsts, library_in};
@@ -113,9 +115,9 @@ pub fn given_to(
         AreLibraries work.old.symbols libraries.entry spelled all rs → (p : program.Prepared) → ImportsAs spelled source.now p →
         IfOk result (λ given. AreEntries work.new.symbols given.joined.entries.items (unit_entries all rs p).0) }
     ensures told { (spelled : LibraryName → List ℕ) → (all : List program.Placed) → (rs : List program.UnitResult) →
-        AreLibraries work.old.symbols libraries.entry spelled all rs → (p : program.Prepared) → ImportsAs spelled source.now p →
+        AreLibraries work.old.symbols libraries.entry spelled all rs → (p : program.Prepared) → ImportsAs spelled source.now p → p.forms ≡ forms_of source.now.forms →
         (reads : List Read) → (us : List program.UnitResult) → ArePlaces places.entry reads us → (r : program.UnitResult) → unit_at us unit ≡ Some r → r.unit ≡ p →
-        IfOk result (λ given. all_told given.findings.items ≡ set_diagnostics (bytes_of (spans_of reads) us) p.placed.document p.specs (unit_entries all rs p).1) }
+        IfOk result (λ given. AreSetsFound reads us p (unit_entries all rs p).1 given.findings.items) }
 {
     let mut findings = Vec::new(alloc);
     let gathering = gathered(
