@@ -1,5 +1,5 @@
 -- What is found of definitions that hide imports tells the definition's diagnostics.
-use Rattle.std.proofs.Common.{◌≡◌, ℕ, List, [], ◌∷◌, ◌++◌, append-nil, append_assoc, Bool, true, false, cond, slice_get, Option, Some, None, refl, sym, ap, ◌∙◌}
+use Rattle.std.proofs.Common.{◌≡◌, ℕ, zero, suc, ◌<◌, length, arith, List, [], ◌∷◌, ◌++◌, append-nil, append_assoc, Bool, true, false, cond, slice_get, Option, Some, None, refl, sym, ap, ◌∙◌}
 use Rattle.std.specs.Prelude.{◌==◌, ◌&&◌, ◌||◌, codes}
 use Rattle.std.specs.List.{flat_map}
 use Rattle.std.specs.Str.{bytes_eq}
@@ -17,7 +17,7 @@ use Rattle.core_tree.specs.declared.cores.Binder.{Binder}
 use Rattle.import_sets.specs.Given.{has_name}
 use Rattle.workspace_state.specs.declared.findings.At.{At}
 use Rattle.workspace_state.specs.declared.findings.Finding.{Finding}
-use Rattle.workspace_state.specs.Defined.{hidden_in, hidden_at}
+use Rattle.workspace_state.specs.Defined.{hidden_in, hidden_at, written_symbol}
 use Rattle.workspace_state.specs.Found.{all_told, errors_in}
 use Rattle.workspace_state.specs.Places.{bytes_at}
 use Rattle.workspace_state.specs.Wording.{worded}
@@ -123,3 +123,19 @@ hides_one bytes unit form occ spot name (Some s) exact is f same =
 pub hides_none : (bytes : Occ → Bytes) (unit form : ℕ) (occ : Option Occ) (o : Option (List ℕ)) (xs : List Finding) → None ≡ o → xs ≡ xs ++ hidden_found bytes unit form occ o
 hides_none bytes unit form occ None xs is = sym (append-nil xs)
 hides_none bytes unit form occ (Some s) xs is = absurd cc
+
+-- ---- the name that is hidden
+
+pub no_symbol : (cs : List code.Entry) (o : Option Ident) → ((i : Ident) → o ≡ Some i → None ≡ written_symbol i) → None ≡ hidden_at cs o
+no_symbol cs None h = refl
+no_symbol cs (Some (Written u s)) h = let e : None ≡ Some s = h (Written u s) refl in absurd cc
+no_symbol cs (Some (Inserted i k)) h = refl
+
+pub symbol_there : (cs : List code.Entry) (is : List Ident) (n : ℕ) → n < length is → (name : List ℕ) → ((i : Ident) → slice_get is n ≡ Some i → Some name ≡ written_symbol i) → (b : Bool) → has_name cs name ≡ b → cond b (Some name) None ≡ hidden_at cs (slice_get is n)
+symbol_there cs [] n lt name h b has = absurd (omega arith)
+symbol_there cs (i ∷ is) zero lt name h b has = go i (h i refl)
+  where
+    go : (i : Ident) → Some name ≡ written_symbol i → cond b (Some name) None ≡ hidden_in cs i
+    go (Written u s) e = let same : name ≡ s = cc in ap (λ t. cond t (Some name) None) (sym has) ∙ (λ j. cond (has_name cs (same j)) (Some (same j)) None)
+    go (Inserted j k) e = absurd cc
+symbol_there cs (i ∷ is) (suc n) lt name h b has = symbol_there cs is n (omega arith) name h b has

@@ -207,6 +207,8 @@ fn hidden<'a>(symbols: &'a Symbols, joined: &Joined, binder: Binder) -> Option<&
     requires { binder.ident < length symbols.now.idents }
     ensures { option_map (λ s. s.now) result ≡ hidden_at joined.now.entries.items (slice_get symbols.now.idents binder.ident) }
 {
-    let name = written(symbols, binder.ident)?;
+    let Some(name) = written(symbols, binder.ident) else {
+        return None;
+    };
     if joined.has(name) { Some(name) } else { None }
 }
