@@ -9,7 +9,7 @@ loop-place-init c = record { count = c.requires; told = none_told c.args.documen
 
 pub loop-place-preserved : goal.loop-place-preserved
 loop-place-preserved c = record {
-  count = ?;
+  count = c.loop-place.invariant.count;
   told =
       let cs = c.args.documents.now in
       let n = c.loop-place.place in
