@@ -10,11 +10,12 @@ use Rattle.core_tree.specs.declared.units.Unit as code
 use Rattle.workspace_state.specs.declared.findings.At.{At}
 use Rattle.workspace_state.specs.declared.findings.Finding.{Finding}
 use Rattle.workspace_state.specs.declared.listing.Head.{Head}
+use Rattle.workspace_state.specs.Belongs.{error_in}
 use Rattle.workspace_state.specs.Collected.{HaveErrors}
 use Rattle.workspace_state.specs.Found.{AreKept, all_told, errors_in, first_error_in, first_of, is_error}
 use Rattle.workspace_state.specs.Places.{AreHeads, spans_of}
 use Rattle.workspace_state.specs.Readings.{Read}
-use Rattle.workspace_state.specs.UnitsFound.{AreFirstErrors, IsFoundOf, first_error_of}
+use Rattle.workspace_state.specs.UnitsFound.{AreFirstErrors, IsFoundOf, first_error_of, first_error_at}
 
 -- the result at a place is the one with its number
 pub result_of : (rs : List Read) (k : ℕ) (hs : List Head) (us : List UnitResult) → AreHeads rs k hs us → (n m : ℕ) (r : UnitResult) → m ≡ k + n → slice_get us n ≡ Some r → unit_at us m ≡ Some r
@@ -40,18 +41,22 @@ all_of [] (suc n) le = refl
 all_of (x ∷ xs) zero le = absurd (omega arith)
 all_of (x ∷ xs) (suc n) le = ap (λ ys. x ∷ ys) (all_of xs n (omega arith))
 
+-- the first Errors of units so far
+abbrev pub FirstsSoFar : List Read → Program → List (Option (At × ℕ)) → Type 0
+FirstsSoFar rs p es = (n : ℕ) (e : Option (At × ℕ)) (r : UnitResult) → slice_get es n ≡ Some e → slice_get p.units n ≡ Some r → e ≡ first_error_at rs p (Some r)
+
 -- the units up to a number
 pub record AreToldTo (rs : List Read) (p : Program) (n : ℕ) (ms : List (BTreeMap (ℕ × ℕ × List ℕ) ℕ)) (cs : List code.Unit) (es : List (Option (At × ℕ))) : Type 0 where
   pub kept : AreKept (all_diagnostics (spans_of rs) p (take n p.units)) ms
   pub errors : HaveErrors cs p.units
-  pub firsts : AreFirstErrors rs p es
+  pub firsts : FirstsSoFar rs p es
   pub many : length es ≡ n
 
 pub none_told : (rs : List Read) (p : Program) (ms : List (BTreeMap (ℕ × ℕ × List ℕ) ℕ)) (cs : List code.Unit) (es : List (Option (At × ℕ))) → AreKept [] ms → cs ≡ [] → es ≡ [] → AreToldTo rs p 0 ms cs es
 none_told rs p ms cs es kept no_units no_errors = record {
   kept = kept;
   errors = subst (λ (xs : List code.Unit). HaveErrors xs p.units) (sym no_units) (λ n c r at there. absurd cc);
-  firsts = subst (λ (xs : List (Option (At × ℕ))). AreFirstErrors rs p xs) (sym no_errors) (λ n e r at there. absurd cc);
+  firsts = subst (λ (xs : List (Option (At × ℕ))). FirstsSoFar rs p xs) (sym no_errors) (λ n e r at there. absurd cc);
   many = ap (λ (xs : List (Option (At × ℕ))). length xs) no_errors;
 }
 
@@ -67,7 +72,7 @@ module _ (rs : List Read) (p : Program) (n : ℕ) (r : UnitResult) (at : slice_g
         subst (λ k. AreKept (all_diagnostics (spans_of rs) p (take k p.units)) new) (sym next)
         (subst (λ ds. AreKept ds new) (ap (λ ds. all_diagnostics (spans_of rs) p (take n p.units) ++ ds) found.told ∙ sym (told_before (spans_of rs) p p.units n r at)) (keeps (all_diagnostics (spans_of rs) p (take n p.units)) told.kept));
     errors = subst (λ (xs : List code.Unit). HaveErrors xs p.units) (sym pushed) (λ k d s here there. by_unit k d s there (push_cases cs c k d here));
-    firsts = subst (λ (xs : List (Option (At × ℕ))). AreFirstErrors rs p xs) (sym first) (λ k d s here there. by_error k d s there (push_cases es e k d here));
+    firsts = subst (λ (xs : List (Option (At × ℕ))). FirstsSoFar rs p xs) (sym first) (λ k d s here there. by_error k d s there (push_cases es e k d here));
     many = ap (λ (xs : List (Option (At × ℕ))). length xs) first ∙ (length_push es e ∙ (let a = told.many in omega arith));
   }
     where
@@ -86,3 +91,23 @@ module _ (rs : List Read) (p : Program) (n : ℕ) (r : UnitResult) (at : slice_g
 -- all of them
 pub kept_all : (rs : List Read) (p : Program) (n : ℕ) (ms : List (BTreeMap (ℕ × ℕ × List ℕ) ℕ)) (cs : List code.Unit) (es : List (Option (At × ℕ))) → length p.units ≤ n → AreToldTo rs p n ms cs es → AreKept (all_diagnostics (spans_of rs) p p.units) ms
 kept_all rs p n ms cs es many told = subst (λ us. AreKept (all_diagnostics (spans_of rs) p us) ms) (all_of p.units n many) told.kept
+
+pub firsts_all : (rs : List Read) (p : Program) (n : ℕ) (ms : List (BTreeMap (ℕ × ℕ × List ℕ) ℕ)) (cs : List code.Unit) (es : List (Option (At × ℕ))) → n ≡ length p.units → AreToldTo rs p n ms cs es → AreFirstErrors rs p es
+firsts_all rs p n ms cs es many told = record { count = told.many ∙ many; each = told.firsts }
+
+-- the first Error of the unit with a number
+pub first_at : (rs : List Read) (p : Program) (es : List (Option (At × ℕ))) → AreFirstErrors rs p es → (n : ℕ) → error_in (slice_get es n) ≡ first_error_at rs p (slice_get p.units n)
+first_at rs p es are n = go (slice_get es n) refl (slice_get p.units n) refl
+  where
+    there : {A B : Type 0} (xs : List A) (ys : List B) (n : ℕ) (y : B) → length xs ≡ length ys → slice_get xs n ≡ None → slice_get ys n ≡ Some y → ⊥
+    there [] [] n y long no at = absurd cc
+    there [] (b ∷ ys) n y long no at = absurd (omega arith)
+    there (a ∷ xs) [] n y long no at = absurd (omega arith)
+    there (a ∷ xs) (b ∷ ys) zero y long no at = absurd cc
+    there (a ∷ xs) (b ∷ ys) (suc n) y long no at = there xs ys n y (omega arith) no at
+
+    go : (e : Option (Option (At × ℕ))) → slice_get es n ≡ e → (r : Option UnitResult) → slice_get p.units n ≡ r → error_in e ≡ first_error_at rs p r
+    go None no None none = refl
+    go None no (Some r) at = absurd (there es p.units n r are.count no at)
+    go (Some e) at None no = absurd (there p.units es n e (sym are.count) no at)
+    go (Some e) at (Some r) is = are.each n e r at is

@@ -66,6 +66,11 @@ pub record AreTold (rs : List Read) (p : Program) (hs : List Head) (es : List (O
 abbrev pub first_error_of : List Diagnostic → Option (At × ℕ)
 first_error_of ds = first_of (filter (λ d. is_error d.code) (sorted ds))
 
+abbrev pub first_error_at : List Read → Program → Option UnitResult → Option (At × ℕ)
+first_error_at rs p None = None
+first_error_at rs p (Some r) = first_error_of (unit_diagnostics (spans_of rs) p r r.fault)
+
 -- those of the units of a program
-abbrev pub AreFirstErrors : List Read → Program → List (Option (At × ℕ)) → Type 0
-AreFirstErrors rs p es = (n : ℕ) (e : Option (At × ℕ)) (r : UnitResult) → slice_get es n ≡ Some e → slice_get p.units n ≡ Some r → e ≡ first_error_of (unit_diagnostics (spans_of rs) p r r.fault)
+pub record AreFirstErrors (rs : List Read) (p : Program) (es : List (Option (At × ℕ))) : Type 0 where
+  pub count : length es ≡ length p.units
+  pub each : (n : ℕ) (e : Option (At × ℕ)) (r : UnitResult) → slice_get es n ≡ Some e → slice_get p.units n ≡ Some r → e ≡ first_error_at rs p (Some r)

@@ -12,7 +12,7 @@ ghost use Rattle.workspace_state.specs.Collected.{AreCollected, Has, HaveErrors,
 ghost use Rattle.workspace_state.specs.Formed.{CameFormed};
 ghost use Rattle.workspace_state.specs.Found.{errors_in};
 ghost use Rattle.workspace_state.specs.Listed.{AreFoundOf};
-ghost use Rattle.workspace_state.specs.Places.{AreFoundIn, AreHeadsIn, ArePlaces, CanPlace, SameHead};
+ghost use Rattle.workspace_state.specs.Places.{AreFoundIn, AreHeadsIn, ArePlaces, CanPlace, HeadsStay, SameHead};
 ghost use Rattle.workspace_state.specs.Readings.{AreDocuments, AreReadAs, Read, program_in};
 ghost use Rattle.workspace_state.specs.Sound.{IsSound};
 ghost use Rattle.workspace_state.specs.UnitsExpanded.{AreAllFound};
@@ -88,6 +88,7 @@ fn collect(
     requires formed { CameFormed work expanded.items }
     ensures documents { IfOk result (λ reading. reading.documents ≡ documents) }
     ensures heads { IfOk result (λ reading. AreHeadsIn (vec_len documents) reading.heads.items) }
+    ensures stay { IfOk result (λ reading. HeadsStay units.heads.items reading.heads.items) }
     ensures errors { IfOk result (λ reading. AreErrorsIn (vec_len documents) reading.errors.items) }
     ensures findings { IfOk result (λ reading. vec_len reading.findings ≡ vec_len documents) }
     ensures formed { IfOk result (λ reading. AreFormedIn reading.work reading.program.units) }

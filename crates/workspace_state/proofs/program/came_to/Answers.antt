@@ -4,6 +4,7 @@ use Rattle.std.specs.Prelude.{unwrap_or}
 use Rattle.std.proofs.lemmas.Option.{same_Some, slice_get_read}
 use Rattle.scheme_model.specs.Diagnostics.{unit_at}
 use Rattle.arrow_index.specs.Formed.{IsFormed}
+use Rattle.workspace_state.specs.Broken.{told as told_as}
 use Rattle.workspace_state.specs.UnitsFound.{IsTold}
 use Rattle.workspace_state.specs.declared.breaking.WholeFault.{WholeFault}
 use Rattle.workspace_state.specs.declared.breaking.WholeFault.TheVariants as fault
@@ -18,4 +19,10 @@ pub returns-in-Some-clause-told : goal.returns-in-Some-clause-told
 returns-in-Some-clause-told c = λ rs p h r places at head told. subst (λ (o : Option Expanded). IsTold rs p h o r) c.in-Some.is told
 
 pub returns-clause-told : goal.returns-clause-told
-returns-clause-told c = λ rs p h r places at head told. ?
+returns-clause-told c = λ rs p h r places at head told.
+    let f = told.0 in
+    let hs = c.args.places.heads.now in
+    let there = c.index.result in
+    let same : there ≡ h = same_Some there h (sym (slice_get_read hs (length hs) c.args.place there refl c.requires.place c.index.is) ∙ head) in
+    let fault : c.unwrap_or-fault.result ≡ told_as f = c.unwrap_or-fault.ensures ∙ (ap (λ (x : Head). unwrap_or x.fault fault.TooLarge) same ∙ ap (λ (o : Option WholeFault). unwrap_or o fault.TooLarge) told.1) in
+    c.in_ok-broken.ensures.finds rs p r f places (ap (unit_at p.units) c.in_ok-unit.ensures ∙ at) told.2 fault

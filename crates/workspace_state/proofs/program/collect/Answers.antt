@@ -2,7 +2,7 @@
 use Rattle.std.proofs.Common.{◌≡◌, ◌<◌, ℕ, List, length, map, vec_len, refl, sym, ap, ◌∙◌, subst, arith, Option, Some, slice_get, ◌++◌, ◌∷◌, [], add-one}
 use Rattle.std.specs.Prelude.{IfSome}
 use Rattle.std.proofs.lemmas.Iterator.Adapters.{YieldsList-from_vec}
-use Rattle.std.proofs.lemmas.Iterator.Consumers.{YieldsList-turn, YieldsList-from_enumerate}
+use Rattle.std.proofs.lemmas.Iterator.Consumers.{YieldsList-turn, YieldsList-end, YieldsList-from_enumerate}
 use Rattle.std.proofs.lemmas.List.{length_push}
 use Rattle.std.proofs.lemmas.Option.{slice_get_read}
 use Rattle.core_tree.specs.declared.units.UnitForm.{UnitForm}
@@ -15,6 +15,7 @@ use Rattle.workspace_state.specs.Belongs.{AreErrorsIn}
 use Rattle.arrow_index.specs.Formed.{IsFormed, AreFormedIn}
 use Rattle.workspace_state.specs.Found.{AreKept, all_told, first_error_in}
 use Rattle.workspace_state.specs.Places.{AreFoundIn, AreHeads, AreHeadsIn, ArePlaces}
+use Rattle.workspace_state.specs.Readings.{AreDocuments, program_in}
 use Rattle.workspace_state.specs.UnitsFound.{HaveTokens, IsTold}
 use Rattle.workspace_state.proofs.BrokenLaws.{heads_itself, heads_in, head_set}
 use Rattle.library_table.specs.declared.units.UnitForm.{UnitForm as SourceForm}
@@ -22,15 +23,15 @@ use Rattle.workspace_state.specs.Collected.{IsNothing}
 use Rattle.workspace_state.specs.declared.documents.Document.{Document}
 use Rattle.workspace_state.proofs.Collecting.{AreCollectedSo, none_collected, one_collected, has_come, set_other}
 use Rattle.workspace_state.proofs.CollectLaws.{get}
-use Rattle.workspace_state.proofs.Enumerated.{next_placed}
+use Rattle.workspace_state.proofs.Enumerated.{all_placed, next_placed}
 use Rattle.workspace_state.proofs.HeadsKept.{heads_kept}
 use Rattle.workspace_state.proofs.ReadingLaws.{errors_none, errors_more, found_in, formed_at, formed_none, formed_more}
 use Rattle.workspace_state.proofs.SoundKept.{some_document}
 use Rattle.workspace_state.proofs.StopsLaws.{kept_of_all}
-use Rattle.workspace_state.proofs.ToldUnits.{none_told, more_told, kept_all, result_of}
+use Rattle.workspace_state.proofs.ToldUnits.{none_told, more_told, kept_all, firsts_all, result_of}
 use Rattle.workspace_state.proofs.UnitsTurns.{of_some}
 use Rattle.workspace_state.proofs.program.collect.Goals as goal
-use Rattle.workspace_state.proofs.program.collect.Goals.{In-Some}
+use Rattle.workspace_state.proofs.program.collect.Goals.{In-Some, In-None}
 
 -- the unit's place, and what it came to
 turn : (c : In-Some) → (c.in-Some.place ≡ length c.loop-place.yielded) × (slice_get c.args.expanded.items (length c.loop-place.yielded) ≡ Some c.in-Some.came) × (length c.loop-place.yielded < length c.args.expanded.items)
@@ -38,6 +39,13 @@ turn c =
     let all = c.args.expanded.items in
     next_placed all (length c.loop-place.yielded) (c.in-Some.place, c.in-Some.came)
     (YieldsList-turn (YieldsList-from_enumerate (YieldsList-from_vec all (cc) (cc)) (cc)) c.loop-place.yielded c.loop-place.place-iterator c.loop-place.yielded_by c.next.result c.next.new.self (c.in-Some.place, c.in-Some.came) c.in-Some.is c.next.ensures.steps)
+
+-- all units were gone through
+done : (c : In-None) → length c.loop-place.yielded ≡ length c.args.expanded.items
+done c =
+    let all = c.args.expanded.items in
+    let e = YieldsList-end (YieldsList-from_enumerate (YieldsList-from_vec all (cc) (cc)) (cc)) c.loop-place.yielded c.loop-place.place-iterator c.loop-place.yielded_by c.next.result c.next.new.self c.in-None.is c.next.ensures.steps in
+    all_placed all (length c.loop-place.yielded) (?)
 
 pub loop-place-init : goal.loop-place-init
 loop-place-init c = record {
@@ -167,10 +175,20 @@ pub tell_unread-requires : goal.tell_unread-requires
 tell_unread-requires c = omega (arith, c.loop-place.invariant.findings, c.as_slice-2.ensures.len)
 
 pub returns-clause-found : goal.returns-clause-found
-returns-clause-found c = λ ds rs are read tokens told. ?
+returns-clause-found c = λ ds rs are read tokens told.
+    let p = program_in rs in
+    let all = done (goal.at.returns-clause-found c).In-None in
+    let cs = c.as_slice.result.now in
+    kept_of_all ds cs rs (subst (λ (xs : List Document). AreDocuments ds xs) (sym c.as_slice.ensures.value) are) read c.loop-place.findings.items c.tell_unread.new.findings.items
+    (kept_all rs p (length c.loop-place.yielded) c.loop-place.findings.items c.loop-place.program c.loop-place.first_errors.items (omega (arith, all, told.count)) (c.loop-place.invariant.told rs p tokens told)) c.in_ok-tell_unread.ensures
+
+pub returns-clause-collected : goal.returns-clause-collected
+returns-clause-collected c = record { count = c.loop-place.invariant.count ∙ done (goal.at.returns-clause-collected c).In-None; each = c.loop-place.invariant.collected }
 
 pub returns-clause-told : goal.returns-clause-told
 returns-clause-told c = λ rs p tokens told. (c.loop-place.invariant.told rs p tokens told).errors
 
 pub returns-clause-firsts : goal.returns-clause-firsts
-returns-clause-firsts c = λ rs p tokens told. (c.loop-place.invariant.told rs p tokens told).firsts
+returns-clause-firsts c = λ rs p tokens told.
+    let all = done (goal.at.returns-clause-firsts c).In-None in
+    firsts_all rs p (length c.loop-place.yielded) c.loop-place.findings.items c.loop-place.program c.loop-place.first_errors.items (all ∙ told.count) (c.loop-place.invariant.told rs p tokens told)
