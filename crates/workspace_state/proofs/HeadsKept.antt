@@ -29,3 +29,9 @@ heads_kept rs k [] (g ∷ gs) us stay are = absurd (let e = stay.size in omega a
 heads_kept rs k (h ∷ hs) [] us stay are = absurd (let e = stay.size in omega arith)
 heads_kept rs k (h ∷ hs) (g ∷ gs) [] stay are = are
 heads_kept rs k (h ∷ hs) (g ∷ gs) (r ∷ us) stay are = (head_kept rs k h g r (first_stays h g hs gs stay) are.0, heads_kept rs (suc k) hs gs us (others_stay h g hs gs stay) are.1)
+
+pub as_many_heads : (rs : List Read) (k : ℕ) (hs : List Head) (us : List UnitResult) → AreHeads rs k hs us → length hs ≡ length us
+as_many_heads rs k [] [] are = refl
+as_many_heads rs k [] (r ∷ us) are = absurd are
+as_many_heads rs k (h ∷ hs) [] are = absurd are
+as_many_heads rs k (h ∷ hs) (r ∷ us) are = ap suc (as_many_heads rs (suc k) hs us are.1)

@@ -86,3 +86,4 @@ pub mod HeadsKept  -- Heads that stay are those of the same units
 pub mod NoImport  -- A program without an import, told by what was read and by the definition
 pub mod FoundNext  -- The unit whose turn it is, broken or expanded
 pub mod ToldUnits  -- Units of a program one by one
+pub mod TokensAlike  -- The tokens of documents are those of each reading of their texts

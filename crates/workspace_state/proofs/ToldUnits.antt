@@ -100,14 +100,14 @@ pub first_at : (rs : List Read) (p : Program) (es : List (Option (At × ℕ))) �
 first_at rs p es are n = go (slice_get es n) refl (slice_get p.units n) refl
   where
     there : {A B : Type 0} (xs : List A) (ys : List B) (n : ℕ) (y : B) → length xs ≡ length ys → slice_get xs n ≡ None → slice_get ys n ≡ Some y → ⊥
-    there [] [] n y long no at = absurd cc
-    there [] (b ∷ ys) n y long no at = absurd (omega arith)
-    there (a ∷ xs) [] n y long no at = absurd (omega arith)
-    there (a ∷ xs) (b ∷ ys) zero y long no at = absurd cc
-    there (a ∷ xs) (b ∷ ys) (suc n) y long no at = there xs ys n y (omega arith) no at
+    there [] [] n y long lacks at = absurd cc
+    there [] (b ∷ ys) n y long lacks at = absurd (omega arith)
+    there (a ∷ xs) [] n y long lacks at = absurd (omega arith)
+    there (a ∷ xs) (b ∷ ys) zero y long lacks at = absurd cc
+    there (a ∷ xs) (b ∷ ys) (suc n) y long lacks at = there xs ys n y (omega arith) lacks at
 
     go : (e : Option (Option (At × ℕ))) → slice_get es n ≡ e → (r : Option UnitResult) → slice_get p.units n ≡ r → error_in e ≡ first_error_at rs p r
-    go None no None none = refl
-    go None no (Some r) at = absurd (there es p.units n r are.count no at)
-    go (Some e) at None no = absurd (there p.units es n e (sym are.count) no at)
+    go None lacks None none = refl
+    go None lacks (Some r) at = absurd (there es p.units n r are.count lacks at)
+    go (Some e) at None lacks = absurd (there p.units es n e (sym are.count) lacks at)
     go (Some e) at (Some r) is = are.each n e r at is

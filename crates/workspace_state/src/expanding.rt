@@ -25,7 +25,7 @@ ghost use Rattle.workspace_state.specs.Formed.{CameFormed};
 ghost use Rattle.workspace_state.specs.Forms.{IsBench, AreFormed};
 ghost use Rattle.workspace_state.specs.Libraries.{FindsBelow, HaveMeaning, EachOnce, ExportsMean};
 ghost use Rattle.workspace_state.specs.Diagnosed.{Adds};
-ghost use Rattle.workspace_state.specs.Places.{AreFoundIn, AreHeads, ArePlaces, CanPlace, HeadsStay, spans_of};
+ghost use Rattle.workspace_state.specs.Places.{AreFoundIn, AreHeads, ArePlaces as ArePlacesOf, CanPlace, HeadsStay, spans_of};
 ghost use Rattle.workspace_state.specs.Readings.{Read};
 ghost use Rattle.workspace_state.specs.Sound.{IsSound};
 ghost use Rattle.workspace_state.specs.SetsGiven.{AreLibraries, ImportsAs};
@@ -205,7 +205,7 @@ fn expand_unit<L: Ledger>(
     // What is found of it is what the definition has of it, where the program comes to have these units.
     ensures finds { (spelled : LibraryName → List ℕ) (known : Known) (g : ScopedProgress) (p : Prepared) (given_entries : List ModelEntry × List SetResult) → Knows bench.old.scope.libraries known →
         GoesOn bench.old g → p.number ≡ unit → IsSourceOf spelled p None source.now → AreEntries bench.old.work.symbols given.joined.entries.items given_entries.0 →
-        (reads : List Read) (ends : List UnitResult) (r : UnitResult) → ArePlaces places.entry reads ends → unit_at ends unit ≡ Some r → r.unit ≡ p → AreSetsFound reads ends p given_entries.1 given.findings.items →
+        (reads : List Read) (ends : List UnitResult) (r : UnitResult) → ArePlacesOf places.entry reads ends → unit_at ends unit ≡ Some r → r.unit ≡ p → AreSetsFound reads ends p given_entries.1 given.findings.items →
         IfOk result (λ came. IfSome came (λ came. IsFoundOf reads (in_the_end ends (with_unit g (expanded_after known g p given_entries.0).1))
             (unit_result p given_entries (expanded_after known g p given_entries.0).1.table (expanded_after known g p given_entries.0).0) came.findings.items)) }
 {
@@ -281,7 +281,7 @@ fn finished(
     // What is found is what the definition has of the unit, where the program comes to have these units.
     ensures finds { (spelled : LibraryName → List ℕ) (q : Program) (p : Prepared) (given_entries : List ModelEntry × List SetResult) (fs : List Formed) → p.number ≡ unit → IsSourceOf spelled p None source.now →
         AreEntries work.old.symbols given.joined.entries.items given_entries.0 → FormsStand work.old unit 0 forms fs → AreDefinitions work.old.symbols (reverse (definitions_from 0 forms)) (defined_by unit q.table) →
-        (reads : List Read) (ends : List UnitResult) (r : UnitResult) → ArePlaces places.entry reads ends → unit_at ends unit ≡ Some r → r.unit ≡ p → AreSetsFound reads ends p given_entries.1 given.findings.items →
+        (reads : List Read) (ends : List UnitResult) (r : UnitResult) → ArePlacesOf places.entry reads ends → unit_at ends unit ≡ Some r → r.unit ≡ p → AreSetsFound reads ends p given_entries.1 given.findings.items →
         IfOk result (λ came. IsFoundOf reads (in_the_end ends q) (unit_result p given_entries q.table (Some fs)) came.findings.items) }
 {
     let Given {
@@ -329,7 +329,7 @@ fn add_unbound_if(
     requires documents { 0 < length places.documents.now }
     requires places { CanPlace places }
     ensures inside { AreFoundIn (length places.entry.documents.now) findings.old.items → OnOk result (AreFoundIn (length places.entry.documents.now) findings.new.items) }
-    ensures exact { (rs : List Read) (us : List UnitResult) (work : AnyWork) (unit : ℕ) (fs : List Formed) → ArePlaces places.entry rs us → KeepsNames work.symbols symbols.now → FormsStand work unit 0 forms.now fs →
+    ensures exact { (rs : List Read) (us : List UnitResult) (work : AnyWork) (unit : ℕ) (fs : List Formed) → ArePlacesOf places.entry rs us → KeepsNames work.symbols symbols.now → FormsStand work unit 0 forms.now fs →
         OnOk result (Adds findings.old.items findings.new.items (if are_found then unbound_diagnostics (bytes_of (spans_of rs) us) (unit_leaves fs) else []) []) }
 {
     if are_found {
@@ -349,7 +349,7 @@ fn add_no_import(
     requires documents { 0 < length places.documents.now }
     requires places { CanPlace places }
     ensures inside { AreFoundIn (length places.entry.documents.now) findings.old.items → OnOk result (AreFoundIn (length places.entry.documents.now) findings.new.items) }
-    ensures exact { (spelled : LibraryName → List ℕ) (rs : List Read) (us : List UnitResult) (r : UnitResult) → ArePlaces places.entry rs us → unit_at us unit ≡ Some r → ImportsAs spelled source.now r.unit →
+    ensures exact { (spelled : LibraryName → List ℕ) (rs : List Read) (us : List UnitResult) (r : UnitResult) → ArePlacesOf places.entry rs us → unit_at us unit ≡ Some r → ImportsAs spelled source.now r.unit →
         OnOk result (Adds findings.old.items findings.new.items (no_import_diagnostics (spans_of rs) r.unit) []) }
 {
     if imports_nothing(source) {
@@ -377,7 +377,7 @@ pub fn broken(
     ensures entries { IfOk result (λ came. came.entries.items ≡ []) }
     ensures exports { IfOk result (λ came. came.exports ≡ []) }
     ensures findings { IfOk result (λ came. AreFoundIn (length places.entry.documents.now) came.findings.items) }
-    ensures finds { (rs : List Read) (p : Program) (r : UnitResult) (f : Whole) → ArePlaces places.entry rs p.units → unit_at p.units unit ≡ Some r → r.fault ≡ Some f → fault ≡ told f →
+    ensures finds { (rs : List Read) (p : Program) (r : UnitResult) (f : Whole) → ArePlacesOf places.entry rs p.units → unit_at p.units unit ≡ Some r → r.fault ≡ Some f → fault ≡ told f →
         IfOk result (λ came. IsFoundOf rs p r came.findings.items) }
 {
     let mut findings = Vec::new(alloc);

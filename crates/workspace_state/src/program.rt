@@ -1,7 +1,7 @@
 //! The program of the open documents (R7RS 5), and all that is wrong in it.
 ghost use Rattle.std.specs.Prelude.{◌≡◌, ℕ, ◌<◌, List, length, map, slice_get, vec_len, Some, None, IfOk, IfSome, OnOk};
 ghost use Rattle.scheme_model.specs.Diagnostics.{unit_at};
-ghost use Rattle.scheme_model.specs.Program.{Program, UnitResult};
+ghost use Rattle.scheme_model.specs.Program.{Program as Model, UnitResult};
 ghost use Rattle.syntax_tree.specs.declared.trees.Work.{Work as AnyWork};
 ghost use Rattle.core_tree.specs.Units.{error_as};
 ghost use Rattle.document_store.specs.Texts.{Document as Text};
@@ -98,8 +98,8 @@ fn collect(
     // What is found of each document, the Errors of each unit and the first of them are the definition's, where units came so.
     ensures found { (ds : List (List ℕ × Text)) (rs : List Read) → AreDocuments ds documents.items → AreReadAs ds rs → HaveTokens documents.items rs → AreTold rs (program_in rs) units.heads.items expanded.items →
         IfOk result (λ reading. AreFoundOf rs reading.findings.items) }
-    ensures told { (rs : List Read) (p : Program) → HaveTokens documents.items rs → AreTold rs p units.heads.items expanded.items → IfOk result (λ reading. HaveErrors reading.program.units p.units) }
-    ensures firsts { (rs : List Read) (p : Program) → HaveTokens documents.items rs → AreTold rs p units.heads.items expanded.items → IfOk result (λ reading. AreFirstErrors rs p reading.errors.items) }
+    ensures told { (rs : List Read) (p : Model) → HaveTokens documents.items rs → AreTold rs p units.heads.items expanded.items → IfOk result (λ reading. HaveErrors reading.program.units p.units) }
+    ensures firsts { (rs : List Read) (p : Model) → HaveTokens documents.items rs → AreTold rs p units.heads.items expanded.items → IfOk result (λ reading. AreFirstErrors rs p reading.errors.items) }
 {
     let Units { mut heads, sources } = units;
     let mut findings = none(alloc, documents.len())?;
@@ -145,7 +145,7 @@ fn came_to(
     ensures formed { (work : AnyWork) → IfSome came (λ came. IsFormed work place came.forms) → IfOk result (λ came. IsFormed work place came.forms) }
     ensures some { IfSome came (λ came. IfOk result (λ unit. unit ≡ came)) }
     ensures none { came ≡ None → IfOk result (IsNothing count) }
-    ensures told { (rs : List Read) (p : Program) (h : AnyHead) (r : UnitResult) → ArePlaces places.entry rs p.units → unit_at p.units place ≡ Some r → slice_get places.heads.now place ≡ Some h → IsTold rs p h came r →
+    ensures told { (rs : List Read) (p : Model) (h : AnyHead) (r : UnitResult) → ArePlaces places.entry rs p.units → unit_at p.units place ≡ Some r → slice_get places.heads.now place ≡ Some h → IsTold rs p h came r →
         IfOk result (λ came. IsFoundOf rs p r came.findings.items) }
 {
     if let Some(came) = came {
