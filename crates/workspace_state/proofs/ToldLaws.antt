@@ -1,7 +1,6 @@
 -- What is found, and the diagnostics that it is.
-use Rattle.std.proofs.Common.{◌≡◌, ℕ, List, [], ◌∷◌, ◌++◌, append-nil, append_assoc, map, slice_get, Option, Some, None, refl, sym, ap, ◌∙◌, subst}
+use Rattle.std.proofs.Common.{◌≡◌, ℕ, List, [], ◌∷◌, ◌++◌, append-nil, append_assoc, Option, Some, None, refl, sym, ap, ◌∙◌}
 use Rattle.std.specs.Prelude.{codes, reverse}
-use Rattle.std.specs.List.{flat_map}
 use Rattle.std.specs.Option.{option_map}
 use Rattle.std.proofs.lemmas.List.{reverse-append}
 use Rattle.std.proofs.lemmas.List.Concat.{flat_map-append}
@@ -11,7 +10,7 @@ use Rattle.workspace_state.specs.declared.findings.At.{At}
 use Rattle.workspace_state.specs.declared.findings.Finding.{Finding}
 use Rattle.workspace_state.specs.Found.{told, told_at, all_told}
 use Rattle.workspace_state.specs.Places.{bytes_at}
-use Rattle.workspace_state.specs.Wording.{front, worded}
+use Rattle.workspace_state.specs.Wording.{front}
 
 -- one more
 pub told_more : (fs new : List Finding) (f : Finding) (at : Option At) (code : ℕ) (text : List ℕ) → new ≡ fs ++ f ∷ [] → f.at ≡ at → f.code ≡ code → f.message ≡ text →

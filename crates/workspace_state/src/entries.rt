@@ -1,7 +1,7 @@
 //! What a unit imports (R7RS 5.2, 5.6.1), and what is wrong in its import sets.
 #![tactic(auto, using(crate::proofs::MeaningLaws::names_itself, crate::proofs::MeaningLaws::names_on, crate::proofs::MeaningLaws::mean_kept, crate::proofs::ImportLaws::exports_kept, crate::proofs::ImportLaws::groups_kept))]
 
-ghost use Rattle.std.specs.Prelude.{◌≡◌, ◌<◌, ◌&&◌, ◌++◌, ◌∷◌, ℕ, List, [], map, reverse, length, Option, Some, OnOk, IfOk, IfSome};
+ghost use Rattle.std.specs.Prelude.{◌≡◌, ◌<◌, ◌&&◌, ◌++◌, ◌∷◌, ℕ, List, [], map, reverse, length, Option, Some, Result, OnOk, IfOk, IfSome};
 ghost use Rattle.std.specs.Option.{option_map};
 ghost use Rattle.std.specs.BTreeMap.{get_by_text};
 ghost use Rattle.scheme_model.specs.Requirements.{LibraryName};
@@ -15,7 +15,7 @@ ghost use Rattle.syntax_tree.specs.Meant.{AreEntries, IsEntry};
 ghost use Rattle.core_tree.specs.Names.{AllMatch};
 ghost use Rattle.core_tree.specs.Units.{kind_as};
 ghost use Rattle.library_table.specs.UnitsRead.{forms_of};
-ghost use Rattle.import_sets.specs.Sets.{IsSet, IsSetOf, TellsApart};
+ghost use Rattle.import_sets.specs.Sets.{FailsAs, IsSet, IsSetOf, TellsApart};
 ghost use Rattle.workspace_state.specs.Joining.{AreApart, GroupsMean, GroupsStand};
 ghost use Rattle.workspace_state.specs.Libraries.{EachOnce, ExportsMean, HaveMeaning};
 ghost use Rattle.workspace_state.specs.Found.{all_told, told_at};
@@ -346,8 +346,19 @@ fn chosen(alloc: Global, symbols: &Symbols, set: &ImportSet, exports: &[Entry]) 
     symbols.told_apart();
     match entries_of(alloc, set, exports) {
         Ok(entries) => Ok(SetGives::Entries(entries)),
-        Err(ImportFault::Memory) => Err(Memory),
-        Err(fault) => Ok(SetGives::Faulty(fault)),
+        Err(fault) => faulty(fault),
+    }
+}
+
+/// A set's fault, unless memory ran out.
+fn faulty(fault: ImportFault) -> Mem<SetGives>
+    ensures means { (names : Names) → IfOk result (SetMeans names) }
+    ensures exact { (names : Names) → (r : Result (List model.Entry) model.ImportFault) → FailsAs fault r →
+        IfOk result (λ gives. ComesTo names gives (λ before. program.after_set before r)) }
+{
+    match fault {
+        ImportFault::Memory => Err(Memory),
+        _ => Ok(SetGives::Faulty(fault)),
     }
 }
 
