@@ -9,8 +9,8 @@ use Rattle.workspace_state.specs.Places.{spans_of}
 use Rattle.workspace_state.proofs.ExportLaws.{spec_at, told_again, told_undefined}
 use Rattle.workspace_state.proofs.exported.add_fault.Goals as goal
 
-both_same : (m n : ℕ) (s t : List ℕ) → Some (m, s) ≡ Some (n, t) → (m ≡ n) × (s ≡ t)
-both_same m n s t h = let e = same_Some (m, s) (n, t) h in (ap (λ (q : ℕ × List ℕ). q.0) e, ap (λ (q : ℕ × List ℕ). q.1) e)
+both_same : (m n : ℕ) (s t : List ℕ) → ◌≡◌ {A = Option (ℕ × List ℕ)} (Some (m, s)) (Some (n, t)) → (m ≡ n) × (s ≡ t)
+both_same m n s t h = let e : ◌≡◌ {A = ℕ × List ℕ} (m, s) (n, t) = same_Some {A = ℕ × List ℕ} (m, s) (n, t) h in (ap (λ (q : ℕ × List ℕ). q.0) e, ap (λ (q : ℕ × List ℕ). q.1) e)
 
 pub returns-in_default-clause-told : goal.returns-in_default-clause-told
 returns-in_default-clause-told c = λ xs specs f is reads us places.
