@@ -98,7 +98,10 @@ returns-clause-finds c = λ spelled q p imports fs own source are stand told rea
     let is_too : c.as_slice-5.result.now ≡ definitions_from 0 c.args.forms = c.as_slice-5.ensures.value ∙ c.in_ok-defined.ensures ∙ ap (λ (fs : List UnitForm). definitions_from 0 fs) c.as_slice-slice.ensures in
     let names = c.in_ok-names.names.items in
     let finds = c.in_ok-names.ensures.finds q.table (subst (λ (bs : List (ℕ × Binder)). AreDefinitions old.symbols (reverse bs) (defined_by unit q.table)) (sym is) told) imports.0 are in
-    let exports = c.in_ok-exports.ensures.told old.symbols find (subst (λ (es : List Entry). FindsNames old.symbols es find) (sym c.as_slice-4.ensures.value) finds) p.exports source.exports reads ends places in
+    let named = subst (λ (es : List Entry). FindsNames old.symbols es find) (sym c.as_slice-4.ensures.value) finds in
+    let xfaults = (export_all find [] p.exports).faults in
+    let exports : Adds f0 f1 (export_diagnostics bytes xfaults) (export_errors xfaults) =
+    record { told = c.in_ok-exports.ensures.told old.symbols find named p.exports source.exports reads ends places; errors = c.in_ok-exports.ensures.errors old.symbols find named p.exports source.exports } in
     let forms = subst (λ (cs : List UnitForm). FormsStand old unit 0 cs fs) (sym c.as_slice-slice.ensures) stand in
     let faults = c.in_ok-add_faults.ensures.exact reads ends old fs places keeps forms in
     let hiding = c.in_ok-add_hiding.ensures.exact reads ends q.table imports.0 places
