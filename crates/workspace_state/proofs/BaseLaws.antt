@@ -1,11 +1,10 @@
 -- What `(scheme base)` gives: each of its names once, so putting them together changes nothing.
-use Rattle.std.proofs.Common.{◌≡◌, ℕ, Bool, true, false, cond, List, [], ◌∷◌, ◌++◌, append_assoc, append-nil, map, Option, Some, None, refl, sym, ap, ◌∙◌, subst}
+use Rattle.std.proofs.Common.{◌≡◌, ℕ, Bool, true, false, cond, List, [], ◌∷◌, ◌++◌, append_assoc, append-nil, map, Some, None, refl, sym, ap, ◌∙◌}
 use Rattle.std.specs.Prelude.{codes, not, ◌&&◌, ◌||◌}
 use Rattle.std.specs.Str.{bytes_eq}
-use Rattle.scheme_model.specs.Requirements.{Symbol}
-use Rattle.scheme_model.specs.Entries.{Entry, entry_at, gather, Joined, added, clashing, join_entry}
+use Rattle.scheme_model.specs.Entries.{Entry, entry_at, gather, added, join_entry}
 use Rattle.scheme_model.specs.Program.{has_name, standard_entry, base_entries}
-use Rattle.scheme_model.specs.StandardLibraries.{standard_libraries, standard}
+use Rattle.scheme_model.specs.StandardLibraries.{standard_libraries}
 use Rattle.scheme_model.specs.StandardNames.{base_names}
 use Rattle.syntax_tree.proofs.InternLaws.{bytes_told, bytes_itself}
 use Rattle.base_library.specs.Texts.{names_of}

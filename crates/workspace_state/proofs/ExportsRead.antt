@@ -1,5 +1,5 @@
 -- Exports that are read are those of the definition: they tell by their places whether they are renamed.
-use Rattle.std.proofs.Common.{List, [], ◌∷◌, ◌∙◌}
+use Rattle.std.proofs.Common.{ℕ, List, [], ◌∷◌, ◌∙◌}
 use Rattle.std.specs.Prelude.{not}
 use Rattle.scheme_model.specs.Declarations.{UnitForm}
 use Rattle.scheme_model.specs.Program.{ExportSpec, exports_from}

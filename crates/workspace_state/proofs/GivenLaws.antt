@@ -1,5 +1,5 @@
 -- What import sets of the code come to is what the definition's sets come to.
-use Rattle.std.proofs.Common.{◌≡◌, ℕ, zero, suc, ◌+◌, ◌<◌, ◌≤◌, Bool, true, false, cond, List, [], ◌∷◌, ◌++◌, append-nil, append_assoc, map, drop, length, slice_get, get_or, Option, Some, None, Result, Ok, Err, refl, sym, ap, ◌∙◌, subst, arith}
+use Rattle.std.proofs.Common.{◌≡◌, ℕ, zero, suc, ◌+◌, ◌<◌, ◌≤◌, Bool, true, false, cond, List, [], ◌∷◌, ◌++◌, append-nil, append_assoc, map, drop, length, slice_get, get_or, Option, Some, None, Result, Ok, refl, sym, ap, ◌∙◌, subst, arith}
 use Rattle.std.specs.Prelude.{codes, reverse, ◌&&◌}
 use Rattle.std.specs.Option.{option_map}
 use Rattle.std.specs.BTreeMap.{get_by_text}
@@ -36,7 +36,7 @@ use Rattle.workspace_state.specs.Libraries.{library_of}
 use Rattle.workspace_state.specs.Places.{ArePlaces, bytes_at, spans_of, start_of}
 use Rattle.workspace_state.specs.Readings.{Read, span_seen}
 use Rattle.workspace_state.specs.Joining.{GatheredAs, GroupsStand}
-use Rattle.workspace_state.specs.SetsGiven.{AreEntriesIf, AreLibraries, ComesTo, ImportsAs, IsSetFault, IsSpec, exports_at, exports_of, set_exports, with_set}
+use Rattle.workspace_state.specs.SetsGiven.{AreEntriesIf, AreLibraries, ComesTo, ImportsAs, IsSpec, exports_at, set_exports, with_set}
 use Rattle.workspace_state.specs.Wording.{worded}
 use Rattle.workspace_state.proofs.MeaningLaws.{entries_kept}
 use Rattle.workspace_state.proofs.ToldLaws.{told_there, worded_name}

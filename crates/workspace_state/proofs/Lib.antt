@@ -68,7 +68,7 @@ pub mod PublishLaws  -- What is published, one document after another
 pub mod DiagnosedLaws  -- What is found in forms tells the definition's diagnostics
 pub mod UnboundFound  -- What is found of uses that mean nothing tells the definition's diagnostics
 pub mod WholeLaws  -- What is found of a unit that is broken as a whole tells the definition's diagnostic
-pub mod StopsLaws  -- Documents that don't read, and what the code keeps of all documents
+pub mod StopsLaws  -- Documents that don't read have that alone, and what the code keeps of all documents
 pub mod UnitGoes  -- The forms of a unit define nothing of other units, and leave what units import
 pub mod UnitCame  -- A unit is begun on a bench that goes on with what is expanded so far, and what its forms come to is the definition's
 pub mod CameKept  -- What units came to stands for the same in a work that has only grown
@@ -80,3 +80,10 @@ pub mod Collecting  -- Units that are put together, one more
 pub mod UnitsTurns  -- Units in turn
 pub mod CollectLaws  -- Units that are put together by what they came to are those of the definition's program
 pub mod ReadUnits  -- Units that were judged, as they are handed on to be expanded
+pub mod HidingLaws  -- What is found of definitions that hide imports tells the definition's diagnostics
+pub mod UnitsFoundLaws  -- What is found of a unit is what the definition has of it, part by part, and later units change nothing of it
+pub mod HeadsKept  -- Heads that stay are those of the same units
+pub mod NoImport  -- A program without an import, told by what was read and by the definition
+pub mod FoundNext  -- The unit whose turn it is, broken or expanded
+pub mod ToldUnits  -- Units of a program one by one
+pub mod TokensAlike  -- The tokens of documents are those of each reading of their texts

@@ -1,5 +1,5 @@
 -- Lists whose items are matched, place by place.
-use Rattle.std.proofs.Common.{◌≡◌, ℕ, zero, suc, List, [], ◌∷◌, ◌++◌, slice_get, Some, refl, subst}
+use Rattle.std.proofs.Common.{◌≡◌, ℕ, zero, suc, List, [], ◌∷◌, ◌++◌, length, slice_get, Some, refl, ap, subst}
 use Rattle.std.proofs.lemmas.Option.{same_Some}
 use Rattle.syntax_tree.proofs.Places.{none_some}
 use Rattle.core_tree.specs.Names.{AllMatch}
@@ -22,3 +22,9 @@ all_append P [] [] vs ws h more = more
 all_append P [] (y ∷ ys) vs ws h more = absurd h
 all_append P (x ∷ xs) [] vs ws h more = absurd h
 all_append P (x ∷ xs) (y ∷ ys) vs ws h more = (h.0, all_append P xs ys vs ws h.1 more)
+
+pub as_many : {X Y : Type 0} (P : X → Y → Type 0) (xs : List X) (ys : List Y) → AllMatch P xs ys → length xs ≡ length ys
+as_many P [] [] h = refl
+as_many P [] (y ∷ ys) h = absurd h
+as_many P (x ∷ xs) [] h = absurd h
+as_many P (x ∷ xs) (y ∷ ys) h = ap suc (as_many P xs ys h.1)

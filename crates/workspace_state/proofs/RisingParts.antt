@@ -108,6 +108,8 @@ past_more : (k m : ℕ) (rest : List Numbered) → k ≤ m → Past m rest → P
 past_more k m rest h p = record { next = p.next; later = omega (arith, h, p.later); from = p.from }
 
 mutual
+  unfolding past_more
+
   gap_past : (g : Gap) (k : ℕ) (rest : List Numbered) → From k (gap_tokens g rest) → Past k rest
   gap_past nothing k rest f = record { next = k; later = omega arith; from = f }
   gap_past (skipped s g w h) k rest f =

@@ -298,11 +298,38 @@ unmodified c es f h = go (given.given c es) h
     go (Err e) k = refl
 
 -- the identifiers of a modifier
-pub uses_given : (r : Result (List model.Entry) model.ImportFault) (es : List model.Entry) (f : List model.Entry → List NameUse) (front : List NameUse) → r ≡ Ok es → front ++ f es ≡ front ++ if_given r f
-uses_given r es f front h = ap (λ (q : Result (List model.Entry) model.ImportFault). front ++ if_given q f) (sym h)
+pub uses_where_given : (r : Result (List model.Entry) model.ImportFault) (es : List model.Entry) (f : List model.Entry → List NameUse) (front : List NameUse) → r ≡ Ok es → front ++ f es ≡ front ++ if_given r f
+uses_where_given r es f front h = ap (λ (q : Result (List model.Entry) model.ImportFault). front ++ if_given q f) (sym h)
 
 pub uses_failed : (r : Result (List model.Entry) model.ImportFault) (e : model.ImportFault) (f : List model.Entry → List NameUse) (front : List NameUse) → r ≡ Err e → front ≡ front ++ if_given r f
 uses_failed r e f front h = sym (append-nil front) ∙ ap (λ (q : Result (List model.Entry) model.ImportFault). front ++ if_given q f) (sym h)
+
+-- ---- the identifiers of an import set
+
+pub library_adds : (names : Names) (a : code.Identifiers) (t : List ℕ) (s : model.ImportSet) (ds : List model.Entry) → IsSet (code_set.Library t) s → AddsNames names a a (set_uses ds s)
+library_adds names a t s ds h = subst (λ (s : model.ImportSet). AddsNames names a a (set_uses ds s)) (sym h.1.0) (adds_none names a)
+
+pub bad_adds : (names : Names) (a : code.Identifiers) (s : model.ImportSet) (ds : List model.Entry) → IsSet code_set.Bad s → AddsNames names a a (set_uses ds s)
+bad_adds names a s ds h = subst (λ (s : model.ImportSet). AddsNames names a a (set_uses ds s)) (sym h) (adds_none names a)
+
+pub prefix_adds : (names : Names) (a b : code.Identifiers) (s inner : model.ImportSet) (t : List ℕ) (ds : List model.Entry) → s ≡ model.Prefix inner t → AddsNames names a b (set_uses ds inner) → AddsNames names a b (set_uses ds s)
+prefix_adds names a b s inner t ds e h = subst (λ (s : model.ImportSet). AddsNames names a b (set_uses ds s)) (sym e) h
+
+-- a modifier of a set that has a fault adds nothing
+pub fault_adds : (old names : Names) → KeepsNames old names → TellsApart names → (c : code_set.ImportSet) (inner : model.ImportSet) (es : List code_entry.Entry) (ds : List model.Entry) → IsSet c inner → AreEntries old es ds →
+    None ≡ unless_fault (given.given c es) → (a b : code.Identifiers) (f : List model.Entry → List NameUse) → AddsNames names a b (set_uses ds inner) → AddsNames names a b (set_uses ds inner ++ if_given (model.given_by inner ds) f)
+fault_adds old names k apart c inner es ds h are none a b f adds =
+    let r = inner_fails names apart c inner es ds h (entries_kept old names k es ds are) none in
+    adds_as names a b (set_uses ds inner) (set_uses ds inner ++ if_given (model.given_by inner ds) f) (uses_failed (model.given_by inner ds) r.fault f (set_uses ds inner) r.is) adds
+
+-- and else what it adds of what the set gives
+pub modifier_adds : (old mid names : Names) → KeepsNames old mid → KeepsNames mid names → TellsApart mid → (c : code_set.ImportSet) (inner : model.ImportSet) (es gives : List code_entry.Entry) (ds : List model.Entry) → IsSet c inner →
+    AreEntries old es ds → Some gives ≡ unless_fault (given.given c es) → (a b d : code.Identifiers) (f : List model.Entry → List NameUse) → AddsNames mid a b (set_uses ds inner) →
+    ((xs : List model.Entry) → AreEntries mid gives xs → AddsNames names b d (f xs)) → AddsNames names a d (set_uses ds inner ++ if_given (model.given_by inner ds) f)
+modifier_adds old mid names k l apart c inner es gives ds h are is a b d f adds more =
+    let r = inner_given mid apart c inner es ds h (entries_kept old mid k es ds are) gives is in
+    adds_as names a d (set_uses ds inner ++ f r.entries) (set_uses ds inner ++ if_given (model.given_by inner ds) f) (uses_where_given (model.given_by inner ds) r.entries f (set_uses ds inner) r.is)
+    (adds_then mid names l a b d (set_uses ds inner) (f r.entries) adds (more r.entries r.stand))
 
 -- ---- the exports that give something
 
@@ -329,27 +356,32 @@ first_in x xs = (0, omega arith, refl)
 external_in : (find : List ℕ → Option model.Entry) (x : ExportSpec) → (x.renamed ≡ false → x.outer ≡ x.inner) → (e : model.Entry) → find x.inner.name ≡ Some e → (m : NameUse) → Contains (external_use (Some e) x) m → Contains (export_uses find x) m
 external_in find x one e is m h = go x.renamed refl
   where
+    first : NameUse
+    first = record { meaning = e.meaning; symbol = x.inner.name; occ = x.inner.occ; origins = e.origins }
+
+    other : NameUse
+    other = record { meaning = e.meaning; symbol = x.outer.name; occ = x.outer.occ; origins = model.place_origin x.outer.occ }
+
     it : NameUse
     it = record { meaning = e.meaning; symbol = x.outer.name; occ = x.outer.occ; origins = cond x.renamed (model.place_origin x.outer.occ) e.origins }
 
     itself : it ≡ m
     itself = contains_one it m h
 
+    uses : (b : Bool) → x.renamed ≡ b → export_uses find x ≡ first ∷ cond b (other ∷ []) []
+    uses b q = (λ j.
+        record { meaning = meaning_or (is j) x.inner.name; symbol = x.inner.name; occ = x.inner.occ; origins = origins_or (is j) } ∷
+        cond (q j) (record { meaning = meaning_or (is j) x.inner.name; symbol = x.outer.name; occ = x.outer.occ; origins = model.place_origin x.outer.occ } ∷ []) [])
+
     go : (b : Bool) → x.renamed ≡ b → Contains (export_uses find x) m
-    go true q = subst (Contains (export_uses find x)) (second ∙ itself) (rw (is, q) (Contains-append_right (first ∷ []) (other ∷ []) other (first_in other [])))
+    go true q = subst (Contains (export_uses find x)) (second ∙ itself) (subst (λ (l : List NameUse). Contains l other) (sym (uses true q)) (Contains-append_right (first ∷ []) (other ∷ []) other (first_in other [])))
       where
-        first : NameUse
-        first = record { meaning = e.meaning; symbol = x.inner.name; occ = x.inner.occ; origins = e.origins }
-
-        other : NameUse
-        other = record { meaning = e.meaning; symbol = x.outer.name; occ = x.outer.occ; origins = model.place_origin x.outer.occ }
-
         second : other ≡ it
         second = ap (λ (b : Bool). record { meaning = e.meaning; symbol = x.outer.name; occ = x.outer.occ; origins = cond b (model.place_origin x.outer.occ) e.origins }) (sym q)
-    go false q = subst (Contains (export_uses find x)) (first ∙ itself) (rw (is, q) (first_in (record { meaning = e.meaning; symbol = x.inner.name; occ = x.inner.occ; origins = e.origins }) []))
+    go false q = subst (Contains (export_uses find x)) (same ∙ itself) (subst (λ (l : List NameUse). Contains l first) (sym (uses false q)) (first_in first []))
       where
-        first : record { meaning = e.meaning; symbol = x.inner.name; occ = x.inner.occ; origins = e.origins } ≡ it
-        first = (λ j. record { meaning = e.meaning; symbol = (sym (one q) j).name; occ = (sym (one q) j).occ; origins = cond (sym q j) (model.place_origin x.outer.occ) e.origins })
+        same : first ≡ it
+        same = (λ j. record { meaning = e.meaning; symbol = (sym (one q) j).name; occ = (sym (one q) j).occ; origins = cond (sym q j) (model.place_origin x.outer.occ) e.origins })
 
 externals_in : (find : List ℕ → Option model.Entry) (seen : List (List ℕ)) (xs : List ExportSpec) → HaveOneIfSame xs → (m : NameUse) → Contains (external_uses find (given_exports find seen xs)) m → Contains (all_export_uses find xs) m
 externals_in find seen [] one m h = h
@@ -403,6 +435,7 @@ externals_match names unit find seen (x ∷ xs) ns h = go (λ (ns : List code_na
 -- all that was added to nothing, and last the external names
 pub names_all : (mid names : Names) (a b c : code.Identifiers) (ms : List NameUse) (find : List ℕ → Option model.Entry) (xs : List ExportSpec) → KeepsNames mid names → a.uses.items ≡ [] → HaveOneIfSame xs →
     AddsNames mid a b (ms ++ all_export_uses find xs) → AddsNames names b c (external_uses find (given_exports find [] xs)) → AreNames names a.unit c.uses.items (ms ++ all_export_uses find xs) (given_exports find [] xs)
+unfolding adds_then
 names_all mid names a b c ms find xs k none one h g = record {
   told = (ms ++ all_export_uses find xs) ++ external_uses find (given_exports find [] xs);
   match = subst (λ (ns : List code_name.NameUse). AllMatch (IsName names a.unit) ns ((ms ++ all_export_uses find xs) ++ external_uses find (given_exports find [] xs))) (sym whole) (adds_then mid names k a b c (ms ++ all_export_uses find xs) (external_uses find (given_exports find [] xs)) h g).are;
@@ -491,7 +524,7 @@ pub pairs_more : (es : List model.Entry) (ps : List NamePair) (i : ℕ) (p : Nam
     pair_uses es (map paired (take i ps)) ++ (entry_use (model.entry_at es p.from.name) (named p.from) ++ second_use (model.entry_at es p.from.name) (named p.to)) ≡ pair_uses es (map paired (take (i + 1) ps))
 pairs_more es ps i p at =
     mapped_at paired (λ (q : Named (List ℕ) × Named (List ℕ)). entry_use (model.entry_at es q.0.name) q.0 ++ second_use (model.entry_at es q.0.name) q.1) (pair_uses es) refl
-    (λ q qs. sym (append_assoc (entry_use (model.entry_at es q.0.name) q.0) (second_use (model.entry_at es q.0.name) q.1) (pair_uses es qs))) ps i p at
+    (λ q qs. refl) ps i p at
 
 pub exports_more : (find : List ℕ → Option model.Entry) (xs : List ExportSpec) (i : ℕ) (x : ExportSpec) → slice_get xs i ≡ Some x → all_export_uses find (take i xs) ++ export_uses find x ≡ all_export_uses find (take (i + 1) xs)
 exports_more find xs i x at = uses_at (export_uses find) (all_export_uses find) refl (λ y ys. refl) xs i x at

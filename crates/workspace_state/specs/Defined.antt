@@ -8,7 +8,7 @@ use Rattle.syntax_tree.specs.Meant.{AreEntries}
 use Rattle.syntax_tree.specs.declared.meaning.Meaning.TheVariants as code
 use Rattle.syntax_tree.specs.declared.units.Entry.{Entry}
 use Rattle.core_tree.specs.declared.cores.Binder.{Binder}
-use Rattle.import_sets.specs.Given.{place_origin}
+use Rattle.import_sets.specs.Given.{has_name, place_origin}
 
 -- the symbol of an identifier that is written, and not inserted
 abbrev pub written_symbol : Identifier → Option (List ℕ)
@@ -36,6 +36,15 @@ symbol_at unit (Some i) = symbol_in unit i
 -- what definitions can be exported as
 abbrev pub named_all : Names → ℕ → List (ℕ × Binder) → List Entry
 named_all names unit bs = flat_map (λ b. named_as unit b.1 (symbol_at unit (slice_get names.idents b.1.ident))) bs
+
+-- the imported name that an identifier hides, which is written
+abbrev pub hidden_in : List Entry → Identifier → Option (List ℕ)
+hidden_in es (Written u s) = if has_name es s then Some s else None
+hidden_in es (Inserted i k) = None
+
+abbrev pub hidden_at : List Entry → Option Identifier → Option (List ℕ)
+hidden_at es None = None
+hidden_at es (Some i) = hidden_in es i
 
 -- names that stand for entries among which each name is found
 pub record FindsNames (names : Names) (es : List Entry) (find : List ℕ → Option model.Entry) : Type 0 where

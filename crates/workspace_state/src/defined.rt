@@ -1,18 +1,20 @@
 //! What the forms of a unit define (R7RS 5.3), and which of these hide an import.
-ghost use Rattle.std.specs.Prelude.{◌≡◌, ◌<◌, ◌++◌, ℕ, List, map, reverse, length, slice_get, Some, OnOk, IfOk};
+ghost use Rattle.std.specs.Prelude.{◌≡◌, ◌<◌, ◌++◌, ℕ, List, [], map, reverse, length, slice_get, Some, OnOk, IfOk};
 ghost use Rattle.std.specs.Option.{option_map};
 ghost use Rattle.scheme_model.specs.Ident.{Ident as Identifier};
 ghost use Rattle.scheme_model.specs.Entries as model;
-ghost use Rattle.scheme_model.specs.Program.{names_of_unit};
+ghost use Rattle.scheme_model.specs.Program.{UnitResult, names_of_unit};
+ghost use Rattle.scheme_model.specs.Diagnostics.{bytes_of, hiding_diagnostics};
 ghost use Rattle.scheme_model.specs.Substitution.{Table};
 ghost use Rattle.syntax_tree.specs.Names.{Names};
 ghost use Rattle.syntax_tree.specs.Meant.{AreEntries};
 ghost use Rattle.core_tree.specs.Units.{AreDefinitions, defined_by, definitions_from};
-ghost use Rattle.workspace_state.specs.Defined.{AreKnown, FindsNames, named_all, named_as, symbol_at, symbol_in, written_symbol};
+ghost use Rattle.workspace_state.specs.Defined.{AreKnown, FindsNames, hidden_at, named_all, named_as, symbol_at, symbol_in, written_symbol};
+ghost use Rattle.workspace_state.specs.Diagnosed.{Adds, hidden_found};
 ghost use Rattle.workspace_state.specs.Libraries.{HaveMeaning};
-ghost use Rattle.workspace_state.specs.Places.{AreFoundIn, CanPlace};
+ghost use Rattle.workspace_state.specs.Places.{AreFoundIn, ArePlaces, CanPlace, spans_of};
+ghost use Rattle.workspace_state.specs.Readings.{Read};
 
-use crate::entries::add_found;
 use crate::findings::Finding;
 use crate::joining::{Joined, own_origin};
 use crate::places::Places;
@@ -148,7 +150,7 @@ fn add_name(
     Ok(())
 }
 
-/// Adds the definitions that hide an import.
+/// Adds the definitions that hide an import, the latest first.
 pub fn add_hiding(
     alloc: Global,
     symbols: &Symbols,
@@ -161,21 +163,52 @@ pub fn add_hiding(
     requires known { AreKnown symbols.now defined.now }
     requires documents { 0 < length places.documents.now }
     requires places { CanPlace places }
-    ensures { AreFoundIn (length places.entry.documents.now) findings.old.items → OnOk result (AreFoundIn (length places.entry.documents.now) findings.new.items) }
+    ensures inside { AreFoundIn (length places.entry.documents.now) findings.old.items → OnOk result (AreFoundIn (length places.entry.documents.now) findings.new.items) }
+    ensures exact { (rs : List Read) (us : List UnitResult) (table : Table) (es : List model.Entry) → ArePlaces places.entry rs us → AreDefinitions symbols.now (reverse defined.now) (defined_by unit table) →
+        AreEntries symbols.now joined.now.entries.items es → OnOk result (Adds findings.old.items findings.new.items (hiding_diagnostics (bytes_of (spans_of rs) us) unit es table) []) }
 {
-    for (form, binder) in defined {
-        if let Some(name) = hidden(symbols, joined, *binder) {
-            let at = places.at_or_form(binder.occ, unit, *form);
-            add_found(alloc, findings, Some(at), *form, 101, name)?;
-        }
+    for (form, binder) in defined.iter().rev() {
+        add_hidden(
+            alloc, symbols, places, unit, *form, *binder, joined, findings,
+        )?;
     }
+    Ok(())
+}
+
+/// Adds a definition, if it hides an import.
+fn add_hidden(
+    alloc: Global,
+    symbols: &Symbols,
+    places: Places<'_>,
+    unit: u32,
+    form: u32,
+    binder: Binder,
+    joined: &Joined,
+    findings: &mut Vec<Finding>,
+) -> Mem<()>
+    requires known { binder.ident < length symbols.now.idents }
+    requires documents { 0 < length places.documents.now }
+    requires places { CanPlace places }
+    ensures inside { AreFoundIn (length places.entry.documents.now) findings.old.items → OnOk result (AreFoundIn (length places.entry.documents.now) findings.new.items) }
+    ensures exact { (rs : List Read) (us : List UnitResult) → ArePlaces places.entry rs us → OnOk result (findings.new.items
+        ≡ findings.old.items ++ hidden_found (bytes_of (spans_of rs) us) unit form binder.occ (hidden_at joined.now.entries.items (slice_get symbols.now.idents binder.ident))) }
+{
+    let Some(name) = hidden(symbols, joined, binder) else {
+        return Ok(());
+    };
+    let spot = places.at_or_form(binder.occ, unit, form);
+    let finding = Finding::new(alloc, Some(spot), form, 101, name)?;
+    findings.push(finding)?;
     Ok(())
 }
 
 /// The imported name that a definition hides, where it hides one.
 fn hidden<'a>(symbols: &'a Symbols, joined: &Joined, binder: Binder) -> Option<&'a str>
     requires { binder.ident < length symbols.now.idents }
+    ensures { option_map (λ s. s.now) result ≡ hidden_at joined.now.entries.items (slice_get symbols.now.idents binder.ident) }
 {
-    let name = written(symbols, binder.ident)?;
+    let Some(name) = written(symbols, binder.ident) else {
+        return None;
+    };
     if joined.has(name) { Some(name) } else { None }
 }

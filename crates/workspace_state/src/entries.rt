@@ -1,7 +1,8 @@
 //! What a unit imports (R7RS 5.2, 5.6.1), and what is wrong in its import sets.
 #![tactic(auto, using(crate::proofs::MeaningLaws::names_itself, crate::proofs::MeaningLaws::names_on, crate::proofs::MeaningLaws::mean_kept, crate::proofs::ImportLaws::exports_kept, crate::proofs::ImportLaws::groups_kept))]
 
-ghost use Rattle.std.specs.Prelude.{◌≡◌, ◌<◌, ◌&&◌, ◌++◌, ◌∷◌, ℕ, List, [], map, reverse, length, Option, Some, OnOk, IfOk, IfSome};
+ghost use Rattle.std.specs.Prelude.{◌≡◌, ◌<◌, ◌&&◌, ◌++◌, ◌∷◌, ℕ, List, [], map, reverse, length, Option, Some, Result, OnOk, IfOk, IfSome};
+ghost use Rattle.std.specs.List.{zip};
 ghost use Rattle.std.specs.Option.{option_map};
 ghost use Rattle.std.specs.BTreeMap.{get_by_text};
 ghost use Rattle.scheme_model.specs.Requirements.{LibraryName};
@@ -13,11 +14,12 @@ ghost use Rattle.scheme_model.specs.Diagnostics.{Bytes, bytes_of, clash_diagnost
 ghost use Rattle.syntax_tree.specs.Names.{Names, KeepsNames};
 ghost use Rattle.syntax_tree.specs.Meant.{AreEntries, IsEntry};
 ghost use Rattle.core_tree.specs.Names.{AllMatch};
-ghost use Rattle.core_tree.specs.Units.{kind_as};
-ghost use Rattle.import_sets.specs.Sets.{IsSet, IsSetOf, TellsApart};
+ghost use Rattle.core_tree.specs.Units.{kind_as, set_errors, set_forms};
+ghost use Rattle.library_table.specs.UnitsRead.{forms_of};
+ghost use Rattle.import_sets.specs.Sets.{FailsAs, IsSet, IsSetOf, TellsApart};
 ghost use Rattle.workspace_state.specs.Joining.{AreApart, GroupsMean, GroupsStand};
 ghost use Rattle.workspace_state.specs.Libraries.{EachOnce, ExportsMean, HaveMeaning};
-ghost use Rattle.workspace_state.specs.Found.{all_told, told_at};
+ghost use Rattle.workspace_state.specs.Found.{all_told, error_by, errors_in, told_at};
 ghost use Rattle.workspace_state.specs.Places.{AreFoundIn, ArePlaces, IsAtIn, CanPlace, bytes_at, spans_of};
 ghost use Rattle.workspace_state.specs.Readings.{Read, span_seen};
 ghost use Rattle.workspace_state.specs.Imports.{SetMeans};
@@ -116,6 +118,9 @@ pub fn given_to(
         AreLibraries work.old.symbols libraries.entry spelled all rs → (p : program.Prepared) → ImportsAs spelled source.now p →
         (reads : List Read) → (us : List program.UnitResult) → ArePlaces places.entry reads us → (r : program.UnitResult) → unit_at us unit ≡ Some r → r.unit ≡ p →
         IfOk result (λ given. all_told given.findings.items ≡ set_diagnostics (bytes_of (spans_of reads) us) p.placed.document p.specs (unit_entries all rs p).1) }
+    ensures errors { (spelled : LibraryName → List ℕ) → (all : List program.Placed) → (rs : List program.UnitResult) →
+        AreLibraries work.old.symbols libraries.entry spelled all rs → (p : program.Prepared) → ImportsAs spelled source.now p → p.forms ≡ forms_of source.now.forms →
+        IfOk result (λ given. errors_in given.findings.items ≡ set_errors (zip (set_forms p.number 0 p.forms) (unit_entries all rs p).1)) }
 {
     let mut findings = Vec::new(alloc);
     let gathering = gathered(
@@ -344,8 +349,19 @@ fn chosen(alloc: Global, symbols: &Symbols, set: &ImportSet, exports: &[Entry]) 
     symbols.told_apart();
     match entries_of(alloc, set, exports) {
         Ok(entries) => Ok(SetGives::Entries(entries)),
-        Err(ImportFault::Memory) => Err(Memory),
-        Err(fault) => Ok(SetGives::Faulty(fault)),
+        Err(fault) => faulty(fault),
+    }
+}
+
+/// A set's fault, unless memory ran out.
+fn faulty(fault: ImportFault) -> Mem<SetGives>
+    ensures means { (names : Names) → IfOk result (SetMeans names) }
+    ensures exact { (names : Names) → (r : Result (List model.Entry) model.ImportFault) → FailsAs fault r →
+        IfOk result (λ gives. ComesTo names gives (λ before. program.after_set before r)) }
+{
+    match fault {
+        ImportFault::Memory => Err(Memory),
+        _ => Ok(SetGives::Faulty(fault)),
     }
 }
 
@@ -515,6 +531,7 @@ pub fn add_found(
 ) -> Mem<()>
     ensures inside { (count : ℕ) → IsAtIn count at → AreFoundIn count findings.old.items → OnOk result (AreFoundIn count findings.new.items) }
     ensures told { OnOk result (all_told findings.new.items ≡ all_told findings.old.items ++ told_at at code (worded code name.now)) }
+    ensures errors { OnOk result (errors_in findings.new.items ≡ errors_in findings.old.items ++ error_by code form) }
 {
     findings.push(Finding::new(alloc, at, form, code, name)?)?;
     Ok(())

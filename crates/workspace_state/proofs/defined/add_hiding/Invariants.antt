@@ -1,6 +1,15 @@
-use Rattle.std.proofs.Common.{length}
-use Rattle.workspace_state.specs.Places.{AreFoundIn}
+use Rattle.std.proofs.Common.{◌≡◌, ◌++◌, List, length, map}
+use Rattle.scheme_model.specs.Program.{UnitResult}
+use Rattle.scheme_model.specs.Diagnostics.{bytes_of}
+use Rattle.workspace_state.specs.Readings.{Read}
+use Rattle.workspace_state.specs.Places.{AreFoundIn, ArePlaces, spans_of}
+use Rattle.workspace_state.proofs.HidingLaws.{all_hidden}
 use Rattle.workspace_state.proofs.defined.add_hiding.Given as goal
 
+-- what is found so far stands in the documents, and is that of the definitions gone through
 abbrev pub invariant-loop-form : goal.invariant-loop-form
-invariant-loop-form l = AreFoundIn (length l.places.documents.now) l.initial.findings.items → AreFoundIn (length l.places.documents.now) l.findings.items
+invariant-loop-form l = record {
+  inside : AreFoundIn (length l.places.documents.now) l.initial.findings.items → AreFoundIn (length l.places.documents.now) l.findings.items;
+  exact : (rs : List Read) (us : List UnitResult) → ArePlaces l.places rs us →
+      l.findings.items ≡ l.initial.findings.items ++ all_hidden (bytes_of (spans_of rs) us) l.unit l.symbols l.joined.entries.items (map (λ b. b.now) l.yielded);
+}

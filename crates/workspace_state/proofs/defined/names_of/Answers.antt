@@ -1,9 +1,8 @@
-use Rattle.std.proofs.Common.{◌≡◌, ℕ, List, ◌++◌, length, map, reverse, sym, ap, ◌∙◌, subst}
+use Rattle.std.proofs.Common.{◌≡◌, List, ◌++◌, length, map, reverse, sym, ap, ◌∙◌, subst}
 use Rattle.std.proofs.lemmas.List.{map_push}
 use Rattle.std.proofs.lemmas.Iterator.Adapters.{YieldsList-from_rev_slice}
 use Rattle.std.proofs.lemmas.Iterator.Consumers.{YieldsList-turn, YieldsList-end}
 use Rattle.syntax_tree.specs.declared.units.Entry.{Entry}
-use Rattle.core_tree.specs.declared.cores.Binder.{Binder}
 use Rattle.workspace_state.specs.Defined.{named_all}
 use Rattle.workspace_state.specs.Libraries.{HaveMeaning}
 use Rattle.workspace_state.proofs.DefinedLaws.{known_reversed}

@@ -23,3 +23,16 @@ pub returns-in-BadSet-clause-told : goal.returns-in-BadSet-clause-told
 returns-in-BadSet-clause-told c = λ f is reads us places.
     bad_set_told (all_told c.args.findings.now.items) _ c.args.set.document c.args.set.spec.now.span c.at-whole.result (bytes_of (spans_of reads) us) f
     (subst (λ (g : ImportFault). IsSetFault g f) c.in-BadSet.is is) c.at-whole.ensures c.in_ok-add_found-in-BadSet.ensures.told
+
+pub returns-in-NotThere-clause-inside : goal.returns-in-NotThere-clause-inside
+returns-in-NotThere-clause-inside c = λ found. c.in_ok-add_found-in-NotThere.ensures.inside (length c.args.places.documents.now) (c.place_if-at.ensures.inside (omega arith)) found
+
+pub returns-in-Clash-clause-inside : goal.returns-in-Clash-clause-inside
+returns-in-Clash-clause-inside c = λ found.
+    c.in_ok-add_found-in-Clash.ensures.inside (length c.args.places.documents.now)
+    (at_in (length c.args.places.documents.now) c.at-whole.result (let e = ap (λ (a : At). a.document) c.at-whole.ensures in omega arith)) found
+
+pub returns-in-BadSet-clause-inside : goal.returns-in-BadSet-clause-inside
+returns-in-BadSet-clause-inside c = λ found.
+    c.in_ok-add_found-in-BadSet.ensures.inside (length c.args.places.documents.now)
+    (at_in (length c.args.places.documents.now) c.at-whole.result (let e = ap (λ (a : At). a.document) c.at-whole.ensures in omega arith)) found

@@ -1,5 +1,4 @@
-use Rattle.std.proofs.Common.{List, ℕ, [], Some, map, sym, ap, ◌∙◌, subst}
-use Rattle.scheme_model.specs.Entries as model
+use Rattle.std.proofs.Common.{List, [], Some, map, sym, ap, ◌∙◌, subst}
 use Rattle.scheme_model.specs.Program.{standard_entry}
 use Rattle.import_sets.specs.declared.gather.Group.{Group}
 use Rattle.import_sets.specs.Given.{Gathered}

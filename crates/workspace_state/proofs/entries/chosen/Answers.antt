@@ -1,5 +1,4 @@
-use Rattle.std.proofs.Common.{◌≡◌}
-use Rattle.workspace_state.proofs.GivenLaws.{comes_chosen, comes_faulty}
+use Rattle.workspace_state.proofs.GivenLaws.{comes_chosen}
 use Rattle.workspace_state.proofs.ImportLaws.{any_set, answered_mean}
 use Rattle.scheme_model.specs.Entries as model
 use Rattle.workspace_state.proofs.entries.chosen.Goals as goal
@@ -15,3 +14,11 @@ pub returns-in-Ok-clause-exact : goal.returns-in-Ok-clause-exact
 returns-in-Ok-clause-exact c = λ s is es are.
     let names = c.args.symbols.now in
     comes_chosen names c.args.set.now s c.in-Ok.entries es (c.in-Ok.ensures names (record { symbols = c.told_apart.ensures.symbols; idents = c.told_apart.ensures.idents }) s is es are)
+
+pub returns-in-Err-clause-means : goal.returns-in-Err-clause-means
+returns-in-Err-clause-means c = c.faulty.ensures.means c.args.symbols.now
+
+pub returns-in-Err-clause-exact : goal.returns-in-Err-clause-exact
+returns-in-Err-clause-exact c = λ s is es are.
+    let names = c.args.symbols.now in
+    c.faulty.ensures.exact names (model.entries_of s es) (c.in-Err.ensures names (record { symbols = c.told_apart.ensures.symbols; idents = c.told_apart.ensures.idents }) s is es are)

@@ -19,5 +19,5 @@ returns-clause-exact c = λ spelled all rs libs p im.
 
 pub returns-clause-told : goal.returns-clause-told
 returns-clause-told c = λ spelled all rs libs p im reads us places r at is.
-    sets_told (bytes_of (spans_of reads) us) (all_told c.args.findings.now.items) (all_told c.sets_given.new.findings.items) c.start.result.document all rs p spelled c.args.source.now im c.imports_nothing.result c.imports_nothing.ensures
-    c.if-imports_nothing.false (document_is c.start.result (spans_of reads) us c.args.unit r p (c.start.ensures.exact reads us places) at is) (c.in_ok-sets_given.ensures.told spelled all rs libs p.specs im.specs reads us places)
+    sets_told (bytes_of (spans_of reads) us) (all_told c.args.findings.now.items) (all_told c.sets_given.new.findings.items) c.start-document.result.document all rs p spelled c.args.source.now im c.imports_nothing.result c.imports_nothing.ensures
+    c.if-imports_nothing.false (document_is c.start-document.result (spans_of reads) us c.args.unit r p (c.start-document.ensures.exact reads us places) at is) (c.in_ok-sets_given.ensures.told spelled all rs libs p.specs im.specs reads us places)

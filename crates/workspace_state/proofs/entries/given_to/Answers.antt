@@ -1,4 +1,4 @@
-use Rattle.std.proofs.Common.{◌≡◌, List, [], ◌++◌, sym, ap, ◌∙◌, subst}
+use Rattle.std.proofs.Common.{List, ◌++◌, sym, ap, ◌∙◌, subst}
 use Rattle.scheme_model.specs.Program.{unit_entries}
 use Rattle.syntax_tree.specs.Meant.{AreEntries}
 use Rattle.syntax_tree.specs.declared.units.Entry.{Entry}
@@ -16,3 +16,6 @@ pub returns-clause-told : goal.returns-clause-told
 returns-clause-told c = λ spelled all rs libs p im reads us places r at is.
     c.in_ok-gathering.ensures.told spelled all rs libs p im reads us places r at is
     ∙ ap (λ (fs : List Finding). all_told fs ++ set_diagnostics (bytes_of (spans_of reads) us) p.placed.document p.specs (unit_entries all rs p).1) c.new-findings.ensures.items
+
+pub returns-clause-errors : goal.returns-clause-errors
+returns-clause-errors c = ?

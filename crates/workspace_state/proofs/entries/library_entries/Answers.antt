@@ -1,4 +1,4 @@
-use Rattle.std.proofs.Common.{sym, ◌∙◌}
+use Rattle.std.proofs.Common.{sym}
 use Rattle.workspace_state.proofs.GivenLaws.{names_one, names_no, of_name, of_none}
 use Rattle.workspace_state.proofs.entries.library_entries.Goals as goal
 

@@ -1,8 +1,6 @@
 use Rattle.std.proofs.Common.{◌≡◌, List, [], length, drop, sym, ap, subst, arith}
-use Rattle.scheme_model.specs.Program.{ImportSpec}
 use Rattle.core_tree.specs.Names.{AllMatch}
 use Rattle.import_sets.specs.Given.{Gathered}
-use Rattle.import_sets.specs.declared.gather.Group.{Group}
 use Rattle.library_table.specs.declared.units.ImportSpec as code
 use Rattle.workspace_state.specs.Found.{all_told}
 use Rattle.workspace_state.specs.Joining.{AreApart, GroupsMean}

@@ -1,7 +1,7 @@
-use Rattle.std.proofs.Common.{◌≡◌, List, [], ◌∷◌, length, subst}
+use Rattle.std.proofs.Common.{[], length, subst}
 use Rattle.scheme_model.specs.Diagnostics.{bytes_of}
 use Rattle.scheme_model.specs.Entries as model
-use Rattle.scheme_model.specs.Program.{Gives, Unknown, Faulty, after_set}
+use Rattle.scheme_model.specs.Program.{Unknown, Faulty}
 use Rattle.import_sets.specs.Sets.{TellsApart}
 use Rattle.workspace_state.specs.declared.entries.SetGives.{SetGives}
 use Rattle.workspace_state.specs.Found.{all_told}
@@ -42,6 +42,9 @@ returns-in_ok-with_entries-in-Entries-clause-told c = λ spelled all rs libs s i
 
 pub returns-in_ok-add_unknown-in-Unknown-clause-means : goal.returns-in_ok-add_unknown-in-Unknown-clause-means
 returns-in_ok-add_unknown-in-Unknown-clause-means c = groups_kept c.args.symbols.now c.of_set.new.symbols c.in_ok-entries.ensures.names c.args.gathering.groups.items c.requires.means
+
+pub returns-in_ok-add_unknown-in-Unknown-clause-findings : goal.returns-in_ok-add_unknown-in-Unknown-clause-findings
+returns-in_ok-add_unknown-in-Unknown-clause-findings c = c.in_ok-add_unknown-in-Unknown.ensures.inside (length c.args.places.documents.now) c.requires.document c.requires.findings
 
 pub returns-in_ok-add_unknown-in-Unknown-clause-exact : goal.returns-in_ok-add_unknown-in-Unknown-clause-exact
 returns-in_ok-add_unknown-in-Unknown-clause-exact c = λ spelled all rs libs s is es stand.

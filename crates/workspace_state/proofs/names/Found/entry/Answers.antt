@@ -1,6 +1,5 @@
-use Rattle.std.proofs.Common.{◌≡◌, Some, sym, ap, ◌∙◌, arith}
+use Rattle.std.proofs.Common.{◌≡◌, sym, ap, ◌∙◌, arith}
 use Rattle.std.specs.Prelude.{slice_get}
-use Rattle.import_sets.specs.Firsts.{place_of}
 use Rattle.workspace_state.proofs.UsedLaws.{entry_placed, entry_none}
 use Rattle.workspace_state.proofs.names.Found.entry.Goals as goal
 

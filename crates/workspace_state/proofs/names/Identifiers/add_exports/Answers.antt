@@ -1,8 +1,11 @@
-use Rattle.std.proofs.Common.{List, ◌+◌, take, arith}
+use Rattle.std.proofs.Common.{List, ◌+◌, take, arith, subst}
+use Rattle.std.proofs.lemmas.List.{take_all}
 use Rattle.scheme_model.specs.Live.{all_export_uses, export_uses}
+use Rattle.scheme_model.specs.Program.{ExportSpec}
+use Rattle.workspace_state.specs.NamesUsed.{AddsNames}
 use Rattle.workspace_state.proofs.GivenLaws.{item_at}
 use Rattle.workspace_state.proofs.MeaningLaws.{names_itself, names_on}
-use Rattle.workspace_state.proofs.UsedLaws.{adds_as, adds_none, adds_then, export_at, exports_more, finds_kept}
+use Rattle.workspace_state.proofs.UsedLaws.{adds_as, adds_none, adds_then, as_many_exports, export_at, exports_more, finds_kept}
 use Rattle.workspace_state.proofs.names.Identifiers.add_exports.Goals as goal
 
 pub loop-spec-init : goal.loop-spec-init
@@ -23,3 +26,9 @@ loop-spec-preserved c =
           (adds_then mid new c.in_ok-add_export.ensures.names c.args.self.now c.loop-spec.self c.add_export.new.self (all_export_uses find (take i xs)) (export_uses find x.spec) (c.loop-spec.invariant.adds find finds xs are)
           (c.in_ok-add_export.ensures.adds find (finds_kept old mid c.loop-spec.invariant.names c.args.found.entries.now find finds) x.spec x.is));
     }
+
+pub returns-clause-adds : goal.returns-clause-adds
+returns-clause-adds c = λ find finds xs are.
+    let i = c.loop-spec.spec-index in
+    let n = as_many_exports c.args.specs.now xs are in
+    subst (λ (l : List ExportSpec). AddsNames c.loop-spec.symbols c.args.self.now c.loop-spec.self (all_export_uses find l)) (take_all i xs (omega arith)) (c.loop-spec.invariant.adds find finds xs are)

@@ -1,6 +1,5 @@
-use Rattle.std.proofs.Common.{Bool, Option, List, true, false, ap, sym, subst}
+use Rattle.std.proofs.Common.{Bool, Option, false, sym, subst}
 use Rattle.scheme_model.specs.Entries.{Entry}
-use Rattle.scheme_model.specs.Live.{NameUse}
 use Rattle.workspace_state.specs.NamesUsed.{AddsNames, external_adds}
 use Rattle.workspace_state.proofs.UsedLaws.{adds_none, found_adds, missing_adds}
 use Rattle.workspace_state.proofs.names.Identifiers.add_external.Goals as goal

@@ -1,13 +1,10 @@
-use Rattle.std.proofs.Common.{◌≡◌, ◌++◌, ℕ, List, [], Option, drop, take}
+use Rattle.std.proofs.Common.{ℕ, List, Option, drop}
 use Rattle.std.specs.BTreeSet.{contains_text}
 use Rattle.scheme_model.specs.Entries.{Entry}
-use Rattle.scheme_model.specs.Live.{NameUse}
-use Rattle.scheme_model.specs.Program.{ExportSpec, has_name}
+use Rattle.scheme_model.specs.Program.{ExportSpec}
 use Rattle.syntax_tree.specs.Names.{KeepsNames}
-use Rattle.core_tree.specs.Units.{given_exports}
 use Rattle.library_table.specs.Sources.{AreExports}
 use Rattle.workspace_state.specs.Defined.{FindsNames}
-use Rattle.workspace_state.specs.NamesUsed.{AddsNames, external_uses}
 use Rattle.workspace_state.proofs.UsedLaws.{ExternalsSoFar}
 use Rattle.workspace_state.proofs.names.Identifiers.add_externals.Given as goal
 

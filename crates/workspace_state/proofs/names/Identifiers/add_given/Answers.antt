@@ -1,8 +1,4 @@
 use Rattle.std.proofs.Common.{true, false, sym, ◌∙◌}
-use Rattle.scheme_model.specs.Live.{entry_use}
-use Rattle.scheme_model.specs.Entries.{Entry}
-use Rattle.import_sets.specs.Sets.{named}
-use Rattle.workspace_state.specs.NamesUsed.{external_use, own_use}
 use Rattle.workspace_state.proofs.UsedLaws.{adds_as, external_is}
 use Rattle.workspace_state.proofs.names.Identifiers.add_given.Goals as goal
 

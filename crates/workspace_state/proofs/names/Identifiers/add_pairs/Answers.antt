@@ -1,4 +1,4 @@
-use Rattle.std.proofs.Common.{List, ◌+◌, ◌++◌, map, take, arith}
+use Rattle.std.proofs.Common.{◌+◌, ◌++◌, map, take, arith}
 use Rattle.scheme_model.specs.Entries.{entry_at}
 use Rattle.scheme_model.specs.Live.{entry_use, second_use, pair_uses}
 use Rattle.import_sets.specs.Sets.{named, paired}

@@ -1,10 +1,13 @@
-use Rattle.std.proofs.Common.{List, ◌+◌, take, arith}
+use Rattle.std.proofs.Common.{List, ◌+◌, take, arith, subst}
+use Rattle.std.proofs.lemmas.List.{take_all}
 use Rattle.scheme_model.specs.Entries.{library_in}
 use Rattle.scheme_model.specs.ProgramArrows.{import_uses, uses_in_set}
+use Rattle.scheme_model.specs.Program.{ImportSpec}
+use Rattle.workspace_state.specs.NamesUsed.{AddsNames}
 use Rattle.workspace_state.specs.SetsGiven.{IsSpec}
 use Rattle.workspace_state.proofs.ImportLaws.{exports_kept}
 use Rattle.workspace_state.proofs.GivenLaws.{item_at, libraries_kept}
-use Rattle.workspace_state.proofs.Matched.{matched_at}
+use Rattle.workspace_state.proofs.Matched.{as_many, matched_at}
 use Rattle.workspace_state.proofs.MeaningLaws.{names_itself, names_on}
 use Rattle.workspace_state.proofs.UsedLaws.{adds_as, adds_none, adds_then, imports_more}
 use Rattle.workspace_state.proofs.names.Identifiers.add_sets.Goals as goal
@@ -29,3 +32,9 @@ loop-spec-preserved c =
           (adds_then mid new c.in_ok-add_import.ensures.names c.args.self.now c.loop-spec.self c.add_import.new.self (import_uses all rs (take i ss)) (uses_in_set all rs m.0.set (library_in m.0.set)) (c.loop-spec.invariant.adds spelled all rs libs ss specs)
           (c.in_ok-add_import.ensures.adds spelled all rs (libraries_kept old mid c.loop-spec.invariant.names c.args.libraries spelled all rs libs) m.0.set m.2.set));
     }
+
+pub returns-clause-adds : goal.returns-clause-adds
+returns-clause-adds c = λ spelled all rs libs ss specs.
+    let i = c.loop-spec.spec-index in
+    let n = as_many (IsSpec spelled) c.args.specs.now ss specs in
+    subst (λ (l : List ImportSpec). AddsNames c.loop-spec.symbols c.args.self.now c.loop-spec.self (import_uses all rs l)) (take_all i ss (omega arith)) (c.loop-spec.invariant.adds spelled all rs libs ss specs)

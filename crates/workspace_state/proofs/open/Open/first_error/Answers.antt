@@ -13,8 +13,14 @@ place-requires c =
     let many = as_many (entries c.self.inside.store) c.self.inside.documents.items c.self.invariant.documents in
     let seen = ap (λ (t : Texts). length (entries t)) c.self.view_is in
     let errors : AreErrorsIn (length c.self.inside.documents.items) c.as_slice.result.now = subst (λ (es : List (Option (At × ℕ))). AreErrorsIn (length c.self.inside.documents.items) es) (sym c.as_slice.ensures.value) c.self.invariant.errors in
-    let below : c.in-Some.at.document < length c.self.inside.documents.items = c.in-Some.ensures (length c.self.inside.documents.items) errors in
+    let below : c.in-Some.at.document < length c.self.inside.documents.items = c.in-Some.ensures.inside (length c.self.inside.documents.items) errors in
     omega arith
 
-pub returns : goal.returns
-returns c = (bytes_at c.in-Some.at, c.in_ok-place.ensures)
+pub returns-clause-inside : goal.returns-clause-inside
+returns-clause-inside c = (bytes_at c.in-Some.at, c.in_ok-place.ensures)
+
+pub returns-clause-exact : goal.returns-clause-exact
+returns-clause-exact c = λ rs are. ?
+
+pub returns-in_default-clause-exact : goal.returns-in_default-clause-exact
+returns-in_default-clause-exact c = λ rs are. ?
