@@ -1,8 +1,8 @@
 -- The parts of what was read stand one behind the other, and of two neighbours one at most is implied by a mark.
-use Rattle.std.proofs.Common.{◌≡◌, ℕ, suc, ◌+◌, ◌≤◌, List, [], ◌∷◌, refl, sym, ap, subst, arith, inl, inr}
+use Rattle.std.proofs.Common.{◌≡◌, ℕ, suc, ◌≤◌, List, [], ◌∷◌, sym, ap, subst, arith, inl, inr}
 use Rattle.scheme_model.specs.Kinds.{Token}
 use Rattle.scheme_model.specs.Kinds as kinds
-use Rattle.scheme_model.specs.Data.{Atom, spelled, implied, Datum, atom, list, vector, bytes, Data, none, part, tail, row, tail_of, place_of}
+use Rattle.scheme_model.specs.Data.{spelled, implied, Datum, atom, list, vector, bytes, Data, none, part, tail, row, tail_of, place_of}
 use Rattle.scheme_model.specs.Numbered.{Numbered, number_from}
 use Rattle.scheme_model.specs.Written.{Written, alone, listed, tailed, vectored, byted, abbreviated, Gap, nothing, skipped, Parts, last, next, Bytes, last_byte, byte, token, written_tokens, gap_tokens, parts_tokens, bytes_tokens, meant, parts_meant}
 use Rattle.datum_reader.specs.WellFormed.{IsIn, IsAmong, WasRead}
