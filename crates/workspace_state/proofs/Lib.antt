@@ -80,3 +80,9 @@ pub mod Collecting  -- Units that are put together, one more
 pub mod UnitsTurns  -- Units in turn
 pub mod CollectLaws  -- Units that are put together by what they came to are those of the definition's program
 pub mod ReadUnits  -- Units that were judged, as they are handed on to be expanded
+pub mod NewsLaws
+pub mod NewsTold
+pub mod NoTexts
+pub mod OthersLaws
+pub mod PublishedMaps
+pub mod TextLists

@@ -33,3 +33,5 @@ pub mod Updates  -- The lists of documents, and which of them are published afte
 pub mod Diagnosed  -- What the code finds in forms, beside the definition's diagnostics and Errors
 pub mod Came  -- What units come to by the definition of a program, and what the bench stands for between two of them (R7RS 5.1, 5.6)
 pub mod Collected  -- The units of a program as they are put together, each by its head and what it came to
+pub mod State
+pub mod ProgramOfTexts
