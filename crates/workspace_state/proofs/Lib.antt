@@ -91,3 +91,9 @@ pub mod DocumentsData  -- The data of the documents are those that their texts a
 pub mod KnownSteps  -- The names of libraries, one datum and one document more at a time, and the name that the front of a library has
 pub mod ListedUnits  -- Units as they are listed
 pub mod ListedDocuments  -- The units of documents, one datum and one document more at a time
+pub mod OthersLaws  -- Documents other than the one of an event stay, and so do their lists
+pub mod PublishedMaps  -- What is published, as a map by uri
+pub mod TextLists  -- Texts have one row of lists, and aren't without
+pub mod NewsLaws  -- What is news of texts is told in one way, and isn't without lists
+pub mod NewsTold  -- Lists as the code keeps them, by uri
+pub mod NoTexts  -- A workspace without documents

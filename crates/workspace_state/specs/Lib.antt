@@ -36,3 +36,5 @@ pub mod UnitsFound  -- What is found wrong in units, as the definition's diagnos
 pub mod Belongs  -- What belongs to the open documents
 pub mod KnownNames  -- The libraries that there are, by the texts of their names (R7RS 4.2.1, 5.6.1)
 pub mod UnitsListed  -- The units of the documents as they are listed (R7RS 5.1, 5.6)
+pub mod ProgramOfTexts  -- The program of the open documents, as the code has it (R7RS 5)
+pub mod State  -- A workspace as contracts see it
