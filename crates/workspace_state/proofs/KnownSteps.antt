@@ -1,9 +1,9 @@
 -- The names of libraries, one datum and one document more at a time, and the name that the front of a library has.
-use Rattle.std.proofs.Common.{◌≡◌, ℕ, ◌+◌, ◌<◌, ◌≤◌, Bool, true, false, cond, List, [], ◌∷◌, ◌++◌, map, take, length, get_or, Option, Some, None, Ok, Err, refl, sym, ap, ◌∙◌, append_assoc, append-nil}
+use Rattle.std.proofs.Common.{◌≡◌, ℕ, ◌+◌, ◌<◌, Bool, true, false, cond, List, [], ◌∷◌, ◌++◌, map, take, length, get_or, Option, Some, None, Ok, Err, refl, sym, ap, ◌∙◌, append_assoc, append-nil}
 use Rattle.std.specs.Option.{option_map, option_to_list}
 use Rattle.std.proofs.lemmas.List.{map_more, map-append, take_more}
 use Rattle.scheme_model.specs.Data.{Place, Datum, atom, list, vector, bytes, Data, none, part, tail, row}
-use Rattle.scheme_model.specs.Declarations.{is_library, library_of, library_names, symbol_tree, name_or, no_name, Flat}
+use Rattle.scheme_model.specs.Declarations.{is_library, library_of, library_names, symbol_tree, name_or, no_name}
 use Rattle.scheme_model.specs.Program as program
 use Rattle.scheme_model.specs.Requirements.{LibraryName, Known, library_name_of}
 use Rattle.scheme_tokens.specs.LibraryNames.{library_text}
@@ -11,7 +11,7 @@ use Rattle.datum_reader.specs.declared.datum.Datum as code
 use Rattle.datum_reader.specs.Looks.{end_with}
 use Rattle.datum_reader.specs.Views.{datum_of, data_of}
 use Rattle.workspace_state.specs.DataRead.{HaveData}
-use Rattle.workspace_state.specs.KnownNames.{name_in, parts_in, HasParts, IsFront, listed_texts}
+use Rattle.workspace_state.specs.KnownNames.{name_in, parts_in, IsFront}
 use Rattle.workspace_state.specs.declared.documents.Document.{Document}
 
 -- ---- the names among data

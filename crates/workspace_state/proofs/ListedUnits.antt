@@ -1,5 +1,5 @@
 -- Units as they are listed: what is read of each, one more at a time, and all of them.
-use Rattle.std.proofs.Common.{◌≡◌, ℕ, zero, suc, ◌+◌, ◌<◌, ◌≤◌, ◌⊎◌, inl, inr, Bool, true, false, cond, List, [], ◌∷◌, ◌++◌, map, take, filter, length, slice_get, Option, Some, None, Result, Ok, Err, refl, sym, ap, ◌∙◌, subst, append_assoc, append-nil, arith}
+use Rattle.std.proofs.Common.{◌≡◌, ℕ, zero, suc, ◌+◌, ◌<◌, ◌⊎◌, inl, inr, Bool, true, false, cond, List, [], ◌∷◌, ◌++◌, map, take, length, slice_get, Option, Some, None, Ok, Err, refl, sym, ap, ◌∙◌, subst, append_assoc, append-nil, arith}
 use Rattle.std.specs.Prelude.{nat_lt, nat_le}
 use Rattle.std.specs.Option.{option_map}
 use Rattle.std.proofs.lemmas.Bool.Decides.{nat_tests}
@@ -26,11 +26,11 @@ use Rattle.library_table.specs.declared.units.ImportSpec as code_import
 use Rattle.library_table.specs.declared.units.UnitForm as code_form
 use Rattle.library_table.specs.declared.units.UnitSource.{UnitSource}
 use Rattle.library_table.proofs.SpelledSources.{imports_spelled, source_spelled}
-use Rattle.workspace_state.specs.Broken.{told, fault_alone, IsListed}
+use Rattle.workspace_state.specs.Broken.{told}
 use Rattle.workspace_state.specs.Came.{IsSourceOf}
 use Rattle.workspace_state.specs.NamesUsed.{HaveOneIfSame}
 use Rattle.workspace_state.specs.SetsGiven.{IsSpec}
-use Rattle.workspace_state.specs.UnitsListed.{WritesProper, IsReadAt, IsReadFor, IsBlankLibrary, IsToldBy, IsOne, AreSoFar, placed_in, AddsUnits, AddsRead, AreUnitsListed}
+use Rattle.workspace_state.specs.UnitsListed.{WritesProper, IsReadAt, IsReadFor, IsBlankLibrary, IsOne, AreSoFar, placed_in, AddsRead, AreUnitsListed}
 use Rattle.workspace_state.specs.WereRead.{FormsRead}
 use Rattle.workspace_state.specs.declared.breaking.WholeFault.{WholeFault}
 use Rattle.workspace_state.specs.declared.breaking.WholeFault.TheVariants as fault

@@ -1,5 +1,5 @@
 -- One unit more.
-use Rattle.std.proofs.Common.{◌≡◌, ◌<◌, ◌+◌, ℕ, length, refl, sym, ap, ◌∙◌, arith}
+use Rattle.std.proofs.Common.{◌≡◌, ◌<◌, ◌+◌, ℕ, length, refl, ap, ◌∙◌, arith}
 use Rattle.workspace_state.proofs.SoundLaws.{sound_more}
 use Rattle.workspace_state.proofs.ListedUnits.{fault_with, unit_added}
 use Rattle.workspace_state.proofs.listing.add.Goals as goal

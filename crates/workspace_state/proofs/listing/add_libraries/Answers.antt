@@ -1,5 +1,5 @@
 -- Each library among the data was read, and is added.
-use Rattle.std.proofs.Common.{List, [], ◌∷◌, take, length, refl, ap, subst, arith}
+use Rattle.std.proofs.Common.{List, [], ◌∷◌, take, length, refl, subst}
 use Rattle.std.proofs.lemmas.List.{take_all}
 use Rattle.std.proofs.lemmas.Option.{slice_get_read}
 use Rattle.scheme_model.specs.Declarations as source

@@ -1,10 +1,10 @@
 -- The forms of a library were read with it, and one that is bad has none.
-use Rattle.std.proofs.Common.{◌≡◌, ℕ, true, List, [], ◌∷◌, length, Option, Some, None, Err, refl, sym, ap, ◌∙◌, subst, arith}
+use Rattle.std.proofs.Common.{◌≡◌, ℕ, true, List, length, Some, None, Err, refl, sym, ap, ◌∙◌, subst, arith}
 use Rattle.std.specs.Option.{option_map}
 use Rattle.std.specs.BTreeSet.{contains_text}
 use Rattle.scheme_model.specs.Declarations as source
 use Rattle.scheme_model.specs.Declarations.{is_library, library_of}
-use Rattle.scheme_model.specs.Requirements.{Known, LibraryName}
+use Rattle.scheme_model.specs.Requirements.{Known}
 use Rattle.scheme_tokens.specs.LibraryNames.{library_text}
 use Rattle.library_table.specs.LibrariesRead.{IsLibraryRead}
 use Rattle.library_table.specs.UnitsRead.{forms_of}

@@ -1,5 +1,5 @@
 -- The forms of a program were read with the data.
-use Rattle.std.proofs.Common.{◌≡◌, ℕ, List, [], Option, Some, None, filter, length, arith, sym, ap, ◌∙◌, subst}
+use Rattle.std.proofs.Common.{◌≡◌, ℕ, List, Option, Some, None, filter, length, arith, sym, ap, subst}
 use Rattle.scheme_model.specs.Declarations as source
 use Rattle.scheme_model.specs.Declarations.{program_in}
 use Rattle.datum_reader.specs.Views.{data_of}
