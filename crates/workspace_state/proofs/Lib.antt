@@ -89,6 +89,8 @@ pub mod ToldUnits  -- Units of a program one by one
 pub mod TokensAlike  -- The tokens of documents are those of each reading of their texts
 pub mod DocumentsData  -- The data of the documents are those that their texts are read as
 pub mod KnownSteps  -- The names of libraries, one datum and one document more at a time, and the name that the front of a library has
+pub mod TokenPlaces
+pub mod UnitStarts
 pub mod ListedUnits  -- Units as they are listed
 pub mod ListedDocuments  -- The units of documents, one datum and one document more at a time
 pub mod OthersLaws  -- Documents other than the one of an event stay, and so do their lists
