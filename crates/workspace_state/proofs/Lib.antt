@@ -42,12 +42,9 @@ pub mod ImportLaws  -- What import sets of the code give stands for some entries
 pub mod DefinedLaws  -- What forms define, one form more
 pub mod UnitLaws  -- A unit that is begun on a bench, and what its forms tell once they are expanded
 pub mod ToldLaws  -- What is found, and the diagnostics that it is
-pub mod GivenLaws  -- What import sets of the code come to is what the definition's sets come to
 pub mod NameLaws  -- What can be exported of a unit is what the definition finds by name
 pub mod BaseLaws  -- What `(scheme base)` gives
-pub mod ExportLaws  -- Exports of the code stand for some, and what is wrong in them is the definition's
 pub mod KnownLaws  -- Which libraries there are, by the texts of their names that are listed
-pub mod UsedLaws  -- Identifiers of imports and exports that are added one after another
 pub mod OneIfSame  -- An export that isn't renamed has one identifier
 pub mod RisingParts  -- The parts of what was read stand one behind the other, and of two neighbours one at most is implied by a mark
 pub mod RenamedLaws  -- An export stands under another name where its two identifiers stand at two places, as they were read from two tokens
@@ -87,3 +84,8 @@ pub mod NoImport  -- A program without an import, told by what was read and by t
 pub mod FoundNext  -- The unit whose turn it is, broken or expanded
 pub mod ToldUnits  -- Units of a program one by one
 pub mod TokensAlike  -- The tokens of documents are those of each reading of their texts
+pub mod SetErrors  -- The Errors of import sets, each with the form that its set stands in
+pub mod GivenLaws  -- What import sets of the code come to is what the definition's sets come to
+pub mod ExportLaws  -- Exports of the code stand for some, and what is wrong in them is the definition's
+pub mod UsedLaws  -- Identifiers of imports and exports that are added one after another
+pub mod ToldProgram  -- The units of the whole program, by what came of them, what is found in them and what breaks them
