@@ -5,16 +5,11 @@ use Rattle.std.specs.declared.alloc.Global.{Global}
 use Rattle.std.specs.BTreeSet.{BTreeSet, contains_text}
 use Rattle.scheme_model.specs.Program.{Document, all_names, known_in, has_name}
 use Rattle.scheme_model.specs.Requirements.{LibraryName}
-use Rattle.scheme_model.specs.StandardLibraries.{StandardLibrary, standard_libraries}
 use Rattle.scheme_tokens.specs.LibraryNames.{library_text, IsProper}
 use Rattle.library_table.proofs.KnownTexts.{known_told}
-use Rattle.base_library.specs.Texts.{name_text}
 use Rattle.base_library.proofs.StandardTexts.{same_texts}
 use Rattle.expander.specs.Judged.{Knows}
-
--- the names that a workspace lists
-abbrev pub listed_texts : List Document → List (List ℕ)
-listed_texts ds = map (λ (l : StandardLibrary). name_text l.name) standard_libraries ++ map library_text (all_names ds)
+use Rattle.workspace_state.specs.KnownNames.{listed_texts}
 
 pub known_listed : (ds : List Document) (names : List (List ℕ)) → names ≡ listed_texts ds → (n : LibraryName) → IsProper n → known_in ds n ≡ has_name names (library_text n)
 known_listed ds names e n h =

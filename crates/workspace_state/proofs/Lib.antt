@@ -35,7 +35,7 @@ pub mod LeavesLaws  -- Events that are refused and leave the texts
 pub mod TextLaws  -- The texts of the documents that are read, and places in them
 pub mod SoundLaws  -- Units stay sound as they are listed
 pub mod SoundKept  -- Units stay sound while their heads and their sources stay
-pub mod ReadForms  -- The forms of libraries and programs were read, where the data that these are were
+pub mod ReadForms  -- The forms of libraries and programs were read, where the data that these are were, also those that are declarations
 pub mod StandInLaws  -- The identifiers of forms are among the names
 pub mod UnboundLaws  -- The unbound uses that the code finds are those of the definition
 pub mod ImportLaws  -- What import sets of the code give stands for some entries
@@ -89,3 +89,7 @@ pub mod GivenLaws  -- What import sets of the code come to is what the definitio
 pub mod ExportLaws  -- Exports of the code stand for some, and what is wrong in them is the definition's
 pub mod UsedLaws  -- Identifiers of imports and exports that are added one after another
 pub mod ToldProgram  -- The units of the whole program, by what came of them, what is found in them and what breaks them
+pub mod DocumentsData  -- The data of the documents are those that their texts are read as
+pub mod KnownSteps  -- The names of libraries, one datum and one document more at a time, and the name that the front of a library has
+pub mod ListedUnits  -- Units as they are listed
+pub mod ListedDocuments  -- The units of documents, one datum and one document more at a time

@@ -1,4 +1,4 @@
--- The forms of libraries and programs were read, where the data that these are were.
+-- The forms of libraries and programs were read, where the data that these are were, also those that are declarations.
 use Rattle.std.proofs.Common.{◌≡◌, ℕ, zero, suc, List, [], ◌∷◌, ◌++◌, map, Bool, true, false, ◌&&◌, Option, Some, None, Result, Ok, Err, refl, ap, ◌∙◌, subst, inl, inr, cond, filter, codes}
 use Rattle.scheme_model.specs.Trees.{Tree}
 use Rattle.scheme_model.specs.Requirements.{LibraryName, Known, library_name_of, clause_holds}
@@ -9,7 +9,7 @@ use Rattle.datum_reader.specs.Views.{data_of}
 use Rattle.datum_reader.specs.WellFormed.{IsIn, IsAmong, WasRead}
 use Rattle.datum_reader.proofs.ReadParts.{part_was_read}
 use Rattle.workspace_state.specs.DataRead.{DataWereRead}
-use Rattle.workspace_state.specs.WereRead.{WereRead}
+use Rattle.workspace_state.specs.WereRead.{WereRead, FormsRead}
 
 abbrev AllIn : Data → Type 0
 AllIn ds = (e : Datum) → IsAmong e ds → WasRead e
@@ -18,8 +18,12 @@ abbrev pub AllRead : List Datum → Type 0
 AllRead [] = Unit {0}
 AllRead (d ∷ ds) = WasRead d × AllRead ds
 
+pub were_read : (fs : List UnitForm) → FormsRead fs → WereRead fs
+were_read [] h = tt
+were_read (f ∷ fs) h = (λ _. h.0, were_read fs h.1)
+
 abbrev pub FlatRead : Flat → Type 0
-FlatRead (Ok fs) = WereRead fs
+FlatRead (Ok fs) = FormsRead fs
 FlatRead (Err d) = Unit {0}
 
 abbrev LaterRead : Result Flat Datum → Type 0
@@ -38,7 +42,7 @@ abbrev ClauseRead : Result Clause Datum → Type 0
 ClauseRead (Ok c) = FlatRead c.forms
 ClauseRead (Err d) = Unit {0}
 
-append_read : (fs gs : List UnitForm) → WereRead fs → WereRead gs → WereRead (fs ++ gs)
+append_read : (fs gs : List UnitForm) → FormsRead fs → FormsRead gs → FormsRead (fs ++ gs)
 append_read [] gs h k = k
 append_read (f ∷ fs) gs h k = (h.0, append_read fs gs h.1 k)
 
@@ -47,9 +51,9 @@ both_read (Ok fs) (Ok gs) h k = append_read fs gs h k
 both_read (Ok fs) (Err e) h k = tt
 both_read (Err e) b h k = tt
 
-plain_read : (ds : List Datum) → AllRead ds → WereRead (map plain_form ds)
+plain_read : (ds : List Datum) → AllRead ds → FormsRead (map plain_form ds)
 plain_read [] h = tt
-plain_read (d ∷ ds) h = (λ _. h.0, plain_read ds h.1)
+plain_read (d ∷ ds) h = (h.0, plain_read ds h.1)
 
 in_self : (d : Datum) → IsIn d d
 in_self (atom p k) = refl
@@ -94,28 +98,25 @@ chooses_read known d (Ok (c ∷ cs)) h = flat (chosen_clause known d (c ∷ cs))
     flat (Ok f) k = k
     flat (Err e) k = tt
 
-true_is : {A : Type 0} → true ≡ false → A
-true_is e = cc
+exports_read : (d : Datum) (o : Option (List Datum)) → WasRead d → FlatRead (parts_or d o >>= λ ds. cond (all_export_parts ds) (Ok (record { datum = d; declared = true } ∷ [])) (Err d))
+exports_read d None w = tt
+exports_read d (Some ps) w = elim (all_export_parts ps) as (λ b. FlatRead (cond b (Ok (record { datum = d; declared = true } ∷ [])) (Err d))) [ true ↦ (w, tt) | false ↦ tt ]
 
-exports_read : (d : Datum) (o : Option (List Datum)) → FlatRead (parts_or d o >>= λ ds. cond (all_export_parts ds) (Ok (record { datum = d; declared = true } ∷ [])) (Err d))
-exports_read d None = tt
-exports_read d (Some ps) = elim (all_export_parts ps) as (λ b. FlatRead (cond b (Ok (record { datum = d; declared = true } ∷ [])) (Err d))) [ true ↦ (λ e. true_is e, tt) | false ↦ tt ]
-
-one_read : (d : Datum) (o : Option (List Datum)) → FlatRead (parts_or d o >>= λ ds. Ok (record { datum = d; declared = true } ∷ []))
-one_read d None = tt
-one_read d (Some ps) = (λ e. true_is e, tt)
+one_read : (d : Datum) (o : Option (List Datum)) → WasRead d → FlatRead (parts_or d o >>= λ ds. Ok (record { datum = d; declared = true } ∷ []))
+one_read d None w = tt
+one_read d (Some ps) w = (w, tt)
 
 begin_read : (d : Datum) (o : Option (List Datum)) → ((ps : List Datum) → o ≡ Some ps → AllRead ps) → FlatRead (parts_or d o >>= λ ds. Ok (map plain_form ds))
 begin_read d None h = tt
 begin_read d (Some ps) h = plain_read ps (h ps refl)
 
-declared_read : (known : Known) (k : Declared) (d : Datum) (o : Option (List Datum)) (cs : Result (List Clause) Datum) → ((ps : List Datum) → o ≡ Some ps → AllRead ps) → ClausesRead cs → FlatRead (declared_as known k d o cs)
-declared_read known Exports d o cs h k = exports_read d o
-declared_read known Imports d o cs h k = one_read d o
-declared_read known Begins d o cs h k = begin_read d o h
-declared_read known Chooses d o cs h k = chooses_read known d cs k
-declared_read known Includes d o cs h k = one_read d o
-declared_read known Undeclared d o cs h k = tt
+declared_read : (known : Known) (k : Declared) (d : Datum) (o : Option (List Datum)) (cs : Result (List Clause) Datum) → WasRead d → ((ps : List Datum) → o ≡ Some ps → AllRead ps) → ClausesRead cs → FlatRead (declared_as known k d o cs)
+declared_read known Exports d o cs w h k = exports_read d o w
+declared_read known Imports d o cs w h k = one_read d o w
+declared_read known Begins d o cs w h k = begin_read d o h
+declared_read known Chooses d o cs w h k = chooses_read known d cs k
+declared_read known Includes d o cs w h k = one_read d o w
+declared_read known Undeclared d o cs w h k = tt
 
 -- what stands in a list stands among its parts
 among : (p : Place) (d : Datum) (ds : Data) → ((e : Datum) → IsIn e (list p (part d ds)) → WasRead e) → AllIn ds
@@ -139,7 +140,7 @@ mutual
   declaration_read known (list p (tail d)) h = tt
   declaration_read known (list p (part d ds)) h =
       let all : AllIn ds = among p d ds h in
-      declared_read known (declared_by (symbol_in d)) (list p (part d ds)) (proper_parts ds) (clauses known (list p (part d ds)) ds) (parts_read ds all) (clauses_read known (list p (part d ds)) ds all)
+      declared_read known (declared_by (symbol_in d)) (list p (part d ds)) (proper_parts ds) (clauses known (list p (part d ds)) ds) (h (list p (part d ds)) (inl refl)) (parts_read ds all) (clauses_read known (list p (part d ds)) ds all)
 
   declarations_read : (known : Known) (whole : Datum) (ds : Data) → AllIn ds → FlatRead (declarations known whole ds)
   declarations_read known whole none h = tt
@@ -179,16 +180,19 @@ head_read (list p (tail d)) h = λ e i. absurd i
 head_read (list p (part d ds)) h = λ e i. h e (inr (inr i))
 
 -- the forms of a library
-pub library_read : (known : Known) (d : Datum) (fs : List UnitForm) → WasRead d → (library_of known d).forms ≡ Ok fs → WereRead fs
-library_read known d fs w is =
+pub library_forms : (known : Known) (d : Datum) (fs : List UnitForm) → WasRead d → (library_of known d).forms ≡ Ok fs → FormsRead fs
+library_forms known d fs w is =
     let all : FlatRead (library_of known d).forms = with_read known d (behind_head d) (head_read d (λ e i. part_was_read e d i w)) in
     subst FlatRead is all
 
-program_read : (ds : List Datum) → AllRead ds → WereRead (program_forms ds)
+pub library_read : (known : Known) (d : Datum) (fs : List UnitForm) → WasRead d → (library_of known d).forms ≡ Ok fs → WereRead fs
+library_read known d fs w is = were_read fs (library_forms known d fs w is)
+
+program_read : (ds : List Datum) → AllRead ds → FormsRead (program_forms ds)
 program_read [] h = tt
 program_read (d ∷ ds) h =
-    elim (is_headed (codes "import") d && is_proper d) as (λ b. WereRead (cond b (record { datum = d; declared = true } ∷ program_forms ds) (map plain_form (d ∷ ds)))) [
-      | true ↦ (λ e. true_is e, program_read ds h.1)
+    elim (is_headed (codes "import") d && is_proper d) as (λ b. FormsRead (cond b (record { datum = d; declared = true } ∷ program_forms ds) (map plain_form (d ∷ ds)))) [
+      | true ↦ (h.0, program_read ds h.1)
       | false ↦ plain_read (d ∷ ds) h
     ]
 
@@ -205,16 +209,20 @@ forms_or [] = Ok []
 forms_or (u ∷ us) = u.forms
 
 -- the forms of the program among data
-pub program_was_read : (p : Datum → Bool) (ds : List code.Datum) (d : Datum) (rest : List Datum) (u : UnitSource) (fs : List UnitForm) → DataWereRead ds →
-    filter p (data_of ds) ≡ d ∷ rest → program_in (filter p (data_of ds)) ≡ u ∷ [] → u.forms ≡ Ok fs → WereRead fs
-program_was_read p ds d rest u fs h first one is =
+pub program_forms_read : (p : Datum → Bool) (ds : List code.Datum) (d : Datum) (rest : List Datum) (u : UnitSource) (fs : List UnitForm) → DataWereRead ds →
+    filter p (data_of ds) ≡ d ∷ rest → program_in (filter p (data_of ds)) ≡ u ∷ [] → u.forms ≡ Ok fs → FormsRead fs
+program_forms_read p ds d rest u fs h first one is =
     let read : AllRead (filter p (data_of ds)) = filter_read p (data_of ds) (all_read ds h) in
     by_front (filter p (data_of ds)) read one
   where
-    by_front : (es : List Datum) → AllRead es → program_in es ≡ u ∷ [] → WereRead fs
+    by_front : (es : List Datum) → AllRead es → program_in es ≡ u ∷ [] → FormsRead fs
     by_front [] k same = cc
     by_front (e ∷ es) k same =
         let forms : ◌≡◌ {A = Flat} (Ok (program_forms (e ∷ es))) u.forms = ap (λ (us : List UnitSource). forms_or us) same in
-        let all : WereRead (program_forms (e ∷ es)) = program_read (e ∷ es) k in
+        let all : FormsRead (program_forms (e ∷ es)) = program_read (e ∷ es) k in
         let eq : program_forms (e ∷ es) ≡ fs = let both : ◌≡◌ {A = Flat} (Ok (program_forms (e ∷ es))) (Ok fs) = forms ∙ is in cc in
-        subst WereRead eq all
+        subst FormsRead eq all
+
+pub program_was_read : (p : Datum → Bool) (ds : List code.Datum) (d : Datum) (rest : List Datum) (u : UnitSource) (fs : List UnitForm) → DataWereRead ds →
+    filter p (data_of ds) ≡ d ∷ rest → program_in (filter p (data_of ds)) ≡ u ∷ [] → u.forms ≡ Ok fs → WereRead fs
+program_was_read p ds d rest u fs h first one is = were_read fs (program_forms_read p ds d rest u fs h first one is)

@@ -180,7 +180,7 @@ mutual
       let b = written_rises w a.next _ a.from in
       let c = parts_rise ps b.past.next rest b.past.from in
       record {
-        past = past_more k b.past.next rest (omega (arith, a.later, b.past.later)) c.past;
+        past = record { next = c.past.next; later = omega (arith, a.later, b.past.later, c.past.later); from = c.past.from };
         all = λ end e. (
           omega (arith, b.first, a.later),
           (b.inner, (follows_any (meant w) (row (parts_meant ps) end) (meant_not w), lower (suc (place_of (meant w)).first) b.past.next (row (parts_meant ps) end) (omega (arith, b.first, b.past.later)) (c.all end e))),

@@ -45,6 +45,10 @@ pub record IsSourceOf (spelled : LibraryName → List ℕ) (p : Prepared) (broke
 abbrev pub AreSourcesOf : (LibraryName → List ℕ) → List Placed → List UnitSource → Type 0
 AreSourcesOf spelled all cs = (n : ℕ) (u : Placed) (c : UnitSource) → slice_get all n ≡ Some u → slice_get cs n ≡ Some c → IsSourceOf spelled (prepared all n u) (fault_before all (prepare all 0 all) (prepared all n u)) c
 
+-- each source is that of its unit, as it was read
+abbrev pub AreReadOf : (LibraryName → List ℕ) → List Placed → List UnitSource → Type 0
+AreReadOf spelled all cs = (n : ℕ) (u : Placed) (c : UnitSource) → slice_get all n ≡ Some u → slice_get cs n ≡ Some c → IsSourceOf spelled (prepared all n u) None c
+
 -- names lead to the first units that have them
 pub record FindsLibraries (spelled : LibraryName → List ℕ) (all : List Placed) (firsts : BTreeMap (String Global) ℕ) : Type 0 where
   pub spells : SpellsStandard spelled

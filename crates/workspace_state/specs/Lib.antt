@@ -34,3 +34,5 @@ pub mod Came  -- What units come to by the definition of a program, and what the
 pub mod Collected  -- The units of a program as they are put together, each by its head and what it came to
 pub mod UnitsFound  -- What is found wrong in units, as the definition's diagnostics and Errors of the program that they come to (R7RS 5.1, 5.6)
 pub mod Belongs  -- What belongs to the open documents
+pub mod KnownNames  -- The libraries that there are, by the texts of their names (R7RS 4.2.1, 5.6.1)
+pub mod UnitsListed  -- The units of the documents as they are listed (R7RS 5.1, 5.6)

@@ -10,7 +10,12 @@ abbrev pub WereRead : List UnitForm → Type 0
 WereRead [] = Unit {0}
 WereRead (f ∷ fs) = (f.declared ≡ false → WasRead f.datum) × WereRead fs
 
--- the same of each unit
+-- all forms were read, also those that are declarations
+abbrev pub FormsRead : List UnitForm → Type 0
+FormsRead [] = Unit {0}
+FormsRead (f ∷ fs) = WasRead f.datum × FormsRead fs
+
+-- the forms that are expanded were read, of each unit
 abbrev pub AreSourcesRead : List UnitSource → Type 0
 AreSourcesRead [] = Unit {0}
 AreSourcesRead (s ∷ ss) = WereRead (forms_of s.forms) × AreSourcesRead ss

@@ -1,11 +1,17 @@
 //! The units of the documents, in their order (R7RS 5.1, 5.6): the libraries of a document, and then its program.
-ghost use Rattle.std.specs.Prelude.{◌≡◌, ◌+◌, ◌<◌, ◌^◌, length, map, vec_len, IfOk, OnOk};
-ghost use Rattle.datum_reader.specs.Views.{datum_of};
+ghost use Rattle.std.specs.Prelude.{◌≡◌, ℕ, ◌+◌, ◌<◌, ◌^◌, [], ◌∷◌, List, filter, not, length, map, nat_le, if◌then◌else◌, Some, vec_len, IfOk, OnOk};
+ghost use Rattle.scheme_model.specs.Declarations.{UnitSource as Source, is_library, libraries_in, program_in};
+ghost use Rattle.scheme_model.specs.Program.{Document as ModelDocument, known_in, max_units, units_of};
+ghost use Rattle.scheme_model.specs.Requirements.{Known, LibraryName};
+ghost use Rattle.datum_reader.specs.Views.{datum_of, data_of};
 ghost use Rattle.datum_reader.specs.WellFormed.{WasRead};
+ghost use Rattle.library_table.specs.PartsRead.{Knows};
 ghost use Rattle.library_table.specs.UnitsRead.{forms_of};
 ghost use Rattle.workspace_state.specs.Sound.{IsSound};
-ghost use Rattle.workspace_state.specs.DataRead.{AreReadIn, DataWereRead};
+ghost use Rattle.workspace_state.specs.DataRead.{AreReadIn, DataWereRead, HaveData};
+ghost use Rattle.workspace_state.specs.UnitsListed.{AddsRead, AreUnitsListed, IsBlankLibrary, IsReadFor, WritesProper};
 ghost use Rattle.workspace_state.specs.WereRead.{WereRead};
+ghost use Rattle.workspace_state.specs.declared.breaking.WholeFault.TheVariants as fault;
 
 use crate::breaking::WholeFault;
 use crate::documents::Document;
@@ -41,7 +47,10 @@ pub struct Units {
 /// The units of all documents.
 pub fn list_units(alloc: Global, documents: &[Document], known: &KnownLibraries) -> Mem<Units>
     requires { AreReadIn documents.now }
-    ensures { IfOk result (IsSound (length documents.now)) }
+    ensures sound { IfOk result (IsSound (length documents.now)) }
+    // The units are those of the documents' data.
+    ensures listed { (ds : List ModelDocument) → HaveData ds documents.now → Knows known.now.names (known_in ds) → (spelled : LibraryName → List ℕ) → WritesProper spelled →
+        IfOk result (AreUnitsListed spelled (units_of ds)) }
 {
     let mut units = Units {
         heads: Vec::new(alloc),
@@ -64,17 +73,16 @@ fn add_libraries(
 ) -> Mem<()>
     requires units { IsSound (document + 1) units.old }
     requires read { DataWereRead items.now }
-    ensures { OnOk result (IsSound (document + 1) units.new) }
+    ensures sound { OnOk result (IsSound (document + 1) units.new) }
+    ensures added { (has : Known) → Knows known.now.names has → OnOk result (AddsRead document (libraries_in has (data_of items.now)) units.old units.new) }
 {
     for datum in items {
-        if is_headed("define-library", datum) {
-            add_library(alloc, units, document, datum, known)?;
-        }
+        add_library(alloc, units, document, datum, known)?;
     }
     Ok(())
 }
 
-/// Adds a library.
+/// Adds the library that a datum is, if it is one.
 fn add_library(
     alloc: Global,
     units: &mut Units,
@@ -84,8 +92,12 @@ fn add_library(
 ) -> Mem<()>
     requires units { IsSound (document + 1) units.old }
     requires read { WasRead (datum_of datum.now) }
-    ensures { OnOk result (IsSound (document + 1) units.new) }
+    ensures sound { OnOk result (IsSound (document + 1) units.new) }
+    ensures added { (has : Known) → Knows known.now.names has → OnOk result (AddsRead document (libraries_in has (datum_of datum.now ∷ [])) units.old units.new) }
 {
+    if !is_headed("define-library", datum) {
+        return Ok(());
+    }
     let name = library_name(alloc, datum)?;
     let number = units.sources.len() as u32;
     match read_unit(alloc, datum, number, known) {
@@ -101,7 +113,7 @@ fn add_library(
 
 /// The source of a library that isn't read.
 fn unread(alloc: Global, datum: &Datum) -> UnitSource
-    ensures { WereRead (forms_of result.forms) }
+    ensures { IsBlankLibrary result }
 {
     UnitSource {
         kind: UnitKind::Library,
@@ -117,7 +129,8 @@ fn unread(alloc: Global, datum: &Datum) -> UnitSource
 fn add_program(alloc: Global, units: &mut Units, document: usize, items: &Items<Datum>) -> Mem<()>
     requires units { IsSound (document + 1) units.old }
     requires read { DataWereRead items.now }
-    ensures { OnOk result (IsSound (document + 1) units.new) }
+    ensures sound { OnOk result (IsSound (document + 1) units.new) }
+    ensures added { OnOk result (AddsRead document (program_in (filter (λ d. not (is_library d)) (data_of items.now))) units.old units.new) }
 {
     let number = units.sources.len() as u32;
     match read_program(alloc, items, number)? {
@@ -137,16 +150,13 @@ fn add(
 ) -> Mem<()>
     requires units { IsSound (document + 1) units.old }
     requires read { WereRead (forms_of source.forms) }
-    ensures { OnOk result (IsSound (document + 1) units.new) }
+    ensures sound { OnOk result (IsSound (document + 1) units.new) }
+    ensures added { (u : Source) → IsReadFor (length units.old.sources.items) u name source bad → OnOk result (AddsRead document (u ∷ []) units.old units.new) }
 {
     if units.heads.len() >= u32::MAX as usize {
         return Err(Memory);
     }
-    let fault = if units.sources.len() < MAX_UNITS {
-        bad
-    } else {
-        Some(WholeFault::TooMany)
-    };
+    let fault = fault_at(units.sources.len(), bad);
     units.heads.push(Head {
         document,
         kind: source.kind,
@@ -158,6 +168,16 @@ fn add(
     })?;
     units.sources.push(source)?;
     Ok(())
+}
+
+/// What breaks a unit whatever the others are: those behind the most are too many.
+fn fault_at(place: usize, bad: Option<WholeFault>) -> Option<WholeFault>
+    ensures { result ≡ (if nat_le max_units place then Some fault.TooMany else bad) }
+{
+    if place >= MAX_UNITS {
+        return Some(WholeFault::TooMany);
+    }
+    bad
 }
 
 /// The numbers of the first tokens of forms.

@@ -1,22 +1,28 @@
 //! The program of the open documents (R7RS 5), and all that is wrong in it.
 ghost use Rattle.std.specs.Prelude.{◌≡◌, ℕ, ◌<◌, List, length, map, slice_get, vec_len, Some, None, IfOk, IfSome, OnOk};
 ghost use Rattle.scheme_model.specs.Diagnostics.{unit_at};
-ghost use Rattle.scheme_model.specs.Program.{Program as Model, UnitResult};
+ghost use Rattle.scheme_model.specs.Program.{Document as ModelDocument, Program as Model, UnitResult, known_in, units_of};
+ghost use Rattle.scheme_model.specs.Requirements.{LibraryName};
 ghost use Rattle.syntax_tree.specs.declared.trees.Work.{Work as AnyWork};
 ghost use Rattle.core_tree.specs.Units.{error_as};
+ghost use Rattle.base_library.specs.Texts.{SpellsStandard};
 ghost use Rattle.document_store.specs.Texts.{Document as Text};
 ghost use Rattle.workspace_state.specs.declared.listing.Head.{Head as AnyHead};
 ghost use Rattle.workspace_state.specs.Belongs.{AreErrorsIn, IsReading};
 ghost use Rattle.arrow_index.specs.Formed.{AreFormedIn, IsFormed};
+ghost use Rattle.workspace_state.specs.Came.{IsUpTo};
 ghost use Rattle.workspace_state.specs.Collected.{AreCollected, Has, HaveErrors, IsNothing};
+ghost use Rattle.workspace_state.specs.DataRead.{AreReadIn, HaveData};
 ghost use Rattle.workspace_state.specs.Formed.{CameFormed};
 ghost use Rattle.workspace_state.specs.Found.{errors_in};
 ghost use Rattle.workspace_state.specs.Listed.{AreFoundOf};
 ghost use Rattle.workspace_state.specs.Places.{AreFoundIn, AreHeadsIn, ArePlaces, CanPlace, HeadsStay, SameHead};
 ghost use Rattle.workspace_state.specs.Readings.{AreDocuments, AreReadAs, Read, program_in};
 ghost use Rattle.workspace_state.specs.Sound.{IsSound};
+ghost use Rattle.workspace_state.specs.Turned.{turns};
 ghost use Rattle.workspace_state.specs.UnitsExpanded.{AreAllFound};
 ghost use Rattle.workspace_state.specs.UnitsFound.{AreFirstErrors, AreTold, HaveTokens, IsFoundOf, IsTold};
+ghost use Rattle.workspace_state.specs.UnitsListed.{WritesProper};
 
 use crate::breaking::{Firsts, WholeFault, firsts, judge};
 use crate::defined::number_of;
@@ -24,6 +30,7 @@ use crate::diagnosing::tell_unread;
 use crate::documents::{Document, read};
 use crate::expanding::{Expanded, broken, expand_all};
 use crate::findings::{At, Finding, Sorted, add, errors, first_error, none};
+use crate::forms::Bench;
 use crate::known::known;
 use crate::listing::{Head, Units, list_units};
 use crate::places::Places;
@@ -50,14 +57,42 @@ pub struct Reading {
     pub errors: Vec<Option<(At, u32)>>,
 }
 
+/// The units of documents as they were expanded, with the bench that this left, and what each came to.
+#[derive(Drop)]
+struct Worked {
+    bench: Bench,
+    units: Units,
+    expanded: Vec<Option<Expanded>>,
+}
+
 /// Reads all documents and expands their units, from nothing.
 pub fn read_program<L: Ledger>(alloc: Global, store: &Store, steps: &mut Steps<L>) -> Mem<Reading>
     ensures { IfOk result (IsReading store.now) }
 {
     let documents = read(alloc, store)?;
-    let known = known(alloc, documents.as_slice())?;
+    let worked = work_on(alloc, documents.as_slice(), steps)?;
+    let Worked {
+        bench,
+        units,
+        expanded,
+    } = worked;
+    Ok(collect(alloc, documents, units, bench.work, expanded)?)
+}
+
+/// Expands the units of documents, from nothing.
+fn work_on<L: Ledger>(alloc: Global, documents: &[Document], steps: &mut Steps<L>) -> Mem<Worked>
+    requires { AreReadIn documents.now }
+    ensures units { IfOk result (λ worked. IsSound (length documents.now) worked.units) }
+    ensures count { IfOk result (λ worked. vec_len worked.expanded ≡ vec_len worked.units.heads) }
+    ensures found { IfOk result (λ worked. AreAllFound (length documents.now) worked.expanded.items) }
+    ensures formed { IfOk result (λ worked. CameFormed worked.bench.work worked.expanded.items) }
+    // The units are those of the documents' data, and in their turns they came to what the definition has of them.
+    ensures up { (ds : List ModelDocument) → HaveData ds documents.now → (spelled : LibraryName → List ℕ) → SpellsStandard spelled → WritesProper spelled →
+        IfOk result (λ worked. IsUpTo spelled (units_of ds) (known_in ds) (turns (units_of ds)) worked.bench worked.units worked.expanded.items) }
+{
+    let known = known(alloc, documents)?;
     let libraries = KnownLibraries::of(alloc, &known)?;
-    let mut units = list_units(alloc, documents.as_slice(), &libraries)?;
+    let mut units = list_units(alloc, documents, &libraries)?;
     let firsts: Firsts = firsts(alloc, units.sources.as_slice())?;
     let order = judge(alloc, &mut units, &firsts)?;
     let mut bench = begin(alloc)?;
@@ -65,13 +100,17 @@ pub fn read_program<L: Ledger>(alloc: Global, store: &Store, steps: &mut Steps<L
     let expanded = expand_all(
         alloc,
         &mut bench,
-        documents.as_slice(),
+        documents,
         &mut units,
         &firsts,
         order.as_slice(),
         steps,
     )?;
-    Ok(collect(alloc, documents, units, bench.work, expanded)?)
+    Ok(Worked {
+        bench,
+        units,
+        expanded,
+    })
 }
 
 /// All that was read, put together.

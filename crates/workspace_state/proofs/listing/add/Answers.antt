@@ -1,9 +1,15 @@
 -- One unit more.
-use Rattle.std.proofs.Common.{◌<◌, ◌+◌, length, arith}
+use Rattle.std.proofs.Common.{◌≡◌, ◌<◌, ◌+◌, ℕ, length, refl, ap, ◌∙◌, arith}
 use Rattle.workspace_state.proofs.SoundLaws.{sound_more}
+use Rattle.workspace_state.proofs.ListedUnits.{fault_with, unit_added}
 use Rattle.workspace_state.proofs.listing.add.Goals as goal
 
-pub returns : goal.returns
-returns c =
+pub returns-clause-sound : goal.returns-clause-sound
+returns-clause-sound c =
     let few : length c.args.units.now.heads.items < 0xFFFF_FFFF = omega (arith, c.args.units.now.heads.ok) in
     sound_more (c.args.document + 1) c.args.units.now _ _ c.args.source c.requires.units few (omega arith) c.requires.read c.in_ok-push.ensures.items c.in_ok-push-2.ensures.items
+
+pub returns-clause-added : goal.returns-clause-added
+returns-clause-added c = λ u read.
+    let place : c.len-2.result ≡ length c.args.units.now.sources.items = omega (arith, c.args.units.now.sources.ok.0) in
+    unit_added c.args.document u c.args.units.now _ _ c.args.source c.args.name c.args.bad read refl refl refl c.new.ensures (c.fault_at-fault.ensures ∙ ap (λ (n : ℕ). fault_with n c.args.bad) place) c.in_ok-push.ensures.items c.in_ok-push-2.ensures.items
