@@ -30,6 +30,17 @@ heads_kept rs k (h ∷ hs) [] us stay are = absurd (let e = stay.size in omega a
 heads_kept rs k (h ∷ hs) (g ∷ gs) [] stay are = are
 heads_kept rs k (h ∷ hs) (g ∷ gs) (r ∷ us) stay are = (head_kept rs k h g r (first_stays h g hs gs stay) are.0, heads_kept rs (suc k) hs gs us (others_stay h g hs gs stay) are.1)
 
+same_back : (h g : Head) → SameHead h g → SameHead g h
+same_back h g s = record { document = sym s.document; kind = sym s.kind; span = sym s.span; firsts = sym s.firsts }
+
+-- and those that they were before
+pub heads_before : (rs : List Read) (k : ℕ) (hs gs : List Head) (us : List UnitResult) → HeadsStay hs gs → AreHeads rs k gs us → AreHeads rs k hs us
+heads_before rs k [] [] us stay are = are
+heads_before rs k [] (g ∷ gs) us stay are = absurd (let e = stay.size in omega arith)
+heads_before rs k (h ∷ hs) [] us stay are = absurd (let e = stay.size in omega arith)
+heads_before rs k (h ∷ hs) (g ∷ gs) [] stay are = are
+heads_before rs k (h ∷ hs) (g ∷ gs) (r ∷ us) stay are = (head_kept rs k g h r (same_back h g (first_stays h g hs gs stay)) are.0, heads_before rs (suc k) hs gs us (others_stay h g hs gs stay) are.1)
+
 pub as_many_heads : (rs : List Read) (k : ℕ) (hs : List Head) (us : List UnitResult) → AreHeads rs k hs us → length hs ≡ length us
 as_many_heads rs k [] [] are = refl
 as_many_heads rs k [] (r ∷ us) are = absurd are

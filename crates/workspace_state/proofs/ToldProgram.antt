@@ -9,6 +9,8 @@ use Rattle.scheme_model.specs.Requirements.{Known}
 use Rattle.scheme_model.specs.Substitution.{Table}
 use Rattle.scheme_model.specs.Program.{Placed, Prepared, prepared, prepare, WholeFault, TooMany, UnitResult, Program, result_at, broken_result, declared_fault, fault_before}
 use Rattle.scheme_model.specs.ScopedProgram.{ScopedProgress, scoped_program_with}
+use Rattle.scheme_model.specs.Diagnostics.{unit_at}
+use Rattle.std.specs.Prelude.{◌==◌}
 use Rattle.syntax_tree.specs.declared.trees.Work.{Work}
 use Rattle.core_tree.specs.Units.{defined_by}
 use Rattle.workspace_state.specs.declared.expanding.Expanded.{Expanded}
@@ -18,9 +20,9 @@ use Rattle.workspace_state.specs.Came.{HaveCome, HeadsBy, IsCome, fault_by, so_f
 use Rattle.workspace_state.specs.Places.{AreHeads}
 use Rattle.workspace_state.specs.Readings.{Read}
 use Rattle.workspace_state.specs.Turned.{turns, scoped_at}
-use Rattle.workspace_state.specs.UnitsFound.{AreTold, HaveFound, IsFoundOf, IsTold}
+use Rattle.workspace_state.specs.UnitsFound.{AreResultsOf, AreTold, HaveFound, IsFoundOf, IsTold}
 use Rattle.workspace_state.proofs.CollectLaws.{get}
-use Rattle.workspace_state.proofs.ProgramOf.{comes_last, low, table_is, unit_prepared}
+use Rattle.workspace_state.proofs.ProgramOf.{comes_last, low, program_at, table_is, unit_prepared}
 use Rattle.workspace_state.proofs.TurnGraph.{as_many}
 use Rattle.workspace_state.proofs.TurnResults.{scoped_left, scoped_result, scoped_units}
 use Rattle.workspace_state.proofs.UnitsFoundLaws.{found_stays}
@@ -57,6 +59,21 @@ module _ (us : List Placed) (known : Known) where
 
       go : (b : Bool) → nat_le 128 n ≡ true → fault_before us (prepare us 0 us) (prepared us n u) ≡ Some TooMany
       go b e = rw e refl
+
+  -- the program's units are those, by their numbers
+  pub results_are : AreResultsOf us whole.units
+  results_are n u at =
+      let within = slice_get_within us n u at in
+      let many = as_many us us 0 in
+      let units = (scoped_units us known).0 in
+      let r = get whole.units n (omega arith) in
+      let p = unit_prepared us known n r.0 r.1 in
+      let same : p.0 ≡ u = same_Some p.0 u (sym p.1.0 ∙ at) in
+      (r.0, same_at whole.units n ∙ (program_at us known n ∙ r.1), p.1.1 ∙ ap (prepared us n) same)
+    where
+      same_at : (rs : List UnitResult) (n : ℕ) → unit_at rs n ≡ result_at rs n
+      same_at [] n = refl
+      same_at (r ∷ rs) n = ap (λ (o : Option UnitResult). cond (r.unit.number == n) (Some r) o) (same_at rs n)
 
   module _ (rs : List Read) (work : Work) (hs : List Head) (es : List (Option Expanded)) (come : HaveCome us turned work es) (by : HeadsBy us turned hs) (found : HaveFound rs whole.units turned es) where
     some_told : (n : ℕ) (x : Expanded) (r : UnitResult) → slice_get es n ≡ Some (Some x) → slice_get whole.units n ≡ Some r → IsFoundOf rs whole r x.findings.items

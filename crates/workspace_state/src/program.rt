@@ -1,7 +1,7 @@
 //! The program of the open documents (R7RS 5), and all that is wrong in it.
 ghost use Rattle.std.specs.Prelude.{◌≡◌, ℕ, ◌<◌, List, length, map, slice_get, vec_len, Some, None, IfOk, IfSome, OnOk};
 ghost use Rattle.scheme_model.specs.Diagnostics.{unit_at};
-ghost use Rattle.scheme_model.specs.Program.{Document as ModelDocument, Program as Model, UnitResult, known_in, units_of};
+ghost use Rattle.scheme_model.specs.Program.{Document as ModelDocument, Program as Model, UnitResult, known_in, program_of, units_of};
 ghost use Rattle.scheme_model.specs.Requirements.{LibraryName};
 ghost use Rattle.syntax_tree.specs.declared.trees.Work.{Work as AnyWork};
 ghost use Rattle.core_tree.specs.Units.{error_as};
@@ -16,7 +16,7 @@ ghost use Rattle.workspace_state.specs.DataRead.{AreReadIn, HaveData};
 ghost use Rattle.workspace_state.specs.Formed.{CameFormed};
 ghost use Rattle.workspace_state.specs.Found.{errors_in};
 ghost use Rattle.workspace_state.specs.Listed.{AreFoundOf};
-ghost use Rattle.workspace_state.specs.Places.{AreFoundIn, AreHeadsIn, ArePlaces, CanPlace, HeadsStay, SameHead};
+ghost use Rattle.workspace_state.specs.Places.{AreFoundIn, AreHeads, AreHeadsIn, ArePlaces, CanPlace, HeadsStay, SameHead};
 ghost use Rattle.workspace_state.specs.Readings.{AreDocuments, AreReadAs, Read, program_in};
 ghost use Rattle.workspace_state.specs.Sound.{IsSound};
 ghost use Rattle.workspace_state.specs.Turned.{turns};
@@ -89,6 +89,9 @@ fn work_on<L: Ledger>(alloc: Global, documents: &[Document], steps: &mut Steps<L
     // The units are those of the documents' data, and in their turns they came to what the definition has of them.
     ensures up { (ds : List ModelDocument) → HaveData ds documents.now → (spelled : LibraryName → List ℕ) → SpellsStandard spelled → WritesProper spelled →
         IfOk result (λ worked. IsUpTo spelled (units_of ds) (known_in ds) (turns (units_of ds)) worked.bench worked.units worked.expanded.items) }
+    // What came of them and is found in them is what the definition's program has, where their heads stand where its units do.
+    ensures told { (ds : List ModelDocument) → HaveData ds documents.now → (spelled : LibraryName → List ℕ) → SpellsStandard spelled → WritesProper spelled → (reads : List Read) → HaveTokens documents.now reads →
+        IfOk result (λ worked. AreHeads reads 0 worked.units.heads.items (program_of ds).units → AreTold reads (program_of ds) worked.units.heads.items worked.expanded.items) }
 {
     let known = known(alloc, documents)?;
     let libraries = KnownLibraries::of(alloc, &known)?;
