@@ -93,3 +93,4 @@ pub mod DocumentsData  -- The data of the documents are those that their texts a
 pub mod KnownSteps  -- The names of libraries, one datum and one document more at a time, and the name that the front of a library has
 pub mod ListedUnits  -- Units as they are listed
 pub mod ListedDocuments  -- The units of documents, one datum and one document more at a time
+pub mod HeadsOf  -- The heads of units have what the units do, as these were listed, judged and worked on

@@ -5,13 +5,14 @@ ghost use Rattle.scheme_model.specs.Program.{Document as ModelDocument, Program 
 ghost use Rattle.scheme_model.specs.Requirements.{LibraryName};
 ghost use Rattle.syntax_tree.specs.declared.trees.Work.{Work as AnyWork};
 ghost use Rattle.core_tree.specs.Units.{error_as};
+ghost use Rattle.scheme_tokens.specs.LibraryNames.{library_text};
 ghost use Rattle.base_library.specs.Texts.{SpellsStandard};
 ghost use Rattle.document_store.specs.Texts.{Document as Text};
 ghost use Rattle.workspace_state.specs.declared.listing.Head.{Head as AnyHead};
 ghost use Rattle.workspace_state.specs.Belongs.{AreErrorsIn, IsReading};
 ghost use Rattle.arrow_index.specs.Formed.{AreFormedIn, IsFormed};
 ghost use Rattle.workspace_state.specs.Came.{IsUpTo};
-ghost use Rattle.workspace_state.specs.Collected.{AreCollected, Has, HaveErrors, IsNothing};
+ghost use Rattle.workspace_state.specs.Collected.{AreCollected, AreHeadsOf, Has, HaveErrors, IsNothing};
 ghost use Rattle.workspace_state.specs.DataRead.{AreReadIn, HaveData};
 ghost use Rattle.workspace_state.specs.Formed.{CameFormed};
 ghost use Rattle.workspace_state.specs.Found.{errors_in};
@@ -89,6 +90,9 @@ fn work_on<L: Ledger>(alloc: Global, documents: &[Document], steps: &mut Steps<L
     // The units are those of the documents' data, and in their turns they came to what the definition has of them.
     ensures up { (ds : List ModelDocument) → HaveData ds documents.now → (spelled : LibraryName → List ℕ) → SpellsStandard spelled → WritesProper spelled →
         IfOk result (λ worked. IsUpTo spelled (units_of ds) (known_in ds) (turns (units_of ds)) worked.bench worked.units worked.expanded.items) }
+    // Their heads have what they do.
+    ensures heads { (ds : List ModelDocument) → HaveData ds documents.now → (spelled : LibraryName → List ℕ) → SpellsStandard spelled → WritesProper spelled →
+        IfOk result (λ worked. AreHeadsOf library_text (units_of ds) worked.units.heads.items) }
     // What came of them and is found in them is what the definition's program has, where their heads stand where its units do.
     ensures told { (ds : List ModelDocument) → HaveData ds documents.now → (spelled : LibraryName → List ℕ) → SpellsStandard spelled → WritesProper spelled → (reads : List Read) → HaveTokens documents.now reads →
         IfOk result (λ worked. AreHeads reads 0 worked.units.heads.items (program_of ds).units → AreTold reads (program_of ds) worked.units.heads.items worked.expanded.items) }

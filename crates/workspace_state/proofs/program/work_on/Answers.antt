@@ -22,6 +22,7 @@ use Rattle.workspace_state.proofs.KnownLaws.{known_listed}
 use Rattle.workspace_state.proofs.ReadUnits.{judged_heads, forgotten_sources}
 use Rattle.workspace_state.proofs.SoundKept.{sound_kept, sound_with}
 use Rattle.workspace_state.proofs.HeadsKept.{heads_before}
+use Rattle.workspace_state.proofs.HeadsOf.{heads_of}
 use Rattle.workspace_state.proofs.ToldProgram.{results_are, told_program}
 use Rattle.workspace_state.proofs.program.work_on.Goals as goal
 
@@ -134,3 +135,12 @@ returns-clause-told g c = λ ds have spelled spells written reads tokens are.
     let up = c.in_ok-expanded.ensures.up spelled us known order many finds knows goes heads sources in
     let found = c.in_ok-expanded.ensures.finds spelled us known order many finds knows goes heads sources reads ends before tokens (results_are us known) in
     subst (λ (p : Program). AreTold reads p w.heads.items es) law (told_program us known reads c.expand_all.new.bench.work w.heads.items es up.come up.heads found now up.count)
+
+pub returns-clause-heads : goal.returns-clause-heads
+returns-clause-heads g c = λ ds have spelled spells written.
+    let us = units_of ds in
+    let u = c.in_ok-units.units in
+    let v = c.judge.new.units in
+    let told = known_listed ds c.in_ok-known.known (c.in_ok-known.ensures ds have) in
+    let listed = c.in_ok-units.ensures.listed ds have (c.in_ok-libraries.ensures.knows (known_in ds) told) spelled written in
+    heads_of us u.heads.items v.heads.items c.expand_all.new.units.heads.items listed.told (c.in_ok-order.ensures.judged spelled spells us listed.units listed.listed) c.in_ok-order.ensures.heads c.in_ok-expanded.ensures.heads c.in_ok-expanded.ensures.kept
