@@ -191,7 +191,7 @@ fn came_to(
     ensures formed { (work : AnyWork) → IfSome came (λ came. IsFormed work place came.forms) → IfOk result (λ came. IsFormed work place came.forms) }
     ensures some { IfSome came (λ came. IfOk result (λ unit. unit ≡ came)) }
     ensures none { came ≡ None → IfOk result (IsNothing count) }
-    ensures told { (rs : List Read) (p : Model) (h : AnyHead) (r : UnitResult) → ArePlaces places.entry rs p.units → unit_at p.units place ≡ Some r → slice_get places.heads.now place ≡ Some h → IsTold rs p h came r →
+    ensures told { (rs : List Read) (p : Model) (h : AnyHead) (r : UnitResult) → ArePlaces places.entry rs p.units → unit_at p.units place ≡ Some r → slice_get places.entry.heads.now place ≡ Some h → IsTold rs p h came r →
         IfOk result (λ came. IsFoundOf rs p r came.findings.items) }
 {
     if let Some(came) = came {

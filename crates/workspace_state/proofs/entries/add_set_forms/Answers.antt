@@ -9,6 +9,6 @@ returns-in_ok-add_for_each c = λ unit.
     c.in_ok-add_for_each.ensures
     ∙ ap (λ (ns : List ℕ). c.args.all.now.items ++ ns) (sets_in unit c.args.number (form_of c.args.form.now) c.behind_first.result.now (sym c.is_import.ensures ∙ c.if-is_import.true) c.behind_first.ensures)
 
-pub returns : goal.returns
-returns c = λ unit.
+pub returns-else-is_import : goal.returns-else-is_import
+returns-else-is_import c = λ unit.
     sym (append-nil c.args.all.now.items) ∙ ap (λ (ns : List ℕ). c.args.all.now.items ++ ns) (no_sets_in unit c.args.number (form_of c.args.form.now) (sym c.is_import.ensures ∙ c.if-is_import.false))
