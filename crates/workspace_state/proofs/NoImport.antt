@@ -12,7 +12,7 @@ use Rattle.workspace_state.specs.declared.findings.Finding.{Finding}
 use Rattle.workspace_state.specs.Diagnosed.{Adds}
 use Rattle.workspace_state.specs.Found.{all_told, errors_in}
 use Rattle.workspace_state.specs.Places.{bytes_at, start_of}
-use Rattle.workspace_state.specs.SetsGiven.{ImportsAs}
+use Rattle.workspace_state.specs.SetsGiven.{ImportsAs, IsSpec}
 use Rattle.workspace_state.specs.UnitsFound.{no_import_diagnostics}
 use Rattle.workspace_state.specs.Wording.{worded}
 use Rattle.workspace_state.proofs.DiagnosedLaws.{adds_more}
@@ -25,7 +25,7 @@ as_empty R (x ∷ xs) [] h = absurd h
 as_empty R (x ∷ xs) (y ∷ ys) h = refl
 
 pub imports_alike : (spelled : LibraryName → List ℕ) (c : UnitSource) (p : Prepared) → ImportsAs spelled c p → (b : Bool) → b ≡ (is_program (kind_as c.kind) && is_empty c.imports) → imports_nothing p ≡ b
-imports_alike spelled c p h b is = (λ i. is_program (h.kind (~ i)) && as_empty _ c.imports p.specs h.specs i) ∙ sym is
+imports_alike spelled c p h b is = (λ i. is_program (sym h.kind i) && as_empty (IsSpec spelled) c.imports p.specs h.specs i) ∙ sym is
 
 module _ (spans : List (List Span)) (us : List UnitResult) (r : UnitResult) (unit : ℕ) (at : unit_at us unit ≡ Some r) (start : At) (exact : bytes_at start ≡ start_of spans (unit_at us unit)) (nothing : imports_nothing r.unit ≡ true) where
   pub no_import_told : (f : Finding) → f ≡ record { at = Some start; form = 0; code = 104; message = worded 104 [] } → (old new : List Finding) → new ≡ old ++ f ∷ [] → Adds old new (no_import_diagnostics spans r.unit) []

@@ -23,3 +23,10 @@ have_tokens [] (c ∷ cs) rs are rd = absurd are
 have_tokens (d ∷ ds) [] rs are rd = absurd are
 have_tokens (d ∷ ds) (c ∷ cs) [] are rd = absurd rd
 have_tokens (d ∷ ds) (c ∷ cs) (r ∷ rs) are rd = λ i. alike d.1.1 c are.0.read r are.0.so are.0.is_read rd.0 i ∷ have_tokens ds cs rs are.1 rd.1 i
+
+-- and so are their uris
+pub uris_are : (ds : List (List ℕ × Document)) (cs : List code.Document) → AreDocuments ds cs → map (λ (c : code.Document). c.uri) cs ≡ map (λ d. d.0) ds
+uris_are [] [] are = refl
+uris_are [] (c ∷ cs) are = absurd are
+uris_are (d ∷ ds) [] are = absurd are
+uris_are (d ∷ ds) (c ∷ cs) are = λ i. are.0.uri i ∷ uris_are ds cs are.1 i

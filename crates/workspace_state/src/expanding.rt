@@ -25,7 +25,7 @@ ghost use Rattle.workspace_state.specs.Formed.{CameFormed};
 ghost use Rattle.workspace_state.specs.Forms.{IsBench, AreFormed};
 ghost use Rattle.workspace_state.specs.Libraries.{FindsBelow, HaveMeaning, EachOnce, ExportsMean};
 ghost use Rattle.workspace_state.specs.Diagnosed.{Adds};
-ghost use Rattle.workspace_state.specs.Places.{AreFoundIn, AreHeads, ArePlaces as ArePlacesOf, CanPlace, HeadsStay, spans_of};
+ghost use Rattle.workspace_state.specs.Places.{AreFoundIn, AreHeads, ArePlaces as ArePlacesOf, CanPlace, HeadsStay, NamesKept, spans_of};
 ghost use Rattle.workspace_state.specs.Readings.{Read};
 ghost use Rattle.workspace_state.specs.Sound.{IsSound};
 ghost use Rattle.workspace_state.specs.SetsGiven.{AreLibraries, ImportsAs};
@@ -84,6 +84,7 @@ pub fn expand_all<L: Ledger>(
     requires order { ArePlaces (vec_len units.old.heads) order.now }
     requires new { (unit : ℕ) → is_in unit order.now ≡ true → IsNew bench.old.scope unit }
     ensures heads { OnOk result (HeadsStay units.old.heads.items units.new.heads.items) }
+    ensures kept { OnOk result (NamesKept units.old.heads.items units.new.heads.items) }
     ensures sources { units.new.sources ≡ units.old.sources }
     ensures count { IfOk result (λ all. vec_len all ≡ vec_len units.old.heads) }
     ensures found { IfOk result (λ all. AreAllFound (length documents.now) all.items) }
@@ -128,6 +129,7 @@ fn expand_at<L: Ledger>(
     requires formed { CameFormed bench.old.work all.old.items }
     ensures bench { OnOk result (IsBench bench.new) }
     ensures heads { OnOk result (HeadsStay units.old.heads.items units.new.heads.items) }
+    ensures kept { OnOk result (NamesKept units.old.heads.items units.new.heads.items) }
     ensures sources { units.new.sources ≡ units.old.sources }
     ensures count { OnOk result (vec_len all.new ≡ vec_len all.old) }
     ensures found { OnOk result (AreAllFound (length documents.now) all.new.items) }

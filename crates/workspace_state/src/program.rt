@@ -1,17 +1,20 @@
 //! The program of the open documents (R7RS 5), and all that is wrong in it.
-ghost use Rattle.std.specs.Prelude.{◌≡◌, ℕ, ◌<◌, List, length, map, slice_get, vec_len, Some, None, IfOk, IfSome, OnOk};
+ghost use Rattle.std.specs.Prelude.{◌≡◌, ℕ, ◌<◌, ◌≤◌, List, length, map, slice_get, vec_len, Some, None, IfOk, IfSome, OnOk};
+ghost use Rattle.std.specs.FinMap.{entries};
+ghost use Rattle.ls_base.specs.Limits.{max_documents};
 ghost use Rattle.scheme_model.specs.Diagnostics.{unit_at};
-ghost use Rattle.scheme_model.specs.Program.{Program as Model, UnitResult, Document as ModelDocument, known_in, units_of};
+ghost use Rattle.scheme_model.specs.Program.{Document as ModelDocument, Program as Model, UnitResult, known_in, units_of};
+ghost use Rattle.scheme_model.specs.Requirements.{LibraryName};
 ghost use Rattle.syntax_tree.specs.declared.trees.Work.{Work as AnyWork};
 ghost use Rattle.core_tree.specs.Units.{error_as};
+ghost use Rattle.scheme_tokens.specs.LibraryNames.{library_text};
+ghost use Rattle.base_library.specs.Texts.{SpellsStandard};
 ghost use Rattle.document_store.specs.Texts.{Document as Text};
 ghost use Rattle.workspace_state.specs.declared.listing.Head.{Head as AnyHead};
 ghost use Rattle.workspace_state.specs.Belongs.{AreErrorsIn, IsReading};
 ghost use Rattle.arrow_index.specs.Formed.{AreFormedIn, IsFormed};
-ghost use Rattle.workspace_state.specs.Collected.{AreCollected, Has, HaveErrors, IsNothing};
-ghost use Rattle.scheme_model.specs.Requirements.{LibraryName};
-ghost use Rattle.base_library.specs.Texts.{SpellsStandard};
 ghost use Rattle.workspace_state.specs.Came.{IsUpTo};
+ghost use Rattle.workspace_state.specs.Collected.{AreCollected, AreHeadsOf, Has, HaveErrors, IsNothing};
 ghost use Rattle.workspace_state.specs.DataRead.{AreReadIn, HaveData};
 ghost use Rattle.workspace_state.specs.Formed.{CameFormed};
 ghost use Rattle.workspace_state.specs.Found.{errors_in};
@@ -67,7 +70,8 @@ struct Worked {
 
 /// Reads all documents and expands their units, from nothing.
 pub fn read_program<L: Ledger>(alloc: Global, store: &Store, steps: &mut Steps<L>) -> Mem<Reading>
-    ensures { IfOk result (IsReading store.now) }
+    ensures reading { IfOk result (IsReading store.now) }
+    ensures few { IfOk result (λ reading. length (entries store.now) ≤ max_documents) }
 {
     let documents = read(alloc, store)?;
     let worked = work_on(alloc, documents.as_slice(), steps)?;
@@ -89,6 +93,12 @@ fn work_on<L: Ledger>(alloc: Global, documents: &[Document], steps: &mut Steps<L
     // The units are those of the documents' data, and in their turns they came to what the definition has of them.
     ensures up { (ds : List ModelDocument) → HaveData ds documents.now → (spelled : LibraryName → List ℕ) → SpellsStandard spelled → WritesProper spelled →
         IfOk result (λ worked. IsUpTo spelled (units_of ds) (known_in ds) (turns (units_of ds)) worked.bench worked.units worked.expanded.items) }
+    // Their heads have what they do.
+    ensures heads { (ds : List ModelDocument) → HaveData ds documents.now → (spelled : LibraryName → List ℕ) → SpellsStandard spelled → WritesProper spelled →
+        IfOk result (λ worked. AreHeadsOf library_text (units_of ds) worked.units.heads.items) }
+    // What came of them and is found in them is what the program of the texts has, however these are read.
+    ensures told { (ds : List (List ℕ × Text)) (rs : List Read) → AreDocuments ds documents.now → AreReadAs ds rs →
+        IfOk result (λ worked. AreTold rs (program_in rs) worked.units.heads.items worked.expanded.items) }
 {
     let known = known(alloc, documents)?;
     let libraries = KnownLibraries::of(alloc, &known)?;
@@ -184,7 +194,7 @@ fn came_to(
     ensures formed { (work : AnyWork) → IfSome came (λ came. IsFormed work place came.forms) → IfOk result (λ came. IsFormed work place came.forms) }
     ensures some { IfSome came (λ came. IfOk result (λ unit. unit ≡ came)) }
     ensures none { came ≡ None → IfOk result (IsNothing count) }
-    ensures told { (rs : List Read) (p : Model) (h : AnyHead) (r : UnitResult) → ArePlaces places.entry rs p.units → unit_at p.units place ≡ Some r → slice_get places.heads.now place ≡ Some h → IsTold rs p h came r →
+    ensures told { (rs : List Read) (p : Model) (h : AnyHead) (r : UnitResult) → ArePlaces places.entry rs p.units → unit_at p.units place ≡ Some r → slice_get places.entry.heads.now place ≡ Some h → IsTold rs p h came r →
         IfOk result (λ came. IsFoundOf rs p r came.findings.items) }
 {
     if let Some(came) = came {

@@ -1,14 +1,16 @@
 //! The workspace: the open documents and the program that they are. Each event reads and expands all of them anew.
-ghost use Rattle.std.specs.Prelude.{◌≡◌, ◌+◌, ◌<◌, ◌≤◌, ◌==◌, List, length, true, IfOk, IfSome, OnOk, OnErr};
+ghost use Rattle.std.specs.Prelude.{◌≡◌, ◌+◌, ◌<◌, ◌≤◌, ◌==◌, List, length, slice_get, true, IfOk, IfSome, OnOk, OnErr};
 ghost use Rattle.std.specs.Option.{option_map};
 ghost use Rattle.std.specs.FinMap.{empty, entries};
 ghost use Rattle.ls_base.specs.Limits.{max_documents};
 ghost use Rattle.document_store.specs.Texts as store;
 ghost use Rattle.workspace_state.specs.Listed.{AreFoundOf};
 ghost use Rattle.workspace_state.specs.ProgramOfTexts.{IsProgramOfTexts};
-ghost use Rattle.workspace_state.specs.Readings.{Read, AreReadAs, first_unread};
+ghost use Rattle.workspace_state.specs.Readings.{Read, AreReadAs, first_unread, program_in};
 ghost use Rattle.arrow_index.specs.Formed.{AreFormedIn};
-ghost use Rattle.workspace_state.specs.Placed.{IsIn};
+ghost use Rattle.workspace_state.specs.Placed.{IsErrorAt, IsIn, IsPlace, form_bytes};
+ghost use Rattle.workspace_state.specs.Places.{spans_of};
+ghost use Rattle.workspace_state.specs.UnitsFound.{first_error_at};
 ghost use Rattle.workspace_state.specs.Events.{leaves, event_of, fault_of, uri_of};
 ghost use Rattle.workspace_state.specs.Updates.{Publishes};
 
@@ -159,7 +161,8 @@ impl Workspace {
     /// The place of a token, in one of the documents, of which there is one.
     pub fn place_of(&self, occ: Occ) -> Mem<Place>
         requires { 0 < length (entries self.now.texts) }
-        ensures { IfOk result (IsIn self.now.encoding (entries self.now.texts)) }
+        ensures inside { IfOk result (IsIn self.now.encoding (entries self.now.texts)) }
+        ensures exact { (rs : List Read) → AreReadAs (entries self.now.texts) rs → IfOk result (IsPlace self.now.encoding (entries self.now.texts) (bytes_of (spans_of rs) (program_in rs).units occ)) }
     {
         Ok(self.texts.place_of(occ, self.encoding)?)
     }
@@ -168,14 +171,16 @@ impl Workspace {
     /// unit.
     pub fn form_place(&self, unit: u32, form: u32) -> Mem<Place>
         requires { 0 < length (entries self.now.texts) }
-        ensures { IfOk result (IsIn self.now.encoding (entries self.now.texts)) }
+        ensures inside { IfOk result (IsIn self.now.encoding (entries self.now.texts)) }
+        ensures exact { (rs : List Read) → AreReadAs (entries self.now.texts) rs → IfOk result (IsPlace self.now.encoding (entries self.now.texts) (form_bytes (spans_of rs) (program_in rs).units unit form)) }
     {
         Ok(self.texts.form_place(unit, form, self.encoding)?)
     }
 
     /// The first Error of a unit, by document, start and code. `None` exactly where it has none.
     pub fn first_error(&self, unit: u32) -> Mem<Option<PlacedError>>
-        ensures { IfOk result (λ e. IfSome e (λ p. IsIn self.now.encoding (entries self.now.texts) p.place)) }
+        ensures inside { IfOk result (λ e. IfSome e (λ p. IsIn self.now.encoding (entries self.now.texts) p.place)) }
+        ensures exact { (rs : List Read) → AreReadAs (entries self.now.texts) rs → IfOk result (IsErrorAt self.now.encoding (entries self.now.texts) (first_error_at rs (program_in rs) (slice_get (program_in rs).units unit))) }
     {
         Ok(self.texts.first_error(unit, self.encoding)?)
     }

@@ -1,7 +1,9 @@
-use Rattle.std.proofs.Common.{length, ap, subst, arith}
+use Rattle.std.proofs.Common.{◌∷◌, [], ◌++◌, ◌∙◌, length, ap, sym, subst, arith}
 use Rattle.scheme_model.specs.Diagnostics.{bytes_of}
+use Rattle.scheme_model.specs.Entries as model
+use Rattle.core_tree.specs.Units.{import_code}
 use Rattle.import_sets.specs.declared.fault.ImportFault.{ImportFault}
-use Rattle.workspace_state.specs.Found.{all_told}
+use Rattle.workspace_state.specs.Found.{all_told, errors_in}
 use Rattle.workspace_state.specs.Places.{spans_of}
 use Rattle.workspace_state.specs.SetsGiven.{IsSetFault}
 use Rattle.workspace_state.specs.declared.findings.At.{At}
@@ -36,3 +38,18 @@ pub returns-in-BadSet-clause-inside : goal.returns-in-BadSet-clause-inside
 returns-in-BadSet-clause-inside c = λ found.
     c.in_ok-add_found-in-BadSet.ensures.inside (length c.args.places.documents.now)
     (at_in (length c.args.places.documents.now) c.at-whole.result (let e = ap (λ (a : At). a.document) c.at-whole.ensures in omega arith)) found
+
+pub returns-in-NotThere-clause-errors : goal.returns-in-NotThere-clause-errors
+returns-in-NotThere-clause-errors c = λ f is.
+    c.in_ok-add_found-in-NotThere.ensures.errors
+    ∙ ap (λ (g : model.ImportFault). errors_in c.args.findings.now.items ++ (import_code g, c.args.set.form) ∷ []) (sym (subst (λ (g : ImportFault). IsSetFault g f) c.in-NotThere.is is))
+
+pub returns-in-Clash-clause-errors : goal.returns-in-Clash-clause-errors
+returns-in-Clash-clause-errors c = λ f is.
+    c.in_ok-add_found-in-Clash.ensures.errors
+    ∙ ap (λ (g : model.ImportFault). errors_in c.args.findings.now.items ++ (import_code g, c.args.set.form) ∷ []) (sym (subst (λ (g : ImportFault). IsSetFault g f) c.in-Clash.is is))
+
+pub returns-in-BadSet-clause-errors : goal.returns-in-BadSet-clause-errors
+returns-in-BadSet-clause-errors c = λ f is.
+    c.in_ok-add_found-in-BadSet.ensures.errors
+    ∙ ap (λ (g : model.ImportFault). errors_in c.args.findings.now.items ++ (import_code g, c.args.set.form) ∷ []) (sym (subst (λ (g : ImportFault). IsSetFault g f) c.in-BadSet.is is))

@@ -1,7 +1,7 @@
-use Rattle.std.proofs.Common.{[], ◌∷◌, ◌++◌, ap, ◌∙◌, arith}
+use Rattle.std.proofs.Common.{[], ◌∷◌, ◌++◌, append-nil, ap, ◌∙◌, arith}
 use Rattle.std.specs.Prelude.{codes}
 use Rattle.workspace_state.specs.declared.findings.At.{At}
-use Rattle.workspace_state.specs.Found.{all_told, diagnostic}
+use Rattle.workspace_state.specs.Found.{all_told, diagnostic, errors_in}
 use Rattle.workspace_state.proofs.FoundLaws.{at_in}
 use Rattle.workspace_state.proofs.GivenLaws.{unknown_told}
 use Rattle.workspace_state.proofs.entries.add_unknown.Goals as goal
@@ -14,3 +14,6 @@ pub returns-clause-told : goal.returns-clause-told
 returns-clause-told c = λ s spelled is bytes.
     unknown_told bytes c.args.set.document spelled c.args.set.spec.now s is (all_told c.args.findings.now.items) _
     (c.in_ok-add_found.ensures.told ∙ ap (λ (a : At). all_told c.args.findings.now.items ++ diagnostic a 102 (codes "library not known") ∷ []) c.at-at.ensures)
+
+pub returns-clause-errors : goal.returns-clause-errors
+returns-clause-errors c = c.in_ok-add_found.ensures.errors ∙ append-nil (errors_in c.args.findings.now.items)

@@ -1,10 +1,11 @@
-use Rattle.std.proofs.Common.{[], length, subst}
+use Rattle.std.proofs.Common.{ℕ, List, [], ◌∷◌, ◌++◌, ◌∙◌, append-nil, length, map, sym, ap, subst}
 use Rattle.scheme_model.specs.Diagnostics.{bytes_of}
 use Rattle.scheme_model.specs.Entries as model
-use Rattle.scheme_model.specs.Program.{Unknown, Faulty}
+use Rattle.scheme_model.specs.Program.{SetResult, Unknown, Faulty}
+use Rattle.core_tree.specs.Units.{set_errors}
 use Rattle.import_sets.specs.Sets.{TellsApart}
 use Rattle.workspace_state.specs.declared.entries.SetGives.{SetGives}
-use Rattle.workspace_state.specs.Found.{all_told}
+use Rattle.workspace_state.specs.Found.{all_told, errors_in}
 use Rattle.workspace_state.specs.Imports.{SetMeans}
 use Rattle.workspace_state.specs.Places.{spans_of}
 use Rattle.workspace_state.specs.SetsGiven.{ComesTo, with_set}
@@ -75,3 +76,28 @@ returns-in_ok-add_fault-in-Faulty-clause-told c = λ spelled all rs libs s is es
     let old = all_told c.args.findings.now.items in
     told_after (bytes_of (spans_of reads) us) c.args.set.document s old _ (with_set all rs s.set es) (es, Faulty h.0) (h.2 es)
     (faulty_told (bytes_of (spans_of reads) us) c.args.set.document spelled c.args.set.spec.now s is h.0 old _ (c.in_ok-add_fault-in-Faulty.ensures.told h.0 h.1 reads us places))
+
+pub returns-in_ok-with_entries-in-Entries-clause-errors : goal.returns-in_ok-with_entries-in-Entries-clause-errors
+returns-in_ok-with_entries-in-Entries-clause-errors c = λ spelled all rs libs s is es stand.
+    let names = c.of_set.new.symbols in
+    let apart : TellsApart names = record { symbols = c.told_apart.ensures.symbols; idents = c.told_apart.ensures.idents } in
+    let h = subst (λ (g : SetGives). ComesTo names g (with_set all rs s.set)) c.in-Entries.is (c.in_ok-entries.ensures.exact spelled all rs libs s.set is.set) in
+    let old = errors_in c.args.findings.now.items in
+    let form = c.args.set.form in
+    c.in_ok-with_entries-in-Entries.ensures.errors names apart es (groups_on c.args.symbols.now names c.in_ok-entries.ensures.names c.args.gathering.groups.items es stand) h.0 h.1
+    ∙ (ap (λ (xs : List (ℕ × ℕ)). old ++ xs) (sym (append-nil (map (λ (t : List ℕ). (52, form)) (model.gather es h.0 []).1)))
+    ∙ ap (λ (q : List model.Entry × SetResult). old ++ set_errors ((form, q.1) ∷ [])) (sym (h.2 es)))
+
+pub returns-in_ok-add_unknown-in-Unknown-clause-errors : goal.returns-in_ok-add_unknown-in-Unknown-clause-errors
+returns-in_ok-add_unknown-in-Unknown-clause-errors c = λ spelled all rs libs s is es stand.
+    let names = c.of_set.new.symbols in
+    let h = subst (λ (g : SetGives). ComesTo names g (with_set all rs s.set)) c.in-Unknown.is (c.in_ok-entries.ensures.exact spelled all rs libs s.set is.set) in
+    let old = errors_in c.args.findings.now.items in
+    c.in_ok-add_unknown-in-Unknown.ensures.errors ∙ (sym (append-nil old) ∙ ap (λ (q : List model.Entry × SetResult). old ++ set_errors ((c.args.set.form, q.1) ∷ [])) (sym (h es)))
+
+pub returns-in_ok-add_fault-in-Faulty-clause-errors : goal.returns-in_ok-add_fault-in-Faulty-clause-errors
+returns-in_ok-add_fault-in-Faulty-clause-errors c = λ spelled all rs libs s is es stand.
+    let names = c.of_set.new.symbols in
+    let h = subst (λ (g : SetGives). ComesTo names g (with_set all rs s.set)) c.in-Faulty.is (c.in_ok-entries.ensures.exact spelled all rs libs s.set is.set) in
+    let old = errors_in c.args.findings.now.items in
+    c.in_ok-add_fault-in-Faulty.ensures.errors h.0 h.1 ∙ ap (λ (q : List model.Entry × SetResult). old ++ set_errors ((c.args.set.form, q.1) ∷ [])) (sym (h.2 es))

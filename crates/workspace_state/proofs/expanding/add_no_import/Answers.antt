@@ -16,6 +16,6 @@ returns-in_ok-push-clause-exact c = λ spelled rs us r are at imports.
     no_import_told (spans_of rs) us r c.args.unit at c.start-start.result (c.start-start.ensures.exact rs us are) (imports_alike spelled c.args.source.now r.unit imports c.imports_nothing.result c.imports_nothing.ensures ∙ c.if-imports_nothing.true)
     c.in_ok-finding.finding c.in_ok-finding.ensures c.args.findings.now.items c.push.new.self.items c.in_ok-push.ensures.items
 
-pub returns-else-clause-exact : goal.returns-else-clause-exact
-returns-else-clause-exact c = λ spelled rs us r are at imports.
+pub returns-else-imports_nothing-clause-exact : goal.returns-else-imports_nothing-clause-exact
+returns-else-imports_nothing-clause-exact c = λ spelled rs us r are at imports.
     import_there (spans_of rs) r.unit (imports_alike spelled c.args.source.now r.unit imports c.imports_nothing.result c.imports_nothing.ensures ∙ c.if-imports_nothing.false) c.args.findings.now.items

@@ -11,7 +11,7 @@ returns-in_ok-add_unbound-clause-exact c = λ rs us work unit fs are kept stand.
     subst (λ b. Adds c.args.findings.now.items c.add_unbound.new.findings.items (cond b (unbound_diagnostics (bytes_of (spans_of rs) us) (unit_leaves fs)) []) []) (sym c.if-are_found.true)
     (c.in_ok-add_unbound.ensures.exact rs us work unit fs are kept stand)
 
-pub returns-else-clause-exact : goal.returns-else-clause-exact
-returns-else-clause-exact c = λ rs us work unit fs are kept stand.
+pub returns-else-are_found-clause-exact : goal.returns-else-are_found-clause-exact
+returns-else-are_found-clause-exact c = λ rs us work unit fs are kept stand.
     subst (λ b. Adds c.args.findings.now.items c.args.findings.now.items (cond b (unbound_diagnostics (bytes_of (spans_of rs) us) (unit_leaves fs)) []) []) (sym c.if-are_found.false)
     (adds_nothing c.args.findings.now.items)

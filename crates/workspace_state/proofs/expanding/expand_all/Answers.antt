@@ -13,7 +13,7 @@ use Rattle.workspace_state.specs.Libraries.{ExportsMean}
 use Rattle.workspace_state.specs.Turned.{scoped_at}
 use Rattle.workspace_state.specs.UnitsExpanded.{AreAllFound}
 use Rattle.workspace_state.specs.UnitsFound.{HaveFound}
-use Rattle.workspace_state.proofs.BrokenLaws.{heads_itself, heads_on}
+use Rattle.workspace_state.proofs.BrokenLaws.{heads_itself, heads_on, names_itself, names_then}
 use Rattle.workspace_state.proofs.HeadsKept.{heads_kept}
 use Rattle.workspace_state.proofs.SoundKept.{sound_with}
 use Rattle.workspace_state.proofs.Turns.{in_at, later_hold}
@@ -34,6 +34,7 @@ loop-place-init g c =
     record {
       bench = c.requires.bench;
       heads = heads_itself c.args.units.now.heads.items;
+      kept = names_itself c.args.units.now.heads.items;
       sources = refl;
       count = omega (arith, c.in_ok-all.all.ok.0, ap length is, length-replicate c.len.result none, c.len.ensures);
       found = subst (λ (xs : List (Option Expanded)). AreAllFound (length c.args.documents.now) xs) (sym is) (none_found (length c.args.documents.now) c.len.result);
@@ -76,6 +77,7 @@ loop-place-preserved g c =
     record {
       bench = c.in_ok-expand_at.ensures.bench;
       heads = heads_on c.args.units.now.heads.items c.loop-place.units.heads.items c.expand_at.new.units.heads.items c.loop-place.invariant.heads c.in_ok-expand_at.ensures.heads;
+      kept = names_then c.args.units.now.heads.items c.loop-place.units.heads.items c.expand_at.new.units.heads.items c.loop-place.invariant.kept c.in_ok-expand_at.ensures.kept;
       sources = c.expand_at.ensures.sources ∙ c.loop-place.invariant.sources;
       count = omega (arith, c.in_ok-expand_at.ensures.count, c.loop-place.invariant.count);
       found = c.in_ok-expand_at.ensures.found;

@@ -9,7 +9,7 @@ use Rattle.workspace_state.specs.Turned.{scoped_at, turns}
 use Rattle.workspace_state.specs.Formed.{CameFormed}
 use Rattle.workspace_state.specs.Forms.{IsBench}
 use Rattle.workspace_state.specs.Libraries.{ExportsMean}
-use Rattle.workspace_state.specs.Places.{AreHeads, HeadsStay}
+use Rattle.workspace_state.specs.Places.{AreHeads, HeadsStay, NamesKept}
 use Rattle.workspace_state.specs.Readings.{Read}
 use Rattle.workspace_state.specs.UnitsExpanded.{AreAllFound}
 use Rattle.workspace_state.specs.UnitsFound.{AreResultsOf, HaveFound, HaveTokens}
@@ -20,6 +20,7 @@ abbrev pub invariant-loop-place : goal.invariant-loop-place
 invariant-loop-place g l = record {
   bench : IsBench l.bench;
   heads : HeadsStay l.fn.units.heads.items l.units.heads.items;
+  kept : NamesKept l.fn.units.heads.items l.units.heads.items;
   sources : l.units.sources ≡ l.fn.units.sources;
   count : vec_len l.all ≡ vec_len l.fn.units.heads;
   found : AreAllFound (length l.documents) l.all.items;

@@ -26,7 +26,7 @@ use Rattle.workspace_state.proofs.TurnCited.{turn_of}
 use Rattle.workspace_state.proofs.UnitCame.{goes_in}
 use Rattle.workspace_state.proofs.UpTo.{done_at}
 use Rattle.workspace_state.proofs.UpToNext.{libraries_of, broken_next, none_before, expanded_next}
-use Rattle.workspace_state.proofs.BrokenLaws.{heads_itself, head_set, head_broken}
+use Rattle.workspace_state.proofs.BrokenLaws.{heads_itself, head_set, head_broken, names_broken, names_itself}
 use Rattle.workspace_state.proofs.FoundNext.{broken_found, expanded_found}
 use Rattle.workspace_state.proofs.MeaningLaws.{names_on}
 use Rattle.workspace_state.proofs.SoundKept.{source_read, some_document}
@@ -182,7 +182,7 @@ returns-clause-finds g c = λ spelled us known x y order finds up reads ends hea
     let result = results n turn.unit turn.there in
     let told : AreSetsFound reads ends p (unit_entries us gp.results p).1 c.in_ok-given.given.findings.items = record {
     told = c.in_ok-given.ensures.told spelled us gp.results libraries p (record { kind = source.kind; specs = source.imports refl }) reads ends places result.0 result.1 result.2;
-    errors = c.in_ok-given.ensures.errors spelled us gp.results libraries p (record { kind = source.kind; specs = source.imports refl }) source.forms;
+    errors = c.in_ok-given.ensures.errors spelled us gp.results libraries p (record { kind = source.kind; specs = source.imports refl }) source.forms refl;
     } in
     let mine = c.in_ok-came.ensures.finds spelled known gp p (unit_entries us gp.results p) up.knows goes refl source given reads ends result.0 places result.1 result.2 told in
     expanded_found spelled us known x y n order b c.args.units.now es up h at reads ends found whole c.in_ok-came.came mine
@@ -193,3 +193,15 @@ returns-then-is_some-clause-finds g c = λ spelled us known x y order finds up r
     let h = c.index.result.now in
     let at = slice_get_read hs (length hs) c.args.place h refl (omega (arith, c.args.units.now.heads.ok.0, c.requires.place)) c.index.ensures in
     broken_found spelled us known x y c.args.place order c.args.bench.now c.args.units.now c.args.all.now.items up h at reads ends found (sym c.is_some.ensures ∙ c.if-is_some.true)
+
+-- ---- names
+
+pub returns-then-is_some-clause-kept : goal.returns-then-is_some-clause-kept
+returns-then-is_some-clause-kept g c = names_itself c.args.units.now.heads.items
+
+pub returns-clause-kept : goal.returns-clause-kept
+returns-clause-kept g c =
+    let hs = c.args.units.now.heads.items in
+    let h = c.index_mut.result.now in
+    let at = slice_get_read hs (length hs) c.args.place h refl (omega (arith, c.args.units.now.heads.ok.0, c.requires.place)) c.index_mut.ensures.value in
+    names_broken hs c.args.place h c.break_if.new.head c.is_none.result fault.TooLarge at c.break_if.ensures

@@ -12,4 +12,4 @@ pub returns-in-Some-clause-exact : goal.returns-in-Some-clause-exact
 returns-in-Some-clause-exact c = ap error_in (sym (get_some c.args.errors.now c.args.unit c.in-Some.error.now (sym c.in-Some.ensures.lookup.0) c.in-Some.ensures.lookup.1))
 
 pub returns-in-None-clause-exact : goal.returns-in-None-clause-exact
-returns-in-None-clause-exact c = ap error_in (sym (get_none c.args.errors.now c.args.unit (?)))
+returns-in-None-clause-exact c = ap error_in (sym (get_none c.args.errors.now c.args.unit (sym c.in-None.ensures.lookup.0)))

@@ -14,7 +14,7 @@ returns-clause-uri c =
     let ds = c.args.documents.now in
     let n = c.args.head.now.document in
     let d = c.index-documents-head.result in
-    mapped_at (λ (x : Document). x.uri) ds n d (slice_get_read ds (length ds) n d refl c.requires c.index-documents-head.is) ∙ ap Some (sym c.in_ok-clone.ensures.cases)
+    mapped_at (λ (x : Document). x.uri) ds n d (slice_get_read ds (length ds) n d refl c.requires c.index-documents-head.is) ∙ (ap (λ (x : Document). Some x.uri) c.index-documents-head.is ∙ ap Some (sym c.in_ok-clone.ensures.cases))
 
 pub returns-clause-errors : goal.returns-clause-errors
 returns-clause-errors c = c.in_ok-errors.ensures ∙ ap errors_in c.as_slice.ensures.value
