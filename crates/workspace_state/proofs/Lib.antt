@@ -94,3 +94,4 @@ pub mod KnownSteps  -- The names of libraries, one datum and one document more a
 pub mod ListedUnits  -- Units as they are listed
 pub mod ListedDocuments  -- The units of documents, one datum and one document more at a time
 pub mod HeadsOf  -- The heads of units have what the units do, as these were listed, judged and worked on
+pub mod TokenSpans  -- The bytes of the first token of a datum that was read are those of the token with its first number

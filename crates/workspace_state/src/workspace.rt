@@ -9,7 +9,9 @@ ghost use Rattle.scheme_model.specs.Diagnostics.{bytes_of};
 ghost use Rattle.workspace_state.specs.Placed.{IsErrorAt, IsIn, IsPlace, form_bytes};
 ghost use Rattle.workspace_state.specs.Places.{spans_of};
 ghost use Rattle.workspace_state.specs.UnitsFound.{first_error_at};
+ghost use Rattle.workspace_state.specs.Belongs.{HasProgram};
 ghost use Rattle.workspace_state.specs.Events.{leaves, event_of, fault_of};
+ghost use Rattle.workspace_state.specs.Listed.{AreFoundOf};
 
 use crate::events::{DocEvent, Updated};
 use crate::expansion::Expansion;
@@ -168,6 +170,8 @@ struct Told {
 fn read_all<L: Ledger>(alloc: Global, store: Store, steps: &mut Steps<L>) -> Mem<(Open, Told)>
     ensures texts { IfOk result (λ read. read.0 ≡ store) }
     ensures findings { IfOk result (λ read. length read.1.findings.items ≡ length (entries store)) }
+    ensures found { (rs : List Read) → AreReadAs (entries store) rs → IfOk result (λ read. AreFoundOf rs read.1.findings.items) }
+    ensures program { (rs : List Read) → AreReadAs (entries store) rs → IfOk result (λ read. HasProgram store rs read.1.expansion.work read.1.expansion.program) }
 {
     let reading = read_program(alloc, &store, steps)?;
     let Reading {
