@@ -252,11 +252,17 @@ pub record SetsTold (names : Names) (gs : List Group) (before now : List Diagnos
   pub sets : SetsSoFar names gs before now places document all rs whole rest
   pub errors : length whole_forms ≡ length whole → errors_now ++ set_errors (zip rest_forms (import_all all rs sets.es rest).1) ≡ errors_before ++ set_errors (zip whole_forms (import_all all rs [] whole).1)
 
+pub sets_told_begin : (names : Names) (gs : List Group) (before : List Diagnostic) (places : code_places.Places) (document : ℕ) (all : List Placed) (rs : List UnitResult) (whole : List ImportSpec) (fs : List ℕ) (es : List (ℕ × ℕ)) → gs ≡ [] →
+    SetsTold names gs before before places document all rs whole whole fs fs es es
+unfolding sets_begin
+sets_told_begin names gs before places document all rs whole fs es none = record { sets = sets_begin names gs before places document all rs whole none; errors = λ many. refl }
+
 pub sets_told_next : (old new : Names) (gs hs : List Group) (before now more : List Diagnostic) (places : code_places.Places) (document : ℕ) (all : List Placed) (rs : List UnitResult) (whole : List ImportSpec) (i : ℕ) (s : ImportSpec) (fs : List ℕ) (es es_now es_more : List (ℕ × ℕ)) →
     slice_get whole i ≡ Some s → (h : SetsTold old gs before now places document all rs whole (drop i whole) fs (drop i fs) es es_now) → GroupsStand new hs (with_set all rs s.set h.sets.es).0 →
     ((reads : List Read) (us : List UnitResult) → ArePlaces places reads us → more ≡ now ++ told_of places reads us document (s ∷ []) ((with_set all rs s.set h.sets.es).1 ∷ [])) →
     es_more ≡ es_now ++ set_errors ((number_at fs i, (with_set all rs s.set h.sets.es).1) ∷ []) →
     SetsTold new hs before more places document all rs whole (drop (i + 1) whole) fs (drop (i + 1) fs) es es_more
+unfolding sets_next
 sets_told_next old new gs hs before now more places document all rs whole i s fs es es_now es_more at h stand n one = record {
   sets = sets_next old new gs hs before now more places document all rs whole i s at h.sets stand n;
   errors = λ many.

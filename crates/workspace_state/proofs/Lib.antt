@@ -41,7 +41,6 @@ pub mod UnboundLaws  -- The unbound uses that the code finds are those of the de
 pub mod ImportLaws  -- What import sets of the code give stands for some entries
 pub mod DefinedLaws  -- What forms define, one form more
 pub mod UnitLaws  -- A unit that is begun on a bench, and what its forms tell once they are expanded
-pub mod ToldLaws  -- What is found, and the diagnostics that it is
 pub mod NameLaws  -- What can be exported of a unit is what the definition finds by name
 pub mod BaseLaws  -- What `(scheme base)` gives
 pub mod KnownLaws  -- Which libraries there are, by the texts of their names that are listed
@@ -63,6 +62,7 @@ pub mod TurnCited  -- One turn more, as what expands the units goes through thei
 pub mod ListLaws  -- The lists of documents, one document after another
 pub mod PublishLaws  -- What is published, one document after another
 pub mod DiagnosedLaws  -- What is found in forms tells the definition's diagnostics
+pub mod ToldLaws  -- What is found, and the diagnostics that it is
 pub mod UnboundFound  -- What is found of uses that mean nothing tells the definition's diagnostics
 pub mod WholeLaws  -- What is found of a unit that is broken as a whole tells the definition's diagnostic
 pub mod StopsLaws  -- Documents that don't read have that alone, and what the code keeps of all documents

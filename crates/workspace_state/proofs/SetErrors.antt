@@ -47,13 +47,13 @@ forms_next unit fs i j f now new all next at one so =
 -- there is one for each set
 pub as_many_forms : (unit n : ℕ) (fs : List UnitForm) → length (set_forms unit n fs) ≡ length (specs_from unit n fs)
 as_many_forms unit n [] = refl
-as_many_forms unit n (f ∷ fs) = both (map (λ (s : ImportSpec). n) (specs_in unit n f)) (specs_in unit n f) (length-map (specs_in unit n f) (λ (s : ImportSpec). n)) (as_many_forms unit (suc n) fs)
+as_many_forms unit n (f ∷ fs) = both (map (λ (s : ImportSpec). n) (specs_in unit n f)) (specs_in unit n f) (set_forms unit (suc n) fs) (specs_from unit (suc n) fs) (length-map (specs_in unit n f) (λ (s : ImportSpec). n)) (as_many_forms unit (suc n) fs)
   where
-    both : {A B : Type 0} (xs : List A) (ys : List B) {vs : List A} {ws : List B} → length xs ≡ length ys → length vs ≡ length ws → length (xs ++ vs) ≡ length (ys ++ ws)
-    both [] [] e h = h
-    both [] (y ∷ ys) e h = absurd (omega arith)
-    both (x ∷ xs) [] e h = absurd (omega arith)
-    both (x ∷ xs) (y ∷ ys) e h = ap suc (both xs ys (omega arith) h)
+    both : {A B : Type 0} (xs : List A) (ys : List B) (vs : List A) (ws : List B) → length xs ≡ length ys → length vs ≡ length ws → length (xs ++ vs) ≡ length (ys ++ ws)
+    both [] [] vs ws e h = h
+    both [] (y ∷ ys) vs ws e h = absurd (omega arith)
+    both (x ∷ xs) [] vs ws e h = absurd (omega arith)
+    both (x ∷ xs) (y ∷ ys) vs ws e h = ap suc (both xs ys vs ws (omega arith) h)
 
 pub number_is : (ns : List ℕ) (i : ℕ) → i < length ns → slice_get ns i ≡ Some (number_at ns i)
 number_is [] i lt = absurd (omega arith)

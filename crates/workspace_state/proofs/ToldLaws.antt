@@ -14,6 +14,7 @@ use Rattle.workspace_state.specs.declared.findings.Finding.{Finding}
 use Rattle.workspace_state.specs.Found.{told, told_at, all_told, errors_in, error_by, is_error}
 use Rattle.workspace_state.specs.Places.{bytes_at}
 use Rattle.workspace_state.specs.Wording.{front}
+use Rattle.workspace_state.proofs.DiagnosedLaws.{errors_both}
 
 -- one more
 pub told_more : (fs new : List Finding) (f : Finding) (at : Option At) (code : ℕ) (text : List ℕ) → new ≡ fs ++ f ∷ [] → f.at ≡ at → f.code ≡ code → f.message ≡ text →

@@ -3,7 +3,7 @@ ghost use Rattle.std.specs.Prelude.{◌≡◌, ℕ, ◌<◌, ◌≤◌, List, le
 ghost use Rattle.std.specs.FinMap.{entries};
 ghost use Rattle.ls_base.specs.Limits.{max_documents};
 ghost use Rattle.scheme_model.specs.Diagnostics.{unit_at};
-ghost use Rattle.scheme_model.specs.Program.{Document as ModelDocument, Program as Model, UnitResult, known_in, units_of};
+ghost use Rattle.scheme_model.specs.Program.{Document as ModelDocument, Program as Model, UnitResult, WholeFault as Whole, known_in, units_of};
 ghost use Rattle.scheme_model.specs.Requirements.{LibraryName};
 ghost use Rattle.syntax_tree.specs.declared.trees.Work.{Work as AnyWork};
 ghost use Rattle.core_tree.specs.Units.{error_as};
@@ -13,6 +13,7 @@ ghost use Rattle.document_store.specs.Texts.{Document as Text};
 ghost use Rattle.workspace_state.specs.declared.listing.Head.{Head as AnyHead};
 ghost use Rattle.workspace_state.specs.Belongs.{AreErrorsIn, IsReading};
 ghost use Rattle.arrow_index.specs.Formed.{AreFormedIn, IsFormed};
+ghost use Rattle.workspace_state.specs.Broken.{told};
 ghost use Rattle.workspace_state.specs.Came.{IsUpTo};
 ghost use Rattle.workspace_state.specs.Collected.{AreCollected, AreHeadsOf, Has, HaveErrors, IsNothing};
 ghost use Rattle.workspace_state.specs.DataRead.{AreReadIn, HaveData};
@@ -197,9 +198,23 @@ fn came_to(
     ensures told { (rs : List Read) (p : Model) (h : AnyHead) (r : UnitResult) → ArePlaces places.entry rs p.units → unit_at p.units place ≡ Some r → slice_get places.entry.heads.now place ≡ Some h → IsTold rs p h came r →
         IfOk result (λ came. IsFoundOf rs p r came.findings.items) }
 {
-    if let Some(came) = came {
-        return Ok(came);
+    match came {
+        Some(came) => Ok(came),
+        None => Ok(broken_at(alloc, places, place, count)?),
     }
+}
+
+/// What the unit at a place comes to, which is broken as a whole.
+fn broken_at(alloc: Global, places: Places<'_>, place: usize, count: usize) -> Mem<Expanded>
+    requires place { place < length places.heads.now }
+    requires documents { 0 < length places.documents.now }
+    requires places { CanPlace places }
+    ensures found { IfOk result (λ came. AreFoundIn (length places.entry.documents.now) came.findings.items) }
+    ensures formed { (work : AnyWork) → IfOk result (λ came. IsFormed work place came.forms) }
+    ensures nothing { IfOk result (IsNothing count) }
+    ensures told { (rs : List Read) (p : Model) (h : AnyHead) (r : UnitResult) (f : Whole) → ArePlaces places.entry rs p.units → unit_at p.units place ≡ Some r → slice_get places.entry.heads.now place ≡ Some h →
+        h.fault ≡ Some (told f) → r.fault ≡ Some f → IfOk result (λ came. IsFoundOf rs p r came.findings.items) }
+{
     let fault = places.heads[place].fault.unwrap_or(WholeFault::TooLarge);
     let unit = number_of(place)?;
     Ok(broken(alloc, places, unit, fault, count)?)

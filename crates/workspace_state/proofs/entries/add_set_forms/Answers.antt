@@ -4,11 +4,11 @@ use Rattle.library_table.specs.UnitsRead.{form_of}
 use Rattle.workspace_state.proofs.SetErrors.{sets_in, no_sets_in}
 use Rattle.workspace_state.proofs.entries.add_set_forms.Goals as goal
 
-pub returns-in_ok-add_for_each : goal.returns-in_ok-add_for_each
-returns-in_ok-add_for_each c = λ unit.
+pub returns-then-is_import : goal.returns-then-is_import
+returns-then-is_import c = λ unit.
     c.in_ok-add_for_each.ensures
     ∙ ap (λ (ns : List ℕ). c.args.all.now.items ++ ns) (sets_in unit c.args.number (form_of c.args.form.now) c.behind_first.result.now (sym c.is_import.ensures ∙ c.if-is_import.true) c.behind_first.ensures)
 
-pub returns-else-is_import : goal.returns-else-is_import
-returns-else-is_import c = λ unit.
+pub returns : goal.returns
+returns c = λ unit.
     sym (append-nil c.args.all.now.items) ∙ ap (λ (ns : List ℕ). c.args.all.now.items ++ ns) (no_sets_in unit c.args.number (form_of c.args.form.now) (sym c.is_import.ensures ∙ c.if-is_import.false))

@@ -11,7 +11,7 @@ use Rattle.workspace_state.specs.Found.{all_told, errors_in}
 use Rattle.workspace_state.specs.Places.{number_at}
 use Rattle.workspace_state.specs.Joining.{AreApart, GroupsMean}
 use Rattle.workspace_state.specs.SetsGiven.{IsSpec, with_set}
-use Rattle.workspace_state.proofs.GivenLaws.{item_at, libraries_kept, none_left, sets_begin, sets_done, sets_told_next}
+use Rattle.workspace_state.proofs.GivenLaws.{item_at, libraries_kept, none_left, sets_told_begin, sets_done, sets_told_next}
 use Rattle.workspace_state.proofs.Matched.{matched_at}
 use Rattle.workspace_state.proofs.MeaningLaws.{names_itself, names_on}
 use Rattle.workspace_state.proofs.SetErrors.{as_many_forms, no_set_errors}
@@ -26,7 +26,7 @@ loop-place-init c =
       apart = subst AreApart (sym none) tt;
       clashes = ap (λ (g : Gathered). g.clashes) c.new-gathering.ensures;
       findings = c.requires.findings;
-      sets = λ spelled all rs libs ss specs. record { sets = sets_begin c.args.symbols.now c.new-gathering.result.groups.items (all_told c.args.findings.now.items) c.args.places c.args.document all rs ss none; errors = λ many. refl };
+      sets = λ spelled all rs libs ss specs. sets_told_begin c.args.symbols.now c.new-gathering.result.groups.items (all_told c.args.findings.now.items) c.args.places c.args.document all rs ss c.in_ok-forms.forms.items (errors_in c.args.findings.now.items) none;
     }
 
 pub loop-place-preserved : goal.loop-place-preserved

@@ -1,28 +1,13 @@
--- A unit that is broken as a whole has blank forms, and is told by what breaks it.
-use Rattle.std.proofs.Common.{◌≡◌, ℕ, Option, Some, length, refl, sym, ap, ◌∙◌, subst, arith}
-use Rattle.std.specs.Prelude.{unwrap_or}
-use Rattle.std.proofs.lemmas.Option.{same_Some, slice_get_read}
-use Rattle.scheme_model.specs.Diagnostics.{unit_at}
-use Rattle.arrow_index.specs.Formed.{IsFormed}
-use Rattle.workspace_state.specs.Broken.{told as told_as}
+-- It came so, or is broken as a whole.
+use Rattle.std.proofs.Common.{◌≡◌, Option, subst}
 use Rattle.workspace_state.specs.UnitsFound.{IsTold}
-use Rattle.workspace_state.specs.declared.breaking.WholeFault.{WholeFault}
-use Rattle.workspace_state.specs.declared.breaking.WholeFault.TheVariants as fault
 use Rattle.workspace_state.specs.declared.expanding.Expanded.{Expanded}
-use Rattle.workspace_state.specs.declared.listing.Head.{Head}
 use Rattle.workspace_state.proofs.program.came_to.Goals as goal
-
-pub returns-clause-formed : goal.returns-clause-formed
-returns-clause-formed c = λ work _. subst (λ (n : ℕ). IsFormed work n c.in_ok-broken.field-0.forms) c.in_ok-unit.ensures (c.in_ok-broken.ensures.formed work)
 
 pub returns-in-Some-clause-told : goal.returns-in-Some-clause-told
 returns-in-Some-clause-told c = λ rs p h r places at head told. subst (λ (o : Option Expanded). IsTold rs p h o r) c.in-Some.is told
 
-pub returns-clause-told : goal.returns-clause-told
-returns-clause-told c = λ rs p h r places at head told.
-    let f = told.0 in
-    let hs = c.args.places.heads.now in
-    let there = c.index.result in
-    let same : there ≡ h = same_Some there h (sym (slice_get_read hs (length hs) c.args.place there refl c.requires.place c.index.is) ∙ head) in
-    let fault : c.unwrap_or-fault.result ≡ told_as f = c.unwrap_or-fault.ensures ∙ (ap (λ (x : Head). unwrap_or x.fault fault.TooLarge) same ∙ ap (λ (o : Option WholeFault). unwrap_or o fault.TooLarge) told.1) in
-    c.in_ok-broken.ensures.finds rs p r f places (ap (unit_at p.units) c.in_ok-unit.ensures ∙ at) told.2 fault
+pub returns-in-None-clause-told : goal.returns-in-None-clause-told
+returns-in-None-clause-told c = λ rs p h r places at head told.
+    let broken = subst (λ (o : Option Expanded). IsTold rs p h o r) c.in-None.is told in
+    c.in_ok-broken_at-in-None.ensures.told rs p h r broken.0 places at head broken.1 broken.2

@@ -45,7 +45,7 @@ done : (c : In-None) → length c.loop-place.yielded ≡ length c.args.expanded.
 done c =
     let all = c.args.expanded.items in
     let e = YieldsList-end (YieldsList-from_enumerate (YieldsList-from_vec all (cc) (cc)) (cc)) c.loop-place.yielded c.loop-place.place-iterator c.loop-place.yielded_by c.next.result c.next.new.self c.in-None.is c.next.ensures.steps in
-    all_placed all (length c.loop-place.yielded) (?)
+    all_placed all (length c.loop-place.yielded) e.1
 
 pub loop-place-init : goal.loop-place-init
 loop-place-init c = record {
@@ -66,18 +66,18 @@ came_to-requires-clause-documents c =
     let t = turn (goal.at.came_to-requires-clause-documents c).In-Some in
     let there : length c.loop-place.yielded < length c.args.units.heads.items = omega (arith, t.2, c.requires.count, c.args.expanded.ok.0, c.args.units.heads.ok.0) in
     let some = some_document (vec_len c.args.documents) c.args.units.heads.items (length c.loop-place.yielded) c.requires.units.heads there in
-    omega (arith, some, c.as_slice-in-loop-place.ensures.len)
+    omega (arith, some, c.as_slice.ensures.len)
 
 pub came_to-requires-clause-places : goal.came_to-requires-clause-places
 came_to-requires-clause-places c =
-    subst (λ (n : ℕ). AreHeadsIn n c.as_slice-in-loop-place-2.result.now) (sym c.as_slice-in-loop-place.ensures.len)
-    (subst (λ (hs : List Head). AreHeadsIn (vec_len c.args.documents) hs) (sym c.as_slice-in-loop-place-2.ensures.value)
+    subst (λ (n : ℕ). AreHeadsIn n c.as_slice-in-loop-place.result.now) (sym c.as_slice.ensures.len)
+    (subst (λ (hs : List Head). AreHeadsIn (vec_len c.args.documents) hs) (sym c.as_slice-in-loop-place.ensures.value)
     (heads_in (vec_len c.args.documents) c.args.units.heads.items c.loop-place.heads.items c.loop-place.invariant.heads c.requires.units.heads))
 
 pub came_to-requires-clause-found : goal.came_to-requires-clause-found
 came_to-requires-clause-found c =
     let t = turn (goal.at.came_to-requires-clause-found c).In-Some in
-    subst (λ (n : ℕ). IfSome c.in-Some.came (λ (e : Expanded). AreFoundIn n e.findings.items)) (sym c.as_slice-in-loop-place.ensures.len)
+    subst (λ (n : ℕ). IfSome c.in-Some.came (λ (e : Expanded). AreFoundIn n e.findings.items)) (sym c.as_slice.ensures.len)
     (found_in (vec_len c.args.documents) c.args.expanded.items (length c.loop-place.yielded) c.in-Some.came c.requires.found t.1)
 
 pub unit_of-requires : goal.unit_of-requires
@@ -89,13 +89,13 @@ unit_of-requires c =
     let size = c.loop-place.invariant.heads.size in
     let within : c.in-Some.place < length hs = omega (arith, t.0, t.2, size, c.requires.count, c.args.expanded.ok.0, c.args.units.heads.ok.0) in
     let below = heads_in count c.args.units.heads.items hs c.loop-place.invariant.heads c.requires.units.heads c.in-Some.place h (slice_get_read hs (length hs) c.in-Some.place h refl within c.index_mut.ensures.value) in
-    omega (arith, below, c.as_slice-in-loop-place-3.ensures.len)
+    omega (arith, below, c.as_slice-in-loop-place-2.ensures.len)
 
 pub add-requires : goal.add-requires
 add-requires c =
     let same : c.in_ok-came.came.findings.items ≡ c.in_ok-unit.found.items = cc (c.in_ok-unit.ensures.findings) in
-    let many : length c.as_slice-in-loop-place.result.now ≡ vec_len c.loop-place.findings = c.as_slice-in-loop-place.ensures.len ∙ sym c.loop-place.invariant.findings in
-    subst (λ (n : ℕ). AreFoundIn n c.in_ok-unit.found.items) many (subst (λ (fs : List Finding). AreFoundIn (length c.as_slice-in-loop-place.result.now) fs) same c.in_ok-came.ensures.found)
+    let many : length c.as_slice.result.now ≡ vec_len c.loop-place.findings = c.as_slice.ensures.len ∙ sym c.loop-place.invariant.findings in
+    subst (λ (n : ℕ). AreFoundIn n c.in_ok-unit.found.items) many (subst (λ (fs : List Finding). AreFoundIn (length c.as_slice.result.now) fs) same c.in_ok-came.ensures.found)
 
 pub loop-place-preserved : goal.loop-place-preserved
 loop-place-preserved c =
@@ -107,9 +107,9 @@ loop-place-preserved c =
     let h = c.index_mut.result.now in
     let size = l.invariant.heads.size in
     let within : c.in-Some.place < length hs = omega (arith, t.0, t.2, size, c.requires.count, c.args.expanded.ok.0, c.args.units.heads.ok.0) in
-    let same : c.in_ok-came.came.findings.items ≡ c.as_slice-in-loop-place-4.result.now = cc (c.in_ok-unit.ensures.findings, c.as_slice-in-loop-place-4.ensures.value) in
-    let found = subst (λ (n : ℕ). AreFoundIn n c.as_slice-in-loop-place-4.result.now) c.as_slice-in-loop-place.ensures.len
-    (subst (λ (fs : List Finding). AreFoundIn (length c.as_slice-in-loop-place.result.now) fs) same c.in_ok-came.ensures.found) in
+    let same : c.in_ok-came.came.findings.items ≡ c.as_slice-in-loop-place-3.result.now = cc (c.in_ok-unit.ensures.findings, c.as_slice-in-loop-place-3.ensures.value) in
+    let found = subst (λ (n : ℕ). AreFoundIn n c.as_slice-in-loop-place-3.result.now) c.as_slice.ensures.len
+    (subst (λ (fs : List Finding). AreFoundIn (length c.as_slice.result.now) fs) same c.in_ok-came.ensures.found) in
     let came : IfSome c.in-Some.came (λ (e : Expanded). IsFormed work c.in-Some.place e.forms) = subst (λ (n : ℕ). IfSome c.in-Some.came (λ (e : Expanded). IsFormed work n e.forms)) (sym t.0)
     (formed_at work c.args.expanded.items (length l.yielded) c.in-Some.came c.requires.formed t.1) in
     let pushed = c.in_ok-push-2.ensures.ok in
@@ -126,12 +126,12 @@ loop-place-preserved c =
           let r = get p.units n (omega (arith, t.2, told.count)) in
           let at_unit : slice_get p.units c.in-Some.place ≡ Some r.0 = ap (slice_get p.units) t.0 ∙ r.1 in
           let stay = heads_kept rs 0 c.args.units.heads.items hs p.units l.invariant.heads told.heads in
-          let places : ArePlaces (record { documents = c.as_slice-in-loop-place.result; heads = c.as_slice-in-loop-place-2.result }) rs p.units = record {
-          heads = subst (λ (ks : List Head). AreHeads rs 0 ks p.units) (sym c.as_slice-in-loop-place-2.ensures.value) stay;
-          spans = subst (λ (ds : List Document). HaveTokens ds rs) (sym c.as_slice-in-loop-place.ensures.value) tokens;
+          let places : ArePlaces (record { documents = c.as_slice.result; heads = c.as_slice-in-loop-place.result }) rs p.units = record {
+          heads = subst (λ (ks : List Head). AreHeads rs 0 ks p.units) (sym c.as_slice-in-loop-place.ensures.value) stay;
+          spans = subst (λ (ds : List Document). HaveTokens ds rs) (sym c.as_slice.ensures.value) tokens;
           } in
           let at_head : slice_get hs c.in-Some.place ≡ Some h = slice_get_read hs (length hs) c.in-Some.place h refl within c.index_mut.ensures.value in
-          let head_there : slice_get c.as_slice-in-loop-place-2.result.now c.in-Some.place ≡ Some h = ap (λ (ks : List Head). slice_get ks c.in-Some.place) c.as_slice-in-loop-place-2.ensures.value ∙ at_head in
+          let head_there : slice_get c.as_slice-in-loop-place.result.now c.in-Some.place ≡ Some h = ap (λ (ks : List Head). slice_get ks c.in-Some.place) c.as_slice-in-loop-place.ensures.value ∙ at_head in
           let first_head : slice_get c.args.units.heads.items n ≡ Some h = sym (l.invariant.untouched n (omega arith)) ∙ (ap (slice_get hs) (sym t.0) ∙ at_head) in
           let is : IsTold rs p h o r.0 = told.each n h o r.0 first_head t.1 r.1 in
           let found = c.in_ok-came.ensures.told rs p h r.0 places (result_of rs 0 c.args.units.heads.items p.units told.heads c.in-Some.place c.in-Some.place r.0 (omega arith) at_unit) head_there is in
@@ -140,7 +140,7 @@ loop-place-preserved c =
           more_told rs p n r.0 r.1 fs found l.findings.items c.add.new.all.items l.program c.push-in-loop-place.new.self c.in_ok-unit.unit l.first_errors.items c.push.new.self.items c.first_error.result
           (length (l.yielded ++ (c.in-Some.place, o) ∷ [])) (length_push l.yielded (c.in-Some.place, o) ∙ add-one n)
           (λ ds kept. subst (λ xs. AreKept (ds ++ all_told xs) c.add.new.all.items) same_found (c.in_ok-add.ensures.kept ds kept)) l.invariant.count pushed c.in_ok-unit.ensures.errors c.in_ok-push.ensures.items
-          (c.first_error.ensures.first ∙ ap first_error_in (c.as_slice-in-loop-place-4.ensures.value ∙ same_found)) (l.invariant.told rs p tokens told);
+          (c.first_error.ensures.first ∙ ap first_error_in (c.as_slice-in-loop-place-3.ensures.value ∙ same_found)) (l.invariant.told rs p tokens told);
       untouched = λ k le. set_other hs c.in-Some.place c.unit_of.new.head k (omega (arith, t.0, length_push l.yielded (c.in-Some.place, c.in-Some.came), le)) ∙ l.invariant.untouched k (omega (arith, length_push l.yielded (c.in-Some.place, c.in-Some.came), le));
       collected =
           let uris = map (λ (d : Document). d.uri) c.args.documents.items in
@@ -158,7 +158,7 @@ loop-place-preserved c =
           let many : c.len-count.result ≡ length s.forms = c.len-count.ensures ∙ ap (λ (fs : List SourceForm). length fs) c.as_slice-count.ensures in
           one_collected uris hs0 ss es l.program c.push-in-loop-place.new.self u n h s o pushed (l.invariant.count ∙ sym t.0) at_head at_source at_come
           (record {
-          uri = subst (λ (ds : List Document). slice_get (map (λ (d : Document). d.uri) ds) h.document ≡ Some u.uri) c.as_slice-in-loop-place-3.ensures.value c.in_ok-unit.ensures.uri;
+          uri = subst (λ (ds : List Document). slice_get (map (λ (d : Document). d.uri) ds) h.document ≡ Some u.uri) c.as_slice-in-loop-place-2.ensures.value c.in_ok-unit.ensures.uri;
           kind = c.in_ok-unit.ensures.kind;
           name = c.in_ok-unit.ensures.name;
           imports = c.in_ok-unit.ensures.imports;
@@ -178,8 +178,8 @@ pub returns-clause-found : goal.returns-clause-found
 returns-clause-found c = λ ds rs are read tokens told.
     let p = program_in rs in
     let all = done (goal.at.returns-clause-found c).In-None in
-    let cs = c.as_slice.result.now in
-    kept_of_all ds cs rs (subst (λ (xs : List Document). AreDocuments ds xs) (sym c.as_slice.ensures.value) are) read c.loop-place.findings.items c.tell_unread.new.findings.items
+    let cs = c.as_slice-2.result.now in
+    kept_of_all ds cs rs (subst (λ (xs : List Document). AreDocuments ds xs) (sym c.as_slice-2.ensures.value) are) read c.loop-place.findings.items c.tell_unread.new.findings.items
     (kept_all rs p (length c.loop-place.yielded) c.loop-place.findings.items c.loop-place.program c.loop-place.first_errors.items (omega (arith, all, told.count)) (c.loop-place.invariant.told rs p tokens told)) c.in_ok-tell_unread.ensures
 
 pub returns-clause-collected : goal.returns-clause-collected
