@@ -1,9 +1,8 @@
 -- Heads that stay are those of the same units.
-use Rattle.std.proofs.Common.{◌≡◌, ℕ, zero, suc, List, [], ◌∷◌, length, slice_get, Some, refl, sym, ap, ◌∙◌, subst, arith}
+use Rattle.std.proofs.Common.{◌≡◌, ℕ, suc, List, [], ◌∷◌, length, refl, sym, ap, ◌∙◌, subst, arith}
 use Rattle.scheme_model.specs.Program.{UnitResult}
-use Rattle.scheme_model.specs.Diagnostics.{unit_start}
 use Rattle.workspace_state.specs.declared.listing.Head.{Head}
-use Rattle.workspace_state.specs.Places.{IsHead, AreHeads, HeadsStay, SameHead, spans_of}
+use Rattle.workspace_state.specs.Places.{IsHead, AreHeads, HeadsStay, SameHead}
 use Rattle.workspace_state.specs.Readings.{Read, span_seen}
 
 head_kept : (rs : List Read) (k : ℕ) (h g : Head) (r : UnitResult) → SameHead h g → IsHead rs k h r → IsHead rs k g r

@@ -1,19 +1,13 @@
 -- Units that were judged, as they are handed on to be expanded.
 use Rattle.std.proofs.Common.{◌≡◌, ℕ, List, [], Bool, true, false, cond, slice_get, Option, Some, None, refl, sym, ap, ◌∙◌, subst}
 use Rattle.std.specs.Option.{option_map, is_some}
-use Rattle.std.proofs.lemmas.Option.{same_Some}
 use Rattle.scheme_model.specs.Requirements.{LibraryName}
 use Rattle.scheme_model.specs.Program as model
 use Rattle.scheme_model.specs.Program.{Placed, Prepared, prepared, prepare, fault_before}
 use Rattle.scheme_model.specs.ScopedProgram.{scoped_before}
-use Rattle.scheme_tokens.specs.LibraryNames.{library_text}
-use Rattle.core_tree.specs.Units.{kind_as, text_of}
 use Rattle.library_table.specs.declared.units.UnitSource.{UnitSource}
 use Rattle.workspace_state.specs.Broken.{told, AreJudged, without_if, Forgets}
 use Rattle.workspace_state.specs.Came.{IsSourceOf, AreSourcesOf, AreReadOf, HeadsBy}
-use Rattle.workspace_state.specs.Collected.{AreHeadsOf}
-use Rattle.workspace_state.specs.Places.{HeadsStay}
-use Rattle.workspace_state.specs.UnitsListed.{IsToldBy}
 use Rattle.workspace_state.specs.declared.breaking.WholeFault.{WholeFault}
 use Rattle.workspace_state.specs.declared.listing.Head.{Head}
 

@@ -1,5 +1,5 @@
 -- The bytes of a datum's first token are those of the token with its number (R7RS 7.1.2).
-use Rattle.std.proofs.Common.{◌≡◌, ℕ, zero, suc, ◌+◌, ◌≤◌, ◌⊎◌, inl, inr, List, [], ◌∷◌, map, codes, chars, Option, Some, None, refl, sym, ap, ◌∙◌, subst, arith}
+use Rattle.std.proofs.Common.{◌≡◌, ℕ, suc, ◌+◌, ◌≤◌, inl, inr, List, [], ◌∷◌, map, Option, Some, None, sym, ap, ◌∙◌, subst, arith}
 use Rattle.std.specs.Prelude.{min}
 use Rattle.std.specs.Option.{option_map}
 use Rattle.scheme_tokens.specs.Lexical as lexical
@@ -8,7 +8,7 @@ use Rattle.scheme_tokens.specs.Faults as faulty
 use Rattle.scheme_tokens.specs.Stopping as stopping
 use Rattle.scheme_model.specs.Kinds.{TokenKind, Token}
 use Rattle.scheme_model.specs.Kinds as kinds
-use Rattle.scheme_model.specs.Data.{Datum, row, none, part, tail, tail_of, place_of}
+use Rattle.scheme_model.specs.Data.{Datum, place_of}
 use Rattle.scheme_model.specs.Diagnostics.{Span, span_at}
 use Rattle.scheme_model.specs.Numbered.{Spot, Numbered, number_from}
 use Rattle.scheme_model.specs.Written.{Written, alone, listed, tailed, vectored, byted, abbreviated, Gap, nothing, skipped, Parts, last, next, Bytes, last_byte, byte, token, written_tokens, gap_tokens, parts_tokens, bytes_tokens, meant, parts_meant}

@@ -9,7 +9,6 @@ use Rattle.scheme_model.specs.Program.{Placed, units_from, units_of}
 use Rattle.scheme_model.specs.Program as program
 use Rattle.scheme_model.specs.Requirements.{Known}
 use Rattle.scheme_model.specs.Diagnostics.{Span, span_at, spans_at}
-use Rattle.ls_base.specs.declared.places.Span as code_span
 use Rattle.datum_reader.specs.FirstTokens.{first_token, opening, span_of}
 use Rattle.workspace_state.specs.Readings.{Read, Reads, Stops, IsReadAs, AreReadAs, data_in, spans_in, span_seen}
 use Rattle.document_store.specs.Texts.{Document}

@@ -16,8 +16,6 @@ use Rattle.workspace_state.specs.Came.{FindsLibraries, GoesOn, HeadsBy, AreSourc
 use Rattle.workspace_state.specs.Libraries.{FindsBelow}
 use Rattle.workspace_state.specs.Places.{AreHeads}
 use Rattle.workspace_state.specs.Readings.{data_in}
-use Rattle.workspace_state.specs.Sound.{IsSound}
-use Rattle.workspace_state.specs.Turned.{turns}
 use Rattle.workspace_state.specs.UnitsFound.{AreTold}
 use Rattle.workspace_state.proofs.JudgedLaws.{unit_found}
 use Rattle.workspace_state.proofs.KnownLaws.{known_listed}
