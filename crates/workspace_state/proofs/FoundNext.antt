@@ -5,7 +5,9 @@ use Rattle.std.specs.Option.{option_map, is_some as is_there}
 use Rattle.scheme_model.specs.Order.{is_some}
 use Rattle.scheme_model.specs.Requirements.{LibraryName, Known}
 use Rattle.scheme_model.specs.Program.{Placed, Prepared, prepared, prepare, UnitResult, result_at, broken_result, unit_result, unit_entries, with_entries, fault_before}
+use Rattle.scheme_model.specs.ScopedExpansion.{ScopedState}
 use Rattle.scheme_model.specs.ScopedProgram.{ScopedProgress, after_unit}
+use Rattle.scheme_model.specs.UnitExpansion.{Formed}
 use Rattle.expander.proofs.OtherForms.{none_in_front}
 use Rattle.workspace_state.specs.Came.{HaveCome, IsCome, IsUpTo, expanded_after, so_far, with_unit}
 use Rattle.workspace_state.specs.Readings.{Read}
@@ -48,8 +50,8 @@ module _ (spelled : LibraryName → List ℕ) (us : List Placed) (known : Known)
       let to : scoped_at us known (x ++ n ∷ []) ≡ k = turn_broken us known x n turn e.0 e.1 in
       subst (λ (q : ScopedProgress). HaveFound reads ends q es) (sym to) (found_none reads ends g k n r refl turn.fresh refl (none_in_front (IsOfUnit n) g.table) numbered es found nothing)
 
-  module _ (whole : is_there hd.fault ≡ false) where
-    abbrev gone = expanded_after known g p (unit_entries us g.results p).0
+    abbrev gone : Option (List Formed) × ScopedState
+    gone = expanded_after known g p (unit_entries us g.results p).0
 
     pub expanded_found : (came : Option Expanded) → IfSome came (λ (e : Expanded). IsFoundOf reads (in_the_end ends (with_unit g gone.1)) (unit_result p (unit_entries us g.results p) gone.1.table gone.0) e.findings.items) →
         HaveFound reads ends (scoped_at us known (x ++ n ∷ [])) (slice_set es n came)
