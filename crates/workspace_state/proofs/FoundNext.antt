@@ -50,6 +50,7 @@ module _ (spelled : LibraryName → List ℕ) (us : List Placed) (known : Known)
       let to : scoped_at us known (x ++ n ∷ []) ≡ k = turn_broken us known x n turn e.0 e.1 in
       subst (λ (q : ScopedProgress). HaveFound reads ends q es) (sym to) (found_none reads ends g k n r refl turn.fresh refl (none_in_front (IsOfUnit n) g.table) numbered es found nothing)
 
+  module _ (whole : is_there hd.fault ≡ false) where
     abbrev gone : Option (List Formed) × ScopedState
     gone = expanded_after known g p (unit_entries us g.results p).0
 
