@@ -1,15 +1,15 @@
 -- The unit whose turn it is, broken or expanded: what is found of it is what the definition has of it, and of the units before it too.
-use Rattle.std.proofs.Common.{◌≡◌, ℕ, List, [], ◌∷◌, ◌++◌, true, false, slice_get, slice_set, Option, Some, None, refl, sym, ap, ◌∙◌, subst}
+use Rattle.std.proofs.Common.{◌≡◌, ℕ, List, [], ◌∷◌, ◌++◌, Bool, true, false, slice_get, slice_set, Option, Some, None, refl, sym, ap, ◌∙◌, subst}
 use Rattle.std.specs.Prelude.{IfSome}
-use Rattle.std.specs.Option.{is_some as is_there}
+use Rattle.std.specs.Option.{option_map, is_some as is_there}
 use Rattle.scheme_model.specs.Order.{is_some}
 use Rattle.scheme_model.specs.Requirements.{LibraryName, Known}
 use Rattle.scheme_model.specs.Program.{Placed, Prepared, prepared, prepare, UnitResult, result_at, broken_result, unit_result, unit_entries, with_entries, fault_before}
 use Rattle.scheme_model.specs.ScopedExpansion.{ScopedState}
-use Rattle.scheme_model.specs.UnitExpansion.{Formed}
 use Rattle.scheme_model.specs.ScopedProgram.{ScopedProgress, after_unit}
+use Rattle.scheme_model.specs.UnitExpansion.{Formed}
 use Rattle.expander.proofs.OtherForms.{none_in_front}
-use Rattle.workspace_state.specs.Came.{IsCome, IsUpTo, expanded_after, so_far, with_unit}
+use Rattle.workspace_state.specs.Came.{HaveCome, IsCome, IsUpTo, expanded_after, so_far, with_unit}
 use Rattle.workspace_state.specs.Readings.{Read}
 use Rattle.workspace_state.specs.Turned.{turns, scoped_at}
 use Rattle.workspace_state.specs.UnitsFound.{in_the_end, IsFoundOf, HaveFound}
@@ -21,7 +21,7 @@ use Rattle.workspace_state.proofs.TurnCited.{TurnOf, turn_of, turn_broken}
 use Rattle.workspace_state.proofs.UnitGoes.{IsOfUnit}
 use Rattle.workspace_state.proofs.UnitsFoundLaws.{found_set, found_none}
 use Rattle.workspace_state.proofs.UpTo.{done_at}
-use Rattle.workspace_state.proofs.UpToNext.{before, told_some, no_result, reaches, own, front}
+use Rattle.workspace_state.proofs.UpToNext.{before, told_some, no_result, reaches, is, own, front}
 
 module _ (spelled : LibraryName → List ℕ) (us : List Placed) (known : Known) (x y : List ℕ) (n : ℕ) (order : turns us ≡ x ++ n ∷ y) (b : Bench) (units : Units) (es : List (Option Expanded)) (up : IsUpTo spelled us known x b units es)
     (hd : Head) (place : slice_get units.heads.items n ≡ Some hd) (reads : List Read) (ends : List UnitResult) (found : HaveFound reads ends (scoped_at us known x) es) where

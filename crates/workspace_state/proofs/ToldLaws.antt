@@ -53,7 +53,7 @@ clash_told b ss rest s old new more is n before =
 pub error_more : (fs new : List Finding) (f : Finding) (code form : ℕ) → new ≡ fs ++ f ∷ [] → f.code ≡ code → f.form ≡ form → errors_in new ≡ errors_in fs ++ error_by code form
 error_more fs new f code form is c m = ap errors_in is ∙ (errors_both fs (f ∷ []) ∙ (ap (λ (es : List (ℕ × ℕ)). errors_in fs ++ es) (one (is_error f.code)) ∙ (λ j. errors_in fs ++ error_by (c j) (m j))))
   where
-    one : (b : Bool) → map (λ (g : Finding). (g.code, g.form)) (cond b (f ∷ []) []) ≡ cond b ((f.code, f.form) ∷ []) []
+    one : (b : Bool) → map {B = ℕ × ℕ} (λ (g : Finding). (g.code, g.form)) (cond b (f ∷ []) []) ≡ cond b ((f.code, f.form) ∷ []) []
     one true = refl
     one false = refl
 

@@ -328,17 +328,10 @@ fn is_import(form: &UnitForm) -> bool
 fn add_for_each(all: &mut Vec<u32>, number: u32, sets: &[Datum]) -> Mem<()>
     ensures { OnOk result (all.new.items ≡ all.old.items ++ map (λ s. number) sets.now) }
 {
-    for set in sets {
-        add_for(all, number, set)?;
+    for _set in sets {
+        all.push(number)?;
     }
     Ok(())
-}
-
-/// Adds a number for a datum, whichever it is.
-fn add_for(all: &mut Vec<u32>, number: u32, _set: &Datum) -> Mem<()>
-    ensures { OnOk result (all.new.items ≡ all.old.items ++ number ∷ []) }
-{
-    Ok(all.push(number)?)
 }
 
 /// The form at a place, and the first where there is none.

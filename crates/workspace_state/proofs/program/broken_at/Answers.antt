@@ -25,7 +25,7 @@ returns-clause-nothing c = record {
 pub returns-clause-told : goal.returns-clause-told
 returns-clause-told c = λ rs p h r f places at head breaks broken.
     let hs = c.args.places.heads.now in
-    let there = c.index.result in
-    let same : there ≡ h = same_Some there h (sym (slice_get_read hs (length hs) c.args.place there refl c.requires.place c.index.is) ∙ head) in
-    let fault : c.unwrap_or-fault.result ≡ told_as f = c.unwrap_or-fault.ensures ∙ (ap (λ (x : Head). unwrap_or x.fault fault.TooLarge) same ∙ ap (λ (o : Option WholeFault). unwrap_or o fault.TooLarge) breaks) in
+    let there = c.index-places-place.result in
+    let same : there ≡ h = same_Some there h (sym (slice_get_read hs (length hs) c.args.place there refl c.requires.place c.index-places-place.is) ∙ head) in
+    let fault : c.unwrap_or-fault.result ≡ told_as f = c.unwrap_or-fault.ensures ∙ (ap (λ (x : Head). unwrap_or x.fault fault.TooLarge) (sym c.index-places-place.is) ∙ ap (λ (x : Head). unwrap_or x.fault fault.TooLarge) same ∙ ap (λ (o : Option WholeFault). unwrap_or o fault.TooLarge) breaks) in
     c.in_ok-broken.ensures.finds rs p r f places (ap (unit_at p.units) c.in_ok-unit.ensures ∙ at) broken fault

@@ -155,7 +155,7 @@ loop-place-preserved c =
           let at_head : slice_get hs0 n ≡ Some h = sym (l.invariant.untouched n (omega (arith, t.0))) ∙ slice_get_read hs (length hs) n h refl within c.index_mut.ensures.value in
           let at_source : slice_get ss n ≡ Some s = slice_get_read ss (length ss) n s refl (omega (arith, within, size, c.requires.units.sources)) c.index-source.ensures in
           let at_come : slice_get es n ≡ Some o = ap (slice_get es) t.0 ∙ t.1 in
-          let many : c.len-count.result ≡ length s.forms = c.len-count.ensures ∙ ap (λ (fs : List SourceForm). length fs) c.as_slice-count.ensures in
+          let many : length c.as_slice-count.result.now ≡ length s.forms = ap (λ (fs : List SourceForm). length fs) c.as_slice-count.ensures in
           one_collected uris hs0 ss es l.program c.push-in-loop-place.new.self u n h s o pushed (l.invariant.count ∙ sym t.0) at_head at_source at_come
           (record {
           uri = subst (λ (ds : List Document). slice_get (map (λ (d : Document). d.uri) ds) h.document ≡ Some u.uri) c.as_slice-in-loop-place-2.ensures.value c.in_ok-unit.ensures.uri;
