@@ -353,7 +353,7 @@ bad_set_told old new document span at bytes f is where_is e =
 
 -- ---- a unit that imports nothing, and one that imports something
 
-nothing_is : (spelled : LibraryName → List ℕ) (c : code_source.UnitSource) (p : Prepared) → ImportsAs spelled c p → (b d : Bool) → b ≡ (is_program (kind_as c.kind) && is_empty c.imports) → b ≡ d → imports_nothing p ≡ d
+pub nothing_is : (spelled : LibraryName → List ℕ) (c : code_source.UnitSource) (p : Prepared) → ImportsAs spelled c p → (b d : Bool) → b ≡ (is_program (kind_as c.kind) && is_empty c.imports) → b ≡ d → imports_nothing p ≡ d
 nothing_is spelled c p im b d e h = sym (nothing_same spelled c p im) ∙ sym e ∙ h
 
 pub base_stands : (names : Names) (gs : List Group) (all : List Placed) (rs : List UnitResult) (p : Prepared) (spelled : LibraryName → List ℕ) (c : code_source.UnitSource) → ImportsAs spelled c p → (b : Bool) → b ≡ (is_program (kind_as c.kind) && is_empty c.imports) → b ≡ true →

@@ -41,6 +41,7 @@ pub mod UnboundLaws  -- The unbound uses that the code finds are those of the de
 pub mod ImportLaws  -- What import sets of the code give stands for some entries
 pub mod DefinedLaws  -- What forms define, one form more
 pub mod UnitLaws  -- A unit that is begun on a bench, and what its forms tell once they are expanded
+pub mod SetErrors  -- The Errors of import sets, each with the form that its set stands in
 pub mod NameLaws  -- What can be exported of a unit is what the definition finds by name
 pub mod BaseLaws  -- What `(scheme base)` gives
 pub mod KnownLaws  -- Which libraries there are, by the texts of their names that are listed
@@ -63,6 +64,7 @@ pub mod ListLaws  -- The lists of documents, one document after another
 pub mod PublishLaws  -- What is published, one document after another
 pub mod DiagnosedLaws  -- What is found in forms tells the definition's diagnostics
 pub mod ToldLaws  -- What is found, and the diagnostics that it is
+pub mod GivenLaws  -- What import sets of the code come to is what the definition's sets come to
 pub mod UnboundFound  -- What is found of uses that mean nothing tells the definition's diagnostics
 pub mod WholeLaws  -- What is found of a unit that is broken as a whole tells the definition's diagnostic
 pub mod StopsLaws  -- Documents that don't read have that alone, and what the code keeps of all documents
@@ -84,8 +86,6 @@ pub mod NoImport  -- A program without an import, told by what was read and by t
 pub mod FoundNext  -- The unit whose turn it is, broken or expanded
 pub mod ToldUnits  -- Units of a program one by one
 pub mod TokensAlike  -- The tokens of documents are those of each reading of their texts
-pub mod SetErrors  -- The Errors of import sets, each with the form that its set stands in
-pub mod GivenLaws  -- What import sets of the code come to is what the definition's sets come to
 pub mod ExportLaws  -- Exports of the code stand for some, and what is wrong in them is the definition's
 pub mod UsedLaws  -- Identifiers of imports and exports that are added one after another
 pub mod ToldProgram  -- The units of the whole program, by what came of them, what is found in them and what breaks them
