@@ -3,6 +3,7 @@ ghost use Rattle.std.specs.Prelude.{◌≡◌, ◌+◌, ◌<◌, ◌≤◌, ◌=
 ghost use Rattle.std.specs.Option.{option_map};
 ghost use Rattle.std.specs.FinMap.{empty, entries};
 ghost use Rattle.ls_base.specs.Limits.{max_documents};
+ghost use Rattle.scheme_model.specs.Diagnostics.{bytes_of};
 ghost use Rattle.document_store.specs.Texts as store;
 ghost use Rattle.workspace_state.specs.Listed.{AreFoundOf};
 ghost use Rattle.workspace_state.specs.ProgramOfTexts.{IsProgramOfTexts};
