@@ -8,6 +8,7 @@ ghost use Rattle.document_store.specs.Texts as store;
 ghost use Rattle.workspace_state.specs.Listed.{AreFoundOf};
 ghost use Rattle.workspace_state.specs.ProgramOfTexts.{IsProgramOfTexts};
 ghost use Rattle.workspace_state.specs.Readings.{Read, AreReadAs, first_unread, program_in};
+ghost use Rattle.core_tree.specs.Units.{IsProgramOf};
 ghost use Rattle.arrow_index.specs.Formed.{AreFormedIn};
 ghost use Rattle.workspace_state.specs.Placed.{IsErrorAt, IsIn, IsPlace, form_bytes};
 ghost use Rattle.workspace_state.specs.Places.{spans_of};
@@ -148,6 +149,8 @@ impl Workspace {
         ensures of_texts { IsProgramOfTexts self.now.texts self.now.expansion.work result.now }
         // The forms of each unit stand for something of the definitions.
         ensures formed { AreFormedIn self.now.expansion.work result.now.units }
+        // So arrows and links can be asked of it.
+        ensures stands { IsProgramOf self.now.expansion.work result.now }
     {
         self.expansion.program()
     }
