@@ -4,7 +4,7 @@ use Rattle.std.specs.FinMap.{empty}
 use Rattle.ls_base.specs.Frames.{End}
 use Rattle.lsp_framing.proofs.OneReading.{one_reading}
 use Rattle.lsp_messages.specs.declared.reply.Reply.{Reply}
-use Rattle.scheme_model.specs.Session.{Ending, Run, begin}
+use Rattle.session_core.specs.Lifecycle.{Ending, Run, begin}
 use Rattle.session_core.specs.ToWire.{AreReplies}
 use Rattle.session_core.specs.Asked.{Question}
 use Rattle.session_core.proofs.OneAnswer.{one_replies}

@@ -12,7 +12,7 @@ use Rattle.lsp_framing.proofs.OneReading.{bodies_grow}
 use Rattle.lsp_messages.specs.declared.reply.Reply.{Reply}
 use Rattle.ls_outside.specs.Sources.{GotTakes}
 use Rattle.ls_outside.specs.declared.source.Got.TheVariants as got
-use Rattle.scheme_model.specs.Session.{State, begin}
+use Rattle.session_core.specs.Lifecycle.{State, begin}
 use Rattle.scheme_ls.specs.BodiesOutcome.{AnswersBodies, AnswersSome, EndsSession}
 use Rattle.scheme_ls.specs.PieceOutcome.{AnswersInPiece, EndsInPiece, HasFault, Serving, TakesPiece}
 use Rattle.scheme_ls.specs.Prints.{SinkSeen, Prints, PrintsFront, PrintsPart}

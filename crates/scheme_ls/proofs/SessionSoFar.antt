@@ -12,7 +12,7 @@ use Rattle.ls_outside.specs.Counts.{Fails}
 use Rattle.ls_outside.specs.Sources.{ArePieces, GotTakes, bytes_of, is_piece, left_over}
 use Rattle.ls_outside.specs.declared.source.Got.TheVariants as got
 use Rattle.std.specs.FinMap.{empty}
-use Rattle.scheme_model.specs.Session.{State, begin}
+use Rattle.session_core.specs.Lifecycle.{State, begin}
 use Rattle.scheme_ls.specs.BodiesOutcome.{AnswersBodies}
 use Rattle.scheme_ls.specs.PieceOutcome.{IsOpen, Serving, TakesPiece}
 use Rattle.scheme_ls.specs.Prints.{Prints, SinkSeen}

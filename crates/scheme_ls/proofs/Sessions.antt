@@ -1,7 +1,7 @@
 -- Sessions over bodies that come one after another.
 use Rattle.std.proofs.Common.{◌≡◌, ℕ, List, [], ◌∷◌, ◌++◌, refl, sym, ap, ◌∙◌, append_assoc, append-nil, subst, Some, None, Option}
-use Rattle.scheme_model.specs.Session as model
-use Rattle.scheme_model.specs.Session.{Ending, Run, State, Stepped, after_replies, followed, step}
+use Rattle.session_core.specs.Lifecycle as model
+use Rattle.session_core.specs.Lifecycle.{Ending, Run, State, Stepped, after_replies, followed, step}
 use Rattle.session_core.specs.FromWire.{offsets}
 use Rattle.session_core.specs.Asked.{Question, questions}
 use Rattle.session_core.specs.ToWire.{AreReplies}

@@ -4,8 +4,8 @@ use Rattle.std.specs.FinMap.{empty}
 use Rattle.std.specs.List.{AllByRecursion}
 use Rattle.lsp_framing.proofs.EveryReading.{every_reading}
 use Rattle.lsp_messages.specs.Messages.{message_of}
-use Rattle.scheme_model.specs.Session as session
-use Rattle.scheme_model.specs.Session.{Ending, Run, State, Stepped, begin, followed}
+use Rattle.session_core.specs.Lifecycle as session
+use Rattle.session_core.specs.Lifecycle.{Ending, Run, State, Stepped, begin, followed}
 use Rattle.session_core.specs.Asked.{Question}
 use Rattle.session_core.proofs.BodiesSay.{says}
 use Rattle.session_core.proofs.SomeAnswer.{AsksThat, some_replies}

@@ -1,7 +1,7 @@
 -- What answering bodies one after another leaves, in the middle of a session.
 use Rattle.std.specs.Prelude.{◌≡◌, ℕ, zero, suc, List, ◌++◌, Option, Some, None}
 use Rattle.lsp_messages.specs.declared.reply.Reply.{Reply}
-use Rattle.scheme_model.specs.Session.{Ending, State}
+use Rattle.session_core.specs.Lifecycle.{Ending, State}
 use Rattle.session_core.specs.ToWire.{AreReplies}
 use Rattle.scheme_ls.specs.Prints.{SinkSeen, Prints, PrintsFront, PrintsPart}
 use Rattle.scheme_ls.specs.ReplyFrames.{frames_of}

@@ -4,7 +4,7 @@ use Rattle.ls_base.specs.Frames.{End, Fault, fault_number, rest, fault}
 use Rattle.lsp_framing.specs.Deframed.{Deframed}
 use Rattle.lsp_framing.specs.Feeds.{Feeds}
 use Rattle.lsp_framing.specs.Taken.{contents}
-use Rattle.scheme_model.specs.Session.{Ending, State}
+use Rattle.session_core.specs.Lifecycle.{Ending, State}
 use Rattle.scheme_ls.specs.BodiesOutcome.{AnswersBodies, EndsSession, AnswersSome}
 use Rattle.scheme_ls.specs.Prints.{SinkSeen, PrintsFront, PrintsPart}
 use Rattle.scheme_ls.specs.Statuses.{said_exit}

@@ -34,9 +34,13 @@ pub record Seen : Type 0 where
 abbrev pub seen : SourceSeen → SinkSeen → FilesSeen → ℕ → Seen
 seen source sink files steps = record { streams = record { source = source; sink = sink }; files = files; steps = steps }
 
--- no file was asked for, and no macro use was worked
+-- no file was asked for
+abbrev pub AsksNoFile : Seen → Seen → Type 0
+AsksNoFile old new = new.files ≡ old.files
+
+-- and no macro use was worked
 pub record AsksNothing (old new : Seen) : Type 0 where
-  pub files : new.files ≡ old.files
+  pub files : AsksNoFile old new
   pub steps : new.steps ≡ old.steps
 
 -- `arrows` ended with a status
@@ -63,7 +67,7 @@ pub record UsageDone (old new : Streams) (status : Status) : Type 0 where
 -- how a command ends
 abbrev pub CommandEndsAs : Command → Seen → Seen → Status → Type 0
 CommandEndsAs Arrows old new status = ArrowsDone old.streams new.streams status × AsksNothing old new
-CommandEndsAs Serve old new status = ServeDone old.streams new.streams status × AsksNothing old new
+CommandEndsAs Serve old new status = ServeDone old.streams new.streams status × AsksNoFile old new
 CommandEndsAs Unknown old new status = UsageDone old.streams new.streams status × AsksNothing old new
 
 -- how a run ends: as the command does that its words ask for

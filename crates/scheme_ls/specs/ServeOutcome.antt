@@ -4,7 +4,7 @@ use Rattle.std.specs.Io.KnownBytes.{Appends}
 use Rattle.ls_base.specs.Frames.{End, rest, fault}
 use Rattle.lsp_messages.specs.declared.reply.Reply.{Reply}
 use Rattle.ls_outside.specs.Sources.{bytes_of}
-use Rattle.scheme_model.specs.Session.{Ending}
+use Rattle.session_core.specs.Lifecycle.{Ending}
 use Rattle.scheme_ls.specs.ReplyFrames.{frames_of}
 use Rattle.scheme_ls.specs.Prints.{SinkSeen, Prints, PrintsFront, PrintsPart}
 use Rattle.scheme_ls.specs.Reading.{FailsToRead, ReadsOn, ReadsToEnd, SourceSeen, TakesBytes}

@@ -5,7 +5,7 @@ use Rattle.ls_base.specs.Frames.{End, IsFrames, fault, fault_number, rest}
 use Rattle.lsp_messages.specs.Messages.{message_of}
 use Rattle.lsp_messages.specs.declared.reply.Reply.{Reply}
 use Rattle.lsp_messages.specs.declared.reply.Reply.TheVariants as replies
-use Rattle.scheme_model.specs.Session.{Ending, Message, Run, State, begin, run_from}
+use Rattle.session_core.specs.Lifecycle.{Ending, Message, Run, State, begin, run_from}
 use Rattle.session_core.specs.FromWire.{offsets, said_by}
 use Rattle.session_core.specs.Asked.{Question, questions}
 use Rattle.session_core.specs.ToWire.{AreReplies}

@@ -1,6 +1,6 @@
 -- The statuses of a run, and which one each end of a command has.
 use Rattle.std.specs.Prelude.{ℕ}
-use Rattle.scheme_model.specs.Session as session
+use Rattle.session_core.specs.Lifecycle as session
 use Rattle.scheme_ls.specs.declared.answering.Exit.{Exit}
 use Rattle.scheme_ls.specs.declared.answering.Exit.TheVariants as exits
 use Rattle.scheme_ls.specs.declared.arrows.ArrowsEnd.{ArrowsEnd}

@@ -72,7 +72,6 @@ pub fn serve<I: Source, O: Sink, L: Ledger>(
         (sink_seen (O.taken output.old) (O.faults output.old) (O.writes output.old)))
         (streams (source_seen (I.left input.new) (I.faults input.new) (I.reads input.new))
         (sink_seen (O.taken output.new) (O.faults output.new) (O.writes output.new))) result }
-    ensures steps { steps.new ≡ steps.old }
 {
     let Ok(session) = Session::new(alloc) else {
         return SessionEnd::NoMemory;

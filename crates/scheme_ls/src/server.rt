@@ -89,7 +89,6 @@ impl Server {
         ensures takes { PieceEndsAs (serving self.old.deframer self.old.session) (serving self.new.deframer self.new.session)
             piece.now (sink_seen (O.taken output.old) (O.faults output.old) (O.writes output.old))
             (sink_seen (O.taken output.new) (O.faults output.new) (O.writes output.new)) result }
-        ensures steps { steps.new ≡ steps.old }
     {
         let Ok(cut) = cut_piece(&mut self.deframer, piece) else {
             return PieceEnd::NoMemory;

@@ -19,7 +19,7 @@ use Rattle.lsp_messages.specs.declared.message.Message.{Message}
 use Rattle.lsp_messages.specs.declared.message.Message.TheVariants as messages
 use Rattle.lsp_messages.specs.declared.message.Reject.{Reject}
 use Rattle.lsp_messages.specs.declared.message.Reject.TheVariants as rejects
-use Rattle.scheme_model.specs.Session as session
+use Rattle.session_core.specs.Lifecycle as session
 use Rattle.scheme_model.specs.Texts as texts
 
 -- ---- encodings, positions and changes

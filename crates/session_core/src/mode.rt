@@ -13,7 +13,7 @@ pub enum Mode {
 }
 
 impl Mode {
-    ghost use Rattle.scheme_model.specs.Session.{exit_in};
+    ghost use Rattle.session_core.specs.Lifecycle.{exit_in};
     ghost use Rattle.session_core.specs.States.{exit_code, said_mode};
 
     /// The status with which `exit` ends the process: 0 only after `shutdown`.

@@ -1,7 +1,7 @@
 //! The replies that say nothing of programs (JSON-RPC 2.0 section 5.1; LSP 3.17, "Lifecycle Messages").
 ghost use Rattle.std.specs.Prelude.{◌≡◌, ◌∷◌, ◌++◌, [], Some, None, IfOk};
 ghost use Rattle.std.specs.Option.{option_map};
-ghost use Rattle.scheme_model.specs.Session as session;
+ghost use Rattle.session_core.specs.Lifecycle as session;
 ghost use Rattle.session_core.specs.FromWire.{said_encoding, said_id};
 ghost use Rattle.session_core.specs.Asked.{Question, IsAnswerTo};
 ghost use Rattle.session_core.specs.Stepped.{Says};
@@ -95,10 +95,17 @@ pub fn answered(alloc: Global, id: Id, answer: Answer) -> Mem<Out>
 }
 
 /// A text for the client's log: what is wrong, and with what.
-pub fn logged(alloc: Global, wrong: &str, name: &str) -> Mem<Out>
-    ensures { IfOk result (λ out. Says out (session.Log (wrong.now ++ name.now) ∷ [])) }
+pub fn log(alloc: Global, wrong: &str, name: &str) -> Mem<Reply>
+    ensures { IfOk result (λ reply. reply ≡ Reply.Log (wrong.now ++ name.now)) }
 {
     let mut text = String::from_str(alloc, wrong)?;
     text.push_str(name)?;
-    Ok(said(alloc, Reply::Log(Text::from_string(text)))?)
+    Ok(Reply::Log(Text::from_string(text)))
+}
+
+/// Such a text alone.
+pub fn logged(alloc: Global, wrong: &str, name: &str) -> Mem<Out>
+    ensures { IfOk result (λ out. Says out (session.Log (wrong.now ++ name.now) ∷ [])) }
+{
+    Ok(said(alloc, log(alloc, wrong, name)?)?)
 }

@@ -22,7 +22,6 @@ loop-taken-init g c = record {
   going = going_first _ (serving c.new-deframer.result c.in-Ok.session) 1099511627776 [] c.new-deframer.ensures.start c.new-deframer.ensures.end c.in-Ok.ensures;
   few = omega arith;
   wide = refl;
-  same = refl;
 }
 
 -- the room that a read has is filled to its end
@@ -183,7 +182,6 @@ loop-taken-preserved g c =
           c.in-Some.ensures.takes on answered;
       few = omega (arith, within, c.min-room.ensures, c.loop-taken-test.true);
       wide = refilled c.loop-taken.buf buffer room (1099511627776 - c.loop-taken.taken) c.loop-taken.invariant.wide c.min-room.ensures c.read.auto.buf;
-      same = c.in-Answered.ensures.steps ∙ c.loop-taken.invariant.same;
     }
 
 pub returns-in-End-clause-serves : goal.returns-in-End-clause-serves

@@ -16,7 +16,6 @@ invariant-loop-taken g l = record {
       (serving l.server.deframer l.server.session) l.taken 1099511627776;
   few : l.taken ≤ 1099511627776;
   wide : length l.buf ≡ 65536;
-  same : l.steps ≡ l.fn.steps;
 }
 
 abbrev pub decreases-loop-taken : goal.decreases-loop-taken

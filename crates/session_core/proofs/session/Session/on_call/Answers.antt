@@ -1,5 +1,5 @@
 use Rattle.std.proofs.Common.{refl, ap}
-use Rattle.scheme_model.specs.Session.{State, Shut, with_mode}
+use Rattle.session_core.specs.Lifecycle.{State, Shut, with_mode}
 use Rattle.session_core.specs.Asked.{Nothing}
 use Rattle.session_core.proofs.session.Session.on_call.Goals as goal
 
