@@ -7,7 +7,6 @@ use Rattle.document_store.specs.declared.faults.StoreFault.{StoreFault}
 use Rattle.document_store.specs.declared.faults.StoreFault.TheVariants as faults
 use Rattle.document_store.specs.Texts as store
 use Rattle.lsp_messages.specs.declared.reply.Reply.{Reply}
-use Rattle.session_core.specs.Lifecycle as lifecycle
 use Rattle.session_core.specs.Lifecycle as session
 use Rattle.session_core.specs.Lifecycle.{evented, evented_to, logged, published, uri_of}
 use Rattle.scheme_model.specs.Texts as texts
@@ -36,7 +35,7 @@ encoding_of-said_encoding encodings.Utf32 = refl
 
 -- ---- which events are left
 
-leaves_agree : (event : store.Event) (r : Option store.Refusal) → lifecycle.leaves (said_event event) (option_map said_refusal r) ≡ leaves event r
+leaves_agree : (event : store.Event) (r : Option store.Refusal) → session.leaves (said_event event) (option_map said_refusal r) ≡ leaves event r
 leaves_agree (store.Added uri v t) None = refl
 leaves_agree (store.Added uri v t) (Some store.NotOpen) = refl
 leaves_agree (store.Added uri v t) (Some store.BadRange) = refl
@@ -128,7 +127,7 @@ comes_to e old new event lists log out is news logs told goes = λ mode.
     events_agree (said_encoding e) old event ∙ ap (λ (q : Encoding). said_after (store.after q old event)) (encoding_of-said_encoding e) in
     let to = subst (λ (b : Bool). AreReplies (published b (News (said_encoding e) old new uri)) (map sent_list lists)) (sym (leaves_agree event left.1))
     (are_published e old new uri lists (leaves event left.1) news) in
-    let lists_told = subst (λ (t : Texts). AreReplies (published (lifecycle.leaves (said_event event) (option_map said_refusal left.1)) (News (said_encoding e) old t uri)) (map sent_list lists)) is to in
+    let lists_told = subst (λ (t : Texts). AreReplies (published (session.leaves (said_event event) (option_map said_refusal left.1)) (News (said_encoding e) old t uri)) (map sent_list lists)) is to in
     let whole : IsOutcome (evented_to questions state (said_event event) (said_after left)) out (state_of mode e new) = record {
       state = ap (λ (t : Texts). state_of mode e t) is;
       replies = subst (λ (z : List Reply). AreReplies (evented_to questions state (said_event event) (said_after left)).replies z) (sym told) (replies_then _ _ log (map sent_list lists) logs lists_told);
