@@ -54,7 +54,8 @@ read_piece old mid new server taken n room buffer w below some within size space
 whole_part : (a b : SinkSeen) (x : List ℕ) → Prints a b x → PrintsPart a b x
 whole_part a b x p = record { count = length x; part = omega arith; printed = subst (Appends a.taken b.taken) (sym (take_all (length x) x (omega arith))) p.printed; no_fault = p.no_fault; calls = p.calls }
 
-some_end : (e : Option End) (bytes : List ℕ) (bodies : List (List ℕ)) → IsSomeAnd e (IsFrames bytes bodies) → (end : End) × IsFrames bytes bodies end
+-- how the bytes end, where that is told
+pub some_end : (e : Option End) (bytes : List ℕ) (bodies : List (List ℕ)) → IsSomeAnd e (IsFrames bytes bodies) → (end : End) × IsFrames bytes bodies end
 some_end None bytes bodies h = absurd h
 some_end (Some end) bytes bodies h = (end, h)
 
@@ -266,6 +267,12 @@ no_memory old mid new server taken most n buffer r same =
 pub piece_lost : (old mid new : Streams) (server next : Serving) (taken most n : ℕ) (buffer : List ℕ) → Read old mid new server taken most n buffer → AnswersInPiece server next (take n buffer) (PrintsPart mid.sink new.sink) ⊎ (new.sink ≡ mid.sink) → ServeEndsAs old new NoMemory
 piece_lost old mid new server next taken most n buffer r (inl some) = piece_memory old mid new server next taken most n buffer r some
 piece_lost old mid new server next taken most n buffer r (inr same) = no_memory old mid new server taken most n buffer r same
+
+-- the piece was taken all the same
+pub lost_bytes : (old mid new : Streams) (server next : Serving) (taken most n : ℕ) (buffer : List ℕ) (r : Read old mid new server taken most n buffer) (e : AnswersInPiece server next (take n buffer) (PrintsPart mid.sink new.sink) ⊎ (new.sink ≡ mid.sink)) →
+    (piece_lost old mid new server next taken most n buffer r e).bytes ≡ r.going.bytes ++ take n buffer
+lost_bytes old mid new server next taken most n buffer r (inl some) = refl
+lost_bytes old mid new server next taken most n buffer r (inr same) = refl
 
 -- a write fails while a body of the piece is answered
 pub piece_cut : (old mid new : Streams) (server next : Serving) (taken most n : ℕ) (buffer : List ℕ) → Read old mid new server taken most n buffer → AnswersInPiece server next (take n buffer) (PrintsFront mid.sink new.sink) → ServeEndsAs old new WriteFailed

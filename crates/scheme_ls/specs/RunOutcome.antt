@@ -3,6 +3,7 @@ use Rattle.std.specs.Prelude.{◌≡◌, ◌⊎◌, ℕ, List}
 use Rattle.std.specs.declared.option.Option.{Option}
 use Rattle.scheme_ls.specs.ArrowsOutcome.{ArrowsEndsAs}
 use Rattle.scheme_ls.specs.Prints.{Prints, PrintsFront, SinkSeen}
+use Rattle.scheme_ls.specs.QuietBytes.{AreQuiet}
 use Rattle.scheme_ls.specs.Reading.{SourceSeen}
 use Rattle.scheme_ls.specs.ServeOutcome.{ServeEndsAs}
 use Rattle.scheme_ls.specs.Statuses.{arrows_status, code_of, session_status}
@@ -64,10 +65,10 @@ pub record UsageDone (old new : Streams) (status : Status) : Type 0 where
   pub unread : new.source ≡ old.source
   pub prints : PrintsUsage old.sink new.sink status
 
--- how a command ends
+-- how a command ends; `serve` works macro uses only where a body tells a document event
 abbrev pub CommandEndsAs : Command → Seen → Seen → Status → Type 0
 CommandEndsAs Arrows old new status = ArrowsDone old.streams new.streams status × AsksNothing old new
-CommandEndsAs Serve old new status = ServeDone old.streams new.streams status × AsksNoFile old new
+CommandEndsAs Serve old new status = (done : ServeDone old.streams new.streams status) × AsksNoFile old new × (AreQuiet done.ends.bytes → new.steps ≡ old.steps)
 CommandEndsAs Unknown old new status = UsageDone old.streams new.streams status × AsksNothing old new
 
 -- how a run ends: as the command does that its words ask for
