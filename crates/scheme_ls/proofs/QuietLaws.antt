@@ -9,9 +9,9 @@ use Rattle.lsp_framing.specs.Feeds.{Feeds}
 use Rattle.lsp_framing.specs.Taken.{contents}
 use Rattle.lsp_framing.proofs.OneReading.{bodies_grow, one_reading}
 use Rattle.session_core.specs.Stepped.{IsQuiet}
-use Rattle.scheme_ls.specs.PieceOutcome.{IsOpen, Serving, TakesPiece}
+use Rattle.scheme_ls.specs.PieceOutcome.{IsOpen, IsQuietPiece, Serving, TakesPiece}
 use Rattle.scheme_ls.specs.Prints.{SinkSeen}
-use Rattle.scheme_ls.specs.QuietBytes.{AreQuiet, IsQuietPiece}
+use Rattle.scheme_ls.specs.QuietBytes.{AreQuiet}
 use Rattle.scheme_ls.specs.Streams.{Streams}
 use Rattle.scheme_ls.proofs.PieceEndsSession.{some_end}
 use Rattle.scheme_ls.proofs.SessionSoFar.{Going, frames_so_far, going_frames}

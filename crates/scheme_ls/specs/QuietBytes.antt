@@ -1,8 +1,7 @@
 -- Bytes whose bodies tell no document event. Over such bytes no macro use is worked.
-use Rattle.std.specs.Prelude.{ℕ, List, ◌++◌}
+use Rattle.std.specs.Prelude.{ℕ, List}
 use Rattle.std.specs.List.{AllByRecursion}
 use Rattle.ls_base.specs.Frames.{End, IsFrames}
-use Rattle.lsp_framing.specs.Deframed.{Deframed, After}
 use Rattle.session_core.specs.Stepped.{IsQuiet}
 
 -- each body of these bytes is quiet
@@ -11,13 +10,3 @@ pub record AreQuiet (bytes : List ℕ) : Type 0 where
   pub end : End
   pub frames : IsFrames bytes bodies end
   pub quiet : AllByRecursion IsQuiet bodies
-
--- each body that the piece completes is quiet; those before were complete in the bytes that were taken
-pub record IsQuietPiece (taken : Deframed) (piece : List ℕ) : Type 0 where
-  pub past : List ℕ
-  pub before : List (List ℕ)
-  pub given : List (List ℕ)
-  pub end : End
-  pub after : After past before taken
-  pub frames : IsFrames (past ++ piece) (before ++ given) end
-  pub quiet : AllByRecursion IsQuiet given

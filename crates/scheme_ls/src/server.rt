@@ -1,8 +1,7 @@
 //! A session, and the frames that it gets its bodies from.
 ghost use Rattle.std.specs.Prelude.{◌≡◌, ◌+◌, ◌<◌, ◌^◌, length, IfOk};
-ghost use Rattle.scheme_ls.specs.PieceOutcome.{Cuts, PieceEndsAs, serving};
+ghost use Rattle.scheme_ls.specs.PieceOutcome.{Cuts, IsQuietPiece, PieceEndsAs, serving};
 ghost use Rattle.scheme_ls.specs.Prints.{WritingEndsAs, sink_seen};
-ghost use Rattle.scheme_ls.specs.QuietBytes.{IsQuietPiece};
 ghost use Rattle.scheme_ls.specs.ReplyFrames.{frame_of_reply};
 ghost use Rattle.scheme_ls.specs.SessionOutput.{fault_log};
 
