@@ -40,7 +40,7 @@ pub record Read (old mid new : Streams) (server : Serving) (taken most n : ℕ) 
   pub few : taken + n ≤ 1099511627776
   pub on : ReadsOn old.source new.source
 
-pub read_piece : (old mid new : Streams) (server : Serving) (taken n room : ℕ) (buffer : List ℕ) → Going old mid server taken 1099511627776 → taken < 1099511627776 → 1 ≤ n → n ≤ length buffer → length buffer ≡ room →
+abbrev pub read_piece : (old mid new : Streams) (server : Serving) (taken n room : ℕ) (buffer : List ℕ) → Going old mid server taken 1099511627776 → taken < 1099511627776 → 1 ≤ n → n ≤ length buffer → length buffer ≡ room →
     room ≡ min 65536 (1099511627776 - taken) → GotTakes mid.source.left new.source.left (got.Some n) buffer → ReadsOn mid.source new.source → Read old mid new server taken 1099511627776 n buffer
 read_piece old mid new server taken n room buffer w below some within size space takes on = record {
   going = w;
@@ -87,7 +87,7 @@ before_written old mid new server taken most n buffer r more sink printed = reco
 }
 
 -- `exit` stands in the piece
-pub piece_exits : (old mid new : Streams) (server next : Serving) (taken most n : ℕ) (exit : Exit) (buffer : List ℕ) → Read old mid new server taken most n buffer → EndsInPiece server next (take n buffer) (said_exit exit) mid.sink new.sink → ServeEndsAs old new (Exited exit)
+abbrev pub piece_exits : (old mid new : Streams) (server next : Serving) (taken most n : ℕ) (exit : Exit) (buffer : List ℕ) → Read old mid new server taken most n buffer → EndsInPiece server next (take n buffer) (said_exit exit) mid.sink new.sink → ServeEndsAs old new (Exited exit)
 piece_exits old mid new server next taken most n exit buffer r e =
     let all = frames_then old mid new server next taken most n buffer e.given r e.feeds in
     let ended = ends_after (begin empty) server.state r.going.bodies e.given (said_exit exit) old.sink mid.sink new.sink r.going.answers e.ends in
@@ -140,7 +140,7 @@ farewell_frames messages number offset kind is =
     ∙ sym (frames_more messages (fault_log (fault_number kind) offset ∷ []))
 
 -- the farewell is written
-pub farewell_written : (old mid seen : Streams) (sink : SinkSeen) (server next : Serving) (taken most n : ℕ) (buffer : List ℕ) (at : FaultAt) → Read old mid seen server taken most n buffer →
+abbrev pub farewell_written : (old mid seen : Streams) (sink : SinkSeen) (server next : Serving) (taken most n : ℕ) (buffer : List ℕ) (at : FaultAt) → Read old mid seen server taken most n buffer →
     TakesPiece server next (take n buffer) (HasFault at) mid.sink seen.sink → Prints seen.sink sink (frame_of_reply (fault_log at.number at.offset)) → ServeEndsAs old (record { source = seen.source; sink = sink }) FrameFault
 farewell_written old mid seen sink server next taken most n buffer at r e p =
     let answers = all_answers old mid seen server next taken most n buffer at r e in
@@ -167,7 +167,7 @@ farewell_written old mid seen sink server next taken most n buffer at r e p =
     }
 
 -- a write of the farewell fails
-pub farewell_cut : (old mid seen : Streams) (sink : SinkSeen) (server next : Serving) (taken most n : ℕ) (buffer : List ℕ) (at : FaultAt) → Read old mid seen server taken most n buffer →
+abbrev pub farewell_cut : (old mid seen : Streams) (sink : SinkSeen) (server next : Serving) (taken most n : ℕ) (buffer : List ℕ) (at : FaultAt) → Read old mid seen server taken most n buffer →
     TakesPiece server next (take n buffer) (HasFault at) mid.sink seen.sink → PrintsFront seen.sink sink (frame_of_reply (fault_log at.number at.offset)) → ServeEndsAs old (record { source = seen.source; sink = sink }) WriteFailed
 farewell_cut old mid seen sink server next taken most n buffer at r e p =
     let answers = all_answers old mid seen server next taken most n buffer at r e in
@@ -191,7 +191,7 @@ farewell_cut old mid seen sink server next taken most n buffer at r e p =
     }
 
 -- memory runs out in the farewell
-pub farewell_lost : (old mid seen : Streams) (sink : SinkSeen) (server next : Serving) (taken most n : ℕ) (buffer : List ℕ) (at : FaultAt) → Read old mid seen server taken most n buffer →
+abbrev pub farewell_lost : (old mid seen : Streams) (sink : SinkSeen) (server next : Serving) (taken most n : ℕ) (buffer : List ℕ) (at : FaultAt) → Read old mid seen server taken most n buffer →
     TakesPiece server next (take n buffer) (HasFault at) mid.sink seen.sink → PrintsPart seen.sink sink (frame_of_reply (fault_log at.number at.offset)) → ServeEndsAs old (record { source = seen.source; sink = sink }) NoMemory
 farewell_lost old mid seen sink server next taken most n buffer at r e p =
     let answers = all_answers old mid seen server next taken most n buffer at r e in
@@ -214,7 +214,7 @@ farewell_lost old mid seen sink server next taken most n buffer at r e p =
 -- ---- a part of the piece is answered
 
 -- memory runs out while a body of the piece is answered
-piece_memory : (old mid new : Streams) (server next : Serving) (taken most n : ℕ) (buffer : List ℕ) → Read old mid new server taken most n buffer → AnswersInPiece server next (take n buffer) (PrintsPart mid.sink new.sink) → ServeEndsAs old new NoMemory
+abbrev piece_memory : (old mid new : Streams) (server next : Serving) (taken most n : ℕ) (buffer : List ℕ) → Read old mid new server taken most n buffer → AnswersInPiece server next (take n buffer) (PrintsPart mid.sink new.sink) → ServeEndsAs old new NoMemory
 piece_memory old mid new server next taken most n buffer r e =
     let all = frames_then old mid new server next taken most n buffer e.given r e.feeds in
     let some = part_follows (begin empty) server.state r.going.bodies e.given old.sink mid.sink new.sink r.going.answers e.answers in
@@ -239,7 +239,7 @@ piece_memory old mid new server next taken most n buffer r e =
     }
 
 -- memory runs out before a body of the piece is answered
-no_memory : (old mid new : Streams) (server : Serving) (taken most n : ℕ) (buffer : List ℕ) → Read old mid new server taken most n buffer → new.sink ≡ mid.sink → ServeEndsAs old new NoMemory
+abbrev no_memory : (old mid new : Streams) (server : Serving) (taken most n : ℕ) (buffer : List ℕ) → Read old mid new server taken most n buffer → new.sink ≡ mid.sink → ServeEndsAs old new NoMemory
 no_memory old mid new server taken most n buffer r same =
     let w = r.going in
     let all = every_reading (w.bytes ++ take n buffer) in
@@ -264,7 +264,7 @@ no_memory old mid new server taken most n buffer r same =
       );
     }
 
-pub piece_lost : (old mid new : Streams) (server next : Serving) (taken most n : ℕ) (buffer : List ℕ) → Read old mid new server taken most n buffer → AnswersInPiece server next (take n buffer) (PrintsPart mid.sink new.sink) ⊎ (new.sink ≡ mid.sink) → ServeEndsAs old new NoMemory
+abbrev pub piece_lost : (old mid new : Streams) (server next : Serving) (taken most n : ℕ) (buffer : List ℕ) → Read old mid new server taken most n buffer → AnswersInPiece server next (take n buffer) (PrintsPart mid.sink new.sink) ⊎ (new.sink ≡ mid.sink) → ServeEndsAs old new NoMemory
 piece_lost old mid new server next taken most n buffer r (inl some) = piece_memory old mid new server next taken most n buffer r some
 piece_lost old mid new server next taken most n buffer r (inr same) = no_memory old mid new server taken most n buffer r same
 
@@ -275,7 +275,7 @@ lost_bytes old mid new server next taken most n buffer r (inl some) = refl
 lost_bytes old mid new server next taken most n buffer r (inr same) = refl
 
 -- a write fails while a body of the piece is answered
-pub piece_cut : (old mid new : Streams) (server next : Serving) (taken most n : ℕ) (buffer : List ℕ) → Read old mid new server taken most n buffer → AnswersInPiece server next (take n buffer) (PrintsFront mid.sink new.sink) → ServeEndsAs old new WriteFailed
+abbrev pub piece_cut : (old mid new : Streams) (server next : Serving) (taken most n : ℕ) (buffer : List ℕ) → Read old mid new server taken most n buffer → AnswersInPiece server next (take n buffer) (PrintsFront mid.sink new.sink) → ServeEndsAs old new WriteFailed
 piece_cut old mid new server next taken most n buffer r e =
     let w = r.going in
     let all = frames_then old mid new server next taken most n buffer e.given r e.feeds in
@@ -302,7 +302,7 @@ piece_cut old mid new server next taken most n buffer r e =
     }
 
 -- memory runs out before anything is read
-pub nothing_served : (a : Streams) → ServeEndsAs a a NoMemory
+abbrev pub nothing_served : (a : Streams) → ServeEndsAs a a NoMemory
 nothing_served a =
     let all = every_reading [] in
     record {

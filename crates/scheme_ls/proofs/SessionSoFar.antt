@@ -163,7 +163,7 @@ before_last (Some old) (Some (piece ∷ pieces)) (Some new) bytes buffer n some 
     }
 
 -- a read, and what answers it: the session goes on
-pub going_more : (old mid new : Streams) (server next : Serving) (taken most n room : ℕ) (buffer : List ℕ) (w : Going old mid server taken most) → taken < most → ArePieces mid.source.left → length buffer ≡ room → n ≤ room →
+abbrev pub going_more : (old mid new : Streams) (server next : Serving) (taken most n room : ℕ) (buffer : List ℕ) (w : Going old mid server taken most) → taken < most → ArePieces mid.source.left → length buffer ≡ room → n ≤ room →
     room ≡ min 65536 (most - taken) → GotTakes mid.source.left new.source.left (got.Some n) buffer → ReadsOn mid.source new.source → TakesPiece server next (take n buffer) IsOpen mid.sink new.sink → Going old new next (taken + n) most
 going_more old mid new server next taken most n room buffer w below sized size within space takes on answered = record {
   bytes = w.bytes ++ take n buffer;
@@ -206,7 +206,7 @@ takes_same (Some old) (Some []) (Some new) bytes buffer front takes = front ∙ 
 takes_same (Some old) (Some (piece ∷ pieces)) (Some new) bytes buffer front takes = front ∙ ap (λ (left : List (List ℕ)). bytes ++ bytes_of left) (sym takes)
 
 -- the input ends
-pub input_ends : (old mid new : Streams) (server : Serving) (taken most : ℕ) (buffer : List ℕ) → Going old mid server taken most → taken < 1099511627776 → GotTakes mid.source.left new.source.left got.End buffer →
+abbrev pub input_ends : (old mid new : Streams) (server : Serving) (taken most : ℕ) (buffer : List ℕ) → Going old mid server taken most → taken < 1099511627776 → GotTakes mid.source.left new.source.left got.End buffer →
     new.source.faults ≡ mid.source.faults → new.source.reads ≡ mid.source.reads ++ [] ∷ [] → new.sink ≡ mid.sink → ServeEndsAs old new InputEnded
 input_ends old mid new server taken most buffer w fewer takes counts notes same =
     let p = takes_all old.source.left mid.source.left new.source.left w.bytes buffer w.takes takes in
@@ -218,7 +218,7 @@ input_ends old mid new server taken most buffer w fewer takes counts notes same 
     }
 
 -- a read fails
-pub read_fails : (old mid new : Streams) (server : Serving) (taken most : ℕ) (buffer : List ℕ) → Going old mid server taken most → taken < 1099511627776 → GotTakes mid.source.left new.source.left got.Failed buffer →
+abbrev pub read_fails : (old mid new : Streams) (server : Serving) (taken most : ℕ) (buffer : List ℕ) → Going old mid server taken most → taken < 1099511627776 → GotTakes mid.source.left new.source.left got.Failed buffer →
     Fails mid.source.faults new.source.faults → new.source.reads ≡ mid.source.reads ++ [] ∷ [] → new.sink ≡ mid.sink → ServeEndsAs old new ReadFailed
 read_fails old mid new server taken most buffer w fewer takes failed notes same = record {
   bytes = w.bytes;
@@ -228,6 +228,6 @@ read_fails old mid new server taken most buffer w fewer takes failed notes same 
 }
 
 -- a session has taken all that one may
-pub takes_most : (old now : Streams) (server : Serving) (taken most : ℕ) → Going old now server taken most → taken ≡ 1099511627776 → ServeEndsAs old now Endless
+abbrev pub takes_most : (old now : Streams) (server : Serving) (taken most : ℕ) → Going old now server taken most → taken ≡ 1099511627776 → ServeEndsAs old now Endless
 takes_most old now server taken most w all =
     record { bytes = w.bytes; taken = w.takes; source = w.on; session = (w.count ∙ all, goes_on old now now.sink server taken most w refl) }
