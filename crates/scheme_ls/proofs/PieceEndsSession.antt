@@ -51,7 +51,7 @@ read_piece old mid new server taken n room buffer w below some within size space
 }
 
 -- all of a print is a part of it
-whole_part : (a b : SinkSeen) (x : List ℕ) → Prints a b x → PrintsPart a b x
+pub whole_part : (a b : SinkSeen) (x : List ℕ) → Prints a b x → PrintsPart a b x
 whole_part a b x p = record { count = length x; part = omega arith; printed = subst (Appends a.taken b.taken) (sym (take_all (length x) x (omega arith))) p.printed; no_fault = p.no_fault; calls = p.calls }
 
 -- how the bytes end, where that is told
@@ -60,18 +60,18 @@ some_end None bytes bodies h = absurd h
 some_end (Some end) bytes bodies h = (end, h)
 
 -- the frames of all bytes, however they end
-frames_then : (old mid new : Streams) (server next : Serving) (taken most n : ℕ) (buffer : List ℕ) (given : List (List ℕ)) (r : Read old mid new server taken most n buffer) → Feeds server.frames (take n buffer) given next.frames →
+pub frames_then : (old mid new : Streams) (server next : Serving) (taken most n : ℕ) (buffer : List ℕ) (given : List (List ℕ)) (r : Read old mid new server taken most n buffer) → Feeds server.frames (take n buffer) given next.frames →
     (end : End) × IsFrames (r.going.bytes ++ take n buffer) (r.going.bodies ++ given) end
 frames_then old mid new server next taken most n buffer given r feeds = some_end next.frames.end _ _ (feeds r.going.bytes r.going.bodies r.going.after).frames
 
-few_bytes : (old mid new : Streams) (server : Serving) (taken most n : ℕ) (buffer : List ℕ) (r : Read old mid new server taken most n buffer) → length (r.going.bytes ++ take n buffer) ≤ 1099511627776
+pub few_bytes : (old mid new : Streams) (server : Serving) (taken most n : ℕ) (buffer : List ℕ) (r : Read old mid new server taken most n buffer) → length (r.going.bytes ++ take n buffer) ≤ 1099511627776
 few_bytes old mid new server taken most n buffer r =
     let l = length-take n buffer in
     let m = length-append r.going.bytes (take n buffer) in
     omega (arith, r.going.count, r.few)
 
 -- what was printed before the piece, and after it
-before_written : (old mid new : Streams) (server : Serving) (taken most n : ℕ) (buffer : List ℕ) (r : Read old mid new server taken most n buffer) (more : List ℕ) (sink : SinkSeen) → Appends mid.sink.taken sink.taken more →
+pub before_written : (old mid new : Streams) (server : Serving) (taken most n : ℕ) (buffer : List ℕ) (r : Read old mid new server taken most n buffer) (more : List ℕ) (sink : SinkSeen) → Appends mid.sink.taken sink.taken more →
     AnswersPiecesBefore old (record { source = new.source; sink = sink }) (r.going.bytes ++ take n buffer)
 before_written old mid new server taken most n buffer r more sink printed = record {
   before = r.going.bytes;
@@ -121,7 +121,7 @@ abbrev faulty_output : (old mid seen : Streams) (server next : Serving) (taken m
 faulty_output old mid seen server next taken most n buffer at r e =
     record { messages = (all_answers old mid seen server next taken most n buffer at r e).session.messages; exit = None; end = fault e.end.0 at.offset }
 
-is_faulty_output : (old mid seen : Streams) (server next : Serving) (taken most n : ℕ) (buffer : List ℕ) (at : FaultAt) (r : Read old mid seen server taken most n buffer) (e : TakesPiece server next (take n buffer) (HasFault at) mid.sink seen.sink) →
+pub is_faulty_output : (old mid seen : Streams) (server next : Serving) (taken most n : ℕ) (buffer : List ℕ) (at : FaultAt) (r : Read old mid seen server taken most n buffer) (e : TakesPiece server next (take n buffer) (HasFault at) mid.sink seen.sink) →
     IsOutputOf (r.going.bytes ++ take n buffer) (faulty_output old mid seen server next taken most n buffer at r e)
 is_faulty_output old mid seen server next taken most n buffer at r e =
     let answers = all_answers old mid seen server next taken most n buffer at r e in
@@ -133,7 +133,7 @@ is_faulty_output old mid seen server next taken most n buffer at r e =
     }
 
 -- the frames of messages and of the farewell
-farewell_frames : (messages : List Reply) (number offset : ℕ) (kind : Fault) → number ≡ fault_number kind → frames_of messages ++ frame_of_reply (fault_log number offset) ≡ frames_of (messages ++ fault_log (fault_number kind) offset ∷ [])
+pub farewell_frames : (messages : List Reply) (number offset : ℕ) (kind : Fault) → number ≡ fault_number kind → frames_of messages ++ frame_of_reply (fault_log number offset) ≡ frames_of (messages ++ fault_log (fault_number kind) offset ∷ [])
 farewell_frames messages number offset kind is =
     ap (λ (k : ℕ). frames_of messages ++ frame_of_reply (fault_log k offset)) is
     ∙ ap (λ (last : List ℕ). frames_of messages ++ last) (sym (append-nil (frame_of_reply (fault_log (fault_number kind) offset))))

@@ -139,7 +139,7 @@ whole_more (Some old) (Some (piece ∷ pieces)) (Some new) bytes buffer n room s
     }
 
 -- a read that doesn't take the last byte that a session may take has room for a whole piece, or fills none
-wide_read : (n room taken most : ℕ) → taken + n < most → taken < most → n ≤ room → room ≡ min 65536 (most - taken) → (n < room) ⊎ (65536 ≤ room)
+pub wide_read : (n room taken most : ℕ) → taken + n < most → taken < most → n ≤ room → room ≡ min 65536 (most - taken) → (n < room) ⊎ (65536 ≤ room)
 wide_read n room taken most more below within space = elim (cases_lt room 65536) as (λ _. (n < room) ⊎ (65536 ≤ room)) [
   | inl narrow ↦ inl (omega arith)
   | inr wide ↦ inr wide
@@ -179,7 +179,7 @@ going_more old mid new server next taken most n room buffer w below sized size w
 }
 
 -- what was taken so far is answered, and the session goes on
-goes_on : (old mid : Streams) (sink : SinkSeen) (server : Serving) (taken most : ℕ) (w : Going old mid server taken most) → sink ≡ mid.sink → GoesOn (IsOutputOf w.bytes) old.sink sink
+pub goes_on : (old mid : Streams) (sink : SinkSeen) (server : Serving) (taken most : ℕ) (w : Going old mid server taken most) → sink ≡ mid.sink → GoesOn (IsOutputOf w.bytes) old.sink sink
 goes_on old mid sink server taken most w same = record {
   writes = record {
     output = output_so_far old mid server taken most w;
@@ -190,7 +190,7 @@ goes_on old mid sink server taken most w same = record {
   unfinished = tt;
 }
 
-takes_all : (old mid new : Option (List (List ℕ))) (bytes buffer : List ℕ) → TakesBytes old mid bytes → GotTakes mid new got.End buffer → TakesAll old new bytes × TakesBytes old new bytes
+pub takes_all : (old mid new : Option (List (List ℕ))) (bytes buffer : List ℕ) → TakesBytes old mid bytes → GotTakes mid new got.End buffer → TakesAll old new bytes × TakesBytes old new bytes
 takes_all None mid new bytes buffer front takes = (tt, tt)
 takes_all (Some old) None new bytes buffer front takes = absurd front
 takes_all (Some old) (Some mid) None bytes buffer front takes = absurd takes
@@ -198,7 +198,7 @@ takes_all (Some old) (Some []) (Some new) bytes buffer front takes =
     ((sym (append-nil bytes) ∙ sym front, takes), front ∙ ap (λ (left : List (List ℕ)). bytes ++ bytes_of left) (sym takes))
 takes_all (Some old) (Some (piece ∷ pieces)) (Some new) bytes buffer front takes = absurd takes
 
-takes_same : (old mid new : Option (List (List ℕ))) (bytes buffer : List ℕ) → TakesBytes old mid bytes → GotTakes mid new got.Failed buffer → TakesBytes old new bytes
+pub takes_same : (old mid new : Option (List (List ℕ))) (bytes buffer : List ℕ) → TakesBytes old mid bytes → GotTakes mid new got.Failed buffer → TakesBytes old new bytes
 takes_same None mid new bytes buffer front takes = tt
 takes_same (Some old) None new bytes buffer front takes = absurd front
 takes_same (Some old) (Some mid) None bytes buffer front takes = absurd takes
