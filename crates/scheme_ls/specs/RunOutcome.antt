@@ -3,9 +3,8 @@ use Rattle.std.specs.Prelude.{◌≡◌, ◌⊎◌, ℕ, List}
 use Rattle.std.specs.declared.option.Option.{Option}
 use Rattle.scheme_ls.specs.ArrowsOutcome.{ArrowsEndsAs}
 use Rattle.scheme_ls.specs.Prints.{Prints, PrintsFront, SinkSeen}
-use Rattle.scheme_ls.specs.QuietBytes.{AreQuiet}
 use Rattle.scheme_ls.specs.Reading.{SourceSeen}
-use Rattle.scheme_ls.specs.ServeOutcome.{ServeEndsAs}
+use Rattle.scheme_ls.specs.ServeOutcome.{Serves}
 use Rattle.scheme_ls.specs.Statuses.{arrows_status, code_of, session_status}
 use Rattle.scheme_ls.specs.Streams.{Streams}
 use Rattle.scheme_ls.specs.Wording.{usage_text}
@@ -51,9 +50,10 @@ pub record ArrowsDone (old new : Streams) (status : Status) : Type 0 where
   pub status_is : status ≡ arrows_status end
 
 -- `serve` ended with a status
-pub record ServeDone (old new : Streams) (status : Status) : Type 0 where
+pub record ServeDone (old new : Seen) (status : Status) : Type 0 where
   pub end : SessionEnd
-  pub ends : ServeEndsAs old new end
+  pub serves : Serves old.streams new.streams old.steps new.steps end
+  pub files : AsksNoFile old new
   pub status_is : status ≡ session_status end
 
 -- the usage was printed, or a write of it failed
@@ -65,10 +65,10 @@ pub record UsageDone (old new : Streams) (status : Status) : Type 0 where
   pub unread : new.source ≡ old.source
   pub prints : PrintsUsage old.sink new.sink status
 
--- how a command ends; `serve` works macro uses only where a body tells a document event
+-- how a command ends
 abbrev pub CommandEndsAs : Command → Seen → Seen → Status → Type 0
 CommandEndsAs Arrows old new status = ArrowsDone old.streams new.streams status × AsksNothing old new
-CommandEndsAs Serve old new status = (done : ServeDone old.streams new.streams status) × AsksNoFile old new × (AreQuiet done.ends.bytes → new.steps ≡ old.steps)
+CommandEndsAs Serve old new status = ServeDone old new status
 CommandEndsAs Unknown old new status = UsageDone old.streams new.streams status × AsksNothing old new
 
 -- how a run ends: as the command does that its words ask for

@@ -1,9 +1,8 @@
 //! One session over a source and a sink.
 ghost use Rattle.std.specs.Prelude.{◌≡◌};
 ghost use Rattle.scheme_ls.specs.Prints.{sink_seen};
-ghost use Rattle.scheme_ls.specs.QuietBytes.{AreQuiet};
 ghost use Rattle.scheme_ls.specs.Reading.{source_seen};
-ghost use Rattle.scheme_ls.specs.ServeOutcome.{ServeEndsAs};
+ghost use Rattle.scheme_ls.specs.ServeOutcome.{Serves};
 ghost use Rattle.scheme_ls.specs.Statuses.{session_status};
 ghost use Rattle.scheme_ls.specs.Streams.{streams};
 
@@ -68,12 +67,11 @@ pub fn serve<I: Source, O: Sink, L: Ledger>(
     output: &mut O,
     steps: &mut Steps<L>,
 ) -> SessionEnd
-    ensures serves { (ends : ServeEndsAs
+    ensures { Serves
         (streams (source_seen (I.left input.old) (I.faults input.old) (I.reads input.old))
         (sink_seen (O.taken output.old) (O.faults output.old) (O.writes output.old)))
         (streams (source_seen (I.left input.new) (I.faults input.new) (I.reads input.new))
-        (sink_seen (O.taken output.new) (O.faults output.new) (O.writes output.new))) result)
-        × (AreQuiet ends.bytes → steps.new ≡ steps.old) }
+        (sink_seen (O.taken output.new) (O.faults output.new) (O.writes output.new))) steps.old steps.new result }
 {
     let Ok(session) = Session::new(alloc) else {
         return SessionEnd::NoMemory;
