@@ -4,7 +4,7 @@ use Rattle.scheme_ls.specs.Prints.{sink_seen}
 use Rattle.scheme_ls.specs.Reading.{source_seen}
 use Rattle.scheme_ls.specs.Streams.{streams}
 use Rattle.scheme_ls.proofs.SessionSoFar.{GoesUnworked}
-use Rattle.scheme_ls.proofs.serve.serve.Given as goal
+use Rattle.scheme_ls.proofs.serve.answer_input.Given as goal
 
 abbrev pub invariant-loop-taken : goal.invariant-loop-taken
 invariant-loop-taken g l = record {
