@@ -43,7 +43,6 @@ one_answer (About encoding texts uri position session.Highlights) a b h k = absu
 one_answer (About encoding texts uri position session.Prepare) a b h k = absurd h
 one_answer (About encoding texts uri position session.Arrows) a b h k =
     h.2 ∙ ap answers.Arrows (one_arrows_of (encoding_of encoding) uri (text_at texts uri) h.0 k.0 h.1 k.1) ∙ sym k.2
-
 one_answer (News encoding before after uri) a b h k = absurd h
 
 pub one_row : (question : Question) (a b : List Published) → ArePublishedFor question a → ArePublishedFor question b → a ≡ b

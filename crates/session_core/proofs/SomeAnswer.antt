@@ -62,7 +62,6 @@ some_answer Nothing asks none = none (answers.Nothing, refl)
 some_answer (About encoding texts uri position query) asks none =
     some_arrows_of (encoding_of encoding) uri (text_at texts uri)
     (λ found. none (answers.Arrows found.0, subst (λ q. AnswersQuery q encoding texts uri (answers.Arrows found.0)) (sym asks) (found.0, found.1, refl)))
-
 some_answer (News encoding before after uri) asks none = absurd asks
 
 -- a question about what is news

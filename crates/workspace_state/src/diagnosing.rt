@@ -205,11 +205,7 @@ fn whole_number(fault: WholeFault) -> u32
 }
 
 /// A document that can't be read on has that alone, whatever else is told of it.
-pub fn tell_unread(
-    alloc: Global,
-    documents: &[Document],
-    findings: &mut Vec<Sorted>,
-) -> Mem<()>
+pub fn tell_unread(alloc: Global, documents: &[Document], findings: &mut Vec<Sorted>) -> Mem<()>
     requires { vec_len findings.old ≡ length documents.now }
     ensures { OnOk result (Changes (λ n. TellsStopOf (slice_get documents.now n)) findings.old.items findings.new.items) }
 {

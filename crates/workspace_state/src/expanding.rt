@@ -209,7 +209,7 @@ fn expand_unit<L: Ledger>(
         GoesOn bench.old g → p.number ≡ unit → IsSourceOf spelled p None source.now → AreEntries bench.old.work.symbols given.joined.entries.items given_entries.0 →
         (reads : List Read) (ends : List UnitResult) (r : UnitResult) → ArePlacesOf places.entry reads ends → unit_at ends unit ≡ Some r → r.unit ≡ p → AreSetsFound reads ends p given_entries.1 given.findings.items →
         IfOk result (λ came. IfSome came (λ came. IsFoundOf reads (in_the_end ends (with_unit g (expanded_after known g p given_entries.0).1))
-            (unit_result p given_entries (expanded_after known g p given_entries.0).1.table (expanded_after known g p given_entries.0).0) came.findings.items)) }
+        (unit_result p given_entries (expanded_after known g p given_entries.0).1.table (expanded_after known g p given_entries.0).0) came.findings.items)) }
 {
     let imports = imported(alloc, &mut bench.work, given.joined.entries.as_slice())?;
     bench.work.symbols.told_apart();

@@ -45,15 +45,19 @@ loop-document-preserved c =
           let fits : SFits w64 v = search rules in
           let version : to_z w64 (of_z w64 v) ≡ d.version = to_z-of_z w64 v fits ∙ w.version_of.ensures in
           let e : w.put-then-is_news.new.all ≡ c.if-is_news.all = sym w.all-is in
-          let q = so_far_put c.args.changed.now before now told next c.loop-document.all so bs d.version later w.put-then-is_news.new.all (record { uri = bs; version = Some d.version; list = now bs }) (λ uri. w.in_ok-put-2.ensures.puts uri ∙ (λ i. cond (bytes_eq bs uri) (Some (as_published bs (version i) (now bs))) (get_by_text c.loop-document.all uri))) refl refl refl w.if-is_news.ensures in
-          (subst (λ (m : BTreeMap (String Global) Published). SoFar c.args.changed.now before now next m) e q, subst (λ (m : BTreeMap (String Global) Published). IsOrdered string_cmp m) e w.in_ok-put-2.ensures.ordered,
-          subst (λ (m : BTreeMap (String Global) Published). length m.entries ≤ (n + 1) + 1) e (omega (arith, w.in_ok-put-2.ensures.one_more, c.loop-document.invariant.2)))
+          let q = so_far_put c.args.changed.now before now told next c.loop-document.all so bs d.version later w.put-then-is_news.new.all (record { uri = bs; version = Some d.version; list = now bs }) (λ uri. w.in_ok-put-2.ensures.puts uri ∙ (λ i. cond (bytes_eq bs uri) (Some (as_published bs (version i) (now bs))) (get_by_text c.loop-document.all uri))) refl refl refl w.if-is_news.ensures in (
+            subst (λ (m : BTreeMap (String Global) Published). SoFar c.args.changed.now before now next m) e q,
+            subst (λ (m : BTreeMap (String Global) Published). IsOrdered string_cmp m) e w.in_ok-put-2.ensures.ordered,
+            subst (λ (m : BTreeMap (String Global) Published). length m.entries ≤ (n + 1) + 1) e (omega (arith, w.in_ok-put-2.ensures.one_more, c.loop-document.invariant.2)),
+          )
       | else-is_news w ↦
           let e : c.loop-document.all ≡ c.if-is_news.all = sym w.all-is in
           let stays = w.if-is_news.ensures in
-          let q = so_far_skip c.args.changed.now before now told next c.loop-document.all so bs d.version later stays.0 stays.1 in
-          (subst (λ (m : BTreeMap (String Global) Published). SoFar c.args.changed.now before now next m) e q, subst (λ (m : BTreeMap (String Global) Published). IsOrdered string_cmp m) e c.loop-document.invariant.1,
-          subst (λ (m : BTreeMap (String Global) Published). length m.entries ≤ (n + 1) + 1) e (omega (arith, c.loop-document.invariant.2)))
+          let q = so_far_skip c.args.changed.now before now told next c.loop-document.all so bs d.version later stays.0 stays.1 in (
+            subst (λ (m : BTreeMap (String Global) Published). SoFar c.args.changed.now before now next m) e q,
+            subst (λ (m : BTreeMap (String Global) Published). IsOrdered string_cmp m) e c.loop-document.invariant.1,
+            subst (λ (m : BTreeMap (String Global) Published). length m.entries ≤ (n + 1) + 1) e (omega (arith, c.loop-document.invariant.2)),
+          )
     ]
 
 pub returns-clause-news : goal.returns-clause-news

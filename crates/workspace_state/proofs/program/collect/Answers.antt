@@ -127,8 +127,8 @@ loop-place-preserved c =
           let at_unit : slice_get p.units c.in-Some.place ≡ Some r.0 = ap (slice_get p.units) t.0 ∙ r.1 in
           let stay = heads_kept rs 0 c.args.units.heads.items hs p.units l.invariant.heads told.heads in
           let places : ArePlaces (record { documents = c.as_slice.result; heads = c.as_slice-in-loop-place.result }) rs p.units = record {
-          heads = subst (λ (ks : List Head). AreHeads rs 0 ks p.units) (sym c.as_slice-in-loop-place.ensures.value) stay;
-          spans = subst (λ (ds : List Document). HaveTokens ds rs) (sym c.as_slice.ensures.value) tokens;
+            heads = subst (λ (ks : List Head). AreHeads rs 0 ks p.units) (sym c.as_slice-in-loop-place.ensures.value) stay;
+            spans = subst (λ (ds : List Document). HaveTokens ds rs) (sym c.as_slice.ensures.value) tokens;
           } in
           let at_head : slice_get hs c.in-Some.place ≡ Some h = slice_get_read hs (length hs) c.in-Some.place h refl within c.index_mut.ensures.value in
           let head_there : slice_get c.as_slice-in-loop-place.result.now c.in-Some.place ≡ Some h = ap (λ (ks : List Head). slice_get ks c.in-Some.place) c.as_slice-in-loop-place.ensures.value ∙ at_head in
@@ -158,12 +158,12 @@ loop-place-preserved c =
           let many : length c.as_slice-count.result.now ≡ length s.forms = ap (λ (fs : List SourceForm). length fs) c.as_slice-count.ensures in
           one_collected uris hs0 ss es l.program c.push-in-loop-place.new.self u n h s o pushed (l.invariant.count ∙ sym t.0) at_head at_source at_come
           (record {
-          uri = subst (λ (ds : List Document). slice_get (map (λ (d : Document). d.uri) ds) h.document ≡ Some u.uri) c.as_slice-in-loop-place-2.ensures.value c.in_ok-unit.ensures.uri;
-          kind = c.in_ok-unit.ensures.kind;
-          name = c.in_ok-unit.ensures.name;
-          imports = c.in_ok-unit.ensures.imports;
-          come =
-          has_come (length s.forms) o e u (of_some (λ (v : Expanded). e ≡ v) o c.in_ok-came.ensures.some) (λ none. subst (λ (k : ℕ). IsNothing k e) many (c.in_ok-came.ensures.none none)) c.in_ok-unit.ensures.has;
+            uri = subst (λ (ds : List Document). slice_get (map (λ (d : Document). d.uri) ds) h.document ≡ Some u.uri) c.as_slice-in-loop-place-2.ensures.value c.in_ok-unit.ensures.uri;
+            kind = c.in_ok-unit.ensures.kind;
+            name = c.in_ok-unit.ensures.name;
+            imports = c.in_ok-unit.ensures.imports;
+            come =
+                has_come (length s.forms) o e u (of_some (λ (v : Expanded). e ≡ v) o c.in_ok-came.ensures.some) (λ none. subst (λ (k : ℕ). IsNothing k e) many (c.in_ok-came.ensures.none none)) c.in_ok-unit.ensures.has;
           })
           l.invariant.collected;
     }

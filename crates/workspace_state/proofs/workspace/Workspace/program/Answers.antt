@@ -19,7 +19,11 @@ returns-clause-stands c =
     let all = units_of (map data_in row.0) in
     let whole = program_in row.0 in
     let stands = c.self.invariant.program row.0 row.1 in
-    let work = ap (λ (s : State). s.expansion.work) c.self.view_is in
-    (library_text, uris, all, whole,
-    subst (λ (w : Work). ProgramStands w library_text uris all c.program.result.now whole) work
-    (subst (λ (p : Program). ProgramStands c.self.inside.expansion.work library_text uris all p whole) (sym c.program.ensures.program) stands))
+    let work = ap (λ (s : State). s.expansion.work) c.self.view_is in (
+      library_text,
+      uris,
+      all,
+      whole,
+      subst (λ (w : Work). ProgramStands w library_text uris all c.program.result.now whole) work
+          (subst (λ (p : Program). ProgramStands c.self.inside.expansion.work library_text uris all p whole) (sym c.program.ensures.program) stands),
+    )
