@@ -1,6 +1,6 @@
 -- How a session ends in a piece.
-use Rattle.std.proofs.Common.{◌≡◌, ℕ, ◌+◌, ◌-◌, ◌<◌, ◌≤◌, List, [], ◌∷◌, ◌++◌, length, min, take, drop, refl, sym, ap, ◌∙◌, arith, append_assoc, append-nil, Some, None, Option, subst, inl, inr, ◌⊎◌, length-append}
-use Rattle.std.proofs.lemmas.List.{take_all, length-take, take-append-drop}
+use Rattle.std.proofs.Common.{◌≡◌, ℕ, ◌+◌, ◌-◌, ◌<◌, ◌≤◌, List, [], ◌∷◌, ◌++◌, length, min, take, refl, sym, ap, ◌∙◌, arith, append_assoc, append-nil, Some, None, Option, subst, inl, inr, ◌⊎◌, length-append}
+use Rattle.std.proofs.lemmas.List.{take_all, length-take}
 use Rattle.std.proofs.KnownBytes.{Appends-trans}
 use Rattle.std.specs.Io.KnownBytes.{Appends}
 use Rattle.std.specs.FinMap.{empty}
@@ -12,15 +12,15 @@ use Rattle.lsp_framing.proofs.OneReading.{bodies_grow}
 use Rattle.lsp_messages.specs.declared.reply.Reply.{Reply}
 use Rattle.ls_outside.specs.Sources.{GotTakes}
 use Rattle.ls_outside.specs.declared.source.Got.TheVariants as got
-use Rattle.scheme_model.specs.Session.{State, begin}
-use Rattle.scheme_ls.specs.BodiesOutcome.{AnswersBodies, AnswersSome, EndsSession}
+use Rattle.scheme_model.specs.Session.{begin}
+use Rattle.scheme_ls.specs.BodiesOutcome.{AnswersBodies}
 use Rattle.scheme_ls.specs.PieceOutcome.{AnswersInPiece, EndsInPiece, HasFault, Serving, TakesPiece}
 use Rattle.scheme_ls.specs.Prints.{SinkSeen, Prints, PrintsFront, PrintsPart}
 use Rattle.scheme_ls.specs.Reading.{ReadsOn, TakesBytes}
 use Rattle.scheme_ls.specs.QuietBytes.{AreQuiet}
 use Rattle.scheme_ls.specs.ReplyFrames.{frame_of_reply, frames_of}
 use Rattle.scheme_ls.specs.ServeOutcome.{AnswersPiecesBefore, AreBeforeLast, Serves}
-use Rattle.scheme_ls.specs.SessionOutput.{AnswerFirst, IsOutputOf, Output, fault_log, written}
+use Rattle.scheme_ls.specs.SessionOutput.{IsOutputOf, Output, fault_log, written}
 use Rattle.scheme_ls.specs.Statuses.{said_exit}
 use Rattle.scheme_ls.specs.Streams.{Streams}
 use Rattle.scheme_ls.specs.declared.answering.Exit.{Exit}

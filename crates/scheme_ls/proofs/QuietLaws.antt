@@ -1,10 +1,10 @@
 -- No step is worked over quiet bytes.
-use Rattle.std.proofs.Common.{◌≡◌, ℕ, List, [], ◌∷◌, ◌++◌, Option, sym, ◌∙◌, subst}
+use Rattle.std.proofs.Common.{◌≡◌, ℕ, List, [], ◌∷◌, ◌++◌, sym, ◌∙◌, subst}
 use Rattle.std.specs.List.{AllByRecursion}
 use Rattle.std.specs.declared.vec.Vec.{Vec}
 use Rattle.std.specs.declared.alloc.Global.{Global}
-use Rattle.ls_base.specs.Frames.{End, IsFrames, rest}
-use Rattle.lsp_framing.specs.Deframed.{Deframed, After}
+use Rattle.ls_base.specs.Frames.{IsFrames, rest}
+use Rattle.lsp_framing.specs.Deframed.{Deframed}
 use Rattle.lsp_framing.specs.Feeds.{Feeds}
 use Rattle.lsp_framing.specs.Taken.{contents}
 use Rattle.lsp_framing.proofs.OneReading.{bodies_grow, one_reading}

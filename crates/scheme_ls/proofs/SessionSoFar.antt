@@ -20,7 +20,7 @@ use Rattle.scheme_ls.specs.Prints.{Prints, SinkSeen}
 use Rattle.scheme_ls.specs.QuietBytes.{AreQuiet}
 use Rattle.scheme_ls.specs.Reading.{ReadsOn, TakesAll, TakesBytes}
 use Rattle.scheme_ls.specs.ReplyFrames.{frames_of}
-use Rattle.scheme_ls.specs.ServeOutcome.{AreBefore, AreBeforeLast, GoesOn, Serves}
+use Rattle.scheme_ls.specs.ServeOutcome.{AreBeforeLast, GoesOn, Serves}
 use Rattle.scheme_ls.specs.SessionOutput.{IsOutputOf, Output}
 use Rattle.scheme_ls.specs.Streams.{Streams}
 use Rattle.scheme_ls.specs.declared.serve.SessionEnd.TheVariants.{InputEnded, ReadFailed, Endless}

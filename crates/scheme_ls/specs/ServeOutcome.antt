@@ -1,5 +1,5 @@
 -- How the command `serve` ends, and why.
-use Rattle.std.specs.Prelude.{◌≡◌, ℕ, ◌<◌, ◌≤◌, ◌^◌, List, [], ◌∷◌, ◌++◌, length, Option, Some, None}
+use Rattle.std.specs.Prelude.{◌≡◌, ℕ, ◌<◌, ◌≤◌, ◌^◌, List, ◌∷◌, ◌++◌, length, Option, Some, None}
 use Rattle.std.specs.Io.KnownBytes.{Appends}
 use Rattle.ls_base.specs.Frames.{End, rest, fault}
 use Rattle.lsp_messages.specs.declared.reply.Reply.{Reply}
@@ -8,7 +8,7 @@ use Rattle.scheme_model.specs.Session.{Ending}
 use Rattle.scheme_ls.specs.ReplyFrames.{frames_of}
 use Rattle.scheme_ls.specs.Prints.{SinkSeen, Prints, PrintsFront, PrintsPart}
 use Rattle.scheme_ls.specs.QuietBytes.{AreQuiet}
-use Rattle.scheme_ls.specs.Reading.{FailsToRead, ReadsOn, ReadsToEnd, SourceSeen, TakesBytes}
+use Rattle.scheme_ls.specs.Reading.{FailsToRead, ReadsOn, ReadsToEnd, TakesBytes}
 use Rattle.scheme_ls.specs.SessionOutput.{BeginOutput, IsOutputOf, Output, written}
 use Rattle.scheme_ls.specs.Statuses.{said_exit}
 use Rattle.scheme_ls.specs.Streams.{Streams}

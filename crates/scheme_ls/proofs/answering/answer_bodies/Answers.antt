@@ -1,4 +1,4 @@
-use Rattle.std.proofs.Common.{List, ℕ, [], ◌∷◌, ◌+◌, ◌∙◌, ◌≡◌, drop, refl, subst}
+use Rattle.std.proofs.Common.{List, ℕ, [], ◌∷◌, ◌+◌, ◌≡◌, drop, refl, subst}
 use Rattle.std.proofs.lemmas.List.{drop_all}
 use Rattle.std.specs.declared.vec.Vec.{Vec}
 use Rattle.std.specs.declared.alloc.Global.{Global}
