@@ -33,7 +33,7 @@ fn class(out: &mut Shown, values: &[Value], occ: &Value) -> Row<()> {
 }
 
 /// `[UNIT, FORM, TOKEN]`.
-fn occ_of(value: &Value) -> Row<Occ> {
+pub fn occ_of(value: &Value) -> Row<Occ> {
     Ok(Occ {
         unit: number(item(value, 0)?)?,
         form: number(item(value, 1)?)?,

@@ -204,6 +204,10 @@
 //!         null                    -> []
 //!     programs/arrows null        the arrows, `[PLACE,PLACE,NAME]`: a binder, its use, and the use as it is written; a document is open
 //!         null                    -> []
+//!     programs/links null         what spells what, `[ORIGIN,PLACE,PREFIX]` with a PLACE or a standard name as ORIGIN; a document is open
+//!         null                    -> []
+//!     programs/class OCC          the class of an occurrence, `[PLACE,PREFIX]`; a document is open
+//!         [0,0,0]                 -> []
 //!
 //! What all crates share.
 //!
@@ -227,6 +231,7 @@ mod lines;
 mod messages;
 mod positions;
 mod program_arrows;
+mod program_classes;
 mod program_forms;
 mod programs;
 mod replies;

@@ -13,7 +13,7 @@ use workspace_state::Workspace;
 
 /// The bytes of an occurrence, ordered by uri and start.
 #[derive(Drop, PartialEq, Eq, PartialOrd, Ord)]
-struct Spot {
+pub struct Spot {
     uri: String,
     start: u32,
     end: u32,
@@ -28,7 +28,7 @@ struct Arrow {
 
 impl Spot {
     /// The bytes of an occurrence.
-    fn of(alloc: Global, workspace: &Workspace, occ: Occ) -> Row<Spot>
+    pub fn of(alloc: Global, workspace: &Workspace, occ: Occ) -> Row<Spot>
         requires { 0 < length (entries workspace.now.texts) }
     {
         let place: Place = workspace.place_of(occ)?;
@@ -41,7 +41,7 @@ impl Spot {
     }
 
     /// `[URI, START, END]`.
-    fn show(&self, out: &mut Shown) {
+    pub fn show(&self, out: &mut Shown) {
         let span = Span {
             start: self.start,
             end: self.end,

@@ -4,6 +4,7 @@ ghost use Rattle.std.specs.Prelude.{◌≡◌, ◌<◌};
 use crate::argument::{item, list, made, made_bytes, text};
 use crate::fault::{Row, RowFault};
 use crate::program_arrows::show_arrows;
+use crate::program_classes::{show_class, show_links};
 use crate::program_forms::{show_counts, show_units};
 use crate::shown::Shown;
 use crate::spans::{show_ends, show_span, span_at, span_of, text_of};
@@ -25,6 +26,8 @@ pub fn answer(out: &mut Shown, workspace: &mut Workspace, call: &str, argument: 
         "units" => Ok(show_units(out, workspace.work(), workspace.program())),
         "counts" => Ok(show_counts(out, workspace.program())),
         "arrows" => Ok(show_arrows(out, workspace)?),
+        "links" => Ok(show_links(out, workspace)?),
+        "class" => Ok(show_class(out, workspace, argument)?),
         _ => Err(RowFault::NoCall),
     }
 }

@@ -1,11 +1,12 @@
 -- Bodies that are answered one after another.
 use Rattle.std.proofs.Common.{◌≡◌, ℕ, List, [], ◌∷◌, ◌++◌, refl, sym, ap, ◌∙◌, arith, append_assoc, append-nil, Some, None, Option, subst}
+use Rattle.std.specs.List.{AllByRecursion}
 use Rattle.std.specs.Option.{option_map}
 use Rattle.scheme_model.specs.Session.{Clean, Early, Ending, Run, State}
 use Rattle.session_core.specs.Asked.{Question}
 use Rattle.session_core.specs.ToWire.{AreReplies}
 use Rattle.session_core.specs.States.{exit_code}
-use Rattle.session_core.specs.Stepped.{IsStep}
+use Rattle.session_core.specs.Stepped.{IsStep, IsQuiet}
 use Rattle.session_core.specs.declared.out.Out.{Out}
 use Rattle.lsp_messages.specs.declared.reply.Reply.{Reply}
 use Rattle.scheme_ls.specs.BodiesOutcome.{AreAnswered, AnswersBodies, AnswersSome, BodiesEndAs, EndsSession, body_end_of}
@@ -136,6 +137,15 @@ ends_after state mid a b exit old between new first second =
 pub part_follows : (state mid : State) (a b : List (List ℕ)) (old between new : SinkSeen) → AnswersBodies state a mid old between → AnswersSome mid b (PrintsPart between new) → AnswersSome state (a ++ b) (PrintsPart old new)
 part_follows state mid a b old between new first second =
     subst (λ (rest : List (List ℕ)). AnswersSome state (a ++ rest) (PrintsPart old new)) (append-nil b) (part_then state mid a b [] old between new first second)
+
+-- ---- quiet bodies
+
+-- where all bodies are quiet no step was counted so far, and the rest is quiet
+abbrev pub QuietSoFar : (all rest : List (List ℕ)) → (before now : ℕ) → Type 0
+QuietSoFar all rest before now = AllByRecursion IsQuiet all → (now ≡ before) × AllByRecursion IsQuiet rest
+
+pub quiet_more : (all rest : List (List ℕ)) (body : List ℕ) (before mid now : ℕ) → QuietSoFar all (body ∷ rest) before mid → (IsQuiet body → now ≡ mid) → QuietSoFar all rest before now
+quiet_more all rest body before mid now so one quiet = let h = so quiet in (one h.1.0 ∙ h.0, h.1.1)
 
 -- ---- the loop over bodies
 

@@ -1,14 +1,13 @@
 -- A stream of bytes has one output, and messages that begin it are its front.
-use Rattle.std.proofs.Common.{◌≡◌, ℕ, List, [], ◌++◌, refl, sym, ap, ◌∙◌, subst, append_assoc, append-nil, Option, Some, None, inl, inr, ◌⊎◌}
+use Rattle.std.proofs.Common.{◌≡◌, ℕ, List, [], ◌++◌, refl, sym, ap, ◌∙◌, subst, append_assoc, append-nil, Option, Some, None, inl, inr}
 use Rattle.std.specs.FinMap.{empty}
-use Rattle.ls_base.specs.Frames.{End}
 use Rattle.lsp_framing.proofs.OneReading.{one_reading}
 use Rattle.lsp_messages.specs.declared.reply.Reply.{Reply}
 use Rattle.scheme_model.specs.Session.{Ending, Run, begin}
 use Rattle.session_core.specs.ToWire.{AreReplies}
 use Rattle.session_core.specs.Asked.{Question}
 use Rattle.session_core.proofs.OneAnswer.{one_replies}
-use Rattle.scheme_ls.specs.SessionOutput.{AnswerFirst, BeginOutput, IsOutputOf, Output, farewell, session_over, written}
+use Rattle.scheme_ls.specs.SessionOutput.{BeginOutput, IsOutputOf, Output, farewell, session_over, written}
 use Rattle.scheme_ls.proofs.Sessions.{are_split, ended_session, more_bodies}
 
 one_bodies : (bytes : List ℕ) (a b : Output) (h : IsOutputOf bytes a) (k : IsOutputOf bytes b) → (h.bodies ≡ k.bodies) × (a.end ≡ b.end)

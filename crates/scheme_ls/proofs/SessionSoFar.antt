@@ -3,7 +3,7 @@ use Rattle.std.proofs.Common.{◌≡◌, ℕ, ◌+◌, ◌-◌, ◌<◌, ◌≤�
 use Rattle.std.proofs.lemmas.List.{take_all, length-take, drop_all, take-append-drop}
 use Rattle.std.proofs.lemmas.Bool.{cases_lt}
 use Rattle.std.proofs.lemmas.Bool.Decides.{nat_tests}
-use Rattle.std.specs.List.{list_all}
+use Rattle.std.specs.List.{AllByRecursion, list_all}
 use Rattle.std.specs.Option.{IsSomeAnd}
 use Rattle.ls_base.specs.Frames.{End, IsFrames, rest}
 use Rattle.lsp_framing.specs.Deframed.{Deframed, After}
@@ -13,12 +13,14 @@ use Rattle.ls_outside.specs.Sources.{ArePieces, GotTakes, bytes_of, is_piece, le
 use Rattle.ls_outside.specs.declared.source.Got.TheVariants as got
 use Rattle.std.specs.FinMap.{empty}
 use Rattle.scheme_model.specs.Session.{State, begin}
+use Rattle.session_core.specs.Stepped.{IsQuiet}
 use Rattle.scheme_ls.specs.BodiesOutcome.{AnswersBodies}
 use Rattle.scheme_ls.specs.PieceOutcome.{IsOpen, Serving, TakesPiece}
 use Rattle.scheme_ls.specs.Prints.{Prints, SinkSeen}
+use Rattle.scheme_ls.specs.QuietBytes.{AreQuiet}
 use Rattle.scheme_ls.specs.Reading.{ReadsOn, TakesAll, TakesBytes}
 use Rattle.scheme_ls.specs.ReplyFrames.{frames_of}
-use Rattle.scheme_ls.specs.ServeOutcome.{AreBefore, AreBeforeLast, GoesOn, ServeEndsAs}
+use Rattle.scheme_ls.specs.ServeOutcome.{AreBeforeLast, GoesOn, Serves}
 use Rattle.scheme_ls.specs.SessionOutput.{IsOutputOf, Output}
 use Rattle.scheme_ls.specs.Streams.{Streams}
 use Rattle.scheme_ls.specs.declared.serve.SessionEnd.TheVariants.{InputEnded, ReadFailed, Endless}
@@ -49,6 +51,11 @@ pub record Going (old now : Streams) (server : Serving) (taken most : ℕ) : Typ
   pub answers : AnswersBodies (begin empty) bodies server.state old.sink now.sink
   pub count : length bytes ≡ taken
   pub on : ReadsOn old.source now.source
+
+-- and over quiet bodies no step was worked
+pub record GoesUnworked (old now : Streams) (server : Serving) (taken most before steps : ℕ) : Type 0 where
+  pub so_far : Going old now server taken most
+  pub unworked : AllByRecursion IsQuiet so_far.bodies → steps ≡ before
 
 pub takes_none : (left : Option (List (List ℕ))) → TakesBytes left left []
 takes_none None = tt
@@ -163,19 +170,24 @@ before_last (Some old) (Some (piece ∷ pieces)) (Some new) bytes buffer n some 
     }
 
 -- a read, and what answers it: the session goes on
-pub going_more : (old mid new : Streams) (server next : Serving) (taken most n room : ℕ) (buffer : List ℕ) (w : Going old mid server taken most) → taken < most → ArePieces mid.source.left → length buffer ≡ room → n ≤ room →
-    room ≡ min 65536 (most - taken) → GotTakes mid.source.left new.source.left (got.Some n) buffer → ReadsOn mid.source new.source → TakesPiece server next (take n buffer) IsOpen mid.sink new.sink → Going old new next (taken + n) most
-going_more old mid new server next taken most n room buffer w below sized size within space takes on answered = record {
-  bytes = w.bytes ++ take n buffer;
-  bodies = w.bodies ++ answered.given;
-  takes = TakesBytes-more old.source.left mid.source.left new.source.left w.bytes buffer n w.takes takes;
-  pieces = λ more. whole_more old.source.left mid.source.left new.source.left w.bytes buffer n room sized size (wide_read n room taken most more below within space) (w.pieces below) takes;
-  after = answered.feeds w.bytes w.bodies w.after;
-  kept = answered.end.0;
-  open_end = answered.end.1;
-  answers = answers_then (begin empty) server.state next.state w.bodies answered.given old.sink mid.sink new.sink w.answers answered.answers;
-  count = length-append w.bytes (take n buffer) ∙ (let l = length-take n buffer in omega (arith, w.count));
-  on = reads_then old.source mid.source new.source w.on on;
+pub going_more : {before steps : ℕ} (old mid new : Streams) (server next : Serving) (taken most n room : ℕ) (buffer : List ℕ) (w : Going old mid server taken most) → taken < most → ArePieces mid.source.left → length buffer ≡ room →
+    n ≤ room →
+    room ≡ min 65536 (most - taken) → GotTakes mid.source.left new.source.left (got.Some n) buffer → ReadsOn mid.source new.source → (answered : TakesPiece server next (take n buffer) IsOpen mid.sink new.sink) →
+    (AllByRecursion IsQuiet (w.bodies ++ answered.given) → steps ≡ before) → GoesUnworked old new next (taken + n) most before steps
+going_more old mid new server next taken most n room buffer w below sized size within space takes on answered unworked = record {
+  so_far = record {
+    bytes = w.bytes ++ take n buffer;
+    bodies = w.bodies ++ answered.given;
+    takes = TakesBytes-more old.source.left mid.source.left new.source.left w.bytes buffer n w.takes takes;
+    pieces = λ more. whole_more old.source.left mid.source.left new.source.left w.bytes buffer n room sized size (wide_read n room taken most more below within space) (w.pieces below) takes;
+    after = answered.feeds w.bytes w.bodies w.after;
+    kept = answered.end.0;
+    open_end = answered.end.1;
+    answers = answers_then (begin empty) server.state next.state w.bodies answered.given old.sink mid.sink new.sink w.answers answered.answers;
+    count = length-append w.bytes (take n buffer) ∙ (let l = length-take n buffer in omega (arith, w.count));
+    on = reads_then old.source mid.source new.source w.on on;
+  };
+  unworked = unworked;
 }
 
 -- what was taken so far is answered, and the session goes on
@@ -206,28 +218,37 @@ takes_same (Some old) (Some []) (Some new) bytes buffer front takes = front ∙ 
 takes_same (Some old) (Some (piece ∷ pieces)) (Some new) bytes buffer front takes = front ∙ ap (λ (left : List (List ℕ)). bytes ++ bytes_of left) (sym takes)
 
 -- the input ends
-pub input_ends : (old mid new : Streams) (server : Serving) (taken most : ℕ) (buffer : List ℕ) → Going old mid server taken most → taken < 1099511627776 → GotTakes mid.source.left new.source.left got.End buffer →
-    new.source.faults ≡ mid.source.faults → new.source.reads ≡ mid.source.reads ++ [] ∷ [] → new.sink ≡ mid.sink → ServeEndsAs old new InputEnded
-input_ends old mid new server taken most buffer w fewer takes counts notes same =
+pub input_ends : {before now : ℕ} (old mid new : Streams) (server : Serving) (taken most : ℕ) (buffer : List ℕ) (w : Going old mid server taken most) → taken < 1099511627776 → GotTakes mid.source.left new.source.left got.End buffer →
+    new.source.faults ≡ mid.source.faults → new.source.reads ≡ mid.source.reads ++ [] ∷ [] → new.sink ≡ mid.sink → (AreQuiet w.bytes → now ≡ before) → Serves old new before now InputEnded
+input_ends old mid new server taken most buffer w fewer takes counts notes same unworked =
     let p = takes_all old.source.left mid.source.left new.source.left w.bytes buffer w.takes takes in
     record {
-      bytes = w.bytes;
-      taken = p.1;
-      source = read_to_end old.source mid.source new.source w.bytes w.on p.0 counts notes;
-      session = (omega (arith, w.count), goes_on old mid new.sink server taken most w same);
+      ends = record {
+        bytes = w.bytes;
+        taken = p.1;
+        source = read_to_end old.source mid.source new.source w.bytes w.on p.0 counts notes;
+        session = (omega (arith, w.count), goes_on old mid new.sink server taken most w same);
+      };
+      unworked = unworked;
     }
 
 -- a read fails
-pub read_fails : (old mid new : Streams) (server : Serving) (taken most : ℕ) (buffer : List ℕ) → Going old mid server taken most → taken < 1099511627776 → GotTakes mid.source.left new.source.left got.Failed buffer →
-    Fails mid.source.faults new.source.faults → new.source.reads ≡ mid.source.reads ++ [] ∷ [] → new.sink ≡ mid.sink → ServeEndsAs old new ReadFailed
-read_fails old mid new server taken most buffer w fewer takes failed notes same = record {
-  bytes = w.bytes;
-  taken = takes_same old.source.left mid.source.left new.source.left w.bytes buffer w.takes takes;
-  source = read_fails_then old.source mid.source new.source w.on failed notes;
-  session = (omega (arith, w.count), goes_on old mid new.sink server taken most w same);
+pub read_fails : {before now : ℕ} (old mid new : Streams) (server : Serving) (taken most : ℕ) (buffer : List ℕ) (w : Going old mid server taken most) → taken < 1099511627776 → GotTakes mid.source.left new.source.left got.Failed buffer →
+    Fails mid.source.faults new.source.faults → new.source.reads ≡ mid.source.reads ++ [] ∷ [] → new.sink ≡ mid.sink → (AreQuiet w.bytes → now ≡ before) → Serves old new before now ReadFailed
+read_fails old mid new server taken most buffer w fewer takes failed notes same unworked = record {
+  ends = record {
+    bytes = w.bytes;
+    taken = takes_same old.source.left mid.source.left new.source.left w.bytes buffer w.takes takes;
+    source = read_fails_then old.source mid.source new.source w.on failed notes;
+    session = (omega (arith, w.count), goes_on old mid new.sink server taken most w same);
+  };
+  unworked = unworked;
 }
 
 -- a session has taken all that one may
-pub takes_most : (old now : Streams) (server : Serving) (taken most : ℕ) → Going old now server taken most → taken ≡ 1099511627776 → ServeEndsAs old now Endless
-takes_most old now server taken most w all =
-    record { bytes = w.bytes; taken = w.takes; source = w.on; session = (w.count ∙ all, goes_on old now now.sink server taken most w refl) }
+pub takes_most : {before steps : ℕ} (old now : Streams) (server : Serving) (taken most : ℕ) (w : Going old now server taken most) → taken ≡ 1099511627776 → (AreQuiet w.bytes → steps ≡ before) → Serves old now before steps Endless
+takes_most old now server taken most w all unworked =
+    record {
+      ends = record { bytes = w.bytes; taken = w.takes; source = w.on; session = (w.count ∙ all, goes_on old now now.sink server taken most w refl) };
+      unworked = unworked;
+    }

@@ -1,10 +1,12 @@
 -- What a server makes of a piece of its input.
-use Rattle.std.specs.Prelude.{◌≡◌, ◌⊎◌, ℕ, List, Option, Some, None}
-use Rattle.ls_base.specs.Frames.{End, Fault, fault_number, rest, fault}
-use Rattle.lsp_framing.specs.Deframed.{Deframed}
+use Rattle.std.specs.Prelude.{◌≡◌, ◌⊎◌, ◌++◌, ℕ, List, Option, Some, None}
+use Rattle.std.specs.List.{AllByRecursion}
+use Rattle.ls_base.specs.Frames.{End, Fault, IsFrames, fault_number, rest, fault}
+use Rattle.lsp_framing.specs.Deframed.{Deframed, After}
 use Rattle.lsp_framing.specs.Feeds.{Feeds}
 use Rattle.lsp_framing.specs.Taken.{contents}
 use Rattle.scheme_model.specs.Session.{Ending, State}
+use Rattle.session_core.specs.Stepped.{IsQuiet}
 use Rattle.scheme_ls.specs.BodiesOutcome.{AnswersBodies, EndsSession, AnswersSome}
 use Rattle.scheme_ls.specs.Prints.{SinkSeen, PrintsFront, PrintsPart}
 use Rattle.scheme_ls.specs.Statuses.{said_exit}
@@ -65,3 +67,13 @@ PieceEndsAs old new piece seen now (Faulty at) = TakesPiece old new piece (HasFa
 PieceEndsAs old new piece seen now (Exited exit) = EndsInPiece old new piece (said_exit exit) seen now
 PieceEndsAs old new piece seen now WriteFailed = AnswersInPiece old new piece (PrintsFront seen now)
 PieceEndsAs old new piece seen now NoMemory = AnswersInPiece old new piece (PrintsPart seen now) ⊎ (now ≡ seen)
+
+-- each body that the piece completes is quiet, so that no macro use is worked; those before were complete in the bytes that were taken
+pub record IsQuietPiece (taken : Deframed) (piece : List ℕ) : Type 0 where
+  pub past : List ℕ
+  pub before : List (List ℕ)
+  pub given : List (List ℕ)
+  pub end : End
+  pub after : After past before taken
+  pub frames : IsFrames (past ++ piece) (before ++ given) end
+  pub quiet : AllByRecursion IsQuiet given

@@ -4,7 +4,7 @@ use Rattle.std.specs.declared.option.Option.{Option}
 use Rattle.scheme_ls.specs.ArrowsOutcome.{ArrowsEndsAs}
 use Rattle.scheme_ls.specs.Prints.{Prints, PrintsFront, SinkSeen}
 use Rattle.scheme_ls.specs.Reading.{SourceSeen}
-use Rattle.scheme_ls.specs.ServeOutcome.{ServeEndsAs}
+use Rattle.scheme_ls.specs.ServeOutcome.{Serves}
 use Rattle.scheme_ls.specs.Statuses.{arrows_status, code_of, session_status}
 use Rattle.scheme_ls.specs.Streams.{Streams}
 use Rattle.scheme_ls.specs.Wording.{usage_text}
@@ -34,9 +34,13 @@ pub record Seen : Type 0 where
 abbrev pub seen : SourceSeen → SinkSeen → FilesSeen → ℕ → Seen
 seen source sink files steps = record { streams = record { source = source; sink = sink }; files = files; steps = steps }
 
--- no file was asked for, and no macro use was worked
+-- no file was asked for
+abbrev pub AsksNoFile : Seen → Seen → Type 0
+AsksNoFile old new = new.files ≡ old.files
+
+-- and no macro use was worked
 pub record AsksNothing (old new : Seen) : Type 0 where
-  pub files : new.files ≡ old.files
+  pub files : AsksNoFile old new
   pub steps : new.steps ≡ old.steps
 
 -- `arrows` ended with a status
@@ -46,9 +50,10 @@ pub record ArrowsDone (old new : Streams) (status : Status) : Type 0 where
   pub status_is : status ≡ arrows_status end
 
 -- `serve` ended with a status
-pub record ServeDone (old new : Streams) (status : Status) : Type 0 where
+pub record ServeDone (old new : Seen) (status : Status) : Type 0 where
   pub end : SessionEnd
-  pub ends : ServeEndsAs old new end
+  pub serves : Serves old.streams new.streams old.steps new.steps end
+  pub files : AsksNoFile old new
   pub status_is : status ≡ session_status end
 
 -- the usage was printed, or a write of it failed
@@ -63,7 +68,7 @@ pub record UsageDone (old new : Streams) (status : Status) : Type 0 where
 -- how a command ends
 abbrev pub CommandEndsAs : Command → Seen → Seen → Status → Type 0
 CommandEndsAs Arrows old new status = ArrowsDone old.streams new.streams status × AsksNothing old new
-CommandEndsAs Serve old new status = ServeDone old.streams new.streams status × AsksNothing old new
+CommandEndsAs Serve old new status = ServeDone old new status
 CommandEndsAs Unknown old new status = UsageDone old.streams new.streams status × AsksNothing old new
 
 -- how a run ends: as the command does that its words ask for

@@ -1,5 +1,5 @@
 -- How the command `serve` ends, and why.
-use Rattle.std.specs.Prelude.{◌≡◌, ℕ, ◌<◌, ◌≤◌, ◌^◌, List, [], ◌∷◌, ◌++◌, length, Option, Some, None}
+use Rattle.std.specs.Prelude.{◌≡◌, ℕ, ◌<◌, ◌≤◌, ◌^◌, List, ◌∷◌, ◌++◌, length, Option, Some, None}
 use Rattle.std.specs.Io.KnownBytes.{Appends}
 use Rattle.ls_base.specs.Frames.{End, rest, fault}
 use Rattle.lsp_messages.specs.declared.reply.Reply.{Reply}
@@ -7,7 +7,8 @@ use Rattle.ls_outside.specs.Sources.{bytes_of}
 use Rattle.scheme_model.specs.Session.{Ending}
 use Rattle.scheme_ls.specs.ReplyFrames.{frames_of}
 use Rattle.scheme_ls.specs.Prints.{SinkSeen, Prints, PrintsFront, PrintsPart}
-use Rattle.scheme_ls.specs.Reading.{FailsToRead, ReadsOn, ReadsToEnd, SourceSeen, TakesBytes}
+use Rattle.scheme_ls.specs.QuietBytes.{AreQuiet}
+use Rattle.scheme_ls.specs.Reading.{FailsToRead, ReadsOn, ReadsToEnd, TakesBytes}
 use Rattle.scheme_ls.specs.SessionOutput.{BeginOutput, IsOutputOf, Output, written}
 use Rattle.scheme_ls.specs.Statuses.{said_exit}
 use Rattle.scheme_ls.specs.Streams.{Streams}
@@ -120,3 +121,8 @@ pub record ServeEndsAs (old new : Streams) (end : SessionEnd) : Type 0 where
   pub taken : TakesBytes old.source.left new.source.left bytes
   pub source : SourceEndsAs old new bytes end
   pub session : SessionEndsAs (length bytes) (IsOutputOf bytes) (BeginOutput bytes) old.sink new.sink end
+
+-- `serve` ended so, and works macro uses only where a body tells a document event
+pub record Serves (old new : Streams) (before now : ℕ) (end : SessionEnd) : Type 0 where
+  pub ends : ServeEndsAs old new end
+  pub unworked : AreQuiet ends.bytes → now ≡ before

@@ -1,6 +1,8 @@
 //! Answers the bodies of a session.
 ghost use Rattle.std.specs.Prelude.{◌≡◌, [], ◌∷◌};
+ghost use Rattle.std.specs.List.{AllByRecursion};
 ghost use Rattle.lsp_framing.specs.Taken.{contents};
+ghost use Rattle.session_core.specs.Stepped.{IsQuiet};
 ghost use Rattle.scheme_ls.specs.BodiesOutcome.{BodiesEndAs, body_end_of};
 ghost use Rattle.scheme_ls.specs.Prints.{sink_seen};
 ghost use Rattle.scheme_ls.specs.Statuses.{exit_status};
@@ -69,7 +71,7 @@ fn answer_body<O: Sink, L: Ledger>(
     ensures answers { BodiesEndAs session.old (body.now ∷ []) session.new
         (sink_seen (O.taken output.old) (O.faults output.old) (O.writes output.old))
         (sink_seen (O.taken output.new) (O.faults output.new) (O.writes output.new)) result }
-    ensures steps { steps.new ≡ steps.old }
+    ensures steps { IsQuiet body.now → steps.new ≡ steps.old }
 {
     let Ok(out) = session.on_body(body, steps) else {
         return BodiesEnd::NoMemory;
@@ -92,7 +94,7 @@ pub fn answer_bodies<O: Sink, L: Ledger>(
     ensures answers { BodiesEndAs session.old (contents bodies.now) session.new
         (sink_seen (O.taken output.old) (O.faults output.old) (O.writes output.old))
         (sink_seen (O.taken output.new) (O.faults output.new) (O.writes output.new)) result }
-    ensures steps { steps.new ≡ steps.old }
+    ensures steps { AllByRecursion IsQuiet (contents bodies.now) → steps.new ≡ steps.old }
 {
     for body in bodies {
         match answer_body(alloc, session, body, output, steps) {

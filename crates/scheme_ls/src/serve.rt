@@ -1,8 +1,12 @@
 //! One session over a source and a sink.
-ghost use Rattle.std.specs.Prelude.{◌≡◌};
+ghost use Rattle.std.specs.FinMap.{empty};
+ghost use Rattle.std.specs.Prelude.{◌≡◌, Some, []};
+ghost use Rattle.ls_base.specs.Frames.{rest};
+ghost use Rattle.lsp_framing.specs.Deframed.{After};
+ghost use Rattle.scheme_model.specs.Session.{begin};
 ghost use Rattle.scheme_ls.specs.Prints.{sink_seen};
 ghost use Rattle.scheme_ls.specs.Reading.{source_seen};
-ghost use Rattle.scheme_ls.specs.ServeOutcome.{ServeEndsAs};
+ghost use Rattle.scheme_ls.specs.ServeOutcome.{Serves};
 ghost use Rattle.scheme_ls.specs.Statuses.{session_status};
 ghost use Rattle.scheme_ls.specs.Streams.{streams};
 
@@ -59,30 +63,47 @@ impl SessionEnd {
     }
 }
 
-/// Reads the input piece by piece and writes all that answers a piece before it reads the next, until `exit`, the end,
-/// a fault, or as many bytes as a session takes.
+/// A session over the input: reads it piece by piece and writes all that answers a piece before it reads the next, until
+/// `exit`, the end, a fault, or as many bytes as a session takes.
 pub fn serve<I: Source, O: Sink, L: Ledger>(
     alloc: Global,
     input: &mut I,
     output: &mut O,
     steps: &mut Steps<L>,
 ) -> SessionEnd
-    ensures serves { ServeEndsAs
+    ensures { Serves
         (streams (source_seen (I.left input.old) (I.faults input.old) (I.reads input.old))
         (sink_seen (O.taken output.old) (O.faults output.old) (O.writes output.old)))
         (streams (source_seen (I.left input.new) (I.faults input.new) (I.reads input.new))
-        (sink_seen (O.taken output.new) (O.faults output.new) (O.writes output.new))) result }
-    ensures steps { steps.new ≡ steps.old }
+        (sink_seen (O.taken output.new) (O.faults output.new) (O.writes output.new))) steps.old steps.new result }
 {
     let Ok(session) = Session::new(alloc) else {
         return SessionEnd::NoMemory;
     };
-    let deframer = Deframer::new(alloc);
     let mut server = Server {
-        deframer,
+        deframer: Deframer::new(alloc),
         session,
         alloc,
     };
+    answer_input(&mut server, input, output, steps)
+}
+
+/// Takes the input piece by piece with a server that has taken nothing yet.
+fn answer_input<I: Source, O: Sink, L: Ledger>(
+    server: &mut Server,
+    input: &mut I,
+    output: &mut O,
+    steps: &mut Steps<L>,
+) -> SessionEnd
+    requires start { After [] [] server.old.deframer }
+    requires end { server.old.deframer.end ≡ Some (rest []) }
+    requires state { server.old.session ≡ begin empty }
+    ensures { Serves
+        (streams (source_seen (I.left input.old) (I.faults input.old) (I.reads input.old))
+        (sink_seen (O.taken output.old) (O.faults output.old) (O.writes output.old)))
+        (streams (source_seen (I.left input.new) (I.faults input.new) (I.reads input.new))
+        (sink_seen (O.taken output.new) (O.faults output.new) (O.writes output.new))) steps.old steps.new result }
+{
     let mut buf = [0u8; BUFFER];
     let mut taken: u64 = 0;
     while taken < MAX_STREAM {
@@ -92,7 +113,7 @@ pub fn serve<I: Source, O: Sink, L: Ledger>(
                 taken += count as u64;
                 match server.take(&buf[..count], output, steps) {
                     PieceEnd::Answered => {}
-                    PieceEnd::Faulty(fault) => match say_farewell(alloc, fault, output) {
+                    PieceEnd::Faulty(fault) => match say_farewell(server.alloc, fault, output) {
                         Ok(()) => return SessionEnd::FrameFault,
                         Err(WriteStop::Failed) => return SessionEnd::WriteFailed,
                         Err(WriteStop::Memory) => return SessionEnd::NoMemory,

@@ -1,7 +1,7 @@
 -- A session (JSON-RPC 2.0; LSP 3.17, lifecycle): what a server answers to each message, and what it keeps. Which answer
--- a query has in given texts is given, and what a message is that a body reads as.
-use Rattle.std.specs.Prelude.{ℕ, ℤ, neg_ℤ, pos, Bool, List, [], ◌∷◌, ◌++◌, Option, Some, None}
-use Rattle.scheme_model.specs.Texts.{Position, Encoding, Utf16, Offsets, Texts, Event, Added, Changed, Closed, Refusal, after}
+-- a query has in given texts is given, what is published after them, and what a message is that a body reads as.
+use Rattle.std.specs.Prelude.{ℕ, ℤ, neg_ℤ, pos, Bool, true, false, List, [], ◌∷◌, ◌++◌, Option, Some, None}
+use Rattle.scheme_model.specs.Texts.{Position, Encoding, Utf16, Offsets, Texts, Event, Added, Changed, Closed, Refusal, NotOpen, BadRange, TooLong, TooMany, after}
 use Rattle.scheme_model.specs.Wording.{parse_error_text, invalid_request_text, method_not_found_text, invalid_params_text, not_initialized_text, refusal_text, bad_params_text}
 
 -- a request's id
@@ -41,11 +41,12 @@ pub data Message : Type 0 where
   Notice : Note → Message
   Response : Message
 
--- what is answered
+-- what is answered, and what is told without being asked: lists that are published, and a text for the log
 pub data Reply (A : Type 0) : Type 0 where
   Capabilities : Id → (prepare : Bool) → Encoding → Reply A
   Result : Id → A → Reply A
   Error : Option Id → ℤ → List ℕ → Reply A
+  Publish : A → Reply A
   Log : List ℕ → Reply A
 
 pub data Mode : Type 0 where
@@ -64,10 +65,12 @@ pub data Ending : Type 0 where
   Clean : Ending
   Early : Ending
 
--- what answers queries and renames in given texts, whose positions count in an encoding
+-- what answers queries in given texts, whose positions count in an encoding, and what is published of the texts after an
+-- event about a document, by the texts before it
 pub record Answers (A : Type 0) : Type 0 where
   pub null : A
   pub query : Encoding → Texts → List ℕ → Position → Query → A
+  pub lists : Encoding → (before after : Texts) → (uri : List ℕ) → A
 
 -- what one message leads to: the state after it, the replies, and how it ends the session, where it does
 pub record Stepped (A : Type 0) : Type 0 where
@@ -145,19 +148,38 @@ refused Shut id own = invalid_request (Some id)
 
 -- ---- notifications
 
+-- an event was refused and left the texts as they were: a change that makes a text too long takes the document away
+abbrev pub leaves : Event → Option Refusal → Bool
+leaves event None = false
+leaves event (Some NotOpen) = true
+leaves event (Some BadRange) = true
+leaves event (Some TooMany) = true
+leaves (Added uri version text) (Some TooLong) = true
+leaves (Changed uri version changes) (Some TooLong) = false
+leaves (Closed uri) (Some TooLong) = true
+
 abbrev pub uri_of : Event → List ℕ
 uri_of (Added uri version text) = uri
 uri_of (Changed uri version changes) = uri
 uri_of (Closed uri) = uri
 
--- what a document event leaves, and what is logged
+-- the log of a refusal
 abbrev pub logged : {A : Type 0} → List ℕ → Option Refusal → List (Reply A)
 logged uri None = []
 logged uri (Some refusal) = Log (refusal_text refusal uri) ∷ []
 
-abbrev pub evented : {A : Type 0} → Offsets → State → Event → Stepped A
-evented offset state event =
-    stays (with_texts (after offset state.encoding state.texts event).0 state) (logged (uri_of event) (after offset state.encoding state.texts event).1)
+-- lists are published unless the texts were left as they were
+abbrev pub published : {A : Type 0} → (left : Bool) → A → List (Reply A)
+published true lists = []
+published false lists = Publish lists ∷ []
+
+-- what a document event leaves of the texts, with the log of its refusal first, and then the lists
+abbrev pub evented_to : {A : Type 0} → Answers A → State → Event → Texts × Option Refusal → Stepped A
+evented_to answers state event left =
+    stays (with_texts left.0 state) (logged (uri_of event) left.1 ++ published (leaves event left.1) (answers.lists state.encoding state.texts left.0 (uri_of event)))
+
+abbrev pub evented : {A : Type 0} → Offsets → Answers A → State → Event → Stepped A
+evented offset answers state event = evented_to answers state event (after offset state.encoding state.texts event)
 
 -- how `exit` ends a session, by its mode
 abbrev pub exit_in : Mode → Ending
@@ -169,11 +191,11 @@ abbrev pub ended : {A : Type 0} → State → Stepped A
 ended state = record { state = state; replies = []; end = Some (exit_in state.mode) }
 
 -- a notification while running
-abbrev pub noticed : {A : Type 0} → Offsets → State → Note → Stepped A
-noticed offset state Exit = ended state
-noticed offset state (Document event) = evented offset state event
-noticed offset state (BadParams method) = stays state (Log (bad_params_text method) ∷ [])
-noticed offset state Other = stays state []
+abbrev pub noticed : {A : Type 0} → Offsets → Answers A → State → Note → Stepped A
+noticed offset answers state Exit = ended state
+noticed offset answers state (Document event) = evented offset answers state event
+noticed offset answers state (BadParams method) = stays state (Log (bad_params_text method) ∷ [])
+noticed offset answers state Other = stays state []
 
 -- a notification in another mode: all but `exit` are dropped
 abbrev pub dropped : {A : Type 0} → State → Note → Stepped A
@@ -183,10 +205,10 @@ dropped state (BadParams method) = stays state []
 dropped state Other = stays state []
 
 -- a notification by the mode
-abbrev pub notified : {A : Type 0} → Mode → Offsets → State → Note → Stepped A
-notified Fresh offset state note = dropped state note
-notified Running offset state note = noticed offset state note
-notified Shut offset state note = dropped state note
+abbrev pub notified : {A : Type 0} → Mode → Offsets → Answers A → State → Note → Stepped A
+notified Fresh offset answers state note = dropped state note
+notified Running offset answers state note = noticed offset answers state note
+notified Shut offset answers state note = dropped state note
 
 -- ---- messages
 
@@ -197,7 +219,7 @@ step offset answers state (Invalid id) = stays state (invalid_request id ∷ [])
 step offset answers state (UnknownMethod id) = stays state (refused state.mode id (method_not_found id) ∷ [])
 step offset answers state (BadRequest id) = stays state (refused state.mode id (invalid_params id) ∷ [])
 step offset answers state (Request id call) = requested state.mode answers state id call
-step offset answers state (Notice note) = notified state.mode offset state note
+step offset answers state (Notice note) = notified state.mode offset answers state note
 step offset answers state Response = stays state []
 
 -- a whole run: the replies to messages in order up to the first that ends the session, and how it ends where one does

@@ -13,10 +13,12 @@ use Rattle.syntax_tree.specs.Walked.{HasArrows, arrow_at, link_of}
 use Rattle.syntax_tree.proofs.OneReading.{one_reading}
 use Rattle.session_core.specs.Arrows.{AreArrowsOf, arrow_in}
 use Rattle.session_core.specs.FromWire.{encoding_of}
-use Rattle.session_core.specs.Asked.{IsAnswerTo, Nothing, About, Question}
+use Rattle.workspace_state.specs.declared.events.Published.{Published}
+use Rattle.workspace_state.proofs.NewsLaws.{one_news}
+use Rattle.session_core.specs.Asked.{IsAnswerTo, ArePublishedFor, Nothing, About, News, Question}
 use Rattle.lsp_messages.specs.declared.reply.Reply.{Reply}
 use Rattle.lsp_messages.specs.declared.reply.Reply.TheVariants as replies
-use Rattle.session_core.specs.ToWire.{AreMessages, AreReplies, sent_id}
+use Rattle.session_core.specs.ToWire.{AreMessages, AreReplies, sent_id, sent_list}
 use Rattle.session_core.proofs.Sorted.{one_order}
 
 pub one_arrows : (e : Encoding) (text : List ℕ) (a b : List Arrow) → HasArrows e text a → HasArrows e text b → a ≡ b
@@ -41,12 +43,19 @@ one_answer (About encoding texts uri position session.Highlights) a b h k = absu
 one_answer (About encoding texts uri position session.Prepare) a b h k = absurd h
 one_answer (About encoding texts uri position session.Arrows) a b h k =
     h.2 ∙ ap answers.Arrows (one_arrows_of (encoding_of encoding) uri (text_at texts uri) h.0 k.0 h.1 k.1) ∙ sym k.2
+one_answer (News encoding before after uri) a b h k = absurd h
+
+pub one_row : (question : Question) (a b : List Published) → ArePublishedFor question a → ArePublishedFor question b → a ≡ b
+one_row Nothing a b h k = absurd h
+one_row (About encoding texts uri position query) a b h k = absurd h
+one_row (News encoding before after uri) a b h k = one_news (encoding_of encoding) before after uri a b h k
 
 one_message : (reply : session.Reply Question) (a b : List Reply) → AreMessages reply a → AreMessages reply b → a ≡ b
 one_message (session.Capabilities id prepare encoding) a b h k = h ∙ sym k
 one_message (session.Result id question) a b h k =
     h.2 ∙ ap (λ (answer : Answer). replies.Result (sent_id id) answer ∷ []) (one_answer question h.0 k.0 h.1 k.1) ∙ sym k.2
 one_message (session.Error id code text) a b h k = h ∙ sym k
+one_message (session.Publish question) a b h k = h.2 ∙ ap (map sent_list) (one_row question h.0 k.0 h.1 k.1) ∙ sym k.2
 one_message (session.Log text) a b h k = h ∙ sym k
 
 pub one_replies : (rs : List (session.Reply Question)) (a b : List Reply) → AreReplies rs a → AreReplies rs b → a ≡ b

@@ -14,9 +14,10 @@ use Rattle.syntax_tree.specs.Walked.{HasArrows, arrow_at, program_links}
 use Rattle.syntax_tree.proofs.AscentLaws.{distinct_targets}
 use Rattle.syntax_tree.proofs.SmallArrows.{walked_arrows}
 use Rattle.syntax_tree.proofs.SmallLaws.{links_ascend}
-use Rattle.session_core.specs.ToWire.{AreMessages, AreReplies, sent_id}
+use Rattle.workspace_state.proofs.NewsLaws.{some_news}
+use Rattle.session_core.specs.ToWire.{AreMessages, AreReplies, sent_id, sent_list}
 use Rattle.session_core.specs.Arrows.{AreArrowsOf, arrow_in}
-use Rattle.session_core.specs.Asked.{About, AnswersQuery, IsAnswerTo, Nothing, Question}
+use Rattle.session_core.specs.Asked.{About, AnswersQuery, IsAnswerTo, News, Nothing, Question}
 use Rattle.session_core.specs.FromWire.{encoding_of}
 use Rattle.session_core.proofs.SortedLinks.{sorted_links}
 
@@ -54,24 +55,37 @@ some_arrows_of e uri (Some text) none =
 abbrev pub AsksArrowsAlone : Question → Type 0
 AsksArrowsAlone Nothing = Unit {0}
 AsksArrowsAlone (About encoding texts uri position query) = query ≡ session.Arrows
+AsksArrowsAlone (News encoding before after uri) = ⊥
 
 pub some_answer : (question : Question) → AsksArrowsAlone question → ¬ ¬ ((answer : Answer) × IsAnswerTo question answer)
 some_answer Nothing asks none = none (answers.Nothing, refl)
 some_answer (About encoding texts uri position query) asks none =
     some_arrows_of (encoding_of encoding) uri (text_at texts uri)
     (λ found. none (answers.Arrows found.0, subst (λ q. AnswersQuery q encoding texts uri (answers.Arrows found.0)) (sym asks) (found.0, found.1, refl)))
+some_answer (News encoding before after uri) asks none = absurd asks
+
+-- a question about what is news
+abbrev pub AsksNews : Question → Type 0
+AsksNews Nothing = ⊥
+AsksNews (About encoding texts uri position query) = ⊥
+AsksNews (News encoding before after uri) = Unit {0}
 
 -- a reply that asks such a question, or none
 abbrev pub AsksThat : session.Reply Question → Type 0
 AsksThat (session.Capabilities id prepare encoding) = Unit {0}
 AsksThat (session.Result id question) = AsksArrowsAlone question
 AsksThat (session.Error id code text) = Unit {0}
+AsksThat (session.Publish question) = AsksNews question
 AsksThat (session.Log text) = Unit {0}
 
 some_messages : (reply : session.Reply Question) → AsksThat reply → ¬ ¬ ((messages : List Reply) × AreMessages reply messages)
 some_messages (session.Capabilities id prepare encoding) asks none = none (_, refl)
 some_messages (session.Result id question) asks none = some_answer question asks (λ found. none (replies.Result (sent_id id) found.0 ∷ [], (found.0, found.1, refl)))
 some_messages (session.Error id code text) asks none = none (_, refl)
+some_messages (session.Publish (News encoding before after uri)) asks none =
+    some_news (encoding_of encoding) before after uri (λ found. none (map sent_list found.0, (found.0, found.1, refl)))
+some_messages (session.Publish Nothing) asks none = absurd asks
+some_messages (session.Publish (About encoding texts uri position query)) asks none = absurd asks
 some_messages (session.Log text) asks none = none (_, refl)
 
 -- replies that ask such questions aren't without messages

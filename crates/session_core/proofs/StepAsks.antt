@@ -1,5 +1,5 @@
--- A step of a session asks for the arrows of a document alone.
-use Rattle.std.proofs.Common.{◌≡◌, ℕ, List, [], ◌∷◌, ap, Option, None, Some, Result, Ok, Err}
+-- A step of a session asks for the arrows of a document alone, and for what is news.
+use Rattle.std.proofs.Common.{◌≡◌, ℕ, Bool, true, false, List, [], ◌∷◌, ◌++◌, ap, Option, None, Some, Result, Ok, Err}
 use Rattle.std.specs.List.{AllByRecursion}
 use Rattle.lsp_messages.specs.declared.message.Call.{Call}
 use Rattle.lsp_messages.specs.declared.message.Call.TheVariants as calls
@@ -9,12 +9,13 @@ use Rattle.lsp_messages.specs.declared.message.Note.{Note}
 use Rattle.lsp_messages.specs.declared.message.Reject.{Reject}
 use Rattle.lsp_messages.specs.declared.message.Reject.TheVariants as rejects
 use Rattle.scheme_model.specs.Session as session
-use Rattle.scheme_model.specs.Session.{Mode, Fresh, Running, Shut, State, dropped, logged, noticed, notified, refused, requested, step}
-use Rattle.scheme_model.specs.Texts.{Refusal}
-use Rattle.session_core.specs.Asked.{Question, questions}
+use Rattle.scheme_model.specs.Session.{Mode, Fresh, Running, Shut, State, dropped, evented_to, logged, noticed, notified, published, refused, requested, step}
+use Rattle.scheme_model.specs.Texts.{Event, Refusal, Texts, after}
+use Rattle.scheme_model.specs.Session.{leaves}
+use Rattle.session_core.specs.Asked.{News, Question, questions}
 use Rattle.session_core.specs.Built.{AsksArrows, IsSaying}
 use Rattle.session_core.specs.FromWire.{offsets, said_by, said_call, said_query}
-use Rattle.session_core.proofs.SomeAnswer.{AsksThat}
+use Rattle.session_core.proofs.SomeAnswer.{AsksNews, AsksThat}
 
 requested_asks : (mode : Mode) (state : State) (id : session.Id) (call : Call) → AsksArrows call → AllByRecursion AsksThat (requested mode questions state id (said_call call)).replies
 requested_asks Fresh state id (calls.Initialize prepare encoding) asks = (tt, tt)
@@ -36,19 +37,34 @@ logged_asks : (uri : List ℕ) (refusal : Option Refusal) → AllByRecursion Ask
 logged_asks uri None = tt
 logged_asks uri (Some refusal) = (tt, tt)
 
+published_asks : (left : Bool) (question : Question) → AsksNews question → AllByRecursion AsksThat (published left question)
+published_asks true question asks = tt
+published_asks false question asks = (asks, tt)
+
+both_ask : (a b : List (session.Reply Question)) → AllByRecursion AsksThat a → AllByRecursion AsksThat b → AllByRecursion AsksThat (a ++ b)
+both_ask [] b first second = second
+both_ask (r ∷ a) b first second = (first.0, both_ask a b first.1 second)
+
 dropped_asks : (state : State) (note : session.Note) → AllByRecursion AsksThat (dropped {A = Question} state note).replies
 dropped_asks state session.Exit = tt
 dropped_asks state (session.Document event) = tt
 dropped_asks state (session.BadParams method) = tt
 dropped_asks state session.Other = tt
 
-noticed_asks : (state : State) (note : session.Note) → AllByRecursion AsksThat (noticed {A = Question} offsets state note).replies
+-- the log of an event, and what is news
+told_asks : (state : State) (event : Event) (left : Texts × Option Refusal) → AllByRecursion AsksThat (evented_to questions state event left).replies
+told_asks state event left =
+    let uri = session.uri_of event in
+    let lists = published (leaves event left.1) (News state.encoding state.texts left.0 uri) in
+    both_ask (logged uri left.1) lists (logged_asks uri left.1) (published_asks (leaves event left.1) (News state.encoding state.texts left.0 uri) tt)
+
+noticed_asks : (state : State) (note : session.Note) → AllByRecursion AsksThat (noticed offsets questions state note).replies
 noticed_asks state session.Exit = tt
-noticed_asks state (session.Document event) = logged_asks _ _
+noticed_asks state (session.Document event) = told_asks state event (after offsets state.encoding state.texts event)
 noticed_asks state (session.BadParams method) = (tt, tt)
 noticed_asks state session.Other = tt
 
-notified_asks : (mode : Mode) (state : State) (note : session.Note) → AllByRecursion AsksThat (notified {A = Question} mode offsets state note).replies
+notified_asks : (mode : Mode) (state : State) (note : session.Note) → AllByRecursion AsksThat (notified mode offsets questions state note).replies
 notified_asks Fresh state note = dropped_asks state note
 notified_asks Running state note = noticed_asks state note
 notified_asks Shut state note = dropped_asks state note

@@ -1,7 +1,7 @@
 -- The state of a session as contracts see it.
 use Rattle.std.specs.Prelude.{◌≡◌, ℕ, zero, suc, refl}
 use Rattle.std.specs.Coded.{Coded, code_by, coded×, coded_ℕ, coded_ℤ, coded_list}
-use Rattle.std.specs.FinMap.{code}
+use Rattle.std.specs.FinMap.{code, empty}
 use Rattle.scheme_model.specs.Session.{State}
 use Rattle.scheme_model.specs.Session as session
 use Rattle.ls_base.specs.declared.encoding.Encoding.{Encoding}
@@ -24,6 +24,12 @@ exit_code session.Early = 1
 -- the mode, what positions count in, and the texts of the open documents
 abbrev pub state_of : Mode → Encoding → Texts → State
 state_of mode encoding texts = record { mode = said_mode mode; encoding = said_encoding encoding; texts = texts }
+
+-- before `initialize` no document is open
+abbrev pub IsBegun : Mode → Texts → Type 0
+IsBegun modes.Fresh texts = texts ≡ empty
+IsBegun modes.Running texts = Unit {0}
+IsBegun modes.Shut texts = Unit {0}
 
 -- ---- how a state is stored
 

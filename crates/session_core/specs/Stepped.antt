@@ -1,7 +1,8 @@
 -- One step of a session, from the bytes of a body to the messages that answer it.
-use Rattle.std.specs.Prelude.{◌≡◌, ℕ, List, None}
+use Rattle.std.specs.Prelude.{◌≡◌, ℕ, List, None, Bool, true, false}
 use Rattle.std.specs.Option.{option_map}
 use Rattle.lsp_messages.specs.Messages.{message_of}
+use Rattle.scheme_model.specs.Session as session
 use Rattle.scheme_model.specs.Session.{Reply, State, Stepped, step}
 use Rattle.session_core.specs.declared.out.Out.{Out}
 use Rattle.session_core.specs.FromWire.{offsets, said_by}
@@ -18,6 +19,26 @@ pub record IsOutcome (stepped : Stepped Question) (out : Out) (next : State) : T
 -- the body leads from one state to the next, with these messages and this end
 abbrev pub IsStep : State → List ℕ → Out → State → Type 0
 IsStep state body out next = IsOutcome (step offsets questions state (said_by (message_of body))) out next
+
+-- a notification of a document event, after which alone macro uses are worked
+abbrev pub is_event : session.Note → Bool
+is_event session.Exit = false
+is_event (session.Document event) = true
+is_event (session.BadParams method) = false
+is_event session.Other = false
+
+abbrev pub tells_event : session.Message → Bool
+tells_event session.Unreadable = false
+tells_event (session.Invalid id) = false
+tells_event (session.UnknownMethod id) = false
+tells_event (session.BadRequest id) = false
+tells_event (session.Request id call) = false
+tells_event (session.Notice note) = is_event note
+tells_event session.Response = false
+
+-- a body tells no document event
+abbrev pub IsQuiet : List ℕ → Type 0
+IsQuiet body = tells_event (said_by (message_of body)) ≡ false
 
 -- nothing ends, and the messages are these replies
 abbrev pub Says : Out → List (Reply Question) → Type 0

@@ -1,5 +1,5 @@
 -- The messages to the client that are the replies of a session (JSON-RPC 2.0 section 5; LSP 3.17).
-use Rattle.std.specs.Prelude.{◌≡◌, List, [], ◌∷◌, ◌++◌}
+use Rattle.std.specs.Prelude.{◌≡◌, List, [], ◌∷◌, ◌++◌, map}
 use Rattle.std.specs.Option.{option_map}
 use Rattle.ls_base.specs.declared.answers.Answer.{Answer}
 use Rattle.lsp_messages.specs.declared.message.Id.{Id}
@@ -7,19 +7,25 @@ use Rattle.lsp_messages.specs.declared.message.Id.TheVariants as ids
 use Rattle.lsp_messages.specs.declared.reply.Reply.{Reply}
 use Rattle.lsp_messages.specs.declared.reply.Reply.TheVariants as replies
 use Rattle.scheme_model.specs.Session as session
+use Rattle.workspace_state.specs.declared.events.Published.{Published}
 use Rattle.session_core.specs.FromWire.{encoding_of}
-use Rattle.session_core.specs.Asked.{Question, IsAnswerTo}
+use Rattle.session_core.specs.Asked.{Question, IsAnswerTo, ArePublishedFor}
 
 -- an id as it is sent
 abbrev pub sent_id : session.Id → Id
 sent_id (session.Number n) = ids.Number n
 sent_id (session.Name s) = ids.Name s
 
--- the messages that are this reply of a session, with an answer to what it asks
+-- a list as it is sent
+abbrev pub sent_list : Published → Reply
+sent_list p = replies.Publish p.uri p.version p.list
+
+-- the messages that are this reply of a session, with an answer to what it asks; lists are a message each, in their order
 abbrev pub AreMessages : session.Reply Question → List Reply → Type 0
 AreMessages (session.Capabilities id prepare encoding) messages = messages ≡ replies.Capabilities (sent_id id) prepare (encoding_of encoding) ∷ []
 AreMessages (session.Result id question) messages = (answer : Answer) × IsAnswerTo question answer × (messages ≡ replies.Result (sent_id id) answer ∷ [])
 AreMessages (session.Error id code text) messages = messages ≡ replies.Error (option_map sent_id id) code text ∷ []
+AreMessages (session.Publish question) messages = (lists : List Published) × ArePublishedFor question lists × (messages ≡ map sent_list lists)
 AreMessages (session.Log text) messages = messages ≡ replies.Log text ∷ []
 
 -- the first of the messages are such, and the rest is such

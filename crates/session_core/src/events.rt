@@ -1,76 +1,75 @@
-//! Documents are opened, changed and closed, and refusals logged (LSP 3.17, text synchronisation).
-ghost use Rattle.std.specs.Prelude.{◌≡◌, IfOk, OnErr, map};
-ghost use Rattle.scheme_model.specs.Texts as spec;
-ghost use Rattle.session_core.specs.FromWire.{offsets, said_change, said_encoding};
+//! Documents are opened, changed and closed; refusals are logged, and diagnostics published (LSP 3.17, text synchronisation).
+ghost use Rattle.std.specs.Prelude.{◌≡◌, ◌+◌, ◌≤◌, ◌++◌, length, map, vec_len, vec_capacity, None, IfOk, OnErr};
+ghost use Rattle.workspace_state.specs.Events.{event_of};
 ghost use Rattle.session_core.specs.Events.{IsEvented, LogsFault};
+ghost use Rattle.session_core.specs.ToWire.{sent_list};
 
 use crate::Out;
-use crate::out::silent;
-use crate::replies::logged;
+use crate::out::said;
+use crate::replies::log;
 use crate::wording::{BAD_RANGE, NOT_OPEN, TOO_LONG, TOO_MANY};
-use document_store::{Store, StoreFault};
-use ls_base::{Change, Encoding, Mem, Memory};
+use document_store::StoreFault;
+use ls_base::limits::MAX_DOCUMENTS;
+use ls_base::{Items, Mem, Memory, Steps};
+use lsp_messages::Reply;
 use std::alloc::Global;
+use std::sync::ledger::Ledger;
+use workspace_state::{DocEvent, Published, Updated, Workspace};
 
-/// Opens a document, or gives an open one a new version and text. Where memory runs out the texts are as before.
-pub fn opened(alloc: Global, texts: &mut Store, uri: &str, version: i64, text: &str) -> Mem<Out>
-    ensures event { IfOk result
-        (IsEvented (spec.added texts.old uri.now version text.now) uri.now texts.new) }
-    ensures kept { OnErr result (texts.new ≡ texts.old) }
-{
-    match texts.add(uri, version, text) {
-        Ok(()) => Ok(silent(alloc)),
-        Err(fault) => Ok(refused(alloc, fault, uri)?),
-    }
-}
+/// The most messages after an event: the log of its refusal, the list of its document, and one for each open document.
+const MAX_MESSAGES: usize = MAX_DOCUMENTS + 2;
 
-/// Changes a document, by positions in the encoding. Where memory runs out the texts are as before: the one refusal
-/// that takes a document away has its log before that.
-pub fn changed(
+/// Takes an event in. Where memory runs out the texts are as before: the messages have their room before the event changes
+/// anything, and so has the log of the one refusal that does.
+pub fn on_event<L: Ledger>(
     alloc: Global,
-    texts: &mut Store,
-    uri: &str,
-    version: i64,
-    changes: &[Change],
-    encoding: Encoding,
+    workspace: &mut Workspace,
+    event: &DocEvent,
+    steps: &mut Steps<L>,
 ) -> Mem<Out>
-    ensures event { IfOk result
-        (IsEvented (spec.after offsets (said_encoding encoding) texts.old
-        (spec.Changed uri.now version (map said_change changes.now))) uri.now texts.new) }
-    ensures kept { OnErr result (texts.new ≡ texts.old) }
+    ensures event { IfOk result (λ out. IsEvented workspace.old.encoding workspace.old.texts (event_of event.now) out workspace.new.texts) }
+    ensures encoding { workspace.new.encoding ≡ workspace.old.encoding }
+    ensures kept { OnErr result (workspace.new ≡ workspace.old) }
 {
-    let too_long = refused(alloc, StoreFault::TooLong, uri)?;
-    match texts.change(uri, version, changes, encoding) {
-        Ok(()) => Ok(silent(alloc)),
-        Err(fault) => {
-            if fault == StoreFault::TooLong {
-                return Ok(too_long);
-            }
-            Ok(refused(alloc, fault, uri)?)
+    let too_long = refusal(alloc, StoreFault::TooLong, event.uri())?;
+    let mut messages = Vec::with_capacity(alloc, MAX_MESSAGES)?;
+    let updated = workspace.update(event, steps)?;
+    let Updated { refused, lists } = updated;
+    match refused {
+        None => Ok(published(messages, lists)),
+        Some(StoreFault::TooLong) => {
+            messages.push_reserved(too_long);
+            Ok(published(messages, lists))
         }
+        Some(fault) => Ok(said(alloc, refusal(alloc, fault, event.uri())?)?),
     }
 }
 
-/// Closes a document. Where memory runs out the texts are as before.
-pub fn closed(alloc: Global, texts: &mut Store, uri: &str) -> Mem<Out>
-    ensures event { IfOk result (IsEvented (spec.closed texts.old uri.now) uri.now texts.new) }
-    ensures kept { OnErr result (texts.new ≡ texts.old) }
+/// Messages, and lists behind them, for which there is room.
+fn published(mut messages: Vec<Reply>, lists: Items<Published>) -> Out
+    requires { vec_len messages + length lists ≤ vec_capacity messages }
+    ensures replies { result.replies ≡ messages.items ++ map sent_list lists }
+    ensures end { result.end ≡ None }
 {
-    if texts.close(uri) {
-        return Ok(silent(alloc));
+    for list in lists.into_vec() {
+        let Published { uri, version, list } = list;
+        messages.push_reserved(Reply::Publish { uri, version, list });
     }
-    Ok(refused(alloc, StoreFault::NotOpen, uri)?)
+    Out {
+        replies: Items::from_vec(messages),
+        end: None,
+    }
 }
 
 /// The log of a refusal.
-fn refused(alloc: Global, fault: StoreFault, uri: &str) -> Mem<Out>
+fn refusal(alloc: Global, fault: StoreFault, uri: &str) -> Mem<Reply>
     ensures { IfOk result (LogsFault fault uri.now) }
 {
     match fault {
         StoreFault::Memory => Err(Memory),
-        StoreFault::NotOpen => Ok(logged(alloc, NOT_OPEN, uri)?),
-        StoreFault::BadRange => Ok(logged(alloc, BAD_RANGE, uri)?),
-        StoreFault::TooLong => Ok(logged(alloc, TOO_LONG, uri)?),
-        StoreFault::TooMany => Ok(logged(alloc, TOO_MANY, uri)?),
+        StoreFault::NotOpen => Ok(log(alloc, NOT_OPEN, uri)?),
+        StoreFault::BadRange => Ok(log(alloc, BAD_RANGE, uri)?),
+        StoreFault::TooLong => Ok(log(alloc, TOO_LONG, uri)?),
+        StoreFault::TooMany => Ok(log(alloc, TOO_MANY, uri)?),
     }
 }

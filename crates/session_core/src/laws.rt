@@ -15,7 +15,8 @@ ghost use Rattle.ls_base.specs.declared.answers.Answer.{Answer};
 ghost use Rattle.lsp_messages.specs.declared.reply.Reply.{Reply};
 ghost use Rattle.scheme_model.specs.Session as session;
 ghost use Rattle.session_core.specs.ToWire.{AreReplies};
-ghost use Rattle.session_core.specs.Asked.{Question, IsAnswerTo};
+ghost use Rattle.workspace_state.specs.declared.events.Published.{Published};
+ghost use Rattle.session_core.specs.Asked.{Question, IsAnswerTo, ArePublishedFor};
 ghost use Rattle.session_core.specs.Agreement.{said_event, said_after};
 
 /// Events make the same of the texts by the store's definition as by a session's, in each encoding.
@@ -36,10 +37,13 @@ pub fn no_body_wants_memory()
     ensures { (body : List ℕ) → message_of body ≢ Err rejects.Memory }
 {}
 
-/// A question has one answer at most, and a reply of a session is one message at most.
+/// A question has one answer at most, and one row of lists that are published for it; and a reply of a session has one row of
+/// messages at most.
 pub fn one_answer()
     ensures answer { (question : Question) (one other : Answer) →
         IsAnswerTo question one → IsAnswerTo question other → one ≡ other }
+    ensures lists { (question : Question) (some others : List Published) →
+        ArePublishedFor question some → ArePublishedFor question others → some ≡ others }
     ensures replies { (replies : List (session.Reply Question)) (ones others : List Reply) →
         AreReplies replies ones → AreReplies replies others → ones ≡ others }
 {}

@@ -7,19 +7,19 @@ ghost use Rattle.session_core.specs.Arrows as spec;
 ghost use Rattle.session_core.specs.Arrows.{AreArrowsOf};
 ghost use Rattle.session_core.specs.Asked.{AnswersQuery};
 
-use document_store::Store;
 use ls_base::{Answer, Arrow, Items, Mem, Memory, Place, Query, Text};
 use std::alloc::Global;
 use syntax_tree::small::{SmallFault, small_arrows};
+use workspace_state::Workspace;
 
 /// The answer to a query about a document, which is the same in each encoding. Only arrows are asked for as yet.
-pub fn answer(alloc: Global, texts: &Store, uri: &str, query: Query) -> Mem<Answer>
+pub fn answer(alloc: Global, workspace: &Workspace, uri: &str, query: Query) -> Mem<Answer>
     requires { query ≡ Query.Arrows }
     ensures { IfOk result (λ answer. (encoding : Encoding) →
-        AnswersQuery (said_query query) encoding texts.now uri.now answer) }
+        AnswersQuery (said_query query) encoding workspace.now.texts uri.now answer) }
 {
     match query {
-        Query::Arrows => Ok(Answer::Arrows(arrows(alloc, texts, uri)?)),
+        Query::Arrows => Ok(Answer::Arrows(arrows(alloc, workspace, uri)?)),
         Query::Definition | Query::References { .. } | Query::Highlights | Query::Prepare => {
             unreachable!()
         }
@@ -27,11 +27,11 @@ pub fn answer(alloc: Global, texts: &Store, uri: &str, query: Query) -> Mem<Answ
 }
 
 /// The arrows of a document: none where it isn't open, or where its text isn't small.
-fn arrows(alloc: Global, texts: &Store, uri: &str) -> Mem<Items<Arrow>>
+fn arrows(alloc: Global, workspace: &Workspace, uri: &str) -> Mem<Items<Arrow>>
     ensures { IfOk result (λ arrows. (encoding : base.Encoding) →
-        AreArrowsOf encoding uri.now (text_at texts.now uri.now) arrows) }
+        AreArrowsOf encoding uri.now (text_at workspace.now.texts uri.now) arrows) }
 {
-    let Some(text) = texts.text(uri) else {
+    let Some(text) = workspace.text(uri) else {
         return Ok(Items::new(alloc));
     };
     match small_arrows(alloc, text) {

@@ -95,10 +95,17 @@ pub fn answered(alloc: Global, id: Id, answer: Answer) -> Mem<Out>
 }
 
 /// A text for the client's log: what is wrong, and with what.
-pub fn logged(alloc: Global, wrong: &str, name: &str) -> Mem<Out>
-    ensures { IfOk result (λ out. Says out (session.Log (wrong.now ++ name.now) ∷ [])) }
+pub fn log(alloc: Global, wrong: &str, name: &str) -> Mem<Reply>
+    ensures { IfOk result (λ reply. reply ≡ Reply.Log (wrong.now ++ name.now)) }
 {
     let mut text = String::from_str(alloc, wrong)?;
     text.push_str(name)?;
-    Ok(said(alloc, Reply::Log(Text::from_string(text)))?)
+    Ok(Reply::Log(Text::from_string(text)))
+}
+
+/// Such a text alone.
+pub fn logged(alloc: Global, wrong: &str, name: &str) -> Mem<Out>
+    ensures { IfOk result (λ out. Says out (session.Log (wrong.now ++ name.now) ∷ [])) }
+{
+    Ok(said(alloc, log(alloc, wrong, name)?)?)
 }

@@ -1,15 +1,17 @@
 //! A session: what the server keeps, and what it does with each message (LSP 3.17, "Lifecycle Messages").
-ghost use Rattle.std.specs.Prelude.{◌≡◌, ◌≢◌, IfOk, OnOk, OnErr};
+ghost use Rattle.std.specs.Prelude.{◌≡◌, ◌≢◌, false, IfOk, OnOk, OnErr};
 ghost use Rattle.std.specs.FinMap.{empty};
-ghost use Rattle.scheme_model.specs.Session.{begin, step};
+ghost use Rattle.scheme_model.specs.Session.{begin, evented, step};
 ghost use Rattle.scheme_model.specs.Session as spec;
+ghost use Rattle.workspace_state.specs.Events.{event_of};
+ghost use Rattle.session_core.specs.Agreement.{said_event};
 ghost use Rattle.session_core.specs.Asked.{questions};
 ghost use Rattle.session_core.specs.Built.{AsksArrows, IsBuilt};
 ghost use Rattle.session_core.specs.FromWire.{offsets, said_id, said_call, said_note, said_message, said_reject};
-ghost use Rattle.session_core.specs.Stepped.{IsOutcome, IsStep};
+ghost use Rattle.session_core.specs.Stepped.{IsOutcome, IsStep, IsQuiet, is_event, tells_event};
 
 use crate::Out;
-use crate::events::{changed, closed, opened};
+use crate::events::on_event;
 use crate::mode::Mode;
 use crate::out::{ended, silent};
 use crate::questions::answer;
@@ -18,32 +20,33 @@ use crate::replies::{
     not_initialized, parse_error,
 };
 use crate::wording::BAD_PARAMS;
-use document_store::Store;
-use ls_base::{Answer, Encoding, Mem, Memory, Query, Steps};
+use ls_base::{Answer, Mem, Memory, Query, Steps};
 use lsp_messages::{At, Call, Id, Message, Note, Reject, read_message};
 use std::alloc::Global;
 use std::marker::Model;
 use std::sync::ledger::Ledger;
+use workspace_state::{DocEvent, Workspace};
 
-/// A session: its mode, what positions count in, and the texts of the open documents, which contracts see as the state
-/// of a session.
-#[derive(Debug, Drop)]
+/// A session: its mode, and the open documents, which know what positions count in. Contracts see it as the state of a session.
+/// Before `initialize` no document is open.
+#[derive(Drop)]
 pub struct Session {
     mode: Mode,
-    encoding: Encoding,
-    texts: Store,
+    workspace: Workspace,
     alloc: Global,
 }
 
 impl Model for Session {
     ghost use Rattle.scheme_model.specs.Session.{State};
-    ghost use Rattle.session_core.specs.States.{coded_state, state_of};
+    ghost use Rattle.session_core.specs.States.{coded_state, state_of, IsBegun};
 
     ghost Value = { State };
 
     ghost coded = { coded_state };
 
-    ghost view = { λ s. state_of s.mode s.encoding s.texts };
+    ghost view = { λ s. state_of s.mode s.workspace.encoding s.workspace.texts };
+
+    ghost invariant = { λ s. IsBegun s.mode s.workspace.texts };
 }
 
 impl Session {
@@ -53,35 +56,36 @@ impl Session {
     {
         Ok(Session {
             mode: Mode::Fresh,
-            encoding: Encoding::Utf16,
-            texts: Store::new(alloc),
+            workspace: Workspace::new(alloc)?,
             alloc,
         })
     }
 
     /// Takes the body of a message. Its shape is judged first, then the mode, then the method, then the parameters.
-    /// The steps of macro uses are counted, of which there are none as yet. Where memory runs out nothing has changed.
+    /// The steps of macro uses are counted: a body that tells no document event works none. Where memory runs out nothing has
+    /// changed.
     pub fn on_body<L: Ledger>(&mut self, body: &[u8], steps: &mut Steps<L>) -> Mem<Out>
         ensures step { IfOk result (λ out. IsStep self.old body.now out self.new) }
         ensures kept { OnErr result (self.new ≡ self.old) }
-        ensures steps { steps.new ≡ steps.old }
+        ensures steps { IsQuiet body.now → steps.new ≡ steps.old }
     {
         match read_message(self.alloc, body) {
-            Ok(message) => Ok(self.on_message(message)?),
+            Ok(message) => Ok(self.on_message(message, steps)?),
             Err(reject) => Ok(self.on_reject(reject)?),
         }
     }
 
     /// A message.
-    fn on_message(&mut self, message: Message) -> Mem<Out>
+    fn on_message<L: Ledger>(&mut self, message: Message, steps: &mut Steps<L>) -> Mem<Out>
         requires { IsBuilt message }
         ensures step { IfOk result (λ out. IsOutcome
             (step offsets questions self.old (said_message message)) out self.new) }
         ensures kept { OnErr result (self.new ≡ self.old) }
+        ensures steps { tells_event (said_message message) ≡ false → steps.new ≡ steps.old }
     {
         match message {
             Message::Request { id, call } => Ok(self.on_request(id, call)?),
-            Message::Notice(note) => Ok(self.on_notice(note)?),
+            Message::Notice(note) => Ok(self.on_notice(note, steps)?),
             Message::Response => Ok(silent(self.alloc)),
         }
     }
@@ -141,6 +145,7 @@ impl Session {
 
     /// A request in the mode fresh: `initialize` leads on, and fixes what positions count in.
     fn on_fresh_call(&mut self, id: Id, call: Call) -> Mem<Out>
+        requires { self.old.mode ≡ spec.Fresh }
         ensures step { IfOk result (λ out. IsOutcome
             (spec.called_fresh self.old (said_id id) (said_call call)) out self.new) }
         ensures kept { OnErr result (self.new ≡ self.old) }
@@ -149,7 +154,7 @@ impl Session {
             Call::Initialize { prepare, encoding } => {
                 let out = capabilities(self.alloc, id, prepare, encoding)?;
                 self.mode = Mode::Running;
-                self.encoding = encoding;
+                self.workspace.set_encoding(encoding);
                 Ok(out)
             }
             Call::Shutdown | Call::Ask { .. } | Call::Rename { .. } => {
@@ -183,19 +188,20 @@ impl Session {
         ensures { IfOk result (λ out. IsOutcome
             (spec.called questions self.now (said_id id) (said_call (Call.Ask at.now query))) out self.now) }
     {
-        let answer = answer(self.alloc, &self.texts, at.uri.as_str(), query)?;
+        let answer = answer(self.alloc, &self.workspace, at.uri.as_str(), query)?;
         Ok(answered(self.alloc, id, answer)?)
     }
 
     /// A notification.
-    fn on_notice(&mut self, note: Note) -> Mem<Out>
+    fn on_notice<L: Ledger>(&mut self, note: Note, steps: &mut Steps<L>) -> Mem<Out>
         ensures step { IfOk result (λ out. IsOutcome
             (step offsets questions self.old (spec.Notice (said_note note))) out self.new) }
         ensures kept { OnErr result (self.new ≡ self.old) }
+        ensures steps { is_event (said_note note) ≡ false → steps.new ≡ steps.old }
     {
         match self.mode {
             Mode::Fresh | Mode::Shut => Ok(self.on_dropped(&note)),
-            Mode::Running => Ok(self.on_note(&note)?),
+            Mode::Running => Ok(self.on_note(note, steps)?),
         }
     }
 
@@ -214,34 +220,43 @@ impl Session {
     }
 
     /// A notification while running.
-    fn on_note(&mut self, note: &Note) -> Mem<Out>
+    fn on_note<L: Ledger>(&mut self, note: Note, steps: &mut Steps<L>) -> Mem<Out>
+        requires { self.old.mode ≡ spec.Running }
         ensures step { IfOk result (λ out. IsOutcome
-            (spec.noticed offsets self.old (said_note note.now)) out self.new) }
+            (spec.noticed offsets questions self.old (said_note note)) out self.new) }
         ensures kept { OnErr result (self.new ≡ self.old) }
+        ensures steps { is_event (said_note note) ≡ false → steps.new ≡ steps.old }
     {
-        let texts = &mut self.texts;
         match note {
             Note::Exit => Ok(ended(self.alloc, self.mode.exit_code())),
             Note::Opened { uri, version, text } => {
-                Ok(opened(self.alloc, texts, uri.as_str(), *version, text.as_str())?)
+                Ok(self.on_event(&DocEvent::Added { uri, version, text }, steps)?)
             }
             Note::Changed {
                 uri,
                 version,
                 changes,
             } => {
-                Ok(changed(
-                    self.alloc,
-                    texts,
-                    uri.as_str(),
-                    *version,
-                    changes.as_slice(),
-                    self.encoding,
-                )?)
+                let event = DocEvent::Changed {
+                    uri,
+                    version,
+                    changes,
+                };
+                Ok(self.on_event(&event, steps)?)
             }
-            Note::Closed { uri } => Ok(closed(self.alloc, texts, uri.as_str())?),
+            Note::Closed { uri } => Ok(self.on_event(&DocEvent::Closed { uri }, steps)?),
             Note::BadParams { method } => Ok(logged(self.alloc, BAD_PARAMS, method.as_str())?),
             Note::Other => Ok(silent(self.alloc)),
         }
+    }
+
+    /// A document event while running.
+    fn on_event<L: Ledger>(&mut self, event: &DocEvent, steps: &mut Steps<L>) -> Mem<Out>
+        requires { self.old.mode ≡ spec.Running }
+        ensures step { IfOk result (λ out. IsOutcome
+            (evented offsets questions self.old (said_event (event_of event.now))) out self.new) }
+        ensures kept { OnErr result (self.new ≡ self.old) }
+    {
+        Ok(on_event(self.alloc, &mut self.workspace, event, steps)?)
     }
 }

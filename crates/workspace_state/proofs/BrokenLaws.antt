@@ -14,7 +14,7 @@ use Rattle.library_table.specs.Named.{with_place}
 use Rattle.library_table.specs.Orders.{ArePlaces}
 use Rattle.workspace_state.specs.declared.listing.Head.{Head}
 use Rattle.workspace_state.specs.declared.breaking.WholeFault.{WholeFault}
-use Rattle.workspace_state.specs.Places.{SameHead, HeadsStay, AreHeadsIn}
+use Rattle.workspace_state.specs.Places.{SameHead, HeadsStay, NamesKept, AreHeadsIn}
 use Rattle.workspace_state.specs.Libraries.{places_by}
 use Rattle.workspace_state.specs.Broken.{or_fault, broken_by, broken_if, Breaks, SameSource}
 use Rattle.workspace_state.proofs.ChangedLaws.{changes_itself, changes_as, changes_on, changes_set}
@@ -43,6 +43,26 @@ head_set xs bs p h g stay at same = changes_set (λ n. SameHead) (λ n. SameHead
 
 pub heads_in : (count : ℕ) (xs bs : List Head) → HeadsStay xs bs → AreHeadsIn count xs → AreHeadsIn count bs
 heads_in count xs bs stay h = λ n g at. let r = stay.each n g at in let lt = h n r.0 r.1.0 in let same = r.1.1.document in omega arith
+
+-- ---- names are kept
+
+abbrev SameNames : Head → Head → Type 0
+SameNames h g = (g.name ≡ h.name) × (g.imports ≡ h.imports)
+
+pub names_itself : (hs : List Head) → NamesKept hs hs
+names_itself hs = changes_itself (λ n. SameNames) (λ n h. (refl, refl)) hs
+
+pub names_then : (xs bs cs : List Head) → NamesKept xs bs → NamesKept bs cs → NamesKept xs cs
+names_then xs bs cs h k = changes_on (λ n. SameNames) (λ n x y z a b. (b.0 ∙ a.0, b.1 ∙ a.1)) xs bs cs h k
+
+pub names_broken : (xs : List Head) (p : ℕ) (h g : Head) (b : Bool) (f : WholeFault) → slice_get xs p ≡ Some h → g ≡ broken_if b f h → NamesKept xs (slice_set xs p g)
+names_broken xs p h g b f at is =
+    changes_set (λ n. SameNames) (λ n. SameNames) xs xs p h g (names_itself xs) at (λ n x y ne k. k)
+    (λ a k. subst (λ (x : Head). SameNames a x) (sym is) (go b a k))
+  where
+    go : (b : Bool) (a : Head) → SameNames a h → SameNames a (broken_if b f h)
+    go true a k = k
+    go false a k = k
 
 -- ---- units break
 

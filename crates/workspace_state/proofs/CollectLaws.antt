@@ -38,6 +38,12 @@ blank_define form (c ∷ cs) h =
 no_names : (work : Work) (n : ℕ) → AreNames work.symbols n [] [] []
 no_names work n = record { told = []; match = tt; same = λ m. (λ h. h, λ h. h); front = []; last = []; parted = refl; external = tt }
 
+-- an item of a list that is long enough
+pub get : {A : Type 0} (xs : List A) (n : ℕ) → n < length xs → (x : A) × (slice_get xs n ≡ Some x)
+get [] n lt = absurd (omega arith)
+get (x ∷ xs) zero lt = (x, refl)
+get (x ∷ xs) (suc n) lt = get xs n (omega arith)
+
 module _ (text : LibraryName → List ℕ) (uris : List (List ℕ)) (us : List Placed) (known : Known) (work : Work) where
   abbrev whole : Program
   whole = scoped_program_with us (prepare us 0 us) known
@@ -88,11 +94,6 @@ module _ (text : LibraryName → List ℕ) (uris : List (List ℕ)) (us : List P
     unit_stands : (o : Option Expanded) → IsCollected uris h s o c → ComesTo us whole work o r → UnitStands work text uris us whole n c r
     unit_stands None k m = broken_stands k m.0 m.1
     unit_stands (Some e) k m = came_stands e k m
-
-  get : {A : Type 0} (xs : List A) (n : ℕ) → n < length xs → (x : A) × (slice_get xs n ≡ Some x)
-  get [] n lt = absurd (omega arith)
-  get (x ∷ xs) zero lt = (x, refl)
-  get (x ∷ xs) (suc n) lt = get xs n (omega arith)
 
   -- all of them are the program
   pub program_stands : (spelled : LibraryName → List ℕ) (hs : List Head) (ss : List UnitSource) (es : List (Option Expanded)) (cs : List code.Unit) → AreCollected uris hs ss es cs → length es ≡ length us → length hs ≡ length us → length ss ≡ length us →

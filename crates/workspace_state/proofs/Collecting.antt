@@ -1,5 +1,5 @@
 -- Units that are put together, one more.
-use Rattle.std.proofs.Common.{◌≡◌, ℕ, zero, suc, ◌+◌, ◌<◌, ◌≤◌, ◌⊎◌, inl, inr, List, [], ◌∷◌, ◌++◌, All, length, slice_get, slice_set, Option, Some, None, refl, sym, ap, ◌∙◌, subst, arith}
+use Rattle.std.proofs.Common.{◌≡◌, ℕ, zero, suc, ◌+◌, ◌<◌, ◌≤◌, ◌⊎◌, inl, inr, List, [], ◌∷◌, ◌++◌, All, length, map, slice_get, slice_set, Option, Some, None, refl, sym, ap, ◌∙◌, subst, arith}
 use Rattle.std.proofs.lemmas.Option.{same_Some}
 use Rattle.syntax_tree.proofs.Places.{push_cases}
 use Rattle.core_tree.specs.Units.{IsBlank, FormsStand}
@@ -57,3 +57,9 @@ set_other (x ∷ xs) (suc p) y (suc k) lt = set_other xs p y k (omega arith)
 pub blank_stand : (work : Work) (unit form : ℕ) (cs : List UnitForm) → All IsBlank cs → FormsStand work unit form cs []
 blank_stand work unit form [] h = tt
 blank_stand work unit form (c ∷ cs) h = (h 0 c (omega arith), blank_stand work unit (suc form) cs (λ k d lt. h (suc k) d (omega arith)))
+
+-- what stands at a place of a list that is mapped
+pub mapped_at : {A B : Type 0} (f : A → B) (xs : List A) (n : ℕ) (x : A) → slice_get xs n ≡ Some x → slice_get (map f xs) n ≡ Some (f x)
+mapped_at f [] n x at = absurd cc
+mapped_at f (y ∷ xs) zero x at = ap (λ z. Some (f z)) (same_Some y x at)
+mapped_at f (y ∷ xs) (suc n) x at = mapped_at f xs n x at

@@ -1,15 +1,13 @@
 -- The data of the documents are those that their texts are read as.
 use Rattle.std.proofs.Common.{◌≡◌, ℕ, List, [], ◌∷◌, map, refl, sym, ap, ◌∙◌, chars}
-use Rattle.scheme_model.specs.Data.{Datum}
 use Rattle.scheme_model.specs.Program as program
-use Rattle.datum_reader.specs.declared.datum.Datum as code_datum
 use Rattle.datum_reader.specs.Views.{data_of}
 use Rattle.datum_reader.proofs.ReadLaws.{one_reading}
 use Rattle.datum_reader.proofs.Stops.{never_reads_and_stops}
 use Rattle.document_store.specs.Texts.{Document}
 use Rattle.workspace_state.specs.DataRead.{HaveData}
 use Rattle.workspace_state.specs.declared.documents.Document as code
-use Rattle.workspace_state.specs.Readings.{Read, Reads, Stops, IsReadAs, AreReadAs, IsReadSo, IsDocument, AreDocuments, data_in}
+use Rattle.workspace_state.specs.Readings.{Read, Reads, Stops, IsReadAs, AreReadAs, IsReadSo, AreDocuments, data_in}
 
 -- a document has one reading's data
 same_data : (text : List ℕ) (c : code.Document) (q r : Read) → IsReadSo c q → IsReadAs text q → IsReadAs text r → program.data_of (data_in r) ≡ data_of c.items

@@ -382,7 +382,7 @@ module _ (old b : Bench) (unit form : ℕ) (d : code.Declared) (none : d.fault �
   all_known = known_by old.scope.libraries
 
   all_there : Knows old.scope.libraries all_known
-  all_there n proper = refl
+  all_there n _ = refl
 
   module _ (c : Bench) (after : Budget) (next : Trace) (trees : KeepsTrees b.work c.work) (names : KeepsNames b.work.symbols c.work.symbols) (added : AddsIn b.work c.work b.region) (regions : SameRegions b.work c.work) (same : c.region ≡ b.region) where
     pub ok_finishes : (y : ExpandedItem) → nat_lt max_total total ≡ false → Step b c form before after trace next x (Ok y) → Continues old c unit form d (suc k) start (total + y.count) after next (items ++ y ∷ [])
@@ -461,7 +461,7 @@ finishes_by old b unit form d none k start total budget trace items so (inr many
 pub can_go_on : (old b : Bench) (unit form : ℕ) (d : code.Declared) (k start total : ℕ) (budget : Budget) (trace : Trace) (items : List ExpandedItem) → Continues old b unit form d k start total budget trace items → CanFinish old unit form d → CanDeclare b.work b.scope form budget trace
 can_go_on old b unit form d k start total budget trace items so can =
     let known = known_by old.scope.libraries in
-    can_expand old b known unit form (taken k can.result) can.state start total budget trace items (so known can.layout can.state can.notes can.result (λ n proper. refl) can.stands can.number can.form_is)
+    can_expand old b known unit form (taken k can.result) can.state start total budget trace items (so known can.layout can.state can.notes can.result (λ n _. refl) can.stands can.number can.form_is)
 
 -- a form that set nothing aside has no item
 pub none_there : {P : Type 0} (xs ys : List code_item.Item) → xs ≡ ys → ys ≡ [] → (k : ℕ) → k < length xs → P

@@ -150,7 +150,7 @@ pub finished_at : (b c : Bench) (unit place : ℕ) (ds : List code.Declared) (cs
 finished_at b c unit place ds cs k h trees names d at start total so =
     let was = h.held in
     let x = was.held place d (omega arith) at in
-    next_finished b c unit place ds cs k h trees names (so (known_by b.scope.libraries) was.layout was.state was.notes x.0 (λ l proper. refl) was.stands was.number x.1).finishes
+    next_finished b c unit place ds cs k h trees names (so (known_by b.scope.libraries) was.layout was.state was.notes x.0 (λ l _. refl) was.stands was.number x.1).finishes
 
 -- ---- a form that isn't expanded
 

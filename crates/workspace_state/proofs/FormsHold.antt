@@ -132,7 +132,7 @@ module _ (b : Bench) (unit : ℕ) (ds : List code.Declared) (h : Holds b unit ds
       let was = h.held in let known = known_by b.scope.libraries in
       one_more c known (datum_of f.datum) f.declared blank same
       (λ off. subst (λ (m : ℕ). PassesForm b c known unit m (datum_of f.datum) was.notes was.state d) at
-      (passes known was.layout was.state was.notes off (λ l proper. refl) was.stands was.number (h.fresh n (omega (arith, at)))))
+      (passes known was.layout was.state was.notes off (λ l _. refl) was.stands was.number (h.fresh n (omega (arith, at)))))
 
 -- the next form
 pub read_next : (fs : List source.UnitForm) → WereRead (forms_of fs) → (k : ℕ) (d : source.UnitForm) → k < length fs → (get_or fs k d).declared ≡ false → WasRead (datum_of (get_or fs k d).datum)

@@ -1,9 +1,10 @@
 -- What import sets of the code come to is what the definition's sets come to.
-use Rattle.std.proofs.Common.{◌≡◌, ℕ, zero, suc, ◌+◌, ◌<◌, ◌≤◌, Bool, true, false, cond, List, [], ◌∷◌, ◌++◌, append-nil, append_assoc, map, drop, length, slice_get, get_or, Option, Some, None, Result, Ok, refl, sym, ap, ◌∙◌, subst, arith}
+use Rattle.std.specs.List.{zip}
+use Rattle.std.proofs.Common.{◌≡◌, ℕ, zero, suc, ◌+◌, ◌<◌, ◌≤◌, Bool, true, false, cond, List, [], ◌∷◌, ◌++◌, append-nil, append_assoc, map, drop, length, slice_get, get_or, Option, Some, None, Result, Ok, refl, sym, ap, ◌∙◌, subst, arith, add-one}
 use Rattle.std.specs.Prelude.{codes, reverse, ◌&&◌}
 use Rattle.std.specs.Option.{option_map}
 use Rattle.std.specs.BTreeMap.{get_by_text}
-use Rattle.std.proofs.lemmas.Option.{slice_get_read}
+use Rattle.std.proofs.lemmas.Option.{slice_get_read, slice_get_within}
 use Rattle.scheme_model.specs.declared.Occ.{Occ}
 use Rattle.scheme_model.specs.Requirements.{LibraryName}
 use Rattle.scheme_model.specs.StandardLibraries.{standard}
@@ -14,7 +15,7 @@ use Rattle.syntax_tree.specs.Names.{Names, KeepsNames}
 use Rattle.syntax_tree.specs.Meant.{AreEntries}
 use Rattle.syntax_tree.specs.declared.units.Entry.{Entry}
 use Rattle.core_tree.specs.Names.{AllMatch}
-use Rattle.core_tree.specs.Units.{kind_as}
+use Rattle.core_tree.specs.Units.{kind_as, set_errors}
 use Rattle.ls_base.specs.declared.places.Span as code_span
 use Rattle.import_sets.specs.declared.set.ImportSet as code_set
 use Rattle.import_sets.specs.declared.set.SetName.{SetName}
@@ -33,12 +34,13 @@ use Rattle.workspace_state.specs.declared.findings.At.{At}
 use Rattle.workspace_state.specs.declared.places.Places as code_places
 use Rattle.workspace_state.specs.Found.{diagnostic, told_at}
 use Rattle.workspace_state.specs.Libraries.{library_of}
-use Rattle.workspace_state.specs.Places.{ArePlaces, bytes_at, spans_of, start_of}
+use Rattle.workspace_state.specs.Places.{ArePlaces, bytes_at, number_at, spans_of, start_of}
 use Rattle.workspace_state.specs.Readings.{Read, span_seen}
 use Rattle.workspace_state.specs.Joining.{GatheredAs, GroupsStand}
 use Rattle.workspace_state.specs.SetsGiven.{AreEntriesIf, AreLibraries, ComesTo, ImportsAs, IsSpec, exports_at, set_exports, with_set}
 use Rattle.workspace_state.specs.Wording.{worded}
 use Rattle.workspace_state.proofs.MeaningLaws.{entries_kept}
+use Rattle.workspace_state.proofs.SetErrors.{no_set_errors, number_is, set_error_next}
 use Rattle.workspace_state.proofs.ToldLaws.{told_there, worded_name}
 
 -- ---- the library of a set
@@ -245,6 +247,32 @@ sets_next old new gs hs before now more places document all rs whole i s at h st
     split : drop i whole ≡ s ∷ drop (i + 1) whole
     split = drop_at whole i s at
 
+-- the same with their Errors, by the forms of the sets
+pub record SetsTold (names : Names) (gs : List Group) (before now : List Diagnostic) (places : code_places.Places) (document : ℕ) (all : List Placed) (rs : List UnitResult) (whole rest : List ImportSpec) (whole_forms rest_forms : List ℕ) (errors_before errors_now : List (ℕ × ℕ)) : Type 0 where
+  pub sets : SetsSoFar names gs before now places document all rs whole rest
+  pub errors : length whole_forms ≡ length whole → errors_now ++ set_errors (zip rest_forms (import_all all rs sets.es rest).1) ≡ errors_before ++ set_errors (zip whole_forms (import_all all rs [] whole).1)
+
+pub sets_told_begin : (names : Names) (gs : List Group) (before : List Diagnostic) (places : code_places.Places) (document : ℕ) (all : List Placed) (rs : List UnitResult) (whole : List ImportSpec) (fs : List ℕ) (es : List (ℕ × ℕ)) → gs ≡ [] →
+    SetsTold names gs before before places document all rs whole whole fs fs es es
+unfolding sets_begin
+sets_told_begin names gs before places document all rs whole fs es none = record { sets = sets_begin names gs before places document all rs whole none; errors = λ many. refl }
+
+pub sets_told_next : (old new : Names) (gs hs : List Group) (before now more : List Diagnostic) (places : code_places.Places) (document : ℕ) (all : List Placed) (rs : List UnitResult) (whole : List ImportSpec) (i : ℕ) (s : ImportSpec) (fs : List ℕ) (es es_now es_more : List (ℕ × ℕ)) →
+    slice_get whole i ≡ Some s → (h : SetsTold old gs before now places document all rs whole (drop i whole) fs (drop i fs) es es_now) → GroupsStand new hs (with_set all rs s.set h.sets.es).0 →
+    ((reads : List Read) (us : List UnitResult) → ArePlaces places reads us → more ≡ now ++ told_of places reads us document (s ∷ []) ((with_set all rs s.set h.sets.es).1 ∷ [])) →
+    es_more ≡ es_now ++ set_errors ((number_at fs i, (with_set all rs s.set h.sets.es).1) ∷ []) →
+    SetsTold new hs before more places document all rs whole (drop (i + 1) whole) fs (drop (i + 1) fs) es es_more
+unfolding sets_next
+sets_told_next old new gs hs before now more places document all rs whole i s fs es es_now es_more at h stand n one = record {
+  sets = sets_next old new gs hs before now more places document all rs whole i s at h.sets stand n;
+  errors = λ many.
+      let within = slice_get_within whole i s at in
+      let q = with_set all rs s.set h.sets.es in
+      let split = drop_at whole i s at in
+      set_error_next fs i (i + 1) (add-one i) (number_at fs i) (number_is fs i (omega arith)) q.1 (import_all all rs q.0 (drop (i + 1) whole)).1 es_now es_more (es ++ set_errors (zip fs (import_all all rs [] whole).1)) one
+      (sym (ap (λ (l : List ImportSpec). es_now ++ set_errors (zip (drop i fs) (import_all all rs h.sets.es l).1)) split) ∙ h.errors many);
+}
+
 -- nothing is left
 pub record SetsDone (names : Names) (gs : List Group) (before now : List Diagnostic) (places : code_places.Places) (document : ℕ) (all : List Placed) (rs : List UnitResult) (whole : List ImportSpec) : Type 0 where
   pub stand : GroupsStand names gs (import_all all rs [] whole).0
@@ -349,6 +377,18 @@ pub sets_told : (bytes : Occ → Bytes) (old new : List Diagnostic) (document : 
 sets_told bytes old new document all rs p spelled c im b e h here told =
     told ∙ ap (λ (d : ℕ). old ++ set_diagnostics bytes d p.specs (import_all all rs [] p.specs).1) here
     ∙ ap (λ (q : List model.Entry × List SetResult). old ++ set_diagnostics bytes p.placed.document p.specs q.1) (sym (sets_case all rs p (nothing_is spelled c p im b false e h)))
+
+-- the Errors, by the forms of the sets
+pub base_errors : (es : List (ℕ × ℕ)) (all : List Placed) (rs : List UnitResult) (p : Prepared) (spelled : LibraryName → List ℕ) (c : code_source.UnitSource) → ImportsAs spelled c p → (b : Bool) → b ≡ (is_program (kind_as c.kind) && is_empty c.imports) → b ≡ true → (fs : List ℕ) →
+    es ≡ es ++ set_errors (zip fs (unit_entries all rs p).1)
+base_errors es all rs p spelled c im b e h fs =
+    sym (append-nil es) ∙ ap (λ (xs : List (ℕ × ℕ)). es ++ xs) (sym (no_set_errors fs))
+    ∙ ap (λ (q : List model.Entry × List SetResult). es ++ set_errors (zip fs q.1)) (sym (base_case all rs p (nothing_is spelled c p im b true e h)))
+
+pub sets_errors : (old new : List (ℕ × ℕ)) (all : List Placed) (rs : List UnitResult) (p : Prepared) (spelled : LibraryName → List ℕ) (c : code_source.UnitSource) → ImportsAs spelled c p → (b : Bool) → b ≡ (is_program (kind_as c.kind) && is_empty c.imports) → b ≡ false → (fs : List ℕ) →
+    new ≡ old ++ set_errors (zip fs (import_all all rs [] p.specs).1) → new ≡ old ++ set_errors (zip fs (unit_entries all rs p).1)
+sets_errors old new all rs p spelled c im b e h fs told =
+    told ∙ ap (λ (q : List model.Entry × List SetResult). old ++ set_errors (zip fs q.1)) (sym (sets_case all rs p (nothing_is spelled c p im b false e h)))
 
 -- ---- at the end of a list
 

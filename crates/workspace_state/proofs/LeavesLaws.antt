@@ -73,3 +73,8 @@ not_left e texts m event refused b same is tells not_so so_it_is =
     let at : refused ≡ option_map fault_of (after e texts event).1 = is ∙ ap (λ (x : Texts). option_map fault_of (after e x event).1) same in
     let is_false : leaves event (after e texts event).1 ≡ false = sym (tells (after e texts event).1 at) ∙ not_so in
     absurd cc
+
+-- what was told is what the definition says
+pub is_left_so : (e : Encoding) (texts m : Texts) (event : store.Event) (refused : Option StoreFault) (b : Bool) → m ≡ texts → refused ≡ option_map fault_of (after e m event).1 →
+    ((r : Option store.Refusal) → refused ≡ option_map fault_of r → b ≡ leaves event r) → b ≡ leaves event (after e texts event).1
+is_left_so e texts m event refused b same is tells = tells (after e texts event).1 (is ∙ ap (λ (x : Texts). option_map fault_of (after e x event).1) same)

@@ -41,14 +41,10 @@ pub mod UnboundLaws  -- The unbound uses that the code finds are those of the de
 pub mod ImportLaws  -- What import sets of the code give stands for some entries
 pub mod DefinedLaws  -- What forms define, one form more
 pub mod UnitLaws  -- A unit that is begun on a bench, and what its forms tell once they are expanded
-pub mod ToldLaws  -- What is found, and the diagnostics that it is
-pub mod GivenLaws  -- What import sets of the code come to is what the definition's sets come to
-pub mod SetErrors  -- The Errors of import sets, by their codes and the forms in which the sets stand
+pub mod SetErrors  -- The Errors of import sets, each with the form that its set stands in
 pub mod NameLaws  -- What can be exported of a unit is what the definition finds by name
 pub mod BaseLaws  -- What `(scheme base)` gives
-pub mod ExportLaws  -- Exports of the code stand for some, and what is wrong in them is the definition's
 pub mod KnownLaws  -- Which libraries there are, by the texts of their names that are listed
-pub mod UsedLaws  -- Identifiers of imports and exports that are added one after another
 pub mod OneIfSame  -- An export that isn't renamed has one identifier
 pub mod RisingParts  -- The parts of what was read stand one behind the other, and of two neighbours one at most is implied by a mark
 pub mod RenamedLaws  -- An export stands under another name where its two identifiers stand at two places, as they were read from two tokens
@@ -67,9 +63,11 @@ pub mod TurnCited  -- One turn more, as what expands the units goes through thei
 pub mod ListLaws  -- The lists of documents, one document after another
 pub mod PublishLaws  -- What is published, one document after another
 pub mod DiagnosedLaws  -- What is found in forms tells the definition's diagnostics
+pub mod ToldLaws  -- What is found, and the diagnostics that it is
+pub mod GivenLaws  -- What import sets of the code come to is what the definition's sets come to
 pub mod UnboundFound  -- What is found of uses that mean nothing tells the definition's diagnostics
 pub mod WholeLaws  -- What is found of a unit that is broken as a whole tells the definition's diagnostic
-pub mod StopsLaws  -- Documents that don't read, and what the code keeps of all documents
+pub mod StopsLaws  -- Documents that don't read have that alone, and what the code keeps of all documents
 pub mod UnitGoes  -- The forms of a unit define nothing of other units, and leave what units import
 pub mod UnitCame  -- A unit is begun on a bench that goes on with what is expanded so far, and what its forms come to is the definition's
 pub mod CameKept  -- What units came to stands for the same in a work that has only grown
@@ -81,8 +79,27 @@ pub mod Collecting  -- Units that are put together, one more
 pub mod UnitsTurns  -- Units in turn
 pub mod CollectLaws  -- Units that are put together by what they came to are those of the definition's program
 pub mod ReadUnits  -- Units that were judged, as they are handed on to be expanded
-pub mod HidingLaws  -- Definitions that hide an import (R7RS 5.3) are told one after another, the latest first
+pub mod HidingLaws  -- What is found of definitions that hide imports tells the definition's diagnostics
+pub mod UnitsFoundLaws  -- What is found of a unit is what the definition has of it, part by part, and later units change nothing of it
+pub mod HeadsKept  -- Heads that stay are those of the same units
+pub mod NoImport  -- A program without an import, told by what was read and by the definition
+pub mod FoundNext  -- The unit whose turn it is, broken or expanded
+pub mod ToldUnits  -- Units of a program one by one
+pub mod TokensAlike  -- The tokens of documents are those of each reading of their texts
+pub mod ExportLaws  -- Exports of the code stand for some, and what is wrong in them is the definition's
+pub mod UsedLaws  -- Identifiers of imports and exports that are added one after another
+pub mod ToldProgram  -- The units of the whole program, by what came of them, what is found in them and what breaks them
 pub mod DocumentsData  -- The data of the documents are those that their texts are read as
 pub mod KnownSteps  -- The names of libraries, one datum and one document more at a time, and the name that the front of a library has
+pub mod TokenPlaces  -- The bytes of a datum's first token are those of the token with its number (R7RS 7.1.2)
+pub mod UnitStarts  -- Units begin at the tokens with the numbers of their first ones
 pub mod ListedUnits  -- Units as they are listed
 pub mod ListedDocuments  -- The units of documents, one datum and one document more at a time
+pub mod OthersLaws  -- Documents other than the one of an event stay, and so do their lists
+pub mod PublishedMaps  -- What is published, as a map by uri
+pub mod TextLists  -- Texts have one row of lists, and aren't without
+pub mod NewsLaws  -- What is news of texts is told in one way, and isn't without lists
+pub mod NewsTold  -- Lists as the code keeps them, by uri
+pub mod NoTexts  -- A workspace without documents
+pub mod HeadsStand  -- The heads of units that were listed are those of the program's units
+pub mod HeadsOf  -- The heads of units have what the units do, as these were listed, judged and worked on

@@ -6,9 +6,9 @@ use Rattle.std.proofs.lemmas.Bool.Decides.{nat_tests}
 use Rattle.std.proofs.lemmas.List.{map-append, length_push}
 use Rattle.std.proofs.lemmas.Option.{slice_get_within}
 use Rattle.ls_base.specs.declared.places.Span.{Span}
-use Rattle.scheme_model.specs.Data.{Datum, Data, none, part, tail}
+use Rattle.scheme_model.specs.Data.{Place, Datum, Data, none, part, tail, place_of}
 use Rattle.scheme_model.specs.Declarations as source
-use Rattle.scheme_model.specs.Declarations.{UnitForm, UnitKind, IsLibrary, Flat, library_with, library_of, behind_head, program_in}
+use Rattle.scheme_model.specs.Declarations.{UnitForm, UnitKind, IsLibrary, is_library, Flat, library_with, library_of, behind_head, program_in}
 use Rattle.scheme_model.specs.Program as model
 use Rattle.scheme_model.specs.Program.{Placed, prepared, ImportSpec, name_if, max_units, declared_fault, forms_or_none, specs_from, exports_from}
 use Rattle.scheme_model.specs.Requirements.{LibraryName, Known}
@@ -18,7 +18,9 @@ use Rattle.syntax_tree.specs.declared.units.UnitKind.TheVariants as kinds
 use Rattle.syntax_tree.proofs.Places.{push_cases, get_within}
 use Rattle.core_tree.specs.Names.{AllMatch}
 use Rattle.core_tree.specs.Units.{kind_as}
+use Rattle.datum_reader.specs.FirstTokens.{first_token}
 use Rattle.datum_reader.specs.Looks.{bytes_of}
+use Rattle.datum_reader.proofs.DatumLaws.{place-datum}
 use Rattle.library_table.specs.Sources.{AreImports, AreExports, IsUnit, AreUnitsFrom}
 use Rattle.library_table.specs.UnitsRead.{kind_of, forms_of, AreSpecs, IsSource}
 use Rattle.library_table.specs.declared.units.ExportSpec as code_export
@@ -39,6 +41,7 @@ use Rattle.workspace_state.specs.declared.listing.Units.{Units}
 use Rattle.workspace_state.proofs.ExportsRead.{exports_read}
 use Rattle.workspace_state.proofs.OneIfSame.{all_from}
 use Rattle.workspace_state.proofs.RenamedLaws.{AreDeclaredRead}
+use Rattle.workspace_state.proofs.UnitStarts.{library_token, program_token}
 
 -- ---- names that units are known by
 
@@ -98,6 +101,11 @@ module _ (spelled : LibraryName → List ℕ) (n : ℕ) (c : UnitSource) where
     single = subst (λ (u : source.UnitSource). HaveOneIfSame (exports_from n 0 (forms_or_none u.forms))) e h.single;
   }
 
+-- the numbers of the first tokens of forms
+firsts_seen : (fs : List code_form.UnitForm) → map (λ (f : code_form.UnitForm). f.datum.first) fs ≡ map (λ (f : UnitForm). (place_of f.datum).first) (forms_of fs)
+firsts_seen [] = refl
+firsts_seen (f ∷ fs) = λ j. (sym (ap (λ (p : Place). p.first) (place-datum f.datum)) j ∷ firsts_seen fs j)
+
 module _ (spelled : LibraryName → List ℕ) (written : WritesProper spelled) (n : ℕ) where
   source_of : (u : source.UnitSource) (c : UnitSource) (d : Datum) → IsSource n c u d → FormsRead (forms_of c.forms) → IsSourceOf spelled (prepared [] n (record { document = 0; source = u })) None c
   source_of u c d h read =
@@ -114,26 +122,28 @@ module _ (spelled : LibraryName → List ℕ) (written : WritesProper spelled) (
       }
 
   -- a library
-  library_at : (known : Known) (d : Datum) (c : UnitSource) (name : Option (List ℕ)) → FormsRead (forms_of c.forms) → IsSource n c (library_of known d) d → name ≡ option_map library_text (library_of known d).name → IsReadAt spelled n (library_of known d) name c None
-  library_at known d c name read h is = record {
+  library_at : (known : Known) (d : Datum) (c : UnitSource) (name : Option (List ℕ)) → true ≡ is_library d → FormsRead (forms_of c.forms) → IsSource n c (library_of known d) d → name ≡ option_map library_text (library_of known d).name → IsReadAt spelled n (library_of known d) name c None
+  library_at known d c name lib read h is = record {
     name = is;
     spells = λ whole. is ∙ (sym h.name ∙ source_spelled spelled written known n c d h);
     bad = ap (λ (f : Flat). option_map told (declared_fault f None)) (sym h.forms);
     named = source_spelled spelled written known n c d h ∙ ap (option_map spelled) (sym (usable_name (library_of known d) (forms_of c.forms) h.forms));
+    span = h.span ∙ library_token known d lib;
     source = source_of (library_of known d) c d h read;
     read = read;
   }
 
   -- a library that has a bad declaration
-  blank_at : (known : Known) (d e : Datum) (c : UnitSource) (span : Span) (name : Option (List ℕ)) → IsBlankLibrary c → (library_of known d).forms ≡ Err e → span ≡ bytes_of e → name ≡ option_map library_text (library_of known d).name →
+  blank_at : (known : Known) (d e : Datum) (c : UnitSource) (span : Span) (name : Option (List ℕ)) → true ≡ is_library d → c.span ≡ first_token d → IsBlankLibrary c → (library_of known d).forms ≡ Err e → span ≡ bytes_of e → name ≡ option_map library_text (library_of known d).name →
       IsReadAt spelled n (library_of known d) name c (Some (fault.BadDeclaration span))
-  blank_at known d e c span name blank bad at is =
+  blank_at known d e c span name lib token blank bad at is =
       let nothing : forms_or_none (library_of known d).forms ≡ [] = ap forms_or_none bad in
       record {
         name = is;
         spells = λ k. (let z : Some (model.BadDeclaration e) ≡ None = sym (ap (λ (f : Flat). declared_fault f None) bad) ∙ k in absurd cc);
         bad = ap (λ (s : Span). Some (fault.BadDeclaration s)) at ∙ ap (λ (f : Flat). option_map told (declared_fault f None)) (sym bad);
         named = blank.name ∙ ap (option_map spelled) (sym (no_name_if (library_of known d) e bad));
+        span = token ∙ library_token known d lib;
         source = record {
           kind = ap kind_as blank.kind ∙ sym (library_kind known d (behind_head d));
           forms = nothing ∙ ap forms_of (sym blank.forms);
@@ -147,27 +157,28 @@ module _ (spelled : LibraryName → List ℕ) (written : WritesProper spelled) (
       }
 
   -- a program
-  program_at : (ds : List Datum) (u : source.UnitSource) (c : UnitSource) (d : Datum) → FormsRead (forms_of c.forms) → program_in ds ≡ u ∷ [] → IsSource n c u d → IsReadAt spelled n u None c None
-  program_at ds u c d read one h =
+  program_at : (ds rest : List Datum) (u : source.UnitSource) (c : UnitSource) (d : Datum) → ds ≡ d ∷ rest → FormsRead (forms_of c.forms) → program_in ds ≡ u ∷ [] → IsSource n c u d → IsReadAt spelled n u None c None
+  program_at ds rest u c d begins read one h =
       let unnamed : u.name ≡ None = program_name ds u one in
       record {
         name = sym (ap (option_map library_text) unnamed);
         spells = λ whole. sym (ap (option_map spelled) unnamed);
         bad = ap (λ (f : Flat). option_map told (declared_fault f None)) (sym h.forms);
         named = h.name ∙ ap (option_map library_text) unnamed ∙ sym (ap (option_map spelled) (usable_name u (forms_of c.forms) h.forms ∙ unnamed));
+        span = h.span ∙ program_token d rest u (ap program_in (sym begins) ∙ one);
         source = source_of u c d h read;
         read = read;
       }
 
-pub library_for : (known : Known) (n : ℕ) (d : Datum) (c : UnitSource) (name : Option (List ℕ)) → FormsRead (forms_of c.forms) → IsSource n c (library_of known d) d → name ≡ option_map library_text (library_of known d).name → IsReadFor n (library_of known d) name c None
-library_for known n d c name read h is spelled written = library_at spelled written n known d c name read h is
+pub library_for : (known : Known) (n : ℕ) (d : Datum) (c : UnitSource) (name : Option (List ℕ)) → true ≡ is_library d → FormsRead (forms_of c.forms) → IsSource n c (library_of known d) d → name ≡ option_map library_text (library_of known d).name → IsReadFor n (library_of known d) name c None
+library_for known n d c name lib read h is spelled written = library_at spelled written n known d c name lib read h is
 
-pub blank_for : (known : Known) (n : ℕ) (d e : Datum) (c : UnitSource) (span : Span) (name : Option (List ℕ)) → IsBlankLibrary c → (library_of known d).forms ≡ Err e → span ≡ bytes_of e → name ≡ option_map library_text (library_of known d).name →
+pub blank_for : (known : Known) (n : ℕ) (d e : Datum) (c : UnitSource) (span : Span) (name : Option (List ℕ)) → true ≡ is_library d → c.span ≡ first_token d → IsBlankLibrary c → (library_of known d).forms ≡ Err e → span ≡ bytes_of e → name ≡ option_map library_text (library_of known d).name →
     IsReadFor n (library_of known d) name c (Some (fault.BadDeclaration span))
-blank_for known n d e c span name blank bad at is spelled written = blank_at spelled written n known d e c span name blank bad at is
+blank_for known n d e c span name lib token blank bad at is spelled written = blank_at spelled written n known d e c span name lib token blank bad at is
 
-pub program_for : (n : ℕ) (ds : List Datum) (u : source.UnitSource) (c : UnitSource) (d : Datum) → FormsRead (forms_of c.forms) → program_in ds ≡ u ∷ [] → IsSource n c u d → IsReadFor n u None c None
-program_for n ds u c d read one h spelled written = program_at spelled written n ds u c d read one h
+pub program_for : (n : ℕ) (ds rest : List Datum) (u : source.UnitSource) (c : UnitSource) (d : Datum) → ds ≡ d ∷ rest → FormsRead (forms_of c.forms) → program_in ds ≡ u ∷ [] → IsSource n c u d → IsReadFor n u None c None
+program_for n ds rest u c d begins read one h spelled written = program_at spelled written n ds rest u c d begins read one h
 
 -- ---- one unit more
 
@@ -187,9 +198,15 @@ module _ (spelled : LibraryName → List ℕ) (n : ℕ) (document : ℕ) (u : so
       let lt : n < max_units = grind (arith, nat_tests) in
       is.spells (ap (λ (f : Flat). declared_fault f None) e) ∙ ap (option_map spelled) (sym (foremost_name n u lt ∙ usable_name u fs e))
 
-  one_of : (h : Head) → h.document ≡ document → h.kind ≡ c.kind → h.name ≡ name → h.imports ≡ [] → h.fault ≡ fault_with n bad → IsOne spelled n (placed_in document u) h c
-  one_of h doc kind called imports broken = record {
-    told = record { document = doc; kind = ap kind_as kind ∙ is.source.kind; name = called ∙ is.name };
+  one_of : (h : Head) → h.document ≡ document → h.kind ≡ c.kind → h.name ≡ name → h.span ≡ c.span → h.firsts.items ≡ map (λ f. f.datum.first) c.forms → h.imports ≡ [] → h.fault ≡ fault_with n bad → IsOne spelled n (placed_in document u) h c
+  one_of h doc kind called span firsts imports broken = record {
+    told = record {
+      document = doc;
+      kind = ap kind_as kind ∙ is.source.kind;
+      name = called ∙ is.name;
+      span = span ∙ is.span;
+      firsts = firsts ∙ (firsts_seen c.forms ∙ ap (λ (fs : List UnitForm). map (λ (f : UnitForm). (place_of f.datum).first) fs) (sym is.source.forms));
+    };
     listed = record {
       fault = broken ∙ faults (nat_le max_units n);
       name = λ whole. called ∙ names u.forms refl (nat_le max_units n) refl whole;
@@ -241,12 +258,12 @@ module _ (spelled : LibraryName → List ℕ) (all : List Placed) (old new : Uni
 
 -- a unit was added with its head
 pub unit_added : (document : ℕ) (u : source.UnitSource) (old new : Units) (h : Head) (c : UnitSource) (name : Option (List ℕ)) (bad : Option WholeFault) → IsReadFor (length old.sources.items) u name c bad →
-    h.document ≡ document → h.kind ≡ c.kind → h.name ≡ name → h.imports ≡ [] → h.fault ≡ fault_with (length old.sources.items) bad →
+    h.document ≡ document → h.kind ≡ c.kind → h.name ≡ name → h.span ≡ c.span → h.firsts.items ≡ map (λ f. f.datum.first) c.forms → h.imports ≡ [] → h.fault ≡ fault_with (length old.sources.items) bad →
     new.heads.items ≡ old.heads.items ++ h ∷ [] → new.sources.items ≡ old.sources.items ++ c ∷ [] → AddsRead document (u ∷ []) old new
-unit_added document u old new h c name bad read doc kind called imports broken heads sources spelled written all far =
+unit_added document u old new h c name bad read doc kind called span firsts imports broken heads sources spelled written all far =
     more_so_far spelled all old new (placed_in document u) h c far heads sources
     (subst (λ (n : ℕ). IsOne spelled n (placed_in document u) h c) far.sources
-    (one_of spelled (length old.sources.items) document u name c bad (read spelled written) h doc kind called imports broken))
+    (one_of spelled (length old.sources.items) document u name c bad (read spelled written) h doc kind called span firsts imports broken))
 
 -- ---- units of a document
 

@@ -130,7 +130,7 @@ module _ (us : List Placed) (known : Known) where
   pub program_at : (i : ℕ) → result_at whole.units i ≡ slice_get whole.units i
   program_at i = ap (result_at whole.units) (sym (from_zero i)) ∙ numbered_at whole.units 0 i number_of
 
-  low : (m : ℕ) → is_some (result_at turned.results m) ≡ true → (m < 128) × (m < length ps)
+  pub low : (m : ℕ) → is_some (result_at turned.results m) ≡ true → (m < 128) × (m < length ps)
   low m h =
       let there : is_in m (turns us) ≡ true = sym (turn_done us known (turns us) [] (sym (append-nil (turns us))) m) ∙ h in
       let below = turn_below us m there in
@@ -151,7 +151,7 @@ module _ (us : List Placed) (known : Known) where
       let l = low m h in
       program_at m ∙ ((scoped_units us known).1 m l.1 ∙ scoped_result us known m l.0)
 
-  table_is : whole.table ≡ turned.table
+  pub table_is : whole.table ≡ turned.table
   table_is = ap (λ (g : ScopedProgress). g.table) (scoped_by_turns us known)
 
   -- what a unit came to in its turn is what the program has of it

@@ -1,19 +1,13 @@
 -- Units that were judged, as they are handed on to be expanded.
 use Rattle.std.proofs.Common.{◌≡◌, ℕ, List, [], Bool, true, false, cond, slice_get, Option, Some, None, refl, sym, ap, ◌∙◌, subst}
 use Rattle.std.specs.Option.{option_map, is_some}
-use Rattle.std.proofs.lemmas.Option.{same_Some}
 use Rattle.scheme_model.specs.Requirements.{LibraryName}
 use Rattle.scheme_model.specs.Program as model
 use Rattle.scheme_model.specs.Program.{Placed, Prepared, prepared, prepare, fault_before}
 use Rattle.scheme_model.specs.ScopedProgram.{scoped_before}
-use Rattle.scheme_tokens.specs.LibraryNames.{library_text}
-use Rattle.core_tree.specs.Units.{kind_as, text_of}
 use Rattle.library_table.specs.declared.units.UnitSource.{UnitSource}
 use Rattle.workspace_state.specs.Broken.{told, AreJudged, without_if, Forgets}
 use Rattle.workspace_state.specs.Came.{IsSourceOf, AreSourcesOf, AreReadOf, HeadsBy}
-use Rattle.workspace_state.specs.Collected.{AreHeadsOf}
-use Rattle.workspace_state.specs.Places.{HeadsStay}
-use Rattle.workspace_state.specs.UnitsListed.{IsToldBy}
 use Rattle.workspace_state.specs.declared.breaking.WholeFault.{WholeFault}
 use Rattle.workspace_state.specs.declared.listing.Head.{Head}
 
@@ -42,22 +36,3 @@ forgotten_sources spelled us hs old new read by forgets n u c there at =
     go : (s : UnitSource) → IsSourceOf spelled (prepared us n u) None s → (o : Option Head) → slice_get hs n ≡ o → IsSourceOf spelled (prepared us n u) (fault_before us (prepare us 0 us) (prepared us n u)) (without_if o s)
     go s h None e = lost spelled (prepared us n u) (fault_before us (prepare us 0 us) (prepared us n u)) s h
     go s h (Some head) e = by_head spelled (prepared us n u) (fault_before us (prepare us 0 us) (prepared us n u)) s h head.fault (by n u head there e) (is_some head.fault) refl
-
--- heads that were judged are those of their units
-text_same : (o : Option LibraryName) → text_of library_text o ≡ option_map library_text o
-text_same None = refl
-text_same (Some n) = refl
-
-pub heads_of : (us : List Placed) (old new : List Head) → ((n : ℕ) (u : Placed) (h : Head) → slice_get us n ≡ Some u → slice_get old n ≡ Some h → IsToldBy u h) → AreJudged us old new → HeadsStay old new → AreHeadsOf library_text us new
-heads_of us old new told judged stay n u g there at =
-    let j = judged.each n g at in
-    let s = stay.each n g at in
-    let same : s.0 ≡ j.0 = same_Some s.0 j.0 (sym s.1.0 ∙ j.1.0) in
-    let t = told n u j.0 there j.1.0 in
-    let k = j.1.1 u there in
-    record {
-      document = s.1.1.document ∙ ap (λ (h : Head). h.document) same ∙ t.document;
-      kind = ap kind_as (s.1.1.kind ∙ ap (λ (h : Head). h.kind) same) ∙ t.kind;
-      name = k.name ∙ (t.name ∙ sym (text_same u.source.name));
-      imports = k.imports;
-    }

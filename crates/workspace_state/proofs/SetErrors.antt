@@ -1,147 +1,92 @@
--- The Errors of import sets, by their codes and the forms in which the sets stand.
-use Rattle.std.proofs.Common.{◌≡◌, ℕ, ◌+◌, ◌<◌, ◌≤◌, leb, true, false, Bool, cond, List, [], ◌∷◌, ◌++◌, append-nil, append_assoc, map, drop, length, slice_get, get_or, Some, refl, sym, ap, ◌∙◌, subst, arith}
-use Rattle.std.specs.Prelude.{◌&&◌, filter, reverse}
+-- The Errors of import sets, each with the form that its set stands in.
+use Rattle.std.proofs.Common.{◌≡◌, ℕ, zero, suc, ◌+◌, ◌<◌, List, [], ◌∷◌, ◌++◌, append-nil, append_assoc, map, drop, length, slice_get, Bool, true, false, cond, Some, refl, sym, ap, ◌∙◌, subst, arith}
+use Rattle.std.specs.Prelude.{◌&&◌, codes, not, reverse}
 use Rattle.std.specs.List.{zip}
-use Rattle.std.specs.List.Sorted.{IsPartitionedBy, IsPartitionPoint}
-use Rattle.std.proofs.lemmas.Bool.{le-leb, leb-true, leb-false}
-use Rattle.std.proofs.lemmas.List.{reverse-append}
-use Rattle.std.proofs.lemmas.List.Elements.{filter-append}
-use Rattle.std.proofs.lemmas.Option.{slice_get-get_or}
+use Rattle.std.proofs.lemmas.List.{length-map, reverse-append}
+use Rattle.std.proofs.lemmas.Option.{same_Some}
+use Rattle.scheme_model.specs.Data.{Datum, place_of}
+use Rattle.scheme_model.specs.Declarations.{UnitForm, is_headed, list_parts}
 use Rattle.scheme_model.specs.Entries as model
-use Rattle.scheme_model.proofs.RenamingLaws.{map-append}
-use Rattle.scheme_model.specs.Program.{Placed, Prepared, ImportSpec, UnitResult, SetResult, Unknown, Faulty, Gives, is_empty, is_program, import_all, unit_entries}
-use Rattle.syntax_tree.specs.Names.{Names}
-use Rattle.core_tree.specs.Units.{import_code, kind_as, set_errors}
-use Rattle.import_sets.specs.declared.gather.Group.{Group}
-use Rattle.library_table.specs.declared.units.UnitForm.{UnitForm}
-use Rattle.library_table.specs.declared.units.UnitSource as code_source
-use Rattle.scheme_model.specs.Requirements.{LibraryName}
-use Rattle.workspace_state.specs.declared.findings.Finding.{Finding}
-use Rattle.workspace_state.specs.Found.{error_at, errors_in, is_error}
-use Rattle.workspace_state.specs.Joining.{GroupsStand}
-use Rattle.workspace_state.specs.SetsGiven.{ImportsAs, IsInForm, with_set}
-use Rattle.workspace_state.proofs.GivenLaws.{base_case, drop_at, nothing_is, sets_case}
-use Rattle.workspace_state.proofs.MeaningLaws.{there}
+use Rattle.scheme_model.specs.Program.{Placed, UnitResult, ImportSpec, SetResult, Unknown, Faulty, Gives, behind_first, import_all, spec_of, specs_in, specs_from}
+use Rattle.core_tree.specs.Units.{set_errors, set_forms}
+use Rattle.datum_reader.specs.Views.{data_of}
+use Rattle.datum_reader.specs.declared.datum.Datum as code
+use Rattle.workspace_state.specs.Places.{number_at}
 
--- ---- one finding more
+-- ---- forms of sets
 
-abbrev both_of : Finding → ℕ × ℕ
-both_of f = (f.code, f.form)
+-- the same for as many
+pub same_for : {A B : Type 0} (n : ℕ) (xs : List A) (ys : List B) → length xs ≡ length ys → map (λ (x : A). n) xs ≡ map (λ (y : B). n) ys
+same_for n [] [] long = refl
+same_for n [] (y ∷ ys) long = absurd (omega arith)
+same_for n (x ∷ xs) [] long = absurd (omega arith)
+same_for n (x ∷ xs) (y ∷ ys) long = ap (λ ns. n ∷ ns) (same_for n xs ys (omega arith))
 
-one_error : (f : Finding) (b : Bool) → map both_of (cond b (f ∷ []) []) ≡ cond b ((f.code, f.form) ∷ []) []
-one_error f true = refl
-one_error f false = refl
+-- the sets of a form that is an import declaration, and of another
+pub sets_in : (unit n : ℕ) (f : UnitForm) (ds : List code.Datum) → (f.declared && is_headed (codes "import") f.datum) ≡ true → data_of ds ≡ behind_first (list_parts f.datum) → map (λ (d : code.Datum). n) ds ≡ map (λ (s : ImportSpec). n) (specs_in unit n f)
+sets_in unit n f ds is parts =
+    same_for n ds (map (spec_of unit n (place_of f.datum).first) (behind_first (list_parts f.datum)))
+    (sym (length-map ds _) ∙ (ap (λ (xs : List Datum). length xs) parts ∙ sym (length-map (behind_first (list_parts f.datum)) (spec_of unit n (place_of f.datum).first))))
+    ∙ ap (λ b. map (λ (s : ImportSpec). n) (cond b (map (spec_of unit n (place_of f.datum).first) (behind_first (list_parts f.datum))) [])) (sym is)
 
-pub errors_more : (fs new : List Finding) (f : Finding) (code form : ℕ) → new ≡ fs ++ f ∷ [] → f.code ≡ code → f.form ≡ form → errors_in new ≡ errors_in fs ++ error_at code form
-errors_more fs new f code form is c g =
-    ap errors_in is ∙ ap (map both_of) (filter-append (λ (x : Finding). is_error x.code) fs (f ∷ []))
-    ∙ map-append both_of (filter (λ (x : Finding). is_error x.code) fs) (filter (λ (x : Finding). is_error x.code) (f ∷ []))
-    ∙ ap (λ (es : List (ℕ × ℕ)). errors_in fs ++ es) (one_error f (is_error f.code) ∙ (λ j. error_at (c j) (g j)))
+pub no_sets_in : (unit n : ℕ) (f : UnitForm) → (f.declared && is_headed (codes "import") f.datum) ≡ false → [] ≡ map (λ (s : ImportSpec). n) (specs_in unit n f)
+no_sets_in unit n f is = ap (λ b. map (λ (s : ImportSpec). n) (cond b (map (spec_of unit n (place_of f.datum).first) (behind_first (list_parts f.datum))) [])) (sym is)
 
--- ---- clashes
-
-abbrev pub clash_errors : ℕ → List (List ℕ) → List (ℕ × ℕ)
-clash_errors form ss = map (λ (s : List ℕ). (52, form)) ss
-
-pub clash_error : (form : ℕ) (ss rest : List (List ℕ)) (s : List ℕ) (old new more : List (ℕ × ℕ)) → ss ≡ rest ++ s ∷ [] → new ≡ old ++ (52, form) ∷ [] →
-    old ++ clash_errors form (reverse ss) ≡ more → new ++ clash_errors form (reverse rest) ≡ more
-clash_error form ss rest s old new more is n before =
-    ap (λ (es : List (ℕ × ℕ)). es ++ clash_errors form (reverse rest)) n ∙ append_assoc old ((52, form) ∷ []) (clash_errors form (reverse rest))
-    ∙ ap (λ (ts : List (List ℕ)). old ++ clash_errors form ts) (sym (ap reverse is ∙ reverse-append rest (s ∷ []))) ∙ before
-
--- ---- one set
-
-pub errors_after : (form : ℕ) (old new : List (ℕ × ℕ)) (s t : List model.Entry × SetResult) → s ≡ t → new ≡ old ++ set_errors ((form, t.1) ∷ []) → new ≡ old ++ set_errors ((form, s.1) ∷ [])
-errors_after form old new s t e h = h ∙ ap (λ (p : List model.Entry × SetResult). old ++ set_errors ((form, p.1) ∷ [])) (sym e)
-
-pub gives_errors : (form : ℕ) (es : List model.Entry) (clashes : List (List ℕ)) (old new : List (ℕ × ℕ)) → new ≡ old ++ clash_errors form clashes → new ≡ old ++ set_errors ((form, Gives es clashes) ∷ [])
-gives_errors form es clashes old new e = e ∙ ap (λ (xs : List (ℕ × ℕ)). old ++ xs) (sym (append-nil (clash_errors form clashes)))
-
-pub fault_errors : (form code : ℕ) (f g : model.ImportFault) (old new : List (ℕ × ℕ)) → f ≡ g → code ≡ import_code g → new ≡ old ++ (code, form) ∷ [] → new ≡ old ++ (import_code f, form) ∷ []
-fault_errors form code f g old new is here e = e ∙ ap (λ (n : ℕ). old ++ (n, form) ∷ []) (here ∙ ap import_code (sym is))
-
-errors_next : (n : ℕ) (r : SetResult) (rs : List (ℕ × SetResult)) → set_errors ((n, r) ∷ rs) ≡ set_errors ((n, r) ∷ []) ++ set_errors rs
-errors_next n Unknown rs = refl
-errors_next n (Faulty f) rs = refl
-errors_next n (Gives es clashes) rs = ap (λ (xs : List (ℕ × ℕ)). xs ++ set_errors rs) (sym (append-nil (clash_errors n clashes)))
-
--- ---- all sets
-
-zip_none : (ns : List ℕ) → zip {X = SetResult} ns [] ≡ []
-zip_none [] = refl
-zip_none (n ∷ ns) = refl
-
--- the Errors of the sets so far, and those that the sets that are left are to have
-pub record ErrorsSoFar (names : Names) (gs : List Group) (before now : List (ℕ × ℕ)) (all : List Placed) (rs : List UnitResult) (whole rest : List ImportSpec) (forms left : List ℕ) : Type 0 where
-  pub es : List model.Entry
-  pub stand : GroupsStand names gs es
-  pub errors : now ++ set_errors (zip left (import_all all rs es rest).1) ≡ before ++ set_errors (zip forms (import_all all rs [] whole).1)
-
-pub errors_begin : (names : Names) (gs : List Group) (before : List (ℕ × ℕ)) (all : List Placed) (rs : List UnitResult) (whole : List ImportSpec) (forms : List ℕ) → gs ≡ [] →
-    ErrorsSoFar names gs before before all rs whole whole forms forms
-errors_begin names gs before all rs whole forms none = record {
-  es = [];
-  stand = subst (λ (hs : List Group). GroupsStand names hs []) (sym none) tt;
-  errors = refl;
-}
-
-pub errors_go_on : (old new : Names) (gs hs : List Group) (before now more : List (ℕ × ℕ)) (all : List Placed) (rs : List UnitResult) (whole : List ImportSpec) (forms : List ℕ) (i : ℕ) (s : ImportSpec) (n : ℕ) →
-    slice_get whole i ≡ Some s → slice_get forms i ≡ Some n → (h : ErrorsSoFar old gs before now all rs whole (drop i whole) forms (drop i forms)) → GroupsStand new hs (with_set all rs s.set h.es).0 →
-    more ≡ now ++ set_errors ((n, (with_set all rs s.set h.es).1) ∷ []) → ErrorsSoFar new hs before more all rs whole (drop (i + 1) whole) forms (drop (i + 1) forms)
-errors_go_on old new gs hs before now more all rs whole forms i s n at here h stand e = record {
-  es = q.0;
-  stand = stand;
-  errors =
-      ap (λ (es : List (ℕ × ℕ)). es ++ later) e ∙ append_assoc now (set_errors ((n, q.1) ∷ [])) later
-      ∙ ap (λ (es : List (ℕ × ℕ)). now ++ es) (sym (errors_next n q.1 (zip (drop (i + 1) forms) (import_all all rs q.0 (drop (i + 1) whole)).1)))
-      ∙ sym (λ j. now ++ set_errors (zip (drop_at forms i n here j) (import_all all rs h.es (drop_at whole i s at j)).1)) ∙ h.errors;
-}
+-- one form more
+pub forms_next : (unit : ℕ) (fs : List UnitForm) (i j : ℕ) (f : UnitForm) (now new all : List ℕ) → j ≡ suc i → slice_get fs i ≡ Some f → new ≡ now ++ map (λ (s : ImportSpec). i) (specs_in unit i f) → now ++ set_forms unit i (drop i fs) ≡ all →
+    new ++ set_forms unit j (drop j fs) ≡ all
+forms_next unit fs i j f now new all next at one so =
+    (λ k. one k ++ set_forms unit (next k) (drop (next k) fs))
+    ∙ (append_assoc now (map (λ (s : ImportSpec). i) (specs_in unit i f)) (set_forms unit (suc i) (drop (suc i) fs)) ∙ (ap (λ gs. now ++ set_forms unit i gs) (sym (dropped fs i at)) ∙ so))
   where
-    q : List model.Entry × SetResult
-    q = with_set all rs s.set h.es
+    dropped : (gs : List UnitForm) (i : ℕ) → slice_get gs i ≡ Some f → drop i gs ≡ f ∷ drop (suc i) gs
+    dropped [] i h = absurd cc
+    dropped (x ∷ gs) zero h = ap (λ (y : UnitForm). y ∷ gs) (same_Some x f h)
+    dropped (x ∷ gs) (suc i) h = dropped gs i h
 
-    later : List (ℕ × ℕ)
-    later = set_errors (zip (drop (i + 1) forms) (import_all all rs q.0 (drop (i + 1) whole)).1)
+-- there is one for each set
+pub as_many_forms : (unit n : ℕ) (fs : List UnitForm) → length (set_forms unit n fs) ≡ length (specs_from unit n fs)
+as_many_forms unit n [] = refl
+as_many_forms unit n (f ∷ fs) = both (map (λ (s : ImportSpec). n) (specs_in unit n f)) (specs_in unit n f) (set_forms unit (suc n) fs) (specs_from unit (suc n) fs) (length-map (specs_in unit n f) (λ (s : ImportSpec). n)) (as_many_forms unit (suc n) fs)
+  where
+    both : {A B : Type 0} (xs : List A) (ys : List B) (vs : List A) (ws : List B) → length xs ≡ length ys → length vs ≡ length ws → length (xs ++ vs) ≡ length (ys ++ ws)
+    both [] [] vs ws e h = h
+    both [] (y ∷ ys) vs ws e h = absurd (omega arith)
+    both (x ∷ xs) [] vs ws e h = absurd (omega arith)
+    both (x ∷ xs) (y ∷ ys) vs ws e h = ap suc (both xs ys vs ws (omega arith) h)
 
--- nothing is left
-pub errors_done : (names : Names) (gs : List Group) (before now : List (ℕ × ℕ)) (all : List Placed) (rs : List UnitResult) (whole rest : List ImportSpec) (forms left : List ℕ) → rest ≡ [] →
-    ErrorsSoFar names gs before now all rs whole rest forms left → now ≡ before ++ set_errors (zip forms (import_all all rs [] whole).1)
-errors_done names gs before now all rs whole rest forms left none h =
-    sym (append-nil now) ∙ ap (λ (xs : List (ℕ × SetResult)). now ++ set_errors xs) (sym (zip_none left))
-    ∙ ap (λ (l : List ImportSpec). now ++ set_errors (zip left (import_all all rs h.es l).1)) (sym none) ∙ h.errors
+pub number_is : (ns : List ℕ) (i : ℕ) → i < length ns → slice_get ns i ≡ Some (number_at ns i)
+number_is [] i lt = absurd (omega arith)
+number_is (n ∷ ns) zero lt = refl
+number_is (n ∷ ns) (suc i) lt = number_is ns i (omega arith)
 
--- ---- a unit that imports nothing, and one that imports something
+-- ---- Errors of sets
 
-pub base_errors : (es : List (ℕ × ℕ)) (forms : List ℕ) (all : List Placed) (rs : List UnitResult) (p : Prepared) (spelled : LibraryName → List ℕ) (c : code_source.UnitSource) → ImportsAs spelled c p → (b : Bool) → b ≡ (is_program (kind_as c.kind) && is_empty c.imports) → b ≡ true →
-    es ≡ es ++ set_errors (zip forms (unit_entries all rs p).1)
-base_errors es forms all rs p spelled c im b e h =
-    sym (append-nil es) ∙ ap (λ (xs : List (ℕ × SetResult)). es ++ set_errors xs) (sym (zip_none forms))
-    ∙ ap (λ (q : List model.Entry × List SetResult). es ++ set_errors (zip forms q.1)) (sym (base_case all rs p (nothing_is spelled c p im b true e h)))
+pub no_set_errors : (fs : List ℕ) → set_errors (zip fs []) ≡ []
+no_set_errors [] = refl
+no_set_errors (f ∷ fs) = refl
 
-pub sets_errors : (old new : List (ℕ × ℕ)) (forms : List ℕ) (all : List Placed) (rs : List UnitResult) (p : Prepared) (spelled : LibraryName → List ℕ) (c : code_source.UnitSource) → ImportsAs spelled c p → (b : Bool) → b ≡ (is_program (kind_as c.kind) && is_empty c.imports) → b ≡ false →
-    new ≡ old ++ set_errors (zip forms (import_all all rs [] p.specs).1) → new ≡ old ++ set_errors (zip forms (unit_entries all rs p).1)
-sets_errors old new forms all rs p spelled c im b e h found =
-    found ∙ ap (λ (q : List model.Entry × List SetResult). old ++ set_errors (zip forms q.1)) (sym (sets_case all rs p (nothing_is spelled c p im b false e h)))
+one_set : (f : ℕ) (q : SetResult) (rest : List (ℕ × SetResult)) → set_errors ((f, q) ∷ rest) ≡ set_errors ((f, q) ∷ []) ++ set_errors rest
+one_set f Unknown rest = refl
+one_set f (Faulty e) rest = refl
+one_set f (Gives es clashes) rest = ap (λ (xs : List (ℕ × ℕ)). xs ++ set_errors rest) (sym (append-nil (map (λ (s : List ℕ). (52, f)) clashes)))
 
--- ---- the form in which bytes stand
+pub set_error_next : (fs : List ℕ) (i j : ℕ) → j ≡ suc i → (f : ℕ) → slice_get fs i ≡ Some f → (q : SetResult) (qs : List SetResult) (now new all : List (ℕ × ℕ)) → new ≡ now ++ set_errors ((f, q) ∷ []) → now ++ set_errors (zip (drop i fs) (q ∷ qs)) ≡ all →
+    new ++ set_errors (zip (drop j fs) qs) ≡ all
+set_error_next fs i j next f at q qs now new all one so =
+    (λ k. one k ++ set_errors (zip (drop (next k) fs) qs))
+    ∙ (append_assoc now (set_errors ((f, q) ∷ [])) (set_errors (zip (drop (suc i) fs) qs))
+    ∙ (ap (λ (xs : List (ℕ × ℕ)). now ++ xs) (sym (one_set f q (zip (drop (suc i) fs) qs)) ∙ ap (λ (gs : List ℕ). set_errors (zip gs (q ∷ qs))) (sym (dropped fs i at))) ∙ so))
+  where
+    dropped : (gs : List ℕ) (i : ℕ) → slice_get gs i ≡ Some f → drop i gs ≡ f ∷ drop (suc i) gs
+    dropped [] i h = absurd cc
+    dropped (x ∷ gs) zero h = ap (λ (y : ℕ). y ∷ gs) (same_Some x f h)
+    dropped (x ∷ gs) (suc i) h = dropped gs i h
 
-pub forms_parted : (fs : List UnitForm) (start n : ℕ) → IsInForm fs start n → IsPartitionedBy (λ (f : UnitForm). leb f.datum.span.start start) fs
-forms_parted fs start n h = λ i j d le lt early.
-    let at : slice_get fs j ≡ Some (get_or fs j d) = slice_get-get_or fs j d lt in
-    let within : (n < j → ⊥) = λ more. let late = h.behind j (get_or fs j d) more at in let soon = leb-true _ _ early in omega arith in
-    le-leb _ _ (h.before i (get_or fs i d) (omega arith) (slice_get-get_or fs i d (omega arith)))
-
-pub form_found : (fs : List UnitForm) (start n i : ℕ) → IsInForm fs start n → i ≤ length fs → IsPartitionPoint (λ (f : UnitForm). leb f.datum.span.start start ≡ true) (λ (f : UnitForm). leb f.datum.span.start start ≡ false) fs i → i ≡ n + 1
-form_found fs start n i h le parted =
-    let d = (there fs n h.there).0 in
-    let low : (i ≤ n → ⊥) = λ less.
-    let lt : i < length fs = let t = h.there in omega arith in
-    let late = leb-false _ _ (parted.1 i d (omega arith) lt) in
-    let soon = h.before i (get_or fs i d) less (slice_get-get_or fs i d lt) in
-    omega arith in
-    let high : (n + 1 < i → ⊥) = λ more.
-    let lt : n + 1 < length fs = omega arith in
-    let soon = leb-true _ _ (parted.0 (n + 1) d (omega arith) more) in
-    let late = h.behind (n + 1) (get_or fs (n + 1) d) (omega arith) (slice_get-get_or fs (n + 1) d lt) in
-    omega arith in
-    omega arith
+-- the latest clash is told, and the others are left
+pub clash_error : (form : ℕ) (ss rest : List (List ℕ)) (s : List ℕ) (old new more : List (ℕ × ℕ)) → ss ≡ rest ++ s ∷ [] → new ≡ old ++ (52, form) ∷ [] → old ++ map (λ (t : List ℕ). (52, form)) (reverse ss) ≡ more →
+    new ++ map (λ (t : List ℕ). (52, form)) (reverse rest) ≡ more
+clash_error form ss rest s old new more is one so =
+    ap (λ (xs : List (ℕ × ℕ)). xs ++ map (λ (t : List ℕ). (52, form)) (reverse rest)) one
+    ∙ (append_assoc old ((52, form) ∷ []) (map (λ (t : List ℕ). (52, form)) (reverse rest))
+    ∙ (ap (λ (ts : List (List ℕ)). old ++ map (λ (t : List ℕ). (52, form)) ts) (sym (ap reverse is ∙ reverse-append rest (s ∷ []))) ∙ so))

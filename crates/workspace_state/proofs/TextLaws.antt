@@ -12,11 +12,11 @@ use Rattle.text_positions.specs.Lines.{AreLinesOf}
 use Rattle.document_store.specs.Texts.{Document, Texts, text_at}
 use Rattle.workspace_state.specs.declared.documents.Document as code
 use Rattle.workspace_state.specs.declared.findings.At.{At}
-use Rattle.workspace_state.specs.Readings.{IsDocument, AreDocuments}
+use Rattle.workspace_state.specs.Readings.{Read, AreReadAs, IsDocument, AreDocuments}
 use Rattle.workspace_state.specs.Listed.{range_of}
 use Rattle.workspace_state.specs.Placed.{IsPlace}
 use Rattle.workspace_state.specs.declared.listing.Head.{Head}
-use Rattle.workspace_state.specs.Belongs.{Belongs, AreErrorsIn}
+use Rattle.workspace_state.specs.Belongs.{Belongs, AreErrorsIn, AreUnitsIn}
 use Rattle.workspace_state.specs.Places.{AreHeadsIn, bytes_at}
 use Rattle.workspace_state.proofs.Nths.{get_nth}
 
@@ -52,11 +52,22 @@ place_is texts cs are at c there encoding text is p uri range =
     let same : text ≡ q.0.1.1 = is q.0.1.1 (in_store texts at.document q.0 c.uri q.1 q.2.uri) in
     (q.0, q.1, uri ∙ q.2.uri, ap (λ (r : Range). r.start) range ∙ ap (λ t. position_of encoding t at.span.start) same, ap (λ (r : Range). r.end) range ∙ ap (λ t. position_of encoding t at.span.end) same)
 
+nothing_read : (rs : List Read) → AreReadAs [] rs → rs ≡ []
+nothing_read [] h = refl
+nothing_read (r ∷ rs) h = absurd h
+
+none_in : AreUnitsIn [] [] [] []
+none_in = record { tokens = refl; heads = tt; errors = record { count = refl; each = λ n e r at there. absurd cc } }
+
 none_belong : (texts : Texts) → entries texts ≡ [] → (cs : List code.Document) (hs : List Head) (es : List (Option (At × ℕ))) → cs ≡ [] → hs ≡ [] → es ≡ [] → Belongs texts cs hs es
 none_belong texts none cs hs es a b c = record {
   documents = subst (λ (xs : List code.Document). AreDocuments (entries texts) xs) (sym a) (subst (λ (ds : List (List ℕ × Document)). AreDocuments ds []) (sym none) tt);
   heads = subst (λ (xs : List Head). AreHeadsIn (length cs) xs) (sym b) (λ n h at. absurd cc);
   errors = subst (λ (xs : List (Option (At × ℕ))). AreErrorsIn (length cs) xs) (sym c) (λ n p code at. absurd cc);
+  units = λ rs are.
+      let no_reads : rs ≡ [] = nothing_read rs (subst (λ (ds : List (List ℕ × Document)). AreReadAs ds rs) none are) in
+      subst (λ (xs : List Read). AreUnitsIn xs cs hs es) (sym no_reads) (subst (λ (xs : List code.Document). AreUnitsIn [] xs hs es) (sym a)
+      (subst (λ (xs : List Head). AreUnitsIn [] [] xs es) (sym b) (subst (λ (xs : List (Option (At × ℕ))). AreUnitsIn [] [] [] xs) (sym c) none_in)));
 }
 
 -- nothing belongs to no documents

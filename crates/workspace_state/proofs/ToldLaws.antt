@@ -1,16 +1,20 @@
 -- What is found, and the diagnostics that it is.
-use Rattle.std.proofs.Common.{◌≡◌, ℕ, List, [], ◌∷◌, ◌++◌, append-nil, append_assoc, Option, Some, None, refl, sym, ap, ◌∙◌}
+use Rattle.std.proofs.Common.{◌≡◌, ℕ, zero, suc, drop, Bool, true, false, cond, List, [], ◌∷◌, ◌++◌, append-nil, append_assoc, Option, Some, None, refl, sym, ap, ◌∙◌, map, slice_get}
 use Rattle.std.specs.Prelude.{codes, reverse}
 use Rattle.std.specs.Option.{option_map}
 use Rattle.std.proofs.lemmas.List.{reverse-append}
 use Rattle.std.proofs.lemmas.List.Concat.{flat_map-append}
+use Rattle.std.proofs.lemmas.Option.{same_Some}
+use Rattle.scheme_model.specs.Program.{ExportFault, NotDefined, SameExport}
+use Rattle.core_tree.specs.Units.{export_errors}
 use Rattle.scheme_model.specs.declared.Occ.{Occ}
 use Rattle.scheme_model.specs.Diagnostics.{Diagnostic, Bytes, at_bytes, at_name, clash_diagnostics}
 use Rattle.workspace_state.specs.declared.findings.At.{At}
 use Rattle.workspace_state.specs.declared.findings.Finding.{Finding}
-use Rattle.workspace_state.specs.Found.{told, told_at, all_told}
+use Rattle.workspace_state.specs.Found.{told, told_at, all_told, errors_in, error_by, is_error}
 use Rattle.workspace_state.specs.Places.{bytes_at}
 use Rattle.workspace_state.specs.Wording.{front}
+use Rattle.workspace_state.proofs.DiagnosedLaws.{errors_both}
 
 -- one more
 pub told_more : (fs new : List Finding) (f : Finding) (at : Option At) (code : ℕ) (text : List ℕ) → new ≡ fs ++ f ∷ [] → f.at ≡ at → f.code ≡ code → f.message ≡ text →
@@ -43,3 +47,26 @@ clash_told b ss rest s old new more is n before =
     ∙ append_assoc old (at_bytes b 52 (codes "import clash " ++ (s ++ [])) ∷ []) (clash_diagnostics b (reverse rest))
     ∙ ap (λ (t : List ℕ). old ++ at_bytes b 52 (codes "import clash " ++ t) ∷ clash_diagnostics b (reverse rest)) (append-nil s)
     ∙ ap (λ (ts : List (List ℕ)). old ++ clash_diagnostics b ts) (sym (ap reverse is ∙ reverse-append rest (s ∷ []))) ∙ before
+
+-- ---- Errors
+
+pub error_more : (fs new : List Finding) (f : Finding) (code form : ℕ) → new ≡ fs ++ f ∷ [] → f.code ≡ code → f.form ≡ form → errors_in new ≡ errors_in fs ++ error_by code form
+error_more fs new f code form is c m = ap errors_in is ∙ (errors_both fs (f ∷ []) ∙ (ap (λ (es : List (ℕ × ℕ)). errors_in fs ++ es) (one (is_error f.code)) ∙ (λ j. errors_in fs ++ error_by (c j) (m j))))
+  where
+    one : (b : Bool) → map {B = ℕ × ℕ} (λ (g : Finding). (g.code, g.form)) (cond b (f ∷ []) []) ≡ cond b ((f.code, f.form) ∷ []) []
+    one true = refl
+    one false = refl
+
+-- the Errors of exports, one more
+pub export_error_next : (gs : List ExportFault) (i j : ℕ) (g : ExportFault) (now new all : List (ℕ × ℕ)) → j ≡ suc i → slice_get gs i ≡ Some g → new ≡ now ++ export_errors (g ∷ []) → now ++ export_errors (drop i gs) ≡ all → new ++ export_errors (drop j gs) ≡ all
+export_error_next gs i j g now new all next at one so =
+    (λ k. one k ++ export_errors (drop (next k) gs)) ∙ (append_assoc now (export_errors (g ∷ [])) (export_errors (drop (suc i) gs)) ∙ (ap (λ (es : List (ℕ × ℕ)). now ++ es) (parted g (drop (suc i) gs) ∙ ap export_errors (sym (dropped gs i at))) ∙ so))
+  where
+    parted : (g : ExportFault) (rest : List ExportFault) → export_errors (g ∷ []) ++ export_errors rest ≡ export_errors (g ∷ rest)
+    parted (NotDefined x) rest = refl
+    parted (SameExport x) rest = refl
+
+    dropped : (gs : List ExportFault) (i : ℕ) → slice_get gs i ≡ Some g → drop i gs ≡ g ∷ drop (suc i) gs
+    dropped [] i h = absurd cc
+    dropped (x ∷ gs) zero h = ap (λ (y : ExportFault). y ∷ gs) (same_Some x g h)
+    dropped (x ∷ gs) (suc i) h = dropped gs i h

@@ -37,7 +37,7 @@ use Rattle.workspace_state.proofs.UpTo.{test, other_result, own_result, imports_
 
 -- ---- faults
 
-no_result : (o : Option UnitResult) → is_some o ≡ false → o ≡ None
+pub no_result : (o : Option UnitResult) → is_some o ≡ false → o ≡ None
 no_result None h = refl
 no_result (Some r) h = absurd cc
 
@@ -48,7 +48,7 @@ told_none (Some e) f is h = go (ap (λ (v : Option WholeFault). is_there v) (sym
     go : true ≡ false → Some e ≡ None
     go k = absurd cc
 
-told_some : (o : Option model.WholeFault) (f : Option WholeFault) → f ≡ option_map told o → is_there f ≡ true → (e : model.WholeFault) × (o ≡ Some e)
+pub told_some : (o : Option model.WholeFault) (f : Option WholeFault) → f ≡ option_map told o → is_there f ≡ true → (e : model.WholeFault) × (o ≡ Some e)
 told_some None f is h = go (ap (λ (v : Option WholeFault). is_there v) (sym is) ∙ h)
   where
     go : false ≡ true → (e : model.WholeFault) × (None ≡ Some e)
@@ -143,7 +143,7 @@ module _ (spelled : LibraryName → List ℕ) (us : List Placed) (known : Known)
   abbrev p : Prepared
   p = prepared us n turn.unit
 
-  before : hd.fault ≡ option_map told (fault_before us (prepare us 0 us) p)
+  pub before : hd.fault ≡ option_map told (fault_before us (prepare us 0 us) p)
   before = up.heads n turn.unit hd turn.there place ∙ ap (λ (o : Option UnitResult). option_map told (fault_by us o p)) (no_result (result_at g.results n) turn.fresh)
 
   pub broken_next : is_there hd.fault ≡ true → IsUpTo spelled us known (x ++ n ∷ []) b units es
@@ -187,7 +187,7 @@ module _ (spelled : LibraryName → List ℕ) (us : List Placed) (known : Known)
     abbrev k : ScopedProgress
     k = after_unit p imports entry g.results gone
 
-    reaches : scoped_at us known (x ++ n ∷ []) ≡ k
+    pub reaches : scoped_at us known (x ++ n ∷ []) ≡ k
     reaches = turn_expanded us known x n turn none_before ∙ ap (after_unit p imports entry g.results) searched
 
     abbrev r : UnitResult
@@ -197,16 +197,16 @@ module _ (spelled : LibraryName → List ℕ) (us : List Placed) (known : Known)
     unit_of table None = refl
     unit_of table (Some fs) = refl
 
-    is : r.unit ≡ p
+    pub is : r.unit ≡ p
     is = unit_of gone.1.table gone.0
 
     ready : r.fault ≡ None → model.all_done g.results r.unit.imports ≡ true
     ready none = subst (λ (q : Prepared). model.all_done g.results q.imports ≡ true) (sym is) (imports_done us known x n turn none_before)
 
-    own : r.unit.number ≡ n
+    pub own : r.unit.number ≡ n
     own = ap (λ (q : Prepared). q.number) is
 
-    front : InFront (IsOfUnit n) g.table gone.1.table
+    pub front : InFront (IsOfUnit n) g.table gone.1.table
     front = (searched_goes known p (scoped_start_of p g entry)).table
 
     pub expanded_next : (c : Bench) (v : Units) (came : Option Expanded) → Knows c.scope.libraries known → HaveCome us g c.work es → Expands us known c g p imports came → v.sources ≡ units.sources →

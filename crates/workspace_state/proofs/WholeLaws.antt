@@ -1,14 +1,17 @@
 -- What is found of a unit that is broken as a whole tells the definition's diagnostic.
-use Rattle.std.proofs.Common.{◌≡◌, ℕ, List, [], ◌∷◌, map, Bool, true, cond, Some, refl, sym, ap, ◌∙◌, subst}
+use Rattle.std.proofs.Common.{◌≡◌, ℕ, List, [], ◌∷◌, map, Bool, true, cond, Option, Some, refl, sym, ap, ◌∙◌, subst}
 use Rattle.scheme_model.specs.Program as model
 use Rattle.scheme_model.specs.Program.{Prepared}
-use Rattle.scheme_model.specs.Diagnostics.{Span, Bytes, Diagnostic, at_bytes, unit_start, whole_fault}
-use Rattle.core_tree.specs.Units.{whole_code}
+use Rattle.scheme_model.specs.Diagnostics.{Span, Bytes, Diagnostic, at_bytes, unit_diagnostics, unit_start, whole_fault}
+use Rattle.core_tree.specs.Units.{unit_errors, whole_code}
 use Rattle.workspace_state.specs.declared.breaking.WholeFault.{WholeFault}
 use Rattle.workspace_state.specs.declared.breaking.WholeFault.TheVariants as code
 use Rattle.workspace_state.specs.declared.findings.At.{At}
 use Rattle.workspace_state.specs.declared.findings.Finding.{Finding}
-use Rattle.workspace_state.specs.Places.{bytes_at}
+use Rattle.workspace_state.specs.Broken.{told as told_of}
+use Rattle.workspace_state.specs.Places.{bytes_at, spans_of}
+use Rattle.workspace_state.specs.Readings.{Read}
+use Rattle.workspace_state.specs.UnitsFound.{IsFoundOf}
 use Rattle.workspace_state.specs.Wording.{worded}
 use Rattle.workspace_state.specs.Found.{diagnostic, told, all_told, is_error, errors_in}
 use Rattle.workspace_state.specs.Diagnosed.{Adds, IsWhole, whole_at, whole_number}
@@ -84,3 +87,19 @@ whole_adds spans p start fault f e is found same = record {
   where
     found_as : Finding
     found_as = record { at = Some (whole_at start fault); form = 0; code = whole_number fault; message = worded (whole_number fault) [] }
+
+-- ---- broken units of a program
+
+-- a fault is told as it is
+pub whole_of : (f : model.WholeFault) → IsWhole (told_of f) f
+whole_of model.TooMany = tt
+whole_of (model.BadDeclaration d) = (refl, refl)
+whole_of model.DefinedTwice = tt
+whole_of model.ImportCycle = tt
+whole_of model.TooLarge = tt
+
+pub whole_found : (rs : List Read) (p : model.Program) (r : model.UnitResult) (f : model.WholeFault) (fs : List Finding) → r.fault ≡ Some f → Adds [] fs (whole_fault (spans_of rs) r.unit f ∷ []) ((whole_code f, 0) ∷ []) → IsFoundOf rs p r fs
+whole_found rs p r f fs e h = record {
+  told = h.told ∙ ap (λ o. unit_diagnostics (spans_of rs) p r o) (sym e);
+  errors = h.errors ∙ ap (λ (o : Option model.WholeFault). unit_errors (record { unit = r.unit; fault = o; sets = r.sets; entries = r.entries; forms = r.forms; exports = r.exports; export_faults = r.export_faults })) (sym e);
+}

@@ -1,10 +1,8 @@
 -- What forms define, by the numbers of its identifiers.
-use Rattle.std.specs.Prelude.{◌≡◌, ℕ, ◌<◌, ◌==◌, List, [], ◌∷◌, ◌++◌, length, slice_get, codes, Option, Some, None, if◌then◌else◌}
+use Rattle.std.specs.Prelude.{◌≡◌, ℕ, ◌<◌, ◌==◌, List, [], ◌∷◌, length, slice_get, Option, Some, None, if◌then◌else◌}
 use Rattle.std.specs.List.{flat_map}
-use Rattle.scheme_model.specs.declared.Occ.{Occ}
 use Rattle.scheme_model.specs.Ident.{Ident as Identifier, Written, Inserted}
 use Rattle.scheme_model.specs.Entries as model
-use Rattle.scheme_model.specs.Diagnostics.{Diagnostic, Bytes, at_bytes, or_start}
 use Rattle.syntax_tree.specs.Names.{Names}
 use Rattle.syntax_tree.specs.Meant.{AreEntries}
 use Rattle.syntax_tree.specs.declared.meaning.Meaning.TheVariants as code
@@ -39,18 +37,17 @@ symbol_at unit (Some i) = symbol_in unit i
 abbrev pub named_all : Names → ℕ → List (ℕ × Binder) → List Entry
 named_all names unit bs = flat_map (λ b. named_as unit b.1 (symbol_at unit (slice_get names.idents b.1.ident))) bs
 
+-- the imported name that an identifier hides, which is written
+abbrev pub hidden_in : List Entry → Identifier → Option (List ℕ)
+hidden_in es (Written u s) = if has_name es s then Some s else None
+hidden_in es (Inserted i k) = None
+
+abbrev pub hidden_at : List Entry → Option Identifier → Option (List ℕ)
+hidden_at es None = None
+hidden_at es (Some i) = hidden_in es i
+
 -- names that stand for entries among which each name is found
 pub record FindsNames (names : Names) (es : List Entry) (find : List ℕ → Option model.Entry) : Type 0 where
   pub stand : List model.Entry
   pub are : AreEntries names es stand
   pub finds : (s : List ℕ) → find s ≡ model.entry_at stand s
-
--- the name of a symbol that entries have
-abbrev pub if_named : List Entry → Option (List ℕ) → Option (List ℕ)
-if_named es None = None
-if_named es (Some s) = if has_name es s then Some s else None
-
--- what is told of a definition that hides this name
-abbrev pub told_hiding : (Occ → Bytes) → (unit form : ℕ) → Option Occ → Option (List ℕ) → List Diagnostic
-told_hiding bytes unit form occ None = []
-told_hiding bytes unit form occ (Some s) = at_bytes (bytes (or_start unit form occ)) 101 (codes "definition hides import " ++ s) ∷ []

@@ -1,5 +1,6 @@
 -- What the code finds in forms, beside the definition's diagnostics and Errors.
-use Rattle.std.specs.Prelude.{◌≡◌, ℕ, suc, List, [], ◌∷◌, ◌++◌, Option, Some, None, Result, Ok, Err, codes}
+use Rattle.std.specs.Prelude.{◌≡◌, ℕ, List, [], ◌∷◌, ◌++◌, Option, Some, None, Result, Ok, Err, codes}
+use Rattle.std.specs.BTreeMap.{BTreeMap}
 use Rattle.scheme_model.specs.declared.Occ.{Occ}
 use Rattle.scheme_model.specs.Ident.{Ident, symbol_of}
 use Rattle.scheme_model.specs.ExpansionFaults.{Named, Fault, fault_code, fault_name}
@@ -15,8 +16,8 @@ use Rattle.workspace_state.specs.declared.breaking.WholeFault.{WholeFault}
 use Rattle.workspace_state.specs.declared.breaking.WholeFault.TheVariants as code
 use Rattle.workspace_state.specs.declared.findings.At.{At}
 use Rattle.workspace_state.specs.declared.findings.Finding.{Finding}
+use Rattle.workspace_state.specs.declared.documents.Document.{Document}
 use Rattle.workspace_state.specs.declared.documents.Unread.{Unread}
-use Rattle.workspace_state.specs.Readings.{Read, Reads, Stops}
 use Rattle.workspace_state.specs.Wording.{worded}
 use Rattle.workspace_state.specs.Found.{all_told, errors_in}
 
@@ -70,6 +71,13 @@ free_found bytes (Free s) (Some o) = record { at = Some (at_of (bytes o)); form 
 abbrev pub unbound_found : (Occ → Bytes) → Target → List Finding
 unbound_found bytes t = free_found bytes t.meaning t.occ
 
+-- ---- what hides an import
+
+-- the finding of a definition that hides this name, where it hides one
+abbrev pub hidden_found : (Occ → Bytes) → (unit form : ℕ) → Option Occ → Option (List ℕ) → List Finding
+hidden_found bytes unit form occ None = []
+hidden_found bytes unit form occ (Some s) = record { at = Some (at_of (bytes (or_start unit form occ))); form = form; code = 101; message = worded 101 s } ∷ []
+
 -- ---- units
 
 -- why a unit is broken as a whole, as the definition says it
@@ -117,16 +125,11 @@ whole_at start code.TooLarge = start
 
 -- ---- documents
 
--- where a document doesn't read, if it doesn't
-abbrev pub stop_found : ℕ → Read → List Finding
-stop_found place (Reads ds spans) = []
-stop_found place (Stops f) = record { at = Some (record { document = place; span = record { start = f.start; end = f.end } }); form = 0; code = f.number; message = worded f.number [] } ∷ []
+-- a document that doesn't read has that alone, and another keeps what it has
+abbrev pub TellsStop : Option Unread → (old new : BTreeMap (ℕ × ℕ × List ℕ) ℕ) → Type 0
+TellsStop None old new = new ≡ old
+TellsStop (Some u) old new = new.entries ≡ ((u.span.start, u.number, worded u.number []), u.span.end) ∷ []
 
-abbrev pub stops_found : ℕ → List Read → List Finding
-stops_found place [] = []
-stops_found place (r ∷ rs) = stop_found place r ++ stops_found (suc place) rs
-
--- the same by the fault that the code keeps
-abbrev pub unread_found : ℕ → Option Unread → List Finding
-unread_found place None = []
-unread_found place (Some u) = record { at = Some (record { document = place; span = u.span }); form = 0; code = u.number; message = worded u.number [] } ∷ []
+abbrev pub TellsStopOf : Option Document → (old new : BTreeMap (ℕ × ℕ × List ℕ) ℕ) → Type 0
+TellsStopOf None old new = Unit {0}
+TellsStopOf (Some c) old new = TellsStop c.fault old new

@@ -32,9 +32,9 @@ is_error code = nat_lt code 100
 abbrev pub errors_in : List Finding → List (ℕ × ℕ)
 errors_in fs = map (λ f. (f.code, f.form)) (filter (λ f. is_error f.code) fs)
 
--- a finding's Error, unless it is a warning
-abbrev pub error_at : (code form : ℕ) → List (ℕ × ℕ)
-error_at code form = if is_error code then (code, form) ∷ [] else []
+-- one with a code and a form, where it is an Error
+abbrev pub error_by : (code form : ℕ) → List (ℕ × ℕ)
+error_by code form = if is_error code then (code, form) ∷ [] else []
 
 -- the first of diagnostics: its place and its code
 abbrev pub first_of : List Diagnostic → Option (At × ℕ)

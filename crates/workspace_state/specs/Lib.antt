@@ -1,6 +1,5 @@
 pub mod Readings  -- How the open documents are read (R7RS 7.1.2), and the program that they are (R7RS 5)
 pub mod Found  -- What is found wrong as the definition's diagnostics, and how the code keeps those of each document
-pub mod Placed  -- Places of the open documents, at positions of an encoding (LSP 3.17, Range)
 pub mod Formed  -- Units that were expanded, whose forms stand for something of the definitions (R7RS 5.1)
 pub mod Expansions  -- A program with the trees that it is over
 pub mod Ends  -- Where work on a unit ends, state by state, and how its forms are numbered (R7RS 5.1, 5.3)
@@ -12,6 +11,7 @@ pub mod Stored  -- Documents of a store, one by one, and what it refuses
 pub mod WereRead  -- Forms of units that were read from texts
 pub mod Changed  -- A list in which each item becomes another at its place
 pub mod Places  -- The places of units and of their tokens, as the code keeps them
+pub mod Placed  -- Places of the open documents, at positions of an encoding (LSP 3.17, Range)
 pub mod UnitsExpanded  -- What units came to, as far as it is sure whatever the units are
 pub mod Broken  -- Units that break as a whole, and what stays of units meanwhile
 pub mod Libraries  -- Libraries by their names, and the entries that they give (R7RS 5.2, 5.6.1)
@@ -23,7 +23,6 @@ pub mod Defined  -- What forms define, by the numbers of its identifiers
 pub mod Unbound  -- References and assignments that mean nothing, in cores of the code and of the definition (R7RS 4.1.1)
 pub mod Sound  -- The units as they are listed
 pub mod DataRead  -- Data of documents that were read from texts
-pub mod Belongs  -- What belongs to the open documents
 pub mod Listings  -- The diagnostics of a document, where it has some
 pub mod Kept  -- Whether a document is kept whose change is refused
 pub mod Events  -- Events of the workspace as events of its store (LSP 3.17, text synchronisation)
@@ -33,5 +32,9 @@ pub mod Updates  -- The lists of documents, and which of them are published afte
 pub mod Diagnosed  -- What the code finds in forms, beside the definition's diagnostics and Errors
 pub mod Came  -- What units come to by the definition of a program, and what the bench stands for between two of them (R7RS 5.1, 5.6)
 pub mod Collected  -- The units of a program as they are put together, each by its head and what it came to
+pub mod UnitsFound  -- What is found wrong in units, as the definition's diagnostics and Errors of the program that they come to (R7RS 5.1, 5.6)
+pub mod Belongs  -- What belongs to the open documents
 pub mod KnownNames  -- The libraries that there are, by the texts of their names (R7RS 4.2.1, 5.6.1)
 pub mod UnitsListed  -- The units of the documents as they are listed (R7RS 5.1, 5.6)
+pub mod ProgramOfTexts  -- The program of the open documents, as the code has it (R7RS 5)
+pub mod State  -- A workspace as contracts see it

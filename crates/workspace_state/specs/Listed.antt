@@ -51,16 +51,6 @@ found_of rs place r = found_in (diagnostics_of (map spans_in rs) (program_in rs)
 abbrev pub AreFoundOf : List Read → List (BTreeMap (ℕ × ℕ × List ℕ) ℕ) → Type 0
 AreFoundOf rs ms = (n : ℕ) (m : BTreeMap (ℕ × ℕ × List ℕ) ℕ) (r : Read) → slice_get ms n ≡ Some m → slice_get rs n ≡ Some r → m.entries ≡ map kept (found_of rs n r)
 
--- those of the documents that don't read, the first of which has this place
-abbrev pub stops_told : ℕ → List Read → List Diagnostic
-stops_told place [] = []
-stops_told place (Reads ds spans ∷ rs) = stops_told (suc place) rs
-stops_told place (Stops f ∷ rs) = of_stop place f ∷ stops_told (suc place) rs
-
--- what is wrong in the program stands in documents that read
-abbrev pub NoneUnread : List Read → Type 0
-NoneUnread rs = (n : ℕ) (f : Stop) → slice_get rs n ≡ Some (Stops f) → in_document n (all_diagnostics (map spans_in rs) (program_in rs) (program_in rs).units) ≡ []
-
 -- a list, with the uri and the document that it is of
 pub record Listed : Type 0 where
   pub uri : List ℕ

@@ -35,6 +35,10 @@ pub record SameHead (h g : Head) : Type 0 where
 abbrev pub HeadsStay : List Head → List Head → Type 0
 HeadsStay old new = Changes (λ n. SameHead) old new
 
+-- units keep their libraries' names and what they import
+abbrev pub NamesKept : List Head → List Head → Type 0
+NamesKept old new = Changes (λ n h g. (g.name ≡ h.name) × (g.imports ≡ h.imports)) old new
+
 -- bytes of one of so many documents, where there are any
 abbrev pub IsAtIn : ℕ → Option code_at.At → Type 0
 IsAtIn count at = (a : code_at.At) → at ≡ Some a → a.document < count

@@ -1,6 +1,6 @@
 -- What the import sets of a unit come to (R7RS 5.2, 5.6.1), as the code keeps it: the libraries that were expanded, entries and
 -- faults, each as the definition's.
-use Rattle.std.specs.Prelude.{◌≡◌, ℕ, ◌<◌, ◌≤◌, ◌^◌, List, length, slice_get, Option, Some, None, Ok}
+use Rattle.std.specs.Prelude.{◌≡◌, ℕ, List, slice_get, Option, Some, None, Ok}
 use Rattle.std.specs.BTreeMap.{get_by_text}
 use Rattle.scheme_model.specs.Requirements.{LibraryName}
 use Rattle.scheme_model.specs.StandardLibraries.{standard}
@@ -17,7 +17,6 @@ use Rattle.import_sets.specs.declared.fault.ImportFault as code_fault
 use Rattle.import_sets.specs.declared.fault.ImportFault.TheVariants as fault
 use Rattle.base_library.specs.Texts.{SpellsStandard}
 use Rattle.library_table.specs.declared.units.ImportSpec as code_import
-use Rattle.library_table.specs.declared.units.UnitForm as code_form
 use Rattle.library_table.specs.declared.units.UnitSource as code_source
 use Rattle.workspace_state.specs.declared.expanding.Expanded.{Expanded}
 use Rattle.workspace_state.specs.declared.entries.Libraries as code
@@ -81,16 +80,3 @@ ComesTo names (gives.Faulty e) after = (f : model.ImportFault) × IsSetFault e f
 -- what a set adds to the entries of those before it
 abbrev pub with_set : List Placed → List UnitResult → model.ImportSet → List model.Entry → List model.Entry × SetResult
 with_set all rs s before = of_library all rs before s (model.library_in s)
-
--- ---- forms
-
--- bytes stand in the form with a number: it is the last that begins by there
-pub record IsInForm (fs : List code_form.UnitForm) (start n : ℕ) : Type 0 where
-  pub few : n < 2 ^ 32
-  pub there : n < length fs
-  pub before : (k : ℕ) (f : code_form.UnitForm) → k ≤ n → slice_get fs k ≡ Some f → f.datum.span.start ≤ start
-  pub behind : (k : ℕ) (f : code_form.UnitForm) → n < k → slice_get fs k ≡ Some f → start < f.datum.span.start
-
--- each import set stands in the form with its number
-abbrev pub AreInForms : code_source.UnitSource → List ℕ → Type 0
-AreInForms c forms = AllMatch (λ (s : code_import.ImportSpec) n. IsInForm c.forms s.span.start n) c.imports forms

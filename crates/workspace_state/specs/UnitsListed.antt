@@ -1,11 +1,14 @@
 -- The units of the documents as they are listed (R7RS 5.1, 5.6): what each is by what was read, before it is known of the others.
-use Rattle.std.specs.Prelude.{◌≡◌, ℕ, List, [], ◌++◌, map, take, length, slice_get, Option, Some, None}
+use Rattle.std.specs.Prelude.{◌≡◌, ℕ, List, [], ◌∷◌, ◌++◌, map, take, length, slice_get, Option, Some, None}
 use Rattle.std.specs.Option.{option_map}
+use Rattle.ls_base.specs.declared.places.Span.{Span}
+use Rattle.scheme_model.specs.Data.{place_of}
 use Rattle.scheme_model.specs.Requirements.{LibraryName}
 use Rattle.scheme_model.specs.Declarations as source
-use Rattle.scheme_model.specs.Program.{Placed, prepared, name_if, max_units, declared_fault}
+use Rattle.scheme_model.specs.Program.{Placed, prepared, name_if, max_units, declared_fault, forms_or_none}
 use Rattle.scheme_tokens.specs.LibraryNames.{library_text, IsProper}
 use Rattle.core_tree.specs.Units.{kind_as}
+use Rattle.datum_reader.specs.FirstTokens.{first_token, opening, span_of}
 use Rattle.library_table.specs.Sources.{AreUnits}
 use Rattle.library_table.specs.UnitsRead.{forms_of}
 use Rattle.library_table.specs.declared.units.UnitSource.{UnitSource}
@@ -21,6 +24,20 @@ use Rattle.workspace_state.specs.WereRead.{FormsRead}
 abbrev pub WritesProper : (LibraryName → List ℕ) → Type 0
 WritesProper spelled = (n : LibraryName) → IsProper n → spelled n ≡ library_text n
 
+-- ---- first tokens
+
+abbrev pub form_token : List source.UnitForm → Span
+form_token [] = record { start = 0; end = 0 }
+form_token (f ∷ fs) = first_token f.datum
+
+-- the bytes of a unit's first token: a library's parenthesis, or the first token of a program's first form
+abbrev pub token_by : source.UnitKind → source.UnitSource → Span
+token_by source.IsLibrary u = opening 1 (span_of u.start)
+token_by source.IsProgram u = form_token (forms_or_none u.forms)
+
+abbrev pub unit_token : source.UnitSource → Span
+unit_token u = token_by u.kind u
+
 -- ---- one unit
 
 -- the unit for a place was read: this is its library's name, its source, and what breaks it whatever the others are
@@ -29,6 +46,7 @@ pub record IsReadAt (spelled : LibraryName → List ℕ) (n : ℕ) (u : source.U
   pub spells : declared_fault u.forms None ≡ None → called ≡ option_map spelled u.name
   pub bad : broken ≡ option_map told (declared_fault u.forms None)
   pub named : c.name ≡ option_map spelled (name_if 0 u)
+  pub span : c.span ≡ unit_token u
   pub source : IsSourceOf spelled (prepared [] n (record { document = 0; source = u })) None c
   pub read : FormsRead (forms_of c.forms)
 
@@ -49,6 +67,8 @@ pub record IsToldBy (u : Placed) (h : Head) : Type 0 where
   pub document : h.document ≡ u.document
   pub kind : kind_as h.kind ≡ u.source.kind
   pub name : h.name ≡ option_map library_text u.source.name
+  pub span : h.span ≡ unit_token u.source
+  pub firsts : h.firsts.items ≡ map (λ f. (place_of f.datum).first) (forms_or_none u.source.forms)
 
 pub record IsOne (spelled : LibraryName → List ℕ) (n : ℕ) (u : Placed) (h : Head) (c : UnitSource) : Type 0 where
   pub told : IsToldBy u h

@@ -1,5 +1,5 @@
 //! What the forms of a unit define (R7RS 5.3), and which of these hide an import.
-ghost use Rattle.std.specs.Prelude.{◌≡◌, ◌<◌, ◌++◌, ℕ, List, map, reverse, length, slice_get, Some, OnOk, IfOk};
+ghost use Rattle.std.specs.Prelude.{◌≡◌, ◌<◌, ◌++◌, ℕ, List, [], map, reverse, length, slice_get, Some, OnOk, IfOk};
 ghost use Rattle.std.specs.Option.{option_map};
 ghost use Rattle.scheme_model.specs.Ident.{Ident as Identifier};
 ghost use Rattle.scheme_model.specs.Entries as model;
@@ -9,13 +9,12 @@ ghost use Rattle.scheme_model.specs.Substitution.{Table};
 ghost use Rattle.syntax_tree.specs.Names.{Names};
 ghost use Rattle.syntax_tree.specs.Meant.{AreEntries};
 ghost use Rattle.core_tree.specs.Units.{AreDefinitions, defined_by, definitions_from};
-ghost use Rattle.workspace_state.specs.Defined.{AreKnown, FindsNames, if_named, named_all, named_as, symbol_at, symbol_in, told_hiding, written_symbol};
-ghost use Rattle.workspace_state.specs.Found.{all_told};
+ghost use Rattle.workspace_state.specs.Defined.{AreKnown, FindsNames, hidden_at, named_all, named_as, symbol_at, symbol_in, written_symbol};
+ghost use Rattle.workspace_state.specs.Diagnosed.{Adds, hidden_found};
 ghost use Rattle.workspace_state.specs.Libraries.{HaveMeaning};
 ghost use Rattle.workspace_state.specs.Places.{AreFoundIn, ArePlaces, CanPlace, spans_of};
 ghost use Rattle.workspace_state.specs.Readings.{Read};
 
-use crate::entries::add_found;
 use crate::findings::Finding;
 use crate::joining::{Joined, own_origin};
 use crate::places::Places;
@@ -165,50 +164,51 @@ pub fn add_hiding(
     requires documents { 0 < length places.documents.now }
     requires places { CanPlace places }
     ensures inside { AreFoundIn (length places.entry.documents.now) findings.old.items → OnOk result (AreFoundIn (length places.entry.documents.now) findings.new.items) }
-    ensures told { (table : Table) → AreDefinitions symbols.now (reverse defined.now) (defined_by unit table) →
-        (es : List model.Entry) → AreEntries symbols.now joined.now.entries.items es →
-        (reads : List Read) → (us : List UnitResult) → ArePlaces places.entry reads us → OnOk result (all_told findings.new.items
-        ≡ all_told findings.old.items ++ hiding_diagnostics (bytes_of (spans_of reads) us) unit es table) }
+    ensures exact { (rs : List Read) (us : List UnitResult) (table : Table) (es : List model.Entry) → ArePlaces places.entry rs us → AreDefinitions symbols.now (reverse defined.now) (defined_by unit table) →
+        AreEntries symbols.now joined.now.entries.items es → OnOk result (Adds findings.old.items findings.new.items (hiding_diagnostics (bytes_of (spans_of rs) us) unit es table) []) }
 {
-    for definition in defined.iter().rev() {
-        add_hidden(alloc, symbols, places, unit, *definition, joined, findings)?;
+    for (form, binder) in defined.iter().rev() {
+        add_hidden(
+            alloc, symbols, places, unit, *form, *binder, joined, findings,
+        )?;
     }
     Ok(())
 }
 
-/// Adds a definition with its form, if it hides an import.
+/// Adds a definition, if it hides an import.
 fn add_hidden(
     alloc: Global,
     symbols: &Symbols,
     places: Places<'_>,
     unit: u32,
-    definition: (u32, Binder),
+    form: u32,
+    binder: Binder,
     joined: &Joined,
     findings: &mut Vec<Finding>,
 ) -> Mem<()>
-    requires known { definition.1.ident < length symbols.now.idents }
+    requires known { binder.ident < length symbols.now.idents }
     requires documents { 0 < length places.documents.now }
     requires places { CanPlace places }
     ensures inside { AreFoundIn (length places.entry.documents.now) findings.old.items → OnOk result (AreFoundIn (length places.entry.documents.now) findings.new.items) }
-    ensures told { (i : Identifier) → slice_get symbols.now.idents definition.1.ident ≡ Some i →
-        (reads : List Read) → (us : List UnitResult) → ArePlaces places.entry reads us → OnOk result (all_told findings.new.items
-        ≡ all_told findings.old.items
-        ++ told_hiding (bytes_of (spans_of reads) us) unit definition.0 definition.1.occ (if_named joined.now.entries.items (written_symbol i))) }
+    ensures exact { (rs : List Read) (us : List UnitResult) → ArePlaces places.entry rs us → OnOk result (findings.new.items
+        ≡ findings.old.items ++ hidden_found (bytes_of (spans_of rs) us) unit form binder.occ (hidden_at joined.now.entries.items (slice_get symbols.now.idents binder.ident))) }
 {
-    let (form, binder) = definition;
     let Some(name) = hidden(symbols, joined, binder) else {
         return Ok(());
     };
-    let at = places.at_or_form(binder.occ, unit, form);
-    Ok(add_found(alloc, findings, Some(at), form, 101, name)?)
+    let spot = places.at_or_form(binder.occ, unit, form);
+    let finding = Finding::new(alloc, Some(spot), form, 101, name)?;
+    findings.push(finding)?;
+    Ok(())
 }
 
 /// The imported name that a definition hides, where it hides one.
 fn hidden<'a>(symbols: &'a Symbols, joined: &Joined, binder: Binder) -> Option<&'a str>
     requires { binder.ident < length symbols.now.idents }
-    ensures { (i : Identifier) → slice_get symbols.now.idents binder.ident ≡ Some i →
-        option_map (λ s. s.now) result ≡ if_named joined.now.entries.items (written_symbol i) }
+    ensures { option_map (λ s. s.now) result ≡ hidden_at joined.now.entries.items (slice_get symbols.now.idents binder.ident) }
 {
-    let name = written(symbols, binder.ident)?;
+    let Some(name) = written(symbols, binder.ident) else {
+        return None;
+    };
     if joined.has(name) { Some(name) } else { None }
 }

@@ -1,5 +1,5 @@
 //! What is found wrong in the forms of a unit, and in a unit that is broken as a whole.
-ghost use Rattle.std.specs.Prelude.{◌≡◌, ◌<◌, ◌++◌, ◌∷◌, ℕ, List, [], length, slice_get, Some, None, IfOk, OnOk};
+ghost use Rattle.std.specs.Prelude.{◌≡◌, ◌<◌, ◌++◌, ◌∷◌, ℕ, List, [], length, slice_get, vec_len, Some, None, IfOk, OnOk};
 ghost use Rattle.scheme_model.specs.Ident.{Ident as Identifier, symbol_of};
 ghost use Rattle.scheme_model.specs.Steps.{Broken};
 ghost use Rattle.scheme_model.specs.UnitExpansion.{Formed};
@@ -14,26 +14,26 @@ ghost use Rattle.core_tree.specs.declared.traces.FormFault.{FormFault as Fault};
 ghost use Rattle.core_tree.specs.Traces.{IsFault};
 ghost use Rattle.core_tree.specs.Units.{FormsStand, form_errors, whole_code};
 ghost use Rattle.workspace_state.specs.declared.findings.At.{At as Found};
-ghost use Rattle.document_store.specs.Texts.{Document as Entry};
-ghost use Rattle.workspace_state.specs.Readings.{Read, AreReadAs, AreDocuments};
-ghost use Rattle.workspace_state.specs.Found.{all_told};
-ghost use Rattle.workspace_state.specs.Listed.{stops_told};
-ghost use Rattle.workspace_state.specs.Diagnosed.{Adds, IsWhole, fault_names, fault_found, unbound_found, unread_found, whole_at, whole_number};
+ghost use Rattle.workspace_state.specs.Readings.{Read};
+ghost use Rattle.workspace_state.specs.Changed.{Changes};
+ghost use Rattle.workspace_state.specs.Diagnosed.{Adds, IsWhole, fault_names, fault_found, unbound_found, TellsStop, TellsStopOf, whole_at, whole_number};
 ghost use Rattle.workspace_state.specs.Places.{AreFoundIn, ArePlaces, CanPlace, spans_of};
 ghost use Rattle.workspace_state.specs.StandIn.{StandIn};
 ghost use Rattle.workspace_state.specs.Unbound.{IsUnbound};
 
 use crate::breaking::WholeFault;
 use crate::defined::number_of;
-use crate::documents::Document;
-use crate::findings::{At, Finding};
+use crate::documents::{Document, Unread};
+use crate::findings::{At, Finding, Sorted};
 use crate::places::Places;
 use crate::unbound::unbound;
+use crate::wording::message;
 use core_tree::cores::Target;
 use core_tree::traces::FormFault;
 use core_tree::units::UnitForm;
 use ls_base::Mem;
 use std::alloc::Global;
+use std::collections::BTreeMap;
 use syntax_tree::meaning::Meaning;
 use syntax_tree::symbols::{IdNo, Symbols};
 
@@ -204,33 +204,28 @@ fn whole_number(fault: WholeFault) -> u32
     }
 }
 
-/// Where documents can't be read on.
-pub fn unread_findings(alloc: Global, documents: &[Document]) -> Mem<Vec<Finding>>
-    ensures inside { IfOk result (λ findings. AreFoundIn (length documents.now) findings.items) }
-    ensures exact { (ds : List (List ℕ × Entry)) (rs : List Read) → AreDocuments ds documents.now → AreReadAs ds rs → IfOk result (λ findings. all_told findings.items ≡ stops_told 0 rs) }
+/// A document that can't be read on has that alone, whatever else is told of it.
+pub fn tell_unread(alloc: Global, documents: &[Document], findings: &mut Vec<Sorted>) -> Mem<()>
+    requires { vec_len findings.old ≡ length documents.now }
+    ensures { OnOk result (Changes (λ n. TellsStopOf (slice_get documents.now n)) findings.old.items findings.new.items) }
 {
-    let mut findings = Vec::new(alloc);
     for (place, document) in documents.iter().enumerate() {
-        add_unread(alloc, place, document, &mut findings)?;
+        tell_stop(alloc, document.fault, &mut findings[place])?;
     }
-    Ok(findings)
+    Ok(())
 }
 
-/// Adds where a document can't be read on, if it can't.
-fn add_unread(
-    alloc: Global,
-    place: usize,
-    document: &Document,
-    findings: &mut Vec<Finding>,
-) -> Mem<()>
-    ensures inside { (count : ℕ) → place < count → AreFoundIn count findings.old.items → OnOk result (AreFoundIn count findings.new.items) }
-    ensures exact { OnOk result (findings.new.items ≡ findings.old.items ++ unread_found place document.now.fault) }
+/// Where a document can't be read on is its only finding, if it can't.
+fn tell_stop(alloc: Global, fault: Option<Unread>, findings: &mut Sorted) -> Mem<()>
+    ensures { OnOk result (TellsStop fault findings.old findings.new) }
 {
-    if let Some(fault) = document.fault {
-        let spot = At::new(place, fault.span);
-        let code = u32::from(fault.number);
-        let finding = Finding::new(alloc, Some(spot), 0, code, "")?;
-        findings.push(finding)?;
-    }
+    let Some(fault) = fault else {
+        return Ok(());
+    };
+    let code = u32::from(fault.number);
+    let key = (fault.span.start, code, message(alloc, code, "")?);
+    let mut only = BTreeMap::new(alloc);
+    only.insert(key, fault.span.end)?;
+    *findings = only;
     Ok(())
 }

@@ -43,6 +43,7 @@ pub struct Document {
 pub fn read(alloc: Global, store: &Store) -> Mem<Vec<Document>>
     ensures documents { IfOk result (λ documents. AreDocuments (entries store.now) documents.items) }
     ensures read { IfOk result (λ documents. AreReadIn documents.items) }
+    ensures few { IfOk result (λ documents. length (entries store.now) ≤ max_documents) }
 {
     let mut documents = Vec::new(alloc);
     for n in 0..MAX_DOCUMENTS as u32 {

@@ -1,36 +1,42 @@
 //! What a unit imports (R7RS 5.2, 5.6.1), and what is wrong in its import sets.
 #![tactic(auto, using(crate::proofs::MeaningLaws::names_itself, crate::proofs::MeaningLaws::names_on, crate::proofs::MeaningLaws::mean_kept, crate::proofs::ImportLaws::exports_kept, crate::proofs::ImportLaws::groups_kept))]
 
-ghost use Rattle.std.specs.Prelude.{◌≡◌, ◌<◌, ◌&&◌, ◌++◌, ◌∷◌, ℕ, List, [], map, reverse, length, Option, Some, Result, OnOk, IfOk, IfSome};
+ghost use Rattle.std.specs.Prelude.{◌≡◌, ◌<◌, ◌&&◌, ◌++◌, ◌∷◌, ℕ, List, [], codes, map, reverse, length, Option, Some, Result, OnOk, IfOk, IfSome};
 ghost use Rattle.std.specs.List.{zip};
 ghost use Rattle.std.specs.Option.{option_map};
 ghost use Rattle.std.specs.BTreeMap.{get_by_text};
 ghost use Rattle.scheme_model.specs.Requirements.{LibraryName};
+ghost use Rattle.scheme_model.specs.Declarations.{is_headed};
 ghost use Rattle.scheme_model.specs.StandardLibraries.{standard};
 ghost use Rattle.scheme_model.specs.Entries as model;
 ghost use Rattle.scheme_model.specs.Program as program;
-ghost use Rattle.scheme_model.specs.Program.{standard_entry, is_program, is_empty, import_all, unit_entries};
+ghost use Rattle.scheme_model.specs.Program.{standard_entry, is_program, is_empty, import_all, specs_from, specs_in, unit_entries};
 ghost use Rattle.scheme_model.specs.Diagnostics.{Bytes, bytes_of, clash_diagnostics, import_fault, set_diagnostics, unit_at};
 ghost use Rattle.syntax_tree.specs.Names.{Names, KeepsNames};
 ghost use Rattle.syntax_tree.specs.Meant.{AreEntries, IsEntry};
 ghost use Rattle.core_tree.specs.Names.{AllMatch};
-ghost use Rattle.core_tree.specs.Units.{import_code, kind_as, set_errors};
+ghost use Rattle.core_tree.specs.Units.{import_code, kind_as, set_errors, set_forms};
+ghost use Rattle.datum_reader.specs.Views.{datum_of};
+ghost use Rattle.library_table.specs.UnitsRead.{form_of, forms_of};
 ghost use Rattle.import_sets.specs.Sets.{FailsAs, IsSet, IsSetOf, TellsApart};
 ghost use Rattle.workspace_state.specs.Joining.{AreApart, GroupsMean, GroupsStand};
 ghost use Rattle.workspace_state.specs.Libraries.{EachOnce, ExportsMean, HaveMeaning};
-ghost use Rattle.workspace_state.specs.Found.{all_told, error_at, errors_in, told_at};
-ghost use Rattle.workspace_state.specs.Places.{AreFoundIn, ArePlaces, IsAtIn, CanPlace, bytes_at, spans_of};
+ghost use Rattle.workspace_state.specs.Found.{all_told, error_by, errors_in, told_at};
+ghost use Rattle.workspace_state.specs.Places.{AreFoundIn, ArePlaces, IsAtIn, CanPlace, bytes_at, number_at, spans_of};
 ghost use Rattle.workspace_state.specs.Readings.{Read, span_seen};
 ghost use Rattle.workspace_state.specs.Imports.{SetMeans};
-ghost use Rattle.workspace_state.specs.SetsGiven.{AreEntriesIf, AreInForms, AreLibraries, ComesTo, ImportsAs, IsInForm, IsSetFault, IsSpec, exports_at, set_exports, with_set};
+ghost use Rattle.workspace_state.specs.SetsGiven.{AreEntriesIf, AreLibraries, ComesTo, ImportsAs, IsSetFault, IsSpec, exports_at, set_exports, with_set};
 ghost use Rattle.workspace_state.specs.Wording.{worded};
 
 use crate::breaking::{Firsts, library_in};
+use crate::defined::number_of;
 use crate::expanding::Expanded;
 use crate::findings::{At, Finding};
 use crate::joining::{Joined, join_all, origin};
 use crate::places::Places;
 use base_library::standard;
+use datum_reader::Datum;
+use datum_reader::heads::{behind_first, is_headed};
 use import_sets::copy::copy_of_entries;
 use import_sets::firsts::place_for;
 use import_sets::gather::Gathering;
@@ -118,8 +124,8 @@ pub fn given_to(
         (reads : List Read) → (us : List program.UnitResult) → ArePlaces places.entry reads us → (r : program.UnitResult) → unit_at us unit ≡ Some r → r.unit ≡ p →
         IfOk result (λ given. all_told given.findings.items ≡ set_diagnostics (bytes_of (spans_of reads) us) p.placed.document p.specs (unit_entries all rs p).1) }
     ensures errors { (spelled : LibraryName → List ℕ) → (all : List program.Placed) → (rs : List program.UnitResult) →
-        AreLibraries work.old.symbols libraries.entry spelled all rs → (p : program.Prepared) → ImportsAs spelled source.now p → (forms : List ℕ) → AreInForms source.now forms →
-        IfOk result (λ given. errors_in given.findings.items ≡ set_errors (zip forms (unit_entries all rs p).1)) }
+        AreLibraries work.old.symbols libraries.entry spelled all rs → (p : program.Prepared) → ImportsAs spelled source.now p → p.forms ≡ forms_of source.now.forms → p.specs ≡ specs_from p.number 0 p.forms →
+        IfOk result (λ given. errors_in given.findings.items ≡ set_errors (zip (set_forms p.number 0 p.forms) (unit_entries all rs p).1)) }
 {
     let mut findings = Vec::new(alloc);
     let gathering = gathered(
@@ -164,8 +170,8 @@ fn gathered(
         OnOk result (all_told findings.new.items
         ≡ all_told findings.old.items ++ set_diagnostics (bytes_of (spans_of reads) us) p.placed.document p.specs (unit_entries all rs p).1) }
     ensures errors { (spelled : LibraryName → List ℕ) → (all : List program.Placed) → (rs : List program.UnitResult) →
-        AreLibraries symbols.old libraries.entry spelled all rs → (p : program.Prepared) → ImportsAs spelled source.now p → (forms : List ℕ) → AreInForms source.now forms →
-        OnOk result (errors_in findings.new.items ≡ errors_in findings.old.items ++ set_errors (zip forms (unit_entries all rs p).1)) }
+        AreLibraries symbols.old libraries.entry spelled all rs → (p : program.Prepared) → ImportsAs spelled source.now p → p.forms ≡ forms_of source.now.forms → p.specs ≡ specs_from p.number 0 p.forms →
+        OnOk result (errors_in findings.new.items ≡ errors_in findings.old.items ++ set_errors (zip (set_forms p.number 0 p.forms) (unit_entries all rs p).1)) }
 {
     if imports_nothing(source) {
         return Ok(base_given(alloc, symbols)?);
@@ -221,12 +227,14 @@ fn sets_given(
         OnOk result (all_told findings.new.items
         ≡ all_told findings.old.items ++ set_diagnostics (bytes_of (spans_of reads) us) document ss (import_all all rs [] ss).1) }
     ensures errors { (spelled : LibraryName → List ℕ) → (all : List program.Placed) → (rs : List program.UnitResult) →
-        AreLibraries symbols.old libraries.entry spelled all rs → (ss : List program.ImportSpec) → AllMatch (IsSpec spelled) source.now.imports ss → (forms : List ℕ) → AreInForms source.now forms →
-        OnOk result (errors_in findings.new.items ≡ errors_in findings.old.items ++ set_errors (zip forms (import_all all rs [] ss).1)) }
+        AreLibraries symbols.old libraries.entry spelled all rs → (ss : List program.ImportSpec) → AllMatch (IsSpec spelled) source.now.imports ss → (unit : ℕ) → ss ≡ specs_from unit 0 (forms_of source.now.forms) →
+        OnOk result (errors_in findings.new.items ≡ errors_in findings.old.items ++ set_errors (zip (set_forms unit 0 (forms_of source.now.forms)) (import_all all rs [] ss).1)) }
 {
     let mut gathering = Gathering::new(alloc);
-    for spec in source.imports.as_slice() {
-        let form = form_at(source.forms.as_slice(), spec.span.start);
+    let forms = set_forms(alloc, source.forms.as_slice())?;
+    let specs = source.imports.as_slice();
+    for (place, spec) in specs.iter().enumerate() {
+        let form = form_in(forms.as_slice(), place);
         let set = SetAt {
             spec,
             document,
@@ -269,8 +277,7 @@ fn with_set(
         ≡ all_told findings.old.items ++ set_diagnostics (bytes_of (spans_of reads) us) set.entry.document (s ∷ []) ((with_set all rs s.set es).1 ∷ [])) }
     ensures errors { (spelled : LibraryName → List ℕ) → (all : List program.Placed) → (rs : List program.UnitResult) →
         AreLibraries symbols.old libraries.entry spelled all rs → (s : program.ImportSpec) → IsSpec spelled set.entry.spec.now s → (es : List model.Entry) →
-        GroupsStand symbols.old gathering.groups.items es →
-        OnOk result (errors_in findings.new.items ≡ errors_in findings.old.items ++ set_errors ((set.entry.form, (with_set all rs s.set es).1) ∷ [])) }
+        GroupsStand symbols.old gathering.groups.items es → OnOk result (errors_in findings.new.items ≡ errors_in findings.old.items ++ set_errors ((set.entry.form, (with_set all rs s.set es).1) ∷ [])) }
 {
     match of_set(alloc, symbols, libraries, &set.spec.set)? {
         SetGives::Entries(entries) => {
@@ -288,14 +295,52 @@ fn with_set(
     }
 }
 
-/// The form in which the bytes from here on stand.
-fn form_at(forms: &[UnitForm], start: u32) -> u32
-    ensures { (n : ℕ) → IsInForm forms.now start n → result ≡ n }
+/// For each import set in forms the number of its form.
+fn set_forms(alloc: Global, forms: &[UnitForm]) -> Mem<Vec<u32>>
+    ensures { (unit : ℕ) → IfOk result (λ all. all.items ≡ set_forms unit 0 (forms_of forms.now)) }
 {
-    let behind = forms.partition_point(|form| form.datum.span.start <= start);
-    match u32::try_from(behind.saturating_sub(1)) {
-        Ok(form) => form,
-        Err(_) => u32::MAX,
+    let mut all = Vec::new(alloc);
+    for (place, form) in forms.iter().enumerate() {
+        let number = number_of(place)?;
+        add_set_forms(&mut all, number, form)?;
+    }
+    Ok(all)
+}
+
+/// Adds the number of a form for each import set in it.
+fn add_set_forms(all: &mut Vec<u32>, number: u32, form: &UnitForm) -> Mem<()>
+    ensures { (unit : ℕ) → OnOk result (all.new.items ≡ all.old.items ++ map (λ s. number) (specs_in unit number (form_of form.now))) }
+{
+    if is_import(form) {
+        return Ok(add_for_each(all, number, behind_first(&form.datum))?);
+    }
+    Ok(())
+}
+
+/// Whether a form is an import declaration.
+fn is_import(form: &UnitForm) -> bool
+    ensures { result ≡ (form.now.declared && is_headed (codes "import") (datum_of form.now.datum)) }
+{
+    form.declared && is_headed("import", &form.datum)
+}
+
+/// Adds a number for each of some data.
+fn add_for_each(all: &mut Vec<u32>, number: u32, sets: &[Datum]) -> Mem<()>
+    ensures { OnOk result (all.new.items ≡ all.old.items ++ map (λ s. number) sets.now) }
+{
+    for _set in sets {
+        all.push(number)?;
+    }
+    Ok(())
+}
+
+/// The form at a place, and the first where there is none.
+fn form_in(forms: &[u32], place: usize) -> u32
+    ensures { result ≡ number_at forms.now place }
+{
+    match forms.get(place) {
+        Some(form) => *form,
+        None => 0,
     }
 }
 
@@ -454,8 +499,7 @@ fn with_entries(
         (ds : List model.Entry) → AreEntries names entries ds → OnOk result (all_told findings.new.items ≡ all_told findings.old.items
         ++ clash_diagnostics (record { document = set.entry.document; span = span_seen set.entry.spec.now.span }) (model.gather es ds []).1) }
     ensures errors { (names : Names) → TellsApart names → (es : List model.Entry) → GroupsStand names gathering.groups.items es →
-        (ds : List model.Entry) → AreEntries names entries ds → OnOk result (errors_in findings.new.items
-        ≡ errors_in findings.old.items ++ map (λ (name : List ℕ). (52, set.entry.form)) (model.gather es ds []).1) }
+        (ds : List model.Entry) → AreEntries names entries ds → OnOk result (errors_in findings.new.items ≡ errors_in findings.old.items ++ map (λ s. (52, set.entry.form)) (model.gather es ds []).1) }
     ensures findings { (count : ℕ) → set.entry.document < count → AreFoundIn count findings.old.items → OnOk result (AreFoundIn count findings.new.items) }
 {
     let Gathering {
@@ -481,7 +525,7 @@ fn add_clashes(
     ensures inside { (count : ℕ) → set.entry.document < count → AreFoundIn count findings.old.items → OnOk result (AreFoundIn count findings.new.items) }
     ensures told { OnOk result (all_told findings.new.items
         ≡ all_told findings.old.items ++ clash_diagnostics (record { document = set.entry.document; span = span_seen set.entry.spec.now.span }) (reverse clashes.items)) }
-    ensures errors { OnOk result (errors_in findings.new.items ≡ errors_in findings.old.items ++ map (λ (name : List ℕ). (52, set.entry.form)) (reverse clashes.items)) }
+    ensures errors { OnOk result (errors_in findings.new.items ≡ errors_in findings.old.items ++ map (λ s. (52, set.entry.form)) (reverse clashes.items)) }
 {
     let mut clashes = clashes;
     while let Some(name) = clashes.pop() {
@@ -516,8 +560,7 @@ fn add_fault(
     ensures told { (f : model.ImportFault) → IsSetFault fault f → (reads : List Read) → (us : List program.UnitResult) → ArePlaces places.entry reads us →
         OnOk result (all_told findings.new.items ≡ all_told findings.old.items
         ++ import_fault (bytes_of (spans_of reads) us) (record { document = set.entry.document; span = span_seen set.entry.spec.now.span }) f) }
-    ensures errors { (f : model.ImportFault) → IsSetFault fault f →
-        OnOk result (errors_in findings.new.items ≡ errors_in findings.old.items ++ (import_code f, set.entry.form) ∷ []) }
+    ensures errors { (f : model.ImportFault) → IsSetFault fault f → OnOk result (errors_in findings.new.items ≡ errors_in findings.old.items ++ (import_code f, set.entry.form) ∷ []) }
 {
     let whole = set.at(set.spec.span);
     match &fault {
@@ -549,7 +592,7 @@ pub fn add_found(
 ) -> Mem<()>
     ensures inside { (count : ℕ) → IsAtIn count at → AreFoundIn count findings.old.items → OnOk result (AreFoundIn count findings.new.items) }
     ensures told { OnOk result (all_told findings.new.items ≡ all_told findings.old.items ++ told_at at code (worded code name.now)) }
-    ensures errors { OnOk result (errors_in findings.new.items ≡ errors_in findings.old.items ++ error_at code form) }
+    ensures errors { OnOk result (errors_in findings.new.items ≡ errors_in findings.old.items ++ error_by code form) }
 {
     findings.push(Finding::new(alloc, at, form, code, name)?)?;
     Ok(())

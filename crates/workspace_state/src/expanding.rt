@@ -1,7 +1,9 @@
 //! Units one after another (R7RS 5.6), each after what it imports.
-ghost use Rattle.std.specs.Prelude.{◌≡◌, ℕ, ◌<◌, List, [], ◌∷◌, ◌++◌, All, length, replicate, reverse, vec_len, Some, None, IfOk, OnOk, IfSome, true};
+ghost use Rattle.std.specs.Prelude.{◌≡◌, ℕ, ◌<◌, List, [], ◌∷◌, ◌++◌, All, length, replicate, reverse, vec_len, Some, None, IfOk, OnOk, IfSome, true, if◌then◌else◌};
 ghost use Rattle.scheme_model.specs.Entries.{Entry as ModelEntry};
-ghost use Rattle.scheme_model.specs.Program.{Placed, Prepared, Program, SetResult, is_in, unit_result};
+ghost use Rattle.scheme_model.specs.Diagnostics.{bytes_of, unbound_diagnostics, unit_at};
+ghost use Rattle.scheme_model.specs.Live.{unit_leaves};
+ghost use Rattle.scheme_model.specs.Program.{Placed, Prepared, Program, SetResult, UnitResult, WholeFault as Whole, broken_result, is_in, unit_result};
 ghost use Rattle.scheme_model.specs.Requirements.{Known, LibraryName};
 ghost use Rattle.scheme_model.specs.ScopedProgram.{ScopedProgress, scoped_before};
 ghost use Rattle.scheme_model.specs.UnitExpansion.{Formed};
@@ -16,17 +18,21 @@ ghost use Rattle.library_table.specs.UnitsRead.{forms_of};
 ghost use Rattle.expander.specs.Judged.{Knows};
 ghost use Rattle.expander.specs.Opened.{IsNew};
 ghost use Rattle.workspace_state.specs.Begun.{IsImport};
-ghost use Rattle.workspace_state.specs.Came.{AreSourcesOf, CameTo, Expands, FindsLibraries, GoesOn, HeadsBy, IsSourceOf, IsUpTo};
+ghost use Rattle.workspace_state.specs.Broken.{told};
+ghost use Rattle.workspace_state.specs.Came.{AreSourcesOf, CameTo, Expands, FindsLibraries, GoesOn, HeadsBy, IsSourceOf, IsUpTo, expanded_after, with_unit};
 ghost use Rattle.arrow_index.specs.Formed.{IsFormed};
 ghost use Rattle.workspace_state.specs.Formed.{CameFormed};
 ghost use Rattle.workspace_state.specs.Forms.{IsBench, AreFormed};
 ghost use Rattle.workspace_state.specs.Libraries.{FindsBelow, HaveMeaning, EachOnce, ExportsMean};
-ghost use Rattle.workspace_state.specs.Places.{AreFoundIn, CanPlace, HeadsStay};
+ghost use Rattle.workspace_state.specs.Diagnosed.{Adds};
+ghost use Rattle.workspace_state.specs.Places.{AreFoundIn, AreHeads, ArePlaces as ArePlacesOf, CanPlace, HeadsStay, NamesKept, spans_of};
+ghost use Rattle.workspace_state.specs.Readings.{Read};
 ghost use Rattle.workspace_state.specs.Sound.{IsSound};
-ghost use Rattle.workspace_state.specs.SetsGiven.{AreLibraries};
+ghost use Rattle.workspace_state.specs.SetsGiven.{AreLibraries, ImportsAs};
 ghost use Rattle.workspace_state.specs.StandIn.{StandIn};
-ghost use Rattle.workspace_state.specs.Turned.{turns};
+ghost use Rattle.workspace_state.specs.Turned.{scoped_at, turns};
 ghost use Rattle.workspace_state.specs.UnitsExpanded.{AreAllFound};
+ghost use Rattle.workspace_state.specs.UnitsFound.{AreResultsOf, AreSetsFound, HaveFound, HaveTokens, IsFoundOf, in_the_end, no_import_diagnostics};
 ghost use Rattle.workspace_state.specs.WereRead.{WereRead};
 
 use crate::breaking::{Firsts, WholeFault, break_if};
@@ -78,6 +84,7 @@ pub fn expand_all<L: Ledger>(
     requires order { ArePlaces (vec_len units.old.heads) order.now }
     requires new { (unit : ℕ) → is_in unit order.now ≡ true → IsNew bench.old.scope unit }
     ensures heads { OnOk result (HeadsStay units.old.heads.items units.new.heads.items) }
+    ensures kept { OnOk result (NamesKept units.old.heads.items units.new.heads.items) }
     ensures sources { units.new.sources ≡ units.old.sources }
     ensures count { IfOk result (λ all. vec_len all ≡ vec_len units.old.heads) }
     ensures found { IfOk result (λ all. AreAllFound (length documents.now) all.items) }
@@ -86,6 +93,11 @@ pub fn expand_all<L: Ledger>(
     ensures up { (spelled : LibraryName → List ℕ) (us : List Placed) (known : Known) → order.now ≡ turns us → vec_len units.old.heads ≡ length us → FindsLibraries spelled us firsts.now →
         Knows bench.old.scope.libraries known → GoesOn bench.old scoped_before → HeadsBy us scoped_before units.old.heads.items → AreSourcesOf spelled us units.old.sources.items →
         IfOk result (λ all. IsUpTo spelled us known (turns us) bench.new units.new all.items) }
+    // What is found of each is what the definition has of it, where the program comes to have these units.
+    ensures finds { (spelled : LibraryName → List ℕ) (us : List Placed) (known : Known) → order.now ≡ turns us → vec_len units.old.heads ≡ length us → FindsLibraries spelled us firsts.now →
+        Knows bench.old.scope.libraries known → GoesOn bench.old scoped_before → HeadsBy us scoped_before units.old.heads.items → AreSourcesOf spelled us units.old.sources.items →
+        (reads : List Read) (ends : List UnitResult) → AreHeads reads 0 units.old.heads.items ends → HaveTokens documents.now reads → AreResultsOf us ends →
+        IfOk result (λ all. HaveFound reads ends (scoped_at us known (turns us)) all.items) }
 {
     let mut all = nothing(alloc, units.heads.len())?;
     for place in order {
@@ -117,6 +129,7 @@ fn expand_at<L: Ledger>(
     requires formed { CameFormed bench.old.work all.old.items }
     ensures bench { OnOk result (IsBench bench.new) }
     ensures heads { OnOk result (HeadsStay units.old.heads.items units.new.heads.items) }
+    ensures kept { OnOk result (NamesKept units.old.heads.items units.new.heads.items) }
     ensures sources { units.new.sources ≡ units.old.sources }
     ensures count { OnOk result (vec_len all.new ≡ vec_len all.old) }
     ensures found { OnOk result (AreAllFound (length documents.now) all.new.items) }
@@ -126,6 +139,10 @@ fn expand_at<L: Ledger>(
     // In its turn it comes to what the definition has of it.
     ensures next { (spelled : LibraryName → List ℕ) (us : List Placed) (known : Known) (x y : List ℕ) → turns us ≡ x ++ place ∷ y → FindsLibraries spelled us firsts.now →
         IsUpTo spelled us known x bench.old units.old all.old.items → OnOk result (IsUpTo spelled us known (x ++ place ∷ []) bench.new units.new all.new.items) }
+    // What is found of it is what the definition has of it.
+    ensures finds { (spelled : LibraryName → List ℕ) (us : List Placed) (known : Known) (x y : List ℕ) → turns us ≡ x ++ place ∷ y → FindsLibraries spelled us firsts.now →
+        IsUpTo spelled us known x bench.old units.old all.old.items → (reads : List Read) (ends : List UnitResult) → AreHeads reads 0 units.old.heads.items ends → HaveTokens documents.now reads → AreResultsOf us ends →
+        HaveFound reads ends (scoped_at us known x) all.old.items → OnOk result (HaveFound reads ends (scoped_at us known (x ++ place ∷ [])) all.new.items) }
 {
     let unit = place as usize;
     if units.heads[unit].fault.is_some() {
@@ -187,6 +204,12 @@ fn expand_unit<L: Ledger>(
     ensures expands { (spelled : LibraryName → List ℕ) (us : List Placed) (known : Known) (g : ScopedProgress) (p : Prepared) (given_entries : List ModelEntry × List SetResult) → Knows bench.old.scope.libraries known →
         GoesOn bench.old g → p.number ≡ unit → IsSourceOf spelled p None source.now → AreLibraries bench.old.work.symbols libraries.entry spelled us g.results →
         AreEntries bench.old.work.symbols given.joined.entries.items given_entries.0 → IfOk result (Expands us known bench.new g p given_entries) }
+    // What is found of it is what the definition has of it, where the program comes to have these units.
+    ensures finds { (spelled : LibraryName → List ℕ) (known : Known) (g : ScopedProgress) (p : Prepared) (given_entries : List ModelEntry × List SetResult) → Knows bench.old.scope.libraries known →
+        GoesOn bench.old g → p.number ≡ unit → IsSourceOf spelled p None source.now → AreEntries bench.old.work.symbols given.joined.entries.items given_entries.0 →
+        (reads : List Read) (ends : List UnitResult) (r : UnitResult) → ArePlacesOf places.entry reads ends → unit_at ends unit ≡ Some r → r.unit ≡ p → AreSetsFound reads ends p given_entries.1 given.findings.items →
+        IfOk result (λ came. IfSome came (λ came. IsFoundOf reads (in_the_end ends (with_unit g (expanded_after known g p given_entries.0).1))
+        (unit_result p given_entries (expanded_after known g p given_entries.0).1.table (expanded_after known g p given_entries.0).0) came.findings.items)) }
 {
     let imports = imported(alloc, &mut bench.work, given.joined.entries.as_slice())?;
     bench.work.symbols.told_apart();
@@ -257,6 +280,11 @@ fn finished(
         AreLibraries work.old.symbols libraries.entry spelled us q.units → AreEntries work.old.symbols given.joined.entries.items given_entries.0 →
         length forms ≡ length p.forms → FormsStand work.old unit 0 forms fs → AreDefinitions work.old.symbols (reverse (definitions_from 0 forms)) (defined_by unit q.table) →
         IfOk result (λ came. CameTo us q work.new came (unit_result p given_entries q.table (Some fs))) }
+    // What is found is what the definition has of the unit, where the program comes to have these units.
+    ensures finds { (spelled : LibraryName → List ℕ) (q : Program) (p : Prepared) (given_entries : List ModelEntry × List SetResult) (fs : List Formed) → p.number ≡ unit → IsSourceOf spelled p None source.now →
+        AreEntries work.old.symbols given.joined.entries.items given_entries.0 → FormsStand work.old unit 0 forms fs → AreDefinitions work.old.symbols (reverse (definitions_from 0 forms)) (defined_by unit q.table) →
+        (reads : List Read) (ends : List UnitResult) (r : UnitResult) → ArePlacesOf places.entry reads ends → unit_at ends unit ≡ Some r → r.unit ≡ p → AreSetsFound reads ends p given_entries.1 given.findings.items →
+        IfOk result (λ came. IsFoundOf reads (in_the_end ends q) (unit_result p given_entries q.table (Some fs)) came.findings.items) }
 {
     let Given {
         joined,
@@ -302,7 +330,9 @@ fn add_unbound_if(
     requires forms { StandIn symbols.now forms.now }
     requires documents { 0 < length places.documents.now }
     requires places { CanPlace places }
-    ensures { AreFoundIn (length places.entry.documents.now) findings.old.items → OnOk result (AreFoundIn (length places.entry.documents.now) findings.new.items) }
+    ensures inside { AreFoundIn (length places.entry.documents.now) findings.old.items → OnOk result (AreFoundIn (length places.entry.documents.now) findings.new.items) }
+    ensures exact { (rs : List Read) (us : List UnitResult) (work : AnyWork) (unit : ℕ) (fs : List Formed) → ArePlacesOf places.entry rs us → KeepsNames work.symbols symbols.now → FormsStand work unit 0 forms.now fs →
+        OnOk result (Adds findings.old.items findings.new.items (if are_found then unbound_diagnostics (bytes_of (spans_of rs) us) (unit_leaves fs) else []) []) }
 {
     if are_found {
         add_unbound(alloc, symbols, places, forms, findings)?;
@@ -320,7 +350,9 @@ fn add_no_import(
 ) -> Mem<()>
     requires documents { 0 < length places.documents.now }
     requires places { CanPlace places }
-    ensures { AreFoundIn (length places.entry.documents.now) findings.old.items → OnOk result (AreFoundIn (length places.entry.documents.now) findings.new.items) }
+    ensures inside { AreFoundIn (length places.entry.documents.now) findings.old.items → OnOk result (AreFoundIn (length places.entry.documents.now) findings.new.items) }
+    ensures exact { (spelled : LibraryName → List ℕ) (rs : List Read) (us : List UnitResult) (r : UnitResult) → ArePlacesOf places.entry rs us → unit_at us unit ≡ Some r → ImportsAs spelled source.now r.unit →
+        OnOk result (Adds findings.old.items findings.new.items (no_import_diagnostics (spans_of rs) r.unit) []) }
 {
     if imports_nothing(source) {
         let start = places.start(unit);
@@ -347,6 +379,8 @@ pub fn broken(
     ensures entries { IfOk result (λ came. came.entries.items ≡ []) }
     ensures exports { IfOk result (λ came. came.exports ≡ []) }
     ensures findings { IfOk result (λ came. AreFoundIn (length places.entry.documents.now) came.findings.items) }
+    ensures finds { (rs : List Read) (p : Program) (r : UnitResult) (f : Whole) → ArePlacesOf places.entry rs p.units → unit_at p.units unit ≡ Some r → r.fault ≡ Some f → fault ≡ told f →
+        IfOk result (λ came. IsFoundOf rs p r came.findings.items) }
 {
     let mut findings = Vec::new(alloc);
     let finding = whole_finding(alloc, places, unit, fault)?;

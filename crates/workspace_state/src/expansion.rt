@@ -1,5 +1,5 @@
 //! The program of the open documents, with the trees that it is over.
-ghost use Rattle.std.specs.Prelude.{◌≡◌};
+ghost use Rattle.std.specs.Prelude.{◌≡◌, []};
 ghost use Rattle.arrow_index.specs.Formed.{AreFormedIn};
 
 use core_tree::units::Program;
@@ -32,7 +32,9 @@ impl Model for Expansion {
 
 impl Expansion {
     /// No units.
-    pub fn new(alloc: Global) -> Expansion {
+    pub fn new(alloc: Global) -> Expansion
+        ensures { result.program.units ≡ [] }
+    {
         Expansion {
             work: Work::new(alloc),
             program: Program {

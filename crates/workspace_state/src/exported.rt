@@ -6,12 +6,13 @@ ghost use Rattle.scheme_model.specs.Program as program;
 ghost use Rattle.scheme_model.specs.Diagnostics.{bytes_of, export_diagnostics};
 ghost use Rattle.syntax_tree.specs.Names.{Names};
 ghost use Rattle.syntax_tree.specs.Meant.{AreEntries};
+ghost use Rattle.core_tree.specs.Units.{export_errors, form_at};
 ghost use Rattle.library_table.specs.Exports.{IsFault};
 ghost use Rattle.library_table.specs.Sources.{AreExports};
 ghost use Rattle.library_table.specs.declared.fault.LibraryFault.TheVariants as faults;
 ghost use Rattle.library_table.specs.declared.units.ExportSpec.{ExportSpec as Spec};
 ghost use Rattle.workspace_state.specs.Defined.{FindsNames};
-ghost use Rattle.workspace_state.specs.Found.{all_told};
+ghost use Rattle.workspace_state.specs.Found.{all_told, errors_in};
 ghost use Rattle.workspace_state.specs.Libraries.{HaveMeaning};
 ghost use Rattle.workspace_state.specs.Places.{AreFoundIn, ArePlaces, CanPlace, spans_of};
 ghost use Rattle.workspace_state.specs.Readings.{Read};
@@ -41,6 +42,8 @@ pub fn exports_given(
     ensures told { (table : Names) → (find : List ℕ → Option model.Entry) → FindsNames table names.now find → (xs : List program.ExportSpec) → AreExports source.now.exports xs →
         (reads : List Read) → (us : List program.UnitResult) → ArePlaces places.entry reads us → OnOk result (all_told findings.new.items
         ≡ all_told findings.old.items ++ export_diagnostics (bytes_of (spans_of reads) us) (program.export_all find [] xs).faults) }
+    ensures errors { (table : Names) → (find : List ℕ → Option model.Entry) → FindsNames table names.now find → (xs : List program.ExportSpec) → AreExports source.now.exports xs →
+        OnOk result (errors_in findings.new.items ≡ errors_in findings.old.items ++ export_errors (program.export_all find [] xs).faults) }
     ensures findings { AreFoundIn (length places.entry.documents.now) findings.old.items → OnOk result (AreFoundIn (length places.entry.documents.now) findings.new.items) }
 {
     let specs = source.exports.as_slice();
@@ -68,6 +71,8 @@ fn add_fault(
     ensures told { (xs : List program.ExportSpec) → AreExports specs.now xs → (f : program.ExportFault) → IsFault xs fault.now f →
         (reads : List Read) → (us : List program.UnitResult) → ArePlaces places.entry reads us →
         OnOk result (all_told findings.new.items ≡ all_told findings.old.items ++ export_diagnostics (bytes_of (spans_of reads) us) (f ∷ [])) }
+    ensures errors { (xs : List program.ExportSpec) → AreExports specs.now xs → (f : program.ExportFault) → IsFault xs fault.now f →
+        OnOk result (errors_in findings.new.items ≡ errors_in findings.old.items ++ export_errors (f ∷ [])) }
 {
     let Some((code, name)) = told(fault) else {
         return Ok(());
@@ -79,7 +84,9 @@ fn add_fault(
 }
 
 /// The form of an occurrence, and the first where there is none.
-fn form_of(occ: Option<Occ>) -> u32 {
+fn form_of(occ: Option<Occ>) -> u32
+    ensures { result ≡ form_at occ }
+{
     match occ {
         Some(occ) => occ.form,
         None => 0,

@@ -3,6 +3,7 @@ ghost use Rattle.std.specs.Prelude.{◌≡◌, ℕ, ◌+◌, ◌<◌, ◌^◌, [
 ghost use Rattle.scheme_model.specs.Declarations.{UnitSource as Source, is_library, libraries_in, program_in};
 ghost use Rattle.scheme_model.specs.Program.{Document as ModelDocument, known_in, max_units, units_of};
 ghost use Rattle.scheme_model.specs.Requirements.{Known, LibraryName};
+ghost use Rattle.datum_reader.specs.FirstTokens.{first_token};
 ghost use Rattle.datum_reader.specs.Views.{datum_of, data_of};
 ghost use Rattle.datum_reader.specs.WellFormed.{WasRead};
 ghost use Rattle.library_table.specs.PartsRead.{Knows};
@@ -113,7 +114,8 @@ fn add_library(
 
 /// The source of a library that isn't read.
 fn unread(alloc: Global, datum: &Datum) -> UnitSource
-    ensures { IsBlankLibrary result }
+    ensures blank { IsBlankLibrary result }
+    ensures span { result.span ≡ first_token (datum_of datum.now) }
 {
     UnitSource {
         kind: UnitKind::Library,

@@ -1,5 +1,5 @@
 //! The diagnostics of documents as lists, and which of them are published after an event (LSP 3.17, publishDiagnostics).
-ghost use Rattle.std.specs.Prelude.{◌≡◌, ◌≢◌, List, ℕ, length, map, Some, IfOk, OnOk, Decides, MatchBool};
+ghost use Rattle.std.specs.Prelude.{◌≡◌, ◌≢◌, ◌≤◌, ◌+◌, List, ℕ, length, map, Some, IfOk, OnOk, Decides, MatchBool};
 ghost use Rattle.std.specs.BTreeMap.{get_by_text, IsOrdered};
 ghost use Rattle.std.specs.String.{string_cmp};
 ghost use Rattle.std.specs.FinMap.{entries};
@@ -98,8 +98,9 @@ pub fn published(
     before: &Lists,
     now: &Lists,
 ) -> Mem<Items<Published>>
-    ensures { (texts : Texts) → AreDocuments (entries texts) documents.now → OthersStay changed.now texts (list_at before.now) (list_at now.now) →
+    ensures news { (texts : Texts) → AreDocuments (entries texts) documents.now → OthersStay changed.now texts (list_at before.now) (list_at now.now) →
         IfOk result (ArePublished changed.now texts (list_at before.now) (list_at now.now)) }
+    ensures few { IfOk result (λ lists. length lists ≤ length documents.now + 1) }
 {
     let mut all = BTreeMap::new(alloc);
     put(alloc, &mut all, changed, None, now)?;
@@ -137,6 +138,7 @@ fn put(
 ) -> Mem<()>
     ensures puts { OnOk result (Puts all.old all.new (record { uri = uri.now; version = version; list = list_at now.now uri.now })) }
     ensures ordered { OnOk result (IsOrdered string_cmp all.new) }
+    ensures one_more { OnOk result (length all.new.entries ≤ length all.old.entries + 1) }
 {
     let key = String::from_str(alloc, uri)?;
     all.insert(key, published_as(alloc, uri, version, now)?)?;

@@ -1,12 +1,14 @@
 //! The open documents, with what they are read as and where their units stand.
-ghost use Rattle.std.specs.Prelude.{◌≡◌, ◌<◌, ◌==◌, ℕ, List, length, IfOk, IfSome};
+ghost use Rattle.std.specs.Prelude.{◌≡◌, ◌<◌, ◌==◌, ℕ, List, length, slice_get, IfOk, IfSome};
 ghost use Rattle.std.specs.Option.{option_map};
 ghost use Rattle.std.specs.FinMap.{empty, entries};
 ghost use Rattle.document_store.specs.Texts.{text_at};
-ghost use Rattle.workspace_state.specs.Belongs.{AreErrorsIn, Belongs};
-ghost use Rattle.workspace_state.specs.Readings.{Read, AreReadAs, AreDocuments, first_unread};
-ghost use Rattle.workspace_state.specs.Placed.{IsIn, IsPlace};
-ghost use Rattle.workspace_state.specs.Places.{CanPlace, bytes_at};
+ghost use Rattle.scheme_model.specs.Diagnostics.{bytes_of};
+ghost use Rattle.workspace_state.specs.Belongs.{AreErrorsIn, Belongs, error_in};
+ghost use Rattle.workspace_state.specs.Readings.{Read, AreReadAs, AreDocuments, first_unread, program_in};
+ghost use Rattle.workspace_state.specs.Placed.{IsErrorAt, IsIn, IsPlace, form_bytes};
+ghost use Rattle.workspace_state.specs.Places.{ArePlaces, CanPlace, bytes_at, spans_of};
+ghost use Rattle.workspace_state.specs.UnitsFound.{first_error_at};
 
 use crate::documents::{Document, first_unread};
 use crate::findings::At;
@@ -106,6 +108,7 @@ impl Open {
     fn places(&self) -> Places<'_>
         ensures documents { length result.documents.now ≡ length (entries self.now) }
         ensures places { CanPlace result }
+        ensures exact { (rs : List Read) → AreReadAs (entries self.now) rs → ArePlaces result rs (program_in rs).units }
     {
         Places {
             documents: self.documents.as_slice(),
@@ -116,7 +119,8 @@ impl Open {
     /// The place of a token.
     pub fn place_of(&self, occ: Occ, encoding: Encoding) -> Mem<Place>
         requires { 0 < length (entries self.now) }
-        ensures { IfOk result (IsIn encoding (entries self.now)) }
+        ensures inside { IfOk result (IsIn encoding (entries self.now)) }
+        ensures exact { (rs : List Read) → AreReadAs (entries self.now) rs → IfOk result (IsPlace encoding (entries self.now) (bytes_of (spans_of rs) (program_in rs).units occ)) }
     {
         let place = self.place(self.places().at(occ), encoding)?;
         Ok(place)
@@ -126,7 +130,8 @@ impl Open {
     /// unit.
     pub fn form_place(&self, unit: u32, form: u32, encoding: Encoding) -> Mem<Place>
         requires { 0 < length (entries self.now) }
-        ensures { IfOk result (IsIn encoding (entries self.now)) }
+        ensures inside { IfOk result (IsIn encoding (entries self.now)) }
+        ensures exact { (rs : List Read) → AreReadAs (entries self.now) rs → IfOk result (IsPlace encoding (entries self.now) (form_bytes (spans_of rs) (program_in rs).units unit form)) }
     {
         let last = self.heads.len().saturating_sub(1);
         let unit = last.min(unit as usize) as u32;
@@ -136,7 +141,8 @@ impl Open {
 
     /// The place of the first Error of a unit, with its code. `None` exactly where it has none.
     pub fn first_error(&self, unit: u32, encoding: Encoding) -> Mem<Option<PlacedError>>
-        ensures { IfOk result (λ e. IfSome e (λ p. IsIn encoding (entries self.now) p.place)) }
+        ensures inside { IfOk result (λ e. IfSome e (λ p. IsIn encoding (entries self.now) p.place)) }
+        ensures exact { (rs : List Read) → AreReadAs (entries self.now) rs → IfOk result (IsErrorAt encoding (entries self.now) (first_error_at rs (program_in rs) (slice_get (program_in rs).units unit))) }
     {
         let Some((at, code)) = error_at(self.errors.as_slice(), unit) else {
             return Ok(None);
@@ -160,7 +166,8 @@ impl Open {
 
 /// The first Error of the unit at a place, where there is one.
 fn error_at(errors: &[Option<(At, u32)>], unit: u32) -> Option<(At, u32)>
-    ensures { (count : ℕ) → AreErrorsIn count errors.now → IfSome result (λ e. e.0.document < count) }
+    ensures inside { (count : ℕ) → AreErrorsIn count errors.now → IfSome result (λ e. e.0.document < count) }
+    ensures exact { result ≡ error_in (slice_get errors.now unit) }
 {
     match errors.get(unit as usize) {
         Some(error) => *error,

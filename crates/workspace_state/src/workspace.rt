@@ -1,12 +1,20 @@
 //! The workspace: the open documents and the program that they are. Each event reads and expands all of them anew.
-ghost use Rattle.std.specs.Prelude.{◌≡◌, ◌<◌, ◌==◌, List, length, true, IfOk, IfSome, OnOk, OnErr};
+ghost use Rattle.std.specs.Prelude.{◌≡◌, ◌+◌, ◌<◌, ◌≤◌, ◌==◌, List, length, slice_get, true, IfOk, IfSome, OnOk, OnErr};
 ghost use Rattle.std.specs.Option.{option_map};
 ghost use Rattle.std.specs.FinMap.{empty, entries};
+ghost use Rattle.ls_base.specs.Limits.{max_documents};
+ghost use Rattle.scheme_model.specs.Diagnostics.{bytes_of};
 ghost use Rattle.document_store.specs.Texts as store;
-ghost use Rattle.workspace_state.specs.Readings.{Read, AreReadAs, first_unread};
+ghost use Rattle.workspace_state.specs.Listed.{AreFoundOf};
+ghost use Rattle.workspace_state.specs.ProgramOfTexts.{IsProgramOfTexts};
+ghost use Rattle.workspace_state.specs.Readings.{Read, AreReadAs, first_unread, program_in};
+ghost use Rattle.core_tree.specs.Units.{IsProgramOf};
 ghost use Rattle.arrow_index.specs.Formed.{AreFormedIn};
-ghost use Rattle.workspace_state.specs.Placed.{IsIn};
-ghost use Rattle.workspace_state.specs.Events.{leaves, event_of, fault_of};
+ghost use Rattle.workspace_state.specs.Placed.{IsErrorAt, IsIn, IsPlace, form_bytes};
+ghost use Rattle.workspace_state.specs.Places.{spans_of};
+ghost use Rattle.workspace_state.specs.UnitsFound.{first_error_at};
+ghost use Rattle.workspace_state.specs.Events.{leaves, event_of, fault_of, uri_of};
+ghost use Rattle.workspace_state.specs.Updates.{Publishes};
 
 use crate::events::{DocEvent, Updated};
 use crate::expansion::Expansion;
@@ -22,10 +30,12 @@ use ls_base::{Encoding, Items, Mem, Place, Steps};
 use scheme_model::Occ;
 use std::alloc::Global;
 use std::collections::BTreeMap;
+use std::marker::Model;
 use std::sync::ledger::Ledger;
 use syntax_tree::trees::Work;
 
 /// The open documents, the program that they are with the trees that it is over, their diagnostics, and the encoding of positions.
+/// Contracts see the encoding, the texts and the program; the program and the diagnostics are those of the texts.
 #[derive(Drop)]
 pub struct Workspace {
     alloc: Global,
@@ -35,10 +45,24 @@ pub struct Workspace {
     lists: Lists,
 }
 
+impl Model for Workspace {
+    ghost use Rattle.workspace_state.specs.State.{State, state_code, BelongTo};
+    ghost use Rattle.workspace_state.specs.Updates.{entries_shown};
+
+    ghost Value = { State };
+
+    ghost coded = { state_code };
+
+    ghost view = { λ w. record { encoding = w.encoding; texts = w.texts; expansion = w.expansion } };
+
+    ghost invariant = { λ w. BelongTo w.encoding w.texts w.expansion (entries_shown w.lists) };
+}
+
 impl Workspace {
     /// A workspace without documents, whose positions are in UTF-16.
     pub fn new(alloc: Global) -> Mem<Workspace>
-        ensures { IfOk result (λ w. w.texts ≡ empty) }
+        ensures texts { IfOk result (λ w. w.texts ≡ empty) }
+        ensures encoding { IfOk result (λ w. w.encoding ≡ Encoding.Utf16) }
     {
         Ok(Workspace {
             alloc,
@@ -49,8 +73,9 @@ impl Workspace {
         })
     }
 
-    /// From now on positions are in this encoding.
+    /// From now on positions are in this encoding. No document is open yet, whose diagnostics would have positions in another.
     pub fn set_encoding(&mut self, encoding: Encoding)
+        requires { self.old.texts ≡ empty }
         ensures { self.new ≡ record self.old { encoding = encoding } }
     {
         self.encoding = encoding;
@@ -65,6 +90,13 @@ impl Workspace {
         ensures kept { OnErr result (self.new ≡ self.old) }
         ensures still { OnOk result (leaves (event_of event.now) (store.after self.old.encoding self.old.texts (event_of event.now)).1 ≡ true → self.new ≡ self.old) }
         ensures encoding { self.new.encoding ≡ self.old.encoding }
+
+        // What is published are the lists that are news of the texts, of the document of the event and of each open one at most;
+        // after a refusal that leaves the texts nothing is.
+        ensures published { IfOk result (λ updated. Publishes
+            (leaves (event_of event.now) (store.after self.old.encoding self.old.texts (event_of event.now)).1)
+            self.old.encoding self.old.texts self.new.texts (uri_of event.now) updated.lists) }
+        ensures few { IfOk result (λ updated. length updated.lists ≤ max_documents + 1) }
 
         // The refusal is the store's.
         ensures refused { IfOk result (λ updated. updated.refused
@@ -113,8 +145,12 @@ impl Workspace {
     /// The units of all documents.
     pub fn program(&self) -> &Program
         ensures program { result.now ≡ self.now.expansion.program }
+        // They stand for those of the program that the texts are.
+        ensures of_texts { IsProgramOfTexts self.now.texts self.now.expansion.work result.now }
         // The forms of each unit stand for something of the definitions.
         ensures formed { AreFormedIn self.now.expansion.work result.now.units }
+        // So arrows and links can be asked of it.
+        ensures stands { IsProgramOf self.now.expansion.work result.now }
     {
         self.expansion.program()
     }
@@ -129,7 +165,8 @@ impl Workspace {
     /// The place of a token, in one of the documents, of which there is one.
     pub fn place_of(&self, occ: Occ) -> Mem<Place>
         requires { 0 < length (entries self.now.texts) }
-        ensures { IfOk result (IsIn self.now.encoding (entries self.now.texts)) }
+        ensures inside { IfOk result (IsIn self.now.encoding (entries self.now.texts)) }
+        ensures exact { (rs : List Read) → AreReadAs (entries self.now.texts) rs → IfOk result (IsPlace self.now.encoding (entries self.now.texts) (bytes_of (spans_of rs) (program_in rs).units occ)) }
     {
         Ok(self.texts.place_of(occ, self.encoding)?)
     }
@@ -138,14 +175,16 @@ impl Workspace {
     /// unit.
     pub fn form_place(&self, unit: u32, form: u32) -> Mem<Place>
         requires { 0 < length (entries self.now.texts) }
-        ensures { IfOk result (IsIn self.now.encoding (entries self.now.texts)) }
+        ensures inside { IfOk result (IsIn self.now.encoding (entries self.now.texts)) }
+        ensures exact { (rs : List Read) → AreReadAs (entries self.now.texts) rs → IfOk result (IsPlace self.now.encoding (entries self.now.texts) (form_bytes (spans_of rs) (program_in rs).units unit form)) }
     {
         Ok(self.texts.form_place(unit, form, self.encoding)?)
     }
 
     /// The first Error of a unit, by document, start and code. `None` exactly where it has none.
     pub fn first_error(&self, unit: u32) -> Mem<Option<PlacedError>>
-        ensures { IfOk result (λ e. IfSome e (λ p. IsIn self.now.encoding (entries self.now.texts) p.place)) }
+        ensures inside { IfOk result (λ e. IfSome e (λ p. IsIn self.now.encoding (entries self.now.texts) p.place)) }
+        ensures exact { (rs : List Read) → AreReadAs (entries self.now.texts) rs → IfOk result (IsErrorAt self.now.encoding (entries self.now.texts) (first_error_at rs (program_in rs) (slice_get (program_in rs).units unit))) }
     {
         Ok(self.texts.first_error(unit, self.encoding)?)
     }
@@ -162,6 +201,9 @@ struct Told {
 fn read_all<L: Ledger>(alloc: Global, store: Store, steps: &mut Steps<L>) -> Mem<(Open, Told)>
     ensures texts { IfOk result (λ read. read.0 ≡ store) }
     ensures findings { IfOk result (λ read. length read.1.findings.items ≡ length (entries store)) }
+    ensures few { IfOk result (λ read. length (entries store) ≤ max_documents) }
+    ensures program { IfOk result (λ read. IsProgramOfTexts store read.1.expansion.work read.1.expansion.program) }
+    ensures found { (rs : List Read) → AreReadAs (entries store) rs → IfOk result (λ read. AreFoundOf rs read.1.findings.items) }
 {
     let reading = read_program(alloc, &store, steps)?;
     let Reading {

@@ -40,6 +40,25 @@ const ARROWS: &str =
 const ARROWS_CHANGED: &str =
     r#"{"id":2,"jsonrpc":"2.0","result":[{"from":{"range":{"end":{"character":11,"line":0},"start":{"character":10,"line":0}},"uri":"file:///a.scm"},"to":{"range":{"end":{"character":1,"line":0},"start":{"character":0,"line":0}},"uri":"file:///a.scm"}}]}"#;
 
+/// What is published after `OPEN`: the text has no import, which is told at its first token.
+const OPENED: &str =
+    r#"{"jsonrpc":"2.0","method":"textDocument/publishDiagnostics","params":{"diagnostics":[{"code":104,"message":"no import, (scheme base) is used","range":{"end":{"character":1,"line":0},"start":{"character":0,"line":0}},"severity":2,"source":"scheme_ls"}],"uri":"file:///a.scm","version":1}}"#;
+
+/// What is published after `CHANGE`.
+const CHANGED: &str =
+    r#"{"jsonrpc":"2.0","method":"textDocument/publishDiagnostics","params":{"diagnostics":[{"code":104,"message":"no import, (scheme base) is used","range":{"end":{"character":1,"line":0},"start":{"character":0,"line":0}},"severity":2,"source":"scheme_ls"}],"uri":"file:///a.scm","version":2}}"#;
+
+const CLOSE: &str =
+    r#"{"jsonrpc":"2.0","method":"textDocument/didClose","params":{"textDocument":{"uri":"file:///a.scm"}}}"#;
+
+/// What is published after `CLOSE`.
+const CLOSED: &str =
+    r#"{"jsonrpc":"2.0","method":"textDocument/publishDiagnostics","params":{"diagnostics":[],"uri":"file:///a.scm"}}"#;
+
+/// What is logged after a second `CLOSE`.
+const NOT_OPEN: &str =
+    r#"{"jsonrpc":"2.0","method":"window/logMessage","params":{"message":"not open: file:///a.scm","type":1}}"#;
+
 const NO_ARROWS: &str = r#"{"id":2,"jsonrpc":"2.0","result":[]}"#;
 
 /// The log of a fault right behind the frame of `EARLY`.
@@ -109,9 +128,13 @@ fn sessions_and_their_replies(rt: HostRuntime) -> Result<(), Fail> {
 fn documents_and_their_arrows(rt: HostRuntime) -> Result<(), Fail> {
     let a = rt.alloc();
     let opened = [INITIALIZE, OPEN, ASK, EXIT];
-    answers(&rt, a, &opened, "", 1, &[INITIALIZE_REPLY, ARROWS])?;
+    answers(&rt, a, &opened, "", 1, &[INITIALIZE_REPLY, OPENED, ARROWS])?;
     let changed = [INITIALIZE, OPEN, CHANGE, ASK, EXIT];
-    answers(&rt, a, &changed, "", 1, &[INITIALIZE_REPLY, ARROWS_CHANGED])?;
+    let published = [INITIALIZE_REPLY, OPENED, CHANGED, ARROWS_CHANGED];
+    answers(&rt, a, &changed, "", 1, &published)?;
+    let closed = [INITIALIZE, OPEN, CLOSE, CLOSE, EXIT];
+    let published = [INITIALIZE_REPLY, OPENED, CLOSED, NOT_OPEN];
+    answers(&rt, a, &closed, "", 1, &published)?;
     let missing = [INITIALIZE, ASK, EXIT];
     answers(&rt, a, &missing, "", 1, &[INITIALIZE_REPLY, NO_ARROWS])?;
     Ok(())

@@ -1,4 +1,4 @@
-use Rattle.std.proofs.Common.{List, ℕ, [], ◌∷◌, ◌+◌, ◌∙◌, drop, rules, subst}
+use Rattle.std.proofs.Common.{List, ℕ, [], ◌∷◌, ◌+◌, ◌≡◌, drop, refl, subst}
 use Rattle.std.proofs.lemmas.List.{drop_all}
 use Rattle.std.specs.declared.vec.Vec.{Vec}
 use Rattle.std.specs.declared.alloc.Global.{Global}
@@ -7,11 +7,19 @@ use Rattle.scheme_ls.specs.BodiesOutcome.{AnswersBodies, AnswersSome, EndsSessio
 use Rattle.scheme_ls.specs.Prints.{PrintsFront, PrintsPart, sink_seen}
 use Rattle.scheme_ls.specs.Statuses.{said_exit}
 use Rattle.scheme_ls.proofs.Items.{at_item}
-use Rattle.scheme_ls.proofs.AnswerLaws.{AnsweredSoFar, so_far_all, so_far_ends, so_far_front, so_far_more, so_far_none, so_far_part}
+use Rattle.session_core.specs.Stepped.{IsQuiet}
+use Rattle.scheme_ls.proofs.AnswerLaws.{AnsweredSoFar, QuietSoFar, quiet_more, so_far_all, so_far_ends, so_far_front, so_far_more, so_far_none, so_far_part}
 use Rattle.scheme_ls.proofs.answering.answer_bodies.Goals as goal
 
+-- the rest begins with a body
+quiet_at : (bodies : List (List ℕ)) {rest more : List (Vec ℕ Global)} {before now : ℕ} → rest ≡ more → QuietSoFar bodies (contents rest) before now → QuietSoFar bodies (contents more) before now
+quiet_at bodies {before = before} {now = now} same quiet = subst (λ (r : List (Vec ℕ Global)). QuietSoFar bodies (contents r) before now) same quiet
+
+quiet_body : {body bytes : List ℕ} {mid now : ℕ} → body ≡ bytes → (IsQuiet body → now ≡ mid) → IsQuiet bytes → now ≡ mid
+quiet_body {mid = mid} {now = now} same steps = subst (λ (b : List ℕ). IsQuiet b → now ≡ mid) same steps
+
 pub loop-body-init : goal.loop-body-init
-loop-body-init g c = record { answered = so_far_none _ _ _; same = search rules }
+loop-body-init g c = record { answered = so_far_none _ _ _; quiet = λ q. (refl, q) }
 
 pub loop-body-preserved : goal.loop-body-preserved
 loop-body-preserved g c =
@@ -25,7 +33,8 @@ loop-body-preserved g c =
     let one = subst (λ (body : List ℕ). AnswersBodies c.loop-body.session (body ∷ []) c.answer_body.new.session mid new) c.deref.ensures.value c.in-Answered.ensures.answers in
     record {
       answered = so_far_more _ _ _ (contents all) (contents (drop (i + 1) all)) c.body-item.result.items old mid new now one;
-      same = c.in-Answered.ensures.steps ∙ c.loop-body.invariant.same;
+      quiet = quiet_more _ _ c.body-item.result.items _ _ _ (quiet_at (contents all) (at_item all i c.body-item.result c.loop-body-test.true c.body-item.is) c.loop-body.invariant.quiet)
+          (quiet_body c.deref.ensures.value c.in-Answered.ensures.steps);
     }
 
 pub returns-in-Exited-clause-answers : goal.returns-in-Exited-clause-answers
@@ -71,3 +80,24 @@ returns-clause-answers g c =
     let all = c.args.bodies.now in
     so_far_all c.args.session.now c.loop-body.session (contents all) old new
     (subst (λ (rest : List (Vec ℕ Global)). AnsweredSoFar c.args.session.now (contents all) (contents rest) c.loop-body.session old new) (drop_all c.loop-body.body-index all c.loop-body-test.false) c.loop-body.invariant.answered)
+
+pub returns-in-Exited-clause-steps : goal.returns-in-Exited-clause-steps
+returns-in-Exited-clause-steps g c = λ q.
+    (quiet_more _ _ c.body-item.result.items _ _ _
+    (quiet_at (contents c.args.bodies.now) (at_item c.args.bodies.now c.loop-body.body-index c.body-item.result c.loop-body-test.true c.body-item.is) c.loop-body.invariant.quiet)
+    (quiet_body c.deref.ensures.value c.in-Exited.ensures.steps) q).0
+
+pub returns-in-WriteFailed-clause-steps : goal.returns-in-WriteFailed-clause-steps
+returns-in-WriteFailed-clause-steps g c = λ q.
+    (quiet_more _ _ c.body-item.result.items _ _ _
+    (quiet_at (contents c.args.bodies.now) (at_item c.args.bodies.now c.loop-body.body-index c.body-item.result c.loop-body-test.true c.body-item.is) c.loop-body.invariant.quiet)
+    (quiet_body c.deref.ensures.value c.in-WriteFailed.ensures.steps) q).0
+
+pub returns-in-NoMemory-clause-steps : goal.returns-in-NoMemory-clause-steps
+returns-in-NoMemory-clause-steps g c = λ q.
+    (quiet_more _ _ c.body-item.result.items _ _ _
+    (quiet_at (contents c.args.bodies.now) (at_item c.args.bodies.now c.loop-body.body-index c.body-item.result c.loop-body-test.true c.body-item.is) c.loop-body.invariant.quiet)
+    (quiet_body c.deref.ensures.value c.in-NoMemory.ensures.steps) q).0
+
+pub returns-clause-steps : goal.returns-clause-steps
+returns-clause-steps g c = λ q. (c.loop-body.invariant.quiet q).0

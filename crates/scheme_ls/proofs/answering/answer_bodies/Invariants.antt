@@ -1,7 +1,7 @@
-use Rattle.std.proofs.Common.{◌≡◌, drop}
+use Rattle.std.proofs.Common.{drop}
 use Rattle.lsp_framing.specs.Taken.{contents}
 use Rattle.scheme_ls.specs.Prints.{sink_seen}
-use Rattle.scheme_ls.proofs.AnswerLaws.{AnsweredSoFar}
+use Rattle.scheme_ls.proofs.AnswerLaws.{AnsweredSoFar, QuietSoFar}
 use Rattle.scheme_ls.proofs.answering.answer_bodies.Given as goal
 
 -- the bodies so far are answered
@@ -10,5 +10,5 @@ invariant-loop-body g l = record {
   answered : AnsweredSoFar l.fn.session (contents l.bodies) (contents (drop l.body-index l.bodies)) l.session
       (sink_seen (g.O.Sink.taken l.fn.output) (g.O.Sink.faults l.fn.output) (g.O.Sink.writes l.fn.output))
       (sink_seen (g.O.Sink.taken l.output) (g.O.Sink.faults l.output) (g.O.Sink.writes l.output));
-  same : l.steps ≡ l.fn.steps;
+  quiet : QuietSoFar (contents l.bodies) (contents (drop l.body-index l.bodies)) l.fn.steps l.steps;
 }

@@ -1,4 +1,4 @@
-use Rattle.std.proofs.Common.{List, ℕ, [], ◌∷◌, Err, sym, subst}
+use Rattle.std.proofs.Common.{List, [], ◌∷◌, Err, sym, subst}
 use Rattle.lsp_messages.specs.declared.reply.Reply.{Reply}
 use Rattle.scheme_ls.specs.BodiesOutcome.{BodiesEndAs}
 use Rattle.scheme_ls.specs.ReplyFrames.{frames_of}

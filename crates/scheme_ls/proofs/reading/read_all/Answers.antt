@@ -1,7 +1,7 @@
 use Rattle.std.proofs.Common.{◌∙◌, ℕ, arith}
 use Rattle.std.proofs.lemmas.List.{length-take}
 use Rattle.scheme_ls.specs.Reading.{source_seen}
-use Rattle.scheme_ls.proofs.ReadLaws.{read_some, reads_none, reads_then}
+use Rattle.scheme_ls.proofs.ReadLaws.{read_some, reads_then}
 use Rattle.scheme_ls.proofs.Taken.{TakesBytes-more}
 use Rattle.scheme_ls.proofs.reading.read_all.Goals as goal
 

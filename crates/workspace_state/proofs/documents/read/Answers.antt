@@ -23,4 +23,4 @@ loop-n-preserved c = record {
 pub returns : goal.returns
 returns c =
     let few : length (entries c.args.store.now) ≤ c.loop-n.n = omega (arith, c.loop-n.invariant.few) in
-    record { documents = added_all (entries c.args.store.now) c.loop-n.documents.items c.loop-n.n c.loop-n.invariant.front few; read = c.loop-n.invariant.read }
+    record { documents = added_all (entries c.args.store.now) c.loop-n.documents.items c.loop-n.n c.loop-n.invariant.front few; read = c.loop-n.invariant.read; few = omega (arith, c.loop-n.invariant.few) }

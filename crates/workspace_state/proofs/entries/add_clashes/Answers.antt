@@ -15,5 +15,5 @@ loop-name-preserved c = record {
   told =
       clash_told (seen_at c.args.set.document c.args.set.spec.now.span) c.loop-name.clashes.items c.pop.new.self.items c.in-Some.name (all_told c.loop-name.findings.items) _ _ c.in-Some.ensures.items
       (c.in_ok-add_found.ensures.told ∙ (λ j. all_told c.loop-name.findings.items ++ diagnostic (c.at-at.ensures j) 52 (worded 52 (c.as_str.ensures j)) ∷ [])) c.loop-name.invariant.told;
-  errors = clash_error c.args.set.form c.loop-name.clashes.items c.pop.new.self.items c.in-Some.name (errors_in c.loop-name.findings.items) _ _ c.in-Some.ensures.items c.in_ok-add_found.ensures.errors c.loop-name.invariant.errors;
+  errors = clash_error c.args.set.form c.loop-name.clashes.items c.pop.new.self.items c.in-Some.name (errors_in c.loop-name.findings.items) (errors_in c.add_found.new.findings.items) _ c.in-Some.ensures.items c.in_ok-add_found.ensures.errors c.loop-name.invariant.errors;
 }

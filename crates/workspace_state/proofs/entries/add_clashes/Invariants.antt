@@ -1,9 +1,8 @@
-use Rattle.std.proofs.Common.{◌≡◌, ℕ, ◌<◌, ◌++◌, reverse, vec_len}
+use Rattle.std.proofs.Common.{◌≡◌, ℕ, ◌<◌, ◌++◌, List, map, reverse, vec_len}
 use Rattle.scheme_model.specs.Diagnostics.{clash_diagnostics}
 use Rattle.workspace_state.specs.Found.{all_told, errors_in}
 use Rattle.workspace_state.specs.Places.{AreFoundIn}
 use Rattle.workspace_state.proofs.GivenLaws.{seen_at}
-use Rattle.workspace_state.proofs.SetErrors.{clash_errors}
 use Rattle.workspace_state.proofs.entries.add_clashes.Given as goal
 
 -- what is told so far, and the clashes that are left
@@ -12,7 +11,7 @@ invariant-loop-name l = record {
   inside : (count : ℕ) → l.set.document < count → AreFoundIn count l.initial.findings.items → AreFoundIn count l.findings.items;
   told : all_told l.findings.items ++ clash_diagnostics (seen_at l.set.document l.set.spec.now.span) (reverse l.clashes.items)
       ≡ all_told l.initial.findings.items ++ clash_diagnostics (seen_at l.set.document l.set.spec.now.span) (reverse l.initial.clashes.items);
-  errors : errors_in l.findings.items ++ clash_errors l.set.form (reverse l.clashes.items) ≡ errors_in l.initial.findings.items ++ clash_errors l.set.form (reverse l.initial.clashes.items);
+  errors : errors_in l.findings.items ++ map (λ (s : List ℕ). (52, l.set.form)) (reverse l.clashes.items) ≡ errors_in l.initial.findings.items ++ map (λ (s : List ℕ). (52, l.set.form)) (reverse l.initial.clashes.items);
 }
 
 abbrev pub decreases-loop-name : goal.decreases-loop-name

@@ -1,7 +1,7 @@
-use Rattle.std.proofs.Common.{length, refl, ap, subst, arith}
+use Rattle.std.proofs.Common.{◌∷◌, [], ◌++◌, ◌∙◌, length, ap, sym, subst, arith}
 use Rattle.scheme_model.specs.Diagnostics.{bytes_of}
 use Rattle.scheme_model.specs.Entries as model
-use Rattle.import_sets.specs.Sets.{named}
+use Rattle.core_tree.specs.Units.{import_code}
 use Rattle.import_sets.specs.declared.fault.ImportFault.{ImportFault}
 use Rattle.workspace_state.specs.Found.{all_told, errors_in}
 use Rattle.workspace_state.specs.Places.{spans_of}
@@ -9,7 +9,6 @@ use Rattle.workspace_state.specs.SetsGiven.{IsSetFault}
 use Rattle.workspace_state.specs.declared.findings.At.{At}
 use Rattle.workspace_state.proofs.FoundLaws.{at_in}
 use Rattle.workspace_state.proofs.GivenLaws.{bad_set_told, clash_fault_told, missing_told, seen_at}
-use Rattle.workspace_state.proofs.SetErrors.{fault_errors}
 use Rattle.workspace_state.proofs.entries.add_fault.Goals as goal
 
 pub returns-in-NotThere-clause-told : goal.returns-in-NotThere-clause-told
@@ -42,12 +41,15 @@ returns-in-BadSet-clause-inside c = λ found.
 
 pub returns-in-NotThere-clause-errors : goal.returns-in-NotThere-clause-errors
 returns-in-NotThere-clause-errors c = λ f is.
-    fault_errors c.args.set.form 51 f (model.NotThere (named c.in-NotThere.name)) (errors_in c.args.findings.now.items) _ (subst (λ (g : ImportFault). IsSetFault g f) c.in-NotThere.is is) refl c.in_ok-add_found-in-NotThere.ensures.errors
+    c.in_ok-add_found-in-NotThere.ensures.errors
+    ∙ ap (λ (g : model.ImportFault). errors_in c.args.findings.now.items ++ (import_code g, c.args.set.form) ∷ []) (sym (subst (λ (g : ImportFault). IsSetFault g f) c.in-NotThere.is is))
 
 pub returns-in-Clash-clause-errors : goal.returns-in-Clash-clause-errors
 returns-in-Clash-clause-errors c = λ f is.
-    fault_errors c.args.set.form 52 f (model.Clash c.in-Clash.name) (errors_in c.args.findings.now.items) _ (subst (λ (g : ImportFault). IsSetFault g f) c.in-Clash.is is) refl c.in_ok-add_found-in-Clash.ensures.errors
+    c.in_ok-add_found-in-Clash.ensures.errors
+    ∙ ap (λ (g : model.ImportFault). errors_in c.args.findings.now.items ++ (import_code g, c.args.set.form) ∷ []) (sym (subst (λ (g : ImportFault). IsSetFault g f) c.in-Clash.is is))
 
 pub returns-in-BadSet-clause-errors : goal.returns-in-BadSet-clause-errors
 returns-in-BadSet-clause-errors c = λ f is.
-    fault_errors c.args.set.form 53 f model.BadSet (errors_in c.args.findings.now.items) _ (subst (λ (g : ImportFault). IsSetFault g f) c.in-BadSet.is is) refl c.in_ok-add_found-in-BadSet.ensures.errors
+    c.in_ok-add_found-in-BadSet.ensures.errors
+    ∙ ap (λ (g : model.ImportFault). errors_in c.args.findings.now.items ++ (import_code g, c.args.set.form) ∷ []) (sym (subst (λ (g : ImportFault). IsSetFault g f) c.in-BadSet.is is))

@@ -3,8 +3,7 @@ use Rattle.workspace_state.specs.declared.findings.Finding.{Finding}
 use Rattle.workspace_state.specs.Places.{AreFoundIn}
 use Rattle.workspace_state.specs.Wording.{worded}
 use Rattle.workspace_state.proofs.FoundLaws.{found_more}
-use Rattle.workspace_state.proofs.ToldLaws.{told_more}
-use Rattle.workspace_state.proofs.SetErrors.{errors_more}
+use Rattle.workspace_state.proofs.ToldLaws.{told_more, error_more}
 use Rattle.workspace_state.proofs.entries.add_found.Goals as goal
 
 pub returns-clause-inside : goal.returns-clause-inside
@@ -19,5 +18,4 @@ returns-clause-told c =
     (ap (λ (x : Finding). x.code) c.in_ok-new.ensures) (ap (λ (x : Finding). x.message) c.in_ok-new.ensures)
 
 pub returns-clause-errors : goal.returns-clause-errors
-returns-clause-errors c =
-    errors_more c.args.findings.now.items _ c.in_ok-new.field-0 c.args.code c.args.form c.in_ok-push.ensures.items (ap (λ (x : Finding). x.code) c.in_ok-new.ensures) (ap (λ (x : Finding). x.form) c.in_ok-new.ensures)
+returns-clause-errors c = error_more c.args.findings.now.items _ c.in_ok-new.field-0 c.args.code c.args.form c.in_ok-push.ensures.items (ap (λ (x : Finding). x.code) c.in_ok-new.ensures) (ap (λ (x : Finding). x.form) c.in_ok-new.ensures)

@@ -1,8 +1,12 @@
+use Rattle.std.proofs.Common.{List, [], ◌++◌, ◌∙◌, sym, ap}
+use Rattle.std.specs.List.{zip}
+use Rattle.scheme_model.specs.Declarations.{UnitForm}
 use Rattle.scheme_model.specs.Diagnostics.{bytes_of}
+use Rattle.scheme_model.specs.Program.{import_all, specs_from}
+use Rattle.core_tree.specs.Units.{set_errors, set_forms}
 use Rattle.workspace_state.specs.Found.{all_told, errors_in}
 use Rattle.workspace_state.specs.Places.{spans_of}
-use Rattle.workspace_state.proofs.GivenLaws.{base_stands, base_told, document_is, sets_stand, sets_told}
-use Rattle.workspace_state.proofs.SetErrors.{base_errors, sets_errors}
+use Rattle.workspace_state.proofs.GivenLaws.{base_errors, base_stands, base_told, document_is, sets_errors, sets_stand, sets_told}
 use Rattle.workspace_state.proofs.entries.gathered.Goals as goal
 
 pub returns-then-imports_nothing-clause-exact : goal.returns-then-imports_nothing-clause-exact
@@ -24,10 +28,10 @@ returns-clause-told c = λ spelled all rs libs p im reads us places r at is.
     c.if-imports_nothing.false (document_is c.start-document.result (spans_of reads) us c.args.unit r p (c.start-document.ensures.exact reads us places) at is) (c.in_ok-sets_given.ensures.told spelled all rs libs p.specs im.specs reads us places)
 
 pub returns-then-imports_nothing-clause-errors : goal.returns-then-imports_nothing-clause-errors
-returns-then-imports_nothing-clause-errors c = λ spelled all rs libs p im forms within.
-    base_errors (errors_in c.args.findings.now.items) forms all rs p spelled c.args.source.now im c.imports_nothing.result c.imports_nothing.ensures c.if-imports_nothing.true
+returns-then-imports_nothing-clause-errors c = λ spelled all rs libs p im forms specs.
+    base_errors (errors_in c.args.findings.now.items) all rs p spelled c.args.source.now im c.imports_nothing.result c.imports_nothing.ensures c.if-imports_nothing.true (set_forms p.number 0 p.forms)
 
 pub returns-clause-errors : goal.returns-clause-errors
-returns-clause-errors c = λ spelled all rs libs p im forms within.
-    sets_errors (errors_in c.args.findings.now.items) (errors_in c.sets_given.new.findings.items) forms all rs p spelled c.args.source.now im c.imports_nothing.result c.imports_nothing.ensures c.if-imports_nothing.false
-    (c.in_ok-sets_given.ensures.errors spelled all rs libs p.specs im.specs forms within)
+returns-clause-errors c = λ spelled all rs libs p im forms specs.
+    sets_errors (errors_in c.args.findings.now.items) (errors_in c.sets_given.new.findings.items) all rs p spelled c.args.source.now im c.imports_nothing.result c.imports_nothing.ensures c.if-imports_nothing.false (set_forms p.number 0 p.forms)
+    (c.in_ok-sets_given.ensures.errors spelled all rs libs p.specs im.specs p.number (specs ∙ ap (specs_from p.number 0) forms) ∙ ap (λ (fs : List UnitForm). errors_in c.args.findings.now.items ++ set_errors (zip (set_forms p.number 0 fs) (import_all all rs [] p.specs).1)) (sym forms))

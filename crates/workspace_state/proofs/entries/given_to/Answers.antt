@@ -1,9 +1,9 @@
 use Rattle.std.proofs.Common.{List, ◌++◌, sym, ap, ◌∙◌, subst}
+use Rattle.std.specs.List.{zip}
 use Rattle.scheme_model.specs.Program.{unit_entries}
+use Rattle.core_tree.specs.Units.{set_errors, set_forms}
 use Rattle.syntax_tree.specs.Meant.{AreEntries}
 use Rattle.syntax_tree.specs.declared.units.Entry.{Entry}
-use Rattle.std.specs.List.{zip}
-use Rattle.core_tree.specs.Units.{set_errors}
 use Rattle.scheme_model.specs.Diagnostics.{bytes_of, set_diagnostics}
 use Rattle.workspace_state.specs.Found.{all_told, errors_in}
 use Rattle.workspace_state.specs.Places.{spans_of}
@@ -20,6 +20,5 @@ returns-clause-told c = λ spelled all rs libs p im reads us places r at is.
     ∙ ap (λ (fs : List Finding). all_told fs ++ set_diagnostics (bytes_of (spans_of reads) us) p.placed.document p.specs (unit_entries all rs p).1) c.new-findings.ensures.items
 
 pub returns-clause-errors : goal.returns-clause-errors
-returns-clause-errors c = λ spelled all rs libs p im forms within.
-    c.in_ok-gathering.ensures.errors spelled all rs libs p im forms within
-    ∙ ap (λ (fs : List Finding). errors_in fs ++ set_errors (zip forms (unit_entries all rs p).1)) c.new-findings.ensures.items
+returns-clause-errors c = λ spelled all rs libs p im forms specs.
+    c.in_ok-gathering.ensures.errors spelled all rs libs p im forms specs ∙ ap (λ (fs : List Finding). errors_in fs ++ set_errors (zip (set_forms p.number 0 p.forms) (unit_entries all rs p).1)) c.new-findings.ensures.items

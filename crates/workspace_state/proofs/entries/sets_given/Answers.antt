@@ -1,20 +1,24 @@
-use Rattle.std.proofs.Common.{◌≡◌, List, [], length, drop, sym, ap, subst, arith, ℕ, ◌∷◌, ◌++◌, ◌∙◌}
+use Rattle.std.proofs.Common.{◌≡◌, ℕ, List, [], ◌∷◌, ◌++◌, ◌∙◌, append-nil, length, drop, refl, sym, ap, subst, arith}
+use Rattle.std.specs.List.{zip}
+use Rattle.scheme_model.specs.Program.{ImportSpec, import_all}
 use Rattle.core_tree.specs.Names.{AllMatch}
-use Rattle.core_tree.specs.Units.{set_errors}
+use Rattle.core_tree.specs.Units.{set_errors, set_forms}
+use Rattle.library_table.specs.UnitsRead.{forms_of}
+use Rattle.library_table.specs.declared.units.UnitForm.{UnitForm}
 use Rattle.import_sets.specs.Given.{Gathered}
 use Rattle.library_table.specs.declared.units.ImportSpec as code
-use Rattle.library_table.specs.declared.units.UnitForm.{UnitForm}
 use Rattle.workspace_state.specs.Found.{all_told, errors_in}
+use Rattle.workspace_state.specs.Places.{number_at}
 use Rattle.workspace_state.specs.Joining.{AreApart, GroupsMean}
-use Rattle.workspace_state.specs.SetsGiven.{IsInForm, IsSpec, with_set}
-use Rattle.workspace_state.proofs.GivenLaws.{item_at, libraries_kept, none_left, sets_begin, sets_done, sets_next}
+use Rattle.workspace_state.specs.SetsGiven.{IsSpec, with_set}
+use Rattle.workspace_state.proofs.GivenLaws.{item_at, libraries_kept, none_left, sets_told_begin, sets_done, sets_told_next}
 use Rattle.workspace_state.proofs.Matched.{matched_at}
 use Rattle.workspace_state.proofs.MeaningLaws.{names_itself, names_on}
-use Rattle.workspace_state.proofs.SetErrors.{errors_begin, errors_done, errors_go_on}
+use Rattle.workspace_state.proofs.SetErrors.{as_many_forms, no_set_errors}
 use Rattle.workspace_state.proofs.entries.sets_given.Goals as goal
 
-pub loop-spec-init : goal.loop-spec-init
-loop-spec-init c =
+pub loop-place-init : goal.loop-place-init
+loop-place-init c =
     let none : c.new-gathering.result.groups.items ≡ [] = ap (λ (g : Gathered). g.groups) c.new-gathering.ensures in
     record {
       names = names_itself c.args.symbols.now;
@@ -22,57 +26,53 @@ loop-spec-init c =
       apart = subst AreApart (sym none) tt;
       clashes = ap (λ (g : Gathered). g.clashes) c.new-gathering.ensures;
       findings = c.requires.findings;
-      sets = λ spelled all rs libs ss specs. sets_begin c.args.symbols.now c.new-gathering.result.groups.items (all_told c.args.findings.now.items) c.args.places c.args.document all rs ss none;
-      errors = λ spelled all rs libs ss specs forms within. errors_begin c.args.symbols.now c.new-gathering.result.groups.items (errors_in c.args.findings.now.items) all rs ss forms none;
+      sets = λ spelled all rs libs ss specs. sets_told_begin c.args.symbols.now c.new-gathering.result.groups.items (all_told c.args.findings.now.items) c.args.places c.args.document all rs ss c.in_ok-forms.forms.items (errors_in c.args.findings.now.items) none;
     }
 
-pub loop-spec-preserved : goal.loop-spec-preserved
-loop-spec-preserved c =
+pub loop-place-preserved : goal.loop-place-preserved
+loop-place-preserved c =
     let old = c.args.symbols.now in
-    let mid = c.loop-spec.symbols in
+    let mid = c.loop-place.symbols in
     let new = c.with_set.new.symbols in
-    let xs = c.as_slice-spec-items.result.now in
-    let i = c.loop-spec.spec-index in
+    let xs = c.as_slice-specs.result.now in
+    let i = c.loop-place.place in
+    let fs = c.in_ok-forms.forms.items in
     record {
-      names = names_on old mid new c.loop-spec.invariant.names c.in_ok-gathering.ensures.names;
+      names = names_on old mid new c.loop-place.invariant.names c.in_ok-gathering.ensures.names;
       means = c.in_ok-gathering.ensures.means;
       apart = c.in_ok-gathering.ensures.apart;
       clashes = c.in_ok-gathering.ensures.clashes;
       findings = c.in_ok-gathering.ensures.findings;
       sets = λ spelled all rs libs ss specs.
-          let there = subst (λ (l : List code.ImportSpec). AllMatch (IsSpec spelled) l ss) (sym c.as_slice-spec-items.ensures) specs in
-          let m = matched_at (IsSpec spelled) xs ss i c.spec-item.result there (item_at xs i c.spec-item.result (omega arith) c.spec-item.is) in
-          let h = c.loop-spec.invariant.sets spelled all rs libs ss specs in
-          let known = libraries_kept old mid c.loop-spec.invariant.names c.args.libraries spelled all rs libs in
-          sets_next mid new c.loop-spec.gathering.groups.items c.in_ok-gathering.gathering.groups.items (all_told c.args.findings.now.items) (all_told c.loop-spec.findings.items) (all_told c.with_set.new.findings.items) c.args.places
-          c.args.document all rs ss i m.0 m.1 h (c.in_ok-gathering.ensures.exact spelled all rs known m.0 m.2 h.es h.stand) (c.in_ok-gathering.ensures.told spelled all rs known m.0 m.2 h.es h.stand);
-      errors = λ spelled all rs libs ss specs forms within.
-          let there = subst (λ (l : List code.ImportSpec). AllMatch (IsSpec spelled) l ss) (sym c.as_slice-spec-items.ensures) specs in
-          let at = item_at xs i c.spec-item.result (omega arith) c.spec-item.is in
-          let m = matched_at (IsSpec spelled) xs ss i c.spec-item.result there at in
-          let fs = c.args.source.now.forms in
-          let inside = subst (λ (l : List code.ImportSpec). AllMatch (λ (s : code.ImportSpec) (n : ℕ). IsInForm fs s.span.start n) l forms) (sym c.as_slice-spec-items.ensures) within in
-          let k = matched_at (λ (s : code.ImportSpec) (n : ℕ). IsInForm fs s.span.start n) xs forms i c.spec-item.result inside at in
-          let own : c.form_at-form.result ≡ k.0 = c.form_at-form.ensures k.0 (subst (λ (l : List UnitForm). IsInForm l c.spec-item.result.span.start k.0) (sym c.as_slice.ensures) k.2) in
-          let h = c.loop-spec.invariant.errors spelled all rs libs ss specs forms within in
-          let known = libraries_kept old mid c.loop-spec.invariant.names c.args.libraries spelled all rs libs in
-          errors_go_on mid new c.loop-spec.gathering.groups.items c.in_ok-gathering.gathering.groups.items (errors_in c.args.findings.now.items) (errors_in c.loop-spec.findings.items) (errors_in c.with_set.new.findings.items) all rs ss forms i m.0 k.0
-          m.1 k.1 h (c.in_ok-gathering.ensures.exact spelled all rs known m.0 m.2 h.es h.stand)
-          (c.in_ok-gathering.ensures.errors spelled all rs known m.0 m.2 h.es h.stand ∙ ap (λ (n : ℕ). errors_in c.loop-spec.findings.items ++ set_errors ((n, (with_set all rs m.0.set h.es).1) ∷ [])) own);
+          let there = subst (λ (l : List code.ImportSpec). AllMatch (IsSpec spelled) l ss) (sym c.as_slice-specs.ensures) specs in
+          let m = matched_at (IsSpec spelled) xs ss i c.index-specs-place.result there (item_at xs i c.index-specs-place.result (omega arith) c.index-specs-place.is) in
+          let h = c.loop-place.invariant.sets spelled all rs libs ss specs in
+          let known = libraries_kept old mid c.loop-place.invariant.names c.args.libraries spelled all rs libs in
+          sets_told_next mid new c.loop-place.gathering.groups.items c.in_ok-gathering.gathering.groups.items (all_told c.args.findings.now.items) (all_told c.loop-place.findings.items) (all_told c.with_set.new.findings.items) c.args.places
+          c.args.document all rs ss i m.0 fs (errors_in c.args.findings.now.items) (errors_in c.loop-place.findings.items) (errors_in c.with_set.new.findings.items) m.1 h
+          (c.in_ok-gathering.ensures.exact spelled all rs known m.0 m.2 h.sets.es h.sets.stand) (c.in_ok-gathering.ensures.told spelled all rs known m.0 m.2 h.sets.es h.sets.stand)
+          (c.in_ok-gathering.ensures.errors spelled all rs known m.0 m.2 h.sets.es h.sets.stand ∙ ap (λ (n : ℕ). errors_in c.loop-place.findings.items ++ set_errors ((n, (with_set all rs m.0.set h.sets.es).1) ∷ [])) (c.form_in-form.ensures ∙ ap (λ (ns : List ℕ). number_at ns i) c.as_slice-in-loop-place.ensures.value));
     }
 
 pub returns-clause-exact : goal.returns-clause-exact
 returns-clause-exact c = λ spelled all rs libs ss specs.
-    (sets_done c.loop-spec.symbols c.loop-spec.gathering.groups.items (all_told c.args.findings.now.items) (all_told c.loop-spec.findings.items) c.args.places c.args.document all rs ss (drop c.loop-spec.spec-index ss)
-    (none_left (IsSpec spelled) c.args.source.now.imports ss c.loop-spec.spec-index specs (let e = ap (λ (l : List code.ImportSpec). length l) c.as_slice-spec-items.ensures in omega arith)) (c.loop-spec.invariant.sets spelled all rs libs ss specs)).stand
+    (sets_done c.loop-place.symbols c.loop-place.gathering.groups.items (all_told c.args.findings.now.items) (all_told c.loop-place.findings.items) c.args.places c.args.document all rs ss (drop c.loop-place.place ss)
+    (none_left (IsSpec spelled) c.args.source.now.imports ss c.loop-place.place specs (let e = ap (λ (l : List code.ImportSpec). length l) c.as_slice-specs.ensures in omega arith)) (c.loop-place.invariant.sets spelled all rs libs ss specs).sets).stand
 
 pub returns-clause-told : goal.returns-clause-told
 returns-clause-told c = λ spelled all rs libs ss specs reads us places.
-    (sets_done c.loop-spec.symbols c.loop-spec.gathering.groups.items (all_told c.args.findings.now.items) (all_told c.loop-spec.findings.items) c.args.places c.args.document all rs ss (drop c.loop-spec.spec-index ss)
-    (none_left (IsSpec spelled) c.args.source.now.imports ss c.loop-spec.spec-index specs (let e = ap (λ (l : List code.ImportSpec). length l) c.as_slice-spec-items.ensures in omega arith)) (c.loop-spec.invariant.sets spelled all rs libs ss specs)).found
+    (sets_done c.loop-place.symbols c.loop-place.gathering.groups.items (all_told c.args.findings.now.items) (all_told c.loop-place.findings.items) c.args.places c.args.document all rs ss (drop c.loop-place.place ss)
+    (none_left (IsSpec spelled) c.args.source.now.imports ss c.loop-place.place specs (let e = ap (λ (l : List code.ImportSpec). length l) c.as_slice-specs.ensures in omega arith)) (c.loop-place.invariant.sets spelled all rs libs ss specs).sets).found
     reads us places
 
 pub returns-clause-errors : goal.returns-clause-errors
-returns-clause-errors c = λ spelled all rs libs ss specs forms within.
-    errors_done c.loop-spec.symbols c.loop-spec.gathering.groups.items (errors_in c.args.findings.now.items) (errors_in c.loop-spec.findings.items) all rs ss (drop c.loop-spec.spec-index ss) forms (drop c.loop-spec.spec-index forms)
-    (none_left (IsSpec spelled) c.args.source.now.imports ss c.loop-spec.spec-index specs (let e = ap (λ (l : List code.ImportSpec). length l) c.as_slice-spec-items.ensures in omega arith)) (c.loop-spec.invariant.errors spelled all rs libs ss specs forms within)
+returns-clause-errors c = λ spelled all rs libs ss specs unit is.
+    let h = c.loop-place.invariant.sets spelled all rs libs ss specs in
+    let n = c.loop-place.place in
+    let fs = c.in_ok-forms.forms.items in
+    let now = errors_in c.loop-place.findings.items in
+    let forms : fs ≡ set_forms unit 0 (forms_of c.args.source.now.forms) = c.in_ok-forms.ensures unit ∙ ap (λ (gs : List UnitForm). set_forms unit 0 (forms_of gs)) c.as_slice.ensures in
+    let many : length fs ≡ length ss = ap (λ (ns : List ℕ). length ns) forms ∙ (as_many_forms unit 0 (forms_of c.args.source.now.forms) ∙ ap (λ (xs : List ImportSpec). length xs) (sym is)) in
+    let past : drop n ss ≡ [] = none_left (IsSpec spelled) c.args.source.now.imports ss n specs (let e = ap (λ (l : List code.ImportSpec). length l) c.as_slice-specs.ensures in omega arith) in
+    sym (append-nil now) ∙ (ap (λ (es : List (ℕ × ℕ)). now ++ es) (sym (no_set_errors (drop n fs))) ∙ (ap (λ (l : List ImportSpec). now ++ set_errors (zip (drop n fs) (import_all all rs h.sets.es l).1)) (sym past)
+    ∙ (h.errors many ∙ ap (λ (ns : List ℕ). errors_in c.args.findings.now.items ++ set_errors (zip ns (import_all all rs [] ss).1)) forms)))

@@ -6,20 +6,17 @@ use Rattle.core_tree.specs.Names.{AllMatch}
 use Rattle.workspace_state.specs.Found.{all_told, errors_in}
 use Rattle.workspace_state.specs.Joining.{AreApart, GroupsMean}
 use Rattle.workspace_state.specs.Places.{AreFoundIn}
-use Rattle.workspace_state.specs.SetsGiven.{AreInForms, AreLibraries, IsSpec}
-use Rattle.workspace_state.proofs.GivenLaws.{SetsSoFar}
-use Rattle.workspace_state.proofs.SetErrors.{ErrorsSoFar}
+use Rattle.workspace_state.specs.SetsGiven.{AreLibraries, IsSpec}
+use Rattle.workspace_state.proofs.GivenLaws.{SetsTold}
 use Rattle.workspace_state.proofs.entries.sets_given.Given as goal
 
-abbrev pub invariant-loop-spec : goal.invariant-loop-spec
-invariant-loop-spec l = record {
+abbrev pub invariant-loop-place : goal.invariant-loop-place
+invariant-loop-place l = record {
   names : KeepsNames l.initial.symbols l.symbols;
   means : GroupsMean l.symbols l.gathering.groups.items;
   apart : AreApart l.gathering.groups.items;
   clashes : l.gathering.clashes.items ≡ [];
   findings : AreFoundIn (length l.places.documents.now) l.findings.items;
   sets : (spelled : LibraryName → List ℕ) (all : List Placed) (rs : List UnitResult) → AreLibraries l.initial.symbols l.libraries spelled all rs → (ss : List ImportSpec) → AllMatch (IsSpec spelled) l.source.imports ss →
-      SetsSoFar l.symbols l.gathering.groups.items (all_told l.initial.findings.items) (all_told l.findings.items) l.places l.document all rs ss (drop l.spec-index ss);
-  errors : (spelled : LibraryName → List ℕ) (all : List Placed) (rs : List UnitResult) → AreLibraries l.initial.symbols l.libraries spelled all rs → (ss : List ImportSpec) → AllMatch (IsSpec spelled) l.source.imports ss →
-      (forms : List ℕ) → AreInForms l.source forms → ErrorsSoFar l.symbols l.gathering.groups.items (errors_in l.initial.findings.items) (errors_in l.findings.items) all rs ss (drop l.spec-index ss) forms (drop l.spec-index forms);
+      SetsTold l.symbols l.gathering.groups.items (all_told l.initial.findings.items) (all_told l.findings.items) l.places l.document all rs ss (drop l.place ss) l.forms.items (drop l.place l.forms.items) (errors_in l.initial.findings.items) (errors_in l.findings.items);
 }

@@ -1,8 +1,7 @@
-use Rattle.std.proofs.Common.{List, ℕ, ◌++◌, ap, ◌∙◌}
+use Rattle.std.proofs.Common.{List, ℕ, ◌++◌, map, ap, ◌∙◌}
 use Rattle.scheme_model.specs.Diagnostics.{clash_diagnostics}
 use Rattle.workspace_state.specs.Found.{all_told, errors_in}
 use Rattle.workspace_state.proofs.GivenLaws.{seen_at}
-use Rattle.workspace_state.proofs.SetErrors.{clash_errors}
 use Rattle.workspace_state.proofs.entries.with_entries.Goals as goal
 
 pub returns-clause-exact : goal.returns-clause-exact
@@ -16,4 +15,4 @@ returns-clause-told c = λ names apart es stand ds are.
 pub returns-clause-errors : goal.returns-clause-errors
 returns-clause-errors c = λ names apart es stand ds are.
     c.in_ok-add_clashes.ensures.errors
-    ∙ ap (λ (ss : List (List ℕ)). errors_in c.args.findings.now.items ++ clash_errors c.args.set.form ss) (c.in_ok-groups.ensures.exact c.requires names apart es stand ds are).clashes
+    ∙ ap (λ (ss : List (List ℕ)). errors_in c.args.findings.now.items ++ map (λ (s : List ℕ). (52, c.args.set.form)) ss) (c.in_ok-groups.ensures.exact c.requires names apart es stand ds are).clashes

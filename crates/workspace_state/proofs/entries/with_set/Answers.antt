@@ -1,7 +1,8 @@
-use Rattle.std.proofs.Common.{[], length, subst, append-nil, sym, ◌∙◌}
+use Rattle.std.proofs.Common.{ℕ, List, [], ◌∷◌, ◌++◌, ◌∙◌, append-nil, length, map, sym, ap, subst}
 use Rattle.scheme_model.specs.Diagnostics.{bytes_of}
 use Rattle.scheme_model.specs.Entries as model
-use Rattle.scheme_model.specs.Program.{Unknown, Faulty}
+use Rattle.scheme_model.specs.Program.{SetResult, Unknown, Faulty}
+use Rattle.core_tree.specs.Units.{set_errors}
 use Rattle.import_sets.specs.Sets.{TellsApart}
 use Rattle.workspace_state.specs.declared.entries.SetGives.{SetGives}
 use Rattle.workspace_state.specs.Found.{all_told, errors_in}
@@ -10,7 +11,6 @@ use Rattle.workspace_state.specs.Places.{spans_of}
 use Rattle.workspace_state.specs.SetsGiven.{ComesTo, with_set}
 use Rattle.workspace_state.proofs.GivenLaws.{gives_told, faulty_told, groups_after, groups_on, told_after}
 use Rattle.workspace_state.proofs.ImportLaws.{groups_kept}
-use Rattle.workspace_state.proofs.SetErrors.{errors_after, gives_errors}
 use Rattle.workspace_state.proofs.entries.with_set.Goals as goal
 
 pub returns-in_ok-with_entries-in-Entries-clause-means : goal.returns-in_ok-with_entries-in-Entries-clause-means
@@ -83,19 +83,21 @@ returns-in_ok-with_entries-in-Entries-clause-errors c = λ spelled all rs libs s
     let apart : TellsApart names = record { symbols = c.told_apart.ensures.symbols; idents = c.told_apart.ensures.idents } in
     let h = subst (λ (g : SetGives). ComesTo names g (with_set all rs s.set)) c.in-Entries.is (c.in_ok-entries.ensures.exact spelled all rs libs s.set is.set) in
     let old = errors_in c.args.findings.now.items in
-    errors_after c.args.set.form old _ (with_set all rs s.set es) _ (h.2 es)
-    (gives_errors c.args.set.form h.0 (model.gather es h.0 []).1 old _
-    (c.in_ok-with_entries-in-Entries.ensures.errors names apart es (groups_on c.args.symbols.now names c.in_ok-entries.ensures.names c.args.gathering.groups.items es stand) h.0 h.1))
+    let form = c.args.set.form in
+    c.in_ok-with_entries-in-Entries.ensures.errors names apart es (groups_on c.args.symbols.now names c.in_ok-entries.ensures.names c.args.gathering.groups.items es stand) h.0 h.1
+    ∙ (ap (λ (xs : List (ℕ × ℕ)). old ++ xs) (sym (append-nil (map (λ (t : List ℕ). (52, form)) (model.gather es h.0 []).1)))
+    ∙ ap (λ (q : List model.Entry × SetResult). old ++ set_errors ((form, q.1) ∷ [])) (sym (h.2 es)))
 
 pub returns-in_ok-add_unknown-in-Unknown-clause-errors : goal.returns-in_ok-add_unknown-in-Unknown-clause-errors
 returns-in_ok-add_unknown-in-Unknown-clause-errors c = λ spelled all rs libs s is es stand.
     let names = c.of_set.new.symbols in
     let h = subst (λ (g : SetGives). ComesTo names g (with_set all rs s.set)) c.in-Unknown.is (c.in_ok-entries.ensures.exact spelled all rs libs s.set is.set) in
     let old = errors_in c.args.findings.now.items in
-    errors_after c.args.set.form old _ (with_set all rs s.set es) (es, Unknown) (h es) (c.in_ok-add_unknown-in-Unknown.ensures.errors ∙ sym (append-nil old))
+    c.in_ok-add_unknown-in-Unknown.ensures.errors ∙ (sym (append-nil old) ∙ ap (λ (q : List model.Entry × SetResult). old ++ set_errors ((c.args.set.form, q.1) ∷ [])) (sym (h es)))
 
 pub returns-in_ok-add_fault-in-Faulty-clause-errors : goal.returns-in_ok-add_fault-in-Faulty-clause-errors
 returns-in_ok-add_fault-in-Faulty-clause-errors c = λ spelled all rs libs s is es stand.
     let names = c.of_set.new.symbols in
     let h = subst (λ (g : SetGives). ComesTo names g (with_set all rs s.set)) c.in-Faulty.is (c.in_ok-entries.ensures.exact spelled all rs libs s.set is.set) in
-    errors_after c.args.set.form (errors_in c.args.findings.now.items) _ (with_set all rs s.set es) (es, Faulty h.0) (h.2 es) (c.in_ok-add_fault-in-Faulty.ensures.errors h.0 h.1)
+    let old = errors_in c.args.findings.now.items in
+    c.in_ok-add_fault-in-Faulty.ensures.errors h.0 h.1 ∙ ap (λ (q : List model.Entry × SetResult). old ++ set_errors ((c.args.set.form, q.1) ∷ [])) (sym (h.2 es))

@@ -1,9 +1,14 @@
 -- The finding stands in a document.
-use Rattle.std.proofs.Common.{List, [], ◌∷◌, ◌++◌, length, sym, ap, ◌∙◌, subst}
+use Rattle.std.proofs.Common.{◌≡◌, List, [], ◌∷◌, ◌++◌, length, sym, ap, ◌∙◌, subst}
+use Rattle.scheme_model.specs.Diagnostics.{whole_fault}
+use Rattle.core_tree.specs.Units.{whole_code}
+use Rattle.workspace_state.specs.declared.breaking.WholeFault.{WholeFault}
 use Rattle.workspace_state.specs.declared.findings.Finding.{Finding}
-use Rattle.workspace_state.specs.Places.{AreFoundIn}
+use Rattle.workspace_state.specs.Diagnosed.{Adds, IsWhole}
+use Rattle.workspace_state.specs.Places.{AreFoundIn, spans_of}
 use Rattle.workspace_state.proofs.FoundLaws.{found_none, found_more}
 use Rattle.workspace_state.proofs.UnitsTurns.{blank_formed}
+use Rattle.workspace_state.proofs.WholeLaws.{whole_found, whole_of}
 use Rattle.workspace_state.proofs.expanding.broken.Goals as goal
 
 pub returns-clause-findings : goal.returns-clause-findings
@@ -14,3 +19,10 @@ returns-clause-findings c =
 
 pub returns-clause-formed : goal.returns-clause-formed
 returns-clause-formed c = λ work. blank_formed work c.args.unit c.in_ok-blank_forms.field-0 c.in_ok-blank_forms.ensures.blank
+
+pub returns-clause-finds : goal.returns-clause-finds
+returns-clause-finds c = λ rs p r f places at broken fault.
+    let one = c.in_ok-finding.finding in
+    let adds = c.in_ok-finding.ensures.exact rs p.units r f places at (subst (λ (w : WholeFault). IsWhole w f) (sym fault) (whole_of f)) in
+    let is : c.push.new.self.items ≡ one ∷ [] = c.in_ok-push.ensures.items ∙ ap (λ (fs : List Finding). fs ++ one ∷ []) c.new-findings.ensures.items in
+    whole_found rs p r f c.push.new.self.items broken (subst (λ (fs : List Finding). Adds [] fs (whole_fault (spans_of rs) r.unit f ∷ []) ((whole_code f, 0) ∷ [])) (sym is) adds)

@@ -3,14 +3,18 @@ use Rattle.std.proofs.Common.{◌≡◌, ℕ, zero, suc, ◌<◌, [], ◌∷◌,
 use Rattle.std.specs.Prelude.{Option}
 use Rattle.std.proofs.lemmas.List.{length-replicate, take_all, take_more}
 use Rattle.std.proofs.lemmas.Option.{slice_get-get_or}
+use Rattle.syntax_tree.proofs.Places.{none_some}
 use Rattle.expander.specs.Opened.{IsNew}
 use Rattle.workspace_state.specs.declared.expanding.Expanded.{Expanded}
 use Rattle.scheme_model.specs.ScopedProgram.{scoped_before}
 use Rattle.workspace_state.specs.Came.{HaveCome, IsUpTo}
 use Rattle.workspace_state.specs.Formed.{CameFormed}
 use Rattle.workspace_state.specs.Libraries.{ExportsMean}
+use Rattle.workspace_state.specs.Turned.{scoped_at}
 use Rattle.workspace_state.specs.UnitsExpanded.{AreAllFound}
-use Rattle.workspace_state.proofs.BrokenLaws.{heads_itself, heads_on}
+use Rattle.workspace_state.specs.UnitsFound.{HaveFound}
+use Rattle.workspace_state.proofs.BrokenLaws.{heads_itself, heads_on, names_itself, names_then}
+use Rattle.workspace_state.proofs.HeadsKept.{heads_kept}
 use Rattle.workspace_state.proofs.SoundKept.{sound_with}
 use Rattle.workspace_state.proofs.Turns.{in_at, later_hold}
 use Rattle.workspace_state.proofs.UpTo.{none_come}
@@ -30,6 +34,7 @@ loop-place-init g c =
     record {
       bench = c.requires.bench;
       heads = heads_itself c.args.units.now.heads.items;
+      kept = names_itself c.args.units.now.heads.items;
       sources = refl;
       count = omega (arith, c.in_ok-all.all.ok.0, ap length is, length-replicate c.len.result none, c.len.ensures);
       found = subst (λ (xs : List (Option Expanded)). AreAllFound (length c.args.documents.now) xs) (sym is) (none_found (length c.args.documents.now) c.len.result);
@@ -37,6 +42,7 @@ loop-place-init g c =
       formed = subst (λ (xs : List (Option Expanded)). CameFormed c.args.bench.now.work xs) (sym is) (none_formed c.args.bench.now.work c.len.result);
       up = λ spelled us known order many finds knows goes heads sources.
           record { knows = knows; goes = goes; come = subst (λ (xs : List (Option Expanded)). HaveCome us scoped_before c.args.bench.now.work xs) (sym is) (none_come us scoped_before refl c.args.bench.now.work c.len.result); heads = heads; sources = sources; count = ap (λ (xs : List (Option Expanded)). length xs) is ∙ (length-replicate c.len.result none ∙ (c.len.ensures ∙ many)) };
+      finds = λ spelled us known order many finds knows goes heads sources reads ends are tokens results. λ n e r at there. none_some r there;
       new = λ k u le at. c.requires.new u (in_at c.args.order.now k u at);
     }
 
@@ -71,6 +77,7 @@ loop-place-preserved g c =
     record {
       bench = c.in_ok-expand_at.ensures.bench;
       heads = heads_on c.args.units.now.heads.items c.loop-place.units.heads.items c.expand_at.new.units.heads.items c.loop-place.invariant.heads c.in_ok-expand_at.ensures.heads;
+      kept = names_then c.args.units.now.heads.items c.loop-place.units.heads.items c.expand_at.new.units.heads.items c.loop-place.invariant.kept c.in_ok-expand_at.ensures.kept;
       sources = c.expand_at.ensures.sources ∙ c.loop-place.invariant.sources;
       count = omega (arith, c.in_ok-expand_at.ensures.count, c.loop-place.invariant.count);
       found = c.in_ok-expand_at.ensures.found;
@@ -80,6 +87,12 @@ loop-place-preserved g c =
           subst (λ (done : List ℕ). IsUpTo spelled us known done c.expand_at.new.bench c.expand_at.new.units c.expand_at.new.all.items) (sym (take_more c.args.order.now i 0 lt))
           (c.in_ok-expand_at.ensures.next spelled us known (take i c.args.order.now) (drop (suc i) c.args.order.now) (sym order ∙ split_at c.args.order.now i 0 lt) finds
           (c.loop-place.invariant.up spelled us known order many finds knows goes heads sources));
+      finds = λ spelled us known order many finds knows goes heads sources reads ends are tokens results.
+          subst (λ (done : List ℕ). HaveFound reads ends (scoped_at us known done) c.expand_at.new.all.items) (sym (take_more c.args.order.now i 0 lt))
+          (c.in_ok-expand_at.ensures.finds spelled us known (take i c.args.order.now) (drop (suc i) c.args.order.now) (sym order ∙ split_at c.args.order.now i 0 lt) finds
+          (c.loop-place.invariant.up spelled us known order many finds knows goes heads sources) reads ends
+          (heads_kept reads 0 c.args.units.now.heads.items c.loop-place.units.heads.items ends c.loop-place.invariant.heads are) tokens results
+          (c.loop-place.invariant.finds spelled us known order many finds knows goes heads sources reads ends are tokens results));
       new = later_hold c.args.order.now c.requires.order.once (IsNew c.loop-place.bench.scope) (IsNew c.expand_at.new.bench.scope) i p at c.in_ok-expand_at.ensures.others c.loop-place.invariant.new;
     }
 
@@ -87,3 +100,8 @@ pub returns-clause-up : goal.returns-clause-up
 returns-clause-up g c = λ spelled us known order many finds knows goes heads sources.
     subst (λ (done : List ℕ). IsUpTo spelled us known done c.loop-place.bench c.loop-place.units c.loop-place.all.items) (take_all c.loop-place.place-index c.args.order.now (omega arith) ∙ order)
     (c.loop-place.invariant.up spelled us known order many finds knows goes heads sources)
+
+pub returns-clause-finds : goal.returns-clause-finds
+returns-clause-finds g c = λ spelled us known order many finds knows goes heads sources reads ends are tokens results.
+    subst (λ (done : List ℕ). HaveFound reads ends (scoped_at us known done) c.loop-place.all.items) (take_all c.loop-place.place-index c.args.order.now (omega arith) ∙ order)
+    (c.loop-place.invariant.finds spelled us known order many finds knows goes heads sources reads ends are tokens results)

@@ -1,16 +1,18 @@
 use Rattle.std.proofs.Common.{◌≡◌, ℕ, ◌≤◌, List, length, take, vec_len, slice_get, Some}
-use Rattle.scheme_model.specs.Program.{Placed}
+use Rattle.scheme_model.specs.Program.{Placed, UnitResult}
 use Rattle.scheme_model.specs.Requirements.{Known, LibraryName}
 use Rattle.scheme_model.specs.ScopedProgram.{scoped_before}
 use Rattle.expander.specs.Judged.{Knows}
 use Rattle.expander.specs.Opened.{IsNew}
 use Rattle.workspace_state.specs.Came.{AreSourcesOf, FindsLibraries, GoesOn, HeadsBy, IsUpTo}
-use Rattle.workspace_state.specs.Turned.{turns}
+use Rattle.workspace_state.specs.Turned.{scoped_at, turns}
 use Rattle.workspace_state.specs.Formed.{CameFormed}
 use Rattle.workspace_state.specs.Forms.{IsBench}
 use Rattle.workspace_state.specs.Libraries.{ExportsMean}
-use Rattle.workspace_state.specs.Places.{HeadsStay}
+use Rattle.workspace_state.specs.Places.{AreHeads, HeadsStay, NamesKept}
+use Rattle.workspace_state.specs.Readings.{Read}
 use Rattle.workspace_state.specs.UnitsExpanded.{AreAllFound}
+use Rattle.workspace_state.specs.UnitsFound.{AreResultsOf, HaveFound, HaveTokens}
 use Rattle.workspace_state.proofs.expanding.expand_all.Given as goal
 
 -- the units so far came to something, and those to come are still to be begun
@@ -18,6 +20,7 @@ abbrev pub invariant-loop-place : goal.invariant-loop-place
 invariant-loop-place g l = record {
   bench : IsBench l.bench;
   heads : HeadsStay l.fn.units.heads.items l.units.heads.items;
+  kept : NamesKept l.fn.units.heads.items l.units.heads.items;
   sources : l.units.sources ≡ l.fn.units.sources;
   count : vec_len l.all ≡ vec_len l.fn.units.heads;
   found : AreAllFound (length l.documents) l.all.items;
@@ -25,5 +28,8 @@ invariant-loop-place g l = record {
   formed : CameFormed l.bench.work l.all.items;
   up : (spelled : LibraryName → List ℕ) (us : List Placed) (known : Known) → l.order ≡ turns us → vec_len l.fn.units.heads ≡ length us → FindsLibraries spelled us l.firsts → Knows l.fn.bench.scope.libraries known → GoesOn l.fn.bench scoped_before → HeadsBy us scoped_before l.fn.units.heads.items →
       AreSourcesOf spelled us l.fn.units.sources.items → IsUpTo spelled us known (take l.place-index l.order) l.bench l.units l.all.items;
+  finds : (spelled : LibraryName → List ℕ) (us : List Placed) (known : Known) → l.order ≡ turns us → vec_len l.fn.units.heads ≡ length us → FindsLibraries spelled us l.firsts → Knows l.fn.bench.scope.libraries known → GoesOn l.fn.bench scoped_before → HeadsBy us scoped_before l.fn.units.heads.items →
+      AreSourcesOf spelled us l.fn.units.sources.items → (reads : List Read) (ends : List UnitResult) → AreHeads reads 0 l.fn.units.heads.items ends → HaveTokens l.documents reads → AreResultsOf us ends →
+      HaveFound reads ends (scoped_at us known (take l.place-index l.order)) l.all.items;
   new : (k u : ℕ) → l.place-index ≤ k → slice_get l.order k ≡ Some u → IsNew l.bench.scope u;
 }

@@ -14,9 +14,10 @@ use Rattle.workspace_state.specs.Broken.{broken_if}
 use Rattle.workspace_state.specs.Came.{HaveCome, IsSourceOf}
 use Rattle.workspace_state.specs.SetsGiven.{AreLibraries}
 use Rattle.workspace_state.specs.Turned.{scoped_at}
+use Rattle.workspace_state.specs.UnitsFound.{AreSetsFound}
 use Rattle.arrow_index.specs.Formed.{IsFormed}
 use Rattle.workspace_state.specs.Libraries.{ExportsMean, HaveMeaning}
-use Rattle.workspace_state.specs.Places.{SameHead, AreHeadsIn, AreFoundIn}
+use Rattle.workspace_state.specs.Places.{SameHead, AreHeads, AreHeadsIn, AreFoundIn, ArePlaces}
 use Rattle.expander.proofs.ImportLaws.{same_trees}
 use Rattle.expander.proofs.OutcomeLaws.{trees_on}
 use Rattle.workspace_state.proofs.BenchLaws.{bench_in}
@@ -25,7 +26,8 @@ use Rattle.workspace_state.proofs.TurnCited.{turn_of}
 use Rattle.workspace_state.proofs.UnitCame.{goes_in}
 use Rattle.workspace_state.proofs.UpTo.{done_at}
 use Rattle.workspace_state.proofs.UpToNext.{libraries_of, broken_next, none_before, expanded_next}
-use Rattle.workspace_state.proofs.BrokenLaws.{heads_itself, head_set, head_broken}
+use Rattle.workspace_state.proofs.BrokenLaws.{heads_itself, head_set, head_broken, names_broken, names_itself}
+use Rattle.workspace_state.proofs.FoundNext.{broken_found, expanded_found}
 use Rattle.workspace_state.proofs.MeaningLaws.{names_on}
 use Rattle.workspace_state.proofs.SoundKept.{source_read, some_document}
 use Rattle.workspace_state.proofs.UnitsTurns.{of_some, all_mean, one_found, one_means, one_formed}
@@ -144,3 +146,62 @@ returns-clause-next g c = λ spelled us known x y order finds up.
     expanded_next spelled us known x y n order b c.args.units.now es up h at whole now _ c.in_ok-came.came (c.in_ok-came.ensures.libraries known up.knows)
     (have_kept b.work now.work (trees_on b.work mid now.work trees c.in_ok-came.ensures.trees) (names_on b.work.symbols mid.symbols now.work.symbols c.in_ok-given.ensures.names c.in_ok-came.ensures.names) us gp es up.come)
     expands refl (ap (λ (k : Head). slice_set hs n k) (c.break_if.ensures ∙ ap (λ (q : Bool). broken_if q fault.TooLarge h) (flipped (is_there c.in_ok-came.came) c.is_none.result c.is_none.ensures)))
+
+pub returns-clause-finds : goal.returns-clause-finds
+returns-clause-finds g c = λ spelled us known x y order finds up reads ends heads tokens results found.
+    let b = c.args.bench.now in
+    let mid = c.given_to.new.work in
+    let now = c.expand_unit.new.bench in
+    let es = c.args.all.now.items in
+    let n = c.args.place in
+    let hs = c.args.units.now.heads.items in
+    let h = c.index_mut.result.now in
+    let at = slice_get_read hs (length hs) n h refl (omega (arith, c.args.units.now.heads.ok.0, c.requires.place)) c.index_mut.ensures.value in
+    let first = c.index.result.now in
+    let first_at = slice_get_read hs (length hs) n first refl (omega (arith, c.args.units.now.heads.ok.0, c.requires.place)) c.index.ensures in
+    let same : first ≡ h = same_Some first h (sym first_at ∙ at) in
+    let whole : is_there h.fault ≡ false = ap (λ (k : Head). is_there k.fault) (sym same) ∙ (sym c.is_some.ensures ∙ c.if-is_some.false) in
+    let turn = turn_of us known x y n order in
+    let gp = scoped_at us known x in
+    let p = prepared us n turn.unit in
+    let none = none_before spelled us known x y n order b c.args.units.now es up h at whole in
+    let ss = c.args.units.now.sources.items in
+    let source = subst (λ (f : Option model.WholeFault). IsSourceOf spelled p f c.index-source.result.now) none
+    (up.sources n turn.unit c.index-source.result.now turn.there
+    (slice_get_read ss (length ss) n c.index-source.result.now refl (omega (arith, c.requires.place, c.requires.units.sources, c.args.units.now.sources.ok.0, c.args.units.now.heads.ok.0)) c.index-source.ensures)) in
+    let trees = same_trees b.work mid c.in_ok-given.ensures.trees c.in_ok-given.ensures.names in
+    let ls = c.as_slice-expanded.result.now in
+    let come : HaveCome us gp b.work ls = subst (λ (xs : List (Option Expanded)). HaveCome us gp b.work xs) (sym c.as_slice-expanded.ensures.value) up.come in
+    let long : length ls ≡ length us = ap (λ (xs : List (Option Expanded)). length xs) c.as_slice-expanded.ensures.value ∙ up.count in
+    let lib : Libraries = record { firsts = c.args.firsts; expanded = c.as_slice-expanded.result } in
+    let libraries : AreLibraries b.work.symbols lib spelled us gp.results = libraries_of spelled us gp b.work lib finds come long (done_at us known x (n ∷ y) order) in
+    let given = c.in_ok-given.ensures.exact spelled us gp.results libraries p (record { kind = source.kind; specs = source.imports refl }) in
+    let goes = goes_in b mid gp c.in_ok-given.ensures.trees c.in_ok-given.ensures.names c.told_apart.ensures.idents c.told_apart.ensures.symbols up.goes in
+    let places : ArePlaces (record { documents = c.args.documents; heads = c.as_slice-heads.result }) reads ends =
+    record { heads = subst (λ (ks : List Head). AreHeads reads 0 ks ends) (sym c.as_slice-heads.ensures.value) heads; spans = tokens } in
+    let result = results n turn.unit turn.there in
+    let told : AreSetsFound reads ends p (unit_entries us gp.results p).1 c.in_ok-given.given.findings.items = record {
+      told = c.in_ok-given.ensures.told spelled us gp.results libraries p (record { kind = source.kind; specs = source.imports refl }) reads ends places result.0 result.1 result.2;
+      errors = c.in_ok-given.ensures.errors spelled us gp.results libraries p (record { kind = source.kind; specs = source.imports refl }) source.forms refl;
+    } in
+    let mine = c.in_ok-came.ensures.finds spelled known gp p (unit_entries us gp.results p) up.knows goes refl source given reads ends result.0 places result.1 result.2 told in
+    expanded_found spelled us known x y n order b c.args.units.now es up h at reads ends found whole c.in_ok-came.came mine
+
+pub returns-then-is_some-clause-finds : goal.returns-then-is_some-clause-finds
+returns-then-is_some-clause-finds g c = λ spelled us known x y order finds up reads ends heads tokens results found.
+    let hs = c.args.units.now.heads.items in
+    let h = c.index.result.now in
+    let at = slice_get_read hs (length hs) c.args.place h refl (omega (arith, c.args.units.now.heads.ok.0, c.requires.place)) c.index.ensures in
+    broken_found spelled us known x y c.args.place order c.args.bench.now c.args.units.now c.args.all.now.items up h at reads ends found (sym c.is_some.ensures ∙ c.if-is_some.true)
+
+-- ---- names
+
+pub returns-then-is_some-clause-kept : goal.returns-then-is_some-clause-kept
+returns-then-is_some-clause-kept g c = names_itself c.args.units.now.heads.items
+
+pub returns-clause-kept : goal.returns-clause-kept
+returns-clause-kept g c =
+    let hs = c.args.units.now.heads.items in
+    let h = c.index_mut.result.now in
+    let at = slice_get_read hs (length hs) c.args.place h refl (omega (arith, c.args.units.now.heads.ok.0, c.requires.place)) c.index_mut.ensures.value in
+    names_broken hs c.args.place h c.break_if.new.head c.is_none.result fault.TooLarge at c.break_if.ensures

@@ -1,10 +1,11 @@
 -- The unit is begun with what it is given, and its forms are told over names that stay.
-use Rattle.std.proofs.Common.{◌≡◌, ℕ, List, length, Option, refl, sym, ap, ◌∙◌, subst}
+use Rattle.std.proofs.Common.{◌≡◌, ℕ, List, [], length, Option, refl, sym, ap, ◌∙◌, subst}
 use Rattle.std.specs.Prelude.{reverse}
 use Rattle.std.proofs.lemmas.List.{length-map}
 use Rattle.scheme_model.specs.Declarations.{UnitForm as ModelForm}
-use Rattle.scheme_model.specs.Program.{with_entries}
+use Rattle.scheme_model.specs.Program.{unit_result, with_entries}
 use Rattle.scheme_model.specs.ScopedProgram.{scoped_start_of}
+use Rattle.scheme_model.specs.UnitExpansion.{Formed}
 use Rattle.syntax_tree.specs.Names.{KeepsNames}
 use Rattle.syntax_tree.specs.declared.units.Entry.{Entry}
 use Rattle.core_tree.specs.Names.{AllMatch}
@@ -21,6 +22,7 @@ use Rattle.workspace_state.specs.Begun.{IsImport}
 use Rattle.arrow_index.specs.Formed.{IsFormed}
 use Rattle.workspace_state.specs.Came.{expanded_after, with_unit}
 use Rattle.workspace_state.specs.Forms.{AreFormed, Unfolds}
+use Rattle.workspace_state.specs.UnitsFound.{IsFoundOf, in_the_end}
 use Rattle.workspace_state.specs.WereRead.{WereRead}
 use Rattle.workspace_state.proofs.BenchLaws.{bench_in}
 use Rattle.workspace_state.proofs.ImportedNames.{are_numbered}
@@ -165,6 +167,31 @@ returns-in_ok-came-in-Some-clause-expands g c = λ spelled all known gp p import
     (subst (λ (n : ℕ). AreDefinitions mid.work.symbols (reverse (definitions_from 0 forms)) (defined_by n gone.1.table)) own f.definitions) in
     some_expands all known mid gp p imports (record mid { work = c.finished.new.work }) c.in_ok-came-in-Some.came forms
     (stands_at mid c.finished.new.work gone.1 c.in_ok-came-in-Some.ensures.trees c.in_ok-came-in-Some.ensures.names c.told_apart-in-Some.ensures.idents c.told_apart-in-Some.ensures.symbols unfolds.stands) f came
+
+pub returns-in_ok-came-in-Some-clause-finds : goal.returns-in_ok-came-in-Some-clause-finds
+returns-in_ok-came-in-Some-clause-finds g c = λ spelled known gp p imports knows goes own source are reads ends r places at unit_is sets.
+    let b = c.args.bench.now in
+    let w = c.imported.new.work in
+    let xs = c.as_slice-2.result.now in
+    let es = c.args.given.joined.entries.items in
+    let matched : AllMatch (IsImport w.symbols) xs es = subst (λ (ys : List Entry). AllMatch (IsImport w.symbols) xs ys) c.as_slice.ensures.value
+    (subst (λ (ys : List Imported). AllMatch (IsImport w.symbols) ys c.as_slice.result.now) (sym c.as_slice-2.ensures.value) c.in_ok-imports.ensures.imports) in
+    let begins =
+    goes_begun b (record { work = c.begin_unit.new.work; region = b.region; scope = c.begin_unit.new.self }) w c.args.unit c.args.source.now.kind xs es p gp imports.0 goes own source.kind c.in_ok-imports.ensures.trees
+    c.in_ok-imports.ensures.names c.told_apart.ensures.idents c.told_apart.ensures.symbols matched are c.requires.once c.in_ok-begin_unit.ensures.rests c.in_ok-begin_unit.ensures.fresh in
+    let start = scoped_start_of p gp (with_entries p.number imports.0 gp.entry) in
+    let unfolds = c.in_ok-expanded.ensures.unfolds known begins.layout start p (c.in_ok-begin_unit.ensures.knows known knows) begins.stands own begins.fresh own
+    (source.forms ∙ ap (λ (fs : List UnitForm). forms_of fs) (sym c.as_slice-3.ensures)) in
+    let mid = c.expand_forms.new.bench in
+    let d = c.begin_unit.new.work in
+    let forms = c.in-Some.forms in
+    let f = its_forms [] known mid gp p imports forms (subst (λ (cs : Option (List core.UnitForm)). Unfolds mid known p start cs) c.in-Some.is unfolds) in
+    let names = names_on b.work.symbols w.symbols mid.work.symbols c.in_ok-imports.ensures.names (names_on w.symbols d.symbols mid.work.symbols c.in_ok-begin_unit.ensures.names c.in_ok-expanded.ensures.stays.names) in
+    let gone = expanded_after known gp p imports.0 in
+    let came = c.in_ok-came-in-Some.came in
+    let found = c.in_ok-came-in-Some.ensures.finds spelled (with_unit gp gone.1) p imports f.formed own source (entries_kept b.work.symbols mid.work.symbols names es imports.0 are) (subst (λ (n : ℕ). FormsStand mid.work n 0 forms f.formed) own f.stand)
+    (subst (λ (n : ℕ). AreDefinitions mid.work.symbols (reverse (definitions_from 0 forms)) (defined_by n gone.1.table)) own f.definitions) reads ends r places at unit_is sets in
+    subst (λ (o : Option (List Formed)). IsFoundOf reads (in_the_end ends (with_unit gp gone.1)) (unit_result p imports gone.1.table o) came.findings.items) (sym f.is) found
 
 pub returns-in-None-clause-libraries : goal.returns-in-None-clause-libraries
 returns-in-None-clause-libraries g c = λ known knows. c.in_ok-expanded.ensures.stays.libraries known (c.in_ok-begin_unit.ensures.knows known knows)

@@ -4,7 +4,8 @@ use Rattle.scheme_model.specs.ExpansionFaults.{Named}
 use Rattle.scheme_model.specs.Program.{ExportFault, NotDefined, SameExport}
 use Rattle.scheme_model.specs.Diagnostics.{bytes_of, export_diagnostics}
 use Rattle.library_table.specs.Exports.{IsFault}
-use Rattle.workspace_state.specs.Found.{all_told}
+use Rattle.core_tree.specs.Units.{export_errors, form_at}
+use Rattle.workspace_state.specs.Found.{all_told, error_by, errors_in}
 use Rattle.workspace_state.specs.Places.{spans_of}
 use Rattle.workspace_state.proofs.ExportLaws.{spec_at, told_again, told_undefined}
 use Rattle.workspace_state.proofs.exported.add_fault.Goals as goal
@@ -43,5 +44,34 @@ returns-clause-told c = λ xs specs f is reads us places.
           let e = both_same c.in-Some.code 65 c.in-Some.name.now x.outer.name (c.in-Some.ensures.same x.outer.name h.1) in
           told_again old new at o bytes c.in-Some.code c.as_str.result.now x (c.in_ok-add_found.ensures.told) (c.place_if-at.ensures.exact reads us places)
           (c.outer_place-occ.ensures r.spec r.there ∙ ap (λ (n : Named (List ℕ)). n.occ) r.is.outer) e.0 (c.as_str.ensures ∙ e.1)
+    ]
+    is
+
+pub returns-in_default-clause-errors : goal.returns-in_default-clause-errors
+returns-in_default-clause-errors c = λ xs specs f is.
+    elim f as
+    (λ g. IsFault xs c.args.fault.now g → errors_in c.args.findings.now.items ≡ errors_in c.args.findings.now.items ++ export_errors (g ∷ []))
+    [ NotDefined x ↦ λ h. let e = c.in_default.ensures.defined x.inner.name h.1 in absurd cc | SameExport x ↦ λ h. let e = c.in_default.ensures.same x.outer.name h.1 in absurd cc ]
+    is
+
+pub returns-clause-errors : goal.returns-clause-errors
+returns-clause-errors c = λ xs specs f is.
+    let old = errors_in c.args.findings.now.items in
+    let new = errors_in c.add_found.new.findings.items in
+    let o = c.outer_place-occ.result in
+    elim f as
+    (λ g. IsFault xs c.args.fault.now g → new ≡ old ++ export_errors (g ∷ [])) [
+      | NotDefined x ↦ λ h.
+          let r = spec_at c.args.specs.now xs specs c.args.fault.now.place x h.0 in
+          let e = both_same c.in-Some.code 64 c.in-Some.name.now x.inner.name (c.in-Some.ensures.defined x.inner.name h.1) in
+          let occ : o ≡ x.outer.occ = c.outer_place-occ.ensures r.spec r.there ∙ ap (λ (n : Named (List ℕ)). n.occ) r.is.outer in
+          let form : c.form_of-form.result ≡ form_at x.outer.occ = c.form_of-form.ensures ∙ ap form_at occ in
+          c.in_ok-add_found.ensures.errors ∙ (λ i. old ++ error_by (e.0 i) (form i))
+      | SameExport x ↦ λ h.
+          let r = spec_at c.args.specs.now xs specs c.args.fault.now.place x h.0 in
+          let e = both_same c.in-Some.code 65 c.in-Some.name.now x.outer.name (c.in-Some.ensures.same x.outer.name h.1) in
+          let occ : o ≡ x.outer.occ = c.outer_place-occ.ensures r.spec r.there ∙ ap (λ (n : Named (List ℕ)). n.occ) r.is.outer in
+          let form : c.form_of-form.result ≡ form_at x.outer.occ = c.form_of-form.ensures ∙ ap form_at occ in
+          c.in_ok-add_found.ensures.errors ∙ (λ i. old ++ error_by (e.0 i) (form i))
     ]
     is

@@ -40,7 +40,7 @@ pub returns-in-Ok-clause-few : goal.returns-in-Ok-clause-few
 returns-in-Ok-clause-few g c =
     let b = c.args.bench.now in let none = c.blank-blank.ensures in let k = c.blank-blank.result in let n = c.args.number in let at = c.requires.stands in
     let t = seeded c.args.unit n (datum_of c.args.form.now.datum) in
-    (c.in_ok-declare_tree-in-Ok.ensures.passes (known_by b.scope.libraries) at.layout at.state at.notes t (λ m proper. refl)
+    (c.in_ok-declare_tree-in-Ok.ensures.passes (known_by b.scope.libraries) at.layout at.state at.notes t (λ m _. refl)
     (stands_on b.work c.seed.new.work c.in-Ok.ensures.keeps c.in-Ok.ensures.old_names c.told_apart.ensures.idents c.told_apart.ensures.symbols b.scope at.layout at.state at.notes at.stands)
     (none_count c.seed.new.work at.state n k.budget k.trace at.fresh none.uses none.nodes none.locals none.definitions none.keywords none.met)
     c.in-Ok.ensures.tree).form_is.counts.few_nodes

@@ -24,7 +24,7 @@ pub returns-in-Ok-clause-stays : goal.returns-in-Ok-clause-stays
 returns-in-Ok-clause-stays g c =
     let b = c.args.bench.now in let d = c.declare_form in let at = c.requires.stands in let t = c.requires.form.0 in
     let k : Bench = record { work = d.new.work; region = b.region; scope = d.new.self } in
-    let goes = (c.in-Ok.ensures.declared (known_by b.scope.libraries) at.layout at.state at.notes t.0 (λ n proper. refl) at.stands at.counts t.1).2 in
+    let goes = (c.in-Ok.ensures.declared (known_by b.scope.libraries) at.layout at.state at.notes t.0 (λ n _. refl) at.stands at.counts t.1).2 in
     stays_by b k c.requires.region refl d.ensures.keeps d.ensures.names d.ensures.added d.ensures.regions goes.units goes.libraries
 
 pub returns-in_ok-form_fault-in-Err-clause-passes : goal.returns-in_ok-form_fault-in-Err-clause-passes
@@ -42,7 +42,7 @@ returns-in_ok-form_fault-in-Err-clause-stays g c =
     let k : Bench = record { work = d.new.work; region = b.region; scope = d.new.self } in
     let known = known_by b.scope.libraries in
     let goes = (subst (λ (x : ExpandFault). Declares b.work k.work b.region b.scope k.scope c.args.blank.budget d.new.budget at.layout c.args.number d.new.trace (Err x) (declared known c.args.number t.0 at.notes at.state)) c.in_ok-form_fault-in-Err.ensures
-    (c.in-Err.ensures.declared known at.layout at.state at.notes t.0 (λ n proper. refl) at.stands at.counts t.1)).2 in
+    (c.in-Err.ensures.declared known at.layout at.state at.notes t.0 (λ n _. refl) at.stands at.counts t.1)).2 in
     stays_by b k c.requires.region refl d.ensures.keeps d.ensures.names d.ensures.added d.ensures.regions goes.units goes.libraries
 
 pub returns-in_err-form_fault-in-Err-clause-passes : goal.returns-in_err-form_fault-in-Err-clause-passes

@@ -1,5 +1,6 @@
 -- One unit more.
-use Rattle.std.proofs.Common.{◌≡◌, ◌<◌, ◌+◌, ℕ, length, refl, ap, ◌∙◌, arith}
+use Rattle.std.proofs.Common.{◌≡◌, ◌<◌, ◌+◌, ℕ, List, length, map, refl, ap, ◌∙◌, arith}
+use Rattle.library_table.specs.declared.units.UnitForm.{UnitForm}
 use Rattle.workspace_state.proofs.SoundLaws.{sound_more}
 use Rattle.workspace_state.proofs.ListedUnits.{fault_with, unit_added}
 use Rattle.workspace_state.proofs.listing.add.Goals as goal
@@ -12,4 +13,4 @@ returns-clause-sound c =
 pub returns-clause-added : goal.returns-clause-added
 returns-clause-added c = λ u read.
     let place : c.len-2.result ≡ length c.args.units.now.sources.items = omega (arith, c.args.units.now.sources.ok.0) in
-    unit_added c.args.document u c.args.units.now _ _ c.args.source c.args.name c.args.bad read refl refl refl c.new.ensures (c.fault_at-fault.ensures ∙ ap (λ (n : ℕ). fault_with n c.args.bad) place) c.in_ok-push.ensures.items c.in_ok-push-2.ensures.items
+    unit_added c.args.document u c.args.units.now _ _ c.args.source c.args.name c.args.bad read refl refl refl refl (c.in_ok-firsts_of.ensures ∙ ap (λ (fs : List UnitForm). map (λ (f : UnitForm). f.datum.first) fs) c.as_slice.ensures) c.new.ensures (c.fault_at-fault.ensures ∙ ap (λ (n : ℕ). fault_with n c.args.bad) place) c.in_ok-push.ensures.items c.in_ok-push-2.ensures.items

@@ -30,7 +30,7 @@ add-requires-clause-read c =
     library_read has (datum_of c.args.datum.now) (forms_of c.in-Ok.source.forms) c.requires.read read.forms
 
 pub add-requires-in-Err-BadDeclaration-clause-read : goal.add-requires-in-Err-BadDeclaration-clause-read
-add-requires-in-Err-BadDeclaration-clause-read c = subst (λ (fs : List UnitForm). WereRead (forms_of fs)) (sym c.unread-source.ensures.forms) tt
+add-requires-in-Err-BadDeclaration-clause-read c = subst (λ (fs : List UnitForm). WereRead (forms_of fs)) (sym c.unread-source.ensures.blank.forms) tt
 
 pub returns-then-not-is_headed-clause-added : goal.returns-then-not-is_headed-clause-added
 returns-then-not-is_headed-clause-added c = λ has knows.
@@ -46,7 +46,7 @@ returns-in_ok-add-in-Ok-clause-added c = λ has knows.
     let is : true ≡ is_library d = sym c.if-not-is_headed.false ∙ c.is_headed.ensures in
     let name : c.in_ok-name.name ≡ option_map library_text (library_of has d).name = c.in_ok-name.ensures ∙ ap (option_map library_text) (sym (library_named d is) ∙ sym (same_name has d)) in
     let h = c.in-Ok.ensures has knows in
-    let read : IsReadFor n (library_of has d) c.in_ok-name.name s None = library_for has n d s c.in_ok-name.name (library_forms has d (forms_of s.forms) c.requires.read h.forms) h name in
+    let read : IsReadFor n (library_of has d) c.in_ok-name.name s None = library_for has n d s c.in_ok-name.name is (library_forms has d (forms_of s.forms) c.requires.read h.forms) h name in
     subst (λ (us : List source.UnitSource). AddsRead c.args.document us c.args.units.now c.add.new.units) (one_library has d is)
     (c.in_ok-add-in-Ok.ensures.added (library_of has d) (subst (λ (k : ℕ). IsReadFor k (library_of has d) c.in_ok-name.name s None) place read))
 
@@ -60,6 +60,6 @@ returns-in_ok-add-in-Err-BadDeclaration-clause-added c = λ has knows.
     let name : c.in_ok-name.name ≡ option_map library_text (library_of has d).name = c.in_ok-name.ensures ∙ ap (option_map library_text) (sym (library_named d is) ∙ sym (same_name has d)) in
     let bad = subst (λ (f : LibraryFault). IsLibraryRead n d (library_of has d) (Err f)) c.in-Err-BadDeclaration.field-0-is (c.in-Err-BadDeclaration.ensures has knows) in
     let broken = Some (fault.BadDeclaration c.in-Err-BadDeclaration.span) in
-    let read : IsReadFor n (library_of has d) c.in_ok-name.name s broken = blank_for has n d bad.0 s c.in-Err-BadDeclaration.span c.in_ok-name.name c.unread-source.ensures bad.1 bad.2 name in
+    let read : IsReadFor n (library_of has d) c.in_ok-name.name s broken = blank_for has n d bad.0 s c.in-Err-BadDeclaration.span c.in_ok-name.name is c.unread-source.ensures.span c.unread-source.ensures.blank bad.1 bad.2 name in
     subst (λ (us : List source.UnitSource). AddsRead c.args.document us c.args.units.now c.add-in-Err-BadDeclaration.new.units) (one_library has d is)
     (c.in_ok-add-in-Err-BadDeclaration.ensures.added (library_of has d) (subst (λ (k : ℕ). IsReadFor k (library_of has d) c.in_ok-name.name s broken) place read))

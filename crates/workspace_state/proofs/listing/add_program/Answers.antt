@@ -32,6 +32,6 @@ returns-in_ok-add-in-Some-clause-added c =
     let place : c.len-number.result ≡ length c.args.units.now.sources.items = omega (arith, c.args.units.now.sources.ok.0) in
     let fs = forms_of c.in-Some.source.forms in
     let read : IsReadFor c.len-number.result r.2 None c.in-Some.source None =
-    program_for c.len-number.result (filter not_library (data_of c.args.items.now)) r.2 c.in-Some.source r.0 (program_forms_read not_library c.args.items.now r.0 r.1 r.2 fs c.requires.read r.3 r.4 r.5.forms) r.4 r.5 in
+    program_for c.len-number.result (filter not_library (data_of c.args.items.now)) r.1 r.2 c.in-Some.source r.0 r.3 (program_forms_read not_library c.args.items.now r.0 r.1 r.2 fs c.requires.read r.3 r.4 r.5.forms) r.4 r.5 in
     subst (λ (us : List source.UnitSource). AddsRead c.args.document us c.args.units.now c.add.new.units) (sym r.4)
     (c.in_ok-add-in-Some.ensures.added r.2 (subst (λ (n : ℕ). IsReadFor n r.2 None c.in-Some.source None) place read))

@@ -21,6 +21,7 @@ loop-document-init c = (
   so_far_one c.args.changed.now (list_at c.args.before.now) (list_at c.args.now.now) c.new-all.result c.put.new.all (record { uri = c.args.changed.now; version = None; list = list_at c.args.now.now c.args.changed.now })
       c.new-all.ensures.empty c.in_ok-put.ensures.puts refl refl refl,
   c.in_ok-put.ensures.ordered,
+  omega (arith, c.in_ok-put.ensures.one_more, ap length c.new-all.ensures.empty),
 )
 
 pub loop-document-preserved : goal.loop-document-preserved
@@ -44,17 +45,23 @@ loop-document-preserved c =
           let fits : SFits w64 v = search rules in
           let version : to_z w64 (of_z w64 v) ≡ d.version = to_z-of_z w64 v fits ∙ w.version_of.ensures in
           let e : w.put-then-is_news.new.all ≡ c.if-is_news.all = sym w.all-is in
-          let q = so_far_put c.args.changed.now before now told next c.loop-document.all so bs d.version later w.put-then-is_news.new.all (record { uri = bs; version = Some d.version; list = now bs }) (λ uri. w.in_ok-put-2.ensures.puts uri ∙ (λ i. cond (bytes_eq bs uri) (Some (as_published bs (version i) (now bs))) (get_by_text c.loop-document.all uri))) refl refl refl w.if-is_news.ensures in
-          (subst (λ (m : BTreeMap (String Global) Published). SoFar c.args.changed.now before now next m) e q, subst (λ (m : BTreeMap (String Global) Published). IsOrdered string_cmp m) e w.in_ok-put-2.ensures.ordered)
+          let q = so_far_put c.args.changed.now before now told next c.loop-document.all so bs d.version later w.put-then-is_news.new.all (record { uri = bs; version = Some d.version; list = now bs }) (λ uri. w.in_ok-put-2.ensures.puts uri ∙ (λ i. cond (bytes_eq bs uri) (Some (as_published bs (version i) (now bs))) (get_by_text c.loop-document.all uri))) refl refl refl w.if-is_news.ensures in (
+            subst (λ (m : BTreeMap (String Global) Published). SoFar c.args.changed.now before now next m) e q,
+            subst (λ (m : BTreeMap (String Global) Published). IsOrdered string_cmp m) e w.in_ok-put-2.ensures.ordered,
+            subst (λ (m : BTreeMap (String Global) Published). length m.entries ≤ (n + 1) + 1) e (omega (arith, w.in_ok-put-2.ensures.one_more, c.loop-document.invariant.2)),
+          )
       | else-is_news w ↦
           let e : c.loop-document.all ≡ c.if-is_news.all = sym w.all-is in
           let stays = w.if-is_news.ensures in
-          let q = so_far_skip c.args.changed.now before now told next c.loop-document.all so bs d.version later stays.0 stays.1 in
-          (subst (λ (m : BTreeMap (String Global) Published). SoFar c.args.changed.now before now next m) e q, subst (λ (m : BTreeMap (String Global) Published). IsOrdered string_cmp m) e c.loop-document.invariant.1)
+          let q = so_far_skip c.args.changed.now before now told next c.loop-document.all so bs d.version later stays.0 stays.1 in (
+            subst (λ (m : BTreeMap (String Global) Published). SoFar c.args.changed.now before now next m) e q,
+            subst (λ (m : BTreeMap (String Global) Published). IsOrdered string_cmp m) e c.loop-document.invariant.1,
+            subst (λ (m : BTreeMap (String Global) Published). length m.entries ≤ (n + 1) + 1) e (omega (arith, c.loop-document.invariant.2)),
+          )
     ]
 
-pub returns : goal.returns
-returns c = λ texts are stay.
+pub returns-clause-news : goal.returns-clause-news
+returns-clause-news c = λ texts are stay.
     let cs = c.args.documents.now in
     let over : length cs ≤ c.loop-document.document-index = omega arith in
     let all : take c.loop-document.document-index cs ≡ cs = take_all cs c.loop-document.document-index over in

@@ -1,4 +1,4 @@
-use Rattle.std.proofs.Common.{take, string_cmp}
+use Rattle.std.proofs.Common.{◌+◌, ◌≤◌, length, take, string_cmp}
 use Rattle.std.specs.BTreeMap.{IsOrdered}
 use Rattle.workspace_state.specs.Updates.{list_at}
 use Rattle.workspace_state.proofs.PublishLaws.{SoFar, version_among}
@@ -8,4 +8,4 @@ use Rattle.workspace_state.proofs.lists.published.Given as goal
 abbrev pub invariant-loop-document : goal.invariant-loop-document
 invariant-loop-document l =
     SoFar l.changed (list_at l.before) (list_at l.now) (version_among (take l.document-index l.documents)) l.all
-    × IsOrdered string_cmp l.all
+    × IsOrdered string_cmp l.all × (length l.all.entries ≤ l.document-index + 1)

@@ -1,7 +1,13 @@
--- A unit that is broken as a whole has blank forms.
-use Rattle.std.proofs.Common.{ℕ, subst}
-use Rattle.arrow_index.specs.Formed.{IsFormed}
+-- It came so, or is broken as a whole.
+use Rattle.std.proofs.Common.{◌≡◌, Option, subst}
+use Rattle.workspace_state.specs.UnitsFound.{IsTold}
+use Rattle.workspace_state.specs.declared.expanding.Expanded.{Expanded}
 use Rattle.workspace_state.proofs.program.came_to.Goals as goal
 
-pub returns-clause-formed : goal.returns-clause-formed
-returns-clause-formed c = λ work _. subst (λ (n : ℕ). IsFormed work n c.in_ok-broken.field-0.forms) c.in_ok-unit.ensures (c.in_ok-broken.ensures.formed work)
+pub returns-in-Some-clause-told : goal.returns-in-Some-clause-told
+returns-in-Some-clause-told c = λ rs p h r places at head told. subst (λ (o : Option Expanded). IsTold rs p h o r) c.in-Some.is told
+
+pub returns-in_ok-broken_at-in-None-clause-told : goal.returns-in_ok-broken_at-in-None-clause-told
+returns-in_ok-broken_at-in-None-clause-told c = λ rs p h r places at head told.
+    let broken = subst (λ (o : Option Expanded). IsTold rs p h o r) c.in-None.is told in
+    c.in_ok-broken_at-in-None.ensures.told rs p h r broken.0 places at head broken.1 broken.2

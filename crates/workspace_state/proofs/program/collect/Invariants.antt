@@ -1,7 +1,13 @@
-use Rattle.std.proofs.Common.{◌≡◌, length, vec_len}
+use Rattle.std.proofs.Common.{◌≡◌, ℕ, ◌≤◌, List, length, map, slice_get, vec_len}
 use Rattle.workspace_state.specs.Belongs.{AreErrorsIn}
 use Rattle.arrow_index.specs.Formed.{AreFormedIn}
+use Rattle.scheme_model.specs.Program.{Program}
 use Rattle.workspace_state.specs.Places.{HeadsStay}
+use Rattle.workspace_state.specs.Readings.{Read}
+use Rattle.workspace_state.specs.UnitsFound.{AreTold, HaveTokens}
+use Rattle.workspace_state.specs.declared.documents.Document.{Document}
+use Rattle.workspace_state.proofs.Collecting.{AreCollectedSo}
+use Rattle.workspace_state.proofs.ToldUnits.{AreToldTo}
 use Rattle.workspace_state.proofs.program.collect.Given as goal
 
 -- heads stay, what is found of the units so far stands in the documents, and their forms stand for something
@@ -12,4 +18,7 @@ invariant-loop-place l = record {
   errors : AreErrorsIn (vec_len l.documents) l.first_errors.items;
   count : length l.program ≡ length l.yielded;
   formed : AreFormedIn l.work l.program;
+  told : (rs : List Read) (p : Program) → HaveTokens l.documents.items rs → AreTold rs p l.fn.units.heads.items l.fn.expanded.items → AreToldTo rs p (length l.yielded) l.findings.items l.program l.first_errors.items;
+  untouched : (k : ℕ) → length l.yielded ≤ k → slice_get l.heads.items k ≡ slice_get l.fn.units.heads.items k;
+  collected : AreCollectedSo (map (λ (d : Document). d.uri) l.documents.items) l.fn.units.heads.items l.sources.items l.fn.expanded.items l.program;
 }

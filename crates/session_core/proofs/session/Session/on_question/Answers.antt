@@ -9,7 +9,7 @@ pub returns : goal.returns
 returns c =
     let query = said_query c.args.query in
     let e = c.args.self.now.encoding in
-    let AtUri : List ℕ → Type 0 = λ uri. AnswersQuery query e c.self.inside.texts uri c.in_ok-answer.answer in
+    let AtUri : List ℕ → Type 0 = λ uri. AnswersQuery query e c.self.inside.workspace.texts uri c.in_ok-answer.answer in
     let InTexts : Texts → Type 0 = λ texts. AnswersQuery query e texts c.args.at.now.uri c.in_ok-answer.answer in
     let answers : AnswersQuery query e c.args.self.now.texts c.args.at.now.uri c.in_ok-answer.answer =
     subst InTexts (ap (λ (s : State). s.texts) c.self.view_is) (subst AtUri c.as_str.ensures (c.in_ok-answer.ensures e)) in

@@ -3,20 +3,19 @@ use Rattle.scheme_ls.specs.PieceOutcome.{serving}
 use Rattle.scheme_ls.specs.Prints.{sink_seen}
 use Rattle.scheme_ls.specs.Reading.{source_seen}
 use Rattle.scheme_ls.specs.Streams.{streams}
-use Rattle.scheme_ls.proofs.SessionSoFar.{Going}
-use Rattle.scheme_ls.proofs.serve.serve.Given as goal
+use Rattle.scheme_ls.proofs.SessionSoFar.{GoesUnworked}
+use Rattle.scheme_ls.proofs.serve.answer_input.Given as goal
 
 abbrev pub invariant-loop-taken : goal.invariant-loop-taken
 invariant-loop-taken g l = record {
-  going : Going
+  going : GoesUnworked
       (streams (source_seen (g.I.Source.left l.fn.input) (g.I.Source.faults l.fn.input) (g.I.Source.reads l.fn.input))
       (sink_seen (g.O.Sink.taken l.fn.output) (g.O.Sink.faults l.fn.output) (g.O.Sink.writes l.fn.output)))
       (streams (source_seen (g.I.Source.left l.input) (g.I.Source.faults l.input) (g.I.Source.reads l.input))
       (sink_seen (g.O.Sink.taken l.output) (g.O.Sink.faults l.output) (g.O.Sink.writes l.output)))
-      (serving l.server.deframer l.server.session) l.taken 1099511627776;
+      (serving l.server.deframer l.server.session) l.taken 1099511627776 l.fn.steps l.steps;
   few : l.taken ≤ 1099511627776;
   wide : length l.buf ≡ 65536;
-  same : l.steps ≡ l.fn.steps;
 }
 
 abbrev pub decreases-loop-taken : goal.decreases-loop-taken

@@ -1,0 +1,83 @@
+-- No step is worked over quiet bytes.
+use Rattle.std.proofs.Common.{◌≡◌, ℕ, List, [], ◌∷◌, ◌++◌, sym, ◌∙◌, subst}
+use Rattle.std.specs.List.{AllByRecursion}
+use Rattle.std.specs.declared.vec.Vec.{Vec}
+use Rattle.std.specs.declared.alloc.Global.{Global}
+use Rattle.ls_base.specs.Frames.{IsFrames, rest}
+use Rattle.lsp_framing.specs.Deframed.{Deframed}
+use Rattle.lsp_framing.specs.Feeds.{Feeds}
+use Rattle.lsp_framing.specs.Taken.{contents}
+use Rattle.lsp_framing.proofs.OneReading.{bodies_grow, one_reading}
+use Rattle.session_core.specs.Stepped.{IsQuiet}
+use Rattle.scheme_ls.specs.PieceOutcome.{IsOpen, IsQuietPiece, Serving, TakesPiece}
+use Rattle.scheme_ls.specs.Prints.{SinkSeen}
+use Rattle.scheme_ls.specs.QuietBytes.{AreQuiet}
+use Rattle.scheme_ls.specs.Streams.{Streams}
+use Rattle.scheme_ls.proofs.PieceEndsSession.{some_end}
+use Rattle.scheme_ls.proofs.SessionSoFar.{Going, frames_so_far, going_frames}
+
+all_parts : (a b : List (List ℕ)) → AllByRecursion IsQuiet (a ++ b) → AllByRecursion IsQuiet a × AllByRecursion IsQuiet b
+all_parts [] b q = (tt, q)
+all_parts (body ∷ a) b q = let h = all_parts a b q.1 in ((q.0, h.0), h.1)
+
+same_tails : (body : List ℕ) (a b : List (List ℕ)) → body ∷ a ≡ body ∷ b → a ≡ b
+same_tails body a b same = cc
+
+same_rest : (first a b : List (List ℕ)) → first ++ a ≡ first ++ b → a ≡ b
+same_rest [] a b same = same
+same_rest (body ∷ first) a b same = same_rest first a b (same_tails body (first ++ a) (first ++ b) same)
+
+-- ---- one piece
+
+-- the bodies that a piece completes are quiet where they were cut out of a quiet piece
+cut_quiet : (old new : Deframed) (piece : List ℕ) (cut : List (List ℕ)) → Feeds old piece cut new → IsQuietPiece old piece → AllByRecursion IsQuiet cut
+cut_quiet old new piece cut feeds q =
+    let all = some_end new.end (q.past ++ piece) (q.before ++ cut) (feeds q.past q.before q.after).frames in
+    let same = (one_reading (q.past ++ piece) (q.before ++ cut) (q.before ++ q.given) all.0 q.end all.1 q.frames).0 in
+    subst (λ (bodies : List (List ℕ)). AllByRecursion IsQuiet bodies) (sym (same_rest q.before cut q.given same)) q.quiet
+
+pub piece_unworked : (old new : Deframed) (piece : List ℕ) (bodies cut : List (Vec ℕ Global)) (before now : ℕ) → Feeds old piece (contents cut) new → bodies ≡ cut → (AllByRecursion IsQuiet (contents bodies) → now ≡ before) →
+    IsQuietPiece old piece → now ≡ before
+piece_unworked old new piece bodies cut before now feeds same steps q =
+    subst (λ (given : List (Vec ℕ Global)). AllByRecursion IsQuiet (contents given) → now ≡ before) same steps (cut_quiet old new piece (contents cut) feeds q)
+
+-- ---- all pieces so far
+
+-- quiet bytes have quiet bodies
+pub unworked_yet : {old mid : Streams} {server : Serving} {taken most before now : ℕ} (w : Going old mid server taken most) → (AllByRecursion IsQuiet w.bodies → now ≡ before) → AreQuiet w.bytes → now ≡ before
+unworked_yet {old = old} {mid = mid} {server = server} {taken = taken} {most = most} w steps q =
+    let same = (one_reading w.bytes q.bodies w.bodies q.end (rest w.kept) q.frames (going_frames old mid server taken most w)).0 in
+    steps (subst (λ (bodies : List (List ℕ)). AllByRecursion IsQuiet bodies) same q.quiet)
+
+-- so have quiet bytes with one piece more
+pub unworked_then : {old mid : Streams} {server : Serving} {taken most before between now : ℕ} {read piece : List ℕ} (w : Going old mid server taken most) → (AllByRecursion IsQuiet w.bodies → between ≡ before) → read ≡ piece →
+    (IsQuietPiece server.frames read → now ≡ between) → AreQuiet (w.bytes ++ piece) → now ≡ before
+unworked_then {old = old} {mid = mid} {server = server} {taken = taken} {most = most} {between = between} {now = now} {piece = piece} w so_far same steps q =
+    let more = bodies_grow w.bytes piece w.bodies q.bodies (rest w.kept) q.end (going_frames old mid server taken most w) q.frames in
+    let parts = all_parts w.bodies more.0 (subst (λ (bodies : List (List ℕ)). AllByRecursion IsQuiet bodies) more.1 q.quiet) in
+    subst (λ (p : List ℕ). IsQuietPiece server.frames p → now ≡ between) same steps (record {
+      past = w.bytes;
+      before = w.bodies;
+      given = more.0;
+      end = q.end;
+      after = w.after;
+      frames = subst (λ (bodies : List (List ℕ)). IsFrames (w.bytes ++ piece) bodies q.end) more.1 q.frames;
+      quiet = parts.1;
+    })
+    ∙ so_far parts.0
+
+-- the session goes on after the piece
+pub unworked_more : {old mid : Streams} {server next : Serving} {taken most before between now : ℕ} {read piece : List ℕ} {seen sink : SinkSeen} (w : Going old mid server taken most) (answered : TakesPiece server next piece IsOpen seen sink) →
+    (AllByRecursion IsQuiet w.bodies → between ≡ before) → read ≡ piece → (IsQuietPiece server.frames read → now ≡ between) → AllByRecursion IsQuiet (w.bodies ++ answered.given) → now ≡ before
+unworked_more {server = server} {next = next} {between = between} {now = now} {piece = piece} w answered so_far same steps q =
+    let parts = all_parts w.bodies answered.given q in
+    subst (λ (p : List ℕ). IsQuietPiece server.frames p → now ≡ between) same steps (record {
+      past = w.bytes;
+      before = w.bodies;
+      given = answered.given;
+      end = rest answered.end.0;
+      after = w.after;
+      frames = frames_so_far (w.bytes ++ piece) (w.bodies ++ answered.given) next.frames (rest answered.end.0) (answered.feeds w.bytes w.bodies w.after) answered.end.1;
+      quiet = parts.1;
+    })
+    ∙ so_far parts.0
