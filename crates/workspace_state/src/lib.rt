@@ -2,6 +2,7 @@
 #![tactic(auto)]
 
 mod breaking;
+mod classes;
 mod defined;
 mod diagnosing;
 mod documents;
@@ -26,6 +27,7 @@ mod unbound;
 mod wording;
 mod workspace;
 
+pub use classes::{Class, ClassPart};
 pub use events::{DocEvent, Published, Updated};
 pub use places::PlacedError;
 pub use workspace::Workspace;
