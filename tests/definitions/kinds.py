@@ -166,80 +166,6 @@ HasRow ps ts ds = (w.parts_tokens ps [] ≡ n.number_from 0 ts) × (w.parts_mean
         return f"HasRow {parts(items, last)} ({told}) ({data})", "(refl, refl)"
 
 
-def small_datum(d, base=0):
-    """A datum of a small program, as a term."""
-    kind, at, *values = d
-    if kind == "name":
-        return f"(r.atom {at[0]} (t.Name {terms.text(values[0])}))"
-    if kind == "numeral":
-        return f"(r.atom {at[0]} (t.Numeral {terms.text(values[0])}))"
-    if kind == "list" and values[1] is None:
-        items = values[0]
-        if items and items[0][1] is None:
-            return f"(r.marked {at[0]} t.Quote {small_datum(items[1])})" if items[0][2] == "quote" else None
-        inner = [small_datum(x) for x in items]
-        if None not in inner:
-            return f"(r.list {at[0]} {at[1]} {small_data(inner)})"
-    raise reader.Unreadable("no small datum")
-
-
-def small_data(written_data):
-    out = "r.none"
-    for d in reversed(written_data):
-        out = f"(r.datum {d} {out})"
-    return out
-
-
-def occurrences(text):
-    """The occurrence of each token of a program by its bytes: the form's number and the token's in the form."""
-    found = {}
-    toks = reader.tokens(text)
-    for form, d in enumerate(reader.data(text)):
-        for n in range(d[1][0], d[1][1] + 1):
-            found[toks[n][1], toks[n][2]] = (form, n - d[1][0])
-    return found
-
-
-class SmallArrows(Kind):
-    """Programs of the small language with their arrows."""
-
-    module = "SmallArrowRows"
-    says = "Small programs and their arrows, from outside."
-    unfolding = "base_names"
-    head = """
-use Rattle.std.specs.Prelude.{◌≡◌, ℕ, List, [], ◌∷◌, codes, refl}
-use Rattle.scheme_model.specs.SmallTokens as t
-use Rattle.scheme_model.specs.SmallReading as r
-use Rattle.scheme_model.specs.StandardNames.{base_names}
-use Rattle.scheme_model.specs.Arrows.{Pair}
-use Rattle.scheme_model.specs.SmallArrows.{program_arrows}
-
--- the arrow from one token of a form to another
-abbrev a : ℕ → ℕ → ℕ → ℕ → Pair
-a form token to_form to_token = record {
-    binder = record { unit = 0; form = form; token = token };
-    target = record { unit = 0; form = to_form; token = to_token } }
-"""
-
-    def fits(self, row):
-        if "arrows" not in row or len(row["texts"]) != 1:
-            return False
-        forms = [f for u in row["units"] for f in u["forms"]]
-        keywords = {k[1] for f in forms for k in f["keywords"]}
-        inner = any('["define"' in json.dumps(f["items"])[12:] for f in forms)
-        return keywords <= {"define", "lambda", "quote"} and not inner and not any(f["fault"] or f["uses"] for f in forms)
-
-    def lemma(self, row):
-        (text,) = row["texts"].values()
-        data = [small_datum(d) for d in reader.data(text)]
-        at = occurrences(text)
-        arrows = [(at[b[1], b[2]], at[u[1], u[2]]) for b, u, _ in row["arrows"]]
-        # The definition lists the arrows use by use, in the order of the text.
-        arrows.sort(key=lambda pair: pair[1])
-        pairs = terms.many(f"a {b[0]} {b[1]} {u[0]} {u[1]}" for b, u in arrows)
-        return f"program_arrows {small_data(data)} ≡ ({pairs})", "refl"
-
-
 def occ(o):
     return "None" if o is None else f"(Some (o {o[0]} {o[1]} {o[2]}))"
 
@@ -707,6 +633,41 @@ o unit form token = record { unit = unit; form = form; token = token }
         return f"class_rows {spans} {data} (o {' '.join(map(str, row['at']))}) ≡ ({told})", "refl"
 
 
+QUERIES = {"definition": "Definition", "references": "(References false)", "all references": "(References true)", "highlights": "Highlights", "prepare": "Prepare", "arrows": "Arrows"}
+
+
+class Answers(Arrows):
+    """Documents, and what is answered about an offset of one of them."""
+
+    module = "AnswerRows"
+    says = "Open documents, and what is answered about a place in one of them, from outside."
+    head = Arrows.head.replace("{ArrowRow, arrow_rows, diagnostic_rows}", "{answer_rows}").replace("{Span, Bytes, Diagnostic}", "{Span, Bytes}")
+    head = head[:head.index("abbrev a :")].replace("\n\nabbrev s :", "\nuse Rattle.scheme_model.specs.Session.{Definition, References, Highlights, Prepare, Arrows}\nuse Rattle.scheme_model.specs.Answers.{Answer, Nothing, Places, Lit, Prepared, Drawn}\nuse Rattle.std.specs.Prelude.{true, false}\n\nabbrev s :", 1)
+
+    def fits(self, row):
+        return "query" in row
+
+    def lemma(self, row):
+        data, spans = document_terms(row)
+        uris = [uri for uri, _, _ in documents(row)]
+
+        def at(x):
+            return f"b {uris.index(x[0])} {x[1]} {x[2]}"
+
+        answer, query = row["answer"], row["query"]
+        if query == "prepare":
+            told = f"Prepared ({at(answer)})" if answer else "Nothing"
+        elif query == "highlights":
+            told = "Lit (" + terms.many(f"({at(x)}, {kind})" for x, kind in answer) + ")"
+        elif query == "arrows":
+            told = "Drawn (" + terms.many(f"({at(x)}, {at(y)})" for x, y in answer) + ")"
+        else:
+            told = "Places (" + terms.many(f"({at(x)})" for x in answer) + ")"
+        uri, offset = row["asked"]
+        return f"answer_rows {spans} {data} {uris.index(uri)} {offset} {QUERIES[query]} ≡ {told}", "refl"
+
+
+
 def tree_term(it):
     """A tree of a row of macros, as a term."""
     kind, at, *values = it
@@ -883,4 +844,4 @@ build_row d e ps left = of_rules (rules_row d) None (λ r. instance_of r left (m
         return f"Some (Ok (built {tree_term(answer[1])} {left - answer[0]}))"
 
 
-KINDS = [Written(), Trees(), Cores(), Scoped(), Workspaces(), Arrows(), Diagnostics(), SmallArrows(), Positions(), Changes(), Classes(), Macros()]
+KINDS = [Written(), Trees(), Cores(), Scoped(), Workspaces(), Arrows(), Diagnostics(), Positions(), Changes(), Classes(), Answers(), Macros()]

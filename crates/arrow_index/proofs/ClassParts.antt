@@ -12,12 +12,12 @@ use Rattle.std.proofs.lemmas.Cmp.{nat_list_cmp_total}
 use Rattle.std.proofs.lemmas.Map.Text.{is_eq-slice_cmp}
 use Rattle.scheme_model.specs.declared.Occ.{Occ}
 use Rattle.scheme_model.specs.Entries.{Source, At, StandardName, same_occ}
-use Rattle.scheme_model.specs.Spelling.{Link, is_member, class_of, has_prefix, prefixes_of, standard_origins}
+use Rattle.scheme_model.specs.Spelling.{Link, is_member, class_of, has_prefix, prefixes_of, standard_origins, is_joined, is_end}
 use Rattle.syntax_tree.proofs.InternLaws.{bytes_told}
 use Rattle.arrow_index.specs.Members.{IsIn}
 use Rattle.arrow_index.specs.Placed.{occ_cmp}
 use Rattle.arrow_index.specs.Links.{source_of, as_link}
-use Rattle.arrow_index.specs.Classes.{is_joined, is_end, parts_from, name_from, names_from, has_part, part_cmp, AreSaid, AreParts, AreStandard}
+use Rattle.arrow_index.specs.Classes.{parts_from, name_from, names_from, has_part, part_cmp, AreSaid, AreParts, AreStandard}
 use Rattle.arrow_index.specs.declared.links.Link as code_link
 use Rattle.arrow_index.specs.declared.links.LinkOrigin.{LinkOrigin}
 use Rattle.arrow_index.specs.declared.links.LinkOrigin.TheVariants.{Place, Standard}

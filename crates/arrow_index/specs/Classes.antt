@@ -30,17 +30,6 @@ IsClosed ls f = (l : Link) → IsIn l ls → HasBothOrNone f l.origin l.target
 
 -- ---- what links join
 
-abbrev pub is_place : Source → Occ → Bool
-is_place (At p) o = same_occ p o
-is_place (StandardName s) o = false
-
--- it is an end of a link
-abbrev pub is_end : Occ → Link → Bool
-is_end o l = same_occ l.target o || is_place l.origin o
-
-abbrev pub is_joined : List Link → Occ → Bool
-is_joined ls o = list_any (is_end o) ls
-
 -- from each end of a link to the other
 abbrev pub ways_across : Source → Occ → List Arrow
 ways_across (At o) t = record { binder = o; target = t } ∷ record { binder = t; target = o } ∷ []

@@ -12,4 +12,3 @@ pub mod Binders  -- Where definitions of units stand, and the binders of pairs t
 pub mod Entries  -- The entries of units by their names, and when they are those of a program
 pub mod Links  -- What links of the code say, and when they are those of a program
 pub mod Classes  -- Classes of occurrences
-pub mod Accesses  -- How occurrences are used (LSP 3.17, DocumentHighlightKind)

@@ -8,11 +8,11 @@ ghost use Rattle.std.specs.Cmp.Lexicographic.{slice_cmp};
 ghost use Rattle.std.specs.BTreeSet.{contains};
 ghost use Rattle.scheme_model.specs.declared.Occ.{Occ as AnyOcc};
 ghost use Rattle.scheme_model.specs.Entries.{same_occ};
-ghost use Rattle.scheme_model.specs.Spelling.{Link as ModelLink, class_of, is_member};
+ghost use Rattle.scheme_model.specs.Spelling.{Link as ModelLink, class_of, is_member, is_place, is_end, is_joined};
 ghost use Rattle.arrow_index.specs.Index.{as_arrow, AreArrows};
 ghost use Rattle.arrow_index.specs.Placed.{occ_cmp};
 ghost use Rattle.arrow_index.specs.Links.{source_of, as_link};
-ghost use Rattle.arrow_index.specs.Classes.{Gains, Reaches, is_place, is_end, is_joined, ways_over, ways_of, parts_from, names_from, has_part, part_cmp, AreSaid, AreParts, AreStandard};
+ghost use Rattle.arrow_index.specs.Classes.{Gains, Reaches, ways_over, ways_of, parts_from, names_from, has_part, part_cmp, AreSaid, AreParts, AreStandard};
 ghost use Rattle.arrow_index.specs.declared.classes.ClassPart.{ClassPart as AnyPart};
 
 use crate::links::{Link, LinkOrigin};

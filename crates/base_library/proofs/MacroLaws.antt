@@ -16,7 +16,7 @@ use Rattle.syntax_tree.specs.declared.trees.nodes.Tree as number
 use Rattle.syntax_tree.specs.declared.trees.table.Region.{Region}
 use Rattle.syntax_tree.specs.declared.trees.faults.PoolFault.{PoolFault}
 use Rattle.syntax_tree.specs.declared.rules.Rule as code_rule
-use Rattle.syntax_tree.proofs.Names.{and_true}
+use Rattle.syntax_tree.proofs.TestLaws.{and_true}
 use Rattle.datum_reader.specs.Seeding.{trees_from, Grows, Fails, AllLie}
 use Rattle.datum_reader.proofs.Growing.{grows_on, grows_names}
 use Rattle.base_library.specs.declared.sketch.Sketch.{Sketch}

@@ -5,7 +5,7 @@ use Rattle.std.specs.Str.{bytes_eq}
 use Rattle.scheme_model.specs.Requirements.{LibraryName, LibraryPart, Symbol, Digits, same_part, same_library}
 use Rattle.scheme_model.specs.StandardLibraries.{StandardLibrary, standard_libraries, names_in, standard}
 use Rattle.syntax_tree.proofs.InternLaws.{bytes_told, bytes_itself}
-use Rattle.syntax_tree.proofs.Names.{and_true}
+use Rattle.syntax_tree.proofs.TestLaws.{and_true}
 use Rattle.base_library.specs.Texts.{name_text, names_by, names_of, SpellsAll, SpellsStandard}
 
 -- ---- a text that isn't a library's

@@ -12,7 +12,7 @@ use Rattle.syntax_tree.specs.Meant.{IsGivenMeaning}
 use Rattle.syntax_tree.specs.declared.meaning.Meaning as code_meaning
 use Rattle.syntax_tree.specs.declared.meaning.Meaning.TheVariants as code
 use Rattle.syntax_tree.proofs.InternLaws.{bytes_told, bytes_itself, ident_told, ident_itself}
-use Rattle.syntax_tree.proofs.Names.{and_true}
+use Rattle.syntax_tree.proofs.TestLaws.{and_true}
 use Rattle.import_sets.specs.Sets.{TellsApart}
 use Rattle.import_sets.specs.Given as given
 

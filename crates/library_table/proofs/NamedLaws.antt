@@ -7,7 +7,7 @@ use Rattle.std.specs.Str.{bytes_eq}
 use Rattle.scheme_model.specs.Requirements.{LibraryName, LibraryPart, Symbol, Digits, same_part, same_library}
 use Rattle.scheme_model.specs.Program.{Placed, name_if, is_named, unit_named}
 use Rattle.syntax_tree.proofs.InternLaws.{bytes_told, bytes_itself}
-use Rattle.syntax_tree.proofs.Names.{and_true}
+use Rattle.syntax_tree.proofs.TestLaws.{and_true}
 use Rattle.import_sets.proofs.ReachLaws.{same_test}
 use Rattle.library_table.specs.declared.units.UnitSource as code
 use Rattle.library_table.specs.Named.{is_name, place_named, is_other, is_later, later_from}

@@ -62,11 +62,6 @@
 //!                                 `["noted",SCOPE,IDENTIFIER,HEAD]` for a meaning and the questions that were noted
 //!         [["noted",0,["q",0,[]],true]]   -> [[["free",0],["lookup",0,true,["free",0]]]]
 //!
-//! Arrows: where a binder starts, where its use starts, and the name.
-//!
-//!     arrows/of TEXT              the arrows of a small program, or "not small"
-//!         "(define x 1) x"        -> ["0:8 0:13 x"]
-//!
 //! Classes of occurrences. A LINK is `[ORIGIN,OCC,PREFIX]`: the occurrence takes its characters behind the prefix from its origin,
 //! which is an OCC or a standard name.
 //!
@@ -208,6 +203,17 @@
 //!         null                    -> []
 //!     programs/class OCC          the class of an occurrence, `[PLACE,PREFIX]`; a document is open
 //!         [0,0,0]                 -> []
+//!     programs/definition [URI,POSITION]   what binds the identifier at a position, a list of PLACEs
+//!         ["a",[0,0]]             -> []
+//!     programs/uses [URI,POSITION]   the uses of what binds the identifier at a position
+//!         ["a",[0,0]]             -> []
+//!     programs/references [URI,POSITION]   these uses, and what binds it
+//!         ["a",[0,0]]             -> []
+//!     programs/class-at [URI,POSITION]   the class of the identifier at a position, `[PLACE,PREFIX,[[PLACE,PREFIX,BARS],..]]` with the
+//!                                 longest of its own prefixes, or null
+//!         ["a",[0,0]]             -> null
+//!     programs/standard-at [URI,POSITION]   the first standard name of that class, or null
+//!         ["a",[0,0]]             -> null
 //!
 //! What all crates share.
 //!
@@ -220,7 +226,6 @@
 #![tactic(auto)]
 
 mod argument;
-mod arrows;
 mod base;
 mod classes;
 mod cores;
@@ -230,6 +235,7 @@ mod frames;
 mod lines;
 mod messages;
 mod positions;
+mod program_answers;
 mod program_arrows;
 mod program_classes;
 mod program_forms;
@@ -289,7 +295,6 @@ fn by_value(
         "trees" => Ok(trees::answer(out, call, argument)?),
         "symbols" => Ok(symbols::answer(out, call, argument)?),
         "scopes" => Ok(scopes::answer(out, call, argument)?),
-        "arrows" => Ok(arrows::answer(out, call, argument)?),
         "classes" => Ok(classes::answer(out, call, argument)?),
         "frames" => Ok(frames::answer(out, call, argument)?),
         "positions" => Ok(positions::answer(out, call, argument)?),

@@ -14,7 +14,7 @@ use Rattle.syntax_tree.specs.Standing.{leaf_tree}
 use Rattle.syntax_tree.specs.declared.trees.nodes.Leaf.{Leaf}
 use Rattle.syntax_tree.specs.declared.trees.nodes.Leaf.TheVariants as code
 use Rattle.syntax_tree.specs.contracts.trees.nodes.LeafPartialEq.TheImpl.{eq-value}
-use Rattle.syntax_tree.proofs.Names.{bool_same}
+use Rattle.syntax_tree.proofs.TestLaws.{bool_same}
 use Rattle.syntax_tree.proofs.InternLaws.{bytes_told, bytes_itself}
 
 -- symbols are one where their numbers are

@@ -21,6 +21,8 @@ use Rattle.scheme_model.specs.ProgramArrows.{arrows_of}
 use Rattle.scheme_model.specs.Spelling.{Link, links_of, class_of, prefixes_of}
 use Rattle.scheme_model.specs.Diagnostics.{Span, Bytes, bytes_of, Diagnostic, diagnostics_of}
 use Rattle.scheme_model.specs.Expression.{no_rules}
+use Rattle.scheme_model.specs.Session.{Query}
+use Rattle.scheme_model.specs.Answers.{Answer, answer_in}
 
 abbrev bare_target : Target → Target
 bare_target t = record { meaning = t.meaning; ident = Written 0 (symbol_of t.ident); occ = t.occ }
@@ -276,3 +278,6 @@ parts_with spans rs ls ms = sort_parts (map (λ o. record { place = bytes_of spa
 -- the class of an occurrence
 abbrev pub class_rows : List (List Span) → List Document → Occ → List PartRow
 class_rows spans ds o = let p = program_of ds in let ls = links_of (units_of ds) p in parts_with spans p.units ls (class_of ls o)
+
+abbrev pub answer_rows : List (List Span) → List Document → (document offset : ℕ) → Query → Answer
+answer_rows spans ds document offset query = answer_in spans (units_of ds) (program_of ds) document offset query

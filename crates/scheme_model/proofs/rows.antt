@@ -5,7 +5,7 @@ pub mod CoreRows
 pub mod WorkspaceRows
 pub mod ArrowRows
 pub mod DiagnosticRows
-pub mod SmallArrowRows
 pub mod ChangeRows
 pub mod ClassRows
 pub mod MacroRows
+pub mod AnswerRows

@@ -1,14 +1,6 @@
 pub mod Identifiers  -- Identifiers (R7RS 4.3)
 pub mod Trees  -- Trees whose leaves are names of a kind, with the occurrences that they were read at
-pub mod SmallSubstitution  -- Shallow substitution
 pub mod StandardNames  -- The names of the standard libraries (R7RS Appendix A), and which of them are keywords of core forms
-pub mod SmallMeaning  -- What an identifier means (R7RS 4.3)
-pub mod SmallCores  -- Cores
-pub mod SmallSteps  -- Steps of an expansion
-pub mod SmallShapes  -- The shapes of core forms (R7RS 4.1, 5.3)
-pub mod SmallExpression  -- The core of an expression of a small program, by substitution (R7RS 4.1)
-pub mod SmallUnits  -- The expansion of a program's forms (R7RS 5.1, 5.3)
-pub mod Arrows  -- Arrows
 pub mod Kinds  -- The kinds of tokens (R7RS 7.1.1), and tokens with their places
 pub mod Data  -- Data (R7RS 7.1.2), with the numbers and the bytes of their tokens
 pub mod Numbered  -- Tokens by their numbers, the places of data, and the numerals of bytevectors (R7RS 7.1.2)
@@ -20,10 +12,6 @@ pub mod DataTrees  -- The tree of a datum (R7RS 7.1.2)
 pub mod Texts  -- The texts of the open documents, and what a document event makes of them (LSP 3.17, text synchronisation)
 pub mod Wording  -- The texts of errors and of logs that a session sends (JSON-RPC 2.0, section 5.1; LSP 3.17, `window/logMessage`)
 pub mod Session  -- A session (JSON-RPC 2.0; LSP 3.17, lifecycle)
-pub mod SmallTokens  -- The tokens of small programs, and how a text is made of them (R7RS 7.1.1)
-pub mod SmallReading  -- The data of small programs, and how tokens form them (R7RS 7.1.2)
-pub mod SmallTrees  -- The trees of the data of small programs
-pub mod SmallArrows  -- The arrows of small programs
 pub mod Measures  -- How many nodes a tree has, and how deep it is
 pub mod TreeParts  -- The parts of trees
 pub mod Ident  -- An identifier as it came about, whatever binds it (R7RS 4.3)
@@ -59,3 +47,6 @@ pub mod Live  -- The leaves of cores, the uses of names in imports and exports, 
 pub mod ProgramArrows  -- Arrows
 pub mod Diagnostics  -- The diagnostics of a program
 pub mod Spelling  -- What spells an identifier
+pub mod Accesses  -- How occurrences are used (LSP 3.17, DocumentHighlightKind)
+pub mod Sites  -- Identifiers where they stand in texts (R7RS 7.1.1), and the one at a place of a text
+pub mod Answers  -- What is answered about a program (LSP 3.17, "Language Features")

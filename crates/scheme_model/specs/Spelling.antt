@@ -1,6 +1,7 @@
 -- What spells an identifier: its links to the occurrences that its characters come from, and the classes of occurrences that
 -- such links join. Occurrences of a class are renamed together, each behind its prefix.
 use Rattle.std.specs.Prelude.{ℕ, zero, suc, List, [], ◌∷◌, ◌++◌, length, Bool, true, false, not, ◌&&◌, ◌||◌, Option, Some, None, if◌then◌else◌}
+use Rattle.std.specs.List.{list_any}
 use Rattle.std.specs.Str.{bytes_eq}
 use Rattle.scheme_model.specs.declared.Occ.{Occ}
 use Rattle.scheme_model.specs.Ident.{Ident, Written, Inserted}
@@ -100,6 +101,19 @@ links_with leaves keywords names table rs binders =
 -- the links of a program
 abbrev pub links_of : List Placed → Program → List Link
 links_of all p = links_with (program_leaves p.units) (program_keywords p.units) (program_names all p p.units) (program_table p) p.units (binders_in p)
+
+-- ---- what links join
+
+abbrev pub is_place : Source → Occ → Bool
+is_place (At p) o = same_occ p o
+is_place (StandardName s) o = false
+
+-- it is an end of a link
+abbrev pub is_end : Occ → Link → Bool
+is_end o l = same_occ l.target o || is_place l.origin o
+
+abbrev pub is_joined : List Link → Occ → Bool
+is_joined ls o = list_any (is_end o) ls
 
 -- ---- classes
 

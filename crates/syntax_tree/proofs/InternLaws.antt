@@ -13,7 +13,7 @@ use Rattle.syntax_tree.specs.Names.{Names, AreToldApart, KeepsNames, with_new, w
 use Rattle.syntax_tree.specs.Interned.{symbol_in, name_in, atom_in, interned, all_interned, tail_interned}
 use Rattle.syntax_tree.proofs.Places.{none_some, get_front, get_next}
 use Rattle.syntax_tree.proofs.TableSteps.{GainsAtMost}
-use Rattle.syntax_tree.proofs.Names.{and_true, same_number-refl}
+use Rattle.syntax_tree.proofs.TestLaws.{and_true, same_number-refl}
 
 -- ---- a thing more, where it is new
 

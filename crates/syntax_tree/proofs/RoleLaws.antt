@@ -15,7 +15,7 @@ use Rattle.scheme_model.specs.Ident.{Ident as Identifier, Written, symbol_of, sa
 use Rattle.syntax_tree.specs.Names.{Names, AreToldApart}
 use Rattle.syntax_tree.specs.Macros.{identifiers, IsIdent, AreIdents, IsEllipsisOf, TellsRoles}
 use Rattle.syntax_tree.specs.declared.rules.Roles.{Roles}
-use Rattle.syntax_tree.proofs.Names.{bool_same}
+use Rattle.syntax_tree.proofs.TestLaws.{bool_same}
 use Rattle.syntax_tree.proofs.InternLaws.{ident_told, ident_itself}
 
 below : {A : Type 0} (xs : List A) (n : ℕ) (x : A) → slice_get xs n ≡ Some x → n < length xs

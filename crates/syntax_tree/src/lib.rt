@@ -1,11 +1,10 @@
-//! Symbols, identifiers and trees by number, and the arrows of small programs.
+//! Symbols, identifiers and trees by number, and what stands on them: rules of macros, meanings and units.
 #![tactic(auto)]
 
 pub mod look;
 pub mod meaning;
 pub mod notes;
 pub mod rules;
-pub mod small;
 pub mod symbols;
 pub mod trees;
 pub mod units;

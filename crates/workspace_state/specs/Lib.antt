@@ -38,6 +38,4 @@ pub mod KnownNames  -- The libraries that there are, by the texts of their names
 pub mod UnitsListed  -- The units of the documents as they are listed (R7RS 5.1, 5.6)
 pub mod ProgramOfTexts  -- The program of the open documents, as the code has it (R7RS 5)
 pub mod State  -- A workspace as contracts see it
-pub mod Sites  -- Identifiers where they stand in texts (R7RS 7.1.1), and the one at a place of a text
-pub mod Answers  -- What is answered about a program (LSP 3.17, "Language Features")
 pub mod ToldAnswers  -- Answers at positions of an encoding (LSP 3.17, Location, DocumentHighlight), about open documents that are read so

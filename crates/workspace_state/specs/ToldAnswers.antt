@@ -18,15 +18,15 @@ use Rattle.scheme_model.specs.Diagnostics.{Bytes}
 use Rattle.scheme_model.specs.Entries.{is_below}
 use Rattle.scheme_model.specs.Program.{units_of}
 use Rattle.scheme_model.specs.Session.{Query, Definition, References, Highlights, Prepare, Arrows}
-use Rattle.scheme_model.specs.Spelling.{class_of, prefixes_of, standard_origins}
+use Rattle.scheme_model.specs.Spelling.{class_of, prefixes_of, standard_origins, is_joined}
 use Rattle.document_store.specs.Texts.{Document}
-use Rattle.arrow_index.specs.Classes.{is_joined, AreParts}
+use Rattle.arrow_index.specs.Classes.{AreParts}
 use Rattle.arrow_index.specs.declared.classes.ClassPart as bare
-use Rattle.workspace_state.specs.Answers.{Answer, Nothing, Places, Lit, Prepared, Drawn, Facts, facts_of, answer_in, no_answer, ordered_by}
+use Rattle.scheme_model.specs.Answers.{Answer, Nothing, Places, Lit, Prepared, Drawn, Facts, facts_of, answer_in, no_answer, ordered_by}
 use Rattle.workspace_state.specs.Listed.{range_of}
 use Rattle.workspace_state.specs.Places.{spans_of}
 use Rattle.workspace_state.specs.Readings.{Read, data_in, program_in}
-use Rattle.workspace_state.specs.Sites.{name_at}
+use Rattle.scheme_model.specs.Sites.{name_at}
 use Rattle.workspace_state.specs.declared.classes.Class.{Class}
 use Rattle.workspace_state.specs.declared.classes.ClassPart.{ClassPart}
 

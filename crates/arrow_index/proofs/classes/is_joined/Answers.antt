@@ -1,7 +1,7 @@
 use Rattle.std.proofs.Common.{◌≡◌, List, map, true, false, sym, ap, ◌∙◌, arith}
 use Rattle.std.proofs.lemmas.List.{take_all}
 use Rattle.arrow_index.specs.Links.{as_link}
-use Rattle.arrow_index.specs.Classes.{is_end, is_joined}
+use Rattle.scheme_model.specs.Spelling.{is_end, is_joined}
 use Rattle.arrow_index.specs.declared.links.Link.{Link}
 use Rattle.arrow_index.proofs.MemberLaws.{in_from, in_map}
 use Rattle.arrow_index.proofs.ClassWalks.{any_from}

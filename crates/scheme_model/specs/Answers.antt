@@ -4,12 +4,11 @@ use Rattle.std.specs.List.{flat_map}
 use Rattle.scheme_model.specs.declared.Occ.{Occ}
 use Rattle.scheme_model.specs.Program.{Placed, UnitResult, Program}
 use Rattle.scheme_model.specs.ProgramArrows.{Arrow, arrows_of, binders_in, binders_at, uses_at}
-use Rattle.scheme_model.specs.Spelling.{Link, links_of, class_of, is_member, standard_origins}
+use Rattle.scheme_model.specs.Spelling.{Link, links_of, class_of, is_member, standard_origins, is_joined}
 use Rattle.scheme_model.specs.Diagnostics.{Span, Bytes, bytes_of}
 use Rattle.scheme_model.specs.Session.{Query, Definition, References, Highlights, Prepare, Arrows}
-use Rattle.arrow_index.specs.Accesses.{written_in, read_in}
-use Rattle.arrow_index.specs.Classes.{is_joined}
-use Rattle.workspace_state.specs.Sites.{name_at}
+use Rattle.scheme_model.specs.Accesses.{written_in, read_in}
+use Rattle.scheme_model.specs.Sites.{name_at}
 
 -- an answer, whose places are bytes of documents: nothing; places; uses of one document, each with its kind; a name that can be
 -- renamed; or arrows from binders to uses
