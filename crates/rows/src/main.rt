@@ -203,12 +203,10 @@
 //!         null                    -> []
 //!     programs/class OCC          the class of an occurrence, `[PLACE,PREFIX]`; a document is open
 //!         [0,0,0]                 -> []
-//!     programs/definition [URI,POSITION]   what binds the identifier at a position, a list of PLACEs
-//!         ["a",[0,0]]             -> []
-//!     programs/uses [URI,POSITION]   the uses of what binds the identifier at a position
-//!         ["a",[0,0]]             -> []
-//!     programs/references [URI,POSITION]   these uses, and what binds it
-//!         ["a",[0,0]]             -> []
+//!     programs/answer [URI,POSITION,QUERY]   what is answered at a position to `definition`, `references`, `all references` (with what
+//!                                 binds it): a list of PLACEs; `highlights`: `[START,END,KIND]`; `prepare`: `[START,END,NAME]` or null;
+//!                                 or `arrows`, as above, with an end in the document
+//!         ["a",[0,0],"definition"]   -> []
 //!     programs/class-at [URI,POSITION]   the class of the identifier at a position, `[PLACE,PREFIX,[[PLACE,PREFIX,BARS],..]]` with the
 //!                                 longest of its own prefixes, or null
 //!         ["a",[0,0]]             -> null

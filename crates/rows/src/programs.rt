@@ -3,13 +3,13 @@ ghost use Rattle.std.specs.Prelude.{◌≡◌, ◌<◌};
 
 use crate::argument::{item, list, made, made_bytes, text};
 use crate::fault::{Row, RowFault};
-use crate::program_answers::show_places;
+use crate::program_answers::show_answer;
 use crate::program_arrows::show_arrows;
 use crate::program_classes::{show_class, show_class_at, show_links, show_standard_at};
 use crate::program_forms::{show_counts, show_units};
 use crate::shown::Shown;
 use crate::spans::{show_ends, show_span, span_at, span_of, text_of};
-use ls_base::{Diagnostic, Items, Query, Steps, Text};
+use ls_base::{Diagnostic, Items, Steps, Text};
 use serde_json::Value;
 use std::alloc::Global;
 use std::collections::BTreeMap;
@@ -29,17 +29,11 @@ pub fn answer(out: &mut Shown, workspace: &mut Workspace, call: &str, argument: 
         "arrows" => Ok(show_arrows(out, workspace)?),
         "links" => Ok(show_links(out, workspace)?),
         "class" => Ok(show_class(out, workspace, argument)?),
-        "definition" => Ok(show_places(out, workspace, Query::Definition, argument)?),
-        "uses" => Ok(show_places(out, workspace, references(false), argument)?),
-        "references" => Ok(show_places(out, workspace, references(true), argument)?),
+        "answer" => Ok(show_answer(out, workspace, argument)?),
         "class-at" => Ok(show_class_at(out, workspace, argument)?),
         "standard-at" => Ok(show_standard_at(out, workspace, argument)?),
         _ => Err(RowFault::NoCall),
     }
-}
-
-fn references(declaration: bool) -> Query {
-    Query::References { declaration }
 }
 
 /// `[[URI, TEXT], ..]`: in a new workspace opens documents, and shows what was published last for each.
