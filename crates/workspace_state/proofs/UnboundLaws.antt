@@ -25,7 +25,7 @@ use Rattle.core_tree.specs.declared.cores.Target.{Target}
 use Rattle.core_tree.specs.declared.traces.FormFault.{FormFault}
 use Rattle.core_tree.specs.declared.units.ExpandedItem.{ExpandedItem}
 use Rattle.core_tree.specs.declared.units.UnitForm as code_form
-use Rattle.arrow_index.specs.Leaves.{Seen, seen_of, Binds, Uses, Quoted, Holed, Defines, part_seen, items_seen, IsSeen, AreSeen}
+use Rattle.arrow_index.specs.Leaves.{Seen, seen_of, Binds, Uses, Assigns, Quoted, Holed, Defines, part_seen, items_seen, IsSeen, AreSeen}
 use Rattle.arrow_index.specs.declared.leaves.Leaf.{Leaf}
 use Rattle.arrow_index.proofs.LeafLaws.{parts_leaves}
 use Rattle.arrow_index.proofs.QuotedLaws.{quoted_none}
@@ -72,11 +72,8 @@ module _ (work : Work) (unit form : ℕ) where
 
   one_leaf : (x : Seen) (ls : List CoreLeaf) → IsSeen work unit form x ls → AllMatch (IsUnbound work.symbols) (free_leaf x) (unbound_in ls)
   one_leaf (Binds local b) ls h = rw (ap unbound_in h.1) tt
-  one_leaf (Uses t) ls h = go h.1
-    where
-      go : (ls ≡ live.Uses h.0 ∷ []) ⊎ (ls ≡ live.Assigns h.0 ∷ []) → AllMatch (IsUnbound work.symbols) (free_use t) (unbound_in ls)
-      go (inl e) = subst (AllMatch (IsUnbound work.symbols) (free_use t)) (sym (ap unbound_in e ∙ append-nil (unbound_as h.0.meaning h.0.occ h.0))) (used t h.0 h.2)
-      go (inr e) = subst (AllMatch (IsUnbound work.symbols) (free_use t)) (sym (ap unbound_in e ∙ append-nil (unbound_as h.0.meaning h.0.occ h.0))) (used t h.0 h.2)
+  one_leaf (Uses t) ls h = subst (AllMatch (IsUnbound work.symbols) (free_use t)) (sym (ap unbound_in h.1 ∙ append-nil (unbound_as h.0.meaning h.0.occ h.0))) (used t h.0 h.2)
+  one_leaf (Assigns t) ls h = subst (AllMatch (IsUnbound work.symbols) (free_use t)) (sym (ap unbound_in h.1 ∙ append-nil (unbound_as h.0.meaning h.0.occ h.0))) (used t h.0 h.2)
   one_leaf (Quoted n) ls h = rw (ap unbound_in h.2 ∙ none_quoted live.any_name (map_tree symbol_of h.0)) tt
   one_leaf (Holed n places) ls h = rw (ap unbound_in h.2 ∙ none_quoted live.no_hole h.0) tt
   one_leaf (Defines d) ls h = rw (ap unbound_in h.1) tt

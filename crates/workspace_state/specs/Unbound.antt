@@ -14,7 +14,7 @@ use Rattle.syntax_tree.specs.declared.meaning.Meaning.TheVariants as meaning
 use Rattle.core_tree.specs.declared.cores.Target.{Target}
 use Rattle.core_tree.specs.declared.traces.FormFault.{FormFault}
 use Rattle.core_tree.specs.declared.units.UnitForm.{UnitForm}
-use Rattle.arrow_index.specs.Leaves.{Seen, Binds, Uses, Quoted, Holed, Defines, items_seen}
+use Rattle.arrow_index.specs.Leaves.{Seen, Binds, Uses, Assigns, Quoted, Holed, Defines, items_seen}
 
 -- ---- in the code
 
@@ -32,6 +32,7 @@ free_use t = free_as t.meaning t.occ t
 abbrev pub free_leaf : Seen → List Target
 free_leaf (Binds local b) = []
 free_leaf (Uses t) = free_use t
+free_leaf (Assigns t) = free_use t
 free_leaf (Quoted n) = []
 free_leaf (Holed n places) = []
 free_leaf (Defines d) = []

@@ -63,6 +63,7 @@ fn in_leaf(found: &mut Vec<Target>, leaf: Leaf<'_>) -> Mem<()>
 {
     match leaf {
         Leaf::Uses(target) => add(found, target),
+        Leaf::Assigns(target) => add(found, target),
         Leaf::Binds { .. } => Ok(()),
         Leaf::Quoted(_) => Ok(()),
         Leaf::Holed { .. } => Ok(()),
