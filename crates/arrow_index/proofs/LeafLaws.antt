@@ -1,5 +1,5 @@
 -- The leaves of a core of the code are those of the core that it stands for.
-use Rattle.std.proofs.Common.{◌≡◌, inl, inr, ℕ, zero, suc, List, [], ◌∷◌, ◌++◌, map, Bool, true, Option, Some, refl, sym, ap, ◌∙◌, subst, append_assoc}
+use Rattle.std.proofs.Common.{◌≡◌, ℕ, zero, suc, List, [], ◌∷◌, ◌++◌, map, Bool, true, Option, Some, refl, sym, ap, ◌∙◌, subst, append_assoc}
 use Rattle.std.specs.Prelude.{slice_get}
 use Rattle.std.specs.List.{flat_map}
 use Rattle.std.proofs.lemmas.List.{append-nil}
@@ -21,7 +21,7 @@ use Rattle.core_tree.specs.declared.cores.FieldUse.{FieldUse}
 use Rattle.core_tree.specs.declared.cores.Core.{Core}
 use Rattle.core_tree.specs.declared.cores.Clause.{Clause}
 use Rattle.core_tree.specs.declared.cores.CorePart.{CorePart}
-use Rattle.arrow_index.specs.Leaves.{Seen, Binds, Uses, Quoted, Holed, Defines, core_seen, part_seen, cores_seen, clauses_seen, parts_seen, binders_seen, macro_seen, macros_seen, field_seen, fields_seen, IsSeen, AreSeen}
+use Rattle.arrow_index.specs.Leaves.{Seen, Binds, Uses, Assigns, Quoted, Holed, Defines, core_seen, part_seen, cores_seen, clauses_seen, parts_seen, binders_seen, macro_seen, macros_seen, field_seen, fields_seen, IsSeen, AreSeen}
 use Rattle.arrow_index.proofs.SeenLaws.{seen_ref, seen_const, seen_quote, seen_quasi, seen_lambda, seen_case_lambda, seen_if, seen_set, seen_call, seen_body, seen_let_syntax, seen_clause, seen_expression, seen_define, seen_values, seen_fields, seen_syntax}
 
 module _ (work : Work) (unit form : ℕ) where
@@ -66,7 +66,7 @@ module _ (work : Work) (unit form : ℕ) where
       let used : model.Target = record { meaning = meaning_of m.bound m.ident; ident = m.ident; occ = o } in
       let meant : IsMeaning work.symbols unit form (meanings.Local b.number) (meaning_of m.bound m.ident) = ap (λ (x : model.Bound). meaning_of x m.ident) e ∙ ap LocalMeaning number in
       let is : IsTarget work.symbols unit form (record { meaning = meanings.Local b.number; ident = b.ident; occ = u.occ }) used = record { meaning = meant; ident = h.ident; place = occ } in
-      seen_one (Uses (record { meaning = meanings.Local b.number; ident = b.ident; occ = u.occ })) (live.Uses used ∷ []) (used, inl refl, is)
+      seen_one (Uses (record { meaning = meanings.Local b.number; ident = b.ident; occ = u.occ })) (live.Uses used ∷ []) (used, refl, is)
   used_local b m u o h (model.Definition v n) e k occ = absurd k
 
   field_is : (n : ℕ) (u : FieldUse) (o : Option Occ) (fs : List Binder) (ms : List model.Binder) → AllMatch (IsBinder work.symbols unit form) fs ms → AllBind true ms → u.occ ≡ o →
@@ -91,7 +91,7 @@ module _ (work : Work) (unit form : ℕ) where
   mutual
     pub core_leaves : (c : Core) (m : model.Core) → CoreStands work unit form c m → BindsLocals m → AreSeen work unit form (core_seen c) (leaves_of m)
     core_leaves c (model.Ref t) h k =
-        seen_as (Uses h.0 ∷ []) (core_seen c) (live.Uses t ∷ []) (ap core_seen h.1 ∙ seen_ref h.0) (seen_one (Uses h.0) (live.Uses t ∷ []) (t, inl refl, h.2))
+        seen_as (Uses h.0 ∷ []) (core_seen c) (live.Uses t ∷ []) (ap core_seen h.1 ∙ seen_ref h.0) (seen_one (Uses h.0) (live.Uses t ∷ []) (t, refl, h.2))
     core_leaves c (model.Const a) h k = seen_as [] (core_seen c) [] (ap core_seen h.2 ∙ seen_const h.0) refl
     core_leaves c (model.Quote d) h k =
         let ls = live.name_places live.any_name d in
@@ -108,8 +108,8 @@ module _ (work : Work) (unit form : ℕ) where
         seen_as (clauses_seen h.0.items) (core_seen c) (leaves_of_clauses ms) (ap core_seen h.1 ∙ seen_case_lambda h.0) (clauses_leaves h.0.items ms h.2 k)
     core_leaves c (model.If ms) h k = seen_as (cores_seen h.0.items) (core_seen c) (leaves_of_all ms) (ap core_seen h.1 ∙ seen_if h.0) (cores_leaves h.0.items ms h.2 k)
     core_leaves c (model.Set t m) h k =
-        seen_as (Uses h.0 ∷ core_seen h.1.value) (core_seen c) (live.Assigns t ∷ leaves_of m) (ap core_seen h.2 ∙ seen_set h.0 h.1)
-        (seen_more (Uses h.0) (core_seen h.1.value) (live.Assigns t ∷ []) (leaves_of m) (t, inr refl, h.3) (core_leaves h.1.value m h.4 k))
+        seen_as (Assigns h.0 ∷ core_seen h.1.value) (core_seen c) (live.Assigns t ∷ leaves_of m) (ap core_seen h.2 ∙ seen_set h.0 h.1)
+        (seen_more (Assigns h.0) (core_seen h.1.value) (live.Assigns t ∷ []) (leaves_of m) (t, refl, h.3) (core_leaves h.1.value m h.4 k))
     core_leaves c (model.Call ms) h k = seen_as (cores_seen h.0.items) (core_seen c) (leaves_of_all ms) (ap core_seen h.1 ∙ seen_call h.0) (cores_leaves h.0.items ms h.2 k)
     core_leaves c (model.Body ms) h k = seen_as (parts_seen h.0.items) (core_seen c) (leaves_of_parts ms) (ap core_seen h.1 ∙ seen_body h.0) (parts_leaves true h.0.items ms h.2 k)
     core_leaves c (model.LetSyntax ds m) h k =

@@ -1,5 +1,5 @@
 -- Where locals stand, by the leaves of the code and by those of the definition.
-use Rattle.std.proofs.Common.{◌≡◌, ◌⊎◌, inl, inr, ℕ, List, [], ◌∷◌, ◌++◌, Bool, true, false, Option, Some, refl, sym, ap, ◌∙◌, append_assoc}
+use Rattle.std.proofs.Common.{◌≡◌, ℕ, List, [], ◌∷◌, ◌++◌, Bool, true, false, Option, Some, refl, sym, ap, ◌∙◌, append_assoc}
 use Rattle.std.specs.Prelude.{◌&&◌, ◌==◌, if◌then◌else◌}
 use Rattle.scheme_model.specs.declared.Occ.{Occ}
 use Rattle.scheme_model.specs.Identifiers.{Number, same_number}
@@ -13,7 +13,7 @@ use Rattle.syntax_tree.specs.declared.trees.Work.{Work}
 use Rattle.core_tree.specs.Names.{IsBound}
 use Rattle.core_tree.specs.Levels.{BindsAs}
 use Rattle.arrow_index.specs.declared.sight.LocalNo.{LocalNo}
-use Rattle.arrow_index.specs.Leaves.{Seen, Binds, Uses, Quoted, Holed, Defines, IsSeen}
+use Rattle.arrow_index.specs.Leaves.{Seen, Binds, Uses, Assigns, Quoted, Holed, Defines, IsSeen}
 use Rattle.arrow_index.specs.Placed.{PlacedSeen, same_local, bound_in, bound_or, local_in, place_in, AreAllSeen}
 
 -- the names in quoted data bind nothing
@@ -68,11 +68,8 @@ module _ (work : Work) where
       bound_law unit form b.number b.occ h.0.occ h.0.bound k r (local_at rest (number_of k)) h.2.number h.3 h.2.place q ∙ ap (λ (f : List CoreLeaf). local_at (f ++ rest) (number_of k)) (sym h.1)
   seen_law (Binds false b) unit form front rest k r q h =
       q ∙ sym (definition_law h.0.bound h.0.occ (number_of k) (local_at rest (number_of k)) h.3) ∙ ap (λ (f : List CoreLeaf). local_at (f ++ rest) (number_of k)) (sym h.1)
-  seen_law (Uses t) unit form front rest k r q h = by_use h.1
-    where
-      by_use : (front ≡ live.Uses h.0 ∷ []) ⊎ (front ≡ live.Assigns h.0 ∷ []) → place_in r ≡ local_at (front ++ rest) (number_of k)
-      by_use (inl e) = q ∙ ap (λ (f : List CoreLeaf). local_at (f ++ rest) (number_of k)) (sym e)
-      by_use (inr e) = q ∙ ap (λ (f : List CoreLeaf). local_at (f ++ rest) (number_of k)) (sym e)
+  seen_law (Uses t) unit form front rest k r q h = q ∙ ap (λ (f : List CoreLeaf). local_at (f ++ rest) (number_of k)) (sym h.1)
+  seen_law (Assigns t) unit form front rest k r q h = q ∙ ap (λ (f : List CoreLeaf). local_at (f ++ rest) (number_of k)) (sym h.1)
   seen_law (Quoted n) unit form front rest k r q h =
       q ∙ sym (quoted_past any_name (map_tree symbol_of h.0) rest (number_of k)) ∙ ap (λ (f : List CoreLeaf). local_at (f ++ rest) (number_of k)) (sym h.2)
   seen_law (Holed n places) unit form front rest k r q h =

@@ -16,7 +16,7 @@ use Rattle.core_tree.specs.declared.cores.CorePart.{CorePart}
 use Rattle.core_tree.specs.declared.cores.CorePart.TheVariants as parts
 use Rattle.core_tree.specs.declared.cores.Core.TheOpen.{Core-F, CorePart-F}
 use Rattle.core_tree.specs.declared.cores.Core.TheFolds.{fold-roll-Core, fold-roll-CorePart, fold_out-Clause}
-use Rattle.arrow_index.specs.Leaves.{Seen, Binds, Uses, Quoted, Holed, joined, core_step, clause_step, part_step, core_seen, clause_seen, part_seen, cores_seen, clauses_seen, parts_seen, binders_seen, macro_seen, macros_seen, fields_seen}
+use Rattle.arrow_index.specs.Leaves.{Seen, Binds, Uses, Assigns, Quoted, Holed, joined, core_step, clause_step, part_step, core_seen, clause_seen, part_seen, cores_seen, clauses_seen, parts_seen, binders_seen, macro_seen, macros_seen, fields_seen}
 
 joined-map : {X : Type 0} (f : X → List Seen) (xs : List X) → joined (map f xs) ≡ flat_map f xs
 joined-map f [] = refl
@@ -52,7 +52,7 @@ seen_case_lambda xs =
 pub seen_if : (xs : Vec Core Global) → core_seen (cores.If xs) ≡ cores_seen xs.items
 seen_if xs = ap core_seen (sym (cores.rolls-If xs)) ∙ fold-roll-Core (List Seen) (Bool → List Seen) (List Seen) core_step part_step clause_step (Core-F.If xs) ∙ joined-map core_seen xs.items
 
-pub seen_set : (t : Target) (y : Box Core) → core_seen (cores.Set t y) ≡ Uses t ∷ core_seen y.value
+pub seen_set : (t : Target) (y : Box Core) → core_seen (cores.Set t y) ≡ Assigns t ∷ core_seen y.value
 seen_set t y = ap core_seen (sym (cores.rolls-Set t y)) ∙ fold-roll-Core (List Seen) (Bool → List Seen) (List Seen) core_step part_step clause_step (Core-F.Set t y)
 
 pub seen_call : (xs : Vec Core Global) → core_seen (cores.Call xs) ≡ cores_seen xs.items

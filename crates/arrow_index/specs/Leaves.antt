@@ -1,5 +1,5 @@
 -- The leaves of the code's cores, as a list, and which leaves of the definition's cores they are.
-use Rattle.std.specs.Prelude.{◌≡◌, ◌⊎◌, ℕ, List, [], ◌∷◌, ◌++◌, map, Bool, true, false, Option, Some, None, slice_get}
+use Rattle.std.specs.Prelude.{◌≡◌, ℕ, List, [], ◌∷◌, ◌++◌, map, Bool, true, false, Option, Some, None, slice_get}
 use Rattle.std.specs.List.{flat_map}
 use Rattle.scheme_model.specs.Trees.{Tree, map_tree}
 use Rattle.scheme_model.specs.Ident.{Ident as Identifier, symbol_of}
@@ -31,6 +31,7 @@ use Rattle.arrow_index.specs.declared.leaves.Leaf.TheVariants as leaf
 pub data Seen : Type 0 where
   Binds : (local : Bool) → Binder → Seen
   Uses : Target → Seen
+  Assigns : Target → Seen
   Quoted : number.Tree → Seen
   Holed : number.Tree → (places : List ℕ) → Seen
   Defines : MacroDef → Seen
@@ -38,6 +39,7 @@ pub data Seen : Type 0 where
 abbrev pub seen_of : Leaf → Seen
 seen_of (leaf.Binds local b) = Binds local b
 seen_of (leaf.Uses t) = Uses t
+seen_of (leaf.Assigns t) = Assigns t
 seen_of (leaf.Quoted n) = Quoted n
 seen_of (leaf.Holed n places) = Holed n places.now
 seen_of (leaf.Defines d) = Defines d.now
@@ -71,7 +73,7 @@ core_step (Core-F.Quasi n places cs) = Holed n places.items ∷ joined cs.items
 core_step (Core-F.Lambda x) = x
 core_step (Core-F.CaseLambda xs) = joined xs.items
 core_step (Core-F.If cs) = joined cs.items
-core_step (Core-F.Set t c) = Uses t ∷ c.value
+core_step (Core-F.Set t c) = Assigns t ∷ c.value
 core_step (Core-F.Call cs) = joined cs.items
 core_step (Core-F.Body ps) = flat_map (λ p. p true) ps.items
 core_step (Core-F.LetSyntax ds c) = macros_seen ds.items ++ c.value
@@ -113,7 +115,8 @@ items_seen is = flat_map (λ i. part_seen i.part false) is
 -- a leaf of the code is these leaves of the definition's core
 abbrev pub IsSeen : Work → (unit form : ℕ) → Seen → List CoreLeaf → Type 0
 IsSeen work unit form (Binds local b) ls = (m : model.Binder) × (ls ≡ live.Binds m ∷ []) × IsBinder work.symbols unit form b m × BindsAs local m.bound
-IsSeen work unit form (Uses t) ls = (m : model.Target) × ((ls ≡ live.Uses m ∷ []) ⊎ (ls ≡ live.Assigns m ∷ [])) × IsTarget work.symbols unit form t m
+IsSeen work unit form (Uses t) ls = (m : model.Target) × (ls ≡ live.Uses m ∷ []) × IsTarget work.symbols unit form t m
+IsSeen work unit form (Assigns t) ls = (m : model.Target) × (ls ≡ live.Assigns m ∷ []) × IsTarget work.symbols unit form t m
 IsSeen work unit form (Quoted n) ls = (t : Tree Identifier) × StandsFor work n t × (ls ≡ name_places any_name (map_tree symbol_of t))
 IsSeen work unit form (Holed n places) ls = (h : Tree (Option (List ℕ))) × IsHoled work n places h × (ls ≡ name_places no_hole h)
 IsSeen work unit form (Defines d) ls = (m : model.MacroDef) × (ls ≡ live.Defines m ∷ []) × IsMacro work unit form d m

@@ -20,7 +20,7 @@ use Rattle.arrow_index.specs.declared.sight.LocalNo.{LocalNo}
 use Rattle.arrow_index.specs.declared.sight.GlobalNo.{GlobalNo}
 use Rattle.arrow_index.specs.declared.sight.PlacedLeaf.{PlacedLeaf}
 use Rattle.arrow_index.specs.declared.sight.PlacedTarget.{PlacedTarget}
-use Rattle.arrow_index.specs.Leaves.{Seen, Binds, Uses, Quoted, Holed, Defines, seen_of, items_seen, IsSeen}
+use Rattle.arrow_index.specs.Leaves.{Seen, Binds, Uses, Assigns, Quoted, Holed, Defines, seen_of, items_seen, IsSeen}
 
 -- ---- orders of keys
 
@@ -115,6 +115,7 @@ bound_in x = by_seen x.seen (record { unit = x.unit; form = x.form })
     by_seen (Binds true b) at = Some (record { at = at; count = b.number }, b.occ)
     by_seen (Binds false b) at = None
     by_seen (Uses t) at = None
+    by_seen (Assigns t) at = None
     by_seen (Quoted n) at = None
     by_seen (Holed n places) at = None
     by_seen (Defines d) at = None

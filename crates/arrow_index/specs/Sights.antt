@@ -9,13 +9,15 @@ use Rattle.scheme_model.specs.Ident.{Ident as Identifier}
 use Rattle.scheme_model.specs.Cores as model
 use Rattle.scheme_model.specs.Substitution.{Table, Defined, defined_in}
 use Rattle.scheme_model.specs.Program.{Placed, Program}
+use Rattle.scheme_model.specs.Requirements.{LibraryName}
 use Rattle.scheme_model.specs.Live as live
 use Rattle.scheme_model.specs.Live.{CoreLeaf}
 use Rattle.scheme_model.specs.ProgramArrows.{local_at, is_occ, is_live, program_leaves, program_keywords, program_names, program_table}
 use Rattle.syntax_tree.specs.Macros.{IsIdent}
 use Rattle.syntax_tree.specs.declared.trees.Work.{Work}
-use Rattle.core_tree.specs.Units.{IsName}
+use Rattle.core_tree.specs.Units.{IsName, ProgramStands}
 use Rattle.core_tree.specs.declared.units.NameUse.{NameUse}
+use Rattle.core_tree.specs.declared.units.Program as code_program
 use Rattle.core_tree.specs.declared.units.Unit.{Unit as CodeUnit}
 use Rattle.arrow_index.specs.declared.sight.Sight.{Sight}
 use Rattle.arrow_index.specs.Members.{Tells}
@@ -48,3 +50,7 @@ pub record Sees (work : Work) (s : Sight) (leaves : List CoreLeaf) (keywords : L
 
 abbrev pub SeesProgram : Work → Sight → List Placed → Program → Type 0
 SeesProgram work s all p = Sees work s (program_leaves p.units) (program_keywords p.units) (program_names all p p.units) (program_table p)
+
+-- it sees what a program of the code stands for
+abbrev pub IsSightOf : Work → Sight → code_program.Program → Type 0
+IsSightOf work s c = (text : LibraryName → List ℕ) × (uris : List (List ℕ)) × (all : List Placed) × (p : Program) × ProgramStands work text uris all c p × SeesProgram work s all p

@@ -15,7 +15,7 @@ ghost use Rattle.arrow_index.specs.Formed.{AreFormedIn};
 ghost use Rattle.arrow_index.specs.Members.{IsIn};
 ghost use Rattle.arrow_index.specs.Placed.{placed_of, use_of, AreAllSeen, IsUseOf};
 ghost use Rattle.arrow_index.specs.Leaves.{seen_of, IsSeen};
-ghost use Rattle.arrow_index.specs.Sights.{Sees, all_names, IsNameOf};
+ghost use Rattle.arrow_index.specs.Sights.{Sees, SeesProgram, all_names, IsNameOf};
 ghost use Rattle.arrow_index.specs.Index.{as_arrow, AreArrows};
 ghost use Rattle.arrow_index.specs.Variables.{all_arrows_at};
 
@@ -95,6 +95,7 @@ fn add_leaf(
     match leaf.leaf {
         Leaf::Binds { .. } => Ok(()),
         Leaf::Uses(target) => Ok(add_meant(sight, leaf.at, target.meaning, target.occ, pairs)?),
+        Leaf::Assigns(target) => Ok(add_meant(sight, leaf.at, target.meaning, target.occ, pairs)?),
         Leaf::Quoted(_) => Ok(()),
         Leaf::Holed { .. } => Ok(()),
         Leaf::Defines(definition) => {
@@ -167,18 +168,32 @@ fn add_all_names(sight: &Sight<'_>, units: &[Unit], pairs: &mut Vec<Pair>) -> Me
 }
 
 /// The arrows of a program in no order, of which some may stand twice.
-fn all_arrows(alloc: Global, work: &Work, program: &Program) -> Mem<Vec<Pair>>
-    requires { AreFormedIn work.now program.now.units }
+fn all_arrows(alloc: Global, work: &Work, sight: &Sight<'_>, program: &Program) -> Mem<Vec<Pair>>
+    requires { (ls : List CoreLeaf) × AreAllSeen work.now (map placed_of sight.now.leaves.items) ls }
     ensures { (text : LibraryName → List ℕ) (uris : List (List ℕ)) (all : List Placed) (p : ModelProgram) →
-        ProgramStands work.now text uris all program.now p →
+        ProgramStands work.now text uris all program.now p → SeesProgram work.now sight.now all p →
         IfOk result (λ pairs. (a : Arrow) → IsIn a (map as_arrow pairs.items) ↔ IsIn a (arrows_of all p)) }
 {
-    let sight = Sight::of(alloc, work, program)?;
     let mut pairs = Vec::new(alloc);
-    add_leaves(alloc, work, &sight, sight.leaves.as_slice(), &mut pairs)?;
-    add_met(&sight, sight.met.as_slice(), &mut pairs)?;
-    add_all_names(&sight, program.units.as_slice(), &mut pairs)?;
+    add_leaves(alloc, work, sight, sight.leaves.as_slice(), &mut pairs)?;
+    add_met(sight, sight.met.as_slice(), &mut pairs)?;
+    add_all_names(sight, program.units.as_slice(), &mut pairs)?;
     Ok(pairs)
+}
+
+/// The arrows of a program that is seen already, in order, each once.
+pub fn arrows_seen(
+    alloc: Global,
+    work: &Work,
+    sight: &Sight<'_>,
+    program: &Program,
+) -> Mem<Items<Pair>>
+    requires { (ls : List CoreLeaf) × AreAllSeen work.now (map placed_of sight.now.leaves.items) ls }
+    ensures { (text : LibraryName → List ℕ) (uris : List (List ℕ)) (all : List Placed) (p : ModelProgram) →
+        ProgramStands work.now text uris all program.now p → SeesProgram work.now sight.now all p → IfOk result (λ pairs. AreArrows pairs (arrows_of all p)) }
+{
+    let pairs = all_arrows(alloc, work, sight, program)?;
+    Ok(pairs_in_order(pairs)?)
 }
 
 /// The arrows of a program: the pairs of a binder and one of its uses, sorted by binder and use, each once.
@@ -187,6 +202,6 @@ pub fn arrows(alloc: Global, work: &Work, program: &Program) -> Mem<Items<Pair>>
     ensures { (text : LibraryName → List ℕ) (uris : List (List ℕ)) (all : List Placed) (p : ModelProgram) →
         ProgramStands work.now text uris all program.now p → IfOk result (λ pairs. AreArrows pairs (arrows_of all p)) }
 {
-    let pairs = all_arrows(alloc, work, program)?;
-    Ok(pairs_in_order(pairs)?)
+    let sight = Sight::of(alloc, work, program)?;
+    Ok(arrows_seen(alloc, work, &sight, program)?)
 }

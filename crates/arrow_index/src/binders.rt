@@ -43,6 +43,7 @@ fn add_leaf_binders(
         Leaf::Binds { local: _, binder } => Ok(add_place(binder.occ, places)?),
         Leaf::Defines(definition) => Ok(add_rules_binders(alloc, work, &definition.rules, places)?),
         Leaf::Uses(_) => Ok(()),
+        Leaf::Assigns(_) => Ok(()),
         Leaf::Quoted(_) => Ok(()),
         Leaf::Holed { .. } => Ok(()),
     }
@@ -152,13 +153,23 @@ fn pointing(alloc: Global, pairs: &[Pair], occ: Occ) -> Mem<Vec<Occ>>
 }
 
 /// Occurrences in order, each once.
-fn occs_in_order(places: Vec<Occ>) -> Mem<Items<Occ>>
+pub fn occs_in_order(places: Vec<Occ>) -> Mem<Items<Occ>>
     ensures { IfOk result (λ sorted. IsStrictlySortedBy occ_cmp sorted × ((o : AnyOcc) → Contains sorted o ↔ Contains places.items o)) }
 {
     let mut places = places;
     places.sort()?;
     places.dedup();
     Ok(Items::from_vec(places))
+}
+
+/// The binders of an occurrence, in order: itself where it is among what binds, and each that has an arrow to it.
+pub fn binders_among(alloc: Global, places: &[Occ], pairs: &[Pair], occ: Occ) -> Mem<Items<Occ>>
+    ensures { (all : List Placed) (p : ModelProgram) → ((o : AnyOcc) → IsIn o places.now ↔ IsIn o (program_binders p)) → AreArrows pairs.now (arrows_of all p) →
+        IfOk result (λ binders. AreOccs binders (binders_at (program_binders p) (arrows_of all p) occ)) }
+{
+    let mut binders = pointing(alloc, pairs, occ)?;
+    add_itself(places, occ, &mut binders)?;
+    Ok(occs_in_order(binders)?)
 }
 
 /// The binders of an occurrence, in order: itself where it binds, and each that has an arrow to it. The pairs are those of the program.
@@ -176,7 +187,5 @@ pub fn binders_of(
 {
     let sight = Sight::of(alloc, work, program)?;
     let places = binders_in(alloc, work, &sight, program)?;
-    let mut binders = pointing(alloc, pairs, occ)?;
-    add_itself(places.as_slice(), occ, &mut binders)?;
-    Ok(occs_in_order(binders)?)
+    Ok(binders_among(alloc, places.as_slice(), pairs, occ)?)
 }

@@ -169,6 +169,7 @@ fn bound_at(leaf: &PlacedLeaf<'_>) -> Option<(LocalNo, Option<Occ>)>
             None
         }
         Leaf::Uses(_) => None,
+        Leaf::Assigns(_) => None,
         Leaf::Quoted(_) => None,
         Leaf::Holed { .. } => None,
         Leaf::Defines(_) => None,

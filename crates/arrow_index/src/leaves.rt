@@ -1,4 +1,4 @@
-//! The leaves of cores: binders, uses, quoted data and macros, in the order in which they stand.
+//! The leaves of cores: binders, uses, assignments, quoted data and macros, in the order in which they stand.
 ghost use Rattle.std.specs.Prelude.{◌≡◌, ◌++◌, map, slice_get, OnOk};
 ghost use Rattle.arrow_index.specs.Leaves.{seen_of, core_seen, cores_seen, clause_seen, clauses_seen, part_seen, parts_seen, binders_seen, macro_seen, macros_seen, field_seen, fields_seen, items_seen};
 
@@ -13,6 +13,7 @@ use syntax_tree::trees::Tree;
 pub enum Leaf<'a> {
     Binds { local: bool, binder: Binder },
     Uses(Target),
+    Assigns(Target),
     Quoted(Tree),
     Holed { datum: Tree, places: &'a [u32] },
     Defines(&'a MacroDef),
@@ -42,7 +43,7 @@ fn add_core<'a>(core: &'a Core, leaves: &mut Vec<Leaf<'a>>) -> Mem<()>
         Core::CaseLambda(clauses) => Ok(add_clauses(clauses.as_slice(), leaves)?),
         Core::If(parts) => Ok(add_cores(parts.as_slice(), leaves)?),
         Core::Set { target, value } => {
-            leaves.push(Leaf::Uses(*target))?;
+            leaves.push(Leaf::Assigns(*target))?;
             Ok(add_core(value, leaves)?)
         }
         Core::Call(parts) => Ok(add_cores(parts.as_slice(), leaves)?),

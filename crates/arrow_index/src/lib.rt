@@ -1,6 +1,7 @@
 //! Arrows from binders to uses, and the links by which occurrences are spelled.
 #![tactic(auto)]
 
+pub mod accesses;
 pub mod arrows;
 pub mod binders;
 pub mod classes;
@@ -8,6 +9,7 @@ pub mod entries;
 pub mod gathering;
 pub mod holes;
 pub mod ident_links;
+pub mod index;
 pub mod laws;
 pub mod leaves;
 pub mod links;

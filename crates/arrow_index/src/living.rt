@@ -57,6 +57,7 @@ fn add_live_leaf(
     match leaf.leaf {
         Leaf::Binds { local: _, binder } => Ok(add_live(binder.occ, live)?),
         Leaf::Uses(target) => Ok(add_live(target.occ, live)?),
+        Leaf::Assigns(target) => Ok(add_live(target.occ, live)?),
         Leaf::Quoted(datum) => {
             let names = names_of(alloc, work, datum)?;
             Ok(add_live_names(names.as_slice(), live)?)

@@ -133,6 +133,9 @@ fn link_use(
 {
     match leaf.leaf {
         Leaf::Uses(target) => Ok(link_target(alloc, work, sight, entries, leaf.at, target, links)?),
+        Leaf::Assigns(target) => Ok(link_target(
+            alloc, work, sight, entries, leaf.at, target, links,
+        )?),
         Leaf::Binds { .. } => Ok(()),
         Leaf::Quoted(_) => Ok(()),
         Leaf::Holed { .. } => Ok(()),
@@ -280,6 +283,7 @@ fn link_macro(
             )?)
         }
         Leaf::Uses(_) => Ok(()),
+        Leaf::Assigns(_) => Ok(()),
         Leaf::Binds { .. } => Ok(()),
         Leaf::Quoted(_) => Ok(()),
         Leaf::Holed { .. } => Ok(()),

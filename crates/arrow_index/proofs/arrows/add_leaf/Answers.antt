@@ -1,4 +1,4 @@
-use Rattle.std.proofs.Common.{◌≡◌, inl, inr, List, ◌++◌, Option, map, sym, ap, ◌∙◌, subst}
+use Rattle.std.proofs.Common.{List, ◌++◌, Option, map, sym, ap, ◌∙◌, subst}
 use Rattle.std.proofs.lemmas.List.{append-nil}
 use Rattle.scheme_model.specs.declared.Occ.{Occ}
 use Rattle.scheme_model.specs.Ident.{symbol_of}
@@ -35,7 +35,21 @@ returns-in_ok-add_meant-in-Uses c = λ leaves keywords names table ls sees is.
     c.in_ok-add_meant-in-Uses.ensures w leaves keywords names table m.meaning sees at.2.meaning
     ∙ ap (λ (o : Option Occ). map as_arrow c.args.pairs.now.items ++ arrow_of (binder_of leaves table m.meaning) o) at.2.place in
     grows_as as_arrow c.args.pairs.now.items c.add_meant.new.pairs.items here (all ls) meant
-    (elim at.1 as (λ q. all ls ≡ here) [ inl e ↦ ap all e ∙ append-nil here | inr e ↦ ap all e ∙ append-nil here ])
+    (ap all at.1 ∙ append-nil here)
+
+pub returns-in_ok-add_meant-in-Assigns : goal.returns-in_ok-add_meant-in-Assigns
+returns-in_ok-add_meant-in-Assigns c = λ leaves keywords names table ls sees is.
+    let l = c.args.leaf.now in
+    let w = c.args.work.now in
+    let all = all_arrows_at (binder_of leaves table) (is_live_at leaves keywords names) in
+    let at = subst (λ (x : Leaf). IsSeen w l.at.unit l.at.form (seen_of x) ls) c.in-Assigns.is is in
+    let m = at.0 in
+    let here = arrow_of (binder_of leaves table m.meaning) m.occ in
+    let meant =
+    c.in_ok-add_meant-in-Assigns.ensures w leaves keywords names table m.meaning sees at.2.meaning
+    ∙ ap (λ (o : Option Occ). map as_arrow c.args.pairs.now.items ++ arrow_of (binder_of leaves table m.meaning) o) at.2.place in
+    grows_as as_arrow c.args.pairs.now.items c.add_meant-in-Assigns.new.pairs.items here (all ls) meant
+    (ap all at.1 ∙ append-nil here)
 
 pub returns-in-Quoted : goal.returns-in-Quoted
 returns-in-Quoted c = λ leaves keywords names table ls sees is.

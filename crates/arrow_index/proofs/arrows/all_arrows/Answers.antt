@@ -14,11 +14,10 @@ use Rattle.arrow_index.proofs.arrows.all_arrows.Goals as goal
 
 pub add_leaves-requires : goal.add_leaves-requires
 add_leaves-requires c =
-    let seen = c.in_ok-sight.ensures.seen in
-    (seen.0, subst (λ (xs : List PlacedLeaf). AreAllSeen c.args.work.now (map placed_of xs) seen.0) (sym c.as_slice.ensures.value) seen.1)
+    (c.requires.0, subst (λ (xs : List PlacedLeaf). AreAllSeen c.args.work.now (map placed_of xs) c.requires.0) (sym c.as_slice.ensures.value) c.requires.1)
 
 pub returns : goal.returns
-returns c = λ text uris all p h a.
+returns c = λ text uris all p h sees a.
     let w = c.args.work.now in
     let ls = program_leaves p.units in
     let ks = program_keywords p.units in
@@ -26,7 +25,6 @@ returns c = λ text uris all p h a.
     let table = program_table p in
     let binder = binder_of ls table in
     let live = is_live_at ls ks ms in
-    let sees = c.in_ok-sight.ensures.program text uris all p h in
     let met = sees.met_are in
     let found = names_told w text uris all p 0 c.args.program.now.units p.units h in
     let seen = subst (λ (xs : List PlacedLeaf). AreAllSeen w (map placed_of xs) ls) (sym c.as_slice.ensures.value) sees.leaves_are in

@@ -1,4 +1,4 @@
-use Rattle.std.proofs.Common.{inl, inr, [], ◌++◌, ap, subst, ◌≡◌, ◌∙◌}
+use Rattle.std.proofs.Common.{◌++◌, ap, subst, ◌∙◌}
 use Rattle.std.proofs.lemmas.List.{append-nil}
 use Rattle.scheme_model.specs.Ident.{symbol_of}
 use Rattle.scheme_model.specs.Trees.{map_tree}
@@ -21,7 +21,14 @@ returns-in-Uses c = λ ls is.
     let l = c.args.leaf.now in
     let w = c.args.work.now in
     let at = subst (λ (x : Leaf). IsSeen w l.at.unit l.at.form (seen_of x) ls) c.in-Uses.is is in
-    none_added c.args.places.now.items ls (elim at.1 as (λ q. leaf_binders ls ≡ []) [ inl e ↦ ap leaf_binders e | inr e ↦ ap leaf_binders e ])
+    none_added c.args.places.now.items ls (ap leaf_binders at.1)
+
+pub returns-in-Assigns : goal.returns-in-Assigns
+returns-in-Assigns c = λ ls is.
+    let l = c.args.leaf.now in
+    let w = c.args.work.now in
+    let at = subst (λ (x : Leaf). IsSeen w l.at.unit l.at.form (seen_of x) ls) c.in-Assigns.is is in
+    none_added c.args.places.now.items ls (ap leaf_binders at.1)
 
 pub returns-in-Quoted : goal.returns-in-Quoted
 returns-in-Quoted c = λ ls is.

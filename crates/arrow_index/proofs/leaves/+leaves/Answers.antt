@@ -1,6 +1,6 @@
 use Rattle.std.proofs.Common.{[], ◌∷◌, ◌++◌, true, refl, sym, ap, ◌∙◌}
 use Rattle.core_tree.specs.declared.cores.CorePart.{CorePart}
-use Rattle.arrow_index.specs.Leaves.{Uses, Quoted, Holed, Binds, seen_of, core_seen, cores_seen, clause_seen, clauses_seen, part_seen, parts_seen, binders_seen, macro_seen, macros_seen, fields_seen}
+use Rattle.arrow_index.specs.Leaves.{Uses, Assigns, Quoted, Holed, Binds, seen_of, core_seen, cores_seen, clause_seen, clauses_seen, part_seen, parts_seen, binders_seen, macro_seen, macros_seen, fields_seen}
 use Rattle.arrow_index.proofs.SeenLaws.{seen_ref, seen_const, seen_quote, seen_quasi, seen_lambda, seen_case_lambda, seen_if, seen_set, seen_call, seen_body, seen_let_syntax, clause_is, seen_expression, seen_define, seen_values, seen_fields, seen_syntax}
 use Rattle.arrow_index.proofs.Growing.{grows_by_one, grows_by_none, grows_as, grows_twice}
 use Rattle.arrow_index.proofs.leaves.+leaves.Goals as goal
@@ -43,8 +43,8 @@ pub add_core-returns-in_ok-add_core-in-Set : goal.add_core-returns-in_ok-add_cor
 add_core-returns-in_ok-add_core-in-Set t c =
     let q = c.in-Set in
     let one = grows_by_one seen_of c.args.leaves.now.items c.push-in-Set.new.self.items _ c.in_ok-push-in-Set.ensures.items in
-    grows_twice seen_of c.args.leaves.now.items c.push-in-Set.new.self.items c.add_core.new.leaves.items (Uses q.target ∷ []) (core_seen c.deref.result.now) (core_seen c.args.core.now) one c.in_ok-add_core-in-Set.ensures
-    (ap core_seen q.is ∙ seen_set q.target q.value ∙ (λ j. Uses q.target ∷ core_seen (sym c.deref.ensures j)))
+    grows_twice seen_of c.args.leaves.now.items c.push-in-Set.new.self.items c.add_core.new.leaves.items (Assigns q.target ∷ []) (core_seen c.deref.result.now) (core_seen c.args.core.now) one c.in_ok-add_core-in-Set.ensures
+    (ap core_seen q.is ∙ seen_set q.target q.value ∙ (λ j. Assigns q.target ∷ core_seen (sym c.deref.ensures j)))
 
 pub add_core-returns-in_ok-add_cores-in-Call : goal.add_core-returns-in_ok-add_cores-in-Call
 add_core-returns-in_ok-add_cores-in-Call t c =

@@ -1,4 +1,4 @@
-use Rattle.std.proofs.Common.{◌≡◌, inl, inr, List, Bool, sym, ap, ◌∙◌, subst}
+use Rattle.std.proofs.Common.{List, Bool, sym, ap, ◌∙◌, subst}
 use Rattle.std.specs.Prelude.{◌||◌}
 use Rattle.std.specs.BTreeSet.{contains}
 use Rattle.scheme_model.specs.Ident.{symbol_of}
@@ -25,10 +25,15 @@ returns-in_ok-add_live-in-Uses c = λ ls is o.
     let w = c.args.work.now in
     let at = subst (λ (x : Leaf). IsSeen w l.at.unit l.at.form (seen_of x) ls) c.in-Uses.is is in
     let old = contains occ_cmp c.args.live.now o in
-    let m = at.0 in
-    let here : is_occ o m.occ ≡ any (leaf_at o) ls =
-    elim at.1 as (λ q. is_occ o m.occ ≡ any (leaf_at o) ls) [ inl e ↦ sym (any_one (leaf_at o) (live.Uses m)) ∙ ap (any (leaf_at o)) (sym e) | inr e ↦ sym (any_one (leaf_at o) (live.Assigns m)) ∙ ap (any (leaf_at o)) (sym e) ] in
-    c.in_ok-add_live-in-Uses.ensures o ∙ ap (λ (b : Bool). old || b) (ap (is_occ o) at.2.place ∙ here)
+    c.in_ok-add_live-in-Uses.ensures o ∙ ap (λ (b : Bool). old || b) (ap (is_occ o) at.2.place ∙ sym (any_one (leaf_at o) (live.Uses at.0)) ∙ ap (any (leaf_at o)) (sym at.1))
+
+pub returns-in_ok-add_live-in-Assigns : goal.returns-in_ok-add_live-in-Assigns
+returns-in_ok-add_live-in-Assigns c = λ ls is o.
+    let l = c.args.leaf.now in
+    let w = c.args.work.now in
+    let at = subst (λ (x : Leaf). IsSeen w l.at.unit l.at.form (seen_of x) ls) c.in-Assigns.is is in
+    let old = contains occ_cmp c.args.live.now o in
+    c.in_ok-add_live-in-Assigns.ensures o ∙ ap (λ (b : Bool). old || b) (ap (is_occ o) at.2.place ∙ sym (any_one (leaf_at o) (live.Assigns at.0)) ∙ ap (any (leaf_at o)) (sym at.1))
 
 pub names_of-requires : goal.names_of-requires
 names_of-requires c =

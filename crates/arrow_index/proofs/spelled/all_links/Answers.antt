@@ -1,5 +1,4 @@
 use Rattle.std.proofs.Common.{◌≡◌, ◌++◌, List, [], map, sym, ap, ◌∙◌, subst}
-use Rattle.scheme_model.specs.declared.Occ.{Occ}
 use Rattle.scheme_model.specs.ProgramArrows.{core_targets, is_live_at, binders_in, program_leaves, program_keywords, program_names, program_table}
 use Rattle.scheme_model.specs.Spelling.{Link, target_links, name_links, links_to_themselves, macro_links}
 use Rattle.core_tree.specs.Names.{AllMatch}
@@ -10,21 +9,14 @@ use Rattle.arrow_index.specs.Placed.{placed_of, use_of, AreAllSeen, IsUseOf}
 use Rattle.arrow_index.specs.Sights.{IsNameOf, all_names}
 use Rattle.arrow_index.proofs.ToldLaws.{names_told}
 use Rattle.arrow_index.specs.Links.{as_link}
-use Rattle.arrow_index.proofs.PlacedLaws.{units_formed}
 use Rattle.arrow_index.proofs.SpelledLaws.{links_law}
 use Rattle.arrow_index.proofs.spelled.all_links.Goals as goal
-
-pub of-requires : goal.of-requires
-of-requires c = let q = c.requires in units_formed c.args.work.now q.0 q.1 q.2 q.3 c.args.program.now.units q.4
-
-pub binders_in-requires : goal.binders_in-requires
-binders_in-requires c = c.in_ok-sight.ensures.seen
 
 pub link_uses-requires-clause-leaves : goal.link_uses-requires-clause-leaves
 link_uses-requires-clause-leaves c =
     let q = c.requires in
     let ls = program_leaves q.3.units in
-    (ls, subst (λ (xs : List PlacedLeaf). AreAllSeen c.args.work.now (map placed_of xs) ls) (sym c.as_slice.ensures.value) (c.in_ok-sight.ensures.program q.0 q.1 q.2 q.3 q.4).leaves_are)
+    (ls, subst (λ (xs : List PlacedLeaf). AreAllSeen c.args.work.now (map placed_of xs) ls) (sym c.as_slice.ensures.value) q.5.leaves_are)
 
 pub link_uses-requires-clause-entries : goal.link_uses-requires-clause-entries
 link_uses-requires-clause-entries c = let q = c.requires in (q.3.units, c.in_ok-entries.ensures c.args.work.now q.0 q.1 q.2 q.3 q.4)
@@ -32,7 +24,7 @@ link_uses-requires-clause-entries c = let q = c.requires in (q.3.units, c.in_ok-
 pub link_targets-requires-clause-targets : goal.link_targets-requires-clause-targets
 link_targets-requires-clause-targets c =
     let q = c.requires in
-    let met = (c.in_ok-sight.ensures.program q.0 q.1 q.2 q.3 q.4).met_are in
+    let met = q.5.met_are in
     (met.told, subst (λ (xs : List PlacedTarget). AllMatch (IsUseOf c.args.work.now) (map use_of xs) met.told) (sym c.as_slice-2.ensures.value) met.match)
 
 pub link_targets-requires-clause-entries : goal.link_targets-requires-clause-entries
@@ -48,13 +40,13 @@ pub link_macros-requires-clause-leaves : goal.link_macros-requires-clause-leaves
 link_macros-requires-clause-leaves c =
     let q = c.requires in
     let ls = program_leaves q.3.units in
-    (ls, subst (λ (xs : List PlacedLeaf). AreAllSeen c.args.work.now (map placed_of xs) ls) (sym c.as_slice-5.ensures.value) (c.in_ok-sight.ensures.program q.0 q.1 q.2 q.3 q.4).leaves_are)
+    (ls, subst (λ (xs : List PlacedLeaf). AreAllSeen c.args.work.now (map placed_of xs) ls) (sym c.as_slice-4.ensures.value) q.5.leaves_are)
 
 pub link_macros-requires-clause-entries : goal.link_macros-requires-clause-entries
 link_macros-requires-clause-entries c = let q = c.requires in (q.3.units, c.in_ok-entries.ensures c.args.work.now q.0 q.1 q.2 q.3 q.4)
 
 pub returns : goal.returns
-returns c = λ text uris all p h l.
+returns c = λ text uris all p h sees are l.
     let w = c.args.work.now in
     let ls = program_leaves p.units in
     let ks = program_keywords p.units in
@@ -62,23 +54,21 @@ returns c = λ text uris all p h l.
     let table = program_table p in
     let rs = p.units in
     let live = is_live_at ls ks ms in
-    let sees = c.in_ok-sight.ensures.program text uris all p h in
     let gives = c.in_ok-entries.ensures w text uris all p h in
     let met = sees.met_are in
     let found = names_told w text uris all p 0 c.args.program.now.units p.units h in
-    let are = λ (x : Occ). c.in_ok-binders.ensures text uris all p h sees x in
     let seen = subst (λ (xs : List PlacedLeaf). AreAllSeen w (map placed_of xs) ls) (sym c.as_slice.ensures.value) sees.leaves_are in
     let uses = subst (λ (xs : List PlacedTarget). AllMatch (IsUseOf w) (map use_of xs) met.told) (sym c.as_slice-2.ensures.value) met.match in
     let named = subst (λ (xs : List CodeUnit). AllMatch (IsNameOf w) (all_names xs) found.told) (sym c.as_slice-3.ensures) found.match in
-    let again = subst (λ (xs : List PlacedLeaf). AreAllSeen w (map placed_of xs) ls) (sym c.as_slice-5.ensures.value) sees.leaves_are in
+    let again = subst (λ (xs : List PlacedLeaf). AreAllSeen w (map placed_of xs) ls) (sym c.as_slice-4.ensures.value) sees.leaves_are in
     let none : map as_link c.new-links.result.items ≡ [] = ap (map as_link) c.new-links.ensures.items in
     let A = target_links ls table rs (core_targets ls) in
     let B = target_links ls table rs met.told in
     let C = name_links found.told in
-    let D = links_to_themselves c.in_ok-binders.binders.items in
+    let D = links_to_themselves c.args.binders.now in
     let one = c.in_ok-link_uses.ensures ls ks ms table rs ls sees gives seen ∙ ap (λ (q : List Link). q ++ A) none in
     let two = c.in_ok-link_targets.ensures ls ks ms table rs met.told sees gives uses ∙ ap (λ (q : List Link). q ++ B) one in
     let three = c.in_ok-link_all_names.ensures found.told named ∙ ap (λ (q : List Link). q ++ C) two in
-    let four = c.in_ok-link_themselves.ensures ∙ ap (λ (os : List Occ). map as_link c.link_all_names.new.links.items ++ links_to_themselves os) c.as_slice-4.ensures.value ∙ ap (λ (q : List Link). q ++ D) three in
+    let four = c.in_ok-link_themselves.ensures ∙ ap (λ (q : List Link). q ++ D) three in
     let five = c.in_ok-link_macros.ensures ls ks ms table rs ls sees gives again ∙ ap (λ (q : List Link). q ++ macro_links live ls table rs ls) four in
-    links_law ls ks ms table rs (binders_in p) (map as_link c.link_macros.new.links.items) met.told found.told c.in_ok-binders.binders.items (λ x. (met.there x, met.back x)) (λ x. (found.there x, found.back x)) are five l
+    links_law ls ks ms table rs (binders_in p) (map as_link c.link_macros.new.links.items) met.told found.told c.args.binders.now (λ x. (met.there x, met.back x)) (λ x. (found.there x, found.back x)) are five l

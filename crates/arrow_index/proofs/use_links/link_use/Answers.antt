@@ -1,4 +1,4 @@
-use Rattle.std.proofs.Common.{◌≡◌, inl, inr, List, ap, ◌∙◌, subst}
+use Rattle.std.proofs.Common.{List, ap, ◌∙◌, subst}
 use Rattle.std.proofs.lemmas.List.{append-nil}
 use Rattle.scheme_model.specs.Ident.{symbol_of}
 use Rattle.scheme_model.specs.Trees.{map_tree}
@@ -20,7 +20,17 @@ returns-in_ok-link_target-in-Uses c = λ leaves keywords names table rs ls sees 
     let all = λ (xs : List CoreLeaf). target_links leaves table rs (core_targets xs) in
     let here = of_target leaves table rs at.0 in
     grows_as as_link c.args.links.now.items c.link_target.new.links.items here (all ls) (c.in_ok-link_target-in-Uses.ensures leaves keywords names table rs at.0 sees gives at.2)
-    (elim at.1 as (λ q. all ls ≡ here) [ inl e ↦ ap all e ∙ append-nil here | inr e ↦ ap all e ∙ append-nil here ])
+    (ap all at.1 ∙ append-nil here)
+
+pub returns-in_ok-link_target-in-Assigns : goal.returns-in_ok-link_target-in-Assigns
+returns-in_ok-link_target-in-Assigns c = λ leaves keywords names table rs ls sees gives is.
+    let l = c.args.leaf.now in
+    let w = c.args.work.now in
+    let at = subst (λ (x : Leaf). IsSeen w l.at.unit l.at.form (seen_of x) ls) c.in-Assigns.is is in
+    let all = λ (xs : List CoreLeaf). target_links leaves table rs (core_targets xs) in
+    let here = of_target leaves table rs at.0 in
+    grows_as as_link c.args.links.now.items c.link_target-in-Assigns.new.links.items here (all ls) (c.in_ok-link_target-in-Assigns.ensures leaves keywords names table rs at.0 sees gives at.2)
+    (ap all at.1 ∙ append-nil here)
 
 pub returns-in-Quoted : goal.returns-in-Quoted
 returns-in-Quoted c = λ leaves keywords names table rs ls sees gives is.
