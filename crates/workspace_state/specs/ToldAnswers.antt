@@ -75,7 +75,7 @@ answer_told encoding ds Nothing = answers.Nothing
 answer_told encoding ds (Places bs) = answers.Places (map (place_told encoding ds) bs)
 answer_told encoding ds (Lit ls) = answers.Highlights (map (highlight_told encoding ds) ls)
 answer_told encoding ds (Prepared b) = answers.Prepared (range_of encoding (text_of ds b.document) b.span.start b.span.end) (written_at ds b)
-answer_told encoding ds (Drawn as) = answers.Arrows (map (arrow_told encoding ds) as)
+answer_told encoding ds (Drawn xs) = answers.Arrows (map (arrow_told encoding ds) xs)
 
 -- ---- questions
 

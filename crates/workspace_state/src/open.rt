@@ -2,12 +2,17 @@
 ghost use Rattle.std.specs.Prelude.{◌≡◌, ◌<◌, ◌==◌, ℕ, List, length, slice_get, IfOk, IfSome};
 ghost use Rattle.std.specs.Option.{option_map};
 ghost use Rattle.std.specs.FinMap.{empty, entries};
-ghost use Rattle.document_store.specs.Texts.{text_at};
+ghost use Rattle.document_store.specs.Texts.{Document as Entry, text_at};
 ghost use Rattle.scheme_model.specs.Diagnostics.{bytes_of};
+ghost use Rattle.scheme_model.specs.declared.Occ as occ;
+ghost use Rattle.ls_base.specs.Positions.{offset_of};
 ghost use Rattle.workspace_state.specs.Belongs.{AreErrorsIn, Belongs, error_in};
+ghost use Rattle.workspace_state.specs.Listed.{range_of};
 ghost use Rattle.workspace_state.specs.Readings.{Read, AreReadAs, AreDocuments, first_unread, program_in};
 ghost use Rattle.workspace_state.specs.Placed.{IsErrorAt, IsIn, IsPlace, form_bytes};
 ghost use Rattle.workspace_state.specs.Places.{ArePlaces, CanPlace, bytes_at, spans_of};
+ghost use Rattle.workspace_state.specs.Sites as sites;
+ghost use Rattle.workspace_state.specs.ToldAnswers as told;
 ghost use Rattle.workspace_state.specs.UnitsFound.{first_error_at};
 
 use crate::documents::{Document, first_unread};
@@ -15,8 +20,9 @@ use crate::findings::At;
 use crate::listing::Head;
 use crate::lists::{range, text_in};
 use crate::places::{PlacedError, Places};
+use crate::sites::name_at;
 use document_store::Store;
-use ls_base::{Encoding, Mem, Place};
+use ls_base::{Encoding, Mem, Place, Pos, Range, Text};
 use scheme_model::Occ;
 use std::alloc::Global;
 use std::marker::Model;
@@ -152,16 +158,97 @@ impl Open {
     }
 
     /// Bytes of a document as a place.
-    fn place(&self, at: At, encoding: Encoding) -> Mem<Place>
+    pub fn place(&self, at: At, encoding: Encoding) -> Mem<Place>
         requires { at.document < length (entries self.now) }
-        ensures { IfOk result (IsPlace encoding (entries self.now) (bytes_at at)) }
+        ensures place { IfOk result (IsPlace encoding (entries self.now) (bytes_at at)) }
+        ensures told { IfOk result (λ p. p ≡ told.place_told encoding (entries self.now) (bytes_at at)) }
+    {
+        let range = self.range(at, encoding);
+        let uri = self.documents[at.document].uri.clone()?;
+        Ok(Place { uri, range })
+    }
+
+    /// Bytes of a document as a range.
+    pub fn range(&self, at: At, encoding: Encoding) -> Range
+        requires { at.document < length (entries self.now) }
+        ensures { result ≡ range_of encoding (told.text_of (entries self.now) at.document) at.span.start at.span.end }
     {
         let document = &self.documents[at.document];
         let text = text_in(&self.store, document);
-        let range = range(&document.lines, text, at.span, encoding);
-        let uri = document.uri.clone()?;
-        Ok(Place { uri, range })
+        range(&document.lines, text, at.span, encoding)
     }
+
+    /// The place of a document among the open ones. `None` exactly where it isn't open.
+    pub fn number_of(&self, uri: &str) -> Option<usize>
+        ensures exact { result ≡ told.number_of (entries self.now) uri.now }
+        ensures inside { IfSome result (λ n. n < length (entries self.now)) }
+    {
+        let number = number_of(self.documents.as_slice(), uri)?;
+        Some(number)
+    }
+
+    /// The text of a document.
+    fn text(&self, document: usize) -> &str
+        requires { document < length (entries self.now) }
+        ensures { result.now ≡ told.text_of (entries self.now) document }
+    {
+        text_in(&self.store, &self.documents[document])
+    }
+
+    /// The offset of a position of a document.
+    pub fn offset(&self, document: usize, position: Pos, encoding: Encoding) -> u32
+        requires { document < length (entries self.now) }
+        ensures { result ≡ offset_of encoding (told.text_of (entries self.now) document) position }
+    {
+        let lines = &self.documents[document].lines;
+        lines.offset(self.text(document), position, encoding)
+    }
+
+    /// The identifier that begins at an offset of a document, or else one that it is inside of or at the end of.
+    pub fn name_at(&self, document: usize, offset: u32) -> Option<Occ>
+        ensures { (rs : List Read) → AreReadAs (entries self.now) rs → result ≡ sites.name_at (spans_of rs) (program_in rs).units document offset }
+    {
+        name_at(self.places(), document, offset)
+    }
+
+    /// The bytes of an occurrence.
+    pub fn bytes_of(&self, occ: Occ) -> At
+        ensures inside { 0 < length (entries self.now) → result.document < length (entries self.now) }
+        ensures exact { (rs : List Read) → AreReadAs (entries self.now) rs → bytes_at result ≡ bytes_of (spans_of rs) (program_in rs).units occ }
+    {
+        self.places().at(occ)
+    }
+
+    /// The token of an occurrence as it is written, whose bytes these are.
+    pub fn written_at(&self, alloc: Global, at: At) -> Mem<Text>
+        requires { at.document < length (entries self.now) }
+        ensures { (rs : List Read) (o : occ.Occ) → AreReadAs (entries self.now) rs → bytes_at at ≡ bytes_of (spans_of rs) (program_in rs).units o →
+            IfOk result (λ text. text ≡ told.written_at (entries self.now) (bytes_at at)) }
+    {
+        let text = self.text(at.document);
+        let written = text.get(at.span.start as usize..at.span.end as usize);
+        Ok(Text::of(alloc, written.unwrap_or(""))?)
+    }
+
+    /// Whether what begins at these bytes stands between bars (R7RS 7.1.1).
+    pub fn has_bars(&self, at: At) -> bool
+        requires { at.document < length (entries self.now) }
+        ensures { result ≡ told.has_bars (entries self.now) (bytes_at at) }
+    {
+        let text = self.text(at.document).as_bytes();
+        text.get(at.span.start as usize) == Some(&b'|')
+    }
+}
+
+/// The place of a document among others.
+fn number_of(documents: &[Document], uri: &str) -> Option<usize>
+    ensures exact { (ds : List (List ℕ × Entry)) → AreDocuments ds documents.now → result ≡ told.number_of ds uri.now }
+    ensures inside { IfSome result (λ n. n < length documents.now) }
+{
+    let number = documents
+        .iter()
+        .position(|document| document.uri.as_str() == uri)?;
+    Some(number)
 }
 
 /// The first Error of the unit at a place, where there is one.
