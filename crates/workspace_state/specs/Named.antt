@@ -1,13 +1,12 @@
 -- The identifiers of units as the code keeps and seeks them.
-use Rattle.std.specs.Prelude.{ℕ, ◌-◌, ◌==◌, List, [], ◌∷◌, ◌++◌, Bool, Option, Some, None, if◌then◌else◌}
+use Rattle.std.specs.Prelude.{ℕ, ◌-◌, ◌==◌, List, [], ◌∷◌, ◌++◌, map, Bool, Option, if◌then◌else◌}
 use Rattle.std.specs.List.{flat_map}
 use Rattle.std.specs.Global.{Box}
 use Rattle.scheme_model.specs.declared.Occ.{Occ}
 use Rattle.scheme_model.specs.Data.{Datum}
 use Rattle.scheme_model.specs.Diagnostics.{Span}
-use Rattle.datum_reader.specs.Views.{datum_of, end_data, placed, shape_of}
+use Rattle.datum_reader.specs.Views.{end_data}
 use Rattle.datum_reader.specs.declared.datum.Datum as code
-use Rattle.datum_reader.specs.declared.datum.Shape.{Shape}
 use Rattle.workspace_state.specs.Sites.{begins_at, name_tokens, name_tokens_all, touches}
 use Rattle.workspace_state.specs.declared.listing.Head.{Head}
 use Rattle.workspace_state.specs.declared.sites.Standing.{Standing}
@@ -17,10 +16,10 @@ use Rattle.workspace_state.specs.declared.sites.Standing.TheVariants.{Begins, To
 abbrev pub occ_in : (unit form first token : ℕ) → Occ
 occ_in unit form first token = record { unit = unit; form = form; token = token - first }
 
--- ---- the identifiers of parts, by the numbers of their tokens
+abbrev pub occs_in : (unit form first : ℕ) → List ℕ → List Occ
+occs_in unit form first tokens = map (occ_in unit form first) tokens
 
-abbrev pub shape_names : (token : ℕ) → Shape → List ℕ
-shape_names token shape = name_tokens (shape_of shape (record { first = token; last = token; start = 0; end = 0 }))
+-- ---- the identifiers of parts, by the numbers of their tokens
 
 abbrev pub all_names : List Datum → List ℕ
 all_names ds = flat_map name_tokens ds

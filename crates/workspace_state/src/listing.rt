@@ -158,11 +158,11 @@ fn add(
     ensures sound { OnOk result (IsSound (document + 1) units.new) }
     ensures added { (u : Source) → IsReadFor (length units.old.sources.items) u name source bad → OnOk result (AddsRead document (u ∷ []) units.old units.new) }
 {
-    let place = units.heads.len();
+    let place = units.sources.len();
     if place >= u32::MAX as usize {
         return Err(Memory);
     }
-    let fault = fault_at(units.sources.len(), bad);
+    let fault = fault_at(place, bad);
     units.heads.push(Head {
         document,
         kind: source.kind,

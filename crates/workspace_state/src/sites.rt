@@ -1,10 +1,13 @@
 //! Identifiers where they stand in texts (R7RS 7.1.1), and the one at a place of a text.
-ghost use Rattle.std.specs.Prelude.{◌≡◌, ◌++◌, List, map, IfOk, OnOk};
+ghost use Rattle.std.specs.Prelude.{◌≡◌, ◌++◌, [], ◌∷◌, List, if◌then◌else◌, IfOk, OnOk};
+ghost use Rattle.std.specs.Option.{is_some};
+ghost use Rattle.scheme_model.specs.Data.{spelled};
+ghost use Rattle.scheme_model.specs.Declarations.{atom_symbol};
 ghost use Rattle.scheme_model.specs.Diagnostics.{bytes_of};
 ghost use Rattle.scheme_model.specs.Program.{UnitResult};
-ghost use Rattle.datum_reader.specs.Views.{data_of, datum_of};
+ghost use Rattle.datum_reader.specs.Views.{data_of, datum_of, leaf_of};
 ghost use Rattle.library_table.specs.UnitsRead.{forms_of};
-ghost use Rattle.workspace_state.specs.Named.{all_names, end_names, names_in_heads, occ_in, shape_names, stands};
+ghost use Rattle.workspace_state.specs.Named.{all_names, end_names, names_in_heads, occ_in, occs_in, stands};
 ghost use Rattle.workspace_state.specs.Places.{ArePlaces, CanPlace, spans_of};
 ghost use Rattle.workspace_state.specs.Readings.{Read, span_seen};
 ghost use Rattle.workspace_state.specs.Sites as sites;
@@ -59,20 +62,11 @@ pub fn names_of(alloc: Global, unit: u32, forms: &[UnitForm]) -> Mem<Vec<Occ>>
 /// Adds the identifiers of a part of a form.
 #[cycle(names)]
 fn add_datum(names: &mut Vec<Occ>, at: FormAt, datum: &Datum) -> Mem<()>
-    ensures { OnOk result (names.new.items ≡ names.old.items ++ map (occ_in at.unit at.form at.first) (sites.name_tokens (datum_of datum.now))) }
+    ensures { OnOk result (names.new.items ≡ names.old.items ++ occs_in at.unit at.form at.first (sites.name_tokens (datum_of datum.now))) }
 {
-    add_shape(names, at, datum.first, &datum.shape)?;
-    Ok(())
-}
-
-/// Adds the identifiers of what begins at a token.
-#[cycle(names)]
-fn add_shape(names: &mut Vec<Occ>, at: FormAt, token: u32, shape: &Shape) -> Mem<()>
-    ensures { OnOk result (names.new.items ≡ names.old.items ++ map (occ_in at.unit at.form at.first) (shape_names token shape.now)) }
-{
-    match shape {
-        Shape::Atom(Atom::Name { .. }) => Ok(names.push(at.occ(token))?),
-        Shape::Atom(_) | Shape::Implied(_) | Shape::Bytes(_) => Ok(()),
+    match &datum.shape {
+        Shape::Atom(atom) => Ok(add_atom(names, at.occ(datum.first), atom)?),
+        Shape::Implied(_) | Shape::Bytes(_) => Ok(()),
         Shape::Vector(parts) => Ok(add_parts(names, at, parts)?),
         Shape::List(parts, end) => {
             add_parts(names, at, parts)?;
@@ -81,10 +75,20 @@ fn add_shape(names: &mut Vec<Occ>, at: FormAt, token: u32, shape: &Shape) -> Mem
     }
 }
 
+/// Adds an atom that is an identifier.
+fn add_atom(names: &mut Vec<Occ>, occ: Occ, atom: &Atom) -> Mem<()>
+    ensures { OnOk result (names.new.items ≡ names.old.items ++ (if is_some (atom_symbol (spelled (leaf_of atom.now))) then occ ∷ [] else [])) }
+{
+    if let Atom::Name { .. } = atom {
+        names.push(occ)?;
+    }
+    Ok(())
+}
+
 /// Adds the identifiers of the parts of a list or a vector.
 #[cycle(names)]
 fn add_parts(names: &mut Vec<Occ>, at: FormAt, parts: &[Datum]) -> Mem<()>
-    ensures { OnOk result (names.new.items ≡ names.old.items ++ map (occ_in at.unit at.form at.first) (all_names (data_of parts.now))) }
+    ensures { OnOk result (names.new.items ≡ names.old.items ++ occs_in at.unit at.form at.first (all_names (data_of parts.now))) }
 {
     for part in parts {
         add_datum(names, at, part)?;
@@ -95,7 +99,7 @@ fn add_parts(names: &mut Vec<Occ>, at: FormAt, parts: &[Datum]) -> Mem<()>
 /// Adds the identifiers of a list's tail, where it has one.
 #[cycle(names)]
 fn add_end(names: &mut Vec<Occ>, at: FormAt, end: &Option<Box<Datum>>) -> Mem<()>
-    ensures { OnOk result (names.new.items ≡ names.old.items ++ map (occ_in at.unit at.form at.first) (end_names end.now)) }
+    ensures { OnOk result (names.new.items ≡ names.old.items ++ occs_in at.unit at.form at.first (end_names end.now)) }
 {
     match end {
         None => Ok(()),
