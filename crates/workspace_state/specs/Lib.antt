@@ -41,4 +41,4 @@ pub mod ProgramOfTexts  -- The program of the open documents, as the code has it
 pub mod State  -- A workspace as contracts see it
 pub mod Answers  -- What is answered about a program (LSP 3.17, "Language Features")
 pub mod ToldAnswers  -- Answers at positions of an encoding (LSP 3.17, Location, DocumentHighlight), about open documents that are read so
-pub mod Named  -- The identifiers of units as the code keeps and seeks them
+pub mod Named  -- The identifiers of units as the code keeps and seeks them, and tokens as it cuts them out of texts

@@ -1,7 +1,8 @@
--- The identifiers of units as the code keeps and seeks them.
-use Rattle.std.specs.Prelude.{ℕ, ◌-◌, ◌==◌, List, [], ◌∷◌, ◌++◌, map, Bool, Option, if◌then◌else◌}
+-- The identifiers of units as the code keeps and seeks them, and tokens as it cuts them out of texts.
+use Rattle.std.specs.Prelude.{◌≤◌, ℕ, ◌-◌, ◌==◌, List, [], ◌∷◌, ◌++◌, map, Bool, Option, if◌then◌else◌}
 use Rattle.std.specs.List.{flat_map}
 use Rattle.std.specs.Global.{Box}
+use Rattle.std.specs.Str.{IsCharBoundary}
 use Rattle.scheme_model.specs.declared.Occ.{Occ}
 use Rattle.scheme_model.specs.Data.{Datum}
 use Rattle.scheme_model.specs.Diagnostics.{Span}
@@ -37,3 +38,11 @@ names_in_heads document (h ∷ hs) = (if h.document == document then h.names.ite
 abbrev pub stands : Standing → (offset : ℕ) → Span → Bool
 stands Begins offset s = begins_at offset s
 stands Touches offset s = touches offset s
+
+-- ---- tokens of texts
+
+-- bytes that begin and end between characters
+pub record CanCut (text : List ℕ) (s : Span) : Type 0 where
+  pub rises : s.start ≤ s.end
+  pub first : IsCharBoundary text s.start
+  pub last : IsCharBoundary text s.end

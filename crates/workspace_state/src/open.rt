@@ -1,5 +1,6 @@
 //! The open documents, with what they are read as and where their units stand.
 ghost use Rattle.std.specs.Prelude.{◌≡◌, ◌<◌, ◌==◌, ℕ, List, length, slice_get, IfOk, IfSome};
+ghost use Rattle.std.specs.List.{slice_range};
 ghost use Rattle.std.specs.Option.{option_map};
 ghost use Rattle.std.specs.FinMap.{empty, entries};
 ghost use Rattle.document_store.specs.Texts.{Document as Entry, text_at};
@@ -8,7 +9,8 @@ ghost use Rattle.scheme_model.specs.declared.Occ as occ;
 ghost use Rattle.ls_base.specs.Positions.{offset_of};
 ghost use Rattle.workspace_state.specs.Belongs.{AreErrorsIn, Belongs, error_in};
 ghost use Rattle.workspace_state.specs.Listed.{range_of};
-ghost use Rattle.workspace_state.specs.Readings.{Read, AreReadAs, AreDocuments, first_unread, program_in};
+ghost use Rattle.workspace_state.specs.Named.{CanCut};
+ghost use Rattle.workspace_state.specs.Readings.{Read, AreReadAs, AreDocuments, IsDocument, first_unread, program_in, span_seen};
 ghost use Rattle.workspace_state.specs.Placed.{IsErrorAt, IsIn, IsPlace, form_bytes};
 ghost use Rattle.workspace_state.specs.Places.{ArePlaces, CanPlace, bytes_at, spans_of};
 ghost use Rattle.workspace_state.specs.Sites as sites;
@@ -22,7 +24,7 @@ use crate::lists::{range, text_in};
 use crate::places::{PlacedError, Places};
 use crate::sites::name_at;
 use document_store::Store;
-use ls_base::{Encoding, Mem, Place, Pos, Range, Text};
+use ls_base::{Encoding, Mem, Place, Pos, Range, Span, Text};
 use scheme_model::Occ;
 use std::alloc::Global;
 use std::marker::Model;
@@ -164,7 +166,7 @@ impl Open {
         ensures told { IfOk result (λ p. p ≡ told.place_told encoding (entries self.now) (bytes_at at)) }
     {
         let range = self.range(at, encoding);
-        let uri = self.documents[at.document].uri.clone()?;
+        let uri = self.document(at.document).uri.clone()?;
         Ok(Place { uri, range })
     }
 
@@ -173,9 +175,24 @@ impl Open {
         requires { at.document < length (entries self.now) }
         ensures { result ≡ range_of encoding (told.text_of (entries self.now) at.document) at.span.start at.span.end }
     {
-        let document = &self.documents[at.document];
-        let text = text_in(&self.store, document);
-        range(&document.lines, text, at.span, encoding)
+        let lines = &self.document(at.document).lines;
+        range(lines, self.text(at.document), at.span, encoding)
+    }
+
+    /// A document by its place.
+    fn document(&self, number: usize) -> &Document
+        requires { number < length (entries self.now) }
+        ensures { IsDocument (told.document_at (entries self.now) number) result.now }
+    {
+        &self.documents[number]
+    }
+
+    /// The text of a document.
+    fn text(&self, number: usize) -> &str
+        requires { number < length (entries self.now) }
+        ensures { result.now ≡ told.text_of (entries self.now) number }
+    {
+        text_in(&self.store, self.document(number))
     }
 
     /// The place of a document among the open ones. `None` exactly where it isn't open.
@@ -183,16 +200,7 @@ impl Open {
         ensures exact { result ≡ told.number_of (entries self.now) uri.now }
         ensures inside { IfSome result (λ n. n < length (entries self.now)) }
     {
-        let number = number_of(self.documents.as_slice(), uri)?;
-        Some(number)
-    }
-
-    /// The text of a document.
-    fn text(&self, document: usize) -> &str
-        requires { document < length (entries self.now) }
-        ensures { result.now ≡ told.text_of (entries self.now) document }
-    {
-        text_in(&self.store, &self.documents[document])
+        number_of(self.documents(), uri)
     }
 
     /// The offset of a position of a document.
@@ -200,7 +208,7 @@ impl Open {
         requires { document < length (entries self.now) }
         ensures { result ≡ offset_of encoding (told.text_of (entries self.now) document) position }
     {
-        let lines = &self.documents[document].lines;
+        let lines = &self.document(document).lines;
         lines.offset(self.text(document), position, encoding)
     }
 
@@ -225,9 +233,8 @@ impl Open {
         ensures { (rs : List Read) (o : occ.Occ) → AreReadAs (entries self.now) rs → bytes_at at ≡ bytes_of (spans_of rs) (program_in rs).units o →
             IfOk result (λ text. text ≡ told.written_at (entries self.now) (bytes_at at)) }
     {
-        let text = self.text(at.document);
-        let written = text.get(at.span.start as usize..at.span.end as usize);
-        Ok(Text::of(alloc, written.unwrap_or(""))?)
+        let written = cut(self.text(at.document), at.span);
+        Ok(Text::of(alloc, written)?)
     }
 
     /// Whether what begins at these bytes stands between bars (R7RS 7.1.1).
@@ -245,10 +252,22 @@ fn number_of(documents: &[Document], uri: &str) -> Option<usize>
     ensures exact { (ds : List (List ℕ × Entry)) → AreDocuments ds documents.now → result ≡ told.number_of ds uri.now }
     ensures inside { IfSome result (λ n. n < length documents.now) }
 {
-    let number = documents
-        .iter()
-        .position(|document| document.uri.as_str() == uri)?;
-    Some(number)
+    for (number, document) in documents.iter().enumerate() {
+        if document.uri.as_str() == uri {
+            return Some(number);
+        }
+    }
+    None
+}
+
+/// A part of a text that begins and ends between characters.
+fn cut(text: &str, span: Span) -> &str
+    ensures { CanCut text.now (span_seen span) → result.now ≡ slice_range text.now span.start span.end }
+{
+    match text.get(span.start as usize..span.end as usize) {
+        Some(part) => part,
+        None => "",
+    }
 }
 
 /// The first Error of the unit at a place, where there is one.

@@ -1,5 +1,5 @@
 //! Identifiers where they stand in texts (R7RS 7.1.1), and the one at a place of a text.
-ghost use Rattle.std.specs.Prelude.{◌≡◌, ◌++◌, [], ◌∷◌, List, if◌then◌else◌, IfOk, OnOk};
+ghost use Rattle.std.specs.Prelude.{◌≡◌, ◌==◌, ◌++◌, [], ◌∷◌, List, if◌then◌else◌, IfOk, OnOk};
 ghost use Rattle.std.specs.Option.{is_some};
 ghost use Rattle.scheme_model.specs.Data.{spelled};
 ghost use Rattle.scheme_model.specs.Declarations.{atom_symbol};
@@ -12,6 +12,7 @@ ghost use Rattle.workspace_state.specs.Places.{ArePlaces, CanPlace, spans_of};
 ghost use Rattle.workspace_state.specs.Readings.{Read, span_seen};
 ghost use Rattle.workspace_state.specs.Sites as sites;
 
+use crate::listing::Head;
 use crate::places::Places;
 use datum_reader::{Atom, Datum, Shape};
 use library_table::UnitForm;
@@ -117,35 +118,52 @@ pub enum Standing {
 /// The identifier that begins at an offset of a document, or else one that it is inside of or at the end of.
 pub fn name_at(places: Places<'_>, document: usize, offset: u32) -> Option<Occ>
     requires { CanPlace places }
-    ensures { (rs : List Read) (us : List UnitResult) → ArePlaces places rs us → result ≡ sites.name_at (spans_of rs) us document offset }
+    ensures { (rs : List Read) (us : List UnitResult) → ArePlaces places.entry rs us → result ≡ sites.name_at (spans_of rs) us document offset }
 {
     match first_name(places, document, offset, Standing::Begins) {
+        Some(begun) => Some(begun),
         None => first_name(places, document, offset, Standing::Touches),
-        begun => begun,
     }
 }
 
 /// The first identifier of a document that stands so at an offset.
+#[tactic(auto, using(crate::proofs::SiteLaws::head_found, crate::proofs::SiteLaws::head_passed))]
 fn first_name(places: Places<'_>, document: usize, offset: u32, standing: Standing) -> Option<Occ>
     requires { CanPlace places }
-    ensures { (rs : List Read) (us : List UnitResult) → ArePlaces places rs us →
-        result ≡ sites.first_where (λ o. stands standing offset (bytes_of (spans_of rs) us o).span) (names_in_heads document places.heads.now) }
+    ensures { (rs : List Read) (us : List UnitResult) → ArePlaces places.entry rs us →
+        result ≡ sites.first_where (λ o. stands standing offset (bytes_of (spans_of rs) us o).span) (names_in_heads document places.entry.heads.now) }
 {
     for head in places.heads {
-        if head.document == document {
-            let found = first_among(places, head.names.as_slice(), offset, standing);
-            if found.is_some() {
-                return found;
-            }
+        if let Some(occ) = first_in(places, head, document, offset, standing) {
+            return Some(occ);
         }
     }
     None
 }
 
+/// The first identifier of a unit that stands so at an offset, where the unit is of the document.
+fn first_in(
+    places: Places<'_>,
+    head: &Head,
+    document: usize,
+    offset: u32,
+    standing: Standing,
+) -> Option<Occ>
+    requires { CanPlace places }
+    ensures { (rs : List Read) (us : List UnitResult) → ArePlaces places.entry rs us →
+        result ≡ sites.first_where (λ o. stands standing offset (bytes_of (spans_of rs) us o).span) (if head.now.document == document then head.now.names.items else []) }
+{
+    if head.document == document {
+        first_among(places, head.names.as_slice(), offset, standing)
+    } else {
+        None
+    }
+}
+
 /// The first of some occurrences that stands so at an offset.
 fn first_among(places: Places<'_>, names: &[Occ], offset: u32, standing: Standing) -> Option<Occ>
     requires { CanPlace places }
-    ensures { (rs : List Read) (us : List UnitResult) → ArePlaces places rs us →
+    ensures { (rs : List Read) (us : List UnitResult) → ArePlaces places.entry rs us →
         result ≡ sites.first_where (λ o. stands standing offset (bytes_of (spans_of rs) us o).span) names.now }
 {
     for name in names {
