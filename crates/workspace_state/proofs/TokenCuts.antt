@@ -45,27 +45,32 @@ counts : (xs ys : List ℕ) (at n : ℕ) → at ≡ byte_count xs → n ≡ at +
 counts xs ys at n e k = k ∙ ap (λ m. m + byte_count ys) e ∙ sym (sum_by-append len_utf8 xs ys)
 
 module _ (cs : List ℕ) where
-  token_stops : (t : lexical.Token) (at : ℕ) (text before : List ℕ) → cs ≡ before ++ text → at ≡ byte_count before → (f : First at t text) → AreStops cs (record { start = t.start; end = t.end })
-  token_stops t at text before whole size f =
-      let split : cs ≡ (before ++ f.gap) ++ (f.glyphs ++ f.rest) = whole ∙ ap (λ xs. before ++ xs) f.whole ∙ sym (append_assoc before f.gap (f.glyphs ++ f.rest)) in
-      let starts : t.start ≡ byte_count (before ++ f.gap) = counts before f.gap at t.start size f.starts in
-      record {
-        rises = omega (arith, f.ends);
-        first = record { front = before ++ f.gap; back = f.glyphs ++ f.rest; whole = split; bytes = starts };
-        last = record {
-          front = (before ++ f.gap) ++ f.glyphs;
-          back = f.rest;
-          whole = split ∙ sym (append_assoc (before ++ f.gap) f.glyphs f.rest);
-          bytes = counts (before ++ f.gap) f.glyphs t.start t.end starts f.ends;
-        };
-      }
+  module _ (t : lexical.Token) (at : ℕ) (text before : List ℕ) (whole : cs ≡ before ++ text) (size : at ≡ byte_count before) (f : First at t text) where
+    token_first : cs ≡ (before ++ f.gap) ++ (f.glyphs ++ f.rest)
+    token_first = whole ∙ ap (λ xs. before ++ xs) f.whole ∙ sym (append_assoc before f.gap (f.glyphs ++ f.rest))
+
+    token_last : cs ≡ ((before ++ f.gap) ++ f.glyphs) ++ f.rest
+    token_last = token_first ∙ sym (append_assoc (before ++ f.gap) f.glyphs f.rest)
+
+    token_starts : t.start ≡ byte_count (before ++ f.gap)
+    token_starts = counts before f.gap at t.start size f.starts
+
+    token_ends : t.end ≡ byte_count ((before ++ f.gap) ++ f.glyphs)
+    token_ends = counts (before ++ f.gap) f.glyphs t.start t.end token_starts f.ends
+
+    token_stops : AreStops cs (record { start = t.start; end = t.end })
+    token_stops = record {
+      rises = omega (arith, f.ends);
+      first = record { front = before ++ f.gap; back = f.glyphs ++ f.rest; whole = token_first; bytes = token_starts };
+      last = record { front = (before ++ f.gap) ++ f.glyphs; back = f.rest; whole = token_last; bytes = token_ends };
+    }
 
   tokens_stop : (us : List lexical.Token) (at : ℕ) (text before : List ℕ) → cs ≡ before ++ text → at ≡ byte_count before → IsSpelledFrom at us text → (n : ℕ) → AreStops cs (span_at (map span_of (map token_seen us)) n)
   tokens_stop [] at text before whole size spells n = no_stops cs
   tokens_stop (t ∷ us) at text before whole size spells zero = token_stops t at text before whole size spells.0
   tokens_stop (t ∷ us) at text before whole size spells (suc n) =
-      let stops = token_stops t at text before whole size spells.0 in
-      tokens_stop us t.end spells.0.rest stops.last.front stops.last.whole stops.last.bytes spells.1 n
+      let f = spells.0 in
+      tokens_stop us t.end f.rest ((before ++ f.gap) ++ f.glyphs) (token_last t at text before whole size f) (token_ends t at text before whole size f) spells.1 n
 
 -- a byte order mark is one character
 record HasMark (cs : List ℕ) : Type 0 where

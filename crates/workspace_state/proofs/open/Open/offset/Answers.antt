@@ -4,4 +4,4 @@ use Rattle.text_positions.specs.Lines.{AreLinesOf}
 use Rattle.workspace_state.proofs.open.Open.offset.Goals as goal
 
 pub offset-requires : goal.offset-requires
-offset-requires c = subst (λ (t : List ℕ). AreLinesOf c.document-lines.result.now.lines t) (sym c.text.ensures) c.document-lines.ensures.lines
+offset-requires c = subst (λ (t : List ℕ). AreLinesOf c.document.result.now.lines t) (sym c.text.ensures) c.document.ensures.lines
