@@ -1,20 +1,19 @@
 -- The identifiers of data, of forms and of units, part by part, and the first one that passes.
-use Rattle.std.proofs.Common.{◌≡◌, ℕ, zero, suc, ◌+◌, ◌==◌, List, [], ◌∷◌, ◌++◌, map, length, take, drop, slice_get, Bool, true, false, cond, Option, Some, None, refl, sym, ap, ◌∙◌, subst, arith, add-one, zero-add}
-use Rattle.std.proofs.lemmas.List.{append_assoc, append-nil, map-append, take_more}
+use Rattle.std.proofs.Common.{◌≡◌, ℕ, zero, suc, ◌+◌, ◌==◌, List, [], ◌∷◌, ◌++◌, length, take, drop, slice_get, Bool, true, false, cond, Option, Some, None, refl, sym, ap, ◌∙◌, arith, add-one, zero-add}
+use Rattle.std.proofs.lemmas.List.{append_assoc, append-nil, map-append}
 use Rattle.std.specs.Prelude.{Vec}
 use Rattle.std.specs.Global.{Box}
 use Rattle.std.specs.List.{flat_map}
 use Rattle.std.specs.Option.{is_some}
 use Rattle.std.specs.declared.alloc.Global.{Global}
 use Rattle.scheme_model.specs.declared.Occ.{Occ}
-use Rattle.scheme_model.specs.Data.{Place, Atom, Datum, Data, atom, list, none, row, spelled, implied, vector, bytes, place_of}
+use Rattle.scheme_model.specs.Data.{Place, Datum, Data, none, row, spelled, place_of}
 use Rattle.scheme_model.specs.Declarations.{UnitForm, atom_symbol}
-use Rattle.scheme_model.specs.Diagnostics.{Span, bytes_of}
 use Rattle.scheme_model.specs.Program.{UnitResult}
 use Rattle.datum_reader.specs.declared.datum.Atom as code_atom
 use Rattle.datum_reader.specs.declared.datum.Datum as code
 use Rattle.datum_reader.specs.declared.datum.Shape.TheVariants as shape
-use Rattle.datum_reader.specs.Views.{data_of, datum_of, end_data, leaf_of, placed}
+use Rattle.datum_reader.specs.Views.{data_of, datum_of, end_data, leaf_of}
 use Rattle.datum_reader.proofs.DatumLaws.{place-datum}
 use Rattle.datum_reader.proofs.SeedLaws.{datum-atom, datum-list, datum-vector}
 use Rattle.library_table.specs.declared.units.UnitForm as code_form

@@ -1,5 +1,5 @@
 -- A text can be cut where its tokens begin and end (R7RS 7.1.1).
-use Rattle.std.proofs.Common.{◌≡◌, ℕ, zero, suc, ◌+◌, ◌==◌, ◌<◌, ◌≤◌, Bool, true, false, cond, List, [], ◌∷◌, ◌++◌, map, length, slice_get, Option, Some, None, refl, sym, ap, ◌∙◌, subst, arith}
+use Rattle.std.proofs.Common.{◌≡◌, ℕ, zero, suc, ◌+◌, ◌==◌, ◌≤◌, Bool, true, false, cond, List, [], ◌∷◌, ◌++◌, map, Option, Some, None, refl, sym, ap, ◌∙◌, subst, arith}
 use Rattle.std.proofs.lemmas.List.{append_assoc}
 use Rattle.std.proofs.lemmas.List.Sums.{sum_by-append}
 use Rattle.std.proofs.lemmas.Bool.Decides.{nat_tests}
@@ -11,14 +11,13 @@ use Rattle.scheme_tokens.specs.Lexical as lexical
 use Rattle.scheme_tokens.specs.Lexical.{First, IsSpelled, IsSpelledFrom, behind_mark, byte_count, mark_bytes}
 use Rattle.scheme_model.specs.declared.Occ.{Occ}
 use Rattle.scheme_model.specs.Diagnostics.{Bytes, Span, bytes_of, in_unit, span_at, spans_at, unit_at, first_token}
-use Rattle.scheme_model.specs.Kinds.{Token}
 use Rattle.scheme_model.specs.Program.{UnitResult}
 use Rattle.datum_reader.specs.Texts.{token_seen}
 use Rattle.document_store.specs.Texts.{Document}
 use Rattle.workspace_state.specs.Named.{CanCut}
 use Rattle.workspace_state.specs.Places.{spans_of}
 use Rattle.workspace_state.specs.Readings.{AreReadAs, IsReadAs, Read, Reads, Stops, span_of, spans_in}
-use Rattle.workspace_state.specs.ToldAnswers.{document_at, text_of}
+use Rattle.workspace_state.specs.ToldAnswers.{text_of}
 use Rattle.workspace_state.proofs.DocumentLaws.{spelled}
 
 -- ---- in characters

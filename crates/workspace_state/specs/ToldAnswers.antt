@@ -1,5 +1,5 @@
 -- Answers at positions of an encoding (LSP 3.17, Location, DocumentHighlight), about open documents that are read so.
-use Rattle.std.specs.Prelude.{◌≡◌, ℕ, zero, suc, pos, ◌-◌, ◌==◌, ◌≤◌, List, [], ◌∷◌, map, take, drop, length, slice_get, Bool, true, false, Option, Some, None, if◌then◌else◌}
+use Rattle.std.specs.Prelude.{◌≡◌, ℕ, zero, suc, pos, ◌-◌, ◌==◌, ◌≤◌, List, [], ◌∷◌, map, take, drop, length, Bool, true, false, Option, Some, None, if◌then◌else◌}
 use Rattle.std.specs.List.{All, Contains}
 use Rattle.std.specs.Option.{option_map}
 use Rattle.std.specs.Str.{bytes_eq}

@@ -1,5 +1,5 @@
 -- The unit at hand has the first, or those behind it have.
-use Rattle.std.proofs.Common.{◌≡◌, ◌<◌, length, slice_get, Some, refl, arith}
+use Rattle.std.proofs.Common.{◌<◌, length, refl, arith}
 use Rattle.std.proofs.lemmas.Option.{slice_get_read}
 use Rattle.workspace_state.proofs.SiteLaws.{head_found, head_passed}
 use Rattle.workspace_state.proofs.sites.first_name.Goals as goal

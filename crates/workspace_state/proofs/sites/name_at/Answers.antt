@@ -1,5 +1,5 @@
 -- The heads keep the identifiers of the units.
-use Rattle.std.proofs.Common.{List, ap, ◌∙◌, sym}
+use Rattle.std.proofs.Common.{ap, ◌∙◌}
 use Rattle.scheme_model.specs.declared.Occ.{Occ}
 use Rattle.scheme_model.specs.Diagnostics.{bytes_of}
 use Rattle.workspace_state.specs.Places.{spans_of}
