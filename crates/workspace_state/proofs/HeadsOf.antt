@@ -16,7 +16,7 @@ as_text : (o : Option LibraryName) → option_map library_text o ≡ text_of lib
 as_text None = refl
 as_text (Some n) = refl
 
-pub heads_of : (us : List Placed) (a b d : List Head) → ((n : ℕ) (p : Placed) (h : Head) → slice_get us n ≡ Some p → slice_get a n ≡ Some h → IsToldBy p h) → AreJudged us a b → HeadsStay a b → HeadsStay b d → NamesKept b d → AreHeadsOf library_text us d
+pub heads_of : (us : List Placed) (a b d : List Head) → ((n : ℕ) (p : Placed) (h : Head) → slice_get us n ≡ Some p → slice_get a n ≡ Some h → IsToldBy n p h) → AreJudged us a b → HeadsStay a b → HeadsStay b d → NamesKept b d → AreHeadsOf library_text us d
 heads_of us a b d told judged first later kept n u h there at =
     let k = kept.each n h at in
     let s = later.each n h at in

@@ -8,6 +8,7 @@ use Rattle.scheme_model.specs.ScopedProgram.{scoped_program_of}
 use Rattle.document_store.specs.Texts.{Document}
 use Rattle.workspace_state.specs.Places.{AreHeads, IsHead, spans_of}
 use Rattle.workspace_state.specs.Readings.{AreReadAs, Read, data_in, span_seen}
+use Rattle.scheme_model.specs.Sites.{names_in_forms}
 use Rattle.workspace_state.specs.UnitsListed.{IsToldBy}
 use Rattle.workspace_state.specs.declared.listing.Head.{Head}
 use Rattle.workspace_state.proofs.ProgramOf.{unit_prepared}
@@ -30,7 +31,7 @@ heads_from rs k (h ∷ hs) (r ∷ us) many each = (
     one_more : (k n : ℕ) → k + suc n ≡ suc k + n
     one_more k n = omega arith
 
-module _ (ds : List (List ℕ × Document)) (rs : List Read) (read : AreReadAs ds rs) (hs : List Head) (told : (n : ℕ) (u : Placed) (h : Head) → slice_get (units_of (map data_in rs)) n ≡ Some u → slice_get hs n ≡ Some h → IsToldBy u h) where
+module _ (ds : List (List ℕ × Document)) (rs : List Read) (read : AreReadAs ds rs) (hs : List Head) (told : (n : ℕ) (u : Placed) (h : Head) → slice_get (units_of (map data_in rs)) n ≡ Some u → slice_get hs n ≡ Some h → IsToldBy n u h) where
   head_stands : (n : ℕ) (h : Head) (r : UnitResult) → slice_get hs n ≡ Some h → slice_get (scoped_program_of (map data_in rs)).units n ≡ Some r → IsHead rs n h r
   head_stands n h r at there =
       let p = unit_prepared (units_of (map data_in rs)) (known_in (map data_in rs)) n r there in
@@ -40,6 +41,7 @@ module _ (ds : List (List ℕ × Document)) (rs : List Read) (read : AreReadAs d
         document = t.document ∙ ap (λ (q : Prepared). q.placed.document) (sym p.1.1);
         span = ap span_seen t.span ∙ (unit_starts ds rs read n p.0 p.1.0 ∙ ap (λ (q : Prepared). (unit_start (spans_of rs) q).span) (sym p.1.1));
         firsts = t.firsts ∙ ap (λ (q : Prepared). map (λ (f : UnitForm). (place_of f.datum).first) q.forms) (sym p.1.1);
+        names = t.names ∙ ap (λ (q : Prepared). names_in_forms q.number 0 q.forms) (sym p.1.1);
       }
 
   pub heads_stand : length hs ≡ length (units_of (map data_in rs)) → AreHeads rs 0 hs (scoped_program_of (map data_in rs)).units

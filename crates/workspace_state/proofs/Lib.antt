@@ -103,3 +103,6 @@ pub mod NewsTold  -- Lists as the code keeps them, by uri
 pub mod NoTexts  -- A workspace without documents
 pub mod HeadsStand  -- The heads of units that were listed are those of the program's units
 pub mod HeadsOf  -- The heads of units have what the units do, as these were listed, judged and worked on
+pub mod SiteLaws  -- The identifiers of data, of forms and of units, part by part, and the first one that passes
+pub mod TokenCuts  -- A text can be cut where its tokens begin and end (R7RS 7.1.1)
+pub mod OpenLaws  -- The open documents by their places and by their uris

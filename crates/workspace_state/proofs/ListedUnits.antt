@@ -32,6 +32,7 @@ use Rattle.workspace_state.specs.Broken.{told}
 use Rattle.workspace_state.specs.Came.{IsSourceOf}
 use Rattle.workspace_state.specs.NamesUsed.{HaveOneIfSame}
 use Rattle.workspace_state.specs.SetsGiven.{IsSpec}
+use Rattle.scheme_model.specs.Sites.{names_in_forms}
 use Rattle.workspace_state.specs.UnitsListed.{WritesProper, IsReadAt, IsReadFor, IsBlankLibrary, IsOne, AreSoFar, placed_in, AddsRead, AreUnitsListed}
 use Rattle.workspace_state.specs.WereRead.{FormsRead}
 use Rattle.workspace_state.specs.declared.breaking.WholeFault.{WholeFault}
@@ -198,14 +199,15 @@ module _ (spelled : LibraryName → List ℕ) (n : ℕ) (document : ℕ) (u : so
       let lt : n < max_units = grind (arith, nat_tests) in
       is.spells (ap (λ (f : Flat). declared_fault f None) e) ∙ ap (option_map spelled) (sym (foremost_name n u lt ∙ usable_name u fs e))
 
-  one_of : (h : Head) → h.document ≡ document → h.kind ≡ c.kind → h.name ≡ name → h.span ≡ c.span → h.firsts.items ≡ map (λ f. f.datum.first) c.forms → h.imports ≡ [] → h.fault ≡ fault_with n bad → IsOne spelled n (placed_in document u) h c
-  one_of h doc kind called span firsts imports broken = record {
+  one_of : (h : Head) → h.document ≡ document → h.kind ≡ c.kind → h.name ≡ name → h.span ≡ c.span → h.firsts.items ≡ map (λ f. f.datum.first) c.forms → h.names.items ≡ names_in_forms n 0 (forms_of c.forms) → h.imports ≡ [] → h.fault ≡ fault_with n bad → IsOne spelled n (placed_in document u) h c
+  one_of h doc kind called span firsts named imports broken = record {
     told = record {
       document = doc;
       kind = ap kind_as kind ∙ is.source.kind;
       name = called ∙ is.name;
       span = span ∙ is.span;
       firsts = firsts ∙ (firsts_seen c.forms ∙ ap (λ (fs : List UnitForm). map (λ (f : UnitForm). (place_of f.datum).first) fs) (sym is.source.forms));
+      names = named ∙ ap (λ (fs : List UnitForm). names_in_forms n 0 fs) (sym is.source.forms);
     };
     listed = record {
       fault = broken ∙ faults (nat_le max_units n);
@@ -258,12 +260,12 @@ module _ (spelled : LibraryName → List ℕ) (all : List Placed) (old new : Uni
 
 -- a unit was added with its head
 pub unit_added : (document : ℕ) (u : source.UnitSource) (old new : Units) (h : Head) (c : UnitSource) (name : Option (List ℕ)) (bad : Option WholeFault) → IsReadFor (length old.sources.items) u name c bad →
-    h.document ≡ document → h.kind ≡ c.kind → h.name ≡ name → h.span ≡ c.span → h.firsts.items ≡ map (λ f. f.datum.first) c.forms → h.imports ≡ [] → h.fault ≡ fault_with (length old.sources.items) bad →
+    h.document ≡ document → h.kind ≡ c.kind → h.name ≡ name → h.span ≡ c.span → h.firsts.items ≡ map (λ f. f.datum.first) c.forms → h.names.items ≡ names_in_forms (length old.sources.items) 0 (forms_of c.forms) → h.imports ≡ [] → h.fault ≡ fault_with (length old.sources.items) bad →
     new.heads.items ≡ old.heads.items ++ h ∷ [] → new.sources.items ≡ old.sources.items ++ c ∷ [] → AddsRead document (u ∷ []) old new
-unit_added document u old new h c name bad read doc kind called span firsts imports broken heads sources spelled written all far =
+unit_added document u old new h c name bad read doc kind called span firsts named imports broken heads sources spelled written all far =
     more_so_far spelled all old new (placed_in document u) h c far heads sources
     (subst (λ (n : ℕ). IsOne spelled n (placed_in document u) h c) far.sources
-    (one_of spelled (length old.sources.items) document u name c bad (read spelled written) h doc kind called span firsts imports broken))
+    (one_of spelled (length old.sources.items) document u name c bad (read spelled written) h doc kind called span firsts named imports broken))
 
 -- ---- units of a document
 

@@ -10,9 +10,6 @@ pub mod Listed  -- The diagnostics of the open documents (LSP 3.17, Diagnostic)
 pub mod Stored  -- Documents of a store, one by one, and what it refuses
 pub mod WereRead  -- Forms of units that were read from texts
 pub mod Changed  -- A list in which each item becomes another at its place
-pub mod Places  -- The places of units and of their tokens, as the code keeps them
-pub mod Placed  -- Places of the open documents, at positions of an encoding (LSP 3.17, Range)
-pub mod UnitsExpanded  -- What units came to, as far as it is sure whatever the units are
 pub mod Broken  -- Units that break as a whole, and what stays of units meanwhile
 pub mod Libraries  -- Libraries by their names, and the entries that they give (R7RS 5.2, 5.6.1)
 pub mod Joining  -- Entries that are put together one by one
@@ -21,7 +18,6 @@ pub mod SetsGiven  -- What the import sets of a unit come to (R7RS 5.2, 5.6.1), 
 pub mod NamesUsed  -- The identifiers of imports and exports that were found so far (R7RS 5.2, 5.6.1)
 pub mod Defined  -- What forms define, by the numbers of its identifiers
 pub mod Unbound  -- References and assignments that mean nothing, in cores of the code and of the definition (R7RS 4.1.1)
-pub mod Sound  -- The units as they are listed
 pub mod DataRead  -- Data of documents that were read from texts
 pub mod Listings  -- The diagnostics of a document, where it has some
 pub mod Kept  -- Whether a document is kept whose change is refused
@@ -32,10 +28,15 @@ pub mod Updates  -- The lists of documents, and which of them are published afte
 pub mod Diagnosed  -- What the code finds in forms, beside the definition's diagnostics and Errors
 pub mod Came  -- What units come to by the definition of a program, and what the bench stands for between two of them (R7RS 5.1, 5.6)
 pub mod Collected  -- The units of a program as they are put together, each by its head and what it came to
+pub mod KnownNames  -- The libraries that there are, by the texts of their names (R7RS 4.2.1, 5.6.1)
+pub mod Places  -- The places of units and of their tokens, as the code keeps them
+pub mod Placed  -- Places of the open documents, at positions of an encoding (LSP 3.17, Range)
+pub mod UnitsExpanded  -- What units came to, as far as it is sure whatever the units are
+pub mod Sound  -- The units as they are listed
 pub mod UnitsFound  -- What is found wrong in units, as the definition's diagnostics and Errors of the program that they come to (R7RS 5.1, 5.6)
 pub mod Belongs  -- What belongs to the open documents
-pub mod KnownNames  -- The libraries that there are, by the texts of their names (R7RS 4.2.1, 5.6.1)
 pub mod UnitsListed  -- The units of the documents as they are listed (R7RS 5.1, 5.6)
 pub mod ProgramOfTexts  -- The program of the open documents, as the code has it (R7RS 5)
 pub mod State  -- A workspace as contracts see it
 pub mod ToldAnswers  -- Answers at positions of an encoding (LSP 3.17, Location, DocumentHighlight), about open documents that are read so
+pub mod Named  -- The identifiers of units as the code keeps and seeks them, and tokens as it cuts them out of texts

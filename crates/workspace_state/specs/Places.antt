@@ -4,6 +4,7 @@ use Rattle.scheme_model.specs.Data.{place_of}
 use Rattle.scheme_model.specs.Program.{UnitResult}
 use Rattle.scheme_model.specs.Diagnostics.{Span, Bytes, bytes_of, unit_start}
 use Rattle.workspace_state.specs.Readings.{Read, spans_in, span_seen}
+use Rattle.scheme_model.specs.Sites.{names_in_forms}
 use Rattle.workspace_state.specs.declared.documents.Document as code_document
 use Rattle.workspace_state.specs.declared.findings.At as code_at
 use Rattle.workspace_state.specs.declared.findings.Finding.{Finding}
@@ -25,12 +26,13 @@ start_of spans (Some r) = unit_start spans r.unit
 abbrev pub AreHeadsIn : ℕ → List Head → Type 0
 AreHeadsIn count hs = (n : ℕ) (h : Head) → slice_get hs n ≡ Some h → h.document < count
 
--- a unit keeps its document, its kind and its first tokens
+-- a unit keeps its document, its kind, its first tokens and its identifiers
 pub record SameHead (h g : Head) : Type 0 where
   pub document : g.document ≡ h.document
   pub kind : g.kind ≡ h.kind
   pub span : g.span ≡ h.span
   pub firsts : g.firsts ≡ h.firsts
+  pub names : g.names ≡ h.names
 
 abbrev pub HeadsStay : List Head → List Head → Type 0
 HeadsStay old new = Changes (λ n. SameHead) old new
@@ -63,12 +65,13 @@ form_or_start spans us (Some r) unit form =
 abbrev pub CanPlace : code.Places → Type 0
 CanPlace p = (n : ℕ) (h : Head) → slice_get p.heads.now n ≡ Some h → h.document < length p.documents.now
 
--- the unit at a place: its document, its first token, and the first tokens of its forms
+-- the unit at a place: its document, its first token, and the first tokens and the identifiers of its forms
 pub record IsHead (rs : List Read) (place : ℕ) (h : Head) (r : UnitResult) : Type 0 where
   pub number : r.unit.number ≡ place
   pub document : h.document ≡ r.unit.placed.document
   pub span : span_seen h.span ≡ (unit_start (spans_of rs) r.unit).span
   pub firsts : h.firsts.items ≡ map (λ f. (place_of f.datum).first) r.unit.forms
+  pub names : h.names.items ≡ names_in_forms r.unit.number 0 r.unit.forms
 
 abbrev pub AreHeads : List Read → ℕ → List Head → List UnitResult → Type 0
 AreHeads rs n [] [] = Unit {0}

@@ -1,5 +1,5 @@
 -- Answers at positions of an encoding (LSP 3.17, Location, DocumentHighlight), about open documents that are read so.
-use Rattle.std.specs.Prelude.{◌≡◌, ℕ, zero, suc, pos, ◌-◌, ◌==◌, ◌≤◌, List, [], ◌∷◌, map, take, drop, length, slice_get, Bool, true, false, Option, Some, None, if◌then◌else◌}
+use Rattle.std.specs.Prelude.{◌≡◌, ℕ, zero, suc, pos, ◌-◌, ◌==◌, ◌≤◌, List, [], ◌∷◌, map, take, drop, length, Bool, true, false, Option, Some, None, if◌then◌else◌}
 use Rattle.std.specs.List.{All, Contains}
 use Rattle.std.specs.Option.{option_map}
 use Rattle.std.specs.Str.{bytes_eq}
@@ -75,7 +75,7 @@ answer_told encoding ds Nothing = answers.Nothing
 answer_told encoding ds (Places bs) = answers.Places (map (place_told encoding ds) bs)
 answer_told encoding ds (Lit ls) = answers.Highlights (map (highlight_told encoding ds) ls)
 answer_told encoding ds (Prepared b) = answers.Prepared (range_of encoding (text_of ds b.document) b.span.start b.span.end) (written_at ds b)
-answer_told encoding ds (Drawn as) = answers.Arrows (map (arrow_told encoding ds) as)
+answer_told encoding ds (Drawn xs) = answers.Arrows (map (arrow_told encoding ds) xs)
 
 -- ---- questions
 

@@ -18,6 +18,7 @@ use Rattle.workspace_state.specs.Came.{IsSourceOf, AreReadOf}
 use Rattle.workspace_state.specs.declared.breaking.WholeFault.{WholeFault}
 use Rattle.workspace_state.specs.declared.listing.Head.{Head}
 use Rattle.workspace_state.specs.declared.listing.Units.{Units}
+use Rattle.scheme_model.specs.Sites.{names_in_forms}
 use Rattle.workspace_state.specs.WereRead.{FormsRead}
 
 -- proper names are written as they stand
@@ -62,16 +63,17 @@ pub record IsBlankLibrary (c : UnitSource) : Type 0 where
   pub exports : c.exports ≡ []
   pub forms : c.forms ≡ []
 
--- a head tells what its unit is
-pub record IsToldBy (u : Placed) (h : Head) : Type 0 where
+-- a head tells what the unit with this number is
+pub record IsToldBy (n : ℕ) (u : Placed) (h : Head) : Type 0 where
   pub document : h.document ≡ u.document
   pub kind : kind_as h.kind ≡ u.source.kind
   pub name : h.name ≡ option_map library_text u.source.name
   pub span : h.span ≡ unit_token u.source
   pub firsts : h.firsts.items ≡ map (λ f. (place_of f.datum).first) (forms_or_none u.source.forms)
+  pub names : h.names.items ≡ names_in_forms n 0 (forms_or_none u.source.forms)
 
 pub record IsOne (spelled : LibraryName → List ℕ) (n : ℕ) (u : Placed) (h : Head) (c : UnitSource) : Type 0 where
-  pub told : IsToldBy u h
+  pub told : IsToldBy n u h
   pub listed : IsListed spelled n u h
   pub named : c.name ≡ option_map spelled (name_if 0 u.source)
   pub source : IsSourceOf spelled (prepared [] n u) None c
@@ -101,5 +103,5 @@ pub record AreUnitsListed (spelled : LibraryName → List ℕ) (all : List Place
   pub units : AreUnits spelled (take max_units u.sources.items) (take max_units all)
   pub listed : AreListed spelled all u.heads.items
   pub read : AreReadOf spelled all u.sources.items
-  pub told : (n : ℕ) (p : Placed) (h : Head) → slice_get all n ≡ Some p → slice_get u.heads.items n ≡ Some h → IsToldBy p h
+  pub told : (n : ℕ) (p : Placed) (h : Head) → slice_get all n ≡ Some p → slice_get u.heads.items n ≡ Some h → IsToldBy n p h
   pub forms : (n : ℕ) (c : UnitSource) → slice_get u.sources.items n ≡ Some c → FormsRead (forms_of c.forms)

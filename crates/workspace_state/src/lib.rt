@@ -22,6 +22,7 @@ mod open;
 mod places;
 mod prelude;
 mod program;
+mod sites;
 mod texts;
 mod unbound;
 mod wording;

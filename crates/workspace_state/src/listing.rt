@@ -17,16 +17,18 @@ ghost use Rattle.workspace_state.specs.declared.breaking.WholeFault.TheVariants 
 use crate::breaking::WholeFault;
 use crate::documents::Document;
 use crate::known::library_name;
+use crate::sites::names_of;
 use datum_reader::Datum;
 use datum_reader::heads::{first_token, is_headed};
 use library_table::{KnownLibraries, LibraryFault, UnitForm, UnitSource, read_program, read_unit};
 use ls_base::limits::MAX_UNITS;
 use ls_base::{Items, Mem, Memory, Span, Text};
+use scheme_model::Occ;
 use std::alloc::Global;
 use syntax_tree::units::UnitKind;
 
 /// What a unit is besides its source: its document, its library's name, its first token, the numbers of the first tokens of its
-/// forms, the places of the units that it imports, and what breaks it as a whole.
+/// forms, the identifiers of these, the places of the units that it imports, and what breaks it as a whole.
 #[derive(Drop)]
 pub struct Head {
     pub document: usize,
@@ -34,6 +36,7 @@ pub struct Head {
     pub name: Option<Text>,
     pub span: Span,
     pub firsts: Vec<u32>,
+    pub names: Vec<Occ>,
     pub imports: Items<u32>,
     pub fault: Option<WholeFault>,
 }
@@ -155,16 +158,18 @@ fn add(
     ensures sound { OnOk result (IsSound (document + 1) units.new) }
     ensures added { (u : Source) → IsReadFor (length units.old.sources.items) u name source bad → OnOk result (AddsRead document (u ∷ []) units.old units.new) }
 {
-    if units.heads.len() >= u32::MAX as usize {
+    let place = units.sources.len();
+    if place >= u32::MAX as usize {
         return Err(Memory);
     }
-    let fault = fault_at(units.sources.len(), bad);
+    let fault = fault_at(place, bad);
     units.heads.push(Head {
         document,
         kind: source.kind,
         name,
         span: source.span,
         firsts: firsts_of(alloc, source.forms.as_slice())?,
+        names: names_of(alloc, place as u32, source.forms.as_slice())?,
         imports: Items::new(alloc),
         fault,
     })?;

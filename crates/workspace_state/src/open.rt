@@ -1,13 +1,20 @@
 //! The open documents, with what they are read as and where their units stand.
 ghost use Rattle.std.specs.Prelude.{◌≡◌, ◌<◌, ◌==◌, ℕ, List, length, slice_get, IfOk, IfSome};
+ghost use Rattle.std.specs.List.{slice_range};
 ghost use Rattle.std.specs.Option.{option_map};
 ghost use Rattle.std.specs.FinMap.{empty, entries};
-ghost use Rattle.document_store.specs.Texts.{text_at};
+ghost use Rattle.document_store.specs.Texts.{Document as Entry, text_at};
 ghost use Rattle.scheme_model.specs.Diagnostics.{bytes_of};
+ghost use Rattle.scheme_model.specs.declared.Occ as occ;
+ghost use Rattle.ls_base.specs.Positions.{offset_of};
 ghost use Rattle.workspace_state.specs.Belongs.{AreErrorsIn, Belongs, error_in};
-ghost use Rattle.workspace_state.specs.Readings.{Read, AreReadAs, AreDocuments, first_unread, program_in};
+ghost use Rattle.workspace_state.specs.Listed.{range_of};
+ghost use Rattle.workspace_state.specs.Named.{CanCut};
+ghost use Rattle.workspace_state.specs.Readings.{Read, AreReadAs, AreDocuments, IsDocument, first_unread, program_in, span_seen};
 ghost use Rattle.workspace_state.specs.Placed.{IsErrorAt, IsIn, IsPlace, form_bytes};
 ghost use Rattle.workspace_state.specs.Places.{ArePlaces, CanPlace, bytes_at, spans_of};
+ghost use Rattle.scheme_model.specs.Sites as sites;
+ghost use Rattle.workspace_state.specs.ToldAnswers as told;
 ghost use Rattle.workspace_state.specs.UnitsFound.{first_error_at};
 
 use crate::documents::{Document, first_unread};
@@ -15,8 +22,9 @@ use crate::findings::At;
 use crate::listing::Head;
 use crate::lists::{range, text_in};
 use crate::places::{PlacedError, Places};
+use crate::sites::name_at;
 use document_store::Store;
-use ls_base::{Encoding, Mem, Place};
+use ls_base::{Encoding, Mem, Place, Pos, Range, Span, Text};
 use scheme_model::Occ;
 use std::alloc::Global;
 use std::marker::Model;
@@ -152,15 +160,113 @@ impl Open {
     }
 
     /// Bytes of a document as a place.
-    fn place(&self, at: At, encoding: Encoding) -> Mem<Place>
+    pub fn place(&self, at: At, encoding: Encoding) -> Mem<Place>
         requires { at.document < length (entries self.now) }
-        ensures { IfOk result (IsPlace encoding (entries self.now) (bytes_at at)) }
+        ensures place { IfOk result (IsPlace encoding (entries self.now) (bytes_at at)) }
+        ensures told { IfOk result (λ p. p ≡ told.place_told encoding (entries self.now) (bytes_at at)) }
     {
-        let document = &self.documents[at.document];
-        let text = text_in(&self.store, document);
-        let range = range(&document.lines, text, at.span, encoding);
-        let uri = document.uri.clone()?;
+        let range = self.range(at, encoding);
+        let uri = self.document(at.document).uri.clone()?;
         Ok(Place { uri, range })
+    }
+
+    /// Bytes of a document as a range.
+    pub fn range(&self, at: At, encoding: Encoding) -> Range
+        requires { at.document < length (entries self.now) }
+        ensures { result ≡ range_of encoding (told.text_of (entries self.now) at.document) at.span.start at.span.end }
+    {
+        let lines = &self.document(at.document).lines;
+        range(lines, self.text(at.document), at.span, encoding)
+    }
+
+    /// A document by its place.
+    fn document(&self, number: usize) -> &Document
+        requires { number < length (entries self.now) }
+        ensures { IsDocument (told.document_at (entries self.now) number) result.now }
+    {
+        &self.documents[number]
+    }
+
+    /// The text of a document.
+    fn text(&self, number: usize) -> &str
+        requires { number < length (entries self.now) }
+        ensures { result.now ≡ told.text_of (entries self.now) number }
+    {
+        text_in(&self.store, self.document(number))
+    }
+
+    /// The place of a document among the open ones. `None` exactly where it isn't open.
+    pub fn number_of(&self, uri: &str) -> Option<usize>
+        ensures exact { result ≡ told.number_of (entries self.now) uri.now }
+        ensures inside { IfSome result (λ n. n < length (entries self.now)) }
+    {
+        number_of(self.documents(), uri)
+    }
+
+    /// The offset of a position of a document.
+    pub fn offset(&self, document: usize, position: Pos, encoding: Encoding) -> u32
+        requires { document < length (entries self.now) }
+        ensures { result ≡ offset_of encoding (told.text_of (entries self.now) document) position }
+    {
+        let lines = &self.document(document).lines;
+        lines.offset(self.text(document), position, encoding)
+    }
+
+    /// The identifier that begins at an offset of a document, or else one that it is inside of or at the end of.
+    pub fn name_at(&self, document: usize, offset: u32) -> Option<Occ>
+        ensures { (rs : List Read) → AreReadAs (entries self.now) rs → result ≡ sites.name_at (spans_of rs) (program_in rs).units document offset }
+    {
+        name_at(self.places(), document, offset)
+    }
+
+    /// The bytes of an occurrence.
+    pub fn bytes_of(&self, occ: Occ) -> At
+        ensures inside { 0 < length (entries self.now) → result.document < length (entries self.now) }
+        ensures exact { (rs : List Read) → AreReadAs (entries self.now) rs → bytes_at result ≡ bytes_of (spans_of rs) (program_in rs).units occ }
+    {
+        self.places().at(occ)
+    }
+
+    /// The token of an occurrence as it is written, whose bytes these are.
+    pub fn written_at(&self, alloc: Global, at: At) -> Mem<Text>
+        requires { at.document < length (entries self.now) }
+        ensures { (rs : List Read) (o : occ.Occ) → AreReadAs (entries self.now) rs → bytes_at at ≡ bytes_of (spans_of rs) (program_in rs).units o →
+            IfOk result (λ text. text ≡ told.written_at (entries self.now) (bytes_at at)) }
+    {
+        let written = cut(self.text(at.document), at.span);
+        Ok(Text::of(alloc, written)?)
+    }
+
+    /// Whether what begins at these bytes stands between bars (R7RS 7.1.1).
+    pub fn has_bars(&self, at: At) -> bool
+        requires { at.document < length (entries self.now) }
+        ensures { result ≡ told.has_bars (entries self.now) (bytes_at at) }
+    {
+        let text = self.text(at.document).as_bytes();
+        text.get(at.span.start as usize) == Some(&b'|')
+    }
+}
+
+/// The place of a document among others.
+fn number_of(documents: &[Document], uri: &str) -> Option<usize>
+    ensures exact { (ds : List (List ℕ × Entry)) → AreDocuments ds documents.now → result ≡ told.number_of ds uri.now }
+    ensures inside { IfSome result (λ n. n < length documents.now) }
+{
+    for (number, document) in documents.iter().enumerate() {
+        if document.uri.as_str() == uri {
+            return Some(number);
+        }
+    }
+    None
+}
+
+/// A part of a text that begins and ends between characters.
+fn cut(text: &str, span: Span) -> &str
+    ensures { CanCut text.now (span_seen span) → result.now ≡ slice_range text.now span.start span.end }
+{
+    match text.get(span.start as usize..span.end as usize) {
+        Some(part) => part,
+        None => "",
     }
 }
 

@@ -21,7 +21,7 @@ place-requires c =
     omega arith
 
 pub returns-clause-inside : goal.returns-clause-inside
-returns-clause-inside c = (bytes_at c.in-Some.at, c.in_ok-place.ensures)
+returns-clause-inside c = (bytes_at c.in-Some.at, c.in_ok-place.ensures.place)
 
 pub returns-clause-exact : goal.returns-clause-exact
 returns-clause-exact c = λ rs are.
@@ -29,7 +29,7 @@ returns-clause-exact c = λ rs are.
     let u = c.self.invariant.units rs (subst (λ (t : Texts). AreReadAs (entries t) rs) (sym c.self.view_is) are) in
     let e : Some (c.in-Some.at, c.in-Some.code) ≡ first_error_at rs p (slice_get p.units c.args.unit) =
     c.in-Some.ensures.exact ∙ (ap (λ (es : List (Option (At × ℕ))). error_in (slice_get es c.args.unit)) c.as_slice.ensures.value ∙ first_at rs p c.self.inside.errors.items u.errors c.args.unit) in
-    subst (λ (o : Option (At × ℕ)). IsErrorAt c.args.encoding (entries c.args.self.now) o (Some (record { place = c.in_ok-place.place; code = c.in-Some.code }))) e (c.in_ok-place.ensures, refl)
+    subst (λ (o : Option (At × ℕ)). IsErrorAt c.args.encoding (entries c.args.self.now) o (Some (record { place = c.in_ok-place.place; code = c.in-Some.code }))) e (c.in_ok-place.ensures.place, refl)
 
 pub returns-in_default-clause-exact : goal.returns-in_default-clause-exact
 returns-in_default-clause-exact c = λ rs are.
