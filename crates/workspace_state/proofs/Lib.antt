@@ -103,3 +103,9 @@ pub mod NewsTold  -- Lists as the code keeps them, by uri
 pub mod NoTexts  -- A workspace without documents
 pub mod HeadsStand  -- The heads of units that were listed are those of the program's units
 pub mod HeadsOf  -- The heads of units have what the units do, as these were listed, judged and worked on
+pub mod OrderedLaws  -- Lists in order, each item once
+pub mod BytesLaws  -- The orders of bytes, of lit bytes and of drawn pairs, in the definition and in the code
+pub mod ListedLaws  -- Lists that stand for others as they grow, and lists with the same members
+pub mod AskedLaws  -- Answers about an occurrence, by what the index has
+pub mod LongestLaws  -- The longest prefix of an occurrence among parts, and the parts of its class
+pub mod IndexedLaws  -- The index of the program of the open documents

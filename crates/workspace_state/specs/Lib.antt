@@ -1,7 +1,7 @@
 pub mod Readings  -- How the open documents are read (R7RS 7.1.2), and the program that they are (R7RS 5)
 pub mod Found  -- What is found wrong as the definition's diagnostics, and how the code keeps those of each document
 pub mod Formed  -- Units that were expanded, whose forms stand for something of the definitions (R7RS 5.1)
-pub mod Expansions  -- A program with the trees that it is over
+pub mod Expansions  -- A program with the trees that it is over, and the index of it
 pub mod Ends  -- Where work on a unit ends, state by state, and how its forms are numbered (R7RS 5.1, 5.3)
 pub mod Forms  -- The forms of a unit as they are gone through and expanded (R7RS 5.1, 5.3)
 pub mod Begun  -- Where each expansion begins
@@ -41,3 +41,6 @@ pub mod State  -- A workspace as contracts see it
 pub mod Sites  -- Identifiers where they stand in texts (R7RS 7.1.1), and the one at a place of a text
 pub mod Answers  -- What is answered about a program (LSP 3.17, "Language Features")
 pub mod ToldAnswers  -- Answers at positions of an encoding (LSP 3.17, Location, DocumentHighlight), about open documents that are read so
+pub mod BytesKept  -- Bytes of documents, lit ones and drawn pairs, as the code keeps them
+pub mod AskedOf  -- What answers about open documents are taken from
+pub mod Indexed  -- The index that is kept or was made
