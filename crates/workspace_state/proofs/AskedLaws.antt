@@ -1,5 +1,5 @@
 -- Answers about an occurrence, by what the index has: their occurrences, and the lists that these decide.
-use Rattle.std.proofs.Common.{◌≡◌, ◌↔◌, inl, Contains, eq-eqb, eqb-true, arith, ℕ, ◌+◌, ◌<◌, List, [], ◌∷◌, ◌++◌, map, filter, take, length, get_or, Bool, true, false, Some, None, Option, refl, sym, ap, ◌∙◌, subst}
+use Rattle.std.proofs.Common.{◌≡◌, ◌↔◌, inl, Contains, eq-eqb, eqb-true, arith, ℕ, ◌+◌, ◌<◌, List, [], ◌∷◌, ◌++◌, map, filter, take, length, get_or, Bool, true, false, Some, None, refl, sym, ap, ◌∙◌, subst}
 use Rattle.std.specs.Prelude.{if◌then◌else◌, ◌==◌, ◌&&◌}
 use Rattle.std.specs.List.{flat_map}
 use Rattle.ls_base.specs.declared.answers.Answer.TheVariants as answers
@@ -27,10 +27,9 @@ use Rattle.arrow_index.specs.declared.pairs.Pair.{Pair}
 use Rattle.arrow_index.proofs.BinderLaws.{from_filter}
 use Rattle.arrow_index.proofs.Growing.{flat_next}
 use Rattle.arrow_index.proofs.MemberLaws.{in_from, contains_from, in_map, from_map}
-use Rattle.workspace_state.specs.Answers.{Answer, Nothing, Prepared, Facts, answer_about, answer_at, binders_for, bytes_before, drawn_before, drawn_in, is_bound, is_in, kind_of, lit_before, lit_in, no_answer, ordered_by, places_for, uses_for}
+use Rattle.workspace_state.specs.Answers.{Nothing, Prepared, Facts, answer_about, answer_at, binders_for, bytes_before, drawn_before, drawn_in, is_bound, is_in, kind_of, lit_before, lit_in, no_answer, ordered_by, places_for, uses_for}
 use Rattle.workspace_state.specs.BytesKept.{bytes_seen, has_end, lit_seen, pair_bytes}
 use Rattle.workspace_state.proofs.BytesLaws.{bytes_cmp, bytes_order, drawn_order, lit_order, pair_cmp, text_order}
-
 use Rattle.workspace_state.proofs.ListedLaws.{HaveSame, passed_more, passed_over, same_listed, same_twice, same_both, same_turned, same_map, same_flat, same_filter, occs_same}
 use Rattle.workspace_state.proofs.OrderedLaws.{from_ordered, in_order, same_ordered}
 
@@ -73,13 +72,13 @@ lit_same f document xs ys h =
 
 arrows_same : (bytes : Occ → Bytes) (ps : List Pair) (arrows : List Arrow) → AreArrows ps arrows → HaveSame (map (pair_bytes bytes) ps) (map (λ (a : Arrow). (bytes a.binder, bytes a.target)) arrows)
 arrows_same bytes ps arrows h d = (
-    λ i. let r = from_map (pair_bytes bytes) d ps i in
+  λ i. let r = from_map (pair_bytes bytes) d ps i in
       subst (λ (w : Bytes × Bytes). IsIn w (map (λ (a : Arrow). (bytes a.binder, bytes a.target)) arrows)) r.2
       (in_map (λ (a : Arrow). (bytes a.binder, bytes a.target)) (as_arrow r.0) arrows (in_from (as_arrow r.0) arrows ((h.same r.0).0 (contains_from r.0 ps r.1)))),
-    λ i. let r = from_map (λ (a : Arrow). (bytes a.binder, bytes a.target)) d arrows i in
+  λ i. let r = from_map (λ (a : Arrow). (bytes a.binder, bytes a.target)) d arrows i in
       let p : Pair = record { binder = r.0.binder; target = r.0.target } in
       subst (λ (w : Bytes × Bytes). IsIn w (map (pair_bytes bytes) ps)) r.2 (in_map (pair_bytes bytes) p ps (in_from p ps ((h.same p).1 (contains_from r.0 arrows r.1)))),
-  )
+)
 
 pub drawn_law : (f : Facts) (document : ℕ) (ps : List Pair) → AreArrows ps f.arrows → ordered_by drawn_before (filter (has_end document) (map (pair_bytes f.bytes) ps)) ≡ drawn_in f document
 drawn_law f document ps h =

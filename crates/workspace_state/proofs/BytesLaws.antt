@@ -1,5 +1,5 @@
 -- The orders of bytes, of lit bytes and of drawn pairs, in the definition and in the code.
-use Rattle.std.proofs.Common.{◌≡◌, ◌⊎◌, inl, inr, ◌↔◌, ℕ, List, [], ◌∷◌, map, Bool, true, false, refl, sym, ap, ◌∙◌, arith}
+use Rattle.std.proofs.Common.{◌≡◌, ℕ, List, Bool, true, false, refl, sym, ap, ◌∙◌, arith}
 use Rattle.std.specs.Prelude.{◌==◌, nat_lt, ◌||◌, ◌&&◌, not}
 use Rattle.std.specs.Cmp.{IsTotalOrder, nat_cmp_total, on_total, then_total}
 use Rattle.std.specs.Cmp.Lexicographic.{slice_cmp}
@@ -75,11 +75,11 @@ pub bytes_order : IsOrder bytes_cmp bytes_before
 bytes_order = record {
   total = then_total (on_total (λ (b : Bytes). b.document) nat_cmp_total) (then_total (on_total (λ (b : Bytes). b.span.start) nat_cmp_total) (on_total (λ (b : Bytes). b.span.end) nat_cmp_total));
   one = λ a b e.
-    let rest = second_equal (nat_cmp a.document b.document) (span_cmp a b) e in
-    let d = numbers_one a.document b.document (first_equal (nat_cmp a.document b.document) (span_cmp a b) e) in
-    let s = numbers_one a.span.start b.span.start (first_equal (nat_cmp a.span.start b.span.start) (nat_cmp a.span.end b.span.end) rest) in
-    let t = numbers_one a.span.end b.span.end (second_equal (nat_cmp a.span.start b.span.start) (nat_cmp a.span.end b.span.end) rest) in
-    λ j. record { document = d j; span = record { start = s j; end = t j } };
+      let rest = second_equal (nat_cmp a.document b.document) (span_cmp a b) e in
+      let d = numbers_one a.document b.document (first_equal (nat_cmp a.document b.document) (span_cmp a b) e) in
+      let s = numbers_one a.span.start b.span.start (first_equal (nat_cmp a.span.start b.span.start) (nat_cmp a.span.end b.span.end) rest) in
+      let t = numbers_one a.span.end b.span.end (second_equal (nat_cmp a.span.start b.span.start) (nat_cmp a.span.end b.span.end) rest) in
+      λ j. record { document = d j; span = record { start = s j; end = t j } };
   is = λ a b. three.is (a.document, (a.span.start, a.span.end)) (b.document, (b.span.start, b.span.end));
 }
   where

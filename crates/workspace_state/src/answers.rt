@@ -1,6 +1,6 @@
 //! What is answered about positions of the open documents (LSP 3.17, "Language Features"): where a name is bound and used, and what
 //! arrows a document has.
-ghost use Rattle.std.specs.Prelude.{◌≡◌, ◌<◌, ◌↔◌, ◌⊎◌, ◌++◌, ℕ, List, [], filter, length, map, ◌||◌, Some, None, if◌then◌else◌, IfOk, OnOk};
+ghost use Rattle.std.specs.Prelude.{◌≡◌, ◌<◌, ◌↔◌, ◌++◌, ℕ, List, [], filter, length, map, None, if◌then◌else◌, IfOk, OnOk};
 ghost use Rattle.std.specs.FinMap.{entries};
 ghost use Rattle.std.specs.List.{flat_map};
 ghost use Rattle.std.specs.List.Sorted.{IsStrictlySortedBy};
@@ -13,7 +13,7 @@ ghost use Rattle.arrow_index.specs.Members.{IsIn};
 ghost use Rattle.workspace_state.specs.Answers as told;
 ghost use Rattle.workspace_state.specs.AskedOf.{IsSource};
 ghost use Rattle.workspace_state.specs.BytesKept.{AreDrawnInside, AreInside, AreLitInside, HaveTokens, bytes_seen, drawn_seen, has_end, lit_seen, pair_bytes};
-ghost use Rattle.workspace_state.specs.Readings.{Read, AreReadAs};
+ghost use Rattle.workspace_state.specs.Readings.{Read};
 ghost use Rattle.workspace_state.specs.ToldAnswers.{answer_of, answer_told, arrow_told, facts_in, highlight_told, place_told, query_of};
 
 use crate::asked::Asked;
@@ -99,7 +99,7 @@ fn references(asked: &Asked<'_>, occ: Occ, declaration: bool) -> Mem<Items<Place
     requires sorted { IsStrictlySortedBy pair_cmp asked.now.index.now.arrows }
     ensures { (rs : List Read) → IsSource asked.now.texts.now rs asked.now.index.now →
         IfOk result (λ places. places ≡ map (place_told asked.now.encoding (entries asked.now.texts.now))
-            (told.places_for (facts_in rs) ((if declaration then told.binders_for (facts_in rs) occ else []) ++ told.uses_for (facts_in rs) occ))) }
+        (told.places_for (facts_in rs) ((if declaration then told.binders_for (facts_in rs) occ else []) ++ told.uses_for (facts_in rs) occ))) }
 {
     let occs = occs_of(asked, occ, declaration)?;
     let places = places_of(asked, occs.as_slice())?;
@@ -190,7 +190,7 @@ fn highlights(asked: &Asked<'_>, document: usize, occ: Occ) -> Mem<Items<Highlig
     requires sorted { IsStrictlySortedBy pair_cmp asked.now.index.now.arrows }
     ensures { (rs : List Read) → IsSource asked.now.texts.now rs asked.now.index.now →
         IfOk result (λ lights. lights ≡ map (highlight_told asked.now.encoding (entries asked.now.texts.now))
-            (told.lit_in (facts_in rs) document (told.binders_for (facts_in rs) occ ++ told.uses_for (facts_in rs) occ))) }
+        (told.lit_in (facts_in rs) document (told.binders_for (facts_in rs) occ ++ told.uses_for (facts_in rs) occ))) }
 {
     let occs = occs_of(asked, occ, true)?;
     let all = all_lit(asked, document, occs.as_slice())?;
@@ -239,7 +239,7 @@ fn prepared(asked: &Asked<'_>, occ: Occ) -> Mem<Answer>
     requires { 0 < length (entries asked.now.texts.now) }
     ensures { (rs : List Read) → IsSource asked.now.texts.now rs asked.now.index.now →
         IfOk result (λ answer. answer ≡ answer_told asked.now.encoding (entries asked.now.texts.now)
-            (if told.is_bound (facts_in rs) occ then told.Prepared ((facts_in rs).bytes occ) else told.Nothing)) }
+        (if told.is_bound (facts_in rs) occ then told.Prepared ((facts_in rs).bytes occ) else told.Nothing)) }
 {
     let is_bound = asked.is_bound(occ)?;
     if !is_bound {

@@ -12,9 +12,9 @@ ghost use Rattle.workspace_state.specs.Readings.{Read, program_in};
 ghost use Rattle.workspace_state.specs.Sites as sites;
 ghost use Rattle.workspace_state.specs.ToldAnswers as told;
 
-use arrow_index::index::Index;
 use crate::open::Open;
 use arrow_index::classes::{ClassPart, class_of, is_joined, standard_names};
+use arrow_index::index::Index;
 use ls_base::{Encoding, Items, Mem, Pos, Text};
 use scheme_model::Occ;
 use std::alloc::Global;

@@ -23,8 +23,8 @@ loop-occ-preserved c =
     record {
       inside = each_more bytes_seen (λ (b : Bytes). b.document < count) c.loop-occ.all.items c.push.new.self.items c.of.result c.loop-occ.invariant.inside c.in_ok-push.ensures.items here;
       exact = λ rs source.
-        kept_more bytes_seen (facts_in rs).bytes c.args.occs.now c.loop-occ.occ-index none c.loop-occ.all.items c.push.new.self.items c.of.result (omega arith) (c.loop-occ.invariant.exact rs source) c.in_ok-push.ensures.items
-        (c.of.ensures ∙ c.bytes_of.ensures.exact rs source.read);
+          kept_more bytes_seen (facts_in rs).bytes c.args.occs.now c.loop-occ.occ-index none c.loop-occ.all.items c.push.new.self.items c.of.result (omega arith) (c.loop-occ.invariant.exact rs source) c.in_ok-push.ensures.items
+          (c.of.ensures ∙ c.bytes_of.ensures.exact rs source.read);
     }
 
 pub returns-clause-exact : goal.returns-clause-exact

@@ -1,4 +1,4 @@
-use Rattle.std.proofs.Common.{◌<◌, List, take, map, filter, length, sym, ap, ◌∙◌, subst, arith}
+use Rattle.std.proofs.Common.{◌<◌, List, map, filter, length, sym, ap, ◌∙◌, subst, arith}
 use Rattle.std.specs.FinMap.{entries}
 use Rattle.std.proofs.lemmas.List.{take_all}
 use Rattle.scheme_model.specs.Diagnostics.{Bytes}
@@ -27,22 +27,22 @@ loop-pair-preserved c =
     let drawn = c.drawn_of-drawn.result in
     let here : (drawn.from.document < count) × (drawn.to.document < count) = (c.drawn_of-drawn.ensures.from, c.drawn_of-drawn.ensures.to) in
     elim c.if-has_end.branch [
-      then-has_end+in_ok-push w ↦
-        let more = ap (λ v. v.items) w.all-is ∙ w.in_ok-push.ensures.items in
-        record {
-          inside = each_more drawn_seen (λ (d : Bytes × Bytes). (d.0.document < count) × (d.1.document < count)) old c.if-has_end.all.items drawn c.loop-pair.invariant.inside more here;
-          exact = λ rs source.
-            told_if drawn_seen (pair_bytes (facts_in rs).bytes) (has_end c.args.document) pairs i none old c.if-has_end.all.items drawn (omega arith) (c.loop-pair.invariant.exact rs source) more (c.drawn_of-drawn.ensures.exact rs source)
-            (sym c.has_end.ensures ∙ w.if-has_end.true);
-        }
+      | then-has_end+in_ok-push w ↦
+          let more = ap (λ v. v.items) w.all-is ∙ w.in_ok-push.ensures.items in
+          record {
+            inside = each_more drawn_seen (λ (d : Bytes × Bytes). (d.0.document < count) × (d.1.document < count)) old c.if-has_end.all.items drawn c.loop-pair.invariant.inside more here;
+            exact = λ rs source.
+                told_if drawn_seen (pair_bytes (facts_in rs).bytes) (has_end c.args.document) pairs i none old c.if-has_end.all.items drawn (omega arith) (c.loop-pair.invariant.exact rs source) more (c.drawn_of-drawn.ensures.exact rs source)
+                (sym c.has_end.ensures ∙ w.if-has_end.true);
+          }
       | else-has_end w ↦
-        let same = ap (λ v. v.items) w.all-is in
-        record {
-          inside = λ d k. c.loop-pair.invariant.inside d (subst (λ (xs : List Drawn). IsIn d (map drawn_seen xs)) same k);
-          exact = λ rs source.
-            ap (map drawn_seen) same
-            ∙ told_over drawn_seen (pair_bytes (facts_in rs).bytes) (has_end c.args.document) pairs i none old drawn (omega arith) (c.loop-pair.invariant.exact rs source) (c.drawn_of-drawn.ensures.exact rs source) (sym c.has_end.ensures ∙ w.if-has_end.false);
-        }
+          let same = ap (λ v. v.items) w.all-is in
+          record {
+            inside = λ d k. c.loop-pair.invariant.inside d (subst (λ (xs : List Drawn). IsIn d (map drawn_seen xs)) same k);
+            exact = λ rs source.
+                ap (map drawn_seen) same
+                ∙ told_over drawn_seen (pair_bytes (facts_in rs).bytes) (has_end c.args.document) pairs i none old drawn (omega arith) (c.loop-pair.invariant.exact rs source) (c.drawn_of-drawn.ensures.exact rs source) (sym c.has_end.ensures ∙ w.if-has_end.false);
+          }
     ]
 
 pub returns-clause-exact : goal.returns-clause-exact

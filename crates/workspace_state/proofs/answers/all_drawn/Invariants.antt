@@ -11,5 +11,5 @@ abbrev pub invariant-loop-pair : goal.invariant-loop-pair
 invariant-loop-pair l = record {
   inside : AreDrawnInside (length (entries l.asked.texts.now)) (map drawn_seen l.all.items);
   exact : (rs : List Read) → IsSource l.asked.texts.now rs l.asked.index.now →
-    map drawn_seen l.all.items ≡ filter (has_end l.document) (map (pair_bytes (facts_in rs).bytes) (take l.pair-index l.pair-items));
+      map drawn_seen l.all.items ≡ filter (has_end l.document) (map (pair_bytes (facts_in rs).bytes) (take l.pair-index l.pair-items));
 }

@@ -12,5 +12,5 @@ abbrev pub invariant-loop-occ : goal.invariant-loop-occ
 invariant-loop-occ l = record {
   inside : AreLitInside (length (entries l.asked.texts.now)) (map lit_seen l.all.items);
   exact : (rs : List Read) → IsSource l.asked.texts.now rs l.asked.index.now →
-    map lit_seen l.all.items ≡ map (λ o. ((facts_in rs).bytes o, kind_of (facts_in rs) o)) (filter (λ o. is_in l.document ((facts_in rs).bytes o)) (take l.occ-index l.occs));
+      map lit_seen l.all.items ≡ map (λ o. ((facts_in rs).bytes o, kind_of (facts_in rs) o)) (filter (λ o. is_in l.document ((facts_in rs).bytes o)) (take l.occ-index l.occs));
 }

@@ -1,9 +1,6 @@
 use Rattle.std.proofs.Common.{ℕ, Option, sym, ap, ◌∙◌, arith}
 use Rattle.std.specs.FinMap.{entries}
-use Rattle.scheme_model.specs.declared.Occ.{Occ}
-use Rattle.workspace_state.specs.Answers.{answer_at}
-use Rattle.workspace_state.specs.ToldAnswers.{answer_by, answer_told, facts_in, query_of}
-use Rattle.workspace_state.proofs.AskedLaws.{about_one}
+use Rattle.workspace_state.specs.ToldAnswers.{answer_by, answer_told, query_of}
 use Rattle.workspace_state.proofs.answers.answer.Goals as goal
 
 pub answer_about-requires-clause-open : goal.answer_about-requires-clause-open
@@ -17,4 +14,3 @@ returns-in_default c = λ rs source.
     let encoding = c.args.asked.now.encoding in
     let ds = entries c.args.asked.now.texts.now in
     c.no_answer.ensures encoding ds ∙ ap (λ (n : Option ℕ). answer_told encoding ds (answer_by encoding ds rs n c.args.position (query_of c.args.query))) (sym c.in_default.is ∙ c.number_of.ensures.exact)
-

@@ -1,9 +1,6 @@
-use Rattle.std.proofs.Common.{None, sym, ap, ◌∙◌}
+use Rattle.std.proofs.Common.{sym, ap, ◌∙◌}
 use Rattle.std.specs.FinMap.{entries}
-use Rattle.ls_base.specs.declared.answers.Answer.TheVariants as answers
-use Rattle.ls_base.specs.declared.answers.Query.{Query}
-use Rattle.workspace_state.specs.Answers.{answer_at}
-use Rattle.workspace_state.specs.ToldAnswers.{answer_told, facts_in, query_of}
+use Rattle.workspace_state.specs.ToldAnswers.{answer_told, facts_in}
 use Rattle.workspace_state.proofs.AskedLaws.{beside_none}
 use Rattle.workspace_state.proofs.answers.answer_beside.Goals as goal
 

@@ -22,5 +22,5 @@ returns c = λ rs source.
     let wanted = binders_for f c.args.occ ++ uses_for f c.args.occ in
     c.in_ok-lights.ensures
     ∙ ap (map (highlight_told c.args.asked.now.encoding (entries c.args.asked.now.texts.now)))
-        (ap (map lit_seen) c.as_slice-2.ensures ∙ c.in_ok-sorted.ensures ∙ ap (ordered_by lit_before) (c.in_ok-all.ensures.exact rs source)
-        ∙ ap (λ (os : List Occ). lit_in f c.args.document os) c.as_slice.ensures.value ∙ lit_same f c.args.document c.in_ok-occs.occs.items wanted (c.in_ok-occs.ensures rs source))
+    (ap (map lit_seen) c.as_slice-2.ensures ∙ c.in_ok-sorted.ensures ∙ ap (ordered_by lit_before) (c.in_ok-all.ensures.exact rs source)
+    ∙ ap (λ (os : List Occ). lit_in f c.args.document os) c.as_slice.ensures.value ∙ lit_same f c.args.document c.in_ok-occs.occs.items wanted (c.in_ok-occs.ensures rs source))

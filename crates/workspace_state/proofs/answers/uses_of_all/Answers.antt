@@ -1,4 +1,4 @@
-use Rattle.std.proofs.Common.{List, [], get_or, take, length, sym, subst, arith}
+use Rattle.std.proofs.Common.{List, [], get_or, sym, subst, arith}
 use Rattle.std.specs.List.{flat_map}
 use Rattle.std.specs.List.Sorted.{IsStrictlySortedBy}
 use Rattle.std.proofs.lemmas.List.{take_all}

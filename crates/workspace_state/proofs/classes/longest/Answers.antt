@@ -21,7 +21,7 @@ loop-part-preserved c =
     let s = c.loop-part.longest.now in
     let next = take (i + 1) ps in
     elim c.if-is_longer.branch [
-      then-is_longer w ↦ (
+      | then-is_longer w ↦ (
         subst (λ (t : List ℕ). shadow (Utf8 t)) (sym (ap (λ b. b.now) w.longest-is)) w.as_str-longest.utf8,
         subst (λ (t : List ℕ). IsLongest (own_prefixes next o) t) (sym (ap (λ b. b.now) w.longest-is ∙ w.as_str-longest.ensures)) (longer ps i p o s (omega arith) c.part-item.is c.loop-part.invariant.1 (sym c.is_longer.ensures ∙ w.if-is_longer.true)),
       )

@@ -1,5 +1,5 @@
 -- What is asked of the index that is there, or of a new one, is asked of the texts' program.
-use Rattle.std.proofs.Common.{List, sym, ◌∙◌, subst}
+use Rattle.std.proofs.Common.{sym, ◌∙◌, subst}
 use Rattle.std.specs.FinMap.{entries}
 use Rattle.std.specs.List.Sorted.{IsStrictlySortedBy}
 use Rattle.arrow_index.specs.Index.{pair_cmp}
