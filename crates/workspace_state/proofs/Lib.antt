@@ -106,3 +106,9 @@ pub mod HeadsOf  -- The heads of units have what the units do, as these were lis
 pub mod SiteLaws  -- The identifiers of data, of forms and of units, part by part, and the first one that passes
 pub mod TokenCuts  -- A text can be cut where its tokens begin and end (R7RS 7.1.1)
 pub mod OpenLaws  -- The open documents by their places and by their uris
+pub mod OrderedLaws  -- Lists in order, each item once
+pub mod BytesLaws  -- The orders of bytes, of lit bytes and of drawn pairs, in the definition and in the code
+pub mod ListedLaws  -- Lists that stand for others as they grow, and lists with the same members
+pub mod AskedLaws  -- Answers about an occurrence, by what the index has
+pub mod LongestLaws  -- The longest prefix of an occurrence among parts, and the parts of its class
+pub mod IndexedLaws  -- The index of the program of the open documents

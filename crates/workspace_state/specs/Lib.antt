@@ -1,7 +1,7 @@
 pub mod Readings  -- How the open documents are read (R7RS 7.1.2), and the program that they are (R7RS 5)
 pub mod Found  -- What is found wrong as the definition's diagnostics, and how the code keeps those of each document
 pub mod Formed  -- Units that were expanded, whose forms stand for something of the definitions (R7RS 5.1)
-pub mod Expansions  -- A program with the trees that it is over
+pub mod Expansions  -- A program with the trees that it is over, and the index of it
 pub mod Ends  -- Where work on a unit ends, state by state, and how its forms are numbered (R7RS 5.1, 5.3)
 pub mod Forms  -- The forms of a unit as they are gone through and expanded (R7RS 5.1, 5.3)
 pub mod Begun  -- Where each expansion begins
@@ -40,3 +40,6 @@ pub mod ProgramOfTexts  -- The program of the open documents, as the code has it
 pub mod State  -- A workspace as contracts see it
 pub mod ToldAnswers  -- Answers at positions of an encoding (LSP 3.17, Location, DocumentHighlight), about open documents that are read so
 pub mod Named  -- The identifiers of units as the code keeps and seeks them, and tokens as it cuts them out of texts
+pub mod BytesKept  -- Bytes of documents, lit ones and drawn pairs, as the code keeps them
+pub mod AskedOf  -- What answers about open documents are taken from
+pub mod Indexed  -- The index that is kept or was made

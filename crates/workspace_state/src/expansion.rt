@@ -1,33 +1,55 @@
-//! The program of the open documents, with the trees that it is over.
-ghost use Rattle.std.specs.Prelude.{◌≡◌, []};
+//! The program of the open documents, with the trees that it is over, and the index of it once that was collected.
+ghost use Rattle.std.specs.Prelude.{◌≡◌, [], IfOk};
 ghost use Rattle.arrow_index.specs.Formed.{AreFormedIn};
+ghost use Rattle.core_tree.specs.Units.{IsProgramOf};
+ghost use Rattle.workspace_state.specs.Expansions.{IsIndexFor};
+ghost use Rattle.workspace_state.specs.Indexed.{index_in};
 
+use arrow_index::index::Index;
 use core_tree::units::Program;
-use ls_base::Items;
+use ls_base::{Items, Mem};
 use std::alloc::Global;
 use std::marker::Model;
 use syntax_tree::trees::Work;
 
-/// The units of all documents, with the trees and names that they are over. The forms of each unit stand for something of the
-/// definitions.
+/// The units of all documents, with the trees and names that they are over, and their index, if it was collected. The forms of each
+/// unit stand for something of the definitions. Contracts don't see the index.
 #[derive(Drop)]
 pub struct Expansion {
     work: Work,
     program: Program,
+    index: Option<Index>,
 }
 
 impl Model for Expansion {
-    ghost use Rattle.workspace_state.specs.Expansions.{Seen, seen_code};
+    ghost use Rattle.workspace_state.specs.Expansions.{Holds, Seen, seen_code};
 
     ghost Value = { Seen };
 
     ghost coded = { seen_code };
 
-    ghost use Rattle.arrow_index.specs.Formed.{AreFormedIn};
-
     ghost view = { λ e. record { work = e.work; program = e.program } };
 
-    ghost invariant = { λ e. AreFormedIn e.work e.program.units };
+    ghost invariant = { λ e. Holds e.work e.program e.index };
+}
+
+/// An index that is kept, or one that was made for a call.
+#[derive(Drop)]
+pub enum Indexed<'a> {
+    Kept(&'a Index),
+    Made(Index),
+}
+
+impl Indexed<'_> {
+    /// The index.
+    pub fn index(&self) -> &Index
+        ensures { result.now ≡ index_in self.now }
+    {
+        match self {
+            Indexed::Kept(index) => index,
+            Indexed::Made(index) => index,
+        }
+    }
 }
 
 impl Expansion {
@@ -40,6 +62,7 @@ impl Expansion {
             program: Program {
                 units: Items::new(alloc),
             },
+            index: None,
         }
     }
 
@@ -49,7 +72,11 @@ impl Expansion {
         ensures work { result.work ≡ work }
         ensures program { result.program ≡ program }
     {
-        Expansion { work, program }
+        Expansion {
+            work,
+            program,
+            index: None,
+        }
     }
 
     /// The trees and names.
@@ -66,4 +93,38 @@ impl Expansion {
     {
         &self.program
     }
+
+    /// Collects the index, unless it is there.
+    pub fn collect(&mut self, alloc: Global) -> Mem<()>
+        requires { IsProgramOf self.old.work self.old.program }
+        ensures { self.new ≡ self.old }
+    {
+        if self.index.is_none() {
+            self.index = Some(made_index(alloc, &self.work, &self.program)?);
+        }
+        Ok(())
+    }
+
+    /// The index: the one that is there, or else a new one.
+    pub fn indexed(&self, alloc: Global) -> Mem<Indexed<'_>>
+        requires { IsProgramOf self.now.work self.now.program }
+        ensures { IfOk result (λ indexed. IsIndexFor self.now.work self.now.program (index_in indexed)) }
+    {
+        match &self.index {
+            Some(index) => Ok(Indexed::Kept(index)),
+            None => {
+                let index = made_index(alloc, &self.work, &self.program)?;
+                Ok(Indexed::Made(index))
+            }
+        }
+    }
+}
+
+/// The index of a program.
+fn made_index(alloc: Global, work: &Work, program: &Program) -> Mem<Index>
+    requires { IsProgramOf work.now program.now }
+    ensures { IfOk result (IsIndexFor work.now program.now) }
+{
+    let index = Index::of(alloc, work, program)?;
+    Ok(index)
 }

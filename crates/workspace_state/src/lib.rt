@@ -1,7 +1,10 @@
 //! The open documents, the program that they are (R7RS 5), and what is wrong in it: read and expanded anew at each event.
 #![tactic(auto)]
 
+mod answers;
+mod asked;
 mod breaking;
+mod bytes;
 mod classes;
 mod defined;
 mod diagnosing;

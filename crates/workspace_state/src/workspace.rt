@@ -2,6 +2,7 @@
 ghost use Rattle.std.specs.Prelude.{◌≡◌, ◌+◌, ◌<◌, ◌≤◌, ◌==◌, List, length, slice_get, true, IfOk, IfSome, OnOk, OnErr};
 ghost use Rattle.std.specs.Option.{option_map};
 ghost use Rattle.std.specs.FinMap.{empty, entries};
+ghost use Rattle.std.specs.List.Sorted.{IsStrictlySortedBy};
 ghost use Rattle.ls_base.specs.Limits.{max_documents};
 ghost use Rattle.scheme_model.specs.Diagnostics.{bytes_of};
 ghost use Rattle.document_store.specs.Texts as store;
@@ -10,14 +11,21 @@ ghost use Rattle.workspace_state.specs.ProgramOfTexts.{IsProgramOfTexts};
 ghost use Rattle.workspace_state.specs.Readings.{Read, AreReadAs, first_unread, program_in};
 ghost use Rattle.core_tree.specs.Units.{IsProgramOf};
 ghost use Rattle.arrow_index.specs.Formed.{AreFormedIn};
+ghost use Rattle.arrow_index.specs.Index.{pair_cmp};
+ghost use Rattle.workspace_state.specs.AskedOf.{IsSource};
+ghost use Rattle.workspace_state.specs.Indexed.{index_in};
+ghost use Rattle.workspace_state.specs.ToldAnswers.{IsClassAt, answer_of, facts_in, name_there, query_of, standard_for};
 ghost use Rattle.workspace_state.specs.Placed.{IsErrorAt, IsIn, IsPlace, form_bytes};
 ghost use Rattle.workspace_state.specs.Places.{spans_of};
 ghost use Rattle.workspace_state.specs.UnitsFound.{first_error_at};
 ghost use Rattle.workspace_state.specs.Events.{leaves, event_of, fault_of, uri_of};
 ghost use Rattle.workspace_state.specs.Updates.{Publishes};
 
+use crate::answers::answer;
+use crate::asked::Asked;
+use crate::classes::{Class, class_at, standard_at};
 use crate::events::{DocEvent, Updated};
-use crate::expansion::Expansion;
+use crate::expansion::{Expansion, Indexed};
 use crate::findings::Sorted;
 use crate::lists::{Lists, lists, published};
 use crate::open::Open;
@@ -26,7 +34,7 @@ use crate::program::{Reading, read_program};
 use crate::texts::{After, after_event};
 use core_tree::units::Program;
 use document_store::Store;
-use ls_base::{Encoding, Items, Mem, Place, Steps};
+use ls_base::{Answer, Encoding, Items, Mem, Place, Pos, Query, Steps, Text};
 use scheme_model::Occ;
 use std::alloc::Global;
 use std::collections::BTreeMap;
@@ -187,6 +195,72 @@ impl Workspace {
         ensures exact { (rs : List Read) → AreReadAs (entries self.now.texts) rs → IfOk result (IsErrorAt self.now.encoding (entries self.now.texts) (first_error_at rs (program_in rs) (slice_get (program_in rs).units unit))) }
     {
         Ok(self.texts.first_error(unit, self.encoding)?)
+    }
+
+    /// Collects the arrows and links of the program, unless it has them, so that the answers behind come sooner. Nothing that is
+    /// seen changes.
+    pub fn collect(&mut self) -> Mem<()>
+        ensures { self.new ≡ self.old }
+    {
+        self.expansion.collect(self.alloc)
+    }
+
+    /// The index of the program: the one that was collected, or else a new one.
+    fn indexed(&self) -> Mem<Indexed<'_>>
+        ensures sorted { IfOk result (λ indexed. IsStrictlySortedBy pair_cmp (index_in indexed).arrows) }
+        ensures source { (rs : List Read) → AreReadAs (entries self.now.texts) rs → IfOk result (λ indexed. IsSource self.now.texts rs (index_in indexed)) }
+    {
+        let indexed = self.expansion.indexed(self.alloc)?;
+        Ok(indexed)
+    }
+
+    /// What is asked of an index.
+    fn asked<'a>(&'a self, indexed: &'a Indexed<'_>) -> Asked<'a>
+        ensures texts { result.texts.now ≡ self.now.texts }
+        ensures encoding { result.encoding ≡ self.now.encoding }
+        ensures index { result.index.now ≡ index_in indexed.now }
+    {
+        Asked {
+            alloc: self.alloc,
+            texts: &self.texts,
+            index: indexed.index(),
+            encoding: self.encoding,
+        }
+    }
+
+    /// The answer to a query at a position of a document: of one that isn't open, and of a position without an identifier, there is
+    /// nothing in it. Arrows are those with an end in the document, whatever the position.
+    pub fn answer(&self, query: &Query, uri: &str, position: Pos) -> Mem<Answer>
+        ensures { (rs : List Read) → AreReadAs (entries self.now.texts) rs →
+            IfOk result (λ answer. answer ≡ answer_of self.now.encoding (entries self.now.texts) rs uri.now position (query_of query.now)) }
+    {
+        let indexed = self.indexed()?;
+        let asked = self.asked(&indexed);
+        let answer = answer(&asked, *query, uri, position)?;
+        Ok(answer)
+    }
+
+    /// The class of the identifier at a position of a document. `None` exactly where none stands there, or no link joins it.
+    pub fn class_at(&self, uri: &str, position: Pos) -> Mem<Option<Class>>
+        ensures { (rs : List Read) → AreReadAs (entries self.now.texts) rs →
+            IfOk result (IsClassAt (entries self.now.texts) (facts_in rs) (name_there self.now.encoding (entries self.now.texts) rs uri.now position)) }
+    {
+        let indexed = self.indexed()?;
+        let asked = self.asked(&indexed);
+        let class = class_at(&asked, uri, position)?;
+        Ok(class)
+    }
+
+    /// The standard name of the class at a position that is first in byte order. `None` exactly where the class has none, or no
+    /// identifier stands there.
+    pub fn standard_at(&self, uri: &str, position: Pos) -> Mem<Option<Text>>
+        ensures { (rs : List Read) → AreReadAs (entries self.now.texts) rs →
+            IfOk result (λ name. name ≡ standard_for (facts_in rs) (name_there self.now.encoding (entries self.now.texts) rs uri.now position)) }
+    {
+        let indexed = self.indexed()?;
+        let asked = self.asked(&indexed);
+        let name = standard_at(&asked, uri, position)?;
+        Ok(name)
     }
 }
 
