@@ -28,7 +28,7 @@ use Rattle.session_core.specs.Stepped.{IsOutcome}
 use Rattle.session_core.specs.ToWire.{AreReplies, sent_list}
 use Rattle.session_core.proofs.EventLaws.{events_agree}
 
-encoding_of-said_encoding : (e : Encoding) → encoding_of (said_encoding e) ≡ e
+pub encoding_of-said_encoding : (e : Encoding) → encoding_of (said_encoding e) ≡ e
 encoding_of-said_encoding encodings.Utf8 = refl
 encoding_of-said_encoding encodings.Utf16 = refl
 encoding_of-said_encoding encodings.Utf32 = refl
