@@ -1,5 +1,5 @@
 -- A question has one answer.
-use Rattle.std.proofs.Common.{◌≡◌, ℕ, List, [], ◌∷◌, ◌++◌, map, sym, ap, ◌∙◌}
+use Rattle.std.proofs.Common.{◌≡◌, List, [], ◌∷◌, ◌++◌, map, sym, ap, ◌∙◌}
 use Rattle.std.specs.FinMap.{entries}
 use Rattle.ls_base.specs.declared.answers.Answer.{Answer}
 use Rattle.scheme_model.specs.Session as session

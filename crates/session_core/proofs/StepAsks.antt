@@ -5,7 +5,6 @@ use Rattle.lsp_messages.specs.declared.message.Call.{Call}
 use Rattle.lsp_messages.specs.declared.message.Call.TheVariants as calls
 use Rattle.lsp_messages.specs.declared.message.Message.{Message}
 use Rattle.lsp_messages.specs.declared.message.Message.TheVariants as messages
-use Rattle.lsp_messages.specs.declared.message.Note.{Note}
 use Rattle.lsp_messages.specs.declared.message.Reject.{Reject}
 use Rattle.lsp_messages.specs.declared.message.Reject.TheVariants as rejects
 use Rattle.scheme_model.specs.Session as session
