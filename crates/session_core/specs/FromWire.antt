@@ -43,6 +43,7 @@ encoding_of texts.Utf8 = encodings.Utf8
 encoding_of texts.Utf16 = encodings.Utf16
 encoding_of texts.Utf32 = encodings.Utf32
 
+-- a position, as the code has it
 abbrev pub pos_of : texts.Position → Pos
 pos_of p = record { line = p.line; character = p.character }
 
