@@ -1,7 +1,7 @@
 -- A text alone, opened where no document was open.
-use Rattle.std.proofs.Common.{◌≡◌, ◌≢◌, ◌≤◌, ◌⊎◌, inl, inr, ℕ, pos, zero, suc, List, [], ◌∷◌, ◌++◌, length, map, append-nil, Bool, true, false, cond, ◌||◌, nat_lt, Option, Some, None, is_some, is_eq, true≢false, Less, refl, sym, ap, ◌∙◌, subst, arith, nat_cmp}
+use Rattle.std.proofs.Common.{◌≡◌, ◌≢◌, ◌≤◌, inl, inr, ℕ, pos, List, [], ◌∷◌, length, map, append-nil, Bool, true, false, cond, ◌||◌, nat_lt, Option, Some, None, is_some, is_eq, true≢false, Less, refl, sym, ap, ◌∙◌, subst, arith, nat_cmp}
 use Rattle.std.specs.Cmp.Lexicographic.{slice_cmp, nat_list_cmp_total}
-use Rattle.std.specs.FinMap.{empty, entries, find, get, insert, len, put, entries-insert, get-entries, len-empty, len-entries}
+use Rattle.std.specs.FinMap.{empty, entries, find, insert, len, put, entries-insert, get-entries, len-empty, len-entries}
 use Rattle.std.specs.List.{slice_get}
 use Rattle.std.specs.List.Sorted.{IsStrictlySortedBy}
 use Rattle.std.specs.Option.{option_map}
@@ -24,7 +24,7 @@ use Rattle.workspace_state.specs.Listings.{or_none}
 use Rattle.workspace_state.specs.Readings.{Read, Reads, Stops, AreReadAs, IsReadAs, first_unread}
 use Rattle.workspace_state.specs.State as workspace
 use Rattle.workspace_state.specs.ToldAnswers.{answer_of}
-use Rattle.workspace_state.specs.Updates.{AreListsOfTexts, ArePublished, IsNews, IsNewsOf, IsPublished, Lists, Publishes, listed_in}
+use Rattle.workspace_state.specs.Updates.{AreListsOfTexts, ArePublished, IsNewsOf, IsPublished, Lists, Publishes, listed_in}
 use Rattle.workspace_state.specs.declared.events.Published.{Published}
 use Rattle.workspace_state.proofs.PublishedMaps.{is_tied, ties_are}
 use Rattle.workspace_state.proofs.TextLists.{one_row, some_row}
