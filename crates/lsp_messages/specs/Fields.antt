@@ -1,7 +1,7 @@
 -- The fields of an object, and what each may hold (LSP 3.17, "Base types" and "Basic JSON Structures").
-use Rattle.std.specs.Prelude.{◌≡◌, ℕ, ℤ, List, Option, Some, None, Result, Ok, Err, option_map, option_and_then, nat_le, if◌then◌else◌, codes}
+use Rattle.std.specs.Prelude.{◌≡◌, ℕ, ℤ, List, Bool, Option, Some, None, Result, Ok, Err, option_map, option_and_then, nat_le, if◌then◌else◌, codes}
 use Rattle.serde_json.specs.Data.{Data, null, boolean, number, string, array, object, Items}
-use Rattle.serde_json.specs.Find.{get, as_number, as_str, as_array, as_i64, as_u64}
+use Rattle.serde_json.specs.Find.{get, as_bool, as_number, as_str, as_array, as_i64, as_u64}
 use Rattle.ls_base.specs.declared.places.Pos.{Pos}
 use Rattle.ls_base.specs.declared.places.Range.{Range}
 use Rattle.lsp_messages.specs.declared.fault.Fault.{Fault}
@@ -37,6 +37,10 @@ field_at key d = needed_value (get key d)
 -- a string
 abbrev pub text_at : List ℕ → Data → Result (List ℕ) Fault
 text_at key d = field_at key d >>= λ value. needed_value (as_str value)
+
+-- a boolean
+abbrev pub boolean_at : List ℕ → Data → Result Bool Fault
+boolean_at key d = field_at key d >>= λ value. needed_value (as_bool value)
 
 -- a list
 abbrev pub list_at : List ℕ → Data → Result Items Fault

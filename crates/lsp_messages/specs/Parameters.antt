@@ -1,19 +1,22 @@
--- The methods, and what the parameters of each say (LSP 3.17, "Lifecycle Messages", "Text Document Synchronization").
+-- The methods, and what the parameters of each say (LSP 3.17, "Lifecycle Messages", "Text Document Synchronization", "Language
+-- Features").
 use Rattle.std.specs.Prelude.{ℕ, List, [], ◌∷◌, Bool, false, Option, Some, None, Result, Ok, Err, option_and_then, unwrap_or, if◌then◌else◌, codes}
 use Rattle.std.specs.Str.{bytes_eq}
 use Rattle.serde_json.specs.Data.{Data, Items, no_items, item}
 use Rattle.serde_json.specs.Find.{get, as_bool}
 use Rattle.ls_base.specs.declared.answers.Change.{Change}
-use Rattle.ls_base.specs.declared.answers.Query.TheVariants.{Arrows}
+use Rattle.ls_base.specs.declared.answers.Query.{Query}
+use Rattle.ls_base.specs.declared.answers.Query.TheVariants.{Definition, References, Highlights, Prepare, Arrows}
 use Rattle.ls_base.specs.declared.places.Range.{Range}
 use Rattle.lsp_messages.specs.declared.fault.Fault.{Fault}
 use Rattle.lsp_messages.specs.declared.fault.Fault.TheVariants.{Unknown}
+use Rattle.lsp_messages.specs.declared.message.At.{At}
 use Rattle.lsp_messages.specs.declared.message.Call.{Call}
 use Rattle.lsp_messages.specs.declared.message.Call.TheVariants.{Initialize, Shutdown, Ask}
 use Rattle.lsp_messages.specs.declared.message.Note.{Note}
 use Rattle.lsp_messages.specs.declared.message.Note.TheVariants.{Exit, Opened, Changed, Closed}
 use Rattle.lsp_messages.specs.Encodings.{agreed_encoding}
-use Rattle.lsp_messages.specs.Fields.{◌>>=◌, field_at, text_at, list_at, integer_at, range_of}
+use Rattle.lsp_messages.specs.Fields.{◌>>=◌, field_at, text_at, boolean_at, list_at, integer_at, position_at, range_of}
 
 -- the document that a message's parameters name (TextDocumentIdentifier, TextDocumentItem)
 abbrev pub document_in : Data → Result Data Fault
@@ -40,11 +43,43 @@ arrows_asked message = do
   uri ← text_at (codes "uri") document
   Ok (Ask (record { uri = uri; pos = record { line = 0; character = 0 } }) Arrows)
 
+-- a position in a document (TextDocumentPositionParams)
+abbrev pub place_in : Data → Result At Fault
+place_in message = do
+  params ← field_at (codes "params") message
+  document ← field_at (codes "textDocument") params
+  uri ← text_at (codes "uri") document
+  pos ← position_at (codes "position") params
+  Ok (record { uri = uri; pos = pos })
+
+-- a question about a position
+abbrev pub asked_there : Query → Data → Result Call Fault
+asked_there query message = do
+  at ← place_in message
+  Ok (Ask at query)
+
+-- whether declarations count among references (ReferenceContext)
+abbrev pub asks_declaration : Data → Result Bool Fault
+asks_declaration message = do
+  params ← field_at (codes "params") message
+  context ← field_at (codes "context") params
+  boolean_at (codes "includeDeclaration") context
+
+-- the references of what stands at a position (ReferenceParams)
+abbrev pub references_asked : Data → Result Call Fault
+references_asked message = do
+  declaration ← asks_declaration message
+  asked_there (References declaration) message
+
 -- what a request asks, by its method
 abbrev pub call_of : List ℕ → Data → Result Call Fault
 call_of method message =
     if bytes_eq method (codes "initialize") then Ok (Initialize (states_prepare message) (agreed_encoding message))
     else if bytes_eq method (codes "shutdown") then Ok Shutdown
+    else if bytes_eq method (codes "textDocument/definition") then asked_there Definition message
+    else if bytes_eq method (codes "textDocument/references") then references_asked message
+    else if bytes_eq method (codes "textDocument/documentHighlight") then asked_there Highlights message
+    else if bytes_eq method (codes "textDocument/prepareRename") then asked_there Prepare message
     else if bytes_eq method (codes "scheme/arrows") then arrows_asked message
     else Err Unknown
 

@@ -27,6 +27,13 @@ pub(crate) fn text<'v>(value: &'v Value, key: &str) -> Result<&'v str, ReadError
     Ok(field(value, key)?.as_str().ok_or(Fault::Bad)?)
 }
 
+/// A field that is a boolean.
+pub(crate) fn boolean(value: &Value, key: &str) -> Result<bool, ReadError>
+    ensures { Gives (λ b. b) result (spec.boolean_at key.now (view value.now)) }
+{
+    Ok(field(value, key)?.as_bool().ok_or(Fault::Bad)?)
+}
+
 /// A field that is a list.
 pub(crate) fn list<'v>(value: &'v Value, key: &str) -> Result<&'v [Value], ReadError>
     ensures { Gives (λ v. items_view v.now) result (spec.list_at key.now (view value.now)) }

@@ -1,5 +1,5 @@
 //! The methods, and readers of the parameters of each (LSP 3.17, "Lifecycle Messages", "Text Document
-//! Synchronization").
+//! Synchronization", "Language Features").
 ghost use Rattle.std.specs.Prelude.{◌≡◌, option_map};
 ghost use Rattle.serde_json.specs.View.{view, items_view};
 ghost use Rattle.lsp_messages.specs.Fields.{Gives};
@@ -7,7 +7,7 @@ ghost use Rattle.lsp_messages.specs.Parameters as spec;
 
 use crate::encodings::agreed_encoding;
 use crate::fault::{Fault, ReadError};
-use crate::fields::{field, integer, list, range, text};
+use crate::fields::{boolean, field, integer, list, position, range, text};
 use crate::{At, Call, Note};
 use ls_base::{Change, Items, Pos, Query, Range, Text};
 use serde_json::Value;
@@ -23,6 +23,10 @@ pub(crate) fn call(alloc: Global, method: &str, message: &Value) -> Result<Call,
             encoding: agreed_encoding(message),
         }),
         "shutdown" => Ok(Call::Shutdown),
+        "textDocument/definition" => Ok(asked(alloc, message, Query::Definition)?),
+        "textDocument/references" => Ok(references(alloc, message)?),
+        "textDocument/documentHighlight" => Ok(asked(alloc, message, Query::Highlights)?),
+        "textDocument/prepareRename" => Ok(asked(alloc, message, Query::Prepare)?),
         "scheme/arrows" => Ok(arrows(alloc, message)?),
         _ => Err(ReadError::Fault(Fault::Unknown)),
     }
@@ -55,6 +59,42 @@ fn prepare(message: &Value) -> Option<bool>
     let capabilities = message.get("params")?.get("capabilities")?;
     let rename = capabilities.get("textDocument")?.get("rename")?;
     rename.get("prepareSupport")?.as_bool()
+}
+
+/// A position in a document.
+fn place(alloc: Global, message: &Value) -> Result<At, ReadError>
+    ensures { Gives (λ p. p) result (spec.place_in (view message.now)) }
+{
+    let params = field(message, "params")?;
+    let document = field(params, "textDocument")?;
+    let uri = Text::of(alloc, text(document, "uri")?)?;
+    let pos = position(params, "position")?;
+    Ok(At { uri, pos })
+}
+
+/// A question about a position.
+fn asked(alloc: Global, message: &Value, query: Query) -> Result<Call, ReadError>
+    ensures { Gives (λ c. c) result (spec.asked_there query (view message.now)) }
+{
+    let at = place(alloc, message)?;
+    Ok(Call::Ask { at, query })
+}
+
+/// Whether declarations count among references.
+fn declaration(message: &Value) -> Result<bool, ReadError>
+    ensures { Gives (λ b. b) result (spec.asks_declaration (view message.now)) }
+{
+    let params = field(message, "params")?;
+    let context = field(params, "context")?;
+    Ok(boolean(context, "includeDeclaration")?)
+}
+
+/// The references of what stands at a position.
+fn references(alloc: Global, message: &Value) -> Result<Call, ReadError>
+    ensures { Gives (λ c. c) result (spec.references_asked (view message.now)) }
+{
+    let declaration = declaration(message)?;
+    Ok(asked(alloc, message, Query::References { declaration })?)
 }
 
 /// The arrows of a document.

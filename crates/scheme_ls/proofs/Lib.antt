@@ -13,3 +13,4 @@ pub mod QuietLaws  -- No step is worked over quiet bytes
 pub mod WordLists  -- Lists of one or two words, and whether they are a command
 pub mod SomeOutput  -- No stream of bytes is without an output
 pub mod OneCommand  -- Words ask for one command
+pub mod AloneLaws  -- A text alone, opened where no document was open

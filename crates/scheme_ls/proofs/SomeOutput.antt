@@ -7,7 +7,6 @@ use Rattle.lsp_messages.specs.Messages.{message_of}
 use Rattle.scheme_model.specs.Session as session
 use Rattle.scheme_model.specs.Session.{Ending, Run, State, Stepped, begin, followed}
 use Rattle.session_core.specs.Asked.{Question}
-use Rattle.session_core.proofs.BodiesSay.{says}
 use Rattle.session_core.proofs.SomeAnswer.{AsksThat, some_replies}
 use Rattle.session_core.proofs.StepAsks.{step_asks}
 use Rattle.scheme_ls.specs.SessionOutput.{IsOutputOf, Output, session_from, session_over}
@@ -24,7 +23,7 @@ followed_asks None s more first later = all_both s.replies (more s.state).replie
 session_asks : (bodies : List (List ℕ)) (state : State) → AllByRecursion AsksThat (session_from state bodies).replies
 session_asks [] state = tt
 session_asks (body ∷ bodies) state =
-    followed_asks (one_step state body).end (one_step state body) (λ next. session_from next bodies) (step_asks state (message_of body) (says body)) (session_asks bodies)
+    followed_asks (one_step state body).end (one_step state body) (λ next. session_from next bodies) (step_asks state (message_of body)) (session_asks bodies)
 
 pub some_output : (bytes : List ℕ) → ¬ ¬ ((output : Output) × IsOutputOf bytes output)
 some_output bytes none =

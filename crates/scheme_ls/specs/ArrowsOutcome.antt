@@ -7,7 +7,7 @@ use Rattle.scheme_ls.specs.Streams.{Streams}
 use Rattle.scheme_ls.specs.declared.arrows.ArrowsEnd.{ArrowsEnd}
 use Rattle.scheme_ls.specs.declared.arrows.ArrowsEnd.TheVariants as arrows
 use Rattle.scheme_ls.specs.declared.arrows.TextEnd.{TextEnd}
-use Rattle.scheme_ls.specs.declared.arrows.TextEnd.TheVariants.{Printed, NotSmall, WriteFailed, NoMemory}
+use Rattle.scheme_ls.specs.declared.arrows.TextEnd.TheVariants.{Printed, Refused, WriteFailed, NoMemory}
 
 -- such an output was printed
 pub record PrintsSuch (IsOutput : List ℕ → Type 0) (old new : SinkSeen) : Type 0 where
@@ -24,7 +24,7 @@ pub record PrintsFrontOfSuch (IsOutput : List ℕ → Type 0) (old new : SinkSee
 -- how the answer to a text ends
 abbrev pub TextEndsAs : TextEnd → List ℕ → SinkSeen → SinkSeen → Type 0
 TextEndsAs Printed text old new = PrintsSuch (AreLines text) old new
-TextEndsAs NotSmall text old new = PrintsSuch (IsRefusal text) old new
+TextEndsAs Refused text old new = PrintsSuch (IsRefusal text) old new
 TextEndsAs WriteFailed text old new = PrintsFrontOfSuch (λ output. AreLines text output ⊎ IsRefusal text output) old new
 TextEndsAs NoMemory text old new = new ≡ old
 
@@ -33,6 +33,13 @@ pub record AnswersText (end : TextEnd) (old new : Streams) : Type 0 where
   pub text : List ℕ
   pub reads : ReadsText old.source new.source text
   pub ends : TextEndsAs end text old.sink new.sink
+
+-- no text was read whole, so none was opened
+abbrev pub OpensNone : ArrowsEnd → Type 0
+OpensNone (arrows.Answered end) = ⊥
+OpensNone arrows.TooLong = Unit {0}
+OpensNone arrows.ReadFailed = Unit {0}
+OpensNone arrows.NoMemory = Unit {0}
 
 -- how the command `arrows` ends
 abbrev pub ArrowsEndsAs : Streams → Streams → ArrowsEnd → Type 0

@@ -3,6 +3,7 @@ pub mod Statuses  -- The statuses of a run, and which one each end of a command 
 pub mod Arguments  -- The commands that words ask for
 pub mod Reading  -- What was read of a source
 pub mod Printed  -- The bytes that are printed
+pub mod Alone  -- A text alone in a workspace, as the document `input`, and what is told of it
 pub mod Prints  -- What was printed to a sink
 pub mod Streams  -- What the source and the sink show at a moment
 pub mod ReplyFrames  -- The bytes that replies are written as (LSP 3.17, base protocol)

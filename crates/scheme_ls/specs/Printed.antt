@@ -1,16 +1,25 @@
 -- The bytes that are printed.
-use Rattle.std.specs.Prelude.{◌≡◌, ℕ, List, [], ◌∷◌, ◌++◌, codes}
+use Rattle.std.specs.Prelude.{◌≡◌, ◌⊎◌, ℕ, pos, List, [], ◌∷◌, ◌++◌, map, codes}
 use Rattle.std.specs.Fmt.{decimal}
+use Rattle.std.specs.Str.{IsUtf8}
 use Rattle.ls_base.specs.declared.answers.Arrow.{Arrow}
+use Rattle.ls_base.specs.declared.answers.Diagnostic.{Diagnostic}
 use Rattle.ls_base.specs.declared.encoding.Encoding.TheVariants.{Utf16}
 use Rattle.ls_base.specs.declared.places.Pos.{Pos}
-use Rattle.syntax_tree.specs.Small.{IsSmall}
-use Rattle.syntax_tree.specs.Walked.{HasArrows}
-use Rattle.scheme_ls.specs.Wording.{not_built_text}
+use Rattle.scheme_model.specs.Data.{Datum}
+use Rattle.scheme_model.specs.Diagnostics.{Span}
+use Rattle.scheme_model.specs.Faults as faults
+use Rattle.document_store.specs.Texts.{Document}
+use Rattle.scheme_model.specs.Answers.{drawn_in}
+use Rattle.workspace_state.specs.Listed.{of_stop, told_in}
+use Rattle.workspace_state.specs.Readings.{Read, Reads, Stops, IsReadAs}
+use Rattle.workspace_state.specs.ToldAnswers.{arrow_told, facts_in}
+use Rattle.workspace_state.specs.declared.events.Published.{Published}
+use Rattle.scheme_ls.specs.Wording.{not_utf8_text}
 
 -- `LINE:COLUMN`
 abbrev pub place_text : Pos → List ℕ
-place_text pos = decimal pos.line ++ (codes ":" ++ decimal pos.character)
+place_text at = decimal at.line ++ (codes ":" ++ decimal at.character)
 
 -- the starts of binder and use, and the use's token
 abbrev pub line_of : Arrow → List ℕ
@@ -21,14 +30,52 @@ abbrev pub lines_of : List Arrow → List ℕ
 lines_of [] = []
 lines_of (arrow ∷ arrows) = line_of arrow ++ lines_of arrows
 
--- the text is small, and these are the lines of its arrows, with columns in UTF-16
-pub record AreLines (text output : List ℕ) : Type 0 where
-  pub small : IsSmall text
-  pub arrows : List Arrow
-  pub has : HasArrows Utf16 text arrows
-  pub lines : output ≡ lines_of arrows
+-- an Error of a document: where it starts, its code and its text
+abbrev pub error_line : List ℕ → Diagnostic → List ℕ
+error_line name d =
+    name ++ (codes ":" ++ place_text d.range.start) ++ (codes ": error " ++ decimal d.code) ++ (codes " " ++ d.message) ++ codes "\n"
 
--- the text isn't small, and this is the line for such texts
-pub record IsRefusal (text output : List ℕ) : Type 0 where
-  pub not_small : ¬ IsSmall text
-  pub line : output ≡ not_built_text
+abbrev pub error_lines : List ℕ → List Diagnostic → List ℕ
+error_lines name [] = []
+error_lines name (d ∷ ds) = error_line name d ++ error_lines name ds
+
+abbrev pub published_lines : List Published → List ℕ
+published_lines [] = []
+published_lines (p ∷ ps) = error_lines p.uri p.list ++ published_lines ps
+
+-- ---- a text alone
+
+-- as the document `input`
+abbrev pub input_name : List ℕ
+input_name = codes "input"
+
+abbrev pub alone : List ℕ → List (List ℕ × Document)
+alone text = (input_name, (pos 0, text)) ∷ []
+
+-- its arrows, where it is read so, with columns in UTF-16
+abbrev pub arrows_alone : List ℕ → Read → List Arrow
+arrows_alone text r = map (arrow_told Utf16 (alone text)) (drawn_in (facts_in (r ∷ [])) 0)
+
+-- the text reads, and these are the lines of its arrows
+pub record AreLines (text output : List ℕ) : Type 0 where
+  pub utf8 : IsUtf8 text
+  pub items : List Datum
+  pub spans : List Span
+  pub reads : IsReadAs text (Reads items spans)
+  pub lines : output ≡ lines_of (arrows_alone text (Reads items spans))
+
+-- its reading stops, and this is the line that says where and why
+pub record IsStopLine (text output : List ℕ) : Type 0 where
+  pub utf8 : IsUtf8 text
+  pub stop : faults.Stop
+  pub stops : IsReadAs text (Stops stop)
+  pub line : output ≡ error_line input_name (told_in Utf16 text (of_stop 0 stop))
+
+-- it isn't UTF-8, and this is the line for such texts
+pub record IsBadLine (text output : List ℕ) : Type 0 where
+  pub bad : ¬ IsUtf8 text
+  pub line : output ≡ not_utf8_text
+
+-- this is the line for a text that doesn't read
+abbrev pub IsRefusal : (text output : List ℕ) → Type 0
+IsRefusal text output = IsBadLine text output ⊎ IsStopLine text output

@@ -1,7 +1,7 @@
 -- How a run ends, by the command that its words ask for.
 use Rattle.std.specs.Prelude.{◌≡◌, ◌⊎◌, ℕ, List}
 use Rattle.std.specs.declared.option.Option.{Option}
-use Rattle.scheme_ls.specs.ArrowsOutcome.{ArrowsEndsAs}
+use Rattle.scheme_ls.specs.ArrowsOutcome.{ArrowsEndsAs, OpensNone}
 use Rattle.scheme_ls.specs.Prints.{Prints, PrintsFront, SinkSeen}
 use Rattle.scheme_ls.specs.Reading.{SourceSeen}
 use Rattle.scheme_ls.specs.ServeOutcome.{Serves}
@@ -43,10 +43,12 @@ pub record AsksNothing (old new : Seen) : Type 0 where
   pub files : AsksNoFile old new
   pub steps : new.steps ≡ old.steps
 
--- `arrows` ended with a status
-pub record ArrowsDone (old new : Streams) (status : Status) : Type 0 where
+-- `arrows` ended with a status, and works macro uses only where it opens a text
+pub record ArrowsDone (old new : Seen) (status : Status) : Type 0 where
   pub end : ArrowsEnd
-  pub ends : ArrowsEndsAs old new end
+  pub ends : ArrowsEndsAs old.streams new.streams end
+  pub files : AsksNoFile old new
+  pub unworked : OpensNone end → new.steps ≡ old.steps
   pub status_is : status ≡ arrows_status end
 
 -- `serve` ended with a status
@@ -67,7 +69,7 @@ pub record UsageDone (old new : Streams) (status : Status) : Type 0 where
 
 -- how a command ends
 abbrev pub CommandEndsAs : Command → Seen → Seen → Status → Type 0
-CommandEndsAs Arrows old new status = ArrowsDone old.streams new.streams status × AsksNothing old new
+CommandEndsAs Arrows old new status = ArrowsDone old new status
 CommandEndsAs Serve old new status = ServeDone old new status
 CommandEndsAs Unknown old new status = UsageDone old.streams new.streams status × AsksNothing old new
 

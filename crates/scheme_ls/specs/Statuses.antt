@@ -47,7 +47,7 @@ session_status serve.Endless = Endless
 -- the status of `arrows`, by how the answer to its text ends
 abbrev pub text_status : TextEnd → Status
 text_status text.Printed = Done
-text_status text.NotSmall = Refused
+text_status text.Refused = Refused
 text_status text.WriteFailed = SinkFault
 text_status text.NoMemory = NoMemory
 

@@ -1,29 +1,30 @@
 //! The command `arrows`: reads a text and prints its arrows.
-ghost use Rattle.std.specs.Prelude.{◌≡◌, List, ℕ, IfOk, IsErrOf};
-ghost use Rattle.std.specs.String.{string_bytes};
-ghost use Rattle.syntax_tree.specs.Small.{IsSmall};
-ghost use Rattle.scheme_ls.specs.ArrowsOutcome.{ArrowsEndsAs, TextEndsAs};
-ghost use Rattle.scheme_ls.specs.Printed.{AreLines};
+ghost use Rattle.std.specs.Prelude.{◌≡◌, ◌≤◌, List, ℕ, length};
+ghost use Rattle.ls_base.specs.Limits.{max_text};
+ghost use Rattle.scheme_ls.specs.ArrowsOutcome.{ArrowsEndsAs, OpensNone, TextEndsAs};
+ghost use Rattle.scheme_ls.specs.Printed.{AreLines, IsRefusal};
 ghost use Rattle.scheme_ls.specs.Prints.{sink_seen};
 ghost use Rattle.scheme_ls.specs.Reading.{source_seen};
 ghost use Rattle.scheme_ls.specs.Statuses.{arrows_status, text_status};
 ghost use Rattle.scheme_ls.specs.Streams.{streams};
 
-use crate::printing::{SinkFailed, lines, print_all};
+use crate::alone::{Told, answer_to};
+use crate::printing::{SinkFailed, print_all};
 use crate::reading::{ReadStop, read_all};
 use crate::status::Status;
-use crate::wording::NOT_BUILT;
+use crate::wording::NOT_UTF8;
+use ls_base::{Memory, Steps};
 use ls_outside::{Sink, Source};
 use std::alloc::Global;
-use syntax_tree::small::{SmallFault, small_arrows};
+use std::sync::ledger::Ledger;
 
 /// How the answer to a text ends.
 #[derive(Clone, Copy, Debug, PartialEq, Eq)]
 pub enum TextEnd {
     /// Its arrows were printed.
     Printed,
-    /// It isn't small, which was printed.
-    NotSmall,
+    /// It doesn't read, which was printed.
+    Refused,
     /// A write failed.
     WriteFailed,
     /// Memory ran out.
@@ -37,7 +38,7 @@ impl TextEnd {
     {
         match self {
             TextEnd::Printed => Status::Done,
-            TextEnd::NotSmall => Status::Refused,
+            TextEnd::Refused => Status::Refused,
             TextEnd::WriteFailed => Status::SinkFault,
             TextEnd::NoMemory => Status::NoMemory,
         }
@@ -72,45 +73,47 @@ impl ArrowsEnd {
 }
 
 /// Reads a text and prints its arrows.
-pub fn arrows<I: Source, O: Sink>(alloc: Global, input: &mut I, output: &mut O) -> ArrowsEnd
-    ensures { ArrowsEndsAs
+pub fn arrows<I: Source, O: Sink, L: Ledger>(
+    alloc: Global,
+    input: &mut I,
+    output: &mut O,
+    steps: &mut Steps<L>,
+) -> ArrowsEnd
+    ensures ends { ArrowsEndsAs
         (streams (source_seen (I.left input.old) (I.faults input.old) (I.reads input.old))
         (sink_seen (O.taken output.old) (O.faults output.old) (O.writes output.old)))
         (streams (source_seen (I.left input.new) (I.faults input.new) (I.reads input.new))
         (sink_seen (O.taken output.new) (O.faults output.new) (O.writes output.new))) result }
+    ensures steps { OpensNone result → steps.new ≡ steps.old }
 {
     match read_all(alloc, input) {
-        Ok(text) => ArrowsEnd::Answered(print_arrows(alloc, &text, output)),
+        Ok(text) => ArrowsEnd::Answered(print_text(alloc, &text, output, steps)),
         Err(ReadStop::Long) => ArrowsEnd::TooLong,
         Err(ReadStop::Failed) => ArrowsEnd::ReadFailed,
         Err(ReadStop::Memory) => ArrowsEnd::NoMemory,
     }
 }
 
-/// Prints the arrows of a text, or the line for a text that isn't small.
-fn print_arrows<O: Sink>(alloc: Global, text: &[u8], output: &mut O) -> TextEnd
+/// Prints the arrows of a text, or the line for one that doesn't read.
+fn print_text<O: Sink, L: Ledger>(
+    alloc: Global,
+    text: &[u8],
+    output: &mut O,
+    steps: &mut Steps<L>,
+) -> TextEnd
+    requires { length text.now ≤ max_text }
     ensures { TextEndsAs result text.now
         (sink_seen (O.taken output.old) (O.faults output.old) (O.writes output.old))
         (sink_seen (O.taken output.new) (O.faults output.new) (O.writes output.new)) }
 {
     let Ok(text) = str::from_utf8(text) else {
-        return print_refusal(output);
+        return print_refusal(NOT_UTF8, output);
     };
-    match arrow_lines(alloc, text) {
-        Ok(lines) => print_lines(lines.as_str(), output),
-        Err(SmallFault::NotSmall) => print_refusal(output),
-        Err(SmallFault::Memory) => TextEnd::NoMemory,
+    match answer_to(alloc, text, steps) {
+        Ok(Told::Arrows(lines)) => print_lines(lines.as_str(), output),
+        Ok(Told::Stop(line)) => print_refusal(line.as_str(), output),
+        Err(Memory) => TextEnd::NoMemory,
     }
-}
-
-/// The lines of the arrows of a text.
-fn arrow_lines(alloc: Global, text: &str) -> Result<String, SmallFault>
-    ensures lines { IfOk result (λ lines. AreLines text.now (string_bytes lines)) }
-    ensures not_small { IsErrOf result SmallFault.NotSmall → ¬ IsSmall text.now }
-{
-    let arrows = small_arrows(alloc, text)?;
-    let lines = lines(alloc, arrows.as_slice())?;
-    Ok(lines)
 }
 
 /// Prints the lines of the arrows of a text.
@@ -125,14 +128,14 @@ fn print_lines<O: Sink>(lines: &str, output: &mut O) -> TextEnd
     }
 }
 
-/// Prints the line for a text that isn't small.
-fn print_refusal<O: Sink>(output: &mut O) -> TextEnd
-    ensures { (text : List ℕ) → ¬ IsSmall text → TextEndsAs result text
+/// Prints the line for a text that doesn't read.
+fn print_refusal<O: Sink>(line: &str, output: &mut O) -> TextEnd
+    ensures { (text : List ℕ) → IsRefusal text line.now → TextEndsAs result text
         (sink_seen (O.taken output.old) (O.faults output.old) (O.writes output.old))
         (sink_seen (O.taken output.new) (O.faults output.new) (O.writes output.new)) }
 {
-    match print_all(output, NOT_BUILT.as_bytes()) {
-        Ok(()) => TextEnd::NotSmall,
+    match print_all(output, line.as_bytes()) {
+        Ok(()) => TextEnd::Refused,
         Err(SinkFailed) => TextEnd::WriteFailed,
     }
 }

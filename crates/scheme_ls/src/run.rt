@@ -34,7 +34,7 @@ pub fn run<I: Source, O: Sink, F: Files, L: Ledger>(
         (files_seen (F.held files.new) (F.asked files.new) (F.faults files.new)) steps.new) result }
 {
     let status = match command_of(words) {
-        Command::Arrows => arrows(alloc, input, output).status(),
+        Command::Arrows => arrows(alloc, input, output, steps).status(),
         Command::Serve => serve(alloc, input, output, steps).status(),
         Command::Unknown => print_usage(output),
     };

@@ -12,7 +12,10 @@ use std::marker::Brand;
 use std::sync::ledger::Blank;
 use std::test::Fail;
 
-const REFUSAL: &str = "input:0:0: error 99 form not built\n";
+/// What is printed of a text whose list at its begin is open.
+const OPEN_LIST: &str = "input:0:0: error 5 open list\n";
+
+const NOT_UTF8: &str = "input:0:0: error 13 not UTF-8\n";
 
 const USAGE: &str = "usage: scheme_ls serve
        scheme_ls replay FILE
@@ -88,7 +91,11 @@ fn arrows_of_texts(rt: HostRuntime) -> Result<(), Fail> {
         ),
         ("(define x '(x y)) (f x)", 0, "0:8 0:21 x\n"),
         ("(g 1)\n(define (g n) n)", 0, "1:9 0:1 g\n1:11 1:14 n\n"),
-        ("(if a b c)", 1, REFUSAL),
+        ("(if a b c)", 0, ""),
+        ("(let ((x 1)) x)", 0, "0:7 0:13 x\n"),
+        ("\"😀\" (define x 1) x", 0, "0:13 0:18 x\n"),
+        ("(if a", 1, OPEN_LIST),
+        ("(f)\n (g", 1, "input:1:1: error 5 open list\n"),
     ] {
         for piece in [u16::MAX, 1] {
             for step in [1_000, 1] {
@@ -102,6 +109,21 @@ fn arrows_of_texts(rt: HostRuntime) -> Result<(), Fail> {
                 assert_eq!(rt; out.as_slice(), printed.as_bytes(), "at {text}");
             }
         }
+    }
+    Ok(())
+}
+
+/// Bytes that aren't UTF-8, at the begin, in the middle and at the end.
+#[test]
+fn bytes_that_are_not_utf8_end_with_1(rt: HostRuntime) -> Result<(), Fail> {
+    for bytes in [[255, 40, 41], [40, 255, 41], [40, 41, 195]] {
+        let run = Run {
+            text: &bytes,
+            ..plain("arrows", "")
+        };
+        let (ended, out) = outcome(rt.alloc(), run)?;
+        assert_eq!(rt; ended, 1);
+        assert_eq!(rt; out.as_slice(), NOT_UTF8.as_bytes());
     }
     Ok(())
 }
@@ -128,7 +150,7 @@ fn other_words_print_the_usage(rt: HostRuntime) -> Result<(), Fail> {
 
 #[test]
 fn a_failing_read_ends_with_3(rt: HostRuntime) -> Result<(), Fail> {
-    for (failing_read, status, printed) in [(1, 3, ""), (6, 3, ""), (7, 1, REFUSAL)] {
+    for (failing_read, status, printed) in [(1, 3, ""), (6, 3, ""), (7, 1, OPEN_LIST)] {
         let run = Run {
             piece: 1,
             failing_read,
@@ -156,7 +178,7 @@ fn a_failing_write_ends_with_5_after_a_front(rt: HostRuntime) -> Result<(), Fail
         let run = Run {
             step: 1,
             failing_write,
-            ..plain(words, "(if a b c)")
+            ..plain(words, "(if a")
         };
         let (ended, out) = outcome(rt.alloc(), run)?;
         assert_eq!(rt; ended, 5, "at write {failing_write}");
@@ -171,7 +193,7 @@ fn a_failing_write_ends_with_5_after_a_front(rt: HostRuntime) -> Result<(), Fail
 
 #[test]
 fn a_text_past_the_limit_ends_with_7(rt: HostRuntime) -> Result<(), Fail> {
-    for (length, status, printed) in [(1_048_576, 1, REFUSAL), (1_048_577, 7, "")] {
+    for (length, status, printed) in [(1_048_576, 0, ""), (1_048_577, 7, "")] {
         let bytes = vec![in rt.alloc(); b' '; length]?;
         let text = str::from_utf8(&bytes)?;
         let (ended, out) = outcome(rt.alloc(), plain("arrows", text))?;
@@ -216,6 +238,6 @@ fn sure_status(alloc: Global) -> Result<u8, Fail> {
 
 #[test]
 fn an_outside_that_never_fails(rt: HostRuntime) -> Result<(), Fail> {
-    assert_eq!(rt; sure_status(rt.alloc())?, 1);
+    assert_eq!(rt; sure_status(rt.alloc())?, 0);
     Ok(())
 }

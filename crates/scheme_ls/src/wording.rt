@@ -14,8 +14,8 @@ pub const USAGE: &str = "usage: scheme_ls serve
        scheme_ls selfrun N
 ";
 
-/// What `arrows` prints for a text that isn't small.
-pub const NOT_BUILT: &str = "input:0:0: error 99 form not built\n";
+/// What `arrows` prints for a text that isn't UTF-8.
+pub const NOT_UTF8: &str = "input:0:0: error 13 not UTF-8\n";
 
 /// The log of a fault of frames, by its number, at an offset of the stream.
 pub fn fault_text(alloc: Global, number: u8, offset: u64) -> Result<String, AllocError>

@@ -1,5 +1,5 @@
 -- Before `initialize` no document is open.
-use Rattle.std.proofs.Common.{◌≡◌, ap, sym, ◌∙◌, subst, refl}
+use Rattle.std.proofs.Common.{◌≡◌}
 use Rattle.std.specs.FinMap.{empty}
 use Rattle.scheme_model.specs.Session as session
 use Rattle.scheme_model.specs.Texts.{Texts}

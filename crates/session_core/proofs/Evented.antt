@@ -17,7 +17,6 @@ use Rattle.workspace_state.specs.declared.events.DocEvent.{DocEvent}
 use Rattle.workspace_state.specs.declared.events.DocEvent.TheVariants as doc
 use Rattle.workspace_state.specs.Updates.{IsNewsOf, Publishes}
 use Rattle.workspace_state.specs.declared.events.Published.{Published}
-use Rattle.session_core.specs.declared.mode.Mode.{Mode}
 use Rattle.session_core.specs.declared.out.Out.{Out}
 use Rattle.session_core.specs.Agreement.{said_event, said_after, said_refusal}
 use Rattle.session_core.specs.Asked.{News, Question, questions}
@@ -28,7 +27,7 @@ use Rattle.session_core.specs.Stepped.{IsOutcome}
 use Rattle.session_core.specs.ToWire.{AreReplies, sent_list}
 use Rattle.session_core.proofs.EventLaws.{events_agree}
 
-encoding_of-said_encoding : (e : Encoding) → encoding_of (said_encoding e) ≡ e
+pub encoding_of-said_encoding : (e : Encoding) → encoding_of (said_encoding e) ≡ e
 encoding_of-said_encoding encodings.Utf8 = refl
 encoding_of-said_encoding encodings.Utf16 = refl
 encoding_of-said_encoding encodings.Utf32 = refl

@@ -1,11 +1,10 @@
--- A step of a session asks for the arrows of a document alone, and for what is news.
-use Rattle.std.proofs.Common.{◌≡◌, ℕ, Bool, true, false, List, [], ◌∷◌, ◌++◌, ap, Option, None, Some, Result, Ok, Err}
+-- A step of a session asks for answers, and for what is news.
+use Rattle.std.proofs.Common.{ℕ, Bool, true, false, List, [], ◌∷◌, ◌++◌, Option, None, Some, Result, Ok, Err}
 use Rattle.std.specs.List.{AllByRecursion}
 use Rattle.lsp_messages.specs.declared.message.Call.{Call}
 use Rattle.lsp_messages.specs.declared.message.Call.TheVariants as calls
 use Rattle.lsp_messages.specs.declared.message.Message.{Message}
 use Rattle.lsp_messages.specs.declared.message.Message.TheVariants as messages
-use Rattle.lsp_messages.specs.declared.message.Note.{Note}
 use Rattle.lsp_messages.specs.declared.message.Reject.{Reject}
 use Rattle.lsp_messages.specs.declared.message.Reject.TheVariants as rejects
 use Rattle.scheme_model.specs.Session as session
@@ -13,20 +12,19 @@ use Rattle.scheme_model.specs.Session.{Mode, Fresh, Running, Shut, State, droppe
 use Rattle.scheme_model.specs.Texts.{Event, Refusal, Texts, after}
 use Rattle.scheme_model.specs.Session.{leaves}
 use Rattle.session_core.specs.Asked.{News, Question, questions}
-use Rattle.session_core.specs.Built.{AsksArrows, IsSaying}
-use Rattle.session_core.specs.FromWire.{offsets, said_by, said_call, said_query}
+use Rattle.session_core.specs.FromWire.{offsets, said_by, said_call}
 use Rattle.session_core.proofs.SomeAnswer.{AsksNews, AsksThat}
 
-requested_asks : (mode : Mode) (state : State) (id : session.Id) (call : Call) → AsksArrows call → AllByRecursion AsksThat (requested mode questions state id (said_call call)).replies
-requested_asks Fresh state id (calls.Initialize prepare encoding) asks = (tt, tt)
-requested_asks Fresh state id calls.Shutdown asks = (tt, tt)
-requested_asks Fresh state id (calls.Ask place query) asks = (tt, tt)
-requested_asks Fresh state id (calls.Rename place new_name) asks = (tt, tt)
-requested_asks Running state id (calls.Initialize prepare encoding) asks = (tt, tt)
-requested_asks Running state id calls.Shutdown asks = (tt, tt)
-requested_asks Running state id (calls.Ask place query) asks = (ap said_query asks, tt)
-requested_asks Running state id (calls.Rename place new_name) asks = (tt, tt)
-requested_asks Shut state id call asks = (tt, tt)
+requested_asks : (mode : Mode) (state : State) (id : session.Id) (call : Call) → AllByRecursion AsksThat (requested mode questions state id (said_call call)).replies
+requested_asks Fresh state id (calls.Initialize prepare encoding) = (tt, tt)
+requested_asks Fresh state id calls.Shutdown = (tt, tt)
+requested_asks Fresh state id (calls.Ask place query) = (tt, tt)
+requested_asks Fresh state id (calls.Rename place new_name) = (tt, tt)
+requested_asks Running state id (calls.Initialize prepare encoding) = (tt, tt)
+requested_asks Running state id calls.Shutdown = (tt, tt)
+requested_asks Running state id (calls.Ask place query) = (tt, tt)
+requested_asks Running state id (calls.Rename place new_name) = (tt, tt)
+requested_asks Shut state id call = (tt, tt)
 
 refused_asks : (mode : Mode) (id : session.Id) (own : session.Reply Question) → AsksThat own → AsksThat (refused mode id own)
 refused_asks Fresh id own asks = tt
@@ -70,12 +68,12 @@ notified_asks Running state note = noticed_asks state note
 notified_asks Shut state note = dropped_asks state note
 
 -- what a step asks at a body that is a message, or none
-pub step_asks : (state : State) (read : Result Message Reject) → IsSaying read → AllByRecursion AsksThat (step offsets questions state (said_by read)).replies
-step_asks state (Ok (messages.Request id call)) says = requested_asks state.mode state _ call says
-step_asks state (Ok (messages.Notice note)) says = notified_asks state.mode state _
-step_asks state (Ok messages.Response) says = tt
-step_asks state (Err rejects.Memory) says = (tt, tt)
-step_asks state (Err rejects.Parse) says = (tt, tt)
-step_asks state (Err (rejects.Invalid id)) says = (tt, tt)
-step_asks state (Err (rejects.Method id)) says = (refused_asks state.mode _ _ tt, tt)
-step_asks state (Err (rejects.Params id)) says = (refused_asks state.mode _ _ tt, tt)
+pub step_asks : (state : State) (read : Result Message Reject) → AllByRecursion AsksThat (step offsets questions state (said_by read)).replies
+step_asks state (Ok (messages.Request id call)) = requested_asks state.mode state _ call
+step_asks state (Ok (messages.Notice note)) = notified_asks state.mode state _
+step_asks state (Ok messages.Response) = tt
+step_asks state (Err rejects.Memory) = (tt, tt)
+step_asks state (Err rejects.Parse) = (tt, tt)
+step_asks state (Err (rejects.Invalid id)) = (tt, tt)
+step_asks state (Err (rejects.Method id)) = (refused_asks state.mode _ _ tt, tt)
+step_asks state (Err (rejects.Params id)) = (refused_asks state.mode _ _ tt, tt)

@@ -1,16 +1,16 @@
 -- What requests ask of the texts and what answers them (LSP 3.17, "Language Features"), and which lists are published after an
 -- event (LSP 3.17, publishDiagnostics).
 use Rattle.std.specs.Prelude.{◌≡◌, ℕ, List}
-use Rattle.ls_base.specs.declared.answers.Arrow.{Arrow}
+use Rattle.std.specs.FinMap.{entries}
 use Rattle.ls_base.specs.declared.answers.Answer.{Answer}
 use Rattle.ls_base.specs.declared.answers.Answer.TheVariants as answers
-use Rattle.scheme_model.specs.Session.{Answers, Query, Definition, References, Highlights, Prepare}
-use Rattle.scheme_model.specs.Session as session
-use Rattle.scheme_model.specs.Texts.{Position, Encoding, Texts, text_at}
+use Rattle.scheme_model.specs.Session.{Answers, Query}
+use Rattle.scheme_model.specs.Texts.{Position, Encoding, Texts}
+use Rattle.workspace_state.specs.Readings.{Read, AreReadAs}
+use Rattle.workspace_state.specs.ToldAnswers.{answer_of}
 use Rattle.workspace_state.specs.Updates.{IsNewsOf}
 use Rattle.workspace_state.specs.declared.events.Published.{Published}
-use Rattle.session_core.specs.FromWire.{encoding_of}
-use Rattle.session_core.specs.Arrows.{AreArrowsOf}
+use Rattle.session_core.specs.FromWire.{encoding_of, pos_of}
 
 -- a question about a position in a document among these texts, in an encoding; what is news of texts after an event about a
 -- document, by the texts before it; or none, which null answers
@@ -23,17 +23,14 @@ pub data Question : Type 0 where
 abbrev pub questions : Answers Question
 questions = record { null = Nothing; query = About; lists = News }
 
--- the answer to a query about a document; only the arrows of a document are asked as yet
-abbrev pub AnswersQuery : Query → Encoding → Texts → List ℕ → Answer → Type 0
-AnswersQuery Definition encoding texts uri answer = ⊥
-AnswersQuery (References declaration) encoding texts uri answer = ⊥
-AnswersQuery Highlights encoding texts uri answer = ⊥
-AnswersQuery Prepare encoding texts uri answer = ⊥
-AnswersQuery session.Arrows encoding texts uri answer = (arrows : List Arrow) × AreArrowsOf (encoding_of encoding) uri (text_at texts uri) arrows × (answer ≡ answers.Arrows arrows)
+-- the answer to a query at a position of a document: that of the program that the texts are, by how they are read
+abbrev pub AnswersQuery : Encoding → Texts → (uri : List ℕ) → Position → Query → Answer → Type 0
+AnswersQuery encoding texts uri position query answer =
+    (rs : List Read) × AreReadAs (entries texts) rs × (answer ≡ answer_of (encoding_of encoding) (entries texts) rs uri (pos_of position) query)
 
 abbrev pub IsAnswerTo : Question → Answer → Type 0
 IsAnswerTo Nothing answer = answer ≡ answers.Nothing
-IsAnswerTo (About encoding texts uri position query) answer = AnswersQuery query encoding texts uri answer
+IsAnswerTo (About encoding texts uri position query) answer = AnswersQuery encoding texts uri position query answer
 IsAnswerTo (News encoding before after uri) answer = ⊥
 
 -- the lists that are published

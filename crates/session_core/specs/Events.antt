@@ -6,7 +6,7 @@ use Rattle.document_store.specs.declared.faults.StoreFault.{StoreFault}
 use Rattle.document_store.specs.declared.faults.StoreFault.TheVariants as faults
 use Rattle.lsp_messages.specs.declared.reply.Reply.{Reply}
 use Rattle.lsp_messages.specs.declared.reply.Reply.TheVariants as replies
-use Rattle.scheme_model.specs.Session.{State, evented}
+use Rattle.scheme_model.specs.Session.{evented}
 use Rattle.scheme_model.specs.Wording.{refusal_text}
 use Rattle.scheme_model.specs.Texts.{Texts, Refusal, NotOpen, BadRange, TooLong, TooMany}
 use Rattle.session_core.specs.declared.mode.Mode.{Mode}

@@ -7,8 +7,6 @@ use Rattle.ls_base.specs.declared.encoding.Encoding.TheVariants as encodings
 use Rattle.ls_base.specs.declared.places.Pos.{Pos}
 use Rattle.ls_base.specs.declared.places.Range.{Range}
 use Rattle.ls_base.specs.declared.answers.Change.{Change}
-use Rattle.ls_base.specs.declared.answers.Query.{Query}
-use Rattle.ls_base.specs.declared.answers.Query.TheVariants as queries
 use Rattle.lsp_messages.specs.declared.message.Id.{Id}
 use Rattle.lsp_messages.specs.declared.message.Id.TheVariants as ids
 use Rattle.lsp_messages.specs.declared.message.Call.{Call}
@@ -21,6 +19,7 @@ use Rattle.lsp_messages.specs.declared.message.Reject.{Reject}
 use Rattle.lsp_messages.specs.declared.message.Reject.TheVariants as rejects
 use Rattle.scheme_model.specs.Session as session
 use Rattle.scheme_model.specs.Texts as texts
+use Rattle.workspace_state.specs.ToldAnswers.{query_of}
 
 -- ---- encodings, positions and changes
 
@@ -44,9 +43,13 @@ encoding_of texts.Utf8 = encodings.Utf8
 encoding_of texts.Utf16 = encodings.Utf16
 encoding_of texts.Utf32 = encodings.Utf32
 
+-- a position, as the code has it
+abbrev pub pos_of : texts.Position → Pos
+pos_of p = record { line = p.line; character = p.character }
+
 -- the offset of a position in an encoding
 abbrev pub offsets : texts.Offsets
-offsets encoding text p = offset_of (encoding_of encoding) text (record { line = p.line; character = p.character })
+offsets encoding text p = offset_of (encoding_of encoding) text (pos_of p)
 
 -- ---- requests and notifications
 
@@ -54,17 +57,10 @@ abbrev pub said_id : Id → session.Id
 said_id (ids.Number n) = session.Number n
 said_id (ids.Name s) = session.Name s
 
-abbrev pub said_query : Query → session.Query
-said_query queries.Definition = session.Definition
-said_query (queries.References declaration) = session.References declaration
-said_query queries.Highlights = session.Highlights
-said_query queries.Prepare = session.Prepare
-said_query queries.Arrows = session.Arrows
-
 abbrev pub said_call : Call → session.Call
 said_call (calls.Initialize prepare encoding) = session.Initialize prepare (said_encoding encoding)
 said_call calls.Shutdown = session.Shutdown
-said_call (calls.Ask place query) = session.Ask place.uri (said_position place.pos) (said_query query)
+said_call (calls.Ask place query) = session.Ask place.uri (said_position place.pos) (query_of query)
 said_call (calls.Rename place new_name) = session.Rename place.uri (said_position place.pos) new_name
 
 abbrev pub said_note : Note → session.Note

@@ -1,11 +1,5 @@
 //! What follows from the definitions alone.
-ghost use Rattle.std.specs.Prelude.{◌≡◌, ◌≢◌, ℕ, List, Ok, Err};
-ghost use Rattle.ls_base.specs.declared.answers.Query.{Query};
-ghost use Rattle.ls_base.specs.declared.answers.Query.TheVariants as queries;
-ghost use Rattle.lsp_messages.specs.declared.message.At.{At};
-ghost use Rattle.lsp_messages.specs.declared.message.Id.{Id};
-ghost use Rattle.lsp_messages.specs.declared.message.Call.TheVariants as calls;
-ghost use Rattle.lsp_messages.specs.declared.message.Message.TheVariants as messages;
+ghost use Rattle.std.specs.Prelude.{◌≡◌, ◌≢◌, ℕ, List, Err};
 ghost use Rattle.lsp_messages.specs.declared.message.Reject.TheVariants as rejects;
 ghost use Rattle.lsp_messages.specs.Messages.{message_of};
 ghost use Rattle.document_store.specs.Texts as store;
@@ -24,12 +18,6 @@ pub fn events_agree()
     ensures { (encoding : texts.Encoding) (old : texts.Texts) (event : store.Event)
         → texts.after offsets encoding old (said_event event)
         ≡ said_after (store.after (encoding_of encoding) old event) }
-{}
-
-/// Of all queries, a body asks for the arrows of a document alone.
-pub fn only_arrows_are_asked()
-    ensures { (body : List ℕ) (id : Id) (place : At) (query : Query)
-        → message_of body ≡ Ok (messages.Request id (calls.Ask place query)) → query ≡ queries.Arrows }
 {}
 
 /// No body is refused for want of memory by the definition of what it says.

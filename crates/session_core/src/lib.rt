@@ -5,7 +5,6 @@ mod events;
 pub mod laws;
 mod mode;
 mod out;
-mod questions;
 mod replies;
 mod session;
 mod wording;

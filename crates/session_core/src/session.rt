@@ -6,7 +6,6 @@ ghost use Rattle.scheme_model.specs.Session as spec;
 ghost use Rattle.workspace_state.specs.Events.{event_of};
 ghost use Rattle.session_core.specs.Agreement.{said_event};
 ghost use Rattle.session_core.specs.Asked.{questions};
-ghost use Rattle.session_core.specs.Built.{AsksArrows, IsBuilt};
 ghost use Rattle.session_core.specs.FromWire.{offsets, said_id, said_call, said_note, said_message, said_reject};
 ghost use Rattle.session_core.specs.Stepped.{IsOutcome, IsStep, IsQuiet, is_event, tells_event};
 
@@ -14,7 +13,6 @@ use crate::Out;
 use crate::events::on_event;
 use crate::mode::Mode;
 use crate::out::{ended, silent};
-use crate::questions::answer;
 use crate::replies::{
     answered, capabilities, invalid_params, invalid_request, logged, method_not_found,
     not_initialized, parse_error,
@@ -77,7 +75,6 @@ impl Session {
 
     /// A message.
     fn on_message<L: Ledger>(&mut self, message: Message, steps: &mut Steps<L>) -> Mem<Out>
-        requires { IsBuilt message }
         ensures step { IfOk result (λ out. IsOutcome
             (step offsets questions self.old (said_message message)) out self.new) }
         ensures kept { OnErr result (self.new ≡ self.old) }
@@ -131,7 +128,6 @@ impl Session {
 
     /// A request.
     fn on_request(&mut self, id: Id, call: Call) -> Mem<Out>
-        requires { AsksArrows call }
         ensures step { IfOk result (λ out. IsOutcome
             (step offsets questions self.old (spec.Request (said_id id) (said_call call))) out self.new) }
         ensures kept { OnErr result (self.new ≡ self.old) }
@@ -165,7 +161,6 @@ impl Session {
 
     /// A request while running. A rename isn't built, so its method is unknown.
     fn on_call(&mut self, id: Id, call: Call) -> Mem<Out>
-        requires { AsksArrows call }
         ensures step { IfOk result (λ out. IsOutcome
             (spec.called questions self.old (said_id id) (said_call call)) out self.new) }
         ensures kept { OnErr result (self.new ≡ self.old) }
@@ -183,12 +178,13 @@ impl Session {
     }
 
     /// A question about a document while running.
-    fn on_question(&self, id: Id, at: &At, query: Query) -> Mem<Out>
-        requires { query ≡ Query.Arrows }
-        ensures { IfOk result (λ out. IsOutcome
-            (spec.called questions self.now (said_id id) (said_call (Call.Ask at.now query))) out self.now) }
+    fn on_question(&mut self, id: Id, at: &At, query: Query) -> Mem<Out>
+        ensures step { IfOk result (λ out. IsOutcome
+            (spec.called questions self.old (said_id id) (said_call (Call.Ask at.now query))) out self.new) }
+        ensures kept { OnErr result (self.new ≡ self.old) }
     {
-        let answer = answer(self.alloc, &self.workspace, at.uri.as_str(), query)?;
+        self.workspace.collect()?;
+        let answer = self.workspace.answer(&query, at.uri.as_str(), at.pos)?;
         Ok(answered(self.alloc, id, answer)?)
     }
 

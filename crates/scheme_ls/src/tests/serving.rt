@@ -59,6 +59,50 @@ const CLOSED: &str =
 const NOT_OPEN: &str =
     r#"{"jsonrpc":"2.0","method":"window/logMessage","params":{"message":"not open: file:///a.scm","type":1}}"#;
 
+const DEFINITION: &str =
+    r#"{"jsonrpc":"2.0","id":2,"method":"textDocument/definition","params":{"textDocument":{"uri":"file:///a.scm"},"position":{"line":0,"character":13}}}"#;
+
+const REFERENCES: &str =
+    r#"{"jsonrpc":"2.0","id":2,"method":"textDocument/references","params":{"textDocument":{"uri":"file:///a.scm"},"position":{"line":0,"character":8},"context":{"includeDeclaration":false}}}"#;
+
+const WITH_DECLARATION: &str =
+    r#"{"jsonrpc":"2.0","id":2,"method":"textDocument/references","params":{"textDocument":{"uri":"file:///a.scm"},"position":{"line":0,"character":13},"context":{"includeDeclaration":true}}}"#;
+
+const HIGHLIGHTS: &str =
+    r#"{"jsonrpc":"2.0","id":2,"method":"textDocument/documentHighlight","params":{"textDocument":{"uri":"file:///a.scm"},"position":{"line":0,"character":13}}}"#;
+
+const PREPARE: &str =
+    r#"{"jsonrpc":"2.0","id":2,"method":"textDocument/prepareRename","params":{"textDocument":{"uri":"file:///a.scm"},"position":{"line":0,"character":14}}}"#;
+
+/// The standard name `define` isn't renamed.
+const PREPARE_STANDARD: &str =
+    r#"{"jsonrpc":"2.0","id":2,"method":"textDocument/prepareRename","params":{"textDocument":{"uri":"file:///a.scm"},"position":{"line":0,"character":1}}}"#;
+
+const DEFINED: &str =
+    r#"{"id":2,"jsonrpc":"2.0","result":[{"range":{"end":{"character":9,"line":0},"start":{"character":8,"line":0}},"uri":"file:///a.scm"}]}"#;
+
+const REFERRED: &str =
+    r#"{"id":2,"jsonrpc":"2.0","result":[{"range":{"end":{"character":14,"line":0},"start":{"character":13,"line":0}},"uri":"file:///a.scm"}]}"#;
+
+const DECLARED_AND_REFERRED: &str =
+    r#"{"id":2,"jsonrpc":"2.0","result":[{"range":{"end":{"character":9,"line":0},"start":{"character":8,"line":0}},"uri":"file:///a.scm"},{"range":{"end":{"character":14,"line":0},"start":{"character":13,"line":0}},"uri":"file:///a.scm"}]}"#;
+
+/// The binder is written, the use is read.
+const LIT: &str =
+    r#"{"id":2,"jsonrpc":"2.0","result":[{"kind":3,"range":{"end":{"character":9,"line":0},"start":{"character":8,"line":0}}},{"kind":2,"range":{"end":{"character":14,"line":0},"start":{"character":13,"line":0}}}]}"#;
+
+const PREPARED: &str =
+    r#"{"id":2,"jsonrpc":"2.0","result":{"placeholder":"x","range":{"end":{"character":14,"line":0},"start":{"character":13,"line":0}}}}"#;
+
+const NOT_PREPARED: &str = r#"{"id":2,"jsonrpc":"2.0","result":null}"#;
+
+/// The answer of references without a context.
+const BAD_PARAMS: &str =
+    r#"{"error":{"code":-32602,"message":"invalid params"},"id":2,"jsonrpc":"2.0"}"#;
+
+const WITHOUT_CONTEXT: &str =
+    r#"{"jsonrpc":"2.0","id":2,"method":"textDocument/references","params":{"textDocument":{"uri":"file:///a.scm"},"position":{"line":0,"character":8}}}"#;
+
 const NO_ARROWS: &str = r#"{"id":2,"jsonrpc":"2.0","result":[]}"#;
 
 /// The log of a fault right behind the frame of `EARLY`.
@@ -137,6 +181,27 @@ fn documents_and_their_arrows(rt: HostRuntime) -> Result<(), Fail> {
     answers(&rt, a, &closed, "", 1, &published)?;
     let missing = [INITIALIZE, ASK, EXIT];
     answers(&rt, a, &missing, "", 1, &[INITIALIZE_REPLY, NO_ARROWS])?;
+    Ok(())
+}
+
+#[test]
+fn questions_about_positions(rt: HostRuntime) -> Result<(), Fail> {
+    let a = rt.alloc();
+    for (question, reply) in [
+        (DEFINITION, DEFINED),
+        (REFERENCES, REFERRED),
+        (WITH_DECLARATION, DECLARED_AND_REFERRED),
+        (HIGHLIGHTS, LIT),
+        (PREPARE, PREPARED),
+        (PREPARE_STANDARD, NOT_PREPARED),
+        (WITHOUT_CONTEXT, BAD_PARAMS),
+    ] {
+        let bodies = [INITIALIZE, OPEN, question, EXIT];
+        let replies = [INITIALIZE_REPLY, OPENED, reply];
+        answers(&rt, a, &bodies, "", 1, &replies)?;
+    }
+    let closed = [INITIALIZE, DEFINITION, EXIT];
+    answers(&rt, a, &closed, "", 1, &[INITIALIZE_REPLY, NO_ARROWS])?;
     Ok(())
 }
 

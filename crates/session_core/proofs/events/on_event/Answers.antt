@@ -1,5 +1,5 @@
 -- What the event leaves, its log and its lists.
-use Rattle.std.proofs.Common.{◌≡◌, ◌≢◌, ◌∙◌, ap, rules, Option, Some, List}
+use Rattle.std.proofs.Common.{◌≡◌, ◌≢◌, ◌∙◌, ap, rules, Some}
 use Rattle.document_store.specs.declared.faults.StoreFault.{StoreFault}
 use Rattle.document_store.specs.declared.faults.StoreFault.TheVariants as faults
 use Rattle.session_core.proofs.Evented.{Updates, accepts, refuses, refuses_alone}

@@ -1,17 +1,9 @@
-use Rattle.std.proofs.Common.{ℕ, List, ap, refl, subst}
-use Rattle.scheme_model.specs.Session.{State}
-use Rattle.scheme_model.specs.Texts.{Texts}
-use Rattle.session_core.specs.Asked.{About, AnswersQuery}
-use Rattle.session_core.specs.FromWire.{said_position, said_query}
+use Rattle.workspace_state.specs.ToldAnswers.{query_of}
+use Rattle.session_core.specs.FromWire.{said_id}
+use Rattle.session_core.proofs.Asking.{replies_so}
 use Rattle.session_core.proofs.session.Session.on_question.Goals as goal
 
-pub returns : goal.returns
-returns c =
-    let query = said_query c.args.query in
-    let e = c.args.self.now.encoding in
-    let AtUri : List ℕ → Type 0 = λ uri. AnswersQuery query e c.self.inside.workspace.texts uri c.in_ok-answer.answer in
-    let InTexts : Texts → Type 0 = λ texts. AnswersQuery query e texts c.args.at.now.uri c.in_ok-answer.answer in
-    let answers : AnswersQuery query e c.args.self.now.texts c.args.at.now.uri c.in_ok-answer.answer =
-    subst InTexts (ap (λ (s : State). s.texts) c.self.view_is) (subst AtUri c.as_str.ensures (c.in_ok-answer.ensures e)) in
-    let says = c.in_ok-answered.ensures (About e c.args.self.now.texts c.args.at.now.uri (said_position c.args.at.now.pos) query) answers in
-    record { state = refl; replies = says.0; end = says.1 }
+pub returns-clause-step : goal.returns-clause-step
+returns-clause-step c =
+    replies_so c.self.inside.mode c.collect.new.self c.self.inside.workspace c.args.self.now (said_id c.args.id) c.as_str.result.now c.args.at.now.uri c.args.at.now.pos (query_of c.args.query) c.in_ok-answer.answer
+    c.in_ok-answered.field-0 c.in_ok-collect.ensures c.self.view_is c.as_str.ensures c.in_ok-answer.ensures c.in_ok-answered.ensures
