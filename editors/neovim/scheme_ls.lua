@@ -10,7 +10,7 @@ local marks = vim.api.nvim_create_namespace('scheme_ls_arrows')
 local widest = 100 -- columns; the line beside the text stands no farther right
 
 local server -- the number of the client that is running
-local turn = 0 -- grows with each change of a Scheme buffer: what was answered before it is old
+local turn = 0 -- grows with each change of what is open: what was answered before it is old
 local answers = {} -- by buffer: the arrows of its document, and the turn that they are of
 
 vim.api.nvim_set_hl(0, 'SchemeBinder', { default = true, link = 'DiffAdd' })
@@ -103,10 +103,12 @@ local function sorted_out(ends, uri)
       first, last = math.min(first or row, row), math.max(last or row, row)
     else
       local name = it.place.uri:match('[^/]*$') .. ':' .. (row + 1)
-      table.insert(others, (it.is_binder and '● ' or '◀ ') .. name)
+      table.insert(others, (it.is_binder and ' ● ' or ' ◀ ') .. name)
     end
   end
-  return lines, others, first, last
+  local behind = table.concat(others, '', 1, math.min(#others, 3))
+  if #others > 3 then behind = behind .. ' ' .. (#others - 3) .. ' more' end
+  return lines, behind, first, last
 end
 
 local function corner(row, first, last, ends)
@@ -116,7 +118,8 @@ local function corner(row, first, last, ends)
   return ends and '┤' or '│'
 end
 
--- Draws the line that joins the lines from `first` to `last` beside the text: ● is where a name is bound, ◀ where it is used.
+-- Draws the line that joins the lines from `first` to `last` beside the text: ● is where a name is bound, ◀ where it is used. A line
+-- may have a text of its own behind that.
 local function draw_line(buffer, lines, first, last)
   local texts = vim.api.nvim_buf_get_lines(buffer, first, last + 1, false)
   local column = 0
@@ -127,12 +130,14 @@ local function draw_line(buffer, lines, first, last)
   for row = first, last do
     local width, ends = texts[row - first + 1], lines[row]
     local mark = ends and ((ends.binder and '●' or '') .. (ends.use and '◀' or '')) or ''
-    local fill = first == last and '' or string.rep('─', column - width - 1 - vim.fn.strdisplaywidth(mark))
+    local fill = (first == last or not ends) and '' or string.rep('─', column - width - 1 - vim.fn.strdisplaywidth(mark))
     if ends or width < column then
+      local text = mark .. fill .. corner(row, first, last, ends) .. (ends and ends.behind or '')
       vim.api.nvim_buf_set_extmark(buffer, marks, row, 0, {
-        virt_text = { { (ends and mark .. fill or '') .. corner(row, first, last, ends), 'SchemeArrow' } },
-        virt_text_win_col = ends and width + 1 or column,
+        virt_text = { { text, 'SchemeArrow' } },
+        virt_text_win_col = not ends and column or nil,
         hl_mode = 'combine',
+        priority = 1, -- what others show behind the line, as diagnostics, comes behind it
       })
     end
   end
@@ -153,11 +158,10 @@ local function draw(buffer, client, arrows)
       })
     end
   end
-  local lines, others, first, last = sorted_out(ends, uri)
-  if first and last < vim.api.nvim_buf_line_count(buffer) then draw_line(buffer, lines, first, last) end
-  if #others > 0 then
-    if #others > 4 then others = { others[1], others[2], others[3], (#others - 3) .. ' more' } end
-    vim.api.nvim_buf_set_extmark(buffer, marks, at.line, 0, { virt_text = { { table.concat(others, ' '), 'SchemeArrow' } } })
+  local lines, behind, first, last = sorted_out(ends, uri)
+  if first and last < vim.api.nvim_buf_line_count(buffer) then
+    if lines[at.line] then lines[at.line].behind = behind end
+    draw_line(buffer, lines, first, last)
   end
 end
 
@@ -197,6 +201,7 @@ local function attach(buffer)
     })
   end
   if not server then return end
+  turn = turn + 1
   vim.lsp.buf_attach_client(buffer, server)
   vim.keymap.set('n', 'gd', vim.lsp.buf.definition, { buffer = buffer, desc = 'Where the name is bound' })
   vim.keymap.set('n', 'gr', vim.lsp.buf.references, { buffer = buffer, desc = 'Where the name is used' })
