@@ -24,6 +24,10 @@
   "The line beside the text stands no farther right than behind this column."
   :type 'natnum)
 
+(defcustom scheme-ls-pause 0.1
+  "Seconds without a change before arrows are asked for."
+  :type 'number)
+
 (defface scheme-ls-binder '((t :inherit diff-refine-added)) "A name where it is bound.")
 (defface scheme-ls-use '((t :inherit lazy-highlight)) "A name where it is used.")
 (defface scheme-ls-arrow '((t :inherit shadow)) "What is drawn beside the text.")
@@ -38,6 +42,7 @@
 (defvar-local scheme-ls--answered nil "The turn that the arrows are of.")
 (defvar-local scheme-ls--point nil "The turn and the position drawn for.")
 (defvar-local scheme-ls--overlays nil)
+(defvar scheme-ls--waiting nil "The timer behind which arrows are asked for.")
 (defvar scheme-ls-arrows-mode)
 
 ;;;; Places
@@ -185,40 +190,41 @@ where a name is bound, ◀ where it is used."
 
 ;;;; When
 
-(defun scheme-ls--ask (server)
-  "Ask SERVER for the arrows of this document, and draw those of the name at point."
-  (let ((buffer (current-buffer))
-        (turn scheme-ls--turn))
-    (setq scheme-ls--answered turn
-          scheme-ls--arrows nil)
-    (eglot--signal-textDocument/didChange)
-    (jsonrpc-async-request
-     server :scheme/arrows (list :textDocument (eglot--TextDocumentIdentifier))
-     :success-fn
-     (lambda (arrows)
-       (when (and (buffer-live-p buffer) (= turn scheme-ls--turn))
-         (with-current-buffer buffer
-           (setq scheme-ls--arrows arrows)
-           (scheme-ls-redraw))))
-     :error-fn #'ignore)))
-
-(defun scheme-ls-redraw ()
-  "Draw the arrows of the name at point.
-Those of its document are asked for first where what is known of them is old."
-  (let ((server (and scheme-ls-arrows-mode (eglot-current-server))))
-    (cond ((null server) (scheme-ls--clear))
-          ((not (equal scheme-ls--answered scheme-ls--turn)) (scheme-ls--ask server))
-          (scheme-ls--arrows
-           (setq scheme-ls--point (cons scheme-ls--turn (point)))
-           (scheme-ls--draw)))))
-
-(defun scheme-ls--redraw-in (buffer)
+(defun scheme-ls--ask (buffer)
+  "Ask for the arrows of BUFFER, and draw those of the name at point."
   (when (buffer-live-p buffer)
-    (with-current-buffer buffer (scheme-ls-redraw))))
+    (with-current-buffer buffer
+      (let ((server (and scheme-ls-arrows-mode (eglot-current-server)))
+            (turn scheme-ls--turn))
+        (when (and server (not (equal scheme-ls--answered turn)))
+          (setq scheme-ls--answered turn
+                scheme-ls--arrows nil)
+          (eglot--signal-textDocument/didChange)
+          (jsonrpc-async-request
+           server :scheme/arrows (list :textDocument (eglot--TextDocumentIdentifier))
+           :success-fn
+           (lambda (arrows)
+             (when (and (buffer-live-p buffer) (= turn scheme-ls--turn))
+               (with-current-buffer buffer
+                 (setq scheme-ls--arrows arrows)
+                 (scheme-ls--redraw))))
+           :error-fn #'ignore))))))
+
+(defun scheme-ls--redraw ()
+  "Draw the arrows of the name at point.
+Where what is known of them is old they are asked for, when nothing has changed
+for a while."
+  (cond ((not scheme-ls-arrows-mode) (scheme-ls--clear))
+        ((not (equal scheme-ls--answered scheme-ls--turn))
+         (when scheme-ls--waiting (cancel-timer scheme-ls--waiting))
+         (setq scheme-ls--waiting (run-with-timer scheme-ls-pause nil #'scheme-ls--ask (current-buffer))))
+        (scheme-ls--arrows
+         (setq scheme-ls--point (cons scheme-ls--turn (point)))
+         (scheme-ls--draw))))
 
 (defun scheme-ls--after-command ()
   (unless (equal scheme-ls--point (cons scheme-ls--turn (point)))
-    (scheme-ls-redraw)))
+    (scheme-ls--redraw)))
 
 (defun scheme-ls--after-change (&rest _)
   (setq scheme-ls--turn (1+ scheme-ls--turn)))
@@ -230,8 +236,7 @@ Those of its document are asked for first where what is known of them is old."
   (cond (scheme-ls-arrows-mode
          (add-hook 'post-command-hook #'scheme-ls--after-command nil t)
          (add-hook 'after-change-functions #'scheme-ls--after-change nil t)
-         ;; Eglot opens the document behind the hooks of its mode.
-         (run-at-time 0 nil #'scheme-ls--redraw-in (current-buffer)))
+         (scheme-ls--redraw))
         (t
          (remove-hook 'post-command-hook #'scheme-ls--after-command t)
          (remove-hook 'after-change-functions #'scheme-ls--after-change t)

@@ -9,6 +9,9 @@ local shown = vim.g.scheme_ls_arrows ~= false
 local marks = vim.api.nvim_create_namespace('scheme_ls_arrows')
 local widest = 100 -- columns; the line beside the text stands no farther right
 
+local pause = 100 -- milliseconds without a change before arrows are asked for
+local waiting = vim.loop.new_timer()
+
 local server -- the number of the client that is running
 local turn = 0 -- grows with each change of what is open: what was answered before it is old
 local answers = {} -- by buffer: the arrows of its document, and the turn that they are of
@@ -63,7 +66,7 @@ local function binders_at(arrows, uri, at)
     local found, any = {}, false
     for _, arrow in ipairs(arrows) do
       if is_there(arrow.from, uri, at) or is_there(arrow.to, uri, at) then
-        found[key(arrow.from)], any = true, true
+        found[arrow.key], any = true, true
       end
     end
     if any then return found end
@@ -82,7 +85,7 @@ local function ends_of(arrows, binders)
     end
   end
   for _, arrow in ipairs(arrows) do
-    if binders[key(arrow.from)] then
+    if binders[arrow.key] then
       put(arrow.from, true)
       put(arrow.to, false)
     end
@@ -165,22 +168,39 @@ local function draw(buffer, client, arrows)
   end
 end
 
--- Draws the arrows of the name at the cursor, and asks for those of its document first where what is known of them is old.
-local function redraw()
-  local buffer = vim.api.nvim_get_current_buf()
+-- The client of a buffer whose arrows are to be drawn.
+local function client_of(buffer)
   local client = server and vim.lsp.get_client_by_id(server)
-  if not (shown and vim.bo.filetype == 'scheme' and client and client.initialized and vim.lsp.buf_is_attached(buffer, server)) then return end
-  local known, asked = answers[buffer], turn
-  if known and known.turn == turn then
-    if known.arrows then draw(buffer, client, known.arrows) end
-    return
-  end
+  local ready = shown and client and client.initialized and vim.lsp.buf_is_attached(buffer, server)
+  return ready and vim.bo[buffer].filetype == 'scheme' and client or nil
+end
+
+local function ask()
+  local buffer, asked = vim.api.nvim_get_current_buf(), turn
+  local client = client_of(buffer)
+  if not client or (answers[buffer] or {}).turn == turn then return end
   answers[buffer] = { turn = turn }
   client.request('scheme/arrows', { textDocument = { uri = vim.uri_from_bufnr(buffer) } }, function(_, arrows)
     if turn ~= asked then return end
+    for _, arrow in ipairs(arrows or {}) do
+      arrow.key = key(arrow.from)
+    end
     answers[buffer].arrows = arrows or {}
-    if buffer == vim.api.nvim_get_current_buf() and shown then draw(buffer, client, arrows or {}) end
+    if buffer == vim.api.nvim_get_current_buf() and client_of(buffer) then draw(buffer, client, arrows or {}) end
   end, buffer)
+end
+
+-- Draws the arrows of the name at the cursor. Where what is known of them is old they are asked for, when nothing has changed for a
+-- while.
+local function redraw()
+  local buffer = vim.api.nvim_get_current_buf()
+  local client, known = client_of(buffer), answers[buffer]
+  if client and known and known.turn == turn then
+    if known.arrows then draw(buffer, client, known.arrows) end
+  elseif client then
+    waiting:stop()
+    waiting:start(pause, 0, vim.schedule_wrap(ask))
+  end
 end
 
 local function clear()

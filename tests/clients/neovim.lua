@@ -79,7 +79,7 @@ end
 
 local function ask(method, more)
   local params = vim.tbl_extend('error', vim.lsp.util.make_position_params(0, client.offset_encoding), more or {})
-  local answer = client.request_sync(method, params, patience, 0)
+  local answer = client.request_sync(method, params, patience, vim.api.nvim_get_current_buf())
   if not answer or answer.err then
     fail(method .. ': ' .. vim.inspect(answer))
   end
