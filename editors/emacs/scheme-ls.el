@@ -24,6 +24,10 @@
   "The line beside the text stands no farther right than behind this column."
   :type 'natnum)
 
+(defcustom scheme-ls-longest 1000
+  "Ends that lie more lines apart are marked, but no line joins them."
+  :type 'natnum)
+
 (defcustom scheme-ls-pause 0.1
   "Seconds without a change before arrows are asked for."
   :type 'number)
@@ -126,6 +130,12 @@ the end of."
         (ends "┤")
         (t "│")))
 
+(defun scheme-ls--draw-lines (lines first last)
+  (if (<= (- last first) scheme-ls-longest)
+      (scheme-ls--draw-line lines first last)
+    (dolist (line lines)
+      (scheme-ls--draw-line lines (car line) (car line)))))
+
 (defun scheme-ls--draw-line (lines first last)
   "Draw the line that joins the lines FIRST to LAST beside the text.
 LINES has for each line with an end its marks, and what stands behind them: ● is
@@ -179,7 +189,7 @@ where a name is bound, ◀ where it is used."
     (dolist (place uses) (scheme-ls--light place 'scheme-ls-use))
     (dolist (place binders) (scheme-ls--light place 'scheme-ls-binder))
     (when rows
-      (scheme-ls--draw-line
+      (scheme-ls--draw-lines
        (mapcar (lambda (row)
                  (list row
                        (concat (and (memql row (mapcar #'scheme-ls--row binders)) "●")

@@ -8,6 +8,7 @@ local cmd = vim.g.scheme_ls_cmd or { 'scheme_ls', 'serve' }
 local shown = vim.g.scheme_ls_arrows ~= false
 local marks = vim.api.nvim_create_namespace('scheme_ls_arrows')
 local widest = 100 -- columns; the line beside the text stands no farther right
+local longest = 1000 -- lines; farther ends are marked, but no line joins them
 
 local pause = 100 -- milliseconds without a change before arrows are asked for
 local waiting = vim.loop.new_timer()
@@ -124,6 +125,10 @@ end
 -- Draws the line that joins the lines from `first` to `last` beside the text: ● is where a name is bound, ◀ where it is used. A line
 -- may have a text of its own behind that.
 local function draw_line(buffer, lines, first, last)
+  if last - first > longest then
+    for row in pairs(lines) do draw_line(buffer, lines, row, row) end
+    return
+  end
   local texts = vim.api.nvim_buf_get_lines(buffer, first, last + 1, false)
   local column = 0
   for i, text in ipairs(texts) do
