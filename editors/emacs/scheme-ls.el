@@ -28,6 +28,10 @@
   "Ends that lie more lines apart are marked, but no line joins them."
   :type 'natnum)
 
+(defcustom scheme-ls-largest 100000
+  "Of texts of more characters no arrows are drawn: reading them takes seconds."
+  :type 'natnum)
+
 (defcustom scheme-ls-pause 0.1
   "Seconds without a change before arrows are asked for."
   :type 'number)
@@ -42,7 +46,8 @@
 (defvar scheme-ls--turn 0
   "Grows with each change of what is open; older answers don't count.")
 
-(defvar-local scheme-ls--arrows nil "The arrows of this document, as they were answered.")
+(defvar-local scheme-ls--arrows nil
+  "The arrows of this document, by the lines of their ends and by their binders.")
 (defvar-local scheme-ls--answered nil "The turn that the arrows are of.")
 (defvar-local scheme-ls--point nil "The turn and the position drawn for.")
 (defvar-local scheme-ls--overlays nil)
@@ -76,25 +81,46 @@
 
 ;;;; Which arrows belong to a name
 
+(defun scheme-ls--key (place)
+  (let ((start (scheme-ls--at place :start)))
+    (list (plist-get start :line) (plist-get start :character) (plist-get place :uri))))
+
+(defun scheme-ls--index (arrows uri)
+  "A table of ARROWS.
+A line of the document URI has those with an end there, and the key of a binder
+has the arrows that come from it."
+  (let ((index (make-hash-table :test #'equal)))
+    (cl-loop for n downfrom (1- (length arrows)) to 0
+             for arrow = (aref arrows n)
+             for from = (plist-get arrow :from)
+             for to = (plist-get arrow :to)
+             do (push arrow (gethash (scheme-ls--key from) index))
+             (when (equal (plist-get from :uri) uri)
+               (push arrow (gethash (scheme-ls--row from) index)))
+             (when (equal (plist-get to :uri) uri)
+               (push arrow (gethash (scheme-ls--row to) index))))
+    index))
+
 (defun scheme-ls--where (there arrows uri at)
   "The binders of ARROWS with an end that is THERE."
   (seq-uniq
-   (cl-loop for arrow across arrows
+   (cl-loop for arrow in arrows
             when (or (funcall there (plist-get arrow :from) uri at)
                      (funcall there (plist-get arrow :to) uri at))
             collect (plist-get arrow :from))))
 
-(defun scheme-ls--ends (arrows uri at)
+(defun scheme-ls--ends (index uri at)
   "The binders of the name at AT, and their uses.
 The name is the one that begins there, or else one that it is inside of or at
 the end of."
-  (let ((binders (or (scheme-ls--where #'scheme-ls--begins-p arrows uri at)
-                     (scheme-ls--where #'scheme-ls--touches-p arrows uri at))))
+  (let* ((near (gethash (plist-get at :line) index))
+         (binders (or (scheme-ls--where #'scheme-ls--begins-p near uri at)
+                      (scheme-ls--where #'scheme-ls--touches-p near uri at))))
     (cons binders
           (seq-uniq
-           (cl-loop for arrow across arrows
-                    when (member (plist-get arrow :from) binders)
-                    collect (plist-get arrow :to))))))
+           (cl-loop for binder in binders
+                    append (mapcar (lambda (arrow) (plist-get arrow :to))
+                                   (gethash (scheme-ls--key binder) index)))))))
 
 ;;;; Drawing
 
@@ -216,7 +242,7 @@ where a name is bound, ◀ where it is used."
            (lambda (arrows)
              (when (and (buffer-live-p buffer) (= turn scheme-ls--turn))
                (with-current-buffer buffer
-                 (setq scheme-ls--arrows arrows)
+                 (setq scheme-ls--arrows (scheme-ls--index arrows (scheme-ls--uri)))
                  (scheme-ls--redraw))))
            :error-fn #'ignore))))))
 
@@ -224,7 +250,7 @@ where a name is bound, ◀ where it is used."
   "Draw the arrows of the name at point.
 Where what is known of them is old they are asked for, when nothing has changed
 for a while."
-  (cond ((not scheme-ls-arrows-mode) (scheme-ls--clear))
+  (cond ((or (not scheme-ls-arrows-mode) (> (buffer-size) scheme-ls-largest)) (scheme-ls--clear))
         ((not (equal scheme-ls--answered scheme-ls--turn))
          (when scheme-ls--waiting (cancel-timer scheme-ls--waiting))
          (setq scheme-ls--waiting (run-with-timer scheme-ls-pause nil #'scheme-ls--ask (current-buffer))))
