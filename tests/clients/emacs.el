@@ -109,13 +109,36 @@
     (set-buffer-modified-p nil)
     (kill-buffer)))
 
+(defun send-changes ()
+  "What Eglot does when Emacs is idle, which it never is here."
+  (eglot--signal-textDocument/didChange))
+
 (defun step-change (file step)
   (pcase-let ((`(,from-line ,from ,to-line ,to) (plist-get step :range)))
     (switch-to-buffer (buffer-of file))
     (goto-char (point-of from-line from))
     (delete-region (point) (point-of to-line to))
     (insert (plist-get step :text))
-    (eglot--signal-textDocument/didChange)))
+    (send-changes)))
+
+(defvar before-keys nil "The text before keys were typed.")
+
+(defun step-type (file step)
+  "Type the keys of STEP as a person does."
+  (go (cons file (plist-get step :at)))
+  (setq before-keys (buffer-string))
+  (undo-boundary)
+  (execute-kbd-macro (vconcat (plist-get step :keys)))
+  (send-changes))
+
+(defun step-undo (file)
+  (switch-to-buffer (buffer-of file))
+  (undo-boundary)
+  (undo-start)
+  (while (not (or (equal (buffer-string) before-keys) (eq pending-undo-list t)))
+    (undo-more 1))
+  (send-changes)
+  (expect "the text after undo" (buffer-string) before-keys))
 
 (defun step-diagnostics (file step)
   (with-current-buffer (buffer-of file)
@@ -123,8 +146,8 @@
     (flymake-start)
     (same-soon
      (lambda ()
-       (if (not (plist-member (gethash file told) :count))
-           'none-were-published
+       (if (not (equal (gethash file told) eglot--versioned-identifier))
+           'none-of-this-version
          (sort (mapcar
                 (lambda (it)
                   (let ((told (cdr (assq 'eglot-lsp-diag (flymake-diagnostic-data it)))))
@@ -188,20 +211,22 @@
 
 ;;;; All of them
 
-(defvar told (make-hash-table :test #'equal) "What was published, by file.")
+(defvar told (make-hash-table :test #'equal) "The versions of the lists that came last, by file.")
 
-(cl-defmethod eglot-handle-notification :after (_server (_method (eql textDocument/publishDiagnostics)) &key uri &allow-other-keys)
-  (puthash (file-of uri) (list :count t) told))
+(cl-defmethod eglot-handle-notification :after
+  (_server (_method (eql textDocument/publishDiagnostics)) &key uri version &allow-other-keys)
+  (puthash (file-of uri) version told))
 
 (defun run-step (number step)
-  (cl-loop for (kind run) in '((:open step-open) (:close step-close) (:change step-change) (:diagnostics step-diagnostics)
+  (cl-loop for (kind run) in '((:open step-open) (:close step-close) (:change step-change) (:type step-type)
+                               (:undo step-undo) (:diagnostics step-diagnostics)
                                (:definition step-definition) (:references step-references) (:highlights step-highlights)
                                (:arrows step-arrows))
            for what = (plist-get step kind)
            when what
            do (let* ((name (format "step %d, %s %S" number kind what))
                      (found (condition-case err
-                                (if (memq run '(step-open step-close step-definition step-references))
+                                (if (memq run '(step-open step-close step-undo step-definition step-references))
                                     (funcall run what)
                                   (funcall run what step))
                               (error (fail "%s: %S" name err)))))

@@ -3,8 +3,9 @@
 # questions.json, which open, ask, change and close, and a shutdown. It is skipped where Emacs, Eglot or the built program is
 # missing. SCHEME_LS names another program, if it is set.
 
-here=$(cd "$(dirname "$0")" && pwd) || exit 1
-program=${SCHEME_LS:-$here/../../crates/scheme_ls/out/scheme_ls}
+top=$(cd "$(dirname "$0")/../.." && pwd) || exit 1
+here=$top/tests/clients
+program=${SCHEME_LS:-$top/crates/scheme_ls/out/scheme_ls}
 
 if ! command -v emacs >/dev/null 2>&1; then
     echo "tests/clients/emacs.sh: skipped, emacs isn't installed"

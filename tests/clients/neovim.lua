@@ -27,7 +27,7 @@ vim.g.scheme_ls_cmd = { program, 'serve' }
 vim.cmd('luafile ' .. here .. '/../../editors/neovim/scheme_ls.lua')
 
 local client
-local published = {} -- how many lists came, by file
+local published = {} -- the versions of the lists that came last, by file
 
 -- ---- places, in characters
 
@@ -134,10 +134,27 @@ function steps.change(step)
   vim.cmd('doautocmd TextChanged')
 end
 
+-- Keys, as a person types them, behind a place; the text before them is kept for `undo`.
+local before_keys
+
+function steps.type(step)
+  go({ step.type, unpack(step.at) })
+  before_keys = vim.api.nvim_buf_get_lines(0, 0, -1, true)
+  local past = step.at[2] >= (vim.str_utfindex(vim.api.nvim_get_current_line()))
+  vim.api.nvim_feedkeys((past and 'A' or 'i') .. step.keys .. '\27', 'tx', true)
+  vim.cmd('doautocmd TextChanged')
+end
+
+function steps.undo(step)
+  vim.cmd('buffer ' .. buffer_of(step.undo))
+  vim.cmd('silent undo')
+  expect('the text after undo', vim.api.nvim_buf_get_lines(0, 0, -1, true), before_keys)
+end
+
 function steps.diagnostics(step)
   local buffer = buffer_of(step.diagnostics)
   local function list()
-    if not published[step.diagnostics] then return 'none were published' end
+    if published[step.diagnostics] ~= vim.lsp.util.buf_versions[buffer] then return 'none of this version' end
     local found = {}
     for _, it in ipairs(vim.diagnostic.get(buffer)) do
       local told = it.user_data.lsp
@@ -199,7 +216,7 @@ local publish = vim.lsp.handlers['textDocument/publishDiagnostics']
 vim.lsp.handlers['textDocument/publishDiagnostics'] = function(err, result, context, config)
   local file = name_of(result.uri)
   publish(err, result, context, config)
-  published[file] = (published[file] or 0) + 1
+  published[file] = result.version
 end
 
 for number, step in ipairs(questions.steps) do
