@@ -237,7 +237,9 @@ local function on(events, pattern, callback)
   vim.api.nvim_create_autocmd(events, { group = group, pattern = pattern, callback = callback })
 end
 
-on({ 'BufNewFile', 'BufRead' }, { '*.scm', '*.sld', '*.sls' }, function() vim.bo.filetype = 'scheme' end)
+on({ 'BufNewFile', 'BufRead' }, { '*.scm', '*.sld', '*.sls' }, function()
+  if vim.bo.filetype ~= 'scheme' then vim.bo.filetype = 'scheme' end
+end)
 on('FileType', 'scheme', function(event) attach(event.buf) end)
 on({ 'CursorMoved', 'CursorMovedI', 'BufEnter' }, '*', redraw)
 on({ 'TextChanged', 'TextChangedI' }, '*', function()
