@@ -1,5 +1,7 @@
--- What tests/clients/neovim.sh has Neovim do. It ends with status 0 where every answer is as expected.
-local program = os.getenv('SCHEME_LS')
+-- What tests/clients/neovim.sh has Neovim do: the steps of questions.json, with the file that editors/neovim gives. It ends with
+-- status 0 where every answer is as expected.
+local here, room, program = os.getenv('HERE'), os.getenv('ROOM'), os.getenv('SCHEME_LS')
+local patience = 10000
 
 local function fail(text)
   io.stderr:write('tests/clients/neovim.lua: ' .. text .. '\n')
@@ -12,61 +14,228 @@ local function expect(what, got, want)
   end
 end
 
-local buffer = vim.api.nvim_create_buf(true, false)
-vim.api.nvim_buf_set_name(buffer, '/tmp/scheme_ls_client_test.scm')
-vim.api.nvim_buf_set_lines(buffer, 0, -1, true, { '(define x 1) x' })
+local function read(path)
+  return vim.fn.json_decode(table.concat(vim.fn.readfile(path), '\n'))
+end
+
+local questions = read(here .. '/questions.json')
+for name, lines in pairs(questions.texts) do
+  vim.fn.writefile(lines, room .. '/' .. name)
+end
+
+vim.g.scheme_ls_cmd = { program, 'serve' }
+vim.cmd('luafile ' .. here .. '/../../editors/neovim/scheme_ls.lua')
+
+local client
+local published = {} -- the versions of the lists that came last, by file
+
+-- ---- places, in characters
+
+local function name_of(uri)
+  return vim.fn.fnamemodify(vim.uri_to_fname(uri), ':t')
+end
+
+local function buffer_of(file)
+  return vim.fn.bufnr(room .. '/' .. file)
+end
+
+local function characters(buffer, row, byte)
+  local line = vim.api.nvim_buf_get_lines(buffer, row, row + 1, true)[1]
+  return (vim.str_utfindex(line, byte))
+end
+
+local function byte_at(buffer, row, character)
+  local line = vim.api.nvim_buf_get_lines(buffer, row, row + 1, true)[1]
+  return vim.str_byteindex(line, character)
+end
+
+local function go(place)
+  vim.cmd('buffer ' .. buffer_of(place[1]))
+  vim.api.nvim_win_set_cursor(0, { place[2] + 1, byte_at(0, place[2], place[3]) })
+end
+
+local function cursor()
+  local at = vim.api.nvim_win_get_cursor(0)
+  return { vim.fn.expand('%:t'), at[1] - 1, characters(0, at[1] - 1, at[2]) }
+end
+
+local function before(a, b)
+  for i = 1, #a do
+    if a[i] ~= b[i] then return a[i] < b[i] end
+  end
+  return false
+end
+
+-- The places of locations, as Neovim's own list of them has them, with their ends.
+local function places(locations)
+  local found = {}
+  for i, item in ipairs(vim.lsp.util.locations_to_items(locations, client.offset_encoding)) do
+    local file, row = vim.fn.fnamemodify(item.filename, ':t'), item.lnum - 1
+    local stop = vim.lsp.util._get_line_byte_from_position(buffer_of(file), locations[i].range['end'], client.offset_encoding)
+    table.insert(found, { file, row, characters(buffer_of(file), row, item.col - 1), characters(buffer_of(file), row, stop) })
+  end
+  return found
+end
+
+local function ask(method, more)
+  local params = vim.tbl_extend('error', vim.lsp.util.make_position_params(0, client.offset_encoding), more or {})
+  local answer = client.request_sync(method, params, patience, vim.api.nvim_get_current_buf())
+  if not answer or answer.err then
+    fail(method .. ': ' .. vim.inspect(answer))
+  end
+  return answer.result
+end
+
+-- What is marked in a namespace, by what its highlight stands for.
+local function lit(namespace, groups)
+  local found, buffer = {}, vim.api.nvim_get_current_buf()
+  for _, mark in ipairs(vim.api.nvim_buf_get_extmarks(buffer, namespace, 0, -1, { details = true })) do
+    local what = groups[mark[4].hl_group]
+    if what then
+      table.insert(found, { mark[2], characters(buffer, mark[2], mark[3]), characters(buffer, mark[2], mark[4].end_col), what })
+    end
+  end
+  table.sort(found, before)
+  return found
+end
+
+local function same_soon(get, want)
+  vim.wait(patience, function() return vim.deep_equal(get(), want) end, 20)
+  return get()
+end
+
+-- ---- steps
+
+local steps = {}
+
+function steps.open(step)
+  vim.cmd('edit ' .. room .. '/' .. step.open)
+  if not client then
+    client = vim.lsp.get_client_by_id(1)
+    if not client or not vim.wait(patience, function() return client.initialized end, 10) then
+      fail('the server did not answer initialize')
+    end
+    -- Positions count in the first encoding that Neovim offers, or in utf-16 where it offers none.
+    local general = vim.lsp.protocol.make_client_capabilities().general or {}
+    local offered = general.positionEncodings or { 'utf-16' }
+    expect('the agreed encoding', client.server_capabilities.positionEncoding, offered[1])
+  end
+  expect('the type of ' .. step.open, vim.bo.filetype, 'scheme')
+end
+
+function steps.close(step)
+  vim.cmd('bwipeout! ' .. buffer_of(step.close))
+end
+
+function steps.change(step)
+  local buffer, range = buffer_of(step.change), step.range
+  vim.cmd('buffer ' .. buffer)
+  vim.api.nvim_buf_set_text(buffer, range[1], byte_at(buffer, range[1], range[2]), range[3], byte_at(buffer, range[3], range[4]), vim.split(step.text, '\n'))
+  vim.cmd('doautocmd TextChanged')
+end
+
+-- Keys, as a person types them, behind a place; the text before them is kept for `undo`.
+local before_keys
+
+function steps.type(step)
+  go({ step.type, unpack(step.at) })
+  before_keys = vim.api.nvim_buf_get_lines(0, 0, -1, true)
+  local past = step.at[2] >= (vim.str_utfindex(vim.api.nvim_get_current_line()))
+  vim.api.nvim_feedkeys((past and 'A' or 'i') .. step.keys .. '\27', 'tx', true)
+  vim.cmd('doautocmd TextChanged')
+end
+
+function steps.undo(step)
+  vim.cmd('buffer ' .. buffer_of(step.undo))
+  vim.cmd('silent undo')
+  expect('the text after undo', vim.api.nvim_buf_get_lines(0, 0, -1, true), before_keys)
+end
+
+function steps.diagnostics(step)
+  local buffer = buffer_of(step.diagnostics)
+  local function list()
+    if published[step.diagnostics] ~= vim.lsp.util.buf_versions[buffer] then return 'none of this version' end
+    local found = {}
+    for _, it in ipairs(vim.diagnostic.get(buffer)) do
+      local told = it.user_data.lsp
+      table.insert(found, { it.lnum, characters(buffer, it.lnum, it.col), characters(buffer, it.end_lnum, it.end_col), it.severity, told.code, it.message })
+    end
+    table.sort(found, before)
+    return found
+  end
+  return same_soon(list, step.are)
+end
+
+function steps.definition(step)
+  go(step.definition)
+  local found = places(ask('textDocument/definition'))
+  if #found == 1 then
+    vim.lsp.buf.definition()
+    local there = { unpack(found[1], 1, 3) }
+    expect('where the cursor goes', same_soon(cursor, there), there)
+  end
+  return found
+end
+
+function steps.references(step)
+  go(step.references)
+  return places(ask('textDocument/references', { context = { includeDeclaration = true } }))
+end
+
+function steps.highlights(step)
+  go(step.highlights)
+  local namespace = vim.api.nvim_create_namespace('vim_lsp_references')
+  vim.lsp.buf.clear_references()
+  vim.lsp.buf.document_highlight()
+  local groups = { LspReferenceText = 1, LspReferenceRead = 2, LspReferenceWrite = 3 }
+  return same_soon(function() return lit(namespace, groups) end, step.are)
+end
+
+function steps.arrows(step)
+  go(step.arrows)
+  vim.cmd('doautocmd CursorMoved')
+  local namespace = vim.api.nvim_create_namespace('scheme_ls_arrows')
+  local groups = { SchemeBinder = 'binder', SchemeUse = 'use' }
+  local function beside()
+    local found = {}
+    for _, mark in ipairs(vim.api.nvim_buf_get_extmarks(0, namespace, 0, -1, { details = true })) do
+      if mark[4].virt_text then
+        table.insert(found, { mark[2], (mark[4].virt_text[1][1]:gsub('─', '')) })
+      end
+    end
+    return found
+  end
+  expect('what is lit', same_soon(function() return lit(namespace, groups) end, step.lit), step.lit)
+  step.are = step.beside
+  return beside()
+end
+
+-- ---- all of them
+
+local publish = vim.lsp.handlers['textDocument/publishDiagnostics']
+vim.lsp.handlers['textDocument/publishDiagnostics'] = function(err, result, context, config)
+  local file = name_of(result.uri)
+  publish(err, result, context, config)
+  published[file] = result.version
+end
+
+for number, step in ipairs(questions.steps) do
+  for kind, run in pairs(steps) do
+    if step[kind] then
+      local ok, found = pcall(run, step)
+      local what = 'step ' .. number .. ', ' .. kind .. ' ' .. vim.fn.json_encode(step[kind])
+      if not ok then fail(what .. ': ' .. found) end
+      if step.are then expect(what, found, step.are) end
+    end
+  end
+end
 
 local ended
-local id = vim.lsp.start_client({
-  name = 'scheme_ls',
-  cmd = { program, 'serve' },
-  root_dir = '/tmp',
-  on_exit = function(code) ended = code end,
-})
-vim.lsp.buf_attach_client(buffer, id)
-local client = vim.lsp.get_client_by_id(id)
-if not vim.wait(10000, function() return client.initialized end, 10) then
-  fail('the server did not answer initialize')
-end
-
--- Positions count in the first encoding that Neovim offers, or in utf-16 where it offers none.
-local general = vim.lsp.protocol.make_client_capabilities().general or {}
-local offered = general.positionEncodings or { 'utf-16' }
-expect('the agreed encoding', client.server_capabilities.positionEncoding, offered[1])
-
--- The lines and characters of the starts of each arrow's ends.
-local function arrows()
-  local params = { textDocument = { uri = vim.uri_from_bufnr(buffer) } }
-  local answer = client.request_sync('scheme/arrows', params, 10000, buffer)
-  if not answer or answer.err then
-    fail('no arrows: ' .. vim.inspect(answer))
-  end
-  local pairs_of = {}
-  for _, arrow in ipairs(answer.result) do
-    local from, to = arrow.from.range.start, arrow.to.range.start
-    table.insert(pairs_of, { from.line, from.character, to.line, to.character })
-  end
-  return pairs_of
-end
-
-expect('arrows of the opened document', arrows(), { { 0, 8, 0, 13 } })
-
--- Behind wide characters the columns differ by the encoding; Neovim's own count bytes.
-vim.api.nvim_buf_set_text(buffer, 0, 12, 0, 12, { ' "é😀"' })
-vim.wait(500)
-expect('arrows of a document with wide characters', arrows(), {})
-vim.api.nvim_buf_set_text(buffer, 0, 12, 0, 21, { '' })
-vim.wait(500)
-expect('arrows without them again', arrows(), { { 0, 8, 0, 13 } })
-
-vim.api.nvim_buf_set_text(buffer, 0, 13, 0, 14, { '(lambda (y)', ' (x y))' })
-vim.wait(500)
-expect('arrows of the changed document', arrows(), { { 0, 8, 1, 2 }, { 0, 22, 1, 4 } })
-
-client.stop()
-if not vim.wait(10000, function() return ended ~= nil end, 10) then
+client.config.on_exit = function(code) ended = code end
+vim.lsp.stop_client(client.id)
+if not vim.wait(patience, function() return ended ~= nil end, 10) then
   fail('the server did not end')
 end
 expect('the status after shutdown and exit', ended, 0)
-print('tests/clients/neovim.lua: passed\n')
+print('tests/clients/neovim.lua: ' .. #questions.steps .. ' steps passed\n')
 vim.cmd('quitall!')

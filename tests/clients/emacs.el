@@ -1,0 +1,248 @@
+;;; emacs.el --- What tests/clients/emacs.sh has Emacs do  -*- lexical-binding: t; -*-
+
+;; The steps of questions.json, by Eglot and the file that editors/emacs gives.  It ends with status 0 where every answer is as
+;; expected.
+
+(require 'json)
+(require 'package)
+(unless (locate-library "eglot")
+  (package-initialize))
+(defvar here (file-name-as-directory (getenv "HERE")))
+(defvar room (file-name-as-directory (getenv "ROOM")))
+(add-to-list 'load-path (expand-file-name "../../editors/emacs" here))
+(setq-default eglot-sync-connect 10
+              eglot-autoshutdown nil
+              eglot-confirm-server-initiated-edits nil
+              make-backup-files nil)
+(defvar scheme-ls-command (list (getenv "SCHEME_LS") "serve"))
+(require 'scheme-ls)
+(require 'xref)
+(require 'flymake)
+
+(defvar patience 10)
+
+(defun fail (text &rest parts)
+  (message "tests/clients/emacs.el: %s" (apply #'format text parts))
+  (kill-emacs 1))
+
+(defun expect (what got want)
+  (unless (equal got want)
+    (fail "%s: got %S, and not %S" what got want)))
+
+(defun same-soon (get want)
+  "What GET answers, as soon as it is WANT, or else when patience ends."
+  (let ((until (+ (float-time) patience)))
+    (while (and (not (equal (funcall get) want)) (< (float-time) until))
+      (accept-process-output nil 0.02))
+    (funcall get)))
+
+(defvar questions
+  (with-temp-buffer
+    (insert-file-contents (expand-file-name "questions.json" here))
+    (json-parse-buffer :object-type 'plist :array-type 'list)))
+
+(cl-loop for (key lines) on (plist-get questions :texts) by #'cddr
+         do (with-temp-file (expand-file-name (substring (symbol-name key) 1) room)
+              (set-buffer-file-coding-system 'utf-8-unix)
+              (insert (string-join lines "\n") "\n")))
+
+;;;; Places, in characters
+
+(defun buffer-of (file)
+  (get-file-buffer (expand-file-name file room)))
+
+(defun line-and-character (at)
+  (save-excursion
+    (goto-char at)
+    (list (1- (line-number-at-pos)) (- at (line-beginning-position)))))
+
+(defun place-of (file from to)
+  (with-current-buffer (buffer-of file)
+    (append (list file) (line-and-character from) (cdr (line-and-character to)))))
+
+(defun point-of (line character)
+  (save-excursion
+    (goto-char (point-min))
+    (forward-line line)
+    (+ (point) character)))
+
+(defun go (place)
+  (switch-to-buffer (buffer-of (car place)))
+  (goto-char (apply #'point-of (cdr place))))
+
+(defun file-of (uri)
+  (file-name-nondirectory (eglot--uri-to-path uri)))
+
+(defun region-of (file range)
+  "The place of a RANGE in FILE, as Eglot finds it."
+  (with-current-buffer (buffer-of file)
+    (let ((region (eglot--range-region range)))
+      (place-of file (car region) (cdr region)))))
+
+(defun places (items)
+  "The places of what xref lists; where each ends is told by its length."
+  (mapcar
+   (lambda (item)
+     (let* ((location (xref-item-location item))
+            (file (file-name-nondirectory (xref-file-location-file location)))
+            (line (1- (xref-file-location-line location)))
+            (column (xref-file-location-column location)))
+       (list file line column (+ column (xref-match-length item)))))
+   items))
+
+(defun before (a b)
+  (let ((differs (cl-find-if-not (lambda (pair) (equal (car pair) (cdr pair))) (cl-mapcar #'cons a b))))
+    (and differs (< (car differs) (cdr differs)))))
+
+;;;; Steps
+
+(defun step-open (file)
+  (find-file (expand-file-name file room))
+  (expect (concat "the mode of " file) major-mode 'scheme-mode)
+  ;; there are no commands here, behind which Emacs would do what Eglot and the arrows wait for
+  (run-hooks 'post-command-hook)
+  (unless (same-soon #'eglot-managed-p t)
+    (fail "no server for %s" file)))
+
+(defun step-close (file)
+  (with-current-buffer (buffer-of file)
+    (set-buffer-modified-p nil)
+    (kill-buffer)))
+
+(defun send-changes ()
+  "What Eglot does when Emacs is idle, which it never is here."
+  (eglot--signal-textDocument/didChange))
+
+(defun step-change (file step)
+  (pcase-let ((`(,from-line ,from ,to-line ,to) (plist-get step :range)))
+    (switch-to-buffer (buffer-of file))
+    (goto-char (point-of from-line from))
+    (delete-region (point) (point-of to-line to))
+    (insert (plist-get step :text))
+    (send-changes)))
+
+(defvar before-keys nil "The text before keys were typed.")
+
+(defun step-type (file step)
+  "Type the keys of STEP as a person does."
+  (go (cons file (plist-get step :at)))
+  (setq before-keys (buffer-string))
+  (undo-boundary)
+  (execute-kbd-macro (vconcat (plist-get step :keys)))
+  (send-changes))
+
+(defun step-undo (file)
+  (switch-to-buffer (buffer-of file))
+  (undo-boundary)
+  (undo-start)
+  (while (not (or (equal (buffer-string) before-keys) (eq pending-undo-list t)))
+    (undo-more 1))
+  (send-changes)
+  (expect "the text after undo" (buffer-string) before-keys))
+
+(defun step-diagnostics (file step)
+  (with-current-buffer (buffer-of file)
+    (switch-to-buffer (current-buffer))
+    (flymake-start)
+    (same-soon
+     (lambda ()
+       (if (not (equal (gethash file told) eglot--versioned-identifier))
+           'none-of-this-version
+         (sort (mapcar
+                (lambda (it)
+                  (let ((told (cdr (assq 'eglot-lsp-diag (flymake-diagnostic-data it)))))
+                    (append (cdr (place-of file (flymake-diagnostic-beg it) (flymake-diagnostic-end it)))
+                            (list (plist-get told :severity) (plist-get told :code) (plist-get told :message)))))
+                (flymake-diagnostics))
+               #'before)))
+     (plist-get step :are))))
+
+(defun step-definition (place)
+  (go place)
+  (let ((found (places (xref-backend-definitions 'eglot (xref-backend-identifier-at-point 'eglot)))))
+    (when (= 1 (length found))
+      (xref-find-definitions "LSP identifier at point.")
+      (expect "where point goes" (cons (file-name-nondirectory buffer-file-name) (line-and-character (point))) (seq-take (car found) 3)))
+    found))
+
+(defun step-references (place)
+  (go place)
+  (places (xref-backend-references 'eglot (xref-backend-identifier-at-point 'eglot))))
+
+(defun marks (key wanted)
+  "The places of overlays whose KEY has a value of WANTED, each with what that stands for."
+  (sort (cl-loop for overlay in (overlays-in (point-min) (point-max))
+                 for what = (assq (overlay-get overlay key) wanted)
+                 when what
+                 collect (append (line-and-character (overlay-start overlay))
+                                 (cdr (line-and-character (overlay-end overlay)))
+                                 (cdr what)))
+        #'before))
+
+(defun step-highlights (place step)
+  (go place)
+  (let* ((file (car place))
+         (answer (jsonrpc-request (eglot--current-server-or-lose) :textDocument/documentHighlight (eglot--TextDocumentPositionParams)))
+         (found (mapcar (lambda (it) (append (cdr (region-of file (plist-get it :range))) (list (plist-get it :kind)))) answer))
+         (want (mapcar (lambda (it) (seq-take it 3)) (plist-get step :are))))
+    (eglot--highlight-piggyback #'ignore)
+    (expect "what Eglot lights"
+            (same-soon (lambda () (marks 'face '((eglot-highlight-symbol-face)))) want)
+            want)
+    found))
+
+(defun beside ()
+  "What is drawn beside lines, without what fills it."
+  (sort (cl-loop for overlay in (overlays-in (point-min) (point-max))
+                 for text = (and (overlay-get overlay 'scheme-ls) (overlay-get overlay 'after-string))
+                 when text
+                 collect (list (car (line-and-character (overlay-start overlay)))
+                               (string-trim (replace-regexp-in-string "─" "" (substring-no-properties text)))))
+        #'before))
+
+(defun step-arrows (place step)
+  (go place)
+  (run-hooks 'post-command-hook)
+  (let ((lit (plist-get step :lit)))
+    (expect "what is lit"
+            (same-soon (lambda () (marks 'face '((scheme-ls-binder "binder") (scheme-ls-use "use")))) lit)
+            lit))
+  (expect "what is beside" (beside) (plist-get step :beside)))
+
+;;;; All of them
+
+(defvar told (make-hash-table :test #'equal) "The versions of the lists that came last, by file.")
+
+(cl-defmethod eglot-handle-notification :after
+  (_server (_method (eql textDocument/publishDiagnostics)) &key uri version &allow-other-keys)
+  (puthash (file-of uri) version told))
+
+(defun run-step (number step)
+  (cl-loop for (kind run) in '((:open step-open) (:close step-close) (:change step-change) (:type step-type)
+                               (:undo step-undo) (:diagnostics step-diagnostics)
+                               (:definition step-definition) (:references step-references) (:highlights step-highlights)
+                               (:arrows step-arrows))
+           for what = (plist-get step kind)
+           when what
+           do (let* ((name (format "step %d, %s %S" number kind what))
+                     (found (condition-case err
+                                (if (memq run '(step-open step-close step-undo step-definition step-references))
+                                    (funcall run what)
+                                  (funcall run what step))
+                              (error (fail "%s: %S" name err)))))
+                (when (plist-member step :are)
+                  (expect name found (plist-get step :are))))))
+
+(cl-loop for step in (plist-get questions :steps)
+         for number from 1
+         do (run-step number step))
+
+(let* ((server (with-current-buffer (buffer-of "main.scm") (eglot-current-server)))
+       (process (jsonrpc--process server)))
+  ;; Eglot kills the server right behind `exit'; here it first has the time to end by itself.
+  (advice-add 'jsonrpc-shutdown :before
+              (lambda (&rest _) (same-soon (lambda () (process-live-p process)) nil)))
+  (eglot-shutdown server nil nil t)
+  (expect "the status after shutdown and exit" (list (process-status process) (process-exit-status process)) '(exit 0)))
+(message "tests/clients/emacs.el: %d steps passed" (length (plist-get questions :steps)))
+(kill-emacs 0)
