@@ -5,8 +5,8 @@
 
 PROGRAM is crates/scheme_ls/out/scheme_ls unless told. Figures are medians of N runs (7), each in a process of its own, but for
 questions, which are asked in one; hostile texts are opened 3 times, and 64 documents once. A time ends when the last byte of the
-answer has come, and what takes longer than the limit (300 s) is given up. A ratio is that to the line before, whose text is half as long. The peak is the most memory that the
-process ever had (VmHWM). GROUP is one of
+answer has come, and what takes longer than the limit (300 s) is given up. A ratio is that to the line before, whose text is half as
+long. The peak is the most memory that the process ever had (VmHWM). GROUP is one of
 
   start      from the start of the process to the answer to `initialize`
   open       opening one document until its diagnostics are there: procedures of the shapes `derived` and `core` of bench/expand.sh,
