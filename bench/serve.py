@@ -6,7 +6,7 @@
 PROGRAM is crates/scheme_ls/out/scheme_ls unless told. Figures are medians of N runs (7), each in a process of its own, but for
 questions, which are asked in one; hostile texts are opened 3 times, and 64 documents once. A time ends when the last byte of the
 answer has come, and what takes longer than the limit (300 s) is given up. A ratio is that to the line before, whose text is half as
-long. The peak is the most memory that the process ever had (VmHWM). GROUP is one of
+long. The peak is the most memory that the process ever had (VmHWM); it may have 8 GiB. GROUP is one of
 
   start      from the start of the process to the answer to `initialize`
   open       opening one document until its diagnostics are there: procedures of the shapes `derived` and `core` of bench/expand.sh,
@@ -21,6 +21,7 @@ import json
 import os
 import pathlib
 import platform
+import resource
 import select
 import shutil
 import statistics
@@ -34,6 +35,7 @@ PROGRAM = ROOT / "crates/scheme_ls/out/scheme_ls"
 URI = "file:///a.scm"
 WHOLE = 220 * 1024
 LIMIT = 1_048_576
+MEMORY = 8 << 30
 
 
 class NoAnswer(Exception):
@@ -55,6 +57,7 @@ class Client:
         self.limit, self.unread, self.number, self.version = limit, bytearray(), 0, 0
         self.start = time.perf_counter()
         self.process = subprocess.Popen([str(program), "serve"], stdin=subprocess.PIPE, stdout=subprocess.PIPE, bufsize=0)
+        resource.prlimit(self.process.pid, resource.RLIMIT_AS, (MEMORY, MEMORY))
         self.started = self.ask("initialize", {"capabilities": {}}, self.start)[0]
 
     def __enter__(self):
