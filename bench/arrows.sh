@@ -1,11 +1,11 @@
 #!/bin/sh
 # Times the built `scheme_ls arrows` on texts of doubling length, and prints for each its status, the seconds of the fastest
 # run beyond those of the empty text, and the ratio to the text before. Where the time is linear in the text, no ratio is
-# much above 2. Run it by hand: bench/arrows.sh [RUNS], with 50 runs of each text unless RUNS says otherwise.
+# much above 2. Run it by hand: bench/arrows.sh [RUNS], with 7 runs of each text unless RUNS says otherwise.
 
 top=$(cd "$(dirname "$0")/.." && pwd) || exit 1
 program=$top/crates/scheme_ls/out/scheme_ls
-runs=${1:-50}
+runs=${1:-7}
 
 if [ ! -x "$program" ]; then
     echo "bench/arrows.sh: $program is missing: run bin/scheme_ls first" >&2
@@ -52,12 +52,12 @@ seconds() {
     done | awk '{ run = $2 - $1; if (NR == 1 || run < least) least = run } END { printf "%.6f", least }'
 }
 
-# Times a kind of text at four lengths, from $2 bytes on.
+# Times a kind of text at $3 lengths, from $2 bytes on.
 measure() {
     kind=$1
     bytes=$2
     before=0
-    for _ in 1 2 3 4; do
+    for _ in $(seq "$3"); do
         "$kind" "$bytes" >"$text"
         "$program" arrows <"$text" >/dev/null
         status=$?
@@ -72,9 +72,8 @@ measure() {
 : >"$text"
 base=$(seconds)
 echo "The empty text: $base seconds"
-echo "Small texts, whose arrows are printed:"
-measure flat 8192
-measure deep 8192
-echo "Longer texts, which are refused:"
-measure flat 131072
-measure deep 131072
+echo "Texts up to the limit, whose arrows are printed:"
+measure flat 131072 4
+measure deep 131072 4
+echo "A text beyond it, which is refused:"
+measure flat 2097152 1

@@ -1,7 +1,8 @@
 #!/bin/sh
-# Times the built `scheme_ls serve` on a session that opens a document of 1 MiB and makes small changes to it, spread over its
-# lines: the seconds of 125 to 1,000 changes, and the ratio to the line before. Where a change costs the same however many
-# came before, no ratio is much above 2. Run it by hand: bench/changes.sh [CHANGES of the first line]
+# Times the built `scheme_ls serve` on a session that opens a document of 64 KiB and makes small changes to it, spread over its
+# lines: the seconds of 125 to 1,000 changes, behind each of which its diagnostics are written, and the ratio to the line before.
+# Where a change costs the same however many came before, no ratio is much above 2. Run it by hand: bench/changes.sh [CHANGES of the
+# first line]
 
 top=$(cd "$(dirname "$0")/.." && pwd) || exit 1
 program=$top/crates/scheme_ls/out/scheme_ls
@@ -15,24 +16,17 @@ fi
 stream=$(mktemp) || exit 1
 trap 'rm -f "$stream"' EXIT
 
-# A session with so many changes: each replaces one character of a line by two, or two by one.
+# A session with so many changes: each puts a digit more into the numeral of a line.
 session() {
     awk -v changes="$1" '
         function frame(body) { printf "Content-Length: %d\r\n\r\n%s", length(body), body }
-        function repeated(text, count, half) {
-            if (count <= 1) return count ? text : ""
-            half = repeated(text, int(count / 2))
-            return half half (count % 2 ? text : "")
-        }
         BEGIN {
-            line = "(define (square x) (* x x))"
-            lines = int(1048576 / (length(line) + 1)) - 1000
-            text = repeated(line "\\n", lines)
+            for (lines = 0; lines < 2250; lines++) text = text sprintf("(define (f-%05d x) (* x 1))\\n", lines)
             frame("{\"jsonrpc\":\"2.0\",\"id\":1,\"method\":\"initialize\",\"params\":{}}")
             frame("{\"jsonrpc\":\"2.0\",\"method\":\"textDocument/didOpen\",\"params\":{\"textDocument\":{\"uri\":\"file:///a.scm\",\"version\":0,\"text\":\"" text "\"}}}")
             for (n = 1; n <= changes; n++) {
                 at = (n * 7919) % lines
-                frame("{\"jsonrpc\":\"2.0\",\"method\":\"textDocument/didChange\",\"params\":{\"textDocument\":{\"uri\":\"file:///a.scm\",\"version\":" n "},\"contentChanges\":[{\"range\":{\"start\":{\"line\":" at ",\"character\":16},\"end\":{\"line\":" at ",\"character\":17}},\"text\":\"yz\"}]}}")
+                frame("{\"jsonrpc\":\"2.0\",\"method\":\"textDocument/didChange\",\"params\":{\"textDocument\":{\"uri\":\"file:///a.scm\",\"version\":" n "},\"contentChanges\":[{\"range\":{\"start\":{\"line\":" at ",\"character\":25},\"end\":{\"line\":" at ",\"character\":25}},\"text\":\"2\"}]}}")
             }
             frame("{\"jsonrpc\":\"2.0\",\"method\":\"exit\"}")
         }'
