@@ -13,7 +13,7 @@ long. The peak is the most memory that the process ever had (VmHWM); it may have
              at an eighth, a quarter, a half and the whole of 220 KB
   questions  a change of one character; definition, references, highlights, prepareRename and arrows in the document of 220 KB, the
              first of each after a change apart from the following ones; then the same where one name is used 50,000 times
-  many       64 documents of 64 KB: opened one after another, a change, a question
+  many       64 documents of 64 KB: opened one after another, which takes minutes, a change, a question
   hostile    texts that are long, deep, at limits, or whose expansion is large: opening one, with its first diagnostic
 """
 import argparse
@@ -382,17 +382,22 @@ class Bench:
             show(f"{name}: memory after all changes and questions", f"{len(text):,}", "", "", megabytes(client.peak()))
 
     def many(self):
-        text = procedures(DERIVED, how_many(DERIVED, 65_536))
-        text = padded(text, 65_536)
+        text = padded(procedures(DERIVED, how_many(DERIVED, 65_536)), 65_536)
         start = {"line": 0, "character": 0}
         uris = [f"file:///{k:02}.scm" for k in range(64)]
         with self.client() as client:
-            taken = [client.open(text, uri)[0] for uri in uris]
+            all_of_them, before = 0, None
+            for count, uri in enumerate(uris, 1):
+                taken = client.open(text, uri)[0]
+                all_of_them += taken
+                if count & (count - 1) == 0:
+                    ratio = f"{taken / before:.2f}" if before else ""
+                    show(f"opening document {count} of 64", f"{count} × {len(text):,}", seconds(taken), ratio, megabytes(client.peak()))
+                    before = taken
             size = f"64 × {len(text):,}"
-            show("opening the first of 64 documents", f"{len(text):,}", seconds(taken[0]))
-            show("opening the last of 64 documents", size, seconds(taken[-1]))
-            show("opening all 64, one after another", size, seconds(sum(taken)), "", megabytes(client.peak()))
-            show("a change of one character with 64 open", size, seconds(client.change(start, start, " ", uris[0])[0]), "", megabytes(client.peak()))
+            show("opening all 64, one after another", size, seconds(all_of_them))
+            taken = client.change(start, start, " ", uris[0])[0]
+            show("a change of one character with 64 open", size, seconds(taken), "", megabytes(client.peak()))
             at = position(text, text.index("(g0 y a)") + 1)
             asked = {"textDocument": {"uri": uris[1]}, "position": at}
             taken, message = client.ask("textDocument/definition", asked)
