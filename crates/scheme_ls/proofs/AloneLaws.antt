@@ -153,7 +153,7 @@ picked : (text : List ℕ) (rs : List Read) → AreReadAs (alone text) rs → (r
 picked text [] h = absurd h
 picked text (r ∷ rs) h = (r, h.0)
 
-read_alone : (text : List ℕ) → (r : Read) × IsReadAs text r
+pub read_alone : (text : List ℕ) → (r : Read) × IsReadAs text r
 read_alone text = let row = some_row (alone text) in picked text row.0 row.1
 
 is_some_map : {X Y : Type 0} (f : X → Y) (o : Option X) → is_some (option_map f o) ≡ is_some o

@@ -14,3 +14,4 @@ pub mod WordLists  -- Lists of one or two words, and whether they are a command
 pub mod SomeOutput  -- No stream of bytes is without an output
 pub mod OneCommand  -- Words ask for one command
 pub mod AloneLaws  -- A text alone, opened where no document was open
+pub mod OneText  -- A text has one answer

@@ -1,8 +1,8 @@
 -- How the command `arrows` ends, and why.
-use Rattle.std.specs.Prelude.{◌≡◌, ◌⊎◌, ℕ, List}
+use Rattle.std.specs.Prelude.{◌≡◌, ℕ, List}
 use Rattle.scheme_ls.specs.Reading.{FailsInText, PassesLimit, ReadsOn, ReadsText}
 use Rattle.scheme_ls.specs.Prints.{Prints, PrintsFront, SinkSeen}
-use Rattle.scheme_ls.specs.Printed.{AreLines, IsRefusal}
+use Rattle.scheme_ls.specs.Printed.{AreLines, IsAnswer, IsRefusal}
 use Rattle.scheme_ls.specs.Streams.{Streams}
 use Rattle.scheme_ls.specs.declared.arrows.ArrowsEnd.{ArrowsEnd}
 use Rattle.scheme_ls.specs.declared.arrows.ArrowsEnd.TheVariants as arrows
@@ -25,7 +25,7 @@ pub record PrintsFrontOfSuch (IsOutput : List ℕ → Type 0) (old new : SinkSee
 abbrev pub TextEndsAs : TextEnd → List ℕ → SinkSeen → SinkSeen → Type 0
 TextEndsAs Printed text old new = PrintsSuch (AreLines text) old new
 TextEndsAs Refused text old new = PrintsSuch (IsRefusal text) old new
-TextEndsAs WriteFailed text old new = PrintsFrontOfSuch (λ output. AreLines text output ⊎ IsRefusal text output) old new
+TextEndsAs WriteFailed text old new = PrintsFrontOfSuch (IsAnswer text) old new
 TextEndsAs NoMemory text old new = new ≡ old
 
 -- the whole text was read, and the answer to it ended so

@@ -79,3 +79,7 @@ pub record IsBadLine (text output : List ℕ) : Type 0 where
 -- this is the line for a text that doesn't read
 abbrev pub IsRefusal : (text output : List ℕ) → Type 0
 IsRefusal text output = IsBadLine text output ⊎ IsStopLine text output
+
+-- this is what a text is answered by
+abbrev pub IsAnswer : (text output : List ℕ) → Type 0
+IsAnswer text output = AreLines text output ⊎ IsRefusal text output

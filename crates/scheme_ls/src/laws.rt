@@ -3,6 +3,7 @@ ghost use Rattle.std.specs.Prelude.{◌≡◌, ◌++◌, List, ℕ};
 ghost use Rattle.lsp_messages.specs.declared.reply.Reply.{Reply};
 ghost use Rattle.scheme_ls.specs.SessionOutput.{BeginOutput, IsOutputOf, Output, written};
 ghost use Rattle.scheme_ls.specs.Arguments.{CommandOf};
+ghost use Rattle.scheme_ls.specs.Printed.{IsAnswer};
 ghost use Rattle.scheme_ls.specs.declared.arguments.Command.{Command};
 
 /// A stream of bytes has one output: no stream is without one, and none has two. Messages that begin it are a front of
@@ -17,4 +18,10 @@ pub fn one_output()
 /// Words ask for one command.
 pub fn one_command()
     ensures { (words : List (List ℕ)) (one other : Command) → CommandOf words one → CommandOf words other → one ≡ other }
+{}
+
+/// A text has one answer of `arrows`: no text is without one, and none has two.
+pub fn one_text()
+    ensures some { (text : List ℕ) → (output : List ℕ) × IsAnswer text output }
+    ensures only { (text one other : List ℕ) → IsAnswer text one → IsAnswer text other → one ≡ other }
 {}
