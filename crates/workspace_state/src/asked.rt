@@ -10,6 +10,7 @@ ghost use Rattle.workspace_state.specs.AskedOf.{IsSource};
 ghost use Rattle.workspace_state.specs.Places.{spans_of};
 ghost use Rattle.workspace_state.specs.Readings.{Read, program_in};
 ghost use Rattle.scheme_model.specs.Sites as sites;
+ghost use Rattle.scheme_model.specs.Spelling as spelling;
 ghost use Rattle.workspace_state.specs.ToldAnswers as told;
 
 use crate::open::Open;
@@ -53,7 +54,7 @@ impl Asked<'_> {
 
     /// Whether a link joins an occurrence.
     pub fn is_joined(&self, occ: Occ) -> bool
-        ensures { (rs : List Read) → IsSource self.now.texts.now rs self.now.index.now → result ≡ classes.is_joined (told.facts_in rs).links occ }
+        ensures { (rs : List Read) → IsSource self.now.texts.now rs self.now.index.now → result ≡ spelling.is_joined (told.facts_in rs).links occ }
     {
         is_joined(self.index.links.as_slice(), occ)
     }
