@@ -1,5 +1,5 @@
 //! Walks over the first line of a text: the bytes of so many units of an encoding, and the units of so many bytes.
-ghost use Rattle.std.specs.Prelude.{◌≡◌, ◌^◌, ◌<◌, ◌↔◌, ◌⊎◌, length, IsTrue};
+ghost use Rattle.std.specs.Prelude.{◌≡◌, ◌^◌, ◌<◌, ◌≤◌, ◌↔◌, ◌⊎◌, length, IsTrue};
 ghost use Rattle.std.specs.Str.{chars, IsCharBoundary};
 ghost use Rattle.ls_base.specs.Positions.{bytes_within, units_of, units_within};
 ghost use Rattle.text_positions.specs.Walks.{EndsLine, ends_behind, first_line};
@@ -41,7 +41,8 @@ pub fn bytes_in_line(text: &str, units: u32, encoding: Encoding) -> usize
 /// The units of the longest front of the first line with at most so many bytes.
 pub fn units_in_line(text: &str, bytes: usize, encoding: Encoding) -> u32
     requires { length text.now < 2 ^ 32 }
-    ensures { result ≡ units_within (units_of encoding) bytes (first_line text.now) }
+    ensures units { result ≡ units_within (units_of encoding) bytes (first_line text.now) }
+    ensures few { result ≤ length text.now }
 {
     let mut rest = text;
     let mut left = bytes;

@@ -1,0 +1,35 @@
+-- What a mark within a line says of a text.
+use Rattle.std.specs.Prelude.{◌≡◌, ◌+◌, ℕ, List, ◌++◌, drop, sum_by}
+use Rattle.std.specs.Str.{IsCharBoundary}
+use Rattle.ls_base.specs.Positions.{units_of}
+use Rattle.ls_base.specs.declared.encoding.Encoding.{Encoding}
+use Rattle.ls_base.specs.declared.encoding.Encoding.TheVariants.{Utf8, Utf16, Utf32}
+use Rattle.text_positions.specs.Walks.{first_line}
+use Rattle.text_positions.specs.declared.marks.Mark.{Mark}
+
+-- the units of an encoding before a mark in its line
+abbrev pub units_before : Encoding → Mark → ℕ
+units_before Utf8 m = m.utf8
+units_before Utf16 m = m.utf16
+units_before Utf32 m = m.utf32
+
+-- nothing of the line that begins at an offset stands before the mark
+pub record IsLineBegin (start : ℕ) (m : Mark) : Type 0 where
+  pub line : m.start ≡ start
+  pub units : (e : Encoding) → units_before e m ≡ 0
+
+-- the mark next stands behind the character c, which stands at the mark m
+pub record IsPast (c : ℕ) (m next : Mark) : Type 0 where
+  pub line : next.start ≡ m.start
+  pub units : (e : Encoding) → units_before e next ≡ units_before e m + units_of e c
+
+-- the characters of a line before what is left of it have the units that the mark counts
+pub record CountsTo (m : Mark) (line left : List ℕ) : Type 0 where
+  pub front : List ℕ
+  pub whole : line ≡ front ++ left
+  pub units : (e : Encoding) → units_before e m ≡ sum_by (units_of e) front
+
+-- the text may be cut at the mark, and so many units of its line stand before it
+pub record IsMark (text : List ℕ) (m : Mark) : Type 0 where
+  pub boundary : IsCharBoundary text (m.start + m.utf8)
+  pub counts : CountsTo m (first_line (drop m.start text)) (first_line (drop (m.start + m.utf8) text))
