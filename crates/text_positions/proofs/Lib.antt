@@ -4,3 +4,4 @@ pub mod LineStarts  -- Where lines begin, character by character
 pub mod Cuts  -- A text is cut where a line begins
 pub mod Places  -- Offsets and positions by the starts of lines
 pub mod MarkWalks  -- Marks within a line
+pub mod MarkOrder  -- Marks in the order of the text

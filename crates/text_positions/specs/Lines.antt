@@ -3,7 +3,7 @@ use Rattle.std.specs.Prelude.{◌≡◌, ◌<◌, ◌^◌, ℕ, ◌+◌, List, [
 use Rattle.std.specs.List.{All}
 use Rattle.std.specs.Str.{chars}
 use Rattle.ls_base.specs.Positions.{Line, lines_of, full_bytes}
-use Rattle.text_positions.specs.Marks.{IsMark}
+use Rattle.text_positions.specs.Marks.{IsMark, InOrder}
 use Rattle.text_positions.specs.Table.{Table}
 
 -- the offsets at which lines begin, of which the first begins at the offset given
@@ -20,3 +20,4 @@ pub record AreLinesOf (lines : Table) (text : List ℕ) : Type 0 where
   pub short : length text < 2 ^ 32
   pub starts : lines.starts ≡ line_starts text
   pub marks : All (IsMark text) lines.marks
+  pub order : InOrder lines.marks

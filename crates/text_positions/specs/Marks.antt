@@ -1,5 +1,5 @@
 -- What a mark within a line says of a text.
-use Rattle.std.specs.Prelude.{◌≡◌, ◌+◌, ℕ, List, ◌++◌, drop, sum_by}
+use Rattle.std.specs.Prelude.{◌≡◌, ◌<◌, ◌≤◌, ◌⊎◌, ◌+◌, ℕ, Bool, ◌||◌, ◌&&◌, ◌==◌, nat_lt, nat_le, List, ◌++◌, length, slice_index_or, drop, sum_by}
 use Rattle.std.specs.Str.{IsCharBoundary}
 use Rattle.ls_base.specs.Positions.{units_of}
 use Rattle.ls_base.specs.declared.encoding.Encoding.{Encoding}
@@ -33,3 +33,15 @@ pub record CountsTo (m : Mark) (line left : List ℕ) : Type 0 where
 pub record IsMark (text : List ℕ) (m : Mark) : Type 0 where
   pub boundary : IsCharBoundary text (m.start + m.utf8)
   pub counts : CountsTo m (first_line (drop m.start text)) (first_line (drop (m.start + m.utf8) text))
+
+-- m is in an earlier line than n, or in the same line with no more units of any encoding before it
+abbrev pub StandsBefore : Mark → Mark → Type 0
+StandsBefore m n = (m.start < n.start) ⊎ ((m.start ≡ n.start) × ((e : Encoding) → units_before e m ≤ units_before e n))
+
+-- the marks stand in the order of the text
+abbrev pub InOrder : List Mark → Type 0
+InOrder marks = (i j : ℕ) (d : Mark) → i ≤ j → j < length marks → StandsBefore (slice_index_or marks i d) (slice_index_or marks j d)
+
+-- the mark is in an earlier line than the one that begins there, or in that line with at most so many units before it
+abbrev pub is_reached : ℕ → ℕ → Encoding → Mark → Bool
+is_reached start units e m = nat_lt m.start start || (m.start == start && nat_le (units_before e m) units)

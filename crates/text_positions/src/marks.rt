@@ -1,8 +1,8 @@
 //! Marks within long lines, so that a walk over a line can begin near its end.
-ghost use Rattle.std.specs.Prelude.{◌≡◌, ◌+◌, ◌<◌, ◌≤◌, ◌^◌, ◌↔◌, ◌⊎◌, ◌∷◌, [], ◌++◌, IsTrue, IfOk};
-ghost use Rattle.std.specs.List.{Contains};
+ghost use Rattle.std.specs.Prelude.{◌≡◌, ◌+◌, ◌<◌, ◌≤◌, ◌^◌, ◌⊎◌, ◌∷◌, [], ◌++◌, IfOk};
+ghost use Rattle.std.specs.List.{All, Contains};
 ghost use Rattle.std.specs.Char.{len_utf8};
-ghost use Rattle.text_positions.specs.Marks.{units_before, IsLineBegin, IsPast};
+ghost use Rattle.text_positions.specs.Marks.{units_before, is_reached, IsLineBegin, IsPast, InOrder};
 
 use ls_base::{Encoding, Mem};
 
@@ -68,11 +68,12 @@ impl Mark {
         }
     }
 
-    /// Whether it is in the line that begins at an offset, with at most so many units before it.
-    fn is_within(self, start: u32, units: u32, encoding: Encoding) -> bool
-        ensures { IsTrue result ↔ (self.start ≡ start) × (units_before encoding self ≤ units) }
+    /// Whether it is in an earlier line than the one that begins at an offset, or in that line with at most so many
+    /// units before it.
+    fn is_reached(self, start: u32, units: u32, encoding: Encoding) -> bool
+        ensures { result ≡ is_reached start units encoding self }
     {
-        self.start == start && self.units(encoding) <= units
+        self.start < start || self.start == start && self.units(encoding) <= units
     }
 }
 
@@ -94,14 +95,14 @@ pub fn mark_past(marks: &mut Vec<Mark>, here: Mark, c: char) -> Mem<Mark>
 /// The last mark of the line that begins at an offset with at most so many units before it, or the beginning of the
 /// line.
 pub fn mark_within(marks: &[Mark], start: u32, units: u32, encoding: Encoding) -> Mark
+    requires { InOrder marks.now }
     ensures known { IsLineBegin start result ⊎ Contains marks.now result }
     ensures line { result.start ≡ start }
     ensures within { units_before encoding result ≤ units }
+    ensures last { All (λ m. m.start ≡ start → units_before encoding m ≤ units → m.utf8 ≤ result.utf8) marks.now }
 {
-    let behind = marks.partition_point(|mark| {
-        mark.start < start || mark.is_within(start, units, encoding)
-    });
-    if behind > 0 && marks[behind - 1].is_within(start, units, encoding) {
+    let behind = marks.partition_point(|mark| mark.is_reached(start, units, encoding));
+    if behind > 0 && marks[behind - 1].start == start {
         return marks[behind - 1];
     }
     Mark::begin(start)

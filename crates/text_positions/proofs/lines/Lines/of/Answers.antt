@@ -1,10 +1,12 @@
 use Rattle.std.proofs.Common.{◌≡◌, ◌-◌, [], ◌∷◌, ◌++◌, length, drop, refl, sym, ap, ◌∙◌, arith}
 use Rattle.std.proofs.lemmas.List.{append-nil}
 use Rattle.std.proofs.lemmas.List.Elements.{All-nil, All-same}
+use Rattle.std.proofs.lemmas.Str.{len_utf8_bounds}
 use Rattle.ls_base.specs.declared.encoding.Encoding.TheVariants.{Utf16, Utf32}
 use Rattle.text_positions.specs.Marks.{IsMark}
 use Rattle.text_positions.proofs.FirstLine.{rest_more}
 use Rattle.text_positions.proofs.LineStarts.{starts_pushed, starts_kept, later_starts-nil, starts_begun}
+use Rattle.text_positions.proofs.MarkOrder.{ordered_nil, ordered_past, ordered_later}
 use Rattle.text_positions.proofs.MarkWalks.{units_few, here_begin, here_place, here_past, here_return, marked}
 use Rattle.text_positions.proofs.lines.Lines.of.Goals as goal
 use Rattle.text_positions.proofs.lines.Lines.of.Goals.{In-Some}
@@ -21,6 +23,8 @@ loop-c-init c =
       so_far = rw one (starts_begun c.args.text.now (length c.args.text.now - length c.args.text.now) (sym none));
       here = here_begin c.args.text.now c.args.text.now c.begin-here.result 0 c.begin-here.ensures none all;
       marks = All-same (IsMark c.args.text.now) _ [] c.new-marks.ensures.items (All-nil (IsMark c.args.text.now));
+      begun = omega (arith, c.begin-here.ensures.line);
+      order = ordered_nil c.new-marks.result.items c.begin-here.result c.new-marks.ensures.items;
     }
 
 -- what is left behind the character
@@ -35,6 +39,8 @@ loop-c-preserved-in_ok-push-2 c = record {
   so_far = rw c.in_ok-push-2.ensures.items (starts_pushed c.loop-c.rest.now c.in-Some.more.now c.loop-c.starts.items _ c.in-Some.c (length c.args.text.now - length c.loop-c.rest.now) _ c.in-Some.ensures.some (omega (arith, c.in-Some.ensures.within)) c.loop-c.invariant.so_far _ c.ends_behind.ensures c.if-ends_behind.true);
   here = here_begin c.args.text.now c.in-Some.more.now c.begin-here-then-ends_behind.result _ c.begin-here-then-ends_behind.ensures refl (left (goal.at.loop-c-preserved-in_ok-push-2 c).In-Some);
   marks = c.loop-c.invariant.marks;
+  begun = omega (arith, c.begin-here-then-ends_behind.ensures.line);
+  order = ordered_later c.loop-c.marks.items c.loop-c.here c.begin-here-then-ends_behind.result (omega (arith, c.begin-here-then-ends_behind.ensures.line, c.loop-c.invariant.begun, c.loop-c.invariant.within, c.in-Some.ensures.within, len_utf8_bounds c.in-Some.c)) c.loop-c.invariant.order;
 }
 
 pub mark_past-requires-clause-short : goal.mark_past-requires-clause-short
@@ -55,6 +61,8 @@ loop-c-preserved-in_ok-here c = record {
   so_far = starts_kept c.loop-c.rest.now c.in-Some.more.now c.loop-c.starts.items _ c.in-Some.c (length c.args.text.now - length c.loop-c.rest.now) _ c.in-Some.ensures.some (omega (arith, c.in-Some.ensures.within)) c.loop-c.invariant.so_far _ c.ends_behind.ensures c.if-ends_behind.false;
   here = here_past c.args.text.now c.loop-c.rest.now c.in-Some.more.now c.in-Some.c c.loop-c.here _ c.in-Some.ensures.some c.ends_line.ensures c.loop-c.invariant.here c.in_ok-here.here c.if-not-ends_line.true c.in_ok-here.ensures.past c.in-Some.ensures.within c.loop-c.invariant.within;
   marks = marked c.args.text.now c.loop-c.rest.now c.in-Some.more.now c.in-Some.c c.loop-c.here _ c.in-Some.ensures.some c.ends_line.ensures c.loop-c.invariant.here c.in_ok-here.here _ _ c.if-not-ends_line.true c.in_ok-here.ensures.past c.in-Some.ensures.within c.loop-c.invariant.within (left (goal.at.loop-c-preserved-in_ok-here c).In-Some) c.in-Some.ensures.text c.loop-c.invariant.marks c.in_ok-here.ensures.marks;
+  begun = let past = c.in_ok-here.ensures.past in omega (arith, past.line, c.loop-c.invariant.begun, c.in-Some.ensures.within);
+  order = ordered_past _ _ c.loop-c.here c.in_ok-here.here c.in-Some.c c.in_ok-here.ensures.past c.in_ok-here.ensures.marks c.loop-c.invariant.order;
 }
 
 pub loop-c-preserved : goal.loop-c-preserved
@@ -65,6 +73,8 @@ loop-c-preserved c = record {
   so_far = starts_kept c.loop-c.rest.now c.in-Some.more.now c.loop-c.starts.items _ c.in-Some.c (length c.args.text.now - length c.loop-c.rest.now) _ c.in-Some.ensures.some (omega (arith, c.in-Some.ensures.within)) c.loop-c.invariant.so_far _ c.ends_behind.ensures c.if-ends_behind.false;
   here = here_return c.args.text.now c.loop-c.rest.now c.in-Some.more.now c.in-Some.c c.loop-c.here _ c.in-Some.ensures.some c.ends_line.ensures c.loop-c.invariant.here c.if-not-ends_line.false (sym c.ends_behind.ensures ∙ c.if-ends_behind.false);
   marks = c.loop-c.invariant.marks;
+  begun = omega (arith, c.loop-c.invariant.begun, c.in-Some.ensures.within);
+  order = c.loop-c.invariant.order;
 }
 
 pub returns : goal.returns
@@ -72,4 +82,5 @@ returns c = record {
   short = c.requires;
   starts = sym (append-nil c.loop-c.starts.items) ∙ ap (λ xs. c.loop-c.starts.items ++ xs) (sym (later_starts-nil _ _ c.in_default.ensures.none)) ∙ c.loop-c.invariant.so_far;
   marks = c.loop-c.invariant.marks;
+  order = let ordered = c.loop-c.invariant.order in ordered.order;
 }

@@ -6,7 +6,7 @@ use Rattle.std.specs.Str.{IsCharBoundary}
 use Rattle.ls_base.specs.declared.places.Pos.{Pos}
 use Rattle.ls_base.specs.Positions.{units_of, units_within}
 use Rattle.text_positions.specs.Lines.{line_starts}
-use Rattle.text_positions.specs.Marks.{IsMark, units_before}
+use Rattle.text_positions.specs.Marks.{IsMark, units_before, InOrder}
 use Rattle.text_positions.specs.Table.{Table}
 use Rattle.text_positions.specs.Walks.{IsLineAt, first_line}
 use Rattle.text_positions.proofs.Cuts.{IsLineStart, line_start}
@@ -43,6 +43,9 @@ mark c =
     (All-same (IsMark c.args.text.now) _ _ (c.deref-2.ensures.value ∙ ap (λ (t : Table). t.marks) c.self.view_is) c.requires.marks)
     (subst (IsCharBoundary c.args.text.now) (sym (at_start c)) there.boundary)
     c.mark_within-mark.ensures.known
+
+pub mark_within-mark-requires : goal.mark_within-mark-requires
+mark_within-mark-requires c = subst InOrder (sym (c.deref-2.ensures.value ∙ ap (λ (t : Table). t.marks) c.self.view_is)) c.requires.order
 
 pub range_from-requires : goal.range_from-requires
 range_from-requires c = λ some.
