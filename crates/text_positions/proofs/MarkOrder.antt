@@ -1,16 +1,15 @@
 -- Marks in the order of the text, and what a search by halves finds among them.
-use Rattle.std.proofs.Common.{◌≡◌, ℕ, zero, suc, ◌+◌, ◌-◌, ◌<◌, ◌≤◌, ◌⊎◌, inl, inr, Bool, true, false, List, [], ◌∷◌, ◌++◌, length, get_or, length-append, refl, sym, ap, ◌∙◌, subst, arith}
+use Rattle.std.proofs.Common.{◌≡◌, ℕ, ◌-◌, ◌<◌, ◌≤◌, ◌⊎◌, inl, inr, true, false, List, [], ◌∷◌, ◌++◌, length, get_or, length-append, refl, sym, ◌∙◌, subst, arith}
 use Rattle.std.proofs.lemmas.Bool.{false≢true, cases_eq, cases_lt}
 use Rattle.std.proofs.lemmas.Bool.Decides.{nat_tests}
 use Rattle.std.proofs.lemmas.List.{get_or_append_left, get_or_default, get_or_push}
 use Rattle.std.proofs.lemmas.List.Elements.{All-push}
 use Rattle.std.specs.List.{All}
 use Rattle.std.specs.List.Sorted.{IsPartitionedBy, IsPartitionPoint}
-use Rattle.ls_base.specs.Positions.{units_of}
 use Rattle.ls_base.specs.declared.encoding.Encoding.{Encoding}
 use Rattle.ls_base.specs.declared.encoding.Encoding.TheVariants.{Utf8}
 use Rattle.text_positions.specs.declared.marks.Mark.{Mark}
-use Rattle.text_positions.specs.Marks.{units_before, is_reached, IsLineBegin, IsPast, StandsBefore, InOrder}
+use Rattle.text_positions.specs.Marks.{units_before, is_reached, IsPast, StandsBefore, InOrder}
 
 -- ---- the order, mark by mark
 

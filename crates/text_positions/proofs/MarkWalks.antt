@@ -1,5 +1,5 @@
 -- Marks within a line: what they count, character by character, and how a walk goes on from them.
-use Rattle.std.proofs.Common.{◌≡◌, ◌≢◌, ℕ, ◌+◌, ◌-◌, ◌<◌, ◌≤◌, ◌⊎◌, ◌↔◌, inl, inr, IsTrue, Bool, true, false, List, [], ◌∷◌, ◌++◌, length, drop, append_assoc, refl, sym, ap, ◌∙◌, subst, arith}
+use Rattle.std.proofs.Common.{◌≡◌, ◌≢◌, ℕ, ◌+◌, ◌-◌, ◌≤◌, ◌⊎◌, ◌↔◌, inl, inr, IsTrue, Bool, true, false, cond, nat_lt, ◌/◌, List, [], ◌∷◌, ◌++◌, length, drop, append_assoc, refl, sym, ap, ◌∙◌, subst, arith}
 use Rattle.std.proofs.lemmas.Bool.{false≢true}
 use Rattle.std.proofs.lemmas.Bool.Decides.{nat_tests}
 use Rattle.std.proofs.lemmas.List.Elements.{All-contains, All-push, All-same}
@@ -10,9 +10,9 @@ use Rattle.std.specs.Str.{chars, IsUtf8, IsCharBoundary}
 use Rattle.std.specs.Char.{len_utf8}
 use Rattle.ls_base.specs.Positions.{lines_of, units_of, bytes_within, units_within}
 use Rattle.ls_base.specs.declared.encoding.Encoding.{Encoding}
-use Rattle.ls_base.specs.declared.encoding.Encoding.TheVariants.{Utf8, Utf16, Utf32}
+use Rattle.ls_base.specs.declared.encoding.Encoding.TheVariants.{Utf8}
 use Rattle.text_positions.specs.declared.marks.Mark.{Mark}
-use Rattle.text_positions.specs.Marks.{units_before, IsLineBegin, IsPast, CountsTo, IsMark}
+use Rattle.text_positions.specs.Marks.{units_before, with_mark, IsLineBegin, IsPast, CountsTo, IsMark}
 use Rattle.text_positions.specs.Walks.{EndsLine, begins_with_feed, ends_behind, first_chars, first_line}
 use Rattle.text_positions.proofs.FirstLine.{units_of-le-len_utf8, first_chars_end, first_chars_more}
 
@@ -120,6 +120,13 @@ return_feed c (d ∷ cs) (inr e) f = grind (arith, nat_tests)
 feed_first : (cs : List ℕ) → begins_with_feed cs ≡ true → first_chars (lines_of cs) ≡ []
 feed_first [] f = absurd (false≢true f)
 feed_first (c ∷ cs) f = first_chars_end c cs (inl (grind (arith, nat_tests)))
+
+-- at most that mark is new
+pub with_mark_cases : (here next : Mark) (old new : List Mark) → new ≡ with_mark here next old → (new ≡ old) ⊎ (new ≡ old ++ next ∷ [])
+with_mark_cases here next old new e = added (nat_lt (here.utf8 / 256) (next.utf8 / 256)) (old ++ next ∷ []) old new e where
+  added : (b : Bool) (more old new : List Mark) → new ≡ cond b more old → (new ≡ old) ⊎ (new ≡ more)
+  added true more old new e = inr e
+  added false more old new e = inl e
 
 -- the text left begins with the character c, and the test b says whether it ends a line
 module _ (text left more : List ℕ) (c : ℕ) (m : Mark) (b : Bool) (is : chars left ≡ c ∷ chars more) (tells : IsTrue b ↔ EndsLine c) (here : Here text left m) where

@@ -1,5 +1,5 @@
 -- What a mark within a line says of a text.
-use Rattle.std.specs.Prelude.{◌≡◌, ◌<◌, ◌≤◌, ◌⊎◌, ◌+◌, ℕ, Bool, ◌||◌, ◌&&◌, ◌==◌, nat_lt, nat_le, List, ◌++◌, length, slice_index_or, drop, sum_by}
+use Rattle.std.specs.Prelude.{◌≡◌, ◌<◌, ◌≤◌, ◌⊎◌, ◌+◌, ℕ, Bool, ◌||◌, ◌&&◌, ◌==◌, if◌then◌else◌, nat_lt, nat_le, ◌/◌, List, [], ◌∷◌, ◌++◌, length, slice_index_or, drop, sum_by}
 use Rattle.std.specs.Str.{IsCharBoundary}
 use Rattle.ls_base.specs.Positions.{units_of}
 use Rattle.ls_base.specs.declared.encoding.Encoding.{Encoding}
@@ -22,6 +22,10 @@ pub record IsLineBegin (start : ℕ) (m : Mark) : Type 0 where
 pub record IsPast (c : ℕ) (m next : Mark) : Type 0 where
   pub line : next.start ≡ m.start
   pub units : (e : Encoding) → units_before e next ≡ units_before e m + units_of e c
+
+-- a mark at next too, where a stretch of 256 bytes of the line ends behind here and not behind next
+abbrev pub with_mark : Mark → Mark → List Mark → List Mark
+with_mark here next marks = if nat_lt (here.utf8 / 256) (next.utf8 / 256) then marks ++ next ∷ [] else marks
 
 -- the characters of a line before what is left of it have the units that the mark counts
 pub record CountsTo (m : Mark) (line left : List ℕ) : Type 0 where

@@ -1,8 +1,8 @@
 //! Marks within long lines, so that a walk over a line can begin near its end.
-ghost use Rattle.std.specs.Prelude.{◌≡◌, ◌+◌, ◌<◌, ◌≤◌, ◌^◌, ◌⊎◌, ◌∷◌, [], ◌++◌, IfOk};
+ghost use Rattle.std.specs.Prelude.{◌≡◌, ◌+◌, ◌<◌, ◌≤◌, ◌^◌, ◌⊎◌, IfOk};
 ghost use Rattle.std.specs.List.{All, Contains};
 ghost use Rattle.std.specs.Char.{len_utf8};
-ghost use Rattle.text_positions.specs.Marks.{units_before, is_reached, IsLineBegin, IsPast, InOrder};
+ghost use Rattle.text_positions.specs.Marks.{units_before, with_mark, is_reached, IsLineBegin, IsPast, InOrder};
 
 use ls_base::{Encoding, Mem};
 
@@ -83,7 +83,7 @@ pub fn mark_past(marks: &mut Vec<Mark>, here: Mark, c: char) -> Mem<Mark>
     requires utf16 { here.utf16 ≤ here.utf8 }
     requires utf32 { here.utf32 ≤ here.utf8 }
     ensures past { IfOk result (λ next. IsPast c here next) }
-    ensures marks { IfOk result (λ next. (marks.new.items ≡ marks.old.items) ⊎ (marks.new.items ≡ marks.old.items ++ next ∷ [])) }
+    ensures marks { IfOk result (λ next. marks.new.items ≡ with_mark here next marks.old.items) }
 {
     let next = here.past(c);
     if next.utf8 / STRETCH > here.utf8 / STRETCH {

@@ -7,7 +7,7 @@ use Rattle.text_positions.specs.Marks.{IsMark}
 use Rattle.text_positions.proofs.FirstLine.{rest_more}
 use Rattle.text_positions.proofs.LineStarts.{starts_pushed, starts_kept, later_starts-nil, starts_begun}
 use Rattle.text_positions.proofs.MarkOrder.{ordered_nil, ordered_past, ordered_later}
-use Rattle.text_positions.proofs.MarkWalks.{units_few, here_begin, here_place, here_past, here_return, marked}
+use Rattle.text_positions.proofs.MarkWalks.{units_few, here_begin, here_place, here_past, here_return, marked, with_mark_cases}
 use Rattle.text_positions.proofs.lines.Lines.of.Goals as goal
 use Rattle.text_positions.proofs.lines.Lines.of.Goals.{In-Some}
 
@@ -60,9 +60,9 @@ loop-c-preserved-in_ok-here c = record {
   rest = left (goal.at.loop-c-preserved-in_ok-here c).In-Some;
   so_far = starts_kept c.loop-c.rest.now c.in-Some.more.now c.loop-c.starts.items _ c.in-Some.c (length c.args.text.now - length c.loop-c.rest.now) _ c.in-Some.ensures.some (omega (arith, c.in-Some.ensures.within)) c.loop-c.invariant.so_far _ c.ends_behind.ensures c.if-ends_behind.false;
   here = here_past c.args.text.now c.loop-c.rest.now c.in-Some.more.now c.in-Some.c c.loop-c.here _ c.in-Some.ensures.some c.ends_line.ensures c.loop-c.invariant.here c.in_ok-here.here c.if-not-ends_line.true c.in_ok-here.ensures.past c.in-Some.ensures.within c.loop-c.invariant.within;
-  marks = marked c.args.text.now c.loop-c.rest.now c.in-Some.more.now c.in-Some.c c.loop-c.here _ c.in-Some.ensures.some c.ends_line.ensures c.loop-c.invariant.here c.in_ok-here.here _ _ c.if-not-ends_line.true c.in_ok-here.ensures.past c.in-Some.ensures.within c.loop-c.invariant.within (left (goal.at.loop-c-preserved-in_ok-here c).In-Some) c.in-Some.ensures.text c.loop-c.invariant.marks c.in_ok-here.ensures.marks;
+  marks = marked c.args.text.now c.loop-c.rest.now c.in-Some.more.now c.in-Some.c c.loop-c.here _ c.in-Some.ensures.some c.ends_line.ensures c.loop-c.invariant.here c.in_ok-here.here _ _ c.if-not-ends_line.true c.in_ok-here.ensures.past c.in-Some.ensures.within c.loop-c.invariant.within (left (goal.at.loop-c-preserved-in_ok-here c).In-Some) c.in-Some.ensures.text c.loop-c.invariant.marks (with_mark_cases c.loop-c.here c.in_ok-here.here _ _ c.in_ok-here.ensures.marks);
   begun = let past = c.in_ok-here.ensures.past in omega (arith, past.line, c.loop-c.invariant.begun, c.in-Some.ensures.within);
-  order = ordered_past _ _ c.loop-c.here c.in_ok-here.here c.in-Some.c c.in_ok-here.ensures.past c.in_ok-here.ensures.marks c.loop-c.invariant.order;
+  order = ordered_past _ _ c.loop-c.here c.in_ok-here.here c.in-Some.c c.in_ok-here.ensures.past (with_mark_cases c.loop-c.here c.in_ok-here.here _ _ c.in_ok-here.ensures.marks) c.loop-c.invariant.order;
 }
 
 pub loop-c-preserved : goal.loop-c-preserved

@@ -1,12 +1,11 @@
 use Rattle.std.proofs.Common.{◌≡◌, ℕ, ◌+◌, ◌-◌, ◌≤◌, length, length-drop, get_or, slice_get, drop, sym, ap, ◌∙◌, subst, arith}
 use Rattle.std.proofs.lemmas.List.Elements.{All-same}
-use Rattle.std.specs.List.{All}
 use Rattle.std.specs.List.Sorted.{IsNonDecreasing}
 use Rattle.std.specs.Str.{IsCharBoundary}
 use Rattle.ls_base.specs.declared.places.Pos.{Pos}
 use Rattle.ls_base.specs.Positions.{units_of, units_within}
 use Rattle.text_positions.specs.Lines.{line_starts}
-use Rattle.text_positions.specs.Marks.{IsMark, units_before, InOrder}
+use Rattle.text_positions.specs.Marks.{IsMark, InOrder}
 use Rattle.text_positions.specs.Table.{Table}
 use Rattle.text_positions.specs.Walks.{IsLineAt, first_line}
 use Rattle.text_positions.proofs.Cuts.{IsLineStart, line_start}
