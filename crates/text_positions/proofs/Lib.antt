@@ -5,3 +5,4 @@ pub mod Cuts  -- A text is cut where a line begins
 pub mod Places  -- Offsets and positions by the starts of lines
 pub mod MarkWalks  -- Marks within a line
 pub mod MarkOrder  -- Marks in the order of the text
+pub mod MarksNear  -- A mark, or the start of the line, is near each place of a text

@@ -1,6 +1,6 @@
 -- Marks within a line: what they count, character by character, and how a walk goes on from them.
 use Rattle.std.proofs.Common.{◌≡◌, ◌≢◌, ℕ, ◌+◌, ◌-◌, ◌≤◌, ◌⊎◌, ◌↔◌, inl, inr, IsTrue, Bool, true, false, cond, nat_lt, ◌/◌, List, [], ◌∷◌, ◌++◌, length, drop, append_assoc, refl, sym, ap, ◌∙◌, subst, arith}
-use Rattle.std.proofs.lemmas.Bool.{false≢true}
+use Rattle.std.proofs.lemmas.Bool.{false≢true, cases_eq}
 use Rattle.std.proofs.lemmas.Bool.Decides.{nat_tests}
 use Rattle.std.proofs.lemmas.List.Elements.{All-contains, All-push, All-same}
 use Rattle.std.proofs.lemmas.List.Sums.{sum_by-cons, sum_by_push}
@@ -116,6 +116,15 @@ return_feed c cs (inl e) f = absurd (false≢true (sym f ∙ grind (arith, nat_t
 return_feed c [] (inr e) f = absurd (false≢true (sym f ∙ grind (arith, nat_tests)))
 return_feed c (d ∷ cs) (inr e) f = grind (arith, nat_tests)
 
+-- a line ends behind the first character only where it ends the line
+pub ended_line : (text more : List ℕ) (c : ℕ) (b : Bool) → chars text ≡ c ∷ chars more → b ≡ ends_behind c (chars more) → b ≡ true → first_line text ≡ []
+ended_line text more c b is e t = ap (λ cs. first_chars (lines_of cs)) is ∙ first_chars_end c (chars more) (ends c (chars more) (sym e ∙ t)) where
+  ends : (c : ℕ) (cs : List ℕ) → ends_behind c cs ≡ true → EndsLine c
+  ends c cs t = elim (cases_eq c 10) [
+    | inl feed ↦ inl feed
+    | inr n ↦ inr (grind (arith, nat_tests))
+  ]
+
 -- a line that begins with a line feed is empty
 feed_first : (cs : List ℕ) → begins_with_feed cs ≡ true → first_chars (lines_of cs) ≡ []
 feed_first [] f = absurd (false≢true f)
@@ -139,10 +148,12 @@ module _ (text left more : List ℕ) (c : ℕ) (m : Mark) (b : Bool) (is : chars
   past_place : (next : Mark) → b ≡ false → IsPast c m next → length more + len_utf8 c ≡ length left → length left ≤ length text → next.start + next.utf8 ≡ length text - length more
   past_place next f p k le = omega (arith, here_place f, p.line, p.units Utf8)
 
+  pub line_more : b ≡ false → first_line left ≡ c ∷ first_line more
+  line_more f = ap (λ cs. first_chars (lines_of cs)) is ∙ first_chars_more c (chars more) (other f)
+
   pub here_past : (next : Mark) → b ≡ false → IsPast c m next → length more + len_utf8 c ≡ length left → length left ≤ length text → Here text more next
   here_past next f p k le =
-      let line : first_line left ≡ c ∷ first_line more = ap (λ cs. first_chars (lines_of cs)) is ∙ first_chars_more c (chars more) (other f) in
-      let counts : CountsTo m (first_line (drop m.start text)) (c ∷ first_line more) = subst (CountsTo m (first_line (drop m.start text))) line here.counts in
+      let counts : CountsTo m (first_line (drop m.start text)) (c ∷ first_line more) = subst (CountsTo m (first_line (drop m.start text))) (line_more f) here.counts in
       record {
         counts = subst (λ (n : ℕ). CountsTo next (first_line (drop n text)) (first_line more)) (sym p.line) (counts_past m next _ _ c p counts);
         place = λ _. past_place next f p k le;
@@ -162,11 +173,15 @@ module _ (text left more : List ℕ) (c : ℕ) (m : Mark) (b : Bool) (is : chars
       All-same (IsMark text) new (old ++ next ∷ []) pushed (All-push (IsMark text) old next all mark)
 
   -- a carriage return that a line feed follows is counted with no line
+  pub line_return : b ≡ true → ends_behind c (chars more) ≡ false → first_line left ≡ first_line more
+  line_return t e =
+      let feed : begins_with_feed (chars more) ≡ true = return_feed c (chars more) (tells.0 t) e in
+      ap (λ cs. first_chars (lines_of cs)) is ∙ first_chars_end c (chars more) (tells.0 t) ∙ sym (feed_first (chars more) feed)
+
   pub here_return : b ≡ true → ends_behind c (chars more) ≡ false → Here text more m
   here_return t e =
       let feed : begins_with_feed (chars more) ≡ true = return_feed c (chars more) (tells.0 t) e in
-      let line : first_line left ≡ first_line more = ap (λ cs. first_chars (lines_of cs)) is ∙ first_chars_end c (chars more) (tells.0 t) ∙ sym (feed_first (chars more) feed) in
       record {
-        counts = subst (CountsTo m (first_line (drop m.start text))) line here.counts;
+        counts = subst (CountsTo m (first_line (drop m.start text))) (line_return t e) here.counts;
         place = λ f. absurd (false≢true (sym f ∙ feed));
       }

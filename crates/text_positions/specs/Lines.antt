@@ -1,10 +1,11 @@
 -- Where the lines of a text begin, and what is marked within them.
-use Rattle.std.specs.Prelude.{◌≡◌, ◌<◌, ◌^◌, ℕ, ◌+◌, List, [], ◌∷◌, length}
+use Rattle.std.specs.Prelude.{◌≡◌, ◌<◌, ◌^◌, ℕ, ◌+◌, List, [], ◌∷◌, length, drop}
 use Rattle.std.specs.List.{All}
 use Rattle.std.specs.Str.{chars}
 use Rattle.ls_base.specs.Positions.{Line, lines_of, full_bytes}
-use Rattle.text_positions.specs.Marks.{IsMark, InOrder}
+use Rattle.text_positions.specs.Marks.{IsMark, InOrder, EachIsNear}
 use Rattle.text_positions.specs.Table.{Table}
+use Rattle.text_positions.specs.Walks.{first_line}
 
 -- the offsets at which lines begin, of which the first begins at the offset given
 abbrev pub starts_from : ℕ → List Line → List ℕ
@@ -21,3 +22,4 @@ pub record AreLinesOf (lines : Table) (text : List ℕ) : Type 0 where
   pub starts : lines.starts ≡ line_starts text
   pub marks : All (IsMark text) lines.marks
   pub order : InOrder lines.marks
+  pub near : All (λ start. EachIsNear lines.marks start (first_line (drop start text))) lines.starts

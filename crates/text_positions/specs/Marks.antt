@@ -1,7 +1,8 @@
 -- What a mark within a line says of a text.
-use Rattle.std.specs.Prelude.{◌≡◌, ◌<◌, ◌≤◌, ◌⊎◌, ◌+◌, ℕ, Bool, ◌||◌, ◌&&◌, ◌==◌, if◌then◌else◌, nat_lt, nat_le, ◌/◌, List, [], ◌∷◌, ◌++◌, length, slice_index_or, drop, sum_by}
+use Rattle.std.specs.Prelude.{◌≡◌, ◌<◌, ◌≤◌, ◌⊎◌, ◌+◌, ℕ, Bool, ◌||◌, ◌&&◌, ◌==◌, if◌then◌else◌, nat_lt, nat_le, ◌/◌, List, [], ◌∷◌, ◌++◌, length, slice_index_or, take, drop, sum_by}
+use Rattle.std.specs.List.{Contains}
 use Rattle.std.specs.Str.{IsCharBoundary}
-use Rattle.ls_base.specs.Positions.{units_of}
+use Rattle.ls_base.specs.Positions.{units_of, byte_count}
 use Rattle.ls_base.specs.declared.encoding.Encoding.{Encoding}
 use Rattle.ls_base.specs.declared.encoding.Encoding.TheVariants.{Utf8, Utf16, Utf32}
 use Rattle.text_positions.specs.Walks.{first_line}
@@ -49,3 +50,15 @@ InOrder marks = (i j : ℕ) (d : Mark) → i ≤ j → j < length marks → Stan
 -- the mark is in an earlier line than the one that begins there, or in that line with at most so many units before it
 abbrev pub is_reached : ℕ → ℕ → Encoding → Mark → Bool
 is_reached start units e m = nat_lt m.start start || (m.start == start && nat_le (units_before e m) units)
+
+-- a mark of the line that begins there, or its start, stands less than 256 bytes before the place behind so many of its bytes
+pub record IsNear (marks : List Mark) (start bytes : ℕ) : Type 0 where
+  pub mark : Mark
+  pub known : IsLineBegin start mark ⊎ Contains marks mark
+  pub line : mark.start ≡ start
+  pub before : mark.utf8 ≤ bytes
+  pub near : bytes < mark.utf8 + 256
+
+-- so it is at each place of the line, which has these characters
+abbrev pub EachIsNear : List Mark → ℕ → List ℕ → Type 0
+EachIsNear marks start line = (i : ℕ) → i ≤ length line → IsNear marks start (byte_count (take i line))

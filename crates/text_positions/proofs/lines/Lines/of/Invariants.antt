@@ -9,9 +9,11 @@ use Rattle.text_positions.specs.Marks.{IsMark}
 use Rattle.text_positions.proofs.LineStarts.{later_starts}
 use Rattle.text_positions.proofs.MarkOrder.{Ordered}
 use Rattle.text_positions.proofs.MarkWalks.{Here}
+use Rattle.text_positions.proofs.MarksNear.{Near}
 use Rattle.text_positions.proofs.lines.Lines.of.Given as goal
 
--- the starts so far, and those of what is left, are those of the text; the marks so far are marks of it, in its order
+-- the starts so far, and those of what is left, are those of the text; the marks so far are marks of it, in its
+-- order and near each other
 abbrev pub invariant-loop-c : goal.invariant-loop-c
 invariant-loop-c l = record {
   text : shadow (Utf8 l.rest);
@@ -22,6 +24,7 @@ invariant-loop-c l = record {
   marks : All (IsMark l.text) l.marks.items;
   begun : l.here.start ≤ length l.text - length l.rest;
   order : Ordered l.marks.items l.here;
+  near : Near l.text l.rest l.starts.items l.marks.items l.here;
 }
 
 abbrev pub decreases-loop-c : goal.decreases-loop-c
