@@ -6,3 +6,4 @@ pub mod Places  -- Offsets and positions by the starts of lines
 pub mod MarkWalks  -- Marks within a line
 pub mod MarkOrder  -- Marks in the order of the text
 pub mod MarksNear  -- A mark, or the start of the line, is near each place of a text
+pub mod ShortWalks  -- From the last mark a walk over a line is short

@@ -21,7 +21,7 @@ sums_few : (e : Encoding) (cs : List ℕ) → sum_by (units_of e) cs ≤ sum_by 
 sums_few e [] = omega arith
 sums_few e (c ∷ cs) = omega (arith, sum_by-cons (units_of e) c cs, sum_by-cons len_utf8 c cs, units_of-le-len_utf8 e c, sums_few e cs)
 
-sum_bytes : (cs : List ℕ) → sum_by (units_of Utf8) cs ≡ sum_by len_utf8 cs
+pub sum_bytes : (cs : List ℕ) → sum_by (units_of Utf8) cs ≡ sum_by len_utf8 cs
 sum_bytes [] = refl
 sum_bytes (c ∷ cs) = omega (arith, sum_by-cons (units_of Utf8) c cs, sum_by-cons len_utf8 c cs, sum_bytes cs)
 
@@ -46,7 +46,7 @@ counts_past m next line left c p h = record {
 units_step : (units : ℕ → ℕ) (c n : ℕ) (cs : List ℕ) → len_utf8 c ≤ n → units_within units n (c ∷ cs) ≡ units c + units_within units (n - len_utf8 c) cs
 units_step units c n cs fits = grind (arith, nat_tests)
 
-bytes_step : (units : ℕ → ℕ) (c n : ℕ) (cs : List ℕ) → units c ≤ n → bytes_within units n (c ∷ cs) ≡ len_utf8 c + bytes_within units (n - units c) cs
+pub bytes_step : (units : ℕ → ℕ) (c n : ℕ) (cs : List ℕ) → units c ≤ n → bytes_within units n (c ∷ cs) ≡ len_utf8 c + bytes_within units (n - units c) cs
 bytes_step units c n cs fits = grind (arith, nat_tests)
 
 units_from : (units : ℕ → ℕ) (front left : List ℕ) (n : ℕ) → sum_by len_utf8 front ≤ n → units_within units n (front ++ left) ≡ sum_by units front + units_within units (n - sum_by len_utf8 front) left

@@ -1,4 +1,4 @@
-use Rattle.std.proofs.Common.{◌≡◌, ◌+◌, ◌-◌, length, get_or, drop, sym, ap, ◌∙◌, subst, arith}
+use Rattle.std.proofs.Common.{◌≡◌, ◌+◌, ◌-◌, ◌<◌, length, get_or, drop, sym, ap, ◌∙◌, subst, arith}
 use Rattle.std.proofs.lemmas.List.{get_or_read}
 use Rattle.std.proofs.lemmas.List.Elements.{All-same}
 use Rattle.std.proofs.lemmas.Str.{IsCharBoundary-from_rest}
@@ -10,6 +10,7 @@ use Rattle.text_positions.specs.Table.{Table}
 use Rattle.text_positions.specs.Walks.{first_line}
 use Rattle.text_positions.proofs.Cuts.{IsLineStart, line_start}
 use Rattle.text_positions.proofs.MarkWalks.{mark_known, bytes_on}
+use Rattle.text_positions.proofs.ShortWalks.{table_walk}
 use Rattle.text_positions.proofs.Places.{offset_of-start, offset_of-past}
 use Rattle.text_positions.proofs.lines.Lines.offset.Goals as goal
 use Rattle.text_positions.proofs.lines.Lines.offset.Goals.{After-mark_within-mark}
@@ -43,6 +44,24 @@ pub range_from-requires : goal.range_from-requires
 range_from-requires c = λ some.
     let m : IsMark c.args.text.now c.mark_within-mark.result = mark (goal.at.range_from-requires c).After-mark_within-mark in
     subst (IsCharBoundary c.args.text.now) (sym c.at-at.ensures) m.boundary
+
+pub bytes_in_line-requires : goal.bytes_in_line-requires
+bytes_in_line-requires c =
+    let starts : c.self.inside.starts.items ≡ line_starts c.args.text.now = ap (λ (t : Table). t.starts) c.self.view_is ∙ c.requires.starts in
+    let short : bytes_within (units_of c.args.encoding) (c.args.pos.character - units_before c.args.encoding c.mark_within-mark.result) (first_line (drop (c.mark_within-mark.result.start + c.mark_within-mark.result.utf8) c.args.text.now)) < 256 =
+    table_walk c.args.encoding c.args.text.now c.args.self.now c.deref.result.now c.args.pos.line c.index.result.now c.mark_within-mark.result c.args.pos.character c.requires
+    (c.deref.ensures.value ∙ ap (λ (t : Table). t.marks) c.self.view_is)
+    (omega (arith, ap length starts, c.self.inside.starts.ok.0))
+    (at_start (goal.at.bytes_in_line-requires c).After-mark_within-mark)
+    (mark (goal.at.bytes_in_line-requires c).After-mark_within-mark)
+    c.mark_within-mark.ensures.line c.mark_within-mark.ensures.within c.mark_within-mark.ensures.last in
+    let rest : c.range_from.result.now ≡ drop (c.mark_within-mark.result.start + c.mark_within-mark.result.utf8) c.args.text.now = c.range_from.ensures.value ∙ ap (λ n. drop n c.args.text.now) c.at-at.ensures in
+    omega (
+      arith,
+      short,
+      ap (λ n. bytes_within (units_of c.args.encoding) (c.args.pos.character - n) (first_line c.range_from.result.now)) c.units.ensures,
+      ap (λ t. bytes_within (units_of c.args.encoding) (c.args.pos.character - units_before c.args.encoding c.mark_within-mark.result) (first_line t)) rest,
+    )
 
 pub returns-clause-exact : goal.returns-clause-exact
 returns-clause-exact c =

@@ -1,15 +1,18 @@
-use Rattle.std.proofs.Common.{◌≡◌, ℕ, ◌+◌, ◌-◌, ◌≤◌, length, length-drop, get_or, slice_get, drop, sym, ap, ◌∙◌, subst, arith}
+use Rattle.std.proofs.Common.{◌≡◌, ℕ, ◌+◌, ◌-◌, ◌<◌, ◌≤◌, length, length-drop, get_or, slice_get, drop, sym, ap, ◌∙◌, subst, arith}
 use Rattle.std.proofs.lemmas.List.Elements.{All-same}
 use Rattle.std.specs.List.Sorted.{IsNonDecreasing}
+use Rattle.std.specs.Char.{len_utf8}
 use Rattle.std.specs.Str.{IsCharBoundary}
 use Rattle.ls_base.specs.declared.places.Pos.{Pos}
-use Rattle.ls_base.specs.Positions.{units_of, units_within}
+use Rattle.ls_base.specs.Positions.{units_of, bytes_within, units_within}
+use Rattle.ls_base.specs.declared.encoding.Encoding.TheVariants.{Utf8}
 use Rattle.text_positions.specs.Lines.{line_starts}
 use Rattle.text_positions.specs.Marks.{IsMark, InOrder}
 use Rattle.text_positions.specs.Table.{Table}
 use Rattle.text_positions.specs.Walks.{IsLineAt, first_line}
 use Rattle.text_positions.proofs.Cuts.{IsLineStart, line_start}
 use Rattle.text_positions.proofs.MarkWalks.{mark_known, units_few, units_on}
+use Rattle.text_positions.proofs.ShortWalks.{table_walk, bytes_utf8}
 use Rattle.text_positions.proofs.Places.{position_of-start, line_starts-rise, length-line_starts, first_start, start_read}
 use Rattle.text_positions.proofs.lines.Lines.position.Goals as goal
 use Rattle.text_positions.proofs.lines.Lines.position.Goals.{After-mark_within-mark}
@@ -50,6 +53,26 @@ pub range_from-requires : goal.range_from-requires
 range_from-requires c = λ some.
     let m : IsMark c.args.text.now c.mark_within-mark.result = mark (goal.at.range_from-requires c).After-mark_within-mark in
     subst (IsCharBoundary c.args.text.now) (sym c.at-at.ensures) m.boundary
+
+pub units_in_line-units-requires-clause-walk : goal.units_in_line-units-requires-clause-walk
+units_in_line-units-requires-clause-walk c =
+    let line : IsLineAt (line_starts c.args.text.now) c.args.offset c.line_at-line.result = found (goal.at.units_in_line-units-requires-clause-walk c).After-mark_within-mark in
+    let short : bytes_within (units_of Utf8) (c.args.offset - c.index-start.result.now - c.mark_within-mark.result.utf8) (first_line (drop (c.mark_within-mark.result.start + c.mark_within-mark.result.utf8) c.args.text.now)) < 256 =
+    table_walk Utf8 c.args.text.now c.args.self.now c.deref-2.result.now c.line_at-line.result c.index-start.result.now c.mark_within-mark.result (c.args.offset - c.index-start.result.now) c.requires
+    (c.deref-2.ensures.value ∙ ap (λ (t : Table). t.marks) c.self.view_is)
+    line.there
+    (at_start (goal.at.units_in_line-units-requires-clause-walk c).After-mark_within-mark)
+    (mark (goal.at.units_in_line-units-requires-clause-walk c).After-mark_within-mark)
+    c.mark_within-mark.ensures.line c.mark_within-mark.ensures.within c.mark_within-mark.ensures.last in
+    let rest : c.range_from.result.now ≡ drop (c.mark_within-mark.result.start + c.mark_within-mark.result.utf8) c.args.text.now = c.range_from.ensures.value ∙ ap (λ n. drop n c.args.text.now) c.at-at.ensures in
+    let left : c.args.offset - c.at-at.result ≡ c.args.offset - c.index-start.result.now - c.mark_within-mark.result.utf8 = omega (arith, c.at-at.ensures, c.mark_within-mark.ensures.line) in
+    omega (
+      arith,
+      short,
+      bytes_utf8 (c.args.offset - c.index-start.result.now - c.mark_within-mark.result.utf8) (first_line (drop (c.mark_within-mark.result.start + c.mark_within-mark.result.utf8) c.args.text.now)),
+      ap (λ n. bytes_within len_utf8 n (first_line c.range_from.result.now)) left,
+      ap (λ t. bytes_within len_utf8 (c.args.offset - c.index-start.result.now - c.mark_within-mark.result.utf8) (first_line t)) rest,
+    )
 
 pub overflow_add-result : goal.overflow_add-result
 overflow_add-result c =
