@@ -16,7 +16,8 @@ starts_from at (l ∷ lines) = at ∷ starts_from (at + full_bytes l) lines
 abbrev pub line_starts : List ℕ → List ℕ
 line_starts text = starts_from 0 (lines_of (chars text))
 
--- these are the line starts of this text, which is shorter than 2 ^ 32 bytes, and marks within its lines
+-- these are the line starts of this text, which is shorter than 2 ^ 32 bytes, and marks within its lines, in its order:
+-- a mark, or the start of the line, is near each place of each line
 pub record AreLinesOf (lines : Table) (text : List ℕ) : Type 0 where
   pub short : length text < 2 ^ 32
   pub starts : lines.starts ≡ line_starts text

@@ -1,5 +1,4 @@
-//! Offsets and positions of a text (LSP 3.17, Position), found by a table of line starts and of marks within long
-//! lines.
+//! Offsets and positions of a text (LSP 3.17, Position), found by a table of line starts and of marks within lines.
 #![tactic(auto)]
 
 pub mod lines;
