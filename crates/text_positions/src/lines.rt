@@ -1,4 +1,4 @@
-//! The table of line starts of a text.
+//! The table of line starts of a text, and of marks within its long lines.
 ghost use Rattle.std.specs.Prelude.{◌≡◌, ◌^◌, ◌<◌, length, IfOk, slice_get};
 ghost use Rattle.std.specs.List.Sorted.{IsNonDecreasing};
 ghost use Rattle.std.specs.Str.{IsCharBoundary};
@@ -6,23 +6,25 @@ ghost use Rattle.ls_base.specs.Positions.{offset_of, position_of};
 ghost use Rattle.text_positions.specs.Lines.{line_starts, AreLinesOf};
 ghost use Rattle.text_positions.specs.Walks.{IsLineAt};
 
-use crate::within::{bytes_in_line, ends_behind, units_in_line};
+use crate::marks::{Mark, mark_past, mark_within};
+use crate::within::{bytes_in_line, ends_behind, ends_line, units_in_line};
 use ls_base::{Encoding, Mem, Pos, split_char};
 use std::alloc::Global;
 use std::marker::Model;
 
-/// Where the lines of a text begin, in bytes. Contracts see it as the list of these offsets.
+/// Where the lines of a text begin, in bytes, and marks within the long ones. Contracts see it as these two lists.
 #[derive(Debug, Drop)]
 pub struct Lines {
     starts: Vec<u32>,
+    marks: Vec<Mark>,
 }
 
 impl Model for Lines {
-    ghost use Rattle.std.specs.Prelude.{List, ℕ};
+    ghost use Rattle.text_positions.specs.Table.{Table};
 
-    ghost Value = { List ℕ };
+    ghost Value = { Table };
 
-    ghost view = { λ l. l.starts.items };
+    ghost view = { λ l. record { starts = l.starts.items; marks = l.marks.items } };
 }
 
 /// The last line that begins at an offset or before it, found by halves.
@@ -42,14 +44,20 @@ impl Lines {
     {
         let mut starts = Vec::new(alloc);
         starts.push(0)?;
+        let mut marks = Vec::new(alloc);
+        let mut here = Mark::begin(0);
         let mut rest = text;
         while let Some((c, more)) = split_char(rest) {
             if ends_behind(c, more) {
-                starts.push((text.len() - more.len()) as u32)?;
+                let start = (text.len() - more.len()) as u32;
+                starts.push(start)?;
+                here = Mark::begin(start);
+            } else if !ends_line(c) {
+                here = mark_past(&mut marks, here, c)?;
             }
             rest = more;
         }
-        Ok(Lines { starts })
+        Ok(Lines { starts, marks })
     }
 
     /// The offset in bytes of a position in the encoding given, in the text that the lines are of. A character past
@@ -65,8 +73,10 @@ impl Lines {
         if line >= self.starts.len() {
             return text.len() as u32;
         }
-        let start = self.starts[line] as usize;
-        (start + bytes_in_line(&text[start..], pos.character, encoding)) as u32
+        let mark = mark_within(&self.marks, self.starts[line], pos.character, encoding);
+        let at = mark.at();
+        let left = pos.character - mark.units(encoding);
+        (at + bytes_in_line(&text[at..], left, encoding)) as u32
     }
 
     /// The position in the encoding given of an offset in bytes, in the text that the lines are of. An offset inside a
@@ -78,9 +88,12 @@ impl Lines {
     {
         let line = line_at(&self.starts, offset);
         let start = self.starts[line];
+        let mark = mark_within(&self.marks, start, offset - start, Encoding::Utf8);
+        let at = mark.at();
+        let units = units_in_line(&text[at..], offset as usize - at, encoding);
         Pos {
             line: line as u32,
-            character: units_in_line(&text[start as usize..], (offset - start) as usize, encoding),
+            character: mark.units(encoding) + units,
         }
     }
 }

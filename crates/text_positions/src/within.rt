@@ -1,5 +1,6 @@
 //! Walks over the first line of a text: the bytes of so many units of an encoding, and the units of so many bytes.
-ghost use Rattle.std.specs.Prelude.{◌≡◌, ◌^◌, ◌<◌, ◌↔◌, ◌⊎◌, length, IsTrue};
+ghost use Rattle.std.specs.Prelude.{◌≡◌, ◌^◌, ◌<◌, ◌≤◌, ◌↔◌, ◌⊎◌, length, IsTrue};
+ghost use Rattle.std.specs.Char.{len_utf8};
 ghost use Rattle.std.specs.Str.{chars, IsCharBoundary};
 ghost use Rattle.ls_base.specs.Positions.{bytes_within, units_of, units_within};
 ghost use Rattle.text_positions.specs.Walks.{EndsLine, ends_behind, first_line};
@@ -20,8 +21,9 @@ pub fn ends_behind(c: char, more: &str) -> bool
     c == '\n' || c == '\r' && !more.starts_with('\n')
 }
 
-/// The bytes of the longest front of the first line with at most so many units.
+/// The bytes of the longest front of the first line with at most so many units. It walks over them, so they are few.
 pub fn bytes_in_line(text: &str, units: u32, encoding: Encoding) -> usize
+    requires { bytes_within (units_of encoding) units (first_line text.now) < 256 }
     ensures bytes { result ≡ bytes_within (units_of encoding) units (first_line text.now) }
     ensures boundary { IsCharBoundary text.now result }
 {
@@ -38,10 +40,12 @@ pub fn bytes_in_line(text: &str, units: u32, encoding: Encoding) -> usize
     text.len() - rest.len()
 }
 
-/// The units of the longest front of the first line with at most so many bytes.
+/// The units of the longest front of the first line with at most so many bytes. It walks over them, so they are few.
 pub fn units_in_line(text: &str, bytes: usize, encoding: Encoding) -> u32
-    requires { length text.now < 2 ^ 32 }
-    ensures { result ≡ units_within (units_of encoding) bytes (first_line text.now) }
+    requires short { length text.now < 2 ^ 32 }
+    requires walk { bytes_within len_utf8 bytes (first_line text.now) < 256 }
+    ensures units { result ≡ units_within (units_of encoding) bytes (first_line text.now) }
+    ensures few { result ≤ length text.now }
 {
     let mut rest = text;
     let mut left = bytes;
