@@ -121,7 +121,7 @@ impl UnitScope {
     }
 
     /// What a form is whose head means this.
-    fn head_by(&self, work: &Work, meaning: Meaning) -> Head
+    pub(crate) fn head_by(&self, work: &Work, meaning: Meaning) -> Head
         requires { (ls : List Frames) × ((s : ScopedState) × Stands work.now self.now ls s × ((m : ModelMeaning) × IsMeaning work.now.symbols s.unit s.form meaning m)) }
         ensures { (ls : List Frames) (s : ScopedState) (m : ModelMeaning) → Stands work.now self.now ls s → IsMeaning work.now.symbols s.unit s.form meaning m →
             IsHead result (head_as (λ x. is_some (macro_at s.macros x)) m) }
