@@ -126,11 +126,7 @@ pub fn places_among(alloc: Global, index: &Index, names: &BTreeSet<IdNo>) -> Mem
 }
 
 /// The places of some variables among bindings.
-fn places_in_row(
-    alloc: Global,
-    bounds: &[Bound],
-    names: &BTreeSet<IdNo>,
-) -> Mem<BTreeSet<usize>>
+fn places_in_row(alloc: Global, bounds: &[Bound], names: &BTreeSet<IdNo>) -> Mem<BTreeSet<usize>>
     ensures { (q : ℕ) → IfOk result (λ places. contains nat_cmp places q ≡ has_at (contains nat_cmp names.now) bounds.now q) }
 {
     let mut places = BTreeSet::new(alloc);

@@ -150,7 +150,12 @@ impl Env {
         ensures bound { OnOk result (self.new ≡ with_bound self.old scope ident meaning) }
         ensures err { OnErr result (self.new ≡ self.old) }
     {
-        mark(&mut self.locals, &mut self.owns, self.scopes[scope].parent, ident)?;
+        mark(
+            &mut self.locals,
+            &mut self.owns,
+            self.scopes[scope].parent,
+            ident,
+        )?;
         let scope = &mut self.scopes[scope];
         scope.bound.insert(ident, meaning)?;
         Ok(())
@@ -319,12 +324,7 @@ impl Env {
 }
 
 /// Marks an identifier that a scope inside this one, or inside none, is to bind.
-fn mark(
-    locals: &mut Marks,
-    owns: &mut Marks,
-    parent: Option<ScopeNo>,
-    ident: IdNo,
-) -> Mem<()>
+fn mark(locals: &mut Marks, owns: &mut Marks, parent: Option<ScopeNo>, ident: IdNo) -> Mem<()>
     ensures kept { (around : Option ℕ) (n : ℕ) → marked_for locals.new owns.new around n ≡ false → marked_for locals.old owns.old around n ≡ false }
     ensures marked { OnOk result (marked_for locals.new owns.new parent ident ≡ true) }
 {

@@ -17,11 +17,11 @@ loop-k-preserved c = λ q.
     let before = contains nat_cmp c.loop-k.places q in
     let so_far = has_at p (take k bs) q in
     elim c.if-contains.branch [
-      then-contains+in_ok-insert w ↦
+      | then-contains+in_ok-insert w ↦
           ap (λ (s : BTreeSet ℕ). contains nat_cmp s q) w.places-is ∙ w.in_ok-insert.ensures.updates.0 q ∙ ap (λ (b : Bool). if b then true else before) (key_is k q ∙ eq_turned k q)
           ∙ if_or (nat_eq q k) before ∙ ap (λ (b : Bool). b || nat_eq q k) (c.loop-k.invariant q)
           ∙ ap (λ (b : Bool). so_far || (b && nat_eq q k)) (sym (sym c.contains.ensures ∙ w.if-contains.true)) ∙ sym (has_more p bs k q d c.loop-k-test.true)
-    | else-contains w ↦
+      | else-contains w ↦
           ap (λ (s : BTreeSet ℕ). contains nat_cmp s q) w.places-is ∙ c.loop-k.invariant q ∙ or_none so_far
           ∙ ap (λ (b : Bool). so_far || (b && nat_eq q k)) (sym (sym c.contains.ensures ∙ w.if-contains.false)) ∙ sym (has_more p bs k q d c.loop-k-test.true)
     ]

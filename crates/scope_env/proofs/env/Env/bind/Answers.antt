@@ -43,6 +43,5 @@ invariant_of-self-2 c =
 pub returns-in_err-insert-clause-err : goal.returns-in_err-insert-clause-err
 returns-in_err-insert-clause-err c = on_err c.from_residual-in_err-insert.result (kept c ∙ c.self.view_is)
 
-
 pub returns-clause-bound : goal.returns-clause-bound
 returns-clause-bound c = put c ∙ ap (λ (e : Environment). with_bound e c.args.scope c.args.ident c.args.meaning) c.self.view_is
