@@ -5,12 +5,11 @@ use Rattle.std.specs.Ordering.{nat_cmp, eq_by_cmp}
 use Rattle.std.specs.Cmp.{nat_cmp_total, Equal-is}
 use Rattle.std.specs.FinMap.{get, nat_cmp-IsAntisymmetric, get-empty, get-insert}
 use Rattle.std.specs.Option.{option_or, option_and_then}
-use Rattle.std.proofs.lemmas.Option.{same_Some, slice_get_within}
 use Rattle.syntax_tree.proofs.Places.{none_some, get_within, push_cases}
 use Rattle.scheme_model.specs.Identifiers.{Number}
 use Rattle.syntax_tree.specs.declared.meaning.Meaning.{Meaning}
 use Rattle.scope_env.specs.declared.marks.Marks as code
-use Rattle.scope_env.specs.Environment.{Environment, Scope, IsSound, no_scopes, new_scope, with_child, with_root, with_use, with_bound, bound_in}
+use Rattle.scope_env.specs.Environment.{Environment, Scope, no_scopes, new_scope, with_child, with_root, with_use, with_bound, bound_in}
 use Rattle.scope_env.specs.Marks.{marked, marked_for, IsKept}
 use Rattle.scope_env.specs.Resolved.{local, bound_at, own}
 use Rattle.scope_env.proofs.Places.{changed_from}

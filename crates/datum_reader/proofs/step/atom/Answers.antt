@@ -1,4 +1,4 @@
-use Rattle.std.proofs.Common.{◌∙◌, ap, sym, Ok, subst}
+use Rattle.std.proofs.Common.{◌∙◌, ap, sym, Ok}
 use Rattle.std.specs.Prelude.{List}
 use Rattle.datum_reader.specs.declared.open.Frame.{Frame}
 use Rattle.datum_reader.specs.Open.{refused}

@@ -1,4 +1,4 @@
-use Rattle.std.proofs.Common.{◌≡◌, sym, ap, ◌∙◌, List, subst}
+use Rattle.std.proofs.Common.{ap, ◌∙◌, List, subst}
 use Rattle.std.specs.BTreeSet.{contains}
 use Rattle.std.specs.Ordering.{nat_cmp}
 use Rattle.rules_build.specs.declared.values.Bound as code

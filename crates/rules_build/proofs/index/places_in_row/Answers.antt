@@ -1,4 +1,4 @@
-use Rattle.std.proofs.Common.{◌||◌, ◌&&◌, ◌∙◌, ℕ, Bool, true, false, BTreeSet, nat_eq, get_or, take, sym, ap}
+use Rattle.std.proofs.Common.{◌||◌, ◌&&◌, ◌∙◌, ℕ, Bool, true, false, BTreeSet, nat_eq, take, sym, ap}
 use Rattle.std.specs.Prelude.{if◌then◌else◌}
 use Rattle.std.specs.BTreeSet.{contains}
 use Rattle.std.specs.Ordering.{nat_cmp}

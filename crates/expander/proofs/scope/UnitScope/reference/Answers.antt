@@ -1,5 +1,4 @@
 use Rattle.std.proofs.Common.{◌≡◌, ℕ, Result, Err, refl, sym, subst, ◌∙◌}
-use Rattle.std.proofs.lemmas.Option.{slice_get_within}
 use Rattle.scheme_model.specs.Cores.{Core, Ref}
 use Rattle.scheme_model.specs.Steps.{Broken, Step, done}
 use Rattle.scheme_model.specs.Order.{head_of, target_of}
@@ -11,7 +10,6 @@ use Rattle.expander.specs.Searched.{searched}
 use Rattle.expander.specs.Stepped.{spent}
 use Rattle.expander.specs.Outcomes.{EndsHere}
 use Rattle.expander.proofs.NodeLaws.{begins_goes, begins_fails, here_done, here_err}
-use Rattle.expander.proofs.AfterLaws.{begins_look}
 use Rattle.expander.proofs.ReadLaws.{unless_goes, tested_fails, target_at}
 use Rattle.expander.proofs.scope.UnitScope.reference.Goals as goal
 
