@@ -339,7 +339,12 @@ fn byte_in(
 fn whole(state: &mut State, atom: Atom, spot: Spot) -> Mem<()>
     ensures { OnOk result (state_of state.new ≡ model.completed (atom_datum (model.at (spot_of spot)) (spelled (leaf_of atom))) (data_of state.old.items.items) (stack_of state.old.stack.items)) }
 {
-    complete(state, Tail::Datum(make_atom(atom, spot)))?;
+    let datum = make_atom(atom, spot);
+    if adds(state.stack.as_slice()) {
+        state.items.push(datum)?;
+        return Ok(());
+    }
+    complete(state, Tail::Datum(datum))?;
     Ok(())
 }
 
