@@ -91,10 +91,7 @@ fn read_text(alloc: Global, text: &str) -> Result<(Vec<Span>, Items<Datum>), Rea
 }
 
 /// The data of a text as `read_all` answers them, and beside them the bytes of all its tokens.
-pub fn read_with_spans(
-    alloc: Global,
-    text: &str,
-) -> Result<(Vec<Span>, Items<Datum>), ReadFault>
+pub fn read_with_spans(alloc: Global, text: &str) -> Result<(Vec<Span>, Items<Datum>), ReadFault>
     requires { length text.now < 2 ^ 32 }
     ensures found { IfOk result (λ read. IsReading (chars text.now) (data_of read.1)) }
     ensures spans { (ts : List kinds.Token) → TextReads (chars text.now) ts None → IfOk result (λ read. map bytes_seen read.0.items ≡ map bytes_of ts) }
