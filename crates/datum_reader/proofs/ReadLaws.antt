@@ -1,7 +1,8 @@
 -- What reading a text answers, by the tokens that it has.
-use Rattle.std.proofs.Common.{◌≡◌, ℕ, List, [], Option, Some, None, Result, Ok, Err, refl, sym, ap, ◌∙◌, subst, MatchResult}
+use Rattle.std.proofs.Common.{◌≡◌, ℕ, List, [], ◌∷◌, map, Option, Some, None, Result, Ok, Err, refl, sym, ap, ◌∙◌, subst, MatchResult}
 use Rattle.scheme_model.specs.Kinds.{Token}
-use Rattle.datum_reader.specs.Views.{tokens_of, data_of, told_of, told_end, Fails, Gives}
+use Rattle.ls_base.specs.declared.places.Span.{Span}
+use Rattle.datum_reader.specs.Views.{tokens_of, data_of, told_of, told_end, bytes_seen, bytes_of, Fails, Gives}
 use Rattle.scheme_tokens.specs.Views.{IsFront}
 use Rattle.scheme_tokens.specs.declared.token.Token as code_token
 use Rattle.scheme_tokens.specs.declared.fault.ReadFault.{ReadFault}
@@ -38,6 +39,15 @@ one_front text tks vs fault ts end front e h =
     let f = front_reads text tks fault front in
     let o = text_once text (tokens_of tks) ts f.0 end f.1 h in
     (ap tokens_of e ∙ o.0, f.2 ∙ ap told_end o.1)
+
+-- the bytes of tokens
+spans_alike : (vs : List code_token.Token) → map bytes_seen (map (λ (t : code_token.Token). t.span) vs) ≡ map bytes_of (tokens_of vs)
+spans_alike [] = refl
+spans_alike (v ∷ vs) = ap (λ (bs : List (ℕ × ℕ)). bytes_seen v.span ∷ bs) (spans_alike vs)
+
+pub spans_told : (vs tks : List code_token.Token) (ts : List Token) (spans : List Span) → tokens_of vs ≡ ts → vs ≡ tks → spans ≡ map (λ (t : code_token.Token). t.span) tks → map bytes_seen spans ≡ map bytes_of ts
+spans_told vs tks ts spans same e is =
+    ap (map bytes_seen) (is ∙ ap (map (λ (t : code_token.Token). t.span)) (sym e)) ∙ spans_alike vs ∙ ap (map bytes_of) same
 
 pub fails_within : (e : ReadFault) (us ts : List Token) (end : Option Stop) → us ≡ ts → Fails e (behind us) → Fails e (read ts end)
 fails_within e us ts end same h = ends_fault e (behind ts) end (subst (λ (q : List Token). Fails e (behind q)) same h)

@@ -1,5 +1,5 @@
 -- What one token changes, with the frame on top taken off.
-use Rattle.std.proofs.Common.{◌≡◌, ◌==◌, ◌+◌, add-one, ℕ, suc, length, subst, List, [], ◌∷◌, ◌++◌, Bool, Option, Some, None, Result, Ok, Err, refl, sym, ap, ◌∙◌, cond}
+use Rattle.std.proofs.Common.{◌≡◌, ◌==◌, ◌+◌, ◌-◌, add-one, ℕ, suc, length, subst, List, [], ◌∷◌, ◌++◌, Bool, Option, Some, None, Result, Ok, Err, refl, sym, ap, ◌∙◌, cond}
 use Rattle.datum_reader.specs.declared.datum.Datum as code
 use Rattle.datum_reader.specs.declared.tail.Tail as code_tail
 use Rattle.datum_reader.specs.declared.open.Frame as code_frame
@@ -9,12 +9,14 @@ use Rattle.scheme_tokens.specs.declared.fault.ReadFault.{ReadFault}
 use Rattle.scheme_tokens.specs.declared.fault.ReadFault.TheVariants as told
 use Rattle.scheme_model.specs.Kinds.{Leaf}
 use Rattle.scheme_tokens.specs.declared.token.Token as code_token
-use Rattle.datum_reader.specs.Views.{kind_of, tokens_of, tail_datum, data_of, spot_of, opener_of, frame_of, stack_of, Fails}
+use Rattle.datum_reader.specs.Views.{kind_of, tokens_of, tail_datum, data_of, spot_of, opener_of, frame_of, stack_of, Fails, Refuses}
 use Rattle.scheme_model.specs.Data.{Datum}
 use Rattle.scheme_model.specs.Numbered.{Spot, Numbered, number_from}
 use Rattle.scheme_model.specs.Faults.{Stop, bad_dot}
-use Rattle.datum_reader.specs.Open.{Frame, State, state, Opener, in_list, in_vector, in_bytes, dotted, reopened, byte_of, byte_added, abbreviation, completed, completed_by, completes, closed, closed_by, dots, dotted_by, atoms, atoms_by, after, after_all}
-use Rattle.datum_reader.proofs.StackLaws.{stack_push}
+use Rattle.datum_reader.specs.Open.{Frame, State, state, Opener, in_list, in_vector, in_bytes, dotted, ended, marked, skipping, refused, refused_by, whole, reopened, byte_of, byte_added, abbreviation, completed, completed_by, completes, closed, closed_by, dots, dotted_by, atoms, atoms_by, after, after_all}
+use Rattle.std.specs.List.{slice_get}
+use Rattle.std.proofs.lemmas.Option.{same_Some}
+use Rattle.datum_reader.proofs.StackLaws.{stack_push, last_frame}
 
 pub completed_top : (d : Datum) (items : List Datum) (fs gs : List code_frame.Frame) (f : code_frame.Frame) (o : code_opener.Opener) → fs ≡ gs ++ f ∷ [] → f.opener ≡ o →
     completed d items (stack_of fs) ≡ completed_by (opener_of o) (frame_of f) d items (stack_of gs) (completed (abbreviation (spot_of f.spot) items d) (data_of f.before.items) (stack_of gs))
@@ -45,6 +47,51 @@ dots_top t items fs gs f o e is = ap (dots t items) (stack_push gs fs f e) ∙ a
 pub atoms_top : (k : Leaf) (t : Spot) (items : List Datum) (fs gs : List code_frame.Frame) (f : code_frame.Frame) (o : code_opener.Opener) → fs ≡ gs ++ f ∷ [] → f.opener ≡ o →
     atoms k t items (stack_of fs) ≡ atoms_by (opener_of o) k t (frame_of f) items (stack_of gs)
 atoms_top k t items fs gs f o e is = ap (atoms k t items) (stack_push gs fs f e) ∙ ap (λ (v : code_opener.Opener). atoms_by (opener_of v) k t (frame_of f) items (stack_of gs)) is
+
+-- ---- where no datum may begin
+
+pub refused_top : (t : Spot) (fs gs : List code_frame.Frame) (f : code_frame.Frame) (o : code_opener.Opener) → fs ≡ gs ++ f ∷ [] → f.opener ≡ o → refused (stack_of fs) t ≡ refused_by (opener_of o) t
+refused_top t fs gs f o e is = ap (λ (q : List Frame). refused q t) (stack_push gs fs f e) ∙ ap (λ (v : code_opener.Opener). refused_by (opener_of v) t) is
+
+pub never_refused : (r : ReadFault) → Refuses (Err r) None → ⊥
+never_refused told.Memory h = h
+never_refused (told.At n s) h = let never : ⊥ = cc in never
+
+-- the refusal is the answer
+pub refusal_fails : (r : ReadFault) (e : Stop) (a : Result State Stop) → Refuses (Err r) (Some e) → a ≡ Err e → Fails r a
+refusal_fails told.Memory e a h is = tt
+refusal_fails (told.At n s) e a h is = is ∙ ap (λ (x : Stop). Err x) (same_Some e (record { number = n; start = s.start; end = s.end }) h)
+
+pub none_there : (fs : List code_frame.Frame) → length fs ≡ 0 → fs ≡ []
+none_there [] h = refl
+none_there (f ∷ fs) h = let never : ⊥ = cc in absurd never
+
+atoms_by_free : (o : Opener) (k : Leaf) (t : Spot) (f : Frame) (items : List Datum) (fs : List Frame) → refused_by o t ≡ None → atoms_by o k t f items fs ≡ whole k t items (f ∷ fs)
+atoms_by_free in_list k t f items fs h = refl
+atoms_by_free (dotted dot) k t f items fs h = refl
+atoms_by_free (ended dot d) k t f items fs h = absurd cc
+atoms_by_free in_vector k t f items fs h = refl
+atoms_by_free (in_bytes bs) k t f items fs h = absurd cc
+atoms_by_free marked k t f items fs h = refl
+atoms_by_free skipping k t f items fs h = refl
+
+-- an atom where a datum may begin
+pub atoms_free : (k : Leaf) (t : Spot) (items : List Datum) (fs : List Frame) → refused fs t ≡ None → atoms k t items fs ≡ whole k t items fs
+atoms_free k t items [] h = refl
+atoms_free k t items (f ∷ fs) h = atoms_by_free f.opener k t f items fs h
+
+-- ---- where a datum is added as it is
+
+abbrev pub Adds : code_opener.Opener → Type 0
+Adds o = (g : Frame) (d : Datum) (items : List Datum) (rest : List Frame) (more : State) → completed_by (opener_of o) g d items rest more ≡ state (items ++ d ∷ []) (g ∷ rest)
+
+pub added_top : (fs : List code_frame.Frame) (f : code_frame.Frame) (o : code_opener.Opener) (d : Datum) (items : List Datum) → slice_get fs (length fs - 1) ≡ Some f → f.opener ≡ o → Adds o →
+    completed d items (stack_of fs) ≡ state (items ++ d ∷ []) (stack_of fs)
+added_top fs f o d items at is adds =
+    let l = last_frame [] fs f at in
+    ap (completed d items) l.1
+    ∙ ap (λ (v : code_opener.Opener). completed_by (opener_of v) (frame_of f) d items l.0 (completed (abbreviation (spot_of f.spot) items d) (data_of f.before.items) l.0)) is
+    ∙ adds (frame_of f) d items l.0 (completed (abbreviation (spot_of f.spot) items d) (data_of f.before.items) l.0) ∙ ap (state (items ++ d ∷ [])) (sym l.1)
 
 same_length : (xs : List code.Datum) → length (data_of xs) ≡ length xs
 same_length [] = refl

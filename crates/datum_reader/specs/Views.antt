@@ -127,6 +127,13 @@ stack_of fs = stacked [] fs
 abbrev pub state_of : code_state.State → State
 state_of s = record { stack = stack_of s.stack.items; items = data_of s.items.items }
 
+-- the bytes of a token, up to its end
+abbrev pub bytes_seen : Span → ℕ × ℕ
+bytes_seen s = (s.start, s.end)
+
+abbrev pub bytes_of : Token → ℕ × ℕ
+bytes_of t = (t.start, t.end)
+
 -- a fault as callers are told it
 abbrev pub told_of : Stop → told.ReadFault
 told_of s = faults.At s.number (record { start = s.start; end = s.end })

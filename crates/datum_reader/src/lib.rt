@@ -17,5 +17,5 @@ mod step;
 mod tail;
 
 pub use datum::{Atom, Datum, Mark, Shape};
-pub use reader::read_all;
+pub use reader::{read_all, read_with_spans};
 pub use seeding::seed;

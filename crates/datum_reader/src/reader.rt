@@ -1,8 +1,8 @@
 //! The data of a text (R7RS 7.1.2).
-ghost use Rattle.std.specs.Prelude.{◌≡◌, ◌⊎◌, ◌^◌, ◌<◌, [], length, List, Option, Ok, IfOk, IfErr, MatchResult, vec_len};
+ghost use Rattle.std.specs.Prelude.{◌≡◌, ◌⊎◌, ◌^◌, ◌<◌, [], length, List, map, Option, None, Ok, IfOk, IfErr, MatchResult, vec_len};
 ghost use Rattle.std.specs.Str.{chars};
 ghost use Rattle.scheme_model.specs.Kinds as kinds;
-ghost use Rattle.datum_reader.specs.Views.{tokens_of, data_of, spot_of, opener_of, stack_of, state_of, told_of, Gives};
+ghost use Rattle.datum_reader.specs.Views.{tokens_of, data_of, spot_of, opener_of, stack_of, state_of, told_of, bytes_seen, bytes_of, Gives};
 ghost use Rattle.scheme_model.specs.Data as spec;
 ghost use Rattle.scheme_model.specs.Numbered.{number_from};
 ghost use Rattle.scheme_model.specs.Faults.{Stop};
@@ -12,7 +12,7 @@ ghost use Rattle.datum_reader.specs.Texts.{TextReads, IsReading, StopsAt, Explai
 use crate::datum::Datum;
 use crate::open::{Frame, MISSING_DATUM, OPEN_LIST, Opener, State, fault};
 use crate::step::step;
-use ls_base::Items;
+use ls_base::{Items, Mem, Span};
 use scheme_tokens::{ReadFault, Token, front_tokens};
 use std::alloc::Global;
 
@@ -59,19 +59,45 @@ fn finished(state: State) -> Result<Items<Datum>, ReadFault>
     }
 }
 
-/// The data that a text's tokens form, or the first fault.
-fn read_text(alloc: Global, text: &str) -> Result<Items<Datum>, ReadFault>
+/// The bytes of tokens.
+fn spans_in(alloc: Global, tokens: &[Token]) -> Mem<Vec<Span>>
+    ensures { IfOk result (λ spans. spans.items ≡ map (λ t. t.span) tokens.now) }
+{
+    let mut spans = Vec::with_capacity(alloc, tokens.len())?;
+    for token in tokens {
+        spans.push(token.span)?;
+    }
+    Ok(spans)
+}
+
+/// The bytes of a text's tokens, and the data that they form; or the first fault.
+fn read_text(alloc: Global, text: &str) -> Result<(Vec<Span>, Items<Datum>), ReadFault>
     requires { length text.now < 2 ^ 32 }
-    ensures exact { (ts : List kinds.Token) (end : Option Stop) → TextReads (chars text.now) ts end → Gives data_of result (model.read ts end) }
-    ensures found { IfOk result (λ items. IsReading (chars text.now) (data_of items)) }
+    ensures exact { (ts : List kinds.Token) (end : Option Stop) → TextReads (chars text.now) ts end → Gives (λ read. data_of read.1) result (model.read ts end) }
+    ensures spans { (ts : List kinds.Token) → TextReads (chars text.now) ts None → IfOk result (λ read. map bytes_seen read.0.items ≡ map bytes_of ts) }
+    ensures found { IfOk result (λ read. IsReading (chars text.now) (data_of read.1)) }
     ensures fault { IfErr result (λ e. Explains e (chars text.now)) }
 {
     let front = front_tokens(alloc, text)?;
+    let spans = spans_in(alloc, front.tokens.as_slice())?;
     let state = open_after(alloc, front.tokens.into_vec())?;
     match front.fault {
         Some(fault) => Err(fault),
-        None => Ok(finished(state)?),
+        None => {
+            let items = finished(state)?;
+            Ok((spans, items))
+        }
     }
+}
+
+/// The data of a text as `read_all` answers them, and beside them the bytes of all its tokens.
+pub fn read_with_spans(alloc: Global, text: &str) -> Result<(Vec<Span>, Items<Datum>), ReadFault>
+    requires { length text.now < 2 ^ 32 }
+    ensures found { IfOk result (λ read. IsReading (chars text.now) (data_of read.1)) }
+    ensures spans { (ts : List kinds.Token) → TextReads (chars text.now) ts None → IfOk result (λ read. map bytes_seen read.0.items ≡ map bytes_of ts) }
+    ensures fault { IfErr result (λ e. Explains e (chars text.now)) }
+{
+    read_text(alloc, text)
 }
 
 /// The data of a text (R7RS 7.1.2), or the first fault, by its number: 5 the text ends in a list, a vector or a bytevector; 6 a
@@ -91,6 +117,6 @@ pub fn read_all(alloc: Global, text: &str) -> Result<Items<Datum>, ReadFault>
     ensures fault { IfErr result (λ e. Explains e (chars text.now)) }
     ensures stops { (f : Stop) → StopsAt (chars text.now) f → MatchResult result (λ _. ⊥) (λ e. (e ≡ ReadFault.Memory) ⊎ (e ≡ told_of f)) }
 {
-    let data = read_text(alloc, text)?;
+    let (_, data) = read_text(alloc, text)?;
     Ok(data)
 }

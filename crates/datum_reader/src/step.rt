@@ -1,9 +1,9 @@
 //! How a token changes what is open (R7RS 7.1.2).
-ghost use Rattle.std.specs.Prelude.{◌≡◌, ◌++◌, ℕ, List, [], ◌∷◌, OnOk, IfOk, map};
+ghost use Rattle.std.specs.Prelude.{◌≡◌, ◌++◌, ℕ, List, [], ◌∷◌, Err, OnOk, IfOk, IsTrue, map};
 ghost use Rattle.std.specs.Str.{chars};
 ghost use Rattle.scheme_model.specs.Kinds.{BytesParen};
 ghost use Rattle.datum_reader.specs.Views.{kind_of, leaf_of, mark_of, datum_of, tail_datum, data_of, spot_of, opener_of, frame_of, stack_of, state_of, Moves, Refuses, IsNumeral};
-ghost use Rattle.scheme_model.specs.Data.{list, atom as atom_datum, spelled, implied, row, none};
+ghost use Rattle.scheme_model.specs.Data.{Datum as DatumTree, list, atom as atom_datum, spelled, implied, row, none};
 ghost use Rattle.datum_reader.specs.Open as model;
 
 use crate::bytes::is_byte;
@@ -119,6 +119,33 @@ fn abbreviation(spot: Spot, items: Vec<Datum>, read: Tail) -> Mem<Tail>
     Ok(Tail::Datum(make_marked(spot, parts, last, end)))
 }
 
+/// Whether a datum that is complete is added on the innermost level as it is.
+fn adds(stack: &[Frame]) -> bool
+    ensures { IsTrue result → (d : DatumTree) (items : List DatumTree) → model.completed d items (stack_of stack.now) ≡ model.state (items ++ d ∷ []) (stack_of stack.now) }
+{
+    let Some(frame) = stack.last() else {
+        return true;
+    };
+    match &frame.opener {
+        Opener::List => true,
+        Opener::Ended(..) => true,
+        Opener::Vector => true,
+        Opener::Bytes(_) => true,
+        Opener::Dotted(_) => false,
+        Opener::Mark => false,
+        Opener::Skip => false,
+    }
+}
+
+/// Adds a datum.
+fn add(state: &mut State, read: Tail) -> Mem<()>
+    ensures { OnOk result (state_of state.new ≡ model.state (data_of state.old.items.items ++ tail_datum read ∷ []) (stack_of state.old.stack.items)) }
+{
+    let datum = joined_datum(read)?;
+    state.items.push(datum)?;
+    Ok(())
+}
+
 /// Adds a datum, and puts back what is open.
 fn keep(state: &mut State, frame: Frame, read: Tail) -> Mem<()>
     ensures { OnOk result (state_of state.new
@@ -134,6 +161,9 @@ fn keep(state: &mut State, frame: Frame, read: Tail) -> Mem<()>
 fn complete(state: &mut State, read: Tail) -> Mem<()>
     ensures { OnOk result (state_of state.new ≡ model.completed (tail_datum read) (data_of state.old.items.items) (stack_of state.old.stack.items)) }
 {
+    if adds(state.stack.as_slice()) {
+        return Ok(add(state, read)?);
+    }
     let mut read = read;
     while let Some(frame) = state.stack.pop() {
         match &frame.opener {
@@ -309,17 +339,12 @@ fn byte_in(
 fn whole(state: &mut State, atom: Atom, spot: Spot) -> Mem<()>
     ensures { OnOk result (state_of state.new ≡ model.completed (atom_datum (model.at (spot_of spot)) (spelled (leaf_of atom))) (data_of state.old.items.items) (stack_of state.old.stack.items)) }
 {
-    complete(state, Tail::Datum(make_atom(atom, spot)))?;
-    Ok(())
-}
-
-/// An atom behind what is open.
-fn behind(state: &mut State, frame: Frame, atom: Atom, spot: Spot) -> Mem<()>
-    ensures { OnOk result (state_of state.new
-        ≡ model.completed (atom_datum (model.at (spot_of spot)) (spelled (leaf_of atom))) (data_of state.old.items.items) (frame_of frame ∷ stack_of state.old.stack.items)) }
-{
-    state.stack.push(frame)?;
-    whole(state, atom, spot)?;
+    let datum = make_atom(atom, spot);
+    if adds(state.stack.as_slice()) {
+        state.items.push(datum)?;
+        return Ok(());
+    }
+    complete(state, Tail::Datum(datum))?;
     Ok(())
 }
 
@@ -327,17 +352,34 @@ fn behind(state: &mut State, frame: Frame, atom: Atom, spot: Spot) -> Mem<()>
 fn atom(alloc: Global, state: &mut State, atom: Atom, spot: Spot) -> Result<(), ReadFault>
     ensures { Moves (state_of state.new) result (model.atoms (leaf_of atom) (spot_of spot) (data_of state.old.items.items) (stack_of state.old.stack.items)) }
 {
+    match begin(state.stack.as_slice(), spot) {
+        Ok(()) => Ok(whole(state, atom, spot)?),
+        Err(refusal) => Ok(refused_atom(alloc, state, atom, spot, refusal)?),
+    }
+}
+
+/// An atom where no datum may begin: a numeral in a bytevector, or else this fault.
+fn refused_atom(
+    alloc: Global,
+    state: &mut State,
+    atom: Atom,
+    spot: Spot,
+    refusal: ReadFault,
+) -> Result<(), ReadFault>
+    requires { Refuses (Err refusal) (model.refused (stack_of state.old.stack.items) (spot_of spot)) }
+    ensures { Moves (state_of state.new) result (model.atoms (leaf_of atom) (spot_of spot) (data_of state.old.items.items) (stack_of state.old.stack.items)) }
+{
     let Some(frame) = state.stack.pop() else {
-        return Ok(whole(state, atom, spot)?);
+        return Err(refusal);
     };
     match &frame.opener {
-        Opener::Ended(dot, _) => Err(fault(BAD_DOT, *dot)),
         Opener::Bytes(_) => Ok(byte_in(alloc, state, frame, atom, spot)?),
-        Opener::List => Ok(behind(state, frame, atom, spot)?),
-        Opener::Dotted(_) => Ok(behind(state, frame, atom, spot)?),
-        Opener::Vector => Ok(behind(state, frame, atom, spot)?),
-        Opener::Mark => Ok(behind(state, frame, atom, spot)?),
-        Opener::Skip => Ok(behind(state, frame, atom, spot)?),
+        Opener::Ended(..) => Err(refusal),
+        Opener::List => Err(refusal),
+        Opener::Dotted(_) => Err(refusal),
+        Opener::Vector => Err(refusal),
+        Opener::Mark => Err(refusal),
+        Opener::Skip => Err(refusal),
     }
 }
 

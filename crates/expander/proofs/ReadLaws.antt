@@ -1,5 +1,5 @@
 -- How an expression is read: heads, keywords, identifiers as values, and what was read.
-use Rattle.std.proofs.Common.{◌≡◌, ℕ, List, Bool, true, false, Option, Some, None, Result, Err, refl, sym, ap, ◌∙◌, subst}
+use Rattle.std.proofs.Common.{◌≡◌, ℕ, List, Bool, true, false, Option, Some, None, Result, Ok, Err, IsErrAnd, refl, sym, ap, ◌∙◌, subst}
 use Rattle.scheme_model.specs.declared.Occ.{Occ}
 use Rattle.scheme_model.specs.Trees.{Tree, name, atom, list, vector, Trees, no_trees, tree, Tail}
 use Rattle.scheme_model.specs.Ident.{Ident as Identifier}
@@ -80,6 +80,11 @@ tested_fails {B} known work region u ls s here n go h P (fault.At e) stands test
     (stays_itself work region u ls s stands, (record { fault = KeywordAsValue n; here = here }, refl, tests.1))
 tested_fails known work region u ls s here n go h P fault.Full stands tests = absurd tests
 tested_fails known work region u ls s here n go h P fault.Memory stands tests = absurd tests
+
+-- a fault that is handed on
+pub tests_handed : (work : Work) (s : ScopedState) (here : Here) (n : Named Identifier) (h : Head) (r : Result (Unit {0}) ExpandFault) (e : ExpandFault) → IsErrAnd r (λ f. f ≡ e) → TestsVariable work s here n h (Err e) → TestsVariable work s here n h r
+tests_handed work s here n h (Ok u) e err tests = absurd err
+tests_handed work s here n h (Err f) e err tests = subst (λ (g : ExpandFault). TestsVariable work s here n h (Err g)) (sym err) tests
 
 -- a target in a form of a unit, however these are told
 pub target_at : (names : Names) (unit form n m : ℕ) (x : code_target.Target) (t : Target) → unit ≡ n → form ≡ m → IsTarget names n m x t → IsTarget names unit form x t

@@ -149,10 +149,15 @@ Prepares known depth old new region u v ls fs (Err fault.Memory) p = Leaves old 
 
 -- a keyword is no variable
 abbrev pub TestsVariable : Work → ScopedState → Option Occ → Named Identifier → Head → Result (Unit {0}) ExpandFault → Type 0
-TestsVariable work s here n h (Ok passed) = is_keyword h ≡ false
+TestsVariable work s here n h (Ok u) = is_keyword h ≡ false
 TestsVariable work s here n h (Err (fault.At e)) = (is_keyword h ≡ true) × IsFault work.symbols s.unit s.form e (record { fault = KeywordAsValue n; here = here })
 TestsVariable work s here n h (Err fault.Full) = ⊥
 TestsVariable work s here n h (Err fault.Memory) = ⊥
+
+-- whether it passed, whatever it answered
+abbrev pub passed : {A : Type 0} → Result A ExpandFault → Result (Unit {0}) ExpandFault
+passed (Ok x) = Ok tt
+passed (Err e) = Err e
 
 -- a core node begins: its parts stand one level deeper
 abbrev pub BeginsBelow : UnitScope → UnitScope → code_at.At → ℕ → Result code_at.At ExpandFault → Type 0

@@ -17,13 +17,15 @@ ghost use Rattle.syntax_tree.specs.declared.trees.table.Region.{Region as AnyReg
 ghost use Rattle.core_forms.specs.Ends.{keyword_as};
 ghost use Rattle.core_forms.specs.Parts.{IsName};
 ghost use Rattle.core_tree.specs.Cores.{CoreStands};
+ghost use Rattle.core_tree.specs.Names.{IsTarget};
+ghost use Rattle.scheme_model.specs.CountedExpansion.{means_here};
 ghost use Rattle.expander.specs.Judged.{Knows};
 ghost use Rattle.expander.specs.Searched.{searched};
 ghost use Rattle.expander.specs.State.{Stands};
 ghost use Rattle.expander.specs.Outcomes.{At as Stand, CanLook, EndsHere, IsAtWork, WorksOn, IsEnough};
 ghost use Rattle.expander.specs.Defining.{HasNumber};
 ghost use Rattle.expander.specs.Stepped.{with_keyword};
-ghost use Rattle.expander.specs.Ready.{IsSettled, IsMacroKeyword, IsCoreKeyword, IsCall, Prepares, Settles, Reads, TestsVariable, BeginsBelow};
+ghost use Rattle.expander.specs.Ready.{IsSettled, IsMacroKeyword, IsCoreKeyword, IsCall, Prepares, Settles, Reads, TestsVariable, passed, BeginsBelow};
 
 use crate::counting::{code, fails, fails_with, misread};
 use crate::fault::ExpandFault;
@@ -168,8 +170,9 @@ impl UnitScope {
             IsMacroKeyword work.now known s fs t result }
     {
         let name = head_name(work, form)?;
-        match self.head_of(work, scope, name.ident) {
-            Head::Macro => Some(self.target(work, scope, name)),
+        let keyword = self.target(work, scope, name);
+        match self.head_by(work, keyword.meaning) {
+            Head::Macro => Some(keyword),
             Head::Core(_) => None,
             Head::Auxiliary(_) => None,
             Head::Other => None,
@@ -231,8 +234,9 @@ impl UnitScope {
             IsCoreKeyword work.now known s fs t result }
     {
         let name = head_name(work, form)?;
-        match self.head_of(work, scope, name.ident) {
-            Head::Core(core) => Some((core, self.target(work, scope, name))),
+        let keyword = self.target(work, scope, name);
+        match self.head_by(work, keyword.meaning) {
+            Head::Core(core) => Some((core, keyword)),
             Head::Auxiliary(_) => None,
             Head::Macro => None,
             Head::Other => None,
@@ -313,9 +317,25 @@ impl UnitScope {
             EndsHere (CoreStands work.now self.old.unit self.old.form.number) work.now work.now region self.old self.new ls result (reference (searched known) at.depth at.here fs n s) }
         ensures locals { OnOk result (self.new.form.budget.locals ≡ self.old.form.budget.locals) }
     {
-        self.test_variable(work, at, name)?;
+        let target = self.variable(work, at, name)?;
         self.begin_node(at.here, 1, at.depth)?;
-        Ok(Core::Ref(self.target(work, at.scope, name)))
+        Ok(Core::Ref(target))
+    }
+
+    /// An identifier where it is used, which is no keyword.
+    fn variable(&self, work: &Work, at: At, name: NamePart) -> Result<Target, ExpandFault>
+        requires look { CanLook work.now self.now at.scope }
+        requires name { HasNumber work.now name }
+        ensures tested { (known : Known) (ls : List Frames) (s : ScopedState) (fs : Frames) (n : Named Identifier) → Stands work.now self.now ls s → Stand ls at.scope fs → IsName work.now name n →
+            TestsVariable work.now s at.here n (head_of (searched known) fs s n.name) (passed result) }
+        ensures target { (ls : List Frames) (s : ScopedState) (fs : Frames) (n : Named Identifier) → Stands work.now self.now ls s → Stand ls at.scope fs → IsName work.now name n →
+            IfOk result (λ target. IsTarget work.now.symbols s.unit s.form target (record { meaning = means_here s fs n.name; ident = n.name; occ = n.occ })) }
+    {
+        let target = self.target(work, at.scope, name);
+        if self.head_by(work, target.meaning).is_keyword() {
+            return Err(self.fails_at(at.here, code::KEYWORD_AS_VALUE, name));
+        }
+        Ok(target)
     }
 
     /// Tests that an identifier is no keyword.
@@ -330,9 +350,7 @@ impl UnitScope {
         ensures { (known : Known) (ls : List Frames) (s : ScopedState) (fs : Frames) (n : Named Identifier) → Stands work.now self.now ls s → Stand ls at.scope fs → IsName work.now name n →
             TestsVariable work.now s at.here n (head_of (searched known) fs s n.name) result }
     {
-        if self.head_of(work, at.scope, name.ident).is_keyword() {
-            return Err(self.fails_at(at.here, code::KEYWORD_AS_VALUE, name));
-        }
+        self.variable(work, at, name)?;
         Ok(())
     }
 

@@ -24,6 +24,7 @@ use core_tree::cores::Target;
 use scope_env::ScopeNo;
 use syntax_tree::meaning::Meaning;
 use syntax_tree::symbols::IdNo;
+use syntax_tree::texts::same_text;
 use syntax_tree::trees::Work;
 
 /// A keyword that stands within other forms alone.
@@ -61,23 +62,23 @@ fn core_named(name: &str) -> Option<CoreKeyword>
     ensures { option_map keyword_as result ≡ option_map Some (core_named name.now) }
 {
     match name {
-        "quote" => Some(CoreKeyword::Quote),
-        "quasiquote" => Some(CoreKeyword::Quasiquote),
-        "lambda" => Some(CoreKeyword::Lambda),
-        "case-lambda" => Some(CoreKeyword::CaseLambda),
-        "if" => Some(CoreKeyword::If),
-        "set!" => Some(CoreKeyword::Set),
-        "begin" => Some(CoreKeyword::Begin),
-        "define" => Some(CoreKeyword::Define),
-        "define-values" => Some(CoreKeyword::DefineValues),
-        "define-record-type" => Some(CoreKeyword::DefineRecordType),
-        "define-syntax" => Some(CoreKeyword::DefineSyntax),
-        "let-syntax" => Some(CoreKeyword::LetSyntax),
-        "letrec-syntax" => Some(CoreKeyword::LetrecSyntax),
-        "cond-expand" => Some(CoreKeyword::CondExpand),
-        "syntax-error" => Some(CoreKeyword::SyntaxError),
-        "include" => Some(CoreKeyword::Include),
-        "include-ci" => Some(CoreKeyword::IncludeCi),
+        _ if same_text(name, "quote") => Some(CoreKeyword::Quote),
+        _ if same_text(name, "quasiquote") => Some(CoreKeyword::Quasiquote),
+        _ if same_text(name, "lambda") => Some(CoreKeyword::Lambda),
+        _ if same_text(name, "case-lambda") => Some(CoreKeyword::CaseLambda),
+        _ if same_text(name, "if") => Some(CoreKeyword::If),
+        _ if same_text(name, "set!") => Some(CoreKeyword::Set),
+        _ if same_text(name, "begin") => Some(CoreKeyword::Begin),
+        _ if same_text(name, "define") => Some(CoreKeyword::Define),
+        _ if same_text(name, "define-values") => Some(CoreKeyword::DefineValues),
+        _ if same_text(name, "define-record-type") => Some(CoreKeyword::DefineRecordType),
+        _ if same_text(name, "define-syntax") => Some(CoreKeyword::DefineSyntax),
+        _ if same_text(name, "let-syntax") => Some(CoreKeyword::LetSyntax),
+        _ if same_text(name, "letrec-syntax") => Some(CoreKeyword::LetrecSyntax),
+        _ if same_text(name, "cond-expand") => Some(CoreKeyword::CondExpand),
+        _ if same_text(name, "syntax-error") => Some(CoreKeyword::SyntaxError),
+        _ if same_text(name, "include") => Some(CoreKeyword::Include),
+        _ if same_text(name, "include-ci") => Some(CoreKeyword::IncludeCi),
         _ => None,
     }
 }
@@ -87,10 +88,13 @@ fn auxiliary_named(name: &str) -> Option<Auxiliary>
     ensures { option_map auxiliary_as result ≡ auxiliary_named name.now }
 {
     match name {
-        "syntax-rules" => Some(Auxiliary::SyntaxRules),
-        "unquote" => Some(Auxiliary::Unquote),
-        "unquote-splicing" => Some(Auxiliary::UnquoteSplicing),
-        "else" | "=>" | "..." | "_" => Some(Auxiliary::Other),
+        _ if same_text(name, "syntax-rules") => Some(Auxiliary::SyntaxRules),
+        _ if same_text(name, "unquote") => Some(Auxiliary::Unquote),
+        _ if same_text(name, "unquote-splicing") => Some(Auxiliary::UnquoteSplicing),
+        _ if same_text(name, "else") => Some(Auxiliary::Other),
+        _ if same_text(name, "=>") => Some(Auxiliary::Other),
+        _ if same_text(name, "...") => Some(Auxiliary::Other),
+        _ if same_text(name, "_") => Some(Auxiliary::Other),
         _ => None,
     }
 }
@@ -121,7 +125,7 @@ impl UnitScope {
     }
 
     /// What a form is whose head means this.
-    fn head_by(&self, work: &Work, meaning: Meaning) -> Head
+    pub(crate) fn head_by(&self, work: &Work, meaning: Meaning) -> Head
         requires { (ls : List Frames) × ((s : ScopedState) × Stands work.now self.now ls s × ((m : ModelMeaning) × IsMeaning work.now.symbols s.unit s.form meaning m)) }
         ensures { (ls : List Frames) (s : ScopedState) (m : ModelMeaning) → Stands work.now self.now ls s → IsMeaning work.now.symbols s.unit s.form meaning m →
             IsHead result (head_as (λ x. is_some (macro_at s.macros x)) m) }

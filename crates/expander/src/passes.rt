@@ -178,7 +178,7 @@ impl UnitScope {
             return Ok(());
         };
         let keyword = self.target(work, spot.scope, name);
-        let head = self.head_of(work, spot.scope, name.ident);
+        let head = self.head_by(work, keyword.meaning);
         self.note_head(work, spot, name, head, asked)?;
         match head {
             Head::Core(core) => self.pass_core(

@@ -14,7 +14,9 @@ use Rattle.syntax_tree.specs.declared.trees.Work.{Work}
 use Rattle.syntax_tree.specs.declared.trees.table.Region.{Region}
 use Rattle.syntax_tree.specs.declared.rules.Binding as code_binding
 use Rattle.rules_build.specs.declared.values.Bound as code
+use Rattle.rules_build.specs.declared.index.Maps as code_maps
 use Rattle.rules_build.specs.declared.index.Index as code_index
+use Rattle.rules_build.specs.declared.index.Index.TheVariants as shape
 use Rattle.rules_build.specs.declared.values.Value as code_value
 use Rattle.rules_build.specs.declared.values.Value.TheVariants as worth
 use Rattle.rules_build.specs.declared.fault.BuildFault.{BuildFault}
@@ -97,9 +99,14 @@ bounds_at bs [] = []
 bounds_at bs (k ∷ ks) = with_one (slice_get bs k) (bounds_at bs ks)
 
 -- for each number it has what the first binding of that number says, and the places of all
-pub record IsIndexOf (bounds : List code.Bound) (index : code_index.Index) : Type 0 where
-  pub values : (n : ℕ) → get nat_cmp index.values n ≡ value_by_number bounds n
-  pub places : ArePlaces bounds index.places
+pub record AreMapsOf (bounds : List code.Bound) (maps : code_maps.Maps) : Type 0 where
+  pub values : (n : ℕ) → get nat_cmp maps.values n ≡ value_by_number bounds n
+  pub places : ArePlaces bounds maps.places
+
+-- the bindings as they stand, or maps of them
+abbrev pub IsIndexOf : List code.Bound → code_index.Index → Type 0
+IsIndexOf bounds (shape.Few few) = few.items ≡ bounds
+IsIndexOf bounds (shape.Many maps) = AreMapsOf bounds maps
 
 -- lengths differ, and nothing else is answered
 abbrev pub Differ : {X : Type 0} → Option X → BuildFault → Type 0

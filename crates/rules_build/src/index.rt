@@ -1,4 +1,4 @@
-//! What variables stand for, by number, so that an identifier is not compared with each of them.
+//! What variables stand for, by number, so that an identifier is not compared with each of many.
 ghost use Rattle.std.specs.Prelude.{◌≡◌, ◌||◌, ◌&&◌, ℕ, nat_eq, List, IfOk, OnOk};
 ghost use Rattle.std.specs.List.{list_any};
 ghost use Rattle.std.specs.BTreeSet.{contains};
@@ -10,7 +10,7 @@ ghost use Rattle.syntax_tree.specs.Names.{AreToldApart};
 ghost use Rattle.syntax_tree.specs.Macros.{IsIdent};
 ghost use Rattle.syntax_tree.specs.declared.trees.Work.{Work};
 ghost use Rattle.syntax_tree.specs.declared.trees.table.Region.{Region};
-ghost use Rattle.rules_build.specs.Values.{AreBound, IsFound, IsIndexOf, ArePlaces, places_at, has_at};
+ghost use Rattle.rules_build.specs.Values.{AreBound, IsFound, IsIndexOf, AreMapsOf, ArePlaces, places_at, has_at, value_by_number};
 ghost use Rattle.rules_build.specs.declared.values.Bound.{Bound as AnyBound};
 
 use crate::values::{Bound, Value};
@@ -19,17 +19,37 @@ use std::alloc::Global;
 use std::collections::{BTreeMap, BTreeSet};
 use syntax_tree::symbols::IdNo;
 
+/// The most bindings that are looked through one after the other: maps of so few would cost more.
+const FEW: usize = 8;
+
+/// Bindings, by which a variable is found: a few as they stand, or maps of them.
+#[derive(Drop)]
+pub enum Index<'a> {
+    Few(Vec<Bound<'a>>),
+    Many(Maps<'a>),
+}
+
 /// Variables with what they stand for, and the places of their bindings. Of a variable with several bindings the first says what
 /// it stands for.
 #[derive(Drop)]
-pub struct Index<'a> {
+pub struct Maps<'a> {
     pub values: BTreeMap<IdNo, Value<'a>>,
     pub places: BTreeMap<IdNo, Vec<usize>>,
 }
 
-/// The variables of bindings. It goes from the last binding to the first, so that the first stays.
+/// The index of bindings.
 pub fn index_of<'a>(alloc: Global, bounds: &[Bound<'a>]) -> Mem<Index<'a>>
     ensures { IfOk result (λ index. IsIndexOf bounds.now index) }
+{
+    if bounds.len() <= FEW {
+        return Ok(Index::Few(Vec::from_slice(alloc, bounds)?));
+    }
+    Ok(Index::Many(maps_of(alloc, bounds)?))
+}
+
+/// The variables of bindings. It goes from the last binding to the first, so that the first stays.
+fn maps_of<'a>(alloc: Global, bounds: &[Bound<'a>]) -> Mem<Maps<'a>>
+    ensures { IfOk result (λ maps. AreMapsOf bounds.now maps) }
 {
     let mut values = BTreeMap::new(alloc);
     let count = bounds.len();
@@ -38,7 +58,7 @@ pub fn index_of<'a>(alloc: Global, bounds: &[Bound<'a>]) -> Mem<Index<'a>>
         values.insert(bound.variable, bound.value)?;
     }
     let places = places_of_all(alloc, bounds)?;
-    Ok(Index { values, places })
+    Ok(Maps { values, places })
 }
 
 /// The places of the bindings of each variable.
@@ -76,20 +96,60 @@ pub fn value_of<'a>(index: &Index<'a>, id: IdNo) -> Option<Value<'a>>
         AreToldApart work.symbols.idents → IsIdent work.symbols id i → IsIndexOf bounds index.now → AreBound work region bounds ms →
         IsFound work region result (value_of same_ident ms i) }
 {
-    match index.values.get(&id) {
-        None => None,
-        Some(value) => Some(*value),
+    match index {
+        Index::Few(bounds) => first_of(bounds, id),
+        Index::Many(maps) => maps.values.get(&id).copied(),
     }
+}
+
+/// What the first of some bindings that is of this variable says.
+fn first_of<'a>(bounds: &[Bound<'a>], id: IdNo) -> Option<Value<'a>>
+    ensures { result ≡ value_by_number bounds.now id }
+{
+    for bound in bounds {
+        if bound.variable == id {
+            return Some(bound.value);
+        }
+    }
+    None
 }
 
 /// The places of the bindings of some variables.
 pub fn places_among(alloc: Global, index: &Index, names: &BTreeSet<IdNo>) -> Mem<BTreeSet<usize>>
-    ensures { (bounds : List AnyBound) (q : ℕ) → ArePlaces bounds index.now.places →
+    ensures { (bounds : List AnyBound) (q : ℕ) → IsIndexOf bounds index.now →
+        IfOk result (λ places. contains nat_cmp places q ≡ has_at (contains nat_cmp names.now) bounds q) }
+{
+    match index {
+        Index::Few(bounds) => Ok(places_in_row(alloc, bounds, names)?),
+        Index::Many(maps) => Ok(places_in(alloc, &maps.places, names)?),
+    }
+}
+
+/// The places of some variables among bindings.
+fn places_in_row(alloc: Global, bounds: &[Bound], names: &BTreeSet<IdNo>) -> Mem<BTreeSet<usize>>
+    ensures { (q : ℕ) → IfOk result (λ places. contains nat_cmp places q ≡ has_at (contains nat_cmp names.now) bounds.now q) }
+{
+    let mut places = BTreeSet::new(alloc);
+    for k in 0..bounds.len() {
+        if names.contains(&bounds[k].variable) {
+            places.insert(k)?;
+        }
+    }
+    Ok(places)
+}
+
+/// The places that a map has of some variables.
+fn places_in(
+    alloc: Global,
+    all: &BTreeMap<IdNo, Vec<usize>>,
+    names: &BTreeSet<IdNo>,
+) -> Mem<BTreeSet<usize>>
+    ensures { (bounds : List AnyBound) (q : ℕ) → ArePlaces bounds all.now →
         IfOk result (λ places. contains nat_cmp places q ≡ has_at (contains nat_cmp names.now) bounds q) }
 {
     let mut places = BTreeSet::new(alloc);
     for name in names {
-        if let Some(those) = index.places.get(name) {
+        if let Some(those) = all.get(name) {
             add_places(those.as_slice(), &mut places)?;
         }
     }

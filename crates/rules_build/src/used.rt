@@ -10,7 +10,7 @@ ghost use Rattle.syntax_tree.specs.Looks.{StandsWithin, PartsWithin, PartsStand}
 ghost use Rattle.syntax_tree.specs.Macros.{IsIdent};
 ghost use Rattle.syntax_tree.specs.Works.{StandsFor};
 ghost use Rattle.syntax_tree.specs.declared.trees.table.Region.{Region};
-ghost use Rattle.rules_build.specs.Values.{AreBound, ArePlaces, bounds_at};
+ghost use Rattle.rules_build.specs.Values.{AreBound, IsIndexOf, bounds_at};
 
 use crate::index::{Index, places_among};
 use crate::values::Bound;
@@ -31,7 +31,7 @@ pub fn used_in<'a>(
     index: &Index,
 ) -> Mem<Vec<Bound<'a>>>
     requires template { StandsWithin work.now template left }
-    requires index { ArePlaces bounds.now index.now.places }
+    requires index { IsIndexOf bounds.now index.now }
     ensures { (region : Region) (t : ModelTree Identifier) (ms : List (ModelBinding Identifier Identifier)) →
         StandsFor work.now template t → AreBound work.now region bounds.now ms →
         IfOk result (λ used. AreBound work.now region used.items (used_in same_ident t ms)) }

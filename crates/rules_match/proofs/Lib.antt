@@ -10,5 +10,6 @@ pub mod EachLaws  -- Matching of one pattern with many trees, place by place
 pub mod VariableLaws  -- The columns of a pattern's variables, part by part
 pub mod AtomLaws  -- Atoms by the numbers of their texts
 pub mod KnownLaws  -- The pairs of literals and identifiers that mean the same, by number
+pub mod NoLiterals  -- Rules without literals compare none
 pub mod Naming  -- What nodes of a region may name of what is matched
 mod rows  -- The definitions on worked rows

@@ -44,6 +44,9 @@ pub fn literal_pairs(alloc: Global, work: &Work, rules: &Rules, form: Tree) -> M
     ensures { (r : ModelRules Identifier) (t : ModelTree Identifier) → RulesFor work.now rules.now r → StandsFor work.now form t →
         IfOk result (λ pairs. ArePairs work.now pairs (compared_in r t)) }
 {
+    if rules.literals.as_slice().is_empty() {
+        return Ok(Items::new(alloc));
+    }
     let roles = Roles::of(alloc, rules.ellipsis, rules.literals.as_slice())?;
     match look_at(work, form) {
         Look::List(items, end) => {

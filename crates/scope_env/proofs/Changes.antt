@@ -1,5 +1,5 @@
 -- What calls make of an environment, and that it stays sound.
-use Rattle.std.proofs.Common.{◌≡◌, ℕ, zero, suc, ◌<◌, Bool, true, false, cond, List, [], ◌∷◌, ◌++◌, map, length, set, slice_get, Option, Some, None, refl, sym, ap, ◌∙◌, subst, inl, inr, arith, length-append, Result, Ok, Err, is_err, OnOk, OnErr}
+use Rattle.std.proofs.Common.{◌≡◌, ℕ, zero, suc, ◌<◌, ◌+◌, ◌-◌, take, Bool, true, false, cond, List, [], ◌∷◌, ◌++◌, map, length, set, slice_get, Option, Some, None, refl, sym, ap, ◌∙◌, subst, inl, inr, arith, length-append, Result, Ok, Err, is_err, OnOk, OnErr}
 use Rattle.std.specs.Prelude.{◌⊎◌}
 use Rattle.std.specs.declared.cmp.Ordering.{Ordering}
 use Rattle.std.specs.Ordering.{nat_cmp, eq_by_cmp}
@@ -187,3 +187,18 @@ on_ok (Err e) is h = absurd cc
 pub on_err : {T E : Type 0} {P : Type 0} (r : Result T E) → P → OnErr r P
 on_err (Ok x) h = tt
 on_err (Err e) h = h
+
+pub from_err : {T E : Type 0} {P : Type 0} (r : Result T E) → is_err r ≡ true → OnErr r P → P
+from_err (Ok x) is h = absurd cc
+from_err (Err e) is h = h
+
+-- what is pushed and popped again
+front_taken : {A : Type 0} (xs : List A) (x : A) → take (length xs) (xs ++ x ∷ []) ≡ xs
+front_taken [] x = refl
+front_taken {A} (y ∷ xs) x = ap (λ (l : List A). y ∷ l) (front_taken xs x)
+
+pub popped : {A : Type 0} (xs ys zs : List A) (x : A) (n : ℕ) → ys ≡ xs ++ x ∷ [] → n ≡ length ys → zs ≡ take (n - 1) ys → zs ≡ xs
+popped xs ys zs x n pushed counted rest =
+    let count : length ys ≡ length xs + 1 = ap length pushed ∙ length-append xs (x ∷ []) in
+    let less : n - 1 ≡ length xs = omega arith in
+    rest ∙ (λ j. take (less j) (pushed j)) ∙ front_taken xs x

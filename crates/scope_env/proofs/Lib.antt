@@ -9,4 +9,6 @@ pub mod Added  -- An environment with a binding more, where one is given
 pub mod Fields  -- What the fields of an environment answer
 pub mod GrowthLaws  -- What an environment stands for where the tables of symbols and identifiers have grown; and locals of one form
 pub mod AroundLaws  -- Which scopes are around which
+pub mod Marking  -- Marks in a row
+pub mod MarkLaws  -- What is marked of an environment, and that no scope binds what isn't
 pub mod Copies  -- Scopes that are copied stand for the same

@@ -1,5 +1,5 @@
 //! The scopes of all units, and what an identifier means in one of them (R7RS 3.1, 4.3).
-ghost use Rattle.std.specs.Prelude.{◌≡◌, ℕ, ◌<◌, ◌++◌, [], ◌∷◌, length, reverse, Some, None, IsTrue, IsSome, ◌↔◌, IfOk, OnOk, OnErr};
+ghost use Rattle.std.specs.Prelude.{◌≡◌, ℕ, ◌<◌, ◌++◌, [], ◌∷◌, length, reverse, Option, Some, None, true, false, IsTrue, IsSome, ◌↔◌, IfOk, OnOk, OnErr};
 ghost use Rattle.std.specs.FinMap.{get};
 ghost use Rattle.scheme_model.specs.Ident.{Ident as Identifier};
 ghost use Rattle.scheme_model.specs.Scopes.{Chain, Uses, Own, means};
@@ -9,8 +9,10 @@ ghost use Rattle.syntax_tree.specs.Numbered.{number_of};
 ghost use Rattle.scope_env.specs.Environment.{no_scopes, with_root, with_child, with_bound, with_added, with_use, IsSound};
 ghost use Rattle.scope_env.specs.Resolved.{local, own, bound_at, resolved};
 ghost use Rattle.scope_env.specs.Standing.{EnvFor, StandsFor};
+ghost use Rattle.scope_env.specs.Marks.{marked, marked_for};
 ghost use Rattle.scheme_model.specs.Meaning.{of_form};
 
+use crate::marks::Marks;
 use ls_base::{Mem, Memory};
 use std::alloc::{AllocError, Global};
 use std::collections::BTreeMap;
@@ -51,18 +53,22 @@ pub struct Bound {
     pub meaning: Meaning,
 }
 
-/// The scopes of all units: one `Env` holds them, since an inserted identifier leads to the unit of its macro.
+/// The scopes of all units: one `Env` holds them, since an inserted identifier leads to the unit of its macro. What some local scope
+/// binds is marked, and what some unit's own scope binds: most identifiers aren't, and no scope has to be asked for them.
 #[derive(Drop)]
 pub struct Env {
     alloc: Global,
     scopes: Vec<Scope>,
     uses: BTreeMap<UseNo, ScopeNo>,
     roots: BTreeMap<u32, ScopeNo>,
+    locals: Marks,
+    owns: Marks,
 }
 
 impl Model for Env {
-    ghost use Rattle.scope_env.specs.Environment.{Environment, IsSound};
+    ghost use Rattle.scope_env.specs.Environment.{Environment};
     ghost use Rattle.scope_env.specs.Kept.{environment_code, environment_of};
+    ghost use Rattle.scope_env.specs.Marks.{IsKept};
 
     ghost Value = { Environment };
 
@@ -70,7 +76,7 @@ impl Model for Env {
 
     ghost view = { λ s. environment_of s.scopes.items s.uses.entries s.roots.entries };
 
-    ghost invariant = { λ s. IsSound (environment_of s.scopes.items s.uses.entries s.roots.entries) };
+    ghost invariant = { λ s. IsKept (environment_of s.scopes.items s.uses.entries s.roots.entries) s.locals s.owns };
 }
 
 impl Env {
@@ -83,6 +89,8 @@ impl Env {
             scopes: Vec::new(alloc),
             uses: BTreeMap::new(alloc),
             roots: BTreeMap::new(alloc),
+            locals: Marks::new(alloc),
+            owns: Marks::new(alloc),
         }
     }
 
@@ -95,6 +103,8 @@ impl Env {
             scopes: self.scopes.clone()?,
             uses: self.uses.clone()?,
             roots: self.roots.clone()?,
+            locals: self.locals.copy(self.alloc)?,
+            owns: self.owns.copy(self.alloc)?,
         })
     }
 
@@ -140,6 +150,12 @@ impl Env {
         ensures bound { OnOk result (self.new ≡ with_bound self.old scope ident meaning) }
         ensures err { OnErr result (self.new ≡ self.old) }
     {
+        mark(
+            &mut self.locals,
+            &mut self.owns,
+            self.scopes[scope].parent,
+            ident,
+        )?;
         let scope = &mut self.scopes[scope];
         scope.bound.insert(ident, meaning)?;
         Ok(())
@@ -190,6 +206,9 @@ impl Env {
         ensures { result ≡ local (with_added self.now added) scope ident }
     {
         let mut at = scope?;
+        if is_unmarked(&self.locals, ident, added) {
+            return None;
+        }
         loop {
             let parent = self.scopes[at].parent?;
             if let Some(meaning) = self.here(at, ident, added) {
@@ -203,6 +222,9 @@ impl Env {
     fn own(&self, unit: u32, ident: IdNo, added: Option<Bound>) -> Option<Meaning>
         ensures { result ≡ own (with_added self.now added) unit ident }
     {
+        if is_unmarked(&self.owns, ident, added) {
+            return None;
+        }
         let root = self.roots.get(&unit)?;
         self.here(*root, ident, added)
     }
@@ -299,4 +321,22 @@ impl Env {
         })?;
         Ok(answer)
     }
+}
+
+/// Marks an identifier that a scope inside this one, or inside none, is to bind.
+fn mark(locals: &mut Marks, owns: &mut Marks, parent: Option<ScopeNo>, ident: IdNo) -> Mem<()>
+    ensures kept { (around : Option ℕ) (n : ℕ) → marked_for locals.new owns.new around n ≡ false → marked_for locals.old owns.old around n ≡ false }
+    ensures marked { OnOk result (marked_for locals.new owns.new parent ident ≡ true) }
+{
+    match parent {
+        Some(_) => Ok(locals.add(ident)?),
+        None => Ok(owns.add(ident)?),
+    }
+}
+
+/// Whether an identifier has no mark, and no binding is added.
+fn is_unmarked(marks: &Marks, ident: IdNo, added: Option<Bound>) -> bool
+    ensures { IsTrue result → (added ≡ None) × (marked marks.now ident ≡ false) }
+{
+    added.is_none() && !marks.has(ident)
 }

@@ -3,5 +3,6 @@
 
 pub mod env;
 pub mod laws;
+mod marks;
 
 pub use env::{Env, ScopeNo};

@@ -75,6 +75,14 @@ module _ {A : Type 0} (same : A → A → Bool) (tells : (x y : A) → same x y 
 pub bytes_told : (p q : List ℕ) → bytes_eq p q ≡ true → p ≡ q
 bytes_told p q h = (bytes_eq-Decides p q).0 h
 
+-- texts of different lengths
+pub other_length : (p q : List ℕ) → (length p ≡ length q → ⊥) → false ≡ bytes_eq p q
+other_length p q h = by (bytes_eq p q) refl
+  where
+    by : (b : Bool) → bytes_eq p q ≡ b → false ≡ b
+    by false e = refl
+    by true e = absurd (h (ap length (bytes_told p q e)))
+
 pub bytes_itself : (p : List ℕ) → bytes_eq p p ≡ true
 bytes_itself p = (bytes_eq-Decides p p).1 refl
 

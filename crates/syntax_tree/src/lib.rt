@@ -6,5 +6,6 @@ pub mod meaning;
 pub mod notes;
 pub mod rules;
 pub mod symbols;
+pub mod texts;
 pub mod trees;
 pub mod units;

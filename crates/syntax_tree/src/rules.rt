@@ -4,12 +4,13 @@ ghost use Rattle.scheme_model.specs.RulesShape.{Rules as ModelRules, role_of, do
 ghost use Rattle.scheme_model.specs.Matching.{behind};
 ghost use Rattle.scheme_model.specs.Trees.{Tree as ModelTree, Trees, Tail};
 ghost use Rattle.syntax_tree.specs.Looks.{PartsStand, EndStands, AreStanding, EndIsStanding};
-ghost use Rattle.scheme_model.specs.Ident.{Ident as Identifier};
+ghost use Rattle.scheme_model.specs.Ident.{Ident as Identifier, symbol_of};
 ghost use Rattle.syntax_tree.specs.Macros.{identifiers, role_as, TellsRoles, AreRolesOf, IsEllipsisOf};
 ghost use Rattle.syntax_tree.specs.Works.{StandsFor, IsStanding};
 
 use crate::look::{Look, look_at};
 use crate::symbols::{IdNo, Symbols};
+use crate::texts::same_text;
 use crate::trees::{Tree, Work};
 use ls_base::{Items, Mem, Memory};
 use scheme_model::Occ;
@@ -113,10 +114,11 @@ impl Roles {
         if self.literals.contains(&id) {
             return Role::Literal;
         }
-        if self.is_ellipsis(symbols, id) {
+        let name = symbols.name(symbols.strip(id));
+        if self.is_ellipsis(symbols, id, name) {
             return Role::Ellipsis;
         }
-        if symbols.name(symbols.strip(id)) == "_" {
+        if same_text(name, "_") {
             return Role::Any;
         }
         Role::Variable
@@ -171,16 +173,15 @@ impl Roles {
         count
     }
 
-    /// Whether an identifier is the ellipsis of these rules, literals aside.
-    fn is_ellipsis(&self, symbols: &Symbols, id: IdNo) -> bool
-        requires { id < length symbols.now.idents }
+    /// Whether an identifier, in which this symbol is innermost, is the ellipsis of these rules, literals aside.
+    fn is_ellipsis(&self, symbols: &Symbols, id: IdNo, name: &str) -> bool
         ensures { (e : Option Identifier) (i : Identifier) → IsEllipsisOf symbols.now self.now.ellipsis e →
-            slice_get symbols.now.idents id ≡ Some i → result ≡ is_ellipsis identifiers e i }
+            slice_get symbols.now.idents id ≡ Some i → name.now ≡ symbol_of i → result ≡ is_ellipsis identifiers e i }
     {
         symbols.told_apart();
         match self.ellipsis {
             Some(own) => id == own,
-            None => symbols.name(symbols.strip(id)) == "...",
+            None => same_text(name, "..."),
         }
     }
 }

@@ -5,10 +5,12 @@ ghost use Rattle.std.specs.Option.{option_map};
 ghost use Rattle.scheme_model.specs.Ident.{Ident as Identifier, symbol_of};
 ghost use Rattle.syntax_tree.specs.Names.{Names, AreToldApart, KeepsNames, with_symbol, with_ident};
 ghost use Rattle.syntax_tree.specs.Numbered.{ident_of, IsPlaced};
+ghost use Rattle.syntax_tree.specs.Hashed.{packed};
 
 use indexmap::{IndexMap, IndexSet};
 use ls_base::{Mem, Memory};
 use std::alloc::Global;
+use std::hash::{Hash, Hasher};
 use std::marker::Model;
 
 /// A symbol's number: its place in the table of symbols.
@@ -25,11 +27,44 @@ pub struct UseNo {
     pub count: u32,
 }
 
+impl UseNo {
+    /// Its three parts in one number, by which it is hashed.
+    fn packed(self) -> u128
+        ensures { result ≡ packed self }
+    {
+        (self.unit as u128 * 0x1_0000_0000 + self.form as u128) * 0x1_0000_0000 + self.count as u128
+    }
+}
+
 /// An identifier: a symbol written in a unit, or an identifier that a macro use inserted.
-#[derive(Clone, Copy, Debug, PartialEq, Eq, PartialOrd, Ord, Hash)]
+#[derive(Clone, Copy, Debug, PartialEq, Eq, PartialOrd, Ord)]
 pub enum Ident {
     Written { unit: u32, symbol: SymNo },
     Inserted { id: IdNo, number: UseNo },
+}
+
+impl Hash for Ident {
+    ghost use Rattle.syntax_tree.specs.Hashed.{ident_hashed};
+    ghost use Rattle.std.proofs.Common.{rules};
+    ghost use Rattle.std.specs.Cmp.Rules.{comparing, hashing};
+
+    ghost hash_input = { ident_hashed };
+
+    ghost respects_eq = { Prim.search (hashing, rules) };
+
+    /// A number is hashed as one, since an identifier is looked up for each leaf of a form.
+    fn hash<H: Hasher>(&self, state: &mut H) {
+        match self {
+            Ident::Written { unit, symbol } => {
+                symbol.hash(state);
+                unit.hash(state);
+            }
+            Ident::Inserted { id, number } => {
+                id.hash(state);
+                number.packed().hash(state);
+            }
+        }
+    }
 }
 
 /// The tables of symbols and of identifiers, which only grow. Beside each identifier stands its innermost symbol.

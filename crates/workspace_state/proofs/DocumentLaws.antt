@@ -7,10 +7,10 @@ use Rattle.scheme_tokens.specs.Lexical as told
 use Rattle.scheme_tokens.specs.Lexical.{IsSpelled}
 use Rattle.scheme_tokens.specs.Faults as faulty
 use Rattle.scheme_tokens.specs.Stopping as stopping
-use Rattle.scheme_tokens.specs.Views as seen
-use Rattle.scheme_tokens.specs.declared.token.Token as code_token
 use Rattle.scheme_model.specs.Kinds.{Token}
+use Rattle.scheme_model.specs.Diagnostics.{Span}
 use Rattle.datum_reader.specs.Texts.{TextReads, token_seen, stop_seen}
+use Rattle.datum_reader.specs.Views.{bytes_seen, bytes_of}
 use Rattle.datum_reader.specs.declared.datum.Datum as code_datum
 use Rattle.syntax_tree.proofs.Places.{push_cases}
 use Rattle.workspace_state.specs.DataRead.{AreReadIn, DataWereRead}
@@ -26,15 +26,20 @@ spelled_if us (Some f) text read is = cc
 pub spelled : (text : List ℕ) (ts : List Token) → TextReads text ts None → (us : List told.Token) × IsSpelled us text × (ts ≡ map token_seen us)
 spelled text ts (us, fin, read, same, end) = (us, spelled_if us fin text read end, same)
 
-spans_alike : (ts : List code_token.Token) → map span_seen (map (λ (t : code_token.Token). t.span) ts) ≡ map span_of (map token_seen (seen.tokens_of ts))
-spans_alike [] = refl
-spans_alike (t ∷ ts) = ap (λ ss. span_seen t.span ∷ ss) (spans_alike ts)
+abbrev as_span : ℕ × ℕ → Span
+as_span p = record { start = p.0; end = p.1 }
+
+seen_so : (spans : List code_span.Span) → map as_span (map bytes_seen spans) ≡ map span_seen spans
+seen_so [] = refl
+seen_so (s ∷ ss) = ap (λ (rest : List Span). span_seen s ∷ rest) (seen_so ss)
+
+told_so : (ts : List Token) → map as_span (map bytes_of ts) ≡ map span_of ts
+told_so [] = refl
+told_so (t ∷ ts) = ap (λ (rest : List Span). span_of t ∷ rest) (told_so ts)
 
 -- the bytes of the tokens that are told
-pub spans_told : (items : List code_token.Token) (us : List told.Token) (ts : List Token) (spans : List code_span.Span) → seen.tokens_of items ≡ us → ts ≡ map token_seen us → spans ≡ map (λ (t : code_token.Token). t.span) items →
-    map span_seen spans ≡ map span_of ts
-spans_told items us ts spans same told is =
-    ap (map span_seen) is ∙ spans_alike items ∙ ap (λ vs. map span_of (map token_seen vs)) same ∙ ap (map span_of) (sym told)
+pub spans_told : (spans : List code_span.Span) (ts : List Token) → map bytes_seen spans ≡ map bytes_of ts → map span_seen spans ≡ map span_of ts
+spans_told spans ts h = sym (seen_so spans) ∙ ap (map as_span) h ∙ told_so ts
 
 take_nth : {X : Type 0} (xs : List X) (n : ℕ) (x : X) → slice_get xs n ≡ Some x → take (suc n) xs ≡ take n xs ++ x ∷ []
 take_nth [] n x is = cc

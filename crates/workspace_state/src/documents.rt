@@ -1,5 +1,5 @@
 //! The open documents as they are read: their data, or why there are none (R7RS 7.1.2).
-ghost use Rattle.std.specs.Prelude.{◌≡◌, ℕ, ◌^◌, ◌<◌, ◌≤◌, List, length, map, slice_get, None, IfOk, IfErr, OnOk};
+ghost use Rattle.std.specs.Prelude.{◌≡◌, ℕ, ◌<◌, ◌≤◌, List, length, map, slice_get, None, IfOk, IfErr, OnOk};
 ghost use Rattle.std.specs.Option.{option_map};
 ghost use Rattle.std.specs.FinMap.{entries};
 ghost use Rattle.std.specs.Str.{chars};
@@ -13,11 +13,11 @@ ghost use Rattle.workspace_state.specs.Stored.{opened as seen};
 ghost use Rattle.workspace_state.specs.DataRead.{AreReadIn, DataWereRead};
 
 use crate::texts::{Opened, nth};
-use datum_reader::{Datum, read_all};
+use datum_reader::{Datum, read_with_spans};
 use document_store::Store;
 use ls_base::limits::MAX_DOCUMENTS;
 use ls_base::{Items, Mem, Memory, Span, Text};
-use scheme_tokens::{ReadFault, Token, tokens};
+use scheme_tokens::ReadFault;
 use std::alloc::Global;
 use text_positions::Lines;
 
@@ -71,9 +71,8 @@ fn read_document(alloc: Global, opened: Opened<'_>) -> Mem<Document>
     ensures document { IfOk result (IsDocument (seen opened.entry)) }
     ensures read { IfOk result (λ document. DataWereRead document.items) }
 {
-    let spans = spans_of(alloc, opened.text)?;
     match data_in(alloc, opened.text) {
-        Ok(items) => document_of(alloc, opened, spans, items, None),
+        Ok((spans, items)) => document_of(alloc, opened, spans, items, None),
         Err(ReadFault::At { number, span }) => stopped(alloc, opened, Unread { number, span }),
         Err(ReadFault::Memory) => Err(Memory),
     }
@@ -115,15 +114,16 @@ fn stopped(alloc: Global, opened: Opened<'_>, unread: Unread) -> Mem<Document>
     document_of(alloc, opened, spans, items, Some(unread))
 }
 
-/// The data of a text, or why there are none.
-fn data_in(alloc: Global, text: &str) -> Result<Items<Datum>, ReadFault>
+/// The bytes of a text's tokens and its data, or why there are none.
+fn data_in(alloc: Global, text: &str) -> Result<(Vec<Span>, Items<Datum>), ReadFault>
     requires { length text.now ≤ max_text }
-    ensures found { IfOk result (λ items. IsReading (chars text.now) (data_of items)) }
-    ensures read { IfOk result DataWereRead }
+    ensures found { IfOk result (λ read. IsReading (chars text.now) (data_of read.1)) }
+    ensures spans { (ts : List ModelToken) → TextReads (chars text.now) ts None → IfOk result (λ read. map span_seen read.0.items ≡ map span_of ts) }
+    ensures read { IfOk result (λ read. DataWereRead read.1) }
     ensures fault { IfErr result (λ e. Explains e (chars text.now)) }
 {
-    let items = read_all(alloc, text)?;
-    Ok(items)
+    let read = read_with_spans(alloc, text)?;
+    Ok(read)
 }
 
 /// The first document that doesn't read. `None` where all do.
@@ -136,27 +136,4 @@ pub fn first_unread(documents: &[Document]) -> Option<&str>
         }
     }
     None
-}
-
-/// The bytes of the tokens of a text.
-fn spans_of(alloc: Global, text: &str) -> Mem<Vec<Span>>
-    requires { length text.now < 2 ^ 32 }
-    ensures { (ts : List ModelToken) → TextReads (chars text.now) ts None → IfOk result (λ spans. map span_seen spans.items ≡ map span_of ts) }
-{
-    match tokens(alloc, text) {
-        Ok(tokens) => Ok(spans_in(alloc, tokens.as_slice())?),
-        Err(ReadFault::At { .. }) => Ok(Vec::new(alloc)),
-        Err(ReadFault::Memory) => Err(Memory),
-    }
-}
-
-/// The bytes of tokens.
-fn spans_in(alloc: Global, tokens: &[Token]) -> Mem<Vec<Span>>
-    ensures { IfOk result (λ spans. spans.items ≡ map (λ t. t.span) tokens.now) }
-{
-    let mut spans = Vec::new(alloc);
-    for token in tokens {
-        spans.push(token.span)?;
-    }
-    Ok(spans)
 }

@@ -1,17 +1,17 @@
-use Rattle.std.proofs.Common.{◌||◌, ◌∙◌, ℕ, List, nat_eq, sym, ap}
-use Rattle.std.specs.List.{list_any}
+use Rattle.std.proofs.Common.{ap, ◌∙◌, List, subst}
 use Rattle.std.specs.BTreeSet.{contains}
-use Rattle.std.specs.Map.Iter.{deref}
 use Rattle.std.specs.Ordering.{nat_cmp}
-use Rattle.std.proofs.lemmas.Map.Iter.{rest_all}
-use Rattle.rules_build.specs.Values.{places_at}
-use Rattle.rules_build.proofs.NameLaws.{or_none}
-use Rattle.rules_build.proofs.PlaceLaws.{among}
+use Rattle.rules_build.specs.declared.values.Bound as code
+use Rattle.rules_build.specs.declared.index.Index as code_index
+use Rattle.rules_build.specs.Values.{IsIndexOf, has_at}
 use Rattle.rules_build.proofs.index.places_among.Goals as goal
 
-pub returns : goal.returns
-returns c = λ bounds q are.
-    let found = contains nat_cmp c.loop-name.places q in
-    let f = λ (n : ℕ). list_any (nat_eq q) (places_at c.args.index.now.places n) in
-    or_none found ∙ ap (λ (ks : List ℕ). found || list_any f ks) (sym (rest_all deref c.loop-name.name-iterator c.next.new.self c.next.result c.in-None.is c.next.ensures.steps))
-    ∙ c.loop-name.invariant q ∙ among c.args.names.now c.args.index.now.places bounds q are
+pub returns-in_ok-places_in_row-in-Few : goal.returns-in_ok-places_in_row-in-Few
+returns-in_ok-places_in_row-in-Few c = λ bounds q holds.
+    let few = subst (λ (x : code_index.Index). IsIndexOf bounds x) c.in-Few.is holds in
+    c.in_ok-places_in_row-in-Few.ensures q ∙ ap (λ (bs : List code.Bound). has_at (contains nat_cmp c.args.names.now) bs q) (c.deref.ensures.value ∙ few)
+
+pub returns-in_ok-places_in-in-Many : goal.returns-in_ok-places_in-in-Many
+returns-in_ok-places_in-in-Many c = λ bounds q holds.
+    let maps = subst (λ (x : code_index.Index). IsIndexOf bounds x) c.in-Many.is holds in
+    c.in_ok-places_in-in-Many.ensures bounds q maps.places

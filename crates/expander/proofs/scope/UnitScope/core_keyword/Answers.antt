@@ -1,5 +1,6 @@
 use Rattle.std.proofs.Common.{refl}
 use Rattle.scheme_model.specs.Order.{head_of}
+use Rattle.scheme_model.specs.CountedExpansion.{means_here}
 use Rattle.expander.specs.Searched.{searched}
 use Rattle.expander.specs.declared.heads.Head.TheVariants as heads
 use Rattle.expander.proofs.ReadLaws.{head_named}
@@ -9,20 +10,27 @@ use Rattle.expander.proofs.scope.UnitScope.core_keyword.Goals as goal
 pub returns-in-Core : goal.returns-in-Core
 returns-in-Core c = λ known ls s fs t e at is.
     let h = head_named c.args.work.now t c.in_ok-name.name (c.in_ok-name.ensures t is) in
-    let k = head_is_core c.in-Core.core (head_of (searched known) fs s h.ident) (c.in-Core.ensures ls s fs h.ident e at h.named.0) in
-    (h.ident, h.place, h.parts, h.tail, h.around, k.0, h.is, k.1, k.2, c.target.ensures ls s fs (record { name = h.ident; occ = h.place }) e at h.named)
+    let k = head_is_core c.in-Core.core (head_of (searched known) fs s h.ident) (c.in-Core.ensures ls s (means_here s fs h.ident) e (c.target-keyword.ensures ls s fs (record { name = h.ident; occ = h.place }) e at h.named).meaning) in
+    (h.ident, h.place, h.parts, h.tail, h.around, k.0, h.is, k.1, k.2, c.target-keyword.ensures ls s fs (record { name = h.ident; occ = h.place }) e at h.named)
 
 pub returns-in-Auxiliary : goal.returns-in-Auxiliary
 returns-in-Auxiliary c = λ known ls s fs t e at is.
     let h = head_named c.args.work.now t c.in_ok-name.name (c.in_ok-name.ensures t is) in
-    named_plain known c.args.work.now s fs t c.in_ok-name.name h (head_no_core (heads.Auxiliary c.in-Auxiliary.field-0) (head_of (searched known) fs s h.ident) refl (c.in-Auxiliary.ensures ls s fs h.ident e at h.named.0))
+    named_plain known c.args.work.now s fs t c.in_ok-name.name h (head_no_core (heads.Auxiliary c.in-Auxiliary.field-0) (head_of (searched known) fs s h.ident) refl (c.in-Auxiliary.ensures ls s (means_here s fs h.ident) e (c.target-keyword.ensures ls s fs (record { name = h.ident; occ = h.place }) e at h.named).meaning))
 
 pub returns-in-Macro : goal.returns-in-Macro
 returns-in-Macro c = λ known ls s fs t e at is.
     let h = head_named c.args.work.now t c.in_ok-name.name (c.in_ok-name.ensures t is) in
-    named_plain known c.args.work.now s fs t c.in_ok-name.name h (head_no_core heads.Macro (head_of (searched known) fs s h.ident) refl (c.in-Macro.ensures ls s fs h.ident e at h.named.0))
+    named_plain known c.args.work.now s fs t c.in_ok-name.name h (head_no_core heads.Macro (head_of (searched known) fs s h.ident) refl (c.in-Macro.ensures ls s (means_here s fs h.ident) e (c.target-keyword.ensures ls s fs (record { name = h.ident; occ = h.place }) e at h.named).meaning))
 
 pub returns-in-Other : goal.returns-in-Other
 returns-in-Other c = λ known ls s fs t e at is.
     let h = head_named c.args.work.now t c.in_ok-name.name (c.in_ok-name.ensures t is) in
-    named_plain known c.args.work.now s fs t c.in_ok-name.name h (head_no_core heads.Other (head_of (searched known) fs s h.ident) refl (c.in-Other.ensures ls s fs h.ident e at h.named.0))
+    named_plain known c.args.work.now s fs t c.in_ok-name.name h (head_no_core heads.Other (head_of (searched known) fs s h.ident) refl (c.in-Other.ensures ls s (means_here s fs h.ident) e (c.target-keyword.ensures ls s fs (record { name = h.ident; occ = h.place }) e at h.named).meaning))
+
+pub head_by-requires : goal.head_by-requires
+head_by-requires c =
+    let l = c.requires.look in
+    let f = c.requires.form in
+    let h = head_named c.args.work.now f.0 c.in_ok-name.name (c.in_ok-name.ensures f.0 f.1) in
+    (l.layout, (l.state, l.stands, (means_here l.state l.frames h.ident, (c.target-keyword.ensures l.layout l.state l.frames (record { name = h.ident; occ = h.place }) l.stands l.at h.named).meaning)))

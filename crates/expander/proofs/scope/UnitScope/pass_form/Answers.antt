@@ -34,16 +34,12 @@ target-keyword-requires c =
       ident = slice_get_within work.symbols.idents c.in-Some.name.ident n.ident n.named.0;
     }
 
-pub head_of-head-requires : goal.head_of-head-requires
-head_of-head-requires c =
-    let work = c.args.work.now in
+pub head_by-head-requires : goal.head_by-head-requires
+head_by-head-requires c =
     let f = c.requires.form.0 in
     let can = c.requires.can f.0 f.1 in
-    let n = head_named work f.0 c.in-Some.name (c.in-Some.ensures f.0 f.1) in
-    record {
-      look = can_look work c.args.region.now c.args.self.now c.args.spot (tree_size f.0) c.args.pending.now c.args.asked.now can;
-      ident = slice_get_within work.symbols.idents c.in-Some.name.ident n.ident n.named.0;
-    }
+    let n = head_named c.args.work.now f.0 c.in-Some.name (c.in-Some.ensures f.0 f.1) in
+    (can.layout, (can.state, can.stands, (means_here can.state can.frames n.ident, (c.target-keyword.ensures can.layout can.state can.frames (record { name = n.ident; occ = n.place }) can.stands can.placed.at n.named).meaning)))
 
 pub note_head-requires : goal.note_head-requires
 note_head-requires c =
@@ -59,7 +55,7 @@ pass_core-requires c =
     let f = c.requires.form.0 in
     let can = c.requires.can f.0 f.1 in
     let n = head_named work f.0 c.in-Some.name (c.in-Some.ensures f.0 f.1) in
-    let k = core_head c.in-Core.core (head_in can.state can.frames n.ident) (c.in-Core.ensures can.layout can.state can.frames n.ident can.stands can.placed.at n.named.0) in
+    let k = core_head c.in-Core.core (head_in can.state can.frames n.ident) (c.in-Core.ensures can.layout can.state (means_here can.state can.frames n.ident) can.stands (c.target-keyword.ensures can.layout can.state can.frames (record { name = n.ident; occ = n.place }) can.stands can.placed.at n.named).meaning) in
     let named : Named Identifier = record { name = n.ident; occ = n.place } in
     let t : Target = record { meaning = means_here can.state can.frames n.ident; ident = n.ident; occ = n.place } in
     record {
@@ -73,7 +69,7 @@ pass_core-requires c =
             let x = head_named work m c.in-Some.name (c.in-Some.ensures m stand) in
             can_pass_noted work region u c.args.spot (tree_size m) c.args.pending.now c.args.asked.now c.note_head.new.asked again (note_in again.state again.frames x.ident)
             (c.in_ok-note_head.ensures again.layout again.state again.frames (record { name = x.ident; occ = x.place }) (head_in again.state again.frames x.ident) again.left.notes again.stands again.placed x.named
-            (c.head_of-head.ensures again.layout again.state again.frames x.ident again.stands again.placed.at x.named.0) again.notes),
+            (c.head_by-head.ensures again.layout again.state (means_here again.state again.frames x.ident) again.stands (c.target-keyword.ensures again.layout again.state again.frames (record { name = x.ident; occ = x.place }) again.stands again.placed.at x.named).meaning) again.notes),
       );
     }
 
@@ -85,7 +81,7 @@ pass_use-requires c =
     let f = c.requires.form.0 in
     let can = c.requires.can f.0 f.1 in
     let n = head_named work f.0 c.in-Some.name (c.in-Some.ensures f.0 f.1) in
-    let m = head_is_macro (λ l. true) can.state can.frames n.ident (c.in-Macro.ensures can.layout can.state can.frames n.ident can.stands can.placed.at n.named.0) in
+    let m = head_is_macro (λ l. true) can.state can.frames n.ident (c.in-Macro.ensures can.layout can.state (means_here can.state can.frames n.ident) can.stands (c.target-keyword.ensures can.layout can.state can.frames (record { name = n.ident; occ = n.place }) can.stands can.placed.at n.named).meaning) in
     let named : Named Identifier = record { name = n.ident; occ = n.place } in
     let target = c.target-keyword.ensures can.layout can.state can.frames named can.stands can.placed.at n.named in
     record {
@@ -111,12 +107,12 @@ returns-in-Core c = λ known ls s fs m p knows stands placed on pending notes.
     let spot = c.args.spot in
     let n = head_named work m.tree c.in-Some.name (c.in-Some.ensures m.tree on.1.0) in
     let named : Named Identifier = record { name = n.ident; occ = n.place } in
-    let k = core_head c.in-Core.core (head_in s fs n.ident) (c.in-Core.ensures ls s fs n.ident stands placed.at n.named.0) in
+    let k = core_head c.in-Core.core (head_in s fs n.ident) (c.in-Core.ensures ls s (means_here s fs n.ident) stands (c.target-keyword.ensures ls s fs (record { name = n.ident; occ = n.place }) stands placed.at n.named).meaning) in
     let here = c.here_at-here.result in
     let is_here : here ≡ here_at (λ i. i) m.tree m.here = c.here_at-here.ensures m.tree on.1.0 ∙ ap (here_at (λ i. i) m.tree) on.0 in
     let q = noted (note_in s fs n.ident ∷ []) p in
     let t = target_of (searched known) fs s n.ident n.place in
-    let found = c.in_ok-note_head.ensures ls s fs named (head_in s fs n.ident) p.notes stands placed n.named (c.head_of-head.ensures ls s fs n.ident stands placed.at n.named.0) notes in
+    let found = c.in_ok-note_head.ensures ls s fs named (head_in s fs n.ident) p.notes stands placed n.named (c.head_by-head.ensures ls s (means_here s fs n.ident) stands (c.target-keyword.ensures ls s fs (record { name = n.ident; occ = n.place }) stands placed.at n.named).meaning) notes in
     goes_so region ls spot fs p.todo (tree_size m.tree) c.pass_core.new.pending c.pass_core.new.asked work work u c.pass_core.new.self c.pass_core.result
     (λ go. run_form (searched known) go fs (here_at (λ i. i) m.tree m.here) m m.tree p s) (λ go. run_core (searched known) go here fs k.0 t m n.parts n.tail q s) (by_core known work fs s m p c.in-Some.name here is_here n k.0 k.1)
     (c.pass_core.ensures known region ls s fs k.0 t m (name n.ident n.place) n.parts n.tail n.around q knows stands placed k.2 (c.target-keyword.ensures ls s fs named stands placed.at n.named) on n.is
@@ -130,12 +126,12 @@ returns-in-Macro c = λ known ls s fs m p knows stands placed on pending notes.
     let spot = c.args.spot in
     let n = head_named work m.tree c.in-Some.name (c.in-Some.ensures m.tree on.1.0) in
     let named : Named Identifier = record { name = n.ident; occ = n.place } in
-    let k = head_is_macro known s fs n.ident (c.in-Macro.ensures ls s fs n.ident stands placed.at n.named.0) in
+    let k = head_is_macro known s fs n.ident (c.in-Macro.ensures ls s (means_here s fs n.ident) stands (c.target-keyword.ensures ls s fs (record { name = n.ident; occ = n.place }) stands placed.at n.named).meaning) in
     let here = c.here_at-here.result in
     let is_here : here ≡ here_at (λ i. i) m.tree m.here = c.here_at-here.ensures m.tree on.1.0 ∙ ap (here_at (λ i. i) m.tree) on.0 in
     let q = noted (note_in s fs n.ident ∷ []) p in
     let t = target_of (searched known) fs s n.ident n.place in
-    let found = c.in_ok-note_head.ensures ls s fs named (head_in s fs n.ident) p.notes stands placed n.named (c.head_of-head.ensures ls s fs n.ident stands placed.at n.named.0) notes in
+    let found = c.in_ok-note_head.ensures ls s fs named (head_in s fs n.ident) p.notes stands placed n.named (c.head_by-head.ensures ls s (means_here s fs n.ident) stands (c.target-keyword.ensures ls s fs (record { name = n.ident; occ = n.place }) stands placed.at n.named).meaning) notes in
     goes_so region ls spot fs p.todo (tree_size m.tree) c.pass_use.new.pending c.pass_use.new.asked work c.pass_use.new.work u c.pass_use.new.self c.pass_use.result
     (λ go. run_form (searched known) go fs (here_at (λ i. i) m.tree m.here) m m.tree p s) (λ go. run_use (searched known) go here fs t (Some k.0) m n.parts n.tail q s) (by_macro known work fs s m p c.in-Some.name here is_here n (means_here s fs n.ident) k.0 k.1 k.2)
     (c.pass_use.ensures known ls s spot fs t k.0 m n.parts n.tail q (tree_size m.tree) knows stands placed placed.at
@@ -149,9 +145,9 @@ returns-in_ok-push-in-Auxiliary c = λ known ls s fs m p knows stands placed on 
     let named : Named Identifier = record { name = n.ident; occ = n.place } in
     let here = c.here_at-here.result in
     let is_here : here ≡ here_at (λ i. i) m.tree m.here = c.here_at-here.ensures m.tree on.1.0 ∙ ap (here_at (λ i. i) m.tree) on.0 in
-    let is = c.head_of-head.ensures ls s fs n.ident stands placed.at n.named.0 in
+    let is = c.head_by-head.ensures ls s (means_here s fs n.ident) stands (c.target-keyword.ensures ls s fs (record { name = n.ident; occ = n.place }) stands placed.at n.named).meaning in
     let found = c.in_ok-note_head.ensures ls s fs named (head_in s fs n.ident) p.notes stands placed n.named is notes in
-    let a = auxiliary_head c.in-Auxiliary.field-0 (head_in s fs n.ident) (c.in-Auxiliary.ensures ls s fs n.ident stands placed.at n.named.0) in
+    let a = auxiliary_head c.in-Auxiliary.field-0 (head_in s fs n.ident) (c.in-Auxiliary.ensures ls s (means_here s fs n.ident) stands (c.target-keyword.ensures ls s fs (record { name = n.ident; occ = n.place }) stands placed.at n.named).meaning) in
     sets_aside work c.args.region.now c.args.self.now ls c.args.spot fs s p (note_in s fs n.ident ∷ []) c.args.pending.now (record { todo = c.args.pending.now.todo; aside = c.push-in-Auxiliary.new.self }) c.note_head.new.asked m c.args.form
     (λ go. run_form (searched known) go fs (here_at (λ i. i) m.tree m.here) m m.tree p s) (by_auxiliary known work fs s m p c.in-Some.name here is_here n a.0 a.1) stands placed on pending found refl c.in_ok-push-in-Auxiliary.ensures.items
 
@@ -162,8 +158,8 @@ returns-in_ok-push-in-Other c = λ known ls s fs m p knows stands placed on pend
     let named : Named Identifier = record { name = n.ident; occ = n.place } in
     let here = c.here_at-here.result in
     let is_here : here ≡ here_at (λ i. i) m.tree m.here = c.here_at-here.ensures m.tree on.1.0 ∙ ap (here_at (λ i. i) m.tree) on.0 in
-    let is = c.head_of-head.ensures ls s fs n.ident stands placed.at n.named.0 in
+    let is = c.head_by-head.ensures ls s (means_here s fs n.ident) stands (c.target-keyword.ensures ls s fs (record { name = n.ident; occ = n.place }) stands placed.at n.named).meaning in
     let found = c.in_ok-note_head.ensures ls s fs named (head_in s fs n.ident) p.notes stands placed n.named is notes in
-    let a = no_keyword (head_in s fs n.ident) (c.in-Other.ensures ls s fs n.ident stands placed.at n.named.0) in
+    let a = no_keyword (head_in s fs n.ident) (c.in-Other.ensures ls s (means_here s fs n.ident) stands (c.target-keyword.ensures ls s fs (record { name = n.ident; occ = n.place }) stands placed.at n.named).meaning) in
     sets_aside work c.args.region.now c.args.self.now ls c.args.spot fs s p (note_in s fs n.ident ∷ []) c.args.pending.now (record { todo = c.args.pending.now.todo; aside = c.push-in-Other.new.self }) c.note_head.new.asked m c.args.form
     (λ go. run_form (searched known) go fs (here_at (λ i. i) m.tree m.here) m m.tree p s) (by_none known work fs s m p c.in-Some.name here is_here n a) stands placed on pending found refl c.in_ok-push-in-Other.ensures.items

@@ -1,5 +1,4 @@
 use Rattle.std.proofs.Common.{◌≡◌, ℕ, Result, Err, refl, sym, subst, ◌∙◌}
-use Rattle.std.proofs.lemmas.Option.{slice_get_within}
 use Rattle.scheme_model.specs.Cores.{Core, Ref}
 use Rattle.scheme_model.specs.Steps.{Broken, Step, done}
 use Rattle.scheme_model.specs.Order.{head_of, target_of}
@@ -11,19 +10,18 @@ use Rattle.expander.specs.Searched.{searched}
 use Rattle.expander.specs.Stepped.{spent}
 use Rattle.expander.specs.Outcomes.{EndsHere}
 use Rattle.expander.proofs.NodeLaws.{begins_goes, begins_fails, here_done, here_err}
-use Rattle.expander.proofs.AfterLaws.{begins_look}
 use Rattle.expander.proofs.ReadLaws.{unless_goes, tested_fails, target_at}
 use Rattle.expander.proofs.scope.UnitScope.reference.Goals as goal
 
-pub returns-in_err-test_variable-clause-referred : goal.returns-in_err-test_variable-clause-referred
-returns-in_err-test_variable-clause-referred c = λ known region ls s fs n e at is.
+pub returns-in_err-target-clause-referred : goal.returns-in_err-target-clause-referred
+returns-in_err-target-clause-referred c = λ known region ls s fs n e at is.
     let w = c.args.work.now in
     let u = c.args.self.now in
     let parts : ℕ → Step ScopedState Core = λ below t. done (Ref (target_of (searched known) fs t n.name n.occ)) t in
     let h = head_of (searched known) fs s n.name in
     let P = CoreStands w u.unit u.form.number in
-    here_err P w w region u u ls c.from_residual.result c.in_err-test_variable.field-0.0 (reference (searched known) c.args.at.depth c.args.at.here fs n s) c.from_residual.ensures.1
-    (tested_fails known w region u ls s c.args.at.here n (node (searched known) c.args.at.here 1 c.args.at.depth parts) h P c.in_err-test_variable.field-0.0 e (c.in_err-test_variable.ensures known ls s fs n e at is))
+    here_err P w w region u u ls c.from_residual.result c.in_err-target.field-0.0 (reference (searched known) c.args.at.depth c.args.at.here fs n s) c.from_residual.ensures.1
+    (tested_fails known w region u ls s c.args.at.here n (node (searched known) c.args.at.here 1 c.args.at.depth parts) h P c.in_err-target.field-0.0 e (c.in_err-target.ensures.tested known ls s fs n e at is))
 
 pub returns-in_err-begin_node-clause-referred : goal.returns-in_err-begin_node-clause-referred
 returns-in_err-begin_node-clause-referred c = λ known region ls s fs n e at is.
@@ -34,16 +32,10 @@ returns-in_err-begin_node-clause-referred c = λ known region ls s fs n e at is.
     let go = node (searched known) c.args.at.here 1 c.args.at.depth parts in
     let h = head_of (searched known) fs s n.name in
     let P = CoreStands w u.unit u.form.number in
-    let all : reference (searched known) c.args.at.depth c.args.at.here fs n s ≡ go s = unless_goes known c.args.at.here n go s h (c.in_ok-test_variable.ensures known ls s fs n e at is) in
+    let all : reference (searched known) c.args.at.depth c.args.at.here fs n s ≡ go s = unless_goes known c.args.at.here n go s h (c.in_ok-target.ensures.tested known ls s fs n e at is) in
     here_err P w w region u v ls c.from_residual-in_err-begin_node.result c.in_err-begin_node.field-0.0 (reference (searched known) c.args.at.depth c.args.at.here fs n s) c.from_residual-in_err-begin_node.ensures.1
     (subst (λ (p : Result Core Broken × ScopedState). EndsHere P w w region u v ls (Err c.in_err-begin_node.field-0.0) p) (sym all)
     (begins_fails known w region u v ls s c.args.at.here 1 e parts c.args.at.depth P c.in_err-begin_node.field-0.0 c.in_err-begin_node.ensures))
-
-pub target-requires-clause-look : goal.target-requires-clause-look
-target-requires-clause-look c = begins_look c.args.work.now c.args.self.now c.begin_node.new.self c.args.at.scope c.args.at.here 1 c.args.at.depth c.in_ok-begin_node.field-0 c.requires.look c.in_ok-begin_node.ensures
-
-pub target-requires-clause-ident : goal.target-requires-clause-ident
-target-requires-clause-ident c = slice_get_within c.args.work.now.symbols.idents c.args.name.ident c.requires.name.0.name c.requires.name.1.0
 
 pub returns-clause-referred : goal.returns-clause-referred
 returns-clause-referred c = λ known region ls s fs n e at is.
@@ -54,9 +46,9 @@ returns-clause-referred c = λ known region ls s fs n e at is.
     let go = node (searched known) c.args.at.here 1 c.args.at.depth parts in
     let h = head_of (searched known) fs s n.name in
     let P = CoreStands w u.unit u.form.number in
-    let all : reference (searched known) c.args.at.depth c.args.at.here fs n s ≡ go s = unless_goes known c.args.at.here n go s h (c.in_ok-test_variable.ensures known ls s fs n e at is) in
+    let all : reference (searched known) c.args.at.depth c.args.at.here fs n s ≡ go s = unless_goes known c.args.at.here n go s h (c.in_ok-target.ensures.tested known ls s fs n e at is) in
     let goes = begins_goes known w region u v ls s c.args.at.here 1 e parts c.args.at.depth c.in_ok-begin_node.field-0 c.in_ok-begin_node.ensures in
     let t = target_of (searched known) fs (spent 1 s) n.name n.occ in
-    let target = c.target.ensures ls (spent 1 s) fs n goes.1.stands at is in
-    here_done P w w region u v ls (cores.Ref c.target.result) (reference (searched known) c.args.at.depth c.args.at.here fs n s) (Ref t) (spent 1 s) (all ∙ goes.0) goes.1
-    (c.target.result, refl, target_at w.symbols u.unit u.form.number s.unit s.form c.target.result t e.unit e.form.number target)
+    let target = c.in_ok-target.ensures.target ls s fs n e at is in
+    here_done P w w region u v ls (cores.Ref c.in_ok-target.target) (reference (searched known) c.args.at.depth c.args.at.here fs n s) (Ref t) (spent 1 s) (all ∙ goes.0) goes.1
+    (c.in_ok-target.target, refl, target_at w.symbols u.unit u.form.number s.unit s.form c.in_ok-target.target t e.unit e.form.number target)

@@ -60,7 +60,7 @@ parts-returns-in_err-repeated t c = λ r region k ts ms tells h are.
     (parts_fail w region k dots ts ms j p.part c.args.room.now c.loop-k.room c.args.plans.now.items c.loop-k.plans.items e split other u a)
 
 pub parts-used_in-requires-clause-index : goal.parts-used_in-requires-clause-index
-parts-used_in-requires-clause-index t c = c.requires.index.places
+parts-used_in-requires-clause-index t c = c.requires.index
 
 pub parts-used_in-requires-clause-template : goal.parts-used_in-requires-clause-template
 parts-used_in-requires-clause-template t c = part_within c.args.self.now.work.now c.args.items.now c.args.left c.loop-k.k _ c.requires.items c.loop-k-test.true

@@ -1,30 +1,34 @@
 use Rattle.std.proofs.Common.{subst, sym, ◌∙◌, arith}
 use Rattle.scope_env.specs.Environment.{Environment, IsSound}
+use Rattle.scope_env.specs.Resolved.{local}
+use Rattle.scope_env.specs.Marks.{IsKept}
+use Rattle.scope_env.specs.Environment.{with_added}
+use Rattle.scope_env.proofs.MarkLaws.{no_local}
 use Rattle.scope_env.proofs.Fields.{read_there, outermost, binds, outwards_on, parent_older}
 use Rattle.scope_env.proofs.env.Env.local.Goals as goal
 
 pub returns-in_err-parent : goal.returns-in_err-parent
 returns-in_err-parent c =
-    let sound = subst (λ (e : Environment). IsSound e) c.self.view_is c.self.invariant in
+    let sound = subst (λ (e : Environment). IsSound e) c.self.view_is c.self.invariant.sound in
     let there = read_there c.self.inside.scopes.items c.self.inside.uses c.self.inside.roots c.args.self.now c.self.view_is c.loop-parent.at c.index.result.now c.loop-parent.invariant.within c.index.ensures in
     c.from_residual-in_err-parent.ensures
     ∙ sym (c.loop-parent.invariant.same ∙ outermost c.self.inside.scopes.items c.self.inside.uses c.self.inside.roots c.args.self.now c.self.view_is c.args.added sound c.loop-parent.at c.args.ident c.index.result.now there c.in_err-parent.was)
 
 pub returns-in-Some : goal.returns-in-Some
 returns-in-Some c =
-    let sound = subst (λ (e : Environment). IsSound e) c.self.view_is c.self.invariant in
+    let sound = subst (λ (e : Environment). IsSound e) c.self.view_is c.self.invariant.sound in
     let there = read_there c.self.inside.scopes.items c.self.inside.uses c.self.inside.roots c.args.self.now c.self.view_is c.loop-parent.at c.index.result.now c.loop-parent.invariant.within c.index.ensures in
     sym (c.loop-parent.invariant.same ∙ binds c.self.inside.scopes.items c.self.inside.uses c.self.inside.roots c.args.self.now c.self.view_is c.args.added sound c.loop-parent.at c.args.ident c.index.result.now there c.in_ok-parent.parent c.in-Some.meaning c.in_ok-parent.was c.in-Some.ensures)
 
 pub loop-parent-smaller : goal.loop-parent-smaller
 loop-parent-smaller c =
-    let sound = subst (λ (e : Environment). IsSound e) c.self.view_is c.self.invariant in
+    let sound = subst (λ (e : Environment). IsSound e) c.self.view_is c.self.invariant.sound in
     let there = read_there c.self.inside.scopes.items c.self.inside.uses c.self.inside.roots c.args.self.now c.self.view_is c.loop-parent.at c.index.result.now c.loop-parent.invariant.within c.index.ensures in
     parent_older c.self.inside.scopes.items c.self.inside.uses c.self.inside.roots c.args.self.now c.self.view_is sound c.loop-parent.at c.index.result.now there c.in_ok-parent.parent c.in_ok-parent.was
 
 pub loop-parent-preserved : goal.loop-parent-preserved
 loop-parent-preserved c =
-    let sound = subst (λ (e : Environment). IsSound e) c.self.view_is c.self.invariant in
+    let sound = subst (λ (e : Environment). IsSound e) c.self.view_is c.self.invariant.sound in
     let there = read_there c.self.inside.scopes.items c.self.inside.uses c.self.inside.roots c.args.self.now c.self.view_is c.loop-parent.at c.index.result.now c.loop-parent.invariant.within c.index.ensures in
     let older = parent_older c.self.inside.scopes.items c.self.inside.uses c.self.inside.roots c.args.self.now c.self.view_is sound c.loop-parent.at c.index.result.now there c.in_ok-parent.parent c.in_ok-parent.was in
     record {
@@ -32,3 +36,13 @@ loop-parent-preserved c =
       same = c.loop-parent.invariant.same
           ∙ outwards_on c.self.inside.scopes.items c.self.inside.uses c.self.inside.roots c.args.self.now c.self.view_is c.args.added sound c.loop-parent.at c.args.ident c.index.result.now there c.in_ok-parent.parent c.in_ok-parent.was c.in_default.ensures;
     }
+
+pub returns-then-is_unmarked : goal.returns-then-is_unmarked
+returns-then-is_unmarked c =
+    let env = c.args.self.now in
+    let l = c.self.inside.locals in
+    let o = c.self.inside.owns in
+    let kept = subst (λ (e : Environment). IsKept e l o) c.self.view_is c.self.invariant in
+    let u = c.is_unmarked.ensures c.if-is_unmarked.true in
+    let within = c.requires c.in_ok-at.at c.in_ok-at.was in
+    sym ((λ j. local (with_added env (u.0 j)) (c.in_ok-at.was j) c.args.ident) ∙ no_local l o env kept c.args.ident u.1 c.in_ok-at.at within)

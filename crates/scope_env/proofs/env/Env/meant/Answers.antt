@@ -46,6 +46,6 @@ loop-meaning-smaller c = less_deep c.args.symbols.now c.loop-meaning.at c.in-Ins
 pub loop-meaning-preserved : goal.loop-meaning-preserved
 loop-meaning-preserved c =
     walked_on c.args.symbols.now (with_added c.args.self.now c.args.added) (Some c.args.scope) c.args.ident c.told_apart.ensures.idents c.loop-meaning.from c.loop-meaning.at c.loop-meaning.invariant c.in-Inserted.id c.in-Inserted.number c.in-Inserted.ensures.ident c.in_default.ensures
-    (sound_with c.args.self.now c.args.added (subst (λ (e : Environment). IsSound e) c.self.view_is c.self.invariant)) c.in-Inserted.ensures.placed c.in_default-own.ensures c.copied-from.result
+    (sound_with c.args.self.now c.args.added (subst (λ (e : Environment). IsSound e) c.self.view_is c.self.invariant.sound)) c.in-Inserted.ensures.placed c.in_default-own.ensures c.copied-from.result
     (uses_with c.args.self.now c.args.added (number_of c.in-Inserted.number)
     ∙ use_is c.self.inside.scopes.items c.self.inside.uses c.self.inside.roots c.args.self.now c.self.view_is c.in-Inserted.number c.copied-from.result (c.copied-from.ensures ∙ c.get.ensures.value))

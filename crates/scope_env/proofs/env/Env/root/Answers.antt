@@ -1,9 +1,11 @@
-use Rattle.std.proofs.Common.{◌≡◌, ℕ, Some, None, length, subst, sym, ap, ◌∙◌, refl, nat_cmp, arith}
+use Rattle.std.proofs.Common.{vec_len, ◌≡◌, ℕ, Some, None, length, subst, sym, ap, ◌∙◌, refl, nat_cmp, arith}
 use Rattle.std.specs.FinMap.{get}
 use Rattle.std.specs.BTreeMap.{Updates}
-use Rattle.scope_env.specs.Environment.{Environment, IsSound, with_root}
+use Rattle.scope_env.specs.Environment.{Environment, with_root}
 use Rattle.scope_env.specs.Kept.{environment_of}
-use Rattle.scope_env.proofs.Changes.{sound_root, root_seen, on_ok}
+use Rattle.scope_env.specs.Marks.{IsKept}
+use Rattle.scope_env.proofs.MarkLaws.{kept_root}
+use Rattle.scope_env.proofs.Changes.{root_seen, on_ok, from_err, popped}
 use Rattle.scope_env.proofs.env.Env.root.Goals as goal
 use Rattle.scope_env.proofs.env.Env.root.Goals.{Else-is_err}
 
@@ -19,7 +21,14 @@ pub invariant_of-self-else-is_err : goal.invariant_of-self-else-is_err
 invariant_of-self-else-is_err c =
     let before = environment_of c.self.inside.scopes.items c.self.inside.uses.entries c.self.inside.roots.entries in
     let new : get before.roots c.args.unit ≡ None = subst (λ (e : Environment). get e.roots c.args.unit ≡ None) (sym c.self.view_is) c.requires in
-    subst (λ (e : Environment). IsSound e) (sym (opened c)) (sound_root before c.args.unit c.self.invariant new)
+    subst (λ (e : Environment). IsKept e c.self.inside.locals c.self.inside.owns) (sym (opened c)) (kept_root c.self.inside.locals c.self.inside.owns before c.args.unit c.self.invariant new)
 
 pub returns-clause-added : goal.returns-clause-added
 returns-clause-added c = opened c ∙ ap (λ (e : Environment). with_root e c.args.unit) c.self.view_is
+
+pub invariant_of-self-then-is_err : goal.invariant_of-self-then-is_err
+invariant_of-self-then-is_err c =
+    let counted : vec_len c.push.new.self ≡ length c.push.new.self.items = omega (arith, c.push.new.self.ok.0) in
+    let scopes = popped c.self.inside.scopes.items c.push.new.self.items c.pop.new.self.items _ (vec_len c.push.new.self) c.in_ok-push.ensures.items counted c.pop.ensures.rest in
+    let roots : c.insert.new.self.entries ≡ c.self.inside.roots.entries = from_err c.insert.result (sym c.is_err.ensures.value ∙ c.if-is_err.true) c.insert.ensures.err in
+    subst (λ (e : Environment). IsKept e c.self.inside.locals c.self.inside.owns) (λ j. environment_of (sym scopes j) c.self.inside.uses.entries (sym roots j)) c.self.invariant
