@@ -14,7 +14,7 @@ use Rattle.arrow_index.proofs.ClassLaws.{class_holds, itself, member_in}
 use Rattle.arrow_index.proofs.KeyLaws.{one_occ}
 use Rattle.arrow_index.proofs.MemberLaws.{in_either, in_left, in_right, in_from, contains_from, in_map, from_map}
 use Rattle.workspace_state.specs.AskedOf.{own_prefixes}
-use Rattle.workspace_state.specs.ToldAnswers.{IsLongest}
+use Rattle.workspace_state.specs.Classed.{IsLongest}
 use Rattle.workspace_state.proofs.ListedLaws.{HaveSame, filter_one}
 
 -- ---- the longest so far

@@ -43,3 +43,4 @@ pub mod Named  -- The identifiers of units as the code keeps and seeks them, and
 pub mod BytesKept  -- Bytes of documents, lit ones and drawn pairs, as the code keeps them
 pub mod AskedOf  -- What answers about open documents are taken from
 pub mod Indexed  -- The index that is kept or was made
+pub mod Classed  -- The class of the identifier at a position of a document, and its standard name

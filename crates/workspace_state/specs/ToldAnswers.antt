@@ -1,6 +1,5 @@
 -- Answers at positions of an encoding (LSP 3.17, Location, DocumentHighlight), about open documents that are read so.
-use Rattle.std.specs.Prelude.{◌≡◌, ℕ, zero, suc, pos, ◌-◌, ◌==◌, ◌≤◌, List, [], ◌∷◌, map, take, drop, length, Bool, true, false, Option, Some, None, if◌then◌else◌}
-use Rattle.std.specs.List.{All, Contains}
+use Rattle.std.specs.Prelude.{ℕ, zero, suc, pos, ◌-◌, ◌==◌, List, [], ◌∷◌, map, take, drop, Bool, false, Option, Some, None, if◌then◌else◌}
 use Rattle.std.specs.Option.{option_map}
 use Rattle.std.specs.Str.{bytes_eq}
 use Rattle.ls_base.specs.Positions.{offset_of}
@@ -15,20 +14,14 @@ use Rattle.ls_base.specs.declared.answers.Query as told_query
 use Rattle.ls_base.specs.declared.answers.Query.TheVariants as queries
 use Rattle.scheme_model.specs.declared.Occ.{Occ}
 use Rattle.scheme_model.specs.Diagnostics.{Bytes}
-use Rattle.scheme_model.specs.Entries.{is_below}
 use Rattle.scheme_model.specs.Program.{units_of}
 use Rattle.scheme_model.specs.Session.{Query, Definition, References, Highlights, Prepare, Arrows}
-use Rattle.scheme_model.specs.Spelling.{class_of, prefixes_of, standard_origins, is_joined}
 use Rattle.document_store.specs.Texts.{Document}
-use Rattle.arrow_index.specs.Classes.{AreParts}
-use Rattle.arrow_index.specs.declared.classes.ClassPart as bare
-use Rattle.scheme_model.specs.Answers.{Answer, Nothing, Places, Lit, Prepared, Drawn, Facts, facts_of, answer_in, no_answer, ordered_by}
+use Rattle.scheme_model.specs.Answers.{Answer, Nothing, Places, Lit, Prepared, Drawn, Facts, facts_of, answer_in, no_answer}
 use Rattle.workspace_state.specs.Listed.{range_of}
 use Rattle.workspace_state.specs.Places.{spans_of}
 use Rattle.workspace_state.specs.Readings.{Read, data_in, program_in}
 use Rattle.scheme_model.specs.Sites.{name_at}
-use Rattle.workspace_state.specs.declared.classes.Class.{Class}
-use Rattle.workspace_state.specs.declared.classes.ClassPart.{ClassPart}
 
 -- ---- documents
 
@@ -95,8 +88,9 @@ answer_by encoding ds rs (Some n) position query =
 abbrev pub answer_of : Encoding → List (List ℕ × Document) → List Read → (uri : List ℕ) → Pos → Query → told.Answer
 answer_of encoding ds rs uri position query = answer_told encoding ds (answer_by encoding ds rs (number_of ds uri) position query)
 
--- ---- classes
+-- ---- identifiers
 
+-- what answers take of the program of documents that are read so
 abbrev pub facts_in : List Read → Facts
 facts_in rs = facts_of (spans_of rs) (units_of (map data_in rs)) (program_in rs)
 
@@ -107,35 +101,3 @@ name_by encoding ds rs (Some n) position = name_at (spans_of rs) (program_in rs)
 
 abbrev pub name_there : Encoding → List (List ℕ × Document) → List Read → (uri : List ℕ) → Pos → Option Occ
 name_there encoding ds rs uri position = name_by encoding ds rs (number_of ds uri) position
-
--- the longest of some texts, and none of none
-abbrev pub IsLongest : List (List ℕ) → List ℕ → Type 0
-IsLongest [] s = s ≡ []
-IsLongest (t ∷ ts) s = Contains (t ∷ ts) s × ((u : List ℕ) → Contains (t ∷ ts) u → length u ≤ length s)
-
-abbrev pub bare_part : ClassPart → bare.ClassPart
-bare_part p = record { occ = p.occ; prefix = p.prefix }
-
--- the class of an occurrence: each prefix of each member, with whether this stands between bars; and the longest prefix of its own
-pub record IsClassOf (ds : List (List ℕ × Document)) (f : Facts) (o : Occ) (c : Class) : Type 0 where
-  pub at : c.at ≡ o
-  pub joined : is_joined f.links o ≡ true
-  pub parts : AreParts (map bare_part c.parts) f.links o
-  pub bars : All (λ (p : ClassPart). p.bars ≡ has_bars ds (f.bytes p.occ)) c.parts
-  pub prefix : IsLongest (prefixes_of f.links o []) c.prefix
-
--- none exactly where no occurrence stands there, or no link joins it
-abbrev pub IsClassAt : List (List ℕ × Document) → Facts → Option Occ → Option Class → Type 0
-IsClassAt ds f None None = Unit {0}
-IsClassAt ds f None (Some c) = ⊥
-IsClassAt ds f (Some o) None = is_joined f.links o ≡ false
-IsClassAt ds f (Some o) (Some c) = IsClassOf ds f o c
-
--- the standard name of a class that is first in byte order; none where it has none
-abbrev pub head_of : {A : Type 0} → List A → Option A
-head_of [] = None
-head_of (x ∷ xs) = Some x
-
-abbrev pub standard_for : Facts → Option Occ → Option (List ℕ)
-standard_for f None = None
-standard_for f (Some o) = head_of (ordered_by is_below (standard_origins f.links (class_of f.links o)))

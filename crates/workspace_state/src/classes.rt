@@ -6,7 +6,8 @@ ghost use Rattle.scheme_model.specs.Entries.{same_occ};
 ghost use Rattle.scheme_model.specs.Spelling.{is_joined};
 ghost use Rattle.workspace_state.specs.AskedOf.{IsSource, own_prefixes};
 ghost use Rattle.workspace_state.specs.Readings.{Read};
-ghost use Rattle.workspace_state.specs.ToldAnswers.{IsClassAt, IsClassOf, IsLongest, bare_part, facts_in, has_bars, head_of, name_there, standard_for};
+ghost use Rattle.workspace_state.specs.Classed.{IsClassAt, IsClassOf, IsLongest, bare_part, head_of, standard_for};
+ghost use Rattle.workspace_state.specs.ToldAnswers.{facts_in, has_bars, name_there};
 
 use crate::asked::Asked;
 use arrow_index::classes::ClassPart as BarePart;

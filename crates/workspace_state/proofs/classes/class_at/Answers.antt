@@ -1,7 +1,8 @@
 use Rattle.std.proofs.Common.{Option, Some, None, sym, ◌∙◌, subst}
 use Rattle.std.specs.FinMap.{entries}
 use Rattle.scheme_model.specs.declared.Occ.{Occ}
-use Rattle.workspace_state.specs.ToldAnswers.{IsClassAt, facts_in}
+use Rattle.workspace_state.specs.Classed.{IsClassAt}
+use Rattle.workspace_state.specs.ToldAnswers.{facts_in}
 use Rattle.workspace_state.proofs.classes.class_at.Goals as goal
 
 pub class_of-requires : goal.class_of-requires

@@ -3,7 +3,8 @@ use Rattle.scheme_model.specs.Spelling.{prefixes_of}
 use Rattle.arrow_index.specs.Classes.{AreParts}
 use Rattle.arrow_index.specs.declared.classes.ClassPart.{ClassPart}
 use Rattle.workspace_state.specs.AskedOf.{own_prefixes}
-use Rattle.workspace_state.specs.ToldAnswers.{IsLongest, facts_in}
+use Rattle.workspace_state.specs.Classed.{IsLongest}
+use Rattle.workspace_state.specs.ToldAnswers.{facts_in}
 use Rattle.workspace_state.proofs.LongestLaws.{longest_same, own_law}
 use Rattle.workspace_state.proofs.classes.class_of.Goals as goal
 

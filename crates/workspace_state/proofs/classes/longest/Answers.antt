@@ -4,7 +4,7 @@ use denote.Shadow.{shadow}
 use Rattle.std.proofs.lemmas.List.{take_all}
 use Rattle.arrow_index.specs.declared.classes.ClassPart.{ClassPart}
 use Rattle.workspace_state.specs.AskedOf.{own_prefixes}
-use Rattle.workspace_state.specs.ToldAnswers.{IsLongest}
+use Rattle.workspace_state.specs.Classed.{IsLongest}
 use Rattle.workspace_state.proofs.LongestLaws.{longer, not_longer}
 use Rattle.workspace_state.proofs.classes.longest.Goals as goal
 use Rattle.workspace_state.proofs.classes.longest.Goals.{then-is_longer, else-is_longer}

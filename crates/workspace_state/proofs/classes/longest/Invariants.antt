@@ -2,7 +2,7 @@ use Rattle.std.proofs.Common.{take}
 use denote.Text.{Utf8}
 use denote.Shadow.{shadow}
 use Rattle.workspace_state.specs.AskedOf.{own_prefixes}
-use Rattle.workspace_state.specs.ToldAnswers.{IsLongest}
+use Rattle.workspace_state.specs.Classed.{IsLongest}
 use Rattle.workspace_state.proofs.classes.longest.Given as goal
 
 -- it is a text, the longest prefix of the parts gone through

@@ -1,5 +1,6 @@
 use Rattle.std.proofs.Common.{sym, ap, ◌∙◌}
-use Rattle.workspace_state.specs.ToldAnswers.{facts_in, head_of, standard_for}
+use Rattle.workspace_state.specs.Classed.{head_of, standard_for}
+use Rattle.workspace_state.specs.ToldAnswers.{facts_in}
 use Rattle.workspace_state.proofs.AskedLaws.{names_law}
 use Rattle.workspace_state.proofs.classes.standard_at.Goals as goal
 

@@ -3,7 +3,8 @@ use Rattle.std.specs.FinMap.{entries}
 use Rattle.std.specs.List.{All}
 use Rattle.std.proofs.lemmas.List.{map-append}
 use Rattle.std.proofs.lemmas.List.Elements.{All-push}
-use Rattle.workspace_state.specs.ToldAnswers.{bare_part, facts_in, has_bars}
+use Rattle.workspace_state.specs.Classed.{bare_part}
+use Rattle.workspace_state.specs.ToldAnswers.{facts_in, has_bars}
 use Rattle.workspace_state.specs.declared.classes.ClassPart.{ClassPart}
 use Rattle.workspace_state.proofs.classes.with_bars.Goals as goal
 

@@ -3,7 +3,8 @@ use Rattle.std.specs.FinMap.{entries}
 use Rattle.std.specs.List.{All}
 use Rattle.workspace_state.specs.AskedOf.{IsSource}
 use Rattle.workspace_state.specs.Readings.{Read}
-use Rattle.workspace_state.specs.ToldAnswers.{bare_part, facts_in, has_bars}
+use Rattle.workspace_state.specs.Classed.{bare_part}
+use Rattle.workspace_state.specs.ToldAnswers.{facts_in, has_bars}
 use Rattle.workspace_state.proofs.classes.with_bars.Given as goal
 
 -- the parts gone through
