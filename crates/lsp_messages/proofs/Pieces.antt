@@ -1,13 +1,12 @@
 -- The text of data, piece by piece.
-use Rattle.std.proofs.Common.{◌≡◌, ℕ, ℤ, pos, negsuc, SFits, w64, List, [], ◌∷◌, ◌++◌, Bool, true, false, Result, Ok, Err, Option, Some, None, OnOk, refl, sym, ap, ◌∙◌, append_assoc, codes}
+use Rattle.std.proofs.Common.{◌≡◌, ℕ, ℤ, pos, negsuc, SFits, w64, List, [], ◌∷◌, ◌++◌, Bool, true, false, Result, Ok, Err, OnOk, refl, sym, ap, ◌∙◌, append_assoc, codes}
 use Rattle.std.specs.Fmt.{signed_decimal}
-use Rattle.json.specs.Print.{escape_byte}
-use Rattle.serde_json.specs.Data.{Data, Items, item, no_items, array, string}
-use Rattle.serde_json.specs.Written.{comma_if, compact_text, items_text, members_text}
+use Rattle.serde_json.specs.Data.{Data, Items, item, array}
+use Rattle.serde_json.specs.Written.{comma_if, compact_text, items_text}
 use Rattle.ls_base.specs.declared.answers.Diagnostic.{Diagnostic}
 use Rattle.lsp_messages.specs.Replies.{natural_json, integer_json, range_json, diagnostic_json}
 use Rattle.lsp_messages.specs.Written.{IsReadable, Writes}
-use Rattle.lsp_messages.proofs.Readable.{AreReadable, AreReadable-item, IsReadable-array, IsReadable-string, IsReadable-integer, no_more, and_member, IsReadable-object}
+use Rattle.lsp_messages.proofs.Readable.{AreReadable, IsReadable-array, IsReadable-string, IsReadable-integer, no_more, and_member, IsReadable-object}
 
 signed_decimal-text : (z : ℤ) → signed_decimal z ≡ compact_text (integer_json z)
 signed_decimal-text (pos n) = refl

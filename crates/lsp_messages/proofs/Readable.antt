@@ -1,6 +1,5 @@
 -- Data of which each number is in range and the keys of each object are in order: their text reads as them.
-use Rattle.std.proofs.Common.{◌≡◌, ℕ, ℤ, pos, negsuc, suc, ◌^◌, ◌<◌, ◌≤◌, SFits, w64, List, [], ◌∷◌, ◌++◌, map, Some, option_map, option_and_then, refl, sym, ap, ◌∙◌, subst, arith, append-nil, decimal}
-use Rattle.std.specs.Fmt.{signed_decimal}
+use Rattle.std.proofs.Common.{◌≡◌, ℕ, ℤ, pos, negsuc, suc, ◌^◌, ◌<◌, ◌≤◌, SFits, w64, List, [], Some, option_map, option_and_then, refl, sym, ap, ◌∙◌, arith, append-nil}
 use Rattle.json.specs.Lex.{tokens}
 use Rattle.json.specs.Json as json
 use Rattle.json.specs.Json.{if_last}

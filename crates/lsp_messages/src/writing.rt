@@ -120,11 +120,15 @@ fn write_version(text: &mut String, version: Option<i64>) -> Result<(), AllocErr
         ≡ string_bytes text.old ++ members_text true (spec.version_member version)) }
     ensures readable { OnOk result (IfSome version (λ v. IsReadable (spec.integer_json v))) }
 {
-    if let Some(version) = version {
-        put(text, ",\"version\":")?;
-        write_integer(text, version)?;
+    match version {
+        None => put(text, "}"),
+        Some(version) => {
+            put(text, ",\"version\":")?;
+            write_integer(text, version)?;
+            put(text, "}")?;
+            Ok(())
+        }
     }
-    put(text, "}")
 }
 
 /// The reply to `initialize`.

@@ -1,4 +1,4 @@
-use Rattle.std.proofs.Common.{◌≡◌, ℕ, List, Bool, [], ◌+◌, ◌∷◌, ◌++◌, drop, map, false, true, refl, sym, ap, ◌∙◌, subst, arith, string_bytes}
+use Rattle.std.proofs.Common.{◌≡◌, ℕ, List, Bool, [], ◌+◌, ◌∷◌, ◌++◌, drop, map, false, refl, sym, ap, ◌∙◌, subst, arith, string_bytes}
 use Rattle.std.proofs.lemmas.List.{drop_more, drop_all}
 use Rattle.serde_json.specs.Data.{no_items}
 use Rattle.serde_json.specs.View.{items_of}

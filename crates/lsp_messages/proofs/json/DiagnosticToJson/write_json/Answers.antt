@@ -18,6 +18,6 @@ returns c =
     let severity = c.in_ok-write_json-4.ensures in
     let last = 44 ∷ (key (codes "source") ++ (quoted (codes "scheme_ls") ++ 125 ∷ [])) in
     let text = five_pieces (natural_json d.code) (string d.message) (range_json d.range) (natural_json d.severity)
-        (123 ∷ key (codes "code")) (44 ∷ key (codes "message")) (44 ∷ key (codes "range")) (44 ∷ key (codes "severity")) last
-        (string_bytes c.args.text.now) _ _ _ _ _ _ _ _ _ c.in_ok-put.ensures code c.in_ok-put-2.ensures message c.in_ok-put-3.ensures range c.in_ok-put-4.ensures severity c.in_ok-put-5.ensures in
+    (123 ∷ key (codes "code")) (44 ∷ key (codes "message")) (44 ∷ key (codes "range")) (44 ∷ key (codes "severity")) last
+    (string_bytes c.args.text.now) _ _ _ _ _ _ _ _ _ c.in_ok-put.ensures code c.in_ok-put-2.ensures message c.in_ok-put-3.ensures range c.in_ok-put-4.ensures severity c.in_ok-put-5.ensures in
     Writes-diagnostic d _ _ _ code.readable range.readable severity.readable text refl
