@@ -1,6 +1,8 @@
 -- The text of data, piece by piece.
-use Rattle.std.proofs.Common.{◌≡◌, ℕ, ℤ, pos, negsuc, SFits, w64, List, [], ◌∷◌, ◌++◌, Bool, true, false, Result, Ok, Err, OnOk, refl, sym, ap, ◌∙◌, append_assoc, codes}
+use Rattle.std.proofs.Common.{◌≡◌, ◌≤◌, ◌+◌, ℕ, ℤ, pos, negsuc, SFits, w64, List, [], ◌∷◌, ◌++◌, Bool, true, false, Result, Ok, Err, OnOk, refl, sym, ap, ap₂, drop, ◌∙◌, append_assoc, codes}
 use Rattle.std.specs.Fmt.{signed_decimal}
+use Rattle.json.specs.Print.{escape}
+use Rattle.json.proofs.Printed.Strings.{escape_byte_plain}
 use Rattle.serde_json.specs.Data.{Data, Items, item, array}
 use Rattle.serde_json.specs.Written.{comma_if, compact_text, items_text}
 use Rattle.ls_base.specs.declared.answers.Diagnostic.{Diagnostic}
@@ -17,6 +19,14 @@ Writes-integer z same old new fits is wrote = record {
   appended = wrote ∙ ap (λ y. old ++ signed_decimal y) is ∙ ap (λ s. old ++ s) (signed_decimal-text z);
   readable = IsReadable-integer z fits;
 }
+
+-- a string with nothing to escape
+escape-plain : (x : ℕ) (rest : List ℕ) → (x ≡ 34 → ⊥) → (x ≡ 92 → ⊥) → 32 ≤ x → escape rest ≡ rest → escape (x ∷ rest) ≡ x ∷ rest
+escape-plain x rest quote backslash control same = ap₂ (λ s t. s ++ t) (escape_byte_plain x quote backslash control) same
+
+pub escape-drop : (x : ℕ) (xs whole : List ℕ) (i : ℕ) → (x ≡ 34 → ⊥) → (x ≡ 92 → ⊥) → 32 ≤ x → drop i xs ≡ x ∷ drop (i + 1) xs → (escape (drop i xs) ≡ drop i xs → escape whole ≡ whole)
+    → escape (drop (i + 1) xs) ≡ drop (i + 1) xs → escape whole ≡ whole
+escape-drop x xs whole i quote backslash control here before same = before (ap escape here ∙ escape-plain x (drop (i + 1) xs) quote backslash control same ∙ sym here)
 
 -- an object of two members
 pub Writes-pair : {T E : Type 0} (r : Result T E) (whole d e : Data) (old new text : List ℕ) → OnOk r (new ≡ old ++ text) → OnOk r (IsReadable d) → OnOk r (IsReadable e) → compact_text whole ≡ text

@@ -1,7 +1,8 @@
 //! The text of the JSON of places in documents and of what is answered about them (LSP 3.17, "Basic JSON
 //! Structures"): compact, with the keys of each object in byte order, and written piece by piece.
-ghost use Rattle.std.specs.Prelude.{◌≡◌, ◌∷◌, [], ◌++◌, OnOk};
+ghost use Rattle.std.specs.Prelude.{◌≡◌, ◌∷◌, [], ◌++◌, OnOk, IsTrue};
 ghost use Rattle.std.specs.String.{string_bytes};
+ghost use Rattle.json.specs.Print.{escape};
 ghost use Rattle.serde_json.specs.Data.{Data, string};
 ghost use Rattle.serde_json.specs.Written.{comma_if, compact_text};
 ghost use Rattle.lsp_messages.specs.Replies.{natural_json, integer_json, list_json, position_json, range_json, place_json, arrow_json, highlight_json, text_edit_json, diagnostic_json};
@@ -42,6 +43,18 @@ pub(crate) fn write_integer(text: &mut String, number: i64) -> Result<(), AllocE
     write!(text, "{number}")
 }
 
+/// Whether nothing in a text has to be escaped in a string, so that it can be written as it stands.
+fn is_plain(content: &str) -> bool
+    ensures { IsTrue result → escape content.now ≡ content.now }
+{
+    for byte in content.as_bytes() {
+        if *byte == b'"' || *byte == b'\\' || *byte < 32 {
+            return false;
+        }
+    }
+    true
+}
+
 /// Appends a string in quotes.
 pub(crate) fn write_string(
     alloc: Global,
@@ -50,8 +63,15 @@ pub(crate) fn write_string(
 ) -> Result<(), AllocError>
     ensures { OnOk result (Writes (string content.now) (string_bytes text.old) (string_bytes text.new)) }
 {
-    let quoted = Value::try_from_str(alloc, content)?.to_string(alloc)?;
-    put(text, quoted.as_str())
+    if is_plain(content) {
+        put(text, "\"")?;
+        put(text, content)?;
+        put(text, "\"")?;
+        Ok(())
+    } else {
+        let quoted = Value::try_from_str(alloc, content)?.to_string(alloc)?;
+        put(text, quoted.as_str())
+    }
 }
 
 /// Appends the list of the JSON of each item.
