@@ -1,15 +1,21 @@
-//! The body of each message to the client (JSON-RPC 2.0 section 5; LSP 3.17).
-ghost use Rattle.std.specs.Prelude.{◌≡◌, Some, IfOk};
+//! The body of each message to the client (JSON-RPC 2.0 section 5; LSP 3.17). What may be long, answers and
+//! diagnostics, is written piece by piece; the rest goes by `Value`s.
+ghost use Rattle.std.specs.Prelude.{◌≡◌, ◌≤◌, ◌++◌, Some, true, false, IfOk, OnOk, IfSome, codes};
+ghost use Rattle.std.specs.String.{string_bytes};
+ghost use Rattle.serde_json.specs.Data.{Members, no_members, object, depth};
 ghost use Rattle.serde_json.specs.View.{view};
+ghost use Rattle.serde_json.specs.Written.{members_text, has_float};
 ghost use Rattle.lsp_messages.specs.Messages.{json_of};
 ghost use Rattle.lsp_messages.specs.Replies as spec;
+ghost use Rattle.lsp_messages.specs.Written.{IsReadable, Writes, IsBodyOf, HoldTexts};
 
 use crate::encodings::encoding_name;
-use crate::json::{ToJson, list};
+use crate::json::{ToJson, comma, put, write_integer, write_list, write_pair, write_string};
 use crate::{Id, Reply};
 use ls_base::{Answer, Diagnostic, DocEdits, Encoding, Mem};
-use serde_json::{Map, Value, json};
+use serde_json::{Value, json};
 use std::alloc::{AllocError, Global};
+use std::collections::BTreeMap;
 
 /// The body of a message to the client: compact JSON, with the keys of each object in byte order. Of edits for
 /// equal uris the last count.
@@ -20,41 +26,127 @@ pub fn reply_bytes(alloc: Global, reply: &Reply) -> Mem<Vec<u8>>
     ensures reads_back { IfOk result (λ bytes. json_of bytes.items
         ≡ Some (spec.reply_json reply.now)) }
 {
-    Ok(reply.to_json(alloc)?.to_vec(alloc)?)
+    Ok(body(alloc, reply)?)
 }
 
-impl ToJson for Reply {
-    ghost use Rattle.lsp_messages.specs.Replies.{reply_json};
-
-    ghost json = { reply_json };
-
-    fn to_json(&self, alloc: Global) -> Result<Value, AllocError> {
-        match self {
-            Reply::Capabilities {
-                id,
-                prepare,
-                encoding,
-            } => Ok(answered(alloc, id, initialized(alloc, *prepare, *encoding)?)?),
-            Reply::Result { id, answer } => Ok(answered(alloc, id, answer.to_json(alloc)?)?),
-            Reply::Error { id, code, text } => Ok(error(alloc, id, *code, text.as_str())?),
-            Reply::Publish { uri, version, list } => {
-                let params = published(alloc, uri.as_str(), *version, list.as_slice())?;
-                Ok(notification(alloc, "textDocument/publishDiagnostics", params)?)
-            }
-            Reply::Log(text) => {
-                let params = json!(in alloc; {"message": text.as_str(), "type": 1u8})?;
-                Ok(notification(alloc, "window/logMessage", params)?)
-            }
+/// The body of a message.
+fn body(alloc: Global, reply: &Reply) -> Result<Vec<u8>, AllocError>
+    ensures { IfOk result (λ bytes. IsBodyOf (spec.reply_json reply.now) bytes.items) }
+{
+    match reply {
+        Reply::Capabilities {
+            id,
+            prepare,
+            encoding,
+        } => {
+            let answer = initialized(alloc, *prepare, *encoding)?;
+            value_bytes(alloc, answered(alloc, id, answer)?)
+        }
+        Reply::Result { id, answer } => {
+            let mut text = String::new(alloc);
+            write_answered(alloc, &mut text, id, answer)?;
+            Ok(text.into_bytes())
+        }
+        Reply::Error { id, code, text } => {
+            value_bytes(alloc, error(alloc, id, *code, text.as_str())?)
+        }
+        Reply::Publish { uri, version, list } => {
+            let mut text = String::new(alloc);
+            write_published(alloc, &mut text, uri.as_str(), *version, list.as_slice())?;
+            Ok(text.into_bytes())
+        }
+        Reply::Log(text) => {
+            let params = json!(in alloc; {"message": text.as_str(), "type": 1u8})?;
+            value_bytes(alloc, notification(alloc, "window/logMessage", params)?)
         }
     }
 }
 
-/// The reply to a request.
+/// The text of a value.
+fn value_bytes(alloc: Global, value: Value) -> Result<Vec<u8>, AllocError>
+    ensures { IfOk result (λ bytes. has_float (view value) ≡ false → depth (view value) ≤ 127
+        → IsBodyOf (view value) bytes.items) }
+{
+    Ok(value.to_vec(alloc)?)
+}
+
+/// Writes the reply to a request.
+fn write_answered(
+    alloc: Global,
+    text: &mut String,
+    id: &Id,
+    answer: &Answer,
+) -> Result<(), AllocError>
+    ensures { OnOk result (Writes (spec.result_json id.now (spec.answer_json answer.now))
+        (string_bytes text.old) (string_bytes text.new)) }
+{
+    write_pair(
+        alloc,
+        text,
+        "{\"id\":",
+        id,
+        ",\"jsonrpc\":\"2.0\",\"result\":",
+        answer,
+    )
+}
+
+/// Writes the diagnostics of a document.
+fn write_published(
+    alloc: Global,
+    text: &mut String,
+    uri: &str,
+    version: Option<i64>,
+    diagnostics: &[Diagnostic],
+) -> Result<(), AllocError>
+    ensures { OnOk result (Writes (spec.notification_json (codes "textDocument/publishDiagnostics")
+        (spec.publish_json uri.now version diagnostics.now))
+        (string_bytes text.old) (string_bytes text.new)) }
+{
+    put(
+        text,
+        "{\"jsonrpc\":\"2.0\",\"method\":\"textDocument/publishDiagnostics\",\"params\":{\"diagnostics\":",
+    )?;
+    write_list(alloc, text, diagnostics)?;
+    put(text, ",\"uri\":")?;
+    write_string(alloc, text, uri)?;
+    write_version(text, version)?;
+    put(text, "}")?;
+    Ok(())
+}
+
+/// Writes what follows the uri: the version, where there is one, and the brace that closes the object.
+fn write_version(text: &mut String, version: Option<i64>) -> Result<(), AllocError>
+    ensures appended { OnOk result (string_bytes text.new
+        ≡ string_bytes text.old ++ members_text true (spec.version_member version)) }
+    ensures readable { OnOk result (IfSome version (λ v. IsReadable (spec.integer_json v))) }
+{
+    match version {
+        None => put(text, "}"),
+        Some(version) => {
+            put(text, ",\"version\":")?;
+            write_integer(text, version)?;
+            put(text, "}")?;
+            Ok(())
+        }
+    }
+}
+
+/// The reply to `initialize`.
 fn answered(alloc: Global, id: &Id, answer: Value) -> Result<Value, AllocError>
     ensures { IfOk result (λ v. view v ≡ spec.result_json id.now (view answer)) }
 {
-    let id = id.to_json(alloc)?;
+    let id = id_value(alloc, id)?;
     json!(in alloc; {"id": id, "jsonrpc": "2.0", "result": answer})
+}
+
+/// The JSON of an id.
+fn id_value(alloc: Global, id: &Id) -> Result<Value, AllocError>
+    ensures { IfOk result (λ v. view v ≡ spec.id_json id.now) }
+{
+    match id {
+        Id::Number(number) => Ok(Value::from(*number)),
+        Id::Name(name) => Ok(Value::try_from_str(alloc, name.as_str())?),
+    }
 }
 
 /// An error reply.
@@ -63,7 +155,7 @@ fn error(alloc: Global, id: &Option<Id>, code: i32, text: &str) -> Result<Value,
 {
     let id = match id {
         None => Value::Null,
-        Some(id) => id.to_json(alloc)?,
+        Some(id) => id_value(alloc, id)?,
     };
     let error = json!(in alloc; {"code": code, "message": text})?;
     json!(in alloc; {"error": error, "id": id, "jsonrpc": "2.0"})
@@ -74,24 +166,6 @@ fn notification(alloc: Global, method: &str, params: Value) -> Result<Value, All
     ensures { IfOk result (λ v. view v ≡ spec.notification_json method.now (view params)) }
 {
     json!(in alloc; {"jsonrpc": "2.0", "method": method, "params": params})
-}
-
-/// What is published of a document.
-fn published(
-    alloc: Global,
-    uri: &str,
-    version: Option<i64>,
-    diagnostics: &[Diagnostic],
-) -> Result<Value, AllocError>
-    ensures { IfOk result (λ v. view v ≡ spec.publish_json uri.now version diagnostics.now) }
-{
-    let diagnostics = list(alloc, diagnostics)?;
-    match version {
-        None => json!(in alloc; {"diagnostics": diagnostics, "uri": uri}),
-        Some(version) => {
-            json!(in alloc; {"diagnostics": diagnostics, "uri": uri, "version": version})
-        }
-    }
 }
 
 /// What the server can do.
@@ -134,10 +208,10 @@ impl ToJson for Id {
 
     ghost json = { id_json };
 
-    fn to_json(&self, alloc: Global) -> Result<Value, AllocError> {
+    fn write_json(&self, alloc: Global, text: &mut String) -> Result<(), AllocError> {
         match self {
-            Id::Number(number) => Ok(Value::from(*number)),
-            Id::Name(name) => Ok(Value::try_from_str(alloc, name.as_str())?),
+            Id::Number(number) => write_integer(text, *number),
+            Id::Name(name) => write_string(alloc, text, name.as_str()),
         }
     }
 }
@@ -147,30 +221,67 @@ impl ToJson for Answer {
 
     ghost json = { answer_json };
 
-    fn to_json(&self, alloc: Global) -> Result<Value, AllocError> {
+    fn write_json(&self, alloc: Global, text: &mut String) -> Result<(), AllocError> {
         match self {
-            Answer::Nothing => Ok(Value::Null),
-            Answer::Places(places) => Ok(list(alloc, places.as_slice())?),
-            Answer::Highlights(highlights) => Ok(list(alloc, highlights.as_slice())?),
-            Answer::Prepared { range, placeholder } => {
-                let range = range.to_json(alloc)?;
-                json!(in alloc; {"placeholder": placeholder.as_str(), "range": range})
-            }
-            Answer::Arrows(arrows) => Ok(list(alloc, arrows.as_slice())?),
-            Answer::Edits(edits) => Ok(changes(alloc, edits.as_slice())?),
+            Answer::Nothing => put(text, "null"),
+            Answer::Places(places) => write_list(alloc, text, places.as_slice()),
+            Answer::Highlights(highlights) => write_list(alloc, text, highlights.as_slice()),
+            Answer::Prepared { range, placeholder } => write_pair(
+                alloc,
+                text,
+                "{\"placeholder\":",
+                placeholder,
+                ",\"range\":",
+                range,
+            ),
+            Answer::Arrows(arrows) => write_list(alloc, text, arrows.as_slice()),
+            Answer::Edits(edits) => write_changes(alloc, text, edits.as_slice()),
         }
     }
 }
 
-/// The edits of each document under its uri.
-fn changes(alloc: Global, edits: &[DocEdits]) -> Result<Value, AllocError>
-    ensures { IfOk result (λ v. view v ≡ spec.edits_json edits.now) }
+/// Writes the edits of each document under its uri.
+fn write_changes(alloc: Global, text: &mut String, edits: &[DocEdits]) -> Result<(), AllocError>
+    ensures { OnOk result (Writes (spec.edits_json edits.now) (string_bytes text.old) (string_bytes text.new)) }
 {
-    let mut documents = Map::new(alloc);
+    let documents = changes(alloc, edits)?;
+    put(text, "{\"changes\":{")?;
+    write_members(alloc, text, &documents)?;
+    put(text, "}")?;
+    Ok(())
+}
+
+/// The text of the edits of each document under its uri.
+fn changes(alloc: Global, edits: &[DocEdits]) -> Result<BTreeMap<String, String>, AllocError>
+    ensures texts { IfOk result (λ m. HoldTexts m.entries (spec.with_documents no_members edits.now)) }
+    ensures readable { IfOk result (λ _. IsReadable (object (spec.with_documents no_members edits.now))) }
+{
+    let mut documents = BTreeMap::new(alloc);
     for document in edits {
-        let replaced = list(alloc, document.edits.as_slice())?;
-        serde_json::put(&mut documents, alloc, document.uri.as_str(), replaced)?;
+        let uri = String::from_str(alloc, document.uri.as_str())?;
+        let mut list = String::new(alloc);
+        write_list(alloc, &mut list, document.edits.as_slice())?;
+        documents.insert(uri, list)?;
     }
-    let documents = Value::from(documents);
-    json!(in alloc; {"changes": documents})
+    Ok(documents)
+}
+
+/// Writes the members of an object whose values are written, and the brace that closes it.
+fn write_members(
+    alloc: Global,
+    text: &mut String,
+    documents: &BTreeMap<String, String>,
+) -> Result<(), AllocError>
+    ensures { (ms : Members) → HoldTexts documents.now.entries ms
+        → OnOk result (string_bytes text.new ≡ string_bytes text.old ++ members_text false ms) }
+{
+    let mut later = false;
+    for (uri, list) in documents.iter() {
+        comma(text, later)?;
+        write_string(alloc, text, uri.as_str())?;
+        put(text, ":")?;
+        put(text, list.as_str())?;
+        later = true;
+    }
+    put(text, "}")
 }
