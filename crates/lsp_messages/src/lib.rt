@@ -1,15 +1,15 @@
 //! The messages of the protocol: what a body says, and the body of each reply (LSP 3.17 over JSON-RPC 2.0).
-//! It reads and writes JSON through `serde_json`'s `Value` alone, and knows no session and no Scheme.
+//! It reads JSON into `serde_json`'s `Value` and writes it piece by piece, and knows no session and no Scheme.
 #![tactic(auto)]
 
 mod encodings;
 mod fault;
 mod fields;
-mod json;
 mod message;
 mod parameters;
 mod reading;
 mod reply;
+mod to_json;
 mod writing;
 
 pub use message::{At, Call, Id, Message, Note, Reject};

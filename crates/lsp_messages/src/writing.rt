@@ -10,7 +10,7 @@ ghost use Rattle.lsp_messages.specs.Replies as spec;
 ghost use Rattle.lsp_messages.specs.Written.{IsReadable, Writes, IsBodyOf, HoldTexts};
 
 use crate::encodings::encoding_name;
-use crate::json::{ToJson, comma, put, write_integer, write_list, write_pair, write_string};
+use crate::to_json::{ToJson, comma, put, write_integer, write_list, write_pair, write_string};
 use crate::{Id, Reply};
 use ls_base::{Answer, Diagnostic, DocEdits, Encoding, Mem};
 use serde_json::{Value, json};

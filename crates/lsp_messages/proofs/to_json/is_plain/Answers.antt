@@ -1,7 +1,7 @@
 use Rattle.std.proofs.Common.{get_or, arith}
 use Rattle.std.proofs.lemmas.List.{drop_more}
 use Rattle.lsp_messages.proofs.Pieces.{escape-drop}
-use Rattle.lsp_messages.proofs.json.is_plain.Goals as goal
+use Rattle.lsp_messages.proofs.to_json.is_plain.Goals as goal
 
 pub loop-byte-preserved : goal.loop-byte-preserved
 loop-byte-preserved c =

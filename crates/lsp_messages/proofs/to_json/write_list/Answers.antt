@@ -5,7 +5,7 @@ use Rattle.serde_json.specs.View.{items_of}
 use Rattle.serde_json.specs.Written.{items_text}
 use Rattle.lsp_messages.proofs.Pieces.{items_step, Writes-array}
 use Rattle.lsp_messages.proofs.Readable.{AreReadable, AreReadable-item, AreReadable-none}
-use Rattle.lsp_messages.proofs.json.write_list.Goals as goal
+use Rattle.lsp_messages.proofs.to_json.write_list.Goals as goal
 
 ended : (later : Bool) (s : List ℕ) → s ++ 93 ∷ [] ≡ s ++ items_text later no_items
 ended later s = refl

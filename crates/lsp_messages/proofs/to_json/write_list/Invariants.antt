@@ -2,7 +2,7 @@ use Rattle.std.proofs.Common.{◌≡◌, ◌++◌, false, map, drop, string_byte
 use Rattle.serde_json.specs.View.{items_of}
 use Rattle.serde_json.specs.Written.{items_text}
 use Rattle.lsp_messages.proofs.Readable.{AreReadable}
-use Rattle.lsp_messages.proofs.json.write_list.Given as goal
+use Rattle.lsp_messages.proofs.to_json.write_list.Given as goal
 
 -- the text so far, with that of the items that are left; the list is readable where these are
 abbrev pub invariant-loop-item : goal.invariant-loop-item

@@ -3,7 +3,7 @@ use Rattle.json.specs.Print.{escape_byte}
 use Rattle.lsp_messages.specs.Replies.{place_json, arrow_json}
 use Rattle.lsp_messages.proofs.Pieces.{Writes-pair}
 use Rattle.lsp_messages.proofs.Readable.{no_more, and_member, IsReadable-object}
-use Rattle.lsp_messages.proofs.json.ArrowToJson.write_json.Goals as goal
+use Rattle.lsp_messages.proofs.to_json.ArrowToJson.write_json.Goals as goal
 
 pub returns : goal.returns
 unfolding escape_byte

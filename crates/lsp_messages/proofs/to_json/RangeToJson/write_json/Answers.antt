@@ -1,13 +1,13 @@
 use Rattle.std.proofs.Common.{refl}
 use Rattle.json.specs.Print.{escape_byte}
-use Rattle.lsp_messages.specs.Replies.{natural_json, range_json, highlight_json}
+use Rattle.lsp_messages.specs.Replies.{position_json, range_json}
 use Rattle.lsp_messages.proofs.Pieces.{Writes-pair}
 use Rattle.lsp_messages.proofs.Readable.{no_more, and_member, IsReadable-object}
-use Rattle.lsp_messages.proofs.json.HighlightToJson.write_json.Goals as goal
+use Rattle.lsp_messages.proofs.to_json.RangeToJson.write_json.Goals as goal
 
 pub returns : goal.returns
 unfolding escape_byte
 returns c =
     let wrote = c.write_pair.ensures in
-    Writes-pair c.write_pair.result (highlight_json c.args.self.now) (natural_json c.args.self.now.kind) (range_json c.args.self.now.range) _ _ _ wrote.pieces wrote.first_readable wrote.second_readable refl
+    Writes-pair c.write_pair.result (range_json c.args.self.now) (position_json c.args.self.now.end) (position_json c.args.self.now.start) _ _ _ wrote.pieces wrote.first_readable wrote.second_readable refl
     (λ a b. IsReadable-object _ (and_member _ _ _ _ _ a (and_member _ _ _ _ _ b (no_more _))))

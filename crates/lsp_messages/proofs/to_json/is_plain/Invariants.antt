@@ -1,6 +1,6 @@
 use Rattle.std.proofs.Common.{◌≡◌, drop}
 use Rattle.json.specs.Print.{escape}
-use Rattle.lsp_messages.proofs.json.is_plain.Given as goal
+use Rattle.lsp_messages.proofs.to_json.is_plain.Given as goal
 
 -- the bytes before stand as they are
 abbrev pub invariant-loop-byte : goal.invariant-loop-byte

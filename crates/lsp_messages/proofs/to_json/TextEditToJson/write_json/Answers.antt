@@ -4,7 +4,7 @@ use Rattle.serde_json.specs.Data.{string}
 use Rattle.lsp_messages.specs.Replies.{range_json, text_edit_json}
 use Rattle.lsp_messages.proofs.Pieces.{Writes-pair}
 use Rattle.lsp_messages.proofs.Readable.{no_more, and_member, IsReadable-object}
-use Rattle.lsp_messages.proofs.json.TextEditToJson.write_json.Goals as goal
+use Rattle.lsp_messages.proofs.to_json.TextEditToJson.write_json.Goals as goal
 
 pub returns : goal.returns
 unfolding escape_byte

@@ -3,7 +3,7 @@ use Rattle.json.specs.Print.{escape_byte, quoted}
 use Rattle.serde_json.specs.Data.{string}
 use Rattle.lsp_messages.specs.Replies.{natural_json, range_json}
 use Rattle.lsp_messages.proofs.Pieces.{five_pieces, Writes-diagnostic}
-use Rattle.lsp_messages.proofs.json.DiagnosticToJson.write_json.Goals as goal
+use Rattle.lsp_messages.proofs.to_json.DiagnosticToJson.write_json.Goals as goal
 
 abbrev key : List ℕ → List ℕ
 key k = quoted k ++ 58 ∷ []
