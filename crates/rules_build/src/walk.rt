@@ -67,25 +67,25 @@ impl Walk<'_> {
                 Ok(Plan::Atom(leaf))
             }
             Look::Vector(items) => {
-                let mut parts = Vec::new(self.alloc);
-                self.parts(items, escaped, bounds, index, left - 1, room, &mut parts)?;
+                let mut plans = Vec::with_capacity(self.alloc, items.len())?;
+                self.parts(items, escaped, bounds, index, left - 1, room, &mut plans)?;
                 *room = spend(*room, 1);
-                Ok(Plan::Vector(parts))
+                Ok(Plan::Vector(plans))
             }
             Look::List(items, end) => {
                 if self.is_escape(items, end, escaped) {
                     return Ok(self.tree(items[1], true, bounds, index, left - 1, room)?);
                 }
-                let mut parts = Vec::new(self.alloc);
-                self.parts(items, escaped, bounds, index, left - 1, room, &mut parts)?;
+                let mut plans = Vec::with_capacity(self.alloc, items.len())?;
+                self.parts(items, escaped, bounds, index, left - 1, room, &mut plans)?;
                 match end {
                     None => {
                         *room = spend(*room, 1);
-                        Ok(Plan::List(parts, End::Proper))
+                        Ok(Plan::List(plans, End::Proper))
                     }
                     Some(tail) => {
                         let last = self.tree(tail, escaped, bounds, index, left - 1, room)?;
-                        Ok(self.joined(parts, last, room)?)
+                        Ok(self.joined(plans, last, room)?)
                     }
                 }
             }
@@ -116,7 +116,7 @@ impl Walk<'_> {
         for k in 0..items.len() {
             let follows = self.dots_at(items, k + 1, escaped);
             if !dots {
-                let times = self.ellipses(items, k + 1, escaped, follows);
+                let times = self.leading(items, k + 1, escaped, follows);
                 self.part(times, items[k], escaped, bounds, index, left, room, plans)?;
             }
             dots = follows;
@@ -397,32 +397,21 @@ impl Walk<'_> {
     }
 
     /// How many ellipses stand in a row from a place on, where it is known whether one stands there.
-    fn ellipses(&self, items: &[Tree], from: usize, escaped: bool, first: bool) -> usize
+    fn leading(&self, items: &[Tree], from: usize, escaped: bool, first: bool) -> usize
         requires items { AreStanding self.now.work.now items.now }
         requires from { from ≤ length items.now }
         ensures { (r : ModelRules Identifier) (ts : Trees Identifier) → TellsRoles self.now.work.now.symbols self.now.roles.now r →
             PartsStand self.now.work.now items.now ts → first ≡ starts_dots (dots_where escaped r) (behind from ts) →
             result ≡ leading (dots_where escaped r) (behind from ts) }
     {
-        if !first {
-            return 0;
-        }
-        self.leading(items, from, escaped)
-    }
-
-    /// How many ellipses stand in a row from a place on.
-    fn leading(&self, items: &[Tree], from: usize, escaped: bool) -> usize
-        requires items { AreStanding self.now.work.now items.now }
-        requires from { from ≤ length items.now }
-        ensures { (r : ModelRules Identifier) (ts : Trees Identifier) → TellsRoles self.now.work.now.symbols self.now.roles.now r →
-            PartsStand self.now.work.now items.now ts → result ≡ leading (dots_where escaped r) (behind from ts) }
-    {
+        let mut dots = first;
         let mut count = 0;
         for k in from..items.len() {
-            if !self.is_dots(items[k], escaped) {
+            if !dots {
                 return count;
             }
             count += 1;
+            dots = self.dots_at(items, k + 1, escaped);
         }
         count
     }

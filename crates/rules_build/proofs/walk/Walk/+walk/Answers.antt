@@ -44,7 +44,7 @@ parts-returns-in_err-part t c = λ r region k ts ms tells h are.
     let p = part_there w j c.args.items.now ts (record { number = 0 }) h c.loop-k-test.true in
     let split = split_one w j ts _ p in
     let other : is_dots dots p.part ≡ false = sym (c.loop-k.invariant.0 r ts tells h ∙ ap (starts_dots dots) split) ∙ c.if-not-dots.true in
-    let lead = c.ellipses-times.ensures r ts tells h (c.dots_at-follows.ensures r ts tells h) in
+    let lead = c.leading-times.ensures r ts tells h (c.dots_at-follows.ensures r ts tells h) in
     let e = c.in_err-part.field-0.0 in
     let a = subst (λ (n : ℕ). Fails (repeated n (build_tree (inserting k) dots p.part) (used_in same_ident p.part ms)) e) lead (c.in_err-part.ensures r region k p.part ms tells p.stands are) in
     all_handed_on w region k c.args.room.now c.part.new.room c.args.plans.now.items c.part.new.plans.items (build_parts (inserting k) dots ts ms) c.from_residual.result e c.from_residual.ensures.1
@@ -66,10 +66,10 @@ parts-loop-k-preserved t c = (
             let room = x.part.new.room in
             let new = x.part.new.plans in
             let other : is_dots dots p.part ≡ false = sym own ∙ x.if-not-dots.true in
-            let lead = x.ellipses-times.ensures r ts tells h (c.dots_at-follows.ensures r ts tells h) in
+            let lead = x.leading-times.ensures r ts tells h (c.dots_at-follows.ensures r ts tells h) in
             let f = build_tree (inserting k) dots p.part in
             let used = used_in same_ident p.part ms in
-            let a = plans_same w region k c.loop-k.room room c.loop-k.plans.items new.items (repeated x.ellipses-times.result f used) (repeated (leading dots (behind (j + 1) ts)) f used) (Ok tt) (ap (λ (n : ℕ). repeated n f used) lead)
+            let a = plans_same w region k c.loop-k.room room c.loop-k.plans.items new.items (repeated x.leading-times.result f used) (repeated (leading dots (behind (j + 1) ts)) f used) (Ok tt) (ap (λ (n : ℕ). repeated n f used) lead)
             (x.in_ok-part.ensures r region k p.part ms tells p.stands are) in
             let more = parts_more w region k dots ts ms j p.part c.args.room.now c.loop-k.room room c.args.plans.now.items c.loop-k.plans.items new.items tt split other u a in
             upto_same w region k dots ts ms (j + 1) c.args.room.now room c.if-not-dots.room c.args.plans.now.items new.items c.if-not-dots.plans.items x.room-is (ap (λ (v : Vec Plan Global). v.items) x.plans-is) more
@@ -240,7 +240,7 @@ tree-returns-in_err-parts-in-Vector t c = λ r region k u ms tells h are.
     let dots = dots_where c.args.escaped r in
     let q = c.in-Vector.ensures.look u h in
     let e = c.in_err-parts-in-Vector.field-0.0 in
-    tree_handed_on w region k c.args.room.now c.parts.new.room (build_tree (inserting k) dots u ms) c.from_residual.result e c.from_residual.ensures.1 (subst (λ (x : ModelTree Identifier). Fails (build_tree (inserting k) dots x ms) e) (sym q.2)
+    tree_handed_on w region k c.args.room.now c.parts.new.room (build_tree (inserting k) dots u ms) c.from_residual-in_err-parts-in-Vector.result e c.from_residual-in_err-parts-in-Vector.ensures.1 (subst (λ (x : ModelTree Identifier). Fails (build_tree (inserting k) dots x ms) e) (sym q.2)
     (vector_fails w region k dots q.0 q.1 ms e (c.in_err-parts-in-Vector.ensures r region k q.0 ms tells q.3 are)))
 
 pub tree-bounds-items-1 : goal.tree-bounds-items-1
@@ -352,11 +352,11 @@ tree-returns-in_ok-parts-in-Vector t c = λ r region k u ms tells h are.
     let w = c.args.self.now.work.now in
     let dots = dots_where c.args.escaped r in
     let q = c.in-Vector.ensures.look u h in
-    let none = c.new-parts.result.items in
+    let none = c.in_ok-plans-in-Vector.plans.items in
     let new = c.parts.new.plans in
     let a = c.in_ok-parts-in-Vector.ensures r region k q.0 ms tells q.3 are in
     subst (λ (x : ModelTree Identifier). Plans w region k c.args.room.now c.spend-in-Vector.result (build_tree (inserting k) dots x ms) (Ok (plan.Vector new))) (sym q.2)
-    (vector_planned w region k dots q.0 q.1 ms c.args.room.now c.parts.new.room c.spend-in-Vector.result none new.items (plan.Vector new) tt a c.spend-in-Vector.ensures (λ b g. vector_plan w region k new none b c.new-parts.ensures.items g))
+    (vector_planned w region k dots q.0 q.1 ms c.args.room.now c.parts.new.room c.spend-in-Vector.result none new.items (plan.Vector new) tt a c.spend-in-Vector.ensures (λ b g. vector_plan w region k new none b c.in_ok-plans-in-Vector.ensures.items g))
 
 pub tree-returns-in-None : goal.tree-returns-in-None
 tree-returns-in-None t c = λ r region k u ms tells h are.
@@ -365,11 +365,11 @@ tree-returns-in-None t c = λ r region k u ms tells h are.
     let q = c.in-List.ensures.look u h in
     let plain : is_escape dots q.0 q.1 ≡ false = sym (c.is_escape.ensures r q.0 q.1 tells q.4 q.5) ∙ c.if-is_escape.false in
     let a = c.in_ok-parts-in-List.ensures r region k q.0 ms tells q.4 are in
-    let none = c.new-parts-in-List.result.items in
+    let none = c.in_ok-plans-in-List.plans.items in
     let new = c.parts-in-List.new.plans in
     let last = end_proper w c.in-List.end q.1 c.in-None.is q.5 in
     subst (λ (x : ModelTree Identifier). Plans w region k c.args.room.now c.spend-in-None.result (build_tree (inserting k) dots x ms) (Ok (plan.List new end.Proper))) (sym q.3)
-    (list_planned w region k dots q.0 q.1 q.2 ms plain c.args.room.now c.parts-in-List.new.room c.spend-in-None.result none new.items (plan.List new end.Proper) tt last a c.spend-in-None.ensures (λ b g. list_plan w region k new end.Proper none b c.new-parts-in-List.ensures.items refl g))
+    (list_planned w region k dots q.0 q.1 q.2 ms plain c.args.room.now c.parts-in-List.new.room c.spend-in-None.result none new.items (plan.List new end.Proper) tt last a c.spend-in-None.ensures (λ b g. list_plan w region k new end.Proper none b c.in_ok-plans-in-List.ensures.items refl g))
 
 pub tree-returns-in_ok-joined-in-Some : goal.tree-returns-in_ok-joined-in-Some
 tree-returns-in_ok-joined-in-Some t c = λ r region k u ms tells h are.
@@ -383,7 +383,7 @@ tree-returns-in_ok-joined-in-Some t c = λ r region k u ms tells h are.
     let mid = c.parts-in-List.new.room in
     let now = c.tree-in-Some.new.room in
     let new = c.parts-in-List.new.plans in
-    let parts = λ (s : IsSome now). subst (λ (ps : List Plan). ArePlansOf w region k ps new.items a.0) c.new-parts-in-List.ensures.items (a.3 (some_left mid now b.0.count b.2 s)) in
+    let parts = λ (s : IsSome now). subst (λ (ps : List Plan). ArePlansOf w region k ps new.items a.0) c.in_ok-plans-in-List.ensures.items (a.3 (some_left mid now b.0.count b.2 s)) in
     let all = c.in_ok-joined-in-Some.ensures region k c.args.room.now a.0 b.0 (vanish_parts (inserting k) dots q.0 ms a.0 a.1) (b.2 ∙ ap (λ (x : Option ℕ). spent x b.0.count) a.2) parts b.3 in
     subst (λ (x : ModelTree Identifier). Plans w region k c.args.room.now c.joined.new.room (build_tree (inserting k) dots x ms) (Ok c.in_ok-joined-in-Some.field-0)) (sym q.3)
     (tail_planned w region k dots q.0 q.1 q.2 ms plain d.0 a.0 b.0 c.args.room.now c.joined.new.room c.in_ok-joined-in-Some.field-0 d.1 a.1 b.1 all)
