@@ -74,6 +74,10 @@ module _ (f : Datum → Tree Identifier) where
     lie = subst (λ (l : List code.Tree). AllLie a region (numbers l)) (sym none) tt;
   }
 
+  -- their numbers found no place, before any was added
+  pub row_unbegun : (a : Work) (region : Region) (ds : List Datum) → Begins a a region (all_interned (row ds) a.symbols) (trees_size (row ds) + 1) × Fails a (trees_size (row ds)) fault.Memory
+  row_unbegun a region ds = (record { grows = grows_itself a region; names = all_interned_keeps (row ds) a.symbols; nodes = omega arith }, tt)
+
   module _ (a b c : Work) (region : Region) (ds : List Datum) (i : ℕ) (d : Datum) (ns : List code.Tree) (lt : i < length ds) (at : d ≡ get_or ds i d) (h : RowAdds a b region ds i ns) where
     left : all_interned (row (drop (i + 1) ds)) (interned (f d) b.symbols) ≡ all_interned (row ds) a.symbols
     left = ap (λ (ts : Trees Identifier). all_interned ts b.symbols) (sym (row_next ds i d lt at)) ∙ h.names

@@ -107,7 +107,7 @@ spot_of t = record { number = t.number; start = t.span.start; end = t.span.end }
 abbrev pub opener_of : code_opener.Opener → Opener
 opener_of openers.List = in_list
 opener_of (openers.Dotted dot) = dotted (spot_of dot)
-opener_of (openers.Ended dot t) = ended (spot_of dot) (tail_datum t)
+opener_of (openers.Ended dot t) = ended (spot_of dot) (tail_datum t.value)
 opener_of openers.Vector = in_vector
 opener_of (openers.Bytes texts) = in_bytes (map chars texts.items)
 opener_of openers.Mark = marked

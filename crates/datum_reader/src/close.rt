@@ -25,6 +25,15 @@ pub fn make_datum(shape: Shape, first: Spot, last: Spot) -> Datum
     }
 }
 
+/// Parts that take no more memory than they need.
+fn fitted(parts: Vec<Datum>) -> Vec<Datum>
+    ensures { result.items ≡ parts.items }
+{
+    let mut parts = parts;
+    parts.shrink_to_fit();
+    parts
+}
+
 /// The datum that a parenthesis closes.
 pub fn closed(
     alloc: Global,
@@ -36,9 +45,9 @@ pub fn closed(
     ensures { Gives tail_datum result (model.closed_by (opener_of opener) (spot_of first) (spot_of last) (data_of parts.items)) }
 {
     match opener {
-        Opener::List => Ok(Tail::Datum(make_datum(Shape::List(parts, None), first, last))),
-        Opener::Ended(_, tail) => Ok(with_tail(alloc, parts, tail, first, last)?),
-        Opener::Vector => Ok(Tail::Datum(make_datum(Shape::Vector(parts), first, last))),
+        Opener::List => Ok(Tail::Datum(make_datum(Shape::List(fitted(parts), None), first, last))),
+        Opener::Ended(_, tail) => Ok(with_tail(alloc, parts, Box::into_inner(tail), first, last)?),
+        Opener::Vector => Ok(Tail::Datum(make_datum(Shape::Vector(fitted(parts)), first, last))),
         Opener::Bytes(texts) => Ok(Tail::Datum(make_datum(Shape::Bytes(texts), first, last))),
         Opener::Dotted(dot) => Err(fault(BAD_DOT, dot)),
         Opener::Mark | Opener::Skip => Err(fault(MISSING_DATUM, first)),

@@ -51,7 +51,7 @@ fn copy_shape(alloc: Global, shape: &Shape) -> Mem<Shape>
 fn copy_parts(alloc: Global, parts: &[Datum]) -> Mem<Vec<Datum>>
     ensures { IfOk result (λ copies. data_of copies.items ≡ data_of parts.now) }
 {
-    let mut copies = Vec::new(alloc);
+    let mut copies = Vec::with_capacity(alloc, parts.len())?;
     for part in parts {
         let copy = copy_datum(alloc, part)?;
         copies.push(copy)?;
@@ -76,7 +76,7 @@ fn copy_end(alloc: Global, end: &Option<Box<Datum>>) -> Mem<Option<Box<Datum>>>
 fn copy_texts(alloc: Global, texts: &[Text]) -> Mem<Vec<Text>>
     ensures { IfOk result (λ copies. copies.items ≡ texts.now) }
 {
-    let mut copies = Vec::new(alloc);
+    let mut copies = Vec::with_capacity(alloc, texts.len())?;
     for text in texts {
         copies.push(text.clone()?)?;
     }

@@ -40,7 +40,7 @@ pub enum Opener {
     /// A list behind its dot.
     Dotted(Spot),
     /// A list behind its tail, with its dot.
-    Ended(Spot, Tail),
+    Ended(Spot, Box<Tail>),
     Vector,
     /// A bytevector, with its numerals so far.
     Bytes(Vec<Text>),

@@ -140,7 +140,7 @@ fn seed_parts(
     requires read { All CanBeSeeded parts.now }
     ensures { SeedsAll work.old work.new region.now (parts_trees start.unit start.form start.first parts.now) result }
 {
-    let mut trees = Vec::new(alloc);
+    let mut trees = Vec::with_capacity(alloc, parts.len())?;
     for part in parts {
         let tree = seed_datum(alloc, work, region, part, start)?;
         trees.push(tree)?;

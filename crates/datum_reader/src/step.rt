@@ -158,12 +158,19 @@ fn keep(state: &mut State, frame: Frame, read: Tail) -> Mem<()>
 }
 
 /// Adds a datum on the innermost level. An abbreviation that it completes is added in its place; `#;` drops it.
-fn complete(state: &mut State, read: Tail) -> Mem<()>
+fn complete(alloc: Global, state: &mut State, read: Tail) -> Mem<()>
     ensures { OnOk result (state_of state.new ≡ model.completed (tail_datum read) (data_of state.old.items.items) (stack_of state.old.stack.items)) }
 {
     if adds(state.stack.as_slice()) {
         return Ok(add(state, read)?);
     }
+    Ok(complete_open(alloc, state, read)?)
+}
+
+/// The same where an abbreviation, `#;` or a dot may be innermost.
+fn complete_open(alloc: Global, state: &mut State, read: Tail) -> Mem<()>
+    ensures { OnOk result (state_of state.new ≡ model.completed (tail_datum read) (data_of state.old.items.items) (stack_of state.old.stack.items)) }
+{
     let mut read = read;
     while let Some(frame) = state.stack.pop() {
         match &frame.opener {
@@ -176,7 +183,7 @@ fn complete(state: &mut State, read: Tail) -> Mem<()>
                 return Ok(());
             }
             Opener::Dotted(dot) => {
-                let opener = Opener::Ended(*dot, read);
+                let opener = Opener::Ended(*dot, Box::new(alloc, read)?);
                 return Ok(reopen(state, opener, frame)?);
             }
             Opener::List => return Ok(keep(state, frame, read)?),
@@ -199,7 +206,7 @@ fn close(alloc: Global, state: &mut State, spot: Spot) -> Result<(), ReadFault>
     };
     let items = mem::replace(&mut state.items, frame.before);
     let read = closed(alloc, frame.opener, frame.spot, spot, items)?;
-    complete(state, read)?;
+    complete(alloc, state, read)?;
     Ok(())
 }
 
@@ -336,7 +343,7 @@ fn byte_in(
 }
 
 /// An atom that is a datum of its own.
-fn whole(state: &mut State, atom: Atom, spot: Spot) -> Mem<()>
+fn whole(alloc: Global, state: &mut State, atom: Atom, spot: Spot) -> Mem<()>
     ensures { OnOk result (state_of state.new ≡ model.completed (atom_datum (model.at (spot_of spot)) (spelled (leaf_of atom))) (data_of state.old.items.items) (stack_of state.old.stack.items)) }
 {
     let datum = make_atom(atom, spot);
@@ -344,7 +351,7 @@ fn whole(state: &mut State, atom: Atom, spot: Spot) -> Mem<()>
         state.items.push(datum)?;
         return Ok(());
     }
-    complete(state, Tail::Datum(datum))?;
+    complete_open(alloc, state, Tail::Datum(datum))?;
     Ok(())
 }
 
@@ -353,7 +360,7 @@ fn atom(alloc: Global, state: &mut State, atom: Atom, spot: Spot) -> Result<(), 
     ensures { Moves (state_of state.new) result (model.atoms (leaf_of atom) (spot_of spot) (data_of state.old.items.items) (stack_of state.old.stack.items)) }
 {
     match begin(state.stack.as_slice(), spot) {
-        Ok(()) => Ok(whole(state, atom, spot)?),
+        Ok(()) => Ok(whole(alloc, state, atom, spot)?),
         Err(refusal) => Ok(refused_atom(alloc, state, atom, spot, refusal)?),
     }
 }

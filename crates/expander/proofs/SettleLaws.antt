@@ -16,11 +16,12 @@ use Rattle.syntax_tree.specs.Works.{StandsFor}
 use Rattle.syntax_tree.specs.declared.trees.Work.{Work}
 use Rattle.syntax_tree.specs.declared.trees.nodes.Tree as number
 use Rattle.syntax_tree.specs.declared.trees.table.Region.{Region}
+use Rattle.core_forms.specs.declared.shape.CoreKeyword as code_keyword
 use Rattle.core_tree.specs.declared.cores.Target as code_target
 use Rattle.expander.specs.State.{Stands}
 use Rattle.expander.specs.Used.{UseFor}
 use Rattle.expander.specs.Outcomes.{Stays, EndsHere, WorksOn, IsEnough}
-use Rattle.expander.specs.Ready.{IsSettled, IsMacroKeyword, Settles}
+use Rattle.expander.specs.Ready.{IsSettled, IsMacroKeyword, Settles, come_to}
 use Rattle.expander.specs.Searched.{searched}
 use Rattle.expander.specs.declared.fault.ExpandFault.{ExpandFault}
 use Rattle.expander.specs.declared.fault.ExpandFault.TheVariants as fault
@@ -133,9 +134,9 @@ so_far_uses known depth old mid new region u w v ls fs form next here later x p 
 
 -- a use that failed
 pub so_far_fails : (known : Known) (depth turns : ℕ) (old mid new : Work) (region : Region) (u w v : UnitScope) (ls : List Frames) (fs : Frames) (form : number.Tree) (here : Option Occ) (x : code_target.Target) (p : Result Core Broken × ScopedState)
-    (so : SoFar known depth old mid region u w ls fs form here p) (at : UseAt known mid so.state fs so.tree x) (r : Result (number.Tree × Option Occ) ExpandFault) (e : ExpandFault) → IsErrAnd r (λ f. f ≡ e) →
+    (so : SoFar known depth old mid region u w ls fs form here p) (at : UseAt known mid so.state fs so.tree x) (r : Result (number.Tree × Option Occ × Option (code_keyword.CoreKeyword × code_target.Target)) ExpandFault) (e : ExpandFault) → IsErrAnd r (λ f. f ≡ e) →
     EndsHere (WorksOn new region) mid new region w v ls (Err e) (use_of (searched known) here fs at.keyword at.macro at.parts at.tail so.state) →
-    Settles known depth turns old new region u v ls fs r p
+    Settles known depth turns old new region u v ls fs (come_to r) p
 so_far_fails known depth turns old mid new region u w v ls fs form here x p so at (Ok y) e is h = absurd is
 so_far_fails known depth turns old mid new region u w v ls fs form here x p so at (Err f) e is h =
     subst (λ (g : ExpandFault). Settles known depth turns old new region u v ls fs (Err g) p) (sym is) (go e h)

@@ -16,6 +16,7 @@ use Rattle.scheme_model.specs.CountedExpansion.{means_here}
 use Rattle.core_tree.specs.Names.{IsTarget}
 use Rattle.core_tree.specs.declared.cores.Target as code_target
 use Rattle.syntax_tree.specs.Looks.{PartsStand, AllNamed}
+use Rattle.syntax_tree.specs.Works.{StandsFor}
 use Rattle.syntax_tree.specs.declared.trees.Work.{Work}
 use Rattle.syntax_tree.specs.declared.trees.nodes.Tree as number
 use Rattle.syntax_tree.specs.declared.trees.table.Region.{Region}
@@ -28,10 +29,13 @@ use Rattle.core_tree.specs.Traces.{IsFault}
 use Rattle.std.specs.declared.alloc.Global.{Global}
 use Rattle.expander.specs.Counts.{plain_fault, Begins}
 use Rattle.expander.specs.CoreSteps.{core_step, IsLeft}
-use Rattle.expander.specs.Outcomes.{Stays, Leaves, MayFill, Breaks, WorksOn, IsEnough, IsEnoughBelow}
+use Rattle.expander.specs.State.{Stands}
+use Rattle.expander.specs.Outcomes.{At, Stays, Leaves, MayFill, Breaks, WorksOn, IsEnough, IsEnoughBelow}
 use Rattle.expander.specs.Passed.{ShapeFits}
 use Rattle.expander.specs.Searched.{searched}
 use Rattle.expander.specs.declared.expressions.At as code_at
+use Rattle.expander.specs.declared.expressions.Headed as code_headed
+use Rattle.expander.specs.declared.expressions.Headed.TheVariants as headed
 use Rattle.expander.specs.declared.expressions.Ready as code_ready
 use Rattle.expander.specs.declared.expressions.Ready.TheVariants as ready
 use Rattle.expander.specs.declared.fault.ExpandFault.{ExpandFault}
@@ -94,6 +98,17 @@ IsCoreKeyword work known s fs t (Some k) =
     (i : Identifier) × (p : Option Occ) × (ts : Trees Identifier) × (tail : Tail Identifier) × (o : Option Occ) × (c : CoreKeyword)
     × (t ≡ list (tree (name i p) ts) tail o) × (keyword_as k.0 ≡ Some c) × (head_of (searched known) fs s i ≡ IsCore c) × IsTarget work.symbols s.unit s.form k.1 (target_of (searched known) fs s i p)
 
+-- what stands at the head: the keyword of a macro, that of a core form, or neither
+abbrev pub IsHeaded : Work → Known → ScopedState → Frames → Tree Identifier → code_headed.Headed → Type 0
+IsHeaded work known s fs t (headed.Macro keyword) = IsMacroKeyword work known s fs t (Some keyword)
+IsHeaded work known s fs t (headed.Core core keyword) = IsSettled known s fs t × IsCoreKeyword work known s fs t (Some (core, keyword))
+IsHeaded work known s fs t headed.Plain = IsSettled known s fs t × IsPlain known s fs t
+
+-- the keyword of a core form at the head of a form of the code, or that there is none
+abbrev pub HasCore : Work → UnitScope → (scope : ℕ) → number.Tree → Option (code_keyword.CoreKeyword × code_target.Target) → Type 0
+HasCore work u scope form core =
+    (known : Known) (ls : List Frames) (s : ScopedState) (fs : Frames) (t : Tree Identifier) → Stands work u ls s → At ls scope fs → StandsFor work form t → IsCoreKeyword work known s fs t core
+
 -- the parts of a call, or that they are none
 abbrev pub IsCall : List number.Tree → Option number.Tree → Option Occ → Result (Vec number.Tree Global) ExpandFault → Type 0
 IsCall ns tail here (Ok parts) = (parts.items ≡ ns) × (tail ≡ None) × (ns ≡ [] → ⊥)
@@ -114,6 +129,11 @@ Settles known depth turns old new region u v ls fs (Ok x) p =
 Settles known depth turns old new region u v ls fs (Err (fault.At e)) p = Stays old new region u v ls p.1 × ((b : Broken) × (p.0 ≡ Err b) × IsFault new.symbols p.1.unit p.1.form e b)
 Settles known depth turns old new region u v ls fs (Err fault.Full) p = Leaves old new region u × MayFill old u
 Settles known depth turns old new region u v ls fs (Err fault.Memory) p = Leaves old new region u
+
+-- the form that is come to and its place, whatever stands at its head
+abbrev pub come_to : Result (number.Tree × Option Occ × Option (code_keyword.CoreKeyword × code_target.Target)) ExpandFault → Result (number.Tree × Option Occ) ExpandFault
+come_to (Ok x) = Ok (x.0, x.1)
+come_to (Err e) = Err e
 
 -- ---- an expression that was read
 

@@ -50,7 +50,7 @@ impl UnitScope {
         ensures { IfOk result (λ p. Binds self.old self.new scope names.now p.0 p.1.items) }
     {
         let inner = self.env.child(scope)?;
-        let mut binders = Vec::new(self.alloc);
+        let mut binders = Vec::with_capacity(self.alloc, names.len())?;
         for name in names {
             let binder = self.take_local(*name);
             self.env

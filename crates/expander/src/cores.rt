@@ -84,7 +84,7 @@ impl UnitScope {
             Runs (λ ls cs ms. CoresStand work.new self.new.unit self.new.form.number cs.items ms) work.old work.new region.now self.old self.new at.scope result (λ known fs. each_of (λ t. expand (searched known) turns at.depth at.here fs (whole t)) ts) }
         ensures locals { OnOk result (Spends 0 self.old self.new) }
     {
-        let mut cores = Vec::new(alloc);
+        let mut cores = Vec::with_capacity(alloc, parts.len())?;
         for part in parts {
             let core = self.expand(alloc, work, region, at, *part)?;
             cores.push(core)?;
@@ -214,7 +214,7 @@ impl UnitScope {
             Runs (λ ls xs ms. ClausesStand work.new self.new.unit self.new.form.number xs.items ms) work.old work.new region.now self.old self.new at.scope result (λ known fs. clauses (expand (searched known) turns) (searched known) at.depth at.here fs cs) }
         ensures locals { OnOk result (Spends 0 self.old self.new) }
     {
-        let mut all = Vec::new(alloc);
+        let mut all = Vec::with_capacity(alloc, shapes.len())?;
         for clause in shapes {
             let next = self.procedure(alloc, work, region, at, clause)?;
             all.push(next)?;
@@ -268,7 +268,7 @@ impl UnitScope {
             Runs (λ ls ps ms. PartsOfCores work.new self.new.unit self.new.form.number ps.items ms) work.old work.new region.now self.old self.new at.scope result (λ known fs. parts (item_part (expand (searched known) turns) (searched known) at.depth fs) is) }
         ensures locals { OnOk result (Spends 0 self.old self.new) }
     {
-        let mut parts = Vec::new(alloc);
+        let mut parts = Vec::with_capacity(alloc, aside.len())?;
         for kept in aside {
             let part = self.expand_kept_item(alloc, work, region, at, kept)?;
             parts.push(part)?;
@@ -404,7 +404,7 @@ impl UnitScope {
         ensures locals { OnOk result (Spends 0 self.old self.new) }
     {
         let below = self.below(at, 1)?;
-        let mut parts = Vec::new(alloc);
+        let mut parts = Vec::with_capacity(alloc, forms.len())?;
         for form in forms {
             let core = self.expand(alloc, work, region, below, *form)?;
             parts.push(CorePart::Expression(core))?;

@@ -25,7 +25,7 @@ ghost use Rattle.expander.specs.State.{Stands};
 ghost use Rattle.expander.specs.Outcomes.{At as Stand, CanLook, EndsHere, IsAtWork, WorksOn, IsEnough};
 ghost use Rattle.expander.specs.Defining.{HasNumber};
 ghost use Rattle.expander.specs.Stepped.{with_keyword};
-ghost use Rattle.expander.specs.Ready.{IsSettled, IsMacroKeyword, IsCoreKeyword, IsCall, Prepares, Settles, Reads, TestsVariable, passed, BeginsBelow};
+ghost use Rattle.expander.specs.Ready.{IsSettled, IsHeaded, HasCore, IsCall, Prepares, Settles, come_to, Reads, TestsVariable, passed, BeginsBelow};
 
 use crate::counting::{code, fails, fails_with, misread};
 use crate::fault::ExpandFault;
@@ -59,6 +59,14 @@ pub enum Ready {
     Call(Vec<Tree>),
     /// A core form whose parts are to be expanded.
     Shape(CoreKeyword, CoreShape),
+}
+
+/// What stands at the head of a form: the keyword of a macro, that of a core form, or neither.
+#[derive(Clone, Copy, Debug)]
+pub enum Headed {
+    Macro(Target),
+    Core(CoreKeyword, Target),
+    Plain,
 }
 
 /// The parts of a call: a proper list of one tree or more.
@@ -97,17 +105,18 @@ impl UnitScope {
             Prepares known at.depth work.old work.new region.now self.old self.new ls fs result (expand (searched known) turns at.depth at.here fs (whole t) s) }
         ensures locals { OnOk result (self.new.form.budget.locals ≡ self.old.form.budget.locals) }
     {
-        let (form, here) = self.settle(alloc, work, region, at, form)?;
+        let (form, here, core) = self.settle(alloc, work, region, at, form)?;
         let at = At {
             scope: at.scope,
             here,
             depth: at.depth,
         };
-        let ready = self.read(alloc, work, at, form)?;
+        let ready = self.read(alloc, work, at, form, core)?;
         Ok((here, ready))
     }
 
-    /// Uses macros until none is at the head: the form that is come to, and the place of the innermost form read around it.
+    /// Uses macros until none is at the head: the form that is come to, the place of the innermost form read around it, and the
+    /// keyword at its head, where that is one of a core form.
     fn settle(
         &mut self,
         alloc: Global,
@@ -115,28 +124,34 @@ impl UnitScope {
         region: &Region,
         at: At,
         form: Tree,
-    ) -> Result<(Tree, Option<Occ>), ExpandFault>
+    ) -> Result<(Tree, Option<Occ>, Option<(CoreKeyword, Target)>), ExpandFault>
         requires opened { IsOpened work.old region.now }
         requires look { CanLook work.old self.old at.scope }
         requires form { IsAtWork work.old region.now form }
         ensures settled { (known : Known) (turns : ℕ) (ls : List Frames) (s : ScopedState) (fs : Frames) (t : ModelTree Identifier) → Knows self.old.libraries known → Stands work.old self.old ls s → Stand ls at.scope fs →
             WorksOn work.old region.now form t → IsEnough at.depth self.old.form.budget.uses turns →
-            Settles known at.depth turns work.old work.new region.now self.old self.new ls fs result (expand (searched known) turns at.depth at.here fs (whole t) s) }
+            Settles known at.depth turns work.old work.new region.now self.old self.new ls fs (come_to result) (expand (searched known) turns at.depth at.here fs (whole t) s) }
+        ensures head { IfOk result (λ x. HasCore work.new self.new at.scope x.0 x.2) }
         ensures locals { OnOk result (self.new.form.budget.locals ≡ self.old.form.budget.locals) }
     {
         let mut form = form;
         let mut here = here_at(work, form, at.here);
-        while let Some(keyword) = self.macro_keyword(work, at.scope, form) {
-            let use_at = Use {
-                scope: at.scope,
-                here,
-                keyword,
-                form,
-            };
-            form = self.make_use(alloc, work, region, use_at)?;
-            here = here_at(work, form, here);
+        'uses: loop {
+            match self.headed(work, at.scope, form) {
+                Headed::Macro(keyword) => {
+                    let use_at = Use {
+                        scope: at.scope,
+                        here,
+                        keyword,
+                        form,
+                    };
+                    form = self.make_use(alloc, work, region, use_at)?;
+                    here = here_at(work, form, here);
+                }
+                Headed::Core(core, keyword) => return Ok((form, here, Some((core, keyword)))),
+                Headed::Plain => return Ok((form, here, None)),
+            }
         }
-        Ok((form, here))
     }
 
     /// Makes a macro use: the tree that it gives.
@@ -162,27 +177,37 @@ impl UnitScope {
         self.apply(alloc, work, region, at, &same)
     }
 
-    /// The keyword of a form, where it is a macro use.
-    fn macro_keyword(&self, work: &Work, scope: ScopeNo, form: Tree) -> Option<Target>
+    /// What stands at the head of a form.
+    fn headed(&self, work: &Work, scope: ScopeNo, form: Tree) -> Headed
         requires look { CanLook work.now self.now scope }
         requires form { IsStanding work.now form }
         ensures { (known : Known) (ls : List Frames) (s : ScopedState) (fs : Frames) (t : ModelTree Identifier) → Stands work.now self.now ls s → Stand ls scope fs → StandsFor work.now form t →
-            IsMacroKeyword work.now known s fs t result }
+            IsHeaded work.now known s fs t result }
     {
-        let name = head_name(work, form)?;
+        let Some(name) = head_name(work, form) else {
+            return Headed::Plain;
+        };
         let keyword = self.target(work, scope, name);
         match self.head_by(work, keyword.meaning) {
-            Head::Macro => Some(keyword),
-            Head::Core(_) => None,
-            Head::Auxiliary(_) => None,
-            Head::Other => None,
+            Head::Macro => Headed::Macro(keyword),
+            Head::Core(core) => Headed::Core(core, keyword),
+            Head::Auxiliary(_) => Headed::Plain,
+            Head::Other => Headed::Plain,
         }
     }
 
     /// Reads an expression without a macro at its head.
-    fn read(&mut self, alloc: Global, work: &Work, at: At, form: Tree) -> Result<Ready, ExpandFault>
+    fn read(
+        &mut self,
+        alloc: Global,
+        work: &Work,
+        at: At,
+        form: Tree,
+        core: Option<(CoreKeyword, Target)>,
+    ) -> Result<Ready, ExpandFault>
         requires look { CanLook work.now self.old at.scope }
         requires form { IsStanding work.now form }
+        requires head { HasCore work.now self.old at.scope form core }
         ensures read { (known : Known) (region : AnyRegion) (ls : List Frames) (s : ScopedState) (fs : Frames) (t : ModelTree Identifier) → Knows self.old.libraries known → Stands work.now self.old ls s →
             Stand ls at.scope fs → WorksOn work.now region form t → IsSettled known s fs t →
             Reads known at.depth at.here work.now region self.old self.new ls fs result (λ f. expression f (searched known) at.depth at.here fs t s) }
@@ -195,7 +220,7 @@ impl UnitScope {
             Look::Name(_) => Ok(Ready::Core(self.constant(work, at, form)?)),
             Look::Atom(_) => Ok(Ready::Core(self.constant(work, at, form)?)),
             Look::Vector(_) => Ok(Ready::Core(self.quote(work, at, form)?)),
-            Look::List(items, tail) => self.read_list(alloc, work, at, form, items, tail),
+            Look::List(items, tail) => self.read_list(alloc, work, at, form, core, items, tail),
         }
     }
 
@@ -206,40 +231,25 @@ impl UnitScope {
         work: &Work,
         at: At,
         form: Tree,
+        core: Option<(CoreKeyword, Target)>,
         items: &[Tree],
         tail: Option<Tree>,
     ) -> Result<Ready, ExpandFault>
         requires look { CanLook work.now self.old at.scope }
         requires form { (ts : Trees Identifier) × (end : Tail Identifier) × (o : Option Occ) × StandsFor work.now form (list ts end o) × PartsStand work.now items.now ts × EndStands work.now tail end }
+        requires head { HasCore work.now self.old at.scope form core }
         ensures read { (known : Known) (region : AnyRegion) (ls : List Frames) (s : ScopedState) (fs : Frames) (ts : Trees Identifier) (end : Tail Identifier) (o : Option Occ) →
             Knows self.old.libraries known → Stands work.now self.old ls s → Stand ls at.scope fs → WorksOn work.now region form (list ts end o) → PartsStand work.now items.now ts →
             EndStands work.now tail end → AllNamed work.now region items.now → IsSettled known s fs (list ts end o) →
             Reads known at.depth at.here work.now region self.old self.new ls fs result (λ f. expression f (searched known) at.depth at.here fs (list ts end o) s) }
         ensures locals { OnOk result (self.new.form.budget.locals ≡ self.old.form.budget.locals) }
     {
-        match self.core_keyword(work, at.scope, form) {
+        match core {
             Some((core, keyword)) => {
                 self.meet_keyword(keyword)?;
                 self.read_form(alloc, work, at, core, form)
             }
             None => Ok(Ready::Call(call_parts(alloc, at.here, items, tail)?)),
-        }
-    }
-
-    /// The keyword of a form, where it is that of a core form.
-    fn core_keyword(&self, work: &Work, scope: ScopeNo, form: Tree) -> Option<(CoreKeyword, Target)>
-        requires look { CanLook work.now self.now scope }
-        requires form { IsStanding work.now form }
-        ensures { (known : Known) (ls : List Frames) (s : ScopedState) (fs : Frames) (t : ModelTree Identifier) → Stands work.now self.now ls s → Stand ls scope fs → StandsFor work.now form t →
-            IsCoreKeyword work.now known s fs t result }
-    {
-        let name = head_name(work, form)?;
-        let keyword = self.target(work, scope, name);
-        match self.head_by(work, keyword.meaning) {
-            Head::Core(core) => Some((core, keyword)),
-            Head::Auxiliary(_) => None,
-            Head::Macro => None,
-            Head::Other => None,
         }
     }
 

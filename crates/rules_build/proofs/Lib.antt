@@ -18,3 +18,5 @@ pub mod AddSteps  -- The steps by which the nodes of a plan are added
 pub mod WholeSteps  -- The plan of a whole template, and the instance that is built of it
 pub mod BuildSteps  -- How building ends, by what its plan says and what adding the plan's nodes leaves
 pub mod WalkSteps  -- The arms of the walk over a template
+pub mod RowLaws  -- What the bindings of one variable say, and which bindings of few stand in a part of a template
+pub mod RowSteps  -- The plans of the values of a variable, one after another

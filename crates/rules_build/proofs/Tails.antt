@@ -1,9 +1,9 @@
 -- Tails by number, and rows of ellipses.
-use Rattle.std.proofs.Common.{◌≡◌, ℕ, suc, ◌+◌, ◌≤◌, Bool, true, false, Option, Some, None, refl, ap, ◌∙◌, subst, arith}
+use Rattle.std.proofs.Common.{◌≡◌, ℕ, suc, ◌+◌, ◌≤◌, Bool, true, false, Option, Some, None, refl, sym, ap, ◌∙◌, subst, arith}
 use Rattle.std.specs.Prelude.{if◌then◌else◌}
 use Rattle.std.proofs.lemmas.Option.{same_Some}
-use Rattle.scheme_model.specs.Trees.{Tree, Trees, no_trees, tree, Tail, proper, dotted}
-use Rattle.scheme_model.specs.RulesShape.{is_dots, leading}
+use Rattle.scheme_model.specs.Trees.{Tree, name, atom, list, vector, Trees, no_trees, tree, Tail, proper, dotted}
+use Rattle.scheme_model.specs.RulesShape.{is_dots, starts_dots, leading, nowhere}
 use Rattle.scheme_model.specs.Ident.{Ident as Identifier}
 use Rattle.scheme_model.specs.Measures.{tail_depth}
 use Rattle.syntax_tree.specs.Standing.{is_list}
@@ -39,3 +39,14 @@ leading_more dots ts t us e h =
 
 pub leading_none : (dots : Identifier → Bool) (ts : Trees Identifier) → ts ≡ no_trees → leading dots ts ≡ 0
 leading_none dots ts e = ap (leading dots) e
+
+pub not_leading : (dots : Identifier → Bool) (ts : Trees Identifier) → starts_dots dots ts ≡ false → 0 ≡ leading dots ts
+not_leading dots no_trees h = refl
+not_leading dots (tree t ts) h = sym (leading_stop dots (tree t ts) t ts refl h)
+
+pub starts_nowhere : (ts : Trees Identifier) → starts_dots nowhere ts ≡ false
+starts_nowhere no_trees = refl
+starts_nowhere (tree (name i o) ts) = refl
+starts_nowhere (tree (atom a o) ts) = refl
+starts_nowhere (tree (list us tail o) ts) = refl
+starts_nowhere (tree (vector us o) ts) = refl

@@ -63,7 +63,7 @@ escape_there dots (tree t (tree u (tree v vs))) tail h = absurd cc
 
 module _ (work : Work) (region : Region) (k : Number) where
   -- more plans, after others
-  both_plans : (old mid new : Option ℕ) (ps qs rs : List Plan) (a b : Built (Trees Identifier)) → mid ≡ spent old a.count → (IsSome mid → ArePlansOf work region k ps qs a) → new ≡ spent mid b.count → (IsSome new → ArePlansOf work region k qs rs b) →
+  pub both_plans : (old mid new : Option ℕ) (ps qs rs : List Plan) (a b : Built (Trees Identifier)) → mid ≡ spent old a.count → (IsSome mid → ArePlansOf work region k ps qs a) → new ≡ spent mid b.count → (IsSome new → ArePlansOf work region k qs rs b) →
       (new ≡ spent old (joined a b).count) × (IsSome new → ArePlansOf work region k ps rs (joined a b))
   both_plans old mid new ps qs rs a b e p f q = (
     f ∙ ap (λ (x : Option ℕ). spent x b.count) e ∙ spent_on old a.count b.count,

@@ -1,16 +1,19 @@
 -- How building ends.
-use Rattle.std.specs.Prelude.{◌≡◌, ℕ, ◌+◌, ◌≤◌, List, Bool, true, false, Option, Some, None, Result, Ok, Err, IsSome}
+use Rattle.std.specs.Prelude.{◌≡◌, ℕ, ◌+◌, ◌≤◌, List, [], ◌∷◌, Bool, true, false, Option, Some, None, Result, Ok, Err, IsSome}
+use Rattle.std.specs.Borrow.{Bor}
 use Rattle.scheme_model.specs.Identifiers.{Number}
-use Rattle.scheme_model.specs.Trees.{Tree, Trees}
+use Rattle.scheme_model.specs.declared.Occ.{Occ}
+use Rattle.scheme_model.specs.Trees.{Tree, name, Trees}
 use Rattle.scheme_model.specs.RulesShape.{Rules, dots_of, nowhere}
 use Rattle.scheme_model.specs.Measures.{tree_size, tree_depth}
 use Rattle.scheme_model.specs.ExpansionFaults.{Fault, EllipsisLength, NodeBudget, DepthBudget}
-use Rattle.scheme_model.specs.Matching.{Binding, Chosen}
-use Rattle.scheme_model.specs.Building.{Built, Template, build}
+use Rattle.scheme_model.specs.Matching.{Many, Values, Binding, Chosen}
+use Rattle.scheme_model.specs.Building.{Built, Template, used_in, build}
 use Rattle.scheme_model.specs.Ident.{Ident as Identifier, Inserted, same_ident}
 use Rattle.ls_base.specs.Limits.{max_tree_nodes, max_tree_depth}
 use Rattle.syntax_tree.specs.Works.{StandsFor, live_count}
-use Rattle.syntax_tree.specs.Macros.{identifiers, TellsRoles}
+use Rattle.syntax_tree.specs.Macros.{identifiers, IsIdent, TellsRoles}
+use Rattle.syntax_tree.specs.declared.rules.Binding as code_binding
 use Rattle.syntax_tree.specs.declared.trees.Work.{Work}
 use Rattle.syntax_tree.specs.declared.trees.table.Region.{Region}
 use Rattle.syntax_tree.specs.declared.trees.nodes.Tree as number
@@ -19,7 +22,7 @@ use Rattle.rules_build.specs.declared.fault.BuildFault.TheVariants as fault
 use Rattle.rules_build.specs.declared.plan.Plan.{Plan}
 use Rattle.rules_build.specs.declared.walk.Walk.{Walk}
 use Rattle.rules_build.specs.declared.values.Bound as code
-use Rattle.rules_build.specs.Values.{AreBound}
+use Rattle.rules_build.specs.Values.{AreBound, AreValuesOf}
 use Rattle.rules_build.specs.Drafts.{spent, IsPlanOf, ArePlansOf}
 
 -- identifiers of a template are marked by a use
@@ -55,6 +58,27 @@ Plans work region k old new s (Err e) = Fails s e
 abbrev pub PlansAll : Work → Region → Number → Option ℕ → Option ℕ → List Plan → List Plan → Option (Built (Trees Identifier)) → Result (Unit {0}) BuildFault → Type 0
 PlansAll work region k old new ps qs s (Ok done) = (b : Built (Trees Identifier)) × (s ≡ Some b) × (new ≡ spent old b.count) × (IsSome new → ArePlansOf work region k ps qs b)
 PlansAll work region k old new ps qs s (Err e) = Fails s e
+
+-- a variable with these values alone
+abbrev pub one_row : Identifier → Values Identifier → List (Binding Identifier Identifier)
+one_row i vs = record { variable = i; value = Many vs } ∷ []
+
+-- a part under one ellipsis is this identifier, and the one binding that it looks at has these values
+pub record IsRowOf (work : Work) (region : Region) (times : ℕ) (t : Tree Identifier) (ms : List (Binding Identifier Identifier)) (id : ℕ) (row : List code_binding.Binding) : Type 0 where
+  pub once : times ≡ 1
+  pub ident : Identifier
+  pub place : Option Occ
+  pub whole : t ≡ name ident place
+  pub is : IsIdent work.symbols id ident
+  pub variable : Identifier
+  pub values : Values Identifier
+  pub same : same_ident variable ident ≡ true
+  pub used : used_in same_ident t ms ≡ one_row variable values
+  pub are : AreValuesOf work region row values
+
+abbrev pub IsRow : Work → Region → ℕ → Tree Identifier → List (Binding Identifier Identifier) → Option (ℕ × Bor (List code_binding.Binding)) → Type 0
+IsRow work region times t ms None = Unit {0}
+IsRow work region times t ms (Some row) = IsRowOf work region times t ms row.0 row.1.now
 
 -- ---- the whole
 

@@ -71,6 +71,11 @@ abbrev pub value_by_number : List code.Bound → ℕ → Option code_value.Value
 value_by_number [] n = None
 value_by_number (b ∷ bs) n = if nat_eq n b.variable then Some b.value else value_by_number bs n
 
+-- what the bindings of a number say
+abbrev pub values_by_number : List code.Bound → ℕ → List code_value.Value
+values_by_number [] n = []
+values_by_number (b ∷ bs) n = if nat_eq n b.variable then b.value ∷ values_by_number bs n else values_by_number bs n
+
 abbrev items_of : Option (Vec ℕ Global) → List ℕ
 items_of None = []
 items_of (Some v) = v.items
@@ -105,7 +110,7 @@ pub record AreMapsOf (bounds : List code.Bound) (maps : code_maps.Maps) : Type 0
 
 -- the bindings as they stand, or maps of them
 abbrev pub IsIndexOf : List code.Bound → code_index.Index → Type 0
-IsIndexOf bounds (shape.Few few) = few.items ≡ bounds
+IsIndexOf bounds (shape.Few few) = few.now ≡ bounds
 IsIndexOf bounds (shape.Many maps) = AreMapsOf bounds maps
 
 -- lengths differ, and nothing else is answered

@@ -79,7 +79,7 @@ fn add_all(
     ensures { (ds : Drafts) → AreDrafts work.old region.now plans.now ds →
         AddsAll work.old work.new region.now (number_of number) (all_make ds) (row_of (number_of number) ds no_trees) result }
 {
-    let mut items = Vec::new(alloc);
+    let mut items = Vec::with_capacity(alloc, plans.len())?;
     for plan in plans {
         let item = add_plan(alloc, work, region, plan, number)?;
         items.push(item)?;

@@ -1,5 +1,5 @@
 //! What variables stand for, by number, so that an identifier is not compared with each of many.
-ghost use Rattle.std.specs.Prelude.{◌≡◌, ◌||◌, ◌&&◌, ℕ, nat_eq, List, IfOk, OnOk};
+ghost use Rattle.std.specs.Prelude.{◌≡◌, ◌||◌, ◌&&◌, ℕ, nat_eq, List, [], ◌∷◌, Some, IfOk, OnOk};
 ghost use Rattle.std.specs.List.{list_any};
 ghost use Rattle.std.specs.BTreeSet.{contains};
 ghost use Rattle.std.specs.Ordering.{nat_cmp};
@@ -10,7 +10,8 @@ ghost use Rattle.syntax_tree.specs.Names.{AreToldApart};
 ghost use Rattle.syntax_tree.specs.Macros.{IsIdent};
 ghost use Rattle.syntax_tree.specs.declared.trees.Work.{Work};
 ghost use Rattle.syntax_tree.specs.declared.trees.table.Region.{Region};
-ghost use Rattle.rules_build.specs.Values.{AreBound, IsFound, IsIndexOf, AreMapsOf, ArePlaces, places_at, has_at, value_by_number};
+ghost use Rattle.rules_build.specs.Values.{AreBound, IsFound, IsIndexOf, AreMapsOf, ArePlaces, places_at, has_at, value_by_number, values_by_number};
+ghost use Rattle.rules_build.specs.declared.values.Value.{Value as AnyValue};
 ghost use Rattle.rules_build.specs.declared.values.Bound.{Bound as AnyBound};
 
 use crate::values::{Bound, Value};
@@ -25,7 +26,7 @@ const FEW: usize = 8;
 /// Bindings, by which a variable is found: a few as they stand, or maps of them.
 #[derive(Drop)]
 pub enum Index<'a> {
-    Few(Vec<Bound<'a>>),
+    Few(&'a [Bound<'a>]),
     Many(Maps<'a>),
 }
 
@@ -38,11 +39,11 @@ pub struct Maps<'a> {
 }
 
 /// The index of bindings.
-pub fn index_of<'a>(alloc: Global, bounds: &[Bound<'a>]) -> Mem<Index<'a>>
+pub fn index_of<'a>(alloc: Global, bounds: &'a [Bound<'a>]) -> Mem<Index<'a>>
     ensures { IfOk result (λ index. IsIndexOf bounds.now index) }
 {
     if bounds.len() <= FEW {
-        return Ok(Index::Few(Vec::from_slice(alloc, bounds)?));
+        return Ok(Index::Few(bounds));
     }
     Ok(Index::Many(maps_of(alloc, bounds)?))
 }
@@ -114,32 +115,34 @@ fn first_of<'a>(bounds: &[Bound<'a>], id: IdNo) -> Option<Value<'a>>
     None
 }
 
-/// The places of the bindings of some variables.
-pub fn places_among(alloc: Global, index: &Index, names: &BTreeSet<IdNo>) -> Mem<BTreeSet<usize>>
-    ensures { (bounds : List AnyBound) (q : ℕ) → IsIndexOf bounds index.now →
-        IfOk result (λ places. contains nat_cmp places q ≡ has_at (contains nat_cmp names.now) bounds q) }
+/// What the only binding of a variable says, where there are few.
+pub fn only_value<'a>(index: &Index<'a>, id: IdNo) -> Option<Value<'a>>
+    ensures { (bounds : List AnyBound) (v : AnyValue) → IsIndexOf bounds index.now → result ≡ Some v → values_by_number bounds id ≡ v ∷ [] }
 {
     match index {
-        Index::Few(bounds) => Ok(places_in_row(alloc, bounds, names)?),
-        Index::Many(maps) => Ok(places_in(alloc, &maps.places, names)?),
+        Index::Few(bounds) => only_of(bounds, id),
+        Index::Many(_) => None,
     }
 }
 
-/// The places of some variables among bindings.
-fn places_in_row(alloc: Global, bounds: &[Bound], names: &BTreeSet<IdNo>) -> Mem<BTreeSet<usize>>
-    ensures { (q : ℕ) → IfOk result (λ places. contains nat_cmp places q ≡ has_at (contains nat_cmp names.now) bounds.now q) }
+/// What the only one of some bindings that is of this variable says.
+fn only_of<'a>(bounds: &[Bound<'a>], id: IdNo) -> Option<Value<'a>>
+    ensures { (v : AnyValue) → result ≡ Some v → values_by_number bounds.now id ≡ v ∷ [] }
 {
-    let mut places = BTreeSet::new(alloc);
-    for k in 0..bounds.len() {
-        if names.contains(&bounds[k].variable) {
-            places.insert(k)?;
+    let mut only = None;
+    for bound in bounds {
+        if bound.variable == id {
+            if only.is_some() {
+                return None;
+            }
+            only = Some(bound.value);
         }
     }
-    Ok(places)
+    only
 }
 
 /// The places that a map has of some variables.
-fn places_in(
+pub fn places_in(
     alloc: Global,
     all: &BTreeMap<IdNo, Vec<usize>>,
     names: &BTreeSet<IdNo>,

@@ -10,9 +10,9 @@ ghost use Rattle.syntax_tree.specs.Looks.{StandsWithin, PartsWithin, PartsStand}
 ghost use Rattle.syntax_tree.specs.Macros.{IsIdent};
 ghost use Rattle.syntax_tree.specs.Works.{StandsFor};
 ghost use Rattle.syntax_tree.specs.declared.trees.table.Region.{Region};
-ghost use Rattle.rules_build.specs.Values.{AreBound, IsIndexOf, bounds_at};
+ghost use Rattle.rules_build.specs.Values.{AreBound, AreMapsOf, IsIndexOf, bounds_at};
 
-use crate::index::{Index, places_among};
+use crate::index::{Index, Maps, places_in};
 use crate::values::Bound;
 use ls_base::{Mem, Memory};
 use std::alloc::Global;
@@ -36,10 +36,92 @@ pub fn used_in<'a>(
         StandsFor work.now template t → AreBound work.now region bounds.now ms →
         IfOk result (λ used. AreBound work.now region used.items (used_in same_ident t ms)) }
 {
+    match index {
+        Index::Few(_) => Ok(used_of_few(alloc, work, template, left, bounds)?),
+        Index::Many(maps) => Ok(used_of_many(alloc, work, template, left, bounds, maps)?),
+    }
+}
+
+/// The same of a few: each is looked for in the template.
+fn used_of_few<'a>(
+    alloc: Global,
+    work: &Work,
+    template: Tree,
+    left: u32,
+    bounds: &[Bound<'a>],
+) -> Mem<Vec<Bound<'a>>>
+    requires { StandsWithin work.now template left }
+    ensures { (region : Region) (t : ModelTree Identifier) (ms : List (ModelBinding Identifier Identifier)) →
+        StandsFor work.now template t → AreBound work.now region bounds.now ms →
+        IfOk result (λ used. AreBound work.now region used.items (used_in same_ident t ms)) }
+{
+    let mut used = Vec::with_capacity(alloc, bounds.len())?;
+    for bound in bounds {
+        if stands(work, template, left, bound.variable) {
+            used.push(*bound)?;
+        }
+    }
+    Ok(used)
+}
+
+/// Whether an identifier stands in a template.
+#[cycle(stands)]
+fn stands(work: &Work, template: Tree, left: u32, id: IdNo) -> bool
+    requires { StandsWithin work.now template left }
+    ensures { (t : ModelTree Identifier) (i : Identifier) → StandsFor work.now template t → IsIdent work.now.symbols id i →
+        result ≡ stands_in same_ident i t }
+{
+    work.symbols.told_apart();
+    match look_at(work, template) {
+        Look::Name(other) => other == id,
+        Look::Atom(_) => false,
+        Look::Vector(items) => any_stands(work, items, left - 1, id),
+        Look::List(items, end) => {
+            if any_stands(work, items, left - 1, id) {
+                return true;
+            }
+            match end {
+                None => false,
+                Some(tail) => stands(work, tail, left - 1, id),
+            }
+        }
+    }
+}
+
+/// Whether an identifier stands in one of some templates.
+#[cycle(stands)]
+fn any_stands(work: &Work, items: &[Tree], left: u32, id: IdNo) -> bool
+    requires { PartsWithin work.now items.now left }
+    ensures { (ts : Trees Identifier) (i : Identifier) → PartsStand work.now items.now ts → IsIdent work.now.symbols id i →
+        result ≡ stands_among same_ident i ts }
+{
+    for item in items {
+        if stands(work, *item, left, id) {
+            return true;
+        }
+    }
+    false
+}
+
+/// The same of many: the identifiers of the template are looked up.
+fn used_of_many<'a>(
+    alloc: Global,
+    work: &Work,
+    template: Tree,
+    left: u32,
+    bounds: &[Bound<'a>],
+    maps: &Maps,
+) -> Mem<Vec<Bound<'a>>>
+    requires template { StandsWithin work.now template left }
+    requires maps { AreMapsOf bounds.now maps.now }
+    ensures { (region : Region) (t : ModelTree Identifier) (ms : List (ModelBinding Identifier Identifier)) →
+        StandsFor work.now template t → AreBound work.now region bounds.now ms →
+        IfOk result (λ used. AreBound work.now region used.items (used_in same_ident t ms)) }
+{
     work.symbols.told_apart();
     let mut names = BTreeSet::new(alloc);
     collect(work, template, left, &mut names)?;
-    let places = places_among(alloc, index, &names)?;
+    let places = places_in(alloc, &maps.places, &names)?;
     Ok(at_places(alloc, bounds, &places)?)
 }
 

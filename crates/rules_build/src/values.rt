@@ -60,7 +60,7 @@ pub fn all_bound<'a>(alloc: Global, bindings: &'a [Binding]) -> Mem<Vec<Bound<'a
     ensures { (work : Work) (region : Region) (ms : List (ModelBinding Identifier Identifier)) →
         AreManyBound work region bindings.now ms → IfOk result (λ bounds. AreBound work region bounds.items ms) }
 {
-    let mut bounds = Vec::new(alloc);
+    let mut bounds = Vec::with_capacity(alloc, bindings.len())?;
     for binding in bindings {
         bounds.push(bound_by(binding))?;
     }
@@ -106,7 +106,7 @@ pub fn first_place<'a>(alloc: Global, bounds: &[Bound<'a>]) -> Mem<Vec<Bound<'a>
     ensures { (work : Work) (region : Region) (ms : List (ModelBinding Identifier Identifier)) →
         AreBound work region bounds.now ms → IfOk result (λ here. AreBound work region here.items (first_place ms)) }
 {
-    let mut here = Vec::new(alloc);
+    let mut here = Vec::with_capacity(alloc, bounds.len())?;
     for bound in bounds {
         here.push(Bound {
             variable: bound.variable,
@@ -121,7 +121,7 @@ pub fn later_places<'a>(alloc: Global, bounds: &[Bound<'a>]) -> Mem<Vec<Bound<'a
     ensures { (work : Work) (region : Region) (ms : List (ModelBinding Identifier Identifier)) →
         AreBound work region bounds.now ms → IfOk result (λ later. AreBound work region later.items (later_places ms)) }
 {
-    let mut later = Vec::new(alloc);
+    let mut later = Vec::with_capacity(alloc, bounds.len())?;
     for bound in bounds {
         later.push(Bound {
             variable: bound.variable,

@@ -2,7 +2,6 @@
 use Rattle.std.proofs.Common.{◌≡◌, List, [], ◌∷◌, map, refl}
 use Rattle.std.specs.List.{AllZip}
 use Rattle.scope_env.specs.declared.env.Scope as kept
-use Rattle.scope_env.specs.Environment.{Scope}
 use Rattle.scope_env.specs.Kept.{scope_of}
 
 pub scopes_copied : (C : kept.Scope → kept.Scope → Type 0) → ((s t : kept.Scope) → C s t → scope_of t ≡ scope_of s) → (xs ys : List kept.Scope) → AllZip C xs ys → map scope_of ys ≡ map scope_of xs

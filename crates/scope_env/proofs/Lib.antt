@@ -7,6 +7,7 @@ pub mod Walk  -- The walk from an identifier to what it means, by way of the use
 pub mod StandingLaws  -- What an environment stands for after a change
 pub mod Added  -- An environment with a binding more, where one is given
 pub mod Fields  -- What the fields of an environment answer
+pub mod Reached  -- The scope that a walk through uses is in
 pub mod GrowthLaws  -- What an environment stands for where the tables of symbols and identifiers have grown; and locals of one form
 pub mod AroundLaws  -- Which scopes are around which
 pub mod Marking  -- Marks in a row

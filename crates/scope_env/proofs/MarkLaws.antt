@@ -106,6 +106,11 @@ module _ (l o : code.Marks) where
         (λ p is. kept.unmarked n ident s.0 s.1 (ap (λ (o' : Option ℕ). marked_for l o o' ident) is ∙ not))
         (λ p is. let older = kept.sound.older n p s.0 s.1 is in rest p older (omega arith)))
 
+    -- none from a scope outwards, where there is one to begin with
+    pub no_local_from : marked l ident ≡ false → (from : Option ℕ) → ((n : ℕ) → from ≡ Some n → n < length env.scopes) → local env from ident ≡ None
+    no_local_from not None within = refl
+    no_local_from not (Some n) within = no_local not n (within n refl)
+
     -- no unit's own scope binds it
     pub no_own : marked o ident ≡ false → (u : ℕ) → own env u ident ≡ None
     no_own not u = by (get env.roots u) refl

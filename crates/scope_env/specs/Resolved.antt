@@ -6,6 +6,8 @@ use Rattle.std.specs.Str.{bytes_eq}
 use Rattle.std.specs.FinMap.{get}
 use Rattle.scheme_model.specs.Ident.{Ident as Identifier, Written, Inserted, same_ident}
 use Rattle.syntax_tree.specs.Names.{Names}
+use Rattle.syntax_tree.specs.Numbered.{number_of}
+use Rattle.syntax_tree.specs.declared.symbols.UseNo.{UseNo}
 use Rattle.syntax_tree.specs.declared.meaning.Meaning.{Meaning}
 use Rattle.syntax_tree.specs.declared.meaning.Meaning.TheVariants.{Free}
 use Rattle.scope_env.specs.Environment.{Environment, Scope}
@@ -47,6 +49,11 @@ innermost env (n ∷ ns) ident = option_or (local_at env n ident) (innermost env
 abbrev pub local : Environment → Option ℕ → ℕ → Option Meaning
 local env None ident = None
 local env (Some scope) ident = innermost env (path env scope) ident
+
+-- the scope that a walk is in which set out from a scope: that of the last use that it went through, where there is one
+abbrev pub reached : Environment → ℕ → Option UseNo → Option ℕ
+reached env start None = Some start
+reached env start (Some k) = get env.uses (number_of k)
 
 -- ---- meanings
 

@@ -7,7 +7,7 @@ ghost use Rattle.syntax_tree.specs.Macros.{IsIdent};
 ghost use Rattle.syntax_tree.specs.Meant.{IsMeaning};
 ghost use Rattle.syntax_tree.specs.Numbered.{number_of};
 ghost use Rattle.scope_env.specs.Environment.{no_scopes, with_root, with_child, with_bound, with_added, with_use, IsSound};
-ghost use Rattle.scope_env.specs.Resolved.{local, own, bound_at, resolved};
+ghost use Rattle.scope_env.specs.Resolved.{local, own, bound_at, resolved, reached};
 ghost use Rattle.scope_env.specs.Standing.{EnvFor, StandsFor};
 ghost use Rattle.scope_env.specs.Marks.{marked, marked_for};
 ghost use Rattle.scheme_model.specs.Meaning.{of_form};
@@ -200,15 +200,47 @@ impl Env {
         self.here(scope, ident, None).is_some()
     }
 
+    /// The scope that a walk is in: the one that it set out from, or that of the last use that it went through.
+    fn reached(&self, start: ScopeNo, last: Option<UseNo>) -> Option<ScopeNo>
+        requires { start < length self.now.scopes }
+        ensures scope { result ≡ reached self.now start last }
+        ensures within { (n : ℕ) → result ≡ Some n → n < length self.now.scopes }
+    {
+        match last {
+            None => Some(start),
+            Some(number) => self.uses.get(&number).copied(),
+        }
+    }
+
+    /// What the innermost local scope that binds an identifier binds it to, where a walk came to. The scope is looked up only where
+    /// some local scope binds the identifier.
+    fn local(
+        &self,
+        start: ScopeNo,
+        last: Option<UseNo>,
+        ident: IdNo,
+        added: Option<Bound>,
+    ) -> Option<Meaning>
+        requires { start < length self.now.scopes }
+        ensures { result ≡ local (with_added self.now added) (reached self.now start last) ident }
+    {
+        if is_unmarked(&self.locals, ident, added) {
+            return None;
+        }
+        self.innermost(self.reached(start, last), ident, added)
+    }
+
     /// What the innermost local scope that binds an identifier binds it to, from a scope outwards.
-    fn local(&self, scope: Option<ScopeNo>, ident: IdNo, added: Option<Bound>) -> Option<Meaning>
+    fn innermost(
+        &self,
+        scope: Option<ScopeNo>,
+        ident: IdNo,
+        added: Option<Bound>,
+    ) -> Option<Meaning>
         requires { (n : ℕ) → scope ≡ Some n → n < length self.now.scopes }
         ensures { result ≡ local (with_added self.now added) scope ident }
     {
         let mut at = scope?;
-        if is_unmarked(&self.locals, ident, added) {
-            return None;
-        }
         loop {
             let parent = self.scopes[at].parent?;
             if let Some(meaning) = self.here(at, ident, added) {
@@ -239,10 +271,11 @@ impl Env {
             IsMeaning symbols.now unit form result (of_form unit form (means given uses c i)) }
     {
         symbols.told_apart();
-        let mut from = Some(scope);
+        self.sound();
+        let mut last = None;
         let mut at = ident;
         loop {
-            if let Some(meaning) = self.local(from, at, added) {
+            if let Some(meaning) = self.local(scope, last, at, added) {
                 return meaning;
             }
             match symbols.ident_at(at) {
@@ -253,7 +286,7 @@ impl Env {
                     if let Some(meaning) = self.own(number.unit, at, added) {
                         return meaning;
                     }
-                    from = self.uses.get(&number).copied();
+                    last = Some(number);
                     at = id;
                 }
             }

@@ -1,6 +1,7 @@
 pub mod Places  -- Lists by their places
 pub mod TableLaws  -- What the tables of symbols and identifiers stand for, as they grow
 pub mod TableSteps  -- The invariant of the tables of symbols and identifiers, kept at each call
+pub mod EntrySteps  -- What the insertion of an identifier makes of the tables, whether it is there or not
 pub mod PartLaws  -- The parts of a node, one after the other, and the measures at their numbers
 pub mod NodeLaws  -- The nodes as a map, and the vector that keeps them
 pub mod StandingLaws  -- What numbers stand for

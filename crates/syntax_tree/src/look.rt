@@ -21,6 +21,7 @@ pub enum Look<'a> {
 }
 
 /// What a tree is. Where nodes of a region may name the tree, they may name the parts that are seen. It takes no memory.
+#[inline(always)]
 pub fn look_at(work: &Work, tree: Tree) -> Look<'_>
     requires { IsStanding work.now tree }
     ensures look { (t : ModelTree Identifier) → StandsFor work.now tree t → IsLook work.now result t }

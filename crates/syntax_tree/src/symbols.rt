@@ -5,7 +5,7 @@ ghost use Rattle.std.specs.Option.{option_map};
 ghost use Rattle.scheme_model.specs.Ident.{Ident as Identifier, symbol_of};
 ghost use Rattle.syntax_tree.specs.Names.{Names, AreToldApart, KeepsNames, with_symbol, with_ident};
 ghost use Rattle.syntax_tree.specs.Numbered.{ident_of, IsPlaced};
-ghost use Rattle.syntax_tree.specs.Hashed.{packed};
+ghost use Rattle.syntax_tree.specs.Hashed.{half, written_code, inserted_code};
 
 use indexmap::{IndexMap, IndexSet};
 use ls_base::{Mem, Memory};
@@ -27,15 +27,6 @@ pub struct UseNo {
     pub count: u32,
 }
 
-impl UseNo {
-    /// Its three parts in one number, by which it is hashed.
-    fn packed(self) -> u128
-        ensures { result ≡ packed self }
-    {
-        (self.unit as u128 * 0x1_0000_0000 + self.form as u128) * 0x1_0000_0000 + self.count as u128
-    }
-}
-
 /// An identifier: a symbol written in a unit, or an identifier that a macro use inserted.
 #[derive(Clone, Copy, Debug, PartialEq, Eq, PartialOrd, Ord)]
 pub enum Ident {
@@ -52,19 +43,40 @@ impl Hash for Ident {
 
     ghost respects_eq = { Prim.search (hashing, rules) };
 
-    /// A number is hashed as one, since an identifier is looked up for each leaf of a form.
+    /// All parts are hashed as one number, since an identifier is looked up for each leaf of a form.
     fn hash<H: Hasher>(&self, state: &mut H) {
         match self {
             Ident::Written { unit, symbol } => {
-                symbol.hash(state);
-                unit.hash(state);
+                written_code(*unit, *symbol).hash(state);
             }
             Ident::Inserted { id, number } => {
-                id.hash(state);
-                number.packed().hash(state);
+                inserted_code(*id, *number).hash(state);
             }
         }
     }
+}
+
+/// The lower half of a place in a table, by which it is hashed: no table comes to have more places.
+fn half(place: usize) -> u64
+    ensures { result ≡ half place }
+{
+    (place % 0x1_0000_0000) as u64
+}
+
+/// The parts of a written identifier in one number.
+fn written_code(unit: u32, symbol: SymNo) -> u64
+    ensures { result ≡ written_code unit symbol }
+{
+    unit as u64 * 0x1_0000_0000 + half(symbol)
+}
+
+/// The parts of an inserted identifier in one number.
+fn inserted_code(id: IdNo, number: UseNo) -> u128
+    ensures { result ≡ inserted_code id number }
+{
+    let outer = half(id) * 0x1_0000_0000 + number.unit as u64;
+    let inner = number.form as u64 * 0x1_0000_0000 + number.count as u64;
+    outer as u128 * 0x1_0000_0000_0000_0000 + inner as u128
 }
 
 /// The tables of symbols and of identifiers, which only grow. Beside each identifier stands its innermost symbol.
@@ -119,6 +131,7 @@ impl Symbols {
     }
 
     /// The characters of a symbol. It takes no memory.
+    #[inline(always)]
     pub fn name(&self, symbol: SymNo) -> &str
         requires { symbol < length self.now.symbols }
         ensures { slice_get self.now.symbols symbol ≡ Some result.now }
@@ -136,15 +149,13 @@ impl Symbols {
         ensures keeps { KeepsNames self.old self.new }
         ensures err { OnErr result (self.new ≡ self.old) }
     {
-        if let Some(number) = self.idents.get_index_of(&ident) {
-            return Ok(number);
-        }
         let symbol = self.innermost(ident);
         let (number, _) = self.idents.insert_full(ident, symbol)?;
         Ok(number)
     }
 
     /// The identifier of a number. It takes no memory.
+    #[inline(always)]
     pub fn ident_at(&self, id: IdNo) -> Ident
         requires { id < length self.now.idents }
         ensures ident { slice_get self.now.idents id ≡ ident_of self.now result }
@@ -155,6 +166,7 @@ impl Symbols {
     }
 
     /// The symbol innermost in an identifier, in constant time. It takes no memory.
+    #[inline(always)]
     pub fn strip(&self, id: IdNo) -> SymNo
         requires { id < length self.now.idents }
         ensures { slice_get self.now.symbols result ≡ option_map symbol_of (slice_get self.now.idents id) }

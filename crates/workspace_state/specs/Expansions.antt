@@ -10,8 +10,7 @@ use Rattle.core_tree.specs.Units.{ProgramStands}
 use Rattle.core_tree.specs.declared.units.Program.{Program}
 use Rattle.core_tree.specs.contracts.units.Program as program
 use Rattle.arrow_index.specs.Formed.{AreFormedIn}
-use Rattle.arrow_index.specs.Index.{pair_cmp}
-use Rattle.arrow_index.specs.Index.{IsIndexOf}
+use Rattle.arrow_index.specs.Index.{pair_cmp, IsIndexOf}
 use Rattle.arrow_index.specs.declared.index.Index.{Index}
 
 pub record Seen : Type 0 where

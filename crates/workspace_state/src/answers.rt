@@ -127,7 +127,7 @@ fn uses_of_all(asked: &Asked<'_>, binders: &[Occ]) -> Mem<Vec<Occ>>
     let mut all = Vec::new(asked.alloc);
     for binder in binders {
         let uses = uses_of(asked.alloc, asked.index.arrows.as_slice(), *binder)?;
-        add_if(true, uses.as_slice(), &mut all)?;
+        all.extend_from_slice(uses.as_slice())?;
     }
     Ok(all)
 }

@@ -14,71 +14,53 @@ pub struct Kept {
     pub region: usize,
 }
 
-/// The nodes of some trees together.
-fn parts_size(kept: &[Kept], parts: &[Tree]) -> u32
+/// The nodes of some trees together, and the greatest depth of one of them, 0 where there are none.
+fn measure_parts(kept: &[Kept], parts: &[Tree]) -> (u32, u32)
     requires within { AreWithin (length kept.now) (numbers parts.now) }
     requires fits { sum_by (size_at kept.now) (numbers parts.now) < 2 ^ 32 }
-    ensures { result ≡ sum_by (size_at kept.now) (numbers parts.now) }
+    ensures size { result.0 ≡ sum_by (size_at kept.now) (numbers parts.now) }
+    ensures depth { result.1 ≡ deepest (depth_at kept.now) (numbers parts.now) }
 {
-    let mut total = 0;
+    let mut size = 0;
+    let mut depth: u32 = 0;
     for part in parts {
-        total += kept[part.number as usize].size;
+        let held = &kept[part.number as usize];
+        size += held.size;
+        depth = depth.max(held.depth);
     }
-    total
+    (size, depth)
 }
 
-/// The greatest depth of some trees, 0 where there are none.
-fn parts_depth(kept: &[Kept], parts: &[Tree]) -> u32
-    requires { AreWithin (length kept.now) (numbers parts.now) }
-    ensures { result ≡ deepest (depth_at kept.now) (numbers parts.now) }
-{
-    let mut most: u32 = 0;
-    for part in parts {
-        most = most.max(kept[part.number as usize].depth);
-    }
-    most
-}
-
-/// The nodes of a tree whose outermost node this is.
-pub fn node_size(kept: &[Kept], node: &Node) -> u32
+/// The nodes and the depth of a tree whose outermost node this is: that node has depth 1.
+pub fn measure(kept: &[Kept], node: &Node) -> (u32, u32)
     requires within { IsWithin (length kept.now) (shape_of node.now) }
-    requires fits { shape_size (size_at kept.now) (shape_of node.now) < 2 ^ 32 }
-    ensures { result ≡ shape_size (size_at kept.now) (shape_of node.now) }
+    requires size { shape_size (size_at kept.now) (shape_of node.now) < 2 ^ 32 }
+    requires depth { shape_depth (depth_at kept.now) (shape_of node.now) < 2 ^ 32 }
+    ensures size { result.0 ≡ shape_size (size_at kept.now) (shape_of node.now) }
+    ensures depth { result.1 ≡ shape_depth (depth_at kept.now) (shape_of node.now) }
 {
     match node {
-        Node::Atom { leaf: _, occ: _ } => 1,
+        Node::Atom { leaf: _, occ: _ } => (1, 1),
         Node::List {
             items,
             tail: None,
             occ: _,
-        } => 1 + parts_size(kept, items),
+        } => {
+            let (size, depth) = measure_parts(kept, items);
+            (1 + size, 1 + depth)
+        }
         Node::List {
             items,
             tail: Some(tail),
             occ: _,
-        } => 1 + parts_size(kept, items) + kept[tail.number as usize].size,
-        Node::Vector { items, occ: _ } => 1 + parts_size(kept, items),
-    }
-}
-
-/// The depth of a tree whose outermost node this is: that node has depth 1.
-pub fn node_depth(kept: &[Kept], node: &Node) -> u32
-    requires within { IsWithin (length kept.now) (shape_of node.now) }
-    requires fits { shape_depth (depth_at kept.now) (shape_of node.now) < 2 ^ 32 }
-    ensures { result ≡ shape_depth (depth_at kept.now) (shape_of node.now) }
-{
-    match node {
-        Node::Atom { leaf: _, occ: _ } => 1,
-        Node::List {
-            items,
-            tail: None,
-            occ: _,
-        } => 1 + parts_depth(kept, items),
-        Node::List {
-            items,
-            tail: Some(tail),
-            occ: _,
-        } => 1 + parts_depth(kept, items).max(kept[tail.number as usize].depth),
-        Node::Vector { items, occ: _ } => 1 + parts_depth(kept, items),
+        } => {
+            let (size, depth) = measure_parts(kept, items);
+            let end = &kept[tail.number as usize];
+            (1 + size + end.size, 1 + depth.max(end.depth))
+        }
+        Node::Vector { items, occ: _ } => {
+            let (size, depth) = measure_parts(kept, items);
+            (1 + size, 1 + depth)
+        }
     }
 }

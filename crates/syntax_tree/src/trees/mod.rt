@@ -95,6 +95,7 @@ impl Work {
     }
 
     /// The node of a tree. It takes no memory.
+    #[inline(always)]
     pub fn node(&self, tree: Tree) -> &Node
         requires { IsStanding self.now tree }
         ensures node { node_at self.now tree ≡ Some (shape_of result.now) }

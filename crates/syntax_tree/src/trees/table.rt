@@ -13,7 +13,7 @@ ghost use Rattle.syntax_tree.specs.Kept.{shape_of};
 ghost use Rattle.syntax_tree.specs.Added.{FitsInto};
 
 use crate::trees::faults::PoolFault;
-use crate::trees::measures::{Kept, node_depth, node_size};
+use crate::trees::measures::{Kept, measure};
 use crate::trees::nodes::{Node, Tree};
 use ls_base::{Mem, Memory};
 use std::alloc::Global;
@@ -129,8 +129,7 @@ impl Trees {
         if number == MAX_LIVE {
             return Err(PoolFault::Full);
         }
-        let size = node_size(&self.nodes, &node);
-        let depth = node_depth(&self.nodes, &node);
+        let (size, depth) = measure(&self.nodes, &node);
         let region = region.number;
         self.nodes.push(Kept {
             node,
@@ -144,6 +143,7 @@ impl Trees {
     }
 
     /// The node of a number.
+    #[inline(always)]
     pub(crate) fn node(&self, tree: Tree) -> &Node
         requires { IsSome (map.get self.now.nodes tree.number) }
         ensures shape { shape_at self.now.nodes tree.number ≡ Some (shape_of result.now) }

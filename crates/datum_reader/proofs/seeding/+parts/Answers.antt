@@ -11,7 +11,7 @@ use Rattle.datum_reader.specs.Seeding.{part_tree, parts_trees, tail_tree}
 use Rattle.datum_reader.proofs.Growing.{put_last, node_handed_on, all_handed_on, leaf_prepared, leaf_failed, interns_keep}
 use Rattle.datum_reader.proofs.Preparing.{vector_failed, vector_prepared, parts_failed, tail_failed, list_prepared}
 use Rattle.datum_reader.proofs.SeedLaws.{list_parts, vector_parts, datum-atom, datum-implied, atom_whole, atom_part-size, bytes_whole, bytes-size, small_tree, shallow_tree}
-use Rattle.datum_reader.proofs.Rows.{row_adds, row_fails, row_unplaced}
+use Rattle.datum_reader.proofs.Rows.{row_unbegun, row_adds, row_fails, row_unplaced}
 use Rattle.datum_reader.proofs.seeding.+parts.Goals as goal
 
 -- ---- a tree's outermost node
@@ -210,6 +210,13 @@ seed_node-returns-in_ok-tail-in-List t c =
 
 -- ---- parts
 
+pub seed_parts-returns-in_err-trees : goal.seed_parts-returns-in_err-trees
+seed_parts-returns-in_err-trees t c =
+    let w = c.args.work.now in
+    let s = c.args.start in
+    let ds = c.args.parts.now in
+    all_handed_on w w c.args.region.now (parts_trees s.unit s.form s.first ds) c.from_residual.result fault.Memory c.from_residual.ensures.1 (row_unbegun (part_tree s.unit s.form s.first) w c.args.region.now ds)
+
 pub seed_parts-returns-in_err-tree : goal.seed_parts-returns-in_err-tree
 seed_parts-returns-in_err-tree t c =
     let w = c.args.work.now in
@@ -217,7 +224,7 @@ seed_parts-returns-in_err-tree t c =
     let ds = c.args.parts.now in
     let l = c.loop-part in
     let e = c.in_err-tree.field-0.0 in
-    all_handed_on w c.seed_datum.new.work c.args.region.now (parts_trees s.unit s.form s.first ds) c.from_residual.result e c.from_residual.ensures.1
+    all_handed_on w c.seed_datum.new.work c.args.region.now (parts_trees s.unit s.form s.first ds) c.from_residual-in_err-tree.result e c.from_residual-in_err-tree.ensures.1
     (row_fails (part_tree s.unit s.form s.first) w l.work c.seed_datum.new.work c.args.region.now ds l.part-index c.part-item.result l.trees.items (omega arith) c.part-item.is l.invariant e c.in_err-tree.ensures)
 
 pub seed_parts-returns-in_err-push : goal.seed_parts-returns-in_err-push

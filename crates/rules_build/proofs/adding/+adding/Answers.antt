@@ -27,7 +27,15 @@ add_all-loop-plan-init t c = λ ds h.
     let w = c.args.work.now in
     let r = c.args.region.now in
     let k = number_of c.args.number in
-    row_none w r k ds c.new-items.result.items c.new-items.ensures.items
+    row_none w r k ds c.in_ok-items.items.items c.in_ok-items.ensures.items
+
+-- src/adding.rt:83:21
+pub add_all-returns-in_err-items : goal.add_all-returns-in_err-items
+add_all-returns-in_err-items t c = λ ds h.
+    let w = c.args.work.now in
+    let r = c.args.region.now in
+    let k = number_of c.args.number in
+    all_handed_on w w r k (all_make ds) (row_of k ds no_trees) c.from_residual.result fault.Memory c.from_residual.ensures.1 (grows_none w r k (all_make ds)) tt
 
 -- src/adding.rt:84:20
 pub add_all-add_plan-requires : goal.add_all-add_plan-requires
@@ -60,7 +68,7 @@ add_all-returns-in_err-item t c = λ ds h.
     let here = draft_kept w now r u.grows.trees u.grows.names.keeps c.plan-item.result p.here (subst (λ (x : Plan). IsDraft w r x p.here) (sym c.plan-item.is) p.is) in
     let e = c.in_err-item.field-0.0 in
     let b = row_fail w now c.add_plan.new.work r k ds j c.loop-plan.items.items p.here e u p.split (c.in_err-item.ensures p.here here) in
-    all_handed_on w c.add_plan.new.work r k (all_make ds) (row_of k ds no_trees) c.from_residual.result e c.from_residual.ensures.1 b.0 b.1
+    all_handed_on w c.add_plan.new.work r k (all_make ds) (row_of k ds no_trees) c.from_residual-in_err-item.result e c.from_residual-in_err-item.ensures.1 b.0 b.1
 
 -- src/adding.rt:85:9
 pub add_all-returns-in_err-push : goal.add_all-returns-in_err-push

@@ -13,7 +13,7 @@ pub returns-in-Few : goal.returns-in-Few
 returns-in-Few c = λ work region bounds ms i apart is holds are.
     let few = subst (λ (x : code_index.Index). IsIndexOf bounds x) c.in-Few.is holds in
     let e : value_by_number bounds c.args.id ≡ c.first_of.result =
-    ap (λ (bs : List code.Bound). value_by_number bs c.args.id) (sym few ∙ sym c.deref.ensures.value) ∙ sym c.first_of.ensures in
+    ap (λ (bs : List code.Bound). value_by_number bs c.args.id) (sym few) ∙ sym c.first_of.ensures in
     subst (λ (o : Option code_value.Value). IsFound work region o (value_of same_ident ms i)) e (found_by_number work region apart c.args.id i is bounds ms are)
 
 pub returns-in-Many : goal.returns-in-Many

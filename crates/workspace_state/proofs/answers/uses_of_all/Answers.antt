@@ -23,7 +23,7 @@ loop-binder-preserved c = λ arrows are.
     let i = c.loop-binder.binder-index in
     let mine = subst (λ (ps : List Pair). AreArrows ps arrows) (sym c.as_slice.ensures) are in
     let found = subst (λ (os : List Occ). AreOccs os (uses_at arrows (get_or bs i none))) (sym c.as_slice-in-loop-binder.ensures) (c.in_ok-uses.ensures arrows mine) in
-    uses_more arrows bs i none c.loop-binder.all.items c.add_if.new.occs.items c.as_slice-in-loop-binder.result.now (omega arith) (c.loop-binder.invariant arrows are) found c.in_ok-add_if.ensures
+    uses_more arrows bs i none c.loop-binder.all.items c.extend_from_slice.new.self.items c.as_slice-in-loop-binder.result.now (omega arith) (c.loop-binder.invariant arrows are) found c.in_ok-extend_from_slice.ensures.items
 
 pub returns : goal.returns
 returns c = λ arrows are.

@@ -66,6 +66,9 @@ procedure-returns-clause-runs = bodies.procedure-returns-clause-runs
 pub procedure-returns-clause-locals : goal.procedure-returns-clause-locals
 procedure-returns-clause-locals = bodies.procedure-returns-clause-locals
 
+pub procedures-returns-in_err-all-clause-runs : goal.procedures-returns-in_err-all-clause-runs
+procedures-returns-in_err-all-clause-runs = bodies.procedures-returns-in_err-all-clause-runs
+
 pub procedures-loop-clause-init : goal.procedures-loop-clause-init
 procedures-loop-clause-init = bodies.procedures-loop-clause-init
 
@@ -146,6 +149,9 @@ expand-returns-in_ok-expand_shape-in-Shape-clause-runs = rows.expand-returns-in_
 pub expand-returns-in_ok-expand_shape-in-Shape-clause-locals : goal.expand-returns-in_ok-expand_shape-in-Shape-clause-locals
 expand-returns-in_ok-expand_shape-in-Shape-clause-locals = rows.expand-returns-in_ok-expand_shape-in-Shape-clause-locals
 
+pub expand_all-returns-in_err-cores-clause-runs : goal.expand_all-returns-in_err-cores-clause-runs
+expand_all-returns-in_err-cores-clause-runs = rows.expand_all-returns-in_err-cores-clause-runs
+
 pub expand_all-loop-part-init : goal.expand_all-loop-part-init
 expand_all-loop-part-init = rows.expand_all-loop-part-init
 
@@ -173,6 +179,9 @@ sequence-below-requires = rows.sequence-below-requires
 pub sequence-returns-in_err-below-clause-runs : goal.sequence-returns-in_err-below-clause-runs
 sequence-returns-in_err-below-clause-runs = rows.sequence-returns-in_err-below-clause-runs
 
+pub sequence-returns-in_err-parts-clause-runs : goal.sequence-returns-in_err-parts-clause-runs
+sequence-returns-in_err-parts-clause-runs = rows.sequence-returns-in_err-parts-clause-runs
+
 pub sequence-loop-form-init : goal.sequence-loop-form-init
 sequence-loop-form-init = rows.sequence-loop-form-init
 
@@ -195,6 +204,9 @@ pub sequence-returns-clause-locals : goal.sequence-returns-clause-locals
 sequence-returns-clause-locals = rows.sequence-returns-clause-locals
 
 -- ---- what was set aside
+
+pub expand_kept-returns-in_err-parts-clause-runs : goal.expand_kept-returns-in_err-parts-clause-runs
+expand_kept-returns-in_err-parts-clause-runs = items.expand_kept-returns-in_err-parts-clause-runs
 
 pub expand_kept-loop-kept-init : goal.expand_kept-loop-kept-init
 expand_kept-loop-kept-init = items.expand_kept-loop-kept-init

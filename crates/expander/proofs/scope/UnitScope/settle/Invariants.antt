@@ -13,8 +13,8 @@ use Rattle.expander.proofs.AfterLaws.{IsAfter}
 use Rattle.expander.proofs.SettleLaws.{SoFar}
 use Rattle.expander.proofs.scope.UnitScope.settle.Given as goal
 
-abbrev pub invariant-loop-keyword : goal.invariant-loop-keyword
-invariant-loop-keyword l = record {
+abbrev pub invariant-uses : goal.invariant-uses
+invariant-uses l = record {
   opened : IsOpened l.work l.region;
   after : IsAfter l.fn.work l.work l.region l.fn.self l.self l.at.scope;
   form : IsAtWork l.work l.region l.form;
@@ -24,5 +24,5 @@ invariant-loop-keyword l = record {
       SoFar known l.at.depth l.fn.work l.work l.region l.fn.self l.self ls fs l.form l.here (expand (searched known) turns l.at.depth l.at.here fs (whole t) s);
 }
 
-abbrev pub decreases-loop-keyword : goal.decreases-loop-keyword
-decreases-loop-keyword l = 10000 - l.self.form.budget.uses
+abbrev pub decreases-uses : goal.decreases-uses
+decreases-uses l = 10000 - l.self.form.budget.uses

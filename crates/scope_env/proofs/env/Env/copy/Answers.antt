@@ -1,7 +1,6 @@
-use Rattle.std.proofs.Common.{◌≡◌, ℕ, List, map, sym, ◌∙◌, subst}
+use Rattle.std.proofs.Common.{◌≡◌, sym, ◌∙◌, subst}
 use Rattle.std.specs.FinMap.{from_entries}
 use Rattle.std.proofs.lemmas.Map.Entries.{entries_from_clone}
-use Rattle.syntax_tree.specs.declared.symbols.UseNo.{UseNo}
 use Rattle.scope_env.specs.Environment.{Environment}
 use Rattle.scope_env.specs.Marks.{IsKept}
 use Rattle.scope_env.proofs.MarkLaws.{copied_marks}

@@ -1,41 +1,10 @@
-use Rattle.std.proofs.Common.{subst, sym, ◌∙◌, arith}
-use Rattle.scope_env.specs.Environment.{Environment, IsSound}
-use Rattle.scope_env.specs.Resolved.{local}
+use Rattle.std.proofs.Common.{subst, sym, ◌∙◌}
+use Rattle.scope_env.specs.Environment.{Environment, with_added}
+use Rattle.scope_env.specs.Resolved.{local, reached}
 use Rattle.scope_env.specs.Marks.{IsKept}
-use Rattle.scope_env.specs.Environment.{with_added}
-use Rattle.scope_env.proofs.MarkLaws.{no_local}
-use Rattle.scope_env.proofs.Fields.{read_there, outermost, binds, outwards_on, parent_older}
+use Rattle.scope_env.proofs.MarkLaws.{no_local_from}
+use Rattle.scope_env.proofs.Reached.{reached_within}
 use Rattle.scope_env.proofs.env.Env.local.Goals as goal
-
-pub returns-in_err-parent : goal.returns-in_err-parent
-returns-in_err-parent c =
-    let sound = subst (λ (e : Environment). IsSound e) c.self.view_is c.self.invariant.sound in
-    let there = read_there c.self.inside.scopes.items c.self.inside.uses c.self.inside.roots c.args.self.now c.self.view_is c.loop-parent.at c.index.result.now c.loop-parent.invariant.within c.index.ensures in
-    c.from_residual-in_err-parent.ensures
-    ∙ sym (c.loop-parent.invariant.same ∙ outermost c.self.inside.scopes.items c.self.inside.uses c.self.inside.roots c.args.self.now c.self.view_is c.args.added sound c.loop-parent.at c.args.ident c.index.result.now there c.in_err-parent.was)
-
-pub returns-in-Some : goal.returns-in-Some
-returns-in-Some c =
-    let sound = subst (λ (e : Environment). IsSound e) c.self.view_is c.self.invariant.sound in
-    let there = read_there c.self.inside.scopes.items c.self.inside.uses c.self.inside.roots c.args.self.now c.self.view_is c.loop-parent.at c.index.result.now c.loop-parent.invariant.within c.index.ensures in
-    sym (c.loop-parent.invariant.same ∙ binds c.self.inside.scopes.items c.self.inside.uses c.self.inside.roots c.args.self.now c.self.view_is c.args.added sound c.loop-parent.at c.args.ident c.index.result.now there c.in_ok-parent.parent c.in-Some.meaning c.in_ok-parent.was c.in-Some.ensures)
-
-pub loop-parent-smaller : goal.loop-parent-smaller
-loop-parent-smaller c =
-    let sound = subst (λ (e : Environment). IsSound e) c.self.view_is c.self.invariant.sound in
-    let there = read_there c.self.inside.scopes.items c.self.inside.uses c.self.inside.roots c.args.self.now c.self.view_is c.loop-parent.at c.index.result.now c.loop-parent.invariant.within c.index.ensures in
-    parent_older c.self.inside.scopes.items c.self.inside.uses c.self.inside.roots c.args.self.now c.self.view_is sound c.loop-parent.at c.index.result.now there c.in_ok-parent.parent c.in_ok-parent.was
-
-pub loop-parent-preserved : goal.loop-parent-preserved
-loop-parent-preserved c =
-    let sound = subst (λ (e : Environment). IsSound e) c.self.view_is c.self.invariant.sound in
-    let there = read_there c.self.inside.scopes.items c.self.inside.uses c.self.inside.roots c.args.self.now c.self.view_is c.loop-parent.at c.index.result.now c.loop-parent.invariant.within c.index.ensures in
-    let older = parent_older c.self.inside.scopes.items c.self.inside.uses c.self.inside.roots c.args.self.now c.self.view_is sound c.loop-parent.at c.index.result.now there c.in_ok-parent.parent c.in_ok-parent.was in
-    record {
-      within = omega (arith, c.loop-parent.invariant.within, older);
-      same = c.loop-parent.invariant.same
-          ∙ outwards_on c.self.inside.scopes.items c.self.inside.uses c.self.inside.roots c.args.self.now c.self.view_is c.args.added sound c.loop-parent.at c.args.ident c.index.result.now there c.in_ok-parent.parent c.in_ok-parent.was c.in_default.ensures;
-    }
 
 pub returns-then-is_unmarked : goal.returns-then-is_unmarked
 returns-then-is_unmarked c =
@@ -44,5 +13,5 @@ returns-then-is_unmarked c =
     let o = c.self.inside.owns in
     let kept = subst (λ (e : Environment). IsKept e l o) c.self.view_is c.self.invariant in
     let u = c.is_unmarked.ensures c.if-is_unmarked.true in
-    let within = c.requires c.in_ok-at.at c.in_ok-at.was in
-    sym ((λ j. local (with_added env (u.0 j)) (c.in_ok-at.was j) c.args.ident) ∙ no_local l o env kept c.args.ident u.1 c.in_ok-at.at within)
+    let from = reached env c.args.start c.args.last in
+    sym ((λ j. local (with_added env (u.0 j)) from c.args.ident) ∙ no_local_from l o env kept c.args.ident u.1 from (reached_within env kept.sound c.args.start c.requires c.args.last))

@@ -6,7 +6,7 @@ use Rattle.scheme_model.specs.Measures.{trees_size}
 use Rattle.scheme_model.specs.Ident.{Ident as Identifier}
 use Rattle.scheme_model.specs.Requirements.{Known}
 use Rattle.scheme_model.specs.Shapes.{Clause}
-use Rattle.scheme_model.specs.Cores.{Core, Lambda, Binders}
+use Rattle.scheme_model.specs.Cores.{Core, Clauses, Lambda, Binders}
 use Rattle.scheme_model.specs.Steps.{Step, ◌>>=◌, done}
 use Rattle.scheme_model.specs.Expression.{body, expand, procedure, clauses, lambda}
 use Rattle.scheme_model.specs.ScopedExpansion.{Frames, ScopedState}
@@ -291,13 +291,22 @@ procedure-returns-clause-locals t c =
 
 -- ---- clauses in a row
 
+pub procedures-returns-in_err-all-clause-runs : goal.procedures-returns-in_err-all-clause-runs
+procedures-returns-in_err-all-clause-runs t c = λ cs turns match enough.
+    let a = c.args.work.now in
+    let u = c.args.self.now in
+    let at = c.args.at in
+    let Q : List Frames → Vec code_clause.Clause Global → Clauses → Type 0 = λ layout xs. ClausesStand a u.unit u.form.number xs.items in
+    let f : Known → Frames → Step ScopedState Clauses = λ known fs. clauses (expand (searched known) turns) (searched known) at.depth at.here fs cs in
+    runs_err Q a a c.args.region.now u u at.scope c.from_residual.result fault.Memory f c.from_residual.ensures.1 (runs_nothing Q a c.args.region.now u u at.scope f)
+
 pub procedures-loop-clause-init : goal.procedures-loop-clause-init
 procedures-loop-clause-init t c = record {
   after = after_itself c.args.work.now c.args.region.now c.args.self.now c.args.at.scope c.requires.look;
   spends = spends_itself c.args.self.now;
   runs = λ cs turns match enough.
       runs_none (λ known fs. procedure (expand (searched known) turns) (searched known) c.args.at.depth c.args.at.here fs) (ClauseStands c.args.work.now c.args.self.now.unit c.args.self.now.form.number) c.args.work.now c.args.region.now c.args.self.now c.args.at.scope
-      c.new-all.result.items c.new-all.ensures.items;
+      c.in_ok-all.all.items c.in_ok-all.ensures.items;
 }
 
 pub procedures-procedure-requires : goal.procedures-procedure-requires
@@ -322,7 +331,7 @@ procedures-returns-in_err-next-clause-runs t c = λ cs turns match enough.
     let later = enough_later at.depth u.form.budget.uses w.form.budget.uses turns h.after.same.uses enough in
     let f : Known → Frames → Clause Identifier → Step ScopedState (Binders × Core) = λ known fs. procedure (expand (searched known) turns) (searched known) at.depth at.here fs in
     runs_failed f clauses_of (λ known fs. clauses (expand (searched known) turns) (searched known) at.depth at.here fs cs) cs (λ known fs s. clauses_row (expand (searched known) turns) (searched known) at.depth at.here fs cs s) a d region u v at.scope
-    (λ (layout : List Frames). AllMatch (ClauseStands d v.unit v.form.number)) (λ (layout : List Frames) (xs : Vec code_clause.Clause Global). ClausesStand d v.unit v.form.number xs.items) c.from_residual.result e c.from_residual.ensures.1
+    (λ (layout : List Frames). AllMatch (ClauseStands d v.unit v.form.number)) (λ (layout : List Frames) (xs : Vec code_clause.Clause Global). ClausesStand d v.unit v.form.number xs.items) c.from_residual-in_err-next.result e c.from_residual-in_err-next.ensures.1
     (row_stops f (ClauseFor a region) (ClauseStands b w.unit w.form.number) a b d region u w v at.scope c.loop-clause.all.items c.loop-clause.clause-index c.args.shapes.now cs c.clause-item.result match c.loop-clause-test.true (h.runs cs turns match enough)
     (λ (layout : List Frames). ClauseStands d v.unit v.form.number) (λ (layout : List Frames). AllMatch (ClauseStands d v.unit v.form.number)) e (λ form stands. c.in_err-next.ensures.runs form turns (clause_on a b h.after.work.trees h.after.work.names 0 0 region c.clause-item.result form (item_as (λ (x : ClauseShape). ClauseFor a region x form) c.loop-clause.clause-index c.args.shapes.now c.clause-item.result c.clause-item.is stands)) later))
 

@@ -4,7 +4,7 @@ use Rattle.std.specs.declared.alloc.Global.{Global}
 use Rattle.scheme_model.specs.declared.Occ.{Occ}
 use Rattle.scheme_model.specs.Ident.{Ident as Identifier}
 use Rattle.scheme_model.specs.Requirements.{Known}
-use Rattle.scheme_model.specs.Cores.{Core, Part}
+use Rattle.scheme_model.specs.Cores.{Core, Part, Parts}
 use Rattle.scheme_model.specs.Steps.{Step}
 use Rattle.scheme_model.specs.Order.{Item}
 use Rattle.scheme_model.specs.Order as model
@@ -38,13 +38,22 @@ use Rattle.expander.proofs.scope.UnitScope.+core.Goals as goal
 
 -- ---- what was set aside, in order
 
+pub expand_kept-returns-in_err-parts-clause-runs : goal.expand_kept-returns-in_err-parts-clause-runs
+expand_kept-returns-in_err-parts-clause-runs t c = λ is turns match enough.
+    let a = c.args.work.now in
+    let u = c.args.self.now in
+    let at = c.args.at in
+    let Q : List Frames → Vec code_part.CorePart Global → Parts → Type 0 = λ layout ps. PartsOfCores a u.unit u.form.number ps.items in
+    let f : Known → Frames → Step ScopedState Parts = λ known fs. parts (item_part (expand (searched known) turns) (searched known) at.depth fs) is in
+    runs_err Q a a c.args.region.now u u at.scope c.from_residual.result fault.Memory f c.from_residual.ensures.1 (runs_nothing Q a c.args.region.now u u at.scope f)
+
 pub expand_kept-loop-kept-init : goal.expand_kept-loop-kept-init
 expand_kept-loop-kept-init t c = record {
   after = after_itself c.args.work.now c.args.region.now c.args.self.now c.args.at.scope c.requires.look;
   spends = spends_itself c.args.self.now;
   runs = λ is turns match enough.
       runs_none (λ known fs. item_part (expand (searched known) turns) (searched known) c.args.at.depth fs) (PartStands c.args.work.now c.args.self.now.unit c.args.self.now.form.number) c.args.work.now c.args.region.now c.args.self.now c.args.at.scope
-      c.new-parts.result.items c.new-parts.ensures.items;
+      c.in_ok-parts.parts.items c.in_ok-parts.ensures.items;
 }
 
 pub expand_kept-expand_kept_item-requires : goal.expand_kept-expand_kept_item-requires
@@ -69,7 +78,7 @@ expand_kept-returns-in_err-part-clause-runs t c = λ is turns match enough.
     let later = enough_later at.depth u.form.budget.uses w.form.budget.uses turns h.after.same.uses enough in
     let f : Known → Frames → Item Identifier → Step ScopedState Part = λ known fs. item_part (expand (searched known) turns) (searched known) at.depth fs in
     runs_failed f parts_of (λ known fs. parts (f known fs) is) is (λ known fs s. parts_row (f known fs) is s) a d region u v at.scope
-    (λ (layout : List Frames). AllMatch (PartStands d v.unit v.form.number)) (λ (layout : List Frames) (cs : Vec code_part.CorePart Global). PartsOfCores d v.unit v.form.number cs.items) c.from_residual.result e c.from_residual.ensures.1
+    (λ (layout : List Frames). AllMatch (PartStands d v.unit v.form.number)) (λ (layout : List Frames) (cs : Vec code_part.CorePart Global). PartsOfCores d v.unit v.form.number cs.items) c.from_residual-in_err-part.result e c.from_residual-in_err-part.ensures.1
     (row_stops f (KeptFor a region u.unit u.form.number) (PartStands b w.unit w.form.number) a b d region u w v at.scope c.loop-kept.parts.items c.loop-kept.kept-index c.args.aside.now is c.kept-item.result match c.loop-kept-test.true (h.runs is turns match enough)
     (λ (layout : List Frames). PartStands d v.unit v.form.number) (λ (layout : List Frames). AllMatch (PartStands d v.unit v.form.number)) e (λ form stands. c.in_err-part.ensures.runs form turns (kept_goes_on a b region u w h.after.work h.after.same c.kept-item.result form (item_as (λ (x : code_kept.Kept). KeptFor a region u.unit u.form.number x form) c.loop-kept.kept-index c.args.aside.now c.kept-item.result c.kept-item.is stands)) later))
 

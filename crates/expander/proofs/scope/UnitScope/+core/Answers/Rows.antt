@@ -4,7 +4,7 @@ use Rattle.std.specs.declared.alloc.Global.{Global}
 use Rattle.scheme_model.specs.Trees.{Tree}
 use Rattle.scheme_model.specs.Ident.{Ident as Identifier}
 use Rattle.scheme_model.specs.Requirements.{Known}
-use Rattle.scheme_model.specs.Cores.{Core, Call, Body, Part, Parts, Expression as expression_part}
+use Rattle.scheme_model.specs.Cores.{Core, Cores, Call, Body, Part, Parts, Expression as expression_part}
 use Rattle.scheme_model.specs.Steps.{Step, ◌>>=◌, done}
 use Rattle.scheme_model.specs.Expression.{whole, expand, each_of, sequence, expressions, each}
 use Rattle.scheme_model.specs.ScopedExpansion.{Frames, ScopedState}
@@ -23,6 +23,7 @@ use Rattle.expander.specs.declared.expressions.At as code_at
 use Rattle.expander.specs.declared.fault.ExpandFault.TheVariants as fault
 use Rattle.expander.proofs.AfterLaws.{opened_on, room_same, room_on, spends_same, spends_itself, spends_on, enough_later}
 use Rattle.expander.proofs.BelowLaws.{below_look, below_room, below_spends, below_enough}
+use Rattle.expander.proofs.BodyRuns.{runs_nothing}
 use Rattle.expander.proofs.CycleCalls.{expand_after}
 use Rattle.expander.proofs.ExpandLaws.{ready_after, ready_parts, ready_keyword, ready_shape, expand_fails, expand_core, expand_call, expand_form, trees_node, trees_node_fails}
 use Rattle.expander.proofs.FormRuns.{sequence_runs, sequence_fails}
@@ -202,13 +203,22 @@ expand-returns-in_ok-expand_shape-in-Shape-clause-locals t c =
 abbrev no_tree : number.Tree
 no_tree = record { number = 0 }
 
+pub expand_all-returns-in_err-cores-clause-runs : goal.expand_all-returns-in_err-cores-clause-runs
+expand_all-returns-in_err-cores-clause-runs t c = λ ts turns match enough.
+    let a = c.args.work.now in
+    let u = c.args.self.now in
+    let at = c.args.at in
+    let Q : List Frames → Vec code_core.Core Global → Cores → Type 0 = λ layout cs. CoresStand a u.unit u.form.number cs.items in
+    let f : Known → Frames → Step ScopedState Cores = λ known fs. each_of (λ form. expand (searched known) turns at.depth at.here fs (whole form)) ts in
+    runs_err Q a a c.args.region.now u u at.scope c.from_residual.result fault.Memory f c.from_residual.ensures.1 (runs_nothing Q a c.args.region.now u u at.scope f)
+
 pub expand_all-loop-part-init : goal.expand_all-loop-part-init
 expand_all-loop-part-init t c = record {
   after = after_itself c.args.work.now c.args.region.now c.args.self.now c.args.at.scope c.requires.look;
   spends = spends_itself c.args.self.now;
   runs = λ ts turns match enough.
       runs_none (λ known fs form. expand (searched known) turns c.args.at.depth c.args.at.here fs (whole form)) (CoreStands c.args.work.now c.args.self.now.unit c.args.self.now.form.number) c.args.work.now c.args.region.now c.args.self.now c.args.at.scope
-      c.new-cores.result.items c.new-cores.ensures.items;
+      c.in_ok-cores.cores.items c.in_ok-cores.ensures.items;
 }
 
 pub expand_all-expand-requires : goal.expand_all-expand-requires
@@ -234,7 +244,7 @@ expand_all-returns-in_err-core-clause-runs t c = λ ts turns match enough.
     let later = enough_later at.depth u.form.budget.uses w.form.budget.uses turns h.after.same.uses enough in
     let f : Known → Frames → Tree Identifier → Step ScopedState Core = λ known fs form. expand (searched known) turns at.depth at.here fs (whole form) in
     runs_failed f cores_of (λ known fs. each_of (f known fs) ts) ts (λ known fs s. each_row (f known fs) ts s) a d region u v at.scope
-    (λ (layout : List Frames). AllMatch (CoreStands d v.unit v.form.number)) (λ (layout : List Frames) (cs : Vec code_core.Core Global). CoresStand d v.unit v.form.number cs.items) c.from_residual.result e c.from_residual.ensures.1
+    (λ (layout : List Frames). AllMatch (CoreStands d v.unit v.form.number)) (λ (layout : List Frames) (cs : Vec code_core.Core Global). CoresStand d v.unit v.form.number cs.items) c.from_residual-in_err-core.result e c.from_residual-in_err-core.ensures.1
     (row_stops f (StandsFor a) (CoreStands b w.unit w.form.number) a b d region u w v at.scope c.loop-part.cores.items c.loop-part.part-index c.args.parts.now ts no_tree match c.loop-part-test.true (h.runs ts turns match enough)
     (λ (layout : List Frames). CoreStands d v.unit v.form.number) (λ (layout : List Frames). AllMatch (CoreStands d v.unit v.form.number)) e (λ form stands. c.in_err-core.ensures.runs form turns (h.after.work.trees.trees _ form stands) later))
 
@@ -311,6 +321,16 @@ sequence-returns-in_err-below-clause-runs t c = λ ts turns stands enough.
     runs_err Q a a c.args.region.now c.args.self.now v at.scope c.from_residual.result e (λ known fs. sequence (expand (searched known) turns) (searched known) at.depth at.here fs ts) c.from_residual.ensures.1
     (node_none Q a c.args.region.now c.args.self.now v at 1 e (λ known fs below t1. expressions (λ u. expand (searched known) turns below at.here fs (whole u)) ts t1 >>= λ ps. done (Body ps)) c.in_err-below.ensures)
 
+pub sequence-returns-in_err-parts-clause-runs : goal.sequence-returns-in_err-parts-clause-runs
+sequence-returns-in_err-parts-clause-runs t c = λ ts turns stands enough.
+    let a = c.args.work.now in
+    let u = c.args.self.now in
+    let v = c.below.new.self in
+    let at = c.args.at in
+    let Q : List Frames → code_core.Core → Core → Type 0 = λ layout. CoreStands a v.unit v.form.number in
+    let f : Known → Frames → Step ScopedState Core = λ known fs. sequence (expand (searched known) turns) (searched known) at.depth at.here fs ts in
+    runs_err Q a a c.args.region.now u v at.scope c.from_residual-in_err-parts.result fault.Memory f c.from_residual-in_err-parts.ensures.1 (runs_nothing Q a c.args.region.now u v at.scope f)
+
 pub sequence-loop-form-init : goal.sequence-loop-form-init
 sequence-loop-form-init t c =
     let a = c.args.work.now in
@@ -319,7 +339,7 @@ sequence-loop-form-init t c =
     record {
       after = after_itself a c.args.region.now w below.scope (below_look c.args.self.now w c.args.at below 1 c.in_ok-below.ensures a c.requires.look);
       spends = spends_itself w;
-      runs = λ ts turns match enough. runs_none (λ known fs. as_part (λ u. expand (searched known) turns below.depth below.here fs (whole u))) (PartStands a w.unit w.form.number) a c.args.region.now w below.scope c.new-parts.result.items c.new-parts.ensures.items;
+      runs = λ ts turns match enough. runs_none (λ known fs. as_part (λ u. expand (searched known) turns below.depth below.here fs (whole u))) (PartStands a w.unit w.form.number) a c.args.region.now w below.scope c.in_ok-parts.parts.items c.in_ok-parts.ensures.items;
     }
 
 pub sequence-expand-requires : goal.sequence-expand-requires

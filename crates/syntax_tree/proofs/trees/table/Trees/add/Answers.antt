@@ -9,33 +9,29 @@ use Rattle.syntax_tree.proofs.KeptLaws.{kept_pushed}
 use Rattle.syntax_tree.proofs.AddedLaws.{can_measure, node_put, counted}
 use Rattle.syntax_tree.proofs.trees.table.Trees.add.Goals as goal
 
-pub node_size-size-requires-clause-within : goal.node_size-size-requires-clause-within
-node_size-size-requires-clause-within c =
+pub measure-size-requires-clause-within : goal.measure-size-requires-clause-within
+measure-size-requires-clause-within c =
     (can_measure c.self.inside.nodes.items c.deref.result.now c.args.self.now.nodes (shape_of c.args.node) c.self.invariant.kept c.deref.ensures.value (ap (λ (f : Forest). f.nodes) c.self.view_is) c.requires.fits).within
 
-pub node_size-size-requires-clause-fits : goal.node_size-size-requires-clause-fits
-node_size-size-requires-clause-fits c =
+pub measure-size-requires-clause-size : goal.measure-size-requires-clause-size
+measure-size-requires-clause-size c =
     (can_measure c.self.inside.nodes.items c.deref.result.now c.args.self.now.nodes (shape_of c.args.node) c.self.invariant.kept c.deref.ensures.value (ap (λ (f : Forest). f.nodes) c.self.view_is) c.requires.fits).size
 
-pub node_depth-depth-requires-clause-within : goal.node_depth-depth-requires-clause-within
-node_depth-depth-requires-clause-within c =
-    (can_measure c.self.inside.nodes.items c.deref-2.result.now c.args.self.now.nodes (shape_of c.args.node) c.self.invariant.kept c.deref-2.ensures.value (ap (λ (f : Forest). f.nodes) c.self.view_is) c.requires.fits).within
-
-pub node_depth-depth-requires-clause-fits : goal.node_depth-depth-requires-clause-fits
-node_depth-depth-requires-clause-fits c =
-    (can_measure c.self.inside.nodes.items c.deref-2.result.now c.args.self.now.nodes (shape_of c.args.node) c.self.invariant.kept c.deref-2.ensures.value (ap (λ (f : Forest). f.nodes) c.self.view_is) c.requires.fits).depth
+pub measure-size-requires-clause-depth : goal.measure-size-requires-clause-depth
+measure-size-requires-clause-depth c =
+    (can_measure c.self.inside.nodes.items c.deref.result.now c.args.self.now.nodes (shape_of c.args.node) c.self.invariant.kept c.deref.ensures.value (ap (λ (f : Forest). f.nodes) c.self.view_is) c.requires.fits).depth
 
 pub invariant_of-self-2 : goal.invariant_of-self-2
 invariant_of-self-2 c =
     let ks = c.self.inside.nodes.items in
     let regions = map (λ outer. outer.items) c.self.inside.regions.items in
     let view = c.self.view_is in
-    let k : Kept = record { node = c.args.node; size = c.node_size-size.result; depth = c.node_depth-depth.result; region = c.args.region.now.number } in
+    let k : Kept = record { node = c.args.node; size = c.measure-size.result.0; depth = c.measure-size.result.1; region = c.args.region.now.number } in
     let m = can_measure ks ks c.args.self.now.nodes (shape_of c.args.node) c.self.invariant.kept refl (ap (λ (f : Forest). f.nodes) view) c.requires.fits in
     let size : k.size ≡ shape_size (size_at ks) (shape_of k.node) =
-    c.node_size-size.ensures ∙ ap (λ (l : List Kept). shape_size (size_at l) (shape_of c.args.node)) c.deref.ensures.value in
+    c.measure-size.ensures.size ∙ ap (λ (l : List Kept). shape_size (size_at l) (shape_of c.args.node)) c.deref.ensures.value in
     let depth : k.depth ≡ shape_depth (depth_at ks) (shape_of k.node) =
-    c.node_depth-depth.ensures ∙ ap (λ (l : List Kept). shape_depth (depth_at l) (shape_of c.args.node)) c.deref-2.ensures.value in
+    c.measure-size.ensures.depth ∙ ap (λ (l : List Kept). shape_depth (depth_at l) (shape_of c.args.node)) c.deref.ensures.value in
     let room : length ks < 2 ^ 31 = omega (arith, c.self.invariant.kept.few, c.len-number.ensures, c.self.inside.nodes.ok.0, c.if-number-eq-MAX_LIVE.false) in
     let names = subst (λ (f : Forest). MayNameParts f.nodes f.regions c.args.region.now.number (shape_of c.args.node)) (sym view) c.requires.names in
     subst (λ (l : List Kept). IsTable l regions) (sym c.in_ok-push.ensures.items) (record {
@@ -46,7 +42,7 @@ invariant_of-self-2 c =
 pub returns-clause-put : goal.returns-clause-put
 returns-clause-put c =
     let ks = c.self.inside.nodes.items in
-    let k : Kept = record { node = c.args.node; size = c.node_size-size.result; depth = c.node_depth-depth.result; region = c.args.region.now.number } in
+    let k : Kept = record { node = c.args.node; size = c.measure-size.result.0; depth = c.measure-size.result.1; region = c.args.region.now.number } in
     node_put ks c.push.new.self.items c.args.self.now.nodes k c.len-number.result (ap (λ (f : Forest). f.nodes) c.self.view_is) c.in_ok-push.ensures.items (omega (arith, c.len-number.ensures, c.self.inside.nodes.ok.0))
 
 pub returns-then-number-eq-MAX_LIVE-clause-full : goal.returns-then-number-eq-MAX_LIVE-clause-full

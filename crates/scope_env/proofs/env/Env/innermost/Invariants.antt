@@ -1,5 +1,5 @@
 use Rattle.scope_env.proofs.Fields.{Outward}
-use Rattle.scope_env.proofs.env.Env.local.Given as goal
+use Rattle.scope_env.proofs.env.Env.innermost.Given as goal
 
 abbrev pub invariant-loop-parent : goal.invariant-loop-parent
 invariant-loop-parent l = Outward l.self l.added l.fn.scope l.at l.ident

@@ -1,8 +1,10 @@
-use Rattle.std.proofs.Common.{◌∙◌, ap, sym}
-use Rattle.datum_reader.specs.Views.{tail_datum, data_of}
+use Rattle.std.proofs.Common.{◌∷◌, ◌∙◌, ap, sym}
+use Rattle.datum_reader.specs.Open.{ended, reopened, state}
+use Rattle.datum_reader.specs.Views.{tail_datum, data_of, spot_of, frame_of, stack_of}
+use Rattle.datum_reader.specs.declared.tail.Tail.{Tail}
 use Rattle.datum_reader.specs.declared.open.Opener.TheVariants as openers
 use Rattle.datum_reader.proofs.StepLaws.{completed_top, mark_step}
-use Rattle.datum_reader.proofs.step.complete.Goals as goal
+use Rattle.datum_reader.proofs.step.complete_open.Goals as goal
 
 pub loop-frame-preserved : goal.loop-frame-preserved
 loop-frame-preserved c =
@@ -18,6 +20,7 @@ returns-in-Skip c =
 pub returns-in-Dotted : goal.returns-in-Dotted
 returns-in-Dotted c =
     c.in_ok-reopen-in-Dotted.ensures
+    ∙ ap (λ (t : Tail). state (data_of c.loop-frame.state.items.items) (reopened (ended (spot_of c.in-Dotted.dot) (tail_datum t)) (frame_of c.in-Some.frame) ∷ stack_of c.pop.new.self.items)) c.in_ok-new-in-Dotted.ensures.ok
     ∙ sym (completed_top (tail_datum c.loop-frame.read) (data_of c.loop-frame.state.items.items) c.loop-frame.state.stack.items c.pop.new.self.items c.in-Some.frame _ c.in-Some.ensures.items c.in-Dotted.is)
     ∙ c.loop-frame.invariant
 
