@@ -83,6 +83,15 @@ uses_more P P' h us e = all_of_more (Held use_kind P) (Held use_kind P') (λ u q
 pub uses_same : (P : Ident → Type 0) (f g : Ident → Name) → ((i : Ident) → P i → f i ≡ g i) → (us : List (WaitingUse Ident)) → UsesHeld P us → map (use_map f) us ≡ map (use_map g) us
 uses_same P f g e us q = all_same (Held use_kind P) (use_map f) (use_map g) (λ u r. held_same use_kind P f g e u r) us q
 
+pub left_more : (P P' : Ident → Type 0) → ((i : Ident) → P i → P' i) → (l : Left Ident) → LeftHeld P l → LeftHeld P' l
+left_more P P' h l e = (uses_more P P' h l.uses e.0, all_of_more (ItemHeld P) (ItemHeld P') (λ t q. (held_more item_kind P P' h t q.0, q.1)) l.items e.1)
+
+pub left_same : (P : Ident → Type 0) (f g : Ident → Name) → ((i : Ident) → P i → f i ≡ g i) → (l : Left Ident) → LeftHeld P l → left_map f l ≡ left_map g l
+left_same P f g e l q =
+    let u = uses_same P f g e l.uses q.0 in
+    let b = all_same (ItemHeld P) (item_map f) (item_map g) (λ t r. held_same item_kind P f g e t r.0) l.items q.1 in
+    λ j. record { uses = u j; items = b j }
+
 pub pending_more : (P P' : Ident → Type 0) (Q Q' : FramedIdent → Type 0) → ((i : Ident) → P i → P' i) → ((l : FramedIdent) → Q l → Q' l) → (p : Pending Ident FramedIdent) → PendingHeld P Q p → PendingHeld P' Q' p
 pending_more P P' Q Q' h k p e =
     (all_of_more (FormAll P) (FormAll P') (λ x t. tree_more P P' h x.tree t) p.todo e.0, all_of_more (ItemHeld P) (ItemHeld P') (λ t q. (held_more item_kind P P' h t q.0, q.1)) p.aside e.1, notes_more Q Q' k p.notes e.2, uses_more P P' h p.uses e.3)

@@ -1,5 +1,5 @@
 -- Where work on a unit ends: steps of work that may end, on two sides alike.
-use Rattle.std.proofs.Common.{◌≡◌, ℕ, List, Bool, true, false, cond, Option, Some, None, refl, sym, ap, ◌∙◌}
+use Rattle.std.proofs.Common.{◌≡◌, ℕ, List, Bool, true, false, cond, Option, Some, None, refl, sym, ap, ◌∙◌, subst}
 use Rattle.std.specs.Prelude.{nat_lt}
 use Rattle.scheme_model.specs.Order.{Ops}
 use Rattle.scheme_model.specs.UnitExpansion.{Work, ◌then◌, max_total, nodes_in, unless_over}
@@ -27,3 +27,19 @@ both_over {Ended = Ended} {Going = Going} ops others fs q m e h k = both_at refl
     go : (b : Bool) → Both Ended Going (cond b (None, q.1) (Some q.0, q.1)) (cond b (None, m.1) (Some m.0, m.1))
     go true = both_end q.1 m.1 refl refl h
     go false = both_go q.0 m.0 q.1 m.1 refl refl k
+
+-- what holds of what one side gives, and of its state
+abbrev pub OnWork : {S X : Type 0} → (S → Type 0) → (S → X → Type 0) → Option X × S → Type 0
+OnWork P Q (None, s) = P s
+OnWork P Q (Some x, s) = Q s x
+
+pub on_work : {S T X Y : Type 0} {Ended : S → T → Type 0} {Going : S → T → X → Y → Type 0} {q : Option X × S} {m : Option Y × T} (P : S → Type 0) (Q : S → X → Type 0)
+    → ((s : S) (t : T) → Ended s t → P s) → ((s : S) (t : T) (x : X) (y : Y) → Going s t x y → Q s x) → Both Ended Going q m → OnWork P Q q
+on_work P Q f g (both_end s t e d h) = subst (OnWork P Q) (sym e) (f s t h)
+on_work P Q f g (both_go x y s t e d h) = subst (OnWork P Q) (sym e) (g s t x y h)
+
+-- more is known of what one side gives
+pub both_know : {S T X Y : Type 0} {Ended : S → T → Type 0} {Going : S → T → X → Y → Type 0} {q : Option X × S} {m : Option Y × T} (P : S → Type 0) (Q : S → X → Type 0)
+    → OnWork P Q q → Both Ended Going q m → Both (λ s t. P s × Ended s t) (λ s t x y. Q s x × Going s t x y) q m
+both_know P Q k (both_end s t e d h) = both_end s t e d (subst (OnWork P Q) e k, h)
+both_know P Q k (both_go x y s t e d h) = both_go x y s t e d (subst (OnWork P Q) e k, h)

@@ -66,14 +66,15 @@ abbrev pub with_part : Part → Result Parts Broken → Result Parts Broken
 with_part p (Ok ps) = Ok (part p ps)
 with_part p (Err e) = Err e
 
+-- an item's part, and then those behind it
+abbrev pub before_parts : {S : Type 0} → Work S (Result Parts Broken) → Result Part Broken → Work S (Result Parts Broken)
+before_parts more (Err e) s = going (Err e) s
+before_parts more (Ok p) s = more s then λ r. going (with_part p r)
+
 -- a form's items in order, up to the first fault
 abbrev pub items_parts : {E A L S : Type 0} → Ops E A L S → List ℕ → (Item A → Step S Part) → List (Item A) → Work S (Result Parts Broken)
 items_parts ops fs f [] s = going (Ok no_parts) s
-items_parts ops fs f (i ∷ is) s = unless_over ops fs (f i s) then go_on (items_parts ops fs f is)
-  where
-    go_on : {S : Type 0} → Work S (Result Parts Broken) → Result Part Broken → Work S (Result Parts Broken)
-    go_on more (Err e) s = going (Err e) s
-    go_on more (Ok p) s = more s then λ r. going (with_part p r)
+items_parts ops fs f (i ∷ is) s = unless_over ops fs (f i s) then before_parts (items_parts ops fs f is)
 
 -- a form's macro uses are met, and what it set aside is expanded
 abbrev pub form_parts : {E A L S : Type 0} → Ops E A L S → Expander E A S → E → List ℕ → Result (Left A) Broken → Work S (Result Parts Broken)
