@@ -170,7 +170,7 @@ module _ (c : Setting) (x : Side c) where
         → Same (assignment (over c) depth here e n go s) (assignment (side c x) depth here e.0 (named_map (ident c) n) go' s.0)
     assignment_goes depth here e n go go' h s = node_goes c x here 1 depth s _ _ (λ below u. goes_bind c _ _ (h below u) (λ k v. goes (ap (λ t. (Ok (Set t k), v.0)) (target_goes c x e u n.name n.occ))))
 
-    item_goes : (depth : ℕ) (e : D c) (i : Item (B c)) → ToldItem c.told i → (s : T c) → Same (item_part F (over c) depth e i s) (item_part G (side c x) depth e.0 (item_map (ident c) i) s.0)
+    pub item_goes : (depth : ℕ) (e : D c) (i : Item (B c)) → ToldItem c.told i → (s : T c) → Same (item_part F (over c) depth e i s) (item_part G (side c x) depth e.0 (item_map (ident c) i) s.0)
     item_goes depth e (Expression y) h s = goes_bind c _ _ (w depth y.here e y.tree s) (λ k u. goes refl)
     item_goes depth e (Value z y) h s = goes_bind c _ _ (w depth y.here e y.tree s) (λ k u. goes refl)
     item_goes depth e (Function z here k) h s = goes_bind c _ _ (lambda_goes depth here e k s) (λ l u. goes refl)
