@@ -242,9 +242,11 @@ module _ (w : Era) (known : Known) (s : ScopedState) (f : FineState w s) (in_bod
           let t = map_map (names then_ fs) (held R) x.value in
           let ms = map_after (named_map (names then_ fs)) (named_map in_form) (named_map form_name) (λ n. refl) c.match.met in
           agrees_at (ap (λ z. given (λ i. i) here z then_ >>= scoped_given) e) (ap (λ z. given erase here z (view in_body mine then_) >>= model_given) d)
-          (agree a b (record then_ { nodes = at_form s.form (λ y. y + x.count) s.nodes }) in_body mine refl refl (k_then (at_form s.form (λ y. y + x.count) s.nodes))
-          (grows_itself w then_, record { made = record { tree = x.value; met = record { keyword = keyword; literals = literals } }; same = (λ j. record { tree = map_tree (held R) x.value; met = record { keyword = keyword; literals = ls j } }) },
-          sym (λ j. record { tree = t j; met = record { keyword = keyword; literals = ms j } })))
+          (agree a b (record then_ { nodes = at_form s.form (λ y. y + x.count) s.nodes }) in_body mine refl refl (k_then (at_form s.form (λ y. y + x.count) s.nodes)) (
+            grows_itself w then_,
+            record { made = record { tree = x.value; met = record { keyword = keyword; literals = literals } }; same = (λ j. record { tree = map_tree (held R) x.value; met = record { keyword = keyword; literals = ls j } }) },
+            sym (λ j. record { tree = t j; met = record { keyword = keyword; literals = ms j } }),
+          ))
       build_cases (Err z) r r' (reads e) (reads d) =
           agrees_at (ap (λ z. given (λ i. i) here z then_ >>= scoped_given) e) (ap (λ z. given erase here z (view in_body mine then_) >>= model_given) d)
           (break (record { fault = fault_map (λ i. i) (fault_map (held R) z); here = here }) then_ in_body mine refl
