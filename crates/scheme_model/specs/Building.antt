@@ -125,13 +125,13 @@ list_built parts (Some tail) = with_tail parts.value parts.count tail
     with_tail no_trees n tail = tail
     with_tail (tree t ts) n tail = ended (tree t ts) n tail.value tail.count
 
+abbrev pub is_there : {X : Type 0} → Option X → Bool
+is_there None = false
+is_there (Some x) = true
+
 -- `(... template)`
 abbrev pub is_escape : {A : Type 0} → (A → Bool) → Trees A → Tail A → Bool
 is_escape dots ts tail = is_there (escape_of dots ts tail)
-  where
-    is_there : {X : Type 0} → Option X → Bool
-    is_there None = false
-    is_there (Some x) = true
 
 pub record Template (A B : Type 0) : Type 0 where
   pub same : A → A → Bool
