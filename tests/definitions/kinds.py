@@ -489,6 +489,9 @@ abbrev q : ℕ → ℕ → ℕ → ℕ → List ℕ → Diagnostic
 q document start end code text = record { document = document; start = start; end = end; code = code; text = text }
 """
 
+    def fits(self, row):
+        return "arrows" in row
+
     def lemma(self, row):
         data, spans = document_terms(row)
         uris = [uri for uri, _, _ in documents(row)]
@@ -501,6 +504,9 @@ class Diagnostics(Arrows):
 
     module = "DiagnosticRows"
     says = "Open documents and their diagnostics, from outside."
+
+    def fits(self, row):
+        return "diagnostics" in row
 
     def lemma(self, row):
         data, spans = document_terms(row)

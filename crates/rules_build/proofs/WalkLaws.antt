@@ -8,6 +8,7 @@ use Rattle.scheme_model.specs.RulesShape.{is_dots, leading, nowhere}
 use Rattle.scheme_model.specs.Matching.{Binding, ◌>>=◌, chosen, behind}
 use Rattle.scheme_model.specs.Building.{Built, built, joined, alone, used_in, or_zero, places_of, first_place, later_places, at_places, repeated, list_built, is_escape, build_tree, build_parts, build_tail, build_escaped}
 use Rattle.scheme_model.specs.Ident.{Ident as Identifier, same_ident}
+use Rattle.scheme_model.proofs.BuildLaws.{escape_first}
 use Rattle.syntax_tree.specs.declared.trees.Work.{Work}
 use Rattle.syntax_tree.specs.declared.trees.table.Region.{Region}
 use Rattle.rules_build.specs.declared.fault.BuildFault.{BuildFault}
@@ -55,7 +56,7 @@ pub record Escape (ts : Trees Identifier) (dots : Identifier → Bool) : Type 0 
 pub escape_there : (dots : Identifier → Bool) (ts : Trees Identifier) (tail : Tail Identifier) → is_escape dots ts tail ≡ true → Escape ts dots × (tail ≡ proper)
 escape_there dots no_trees tail h = absurd cc
 escape_there dots (tree t no_trees) tail h = absurd cc
-escape_there dots (tree t (tree u no_trees)) proper h = (record { first = t; inner = u; parts = refl; front = h }, refl)
+escape_there dots (tree t (tree u no_trees)) proper h = (record { first = t; inner = u; parts = refl; front = sym (escape_first dots t u) ∙ h }, refl)
 escape_there dots (tree t (tree u no_trees)) (dotted v) h = absurd cc
 escape_there dots (tree t (tree u (tree v vs))) tail h = absurd cc
 

@@ -13,13 +13,13 @@ use Rattle.scheme_model.specs.RulesShape.{Rules, rules_map, option_map}
 use Rattle.scheme_model.specs.Leaves.{Leaf, leaves_of}
 use Rattle.scheme_model.specs.Cores.{Target, Bound, LocalNumber, Definition, Binder, Core, Ref, Quote, Quasi, Set, LetSyntax, Syntax as syntax_part, outside}
 use Rattle.scheme_model.specs.Steps.{Broken, Step, ◌>>=◌, done}
-use Rattle.scheme_model.specs.Order.{Here, Form, Item, Expression, Value, Function, Assigned, AssignedFunction, ValuesOf, Record, Macro, Pass, Region, Transformer, target_of, head_of, here_at, forms_at, RulesParts, run}
-use Rattle.scheme_model.specs.Expression.{whole, body, Expander, node, each, each_of, bound, procedure, lambda, clauses, meaning_of, macro_with, macro_def, assignment, item_part, parts, items_of, body_in, body_core, expressions, sequence, heads, keep_all, numbers, local_defs, local_macros, recursive, let_syntax, letrec_syntax, mark_of, symbol_or_hole, quasi, quote, unless_keyword, set, reference, call, chosen_sequence, core_form, macro_use, by_head, expression, expand}
+use Rattle.scheme_model.specs.Order.{Here, Form, Item, Expression, Value, Function, Assigned, AssignedFunction, ValuesOf, Record, Macro, Pass, Region, Transformer, target_of, head_of, here_at, forms_at, RulesParts, meet_waiting, meet_all, run}
+use Rattle.scheme_model.specs.Expression.{whole, body, Expander, node, each, each_of, bound, procedure, lambda, clauses, meaning_of, macro_with, macro_def, assignment, item_part, parts, left_of, body_in, body_core, expressions, sequence, heads, keep_all, numbers, local_defs, local_macros, recursive, let_syntax, letrec_syntax, mark_of, symbol_or_hole, quasi, quote, unless_keyword, set, reference, call, chosen_sequence, core_form, macro_use, by_head, expression, expand}
 use Rattle.scheme_model.specs.Substitution.{clause_map, item_map}
 use Rattle.scheme_model.specs.ScopedExpansion.{Frames, FramedIdent, ScopedState, next_number}
 use Rattle.scheme_model.specs.Renaming.{pieces_map, leaf_map, local_macros_map}
 use Rattle.scheme_model.proofs.RenamingLaws.{Reads, map_after, size-map, then_map}
-use Rattle.scheme_model.proofs.ShapeLaws.{some_of-map, one_of-map, if_of-map, named_tree_of-map, error_text_of-map, lambda_of-map, case_lambda_of-map, definition_of-map, values_of-map, local_macros_of-map}
+use Rattle.scheme_model.proofs.ShapeLaws.{some_of-map, one_of-map, if_of-map, named_tree_of-map, syntax_of-map, error_text_of-map, lambda_of-map, case_lambda_of-map, definition_of-map, values_of-map, local_macros_of-map}
 use Rattle.scheme_model.proofs.RequirementLaws.{chosen_of-map}
 use Rattle.scheme_model.proofs.QuasiLaws.{quasi_of-map}
 use Rattle.scheme_model.proofs.LeafLaws.{leaves_of-map}
@@ -27,10 +27,11 @@ use Rattle.scheme_model.proofs.ScopeLaws.{map_map, map_same}
 use Rattle.scheme_model.proofs.IdentKinds.{rules_fused}
 use Rattle.scheme_model.proofs.FrameAsks.{AllOf}
 use Rattle.scheme_model.proofs.FrameReaders.{parts_map}
+use Rattle.scheme_model.proofs.FrameHeld.{left_map}
 use Rattle.scheme_model.proofs.FrameQuasi.{weight_same}
 use Rattle.scheme_model.proofs.CountedOps.{Setting, ToldBound, Side, B, D, T, M, ident, names_over, identifiers, told_names, transformer_map, keep_if, over, side, Goes, goes, goes_at, goes_bind, goes_read}
-use Rattle.scheme_model.proofs.CountedUses.{transformer_same, ToldHead, told_head, head_goes, target_goes, node_goes, use_goes}
-use Rattle.scheme_model.proofs.CountedForms.{ToldItem, forms_at_seen, here_seen, Comes, comes, comes_bind, goes_comes, Ran, ran, ran_at, rules_parts_goes, rules_at_goes}
+use Rattle.scheme_model.proofs.CountedUses.{transformer_same, ToldHead, told_head, head_goes, target_goes, node_goes, use_goes, meet_goes, meet_all_goes}
+use Rattle.scheme_model.proofs.CountedForms.{ToldItem, ToldRest, forms_at_seen, here_seen, Comes, comes, comes_bind, goes_comes, Ran, ran, ran_at, rules_parts_goes, rules_at_goes}
 use Rattle.scheme_model.proofs.CountedRuns.{run_goes}
 
 module _ (c : Setting) (x : Side c) where
@@ -169,7 +170,7 @@ module _ (c : Setting) (x : Side c) where
         → Same (assignment (over c) depth here e n go s) (assignment (side c x) depth here e.0 (named_map (ident c) n) go' s.0)
     assignment_goes depth here e n go go' h s = node_goes c x here 1 depth s _ _ (λ below u. goes_bind c _ _ (h below u) (λ k v. goes (ap (λ t. (Ok (Set t k), v.0)) (target_goes c x e u n.name n.occ))))
 
-    item_goes : (depth : ℕ) (e : D c) (i : Item (B c)) → ToldItem c.told i → (s : T c) → Same (item_part F (over c) depth e i s) (item_part G (side c x) depth e.0 (item_map (ident c) i) s.0)
+    pub item_goes : (depth : ℕ) (e : D c) (i : Item (B c)) → ToldItem c.told i → (s : T c) → Same (item_part F (over c) depth e i s) (item_part G (side c x) depth e.0 (item_map (ident c) i) s.0)
     item_goes depth e (Expression y) h s = goes_bind c _ _ (w depth y.here e y.tree s) (λ k u. goes refl)
     item_goes depth e (Value z y) h s = goes_bind c _ _ (w depth y.here e y.tree s) (λ k u. goes refl)
     item_goes depth e (Function z here k) h s = goes_bind c _ _ (lambda_goes depth here e k s) (λ l u. goes refl)
@@ -185,8 +186,8 @@ module _ (c : Setting) (x : Side c) where
     parts_goes depth e [] h s = goes refl
     parts_goes depth e (i ∷ is) h s = goes_bind c _ _ (item_goes depth e i h.0 s) (λ p u. goes_bind c _ _ (parts_goes depth e is h.1 u) (λ ps v. goes refl))
 
-    items_comes : {q : Pass (B c) (M c) × T c} {q' : Pass Ident FramedIdent × ScopedState} → Ran c q q' → Comes c (AllOf (ToldItem c.told)) (map (item_map (ident c))) (items_of q) (items_of q')
-    items_comes (ran e a) = comes (ap items_of e) a
+    left_comes : {q : Pass (B c) (M c) × T c} {q' : Pass Ident FramedIdent × ScopedState} → Ran c q q' → Comes c (ToldRest c) (left_map (ident c)) (left_of q) (left_of q')
+    left_comes (ran e a) = comes (ap left_of e) a
 
     comes_goes : {V W : Type 0} {H : V → Type 0} {g : V → W} {q : Result V Broken × T c} {q' : Result W Broken × ScopedState} → Comes c H g q q' → Goes c g q q'
     comes_goes (comes e a) = goes e
@@ -195,19 +196,18 @@ module _ (c : Setting) (x : Side c) where
         → Same (body_in (over c) turns (item_part F (over c) below) here ((over c).enter e ts s)) (body_in (side c x) turns (item_part G (side c x) below) here ((side c x).enter e.0 (map_trees (ident c) ts) s.0))
     in_body turns below here e ts s =
         let r = (over c).enter e ts s in
-        comes_goes {H = λ (v : Core). Unit {0}} (comes_bind c _ _
-        (comes_bind c _ _
-        (items_comes_at r)
-        (λ is u a. goes_comes c (parts_goes below r.env is a u)))
-        (λ ps v a. comes refl tt))
+        comes_goes {H = λ (v : Core). Unit {0}} (comes_bind c _ _ (left_comes_at r) (λ l u a.
+        goes_comes c (goes_bind c _ _
+        (goes_at c (ap (parts (item_part G (side c x) below r.env.0) (map (item_map (ident c)) l.items)) (meet_all_goes c x r.env l.uses u)) (parts_goes below r.env l.items a (meet_all (over c) r.env l.uses u)))
+        (λ ps v. goes refl))))
       where
-        items_comes_at : (r : Region (D c) (B c) (T c)) → Comes c (AllOf (ToldItem c.told)) (map (item_map (ident c))) (items_of (run (over c) turns r.env (record { todo = forms_at here r.trees; aside = []; notes = [] }) r.state))
-            (items_of (run (side c x) turns r.env.0 (record { todo = forms_at here (map_trees (ident c) r.trees); aside = []; notes = [] }) r.state.0))
-        items_comes_at r = comes_at_forms (forms_at_seen (ident c) here r.trees) (run_goes c x turns r.env (record { todo = forms_at here r.trees; aside = []; notes = [] }) r.state tt)
+        left_comes_at : (r : Region (D c) (B c) (T c)) → Comes c (ToldRest c) (left_map (ident c)) (left_of (run (over c) turns r.env (record { todo = forms_at here r.trees; aside = []; uses = []; notes = [] }) r.state))
+            (left_of (run (side c x) turns r.env.0 (record { todo = forms_at here (map_trees (ident c) r.trees); aside = []; uses = []; notes = [] }) r.state.0))
+        left_comes_at r = comes_at_forms (forms_at_seen (ident c) here r.trees) (run_goes c x turns r.env (record { todo = forms_at here r.trees; aside = []; uses = []; notes = [] }) r.state tt)
           where
-            comes_at_forms : {fs gs : List (Form Ident)} → gs ≡ fs → Ran c (run (over c) turns r.env (record { todo = forms_at here r.trees; aside = []; notes = [] }) r.state) (run (side c x) turns r.env.0 (record { todo = fs; aside = []; notes = [] }) r.state.0)
-                → Comes c (AllOf (ToldItem c.told)) (map (item_map (ident c))) (items_of (run (over c) turns r.env (record { todo = forms_at here r.trees; aside = []; notes = [] }) r.state)) (items_of (run (side c x) turns r.env.0 (record { todo = gs; aside = []; notes = [] }) r.state.0))
-            comes_at_forms d k = items_comes (ran_at c (ap (λ zs. run (side c x) turns r.env.0 (record { todo = zs; aside = []; notes = [] }) r.state.0) d) k)
+            comes_at_forms : {fs gs : List (Form Ident)} → gs ≡ fs → Ran c (run (over c) turns r.env (record { todo = forms_at here r.trees; aside = []; uses = []; notes = [] }) r.state) (run (side c x) turns r.env.0 (record { todo = fs; aside = []; uses = []; notes = [] }) r.state.0)
+                → Comes c (ToldRest c) (left_map (ident c)) (left_of (run (over c) turns r.env (record { todo = forms_at here r.trees; aside = []; uses = []; notes = [] }) r.state)) (left_of (run (side c x) turns r.env.0 (record { todo = gs; aside = []; uses = []; notes = [] }) r.state.0))
+            comes_at_forms d k = left_comes (ran_at c (ap (λ zs. run (side c x) turns r.env.0 (record { todo = zs; aside = []; uses = []; notes = [] }) r.state.0) d) k)
 
     pub body_goes : (turns depth : ℕ) (here : Here) (e : D c) (ts : Trees (B c)) (s : T c) → Same (body_core F (over c) turns depth here e ts s) (body_core G (side c x) turns depth here e.0 (map_trees (ident c) ts) s.0)
     body_goes turns depth here e ts s = node_goes c x here 1 depth s _ _ (λ below u. in_body turns below here e ts u)
@@ -298,7 +298,7 @@ module _ (c : Setting) (x : Side c) where
     core_goes depth here e IsDefine ts tail s = goes_bind c _ _ (goes_read c here s (definition_of-map (B c) Ident (ident c) (names_over c).same same_ident (λ i j. refl) ts tail)) (λ d u. goes refl)
     core_goes depth here e IsDefineValues ts tail s = goes_bind c _ _ (goes_read c here s (values_of-map (B c) Ident (ident c) (names_over c).same same_ident (λ i j. refl) ts tail)) (λ d u. goes refl)
     core_goes depth here e IsDefineRecordType ts tail s = goes refl
-    core_goes depth here e IsDefineSyntax ts tail s = goes_bind c _ _ (goes_read c here s (named_tree_of-map (B c) Ident (ident c) ts tail)) (λ d u. goes refl)
+    core_goes depth here e IsDefineSyntax ts tail s = goes_bind c _ _ (goes_read c here s (syntax_of-map (B c) Ident (ident c) ts tail)) (λ d u. goes refl)
     core_goes depth here e IsLetSyntax ts tail s = goes_bind c _ _ (goes_read c here s (local_macros_of-map (B c) Ident (ident c) (names_over c).same same_ident (λ i j. refl) ts tail)) (λ m u. let_goes depth here e m u)
     core_goes depth here e IsLetrecSyntax ts tail s = goes_bind c _ _ (goes_read c here s (local_macros_of-map (B c) Ident (ident c) (names_over c).same same_ident (λ i j. refl) ts tail)) (λ m u. letrec_goes depth here e m u)
     core_goes depth here e IsCondExpand ts tail s = goes_bind c _ _ (goes_read c here s (chosen_of-map (B c) Ident (ident c) (names_over c).strip symbol_of (λ i. refl) c.known ts tail)) (λ o u. chosen_goes depth here e o u)
@@ -310,7 +310,7 @@ module _ (c : Setting) (x : Side c) where
     macro_goes : (depth : ℕ) (here : Here) (e : D c) (k : Target) (o : Option (Transformer (D c) (B c))) (ts : Trees (B c)) (tail : Tail (B c)) (s : T c)
         → Same (macro_use F (over c) depth here e k o ts tail s) (macro_use G (side c x) depth here e.0 k (option_map (transformer_map c) o) (map_trees (ident c) ts) (map_tail (ident c) tail) s.0)
     macro_goes depth here e k None ts tail s = goes refl
-    macro_goes depth here e k (Some m) ts tail s = goes_bind c _ _ (use_goes c x here e k m ts tail s) (λ t u. w depth here e t u)
+    macro_goes depth here e k (Some m) ts tail s = goes_bind c _ _ (use_goes c x here e k m ts tail s) (λ i u. goes_at c (ap (G depth here e.0 (whole (map_tree (ident c) i.tree))) (meet_goes c x e i.met u)) (w depth here e i.tree (meet_waiting (over c) e i.met u)))
 
     by_head_goes : (depth : ℕ) (here : Here) (e : D c) (h : Head) → ToldHead c x h → (n : Named (B c)) (ts : Trees (B c)) (tail : Tail (B c)) (s : T c)
         → Same (by_head F (over c) depth here e h n ts tail s) (by_head G (side c x) depth here e.0 h (named_map (ident c) n) (map_trees (ident c) ts) (map_tail (ident c) tail) s.0)

@@ -1,5 +1,5 @@
 -- The forms of a body or a unit, gone through on the third side of counted expansion and on each other side alike.
-use Rattle.std.proofs.Common.{◌≡◌, List, [], ◌∷◌, ◌++◌, map, Bool, true, false, cond, Option, Some, None, Result, Ok, Err, refl, sym, ap, ◌∙◌}
+use Rattle.std.proofs.Common.{◌≡◌, List, [], ◌∷◌, ◌++◌, map, Bool, true, false, cond, Option, Some, None, Result, Ok, Err, refl, sym, ap, ◌∙◌, subst}
 use Rattle.scheme_model.specs.Identifiers.{Number}
 use Rattle.scheme_model.specs.Ident.{Ident, same_ident}
 use Rattle.scheme_model.specs.Trees.{Tree, name, atom, list, vector, Trees, no_trees, tree, map_tree, map_trees, map_tail}
@@ -10,17 +10,18 @@ use Rattle.scheme_model.specs.Shapes.{Formals, Clause, DefinitionShape, Variable
 use Rattle.scheme_model.specs.RulesShape.{Rules, rules_map, rules_of, option_map}
 use Rattle.scheme_model.specs.Cores.{Binder}
 use Rattle.scheme_model.specs.Steps.{Broken, Step, ◌>>=◌, done, fails}
-use Rattle.scheme_model.specs.Order.{Here, Form, Item, Expression, Value, Function, Assigned, AssignedFunction, ValuesOf, Record, Macro, Note, LookedUp, Pending, Pass, Going, head_of, here_at, forms_at, counting, given, told, binder_at, put, noted, first, names_at, next_name, define_next, define_all, define_names, fields_bound, record_names, record_part, caught, run_variable, run_function, run_define, values_put, run_values, run_record, is_rules, RulesParts, rules_parts_of, rules_parts, rules_note, rules_at, or_none}
-use Rattle.scheme_model.specs.Substitution.{form_map, clause_map, item_map, note_map, pending_map}
+use Rattle.scheme_model.specs.Order.{Here, Form, Item, Expression, Value, Function, Assigned, AssignedFunction, ValuesOf, Record, Macro, Note, LookedUp, WaitingUse, Left, Pending, Renamed, Pass, Going, head_of, here_at, forms_at, counting, given, told, binder_at, put, waiting, noted, first, define_all, define_names, fields_bound, record_names, record_part, caught, run_variable, run_function, run_define, run_values, run_record, is_rules, RulesParts, rules_parts_of, rules_parts, rules_note, rules_at, or_none}
+use Rattle.scheme_model.specs.Substitution.{form_map, clause_map, item_map, use_map, note_map, pending_map}
 use Rattle.scheme_model.specs.ScopedExpansion.{FramedIdent, ScopedState, body_around, bound_next, assigned}
 use Rattle.scheme_model.specs.Renaming.{formals_map, definition_map, field_map, record_map}
 use Rattle.scheme_model.proofs.RenamingLaws.{map-append, map_turned, size-map}
+use Rattle.scheme_model.proofs.ScopeLaws.{map_itself}
 use Rattle.scheme_model.proofs.RulesLaws.{rules_of-map}
 use Rattle.scheme_model.proofs.FrameAsks.{AllOf}
-use Rattle.scheme_model.proofs.FrameHeld.{all_append}
+use Rattle.scheme_model.proofs.FrameHeld.{all_append, left_map}
 use Rattle.scheme_model.proofs.FrameReaders.{parts_map}
-use Rattle.scheme_model.proofs.FrameDefinitions.{names_at-map, record_names-map, record_part-map}
-use Rattle.scheme_model.proofs.CountedOps.{Setting, ToldBound, seen, Side, B, D, T, M, ident, at, names_over, identifiers, told_names, define_cases, defined_seen, over, side, Goes, goes, goes_at, goes_read}
+use Rattle.scheme_model.proofs.FrameDefinitions.{record_names-map, record_part-map}
+use Rattle.scheme_model.proofs.CountedOps.{Setting, ToldBound, seen, Side, B, D, T, M, ident, at, names_over, identifiers, told_names, define_cases, renamed_seen, defined_seen, over, side, Goes, goes, goes_at, goes_read}
 use Rattle.scheme_model.proofs.CountedUses.{head_goes, counted_goes}
 
 -- a macro that was set aside is told
@@ -92,19 +93,19 @@ module _ (c : Setting) where
   -- ---- passes
 
   abbrev pub pass_seen : Pass (B c) (M c) → Pass Ident FramedIdent
-  pass_seen p = record { notes = map (note_map (at c)) p.notes; items = seen (map (item_map (ident c))) p.items }
+  pass_seen p = record { notes = map (note_map (at c)) p.notes; left = seen (left_map (ident c)) p.left }
 
   abbrev pub left_seen : Pending (B c) (M c) → Pending Ident FramedIdent
   left_seen p = pending_map (ident c) (at c) p
 
-  abbrev pub ToldItems : List (Item (B c)) → Type 0
-  ToldItems xs = AllOf (ToldItem c.told) xs
+  abbrev pub ToldRest : Left (B c) → Type 0
+  ToldRest l = AllOf (ToldItem c.told) l.items
 
   abbrev pub ToldLeft : Pending (B c) (M c) → Type 0
   ToldLeft p = AllOf (ToldItem c.told) p.aside
 
   pub data Ran (q : Pass (B c) (M c) × T c) (q' : Pass Ident FramedIdent × ScopedState) : Type 0 where
-    ran : q' ≡ (pass_seen q.0, q.1.0) → OkAll ToldItems q.0.items → Ran q q'
+    ran : q' ≡ (pass_seen q.0, q.1.0) → OkAll ToldRest q.0.left → Ran q q'
 
   pub ran_at : {q : Pass (B c) (M c) × T c} {q' q2 : Pass Ident FramedIdent × ScopedState} → q2 ≡ q' → Ran q q' → Ran q q2
   ran_at d (ran e a) = ran (d ∙ e) a
@@ -128,13 +129,16 @@ module _ (c : Setting) where
   caught_comes {G = G} {g = g} {q = q} ns k k' (comes e a) next = ran_at (ap (λ z. caught (map (note_map (at c)) ns) z k') e) (caught_from G g ns q.0 q.1 k k' a next)
 
   put_seen : (t : Item (B c)) (p : Pending (B c) (M c)) → put (item_map (ident c) t) (left_seen p) ≡ left_seen (put t p)
-  put_seen t p = ap (λ (xs : List (Item Ident)). record { todo = map (form_map (ident c)) p.todo; aside = xs; notes = map (note_map (at c)) p.notes }) (sym (map-append (item_map (ident c)) p.aside (t ∷ [])))
+  put_seen t p = ap (λ (xs : List (Item Ident)). record (left_seen p) { aside = xs }) (sym (map-append (item_map (ident c)) p.aside (t ∷ [])))
+
+  pub waiting_seen : (u : WaitingUse (B c)) (p : Pending (B c) (M c)) → waiting (use_map (ident c) u) (left_seen p) ≡ left_seen (waiting u p)
+  waiting_seen u p = ap (λ (us : List (WaitingUse Ident)). record (left_seen p) { uses = us }) (sym (map-append (use_map (ident c)) p.uses (u ∷ [])))
 
   first_seen : (xs : List (Form (B c))) (p : Pending (B c) (M c)) → first (map (form_map (ident c)) xs) (left_seen p) ≡ left_seen (first xs p)
-  first_seen xs p = ap (λ (ys : List (Form Ident)). record { todo = ys; aside = map (item_map (ident c)) p.aside; notes = map (note_map (at c)) p.notes }) (sym (map-append (form_map (ident c)) xs p.todo))
+  first_seen xs p = ap (λ (ys : List (Form Ident)). record (left_seen p) { todo = ys }) (sym (map-append (form_map (ident c)) xs p.todo))
 
   pub noted_seen : (ns : List (Note (M c))) (p : Pending (B c) (M c)) → noted (map (note_map (at c)) ns) (left_seen p) ≡ left_seen (noted ns p)
-  noted_seen ns p = ap (λ (ms : List (Note FramedIdent)). record { todo = map (form_map (ident c)) p.todo; aside = map (item_map (ident c)) p.aside; notes = ms }) (sym (map-append (note_map (at c)) ns p.notes))
+  noted_seen ns p = ap (λ (ms : List (Note FramedIdent)). record (left_seen p) { notes = ms }) (sym (map-append (note_map (at c)) ns p.notes))
 
   put_told : (t : Item (B c)) (p : Pending (B c) (M c)) → ToldItem c.told t → ToldLeft p → ToldLeft (put t p)
   put_told t p a h = all_append (ToldItem c.told) p.aside (t ∷ []) h (a, tt)
@@ -149,14 +153,18 @@ module _ (c : Setting) where
 module _ (c : Setting) (x : Side c) where
   -- ---- a definition
 
+  -- what is left is told, and names stay
+  abbrev pub ToldMade : Renamed (B c) (M c) → Type 0
+  ToldMade r = ToldLeft c r.pending × (r.rename ≡ (λ i. i))
+
   pub define_comes : (here : Here) (n : Named (B c)) (r : Option (Rules (B c))) (e : D c) (p : Pending (B c) (M c)) (s : T c) → ToldLeft c p
-      → Comes c (ToldLeft c) (left_seen c) (told here ((over c).define n r e p s)) (told here ((side c x).define (named_map (ident c) n) (option_map (rules_map (ident c)) r) e.0 (left_seen c p) s.0))
+      → Comes c ToldMade (renamed_seen c) (told here ((over c).define n r e p s)) (told here ((side c x).define (named_map (ident c) n) (option_map (rules_map (ident c)) r) e.0 (left_seen c p) s.0))
   define_comes here n r e p s h = comes_at c (ap (told here) (x.same_define n r e p s)) (go _ _)
     where
-      go : (y d : Bool) → Comes c (ToldLeft c) (left_seen c) (told here (define_cases c n r e p s y d)) (told here (defined_seen c (define_cases c n r e p s y d)))
+      go : (y d : Bool) → Comes c ToldMade (renamed_seen c) (told here (define_cases c n r e p s y d)) (told here (defined_seen c (define_cases c n r e p s y d)))
       go true d = comes refl tt
       go false true = comes refl tt
-      go false false = comes refl h
+      go false false = comes refl (h, refl)
 
   module _ (f : OverGo c) (f' : SideGo c) (law : RanLaw c f f') (here : Here) (e : D c) where
     pub put_goes : (t : Item (B c)) (p : Pending (B c) (M c)) (s : T c) → ToldItem c.told t → ToldLeft c p → Ran c (f (put t p) s) (f' (put (item_map (ident c) t) (left_seen c p)) s.0)
@@ -166,9 +174,9 @@ module _ (c : Setting) (x : Side c) where
     first_goes xs p s h = ran_at c (ap (λ z. f' z s.0) (first_seen c xs p)) (law (first xs p) s h)
 
     one_goes : (n : Named (B c)) (t : Item (B c)) (p : Pending (B c) (M c)) (s : T c) → ToldItem c.told t → ToldLeft c p
-        → Ran c (caught p.notes (told here ((over c).define n None e (put t p) s)) f) (caught (map (note_map (at c)) p.notes) (told here ((side c x).define (named_map (ident c) n) None e.0 (put (item_map (ident c) t) (left_seen c p)) s.0)) f')
+        → Ran c (caught p.notes (told here ((over c).define n None e (put t p) s)) (λ d. f d.pending)) (caught (map (note_map (at c)) p.notes) (told here ((side c x).define (named_map (ident c) n) None e.0 (put (item_map (ident c) t) (left_seen c p)) s.0)) (λ d. f' d.pending))
     one_goes n t p s a h =
-        caught_comes c p.notes f f' (comes_at c (ap (λ z. told here ((side c x).define (named_map (ident c) n) None e.0 z s.0)) (put_seen c t p)) (define_comes here n None e (put t p) s (put_told c t p a h))) law
+        caught_comes c p.notes (λ d. f d.pending) (λ d. f' d.pending) (comes_at c (ap (λ z. told here ((side c x).define (named_map (ident c) n) None e.0 z s.0)) (put_seen c t p)) (define_comes here n None e (put t p) s (put_told c t p a h))) (λ r u b. law r.pending u b.0)
 
     variable_goes : (n : Named (B c)) (t : Tree (B c)) (b : Bool) (p : Pending (B c) (M c)) (s : T c) → ToldLeft c p → Ran c (run_variable (over c) f here e n t b p s) (run_variable (side c x) f' here e.0 (named_map (ident c) n) (map_tree (ident c) t) b (left_seen c p) s.0)
     variable_goes n t true p s h = put_goes (Assigned n (record { here = here; tree = t })) p s tt h
@@ -184,44 +192,31 @@ module _ (c : Setting) (x : Side c) where
 
     -- ---- several names
 
-    abbrev several_seen : List Binder × Pending (B c) (M c) → List Binder × Pending Ident FramedIdent
-    several_seen q = (q.0, left_seen c q.1)
+    abbrev several_seen : List Binder × Renamed (B c) (M c) → List Binder × Renamed Ident FramedIdent
+    several_seen q = (q.0, renamed_seen c q.1)
 
-    abbrev Several : Result (List Binder × Pending (B c) (M c)) Broken × T c → Result (List Binder × Pending Ident FramedIdent) Broken × ScopedState → Type 0
-    Several q q' = Comes c (λ (v : List Binder × Pending (B c) (M c)). ToldLeft c v.1) several_seen q q'
+    abbrev Several : Result (List Binder × Renamed (B c) (M c)) Broken × T c → Result (List Binder × Renamed Ident FramedIdent) Broken × ScopedState → Type 0
+    Several q q' = Comes c (λ (v : List Binder × Renamed (B c) (M c)). ToldMade v.1) several_seen q q'
 
-    abbrev AllGoes : List (Named (B c)) → Type 0
-    AllGoes ns = (p : Pending (B c) (M c)) (s : T c) → ToldLeft c p → Several (define_all (over c) here e ns p s) (define_all (side c x) here e.0 (map (named_map (ident c)) ns) (left_seen c p) s.0)
+    all_goes : (ns : List (Named (B c))) (p : Pending (B c) (M c)) (s : T c) → ToldLeft c p → Several (define_all (over c) here e (λ i. i) ns p s) (define_all (side c x) here e.0 (λ i. i) (map (named_map (ident c)) ns) (left_seen c p) s.0)
+    all_goes [] p s h = comes refl (h, refl)
+    all_goes (n ∷ ns) p s h =
+        comes_bind c _ _ (define_comes here n None e p s h) (λ r u a.
+        subst (λ (g : B c → B c). Several (define_all (over c) here e g ns r.pending u >>= λ more. done (binder_at (over c) e s n ∷ more.0, more.1)) (define_all (side c x) here e.0 (λ i. i) (map (named_map (ident c)) ns) (left_seen c r.pending) u.0 >>= λ more. done (binder_at (side c x) e.0 s.0 (named_map (ident c) n) ∷ more.0, more.1)))
+        (sym a.1) (comes_bind c _ _ (all_goes ns r.pending u a.0) (λ more v b. comes refl b)))
 
-    module _ (ns : List (Named (B c))) (ih : AllGoes ns) (p : Pending (B c) (M c)) (s : T c) (h : ToldLeft c p) where
-      next_is : (t : Tree (B c)) (hr : Here) (todo : List (Form (B c)))
-          → Several (define_next (over c) here e (define_all (over c) here e ns) p (next_name p (record { here = hr; tree = t } ∷ todo)) s)
-          (define_next (side c x) here e.0 (define_all (side c x) here e.0 (map (named_map (ident c)) ns)) (left_seen c p) (next_name (left_seen c p) (record { here = hr; tree = map_tree (ident c) t } ∷ map (form_map (ident c)) todo)) s.0)
-      next_is (name i o) hr todo = comes_bind c _ _ (define_comes here (named i o) None e (record { todo = todo; aside = p.aside; notes = p.notes }) s h) (λ r u a. comes_bind c _ _ (ih r u a) (λ more v b. comes refl b))
-      next_is (atom a o) hr todo = comes refl h
-      next_is (list ts tail o) hr todo = comes refl h
-      next_is (vector ts o) hr todo = comes refl h
+    names_goes : (ns : List (Named (B c))) (p : Pending (B c) (M c)) (s : T c) → ToldLeft c p → Several (define_names (over c) here e ns p s) (define_names (side c x) here e.0 (map (named_map (ident c)) ns) (left_seen c p) s.0)
+    names_goes ns p s h = all_goes ns p s h
 
-      next_goes : (todo : List (Form (B c))) → Several (define_next (over c) here e (define_all (over c) here e ns) p (next_name p todo) s) (define_next (side c x) here e.0 (define_all (side c x) here e.0 (map (named_map (ident c)) ns)) (left_seen c p) (next_name (left_seen c p) (map (form_map (ident c)) todo)) s.0)
-      next_goes [] = comes refl h
-      next_goes (y ∷ ys) = next_is y.tree y.here ys
-
-    all_goes : (ns : List (Named (B c))) → AllGoes ns
-    all_goes [] p s h = comes refl h
-    all_goes (n ∷ ns) p s h = next_goes ns (all_goes ns) p s h p.todo
-
-    names_goes : (ns : List (Named (B c))) (xs : List (Form (B c))) (p : Pending (B c) (M c)) (s : T c) → ToldLeft c p → Several (define_names (over c) here e ns xs p s) (define_names (side c x) here e.0 (map (named_map (ident c)) ns) (map (form_map (ident c)) xs) (left_seen c p) s.0)
-    names_goes ns xs p s h =
-        let q = ap (λ zs. zs ++ map (form_map (ident c)) xs) (names_at-map (B c) Ident (ident c) here ns) ∙ sym (map-append (form_map (ident c)) (names_at here ns) xs) in
-        comes_at c (ap (λ z. define_all (side c x) here e.0 (map (named_map (ident c)) ns) z s.0) (ap (λ zs. first zs (left_seen c p)) q ∙ first_seen c (names_at here ns ++ xs) p)) (all_goes ns (first (names_at here ns ++ xs) p) s h)
-
-    put_values : (bs : List Binder) (rest : Bool) (p : Pending (B c) (M c)) (s : T c) → ToldLeft c p → (todo : List (Form (B c))) → Ran c (f (values_put bs rest p todo) s) (f' (values_put bs rest (left_seen c p) (map (form_map (ident c)) todo)) s.0)
-    put_values bs rest p s h [] = law p s h
-    put_values bs rest p s h (y ∷ ys) = put_goes (ValuesOf (record { names = bs; rest = rest }) y) (record { todo = ys; aside = p.aside; notes = p.notes }) s tt h
+    value_same : (g : B c → B c) → g ≡ (λ i. i) → (t : Tree (B c)) → map_tree (λ i. i) (map_tree (ident c) t) ≡ map_tree (ident c) (map_tree g t)
+    value_same g d t = map_itself (map_tree (ident c) t) ∙ sym (ap (λ (h : B c → B c). map_tree (ident c) (map_tree h t)) d ∙ ap (map_tree (ident c)) (map_itself t))
 
     pub values_goes : (p : Pending (B c) (M c)) → ToldLeft c p → (d : Formals (B c) × Tree (B c)) (s : T c) → Ran c (run_values (over c) f here e p d s) (run_values (side c x) f' here e.0 (left_seen c p) (formals_map (ident c) d.0, map_tree (ident c) d.1) s.0)
     values_goes p h d s =
-        caught_comes c p.notes (λ r. f (values_put r.0 d.0.rest r.1 r.1.todo)) (λ r. f' (values_put r.0 d.0.rest r.1 r.1.todo)) (names_goes d.0.names (record { here = here; tree = d.1 } ∷ []) p s h) (λ r u a. put_values r.0 d.0.rest r.1 u a r.1.todo)
+        caught_comes c p.notes (λ r. f (put (ValuesOf (record { names = r.0; rest = d.0.rest }) (record { here = here; tree = map_tree r.1.rename d.1 })) r.1.pending))
+        (λ r. f' (put (ValuesOf (record { names = r.0; rest = d.0.rest }) (record { here = here; tree = map_tree r.1.rename (map_tree (ident c) d.1) })) r.1.pending)) (names_goes d.0.names p s h) (λ r u a.
+        ran_at c (ap (λ t. f' (put (ValuesOf (record { names = r.0; rest = d.0.rest }) (record { here = here; tree = t })) (left_seen c r.1.pending)) u.0) (value_same r.1.rename a.1 d.1))
+        (put_goes (ValuesOf (record { names = r.0; rest = d.0.rest }) (record { here = here; tree = map_tree r.1.rename d.1 })) r.1.pending u tt a.0))
 
     -- ---- records
 
@@ -233,12 +228,12 @@ module _ (c : Setting) (x : Side c) where
     record_goes p h r s =
         let fields = map_turned (λ (y : FieldShape Ident). y.field) (field_map (ident c)) (named_map (ident c)) (λ (y : FieldShape (B c)). y.field) (λ y. refl) r.fields in
         let ns = record_names-map (B c) Ident (ident c) r in
-        caught_comes c {G = λ (q : List Binder × (List Binder × Pending (B c) (M c))). ToldLeft c q.1.1} {g = λ (q : List Binder × (List Binder × Pending (B c) (M c))). (q.0, (q.1.0, left_seen c q.1.1))} p.notes
-        (λ q. f (put (Record (record_part (names_over c).same r q.1.0 q.0)) q.1.1)) (λ q. f' (put (Record (record_part same_ident (record_map (ident c) r) q.1.0 q.0)) q.1.1))
-        (comes_at c (λ j. fields_bound (side c x) (fields j) s.0 >>= λ bs t. define_names (side c x) here e.0 (ns j) [] (left_seen c p) t >>= λ q. done (bs, q))
-        (comes_bind c _ _ (fields_comes (map (λ y. y.field) r.fields) s) (λ bs u a. comes_bind c _ _ (names_goes (record_names r) [] p u h) (λ q v b. comes refl b))))
-        (λ q u a. ran_at c (ap (λ z. f' (put (Record z) (left_seen c q.1.1)) u.0) (record_part-map (B c) Ident (ident c) (names_over c).same same_ident (λ i j. refl) r q.1.0 q.0))
-        (put_goes (Record (record_part (names_over c).same r q.1.0 q.0)) q.1.1 u tt a))
+        caught_comes c {G = λ (q : List Binder × (List Binder × Renamed (B c) (M c))). ToldMade q.1.1} {g = λ (q : List Binder × (List Binder × Renamed (B c) (M c))). (q.0, (q.1.0, renamed_seen c q.1.1))} p.notes
+        (λ q. f (put (Record (record_part (names_over c).same r q.1.0 q.0)) q.1.1.pending)) (λ q. f' (put (Record (record_part same_ident (record_map (ident c) r) q.1.0 q.0)) q.1.1.pending))
+        (comes_at c (λ j. fields_bound (side c x) (fields j) s.0 >>= λ bs t. define_names (side c x) here e.0 (ns j) (left_seen c p) t >>= λ q. done (bs, q))
+        (comes_bind c _ _ (fields_comes (map (λ y. y.field) r.fields) s) (λ bs u a. comes_bind c _ _ (names_goes (record_names r) p u h) (λ q v b. comes refl b))))
+        (λ q u a. ran_at c (ap (λ z. f' (put (Record z) (left_seen c q.1.1.pending)) u.0) (record_part-map (B c) Ident (ident c) (names_over c).same same_ident (λ i j. refl) r q.1.0 q.0))
+        (put_goes (Record (record_part (names_over c).same r q.1.0 q.0)) q.1.1.pending u tt a.0))
 
     -- ---- rules
 

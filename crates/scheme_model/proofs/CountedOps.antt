@@ -10,8 +10,8 @@ use Rattle.scheme_model.specs.Requirements.{Known}
 use Rattle.scheme_model.specs.RulesShape.{Names, Rules, rules_map, option_map}
 use Rattle.scheme_model.specs.Cores.{Target, MacroUse, Bound, LocalNumber, Definition}
 use Rattle.scheme_model.specs.Steps.{Broken, Step, ◌>>=◌}
-use Rattle.scheme_model.specs.Order.{Here, Note, Pending, Transformer, Ops, is_some, given}
-use Rattle.scheme_model.specs.Substitution.{Clock, at_form, note_map, pending_map, any}
+use Rattle.scheme_model.specs.Order.{Here, Note, Pending, Renamed, Transformer, Ops, is_some, given}
+use Rattle.scheme_model.specs.Substitution.{Clock, at_form, note_map, pending_map, any, unchanged}
 use Rattle.scheme_model.specs.ScopedExpansion.{Frames, Bind, Enter, FramedIdent, ScopedState, next_number, means_at, macro_at, body_around, bound_next, assigned, definition_added, meaning_next, is_defined, refused_now, scoped}
 use Rattle.scheme_model.specs.Renaming.{Renames, result_map}
 use Rattle.scheme_model.proofs.RenamingLaws.{Reads, reads}
@@ -110,13 +110,13 @@ module _ (c : Setting) where
   abbrev pub then_holds : (n : Named B) (r : Option (Rules B)) (e : D) (s : T) → c.holds (then_ n r e s)
   then_holds n r e s = c.define s.0 s.1 e.0 e.1 (named_map ident n) n.name.1 (option_map (rules_map ident) r) (maybe_held r)
 
-  abbrev pub define_cases : Named B → Option (Rules B) → D → Pending B M → T → (refused defined : Bool) → Result (Pending B M) (Fault Ident) × T
+  abbrev pub define_cases : Named B → Option (Rules B) → D → Pending B M → T → (refused defined : Bool) → Result (Renamed B M) (Fault Ident) × T
   define_cases n r e p s refused defined =
       if refused then (Err (KeywordRedefined (named_map ident n)), s)
       else if defined then (Err (Duplicate (named_map ident n)), s)
-      else (Ok p, (then_ n r e s, then_holds n r e s))
+      else (Ok (unchanged p), (then_ n r e s, then_holds n r e s))
 
-  abbrev pub define_over : Named B → Option (Rules B) → D → Pending B M → T → Result (Pending B M) (Fault Ident) × T
+  abbrev pub define_over : Named B → Option (Rules B) → D → Pending B M → T → Result (Renamed B M) (Fault Ident) × T
   define_over n r e p s =
       define_cases n r e p s (any (λ note. c.asks n.name.0 note && refused_now (then_ n r e s) (meaning_next s.0 (body_around e.0) n.name.0) (is_some (option_map (rules_map ident) r)) note) (map (note_map at) p.notes)) (is_defined s.0 (body_around e.0) n.name.0)
 
@@ -147,14 +147,17 @@ module _ (c : Setting) where
     define = λ n r e p s. define_over n r e p s;
   }
 
-  -- what comes of a definition
-  abbrev pub defined_seen : Result (Pending B M) (Fault Ident) × T → Result (Pending Ident FramedIdent) (Fault Ident) × ScopedState
-  defined_seen q = (seen (pending_map ident at) q.0, q.1.0)
+  -- what comes of a definition, which leaves names as they are
+  abbrev pub renamed_seen : Renamed B M → Renamed Ident FramedIdent
+  renamed_seen r = unchanged (pending_map ident at r.pending)
+
+  abbrev pub defined_seen : Result (Renamed B M) (Fault Ident) × T → Result (Renamed Ident FramedIdent) (Fault Ident) × ScopedState
+  defined_seen q = (seen renamed_seen q.0, q.1.0)
 
   -- a side that means and defines as the third does
   pub record Side : Type 0 where
     pub means : Frames → ScopedState → Ident → Meaning
-    pub define : Named Ident → Option (Rules Ident) → Frames → Pending Ident FramedIdent → ScopedState → Result (Pending Ident FramedIdent) (Fault Ident) × ScopedState
+    pub define : Named Ident → Option (Rules Ident) → Frames → Pending Ident FramedIdent → ScopedState → Result (Renamed Ident FramedIdent) (Fault Ident) × ScopedState
     pub same_means : (e : D) (s : T) (i : B) → means e.0 s.0 i.0 ≡ means_at s.0 e.0 i.0
     pub same_define : (n : Named B) (r : Option (Rules B)) (e : D) (p : Pending B M) (s : T) → define (named_map ident n) (option_map (rules_map ident) r) e.0 (pending_map ident at p) s.0 ≡ defined_seen (define_over n r e p s)
 

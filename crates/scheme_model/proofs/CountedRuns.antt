@@ -8,15 +8,15 @@ use Rattle.scheme_model.specs.Meaning.{Head, IsCore, IsAuxiliary, IsMacro, IsNon
 use Rattle.scheme_model.specs.RulesShape.{option_map}
 use Rattle.scheme_model.specs.Cores.{Target, Binder}
 use Rattle.scheme_model.specs.Steps.{◌>>=◌, done}
-use Rattle.scheme_model.specs.Order.{Here, Form, Expression, Macro, Note, LookedUp, Pending, Pass, Transformer, target_of, head_of, forms_at, told, comparisons, use_of, binder_at, put, noted, first, caught, rules_parts_of, rules_parts, rules_note, rules_at, run_syntax, splice, or_none, read_then, run_core, run_use, run_head, run_form, run_next, run}
+use Rattle.scheme_model.specs.Order.{Here, Form, Expression, Macro, Note, LookedUp, Pending, Pass, Transformer, target_of, head_of, forms_at, told, comparisons, use_of, binder_at, put, waiting, noted, first, caught, rules_parts_of, rules_parts, rules_note, rules_at, run_syntax, splice, or_none, read_then, run_core, run_use, run_head, run_form, run_next, run}
 use Rattle.scheme_model.specs.Substitution.{form_map}
 use Rattle.scheme_model.specs.ScopedExpansion.{FramedIdent, ScopedState}
 use Rattle.scheme_model.proofs.RenamingLaws.{Reads}
-use Rattle.scheme_model.proofs.ShapeLaws.{proper_of-map, definition_of-map, values_of-map, record_of-map, named_tree_of-map}
+use Rattle.scheme_model.proofs.ShapeLaws.{proper_of-map, definition_of-map, values_of-map, record_of-map, syntax_of-map}
 use Rattle.scheme_model.proofs.RequirementLaws.{chosen_of-map}
 use Rattle.scheme_model.proofs.CountedOps.{Setting, ToldBound, Side, B, D, T, M, ident, names_over, transformer_map, over, side, goes_read}
 use Rattle.scheme_model.proofs.CountedUses.{transformer_same, ToldHead, told_head, head_goes, target_goes, counting_goes, use_goes, comparisons_goes}
-use Rattle.scheme_model.proofs.CountedForms.{parts_of_seen, forms_at_seen, here_seen, or_none_seen, comes, goes_comes, comes_bind, left_seen, ToldLeft, Ran, ran, ran_at, OverGo, SideGo, RanLaw, caught_comes, noted_seen, told_bound, define_comes, put_goes, first_goes, define_goes, values_goes, record_goes, note_goes, rules_parts_goes, rules_at_goes}
+use Rattle.scheme_model.proofs.CountedForms.{parts_of_seen, forms_at_seen, here_seen, or_none_seen, comes, goes_comes, comes_bind, left_seen, ToldLeft, Ran, ran, ran_at, OverGo, SideGo, RanLaw, caught_comes, waiting_seen, noted_seen, told_bound, define_comes, put_goes, first_goes, define_goes, values_goes, record_goes, note_goes, rules_parts_goes, rules_at_goes}
 
 module _ (c : Setting) (x : Side c) where
   module _ (f : OverGo c) (f' : SideGo c) (law : RanLaw c f f') (e : D c) where
@@ -24,11 +24,11 @@ module _ (c : Setting) (x : Side c) where
       -- ---- macro definitions
 
       syntax_with : (d : Named (B c) × Tree (B c)) (s : T c) (q : Pending (B c) (M c)) → ToldLeft c q
-          → Ran c (caught {B = Binder × Pending (B c) (M c)} q.notes (rules_parts (over c) here e (rules_parts_of d.1) s >>= λ r t0. rules_at (over c) here d.1 r t0 >>= λ rules t. told here ((over c).define d.0 (Some rules) e q t) >>= λ q2. done (binder_at (over c) e t d.0, q2)) (λ r. f (put (Macro r.0 here) r.1)))
-          (caught {B = Binder × Pending Ident FramedIdent} (left_seen c q).notes (rules_parts (side c x) here e.0 (rules_parts_of (map_tree (ident c) d.1)) s.0 >>= λ r t0. rules_at (side c x) here (map_tree (ident c) d.1) r t0 >>= λ rules t. told here ((side c x).define (named_map (ident c) d.0) (Some rules) e.0 (left_seen c q) t) >>= λ q2. done (binder_at (side c x) e.0 t (named_map (ident c) d.0), q2)) (λ r. f' (put (Macro r.0 here) r.1)))
+          → Ran c (caught {B = Binder × Pending (B c) (M c)} q.notes (rules_parts (over c) here e (rules_parts_of d.1) s >>= λ r t0. rules_at (over c) here d.1 r t0 >>= λ rules t. told here ((over c).define d.0 (Some rules) e q t) >>= λ made. done (binder_at (over c) e t d.0, made.pending)) (λ r. f (put (Macro r.0 here) r.1)))
+          (caught {B = Binder × Pending Ident FramedIdent} (left_seen c q).notes (rules_parts (side c x) here e.0 (rules_parts_of (map_tree (ident c) d.1)) s.0 >>= λ r t0. rules_at (side c x) here (map_tree (ident c) d.1) r t0 >>= λ rules t. told here ((side c x).define (named_map (ident c) d.0) (Some rules) e.0 (left_seen c q) t) >>= λ made. done (binder_at (side c x) e.0 t (named_map (ident c) d.0), made.pending)) (λ r. f' (put (Macro r.0 here) r.1)))
       syntax_with d s q h =
           caught_comes c {G = λ (v : Binder × Pending (B c) (M c)). ToldBound c.told v.0.bound × ToldLeft c v.1} {g = λ (v : Binder × Pending (B c) (M c)). (v.0, left_seen c v.1)} q.notes (λ r. f (put (Macro r.0 here) r.1)) (λ r. f' (put (Macro r.0 here) r.1))
-          (comes_bind c _ _ (goes_comes c (rules_parts_goes c x here e d.1 s)) (λ r t0 a. comes_bind c _ _ (goes_comes c (rules_at_goes c x here e d.1 r t0)) (λ rules t a1. comes_bind c _ _ (define_comes c x here d.0 (Some rules) e q t h) (λ q2 u a2. comes refl (told_bound c e t, a2)))))
+          (comes_bind c _ _ (goes_comes c (rules_parts_goes c x here e d.1 s)) (λ r t0 a. comes_bind c _ _ (goes_comes c (rules_at_goes c x here e d.1 r t0)) (λ rules t a1. comes_bind c _ _ (define_comes c x here d.0 (Some rules) e q t h) (λ made u a2. comes refl (told_bound c e t, a2.0)))))
           (λ r u a. put_goes c x f f' law here e (Macro r.0 here) r.1 u a.0 a.1)
 
       syntax_goes : (p : Pending (B c) (M c)) → ToldLeft c p → (d : Named (B c) × Tree (B c)) (s : T c) → Ran c (run_syntax (over c) f here e p d s) (run_syntax (side c x) f' here e.0 (left_seen c p) (named_map (ident c) d.0, map_tree (ident c) d.1) s.0)
@@ -36,7 +36,7 @@ module _ (c : Setting) (x : Side c) where
           let note = rules_note (over c) e s (rules_parts_of d.1) in
           let q = ap (λ o. noted (rules_note (side c x) e.0 s.0 o) (left_seen c p)) (parts_of_seen (ident c) d.1) ∙ ap (λ ns. noted ns (left_seen c p)) (note_goes c x f f' law here e s (rules_parts_of d.1)) ∙ noted_seen c note p in
           ran_at c
-          (ap (λ (z : Pending Ident FramedIdent). caught {B = Binder × Pending Ident FramedIdent} z.notes (rules_parts (side c x) here e.0 (rules_parts_of (map_tree (ident c) d.1)) s.0 >>= λ r t0. rules_at (side c x) here (map_tree (ident c) d.1) r t0 >>= λ rules t. told here ((side c x).define (named_map (ident c) d.0) (Some rules) e.0 z t) >>= λ q2. done (binder_at (side c x) e.0 t (named_map (ident c) d.0), q2)) (λ r. f' (put (Macro r.0 here) r.1))) q)
+          (ap (λ (z : Pending Ident FramedIdent). caught {B = Binder × Pending Ident FramedIdent} z.notes (rules_parts (side c x) here e.0 (rules_parts_of (map_tree (ident c) d.1)) s.0 >>= λ r t0. rules_at (side c x) here (map_tree (ident c) d.1) r t0 >>= λ rules t. told here ((side c x).define (named_map (ident c) d.0) (Some rules) e.0 z t) >>= λ made. done (binder_at (side c x) e.0 t (named_map (ident c) d.0), made.pending)) (λ r. f' (put (Macro r.0 here) r.1))) q)
           (syntax_with d s (noted note p) h)
 
       -- ---- core forms
@@ -65,7 +65,7 @@ module _ (c : Setting) (x : Side c) where
       core_goes IsDefine t y ts tail p h s = read_goes p _ _ ((over c).meet t s) (definition_of-map (B c) Ident (ident c) (names_over c).same same_ident (λ i j. refl) ts tail) (λ d u. define_goes c x f f' law here e p h d u)
       core_goes IsDefineValues t y ts tail p h s = read_goes p _ _ ((over c).meet t s) (values_of-map (B c) Ident (ident c) (names_over c).same same_ident (λ i j. refl) ts tail) (λ d u. values_goes c x f f' law here e p h d u)
       core_goes IsDefineRecordType t y ts tail p h s = read_goes p _ _ ((over c).meet t s) (record_of-map (B c) Ident (ident c) (names_over c).same same_ident (λ i j. refl) ts tail) (λ r u. record_goes c x f f' law here e p h r u)
-      core_goes IsDefineSyntax t y ts tail p h s = read_goes p _ _ ((over c).meet t s) (named_tree_of-map (B c) Ident (ident c) ts tail) (λ d u. syntax_goes p h d u)
+      core_goes IsDefineSyntax t y ts tail p h s = read_goes p _ _ ((over c).meet t s) (syntax_of-map (B c) Ident (ident c) ts tail) (λ d u. syntax_goes p h d u)
       core_goes IsLetSyntax t y ts tail p h s = put_goes c x f f' law here e (Expression y) p s tt h
       core_goes IsLetrecSyntax t y ts tail p h s = put_goes c x f f' law here e (Expression y) p s tt h
       core_goes IsCondExpand t y ts tail p h s = read_goes p _ _ ((over c).meet t s) (chosen_of-map (B c) Ident (ident c) (names_over c).strip symbol_of (λ i. refl) c.known ts tail) (λ o u. chosen_goes p h o u)
@@ -80,10 +80,11 @@ module _ (c : Setting) (x : Side c) where
       run_use_goes k (Some m) y ts tail p h s =
           let ns = comparisons (over c) e m ts tail s in
           ran_at c
-          (ap (λ (z : Pending Ident FramedIdent). caught z.notes (use_of (side c x) here e.0 k (transformer_map c m) (map_trees (ident c) ts) (map_tail (ident c) tail) s.0) (λ t. f' (first (record { here = here; tree = t } ∷ []) z)))
+          (ap (λ (z : Pending Ident FramedIdent). caught z.notes (use_of (side c x) here e.0 k (transformer_map c m) (map_trees (ident c) ts) (map_tail (ident c) tail) s.0) (λ i. f' (first (record { here = here; tree = i.tree } ∷ []) (waiting i.met z))))
           (ap (λ zs. noted zs (left_seen c p)) (comparisons_goes c x e m ts tail s) ∙ noted_seen c ns p))
-          (caught_comes c (noted ns p).notes (λ t. f (first (record { here = here; tree = t } ∷ []) (noted ns p))) (λ t. f' (first (record { here = here; tree = t } ∷ []) (left_seen c (noted ns p))))
-          (goes_comes c (use_goes c x here e k m ts tail s)) (λ t u a. first_goes c x f f' law here e (record { here = here; tree = t } ∷ []) (noted ns p) u h))
+          (caught_comes c (noted ns p).notes (λ i. f (first (record { here = here; tree = i.tree } ∷ []) (waiting i.met (noted ns p)))) (λ i. f' (first (record { here = here; tree = i.tree } ∷ []) (waiting i.met (left_seen c (noted ns p)))))
+          (goes_comes c (use_goes c x here e k m ts tail s)) (λ i u a.
+          ran_at c (ap (λ z. f' (first (record { here = here; tree = map_tree (ident c) i.tree } ∷ []) z) u.0) (waiting_seen c i.met (noted ns p))) (first_goes c x f f' law here e (record { here = here; tree = i.tree } ∷ []) (waiting i.met (noted ns p)) u h)))
 
       by_head : (hd : Head) → ToldHead c x hd → (t : Target) (y : Form (B c)) (ts : Trees (B c)) (tail : Tail (B c)) (p : Pending (B c) (M c)) → ToldLeft c p → (s : T c)
           → Ran c (run_head (over c) f here e hd t y ts tail p s) (run_head (side c x) f' here e.0 hd t (form_map (ident c) y) (map_trees (ident c) ts) (map_tail (ident c) tail) (left_seen c p) s.0)
@@ -114,8 +115,8 @@ module _ (c : Setting) (x : Side c) where
     next_goes : (todo : List (Form (B c))) (p : Pending (B c) (M c)) → ToldLeft c p → (s : T c) → Ran c (run_next (over c) f e todo p s) (run_next (side c x) f' e.0 (map (form_map (ident c)) todo) (left_seen c p) s.0)
     next_goes [] p h s = ran refl h
     next_goes (y ∷ ys) p h s =
-        ran_at c (ap (λ hr. run_form (side c x) f' e.0 hr (form_map (ident c) y) (map_tree (ident c) y.tree) (left_seen c (record { todo = ys; aside = p.aside; notes = p.notes })) s.0) (here_seen (ident c) y.tree y.here))
-        (form_goes _ y y.tree (record { todo = ys; aside = p.aside; notes = p.notes }) h s)
+        ran_at c (ap (λ hr. run_form (side c x) f' e.0 hr (form_map (ident c) y) (map_tree (ident c) y.tree) (left_seen c (record p { todo = ys })) s.0) (here_seen (ident c) y.tree y.here))
+        (form_goes _ y y.tree (record p { todo = ys }) h s)
 
   -- all forms, within the same turns
   pub run_goes : (turns : ℕ) (e : D c) → RanLaw c (run (over c) turns e) (run (side c x) turns e.0)

@@ -7,7 +7,7 @@ use Rattle.scheme_model.specs.Meaning.{Meaning, Local, Global, Standard, Free, s
 use Rattle.scheme_model.specs.Requirements.{Known}
 use Rattle.scheme_model.specs.RulesShape.{rules_map, option_map}
 use Rattle.scheme_model.specs.Order.{Note, LookedUp, Compared, Pending, is_some}
-use Rattle.scheme_model.specs.Substitution.{Defined, defined_in, form_map, item_map, note_map, pending_map, meaning, deep, asks, any, differ, is_refused, is_mine, is_among, is_own, rules_mapped, own_rules}
+use Rattle.scheme_model.specs.Substitution.{Defined, defined_in, form_map, item_map, use_map, note_map, pending_map, meaning, deep, asks, any, differ, is_refused, is_mine, is_among, is_own, rules_mapped, own_rules}
 use Rattle.scheme_model.specs.Scopes.{defined_or}
 use Rattle.scheme_model.specs.ScopedExpansion.{Frames, BodyDefinitions, FramedIdent, ScopedMacro, ScopedState, find, next_number, means_inside, means_outside, means_at}
 use Rattle.scheme_model.specs.FrameImages.{is_before, is_older, entered_as, before_definition, image_inside, image_outside, frame_image}
@@ -15,7 +15,7 @@ use Rattle.scheme_model.proofs.OpenBodies.{NotYet, Entered, PlacesIn, Definition
 use Rattle.scheme_model.proofs.FrameEras.{Before, below_counted}
 use Rattle.scheme_model.proofs.RenamingLaws.{map_after}
 use Rattle.scheme_model.proofs.IdentLaws.{number_itself}
-use Rattle.scheme_model.proofs.IdentKinds.{rules_kind, form_fused, item_fused, rules_fused}
+use Rattle.scheme_model.proofs.IdentKinds.{rules_kind, form_fused, item_fused, use_fused, rules_fused}
 use Rattle.scheme_model.proofs.FrameTimes.{image_definitions, inside_new}
 use Rattle.scheme_model.proofs.FrameBodies.{raw}
 use Rattle.scheme_model.proofs.FrameDefines.{same_elsewhere, far, defined_image}
@@ -37,7 +37,8 @@ pending_fused g f h p =
     let a = map_after (form_map g) (form_map f) (form_map (λ i. g (f i))) (form_fused Ident Name Name g f) p.todo in
     let b = map_after (item_map g) (item_map f) (item_map (λ i. g (f i))) (item_fused Ident Name Name g f) p.aside in
     let c = map_after (note_map g) (note_map h) (note_map (λ l. g (h l))) (notes_fused g h) p.notes in
-    λ j. record { todo = a j; aside = b j; notes = c j }
+    let u = map_after (use_map g) (use_map f) (use_map (λ i. g (f i))) (use_fused Ident Name Name g f) p.uses in
+    λ j. record { todo = a j; aside = b j; uses = u j; notes = c j }
 
 -- refused on both sides
 pub refused_same : {L M : Type 0} (P : L → Type 0) (g : L → M) (new : Bool) (asked : L → Bool) (asked' : M → Bool) (now : L → Meaning) (now' : M → Meaning) → ((l : L) → P l → asked' (g l) ≡ asked l) → ((l : L) → P l → now' (g l) ≡ now l)
@@ -182,7 +183,7 @@ module _ (worked : ℕ → Bool) (known : Known) (s0 : ScopedState) (f0 : Fine (
     place_defined l (inl q) = subst (λ (fs : Frames). deep X v (frame_image t.places t.definitions fs l.ident) ≡ frame_image t.places later fs l.ident) (sym q.0) (defined_image body s0.uses c t.places t.definitions s0.bodies in_places is_young in_definitions in_frames x v free l.ident q.1.1)
     place_defined l (inr q) = far body s0.uses c t.places t.definitions s0.bodies in_places is_young in_definitions in_frames x v free l.frames (other l.frames q.0) l.ident (below_counted (era worked s0) s0.uses l.ident q.1)
 
-    leaf_defined : (i : Ident) → Leaf worked known s0 f0 c st0 t i → deep X v (names t frames i) ≡ frame_image t.places later frames i
+    pub leaf_defined : (i : Ident) → Leaf worked known s0 f0 c st0 t i → deep X v (names t frames i) ≡ frame_image t.places later frames i
     leaf_defined i h = place_defined (record { frames = frames; ident = i }) (inl (refl, h))
 
     pub pending_defined : (p : Pending Ident FramedIdent) → PendingHeld (Leaf worked known s0 f0 c st0 t) (Stood t) p

@@ -8,8 +8,8 @@ use Rattle.scheme_model.specs.Meaning.{Local, same_meaning}
 use Rattle.scheme_model.specs.Requirements.{Known}
 use Rattle.scheme_model.specs.RulesShape.{Rules, rules_map, option_map}
 use Rattle.scheme_model.specs.Cores.{LocalNumber, Definition}
-use Rattle.scheme_model.specs.Order.{Here, Note, Pending, Transformer, is_some, told}
-use Rattle.scheme_model.specs.Substitution.{State, at_form, note_map, pending_map, any, refused_in_body, is_own, rules_mapped, own_rules, with_macro, meaning, deep, asks, defined_local, define_in_body, is_plain, is_variable, defined_in, definition_count, model}
+use Rattle.scheme_model.specs.Order.{Here, Note, Pending, Renamed, Transformer, is_some, told}
+use Rattle.scheme_model.specs.Substitution.{State, at_form, note_map, pending_map, renamed, unchanged, any, refused_in_body, is_own, rules_mapped, own_rules, with_macro, meaning, deep, asks, defined_local, define_in_body, is_plain, is_variable, defined_in, definition_count, model}
 use Rattle.scheme_model.specs.ScopedExpansion.{Frames, BodyDefinitions, FramedIdent, ScopedMacro, ScopedState, find, next_number, means_at, macro_at, macro_added, definition_added, refused_now, define_at}
 use Rattle.scheme_model.proofs.OpenBodies.{Before as Counted, Below as BelowCounted, Entered}
 use Rattle.scheme_model.proofs.FrameEras.{Before, Below, below_counted, frames_entered}
@@ -27,9 +27,9 @@ use Rattle.scheme_model.proofs.FrameAgrees.{Agrees, agree, break, agrees_at}
 use Rattle.scheme_model.proofs.FrameHeads.{IfMacro, TransformerFine, macro_found}
 use Rattle.scheme_model.proofs.FrameUses.{placed}
 use Rattle.scheme_model.proofs.FrameHeld.{NoteAll, PendingHeld}
-use Rattle.scheme_model.proofs.FramePlaces.{MacroHere, PlaceFacts}
+use Rattle.scheme_model.proofs.FramePlaces.{MacroHere, DefinesSo, PlaceFacts}
 use Rattle.scheme_model.proofs.FrameOpen.{b, home, mine_of, MacroSits, Opened, Inside, Leaf, PlaceIn, RuleLeaf, other_of, young, places_in, definitions_in, frames_in, entered_body, stands_in, placed_below, leaf_later, place_later, placed_later, sits_among, used_sits, used_opened}
-use Rattle.scheme_model.proofs.FrameBodyDefines.{refused_same, any_same, some_same, asked_same, now_same, mine_same, pending_defined, own_later, foreign_later, rules_defined, macros_defined}
+use Rattle.scheme_model.proofs.FrameBodyDefines.{refused_same, any_same, some_same, asked_same, now_same, mine_same, leaf_defined, pending_defined, own_later, foreign_later, rules_defined, macros_defined}
 
 module _ (worked : ℕ → Bool) (known : Known) (s0 : ScopedState) (f0 : Fine (era worked s0) s0.locals s0.uses s0.bodies s0.table s0.entry s0.macros s0.places s0.definitions) (c : Frames) (st0 : Stands (era worked s0) s0 c) where
   abbrev body : Number
@@ -173,16 +173,16 @@ module _ (worked : ℕ → Bool) (known : Known) (s0 : ScopedState) (f0 : Fine (
       state_then : defined_local X (option_map (rules_map (names t frames)) r) (view true (mine t.definitions) t) ≡ view true (mine then_.definitions) then_
       state_then = let m = macros_then r hr in let n = mine_then in λ j. record (view true (mine then_.definitions) then_) { macros = m j; mine = n j }
 
-    abbrev Left : ScopedState → Pending Ident FramedIdent → Pending Name Name → Type 0
-    Left z q q' = PendingHeld (Stands_here z) (Stood z) q × (q' ≡ pending_map (names z frames) (placed z) q)
+    abbrev Made : ScopedState → Renamed Ident FramedIdent → Renamed Name Name → Type 0
+    Made z q q' = DefinesSo (era worked s0) known frames In Any Stands_here Stood Rule_leaf Dropped t z q q'
 
-    abbrev Goal : Here → Pending Ident FramedIdent → Result (Pending Ident FramedIdent) (Fault Ident) × ScopedState → Result (Pending Name Name) (Fault Ident) × State → Type 0
-    Goal here p q m = Agrees (λ z i n. In z i n × Any t z) Left (told here q) (told here m)
+    abbrev Goal : Here → Pending Ident FramedIdent → Result (Renamed Ident FramedIdent) (Fault Ident) × ScopedState → Result (Renamed Name Name) (Fault Ident) × State → Type 0
+    Goal here p q m = Agrees (λ z i n. In z i n × Any t z) Made (told here q) (told here m)
 
     define_cases : (here : Here) (p : Pending Ident FramedIdent) → PendingHeld (Stands_here t) (Stood t) p → (y : Bool) (d : Option (Number × BodyDefinitions)) → find t.definitions body x.name ≡ d
-        → Goal here p (cond y (Err (KeywordRedefined x), t) (cond (is_some d) (Err (Duplicate x), t) (Ok p, then_)))
+        → Goal here p (cond y (Err (KeywordRedefined x), t) (cond (is_some d) (Err (Duplicate x), t) (Ok (unchanged p), then_)))
         (cond y (Err (KeywordRedefined (named (erase X) x.occ)), view true (mine t.definitions) t) (cond (is_some d) (Err (Duplicate (named (erase X) x.occ)), view true (mine t.definitions) t)
-        (Ok (pending_map (deep X v) (deep X v) (pending_map (names t frames) (placed t) p)), defined_local X (option_map (rules_map (names t frames)) r) (view true (mine t.definitions) t))))
+        (Ok (renamed (deep X v) (pending_map (names t frames) (placed t) p)), defined_local X (option_map (rules_map (names t frames)) r) (view true (mine t.definitions) t))))
     define_cases here p h true d e =
         break (record { fault = KeywordRedefined x; here = here }) t true (mine t.definitions) refl
         (ap (λ i. (Err (record { fault = KeywordRedefined (named i x.occ); here = here }), view true (mine t.definitions) t)) (erase_frame_image t.places t.definitions frames x.name)) ((o, refl, refl), tt)
@@ -190,8 +190,9 @@ module _ (worked : ℕ → Bool) (known : Known) (s0 : ScopedState) (f0 : Fine (
         break (record { fault = Duplicate x; here = here }) t true (mine t.definitions) refl
         (ap (λ i. (Err (record { fault = Duplicate (named i x.occ); here = here }), view true (mine t.definitions) t)) (erase_frame_image t.places t.definitions frames x.name)) ((o, refl, refl), tt)
     define_cases here p h false None e =
-        agree p (pending_map (deep X v) (deep X v) (pending_map (names t frames) (placed t) p)) then_ true (mine then_.definitions) refl
-        (ap (λ s. (Ok (pending_map (deep X v) (deep X v) (pending_map (names t frames) (placed t) p)), s)) (state_then e)) ((opened_then e, refl, refl), tt) (h, pending_defined worked known s0 f0 c st0 t o x.name e p h)
+        agree (unchanged p) (renamed (deep X v) (pending_map (names t frames) (placed t) p)) then_ true (mine then_.definitions) refl
+        (ap (λ s. (Ok (renamed (deep X v) (pending_map (names t frames) (placed t) p)), s)) (state_then e)) ((opened_then e, refl, refl), tt)
+        (record { held = h; seen = pending_defined worked known s0 f0 c st0 t o x.name e p h; plain = refl; leaf = λ i l. l; reads = λ i l. leaf_defined worked known s0 f0 c st0 t o x.name e i l })
 
     define_law : (here : Here) (p : Pending Ident FramedIdent) → PendingHeld (Stands_here t) (Stood t) p
         → Goal here p (define_at (Some body) x r frames p t) (define_in_body (named X x.occ) (option_map (rules_map (names t frames)) r) (pending_map (names t frames) (placed t) p) (view true (mine t.definitions) t))
@@ -199,7 +200,7 @@ module _ (worked : ℕ → Bool) (known : Known) (s0 : ScopedState) (f0 : Fine (
         agrees_at refl
         (let y = refused p h in let z = mine_same worked known s0 f0 c st0 t o x.name in
         λ j. told here (cond (y j) (Err (KeywordRedefined (named (erase X) x.occ)), view true (mine t.definitions) t) (cond (z j) (Err (Duplicate (named (erase X) x.occ)), view true (mine t.definitions) t)
-        (Ok (pending_map (deep X v) (deep X v) (pending_map (names t frames) (placed t) p)), defined_local X (option_map (rules_map (names t frames)) r) (view true (mine t.definitions) t)))))
+        (Ok (renamed (deep X v) (pending_map (names t frames) (placed t) p)), defined_local X (option_map (rules_map (names t frames)) r) (view true (mine t.definitions) t)))))
         (define_cases here p h (any (refused_now then_ (Local v) (is_some r)) p.notes) (find t.definitions body x.name) refl)
 
   -- ---- all that a place has to give

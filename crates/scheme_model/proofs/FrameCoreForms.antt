@@ -1,5 +1,5 @@
 -- The law of an expression, whatever its form, over expanders that hold it of parts.
-use Rattle.std.proofs.Common.{◌≡◌, ℕ, List, Bool, Option, Some, None, refl, ap, subst}
+use Rattle.std.proofs.Common.{◌≡◌, ℕ, List, Bool, Option, Some, None, refl, ap, ◌∙◌, subst}
 use Rattle.scheme_model.specs.declared.Occ.{Occ}
 use Rattle.scheme_model.specs.Identifiers.{Number, Name}
 use Rattle.scheme_model.specs.Ident.{Ident, erase, same_ident}
@@ -12,7 +12,7 @@ use Rattle.scheme_model.specs.Shapes.{Clause, LocalMacros, lambda_of, case_lambd
 use Rattle.scheme_model.specs.RulesShape.{option_map}
 use Rattle.scheme_model.specs.Cores.{Target, Core, Const, CaseLambda, If}
 use Rattle.scheme_model.specs.Steps.{◌>>=◌, done, fails}
-use Rattle.scheme_model.specs.Order.{Here, Transformer, target_of, head_of, given}
+use Rattle.scheme_model.specs.Order.{Here, Transformer, target_of, head_of, given, meet_waiting}
 use Rattle.scheme_model.specs.Expression.{whole, node, each, clauses, lambda, quasi, quote, set, sequence, misplaced, chosen_sequence, let_syntax, letrec_syntax, core_form, macro_use, by_head, expression}
 use Rattle.scheme_model.specs.Substitution.{Clock, model}
 use Rattle.scheme_model.specs.ScopedExpansion.{Frames, ScopedState, macro_at, scoped}
@@ -23,8 +23,9 @@ use Rattle.scheme_model.proofs.FrameStates.{names, view, Old, ident_of, Made, Fi
 use Rattle.scheme_model.proofs.FrameLeaves.{TreeAll, TreesAll, TailAll, all_made_tree, all_made_trees}
 use Rattle.scheme_model.proofs.FrameAgrees.{Agrees, agrees_at, Keeps, keeps_bind, Same, same_done, same_fails, Seen}
 use Rattle.scheme_model.proofs.FrameHeads.{seen_transformer, transformer_seen, IfMacro, TransformerFine, macro_found, head_seen, target_seen, node_law}
+use Rattle.scheme_model.proofs.FrameUses.{meet_seen}
 use Rattle.scheme_model.proofs.FrameInstances.{use_law}
-use Rattle.scheme_model.proofs.FrameReaders.{identifiers, model_names, rest_kind, named_tree_kind, formals_tree_kind, maybe_trees_kind, text_kind, Reader, one_reader, some_reader, if_reader, text_reader, named_tree_reader, lambda_reader, case_lambda_reader, definition_reader, values_reader, local_macros_reader, chosen_reader, read_law, made_rest}
+use Rattle.scheme_model.proofs.FrameReaders.{identifiers, model_names, rest_kind, named_tree_kind, formals_tree_kind, maybe_trees_kind, text_kind, Reader, one_reader, some_reader, if_reader, text_reader, named_tree_reader, syntax_reader, lambda_reader, case_lambda_reader, definition_reader, values_reader, local_macros_reader, chosen_reader, read_law, made_rest}
 use Rattle.scheme_model.proofs.FrameExpressions.{Scoped, Modelled, WholeLaw, BodyLaw, sequence_law, call_law, conditional_law, set_law, quote_law, reference_law}
 use Rattle.scheme_model.proofs.FrameBinders.{knows, lambda_law, clauses_law, each_made}
 use Rattle.scheme_model.proofs.FrameMacros.{let_syntax_law, letrec_syntax_law}
@@ -84,7 +85,7 @@ module _ (w : Era) (known : Known) (F : Scoped w known) (G : Modelled w known) (
     core_form_law IsDefine = misplaced_law definition_kind definition_reader
     core_form_law IsDefineValues = misplaced_law formals_tree_kind values_reader
     core_form_law IsDefineRecordType = same_fails w s in_body mine here BadPlace f
-    core_form_law IsDefineSyntax = misplaced_law named_tree_kind named_tree_reader
+    core_form_law IsDefineSyntax = misplaced_law named_tree_kind syntax_reader
     core_form_law IsLetSyntax =
         keeps_bind w s _ (knows (λ (m : LocalMacros Ident). Distinct m.names) here (local_macros_of same_ident ts tail) s (local_macros_distinct ts tail) (reading local_macros_kind local_macros_reader)) (λ a b t i n k q.
         agrees_at refl (ap (λ x. let_syntax G (model known) depth here tt x (view i n t)) q.0.1) (let_syntax_law w known F G body_law depth here fs a t k.0 i n (stands_later w s t k.1 fs stands) q.0.0 q.1))
@@ -105,7 +106,10 @@ module _ (w : Era) (known : Known) (F : Scoped w known) (G : Modelled w known) (
     macro_law k None m = same_fails w s in_body mine here BadForm f
     macro_law k (Some x) m =
         keeps_bind w s _ (use_law w known s f in_body mine fs stands x m ts tail old old_end here k) (λ a b t i n l q.
-        agrees_at refl (ap (λ (u : Tree Name). G depth here tt (whole u) (view i n t)) q.1) (law depth here fs a t l.0 i n (stands_later w s t l.1 fs stands) (all_made_tree w t.uses a q.0)))
+        let e = q.1 in
+        agrees_at refl
+        ((λ j. G depth here tt (whole (e j).tree) (meet_waiting (model known) tt (e j).met (view i n t))) ∙ ap (G depth here tt (whole (map_tree (names t fs) a.tree))) (meet_seen w known t l.0 i n fs a.met))
+        (law depth here fs a.tree (meet_waiting (scoped known) fs a.met t) l.0 i n (stands_later w s t l.1 fs stands) (all_made_tree w t.uses a.tree (record { clock = q.0.clock; earlier = q.0.earlier; made = q.0.made.tree; same = ap (λ y. y.tree) q.0.same }))))
 
   -- ---- a form by its head
 

@@ -2,39 +2,36 @@
 use Rattle.std.proofs.Common.{◌≡◌, ℕ, suc, List, [], ◌∷◌, ◌++◌, map, Bool, true, false, cond, Option, Some, None, Result, refl, sym, ap, ◌∙◌, subst}
 use Rattle.scheme_model.specs.Identifiers.{Number, Name, same_name}
 use Rattle.scheme_model.specs.Ident.{Ident, erase, same_ident}
-use Rattle.scheme_model.specs.Trees.{Tree, name, atom, list, vector, map_tree}
+use Rattle.scheme_model.specs.Trees.{Tree, map_tree}
 use Rattle.scheme_model.specs.ExpansionFaults.{Named, named, named_map}
 use Rattle.scheme_model.specs.Requirements.{Known}
 use Rattle.scheme_model.specs.Shapes.{Formals, Clause, DefinitionShape, Variable, Procedure, FieldShape, RecordShape}
 use Rattle.scheme_model.specs.RulesShape.{option_map}
 use Rattle.scheme_model.specs.Cores.{LocalNumber, Binder}
 use Rattle.scheme_model.specs.Steps.{Broken, Step, ◌>>=◌, done}
-use Rattle.scheme_model.specs.Order.{Here, Form, Item, Value, Function, Assigned, AssignedFunction, ValuesOf, Record, Note, Pending, Pass, Transformer, binder_at, told, put, first, names_at, next_name, define_next, define_all, define_names, fields_bound, position, modifiers, modified, is_some, record_names, record_part, caught, run_variable, run_function, run_define, values_put, run_values, run_record}
+use Rattle.scheme_model.specs.Order.{Here, Form, Item, Value, Function, Assigned, AssignedFunction, ValuesOf, Record, Note, Pending, Renamed, Pass, Transformer, binder_at, told, put, define_all, define_names, fields_bound, position, modifiers, modified, is_some, record_names, record_part, caught, run_variable, run_function, run_define, run_values, run_record}
 use Rattle.scheme_model.specs.Substitution.{State, at_form, form_map, item_map, note_map, clause_map, model}
 use Rattle.scheme_model.specs.ScopedExpansion.{Frames, FramedIdent, ScopedState, next_number, scoped}
 use Rattle.scheme_model.specs.Renaming.{formals_map, definition_map, field_map, record_map}
 use Rattle.scheme_model.proofs.FrameEras.{Era}
-use Rattle.scheme_model.proofs.RenamingLaws.{map-append, map_turned, append_map}
+use Rattle.scheme_model.proofs.RenamingLaws.{map_turned, append_map}
+use Rattle.scheme_model.proofs.ScopeLaws.{map_map, map_itself}
 use Rattle.scheme_model.proofs.IdentKinds.{definition_kind, record_kind}
 use Rattle.scheme_model.proofs.Clocks.{leq_counted}
 use Rattle.scheme_model.proofs.Distinct.{Distinct, ShapeDistinct}
 use Rattle.scheme_model.proofs.FrameNames.{erase_frame_image, same_frame_image}
 use Rattle.scheme_model.proofs.FrameAsks.{AllOf, all_of_more}
 use Rattle.scheme_model.proofs.FrameStates.{names, view, Grows, grows_itself, grows_then, locals_grow, names_later}
-use Rattle.scheme_model.proofs.FrameLeaves.{TreeAll, Holding, held, all_held, lift_tree, lifted_tree, Held}
+use Rattle.scheme_model.proofs.FrameLeaves.{Holding, held, all_held, tree_same, Held}
 use Rattle.scheme_model.proofs.FrameAgrees.{Agrees, agree, break, agrees_at, agrees_bind, agrees_more}
 use Rattle.scheme_model.proofs.FrameUses.{placed}
 use Rattle.scheme_model.proofs.FrameReaders.{formals_tree_kind}
-use Rattle.scheme_model.proofs.FrameHeld.{FormAll, ItemHeld, PendingHeld, all_append, all_same, pending_more, pending_same, put_seen, first_seen, put_held, first_held}
-use Rattle.scheme_model.proofs.FramePlaces.{seen_pending, On, PlaceFacts, Together, together_at, CodeGo, ModelGo, RunLaw, on_bind, caught_law, put_law, binder_seen}
+use Rattle.scheme_model.proofs.FrameHeld.{ItemHeld, PendingHeld, all_same, pending_more, pending_same, put_seen, put_held}
+use Rattle.scheme_model.proofs.FramePlaces.{seen_pending, On, DefinesSo, PlaceFacts, Together, together_at, CodeGo, ModelGo, RunLaw, on_bind, caught_law, put_law, binder_seen}
 
 -- ---- names, renamed
 
 module _ (A B : Type 0) (f : A → B) where
-  pub names_at-map : (here : Here) (ns : List (Named A)) → names_at here (map (named_map f) ns) ≡ map (form_map f) (names_at here ns)
-  names_at-map here [] = refl
-  names_at-map here (n ∷ ns) = ap (λ xs. record { here = here; tree = name (f n.name) n.occ } ∷ xs) (names_at-map here ns)
-
   modifiers-map : (xs : List (FieldShape A)) → modifiers (map (field_map f) xs) ≡ map (named_map f) (modifiers xs)
   modifiers-map [] = refl
   modifiers-map (x ∷ xs) = go x.modifier (modifiers-map xs)
@@ -96,13 +93,13 @@ module _ (w : Era) (known : Known) (fs : Frames) (Inside : ScopedState → Bool 
   module _ (s : ScopedState) (i : Bool) (n : List Number) (k : Inside s i n) (p : Pending Ident FramedIdent) (h : HeldAt s p) where
     -- a definition, and its item set aside
     one_law : (x : Named Ident) → Leaf s x.name → (t : Item Ident) (t' : Item Name) → t' ≡ item_map (names s fs) t → ItemHeld (Leaf s) t
-        → Both (caught p.notes (told here ((scoped known).define x None fs (put t p) s)) f) (caught (map (note_map (placed s)) p.notes) (told here ((model known).define (named_map (names s fs) x) None tt (put t' (seen s p)) (view i n s))) g)
+        → Both (caught p.notes (told here ((scoped known).define x None fs (put t p) s)) (λ d. f d.pending)) (caught (map (note_map (placed s)) p.notes) (told here ((model known).define (named_map (names s fs) x) None tt (put t' (seen s p)) (view i n s))) (λ d. g d.pending))
     one_law x l t t' e q =
-        caught_law w known fs Inside Trail Leaf PlaceIn RuleLeaf Ended facts s i n k p.notes h.2 f g
+        caught_law w known fs Inside Trail Leaf PlaceIn RuleLeaf Ended facts s i n k p.notes h.2 (λ d. f d.pending) (λ d. g d.pending)
         (agrees_at refl
         (λ j. told here ((model known).define (named_map (names s fs) x) None tt ((ap (λ z. put z (seen s p)) e ∙ put_seen (names s fs) (placed s) t p) j) (view i n s)))
         (facts.defines s i n k here x l None tt (put t p) (put_held (Leaf s) (PlaceIn s) t p q h)))
-        (λ a b v i1 n1 k1 r. together_at w known fs Inside Trail Leaf PlaceIn RuleLeaf Ended refl (ap (λ z. g z (view i1 n1 v)) r.1) (law a v i1 n1 k1 r.0))
+        (λ a b v i1 n1 k1 r. together_at w known fs Inside Trail Leaf PlaceIn RuleLeaf Ended refl (ap (λ z. g z (view i1 n1 v)) r.seen) (law a.pending v i1 n1 k1 r.held))
 
     put_one : (t : Item Ident) → ItemHeld (Leaf s) t → Both (f (put t p) s) (g (put (item_map (names s fs) t) (seen s p)) (view i n s))
     put_one t q = put_law w known fs Inside Trail Leaf PlaceIn RuleLeaf Ended facts f g law s i n k p h t q
@@ -142,63 +139,58 @@ module _ (w : Era) (known : Known) (fs : Frames) (Inside : ScopedState → Bool 
 
   -- ---- several names
 
-  -- the binders are the same
-  abbrev Several : ScopedState → List Binder × Pending Ident FramedIdent → List Binder × Pending Name Name → Type 0
-  Several t a b = (b.0 ≡ a.0) × HeldAt t a.1 × (b.1 ≡ seen t a.1)
+  abbrev Made : ScopedState → ScopedState → Renamed Ident FramedIdent → Renamed Name Name → Type 0
+  Made s t q q' = DefinesSo w known fs Inside Trail Leaf PlaceIn RuleLeaf Ended s t q q'
 
-  abbrev AllLaw : List (Named Ident) → List (Named Name) → Type 0
-  AllLaw ns ns' = (p : Pending Ident FramedIdent) (s : ScopedState) (i : Bool) (n : List Number) → Inside s i n → HeldAt s p → Agrees (At s) Several (define_all (scoped known) here fs ns p s) (define_all (model known) here tt ns' (seen s p) (view i n s))
+  -- the binders are the same; s0 is where the names stood
+  abbrev Several : ScopedState → ScopedState → List Binder × Renamed Ident FramedIdent → List Binder × Renamed Name Name → Type 0
+  Several s0 t a b = (b.0 ≡ a.0) × Made s0 t a.1 b.1
 
-  module _ (ns : List (Named Ident)) (ns' : List (Named Name)) (ih : AllLaw ns ns') (s : ScopedState) (i : Bool) (n : List Number) (k : Inside s i n) (p : Pending Ident FramedIdent) (h : HeldAt s p) where
-    next_is : (t : Tree Ident) → TreeAll (Leaf s) t → (hr : Here) (todo : List (Form Ident)) → AllOf (FormAll (Leaf s)) todo
-        → Agrees (At s) Several (define_next (scoped known) here fs (define_all (scoped known) here fs ns) p (next_name p (record { here = hr; tree = t } ∷ todo)) s)
-        (define_next (model known) here tt (define_all (model known) here tt ns') (seen s p) (next_name (seen s p) (record { here = hr; tree = map_tree (names s fs) t } ∷ map (form_map (names s fs)) todo)) (view i n s))
-    next_is (name x o) l hr todo lt =
-        on_bind w known fs Inside Trail Leaf PlaceIn RuleLeaf Ended facts s _ (facts.defines s i n k here (named x o) l None tt (record { todo = todo; aside = p.aside; notes = p.notes }) (lt, h.1, h.2)) (λ q q' t i1 n1 k1 r.
-        on_bind w known fs Inside Trail Leaf PlaceIn RuleLeaf Ended facts t _ (agrees_at refl (ap (λ z. define_all (model known) here tt ns' z (view i1 n1 t)) r.1) (ih q t i1 n1 k1 r.0)) (λ a b v i2 n2 k2 e.
-        agree (binder_at (scoped known) fs s (named x o) ∷ a.0, a.1) (binder_at (model known) tt (view i n s) (named (names s fs x) o) ∷ b.0, b.1) v i2 n2 refl refl (k2, on_itself v)
-        ((let z = binder_seen w known fs Inside Trail Leaf PlaceIn RuleLeaf Ended facts s i n k (named x o) in let y = e.0 in λ j. z j ∷ y j), e.1, e.2)))
-    next_is (atom a o) l hr todo lt = agree ([], p) ([], seen s p) s i n refl refl (k, on_itself s) (refl, h, refl)
-    next_is (list ts tail o) l hr todo lt = agree ([], p) ([], seen s p) s i n refl refl (k, on_itself s) (refl, h, refl)
-    next_is (vector ts o) l hr todo lt = agree ([], p) ([], seen s p) s i n refl refl (k, on_itself s) (refl, h, refl)
+  module _ (s0 : ScopedState) where
+    -- what the definitions have made of names by then
+    abbrev AllLaw : List (Named Ident) → Type 0
+    AllLaw ns = (c : Name → Name) (p : Pending Ident FramedIdent) (s : ScopedState) (i : Bool) (n : List Number) → Inside s i n → HeldAt s p → ((x : Ident) → Leaf s0 x → Leaf s x) → ((x : Ident) → Leaf s0 x → c (names s0 fs x) ≡ names s fs x)
+        → Agrees (At s) (Several s0) (define_all (scoped known) here fs (λ x. x) ns p s) (define_all (model known) here tt c (map (named_map (names s0 fs)) ns) (seen s p) (view i n s))
 
-    next_law : (todo : List (Form Ident)) → AllOf (FormAll (Leaf s)) todo
-        → Agrees (At s) Several (define_next (scoped known) here fs (define_all (scoped known) here fs ns) p (next_name p todo) s) (define_next (model known) here tt (define_all (model known) here tt ns') (seen s p) (next_name (seen s p) (map (form_map (names s fs)) todo)) (view i n s))
-    next_law [] l = agree ([], p) ([], seen s p) s i n refl refl (k, on_itself s) (refl, h, refl)
-    next_law (x ∷ xs) l = next_is x.tree l.0 x.here xs l.1
+    all_law : (ns : List (Named Ident)) → AllOf (λ (x : Named Ident). Leaf s0 x.name) ns → AllLaw ns
+    all_law [] l c p s i n k h leaf reads =
+        agree ([], record { pending = p; rename = λ x. x }) ([], record { pending = seen s p; rename = c }) s i n refl refl (k, on_itself s) (refl, record { held = h; seen = refl; plain = refl; leaf = leaf; reads = reads })
+    all_law (x ∷ ns) l c p s i n k h leaf reads =
+        let y = reads x.name l.0 in
+        on_bind w known fs Inside Trail Leaf PlaceIn RuleLeaf Ended facts s _
+        (agrees_at refl (λ j. told here ((model known).define (named (y j) x.occ) None tt (seen s p) (view i n s))) (facts.defines s i n k here x (leaf x.name l.0) None tt p h)) (λ q q' t i1 n1 k1 r.
+        on_bind w known fs Inside Trail Leaf PlaceIn RuleLeaf Ended facts t _
+        (agrees_at (ap (λ (e : Ident → Ident). define_all (scoped known) here fs e ns q.pending t) r.plain)
+        (ap (λ z. define_all (model known) here tt (λ a. q'.rename (c a)) (map (named_map (names s0 fs)) ns) z (view i1 n1 t)) r.seen)
+        (all_law ns l.1 (λ a. q'.rename (c a)) q.pending t i1 n1 k1 r.held (λ z m. r.leaf z (leaf z m)) (λ z m. ap q'.rename (reads z m) ∙ r.reads z (leaf z m)))) (λ a b v i2 n2 k2 e.
+        agree (binder_at (scoped known) fs s x ∷ a.0, a.1) (binder_at (model known) tt (view i n s) (named (c (names s0 fs x.name)) x.occ) ∷ b.0, b.1) v i2 n2 refl refl (k2, on_itself v)
+        ((let z = ap (λ u. binder_at (model known) tt (view i n s) (named u x.occ)) y ∙ binder_seen w known fs Inside Trail Leaf PlaceIn RuleLeaf Ended facts s i n k x in let bs = e.0 in λ j. z j ∷ bs j), e.1)))
 
-  all_law : (c : Ident → Name) (ns : List (Named Ident)) → AllLaw ns (map (named_map c) ns)
-  all_law c [] p s i n k h = agree ([], p) ([], seen s p) s i n refl refl (k, on_itself s) (refl, h, refl)
-  all_law c (x ∷ ns) p s i n k h = next_law ns (map (named_map c) ns) (all_law c ns) s i n k p h p.todo h.0
-
-  names_held : (P : Ident → Type 0) (ns : List (Named Ident)) → AllOf (λ (x : Named Ident). P x.name) ns → AllOf (FormAll P) (names_at here ns)
-  names_held P [] l = tt
-  names_held P (x ∷ ns) l = (l.0, names_held P ns l.1)
-
-  pub names_law : (ns : List (Named Ident)) (xs : List (Form Ident)) (p : Pending Ident FramedIdent) (s : ScopedState) (i : Bool) (n : List Number) → Inside s i n → HeldAt s p → AllOf (λ (x : Named Ident). Leaf s x.name) ns → AllOf (FormAll (Leaf s)) xs
-      → Agrees (At s) Several (define_names (scoped known) here fs ns xs p s) (define_names (model known) here tt (map (named_map (names s fs)) ns) (map (form_map (names s fs)) xs) (seen s p) (view i n s))
-  names_law ns xs p s i n k h l lx =
-      let e = ap (λ zs. zs ++ map (form_map (names s fs)) xs) (names_at-map Ident Name (names s fs) here ns) ∙ sym (map-append (form_map (names s fs)) (names_at here ns) xs) in
-      agrees_at refl (λ j. define_all (model known) here tt (map (named_map (names s fs)) ns) ((ap (λ zs. first zs (seen s p)) e ∙ first_seen (names s fs) (placed s) (names_at here ns ++ xs) p) j) (view i n s))
-      (all_law (names s fs) ns (first (names_at here ns ++ xs) p) s i n k (first_held (Leaf s) (PlaceIn s) (names_at here ns ++ xs) p (all_append (FormAll (Leaf s)) (names_at here ns) xs (names_held (Leaf s) ns l) lx) h))
+  pub names_law : (ns : List (Named Ident)) (p : Pending Ident FramedIdent) (s : ScopedState) (i : Bool) (n : List Number) → Inside s i n → HeldAt s p → AllOf (λ (x : Named Ident). Leaf s x.name) ns
+      → Agrees (At s) (Several s) (define_names (scoped known) here fs ns p s) (define_names (model known) here tt (map (named_map (names s fs)) ns) (seen s p) (view i n s))
+  names_law ns p s i n k h l = all_law s ns l (λ x. x) p s i n k h (λ x m. m) (λ x m. refl)
 
   -- names over what holds P, each by itself
   pub each_name : (P : Ident → Type 0) (ns : List (Named (Holding P))) → AllOf (λ (x : Named Ident). P x.name) (map (named_map (held P)) ns)
   each_name P [] = tt
   each_name P (x ∷ ns) = (x.name.1, each_name P ns)
 
-  -- the value is the first of what is left
-  values_go : (bs bs' : List Binder) (rest : Bool) → bs' ≡ bs → (q : Pending Ident FramedIdent) (t : ScopedState) (i : Bool) (n : List Number) → Inside t i n → HeldAt t q → (todo : List (Form Ident)) → AllOf (FormAll (Leaf t)) todo
-      → Both (f (values_put bs rest q todo) t) (g (values_put bs' rest (seen t q) (map (form_map (names t fs)) todo)) (view i n t))
-  values_go bs bs' rest e q t i n k h [] l = law q t i n k h
-  values_go bs bs' rest e q t i n k h (x ∷ xs) l =
-      together_at w known fs Inside Trail Leaf PlaceIn RuleLeaf Ended refl
-      (ap (λ cs. g (values_put cs rest (seen t q) (map (form_map (names t fs)) (x ∷ xs))) (view i n t)) e)
-      (put_law w known fs Inside Trail Leaf PlaceIn RuleLeaf Ended facts f g law t i n k (record { todo = xs; aside = q.aside; notes = q.notes }) (l.1, h.1, h.2) (ValuesOf (record { names = bs; rest = rest }) x)
-      (form_item x l.0))
-    where
-      form_item : (y : Form Ident) → FormAll (Leaf t) y → ItemHeld (Leaf t) (ValuesOf (record { names = bs; rest = rest }) y)
-      form_item y m = (record { made = ValuesOf (record { names = bs; rest = rest }) (record { here = y.here; tree = lift_tree (Leaf t) y.tree m }); same = ap (λ u. ValuesOf (record { names = bs; rest = rest }) (record { here = y.here; tree = u })) (lifted_tree (Leaf t) y.tree m) }, tt)
+  -- the value, as the definitions make it read
+  module _ (s t : ScopedState) (leaf : (x : Ident) → Leaf s x → Leaf t x) (rest : Bool) where
+    value_held : (bs : List Binder) (y : Tree (Holding (Leaf s))) → ItemHeld (Leaf t) (ValuesOf (record { names = bs; rest = rest }) (record { here = here; tree = map_tree (held (Leaf s)) y }))
+    value_held bs y = (
+      record {
+        made = ValuesOf (record { names = bs; rest = rest }) (record { here = here; tree = map_tree (λ (p : Holding (Leaf s)). (p.0, leaf p.0 p.1)) y });
+        same = ap (λ u. ValuesOf (record { names = bs; rest = rest }) (record { here = here; tree = u })) (map_map (held (Leaf t)) (λ (p : Holding (Leaf s)). (p.0, leaf p.0 p.1)) y);
+      },
+      tt,
+    )
+
+    value_plain : (e : Ident → Ident) → e ≡ (λ x. x) → (y : Tree Ident) → map_tree e y ≡ y
+    value_plain e d y = ap (λ (h : Ident → Ident). map_tree h y) d ∙ map_itself y
+
+    value_reads : (e : Name → Name) → ((x : Ident) → Leaf s x → e (names s fs x) ≡ names t fs x) → (y : Tree (Holding (Leaf s))) → map_tree e (map_tree (names s fs) (map_tree (held (Leaf s)) y)) ≡ map_tree (names t fs) (map_tree (held (Leaf s)) y)
+    value_reads e d y = map_map e (names s fs) (map_tree (held (Leaf s)) y) ∙ tree_same (Leaf s) (λ x. e (names s fs x)) (names t fs) d (map_tree (held (Leaf s)) y) (all_held (Leaf s) y)
 
   module _ (s : ScopedState) (i : Bool) (n : List Number) (k : Inside s i n) (p : Pending Ident FramedIdent) (h : HeldAt s p) where
     values_over : (d : Formals (Holding (Leaf s)) × Tree (Holding (Leaf s)))
@@ -206,11 +198,18 @@ module _ (w : Era) (known : Known) (fs : Frames) (Inside : ScopedState → Bool 
         (run_values (model known) g here tt (seen s p) (formals_map (names s fs) (formals_map (held (Leaf s)) d.0), map_tree (names s fs) (map_tree (held (Leaf s)) d.1)) (view i n s))
     values_over d =
         caught_law w known fs Inside Trail Leaf PlaceIn RuleLeaf Ended facts s i n k p.notes h.2
-        (λ r. f (values_put r.0 d.0.rest r.1 r.1.todo)) (λ r. g (values_put r.0 d.0.rest r.1 r.1.todo))
-        (names_law (map (named_map (held (Leaf s))) d.0.names) (record { here = here; tree = map_tree (held (Leaf s)) d.1 } ∷ []) p s i n k h (each_name (Leaf s) d.0.names) (all_held (Leaf s) d.1, tt))
+        (λ r. f (put (ValuesOf (record { names = r.0; rest = d.0.rest }) (record { here = here; tree = map_tree r.1.rename (map_tree (held (Leaf s)) d.1) })) r.1.pending))
+        (λ r. g (put (ValuesOf (record { names = r.0; rest = d.0.rest }) (record { here = here; tree = map_tree r.1.rename (map_tree (names s fs) (map_tree (held (Leaf s)) d.1)) })) r.1.pending))
+        (names_law (map (named_map (held (Leaf s))) d.0.names) p s i n k h (each_name (Leaf s) d.0.names))
         (λ a b t i1 n1 k1 e.
-        together_at w known fs Inside Trail Leaf PlaceIn RuleLeaf Ended refl (ap (λ (q : Pending Name Name). g (values_put b.0 d.0.rest q q.todo) (view i1 n1 t)) e.2)
-        (values_go a.0 b.0 d.0.rest e.0 a.1 t i1 n1 k1 e.1 a.1.todo e.1.0))
+        let bs = e.0 in let q = e.1.seen in
+        let x = value_plain s t e.1.leaf d.0.rest a.1.rename e.1.plain (map_tree (held (Leaf s)) d.1) in
+        let y = value_reads s t e.1.leaf d.0.rest b.1.rename e.1.reads d.1 in
+        together_at w known fs Inside Trail Leaf PlaceIn RuleLeaf Ended
+        (ap (λ u. f (put (ValuesOf (record { names = a.0; rest = d.0.rest }) (record { here = here; tree = u })) a.1.pending) t) x)
+        (λ j. g (put (ValuesOf (record { names = bs j; rest = d.0.rest }) (record { here = here; tree = y j })) (q j)) (view i1 n1 t))
+        (put_law w known fs Inside Trail Leaf PlaceIn RuleLeaf Ended facts f g law t i1 n1 k1 a.1.pending e.1.held (ValuesOf (record { names = a.0; rest = d.0.rest }) (record { here = here; tree = map_tree (held (Leaf s)) d.1 }))
+        (value_held s t e.1.leaf d.0.rest a.0 d.1)))
 
     pub values_law : (d : Formals Ident × Tree Ident) → Held formals_tree_kind (Leaf s) d → Both (run_values (scoped known) f here fs p d s) (run_values (model known) g here tt (seen s p) (formals_map (names s fs) d.0, map_tree (names s fs) d.1) (view i n s))
     values_law d q = subst (λ (e : Formals Ident × Tree Ident). Both (run_values (scoped known) f here fs p e s) (run_values (model known) g here tt (seen s p) (formals_map (names s fs) e.0, map_tree (names s fs) e.1) (view i n s))) q.same (values_over q.made)
@@ -236,8 +235,8 @@ module _ (w : Era) (known : Known) (fs : Frames) (Inside : ScopedState → Bool 
   grown_bind {go = go} s go' (break x t i n e d k) next = break x t i n (ap (λ y. y >>= go) e) (ap (λ y. y >>= go') d) (k.0, facts.trail s t k.1)
 
   -- what the names of a record come to: the binders of its fields, and of the rest
-  abbrev RecordLeft : ScopedState → List Binder × (List Binder × Pending Ident FramedIdent) → List Binder × (List Binder × Pending Name Name) → Type 0
-  RecordLeft t a b = (b.0 ≡ a.0) × Several t a.1 b.1
+  abbrev RecordLeft : ScopedState → ScopedState → List Binder × (List Binder × Renamed Ident FramedIdent) → List Binder × (List Binder × Renamed Name Name) → Type 0
+  RecordLeft s0 t a b = (b.0 ≡ a.0) × (b.1.0 ≡ a.1.0) × HeldAt t a.1.1.pending × (b.1.1.pending ≡ seen t a.1.1.pending)
 
   record_names_held : (P : Ident → Type 0) (r : RecordShape (Holding P)) → AllOf (λ (x : Named Ident). P x.name) (record_names (record_map (held P) r))
   record_names_held P r = subst (AllOf (λ (x : Named Ident). P x.name)) (sym (record_names-map (Holding P) Ident (held P) r)) (each_name P (record_names r))
@@ -254,30 +253,30 @@ module _ (w : Era) (known : Known) (fs : Frames) (Inside : ScopedState → Bool 
 
     -- the names are defined in a later state, in which only locals were counted
     defined_law : (t : ScopedState) (i1 : Bool) (n1 : List Number) → Inside t i1 n1 → Grows w s t → (a b : List Binder) → b ≡ a
-        → Agrees (At t) RecordLeft (define_names (scoped known) here fs (record_names shape) [] p t >>= λ q. done (a, q)) (define_names (model known) here tt (record_names (record_map (names s fs) shape)) [] (seen s p) (view i1 n1 t) >>= λ q. done (b, q))
+        → Agrees (At t) (RecordLeft t) (define_names (scoped known) here fs (record_names shape) p t >>= λ q. done (a, q)) (define_names (model known) here tt (record_names (record_map (names s fs) shape)) (seen s p) (view i1 n1 t) >>= λ q. done (b, q))
     defined_law t i1 n1 k1 gr a b e =
         let later = names_later w s t (facts.fine s i n k) gr fs (facts.stands s i n k) in
         let leaf = λ (x : Ident) (l : Leaf s x). later x (facts.below s i n k x l) in
         let ns = record_names-map Ident Name (names s fs) shape ∙ all_same (λ (x : Named Ident). Leaf s x.name) (named_map (names s fs)) (named_map (names t fs)) (λ x l. ap (λ y. named y x.occ) (leaf x.name l)) (record_names shape) (record_names_held (Leaf s) r0) in
         let ps = pending_same (Leaf s) (PlaceIn s) (names s fs) (names t fs) (placed s) (placed t) leaf (facts.placed_later s t i n k gr) p h in
         on_bind w known fs Inside Trail Leaf PlaceIn RuleLeaf Ended facts t _
-        (agrees_at refl (λ j. define_names (model known) here tt (ns j) [] (ps j) (view i1 n1 t))
-        (names_law (record_names shape) [] p t i1 n1 k1 (pending_more (Leaf s) (Leaf t) (PlaceIn s) (PlaceIn t) (facts.leaf_later s t i n k gr) (facts.place_later s t i n k gr) p h)
-        (all_of_more (λ (x : Named Ident). Leaf s x.name) (λ (x : Named Ident). Leaf t x.name) (λ x l. facts.leaf_later s t i n k gr x.name l) (record_names shape) (record_names_held (Leaf s) r0)) tt))
-        (λ c d v i2 n2 k2 q. agree (a, c) (b, d) v i2 n2 refl refl (k2, on_itself v) (e, q))
+        (agrees_at refl (λ j. define_names (model known) here tt (ns j) (ps j) (view i1 n1 t))
+        (names_law (record_names shape) p t i1 n1 k1 (pending_more (Leaf s) (Leaf t) (PlaceIn s) (PlaceIn t) (facts.leaf_later s t i n k gr) (facts.place_later s t i n k gr) p h)
+        (all_of_more (λ (x : Named Ident). Leaf s x.name) (λ (x : Named Ident). Leaf t x.name) (λ x l. facts.leaf_later s t i n k gr x.name l) (record_names shape) (record_names_held (Leaf s) r0))))
+        (λ c d v i2 n2 k2 q. agree (a, c) (b, d) v i2 n2 refl refl (k2, on_itself v) (e, q.0, q.1.held, q.1.seen))
 
     record_over : Both (run_record (scoped known) f here fs p shape s) (run_record (model known) g here tt (seen s p) (record_map (names s fs) shape) (view i n s))
     record_over =
         caught_law w known fs Inside Trail Leaf PlaceIn RuleLeaf Ended facts s i n k p.notes h.2
-        (λ q. f (put (Record (record_part same_ident shape q.1.0 q.0)) q.1.1)) (λ q. g (put (Record (record_part same_name (record_map (names s fs) shape) q.1.0 q.0)) q.1.1))
+        (λ q. f (put (Record (record_part same_ident shape q.1.0 q.0)) q.1.1.pending)) (λ q. g (put (Record (record_part same_name (record_map (names s fs) shape) q.1.0 q.0)) q.1.1.pending))
         (agrees_at refl
-        (ap (λ xs. fields_bound (model known) xs (view i n s) >>= λ bs t. define_names (model known) here tt (record_names (record_map (names s fs) shape)) [] (seen s p) t >>= λ q. done (bs, q)) fields_same)
-        (grown_bind s _ (fields_law (names s fs) (λ x. erase_frame_image s.places s.definitions fs x) (field_names shape) s i n k) (λ a b t i1 n1 k1 gr e. defined_law t i1 n1 k1 gr a b e)))
+        (ap (λ xs. fields_bound (model known) xs (view i n s) >>= λ bs t. define_names (model known) here tt (record_names (record_map (names s fs) shape)) (seen s p) t >>= λ q. done (bs, q)) fields_same)
+        (grown_bind s _ (fields_law (names s fs) (λ x. erase_frame_image s.places s.definitions fs x) (field_names shape) s i n k) (λ a b t i1 n1 k1 gr e. agrees_more {K = At t} {L = At t} {R = RecordLeft t} {Q = RecordLeft s} (λ v i2 n2 l. l) (λ v c d q. q) (defined_law t i1 n1 k1 gr a b e))))
         (λ a b t i1 n1 k1 e.
         together_at w known fs Inside Trail Leaf PlaceIn RuleLeaf Ended refl
-        ((λ j. g (put (Record (record_part same_name (record_map (names s fs) shape) (e.1.0 j) (e.0 j))) (e.1.2 j)) (view i1 n1 t))
-        ∙ ap (λ y. g (put (Record y) (seen t a.1.1)) (view i1 n1 t)) (record_part-map Ident Name (names s fs) same_ident same_name (same_frame_image s.places s.definitions fs) shape a.1.0 a.0))
-        (put_law w known fs Inside Trail Leaf PlaceIn RuleLeaf Ended facts f g law t i1 n1 k1 a.1.1 e.1.1 (Record (record_part same_ident shape a.1.0 a.0)) (record { made = Record (record_part same_ident shape a.1.0 a.0); same = refl }, tt)))
+        ((λ j. g (put (Record (record_part same_name (record_map (names s fs) shape) (e.1 j) (e.0 j))) (e.3 j)) (view i1 n1 t))
+        ∙ ap (λ y. g (put (Record y) (seen t a.1.1.pending)) (view i1 n1 t)) (record_part-map Ident Name (names s fs) same_ident same_name (same_frame_image s.places s.definitions fs) shape a.1.0 a.0))
+        (put_law w known fs Inside Trail Leaf PlaceIn RuleLeaf Ended facts f g law t i1 n1 k1 a.1.1.pending e.2 (Record (record_part same_ident shape a.1.0 a.0)) (record { made = Record (record_part same_ident shape a.1.0 a.0); same = refl }, tt)))
 
   pub record_law : (s : ScopedState) (i : Bool) (n : List Number) → Inside s i n → (p : Pending Ident FramedIdent) → HeldAt s p → (r : RecordShape Ident) → Held record_kind (Leaf s) r
       → Both (run_record (scoped known) f here fs p r s) (run_record (model known) g here tt (seen s p) (record_map (names s fs) r) (view i n s))

@@ -1,5 +1,5 @@
 -- The forms of a place, gone through in order: both sides set the same aside, note the same, and end alike.
-use Rattle.std.proofs.Common.{◌≡◌, ℕ, zero, suc, List, [], ◌∷◌, map, Bool, true, Option, Some, None, Result, Ok, refl, sym, ap, ◌∙◌, subst}
+use Rattle.std.proofs.Common.{◌≡◌, ℕ, zero, suc, List, [], ◌∷◌, map, Bool, true, false, cond, Option, Some, None, Result, Ok, refl, sym, ap, ◌∙◌, subst}
 use Rattle.scheme_model.specs.Identifiers.{Number, Name, same_name, strip}
 use Rattle.scheme_model.specs.Ident.{Ident, same_ident, symbol_of}
 use Rattle.scheme_model.specs.Keywords.{CoreKeyword, IsQuote, IsQuasiquote, IsLambda, IsCaseLambda, IsIf, IsSet, IsBegin, IsDefine, IsDefineValues, IsDefineRecordType, IsDefineSyntax, IsLetSyntax, IsLetrecSyntax, IsCondExpand, IsSyntaxError, IsInclude}
@@ -7,30 +7,30 @@ use Rattle.scheme_model.specs.Trees.{Tree, name, atom, list, vector, Trees, no_t
 use Rattle.scheme_model.specs.ExpansionFaults.{OutOfTurns}
 use Rattle.scheme_model.specs.Meaning.{Meaning, Head, IsCore, IsAuxiliary, IsMacro, IsNone, is_keyword, same_meaning}
 use Rattle.scheme_model.specs.Requirements.{Known, chosen_of}
-use Rattle.scheme_model.specs.Shapes.{proper_of, definition_of, values_of, record_of, named_tree_of}
+use Rattle.scheme_model.specs.Shapes.{proper_of, definition_of, values_of, record_of, syntax_of}
 use Rattle.scheme_model.specs.RulesShape.{Names, option_map, rules_map, role_of, dots_of}
 use Rattle.scheme_model.specs.Matching.{compared}
 use Rattle.scheme_model.specs.Cores.{Target}
 use Rattle.scheme_model.specs.Steps.{Broken}
-use Rattle.scheme_model.specs.Order.{Here, Form, Expression, Note, LookedUp, Compared, Pending, Pass, Transformer, is_some, head_of, target_of, here_at, comparisons, use_of, put, noted, first, caught, or_none, splice, read_then, run_define, run_values, run_record, run_syntax, run_core, run_use, run_head, run_form, run_next, run}
+use Rattle.scheme_model.specs.Order.{Here, Form, Expression, Note, LookedUp, Compared, Instance, Pending, Pass, Transformer, is_some, head_of, target_of, here_at, comparisons, use_of, has_use, put, waiting, noted, first, caught, or_none, splice, read_then, run_define, run_values, run_record, run_syntax, run_core, run_use, run_head, run_form, run_next, run}
 use Rattle.scheme_model.specs.Substitution.{State, at_form, form_map, item_map, note_map, model}
 use Rattle.scheme_model.specs.ScopedExpansion.{Frames, FramedIdent, ScopedState, means_at, macro_at, scoped}
 use Rattle.scheme_model.specs.Renaming.{Renames, pair_map}
 use Rattle.scheme_model.proofs.FrameEras.{Era}
 use Rattle.scheme_model.proofs.RulesLaws.{role_of-map, dots_of-map}
 use Rattle.scheme_model.proofs.CompareLaws.{compared-map}
-use Rattle.scheme_model.proofs.IdentKinds.{Kind, tree_kind, trees_kind, definition_kind, record_kind}
+use Rattle.scheme_model.proofs.IdentKinds.{Kind, tree_kind, trees_kind, definition_kind, record_kind, use_kind, instance_map, instance_kind}
 use Rattle.scheme_model.proofs.Distinct.{definition_distinct}
 use Rattle.scheme_model.proofs.FrameAsks.{AllOf}
 use Rattle.scheme_model.proofs.FrameStates.{names, view, Grows, grows_itself, names_later}
 use Rattle.scheme_model.proofs.FrameGrowth.{used_state, use_grows}
-use Rattle.scheme_model.proofs.FrameLeaves.{TreeAll, TreesAll, TailAll, tree_more, trees_more, tail_more, Holding, held, lift_trees, lift_tail, lifted_trees, lifted_tail, Held, tree_held, trees_held}
+use Rattle.scheme_model.proofs.FrameLeaves.{TreeAll, TreesAll, TailAll, tree_more, trees_more, tail_more, Holding, held, lift_trees, lift_tail, lifted_trees, lifted_tail, Held, held_more, tree_held, trees_held}
 use Rattle.scheme_model.proofs.FrameAgrees.{Agrees, agree, break}
 use Rattle.scheme_model.proofs.FrameHeads.{seen_transformer, transformer_seen, IfMacro, HeadOf, head_is, head_seen, target_seen, here_seen}
 use Rattle.scheme_model.proofs.FrameUses.{named_in, placed, comparisons_seen}
 use Rattle.scheme_model.proofs.FrameInstances.{held_use_law}
-use Rattle.scheme_model.proofs.FrameReaders.{identifiers, model_names, rest_kind, named_tree_kind, formals_tree_kind, maybe_trees_kind, Reader, proper_reader, definition_reader, values_reader, record_reader, named_tree_reader, chosen_reader}
-use Rattle.scheme_model.proofs.FrameHeld.{NoteAll, FormAll, PendingHeld, pending_more, pending_same, noted_seen, noted_held, expression_held, read_held}
+use Rattle.scheme_model.proofs.FrameReaders.{identifiers, model_names, rest_kind, named_tree_kind, formals_tree_kind, maybe_trees_kind, Reader, proper_reader, definition_reader, values_reader, record_reader, syntax_reader, chosen_reader}
+use Rattle.scheme_model.proofs.FrameHeld.{NoteAll, FormAll, PendingHeld, pending_more, pending_same, waiting_seen, waiting_held, noted_seen, noted_held, expression_held, read_held}
 use Rattle.scheme_model.proofs.FramePlaces.{seen_pending, MacroHere, PlaceFacts, came, broke, Together, together_at, CodeGo, ModelGo, RunLaw, held_still, read_go, put_law, first_law, splice_law}
 use Rattle.scheme_model.proofs.FrameDefinitions.{define_law, values_law, record_law}
 use Rattle.scheme_model.proofs.FrameSyntax.{syntax_law}
@@ -56,6 +56,13 @@ over P = record { same = λ p q. same_ident p.0 q.0; strip = λ p. symbol_of p.0
 
 over_told : (P : Ident → Type 0) → Renames (held P) (over P) identifiers
 over_told P = record { same = λ p q. refl; strip = λ p. refl }
+
+-- an instance that holds P, by its parts
+tree_held_in : (P : Ident → Type 0) (a : Instance Ident) → Held instance_kind P a → Held tree_kind P a.tree
+tree_held_in P a h = record { made = h.made.tree; same = ap (λ x. x.tree) h.same }
+
+met_held_in : (P : Ident → Type 0) (a : Instance Ident) → Held instance_kind P a → Held use_kind P a.met
+met_held_in P a h = record { made = h.made.met; same = ap (λ x. x.met) h.same }
 
 module _ (w : Era) (known : Known) (fs : Frames) (Inside : ScopedState → Bool → List Number → Type 0) (Trail : ScopedState → ScopedState → Type 0) (Leaf : ScopedState → Ident → Type 0) (PlaceIn : ScopedState → FramedIdent → Type 0) (RuleLeaf : ScopedState → Transformer Frames Ident → Ident → Type 0) (Ended : ScopedState → List (Note FramedIdent) → List (Note Name) → Type 0)
     (facts : PlaceFacts w known fs Inside Trail Leaf PlaceIn RuleLeaf Ended) where
@@ -115,8 +122,8 @@ module _ (w : Era) (known : Known) (fs : Frames) (Inside : ScopedState → Bool 
       fields_law : Both (read_then (scoped known) here p (record_of same_ident ts tail) (run_record (scoped known) f here fs p) s) (read_then (model known) here (seen s p) (record_of same_name (map_trees (names s fs) ts) (map_tail (names s fs) tail)) (run_record (model known) g here tt (seen s p)) (view i n s))
       fields_law = reading record_kind record_reader (run_record (scoped known) f here fs p) (run_record (model known) g here tt (seen s p)) (λ a z q. record_law w known fs Inside Trail Leaf PlaceIn RuleLeaf Ended facts f g law here s i n k p h a q)
 
-      macro_law : Both (read_then (scoped known) here p (named_tree_of ts tail) (run_syntax (scoped known) f here fs p) s) (read_then (model known) here (seen s p) (named_tree_of (map_trees (names s fs) ts) (map_tail (names s fs) tail)) (run_syntax (model known) g here tt (seen s p)) (view i n s))
-      macro_law = reading named_tree_kind named_tree_reader (run_syntax (scoped known) f here fs p) (run_syntax (model known) g here tt (seen s p)) (λ a z q. syntax_law w known fs Inside Trail Leaf PlaceIn RuleLeaf Ended facts f g law here s i n k p h a q)
+      macro_law : Both (read_then (scoped known) here p (syntax_of ts tail) (run_syntax (scoped known) f here fs p) s) (read_then (model known) here (seen s p) (syntax_of (map_trees (names s fs) ts) (map_tail (names s fs) tail)) (run_syntax (model known) g here tt (seen s p)) (view i n s))
+      macro_law = reading named_tree_kind syntax_reader (run_syntax (scoped known) f here fs p) (run_syntax (model known) g here tt (seen s p)) (λ a z q. syntax_law w known fs Inside Trail Leaf PlaceIn RuleLeaf Ended facts f g law here s i n k p h a q)
 
     -- ---- a macro use
 
@@ -128,14 +135,21 @@ module _ (w : Era) (known : Known) (fs : Frames) (Inside : ScopedState → Bool 
         pairs_held [] = tt
         pairs_held (q ∷ qs) = ((mh.place q.0.0 q.0.1, facts.here s i n k q.1.0 q.1.1), pairs_held qs)
 
-        compared_held : AllOf (NoteAll (PlaceIn s)) (comparisons (scoped known) fs m ts tail s)
-        compared_held =
+        all_held_pairs : AllOf (NoteAll (PlaceIn s)) (map (λ (q : Ident × Ident). Compared (record { frames = m.env; ident = q.0 }) (record { frames = fs; ident = q.1 }) (same_meaning (means_at s m.env q.0) (means_at s fs q.1))) (compared (role_of identifiers m.rules) (dots_of identifiers m.rules) m.rules.rules ts tail))
+        all_held_pairs =
             let r = mh.rules.same in let us = lifted_trees (Leaf s) ts l in let end = lifted_tail (Leaf s) tail e in
             subst (λ (qs : List (Ident × Ident)). AllOf (NoteAll (PlaceIn s)) (map (λ (q : Ident × Ident). Compared (record { frames = m.env; ident = q.0 }) (record { frames = fs; ident = q.1 }) (same_meaning (means_at s m.env q.0) (means_at s fs q.1))) qs))
             (sym (compared-map (Holding (RuleLeaf s m)) (Holding (Leaf s)) Ident Ident (held (RuleLeaf s m)) (held (Leaf s)) (role_of (over (RuleLeaf s m)) mh.rules.made) (role_of identifiers (rules_map (held (RuleLeaf s m)) mh.rules.made)) (role_of-map (Holding (RuleLeaf s m)) Ident (held (RuleLeaf s m)) (over (RuleLeaf s m)) identifiers (over_told (RuleLeaf s m)) mh.rules.made)
             (dots_of (over (RuleLeaf s m)) mh.rules.made) (dots_of identifiers (rules_map (held (RuleLeaf s m)) mh.rules.made)) (dots_of-map (Holding (RuleLeaf s m)) Ident (held (RuleLeaf s m)) (over (RuleLeaf s m)) identifiers (over_told (RuleLeaf s m)) mh.rules.made) mh.rules.made.rules (lift_trees (Leaf s) ts l) (lift_tail (Leaf s) tail e))
             ∙ (λ j. compared (role_of identifiers (r j)) (dots_of identifiers (r j)) (r j).rules (us j) (end j)))
             (pairs_held (compared (role_of (over (RuleLeaf s m)) mh.rules.made) (dots_of (over (RuleLeaf s m)) mh.rules.made) mh.rules.made.rules (lift_trees (Leaf s) ts l) (lift_tail (Leaf s) tail e)))
+
+        compared_held : AllOf (NoteAll (PlaceIn s)) (comparisons (scoped known) fs m ts tail s)
+        compared_held = go (has_use (scoped known) s)
+          where
+            go : (t : Bool) → AllOf (NoteAll (PlaceIn s)) (cond t (map (λ (q : Ident × Ident). Compared (record { frames = m.env; ident = q.0 }) (record { frames = fs; ident = q.1 }) (same_meaning (means_at s m.env q.0) (means_at s fs q.1))) (compared (role_of identifiers m.rules) (dots_of identifiers m.rules) m.rules.rules ts tail)) [])
+            go true = all_held_pairs
+            go false = tt
 
         -- what is left, with what was compared
         abbrev left : Pending Ident FramedIdent
@@ -151,29 +165,37 @@ module _ (w : Era) (known : Known) (fs : Frames) (Inside : ScopedState → Bool 
         begun_grows = use_grows w s (facts.fine s i n k) m.env
 
         -- what the use gives
-        abbrev Given : ScopedState → Tree Ident → Tree Name → Type 0
-        Given t a b = Grows w begun t × Held tree_kind (Leaf begun) a × (b ≡ map_tree (names t fs) a)
+        abbrev Given : ScopedState → Instance Ident → Instance Name → Type 0
+        Given t a b = Grows w begun t × Held instance_kind (Leaf begun) a × (b ≡ instance_map (names t fs) a)
 
-        use_next : {r : Result (Tree Ident) Broken × ScopedState} {d : Result (Tree Name) Broken × State} → Agrees (λ t i1 n1. Inside t i1 n1 × Grows w s t) Given r d
-            → Both (caught left.notes r (λ t. f (first (record { here = here; tree = t } ∷ []) left))) (caught (seen s left).notes d (λ t. g (first (record { here = here; tree = t } ∷ []) (seen s left))))
+        -- how both sides go on with it
+        abbrev going : Instance Ident → ScopedState → Pass Ident FramedIdent × ScopedState
+        going a = f (first (record { here = here; tree = a.tree } ∷ []) (waiting a.met left))
+
+        abbrev going_so : Pending Name Name → Instance Name → State → Pass Name Name × State
+        going_so q b = g (first (record { here = here; tree = b.tree } ∷ []) (waiting b.met q))
+
+        use_next : {r : Result (Instance Ident) Broken × ScopedState} {d : Result (Instance Name) Broken × State} → Agrees (λ t i1 n1. Inside t i1 n1 × Grows w s t) Given r d → Both (caught left.notes r going) (caught (seen s left).notes d (going_so (seen s left)))
         use_next (break x t i1 n1 er em kk) =
-            at (ap (λ z. caught left.notes z (λ t. f (first (record { here = here; tree = t } ∷ []) left))) er) (ap (λ z. caught (seen s left).notes z (λ t. g (first (record { here = here; tree = t } ∷ []) (seen s left)))) em)
+            at (ap (λ z. caught left.notes z going) er) (ap (λ z. caught (seen s left).notes z (going_so (seen s left))) em)
             (record { in_body = i1; mine = n1; inside = kk.0; state = refl; came_to = broke x refl refl (facts.ended s t i n k (facts.trail s t kk.1) left.notes left_held.2) })
         use_next (agree a b t i1 n1 er em kk q) =
             let later = names_later w s t (facts.fine s i n k) kk.1 fs (facts.stands s i n k) in
             let ps = pending_same (Leaf s) (PlaceIn s) (names s fs) (names t fs) (placed s) (placed t) (λ y d. later y (facts.below s i n k y d)) (facts.placed_later s t i n k kk.1) left left_held in
             let z = q.2 in
-            at (ap (λ z. caught left.notes z (λ t. f (first (record { here = here; tree = t } ∷ []) left))) er) (ap (λ z. caught (seen s left).notes z (λ t. g (first (record { here = here; tree = t } ∷ []) (seen s left)))) em)
-            (at refl (λ j. g (first (record { here = here; tree = z j } ∷ []) (ps j)) (view i1 n1 t))
-            (first_law w known fs Inside Trail Leaf PlaceIn RuleLeaf Ended facts f g law t i1 n1 kk.0 left
-            (pending_more (Leaf s) (Leaf t) (PlaceIn s) (PlaceIn t) (facts.leaf_later s t i n k kk.1) (facts.place_later s t i n k kk.1) left left_held)
-            (record { here = here; tree = a } ∷ []) (tree_more (Leaf begun) (Leaf t) (facts.leaf_later begun t i n mh.after q.0) a (tree_held (Leaf begun) a q.1), tt)))
+            let a_held = held_more instance_kind (Leaf begun) (Leaf t) (facts.leaf_later begun t i n mh.after q.0) a q.1 in
+            let left_then = pending_more (Leaf s) (Leaf t) (PlaceIn s) (PlaceIn t) (facts.leaf_later s t i n k kk.1) (facts.place_later s t i n k kk.1) left left_held in
+            at (ap (λ z. caught left.notes z going) er) (ap (λ z. caught (seen s left).notes z (going_so (seen s left))) em)
+            (at refl ((λ j. g (first (record { here = here; tree = (z j).tree } ∷ []) (waiting (z j).met (ps j))) (view i1 n1 t)) ∙ ap (λ y. g (first (record { here = here; tree = map_tree (names t fs) a.tree } ∷ []) y) (view i1 n1 t)) (waiting_seen (names t fs) (placed t) a.met left))
+            (first_law w known fs Inside Trail Leaf PlaceIn RuleLeaf Ended facts f g law t i1 n1 kk.0 (waiting a.met left)
+            (waiting_held (Leaf t) (PlaceIn t) a.met left (met_held_in (Leaf t) a a_held) left_then)
+            (record { here = here; tree = a.tree } ∷ []) (tree_held (Leaf t) a.tree (tree_held_in (Leaf t) a a_held), tt)))
 
-        use_here : Both (caught left.notes (use_of (scoped known) here fs keyword m ts tail s) (λ t. f (first (record { here = here; tree = t } ∷ []) left)))
-            (caught (seen s left).notes (use_of (model known) here tt keyword (seen_transformer s.places s.definitions m) (map_trees (names s fs) ts) (map_tail (names s fs) tail) (view i n s)) (λ t. g (first (record { here = here; tree = t } ∷ []) (seen s left))))
+        use_here : Both (caught left.notes (use_of (scoped known) here fs keyword m ts tail s) going)
+            (caught (seen s left).notes (use_of (model known) here tt keyword (seen_transformer s.places s.definitions m) (map_trees (names s fs) ts) (map_tail (names s fs) tail) (view i n s)) (going_so (seen s left)))
         use_here =
             use_next (held_use_law w known s (facts.fine s i n k) i n fs (facts.stands s i n k) m mh.entered mh.binders (RuleLeaf s m) (Leaf s) (Leaf begun) mh.below (facts.below s i n k) (facts.leaf_later s begun i n k begun_grows) mh.inserts mh.rules ts tail l e
-            (λ t i1 n1. Inside t i1 n1 × Grows w s t) (k, grows_itself w s) (λ x y. (facts.still begun i n y s.keywords x mh.after, begun_grows)) here keyword)
+            (λ t i1 n1. Inside t i1 n1 × Grows w s t) (k, grows_itself w s) (λ y. (facts.still begun i n y s.keywords s.met mh.after, begun_grows)) here keyword)
 
         noting : noted (comparisons (model known) tt (seen_transformer s.places s.definitions m) (map_trees (names s fs) ts) (map_tail (names s fs) tail) (view i n s)) (seen s p) ≡ seen s (noted (comparisons (scoped known) fs m ts tail s) p)
         noting = ap (λ ns. noted ns (seen s p)) (comparisons_seen w known s (facts.fine s i n k) i n fs m ts tail) ∙ noted_seen (names s fs) (placed s) (comparisons (scoped known) fs m ts tail s) p
@@ -182,7 +204,7 @@ module _ (w : Era) (known : Known) (fs : Frames) (Inside : ScopedState → Bool 
           → Both (run_use (scoped known) f here fs keyword o x ts tail p s) (run_use (model known) g here tt keyword (option_map (seen_transformer s.places s.definitions) o) (form_map (names s fs) x) (map_trees (names s fs) ts) (map_tail (names s fs) tail) (seen s p) (view i n s))
       use_law x lx None mh = expression_law s i n k p h x lx
       use_law x lx (Some m) mh =
-          at refl (let q = noting m mh in λ j. caught (q j).notes (use_of (model known) here tt keyword (seen_transformer s.places s.definitions m) (map_trees (names s fs) ts) (map_tail (names s fs) tail) (view i n s)) (λ t. g (first (record { here = here; tree = t } ∷ []) (q j))))
+          at refl (let q = noting m mh in λ j. caught (q j).notes (use_of (model known) here tt keyword (seen_transformer s.places s.definitions m) (map_trees (names s fs) ts) (map_tail (names s fs) tail) (view i n s)) (going_so m mh (q j)))
           (use_here m mh)
 
     -- ---- a form by its head
@@ -255,10 +277,10 @@ module _ (w : Era) (known : Known) (fs : Frames) (Inside : ScopedState → Bool 
 
   next_law : (f : Scoped_go) (g : Model_go) → Runs f g → (todo : List (Form Ident)) (s : ScopedState) (i : Bool) (n : List Number) → Inside s i n → (p : Pending Ident FramedIdent) → HeldAt s p → AllOf (FormAll (Leaf s)) todo
       → Both (run_next (scoped known) f fs todo p s) (run_next (model known) g tt (map (form_map (names s fs)) todo) (seen s p) (view i n s))
-  next_law f g law [] s i n k p h l = record { in_body = i; mine = n; inside = k; state = refl; came_to = came p.aside refl refl h.1 h.2 refl }
+  next_law f g law [] s i n k p h l = record { in_body = i; mine = n; inside = k; state = refl; came_to = came (record { uses = p.uses; items = p.aside }) refl refl (h.3, h.1) h.2 refl }
   next_law f g law (x ∷ xs) s i n k p h l =
-      at refl (ap (λ hr. run_form (model known) g tt hr (form_map (names s fs) x) (map_tree (names s fs) x.tree) (record { todo = map (form_map (names s fs)) xs; aside = map (item_map (names s fs)) p.aside; notes = map (note_map (placed s)) p.notes }) (view i n s)) (here_seen w s fs x.tree x.here))
-      (form_law f g law (here_at (λ j. j) x.tree x.here) s i n k (record { todo = xs; aside = p.aside; notes = p.notes }) (l.1, h.1, h.2) x l.0 x.tree l.0)
+      at refl (ap (λ hr. run_form (model known) g tt hr (form_map (names s fs) x) (map_tree (names s fs) x.tree) (record (seen s p) { todo = map (form_map (names s fs)) xs }) (view i n s)) (here_seen w s fs x.tree x.here))
+      (form_law f g law (here_at (λ j. j) x.tree x.here) s i n k (record p { todo = xs }) (l.1, h.1, h.2, h.3) x l.0 x.tree l.0)
 
   -- both sides go through the forms alike
   pub forms_law : (turns : ℕ) → Runs (run (scoped known) turns fs) (run (model known) turns tt)

@@ -10,20 +10,20 @@ use Rattle.scheme_model.specs.Requirements.{Known}
 use Rattle.scheme_model.specs.RulesShape.{Rules, rules_map, Names}
 use Rattle.scheme_model.specs.Matching.{Value, One, Many, Values, no_values, value, Binding, Chosen, matcher, first_match}
 use Rattle.scheme_model.specs.Building.{Built, build}
-use Rattle.scheme_model.specs.Cores.{Target, MacroUse}
-use Rattle.scheme_model.specs.Steps.{◌>>=◌, done, fails}
-use Rattle.scheme_model.specs.Order.{Here, Transformer, target_of, given, used, use_of, max_uses, max_nodes}
-use Rattle.scheme_model.specs.Substitution.{Clock, at_form, meaning, model}
+use Rattle.scheme_model.specs.Cores.{Target}
+use Rattle.scheme_model.specs.Steps.{Step, ◌>>=◌, done, fails}
+use Rattle.scheme_model.specs.Order.{Here, Instance, Transformer, given, used, use_of, max_uses, max_nodes}
+use Rattle.scheme_model.specs.Substitution.{State, Clock, at_form, meaning, model}
 use Rattle.scheme_model.specs.ScopedExpansion.{Frames, ScopedState, next_number, means_at, scoped}
 use Rattle.scheme_model.specs.Renaming.{Renames, value_map, values_map, binding_map, chosen_map, built_map}
 use Rattle.scheme_model.proofs.OpenBodies.{Entered}
 use Rattle.scheme_model.proofs.FrameEras.{Era, Before, Below, below_more}
-use Rattle.scheme_model.proofs.RenamingLaws.{Reads, reads, Finds, finds, map_after, map_turned}
+use Rattle.scheme_model.proofs.RenamingLaws.{Reads, reads, Finds, finds, map_after}
 use Rattle.scheme_model.proofs.RulesLaws.{role_of-map, dots_of-map}
 use Rattle.scheme_model.proofs.MatchLaws.{first_match-map}
 use Rattle.scheme_model.proofs.BuildLaws.{build-map}
 use Rattle.scheme_model.proofs.ScopeLaws.{map_map}
-use Rattle.scheme_model.proofs.IdentKinds.{Kind, pointwise, mapped_same, faults_fused, tree_kind, trees_kind, tail_kind, rules_kind}
+use Rattle.scheme_model.proofs.IdentKinds.{Kind, pointwise, mapped_same, faults_fused, tree_kind, trees_kind, tail_kind, rules_kind, instance_map, instance_kind}
 use Rattle.scheme_model.proofs.Clocks.{leq_counted}
 use Rattle.scheme_model.proofs.FrameNames.{same_frame_image, strip_frame_image, erase_frame_image}
 use Rattle.scheme_model.proofs.FrameAsks.{BindersCounted}
@@ -31,7 +31,7 @@ use Rattle.scheme_model.proofs.FrameStates.{names, view, made_later, FineState, 
 use Rattle.scheme_model.proofs.FrameGrowth.{used_state, use_grows, use_fine, inserted_below, use_names}
 use Rattle.scheme_model.proofs.FrameLeaves.{TreesAll, TailAll, Holding, held, lift_trees, lift_tail, lifted_trees, lifted_tail, Held, held_made, made_held}
 use Rattle.scheme_model.proofs.FrameAgrees.{Agrees, agree, break, agrees_at, agrees_more, Keeps, keeps_itself, Seen}
-use Rattle.scheme_model.proofs.FrameHeads.{seen_transformer, TransformerFine, target_seen}
+use Rattle.scheme_model.proofs.FrameHeads.{seen_transformer, TransformerFine}
 
 -- ---- bindings and instances as kinds
 
@@ -57,7 +57,7 @@ model_names = record { same = same_name; strip = strip }
 module _ (w : Era) (known : Known) (s : ScopedState) (f : FineState w s) (in_body : Bool) (mine : List Number) (fs : Frames) (stands : Stands w s fs) (m : Transformer Frames Ident) (entered : Entered (Before w s.bodies) m.env) (binders : BindersCounted w s.locals m.env)
     (PR PF R : Ident → Type 0) (rules_below : (i : Ident) → PR i → Below w s.uses i) (form_below : (i : Ident) → PF i → Below w s.uses i) (keeps_form : (i : Ident) → PF i → R i) (inserts : (i : Ident) → PR i → R (Inserted i (next_number s s.uses)))
     (rules_held : Held rules_kind PR m.rules) (ts : Trees Ident) (tail : Tail Ident) (made : TreesAll PF ts) (made_end : TailAll PF tail)
-    (K : ScopedState → Bool → List Number → Type 0) (k_here : K s in_body mine) (k_then : (x : ℕ → List MacroUse) (y : Clock) → K (record (used_state w m.env s) { met = x; nodes = y }) in_body mine) where
+    (K : ScopedState → Bool → List Number → Type 0) (k_here : K s in_body mine) (k_then : (y : Clock) → K (record (used_state w m.env s) { nodes = y }) in_body mine) where
   abbrev A : Type 0
   A = Holding PR
 
@@ -191,9 +191,9 @@ module _ (w : Era) (known : Known) (s : ScopedState) (f : FineState w s) (in_bod
   left = max_nodes - s.nodes s.form
 
   module _ (here : Here) (keyword : Target) where
-    -- the instance, in a state that keeps what was there once the use had begun
-    abbrev Instance : ScopedState → Tree Ident → Tree Name → Type 0
-    Instance t a b = Grows w then_ t × Held tree_kind R a × (b ≡ map_tree (names t fs) a)
+    -- the instance and its use, in a state that keeps what was there once the use had begun
+    abbrev Gives : ScopedState → Instance Ident → Instance Name → Type 0
+    Gives t a b = Grows w then_ t × Held instance_kind R a × (b ≡ instance_map (names t fs) a)
 
     module _ (c : Chosen A B) where
       abbrev bindings : List (Binding A Made_then)
@@ -220,34 +220,37 @@ module _ (w : Era) (known : Known) (s : ScopedState) (f : FineState w s) (in_bod
           (λ j. build model_names (r j) (λ i. InsertedName i number) (map_tree rule_name c.rule.template) (b j) left)
           (build-map A Made_then Name Name rule_name (λ p. names then_ fs p.0) Made_then Name (λ p. names then_ fs p.0) told model_names names_told rules inserted (λ i. InsertedName i number) inserted_name c.rule.template bindings left)
 
-      -- what the use met
-      abbrev scoped_met : MacroUse
-      scoped_met = record { keyword = keyword; literals = map (λ n. target_of (scoped known) fs then_ n.name n.occ) (map (named_map in_form) c.match.met) }
+      -- the leaves that met a literal, over what holds R
+      abbrev literals : List (Named Made_then)
+      literals = map (named_map kept) c.match.met
 
-      abbrev model_met : MacroUse
-      model_met = record { keyword = keyword; literals = map (λ n. target_of (model known) tt (view in_body mine then_) n.name n.occ) (map (named_map form_name) c.match.met) }
+      abbrev scoped_given : Built (Tree Ident) → Step ScopedState (Instance Ident)
+      scoped_given b t = done (record { tree = b.value; met = record { keyword = keyword; literals = map (named_map in_form) c.match.met } }) ((scoped known).spend b.count t)
 
-      met_same : model_met ≡ scoped_met
-      met_same =
-          ap (λ (ls : List Target). record { keyword = keyword; literals = ls })
-          (map_turned (λ (n : Named Name). target_of (model known) tt (view in_body mine then_) n.name n.occ) (named_map form_name) (λ (n : Named Ident). target_of (scoped known) fs then_ n.name n.occ) (named_map in_form)
-          (λ n. target_seen w known then_ fine_then in_body mine fs n.name.0 n.occ) c.match.met)
+      abbrev model_given : Built (Tree Name) → Step State (Instance Name)
+      model_given b t = done (record { tree = b.value; met = record { keyword = keyword; literals = map (named_map form_name) c.match.met } }) ((model known).spend b.count t)
 
       abbrev over : Result (Built (Tree Made_then)) (Fault Made_then) → Type 0
       over r0 = (r : Result (Built (Tree Ident)) (Fault Ident)) (r' : Result (Built (Tree Name)) (Fault Name)) → Reads (held R) (built_kind.map Made_then Ident (held R)) r0 r → Reads (λ (p : Made_then). names then_ fs p.0) (built_kind.map Made_then Name (λ p. names then_ fs p.0)) r0 r'
-          → Agrees K Instance (given (λ i. i) here r then_ >>= λ b t. done b.value ((scoped known).spend b.count ((scoped known).meet_use scoped_met t))) (given erase here r' (view in_body mine then_) >>= λ b t. done b.value ((model known).spend b.count ((model known).meet_use model_met t)))
+          → Agrees K Gives (given (λ i. i) here r then_ >>= scoped_given) (given erase here r' (view in_body mine then_) >>= model_given)
 
       build_cases : (r0 : Result (Built (Tree Made_then)) (Fault Made_then)) → over r0
       build_cases (Ok x) r r' (reads e) (reads d) =
-          agrees_at (ap (λ z. given (λ i. i) here z then_ >>= λ b t. done b.value ((scoped known).spend b.count ((scoped known).meet_use scoped_met t))) e) (ap (λ z. given erase here z (view in_body mine then_) >>= λ b t. done b.value ((model known).spend b.count ((model known).meet_use model_met t))) d)
-          (agree (map_tree (held R) x.value) (map_tree (λ p. names then_ fs p.0) x.value) (record then_ { met = at_form s.form (λ us. scoped_met ∷ us) s.met; nodes = at_form s.form (λ y. y + x.count) s.nodes }) in_body mine refl
-          (let u = met_same in λ j. (Ok (map_tree (λ (p : Made_then). names then_ fs p.0) x.value), view in_body mine (record then_ { met = at_form s.form (λ us. u j ∷ us) s.met; nodes = at_form s.form (λ y. y + x.count) s.nodes })))
-          (k_then (at_form s.form (λ us. scoped_met ∷ us) s.met) (at_form s.form (λ y. y + x.count) s.nodes))
-          (grows_itself w then_, record { made = x.value; same = refl }, sym (map_map (names then_ fs) (held R) x.value)))
+          let a : Instance Ident = record { tree = map_tree (held R) x.value; met = record { keyword = keyword; literals = map (named_map in_form) c.match.met } } in
+          let b : Instance Name = record { tree = map_tree (λ (p : Made_then). names then_ fs p.0) x.value; met = record { keyword = keyword; literals = map (named_map form_name) c.match.met } } in
+          let ls = map_after (named_map (held R)) (named_map kept) (named_map in_form) (λ n. refl) c.match.met in
+          let t = map_map (names then_ fs) (held R) x.value in
+          let ms = map_after (named_map (names then_ fs)) (named_map in_form) (named_map form_name) (λ n. refl) c.match.met in
+          agrees_at (ap (λ z. given (λ i. i) here z then_ >>= scoped_given) e) (ap (λ z. given erase here z (view in_body mine then_) >>= model_given) d)
+          (agree a b (record then_ { nodes = at_form s.form (λ y. y + x.count) s.nodes }) in_body mine refl refl (k_then (at_form s.form (λ y. y + x.count) s.nodes)) (
+            grows_itself w then_,
+            record { made = record { tree = x.value; met = record { keyword = keyword; literals = literals } }; same = (λ j. record { tree = map_tree (held R) x.value; met = record { keyword = keyword; literals = ls j } }) },
+            sym (λ j. record { tree = t j; met = record { keyword = keyword; literals = ms j } }),
+          ))
       build_cases (Err z) r r' (reads e) (reads d) =
-          agrees_at (ap (λ z. given (λ i. i) here z then_ >>= λ b t. done b.value ((scoped known).spend b.count ((scoped known).meet_use scoped_met t))) e) (ap (λ z. given erase here z (view in_body mine then_) >>= λ b t. done b.value ((model known).spend b.count ((model known).meet_use model_met t))) d)
+          agrees_at (ap (λ z. given (λ i. i) here z then_ >>= scoped_given) e) (ap (λ z. given erase here z (view in_body mine then_) >>= model_given) d)
           (break (record { fault = fault_map (λ i. i) (fault_map (held R) z); here = here }) then_ in_body mine refl
-          (ap (λ (y : Fault Ident). (Err (record { fault = y; here = here }), view in_body mine then_)) (fault_over z)) (k_then s.met s.nodes))
+          (ap (λ (y : Fault Ident). (Err (record { fault = y; here = here }), view in_body mine then_)) (fault_over z)) (k_then s.nodes))
         where
           fault_over : (y : Fault Made_then) → fault_map erase (fault_map (λ (p : Made_then). names then_ fs p.0) y) ≡ fault_map (λ i. i) (fault_map (held R) y)
           fault_over y =
@@ -255,35 +258,35 @@ module _ (w : Era) (known : Known) (s : ScopedState) (f : FineState w s) (in_bod
               ∙ ap (λ (h : Made_then → Ident). fault_map h y) (pointwise (λ p. erase (names then_ fs p.0)) (held R) (λ p. erase_frame_image then_.places then_.definitions fs p.0))
               ∙ sym (faults_fused Made_then Ident Ident (λ i. i) (held R) y)
 
-      instance_law : Agrees K Instance (used (scoped known) here fs keyword m number (Some (chosen_map in_rules in_form c)) then_) (used (model known) here tt keyword (seen_transformer s.places s.definitions m) number (Some (chosen_map rule_name form_name c)) (view in_body mine then_))
+      instance_law : Agrees K Gives (used (scoped known) here keyword m number (Some (chosen_map in_rules in_form c)) then_) (used (model known) here keyword (seen_transformer s.places s.definitions m) number (Some (chosen_map rule_name form_name c)) (view in_body mine then_))
       instance_law = build_cases (build told rules inserted c.rule.template bindings left) _ _ scoped_built model_built
 
     by_choice : (o : Option (Chosen A B)) (oc : Option (Chosen Ident Ident)) (om : Option (Chosen Name Name)) → Finds (chosen_map in_rules in_form) o oc → Finds (chosen_map rule_name form_name) o om
-        → Agrees K Instance (used (scoped known) here fs keyword m number oc then_) (used (model known) here tt keyword (seen_transformer s.places s.definitions m) number om (view in_body mine then_))
-    by_choice None oc om (finds e) (finds d) = agrees_at (ap (λ o. used (scoped known) here fs keyword m number o then_) e) (ap (λ o. used (model known) here tt keyword (seen_transformer s.places s.definitions m) number o (view in_body mine then_)) d) (break (record { fault = NoRule (named keyword.ident keyword.occ); here = here }) then_ in_body mine refl refl (k_then s.met s.nodes))
-    by_choice (Some c) oc om (finds e) (finds d) = agrees_at (ap (λ o. used (scoped known) here fs keyword m number o then_) e) (ap (λ o. used (model known) here tt keyword (seen_transformer s.places s.definitions m) number o (view in_body mine then_)) d) (instance_law c)
+        → Agrees K Gives (used (scoped known) here keyword m number oc then_) (used (model known) here keyword (seen_transformer s.places s.definitions m) number om (view in_body mine then_))
+    by_choice None oc om (finds e) (finds d) = agrees_at (ap (λ o. used (scoped known) here keyword m number o then_) e) (ap (λ o. used (model known) here keyword (seen_transformer s.places s.definitions m) number o (view in_body mine then_)) d) (break (record { fault = NoRule (named keyword.ident keyword.occ); here = here }) then_ in_body mine refl refl (k_then s.nodes))
+    by_choice (Some c) oc om (finds e) (finds d) = agrees_at (ap (λ o. used (scoped known) here keyword m number o then_) e) (ap (λ o. used (model known) here keyword (seen_transformer s.places s.definitions m) number o (view in_body mine then_)) d) (instance_law c)
 
     begun : (model known).begin_use tt (view in_body mine s) ≡ view in_body mine then_
     begun = ap (λ ms. record (view in_body mine then_) { macros = ms }) (macros_later w s then_ f grows s.macros f.1.macros)
 
-    pub held_use_law : Agrees K Instance (use_of (scoped known) here fs keyword m ts tail s) (use_of (model known) here tt keyword (seen_transformer s.places s.definitions m) (map_trees (names s fs) ts) (map_tail (names s fs) tail) (view in_body mine s))
+    pub held_use_law : Agrees K Gives (use_of (scoped known) here fs keyword m ts tail s) (use_of (model known) here tt keyword (seen_transformer s.places s.definitions m) (map_trees (names s fs) ts) (map_tail (names s fs) tail) (view in_body mine s))
     held_use_law = go (nat_lt (s.uses s.form) max_uses)
       where
-        go : (t : Bool) → Agrees K Instance (cond t (used (scoped known) here fs keyword m number scoped_chosen then_) (fails here UseBudget s))
-            (cond t (used (model known) here tt keyword (seen_transformer s.places s.definitions m) number model_chosen ((model known).begin_use tt (view in_body mine s))) (fails here UseBudget (view in_body mine s)))
+        go : (t : Bool) → Agrees K Gives (cond t (used (scoped known) here keyword m number scoped_chosen then_) (fails here UseBudget s))
+            (cond t (used (model known) here keyword (seen_transformer s.places s.definitions m) number model_chosen ((model known).begin_use tt (view in_body mine s))) (fails here UseBudget (view in_body mine s)))
         go true =
-            (agrees_at refl (ap (used (model known) here tt keyword (seen_transformer s.places s.definitions m) number model_chosen) begun) (by_choice chosen_over scoped_chosen model_chosen scoped_found model_found))
+            (agrees_at refl (ap (used (model known) here keyword (seen_transformer s.places s.definitions m) number model_chosen) begun) (by_choice chosen_over scoped_chosen model_chosen scoped_found model_found))
         go false = break (record { fault = UseBudget; here = here }) s in_body mine refl refl k_here
 
 -- where the rules and the form were made by then
 module _ (w : Era) (known : Known) (s : ScopedState) (f : FineState w s) (in_body : Bool) (mine : List Number) (fs : Frames) (stands : Stands w s fs) (m : Transformer Frames Ident) (fine : TransformerFine w s m) (ts : Trees Ident) (tail : Tail Ident) (made : TreesAll (Below w s.uses) ts) (made_end : TailAll (Below w s.uses) tail) (here : Here) (keyword : Target) where
-  abbrev After : ScopedState → Tree Ident → Tree Name → Type 0
-  After t a b = Grows w (used_state w m.env s) t × Held tree_kind (Below w (used_state w m.env s).uses) a × (b ≡ map_tree (names t fs) a)
+  abbrev After : ScopedState → Instance Ident → Instance Name → Type 0
+  After t a b = Grows w (used_state w m.env s) t × Held instance_kind (Below w (used_state w m.env s).uses) a × (b ≡ instance_map (names t fs) a)
 
-  pub use_law : Agrees (Keeps w s) (Seen w tree_kind fs) (use_of (scoped known) here fs keyword m ts tail s) (use_of (model known) here tt keyword (seen_transformer s.places s.definitions m) (map_trees (names s fs) ts) (map_tail (names s fs) tail) (view in_body mine s))
+  pub use_law : Agrees (Keeps w s) (Seen w instance_kind fs) (use_of (scoped known) here fs keyword m ts tail s) (use_of (model known) here tt keyword (seen_transformer s.places s.definitions m) (map_trees (names s fs) ts) (map_tail (names s fs) tail) (view in_body mine s))
   use_law =
-      agrees_more {K = Keeps w s} {L = Keeps w s} {R = After} {Q = Seen w tree_kind fs} (λ t i n k. k)
-      (λ t a b q. (made_later tree_kind w (used_state w m.env s).uses t.uses q.0.uses a (held_made tree_kind w (used_state w m.env s).uses a q.1), q.2))
+      agrees_more {K = Keeps w s} {L = Keeps w s} {R = After} {Q = Seen w instance_kind fs} (λ t i n k. k)
+      (λ t a b q. (made_later instance_kind w (used_state w m.env s).uses t.uses q.0.uses a (held_made instance_kind w (used_state w m.env s).uses a q.1), q.2))
       (held_use_law w known s f in_body mine fs stands m fine.entered fine.binders (Below w s.uses) (Below w s.uses) (Below w (used_state w m.env s).uses) (λ i l. l) (λ i l. l)
       (λ i l. below_more w s.uses (used_state w m.env s).uses (leq_counted s.form s.uses) i l) (inserted_below w s f) (made_held rules_kind w s.uses m.rules fine.rules) ts tail made made_end
-      (Keeps w s) (keeps_itself w s f in_body mine) (λ x y. (use_fine w s f m.env fine.entered fine.binders, use_grows w s f m.env)) here keyword)
+      (Keeps w s) (keeps_itself w s f in_body mine) (λ y. (use_fine w s f m.env fine.entered fine.binders, use_grows w s f m.env)) here keyword)

@@ -63,12 +63,12 @@ module _ (w : Era) (known : Known) (F : Scoped w known) (G : Modelled w known) (
   abbrev pub ItemMade : Clock → Item Ident → Type 0
   ItemMade u x = Made item_kind w u x × ItemDistinct x
 
-  item_law : (x : Item Ident) (s : ScopedState) → FineState w s → (i : Bool) (n : List Number) → Stands w s fs → ItemMade s.uses x → Same w s (item_part F (scoped known) depth fs x s) (item_part G (model known) depth tt (item_map (names s fs) x) (view i n s))
+  pub item_law : (x : Item Ident) (s : ScopedState) → FineState w s → (i : Bool) (n : List Number) → Stands w s fs → ItemMade s.uses x → Same w s (item_part F (scoped known) depth fs x s) (item_part G (model known) depth tt (item_map (names s fs) x) (view i n s))
   item_law x s f i n h m =
       subst (λ (y : Item Ident). ItemDistinct y → Same w s (item_part F (scoped known) depth fs y s) (item_part G (model known) depth tt (item_map (names s fs) y) (view i n s))) m.0.same
       (item_over s f i n h m.0.clock m.0.earlier m.0.made) m.1
 
-  items_still : (s t : ScopedState) → FineState w s → Grows w s t → Stands w s fs → (xs : List (Item Ident)) → AllOf (ItemMade s.uses) xs → map (item_map (names s fs)) xs ≡ map (item_map (names t fs)) xs
+  pub items_still : (s t : ScopedState) → FineState w s → Grows w s t → Stands w s fs → (xs : List (Item Ident)) → AllOf (ItemMade s.uses) xs → map (item_map (names s fs)) xs ≡ map (item_map (names t fs)) xs
   items_still s t f g h [] m = refl
   items_still s t f g h (x ∷ xs) m = let a = made_same item_kind w s.uses (names s fs) (names t fs) (names_later w s t f g fs h) x m.0.0 in let b = items_still s t f g h xs m.1 in λ j. a j ∷ b j
 

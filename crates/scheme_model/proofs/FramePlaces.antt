@@ -9,7 +9,7 @@ use Rattle.scheme_model.specs.Requirements.{Known}
 use Rattle.scheme_model.specs.RulesShape.{Rules, rules_map, option_map}
 use Rattle.scheme_model.specs.Cores.{Target, MacroUse}
 use Rattle.scheme_model.specs.Steps.{Broken, Step, ◌>>=◌, done, fails}
-use Rattle.scheme_model.specs.Order.{Here, Form, Item, Note, Pending, Pass, Going, Transformer, binder_at, counting, given, told, forms_at, put, first, caught, splice, read_then, max_nodes}
+use Rattle.scheme_model.specs.Order.{Here, Form, Item, Note, Left, Pending, Renamed, Pass, Going, Transformer, binder_at, counting, given, told, forms_at, put, first, caught, splice, read_then, max_nodes}
 use Rattle.scheme_model.specs.Substitution.{State, Clock, at_form, form_map, item_map, note_map, pending_map, model}
 use Rattle.scheme_model.specs.ScopedExpansion.{Frames, FramedIdent, ScopedState, next_number, means_at, macro_at, scoped}
 use Rattle.scheme_model.proofs.OpenBodies.{Entered}
@@ -23,7 +23,7 @@ use Rattle.scheme_model.proofs.FrameLeaves.{TreesAll, trees_more, Held}
 use Rattle.scheme_model.proofs.FrameAgrees.{Agrees, agree, break, agrees_bind, agrees_more}
 use Rattle.scheme_model.proofs.FrameHeads.{IfMacro}
 use Rattle.scheme_model.proofs.FrameUses.{placed}
-use Rattle.scheme_model.proofs.FrameHeld.{NoteAll, FormAll, ItemHeld, ItemsHeld, PendingHeld, put_seen, first_seen, forms_seen, forms_held, put_held, first_held, pending_more, ReadTo, read_to, read_broken}
+use Rattle.scheme_model.proofs.FrameHeld.{NoteAll, FormAll, ItemHeld, PendingHeld, left_map, LeftHeld, put_seen, first_seen, forms_seen, forms_held, put_held, first_held, pending_more, ReadTo, read_to, read_broken}
 
 -- Inside holds of the states in which the place's forms are gone through, Trail joins an earlier and a later one; Leaf holds of an
 -- identifier that stands there, PlaceIn of one that was noted, RuleLeaf of one in the rules of a macro; Ended of the notes where a
@@ -49,10 +49,18 @@ module _ (w : Era) (known : Known) (fs : Frames) (Inside : ScopedState → Bool 
     pub place : (i : Ident) → RuleLeaf s m i → PlaceIn s (record { frames = m.env; ident = i })
     pub after : Inside (used_state w m.env s) in_body mine
 
+  -- what a definition gives: what is left, and how names read, that stood here before
+  pub record DefinesSo (s t : ScopedState) (q : Renamed Ident FramedIdent) (q' : Renamed Name Name) : Type 0 where
+    pub held : HeldHere t q.pending
+    pub seen : q'.pending ≡ seen_pending t q.pending
+    pub plain : q.rename ≡ (λ x. x)
+    pub leaf : (x : Ident) → Leaf s x → Leaf t x
+    pub reads : (x : Ident) → Leaf s x → q'.rename (names s fs x) ≡ names t fs x
+
   -- a definition on both sides
   abbrev pub Defines : ScopedState → Bool → List Number → Type 0
   Defines s in_body mine = (here : Here) (x : Named Ident) → Leaf s x.name → (r : Option (Rules Ident)) → IfMacro (Held rules_kind (Leaf s)) r → (p : Pending Ident FramedIdent) → HeldHere s p
-      → Agrees (On s) (λ t q q'. HeldHere t q × (q' ≡ seen_pending t q)) (told here ((scoped known).define x r fs p s)) (told here ((model known).define (named_map (names s fs) x) (option_map (rules_map (names s fs)) r) tt (seen_pending s p) (view in_body mine s)))
+      → Agrees (On s) (DefinesSo s) (told here ((scoped known).define x r fs p s)) (told here ((model known).define (named_map (names s fs) x) (option_map (rules_map (names s fs)) r) tt (seen_pending s p) (view in_body mine s)))
 
   pub record PlaceFacts : Type 0 where
     pub fine : (s : ScopedState) (i : Bool) (n : List Number) → Inside s i n → FineState w s
@@ -77,8 +85,8 @@ module _ (w : Era) (known : Known) (fs : Frames) (Inside : ScopedState → Bool 
   -- ---- what a pass came to on both sides
 
   pub data Came (t : ScopedState) (p : Pass Ident FramedIdent) (p' : Pass Name Name) : Type 0 where
-    came : (xs : List (Item Ident)) → p.items ≡ Ok xs → p'.items ≡ Ok (map (item_map (names t fs)) xs) → ItemsHeld (Leaf t) xs → AllOf (NoteAll (PlaceIn t)) p.notes → p'.notes ≡ map (note_map (placed t)) p.notes → Came t p p'
-    broke : (e : Broken) → p.items ≡ Err e → p'.items ≡ Err e → Ended t p.notes p'.notes → Came t p p'
+    came : (l : Left Ident) → p.left ≡ Ok l → p'.left ≡ Ok (left_map (names t fs) l) → LeftHeld (Leaf t) l → AllOf (NoteAll (PlaceIn t)) p.notes → p'.notes ≡ map (note_map (placed t)) p.notes → Came t p p'
+    broke : (e : Broken) → p.left ≡ Err e → p'.left ≡ Err e → Ended t p.notes p'.notes → Came t p p'
 
   pub record Together (q : Pass Ident FramedIdent × ScopedState) (m : Pass Name Name × State) : Type 0 where
     pub in_body : Bool
@@ -148,7 +156,7 @@ module _ (w : Era) (known : Known) (fs : Frames) (Inside : ScopedState → Bool 
         together_at (ap (λ x. caught p.notes (given (λ j. j) here x s) f) e) (ap (λ x. caught (map (note_map (placed s)) p.notes) (given erase here x (view i n s)) g) d) (next a e q)
     read_go l here s i n k p h r r' f g (read_broken z e d) next =
         together_at (ap (λ x. caught p.notes (given (λ j. j) here x s) f) e)
-        (ap (λ x. caught (map (note_map (placed s)) p.notes) (given erase here x (view i n s)) g) d ∙ ap (λ (y : Fault Ident). (record { notes = map (note_map (placed s)) p.notes; items = Err (record { fault = y; here = here }) }, view i n s)) (told_fault z))
+        (ap (λ x. caught (map (note_map (placed s)) p.notes) (given erase here x (view i n s)) g) d ∙ ap (λ (y : Fault Ident). (record { notes = map (note_map (placed s)) p.notes; left = Err (record { fault = y; here = here }) }, view i n s)) (told_fault z))
         (record { in_body = i; mine = n; inside = k; state = refl; came_to = broke (record { fault = fault_map (λ j. j) z; here = here }) refl refl (facts.ended s s i n k (trail_itself s) p.notes h.2) })
       where
         told_fault : (y : Fault Ident) → fault_map erase (fault_map (names s fs) y) ≡ fault_map (λ j. j) y

@@ -5,7 +5,7 @@ use Rattle.scheme_model.specs.Ident.{Ident, erase, same_ident, symbol_of}
 use Rattle.scheme_model.specs.Trees.{Tree, Trees, Tail, map_tree, map_trees, map_tail}
 use Rattle.scheme_model.specs.ExpansionFaults.{Named, named_map, Fault}
 use Rattle.scheme_model.specs.Requirements.{Known, chosen_of}
-use Rattle.scheme_model.specs.Shapes.{Formals, one_of, some_of, proper_of, if_of, lambda_of, case_lambda_of, named_tree_of, definition_of, values_of, record_of, local_macros_of, error_text_of}
+use Rattle.scheme_model.specs.Shapes.{Formals, one_of, some_of, proper_of, if_of, lambda_of, case_lambda_of, named_tree_of, syntax_of, definition_of, values_of, record_of, local_macros_of, error_text_of}
 use Rattle.scheme_model.specs.RulesShape.{Names, rules_of, option_map}
 use Rattle.scheme_model.specs.Order.{Here, given, RulesParts}
 use Rattle.scheme_model.specs.Substitution.{Clock}
@@ -13,7 +13,7 @@ use Rattle.scheme_model.specs.ScopedExpansion.{Frames, ScopedState}
 use Rattle.scheme_model.specs.Renaming.{Renames, formals_map}
 use Rattle.scheme_model.proofs.FrameEras.{Era, Below, below_more}
 use Rattle.scheme_model.proofs.RenamingLaws.{Reads}
-use Rattle.scheme_model.proofs.ShapeLaws.{one_of-map, some_of-map, proper_of-map, if_of-map, lambda_of-map, case_lambda_of-map, named_tree_of-map, definition_of-map, values_of-map, record_of-map, local_macros_of-map, error_text_of-map}
+use Rattle.scheme_model.proofs.ShapeLaws.{one_of-map, some_of-map, proper_of-map, if_of-map, lambda_of-map, case_lambda_of-map, named_tree_of-map, syntax_of-map, definition_of-map, values_of-map, record_of-map, local_macros_of-map, error_text_of-map}
 use Rattle.scheme_model.proofs.RequirementLaws.{chosen_of-map}
 use Rattle.scheme_model.proofs.RulesLaws.{rules_of-map}
 use Rattle.scheme_model.proofs.ScopeLaws.{map_map, map_map_all, map_map_tail}
@@ -73,6 +73,9 @@ text_reader = record { read = λ A n p. error_text_of p.0 p.1; natural = λ A B 
 
 abbrev pub named_tree_reader : Reader rest_kind named_tree_kind
 named_tree_reader = record { read = λ A n p. named_tree_of p.0 p.1; natural = λ A B f n m told p. named_tree_of-map A B f p.0 p.1 }
+
+abbrev pub syntax_reader : Reader rest_kind named_tree_kind
+syntax_reader = record { read = λ A n p. syntax_of p.0 p.1; natural = λ A B f n m told p. syntax_of-map A B f p.0 p.1 }
 
 abbrev pub lambda_reader : Reader rest_kind clause_kind
 lambda_reader = record { read = λ A n p. lambda_of n.same p.0 p.1; natural = λ A B f n m told p. lambda_of-map A B f n.same m.same told.same p.0 p.1 }

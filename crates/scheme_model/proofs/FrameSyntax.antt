@@ -127,8 +127,8 @@ module _ (w : Era) (known : Known) (fs : Frames) (Inside : ScopedState → Bool 
     MacroLeft t a b = (b.0 ≡ a.0) × HeldAt t a.1 × (b.1 ≡ seen t a.1)
 
     define_macro : (x : Named Ident) → Leaf s x.name → (t : ScopedState) (i1 : Bool) (n1 : List Number) → Inside t i1 n1 → Grows w s t → (a : Rules Ident) (b : Rules Name) → SeenHeld rules_kind t a b → (q : Pending Ident FramedIdent) → HeldAt s q
-        → Agrees (On w known fs Inside Trail Leaf PlaceIn RuleLeaf Ended t) MacroLeft (told here ((scoped known).define x (Some a) fs q t) >>= λ q2. done (binder_at (scoped known) fs t x, q2))
-        (told here ((model known).define (named_map (names s fs) x) (Some b) tt (seen s q) (view i1 n1 t)) >>= λ q2. done (binder_at (model known) tt (view i1 n1 t) (named_map (names s fs) x), q2))
+        → Agrees (On w known fs Inside Trail Leaf PlaceIn RuleLeaf Ended t) MacroLeft (told here ((scoped known).define x (Some a) fs q t) >>= λ made. done (binder_at (scoped known) fs t x, made.pending))
+        (told here ((model known).define (named_map (names s fs) x) (Some b) tt (seen s q) (view i1 n1 t)) >>= λ made. done (binder_at (model known) tt (view i1 n1 t) (named_map (names s fs) x), made.pending))
     define_macro x l t i1 n1 k1 gr a b e q hq =
         let later = names_later w s t (facts.fine s i n k) gr fs (facts.stands s i n k) in
         let leaf = λ (y : Ident) (m : Leaf s y). later y (facts.below s i n k y m) in
@@ -137,8 +137,8 @@ module _ (w : Era) (known : Known) (fs : Frames) (Inside : ScopedState → Bool 
         agrees_bind _
         (agrees_at refl (λ j. told here ((model known).define (named (y j) x.occ) (Some (e.1 j)) tt (ps j) (view i1 n1 t)))
         (facts.defines t i1 n1 k1 here x (facts.leaf_later s t i n k gr x.name l) (Some a) e.0 q (pending_more (Leaf s) (Leaf t) (PlaceIn s) (PlaceIn t) (facts.leaf_later s t i n k gr) (facts.place_later s t i n k gr) q hq)))
-        (λ c d v i2 n2 k2 r. agree (binder_at (scoped known) fs t x, c) (binder_at (model known) tt (view i1 n1 t) (named_map (names s fs) x), d) v i2 n2 refl refl k2
-        ((let z = facts.bound t i1 n1 k1 in let u = erase_frame_image s.places s.definitions fs x.name in λ j. record { bound = z j; ident = u j; occ = x.occ }), r.0, r.1))
+        (λ c d v i2 n2 k2 r. agree (binder_at (scoped known) fs t x, c.pending) (binder_at (model known) tt (view i1 n1 t) (named_map (names s fs) x), d.pending) v i2 n2 refl refl k2
+        ((let z = facts.bound t i1 n1 k1 in let u = erase_frame_image s.places s.definitions fs x.name in λ j. record { bound = z j; ident = u j; occ = x.occ }), r.held, r.seen))
 
     syntax_over : (d : Named (Holding (Leaf s)) × Tree (Holding (Leaf s)))
         → Both (run_syntax (scoped known) f here fs p (named_map (held (Leaf s)) d.0, map_tree (held (Leaf s)) d.1) s)
@@ -146,7 +146,7 @@ module _ (w : Era) (known : Known) (fs : Frames) (Inside : ScopedState → Bool 
     syntax_over d =
         together_at w known fs Inside Trail Leaf PlaceIn RuleLeaf Ended refl
         (λ j. caught {B = Binder × Pending Name Name} (noting j).notes
-        (rules_parts (model known) here tt (rules_parts_of (map_tree (names s fs) (map_tree (held (Leaf s)) d.1))) (view i n s) >>= λ r t0. rules_at (model known) here (map_tree (names s fs) (map_tree (held (Leaf s)) d.1)) r t0 >>= λ rules t. told here ((model known).define (named_map (names s fs) (named_map (held (Leaf s)) d.0)) (Some rules) tt (noting j) t) >>= λ q2. done (binder_at (model known) tt t (named_map (names s fs) (named_map (held (Leaf s)) d.0)), q2))
+        (rules_parts (model known) here tt (rules_parts_of (map_tree (names s fs) (map_tree (held (Leaf s)) d.1))) (view i n s) >>= λ r t0. rules_at (model known) here (map_tree (names s fs) (map_tree (held (Leaf s)) d.1)) r t0 >>= λ rules t. told here ((model known).define (named_map (names s fs) (named_map (held (Leaf s)) d.0)) (Some rules) tt (noting j) t) >>= λ made. done (binder_at (model known) tt t (named_map (names s fs) (named_map (held (Leaf s)) d.0)), made.pending))
         (λ r. g (put (Macro r.0 here) r.1)))
         (caught_law w known fs Inside Trail Leaf PlaceIn RuleLeaf Ended facts s i n k (noted (rules_note (scoped known) fs s (rules_parts_of (map_tree (held (Leaf s)) d.1))) p).notes hq.2 (λ r. f (put (Macro r.0 here) r.1)) (λ r. g (put (Macro r.0 here) r.1))
         (grown_bind w known fs Inside Trail Leaf PlaceIn RuleLeaf Ended facts f g law here s _ (parts_law s i n k (map_tree (held (Leaf s)) d.1) (all_held (Leaf s) d.1)) (λ a b t i1 n1 k1 gr e.

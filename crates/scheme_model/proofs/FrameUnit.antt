@@ -8,8 +8,8 @@ use Rattle.scheme_model.specs.Meaning.{Meaning, Local, Global, Standard, Free, s
 use Rattle.scheme_model.specs.Requirements.{Known}
 use Rattle.scheme_model.specs.RulesShape.{Rules, rules_map, option_map}
 use Rattle.scheme_model.specs.Cores.{LocalNumber, Definition}
-use Rattle.scheme_model.specs.Order.{Here, Note, Pending, Transformer, is_some, told}
-use Rattle.scheme_model.specs.Substitution.{State, Table, Entries, Defined, Clock, at_form, note_map, pending_map, any, meaning, refused_in_unit, with_macro, defined_global, define_in_unit, is_plain, is_variable, defined_in, definition_count, model}
+use Rattle.scheme_model.specs.Order.{Here, Note, Pending, Renamed, Transformer, is_some, told}
+use Rattle.scheme_model.specs.Substitution.{State, Table, Entries, Defined, Clock, at_form, note_map, pending_map, unchanged, any, meaning, refused_in_unit, with_macro, defined_global, define_in_unit, is_plain, is_variable, defined_in, definition_count, model}
 use Rattle.scheme_model.specs.Scopes.{own_of, imported_as, defined_or, given_or}
 use Rattle.scheme_model.specs.ScopedExpansion.{Frames, BodyDefinitions, UsePlace, FramedIdent, ScopedMacro, ScopedState, around, next_number, means_inside, means_outside, means_at, macro_at, macro_added, definition_added, refused_now, define_at}
 use Rattle.scheme_model.specs.FrameImages.{image_outside}
@@ -28,7 +28,7 @@ use Rattle.scheme_model.proofs.FrameAgrees.{Agrees, agree, break, agrees_at}
 use Rattle.scheme_model.proofs.FrameHeads.{IfMacro, TransformerFine, macro_found}
 use Rattle.scheme_model.proofs.FrameUses.{placed}
 use Rattle.scheme_model.proofs.FrameHeld.{NoteAll, PendingHeld, notes_more, notes_same}
-use Rattle.scheme_model.proofs.FramePlaces.{MacroHere, PlaceFacts}
+use Rattle.scheme_model.proofs.FramePlaces.{MacroHere, DefinesSo, PlaceFacts}
 use Rattle.scheme_model.proofs.FrameBodyDefines.{refused_same, any_same, some_same}
 
 module _ (table : Table) (entry : Entries) (entries : (u : ℕ) (s : List ℕ) → GivenNoLocal (entry u s)) where
@@ -204,21 +204,22 @@ module _ (w : Era) (known : Known) where
           (refused_same (UnitPlace s) (placed s) (is_some r) (λ q. same_meaning (means_at then_ q.frames q.ident) (Global s.unit x.name)) (λ j. same_meaning (meaning then_.table then_.entry j) (Global s.unit x.name)) (λ q. means_at then_ q.frames q.ident) (λ j. meaning then_.table then_.entry j)
           (λ q d. ap (λ m. same_meaning m (Global s.unit x.name)) (means_then q)) (λ q d. means_then q)) p.notes h.2
 
-      abbrev Left : ScopedState → Pending Ident FramedIdent → Pending Name Name → Type 0
-      Left z q q' = PendingHeld (UnitLeaf z) (UnitPlace z) q × (q' ≡ pending_map (names z []) (placed z) q)
+      abbrev Made : ScopedState → Renamed Ident FramedIdent → Renamed Name Name → Type 0
+      Made z q q' = DefinesSo w known [] UnitInside (Grows w) UnitLeaf UnitPlace UnitRule Noted s z q q'
 
-      abbrev Goal : Here → Result (Pending Ident FramedIdent) (Fault Ident) × ScopedState → Result (Pending Name Name) (Fault Ident) × State → Type 0
-      Goal here q m = Agrees (λ z i n1. UnitInside z i n1 × Grows w s z) Left (told here q) (told here m)
+      abbrev Goal : Here → Result (Renamed Ident FramedIdent) (Fault Ident) × ScopedState → Result (Renamed Name Name) (Fault Ident) × State → Type 0
+      Goal here q m = Agrees (λ z i n1. UnitInside z i n1 × Grows w s z) Made (told here q) (told here m)
 
       define_cases : (here : Here) (p : Pending Ident FramedIdent) → PendingHeld (UnitLeaf s) (UnitPlace s) p → (y d : Bool)
-          → Goal here (cond y (Err (KeywordRedefined x), s) (cond d (Err (Duplicate x), s) (Ok p, then_)))
-          (cond y (Err (KeywordRedefined (named (erase X) x.occ)), view false n s) (cond d (Err (Duplicate (named (erase X) x.occ)), view false n s) (Ok (pending_map (names s []) (placed s) p), defined_global (named X x.occ) r' (view false n s))))
+          → Goal here (cond y (Err (KeywordRedefined x), s) (cond d (Err (Duplicate x), s) (Ok (unchanged p), then_)))
+          (cond y (Err (KeywordRedefined (named (erase X) x.occ)), view false n s) (cond d (Err (Duplicate (named (erase X) x.occ)), view false n s) (Ok (unchanged (pending_map (names s []) (placed s) p)), defined_global (named X x.occ) r' (view false n s))))
       define_cases here p h true d =
           break (record { fault = KeywordRedefined x; here = here }) s false n refl (ap (λ i. (Err (record { fault = KeywordRedefined (named i x.occ); here = here }), view false n s)) er) ((k, refl, g), grows_itself w s)
       define_cases here p h false true =
           break (record { fault = Duplicate x; here = here }) s false n refl (ap (λ i. (Err (record { fault = Duplicate (named i x.occ); here = here }), view false n s)) er) ((k, refl, g), grows_itself w s)
       define_cases here p h false false =
-          agree p (pending_map (names s []) (placed s) p) then_ false n refl (ap (λ z. (Ok (pending_map (names s []) (placed s) p), z)) state_then) ((unit_then, refl, g), grows_itself w s) (h, refl)
+          agree (unchanged p) (unchanged (pending_map (names s []) (placed s) p)) then_ false n refl (ap (λ z. (Ok (unchanged (pending_map (names s []) (placed s) p)), z)) state_then) ((unit_then, refl, g), grows_itself w s)
+          (record { held = h; seen = refl; plain = refl; leaf = λ i y. y; reads = λ i y. refl })
 
       define_law : (here : Here) (p : Pending Ident FramedIdent) → PendingHeld (UnitLeaf s) (UnitPlace s) p
           → Goal here (define_at None x r [] p s) (define_in_unit (named X x.occ) r' (pending_map (names s []) (placed s) p) (view false n s))
@@ -226,7 +227,7 @@ module _ (w : Era) (known : Known) where
           agrees_at refl
           (let y = refused p h in let e = er in
           λ j. told here (cond (y j) (Err (KeywordRedefined (named (erase X) x.occ)), view false n s) (cond (is_some (defined_in s.table s.unit (e j))) (Err (Duplicate (named (erase X) x.occ)), view false n s)
-          (Ok (pending_map (names s []) (placed s) p), defined_global (named X x.occ) r' (view false n s)))))
+          (Ok (unchanged (pending_map (names s []) (placed s) p)), defined_global (named X x.occ) r' (view false n s)))))
           (define_cases here p h (any (refused_now then_ (Global s.unit x.name) (is_some r)) p.notes) (is_some (defined_in s.table s.unit x.name)))
 
     -- ---- all that a place has to give

@@ -6,10 +6,10 @@ use Rattle.scheme_model.specs.Trees.{Trees, map_tree, map_trees}
 use Rattle.scheme_model.specs.ExpansionFaults.{OutOfTurns}
 use Rattle.scheme_model.specs.Meaning.{Meaning, Local, Global, Standard, Free}
 use Rattle.scheme_model.specs.Requirements.{Known}
-use Rattle.scheme_model.specs.Cores.{Body}
-use Rattle.scheme_model.specs.Steps.{◌>>=◌, done}
-use Rattle.scheme_model.specs.Order.{Here, Pass, here_at, forms_at, run}
-use Rattle.scheme_model.specs.Expression.{expression, item_part, parts, items_of, body_in, body_core, expand}
+use Rattle.scheme_model.specs.Cores.{Core, Body}
+use Rattle.scheme_model.specs.Steps.{Step, ◌>>=◌, done}
+use Rattle.scheme_model.specs.Order.{Here, Left, Pass, here_at, forms_at, meet_all, run}
+use Rattle.scheme_model.specs.Expression.{expression, item_part, parts, left_of, body_in, body_core, expand}
 use Rattle.scheme_model.specs.Substitution.{State, is_own, model}
 use Rattle.scheme_model.specs.ScopedExpansion.{Frames, BodyDefinition, BodyDefinitions, FramedIdent, ScopedMacro, ScopedState, around, next_number, scoped}
 use Rattle.scheme_model.proofs.OpenBodies.{Sits}
@@ -23,8 +23,8 @@ use Rattle.scheme_model.proofs.FrameGrowth.{entered_state, enter_names, enter_fi
 use Rattle.scheme_model.proofs.FrameLeaves.{TreesAll, trees_more, trees_same, held_more, held_made, made_held}
 use Rattle.scheme_model.proofs.FrameAgrees.{break, agrees_at, agrees_more, Keeps, keeps_bind, Same, same_done, same_fails}
 use Rattle.scheme_model.proofs.FrameHeads.{here_seen, node_law}
-use Rattle.scheme_model.proofs.FrameHeld.{ItemHeld, forms_seen, forms_held}
-use Rattle.scheme_model.proofs.FrameUses.{placed}
+use Rattle.scheme_model.proofs.FrameHeld.{ItemHeld, left_map, forms_seen, forms_held}
+use Rattle.scheme_model.proofs.FrameUses.{placed, meet_all_seen, met_later}
 use Rattle.scheme_model.proofs.FramePlaces.{Came, came, broke, Together}
 use Rattle.scheme_model.proofs.FrameForms.{forms_law}
 use Rattle.scheme_model.proofs.FrameOpen.{b, home, mine_of, MacroSits, Opened, Inside, Leaf, PlaceIn, RuleLeaf, entered_other, stands_in}
@@ -78,23 +78,38 @@ module _ (worked : ℕ → Bool) (known : Known) (s0 : ScopedState) (f0 : Fine (
       go (Inserted j k) h = inr (entered_other worked known s0 f0 c st0 (around s0.places k) (f0.entered k), below_counted (era worked s0) s0.uses j h.1)
 
   module _ (F : Scoped (era worked s0) known) (G : Modelled (era worked s0) known) (law : WholeLaw (era worked s0) known F G) (body_law : BodyLaw (era worked s0) known F G) (turns below : ℕ) (here : Here) (i : Bool) (n : List Number) (ts : Trees Ident) (old : TreesAll (Below (era worked s0) s0.uses) ts) where
+    -- what was set aside is expanded
+    abbrev ending : Left Ident → Step ScopedState Core
+    ending l t = parts (item_part F (scoped known) below frames) l.items t >>= λ ps. done (Body ps)
+
+    abbrev ending_so : Left Name → Step State Core
+    ending_so l t = parts (item_part G (model known) below tt) l.items t >>= λ ps. done (Body ps)
+
+    -- once the macro uses of the forms are met
+    abbrev coming : Left Ident → Step ScopedState Core
+    coming l t = ending l (meet_all (scoped known) frames l.uses t)
+
+    abbrev coming_so : Left Name → Step State Core
+    coming_so l t = ending_so l (meet_all (model known) tt l.uses t)
+
     -- the body's forms were gone through; what they set aside is expanded
     after_forms : (q : Pass Ident FramedIdent × ScopedState) (m : Pass Name Name × State) → Together (era worked s0) known frames (Inside worked known s0 f0 c st0) (Any worked known s0 f0 c st0) (Leaf worked known s0 f0 c st0) (PlaceIn worked known s0 f0 c st0) (RuleLeaf worked known s0 f0 c st0) (Dropped worked known s0 f0 c st0) q m
-        → Same (era worked s0) s0 (items_of q >>= parts (item_part F (scoped known) below frames) >>= λ ps. done (Body ps)) (items_of m >>= parts (item_part G (model known) below tt) >>= λ ps. done (Body ps))
+        → Same (era worked s0) s0 (left_of q >>= λ l t. parts (item_part F (scoped known) below frames) l.items (meet_all (scoped known) frames l.uses t) >>= λ ps. done (Body ps)) (left_of m >>= λ l t. parts (item_part G (model known) below tt) l.items (meet_all (model known) tt l.uses t) >>= λ ps. done (Body ps))
     after_forms q m h = go h.came_to
       where
         go : Came (era worked s0) known frames (Inside worked known s0 f0 c st0) (Any worked known s0 f0 c st0) (Leaf worked known s0 f0 c st0) (PlaceIn worked known s0 f0 c st0) (RuleLeaf worked known s0 f0 c st0) (Dropped worked known s0 f0 c st0) q.1 q.0 m.0
-            → Same (era worked s0) s0 (items_of q >>= parts (item_part F (scoped known) below frames) >>= λ ps. done (Body ps)) (items_of m >>= parts (item_part G (model known) below tt) >>= λ ps. done (Body ps))
-        go (came xs e d hx hn z) =
+            → Same (era worked s0) s0 (left_of q >>= λ l t. parts (item_part F (scoped known) below frames) l.items (meet_all (scoped known) frames l.uses t) >>= λ ps. done (Body ps)) (left_of m >>= λ l t. parts (item_part G (model known) below tt) l.items (meet_all (model known) tt l.uses t) >>= λ ps. done (Body ps))
+        go (came l e d hx hn z) =
             let o = h.inside.0 in let v = h.state in
-            agrees_at (ap (λ r. (r, q.1) >>= parts (item_part F (scoped known) below frames) >>= λ ps. done (Body ps)) e) (λ j. (d j, v j) >>= parts (item_part G (model known) below tt) >>= λ ps. done (Body ps))
-            (agrees_more {K = Keeps (era worked s0) q.1} {L = Keeps (era worked s0) s0} (λ t i1 n1 k. (k.0, grows_then (era worked s0) s0 q.1 t o.grows k.1)) (λ t x y r. r)
-            (keeps_bind (era worked s0) q.1 _ (parts_law (era worked s0) known F G law body_law below frames xs q.1 o.fine h.in_body h.mine (stands_in worked known s0 f0 c st0 q.1 o)
-            (all_of_more (ItemHeld (Leaf worked known s0 f0 c st0 q.1)) (ItemMade (era worked s0) known F G law body_law below frames q.1.uses) (λ x r. (held_made item_kind (era worked s0) q.1.uses x (held_more item_kind (Leaf worked known s0 f0 c st0 q.1) (Below (era worked s0) q.1.uses) (λ y l. l.0) x r.0), r.1)) xs hx))
-            (λ x y t i1 n1 k e2. same_done (era worked s0) t i1 n1 (Body x) (Body y) k.0 (ap Body e2))))
+            agrees_at (ap (λ r. (r, q.1) >>= coming) e) ((λ j. (d j, v j) >>= coming_so) ∙ ap (λ y. ending_so (left_map (names q.1 frames) l) y) (meet_all_seen (era worked s0) known h.in_body h.mine frames l.uses q.1 o.fine))
+            (met_later known frames (λ t. Same (era worked s0) s0 (ending l t) (ending_so (left_map (names q.1 frames) l) (view h.in_body h.mine t))) l.uses q.1 (λ y.
+            agrees_more {K = Keeps (era worked s0) q.1} {L = Keeps (era worked s0) s0} (λ t i1 n1 k. (k.0, grows_then (era worked s0) s0 q.1 t o.grows k.1)) (λ t a b r. r)
+            (keeps_bind (era worked s0) q.1 _ (parts_law (era worked s0) known F G law body_law below frames l.items (record q.1 { met = y }) o.fine h.in_body h.mine (stands_in worked known s0 f0 c st0 q.1 o)
+            (all_of_more (ItemHeld (Leaf worked known s0 f0 c st0 q.1)) (ItemMade (era worked s0) known F G law body_law below frames q.1.uses) (λ x r. (held_made item_kind (era worked s0) q.1.uses x (held_more item_kind (Leaf worked known s0 f0 c st0 q.1) (Below (era worked s0) q.1.uses) (λ a b. b.0) x r.0), r.1)) l.items hx.1))
+            (λ a b t i1 n1 k e2. same_done (era worked s0) t i1 n1 (Body a) (Body b) k.0 (ap Body e2)))))
         go (broke x e d hn) =
             let v = h.state in
-            break x q.1 h.in_body h.mine (ap (λ r. (r, q.1) >>= parts (item_part F (scoped known) below frames) >>= λ ps. done (Body ps)) e) (λ j. (d j, v j) >>= parts (item_part G (model known) below tt) >>= λ ps. done (Body ps)) (h.inside.0.fine, h.inside.0.grows)
+            break x q.1 h.in_body h.mine (ap (λ r. (r, q.1) >>= coming) e) (λ j. (d j, v j) >>= coming_so) (h.inside.0.fine, h.inside.0.grows)
 
     trees_entered : map_trees (Inner (next_number s0 s0.bodies)) (map_trees (names s0 c) ts) ≡ map_trees (names entry frames) ts
     trees_entered = map_map_all (Inner (next_number s0 s0.bodies)) (names s0 c) ts ∙ trees_same (Below (era worked s0) s0.uses) (λ j. Inner (next_number s0 s0.bodies) (names s0 c j)) (names entry frames) (enter_names (era worked s0) s0 (refl, f0) c) ts old
@@ -103,11 +118,11 @@ module _ (worked : ℕ → Bool) (known : Known) (s0 : ScopedState) (f0 : Fine (
     in_body_law =
         let us = trees_entered in let ms = sym (none_mine s0.definitions f0.bodies) in
         agrees_at refl
-        ((λ j. items_of (run (model known) turns tt (record { todo = forms_at here (us j); aside = []; notes = [] }) (view true (ms j) entry)) >>= parts (item_part G (model known) below tt) >>= λ ps. done (Body ps))
-        ∙ ap (λ xs. items_of (run (model known) turns tt (record { todo = xs; aside = []; notes = [] }) (view true (mine_of worked known s0 f0 c st0 entry.definitions) entry)) >>= parts (item_part G (model known) below tt) >>= λ ps. done (Body ps)) (forms_seen (names entry frames) (placed entry) here ts))
+        ((λ j. left_of (run (model known) turns tt (record { todo = forms_at here (us j); aside = []; uses = []; notes = [] }) (view true (ms j) entry)) >>= coming_so)
+        ∙ ap (λ xs. left_of (run (model known) turns tt (record { todo = xs; aside = []; uses = []; notes = [] }) (view true (mine_of worked known s0 f0 c st0 entry.definitions) entry)) >>= coming_so) (forms_seen (names entry frames) (placed entry) here ts))
         (after_forms _ _ (forms_law (era worked s0) known frames (Inside worked known s0 f0 c st0) (Any worked known s0 f0 c st0) (Leaf worked known s0 f0 c st0) (PlaceIn worked known s0 f0 c st0) (RuleLeaf worked known s0 f0 c st0) (Dropped worked known s0 f0 c st0) (body_facts worked known s0 f0 c st0) turns
-        (record { todo = forms_at here ts; aside = []; notes = [] }) entry true (mine_of worked known s0 f0 c st0 entry.definitions) (opened, refl, refl)
-        (forms_held (Leaf worked known s0 f0 c st0 entry) here ts (trees_more (Below (era worked s0) s0.uses) (Leaf worked known s0 f0 c st0 entry) old_leaf ts old), tt, tt)))
+        (record { todo = forms_at here ts; aside = []; uses = []; notes = [] }) entry true (mine_of worked known s0 f0 c st0 entry.definitions) (opened, refl, refl)
+        (forms_held (Leaf worked known s0 f0 c st0 entry) here ts (trees_more (Below (era worked s0) s0.uses) (Leaf worked known s0 f0 c st0 entry) old_leaf ts old), tt, tt, tt)))
 
 -- ---- any task
 

@@ -4,8 +4,8 @@ use Rattle.scheme_model.specs.Trees.{Tree, Trees, Tail, map_tree, map_trees, map
 use Rattle.scheme_model.specs.ExpansionFaults.{Named, named_map, Fault, BadRules, TwoEllipses, DuplicateVariable, EllipsisDepth, IdleEllipsis, NoRule, EllipsisLength, BadForm, DuplicateBinder, BadPlace, BadRecord, BadQuasi, KeywordRedefined, Duplicate, KeywordAsValue, UseBudget, NodeBudget, DepthBudget, SyntaxError, IncludeRefused, OutOfTurns, fault_map}
 use Rattle.scheme_model.specs.Shapes.{Formals, Clause, DefinitionShape, Variable, Procedure, FieldShape, RecordShape, LocalMacros}
 use Rattle.scheme_model.specs.RulesShape.{Rule, Rules, rule_map, rules_map, option_map}
-use Rattle.scheme_model.specs.Order.{Form, Item, Expression, Value, Function, Assigned, AssignedFunction, ValuesOf, Record, Macro}
-use Rattle.scheme_model.specs.Substitution.{form_map, clause_map, item_map}
+use Rattle.scheme_model.specs.Order.{Form, Item, Expression, Value, Function, Assigned, AssignedFunction, ValuesOf, Record, Macro, WaitingUse, Instance}
+use Rattle.scheme_model.specs.Substitution.{form_map, clause_map, item_map, use_map}
 use Rattle.scheme_model.specs.Renaming.{formals_map, definition_map, field_map, record_map, local_macros_map}
 use Rattle.scheme_model.proofs.RenamingLaws.{map_after}
 use Rattle.scheme_model.proofs.ScopeLaws.{map_map, map_map_all, map_map_tail}
@@ -93,6 +93,9 @@ module _ (A B C : Type 0) (g : B → C) (f : A → B) where
   item_fused (Record r) = refl
   item_fused (Macro b here) = refl
 
+  pub use_fused : (u : WaitingUse A) → use_map g (use_map f u) ≡ use_map (λ a. g (f a)) u
+  use_fused u = ap (λ (ls : List (Named C)). record { keyword = u.keyword; literals = ls }) (names_fused u.literals)
+
   pub faults_fused : (e : Fault A) → fault_map g (fault_map f e) ≡ fault_map (λ a. g (f a)) e
   faults_fused BadRules = refl
   faults_fused TwoEllipses = refl
@@ -136,3 +139,13 @@ rules_kind = record { of = Rules; map = λ A B f r. rules_map f r; fused = rules
 
 abbrev pub item_kind : Kind
 item_kind = record { of = Item; map = λ A B f x. item_map f x; fused = item_fused }
+
+abbrev pub use_kind : Kind
+use_kind = record { of = WaitingUse; map = λ A B f u. use_map f u; fused = use_fused }
+
+-- an instance, and the use that gave it
+abbrev pub instance_map : {A B : Type 0} → (A → B) → Instance A → Instance B
+instance_map f i = record { tree = map_tree f i.tree; met = use_map f i.met }
+
+abbrev pub instance_kind : Kind
+instance_kind = record { of = Instance; map = λ A B f i. instance_map f i; fused = λ A B C g f i. let t = map_map g f i.tree in let u = use_fused A B C g f i.met in λ j. record { tree = t j; met = u j } }

@@ -27,7 +27,7 @@ pub mod FrameGrowth  -- A binder, the entry of a body, and a macro use
 pub mod FrameLeaves  -- Trees each of whose identifiers was made by then, part by part
 pub mod FrameAgrees  -- Both sides go together
 pub mod FrameHeads  -- Heads, targets, places, macros and nodes
-pub mod FrameUses  -- The law of one macro use, and of what it compares
+pub mod FrameUses  -- The laws of what a macro use compares, and of what it is met with
 pub mod FrameInstances  -- The law of one macro use
 pub mod FrameReaders  -- What both sides read of the parts of a form, whatever the row of the core forms
 pub mod FrameOpen  -- A body that is open on both sides

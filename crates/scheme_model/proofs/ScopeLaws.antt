@@ -71,6 +71,27 @@ mutual
   map_map_tail f g (dotted t) = ap dotted (map_map f g t)
 
 mutual
+  pub map_itself : {A : Type 0} (t : Tree A) → map_tree (λ a. a) t ≡ t
+  map_itself (name i o) = refl
+  map_itself (atom a o) = refl
+  map_itself (list ts tail o) =
+      let parts = map_itself_all ts in
+      let end = map_itself_tail tail in
+      λ j. list (parts j) (end j) o
+  map_itself (vector ts o) = ap (λ us. vector us o) (map_itself_all ts)
+
+  map_itself_all : {A : Type 0} (ts : Trees A) → map_trees (λ a. a) ts ≡ ts
+  map_itself_all no_trees = refl
+  map_itself_all (tree t ts) =
+      let first = map_itself t in
+      let rest = map_itself_all ts in
+      λ j. tree (first j) (rest j)
+
+  map_itself_tail : {A : Type 0} (tail : Tail A) → map_tail (λ a. a) tail ≡ tail
+  map_itself_tail proper = refl
+  map_itself_tail (dotted t) = ap dotted (map_itself t)
+
+mutual
   pub map_same : {A B : Type 0} (f g : A → B) → ((a : A) → f a ≡ g a) → (t : Tree A) → map_tree f t ≡ map_tree g t
   map_same f g h (name i o) = ap (λ j. name j o) (h i)
   map_same f g h (atom a o) = refl

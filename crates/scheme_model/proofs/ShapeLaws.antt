@@ -3,7 +3,7 @@ use Rattle.std.proofs.Common.{◌≡◌, List, [], ◌∷◌, map, Bool, true, f
 use Rattle.std.specs.Prelude.{◌||◌}
 use Rattle.scheme_model.specs.Trees.{Numeral, Quoted, Character, Boolean, Bytes, Tree, name, atom, list, vector, Trees, no_trees, tree, Tail, proper, dotted, map_tree, map_trees, map_tail}
 use Rattle.scheme_model.specs.ExpansionFaults.{Named, named_map, Fault, BadForm, ◌>>◌}
-use Rattle.scheme_model.specs.Shapes.{Formals, Clause, name_of, names_of, is_among, distinct_from, distinct, formals_in, formals_of, proper_of, some_of, one_of, first_of, list_of, clause_in, lambda_of, clauses_in, distinct_all, case_lambda_of, if_of, named_tree_of, error_text_of, procedure_of, definition_with, definition_of, values_of, FieldShape, RecordShape, field_with, fields_of, constructor_of, all_among, record_in, or_bad_record, record_of, bindings_of, local_macros_of}
+use Rattle.scheme_model.specs.Shapes.{Formals, Clause, name_of, names_of, is_among, distinct_from, distinct, formals_in, formals_of, proper_of, some_of, one_of, first_of, list_of, clause_in, lambda_of, clauses_in, distinct_all, case_lambda_of, if_of, named_tree_of, syntax_of, error_text_of, procedure_of, definition_with, definition_of, values_of, FieldShape, RecordShape, field_with, fields_of, constructor_of, all_among, record_in, or_bad_record, record_of, bindings_of, local_macros_of}
 use Rattle.scheme_model.specs.Substitution.{clause_map}
 use Rattle.scheme_model.specs.Renaming.{result_map, formals_map, definition_map, field_map, record_map, local_macros_map}
 use Rattle.scheme_model.proofs.RenamingLaws.{Reads, reads, then_map, cond_reads, map-append, map_turned}
@@ -94,6 +94,9 @@ module _ (A B : Type 0) (f : A → B) where
   pub named_tree_of-map : (ts : Trees A) (tail : Tail A) → Reads f named_beside (named_tree_of ts tail) (named_tree_of (map_trees f ts) (map_tail f tail))
   named_tree_of-map ts tail = then_map _ (first_of-map ts) (λ p. then_map _ (name_of-map p.0) (λ n. then_map _ (one_of-map p.1 tail) (λ t. reads refl)))
 
+  pub syntax_of-map : (ts : Trees A) (tail : Tail A) → Reads f named_beside (syntax_of ts tail) (syntax_of (map_trees f ts) (map_tail f tail))
+  syntax_of-map ts tail = then_map _ (named_tree_of-map ts tail) (λ p. then_map _ (list_of-map p.1) (λ q. reads refl))
+
   error_text_of-first : (t : Tree A) (ts : Trees A) → Reads f itself (error_text_of (tree t ts) proper) (error_text_of (tree (map_tree f t) (map_trees f ts)) proper)
   error_text_of-first (name i o) ts = reads refl
   error_text_of-first (atom (Numeral s) o) ts = reads refl
@@ -129,7 +132,7 @@ module _ (A B : Type 0) (f : A → B) where
 
   bindings_of-map : (ts : Trees A) → Reads f named_with (bindings_of ts) (bindings_of (map_trees f ts))
   bindings_of-map no_trees = reads refl
-  bindings_of-map (tree t ts) = then_map _ (list_of-map t) (λ p. then_map _ (named_tree_of-map p.0 p.1) (λ b. then_map _ (bindings_of-map ts) (λ bs. reads refl)))
+  bindings_of-map (tree t ts) = then_map _ (list_of-map t) (λ p. then_map _ (syntax_of-map p.0 p.1) (λ b. then_map _ (bindings_of-map ts) (λ bs. reads refl)))
 
   -- ---- names told apart
 

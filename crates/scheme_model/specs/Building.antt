@@ -1,11 +1,11 @@
 -- Building (R7RS 4.3.2): the instance of a template, and how many nodes are built for it.
-use Rattle.std.specs.Prelude.{ℕ, zero, suc, ◌+◌, ◌==◌, nat_le, List, [], ◌∷◌, Bool, false, ◌||◌, ◌&&◌, Option, Some, None, Result, Ok, Err, if◌then◌else◌}
+use Rattle.std.specs.Prelude.{ℕ, zero, suc, ◌+◌, ◌==◌, nat_le, List, [], ◌∷◌, Bool, true, false, ◌||◌, ◌&&◌, Option, Some, None, Result, Ok, Err, if◌then◌else◌}
 use Rattle.scheme_model.specs.declared.Occ.{Occ}
 use Rattle.scheme_model.specs.Trees.{Tree, name, atom, list, vector, Trees, no_trees, tree, Tail, proper, dotted}
 use Rattle.scheme_model.specs.TreeParts.{append}
 use Rattle.scheme_model.specs.Measures.{tree_size, tree_depth}
 use Rattle.scheme_model.specs.ExpansionFaults.{Fault, EllipsisLength, NodeBudget, DepthBudget, ◌>>◌}
-use Rattle.scheme_model.specs.RulesShape.{Names, Rules, dots_of, is_dots, leading, nowhere}
+use Rattle.scheme_model.specs.RulesShape.{Names, Rules, dots_of, is_dots, leading, escape_of, nowhere}
 use Rattle.scheme_model.specs.Matching.{Value, One, Many, Values, no_values, value, Binding, ◌>>=◌, chosen}
 
 -- a tree or trees that were built, and how many nodes were built for it; a variable's value counts 1
@@ -125,12 +125,13 @@ list_built parts (Some tail) = with_tail parts.value parts.count tail
     with_tail no_trees n tail = tail
     with_tail (tree t ts) n tail = ended (tree t ts) n tail.value tail.count
 
+abbrev pub is_there : {X : Type 0} → Option X → Bool
+is_there None = false
+is_there (Some x) = true
+
+-- `(... template)`
 abbrev pub is_escape : {A : Type 0} → (A → Bool) → Trees A → Tail A → Bool
-is_escape dots no_trees tail = false
-is_escape dots (tree t no_trees) tail = false
-is_escape dots (tree t (tree u no_trees)) proper = is_dots dots t
-is_escape dots (tree t (tree u no_trees)) (dotted v) = false
-is_escape dots (tree t (tree u (tree v vs))) tail = false
+is_escape dots ts tail = is_there (escape_of dots ts tail)
 
 pub record Template (A B : Type 0) : Type 0 where
   pub same : A → A → Bool

@@ -8,14 +8,14 @@ use Rattle.scheme_model.specs.Trees.{Tree, name, atom, list, vector, Trees, no_t
 use Rattle.scheme_model.specs.Measures.{tree_size}
 use Rattle.scheme_model.specs.ExpansionFaults.{Named, named, BadForm, BadPlace, KeywordAsValue, DepthBudget, SyntaxError, IncludeRefused, OutOfTurns, ◌>>◌}
 use Rattle.scheme_model.specs.Meaning.{Meaning, Local, Global, Head, IsCore, IsAuxiliary, IsMacro, IsNone}
-use Rattle.scheme_model.specs.Shapes.{Clause, lambda_of, case_lambda_of, if_of, named_tree_of, some_of, one_of, error_text_of, definition_of, values_of, LocalMacros, local_macros_of}
+use Rattle.scheme_model.specs.Shapes.{Clause, lambda_of, case_lambda_of, if_of, named_tree_of, syntax_of, some_of, one_of, error_text_of, definition_of, values_of, LocalMacros, local_macros_of}
 use Rattle.scheme_model.specs.Requirements.{chosen_of}
 use Rattle.scheme_model.specs.Quasiquote.{Mark, Nested, Unquoted, Spliced, quasi_of, Pieces}
 use Rattle.scheme_model.specs.RulesShape.{Rules, rules_map}
 use Rattle.scheme_model.specs.Leaves.{leaves_of}
 use Rattle.scheme_model.specs.Cores.{Target, Bound, LocalNumber, Definition, Binder, Binders, MacroDef, Core, Ref, Const, Quote, Quasi, Lambda, CaseLambda, If, Set, Call, Body, LetSyntax, Cores, no_cores, core, Clauses, no_clauses, clause, Parts, no_parts, part, Part, Expression as expression_part, Define as define_part, Values as values_part, Fields as fields_part, Syntax as syntax_part, outside}
 use Rattle.scheme_model.specs.Steps.{Broken, Step, ◌>>=◌, done, fails}
-use Rattle.scheme_model.specs.Order.{Here, Item, Expression, Value, Function, Assigned, AssignedFunction, ValuesOf, Record, Macro, Pass, Region, Transformer, Ops, target_of, head_of, here_at, forms_at, counting, given, use_of, RulesParts, rules_parts_of, rules_parts, rules_at, run}
+use Rattle.scheme_model.specs.Order.{Here, Item, Expression, Value, Function, Assigned, AssignedFunction, ValuesOf, Record, Macro, Left, Pass, Region, Transformer, Ops, target_of, head_of, here_at, forms_at, counting, given, use_of, meet_waiting, meet_all, RulesParts, rules_parts_of, rules_parts, rules_at, run}
 
 -- what is expanded: an expression, or the forms of a body
 pub data Task (A : Type 0) : Type 0 where
@@ -102,13 +102,14 @@ abbrev pub parts : {A S : Type 0} → (Item A → Step S Part) → List (Item A)
 parts f [] s = done no_parts s
 parts f (i ∷ is) s = f i s >>= λ p. λ t. parts f is t >>= λ ps. done (part p ps)
 
-abbrev pub items_of : {A L S : Type 0} → Pass A L × S → Result (List (Item A)) Broken × S
-items_of q = (q.0.items, q.1)
+abbrev pub left_of : {A L S : Type 0} → Pass A L × S → Result (Left A) Broken × S
+left_of q = (q.0.left, q.1)
 
--- the forms, and then what was set aside
+-- the forms; their macro uses are met, and what was set aside is expanded
 abbrev pub body_in : {E A L S : Type 0} → Ops E A L S → ℕ → (E → Item A → Step S Part) → Here → Region E A S → Result Core Broken × S
 body_in ops turns f here r =
-    items_of (run ops turns r.env (record { todo = forms_at here r.trees; aside = []; notes = [] }) r.state) >>= parts (f r.env) >>= λ ps. done (Body ps)
+    left_of (run ops turns r.env (record { todo = forms_at here r.trees; aside = []; uses = []; notes = [] }) r.state) >>=
+    λ l t. parts (f r.env) l.items (meet_all ops r.env l.uses t) >>= λ ps. done (Body ps)
 
 abbrev pub body_core : {E A L S : Type 0} → Expander E A S → Ops E A L S → ℕ → ℕ → Here → E → Trees A → Step S Core
 body_core f ops turns depth here e ts s = node ops here 1 depth (λ below t. body_in ops turns (item_part f ops below) here (ops.enter e ts t)) s
@@ -249,7 +250,7 @@ core_form f ops depth here e IsBegin ts tail s = given ops.plain here (some_of t
 core_form f ops depth here e IsDefine ts tail s = given ops.plain here (definition_of ops.names.same ts tail) s >>= misplaced here
 core_form f ops depth here e IsDefineValues ts tail s = given ops.plain here (values_of ops.names.same ts tail) s >>= misplaced here
 core_form f ops depth here e IsDefineRecordType ts tail s = fails here BadPlace s
-core_form f ops depth here e IsDefineSyntax ts tail s = given ops.plain here (named_tree_of ts tail) s >>= misplaced here
+core_form f ops depth here e IsDefineSyntax ts tail s = given ops.plain here (syntax_of ts tail) s >>= misplaced here
 core_form f ops depth here e IsLetSyntax ts tail s = given ops.plain here (local_macros_of ops.names.same ts tail) s >>= let_syntax f ops depth here e
 core_form f ops depth here e IsLetrecSyntax ts tail s = given ops.plain here (local_macros_of ops.names.same ts tail) s >>= letrec_syntax f ops depth here e
 core_form f ops depth here e IsCondExpand ts tail s = given ops.plain here (chosen_of ops.names.strip ops.known ts tail) s >>= chosen_sequence f ops depth here e
@@ -258,7 +259,7 @@ core_form f ops depth here e IsInclude ts tail s = fails here IncludeRefused s
 
 abbrev pub macro_use : {E A L S : Type 0} → Expander E A S → Ops E A L S → ℕ → Here → E → Target → Option (Transformer E A) → Trees A → Tail A → Step S Core
 macro_use f ops depth here e k None ts tail s = fails here BadForm s
-macro_use f ops depth here e k (Some m) ts tail s = use_of ops here e k m ts tail s >>= λ t. f depth here e (whole t)
+macro_use f ops depth here e k (Some m) ts tail s = use_of ops here e k m ts tail s >>= λ i t. f depth here e (whole i.tree) (meet_waiting ops e i.met t)
 
 abbrev pub by_head : {E A L S : Type 0} → Expander E A S → Ops E A L S → ℕ → Here → E → Head → Named A → Trees A → Tail A → Step S Core
 by_head f ops depth here e (IsCore c) n ts tail s = core_form f ops depth here e c ts tail (ops.meet (target_of ops e s n.name n.occ) s)

@@ -39,6 +39,7 @@ pub mod FrameImages  -- What an identifier has become in the definition that sub
 pub mod UnitExpansion  -- The expansion of a unit's forms (R7RS 5.1, 5.3)
 pub mod Entries  -- Import sets, and the names that they give (R7RS 5.2, 5.6)
 pub mod Declarations  -- What a document holds (R7RS 5.1, 5.6.1)
+pub mod TreeTexts  -- The trees of a text of symbols, `#t`, `#f`, quoted data and lists (R7RS 7.1.2), without places
 pub mod Prelude  -- Derived forms as macros (R7RS 4.2, 7.3)
 pub mod StandardLibraries  -- The standard libraries but `(scheme base)`, and their names (R7RS Appendix A)
 pub mod Program  -- The program of the open documents (R7RS 5)

@@ -5,11 +5,11 @@ use Rattle.scheme_model.specs.declared.Occ.{Occ}
 use Rattle.scheme_model.specs.Identifiers.{Number}
 use Rattle.scheme_model.specs.Ident.{Ident, Written, Inserted}
 use Rattle.scheme_model.specs.Keywords.{CoreKeyword, IsQuote, IsQuasiquote, IsLambda, IsCaseLambda, IsIf, IsSet, IsBegin, IsDefine, IsDefineValues, IsDefineRecordType, IsDefineSyntax, IsLetSyntax, IsLetrecSyntax, IsCondExpand, IsSyntaxError, IsInclude, IsSyntaxRules, IsUnquote, IsUnquoteSplicing, IsOther}
-use Rattle.scheme_model.specs.Trees.{Tree, name, atom, list, vector, Trees, no_trees, tree, Tail}
+use Rattle.scheme_model.specs.Trees.{Tree, name, atom, list, vector, Trees, no_trees, tree, Tail, map_tree}
 use Rattle.scheme_model.specs.Measures.{tree_size}
-use Rattle.scheme_model.specs.ExpansionFaults.{Named, named, Fault, fault_map, NoRule, BadForm, UseBudget, NodeBudget, OutOfTurns}
+use Rattle.scheme_model.specs.ExpansionFaults.{Named, named, named_map, Fault, fault_map, NoRule, BadForm, UseBudget, NodeBudget, OutOfTurns}
 use Rattle.scheme_model.specs.Meaning.{Meaning, same_meaning, Head, IsCore, IsAuxiliary, IsMacro, IsNone, is_keyword, head_as}
-use Rattle.scheme_model.specs.Shapes.{Formals, Clause, DefinitionShape, Variable, Procedure, definition_of, values_of, FieldShape, RecordShape, record_of, named_tree_of, proper_of}
+use Rattle.scheme_model.specs.Shapes.{Formals, Clause, DefinitionShape, Variable, Procedure, definition_of, values_of, FieldShape, RecordShape, record_of, syntax_of, proper_of}
 use Rattle.scheme_model.specs.Requirements.{Known, chosen_of}
 use Rattle.scheme_model.specs.RulesShape.{Rules, Names, rules_of, role_of, dots_of}
 use Rattle.scheme_model.specs.Matching.{Chosen, matcher, first_match, compared}
@@ -45,16 +45,33 @@ pub data Note (L : Type 0) : Type 0 where
   LookedUp : L → (head : Bool) → (keyword : Bool) → Note L
   Compared : L → L → (held : Bool) → Note L
 
--- the forms that are left, what was set aside, and what was looked up and compared
+-- a macro use that waits to be met: its keyword, and the leaves of the form that met a literal, which mean what they do once all
+-- definitions of their place stand
+pub record WaitingUse (A : Type 0) : Type 0 where
+  pub keyword : Target
+  pub literals : List (Named A)
+
+-- the forms that are left, what was set aside, the macro uses that wait, and what was looked up and compared
 pub record Pending (A L : Type 0) : Type 0 where
   pub todo : List (Form A)
   pub aside : List (Item A)
+  pub uses : List (WaitingUse A)
   pub notes : List (Note L)
 
--- what the forms of a body, or a form of a unit, came to: the notes, and what was set aside
+-- what is left once forms were gone through: the macro uses that wait, and what was set aside
+pub record Left (A : Type 0) : Type 0 where
+  pub uses : List (WaitingUse A)
+  pub items : List (Item A)
+
+-- what the forms of a body, or a form of a unit, came to: the notes, and what is left
 pub record Pass (A L : Type 0) : Type 0 where
   pub notes : List (Note L)
-  pub items : Result (List (Item A)) Broken
+  pub left : Result (Left A) Broken
+
+-- a definition was made: what is pending reads so by then, and each name reads so
+pub record Renamed (A L : Type 0) : Type 0 where
+  pub pending : Pending A L
+  pub rename : A → A
 
 -- ---- what a side does
 
@@ -110,7 +127,7 @@ pub record Ops (E A L S : Type 0) : Type 0 where
   -- a body is entered
   pub enter : E → Trees A → S → Region E A S
   -- a definition in a unit or a body, of a macro where there are rules
-  pub define : Named A → Option (Rules A) → E → Pending A L → S → Result (Pending A L) (Fault Ident) × S
+  pub define : Named A → Option (Rules A) → E → Pending A L → S → Result (Renamed A L) (Fault Ident) × S
 
 -- ---- words for the steps
 
@@ -166,25 +183,43 @@ told here (Err e, s) = fails here e s
 
 -- ---- macro uses
 
--- the comparisons of a use, each with whether it holds
+-- the budget has a use left
+abbrev pub has_use : {E A L S : Type 0} → Ops E A L S → S → Bool
+has_use ops s = nat_lt (ops.counted s).uses max_uses
+
+-- the comparisons of a use that begins, each with whether it holds
 abbrev pub comparisons : {E A L S : Type 0} → Ops E A L S → E → Transformer E A → Trees A → Tail A → S → List (Note L)
 comparisons ops e m ts tail s =
+    if has_use ops s then
     map (λ q. Compared (ops.place m.env q.0) (ops.place e q.1) (same_meaning (ops.means m.env s q.0) (ops.means e s q.1)))
     (compared (role_of ops.names m.rules) (dots_of ops.names m.rules) m.rules.rules ts tail)
+    else []
 
--- the instance of the template, and what the use met
-abbrev pub used : {E A L S : Type 0} → Ops E A L S → Here → E → Target → Transformer E A → Number → Option (Chosen A A) → Step S (Tree A)
-used ops here e keyword m k None s = fails here (NoRule (named keyword.ident keyword.occ)) s
-used ops here e keyword m k (Some c) s =
+-- the instance of the template, and the use
+pub record Instance (A : Type 0) : Type 0 where
+  pub tree : Tree A
+  pub met : WaitingUse A
+
+abbrev pub used : {E A L S : Type 0} → Ops E A L S → Here → Target → Transformer E A → Number → Option (Chosen A A) → Step S (Instance A)
+used ops here keyword m k None s = fails here (NoRule (named keyword.ident keyword.occ)) s
+used ops here keyword m k (Some c) s =
     given ops.plain here (build ops.names m.rules (λ i. ops.insert i k) c.rule.template c.match.bindings (max_nodes - (ops.counted s).nodes)) s >>= λ b t.
-    done b.value (ops.spend b.count (ops.meet_use (record { keyword = keyword; literals = map (λ n. target_of ops e s n.name n.occ) c.match.met }) t))
+    done (record { tree = b.value; met = record { keyword = keyword; literals = c.match.met } }) (ops.spend b.count t)
 
 -- one use of a macro, where the budget has one left
-abbrev pub use_of : {E A L S : Type 0} → Ops E A L S → Here → E → Target → Transformer E A → Trees A → Tail A → Step S (Tree A)
+abbrev pub use_of : {E A L S : Type 0} → Ops E A L S → Here → E → Target → Transformer E A → Trees A → Tail A → Step S (Instance A)
 use_of ops here e keyword m ts tail s =
-    if nat_lt (ops.counted s).uses max_uses then
-    used ops here e keyword m (ops.next_use s) (first_match (matcher ops.names m.rules (λ l j. same_meaning (ops.means m.env s l) (ops.means e s j))) m.rules.rules ts tail) (ops.begin_use m.env s)
+    if has_use ops s then
+    used ops here keyword m (ops.next_use s) (first_match (matcher ops.names m.rules (λ l j. same_meaning (ops.means m.env s l) (ops.means e s j))) m.rules.rules ts tail) (ops.begin_use m.env s)
     else fails here UseBudget s
+
+-- a use is met, with what its literals mean by now
+abbrev pub meet_waiting : {E A L S : Type 0} → Ops E A L S → E → WaitingUse A → S → S
+meet_waiting ops e u s = ops.meet_use (record { keyword = u.keyword; literals = map (λ n. target_of ops e s n.name n.occ) u.literals }) s
+
+abbrev pub meet_all : {E A L S : Type 0} → Ops E A L S → E → List (WaitingUse A) → S → S
+meet_all ops e [] s = s
+meet_all ops e (u ∷ us) s = meet_all ops e us (meet_waiting ops e u s)
 
 -- ---- definitions
 
@@ -192,47 +227,26 @@ abbrev pub binder_at : {E A L S : Type 0} → Ops E A L S → E → S → Named 
 binder_at ops e s n = record { bound = ops.next_bound e s; ident = ops.plain n.name; occ = n.occ }
 
 abbrev pub put : {A L : Type 0} → Item A → Pending A L → Pending A L
-put t p = record { todo = p.todo; aside = p.aside ++ t ∷ []; notes = p.notes }
+put t p = record p { aside = p.aside ++ t ∷ [] }
+
+abbrev pub waiting : {A L : Type 0} → WaitingUse A → Pending A L → Pending A L
+waiting u p = record p { uses = p.uses ++ u ∷ [] }
 
 abbrev pub noted : {A L : Type 0} → List (Note L) → Pending A L → Pending A L
-noted ns p = record { todo = p.todo; aside = p.aside; notes = ns ++ p.notes }
+noted ns p = record p { notes = ns ++ p.notes }
 
 abbrev pub first : {A L : Type 0} → List (Form A) → Pending A L → Pending A L
-first ts p = record { todo = ts ++ p.todo; aside = p.aside; notes = p.notes }
+first ts p = record p { todo = ts ++ p.todo }
 
--- names stand before what is left while they are defined, so that each is seen as the definitions before it make it
-abbrev pub names_at : {A : Type 0} → Here → List (Named A) → List (Form A)
-names_at here [] = []
-names_at here (n ∷ ns) = record { here = here; tree = name n.name n.occ } ∷ names_at here ns
+-- names are defined one after another, each a variable that reads as the definitions before it make it; these have made f of names
+abbrev pub define_all : {E A L S : Type 0} → Ops E A L S → Here → E → (A → A) → List (Named A) → Pending A L → Step S (List Binder × Renamed A L)
+define_all ops here e f [] p s = done ([], record { pending = p; rename = f }) s
+define_all ops here e f (n ∷ ns) p s =
+    told here (ops.define (named_map f n) None e p s) >>= λ d t. define_all ops here e (λ i. d.rename (f i)) ns d.pending t >>= λ more.
+    done (binder_at ops e s (named_map f n) ∷ more.0, more.1)
 
-abbrev pub name_in : {A : Type 0} → Tree A → Option (Named A)
-name_in (name i o) = Some (named i o)
-name_in (atom a o) = None
-name_in (list ts tail o) = None
-name_in (vector ts o) = None
-
-abbrev pub with_rest : {A L : Type 0} → List (Form A) → Pending A L → Option (Named A) → Option (Named A × Pending A L)
-with_rest fs p None = None
-with_rest fs p (Some n) = Some (n, record { todo = fs; aside = p.aside; notes = p.notes })
-
--- the name at the front, and what is left behind it
-abbrev pub next_name : {A L : Type 0} → Pending A L → List (Form A) → Option (Named A × Pending A L)
-next_name p [] = None
-next_name p (f ∷ fs) = with_rest fs p (name_in f.tree)
-
--- so many names at the front are defined one after another, each a variable
-abbrev pub define_next : {E A L S : Type 0} → Ops E A L S → Here → E → (Pending A L → Step S (List Binder × Pending A L)) → Pending A L → Option (Named A × Pending A L) → Step S (List Binder × Pending A L)
-define_next ops here e go p None s = done ([], p) s
-define_next ops here e go p (Some q) s =
-    told here (ops.define q.0 None e q.1 s) >>= λ r t. go r t >>= λ more. done (binder_at ops e s q.0 ∷ more.0, more.1)
-
-abbrev pub define_all : {E A L S : Type 0} → Ops E A L S → Here → E → List (Named A) → Pending A L → Step S (List Binder × Pending A L)
-define_all ops here e [] p s = done ([], p) s
-define_all ops here e (n ∷ ns) p s = define_next ops here e (define_all ops here e ns) p (next_name p p.todo) s
-
--- names are defined, with these forms behind them before what is left
-abbrev pub define_names : {E A L S : Type 0} → Ops E A L S → Here → E → List (Named A) → List (Form A) → Pending A L → Step S (List Binder × Pending A L)
-define_names ops here e ns fs p s = define_all ops here e ns (first (names_at here ns ++ fs) p) s
+abbrev pub define_names : {E A L S : Type 0} → Ops E A L S → Here → E → List (Named A) → Pending A L → Step S (List Binder × Renamed A L)
+define_names ops here e ns p s = define_all ops here e (λ i. i) ns p s
 
 -- fields are bound to locals of their own
 abbrev pub fields_bound : {E A L S : Type 0} → Ops E A L S → List (Named A) → Step S (List Binder)
@@ -273,7 +287,7 @@ record_part same r binders fields = record {
 -- a fault ends the pass
 abbrev pub caught : {A B L S : Type 0} → List (Note L) → Result B Broken × S → (B → S → Pass A L × S) → Pass A L × S
 caught ns (Ok x, t) go = go x t
-caught ns (Err e, t) go = (record { notes = ns; items = Err e }, t)
+caught ns (Err e, t) go = (record { notes = ns; left = Err e }, t)
 
 abbrev pub Going : Type 0 → Type 0 → Type 0 → Type 0
 Going A L S = Pending A L → S → Pass A L × S
@@ -281,31 +295,27 @@ Going A L S = Pending A L → S → Pass A L × S
 -- `(define id e)`, and a later one of a program's variable
 abbrev pub run_variable : {E A L S : Type 0} → Ops E A L S → Going A L S → Here → E → Named A → Tree A → Bool → Pending A L → S → Pass A L × S
 run_variable ops go here e n t true p s = go (put (Assigned n (record { here = here; tree = t })) p) s
-run_variable ops go here e n t false p s = caught p.notes (told here (ops.define n None e (put (Value (binder_at ops e s n) (record { here = here; tree = t })) p) s)) go
+run_variable ops go here e n t false p s = caught p.notes (told here (ops.define n None e (put (Value (binder_at ops e s n) (record { here = here; tree = t })) p) s)) (λ d. go d.pending)
 
 abbrev pub run_function : {E A L S : Type 0} → Ops E A L S → Going A L S → Here → E → Named A → Clause A → Bool → Pending A L → S → Pass A L × S
 run_function ops go here e n c true p s = go (put (AssignedFunction n here c) p) s
-run_function ops go here e n c false p s = caught p.notes (told here (ops.define n None e (put (Function (binder_at ops e s n) here c) p) s)) go
+run_function ops go here e n c false p s = caught p.notes (told here (ops.define n None e (put (Function (binder_at ops e s n) here c) p) s)) (λ d. go d.pending)
 
 abbrev pub run_define : {E A L S : Type 0} → Ops E A L S → Going A L S → Here → E → Pending A L → DefinitionShape A → S → Pass A L × S
 run_define ops go here e p (Variable n t) s = run_variable ops go here e n t (ops.is_assigned e s n.name) p s
 run_define ops go here e p (Procedure n c) s = run_function ops go here e n c (ops.is_assigned e s n.name) p s
 
--- the value stands before what is left, so that the definitions are seen in it
-abbrev pub values_put : {A L : Type 0} → List Binder → Bool → Pending A L → List (Form A) → Pending A L
-values_put bs rest p [] = p
-values_put bs rest p (f ∷ fs) = record { todo = fs; aside = p.aside ++ ValuesOf (record { names = bs; rest = rest }) f ∷ []; notes = p.notes }
-
+-- the value reads as the definitions make it
 abbrev pub run_values : {E A L S : Type 0} → Ops E A L S → Going A L S → Here → E → Pending A L → Formals A × Tree A → S → Pass A L × S
 run_values ops go here e p d s =
-    caught p.notes (define_names ops here e d.0.names (record { here = here; tree = d.1 } ∷ []) p s)
-    (λ r. go (values_put r.0 d.0.rest r.1 r.1.todo))
+    caught p.notes (define_names ops here e d.0.names p s)
+    (λ r. go (put (ValuesOf (record { names = r.0; rest = d.0.rest }) (record { here = here; tree = map_tree r.1.rename d.1 })) r.1.pending))
 
 abbrev pub run_record : {E A L S : Type 0} → Ops E A L S → Going A L S → Here → E → Pending A L → RecordShape A → S → Pass A L × S
 run_record {E} {A} {L} {S} ops go here e p r s =
-    caught {B = List Binder × (List Binder × Pending A L)} p.notes
-    (fields_bound ops (map (λ f. f.field) r.fields) s >>= λ bs t. define_names ops here e (record_names r) [] p t >>= λ q. done (bs, q))
-    (λ q. go (put (Record (record_part ops.names.same r q.1.0 q.0)) q.1.1))
+    caught {B = List Binder × (List Binder × Renamed A L)} p.notes
+    (fields_bound ops (map (λ f. f.field) r.fields) s >>= λ bs t. define_names ops here e (record_names r) p t >>= λ q. done (bs, q))
+    (λ q. go (put (Record (record_part ops.names.same r q.1.0 q.0)) q.1.1.pending))
 
 -- the parts of rules behind their head, which is looked up and means `syntax-rules`
 abbrev pub is_rules : Head → Bool
@@ -352,7 +362,7 @@ run_syntax ops go here e p d s = defined_by ops go here e d s (noted (rules_note
   where
     defined_by : {E A L S : Type 0} → Ops E A L S → Going A L S → Here → E → Named A × Tree A → S → Pending A L → Pass A L × S
     defined_by {E} {A} {L} {S} ops go here e d s q =
-        caught {B = Binder × Pending A L} q.notes (rules_parts ops here e (rules_parts_of d.1) s >>= λ r t0. rules_at ops here d.1 r t0 >>= λ rules t. told here (ops.define d.0 (Some rules) e q t) >>= λ q2. done (binder_at ops e t d.0, q2))
+        caught {B = Binder × Pending A L} q.notes (rules_parts ops here e (rules_parts_of d.1) s >>= λ r t0. rules_at ops here d.1 r t0 >>= λ rules t. told here (ops.define d.0 (Some rules) e q t) >>= λ made. done (binder_at ops e t d.0, made.pending))
         (λ r. go (put (Macro r.0 here) r.1))
 
 -- spliced forms
@@ -378,7 +388,7 @@ run_core ops go here e IsBegin k form ts tail p s = read_then ops here p (proper
 run_core ops go here e IsDefine k form ts tail p s = read_then ops here p (definition_of ops.names.same ts tail) (run_define ops go here e p) (ops.meet k s)
 run_core ops go here e IsDefineValues k form ts tail p s = read_then ops here p (values_of ops.names.same ts tail) (run_values ops go here e p) (ops.meet k s)
 run_core ops go here e IsDefineRecordType k form ts tail p s = read_then ops here p (record_of ops.names.same ts tail) (run_record ops go here e p) (ops.meet k s)
-run_core ops go here e IsDefineSyntax k form ts tail p s = read_then ops here p (named_tree_of ts tail) (run_syntax ops go here e p) (ops.meet k s)
+run_core ops go here e IsDefineSyntax k form ts tail p s = read_then ops here p (syntax_of ts tail) (run_syntax ops go here e p) (ops.meet k s)
 run_core ops go here e IsLetSyntax k form ts tail p s = go (put (Expression form) p) s
 run_core ops go here e IsLetrecSyntax k form ts tail p s = go (put (Expression form) p) s
 run_core ops go here e IsCondExpand k form ts tail p s =
@@ -391,7 +401,7 @@ run_use ops go here e k None form ts tail p s = go (put (Expression form) p) s
 run_use ops go here e k (Some m) form ts tail p s = gone_on ops go here e k m ts tail s (noted (comparisons ops e m ts tail s) p)
   where
     gone_on : {E A L S : Type 0} → Ops E A L S → Going A L S → Here → E → Target → Transformer E A → Trees A → Tail A → S → Pending A L → Pass A L × S
-    gone_on ops go here e k m ts tail s q = caught q.notes (use_of ops here e k m ts tail s) (λ t. go (first (record { here = here; tree = t } ∷ []) q))
+    gone_on ops go here e k m ts tail s q = caught q.notes (use_of ops here e k m ts tail s) (λ i. go (first (record { here = here; tree = i.tree } ∷ []) (waiting i.met q)))
 
 abbrev pub run_head : {E A L S : Type 0} → Ops E A L S → Going A L S → Here → E → Head → Target → Form A → Trees A → Tail A → Pending A L → S → Pass A L × S
 run_head ops go here e (IsCore c) k form ts tail p s = run_core ops go here e c k form ts tail p s
@@ -412,10 +422,10 @@ run_form ops go e here form (list (tree (list us end q) ts) tail o) p s = go (pu
 run_form ops go e here form (list (tree (vector us q) ts) tail o) p s = go (put (Expression form) p) s
 
 abbrev pub run_next : {E A L S : Type 0} → Ops E A L S → Going A L S → E → List (Form A) → Pending A L → S → Pass A L × S
-run_next ops go e [] p s = (record { notes = p.notes; items = Ok p.aside }, s)
-run_next ops go e (f ∷ fs) p s = run_form ops go e (here_at ops.plain f.tree f.here) f f.tree (record { todo = fs; aside = p.aside; notes = p.notes }) s
+run_next ops go e [] p s = (record { notes = p.notes; left = Ok (record { uses = p.uses; items = p.aside }) }, s)
+run_next ops go e (f ∷ fs) p s = run_form ops go e (here_at ops.plain f.tree f.here) f f.tree (record p { todo = fs }) s
 
 -- the turns bound the recursion alone
 abbrev pub run : {E A L S : Type 0} → Ops E A L S → ℕ → E → Pending A L → S → Pass A L × S
-run ops zero e p s = (record { notes = p.notes; items = Err (record { fault = OutOfTurns; here = None }) }, s)
+run ops zero e p s = (record { notes = p.notes; left = Err (record { fault = OutOfTurns; here = None }) }, s)
 run ops (suc turns) e p s = run_next ops (run ops turns e) e p.todo p s

@@ -1,8 +1,8 @@
 -- Quasiquoted data (R7RS 4.2.8): a tree with a hole for each expression that is unquoted at level 0, and these expressions.
--- A mark's form is the rest of the list from the mark on, as `(a . ,b)` is written `(a unquote b)`.
-use Rattle.std.specs.Prelude.{ℕ, zero, suc, List, [], ◌∷◌, ◌++◌, Bool, true, false, Option, Some, None, Result, Ok, Err}
+-- A list is its first datum and the rest, so `(a unquote b)` is `(a . ,b)`.
+use Rattle.std.specs.Prelude.{ℕ, zero, suc, List, [], ◌∷◌, ◌++◌, Bool, true, false, Option, Some, None, Result, Ok, Err, if◌then◌else◌}
 use Rattle.scheme_model.specs.declared.Occ.{Occ}
-use Rattle.scheme_model.specs.Trees.{Tree, name, atom, list, vector, Trees, no_trees, tree, Tail, proper, dotted}
+use Rattle.scheme_model.specs.Trees.{Tree, name, atom, list, vector, Trees, no_trees, tree, Tail, proper, dotted, map_tree}
 use Rattle.scheme_model.specs.ExpansionFaults.{Fault, BadQuasi, ◌>>◌}
 use Rattle.scheme_model.specs.Shapes.{one_of}
 
@@ -32,51 +32,75 @@ row_pieces parts tail holes = record { parts = parts; tail = tail; holes = holes
 abbrev pub before : {A : Type 0} → Pieces A → RowPieces A → RowPieces A
 before p r = row_pieces (tree p.datum r.parts) r.tail (p.holes ++ r.holes)
 
+abbrev pub listed : {A : Type 0} → Option Occ → RowPieces A → Pieces A
+listed o r = pieces (list r.parts r.tail o) r.holes
+
+-- what a datum marks as the first of a list
+abbrev pub mark_in : {A : Type 0} → (A → Option Mark) → Tree A → Option Mark
+mark_in mark (name i o) = mark i
+mark_in mark (atom a o) = None
+mark_in mark (list ts tail o) = None
+mark_in mark (vector ts o) = None
+
+-- the level of what is behind it
+abbrev pub level_behind : Option Mark → ℕ → ℕ
+level_behind None level = level
+level_behind (Some Nested) level = suc level
+level_behind (Some Unquoted) zero = zero
+level_behind (Some Unquoted) (suc level) = level
+level_behind (Some Spliced) zero = zero
+level_behind (Some Spliced) (suc level) = level
+
 -- a mark, and the hole of its one operand
-abbrev pub hole_of : {A : Type 0} → A → Option Occ → Result (Tree A) (Fault A) → Result (RowPieces A) (Fault A)
-hole_of i o (Ok e) = Ok (row_pieces (tree (name (Some i) o) (tree (name None None) no_trees)) proper (e ∷ []))
-hole_of i o (Err e) = Err BadQuasi
+abbrev pub hole_behind : {A : Type 0} → Tree A → Result (Tree A) (Fault A) → Result (RowPieces A) (Fault A)
+hole_behind t (Ok e) = Ok (row_pieces (tree (map_tree Some t) (tree (name None None) no_trees)) proper (e ∷ []))
+hole_behind t (Err e) = Err BadQuasi
 
-abbrev pub behind : {A : Type 0} → A → Option Occ → Result (RowPieces A) (Fault A) → Result (RowPieces A) (Fault A)
-behind i o r = r >> λ p. Ok (before (pieces (name (Some i) o) []) p)
+-- `(first . rest)` at a level, by what `first` marks: its hole, else what both give. A splice is no whole datum, and no tail
+abbrev pub pair_by : {A : Type 0} → Option Mark → ℕ → Result (RowPieces A) (Fault A) → Result (Pieces A) (Fault A) → Result (RowPieces A) (Fault A) → Result (RowPieces A) (Fault A)
+pair_by None level hole first rest = first >> λ p. rest >> λ r. Ok (before p r)
+pair_by (Some Nested) level hole first rest = first >> λ p. rest >> λ r. Ok (before p r)
+pair_by (Some Unquoted) zero hole first rest = hole
+pair_by (Some Unquoted) (suc level) hole first rest = first >> λ p. rest >> λ r. Ok (before p r)
+pair_by (Some Spliced) zero hole first rest = Err BadQuasi
+pair_by (Some Spliced) (suc level) hole first rest = first >> λ p. rest >> λ r. Ok (before p r)
 
--- a splice is no whole datum, and no tail
-abbrev pub splice : {A : Type 0} → Bool → A → Option Occ → Trees A → Tail A → Result (RowPieces A) (Fault A)
-splice true i o ts tail = hole_of i o (one_of ts tail)
-splice false i o ts tail = Err BadQuasi
+abbrev pub is_splice : Option Mark → ℕ → Bool
+is_splice None level = false
+is_splice (Some Nested) level = false
+is_splice (Some Unquoted) level = false
+is_splice (Some Spliced) zero = true
+is_splice (Some Spliced) (suc level) = false
 
--- an identifier, by what it marks, before the rest of its list, which is read at a level
-abbrev pub by_mark : {A : Type 0} → Option Mark → ℕ → Bool → A → Option Occ → Trees A → Tail A → (ℕ → Result (RowPieces A) (Fault A)) → Result (RowPieces A) (Fault A)
-by_mark None level element i o ts tail rest = behind i o (rest level)
-by_mark (Some Nested) level element i o ts tail rest = behind i o (rest (suc level))
-by_mark (Some Unquoted) zero element i o ts tail rest = hole_of i o (one_of ts tail)
-by_mark (Some Unquoted) (suc level) element i o ts tail rest = behind i o (rest level)
-by_mark (Some Spliced) zero element i o ts tail rest = splice element i o ts tail
-by_mark (Some Spliced) (suc level) element i o ts tail rest = behind i o (rest level)
+-- an element of a list or a vector, which as a datum gives this: it may be a splice
+abbrev pub element_by : {A : Type 0} → (A → Option Mark) → ℕ → Tree A → Result (Pieces A) (Fault A) → Result (Pieces A) (Fault A)
+element_by mark level (name i o) datum = datum
+element_by mark level (atom a o) datum = datum
+element_by mark level (vector ts o) datum = datum
+element_by mark level (list no_trees tail o) datum = datum
+element_by mark level (list (tree t ts) tail o) datum = if is_splice (mark_in mark t) level then (hole_behind t (one_of ts tail) >> λ r. Ok (listed o r)) else datum
 
--- `element` tells that a list stands where a splice may, and `end` is what its tail gives at a level
+-- `end` is what the tail gives at a level
 abbrev mutual
-  pub pieces_of : {A : Type 0} → (A → Option Mark) → Tree A → ℕ → Bool → Result (Pieces A) (Fault A)
-  pieces_of mark (name i o) level element = Ok (pieces (name (Some i) o) [])
-  pieces_of mark (atom a o) level element = Ok (pieces (atom a o) [])
-  pieces_of mark (list ts tail o) level element = row_of mark ts tail (tail_of mark tail) level element >> λ r. Ok (pieces (list r.parts r.tail o) r.holes)
-  pieces_of mark (vector ts o) level element = parts_of mark ts level >> λ r. Ok (pieces (vector r.parts o) r.holes)
+  pub datum_at : {A : Type 0} → (A → Option Mark) → ℕ → Tree A → Result (Pieces A) (Fault A)
+  datum_at mark level (name i o) = Ok (pieces (name (Some i) o) [])
+  datum_at mark level (atom a o) = Ok (pieces (atom a o) [])
+  datum_at mark level (list ts tail o) = pair_at mark level ts tail (tail_at mark tail) >> λ r. Ok (listed o r)
+  datum_at mark level (vector ts o) = elements_at mark level ts >> λ r. Ok (pieces (vector r.parts o) r.holes)
 
-  pub row_of : {A : Type 0} → (A → Option Mark) → Trees A → Tail A → (ℕ → Result (RowPieces A) (Fault A)) → ℕ → Bool → Result (RowPieces A) (Fault A)
-  row_of mark no_trees tail end level element = end level
-  row_of mark (tree (name i o) ts) tail end level element = by_mark (mark i) level element i o ts tail (λ l. row_of mark ts tail end l false)
-  row_of mark (tree (atom a o) ts) tail end level element = row_of mark ts tail end level false >> λ r. Ok (before (pieces (atom a o) []) r)
-  row_of mark (tree (list us last o) ts) tail end level element = pieces_of mark (list us last o) level true >> λ p. row_of mark ts tail end level false >> λ r. Ok (before p r)
-  row_of mark (tree (vector us o) ts) tail end level element = pieces_of mark (vector us o) level true >> λ p. row_of mark ts tail end level false >> λ r. Ok (before p r)
+  pub pair_at : {A : Type 0} → (A → Option Mark) → ℕ → Trees A → Tail A → (ℕ → Result (RowPieces A) (Fault A)) → Result (RowPieces A) (Fault A)
+  pair_at mark level no_trees tail end = end level
+  pair_at mark level (tree t ts) tail end =
+      pair_by (mark_in mark t) level (hole_behind t (one_of ts tail)) (element_by mark level t (datum_at mark level t)) (pair_at mark (level_behind (mark_in mark t) level) ts tail end)
 
-  pub parts_of : {A : Type 0} → (A → Option Mark) → Trees A → ℕ → Result (RowPieces A) (Fault A)
-  parts_of mark no_trees level = Ok (row_pieces no_trees proper [])
-  parts_of mark (tree t ts) level = pieces_of mark t level true >> λ p. parts_of mark ts level >> λ r. Ok (before p r)
+  pub tail_at : {A : Type 0} → (A → Option Mark) → Tail A → ℕ → Result (RowPieces A) (Fault A)
+  tail_at mark proper level = Ok (row_pieces no_trees proper [])
+  tail_at mark (dotted t) level = datum_at mark level t >> λ p. Ok (row_pieces no_trees (dotted p.datum) p.holes)
 
-  pub tail_of : {A : Type 0} → (A → Option Mark) → Tail A → ℕ → Result (RowPieces A) (Fault A)
-  tail_of mark proper level = Ok (row_pieces no_trees proper [])
-  tail_of mark (dotted t) level = pieces_of mark t level false >> λ p. Ok (row_pieces no_trees (dotted p.datum) p.holes)
+  pub elements_at : {A : Type 0} → (A → Option Mark) → ℕ → Trees A → Result (RowPieces A) (Fault A)
+  elements_at mark level no_trees = Ok (row_pieces no_trees proper [])
+  elements_at mark level (tree t ts) = element_by mark level t (datum_at mark level t) >> λ p. elements_at mark level ts >> λ r. Ok (before p r)
 
 -- the datum of `(quasiquote datum)`
 abbrev pub quasi_of : {A : Type 0} → (A → Option Mark) → Tree A → Result (Pieces A) (Fault A)
-quasi_of mark t = pieces_of mark t zero false
+quasi_of mark t = datum_at mark zero t

@@ -9,8 +9,8 @@ use Rattle.scheme_model.specs.Meaning.{Meaning, Local, Global, Free, same_meanin
 use Rattle.scheme_model.specs.Requirements.{Known}
 use Rattle.scheme_model.specs.RulesShape.{Rules}
 use Rattle.scheme_model.specs.Cores.{Target, Bound, LocalNumber, Definition, MacroUse}
-use Rattle.scheme_model.specs.Order.{Note, Pending, Transformer, Ops, is_some}
-use Rattle.scheme_model.specs.Substitution.{Table, Entries, Clock, at_form, defined_in, definition_count, is_variable, any, is_refused}
+use Rattle.scheme_model.specs.Order.{Note, Pending, Renamed, Transformer, Ops, is_some}
+use Rattle.scheme_model.specs.Substitution.{Table, Entries, Clock, at_form, defined_in, definition_count, is_variable, any, is_refused, unchanged}
 use Rattle.scheme_model.specs.Scopes.{own_of, given_or}
 
 -- a binder with its number; or a body, with how many macro uses each form had begun when it was entered
@@ -152,11 +152,11 @@ is_defined s (Some b) i = is_some (find s.definitions b i)
 abbrev pub refused_now : ScopedState → Meaning → Bool → Note FramedIdent → Bool
 refused_now s m new note = is_refused new (λ p. same_meaning (means_at s p.frames p.ident) m) (λ p. means_at s p.frames p.ident) note
 
-abbrev pub define_at : Option Number → Named Ident → Option (Rules Ident) → Frames → Pending Ident FramedIdent → ScopedState → Result (Pending Ident FramedIdent) (Fault Ident) × ScopedState
+abbrev pub define_at : Option Number → Named Ident → Option (Rules Ident) → Frames → Pending Ident FramedIdent → ScopedState → Result (Renamed Ident FramedIdent) (Fault Ident) × ScopedState
 define_at b n r fs p s =
     if any (refused_now (definition_added b n r fs s) (meaning_next s b n.name) (is_some r)) p.notes then (Err (KeywordRedefined n), s)
     else if is_defined s b n.name then (Err (Duplicate n), s)
-    else (Ok p, definition_added b n r fs s)
+    else (Ok (unchanged p), definition_added b n r fs s)
 
 -- ---- the operations
 

@@ -116,9 +116,13 @@ if_of ts tail = proper_of ts tail >> λ us. first_of us >> λ p. first_of p.1 >>
     two_or_three us (tree t no_trees) = Ok us
     two_or_three us (tree t (tree u vs)) = Err BadForm
 
--- `(set! id e)`, and `(define-syntax id rules)`
+-- `(set! id e)`
 abbrev pub named_tree_of : {A : Type 0} → Trees A → Tail A → Result (Named A × Tree A) (Fault A)
 named_tree_of ts tail = first_of ts >> λ p. name_of p.0 >> λ n. one_of p.1 tail >> λ t. Ok (n, t)
+
+-- `(define-syntax id rules)`, and `(id rules)` of a local macro; rules are a list, whatever its head
+abbrev pub syntax_of : {A : Type 0} → Trees A → Tail A → Result (Named A × Tree A) (Fault A)
+syntax_of ts tail = named_tree_of ts tail >> λ p. list_of p.1 >> λ rules. Ok p
 
 -- `(syntax-error "text" form ...)`: the text
 abbrev pub error_text_of : {A : Type 0} → Trees A → Tail A → Result (List ℕ) (Fault A)
@@ -224,7 +228,7 @@ pub record LocalMacros (A : Type 0) : Type 0 where
 
 abbrev pub bindings_of : {A : Type 0} → Trees A → Result (List (Named A) × Trees A) (Fault A)
 bindings_of no_trees = Ok ([], no_trees)
-bindings_of (tree t ts) = list_of t >> λ p. named_tree_of p.0 p.1 >> λ b. bindings_of ts >> λ bs. Ok (b.0 ∷ bs.0, tree b.1 bs.1)
+bindings_of (tree t ts) = list_of t >> λ p. syntax_of p.0 p.1 >> λ b. bindings_of ts >> λ bs. Ok (b.0 ∷ bs.0, tree b.1 bs.1)
 
 -- `(let-syntax ((id rules) ...) body)`, and `letrec-syntax`
 abbrev pub local_macros_of : {A : Type 0} → (A → A → Bool) → Trees A → Tail A → Result (LocalMacros A) (Fault A)

@@ -11,7 +11,7 @@ use Rattle.scheme_model.specs.Shapes.{Clause}
 use Rattle.scheme_model.specs.Requirements.{Known}
 use Rattle.scheme_model.specs.RulesShape.{Rules, rules_map}
 use Rattle.scheme_model.specs.Cores.{Target, LocalNumber, Definition, MacroUse}
-use Rattle.scheme_model.specs.Order.{Form, Item, Expression, Value, Function, Assigned, AssignedFunction, ValuesOf, Record, Macro, Note, LookedUp, Compared, Pending, Transformer, Ops, is_some}
+use Rattle.scheme_model.specs.Order.{Form, Item, Expression, Value, Function, Assigned, AssignedFunction, ValuesOf, Record, Macro, Note, LookedUp, Compared, WaitingUse, Pending, Renamed, Transformer, Ops, is_some}
 
 -- ---- meanings (R7RS 4.3)
 
@@ -98,8 +98,18 @@ abbrev pub note_map : {L M : Type 0} → (L → M) → Note L → Note M
 note_map f (LookedUp l head keyword) = LookedUp (f l) head keyword
 note_map f (Compared l j held) = Compared (f l) (f j) held
 
+abbrev pub use_map : {A B : Type 0} → (A → B) → WaitingUse A → WaitingUse B
+use_map f u = record { keyword = u.keyword; literals = map (named_map f) u.literals }
+
 abbrev pub pending_map : {A B L M : Type 0} → (A → B) → (L → M) → Pending A L → Pending B M
-pending_map f g p = record { todo = map (form_map f) p.todo; aside = map (item_map f) p.aside; notes = map (note_map g) p.notes }
+pending_map f g p = record { todo = map (form_map f) p.todo; aside = map (item_map f) p.aside; uses = map (use_map f) p.uses; notes = map (note_map g) p.notes }
+
+-- each name of what is pending reads so
+abbrev pub renamed : (Name → Name) → Pending Name Name → Renamed Name Name
+renamed f p = record { pending = pending_map f f p; rename = f }
+
+abbrev pub unchanged : {A L : Type 0} → Pending A L → Renamed A L
+unchanged p = record { pending = p; rename = λ i. i }
 
 -- ---- the state
 
@@ -208,11 +218,11 @@ defined_local x r s = let v = number_at s s.locals in record s {
   mine = v ∷ s.mine;
 }
 
-abbrev pub define_in_body : Named Name → Option (Rules Name) → Pending Name Name → State → Result (Pending Name Name) (Fault Ident) × State
+abbrev pub define_in_body : Named Name → Option (Rules Name) → Pending Name Name → State → Result (Renamed Name Name) (Fault Ident) × State
 define_in_body n r p s =
     if any (refused_in_body s n.name (number_at s s.locals) (is_some r)) p.notes then (Err (KeywordRedefined (named (erase n.name) n.occ)), s)
     else if is_mine s.mine n.name then (Err (Duplicate (named (erase n.name) n.occ)), s)
-    else (Ok (pending_map (deep n.name (number_at s s.locals)) (deep n.name (number_at s s.locals)) p), defined_local n.name r s)
+    else (Ok (renamed (deep n.name (number_at s s.locals)) p), defined_local n.name r s)
 
 abbrev pub defined_global : Named Name → Option (Rules Name) → State → State
 defined_global n r s = record s {
@@ -224,13 +234,13 @@ defined_global n r s = record s {
 abbrev pub refused_in_unit : State → Meaning → Bool → Note Name → Bool
 refused_in_unit s m new note = is_refused new (λ j. same_meaning (means s j) m) (means s) note
 
-abbrev pub define_in_unit : Named Name → Option (Rules Name) → Pending Name Name → State → Result (Pending Name Name) (Fault Ident) × State
+abbrev pub define_in_unit : Named Name → Option (Rules Name) → Pending Name Name → State → Result (Renamed Name Name) (Fault Ident) × State
 define_in_unit n r p s =
     if any (refused_in_unit (defined_global n r s) (Global s.unit (erase n.name)) (is_some r)) p.notes then (Err (KeywordRedefined (named (erase n.name) n.occ)), s)
     else if is_some (defined_in s.table s.unit (erase n.name)) then (Err (Duplicate (named (erase n.name) n.occ)), s)
-    else (Ok p, defined_global n r s)
+    else (Ok (unchanged p), defined_global n r s)
 
-abbrev pub define : Named Name → Option (Rules Name) → Pending Name Name → State → Result (Pending Name Name) (Fault Ident) × State
+abbrev pub define : Named Name → Option (Rules Name) → Pending Name Name → State → Result (Renamed Name Name) (Fault Ident) × State
 define n r p s = if s.in_body then define_in_body n r p s else define_in_unit n r p s
 
 abbrev pub is_variable : Option Defined → Bool

@@ -5,7 +5,7 @@ ghost use Rattle.scheme_model.specs.Ident.{Ident, Written, erase, symbol_of, sam
 ghost use Rattle.scheme_model.specs.Trees.{Tree, Trees, Tail, map_tree, map_trees, map_tail};
 ghost use Rattle.scheme_model.specs.ExpansionFaults.{Named, named_map};
 ghost use Rattle.scheme_model.specs.Meaning.{Meaning};
-ghost use Rattle.scheme_model.specs.Shapes.{Formals, one_of, some_of, if_of, lambda_of, case_lambda_of, named_tree_of, definition_of, values_of, record_of, local_macros_of, error_text_of};
+ghost use Rattle.scheme_model.specs.Shapes.{Formals, one_of, some_of, if_of, lambda_of, case_lambda_of, named_tree_of, syntax_of, definition_of, values_of, record_of, local_macros_of, error_text_of};
 ghost use Rattle.scheme_model.specs.Requirements.{Known, chosen_of};
 ghost use Rattle.scheme_model.specs.Quasiquote.{Mark, quasi_of};
 ghost use Rattle.scheme_model.specs.RulesShape.{Names, Rules, rule_map, rules_map, rules_of, option_map, role_of, dots_of};
@@ -47,6 +47,7 @@ pub fn forms_are_renamed()
     ensures conditional { (f : Ident → Name) → IsRenamed f (map_trees f) if_of if_of }
     ensures text { (f : Ident → Name) → IsRenamed f (λ (s : List ℕ). s) error_text_of error_text_of }
     ensures assignment { (f : Ident → Name) → IsRenamed f (λ (p : Named Ident × Tree Ident). (named_map f p.0, map_tree f p.1)) named_tree_of named_tree_of }
+    ensures macro_rules { (f : Ident → Name) → IsRenamed f (λ (p : Named Ident × Tree Ident). (named_map f p.0, map_tree f p.1)) syntax_of syntax_of }
     ensures procedure { (f : Ident → Name) (n : Names Ident) (m : Names Name) → Renames f n m → IsRenamed f (clause_map f) (lambda_of m.same) (lambda_of n.same) }
     ensures procedures { (f : Ident → Name) (n : Names Ident) (m : Names Name) → Renames f n m → IsRenamed f (map (clause_map f)) (case_lambda_of m.same) (case_lambda_of n.same) }
     ensures definition { (f : Ident → Name) (n : Names Ident) (m : Names Name) → Renames f n m → IsRenamed f (definition_map f) (definition_of m.same) (definition_of n.same) }

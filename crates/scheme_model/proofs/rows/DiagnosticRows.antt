@@ -1,8 +1,16 @@
 -- Open documents and their diagnostics, from outside.
 -- Written by tests/definitions/rows; each row is checked by computing it.
-use Rattle.std.specs.Prelude.{◌≡◌, ℕ, true, false, List, [], ◌∷◌, Some, codes, refl}
+use Rattle.std.specs.Prelude.{◌≡◌, ℕ, Bool, true, false, List, [], ◌∷◌, Option, Some, None, codes, refl}
+use Rattle.scheme_model.specs.declared.Occ.{Occ}
 use Rattle.scheme_model.specs.StandardNames.{base_names}
-use Rattle.scheme_model.proofs.Shown.{ArrowRow, diagnostic_rows}
+use Rattle.scheme_model.specs.Identifiers as i
+use Rattle.scheme_model.specs.Identifiers.{Number}
+use Rattle.scheme_model.specs.Ident as x
+use Rattle.scheme_model.specs.Trees as t
+use Rattle.scheme_model.specs.Meaning as m
+use Rattle.scheme_model.specs.Cores as c
+use Rattle.scheme_model.specs.Expression.{no_rules}
+use Rattle.scheme_model.proofs.Shown.{ArrowRow, arrow_rows, diagnostic_rows}
 use Rattle.std.specs.Char.{encode_utf8}
 use Rattle.scheme_model.specs.StandardLibraries.{standard_libraries}
 use Rattle.scheme_model.specs.Prelude.{prelude}
@@ -64,3 +72,119 @@ macros-123 = refl
 pub macros-201 : diagnostic_rows (((s 0 1) ∷ (s 2 3) ∷ (s 3 9) ∷ (s 10 17) ∷ (s 18 20) ∷ (s 20 21) ∷ (s 22 25) ∷ (s 26 27) ∷ (s 27 40) ∷ (s 41 42) ∷ (s 43 44) ∷ (s 44 56) ∷ (s 57 58) ∷ (s 58 59) ∷ (s 60 61) ∷ (s 61 62) ∷ (s 62 63) ∷ (s 64 65) ∷ (s 66 67) ∷ (s 67 72) ∷ (s 73 74) ∷ (s 74 80) ∷ (s 81 82) ∷ (s 83 84) ∷ (s 84 85) ∷ (s 86 87) ∷ (s 87 93) ∷ (s 94 95) ∷ (s 96 97) ∷ (s 97 101) ∷ (s 102 103) ∷ (s 104 105) ∷ (s 105 106) ∷ (s 106 107) ∷ (s 107 108) ∷ (s 108 109) ∷ (s 109 110) ∷ (s 110 111) ∷ []) ∷ []) ((Some (((g.atom (p 0 0 0 1) (g.spelled (k.Name (codes "b") false)))) ∷ ((g.list (p 1 5 2 21) (g.part (g.atom (p 2 2 3 9) (g.spelled (k.Name (codes "define") false))) (g.part (g.atom (p 3 3 10 17) (g.spelled (k.Name (codes "unquote") false))) (g.part (g.atom (p 4 4 18 20) (g.spelled (k.Truth true))) g.none))))) ∷ ((g.atom (p 6 6 22 25) (g.spelled (k.Character 99)))) ∷ ((g.list (p 7 37 26 111) (g.part (g.atom (p 8 8 27 40) (g.spelled (k.Name (codes "define-syntax") false))) (g.part (g.atom (p 9 9 41 42) (g.spelled (k.Name (codes "t") false))) (g.part (g.list (p 10 36 43 110) (g.part (g.atom (p 11 11 44 56) (g.spelled (k.Name (codes "syntax-rules") false))) (g.part (g.list (p 12 13 57 59) g.none) (g.part (g.list (p 14 35 60 109) (g.part (g.list (p 15 17 61 65) (g.part (g.atom (p 16 16 62 63) (g.spelled (k.Name (codes "_") false))) g.none)) (g.part (g.list (p 18 34 66 108) (g.part (g.atom (p 19 19 67 72) (g.spelled (k.Name (codes "begin") false))) (g.part (g.list (p 20 24 73 85) (g.part (g.atom (p 21 21 74 80) (g.spelled (k.Name (codes "define") false))) (g.part (g.atom (p 22 22 81 82) (g.spelled (k.Name (codes "b") false))) (g.part (g.atom (p 23 23 83 84) (g.spelled (k.Name (codes "t") false))) g.none)))) (g.part (g.list (p 25 33 86 107) (g.part (g.atom (p 26 26 87 93) (g.spelled (k.Name (codes "define") false))) (g.part (g.atom (p 27 27 94 95) (g.spelled (k.Name (codes "x") false))) (g.part (g.list (p 28 32 96 106) (g.part (g.atom (p 29 29 97 101) (g.spelled (k.Name (codes "list") false))) (g.part (g.atom (p 30 30 102 103) (g.spelled (k.Name (codes "b") false))) (g.part (g.atom (p 31 31 104 105) (g.spelled (k.Name (codes "a") false))) g.none)))) g.none)))) g.none)))) g.none))) g.none)))) g.none))))) ∷ [])) ∷ []) ≡ ((q 0 0 1 103 (codes "unbound b")) ∷ (q 0 0 1 104 (codes "no import, (scheme base) is used")) ∷ (q 0 10 17 101 (codes "definition hides import unquote")) ∷ [])
 unfolding base_names standard_libraries prelude encode_utf8
 macros-201 = refl
+
+pub literal-of-a-later-form : diagnostic_rows (((s 0 1) ∷ (s 1 14) ∷ (s 15 16) ∷ (s 17 18) ∷ (s 18 30) ∷ (s 31 32) ∷ (s 32 35) ∷ (s 35 36) ∷ (s 37 38) ∷ (s 38 39) ∷ (s 39 40) ∷ (s 41 44) ∷ (s 44 45) ∷ (s 46 47) ∷ (s 47 48) ∷ (s 48 49) ∷ (s 49 50) ∷ (s 51 52) ∷ (s 52 53) ∷ (s 54 57) ∷ (s 57 58) ∷ (s 59 60) ∷ (s 60 66) ∷ (s 67 70) ∷ (s 71 72) ∷ (s 72 73) ∷ []) ∷ []) ((Some (((g.list (p 0 16 0 50) (g.part (g.atom (p 1 1 1 14) (g.spelled (k.Name (codes "define-syntax") false))) (g.part (g.atom (p 2 2 15 16) (g.spelled (k.Name (codes "m") false))) (g.part (g.list (p 3 15 17 49) (g.part (g.atom (p 4 4 18 30) (g.spelled (k.Name (codes "syntax-rules") false))) (g.part (g.list (p 5 7 31 36) (g.part (g.atom (p 6 6 32 35) (g.spelled (k.Name (codes "lit") false))) g.none)) (g.part (g.list (p 8 14 37 48) (g.part (g.list (p 9 12 38 45) (g.part (g.atom (p 10 10 39 40) (g.spelled (k.Name (codes "_") false))) (g.part (g.atom (p 11 11 41 44) (g.spelled (k.Name (codes "lit") false))) g.none))) (g.part (g.atom (p 13 13 46 47) (g.spelled (k.Numeral (codes "1")))) g.none))) g.none)))) g.none))))) ∷ ((g.list (p 17 20 51 58) (g.part (g.atom (p 18 18 52 53) (g.spelled (k.Name (codes "m") false))) (g.part (g.atom (p 19 19 54 57) (g.spelled (k.Name (codes "lit") false))) g.none)))) ∷ ((g.list (p 21 25 59 73) (g.part (g.atom (p 22 22 60 66) (g.spelled (k.Name (codes "define") false))) (g.part (g.atom (p 23 23 67 70) (g.spelled (k.Name (codes "lit") false))) (g.part (g.atom (p 24 24 71 72) (g.spelled (k.Numeral (codes "2")))) g.none))))) ∷ [])) ∷ []) ≡ ((q 0 0 1 104 (codes "no import, (scheme base) is used")) ∷ [])
+unfolding base_names standard_libraries prelude encode_utf8
+literal-of-a-later-form = refl
+
+pub literal-of-a-body : diagnostic_rows (((s 0 1) ∷ (s 1 7) ∷ (s 8 9) ∷ (s 10 11) ∷ (s 11 12) ∷ (s 13 14) ∷ (s 14 20) ∷ (s 21 22) ∷ (s 22 23) ∷ (s 23 24) ∷ (s 25 26) ∷ (s 26 39) ∷ (s 40 41) ∷ (s 42 43) ∷ (s 43 55) ∷ (s 56 57) ∷ (s 57 58) ∷ (s 58 59) ∷ (s 60 61) ∷ (s 61 62) ∷ (s 62 63) ∷ (s 64 65) ∷ (s 65 66) ∷ (s 67 68) ∷ (s 68 74) ∷ (s 75 76) ∷ (s 77 78) ∷ (s 78 79) ∷ (s 79 80) ∷ (s 80 81) ∷ (s 81 82) ∷ (s 83 84) ∷ (s 84 85) ∷ (s 86 87) ∷ (s 87 88) ∷ (s 89 90) ∷ (s 90 96) ∷ (s 97 98) ∷ (s 99 100) ∷ (s 100 101) ∷ (s 102 103) ∷ (s 103 104) ∷ []) ∷ []) ((Some (((g.list (p 0 4 0 12) (g.part (g.atom (p 1 1 1 7) (g.spelled (k.Name (codes "define") false))) (g.part (g.atom (p 2 2 8 9) (g.spelled (k.Name (codes "k") false))) (g.part (g.atom (p 3 3 10 11) (g.spelled (k.Numeral (codes "0")))) g.none))))) ∷ ((g.list (p 5 41 13 104) (g.part (g.atom (p 6 6 14 20) (g.spelled (k.Name (codes "define") false))) (g.part (g.list (p 7 9 21 24) (g.part (g.atom (p 8 8 22 23) (g.spelled (k.Name (codes "f") false))) g.none)) (g.part (g.list (p 10 30 25 82) (g.part (g.atom (p 11 11 26 39) (g.spelled (k.Name (codes "define-syntax") false))) (g.part (g.atom (p 12 12 40 41) (g.spelled (k.Name (codes "n") false))) (g.part (g.list (p 13 29 42 81) (g.part (g.atom (p 14 14 43 55) (g.spelled (k.Name (codes "syntax-rules") false))) (g.part (g.list (p 15 17 56 59) (g.part (g.atom (p 16 16 57 58) (g.spelled (k.Name (codes "k") false))) g.none)) (g.part (g.list (p 18 28 60 80) (g.part (g.list (p 19 22 61 66) (g.part (g.atom (p 20 20 62 63) (g.spelled (k.Name (codes "_") false))) (g.part (g.atom (p 21 21 64 65) (g.spelled (k.Name (codes "k") false))) g.none))) (g.part (g.list (p 23 27 67 79) (g.part (g.atom (p 24 24 68 74) (g.spelled (k.Name (codes "define") false))) (g.part (g.atom (p 25 25 75 76) (g.spelled (k.Name (codes "q") false))) (g.part (g.atom (p 26 26 77 78) (g.spelled (k.Numeral (codes "1")))) g.none)))) g.none))) g.none)))) g.none)))) (g.part (g.list (p 31 34 83 88) (g.part (g.atom (p 32 32 84 85) (g.spelled (k.Name (codes "n") false))) (g.part (g.atom (p 33 33 86 87) (g.spelled (k.Name (codes "k") false))) g.none))) (g.part (g.list (p 35 39 89 101) (g.part (g.atom (p 36 36 90 96) (g.spelled (k.Name (codes "define") false))) (g.part (g.atom (p 37 37 97 98) (g.spelled (k.Name (codes "k") false))) (g.part (g.atom (p 38 38 99 100) (g.spelled (k.Numeral (codes "2")))) g.none)))) (g.part (g.atom (p 40 40 102 103) (g.spelled (k.Name (codes "k") false))) g.none)))))))) ∷ [])) ∷ []) ≡ ((q 0 0 1 104 (codes "no import, (scheme base) is used")) ∷ [])
+unfolding base_names standard_libraries prelude encode_utf8
+literal-of-a-body = refl
+
+pub literal-of-the-body-around : diagnostic_rows (((s 0 1) ∷ (s 1 7) ∷ (s 8 9) ∷ (s 9 10) ∷ (s 10 11) ∷ (s 12 13) ∷ (s 13 19) ∷ (s 20 21) ∷ (s 21 22) ∷ (s 22 23) ∷ (s 24 25) ∷ (s 25 38) ∷ (s 39 40) ∷ (s 41 42) ∷ (s 42 54) ∷ (s 55 56) ∷ (s 56 57) ∷ (s 57 58) ∷ (s 59 60) ∷ (s 60 61) ∷ (s 61 62) ∷ (s 63 64) ∷ (s 64 65) ∷ (s 66 67) ∷ (s 67 73) ∷ (s 74 75) ∷ (s 76 77) ∷ (s 77 78) ∷ (s 78 79) ∷ (s 79 80) ∷ (s 80 81) ∷ (s 82 83) ∷ (s 83 84) ∷ (s 85 86) ∷ (s 86 87) ∷ (s 88 89) ∷ (s 89 90) ∷ (s 91 92) ∷ (s 92 98) ∷ (s 99 100) ∷ (s 101 102) ∷ (s 102 103) ∷ (s 104 105) ∷ (s 105 106) ∷ (s 106 107) ∷ (s 107 108) ∷ []) ∷ []) ((Some (((g.list (p 0 45 0 108) (g.part (g.atom (p 1 1 1 7) (g.spelled (k.Name (codes "define") false))) (g.part (g.list (p 2 4 8 11) (g.part (g.atom (p 3 3 9 10) (g.spelled (k.Name (codes "f") false))) g.none)) (g.part (g.list (p 5 36 12 90) (g.part (g.atom (p 6 6 13 19) (g.spelled (k.Name (codes "define") false))) (g.part (g.list (p 7 9 20 23) (g.part (g.atom (p 8 8 21 22) (g.spelled (k.Name (codes "g") false))) g.none)) (g.part (g.list (p 10 30 24 81) (g.part (g.atom (p 11 11 25 38) (g.spelled (k.Name (codes "define-syntax") false))) (g.part (g.atom (p 12 12 39 40) (g.spelled (k.Name (codes "n") false))) (g.part (g.list (p 13 29 41 80) (g.part (g.atom (p 14 14 42 54) (g.spelled (k.Name (codes "syntax-rules") false))) (g.part (g.list (p 15 17 55 58) (g.part (g.atom (p 16 16 56 57) (g.spelled (k.Name (codes "k") false))) g.none)) (g.part (g.list (p 18 28 59 79) (g.part (g.list (p 19 22 60 65) (g.part (g.atom (p 20 20 61 62) (g.spelled (k.Name (codes "_") false))) (g.part (g.atom (p 21 21 63 64) (g.spelled (k.Name (codes "k") false))) g.none))) (g.part (g.list (p 23 27 66 78) (g.part (g.atom (p 24 24 67 73) (g.spelled (k.Name (codes "define") false))) (g.part (g.atom (p 25 25 74 75) (g.spelled (k.Name (codes "q") false))) (g.part (g.atom (p 26 26 76 77) (g.spelled (k.Numeral (codes "1")))) g.none)))) g.none))) g.none)))) g.none)))) (g.part (g.list (p 31 34 82 87) (g.part (g.atom (p 32 32 83 84) (g.spelled (k.Name (codes "n") false))) (g.part (g.atom (p 33 33 85 86) (g.spelled (k.Name (codes "k") false))) g.none))) (g.part (g.atom (p 35 35 88 89) (g.spelled (k.Numeral (codes "1")))) g.none)))))) (g.part (g.list (p 37 41 91 103) (g.part (g.atom (p 38 38 92 98) (g.spelled (k.Name (codes "define") false))) (g.part (g.atom (p 39 39 99 100) (g.spelled (k.Name (codes "k") false))) (g.part (g.atom (p 40 40 101 102) (g.spelled (k.Numeral (codes "2")))) g.none)))) (g.part (g.list (p 42 44 104 107) (g.part (g.atom (p 43 43 105 106) (g.spelled (k.Name (codes "g") false))) g.none)) g.none))))))) ∷ [])) ∷ []) ≡ ((q 0 0 1 104 (codes "no import, (scheme base) is used")) ∷ [])
+unfolding base_names standard_libraries prelude encode_utf8
+literal-of-the-body-around = refl
+
+pub literal-over-a-parameter : diagnostic_rows (((s 0 1) ∷ (s 1 7) ∷ (s 8 9) ∷ (s 9 10) ∷ (s 10 11) ∷ (s 12 13) ∷ (s 13 26) ∷ (s 27 28) ∷ (s 29 30) ∷ (s 30 42) ∷ (s 43 44) ∷ (s 44 45) ∷ (s 45 46) ∷ (s 47 48) ∷ (s 48 49) ∷ (s 49 50) ∷ (s 51 52) ∷ (s 52 53) ∷ (s 54 55) ∷ (s 55 61) ∷ (s 62 63) ∷ (s 64 65) ∷ (s 65 66) ∷ (s 66 67) ∷ (s 67 68) ∷ (s 68 69) ∷ (s 70 71) ∷ (s 71 72) ∷ (s 73 74) ∷ (s 74 75) ∷ (s 76 77) ∷ (s 77 83) ∷ (s 84 85) ∷ (s 86 87) ∷ (s 87 88) ∷ (s 89 90) ∷ (s 90 91) ∷ []) ∷ []) ((Some (((g.list (p 0 36 0 91) (g.part (g.atom (p 1 1 1 7) (g.spelled (k.Name (codes "lambda") false))) (g.part (g.list (p 2 4 8 11) (g.part (g.atom (p 3 3 9 10) (g.spelled (k.Name (codes "k") false))) g.none)) (g.part (g.list (p 5 25 12 69) (g.part (g.atom (p 6 6 13 26) (g.spelled (k.Name (codes "define-syntax") false))) (g.part (g.atom (p 7 7 27 28) (g.spelled (k.Name (codes "n") false))) (g.part (g.list (p 8 24 29 68) (g.part (g.atom (p 9 9 30 42) (g.spelled (k.Name (codes "syntax-rules") false))) (g.part (g.list (p 10 12 43 46) (g.part (g.atom (p 11 11 44 45) (g.spelled (k.Name (codes "k") false))) g.none)) (g.part (g.list (p 13 23 47 67) (g.part (g.list (p 14 17 48 53) (g.part (g.atom (p 15 15 49 50) (g.spelled (k.Name (codes "_") false))) (g.part (g.atom (p 16 16 51 52) (g.spelled (k.Name (codes "k") false))) g.none))) (g.part (g.list (p 18 22 54 66) (g.part (g.atom (p 19 19 55 61) (g.spelled (k.Name (codes "define") false))) (g.part (g.atom (p 20 20 62 63) (g.spelled (k.Name (codes "q") false))) (g.part (g.atom (p 21 21 64 65) (g.spelled (k.Numeral (codes "1")))) g.none)))) g.none))) g.none)))) g.none)))) (g.part (g.list (p 26 29 70 75) (g.part (g.atom (p 27 27 71 72) (g.spelled (k.Name (codes "n") false))) (g.part (g.atom (p 28 28 73 74) (g.spelled (k.Name (codes "k") false))) g.none))) (g.part (g.list (p 30 34 76 88) (g.part (g.atom (p 31 31 77 83) (g.spelled (k.Name (codes "define") false))) (g.part (g.atom (p 32 32 84 85) (g.spelled (k.Name (codes "k") false))) (g.part (g.atom (p 33 33 86 87) (g.spelled (k.Numeral (codes "2")))) g.none)))) (g.part (g.atom (p 35 35 89 90) (g.spelled (k.Name (codes "k") false))) g.none)))))))) ∷ [])) ∷ []) ≡ ((q 0 0 1 104 (codes "no import, (scheme base) is used")) ∷ [])
+unfolding base_names standard_libraries prelude encode_utf8
+literal-over-a-parameter = refl
+
+pub literal-of-a-local-macro-defined-in-its-body : diagnostic_rows (((s 0 1) ∷ (s 1 7) ∷ (s 8 9) ∷ (s 9 10) ∷ (s 10 11) ∷ (s 12 13) ∷ (s 13 23) ∷ (s 24 25) ∷ (s 25 26) ∷ (s 26 27) ∷ (s 28 29) ∷ (s 29 41) ∷ (s 42 43) ∷ (s 43 44) ∷ (s 44 45) ∷ (s 46 47) ∷ (s 47 48) ∷ (s 48 49) ∷ (s 50 51) ∷ (s 51 52) ∷ (s 53 54) ∷ (s 54 60) ∷ (s 61 62) ∷ (s 63 64) ∷ (s 64 65) ∷ (s 65 66) ∷ (s 66 67) ∷ (s 67 68) ∷ (s 68 69) ∷ (s 70 71) ∷ (s 71 72) ∷ (s 73 74) ∷ (s 74 75) ∷ (s 76 77) ∷ (s 77 83) ∷ (s 84 85) ∷ (s 86 87) ∷ (s 87 88) ∷ (s 89 90) ∷ (s 90 91) ∷ (s 92 93) ∷ (s 93 94) ∷ []) ∷ []) ((Some (((g.list (p 0 41 0 94) (g.part (g.atom (p 1 1 1 7) (g.spelled (k.Name (codes "define") false))) (g.part (g.list (p 2 4 8 11) (g.part (g.atom (p 3 3 9 10) (g.spelled (k.Name (codes "f") false))) g.none)) (g.part (g.list (p 5 39 12 91) (g.part (g.atom (p 6 6 13 23) (g.spelled (k.Name (codes "let-syntax") false))) (g.part (g.list (p 7 28 24 69) (g.part (g.list (p 8 27 25 68) (g.part (g.atom (p 9 9 26 27) (g.spelled (k.Name (codes "n") false))) (g.part (g.list (p 10 26 28 67) (g.part (g.atom (p 11 11 29 41) (g.spelled (k.Name (codes "syntax-rules") false))) (g.part (g.list (p 12 14 42 45) (g.part (g.atom (p 13 13 43 44) (g.spelled (k.Name (codes "k") false))) g.none)) (g.part (g.list (p 15 25 46 66) (g.part (g.list (p 16 19 47 52) (g.part (g.atom (p 17 17 48 49) (g.spelled (k.Name (codes "_") false))) (g.part (g.atom (p 18 18 50 51) (g.spelled (k.Name (codes "k") false))) g.none))) (g.part (g.list (p 20 24 53 65) (g.part (g.atom (p 21 21 54 60) (g.spelled (k.Name (codes "define") false))) (g.part (g.atom (p 22 22 61 62) (g.spelled (k.Name (codes "q") false))) (g.part (g.atom (p 23 23 63 64) (g.spelled (k.Numeral (codes "1")))) g.none)))) g.none))) g.none)))) g.none))) g.none)) (g.part (g.list (p 29 32 70 75) (g.part (g.atom (p 30 30 71 72) (g.spelled (k.Name (codes "n") false))) (g.part (g.atom (p 31 31 73 74) (g.spelled (k.Name (codes "k") false))) g.none))) (g.part (g.list (p 33 37 76 88) (g.part (g.atom (p 34 34 77 83) (g.spelled (k.Name (codes "define") false))) (g.part (g.atom (p 35 35 84 85) (g.spelled (k.Name (codes "k") false))) (g.part (g.atom (p 36 36 86 87) (g.spelled (k.Numeral (codes "2")))) g.none)))) (g.part (g.atom (p 38 38 89 90) (g.spelled (k.Name (codes "k") false))) g.none)))))) (g.part (g.atom (p 40 40 92 93) (g.spelled (k.Numeral (codes "1")))) g.none)))))) ∷ [])) ∷ []) ≡ ((q 0 0 1 104 (codes "no import, (scheme base) is used")) ∷ (q 0 84 85 41 (codes "keyword redefined k")) ∷ [])
+unfolding base_names standard_libraries prelude encode_utf8
+literal-of-a-local-macro-defined-in-its-body = refl
+
+pub literal-of-a-local-macro-defined-around : diagnostic_rows (((s 0 1) ∷ (s 1 7) ∷ (s 8 9) ∷ (s 9 10) ∷ (s 10 11) ∷ (s 12 13) ∷ (s 13 23) ∷ (s 24 25) ∷ (s 25 26) ∷ (s 26 27) ∷ (s 28 29) ∷ (s 29 41) ∷ (s 42 43) ∷ (s 43 44) ∷ (s 44 45) ∷ (s 46 47) ∷ (s 47 48) ∷ (s 48 49) ∷ (s 50 51) ∷ (s 51 52) ∷ (s 53 54) ∷ (s 54 60) ∷ (s 61 62) ∷ (s 63 64) ∷ (s 64 65) ∷ (s 65 66) ∷ (s 66 67) ∷ (s 67 68) ∷ (s 68 69) ∷ (s 70 71) ∷ (s 71 72) ∷ (s 73 74) ∷ (s 74 75) ∷ (s 76 77) ∷ (s 77 78) ∷ (s 79 80) ∷ (s 80 86) ∷ (s 87 88) ∷ (s 89 90) ∷ (s 90 91) ∷ (s 92 93) ∷ (s 93 94) ∷ []) ∷ []) ((Some (((g.list (p 0 41 0 94) (g.part (g.atom (p 1 1 1 7) (g.spelled (k.Name (codes "define") false))) (g.part (g.list (p 2 4 8 11) (g.part (g.atom (p 3 3 9 10) (g.spelled (k.Name (codes "f") false))) g.none)) (g.part (g.list (p 5 34 12 78) (g.part (g.atom (p 6 6 13 23) (g.spelled (k.Name (codes "let-syntax") false))) (g.part (g.list (p 7 28 24 69) (g.part (g.list (p 8 27 25 68) (g.part (g.atom (p 9 9 26 27) (g.spelled (k.Name (codes "n") false))) (g.part (g.list (p 10 26 28 67) (g.part (g.atom (p 11 11 29 41) (g.spelled (k.Name (codes "syntax-rules") false))) (g.part (g.list (p 12 14 42 45) (g.part (g.atom (p 13 13 43 44) (g.spelled (k.Name (codes "k") false))) g.none)) (g.part (g.list (p 15 25 46 66) (g.part (g.list (p 16 19 47 52) (g.part (g.atom (p 17 17 48 49) (g.spelled (k.Name (codes "_") false))) (g.part (g.atom (p 18 18 50 51) (g.spelled (k.Name (codes "k") false))) g.none))) (g.part (g.list (p 20 24 53 65) (g.part (g.atom (p 21 21 54 60) (g.spelled (k.Name (codes "define") false))) (g.part (g.atom (p 22 22 61 62) (g.spelled (k.Name (codes "q") false))) (g.part (g.atom (p 23 23 63 64) (g.spelled (k.Numeral (codes "1")))) g.none)))) g.none))) g.none)))) g.none))) g.none)) (g.part (g.list (p 29 32 70 75) (g.part (g.atom (p 30 30 71 72) (g.spelled (k.Name (codes "n") false))) (g.part (g.atom (p 31 31 73 74) (g.spelled (k.Name (codes "k") false))) g.none))) (g.part (g.atom (p 33 33 76 77) (g.spelled (k.Numeral (codes "1")))) g.none))))) (g.part (g.list (p 35 39 79 91) (g.part (g.atom (p 36 36 80 86) (g.spelled (k.Name (codes "define") false))) (g.part (g.atom (p 37 37 87 88) (g.spelled (k.Name (codes "k") false))) (g.part (g.atom (p 38 38 89 90) (g.spelled (k.Numeral (codes "2")))) g.none)))) (g.part (g.atom (p 40 40 92 93) (g.spelled (k.Name (codes "k") false))) g.none))))))) ∷ [])) ∷ []) ≡ ((q 0 0 1 104 (codes "no import, (scheme base) is used")) ∷ [])
+unfolding base_names standard_libraries prelude encode_utf8
+literal-of-a-local-macro-defined-around = refl
+
+pub literal-that-a-use-inserted : diagnostic_rows (((s 0 1) ∷ (s 1 14) ∷ (s 15 16) ∷ (s 17 18) ∷ (s 18 30) ∷ (s 31 32) ∷ (s 32 33) ∷ (s 33 34) ∷ (s 35 36) ∷ (s 36 37) ∷ (s 37 38) ∷ (s 39 40) ∷ (s 40 41) ∷ (s 42 43) ∷ (s 43 44) ∷ (s 44 45) ∷ (s 45 46) ∷ (s 47 48) ∷ (s 48 61) ∷ (s 62 63) ∷ (s 64 65) ∷ (s 65 77) ∷ (s 78 79) ∷ (s 79 80) ∷ (s 81 82) ∷ (s 82 83) ∷ (s 83 84) ∷ (s 84 85) ∷ (s 86 87) ∷ (s 87 88) ∷ (s 89 90) ∷ (s 90 91) ∷ (s 91 92) ∷ (s 92 93) ∷ (s 93 94) ∷ (s 95 96) ∷ (s 96 97) ∷ (s 97 98) ∷ (s 99 100) ∷ (s 100 106) ∷ (s 107 108) ∷ (s 109 110) ∷ (s 110 111) ∷ []) ∷ []) ((Some (((g.list (p 0 16 0 46) (g.part (g.atom (p 1 1 1 14) (g.spelled (k.Name (codes "define-syntax") false))) (g.part (g.atom (p 2 2 15 16) (g.spelled (k.Name (codes "n") false))) (g.part (g.list (p 3 15 17 45) (g.part (g.atom (p 4 4 18 30) (g.spelled (k.Name (codes "syntax-rules") false))) (g.part (g.list (p 5 7 31 34) (g.part (g.atom (p 6 6 32 33) (g.spelled (k.Name (codes "k") false))) g.none)) (g.part (g.list (p 8 14 35 44) (g.part (g.list (p 9 12 36 41) (g.part (g.atom (p 10 10 37 38) (g.spelled (k.Name (codes "_") false))) (g.part (g.atom (p 11 11 39 40) (g.spelled (k.Name (codes "k") false))) g.none))) (g.part (g.atom (p 13 13 42 43) (g.spelled (k.Numeral (codes "1")))) g.none))) g.none)))) g.none))))) ∷ ((g.list (p 17 34 47 94) (g.part (g.atom (p 18 18 48 61) (g.spelled (k.Name (codes "define-syntax") false))) (g.part (g.atom (p 19 19 62 63) (g.spelled (k.Name (codes "u") false))) (g.part (g.list (p 20 33 64 93) (g.part (g.atom (p 21 21 65 77) (g.spelled (k.Name (codes "syntax-rules") false))) (g.part (g.list (p 22 23 78 80) g.none) (g.part (g.list (p 24 32 81 92) (g.part (g.list (p 25 27 82 85) (g.part (g.atom (p 26 26 83 84) (g.spelled (k.Name (codes "_") false))) g.none)) (g.part (g.list (p 28 31 86 91) (g.part (g.atom (p 29 29 87 88) (g.spelled (k.Name (codes "n") false))) (g.part (g.atom (p 30 30 89 90) (g.spelled (k.Name (codes "k") false))) g.none))) g.none))) g.none)))) g.none))))) ∷ ((g.list (p 35 37 95 98) (g.part (g.atom (p 36 36 96 97) (g.spelled (k.Name (codes "u") false))) g.none))) ∷ ((g.list (p 38 42 99 111) (g.part (g.atom (p 39 39 100 106) (g.spelled (k.Name (codes "define") false))) (g.part (g.atom (p 40 40 107 108) (g.spelled (k.Name (codes "k") false))) (g.part (g.atom (p 41 41 109 110) (g.spelled (k.Numeral (codes "2")))) g.none))))) ∷ [])) ∷ []) ≡ ((q 0 0 1 104 (codes "no import, (scheme base) is used")) ∷ [])
+unfolding base_names standard_libraries prelude encode_utf8
+literal-that-a-use-inserted = refl
+
+pub inserted-literal-defined-by-its-use : diagnostic_rows (((s 0 1) ∷ (s 1 7) ∷ (s 8 9) ∷ (s 9 10) ∷ (s 10 11) ∷ (s 12 13) ∷ (s 13 26) ∷ (s 27 28) ∷ (s 29 30) ∷ (s 30 42) ∷ (s 43 44) ∷ (s 44 45) ∷ (s 45 46) ∷ (s 47 48) ∷ (s 48 49) ∷ (s 49 50) ∷ (s 51 52) ∷ (s 52 53) ∷ (s 54 55) ∷ (s 55 61) ∷ (s 62 63) ∷ (s 64 65) ∷ (s 65 66) ∷ (s 66 67) ∷ (s 67 68) ∷ (s 68 69) ∷ (s 70 71) ∷ (s 71 84) ∷ (s 85 86) ∷ (s 87 88) ∷ (s 88 100) ∷ (s 101 102) ∷ (s 102 103) ∷ (s 104 105) ∷ (s 105 106) ∷ (s 106 107) ∷ (s 107 108) ∷ (s 109 110) ∷ (s 110 115) ∷ (s 116 117) ∷ (s 117 118) ∷ (s 119 120) ∷ (s 120 121) ∷ (s 122 123) ∷ (s 123 129) ∷ (s 130 131) ∷ (s 132 133) ∷ (s 133 134) ∷ (s 134 135) ∷ (s 135 136) ∷ (s 136 137) ∷ (s 137 138) ∷ (s 139 140) ∷ (s 140 141) ∷ (s 141 142) ∷ (s 143 144) ∷ (s 144 145) ∷ []) ∷ []) ((Some (((g.list (p 0 56 0 145) (g.part (g.atom (p 1 1 1 7) (g.spelled (k.Name (codes "define") false))) (g.part (g.list (p 2 4 8 11) (g.part (g.atom (p 3 3 9 10) (g.spelled (k.Name (codes "f") false))) g.none)) (g.part (g.list (p 5 25 12 69) (g.part (g.atom (p 6 6 13 26) (g.spelled (k.Name (codes "define-syntax") false))) (g.part (g.atom (p 7 7 27 28) (g.spelled (k.Name (codes "n") false))) (g.part (g.list (p 8 24 29 68) (g.part (g.atom (p 9 9 30 42) (g.spelled (k.Name (codes "syntax-rules") false))) (g.part (g.list (p 10 12 43 46) (g.part (g.atom (p 11 11 44 45) (g.spelled (k.Name (codes "k") false))) g.none)) (g.part (g.list (p 13 23 47 67) (g.part (g.list (p 14 17 48 53) (g.part (g.atom (p 15 15 49 50) (g.spelled (k.Name (codes "_") false))) (g.part (g.atom (p 16 16 51 52) (g.spelled (k.Name (codes "k") false))) g.none))) (g.part (g.list (p 18 22 54 66) (g.part (g.atom (p 19 19 55 61) (g.spelled (k.Name (codes "define") false))) (g.part (g.atom (p 20 20 62 63) (g.spelled (k.Name (codes "q") false))) (g.part (g.atom (p 21 21 64 65) (g.spelled (k.Numeral (codes "1")))) g.none)))) g.none))) g.none)))) g.none)))) (g.part (g.list (p 26 51 70 138) (g.part (g.atom (p 27 27 71 84) (g.spelled (k.Name (codes "define-syntax") false))) (g.part (g.atom (p 28 28 85 86) (g.spelled (k.Name (codes "u") false))) (g.part (g.list (p 29 50 87 137) (g.part (g.atom (p 30 30 88 100) (g.spelled (k.Name (codes "syntax-rules") false))) (g.part (g.list (p 31 32 101 103) g.none) (g.part (g.list (p 33 49 104 136) (g.part (g.list (p 34 36 105 108) (g.part (g.atom (p 35 35 106 107) (g.spelled (k.Name (codes "_") false))) g.none)) (g.part (g.list (p 37 48 109 135) (g.part (g.atom (p 38 38 110 115) (g.spelled (k.Name (codes "begin") false))) (g.part (g.list (p 39 42 116 121) (g.part (g.atom (p 40 40 117 118) (g.spelled (k.Name (codes "n") false))) (g.part (g.atom (p 41 41 119 120) (g.spelled (k.Name (codes "k") false))) g.none))) (g.part (g.list (p 43 47 122 134) (g.part (g.atom (p 44 44 123 129) (g.spelled (k.Name (codes "define") false))) (g.part (g.atom (p 45 45 130 131) (g.spelled (k.Name (codes "k") false))) (g.part (g.atom (p 46 46 132 133) (g.spelled (k.Numeral (codes "3")))) g.none)))) g.none)))) g.none))) g.none)))) g.none)))) (g.part (g.list (p 52 54 139 142) (g.part (g.atom (p 53 53 140 141) (g.spelled (k.Name (codes "u") false))) g.none)) (g.part (g.atom (p 55 55 143 144) (g.spelled (k.Numeral (codes "1")))) g.none)))))))) ∷ [])) ∷ []) ≡ ((q 0 0 1 104 (codes "no import, (scheme base) is used")) ∷ (q 0 130 131 41 (codes "keyword redefined k")) ∷ [])
+unfolding base_names standard_libraries prelude encode_utf8
+inserted-literal-defined-by-its-use = refl
+
+pub literal-of-the-same-form : diagnostic_rows (((s 0 1) ∷ (s 1 14) ∷ (s 15 16) ∷ (s 17 18) ∷ (s 18 30) ∷ (s 31 32) ∷ (s 32 35) ∷ (s 35 36) ∷ (s 37 38) ∷ (s 38 39) ∷ (s 39 40) ∷ (s 41 44) ∷ (s 44 45) ∷ (s 46 47) ∷ (s 47 48) ∷ (s 48 49) ∷ (s 49 50) ∷ (s 51 52) ∷ (s 52 57) ∷ (s 58 59) ∷ (s 59 60) ∷ (s 61 64) ∷ (s 64 65) ∷ (s 66 67) ∷ (s 67 73) ∷ (s 74 77) ∷ (s 78 79) ∷ (s 79 80) ∷ (s 80 81) ∷ []) ∷ []) ((Some (((g.list (p 0 16 0 50) (g.part (g.atom (p 1 1 1 14) (g.spelled (k.Name (codes "define-syntax") false))) (g.part (g.atom (p 2 2 15 16) (g.spelled (k.Name (codes "m") false))) (g.part (g.list (p 3 15 17 49) (g.part (g.atom (p 4 4 18 30) (g.spelled (k.Name (codes "syntax-rules") false))) (g.part (g.list (p 5 7 31 36) (g.part (g.atom (p 6 6 32 35) (g.spelled (k.Name (codes "lit") false))) g.none)) (g.part (g.list (p 8 14 37 48) (g.part (g.list (p 9 12 38 45) (g.part (g.atom (p 10 10 39 40) (g.spelled (k.Name (codes "_") false))) (g.part (g.atom (p 11 11 41 44) (g.spelled (k.Name (codes "lit") false))) g.none))) (g.part (g.atom (p 13 13 46 47) (g.spelled (k.Numeral (codes "1")))) g.none))) g.none)))) g.none))))) ∷ ((g.list (p 17 28 51 81) (g.part (g.atom (p 18 18 52 57) (g.spelled (k.Name (codes "begin") false))) (g.part (g.list (p 19 22 58 65) (g.part (g.atom (p 20 20 59 60) (g.spelled (k.Name (codes "m") false))) (g.part (g.atom (p 21 21 61 64) (g.spelled (k.Name (codes "lit") false))) g.none))) (g.part (g.list (p 23 27 66 80) (g.part (g.atom (p 24 24 67 73) (g.spelled (k.Name (codes "define") false))) (g.part (g.atom (p 25 25 74 77) (g.spelled (k.Name (codes "lit") false))) (g.part (g.atom (p 26 26 78 79) (g.spelled (k.Numeral (codes "2")))) g.none)))) g.none))))) ∷ [])) ∷ []) ≡ ((q 0 0 1 104 (codes "no import, (scheme base) is used")) ∷ [])
+unfolding base_names standard_libraries prelude encode_utf8
+literal-of-the-same-form = refl
+
+pub literal-of-a-broken-form : diagnostic_rows (((s 0 1) ∷ (s 1 14) ∷ (s 15 16) ∷ (s 17 18) ∷ (s 18 30) ∷ (s 31 32) ∷ (s 32 35) ∷ (s 35 36) ∷ (s 37 38) ∷ (s 38 39) ∷ (s 39 40) ∷ (s 41 44) ∷ (s 44 45) ∷ (s 46 47) ∷ (s 47 48) ∷ (s 48 49) ∷ (s 49 50) ∷ (s 51 52) ∷ (s 52 57) ∷ (s 58 59) ∷ (s 59 60) ∷ (s 61 64) ∷ (s 64 65) ∷ (s 66 67) ∷ (s 67 69) ∷ (s 69 70) ∷ (s 70 71) ∷ (s 72 73) ∷ (s 73 79) ∷ (s 80 83) ∷ (s 84 85) ∷ (s 85 86) ∷ []) ∷ []) ((Some (((g.list (p 0 16 0 50) (g.part (g.atom (p 1 1 1 14) (g.spelled (k.Name (codes "define-syntax") false))) (g.part (g.atom (p 2 2 15 16) (g.spelled (k.Name (codes "m") false))) (g.part (g.list (p 3 15 17 49) (g.part (g.atom (p 4 4 18 30) (g.spelled (k.Name (codes "syntax-rules") false))) (g.part (g.list (p 5 7 31 36) (g.part (g.atom (p 6 6 32 35) (g.spelled (k.Name (codes "lit") false))) g.none)) (g.part (g.list (p 8 14 37 48) (g.part (g.list (p 9 12 38 45) (g.part (g.atom (p 10 10 39 40) (g.spelled (k.Name (codes "_") false))) (g.part (g.atom (p 11 11 41 44) (g.spelled (k.Name (codes "lit") false))) g.none))) (g.part (g.atom (p 13 13 46 47) (g.spelled (k.Numeral (codes "1")))) g.none))) g.none)))) g.none))))) ∷ ((g.list (p 17 26 51 71) (g.part (g.atom (p 18 18 52 57) (g.spelled (k.Name (codes "begin") false))) (g.part (g.list (p 19 22 58 65) (g.part (g.atom (p 20 20 59 60) (g.spelled (k.Name (codes "m") false))) (g.part (g.atom (p 21 21 61 64) (g.spelled (k.Name (codes "lit") false))) g.none))) (g.part (g.list (p 23 25 66 70) (g.part (g.atom (p 24 24 67 69) (g.spelled (k.Name (codes "if") false))) g.none)) g.none))))) ∷ ((g.list (p 27 31 72 86) (g.part (g.atom (p 28 28 73 79) (g.spelled (k.Name (codes "define") false))) (g.part (g.atom (p 29 29 80 83) (g.spelled (k.Name (codes "lit") false))) (g.part (g.atom (p 30 30 84 85) (g.spelled (k.Numeral (codes "2")))) g.none))))) ∷ [])) ∷ []) ≡ ((q 0 0 1 104 (codes "no import, (scheme base) is used")) ∷ (q 0 66 67 31 (codes "bad form")) ∷ [])
+unfolding base_names standard_libraries prelude encode_utf8
+literal-of-a-broken-form = refl
+
+pub literal-defined-as-a-macro : diagnostic_rows (((s 0 1) ∷ (s 1 14) ∷ (s 15 16) ∷ (s 17 18) ∷ (s 18 30) ∷ (s 31 32) ∷ (s 32 35) ∷ (s 35 36) ∷ (s 37 38) ∷ (s 38 39) ∷ (s 39 40) ∷ (s 41 44) ∷ (s 44 45) ∷ (s 46 47) ∷ (s 47 48) ∷ (s 48 49) ∷ (s 49 50) ∷ (s 51 52) ∷ (s 52 53) ∷ (s 54 57) ∷ (s 57 58) ∷ (s 59 60) ∷ (s 60 73) ∷ (s 74 77) ∷ (s 78 79) ∷ (s 79 91) ∷ (s 92 93) ∷ (s 93 94) ∷ (s 95 96) ∷ (s 96 97) ∷ (s 97 98) ∷ (s 98 99) ∷ (s 100 101) ∷ (s 101 102) ∷ (s 102 103) ∷ (s 103 104) ∷ (s 105 106) ∷ (s 106 109) ∷ (s 109 110) ∷ []) ∷ []) ((Some (((g.list (p 0 16 0 50) (g.part (g.atom (p 1 1 1 14) (g.spelled (k.Name (codes "define-syntax") false))) (g.part (g.atom (p 2 2 15 16) (g.spelled (k.Name (codes "m") false))) (g.part (g.list (p 3 15 17 49) (g.part (g.atom (p 4 4 18 30) (g.spelled (k.Name (codes "syntax-rules") false))) (g.part (g.list (p 5 7 31 36) (g.part (g.atom (p 6 6 32 35) (g.spelled (k.Name (codes "lit") false))) g.none)) (g.part (g.list (p 8 14 37 48) (g.part (g.list (p 9 12 38 45) (g.part (g.atom (p 10 10 39 40) (g.spelled (k.Name (codes "_") false))) (g.part (g.atom (p 11 11 41 44) (g.spelled (k.Name (codes "lit") false))) g.none))) (g.part (g.atom (p 13 13 46 47) (g.spelled (k.Numeral (codes "1")))) g.none))) g.none)))) g.none))))) ∷ ((g.list (p 17 20 51 58) (g.part (g.atom (p 18 18 52 53) (g.spelled (k.Name (codes "m") false))) (g.part (g.atom (p 19 19 54 57) (g.spelled (k.Name (codes "lit") false))) g.none)))) ∷ ((g.list (p 21 35 59 104) (g.part (g.atom (p 22 22 60 73) (g.spelled (k.Name (codes "define-syntax") false))) (g.part (g.atom (p 23 23 74 77) (g.spelled (k.Name (codes "lit") false))) (g.part (g.list (p 24 34 78 103) (g.part (g.atom (p 25 25 79 91) (g.spelled (k.Name (codes "syntax-rules") false))) (g.part (g.list (p 26 27 92 94) g.none) (g.part (g.list (p 28 33 95 102) (g.part (g.list (p 29 31 96 99) (g.part (g.atom (p 30 30 97 98) (g.spelled (k.Name (codes "_") false))) g.none)) (g.part (g.atom (p 32 32 100 101) (g.spelled (k.Numeral (codes "1")))) g.none))) g.none)))) g.none))))) ∷ ((g.list (p 36 38 105 110) (g.part (g.atom (p 37 37 106 109) (g.spelled (k.Name (codes "lit") false))) g.none))) ∷ [])) ∷ []) ≡ ((q 0 0 1 104 (codes "no import, (scheme base) is used")) ∷ [])
+unfolding base_names standard_libraries prelude encode_utf8
+literal-defined-as-a-macro = refl
+
+pub record-defines-a-name-twice-in-a-body : diagnostic_rows (((s 0 1) ∷ (s 1 7) ∷ (s 8 9) ∷ (s 9 10) ∷ (s 10 11) ∷ (s 12 13) ∷ (s 13 31) ∷ (s 32 33) ∷ (s 34 35) ∷ (s 35 36) ∷ (s 37 38) ∷ (s 38 39) ∷ (s 40 41) ∷ (s 42 43) ∷ (s 43 44) ∷ (s 45 46) ∷ (s 46 47) ∷ (s 47 48) ∷ (s 49 50) ∷ (s 50 51) ∷ []) ∷ []) ((Some (((g.list (p 0 19 0 51) (g.part (g.atom (p 1 1 1 7) (g.spelled (k.Name (codes "define") false))) (g.part (g.list (p 2 4 8 11) (g.part (g.atom (p 3 3 9 10) (g.spelled (k.Name (codes "f") false))) g.none)) (g.part (g.list (p 5 17 12 48) (g.part (g.atom (p 6 6 13 31) (g.spelled (k.Name (codes "define-record-type") false))) (g.part (g.atom (p 7 7 32 33) (g.spelled (k.Name (codes "p") false))) (g.part (g.list (p 8 11 34 39) (g.part (g.atom (p 9 9 35 36) (g.spelled (k.Name (codes "p") false))) (g.part (g.atom (p 10 10 37 38) (g.spelled (k.Name (codes "x") false))) g.none))) (g.part (g.atom (p 12 12 40 41) (g.spelled (k.Name (codes "q") false))) (g.part (g.list (p 13 16 42 47) (g.part (g.atom (p 14 14 43 44) (g.spelled (k.Name (codes "x") false))) (g.part (g.atom (p 15 15 45 46) (g.spelled (k.Name (codes "a") false))) g.none))) g.none)))))) (g.part (g.atom (p 18 18 49 50) (g.spelled (k.Numeral (codes "1")))) g.none)))))) ∷ [])) ∷ []) ≡ ((q 0 0 1 104 (codes "no import, (scheme base) is used")) ∷ (q 0 35 36 42 (codes "duplicate definition p")) ∷ [])
+unfolding base_names standard_libraries prelude encode_utf8
+record-defines-a-name-twice-in-a-body = refl
+
+pub record-defines-a-name-twice : diagnostic_rows (((s 0 1) ∷ (s 1 19) ∷ (s 20 21) ∷ (s 22 23) ∷ (s 23 24) ∷ (s 25 26) ∷ (s 26 27) ∷ (s 28 29) ∷ (s 30 31) ∷ (s 31 32) ∷ (s 33 34) ∷ (s 34 35) ∷ (s 35 36) ∷ []) ∷ []) ((Some (((g.list (p 0 12 0 36) (g.part (g.atom (p 1 1 1 19) (g.spelled (k.Name (codes "define-record-type") false))) (g.part (g.atom (p 2 2 20 21) (g.spelled (k.Name (codes "p") false))) (g.part (g.list (p 3 6 22 27) (g.part (g.atom (p 4 4 23 24) (g.spelled (k.Name (codes "p") false))) (g.part (g.atom (p 5 5 25 26) (g.spelled (k.Name (codes "x") false))) g.none))) (g.part (g.atom (p 7 7 28 29) (g.spelled (k.Name (codes "q") false))) (g.part (g.list (p 8 11 30 35) (g.part (g.atom (p 9 9 31 32) (g.spelled (k.Name (codes "x") false))) (g.part (g.atom (p 10 10 33 34) (g.spelled (k.Name (codes "a") false))) g.none))) g.none))))))) ∷ [])) ∷ []) ≡ ((q 0 0 1 104 (codes "no import, (scheme base) is used")) ∷ (q 0 23 24 42 (codes "duplicate definition p")) ∷ [])
+unfolding base_names standard_libraries prelude encode_utf8
+record-defines-a-name-twice = refl
+
+pub record-defines-what-values-did : diagnostic_rows (((s 0 1) ∷ (s 1 7) ∷ (s 8 9) ∷ (s 9 10) ∷ (s 10 11) ∷ (s 12 13) ∷ (s 13 26) ∷ (s 27 28) ∷ (s 28 29) ∷ (s 30 31) ∷ (s 31 32) ∷ (s 33 34) ∷ (s 34 35) ∷ (s 36 37) ∷ (s 37 55) ∷ (s 56 57) ∷ (s 58 59) ∷ (s 59 61) ∷ (s 62 63) ∷ (s 63 64) ∷ (s 65 66) ∷ (s 67 68) ∷ (s 68 69) ∷ (s 70 71) ∷ (s 71 72) ∷ (s 72 73) ∷ (s 74 75) ∷ (s 75 76) ∷ []) ∷ []) ((Some (((g.list (p 0 27 0 76) (g.part (g.atom (p 1 1 1 7) (g.spelled (k.Name (codes "define") false))) (g.part (g.list (p 2 4 8 11) (g.part (g.atom (p 3 3 9 10) (g.spelled (k.Name (codes "f") false))) g.none)) (g.part (g.list (p 5 12 12 35) (g.part (g.atom (p 6 6 13 26) (g.spelled (k.Name (codes "define-values") false))) (g.part (g.list (p 7 10 27 32) (g.part (g.atom (p 8 8 28 29) (g.spelled (k.Name (codes "a") false))) (g.part (g.atom (p 9 9 30 31) (g.spelled (k.Name (codes "b") false))) g.none))) (g.part (g.atom (p 11 11 33 34) (g.spelled (k.Numeral (codes "1")))) g.none)))) (g.part (g.list (p 13 25 36 73) (g.part (g.atom (p 14 14 37 55) (g.spelled (k.Name (codes "define-record-type") false))) (g.part (g.atom (p 15 15 56 57) (g.spelled (k.Name (codes "r") false))) (g.part (g.list (p 16 19 58 64) (g.part (g.atom (p 17 17 59 61) (g.spelled (k.Name (codes "mk") false))) (g.part (g.atom (p 18 18 62 63) (g.spelled (k.Name (codes "x") false))) g.none))) (g.part (g.atom (p 20 20 65 66) (g.spelled (k.Name (codes "b") false))) (g.part (g.list (p 21 24 67 72) (g.part (g.atom (p 22 22 68 69) (g.spelled (k.Name (codes "x") false))) (g.part (g.atom (p 23 23 70 71) (g.spelled (k.Name (codes "y") false))) g.none))) g.none)))))) (g.part (g.atom (p 26 26 74 75) (g.spelled (k.Numeral (codes "1")))) g.none))))))) ∷ [])) ∷ []) ≡ ((q 0 0 1 104 (codes "no import, (scheme base) is used")) ∷ (q 0 65 66 42 (codes "duplicate definition b")) ∷ [])
+unfolding base_names standard_libraries prelude encode_utf8
+record-defines-what-values-did = refl
+
+pub rules-no-list-in-an-expression : diagnostic_rows (((s 0 1) ∷ (s 1 5) ∷ (s 6 7) ∷ (s 7 20) ∷ (s 21 22) ∷ (s 23 24) ∷ (s 24 25) ∷ (s 25 26) ∷ []) ∷ []) ((Some (((g.list (p 0 7 0 26) (g.part (g.atom (p 1 1 1 5) (g.spelled (k.Name (codes "list") false))) (g.part (g.list (p 2 6 6 25) (g.part (g.atom (p 3 3 7 20) (g.spelled (k.Name (codes "define-syntax") false))) (g.part (g.atom (p 4 4 21 22) (g.spelled (k.Name (codes "x") false))) (g.part (g.atom (p 5 5 23 24) (g.spelled (k.Numeral (codes "5")))) g.none)))) g.none)))) ∷ [])) ∷ []) ≡ ((q 0 0 1 104 (codes "no import, (scheme base) is used")) ∷ (q 0 6 7 31 (codes "bad form")) ∷ [])
+unfolding base_names standard_libraries prelude encode_utf8
+rules-no-list-in-an-expression = refl
+
+pub rules-an-identifier-in-an-expression : diagnostic_rows (((s 0 1) ∷ (s 1 5) ∷ (s 6 7) ∷ (s 7 20) ∷ (s 21 22) ∷ (s 23 24) ∷ (s 24 25) ∷ (s 25 26) ∷ []) ∷ []) ((Some (((g.list (p 0 7 0 26) (g.part (g.atom (p 1 1 1 5) (g.spelled (k.Name (codes "list") false))) (g.part (g.list (p 2 6 6 25) (g.part (g.atom (p 3 3 7 20) (g.spelled (k.Name (codes "define-syntax") false))) (g.part (g.atom (p 4 4 21 22) (g.spelled (k.Name (codes "x") false))) (g.part (g.atom (p 5 5 23 24) (g.spelled (k.Name (codes "y") false))) g.none)))) g.none)))) ∷ [])) ∷ []) ≡ ((q 0 0 1 104 (codes "no import, (scheme base) is used")) ∷ (q 0 6 7 31 (codes "bad form")) ∷ [])
+unfolding base_names standard_libraries prelude encode_utf8
+rules-an-identifier-in-an-expression = refl
+
+pub rules-a-vector-in-an-expression : diagnostic_rows (((s 0 1) ∷ (s 1 5) ∷ (s 6 7) ∷ (s 7 20) ∷ (s 21 22) ∷ (s 23 25) ∷ (s 25 37) ∷ (s 38 39) ∷ (s 39 40) ∷ (s 40 41) ∷ (s 41 42) ∷ (s 42 43) ∷ []) ∷ []) ((Some (((g.list (p 0 11 0 43) (g.part (g.atom (p 1 1 1 5) (g.spelled (k.Name (codes "list") false))) (g.part (g.list (p 2 10 6 42) (g.part (g.atom (p 3 3 7 20) (g.spelled (k.Name (codes "define-syntax") false))) (g.part (g.atom (p 4 4 21 22) (g.spelled (k.Name (codes "x") false))) (g.part (g.vector (p 5 9 23 41) (g.part (g.atom (p 6 6 25 37) (g.spelled (k.Name (codes "syntax-rules") false))) (g.part (g.list (p 7 8 38 40) g.none) g.none))) g.none)))) g.none)))) ∷ [])) ∷ []) ≡ ((q 0 0 1 104 (codes "no import, (scheme base) is used")) ∷ (q 0 6 7 31 (codes "bad form")) ∷ [])
+unfolding base_names standard_libraries prelude encode_utf8
+rules-a-vector-in-an-expression = refl
+
+pub rules-a-list-in-an-expression : diagnostic_rows (((s 0 1) ∷ (s 1 5) ∷ (s 6 7) ∷ (s 7 20) ∷ (s 21 22) ∷ (s 23 24) ∷ (s 24 27) ∷ (s 27 28) ∷ (s 28 29) ∷ (s 29 30) ∷ []) ∷ []) ((Some (((g.list (p 0 9 0 30) (g.part (g.atom (p 1 1 1 5) (g.spelled (k.Name (codes "list") false))) (g.part (g.list (p 2 8 6 29) (g.part (g.atom (p 3 3 7 20) (g.spelled (k.Name (codes "define-syntax") false))) (g.part (g.atom (p 4 4 21 22) (g.spelled (k.Name (codes "x") false))) (g.part (g.list (p 5 7 23 28) (g.part (g.atom (p 6 6 24 27) (g.spelled (k.Name (codes "foo") false))) g.none)) g.none)))) g.none)))) ∷ [])) ∷ []) ≡ ((q 0 0 1 104 (codes "no import, (scheme base) is used")) ∷ (q 0 6 7 33 (codes "definition in expression place")) ∷ [])
+unfolding base_names standard_libraries prelude encode_utf8
+rules-a-list-in-an-expression = refl
+
+pub rules-in-an-expression : diagnostic_rows (((s 0 1) ∷ (s 1 5) ∷ (s 6 7) ∷ (s 7 20) ∷ (s 21 22) ∷ (s 23 24) ∷ (s 24 36) ∷ (s 37 38) ∷ (s 38 39) ∷ (s 40 41) ∷ (s 41 42) ∷ (s 42 43) ∷ (s 43 44) ∷ (s 45 46) ∷ (s 46 47) ∷ (s 47 48) ∷ (s 48 49) ∷ (s 49 50) ∷ []) ∷ []) ((Some (((g.list (p 0 17 0 50) (g.part (g.atom (p 1 1 1 5) (g.spelled (k.Name (codes "list") false))) (g.part (g.list (p 2 16 6 49) (g.part (g.atom (p 3 3 7 20) (g.spelled (k.Name (codes "define-syntax") false))) (g.part (g.atom (p 4 4 21 22) (g.spelled (k.Name (codes "x") false))) (g.part (g.list (p 5 15 23 48) (g.part (g.atom (p 6 6 24 36) (g.spelled (k.Name (codes "syntax-rules") false))) (g.part (g.list (p 7 8 37 39) g.none) (g.part (g.list (p 9 14 40 47) (g.part (g.list (p 10 12 41 44) (g.part (g.atom (p 11 11 42 43) (g.spelled (k.Name (codes "_") false))) g.none)) (g.part (g.atom (p 13 13 45 46) (g.spelled (k.Numeral (codes "1")))) g.none))) g.none)))) g.none)))) g.none)))) ∷ [])) ∷ []) ≡ ((q 0 0 1 104 (codes "no import, (scheme base) is used")) ∷ (q 0 6 7 33 (codes "definition in expression place")) ∷ [])
+unfolding base_names standard_libraries prelude encode_utf8
+rules-in-an-expression = refl
+
+pub rules-no-list-of-equal-names : diagnostic_rows (((s 0 1) ∷ (s 1 11) ∷ (s 12 13) ∷ (s 13 14) ∷ (s 14 15) ∷ (s 16 17) ∷ (s 17 18) ∷ (s 19 20) ∷ (s 20 21) ∷ (s 22 23) ∷ (s 23 24) ∷ (s 24 25) ∷ (s 26 27) ∷ (s 27 28) ∷ []) ∷ []) ((Some (((g.list (p 0 13 0 28) (g.part (g.atom (p 1 1 1 11) (g.spelled (k.Name (codes "let-syntax") false))) (g.part (g.list (p 2 11 12 25) (g.part (g.list (p 3 6 13 18) (g.part (g.atom (p 4 4 14 15) (g.spelled (k.Name (codes "x") false))) (g.part (g.atom (p 5 5 16 17) (g.spelled (k.Numeral (codes "5")))) g.none))) (g.part (g.list (p 7 10 19 24) (g.part (g.atom (p 8 8 20 21) (g.spelled (k.Name (codes "x") false))) (g.part (g.atom (p 9 9 22 23) (g.spelled (k.Numeral (codes "6")))) g.none))) g.none))) (g.part (g.atom (p 12 12 26 27) (g.spelled (k.Numeral (codes "1")))) g.none))))) ∷ [])) ∷ []) ≡ ((q 0 0 1 31 (codes "bad form")) ∷ (q 0 0 1 104 (codes "no import, (scheme base) is used")) ∷ [])
+unfolding base_names standard_libraries prelude encode_utf8
+rules-no-list-of-equal-names = refl
+
+pub rules-one-no-list-of-equal-names : diagnostic_rows (((s 0 1) ∷ (s 1 14) ∷ (s 15 16) ∷ (s 16 17) ∷ (s 17 18) ∷ (s 19 20) ∷ (s 20 23) ∷ (s 23 24) ∷ (s 24 25) ∷ (s 26 27) ∷ (s 27 28) ∷ (s 29 30) ∷ (s 30 31) ∷ (s 31 32) ∷ (s 33 34) ∷ (s 34 35) ∷ []) ∷ []) ((Some (((g.list (p 0 15 0 35) (g.part (g.atom (p 1 1 1 14) (g.spelled (k.Name (codes "letrec-syntax") false))) (g.part (g.list (p 2 13 15 32) (g.part (g.list (p 3 8 16 25) (g.part (g.atom (p 4 4 17 18) (g.spelled (k.Name (codes "x") false))) (g.part (g.list (p 5 7 19 24) (g.part (g.atom (p 6 6 20 23) (g.spelled (k.Name (codes "foo") false))) g.none)) g.none))) (g.part (g.list (p 9 12 26 31) (g.part (g.atom (p 10 10 27 28) (g.spelled (k.Name (codes "x") false))) (g.part (g.atom (p 11 11 29 30) (g.spelled (k.Numeral (codes "6")))) g.none))) g.none))) (g.part (g.atom (p 14 14 33 34) (g.spelled (k.Numeral (codes "1")))) g.none))))) ∷ [])) ∷ []) ≡ ((q 0 0 1 31 (codes "bad form")) ∷ (q 0 0 1 104 (codes "no import, (scheme base) is used")) ∷ [])
+unfolding base_names standard_libraries prelude encode_utf8
+rules-one-no-list-of-equal-names = refl
+
+pub rules-lists-of-equal-names : diagnostic_rows (((s 0 1) ∷ (s 1 11) ∷ (s 12 13) ∷ (s 13 14) ∷ (s 14 15) ∷ (s 16 17) ∷ (s 17 20) ∷ (s 20 21) ∷ (s 21 22) ∷ (s 23 24) ∷ (s 24 25) ∷ (s 26 27) ∷ (s 27 30) ∷ (s 30 31) ∷ (s 31 32) ∷ (s 32 33) ∷ (s 34 35) ∷ (s 35 36) ∷ []) ∷ []) ((Some (((g.list (p 0 17 0 36) (g.part (g.atom (p 1 1 1 11) (g.spelled (k.Name (codes "let-syntax") false))) (g.part (g.list (p 2 15 12 33) (g.part (g.list (p 3 8 13 22) (g.part (g.atom (p 4 4 14 15) (g.spelled (k.Name (codes "x") false))) (g.part (g.list (p 5 7 16 21) (g.part (g.atom (p 6 6 17 20) (g.spelled (k.Name (codes "foo") false))) g.none)) g.none))) (g.part (g.list (p 9 14 23 32) (g.part (g.atom (p 10 10 24 25) (g.spelled (k.Name (codes "x") false))) (g.part (g.list (p 11 13 26 31) (g.part (g.atom (p 12 12 27 30) (g.spelled (k.Name (codes "foo") false))) g.none)) g.none))) g.none))) (g.part (g.atom (p 16 16 34 35) (g.spelled (k.Numeral (codes "1")))) g.none))))) ∷ [])) ∷ []) ≡ ((q 0 0 1 104 (codes "no import, (scheme base) is used")) ∷ (q 0 24 25 32 (codes "duplicate binder x")) ∷ [])
+unfolding base_names standard_libraries prelude encode_utf8
+rules-lists-of-equal-names = refl
+
+pub rules-lists-of-equal-names-recursive : diagnostic_rows (((s 0 1) ∷ (s 1 14) ∷ (s 15 16) ∷ (s 16 17) ∷ (s 17 18) ∷ (s 19 20) ∷ (s 20 23) ∷ (s 23 24) ∷ (s 24 25) ∷ (s 26 27) ∷ (s 27 28) ∷ (s 29 30) ∷ (s 30 33) ∷ (s 33 34) ∷ (s 34 35) ∷ (s 35 36) ∷ (s 37 38) ∷ (s 38 39) ∷ []) ∷ []) ((Some (((g.list (p 0 17 0 39) (g.part (g.atom (p 1 1 1 14) (g.spelled (k.Name (codes "letrec-syntax") false))) (g.part (g.list (p 2 15 15 36) (g.part (g.list (p 3 8 16 25) (g.part (g.atom (p 4 4 17 18) (g.spelled (k.Name (codes "x") false))) (g.part (g.list (p 5 7 19 24) (g.part (g.atom (p 6 6 20 23) (g.spelled (k.Name (codes "foo") false))) g.none)) g.none))) (g.part (g.list (p 9 14 26 35) (g.part (g.atom (p 10 10 27 28) (g.spelled (k.Name (codes "x") false))) (g.part (g.list (p 11 13 29 34) (g.part (g.atom (p 12 12 30 33) (g.spelled (k.Name (codes "bar") false))) g.none)) g.none))) g.none))) (g.part (g.atom (p 16 16 37 38) (g.spelled (k.Numeral (codes "1")))) g.none))))) ∷ [])) ∷ []) ≡ ((q 0 0 1 104 (codes "no import, (scheme base) is used")) ∷ (q 0 27 28 32 (codes "duplicate binder x")) ∷ [])
+unfolding base_names standard_libraries prelude encode_utf8
+rules-lists-of-equal-names-recursive = refl
+
+pub rules-of-another-head-locally : diagnostic_rows (((s 0 1) ∷ (s 1 11) ∷ (s 12 13) ∷ (s 13 14) ∷ (s 14 15) ∷ (s 16 17) ∷ (s 17 20) ∷ (s 20 21) ∷ (s 21 22) ∷ (s 23 24) ∷ (s 24 25) ∷ (s 26 27) ∷ (s 27 39) ∷ (s 39 40) ∷ (s 40 41) ∷ (s 41 42) ∷ (s 43 44) ∷ (s 44 45) ∷ []) ∷ []) ((Some (((g.list (p 0 17 0 45) (g.part (g.atom (p 1 1 1 11) (g.spelled (k.Name (codes "let-syntax") false))) (g.part (g.list (p 2 15 12 42) (g.part (g.list (p 3 8 13 22) (g.part (g.atom (p 4 4 14 15) (g.spelled (k.Name (codes "x") false))) (g.part (g.list (p 5 7 16 21) (g.part (g.atom (p 6 6 17 20) (g.spelled (k.Name (codes "foo") false))) g.none)) g.none))) (g.part (g.list (p 9 14 23 41) (g.part (g.atom (p 10 10 24 25) (g.spelled (k.Name (codes "y") false))) (g.part (g.list (p 11 13 26 40) (g.part (g.atom (p 12 12 27 39) (g.spelled (k.Name (codes "syntax-rules") false))) g.none)) g.none))) g.none))) (g.part (g.atom (p 16 16 43 44) (g.spelled (k.Numeral (codes "1")))) g.none))))) ∷ [])) ∷ []) ≡ ((q 0 0 1 31 (codes "bad form")) ∷ (q 0 0 1 104 (codes "no import, (scheme base) is used")) ∷ [])
+unfolding base_names standard_libraries prelude encode_utf8
+rules-of-another-head-locally = refl
+
+pub rules-no-list : diagnostic_rows (((s 0 1) ∷ (s 1 14) ∷ (s 15 16) ∷ (s 17 18) ∷ (s 18 19) ∷ []) ∷ []) ((Some (((g.list (p 0 4 0 19) (g.part (g.atom (p 1 1 1 14) (g.spelled (k.Name (codes "define-syntax") false))) (g.part (g.atom (p 2 2 15 16) (g.spelled (k.Name (codes "x") false))) (g.part (g.atom (p 3 3 17 18) (g.spelled (k.Numeral (codes "5")))) g.none))))) ∷ [])) ∷ []) ≡ ((q 0 0 1 31 (codes "bad form")) ∷ (q 0 0 1 104 (codes "no import, (scheme base) is used")) ∷ [])
+unfolding base_names standard_libraries prelude encode_utf8
+rules-no-list = refl
+
+pub rules-no-list-in-a-body : diagnostic_rows (((s 0 1) ∷ (s 1 7) ∷ (s 8 9) ∷ (s 9 10) ∷ (s 10 11) ∷ (s 12 13) ∷ (s 13 26) ∷ (s 27 28) ∷ (s 29 30) ∷ (s 30 31) ∷ (s 32 33) ∷ (s 33 34) ∷ []) ∷ []) ((Some (((g.list (p 0 11 0 34) (g.part (g.atom (p 1 1 1 7) (g.spelled (k.Name (codes "define") false))) (g.part (g.list (p 2 4 8 11) (g.part (g.atom (p 3 3 9 10) (g.spelled (k.Name (codes "f") false))) g.none)) (g.part (g.list (p 5 9 12 31) (g.part (g.atom (p 6 6 13 26) (g.spelled (k.Name (codes "define-syntax") false))) (g.part (g.atom (p 7 7 27 28) (g.spelled (k.Name (codes "x") false))) (g.part (g.atom (p 8 8 29 30) (g.spelled (k.Numeral (codes "5")))) g.none)))) (g.part (g.atom (p 10 10 32 33) (g.spelled (k.Numeral (codes "1")))) g.none)))))) ∷ [])) ∷ []) ≡ ((q 0 0 1 104 (codes "no import, (scheme base) is used")) ∷ (q 0 12 13 31 (codes "bad form")) ∷ [])
+unfolding base_names standard_libraries prelude encode_utf8
+rules-no-list-in-a-body = refl
+
+pub rules-of-another-head : diagnostic_rows (((s 0 1) ∷ (s 1 14) ∷ (s 15 16) ∷ (s 17 18) ∷ (s 18 21) ∷ (s 21 22) ∷ (s 22 23) ∷ []) ∷ []) ((Some (((g.list (p 0 6 0 23) (g.part (g.atom (p 1 1 1 14) (g.spelled (k.Name (codes "define-syntax") false))) (g.part (g.atom (p 2 2 15 16) (g.spelled (k.Name (codes "x") false))) (g.part (g.list (p 3 5 17 22) (g.part (g.atom (p 4 4 18 21) (g.spelled (k.Name (codes "foo") false))) g.none)) g.none))))) ∷ [])) ∷ []) ≡ ((q 0 0 1 31 (codes "bad form")) ∷ (q 0 0 1 104 (codes "no import, (scheme base) is used")) ∷ [])
+unfolding base_names standard_libraries prelude encode_utf8
+rules-of-another-head = refl
+
+pub rules-dotted : diagnostic_rows (((s 0 1) ∷ (s 1 14) ∷ (s 15 16) ∷ (s 17 18) ∷ (s 18 30) ∷ (s 31 32) ∷ (s 32 33) ∷ (s 34 35) ∷ (s 36 37) ∷ (s 37 38) ∷ (s 38 39) ∷ []) ∷ []) ((Some (((g.list (p 0 10 0 39) (g.part (g.atom (p 1 1 1 14) (g.spelled (k.Name (codes "define-syntax") false))) (g.part (g.atom (p 2 2 15 16) (g.spelled (k.Name (codes "x") false))) (g.part (g.list (p 3 9 17 38) (g.part (g.atom (p 4 4 18 30) (g.spelled (k.Name (codes "syntax-rules") false))) (g.part (g.list (p 5 6 31 33) g.none) (g.tail (g.atom (p 8 8 36 37) (g.spelled (k.Name (codes "y") false))))))) g.none))))) ∷ [])) ∷ []) ≡ ((q 0 0 1 21 (codes "bad syntax-rules")) ∷ (q 0 0 1 104 (codes "no import, (scheme base) is used")) ∷ [])
+unfolding base_names standard_libraries prelude encode_utf8
+rules-dotted = refl
+
+pub rules-no-list-of-a-keyword : diagnostic_rows (((s 0 1) ∷ (s 1 5) ∷ (s 6 7) ∷ (s 7 8) ∷ (s 9 10) ∷ (s 10 23) ∷ (s 24 28) ∷ (s 29 30) ∷ (s 30 31) ∷ []) ∷ []) ((Some (((g.list (p 0 3 0 8) (g.part (g.atom (p 1 1 1 5) (g.spelled (k.Name (codes "list") false))) (g.part (g.atom (p 2 2 6 7) (g.spelled (k.Numeral (codes "1")))) g.none)))) ∷ ((g.list (p 4 8 9 31) (g.part (g.atom (p 5 5 10 23) (g.spelled (k.Name (codes "define-syntax") false))) (g.part (g.atom (p 6 6 24 28) (g.spelled (k.Name (codes "list") false))) (g.part (g.atom (p 7 7 29 30) (g.spelled (k.Numeral (codes "5")))) g.none))))) ∷ [])) ∷ []) ≡ ((q 0 0 1 104 (codes "no import, (scheme base) is used")) ∷ (q 0 9 10 31 (codes "bad form")) ∷ [])
+unfolding base_names standard_libraries prelude encode_utf8
+rules-no-list-of-a-keyword = refl
