@@ -168,7 +168,7 @@ whole_code TooLarge = 66
 abbrev pub max_units : ℕ
 max_units = 128
 
--- the name by which a unit is known, if it is a library that isn't left out
+-- the name of a library that isn't left out
 abbrev pub name_if : ℕ → UnitSource → Option LibraryName
 name_if place u = if nat_lt place max_units then usable u.forms u.name else None
   where
@@ -180,14 +180,18 @@ abbrev pub is_named : LibraryName → Option LibraryName → Bool
 is_named n None = false
 is_named n (Some m) = same_library m n
 
--- the first unit with a library's name
+-- the name by which a unit is imported: a standard name means the standard library, whatever units have it
+abbrev pub imported_as : ℕ → UnitSource → Option LibraryName
+imported_as place u = unless_standard (name_if place u)
+  where
+    unless_standard : Option LibraryName → Option LibraryName
+    unless_standard None = None
+    unless_standard (Some n) = if is_some (standard n) then None else Some n
+
+-- the unit that a library's name means: the first that is imported by it
 abbrev pub unit_named : LibraryName → ℕ → List Placed → Option ℕ
 unit_named n place [] = None
-unit_named n place (u ∷ us) = if is_named n (name_if place u.source) then Some place else unit_named n (suc place) us
-
--- the unit that a name means; a standard name means the standard library, whatever units have it
-abbrev pub unit_of : LibraryName → List Placed → Option ℕ
-unit_of n us = if is_some (standard n) then None else unit_named n 0 us
+unit_named n place (u ∷ us) = if is_named n (imported_as place u.source) then Some place else unit_named n (suc place) us
 
 abbrev pub forms_or_none : Result (List UnitForm) Datum → List UnitForm
 forms_or_none (Ok fs) = fs
@@ -204,7 +208,7 @@ imported_units us (s ∷ ss) = of_name (library_in s.set) (imported_units us ss)
 
     of_name : Option LibraryName → List ℕ → List ℕ
     of_name None rest = rest
-    of_name (Some n) rest = of_unit (unit_of n us) rest
+    of_name (Some n) rest = of_unit (unit_named n 0 us) rest
 
 -- a unit with what it needs, before anything is expanded
 pub record Prepared : Type 0 where
