@@ -180,13 +180,13 @@ abbrev pub is_named : LibraryName → Option LibraryName → Bool
 is_named n None = false
 is_named n (Some m) = same_library m n
 
+abbrev pub unless_standard : Option LibraryName → Option LibraryName
+unless_standard None = None
+unless_standard (Some n) = if is_some (standard n) then None else Some n
+
 -- the name by which a unit is imported: a standard name means the standard library, whatever units have it
 abbrev pub imported_as : ℕ → UnitSource → Option LibraryName
 imported_as place u = unless_standard (name_if place u)
-  where
-    unless_standard : Option LibraryName → Option LibraryName
-    unless_standard None = None
-    unless_standard (Some n) = if is_some (standard n) then None else Some n
 
 -- the unit that a library's name means: the first that is imported by it
 abbrev pub unit_named : LibraryName → ℕ → List Placed → Option ℕ
