@@ -1,8 +1,9 @@
 -- The second identifiers of the pairs that a set of the code renames by are those of the set that it stands for.
-use Rattle.std.proofs.Common.{◌≡◌, ℕ, List, [], ◌∷◌, ◌++◌, cond, map, Option, Some, None, refl, sym, ap, ◌∙◌}
+use Rattle.std.proofs.Common.{◌≡◌, ℕ, ◌+◌, ◌<◌, List, [], ◌∷◌, ◌++◌, cond, map, length, take, get_or, Option, Some, None, refl, sym, ap, ◌∙◌}
 use Rattle.std.specs.Prelude.{option_to_list}
 use Rattle.std.specs.List.{flat_map}
 use Rattle.std.proofs.lemmas.Grind.{flat_map-append}
+use Rattle.std.proofs.lemmas.List.{take_more, flat_map_more}
 use Rattle.scheme_model.specs.declared.Occ.{Occ}
 use Rattle.scheme_model.specs.ExpansionFaults.{Named}
 use Rattle.scheme_model.specs.Entries.{ImportSet}
@@ -42,3 +43,11 @@ seconds_same code.Bad s h = ap places_in (sym h)
 -- none where the set has no shape
 pub second_places_same : (c : code.ImportSet) (s : ImportSet) → IsSet c s → cond (given.has_bad c) [] (seconds c) ≡ second_places s
 second_places_same c s h = λ j. cond (bad_same c s h j) [] (seconds_same c s h j)
+
+-- ---- pair by pair
+
+pub pairs_more : (old places new : List Occ) (ps : List NamePair) (i : ℕ) (p : NamePair) → i < length ps → p ≡ get_or ps i p → places ≡ old ++ pair_seconds (take i ps) → new ≡ places ++ option_to_list p.to.occ →
+    new ≡ old ++ pair_seconds (take (i + 1) ps)
+pairs_more old places new ps i p lt is before e =
+    e ∙ ap (λ (x : List Occ). x ++ option_to_list p.to.occ) before ∙ flat_map_more (λ (p : NamePair). option_to_list p.to.occ) old (take i ps) p
+    ∙ ap (λ (x : NamePair). old ++ pair_seconds (take i ps ++ x ∷ [])) is ∙ ap (λ (x : List NamePair). old ++ pair_seconds x) (sym (take_more ps i p lt))
