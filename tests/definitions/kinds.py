@@ -100,32 +100,32 @@ def place(p):
     return f"(p {p[0]} {p[1]} {p[2]} {p[3]})"
 
 
-def datum(d, mark=None):
-    """A datum of a row, as a term; the name of an abbreviation has the place of its mark."""
+def datum(d):
+    """A datum of a row, as a term; what an abbreviation implies has the place of its mark."""
     kind, at, *values = d
     if kind in LEAVES:
         if at is None or at[0] is None:
-            return f"(d.atom {place(mark)} (d.implied {SYMBOLS[values[0]]}))"
+            return f"(d.atom {place(next(MARKED))} (d.implied {SYMBOLS[values[0]]}))"
         return f"(d.atom {place(at)} (d.spelled {leaf(kind, values)}))"
     if kind == "bytes":
         return f"(d.bytes {place(at)} ({terms.many(map(terms.text, values[0]))}))"
+    inner = [datum(part) for part in values[0]]
     tail = values[1] if len(values) > 1 else None
     out = "d.none" if tail is None else f"(d.tail {datum(tail)})"
-    # The mark's bytes aren't in a row: they are those of the first token, up to where the scanner of this folder ends it.
-    for part in reversed(values[0]):
-        out = f"(d.part {datum(part, mark_place(at, values[0]))} {out})"
+    for part in reversed(inner):
+        out = f"(d.part {part} {out})"
     return f"(d.{kind} {place(at)} {out})"
 
 
-TOKENS = []
+# The places of the marks of the text at work, which rows don't tell, in the order of what they imply.
+MARKED = iter(())
 
 
-def mark_place(at, items):
-    """The place of a list's first token."""
-    if items and (items[0][1] is None or items[0][1][0] is None):
-        t = TOKENS[at[0]]
-        return (at[0], at[0], t[1], t[2])
-    return None
+def datum_terms(text, data):
+    """The data of a text, as terms."""
+    global MARKED
+    MARKED = iter(reader.mark_places(text))
+    return terms.many([datum(d) for d in data])
 
 
 class Written(Kind):
@@ -160,9 +160,8 @@ HasRow ps ts ds = (w.parts_tokens ps [] ≡ n.number_from 0 ts) × (w.parts_mean
 
     def lemma(self, row):
         _, (items, last) = reader.written(row["text"])
-        TOKENS[:] = [tuple(t) for t in row["tokens"]]
-        told = terms.many(map(token, TOKENS))
-        data = terms.many(datum(d) for d in row["data"])
+        told = terms.many(map(token, row["tokens"]))
+        data = datum_terms(row["text"], row["data"])
         return f"HasRow {parts(items, last)} ({told}) ({data})", "(refl, refl)"
 
 
@@ -423,9 +422,8 @@ def documents(row):
 
 def document_terms(row):
     data, spans = [], []
-    for _, toks, found in documents(row):
-        TOKENS[:] = toks
-        data.append("None" if found is None else f"Some ({terms.many(datum(x) for x in found)})")
+    for uri, toks, found in documents(row):
+        data.append("None" if found is None else f"Some ({datum_terms(row['texts'][uri], found)})")
         spans.append(terms.many(f"s {t[1]} {t[2]}" for t in toks))
     return re.sub(r"\bd\.", "g.", f"({terms.many(data)})"), f"({terms.many(spans)})"
 
@@ -573,8 +571,7 @@ forms_from n (x ∷ xs) = form_of 0 n x ∷ forms_from (suc n) xs
     head = head.replace("use Rattle.scheme_model.specs.Numbered as n\n", "").replace("use Rattle.scheme_model.specs.Written as w\n", "").replace("{◌≡◌, ℕ, true, false,", "{◌≡◌, ℕ, suc, true, false, Option, Some, None,")
 
     def lemma(self, row):
-        TOKENS[:] = [tuple(t) for t in row["tokens"]]
-        data = terms.many(datum(d) for d in row["data"])
+        data = datum_terms(row["text"], row["data"])
         found = reader.data(row["text"])
         trees = terms.many(tree_of(d, n, d[1][0]) for n, d in enumerate(found))
         return f"forms_from 0 ({data}) ≡ ({trees})", "refl"

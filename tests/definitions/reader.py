@@ -334,3 +334,19 @@ def data(text):
     """The data of a text."""
     _, (parts, _) = written(text)
     return [meant(d) for _, d in parts]
+
+
+def marks_in(w):
+    """The places of the marks in a written datum, in reading order; what `#;` skips has none."""
+    if w[0] == "abbreviated":
+        n, start, end = w[1]
+        return [(n, n, start, end)] + marks_in(w[4])
+    if w[0] in ("alone", "byted"):
+        return []
+    return [p for _, d in w[2] for p in marks_in(d)] + (marks_in(w[6]) if w[0] == "tailed" else [])
+
+
+def mark_places(text):
+    """The places of the marks of a text's data, in the order of the identifiers that they imply."""
+    _, (parts, _) = written(text)
+    return [p for _, d in parts for p in marks_in(d)]

@@ -1,36 +1,12 @@
 -- What the fault of a broken form stands for, and what was met in it.
-use Rattle.std.specs.Prelude.{◌≡◌, ℕ, List, Option, Some, None}
+use Rattle.std.specs.Prelude.{◌≡◌, ℕ, Option, Some, None}
 use Rattle.scheme_model.specs.Ident.{Ident as Identifier}
-use Rattle.scheme_model.specs.ExpansionFaults.{Named, Fault, BadRules, TwoEllipses, DuplicateVariable, EllipsisDepth, IdleEllipsis, NoRule, EllipsisLength, BadForm, DuplicateBinder, BadPlace, BadRecord, BadQuasi, KeywordRedefined, Duplicate, KeywordAsValue, UseBudget, NodeBudget, DepthBudget, SyntaxError, IncludeRefused, OutOfTurns, fault_code, fault_name}
+use Rattle.scheme_model.specs.ExpansionFaults.{Named, fault_code, fault_name, error_text}
 use Rattle.scheme_model.specs.Steps.{Broken}
 use Rattle.scheme_model.specs.Diagnostics.{fault_occ}
 use Rattle.syntax_tree.specs.Names.{Names}
 use Rattle.syntax_tree.specs.Macros.{IsIdent}
 use Rattle.core_tree.specs.declared.traces.FormFault as code
-
--- the text of a `syntax-error`
-abbrev pub error_text : {A : Type 0} → Fault A → Option (List ℕ)
-error_text BadRules = None
-error_text TwoEllipses = None
-error_text (DuplicateVariable n) = None
-error_text (EllipsisDepth n) = None
-error_text IdleEllipsis = None
-error_text (NoRule n) = None
-error_text EllipsisLength = None
-error_text BadForm = None
-error_text (DuplicateBinder n) = None
-error_text BadPlace = None
-error_text BadRecord = None
-error_text BadQuasi = None
-error_text (KeywordRedefined n) = None
-error_text (Duplicate n) = None
-error_text (KeywordAsValue n) = None
-error_text UseBudget = None
-error_text NodeBudget = None
-error_text DepthBudget = None
-error_text (SyntaxError text) = Some text
-error_text IncludeRefused = None
-error_text OutOfTurns = None
 
 -- the number of the identifier that a fault names
 abbrev pub IsNamedBy : Names → Option ℕ → Option (Named Identifier) → Type 0

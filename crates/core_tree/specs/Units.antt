@@ -12,7 +12,7 @@ use Rattle.scheme_model.specs.Substitution.{Defined, Table}
 use Rattle.scheme_model.specs.Requirements.{LibraryName}
 use Rattle.scheme_model.specs.Entries.{Entry, ImportFault, NotThere, Clash, BadSet}
 use Rattle.scheme_model.specs.Declarations.{UnitForm, UnitKind, IsLibrary, IsProgram}
-use Rattle.scheme_model.specs.Program.{Placed, Prepared, ImportSpec, ExportSpec, WholeFault, TooMany, BadDeclaration, DefinedTwice, ImportCycle, TooLarge, SetResult, Unknown, Faulty, Gives, ExportFault, NotDefined, SameExport, UnitResult, Program, specs_in, has_name, names_of_unit, max_units}
+use Rattle.scheme_model.specs.Program.{Placed, Prepared, ImportSpec, ExportSpec, WholeFault, whole_code, SetResult, Unknown, Faulty, Gives, ExportFault, NotDefined, SameExport, UnitResult, Program, specs_in, has_name, names_of_unit, max_units}
 use Rattle.scheme_model.specs.Live.{NameUse}
 use Rattle.scheme_model.specs.ProgramArrows.{program_table, unit_names}
 use Rattle.syntax_tree.specs.Names.{Names}
@@ -148,14 +148,10 @@ set_errors ((form, Unknown) ∷ rs) = set_errors rs
 set_errors ((form, Faulty f) ∷ rs) = (import_code f, form) ∷ set_errors rs
 set_errors ((form, Gives es clashes) ∷ rs) = map (λ s. (52, form)) clashes ++ set_errors rs
 
-abbrev pub form_at : Option Occ → ℕ
-form_at None = 0
-form_at (Some o) = o.form
-
 abbrev pub export_errors : List ExportFault → List (ℕ × ℕ)
 export_errors [] = []
-export_errors (NotDefined x ∷ fs) = (64, form_at x.outer.occ) ∷ export_errors fs
-export_errors (SameExport x ∷ fs) = (65, form_at x.outer.occ) ∷ export_errors fs
+export_errors (NotDefined x ∷ fs) = (64, x.form) ∷ export_errors fs
+export_errors (SameExport x ∷ fs) = (65, x.form) ∷ export_errors fs
 
 abbrev pub form_errors : List Formed → List (ℕ × ℕ)
 form_errors [] = []
@@ -164,13 +160,6 @@ form_errors (f ∷ fs) = of_result f.result f.form ++ form_errors fs
     of_result : Result Parts Broken → ℕ → List (ℕ × ℕ)
     of_result (Ok ps) form = []
     of_result (Err e) form = (fault_code e.fault, form) ∷ []
-
-abbrev pub whole_code : WholeFault → ℕ
-whole_code TooMany = 67
-whole_code (BadDeclaration d) = 61
-whole_code DefinedTwice = 63
-whole_code ImportCycle = 62
-whole_code TooLarge = 66
 
 -- the Errors of a unit by code and form: of its import sets, its exports and its forms, or the one by which it is broken
 abbrev pub unit_errors : UnitResult → List (ℕ × ℕ)

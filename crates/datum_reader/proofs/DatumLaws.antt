@@ -13,7 +13,8 @@ use Rattle.scheme_model.specs.Data.{Place, Datum, Data, list, row, part, none, p
 use Rattle.datum_reader.specs.declared.open.Spot.{Spot}
 use Rattle.scheme_model.specs.Numbered.{up_to}
 use Rattle.datum_reader.specs.Open.{abbreviation}
-use Rattle.datum_reader.specs.Views.{spot_of, shape_step, datum_step, placed, shape_of, datum_of, data_of, end_data, chained}
+use Rattle.datum_reader.specs.Views.{shape_step, datum_step, placed, shape_of, datum_of, data_of, end_data}
+use Rattle.datum_reader.specs.OpenViews.{spot_of, chained}
 
 -- a datum is its shape at its place
 pub datum_is : (d : code.Datum) → datum_of d ≡ shape_of d.shape (placed d.first d.last d.span)

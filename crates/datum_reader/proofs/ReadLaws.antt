@@ -2,7 +2,8 @@
 use Rattle.std.proofs.Common.{◌≡◌, ℕ, List, [], ◌∷◌, map, Option, Some, None, Result, Ok, Err, refl, sym, ap, ◌∙◌, subst, MatchResult}
 use Rattle.scheme_model.specs.Kinds.{Token}
 use Rattle.ls_base.specs.declared.places.Span.{Span}
-use Rattle.datum_reader.specs.Views.{tokens_of, data_of, told_of, told_end, bytes_seen, bytes_of, Fails, Gives}
+use Rattle.datum_reader.specs.Views.{tokens_of, data_of, told_of, told_end, bytes_seen, bytes_of}
+use Rattle.datum_reader.specs.OpenViews.{Fails, Gives}
 use Rattle.scheme_tokens.specs.Views.{IsFront}
 use Rattle.scheme_tokens.specs.declared.token.Token as code_token
 use Rattle.scheme_tokens.specs.declared.fault.ReadFault.{ReadFault}

@@ -9,7 +9,8 @@ use Rattle.scheme_model.specs.Data.{Datum}
 use Rattle.scheme_model.specs.Numbered.{Spot}
 use Rattle.scheme_model.specs.Faults.{Stop, stop}
 use Rattle.datum_reader.specs.Open as model
-use Rattle.datum_reader.specs.Views.{spot_of, opener_of, frame_of, stacked, stack_of, told_of, Fails, Refuses}
+use Rattle.datum_reader.specs.Views.{told_of}
+use Rattle.datum_reader.specs.OpenViews.{spot_of, opener_of, frame_of, stacked, stack_of, Fails, Refuses}
 
 pub stacked-push : (below : List model.Frame) (fs : List Frame) (f : Frame) → stacked below (fs ++ f ∷ []) ≡ frame_of f ∷ stacked below fs
 stacked-push below [] f = refl

@@ -9,7 +9,8 @@ use Rattle.scheme_tokens.specs.declared.fault.ReadFault.{ReadFault}
 use Rattle.scheme_tokens.specs.declared.fault.ReadFault.TheVariants as told
 use Rattle.scheme_model.specs.Kinds.{Leaf}
 use Rattle.scheme_tokens.specs.declared.token.Token as code_token
-use Rattle.datum_reader.specs.Views.{kind_of, tokens_of, tail_datum, data_of, spot_of, opener_of, frame_of, stack_of, Fails, Refuses}
+use Rattle.datum_reader.specs.Views.{kind_of, tokens_of, data_of}
+use Rattle.datum_reader.specs.OpenViews.{tail_datum, spot_of, opener_of, frame_of, stack_of, Fails, Refuses}
 use Rattle.scheme_model.specs.Data.{Datum}
 use Rattle.scheme_model.specs.Numbered.{Spot, Numbered, number_from}
 use Rattle.scheme_model.specs.Faults.{Stop, bad_dot}

@@ -4,7 +4,8 @@ use Rattle.scheme_model.specs.Kinds.{Token}
 use Rattle.scheme_tokens.specs.declared.fault.ReadFault.{ReadFault}
 use Rattle.scheme_tokens.specs.declared.fault.ReadFault.TheVariants as faults
 use Rattle.scheme_tokens.specs.declared.token.Token as code_token
-use Rattle.datum_reader.specs.Views.{tokens_of, data_of, told_of, Fails, Gives}
+use Rattle.datum_reader.specs.Views.{tokens_of, data_of, told_of}
+use Rattle.datum_reader.specs.OpenViews.{Fails, Gives}
 use Rattle.scheme_tokens.specs.Views.{IsFront}
 use Rattle.scheme_model.specs.Data.{Datum}
 use Rattle.scheme_model.specs.Faults.{Stop}

@@ -1,7 +1,8 @@
 //! What a parenthesis closes (R7RS 7.1.2).
 ghost use Rattle.std.specs.Prelude.{◌≡◌};
 ghost use Rattle.datum_reader.specs.Open as model;
-ghost use Rattle.datum_reader.specs.Views.{datum_of, tail_datum, data_of, shape_of, spot_of, opener_of, Gives};
+ghost use Rattle.datum_reader.specs.Views.{datum_of, data_of, shape_of};
+ghost use Rattle.datum_reader.specs.OpenViews.{tail_datum, spot_of, opener_of, Gives};
 
 use crate::datum::{Datum, Shape};
 use crate::open::{BAD_DOT, MISSING_DATUM, Opener, Spot, fault};

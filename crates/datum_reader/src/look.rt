@@ -57,22 +57,10 @@ pub fn implied_name(mark: Mark) -> &'static str
     }
 }
 
-/// The symbol of an identifier that was read from a token.
-pub fn symbol_in(datum: &Datum) -> Option<&str>
-    ensures { symbol_now result ≡ symbol_in (datum_of datum.now) }
-{
-    match look_at(datum) {
-        Look::Name(symbol) => Some(symbol),
-        Look::Implied(_) => None,
-        Look::Numeral(_) => None,
-        Look::List(_, _) => None,
-        Look::Other => None,
-    }
-}
-
 /// The symbol of an identifier, also of one that a mark implies.
-pub fn word_in(datum: &Datum) -> Option<&str>
-    ensures { IsWord result (datum_of datum.now) }
+pub fn symbol_in(datum: &Datum) -> Option<&str>
+    ensures symbol { symbol_now result ≡ symbol_in (datum_of datum.now) }
+    ensures word { IsWord result (datum_of datum.now) }
 {
     match look_at(datum) {
         Look::Name(symbol) => Some(symbol),

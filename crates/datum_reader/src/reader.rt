@@ -2,7 +2,8 @@
 ghost use Rattle.std.specs.Prelude.{◌≡◌, ◌⊎◌, ◌^◌, ◌<◌, [], length, List, map, Option, None, Ok, IfOk, IfErr, MatchResult, vec_len};
 ghost use Rattle.std.specs.Str.{chars};
 ghost use Rattle.scheme_model.specs.Kinds as kinds;
-ghost use Rattle.datum_reader.specs.Views.{tokens_of, data_of, spot_of, opener_of, stack_of, state_of, told_of, bytes_seen, bytes_of, Gives};
+ghost use Rattle.datum_reader.specs.Views.{tokens_of, data_of, told_of, bytes_seen, bytes_of};
+ghost use Rattle.datum_reader.specs.OpenViews.{spot_of, opener_of, stack_of, state_of, Gives};
 ghost use Rattle.scheme_model.specs.Data as spec;
 ghost use Rattle.scheme_model.specs.Numbered.{number_from};
 ghost use Rattle.scheme_model.specs.Faults.{Stop};

@@ -2,7 +2,8 @@
 ghost use Rattle.std.specs.Prelude.{◌≡◌, ◌++◌, ℕ, List, [], ◌∷◌, Err, OnOk, IfOk, IsTrue, map};
 ghost use Rattle.std.specs.Str.{chars};
 ghost use Rattle.scheme_model.specs.Kinds.{BytesParen};
-ghost use Rattle.datum_reader.specs.Views.{kind_of, leaf_of, mark_of, datum_of, tail_datum, data_of, spot_of, opener_of, frame_of, stack_of, state_of, Moves, Refuses, IsNumeral};
+ghost use Rattle.datum_reader.specs.Views.{kind_of, leaf_of, mark_of, datum_of, data_of};
+ghost use Rattle.datum_reader.specs.OpenViews.{tail_datum, spot_of, opener_of, frame_of, stack_of, state_of, Moves, Refuses, IsNumeral};
 ghost use Rattle.scheme_model.specs.Data.{Datum as DatumTree, list, atom as atom_datum, spelled, implied, row, none};
 ghost use Rattle.datum_reader.specs.Open as model;
 

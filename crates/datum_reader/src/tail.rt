@@ -2,7 +2,8 @@
 ghost use Rattle.std.specs.Prelude.{◌≡◌, IfOk};
 ghost use Rattle.scheme_model.specs.Data.{Data, list, row, tail, tail_of};
 ghost use Rattle.datum_reader.specs.Open as model;
-ghost use Rattle.datum_reader.specs.Views.{data_of, datum_of, shape_of, placed, spot_of, chained, rest_data, tail_datum};
+ghost use Rattle.datum_reader.specs.Views.{data_of, datum_of, shape_of, placed};
+ghost use Rattle.datum_reader.specs.OpenViews.{spot_of, chained, rest_data, tail_datum};
 
 use crate::datum::{Datum, Shape};
 use crate::open::Spot;

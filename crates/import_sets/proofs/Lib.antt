@@ -3,6 +3,7 @@ mod OriginLaws  -- Origins of the code, put together, stand for origins put toge
 pub mod EntryLaws  -- What modifiers make of entries of the code stands for what they make of the entries
 pub mod GatherLaws  -- Entries of the code, put together, stand for the entries put together; and where a name stands among them
 pub mod SetLaws  -- What an import set of the code gives stands for what the import set gives
+pub mod SecondLaws  -- The second identifiers of the pairs that a set of the code renames by are those of the set that it stands for
 pub mod NameLaws  -- Sets of names, and the first name that isn't in one
 mod PlaceLaws  -- The place of a name among entries that are put together, and what an entry more does there
 mod KeyLaws  -- Sets of origins by their keys

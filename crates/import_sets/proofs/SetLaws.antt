@@ -88,7 +88,7 @@ rename_answers names apart ps es ds h =
 
 -- ---- sets
 
-bad_same : (c : code.ImportSet) (s : ImportSet) → IsSet c s → given.has_bad c ≡ has_bad s
+pub bad_same : (c : code.ImportSet) (s : ImportSet) → IsSet c s → given.has_bad c ≡ has_bad s
 bad_same (code.Library t) s h = ap has_bad (sym h.1.0)
 bad_same (code.Only' p c ns) s h = bad_same c h.0 h.1.1 ∙ ap has_bad (sym h.1.0)
 bad_same (code.Except' p c ns) s h = bad_same c h.0 h.1.1 ∙ ap has_bad (sym h.1.0)

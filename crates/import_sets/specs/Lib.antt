@@ -1,5 +1,6 @@
 pub mod Sets  -- What the import sets of the code are, and what a call on them answers (R7RS 5.2)
 pub mod Given  -- What an import set gives, over the entries of the code
+pub mod Seconds  -- The places of the second identifiers of the pairs that a set of the code renames by
 pub mod GatheringSeen  -- What is gathered, as a list of entries and a list of names
 pub mod Firsts  -- The first place of each name
 pub mod Graphs  -- The units by their places, each with the places of what it imports; what is marked of them, and what is open

@@ -5,7 +5,7 @@ use Rattle.std.specs.Option.{option_map}
 use Rattle.std.proofs.lemmas.List.{take_more}
 use Rattle.std.proofs.lemmas.List.Concat.{flat_map-append}
 use Rattle.scheme_model.specs.Requirements.{LibraryName}
-use Rattle.scheme_model.specs.Program.{Placed, Prepared, prepared, prepare, is_in, reached, on_circle, name_if}
+use Rattle.scheme_model.specs.Program.{Placed, Prepared, prepared, prepare, is_in, reached, on_circle, imported_as}
 use Rattle.library_table.specs.declared.units.UnitSource as code
 use Rattle.library_table.specs.Sources.{AreUnitsFrom, AreUnits}
 use Rattle.library_table.specs.Orders.{with_imports, circles, name_before, names_of}
@@ -82,7 +82,7 @@ names_from spelled ps numbered all cs (d ∷ ds) (v ∷ vs) k h named stand =
     none_more : (k : ℕ) → k ≡ k + 0
     none_more k = omega arith
 
-    own : name_at cs k ≡ option_map spelled (name_if k v.source)
+    own : name_at cs k ≡ option_map spelled (imported_as k v.source)
     own = ap (name_at cs) (none_more k) ∙ named 0 ∙ h.0.name
 
     go : (b : Bool) → is_circular ps k ≡ b → on_circle ps (prepared all k v) ≡ is_circular ps k →
@@ -90,7 +90,7 @@ names_from spelled ps numbered all cs (d ∷ ds) (v ∷ vs) k h named stand =
         names_at cs (passing_from (is_circular ps) k (suc (length vs))) ≡ map spelled (names_of (filter (on_circle ps) (prepare all k (v ∷ vs))))
     go true p same rest =
         rw (p, same ∙ p)
-        ((λ j. as_list (own j) ++ rest j) ∙ named_list spelled (name_if k v.source) (names_of (filter (on_circle ps) (prepare all (suc k) vs))))
+        ((λ j. as_list (own j) ++ rest j) ∙ named_list spelled (imported_as k v.source) (names_of (filter (on_circle ps) (prepare all (suc k) vs))))
     go false p same rest = rw (p, same ∙ p) rest
 
 pub names_on_circles : (spelled : LibraryName → List ℕ) (cs : List code.UnitSource) (us : List Placed) → AreUnits spelled cs us →

@@ -86,9 +86,9 @@ specs_numbered unit n [] = refl
 specs_numbered unit n (f ∷ fs) = ap (λ (x : List model.ImportSpec). specs_in unit n (form_of f) ++ x) (specs_numbered unit (suc n) fs)
 
 -- the exports of a form
-pub exports_each : (unit form first n : ℕ) (ds : List code.Datum) → exports_with unit form first (data_of ds) ≡ numbered (λ k d. export_of (plain (placed_in unit form first) (datum_of d))) n ds
+pub exports_each : (unit form first n : ℕ) (ds : List code.Datum) → exports_with unit form first (data_of ds) ≡ numbered (λ k d. export_of form (plain (placed_in unit form first) (datum_of d))) n ds
 exports_each unit form first n [] = refl
-exports_each unit form first n (d ∷ ds) = ap (λ (x : List model.ExportSpec). export_of (plain (placed_in unit form first) (datum_of d)) ++ x) (exports_each unit form first (suc n) ds)
+exports_each unit form first n (d ∷ ds) = ap (λ (x : List model.ExportSpec). export_of form (plain (placed_in unit form first) (datum_of d)) ++ x) (exports_each unit form first (suc n) ds)
 
 -- the exports of a unit
 pub exports_numbered : (unit n : ℕ) (fs : List code_form.UnitForm) → exports_from unit n (forms_of fs) ≡ numbered (λ k f. exports_in unit k (form_of f)) n fs

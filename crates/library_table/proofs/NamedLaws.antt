@@ -5,7 +5,7 @@ use Rattle.std.specs.Option.{option_map}
 use Rattle.std.proofs.lemmas.List.{drop_more}
 use Rattle.std.specs.Str.{bytes_eq}
 use Rattle.scheme_model.specs.Requirements.{LibraryName, LibraryPart, Symbol, Digits, same_part, same_library}
-use Rattle.scheme_model.specs.Program.{Placed, name_if, is_named, unit_named}
+use Rattle.scheme_model.specs.Program.{Placed, imported_as, is_named, unit_named}
 use Rattle.syntax_tree.proofs.InternLaws.{bytes_told, bytes_itself}
 use Rattle.syntax_tree.proofs.TestLaws.{and_true}
 use Rattle.import_sets.proofs.ReachLaws.{same_test}
@@ -57,8 +57,8 @@ place_same spelled tells n k (c ∷ cs) [] h = absurd h
 place_same spelled tells n k (c ∷ cs) (u ∷ us) h =
     (λ j. cond (here j) (Some k) (place_same spelled tells n (suc k) cs us h.1 j))
   where
-    here : is_name (spelled n) c.name ≡ is_named n (name_if k u.source)
-    here = ap (is_name (spelled n)) h.0.name ∙ name_same spelled tells n (name_if k u.source)
+    here : is_name (spelled n) c.name ≡ is_named n (imported_as k u.source)
+    here = ap (is_name (spelled n)) h.0.name ∙ name_same spelled tells n (imported_as k u.source)
 
 -- ---- names that stand twice
 
@@ -102,8 +102,8 @@ repeated_rest spelled tells cs us h place (d ∷ ds) [] k = absurd k
 repeated_rest spelled tells cs us h place (d ∷ ds) (v ∷ vs) k =
     (λ j. cond (here j) (place ∷ repeated_rest spelled tells cs us h (suc place) ds vs k.1 j) (repeated_rest spelled tells cs us h (suc place) ds vs k.1 j))
   where
-    here : is_later (λ s. place_named s 0 cs) place d.name ≡ is_repeated_name us place (name_if place v.source)
-    here = ap (is_later (λ s. place_named s 0 cs) place) k.0.name ∙ later_same spelled tells cs us h place (name_if place v.source)
+    here : is_later (λ s. place_named s 0 cs) place d.name ≡ is_repeated_name us place (imported_as place v.source)
+    here = ap (is_later (λ s. place_named s 0 cs) place) k.0.name ∙ later_same spelled tells cs us h place (imported_as place v.source)
 
 pub repeated_same : (spelled : LibraryName → List ℕ) → TellsNames spelled → (cs : List code.UnitSource) (us : List Placed) → AreUnits spelled cs us → later_from cs 0 cs ≡ repeated_places us
 repeated_same spelled tells cs us h = repeated_rest spelled tells cs us h 0 cs us h

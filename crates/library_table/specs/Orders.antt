@@ -1,7 +1,7 @@
 -- The order of units, each after what it imports, and the libraries that import one another in a circle (R7RS 5.6).
 use Rattle.std.specs.Prelude.{◌≡◌, ◌≢◌, ℕ, ◌<◌, List, [], ◌∷◌, ◌++◌, map, filter, length, slice_get, true, false, Option, Some, None, Result, Ok, Err}
 use Rattle.scheme_model.specs.Requirements.{LibraryName}
-use Rattle.scheme_model.specs.Program.{Placed, Prepared, prepare, is_in, on_circle, name_if, UnitResult, fault_before}
+use Rattle.scheme_model.specs.Program.{Placed, Prepared, prepare, is_in, on_circle, imported_as, UnitResult, fault_before}
 use Rattle.import_sets.specs.InTurn.{in_turn, ComesAfter}
 use Rattle.library_table.specs.declared.fault.LibraryFault.{LibraryFault}
 use Rattle.library_table.specs.declared.fault.LibraryFault.TheVariants as fault
@@ -23,7 +23,7 @@ name_before (Some n) ns = n ∷ ns
 -- the names of the libraries among units
 abbrev pub names_of : List Prepared → List LibraryName
 names_of [] = []
-names_of (p ∷ ps) = name_before (name_if p.number p.placed.source) (names_of ps)
+names_of (p ∷ ps) = name_before (imported_as p.number p.placed.source) (names_of ps)
 
 -- ---- turns
 

@@ -2,7 +2,7 @@
 use Rattle.std.specs.Prelude.{◌≡◌, ℕ, suc, List, [], ◌∷◌, not}
 use Rattle.std.specs.Option.{option_map}
 use Rattle.scheme_model.specs.Requirements.{LibraryName}
-use Rattle.scheme_model.specs.Program.{Placed, ImportSpec, ExportSpec, name_if, forms_or_none, specs_from, exports_from}
+use Rattle.scheme_model.specs.Program.{Placed, ImportSpec, ExportSpec, imported_as, forms_or_none, specs_from, exports_from}
 use Rattle.scheme_model.specs.Declarations.{UnitSource}
 use Rattle.import_sets.specs.Sets.{named, IsSetOf}
 use Rattle.import_sets.specs.Given.{same_place}
@@ -25,6 +25,7 @@ AreImports spelled (c ∷ cs) (s ∷ ss) = IsImport spelled c s × AreImports sp
 
 -- an export stands under another name where its two identifiers stand at two places
 pub record IsExport (c : code_export.ExportSpec) (x : ExportSpec) : Type 0 where
+  pub form : c.form ≡ x.form
   pub inner : named c.inner ≡ x.inner
   pub outer : named c.outer ≡ x.outer
   pub renamed : not (same_place c.inner.occ c.outer.occ) ≡ x.renamed
@@ -35,9 +36,9 @@ AreExports [] (x ∷ xs) = ⊥
 AreExports (c ∷ cs) [] = ⊥
 AreExports (c ∷ cs) (x ∷ xs) = IsExport c x × AreExports cs xs
 
--- the unit at a place; where it doesn't come into question as a library, the code's unit has no name
+-- the unit at a place; where no one imports it by a name, the code's unit has none
 pub record IsUnit (spelled : LibraryName → List ℕ) (place : ℕ) (c : code.UnitSource) (u : UnitSource) : Type 0 where
-  pub name : c.name ≡ option_map spelled (name_if place u)
+  pub name : c.name ≡ option_map spelled (imported_as place u)
   pub imports : AreImports spelled c.imports (specs_from place 0 (forms_or_none u.forms))
   pub exports : AreExports c.exports (exports_from place 0 (forms_or_none u.forms))
 

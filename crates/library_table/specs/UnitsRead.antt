@@ -54,8 +54,9 @@ named_in (atom_tree a o) = None
 named_in (list_tree ts end o) = None
 named_in (vector_tree ts o) = None
 
--- an export's two identifiers
+-- an export's form and its two identifiers
 pub record IsExportRead (c : code_export.ExportSpec) (x : ExportSpec) : Type 0 where
+  pub form : c.form ≡ x.form
   pub inner : named c.inner ≡ x.inner
   pub outer : named c.outer ≡ x.outer
 

@@ -9,11 +9,12 @@ ghost use Rattle.datum_reader.specs.Looks.{tree_at, trees_at};
 ghost use Rattle.datum_reader.specs.Forms.{place};
 ghost use Rattle.library_table.specs.UnitsRead.{form_of, forms_of, named_in, AddsExports, AreExportsRead, IsExportOf};
 
+use crate::declared::is_export;
 use crate::names::name_of;
 use crate::parts::number_of;
 use crate::units::{ExportSpec, UnitForm};
 use datum_reader::Datum;
-use datum_reader::heads::{behind_first, is_headed};
+use datum_reader::heads::behind_first;
 use datum_reader::look::{Look, Row, look_at, row_of};
 use datum_reader::shape_fault::ShapeFault;
 use datum_reader::start::Start;
@@ -22,14 +23,18 @@ use ls_base::{Items, Mem, Memory};
 use std::alloc::Global;
 
 /// An identifier that is exported as it is.
-fn itself(name: SetName) -> Mem<ExportSpec>
-    ensures { IfOk result (λ spec. (spec.inner ≡ name) × (spec.outer ≡ name)) }
+fn itself(form: u32, name: SetName) -> Mem<ExportSpec>
+    ensures { IfOk result (λ spec. (spec.form ≡ form) × (spec.inner ≡ name) × (spec.outer ≡ name)) }
 {
     let inner = SetName {
         name: name.name.clone()?,
         occ: name.occ,
     };
-    Ok(ExportSpec { inner, outer: name })
+    Ok(ExportSpec {
+        form,
+        inner,
+        outer: name,
+    })
 }
 
 /// An identifier, if a datum is one.
@@ -45,7 +50,7 @@ fn name_if(alloc: Global, datum: &Datum, start: Start) -> Mem<Option<SetName>>
 
 /// The export that a part of an export declaration is.
 fn export_of(alloc: Global, datum: &Datum, start: Start) -> Mem<Option<ExportSpec>>
-    ensures { IfOk result (λ spec. IsExportOf spec (export_of (tree_at (place start) datum.now))) }
+    ensures { IfOk result (λ spec. IsExportOf spec (export_of start.form (tree_at (place start) datum.now))) }
 {
     match look_at(datum) {
         Look::List(parts, _) => renamed_export(alloc, parts, start),
@@ -58,17 +63,17 @@ fn export_of(alloc: Global, datum: &Datum, start: Start) -> Mem<Option<ExportSpe
 
 /// An identifier as an export.
 fn plain_export(alloc: Global, datum: &Datum, start: Start) -> Mem<Option<ExportSpec>>
-    ensures { IfOk result (λ spec. (s : List ℕ) (o : Option Occ) → tree_at (place start) datum.now ≡ name_tree s o → IsExportOf spec (export_of (name_tree s o))) }
+    ensures { IfOk result (λ spec. (s : List ℕ) (o : Option Occ) → tree_at (place start) datum.now ≡ name_tree s o → IsExportOf spec (export_of start.form (name_tree s o))) }
 {
     match name_if(alloc, datum, start)? {
         None => Ok(None),
-        Some(name) => Ok(Some(itself(name)?)),
+        Some(name) => Ok(Some(itself(start.form, name)?)),
     }
 }
 
 /// An export under another name, by the parts of its list.
 fn renamed_export(alloc: Global, parts: &[Datum], start: Start) -> Mem<Option<ExportSpec>>
-    ensures { IfOk result (λ spec. (end : Tail (List ℕ)) (o : Option Occ) → IsExportOf spec (export_of (list_tree (trees_at (place start) parts.now) end o))) }
+    ensures { IfOk result (λ spec. (end : Tail (List ℕ)) (o : Option Occ) → IsExportOf spec (export_of start.form (list_tree (trees_at (place start) parts.now) end o))) }
 {
     match row_of(parts) {
         Row::Empty => Ok(None),
@@ -85,7 +90,7 @@ fn renamed_export(alloc: Global, parts: &[Datum], start: Start) -> Mem<Option<Ex
 /// An export by its two identifiers.
 fn two_names(alloc: Global, inner: &Datum, outer: &Datum, start: Start) -> Mem<Option<ExportSpec>>
     ensures { IfOk result (λ spec. (r : Tree (List ℕ)) (ts : Trees (List ℕ)) (end : Tail (List ℕ)) (o : Option Occ) →
-        IsExportOf spec (export_of (list_tree (tree r (tree (tree_at (place start) inner.now) (tree (tree_at (place start) outer.now) ts))) end o))) }
+        IsExportOf spec (export_of start.form (list_tree (tree r (tree (tree_at (place start) inner.now) (tree (tree_at (place start) outer.now) ts))) end o))) }
 {
     let Some(inner) = name_if(alloc, inner, start)? else {
         return Ok(None);
@@ -93,7 +98,8 @@ fn two_names(alloc: Global, inner: &Datum, outer: &Datum, start: Start) -> Mem<O
     let Some(outer) = name_if(alloc, outer, start)? else {
         return Ok(None);
     };
-    Ok(Some(ExportSpec { inner, outer }))
+    let form = start.form;
+    Ok(Some(ExportSpec { form, inner, outer }))
 }
 
 /// Adds an export, if there is one.
@@ -127,10 +133,7 @@ fn add_exports(
 ) -> Mem<()>
     ensures { OnOk result (AddsExports specs.old specs.new (exports_in unit number (form_of form.now))) }
 {
-    if !form.declared {
-        return Ok(());
-    }
-    if !is_headed("export", &form.datum) {
+    if !is_export(form) {
         return Ok(());
     }
     let start = Start {

@@ -120,7 +120,7 @@ fn is_export_part(datum: &Datum) -> bool
 {
     match look_at(datum) {
         Look::Name(_) => true,
-        Look::Implied(_) => false,
+        Look::Implied(_) => true,
         Look::Numeral(_) => false,
         Look::List(parts, dotted) => is_headed("rename", datum) && is_rename(parts, dotted),
         Look::Other => false,

@@ -3,6 +3,7 @@
 #![tactic(auto)]
 
 mod circles;
+pub mod declared;
 mod export_specs;
 mod exported;
 pub mod exporting;

@@ -9,10 +9,11 @@ ghost use Rattle.datum_reader.specs.Looks.{end_with};
 ghost use Rattle.datum_reader.specs.FirstTokens.{first_token, opening, list_token};
 ghost use Rattle.library_table.specs.UnitsRead.{form_of, forms_of, AddsSpecs, AreSpecs};
 
+use crate::declared::is_import;
 use crate::sets::spec_of;
 use crate::units::{ImportSpec, UnitForm};
 use datum_reader::Datum;
-use datum_reader::heads::{behind_first, is_headed};
+use datum_reader::heads::behind_first;
 use datum_reader::start::Start;
 use ls_base::{Items, Mem, Memory};
 use std::alloc::Global;
@@ -38,10 +39,7 @@ fn add_imports(
 ) -> Mem<()>
     ensures { OnOk result (AddsSpecs specs.old specs.new (specs_in unit number (form_of form.now))) }
 {
-    if !form.declared {
-        return Ok(());
-    }
-    if !is_headed("import", &form.datum) {
+    if !is_import(form) {
         return Ok(());
     }
     let start = Start {

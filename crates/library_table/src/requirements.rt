@@ -9,7 +9,7 @@ ghost use Rattle.library_table.specs.Chosen.{library_holds, connective_named, wo
 
 use crate::library_names::library_name;
 use datum_reader::Datum;
-use datum_reader::look::{Look, Row, look_at, row_of, word_in};
+use datum_reader::look::{Look, Row, look_at, row_of, symbol_in};
 use datum_reader::shape_fault::ShapeFault;
 use std::alloc::Global;
 use std::collections::BTreeSet;
@@ -106,7 +106,7 @@ fn list_holds(
     }
     match row_of(parts) {
         Row::Empty => Err(ShapeFault::BadForm),
-        Row::Parts(head, rest) => match word_in(head) {
+        Row::Parts(head, rest) => match symbol_in(head) {
             None => Err(ShapeFault::BadForm),
             Some(word) => word_holds(alloc, known, word, rest),
         },
@@ -204,7 +204,7 @@ pub fn clause_holds(
 fn is_else(datum: &Datum) -> bool
     ensures { (place : ℕ → Occ) → result ≡ is_else (λ s. s) (tree_at place datum.now) }
 {
-    match word_in(datum) {
+    match symbol_in(datum) {
         None => false,
         Some(word) => word == "else",
     }

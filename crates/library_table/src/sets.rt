@@ -18,7 +18,7 @@ use crate::names::{names_in, only_name, pairs_in};
 use crate::units::ImportSpec;
 use datum_reader::Datum;
 use datum_reader::heads::{is_list, second_or_itself};
-use datum_reader::look::{Look, Row, look_at, row_of, word_in};
+use datum_reader::look::{Look, Row, look_at, row_of, symbol_in};
 use datum_reader::shape_fault::ShapeFault;
 use datum_reader::start::Start;
 use import_sets::ImportSet;
@@ -78,7 +78,7 @@ fn modified_in(parts: &[Datum]) -> Option<Modified<'_>>
         Row::Empty => None,
         Row::Parts(head, behind) => match row_of(behind) {
             Row::Empty => None,
-            Row::Parts(inner, rest) => modified_by(modifier_named(word_in(head)), inner, rest),
+            Row::Parts(inner, rest) => modified_by(modifier_named(symbol_in(head)), inner, rest),
         },
     }
 }

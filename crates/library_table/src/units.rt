@@ -14,10 +14,11 @@ pub struct ImportSpec {
     pub library: Span,
 }
 
-/// An export: the identifier inside, and the one under which the library gives it. An identifier that is exported as it is
-/// stands for both, so the two have one place.
+/// An export: the form that it stands in, the identifier inside, and the one under which the library gives it. An identifier
+/// that is exported as it is stands for both, so the two have one place.
 #[derive(Debug, Drop)]
 pub struct ExportSpec {
+    pub form: u32,
     pub inner: SetName,
     pub outer: SetName,
 }

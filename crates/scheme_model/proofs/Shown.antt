@@ -16,7 +16,7 @@ use Rattle.scheme_model.specs.Substitution.{State, model}
 use Rattle.scheme_model.specs.ScopedExpansion.{ScopedState, scoped}
 use Rattle.scheme_model.specs.UnitExpansion.{Formed, unit}
 use Rattle.scheme_model.specs.Declarations.{UnitForm}
-use Rattle.scheme_model.specs.Program.{Document, UnitResult, WholeFault, TooMany, BadDeclaration, DefinedTwice, ImportCycle, TooLarge, program_of, units_of}
+use Rattle.scheme_model.specs.Program.{Document, UnitResult, WholeFault, whole_code, program_of, units_of}
 use Rattle.scheme_model.specs.ProgramArrows.{arrows_of}
 use Rattle.scheme_model.specs.Spelling.{Link, links_of, class_of, prefixes_of}
 use Rattle.scheme_model.specs.Diagnostics.{Span, Bytes, bytes_of, Diagnostic, diagnostics_of}
@@ -186,13 +186,6 @@ pub record UnitRow : Type 0 where
   pub broken : Option ℕ
   pub forms : List FormRow
 
-abbrev whole_code : WholeFault → ℕ
-whole_code TooMany = 67
-whole_code (BadDeclaration d) = 61
-whole_code DefinedTwice = 63
-whole_code ImportCycle = 62
-whole_code TooLarge = 66
-
 abbrev broken_code : Option WholeFault → Option ℕ
 broken_code None = None
 broken_code (Some f) = Some (whole_code f)
@@ -218,7 +211,7 @@ formed_row unit form (f ∷ fs) = if f.form == form then unit_row unit form f.re
 
 abbrev all_rows : ℕ → ℕ → List UnitForm → List Formed → List FormRow
 all_rows unit form [] fs = []
-all_rows unit form (u ∷ us) fs = (if u.declared then empty_row else formed_row unit form fs) ∷ all_rows unit (suc form) us fs
+all_rows unit form (u ∷ us) fs = formed_row unit form fs ∷ all_rows unit (suc form) us fs
 
 abbrev rows_of_unit : UnitResult → UnitRow
 rows_of_unit r = record { broken = broken_code r.fault; forms = unless_broken r.fault (all_rows r.unit.number 0 r.unit.forms r.forms) }

@@ -4,7 +4,7 @@ use Rattle.std.specs.Option.{is_some}
 use Rattle.std.specs.Str.{bytes_eq, encode_utf8_all}
 use Rattle.scheme_model.specs.Kinds.{Leaf, Name, Numeral, Quoted, Character, Truth}
 use Rattle.scheme_model.specs.Data.{Atom, spelled, implied, Datum, atom, list, vector, bytes, Data, none, part, tail, Place, place_of}
-use Rattle.scheme_model.specs.DataTrees.{tree_of}
+use Rattle.scheme_model.specs.DataTrees.{mark_symbol, tree_of}
 use Rattle.scheme_model.specs.Trees.{Tree, Trees, no_trees, tree}
 use Rattle.scheme_model.specs.ExpansionFaults.{Fault}
 use Rattle.scheme_model.specs.Requirements.{LibraryName, Known, library_name_of, clause_holds}
@@ -18,9 +18,10 @@ leaf_symbol (Quoted text) = None
 leaf_symbol (Character c) = None
 leaf_symbol (Truth b) = None
 
+-- what a mark implies is an identifier as any other
 abbrev pub atom_symbol : Atom → Option (List ℕ)
 atom_symbol (spelled leaf) = leaf_symbol leaf
-atom_symbol (implied mark) = None
+atom_symbol (implied mark) = Some (mark_symbol mark)
 
 -- the symbol that a datum is
 abbrev pub symbol_in : Datum → Option (List ℕ)

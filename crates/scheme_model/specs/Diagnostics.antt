@@ -1,9 +1,10 @@
--- The diagnostics of a program: each with its number, the bytes of its document and its text.
-use Rattle.std.specs.Prelude.{ℕ, zero, suc, ◌+◌, ◌==◌, nat_lt, List, [], ◌∷◌, ◌++◌, Bool, true, false, not, ◌&&◌, ◌||◌, Option, Some, None, Result, Ok, Err, codes, if◌then◌else◌}
+-- The diagnostics of a program: each with its code, the bytes of its document and its text.
+use Rattle.std.specs.Prelude.{ℕ, zero, suc, ◌+◌, ◌==◌, nat_lt, List, [], ◌∷◌, ◌++◌, Bool, true, false, not, ◌&&◌, ◌||◌, Option, Some, None, Result, Ok, Err, if◌then◌else◌}
+use Rattle.std.specs.List.{list_any}
 use Rattle.scheme_model.specs.declared.Occ.{Occ}
 use Rattle.scheme_model.specs.Ident.{Ident, Written, Inserted, symbol_of}
 use Rattle.scheme_model.specs.Data.{Datum, place_of}
-use Rattle.scheme_model.specs.ExpansionFaults.{Named, Fault, fault_code, fault_name, BadRules, TwoEllipses, DuplicateVariable, EllipsisDepth, IdleEllipsis, NoRule, EllipsisLength, BadForm, DuplicateBinder, BadPlace, BadRecord, BadQuasi, KeywordRedefined, Duplicate, KeywordAsValue, UseBudget, NodeBudget, DepthBudget, SyntaxError, IncludeRefused, OutOfTurns}
+use Rattle.scheme_model.specs.ExpansionFaults.{Named, Fault, fault_code, fault_name, error_text}
 use Rattle.scheme_model.specs.Meaning.{Meaning, Local, Global, Standard, Free}
 use Rattle.scheme_model.specs.Cores.{Target, Parts}
 use Rattle.scheme_model.specs.Steps.{Broken}
@@ -11,7 +12,8 @@ use Rattle.scheme_model.specs.UnitExpansion.{Formed}
 use Rattle.scheme_model.specs.Substitution.{Table}
 use Rattle.scheme_model.specs.Entries.{Entry, entry_at, ImportFault, NotThere, Clash, BadSet, is_below}
 use Rattle.scheme_model.specs.Declarations.{UnitForm}
-use Rattle.scheme_model.specs.Program.{Prepared, UnitResult, Program, ImportSpec, WholeFault, TooMany, BadDeclaration, DefinedTwice, ImportCycle, TooLarge, SetResult, Unknown, Faulty, Gives, ExportFault, NotDefined, SameExport, imports_nothing}
+use Rattle.scheme_model.specs.Program.{Prepared, UnitResult, Program, ImportSpec, ExportSpec, WholeFault, TooMany, BadDeclaration, DefinedTwice, ImportCycle, TooLarge, SetResult, Unknown, Faulty, Gives, ExportFault, NotDefined, SameExport, whole_code, result_at, imports_nothing}
+use Rattle.scheme_model.specs.DiagnosticTexts.{worded}
 use Rattle.scheme_model.specs.Live.{CoreLeaf, Binds, Uses, Assigns, Quotes, Defines, unit_leaves}
 
 pub record Diagnostic : Type 0 where
@@ -38,10 +40,6 @@ spans_at [] n = []
 spans_at (s ∷ ss) zero = s
 spans_at (s ∷ ss) (suc n) = spans_at ss n
 
-abbrev pub unit_at : List UnitResult → ℕ → Option UnitResult
-unit_at [] n = None
-unit_at (r ∷ rs) n = if r.unit.number == n then Some r else unit_at rs n
-
 abbrev pub first_token : List UnitForm → ℕ → ℕ
 first_token [] n = 0
 first_token (f ∷ fs) zero = (place_of f.datum).first
@@ -61,35 +59,22 @@ in_unit spans (Some r) o = record {
 
 -- where an occurrence stands
 abbrev pub bytes_of : List (List Span) → List UnitResult → Occ → Bytes
-bytes_of spans rs o = in_unit spans (unit_at rs o.unit) o
+bytes_of spans rs o = in_unit spans (result_at rs o.unit) o
 
-abbrev pub at_bytes : Bytes → ℕ → List ℕ → Diagnostic
-at_bytes b code text = record { document = b.document; start = b.span.start; end = b.span.end; code = code; text = text }
+-- a code that names something
+abbrev pub at_bytes : Bytes → (code : ℕ) → (names : List ℕ) → Diagnostic
+at_bytes b code names = record { document = b.document; start = b.span.start; end = b.span.end; code = code; text = worded code names }
 
 -- ---- texts
 
-abbrev pub fault_text : Fault Ident → List ℕ
-fault_text BadRules = codes "bad syntax-rules"
-fault_text TwoEllipses = codes "two ellipses"
-fault_text (DuplicateVariable n) = codes "duplicate pattern variable " ++ symbol_of n.name
-fault_text (EllipsisDepth n) = codes "ellipsis depth of " ++ symbol_of n.name
-fault_text IdleEllipsis = codes "idle ellipsis"
-fault_text (NoRule n) = codes "no rule of " ++ symbol_of n.name ++ codes " matches"
-fault_text EllipsisLength = codes "ellipsis lengths differ"
-fault_text BadForm = codes "bad form"
-fault_text (DuplicateBinder n) = codes "duplicate binder " ++ symbol_of n.name
-fault_text BadPlace = codes "definition in expression place"
-fault_text BadRecord = codes "bad record"
-fault_text BadQuasi = codes "bad quasiquote"
-fault_text (KeywordRedefined n) = codes "keyword redefined " ++ symbol_of n.name
-fault_text (Duplicate n) = codes "duplicate definition " ++ symbol_of n.name
-fault_text (KeywordAsValue n) = codes "keyword used as value " ++ symbol_of n.name
-fault_text UseBudget = codes "more than 10000 macro uses"
-fault_text NodeBudget = codes "more than 200000 nodes"
-fault_text DepthBudget = codes "too deep expansion"
-fault_text (SyntaxError text) = codes "syntax error: " ++ text
-fault_text IncludeRefused = codes "include is refused"
-fault_text OutOfTurns = codes ""
+-- what a fault names: the symbol of an identifier, or the text of a `syntax-error`
+abbrev pub fault_names : Fault Ident → List ℕ
+fault_names f = named_or (fault_name f) (error_text f)
+  where
+    named_or : Option (Named Ident) → Option (List ℕ) → List ℕ
+    named_or None None = []
+    named_or None (Some text) = text
+    named_or (Some n) text = symbol_of n.name
 
 -- ---- the diagnostics of a unit
 
@@ -112,35 +97,40 @@ form_diagnostics bytes unit (f ∷ fs) = of_result bytes unit f.result f.form ++
   where
     of_result : (Occ → Bytes) → ℕ → Result Parts Broken → ℕ → List Diagnostic
     of_result bytes unit (Ok ps) form = []
-    of_result bytes unit (Err e) form = at_bytes (bytes (or_start unit form (fault_occ unit form (fault_name e.fault) e.here))) (fault_code e.fault) (fault_text e.fault) ∷ []
+    of_result bytes unit (Err e) form = at_bytes (bytes (or_start unit form (fault_occ unit form (fault_name e.fault) e.here))) (fault_code e.fault) (fault_names e.fault) ∷ []
 
 abbrev pub datum_bytes : ℕ → Datum → Bytes
 datum_bytes document d = record { document = document; span = record { start = (place_of d).start; end = (place_of d).end } }
 
 abbrev pub clash_diagnostics : Bytes → List (List ℕ) → List Diagnostic
 clash_diagnostics b [] = []
-clash_diagnostics b (s ∷ ss) = at_bytes b 52 (codes "import clash " ++ s) ∷ clash_diagnostics b ss
+clash_diagnostics b (s ∷ ss) = at_bytes b 52 s ∷ clash_diagnostics b ss
 
-abbrev pub at_name : (Occ → Bytes) → Option Occ → ℕ → List ℕ → List Diagnostic
-at_name bytes None code text = []
-at_name bytes (Some o) code text = at_bytes (bytes o) code text ∷ []
+-- where an identifier stands; one without a token stands where it is found
+abbrev pub bytes_or : (Occ → Bytes) → Bytes → Option Occ → Bytes
+bytes_or bytes found None = found
+bytes_or bytes found (Some o) = bytes o
 
-abbrev pub import_fault : (Occ → Bytes) → Bytes → ImportFault → List Diagnostic
-import_fault bytes set (NotThere n) = at_name bytes n.occ 51 (codes "not exported " ++ n.name)
-import_fault bytes set (Clash s) = at_bytes set 52 (codes "import clash " ++ s) ∷ []
-import_fault bytes set BadSet = at_bytes set 53 (codes "bad import set") ∷ []
+abbrev pub import_fault : (Occ → Bytes) → Bytes → ImportFault → Diagnostic
+import_fault bytes set (NotThere n) = at_bytes (bytes_or bytes set n.occ) 51 n.name
+import_fault bytes set (Clash s) = at_bytes set 52 s
+import_fault bytes set BadSet = at_bytes set 53 []
 
 abbrev pub set_diagnostics : (Occ → Bytes) → ℕ → List ImportSpec → List SetResult → List Diagnostic
 set_diagnostics bytes document [] rs = []
 set_diagnostics bytes document (s ∷ ss) [] = []
-set_diagnostics bytes document (s ∷ ss) (Unknown ∷ rs) = at_bytes (datum_bytes document s.library) 102 (codes "library not known") ∷ set_diagnostics bytes document ss rs
-set_diagnostics bytes document (s ∷ ss) (Faulty f ∷ rs) = import_fault bytes (datum_bytes document s.whole) f ++ set_diagnostics bytes document ss rs
+set_diagnostics bytes document (s ∷ ss) (Unknown ∷ rs) = at_bytes (datum_bytes document s.library) 102 [] ∷ set_diagnostics bytes document ss rs
+set_diagnostics bytes document (s ∷ ss) (Faulty f ∷ rs) = import_fault bytes (datum_bytes document s.whole) f ∷ set_diagnostics bytes document ss rs
 set_diagnostics bytes document (s ∷ ss) (Gives es clashes ∷ rs) = clash_diagnostics (datum_bytes document s.whole) clashes ++ set_diagnostics bytes document ss rs
 
-abbrev pub export_diagnostics : (Occ → Bytes) → List ExportFault → List Diagnostic
-export_diagnostics bytes [] = []
-export_diagnostics bytes (NotDefined x ∷ xs) = at_name bytes x.outer.occ 64 (codes "not defined " ++ x.inner.name) ++ export_diagnostics bytes xs
-export_diagnostics bytes (SameExport x ∷ xs) = at_name bytes x.outer.occ 65 (codes "exported twice " ++ x.outer.name) ++ export_diagnostics bytes xs
+-- at an export's external name, or its declaration's first token
+abbrev pub export_bytes : (Occ → Bytes) → ℕ → ExportSpec → Bytes
+export_bytes bytes unit x = bytes (or_start unit x.form x.outer.occ)
+
+abbrev pub export_diagnostics : (Occ → Bytes) → ℕ → List ExportFault → List Diagnostic
+export_diagnostics bytes unit [] = []
+export_diagnostics bytes unit (NotDefined x ∷ xs) = at_bytes (export_bytes bytes unit x) 64 x.inner.name ∷ export_diagnostics bytes unit xs
+export_diagnostics bytes unit (SameExport x ∷ xs) = at_bytes (export_bytes bytes unit x) 65 x.outer.name ∷ export_diagnostics bytes unit xs
 
 -- a definition of a symbol that the unit imports
 abbrev pub hides : List Entry → Ident → Bool
@@ -151,11 +141,20 @@ hides es (Written u s) = is_there (entry_at es s)
     is_there None = false
     is_there (Some e) = true
 
-abbrev pub hiding_diagnostics : (Occ → Bytes) → ℕ → List Entry → Table → List Diagnostic
-hiding_diagnostics bytes unit es [] = []
-hiding_diagnostics bytes unit es (d ∷ ds) =
-    (if (d.unit == unit) && hides es d.ident then at_bytes (bytes (or_start unit d.form d.occ)) 101 (codes "definition hides import " ++ symbol_of d.ident) ∷ [] else [])
-    ++ hiding_diagnostics bytes unit es ds
+-- a form with this number that has a fault
+abbrev pub is_broken : ℕ → Formed → Bool
+is_broken form f = (f.form == form) && has_fault f.result
+  where
+    has_fault : Result Parts Broken → Bool
+    has_fault (Ok ps) = false
+    has_fault (Err e) = true
+
+-- what a form with a fault defines isn't told
+abbrev pub hiding_diagnostics : (Occ → Bytes) → ℕ → List Formed → List Entry → Table → List Diagnostic
+hiding_diagnostics bytes unit fs es [] = []
+hiding_diagnostics bytes unit fs es (d ∷ ds) =
+    (if (d.unit == unit) && (hides es d.ident && not (list_any (is_broken d.form) fs)) then at_bytes (bytes (or_start unit d.form d.occ)) 101 (symbol_of d.ident) ∷ [] else [])
+    ++ hiding_diagnostics bytes unit fs es ds
 
 abbrev pub unbound_at : (Occ → Bytes) → Target → List Diagnostic
 unbound_at bytes t = of_meaning bytes t.meaning t.occ
@@ -165,7 +164,7 @@ unbound_at bytes t = of_meaning bytes t.meaning t.occ
     of_meaning bytes (Global u i) o = []
     of_meaning bytes (Standard s) o = []
     of_meaning bytes (Free s) None = []
-    of_meaning bytes (Free s) (Some o) = at_bytes (bytes o) 103 (codes "unbound " ++ s) ∷ []
+    of_meaning bytes (Free s) (Some o) = at_bytes (bytes o) 103 s ∷ []
 
 abbrev pub unbound_diagnostics : (Occ → Bytes) → List CoreLeaf → List Diagnostic
 unbound_diagnostics bytes [] = []
@@ -183,19 +182,22 @@ is_empty (x ∷ xs) = false
 abbrev pub unit_start : List (List Span) → Prepared → Bytes
 unit_start spans p = record { document = p.placed.document; span = span_at (spans_at spans p.placed.document) p.placed.source.start.first }
 
+abbrev pub whole_bytes : List (List Span) → Prepared → WholeFault → Bytes
+whole_bytes spans p TooMany = unit_start spans p
+whole_bytes spans p (BadDeclaration d) = datum_bytes p.placed.document d
+whole_bytes spans p DefinedTwice = unit_start spans p
+whole_bytes spans p ImportCycle = unit_start spans p
+whole_bytes spans p TooLarge = unit_start spans p
+
 abbrev pub whole_fault : List (List Span) → Prepared → WholeFault → Diagnostic
-whole_fault spans p TooMany = at_bytes (unit_start spans p) 67 (codes "too many units")
-whole_fault spans p (BadDeclaration d) = at_bytes (datum_bytes p.placed.document d) 61 (codes "bad declaration")
-whole_fault spans p DefinedTwice = at_bytes (unit_start spans p) 63 (codes "library defined twice")
-whole_fault spans p ImportCycle = at_bytes (unit_start spans p) 62 (codes "import cycle")
-whole_fault spans p TooLarge = at_bytes (unit_start spans p) 66 (codes "unit too large")
+whole_fault spans p f = at_bytes (whole_bytes spans p f) (whole_code f) []
 
 abbrev pub inner_diagnostics : List (List Span) → Program → UnitResult → List Diagnostic → List Diagnostic
 inner_diagnostics spans p r sets =
-    sets ++ export_diagnostics (bytes_of spans p.units) r.export_faults ++ form_diagnostics (bytes_of spans p.units) r.unit.number r.forms ++
-    hiding_diagnostics (bytes_of spans p.units) r.unit.number r.entries p.table ++
+    sets ++ export_diagnostics (bytes_of spans p.units) r.unit.number r.export_faults ++ form_diagnostics (bytes_of spans p.units) r.unit.number r.forms ++
+    hiding_diagnostics (bytes_of spans p.units) r.unit.number r.forms r.entries p.table ++
     (if is_empty sets then unbound_diagnostics (bytes_of spans p.units) (unit_leaves r.forms) else []) ++
-    (if imports_nothing r.unit then at_bytes (unit_start spans r.unit) 104 (codes "no import, (scheme base) is used") ∷ [] else [])
+    (if imports_nothing r.unit then at_bytes (unit_start spans r.unit) 104 [] ∷ [] else [])
 
 abbrev pub unit_diagnostics : List (List Span) → Program → UnitResult → Option WholeFault → List Diagnostic
 unit_diagnostics spans p r (Some f) = whole_fault spans r.unit f ∷ []

@@ -113,3 +113,27 @@ fault_name DepthBudget = None
 fault_name (SyntaxError text) = None
 fault_name IncludeRefused = None
 fault_name OutOfTurns = None
+
+-- the text of a `syntax-error`
+abbrev pub error_text : {A : Type 0} → Fault A → Option (List ℕ)
+error_text BadRules = None
+error_text TwoEllipses = None
+error_text (DuplicateVariable n) = None
+error_text (EllipsisDepth n) = None
+error_text IdleEllipsis = None
+error_text (NoRule n) = None
+error_text EllipsisLength = None
+error_text BadForm = None
+error_text (DuplicateBinder n) = None
+error_text BadPlace = None
+error_text BadRecord = None
+error_text BadQuasi = None
+error_text (KeywordRedefined n) = None
+error_text (Duplicate n) = None
+error_text (KeywordAsValue n) = None
+error_text UseBudget = None
+error_text NodeBudget = None
+error_text DepthBudget = None
+error_text (SyntaxError text) = Some text
+error_text IncludeRefused = None
+error_text OutOfTurns = None

@@ -1,6 +1,6 @@
 pub mod Identifiers  -- Identifiers (R7RS 4.3)
 pub mod Trees  -- Trees whose leaves are names of a kind, with the occurrences that they were read at
-pub mod StandardNames  -- The names of the standard libraries (R7RS Appendix A), and which of them are keywords of core forms
+pub mod StandardNames  -- The names of `(scheme base)` (R7RS Appendix A)
 pub mod Kinds  -- The kinds of tokens (R7RS 7.1.1), and tokens with their places
 pub mod Data  -- Data (R7RS 7.1.2), with the numbers and the bytes of their tokens
 pub mod Numbered  -- Tokens by their numbers, the places of data, and the numerals of bytevectors (R7RS 7.1.2)
@@ -41,11 +41,12 @@ pub mod Entries  -- Import sets, and the names that they give (R7RS 5.2, 5.6)
 pub mod Declarations  -- What a document holds (R7RS 5.1, 5.6.1)
 pub mod TreeTexts  -- The trees of a text of symbols, `#t`, `#f`, quoted data and lists (R7RS 7.1.2), without places
 pub mod Prelude  -- Derived forms as macros (R7RS 4.2, 7.3)
-pub mod StandardLibraries  -- The standard libraries but `(scheme base)`, and their names (R7RS Appendix A)
+pub mod StandardLibraries  -- The standard libraries and their names (R7RS Appendix A)
 pub mod Program  -- The program of the open documents (R7RS 5)
 pub mod ScopedProgram  -- The program of the open documents by scopes
 pub mod Live  -- The leaves of cores, the uses of names in imports and exports, and which occurrences are live
 pub mod ProgramArrows  -- Arrows
+pub mod DiagnosticTexts  -- The texts of all diagnostics, by their codes and what they name
 pub mod Diagnostics  -- The diagnostics of a program
 pub mod Spelling  -- What spells an identifier
 pub mod Accesses  -- How occurrences are used (LSP 3.17, DocumentHighlightKind)

@@ -1,13 +1,14 @@
 -- The program of the open documents (R7RS 5): its units in order, what each imports, defines and exports, and what its forms
 -- expand to. A document is handed in as its data, where it reads. The units' numbers are their places in the list.
 use Rattle.std.specs.Prelude.{ℕ, zero, suc, ◌==◌, nat_le, nat_lt, List, [], ◌∷◌, ◌++◌, map, length, Bool, true, false, not, ◌&&◌, ◌||◌, Option, Some, None, Result, Ok, Err, codes, if◌then◌else◌, ◌^◌}
+use Rattle.std.specs.List.{list_any}
 use Rattle.std.specs.Str.{bytes_eq}
 use Rattle.scheme_model.specs.Identifiers.{Name, Written}
 use Rattle.scheme_model.specs.Ident.{Written as WrittenIdent}
 use Rattle.scheme_model.specs.Data.{Datum, place_of}
 use Rattle.scheme_model.specs.DataTrees.{tree_of, form_of}
 use Rattle.scheme_model.specs.Trees.{Tree, name, atom, list, vector, no_trees, tree, proper, placed_in}
-use Rattle.scheme_model.specs.ExpansionFaults.{Named, Fault}
+use Rattle.scheme_model.specs.ExpansionFaults.{Named, Fault, IncludeRefused}
 use Rattle.scheme_model.specs.Meaning.{Meaning, Standard, Global}
 use Rattle.scheme_model.specs.Requirements.{LibraryName, Symbol, same_library, Known}
 use Rattle.scheme_model.specs.RulesShape.{Rules, rules_map, rules_parts}
@@ -53,6 +54,21 @@ units_from known n (d ∷ ds) = map (λ u. record { document = n; source = u }) 
 abbrev pub units_of : List Document → List Placed
 units_of ds = units_from (known_in ds) 0 ds
 
+-- ---- declarations
+
+abbrev pub is_declared : List ℕ → UnitForm → Bool
+is_declared word f = f.declared && is_headed word f.datum
+
+abbrev pub is_import : UnitForm → Bool
+is_import f = is_declared (codes "import") f
+
+abbrev pub is_export : UnitForm → Bool
+is_export f = is_declared (codes "export") f
+
+-- a declaration that includes a text
+abbrev pub is_include : UnitForm → Bool
+is_include f = is_declared (codes "include") f || (is_declared (codes "include-ci") f || is_declared (codes "include-library-declarations") f)
+
 -- ---- imports
 
 -- an import set with the data of the set and of its library's name
@@ -89,8 +105,7 @@ behind_first (Some []) = []
 behind_first (Some (d ∷ ds)) = ds
 
 abbrev pub specs_in : ℕ → ℕ → UnitForm → List ImportSpec
-specs_in unit form f =
-    if f.declared && is_headed (codes "import") f.datum then map (spec_of unit form (place_of f.datum).first) (behind_first (list_parts f.datum)) else []
+specs_in unit form f = if is_import f then map (spec_of unit form (place_of f.datum).first) (behind_first (list_parts f.datum)) else []
 
 abbrev pub specs_from : ℕ → ℕ → List UnitForm → List ImportSpec
 specs_from unit form [] = []
@@ -98,34 +113,35 @@ specs_from unit form (f ∷ fs) = specs_in unit form f ++ specs_from unit (suc f
 
 -- ---- exports
 
--- an export: the identifier inside, the external name, and the latter's place
+-- an export: the form that it stands in, the identifier inside, and the external name, each with its place
 pub record ExportSpec : Type 0 where
+  pub form : ℕ
   pub inner : Named (List ℕ)
   pub outer : Named (List ℕ)
   pub renamed : Bool
 
-abbrev pub export_of : Tree (List ℕ) → List ExportSpec
-export_of (name i o) = record { inner = record { name = i; occ = o }; outer = record { name = i; occ = o }; renamed = false } ∷ []
-export_of (atom a o) = []
-export_of (vector ts o) = []
-export_of (list no_trees tail o) = []
-export_of (list (tree r no_trees) tail o) = []
-export_of (list (tree r (tree (name i p) (tree (name j q) ts))) tail o) = record { inner = record { name = i; occ = p }; outer = record { name = j; occ = q }; renamed = true } ∷ []
-export_of (list (tree r (tree (name i p) no_trees)) tail o) = []
-export_of (list (tree r (tree (name i p) (tree (atom b q) ts))) tail o) = []
-export_of (list (tree r (tree (name i p) (tree (list us end q) ts))) tail o) = []
-export_of (list (tree r (tree (name i p) (tree (vector us q) ts))) tail o) = []
-export_of (list (tree r (tree (atom a p) ts)) tail o) = []
-export_of (list (tree r (tree (list us end p) ts)) tail o) = []
-export_of (list (tree r (tree (vector us p) ts)) tail o) = []
+abbrev pub export_of : (form : ℕ) → Tree (List ℕ) → List ExportSpec
+export_of form (name i o) = record { form = form; inner = record { name = i; occ = o }; outer = record { name = i; occ = o }; renamed = false } ∷ []
+export_of form (atom a o) = []
+export_of form (vector ts o) = []
+export_of form (list no_trees tail o) = []
+export_of form (list (tree r no_trees) tail o) = []
+export_of form (list (tree r (tree (name i p) (tree (name j q) ts))) tail o) = record { form = form; inner = record { name = i; occ = p }; outer = record { name = j; occ = q }; renamed = true } ∷ []
+export_of form (list (tree r (tree (name i p) no_trees)) tail o) = []
+export_of form (list (tree r (tree (name i p) (tree (atom b q) ts))) tail o) = []
+export_of form (list (tree r (tree (name i p) (tree (list us end q) ts))) tail o) = []
+export_of form (list (tree r (tree (name i p) (tree (vector us q) ts))) tail o) = []
+export_of form (list (tree r (tree (atom a p) ts)) tail o) = []
+export_of form (list (tree r (tree (list us end p) ts)) tail o) = []
+export_of form (list (tree r (tree (vector us p) ts)) tail o) = []
 
 abbrev pub exports_with : ℕ → ℕ → ℕ → List Datum → List ExportSpec
 exports_with unit form first [] = []
-exports_with unit form first (d ∷ ds) = export_of (tree_of (λ s. s) (placed_in unit form first) d) ++ exports_with unit form first ds
+exports_with unit form first (d ∷ ds) = export_of form (tree_of (λ s. s) (placed_in unit form first) d) ++ exports_with unit form first ds
 
 abbrev pub exports_in : ℕ → ℕ → UnitForm → List ExportSpec
 exports_in unit form f =
-    if f.declared && is_headed (codes "export") f.datum then exports_with unit form (place_of f.datum).first (behind_first (list_parts f.datum)) else []
+    if is_export f then exports_with unit form (place_of f.datum).first (behind_first (list_parts f.datum)) else []
 
 abbrev pub exports_from : ℕ → ℕ → List UnitForm → List ExportSpec
 exports_from unit form [] = []
@@ -140,11 +156,19 @@ pub data WholeFault : Type 0 where
   ImportCycle : WholeFault
   TooLarge : WholeFault
 
+-- the code of its diagnostic
+abbrev pub whole_code : WholeFault → ℕ
+whole_code TooMany = 67
+whole_code (BadDeclaration d) = 61
+whole_code DefinedTwice = 63
+whole_code ImportCycle = 62
+whole_code TooLarge = 66
+
 -- the most units
 abbrev pub max_units : ℕ
 max_units = 128
 
--- the name by which a unit is known, if it is a library that isn't left out
+-- the name of a library that isn't left out
 abbrev pub name_if : ℕ → UnitSource → Option LibraryName
 name_if place u = if nat_lt place max_units then usable u.forms u.name else None
   where
@@ -156,10 +180,18 @@ abbrev pub is_named : LibraryName → Option LibraryName → Bool
 is_named n None = false
 is_named n (Some m) = same_library m n
 
--- the first unit with a library's name
+abbrev pub unless_standard : Option LibraryName → Option LibraryName
+unless_standard None = None
+unless_standard (Some n) = if is_some (standard n) then None else Some n
+
+-- the name by which a unit is imported: a standard name means the standard library, whatever units have it
+abbrev pub imported_as : ℕ → UnitSource → Option LibraryName
+imported_as place u = unless_standard (name_if place u)
+
+-- the unit that a library's name means: the first that is imported by it
 abbrev pub unit_named : LibraryName → ℕ → List Placed → Option ℕ
 unit_named n place [] = None
-unit_named n place (u ∷ us) = if is_named n (name_if place u.source) then Some place else unit_named n (suc place) us
+unit_named n place (u ∷ us) = if is_named n (imported_as place u.source) then Some place else unit_named n (suc place) us
 
 abbrev pub forms_or_none : Result (List UnitForm) Datum → List UnitForm
 forms_or_none (Ok fs) = fs
@@ -324,17 +356,13 @@ base_entries = map standard_entry (names_or (standard (Symbol (codes "scheme") �
     names_or None = []
     names_or (Some ns) = ns
 
-abbrev pub is_empty : {A : Type 0} → List A → Bool
-is_empty [] = true
-is_empty (x ∷ xs) = false
-
 abbrev pub is_program : UnitKind → Bool
 is_program IsLibrary = false
 is_program IsProgram = true
 
--- a program without an import has `(scheme base)`
+-- a program without an import has `(scheme base)`; `(import)` is one
 abbrev pub imports_nothing : Prepared → Bool
-imports_nothing p = is_program p.placed.source.kind && is_empty p.specs
+imports_nothing p = is_program p.placed.source.kind && not (list_any is_import p.forms)
 
 abbrev pub unit_entries : List Placed → List UnitResult → Prepared → List Entry × List SetResult
 unit_entries all rs p = if imports_nothing p then (base_entries, []) else import_all all rs [] p.specs
@@ -348,7 +376,7 @@ with_entries n es before u s = if u == n then entry_meaning (entry_at es s) else
 
 -- ---- the forms
 
--- the forms that are expanded; an import, an export or what stands in their place gives none
+-- the forms that are expanded, which aren't declarations
 abbrev pub form_trees : ℕ → ℕ → List UnitForm → List (ℕ × Tree Name)
 form_trees unit form [] = []
 form_trees unit form (f ∷ fs) = if f.declared then form_trees unit (suc form) fs else (form, form_of unit form f.datum) ∷ form_trees unit (suc form) fs
@@ -416,12 +444,32 @@ broken_result p fault = record { unit = p; fault = Some fault; sets = []; entrie
 abbrev pub broken_unit : Prepared → WholeFault → Progress → Progress
 broken_unit p fault g = record g { results = broken_result p fault ∷ g.results }
 
+-- a declaration that includes a text is broken, and placed at its own first token
+abbrev pub refused_form : (unit form : ℕ) → Formed
+refused_form unit form = record {
+  form = form;
+  result = Err (record { fault = IncludeRefused; here = Some (record { unit = unit; form = form; token = 0 }) });
+  counted = record { locals = 0; uses = 0; nodes = 0; keywords = []; met = [] };
+}
+
+-- forms that were expanded, and between them those that are refused
+abbrev pub with_refused : (unit form : ℕ) → List UnitForm → List Formed → List Formed
+with_refused unit form [] es = es
+with_refused unit form (f ∷ fs) es =
+    if is_include f then refused_form unit form ∷ with_refused unit (suc form) fs es
+    else if f.declared then with_refused unit (suc form) fs es
+    else behind_first_of es (with_refused unit (suc form) fs)
+  where
+    behind_first_of : List Formed → (List Formed → List Formed) → List Formed
+    behind_first_of [] rest = rest []
+    behind_first_of (e ∷ es) rest = e ∷ rest es
+
 -- by what it imports, what is defined by then, and what its forms came to, unless work on it ended
 abbrev pub unit_result : Prepared → List Entry × List SetResult → Table → Option (List Formed) → UnitResult
 unit_result p imports table None = broken_result p TooLarge
 unit_result p imports table (Some forms) =
     let exports = export_all (names_of_unit table p.number imports.0) [] p.exports in
-    record { unit = p; fault = None; sets = imports.1; entries = imports.0; forms = forms; exports = exports.entries; export_faults = exports.faults }
+    record { unit = p; fault = None; sets = imports.1; entries = imports.0; forms = with_refused p.number 0 p.forms forms; exports = exports.entries; export_faults = exports.faults }
 
 abbrev pub unit_over : Known → List (ℕ × Tree Name) → State → Option (List Formed) × State
 unit_over known ts s = unit (model known) enough_turns tt ts s

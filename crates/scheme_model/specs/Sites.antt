@@ -1,16 +1,21 @@
 -- Identifiers where they stand in texts (R7RS 7.1.1), and the one at a place of a text.
-use Rattle.std.specs.Prelude.{ℕ, suc, ◌-◌, ◌==◌, nat_le, List, [], ◌∷◌, ◌++◌, map, Bool, ◌&&◌, Option, Some, None, if◌then◌else◌}
+use Rattle.std.specs.Prelude.{ℕ, suc, ◌-◌, ◌==◌, nat_le, List, [], ◌∷◌, ◌++◌, map, Bool, false, ◌&&◌, Option, Some, None, if◌then◌else◌}
 use Rattle.std.specs.Option.{is_some}
 use Rattle.scheme_model.specs.declared.Occ.{Occ}
-use Rattle.scheme_model.specs.Data.{Place, Atom, Datum, atom, list, vector, bytes, Data, none, part, tail, place_of}
-use Rattle.scheme_model.specs.Declarations.{UnitForm, atom_symbol}
+use Rattle.scheme_model.specs.Data.{Place, Atom, spelled, implied, Datum, atom, list, vector, bytes, Data, none, part, tail, place_of}
+use Rattle.scheme_model.specs.Declarations.{UnitForm, leaf_symbol}
 use Rattle.scheme_model.specs.Program.{UnitResult}
 use Rattle.scheme_model.specs.Diagnostics.{Span, bytes_of}
+
+-- whether an atom is an identifier that its token spells
+abbrev pub is_spelled : Atom → Bool
+is_spelled (spelled leaf) = is_some (leaf_symbol leaf)
+is_spelled (implied mark) = false
 
 -- the tokens of a datum that are identifiers, by their numbers
 abbrev mutual
   pub name_tokens : Datum → List ℕ
-  name_tokens (atom p a) = if is_some (atom_symbol a) then p.first ∷ [] else []
+  name_tokens (atom p a) = if is_spelled a then p.first ∷ [] else []
   name_tokens (list p ds) = name_tokens_all ds
   name_tokens (vector p ds) = name_tokens_all ds
   name_tokens (bytes p bs) = []

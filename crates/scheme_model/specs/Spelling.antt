@@ -1,17 +1,18 @@
 -- What spells an identifier: its links to the occurrences that its characters come from, and the classes of occurrences that
 -- such links join. Occurrences of a class are renamed together, each behind its prefix.
-use Rattle.std.specs.Prelude.{ℕ, zero, suc, List, [], ◌∷◌, ◌++◌, length, Bool, true, false, not, ◌&&◌, ◌||◌, Option, Some, None, if◌then◌else◌}
-use Rattle.std.specs.List.{list_any}
+use Rattle.std.specs.Prelude.{ℕ, zero, suc, List, [], ◌∷◌, ◌++◌, map, length, Bool, true, false, not, ◌&&◌, ◌||◌, Option, Some, None, if◌then◌else◌}
+use Rattle.std.specs.List.{list_any, flat_map}
 use Rattle.std.specs.Str.{bytes_eq}
 use Rattle.scheme_model.specs.declared.Occ.{Occ}
 use Rattle.scheme_model.specs.Ident.{Ident, Written, Inserted}
+use Rattle.scheme_model.specs.ExpansionFaults.{Named}
 use Rattle.scheme_model.specs.Meaning.{Meaning, Local, Global, Standard, Free}
 use Rattle.scheme_model.specs.Cores.{Target, RuleLeaf}
 use Rattle.scheme_model.specs.Substitution.{Table, Defined, defined_in}
-use Rattle.scheme_model.specs.Entries.{Source, At, StandardName, Origin, Entry, entry_at, same_occ, place_origin}
-use Rattle.scheme_model.specs.Program.{Placed, UnitResult, Program, result_at}
+use Rattle.scheme_model.specs.Entries.{Source, At, StandardName, Origin, Entry, entry_at, same_occ, place_origin, ImportSet, Library, Only, Except, Prefix, Rename, Bad, has_bad}
+use Rattle.scheme_model.specs.Program.{Placed, UnitResult, Program, result_at, is_some_fault}
 use Rattle.scheme_model.specs.Live.{CoreLeaf, Binds, Uses, Assigns, Quotes, Defines, NameUse}
-use Rattle.scheme_model.specs.ProgramArrows.{Arrow, local_at, core_targets, is_live_at, rule_arrows, program_leaves, program_keywords, program_names, program_table, binders_in}
+use Rattle.scheme_model.specs.ProgramArrows.{Arrow, local_at, core_targets, is_live_at, rule_arrows, program_leaves, program_keywords, program_names, program_table, binders_in, places_at}
 
 -- an occurrence takes its characters, behind a prefix, from an occurrence or from a standard name
 pub record Link : Type 0 where
@@ -93,14 +94,36 @@ macro_links live leaves table rs (Quotes o ∷ ls) = macro_links live leaves tab
 macro_links live leaves table rs (Defines m ∷ ls) =
     arrow_links (rule_arrows m.rules m.rules.rules) ++ target_links leaves table rs (leaf_targets live m.leaves) ++ macro_links live leaves table rs ls
 
+-- with what is linked to itself
 abbrev pub links_with : List CoreLeaf → List Target → List NameUse → Table → List UnitResult → List Occ → List Link
-links_with leaves keywords names table rs binders =
-    target_links leaves table rs (core_targets leaves ++ keywords) ++ name_links names ++ links_to_themselves binders ++
+links_with leaves keywords names table rs themselves =
+    target_links leaves table rs (core_targets leaves ++ keywords) ++ name_links names ++ links_to_themselves themselves ++
     macro_links (is_live_at leaves keywords names) leaves table rs leaves
+
+-- ---- second identifiers of imports' rename pairs
+
+-- those of a set
+abbrev pub second_names : ImportSet → List (Named (List ℕ))
+second_names (Library n) = []
+second_names (Only s ns) = second_names s
+second_names (Except s ns) = second_names s
+second_names (Prefix s p) = second_names s
+second_names (Rename s ps) = second_names s ++ map (λ p. p.1) ps
+second_names Bad = []
+
+-- a set that has a shape, whatever its library gives
+abbrev pub second_places : ImportSet → List Occ
+second_places s = if has_bad s then [] else flat_map (λ n. places_at n.occ) (second_names s)
+
+-- of the units that aren't broken as a whole
+abbrev pub second_places_in : List UnitResult → List Occ
+second_places_in [] = []
+second_places_in (r ∷ rs) = (if is_some_fault r.fault then [] else flat_map (λ s. second_places s.set) r.unit.specs) ++ second_places_in rs
 
 -- the links of a program
 abbrev pub links_of : List Placed → Program → List Link
-links_of all p = links_with (program_leaves p.units) (program_keywords p.units) (program_names all p p.units) (program_table p) p.units (binders_in p)
+links_of all p =
+    links_with (program_leaves p.units) (program_keywords p.units) (program_names all p p.units) (program_table p) p.units (binders_in p ++ second_places_in p.units)
 
 -- ---- what links join
 

@@ -1,4 +1,4 @@
--- The standard libraries but `(scheme base)`, and their names (R7RS Appendix A).
+-- The standard libraries and their names (R7RS Appendix A).
 use Rattle.std.specs.Prelude.{ℕ, List, [], ◌∷◌, Option, Some, None, codes, if◌then◌else◌}
 use Rattle.scheme_model.specs.Requirements.{LibraryName, Symbol, same_library}
 use Rattle.scheme_model.specs.StandardNames.{base_names}

@@ -1,5 +1,5 @@
--- The names of the standard libraries (R7RS Appendix A), and which of them are keywords of core forms.
-use Rattle.std.specs.Prelude.{ℕ, List, [], ◌∷◌, Bool, Option, Some, None, codes, if◌then◌else◌}
+-- The names of `(scheme base)` (R7RS Appendix A).
+use Rattle.std.specs.Prelude.{ℕ, List, [], ◌∷◌, Bool, codes}
 use Rattle.std.specs.List.{list_any}
 use Rattle.std.specs.Str.{bytes_eq}
 
@@ -60,17 +60,3 @@ base_names =
 
 abbrev pub is_base : List ℕ → Bool
 is_base s = list_any (bytes_eq s) base_names
-
--- the keywords whose forms are built
-pub data Keyword : Type 0 where
-  IsQuote : Keyword
-  IsLambda : Keyword
-  IsDefine : Keyword
-
--- the keyword that a standard name is
-abbrev pub keyword_named : List ℕ → Option Keyword
-keyword_named s =
-    if bytes_eq s (codes "quote") then Some IsQuote
-    else if bytes_eq s (codes "lambda") then Some IsLambda
-    else if bytes_eq s (codes "define") then Some IsDefine
-    else None

@@ -6,7 +6,7 @@ use Rattle.std.proofs.lemmas.Bool.{cond-true, cond-false}
 use Rattle.std.proofs.lemmas.Bool.Decides.{nat_tests}
 use Rattle.scheme_tokens.specs.Lexical.{is_scalar}
 use Rattle.scheme_tokens.specs.Mirror.Quoted.{hex_value, hex_scalar}
-use Rattle.scheme_tokens.specs.Views.{IsCapped}
+use Rattle.scheme_tokens.specs.Mirror.Told.{IsCapped}
 
 in_range : (m : ℕ) → InScalarRange m → is_scalar m ≡ true
 in_range m (inl h) = grind (arith, nat_tests)

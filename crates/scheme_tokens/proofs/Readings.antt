@@ -7,7 +7,8 @@ use Rattle.scheme_tokens.specs.Stopping.{IsRead, Stops}
 use Rattle.scheme_tokens.specs.Mirror.Reading as mirror
 use Rattle.scheme_tokens.specs.Mirror.Reading.{found, ended, next, Reads}
 use Rattle.scheme_tokens.proofs.OneReading.{one_reading_from}
-use Rattle.scheme_tokens.specs.Views.{token_of, tokens_of, read_fault, told_end, IsNext, IsFront, Explains}
+use Rattle.scheme_tokens.specs.Views.{token_of, tokens_of, read_fault, told_end, IsFront, Explains}
+use Rattle.scheme_tokens.specs.Mirror.Told.{IsNext}
 use Rattle.scheme_tokens.specs.declared.token.Token as code
 use Rattle.scheme_tokens.proofs.Same.Reading.{spelled_read, read_spelled}
 use Rattle.scheme_tokens.proofs.Same.Stops.{read_stops}

@@ -5,3 +5,4 @@ pub mod Quoted
 pub mod Tokens
 pub mod Reading
 pub mod Spelled
+pub mod Told

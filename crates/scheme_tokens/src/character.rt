@@ -1,7 +1,7 @@
 //! Classes of characters (R7RS 7.1.1).
 ghost use Rattle.std.specs.Prelude.{◌≡◌};
 ghost use Rattle.scheme_tokens.specs.Lexical.{is_delimiter, is_line_end, is_blank, is_sign, is_hex_digit, standing_of, is_anywhere, is_somewhere, is_initial, is_subsequent, is_sign_subsequent, is_dot_subsequent};
-ghost use Rattle.scheme_tokens.specs.Views.{test_of};
+ghost use Rattle.scheme_tokens.specs.Mirror.Told.{test_of};
 
 use unicode::properties::GeneralCategory;
 

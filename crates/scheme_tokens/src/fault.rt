@@ -2,7 +2,8 @@
 ghost use Rattle.std.specs.Prelude.{◌≡◌};
 ghost use Rattle.scheme_tokens.specs.declared.fault.ScanFault.TheVariants as scan;
 ghost use Rattle.scheme_tokens.specs.declared.fault.ReadFault.TheVariants as read;
-ghost use Rattle.scheme_tokens.specs.Views.{fault_of, number_of};
+ghost use Rattle.scheme_tokens.specs.Views.{number_of};
+ghost use Rattle.scheme_tokens.specs.Mirror.Told.{fault_of};
 
 use ls_base::{Memory, Span};
 use std::alloc::{AllocError, AllocFailed};

@@ -2,7 +2,7 @@
 ghost use Rattle.std.specs.Prelude.{◌≡◌, ◌≤◌, ◌<◌, ◌+◌, ◌-◌, [], ◌∷◌, IfSome, IfNone, length, drop};
 ghost use Rattle.std.specs.Str.{chars, IsUtf8};
 ghost use Rattle.scheme_tokens.specs.Mirror.Words.{front_of, behind};
-ghost use Rattle.scheme_tokens.specs.Views.{test_of};
+ghost use Rattle.scheme_tokens.specs.Mirror.Told.{test_of};
 
 use crate::character::Class;
 use ls_base::split_char;

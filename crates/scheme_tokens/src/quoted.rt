@@ -7,7 +7,7 @@ ghost use Rattle.std.specs.Str.{chars};
 ghost use Rattle.std.specs.String.{string_bytes};
 ghost use Rattle.scheme_tokens.specs.Lexical.{is_hex_digit};
 ghost use Rattle.scheme_tokens.specs.Mirror.Quoted.{open_at, escaped, hex_value, hex_scalar, digits_end, hex_end, behind_line_end, fold_end, escape, element, quoted};
-ghost use Rattle.scheme_tokens.specs.Views.{fault_of, IsCapped, Gives, Is, meant_at, quoted_at};
+ghost use Rattle.scheme_tokens.specs.Mirror.Told.{fault_of, IsCapped, Gives, Is, meant_at, quoted_at};
 
 use crate::character::{Class, is_blank, is_line_end};
 use crate::fault::{Fault, ScanFault};

@@ -7,7 +7,8 @@ ghost use Rattle.scheme_tokens.specs.Lexical.{behind_mark, IsSpelled};
 ghost use Rattle.scheme_tokens.specs.Faults.{FaultAt};
 ghost use Rattle.scheme_tokens.specs.Stopping.{Stops};
 ghost use Rattle.scheme_tokens.specs.Mirror.Reading.{place, behind_fault, fault_at, next};
-ghost use Rattle.scheme_tokens.specs.Views.{fault_of, read_fault, tokens_of, IsNext, IsFront, Explains, IsWithin};
+ghost use Rattle.scheme_tokens.specs.Views.{read_fault, tokens_of, IsFront, Explains, IsWithin};
+ghost use Rattle.scheme_tokens.specs.Mirror.Told.{fault_of, IsNext};
 
 use crate::character::Class;
 use crate::fault::{Fault, ReadFault, ScanFault};

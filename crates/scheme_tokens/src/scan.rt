@@ -6,7 +6,8 @@ ghost use Rattle.std.specs.Str.{chars};
 ghost use Rattle.scheme_tokens.specs.Lexical.{is_hex_digit};
 ghost use Rattle.scheme_tokens.specs.Mirror.Words.{is_text};
 ghost use Rattle.scheme_tokens.specs.Mirror.Tokens.{word_kind, hash_kind, named, character_of, behind_hash_slash, behind_bytes, hash_word, hash_token, word_token, unquote_token, string_token, bar_token, token};
-ghost use Rattle.scheme_tokens.specs.Views.{kind_of, token_at, Gives};
+ghost use Rattle.scheme_tokens.specs.Views.{kind_of};
+ghost use Rattle.scheme_tokens.specs.Mirror.Told.{token_at, Gives};
 
 use crate::character::Class;
 use crate::fault::{Fault, ScanFault};

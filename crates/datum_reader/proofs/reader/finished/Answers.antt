@@ -1,6 +1,7 @@
 use Rattle.std.proofs.Common.{ap}
 use Rattle.datum_reader.specs.Open.{finished, left_open}
-use Rattle.datum_reader.specs.Views.{spot_of, opener_of, data_of}
+use Rattle.datum_reader.specs.Views.{data_of}
+use Rattle.datum_reader.specs.OpenViews.{spot_of, opener_of}
 use Rattle.datum_reader.proofs.StackLaws.{stack_push, told_stop}
 use Rattle.datum_reader.proofs.reader.finished.Goals as goal
 

@@ -1,6 +1,6 @@
 use Rattle.std.proofs.lemmas.Result.{err_from_is_err_and}
 use Rattle.std.specs.Vec.Iter.{into_iter_items}
-use Rattle.datum_reader.specs.Views.{state_of}
+use Rattle.datum_reader.specs.OpenViews.{state_of}
 use Rattle.datum_reader.proofs.StepLaws.{read_fails}
 use Rattle.datum_reader.proofs.reader.open_after.Goals as goal
 

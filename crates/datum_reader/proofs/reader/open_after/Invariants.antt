@@ -1,6 +1,7 @@
 use Rattle.std.proofs.Common.{◌≡◌, ◌+◌, [], Ok, length}
 use Rattle.std.specs.Vec.Iter.{into_iter_items}
-use Rattle.datum_reader.specs.Views.{tokens_of, state_of}
+use Rattle.datum_reader.specs.Views.{tokens_of}
+use Rattle.datum_reader.specs.OpenViews.{state_of}
 use Rattle.scheme_model.specs.Numbered.{number_from}
 use Rattle.datum_reader.specs.Open.{state, after_all}
 use Rattle.datum_reader.proofs.reader.open_after.Given as goal

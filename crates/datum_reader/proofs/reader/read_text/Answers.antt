@@ -5,7 +5,8 @@ use Rattle.std.proofs.lemmas.Result.{err_from_is_err_and}
 use Rattle.scheme_model.specs.Kinds.{Token}
 use Rattle.scheme_model.specs.Faults.{Stop}
 use Rattle.datum_reader.specs.Texts.{TextReads}
-use Rattle.datum_reader.specs.Views.{tokens_of, state_of, data_of, bytes_seen, bytes_of, Fails}
+use Rattle.datum_reader.specs.Views.{tokens_of, data_of, bytes_seen, bytes_of}
+use Rattle.datum_reader.specs.OpenViews.{state_of, Fails}
 use Rattle.datum_reader.specs.Open.{read}
 use Rattle.datum_reader.proofs.ReadLaws.{one_front, spans_told, fails_within, fails_end, reads_end, fails_token}
 use Rattle.datum_reader.proofs.Stops as stops

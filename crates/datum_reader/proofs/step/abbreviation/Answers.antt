@@ -1,7 +1,8 @@
 use Rattle.std.proofs.Common.{◌∙◌, ap}
 use Rattle.scheme_model.specs.Data.{Datum}
 use Rattle.datum_reader.specs.Open as model
-use Rattle.datum_reader.specs.Views.{spot_of, data_of}
+use Rattle.datum_reader.specs.Views.{data_of}
+use Rattle.datum_reader.specs.OpenViews.{spot_of}
 use Rattle.datum_reader.proofs.DatumLaws.{abbreviated}
 use Rattle.datum_reader.proofs.step.abbreviation.Goals as goal
 

@@ -2,7 +2,8 @@ use Rattle.std.proofs.Common.{◌∙◌, ap, sym, Ok}
 use Rattle.std.specs.Prelude.{List}
 use Rattle.datum_reader.specs.declared.open.Frame.{Frame}
 use Rattle.datum_reader.specs.Open.{refused}
-use Rattle.datum_reader.specs.Views.{leaf_of, spot_of, data_of, stack_of}
+use Rattle.datum_reader.specs.Views.{leaf_of, data_of}
+use Rattle.datum_reader.specs.OpenViews.{spot_of, stack_of}
 use Rattle.datum_reader.proofs.StepLaws.{atoms_free}
 use Rattle.datum_reader.proofs.step.atom.Goals as goal
 

@@ -1,6 +1,6 @@
 use Rattle.std.proofs.Common.{◌∙◌, ap, sym}
 use Rattle.datum_reader.specs.Open.{refused_by}
-use Rattle.datum_reader.specs.Views.{spot_of, opener_of}
+use Rattle.datum_reader.specs.OpenViews.{spot_of, opener_of}
 use Rattle.datum_reader.proofs.StackLaws.{refused_last, told_refused}
 use Rattle.datum_reader.proofs.step.begin.Goals as goal
 

@@ -1,7 +1,8 @@
 use Rattle.std.proofs.Common.{◌∙◌, sym, subst, map}
 use Rattle.std.specs.Str.{chars}
 use Rattle.std.proofs.lemmas.Result.{err_from_is_err_and}
-use Rattle.datum_reader.specs.Views.{leaf_of, spot_of, data_of, stack_of, frame_of, Fails}
+use Rattle.datum_reader.specs.Views.{leaf_of, data_of}
+use Rattle.datum_reader.specs.OpenViews.{spot_of, stack_of, frame_of, Fails}
 use Rattle.datum_reader.specs.Open.{byte_of}
 use Rattle.datum_reader.proofs.StepLaws.{byte_same}
 use Rattle.datum_reader.proofs.step.byte_in.Goals as goal

@@ -1,6 +1,6 @@
 use Rattle.std.proofs.Common.{ap}
 use Rattle.std.proofs.lemmas.Result.{err_from_is_err_and}
-use Rattle.datum_reader.specs.Views.{spot_of}
+use Rattle.datum_reader.specs.OpenViews.{spot_of}
 use Rattle.datum_reader.proofs.StepLaws.{close_fails, close_gives}
 use Rattle.datum_reader.proofs.step.close.Goals as goal
 

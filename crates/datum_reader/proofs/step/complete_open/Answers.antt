@@ -1,6 +1,7 @@
 use Rattle.std.proofs.Common.{◌∷◌, ◌∙◌, ap, sym}
 use Rattle.datum_reader.specs.Open.{ended, reopened, state}
-use Rattle.datum_reader.specs.Views.{tail_datum, data_of, spot_of, frame_of, stack_of}
+use Rattle.datum_reader.specs.Views.{data_of}
+use Rattle.datum_reader.specs.OpenViews.{tail_datum, spot_of, frame_of, stack_of}
 use Rattle.datum_reader.specs.declared.tail.Tail.{Tail}
 use Rattle.datum_reader.specs.declared.open.Opener.TheVariants as openers
 use Rattle.datum_reader.proofs.StepLaws.{completed_top, mark_step}

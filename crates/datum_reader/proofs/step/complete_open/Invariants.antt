@@ -1,6 +1,7 @@
 use Rattle.std.proofs.Common.{◌≡◌, vec_len}
 use Rattle.datum_reader.specs.Open.{completed}
-use Rattle.datum_reader.specs.Views.{tail_datum, data_of, stack_of}
+use Rattle.datum_reader.specs.Views.{data_of}
+use Rattle.datum_reader.specs.OpenViews.{tail_datum, stack_of}
 use Rattle.datum_reader.proofs.step.complete_open.Given as goal
 
 abbrev pub invariant-loop-frame : goal.invariant-loop-frame

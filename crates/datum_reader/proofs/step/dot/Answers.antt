@@ -1,5 +1,6 @@
 use Rattle.std.proofs.Common.{◌∙◌, ◌==◌, ap, sym, length, true, false, Ok}
-use Rattle.datum_reader.specs.Views.{spot_of, data_of, frame_of}
+use Rattle.datum_reader.specs.Views.{data_of}
+use Rattle.datum_reader.specs.OpenViews.{spot_of, frame_of}
 use Rattle.datum_reader.proofs.StackLaws.{told_fails}
 use Rattle.datum_reader.proofs.StepLaws.{dots_top, none_before, first_dot}
 use Rattle.datum_reader.proofs.step.dot.Goals as goal

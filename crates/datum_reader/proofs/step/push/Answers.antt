@@ -1,5 +1,6 @@
 use Rattle.std.proofs.Common.{◌∙◌, ap, ◌∷◌}
-use Rattle.datum_reader.specs.Views.{data_of, spot_of, opener_of, stack_of}
+use Rattle.datum_reader.specs.Views.{data_of}
+use Rattle.datum_reader.specs.OpenViews.{spot_of, opener_of, stack_of}
 use Rattle.datum_reader.proofs.StackLaws.{stack_push, same_state}
 use Rattle.datum_reader.proofs.step.push.Goals as goal
 

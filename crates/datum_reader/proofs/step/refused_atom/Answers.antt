@@ -3,7 +3,8 @@ use Rattle.std.specs.Prelude.{Option}
 use Rattle.scheme_model.specs.Faults.{Stop}
 use Rattle.datum_reader.specs.declared.open.Frame.{Frame}
 use Rattle.datum_reader.specs.Open.{refused}
-use Rattle.datum_reader.specs.Views.{leaf_of, spot_of, stack_of, opener_of, data_of, Fails, Refuses}
+use Rattle.datum_reader.specs.Views.{leaf_of, data_of}
+use Rattle.datum_reader.specs.OpenViews.{spot_of, stack_of, opener_of, Fails, Refuses}
 use Rattle.std.proofs.lemmas.Result.{err_from_is_err_and}
 use Rattle.datum_reader.proofs.StepLaws.{atoms_top, refused_top, never_refused, none_there, refusal_fails}
 use Rattle.datum_reader.proofs.step.refused_atom.Goals as goal

@@ -2,7 +2,8 @@ use Rattle.std.proofs.Common.{[], ◌∷◌, ◌++◌, List, ap, sym, ◌∙◌,
 use Rattle.scheme_model.specs.Data.{Datum, atom, spelled}
 use Rattle.datum_reader.specs.declared.open.Frame.{Frame}
 use Rattle.datum_reader.specs.Open.{at, state, completed}
-use Rattle.datum_reader.specs.Views.{data_of, stack_of, leaf_of, spot_of}
+use Rattle.datum_reader.specs.Views.{data_of, leaf_of}
+use Rattle.datum_reader.specs.OpenViews.{stack_of, spot_of}
 use Rattle.datum_reader.proofs.DatumLaws.{data_of-append}
 use Rattle.datum_reader.proofs.StackLaws.{same_state}
 use Rattle.datum_reader.proofs.step.whole.Goals as goal

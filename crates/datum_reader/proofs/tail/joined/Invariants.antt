@@ -1,6 +1,7 @@
 use Rattle.std.proofs.Common.{◌≡◌, vec_len}
 use Rattle.scheme_model.specs.Data.{Data, row}
-use Rattle.datum_reader.specs.Views.{data_of, chained}
+use Rattle.datum_reader.specs.Views.{data_of}
+use Rattle.datum_reader.specs.OpenViews.{chained}
 use Rattle.datum_reader.proofs.tail.joined.Given as goal
 
 abbrev pub invariant-loop-run : goal.invariant-loop-run

@@ -1,5 +1,6 @@
 use Rattle.std.proofs.Common.{◌∙◌, ap, sym, refl}
-use Rattle.datum_reader.specs.Views.{end_data, tail_datum}
+use Rattle.datum_reader.specs.Views.{end_data}
+use Rattle.datum_reader.specs.OpenViews.{tail_datum}
 use Rattle.datum_reader.proofs.DatumLaws.{list_joined}
 use Rattle.datum_reader.proofs.tail.joined_datum.Goals as goal
 

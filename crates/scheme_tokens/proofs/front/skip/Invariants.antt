@@ -3,7 +3,7 @@ use Rattle.std.specs.Str.{chars}
 use denote.Text.{Utf8}
 use denote.Shadow.{shadow}
 use Rattle.scheme_tokens.specs.Mirror.Words.{behind}
-use Rattle.scheme_tokens.specs.Views.{test_of}
+use Rattle.scheme_tokens.specs.Mirror.Told.{test_of}
 use Rattle.scheme_tokens.proofs.front.skip.Given as goal
 
 abbrev pub invariant-loop-c : goal.invariant-loop-c

@@ -2,7 +2,7 @@ use Rattle.std.proofs.Common.{◌≡◌, ◌-◌, length, take, ap, ◌∙◌, s
 use Rattle.std.specs.Str.{IsUtf8, chars}
 use Rattle.std.proofs.lemmas.Str.{IsCharBoundary-from_drop}
 use Rattle.scheme_tokens.proofs.Fronts.{front_split}
-use Rattle.scheme_tokens.specs.Views.{test_of}
+use Rattle.scheme_tokens.specs.Mirror.Told.{test_of}
 use Rattle.scheme_tokens.proofs.front.split_front.Goals as goal
 
 pub range-requires-clause-end_boundary : goal.range-requires-clause-end_boundary

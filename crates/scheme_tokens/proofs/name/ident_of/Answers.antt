@@ -1,7 +1,8 @@
 use Rattle.std.proofs.Common.{sym, ◌∙◌, subst, rules}
 use Rattle.std.specs.Str.{chars}
 use Rattle.scheme_tokens.specs.Mirror.Tokens.{token}
-use Rattle.scheme_tokens.specs.Views.{kind_of, fault_of, Fails}
+use Rattle.scheme_tokens.specs.Views.{kind_of}
+use Rattle.scheme_tokens.specs.Mirror.Told.{fault_of, Fails}
 use Rattle.scheme_tokens.proofs.Fronts.{no_chars, first_char}
 use Rattle.scheme_tokens.proofs.NameLaws.{identifier, more_left, no_symbol, no_identifier}
 use Rattle.scheme_tokens.proofs.name.ident_of.Goals as goal

@@ -1,6 +1,6 @@
 use Rattle.std.proofs.Common.{ap, ◌∙◌, sym, subst, ℕ, List}
 use Rattle.scheme_tokens.specs.Mirror.Quoted.{hex_value, hex_scalar}
-use Rattle.scheme_tokens.specs.Views.{IsCapped}
+use Rattle.scheme_tokens.specs.Mirror.Told.{IsCapped}
 use Rattle.scheme_tokens.proofs.Fronts.{no_chars, first_char}
 use Rattle.scheme_tokens.proofs.HexLaws.{hex_scalar_is}
 use Rattle.scheme_tokens.proofs.quoted.hex_char.Goals as goal

@@ -6,7 +6,7 @@ use denote.Text.{Utf8}
 use denote.Shadow.{shadow}
 use Rattle.scheme_tokens.specs.Lexical.{is_hex_digit}
 use Rattle.scheme_tokens.specs.Mirror.Quoted.{hex_value}
-use Rattle.scheme_tokens.specs.Views.{IsCapped}
+use Rattle.scheme_tokens.specs.Mirror.Told.{IsCapped}
 use Rattle.scheme_tokens.proofs.quoted.hex_value.Given as goal
 
 abbrev pub invariant-loop-digit : goal.invariant-loop-digit

@@ -6,7 +6,7 @@ use Rattle.std.proofs.lemmas.Str.{chars-nil}
 use Rattle.std.proofs.lemmas.Bool.{eq-eqb, ne_eqb}
 use Rattle.scheme_tokens.specs.Mirror.Words.{byte_count}
 use Rattle.scheme_tokens.specs.Mirror.Quoted.{elements}
-use Rattle.scheme_tokens.specs.Views.{fault_of}
+use Rattle.scheme_tokens.specs.Mirror.Told.{fault_of}
 use Rattle.scheme_tokens.proofs.Fronts.{byte_count-chars}
 use Rattle.scheme_tokens.proofs.QuotedLaws.{onto, onto-none, closes, goes_on, fails, unclosed}
 use Rattle.scheme_tokens.proofs.quoted.quoted.Goals as goal

@@ -1,7 +1,8 @@
 use Rattle.std.proofs.Common.{None, Some, Ok, length, subst, refl, sym, ◌∙◌}
 use Rattle.std.specs.Str.{chars}
 use Rattle.scheme_tokens.specs.Mirror.Reading.{next}
-use Rattle.scheme_tokens.specs.Views.{IsNext, IsFront}
+use Rattle.scheme_tokens.specs.Views.{IsFront}
+use Rattle.scheme_tokens.specs.Mirror.Told.{IsNext}
 use Rattle.scheme_tokens.specs.declared.fault.ReadFault.{ReadFault}
 use Rattle.scheme_tokens.proofs.Fronts.{byte_count-chars}
 use Rattle.scheme_tokens.proofs.Readings.{read_whole, front_fault}

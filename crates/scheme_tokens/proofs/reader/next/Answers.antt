@@ -2,7 +2,8 @@ use Rattle.std.proofs.Common.{ap, ◌∙◌, sym, refl, subst}
 use Rattle.std.specs.Str.{chars}
 use Rattle.scheme_tokens.specs.Mirror.Tokens.{token}
 use Rattle.scheme_tokens.specs.Mirror.Reading.{found, next, next_behind, next_token, at_front, fault_at}
-use Rattle.scheme_tokens.specs.Views.{kind_of, fault_of, Fails}
+use Rattle.scheme_tokens.specs.Views.{kind_of}
+use Rattle.scheme_tokens.specs.Mirror.Told.{fault_of, Fails}
 use Rattle.scheme_tokens.proofs.Fronts.{no_chars, first_char}
 use Rattle.scheme_tokens.proofs.TokenLaws.{next-front}
 use Rattle.scheme_tokens.proofs.reader.next.Goals as goal
