@@ -28,7 +28,7 @@ impl Libraries {
 }
 
 /// A set of these names.
-pub fn names(alloc: Global, listed: &[Text]) -> Mem<BTreeSet<String>>
+fn names(alloc: Global, listed: &[Text]) -> Mem<BTreeSet<String>>
     ensures { IfOk result (λ names. (s : List ℕ) → contains_text names s ≡ has_name listed.now s) }
 {
     let mut names = BTreeSet::new(alloc);
