@@ -17,20 +17,20 @@ use Rattle.syntax_tree.specs.declared.trees.nodes.Tree as number
 use Rattle.syntax_tree.specs.declared.trees.table.Region.{Region}
 use Rattle.core_tree.specs.Cores.{CoreStands}
 use Rattle.core_tree.specs.declared.cores.Core as code_core
-use Rattle.expander.specs.Counts.{Begins}
-use Rattle.expander.specs.Judged.{Knows, library_text}
-use Rattle.expander.specs.State.{Stands}
-use Rattle.expander.specs.Stepped.{spent}
-use Rattle.expander.specs.Outcomes.{At, Grows, SameForm, Stays, Moves, Ends, Runs, CanLook, WorksOn, IsEnough, IsEnoughBelow, HasRoom, Spends}
+use Rattle.unit_scopes.specs.Counts.{Begins}
+use Rattle.feature_requirements.specs.Judged.{Knows, library_text}
+use Rattle.unit_scopes.specs.State.{Stands}
+use Rattle.unit_scopes.specs.Stepped.{spent}
+use Rattle.unit_scopes.specs.Outcomes.{At, Grows, SameForm, Stays, Moves, Ends, Runs, CanLook, WorksOn, IsEnough, IsEnoughBelow, HasRoom, Spends}
 use Rattle.expander.specs.Ready.{IsSettled, Settles, Reads, Expanding}
-use Rattle.expander.specs.Searched.{searched}
+use Rattle.unit_scopes.specs.Searched.{searched}
 use Rattle.expander.specs.declared.expressions.Ready.TheVariants as ready
-use Rattle.expander.specs.declared.fault.ExpandFault.{ExpandFault}
-use Rattle.expander.specs.declared.fault.ExpandFault.TheVariants as fault
-use Rattle.expander.specs.declared.scope.UnitScope.{UnitScope}
-use Rattle.expander.proofs.OutcomeLaws.{ends_after, moves_here, here_ends}
-use Rattle.expander.proofs.CountingStands.{nodes_stand}
-use Rattle.expander.proofs.NodeLaws.{spends, begins_goes, here_done}
+use Rattle.feature_requirements.specs.declared.fault.ExpandFault.{ExpandFault}
+use Rattle.feature_requirements.specs.declared.fault.ExpandFault.TheVariants as fault
+use Rattle.unit_scopes.specs.declared.scope.UnitScope.{UnitScope}
+use Rattle.unit_scopes.proofs.OutcomeLaws.{ends_after, moves_here, here_ends}
+use Rattle.unit_scopes.proofs.CountingStands.{nodes_stand}
+use Rattle.unit_scopes.proofs.NodeLaws.{spends, begins_goes, here_done}
 
 -- ---- what can be done after a call
 

@@ -10,18 +10,18 @@ use Rattle.syntax_tree.specs.declared.trees.table.Region.{Region}
 use Rattle.std.specs.BTreeSet.{BTreeSet}
 use Rattle.std.specs.Prelude.{String}
 use Rattle.std.specs.declared.alloc.Global.{Global}
-use Rattle.expander.specs.Judged.{Knows}
-use Rattle.expander.specs.State.{Stands}
-use Rattle.expander.specs.Stepped.{spent}
-use Rattle.expander.specs.Outcomes.{At, Ends, CanLook, IsEnough, IsEnoughBelow, HasRoom, Spends}
+use Rattle.feature_requirements.specs.Judged.{Knows}
+use Rattle.unit_scopes.specs.State.{Stands}
+use Rattle.unit_scopes.specs.Stepped.{spent}
+use Rattle.unit_scopes.specs.Outcomes.{At, Ends, CanLook, IsEnough, IsEnoughBelow, HasRoom, Spends}
 use Rattle.expander.specs.Ready.{BeginsBelow}
-use Rattle.expander.specs.Searched.{searched}
+use Rattle.unit_scopes.specs.Searched.{searched}
 use Rattle.expander.specs.declared.expressions.At as code_at
-use Rattle.expander.specs.declared.fault.ExpandFault.{ExpandFault}
-use Rattle.expander.specs.declared.fault.ExpandFault.TheVariants as fault
-use Rattle.expander.specs.declared.scope.UnitScope.{UnitScope}
-use Rattle.expander.proofs.OutcomeLaws.{here_ends, ends_fails}
-use Rattle.expander.proofs.NodeLaws.{begins_fails}
+use Rattle.feature_requirements.specs.declared.fault.ExpandFault.{ExpandFault}
+use Rattle.feature_requirements.specs.declared.fault.ExpandFault.TheVariants as fault
+use Rattle.unit_scopes.specs.declared.scope.UnitScope.{UnitScope}
+use Rattle.unit_scopes.proofs.OutcomeLaws.{here_ends, ends_fails}
+use Rattle.unit_scopes.proofs.NodeLaws.{begins_fails}
 use Rattle.expander.proofs.AfterLaws.{node_then, begins_look, room_begun, spends_begun, enough_deeper}
 use Rattle.expander.proofs.RowLaws.{ends_mapped}
 

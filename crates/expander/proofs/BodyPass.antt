@@ -17,28 +17,28 @@ use Rattle.syntax_tree.specs.declared.trees.table.Region.{Region}
 use Rattle.syntax_tree.proofs.Places.{get_front, get_next}
 use Rattle.scope_env.specs.Environment.{IsSound, with_child}
 use Rattle.core_tree.specs.Names.{AllMatch}
-use Rattle.expander.specs.Asks.{AskedStands}
+use Rattle.unit_scopes.specs.Asks.{AskedStands}
 use Rattle.expander.specs.Bodies.{BodyFor, body_pass}
-use Rattle.expander.specs.Judged.{Knows}
-use Rattle.expander.specs.State.{Stands, most_locals}
-use Rattle.expander.specs.Stepped.{entered, entered_frames}
-use Rattle.expander.specs.FormsSeen.{form_at}
-use Rattle.expander.specs.Kept.{KeptFor, PendingFor, NoteFor, NotesFor, SpotFor, forms_size, left_with}
-use Rattle.expander.specs.Outcomes.{At, Stays, Moves, Ends}
+use Rattle.feature_requirements.specs.Judged.{Knows}
+use Rattle.unit_scopes.specs.State.{Stands, most_locals}
+use Rattle.unit_scopes.specs.Stepped.{entered, entered_frames}
+use Rattle.form_parts.specs.FormsSeen.{form_at}
+use Rattle.unit_scopes.specs.Kept.{KeptFor, PendingFor, NoteFor, NotesFor, SpotFor, forms_size, left_with}
+use Rattle.unit_scopes.specs.Outcomes.{At, Stays, Moves, Ends}
 use Rattle.expander.specs.Passed.{CanPass, Passes}
-use Rattle.expander.specs.Searched.{searched}
-use Rattle.expander.specs.declared.asked.Asked.{Asked}
-use Rattle.expander.specs.declared.asked.Note as code_note
-use Rattle.expander.specs.declared.fault.ExpandFault.{ExpandFault}
-use Rattle.expander.specs.declared.fault.ExpandFault.TheVariants as fault
-use Rattle.expander.specs.declared.items.Kept as code_kept
-use Rattle.expander.specs.declared.items.Pending as code_pending
-use Rattle.expander.specs.declared.items.Spot.{Spot}
-use Rattle.expander.specs.declared.scope.UnitScope.{UnitScope}
-use Rattle.expander.proofs.BodiesStand.{body_stands, body_opens}
-use Rattle.expander.proofs.BodyScopes.{new_binds}
+use Rattle.unit_scopes.specs.Searched.{searched}
+use Rattle.unit_scopes.specs.declared.asked.Asked.{Asked}
+use Rattle.unit_scopes.specs.declared.asked.Note as code_note
+use Rattle.feature_requirements.specs.declared.fault.ExpandFault.{ExpandFault}
+use Rattle.feature_requirements.specs.declared.fault.ExpandFault.TheVariants as fault
+use Rattle.form_parts.specs.declared.items.Kept as code_kept
+use Rattle.form_parts.specs.declared.items.Pending as code_pending
+use Rattle.form_parts.specs.declared.items.Spot.{Spot}
+use Rattle.unit_scopes.specs.declared.scope.UnitScope.{UnitScope}
+use Rattle.unit_scopes.proofs.BodiesStand.{body_stands, body_opens}
+use Rattle.unit_scopes.proofs.BodyScopes.{new_binds}
 use Rattle.expander.proofs.FormRows.{todo_stands}
-use Rattle.expander.proofs.OutcomeLaws.{grows_itself, stays_on, leaves_on, fills_on}
+use Rattle.unit_scopes.proofs.OutcomeLaws.{grows_itself, stays_on, leaves_on, fills_on}
 
 forms_of_size : (here : Here) (ts : Trees Identifier) → forms_size (forms_at here ts) ≡ trees_size ts
 forms_of_size here no_trees = refl

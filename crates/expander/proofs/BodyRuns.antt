@@ -27,27 +27,27 @@ use Rattle.core_tree.specs.declared.cores.Binder as code_binder
 use Rattle.core_tree.specs.declared.cores.Core as code_core
 use Rattle.core_tree.specs.declared.cores.Core.TheVariants as cores
 use Rattle.core_tree.specs.declared.cores.CorePart as code_part
-use Rattle.expander.specs.Binds.{Binds}
+use Rattle.unit_scopes.specs.Binds.{Binds}
 use Rattle.expander.specs.Bodies.{BodyFor, body_pass}
-use Rattle.expander.specs.Judged.{Knows}
-use Rattle.expander.specs.Kept.{KeptFor}
-use Rattle.expander.specs.Outcomes.{At, CanLook, Ends, Runs, IsEnough, HasRoom, Spends}
+use Rattle.feature_requirements.specs.Judged.{Knows}
+use Rattle.unit_scopes.specs.Kept.{KeptFor}
+use Rattle.unit_scopes.specs.Outcomes.{At, CanLook, Ends, Runs, IsEnough, HasRoom, Spends}
 use Rattle.expander.specs.Ready.{BeginsBelow}
-use Rattle.expander.specs.Searched.{searched}
-use Rattle.expander.specs.State.{Stands, most_locals}
-use Rattle.expander.specs.Stepped.{spent, taken, bound_frames, entered, entered_frames}
+use Rattle.unit_scopes.specs.Searched.{searched}
+use Rattle.unit_scopes.specs.State.{Stands, most_locals}
+use Rattle.unit_scopes.specs.Stepped.{spent, taken, bound_frames, entered, entered_frames}
 use Rattle.expander.specs.declared.expressions.At as code_at
-use Rattle.expander.specs.declared.fault.ExpandFault.{ExpandFault}
-use Rattle.expander.specs.declared.fault.ExpandFault.TheVariants as fault
-use Rattle.expander.specs.declared.items.Kept as code_kept
-use Rattle.expander.specs.declared.scope.UnitScope.{UnitScope}
+use Rattle.feature_requirements.specs.declared.fault.ExpandFault.{ExpandFault}
+use Rattle.feature_requirements.specs.declared.fault.ExpandFault.TheVariants as fault
+use Rattle.form_parts.specs.declared.items.Kept as code_kept
+use Rattle.unit_scopes.specs.declared.scope.UnitScope.{UnitScope}
 use Rattle.expander.proofs.AfterLaws.{IsAfter}
 use Rattle.expander.proofs.BelowLaws.{below_at, below_knows, node_below}
-use Rattle.expander.proofs.BindersStand.{binders_stand, BindersStand}
+use Rattle.unit_scopes.proofs.BindersStand.{binders_stand, BindersStand}
 use Rattle.expander.proofs.CoreLaws.{binds_moves, body_is, inner_at}
 use Rattle.expander.proofs.LoopLaws.{knows_on}
-use Rattle.expander.proofs.NodeLaws.{ends_then}
-use Rattle.expander.proofs.OutcomeLaws.{ends_fails, leaves_itself}
+use Rattle.unit_scopes.proofs.NodeLaws.{ends_then}
+use Rattle.unit_scopes.proofs.OutcomeLaws.{ends_fails, leaves_itself}
 use Rattle.expander.proofs.RowLaws.{ends_mapped}
 use Rattle.expander.proofs.StepLaws.{node_none}
 

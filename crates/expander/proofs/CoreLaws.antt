@@ -27,21 +27,21 @@ use Rattle.core_tree.specs.Cores.{CoreStands}
 use Rattle.core_tree.specs.declared.cores.Binder as code_binder
 use Rattle.core_tree.specs.declared.cores.Clause as code_clause
 use Rattle.core_tree.specs.declared.cores.Core as code_core
-use Rattle.expander.specs.Binds.{Binds}
+use Rattle.unit_scopes.specs.Binds.{Binds}
 use Rattle.expander.specs.Bodies.{body_pass}
-use Rattle.expander.specs.State.{Stands, most_locals}
-use Rattle.expander.specs.Stepped.{taken, bound_frames, bound_binders, with_binders, entered, entered_frames}
+use Rattle.unit_scopes.specs.State.{Stands, most_locals}
+use Rattle.unit_scopes.specs.Stepped.{taken, bound_frames, bound_binders, with_binders, entered, entered_frames}
 use Rattle.std.specs.BTreeSet.{BTreeSet}
-use Rattle.expander.specs.Judged.{Knows}
-use Rattle.expander.specs.Outcomes.{At, Moves, Ends, Runs}
+use Rattle.feature_requirements.specs.Judged.{Knows}
+use Rattle.unit_scopes.specs.Outcomes.{At, Moves, Ends, Runs}
 use Rattle.expander.specs.Expanded.{ClauseStands, macros_step}
-use Rattle.expander.specs.Searched.{searched}
-use Rattle.expander.specs.declared.fault.ExpandFault.{ExpandFault}
-use Rattle.expander.specs.declared.scope.UnitScope.{UnitScope}
-use Rattle.expander.proofs.BindersStand.{bound_is, roots_stay, binders_stand, BindersStand}
-use Rattle.expander.proofs.OutcomeLaws.{grows_itself, ends_after, ends_fails}
+use Rattle.unit_scopes.specs.Searched.{searched}
+use Rattle.feature_requirements.specs.declared.fault.ExpandFault.{ExpandFault}
+use Rattle.unit_scopes.specs.declared.scope.UnitScope.{UnitScope}
+use Rattle.unit_scopes.proofs.BindersStand.{bound_is, roots_stay, binders_stand, BindersStand}
+use Rattle.unit_scopes.proofs.OutcomeLaws.{grows_itself, ends_after, ends_fails}
 use Rattle.expander.proofs.RowLaws.{ends_mapped}
-use Rattle.expander.proofs.CoreStandLaws.{binders_on}
+use Rattle.unit_scopes.proofs.CoreStandLaws.{binders_on}
 
 -- ---- names that are bound
 

@@ -16,22 +16,22 @@ use Rattle.core_forms.specs.Forms.{Shape, shape_in}
 use Rattle.core_forms.specs.declared.fault.CoreFault.{CoreFault}
 use Rattle.core_tree.specs.Names.{IsTarget}
 use Rattle.core_tree.specs.declared.cores.Target as code_target
-use Rattle.expander.specs.Kept.{NotesFor, SpotFor}
+use Rattle.unit_scopes.specs.Kept.{NotesFor, SpotFor}
 use Rattle.expander.specs.Passed.{GoesOn, pass_step}
-use Rattle.expander.specs.Searched.{searched}
-use Rattle.expander.specs.FormsSeen.{takes_effect}
-use Rattle.expander.specs.State.{Stands}
-use Rattle.expander.specs.Stepped.{met, with_keyword}
-use Rattle.expander.specs.Told.{core_fault, told, Tells}
-use Rattle.expander.specs.declared.asked.Asked.{Asked}
-use Rattle.expander.specs.declared.fault.ExpandFault.{ExpandFault}
-use Rattle.expander.specs.declared.items.Pending as code_pending
-use Rattle.expander.specs.declared.items.Spot.{Spot}
-use Rattle.expander.specs.declared.scope.UnitScope.{UnitScope}
+use Rattle.unit_scopes.specs.Searched.{searched}
+use Rattle.form_parts.specs.FormsSeen.{takes_effect}
+use Rattle.unit_scopes.specs.State.{Stands}
+use Rattle.unit_scopes.specs.Stepped.{met, with_keyword}
+use Rattle.unit_scopes.specs.Told.{core_fault, told, Tells}
+use Rattle.unit_scopes.specs.declared.asked.Asked.{Asked}
+use Rattle.feature_requirements.specs.declared.fault.ExpandFault.{ExpandFault}
+use Rattle.form_parts.specs.declared.items.Pending as code_pending
+use Rattle.form_parts.specs.declared.items.Spot.{Spot}
+use Rattle.unit_scopes.specs.declared.scope.UnitScope.{UnitScope}
 use Rattle.expander.proofs.PassForms.{keyword_stays}
 use Rattle.expander.proofs.PassLaws.{spot_same, goes_so, goes_after, goes_misread}
 use Rattle.expander.proofs.PassSteps.{core_is}
-use Rattle.expander.proofs.ToldLaws.{misread_is}
+use Rattle.unit_scopes.proofs.ToldLaws.{misread_is}
 
 module _ (known : Known) (work : Work) (region : Region) (u w : UnitScope) (ls : List Frames) (spot : Spot) (fs : Frames) (s : ScopedState) (p : Pending Identifier FramedIdent) (c : CoreKeyword) (x : code_target.Target) (k : Target) (m : Form Identifier) (here : Here)
     (head : Tree Identifier) (ts : Trees Identifier) (tail : Tail Identifier) (o : Here) (given : ℕ) (todo : code_pending.Pending) (asked : Asked) (mark : Identifier → Option Mark) (effect : takes_effect c ≡ true) (is : m.tree ≡ list (tree head ts) tail o)

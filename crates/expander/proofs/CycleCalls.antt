@@ -20,13 +20,13 @@ use Rattle.core_tree.specs.declared.cores.Core as code_core
 use Rattle.core_tree.specs.declared.cores.CorePart as code_part
 use Rattle.expander.specs.Bodies.{BodyFor, body_pass}
 use Rattle.expander.specs.Expanded.{AreKeptAtWork, BodyAtWork, ClauseAtWork, ClauseStands, KeptAtWork}
-use Rattle.expander.specs.Kept.{ClauseFor, KeptFor}
-use Rattle.expander.specs.Outcomes.{CanLook, IsAtWork, IsEnough, IsEnoughBelow, Runs}
-use Rattle.expander.specs.Searched.{searched}
+use Rattle.unit_scopes.specs.Kept.{ClauseFor, KeptFor}
+use Rattle.unit_scopes.specs.Outcomes.{CanLook, IsAtWork, IsEnough, IsEnoughBelow, Runs}
+use Rattle.unit_scopes.specs.Searched.{searched}
 use Rattle.expander.specs.declared.expressions.At as code_at
-use Rattle.expander.specs.declared.fault.ExpandFault.{ExpandFault}
-use Rattle.expander.specs.declared.items.Kept as code_kept
-use Rattle.expander.specs.declared.scope.UnitScope.{UnitScope}
+use Rattle.feature_requirements.specs.declared.fault.ExpandFault.{ExpandFault}
+use Rattle.form_parts.specs.declared.items.Kept as code_kept
+use Rattle.unit_scopes.specs.declared.scope.UnitScope.{UnitScope}
 use Rattle.expander.proofs.AfterLaws.{IsAfter, all_known, enough_there, runs_after}
 
 module _ (old new : Work) (region : Region) (u v : UnitScope) (at : code_at.At) where

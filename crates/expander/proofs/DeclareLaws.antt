@@ -12,22 +12,22 @@ use Rattle.syntax_tree.specs.declared.trees.Work.{Work}
 use Rattle.syntax_tree.specs.declared.trees.nodes.Tree as number
 use Rattle.syntax_tree.specs.declared.trees.table.Region.{Region}
 use Rattle.core_tree.specs.Names.{AllMatch}
-use Rattle.expander.specs.Kept.{KeptFor, FormFor, PendingFor, SpotFor}
-use Rattle.expander.specs.Outcomes.{Leaves, SameForm, Stays, Moves, Ends, IsAtWork, HasRoom}
+use Rattle.unit_scopes.specs.Kept.{KeptFor, FormFor, PendingFor, SpotFor}
+use Rattle.unit_scopes.specs.Outcomes.{Leaves, SameForm, Stays, Moves, Ends, IsAtWork, HasRoom}
 use Rattle.expander.specs.Passed.{CanPass, Passes}
-use Rattle.expander.specs.FormsSeen.{form_at, item_of}
-use Rattle.expander.specs.State.{Stands}
-use Rattle.expander.specs.Units.{ItemFor, CanSet, Sets}
-use Rattle.expander.specs.declared.asked.Asked.{Asked}
-use Rattle.expander.specs.declared.fault.ExpandFault.{ExpandFault}
-use Rattle.expander.specs.declared.fault.ExpandFault.TheVariants as fault
-use Rattle.expander.specs.declared.items.Item as code_item
-use Rattle.expander.specs.declared.items.Kept as code_kept
-use Rattle.expander.specs.declared.items.Pending as code_pending
-use Rattle.expander.specs.declared.items.Spot as code_spot
-use Rattle.expander.specs.declared.scope.UnitScope.{UnitScope}
-use Rattle.expander.proofs.CallLaws.{with_asked}
-use Rattle.expander.proofs.OutcomeLaws.{leaves_itself}
+use Rattle.form_parts.specs.FormsSeen.{form_at, item_of}
+use Rattle.unit_scopes.specs.State.{Stands}
+use Rattle.unit_scopes.specs.Units.{ItemFor, CanSet, Sets}
+use Rattle.unit_scopes.specs.declared.asked.Asked.{Asked}
+use Rattle.feature_requirements.specs.declared.fault.ExpandFault.{ExpandFault}
+use Rattle.feature_requirements.specs.declared.fault.ExpandFault.TheVariants as fault
+use Rattle.form_parts.specs.declared.items.Item as code_item
+use Rattle.form_parts.specs.declared.items.Kept as code_kept
+use Rattle.form_parts.specs.declared.items.Pending as code_pending
+use Rattle.form_parts.specs.declared.items.Spot as code_spot
+use Rattle.unit_scopes.specs.declared.scope.UnitScope.{UnitScope}
+use Rattle.unit_scopes.proofs.CallLaws.{with_asked}
+use Rattle.unit_scopes.proofs.OutcomeLaws.{leaves_itself}
 
 abbrev pub asking : UnitScope → Asked → UnitScope
 asking u a = record u { asked = a }

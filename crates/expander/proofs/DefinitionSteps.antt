@@ -20,25 +20,25 @@ use Rattle.syntax_tree.specs.declared.trees.table.Region.{Region}
 use Rattle.core_forms.specs.Parts as forms
 use Rattle.core_tree.specs.Names.{AllMatch, IsBinder}
 use Rattle.core_tree.specs.declared.cores.Binder as code_binder
-use Rattle.expander.specs.Binds.{with_locals}
-use Rattle.expander.specs.Stepped.{taken, bound_binders}
-use Rattle.expander.specs.Searched.{speaks_of, searched}
-use Rattle.expander.specs.Kept.{FormFor, PendingFor, NotesFor, SpotFor, KeptFor, left_with}
-use Rattle.expander.specs.Outcomes.{SameForm, Stays}
-use Rattle.expander.specs.Defining.{GoesTo, EndsIn, define_each}
+use Rattle.unit_scopes.specs.Binds.{with_locals}
+use Rattle.unit_scopes.specs.Stepped.{taken, bound_binders}
+use Rattle.unit_scopes.specs.Searched.{speaks_of, searched}
+use Rattle.unit_scopes.specs.Kept.{FormFor, PendingFor, NotesFor, SpotFor, KeptFor, left_with}
+use Rattle.unit_scopes.specs.Outcomes.{SameForm, Stays}
+use Rattle.unit_scopes.specs.Defining.{GoesTo, EndsIn, define_each}
 use Rattle.expander.specs.Passed.{GoesOn}
-use Rattle.expander.specs.declared.asked.Asked.{Asked}
-use Rattle.expander.specs.declared.fault.ExpandFault.{ExpandFault}
-use Rattle.expander.specs.declared.fault.ExpandFault.TheVariants as fault
-use Rattle.expander.specs.declared.items.Form as code_form
-use Rattle.expander.specs.declared.items.Kept as code_kept
-use Rattle.expander.specs.declared.items.Pending as code_pending
-use Rattle.expander.specs.declared.items.Spot.{Spot}
-use Rattle.expander.specs.declared.scope.UnitScope.{UnitScope}
-use Rattle.expander.specs.State.{Stands}
-use Rattle.expander.proofs.BindersStand.{fields_are}
-use Rattle.expander.proofs.CountingStands.{all_last}
-use Rattle.expander.proofs.OutcomeLaws.{bound_fails, grows_itself, leaves_itself, same_itself, same_on, stays_itself}
+use Rattle.unit_scopes.specs.declared.asked.Asked.{Asked}
+use Rattle.feature_requirements.specs.declared.fault.ExpandFault.{ExpandFault}
+use Rattle.feature_requirements.specs.declared.fault.ExpandFault.TheVariants as fault
+use Rattle.form_parts.specs.declared.items.Form as code_form
+use Rattle.form_parts.specs.declared.items.Kept as code_kept
+use Rattle.form_parts.specs.declared.items.Pending as code_pending
+use Rattle.form_parts.specs.declared.items.Spot.{Spot}
+use Rattle.unit_scopes.specs.declared.scope.UnitScope.{UnitScope}
+use Rattle.unit_scopes.specs.State.{Stands}
+use Rattle.unit_scopes.proofs.BindersStand.{fields_are}
+use Rattle.unit_scopes.proofs.CountingStands.{all_last}
+use Rattle.unit_scopes.proofs.OutcomeLaws.{bound_fails, grows_itself, leaves_itself, same_itself, same_on, stays_itself}
 
 -- ---- what goes on behind a step
 

@@ -23,17 +23,17 @@ use Rattle.core_tree.specs.Cores.{CoreStands, CoresStand}
 use Rattle.core_tree.specs.declared.cores.Core as code_core
 use Rattle.expander.specs.CoreSteps.{core_step, IsLeft}
 use Rattle.expander.specs.Expanded.{AreAtWork, ShapeAtWork}
-use Rattle.expander.specs.Judged.{Knows}
-use Rattle.expander.specs.Outcomes.{At, CanLook, IsAtWork, WorksOn, IsEnough, IsEnoughBelow, Runs}
+use Rattle.feature_requirements.specs.Judged.{Knows}
+use Rattle.unit_scopes.specs.Outcomes.{At, CanLook, IsAtWork, WorksOn, IsEnough, IsEnoughBelow, Runs}
 use Rattle.expander.specs.Passed.{ShapeFits}
 use Rattle.expander.specs.Ready.{Prepares, BeginsBelow}
-use Rattle.expander.specs.Searched.{searched}
-use Rattle.expander.specs.State.{Stands}
+use Rattle.unit_scopes.specs.Searched.{searched}
+use Rattle.unit_scopes.specs.State.{Stands}
 use Rattle.expander.specs.declared.expressions.At as code_at
 use Rattle.expander.specs.declared.expressions.Ready as code_ready
 use Rattle.expander.specs.declared.expressions.Ready.TheVariants as ready
-use Rattle.expander.specs.declared.fault.ExpandFault.{ExpandFault}
-use Rattle.expander.specs.declared.scope.UnitScope.{UnitScope}
+use Rattle.feature_requirements.specs.declared.fault.ExpandFault.{ExpandFault}
+use Rattle.unit_scopes.specs.declared.scope.UnitScope.{UnitScope}
 use Rattle.expander.proofs.AfterLaws.{IsAfter, all_known, enough_there, runs_after}
 use Rattle.expander.proofs.LoopLaws.{knows_on}
 use Rattle.expander.proofs.PrepareLaws.{prepared_fails, prepared_core, prepared_call, prepared_shape, prepares_after}

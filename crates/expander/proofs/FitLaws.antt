@@ -9,7 +9,7 @@ use Rattle.scheme_model.specs.Quasiquote.{Mark, quasi_of}
 use Rattle.scheme_model.specs.Shapes.{Formals, Clause, DefinitionShape, Variable, Procedure as define_procedure, LocalMacros, first_of, list_of, one_of, some_of, proper_of, if_of, name_of, names_of, formals_in, formals_of, clause_in, clauses_in, distinct, distinct_all, lambda_of, case_lambda_of, named_tree_of, error_text_of, procedure_of, definition_with, definition_of, values_of, record_of, bindings_of, local_macros_of}
 use Rattle.scheme_model.specs.Ident.{Ident as Identifier, same_ident}
 use Rattle.core_forms.specs.Forms.{Shape, Quoted, Quasi, Procedure, Procedures, Conditional, Assignment, Sequence, Definition, Several, RecordType, Syntax, Local, Choices, ErrorText, Inclusion, unless_expression, sequence_of, record_shape_of, choices_in, shape_of}
-use Rattle.expander.specs.Kept.{ClauseFits}
+use Rattle.unit_scopes.specs.Kept.{ClauseFits}
 use Rattle.expander.specs.Passed.{ClausesFit, ShapeFits}
 
 -- ---- readings that were made

@@ -33,21 +33,21 @@ use Rattle.core_tree.specs.Cores.{CoreStands}
 use Rattle.core_tree.specs.Traces.{IsFault}
 use Rattle.core_tree.specs.declared.cores.Core as code_core
 use Rattle.expander.specs.CoreSteps.{core_step, IsLeft}
-use Rattle.expander.specs.Marked.{mark_within}
+use Rattle.form_parts.specs.Marked.{mark_within}
 use Rattle.expander.specs.Ready.{Expanding, Reads}
-use Rattle.expander.specs.Searched.{searched}
-use Rattle.expander.specs.State.{Stands}
-use Rattle.expander.specs.Outcomes.{EndsHere}
-use Rattle.expander.specs.Told.{told, Tells}
+use Rattle.unit_scopes.specs.Searched.{searched}
+use Rattle.unit_scopes.specs.State.{Stands}
+use Rattle.unit_scopes.specs.Outcomes.{EndsHere}
+use Rattle.unit_scopes.specs.Told.{told, Tells}
 use Rattle.expander.specs.declared.expressions.Ready as code_ready
 use Rattle.expander.specs.declared.expressions.Ready.TheVariants as ready
-use Rattle.expander.specs.declared.fault.ExpandFault.{ExpandFault}
-use Rattle.expander.specs.declared.fault.ExpandFault.TheVariants as fault
-use Rattle.expander.specs.declared.scope.UnitScope.{UnitScope}
-use Rattle.expander.proofs.OutcomeLaws.{stays_itself, leaves_itself}
+use Rattle.feature_requirements.specs.declared.fault.ExpandFault.{ExpandFault}
+use Rattle.feature_requirements.specs.declared.fault.ExpandFault.TheVariants as fault
+use Rattle.unit_scopes.specs.declared.scope.UnitScope.{UnitScope}
+use Rattle.unit_scopes.proofs.OutcomeLaws.{stays_itself, leaves_itself}
 use Rattle.expander.proofs.FitLaws.{shape_fits}
 use Rattle.expander.proofs.ShapeLaws.{core_form_is}
-use Rattle.expander.proofs.QuasiReads.{marks_within}
+use Rattle.form_parts.proofs.QuasiReads.{marks_within}
 
 -- ---- marks
 

@@ -10,9 +10,9 @@ use Rattle.syntax_tree.specs.declared.trees.Work.{Work}
 use Rattle.syntax_tree.specs.declared.trees.table.Region.{Region}
 use Rattle.syntax_tree.specs.declared.trees.nodes.Tree as number
 use Rattle.core_tree.specs.Names.{AllMatch}
-use Rattle.expander.specs.declared.items.Form as code
-use Rattle.expander.specs.Kept.{FormFor}
-use Rattle.expander.specs.FormsSeen.{form_at}
+use Rattle.form_parts.specs.declared.items.Form as code
+use Rattle.unit_scopes.specs.Kept.{FormFor}
+use Rattle.form_parts.specs.FormsSeen.{form_at}
 
 -- forms by number stand for the forms of these trees
 pub forms_stand : (work : Work) (region : Region) (here : Option Occ) (ns : List number.Tree) (ts : Trees Identifier) → PartsStand work ns ts → AllNamed work region ns → AllMatch (FormFor work region) (map (form_at here) ns) (forms_at here ts)

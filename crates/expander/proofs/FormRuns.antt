@@ -36,25 +36,25 @@ use Rattle.core_tree.specs.declared.cores.Core.TheVariants as cores
 use Rattle.core_tree.specs.declared.cores.CorePart as code_part
 use Rattle.core_tree.specs.declared.cores.Target as code_target
 use Rattle.expander.specs.CoreSteps.{core_step}
-use Rattle.expander.specs.Counts.{plain_fault}
+use Rattle.feature_requirements.specs.Faults.{plain_fault}
 use Rattle.expander.specs.Expanded.{ClauseStands}
-use Rattle.expander.specs.Judged.{Knows, ChoosesForms, chosen_among, forms_chosen, some_chosen}
-use Rattle.expander.specs.Outcomes.{At, Grows, SameForm, Ends, Runs}
+use Rattle.feature_requirements.specs.Judged.{Knows, ChoosesForms, chosen_among, forms_chosen, some_chosen}
+use Rattle.unit_scopes.specs.Outcomes.{At, Grows, SameForm, Ends, Runs}
 use Rattle.expander.specs.Ready.{BeginsBelow, TestsVariable}
-use Rattle.expander.specs.Searched.{searched}
-use Rattle.expander.specs.State.{Stands}
-use Rattle.expander.specs.Stepped.{spent}
+use Rattle.unit_scopes.specs.Searched.{searched}
+use Rattle.unit_scopes.specs.State.{Stands}
+use Rattle.unit_scopes.specs.Stepped.{spent}
 use Rattle.expander.specs.declared.expressions.At as code_at
-use Rattle.expander.specs.declared.fault.ExpandFault.{ExpandFault}
-use Rattle.expander.specs.declared.fault.ExpandFault.TheVariants as fault
-use Rattle.expander.specs.declared.scope.UnitScope.{UnitScope}
+use Rattle.feature_requirements.specs.declared.fault.ExpandFault.{ExpandFault}
+use Rattle.feature_requirements.specs.declared.fault.ExpandFault.TheVariants as fault
+use Rattle.unit_scopes.specs.declared.scope.UnitScope.{UnitScope}
 use Rattle.expander.proofs.BelowLaws.{same_fault}
-use Rattle.expander.proofs.ChoiceLaws.{chosen_sequence_is}
-use Rattle.expander.proofs.CoreStandLaws.{target_on}
+use Rattle.feature_requirements.proofs.ChoiceLaws.{chosen_sequence_is}
+use Rattle.unit_scopes.proofs.CoreStandLaws.{target_on}
 use Rattle.expander.proofs.ExpandLaws.{EachRuns, each_node, each_node_fails}
 use Rattle.expander.proofs.HoleLaws.{quasi_holes, quasi_places}
-use Rattle.expander.proofs.NodeLaws.{fails_here}
-use Rattle.expander.proofs.OutcomeLaws.{here_ends, leaves_itself}
+use Rattle.unit_scopes.proofs.NodeLaws.{fails_here}
+use Rattle.unit_scopes.proofs.OutcomeLaws.{here_ends, leaves_itself}
 use Rattle.expander.proofs.ReadLaws.{unless_goes, tested_fails, target_at}
 use Rattle.expander.proofs.ShapeParts.{IsMisplaced}
 use Rattle.expander.proofs.StepLaws.{node_runs, node_stops, node_none}

@@ -19,9 +19,9 @@ use Rattle.syntax_tree.specs.declared.trees.Work.{Work}
 use Rattle.syntax_tree.proofs.InternLaws.{ident_itself}
 use Rattle.rules_match.specs.Matches.{is_ident, means_same}
 use Rattle.core_tree.specs.Names.{AllMatch}
-use Rattle.expander.specs.Used.{ComparisonFor, AreHeld}
-use Rattle.expander.specs.Searched.{searched}
-use Rattle.expander.specs.declared.uses.Comparison.{Comparison}
+use Rattle.unit_scopes.specs.Used.{ComparisonFor, AreHeld}
+use Rattle.unit_scopes.specs.Searched.{searched}
+use Rattle.unit_scopes.specs.declared.uses.Comparison.{Comparison}
 
 abbrev Pair : Type 0
 Pair = Identifier × Identifier

@@ -24,16 +24,16 @@ use Rattle.core_tree.specs.declared.cores.Binder as code_binder
 use Rattle.core_tree.specs.declared.cores.Core as code_core
 use Rattle.core_tree.specs.declared.cores.CorePart as code_part
 use Rattle.core_tree.specs.declared.cores.CorePart.TheVariants as parts
-use Rattle.expander.specs.Outcomes.{CanLook, Grows, SameForm, IsEnough, IsEnoughBelow, Runs}
-use Rattle.expander.specs.RulesTold.{CanTell}
-use Rattle.expander.specs.Searched.{searched}
-use Rattle.expander.specs.State.{Stands}
+use Rattle.unit_scopes.specs.Outcomes.{CanLook, Grows, SameForm, IsEnough, IsEnoughBelow, Runs}
+use Rattle.unit_scopes.specs.RulesTold.{CanTell}
+use Rattle.unit_scopes.specs.Searched.{searched}
+use Rattle.unit_scopes.specs.State.{Stands}
 use Rattle.expander.specs.declared.expressions.At as code_at
-use Rattle.expander.specs.declared.fault.ExpandFault.{ExpandFault}
-use Rattle.expander.specs.declared.scope.UnitScope.{UnitScope}
-use Rattle.expander.proofs.CoreStandLaws.{binder_on, binders_on}
-use Rattle.expander.proofs.NodeLaws.{here_done}
-use Rattle.expander.proofs.OutcomeLaws.{here_ends, stays_itself}
+use Rattle.feature_requirements.specs.declared.fault.ExpandFault.{ExpandFault}
+use Rattle.unit_scopes.specs.declared.scope.UnitScope.{UnitScope}
+use Rattle.unit_scopes.proofs.CoreStandLaws.{binder_on, binders_on}
+use Rattle.unit_scopes.proofs.NodeLaws.{here_done}
+use Rattle.unit_scopes.proofs.OutcomeLaws.{here_ends, stays_itself}
 use Rattle.expander.proofs.RowRuns.{at_form}
 use Rattle.expander.proofs.StepLaws.{runs_mapped, runs_fails}
 

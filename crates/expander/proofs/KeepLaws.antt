@@ -22,17 +22,17 @@ use Rattle.core_forms.specs.Parts.{AreMacros}
 use Rattle.core_forms.specs.declared.shape.LocalMacro.{LocalMacro}
 use Rattle.core_tree.specs.declared.cores.Binder as code_binder
 use Rattle.expander.specs.Bodies.{HaveNumbers, RulesAre}
-use Rattle.expander.specs.Macros.{Keeps}
-use Rattle.expander.specs.State.{IsMacro, Stands}
-use Rattle.expander.specs.Stepped.{kept, with_macros}
-use Rattle.expander.specs.Outcomes.{CanLook, Stays, EndsHere}
-use Rattle.expander.specs.Searched.{searched}
-use Rattle.expander.specs.declared.fault.ExpandFault.{ExpandFault}
-use Rattle.expander.specs.declared.macros.Macro.{Macro}
-use Rattle.expander.specs.declared.macros.Macros.{Macros}
-use Rattle.expander.specs.declared.scope.UnitScope.{UnitScope}
-use Rattle.expander.proofs.KeptStands.{kept_stands}
-use Rattle.expander.proofs.OutcomeLaws.{grows_itself, stays_itself, stays_on, here_after, here_fails, bound_goes}
+use Rattle.unit_scopes.specs.Macros.{Keeps}
+use Rattle.unit_scopes.specs.State.{IsMacro, Stands}
+use Rattle.unit_scopes.specs.Stepped.{kept, with_macros}
+use Rattle.unit_scopes.specs.Outcomes.{CanLook, Stays, EndsHere}
+use Rattle.unit_scopes.specs.Searched.{searched}
+use Rattle.feature_requirements.specs.declared.fault.ExpandFault.{ExpandFault}
+use Rattle.unit_scopes.specs.declared.macros.Macro.{Macro}
+use Rattle.unit_scopes.specs.declared.macros.Macros.{Macros}
+use Rattle.unit_scopes.specs.declared.scope.UnitScope.{UnitScope}
+use Rattle.unit_scopes.proofs.KeptStands.{kept_stands}
+use Rattle.unit_scopes.proofs.OutcomeLaws.{grows_itself, stays_itself, stays_on, here_after, here_fails, bound_goes}
 
 -- ---- rules that have a head
 

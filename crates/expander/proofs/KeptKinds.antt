@@ -20,10 +20,10 @@ use Rattle.core_tree.specs.Names.{AllMatch, IsBinder, IsField}
 use Rattle.core_tree.specs.Cores.{AreBinders}
 use Rattle.core_tree.specs.declared.cores.Binder as code_binder
 use Rattle.core_tree.specs.declared.cores.FieldUse as code_field
-use Rattle.expander.specs.Kept.{FormFor, ClauseFor, KeptFor}
-use Rattle.expander.specs.declared.items.Form as code_form
-use Rattle.expander.specs.declared.items.Kept as code_kept
-use Rattle.expander.specs.declared.items.Kept.TheVariants as kept
+use Rattle.unit_scopes.specs.Kept.{FormFor, ClauseFor, KeptFor}
+use Rattle.form_parts.specs.declared.items.Form as code_form
+use Rattle.form_parts.specs.declared.items.Kept as code_kept
+use Rattle.form_parts.specs.declared.items.Kept.TheVariants as kept
 
 abbrev kind : Item Identifier → ℕ
 kind (model.Expression m) = 0

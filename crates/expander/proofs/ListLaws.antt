@@ -24,23 +24,23 @@ use Rattle.core_forms.specs.declared.shape.CoreKeyword as code_keyword
 use Rattle.core_forms.specs.declared.shape.NamePart.{NamePart}
 use Rattle.core_tree.specs.declared.cores.Target as code_target
 use Rattle.core_tree.specs.Names.{IsTarget}
-use Rattle.expander.specs.Heads.{IsHead}
-use Rattle.expander.specs.State.{Stands}
-use Rattle.expander.specs.Stepped.{met, with_keyword}
-use Rattle.expander.specs.Outcomes.{Stays}
-use Rattle.expander.specs.FormsSeen.{head_name_of}
+use Rattle.form_parts.specs.Heads.{IsHead}
+use Rattle.unit_scopes.specs.State.{Stands}
+use Rattle.unit_scopes.specs.Stepped.{met, with_keyword}
+use Rattle.unit_scopes.specs.Outcomes.{Stays}
+use Rattle.form_parts.specs.FormsSeen.{head_name_of}
 use Rattle.expander.specs.Ready.{Expanding, not_macro, IsSettled, IsPlain, not_core, IsCall, Reads}
-use Rattle.expander.specs.Searched.{searched}
+use Rattle.unit_scopes.specs.Searched.{searched}
 use Rattle.expander.specs.declared.expressions.Ready as code_ready
 use Rattle.expander.specs.declared.expressions.Ready.TheVariants as ready
-use Rattle.expander.specs.declared.fault.ExpandFault.{ExpandFault}
-use Rattle.expander.specs.declared.fault.ExpandFault.TheVariants as fault
-use Rattle.expander.specs.declared.heads.Head as code_head
-use Rattle.expander.specs.declared.heads.Head.TheVariants as heads
-use Rattle.expander.specs.declared.scope.UnitScope.{UnitScope}
-use Rattle.expander.proofs.CountingStands.{keyword_stands}
-use Rattle.expander.proofs.OutcomeLaws.{grows_itself, stays_itself, stays_on, moves_here, leaves_on, fills_on, leaves_itself}
-use Rattle.expander.proofs.NodeLaws.{plain_is}
+use Rattle.feature_requirements.specs.declared.fault.ExpandFault.{ExpandFault}
+use Rattle.feature_requirements.specs.declared.fault.ExpandFault.TheVariants as fault
+use Rattle.form_parts.specs.declared.heads.Head as code_head
+use Rattle.form_parts.specs.declared.heads.Head.TheVariants as heads
+use Rattle.unit_scopes.specs.declared.scope.UnitScope.{UnitScope}
+use Rattle.unit_scopes.proofs.CountingStands.{keyword_stands}
+use Rattle.unit_scopes.proofs.OutcomeLaws.{grows_itself, stays_itself, stays_on, moves_here, leaves_on, fills_on, leaves_itself}
+use Rattle.unit_scopes.proofs.NodeLaws.{plain_is}
 use Rattle.expander.proofs.ReadLaws.{HeadNamed}
 
 -- ---- heads

@@ -12,7 +12,7 @@ use Rattle.core_tree.specs.Names.{AllMatch, IsBinder, IsMacro}
 use Rattle.core_tree.specs.declared.cores.Binder as code_binder
 use Rattle.core_tree.specs.declared.cores.MacroDef.{MacroDef}
 use Rattle.expander.specs.Bodies.{AreLocalMacros}
-use Rattle.expander.specs.Searched.{searched}
+use Rattle.unit_scopes.specs.Searched.{searched}
 
 pub record LocalThere (work : Work) (s : ScopedState) (vs : List Number) (ns : List (Named Identifier)) (k : ℕ) (b : code_binder.Binder) : Type 0 where
   pub number : Number

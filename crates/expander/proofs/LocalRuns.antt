@@ -29,31 +29,31 @@ use Rattle.core_tree.specs.declared.cores.Binder as code_binder
 use Rattle.core_tree.specs.declared.cores.Core as code_core
 use Rattle.core_tree.specs.declared.cores.Core.TheVariants as cores
 use Rattle.core_tree.specs.declared.cores.MacroDef as code_macro
-use Rattle.expander.specs.Binds.{Binds, local_binders}
+use Rattle.unit_scopes.specs.Binds.{Binds, local_binders}
 use Rattle.expander.specs.Bodies.{AreLocalMacros, CanKeep, HaveHeads, HaveNumbers}
 use Rattle.expander.specs.Expanded.{MacrosAtWork, macros_step}
-use Rattle.expander.specs.Judged.{Knows}
-use Rattle.expander.specs.Outcomes.{At, CanLook, SameForm, Stays, Moves, Ends, EndsHere, Runs}
+use Rattle.feature_requirements.specs.Judged.{Knows}
+use Rattle.unit_scopes.specs.Outcomes.{At, CanLook, SameForm, Stays, Moves, Ends, EndsHere, Runs}
 use Rattle.expander.specs.Ready.{BeginsBelow}
-use Rattle.expander.specs.RulesTold.{Tests}
-use Rattle.expander.specs.Searched.{searched}
-use Rattle.expander.specs.State.{Stands, most_locals}
-use Rattle.expander.specs.Stepped.{spent, taken, after, bound_frames, bound_binders}
+use Rattle.unit_scopes.specs.RulesTold.{Tests}
+use Rattle.unit_scopes.specs.Searched.{searched}
+use Rattle.unit_scopes.specs.State.{Stands, most_locals}
+use Rattle.unit_scopes.specs.Stepped.{spent, taken, after, bound_frames, bound_binders}
 use Rattle.expander.specs.declared.expressions.At as code_at
-use Rattle.expander.specs.declared.fault.ExpandFault.{ExpandFault}
-use Rattle.expander.specs.declared.fault.ExpandFault.TheVariants as fault
-use Rattle.expander.specs.declared.scope.UnitScope.{UnitScope}
+use Rattle.feature_requirements.specs.declared.fault.ExpandFault.{ExpandFault}
+use Rattle.feature_requirements.specs.declared.fault.ExpandFault.TheVariants as fault
+use Rattle.unit_scopes.specs.declared.scope.UnitScope.{UnitScope}
 use Rattle.expander.proofs.AfterLaws.{all_known, begins_look}
 use Rattle.expander.proofs.BelowLaws.{below_knows, node_below, node_unbegun}
-use Rattle.expander.proofs.BindersStand.{BindersStand, numbers_are}
+use Rattle.unit_scopes.proofs.BindersStand.{BindersStand, numbers_are}
 use Rattle.expander.proofs.BodyRuns.{binds_stand, binds_inner, names_count}
 use Rattle.expander.proofs.CoreLaws.{binds_moves, macros_are}
-use Rattle.expander.proofs.CoreStandLaws.{every_on, macro_def_on}
-use Rattle.expander.proofs.CountingStands.{nodes_stand}
+use Rattle.unit_scopes.proofs.CoreStandLaws.{every_on, macro_def_on}
+use Rattle.unit_scopes.proofs.CountingStands.{nodes_stand}
 use Rattle.expander.proofs.KeepLaws.{heads_tell}
 use Rattle.expander.proofs.LoopLaws.{knows_on}
-use Rattle.expander.proofs.NodeLaws.{here_then}
-use Rattle.expander.proofs.OutcomeLaws.{stays_itself, moves_here, here_ends, ends_after, ends_fails, leaves_itself}
+use Rattle.unit_scopes.proofs.NodeLaws.{here_then}
+use Rattle.unit_scopes.proofs.OutcomeLaws.{stays_itself, moves_here, here_ends, ends_after, ends_fails, leaves_itself}
 use Rattle.expander.proofs.RowLaws.{ends_mapped}
 use Rattle.expander.proofs.ShapeParts.{macros_named, names_of_macros}
 

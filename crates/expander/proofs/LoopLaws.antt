@@ -10,13 +10,13 @@ use Rattle.scheme_model.specs.ScopedExpansion.{Frames, ScopedState}
 use Rattle.syntax_tree.specs.declared.trees.Work.{Work}
 use Rattle.syntax_tree.specs.declared.trees.table.Region.{Region}
 use Rattle.core_tree.specs.Names.{AllMatch}
-use Rattle.expander.specs.Judged.{Knows}
-use Rattle.expander.specs.Outcomes.{At, SameForm, Moves, Ends, Runs, CanLook}
-use Rattle.expander.specs.declared.fault.ExpandFault.{ExpandFault}
-use Rattle.expander.specs.declared.fault.ExpandFault.TheVariants as fault
-use Rattle.expander.specs.declared.scope.UnitScope.{UnitScope}
-use Rattle.expander.proofs.OutcomeLaws.{grows_itself, grows_on, same_itself, same_on, stays_itself, moves_here, ends_fails}
-use Rattle.expander.proofs.NodeLaws.{ends_err}
+use Rattle.feature_requirements.specs.Judged.{Knows}
+use Rattle.unit_scopes.specs.Outcomes.{At, SameForm, Moves, Ends, Runs, CanLook}
+use Rattle.feature_requirements.specs.declared.fault.ExpandFault.{ExpandFault}
+use Rattle.feature_requirements.specs.declared.fault.ExpandFault.TheVariants as fault
+use Rattle.unit_scopes.specs.declared.scope.UnitScope.{UnitScope}
+use Rattle.unit_scopes.proofs.OutcomeLaws.{grows_itself, grows_on, same_itself, same_on, stays_itself, moves_here, ends_fails}
+use Rattle.unit_scopes.proofs.NodeLaws.{ends_err}
 use Rattle.expander.proofs.AfterLaws.{IsAfter}
 use Rattle.expander.proofs.RowLaws.{row, row_goes, row_fails, ends_mapped}
 

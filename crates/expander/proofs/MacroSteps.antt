@@ -19,26 +19,26 @@ use Rattle.core_tree.specs.Names.{IsBinder}
 use Rattle.core_tree.specs.Traces.{IsFault}
 use Rattle.core_tree.specs.declared.cores.Binder as code_binder
 use Rattle.core_tree.specs.declared.traces.FormFault.{FormFault}
-use Rattle.expander.specs.Counts.{CountsSome}
-use Rattle.expander.specs.State.{IsMacro, Stands}
-use Rattle.expander.specs.Stepped.{spent}
-use Rattle.expander.specs.Kept.{PendingFor, NotesFor, SpotFor}
-use Rattle.expander.specs.Outcomes.{Stays, EndsHere}
-use Rattle.expander.specs.Defining.{Takes, EndsIn}
-use Rattle.expander.specs.RulesTold.{Tests}
-use Rattle.expander.specs.Searched.{searched}
+use Rattle.unit_scopes.specs.Counts.{CountsSome}
+use Rattle.unit_scopes.specs.State.{IsMacro, Stands}
+use Rattle.unit_scopes.specs.Stepped.{spent}
+use Rattle.unit_scopes.specs.Kept.{PendingFor, NotesFor, SpotFor}
+use Rattle.unit_scopes.specs.Outcomes.{Stays, EndsHere}
+use Rattle.unit_scopes.specs.Defining.{Takes, EndsIn}
+use Rattle.unit_scopes.specs.RulesTold.{Tests}
+use Rattle.unit_scopes.specs.Searched.{searched}
 use Rattle.expander.specs.Passed.{GoesOn}
-use Rattle.expander.specs.declared.asked.Asked.{Asked}
-use Rattle.expander.specs.declared.fault.ExpandFault.{ExpandFault}
-use Rattle.expander.specs.declared.fault.ExpandFault.TheVariants as fault
-use Rattle.expander.specs.declared.items.Kept.TheVariants as kept
-use Rattle.expander.specs.declared.items.Pending as code_pending
-use Rattle.expander.specs.declared.items.Spot.{Spot}
-use Rattle.expander.specs.declared.macros.Macro as code_macro
-use Rattle.expander.specs.declared.scope.UnitScope.{UnitScope}
-use Rattle.expander.proofs.CountingStands.{nodes_stand}
-use Rattle.expander.proofs.DefineLaws.{is_in_on}
-use Rattle.expander.proofs.OutcomeLaws.{bound_goes, bound_fails, leaves_itself, stays_itself}
+use Rattle.unit_scopes.specs.declared.asked.Asked.{Asked}
+use Rattle.feature_requirements.specs.declared.fault.ExpandFault.{ExpandFault}
+use Rattle.feature_requirements.specs.declared.fault.ExpandFault.TheVariants as fault
+use Rattle.form_parts.specs.declared.items.Kept.TheVariants as kept
+use Rattle.form_parts.specs.declared.items.Pending as code_pending
+use Rattle.form_parts.specs.declared.items.Spot.{Spot}
+use Rattle.unit_scopes.specs.declared.macros.Macro as code_macro
+use Rattle.unit_scopes.specs.declared.scope.UnitScope.{UnitScope}
+use Rattle.unit_scopes.proofs.CountingStands.{nodes_stand}
+use Rattle.unit_scopes.proofs.DefineLaws.{is_in_on}
+use Rattle.unit_scopes.proofs.OutcomeLaws.{bound_goes, bound_fails, leaves_itself, stays_itself}
 use Rattle.expander.proofs.DefinitionSteps.{goes_failing, aside_goes, in_fails, in_after_same, rules_there, rules_define_none, binder_here}
 
 -- what was bound means itself

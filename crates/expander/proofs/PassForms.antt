@@ -25,33 +25,33 @@ use Rattle.syntax_tree.specs.declared.trees.table.Region.{Region}
 use Rattle.core_tree.specs.Names.{IsTarget}
 use Rattle.core_tree.specs.Traces.{IsFault}
 use Rattle.core_tree.specs.declared.cores.Target as code_target
-use Rattle.expander.specs.Defining.{CanGo}
-use Rattle.expander.specs.Heads.{IsHead}
-use Rattle.expander.specs.State.{Stands, most_locals}
-use Rattle.expander.specs.Stepped.{met, with_keyword}
-use Rattle.expander.specs.Judged.{IsBadForm}
-use Rattle.expander.specs.Kept.{FormFor, PendingFor, NotesFor, SpotFor, left_with}
-use Rattle.expander.specs.Outcomes.{At, CanLook, Stays}
+use Rattle.unit_scopes.specs.Defining.{CanGo}
+use Rattle.form_parts.specs.Heads.{IsHead}
+use Rattle.unit_scopes.specs.State.{Stands, most_locals}
+use Rattle.unit_scopes.specs.Stepped.{met, with_keyword}
+use Rattle.feature_requirements.specs.Judged.{IsBadForm}
+use Rattle.unit_scopes.specs.Kept.{FormFor, PendingFor, NotesFor, SpotFor, left_with}
+use Rattle.unit_scopes.specs.Outcomes.{At, CanLook, Stays}
 use Rattle.expander.specs.Passed.{CanPass, GoesOn, IsPassed, ShapeFits, shape_weight}
-use Rattle.expander.specs.FormsSeen.{head_name_of, takes_effect}
-use Rattle.expander.specs.Used.{CanUse, UseFor}
-use Rattle.expander.specs.Searched.{searched}
-use Rattle.expander.specs.declared.asked.Asked.{Asked}
-use Rattle.expander.specs.declared.fault.ExpandFault.{ExpandFault}
-use Rattle.expander.specs.declared.fault.ExpandFault.TheVariants as fault
-use Rattle.expander.specs.declared.heads.Auxiliary as code_auxiliary
-use Rattle.expander.specs.declared.heads.Head.TheVariants as heads
-use Rattle.expander.specs.declared.items.Form as code_form
-use Rattle.expander.specs.declared.items.Kept.TheVariants as kept
-use Rattle.expander.specs.declared.items.Pending as code_pending
-use Rattle.expander.specs.declared.items.Spot.{Spot}
-use Rattle.expander.specs.declared.scope.UnitScope.{UnitScope}
-use Rattle.expander.specs.declared.uses.Use as code_use
-use Rattle.expander.proofs.CountingStands.{keyword_stands}
+use Rattle.form_parts.specs.FormsSeen.{head_name_of, takes_effect}
+use Rattle.unit_scopes.specs.Used.{CanUse, UseFor}
+use Rattle.unit_scopes.specs.Searched.{searched}
+use Rattle.unit_scopes.specs.declared.asked.Asked.{Asked}
+use Rattle.feature_requirements.specs.declared.fault.ExpandFault.{ExpandFault}
+use Rattle.feature_requirements.specs.declared.fault.ExpandFault.TheVariants as fault
+use Rattle.form_parts.specs.declared.heads.Auxiliary as code_auxiliary
+use Rattle.form_parts.specs.declared.heads.Head.TheVariants as heads
+use Rattle.form_parts.specs.declared.items.Form as code_form
+use Rattle.form_parts.specs.declared.items.Kept.TheVariants as kept
+use Rattle.form_parts.specs.declared.items.Pending as code_pending
+use Rattle.form_parts.specs.declared.items.Spot.{Spot}
+use Rattle.unit_scopes.specs.declared.scope.UnitScope.{UnitScope}
+use Rattle.unit_scopes.specs.declared.uses.Use as code_use
+use Rattle.unit_scopes.proofs.CountingStands.{keyword_stands}
 use Rattle.expander.proofs.DefinitionSteps.{aside_now}
 use Rattle.expander.proofs.FitLaws.{some_node, shape_fits}
-use Rattle.expander.proofs.NodeLaws.{plain_is}
-use Rattle.expander.proofs.OutcomeLaws.{grows_itself, leaves_itself}
+use Rattle.unit_scopes.proofs.NodeLaws.{plain_is}
+use Rattle.unit_scopes.proofs.OutcomeLaws.{grows_itself, leaves_itself}
 use Rattle.expander.proofs.PassLaws.{spot_same, goes_misread, goes_so}
 use Rattle.expander.proofs.ReadLaws.{HeadNamed, head_named, target_at}
 use Rattle.expander.proofs.WeightLaws.{weight_less, shape_passes}

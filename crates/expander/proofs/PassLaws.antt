@@ -23,33 +23,33 @@ use Rattle.scope_env.specs.Environment.{Scope}
 use Rattle.scope_env.specs.Standing.{bound_by}
 use Rattle.core_tree.specs.Names.{AllMatch}
 use Rattle.core_tree.specs.Traces.{IsFault}
-use Rattle.expander.specs.Asks.{AreWithin, AskedStands}
-use Rattle.expander.specs.Chains.{body_chain}
-use Rattle.expander.specs.Counts.{with_nodes, Counts}
-use Rattle.expander.specs.State.{Stands}
-use Rattle.expander.specs.Stepped.{spent}
-use Rattle.expander.specs.FormsSeen.{form_at}
-use Rattle.expander.specs.Told.{Tells}
-use Rattle.expander.specs.Kept.{FormFor, KeptFor, PendingFor, NoteFor, NotesFor, IsIn, SpotFor, forms_size, left_with}
-use Rattle.expander.specs.Outcomes.{Stays}
+use Rattle.unit_scopes.specs.Asks.{AreWithin, AskedStands}
+use Rattle.unit_scopes.specs.Chains.{body_chain}
+use Rattle.unit_scopes.specs.Counts.{with_nodes, Counts}
+use Rattle.unit_scopes.specs.State.{Stands}
+use Rattle.unit_scopes.specs.Stepped.{spent}
+use Rattle.form_parts.specs.FormsSeen.{form_at}
+use Rattle.unit_scopes.specs.Told.{Tells}
+use Rattle.unit_scopes.specs.Kept.{FormFor, KeptFor, PendingFor, NoteFor, NotesFor, IsIn, SpotFor, forms_size, left_with}
+use Rattle.unit_scopes.specs.Outcomes.{Stays}
 use Rattle.expander.specs.Passed.{GoesOn}
-use Rattle.expander.specs.Searched.{searched}
-use Rattle.expander.specs.Used.{ComparisonFor, note_of}
-use Rattle.expander.specs.declared.asked.Asked.{Asked}
-use Rattle.expander.specs.declared.asked.Note as code_note
-use Rattle.expander.specs.declared.fault.ExpandFault.{ExpandFault}
-use Rattle.expander.specs.declared.fault.ExpandFault.TheVariants as fault
-use Rattle.expander.specs.declared.items.Form as code_form
-use Rattle.expander.specs.declared.items.Kept as code_kept
-use Rattle.expander.specs.declared.items.Pending as code_pending
-use Rattle.expander.specs.declared.items.Spot.{Spot}
-use Rattle.expander.specs.declared.scope.UnitScope.{UnitScope}
-use Rattle.expander.specs.declared.uses.Comparison.{Comparison}
-use Rattle.expander.proofs.BodyScopes.{binds_on}
-use Rattle.expander.proofs.CountingStands.{all_last}
-use Rattle.expander.proofs.DefineLaws.{is_in_on}
-use Rattle.expander.proofs.NodeLaws.{plain_is, spends, counting_goes, counting_fails}
-use Rattle.expander.proofs.OutcomeLaws.{stays_itself, stays_on, moves_here, leaves_on, fills_on}
+use Rattle.unit_scopes.specs.Searched.{searched}
+use Rattle.unit_scopes.specs.Used.{ComparisonFor, note_of}
+use Rattle.unit_scopes.specs.declared.asked.Asked.{Asked}
+use Rattle.unit_scopes.specs.declared.asked.Note as code_note
+use Rattle.feature_requirements.specs.declared.fault.ExpandFault.{ExpandFault}
+use Rattle.feature_requirements.specs.declared.fault.ExpandFault.TheVariants as fault
+use Rattle.form_parts.specs.declared.items.Form as code_form
+use Rattle.form_parts.specs.declared.items.Kept as code_kept
+use Rattle.form_parts.specs.declared.items.Pending as code_pending
+use Rattle.form_parts.specs.declared.items.Spot.{Spot}
+use Rattle.unit_scopes.specs.declared.scope.UnitScope.{UnitScope}
+use Rattle.unit_scopes.specs.declared.uses.Comparison.{Comparison}
+use Rattle.unit_scopes.proofs.BodyScopes.{binds_on}
+use Rattle.unit_scopes.proofs.CountingStands.{all_last}
+use Rattle.unit_scopes.proofs.DefineLaws.{is_in_on}
+use Rattle.unit_scopes.proofs.NodeLaws.{plain_is, spends, counting_goes, counting_fails}
+use Rattle.unit_scopes.proofs.OutcomeLaws.{stays_itself, stays_on, moves_here, leaves_on, fills_on}
 use Rattle.expander.proofs.FormRows.{todo_stands}
 use Rattle.expander.proofs.PassSteps.{fault_same}
 

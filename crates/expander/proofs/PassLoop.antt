@@ -10,21 +10,21 @@ use Rattle.scheme_model.specs.ScopedExpansion.{Frames, FramedIdent, ScopedState}
 use Rattle.syntax_tree.specs.declared.trees.Work.{Work}
 use Rattle.syntax_tree.specs.declared.trees.table.Region.{Region}
 use Rattle.core_tree.specs.Names.{AllMatch}
-use Rattle.expander.specs.State.{Stands, most_locals}
-use Rattle.expander.specs.Kept.{FormFor, KeptFor, PendingFor, NotesFor, SpotFor, forms_size, left_with}
-use Rattle.expander.specs.Outcomes.{Stays}
+use Rattle.unit_scopes.specs.State.{Stands, most_locals}
+use Rattle.unit_scopes.specs.Kept.{FormFor, KeptFor, PendingFor, NotesFor, SpotFor, forms_size, left_with}
+use Rattle.unit_scopes.specs.Outcomes.{Stays}
 use Rattle.expander.specs.Passed.{CanPass, GoesOn, Passes}
-use Rattle.expander.specs.Searched.{searched}
-use Rattle.expander.specs.declared.asked.Asked.{Asked}
-use Rattle.expander.specs.declared.fault.ExpandFault.{ExpandFault}
-use Rattle.expander.specs.declared.fault.ExpandFault.TheVariants as fault
-use Rattle.expander.specs.declared.items.Form as code_form
-use Rattle.expander.specs.declared.items.Kept as code_kept
-use Rattle.expander.specs.declared.items.Pending as code_pending
-use Rattle.expander.specs.declared.items.Spot.{Spot}
-use Rattle.expander.specs.declared.scope.UnitScope.{UnitScope}
+use Rattle.unit_scopes.specs.Searched.{searched}
+use Rattle.unit_scopes.specs.declared.asked.Asked.{Asked}
+use Rattle.feature_requirements.specs.declared.fault.ExpandFault.{ExpandFault}
+use Rattle.feature_requirements.specs.declared.fault.ExpandFault.TheVariants as fault
+use Rattle.form_parts.specs.declared.items.Form as code_form
+use Rattle.form_parts.specs.declared.items.Kept as code_kept
+use Rattle.form_parts.specs.declared.items.Pending as code_pending
+use Rattle.form_parts.specs.declared.items.Spot.{Spot}
+use Rattle.unit_scopes.specs.declared.scope.UnitScope.{UnitScope}
 use Rattle.expander.proofs.FitLaws.{some_node}
-use Rattle.expander.proofs.OutcomeLaws.{stays_itself, stays_on, moves_here, leaves_on, fills_on}
+use Rattle.unit_scopes.proofs.OutcomeLaws.{stays_itself, stays_on, moves_here, leaves_on, fills_on}
 
 -- ---- what is left falls
 

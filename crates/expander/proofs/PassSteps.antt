@@ -14,12 +14,12 @@ use Rattle.scheme_model.specs.ScopedExpansion.{Frames, FramedIdent, ScopedState}
 use Rattle.core_forms.specs.Forms.{Shape, Sequence, Definition, Several, RecordType, Syntax, Choices, choices_in, shape_of}
 use Rattle.syntax_tree.specs.declared.trees.Work.{Work}
 use Rattle.core_forms.specs.Parts.{IsNameIfAny}
-use Rattle.expander.specs.Judged.{chosen_among}
+use Rattle.feature_requirements.specs.Judged.{chosen_among}
 use Rattle.expander.specs.Passed.{pass_step}
-use Rattle.expander.specs.Searched.{searched}
-use Rattle.expander.specs.FormsSeen.{takes_effect, head_name_of}
-use Rattle.expander.specs.Stepped.{met}
-use Rattle.expander.proofs.ChoiceLaws.{chosen_is}
+use Rattle.unit_scopes.specs.Searched.{searched}
+use Rattle.form_parts.specs.FormsSeen.{takes_effect, head_name_of}
+use Rattle.unit_scopes.specs.Stepped.{met}
+use Rattle.feature_requirements.proofs.ChoiceLaws.{chosen_is}
 
 -- ---- faults of identifiers as they came about
 

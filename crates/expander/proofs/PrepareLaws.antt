@@ -22,19 +22,19 @@ use Rattle.core_tree.specs.declared.cores.Core as code_core
 use Rattle.std.specs.Prelude.{Vec}
 use Rattle.std.specs.declared.alloc.Global.{Global}
 use Rattle.expander.specs.CoreSteps.{core_step, IsLeft}
-use Rattle.expander.specs.State.{Stands}
+use Rattle.unit_scopes.specs.State.{Stands}
 use Rattle.std.specs.Result.{IsErrAnd}
-use Rattle.expander.specs.Outcomes.{At, Ends, WorksOn, IsEnoughBelow}
+use Rattle.unit_scopes.specs.Outcomes.{At, Ends, WorksOn, IsEnoughBelow}
 use Rattle.expander.specs.Passed.{ShapeFits}
 use Rattle.expander.specs.Ready.{IsSettled, Settles, Reads, Prepares}
-use Rattle.expander.specs.Searched.{searched}
+use Rattle.unit_scopes.specs.Searched.{searched}
 use Rattle.expander.specs.declared.expressions.Ready as code_ready
 use Rattle.expander.specs.declared.expressions.Ready.TheVariants as ready
-use Rattle.expander.specs.declared.fault.ExpandFault.{ExpandFault}
-use Rattle.expander.specs.declared.fault.ExpandFault.TheVariants as fault
-use Rattle.expander.specs.declared.scope.UnitScope.{UnitScope}
-use Rattle.expander.proofs.OutcomeLaws.{stays_on, moves_here, here_ends, leaves_on, fills_on}
-use Rattle.expander.proofs.NodeLaws.{here_done}
+use Rattle.feature_requirements.specs.declared.fault.ExpandFault.{ExpandFault}
+use Rattle.feature_requirements.specs.declared.fault.ExpandFault.TheVariants as fault
+use Rattle.unit_scopes.specs.declared.scope.UnitScope.{UnitScope}
+use Rattle.unit_scopes.proofs.OutcomeLaws.{stays_on, moves_here, here_ends, leaves_on, fills_on}
+use Rattle.unit_scopes.proofs.NodeLaws.{here_done}
 use Rattle.expander.proofs.AfterLaws.{IsAfter, stays_after, enough_less, enough_below_later, stays_then}
 
 module _ (known : Known) (depth turns : ℕ) (old new : Work) (region : Region) (u w v : UnitScope) (ls : List Frames) (fs : Frames) (p : Result Core Broken × ScopedState) where

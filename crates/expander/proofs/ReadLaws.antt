@@ -21,20 +21,20 @@ use Rattle.core_forms.specs.declared.shape.NamePart.{NamePart}
 use Rattle.core_tree.specs.Names.{IsTarget}
 use Rattle.core_tree.specs.Traces.{IsFault}
 use Rattle.core_tree.specs.declared.cores.Target as code_target
-use Rattle.expander.specs.Counts.{placed_in}
-use Rattle.expander.specs.Heads.{IsHead}
-use Rattle.expander.specs.declared.heads.Head as code_head
-use Rattle.expander.specs.declared.heads.Head.TheVariants as heads
+use Rattle.unit_scopes.specs.Counts.{placed_in}
+use Rattle.form_parts.specs.Heads.{IsHead}
+use Rattle.form_parts.specs.declared.heads.Head as code_head
+use Rattle.form_parts.specs.declared.heads.Head.TheVariants as heads
 use Rattle.expander.specs.Ready.{not_macro, IsSettled, TestsVariable}
-use Rattle.expander.specs.Outcomes.{EndsHere}
-use Rattle.expander.specs.declared.fault.ExpandFault.{ExpandFault}
-use Rattle.expander.specs.declared.fault.ExpandFault.TheVariants as fault
+use Rattle.unit_scopes.specs.Outcomes.{EndsHere}
+use Rattle.feature_requirements.specs.declared.fault.ExpandFault.{ExpandFault}
+use Rattle.feature_requirements.specs.declared.fault.ExpandFault.TheVariants as fault
 use Rattle.syntax_tree.specs.declared.trees.table.Region.{Region}
-use Rattle.expander.proofs.OutcomeLaws.{stays_itself}
-use Rattle.expander.specs.Searched.{searched}
-use Rattle.expander.specs.FormsSeen.{head_name_of}
-use Rattle.expander.specs.State.{Stands}
-use Rattle.expander.specs.declared.scope.UnitScope.{UnitScope}
+use Rattle.unit_scopes.proofs.OutcomeLaws.{stays_itself}
+use Rattle.unit_scopes.specs.Searched.{searched}
+use Rattle.form_parts.specs.FormsSeen.{head_name_of}
+use Rattle.unit_scopes.specs.State.{Stands}
+use Rattle.unit_scopes.specs.declared.scope.UnitScope.{UnitScope}
 
 -- ---- keywords that stand for values
 

@@ -17,23 +17,23 @@ use Rattle.core_forms.specs.declared.shape.NamePart.{NamePart}
 use Rattle.core_tree.specs.Names.{AllMatch, IsBinder, IsField}
 use Rattle.core_tree.specs.declared.cores.Binder as code_binder
 use Rattle.core_tree.specs.declared.cores.FieldUse as code_field
-use Rattle.expander.specs.Binds.{local_binders, with_locals}
-use Rattle.expander.specs.State.{Stands, most_locals}
-use Rattle.expander.specs.Stepped.{taken, bound_binders}
-use Rattle.expander.specs.FormsSeen.{used_fields}
-use Rattle.expander.specs.Kept.{PendingFor, NotesFor, SpotFor}
-use Rattle.expander.specs.Defining.{EndsIn, define_each}
-use Rattle.expander.specs.Searched.{searched}
+use Rattle.unit_scopes.specs.Binds.{local_binders, with_locals}
+use Rattle.unit_scopes.specs.State.{Stands, most_locals}
+use Rattle.unit_scopes.specs.Stepped.{taken, bound_binders}
+use Rattle.form_parts.specs.FormsSeen.{used_fields}
+use Rattle.unit_scopes.specs.Kept.{PendingFor, NotesFor, SpotFor}
+use Rattle.unit_scopes.specs.Defining.{EndsIn, define_each}
+use Rattle.unit_scopes.specs.Searched.{searched}
 use Rattle.expander.specs.Passed.{GoesOn}
-use Rattle.expander.specs.declared.asked.Asked.{Asked}
-use Rattle.expander.specs.declared.fault.ExpandFault.{ExpandFault}
-use Rattle.expander.specs.declared.items.Kept.TheVariants as kept
-use Rattle.expander.specs.declared.items.Pending as code_pending
-use Rattle.expander.specs.declared.items.Spot.{Spot}
-use Rattle.expander.specs.declared.scope.UnitScope.{UnitScope}
-use Rattle.expander.proofs.BindersStand.{fields_stand}
-use Rattle.expander.proofs.DefineLaws.{is_in_on}
-use Rattle.expander.proofs.OutcomeLaws.{bound_goes}
+use Rattle.unit_scopes.specs.declared.asked.Asked.{Asked}
+use Rattle.feature_requirements.specs.declared.fault.ExpandFault.{ExpandFault}
+use Rattle.form_parts.specs.declared.items.Kept.TheVariants as kept
+use Rattle.form_parts.specs.declared.items.Pending as code_pending
+use Rattle.form_parts.specs.declared.items.Spot.{Spot}
+use Rattle.unit_scopes.specs.declared.scope.UnitScope.{UnitScope}
+use Rattle.unit_scopes.proofs.BindersStand.{fields_stand}
+use Rattle.unit_scopes.proofs.DefineLaws.{is_in_on}
+use Rattle.unit_scopes.proofs.OutcomeLaws.{bound_goes}
 use Rattle.expander.proofs.DefinitionSteps.{goes_failing, aside_goes, in_fails, in_after_same, taken_same, record_steps, with_pending, with_fields}
 
 abbrev Answer : Type 0

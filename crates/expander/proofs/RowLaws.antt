@@ -19,12 +19,12 @@ use Rattle.core_tree.specs.declared.cores.Core as code_core
 use Rattle.core_tree.specs.declared.cores.Clause as code_clause
 use Rattle.core_tree.specs.declared.cores.CorePart as code_part
 use Rattle.expander.specs.Expanded.{ClauseStands}
-use Rattle.expander.specs.Outcomes.{Moves, Ends}
-use Rattle.expander.specs.declared.fault.ExpandFault.{ExpandFault}
-use Rattle.expander.specs.declared.scope.UnitScope.{UnitScope}
-use Rattle.expander.proofs.OutcomeLaws.{bound_goes, ends_fails}
-use Rattle.expander.proofs.NodeLaws.{ends_then}
-use Rattle.expander.proofs.CoreStandLaws.{every_on}
+use Rattle.unit_scopes.specs.Outcomes.{Moves, Ends}
+use Rattle.feature_requirements.specs.declared.fault.ExpandFault.{ExpandFault}
+use Rattle.unit_scopes.specs.declared.scope.UnitScope.{UnitScope}
+use Rattle.unit_scopes.proofs.OutcomeLaws.{bound_goes, ends_fails}
+use Rattle.unit_scopes.proofs.NodeLaws.{ends_then}
+use Rattle.unit_scopes.proofs.CoreStandLaws.{every_on}
 
 -- ---- lists that match
 

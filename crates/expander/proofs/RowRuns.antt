@@ -19,16 +19,16 @@ use Rattle.core_tree.specs.declared.cores.Core as code_core
 use Rattle.core_tree.specs.declared.cores.CorePart as code_part
 use Rattle.scheme_model.specs.Cores.{Core, Part, Binders}
 use Rattle.expander.specs.Expanded.{AreAtWork, ClauseStands, ClausesAtWork, ClauseAtWork, AreKeptAtWork, KeptAtWork}
-use Rattle.expander.specs.Kept.{ClauseFor, KeptFor}
-use Rattle.expander.specs.Outcomes.{Grows, SameForm, Runs, IsAtWork}
-use Rattle.expander.specs.declared.fault.ExpandFault.{ExpandFault}
-use Rattle.expander.specs.declared.fault.ExpandFault.TheVariants as fault
-use Rattle.expander.specs.declared.items.Kept as code_kept
-use Rattle.expander.specs.declared.scope.UnitScope.{UnitScope}
+use Rattle.unit_scopes.specs.Kept.{ClauseFor, KeptFor}
+use Rattle.unit_scopes.specs.Outcomes.{Grows, SameForm, Runs, IsAtWork}
+use Rattle.feature_requirements.specs.declared.fault.ExpandFault.{ExpandFault}
+use Rattle.feature_requirements.specs.declared.fault.ExpandFault.TheVariants as fault
+use Rattle.form_parts.specs.declared.items.Kept as code_kept
+use Rattle.unit_scopes.specs.declared.scope.UnitScope.{UnitScope}
 use Rattle.expander.proofs.BelowLaws.{same_fault}
-use Rattle.expander.proofs.CoreStandLaws.{core_on, part_on, binders_on, clause_on, kept_on}
+use Rattle.unit_scopes.proofs.CoreStandLaws.{core_on, part_on, binders_on, clause_on, kept_on}
 use Rattle.expander.proofs.LoopLaws.{runs_more, runs_stop, memory_behind}
-use Rattle.expander.proofs.OutcomeLaws.{named_on}
+use Rattle.unit_scopes.proofs.OutcomeLaws.{named_on}
 use Rattle.expander.proofs.RowLaws.{row, match_at}
 
 -- ---- one call more

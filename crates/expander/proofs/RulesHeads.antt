@@ -14,10 +14,10 @@ use Rattle.syntax_tree.specs.Works.{StandsFor}
 use Rattle.syntax_tree.specs.declared.trees.Work.{Work}
 use Rattle.core_forms.specs.Parts.{AreMacros}
 use Rattle.core_forms.specs.declared.shape.LocalMacro.{LocalMacro}
-use Rattle.expander.specs.RulesTold.{Tests}
-use Rattle.expander.specs.Searched.{searched}
-use Rattle.expander.specs.declared.fault.ExpandFault.{ExpandFault}
-use Rattle.expander.specs.declared.fault.ExpandFault.TheVariants as fault
+use Rattle.unit_scopes.specs.RulesTold.{Tests}
+use Rattle.unit_scopes.specs.Searched.{searched}
+use Rattle.feature_requirements.specs.declared.fault.ExpandFault.{ExpandFault}
+use Rattle.feature_requirements.specs.declared.fault.ExpandFault.TheVariants as fault
 
 -- ---- local macros by their places
 

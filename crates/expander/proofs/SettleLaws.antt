@@ -18,15 +18,15 @@ use Rattle.syntax_tree.specs.declared.trees.nodes.Tree as number
 use Rattle.syntax_tree.specs.declared.trees.table.Region.{Region}
 use Rattle.core_forms.specs.declared.shape.CoreKeyword as code_keyword
 use Rattle.core_tree.specs.declared.cores.Target as code_target
-use Rattle.expander.specs.State.{Stands}
-use Rattle.expander.specs.Used.{UseFor}
-use Rattle.expander.specs.Outcomes.{Stays, EndsHere, WorksOn, IsEnough}
+use Rattle.unit_scopes.specs.State.{Stands}
+use Rattle.unit_scopes.specs.Used.{UseFor}
+use Rattle.unit_scopes.specs.Outcomes.{Stays, EndsHere, WorksOn, IsEnough}
 use Rattle.expander.specs.Ready.{IsSettled, IsMacroKeyword, Settles, come_to}
-use Rattle.expander.specs.Searched.{searched}
-use Rattle.expander.specs.declared.fault.ExpandFault.{ExpandFault}
-use Rattle.expander.specs.declared.fault.ExpandFault.TheVariants as fault
-use Rattle.expander.specs.declared.scope.UnitScope.{UnitScope}
-use Rattle.expander.proofs.OutcomeLaws.{stays_itself, stays_on, leaves_on, fills_on, moves_here, bound_goes, bound_fails}
+use Rattle.unit_scopes.specs.Searched.{searched}
+use Rattle.feature_requirements.specs.declared.fault.ExpandFault.{ExpandFault}
+use Rattle.feature_requirements.specs.declared.fault.ExpandFault.TheVariants as fault
+use Rattle.unit_scopes.specs.declared.scope.UnitScope.{UnitScope}
+use Rattle.unit_scopes.proofs.OutcomeLaws.{stays_itself, stays_on, leaves_on, fills_on, moves_here, bound_goes, bound_fails}
 
 abbrev as_it_is : Identifier → Identifier
 as_it_is = λ i. i

@@ -13,10 +13,10 @@ use Rattle.scheme_model.specs.Order.{Here, head_of, given}
 use Rattle.scheme_model.specs.Expression.{Expander, mark_of, misplaced, chosen_sequence, core_form, quasi}
 use Rattle.scheme_model.specs.ScopedExpansion.{Frames, ScopedState}
 use Rattle.core_forms.specs.Forms.{Shape, Quoted, Quasi, Procedure, Procedures, Conditional, Assignment, Sequence, Local, Choices, ErrorText, choices_in, shape_of}
-use Rattle.expander.specs.Judged.{chosen_among}
+use Rattle.feature_requirements.specs.Judged.{chosen_among}
 use Rattle.expander.specs.CoreSteps.{core_step}
-use Rattle.expander.specs.Searched.{searched}
-use Rattle.expander.proofs.ChoiceLaws.{chosen_is}
+use Rattle.unit_scopes.specs.Searched.{searched}
+use Rattle.feature_requirements.proofs.ChoiceLaws.{chosen_is}
 
 abbrev as_it_is : Identifier → Identifier
 as_it_is = λ i. i

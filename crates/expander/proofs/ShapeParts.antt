@@ -33,7 +33,7 @@ use Rattle.core_forms.specs.declared.shape.NamePart.{NamePart}
 use Rattle.core_tree.specs.Names.{AllMatch}
 use Rattle.expander.specs.CoreSteps.{IsLeft, local_step}
 use Rattle.expander.specs.Expanded.{macros_step}
-use Rattle.expander.specs.Kept.{ClauseFor}
+use Rattle.unit_scopes.specs.Kept.{ClauseFor}
 use Rattle.expander.specs.Passed.{ClausesFit}
 use Rattle.expander.proofs.ShapeKinds.{same_kind}
 

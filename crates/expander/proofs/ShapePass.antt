@@ -28,13 +28,13 @@ use Rattle.core_forms.specs.declared.shape.CoreShape.TheVariants as shapes
 use Rattle.core_forms.specs.declared.shape.FieldShape.{FieldShape}
 use Rattle.core_forms.specs.declared.shape.Formals as code_formals
 use Rattle.core_forms.specs.declared.shape.NamePart.{NamePart}
-use Rattle.expander.specs.Judged.{AreChoosable, Chooses, Knows, chosen_among}
-use Rattle.expander.specs.Defining.{HasNumber}
-use Rattle.expander.specs.Kept.{ClauseFor}
-use Rattle.expander.specs.Outcomes.{WorksOn}
+use Rattle.feature_requirements.specs.Judged.{AreChoosable, Chooses, Knows, chosen_among}
+use Rattle.unit_scopes.specs.Defining.{HasNumber}
+use Rattle.unit_scopes.specs.Kept.{ClauseFor}
+use Rattle.unit_scopes.specs.Outcomes.{WorksOn}
 use Rattle.expander.specs.Passed.{ShapeFits, choices_size, pass_step, shape_weight}
-use Rattle.expander.specs.Searched.{searched}
-use Rattle.expander.specs.declared.fault.ExpandFault.{ExpandFault}
+use Rattle.unit_scopes.specs.Searched.{searched}
+use Rattle.feature_requirements.specs.declared.fault.ExpandFault.{ExpandFault}
 use Rattle.expander.proofs.DefinitionSteps.{matched_length}
 use Rattle.expander.proofs.ShapeKinds.{as_sequence, as_choices, as_variable, as_procedure, as_values, as_syntax, as_record, records_alike}
 

@@ -8,17 +8,17 @@ use Rattle.scheme_model.specs.Expression.{node}
 use Rattle.scheme_model.specs.ScopedExpansion.{Frames, ScopedState}
 use Rattle.syntax_tree.specs.declared.trees.Work.{Work}
 use Rattle.syntax_tree.specs.declared.trees.table.Region.{Region}
-use Rattle.expander.specs.Judged.{Knows}
-use Rattle.expander.specs.State.{Stands}
-use Rattle.expander.specs.Stepped.{spent}
-use Rattle.expander.specs.Outcomes.{At, Ends, Runs}
+use Rattle.feature_requirements.specs.Judged.{Knows}
+use Rattle.unit_scopes.specs.State.{Stands}
+use Rattle.unit_scopes.specs.Stepped.{spent}
+use Rattle.unit_scopes.specs.Outcomes.{At, Ends, Runs}
 use Rattle.expander.specs.Ready.{BeginsBelow}
-use Rattle.expander.specs.Searched.{searched}
+use Rattle.unit_scopes.specs.Searched.{searched}
 use Rattle.expander.specs.declared.expressions.At as code_at
-use Rattle.expander.specs.declared.fault.ExpandFault.{ExpandFault}
-use Rattle.expander.specs.declared.scope.UnitScope.{UnitScope}
-use Rattle.expander.proofs.OutcomeLaws.{ends_fails}
-use Rattle.expander.proofs.NodeLaws.{ends_err, ends_then}
+use Rattle.feature_requirements.specs.declared.fault.ExpandFault.{ExpandFault}
+use Rattle.unit_scopes.specs.declared.scope.UnitScope.{UnitScope}
+use Rattle.unit_scopes.proofs.OutcomeLaws.{ends_fails}
+use Rattle.unit_scopes.proofs.NodeLaws.{ends_err, ends_then}
 use Rattle.expander.proofs.RowLaws.{ends_mapped}
 use Rattle.expander.proofs.BelowLaws.{below_at, below_knows, node_below, node_unbegun}
 use Rattle.expander.proofs.LoopLaws.{knows_on}

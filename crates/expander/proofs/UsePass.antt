@@ -14,24 +14,24 @@ use Rattle.syntax_tree.specs.declared.trees.Work.{Work}
 use Rattle.syntax_tree.specs.declared.trees.nodes.Tree as number
 use Rattle.syntax_tree.specs.declared.trees.table.Region.{Region}
 use Rattle.core_tree.specs.Names.{AllMatch}
-use Rattle.expander.specs.State.{Stands}
-use Rattle.expander.specs.Kept.{FormFor, KeptFor, PendingFor, PlaceFor, NoteFor, NotesFor, SpotFor, forms_size}
-use Rattle.expander.specs.Outcomes.{Grows, Leaves, Stays, WorksOn, EndsHere}
+use Rattle.unit_scopes.specs.State.{Stands}
+use Rattle.unit_scopes.specs.Kept.{FormFor, KeptFor, PendingFor, PlaceFor, NoteFor, NotesFor, SpotFor, forms_size}
+use Rattle.unit_scopes.specs.Outcomes.{Grows, Leaves, Stays, WorksOn, EndsHere}
 use Rattle.expander.specs.Passed.{GoesOn}
-use Rattle.expander.specs.Searched.{searched}
-use Rattle.expander.specs.declared.asked.Asked.{Asked}
-use Rattle.expander.specs.declared.asked.Asking.{Asking}
-use Rattle.expander.specs.declared.asked.Note as code_note
-use Rattle.expander.specs.declared.asked.Note.TheVariants as notes
-use Rattle.expander.specs.declared.fault.ExpandFault.{ExpandFault}
-use Rattle.expander.specs.declared.fault.ExpandFault.TheVariants as fault
-use Rattle.expander.specs.declared.items.Form as code_form
-use Rattle.expander.specs.declared.items.Kept as code_kept
-use Rattle.expander.specs.declared.items.Pending as code_pending
-use Rattle.expander.specs.declared.items.Spot.{Spot}
-use Rattle.expander.specs.declared.scope.UnitScope.{UnitScope}
-use Rattle.expander.proofs.AskLaws.{asked_grows}
-use Rattle.expander.proofs.CoreStandLaws.{every_on, form_on, kept_on}
+use Rattle.unit_scopes.specs.Searched.{searched}
+use Rattle.unit_scopes.specs.declared.asked.Asked.{Asked}
+use Rattle.unit_scopes.specs.declared.asked.Asking.{Asking}
+use Rattle.unit_scopes.specs.declared.asked.Note as code_note
+use Rattle.unit_scopes.specs.declared.asked.Note.TheVariants as notes
+use Rattle.feature_requirements.specs.declared.fault.ExpandFault.{ExpandFault}
+use Rattle.feature_requirements.specs.declared.fault.ExpandFault.TheVariants as fault
+use Rattle.form_parts.specs.declared.items.Form as code_form
+use Rattle.form_parts.specs.declared.items.Kept as code_kept
+use Rattle.form_parts.specs.declared.items.Pending as code_pending
+use Rattle.form_parts.specs.declared.items.Spot.{Spot}
+use Rattle.unit_scopes.specs.declared.scope.UnitScope.{UnitScope}
+use Rattle.unit_scopes.proofs.AskLaws.{asked_grows}
+use Rattle.unit_scopes.proofs.CoreStandLaws.{every_on, form_on, kept_on}
 use Rattle.expander.proofs.DefinitionSteps.{caught_fails, caught_goes}
 use Rattle.expander.proofs.PassLaws.{spot_on}
 use Rattle.expander.proofs.UseSteps.{use_leaves}

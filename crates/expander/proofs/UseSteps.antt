@@ -16,7 +16,7 @@ use Rattle.scheme_model.specs.Cores.{Target}
 use Rattle.scheme_model.specs.Steps.{Broken, ◌>>=◌, done, fails}
 use Rattle.scheme_model.specs.Order.{Here, Transformer, given, target_of, used, use_of, max_uses, max_nodes}
 use Rattle.scheme_model.specs.ScopedExpansion.{Frames, ScopedState}
-use Rattle.expander.specs.Searched.{searched}
+use Rattle.unit_scopes.specs.Searched.{searched}
 
 -- ---- what is built is small
 

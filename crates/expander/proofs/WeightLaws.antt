@@ -12,9 +12,9 @@ use Rattle.scheme_model.specs.Shapes.{Formals, FieldShape, RecordShape, first_of
 use Rattle.scheme_model.specs.Ident.{Ident as Identifier, same_ident}
 use Rattle.scheme_model.specs.Order.{modifiers, record_names, or_none}
 use Rattle.core_forms.specs.Forms.{Shape, Sequence, Definition, Several, RecordType, Syntax, Choices, choice_of, choices_in, shape_of}
-use Rattle.expander.specs.Judged.{clause_judged, is_nil, chosen_among}
+use Rattle.feature_requirements.specs.Judged.{clause_judged, is_nil, chosen_among}
 use Rattle.expander.specs.Passed.{IsPassed, choices_size, shape_weight}
-use Rattle.expander.specs.FormsSeen.{takes_effect}
+use Rattle.form_parts.specs.FormsSeen.{takes_effect}
 use Rattle.expander.proofs.FitLaws.{made, some_node, names_count, proper_is, some_is, list_size, first_size, formals_count}
 
 -- ---- clauses of `cond-expand`

@@ -20,13 +20,13 @@ use Rattle.core_forms.specs.Parts.{AreMacros}
 use Rattle.core_forms.specs.declared.shape.LocalMacro.{LocalMacro}
 use Rattle.core_tree.specs.Names.{AllMatch, IsBinder}
 use Rattle.core_tree.specs.declared.cores.Binder as code_binder
-use Rattle.expander.specs.State.{Stands, most_locals}
-use Rattle.expander.specs.Stepped.{entered, entered_frames}
-use Rattle.expander.specs.Kept.{KeptFor}
-use Rattle.expander.specs.Outcomes.{At, CanLook}
-use Rattle.expander.specs.Searched.{searched}
-use Rattle.expander.specs.declared.items.Kept as code_kept
-use Rattle.expander.specs.declared.scope.UnitScope.{UnitScope}
+use Rattle.unit_scopes.specs.State.{Stands, most_locals}
+use Rattle.unit_scopes.specs.Stepped.{entered, entered_frames}
+use Rattle.unit_scopes.specs.Kept.{KeptFor}
+use Rattle.unit_scopes.specs.Outcomes.{At, CanLook}
+use Rattle.unit_scopes.specs.Searched.{searched}
+use Rattle.form_parts.specs.declared.items.Kept as code_kept
+use Rattle.unit_scopes.specs.declared.scope.UnitScope.{UnitScope}
 
 -- ---- bodies
 

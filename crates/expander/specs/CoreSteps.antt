@@ -9,7 +9,7 @@ use Rattle.scheme_model.specs.Steps.{Step, ◌>>=◌, done, fails}
 use Rattle.scheme_model.specs.Order.{Here, Ops, given}
 use Rattle.scheme_model.specs.Expression.{Expander, whole, node, each, clauses, quote, quasi, lambda, set, sequence, let_syntax, letrec_syntax, chosen_sequence}
 use Rattle.core_forms.specs.Forms.{Shape, Quoted, Quasi, Procedure, Procedures, Conditional, Assignment, Sequence, Definition, Several, RecordType, Syntax, Local, Choices, ErrorText, Inclusion}
-use Rattle.expander.specs.Judged.{chosen_among}
+use Rattle.feature_requirements.specs.Judged.{chosen_among}
 
 -- the local macros of one keyword see their own names
 abbrev pub local_step : {E L S : Type 0} → Expander E Identifier S → Ops E Identifier L S → ℕ → Here → E → CoreKeyword → LocalMacros Identifier → Step S Core

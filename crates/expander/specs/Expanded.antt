@@ -26,10 +26,10 @@ use Rattle.core_tree.specs.Names.{AllMatch}
 use Rattle.core_tree.specs.declared.cores.Clause as core_clause
 use Rattle.core_tree.specs.declared.cores.Core as code_core
 use Rattle.expander.specs.CoreSteps.{IsLeft}
-use Rattle.expander.specs.Kept.{ClauseFor, KeptFor}
+use Rattle.unit_scopes.specs.Kept.{ClauseFor, KeptFor}
 use Rattle.expander.specs.Passed.{ShapeFits}
-use Rattle.expander.specs.declared.items.Kept as code_kept
-use Rattle.expander.specs.declared.scope.UnitScope.{UnitScope}
+use Rattle.form_parts.specs.declared.items.Kept as code_kept
+use Rattle.unit_scopes.specs.declared.scope.UnitScope.{UnitScope}
 
 -- ---- what calls demand
 

@@ -14,17 +14,17 @@ use Rattle.syntax_tree.specs.declared.trees.table.Region.{Region}
 use Rattle.core_forms.specs.Forms.{Shape, Quoted, Quasi, Procedure, Procedures, Conditional, Assignment, Sequence, Definition, Several, RecordType, Syntax, Local, Choices, ErrorText, Inclusion}
 use Rattle.core_tree.specs.Names.{AllMatch}
 use Rattle.core_tree.specs.Traces.{IsFault}
-use Rattle.expander.specs.Judged.{chosen_among}
-use Rattle.expander.specs.Kept.{ClauseFits, KeptFor, PendingFor, NotesFor, SpotFor, left_with}
-use Rattle.expander.specs.Outcomes.{Stays, Leaves, MayFill}
-use Rattle.expander.specs.State.{Stands, most_locals}
-use Rattle.expander.specs.declared.asked.Asked.{Asked}
-use Rattle.expander.specs.declared.fault.ExpandFault.{ExpandFault}
-use Rattle.expander.specs.declared.fault.ExpandFault.TheVariants as fault
-use Rattle.expander.specs.declared.items.Kept as code_kept
-use Rattle.expander.specs.declared.items.Pending as code_pending
-use Rattle.expander.specs.declared.items.Spot as code_spot
-use Rattle.expander.specs.declared.scope.UnitScope.{UnitScope}
+use Rattle.feature_requirements.specs.Judged.{chosen_among}
+use Rattle.unit_scopes.specs.Kept.{ClauseFits, KeptFor, PendingFor, NotesFor, SpotFor, left_with}
+use Rattle.unit_scopes.specs.Outcomes.{Stays, Leaves, MayFill}
+use Rattle.unit_scopes.specs.State.{Stands, most_locals}
+use Rattle.unit_scopes.specs.declared.asked.Asked.{Asked}
+use Rattle.feature_requirements.specs.declared.fault.ExpandFault.{ExpandFault}
+use Rattle.feature_requirements.specs.declared.fault.ExpandFault.TheVariants as fault
+use Rattle.form_parts.specs.declared.items.Kept as code_kept
+use Rattle.form_parts.specs.declared.items.Pending as code_pending
+use Rattle.form_parts.specs.declared.items.Spot as code_spot
+use Rattle.unit_scopes.specs.declared.scope.UnitScope.{UnitScope}
 
 -- ---- what calls demand
 

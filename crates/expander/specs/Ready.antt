@@ -27,20 +27,21 @@ use Rattle.core_forms.specs.declared.shape.CoreKeyword as code_keyword
 use Rattle.core_tree.specs.Cores.{CoreStands}
 use Rattle.core_tree.specs.Traces.{IsFault}
 use Rattle.std.specs.declared.alloc.Global.{Global}
-use Rattle.expander.specs.Counts.{plain_fault, Begins}
+use Rattle.feature_requirements.specs.Faults.{plain_fault}
+use Rattle.unit_scopes.specs.Counts.{Begins}
 use Rattle.expander.specs.CoreSteps.{core_step, IsLeft}
-use Rattle.expander.specs.State.{Stands}
-use Rattle.expander.specs.Outcomes.{At, Stays, Leaves, MayFill, Breaks, WorksOn, IsEnough, IsEnoughBelow}
+use Rattle.unit_scopes.specs.State.{Stands}
+use Rattle.unit_scopes.specs.Outcomes.{At, Stays, Leaves, MayFill, Breaks, WorksOn, IsEnough, IsEnoughBelow}
 use Rattle.expander.specs.Passed.{ShapeFits}
-use Rattle.expander.specs.Searched.{searched}
+use Rattle.unit_scopes.specs.Searched.{searched}
 use Rattle.expander.specs.declared.expressions.At as code_at
 use Rattle.expander.specs.declared.expressions.Headed as code_headed
 use Rattle.expander.specs.declared.expressions.Headed.TheVariants as headed
 use Rattle.expander.specs.declared.expressions.Ready as code_ready
 use Rattle.expander.specs.declared.expressions.Ready.TheVariants as ready
-use Rattle.expander.specs.declared.fault.ExpandFault.{ExpandFault}
-use Rattle.expander.specs.declared.fault.ExpandFault.TheVariants as fault
-use Rattle.expander.specs.declared.scope.UnitScope.{UnitScope}
+use Rattle.feature_requirements.specs.declared.fault.ExpandFault.{ExpandFault}
+use Rattle.feature_requirements.specs.declared.fault.ExpandFault.TheVariants as fault
+use Rattle.unit_scopes.specs.declared.scope.UnitScope.{UnitScope}
 
 abbrev pub Expanding : Type 0
 Expanding = Expander Frames Identifier ScopedState

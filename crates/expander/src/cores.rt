@@ -14,442 +14,453 @@ ghost use Rattle.core_forms.specs.Parts.{AreMacros};
 ghost use Rattle.core_tree.specs.Cores.{CoreStands, CoresStand, ClausesStand, PartStands, PartsStand as PartsOfCores};
 ghost use Rattle.core_tree.specs.Names.{AllMatch};
 ghost use Rattle.expander.specs.CoreSteps.{core_step, IsLeft};
-ghost use Rattle.expander.specs.Searched.{searched};
-ghost use Rattle.expander.specs.Kept.{ClauseFor, KeptFor};
+ghost use Rattle.unit_scopes.specs.Searched.{searched};
+ghost use Rattle.unit_scopes.specs.Kept.{ClauseFor, KeptFor};
 ghost use Rattle.expander.specs.Passed.{ShapeFits};
-ghost use Rattle.expander.specs.Outcomes.{CanLook, IsAtWork, IsEnough, IsEnoughBelow, HasRoom, Runs, Spends};
+ghost use Rattle.unit_scopes.specs.Outcomes.{CanLook, IsAtWork, IsEnough, IsEnoughBelow, HasRoom, Runs, Spends};
 ghost use Rattle.expander.specs.Expanded.{AreAtWork, BodyAtWork, ClauseStands, macros_step, ShapeAtWork, ClauseAtWork, ClausesAtWork, KeptAtWork, AreKeptAtWork, MacrosAtWork};
 
-use crate::bodies::{in_place, names_of};
-use crate::counting::{code, fails};
-use crate::expressions::{At, Ready};
-use crate::fault::ExpandFault;
-use crate::items::Kept;
-use crate::quasi::outside;
-use crate::requirements::chosen_forms;
-use crate::scope::UnitScope;
+use crate::bodies::{in_place, keep_all, local_defs, pass_body, test_all_rules};
+use crate::expressions::{At, Ready, below, ready, test_variable};
+use crate::passes::judge;
 use core_forms::{ClauseShape, CoreKeyword, CoreShape, LocalMacro};
 use core_tree::cores::{Clause, Core, CorePart};
+use feature_requirements::fault::{ExpandFault, code, fails};
+use feature_requirements::requirements::chosen_forms;
+use form_parts::items::{Kept, names_of};
+use form_parts::quasi::outside;
 use std::alloc::Global;
 use syntax_tree::trees::{Region, Tree, Work};
+use unit_scopes::scope::UnitScope;
 
-impl UnitScope {
-    /// The core of an expression.
-    #[cycle(core)]
-    pub(crate) fn expand(
-        &mut self,
-        alloc: Global,
-        work: &mut Work,
-        region: &Region,
-        at: At,
-        form: Tree,
-    ) -> Result<Core, ExpandFault>
-        requires opened { IsOpened work.old region.now }
-        requires look { CanLook work.old self.old at.scope }
-        requires form { IsAtWork work.old region.now form }
-        requires room { HasRoom (2 ^ 43) self.old }
-        ensures runs { (t : ModelTree Identifier) (turns : ℕ) → StandsFor work.old form t → IsEnough at.depth self.old.form.budget.uses turns →
-            Runs (λ ls. CoreStands work.new self.new.unit self.new.form.number) work.old work.new region.now self.old self.new at.scope result (λ known fs. expand (searched known) turns at.depth at.here fs (whole t)) }
-        ensures locals { OnOk result (Spends 0 self.old self.new) }
-    {
-        let (here, ready) = self.ready(alloc, work, region, at, form)?;
-        let at = in_place(at, here);
-        match ready {
-            Ready::Core(core) => Ok(core),
-            Ready::Call(parts) => {
-                let below = self.below(at, 1)?;
-                Ok(Core::Call(self.expand_all(alloc, work, region, below, &parts)?))
-            }
-            Ready::Shape(core, shape) => Ok(self.expand_shape(
-                alloc, work, region, at, core, shape,
-            )?),
+/// The core of an expression.
+#[cycle(core)]
+fn expand(
+    units: &mut UnitScope,
+    alloc: Global,
+    work: &mut Work,
+    region: &Region,
+    at: At,
+    form: Tree,
+) -> Result<Core, ExpandFault>
+    requires opened { IsOpened work.old region.now }
+    requires look { CanLook work.old units.old at.scope }
+    requires form { IsAtWork work.old region.now form }
+    requires room { HasRoom (2 ^ 43) units.old }
+    ensures runs { (t : ModelTree Identifier) (turns : ℕ) → StandsFor work.old form t → IsEnough at.depth units.old.form.budget.uses turns →
+        Runs (λ ls. CoreStands work.new units.new.unit units.new.form.number) work.old work.new region.now units.old units.new at.scope result (λ known fs. expand (searched known) turns at.depth at.here fs (whole t)) }
+    ensures locals { OnOk result (Spends 0 units.old units.new) }
+{
+    let (here, ready) = ready(units, alloc, work, region, at, form)?;
+    let at = in_place(at, here);
+    match ready {
+        Ready::Core(core) => Ok(core),
+        Ready::Call(parts) => {
+            let below = below(units, at, 1)?;
+            Ok(Core::Call(expand_all(units, alloc, work, region, below, &parts)?))
         }
+        Ready::Shape(core, shape) => Ok(expand_shape(units, alloc, work, region, at, core, shape)?),
     }
+}
 
-    /// The cores of expressions, from left to right.
-    #[cycle(core)]
-    fn expand_all(
-        &mut self,
-        alloc: Global,
-        work: &mut Work,
-        region: &Region,
-        at: At,
-        parts: &[Tree],
-    ) -> Result<Vec<Core>, ExpandFault>
-        requires opened { IsOpened work.old region.now }
-        requires look { CanLook work.old self.old at.scope }
-        requires parts { AreAtWork work.old region.now parts.now }
-        requires room { HasRoom (2 ^ 43) self.old }
-        ensures runs { (ts : List (ModelTree Identifier)) (turns : ℕ) → AllMatch (StandsFor work.old) parts.now ts → IsEnough at.depth self.old.form.budget.uses turns →
-            Runs (λ ls cs ms. CoresStand work.new self.new.unit self.new.form.number cs.items ms) work.old work.new region.now self.old self.new at.scope result (λ known fs. each_of (λ t. expand (searched known) turns at.depth at.here fs (whole t)) ts) }
-        ensures locals { OnOk result (Spends 0 self.old self.new) }
-    {
-        let mut cores = Vec::with_capacity(alloc, parts.len())?;
-        for part in parts {
-            let core = self.expand(alloc, work, region, at, *part)?;
-            cores.push(core)?;
-        }
-        Ok(cores)
+/// The cores of expressions, from left to right.
+#[cycle(core)]
+fn expand_all(
+    units: &mut UnitScope,
+    alloc: Global,
+    work: &mut Work,
+    region: &Region,
+    at: At,
+    parts: &[Tree],
+) -> Result<Vec<Core>, ExpandFault>
+    requires opened { IsOpened work.old region.now }
+    requires look { CanLook work.old units.old at.scope }
+    requires parts { AreAtWork work.old region.now parts.now }
+    requires room { HasRoom (2 ^ 43) units.old }
+    ensures runs { (ts : List (ModelTree Identifier)) (turns : ℕ) → AllMatch (StandsFor work.old) parts.now ts → IsEnough at.depth units.old.form.budget.uses turns →
+        Runs (λ ls cs ms. CoresStand work.new units.new.unit units.new.form.number cs.items ms) work.old work.new region.now units.old units.new at.scope result (λ known fs. each_of (λ t. expand (searched known) turns at.depth at.here fs (whole t)) ts) }
+    ensures locals { OnOk result (Spends 0 units.old units.new) }
+{
+    let mut cores = Vec::with_capacity(alloc, parts.len())?;
+    for part in parts {
+        let core = expand(units, alloc, work, region, at, *part)?;
+        cores.push(core)?;
     }
+    Ok(cores)
+}
 
-    /// The core of a core form by its shape.
-    #[cycle(core)]
-    fn expand_shape(
-        &mut self,
-        alloc: Global,
-        work: &mut Work,
-        region: &Region,
-        at: At,
-        core: CoreKeyword,
-        shape: CoreShape,
-    ) -> Result<Core, ExpandFault>
-        requires opened { IsOpened work.old region.now }
-        requires look { CanLook work.old self.old at.scope }
-        requires core { (c : ModelKeyword) × (keyword_as core ≡ Some c) }
-        requires shape { ShapeAtWork work.old region.now shape }
-        requires room { HasRoom (2 ^ 43) self.old }
-        ensures runs { (c : ModelKeyword) (m : Shape) (turns : ℕ) → keyword_as core ≡ Some c → ShapeFor work.old shape m → ShapeFits m → IsLeft m → IsEnoughBelow at.depth self.old.form.budget.uses turns →
-            Runs (λ ls. CoreStands work.new self.new.unit self.new.form.number) work.old work.new region.now self.old self.new at.scope result (λ known fs. core_step (expand (searched known) turns) (searched known) at.depth at.here fs c m) }
-        ensures locals { OnOk result (Spends 0 self.old self.new) }
-    {
-        match shape {
-            CoreShape::Quasi {
+/// The core of a core form by its shape.
+#[cycle(core)]
+fn expand_shape(
+    units: &mut UnitScope,
+    alloc: Global,
+    work: &mut Work,
+    region: &Region,
+    at: At,
+    core: CoreKeyword,
+    shape: CoreShape,
+) -> Result<Core, ExpandFault>
+    requires opened { IsOpened work.old region.now }
+    requires look { CanLook work.old units.old at.scope }
+    requires core { (c : ModelKeyword) × (keyword_as core ≡ Some c) }
+    requires shape { ShapeAtWork work.old region.now shape }
+    requires room { HasRoom (2 ^ 43) units.old }
+    ensures runs { (c : ModelKeyword) (m : Shape) (turns : ℕ) → keyword_as core ≡ Some c → ShapeFor work.old shape m → ShapeFits m → IsLeft m → IsEnoughBelow at.depth units.old.form.budget.uses turns →
+        Runs (λ ls. CoreStands work.new units.new.unit units.new.form.number) work.old work.new region.now units.old units.new at.scope result (λ known fs. core_step (expand (searched known) turns) (searched known) at.depth at.here fs c m) }
+    ensures locals { OnOk result (Spends 0 units.old units.new) }
+{
+    match shape {
+        CoreShape::Quasi {
+            datum,
+            places,
+            parts,
+        } => {
+            work.trees_fit();
+            let below = below(units, at, outside(work, datum, &parts))?;
+            let parts = expand_all(units, alloc, work, region, below, &parts)?;
+            Ok(Core::Quasi {
                 datum,
                 places,
                 parts,
-            } => {
-                work.trees_fit();
-                let below = self.below(at, outside(work, datum, &parts))?;
-                let parts = self.expand_all(alloc, work, region, below, &parts)?;
-                Ok(Core::Quasi {
-                    datum,
-                    places,
-                    parts,
-                })
-            }
-            CoreShape::Lambda(clause) => {
-                let below = self.below(at, 1)?;
-                Ok(Core::Lambda(self.procedure(alloc, work, region, below, &clause)?))
-            }
-            CoreShape::CaseLambda(clauses) => {
-                let below = self.below(at, 1)?;
-                Ok(Core::CaseLambda(self.procedures(alloc, work, region, below, &clauses)?))
-            }
-            CoreShape::If(parts) => {
-                let below = self.below(at, 1)?;
-                Ok(Core::If(self.expand_all(alloc, work, region, below, &parts)?))
-            }
-            CoreShape::Set { name, value } => {
-                self.test_variable(work, at, name)?;
-                let below = self.below(at, 1)?;
-                let target = self.target(work, at.scope, name);
-                let value = self.expand(alloc, work, region, below, value)?;
-                Ok(Core::Set {
-                    target,
-                    value: Box::new(alloc, value)?,
-                })
-            }
-            CoreShape::Begin(forms) => Ok(self.sequence(alloc, work, region, at, &forms)?),
-            CoreShape::CondExpand(choices) => {
-                let forms = chosen_forms(self.judge(alloc, work), at.here, &choices)?;
-                Ok(self.sequence(alloc, work, region, at, &forms)?)
-            }
-            CoreShape::LetSyntax { macros, body } => {
-                let recursive = core == CoreKeyword::LetrecSyntax;
-                Ok(self.local_macros(alloc, work, region, at, recursive, &macros, &body)?)
-            }
-            _ => Err(fails(at.here, code::BAD_PLACE)),
+            })
         }
-    }
-
-    /// A clause with its binders and its body.
-    #[cycle(core)]
-    fn procedure(
-        &mut self,
-        alloc: Global,
-        work: &mut Work,
-        region: &Region,
-        at: At,
-        clause: &ClauseShape,
-    ) -> Result<Clause, ExpandFault>
-        requires opened { IsOpened work.old region.now }
-        requires look { CanLook work.old self.old at.scope }
-        requires clause { ClauseAtWork work.old region.now clause.now }
-        requires room { HasRoom (2 ^ 43) self.old }
-        ensures runs { (c : ModelClause Identifier) (turns : ℕ) → ClauseFor work.old region.now clause.now c → IsEnough at.depth self.old.form.budget.uses turns →
-            Runs (λ ls. ClauseStands work.new self.new.unit self.new.form.number) work.old work.new region.now self.old self.new at.scope result (λ known fs. procedure (expand (searched known) turns) (searched known) at.depth at.here fs c) }
-        ensures locals { OnOk result (Spends 0 self.old self.new) }
-    {
-        work.symbols.told_apart();
-        self.env.sound();
-        let (scope, binders) = self.bind_names(at.scope, &clause.formals.names)?;
-        let inside = At {
-            scope,
-            here: at.here,
-            depth: at.depth,
-        };
-        let body = self.body(alloc, work, region, inside, &clause.body)?;
-        Ok(Clause {
-            binders,
-            dotted: clause.formals.dotted,
-            body: Box::new(alloc, body)?,
-        })
-    }
-
-    /// Clauses in a row.
-    #[cycle(core)]
-    fn procedures(
-        &mut self,
-        alloc: Global,
-        work: &mut Work,
-        region: &Region,
-        at: At,
-        shapes: &[ClauseShape],
-    ) -> Result<Vec<Clause>, ExpandFault>
-        requires opened { IsOpened work.old region.now }
-        requires look { CanLook work.old self.old at.scope }
-        requires clauses { ClausesAtWork work.old region.now shapes.now }
-        requires room { HasRoom (2 ^ 43) self.old }
-        ensures runs { (cs : List (ModelClause Identifier)) (turns : ℕ) → AllMatch (ClauseFor work.old region.now) shapes.now cs → IsEnough at.depth self.old.form.budget.uses turns →
-            Runs (λ ls xs ms. ClausesStand work.new self.new.unit self.new.form.number xs.items ms) work.old work.new region.now self.old self.new at.scope result (λ known fs. clauses (expand (searched known) turns) (searched known) at.depth at.here fs cs) }
-        ensures locals { OnOk result (Spends 0 self.old self.new) }
-    {
-        let mut all = Vec::with_capacity(alloc, shapes.len())?;
-        for clause in shapes {
-            let next = self.procedure(alloc, work, region, at, clause)?;
-            all.push(next)?;
+        CoreShape::Lambda(clause) => {
+            let below = below(units, at, 1)?;
+            Ok(Core::Lambda(procedure(units, alloc, work, region, below, &clause)?))
         }
-        Ok(all)
-    }
-
-    /// A body: its forms are gone through, and then what was set aside is expanded.
-    #[cycle(core)]
-    fn body(
-        &mut self,
-        alloc: Global,
-        work: &mut Work,
-        region: &Region,
-        at: At,
-        forms: &[Tree],
-    ) -> Result<Core, ExpandFault>
-        requires opened { IsOpened work.old region.now }
-        requires look { CanLook work.old self.old at.scope }
-        requires forms { BodyAtWork work.old region.now forms.now }
-        requires room { HasRoom (2 ^ 42) self.old }
-        ensures runs { (ts : Trees Identifier) (turns : ℕ) → PartsStand work.old forms.now ts → IsEnough at.depth self.old.form.budget.uses turns →
-            Runs (λ ls. CoreStands work.new self.new.unit self.new.form.number) work.old work.new region.now self.old self.new at.scope result (λ known fs. expand (searched known) turns at.depth at.here fs (body ts)) }
-        ensures locals { OnOk result (Spends (2 ^ 43) self.old self.new) }
-    {
-        let below = self.below(at, 1)?;
-        let (scope, aside) = self.pass_body(alloc, work, region, below, forms)?;
-        let inside = At {
-            scope,
-            here: below.here,
-            depth: below.depth,
-        };
-        Ok(Core::Body(self.expand_kept(alloc, work, region, inside, &aside)?))
-    }
-
-    /// What was set aside, expanded in order.
-    #[cycle(core)]
-    fn expand_kept(
-        &mut self,
-        alloc: Global,
-        work: &mut Work,
-        region: &Region,
-        at: At,
-        aside: &[Kept],
-    ) -> Result<Vec<CorePart>, ExpandFault>
-        requires opened { IsOpened work.old region.now }
-        requires look { CanLook work.old self.old at.scope }
-        requires aside { AreKeptAtWork work.old region.now self.old aside.now }
-        requires room { HasRoom (2 ^ 43) self.old }
-        ensures runs { (is : List (Item Identifier)) (turns : ℕ) → AllMatch (KeptFor work.old region.now self.old.unit self.old.form.number) aside.now is → IsEnough at.depth self.old.form.budget.uses turns →
-            Runs (λ ls ps ms. PartsOfCores work.new self.new.unit self.new.form.number ps.items ms) work.old work.new region.now self.old self.new at.scope result (λ known fs. parts (item_part (expand (searched known) turns) (searched known) at.depth fs) is) }
-        ensures locals { OnOk result (Spends 0 self.old self.new) }
-    {
-        let mut parts = Vec::with_capacity(alloc, aside.len())?;
-        for kept in aside {
-            let part = self.expand_kept_item(alloc, work, region, at, kept)?;
-            parts.push(part)?;
+        CoreShape::CaseLambda(clauses) => {
+            let below = below(units, at, 1)?;
+            Ok(Core::CaseLambda(procedures(units, alloc, work, region, below, &clauses)?))
         }
-        Ok(parts)
+        CoreShape::If(parts) => {
+            let below = below(units, at, 1)?;
+            Ok(Core::If(expand_all(units, alloc, work, region, below, &parts)?))
+        }
+        CoreShape::Set { name, value } => {
+            test_variable(units, work, at, name)?;
+            let below = below(units, at, 1)?;
+            let target = units.target(work, at.scope, name);
+            let value = expand(units, alloc, work, region, below, value)?;
+            Ok(Core::Set {
+                target,
+                value: Box::new(alloc, value)?,
+            })
+        }
+        CoreShape::Begin(forms) => Ok(sequence(units, alloc, work, region, at, &forms)?),
+        CoreShape::CondExpand(choices) => {
+            let forms = chosen_forms(judge(units, alloc, work), at.here, &choices)?;
+            Ok(sequence(units, alloc, work, region, at, &forms)?)
+        }
+        CoreShape::LetSyntax { macros, body } => {
+            let recursive = core == CoreKeyword::LetrecSyntax;
+            Ok(local_macros(units, alloc, work, region, at, recursive, &macros, &body)?)
+        }
+        _ => Err(fails(at.here, code::BAD_PLACE)),
     }
+}
 
-    /// One part of a body or a unit, expanded.
-    #[cycle(core)]
-    pub(crate) fn expand_kept_item(
-        &mut self,
-        alloc: Global,
-        work: &mut Work,
-        region: &Region,
-        at: At,
-        kept: &Kept,
-    ) -> Result<CorePart, ExpandFault>
-        requires opened { IsOpened work.old region.now }
-        requires look { CanLook work.old self.old at.scope }
-        requires kept { KeptAtWork work.old region.now self.old kept.now }
-        requires room { HasRoom (2 ^ 43) self.old }
-        ensures runs { (i : Item Identifier) (turns : ℕ) → KeptFor work.old region.now self.old.unit self.old.form.number kept.now i → IsEnough at.depth self.old.form.budget.uses turns →
-            Runs (λ ls. PartStands work.new self.new.unit self.new.form.number) work.old work.new region.now self.old self.new at.scope result (λ known fs. item_part (expand (searched known) turns) (searched known) at.depth fs i) }
-        ensures locals { OnOk result (Spends 0 self.old self.new) }
-    {
-        match kept {
-            Kept::Expression(form) => Ok(CorePart::Expression(self.expand(
+/// A clause with its binders and its body.
+#[cycle(core)]
+fn procedure(
+    units: &mut UnitScope,
+    alloc: Global,
+    work: &mut Work,
+    region: &Region,
+    at: At,
+    clause: &ClauseShape,
+) -> Result<Clause, ExpandFault>
+    requires opened { IsOpened work.old region.now }
+    requires look { CanLook work.old units.old at.scope }
+    requires clause { ClauseAtWork work.old region.now clause.now }
+    requires room { HasRoom (2 ^ 43) units.old }
+    ensures runs { (c : ModelClause Identifier) (turns : ℕ) → ClauseFor work.old region.now clause.now c → IsEnough at.depth units.old.form.budget.uses turns →
+        Runs (λ ls. ClauseStands work.new units.new.unit units.new.form.number) work.old work.new region.now units.old units.new at.scope result (λ known fs. procedure (expand (searched known) turns) (searched known) at.depth at.here fs c) }
+    ensures locals { OnOk result (Spends 0 units.old units.new) }
+{
+    work.symbols.told_apart();
+    units.env.sound();
+    let (scope, binders) = units.bind_names(at.scope, &clause.formals.names)?;
+    let inside = At {
+        scope,
+        here: at.here,
+        depth: at.depth,
+    };
+    let body = body(units, alloc, work, region, inside, &clause.body)?;
+    Ok(Clause {
+        binders,
+        dotted: clause.formals.dotted,
+        body: Box::new(alloc, body)?,
+    })
+}
+
+/// Clauses in a row.
+#[cycle(core)]
+fn procedures(
+    units: &mut UnitScope,
+    alloc: Global,
+    work: &mut Work,
+    region: &Region,
+    at: At,
+    shapes: &[ClauseShape],
+) -> Result<Vec<Clause>, ExpandFault>
+    requires opened { IsOpened work.old region.now }
+    requires look { CanLook work.old units.old at.scope }
+    requires clauses { ClausesAtWork work.old region.now shapes.now }
+    requires room { HasRoom (2 ^ 43) units.old }
+    ensures runs { (cs : List (ModelClause Identifier)) (turns : ℕ) → AllMatch (ClauseFor work.old region.now) shapes.now cs → IsEnough at.depth units.old.form.budget.uses turns →
+        Runs (λ ls xs ms. ClausesStand work.new units.new.unit units.new.form.number xs.items ms) work.old work.new region.now units.old units.new at.scope result (λ known fs. clauses (expand (searched known) turns) (searched known) at.depth at.here fs cs) }
+    ensures locals { OnOk result (Spends 0 units.old units.new) }
+{
+    let mut all = Vec::with_capacity(alloc, shapes.len())?;
+    for clause in shapes {
+        let next = procedure(units, alloc, work, region, at, clause)?;
+        all.push(next)?;
+    }
+    Ok(all)
+}
+
+/// A body: its forms are gone through, and then what was set aside is expanded.
+#[cycle(core)]
+fn body(
+    units: &mut UnitScope,
+    alloc: Global,
+    work: &mut Work,
+    region: &Region,
+    at: At,
+    forms: &[Tree],
+) -> Result<Core, ExpandFault>
+    requires opened { IsOpened work.old region.now }
+    requires look { CanLook work.old units.old at.scope }
+    requires forms { BodyAtWork work.old region.now forms.now }
+    requires room { HasRoom (2 ^ 42) units.old }
+    ensures runs { (ts : Trees Identifier) (turns : ℕ) → PartsStand work.old forms.now ts → IsEnough at.depth units.old.form.budget.uses turns →
+        Runs (λ ls. CoreStands work.new units.new.unit units.new.form.number) work.old work.new region.now units.old units.new at.scope result (λ known fs. expand (searched known) turns at.depth at.here fs (body ts)) }
+    ensures locals { OnOk result (Spends (2 ^ 43) units.old units.new) }
+{
+    let below = below(units, at, 1)?;
+    let (scope, aside) = pass_body(units, alloc, work, region, below, forms)?;
+    let inside = At {
+        scope,
+        here: below.here,
+        depth: below.depth,
+    };
+    Ok(Core::Body(expand_kept(units, alloc, work, region, inside, &aside)?))
+}
+
+/// What was set aside, expanded in order.
+#[cycle(core)]
+fn expand_kept(
+    units: &mut UnitScope,
+    alloc: Global,
+    work: &mut Work,
+    region: &Region,
+    at: At,
+    aside: &[Kept],
+) -> Result<Vec<CorePart>, ExpandFault>
+    requires opened { IsOpened work.old region.now }
+    requires look { CanLook work.old units.old at.scope }
+    requires aside { AreKeptAtWork work.old region.now units.old aside.now }
+    requires room { HasRoom (2 ^ 43) units.old }
+    ensures runs { (is : List (Item Identifier)) (turns : ℕ) → AllMatch (KeptFor work.old region.now units.old.unit units.old.form.number) aside.now is → IsEnough at.depth units.old.form.budget.uses turns →
+        Runs (λ ls ps ms. PartsOfCores work.new units.new.unit units.new.form.number ps.items ms) work.old work.new region.now units.old units.new at.scope result (λ known fs. parts (item_part (expand (searched known) turns) (searched known) at.depth fs) is) }
+    ensures locals { OnOk result (Spends 0 units.old units.new) }
+{
+    let mut parts = Vec::with_capacity(alloc, aside.len())?;
+    for kept in aside {
+        let part = expand_kept_item(units, alloc, work, region, at, kept)?;
+        parts.push(part)?;
+    }
+    Ok(parts)
+}
+
+/// One part of a body or a unit, expanded.
+#[cycle(core)]
+pub(crate) fn expand_kept_item(
+    units: &mut UnitScope,
+    alloc: Global,
+    work: &mut Work,
+    region: &Region,
+    at: At,
+    kept: &Kept,
+) -> Result<CorePart, ExpandFault>
+    requires opened { IsOpened work.old region.now }
+    requires look { CanLook work.old units.old at.scope }
+    requires kept { KeptAtWork work.old region.now units.old kept.now }
+    requires room { HasRoom (2 ^ 43) units.old }
+    ensures runs { (i : Item Identifier) (turns : ℕ) → KeptFor work.old region.now units.old.unit units.old.form.number kept.now i → IsEnough at.depth units.old.form.budget.uses turns →
+        Runs (λ ls. PartStands work.new units.new.unit units.new.form.number) work.old work.new region.now units.old units.new at.scope result (λ known fs. item_part (expand (searched known) turns) (searched known) at.depth fs i) }
+    ensures locals { OnOk result (Spends 0 units.old units.new) }
+{
+    match kept {
+        Kept::Expression(form) => Ok(CorePart::Expression(expand(
+            units,
+            alloc,
+            work,
+            region,
+            in_place(at, form.here),
+            form.tree,
+        )?)),
+        Kept::Value(binder, form) => {
+            let value = expand(
+                units,
                 alloc,
                 work,
                 region,
                 in_place(at, form.here),
                 form.tree,
-            )?)),
-            Kept::Value(binder, form) => {
-                let value = self.expand(alloc, work, region, in_place(at, form.here), form.tree)?;
-                Ok(CorePart::Define {
-                    binder: *binder,
-                    value,
-                })
-            }
-            Kept::Function(binder, here, clause) => {
-                let value = self.lambda(alloc, work, region, in_place(at, *here), clause)?;
-                Ok(CorePart::Define {
-                    binder: *binder,
-                    value,
-                })
-            }
-            Kept::Assigned(name, form) => {
-                let below = self.below(in_place(at, form.here), 1)?;
-                let target = self.target(work, at.scope, *name);
-                let value = self.expand(alloc, work, region, below, form.tree)?;
-                Ok(CorePart::Expression(Core::Set {
-                    target,
-                    value: Box::new(alloc, value)?,
-                }))
-            }
-            Kept::AssignedFunction(name, here, clause) => {
-                let below = self.below(in_place(at, *here), 1)?;
-                let target = self.target(work, at.scope, *name);
-                let value = self.lambda(alloc, work, region, below, clause)?;
-                Ok(CorePart::Expression(Core::Set {
-                    target,
-                    value: Box::new(alloc, value)?,
-                }))
-            }
-            Kept::Values {
-                binders,
-                dotted,
-                form,
-            } => {
-                let value = self.expand(alloc, work, region, in_place(at, form.here), form.tree)?;
-                Ok(CorePart::Values {
-                    binders: Vec::from_slice(alloc, binders)?,
-                    dotted: *dotted,
-                    value,
-                })
-            }
-            Kept::Record {
-                binders,
-                fields,
-                modified,
-                used,
-            } => Ok(CorePart::Fields {
+            )?;
+            Ok(CorePart::Define {
+                binder: *binder,
+                value,
+            })
+        }
+        Kept::Function(binder, here, clause) => {
+            let value = lambda(units, alloc, work, region, in_place(at, *here), clause)?;
+            Ok(CorePart::Define {
+                binder: *binder,
+                value,
+            })
+        }
+        Kept::Assigned(name, form) => {
+            let below = below(units, in_place(at, form.here), 1)?;
+            let target = units.target(work, at.scope, *name);
+            let value = expand(units, alloc, work, region, below, form.tree)?;
+            Ok(CorePart::Expression(Core::Set {
+                target,
+                value: Box::new(alloc, value)?,
+            }))
+        }
+        Kept::AssignedFunction(name, here, clause) => {
+            let below = below(units, in_place(at, *here), 1)?;
+            let target = units.target(work, at.scope, *name);
+            let value = lambda(units, alloc, work, region, below, clause)?;
+            Ok(CorePart::Expression(Core::Set {
+                target,
+                value: Box::new(alloc, value)?,
+            }))
+        }
+        Kept::Values {
+            binders,
+            dotted,
+            form,
+        } => {
+            let value = expand(
+                units,
+                alloc,
+                work,
+                region,
+                in_place(at, form.here),
+                form.tree,
+            )?;
+            Ok(CorePart::Values {
                 binders: Vec::from_slice(alloc, binders)?,
-                fields: Vec::from_slice(alloc, fields)?,
-                modified: Vec::from_slice(alloc, modified)?,
-                used: Vec::from_slice(alloc, used)?,
-            }),
-            Kept::Macro(binder, meaning) => Ok(CorePart::Syntax(self.macro_def(
-                alloc, work, *binder, *meaning,
-            )?)),
+                dotted: *dotted,
+                value,
+            })
         }
+        Kept::Record {
+            binders,
+            fields,
+            modified,
+            used,
+        } => Ok(CorePart::Fields {
+            binders: Vec::from_slice(alloc, binders)?,
+            fields: Vec::from_slice(alloc, fields)?,
+            modified: Vec::from_slice(alloc, modified)?,
+            used: Vec::from_slice(alloc, used)?,
+        }),
+        Kept::Macro(binder, meaning) => Ok(CorePart::Syntax(units.macro_def(
+            alloc, work, *binder, *meaning,
+        )?)),
     }
+}
 
-    /// The core of a procedure.
-    #[cycle(core)]
-    fn lambda(
-        &mut self,
-        alloc: Global,
-        work: &mut Work,
-        region: &Region,
-        at: At,
-        clause: &ClauseShape,
-    ) -> Result<Core, ExpandFault>
-        requires opened { IsOpened work.old region.now }
-        requires look { CanLook work.old self.old at.scope }
-        requires clause { ClauseAtWork work.old region.now clause.now }
-        requires room { HasRoom (2 ^ 43) self.old }
-        ensures runs { (c : ModelClause Identifier) (turns : ℕ) → ClauseFor work.old region.now clause.now c → IsEnoughBelow at.depth self.old.form.budget.uses turns →
-            Runs (λ ls. CoreStands work.new self.new.unit self.new.form.number) work.old work.new region.now self.old self.new at.scope result (λ known fs. lambda (expand (searched known) turns) (searched known) at.depth at.here fs c) }
-        ensures locals { OnOk result (Spends 0 self.old self.new) }
-    {
-        let below = self.below(at, 1)?;
-        Ok(Core::Lambda(self.procedure(alloc, work, region, below, clause)?))
-    }
+/// The core of a procedure.
+#[cycle(core)]
+fn lambda(
+    units: &mut UnitScope,
+    alloc: Global,
+    work: &mut Work,
+    region: &Region,
+    at: At,
+    clause: &ClauseShape,
+) -> Result<Core, ExpandFault>
+    requires opened { IsOpened work.old region.now }
+    requires look { CanLook work.old units.old at.scope }
+    requires clause { ClauseAtWork work.old region.now clause.now }
+    requires room { HasRoom (2 ^ 43) units.old }
+    ensures runs { (c : ModelClause Identifier) (turns : ℕ) → ClauseFor work.old region.now clause.now c → IsEnoughBelow at.depth units.old.form.budget.uses turns →
+        Runs (λ ls. CoreStands work.new units.new.unit units.new.form.number) work.old work.new region.now units.old units.new at.scope result (λ known fs. lambda (expand (searched known) turns) (searched known) at.depth at.here fs c) }
+    ensures locals { OnOk result (Spends 0 units.old units.new) }
+{
+    let below = below(units, at, 1)?;
+    Ok(Core::Lambda(procedure(units, alloc, work, region, below, clause)?))
+}
 
-    /// Expressions alone, one after another.
-    #[cycle(core)]
-    fn sequence(
-        &mut self,
-        alloc: Global,
-        work: &mut Work,
-        region: &Region,
-        at: At,
-        forms: &[Tree],
-    ) -> Result<Core, ExpandFault>
-        requires opened { IsOpened work.old region.now }
-        requires look { CanLook work.old self.old at.scope }
-        requires forms { AreAtWork work.old region.now forms.now }
-        requires room { HasRoom (2 ^ 43) self.old }
-        ensures runs { (ts : Trees Identifier) (turns : ℕ) → PartsStand work.old forms.now ts → IsEnoughBelow at.depth self.old.form.budget.uses turns →
-            Runs (λ ls. CoreStands work.new self.new.unit self.new.form.number) work.old work.new region.now self.old self.new at.scope result (λ known fs. sequence (expand (searched known) turns) (searched known) at.depth at.here fs ts) }
-        ensures locals { OnOk result (Spends 0 self.old self.new) }
-    {
-        let below = self.below(at, 1)?;
-        let mut parts = Vec::with_capacity(alloc, forms.len())?;
-        for form in forms {
-            let core = self.expand(alloc, work, region, below, *form)?;
-            parts.push(CorePart::Expression(core))?;
-        }
-        Ok(Core::Body(parts))
+/// Expressions alone, one after another.
+#[cycle(core)]
+fn sequence(
+    units: &mut UnitScope,
+    alloc: Global,
+    work: &mut Work,
+    region: &Region,
+    at: At,
+    forms: &[Tree],
+) -> Result<Core, ExpandFault>
+    requires opened { IsOpened work.old region.now }
+    requires look { CanLook work.old units.old at.scope }
+    requires forms { AreAtWork work.old region.now forms.now }
+    requires room { HasRoom (2 ^ 43) units.old }
+    ensures runs { (ts : Trees Identifier) (turns : ℕ) → PartsStand work.old forms.now ts → IsEnoughBelow at.depth units.old.form.budget.uses turns →
+        Runs (λ ls. CoreStands work.new units.new.unit units.new.form.number) work.old work.new region.now units.old units.new at.scope result (λ known fs. sequence (expand (searched known) turns) (searched known) at.depth at.here fs ts) }
+    ensures locals { OnOk result (Spends 0 units.old units.new) }
+{
+    let below = below(units, at, 1)?;
+    let mut parts = Vec::with_capacity(alloc, forms.len())?;
+    for form in forms {
+        let core = expand(units, alloc, work, region, below, *form)?;
+        parts.push(CorePart::Expression(core))?;
     }
+    Ok(Core::Body(parts))
+}
 
-    /// Local macros and their body. The rules of recursive ones are read where the macros are bound.
-    #[cycle(core)]
-    fn local_macros(
-        &mut self,
-        alloc: Global,
-        work: &mut Work,
-        region: &Region,
-        at: At,
-        recursive: bool,
-        macros: &[LocalMacro],
-        forms: &[Tree],
-    ) -> Result<Core, ExpandFault>
-        requires opened { IsOpened work.old region.now }
-        requires look { CanLook work.old self.old at.scope }
-        requires macros { MacrosAtWork work.old macros.now }
-        requires forms { BodyAtWork work.old region.now forms.now }
-        requires room { HasRoom (2 ^ 43) self.old }
-        ensures runs { (m : LocalMacros Identifier) (turns : ℕ) → AreMacros work.old macros.now m.names m.rules → PartsStand work.old forms.now m.body → IsEnoughBelow at.depth self.old.form.budget.uses turns →
-            Runs (λ ls. CoreStands work.new self.new.unit self.new.form.number) work.old work.new region.now self.old self.new at.scope result (λ known fs. macros_step recursive (expand (searched known) turns) (searched known) at.depth at.here fs m) }
-        ensures locals { OnOk result (Spends 0 self.old self.new) }
-    {
-        work.symbols.told_apart();
-        self.env.sound();
-        let (scope, binders) = self.bind_names(at.scope, &names_of(alloc, macros)?)?;
-        let rules_at = if recursive { scope } else { at.scope };
-        self.test_all_rules(work, rules_at, at.here, macros)?;
-        let below = self.below(at, 1)?;
-        self.keep_all(alloc, work, rules_at, at.here, macros, &binders)?;
-        let inside = At {
-            scope,
-            here: below.here,
-            depth: below.depth,
-        };
-        let macros = self.local_defs(alloc, work, &binders)?;
-        let body = self.body(alloc, work, region, inside, forms)?;
-        Ok(Core::LetSyntax {
-            macros,
-            body: Box::new(alloc, body)?,
-        })
-    }
+/// Local macros and their body. The rules of recursive ones are read where the macros are bound.
+#[cycle(core)]
+fn local_macros(
+    units: &mut UnitScope,
+    alloc: Global,
+    work: &mut Work,
+    region: &Region,
+    at: At,
+    recursive: bool,
+    macros: &[LocalMacro],
+    forms: &[Tree],
+) -> Result<Core, ExpandFault>
+    requires opened { IsOpened work.old region.now }
+    requires look { CanLook work.old units.old at.scope }
+    requires macros { MacrosAtWork work.old macros.now }
+    requires forms { BodyAtWork work.old region.now forms.now }
+    requires room { HasRoom (2 ^ 43) units.old }
+    ensures runs { (m : LocalMacros Identifier) (turns : ℕ) → AreMacros work.old macros.now m.names m.rules → PartsStand work.old forms.now m.body → IsEnoughBelow at.depth units.old.form.budget.uses turns →
+        Runs (λ ls. CoreStands work.new units.new.unit units.new.form.number) work.old work.new region.now units.old units.new at.scope result (λ known fs. macros_step recursive (expand (searched known) turns) (searched known) at.depth at.here fs m) }
+    ensures locals { OnOk result (Spends 0 units.old units.new) }
+{
+    work.symbols.told_apart();
+    units.env.sound();
+    let (scope, binders) = units.bind_names(at.scope, &names_of(alloc, macros)?)?;
+    let rules_at = if recursive { scope } else { at.scope };
+    test_all_rules(units, work, rules_at, at.here, macros)?;
+    let below = below(units, at, 1)?;
+    keep_all(units, alloc, work, rules_at, at.here, macros, &binders)?;
+    let inside = At {
+        scope,
+        here: below.here,
+        depth: below.depth,
+    };
+    let macros = local_defs(units, alloc, work, &binders)?;
+    let body = body(units, alloc, work, region, inside, forms)?;
+    Ok(Core::LetSyntax {
+        macros,
+        body: Box::new(alloc, body)?,
+    })
 }

@@ -2,32 +2,14 @@
 //! substituted.
 #![tactic(auto)]
 
-mod asked;
-mod binding;
 mod bodies;
 mod cores;
-mod counting;
 mod defining;
-mod definitions;
 mod expressions;
-mod fault;
-mod heads;
-mod items;
-mod known;
-pub mod laws;
-mod libraries;
-mod macros;
 mod passes;
-mod prelude;
-mod quasi;
-mod requirements;
-mod scope;
-mod syntax;
 mod unit;
-mod uses;
 
-pub use fault::ExpandFault;
-pub use items::Item;
-pub use known::Libraries;
-pub use prelude::units_go_on;
-pub use scope::{Budget, Imported, UnitScope};
+pub use feature_requirements::{ExpandFault, Libraries};
+pub use form_parts::Item;
+pub use unit::{declare_form, expand_item};
+pub use unit_scopes::{Budget, Imported, UnitScope, units_go_on};

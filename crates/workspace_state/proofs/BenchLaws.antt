@@ -9,13 +9,13 @@ use Rattle.syntax_tree.specs.Names.{KeepsNames, AreToldApart}
 use Rattle.syntax_tree.specs.Works.{IsOpened, KeepsTrees, SameRegions, AddsIn}
 use Rattle.syntax_tree.specs.declared.trees.Work.{Work}
 use Rattle.syntax_tree.specs.declared.trees.table.Region.{Region}
-use Rattle.expander.specs.Judged.{library_text}
-use Rattle.expander.specs.Units.{UnitStands}
-use Rattle.expander.specs.declared.scope.UnitScope.{UnitScope}
-use Rattle.expander.proofs.ImportLaws.{same_trees}
-use Rattle.expander.proofs.GrowthStands.{growth_rests}
-use Rattle.expander.proofs.NotesStand.{notes_on}
-use Rattle.expander.proofs.OutcomeLaws.{grows_itself, grows_on}
+use Rattle.feature_requirements.specs.Judged.{library_text}
+use Rattle.unit_scopes.specs.Units.{UnitStands}
+use Rattle.unit_scopes.specs.declared.scope.UnitScope.{UnitScope}
+use Rattle.unit_scopes.proofs.ImportLaws.{same_trees}
+use Rattle.unit_scopes.proofs.GrowthStands.{growth_rests}
+use Rattle.unit_scopes.proofs.NotesStand.{notes_on}
+use Rattle.unit_scopes.proofs.OutcomeLaws.{grows_itself, grows_on}
 use Rattle.workspace_state.specs.Forms.{IsBench, Stays}
 use Rattle.workspace_state.specs.declared.forms.Bench.{Bench}
 

@@ -20,7 +20,7 @@ use Rattle.core_tree.specs.Names.{AllMatch}
 use Rattle.core_tree.specs.Units.{FormsStand, definitions_from, defined_by, externals, given_exports, IsDefinition, AreDefinitions, IsName, IsExternal, AreNames}
 use Rattle.core_tree.specs.declared.cores.Binder.{Binder}
 use Rattle.core_tree.specs.declared.units.NameUse as code
-use Rattle.expander.proofs.PartsStay.{forms_on}
+use Rattle.expansion_laws.proofs.PartsStay.{forms_on}
 use Rattle.workspace_state.specs.Came.{CameTo, ComesTo, IsCome, HaveCome, so_far}
 use Rattle.workspace_state.specs.Defined.{FindsNames}
 use Rattle.workspace_state.specs.SetsGiven.{AreEntriesIf, AreLibraries, exports_at}

@@ -11,13 +11,13 @@ use Rattle.scheme_model.specs.Expression.{expand}
 use Rattle.scheme_model.specs.Program.{enough_turns}
 use Rattle.scheme_model.specs.ScopedExpansion.{Frames, FramedIdent, ScopedState, body_around, definition_added, is_defined}
 use Rattle.syntax_tree.specs.declared.trees.Work.{Work}
-use Rattle.expander.specs.Searched.{define_searched, searched}
-use Rattle.expander.specs.Stepped.{turned}
-use Rattle.expander.specs.Units.{UnitStands, expanded}
-use Rattle.expander.specs.declared.scope.UnitScope.{UnitScope}
-use Rattle.expander.proofs.AlikeSteps.{Likeness, other, goes_after}
-use Rattle.expander.proofs.AlikeExpressions.{expand_alike, item_alike}
-use Rattle.expander.proofs.OtherForms.{any_macro, notes_left, is_refused_here}
+use Rattle.unit_scopes.specs.Searched.{define_searched, searched}
+use Rattle.unit_scopes.specs.Stepped.{turned}
+use Rattle.unit_scopes.specs.Units.{UnitStands, expanded}
+use Rattle.unit_scopes.specs.declared.scope.UnitScope.{UnitScope}
+use Rattle.expansion_laws.proofs.AlikeSteps.{Likeness, other, goes_after}
+use Rattle.expansion_laws.proofs.AlikeExpressions.{expand_alike, item_alike}
+use Rattle.expansion_laws.proofs.OtherForms.{any_macro, notes_left, is_refused_here}
 
 module _ (form : ℕ) where
   form_added : (s : ScopedState) → s.form ≡ form → (b : Option Number) (n : Named Ident) (r : Option (Rules Ident)) (fs : Frames) → (definition_added b n r fs s).form ≡ form

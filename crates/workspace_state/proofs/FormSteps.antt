@@ -11,18 +11,18 @@ use Rattle.core_tree.specs.Names.{AllMatch}
 use Rattle.core_tree.specs.Traces.{IsFault}
 use Rattle.core_tree.specs.declared.traces.FormFault.{FormFault}
 use Rattle.core_tree.specs.declared.traces.Trace.{Trace}
-use Rattle.expander.specs.Others.{OthersStay}
-use Rattle.expander.specs.State.{IsNumbered, numbered_in}
-use Rattle.expander.specs.Stepped.{IsFresh}
-use Rattle.expander.specs.Tops.{OfOk, ItemsBind}
-use Rattle.expander.specs.Units.{ItemFor, HasSpace, Declares}
-use Rattle.expander.specs.declared.fault.ExpandFault.TheVariants as fault
-use Rattle.expander.specs.declared.items.Item as code_item
-use Rattle.expander.specs.declared.scope.Budget.{Budget}
-use Rattle.expander.proofs.OtherForms.{others_itself}
-use Rattle.expander.proofs.OtherCounts.{others_count, order_stays}
-use Rattle.expander.proofs.FreshLaws.{none_count, none_has_space}
-use Rattle.expander.proofs.PartsStay.{fault_on, items_on}
+use Rattle.unit_scopes.specs.Others.{OthersStay}
+use Rattle.unit_scopes.specs.State.{IsNumbered, numbered_in}
+use Rattle.unit_scopes.specs.Stepped.{IsFresh}
+use Rattle.expansion_laws.specs.Tops.{OfOk, ItemsBind}
+use Rattle.unit_scopes.specs.Units.{ItemFor, HasSpace, Declares}
+use Rattle.feature_requirements.specs.declared.fault.ExpandFault.TheVariants as fault
+use Rattle.form_parts.specs.declared.items.Item as code_item
+use Rattle.unit_scopes.specs.declared.scope.Budget.{Budget}
+use Rattle.expansion_laws.proofs.OtherForms.{others_itself}
+use Rattle.expansion_laws.proofs.OtherCounts.{others_count, order_stays}
+use Rattle.unit_scopes.proofs.FreshLaws.{none_count, none_has_space}
+use Rattle.expansion_laws.proofs.PartsStay.{fault_on, items_on}
 use Rattle.workspace_state.specs.Forms.{IsUntouched, IsSetAside, HasSpaceLeft, IsDeclared, KeepsOthers, LeavesOthers, PassesTo}
 use Rattle.workspace_state.specs.declared.forms.Bench.{Bench}
 use Rattle.workspace_state.specs.declared.forms.Declared as code

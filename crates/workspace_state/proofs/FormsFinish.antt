@@ -28,20 +28,20 @@ use Rattle.core_tree.specs.declared.traces.FormFault.{FormFault}
 use Rattle.core_tree.specs.declared.traces.Trace.{Trace}
 use Rattle.core_tree.specs.declared.units.ExpandedItem.{ExpandedItem}
 use Rattle.core_tree.specs.declared.units.UnitForm as code_form
-use Rattle.expander.specs.Judged.{Knows}
-use Rattle.expander.specs.Searched.{searched}
-use Rattle.expander.specs.State.{IsNumbered, numbered_in}
-use Rattle.expander.specs.Stepped.{turned}
-use Rattle.expander.specs.Tops.{OfOk, ItemBinds, ItemsBind}
-use Rattle.expander.specs.Units.{UnitStands, CountsFor, ItemFor, CanDeclare, Expands, expanded}
-use Rattle.expander.specs.declared.fault.ExpandFault.{ExpandFault}
-use Rattle.expander.specs.declared.fault.ExpandFault.TheVariants as fault
-use Rattle.expander.specs.declared.items.Item as code_item
-use Rattle.expander.specs.declared.scope.Budget.{Budget}
-use Rattle.expander.proofs.CoreStandLaws.{parts_stand_on, kept_on}
-use Rattle.expander.proofs.ItemTables.{expanded_table}
-use Rattle.expander.proofs.OtherForms.{expanded_stays}
-use Rattle.expander.proofs.TopForms.{expanded_binds}
+use Rattle.feature_requirements.specs.Judged.{Knows}
+use Rattle.unit_scopes.specs.Searched.{searched}
+use Rattle.unit_scopes.specs.State.{IsNumbered, numbered_in}
+use Rattle.unit_scopes.specs.Stepped.{turned}
+use Rattle.expansion_laws.specs.Tops.{OfOk, ItemBinds, ItemsBind}
+use Rattle.unit_scopes.specs.Units.{UnitStands, CountsFor, ItemFor, CanDeclare, Expands, expanded}
+use Rattle.feature_requirements.specs.declared.fault.ExpandFault.{ExpandFault}
+use Rattle.feature_requirements.specs.declared.fault.ExpandFault.TheVariants as fault
+use Rattle.form_parts.specs.declared.items.Item as code_item
+use Rattle.unit_scopes.specs.declared.scope.Budget.{Budget}
+use Rattle.unit_scopes.proofs.CoreStandLaws.{parts_stand_on, kept_on}
+use Rattle.expansion_laws.proofs.ItemTables.{expanded_table}
+use Rattle.expansion_laws.proofs.OtherForms.{expanded_stays}
+use Rattle.expansion_laws.proofs.TopForms.{expanded_binds}
 use Rattle.workspace_state.specs.Ends.{item_states}
 use Rattle.workspace_state.specs.Forms.{Passing, IsSetAside, IsDeclared, KeepsOthers, HaveCounted, GoesTo, expanding, expanding_states, Finishing, FinishesTo, FinishesForm, CanFinish, Stays, known_by}
 use Rattle.workspace_state.specs.declared.forms.Bench.{Bench}

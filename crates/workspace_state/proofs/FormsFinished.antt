@@ -23,15 +23,15 @@ use Rattle.core_tree.specs.declared.cores.Target as code_target
 use Rattle.core_tree.specs.declared.traces.MacroUse as code_use
 use Rattle.core_tree.specs.declared.units.ExpandedItem.{ExpandedItem}
 use Rattle.core_tree.specs.declared.units.UnitForm as code_form
-use Rattle.expander.specs.Judged.{Knows}
-use Rattle.expander.specs.Others.{InOrder}
-use Rattle.expander.specs.Searched.{searched}
-use Rattle.expander.specs.State.{numbered, IsNumbered, numbered_in}
-use Rattle.expander.specs.Stepped.{turned}
-use Rattle.expander.proofs.CoreStandLaws.{every_on}
-use Rattle.expander.proofs.FormsDefine.{Tell, forms_define}
-use Rattle.expander.proofs.OutcomeLaws.{grows_itself}
-use Rattle.expander.proofs.PartsStay.{forms_on}
+use Rattle.feature_requirements.specs.Judged.{Knows}
+use Rattle.unit_scopes.specs.Others.{InOrder}
+use Rattle.unit_scopes.specs.Searched.{searched}
+use Rattle.unit_scopes.specs.State.{numbered, IsNumbered, numbered_in}
+use Rattle.unit_scopes.specs.Stepped.{turned}
+use Rattle.unit_scopes.proofs.CoreStandLaws.{every_on}
+use Rattle.unit_scopes.proofs.FormsDefine.{Tell, forms_define}
+use Rattle.unit_scopes.proofs.OutcomeLaws.{grows_itself}
+use Rattle.expansion_laws.proofs.PartsStay.{forms_on}
 use Rattle.workspace_state.specs.Ends.{numbers_of, Rise, IsAmong, Ends, items_expanded, item_states}
 use Rattle.workspace_state.specs.Forms.{Passing, IsUntouched, HaveCounted, expanding_states, FinishesTo, FinishesForm, CanFinish, CanFinishAll, FormsHeld, AreDeclared, AreFormed, Finishes, Stays, known_by}
 use Rattle.workspace_state.specs.declared.forms.Bench.{Bench}

@@ -22,13 +22,13 @@ use Rattle.datum_reader.specs.Views.{datum_of}
 use Rattle.datum_reader.specs.Seeded.{seeded}
 use Rattle.library_table.specs.UnitsRead.{form_of, forms_of}
 use Rattle.library_table.specs.declared.units.UnitForm as source
-use Rattle.expander.specs.Judged.{Knows}
-use Rattle.expander.specs.Others.{InOrder}
-use Rattle.expander.specs.Stepped.{IsFresh}
-use Rattle.expander.specs.Units.{UnitStands}
-use Rattle.expander.specs.Searched.{searched}
-use Rattle.expander.proofs.FreshLaws.{none_in_order}
-use Rattle.expander.proofs.OtherForms.{declared_stays}
+use Rattle.feature_requirements.specs.Judged.{Knows}
+use Rattle.unit_scopes.specs.Others.{InOrder}
+use Rattle.unit_scopes.specs.Stepped.{IsFresh}
+use Rattle.unit_scopes.specs.Units.{UnitStands}
+use Rattle.unit_scopes.specs.Searched.{searched}
+use Rattle.unit_scopes.proofs.FreshLaws.{none_in_order}
+use Rattle.expansion_laws.proofs.OtherForms.{declared_stays}
 use Rattle.syntax_tree.specs.Works.{IsOpened}
 use Rattle.workspace_state.specs.Ends.{numbers_of, Rise, IsAmong, Ends}
 use Rattle.workspace_state.specs.Forms.{IsBench, IsBegun, IsUntouched, IsDeclared, AreInOrder, PassesTo, PassesForm, CanPass, FormsHeld, AreFresh, AreDeclared, Passing, Passes, Stays, passed, known_by}

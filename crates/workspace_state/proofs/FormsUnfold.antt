@@ -13,8 +13,8 @@ use Rattle.scheme_model.specs.Requirements.{Known}
 use Rattle.scheme_model.specs.ScopedExpansion.{Frames, FramedIdent, ScopedState}
 use Rattle.core_tree.specs.Units.{FormsStand, AreDefinitions, definitions_from, defined_by}
 use Rattle.core_tree.specs.declared.units.UnitForm as code_form
-use Rattle.expander.specs.Searched.{searched, searched_unit_over}
-use Rattle.expander.specs.Units.{UnitStands}
+use Rattle.unit_scopes.specs.Searched.{searched, searched_unit_over}
+use Rattle.unit_scopes.specs.Units.{UnitStands}
 use Rattle.workspace_state.specs.Ends.{numbers_of, Rise}
 use Rattle.workspace_state.specs.Forms.{Passing, StandsAt, AreUnfolded, Unfolds, Passes, Finishes, CanFinishAll}
 use Rattle.workspace_state.specs.declared.forms.Bench.{Bench}

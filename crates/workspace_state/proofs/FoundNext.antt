@@ -8,7 +8,7 @@ use Rattle.scheme_model.specs.Program.{Placed, Prepared, prepared, prepare, Unit
 use Rattle.scheme_model.specs.ScopedExpansion.{ScopedState}
 use Rattle.scheme_model.specs.ScopedProgram.{ScopedProgress, after_unit}
 use Rattle.scheme_model.specs.UnitExpansion.{Formed}
-use Rattle.expander.proofs.OtherForms.{none_in_front}
+use Rattle.expansion_laws.proofs.OtherForms.{none_in_front}
 use Rattle.workspace_state.specs.Came.{HaveCome, IsCome, IsUpTo, expanded_after, so_far, with_unit}
 use Rattle.workspace_state.specs.Readings.{Read}
 use Rattle.workspace_state.specs.Turned.{turns, scoped_at}

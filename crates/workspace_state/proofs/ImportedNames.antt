@@ -14,8 +14,8 @@ use Rattle.syntax_tree.proofs.InternLaws.{bytes_told, bytes_itself}
 use Rattle.syntax_tree.proofs.Places.{none_some}
 use Rattle.core_tree.specs.Names.{AllMatch}
 use Rattle.import_sets.specs.Given.{has_name}
-use Rattle.expander.specs.Opened.{AreNumbered, ImportsFor}
-use Rattle.expander.specs.declared.scope.Imported.{Imported}
+use Rattle.unit_scopes.specs.Opened.{AreNumbered, ImportsFor}
+use Rattle.unit_scopes.specs.declared.scope.Imported.{Imported}
 use Rattle.workspace_state.specs.Begun.{IsImport}
 use Rattle.workspace_state.specs.Libraries.{EachOnce}
 use Rattle.workspace_state.proofs.Matched.{matched_at, all_append}

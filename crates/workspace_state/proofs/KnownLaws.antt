@@ -8,7 +8,7 @@ use Rattle.scheme_model.specs.Requirements.{LibraryName}
 use Rattle.scheme_tokens.specs.LibraryNames.{library_text, IsProper}
 use Rattle.library_table.proofs.KnownTexts.{known_told}
 use Rattle.base_library.proofs.StandardTexts.{same_texts}
-use Rattle.expander.specs.Judged.{Knows}
+use Rattle.feature_requirements.specs.Judged.{Knows}
 use Rattle.workspace_state.specs.KnownNames.{listed_texts}
 
 pub known_listed : (ds : List Document) (names : List (List ℕ)) → names ≡ listed_texts ds → (n : LibraryName) → IsProper n → known_in ds n ≡ has_name names (library_text n)

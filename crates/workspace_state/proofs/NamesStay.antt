@@ -12,7 +12,7 @@ use Rattle.scheme_model.specs.Live.{NameUse, all_export_uses}
 use Rattle.scheme_model.specs.Program.{Placed, ImportSpec, ExportSpec, UnitResult, Program, result_at, unit_named, imported_units, exports_if, unit_exports, library_exports, all_done, own_entry, names_of_unit, is_some_fault}
 use Rattle.scheme_model.specs.ProgramArrows.{uses_given, uses_in_set, import_uses, unit_names}
 use Rattle.core_tree.specs.Units.{externals, given_exports, unless_broken}
-use Rattle.expander.specs.Others.{Each, InFront}
+use Rattle.unit_scopes.specs.Others.{Each, InFront}
 use Rattle.workspace_state.proofs.NamedUnits.{place_for, before, unit_before}
 use Rattle.workspace_state.proofs.UnitGoes.{IsOfUnit}
 

@@ -22,11 +22,11 @@ use Rattle.rules_check.specs.Gathered.{AreUnplaced}
 use Rattle.base_library.specs.Macros.{Each, AreMacros, written}
 use Rattle.base_library.specs.declared.macros.PreludeMacro.{PreludeMacro}
 use Rattle.syntax_tree.specs.Meant.{IsSymbol}
-use Rattle.expander.specs.Preluded.{prelude_state, prelude_with, prelude_begun, CanAdd, IsPrelude}
-use Rattle.expander.specs.Units.{UnitStands}
-use Rattle.expander.specs.declared.scope.UnitScope.{UnitScope}
-use Rattle.expander.proofs.GrowthStands.{rules_on}
-use Rattle.expander.proofs.PreludeLaws.{prelude_is, not_named}
+use Rattle.unit_scopes.specs.Preluded.{prelude_state, prelude_with, prelude_begun, CanAdd, IsPrelude}
+use Rattle.unit_scopes.specs.Units.{UnitStands}
+use Rattle.unit_scopes.specs.declared.scope.UnitScope.{UnitScope}
+use Rattle.unit_scopes.proofs.GrowthStands.{rules_on}
+use Rattle.unit_scopes.proofs.PreludeLaws.{prelude_is, not_named}
 
 -- ---- what holds of each macro by itself
 

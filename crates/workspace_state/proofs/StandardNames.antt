@@ -16,9 +16,9 @@ use Rattle.syntax_tree.proofs.InternLaws.{bytes_told, bytes_itself}
 use Rattle.syntax_tree.proofs.Places.{none_some}
 use Rattle.core_tree.specs.Names.{AllMatch}
 use Rattle.base_library.specs.Texts.{name_text, names_of}
-use Rattle.expander.specs.Preluded.{standard_names}
-use Rattle.expander.specs.declared.scope.Imported.{Imported}
-use Rattle.expander.proofs.CoreStandLaws.{every_on}
+use Rattle.unit_scopes.specs.Preluded.{standard_names}
+use Rattle.unit_scopes.specs.declared.scope.Imported.{Imported}
+use Rattle.unit_scopes.proofs.CoreStandLaws.{every_on}
 use Rattle.workspace_state.proofs.Matched.{matched_at, matched_back, all_append}
 use Rattle.workspace_state.specs.Begun.{IsStandardName, AddsStandard, AreStandard}
 

@@ -20,15 +20,15 @@ use Rattle.syntax_tree.specs.declared.units.UnitKind.TheVariants as kinds
 use Rattle.core_tree.specs.Names.{AllMatch}
 use Rattle.core_tree.specs.Units.{FormsStand, AreDefinitions, definitions_from, defined_by, kind_as}
 use Rattle.core_tree.specs.declared.units.UnitForm.{UnitForm}
-use Rattle.expander.specs.Opened.{ImportsFor, started, with_imports}
-use Rattle.expander.specs.Preluded.{Continues}
-use Rattle.expander.specs.Searched.{searched_unit_over}
-use Rattle.expander.specs.State.{is_program as is_program_kind}
-use Rattle.expander.specs.Stepped.{IsFresh}
-use Rattle.expander.specs.Units.{UnitStands}
-use Rattle.expander.specs.declared.scope.Imported.{Imported}
-use Rattle.expander.proofs.ImportLaws.{same_trees}
-use Rattle.expander.proofs.PreludeLaws.{started_so}
+use Rattle.unit_scopes.specs.Opened.{ImportsFor, started, with_imports}
+use Rattle.unit_scopes.specs.Preluded.{Continues}
+use Rattle.unit_scopes.specs.Searched.{searched_unit_over}
+use Rattle.unit_scopes.specs.State.{is_program as is_program_kind}
+use Rattle.unit_scopes.specs.Stepped.{IsFresh}
+use Rattle.unit_scopes.specs.Units.{UnitStands}
+use Rattle.unit_scopes.specs.declared.scope.Imported.{Imported}
+use Rattle.unit_scopes.proofs.ImportLaws.{same_trees}
+use Rattle.unit_scopes.proofs.PreludeLaws.{started_so}
 use Rattle.workspace_state.specs.Begun.{IsImport}
 use Rattle.workspace_state.specs.Came.{GoesOn, Expands, ComesTo, expanded_after, with_unit}
 use Rattle.workspace_state.specs.Forms.{StandsAt, AreUnfolded, Unfolds}

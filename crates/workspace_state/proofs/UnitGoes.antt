@@ -14,11 +14,11 @@ use Rattle.scheme_model.specs.Program.{Prepared, enough_turns}
 use Rattle.scheme_model.specs.Substitution.{Defined}
 use Rattle.scheme_model.specs.ScopedExpansion.{FramedIdent, ScopedState}
 use Rattle.core_tree.specs.Units.{defined_by}
-use Rattle.expander.specs.Others.{Each, InFront, IsOf, OthersStay}
-use Rattle.expander.specs.Searched.{searched, forms_of, searched_unit_over}
-use Rattle.expander.specs.Stepped.{turned}
-use Rattle.expander.specs.Units.{declared, expanded}
-use Rattle.expander.proofs.OtherForms.{none_in_front, more_in_front, declared_stays, expanded_stays}
+use Rattle.unit_scopes.specs.Others.{Each, InFront, IsOf, OthersStay}
+use Rattle.unit_scopes.specs.Searched.{searched, forms_of, searched_unit_over}
+use Rattle.unit_scopes.specs.Stepped.{turned}
+use Rattle.unit_scopes.specs.Units.{declared, expanded}
+use Rattle.expansion_laws.proofs.OtherForms.{none_in_front, more_in_front, declared_stays, expanded_stays}
 use Rattle.workspace_state.proofs.FormAtWork.{item_form, same_turned}
 
 abbrev pub IsOfUnit : ℕ → Defined → Type 0

@@ -14,11 +14,11 @@ use Rattle.core_tree.specs.Names.{AllMatch}
 use Rattle.core_tree.specs.Units.{definitions_from}
 use Rattle.core_tree.specs.declared.cores.Binder.{Binder}
 use Rattle.core_tree.specs.declared.units.UnitForm.{UnitForm}
-use Rattle.expander.specs.Opened.{ImportsFor, started, with_imports}
-use Rattle.expander.specs.Stepped.{IsFresh}
-use Rattle.expander.specs.Units.{UnitStands}
-use Rattle.expander.specs.declared.scope.Imported.{Imported}
-use Rattle.expander.proofs.ImportLaws.{same_trees}
+use Rattle.unit_scopes.specs.Opened.{ImportsFor, started, with_imports}
+use Rattle.unit_scopes.specs.Stepped.{IsFresh}
+use Rattle.unit_scopes.specs.Units.{UnitStands}
+use Rattle.unit_scopes.specs.declared.scope.Imported.{Imported}
+use Rattle.unit_scopes.proofs.ImportLaws.{same_trees}
 use Rattle.workspace_state.specs.Begun.{IsImport}
 use Rattle.workspace_state.specs.Defined.{AreKnown}
 use Rattle.workspace_state.specs.Forms.{IsBench, IsBegun, AreFormed}

@@ -12,7 +12,7 @@ use Rattle.scheme_model.specs.Program.{Prepared, Program, SetResult, ExportFault
 use Rattle.scheme_model.specs.ScopedProgram.{ScopedProgress}
 use Rattle.scheme_model.specs.Diagnostics.{Diagnostic, at_bytes, bytes_of, export_diagnostics, form_diagnostics, hiding_diagnostics, is_empty, set_diagnostics, unbound_diagnostics, unit_diagnostics}
 use Rattle.core_tree.specs.Units.{defined_by, export_errors, form_errors, set_errors, set_forms, unit_errors}
-use Rattle.expander.specs.Others.{InFront}
+use Rattle.unit_scopes.specs.Others.{InFront}
 use Rattle.workspace_state.specs.declared.expanding.Expanded.{Expanded}
 use Rattle.workspace_state.specs.declared.findings.Finding.{Finding}
 use Rattle.workspace_state.specs.Came.{so_far}

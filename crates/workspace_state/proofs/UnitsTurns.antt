@@ -8,7 +8,7 @@ use Rattle.syntax_tree.specs.declared.trees.Work.{Work}
 use Rattle.syntax_tree.proofs.Places.{none_some}
 use Rattle.core_tree.specs.Units.{IsBlank}
 use Rattle.core_tree.specs.declared.units.UnitForm.{UnitForm}
-use Rattle.expander.proofs.PartsStay.{forms_on}
+use Rattle.expansion_laws.proofs.PartsStay.{forms_on}
 use Rattle.workspace_state.specs.declared.expanding.Expanded.{Expanded}
 use Rattle.arrow_index.specs.Formed.{IsFormed}
 use Rattle.workspace_state.specs.Formed.{CameFormed}

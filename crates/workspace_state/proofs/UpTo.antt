@@ -17,7 +17,7 @@ use Rattle.scheme_model.specs.ScopedProgram.{ScopedProgress, scoped_by_fault, sc
 use Rattle.syntax_tree.specs.declared.trees.Work.{Work}
 use Rattle.syntax_tree.proofs.Places.{none_some}
 use Rattle.core_tree.specs.Units.{AreDefinitions, definitions_from, defined_by, AreNames, externals}
-use Rattle.expander.specs.Others.{InFront}
+use Rattle.unit_scopes.specs.Others.{InFront}
 use Rattle.workspace_state.specs.Came.{CameTo, ComesTo, IsCome, HaveCome, so_far}
 use Rattle.workspace_state.specs.Turned.{turns, scoped_at}
 use Rattle.workspace_state.specs.declared.expanding.Expanded.{Expanded}

@@ -14,11 +14,11 @@ use Rattle.scheme_model.specs.Program as model
 use Rattle.scheme_model.specs.Program.{Placed, Prepared, prepared, prepare, SetResult, UnitResult, result_at, is_ready, broken_result, unit_result, unit_entries, with_entries, fault_before}
 use Rattle.scheme_model.specs.ScopedProgram.{ScopedProgress, scoped_start_of, scoped_start_after, scoped_unit_over, after_unit, scoped_expanded, scoped_work, scoped_before}
 use Rattle.syntax_tree.specs.declared.trees.Work.{Work}
-use Rattle.expander.specs.Judged.{Knows}
-use Rattle.expander.specs.Others.{InFront}
-use Rattle.expander.specs.Searched.{searched_unit_over}
-use Rattle.expander.proofs.OtherForms.{none_in_front}
-use Rattle.expander.proofs.SearchedPrograms.{unit_law}
+use Rattle.feature_requirements.specs.Judged.{Knows}
+use Rattle.unit_scopes.specs.Others.{InFront}
+use Rattle.unit_scopes.specs.Searched.{searched_unit_over}
+use Rattle.expansion_laws.proofs.OtherForms.{none_in_front}
+use Rattle.expansion_laws.proofs.SearchedPrograms.{unit_law}
 use Rattle.workspace_state.specs.Broken.{told, or_fault, broken_by, broken_if}
 use Rattle.workspace_state.specs.Came.{AreSourcesOf, FindsLibraries, ComesTo, IsCome, HaveCome, so_far, with_unit, fault_by, HeadsBy, GoesOn, expanded_after, Expands, IsUpTo}
 use Rattle.workspace_state.specs.SetsGiven.{AreEntriesIf, AreLibraries, exports_of}

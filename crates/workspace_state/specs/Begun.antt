@@ -5,9 +5,9 @@ use Rattle.syntax_tree.specs.Meant.{IsSymbol}
 use Rattle.syntax_tree.specs.declared.meaning.Meaning.TheVariants.{Standard}
 use Rattle.syntax_tree.specs.declared.units.Entry.{Entry}
 use Rattle.core_tree.specs.Names.{AllMatch}
-use Rattle.expander.specs.Opened.{AreNumbered, ImportsFor}
-use Rattle.expander.specs.Preluded.{standard_names}
-use Rattle.expander.specs.declared.scope.Imported.{Imported}
+use Rattle.unit_scopes.specs.Opened.{AreNumbered, ImportsFor}
+use Rattle.unit_scopes.specs.Preluded.{standard_names}
+use Rattle.unit_scopes.specs.declared.scope.Imported.{Imported}
 
 -- a standard name, with itself as its meaning
 pub record IsStandardName (names : Names) (x : Imported) (s : List ℕ) : Type 0 where

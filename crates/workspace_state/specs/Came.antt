@@ -18,9 +18,9 @@ use Rattle.base_library.specs.Texts.{SpellsStandard}
 use Rattle.library_table.specs.Sources.{AreExports}
 use Rattle.library_table.specs.UnitsRead.{forms_of}
 use Rattle.library_table.specs.declared.units.UnitSource.{UnitSource}
-use Rattle.expander.specs.Judged.{Knows}
-use Rattle.expander.specs.Preluded.{Continues}
-use Rattle.expander.specs.Searched.{searched_unit_over}
+use Rattle.feature_requirements.specs.Judged.{Knows}
+use Rattle.unit_scopes.specs.Preluded.{Continues}
+use Rattle.unit_scopes.specs.Searched.{searched_unit_over}
 use Rattle.workspace_state.specs.Broken.{told}
 use Rattle.workspace_state.specs.Forms.{StandsAt}
 use Rattle.workspace_state.specs.NamesUsed.{HaveOneIfSame}

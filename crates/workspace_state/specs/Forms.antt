@@ -29,15 +29,15 @@ use Rattle.core_tree.specs.declared.traces.FormFault.{FormFault}
 use Rattle.core_tree.specs.declared.traces.Trace.{Trace}
 use Rattle.core_tree.specs.declared.units.ExpandedItem.{ExpandedItem}
 use Rattle.core_tree.specs.declared.units.UnitForm as code_form
-use Rattle.expander.specs.Judged.{Knows, library_text}
-use Rattle.expander.specs.Opened.{IsNew}
-use Rattle.expander.specs.Others.{InOrder}
-use Rattle.expander.specs.State.{IsNumbered, numbered_in}
-use Rattle.expander.specs.Searched.{searched, searched_unit_over}
-use Rattle.expander.specs.Stepped.{turned, IsFresh}
-use Rattle.expander.specs.Tops.{OfOk, ItemsBind}
-use Rattle.expander.specs.Units.{UnitStands, CountsFor, HasSpace, ItemFor, declared}
-use Rattle.expander.specs.declared.scope.Budget.{Budget}
+use Rattle.feature_requirements.specs.Judged.{Knows, library_text}
+use Rattle.unit_scopes.specs.Opened.{IsNew}
+use Rattle.unit_scopes.specs.Others.{InOrder}
+use Rattle.unit_scopes.specs.State.{IsNumbered, numbered_in}
+use Rattle.unit_scopes.specs.Searched.{searched, searched_unit_over}
+use Rattle.unit_scopes.specs.Stepped.{turned, IsFresh}
+use Rattle.expansion_laws.specs.Tops.{OfOk, ItemsBind}
+use Rattle.unit_scopes.specs.Units.{UnitStands, CountsFor, HasSpace, ItemFor, declared}
+use Rattle.unit_scopes.specs.declared.scope.Budget.{Budget}
 use Rattle.workspace_state.specs.Ends.{numbers_of, Rise, IsAmong, Ends, items_expanded, item_states}
 use Rattle.workspace_state.specs.declared.forms.Bench.{Bench}
 use Rattle.workspace_state.specs.declared.forms.Declared as code

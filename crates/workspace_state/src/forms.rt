@@ -14,10 +14,10 @@ ghost use Rattle.datum_reader.specs.WellFormed.{WasRead};
 ghost use Rattle.datum_reader.specs.Views.{datum_of};
 ghost use Rattle.library_table.specs.UnitsRead.{forms_of};
 ghost use Rattle.core_tree.specs.Units.{IsBlank};
-ghost use Rattle.expander.specs.Judged.{Knows};
-ghost use Rattle.expander.specs.Stepped.{IsFresh};
-ghost use Rattle.expander.specs.Outcomes.{IsAtWork};
-ghost use Rattle.expander.specs.Units.{UnitStands, CountsFor, HasSpace, ItemFor, CanDeclare, Expands, declared, expanded};
+ghost use Rattle.feature_requirements.specs.Judged.{Knows};
+ghost use Rattle.unit_scopes.specs.Stepped.{IsFresh};
+ghost use Rattle.unit_scopes.specs.Outcomes.{IsAtWork};
+ghost use Rattle.unit_scopes.specs.Units.{UnitStands, CountsFor, HasSpace, ItemFor, CanDeclare, Expands, declared, expanded};
 ghost use Rattle.workspace_state.specs.Forms.{IsBench, IsBegun, IsUntouched, IsDeclared, Passing, PassesTo, PassesForm, FinishesForm, CanPass, CanFinish, CanFinishAll, FormsHeld, Passes, Finishes, AreFormed, Unfolds, Stays};
 ghost use Rattle.workspace_state.specs.WereRead.{WereRead};
 
@@ -25,7 +25,7 @@ use crate::defined::number_of;
 use core_tree::traces::{FormFault, Trace};
 use core_tree::units::{ExpandedItem, UnitForm};
 use datum_reader::seed;
-use expander::{Budget, ExpandFault, Item, UnitScope};
+use expander::{Budget, declare_form, expand_item, ExpandFault, Item, UnitScope};
 use library_table::UnitForm as SourceForm;
 use ls_base::limits::MAX_UNIT_NODES;
 use ls_base::{Items, Mem, Memory, Steps};
@@ -206,8 +206,7 @@ fn declare_tree<L: Ledger>(
         scope,
     } = bench;
     let mut form = blank;
-    match scope.declare_form(
-        work,
+    match declare_form(scope, work,
         region,
         tree,
         number,
@@ -369,5 +368,5 @@ fn expand<L: Ledger>(
         region,
         scope,
     } = bench;
-    scope.expand_item(work, region, item, number, budget, trace, steps)
+    expand_item(scope, work, region, item, number, budget, trace, steps)
 }

@@ -6,9 +6,9 @@ ghost use Rattle.syntax_tree.specs.Names.{KeepsNames};
 ghost use Rattle.syntax_tree.specs.Works.{IsOpened};
 ghost use Rattle.base_library.specs.Macros.{AreMacros};
 ghost use Rattle.base_library.specs.Texts.{names_of};
-ghost use Rattle.expander.specs.Opened.{IsNew};
-ghost use Rattle.expander.specs.Preluded.{prelude_begun, prelude_state};
-ghost use Rattle.expander.specs.Units.{UnitStands};
+ghost use Rattle.unit_scopes.specs.Opened.{IsNew};
+ghost use Rattle.unit_scopes.specs.Preluded.{prelude_begun, prelude_state};
+ghost use Rattle.unit_scopes.specs.Units.{UnitStands};
 ghost use Rattle.workspace_state.specs.Begun.{AreStandard, AddsStandard};
 
 use crate::forms::Bench;

@@ -1,6 +1,6 @@
 use Rattle.std.proofs.Common.{◌≡◌, ℕ, ◌-◌, ◌++◌, length, drop, false, subst, arith}
-use Rattle.expander.specs.Kept.{NotesFor}
-use Rattle.expander.specs.declared.uses.Comparison.{Comparison}
+use Rattle.unit_scopes.specs.Kept.{NotesFor}
+use Rattle.unit_scopes.specs.declared.uses.Comparison.{Comparison}
 use Rattle.expander.proofs.PassLaws.{within_here, noted_more, none_noted}
 use Rattle.expander.proofs.passes.note_comparisons.Goals as goal
 

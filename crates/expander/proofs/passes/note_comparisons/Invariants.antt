@@ -2,8 +2,8 @@ use Rattle.std.proofs.Common.{◌≤◌, ◌++◌, List, length, drop}
 use Rattle.scheme_model.specs.Order.{Note}
 use Rattle.scheme_model.specs.ScopedExpansion.{Frames, FramedIdent}
 use Rattle.core_tree.specs.Names.{AllMatch}
-use Rattle.expander.specs.Used.{ComparisonFor}
-use Rattle.expander.specs.Kept.{NotesFor}
+use Rattle.unit_scopes.specs.Used.{ComparisonFor}
+use Rattle.unit_scopes.specs.Kept.{NotesFor}
 use Rattle.expander.proofs.passes.note_comparisons.Given as goal
 
 abbrev pub invariant-loop-left : goal.invariant-loop-left

@@ -4,7 +4,7 @@ use Rattle.std.specs.Prelude.{Option}
 use Rattle.std.proofs.lemmas.List.{length-replicate, take_all, take_more}
 use Rattle.std.proofs.lemmas.Option.{slice_get-get_or}
 use Rattle.syntax_tree.proofs.Places.{none_some}
-use Rattle.expander.specs.Opened.{IsNew}
+use Rattle.unit_scopes.specs.Opened.{IsNew}
 use Rattle.workspace_state.specs.declared.expanding.Expanded.{Expanded}
 use Rattle.scheme_model.specs.ScopedProgram.{scoped_before}
 use Rattle.workspace_state.specs.Came.{HaveCome, IsUpTo}

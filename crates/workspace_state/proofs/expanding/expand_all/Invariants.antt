@@ -2,8 +2,8 @@ use Rattle.std.proofs.Common.{◌≡◌, ℕ, ◌≤◌, List, length, take, vec
 use Rattle.scheme_model.specs.Program.{Placed, UnitResult}
 use Rattle.scheme_model.specs.Requirements.{Known, LibraryName}
 use Rattle.scheme_model.specs.ScopedProgram.{scoped_before}
-use Rattle.expander.specs.Judged.{Knows}
-use Rattle.expander.specs.Opened.{IsNew}
+use Rattle.feature_requirements.specs.Judged.{Knows}
+use Rattle.unit_scopes.specs.Opened.{IsNew}
 use Rattle.workspace_state.specs.Came.{AreSourcesOf, FindsLibraries, GoesOn, HeadsBy, IsUpTo}
 use Rattle.workspace_state.specs.Turned.{scoped_at, turns}
 use Rattle.workspace_state.specs.Formed.{CameFormed}

@@ -18,8 +18,8 @@ use Rattle.workspace_state.specs.UnitsFound.{AreSetsFound}
 use Rattle.arrow_index.specs.Formed.{IsFormed}
 use Rattle.workspace_state.specs.Libraries.{ExportsMean, HaveMeaning}
 use Rattle.workspace_state.specs.Places.{SameHead, AreHeads, AreHeadsIn, AreFoundIn, ArePlaces}
-use Rattle.expander.proofs.ImportLaws.{same_trees}
-use Rattle.expander.proofs.OutcomeLaws.{trees_on}
+use Rattle.unit_scopes.proofs.ImportLaws.{same_trees}
+use Rattle.unit_scopes.proofs.OutcomeLaws.{trees_on}
 use Rattle.workspace_state.proofs.BenchLaws.{bench_in}
 use Rattle.workspace_state.proofs.CameKept.{have_kept, libraries_kept}
 use Rattle.workspace_state.proofs.TurnCited.{turn_of}

@@ -13,11 +13,11 @@ use Rattle.core_tree.specs.Units.{FormsStand, AreDefinitions, definitions_from, 
 use Rattle.core_tree.specs.declared.units.UnitForm as core
 use Rattle.library_table.specs.UnitsRead.{form_of, forms_of}
 use Rattle.library_table.specs.declared.units.UnitForm.{UnitForm}
-use Rattle.expander.specs.Opened.{AreNumbered}
-use Rattle.expander.specs.State.{is_program}
-use Rattle.expander.specs.declared.scope.Imported.{Imported}
-use Rattle.expander.proofs.ImportLaws.{same_trees}
-use Rattle.expander.proofs.OutcomeLaws.{trees_on}
+use Rattle.unit_scopes.specs.Opened.{AreNumbered}
+use Rattle.unit_scopes.specs.State.{is_program}
+use Rattle.unit_scopes.specs.declared.scope.Imported.{Imported}
+use Rattle.unit_scopes.proofs.ImportLaws.{same_trees}
+use Rattle.unit_scopes.proofs.OutcomeLaws.{trees_on}
 use Rattle.workspace_state.specs.Begun.{IsImport}
 use Rattle.arrow_index.specs.Formed.{IsFormed}
 use Rattle.workspace_state.specs.Came.{expanded_after, with_unit}

@@ -7,8 +7,8 @@ use Rattle.syntax_tree.specs.declared.units.Entry.{Entry}
 use Rattle.core_tree.specs.Units.{AreDefinitions, FormsStand, definitions_from, defined_by, export_errors, form_errors}
 use Rattle.core_tree.specs.declared.cores.Binder.{Binder}
 use Rattle.core_tree.specs.declared.units.UnitForm.{UnitForm}
-use Rattle.expander.proofs.ImportLaws.{same_trees}
-use Rattle.expander.proofs.PartsStay.{forms_on}
+use Rattle.unit_scopes.proofs.ImportLaws.{same_trees}
+use Rattle.expansion_laws.proofs.PartsStay.{forms_on}
 use Rattle.workspace_state.specs.Defined.{AreKnown, FindsNames}
 use Rattle.workspace_state.specs.Libraries.{HaveMeaning}
 use Rattle.workspace_state.specs.Diagnosed.{Adds}

@@ -1,7 +1,7 @@
 -- One entry more gives one import more.
 use Rattle.std.proofs.Common.{List, [], Some, refl, sym, ap, ◌∙◌, subst}
 use Rattle.core_tree.specs.Names.{AllMatch}
-use Rattle.expander.specs.declared.scope.Imported.{Imported}
+use Rattle.unit_scopes.specs.declared.scope.Imported.{Imported}
 use Rattle.workspace_state.specs.Begun.{IsImport}
 use Rattle.workspace_state.proofs.ImportedNames.{imports_more}
 use Rattle.workspace_state.proofs.MeaningLaws.{names_itself, names_on}

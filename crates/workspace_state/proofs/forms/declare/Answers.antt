@@ -3,8 +3,8 @@ use Rattle.std.proofs.Common.{refl}
 use Rattle.syntax_tree.specs.Regions.{itself}
 use Rattle.datum_reader.specs.Seeded.{seeded}
 use Rattle.datum_reader.specs.Views.{datum_of}
-use Rattle.expander.specs.Units.{declared}
-use Rattle.expander.proofs.FreshLaws.{none_count}
+use Rattle.unit_scopes.specs.Units.{declared}
+use Rattle.unit_scopes.proofs.FreshLaws.{none_count}
 use Rattle.workspace_state.specs.Forms.{known_by}
 use Rattle.workspace_state.specs.declared.forms.Bench.{Bench}
 use Rattle.workspace_state.proofs.BenchLaws.{stands_on, stays_by, stays_on}

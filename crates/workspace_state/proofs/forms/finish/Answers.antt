@@ -5,8 +5,8 @@ use Rattle.scheme_model.specs.UnitExpansion.{max_total}
 use Rattle.core_tree.specs.declared.traces.FormFault.{FormFault}
 use Rattle.core_tree.specs.declared.traces.Trace.{Trace}
 use Rattle.core_tree.specs.declared.units.ExpandedItem.{ExpandedItem}
-use Rattle.expander.specs.declared.fault.ExpandFault.{ExpandFault}
-use Rattle.expander.specs.declared.items.Item as code_item
+use Rattle.feature_requirements.specs.declared.fault.ExpandFault.{ExpandFault}
+use Rattle.form_parts.specs.declared.items.Item as code_item
 use Rattle.workspace_state.specs.Forms.{HasSpaceLeft}
 use Rattle.workspace_state.proofs.BenchLaws.{stays_itself}
 use Rattle.workspace_state.proofs.FormsHold.{is_few}

@@ -1,5 +1,5 @@
 use Rattle.std.proofs.Common.{◌≡◌, ◌^◌, []}
-use Rattle.expander.specs.Units.{HasSpace}
+use Rattle.unit_scopes.specs.Units.{HasSpace}
 use Rattle.workspace_state.specs.Forms.{Stays}
 use Rattle.workspace_state.proofs.FormsFinish.{Continues}
 use Rattle.workspace_state.proofs.forms.finish.Given as goal

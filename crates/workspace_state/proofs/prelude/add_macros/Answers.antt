@@ -1,6 +1,6 @@
 use Rattle.std.proofs.Common.{◌≡◌, List, [], ◌∷◌, ◌++◌, length, refl, sym, ◌∙◌, arith}
 use Rattle.base_library.specs.declared.macros.PreludeMacro.{PreludeMacro}
-use Rattle.expander.proofs.ImportLaws.{same_trees}
+use Rattle.unit_scopes.proofs.ImportLaws.{same_trees}
 use Rattle.workspace_state.proofs.PreludeMacros.{adding_begins, adding_same, all_added, can_add_last, last_rules, last_added}
 use Rattle.workspace_state.proofs.prelude.add_macros.Goals as goal
 

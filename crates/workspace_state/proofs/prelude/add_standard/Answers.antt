@@ -1,5 +1,5 @@
 use Rattle.std.proofs.Common.{◌<◌, ℕ, List, Some, length, get_or, refl, ap, ◌∙◌, arith}
-use Rattle.expander.proofs.OutcomeLaws.{names_itself, names_on}
+use Rattle.unit_scopes.proofs.OutcomeLaws.{names_itself, names_on}
 use Rattle.syntax_tree.specs.Meant.{IsSymbol}
 use Rattle.workspace_state.proofs.StandardNames.{adds_none, adds_at}
 use Rattle.workspace_state.proofs.prelude.add_standard.Goals as goal

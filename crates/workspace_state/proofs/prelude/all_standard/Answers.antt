@@ -1,7 +1,7 @@
 use Rattle.std.proofs.Common.{ℕ, List, [], Bor, refl, sym, ◌∙◌, subst}
 use Rattle.core_tree.specs.Names.{AllMatch}
-use Rattle.expander.specs.declared.scope.Imported.{Imported}
-use Rattle.expander.proofs.OutcomeLaws.{names_itself, names_on}
+use Rattle.unit_scopes.specs.declared.scope.Imported.{Imported}
+use Rattle.unit_scopes.proofs.OutcomeLaws.{names_itself, names_on}
 use Rattle.workspace_state.specs.Begun.{IsStandardName}
 use Rattle.workspace_state.proofs.StandardNames.{some_more, none_more, all_gathered}
 use Rattle.workspace_state.proofs.prelude.all_standard.Goals as goal

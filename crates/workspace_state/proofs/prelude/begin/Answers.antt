@@ -9,8 +9,8 @@ use Rattle.syntax_tree.specs.declared.trees.Work.{Work}
 use Rattle.syntax_tree.specs.declared.trees.table.Region.{Region}
 use Rattle.base_library.specs.Macros.{AreMacros}
 use Rattle.base_library.specs.declared.macros.PreludeMacro.{PreludeMacro}
-use Rattle.expander.specs.Preluded.{prelude_begun}
-use Rattle.expander.specs.declared.scope.Imported.{Imported}
+use Rattle.unit_scopes.specs.Preluded.{prelude_begun}
+use Rattle.unit_scopes.specs.declared.scope.Imported.{Imported}
 use Rattle.workspace_state.specs.Begun.{AreStandard}
 use Rattle.workspace_state.proofs.BenchLaws.{stands_on}
 use Rattle.workspace_state.proofs.prelude.begin.Goals as goal

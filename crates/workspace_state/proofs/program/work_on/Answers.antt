@@ -9,9 +9,9 @@ use Rattle.base_library.proofs.StandardTexts as standard
 use Rattle.library_table.specs.declared.units.UnitSource.{UnitSource}
 use Rattle.library_table.specs.Named.{place_named}
 use Rattle.library_table.specs.Orders.{ArePlaces}
-use Rattle.expander.specs.Preluded.{prelude_state}
-use Rattle.expander.specs.declared.scope.UnitScope.{UnitScope}
-use Rattle.expander.proofs.PreludeLaws.{prelude_continues}
+use Rattle.unit_scopes.specs.Preluded.{prelude_state}
+use Rattle.unit_scopes.specs.declared.scope.UnitScope.{UnitScope}
+use Rattle.unit_scopes.proofs.PreludeLaws.{prelude_continues}
 use Rattle.workspace_state.specs.Came.{FindsLibraries, GoesOn, HeadsBy, AreSourcesOf}
 use Rattle.workspace_state.specs.Libraries.{FindsBelow}
 use Rattle.workspace_state.specs.Places.{AreHeads}

@@ -1,5 +1,0 @@
-use Rattle.std.proofs.Common.{◌≡◌, ◌∷◌, map, take}
-use Rattle.expander.proofs.defining.Record.names.Given as goal
-
-abbrev pub invariant-loop-field : goal.invariant-loop-field
-invariant-loop-field l = l.names.items ≡ l.self.name ∷ l.self.constructor ∷ l.self.predicate ∷ map (λ f. f.accessor) (take l.field-index l.self.fields.items)

@@ -1,0 +1,20 @@
+use Rattle.std.proofs.Common.{List}
+use Rattle.scheme_model.specs.Ident.{Ident as Identifier}
+use Rattle.scheme_model.specs.ExpansionFaults.{Named}
+use Rattle.scheme_model.specs.Requirements.{Known}
+use Rattle.scheme_model.specs.Order.{Pending}
+use Rattle.scheme_model.specs.ScopedExpansion.{Frames, FramedIdent, ScopedState}
+use Rattle.core_forms.specs.Parts.{AllMatch, IsName}
+use Rattle.unit_scopes.specs.State.{Stands}
+use Rattle.unit_scopes.specs.Kept.{NotesFor, SpotFor}
+use Rattle.unit_scopes.specs.Defining.{Takes}
+use Rattle.expander.proofs.DefinitionSteps.{DefinedSoFar}
+use Rattle.expander.proofs.defining.define_all.Given as goal
+
+abbrev pub invariant-loop-name : goal.invariant-loop-name
+invariant-loop-name l = record {
+  so_far : (known : Known) (ls : List Frames) (s : ScopedState) (fs : Frames) (ns : List (Named Identifier)) (p : Pending Identifier FramedIdent) →
+      Stands l.work l.fn.units ls s → SpotFor l.work l.fn.units ls s l.spot fs → AllMatch (IsName l.work) l.names ns → NotesFor l.work ls l.asked p.notes →
+      DefinedSoFar l.work known l.here l.fn.units ls l.spot fs s ns p l.units l.name-index l.binders.items;
+  takes : Takes l.name-index l.fn.units l.units;
+}

@@ -1,5 +1,0 @@
-use Rattle.expander.proofs.CallLaws.{with_libraries}
-use Rattle.expander.proofs.scope.UnitScope.know.Goals as goal
-
-pub returns-clause-rests : goal.returns-clause-rests
-returns-clause-rests c = λ work ls s notes h. with_libraries work c.args.self.now c.args.libraries.names ls s notes h

@@ -1,0 +1,1 @@
+pub mod Tops  -- What is set aside binds

@@ -1,0 +1,119 @@
+//! The macros of all units, by what means them.
+ghost use Rattle.std.specs.Prelude.{◌≡◌, ℕ, None, IfOk, OnOk, OnErr};
+ghost use Rattle.std.specs.Option.{option_copied};
+ghost use Rattle.syntax_tree.specs.declared.meaning.Meaning.{Meaning as AnyMeaning};
+ghost use Rattle.unit_scopes.specs.Copied.{SameMacros};
+ghost use Rattle.unit_scopes.specs.Macros.{macro_in, IsBound, Keeps};
+
+use ls_base::{Items, Mem};
+use rules_check::RuleLeaf;
+use scope_env::ScopeNo;
+use std::alloc::{AllocError, Global};
+use std::collections::BTreeMap;
+use syntax_tree::meaning::Meaning;
+use syntax_tree::rules::Rules;
+use syntax_tree::symbols::{IdNo, SymNo};
+
+/// A macro: the scope in which it was defined, its rules, and their leaves.
+#[derive(Drop)]
+pub struct Macro {
+    pub scope: ScopeNo,
+    pub rules: Rules,
+    pub leaves: Vec<RuleLeaf>,
+}
+
+impl Clone for Macro {
+    ghost use Rattle.unit_scopes.specs.Copied.{SameMacro};
+
+    ghost is_clone = { SameMacro };
+
+    fn clone(&self) -> Result<Macro, AllocError> {
+        let alloc = *self.leaves.allocator();
+        let Ok(rules) = copy_rules(alloc, &self.rules) else {
+            return Err(AllocError);
+        };
+        Ok(Macro {
+            scope: self.scope,
+            rules,
+            leaves: Vec::from_slice(alloc, self.leaves.as_slice())?,
+        })
+    }
+}
+
+/// All macros: the open unit's local ones by form and number, those that units define, and the standard ones.
+#[derive(Drop)]
+pub struct Macros {
+    pub locals: BTreeMap<(u32, u64), Macro>,
+    pub globals: BTreeMap<(u32, IdNo), Macro>,
+    pub standards: BTreeMap<SymNo, Macro>,
+}
+
+impl Macros {
+    /// No macros, which takes no memory.
+    pub fn new(alloc: Global) -> Macros
+        ensures { (f : ℕ) (m : AnyMeaning) → macro_in result f m ≡ None }
+    {
+        Macros {
+            locals: BTreeMap::new(alloc),
+            globals: BTreeMap::new(alloc),
+            standards: BTreeMap::new(alloc),
+        }
+    }
+
+    /// The macro that means this in a form, where one does.
+    pub fn meaning(&self, form: u32, meaning: Meaning) -> Option<&Macro>
+        ensures { option_copied result ≡ macro_in self.now form meaning }
+    {
+        match meaning {
+            Meaning::Local(number) => self.locals.get(&(form, number)),
+            Meaning::Global { unit, ident } => self.globals.get(&(unit, ident)),
+            Meaning::Standard(symbol) => self.standards.get(&symbol),
+            Meaning::Free(_) => None,
+        }
+    }
+
+    /// The same macros once more.
+    pub fn copy(&self) -> Mem<Macros>
+        ensures { IfOk result (SameMacros self.now) }
+    {
+        Ok(Macros {
+            locals: self.locals.clone()?,
+            globals: self.globals.clone()?,
+            standards: self.standards.clone()?,
+        })
+    }
+
+    /// Keeps a macro as what means this in a form. Nothing free means a macro.
+    pub fn keep(&mut self, form: u32, meaning: Meaning, kept: Macro) -> Mem<()>
+        requires { IsBound meaning }
+        ensures kept { OnOk result (Keeps self.old self.new form meaning kept) }
+        ensures err { OnErr result ((f : ℕ) (m : AnyMeaning) → macro_in self.new f m ≡ macro_in self.old f m) }
+    {
+        match meaning {
+            Meaning::Local(number) => {
+                self.locals.insert((form, number), kept)?;
+            }
+            Meaning::Global { unit, ident } => {
+                self.globals.insert((unit, ident), kept)?;
+            }
+            Meaning::Standard(symbol) => {
+                self.standards.insert(symbol, kept)?;
+            }
+            Meaning::Free(_) => {}
+        }
+        Ok(())
+    }
+}
+
+/// The same rules once more.
+pub fn copy_rules(alloc: Global, rules: &Rules) -> Mem<Rules>
+    ensures { IfOk result (λ copy. copy ≡ rules.now) }
+{
+    let literals = Vec::from_slice(alloc, rules.literals.as_slice())?;
+    let copies = Vec::from_slice(alloc, rules.rules.as_slice())?;
+    Ok(Rules {
+        ellipsis: rules.ellipsis,
+        literals: Items::from_vec(literals),
+        rules: Items::from_vec(copies),
+    })
+}
