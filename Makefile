@@ -49,7 +49,7 @@ uninstall:
 
 # The same files make the same archive, byte by byte.
 dist: $(PROGRAM)
-	set -e; \
+	@set -e; \
 	commit=$$(git describe --always --dirty --exclude='*' 2>/dev/null || echo unknown); \
 	name=scheme_ls-$$commit-$$(uname -s | tr A-Z a-z)-$$(uname -m); \
 	room=$$(mktemp -d); \
