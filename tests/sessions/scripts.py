@@ -85,16 +85,14 @@ class Session:
         yield from client.cuts(stream, seed, short=20_000)
 
     def judge(self, written):
-        """The rows that failed, each with what came. Behind the first nothing can be told."""
+        """The rows that failed, each with what came. Behind a row with more or fewer replies than wanted all rows fail."""
         got, rest = client.bodies(written)
-        for place, step in enumerate(self.steps):
+        for step in self.steps:
             here, got = got[: len(step.wanted)], got[len(step.wanted) :]
-            if place == len(self.steps) - 1:
-                here += got + ([rest] if rest else [])
+            if step is self.steps[-1]:
+                here += got + [rest] * bool(rest)
             if (found := step.wrong(here)) is not None:
                 yield step.row, found
-                yield from ((later.row, None) for later in self.steps[place + 1 :])
-                return
 
 
 # ---- programs: documents that are open together, and what is asked about them
