@@ -1,0 +1,245 @@
+"""Rows as sessions: what is sent for each row, which bodies are wanted, and what came in the words of the row."""
+import json
+
+import client
+
+METHODS = {
+    "definition": "textDocument/definition",
+    "references": "textDocument/references",
+    "all references": "textDocument/references",
+    "highlights": "textDocument/documentHighlight",
+    "prepare": "textDocument/prepareRename",
+    "arrows": "scheme/arrows",
+}
+
+
+def made(value):
+    """The bytes of a text: a string, or parts one behind another."""
+    if isinstance(value, list):
+        return b"".join(map(made, value))
+    if isinstance(value, str):
+        return value.encode()
+    return bytes(value["bytes"]) if "bytes" in value else value["repeat"][0].encode() * value["repeat"][1]
+
+
+def replies(text):
+    """The bodies of `[BODY,..]`, each as it stands, and the status of ` end STATUS` behind it, if there is one."""
+    found, at = [], 1
+    while text[at] != "]":
+        at += text[at] == ","
+        end = json.JSONDecoder().raw_decode(text, at)[1]
+        found.append(text[at:end].encode())
+        at = end
+    status = text[at + 1 :].removeprefix(" end ")
+    return found, int(status) if status else None
+
+
+def as_they_stand(bodies):
+    return "[" + ",".join(body.decode(errors="replace") for body in bodies) + "]"
+
+
+class Step:
+    """A row, the bodies that are sent for it, and those that are wanted."""
+
+    def __init__(self, row, sent, wanted):
+        self.row, self.sent, self.wanted = row, sent, wanted
+
+    def wrong(self, got):
+        """What came in place of what is wanted, or None where it is that."""
+        return None if got == self.wanted else self.shown(got)
+
+    def shown(self, got):
+        return as_they_stand(got)
+
+
+class Greeting(Step):
+    """The `initialize` of rows of programs, whose reply rows of sessions tell."""
+
+    def __init__(self):
+        super().__init__(None, [client.request(0, "initialize", {})], None)
+
+    def wrong(self, got):
+        return None
+
+
+class Session:
+    """The rows of one session, of which each reply is wanted. Without `exit` it ends with status 1 at the end of the input."""
+
+    def __init__(self):
+        self.steps, self.status, self.given = [], 1, None
+
+    def add(self, row):
+        wanted, status = replies(row.wanted)
+        if row.call == "stream/of":
+            self.given = [made(piece) for piece in json.loads(row.argument)]
+            sent = []
+        else:
+            sent = [row.argument.encode() if row.call == "session/body" else made(json.loads(row.argument))]
+        self.steps.append(Step(row, sent, wanted))
+        self.status = self.status if status is None else status
+
+    def cuts(self, seed):
+        stream = b"".join(self.given or [client.frame(body) for step in self.steps for body in step.sent])
+        if self.given:
+            yield "as given", self.given
+        yield from client.cuts(stream, seed, short=20_000)
+
+    def judge(self, written):
+        """The rows that failed, each with what came. Behind a row with more or fewer replies than wanted all rows fail."""
+        got, rest = client.bodies(written)
+        for step in self.steps:
+            here, got = got[: len(step.wanted)], got[len(step.wanted) :]
+            if step is self.steps[-1]:
+                here += got + [rest] * bool(rest)
+            if (found := step.wrong(here)) is not None:
+                yield step.row, found
+
+
+# ---- programs: documents that are open together, and what is asked about them
+
+
+class Documents(dict):
+    """The open documents: their lines by uri. Places are `[URI,START,END]` in rows, in bytes, and ranges in messages."""
+
+    def place(self, it):
+        return {"range": self[it[0]].range(*it[1:]), "uri": it[0]}
+
+    def drawn(self, it):
+        return {"from": self.place(it[0]), "to": self.place(it[1])}
+
+    def place_told(self, it):
+        return [it["uri"], *self[it["uri"]].span(it["range"])]
+
+    def written(self, it):
+        return self[it[0]].bytes[it[1] : it[2]].decode()
+
+    def drawn_told(self, it):
+        ends = [self.place_told(it[end]) for end in ("from", "to")]
+        return [*ends, self.written(ends[1])]
+
+    def published(self, uri, found):
+        """The body by which a document's diagnostics come. A closed one has no version and none of them."""
+        listed = [{"code": code, "message": message, "range": self[uri].range(start, end), "severity": severity, "source": "scheme_ls"}
+                  for start, end, code, severity, message in found]
+        version = {"version": 1} if uri in self else {}
+        return client.notice("textDocument/publishDiagnostics", {"diagnostics": listed, "uri": uri} | version)
+
+    def published_told(self, params):
+        return [[*self[params["uri"]].span(it["range"]), it["code"], it["severity"], it["message"]] for it in params["diagnostics"]]
+
+
+class Opening(Step):
+    """Documents that are opened one after another. Of what is published for each the last is wanted: while some of them are still
+    closed the row doesn't tell what the others have. Those that were open before are closed first."""
+
+    def __init__(self, row, before):
+        pairs = json.loads(row.argument)
+        self.documents = Documents((uri, client.Lines(made(text).decode())) for uri, text in pairs)
+        last = dict.fromkeys(before, []) | dict(json.loads(row.wanted))
+        sent = [client.closed(uri) for uri in before] + [client.opened(uri, made(text).decode()) for uri, text in pairs]
+        super().__init__(row, sent, {uri: self.documents.published(uri, found) for uri, found in last.items()})
+
+    def wrong(self, got):
+        last = {}
+        for body in got:
+            last[json.loads(body).get("params", {}).get("uri")] = body
+        if last == self.wanted:
+            return None
+        told = [json.loads(body)["params"] for uri, body in last.items() if uri in self.documents]
+        shown = client.compact(sorted([params["uri"], self.documents.published_told(params)] for params in told))
+        return shown if shown != self.row.wanted else as_they_stand(got)
+
+
+class Question(Step):
+    """A question about open documents: one request, or one for each document."""
+
+    def __init__(self, row, documents, number):
+        self.documents = documents
+        wanted = json.loads(row.wanted)
+        if row.call == "programs/arrows":
+            self.query, asked = "arrows", [(uri, None, [it for it in wanted if uri in (it[0][0], it[1][0])]) for uri in documents]
+        else:
+            uri, at, self.query = json.loads(row.argument)
+            asked = [(uri, dict(zip(("line", "character"), at)), wanted)]
+        sent = [client.request(number, METHODS[self.query], self.params(uri, at)) for uri, at, _ in asked]
+        results = [self.answer(uri, it) for uri, _, it in asked]
+        super().__init__(row, sent, [client.compact({"jsonrpc": "2.0", "id": number, "result": it}).encode() for it in results])
+
+    def params(self, uri, at):
+        return ({"textDocument": {"uri": uri}} | ({"position": at} if at else {})
+                | ({"context": {"includeDeclaration": self.query == "all references"}} if "references" in self.query else {}))
+
+    def answer(self, uri, wanted):
+        """The result by which the answer of a row comes."""
+        if wanted is None:
+            return None
+        if self.query == "highlights":
+            return [{"kind": kind, "range": self.documents[uri].range(start, end)} for start, end, kind in wanted]
+        if self.query == "prepare":
+            return {"placeholder": wanted[2], "range": self.documents[uri].range(*wanted[:2])}
+        if self.query == "arrows":
+            assert all(self.documents.written(use) == name for _, use, name in wanted), f"{self.row}: not as the use is written"
+            return [self.documents.drawn(it) for it in wanted]
+        return [self.documents.place(it) for it in wanted]
+
+    def shown(self, got):
+        try:
+            shown = client.compact(self.told([json.loads(body)["result"] for body in got]))
+        except (KeyError, TypeError, IndexError, ValueError):
+            return as_they_stand(got)
+        return shown if shown != self.row.wanted else as_they_stand(got)
+
+    def told(self, results):
+        """The answer of a row that results tell."""
+        if self.query == "arrows":
+            return sorted({client.compact(it): it for result in results for it in map(self.documents.drawn_told, result)}.values())
+        [result] = results
+        if result is None or self.query == "prepare":
+            lines = self.documents[json.loads(self.row.argument)[0]]
+            return result and [*lines.span(result["range"]), result["placeholder"]]
+        if self.query == "highlights":
+            lines = self.documents[json.loads(self.row.argument)[0]]
+            return [[*lines.span(it["range"]), it["kind"]] for it in result]
+        return [self.documents.place_told(it) for it in result]
+
+
+class Programs:
+    """All rows of programs as one session. Behind each step comes a request that no server knows, whose reply ends its replies."""
+
+    status = 0
+
+    def __init__(self):
+        self.steps, self.documents = [Greeting()], Documents()
+
+    def add(self, row):
+        if row.call == "programs/open":
+            step = Opening(row, list(self.documents))
+            self.documents = step.documents
+        else:
+            step = Question(row, self.documents, len(self.steps))
+        self.steps.append(step)
+
+    def mark(self, place):
+        return client.request(f"step {place}", "step", None)
+
+    def marked(self, place):
+        error = {"code": -32601, "message": "method not found"}
+        return client.compact({"jsonrpc": "2.0", "id": f"step {place}", "error": error}).encode()
+
+    def cuts(self, seed):
+        sent = [body for place, step in enumerate(self.steps) for body in [*step.sent, self.mark(place)]]
+        ends = [client.request("end", "shutdown", None), client.notice("exit", None)]
+        yield from client.cuts(b"".join(map(client.frame, sent + ends)), seed, short=0)
+
+    def judge(self, written):
+        got, rest = client.bodies(written)
+        parts = [[]]
+        for body in got:
+            if body == self.marked(len(parts) - 1):
+                parts.append([])
+            else:
+                parts[-1].append(body)
+        parts += [[]] * (len(self.steps) - len(parts))
+        for step, part in zip(self.steps, parts):
+            if (found := step.wrong(part)) is not None:
+                yield step.row, found
