@@ -2,7 +2,7 @@
 -- status 0 where every answer is as expected. SESSION_FILE is what tests/sessions/proxy writes down.
 local here, room, program = os.getenv('HERE'), os.getenv('ROOM'), os.getenv('SCHEME_LS')
 local recording = os.getenv('SESSION_FILE')
-local patience = 10000
+local patience = 40000
 
 local function fail(text)
   io.stderr:write('tests/clients/neovim.lua: ' .. text .. '\n')
@@ -178,9 +178,29 @@ function steps.fill(step)
   write(step.fill, vim.split(head .. string.rep('x', step.bytes - #head - 1), '\n'))
 end
 
+-- Puts a last line of so many bytes into a buffer, and takes it away again.
+function steps.grow(step)
+  vim.cmd('buffer ' .. buffer_of(step.grow))
+  vim.api.nvim_buf_set_lines(0, -1, -1, true, { ';' .. string.rep('x', step.bytes - 2) })
+end
+
+function steps.shrink(step)
+  vim.cmd('buffer ' .. buffer_of(step.shrink))
+  vim.api.nvim_buf_set_lines(0, -2, -1, true, {})
+end
+
+-- Opens so many files, 1.scm and on.
+function steps.many(step)
+  for number = 1, step.many do
+    write(number .. '.scm', step.lines)
+    steps.open({ open = number .. '.scm' })
+  end
+end
+
 function steps.save_as(step)
   vim.cmd('buffer ' .. buffer_of(step.save_as))
-  vim.cmd('saveas ' .. room .. '/' .. step.to)
+  vim.cmd('silent saveas ' .. room .. '/' .. step.to)
+  vim.cmd('bwipeout ' .. buffer_of(step.save_as)) -- Neovim keeps the old name in a list of its own
 end
 
 function steps.kill()
@@ -195,6 +215,10 @@ function steps.served(step)
     local found = vim.tbl_map(name_of, vim.tbl_keys(opened))
     table.sort(found)
     return found
+  end
+  local first, last = unpack(step.numbered or { 1, 0 })
+  for number = first, last do
+    table.insert(step.served, number .. '.scm')
   end
   table.sort(step.served)
   expect('the documents that are open', same_soon(names, step.served), step.served)

@@ -26,7 +26,7 @@ run_nvim() {
     mkdir -p "$room/home" "$room/$1" && cd "$room/$1" || exit 1
     shift
     HOME=$room/home XDG_CACHE_HOME=$room/home XDG_DATA_HOME=$room/home XDG_STATE_HOME=$room/home \
-        timeout 120 nvim --clean --headless -n "$@" -c "cquit 1"
+        timeout 300 nvim --clean --headless -n "$@" -c "cquit 1"
 }
 
 # The steps of $1, with the program $2.
