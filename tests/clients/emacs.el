@@ -23,6 +23,7 @@
 (require 'flymake)
 
 (defvar patience 40)
+(setq jsonrpc-default-request-timeout patience)
 
 (defun fail (text &rest parts)
   (message "tests/clients/emacs.el: %s" (apply #'format text parts))
