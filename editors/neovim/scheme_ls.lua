@@ -299,7 +299,7 @@ local function send_whole(buffer, params)
   wire('textDocument/didChange', params)
 end
 
-local settle_soon -- below
+local settle_soon, attach -- below
 
 -- What becomes of the notifications that Neovim's client sends: nothing passes that the server would refuse, or would end by.
 local gates = {}
@@ -641,6 +641,9 @@ local function settle()
     if not is_open(buffer) then open_buffer(buffer) end
     look_at(buffer)
   end
+  for buffer in pairs(refused) do -- it may fit by now
+    attach(buffer)
+  end
   follow()
 end
 
@@ -663,7 +666,7 @@ local function logged(err, message, ...)
   tell(message.message, vim.log.levels.ERROR)
 end
 
-local attach, ended -- below
+local ended -- below
 local starts = {} -- when the server was started
 local said_tired
 
@@ -697,6 +700,10 @@ ended = function(_, _, id)
   vim.schedule(function()
     if id ~= server then return end
     server, turn = nil, turn + 1
+    local namespace = vim.lsp.diagnostic.get_namespace(id)
+    for _, buffer in ipairs(vim.api.nvim_list_bufs()) do
+      if #vim.diagnostic.get(buffer, { namespace = namespace }) > 0 then vim.diagnostic.reset(namespace, buffer) end
+    end
     if vim.v.exiting == vim.NIL then start() end
   end)
 end
@@ -769,11 +776,11 @@ on({ 'BufNewFile', 'BufRead' }, { '*.scm', '*.sld' }, function()
   if vim.bo.filetype ~= 'scheme' then vim.bo.filetype = 'scheme' end
 end)
 on('FileType', 'scheme', function(event) attach(event.buf) end)
--- What was refused may fit by now, a buffer may have another name, and files may have changed.
-on({ 'BufEnter', 'BufFilePost', 'BufWritePost', 'FocusGained' }, '*', function(event)
+-- A buffer may have another name, and files may have changed.
+on({ 'BufFilePost', 'BufWritePost', 'FocusGained' }, '*', function(event)
   if not server then return end
   attach(event.buf)
-  if event.event ~= 'BufEnter' then settle_soon() end
+  settle_soon()
 end)
 on({ 'CursorMoved', 'CursorMovedI', 'BufEnter', 'TextChanged', 'TextChangedI' }, '*', redraw)
 on('BufLeave', '*', clear)
