@@ -481,10 +481,6 @@ end
 local known = {} -- by buffer: the imports and definitions of its text
 local files = {} -- by path: when a file was read, its imports, and its text until it is sent
 
-local function attached()
-  return vim.tbl_filter(function(buffer) return is_open(buffer) end, vim.api.nvim_list_bufs())
-end
-
 -- The file of a library: looked for upwards from a folder, and then in the roots.
 local function find(library_path, folder, roots)
   local function at(place)
@@ -524,16 +520,26 @@ local function look_into(path, stat)
   return files[path]
 end
 
+-- Looks at a buffer for imports, where it has changed. Answers whether they are others than they were.
+local function look_at(buffer)
+  local tick, old = vim.api.nvim_buf_get_changedtick(buffer), known[buffer] or { imports = {}, defines = {} }
+  if tick == old.tick then return false end
+  local imports, defines = scan(text_of(buffer))
+  known[buffer] = { tick = tick, imports = imports or old.imports, defines = defines or old.defines }
+  return not (vim.deep_equal(known[buffer].imports, old.imports) and vim.deep_equal(known[buffer].defines, old.defines))
+end
+
 -- The buffers that are open, as where to begin with looking for libraries.
 local function beginnings()
   local queue, found, seen = {}, {}, {}
-  for _, buffer in ipairs(attached()) do
-    local name, it = vim.api.nvim_buf_get_name(buffer), known[buffer]
+  for _, buffer in ipairs(vim.tbl_filter(is_open, vim.api.nvim_list_bufs())) do
+    look_at(buffer)
+    local name = vim.api.nvim_buf_get_name(buffer)
     seen[vim.loop.fs_realpath(name) or name] = true
-    for _, defined in ipairs(it.defines) do
+    for _, defined in ipairs(known[buffer].defines) do
       found[defined] = true
     end
-    table.insert(queue, { folder = vim.fn.fnamemodify(name, ':h'), imports = it.imports })
+    table.insert(queue, { folder = vim.fn.fnamemodify(name, ':h'), imports = known[buffer].imports })
   end
   return queue, found, seen
 end
@@ -611,15 +617,6 @@ local function follow()
   if changed then turn = turn + 1 end
 end
 
--- Looks at a buffer for imports, where it has changed. Answers whether they are others than they were.
-local function look_at(buffer)
-  local tick, old = vim.api.nvim_buf_get_changedtick(buffer), known[buffer] or { imports = {}, defines = {} }
-  if tick == old.tick then return false end
-  local imports, defines = scan(text_of(buffer))
-  known[buffer] = { tick = tick, imports = imports or old.imports, defines = defines or old.defines }
-  return not (vim.deep_equal(known[buffer].imports, old.imports) and vim.deep_equal(known[buffer].defines, old.defines))
-end
-
 -- ---- the server
 
 local function running()
@@ -639,7 +636,6 @@ local function settle()
   end
   for _, buffer in pairs(names) do
     if not is_open(buffer) then open_buffer(buffer) end
-    look_at(buffer)
   end
   for buffer in pairs(refused) do -- it may fit by now
     attach(buffer)

@@ -26,13 +26,16 @@ if ! HOME=$room/home emacs --batch --eval '(progn (package-initialize) (kill-ema
     exit 0
 fi
 
-# The steps of $1, with the program $2.
+# The steps of $1, with the program $2. Emacs goes on after an error of a timer, so what it says is looked through.
 run_steps() {
     mkdir "$room/texts-$1" && cd "$room/texts-$1" || exit 1
     HERE=$here ROOM=$room/texts-$1 STEPS=$1.json SCHEME_LS=$2 HOME=$room/home LC_ALL=C.UTF-8 \
         timeout 300 emacs --batch -l "$here/emacs.el" 2>&1 |
         grep -v '^Loading /\|^Warning (eglot)' >"$room/said"
-    tail -n 1 "$room/said" | grep -q 'steps passed$' || { cat "$room/said"; exit 1; }
+    if grep -q '^Error ' "$room/said" || ! tail -n 1 "$room/said" | grep -q 'steps passed$'; then
+        cat "$room/said"
+        exit 1
+    fi
     tail -n 1 "$room/said"
 }
 

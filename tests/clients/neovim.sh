@@ -29,9 +29,14 @@ run_nvim() {
         timeout 300 nvim --clean --headless -n "$@" -c "cquit 1"
 }
 
-# The steps of $1, with the program $2.
+# The steps of $1, with the program $2. Neovim goes on after an error of a callback, so what it says is looked through.
 run_steps() {
-    HERE=$here ROOM=$room/texts-$1 STEPS=$1.json SCHEME_LS=$2 run_nvim "texts-$1" -c "luafile $here/neovim.lua"
+    HERE=$here ROOM=$room/texts-$1 STEPS=$1.json SCHEME_LS=$2 run_nvim "texts-$1" -c "luafile $here/neovim.lua" >"$room/said" 2>&1
+    if [ $? -ne 0 ] || grep -q 'Error ' "$room/said"; then
+        cat "$room/said"
+        exit 1
+    fi
+    grep -o 'tests/clients/neovim.lua: .* steps passed' "$room/said"
 }
 
 if [ -n "$SESSION_FILE" ]; then
