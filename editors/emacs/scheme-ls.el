@@ -246,7 +246,7 @@ where a name is bound, ◀ where it is used."
     (with-current-buffer buffer
       (let ((server (and scheme-ls-arrows-mode (eglot-current-server)))
             (turn scheme-ls--turn))
-        (when (and server (not (equal scheme-ls--answered turn)))
+        (when (and server (jsonrpc-running-p server) (not (equal scheme-ls--answered turn)))
           (setq scheme-ls--answered turn
                 scheme-ls--arrows nil)
           (eglot--signal-textDocument/didChange)
