@@ -143,8 +143,12 @@
   (expect (concat "the mode of " file) major-mode 'scheme-mode)
   ;; there are no commands here, behind which Emacs would do what Eglot and the arrows wait for
   (run-hooks 'post-command-hook)
-  (unless (or scheme-ls--refused (same-soon #'eglot-managed-p t))
-    (fail "no server for %s" file)))
+  (let ((want (not (or scheme-ls--refused (string-suffix-p ".ss" file)))))
+    (expect (format "whether Eglot manages %s" file) (same-soon #'eglot-managed-p want) want)))
+
+(defun step-logged (text step)
+  "What the server would log, as Eglot handles it."
+  (eglot-handle-notification (eglot-current-server) 'window/logMessage :type (plist-get step :level) :message text))
 
 (defun step-close (file)
   (with-current-buffer (buffer-of file)
@@ -185,8 +189,13 @@
   (switch-to-buffer (buffer-of file))
   (write-file (expand-file-name (plist-get step :to) room)))
 
+(defun managed ()
+  "A buffer that Eglot manages."
+  (seq-find (lambda (buffer) (with-current-buffer buffer (eglot-managed-p))) (buffer-list)))
+
 (defun step-kill (_)
   "Kill the server, and wait for another."
+  (switch-to-buffer (managed))
   (let ((server (eglot-current-server)))
     ;; Eglot starts no other for one that lives for less than three seconds
     (same-soon (lambda () (eglot--inhibit-autoreconnect server)) nil)
@@ -308,7 +317,7 @@
                                (:definition step-definition) (:references step-references) (:highlights step-highlights)
                                (:arrows step-arrows) (:served step-served) (:said step-said) (:write step-write)
                                (:fill step-fill) (:grow step-grow) (:shrink step-shrink) (:many step-many)
-                               (:save_as step-save_as) (:kill step-kill))
+                               (:save_as step-save_as) (:kill step-kill) (:logged step-logged))
            for what = (plist-get step kind)
            when (plist-member step kind)
            do (let* ((name (format "step %d, %s %S" number kind what))
@@ -324,7 +333,7 @@
          for number from 1
          do (run-step number step))
 
-(let* ((server (seq-some (lambda (buffer) (with-current-buffer buffer (and (eglot-managed-p) (eglot-current-server)))) (buffer-list)))
+(let* ((server (with-current-buffer (managed) (eglot-current-server)))
        (process (jsonrpc--process server)))
   ;; Eglot kills the server right behind `exit'; here it first has the time to end by itself.
   (advice-add 'jsonrpc-shutdown :before

@@ -208,6 +208,12 @@ function steps.kill()
   new_client()
 end
 
+-- What the server would log, to the handler that the client has for it.
+function steps.logged(step)
+  local handler = client.handlers['window/logMessage']
+  handler(nil, { type = step.level, message = step.logged }, { method = 'window/logMessage', client_id = client.id })
+end
+
 -- The documents that the server has open.
 function steps.served(step)
   local function names()
@@ -355,5 +361,7 @@ if not vim.wait(patience, function() return ended ~= nil end, 10) then
   fail('the server did not end')
 end
 expect('the status after shutdown and exit', ended, 0)
+vim.wait(200, function() return false end)
+expect('the servers that run', vim.lsp.get_active_clients(), {})
 print('tests/clients/neovim.lua: ' .. #questions.steps .. ' steps passed\n')
 vim.cmd('quitall!')

@@ -87,6 +87,12 @@ function listen(listener) {
   return { dispose() {} };
 }
 
+// A pattern of paths as a regular expression, as far as it has `**/`, `*` and `{a,b}`.
+function globbed(pattern) {
+  const parts = { "**/": "(?:.*/)?", "*": "[^/]*", "{": "(?:", "}": ")", ",": "|", ".": "\\." };
+  return new RegExp(`^${pattern.replace(/\*\*\/|[*{},.]/g, (it) => parts[it])}$`);
+}
+
 // ---- the client
 
 const State = { Stopped: 1, Running: 2, Starting: 3 };
@@ -166,9 +172,18 @@ class LanguageClient {
     this.write({ method, params });
   }
 
+  // Whether the package takes a document, by the selector that it was given: schemes, languages, patterns.
+  takes({ languageId, uri }) {
+    return this.options.documentSelector.some(
+      ({ scheme, language, pattern }) =>
+        scheme === uri.scheme && language === languageId && (pattern === undefined || globbed(pattern).test(uri.path)),
+    );
+  }
+
   // As the package does, for documents that its selector names.
   opened(document) {
     const { uri, languageId, version } = document;
+    if (!this.takes(document)) return undefined;
     const send = () =>
       this.sendNotification("textDocument/didOpen", { textDocument: { uri: uri.toString(), languageId, version, text: document.getText() } });
     return this.options.middleware.didOpen(document, send);
@@ -287,6 +302,11 @@ const steps = {
     assert(await sameSoon(() => client.starts > before, true), "no other server");
   },
 
+  // What the server would log.
+  logged({ logged: message, level: type }) {
+    client.handlers["window/logMessage"]({ type, message });
+  },
+
   async served({ served, numbered: [first, last] = [1, 0] }) {
     const want = [...served, ...Array.from({ length: last - first + 1 }, (_, n) => `${first + n}.scm`)].sort();
     const get = () => {
@@ -336,6 +356,9 @@ async function main() {
         throw error;
       }
     }
+  }
+  for (const [scheme, want] of [["file", true], ["untitled", true], ["git", false], ["vscode-notebook-cell", false]]) {
+    assert.equal(client.takes({ languageId: "scheme", uri: { scheme, path: "/a/b.scm" } }), want, scheme);
   }
   await extension.deactivate();
   assert.equal(await sameSoon(() => client.status, 0), 0, "the status after shutdown and exit");
