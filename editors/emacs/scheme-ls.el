@@ -461,7 +461,7 @@ and behind `#;' don't."
   (scheme-ls--close server uri)
   (cond ((or (not (scheme-ls--fits-p)) (scheme-ls--refuse-p server))
          (run-with-timer 0 nil #'scheme-ls--let-go (current-buffer)))
-        (t (while (>= (hash-table-count (scheme-ls--documents server)) scheme-ls--most)
+        (t (while (and (scheme-ls--libraries server) (>= (hash-table-count (scheme-ls--documents server)) scheme-ls--most))
              (scheme-ls--close server (pop (scheme-ls--libraries server))))
            (puthash uri (current-buffer) (scheme-ls--documents server))
            (scheme-ls--send server :textDocument/didOpen params)))

@@ -281,7 +281,7 @@ local function open_buffer(buffer, params)
   local uri = vim.uri_from_bufnr(buffer)
   close(uri)
   if refuse(buffer) then return end
-  while vim.tbl_count(docs) >= most do
+  while vim.tbl_count(docs) >= most and behind[1] do
     close(table.remove(behind))
   end
   local tick = vim.api.nvim_buf_get_changedtick(buffer)

@@ -166,7 +166,7 @@ function open(document, notify) {
   const uri = document.uri.toString();
   close(uri);
   if (refuse(document)) return undefined;
-  while (documents.size >= MOST) close(libraries.pop());
+  while (documents.size >= MOST && libraries.length > 0) close(libraries.pop());
   documents.set(uri, { document, ...scan(document.getText()) });
   return notify(document);
 }
