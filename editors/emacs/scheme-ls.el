@@ -482,7 +482,9 @@ and behind `#;' don't."
           (t (scheme-ls--send server :textDocument/didChange params)))))
 
 (cl-defmethod jsonrpc-connection-send :around ((server scheme-ls-server) &rest args &key method params &allow-other-keys)
-  "Let nothing pass that SERVER would refuse, or would end by."
+  "Send what SERVER can take.
+It would refuse too long a text or a 65th, and a message of more than 8 MiB
+would end it."
   (let* ((uri (and (memq method '(:textDocument/didOpen :textDocument/didChange :textDocument/didClose :textDocument/didSave))
                    (plist-get (plist-get params :textDocument) :uri)))
          (document (and uri (gethash uri (scheme-ls--documents server)))))

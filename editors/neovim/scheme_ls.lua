@@ -223,9 +223,9 @@ end
 
 -- ---- what the server has open
 
-local docs = {} -- by uri: a buffer that Neovim's client sends the changes of, or the file of a library
+local docs = {} -- by uri: a buffer, whose changes Neovim's client sends, or the file of a library
 local behind = {} -- the uris of these files, in the order in which they were found
-local refused = {} -- the buffers of which was said that the server doesn't take them
+local refused = {} -- by buffer: why it isn't given to the server, once that was said
 local wire -- sends a notification to the server
 
 local function tell(text, level)
@@ -301,7 +301,8 @@ end
 
 local settle_soon, attach -- below
 
--- What becomes of the notifications that Neovim's client sends: nothing passes that the server would refuse, or would end by.
+-- Takes the notifications that Neovim's client would send, and sends what the server can take: it would refuse too long a text or a 65th,
+-- and a message of more than 8 MiB would end it.
 local gates = {}
 
 gates['textDocument/didOpen'] = function(params)
@@ -624,7 +625,7 @@ local function running()
   return client and client.initialized and not client.is_stopped() and client or nil
 end
 
--- Brings what is open at the server in line with the buffers that Neovim has, by their names as they are now, and with what they import.
+-- Brings what is open at the server in line with Neovim's buffers, by the names that they have now, and with what they import.
 local function settle()
   if not running() then return end
   local names = {}
@@ -666,7 +667,7 @@ local ended -- below
 local starts = {} -- when the server was started
 local said_tired
 
--- Starts the server and gives it the buffers, but not for ever anew.
+-- Starts the server and gives it the buffers, if it wasn't started too often of late.
 local function start()
   local now = vim.loop.now()
   starts = vim.tbl_filter(function(time) return now - time < span end, starts)
@@ -709,7 +710,7 @@ end
 local changes = {} -- by buffer: the tick of its last change that was seen
 local changed = {} -- the buffers that have changed since they were looked at
 
--- Looks at buffers that have changed and then were left alone.
+-- Looks at the buffers that have changed, once they are left alone.
 local function look()
   local buffers, others = changed, false
   changed = {}
@@ -720,7 +721,7 @@ local function look()
         attach(buffer)
         settle_soon()
       else
-        if doc.tick < changes[buffer] then send_whole(buffer) end -- Neovim's client has missed it
+        if doc.tick < changes[buffer] then send_whole(buffer) end -- changed while there was no server, Neovim's client misses changes
         others = look_at(buffer) or others
       end
     end

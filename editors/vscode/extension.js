@@ -13,7 +13,7 @@ let client;
 let documents = new Map(); // by uri, what the server has open: { document } of the editor, or { stamp, version } of a library's file
 let libraries = []; // the uris of these files, in the order in which they were found
 let full = false; // whether there were more of them than there is room for
-const refused = new Set(); // the uris of documents of which was said that the server doesn't take them
+const refused = new Set(); // the uris of documents that aren't given to the server, once that was said
 const files = new Map(); // by path: when a file was read, whether the server takes it, and its imports
 const looking = new Map(); // by uri: the timer behind which a document is looked at
 let following; // the timer behind which files are opened and closed
@@ -41,7 +41,7 @@ function behindQuoted(text, at) {
   return Math.min(at + 1, text.length);
 }
 
-// The first place at or behind a place where a pattern (sticky or global) is found, or the end.
+// The first place at or behind a place where a global pattern is found, or the end.
 function search(pattern, text, at) {
   pattern.lastIndex = at;
   const found = pattern.exec(text);
@@ -181,7 +181,8 @@ function openAnew(document) {
   return open(document, () => send("didOpen", { textDocument }));
 }
 
-// What becomes of the notifications that the client sends: nothing passes that the server would refuse, or would end by.
+// Takes the notifications that the client would send, and sends what the server can take: it would refuse too long a text or a 65th, and
+// a message of more than 8 MiB would end it.
 const middleware = {
   didOpen(document, next) {
     followSoon();

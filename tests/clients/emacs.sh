@@ -1,9 +1,9 @@
 #!/bin/sh
 # Drives the built program with Eglot, the language client of Emacs, headless, and with the file of editors/emacs: the steps of
 # questions.json (answers to all that is asked) and libraries.json (what is open at the server), each in an Emacs of its own with a
-# shutdown at the end. What was sent is looked through by `wire`. It is skipped where Emacs, Eglot or the built program is missing.
-# SCHEME_LS names another program, if it is set; where SESSION_FILE is set, a session is being recorded, and there are the steps of
-# questions.json alone.
+# shutdown at the end, and a server that ends at once. What was sent is looked through by `wire`. It is skipped where Emacs, Eglot or
+# the built program is missing. SCHEME_LS names another program, if it is set; where SESSION_FILE is set, a session is being recorded,
+# and there are the steps of questions.json alone.
 
 top=$(cd "$(dirname "$0")/../.." && pwd) || exit 1
 here=$top/tests/clients
@@ -47,3 +47,22 @@ for it in questions libraries; do
     SESSION_SERVER=$program SESSION_FILE=$room/$it.session run_steps $it "$top/tests/sessions/proxy"
     "$here/wire" "$room/$it.session" || exit
 done
+
+printf '#!/bin/sh\necho started >>"%s/starts"\nexit 3\n' "$room" >"$room/dies"
+chmod +x "$room/dies"
+HOME=$room/home timeout 60 emacs --batch --eval "(progn
+  (package-initialize)
+  (add-to-list 'load-path \"$top/editors/emacs\")
+  (defvar scheme-ls-command '(\"$room/dies\"))
+  (require 'scheme-ls)
+  (dolist (file '(\"a.scm\" \"b.scm\"))
+    (find-file file)
+    (ignore-errors (run-hooks 'post-command-hook)))
+  (sleep-for 4))" >"$room/said" 2>&1
+starts=$(wc -l <"$room/starts")
+if [ "$starts" -ne 2 ]; then
+    echo "tests/clients/emacs.sh: for two files, a server that ends at once was started $starts times, and not twice"
+    cat "$room/said"
+    exit 1
+fi
+echo "tests/clients/emacs.sh: for two files, a server that ends at once was started twice"

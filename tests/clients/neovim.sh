@@ -58,4 +58,4 @@ if [ "$starts" -ne 5 ]; then
     cat "$room/said"
     exit 1
 fi
-echo "tests/clients/neovim.lua: a server that ends at once was started 5 times"
+echo "tests/clients/neovim.sh: a server that ends at once was started 5 times"
