@@ -189,6 +189,14 @@
   (switch-to-buffer (buffer-of file))
   (write-file (expand-file-name (plist-get step :to) room)))
 
+(defun step-rename (file step)
+  "Give FILE another name, and its buffer too, as Dired does."
+  (switch-to-buffer (buffer-of file))
+  (save-buffer)
+  (let ((to (expand-file-name (plist-get step :to) room)))
+    (rename-file buffer-file-name to)
+    (set-visited-file-name to nil t)))
+
 (defun managed ()
   "A buffer that Eglot manages."
   (seq-find (lambda (buffer) (with-current-buffer buffer (eglot-managed-p))) (buffer-list)))
@@ -317,7 +325,7 @@
                                (:definition step-definition) (:references step-references) (:highlights step-highlights)
                                (:arrows step-arrows) (:served step-served) (:said step-said) (:write step-write)
                                (:fill step-fill) (:grow step-grow) (:shrink step-shrink) (:many step-many)
-                               (:save_as step-save_as) (:kill step-kill) (:logged step-logged))
+                               (:save_as step-save_as) (:kill step-kill) (:logged step-logged) (:rename step-rename))
            for what = (plist-get step kind)
            when (plist-member step kind)
            do (let* ((name (format "step %d, %s %S" number kind what))

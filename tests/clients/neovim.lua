@@ -203,6 +203,16 @@ function steps.save_as(step)
   vim.cmd('bwipeout ' .. buffer_of(step.save_as)) -- Neovim keeps the old name in a list of its own
 end
 
+-- Gives a file another name, and its buffer too.
+function steps.rename(step)
+  vim.cmd('buffer ' .. buffer_of(step.rename))
+  vim.cmd('silent write')
+  vim.fn.rename(room .. '/' .. step.rename, room .. '/' .. step.to)
+  vim.cmd('silent file ' .. room .. '/' .. step.to)
+  vim.cmd('silent write!')
+  vim.cmd('bwipeout ' .. buffer_of(step.rename)) -- Neovim keeps the old name in a list of its own
+end
+
 function steps.kill()
   vim.loop.kill(client.rpc.pid, 'sigkill')
   new_client()

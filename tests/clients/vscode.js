@@ -296,6 +296,10 @@ const steps = {
     await steps.open({ open: to });
   },
 
+  async rename({ rename: name, to }) {
+    await steps.save_as({ save_as: name, to });
+  },
+
   async kill() {
     const before = client.starts;
     client.process.kill("SIGKILL");
