@@ -50,8 +50,10 @@ done
 
 printf '#!/bin/sh\necho started >>"%s/starts"\nexit 3\n' "$room" >"$room/dies"
 chmod +x "$room/dies"
+: >"$room/starts"
 run_nvim texts-dies -c "lua vim.g.scheme_ls_cmd = { '$room/dies' }" -c "luafile $top/editors/neovim/scheme_ls.lua" \
-    -c "edit a.scm" -c "edit b.scm" -c "lua vim.wait(2000, function() return false end)" -c "quitall!" >"$room/said" 2>&1
+    -c "edit a.scm" -c "edit b.scm" -c "lua vim.wait(20000, function() return #vim.fn.readfile('$room/starts') >= 5 end)" \
+    -c "lua vim.wait(1000, function() return false end)" -c "quitall!" >"$room/said" 2>&1
 starts=$(wc -l <"$room/starts")
 if [ "$starts" -ne 5 ]; then
     echo "tests/clients/neovim.sh: a server that ends at once was started $starts times, and not 5"
