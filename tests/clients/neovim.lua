@@ -365,13 +365,17 @@ for number, step in ipairs(questions.steps) do
 end
 
 local ended
-client.config.on_exit = function(code) ended = code end
+local on_exit = client.config.on_exit
+client.config.on_exit = function(code, ...)
+  ended = code
+  on_exit(code, ...)
+end
 vim.lsp.stop_client(client.id)
 if not vim.wait(patience, function() return ended ~= nil end, 10) then
   fail('the server did not end')
 end
 expect('the status after shutdown and exit', ended, 0)
 vim.wait(200, function() return false end)
-expect('the servers that run', vim.lsp.get_active_clients(), {})
+expect('another server', vim.lsp.get_client_by_id(client.id + 1), nil)
 print('tests/clients/neovim.lua: ' .. #questions.steps .. ' steps passed\n')
 vim.cmd('quitall!')
