@@ -193,6 +193,7 @@
   "Give FILE another name, and its buffer too, as Dired does."
   (switch-to-buffer (buffer-of file))
   (save-buffer)
+  (accept-process-output nil 0.02) ; what was put off is done
   (let ((to (expand-file-name (plist-get step :to) room)))
     (rename-file buffer-file-name to)
     (set-visited-file-name to nil t)))
