@@ -11,6 +11,12 @@ METHODS = {
     "prepare": "textDocument/prepareRename",
     "arrows": "scheme/arrows",
 }
+PUBLISH = "textDocument/publishDiagnostics"
+
+
+def unknown(number):
+    """The reply to a request that no server knows."""
+    return client.compact({"jsonrpc": "2.0", "id": number, "error": {"code": -32601, "message": "method not found"}}).encode()
 
 
 def made(value):
@@ -34,32 +40,29 @@ def replies(text):
     return found, int(status) if status else None
 
 
-def as_they_stand(bodies):
-    return "[" + ",".join(body.decode(errors="replace") for body in bodies) + "]"
-
-
 class Step:
-    """A row, the bodies that are sent for it, and those that are wanted."""
+    """A row, the bodies that are sent for it, and those that are wanted; of a step without a row none are."""
 
     def __init__(self, row, sent, wanted):
         self.row, self.sent, self.wanted = row, sent, wanted
 
     def wrong(self, got):
         """What came in place of what is wanted, or None where it is that."""
-        return None if got == self.wanted else self.shown(got)
+        return None if self.row is None or self.is_right(got) else self.shown(got)
+
+    def is_right(self, got):
+        return got == self.wanted
 
     def shown(self, got):
-        return as_they_stand(got)
+        """The answer of the row that the bodies tell, or where they tell none or the same the bodies as they stand."""
+        try:
+            told = client.compact(self.told([json.loads(body) for body in got]))
+        except (KeyError, TypeError, IndexError, ValueError, AttributeError):
+            told = self.row.wanted
+        return told if told != self.row.wanted else "[" + ",".join(body.decode(errors="replace") for body in got) + "]"
 
-
-class Greeting(Step):
-    """The `initialize` of rows of programs, whose reply rows of sessions tell."""
-
-    def __init__(self):
-        super().__init__(None, [client.request(0, "initialize", {})], None)
-
-    def wrong(self, got):
-        return None
+    def told(self, messages):
+        raise ValueError
 
 
 class Session:
@@ -118,36 +121,34 @@ class Documents(dict):
         return [*ends, self.written(ends[1])]
 
     def published(self, uri, found):
-        """The body by which a document's diagnostics come. A closed one has no version and none of them."""
+        """The body by which a document's diagnostics come."""
         listed = [{"code": code, "message": message, "range": self[uri].range(start, end), "severity": severity, "source": "scheme_ls"}
                   for start, end, code, severity, message in found]
-        version = {"version": 1} if uri in self else {}
-        return client.notice("textDocument/publishDiagnostics", {"diagnostics": listed, "uri": uri} | version)
+        return client.notice(PUBLISH, {"diagnostics": listed, "uri": uri, "version": 1})
 
     def published_told(self, params):
         return [[*self[params["uri"]].span(it["range"]), it["code"], it["severity"], it["message"]] for it in params["diagnostics"]]
 
 
 class Opening(Step):
-    """Documents that are opened one after another. Of what is published for each the last is wanted: while some of them are still
-    closed the row doesn't tell what the others have. Those that were open before are closed first."""
+    """Documents that are opened one after another; those that were open before are closed first. Where several are open at once the row
+    doesn't tell what is published on the way, so of each document what is published last is wanted."""
 
     def __init__(self, row, before):
-        pairs = json.loads(row.argument)
-        self.documents = Documents((uri, client.Lines(made(text).decode())) for uri, text in pairs)
-        last = dict.fromkeys(before, []) | dict(json.loads(row.wanted))
-        sent = [client.closed(uri) for uri in before] + [client.opened(uri, made(text).decode()) for uri, text in pairs]
-        super().__init__(row, sent, {uri: self.documents.published(uri, found) for uri, found in last.items()})
+        pairs = [(uri, made(text).decode()) for uri, text in json.loads(row.argument)]
+        self.documents = Documents((uri, client.Lines(text)) for uri, text in pairs)
+        wanted = [(uri, client.notice(PUBLISH, {"diagnostics": [], "uri": uri})) for uri in before]
+        wanted += [(uri, self.documents.published(uri, found)) for uri, found in json.loads(row.wanted)]
+        self.is_exact = len(before) < 2 and len(pairs) < 2
+        super().__init__(row, [*map(client.closed, before), *(client.opened(*it) for it in pairs)], wanted)
 
-    def wrong(self, got):
-        last = {}
-        for body in got:
-            last[json.loads(body).get("params", {}).get("uri")] = body
-        if last == self.wanted:
-            return None
-        told = [json.loads(body)["params"] for uri, body in last.items() if uri in self.documents]
-        shown = client.compact(sorted([params["uri"], self.documents.published_told(params)] for params in told))
-        return shown if shown != self.row.wanted else as_they_stand(got)
+    def is_right(self, got):
+        found = [(json.loads(body).get("params", {}).get("uri"), body) for body in got]
+        return found == self.wanted if self.is_exact else dict(found) == dict(self.wanted)
+
+    def told(self, messages):
+        last = {it["params"]["uri"]: self.documents.published_told(it["params"]) for it in messages if it["params"]["uri"] in self.documents}
+        return sorted(map(list, last.items()))
 
 
 class Question(Step):
@@ -182,25 +183,17 @@ class Question(Step):
             return [self.documents.drawn(it) for it in wanted]
         return [self.documents.place(it) for it in wanted]
 
-    def shown(self, got):
-        try:
-            shown = client.compact(self.told([json.loads(body)["result"] for body in got]))
-        except (KeyError, TypeError, IndexError, ValueError):
-            return as_they_stand(got)
-        return shown if shown != self.row.wanted else as_they_stand(got)
-
-    def told(self, results):
-        """The answer of a row that results tell."""
+    def told(self, messages):
+        results = [message["result"] for message in messages]
         if self.query == "arrows":
             return sorted({client.compact(it): it for result in results for it in map(self.documents.drawn_told, result)}.values())
         [result] = results
-        if result is None or self.query == "prepare":
+        if self.query in ("prepare", "highlights") and result:
             lines = self.documents[json.loads(self.row.argument)[0]]
-            return result and [*lines.span(result["range"]), result["placeholder"]]
-        if self.query == "highlights":
-            lines = self.documents[json.loads(self.row.argument)[0]]
+            if self.query == "prepare":
+                return [*lines.span(result["range"]), result["placeholder"]]
             return [[*lines.span(it["range"]), it["kind"]] for it in result]
-        return [self.documents.place_told(it) for it in result]
+        return result and [self.documents.place_told(it) for it in result]
 
 
 class Programs:
@@ -209,7 +202,7 @@ class Programs:
     status = 0
 
     def __init__(self):
-        self.steps, self.documents = [Greeting()], Documents()
+        self.steps, self.documents = [Step(None, [client.request(0, "initialize", {})], None)], Documents()
 
     def add(self, row):
         if row.call == "programs/open":
@@ -219,23 +212,16 @@ class Programs:
             step = Question(row, self.documents, len(self.steps))
         self.steps.append(step)
 
-    def mark(self, place):
-        return client.request(f"step {place}", "step", None)
-
-    def marked(self, place):
-        error = {"code": -32601, "message": "method not found"}
-        return client.compact({"jsonrpc": "2.0", "id": f"step {place}", "error": error}).encode()
-
     def cuts(self, seed):
-        sent = [body for place, step in enumerate(self.steps) for body in [*step.sent, self.mark(place)]]
-        ends = [client.request("end", "shutdown", None), client.notice("exit", None)]
-        yield from client.cuts(b"".join(map(client.frame, sent + ends)), seed, short=0)
+        sent = [body for place, step in enumerate(self.steps) for body in [*step.sent, client.request(f"step {place}", "step", None)]]
+        sent += [client.request("end", "shutdown", None), client.notice("exit", None)]
+        yield from client.cuts(b"".join(map(client.frame, sent)), seed, short=0)
 
     def judge(self, written):
         got, rest = client.bodies(written)
         parts = [[]]
         for body in got:
-            if body == self.marked(len(parts) - 1):
+            if body == unknown(f"step {len(parts) - 1}"):
                 parts.append([])
             else:
                 parts[-1].append(body)
@@ -243,3 +229,6 @@ class Programs:
         for step, part in zip(self.steps, parts):
             if (found := step.wrong(part)) is not None:
                 yield step.row, found
+        behind = sum(parts[len(self.steps) :], []) + [rest] * bool(rest)
+        if behind != [client.compact({"jsonrpc": "2.0", "id": "end", "result": None}).encode()]:
+            yield self.steps[-1].row, f"behind all rows: {behind}"
