@@ -19,15 +19,15 @@ use Rattle.ls_base.specs.declared.places.Pos.{Pos}
 use Rattle.scheme_model.specs.Session.{Arrows}
 use Rattle.document_store.specs.Texts.{Added, Document, Refusal, Texts, after, has_room, is_long, is_open}
 use Rattle.workspace_state.specs.Events.{leaves}
-use Rattle.workspace_state.specs.Listed.{found_of, lists_of, of_stop, told_in}
-use Rattle.workspace_state.specs.Listings.{or_none}
-use Rattle.workspace_state.specs.Readings.{Read, Reads, Stops, AreReadAs, IsReadAs, first_unread}
+use Rattle.document_units.specs.Listed.{found_of, lists_of, of_stop, told_in}
+use Rattle.program_answers.specs.Listings.{or_none}
+use Rattle.document_units.specs.Readings.{Read, Reads, Stops, AreReadAs, IsReadAs, first_unread}
 use Rattle.workspace_state.specs.State as workspace
-use Rattle.workspace_state.specs.ToldAnswers.{answer_of}
-use Rattle.workspace_state.specs.Updates.{AreListsOfTexts, ArePublished, IsNewsOf, IsPublished, Lists, Publishes, listed_in}
-use Rattle.workspace_state.specs.declared.events.Published.{Published}
-use Rattle.workspace_state.proofs.PublishedMaps.{is_tied, ties_are}
-use Rattle.workspace_state.proofs.TextLists.{one_row, some_row}
+use Rattle.program_answers.specs.ToldAnswers.{answer_of}
+use Rattle.program_answers.specs.Updates.{AreListsOfTexts, ArePublished, IsNewsOf, IsPublished, Lists, Publishes, listed_in}
+use Rattle.program_answers.specs.declared.publications.Published.{Published}
+use Rattle.program_answers.proofs.PublishedMaps.{is_tied, ties_are}
+use Rattle.program_answers.proofs.TextLists.{one_row, some_row}
 use Rattle.scheme_ls.specs.Alone.{ArePublishedAlone, HoldsAlone, IsDrawn}
 use Rattle.scheme_ls.specs.Printed.{AreLines, IsStopLine, alone, arrows_alone, error_line, error_lines, input_name, lines_of, published_lines}
 

@@ -4,9 +4,9 @@ use Rattle.std.specs.Str.{is_utf8}
 use Rattle.std.proofs.lemmas.Str.{IsUtf8-from_is_utf8, is_utf8-from_IsUtf8}
 use Rattle.ls_base.specs.declared.encoding.Encoding.TheVariants.{Utf16}
 use Rattle.scheme_model.specs.Faults as faults
-use Rattle.workspace_state.specs.Listed.{of_stop, told_in}
-use Rattle.workspace_state.specs.Readings.{Read, Reads, Stops, IsReadAs}
-use Rattle.workspace_state.proofs.TextLists.{one_row}
+use Rattle.document_units.specs.Listed.{of_stop, told_in}
+use Rattle.document_units.specs.Readings.{Read, Reads, Stops, IsReadAs}
+use Rattle.program_answers.proofs.TextLists.{one_row}
 use Rattle.scheme_ls.specs.Printed.{IsAnswer, alone, arrows_alone, error_line, input_name, lines_of}
 use Rattle.scheme_ls.specs.Wording.{not_utf8_text}
 use Rattle.scheme_ls.proofs.AloneLaws.{read_alone}

@@ -7,10 +7,10 @@ use Rattle.ls_base.specs.declared.answers.Answer.{Answer}
 use Rattle.ls_base.specs.declared.answers.Answer.TheVariants as answers
 use Rattle.ls_base.specs.declared.answers.Arrow as drawn
 use Rattle.ls_base.specs.declared.encoding.Encoding.TheVariants.{Utf16}
-use Rattle.workspace_state.specs.Listed.{found_of, told_in}
-use Rattle.workspace_state.specs.Readings.{Read, IsReadAs}
+use Rattle.document_units.specs.Listed.{found_of, told_in}
+use Rattle.document_units.specs.Readings.{Read, IsReadAs}
 use Rattle.workspace_state.specs.State as workspace
-use Rattle.workspace_state.specs.declared.events.Published.{Published}
+use Rattle.program_answers.specs.declared.publications.Published.{Published}
 use Rattle.scheme_ls.specs.Printed.{AreLines, IsStopLine, alone, input_name}
 use Rattle.scheme_ls.specs.declared.alone.Told.{Told}
 use Rattle.scheme_ls.specs.declared.alone.Told.TheVariants.{Arrows, Stop}

@@ -11,10 +11,10 @@ use Rattle.scheme_model.specs.Diagnostics.{Span}
 use Rattle.scheme_model.specs.Faults as faults
 use Rattle.document_store.specs.Texts.{Document}
 use Rattle.scheme_model.specs.Answers.{drawn_in}
-use Rattle.workspace_state.specs.Listed.{of_stop, told_in}
-use Rattle.workspace_state.specs.Readings.{Read, Reads, Stops, IsReadAs}
-use Rattle.workspace_state.specs.ToldAnswers.{arrow_told, facts_in}
-use Rattle.workspace_state.specs.declared.events.Published.{Published}
+use Rattle.document_units.specs.Listed.{of_stop, told_in}
+use Rattle.document_units.specs.Readings.{Read, Reads, Stops, IsReadAs}
+use Rattle.program_answers.specs.ToldAnswers.{arrow_told, facts_in}
+use Rattle.program_answers.specs.declared.publications.Published.{Published}
 use Rattle.scheme_ls.specs.Wording.{not_utf8_text}
 
 -- `LINE:COLUMN`

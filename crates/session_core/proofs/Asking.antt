@@ -6,10 +6,10 @@ use Rattle.ls_base.specs.declared.encoding.Encoding.{Encoding}
 use Rattle.ls_base.specs.declared.places.Pos.{Pos}
 use Rattle.scheme_model.specs.Session as session
 use Rattle.scheme_model.specs.Session.{Query, State, stays}
-use Rattle.workspace_state.specs.Readings.{Read, AreReadAs}
+use Rattle.document_units.specs.Readings.{Read, AreReadAs}
 use Rattle.workspace_state.specs.State as workspace
-use Rattle.workspace_state.specs.ToldAnswers.{answer_of}
-use Rattle.workspace_state.proofs.TextLists.{some_row}
+use Rattle.program_answers.specs.ToldAnswers.{answer_of}
+use Rattle.program_answers.proofs.TextLists.{some_row}
 use Rattle.session_core.specs.declared.mode.Mode.{Mode}
 use Rattle.session_core.specs.declared.out.Out.{Out}
 use Rattle.session_core.specs.Asked.{About, AnswersQuery, IsAnswerTo, Question}

@@ -15,8 +15,8 @@ use Rattle.workspace_state.specs.Events as workspace
 use Rattle.workspace_state.specs.Events.{event_of, fault_of, leaves}
 use Rattle.workspace_state.specs.declared.events.DocEvent.{DocEvent}
 use Rattle.workspace_state.specs.declared.events.DocEvent.TheVariants as doc
-use Rattle.workspace_state.specs.Updates.{IsNewsOf, Publishes}
-use Rattle.workspace_state.specs.declared.events.Published.{Published}
+use Rattle.program_answers.specs.Updates.{IsNewsOf, Publishes}
+use Rattle.program_answers.specs.declared.publications.Published.{Published}
 use Rattle.session_core.specs.declared.out.Out.{Out}
 use Rattle.session_core.specs.Agreement.{said_event, said_after, said_refusal}
 use Rattle.session_core.specs.Asked.{News, Question, questions}

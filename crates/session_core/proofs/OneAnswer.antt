@@ -4,11 +4,11 @@ use Rattle.std.specs.FinMap.{entries}
 use Rattle.ls_base.specs.declared.answers.Answer.{Answer}
 use Rattle.scheme_model.specs.Session as session
 use Rattle.session_core.specs.FromWire.{encoding_of, pos_of}
-use Rattle.workspace_state.specs.Readings.{Read}
-use Rattle.workspace_state.specs.ToldAnswers.{answer_of}
-use Rattle.workspace_state.specs.declared.events.Published.{Published}
-use Rattle.workspace_state.proofs.NewsLaws.{one_news}
-use Rattle.workspace_state.proofs.TextLists as texts
+use Rattle.document_units.specs.Readings.{Read}
+use Rattle.program_answers.specs.ToldAnswers.{answer_of}
+use Rattle.program_answers.specs.declared.publications.Published.{Published}
+use Rattle.program_answers.proofs.NewsLaws.{one_news}
+use Rattle.program_answers.proofs.TextLists as texts
 use Rattle.session_core.specs.Asked.{IsAnswerTo, ArePublishedFor, Nothing, About, News, Question}
 use Rattle.lsp_messages.specs.declared.reply.Reply.{Reply}
 use Rattle.lsp_messages.specs.declared.reply.Reply.TheVariants as replies

@@ -7,9 +7,9 @@ use Rattle.ls_base.specs.declared.answers.Answer.TheVariants as answers
 use Rattle.lsp_messages.specs.declared.reply.Reply.{Reply}
 use Rattle.lsp_messages.specs.declared.reply.Reply.TheVariants as replies
 use Rattle.scheme_model.specs.Session as session
-use Rattle.workspace_state.specs.ToldAnswers.{answer_of}
-use Rattle.workspace_state.proofs.NewsLaws.{some_news}
-use Rattle.workspace_state.proofs.TextLists.{some_row}
+use Rattle.program_answers.specs.ToldAnswers.{answer_of}
+use Rattle.program_answers.proofs.NewsLaws.{some_news}
+use Rattle.program_answers.proofs.TextLists.{some_row}
 use Rattle.session_core.specs.ToWire.{AreMessages, AreReplies, sent_id, sent_list}
 use Rattle.session_core.specs.Asked.{About, IsAnswerTo, News, Nothing, Question}
 use Rattle.session_core.specs.FromWire.{encoding_of, pos_of}

@@ -6,10 +6,10 @@ use Rattle.ls_base.specs.declared.answers.Answer.{Answer}
 use Rattle.ls_base.specs.declared.answers.Answer.TheVariants as answers
 use Rattle.scheme_model.specs.Session.{Answers, Query}
 use Rattle.scheme_model.specs.Texts.{Position, Encoding, Texts}
-use Rattle.workspace_state.specs.Readings.{Read, AreReadAs}
-use Rattle.workspace_state.specs.ToldAnswers.{answer_of}
-use Rattle.workspace_state.specs.Updates.{IsNewsOf}
-use Rattle.workspace_state.specs.declared.events.Published.{Published}
+use Rattle.document_units.specs.Readings.{Read, AreReadAs}
+use Rattle.program_answers.specs.ToldAnswers.{answer_of}
+use Rattle.program_answers.specs.Updates.{IsNewsOf}
+use Rattle.program_answers.specs.declared.publications.Published.{Published}
 use Rattle.session_core.specs.FromWire.{encoding_of, pos_of}
 
 -- a question about a position in a document among these texts, in an encoding; what is news of texts after an event about a

@@ -19,7 +19,7 @@ use Rattle.lsp_messages.specs.declared.message.Reject.{Reject}
 use Rattle.lsp_messages.specs.declared.message.Reject.TheVariants as rejects
 use Rattle.scheme_model.specs.Session as session
 use Rattle.scheme_model.specs.Texts as texts
-use Rattle.workspace_state.specs.ToldAnswers.{query_of}
+use Rattle.program_answers.specs.ToldAnswers.{query_of}
 
 -- ---- encodings, positions and changes
 

@@ -7,7 +7,7 @@ use Rattle.lsp_messages.specs.declared.message.Id.TheVariants as ids
 use Rattle.lsp_messages.specs.declared.reply.Reply.{Reply}
 use Rattle.lsp_messages.specs.declared.reply.Reply.TheVariants as replies
 use Rattle.scheme_model.specs.Session as session
-use Rattle.workspace_state.specs.declared.events.Published.{Published}
+use Rattle.program_answers.specs.declared.publications.Published.{Published}
 use Rattle.session_core.specs.FromWire.{encoding_of}
 use Rattle.session_core.specs.Asked.{Question, IsAnswerTo, ArePublishedFor}
 

@@ -9,7 +9,7 @@ ghost use Rattle.ls_base.specs.declared.answers.Answer.{Answer};
 ghost use Rattle.lsp_messages.specs.declared.reply.Reply.{Reply};
 ghost use Rattle.scheme_model.specs.Session as session;
 ghost use Rattle.session_core.specs.ToWire.{AreReplies};
-ghost use Rattle.workspace_state.specs.declared.events.Published.{Published};
+ghost use Rattle.program_answers.specs.declared.publications.Published.{Published};
 ghost use Rattle.session_core.specs.Asked.{Question, IsAnswerTo, ArePublishedFor};
 ghost use Rattle.session_core.specs.Agreement.{said_event, said_after};
 

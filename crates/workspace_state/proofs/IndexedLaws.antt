@@ -8,11 +8,11 @@ use Rattle.syntax_tree.specs.declared.trees.Work.{Work}
 use Rattle.core_tree.specs.Units.{IsProgramOf}
 use Rattle.core_tree.specs.declared.units.Program.{Program}
 use Rattle.arrow_index.specs.declared.index.Index.{Index}
-use Rattle.workspace_state.specs.AskedOf.{IsSource}
+use Rattle.program_answers.specs.AskedOf.{IsSource}
 use Rattle.workspace_state.specs.Expansions.{IsIndexFor}
 use Rattle.workspace_state.specs.ProgramOfTexts.{IsProgramOfTexts}
-use Rattle.workspace_state.specs.Readings.{Read, AreReadAs, data_in, program_in}
-use Rattle.workspace_state.proofs.TextLists.{some_row}
+use Rattle.document_units.specs.Readings.{Read, AreReadAs, data_in, program_in}
+use Rattle.program_answers.proofs.TextLists.{some_row}
 
 -- documents are read somehow, so units stand for those of a program
 pub some_program : (texts : Texts) (work : Work) (program : Program) → IsProgramOfTexts texts work program → IsProgramOf work program

@@ -8,13 +8,13 @@ use Rattle.std.specs.FinMap.{entries, entries_sorted, find, from_sorted, entries
 use Rattle.ls_base.specs.declared.encoding.Encoding.{Encoding}
 use Rattle.ls_base.specs.declared.answers.Diagnostic as told
 use Rattle.document_store.specs.Texts.{Document, Texts}
-use Rattle.workspace_state.specs.declared.events.Published.{Published}
-use Rattle.workspace_state.specs.Listings.{or_none}
-use Rattle.workspace_state.specs.Readings.{Read, AreReadAs}
-use Rattle.workspace_state.specs.Listed.{lists_from}
+use Rattle.program_answers.specs.declared.publications.Published.{Published}
+use Rattle.program_answers.specs.Listings.{or_none}
+use Rattle.document_units.specs.Readings.{Read, AreReadAs}
+use Rattle.document_units.specs.Listed.{lists_from}
 use Rattle.workspace_state.specs.State.{AreListsFor}
-use Rattle.workspace_state.specs.Updates.{entries_shown, list_at, listed_in, Lists, AreListsOfTexts, ArePublished, IsNewsOf, AreKeyed}
-use Rattle.workspace_state.proofs.TextLists.{some_row, lists_rise, told_rows, rows_from}
+use Rattle.program_answers.specs.Updates.{entries_shown, list_at, listed_in, Lists, AreListsOfTexts, ArePublished, IsNewsOf, AreKeyed}
+use Rattle.program_answers.proofs.TextLists.{some_row, lists_rise, told_rows, rows_from}
 
 module _ {Y : Type 0} where
   abbrev pub shown_map : BTreeMap (String Y) (List told.Diagnostic) → Lists

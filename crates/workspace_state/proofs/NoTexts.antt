@@ -11,11 +11,11 @@ use Rattle.core_tree.specs.Units.{ProgramStands, UnitsStand}
 use Rattle.core_tree.specs.declared.units.Program.{Program}
 use Rattle.core_tree.specs.declared.units.Unit.{Unit as CodeUnit}
 use Rattle.document_store.specs.Texts.{Document, Texts}
-use Rattle.workspace_state.specs.Readings.{Read, AreReadAs, data_in, program_in}
-use Rattle.workspace_state.specs.Listed.{lists_of}
+use Rattle.document_units.specs.Readings.{Read, AreReadAs, data_in, program_in}
+use Rattle.document_units.specs.Listed.{lists_of}
 use Rattle.workspace_state.specs.ProgramOfTexts.{IsProgramOfTexts}
 use Rattle.workspace_state.specs.State.{AreListsFor}
-use Rattle.workspace_state.proofs.TextLists.{some_row}
+use Rattle.program_answers.proofs.TextLists.{some_row}
 
 no_length : {A : Type 0} (xs : List A) → length xs ≡ 0 → xs ≡ []
 no_length [] h = refl

@@ -16,8 +16,8 @@ use Rattle.document_store.specs.Texts.{Document, Texts, has_room, is_open, is_lo
 use Rattle.workspace_state.specs.declared.events.DocEvent as events
 use Rattle.workspace_state.specs.declared.events.DocEvent.TheVariants as event
 use Rattle.workspace_state.specs.Events.{event_of, uri_of}
-use Rattle.workspace_state.specs.Listings.{or_none}
-use Rattle.workspace_state.specs.Updates.{entries_shown, list_at, AreKeyed, OthersStay}
+use Rattle.program_answers.specs.Listings.{or_none}
+use Rattle.program_answers.specs.Updates.{entries_shown, list_at, AreKeyed, OthersStay}
 
 -- ---- what an event leaves at other uris
 

@@ -3,7 +3,7 @@ use Rattle.std.specs.Prelude.{ℕ, List, Option, Some, None, Bool, true, false}
 use Rattle.document_store.specs.Texts as store
 use Rattle.document_store.specs.declared.faults.StoreFault.{StoreFault}
 use Rattle.document_store.specs.declared.faults.StoreFault.TheVariants as faults
-use Rattle.workspace_state.specs.Kept.{keeps}
+use Rattle.workspace_state.specs.RefusedChanges.{keeps}
 use Rattle.workspace_state.specs.declared.events.DocEvent as events
 use Rattle.workspace_state.specs.declared.events.DocEvent.TheVariants as event
 

@@ -10,8 +10,8 @@ use Rattle.document_store.specs.Docs.{coded_texts}
 use Rattle.document_store.specs.Texts.{Texts}
 use Rattle.workspace_state.specs.Expansions.{Seen, seen_code}
 use Rattle.workspace_state.specs.ProgramOfTexts.{IsProgramOfTexts}
-use Rattle.workspace_state.specs.Readings.{Read, AreReadAs}
-use Rattle.workspace_state.specs.Updates.{AreListsOf}
+use Rattle.document_units.specs.Readings.{Read, AreReadAs}
+use Rattle.program_answers.specs.Updates.{AreListsOf}
 
 pub record State : Type 0 where
   pub encoding : Encoding

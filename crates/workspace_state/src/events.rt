@@ -1,9 +1,10 @@
 //! What happens to documents, and what is published after it (LSP 3.17, text synchronisation and diagnostics).
 ghost use Rattle.std.specs.Prelude.{◌≡◌};
-ghost use Rattle.workspace_state.specs.Kept.{keeps};
+ghost use Rattle.workspace_state.specs.RefusedChanges.{keeps};
 
 use document_store::StoreFault;
-use ls_base::{Change, Diagnostic, Items, Text};
+use ls_base::{Change, Items, Text};
+use program_answers::publications::Published;
 
 /// A document is opened, or gets a new version and text; is changed; or is closed.
 #[derive(Debug, Drop)]
@@ -73,14 +74,6 @@ fn keeps(fault: StoreFault) -> bool
         StoreFault::BadRange => true,
         StoreFault::TooMany => true,
     }
-}
-
-/// The diagnostics of a document. One that is closed has none, and no version.
-#[derive(Debug, Drop)]
-pub struct Published {
-    pub uri: Text,
-    pub version: Option<i64>,
-    pub list: Items<Diagnostic>,
 }
 
 /// Why an event was refused, if it was, and the lists that are published after it.

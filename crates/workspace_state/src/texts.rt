@@ -1,27 +1,20 @@
 //! The texts after an event, made beside the texts before it, so that want of memory leaves these (LSP 3.17, text
 //! synchronisation).
-ghost use Rattle.std.specs.Prelude.{◌≡◌, ◌≤◌, length, slice_get, IfOk, IfSome, OnOk};
+ghost use Rattle.std.specs.Prelude.{◌≡◌, ◌≤◌, length, slice_get, IfOk, OnOk};
 ghost use Rattle.std.specs.Option.{option_map};
 ghost use Rattle.std.specs.FinMap.{entries};
-ghost use Rattle.ls_base.specs.Limits.{max_documents, max_text};
+ghost use Rattle.ls_base.specs.Limits.{max_documents};
 ghost use Rattle.document_store.specs.Texts as texts;
 ghost use Rattle.document_store.specs.Faults.{Follows};
 ghost use Rattle.workspace_state.specs.Events.{event_of, fault_of};
-ghost use Rattle.workspace_state.specs.Stored.{opened, IsRefusal, CopiesTo};
+ghost use Rattle.document_units.specs.Stored.{IsRefusal, CopiesTo};
 
 use crate::events::DocEvent;
 use document_store::{Store, StoreFault};
+use document_units::opened::{Opened, nth};
 use ls_base::limits::MAX_DOCUMENTS;
 use ls_base::{Encoding, Mem, Memory};
 use std::alloc::Global;
-
-/// An open document: its uri, its version and its text.
-#[derive(Clone, Copy)]
-pub struct Opened<'a> {
-    pub uri: &'a str,
-    pub version: i64,
-    pub text: &'a str,
-}
 
 /// The documents after an event, and why it was refused, if it was.
 #[derive(Drop)]
@@ -38,18 +31,6 @@ pub fn after_event(alloc: Global, store: &Store, event: &DocEvent, encoding: Enc
     let mut store = copy_of(alloc, store)?;
     let refused = refusal(take(&mut store, event, encoding))?;
     Ok(After { store, refused })
-}
-
-/// The nth document, in the order of the uris. `None` exactly where there is no nth.
-pub fn nth(store: &Store, n: u32) -> Option<Opened<'_>>
-    ensures exact { option_map opened result ≡ slice_get (entries store.now) n }
-    ensures short { IfSome result (λ document. length document.text.now ≤ max_text) }
-    ensures few { length (entries store.now) ≤ max_documents }
-{
-    let uri = store.doc(n)?;
-    let version = store.version(uri)?;
-    let text = store.text(uri)?;
-    Some(Opened { uri, version, text })
 }
 
 /// A copy of all documents.

@@ -6,36 +6,36 @@ ghost use Rattle.std.specs.List.Sorted.{IsStrictlySortedBy};
 ghost use Rattle.ls_base.specs.Limits.{max_documents};
 ghost use Rattle.scheme_model.specs.Diagnostics.{bytes_of};
 ghost use Rattle.document_store.specs.Texts as store;
-ghost use Rattle.workspace_state.specs.Listed.{AreFoundOf};
+ghost use Rattle.document_units.specs.Listed.{AreFoundOf};
 ghost use Rattle.workspace_state.specs.ProgramOfTexts.{IsProgramOfTexts};
-ghost use Rattle.workspace_state.specs.Readings.{Read, AreReadAs, first_unread, program_in};
+ghost use Rattle.document_units.specs.Readings.{Read, AreReadAs, first_unread, program_in};
 ghost use Rattle.core_tree.specs.Units.{IsProgramOf};
 ghost use Rattle.arrow_index.specs.Formed.{AreFormedIn};
 ghost use Rattle.arrow_index.specs.Index.{pair_cmp};
-ghost use Rattle.workspace_state.specs.AskedOf.{IsSource};
+ghost use Rattle.program_answers.specs.AskedOf.{IsSource};
 ghost use Rattle.workspace_state.specs.Indexed.{index_in};
-ghost use Rattle.workspace_state.specs.Classed.{IsClassAt, standard_for};
-ghost use Rattle.workspace_state.specs.ToldAnswers.{answer_of, facts_in, name_there, query_of};
-ghost use Rattle.workspace_state.specs.Placed.{IsErrorAt, IsIn, IsPlace, form_bytes};
-ghost use Rattle.workspace_state.specs.Places.{spans_of};
-ghost use Rattle.workspace_state.specs.UnitsFound.{first_error_at};
+ghost use Rattle.program_answers.specs.Classed.{IsClassAt, standard_for};
+ghost use Rattle.program_answers.specs.ToldAnswers.{answer_of, facts_in, name_there, query_of};
+ghost use Rattle.program_answers.specs.Placed.{IsErrorAt, IsIn, IsPlace, form_bytes};
+ghost use Rattle.document_units.specs.Places.{spans_of};
+ghost use Rattle.document_units.specs.UnitFindings.{first_error_at};
 ghost use Rattle.workspace_state.specs.Events.{leaves, event_of, fault_of, uri_of};
-ghost use Rattle.workspace_state.specs.Updates.{Publishes};
+ghost use Rattle.program_answers.specs.Updates.{Publishes};
 
-use crate::answers::answer;
-use crate::asked::Asked;
-use crate::classes::{Class, class_at, standard_at};
 use crate::events::{DocEvent, Updated};
 use crate::expansion::{Expansion, Indexed};
-use crate::findings::Sorted;
-use crate::lists::{Lists, lists, published};
-use crate::open::Open;
-use crate::places::PlacedError;
-use crate::program::{Reading, read_program};
 use crate::texts::{After, after_event};
 use core_tree::units::Program;
 use document_store::Store;
+use document_units::findings::Sorted;
+use document_units::places::PlacedError;
 use ls_base::{Answer, Encoding, Items, Mem, Place, Pos, Query, Steps, Text};
+use program_answers::answers::answer;
+use program_answers::asked::Asked;
+use program_answers::classes::{Class, class_at, standard_at};
+use program_answers::lists::{Lists, lists, published};
+use program_answers::open::Open;
+use program_expansion::program::{Reading, read_program};
 use scheme_model::Occ;
 use std::alloc::Global;
 use std::collections::BTreeMap;
@@ -56,7 +56,7 @@ pub struct Workspace {
 
 impl Model for Workspace {
     ghost use Rattle.workspace_state.specs.State.{State, state_code, BelongTo};
-    ghost use Rattle.workspace_state.specs.Updates.{entries_shown};
+    ghost use Rattle.program_answers.specs.Updates.{entries_shown};
 
     ghost Value = { State };
 

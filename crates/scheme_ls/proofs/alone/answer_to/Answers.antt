@@ -1,5 +1,5 @@
 use Rattle.std.proofs.Common.{List, subst, sym}
-use Rattle.workspace_state.specs.declared.events.Published.{Published}
+use Rattle.program_answers.specs.declared.publications.Published.{Published}
 use Rattle.scheme_ls.specs.Alone.{HoldsAlone}
 use Rattle.scheme_ls.proofs.alone.answer_to.Goals as goal
 

@@ -1,7 +1,7 @@
 -- What is read belongs to the texts.
 use Rattle.std.proofs.Common.{◌∙◌}
 use Rattle.std.specs.FinMap.{entries}
-use Rattle.workspace_state.proofs.TextLaws.{as_many}
+use Rattle.program_answers.proofs.TextLaws.{as_many}
 use Rattle.workspace_state.proofs.workspace.read_all.Goals as goal
 
 pub returns-clause-findings : goal.returns-clause-findings

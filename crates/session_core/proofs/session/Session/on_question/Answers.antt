@@ -1,4 +1,4 @@
-use Rattle.workspace_state.specs.ToldAnswers.{query_of}
+use Rattle.program_answers.specs.ToldAnswers.{query_of}
 use Rattle.session_core.specs.FromWire.{said_id}
 use Rattle.session_core.proofs.Asking.{replies_so}
 use Rattle.session_core.proofs.session.Session.on_question.Goals as goal

@@ -5,7 +5,7 @@ use Rattle.std.specs.List.Sorted.{IsStrictlySortedBy}
 use Rattle.arrow_index.specs.Index.{pair_cmp}
 use Rattle.arrow_index.specs.declared.index.Index.{Index}
 use Rattle.workspace_state.specs.Indexed.{index_in}
-use Rattle.workspace_state.specs.ToldAnswers.{answer_of, query_of}
+use Rattle.program_answers.specs.ToldAnswers.{answer_of, query_of}
 use Rattle.workspace_state.proofs.IndexedLaws.{same_source}
 use Rattle.workspace_state.proofs.workspace.Workspace.answer.Goals as goal
 

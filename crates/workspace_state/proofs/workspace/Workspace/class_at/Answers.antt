@@ -4,8 +4,8 @@ use Rattle.std.specs.FinMap.{entries}
 use Rattle.ls_base.specs.declared.encoding.Encoding.{Encoding}
 use Rattle.document_store.specs.Texts.{Texts}
 use Rattle.workspace_state.specs.Indexed.{index_in}
-use Rattle.workspace_state.specs.Classed.{IsClassAt}
-use Rattle.workspace_state.specs.ToldAnswers.{facts_in, name_there}
+use Rattle.program_answers.specs.Classed.{IsClassAt}
+use Rattle.program_answers.specs.ToldAnswers.{facts_in, name_there}
 use Rattle.workspace_state.proofs.IndexedLaws.{same_source}
 use Rattle.workspace_state.proofs.workspace.Workspace.class_at.Goals as goal
 

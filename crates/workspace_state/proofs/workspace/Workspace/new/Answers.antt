@@ -1,7 +1,7 @@
 -- Nothing is open.
 use Rattle.std.proofs.Common.{ap, map}
 use Rattle.ls_base.specs.declared.encoding.Encoding.TheVariants.{Utf16}
-use Rattle.workspace_state.specs.Updates.{entries_shown}
+use Rattle.program_answers.specs.Updates.{entries_shown}
 use Rattle.workspace_state.proofs.NoTexts.{no_program, no_lists}
 use Rattle.workspace_state.proofs.workspace.Workspace.new.Goals as goal
 

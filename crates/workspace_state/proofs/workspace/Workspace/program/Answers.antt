@@ -6,9 +6,9 @@ use Rattle.scheme_tokens.specs.LibraryNames.{library_text}
 use Rattle.syntax_tree.specs.declared.trees.Work.{Work}
 use Rattle.core_tree.specs.Units.{ProgramStands}
 use Rattle.core_tree.specs.declared.units.Program.{Program}
-use Rattle.workspace_state.specs.Readings.{data_in, program_in}
+use Rattle.document_units.specs.Readings.{data_in, program_in}
 use Rattle.workspace_state.specs.State.{State}
-use Rattle.workspace_state.proofs.TextLists.{some_row}
+use Rattle.program_answers.proofs.TextLists.{some_row}
 use Rattle.workspace_state.proofs.workspace.Workspace.program.Goals as goal
 
 pub returns-clause-stands : goal.returns-clause-stands

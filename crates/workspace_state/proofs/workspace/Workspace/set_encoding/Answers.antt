@@ -1,7 +1,7 @@
 -- No document is open whose diagnostics have positions.
 use Rattle.std.proofs.Common.{ap, ◌∙◌}
 use Rattle.workspace_state.specs.State.{State}
-use Rattle.workspace_state.specs.Updates.{entries_shown}
+use Rattle.program_answers.specs.Updates.{entries_shown}
 use Rattle.workspace_state.proofs.NoTexts.{other_lists}
 use Rattle.workspace_state.proofs.workspace.Workspace.set_encoding.Goals as goal
 

@@ -2,8 +2,8 @@
 use Rattle.std.proofs.Common.{◌∙◌}
 use Rattle.std.specs.FinMap.{entries}
 use Rattle.workspace_state.specs.Indexed.{index_in}
-use Rattle.workspace_state.specs.Classed.{standard_for}
-use Rattle.workspace_state.specs.ToldAnswers.{facts_in, name_there}
+use Rattle.program_answers.specs.Classed.{standard_for}
+use Rattle.program_answers.specs.ToldAnswers.{facts_in, name_there}
 use Rattle.workspace_state.proofs.IndexedLaws.{same_source}
 use Rattle.workspace_state.proofs.workspace.Workspace.standard_at.Goals as goal
 

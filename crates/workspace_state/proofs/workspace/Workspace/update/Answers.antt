@@ -5,15 +5,15 @@ use Rattle.std.specs.FinMap.{entries}
 use Rattle.ls_base.specs.declared.encoding.Encoding.{Encoding}
 use Rattle.document_store.specs.Texts.{Texts, after}
 use Rattle.workspace_state.specs.Events.{event_of, fault_of, uri_of}
-use Rattle.workspace_state.specs.Listed.{AreFoundOf}
+use Rattle.document_units.specs.Listed.{AreFoundOf}
 use Rattle.workspace_state.specs.ProgramOfTexts.{IsProgramOfTexts}
-use Rattle.workspace_state.specs.Readings.{Read, AreReadAs}
+use Rattle.document_units.specs.Readings.{Read, AreReadAs}
 use Rattle.workspace_state.specs.State.{State, AreListsFor}
-use Rattle.workspace_state.specs.Updates.{ArePublished, OthersStay, Publishes, entries_shown, list_at}
+use Rattle.program_answers.specs.Updates.{ArePublished, OthersStay, Publishes, entries_shown, list_at}
 use Rattle.workspace_state.proofs.LeavesLaws.{left_texts, not_left, is_left_so}
 use Rattle.workspace_state.proofs.NewsTold.{are_keyed, are_news}
 use Rattle.workspace_state.proofs.OthersLaws.{others_stay}
-use Rattle.workspace_state.proofs.TextLaws.{as_many}
+use Rattle.program_answers.proofs.TextLaws.{as_many}
 use Rattle.workspace_state.proofs.workspace.Workspace.update.Goals as goal
 
 -- the encoding and the texts are those of the workspace

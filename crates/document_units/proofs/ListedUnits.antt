@@ -1,0 +1,333 @@
+-- Units as they are listed: what is read of each, one more at a time, and all of them.
+use Rattle.std.proofs.Common.{◌≡◌, ℕ, zero, suc, ◌+◌, ◌<◌, ◌⊎◌, inl, inr, Bool, true, false, cond, List, [], ◌∷◌, ◌++◌, map, take, length, slice_get, Option, Some, None, Ok, Err, refl, sym, ap, ◌∙◌, subst, append_assoc, append-nil, arith}
+use Rattle.std.specs.Prelude.{nat_lt, nat_le}
+use Rattle.std.specs.Option.{option_map}
+use Rattle.std.proofs.lemmas.Bool.Decides.{nat_tests}
+use Rattle.std.proofs.lemmas.List.{map-append, length_push}
+use Rattle.std.proofs.lemmas.Option.{slice_get_within}
+use Rattle.ls_base.specs.declared.places.Span.{Span}
+use Rattle.scheme_model.specs.Data.{Place, Datum, Data, none, part, tail, place_of}
+use Rattle.scheme_model.specs.Declarations as source
+use Rattle.scheme_model.specs.Declarations.{UnitForm, UnitKind, IsLibrary, is_library, Flat, library_with, library_of, behind_head, program_in}
+use Rattle.scheme_model.specs.Program as model
+use Rattle.scheme_model.specs.Program.{Placed, prepared, ImportSpec, name_if, max_units, declared_fault, forms_or_none, specs_from, exports_from}
+use Rattle.scheme_model.specs.Requirements.{LibraryName, Known}
+use Rattle.scheme_tokens.specs.LibraryNames.{library_text}
+use Rattle.syntax_tree.specs.declared.units.UnitKind as code_kind
+use Rattle.syntax_tree.specs.declared.units.UnitKind.TheVariants as kinds
+use Rattle.syntax_tree.proofs.Places.{push_cases, get_within}
+use Rattle.core_tree.specs.Names.{AllMatch}
+use Rattle.core_tree.specs.Units.{kind_as}
+use Rattle.datum_reader.specs.FirstTokens.{first_token}
+use Rattle.datum_reader.specs.Looks.{bytes_of}
+use Rattle.datum_reader.proofs.DatumLaws.{place-datum}
+use Rattle.library_table.specs.Sources.{AreImports, AreExports, IsUnit, AreUnitsFrom}
+use Rattle.library_table.specs.UnitsRead.{kind_of, forms_of, AreSpecs, IsSource}
+use Rattle.library_table.specs.declared.units.ExportSpec as code_export
+use Rattle.library_table.specs.declared.units.ImportSpec as code_import
+use Rattle.library_table.specs.declared.units.UnitForm as code_form
+use Rattle.library_table.specs.declared.units.UnitSource.{UnitSource}
+use Rattle.library_table.proofs.SpelledSources.{imports_spelled, source_spelled}
+use Rattle.document_units.specs.Broken.{told}
+use Rattle.document_units.specs.UnitSources.{IsSourceOf, HaveOneIfSame, IsSpec}
+use Rattle.scheme_model.specs.Sites.{names_in_forms}
+use Rattle.document_units.specs.UnitsListed.{WritesProper, IsReadAt, IsReadFor, IsBlankLibrary, IsOne, AreSoFar, placed_in, AddsRead, AreUnitsListed}
+use Rattle.document_units.specs.WereRead.{FormsRead}
+use Rattle.document_units.specs.declared.listing.WholeFault.{WholeFault}
+use Rattle.document_units.specs.declared.listing.WholeFault.TheVariants as fault
+use Rattle.document_units.specs.declared.listing.Head.{Head}
+use Rattle.document_units.specs.declared.listing.Units.{Units}
+use Rattle.document_units.proofs.ExportsRead.{exports_read}
+use Rattle.document_units.proofs.OneIfSame.{all_from}
+use Rattle.document_units.proofs.RenamedLaws.{AreDeclaredRead}
+use Rattle.document_units.proofs.UnitStarts.{library_token, program_token}
+
+-- ---- names that units are known by
+
+usable_name : (u : source.UnitSource) (fs : List UnitForm) → u.forms ≡ Ok fs → name_if 0 u ≡ u.name
+usable_name u fs e = subst (λ (f : Flat). name_if 0 (record u { forms = f }) ≡ u.name) (sym e) refl
+
+no_name_if : (u : source.UnitSource) (d : Datum) → u.forms ≡ Err d → name_if 0 u ≡ None
+no_name_if u d e = subst (λ (f : Flat). name_if 0 (record u { forms = f }) ≡ None) (sym e) refl
+
+foremost_name : (n : ℕ) (u : source.UnitSource) → n < max_units → name_if n u ≡ name_if 0 u
+foremost_name n u lt = let t : nat_lt n max_units ≡ true = grind (arith, nat_tests) in ap (λ (b : Bool). cond b (name_if 0 u) None) t
+
+-- ---- a source that was read
+
+kinds_same : (k : code_kind.UnitKind) → kind_as k ≡ kind_of k
+kinds_same kinds.Library = refl
+kinds_same kinds.Program = refl
+
+declared_read : (fs : List UnitForm) → FormsRead fs → AreDeclaredRead fs
+declared_read [] h = tt
+declared_read (f ∷ fs) h = (λ _. h.0, declared_read fs h.1)
+
+specs_match : (spelled : LibraryName → List ℕ) (cs : List code_import.ImportSpec) (ss : List ImportSpec) → AreSpecs cs ss → AreImports spelled cs ss → AllMatch (IsSpec spelled) cs ss
+specs_match spelled [] [] h k = tt
+specs_match spelled [] (s ∷ ss) h k = absurd h
+specs_match spelled (c ∷ cs) [] h k = absurd h
+specs_match spelled (c ∷ cs) (s ∷ ss) h k = (record { set = k.0; whole = h.0.span; library = h.0.library }, specs_match spelled cs ss h.1 k.1)
+
+imports_back : (spelled : LibraryName → List ℕ) (cs : List code_import.ImportSpec) (ss : List ImportSpec) → AllMatch (IsSpec spelled) cs ss → AreImports spelled cs ss
+imports_back spelled [] [] h = tt
+imports_back spelled [] (s ∷ ss) h = absurd h
+imports_back spelled (c ∷ cs) [] h = absurd h
+imports_back spelled (c ∷ cs) (s ∷ ss) h = (h.0.set, imports_back spelled cs ss h.1)
+
+library_kind : (known : Known) (d : Datum) (ds : Data) → (library_with known d ds).kind ≡ IsLibrary
+library_kind known d none = refl
+library_kind known d (tail e) = refl
+library_kind known d (part n ds) = refl
+
+first_name : List source.UnitSource → Option LibraryName
+first_name [] = None
+first_name (u ∷ us) = u.name
+
+program_name : (ds : List Datum) (u : source.UnitSource) → program_in ds ≡ u ∷ [] → u.name ≡ None
+unfolding first_name
+program_name [] u e = absurd cc
+program_name (d ∷ ds) u e = sym (ap first_name e)
+
+-- a place doesn't tell in which list a unit stands
+module _ (spelled : LibraryName → List ℕ) (n : ℕ) (c : UnitSource) where
+  pub source_in : (us vs : List Placed) (p q : Placed) → p.source ≡ q.source → IsSourceOf spelled (prepared us n p) None c → IsSourceOf spelled (prepared vs n q) None c
+  source_in us vs p q e h = record {
+    kind = h.kind ∙ ap (λ (u : source.UnitSource). u.kind) e;
+    forms = sym (ap (λ (u : source.UnitSource). forms_or_none u.forms) e) ∙ h.forms;
+    imports = λ whole. subst (λ (u : source.UnitSource). AllMatch (IsSpec spelled) c.imports (specs_from n 0 (forms_or_none u.forms))) e (h.imports refl);
+    exports = subst (λ (u : source.UnitSource). AreExports c.exports (exports_from n 0 (forms_or_none u.forms))) e h.exports;
+    single = subst (λ (u : source.UnitSource). HaveOneIfSame (exports_from n 0 (forms_or_none u.forms))) e h.single;
+  }
+
+-- the numbers of the first tokens of forms
+firsts_seen : (fs : List code_form.UnitForm) → map (λ (f : code_form.UnitForm). f.datum.first) fs ≡ map (λ (f : UnitForm). (place_of f.datum).first) (forms_of fs)
+firsts_seen [] = refl
+firsts_seen (f ∷ fs) = λ j. (sym (ap (λ (p : Place). p.first) (place-datum f.datum)) j ∷ firsts_seen fs j)
+
+module _ (spelled : LibraryName → List ℕ) (written : WritesProper spelled) (n : ℕ) where
+  source_of : (u : source.UnitSource) (c : UnitSource) (d : Datum) → IsSource n c u d → FormsRead (forms_of c.forms) → IsSourceOf spelled (prepared [] n (record { document = 0; source = u })) None c
+  source_of u c d h read =
+      let forms : forms_or_none u.forms ≡ forms_of c.forms = ap forms_or_none h.forms in
+      record {
+        kind = kinds_same c.kind ∙ h.kind;
+        forms = forms;
+        imports = λ whole. subst (λ (fs : List UnitForm). AllMatch (IsSpec spelled) c.imports (specs_from n 0 fs)) (sym forms)
+            (specs_match spelled c.imports (specs_from n 0 (forms_of c.forms)) h.imports
+            (subst (λ (fs : List UnitForm). AreImports spelled c.imports (specs_from n 0 fs)) forms (imports_spelled spelled written n c u d h)));
+        exports = subst (λ (fs : List UnitForm). AreExports c.exports (exports_from n 0 fs)) (sym forms)
+            (exports_read c.exports n (forms_of c.forms) (declared_read (forms_of c.forms) read) h.exports);
+        single = all_from n 0 (forms_or_none u.forms);
+      }
+
+  -- a library
+  library_at : (known : Known) (d : Datum) (c : UnitSource) (name : Option (List ℕ)) → true ≡ is_library d → FormsRead (forms_of c.forms) → IsSource n c (library_of known d) d → name ≡ option_map library_text (library_of known d).name → IsReadAt spelled n (library_of known d) name c None
+  library_at known d c name lib read h is = record {
+    name = is;
+    spells = λ whole. is ∙ (sym h.name ∙ source_spelled spelled written known n c d h);
+    bad = ap (λ (f : Flat). option_map told (declared_fault f None)) (sym h.forms);
+    named = source_spelled spelled written known n c d h ∙ ap (option_map spelled) (sym (usable_name (library_of known d) (forms_of c.forms) h.forms));
+    span = h.span ∙ library_token known d lib;
+    source = source_of (library_of known d) c d h read;
+    read = read;
+  }
+
+  -- a library that has a bad declaration
+  blank_at : (known : Known) (d e : Datum) (c : UnitSource) (span : Span) (name : Option (List ℕ)) → true ≡ is_library d → c.span ≡ first_token d → IsBlankLibrary c → (library_of known d).forms ≡ Err e → span ≡ bytes_of e → name ≡ option_map library_text (library_of known d).name →
+      IsReadAt spelled n (library_of known d) name c (Some (fault.BadDeclaration span))
+  blank_at known d e c span name lib token blank bad at is =
+      let nothing : forms_or_none (library_of known d).forms ≡ [] = ap forms_or_none bad in
+      record {
+        name = is;
+        spells = λ k. (let z : Some (model.BadDeclaration e) ≡ None = sym (ap (λ (f : Flat). declared_fault f None) bad) ∙ k in absurd cc);
+        bad = ap (λ (s : Span). Some (fault.BadDeclaration s)) at ∙ ap (λ (f : Flat). option_map told (declared_fault f None)) (sym bad);
+        named = blank.name ∙ ap (option_map spelled) (sym (no_name_if (library_of known d) e bad));
+        span = token ∙ library_token known d lib;
+        source = record {
+          kind = ap kind_as blank.kind ∙ sym (library_kind known d (behind_head d));
+          forms = nothing ∙ ap forms_of (sym blank.forms);
+          imports = λ k. subst (λ (cs : List code_import.ImportSpec). AllMatch (IsSpec spelled) cs (specs_from n 0 (forms_or_none (library_of known d).forms))) (sym blank.imports)
+              (subst (λ (fs : List UnitForm). AllMatch (IsSpec spelled) [] (specs_from n 0 fs)) (sym nothing) tt);
+          exports = subst (λ (cs : List code_export.ExportSpec). AreExports cs (exports_from n 0 (forms_or_none (library_of known d).forms))) (sym blank.exports)
+              (subst (λ (fs : List UnitForm). AreExports [] (exports_from n 0 fs)) (sym nothing) tt);
+          single = all_from n 0 (forms_or_none (library_of known d).forms);
+        };
+        read = subst (λ (fs : List code_form.UnitForm). FormsRead (forms_of fs)) (sym blank.forms) tt;
+      }
+
+  -- a program
+  program_at : (ds rest : List Datum) (u : source.UnitSource) (c : UnitSource) (d : Datum) → ds ≡ d ∷ rest → FormsRead (forms_of c.forms) → program_in ds ≡ u ∷ [] → IsSource n c u d → IsReadAt spelled n u None c None
+  program_at ds rest u c d begins read one h =
+      let unnamed : u.name ≡ None = program_name ds u one in
+      record {
+        name = sym (ap (option_map library_text) unnamed);
+        spells = λ whole. sym (ap (option_map spelled) unnamed);
+        bad = ap (λ (f : Flat). option_map told (declared_fault f None)) (sym h.forms);
+        named = h.name ∙ ap (option_map library_text) unnamed ∙ sym (ap (option_map spelled) (usable_name u (forms_of c.forms) h.forms ∙ unnamed));
+        span = h.span ∙ program_token d rest u (ap program_in (sym begins) ∙ one);
+        source = source_of u c d h read;
+        read = read;
+      }
+
+pub library_for : (known : Known) (n : ℕ) (d : Datum) (c : UnitSource) (name : Option (List ℕ)) → true ≡ is_library d → FormsRead (forms_of c.forms) → IsSource n c (library_of known d) d → name ≡ option_map library_text (library_of known d).name → IsReadFor n (library_of known d) name c None
+library_for known n d c name lib read h is spelled written = library_at spelled written n known d c name lib read h is
+
+pub blank_for : (known : Known) (n : ℕ) (d e : Datum) (c : UnitSource) (span : Span) (name : Option (List ℕ)) → true ≡ is_library d → c.span ≡ first_token d → IsBlankLibrary c → (library_of known d).forms ≡ Err e → span ≡ bytes_of e → name ≡ option_map library_text (library_of known d).name →
+    IsReadFor n (library_of known d) name c (Some (fault.BadDeclaration span))
+blank_for known n d e c span name lib token blank bad at is spelled written = blank_at spelled written n known d e c span name lib token blank bad at is
+
+pub program_for : (n : ℕ) (ds rest : List Datum) (u : source.UnitSource) (c : UnitSource) (d : Datum) → ds ≡ d ∷ rest → FormsRead (forms_of c.forms) → program_in ds ≡ u ∷ [] → IsSource n c u d → IsReadFor n u None c None
+program_for n ds rest u c d begins read one h spelled written = program_at spelled written n ds rest u c d begins read one h
+
+-- ---- one unit more
+
+-- what breaks a unit by itself
+abbrev pub fault_with : ℕ → Option WholeFault → Option WholeFault
+fault_with n bad = cond (nat_le max_units n) (Some fault.TooMany) bad
+
+module _ (spelled : LibraryName → List ℕ) (n : ℕ) (document : ℕ) (u : source.UnitSource) (name : Option (List ℕ)) (c : UnitSource) (bad : Option WholeFault) (is : IsReadAt spelled n u name c bad) where
+  faults : (b : Bool) → cond b (Some fault.TooMany) bad ≡ option_map told (cond b (Some model.TooMany) (declared_fault u.forms None))
+  faults true = refl
+  faults false = is.bad
+
+  names : (f : Flat) → u.forms ≡ f → (b : Bool) → nat_le max_units n ≡ b → cond b (Some model.TooMany) (declared_fault f None) ≡ None → name ≡ option_map spelled (name_if n u)
+  names f e true test whole = absurd cc
+  names (Err d) e false test whole = absurd cc
+  names (Ok fs) e false test whole =
+      let lt : n < max_units = grind (arith, nat_tests) in
+      is.spells (ap (λ (f : Flat). declared_fault f None) e) ∙ ap (option_map spelled) (sym (foremost_name n u lt ∙ usable_name u fs e))
+
+  one_of : (h : Head) → h.document ≡ document → h.kind ≡ c.kind → h.name ≡ name → h.span ≡ c.span → h.firsts.items ≡ map (λ f. f.datum.first) c.forms → h.names.items ≡ names_in_forms n 0 (forms_of c.forms) → h.imports ≡ [] → h.fault ≡ fault_with n bad → IsOne spelled n (placed_in document u) h c
+  one_of h doc kind called span firsts named imports broken = record {
+    told = record {
+      document = doc;
+      kind = ap kind_as kind ∙ is.source.kind;
+      name = called ∙ is.name;
+      span = span ∙ is.span;
+      firsts = firsts ∙ (firsts_seen c.forms ∙ ap (λ (fs : List UnitForm). map (λ (f : UnitForm). (place_of f.datum).first) fs) (sym is.source.forms));
+      names = named ∙ ap (λ (fs : List UnitForm). names_in_forms n 0 fs) (sym is.source.forms);
+    };
+    listed = record {
+      fault = broken ∙ faults (nat_le max_units n);
+      name = λ whole. called ∙ names u.forms refl (nat_le max_units n) refl whole;
+      imports = imports;
+    };
+    named = is.named;
+    source = source_in spelled n c [] [] (record { document = 0; source = u }) (placed_in document u) refl is.source;
+    read = is.read;
+  }
+
+-- a list with one item more
+module _ {A : Type 0} (xs : List A) (x : A) (m n : ℕ) (y : A) (many : length xs ≡ m) where
+  is_old : n < m → slice_get (xs ++ x ∷ []) n ≡ Some y → slice_get xs n ≡ Some y
+  is_old lt at = go (push_cases xs x n y at)
+    where
+      go : (slice_get xs n ≡ Some y) ⊎ ((n ≡ length xs) × (y ≡ x)) → slice_get xs n ≡ Some y
+      go (inl h) = h
+      go (inr h) = let last = h.0 in absurd (omega (arith, last, lt, many))
+
+  is_last : n ≡ m → slice_get (xs ++ x ∷ []) n ≡ Some y → y ≡ x
+  is_last e at = go (push_cases xs x n y at)
+    where
+      go : (slice_get xs n ≡ Some y) ⊎ ((n ≡ length xs) × (y ≡ x)) → y ≡ x
+      go (inl h) = let low = slice_get_within xs n y h in absurd (omega (arith, low, e, many))
+      go (inr h) = h.1
+
+module _ (spelled : LibraryName → List ℕ) (all : List Placed) (old new : Units) (p : Placed) (h : Head) (c : UnitSource) (far : AreSoFar spelled all old)
+    (heads : new.heads.items ≡ old.heads.items ++ h ∷ []) (sources : new.sources.items ≡ old.sources.items ++ c ∷ []) (one : IsOne spelled (length all) p h c) where
+  each_more : (n : ℕ) (q : Placed) (g : Head) (d : UnitSource) → slice_get (all ++ p ∷ []) n ≡ Some q → slice_get (old.heads.items ++ h ∷ []) n ≡ Some g → slice_get (old.sources.items ++ c ∷ []) n ≡ Some d → IsOne spelled n q g d
+  each_more n q g d there head at = go (push_cases all p n q there)
+    where
+      go : (slice_get all n ≡ Some q) ⊎ ((n ≡ length all) × (q ≡ p)) → IsOne spelled n q g d
+      go (inl k) =
+          let lt : n < length all = slice_get_within all n q k in
+          far.each n q g d k (is_old old.heads.items h (length all) n g far.heads lt head) (is_old old.sources.items c (length all) n d far.sources lt at)
+      go (inr k) =
+          let g_is : g ≡ h = is_last old.heads.items h (length all) n g far.heads k.0 head in
+          let d_is : d ≡ c = is_last old.sources.items c (length all) n d far.sources k.0 at in
+          subst (λ (m : ℕ). IsOne spelled m q g d) (sym k.0)
+          (subst (λ (r : Placed). IsOne spelled (length all) r g d) (sym k.1)
+          (subst (λ (f : Head). IsOne spelled (length all) p f d) (sym g_is) (subst (λ (e : UnitSource). IsOne spelled (length all) p h e) (sym d_is) one)))
+
+  more_so_far : AreSoFar spelled (all ++ p ∷ []) new
+  more_so_far = record {
+    heads = ap (λ (hs : List Head). length hs) heads ∙ length_push old.heads.items h ∙ ap (λ (n : ℕ). n + 1) far.heads ∙ sym (length_push all p);
+    sources = ap (λ (cs : List UnitSource). length cs) sources ∙ length_push old.sources.items c ∙ ap (λ (n : ℕ). n + 1) far.sources ∙ sym (length_push all p);
+    each = λ n q g d there head at. each_more n q g d there (sym (ap (λ (hs : List Head). slice_get hs n) heads) ∙ head) (sym (ap (λ (cs : List UnitSource). slice_get cs n) sources) ∙ at);
+  }
+
+-- a unit was added with its head
+pub unit_added : (document : ℕ) (u : source.UnitSource) (old new : Units) (h : Head) (c : UnitSource) (name : Option (List ℕ)) (bad : Option WholeFault) → IsReadFor (length old.sources.items) u name c bad →
+    h.document ≡ document → h.kind ≡ c.kind → h.name ≡ name → h.span ≡ c.span → h.firsts.items ≡ map (λ f. f.datum.first) c.forms → h.names.items ≡ names_in_forms (length old.sources.items) 0 (forms_of c.forms) → h.imports ≡ [] → h.fault ≡ fault_with (length old.sources.items) bad →
+    new.heads.items ≡ old.heads.items ++ h ∷ [] → new.sources.items ≡ old.sources.items ++ c ∷ [] → AddsRead document (u ∷ []) old new
+unit_added document u old new h c name bad read doc kind called span firsts named imports broken heads sources spelled written all far =
+    more_so_far spelled all old new (placed_in document u) h c far heads sources
+    (subst (λ (n : ℕ). IsOne spelled n (placed_in document u) h c) far.sources
+    (one_of spelled (length old.sources.items) document u name c bad (read spelled written) h doc kind called span firsts named imports broken))
+
+-- ---- units of a document
+
+pub nothing_added : (document : ℕ) (u : Units) → AddsRead document [] u u
+nothing_added document u spelled written all far = subst (λ (ps : List Placed). AreSoFar spelled ps u) (sym (append-nil all)) far
+
+pub added_more : (document : ℕ) (us vs : List source.UnitSource) (old mid new : Units) → AddsRead document us old mid → AddsRead document vs mid new → AddsRead document (us ++ vs) old new
+added_more document us vs old mid new first next spelled written all far =
+    subst (λ (ps : List Placed). AreSoFar spelled ps new) (append_assoc all (map (placed_in document) us) (map (placed_in document) vs) ∙ ap (λ (ps : List Placed). all ++ ps) (sym (map-append (placed_in document) us vs)))
+    (next spelled written (all ++ map (placed_in document) us) (first spelled written all far))
+
+-- ---- all units
+
+module _ (spelled : LibraryName → List ℕ) (all : List Placed) (u : Units) (far : AreSoFar spelled all u) where
+  head_at : (n : ℕ) (p : Placed) → slice_get all n ≡ Some p → (h : Head) × (slice_get u.heads.items n ≡ Some h)
+  head_at n p there = get_within u.heads.items n (let lt = slice_get_within all n p there in let many = far.heads in omega arith)
+
+  source_at : (n : ℕ) (p : Placed) → slice_get all n ≡ Some p → (c : UnitSource) × (slice_get u.sources.items n ≡ Some c)
+  source_at n p there = get_within u.sources.items n (let lt = slice_get_within all n p there in let many = far.sources in omega arith)
+
+  unit_of : (n : ℕ) (p : Placed) (c : UnitSource) → n < max_units → slice_get all n ≡ Some p → slice_get u.sources.items n ≡ Some c → IsUnit spelled n c p.source
+  unit_of n p c lt there at =
+      let h = head_at n p there in
+      let one = far.each n p h.0 c there h.1 at in
+      record {
+        name = one.named ∙ ap (option_map spelled) (sym (foremost_name n p.source lt));
+        imports = imports_back spelled c.imports (specs_from n 0 (forms_or_none p.source.forms)) (one.source.imports refl);
+        exports = one.source.exports;
+      }
+
+units_up : (spelled : LibraryName → List ℕ) (m n : ℕ) (cs : List UnitSource) (ps : List Placed) → length cs ≡ length ps → ((k : ℕ) (c : UnitSource) (p : Placed) → k < m → slice_get cs k ≡ Some c → slice_get ps k ≡ Some p → IsUnit spelled (n + k) c p.source) →
+    AreUnitsFrom spelled n (take m cs) (take m ps)
+units_up spelled zero n cs ps many each = tt
+units_up spelled (suc m) n [] [] many each = tt
+units_up spelled (suc m) n [] (p ∷ ps) many each = absurd (omega arith)
+units_up spelled (suc m) n (c ∷ cs) [] many each = absurd (omega arith)
+units_up spelled (suc m) n (c ∷ cs) (p ∷ ps) many each = (
+  subst (λ (k : ℕ). IsUnit spelled k c p.source) (omega arith) (each 0 c p (omega arith) refl refl),
+  units_up spelled m (suc n) cs ps (omega arith)
+      (λ k d q lt at there. subst (λ (i : ℕ). IsUnit spelled i d q.source) (moved k) (each (suc k) d q (omega arith) at there)),
+)
+  where
+    moved : (k : ℕ) → n + suc k ≡ suc n + k
+    moved k = omega arith
+
+pub all_listed : (spelled : LibraryName → List ℕ) (all : List Placed) (u : Units) → AreSoFar spelled all u → AreUnitsListed spelled all u
+all_listed spelled all u far = record {
+  units = units_up spelled max_units 0 u.sources.items all far.sources (λ k c p lt at there. subst (λ (i : ℕ). IsUnit spelled i c p.source) (from_zero k) (unit_of spelled all u far k p c lt there at));
+  listed = record {
+    count = far.heads;
+    each = λ n p h there at. (let c = source_at spelled all u far n p there in (far.each n p h c.0 there at c.1).listed);
+  };
+  read = λ n p c there at. (let h = head_at spelled all u far n p there in source_in spelled n c [] all p p refl (far.each n p h.0 c there h.1 at).source);
+  told = λ n p h there at. (let c = source_at spelled all u far n p there in (far.each n p h c.0 there at c.1).told);
+  forms = λ n c at. forms_at n c at;
+}
+  where
+    from_zero : (k : ℕ) → k ≡ 0 + k
+    from_zero k = omega arith
+
+    forms_at : (n : ℕ) (c : UnitSource) → slice_get u.sources.items n ≡ Some c → FormsRead (forms_of c.forms)
+    forms_at n c at =
+        let lt = slice_get_within u.sources.items n c at in
+        let many = far.sources in
+        let p = get_within all n (omega arith) in
+        let h = head_at spelled all u far n p.0 p.1 in
+        (far.each n p.0 h.0 c p.1 h.1 at).read

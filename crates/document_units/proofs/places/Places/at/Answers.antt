@@ -1,0 +1,44 @@
+-- The unit's document is there, and the token is found by its form's first one.
+use Rattle.std.proofs.Common.{◌≡◌, ◌<◌, ◌+◌, sym, ap, ◌∙◌, arith, length, slice_get, Some, refl, map}
+use Rattle.std.proofs.lemmas.Option.{slice_get_read}
+use Rattle.scheme_model.specs.Diagnostics.{Span, Bytes, span_at}
+use Rattle.document_units.specs.Readings.{span_seen}
+use Rattle.document_units.specs.Places.{bytes_at, number_at}
+use Rattle.document_units.specs.declared.documents.Document.{Document}
+use Rattle.document_units.proofs.Nths.{get_some, get_none}
+use Rattle.document_units.proofs.PlaceLaws.{at_is, at_no_unit}
+use Rattle.document_units.proofs.places.Places.at.Goals as goal
+use Rattle.document_units.proofs.places.Places.at.Goals.{In-Some}
+
+head : (c : In-Some) → slice_get c.args.self.now.heads.now c.args.occ.unit ≡ Some c.in-Some.head.now
+head c = get_some c.args.self.now.heads.now c.args.occ.unit c.in-Some.head.now (sym c.in-Some.ensures.lookup.0) c.in-Some.ensures.lookup.1
+
+inside : (c : In-Some) → c.in-Some.head.now.document < length c.args.self.now.documents.now
+inside c = c.requires c.args.occ.unit c.in-Some.head.now (head c)
+
+pub returns-in_default-clause-exact : goal.returns-in_default-clause-exact
+returns-in_default-clause-exact c = λ rs us are.
+    ap bytes_at c.nowhere.ensures ∙ at_no_unit c.args.self.now rs us are c.args.occ (get_none c.args.self.now.heads.now c.args.occ.unit (sym c.in_default.ensures.lookup.0))
+
+pub bounds-self-document : goal.bounds-self-document
+bounds-self-document c = inside (goal.at.bounds-self-document c).In-Some
+
+pub offset_bounds-self-document : goal.offset_bounds-self-document
+offset_bounds-self-document c =
+    let below : c.in-Some.head.now.document < length c.args.self.now.documents.now = inside (goal.at.offset_bounds-self-document c).In-Some in
+    omega arith
+
+pub returns-clause-inside : goal.returns-clause-inside
+returns-clause-inside c = λ _. inside (goal.at.returns-clause-inside c).In-Some
+
+pub returns-clause-exact : goal.returns-clause-exact
+returns-clause-exact c = λ rs us are.
+    let first : c.first_of-first.result ≡ number_at c.in-Some.head.now.firsts.items c.args.occ.form = c.first_of-first.ensures ∙ ap (λ xs. number_at xs c.args.occ.form) c.as_slice.ensures.value in
+    let span : ◌≡◌ {A = Span} (span_seen c.span_at.result) (span_at (map span_seen c.index-self-document.result.spans.items) (number_at c.in-Some.head.now.firsts.items c.args.occ.form + c.args.occ.token)) =
+    c.span_at.ensures ∙ (λ i. span_at (map span_seen (c.as_slice-spans.ensures.value i)) (first i + c.args.occ.token))
+    ∙ ap (λ (d : Document). span_at (map span_seen d.spans.items) (number_at c.in-Some.head.now.firsts.items c.args.occ.form + c.args.occ.token)) (sym c.index-self-document.is) in
+    let whole : ◌≡◌ {A = Bytes} (record { document = c.in-Some.head.now.document; span = span_seen c.span_at.result })
+    (record { document = c.in-Some.head.now.document; span = span_at (map span_seen c.index-self-document.result.spans.items) (number_at c.in-Some.head.now.firsts.items c.args.occ.form + c.args.occ.token) }) =
+    λ i. record { document = c.in-Some.head.now.document; span = span i } in
+    whole ∙ at_is c.args.self.now rs us are c.args.occ c.in-Some.head.now c.index-self-document.result (head (goal.at.returns-clause-exact c).In-Some)
+    (slice_get_read c.args.self.now.documents.now (length c.args.self.now.documents.now) c.in-Some.head.now.document c.index-self-document.result refl (inside (goal.at.returns-clause-exact c).In-Some) c.index-self-document.is)

@@ -1,0 +1,120 @@
+-- What the code finds in forms, beside the definition's diagnostics and Errors.
+use Rattle.std.specs.Prelude.{◌≡◌, ℕ, List, [], ◌∷◌, ◌++◌, Option, Some, None, Result, Ok, Err, codes}
+use Rattle.std.specs.BTreeMap.{BTreeMap}
+use Rattle.scheme_model.specs.declared.Occ.{Occ}
+use Rattle.scheme_model.specs.Ident.{Ident, symbol_of}
+use Rattle.scheme_model.specs.ExpansionFaults.{Named, Fault, fault_code, fault_name}
+use Rattle.scheme_model.specs.Meaning.{Meaning, Local, Global, Standard, Free}
+use Rattle.scheme_model.specs.Cores.{Parts, Target}
+use Rattle.scheme_model.specs.Steps.{Broken}
+use Rattle.scheme_model.specs.UnitExpansion.{Formed}
+use Rattle.scheme_model.specs.Data.{place_of}
+use Rattle.scheme_model.specs.Program as model
+use Rattle.scheme_model.specs.Diagnostics.{Bytes, fault_occ, fault_text, or_start}
+use Rattle.core_tree.specs.Traces.{error_text}
+use Rattle.document_units.specs.declared.listing.WholeFault.{WholeFault}
+use Rattle.document_units.specs.declared.listing.WholeFault.TheVariants as code
+use Rattle.document_units.specs.declared.findings.At.{At}
+use Rattle.document_units.specs.declared.findings.Finding.{Finding}
+use Rattle.document_units.specs.declared.documents.Document.{Document}
+use Rattle.document_units.specs.declared.documents.Unread.{Unread}
+use Rattle.document_units.specs.Wording.{worded}
+use Rattle.document_units.specs.Findings.{at_of}
+
+-- ---- forms
+
+-- what a fault names: the symbol of an identifier, or the text of a `syntax-error`
+abbrev pub named_text : Option (Named Ident) → Option (List ℕ) → List ℕ
+named_text None None = []
+named_text None (Some text) = text
+named_text (Some n) text = symbol_of n.name
+
+abbrev pub fault_names : Fault Ident → List ℕ
+fault_names f = named_text (fault_name f) (error_text f)
+
+-- the finding of a broken form
+abbrev pub fault_found : (Occ → Bytes) → (unit form : ℕ) → Broken → Finding
+fault_found bytes unit form e = record {
+  at = Some (at_of (bytes (or_start unit form (fault_occ unit form (fault_name e.fault) e.here))));
+  form = form;
+  code = fault_code e.fault;
+  message = fault_text e.fault;
+}
+
+abbrev pub result_found : (Occ → Bytes) → ℕ → Result Parts Broken → ℕ → List Finding
+result_found bytes unit (Ok ps) form = []
+result_found bytes unit (Err e) form = fault_found bytes unit form e ∷ []
+
+-- those of forms, in order
+abbrev pub faults_found : (Occ → Bytes) → ℕ → List Formed → List Finding
+faults_found bytes unit [] = []
+faults_found bytes unit (f ∷ fs) = result_found bytes unit f.result f.form ++ faults_found bytes unit fs
+
+-- ---- what means nothing
+
+abbrev pub free_found : (Occ → Bytes) → Meaning → Option Occ → List Finding
+free_found bytes m None = []
+free_found bytes (Local v) (Some o) = []
+free_found bytes (Global u i) (Some o) = []
+free_found bytes (Standard s) (Some o) = []
+free_found bytes (Free s) (Some o) = record { at = Some (at_of (bytes o)); form = o.form; code = 103; message = codes "unbound " ++ s } ∷ []
+
+-- the finding of a use, where it means nothing and stands in a text
+abbrev pub unbound_found : (Occ → Bytes) → Target → List Finding
+unbound_found bytes t = free_found bytes t.meaning t.occ
+
+-- ---- units
+
+-- why a unit is broken as a whole, as the definition says it
+abbrev pub IsWhole : WholeFault → model.WholeFault → Type 0
+IsWhole code.TooMany model.TooMany = Unit {0}
+IsWhole (code.BadDeclaration s) (model.BadDeclaration d) = (s.start ≡ (place_of d).start) × (s.end ≡ (place_of d).end)
+IsWhole code.DefinedTwice model.DefinedTwice = Unit {0}
+IsWhole code.ImportCycle model.ImportCycle = Unit {0}
+IsWhole code.TooLarge model.TooLarge = Unit {0}
+IsWhole code.TooMany (model.BadDeclaration d) = ⊥
+IsWhole code.TooMany model.DefinedTwice = ⊥
+IsWhole code.TooMany model.ImportCycle = ⊥
+IsWhole code.TooMany model.TooLarge = ⊥
+IsWhole (code.BadDeclaration s) model.TooMany = ⊥
+IsWhole (code.BadDeclaration s) model.DefinedTwice = ⊥
+IsWhole (code.BadDeclaration s) model.ImportCycle = ⊥
+IsWhole (code.BadDeclaration s) model.TooLarge = ⊥
+IsWhole code.DefinedTwice model.TooMany = ⊥
+IsWhole code.DefinedTwice (model.BadDeclaration d) = ⊥
+IsWhole code.DefinedTwice model.ImportCycle = ⊥
+IsWhole code.DefinedTwice model.TooLarge = ⊥
+IsWhole code.ImportCycle model.TooMany = ⊥
+IsWhole code.ImportCycle (model.BadDeclaration d) = ⊥
+IsWhole code.ImportCycle model.DefinedTwice = ⊥
+IsWhole code.ImportCycle model.TooLarge = ⊥
+IsWhole code.TooLarge model.TooMany = ⊥
+IsWhole code.TooLarge (model.BadDeclaration d) = ⊥
+IsWhole code.TooLarge model.DefinedTwice = ⊥
+IsWhole code.TooLarge model.ImportCycle = ⊥
+
+abbrev pub whole_number : WholeFault → ℕ
+whole_number code.TooMany = 67
+whole_number (code.BadDeclaration s) = 61
+whole_number code.DefinedTwice = 63
+whole_number code.ImportCycle = 62
+whole_number code.TooLarge = 66
+
+-- a declaration that is bad is told, and else the unit's start
+abbrev pub whole_at : At → WholeFault → At
+whole_at start code.TooMany = start
+whole_at start (code.BadDeclaration s) = record { document = start.document; span = s }
+whole_at start code.DefinedTwice = start
+whole_at start code.ImportCycle = start
+whole_at start code.TooLarge = start
+
+-- ---- documents
+
+-- a document that doesn't read has that alone, and another keeps what it has
+abbrev pub TellsStop : Option Unread → (old new : BTreeMap (ℕ × ℕ × List ℕ) ℕ) → Type 0
+TellsStop None old new = new ≡ old
+TellsStop (Some u) old new = new.entries ≡ ((u.span.start, u.number, worded u.number []), u.span.end) ∷ []
+
+abbrev pub TellsStopOf : Option Document → (old new : BTreeMap (ℕ × ℕ × List ℕ) ℕ) → Type 0
+TellsStopOf None old new = Unit {0}
+TellsStopOf (Some c) old new = TellsStop c.fault old new

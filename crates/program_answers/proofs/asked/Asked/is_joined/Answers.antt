@@ -1,0 +1,10 @@
+use Rattle.std.proofs.Common.{List, sym, subst}
+use Rattle.arrow_index.specs.Classes.{AreSaid}
+use Rattle.arrow_index.specs.declared.links.Link.{Link}
+use Rattle.program_answers.specs.ToldAnswers.{facts_in}
+use Rattle.program_answers.proofs.asked.Asked.is_joined.Goals as goal
+
+pub returns : goal.returns
+returns c = λ rs source.
+    let links = (facts_in rs).links in
+    c.is_joined.ensures links (subst (λ (ls : List Link). AreSaid ls links) (sym c.as_slice.ensures) source.index.links.same)

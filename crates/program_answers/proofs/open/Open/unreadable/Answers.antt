@@ -1,0 +1,12 @@
+-- The documents are those of the texts.
+use Rattle.std.proofs.Common.{List, sym, subst}
+use Rattle.std.specs.FinMap.{entries}
+use Rattle.document_store.specs.Texts.{Texts}
+use Rattle.document_units.specs.Readings.{AreDocuments}
+use Rattle.document_units.specs.declared.documents.Document.{Document}
+use Rattle.program_answers.proofs.open.Open.unreadable.Goals as goal
+
+pub returns : goal.returns
+returns c = λ rs read.
+    c.first_unread.ensures (entries c.args.self.now) rs
+    (subst (λ (cs : List Document). AreDocuments (entries c.args.self.now) cs) (sym c.as_slice.ensures.value) (subst (λ (t : Texts). AreDocuments (entries t) c.self.inside.documents.items) c.self.view_is c.self.invariant.documents)) read

@@ -1,0 +1,43 @@
+pub mod Live  -- Live nodes are no fewer in a work that keeps its trees
+pub mod Enumerated  -- The items of a list with their places
+pub mod Turns  -- Places that stand once each
+pub mod BenchLaws  -- What calls leave of a bench adds up, and units stand in a work that has grown
+pub mod UnitSteps  -- The forms of a unit one more at a time
+pub mod UnitForms  -- The forms of a unit by their numbers
+pub mod FormAtWork  -- While an item is expanded its form stays at work, and work may turn to another form at any time between
+pub mod FormSteps  -- What a step of one form leaves of the others, and what the form itself has then
+pub mod DeclaredForms  -- What forms set aside stands, one form more at a time, and through steps of other forms
+pub mod FormsHold  -- Forms that were gone through are held, one more at a time
+pub mod FormsFinish  -- What a form set aside is expanded
+pub mod FormsFinished  -- What forms set aside is expanded, one form more at a time
+pub mod FormsUnfold  -- What a unit's forms come to, once they were gone through and what they set aside was expanded
+pub mod StandardNames  -- All standard names, gathered library by library
+pub mod PreludeMacros  -- The macros of the prelude, added from the last to the first
+pub mod ImportedNames  -- What a unit imports, by the entries that it is given
+pub mod ReadingLaws  -- The program of documents, one unit more
+pub mod SoundKept  -- Units stay sound while their heads and their sources stay
+pub mod UnitLaws  -- A unit that is begun on a bench, and what its forms tell once they are expanded
+pub mod KnownLaws  -- Which libraries there are, by the texts of their names that are listed
+pub mod TurnSteps  -- One turn more
+pub mod TurnWork  -- Work in turns
+pub mod TurnedLaws  -- The turns of units where some are broken are the order in which the definition of a program works on them, and those that are too many come last and change nothing
+pub mod TurnResults  -- What the program has of each unit, where they come in turns
+pub mod TurnCited  -- One turn more, as what expands the units goes through their places
+pub mod UnitGoes  -- The forms of a unit define nothing of other units, and leave what units import
+pub mod UnitCame  -- A unit is begun on a bench that goes on with what is expanded so far, and what its forms come to is the definition's
+pub mod CameKept  -- What units came to stands for the same in a work that has only grown
+pub mod NamesStay  -- What a unit defines, and what it names in its imports and exports, stays so while other units are expanded
+pub mod UpTo  -- One turn more
+pub mod UpToNext  -- The unit whose turn it is, broken or expanded
+pub mod ProgramOf  -- The program of all units, each at its place
+pub mod UnitsTurns  -- Units in turn
+pub mod CollectLaws  -- Units that are put together by what they came to are those of the definition's program
+pub mod ReadUnits  -- Units that were judged, as they are handed on to be expanded
+pub mod UnitsFoundLaws  -- What is found of a unit is what the definition has of it, part by part, and later units change nothing of it
+pub mod NoImport  -- A program without an import, told by what was read and by the definition
+pub mod FoundNext  -- The unit whose turn it is, broken or expanded
+pub mod TokensAlike  -- The tokens of documents are those of each reading of their texts
+pub mod ToldProgram  -- The units of the whole program, by what came of them, what is found in them and what breaks them
+pub mod DocumentsData  -- The data of the documents are those that their texts are read as
+pub mod HeadsStand  -- The heads of units that were listed are those of the program's units
+pub mod HeadsOf  -- The heads of units have what the units do, as these were listed, judged and worked on

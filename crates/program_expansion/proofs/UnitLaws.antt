@@ -1,0 +1,69 @@
+-- A unit that is begun on a bench, and what its forms tell once they are expanded.
+use Rattle.std.proofs.Common.{◌≡◌, ℕ, List, [], ◌∷◌, ◌++◌, get_or, Bool, Option, refl, sym, ◌∙◌, subst}
+use Rattle.std.proofs.lemmas.Option.{slice_get_within, slice_get-get_or}
+use Rattle.scheme_model.specs.Ident.{Written}
+use Rattle.scheme_model.specs.Meaning.{Meaning}
+use Rattle.scheme_model.specs.Order.{Note}
+use Rattle.scheme_model.specs.ScopedExpansion.{Frames, FramedIdent, ScopedState}
+use Rattle.syntax_tree.specs.Names.{Names, KeepsNames, AreToldApart}
+use Rattle.syntax_tree.specs.Works.{IsOpened}
+use Rattle.syntax_tree.specs.declared.trees.Work.{Work}
+use Rattle.syntax_tree.specs.declared.trees.table.Region.{Region}
+use Rattle.syntax_tree.specs.declared.units.Entry.{Entry}
+use Rattle.core_tree.specs.Names.{AllMatch}
+use Rattle.core_tree.specs.Units.{definitions_from}
+use Rattle.core_tree.specs.declared.cores.Binder.{Binder}
+use Rattle.core_tree.specs.declared.units.UnitForm.{UnitForm}
+use Rattle.unit_scopes.specs.Opened.{ImportsFor, started, with_imports}
+use Rattle.unit_scopes.specs.Stepped.{IsFresh}
+use Rattle.unit_scopes.specs.Units.{UnitStands}
+use Rattle.unit_scopes.specs.declared.scope.Imported.{Imported}
+use Rattle.unit_scopes.proofs.ImportLaws.{same_trees}
+use Rattle.program_expansion.specs.Begun.{IsImport}
+use Rattle.unit_imports.specs.Defined.{AreKnown}
+use Rattle.program_expansion.specs.Forms.{IsBench, IsBegun, AreFormed}
+use Rattle.unit_imports.specs.EntriesMeant.{HaveMeaning, EachOnce}
+use Rattle.program_findings.specs.StandIn.{StandIn}
+use Rattle.program_expansion.specs.declared.forms.Bench.{Bench}
+use Rattle.program_expansion.proofs.BenchLaws.{bench_in}
+use Rattle.unit_imports.proofs.DefinedLaws.{known_definitions}
+use Rattle.program_expansion.proofs.ImportedNames.{meaning_in, imports_for}
+use Rattle.unit_imports.proofs.MeaningLaws.{mean_kept, names_on}
+
+-- what a unit imports, by the entries that it is given
+pub imports_given : (old new : Names) → KeepsNames old new → (xs : List Imported) (es : List Entry) → AllMatch (IsImport new) xs es → HaveMeaning old es → EachOnce es →
+    (imported : List ℕ → Option Meaning) × ImportsFor new xs imported
+imports_given old new keeps xs es all mean once =
+    let m = mean_kept old new keeps es mean in
+    (meaning_in m.0, imports_for new xs es m.0 all m.1 once)
+
+-- a unit that is begun on a bench to whose names some were added
+pub unit_begun : (b c : Bench) (w : Work) (unit : ℕ) (program : Bool) (xs : List Imported) (imported : List ℕ → Option Meaning) → IsBench b → w.trees ≡ b.work.trees → KeepsNames b.work.symbols w.symbols → AreToldApart w.symbols.idents →
+    AreToldApart w.symbols.symbols → ImportsFor w.symbols xs imported → c.region ≡ b.region → c.work.trees ≡ w.trees → KeepsNames w.symbols c.work.symbols →
+    ((ls : List Frames) (s : ScopedState) (notes : List (Note FramedIdent)) (given : List ℕ → Option Meaning) → UnitStands w b.scope ls s notes → ImportsFor w.symbols xs given →
+    UnitStands c.work c.scope (ls ++ [] ∷ []) (started unit program (with_imports unit given s.entry) s) []) →
+    ((ls : List Frames) (s : ScopedState) (notes : List (Note FramedIdent)) (given : List ℕ → Option Meaning) → UnitStands w b.scope ls s notes → (m : ℕ) → IsFresh (started unit program (with_imports unit given s.entry) s) m) →
+    IsBegun c unit
+unit_begun b c w unit program xs imported is trees names apart told are region after added rests fresh =
+    let at = bench_in b w trees names apart told is in
+    record {
+      region = (same_trees b.work c.work (after ∙ trees) (names_on b.work.symbols w.symbols c.work.symbols names added)).regions c.region (subst (λ (r : Region). IsOpened b.work r) (sym region) is.region);
+      layout = at.layout ++ [] ∷ [];
+      state = started unit program (with_imports unit imported at.state.entry) at.state;
+      stands = rests at.layout at.state at.notes imported at.stands are;
+      number = refl;
+      fresh = fresh at.layout at.state at.notes imported at.stands;
+    }
+
+-- what forms define is among the names
+pub formed_known : (work : Work) (unit : ℕ) (cs : List UnitForm) → AreFormed work unit cs → AreKnown work.symbols (definitions_from 0 cs)
+formed_known work unit cs are = known_definitions work.symbols (definitions_from 0 cs) are.defined are.definitions
+
+pub known_kept : (old new : Names) → KeepsNames old new → (bs : List (ℕ × Binder)) → AreKnown old bs → AreKnown new bs
+known_kept old new keeps bs known = λ n b at.
+    slice_get_within new.idents b.1.ident (get_or old.idents b.1.ident (Written 0 []))
+    (keeps.idents b.1.ident (get_or old.idents b.1.ident (Written 0 [])) (slice_get-get_or old.idents b.1.ident (Written 0 []) (known n b at)))
+
+-- the forms stand over names to which some were added
+pub formed_in : (work : Work) (unit : ℕ) (cs : List UnitForm) (names : Names) → KeepsNames work.symbols names → AreFormed work unit cs → StandIn names cs
+formed_in work unit cs names keeps are = record { work = work; unit = unit; formed = are.formed; kept = keeps; stand = are.stand }

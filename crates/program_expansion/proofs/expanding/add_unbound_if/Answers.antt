@@ -1,0 +1,17 @@
+use Rattle.std.proofs.Common.{◌≡◌, List, [], Bool, true, false, cond, sym, subst}
+use Rattle.scheme_model.specs.Diagnostics.{Diagnostic, bytes_of, unbound_diagnostics}
+use Rattle.scheme_model.specs.Live.{unit_leaves}
+use Rattle.document_units.specs.Findings.{Adds}
+use Rattle.document_units.specs.Places.{spans_of}
+use Rattle.program_expansion.proofs.UnitsFoundLaws.{adds_nothing}
+use Rattle.program_expansion.proofs.expanding.add_unbound_if.Goals as goal
+
+pub returns-in_ok-add_unbound-clause-exact : goal.returns-in_ok-add_unbound-clause-exact
+returns-in_ok-add_unbound-clause-exact c = λ rs us work unit fs are kept stand.
+    subst (λ b. Adds c.args.findings.now.items c.add_unbound.new.findings.items (cond b (unbound_diagnostics (bytes_of (spans_of rs) us) (unit_leaves fs)) []) []) (sym c.if-are_found.true)
+    (c.in_ok-add_unbound.ensures.exact rs us work unit fs are kept stand)
+
+pub returns-else-are_found-clause-exact : goal.returns-else-are_found-clause-exact
+returns-else-are_found-clause-exact c = λ rs us work unit fs are kept stand.
+    subst (λ b. Adds c.args.findings.now.items c.args.findings.now.items (cond b (unbound_diagnostics (bytes_of (spans_of rs) us) (unit_leaves fs)) []) []) (sym c.if-are_found.false)
+    (adds_nothing c.args.findings.now.items)

@@ -1,0 +1,27 @@
+-- What the open documents are read and expanded to.
+use Rattle.std.specs.Prelude.{◌≡◌, List, length, map}
+use Rattle.std.specs.FinMap.{entries}
+use Rattle.document_store.specs.Texts.{Texts}
+use Rattle.scheme_model.specs.Program.{units_of}
+use Rattle.scheme_tokens.specs.LibraryNames.{library_text}
+use Rattle.syntax_tree.specs.declared.trees.Work.{Work}
+use Rattle.core_tree.specs.Units.{ProgramStands}
+use Rattle.core_tree.specs.declared.units.Program.{Program}
+use Rattle.program_expansion.specs.declared.program.Reading.{Reading}
+use Rattle.document_units.specs.Listed.{AreFoundOf}
+use Rattle.document_units.specs.Readings.{AreReadAs, Read, data_in, program_in}
+use Rattle.arrow_index.specs.Formed.{AreFormedIn}
+use Rattle.document_units.specs.Belongs.{Belongs}
+
+-- the program of texts that are read so
+abbrev pub HasProgram : Texts → List Read → Work → Program → Type 0
+HasProgram texts rs work p = ProgramStands work library_text (map (λ d. d.0) (entries texts)) (units_of (map data_in rs)) p (program_in rs)
+
+-- there is a list of findings for each, and the forms of the units stand for something; what is found and the program are the
+-- definition's
+pub record IsReading (texts : Texts) (r : Reading) : Type 0 where
+  pub belongs : Belongs texts r.documents.items r.heads.items r.errors.items
+  pub findings : length r.findings.items ≡ length r.documents.items
+  pub formed : AreFormedIn r.work r.program.units
+  pub found : (rs : List Read) → AreReadAs (entries texts) rs → AreFoundOf rs r.findings.items
+  pub program : (rs : List Read) → AreReadAs (entries texts) rs → HasProgram texts rs r.work r.program

@@ -1,0 +1,102 @@
+-- What units come to by the definition of a program, and what the bench stands for between two of them (R7RS 5.1, 5.6).
+use Rattle.std.specs.Prelude.{◌≡◌, ℕ, List, length, reverse, slice_get, Option, Some, None, String}
+use Rattle.std.specs.declared.alloc.Global.{Global}
+use Rattle.std.specs.BTreeMap.{BTreeMap, get_by_text}
+use Rattle.std.specs.Option.{option_map}
+use Rattle.scheme_model.specs.Requirements.{LibraryName, Known}
+use Rattle.scheme_model.specs.ScopedExpansion.{ScopedState}
+use Rattle.scheme_model.specs.Entries.{Entry}
+use Rattle.scheme_model.specs.UnitExpansion.{Formed}
+use Rattle.scheme_model.specs.Program.{Placed, Prepared, prepared, prepare, unit_named, WholeFault, fault_before, SetResult, UnitResult, Program, result_at, with_entries, broken_result, unit_result}
+use Rattle.scheme_model.specs.ProgramArrows.{unit_names}
+use Rattle.scheme_model.specs.ScopedProgram.{ScopedProgress, scoped_start_of, after_unit}
+use Rattle.syntax_tree.specs.Meant.{AreEntries}
+use Rattle.syntax_tree.specs.declared.trees.Work.{Work}
+use Rattle.core_tree.specs.Units.{FormsStand, AreDefinitions, definitions_from, defined_by, AreNames, externals}
+use Rattle.base_library.specs.Texts.{SpellsStandard}
+use Rattle.feature_requirements.specs.Judged.{Knows}
+use Rattle.unit_scopes.specs.Preluded.{Continues}
+use Rattle.unit_scopes.specs.Searched.{searched_unit_over}
+use Rattle.document_units.specs.Broken.{told}
+use Rattle.program_expansion.specs.Forms.{StandsAt}
+use Rattle.document_units.specs.Turned.{scoped_at}
+use Rattle.unit_imports.specs.declared.expanded.Expanded.{Expanded}
+use Rattle.program_expansion.specs.declared.forms.Bench.{Bench}
+use Rattle.document_units.specs.declared.listing.Head.{Head}
+use Rattle.document_units.specs.declared.listing.Units.{Units}
+use Rattle.document_units.specs.UnitSources.{AreSourcesOf}
+
+-- ---- sources
+
+-- names lead to the first units that have them
+pub record FindsLibraries (spelled : LibraryName → List ℕ) (all : List Placed) (firsts : BTreeMap (String Global) ℕ) : Type 0 where
+  pub spells : SpellsStandard spelled
+  pub units : (n : LibraryName) → get_by_text firsts (spelled n) ≡ unit_named n 0 all
+
+-- ---- what units came to
+
+-- what a unit came to is what the definition has of it, where the program so far is this
+pub record CameTo (all : List Placed) (p : Program) (work : Work) (c : Expanded) (r : UnitResult) : Type 0 where
+  pub whole : r.fault ≡ None
+  pub entries : AreEntries work.symbols c.entries.items r.entries
+  pub forms : FormsStand work r.unit.number 0 c.forms r.forms
+  pub count : length c.forms ≡ length r.unit.forms
+  pub definitions : AreDefinitions work.symbols (reverse (definitions_from 0 c.forms)) (defined_by r.unit.number p.table)
+  pub names : AreNames work.symbols r.unit.number c.names (unit_names all p r) (externals p.table r)
+  pub exports : AreEntries work.symbols c.exports r.exports
+
+-- nothing came of a unit that is broken
+abbrev pub ComesTo : List Placed → Program → Work → Option Expanded → UnitResult → Type 0
+ComesTo all p work None r = (f : WholeFault) × (r ≡ broken_result r.unit f)
+ComesTo all p work (Some c) r = CameTo all p work c r
+
+-- nothing yet, or what the definition has of the unit by now
+abbrev pub IsCome : List Placed → Program → Work → Option Expanded → Option UnitResult → Type 0
+IsCome all p work o None = o ≡ None
+IsCome all p work o (Some r) = ComesTo all p work o r
+
+-- the program as far as it is expanded
+abbrev pub so_far : ScopedProgress → Program
+so_far g = record { units = g.results; table = g.table; entry = g.entry }
+
+abbrev pub HaveCome : List Placed → ScopedProgress → Work → List (Option Expanded) → Type 0
+HaveCome all g work es = (n : ℕ) (o : Option Expanded) → slice_get es n ≡ Some o → IsCome all (so_far g) work o (result_at g.results n)
+
+-- ---- what breaks units by now
+
+abbrev pub fault_by : List Placed → Option UnitResult → Prepared → Option WholeFault
+fault_by all None p = fault_before all (prepare all 0 all) p
+fault_by all (Some r) p = r.fault
+
+abbrev pub HeadsBy : List Placed → ScopedProgress → List Head → Type 0
+HeadsBy all g hs = (n : ℕ) (u : Placed) (h : Head) → slice_get all n ≡ Some u → slice_get hs n ≡ Some h → h.fault ≡ option_map told (fault_by all (result_at g.results n) (prepared all n u))
+
+-- ---- the bench between two units
+
+-- it goes on with what is expanded so far
+pub record GoesOn (b : Bench) (g : ScopedProgress) : Type 0 where
+  pub state : ScopedState
+  pub stands : StandsAt b state
+  pub continues : Continues state g
+
+-- what a unit that imports this comes to, and the state then
+abbrev pub expanded_after : Known → ScopedProgress → Prepared → List Entry → Option (List Formed) × ScopedState
+expanded_after known g p es = searched_unit_over known p (scoped_start_of p g (with_entries p.number es g.entry))
+
+-- the program in which this was expanded
+abbrev pub with_unit : ScopedProgress → ScopedState → Program
+with_unit g s = record { units = g.results; table = s.table; entry = s.entry }
+
+-- a unit was expanded, or work on it ended: what came of it, and the bench goes on behind it
+pub record Expands (all : List Placed) (known : Known) (b : Bench) (g : ScopedProgress) (p : Prepared) (imports : List Entry × List SetResult) (came : Option Expanded) : Type 0 where
+  pub goes : GoesOn b (after_unit p imports (with_entries p.number imports.0 g.entry) g.results (expanded_after known g p imports.0))
+  pub comes : ComesTo all (with_unit g (expanded_after known g p imports.0).1) b.work came (unit_result p imports (expanded_after known g p imports.0).1.table (expanded_after known g p imports.0).0)
+
+-- the units at these places are done
+pub record IsUpTo (spelled : LibraryName → List ℕ) (all : List Placed) (known : Known) (x : List ℕ) (b : Bench) (u : Units) (es : List (Option Expanded)) : Type 0 where
+  pub knows : Knows b.scope.libraries known
+  pub goes : GoesOn b (scoped_at all known x)
+  pub come : HaveCome all (scoped_at all known x) b.work es
+  pub heads : HeadsBy all (scoped_at all known x) u.heads.items
+  pub sources : AreSourcesOf spelled all u.sources.items
+  pub count : length es ≡ length all

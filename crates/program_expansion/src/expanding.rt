@@ -1,0 +1,405 @@
+//! Units one after another (R7RS 5.6), each after what it imports.
+ghost use Rattle.std.specs.Prelude.{◌≡◌, ℕ, ◌<◌, List, [], ◌∷◌, ◌++◌, All, length, replicate, reverse, vec_len, Some, None, IfOk, OnOk, IfSome, true, if◌then◌else◌};
+ghost use Rattle.scheme_model.specs.Entries.{Entry as ModelEntry};
+ghost use Rattle.scheme_model.specs.Diagnostics.{bytes_of, unbound_diagnostics, unit_at};
+ghost use Rattle.scheme_model.specs.Live.{unit_leaves};
+ghost use Rattle.scheme_model.specs.Program.{Placed, Prepared, Program, SetResult, UnitResult, WholeFault as Whole, is_in, unit_result};
+ghost use Rattle.scheme_model.specs.Requirements.{Known, LibraryName};
+ghost use Rattle.scheme_model.specs.ScopedProgram.{ScopedProgress, scoped_before};
+ghost use Rattle.scheme_model.specs.UnitExpansion.{Formed};
+ghost use Rattle.syntax_tree.specs.Meant.{AreEntries};
+ghost use Rattle.syntax_tree.specs.Names.{KeepsNames};
+ghost use Rattle.syntax_tree.specs.Works.{KeepsTrees};
+ghost use Rattle.syntax_tree.specs.declared.trees.Work.{Work as AnyWork};
+ghost use Rattle.core_tree.specs.Names.{AllMatch};
+ghost use Rattle.core_tree.specs.Units.{IsBlank, FormsStand, AreDefinitions, definitions_from, defined_by};
+ghost use Rattle.library_table.specs.Orders.{ArePlaces};
+ghost use Rattle.library_table.specs.UnitsRead.{forms_of};
+ghost use Rattle.feature_requirements.specs.Judged.{Knows};
+ghost use Rattle.unit_scopes.specs.Opened.{IsNew};
+ghost use Rattle.program_expansion.specs.Begun.{IsImport};
+ghost use Rattle.document_units.specs.Broken.{told};
+ghost use Rattle.program_expansion.specs.UnitResults.{CameTo, Expands, FindsLibraries, GoesOn, HeadsBy, IsUpTo, expanded_after, with_unit};
+ghost use Rattle.document_units.specs.UnitSources.{AreSourcesOf, IsSourceOf};
+ghost use Rattle.arrow_index.specs.Formed.{IsFormed};
+ghost use Rattle.program_expansion.specs.Formed.{CameFormed};
+ghost use Rattle.program_expansion.specs.Forms.{IsBench, AreFormed};
+ghost use Rattle.document_units.specs.Libraries.{FindsBelow};
+ghost use Rattle.unit_imports.specs.EntriesMeant.{HaveMeaning, EachOnce, ExportsMean};
+ghost use Rattle.document_units.specs.Findings.{Adds};
+ghost use Rattle.document_units.specs.Places.{AreFoundIn, AreHeads, ArePlaces as ArePlacesOf, CanPlace, HeadsStay, NamesKept, spans_of, HaveTokens};
+ghost use Rattle.document_units.specs.Readings.{Read};
+ghost use Rattle.document_units.specs.Sound.{IsSound};
+ghost use Rattle.unit_imports.specs.SetsGiven.{AreLibraries, ImportsAs};
+ghost use Rattle.program_findings.specs.StandIn.{StandIn};
+ghost use Rattle.document_units.specs.Turned.{scoped_at, turns};
+ghost use Rattle.program_expansion.specs.UnitsExpanded.{AreAllFound};
+ghost use Rattle.program_expansion.specs.UnitsFound.{AreResultsOf, AreSetsFound, HaveFound, in_the_end, no_import_diagnostics};
+ghost use Rattle.document_units.specs.UnitFindings.{IsFoundOf};
+ghost use Rattle.document_units.specs.WereRead.{WereRead};
+
+use crate::forms::{Bench, blank_trace, expand_forms};
+use core_tree::units::UnitForm;
+use document_units::breaking::{Firsts, break_if};
+use document_units::documents::Document;
+use document_units::findings::{Finding, none_placed};
+use document_units::listing::Units;
+use document_units::listing::WholeFault;
+use document_units::places::Places;
+use expander::Imported;
+use library_table::UnitSource;
+use ls_base::{Items, Mem, Steps};
+use program_findings::diagnosing::{add_faults, add_unbound, whole_finding};
+use std::alloc::Global;
+use std::sync::ledger::Ledger;
+use syntax_tree::symbols::Symbols;
+use syntax_tree::trees::Work;
+use syntax_tree::units::Entry;
+use unit_imports::defined::{add_hiding, definitions, names_of};
+use unit_imports::entries::{Given, Libraries, given_to, imports_nothing};
+use unit_imports::expanded::Expanded;
+use unit_imports::exported::exports_given;
+use unit_imports::names::names_used;
+
+/// Expands the units that aren't broken, in an order in which each comes after what it imports. One that counts too many nodes
+/// breaks.
+pub fn expand_all<L: Ledger>(
+    alloc: Global,
+    bench: &mut Bench,
+    documents: &[Document],
+    units: &mut Units,
+    firsts: &Firsts,
+    order: &[u32],
+    steps: &mut Steps<L>,
+) -> Mem<Vec<Option<Expanded>>>
+    requires bench { IsBench bench.old }
+    requires units { IsSound (length documents.now) units.old }
+    requires firsts { FindsBelow (vec_len units.old.heads) firsts.now }
+    requires order { ArePlaces (vec_len units.old.heads) order.now }
+    requires new { (unit : ℕ) → is_in unit order.now ≡ true → IsNew bench.old.scope unit }
+    ensures heads { OnOk result (HeadsStay units.old.heads.items units.new.heads.items) }
+    ensures kept { OnOk result (NamesKept units.old.heads.items units.new.heads.items) }
+    ensures sources { units.new.sources ≡ units.old.sources }
+    ensures count { IfOk result (λ all. vec_len all ≡ vec_len units.old.heads) }
+    ensures found { IfOk result (λ all. AreAllFound (length documents.now) all.items) }
+    ensures formed { IfOk result (λ all. CameFormed bench.new.work all.items) }
+    // In their turns the units come to what the definition has of them.
+    ensures up { (spelled : LibraryName → List ℕ) (us : List Placed) (known : Known) → order.now ≡ turns us → vec_len units.old.heads ≡ length us → FindsLibraries spelled us firsts.now →
+        Knows bench.old.scope.libraries known → GoesOn bench.old scoped_before → HeadsBy us scoped_before units.old.heads.items → AreSourcesOf spelled us units.old.sources.items →
+        IfOk result (λ all. IsUpTo spelled us known (turns us) bench.new units.new all.items) }
+    // What is found of each is what the definition has of it, where the program comes to have these units.
+    ensures finds { (spelled : LibraryName → List ℕ) (us : List Placed) (known : Known) → order.now ≡ turns us → vec_len units.old.heads ≡ length us → FindsLibraries spelled us firsts.now →
+        Knows bench.old.scope.libraries known → GoesOn bench.old scoped_before → HeadsBy us scoped_before units.old.heads.items → AreSourcesOf spelled us units.old.sources.items →
+        (reads : List Read) (ends : List UnitResult) → AreHeads reads 0 units.old.heads.items ends → HaveTokens documents.now reads → AreResultsOf us ends →
+        IfOk result (λ all. HaveFound reads ends (scoped_at us known (turns us)) all.items) }
+{
+    let mut all = nothing(alloc, units.heads.len())?;
+    for place in order {
+        expand_at(
+            alloc, bench, documents, units, firsts, *place, &mut all, steps,
+        )?;
+    }
+    Ok(all)
+}
+
+/// Expands the unit at a place, unless it is broken. It breaks where it counts too many nodes.
+fn expand_at<L: Ledger>(
+    alloc: Global,
+    bench: &mut Bench,
+    documents: &[Document],
+    units: &mut Units,
+    firsts: &Firsts,
+    place: u32,
+    all: &mut Vec<Option<Expanded>>,
+    steps: &mut Steps<L>,
+) -> Mem<()>
+    requires bench { IsBench bench.old }
+    requires units { IsSound (length documents.now) units.old }
+    requires place { place < vec_len units.old.heads }
+    requires new { IsNew bench.old.scope place }
+    requires count { vec_len all.old ≡ vec_len units.old.heads }
+    requires found { AreAllFound (length documents.now) all.old.items }
+    requires mean { ExportsMean bench.old.work.symbols all.old.items }
+    requires formed { CameFormed bench.old.work all.old.items }
+    ensures bench { OnOk result (IsBench bench.new) }
+    ensures heads { OnOk result (HeadsStay units.old.heads.items units.new.heads.items) }
+    ensures kept { OnOk result (NamesKept units.old.heads.items units.new.heads.items) }
+    ensures sources { units.new.sources ≡ units.old.sources }
+    ensures count { OnOk result (vec_len all.new ≡ vec_len all.old) }
+    ensures found { OnOk result (AreAllFound (length documents.now) all.new.items) }
+    ensures mean { OnOk result (ExportsMean bench.new.work.symbols all.new.items) }
+    ensures formed { OnOk result (CameFormed bench.new.work all.new.items) }
+    ensures others { (v : ℕ) → (v ≡ place → ⊥) → IsNew bench.old.scope v → OnOk result (IsNew bench.new.scope v) }
+    // In its turn it comes to what the definition has of it.
+    ensures next { (spelled : LibraryName → List ℕ) (us : List Placed) (known : Known) (x y : List ℕ) → turns us ≡ x ++ place ∷ y → FindsLibraries spelled us firsts.now →
+        IsUpTo spelled us known x bench.old units.old all.old.items → OnOk result (IsUpTo spelled us known (x ++ place ∷ []) bench.new units.new all.new.items) }
+    // What is found of it is what the definition has of it.
+    ensures finds { (spelled : LibraryName → List ℕ) (us : List Placed) (known : Known) (x y : List ℕ) → turns us ≡ x ++ place ∷ y → FindsLibraries spelled us firsts.now →
+        IsUpTo spelled us known x bench.old units.old all.old.items → (reads : List Read) (ends : List UnitResult) → AreHeads reads 0 units.old.heads.items ends → HaveTokens documents.now reads → AreResultsOf us ends →
+        HaveFound reads ends (scoped_at us known x) all.old.items → OnOk result (HaveFound reads ends (scoped_at us known (x ++ place ∷ [])) all.new.items) }
+{
+    let unit = place as usize;
+    if units.heads[unit].fault.is_some() {
+        return Ok(());
+    }
+    let heads = units.heads.as_slice();
+    let places = Places { documents, heads };
+    let expanded = all.as_slice();
+    let libraries = Libraries { firsts, expanded };
+    let source = &units.sources[unit];
+    let given = given_to(alloc, &mut bench.work, places, libraries, place, source)?;
+    bench.work.symbols.told_apart();
+    let came = expand_unit(alloc, bench, places, libraries, place, source, given, steps)?;
+    break_if(&mut units.heads[unit], came.is_none(), WholeFault::TooLarge);
+    all[unit] = came;
+    Ok(())
+}
+
+/// Nothing for each of so many units.
+fn nothing(alloc: Global, count: usize) -> Mem<Vec<Option<Expanded>>>
+    ensures { IfOk result (λ all. all.items ≡ replicate count None) }
+{
+    let mut all = Vec::new(alloc);
+    for _place in 0..count {
+        all.push(None)?;
+    }
+    Ok(all)
+}
+
+/// Expands a unit that imports these. `None` where it counts too many nodes.
+fn expand_unit<L: Ledger>(
+    alloc: Global,
+    bench: &mut Bench,
+    places: Places<'_>,
+    libraries: Libraries<'_>,
+    unit: u32,
+    source: &UnitSource,
+    given: Given,
+    steps: &mut Steps<L>,
+) -> Mem<Option<Expanded>>
+    requires bench { IsBench bench.old }
+    requires new { IsNew bench.old.scope unit }
+    requires read { WereRead (forms_of source.now.forms) }
+    requires documents { 0 < length places.documents.now }
+    requires places { CanPlace places }
+    requires exports { ExportsMean bench.old.work.symbols libraries.expanded.now }
+    requires entries { HaveMeaning bench.old.work.symbols given.joined.entries.items }
+    requires once { EachOnce given.joined.entries.items }
+    requires findings { AreFoundIn (length places.documents.now) given.findings.items }
+    ensures bench { OnOk result (IsBench bench.new) }
+    ensures others { (v : ℕ) → (v ≡ unit → ⊥) → IsNew bench.old.scope v → OnOk result (IsNew bench.new.scope v) }
+    ensures trees { OnOk result (KeepsTrees bench.old.work bench.new.work) }
+    ensures names { OnOk result (KeepsNames bench.old.work.symbols bench.new.work.symbols) }
+    ensures formed { IfOk result (λ came. IfSome came (λ came. IsFormed bench.new.work unit came.forms)) }
+    ensures findings { IfOk result (λ came. IfSome came (λ came. AreFoundIn (length places.entry.documents.now) came.findings.items)) }
+    ensures exports { IfOk result (λ came. IfSome came (λ came. HaveMeaning bench.new.work.symbols came.exports)) }
+    ensures libraries { (known : Known) → Knows bench.old.scope.libraries known → OnOk result (Knows bench.new.scope.libraries known) }
+    // The unit comes to what the definition gives, and the bench goes on behind it.
+    ensures expands { (spelled : LibraryName → List ℕ) (us : List Placed) (known : Known) (g : ScopedProgress) (p : Prepared) (given_entries : List ModelEntry × List SetResult) → Knows bench.old.scope.libraries known →
+        GoesOn bench.old g → p.number ≡ unit → IsSourceOf spelled p None source.now → AreLibraries bench.old.work.symbols libraries.entry spelled us g.results →
+        AreEntries bench.old.work.symbols given.joined.entries.items given_entries.0 → IfOk result (Expands us known bench.new g p given_entries) }
+    // What is found of it is what the definition has of it, where the program comes to have these units.
+    ensures finds { (spelled : LibraryName → List ℕ) (known : Known) (g : ScopedProgress) (p : Prepared) (given_entries : List ModelEntry × List SetResult) → Knows bench.old.scope.libraries known →
+        GoesOn bench.old g → p.number ≡ unit → IsSourceOf spelled p None source.now → AreEntries bench.old.work.symbols given.joined.entries.items given_entries.0 →
+        (reads : List Read) (ends : List UnitResult) (r : UnitResult) → ArePlacesOf places.entry reads ends → unit_at ends unit ≡ Some r → r.unit ≡ p → AreSetsFound reads ends p given_entries.1 given.findings.items →
+        IfOk result (λ came. IfSome came (λ came. IsFoundOf reads (in_the_end ends (with_unit g (expanded_after known g p given_entries.0).1))
+        (unit_result p given_entries (expanded_after known g p given_entries.0).1.table (expanded_after known g p given_entries.0).0) came.findings.items)) }
+{
+    let imports = imported(alloc, &mut bench.work, given.joined.entries.as_slice())?;
+    bench.work.symbols.told_apart();
+    let Bench { work, scope, .. } = bench;
+    scope.begin_unit(work, unit, source.kind, imports.as_slice())?;
+    let expanded = expand_forms(alloc, bench, unit, source.forms.as_slice(), steps)?;
+    match expanded {
+        None => Ok(None),
+        Some(forms) => {
+            let came = finished(
+                alloc,
+                &mut bench.work,
+                places,
+                libraries,
+                unit,
+                source,
+                given,
+                forms,
+            )?;
+            bench.work.symbols.told_apart();
+            Ok(Some(came))
+        }
+    }
+}
+
+/// The symbols of entries, and what they mean.
+fn imported(alloc: Global, work: &mut Work, entries: &[Entry]) -> Mem<Vec<Imported>>
+    ensures imports { IfOk result (λ imports. AllMatch (IsImport work.new.symbols) imports.items entries.now) }
+    ensures trees { work.new.trees ≡ work.old.trees }
+    ensures names { KeepsNames work.old.symbols work.new.symbols }
+{
+    let mut imports = Vec::new(alloc);
+    for entry in entries {
+        let symbol = work.symbols.symbol(entry.name.as_str())?;
+        imports.push(Imported {
+            symbol,
+            meaning: entry.meaning,
+        })?;
+    }
+    Ok(imports)
+}
+
+/// What a unit came to, by what it imports and what its forms expanded to. What is found wrong stands in this order: sets, exports,
+/// forms, definitions that hide, unbound names, no import.
+fn finished(
+    alloc: Global,
+    work: &mut Work,
+    places: Places<'_>,
+    libraries: Libraries<'_>,
+    unit: u32,
+    source: &UnitSource,
+    given: Given,
+    forms: Items<UnitForm>,
+) -> Mem<Expanded>
+    requires forms { AreFormed work.old unit forms }
+    requires documents { 0 < length places.documents.now }
+    requires places { CanPlace places }
+    requires exports { ExportsMean work.old.symbols libraries.expanded.now }
+    requires entries { HaveMeaning work.old.symbols given.joined.entries.items }
+    requires findings { AreFoundIn (length places.documents.now) given.findings.items }
+    ensures trees { work.new.trees ≡ work.old.trees }
+    ensures names { KeepsNames work.old.symbols work.new.symbols }
+    ensures forms { IfOk result (λ came. came.forms ≡ forms) }
+    ensures findings { IfOk result (λ came. AreFoundIn (length places.entry.documents.now) came.findings.items) }
+    ensures exports { IfOk result (λ came. HaveMeaning work.new.symbols came.exports) }
+    // They are what the definition has of the unit, where forms stand for what it has of them.
+    ensures came { (spelled : LibraryName → List ℕ) (us : List Placed) (q : Program) (p : Prepared) (given_entries : List ModelEntry × List SetResult) (fs : List Formed) → p.number ≡ unit → IsSourceOf spelled p None source.now →
+        AreLibraries work.old.symbols libraries.entry spelled us q.units → AreEntries work.old.symbols given.joined.entries.items given_entries.0 →
+        length forms ≡ length p.forms → FormsStand work.old unit 0 forms fs → AreDefinitions work.old.symbols (reverse (definitions_from 0 forms)) (defined_by unit q.table) →
+        IfOk result (λ came. CameTo us q work.new came (unit_result p given_entries q.table (Some fs))) }
+    // What is found is what the definition has of the unit, where the program comes to have these units.
+    ensures finds { (spelled : LibraryName → List ℕ) (q : Program) (p : Prepared) (given_entries : List ModelEntry × List SetResult) (fs : List Formed) → p.number ≡ unit → IsSourceOf spelled p None source.now →
+        AreEntries work.old.symbols given.joined.entries.items given_entries.0 → FormsStand work.old unit 0 forms fs → AreDefinitions work.old.symbols (reverse (definitions_from 0 forms)) (defined_by unit q.table) →
+        (reads : List Read) (ends : List UnitResult) (r : UnitResult) → ArePlacesOf places.entry reads ends → unit_at ends unit ≡ Some r → r.unit ≡ p → AreSetsFound reads ends p given_entries.1 given.findings.items →
+        IfOk result (λ came. IsFoundOf reads (in_the_end ends q) (unit_result p given_entries q.table (Some fs)) came.findings.items) }
+{
+    let Given {
+        joined,
+        mut findings,
+    } = given;
+    let slice = forms.as_slice();
+    let sets_are_good = none_placed(findings.as_slice());
+    let defined = definitions(alloc, slice)?;
+    let names = names_of(alloc, &work.symbols, unit, defined.as_slice(), &joined)?;
+    let used = names_used(alloc, work, libraries, unit, source, names.as_slice())?;
+    let symbols = &work.symbols;
+    let exports = exports_given(alloc, places, source, names.as_slice(), &mut findings)?;
+    add_faults(alloc, symbols, places, unit, slice, &mut findings)?;
+    add_hiding(
+        alloc,
+        symbols,
+        places,
+        unit,
+        defined.as_slice(),
+        &joined,
+        &mut findings,
+    )?;
+    add_unbound_if(alloc, symbols, places, slice, sets_are_good, &mut findings)?;
+    add_no_import(alloc, places, unit, source, &mut findings)?;
+    Ok(Expanded {
+        entries: joined.entries,
+        forms,
+        names: used,
+        exports,
+        findings,
+    })
+}
+
+/// Adds the references and assignments of forms that mean nothing, if they are to be found.
+fn add_unbound_if(
+    alloc: Global,
+    symbols: &Symbols,
+    places: Places<'_>,
+    forms: &[UnitForm],
+    are_found: bool,
+    findings: &mut Vec<Finding>,
+) -> Mem<()>
+    requires forms { StandIn symbols.now forms.now }
+    requires documents { 0 < length places.documents.now }
+    requires places { CanPlace places }
+    ensures inside { AreFoundIn (length places.entry.documents.now) findings.old.items → OnOk result (AreFoundIn (length places.entry.documents.now) findings.new.items) }
+    ensures exact { (rs : List Read) (us : List UnitResult) (work : AnyWork) (unit : ℕ) (fs : List Formed) → ArePlacesOf places.entry rs us → KeepsNames work.symbols symbols.now → FormsStand work unit 0 forms.now fs →
+        OnOk result (Adds findings.old.items findings.new.items (if are_found then unbound_diagnostics (bytes_of (spans_of rs) us) (unit_leaves fs) else []) []) }
+{
+    if are_found {
+        add_unbound(alloc, symbols, places, forms, findings)?;
+    }
+    Ok(())
+}
+
+/// Adds that a unit imports nothing, if it does.
+fn add_no_import(
+    alloc: Global,
+    places: Places<'_>,
+    unit: u32,
+    source: &UnitSource,
+    findings: &mut Vec<Finding>,
+) -> Mem<()>
+    requires documents { 0 < length places.documents.now }
+    requires places { CanPlace places }
+    ensures inside { AreFoundIn (length places.entry.documents.now) findings.old.items → OnOk result (AreFoundIn (length places.entry.documents.now) findings.new.items) }
+    ensures exact { (spelled : LibraryName → List ℕ) (rs : List Read) (us : List UnitResult) (r : UnitResult) → ArePlacesOf places.entry rs us → unit_at us unit ≡ Some r → ImportsAs spelled source.now r.unit →
+        OnOk result (Adds findings.old.items findings.new.items (no_import_diagnostics (spans_of rs) r.unit) []) }
+{
+    if imports_nothing(source) {
+        let start = places.start(unit);
+        let finding = Finding::new(alloc, Some(start), 0, 104, "")?;
+        findings.push(finding)?;
+    }
+    Ok(())
+}
+
+/// What a unit comes to that is broken as a whole.
+pub fn broken(
+    alloc: Global,
+    places: Places<'_>,
+    unit: u32,
+    fault: WholeFault,
+    count: usize,
+) -> Mem<Expanded>
+    requires documents { 0 < length places.documents.now }
+    requires places { CanPlace places }
+    ensures forms { IfOk result (λ came. All IsBlank came.forms) }
+    ensures formed { (work : AnyWork) → IfOk result (λ came. IsFormed work unit came.forms) }
+    ensures count { IfOk result (λ came. length came.forms ≡ count) }
+    ensures names { IfOk result (λ came. came.names ≡ []) }
+    ensures entries { IfOk result (λ came. came.entries.items ≡ []) }
+    ensures exports { IfOk result (λ came. came.exports ≡ []) }
+    ensures findings { IfOk result (λ came. AreFoundIn (length places.entry.documents.now) came.findings.items) }
+    ensures finds { (rs : List Read) (p : Program) (r : UnitResult) (f : Whole) → ArePlacesOf places.entry rs p.units → unit_at p.units unit ≡ Some r → r.fault ≡ Some f → fault ≡ told f →
+        IfOk result (λ came. IsFoundOf rs p r came.findings.items) }
+{
+    let mut findings = Vec::new(alloc);
+    let finding = whole_finding(alloc, places, unit, fault)?;
+    findings.push(finding)?;
+    Ok(Expanded {
+        entries: Vec::new(alloc),
+        forms: blank_forms(alloc, count)?,
+        names: Items::new(alloc),
+        exports: Items::new(alloc),
+        findings,
+    })
+}
+
+/// Forms that aren't expanded.
+fn blank_forms(alloc: Global, count: usize) -> Mem<Items<UnitForm>>
+    ensures blank { IfOk result (λ forms. All IsBlank forms) }
+    ensures count { IfOk result (λ forms. length forms ≡ count) }
+{
+    let mut forms = Items::new(alloc);
+    for _place in 0..count {
+        forms.push(UnitForm {
+            items: Items::new(alloc),
+            trace: blank_trace(alloc),
+            fault: None,
+        })?;
+    }
+    Ok(forms)
+}

@@ -1,0 +1,11 @@
+use Rattle.std.proofs.Common.{◌≡◌, ◌∙◌, Some, [], ap}
+use Rattle.document_units.specs.declared.findings.Finding.{Finding}
+use Rattle.document_units.specs.Wording.{worded}
+use Rattle.document_units.specs.Places.{spans_of, start_of}
+use Rattle.program_findings.proofs.WholeLaws.{whole_adds}
+use Rattle.program_findings.proofs.diagnosing.whole_finding.Goals as goal
+
+pub returns-clause-exact : goal.returns-clause-exact
+returns-clause-exact c = λ rs us r f are at is.
+    whole_adds (spans_of rs) r.unit c.start.result c.args.fault f (c.start.ensures.exact rs us are ∙ ap (start_of (spans_of rs)) at) is c.in_ok-new.field-0
+    (c.in_ok-new.ensures ∙ (λ i. record { at = Some (c.whole_at-at.ensures i); form = 0; code = c.whole_number-code.ensures i; message = worded (c.whole_number-code.ensures i) [] }))

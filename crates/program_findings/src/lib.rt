@@ -1,0 +1,6 @@
+//! What is found wrong in forms, units and documents, and the findings of each document in their order.
+#![tactic(auto)]
+
+pub mod diagnosing;
+pub mod sorted_findings;
+mod unbound;

@@ -1,0 +1,17 @@
+//! What units come to.
+
+use core_tree::units::{NameUse, UnitForm};
+use document_units::findings::Finding;
+use ls_base::Items;
+use syntax_tree::units::Entry;
+
+/// What a unit came to: what it imports, its forms, the identifiers of its imports and exports, what it exports,
+/// and what is wrong in it.
+#[derive(Drop)]
+pub struct Expanded {
+    pub entries: Vec<Entry>,
+    pub forms: Items<UnitForm>,
+    pub names: Items<NameUse>,
+    pub exports: Items<Entry>,
+    pub findings: Vec<Finding>,
+}

@@ -1,9 +1,0 @@
-use Rattle.std.proofs.Common.{◌≡◌, take, map}
-use Rattle.std.specs.FinMap.{entries}
-use Rattle.workspace_state.specs.BytesKept.{lit_seen}
-use Rattle.workspace_state.specs.ToldAnswers.{highlight_told}
-use Rattle.workspace_state.proofs.answers.highlights_at.Given as goal
-
--- the lit bytes gone through
-abbrev pub invariant-loop-lit : goal.invariant-loop-lit
-invariant-loop-lit l = l.lights ≡ map (highlight_told l.asked.encoding (entries l.asked.texts.now)) (map lit_seen (take l.lit-index l.all))

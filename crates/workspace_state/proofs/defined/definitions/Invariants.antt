@@ -1,7 +1,0 @@
-use Rattle.std.proofs.Common.{◌≡◌, ◌++◌, drop}
-use Rattle.core_tree.specs.Units.{definitions_from}
-use Rattle.workspace_state.proofs.defined.definitions.Given as goal
-
--- the definitions so far and those that are left
-abbrev pub invariant-loop-place : goal.invariant-loop-place
-invariant-loop-place l = l.all.items ++ definitions_from l.place (drop l.place l.forms) ≡ definitions_from 0 l.forms

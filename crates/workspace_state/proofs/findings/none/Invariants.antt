@@ -1,7 +1,0 @@
-use Rattle.std.proofs.Common.{◌≡◌, [], vec_len}
-use Rattle.workspace_state.specs.Found.{AreKept}
-use Rattle.workspace_state.proofs.findings.none.Given as goal
-
--- as many as turns, all empty
-abbrev pub invariant-loop : goal.invariant-loop
-invariant-loop l = (vec_len l.all ≡ l.counter) × AreKept [] l.all.items

@@ -1,8 +1,0 @@
-use Rattle.std.proofs.Common.{◌≡◌, ◌++◌, map, take}
-use Rattle.scheme_model.specs.StandardLibraries.{StandardLibrary, standard_libraries}
-use Rattle.base_library.specs.Texts.{name_text}
-use Rattle.workspace_state.proofs.KnownSteps.{texts_of}
-use Rattle.workspace_state.proofs.known.known.Given as goal
-
-abbrev pub invariant-loop-document : goal.invariant-loop-document
-invariant-loop-document l = l.names ≡ map (λ (s : StandardLibrary). name_text s.name) standard_libraries ++ texts_of (take l.document-index l.documents)

@@ -1,7 +1,0 @@
-use Rattle.std.proofs.Common.{◌≡◌, ◌++◌, map}
-use Rattle.workspace_state.specs.Listed.{found_told}
-use Rattle.workspace_state.proofs.lists.list.Given as goal
-
--- the findings gone through are told
-abbrev pub invariant-loop-start : goal.invariant-loop-start
-invariant-loop-start l = l.list ++ map (found_told l.encoding l.text) l.start-iterator ≡ map (found_told l.encoding l.text) l.findings.entries

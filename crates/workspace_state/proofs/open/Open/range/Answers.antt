@@ -1,7 +1,0 @@
--- The lines of a document are those of its text.
-use Rattle.std.proofs.Common.{List, ℕ, sym, subst}
-use Rattle.text_positions.specs.Lines.{AreLinesOf}
-use Rattle.workspace_state.proofs.open.Open.range.Goals as goal
-
-pub range-requires : goal.range-requires
-range-requires c = subst (λ (t : List ℕ). AreLinesOf c.document.result.now.lines t) (sym c.text.ensures) c.document.ensures.lines

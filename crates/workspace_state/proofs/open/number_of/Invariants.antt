@@ -1,6 +1,0 @@
-use Rattle.workspace_state.proofs.OpenLaws.{HaveOther}
-use Rattle.workspace_state.proofs.open.number_of.Given as goal
-
--- those gone through have other uris
-abbrev pub invariant-loop-number : goal.invariant-loop-number
-invariant-loop-number l = HaveOther l.documents l.number l.uri

@@ -1,7 +1,0 @@
-use Rattle.std.proofs.Common.{◌≡◌, take}
-use Rattle.std.specs.List.{flat_map}
-use Rattle.workspace_state.specs.Unbound.{form_unbound}
-use Rattle.workspace_state.proofs.unbound.in_forms.Given as goal
-
-abbrev pub invariant-loop-form : goal.invariant-loop-form
-invariant-loop-form l = l.found.items ≡ flat_map form_unbound (take l.form-index l.forms)

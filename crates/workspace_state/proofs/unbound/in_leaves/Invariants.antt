@@ -1,7 +1,0 @@
-use Rattle.std.proofs.Common.{◌≡◌, ◌++◌, map}
-use Rattle.arrow_index.specs.Leaves.{seen_of}
-use Rattle.workspace_state.specs.Unbound.{free_uses}
-use Rattle.workspace_state.proofs.unbound.in_leaves.Given as goal
-
-abbrev pub invariant-loop-leaf : goal.invariant-loop-leaf
-invariant-loop-leaf l = l.found.items ≡ l.initial.found.items ++ free_uses (map seen_of l.yielded)
