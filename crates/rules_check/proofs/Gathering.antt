@@ -119,11 +119,11 @@ pub or_neither : (a b : Bool) → a ≡ false → b ≡ false → (a || b) ≡ f
 or_neither a b h g = ap (λ x. x || b) h ∙ g
 
 module _ (dots : Identifier → Bool) (variable : Identifier → Bool) where
-  chosen_some : (b : Bool) (u : Tree Identifier) (p q : List (Leaf Identifier)) → is_some (if b then Some u else None) ≡ true → if_escape b p q ≡ p
+  chosen_some : (b : Bool) (u : Tree Identifier) (p q : List (Leaf Identifier)) → is_some (if b then Some u else None) ≡ true → if_escape (is_some (if b then Some u else None)) p q ≡ p
   chosen_some true u p q h = refl
   chosen_some false u p q h = absurd cc
 
-  chosen_none : (b : Bool) (u : Tree Identifier) (p q : List (Leaf Identifier)) → (if b then Some u else None) ≡ None → if_escape b p q ≡ q
+  chosen_none : (b : Bool) (u : Tree Identifier) (p q : List (Leaf Identifier)) → (if b then Some u else None) ≡ None → if_escape (is_some (if b then Some u else None)) p q ≡ q
   chosen_none true u p q h = absurd cc
   chosen_none false u p q h = refl
 

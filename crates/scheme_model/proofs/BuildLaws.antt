@@ -1,11 +1,11 @@
 -- Building an instance of a template commutes with renamings of the template and of what its variables stand for.
 use Rattle.std.proofs.Common.{◌≡◌, ℕ, zero, suc, ◌+◌, List, [], ◌∷◌, map, Bool, true, false, cond, Option, Some, None, refl, sym, ap, ◌∙◌, subst}
-use Rattle.std.specs.Prelude.{◌||◌, ◌&&◌, nat_le}
+use Rattle.std.specs.Prelude.{◌||◌, ◌&&◌, nat_le, is_some}
 use Rattle.scheme_model.specs.declared.Occ.{Occ}
 use Rattle.scheme_model.specs.Trees.{Tree, name, atom, list, vector, Trees, no_trees, tree, Tail, proper, dotted, map_tree, map_trees, map_tail}
 use Rattle.scheme_model.specs.RulesShape.{Names, Rules, rules_map, option_map, dots_of, is_dots, leading, escape_of, nowhere}
 use Rattle.scheme_model.specs.Matching.{Value, One, Many, Values, no_values, value, Binding, ◌>>=◌}
-use Rattle.scheme_model.specs.Building.{Built, built, value_of, stands_in, stands_among, stands_behind, used_in, value_count, agree, agree_with, places_of, first_value, later_values, first_place, later_places, or_zero, joined, at_places, repeated, named_value, list_built, is_there, is_escape, Template, build_tree, build_parts, build_tail, build_escaped, max_nodes, max_depth, within, or_lengths, build}
+use Rattle.scheme_model.specs.Building.{Built, built, value_of, stands_in, stands_among, stands_behind, used_in, value_count, agree, agree_with, places_of, first_value, later_values, first_place, later_places, or_zero, joined, at_places, repeated, named_value, list_built, is_escape, Template, build_tree, build_parts, build_tail, build_escaped, max_nodes, max_depth, within, or_lengths, build}
 use Rattle.scheme_model.specs.Renaming.{Renames, value_map, values_map, binding_map, built_map}
 use Rattle.scheme_model.proofs.RenamingLaws.{Reads, reads, Finds, finds, then_map, some_map, cond_map, cond_reads, append-map, size-map, depth-map}
 use Rattle.scheme_model.proofs.PatternLaws.{is_dots-map, leading-map, escape_of-map}
@@ -41,9 +41,9 @@ module _ (A C : Type 0) (f : A → C) (same : A → A → Bool) (same' : C → C
     stands_behind-map i (dotted t) = stands_in-map i t
 
 pub is_escape-map : (A C : Type 0) (f : A → C) (dots : A → Bool) (dots' : C → Bool) → ((i : A) → dots' (f i) ≡ dots i) → (ts : Trees A) (tail : Tail A) → is_escape dots' (map_trees f ts) (map_tail f tail) ≡ is_escape dots ts tail
-is_escape-map A C f dots dots' h ts tail = ap is_there (escape_of-map A C f dots dots' h ts tail) ∙ go (escape_of dots ts tail)
+is_escape-map A C f dots dots' h ts tail = ap is_some (escape_of-map A C f dots dots' h ts tail) ∙ go (escape_of dots ts tail)
   where
-    go : (o : Option (Tree A)) → is_there (option_map (map_tree f) o) ≡ is_there o
+    go : (o : Option (Tree A)) → is_some (option_map (map_tree f) o) ≡ is_some o
     go None = refl
     go (Some t) = refl
 
@@ -51,7 +51,7 @@ is_escape-map A C f dots dots' h ts tail = ap is_there (escape_of-map A C f dots
 pub escape_first : {A : Type 0} (dots : A → Bool) (t u : Tree A) → is_escape dots (tree t (tree u no_trees)) proper ≡ is_dots dots t
 escape_first dots t u = go (is_dots dots t)
   where
-    go : (b : Bool) → is_there (cond b (Some u) None) ≡ b
+    go : (b : Bool) → is_some (cond b (Some u) None) ≡ b
     go true = refl
     go false = refl
 

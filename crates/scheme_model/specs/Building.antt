@@ -1,5 +1,5 @@
 -- Building (R7RS 4.3.2): the instance of a template, and how many nodes are built for it.
-use Rattle.std.specs.Prelude.{ℕ, zero, suc, ◌+◌, ◌==◌, nat_le, List, [], ◌∷◌, Bool, true, false, ◌||◌, ◌&&◌, Option, Some, None, Result, Ok, Err, if◌then◌else◌}
+use Rattle.std.specs.Prelude.{ℕ, zero, suc, ◌+◌, ◌==◌, nat_le, List, [], ◌∷◌, Bool, false, ◌||◌, ◌&&◌, Option, Some, None, is_some, Result, Ok, Err, if◌then◌else◌}
 use Rattle.scheme_model.specs.declared.Occ.{Occ}
 use Rattle.scheme_model.specs.Trees.{Tree, name, atom, list, vector, Trees, no_trees, tree, Tail, proper, dotted}
 use Rattle.scheme_model.specs.TreeParts.{append}
@@ -125,13 +125,9 @@ list_built parts (Some tail) = with_tail parts.value parts.count tail
     with_tail no_trees n tail = tail
     with_tail (tree t ts) n tail = ended (tree t ts) n tail.value tail.count
 
-abbrev pub is_there : {X : Type 0} → Option X → Bool
-is_there None = false
-is_there (Some x) = true
-
 -- `(... template)`
 abbrev pub is_escape : {A : Type 0} → (A → Bool) → Trees A → Tail A → Bool
-is_escape dots ts tail = is_there (escape_of dots ts tail)
+is_escape dots ts tail = is_some (escape_of dots ts tail)
 
 pub record Template (A B : Type 0) : Type 0 where
   pub same : A → A → Bool

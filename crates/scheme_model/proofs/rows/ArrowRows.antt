@@ -120,3 +120,35 @@ literal-defined-as-a-macro = refl
 pub values-read-their-names : arrow_rows (((s 0 1) ∷ (s 1 7) ∷ (s 8 9) ∷ (s 9 10) ∷ (s 10 11) ∷ (s 12 13) ∷ (s 13 26) ∷ (s 27 28) ∷ (s 28 29) ∷ (s 30 31) ∷ (s 32 33) ∷ (s 34 35) ∷ (s 35 36) ∷ (s 37 38) ∷ (s 38 39) ∷ (s 40 41) ∷ (s 42 43) ∷ (s 44 45) ∷ (s 45 46) ∷ (s 46 47) ∷ (s 48 49) ∷ (s 49 50) ∷ (s 51 52) ∷ (s 53 54) ∷ (s 55 56) ∷ (s 56 57) ∷ (s 57 58) ∷ []) ∷ []) ((Some (((g.list (p 0 26 0 58) (g.part (g.atom (p 1 1 1 7) (g.spelled (k.Name (codes "define") false))) (g.part (g.list (p 2 4 8 11) (g.part (g.atom (p 3 3 9 10) (g.spelled (k.Name (codes "f") false))) g.none)) (g.part (g.list (p 5 19 12 47) (g.part (g.atom (p 6 6 13 26) (g.spelled (k.Name (codes "define-values") false))) (g.part (g.list (p 7 12 27 36) (g.part (g.atom (p 8 8 28 29) (g.spelled (k.Name (codes "a") false))) (g.part (g.atom (p 9 9 30 31) (g.spelled (k.Name (codes "b") false))) (g.tail (g.atom (p 11 11 34 35) (g.spelled (k.Name (codes "c") false))))))) (g.part (g.list (p 13 18 37 46) (g.part (g.atom (p 14 14 38 39) (g.spelled (k.Name (codes "g") false))) (g.part (g.atom (p 15 15 40 41) (g.spelled (k.Name (codes "a") false))) (g.part (g.atom (p 16 16 42 43) (g.spelled (k.Name (codes "b") false))) (g.part (g.atom (p 17 17 44 45) (g.spelled (k.Name (codes "c") false))) g.none))))) g.none)))) (g.part (g.list (p 20 25 48 57) (g.part (g.atom (p 21 21 49 50) (g.spelled (k.Name (codes "g") false))) (g.part (g.atom (p 22 22 51 52) (g.spelled (k.Name (codes "c") false))) (g.part (g.atom (p 23 23 53 54) (g.spelled (k.Name (codes "b") false))) (g.part (g.atom (p 24 24 55 56) (g.spelled (k.Name (codes "a") false))) g.none))))) g.none)))))) ∷ [])) ∷ []) ≡ ((a (b 0 28 29) (b 0 40 41)) ∷ (a (b 0 28 29) (b 0 55 56)) ∷ (a (b 0 30 31) (b 0 42 43)) ∷ (a (b 0 30 31) (b 0 53 54)) ∷ (a (b 0 34 35) (b 0 44 45)) ∷ (a (b 0 34 35) (b 0 51 52)) ∷ [])
 unfolding base_names standard_libraries prelude encode_utf8
 values-read-their-names = refl
+
+pub random-115610 : arrow_rows (((s 0 1) ∷ (s 1 14) ∷ (s 15 16) ∷ (s 17 18) ∷ (s 18 30) ∷ (s 31 32) ∷ (s 32 33) ∷ (s 33 34) ∷ (s 35 36) ∷ (s 36 37) ∷ (s 37 38) ∷ (s 39 40) ∷ (s 40 41) ∷ (s 42 43) ∷ (s 43 44) ∷ (s 45 46) ∷ (s 46 47) ∷ (s 47 48) ∷ (s 49 50) ∷ (s 50 51) ∷ (s 52 53) ∷ (s 53 54) ∷ (s 55 56) ∷ (s 56 57) ∷ (s 57 58) ∷ (s 58 59) ∷ (s 59 60) ∷ (s 61 62) ∷ (s 62 63) ∷ (s 64 65) ∷ (s 65 66) ∷ (s 67 68) ∷ (s 68 74) ∷ (s 75 76) ∷ (s 77 78) ∷ (s 78 80) ∷ (s 81 82) ∷ (s 83 84) ∷ (s 84 85) ∷ (s 85 86) ∷ []) ∷ []) ((Some (((g.list (p 0 26 0 60) (g.part (g.atom (p 1 1 1 14) (g.spelled (k.Name (codes "define-syntax") false))) (g.part (g.atom (p 2 2 15 16) (g.spelled (k.Name (codes "m") false))) (g.part (g.list (p 3 25 17 59) (g.part (g.atom (p 4 4 18 30) (g.spelled (k.Name (codes "syntax-rules") false))) (g.part (g.list (p 5 7 31 34) (g.part (g.atom (p 6 6 32 33) (g.spelled (k.Name (codes "f") false))) g.none)) (g.part (g.list (p 8 14 35 44) (g.part (g.list (p 9 12 36 41) (g.part (g.atom (p 10 10 37 38) (g.spelled (k.Name (codes "_") false))) (g.part (g.atom (p 11 11 39 40) (g.spelled (k.Name (codes "f") false))) g.none))) (g.part (g.atom (p 13 13 42 43) (g.spelled (k.Name (codes "a") false))) g.none))) (g.part (g.list (p 15 24 45 58) (g.part (g.list (p 16 19 46 51) (g.part (g.atom (p 17 17 47 48) (g.spelled (k.Name (codes "_") false))) (g.part (g.atom (p 18 18 49 50) (g.spelled (k.Name (codes "v") false))) g.none))) (g.part (g.list (p 20 23 52 57) (g.part (g.atom (p 21 21 53 54) (g.spelled (k.Name (codes "f") false))) (g.part (g.atom (p 22 22 55 56) (g.spelled (k.Name (codes "n") false))) g.none))) g.none))) g.none))))) g.none))))) ∷ ((g.list (p 27 30 61 66) (g.part (g.atom (p 28 28 62 63) (g.spelled (k.Name (codes "m") false))) (g.part (g.atom (p 29 29 64 65) (g.spelled (k.Name (codes "f") false))) g.none)))) ∷ ((g.list (p 31 39 67 86) (g.part (g.atom (p 32 32 68 74) (g.spelled (k.Name (codes "define") false))) (g.part (g.atom (p 33 33 75 76) (g.spelled (k.Name (codes "f") false))) (g.part (g.list (p 34 38 77 85) (g.part (g.atom (p 35 35 78 80) (g.spelled (k.Name (codes "if") false))) (g.part (g.atom (p 36 36 81 82) (g.spelled (k.Numeral (codes "1")))) (g.part (g.atom (p 37 37 83 84) (g.spelled (k.Numeral (codes "1")))) g.none)))) g.none))))) ∷ [])) ∷ []) ≡ ((a (b 0 15 16) (b 0 62 63)) ∷ (a (b 0 75 76) (b 0 32 33)) ∷ (a (b 0 75 76) (b 0 39 40)) ∷ (a (b 0 75 76) (b 0 53 54)) ∷ (a (b 0 75 76) (b 0 64 65)) ∷ [])
+unfolding base_names standard_libraries prelude encode_utf8
+random-115610 = refl
+
+pub random-141594 : arrow_rows (((s 0 1) ∷ (s 1 14) ∷ (s 15 16) ∷ (s 17 18) ∷ (s 18 30) ∷ (s 31 32) ∷ (s 32 33) ∷ (s 33 34) ∷ (s 35 36) ∷ (s 36 37) ∷ (s 37 38) ∷ (s 39 40) ∷ (s 40 41) ∷ (s 42 43) ∷ (s 43 44) ∷ (s 45 46) ∷ (s 46 47) ∷ (s 47 48) ∷ (s 48 49) ∷ (s 49 50) ∷ (s 51 52) ∷ (s 52 53) ∷ (s 54 55) ∷ (s 55 56) ∷ (s 57 58) ∷ (s 58 64) ∷ (s 65 66) ∷ (s 67 68) ∷ (s 68 70) ∷ (s 71 72) ∷ (s 72 76) ∷ (s 77 78) ∷ (s 79 80) ∷ (s 80 81) ∷ (s 82 83) ∷ (s 83 87) ∷ (s 88 89) ∷ (s 90 91) ∷ (s 91 92) ∷ (s 92 93) ∷ (s 93 94) ∷ []) ∷ []) ((Some (((g.list (p 0 19 0 50) (g.part (g.atom (p 1 1 1 14) (g.spelled (k.Name (codes "define-syntax") false))) (g.part (g.atom (p 2 2 15 16) (g.spelled (k.Name (codes "a") false))) (g.part (g.list (p 3 18 17 49) (g.part (g.atom (p 4 4 18 30) (g.spelled (k.Name (codes "syntax-rules") false))) (g.part (g.list (p 5 7 31 34) (g.part (g.atom (p 6 6 32 33) (g.spelled (k.Name (codes "f") false))) g.none)) (g.part (g.list (p 8 17 35 48) (g.part (g.list (p 9 12 36 41) (g.part (g.atom (p 10 10 37 38) (g.spelled (k.Name (codes "_") false))) (g.part (g.atom (p 11 11 39 40) (g.spelled (k.Name (codes "f") false))) g.none))) (g.part (g.list (p 13 16 42 47) (g.part (g.atom (p 14 14 43 44) (g.spelled (k.Name (codes "m") false))) (g.part (g.atom (p 15 15 45 46) (g.spelled (k.Name (codes "f") false))) g.none))) g.none))) g.none)))) g.none))))) ∷ ((g.list (p 20 23 51 56) (g.part (g.atom (p 21 21 52 53) (g.spelled (k.Name (codes "a") false))) (g.part (g.atom (p 22 22 54 55) (g.spelled (k.Name (codes "f") false))) g.none)))) ∷ ((g.list (p 24 40 57 94) (g.part (g.atom (p 25 25 58 64) (g.spelled (k.Name (codes "define") false))) (g.part (g.atom (p 26 26 65 66) (g.spelled (k.Name (codes "f") false))) (g.part (g.list (p 27 39 67 93) (g.part (g.atom (p 28 28 68 70) (g.spelled (k.Name (codes "if") false))) (g.part (g.list (p 29 33 71 81) (g.part (g.atom (p 30 30 72 76) (g.spelled (k.Name (codes "list") false))) (g.part (g.atom (p 31 31 77 78) (g.spelled (k.Numeral (codes "1")))) (g.part (g.atom (p 32 32 79 80) (g.spelled (k.Name (codes "a") false))) g.none)))) (g.part (g.list (p 34 38 82 92) (g.part (g.atom (p 35 35 83 87) (g.spelled (k.Name (codes "list") false))) (g.part (g.atom (p 36 36 88 89) (g.spelled (k.Name (codes "f") false))) (g.part (g.atom (p 37 37 90 91) (g.spelled (k.Name (codes "n") false))) g.none)))) g.none)))) g.none))))) ∷ [])) ∷ []) ≡ ((a (b 0 15 16) (b 0 52 53)) ∷ (a (b 0 65 66) (b 0 32 33)) ∷ (a (b 0 65 66) (b 0 39 40)) ∷ (a (b 0 65 66) (b 0 45 46)) ∷ (a (b 0 65 66) (b 0 54 55)) ∷ [])
+unfolding base_names standard_libraries prelude encode_utf8
+random-141594 = refl
+
+pub random-80231 : arrow_rows (((s 0 1) ∷ (s 1 2) ∷ (s 3 4) ∷ (s 4 17) ∷ (s 18 19) ∷ (s 20 21) ∷ (s 21 22) ∷ (s 22 23) ∷ (s 24 25) ∷ (s 25 38) ∷ (s 39 40) ∷ (s 41 42) ∷ (s 42 54) ∷ (s 55 56) ∷ (s 56 57) ∷ (s 57 58) ∷ (s 59 60) ∷ (s 60 61) ∷ (s 61 62) ∷ (s 63 64) ∷ (s 64 65) ∷ (s 66 67) ∷ (s 67 72) ∷ (s 73 74) ∷ (s 74 75) ∷ (s 76 77) ∷ (s 77 78) ∷ (s 79 80) ∷ (s 80 86) ∷ (s 87 88) ∷ (s 89 90) ∷ (s 90 91) ∷ (s 91 92) ∷ (s 92 93) ∷ (s 93 94) ∷ (s 94 95) ∷ (s 96 97) ∷ (s 97 98) ∷ (s 99 100) ∷ (s 100 101) ∷ []) ∷ []) ((Some (((g.list (p 0 7 0 23) (g.part (g.atom (p 1 1 1 2) (g.spelled (k.Name (codes "m") false))) (g.part (g.list (p 2 6 3 22) (g.part (g.atom (p 3 3 4 17) (g.spelled (k.Name (codes "define-syntax") false))) (g.part (g.atom (p 4 4 18 19) (g.spelled (k.Name (codes "a") false))) (g.part (g.atom (p 5 5 20 21) (g.spelled (k.Numeral (codes "5")))) g.none)))) g.none)))) ∷ ((g.list (p 8 35 24 95) (g.part (g.atom (p 9 9 25 38) (g.spelled (k.Name (codes "define-syntax") false))) (g.part (g.atom (p 10 10 39 40) (g.spelled (k.Name (codes "k") false))) (g.part (g.list (p 11 34 41 94) (g.part (g.atom (p 12 12 42 54) (g.spelled (k.Name (codes "syntax-rules") false))) (g.part (g.list (p 13 15 55 58) (g.part (g.atom (p 14 14 56 57) (g.spelled (k.Name (codes "k") false))) g.none)) (g.part (g.list (p 16 33 59 93) (g.part (g.list (p 17 20 60 65) (g.part (g.atom (p 18 18 61 62) (g.spelled (k.Name (codes "_") false))) (g.part (g.atom (p 19 19 63 64) (g.spelled (k.Name (codes "k") false))) g.none))) (g.part (g.list (p 21 32 66 92) (g.part (g.atom (p 22 22 67 72) (g.spelled (k.Name (codes "begin") false))) (g.part (g.list (p 23 26 73 78) (g.part (g.atom (p 24 24 74 75) (g.spelled (k.Name (codes "f") false))) (g.part (g.atom (p 25 25 76 77) (g.spelled (k.Name (codes "f") false))) g.none))) (g.part (g.list (p 27 31 79 91) (g.part (g.atom (p 28 28 80 86) (g.spelled (k.Name (codes "define") false))) (g.part (g.atom (p 29 29 87 88) (g.spelled (k.Name (codes "m") false))) (g.part (g.atom (p 30 30 89 90) (g.spelled (k.Numeral (codes "1")))) g.none)))) g.none)))) g.none))) g.none)))) g.none))))) ∷ ((g.list (p 36 39 96 101) (g.part (g.atom (p 37 37 97 98) (g.spelled (k.Name (codes "k") false))) (g.part (g.atom (p 38 38 99 100) (g.spelled (k.Name (codes "k") false))) g.none)))) ∷ [])) ∷ []) ≡ ((a (b 0 39 40) (b 0 56 57)) ∷ (a (b 0 39 40) (b 0 63 64)) ∷ (a (b 0 39 40) (b 0 97 98)) ∷ (a (b 0 39 40) (b 0 99 100)) ∷ [])
+unfolding base_names standard_libraries prelude encode_utf8
+random-80231 = refl
+
+pub random-49957 : arrow_rows (((s 0 1) ∷ (s 1 14) ∷ (s 15 16) ∷ (s 17 18) ∷ (s 18 30) ∷ (s 31 32) ∷ (s 32 33) ∷ (s 33 34) ∷ (s 35 36) ∷ (s 36 37) ∷ (s 37 38) ∷ (s 39 40) ∷ (s 40 41) ∷ (s 42 43) ∷ (s 43 44) ∷ (s 45 46) ∷ (s 46 47) ∷ (s 47 48) ∷ (s 49 50) ∷ (s 50 51) ∷ (s 52 53) ∷ (s 53 59) ∷ (s 60 61) ∷ (s 62 63) ∷ (s 63 64) ∷ (s 64 65) ∷ (s 65 66) ∷ (s 66 67) ∷ (s 68 69) ∷ (s 69 70) ∷ (s 71 72) ∷ (s 72 73) ∷ (s 74 75) ∷ (s 75 81) ∷ (s 82 83) ∷ (s 84 85) ∷ (s 85 90) ∷ (s 91 92) ∷ (s 92 93) ∷ (s 94 95) ∷ (s 95 96) ∷ (s 97 98) ∷ (s 98 99) ∷ (s 100 101) ∷ (s 101 102) ∷ (s 102 103) ∷ (s 103 104) ∷ []) ∷ []) ((Some (((g.list (p 0 27 0 67) (g.part (g.atom (p 1 1 1 14) (g.spelled (k.Name (codes "define-syntax") false))) (g.part (g.atom (p 2 2 15 16) (g.spelled (k.Name (codes "m") false))) (g.part (g.list (p 3 26 17 66) (g.part (g.atom (p 4 4 18 30) (g.spelled (k.Name (codes "syntax-rules") false))) (g.part (g.list (p 5 7 31 34) (g.part (g.atom (p 6 6 32 33) (g.spelled (k.Name (codes "f") false))) g.none)) (g.part (g.list (p 8 14 35 44) (g.part (g.list (p 9 12 36 41) (g.part (g.atom (p 10 10 37 38) (g.spelled (k.Name (codes "_") false))) (g.part (g.atom (p 11 11 39 40) (g.spelled (k.Name (codes "f") false))) g.none))) (g.part (g.atom (p 13 13 42 43) (g.spelled (k.Name (codes "k") false))) g.none))) (g.part (g.list (p 15 25 45 65) (g.part (g.list (p 16 19 46 51) (g.part (g.atom (p 17 17 47 48) (g.spelled (k.Name (codes "_") false))) (g.part (g.atom (p 18 18 49 50) (g.spelled (k.Name (codes "f") false))) g.none))) (g.part (g.list (p 20 24 52 64) (g.part (g.atom (p 21 21 53 59) (g.spelled (k.Name (codes "define") false))) (g.part (g.atom (p 22 22 60 61) (g.spelled (k.Name (codes "n") false))) (g.part (g.atom (p 23 23 62 63) (g.spelled (k.Name (codes "f") false))) g.none)))) g.none))) g.none))))) g.none))))) ∷ ((g.list (p 28 31 68 73) (g.part (g.atom (p 29 29 69 70) (g.spelled (k.Name (codes "m") false))) (g.part (g.atom (p 30 30 71 72) (g.spelled (k.Name (codes "f") false))) g.none)))) ∷ ((g.list (p 32 46 74 104) (g.part (g.atom (p 33 33 75 81) (g.spelled (k.Name (codes "define") false))) (g.part (g.atom (p 34 34 82 83) (g.spelled (k.Name (codes "f") false))) (g.part (g.list (p 35 45 84 103) (g.part (g.atom (p 36 36 85 90) (g.spelled (k.Name (codes "begin") false))) (g.part (g.list (p 37 40 91 96) (g.part (g.atom (p 38 38 92 93) (g.spelled (k.Name (codes "a") false))) (g.part (g.atom (p 39 39 94 95) (g.spelled (k.Name (codes "n") false))) g.none))) (g.part (g.list (p 41 44 97 102) (g.part (g.atom (p 42 42 98 99) (g.spelled (k.Name (codes "a") false))) (g.part (g.atom (p 43 43 100 101) (g.spelled (k.Name (codes "k") false))) g.none))) g.none)))) g.none))))) ∷ [])) ∷ []) ≡ ((a (b 0 15 16) (b 0 69 70)) ∷ (a (b 0 82 83) (b 0 32 33)) ∷ (a (b 0 82 83) (b 0 39 40)) ∷ (a (b 0 82 83) (b 0 49 50)) ∷ (a (b 0 82 83) (b 0 62 63)) ∷ (a (b 0 82 83) (b 0 71 72)) ∷ [])
+unfolding base_names standard_libraries prelude encode_utf8
+random-49957 = refl
+
+pub random-186777 : arrow_rows (((s 0 1) ∷ (s 1 6) ∷ (s 7 8) ∷ (s 8 21) ∷ (s 22 23) ∷ (s 24 25) ∷ (s 25 37) ∷ (s 38 39) ∷ (s 39 40) ∷ (s 41 42) ∷ (s 42 43) ∷ (s 44 45) ∷ (s 45 46) ∷ (s 46 47) ∷ (s 47 48) ∷ (s 49 50) ∷ (s 50 56) ∷ (s 57 58) ∷ (s 59 60) ∷ (s 60 61) ∷ (s 61 62) ∷ (s 63 64) ∷ (s 64 65) ∷ (s 65 66) ∷ (s 67 68) ∷ (s 68 69) ∷ (s 70 71) ∷ (s 71 75) ∷ (s 76 77) ∷ (s 78 79) ∷ (s 79 80) ∷ (s 80 81) ∷ (s 81 82) ∷ (s 82 83) ∷ (s 84 85) ∷ (s 85 86) ∷ (s 87 88) ∷ (s 88 89) ∷ (s 89 90) ∷ (s 91 92) ∷ (s 92 105) ∷ (s 106 107) ∷ (s 107 108) ∷ (s 109 110) ∷ (s 110 111) ∷ (s 112 113) ∷ (s 113 117) ∷ (s 118 119) ∷ (s 120 121) ∷ (s 121 122) ∷ (s 122 123) ∷ []) ∷ []) ((Some (((g.list (p 0 38 0 90) (g.part (g.atom (p 1 1 1 6) (g.spelled (k.Name (codes "begin") false))) (g.part (g.list (p 2 33 7 83) (g.part (g.atom (p 3 3 8 21) (g.spelled (k.Name (codes "define-syntax") false))) (g.part (g.atom (p 4 4 22 23) (g.spelled (k.Name (codes "n") false))) (g.part (g.list (p 5 32 24 82) (g.part (g.atom (p 6 6 25 37) (g.spelled (k.Name (codes "syntax-rules") false))) (g.part (g.list (p 7 10 38 43) (g.part (g.atom (p 8 8 39 40) (g.spelled (k.Name (codes "f") false))) (g.part (g.atom (p 9 9 41 42) (g.spelled (k.Name (codes "m") false))) g.none))) (g.part (g.list (p 11 20 44 62) (g.part (g.list (p 12 14 45 48) (g.part (g.atom (p 13 13 46 47) (g.spelled (k.Name (codes "_") false))) g.none)) (g.part (g.list (p 15 19 49 61) (g.part (g.atom (p 16 16 50 56) (g.spelled (k.Name (codes "define") false))) (g.part (g.atom (p 17 17 57 58) (g.spelled (k.Name (codes "n") false))) (g.part (g.atom (p 18 18 59 60) (g.spelled (k.Name (codes "f") false))) g.none)))) g.none))) (g.part (g.list (p 21 31 63 81) (g.part (g.list (p 22 25 64 69) (g.part (g.atom (p 23 23 65 66) (g.spelled (k.Name (codes "_") false))) (g.part (g.atom (p 24 24 67 68) (g.spelled (k.Name (codes "f") false))) g.none))) (g.part (g.list (p 26 30 70 80) (g.part (g.atom (p 27 27 71 75) (g.spelled (k.Name (codes "list") false))) (g.part (g.atom (p 28 28 76 77) (g.spelled (k.Name (codes "m") false))) (g.part (g.atom (p 29 29 78 79) (g.spelled (k.Name (codes "a") false))) g.none)))) g.none))) g.none))))) g.none)))) (g.part (g.list (p 34 37 84 89) (g.part (g.atom (p 35 35 85 86) (g.spelled (k.Name (codes "n") false))) (g.part (g.atom (p 36 36 87 88) (g.spelled (k.Name (codes "f") false))) g.none))) g.none))))) ∷ ((g.list (p 39 50 91 123) (g.part (g.atom (p 40 40 92 105) (g.spelled (k.Name (codes "define-values") false))) (g.part (g.list (p 41 44 106 111) (g.part (g.atom (p 42 42 107 108) (g.spelled (k.Name (codes "f") false))) (g.part (g.atom (p 43 43 109 110) (g.spelled (k.Name (codes "m") false))) g.none))) (g.part (g.list (p 45 49 112 122) (g.part (g.atom (p 46 46 113 117) (g.spelled (k.Name (codes "list") false))) (g.part (g.atom (p 47 47 118 119) (g.spelled (k.Numeral (codes "1")))) (g.part (g.atom (p 48 48 120 121) (g.spelled (k.Name (codes "a") false))) g.none)))) g.none))))) ∷ [])) ∷ []) ≡ ((a (b 0 22 23) (b 0 57 58)) ∷ (a (b 0 22 23) (b 0 85 86)) ∷ (a (b 0 107 108) (b 0 39 40)) ∷ (a (b 0 107 108) (b 0 59 60)) ∷ (a (b 0 107 108) (b 0 67 68)) ∷ (a (b 0 107 108) (b 0 87 88)) ∷ (a (b 0 109 110) (b 0 41 42)) ∷ (a (b 0 109 110) (b 0 76 77)) ∷ [])
+unfolding base_names standard_libraries prelude encode_utf8
+random-186777 = refl
+
+pub random-119149 : arrow_rows (((s 0 1) ∷ (s 1 6) ∷ (s 7 8) ∷ (s 8 21) ∷ (s 22 23) ∷ (s 24 25) ∷ (s 25 37) ∷ (s 38 39) ∷ (s 39 40) ∷ (s 40 41) ∷ (s 42 43) ∷ (s 43 44) ∷ (s 44 45) ∷ (s 46 47) ∷ (s 48 49) ∷ (s 49 50) ∷ (s 51 52) ∷ (s 52 57) ∷ (s 58 59) ∷ (s 59 65) ∷ (s 66 67) ∷ (s 68 69) ∷ (s 69 70) ∷ (s 71 72) ∷ (s 72 73) ∷ (s 74 75) ∷ (s 75 76) ∷ (s 76 77) ∷ (s 77 78) ∷ (s 79 80) ∷ (s 80 81) ∷ (s 81 82) ∷ (s 83 84) ∷ (s 84 85) ∷ (s 86 87) ∷ (s 87 91) ∷ (s 92 93) ∷ (s 94 95) ∷ (s 95 96) ∷ (s 96 97) ∷ (s 97 98) ∷ (s 98 99) ∷ (s 100 101) ∷ (s 101 102) ∷ (s 103 104) ∷ (s 105 106) ∷ (s 106 107) ∷ (s 107 108) ∷ (s 109 110) ∷ (s 110 111) ∷ (s 112 113) ∷ (s 113 114) ∷ (s 115 116) ∷ (s 116 129) ∷ (s 130 131) ∷ (s 131 132) ∷ (s 133 134) ∷ (s 134 135) ∷ (s 136 137) ∷ (s 137 138) ∷ []) ∷ []) ((Some (((g.list (p 0 47 0 108) (g.part (g.atom (p 1 1 1 6) (g.spelled (k.Name (codes "begin") false))) (g.part (g.list (p 2 41 7 99) (g.part (g.atom (p 3 3 8 21) (g.spelled (k.Name (codes "define-syntax") false))) (g.part (g.atom (p 4 4 22 23) (g.spelled (k.Name (codes "m") false))) (g.part (g.list (p 5 40 24 98) (g.part (g.atom (p 6 6 25 37) (g.spelled (k.Name (codes "syntax-rules") false))) (g.part (g.list (p 7 9 38 41) (g.part (g.atom (p 8 8 39 40) (g.spelled (k.Name (codes "a") false))) g.none)) (g.part (g.list (p 10 28 42 78) (g.part (g.list (p 11 15 43 50) (g.part (g.atom (p 12 12 44 45) (g.spelled (k.Name (codes "_") false))) (g.part (g.atom (p 13 13 46 47) (g.spelled (k.Name (codes "a") false))) (g.part (g.atom (p 14 14 48 49) (g.spelled (k.Name (codes "w") false))) g.none)))) (g.part (g.list (p 16 27 51 77) (g.part (g.atom (p 17 17 52 57) (g.spelled (k.Name (codes "begin") false))) (g.part (g.list (p 18 22 58 70) (g.part (g.atom (p 19 19 59 65) (g.spelled (k.Name (codes "define") false))) (g.part (g.atom (p 20 20 66 67) (g.spelled (k.Name (codes "n") false))) (g.part (g.atom (p 21 21 68 69) (g.spelled (k.Numeral (codes "1")))) g.none)))) (g.part (g.list (p 23 26 71 76) (g.part (g.atom (p 24 24 72 73) (g.spelled (k.Name (codes "f") false))) (g.part (g.atom (p 25 25 74 75) (g.spelled (k.Name (codes "n") false))) g.none))) g.none)))) g.none))) (g.part (g.list (p 29 39 79 97) (g.part (g.list (p 30 33 80 85) (g.part (g.atom (p 31 31 81 82) (g.spelled (k.Name (codes "_") false))) (g.part (g.atom (p 32 32 83 84) (g.spelled (k.Name (codes "a") false))) g.none))) (g.part (g.list (p 34 38 86 96) (g.part (g.atom (p 35 35 87 91) (g.spelled (k.Name (codes "list") false))) (g.part (g.atom (p 36 36 92 93) (g.spelled (k.Name (codes "k") false))) (g.part (g.atom (p 37 37 94 95) (g.spelled (k.Name (codes "n") false))) g.none)))) g.none))) g.none))))) g.none)))) (g.part (g.list (p 42 46 100 107) (g.part (g.atom (p 43 43 101 102) (g.spelled (k.Name (codes "k") false))) (g.part (g.atom (p 44 44 103 104) (g.spelled (k.Name (codes "a") false))) (g.part (g.atom (p 45 45 105 106) (g.spelled (k.Name (codes "n") false))) g.none)))) g.none))))) ∷ ((g.list (p 48 51 109 114) (g.part (g.atom (p 49 49 110 111) (g.spelled (k.Name (codes "m") false))) (g.part (g.atom (p 50 50 112 113) (g.spelled (k.Name (codes "a") false))) g.none)))) ∷ ((g.list (p 52 59 115 138) (g.part (g.atom (p 53 53 116 129) (g.spelled (k.Name (codes "define-values") false))) (g.part (g.list (p 54 57 130 135) (g.part (g.atom (p 55 55 131 132) (g.spelled (k.Name (codes "a") false))) (g.part (g.atom (p 56 56 133 134) (g.spelled (k.Name (codes "k") false))) g.none))) (g.part (g.atom (p 58 58 136 137) (g.spelled (k.Name (codes "f") false))) g.none))))) ∷ [])) ∷ []) ≡ ((a (b 0 22 23) (b 0 110 111)) ∷ (a (b 0 131 132) (b 0 39 40)) ∷ (a (b 0 131 132) (b 0 46 47)) ∷ (a (b 0 131 132) (b 0 83 84)) ∷ (a (b 0 131 132) (b 0 103 104)) ∷ (a (b 0 131 132) (b 0 112 113)) ∷ (a (b 0 133 134) (b 0 92 93)) ∷ (a (b 0 133 134) (b 0 101 102)) ∷ [])
+unfolding base_names standard_libraries prelude encode_utf8
+random-119149 = refl
+
+pub random-144289 : arrow_rows (((s 0 1) ∷ (s 1 14) ∷ (s 15 16) ∷ (s 17 18) ∷ (s 18 30) ∷ (s 31 32) ∷ (s 32 33) ∷ (s 33 34) ∷ (s 35 36) ∷ (s 36 37) ∷ (s 37 38) ∷ (s 39 40) ∷ (s 40 41) ∷ (s 42 43) ∷ (s 43 44) ∷ (s 45 46) ∷ (s 46 47) ∷ (s 47 48) ∷ (s 49 50) ∷ (s 50 51) ∷ (s 51 52) ∷ (s 52 53) ∷ (s 54 55) ∷ (s 55 60) ∷ (s 61 62) ∷ (s 62 63) ∷ (s 64 65) ∷ (s 65 66) ∷ (s 67 68) ∷ (s 68 74) ∷ (s 75 76) ∷ (s 77 78) ∷ (s 78 79) ∷ (s 79 80) ∷ (s 80 81) ∷ (s 81 82) ∷ (s 82 83) ∷ (s 84 85) ∷ (s 85 86) ∷ (s 87 88) ∷ (s 88 89) ∷ (s 90 91) ∷ (s 91 92) ∷ (s 93 94) ∷ (s 94 95) ∷ (s 96 97) ∷ (s 97 110) ∷ (s 111 112) ∷ (s 113 114) ∷ (s 114 126) ∷ (s 127 128) ∷ (s 128 129) ∷ (s 129 130) ∷ (s 131 132) ∷ (s 132 133) ∷ (s 133 134) ∷ (s 135 136) ∷ (s 136 137) ∷ (s 137 138) ∷ (s 138 139) ∷ (s 140 141) ∷ (s 141 142) ∷ (s 142 143) ∷ (s 143 144) ∷ []) ∷ []) ((Some (((g.list (p 0 36 0 83) (g.part (g.atom (p 1 1 1 14) (g.spelled (k.Name (codes "define-syntax") false))) (g.part (g.atom (p 2 2 15 16) (g.spelled (k.Name (codes "k") false))) (g.part (g.list (p 3 35 17 82) (g.part (g.atom (p 4 4 18 30) (g.spelled (k.Name (codes "syntax-rules") false))) (g.part (g.list (p 5 7 31 34) (g.part (g.atom (p 6 6 32 33) (g.spelled (k.Name (codes "n") false))) g.none)) (g.part (g.list (p 8 14 35 44) (g.part (g.list (p 9 12 36 41) (g.part (g.atom (p 10 10 37 38) (g.spelled (k.Name (codes "_") false))) (g.part (g.atom (p 11 11 39 40) (g.spelled (k.Name (codes "n") false))) g.none))) (g.part (g.atom (p 13 13 42 43) (g.spelled (k.Name (codes "a") false))) g.none))) (g.part (g.list (p 15 34 45 81) (g.part (g.list (p 16 21 46 53) (g.part (g.atom (p 17 17 47 48) (g.spelled (k.Name (codes "_") false))) (g.part (g.list (p 18 20 49 52) (g.part (g.atom (p 19 19 50 51) (g.spelled (k.Name (codes "n") false))) g.none)) g.none))) (g.part (g.list (p 22 33 54 80) (g.part (g.atom (p 23 23 55 60) (g.spelled (k.Name (codes "begin") false))) (g.part (g.list (p 24 27 61 66) (g.part (g.atom (p 25 25 62 63) (g.spelled (k.Name (codes "k") false))) (g.part (g.atom (p 26 26 64 65) (g.spelled (k.Name (codes "m") false))) g.none))) (g.part (g.list (p 28 32 67 79) (g.part (g.atom (p 29 29 68 74) (g.spelled (k.Name (codes "define") false))) (g.part (g.atom (p 30 30 75 76) (g.spelled (k.Name (codes "k") false))) (g.part (g.atom (p 31 31 77 78) (g.spelled (k.Name (codes "k") false))) g.none)))) g.none)))) g.none))) g.none))))) g.none))))) ∷ ((g.list (p 37 40 84 89) (g.part (g.atom (p 38 38 85 86) (g.spelled (k.Name (codes "k") false))) (g.part (g.atom (p 39 39 87 88) (g.spelled (k.Name (codes "n") false))) g.none)))) ∷ ((g.list (p 41 44 90 95) (g.part (g.atom (p 42 42 91 92) (g.spelled (k.Name (codes "a") false))) (g.part (g.atom (p 43 43 93 94) (g.spelled (k.Name (codes "f") false))) g.none)))) ∷ ((g.list (p 45 63 96 144) (g.part (g.atom (p 46 46 97 110) (g.spelled (k.Name (codes "define-syntax") false))) (g.part (g.atom (p 47 47 111 112) (g.spelled (k.Name (codes "n") false))) (g.part (g.list (p 48 62 113 143) (g.part (g.atom (p 49 49 114 126) (g.spelled (k.Name (codes "syntax-rules") false))) (g.part (g.list (p 50 52 127 130) (g.part (g.atom (p 51 51 128 129) (g.spelled (k.Name (codes "k") false))) g.none)) (g.part (g.list (p 53 61 131 142) (g.part (g.list (p 54 59 132 139) (g.part (g.atom (p 55 55 133 134) (g.spelled (k.Name (codes "_") false))) (g.part (g.list (p 56 58 135 138) (g.part (g.atom (p 57 57 136 137) (g.spelled (k.Name (codes "k") false))) g.none)) g.none))) (g.part (g.atom (p 60 60 140 141) (g.spelled (k.Numeral (codes "1")))) g.none))) g.none)))) g.none))))) ∷ [])) ∷ []) ≡ ((a (b 0 15 16) (b 0 62 63)) ∷ (a (b 0 15 16) (b 0 75 76)) ∷ (a (b 0 15 16) (b 0 77 78)) ∷ (a (b 0 15 16) (b 0 85 86)) ∷ (a (b 0 15 16) (b 0 128 129)) ∷ (a (b 0 15 16) (b 0 136 137)) ∷ (a (b 0 111 112) (b 0 32 33)) ∷ (a (b 0 111 112) (b 0 39 40)) ∷ (a (b 0 111 112) (b 0 50 51)) ∷ (a (b 0 111 112) (b 0 87 88)) ∷ [])
+unfolding base_names standard_libraries prelude encode_utf8
+random-144289 = refl
+
+pub random-44664 : arrow_rows (((s 0 1) ∷ (s 1 2) ∷ (s 2 3) ∷ (s 4 5) ∷ (s 5 18) ∷ (s 19 20) ∷ (s 21 22) ∷ (s 22 34) ∷ (s 35 36) ∷ (s 36 37) ∷ (s 37 38) ∷ (s 39 40) ∷ (s 40 41) ∷ (s 41 42) ∷ (s 43 44) ∷ (s 44 45) ∷ (s 46 47) ∷ (s 47 53) ∷ (s 54 55) ∷ (s 56 57) ∷ (s 57 58) ∷ (s 58 59) ∷ (s 59 60) ∷ (s 60 61) ∷ (s 62 63) ∷ (s 63 64) ∷ (s 65 66) ∷ (s 66 67) ∷ (s 68 69) ∷ (s 69 82) ∷ (s 83 84) ∷ (s 85 86) ∷ (s 86 98) ∷ (s 99 100) ∷ (s 100 101) ∷ (s 102 103) ∷ (s 103 104) ∷ (s 105 106) ∷ (s 106 107) ∷ (s 107 108) ∷ (s 108 109) ∷ (s 110 111) ∷ (s 111 116) ∷ (s 117 118) ∷ (s 118 119) ∷ (s 120 121) ∷ (s 121 122) ∷ (s 123 124) ∷ (s 124 130) ∷ (s 131 132) ∷ (s 133 134) ∷ (s 134 135) ∷ (s 135 136) ∷ (s 136 137) ∷ (s 138 139) ∷ (s 139 140) ∷ (s 140 141) ∷ (s 142 143) ∷ (s 143 144) ∷ (s 145 146) ∷ (s 146 147) ∷ (s 147 148) ∷ (s 148 149) ∷ []) ∷ []) ((Some (((g.list (p 0 2 0 3) (g.part (g.atom (p 1 1 1 2) (g.spelled (k.Name (codes "a") false))) g.none))) ∷ ((g.list (p 3 23 4 61) (g.part (g.atom (p 4 4 5 18) (g.spelled (k.Name (codes "define-syntax") false))) (g.part (g.atom (p 5 5 19 20) (g.spelled (k.Name (codes "k") false))) (g.part (g.list (p 6 22 21 60) (g.part (g.atom (p 7 7 22 34) (g.spelled (k.Name (codes "syntax-rules") false))) (g.part (g.list (p 8 10 35 38) (g.part (g.atom (p 9 9 36 37) (g.spelled (k.Name (codes "n") false))) g.none)) (g.part (g.list (p 11 21 39 59) (g.part (g.list (p 12 15 40 45) (g.part (g.atom (p 13 13 41 42) (g.spelled (k.Name (codes "_") false))) (g.part (g.atom (p 14 14 43 44) (g.spelled (k.Name (codes "n") false))) g.none))) (g.part (g.list (p 16 20 46 58) (g.part (g.atom (p 17 17 47 53) (g.spelled (k.Name (codes "define") false))) (g.part (g.atom (p 18 18 54 55) (g.spelled (k.Name (codes "m") false))) (g.part (g.atom (p 19 19 56 57) (g.spelled (k.Numeral (codes "1")))) g.none)))) g.none))) g.none)))) g.none))))) ∷ ((g.list (p 24 27 62 67) (g.part (g.atom (p 25 25 63 64) (g.spelled (k.Name (codes "k") false))) (g.part (g.atom (p 26 26 65 66) (g.spelled (k.Name (codes "n") false))) g.none)))) ∷ ((g.list (p 28 62 68 149) (g.part (g.atom (p 29 29 69 82) (g.spelled (k.Name (codes "define-syntax") false))) (g.part (g.atom (p 30 30 83 84) (g.spelled (k.Name (codes "n") false))) (g.part (g.list (p 31 61 85 148) (g.part (g.atom (p 32 32 86 98) (g.spelled (k.Name (codes "syntax-rules") false))) (g.part (g.list (p 33 36 99 104) (g.part (g.atom (p 34 34 100 101) (g.spelled (k.Name (codes "a") false))) (g.part (g.atom (p 35 35 102 103) (g.spelled (k.Name (codes "k") false))) g.none))) (g.part (g.list (p 37 53 105 137) (g.part (g.list (p 38 40 106 109) (g.part (g.atom (p 39 39 107 108) (g.spelled (k.Name (codes "_") false))) g.none)) (g.part (g.list (p 41 52 110 136) (g.part (g.atom (p 42 42 111 116) (g.spelled (k.Name (codes "begin") false))) (g.part (g.list (p 43 46 117 122) (g.part (g.atom (p 44 44 118 119) (g.spelled (k.Name (codes "n") false))) (g.part (g.atom (p 45 45 120 121) (g.spelled (k.Name (codes "k") false))) g.none))) (g.part (g.list (p 47 51 123 135) (g.part (g.atom (p 48 48 124 130) (g.spelled (k.Name (codes "define") false))) (g.part (g.atom (p 49 49 131 132) (g.spelled (k.Name (codes "m") false))) (g.part (g.atom (p 50 50 133 134) (g.spelled (k.Name (codes "n") false))) g.none)))) g.none)))) g.none))) (g.part (g.list (p 54 60 138 147) (g.part (g.list (p 55 58 139 144) (g.part (g.atom (p 56 56 140 141) (g.spelled (k.Name (codes "_") false))) (g.part (g.atom (p 57 57 142 143) (g.spelled (k.Name (codes "v") false))) g.none))) (g.part (g.atom (p 59 59 145 146) (g.spelled (k.Numeral (codes "1")))) g.none))) g.none))))) g.none))))) ∷ [])) ∷ []) ≡ ((a (b 0 19 20) (b 0 63 64)) ∷ (a (b 0 19 20) (b 0 102 103)) ∷ (a (b 0 19 20) (b 0 120 121)) ∷ (a (b 0 83 84) (b 0 36 37)) ∷ (a (b 0 83 84) (b 0 43 44)) ∷ (a (b 0 83 84) (b 0 65 66)) ∷ (a (b 0 83 84) (b 0 118 119)) ∷ (a (b 0 83 84) (b 0 133 134)) ∷ [])
+unfolding base_names standard_libraries prelude encode_utf8
+random-44664 = refl
