@@ -9,3 +9,6 @@ pub mod ChangeRows
 pub mod ClassRows
 pub mod MacroRows
 pub mod AnswerRows
+pub mod UnitDiagnosticRows
+pub mod UnitArrowRows
+pub mod UnitRows

@@ -125,3 +125,55 @@ unread-definition = refl
 pub record-field-highlights : answer_rows (((s 0 1) ∷ (s 1 19) ∷ (s 20 21) ∷ (s 22 23) ∷ (s 23 27) ∷ (s 28 29) ∷ (s 29 30) ∷ (s 31 33) ∷ (s 34 35) ∷ (s 35 36) ∷ (s 37 40) ∷ (s 41 44) ∷ (s 44 45) ∷ (s 45 46) ∷ (s 47 48) ∷ (s 48 52) ∷ (s 53 54) ∷ (s 54 55) ∷ []) ∷ []) ((Some (((g.list (p 0 13 0 46) (g.part (g.atom (p 1 1 1 19) (g.spelled (k.Name (codes "define-record-type") false))) (g.part (g.atom (p 2 2 20 21) (g.spelled (k.Name (codes "p") false))) (g.part (g.list (p 3 6 22 30) (g.part (g.atom (p 4 4 23 27) (g.spelled (k.Name (codes "make") false))) (g.part (g.atom (p 5 5 28 29) (g.spelled (k.Name (codes "x") false))) g.none))) (g.part (g.atom (p 7 7 31 33) (g.spelled (k.Name (codes "p?") false))) (g.part (g.list (p 8 12 34 45) (g.part (g.atom (p 9 9 35 36) (g.spelled (k.Name (codes "x") false))) (g.part (g.atom (p 10 10 37 40) (g.spelled (k.Name (codes "get") false))) (g.part (g.atom (p 11 11 41 44) (g.spelled (k.Name (codes "set") false))) g.none)))) g.none))))))) ∷ ((g.list (p 14 17 47 55) (g.part (g.atom (p 15 15 48 52) (g.spelled (k.Name (codes "make") false))) (g.part (g.atom (p 16 16 53 54) (g.spelled (k.Numeral (codes "1")))) g.none)))) ∷ [])) ∷ []) 0 35 Highlights ≡ Lit (((b 0 28 29, 2)) ∷ ((b 0 35 36, 3)) ∷ [])
 unfolding base_names standard_libraries prelude encode_utf8
 record-field-highlights = refl
+
+pub rename-unknown-second : answer_rows (((s 0 1) ∷ (s 1 7) ∷ (s 8 9) ∷ (s 9 15) ∷ (s 16 17) ∷ (s 17 20) ∷ (s 20 21) ∷ (s 22 23) ∷ (s 23 27) ∷ (s 28 31) ∷ (s 31 32) ∷ (s 32 33) ∷ (s 33 34) ∷ []) ∷ []) ((Some (((g.list (p 0 12 0 34) (g.part (g.atom (p 1 1 1 7) (g.spelled (k.Name (codes "import") false))) (g.part (g.list (p 2 11 8 33) (g.part (g.atom (p 3 3 9 15) (g.spelled (k.Name (codes "rename") false))) (g.part (g.list (p 4 6 16 21) (g.part (g.atom (p 5 5 17 20) (g.spelled (k.Name (codes "unk") false))) g.none)) (g.part (g.list (p 7 10 22 32) (g.part (g.atom (p 8 8 23 27) (g.spelled (k.Name (codes "nope") false))) (g.part (g.atom (p 9 9 28 31) (g.spelled (k.Name (codes "add") false))) g.none))) g.none)))) g.none)))) ∷ [])) ∷ []) 0 28 Prepare ≡ Prepared (b 0 28 31)
+unfolding base_names standard_libraries prelude encode_utf8
+rename-unknown-second = refl
+
+pub rename-unknown-first : answer_rows (((s 0 1) ∷ (s 1 7) ∷ (s 8 9) ∷ (s 9 15) ∷ (s 16 17) ∷ (s 17 20) ∷ (s 20 21) ∷ (s 22 23) ∷ (s 23 27) ∷ (s 28 31) ∷ (s 31 32) ∷ (s 32 33) ∷ (s 33 34) ∷ []) ∷ []) ((Some (((g.list (p 0 12 0 34) (g.part (g.atom (p 1 1 1 7) (g.spelled (k.Name (codes "import") false))) (g.part (g.list (p 2 11 8 33) (g.part (g.atom (p 3 3 9 15) (g.spelled (k.Name (codes "rename") false))) (g.part (g.list (p 4 6 16 21) (g.part (g.atom (p 5 5 17 20) (g.spelled (k.Name (codes "unk") false))) g.none)) (g.part (g.list (p 7 10 22 32) (g.part (g.atom (p 8 8 23 27) (g.spelled (k.Name (codes "nope") false))) (g.part (g.atom (p 9 9 28 31) (g.spelled (k.Name (codes "add") false))) g.none))) g.none)))) g.none)))) ∷ [])) ∷ []) 0 23 Prepare ≡ Nothing
+unfolding base_names standard_libraries prelude encode_utf8
+rename-unknown-first = refl
+
+pub rename-unknown-definition : answer_rows (((s 0 1) ∷ (s 1 7) ∷ (s 8 9) ∷ (s 9 15) ∷ (s 16 17) ∷ (s 17 20) ∷ (s 20 21) ∷ (s 22 23) ∷ (s 23 27) ∷ (s 28 31) ∷ (s 31 32) ∷ (s 32 33) ∷ (s 33 34) ∷ []) ∷ []) ((Some (((g.list (p 0 12 0 34) (g.part (g.atom (p 1 1 1 7) (g.spelled (k.Name (codes "import") false))) (g.part (g.list (p 2 11 8 33) (g.part (g.atom (p 3 3 9 15) (g.spelled (k.Name (codes "rename") false))) (g.part (g.list (p 4 6 16 21) (g.part (g.atom (p 5 5 17 20) (g.spelled (k.Name (codes "unk") false))) g.none)) (g.part (g.list (p 7 10 22 32) (g.part (g.atom (p 8 8 23 27) (g.spelled (k.Name (codes "nope") false))) (g.part (g.atom (p 9 9 28 31) (g.spelled (k.Name (codes "add") false))) g.none))) g.none)))) g.none)))) ∷ [])) ∷ []) 0 28 Definition ≡ Places ([])
+unfolding base_names standard_libraries prelude encode_utf8
+rename-unknown-definition = refl
+
+pub rename-lacking-second : answer_rows (((s 0 1) ∷ (s 1 7) ∷ (s 8 9) ∷ (s 9 15) ∷ (s 16 17) ∷ (s 17 23) ∷ (s 24 29) ∷ (s 29 30) ∷ (s 31 32) ∷ (s 32 36) ∷ (s 37 41) ∷ (s 41 42) ∷ (s 42 43) ∷ (s 43 44) ∷ []) ∷ []) ((Some (((g.list (p 0 13 0 44) (g.part (g.atom (p 1 1 1 7) (g.spelled (k.Name (codes "import") false))) (g.part (g.list (p 2 12 8 43) (g.part (g.atom (p 3 3 9 15) (g.spelled (k.Name (codes "rename") false))) (g.part (g.list (p 4 7 16 30) (g.part (g.atom (p 5 5 17 23) (g.spelled (k.Name (codes "scheme") false))) (g.part (g.atom (p 6 6 24 29) (g.spelled (k.Name (codes "write") false))) g.none))) (g.part (g.list (p 8 11 31 42) (g.part (g.atom (p 9 9 32 36) (g.spelled (k.Name (codes "nope") false))) (g.part (g.atom (p 10 10 37 41) (g.spelled (k.Name (codes "show") false))) g.none))) g.none)))) g.none)))) ∷ [])) ∷ []) 0 37 Prepare ≡ Prepared (b 0 37 41)
+unfolding base_names standard_libraries prelude encode_utf8
+rename-lacking-second = refl
+
+pub rename-second : answer_rows (((s 0 1) ∷ (s 1 7) ∷ (s 8 9) ∷ (s 9 15) ∷ (s 16 17) ∷ (s 17 23) ∷ (s 24 29) ∷ (s 29 30) ∷ (s 31 32) ∷ (s 32 39) ∷ (s 40 44) ∷ (s 44 45) ∷ (s 45 46) ∷ (s 46 47) ∷ (s 48 49) ∷ (s 49 53) ∷ (s 54 55) ∷ (s 55 56) ∷ []) ∷ []) ((Some (((g.list (p 0 13 0 47) (g.part (g.atom (p 1 1 1 7) (g.spelled (k.Name (codes "import") false))) (g.part (g.list (p 2 12 8 46) (g.part (g.atom (p 3 3 9 15) (g.spelled (k.Name (codes "rename") false))) (g.part (g.list (p 4 7 16 30) (g.part (g.atom (p 5 5 17 23) (g.spelled (k.Name (codes "scheme") false))) (g.part (g.atom (p 6 6 24 29) (g.spelled (k.Name (codes "write") false))) g.none))) (g.part (g.list (p 8 11 31 45) (g.part (g.atom (p 9 9 32 39) (g.spelled (k.Name (codes "display") false))) (g.part (g.atom (p 10 10 40 44) (g.spelled (k.Name (codes "show") false))) g.none))) g.none)))) g.none)))) ∷ ((g.list (p 14 17 48 56) (g.part (g.atom (p 15 15 49 53) (g.spelled (k.Name (codes "show") false))) (g.part (g.atom (p 16 16 54 55) (g.spelled (k.Numeral (codes "1")))) g.none)))) ∷ [])) ∷ []) 0 40 Prepare ≡ Prepared (b 0 40 44)
+unfolding base_names standard_libraries prelude encode_utf8
+rename-second = refl
+
+pub rename-second-use : answer_rows (((s 0 1) ∷ (s 1 7) ∷ (s 8 9) ∷ (s 9 15) ∷ (s 16 17) ∷ (s 17 23) ∷ (s 24 29) ∷ (s 29 30) ∷ (s 31 32) ∷ (s 32 39) ∷ (s 40 44) ∷ (s 44 45) ∷ (s 45 46) ∷ (s 46 47) ∷ (s 48 49) ∷ (s 49 53) ∷ (s 54 55) ∷ (s 55 56) ∷ []) ∷ []) ((Some (((g.list (p 0 13 0 47) (g.part (g.atom (p 1 1 1 7) (g.spelled (k.Name (codes "import") false))) (g.part (g.list (p 2 12 8 46) (g.part (g.atom (p 3 3 9 15) (g.spelled (k.Name (codes "rename") false))) (g.part (g.list (p 4 7 16 30) (g.part (g.atom (p 5 5 17 23) (g.spelled (k.Name (codes "scheme") false))) (g.part (g.atom (p 6 6 24 29) (g.spelled (k.Name (codes "write") false))) g.none))) (g.part (g.list (p 8 11 31 45) (g.part (g.atom (p 9 9 32 39) (g.spelled (k.Name (codes "display") false))) (g.part (g.atom (p 10 10 40 44) (g.spelled (k.Name (codes "show") false))) g.none))) g.none)))) g.none)))) ∷ ((g.list (p 14 17 48 56) (g.part (g.atom (p 15 15 49 53) (g.spelled (k.Name (codes "show") false))) (g.part (g.atom (p 16 16 54 55) (g.spelled (k.Numeral (codes "1")))) g.none)))) ∷ [])) ∷ []) 0 49 Prepare ≡ Prepared (b 0 49 53)
+unfolding base_names standard_libraries prelude encode_utf8
+rename-second-use = refl
+
+pub rename-first : answer_rows (((s 0 1) ∷ (s 1 7) ∷ (s 8 9) ∷ (s 9 15) ∷ (s 16 17) ∷ (s 17 23) ∷ (s 24 29) ∷ (s 29 30) ∷ (s 31 32) ∷ (s 32 39) ∷ (s 40 44) ∷ (s 44 45) ∷ (s 45 46) ∷ (s 46 47) ∷ (s 48 49) ∷ (s 49 53) ∷ (s 54 55) ∷ (s 55 56) ∷ []) ∷ []) ((Some (((g.list (p 0 13 0 47) (g.part (g.atom (p 1 1 1 7) (g.spelled (k.Name (codes "import") false))) (g.part (g.list (p 2 12 8 46) (g.part (g.atom (p 3 3 9 15) (g.spelled (k.Name (codes "rename") false))) (g.part (g.list (p 4 7 16 30) (g.part (g.atom (p 5 5 17 23) (g.spelled (k.Name (codes "scheme") false))) (g.part (g.atom (p 6 6 24 29) (g.spelled (k.Name (codes "write") false))) g.none))) (g.part (g.list (p 8 11 31 45) (g.part (g.atom (p 9 9 32 39) (g.spelled (k.Name (codes "display") false))) (g.part (g.atom (p 10 10 40 44) (g.spelled (k.Name (codes "show") false))) g.none))) g.none)))) g.none)))) ∷ ((g.list (p 14 17 48 56) (g.part (g.atom (p 15 15 49 53) (g.spelled (k.Name (codes "show") false))) (g.part (g.atom (p 16 16 54 55) (g.spelled (k.Numeral (codes "1")))) g.none)))) ∷ [])) ∷ []) 0 32 Prepare ≡ Nothing
+unfolding base_names standard_libraries prelude encode_utf8
+rename-first = refl
+
+pub rename-below-prefix-second : answer_rows (((s 0 1) ∷ (s 1 7) ∷ (s 8 9) ∷ (s 9 15) ∷ (s 16 17) ∷ (s 17 23) ∷ (s 24 25) ∷ (s 25 28) ∷ (s 28 29) ∷ (s 30 31) ∷ (s 31 34) ∷ (s 35 38) ∷ (s 38 39) ∷ (s 39 40) ∷ (s 41 43) ∷ (s 43 44) ∷ (s 44 45) ∷ []) ∷ []) ((Some (((g.list (p 0 16 0 45) (g.part (g.atom (p 1 1 1 7) (g.spelled (k.Name (codes "import") false))) (g.part (g.list (p 2 15 8 44) (g.part (g.atom (p 3 3 9 15) (g.spelled (k.Name (codes "prefix") false))) (g.part (g.list (p 4 13 16 40) (g.part (g.atom (p 5 5 17 23) (g.spelled (k.Name (codes "rename") false))) (g.part (g.list (p 6 8 24 29) (g.part (g.atom (p 7 7 25 28) (g.spelled (k.Name (codes "unk") false))) g.none)) (g.part (g.list (p 9 12 30 39) (g.part (g.atom (p 10 10 31 34) (g.spelled (k.Name (codes "one") false))) (g.part (g.atom (p 11 11 35 38) (g.spelled (k.Name (codes "two") false))) g.none))) g.none)))) (g.part (g.atom (p 14 14 41 43) (g.spelled (k.Name (codes "p:") false))) g.none)))) g.none)))) ∷ [])) ∷ []) 0 35 Prepare ≡ Prepared (b 0 35 38)
+unfolding base_names standard_libraries prelude encode_utf8
+rename-below-prefix-second = refl
+
+pub rename-above-a-fault-second : answer_rows (((s 0 1) ∷ (s 1 7) ∷ (s 8 9) ∷ (s 9 15) ∷ (s 16 17) ∷ (s 17 21) ∷ (s 22 23) ∷ (s 23 29) ∷ (s 30 35) ∷ (s 35 36) ∷ (s 37 41) ∷ (s 41 42) ∷ (s 43 44) ∷ (s 44 47) ∷ (s 48 51) ∷ (s 51 52) ∷ (s 52 53) ∷ (s 53 54) ∷ []) ∷ []) ((Some (((g.list (p 0 17 0 54) (g.part (g.atom (p 1 1 1 7) (g.spelled (k.Name (codes "import") false))) (g.part (g.list (p 2 16 8 53) (g.part (g.atom (p 3 3 9 15) (g.spelled (k.Name (codes "rename") false))) (g.part (g.list (p 4 11 16 42) (g.part (g.atom (p 5 5 17 21) (g.spelled (k.Name (codes "only") false))) (g.part (g.list (p 6 9 22 36) (g.part (g.atom (p 7 7 23 29) (g.spelled (k.Name (codes "scheme") false))) (g.part (g.atom (p 8 8 30 35) (g.spelled (k.Name (codes "write") false))) g.none))) (g.part (g.atom (p 10 10 37 41) (g.spelled (k.Name (codes "nope") false))) g.none)))) (g.part (g.list (p 12 15 43 52) (g.part (g.atom (p 13 13 44 47) (g.spelled (k.Name (codes "one") false))) (g.part (g.atom (p 14 14 48 51) (g.spelled (k.Name (codes "two") false))) g.none))) g.none)))) g.none)))) ∷ [])) ∷ []) 0 48 Prepare ≡ Prepared (b 0 48 51)
+unfolding base_names standard_libraries prelude encode_utf8
+rename-above-a-fault-second = refl
+
+pub rename-without-shape-second : answer_rows (((s 0 1) ∷ (s 1 7) ∷ (s 8 9) ∷ (s 9 15) ∷ (s 16 17) ∷ (s 17 21) ∷ (s 22 23) ∷ (s 23 29) ∷ (s 30 35) ∷ (s 35 36) ∷ (s 37 38) ∷ (s 38 39) ∷ (s 40 41) ∷ (s 41 44) ∷ (s 45 48) ∷ (s 48 49) ∷ (s 49 50) ∷ (s 50 51) ∷ []) ∷ []) ((Some (((g.list (p 0 17 0 51) (g.part (g.atom (p 1 1 1 7) (g.spelled (k.Name (codes "import") false))) (g.part (g.list (p 2 16 8 50) (g.part (g.atom (p 3 3 9 15) (g.spelled (k.Name (codes "rename") false))) (g.part (g.list (p 4 11 16 39) (g.part (g.atom (p 5 5 17 21) (g.spelled (k.Name (codes "only") false))) (g.part (g.list (p 6 9 22 36) (g.part (g.atom (p 7 7 23 29) (g.spelled (k.Name (codes "scheme") false))) (g.part (g.atom (p 8 8 30 35) (g.spelled (k.Name (codes "write") false))) g.none))) (g.part (g.atom (p 10 10 37 38) (g.spelled (k.Numeral (codes "5")))) g.none)))) (g.part (g.list (p 12 15 40 49) (g.part (g.atom (p 13 13 41 44) (g.spelled (k.Name (codes "one") false))) (g.part (g.atom (p 14 14 45 48) (g.spelled (k.Name (codes "two") false))) g.none))) g.none)))) g.none)))) ∷ [])) ∷ []) 0 45 Prepare ≡ Nothing
+unfolding base_names standard_libraries prelude encode_utf8
+rename-without-shape-second = refl
+
+pub rename-in-a-library-second : answer_rows (((s 0 1) ∷ (s 1 15) ∷ (s 16 17) ∷ (s 17 18) ∷ (s 18 19) ∷ (s 20 21) ∷ (s 21 27) ∷ (s 28 29) ∷ (s 29 35) ∷ (s 36 37) ∷ (s 37 43) ∷ (s 44 45) ∷ (s 45 48) ∷ (s 48 49) ∷ (s 50 51) ∷ (s 51 54) ∷ (s 55 58) ∷ (s 58 59) ∷ (s 59 60) ∷ (s 61 62) ∷ (s 62 67) ∷ (s 68 72) ∷ (s 72 73) ∷ (s 73 74) ∷ (s 74 75) ∷ (s 75 76) ∷ []) ∷ []) ((Some (((g.list (p 0 25 0 76) (g.part (g.atom (p 1 1 1 15) (g.spelled (k.Name (codes "define-library") false))) (g.part (g.list (p 2 4 16 19) (g.part (g.atom (p 3 3 17 18) (g.spelled (k.Name (codes "l") false))) g.none)) (g.part (g.list (p 5 24 20 75) (g.part (g.atom (p 6 6 21 27) (g.spelled (k.Name (codes "import") false))) (g.part (g.list (p 7 23 28 74) (g.part (g.atom (p 8 8 29 35) (g.spelled (k.Name (codes "rename") false))) (g.part (g.list (p 9 18 36 60) (g.part (g.atom (p 10 10 37 43) (g.spelled (k.Name (codes "rename") false))) (g.part (g.list (p 11 13 44 49) (g.part (g.atom (p 12 12 45 48) (g.spelled (k.Name (codes "unk") false))) g.none)) (g.part (g.list (p 14 17 50 59) (g.part (g.atom (p 15 15 51 54) (g.spelled (k.Name (codes "one") false))) (g.part (g.atom (p 16 16 55 58) (g.spelled (k.Name (codes "two") false))) g.none))) g.none)))) (g.part (g.list (p 19 22 61 73) (g.part (g.atom (p 20 20 62 67) (g.spelled (k.Name (codes "three") false))) (g.part (g.atom (p 21 21 68 72) (g.spelled (k.Name (codes "four") false))) g.none))) g.none)))) g.none))) g.none))))) ∷ [])) ∷ []) 0 55 Prepare ≡ Prepared (b 0 55 58)
+unfolding base_names standard_libraries prelude encode_utf8
+rename-in-a-library-second = refl
+
+pub implied-rename-second : answer_rows (((s 0 1) ∷ (s 1 7) ∷ (s 8 9) ∷ (s 9 15) ∷ (s 16 17) ∷ (s 17 23) ∷ (s 24 28) ∷ (s 28 29) ∷ (s 30 31) ∷ (s 31 33) ∷ (s 33 34) ∷ (s 34 35) ∷ (s 36 37) ∷ (s 37 39) ∷ (s 40 41) ∷ (s 41 42) ∷ []) ∷ []) ((Some (((g.list (p 0 11 0 35) (g.part (g.atom (p 1 1 1 7) (g.spelled (k.Name (codes "import") false))) (g.part (g.list (p 2 10 8 34) (g.part (g.atom (p 3 3 9 15) (g.spelled (k.Name (codes "rename") false))) (g.part (g.list (p 4 7 16 29) (g.part (g.atom (p 5 5 17 23) (g.spelled (k.Name (codes "scheme") false))) (g.part (g.atom (p 6 6 24 28) (g.spelled (k.Name (codes "base") false))) g.none))) (g.part (g.list (p 8 9 30 33) (g.part (g.atom (p 8 8 30 31) (g.implied k.Quote)) (g.part (g.atom (p 9 9 31 33) (g.spelled (k.Name (codes "kw") false))) g.none))) g.none)))) g.none)))) ∷ ((g.list (p 12 15 36 42) (g.part (g.atom (p 13 13 37 39) (g.spelled (k.Name (codes "kw") false))) (g.part (g.atom (p 14 14 40 41) (g.spelled (k.Name (codes "x") false))) g.none)))) ∷ [])) ∷ []) 0 31 Prepare ≡ Prepared (b 0 31 33)
+unfolding base_names standard_libraries prelude encode_utf8
+implied-rename-second = refl
+
+pub implied-has-no-token : answer_rows (((s 0 1) ∷ (s 1 7) ∷ (s 8 9) ∷ (s 9 15) ∷ (s 16 17) ∷ (s 17 23) ∷ (s 24 28) ∷ (s 28 29) ∷ (s 30 31) ∷ (s 31 33) ∷ (s 33 34) ∷ (s 34 35) ∷ (s 36 37) ∷ (s 37 39) ∷ (s 40 41) ∷ (s 41 42) ∷ []) ∷ []) ((Some (((g.list (p 0 11 0 35) (g.part (g.atom (p 1 1 1 7) (g.spelled (k.Name (codes "import") false))) (g.part (g.list (p 2 10 8 34) (g.part (g.atom (p 3 3 9 15) (g.spelled (k.Name (codes "rename") false))) (g.part (g.list (p 4 7 16 29) (g.part (g.atom (p 5 5 17 23) (g.spelled (k.Name (codes "scheme") false))) (g.part (g.atom (p 6 6 24 28) (g.spelled (k.Name (codes "base") false))) g.none))) (g.part (g.list (p 8 9 30 33) (g.part (g.atom (p 8 8 30 31) (g.implied k.Quote)) (g.part (g.atom (p 9 9 31 33) (g.spelled (k.Name (codes "kw") false))) g.none))) g.none)))) g.none)))) ∷ ((g.list (p 12 15 36 42) (g.part (g.atom (p 13 13 37 39) (g.spelled (k.Name (codes "kw") false))) (g.part (g.atom (p 14 14 40 41) (g.spelled (k.Name (codes "x") false))) g.none)))) ∷ [])) ∷ []) 0 30 Prepare ≡ Nothing
+unfolding base_names standard_libraries prelude encode_utf8
+implied-has-no-token = refl
