@@ -4,7 +4,8 @@
 
 ;;; Commentary:
 
-;; Tells Eglot the server, and draws the arrows of the name at point: where it is bound and where it is used.
+;; Tells Eglot the server, gives the server the libraries that are imported, and draws the arrows of the name at point:
+;; where it is bound and where it is used.
 ;; Put this file into a folder of `load-path', and (require 'scheme-ls) into the init file.  README.md beside it says
 ;; what is to be seen.
 
@@ -12,6 +13,8 @@
 
 (require 'cl-lib)
 (require 'seq)
+(require 'subr-x)
+(require 'project)
 (require 'eglot)
 
 (defgroup scheme-ls nil "Scheme by scheme_ls." :group 'eglot)
@@ -19,6 +22,10 @@
 (defcustom scheme-ls-command '("scheme_ls" "serve")
   "The command that is the server, read where this file is loaded."
   :type '(repeat string))
+
+(defcustom scheme-ls-roots nil
+  "Further folders in which the files of libraries are looked for."
+  :type '(repeat directory))
 
 (defcustom scheme-ls-widest 100
   "The line beside the text stands no farther right than behind this column."
@@ -36,12 +43,19 @@
   "Seconds without a change before arrows are asked for."
   :type 'number)
 
+(defcustom scheme-ls-quiet 0.3
+  "Seconds without a change before a buffer is looked at for imports."
+  :type 'number)
+
+(defconst scheme-ls--most 64 "The server refuses further documents.")
+(defconst scheme-ls--limit 1048576 "The server refuses texts of more bytes.")
+
 (defface scheme-ls-binder '((t :inherit diff-refine-added)) "A name where it is bound.")
 (defface scheme-ls-use '((t :inherit lazy-highlight)) "A name where it is used.")
 (defface scheme-ls-arrow '((t :inherit shadow)) "What is drawn beside the text.")
 
-(add-to-list 'auto-mode-alist '("\\.s\\(?:cm\\|ld\\|ls\\)\\'" . scheme-mode))
-(add-to-list 'eglot-server-programs (cons 'scheme-mode scheme-ls-command))
+(add-to-list 'auto-mode-alist '("\\.s\\(?:cm\\|ld\\)\\'" . scheme-mode))
+(add-to-list 'eglot-server-programs `(scheme-mode . (scheme-ls-server . ,scheme-ls-command)))
 
 (defvar scheme-ls--turn 0
   "Grows with each change of what is open; older answers don't count.")
@@ -232,7 +246,7 @@ where a name is bound, ◀ where it is used."
     (with-current-buffer buffer
       (let ((server (and scheme-ls-arrows-mode (eglot-current-server)))
             (turn scheme-ls--turn))
-        (when (and server (not (equal scheme-ls--answered turn)))
+        (when (and server (jsonrpc-running-p server) (not (equal scheme-ls--answered turn)))
           (setq scheme-ls--answered turn
                 scheme-ls--arrows nil)
           (eglot--signal-textDocument/didChange)
@@ -284,10 +298,423 @@ for a while."
 What is open is what the others are about, so all are asked for again."
   (when (derived-mode-p 'scheme-mode)
     (scheme-ls--after-change)
-    (scheme-ls-arrows-mode (if (eglot-managed-p) 1 -1))))
+    (scheme-ls-arrows-mode (if (eglot-managed-p) 1 -1))
+    (unless (eglot-managed-p) (scheme-ls--settle-all))))
 
+;;;; Which libraries a text names
+
+(defun scheme-ls--skip-block ()
+  "Move behind the comment between #| and |# at point.  Such comments nest."
+  (let ((depth 0))
+    (while (and (re-search-forward "#|\\||#" nil 'move)
+                (< 0 (setq depth (if (eq (char-before) ?|) (1+ depth) (1- depth))))))))
+
+(defun scheme-ls--skip ()
+  "Move behind white space and comments."
+  (while (progn (skip-chars-forward " \t\n\r\f\v")
+                (looking-at ";\\|#|"))
+    (if (eq (char-after) ?\;)
+        (skip-chars-forward "^\n\r")
+      (scheme-ls--skip-block))))
+
+(defun scheme-ls--skip-quoted ()
+  "Move behind the string or name between two of the same marks at point."
+  (let ((stop (if (eq (char-after) ?|) "[\\\\|]" "[\\\\\"]")))
+    (forward-char)
+    (while (and (re-search-forward stop nil 'move)
+                (eq (char-before) ?\\))
+      (unless (eobp) (forward-char)))))
+
+(defun scheme-ls--token ()
+  "Move behind the token at point.
+Answer `(' for lists and vectors, a quotation mark for strings, the name for
+names, and else what is written."
+  (let ((start (point)))
+    (cond ((looking-at "#[[:alnum:]]*(") (goto-char (match-end 0)) "(")
+          ((looking-at "\"") (scheme-ls--skip-quoted) "\"")
+          ((looking-at "|") (scheme-ls--skip-quoted) (buffer-substring-no-properties (1+ start) (1- (point))))
+          ((looking-at "#;\\|[()'`,]") (goto-char (match-end 0)) (match-string-no-properties 0))
+          (t (goto-char (min (point-max) (+ start (if (looking-at "#\\\\") 3 1))))
+             (skip-chars-forward "^ \t\n\r\f\v()\";|")
+             (buffer-substring-no-properties start (point))))))
+
+(defun scheme-ls--read ()
+  "Move behind the datum at point, and answer it; nil where it has no end.
+A list is (list PARTS..), anything else a string.  What `#;' drops isn't there."
+  (let (above)
+    (catch 'datum
+      (while (progn (scheme-ls--skip) (not (eobp)))
+        (let ((word (scheme-ls--token)) datum)
+          (cond ((equal word "(") (push (list 'list) above))
+                ((equal word "#;") (push 'drop above))
+                ((equal word ")")
+                 (setq datum (pop above))
+                 (if (consp datum) (setq datum (nreverse datum)) (throw 'datum nil)))
+                ((not (member word '("'" "`" ","))) (setq datum word)))
+          (cond ((null datum))
+                ((eq (car above) 'drop) (pop above))
+                ((null above) (throw 'datum datum))
+                (t (push datum (car above)))))))))
+
+(defun scheme-ls--library (set)
+  "\"a/b/c\" for the name (a b c), also inside of the import set SET.
+It is nil where no file has that name, and for (scheme ..)."
+  (while (and (consp set) (member (nth 1 set) '("only" "except" "prefix" "rename")) (consp (nth 2 set)))
+    (setq set (nth 2 set)))
+  (and (cdr-safe set)
+       (not (equal (nth 1 set) "scheme"))
+       (seq-every-p (lambda (part) (and (stringp part) (not (string-match-p "[/\\\\\"\0]\\|\\`\\.*\\'" part)))) (cdr set))
+       (string-join (cdr set) "/")))
+
+(defun scheme-ls--scan ()
+  "The libraries that the text imports and defines, as (IMPORTS . DEFINES).
+It is nil where an import has no end.  Every list that is headed by `import' or
+`define-library' counts, wherever it stands, but those in comments, in strings
+and behind `#;' don't."
+  (save-excursion
+    (save-restriction
+      (widen)
+      (goto-char (point-min))
+      (let ((case-fold-search nil) imports defines)
+        (catch 'unfinished
+          (while (re-search-forward "[(\";|]\\|#[|;\\\\]" nil t)
+            (goto-char (match-beginning 0))
+            (cond ((looking-at ";\\|#|") (scheme-ls--skip))
+                  ((looking-at "#;") (forward-char 2) (scheme-ls--read))
+                  ((looking-at "(")
+                   (let ((start (point)) word)
+                     (forward-char)
+                     (scheme-ls--skip)
+                     (when (looking-at "import\\|define-library")
+                       (setq word (scheme-ls--token)))
+                     (cond ((equal word "import")
+                            (goto-char start)
+                            (dolist (set (nthcdr 2 (or (scheme-ls--read) (throw 'unfinished nil))))
+                              (push (scheme-ls--library set) imports)))
+                           ((equal word "define-library")
+                            (push (scheme-ls--library (scheme-ls--read)) defines)))))
+                  (t (scheme-ls--token))))
+          (cons (delq nil (nreverse imports)) (delq nil defines)))))))
+
+;;;; What the server has open
+
+(defclass scheme-ls-server (eglot-lsp-server)
+  ((documents
+    :initform (make-hash-table :test #'equal) :accessor scheme-ls--documents
+    :documentation "By uri a buffer, or the file of a library as (STAMP . VERSION).")
+   (libraries
+    :initform nil :accessor scheme-ls--libraries
+    :documentation "The uris of these files, the last that was found first.")
+   (settling :initform nil :accessor scheme-ls--settling)
+   (full :initform nil :accessor scheme-ls--full))
+  :documentation "A server that is told no more than it takes.")
+
+(defvar-local scheme-ls--refused nil "Why the server doesn't take this buffer.")
+(defvar-local scheme-ls--known nil "The tick of the text, and what it imports and defines.")
+
+(defun scheme-ls--tell (text &rest parts)
+  (display-warning 'scheme-ls (apply #'format text parts)))
+
+(defun scheme-ls--fits-p ()
+  "Whether this buffer is one for the server: a file of Scheme."
+  (and buffer-file-name
+       (derived-mode-p 'scheme-mode)
+       (string-match-p "\\.s\\(?:cm\\|ld\\)\\'" buffer-file-name)))
+
+(defun scheme-ls--long-p ()
+  (> (1- (position-bytes (1+ (buffer-size)))) scheme-ls--limit))
+
+(defun scheme-ls--count-others (server)
+  "How many other buffers SERVER has open."
+  (cl-count-if (lambda (document) (and (bufferp document) (not (eq document (current-buffer)))))
+               (hash-table-values (scheme-ls--documents server))))
+
+(defun scheme-ls--refuse-p (server)
+  "Whether SERVER can't open this buffer.  If so this is said, once."
+  (let ((why (cond ((scheme-ls--long-p) "it is longer than 1 MiB")
+                   ((and (scheme-ls-server-p server) (>= (scheme-ls--count-others server) scheme-ls--most))
+                    (format "%d files are open" scheme-ls--most)))))
+    (when (and why (not scheme-ls--refused))
+      (scheme-ls--tell "%s isn't given to the server: %s" (file-name-nondirectory buffer-file-name) why))
+    (setq scheme-ls--refused why)))
+
+(defun scheme-ls--send (server method params)
+  "Send SERVER a notification past the gate."
+  (when (jsonrpc-running-p server)
+    (jsonrpc-notify server 'scheme-ls--past (cons method params))))
+
+(defun scheme-ls--close (server uri)
+  (when (gethash uri (scheme-ls--documents server))
+    (remhash uri (scheme-ls--documents server))
+    (scheme-ls--send server :textDocument/didClose `(:textDocument (:uri ,uri)))))
+
+(defun scheme-ls--let-go (buffer)
+  "Have Eglot manage BUFFER no more, if the server doesn't have it."
+  (when (buffer-live-p buffer)
+    (with-current-buffer buffer
+      (let ((server (and (eglot-managed-p) (eglot-current-server))))
+        (when (and (scheme-ls-server-p server)
+                   (not (eq buffer (gethash (scheme-ls--uri) (scheme-ls--documents server)))))
+          (eglot--managed-mode-off))))))
+
+(defun scheme-ls--pass-open (server uri params)
+  (scheme-ls--close server uri)
+  (cond ((or (not (scheme-ls--fits-p)) (scheme-ls--refuse-p server))
+         (run-with-timer 0 nil #'scheme-ls--let-go (current-buffer)))
+        (t (while (and (scheme-ls--libraries server) (>= (hash-table-count (scheme-ls--documents server)) scheme-ls--most))
+             (scheme-ls--close server (pop (scheme-ls--libraries server))))
+           (puthash uri (current-buffer) (scheme-ls--documents server))
+           (scheme-ls--send server :textDocument/didOpen params)))
+  (scheme-ls--settle-soon server))
+
+(defun scheme-ls--pass-change (server uri params)
+  (let ((size (cl-loop for change across (plist-get params :contentChanges)
+                       sum (string-bytes (plist-get change :text)))))
+    (cond ((scheme-ls--long-p)
+           (scheme-ls--close server uri)
+           (scheme-ls--refuse-p server)
+           (run-with-timer 0 nil #'scheme-ls--let-go (current-buffer))
+           (scheme-ls--settle-soon server))
+          ((> size scheme-ls--limit)
+           (let ((text (eglot--widening (buffer-substring-no-properties (point-min) (point-max)))))
+             (scheme-ls--send server :textDocument/didChange
+                              `(:textDocument ,(plist-get params :textDocument) :contentChanges [(:text ,text)]))))
+          (t (scheme-ls--send server :textDocument/didChange params)))))
+
+(cl-defmethod jsonrpc-connection-send :around ((server scheme-ls-server) &rest args &key method params &allow-other-keys)
+  "Send what SERVER can take.
+It would refuse too long a text or a 65th, and a message of more than 8 MiB
+would end it."
+  (let* ((uri (and (memq method '(:textDocument/didOpen :textDocument/didChange :textDocument/didClose :textDocument/didSave))
+                   (plist-get (plist-get params :textDocument) :uri)))
+         (document (and uri (gethash uri (scheme-ls--documents server)))))
+    (cond ((eq method 'scheme-ls--past)
+           (cl-call-next-method server :method (car params) :params (cdr params)))
+          ((null uri) (cl-call-next-method))
+          ((eq method :textDocument/didOpen) (scheme-ls--pass-open server uri params))
+          ((not (eq document (current-buffer))) nil)
+          ((eq method :textDocument/didChange) (scheme-ls--pass-change server uri params))
+          ((eq method :textDocument/didClose)
+           (scheme-ls--close server uri)
+           (scheme-ls--settle-soon server))
+          (t (cl-call-next-method)))))
+
+(cl-defmethod eglot-handle-notification ((_server scheme-ls-server) (_method (eql 'window/logMessage)) &key type message)
+  "Show what the server logs as an error."
+  (when (eql type 1)
+    (display-warning 'scheme-ls message :error)))
+
+;;;; The files of libraries
+
+(cl-defstruct scheme-ls--file stamp taken imports)
+
+(defvar scheme-ls--files (make-hash-table :test #'equal)
+  "By path when a file was read, whether the server takes it, and its imports.")
+
+(defun scheme-ls--find (library folder roots)
+  "The file of LIBRARY, looked for upwards from FOLDER and then in ROOTS."
+  (let ((name (concat library ".sld")) found)
+    (while (and folder (not found))
+      (let ((path (expand-file-name name folder))
+            (above (file-name-directory (directory-file-name folder))))
+        (when (file-regular-p path) (setq found path))
+        (setq folder (and (not (equal above folder)) above))))
+    (or found
+        (cl-loop for root in roots
+                 for path = (expand-file-name name root)
+                 when (file-regular-p path) return path))))
+
+(defun scheme-ls--read-file (path)
+  "The text of the file PATH and its imports, if it is one that the server takes."
+  (ignore-errors
+    (with-temp-buffer
+      (insert-file-contents path)
+      (unless (or (scheme-ls--long-p) (re-search-forward "[\x3fff80-\x3fffff]" nil t))
+        (cons (buffer-string) (car (scheme-ls--scan)))))))
+
+(defun scheme-ls--look-into (path)
+  "What is known of the file PATH, read anew where it has changed."
+  (let* ((attributes (file-attributes path))
+         (stamp (list (file-attribute-modification-time attributes) (file-attribute-size attributes)))
+         (file (gethash path scheme-ls--files)))
+    (unless (and file (equal stamp (scheme-ls--file-stamp file)))
+      (let ((read (and (<= (nth 1 stamp) (* 2 scheme-ls--limit)) (scheme-ls--read-file path))))
+        (unless read (scheme-ls--tell "%s isn't opened: it is longer than 1 MiB, or isn't UTF-8" path))
+        (setq file (make-scheme-ls--file :stamp stamp :taken (and read t) :imports (cdr read)))
+        (puthash path file scheme-ls--files)))
+    file))
+
+(defun scheme-ls--look-at ()
+  "Look at this buffer for imports, where it has changed.
+Answer whether they are others than they were."
+  (let ((tick (buffer-chars-modified-tick)) (old (cdr scheme-ls--known)))
+    (unless (eql tick (car scheme-ls--known))
+      (setq scheme-ls--known (cons tick (or (scheme-ls--scan) old)))
+      (not (equal old (cdr scheme-ls--known))))))
+
+(defun scheme-ls--beginnings (server found)
+  "The folders and imports of the buffers that SERVER has open.
+What they define, and their uris, are put into the table FOUND."
+  (let (beginnings)
+    (maphash (lambda (uri document)
+               (when (bufferp document)
+                 (puthash uri t found)
+                 (with-current-buffer document
+                   (dolist (library (cddr scheme-ls--known)) (puthash library t found))
+                   (push (cons (file-name-directory buffer-file-name)
+                               (unless (file-remote-p buffer-file-name) (cadr scheme-ls--known)))
+                         beginnings))))
+             (scheme-ls--documents server))
+    (nreverse beginnings)))
+
+(defun scheme-ls--wanted (server)
+  "The files that SERVER has to have open, as (FULL (URI . PATH)..), as found.
+They are those of the libraries that its buffers import, and of those that
+these import, as many as there is room for; FULL is whether there were more.
+Of each library it is one file, and none where a buffer has the library."
+  (let* ((found (make-hash-table :test #'equal))
+         (queue (scheme-ls--beginnings server found))
+         (room (- scheme-ls--most (length queue)))
+         (project (eglot--project server))
+         (roots (append (unless (eq (car-safe project) 'scheme-ls) (list (project-root project))) scheme-ls-roots))
+         full wanted)
+    (while queue
+      (pcase-let ((`(,folder . ,imports) (pop queue)))
+        (dolist (library imports)
+          (when-let* ((path (and (not (gethash library found)) (scheme-ls--find library folder roots)))
+                      (uri (eglot--path-to-uri path)))
+            (puthash library t found)
+            (let ((file (unless (gethash uri found) (scheme-ls--look-into path))))
+              (puthash uri t found)
+              (cond ((not (and file (scheme-ls--file-taken file))))
+                    ((>= (length wanted) room) (setq full t))
+                    (t (push (cons uri path) wanted)
+                       (setq queue (append queue (list (cons (file-name-directory path) (scheme-ls--file-imports file))))))))))))
+    (cons full (nreverse wanted))))
+
+(defun scheme-ls--open-file (server uri path)
+  "Open the file PATH at SERVER as URI, or send its text where it has changed.
+Answer whether anything was sent."
+  (let* ((documents (scheme-ls--documents server))
+         (document (gethash uri documents))
+         (stamp (scheme-ls--file-stamp (gethash path scheme-ls--files)))
+         (text (unless (equal stamp (car document)) (car (scheme-ls--read-file path))))
+         (version (if document (1+ (cdr document)) 0)))
+    (when text
+      (puthash uri (cons stamp version) documents)
+      (if document
+          (scheme-ls--send server :textDocument/didChange
+                           `(:textDocument (:uri ,uri :version ,version) :contentChanges [(:text ,text)]))
+        (scheme-ls--send server :textDocument/didOpen
+                         `(:textDocument (:uri ,uri :languageId "scheme" :version ,version :text ,text))))
+      t)))
+
+(defun scheme-ls--follow (server)
+  "Open and close files at SERVER, so that those that are wanted are open."
+  (pcase-let ((`(,full . ,wanted) (scheme-ls--wanted server)) (changed nil))
+    (maphash (lambda (uri document)
+               (unless (or (bufferp document) (assoc uri wanted))
+                 (scheme-ls--close server uri)
+                 (setq changed t)))
+             (copy-hash-table (scheme-ls--documents server)))
+    (pcase-dolist (`(,uri . ,path) wanted)
+      (when (scheme-ls--open-file server uri path) (setq changed t)))
+    (setf (scheme-ls--libraries server) (nreverse (mapcar #'car wanted)))
+    (when (and full (not (scheme-ls--full server)))
+      (scheme-ls--tell "not all libraries that are imported are open: the server takes %d files" scheme-ls--most))
+    (setf (scheme-ls--full server) full)
+    (when changed
+      (scheme-ls--after-change)
+      (with-current-buffer (window-buffer)
+        (when scheme-ls-arrows-mode (scheme-ls--redraw))))))
+
+;;;; When
+
+(defun scheme-ls--server ()
+  "The server of this buffer, if it is one of ours."
+  (unless (eglot-managed-p) (setq eglot--cached-server nil))
+  (let ((server (eglot-current-server)))
+    (and (scheme-ls-server-p server) server)))
+
+(defun scheme-ls--held-p (server uri buffer)
+  "Whether Eglot manages BUFFER as URI of SERVER."
+  (and (buffer-live-p buffer)
+       (with-current-buffer buffer
+         (and (eglot-managed-p)
+              (eq (scheme-ls--server) server)
+              (scheme-ls--fits-p)
+              (equal (scheme-ls--uri) uri)))))
+
+(defun scheme-ls--settle-buffer (server)
+  "Open this buffer at SERVER, if it isn't open and can be by now."
+  (cond ((eq (gethash (scheme-ls--uri) (scheme-ls--documents server)) (current-buffer))
+         (scheme-ls--look-at))
+        ((eglot-managed-p) (eglot--signal-textDocument/didOpen))
+        ((and scheme-ls--refused (not (scheme-ls--refuse-p server)))
+         (eglot--maybe-activate-editing-mode))))
+
+(defun scheme-ls--settle (server)
+  "Bring what SERVER has open in line with the buffers and what they import.
+Buffers may have other names than they had, and what was refused may fit."
+  (setf (scheme-ls--settling server) nil)
+  (when (jsonrpc-running-p server)
+    (maphash (lambda (uri document)
+               (when (and (bufferp document) (not (scheme-ls--held-p server uri document)))
+                 (scheme-ls--close server uri)))
+             (copy-hash-table (scheme-ls--documents server)))
+    (dolist (buffer (buffer-list))
+      (with-current-buffer buffer
+        (when (and (scheme-ls--fits-p) (eq (scheme-ls--server) server))
+          (scheme-ls--settle-buffer server))))
+    (scheme-ls--follow server)))
+
+(defun scheme-ls--settle-soon (server)
+  (unless (scheme-ls--settling server)
+    (setf (scheme-ls--settling server) t)
+    (run-with-timer 0 nil #'scheme-ls--settle server)))
+
+(defun scheme-ls--settle-all (&rest _)
+  "Settle all servers soon: names of buffers or files may have changed."
+  (maphash (lambda (_project servers)
+             (mapc #'scheme-ls--settle-soon (seq-filter #'scheme-ls-server-p servers)))
+           eglot--servers-by-project))
+
+(defvar-local scheme-ls--looking nil "The timer behind which this buffer is looked at.")
+
+(defun scheme-ls--look (buffer)
+  (when (buffer-live-p buffer)
+    (with-current-buffer buffer
+      (let ((server (scheme-ls--server)))
+        (cond ((null server))
+              (scheme-ls--refused (scheme-ls--settle-soon server))
+              ((scheme-ls--look-at) (scheme-ls--follow server)))))))
+
+(defun scheme-ls--look-soon (&rest _)
+  (when scheme-ls--looking (cancel-timer scheme-ls--looking))
+  (setq scheme-ls--looking (run-with-timer scheme-ls-quiet nil #'scheme-ls--look (current-buffer))))
+
+(defun scheme-ls--setup ()
+  "Have Eglot manage this buffer, if it is one for the server."
+  (when (scheme-ls--fits-p)
+    (add-hook 'after-change-functions #'scheme-ls--look-soon nil t)
+    (add-hook 'after-save-hook #'scheme-ls--settle-all nil t)
+    (unless (scheme-ls--refuse-p (scheme-ls--server))
+      (eglot-ensure))))
+
+(defun scheme-ls--project (_folder)
+  "The project of Scheme files that are in no other: one server has them all."
+  (and (bound-and-true-p eglot-lsp-context)
+       (derived-mode-p 'scheme-mode)
+       '(scheme-ls)))
+
+(cl-defmethod project-root ((_project (head scheme-ls)))
+  (expand-file-name "~/"))
+
+(add-hook 'project-find-functions #'scheme-ls--project 90)
+(add-hook 'after-set-visited-file-name-hook #'scheme-ls--settle-all)
+(add-function :after after-focus-change-function #'scheme-ls--settle-all)
 (add-hook 'eglot-managed-mode-hook #'scheme-ls--managed)
-(add-hook 'scheme-mode-hook #'eglot-ensure)
+(add-hook 'scheme-mode-hook #'scheme-ls--setup)
 
 (provide 'scheme-ls)
 ;;; scheme-ls.el ends here

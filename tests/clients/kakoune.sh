@@ -13,10 +13,13 @@ room=$(mktemp -d) || exit 1
 trap 'rm -rf "$room"' EXIT
 cp "$here/../../editors/kakoune/scheme_ls.kak" "$room"
 cd "$room" || exit 1
-for it in a.scm a.sld a.sls a.txt; do
+for it in a.scm a.sld a.sls a.ss a.txt; do
     : >"$it"
     HOME=$room timeout 60 kak -n -ui dummy -e "source scheme_ls.kak; edit $it; echo -to-file $it.type %opt{filetype}; quit!"
-    [ "$it" = a.txt ] && wanted= || wanted=scheme
+    case $it in
+    *.scm | *.sld) wanted=scheme ;;
+    *) wanted= ;;
+    esac
     if [ "$(cat "$it.type")" != "$wanted" ]; then
         echo "tests/clients/kakoune.sh: $it has the type '$(cat "$it.type")', and not '$wanted'"
         exit 1

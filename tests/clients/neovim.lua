@@ -1,7 +1,8 @@
--- What tests/clients/neovim.sh has Neovim do: the steps of questions.json, with the file that editors/neovim gives. It ends with
--- status 0 where every answer is as expected.
+-- What tests/clients/neovim.sh has Neovim do: the steps of the file STEPS, with the file that editors/neovim gives. It ends with
+-- status 0 where every answer is as expected. SESSION_FILE is what tests/sessions/proxy writes down.
 local here, room, program = os.getenv('HERE'), os.getenv('ROOM'), os.getenv('SCHEME_LS')
-local patience = 10000
+local recording = os.getenv('SESSION_FILE')
+local patience = 40000
 
 local function fail(text)
   io.stderr:write('tests/clients/neovim.lua: ' .. text .. '\n')
@@ -18,12 +19,23 @@ local function read(path)
   return vim.fn.json_decode(table.concat(vim.fn.readfile(path), '\n'))
 end
 
-local questions = read(here .. '/questions.json')
-for name, lines in pairs(questions.texts) do
-  vim.fn.writefile(lines, room .. '/' .. name)
+local said = {} -- what the user was told
+vim.notify = function(text) table.insert(said, text) end
+
+local questions = read(here .. '/' .. os.getenv('STEPS'))
+
+local function write(name, text)
+  local path = room .. '/' .. name
+  vim.fn.mkdir(vim.fn.fnamemodify(path, ':h'), 'p')
+  vim.fn.writefile(text, path)
+end
+
+for name, text in pairs(questions.texts) do
+  write(name, text)
 end
 
 vim.g.scheme_ls_cmd = { program, 'serve' }
+vim.g.scheme_ls_roots = vim.tbl_map(function(it) return room .. '/' .. it end, questions.roots or {})
 vim.cmd('luafile ' .. here .. '/../../editors/neovim/scheme_ls.lua')
 
 local client
@@ -31,8 +43,12 @@ local published = {} -- the versions of the lists that came last, by file
 
 -- ---- places, in characters
 
+local function inside_room(path)
+  return path:sub(1, #room + 1) == room .. '/' and path:sub(#room + 2) or path
+end
+
 local function name_of(uri)
-  return vim.fn.fnamemodify(vim.uri_to_fname(uri), ':t')
+  return inside_room(vim.uri_to_fname(uri))
 end
 
 local function buffer_of(file)
@@ -56,7 +72,7 @@ end
 
 local function cursor()
   local at = vim.api.nvim_win_get_cursor(0)
-  return { vim.fn.expand('%:t'), at[1] - 1, characters(0, at[1] - 1, at[2]) }
+  return { inside_room(vim.fn.expand('%:p')), at[1] - 1, characters(0, at[1] - 1, at[2]) }
 end
 
 local function before(a, b)
@@ -70,7 +86,8 @@ end
 local function places(locations)
   local found = {}
   for i, item in ipairs(vim.lsp.util.locations_to_items(locations, client.offset_encoding)) do
-    local file, row = vim.fn.fnamemodify(item.filename, ':t'), item.lnum - 1
+    local file, row = inside_room(item.filename), item.lnum - 1
+    vim.fn.bufload(buffer_of(file)) -- to count characters; it may not have been shown
     local stop = vim.lsp.util._get_line_byte_from_position(buffer_of(file), locations[i].range['end'], client.offset_encoding)
     table.insert(found, { file, row, characters(buffer_of(file), row, item.col - 1), characters(buffer_of(file), row, stop) })
   end
@@ -104,27 +121,144 @@ local function same_soon(get, want)
   return get()
 end
 
+-- ---- what was sent
+
+local read_until, opened, counts = 0, {}, {}
+
+-- Reads on in the recording: which documents the server has open, and how many messages of each method it got.
+local function read_on()
+  local file = assert(io.open(recording))
+  file:seek('set', read_until)
+  for line in file:lines('*L') do
+    if line:sub(-1) ~= '\n' then break end
+    read_until = read_until + #line
+    local body = line:sub(1, 1) == '<' and vim.fn.json_decode(line:sub(3)) or {}
+    local method, uri = body.method, body.params and body.params.textDocument and body.params.textDocument.uri
+    if method then counts[method] = (counts[method] or 0) + 1 end
+    if method == 'initialize' then opened = {} end
+    if method == 'textDocument/didOpen' then opened[uri] = true end
+    if method == 'textDocument/didClose' then opened[uri] = nil end
+  end
+  file:close()
+end
+
 -- ---- steps
 
 local steps = {}
 
+-- Waits for a client that is another than the last.
+local function new_client()
+  local last = client
+  local function found()
+    client = vim.lsp.get_active_clients()[1]
+    return client and client ~= last and client.initialized
+  end
+  if not vim.wait(patience, found, 10) then fail('the server did not answer initialize') end
+  -- Positions count in the first encoding that Neovim offers, or in utf-16 where it offers none.
+  local general = vim.lsp.protocol.make_client_capabilities().general or {}
+  local offered = general.positionEncodings or { 'utf-16' }
+  expect('the agreed encoding', client.server_capabilities.positionEncoding, offered[1])
+end
+
 function steps.open(step)
   vim.cmd('edit ' .. room .. '/' .. step.open)
-  if not client then
-    client = vim.lsp.get_client_by_id(1)
-    if not client or not vim.wait(patience, function() return client.initialized end, 10) then
-      fail('the server did not answer initialize')
-    end
-    -- Positions count in the first encoding that Neovim offers, or in utf-16 where it offers none.
-    local general = vim.lsp.protocol.make_client_capabilities().general or {}
-    local offered = general.positionEncodings or { 'utf-16' }
-    expect('the agreed encoding', client.server_capabilities.positionEncoding, offered[1])
-  end
+  if not client then new_client() end
   expect('the type of ' .. step.open, vim.bo.filetype, 'scheme')
 end
 
+-- Writes a file behind Neovim's back, which looks when it has the focus again.
+function steps.write(step)
+  write(step.write, step.lines)
+  vim.cmd('doautocmd FocusGained')
+end
+
+-- Writes a file of so many bytes, the last line of them a comment.
+function steps.fill(step)
+  local head = table.concat(step.lines, '\n') .. '\n;'
+  write(step.fill, vim.split(head .. string.rep('x', step.bytes - #head - 1), '\n'))
+end
+
+-- Puts a last line of so many bytes into a buffer, and takes it away again.
+function steps.grow(step)
+  vim.cmd('buffer ' .. buffer_of(step.grow))
+  vim.api.nvim_buf_set_lines(0, -1, -1, true, { ';' .. string.rep('x', step.bytes - 2) })
+end
+
+function steps.shrink(step)
+  vim.cmd('buffer ' .. buffer_of(step.shrink))
+  vim.api.nvim_buf_set_lines(0, -2, -1, true, {})
+end
+
+-- Opens so many files, 1.scm and on.
+function steps.many(step)
+  for number = 1, step.many do
+    write(number .. '.scm', step.lines)
+    steps.open({ open = number .. '.scm' })
+  end
+end
+
+function steps.save_as(step)
+  vim.cmd('buffer ' .. buffer_of(step.save_as))
+  vim.cmd('silent saveas ' .. room .. '/' .. step.to)
+  vim.cmd('bwipeout ' .. buffer_of(step.save_as)) -- Neovim keeps the old name in a list of its own
+end
+
+-- Gives a file another name, and its buffer too.
+function steps.rename(step)
+  vim.cmd('buffer ' .. buffer_of(step.rename))
+  vim.cmd('silent write')
+  vim.fn.rename(room .. '/' .. step.rename, room .. '/' .. step.to)
+  vim.cmd('silent file ' .. room .. '/' .. step.to)
+  vim.cmd('silent write!')
+  vim.cmd('bwipeout ' .. buffer_of(step.rename)) -- Neovim keeps the old name in a list of its own
+end
+
+function steps.kill()
+  vim.loop.kill(client.rpc.pid, 'sigkill')
+  new_client()
+end
+
+-- What the server would log, to the handler that the client has for it.
+function steps.logged(step)
+  local handler = client.handlers['window/logMessage']
+  handler(nil, { type = step.level, message = step.logged }, { method = 'window/logMessage', client_id = client.id })
+end
+
+-- The documents that the server has open.
+function steps.served(step)
+  local function names()
+    read_on()
+    local found = vim.tbl_map(name_of, vim.tbl_keys(opened))
+    table.sort(found)
+    return found
+  end
+  local first, last = unpack(step.numbered or { 1, 0 })
+  for number = first, last do
+    table.insert(step.served, number .. '.scm')
+  end
+  table.sort(step.served)
+  expect('the documents that are open', same_soon(names, step.served), step.served)
+end
+
+-- How often something was told.
+function steps.said(step)
+  local function times()
+    return #vim.tbl_filter(function(text) return text:find(step.said, 1, true) end, said)
+  end
+  expect('how often was said: ' .. step.said .. '; of ' .. vim.inspect(said), same_soon(times, step.times), step.times)
+end
+
 function steps.close(step)
-  vim.cmd('bwipeout! ' .. buffer_of(step.close))
+  local buffer = buffer_of(step.close)
+  local uri = vim.uri_from_bufnr(buffer)
+  read_on()
+  local was_open, closed = opened[uri], counts['textDocument/didClose'] or 0
+  vim.cmd('bwipeout! ' .. buffer)
+  local function is_told()
+    read_on()
+    return not was_open or (counts['textDocument/didClose'] or 0) > closed
+  end
+  expect('whether ' .. step.close .. ' is closed', same_soon(is_told, true), true)
 end
 
 function steps.change(step)
@@ -221,7 +355,7 @@ end
 
 for number, step in ipairs(questions.steps) do
   for kind, run in pairs(steps) do
-    if step[kind] then
+    if step[kind] ~= nil then
       local ok, found = pcall(run, step)
       local what = 'step ' .. number .. ', ' .. kind .. ' ' .. vim.fn.json_encode(step[kind])
       if not ok then fail(what .. ': ' .. found) end
@@ -231,11 +365,17 @@ for number, step in ipairs(questions.steps) do
 end
 
 local ended
-client.config.on_exit = function(code) ended = code end
+local on_exit = client.config.on_exit
+client.config.on_exit = function(code, ...)
+  ended = code
+  on_exit(code, ...)
+end
 vim.lsp.stop_client(client.id)
 if not vim.wait(patience, function() return ended ~= nil end, 10) then
   fail('the server did not end')
 end
 expect('the status after shutdown and exit', ended, 0)
+vim.wait(200, function() return false end)
+expect('another server', vim.lsp.get_client_by_id(client.id + 1), nil)
 print('tests/clients/neovim.lua: ' .. #questions.steps .. ' steps passed\n')
 vim.cmd('quitall!')

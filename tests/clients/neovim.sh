@@ -1,7 +1,9 @@
 #!/bin/sh
 # Drives the built program with the language client of Neovim, headless, and with the file of editors/neovim: the steps of
-# questions.json, which open, ask, change and close, and a shutdown. It is skipped where Neovim or the built program is missing.
-# SCHEME_LS names another program, if it is set.
+# questions.json (answers to all that is asked) and libraries.json (what is open at the server), each in a Neovim of its own with a
+# shutdown at the end, and a server that ends at once. What was sent is looked through by `wire`. It is skipped where Neovim or the
+# built program is missing. SCHEME_LS names another program, if it is set; where SESSION_FILE is set, a session is being recorded, and
+# there are the steps of questions.json alone.
 
 top=$(cd "$(dirname "$0")/../.." && pwd) || exit 1
 here=$top/tests/clients
@@ -18,7 +20,44 @@ fi
 
 room=$(mktemp -d) || exit 1
 trap 'rm -rf "$room"' EXIT
-mkdir "$room/home" "$room/texts"
-cd "$room/texts" || exit 1
-HERE=$here ROOM=$room/texts SCHEME_LS=$program HOME=$room/home XDG_CACHE_HOME=$room/home XDG_DATA_HOME=$room/home XDG_STATE_HOME=$room/home \
-    timeout 120 nvim --clean --headless -n -c "luafile $here/neovim.lua" -c "cquit 1"
+
+# A Neovim of nobody's, in the folder $1.
+run_nvim() {
+    mkdir -p "$room/home" "$room/$1" && cd "$room/$1" || exit 1
+    shift
+    HOME=$room/home XDG_CACHE_HOME=$room/home XDG_DATA_HOME=$room/home XDG_STATE_HOME=$room/home \
+        timeout 300 nvim --clean --headless -n "$@" -c "cquit 1"
+}
+
+# The steps of $1, with the program $2. Neovim goes on after an error of a callback, so what it says is looked through.
+run_steps() {
+    HERE=$here ROOM=$room/texts-$1 STEPS=$1.json SCHEME_LS=$2 run_nvim "texts-$1" -c "luafile $here/neovim.lua" >"$room/said" 2>&1
+    if [ $? -ne 0 ] || grep -q 'Error ' "$room/said"; then
+        cat "$room/said"
+        exit 1
+    fi
+    grep -o 'tests/clients/neovim.lua: .* steps passed' "$room/said"
+}
+
+if [ -n "$SESSION_FILE" ]; then
+    run_steps questions "$program"
+    exit
+fi
+for it in questions libraries; do
+    SESSION_SERVER=$program SESSION_FILE=$room/$it.session run_steps $it "$top/tests/sessions/proxy" || exit
+    "$here/wire" "$room/$it.session" || exit
+done
+
+printf '#!/bin/sh\necho started >>"%s/starts"\nexit 3\n' "$room" >"$room/dies"
+chmod +x "$room/dies"
+: >"$room/starts"
+run_nvim texts-dies -c "lua vim.g.scheme_ls_cmd = { '$room/dies' }" -c "luafile $top/editors/neovim/scheme_ls.lua" \
+    -c "edit a.scm" -c "edit b.scm" -c "lua vim.wait(20000, function() return #vim.fn.readfile('$room/starts') >= 5 end)" \
+    -c "lua vim.wait(1000, function() return false end)" -c "quitall!" >"$room/said" 2>&1
+starts=$(wc -l <"$room/starts")
+if [ "$starts" -ne 5 ]; then
+    echo "tests/clients/neovim.sh: a server that ends at once was started $starts times, and not 5"
+    cat "$room/said"
+    exit 1
+fi
+echo "tests/clients/neovim.sh: a server that ends at once was started 5 times"

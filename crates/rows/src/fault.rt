@@ -1,5 +1,6 @@
 //! Why a row has no answer.
 use ls_base::Memory;
+use scheme_tokens::ReadFault;
 use std::alloc::{AllocError, AllocFailed};
 use std::str::Utf8Error;
 
@@ -67,5 +68,14 @@ impl From<Memory> for RowFault {
 impl From<Utf8Error> for RowFault {
     fn from(_: Utf8Error) -> Self {
         RowFault::NotUtf8
+    }
+}
+
+impl From<ReadFault> for RowFault {
+    fn from(fault: ReadFault) -> Self {
+        match fault {
+            ReadFault::Memory => RowFault::Memory,
+            ReadFault::At { .. } => RowFault::NotShown,
+        }
     }
 }

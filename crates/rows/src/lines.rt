@@ -3,6 +3,7 @@ use crate::fault::{Row, RowFault};
 use std::io;
 
 /// A call, its group before its name, and its argument.
+#[derive(Drop)]
 pub struct Call<'a> {
     pub group: &'a str,
     pub name: &'a str,

@@ -4,13 +4,12 @@ ghost use Rattle.std.specs.Prelude.{◌≡◌, ◌<◌, length, IfOk, OnOk};
 use crate::argument::{flag, item, list, number, text};
 use crate::fault::{Row, RowFault};
 use crate::shown::Shown;
-use crate::symbols::{identifier_of, use_no};
 use scope_env::{Env, ScopeNo};
 use serde_json::Value;
 use std::alloc::Global;
 use syntax_tree::meaning::Meaning;
 use syntax_tree::notes::{Notes, Question};
-use syntax_tree::symbols::{IdNo, Symbols};
+use syntax_tree::symbols::{IdNo, Ident, Symbols, UseNo};
 
 pub fn answer(out: &mut Shown, call: &str, argument: &Value) -> Row<()> {
     match call {
@@ -135,6 +134,42 @@ impl Script {
         out.close();
         Ok(())
     }
+}
+
+/// `[NAME, UNIT, [USE, ..]]`: an identifier.
+fn identifier_of(symbols: &mut Symbols, value: &Value) -> Row<IdNo>
+    ensures { IfOk result (λ id. id < length symbols.new.idents) }
+{
+    let mut id = written(symbols, text(item(value, 0)?)?, number(item(value, 1)?)?)?;
+    for by in list(item(value, 2)?)? {
+        id = inserted(symbols, id, use_no(by)?)?;
+    }
+    Ok(id)
+}
+
+/// The identifier of a name that is written in a unit.
+fn written(symbols: &mut Symbols, name: &str, unit: u32) -> Row<IdNo>
+    ensures { IfOk result (λ id. id < length symbols.new.idents) }
+{
+    let symbol = symbols.symbol(name)?;
+    Ok(symbols.ident(Ident::Written { unit, symbol })?)
+}
+
+/// The identifier that a macro use inserts.
+fn inserted(symbols: &mut Symbols, id: IdNo, number: UseNo) -> Row<IdNo>
+    requires { id < length symbols.old.idents }
+    ensures { IfOk result (λ id. id < length symbols.new.idents) }
+{
+    Ok(symbols.ident(Ident::Inserted { id, number })?)
+}
+
+/// `[UNIT, FORM, COUNT]`.
+fn use_no(value: &Value) -> Row<UseNo> {
+    Ok(UseNo {
+        unit: number(item(value, 0)?)?,
+        form: number(item(value, 1)?)?,
+        count: number(item(value, 2)?)?,
+    })
 }
 
 /// `["local",NUMBER]`, `["global",UNIT,IDENTIFIER]`, `["standard",NAME]` or `["free",NAME]`.

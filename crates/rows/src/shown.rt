@@ -102,14 +102,6 @@ impl Shown {
         self.item_or_fail(json_text(self.alloc, text));
     }
 
-    /// A text that may be missing.
-    pub fn string_or_fail(&mut self, text: Row<String>) {
-        match text {
-            Ok(text) => self.string(text.as_str()),
-            Err(fault) => self.fail(fault),
-        }
-    }
-
     /// A character as a text.
     pub fn letter(&mut self, c: char) {
         self.item_or_fail(json_letter(self.alloc, c));

@@ -3,7 +3,6 @@ use crate::argument::{item, list, made, made_bytes, text};
 use crate::fault::{Row, RowFault};
 use crate::scopes::{meaning_of, show_meaning};
 use crate::shown::Shown;
-use crate::trees::begin;
 use datum_reader::read_all;
 use import_sets::{ImportFault, ImportSet, NamePair, SetName, entries_of};
 use library_table::{
@@ -11,6 +10,7 @@ use library_table::{
     exports_of, order, read_program, read_unit, repeated,
 };
 use ls_base::{Items, Span, Text};
+use scheme_model::Occ;
 use serde_json::Value;
 use std::alloc::Global;
 use syntax_tree::symbols::Symbols;
@@ -145,10 +145,20 @@ fn show_span(out: &mut Shown, span: Span) {
     out.numbers(&[span.start, span.end]);
 }
 
+/// A text, and behind it `[UNIT, FORM, TOKEN]`, or null where there is no place.
+fn show_placed(out: &mut Shown, text: &str, occ: Option<Occ>) {
+    out.open();
+    out.string(text);
+    match occ {
+        Some(occ) => out.numbers(&[occ.unit, occ.form, occ.token]),
+        None => out.null(),
+    }
+    out.close();
+}
+
 /// `[NAME, PLACE]`.
 fn show_name(out: &mut Shown, name: &SetName) {
-    begin(out, name.name.as_str(), name.occ);
-    out.close();
+    show_placed(out, name.name.as_str(), name.occ);
 }
 
 fn show_fault(out: &mut Shown, fault: &LibraryFault) {
@@ -220,8 +230,7 @@ fn show_entries(out: &mut Shown, entries: &[Entry]) {
 fn show_origins(out: &mut Shown, origins: &[Origin]) {
     out.open();
     for origin in origins {
-        begin(out, origin.prefix.as_str(), origin.occ);
-        out.close();
+        show_placed(out, origin.prefix.as_str(), origin.occ);
     }
     out.close();
 }

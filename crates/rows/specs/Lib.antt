@@ -1,1 +1,0 @@
-pub mod Shown  -- What can be shown of a form
