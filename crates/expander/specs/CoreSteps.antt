@@ -1,8 +1,9 @@
 -- What is done with a core form as an expression, once it was read (R7RS 4.1, 4.2).
-use Rattle.std.specs.Prelude.{ℕ}
+use Rattle.std.specs.Prelude.{ℕ, List}
 use Rattle.scheme_model.specs.Ident.{Ident as Identifier}
 use Rattle.scheme_model.specs.Keywords.{CoreKeyword, IsQuote, IsQuasiquote, IsLambda, IsCaseLambda, IsIf, IsSet, IsBegin, IsDefine, IsDefineValues, IsDefineRecordType, IsDefineSyntax, IsLetSyntax, IsLetrecSyntax, IsCondExpand, IsSyntaxError, IsInclude}
-use Rattle.scheme_model.specs.Shapes.{LocalMacros}
+use Rattle.scheme_model.specs.Trees.{Trees}
+use Rattle.scheme_model.specs.Shapes.{Clause, LocalMacros}
 use Rattle.scheme_model.specs.ExpansionFaults.{BadPlace, SyntaxError, IncludeRefused}
 use Rattle.scheme_model.specs.Cores.{Core, CaseLambda, If}
 use Rattle.scheme_model.specs.Steps.{Step, ◌>>=◌, done, fails}
@@ -30,12 +31,18 @@ local_step f ops depth here e IsCondExpand m s = let_syntax f ops depth here e m
 local_step f ops depth here e IsSyntaxError m s = let_syntax f ops depth here e m s
 local_step f ops depth here e IsInclude m s = let_syntax f ops depth here e m s
 
+abbrev pub case_lambda : {E L S : Type 0} → Expander E Identifier S → Ops E Identifier L S → ℕ → Here → E → List (Clause Identifier) → Step S Core
+case_lambda f ops depth here e cs s = node ops here 1 depth (λ below t. clauses f ops below here e cs t >>= λ more. done (CaseLambda more)) s
+
+abbrev pub conditional : {E L S : Type 0} → Expander E Identifier S → Ops E Identifier L S → ℕ → Here → E → Trees Identifier → Step S Core
+conditional f ops depth here e us s = node ops here 1 depth (λ below t. each (λ u. f below here e (whole u)) us t >>= λ cs. done (If cs)) s
+
 abbrev pub core_step : {E L S : Type 0} → Expander E Identifier S → Ops E Identifier L S → ℕ → Here → E → CoreKeyword → Shape → Step S Core
 core_step f ops depth here e k (Quoted t) s = quote ops depth here t s
 core_step f ops depth here e k (Quasi t p) s = quasi f ops depth here e p s
 core_step f ops depth here e k (Procedure c) s = lambda f ops depth here e c s
-core_step f ops depth here e k (Procedures cs) s = node ops here 1 depth (λ below t. clauses f ops below here e cs t >>= λ more. done (CaseLambda more)) s
-core_step f ops depth here e k (Conditional us) s = node ops here 1 depth (λ below t. each (λ u. f below here e (whole u)) us t >>= λ cs. done (If cs)) s
+core_step f ops depth here e k (Procedures cs) s = case_lambda f ops depth here e cs s
+core_step f ops depth here e k (Conditional us) s = conditional f ops depth here e us s
 core_step f ops depth here e k (Assignment p) s = set f ops depth here e p s
 core_step f ops depth here e k (Sequence ts) s = sequence f ops depth here e ts s
 core_step f ops depth here e k (Choices cs) s = given ops.plain here (chosen_among ops.known cs) s >>= chosen_sequence f ops depth here e

@@ -4,26 +4,28 @@ ghost use Rattle.scheme_model.specs.Ident.{Ident as Identifier};
 ghost use Rattle.scheme_model.specs.Keywords.{CoreKeyword as ModelKeyword};
 ghost use Rattle.scheme_model.specs.Trees.{Tree as ModelTree, Trees};
 ghost use Rattle.scheme_model.specs.Shapes.{Clause as ModelClause, LocalMacros};
+ghost use Rattle.scheme_model.specs.ExpansionFaults.{Named};
 ghost use Rattle.scheme_model.specs.Order.{Item};
-ghost use Rattle.scheme_model.specs.Expression.{whole, body, expand, each_of, procedure, clauses, lambda, sequence, item_part, parts};
+ghost use Rattle.scheme_model.specs.Expression.{whole, body, expand, each_of, procedure, clauses, lambda, assignment, sequence, item_part, parts};
 ghost use Rattle.syntax_tree.specs.Works.{IsOpened, StandsFor};
 ghost use Rattle.syntax_tree.specs.Looks.{PartsStand};
 ghost use Rattle.core_forms.specs.Ends.{keyword_as, ShapeFor};
 ghost use Rattle.core_forms.specs.Forms.{Shape};
-ghost use Rattle.core_forms.specs.Parts.{AreMacros};
+ghost use Rattle.core_forms.specs.Parts.{AreMacros, IsName};
 ghost use Rattle.core_tree.specs.Cores.{CoreStands, CoresStand, ClausesStand, PartStands, PartsStand as PartsOfCores};
 ghost use Rattle.core_tree.specs.Names.{AllMatch};
-ghost use Rattle.expander.specs.CoreSteps.{core_step, IsLeft};
+ghost use Rattle.expander.specs.CoreSteps.{case_lambda, conditional, core_step, IsLeft};
 ghost use Rattle.unit_scopes.specs.Searched.{searched};
+ghost use Rattle.unit_scopes.specs.Defining.{HasNumber};
 ghost use Rattle.unit_scopes.specs.Kept.{ClauseFor, KeptFor};
 ghost use Rattle.expander.specs.Passed.{ShapeFits};
 ghost use Rattle.unit_scopes.specs.Outcomes.{CanLook, IsAtWork, IsEnough, IsEnoughBelow, HasRoom, Runs, Spends};
 ghost use Rattle.expander.specs.Expanded.{AreAtWork, BodyAtWork, ClauseStands, macros_step, ShapeAtWork, ClauseAtWork, ClausesAtWork, KeptAtWork, AreKeptAtWork, MacrosAtWork};
 
 use crate::bodies::{in_place, keep_all, local_defs, pass_body, test_all_rules};
-use crate::expressions::{At, Ready, below, ready, test_variable};
+use crate::expressions::{At, Ready, below, prepare, test_variable};
 use crate::passes::judge;
-use core_forms::{ClauseShape, CoreKeyword, CoreShape, LocalMacro};
+use core_forms::{ClauseShape, CoreKeyword, CoreShape, LocalMacro, NamePart};
 use core_tree::cores::{Clause, Core, CorePart};
 use feature_requirements::fault::{ExpandFault, code, fails};
 use feature_requirements::requirements::chosen_forms;
@@ -51,7 +53,7 @@ fn expand(
         Runs (λ ls. CoreStands work.new units.new.unit units.new.form.number) work.old work.new region.now units.old units.new at.scope result (λ known fs. expand (searched known) turns at.depth at.here fs (whole t)) }
     ensures locals { OnOk result (Spends 0 units.old units.new) }
 {
-    let (here, ready) = ready(units, alloc, work, region, at, form)?;
+    let (here, ready) = prepare(units, alloc, work, region, at, form)?;
     let at = in_place(at, here);
     match ready {
         Ready::Core(core) => Ok(core),
@@ -124,36 +126,21 @@ fn expand_shape(
                 parts,
             })
         }
-        CoreShape::Lambda(clause) => {
-            let below = below(units, at, 1)?;
-            Ok(Core::Lambda(procedure(units, alloc, work, region, below, &clause)?))
-        }
-        CoreShape::CaseLambda(clauses) => {
-            let below = below(units, at, 1)?;
-            Ok(Core::CaseLambda(procedures(units, alloc, work, region, below, &clauses)?))
-        }
-        CoreShape::If(parts) => {
-            let below = below(units, at, 1)?;
-            Ok(Core::If(expand_all(units, alloc, work, region, below, &parts)?))
-        }
+        CoreShape::Lambda(clause) => lambda(units, alloc, work, region, at, &clause),
+        CoreShape::CaseLambda(clauses) => { case_lambda(units, alloc, work, region, at, &clauses) }
+        CoreShape::If(parts) => conditional(units, alloc, work, region, at, &parts),
         CoreShape::Set { name, value } => {
             test_variable(units, work, at, name)?;
-            let below = below(units, at, 1)?;
-            let target = units.target(work, at.scope, name);
-            let value = expand(units, alloc, work, region, below, value)?;
-            Ok(Core::Set {
-                target,
-                value: Box::new(alloc, value)?,
-            })
+            assign(units, alloc, work, region, at, name, value)
         }
-        CoreShape::Begin(forms) => Ok(sequence(units, alloc, work, region, at, &forms)?),
+        CoreShape::Begin(forms) => sequence(units, alloc, work, region, at, &forms),
         CoreShape::CondExpand(choices) => {
             let forms = chosen_forms(judge(units, alloc, work), at.here, &choices)?;
-            Ok(sequence(units, alloc, work, region, at, &forms)?)
+            sequence(units, alloc, work, region, at, &forms)
         }
         CoreShape::LetSyntax { macros, body } => {
             let recursive = core == CoreKeyword::LetrecSyntax;
-            Ok(local_macros(units, alloc, work, region, at, recursive, &macros, &body)?)
+            local_macros(units, alloc, work, region, at, recursive, &macros, &body)
         }
         _ => Err(fails(at.here, code::BAD_PLACE)),
     }
@@ -322,22 +309,28 @@ pub(crate) fn expand_kept_item(
             })
         }
         Kept::Assigned(name, form) => {
-            let below = below(units, in_place(at, form.here), 1)?;
-            let target = units.target(work, at.scope, *name);
-            let value = expand(units, alloc, work, region, below, form.tree)?;
-            Ok(CorePart::Expression(Core::Set {
-                target,
-                value: Box::new(alloc, value)?,
-            }))
+            let value = assign(
+                units,
+                alloc,
+                work,
+                region,
+                in_place(at, form.here),
+                *name,
+                form.tree,
+            )?;
+            Ok(CorePart::Expression(value))
         }
         Kept::AssignedFunction(name, here, clause) => {
-            let below = below(units, in_place(at, *here), 1)?;
-            let target = units.target(work, at.scope, *name);
-            let value = lambda(units, alloc, work, region, below, clause)?;
-            Ok(CorePart::Expression(Core::Set {
-                target,
-                value: Box::new(alloc, value)?,
-            }))
+            let value = assign_procedure(
+                units,
+                alloc,
+                work,
+                region,
+                in_place(at, *here),
+                *name,
+                clause,
+            )?;
+            Ok(CorePart::Expression(value))
         }
         Kept::Values {
             binders,
@@ -395,6 +388,108 @@ fn lambda(
 {
     let below = below(units, at, 1)?;
     Ok(Core::Lambda(procedure(units, alloc, work, region, below, clause)?))
+}
+
+/// The core of a procedure with several clauses.
+#[cycle(core)]
+fn case_lambda(
+    units: &mut UnitScope,
+    alloc: Global,
+    work: &mut Work,
+    region: &Region,
+    at: At,
+    shapes: &[ClauseShape],
+) -> Result<Core, ExpandFault>
+    requires opened { IsOpened work.old region.now }
+    requires look { CanLook work.old units.old at.scope }
+    requires clauses { ClausesAtWork work.old region.now shapes.now }
+    requires room { HasRoom (2 ^ 43) units.old }
+    ensures runs { (cs : List (ModelClause Identifier)) (turns : ℕ) → AllMatch (ClauseFor work.old region.now) shapes.now cs → IsEnoughBelow at.depth units.old.form.budget.uses turns →
+        Runs (λ ls. CoreStands work.new units.new.unit units.new.form.number) work.old work.new region.now units.old units.new at.scope result (λ known fs. case_lambda (expand (searched known) turns) (searched known) at.depth at.here fs cs) }
+    ensures locals { OnOk result (Spends 0 units.old units.new) }
+{
+    let below = below(units, at, 1)?;
+    Ok(Core::CaseLambda(procedures(units, alloc, work, region, below, shapes)?))
+}
+
+/// The core of a conditional.
+#[cycle(core)]
+fn conditional(
+    units: &mut UnitScope,
+    alloc: Global,
+    work: &mut Work,
+    region: &Region,
+    at: At,
+    parts: &[Tree],
+) -> Result<Core, ExpandFault>
+    requires opened { IsOpened work.old region.now }
+    requires look { CanLook work.old units.old at.scope }
+    requires parts { AreAtWork work.old region.now parts.now }
+    requires room { HasRoom (2 ^ 43) units.old }
+    ensures runs { (ts : Trees Identifier) (turns : ℕ) → PartsStand work.old parts.now ts → IsEnoughBelow at.depth units.old.form.budget.uses turns →
+        Runs (λ ls. CoreStands work.new units.new.unit units.new.form.number) work.old work.new region.now units.old units.new at.scope result (λ known fs. conditional (expand (searched known) turns) (searched known) at.depth at.here fs ts) }
+    ensures locals { OnOk result (Spends 0 units.old units.new) }
+{
+    let below = below(units, at, 1)?;
+    Ok(Core::If(expand_all(units, alloc, work, region, below, parts)?))
+}
+
+/// The core of an assignment of what an expression gives.
+#[cycle(core)]
+fn assign(
+    units: &mut UnitScope,
+    alloc: Global,
+    work: &mut Work,
+    region: &Region,
+    at: At,
+    name: NamePart,
+    value: Tree,
+) -> Result<Core, ExpandFault>
+    requires opened { IsOpened work.old region.now }
+    requires look { CanLook work.old units.old at.scope }
+    requires name { HasNumber work.old name }
+    requires value { IsAtWork work.old region.now value }
+    requires room { HasRoom (2 ^ 43) units.old }
+    ensures runs { (n : Named Identifier) (t : ModelTree Identifier) (turns : ℕ) → IsName work.old name n → StandsFor work.old value t → IsEnoughBelow at.depth units.old.form.budget.uses turns →
+        Runs (λ ls. CoreStands work.new units.new.unit units.new.form.number) work.old work.new region.now units.old units.new at.scope result (λ known fs. assignment (searched known) at.depth at.here fs n (λ below. expand (searched known) turns below at.here fs (whole t))) }
+    ensures locals { OnOk result (Spends 0 units.old units.new) }
+{
+    let below = below(units, at, 1)?;
+    let target = units.target(work, at.scope, name);
+    let value = expand(units, alloc, work, region, below, value)?;
+    Ok(Core::Set {
+        target,
+        value: Box::new(alloc, value)?,
+    })
+}
+
+/// The core of an assignment of a procedure.
+#[cycle(core)]
+fn assign_procedure(
+    units: &mut UnitScope,
+    alloc: Global,
+    work: &mut Work,
+    region: &Region,
+    at: At,
+    name: NamePart,
+    clause: &ClauseShape,
+) -> Result<Core, ExpandFault>
+    requires opened { IsOpened work.old region.now }
+    requires look { CanLook work.old units.old at.scope }
+    requires name { HasNumber work.old name }
+    requires clause { ClauseAtWork work.old region.now clause.now }
+    requires room { HasRoom (2 ^ 43) units.old }
+    ensures runs { (n : Named Identifier) (c : ModelClause Identifier) (turns : ℕ) → IsName work.old name n → ClauseFor work.old region.now clause.now c → IsEnoughBelow at.depth units.old.form.budget.uses turns →
+        Runs (λ ls. CoreStands work.new units.new.unit units.new.form.number) work.old work.new region.now units.old units.new at.scope result (λ known fs. assignment (searched known) at.depth at.here fs n (λ below. lambda (expand (searched known) turns) (searched known) below at.here fs c)) }
+    ensures locals { OnOk result (Spends 0 units.old units.new) }
+{
+    let below = below(units, at, 1)?;
+    let target = units.target(work, at.scope, name);
+    let value = lambda(units, alloc, work, region, below, clause)?;
+    Ok(Core::Set {
+        target,
+        value: Box::new(alloc, value)?,
+    })
 }
 
 /// Expressions alone, one after another.

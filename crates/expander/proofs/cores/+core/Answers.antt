@@ -4,12 +4,14 @@ mod Rows
 mod Items
 mod Assigned
 mod Shapes
+mod Arms
 mod Locals
 use Rattle.expander.proofs.cores.+core.Answers.Bodies as bodies
 use Rattle.expander.proofs.cores.+core.Answers.Rows as rows
 use Rattle.expander.proofs.cores.+core.Answers.Items as items
 use Rattle.expander.proofs.cores.+core.Answers.Assigned as assigned
 use Rattle.expander.proofs.cores.+core.Answers.Shapes as shapes
+use Rattle.expander.proofs.cores.+core.Answers.Arms as arms
 use Rattle.expander.proofs.cores.+core.Answers.Locals as locals
 use Rattle.expander.proofs.cores.+core.Goals as goal
 
@@ -312,76 +314,88 @@ expand_kept_item-returns-in_ok-macro_def-in-Macro-clause-locals = items.expand_k
 
 -- ---- later definitions of a program, read as assignments
 
-pub expand_kept_item-below-requires : goal.expand_kept_item-below-requires
-expand_kept_item-below-requires = assigned.expand_kept_item-below-requires
+pub assign-below-requires : goal.assign-below-requires
+assign-below-requires = assigned.assign-below-requires
 
-pub expand_kept_item-returns-in_err-below-in-Assigned-clause-runs : goal.expand_kept_item-returns-in_err-below-in-Assigned-clause-runs
-expand_kept_item-returns-in_err-below-in-Assigned-clause-runs = assigned.expand_kept_item-returns-in_err-below-in-Assigned-clause-runs
+pub assign-target-target-requires-clause-look : goal.assign-target-target-requires-clause-look
+assign-target-target-requires-clause-look = assigned.assign-target-target-requires-clause-look
 
-pub expand_kept_item-target-target-requires-clause-look : goal.expand_kept_item-target-target-requires-clause-look
-expand_kept_item-target-target-requires-clause-look = assigned.expand_kept_item-target-target-requires-clause-look
+pub assign-target-target-requires-clause-ident : goal.assign-target-target-requires-clause-ident
+assign-target-target-requires-clause-ident = assigned.assign-target-target-requires-clause-ident
 
-pub expand_kept_item-target-target-requires-clause-ident : goal.expand_kept_item-target-target-requires-clause-ident
-expand_kept_item-target-target-requires-clause-ident = assigned.expand_kept_item-target-target-requires-clause-ident
+pub assign-expand-requires : goal.assign-expand-requires
+assign-expand-requires = assigned.assign-expand-requires
 
-pub expand_kept_item-expand-requires-in-Assigned : goal.expand_kept_item-expand-requires-in-Assigned
-expand_kept_item-expand-requires-in-Assigned = assigned.expand_kept_item-expand-requires-in-Assigned
+pub assign-returns-in_err-below-clause-runs : goal.assign-returns-in_err-below-clause-runs
+assign-returns-in_err-below-clause-runs = assigned.assign-returns-in_err-below-clause-runs
+
+pub assign-returns-in_err-value-clause-runs : goal.assign-returns-in_err-value-clause-runs
+assign-returns-in_err-value-clause-runs = assigned.assign-returns-in_err-value-clause-runs
+
+pub assign-returns-in_err-new-clause-runs : goal.assign-returns-in_err-new-clause-runs
+assign-returns-in_err-new-clause-runs = assigned.assign-returns-in_err-new-clause-runs
+
+pub assign-returns-clause-runs : goal.assign-returns-clause-runs
+assign-returns-clause-runs = assigned.assign-returns-clause-runs
+
+pub assign-returns-clause-locals : goal.assign-returns-clause-locals
+assign-returns-clause-locals = assigned.assign-returns-clause-locals
+
+pub assign_procedure-below-requires : goal.assign_procedure-below-requires
+assign_procedure-below-requires = assigned.assign_procedure-below-requires
+
+pub assign_procedure-target-target-requires-clause-look : goal.assign_procedure-target-target-requires-clause-look
+assign_procedure-target-target-requires-clause-look = assigned.assign_procedure-target-target-requires-clause-look
+
+pub assign_procedure-target-target-requires-clause-ident : goal.assign_procedure-target-target-requires-clause-ident
+assign_procedure-target-target-requires-clause-ident = assigned.assign_procedure-target-target-requires-clause-ident
+
+pub assign_procedure-lambda-requires : goal.assign_procedure-lambda-requires
+assign_procedure-lambda-requires = assigned.assign_procedure-lambda-requires
+
+pub assign_procedure-returns-in_err-below-clause-runs : goal.assign_procedure-returns-in_err-below-clause-runs
+assign_procedure-returns-in_err-below-clause-runs = assigned.assign_procedure-returns-in_err-below-clause-runs
+
+pub assign_procedure-returns-in_err-value-clause-runs : goal.assign_procedure-returns-in_err-value-clause-runs
+assign_procedure-returns-in_err-value-clause-runs = assigned.assign_procedure-returns-in_err-value-clause-runs
+
+pub assign_procedure-returns-in_err-new-clause-runs : goal.assign_procedure-returns-in_err-new-clause-runs
+assign_procedure-returns-in_err-new-clause-runs = assigned.assign_procedure-returns-in_err-new-clause-runs
+
+pub assign_procedure-returns-clause-runs : goal.assign_procedure-returns-clause-runs
+assign_procedure-returns-clause-runs = assigned.assign_procedure-returns-clause-runs
+
+pub assign_procedure-returns-clause-locals : goal.assign_procedure-returns-clause-locals
+assign_procedure-returns-clause-locals = assigned.assign_procedure-returns-clause-locals
+
+pub expand_kept_item-assign-requires : goal.expand_kept_item-assign-requires
+expand_kept_item-assign-requires = assigned.expand_kept_item-assign-requires
 
 pub expand_kept_item-returns-in_err-value-in-Assigned-clause-runs : goal.expand_kept_item-returns-in_err-value-in-Assigned-clause-runs
 expand_kept_item-returns-in_err-value-in-Assigned-clause-runs = assigned.expand_kept_item-returns-in_err-value-in-Assigned-clause-runs
 
-pub expand_kept_item-returns-in_err-new-in-Assigned-clause-runs : goal.expand_kept_item-returns-in_err-new-in-Assigned-clause-runs
-expand_kept_item-returns-in_err-new-in-Assigned-clause-runs = assigned.expand_kept_item-returns-in_err-new-in-Assigned-clause-runs
+pub expand_kept_item-returns-in_ok-value-in-Assigned-clause-runs : goal.expand_kept_item-returns-in_ok-value-in-Assigned-clause-runs
+expand_kept_item-returns-in_ok-value-in-Assigned-clause-runs = assigned.expand_kept_item-returns-in_ok-value-in-Assigned-clause-runs
 
-pub expand_kept_item-returns-in_ok-new-in-Assigned-clause-runs : goal.expand_kept_item-returns-in_ok-new-in-Assigned-clause-runs
-expand_kept_item-returns-in_ok-new-in-Assigned-clause-runs = assigned.expand_kept_item-returns-in_ok-new-in-Assigned-clause-runs
+pub expand_kept_item-returns-in_ok-value-in-Assigned-clause-locals : goal.expand_kept_item-returns-in_ok-value-in-Assigned-clause-locals
+expand_kept_item-returns-in_ok-value-in-Assigned-clause-locals = assigned.expand_kept_item-returns-in_ok-value-in-Assigned-clause-locals
 
-pub expand_kept_item-returns-in_ok-new-in-Assigned-clause-locals : goal.expand_kept_item-returns-in_ok-new-in-Assigned-clause-locals
-expand_kept_item-returns-in_ok-new-in-Assigned-clause-locals = assigned.expand_kept_item-returns-in_ok-new-in-Assigned-clause-locals
-
-pub expand_kept_item-below-requires-in-AssignedFunction : goal.expand_kept_item-below-requires-in-AssignedFunction
-expand_kept_item-below-requires-in-AssignedFunction = assigned.expand_kept_item-below-requires-in-AssignedFunction
-
-pub expand_kept_item-returns-in_err-below-in-AssignedFunction-clause-runs : goal.expand_kept_item-returns-in_err-below-in-AssignedFunction-clause-runs
-expand_kept_item-returns-in_err-below-in-AssignedFunction-clause-runs = assigned.expand_kept_item-returns-in_err-below-in-AssignedFunction-clause-runs
-
-pub expand_kept_item-target-target-requires-in-AssignedFunction-clause-look : goal.expand_kept_item-target-target-requires-in-AssignedFunction-clause-look
-expand_kept_item-target-target-requires-in-AssignedFunction-clause-look = assigned.expand_kept_item-target-target-requires-in-AssignedFunction-clause-look
-
-pub expand_kept_item-target-target-requires-in-AssignedFunction-clause-ident : goal.expand_kept_item-target-target-requires-in-AssignedFunction-clause-ident
-expand_kept_item-target-target-requires-in-AssignedFunction-clause-ident = assigned.expand_kept_item-target-target-requires-in-AssignedFunction-clause-ident
-
-pub expand_kept_item-lambda-requires-in-AssignedFunction : goal.expand_kept_item-lambda-requires-in-AssignedFunction
-expand_kept_item-lambda-requires-in-AssignedFunction = assigned.expand_kept_item-lambda-requires-in-AssignedFunction
+pub expand_kept_item-assign_procedure-requires : goal.expand_kept_item-assign_procedure-requires
+expand_kept_item-assign_procedure-requires = assigned.expand_kept_item-assign_procedure-requires
 
 pub expand_kept_item-returns-in_err-value-in-AssignedFunction-clause-runs : goal.expand_kept_item-returns-in_err-value-in-AssignedFunction-clause-runs
 expand_kept_item-returns-in_err-value-in-AssignedFunction-clause-runs = assigned.expand_kept_item-returns-in_err-value-in-AssignedFunction-clause-runs
 
-pub expand_kept_item-returns-in_err-new-in-AssignedFunction-clause-runs : goal.expand_kept_item-returns-in_err-new-in-AssignedFunction-clause-runs
-expand_kept_item-returns-in_err-new-in-AssignedFunction-clause-runs = assigned.expand_kept_item-returns-in_err-new-in-AssignedFunction-clause-runs
+pub expand_kept_item-returns-in_ok-value-in-AssignedFunction-clause-runs : goal.expand_kept_item-returns-in_ok-value-in-AssignedFunction-clause-runs
+expand_kept_item-returns-in_ok-value-in-AssignedFunction-clause-runs = assigned.expand_kept_item-returns-in_ok-value-in-AssignedFunction-clause-runs
 
-pub expand_kept_item-returns-in_ok-new-in-AssignedFunction-clause-runs : goal.expand_kept_item-returns-in_ok-new-in-AssignedFunction-clause-runs
-expand_kept_item-returns-in_ok-new-in-AssignedFunction-clause-runs = assigned.expand_kept_item-returns-in_ok-new-in-AssignedFunction-clause-runs
-
-pub expand_kept_item-returns-in_ok-new-in-AssignedFunction-clause-locals : goal.expand_kept_item-returns-in_ok-new-in-AssignedFunction-clause-locals
-expand_kept_item-returns-in_ok-new-in-AssignedFunction-clause-locals = assigned.expand_kept_item-returns-in_ok-new-in-AssignedFunction-clause-locals
+pub expand_kept_item-returns-in_ok-value-in-AssignedFunction-clause-locals : goal.expand_kept_item-returns-in_ok-value-in-AssignedFunction-clause-locals
+expand_kept_item-returns-in_ok-value-in-AssignedFunction-clause-locals = assigned.expand_kept_item-returns-in_ok-value-in-AssignedFunction-clause-locals
 
 -- ---- core forms by their shapes
 
 pub expand_shape-below-requires : goal.expand_shape-below-requires
 expand_shape-below-requires = shapes.expand_shape-below-requires
-
-pub expand_shape-below-requires-in-Lambda : goal.expand_shape-below-requires-in-Lambda
-expand_shape-below-requires-in-Lambda = shapes.expand_shape-below-requires-in-Lambda
-
-pub expand_shape-below-requires-in-CaseLambda : goal.expand_shape-below-requires-in-CaseLambda
-expand_shape-below-requires-in-CaseLambda = shapes.expand_shape-below-requires-in-CaseLambda
-
-pub expand_shape-below-requires-in-If : goal.expand_shape-below-requires-in-If
-expand_shape-below-requires-in-If = shapes.expand_shape-below-requires-in-If
-
-pub expand_shape-below-requires-in-Set : goal.expand_shape-below-requires-in-Set
-expand_shape-below-requires-in-Set = shapes.expand_shape-below-requires-in-Set
 
 pub expand_shape-outside-requires : goal.expand_shape-outside-requires
 expand_shape-outside-requires = shapes.expand_shape-outside-requires
@@ -389,17 +403,17 @@ expand_shape-outside-requires = shapes.expand_shape-outside-requires
 pub expand_shape-expand_all-requires : goal.expand_shape-expand_all-requires
 expand_shape-expand_all-requires = shapes.expand_shape-expand_all-requires
 
-pub expand_shape-procedure-requires : goal.expand_shape-procedure-requires
-expand_shape-procedure-requires = shapes.expand_shape-procedure-requires
+pub expand_shape-lambda-requires : goal.expand_shape-lambda-requires
+expand_shape-lambda-requires = shapes.expand_shape-lambda-requires
 
-pub expand_shape-procedures-requires : goal.expand_shape-procedures-requires
-expand_shape-procedures-requires = shapes.expand_shape-procedures-requires
+pub expand_shape-case_lambda-requires : goal.expand_shape-case_lambda-requires
+expand_shape-case_lambda-requires = shapes.expand_shape-case_lambda-requires
 
-pub expand_shape-expand_all-requires-in-If : goal.expand_shape-expand_all-requires-in-If
-expand_shape-expand_all-requires-in-If = shapes.expand_shape-expand_all-requires-in-If
+pub expand_shape-conditional-requires : goal.expand_shape-conditional-requires
+expand_shape-conditional-requires = shapes.expand_shape-conditional-requires
 
-pub expand_shape-expand-requires : goal.expand_shape-expand-requires
-expand_shape-expand-requires = shapes.expand_shape-expand-requires
+pub expand_shape-assign-requires : goal.expand_shape-assign-requires
+expand_shape-assign-requires = shapes.expand_shape-assign-requires
 
 pub expand_shape-sequence-requires : goal.expand_shape-sequence-requires
 expand_shape-sequence-requires = shapes.expand_shape-sequence-requires
@@ -410,23 +424,8 @@ expand_shape-test_variable-requires-clause-look = shapes.expand_shape-test_varia
 pub expand_shape-test_variable-requires-clause-name : goal.expand_shape-test_variable-requires-clause-name
 expand_shape-test_variable-requires-clause-name = shapes.expand_shape-test_variable-requires-clause-name
 
-pub expand_shape-target-target-requires-clause-look : goal.expand_shape-target-target-requires-clause-look
-expand_shape-target-target-requires-clause-look = shapes.expand_shape-target-target-requires-clause-look
-
-pub expand_shape-target-target-requires-clause-ident : goal.expand_shape-target-target-requires-clause-ident
-expand_shape-target-target-requires-clause-ident = shapes.expand_shape-target-target-requires-clause-ident
-
 pub expand_shape-returns-in_err-below-in-Quasi-clause-runs : goal.expand_shape-returns-in_err-below-in-Quasi-clause-runs
 expand_shape-returns-in_err-below-in-Quasi-clause-runs = shapes.expand_shape-returns-in_err-below-in-Quasi-clause-runs
-
-pub expand_shape-returns-in_err-below-in-Lambda-clause-runs : goal.expand_shape-returns-in_err-below-in-Lambda-clause-runs
-expand_shape-returns-in_err-below-in-Lambda-clause-runs = shapes.expand_shape-returns-in_err-below-in-Lambda-clause-runs
-
-pub expand_shape-returns-in_err-below-in-CaseLambda-clause-runs : goal.expand_shape-returns-in_err-below-in-CaseLambda-clause-runs
-expand_shape-returns-in_err-below-in-CaseLambda-clause-runs = shapes.expand_shape-returns-in_err-below-in-CaseLambda-clause-runs
-
-pub expand_shape-returns-in_err-below-in-If-clause-runs : goal.expand_shape-returns-in_err-below-in-If-clause-runs
-expand_shape-returns-in_err-below-in-If-clause-runs = shapes.expand_shape-returns-in_err-below-in-If-clause-runs
 
 pub expand_shape-returns-in_err-parts-in-Quasi-clause-runs : goal.expand_shape-returns-in_err-parts-in-Quasi-clause-runs
 expand_shape-returns-in_err-parts-in-Quasi-clause-runs = shapes.expand_shape-returns-in_err-parts-in-Quasi-clause-runs
@@ -434,20 +433,11 @@ expand_shape-returns-in_err-parts-in-Quasi-clause-runs = shapes.expand_shape-ret
 pub expand_shape-returns-in-Quasi-clause-runs : goal.expand_shape-returns-in-Quasi-clause-runs
 expand_shape-returns-in-Quasi-clause-runs = shapes.expand_shape-returns-in-Quasi-clause-runs
 
-pub expand_shape-returns-in_err-procedure-in-Lambda-clause-runs : goal.expand_shape-returns-in_err-procedure-in-Lambda-clause-runs
-expand_shape-returns-in_err-procedure-in-Lambda-clause-runs = shapes.expand_shape-returns-in_err-procedure-in-Lambda-clause-runs
-
 pub expand_shape-returns-in-Lambda-clause-runs : goal.expand_shape-returns-in-Lambda-clause-runs
 expand_shape-returns-in-Lambda-clause-runs = shapes.expand_shape-returns-in-Lambda-clause-runs
 
-pub expand_shape-returns-in_err-procedures-in-CaseLambda-clause-runs : goal.expand_shape-returns-in_err-procedures-in-CaseLambda-clause-runs
-expand_shape-returns-in_err-procedures-in-CaseLambda-clause-runs = shapes.expand_shape-returns-in_err-procedures-in-CaseLambda-clause-runs
-
 pub expand_shape-returns-in-CaseLambda-clause-runs : goal.expand_shape-returns-in-CaseLambda-clause-runs
 expand_shape-returns-in-CaseLambda-clause-runs = shapes.expand_shape-returns-in-CaseLambda-clause-runs
-
-pub expand_shape-returns-in_err-expand_all-in-If-clause-runs : goal.expand_shape-returns-in_err-expand_all-in-If-clause-runs
-expand_shape-returns-in_err-expand_all-in-If-clause-runs = shapes.expand_shape-returns-in_err-expand_all-in-If-clause-runs
 
 pub expand_shape-returns-in-If-clause-runs : goal.expand_shape-returns-in-If-clause-runs
 expand_shape-returns-in-If-clause-runs = shapes.expand_shape-returns-in-If-clause-runs
@@ -455,20 +445,8 @@ expand_shape-returns-in-If-clause-runs = shapes.expand_shape-returns-in-If-claus
 pub expand_shape-returns-in_err-test_variable-in-Set-clause-runs : goal.expand_shape-returns-in_err-test_variable-in-Set-clause-runs
 expand_shape-returns-in_err-test_variable-in-Set-clause-runs = shapes.expand_shape-returns-in_err-test_variable-in-Set-clause-runs
 
-pub expand_shape-returns-in_err-below-in-Set-clause-runs : goal.expand_shape-returns-in_err-below-in-Set-clause-runs
-expand_shape-returns-in_err-below-in-Set-clause-runs = shapes.expand_shape-returns-in_err-below-in-Set-clause-runs
-
-pub expand_shape-returns-in_err-value-in-Set-clause-runs : goal.expand_shape-returns-in_err-value-in-Set-clause-runs
-expand_shape-returns-in_err-value-in-Set-clause-runs = shapes.expand_shape-returns-in_err-value-in-Set-clause-runs
-
-pub expand_shape-returns-in_err-new-in-Set-clause-runs : goal.expand_shape-returns-in_err-new-in-Set-clause-runs
-expand_shape-returns-in_err-new-in-Set-clause-runs = shapes.expand_shape-returns-in_err-new-in-Set-clause-runs
-
 pub expand_shape-returns-in-Set-clause-runs : goal.expand_shape-returns-in-Set-clause-runs
 expand_shape-returns-in-Set-clause-runs = shapes.expand_shape-returns-in-Set-clause-runs
-
-pub expand_shape-returns-in_err-sequence-in-Begin-clause-runs : goal.expand_shape-returns-in_err-sequence-in-Begin-clause-runs
-expand_shape-returns-in_err-sequence-in-Begin-clause-runs = shapes.expand_shape-returns-in_err-sequence-in-Begin-clause-runs
 
 pub expand_shape-returns-in-Begin-clause-runs : goal.expand_shape-returns-in-Begin-clause-runs
 expand_shape-returns-in-Begin-clause-runs = shapes.expand_shape-returns-in-Begin-clause-runs
@@ -506,23 +484,55 @@ expand_shape-returns-in_err-forms-in-CondExpand-clause-runs = shapes.expand_shap
 pub expand_shape-sequence-requires-in-CondExpand : goal.expand_shape-sequence-requires-in-CondExpand
 expand_shape-sequence-requires-in-CondExpand = shapes.expand_shape-sequence-requires-in-CondExpand
 
-pub expand_shape-returns-in_err-sequence-in-CondExpand-clause-runs : goal.expand_shape-returns-in_err-sequence-in-CondExpand-clause-runs
-expand_shape-returns-in_err-sequence-in-CondExpand-clause-runs = shapes.expand_shape-returns-in_err-sequence-in-CondExpand-clause-runs
-
 pub expand_shape-returns-in-CondExpand-clause-runs : goal.expand_shape-returns-in-CondExpand-clause-runs
 expand_shape-returns-in-CondExpand-clause-runs = shapes.expand_shape-returns-in-CondExpand-clause-runs
 
 pub expand_shape-local_macros-requires : goal.expand_shape-local_macros-requires
 expand_shape-local_macros-requires = shapes.expand_shape-local_macros-requires
 
-pub expand_shape-returns-in_err-local_macros-in-LetSyntax-clause-runs : goal.expand_shape-returns-in_err-local_macros-in-LetSyntax-clause-runs
-expand_shape-returns-in_err-local_macros-in-LetSyntax-clause-runs = shapes.expand_shape-returns-in_err-local_macros-in-LetSyntax-clause-runs
-
 pub expand_shape-returns-in-LetSyntax-clause-runs : goal.expand_shape-returns-in-LetSyntax-clause-runs
 expand_shape-returns-in-LetSyntax-clause-runs = shapes.expand_shape-returns-in-LetSyntax-clause-runs
 
 pub expand_shape-returns-clause-runs : goal.expand_shape-returns-clause-runs
 expand_shape-returns-clause-runs = shapes.expand_shape-returns-clause-runs
+
+-- ---- the functions of arms
+
+pub case_lambda-below-requires : goal.case_lambda-below-requires
+case_lambda-below-requires = arms.case_lambda-below-requires
+
+pub case_lambda-returns-in_err-below-clause-runs : goal.case_lambda-returns-in_err-below-clause-runs
+case_lambda-returns-in_err-below-clause-runs = arms.case_lambda-returns-in_err-below-clause-runs
+
+pub case_lambda-procedures-requires : goal.case_lambda-procedures-requires
+case_lambda-procedures-requires = arms.case_lambda-procedures-requires
+
+pub case_lambda-returns-in_err-procedures-clause-runs : goal.case_lambda-returns-in_err-procedures-clause-runs
+case_lambda-returns-in_err-procedures-clause-runs = arms.case_lambda-returns-in_err-procedures-clause-runs
+
+pub case_lambda-returns-clause-runs : goal.case_lambda-returns-clause-runs
+case_lambda-returns-clause-runs = arms.case_lambda-returns-clause-runs
+
+pub case_lambda-returns-clause-locals : goal.case_lambda-returns-clause-locals
+case_lambda-returns-clause-locals = arms.case_lambda-returns-clause-locals
+
+pub conditional-below-requires : goal.conditional-below-requires
+conditional-below-requires = arms.conditional-below-requires
+
+pub conditional-returns-in_err-below-clause-runs : goal.conditional-returns-in_err-below-clause-runs
+conditional-returns-in_err-below-clause-runs = arms.conditional-returns-in_err-below-clause-runs
+
+pub conditional-expand_all-requires : goal.conditional-expand_all-requires
+conditional-expand_all-requires = arms.conditional-expand_all-requires
+
+pub conditional-returns-in_err-expand_all-clause-runs : goal.conditional-returns-in_err-expand_all-clause-runs
+conditional-returns-in_err-expand_all-clause-runs = arms.conditional-returns-in_err-expand_all-clause-runs
+
+pub conditional-returns-clause-runs : goal.conditional-returns-clause-runs
+conditional-returns-clause-runs = arms.conditional-returns-clause-runs
+
+pub conditional-returns-clause-locals : goal.conditional-returns-clause-locals
+conditional-returns-clause-locals = arms.conditional-returns-clause-locals
 
 -- ---- local macros
 

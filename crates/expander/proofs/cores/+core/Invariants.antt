@@ -37,6 +37,18 @@ decreases-procedures l = 8 * l.at.depth + 2
 abbrev pub decreases-procedure : goal.decreases-procedure
 decreases-procedure l = 8 * l.at.depth + 1
 
+abbrev pub decreases-case_lambda : goal.decreases-case_lambda
+decreases-case_lambda l = 8 * l.at.depth + 1
+
+abbrev pub decreases-conditional : goal.decreases-conditional
+decreases-conditional l = 8 * l.at.depth + 1
+
+abbrev pub decreases-assign : goal.decreases-assign
+decreases-assign l = 8 * l.at.depth + 1
+
+abbrev pub decreases-assign_procedure : goal.decreases-assign_procedure
+decreases-assign_procedure l = 8 * l.at.depth + 1
+
 abbrev pub decreases-lambda : goal.decreases-lambda
 decreases-lambda l = 8 * l.at.depth + 1
 

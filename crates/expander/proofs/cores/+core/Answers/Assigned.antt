@@ -1,5 +1,5 @@
--- Later definitions of a program, read as assignments.
-use Rattle.std.proofs.Common.{◌≡◌, ℕ, ◌+◌, ◌^◌, ◌<◌, List, length, Option, Ok, Err, rules, sym, ap, ◌∙◌, subst, arith}
+-- Assignments, and later definitions of a program, read as such.
+use Rattle.std.proofs.Common.{◌≡◌, ℕ, ◌+◌, ◌^◌, List, Option, Ok, Err, rules, sym, ap, ◌∙◌, subst, arith}
 use Rattle.std.proofs.lemmas.Option.{slice_get_within}
 use Rattle.scheme_model.specs.declared.Occ.{Occ}
 use Rattle.scheme_model.specs.Ident.{Ident as Identifier}
@@ -7,16 +7,16 @@ use Rattle.scheme_model.specs.Requirements.{Known}
 use Rattle.scheme_model.specs.Cores.{Core, Set, Part}
 use Rattle.scheme_model.specs.Steps.{Step, ◌>>=◌, done}
 use Rattle.scheme_model.specs.Order.{Item, target_of}
-use Rattle.scheme_model.specs.Expression.{whole, expand, lambda, item_part, node}
+use Rattle.scheme_model.specs.Expression.{assignment, whole, expand, lambda, item_part}
 use Rattle.scheme_model.specs.ScopedExpansion.{Frames, ScopedState}
 use Rattle.core_tree.specs.Cores.{CoreStands, PartStands}
 use Rattle.core_tree.specs.declared.cores.Core as code_core
-use Rattle.core_tree.specs.declared.cores.Core.TheVariants as cores
 use Rattle.core_tree.specs.declared.cores.CorePart as code_part
 use Rattle.core_tree.specs.declared.cores.CorePart.TheVariants as core_parts
 use Rattle.expander.specs.Expanded.{ClauseAtWork}
+use Rattle.unit_scopes.specs.Defining.{HasNumber}
 use Rattle.unit_scopes.specs.Kept.{KeptFor}
-use Rattle.unit_scopes.specs.Outcomes.{At, CanLook, IsAtWork, IsEnoughBelow, Runs}
+use Rattle.unit_scopes.specs.Outcomes.{CanLook, IsAtWork, IsEnoughBelow, Runs}
 use Rattle.unit_scopes.specs.Searched.{searched}
 use Rattle.expander.specs.declared.expressions.At as code_at
 use Rattle.feature_requirements.specs.declared.fault.ExpandFault.TheVariants as fault
@@ -31,258 +31,292 @@ use Rattle.expander.proofs.RowRuns.{runs_memory}
 use Rattle.expander.proofs.StepLaws.{runs_err, node_none}
 use Rattle.expander.proofs.cores.+core.Goals as goal
 
+-- ---- assignments
+
+pub assign-below-requires : goal.assign-below-requires
+assign-below-requires t c = c.requires.look.stands.form.few_nodes
+
+pub assign-target-target-requires-clause-look : goal.assign-target-target-requires-clause-look
+assign-target-target-requires-clause-look t c = subst (λ (k : ℕ). CanLook c.args.work.now c.below.new.units k) c.in_ok-below.ensures.0 (below_look c.args.units.now c.below.new.units c.args.at c.in_ok-below.below 1 c.in_ok-below.ensures c.args.work.now c.requires.look)
+
+pub assign-target-target-requires-clause-ident : goal.assign-target-target-requires-clause-ident
+assign-target-target-requires-clause-ident t c = slice_get_within c.args.work.now.symbols.idents c.args.name.ident c.requires.name.0.name c.requires.name.1.0
+
+pub assign-expand-requires : goal.assign-expand-requires
+assign-expand-requires t c =
+    let u = c.args.units.now in
+    let w = c.below.new.units in
+    let below = c.in_ok-below.below in
+    let h = c.in_ok-below.ensures in
+    let is : c.args.at.depth ≡ below.depth + 1 = h.2.0 in (
+      first_of (omega (arith, is), omega arith, search rules, grind arith),
+      (c.requires.opened, (below_look u w c.args.at below 1 h c.args.work.now c.requires.look, (c.requires.value, below_room u w c.args.at below 1 h (2 ^ 43) c.requires.room))),
+    )
+
+pub assign-returns-in_err-below-clause-runs : goal.assign-returns-in_err-below-clause-runs
+assign-returns-in_err-below-clause-runs t c = λ n tree turns name stands enough.
+    let a = c.args.work.now in
+    let d = c.args.work.now in
+    let region = c.args.region.now in
+    let u = c.args.units.now in
+    let v = c.below.new.units in
+    let at = c.args.at in
+    let Q : List Frames → code_core.Core → Core → Type 0 = λ layout. CoreStands d v.unit v.form.number in
+    let f : Known → Frames → Step ScopedState Core = λ known fs. assignment (searched known) at.depth at.here fs n (λ below. expand (searched known) turns below at.here fs (whole tree)) in
+    let e = c.in_err-below.field-0.0 in
+    runs_err Q a d region u v at.scope c.from_residual.result e f c.from_residual.ensures.1
+    (node_none Q a region u v at 1 e (λ known fs below t1. expand (searched known) turns below at.here fs (whole tree) t1 >>= λ x. done (Set (target_of (searched known) fs t1 n.name n.occ) x)) c.in_err-below.ensures)
+
+pub assign-returns-in_err-value-clause-runs : goal.assign-returns-in_err-value-clause-runs
+assign-returns-in_err-value-clause-runs t c = λ n tree turns name stands enough.
+    let a = c.args.work.now in
+    let d = c.expand.new.work in
+    let region = c.args.region.now in
+    let u = c.args.units.now in
+    let v = c.expand.new.units in
+    let at = c.args.at in
+    let Q : List Frames → code_core.Core → Core → Type 0 = λ layout. CoreStands d v.unit v.form.number in
+    let f : Known → Frames → Step ScopedState Core = λ known fs. assignment (searched known) at.depth at.here fs n (λ below. expand (searched known) turns below at.here fs (whole tree)) in
+    let w = c.below.new.units in
+    let below = c.in_ok-below.below in
+    let h = c.in_ok-below.ensures in
+    let now = below_enough u w at below 1 h turns enough in
+    let e = c.in_err-value.field-0.0 in
+    runs_err Q a d region u v at.scope c.from_residual-in_err-value.result e f c.from_residual-in_err-value.ensures.1
+    (assigned_fails a d region u w v at below h c.args.name n name (λ known fs depth o. expand (searched known) turns depth o fs (whole tree)) Q e (c.in_err-value.ensures.runs tree turns stands now))
+
+pub assign-returns-in_err-new-clause-runs : goal.assign-returns-in_err-new-clause-runs
+assign-returns-in_err-new-clause-runs t c = λ n tree turns name stands enough.
+    let a = c.args.work.now in
+    let d = c.expand.new.work in
+    let region = c.args.region.now in
+    let u = c.args.units.now in
+    let v = c.expand.new.units in
+    let at = c.args.at in
+    let Q : List Frames → code_core.Core → Core → Type 0 = λ layout. CoreStands d v.unit v.form.number in
+    let f : Known → Frames → Step ScopedState Core = λ known fs. assignment (searched known) at.depth at.here fs n (λ below. expand (searched known) turns below at.here fs (whole tree)) in
+    let w = c.below.new.units in
+    let below = c.in_ok-below.below in
+    let h = c.in_ok-below.ensures in
+    let now = below_enough u w at below 1 h turns enough in
+    let g : Known → Frames → Step ScopedState Core = λ known fs. expand (searched known) turns below.depth below.here fs (whole tree) in
+    runs_err Q a d region u v at.scope c.from_residual-in_err-new.result fault.Memory f c.from_residual-in_err-new.ensures.1
+    (assigned_fails a d region u w v at below h c.args.name n name (λ known fs depth o. expand (searched known) turns depth o fs (whole tree)) Q fault.Memory (runs_memory Q Q a d region w v below.scope c.in_ok-value.value g g (c.in_ok-value.ensures.runs tree turns stands now)))
+
+pub assign-returns-clause-runs : goal.assign-returns-clause-runs
+assign-returns-clause-runs t c = λ n tree turns name stands enough.
+    let a = c.args.work.now in
+    let d = c.expand.new.work in
+    let region = c.args.region.now in
+    let u = c.args.units.now in
+    let v = c.expand.new.units in
+    let at = c.args.at in
+    let Q : List Frames → code_core.Core → Core → Type 0 = λ layout. CoreStands d v.unit v.form.number in
+    let w = c.below.new.units in
+    let below = c.in_ok-below.below in
+    let h = c.in_ok-below.ensures in
+    let now = below_enough u w at below 1 h turns enough in
+    let x = c.target-target.result in
+    let y = c.in_ok-new.field-0 in
+    let after = expand_after a d region w v below c.args.value c.in_ok-value.value (below_look u w at below 1 h a c.requires.look) c.requires.value c.in_ok-value.ensures.runs in
+    assigned_runs a d region u w v at below h c.args.name n name (λ known fs depth o. expand (searched known) turns depth o fs (whole tree)) x y after.work after.same c.target-target.ensures
+    (subst (λ (q : code_core.Core). Runs Q a d region w v below.scope (Ok q) (λ known fs. expand (searched known) turns below.depth below.here fs (whole tree))) (sym c.in_ok-new.ensures.ok) (c.in_ok-value.ensures.runs tree turns stands now))
+
+pub assign-returns-clause-locals : goal.assign-returns-clause-locals
+assign-returns-clause-locals t c = spends_on c.args.units.now c.below.new.units c.expand.new.units (below_spends c.args.units.now c.below.new.units c.args.at c.in_ok-below.below 1 c.in_ok-below.ensures) c.in_ok-value.ensures.locals
+
+pub assign_procedure-below-requires : goal.assign_procedure-below-requires
+assign_procedure-below-requires t c = c.requires.look.stands.form.few_nodes
+
+pub assign_procedure-target-target-requires-clause-look : goal.assign_procedure-target-target-requires-clause-look
+assign_procedure-target-target-requires-clause-look t c = subst (λ (k : ℕ). CanLook c.args.work.now c.below.new.units k) c.in_ok-below.ensures.0 (below_look c.args.units.now c.below.new.units c.args.at c.in_ok-below.below 1 c.in_ok-below.ensures c.args.work.now c.requires.look)
+
+pub assign_procedure-target-target-requires-clause-ident : goal.assign_procedure-target-target-requires-clause-ident
+assign_procedure-target-target-requires-clause-ident t c = slice_get_within c.args.work.now.symbols.idents c.args.name.ident c.requires.name.0.name c.requires.name.1.0
+
+pub assign_procedure-lambda-requires : goal.assign_procedure-lambda-requires
+assign_procedure-lambda-requires t c =
+    let u = c.args.units.now in
+    let w = c.below.new.units in
+    let below = c.in_ok-below.below in
+    let h = c.in_ok-below.ensures in
+    let is : c.args.at.depth ≡ below.depth + 1 = h.2.0 in (
+      first_of (omega (arith, is), omega arith, search rules, grind arith),
+      (c.requires.opened, (below_look u w c.args.at below 1 h c.args.work.now c.requires.look, (c.requires.clause, below_room u w c.args.at below 1 h (2 ^ 43) c.requires.room))),
+    )
+
+pub assign_procedure-returns-in_err-below-clause-runs : goal.assign_procedure-returns-in_err-below-clause-runs
+assign_procedure-returns-in_err-below-clause-runs t c = λ n m turns name clause enough.
+    let a = c.args.work.now in
+    let d = c.args.work.now in
+    let region = c.args.region.now in
+    let u = c.args.units.now in
+    let v = c.below.new.units in
+    let at = c.args.at in
+    let Q : List Frames → code_core.Core → Core → Type 0 = λ layout. CoreStands d v.unit v.form.number in
+    let f : Known → Frames → Step ScopedState Core = λ known fs. assignment (searched known) at.depth at.here fs n (λ below. lambda (expand (searched known) turns) (searched known) below at.here fs m) in
+    let e = c.in_err-below.field-0.0 in
+    runs_err Q a d region u v at.scope c.from_residual.result e f c.from_residual.ensures.1
+    (node_none Q a region u v at 1 e (λ known fs below t1. lambda (expand (searched known) turns) (searched known) below at.here fs m t1 >>= λ x. done (Set (target_of (searched known) fs t1 n.name n.occ) x)) c.in_err-below.ensures)
+
+pub assign_procedure-returns-in_err-value-clause-runs : goal.assign_procedure-returns-in_err-value-clause-runs
+assign_procedure-returns-in_err-value-clause-runs t c = λ n m turns name clause enough.
+    let a = c.args.work.now in
+    let d = c.lambda.new.work in
+    let region = c.args.region.now in
+    let u = c.args.units.now in
+    let v = c.lambda.new.units in
+    let at = c.args.at in
+    let Q : List Frames → code_core.Core → Core → Type 0 = λ layout. CoreStands d v.unit v.form.number in
+    let f : Known → Frames → Step ScopedState Core = λ known fs. assignment (searched known) at.depth at.here fs n (λ below. lambda (expand (searched known) turns) (searched known) below at.here fs m) in
+    let w = c.below.new.units in
+    let below = c.in_ok-below.below in
+    let h = c.in_ok-below.ensures in
+    let now = enough_here below.depth w.form.budget.uses turns (below_enough u w at below 1 h turns enough) in
+    let e = c.in_err-value.field-0.0 in
+    runs_err Q a d region u v at.scope c.from_residual-in_err-value.result e f c.from_residual-in_err-value.ensures.1
+    (assigned_fails a d region u w v at below h c.args.name n name (λ known fs depth o. lambda (expand (searched known) turns) (searched known) depth o fs m) Q e (c.in_err-value.ensures.runs m turns clause now))
+
+pub assign_procedure-returns-in_err-new-clause-runs : goal.assign_procedure-returns-in_err-new-clause-runs
+assign_procedure-returns-in_err-new-clause-runs t c = λ n m turns name clause enough.
+    let a = c.args.work.now in
+    let d = c.lambda.new.work in
+    let region = c.args.region.now in
+    let u = c.args.units.now in
+    let v = c.lambda.new.units in
+    let at = c.args.at in
+    let Q : List Frames → code_core.Core → Core → Type 0 = λ layout. CoreStands d v.unit v.form.number in
+    let f : Known → Frames → Step ScopedState Core = λ known fs. assignment (searched known) at.depth at.here fs n (λ below. lambda (expand (searched known) turns) (searched known) below at.here fs m) in
+    let w = c.below.new.units in
+    let below = c.in_ok-below.below in
+    let h = c.in_ok-below.ensures in
+    let now = enough_here below.depth w.form.budget.uses turns (below_enough u w at below 1 h turns enough) in
+    let g : Known → Frames → Step ScopedState Core = λ known fs. lambda (expand (searched known) turns) (searched known) below.depth below.here fs m in
+    runs_err Q a d region u v at.scope c.from_residual-in_err-new.result fault.Memory f c.from_residual-in_err-new.ensures.1
+    (assigned_fails a d region u w v at below h c.args.name n name (λ known fs depth o. lambda (expand (searched known) turns) (searched known) depth o fs m) Q fault.Memory (runs_memory Q Q a d region w v below.scope c.in_ok-value.value g g (c.in_ok-value.ensures.runs m turns clause now)))
+
+pub assign_procedure-returns-clause-runs : goal.assign_procedure-returns-clause-runs
+assign_procedure-returns-clause-runs t c = λ n m turns name clause enough.
+    let a = c.args.work.now in
+    let d = c.lambda.new.work in
+    let region = c.args.region.now in
+    let u = c.args.units.now in
+    let v = c.lambda.new.units in
+    let at = c.args.at in
+    let Q : List Frames → code_core.Core → Core → Type 0 = λ layout. CoreStands d v.unit v.form.number in
+    let w = c.below.new.units in
+    let below = c.in_ok-below.below in
+    let h = c.in_ok-below.ensures in
+    let now = enough_here below.depth w.form.budget.uses turns (below_enough u w at below 1 h turns enough) in
+    let x = c.target-target.result in
+    let y = c.in_ok-new.field-0 in
+    let after = lambda_after a d region w v below c.args.clause.now c.in_ok-value.value (below_look u w at below 1 h a c.requires.look) c.requires.clause c.in_ok-value.ensures.runs in
+    assigned_runs a d region u w v at below h c.args.name n name (λ known fs depth o. lambda (expand (searched known) turns) (searched known) depth o fs m) x y after.work after.same c.target-target.ensures
+    (subst (λ (q : code_core.Core). Runs Q a d region w v below.scope (Ok q) (λ known fs. lambda (expand (searched known) turns) (searched known) below.depth below.here fs m)) (sym c.in_ok-new.ensures.ok) (c.in_ok-value.ensures.runs m turns clause now))
+
+pub assign_procedure-returns-clause-locals : goal.assign_procedure-returns-clause-locals
+assign_procedure-returns-clause-locals t c = spends_on c.args.units.now c.below.new.units c.lambda.new.units (below_spends c.args.units.now c.below.new.units c.args.at c.in_ok-below.below 1 c.in_ok-below.ensures) c.in_ok-value.ensures.locals
+
 -- ---- later definitions, read as assignments
 
-pub expand_kept_item-below-requires : goal.expand_kept_item-below-requires
-expand_kept_item-below-requires t c = c.requires.look.stands.form.few_nodes
-
-pub expand_kept_item-returns-in_err-below-in-Assigned-clause-runs : goal.expand_kept_item-returns-in_err-below-in-Assigned-clause-runs
-expand_kept_item-returns-in_err-below-in-Assigned-clause-runs t c = λ i turns for enough.
-    let a = c.args.work.now in
-    let region = c.args.region.now in
-    let u = c.args.units.now in
-    let w = c.below.new.units in
-    let at = c.args.at in
-    let placed = c.in_place-in-Assigned.result in
-    let e = c.in_err-below-in-Assigned.field-0.0 in
-    let P : List Frames → code_core.Core → Core → Type 0 = λ layout. CoreStands a w.unit w.form.number in
-    let Q : List Frames → code_part.CorePart → Part → Type 0 = λ layout. PartStands a w.unit w.form.number in
-    let f : Item Identifier → Known → Frames → Step ScopedState Part = λ x known fs. item_part (expand (searched known) turns) (searched known) at.depth fs x in
-    runs_err Q a a region u w at.scope c.from_residual-in_err-below-in-Assigned.result e (f i) c.from_residual-in_err-below-in-Assigned.ensures.1
-    (as_assigned a region u.unit u.form.number (λ x. Runs Q a a region u w at.scope (Err e) (f x)) c.in-Assigned.name c.in-Assigned.form i (subst (λ (x : code_kept.Kept). KeptFor a region u.unit u.form.number x i) c.in-Assigned.is for) (λ n m name form. item_assigned_fails a a region u w at.scope turns at.depth P Q n m e (placed_runs P a a region u w at placed m.here (c.in_place-in-Assigned.ensures ∙ ap (λ (o : Option Occ). record at { here = o }) form.0) (Err e) (λ depth o known fs. node (searched known) o 1 depth (λ below t1. expand (searched known) turns below o fs (whole m.tree) t1 >>= λ x. done (Set (target_of (searched known) fs t1 n.name n.occ) x))) (node_none P a region u w placed 1 e (λ known fs below t1. expand (searched known) turns below placed.here fs (whole m.tree) t1 >>= λ x. done (Set (target_of (searched known) fs t1 n.name n.occ) x)) c.in_err-below-in-Assigned.ensures))))
-
-pub expand_kept_item-target-target-requires-clause-look : goal.expand_kept_item-target-target-requires-clause-look
-expand_kept_item-target-target-requires-clause-look t c =
-    let scope : c.in_ok-below-in-Assigned.below.scope ≡ c.args.at.scope = c.in_ok-below-in-Assigned.ensures.0 ∙ ap (λ (x : code_at.At). x.scope) c.in_place-in-Assigned.ensures in
-    subst (λ (k : ℕ). CanLook c.args.work.now c.below.new.units k) scope (below_look c.args.units.now c.below.new.units c.in_place-in-Assigned.result c.in_ok-below-in-Assigned.below 1 c.in_ok-below-in-Assigned.ensures c.args.work.now (subst (λ (x : code_at.At). CanLook c.args.work.now c.args.units.now x.scope) (sym c.in_place-in-Assigned.ensures) c.requires.look))
-
-pub expand_kept_item-target-target-requires-clause-ident : goal.expand_kept_item-target-target-requires-clause-ident
-expand_kept_item-target-target-requires-clause-ident t c =
+pub expand_kept_item-assign-requires : goal.expand_kept_item-assign-requires
+expand_kept_item-assign-requires t c =
     let a = c.args.work.now in
     let region = c.args.region.now in
     let u = c.args.units.now in
     let i = c.requires.kept.0 in
-    let for = c.requires.kept.1 in
-    as_assigned a region u.unit u.form.number (λ x. c.in-Assigned.name.ident < length a.symbols.idents) c.in-Assigned.name c.in-Assigned.form i (subst (λ (x : code_kept.Kept). KeptFor a region u.unit u.form.number x i) c.in-Assigned.is for) (λ n m name form. slice_get_within a.symbols.idents c.in-Assigned.name.ident n.name name.0)
-
-pub expand_kept_item-expand-requires-in-Assigned : goal.expand_kept_item-expand-requires-in-Assigned
-expand_kept_item-expand-requires-in-Assigned t c =
-    let a = c.args.work.now in
-    let region = c.args.region.now in
-    let u = c.args.units.now in
-    let w = c.below.new.units in
-    let i = c.requires.kept.0 in
-    let for = c.requires.kept.1 in
-    let placed = c.in_place-in-Assigned.result in
-    let below = c.in_ok-below-in-Assigned.below in
-    let h = c.in_ok-below-in-Assigned.ensures in
-    let deeper : c.args.at.depth ≡ below.depth + 1 = sym (ap (λ (x : code_at.At). x.depth) c.in_place-in-Assigned.ensures) ∙ h.2.0 in (
-      first_of (omega (arith, deeper), omega arith, search rules, grind arith),
-      (
-        c.requires.opened,
-        (
-          below_look u w placed below 1 h a (subst (λ (x : code_at.At). CanLook a u x.scope) (sym c.in_place-in-Assigned.ensures) c.requires.look),
-          (
-            as_assigned a region u.unit u.form.number (λ x. IsAtWork a region c.in-Assigned.form.tree) c.in-Assigned.name c.in-Assigned.form i (subst (λ (x : code_kept.Kept). KeptFor a region u.unit u.form.number x i) c.in-Assigned.is for) (λ n m name form. ((m.tree, form.1.0), form.1.1)),
-            below_room u w placed below 1 h (2 ^ 43) c.requires.room,
-          ),
-        ),
-      ),
+    let for = (subst (λ (x : code_kept.Kept). KeptFor a region u.unit u.form.number x i) c.in-Assigned.is c.requires.kept.1) in
+    let placed = c.in_place-in-Assigned.ensures in
+    let depth : c.in_place-in-Assigned.result.depth ≡ c.args.at.depth = ap (λ (x : code_at.At). x.depth) placed in
+    let name = as_assigned a region u.unit u.form.number (λ x. HasNumber a c.in-Assigned.name) c.in-Assigned.name c.in-Assigned.form i for (λ n m name form. (n, name)) in
+    let value = as_assigned a region u.unit u.form.number (λ x. IsAtWork a region c.in-Assigned.form.tree) c.in-Assigned.name c.in-Assigned.form i for (λ n m name form. ((m.tree, form.1.0), form.1.1)) in (
+      first_of (omega (arith, depth), omega arith, search rules, grind arith),
+      (c.requires.opened, (subst (λ (x : code_at.At). CanLook a u x.scope) (sym placed) c.requires.look, (name, (value, c.requires.room)))),
     )
 
 pub expand_kept_item-returns-in_err-value-in-Assigned-clause-runs : goal.expand_kept_item-returns-in_err-value-in-Assigned-clause-runs
 expand_kept_item-returns-in_err-value-in-Assigned-clause-runs t c = λ i turns for enough.
     let a = c.args.work.now in
-    let d = c.expand-in-Assigned.new.work in
+    let d = c.assign.new.work in
     let region = c.args.region.now in
     let u = c.args.units.now in
-    let w = c.below.new.units in
-    let v = c.expand-in-Assigned.new.units in
+    let v = c.assign.new.units in
     let at = c.args.at in
     let placed = c.in_place-in-Assigned.result in
-    let below = c.in_ok-below-in-Assigned.below in
-    let h = c.in_ok-below-in-Assigned.ensures in
     let less = subst (λ (x : code_at.At). IsEnoughBelow x.depth u.form.budget.uses turns) (sym c.in_place-in-Assigned.ensures) (enough_here at.depth u.form.budget.uses turns enough) in
-    let now = below_enough u w placed below 1 h turns less in
     let P : List Frames → code_core.Core → Core → Type 0 = λ layout. CoreStands d v.unit v.form.number in
     let Q : List Frames → code_part.CorePart → Part → Type 0 = λ layout. PartStands d v.unit v.form.number in
     let f : Item Identifier → Known → Frames → Step ScopedState Part = λ x known fs. item_part (expand (searched known) turns) (searched known) at.depth fs x in
-    runs_err Q a d region u v at.scope c.from_residual-in_err-value-in-Assigned.result c.in_err-value-in-Assigned.field-0.0 (f i) c.from_residual-in_err-value-in-Assigned.ensures.1
-    (as_assigned a region u.unit u.form.number (λ x. Runs Q a d region u v at.scope (Err c.in_err-value-in-Assigned.field-0.0) (f x)) c.in-Assigned.name c.in-Assigned.form i (subst (λ (x : code_kept.Kept). KeptFor a region u.unit u.form.number x i) c.in-Assigned.is for) (λ n m name form. item_assigned_fails a d region u v at.scope turns at.depth P Q n m c.in_err-value-in-Assigned.field-0.0 (placed_runs P a d region u v at placed m.here (c.in_place-in-Assigned.ensures ∙ ap (λ (o : Option Occ). record at { here = o }) form.0) (Err c.in_err-value-in-Assigned.field-0.0) (λ depth o known fs. node (searched known) o 1 depth (λ below t1. expand (searched known) turns below o fs (whole m.tree) t1 >>= λ x. done (Set (target_of (searched known) fs t1 n.name n.occ) x))) (assigned_fails a d region u w v placed below h c.in-Assigned.name n name (λ known fs depth o. expand (searched known) turns depth o fs (whole m.tree)) P c.in_err-value-in-Assigned.field-0.0 (c.in_err-value-in-Assigned.ensures.runs m.tree turns form.1.0 now)))))
+    let e = c.in_err-value-in-Assigned.field-0.0 in
+    runs_err Q a d region u v at.scope c.from_residual-in_err-value-in-Assigned.result e (f i) c.from_residual-in_err-value-in-Assigned.ensures.1
+    (as_assigned a region u.unit u.form.number (λ x. Runs Q a d region u v at.scope (Err e) (f x)) c.in-Assigned.name c.in-Assigned.form i (subst (λ (x : code_kept.Kept). KeptFor a region u.unit u.form.number x i) c.in-Assigned.is for) (λ n m name form. item_assigned_fails a d region u v at.scope turns at.depth P Q n m e (placed_runs P a d region u v at placed m.here (c.in_place-in-Assigned.ensures ∙ ap (λ (o : Option Occ). record at { here = o }) form.0) (Err e) (λ depth o known fs. assignment (searched known) depth o fs n (λ below. expand (searched known) turns below o fs (whole m.tree))) (c.in_err-value-in-Assigned.ensures.runs n m.tree turns name form.1.0 less))))
 
-pub expand_kept_item-returns-in_err-new-in-Assigned-clause-runs : goal.expand_kept_item-returns-in_err-new-in-Assigned-clause-runs
-expand_kept_item-returns-in_err-new-in-Assigned-clause-runs t c = λ i turns for enough.
+pub expand_kept_item-returns-in_ok-value-in-Assigned-clause-runs : goal.expand_kept_item-returns-in_ok-value-in-Assigned-clause-runs
+expand_kept_item-returns-in_ok-value-in-Assigned-clause-runs t c = λ i turns for enough.
     let a = c.args.work.now in
-    let d = c.expand-in-Assigned.new.work in
+    let d = c.assign.new.work in
     let region = c.args.region.now in
     let u = c.args.units.now in
-    let w = c.below.new.units in
-    let v = c.expand-in-Assigned.new.units in
+    let v = c.assign.new.units in
     let at = c.args.at in
     let placed = c.in_place-in-Assigned.result in
-    let below = c.in_ok-below-in-Assigned.below in
-    let h = c.in_ok-below-in-Assigned.ensures in
     let less = subst (λ (x : code_at.At). IsEnoughBelow x.depth u.form.budget.uses turns) (sym c.in_place-in-Assigned.ensures) (enough_here at.depth u.form.budget.uses turns enough) in
-    let now = below_enough u w placed below 1 h turns less in
     let P : List Frames → code_core.Core → Core → Type 0 = λ layout. CoreStands d v.unit v.form.number in
     let Q : List Frames → code_part.CorePart → Part → Type 0 = λ layout. PartStands d v.unit v.form.number in
     let f : Item Identifier → Known → Frames → Step ScopedState Part = λ x known fs. item_part (expand (searched known) turns) (searched known) at.depth fs x in
-    runs_err Q a d region u v at.scope c.from_residual-in_err-new-in-Assigned.result fault.Memory (f i) c.from_residual-in_err-new-in-Assigned.ensures.1
-    (as_assigned a region u.unit u.form.number (λ x. Runs Q a d region u v at.scope (Err fault.Memory) (f x)) c.in-Assigned.name c.in-Assigned.form i (subst (λ (x : code_kept.Kept). KeptFor a region u.unit u.form.number x i) c.in-Assigned.is for) (λ n m name form. item_assigned_fails a d region u v at.scope turns at.depth P Q n m fault.Memory (placed_runs P a d region u v at placed m.here (c.in_place-in-Assigned.ensures ∙ ap (λ (o : Option Occ). record at { here = o }) form.0) (Err fault.Memory) (λ depth o known fs. node (searched known) o 1 depth (λ below t1. expand (searched known) turns below o fs (whole m.tree) t1 >>= λ x. done (Set (target_of (searched known) fs t1 n.name n.occ) x))) (assigned_fails a d region u w v placed below h c.in-Assigned.name n name (λ known fs depth o. expand (searched known) turns depth o fs (whole m.tree)) P fault.Memory (runs_memory P P a d region w v below.scope c.in_ok-value-in-Assigned.value (λ known fs. expand (searched known) turns below.depth below.here fs (whole m.tree)) (λ known fs. expand (searched known) turns below.depth below.here fs (whole m.tree)) (c.in_ok-value-in-Assigned.ensures.runs m.tree turns form.1.0 now))))))
+    let x = c.in_ok-value-in-Assigned.value in
+    as_assigned a region u.unit u.form.number (λ y. Runs Q a d region u v at.scope (Ok (core_parts.Expression x)) (f y)) c.in-Assigned.name c.in-Assigned.form i (subst (λ (x : code_kept.Kept). KeptFor a region u.unit u.form.number x i) c.in-Assigned.is for) (λ n m name form. item_assigned a d region u v at.scope turns at.depth n m x (placed_runs P a d region u v at placed m.here (c.in_place-in-Assigned.ensures ∙ ap (λ (o : Option Occ). record at { here = o }) form.0) (Ok x) (λ depth o known fs. assignment (searched known) depth o fs n (λ below. expand (searched known) turns below o fs (whole m.tree))) (c.in_ok-value-in-Assigned.ensures.runs n m.tree turns name form.1.0 less)))
 
-pub expand_kept_item-returns-in_ok-new-in-Assigned-clause-runs : goal.expand_kept_item-returns-in_ok-new-in-Assigned-clause-runs
-expand_kept_item-returns-in_ok-new-in-Assigned-clause-runs t c = λ i turns for enough.
-    let a = c.args.work.now in
-    let d = c.expand-in-Assigned.new.work in
-    let region = c.args.region.now in
-    let u = c.args.units.now in
-    let w = c.below.new.units in
-    let v = c.expand-in-Assigned.new.units in
-    let at = c.args.at in
-    let placed = c.in_place-in-Assigned.result in
-    let below = c.in_ok-below-in-Assigned.below in
-    let h = c.in_ok-below-in-Assigned.ensures in
-    let less = subst (λ (x : code_at.At). IsEnoughBelow x.depth u.form.budget.uses turns) (sym c.in_place-in-Assigned.ensures) (enough_here at.depth u.form.budget.uses turns enough) in
-    let now = below_enough u w placed below 1 h turns less in
-    let x = c.target-target.result in
-    let y = c.in_ok-new-in-Assigned.field-0 in
-    let P : List Frames → code_core.Core → Core → Type 0 = λ layout. CoreStands d v.unit v.form.number in
-    let Q : List Frames → code_part.CorePart → Part → Type 0 = λ layout. PartStands d v.unit v.form.number in
-    let f : Item Identifier → Known → Frames → Step ScopedState Part = λ x known fs. item_part (expand (searched known) turns) (searched known) at.depth fs x in
-    as_assigned a region u.unit u.form.number (λ z. Runs Q a d region u v at.scope (Ok (core_parts.Expression (cores.Set x y))) (f z)) c.in-Assigned.name c.in-Assigned.form i (subst (λ (x : code_kept.Kept). KeptFor a region u.unit u.form.number x i) c.in-Assigned.is for) (λ n m name form.
-    let after = expand_after a d region w v below c.in-Assigned.form.tree c.in_ok-value-in-Assigned.value (below_look u w placed below 1 h a (subst (λ (x : code_at.At). CanLook a u x.scope) (sym c.in_place-in-Assigned.ensures) c.requires.look)) ((m.tree, form.1.0), form.1.1) c.in_ok-value-in-Assigned.ensures.runs in
-    item_assigned a d region u v at.scope turns at.depth n m (cores.Set x y)
-    (placed_runs P a d region u v at placed m.here (c.in_place-in-Assigned.ensures ∙ ap (λ (o : Option Occ). record at { here = o }) form.0) (Ok (cores.Set x y)) (λ depth o known fs. node (searched known) o 1 depth (λ below t1. expand (searched known) turns below o fs (whole m.tree) t1 >>= λ x. done (Set (target_of (searched known) fs t1 n.name n.occ) x)))
-    (assigned_runs a d region u w v placed below h c.in-Assigned.name n name (λ known fs depth o. expand (searched known) turns depth o fs (whole m.tree)) x y after.work after.same
-    (λ ls s fs n2 e there name2. c.target-target.ensures ls s fs n2 e (subst (λ (x : code_at.At). At ls x.scope fs) c.in_place-in-Assigned.ensures there) name2)
-    (subst (λ (q : code_core.Core). Runs P a d region w v below.scope (Ok q) (λ known fs. expand (searched known) turns below.depth below.here fs (whole m.tree))) (sym c.in_ok-new-in-Assigned.ensures.ok) (c.in_ok-value-in-Assigned.ensures.runs m.tree turns form.1.0 now)))))
+pub expand_kept_item-returns-in_ok-value-in-Assigned-clause-locals : goal.expand_kept_item-returns-in_ok-value-in-Assigned-clause-locals
+expand_kept_item-returns-in_ok-value-in-Assigned-clause-locals t c = c.in_ok-value-in-Assigned.ensures.locals
 
-pub expand_kept_item-returns-in_ok-new-in-Assigned-clause-locals : goal.expand_kept_item-returns-in_ok-new-in-Assigned-clause-locals
-expand_kept_item-returns-in_ok-new-in-Assigned-clause-locals t c = spends_on c.args.units.now c.below.new.units c.expand-in-Assigned.new.units (below_spends c.args.units.now c.below.new.units c.in_place-in-Assigned.result c.in_ok-below-in-Assigned.below 1 c.in_ok-below-in-Assigned.ensures) c.in_ok-value-in-Assigned.ensures.locals
-
-pub expand_kept_item-below-requires-in-AssignedFunction : goal.expand_kept_item-below-requires-in-AssignedFunction
-expand_kept_item-below-requires-in-AssignedFunction t c = c.requires.look.stands.form.few_nodes
-
-pub expand_kept_item-returns-in_err-below-in-AssignedFunction-clause-runs : goal.expand_kept_item-returns-in_err-below-in-AssignedFunction-clause-runs
-expand_kept_item-returns-in_err-below-in-AssignedFunction-clause-runs t c = λ i turns for enough.
-    let a = c.args.work.now in
-    let region = c.args.region.now in
-    let u = c.args.units.now in
-    let w = c.below-in-AssignedFunction.new.units in
-    let at = c.args.at in
-    let placed = c.in_place-in-AssignedFunction.result in
-    let e = c.in_err-below-in-AssignedFunction.field-0.0 in
-    let P : List Frames → code_core.Core → Core → Type 0 = λ layout. CoreStands a w.unit w.form.number in
-    let Q : List Frames → code_part.CorePart → Part → Type 0 = λ layout. PartStands a w.unit w.form.number in
-    let f : Item Identifier → Known → Frames → Step ScopedState Part = λ x known fs. item_part (expand (searched known) turns) (searched known) at.depth fs x in
-    runs_err Q a a region u w at.scope c.from_residual-in_err-below-in-AssignedFunction.result e (f i) c.from_residual-in_err-below-in-AssignedFunction.ensures.1
-    (as_assigned_function a region u.unit u.form.number (λ x. Runs Q a a region u w at.scope (Err e) (f x)) c.in-AssignedFunction.name c.in-AssignedFunction.here c.in-AssignedFunction.clause i (subst (λ (x : code_kept.Kept). KeptFor a region u.unit u.form.number x i) c.in-AssignedFunction.is for) (λ n m name clause. item_assigned_function_fails a a region u w at.scope turns at.depth P Q n c.in-AssignedFunction.here m e (placed_runs P a a region u w at placed c.in-AssignedFunction.here c.in_place-in-AssignedFunction.ensures (Err e) (λ depth o known fs. node (searched known) o 1 depth (λ below t1. lambda (expand (searched known) turns) (searched known) below o fs m t1 >>= λ x. done (Set (target_of (searched known) fs t1 n.name n.occ) x))) (node_none P a region u w placed 1 e (λ known fs below t1. lambda (expand (searched known) turns) (searched known) below placed.here fs m t1 >>= λ x. done (Set (target_of (searched known) fs t1 n.name n.occ) x)) c.in_err-below-in-AssignedFunction.ensures))))
-
-pub expand_kept_item-target-target-requires-in-AssignedFunction-clause-look : goal.expand_kept_item-target-target-requires-in-AssignedFunction-clause-look
-expand_kept_item-target-target-requires-in-AssignedFunction-clause-look t c =
-    let scope : c.in_ok-below-in-AssignedFunction.below.scope ≡ c.args.at.scope = c.in_ok-below-in-AssignedFunction.ensures.0 ∙ ap (λ (x : code_at.At). x.scope) c.in_place-in-AssignedFunction.ensures in
-    subst (λ (k : ℕ). CanLook c.args.work.now c.below-in-AssignedFunction.new.units k) scope (below_look c.args.units.now c.below-in-AssignedFunction.new.units c.in_place-in-AssignedFunction.result c.in_ok-below-in-AssignedFunction.below 1 c.in_ok-below-in-AssignedFunction.ensures c.args.work.now (subst (λ (x : code_at.At). CanLook c.args.work.now c.args.units.now x.scope) (sym c.in_place-in-AssignedFunction.ensures) c.requires.look))
-
-pub expand_kept_item-target-target-requires-in-AssignedFunction-clause-ident : goal.expand_kept_item-target-target-requires-in-AssignedFunction-clause-ident
-expand_kept_item-target-target-requires-in-AssignedFunction-clause-ident t c =
+pub expand_kept_item-assign_procedure-requires : goal.expand_kept_item-assign_procedure-requires
+expand_kept_item-assign_procedure-requires t c =
     let a = c.args.work.now in
     let region = c.args.region.now in
     let u = c.args.units.now in
     let i = c.requires.kept.0 in
-    let for = c.requires.kept.1 in
-    as_assigned_function a region u.unit u.form.number (λ x. c.in-AssignedFunction.name.ident < length a.symbols.idents) c.in-AssignedFunction.name c.in-AssignedFunction.here c.in-AssignedFunction.clause i (subst (λ (x : code_kept.Kept). KeptFor a region u.unit u.form.number x i) c.in-AssignedFunction.is for) (λ n m name clause. slice_get_within a.symbols.idents c.in-AssignedFunction.name.ident n.name name.0)
-
-pub expand_kept_item-lambda-requires-in-AssignedFunction : goal.expand_kept_item-lambda-requires-in-AssignedFunction
-expand_kept_item-lambda-requires-in-AssignedFunction t c =
-    let a = c.args.work.now in
-    let region = c.args.region.now in
-    let u = c.args.units.now in
-    let w = c.below-in-AssignedFunction.new.units in
-    let i = c.requires.kept.0 in
-    let for = c.requires.kept.1 in
-    let placed = c.in_place-in-AssignedFunction.result in
-    let below = c.in_ok-below-in-AssignedFunction.below in
-    let h = c.in_ok-below-in-AssignedFunction.ensures in
-    let deeper : c.args.at.depth ≡ below.depth + 1 = sym (ap (λ (x : code_at.At). x.depth) c.in_place-in-AssignedFunction.ensures) ∙ h.2.0 in (
-      first_of (omega (arith, deeper), omega arith, search rules, grind arith),
-      (
-        c.requires.opened,
-        (
-          below_look u w placed below 1 h a (subst (λ (x : code_at.At). CanLook a u x.scope) (sym c.in_place-in-AssignedFunction.ensures) c.requires.look),
-          (
-            as_assigned_function a region u.unit u.form.number (λ x. ClauseAtWork a region c.in-AssignedFunction.clause) c.in-AssignedFunction.name c.in-AssignedFunction.here c.in-AssignedFunction.clause i (subst (λ (x : code_kept.Kept). KeptFor a region u.unit u.form.number x i) c.in-AssignedFunction.is for) (λ n m name clause. (m, clause)),
-            below_room u w placed below 1 h (2 ^ 43) c.requires.room,
-          ),
-        ),
-      ),
+    let for = (subst (λ (x : code_kept.Kept). KeptFor a region u.unit u.form.number x i) c.in-AssignedFunction.is c.requires.kept.1) in
+    let placed = c.in_place-in-AssignedFunction.ensures in
+    let depth : c.in_place-in-AssignedFunction.result.depth ≡ c.args.at.depth = ap (λ (x : code_at.At). x.depth) placed in
+    let name = as_assigned_function a region u.unit u.form.number (λ x. HasNumber a c.in-AssignedFunction.name) c.in-AssignedFunction.name c.in-AssignedFunction.here c.in-AssignedFunction.clause i for (λ n m name clause. (n, name)) in
+    let value = as_assigned_function a region u.unit u.form.number (λ x. ClauseAtWork a region c.in-AssignedFunction.clause) c.in-AssignedFunction.name c.in-AssignedFunction.here c.in-AssignedFunction.clause i for (λ n m name clause. (m, clause)) in (
+      first_of (omega (arith, depth), omega arith, search rules, grind arith),
+      (c.requires.opened, (subst (λ (x : code_at.At). CanLook a u x.scope) (sym placed) c.requires.look, (name, (value, c.requires.room)))),
     )
 
 pub expand_kept_item-returns-in_err-value-in-AssignedFunction-clause-runs : goal.expand_kept_item-returns-in_err-value-in-AssignedFunction-clause-runs
 expand_kept_item-returns-in_err-value-in-AssignedFunction-clause-runs t c = λ i turns for enough.
     let a = c.args.work.now in
-    let d = c.lambda-in-AssignedFunction.new.work in
+    let d = c.assign_procedure.new.work in
     let region = c.args.region.now in
     let u = c.args.units.now in
-    let w = c.below-in-AssignedFunction.new.units in
-    let v = c.lambda-in-AssignedFunction.new.units in
+    let v = c.assign_procedure.new.units in
     let at = c.args.at in
     let placed = c.in_place-in-AssignedFunction.result in
-    let below = c.in_ok-below-in-AssignedFunction.below in
-    let h = c.in_ok-below-in-AssignedFunction.ensures in
     let less = subst (λ (x : code_at.At). IsEnoughBelow x.depth u.form.budget.uses turns) (sym c.in_place-in-AssignedFunction.ensures) (enough_here at.depth u.form.budget.uses turns enough) in
-    let now = enough_here below.depth w.form.budget.uses turns (below_enough u w placed below 1 h turns less) in
     let P : List Frames → code_core.Core → Core → Type 0 = λ layout. CoreStands d v.unit v.form.number in
     let Q : List Frames → code_part.CorePart → Part → Type 0 = λ layout. PartStands d v.unit v.form.number in
     let f : Item Identifier → Known → Frames → Step ScopedState Part = λ x known fs. item_part (expand (searched known) turns) (searched known) at.depth fs x in
-    runs_err Q a d region u v at.scope c.from_residual-in_err-value-in-AssignedFunction.result c.in_err-value-in-AssignedFunction.field-0.0 (f i) c.from_residual-in_err-value-in-AssignedFunction.ensures.1
-    (as_assigned_function a region u.unit u.form.number (λ x. Runs Q a d region u v at.scope (Err c.in_err-value-in-AssignedFunction.field-0.0) (f x)) c.in-AssignedFunction.name c.in-AssignedFunction.here c.in-AssignedFunction.clause i (subst (λ (x : code_kept.Kept). KeptFor a region u.unit u.form.number x i) c.in-AssignedFunction.is for) (λ n m name clause. item_assigned_function_fails a d region u v at.scope turns at.depth P Q n c.in-AssignedFunction.here m c.in_err-value-in-AssignedFunction.field-0.0 (placed_runs P a d region u v at placed c.in-AssignedFunction.here c.in_place-in-AssignedFunction.ensures (Err c.in_err-value-in-AssignedFunction.field-0.0) (λ depth o known fs. node (searched known) o 1 depth (λ below t1. lambda (expand (searched known) turns) (searched known) below o fs m t1 >>= λ x. done (Set (target_of (searched known) fs t1 n.name n.occ) x))) (assigned_fails a d region u w v placed below h c.in-AssignedFunction.name n name (λ known fs depth o. lambda (expand (searched known) turns) (searched known) depth o fs m) P c.in_err-value-in-AssignedFunction.field-0.0 (c.in_err-value-in-AssignedFunction.ensures.runs m turns clause now)))))
+    let e = c.in_err-value-in-AssignedFunction.field-0.0 in
+    runs_err Q a d region u v at.scope c.from_residual-in_err-value-in-AssignedFunction.result e (f i) c.from_residual-in_err-value-in-AssignedFunction.ensures.1
+    (as_assigned_function a region u.unit u.form.number (λ x. Runs Q a d region u v at.scope (Err e) (f x)) c.in-AssignedFunction.name c.in-AssignedFunction.here c.in-AssignedFunction.clause i (subst (λ (x : code_kept.Kept). KeptFor a region u.unit u.form.number x i) c.in-AssignedFunction.is for) (λ n m name clause. item_assigned_function_fails a d region u v at.scope turns at.depth P Q n c.in-AssignedFunction.here m e (placed_runs P a d region u v at placed c.in-AssignedFunction.here c.in_place-in-AssignedFunction.ensures (Err e) (λ depth o known fs. assignment (searched known) depth o fs n (λ below. lambda (expand (searched known) turns) (searched known) below o fs m)) (c.in_err-value-in-AssignedFunction.ensures.runs n m turns name clause less))))
 
-pub expand_kept_item-returns-in_err-new-in-AssignedFunction-clause-runs : goal.expand_kept_item-returns-in_err-new-in-AssignedFunction-clause-runs
-expand_kept_item-returns-in_err-new-in-AssignedFunction-clause-runs t c = λ i turns for enough.
+pub expand_kept_item-returns-in_ok-value-in-AssignedFunction-clause-runs : goal.expand_kept_item-returns-in_ok-value-in-AssignedFunction-clause-runs
+expand_kept_item-returns-in_ok-value-in-AssignedFunction-clause-runs t c = λ i turns for enough.
     let a = c.args.work.now in
-    let d = c.lambda-in-AssignedFunction.new.work in
+    let d = c.assign_procedure.new.work in
     let region = c.args.region.now in
     let u = c.args.units.now in
-    let w = c.below-in-AssignedFunction.new.units in
-    let v = c.lambda-in-AssignedFunction.new.units in
+    let v = c.assign_procedure.new.units in
     let at = c.args.at in
     let placed = c.in_place-in-AssignedFunction.result in
-    let below = c.in_ok-below-in-AssignedFunction.below in
-    let h = c.in_ok-below-in-AssignedFunction.ensures in
     let less = subst (λ (x : code_at.At). IsEnoughBelow x.depth u.form.budget.uses turns) (sym c.in_place-in-AssignedFunction.ensures) (enough_here at.depth u.form.budget.uses turns enough) in
-    let now = enough_here below.depth w.form.budget.uses turns (below_enough u w placed below 1 h turns less) in
     let P : List Frames → code_core.Core → Core → Type 0 = λ layout. CoreStands d v.unit v.form.number in
     let Q : List Frames → code_part.CorePart → Part → Type 0 = λ layout. PartStands d v.unit v.form.number in
     let f : Item Identifier → Known → Frames → Step ScopedState Part = λ x known fs. item_part (expand (searched known) turns) (searched known) at.depth fs x in
-    runs_err Q a d region u v at.scope c.from_residual-in_err-new-in-AssignedFunction.result fault.Memory (f i) c.from_residual-in_err-new-in-AssignedFunction.ensures.1
-    (as_assigned_function a region u.unit u.form.number (λ x. Runs Q a d region u v at.scope (Err fault.Memory) (f x)) c.in-AssignedFunction.name c.in-AssignedFunction.here c.in-AssignedFunction.clause i (subst (λ (x : code_kept.Kept). KeptFor a region u.unit u.form.number x i) c.in-AssignedFunction.is for) (λ n m name clause. item_assigned_function_fails a d region u v at.scope turns at.depth P Q n c.in-AssignedFunction.here m fault.Memory (placed_runs P a d region u v at placed c.in-AssignedFunction.here c.in_place-in-AssignedFunction.ensures (Err fault.Memory) (λ depth o known fs. node (searched known) o 1 depth (λ below t1. lambda (expand (searched known) turns) (searched known) below o fs m t1 >>= λ x. done (Set (target_of (searched known) fs t1 n.name n.occ) x))) (assigned_fails a d region u w v placed below h c.in-AssignedFunction.name n name (λ known fs depth o. lambda (expand (searched known) turns) (searched known) depth o fs m) P fault.Memory (runs_memory P P a d region w v below.scope c.in_ok-value-in-AssignedFunction.value (λ known fs. lambda (expand (searched known) turns) (searched known) below.depth below.here fs m) (λ known fs. lambda (expand (searched known) turns) (searched known) below.depth below.here fs m) (c.in_ok-value-in-AssignedFunction.ensures.runs m turns clause now))))))
+    let x = c.in_ok-value-in-AssignedFunction.value in
+    as_assigned_function a region u.unit u.form.number (λ y. Runs Q a d region u v at.scope (Ok (core_parts.Expression x)) (f y)) c.in-AssignedFunction.name c.in-AssignedFunction.here c.in-AssignedFunction.clause i (subst (λ (x : code_kept.Kept). KeptFor a region u.unit u.form.number x i) c.in-AssignedFunction.is for) (λ n m name clause. item_assigned_function a d region u v at.scope turns at.depth n c.in-AssignedFunction.here m x (placed_runs P a d region u v at placed c.in-AssignedFunction.here c.in_place-in-AssignedFunction.ensures (Ok x) (λ depth o known fs. assignment (searched known) depth o fs n (λ below. lambda (expand (searched known) turns) (searched known) below o fs m)) (c.in_ok-value-in-AssignedFunction.ensures.runs n m turns name clause less)))
 
-pub expand_kept_item-returns-in_ok-new-in-AssignedFunction-clause-runs : goal.expand_kept_item-returns-in_ok-new-in-AssignedFunction-clause-runs
-expand_kept_item-returns-in_ok-new-in-AssignedFunction-clause-runs t c = λ i turns for enough.
-    let a = c.args.work.now in
-    let d = c.lambda-in-AssignedFunction.new.work in
-    let region = c.args.region.now in
-    let u = c.args.units.now in
-    let w = c.below-in-AssignedFunction.new.units in
-    let v = c.lambda-in-AssignedFunction.new.units in
-    let at = c.args.at in
-    let placed = c.in_place-in-AssignedFunction.result in
-    let below = c.in_ok-below-in-AssignedFunction.below in
-    let h = c.in_ok-below-in-AssignedFunction.ensures in
-    let less = subst (λ (x : code_at.At). IsEnoughBelow x.depth u.form.budget.uses turns) (sym c.in_place-in-AssignedFunction.ensures) (enough_here at.depth u.form.budget.uses turns enough) in
-    let now = enough_here below.depth w.form.budget.uses turns (below_enough u w placed below 1 h turns less) in
-    let x = c.target-target-in-AssignedFunction.result in
-    let y = c.in_ok-new-in-AssignedFunction.field-0 in
-    let P : List Frames → code_core.Core → Core → Type 0 = λ layout. CoreStands d v.unit v.form.number in
-    let Q : List Frames → code_part.CorePart → Part → Type 0 = λ layout. PartStands d v.unit v.form.number in
-    let f : Item Identifier → Known → Frames → Step ScopedState Part = λ x known fs. item_part (expand (searched known) turns) (searched known) at.depth fs x in
-    as_assigned_function a region u.unit u.form.number (λ z. Runs Q a d region u v at.scope (Ok (core_parts.Expression (cores.Set x y))) (f z)) c.in-AssignedFunction.name c.in-AssignedFunction.here c.in-AssignedFunction.clause i (subst (λ (x : code_kept.Kept). KeptFor a region u.unit u.form.number x i) c.in-AssignedFunction.is for) (λ n m name clause.
-    let after = lambda_after a d region w v below c.in-AssignedFunction.clause c.in_ok-value-in-AssignedFunction.value (below_look u w placed below 1 h a (subst (λ (x : code_at.At). CanLook a u x.scope) (sym c.in_place-in-AssignedFunction.ensures) c.requires.look)) (m, clause) c.in_ok-value-in-AssignedFunction.ensures.runs in
-    item_assigned_function a d region u v at.scope turns at.depth n c.in-AssignedFunction.here m (cores.Set x y)
-    (placed_runs P a d region u v at placed c.in-AssignedFunction.here c.in_place-in-AssignedFunction.ensures (Ok (cores.Set x y)) (λ depth o known fs. node (searched known) o 1 depth (λ below t1. lambda (expand (searched known) turns) (searched known) below o fs m t1 >>= λ x. done (Set (target_of (searched known) fs t1 n.name n.occ) x)))
-    (assigned_runs a d region u w v placed below h c.in-AssignedFunction.name n name (λ known fs depth o. lambda (expand (searched known) turns) (searched known) depth o fs m) x y after.work after.same
-    (λ ls s fs n2 e there name2. c.target-target-in-AssignedFunction.ensures ls s fs n2 e (subst (λ (x : code_at.At). At ls x.scope fs) c.in_place-in-AssignedFunction.ensures there) name2)
-    (subst (λ (q : code_core.Core). Runs P a d region w v below.scope (Ok q) (λ known fs. lambda (expand (searched known) turns) (searched known) below.depth below.here fs m)) (sym c.in_ok-new-in-AssignedFunction.ensures.ok) (c.in_ok-value-in-AssignedFunction.ensures.runs m turns clause now)))))
-
-pub expand_kept_item-returns-in_ok-new-in-AssignedFunction-clause-locals : goal.expand_kept_item-returns-in_ok-new-in-AssignedFunction-clause-locals
-expand_kept_item-returns-in_ok-new-in-AssignedFunction-clause-locals t c = spends_on c.args.units.now c.below-in-AssignedFunction.new.units c.lambda-in-AssignedFunction.new.units (below_spends c.args.units.now c.below-in-AssignedFunction.new.units c.in_place-in-AssignedFunction.result c.in_ok-below-in-AssignedFunction.below 1 c.in_ok-below-in-AssignedFunction.ensures) c.in_ok-value-in-AssignedFunction.ensures.locals
+pub expand_kept_item-returns-in_ok-value-in-AssignedFunction-clause-locals : goal.expand_kept_item-returns-in_ok-value-in-AssignedFunction-clause-locals
+expand_kept_item-returns-in_ok-value-in-AssignedFunction-clause-locals t c = c.in_ok-value-in-AssignedFunction.ensures.locals

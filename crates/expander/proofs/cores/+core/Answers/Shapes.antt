@@ -1,15 +1,13 @@
 -- Core forms by their shapes.
-use Rattle.std.proofs.Common.{◌≡◌, ℕ, ◌+◌, ◌^◌, ◌<◌, ◌≤◌, List, length, Ok, Err, Vec, rules, refl, sym, ◌∙◌, subst, arith}
-use Rattle.std.proofs.lemmas.Option.{slice_get_within}
+use Rattle.std.proofs.Common.{◌≡◌, ◌+◌, ◌^◌, ◌≤◌, List, Ok, Err, rules, sym, ◌∙◌, subst, arith}
 use Rattle.std.specs.List.{AllByRecursion}
 use denote.Enum.Bare.{true_same, false_same}
-use Rattle.std.specs.declared.alloc.Global.{Global}
 use Rattle.scheme_model.specs.Measures.{tree_size}
 use Rattle.scheme_model.specs.Requirements.{Known}
 use Rattle.scheme_model.specs.Cores.{Core, If, CaseLambda, Lambda, Set}
 use Rattle.scheme_model.specs.Steps.{Step, ◌>>=◌, done}
 use Rattle.scheme_model.specs.Order.{target_of}
-use Rattle.scheme_model.specs.Expression.{whole, expand, procedure, clauses, node, each}
+use Rattle.scheme_model.specs.Expression.{assignment, whole, expand, node}
 use Rattle.scheme_model.specs.ScopedExpansion.{Frames, ScopedState}
 use Rattle.syntax_tree.specs.Looks.{PartsStand}
 use Rattle.syntax_tree.specs.Works.{StandsFor}
@@ -26,8 +24,7 @@ use Rattle.core_forms.specs.declared.shape.CoreKeyword.TheVariants as word
 use Rattle.core_forms.specs.declared.shape.LocalMacro.{LocalMacro}
 use Rattle.core_forms.specs.declared.shape.CoreShape as code_shape
 use Rattle.core_tree.specs.Names.{AllMatch}
-use Rattle.core_tree.specs.Cores.{CoreStands, ClausesStand}
-use Rattle.core_tree.specs.declared.cores.Clause as code_clause
+use Rattle.core_tree.specs.Cores.{CoreStands}
 use Rattle.core_tree.specs.declared.cores.Core as code_core
 use Rattle.core_tree.specs.declared.cores.Core.TheVariants as cores
 use Rattle.expander.specs.CoreSteps.{core_step}
@@ -36,39 +33,23 @@ use Rattle.expander.specs.Expanded.{AreAtWork, BodyAtWork, ClauseAtWork, Clauses
 use Rattle.feature_requirements.specs.Judged.{AreChoosable}
 use Rattle.unit_scopes.specs.Kept.{ClauseFor}
 use Rattle.form_parts.specs.Marked.{IsQuasi}
-use Rattle.unit_scopes.specs.Outcomes.{CanLook, IsAtWork, Runs}
+use Rattle.unit_scopes.specs.Outcomes.{IsAtWork, Runs}
 use Rattle.expander.specs.Passed.{ShapeFits}
 use Rattle.unit_scopes.specs.Searched.{searched}
 use Rattle.feature_requirements.specs.declared.fault.ExpandFault.{ExpandFault}
-use Rattle.feature_requirements.specs.declared.fault.ExpandFault.TheVariants as fault
 use Rattle.expander.proofs.AfterLaws.{all_known, spends_on}
 use Rattle.expander.proofs.BelowLaws.{below_look, below_room, below_spends, below_enough}
-use Rattle.expander.proofs.CycleCalls.{expand_after}
-use Rattle.expander.proofs.ExpandLaws.{trees_node, trees_node_fails, each_after}
-use Rattle.expander.proofs.FormRuns.{assigned_runs, assigned_fails, tested_runs, untested_runs, lambda_runs, lambda_fails, chosen_runs, chosen_fails, quasi_runs, quasi_fails, quasi_unbegun, chosen_here, misplaced_runs}
-use Rattle.expander.proofs.RowLaws.{trees_in, trees_match}
-use Rattle.expander.proofs.RowRuns.{runs_memory}
+use Rattle.expander.proofs.ExpandLaws.{each_after}
+use Rattle.expander.proofs.FormRuns.{tested_runs, untested_runs, chosen_runs, chosen_fails, quasi_runs, quasi_fails, quasi_unbegun, chosen_here, misplaced_runs}
 use Rattle.expander.proofs.ShapeParts.{as_quasi, as_lambda, as_case_lambda, as_if, as_set, as_local, clauses_for, parts_match, trees_of, trees_stand, misplaced_is, local_is}
 use Rattle.expander.proofs.ShapeKinds.{as_sequence, as_choices}
-use Rattle.expander.proofs.StepLaws.{runs_err, runs_same, node_runs, node_stops, node_none}
+use Rattle.expander.proofs.StepLaws.{runs_err, runs_same}
 use Rattle.expander.proofs.cores.+core.Goals as goal
 
 -- ---- core forms by their shapes
 
 pub expand_shape-below-requires : goal.expand_shape-below-requires
 expand_shape-below-requires t c = c.requires.look.stands.form.few_nodes
-
-pub expand_shape-below-requires-in-Lambda : goal.expand_shape-below-requires-in-Lambda
-expand_shape-below-requires-in-Lambda t c = c.requires.look.stands.form.few_nodes
-
-pub expand_shape-below-requires-in-CaseLambda : goal.expand_shape-below-requires-in-CaseLambda
-expand_shape-below-requires-in-CaseLambda t c = c.requires.look.stands.form.few_nodes
-
-pub expand_shape-below-requires-in-If : goal.expand_shape-below-requires-in-If
-expand_shape-below-requires-in-If t c = c.requires.look.stands.form.few_nodes
-
-pub expand_shape-below-requires-in-Set : goal.expand_shape-below-requires-in-Set
-expand_shape-below-requires-in-Set t c = c.requires.look.stands.form.few_nodes
 
 pub expand_shape-outside-requires : goal.expand_shape-outside-requires
 expand_shape-outside-requires t c =
@@ -90,60 +71,43 @@ expand_shape-expand_all-requires t c =
       (c.requires.opened, (below_look u w c.args.at below c.outside.result h a c.requires.look, (subst (AreAtWork a region) (sym c.deref-in-Quasi.ensures.value) (as_quasi a (λ x. ShapeFits x → AreAtWork a region c.in-Quasi.parts.items) c.in-Quasi.datum c.in-Quasi.parts c.in-Quasi.places s.0 (subst (λ (x : code_shape.CoreShape). ShapeFor a x s.0) c.in-Quasi.is s.1) (λ tree p stands holes there fit. (trees_of p.holes, trees_stand a c.in-Quasi.parts.items p.holes holes, (subst (ShapeNamed a region) c.in-Quasi.is c.requires.shape.2).1)) s.3), below_room u w c.args.at below c.outside.result h (2 ^ 43) c.requires.room))),
     )
 
-pub expand_shape-procedure-requires : goal.expand_shape-procedure-requires
-expand_shape-procedure-requires t c =
+pub expand_shape-lambda-requires : goal.expand_shape-lambda-requires
+expand_shape-lambda-requires t c =
     let a = c.args.work.now in
     let region = c.args.region.now in
-    let s = c.requires.shape in
-    let u = c.args.units.now in
-    let w = c.below-in-Lambda.new.units in
-    let below = c.in_ok-below-in-Lambda.below in
-    let h = c.in_ok-below-in-Lambda.ensures in
-    let is : c.args.at.depth ≡ below.depth + 1 = h.2.0 in (
-      first_of (omega (arith, is), omega arith, search rules, grind arith),
-      (c.requires.opened, (below_look u w c.args.at below 1 h a c.requires.look, (as_lambda a (λ x. ShapeFits x → ClauseAtWork a region c.in-Lambda.clause) c.in-Lambda.clause s.0 (subst (λ (x : code_shape.CoreShape). ShapeFor a x s.0) c.in-Lambda.is s.1) (λ d found fit. (d, (found, (subst (ShapeNamed a region) c.in-Lambda.is c.requires.shape.2), fit))) s.3, below_room u w c.args.at below 1 h (2 ^ 43) c.requires.room))),
+    let s = c.requires.shape in (
+      first_of (omega arith, search rules, grind arith),
+      (c.requires.opened, (c.requires.look, (as_lambda a (λ x. ShapeFits x → ClauseAtWork a region c.in-Lambda.clause) c.in-Lambda.clause s.0 (subst (λ (x : code_shape.CoreShape). ShapeFor a x s.0) c.in-Lambda.is s.1) (λ d found fit. (d, (found, (subst (ShapeNamed a region) c.in-Lambda.is c.requires.shape.2), fit))) s.3, c.requires.room))),
     )
 
-pub expand_shape-procedures-requires : goal.expand_shape-procedures-requires
-expand_shape-procedures-requires t c =
+pub expand_shape-case_lambda-requires : goal.expand_shape-case_lambda-requires
+expand_shape-case_lambda-requires t c =
     let a = c.args.work.now in
     let region = c.args.region.now in
-    let s = c.requires.shape in
-    let u = c.args.units.now in
-    let w = c.below-in-CaseLambda.new.units in
-    let below = c.in_ok-below-in-CaseLambda.below in
-    let h = c.in_ok-below-in-CaseLambda.ensures in
-    let is : c.args.at.depth ≡ below.depth + 1 = h.2.0 in (
-      first_of (omega (arith, is), omega arith, search rules, grind arith),
-      (c.requires.opened, (below_look u w c.args.at below 1 h a c.requires.look, (subst (ClausesAtWork a region) (sym c.deref-in-CaseLambda.ensures.value) (as_case_lambda a (λ x. ShapeFits x → ClausesAtWork a region c.in-CaseLambda.clauses.items) c.in-CaseLambda.clauses s.0 (subst (λ (x : code_shape.CoreShape). ShapeFor a x s.0) c.in-CaseLambda.is s.1) (λ ds are fit. (ds, clauses_for a region c.in-CaseLambda.clauses.items ds are (subst (ShapeNamed a region) c.in-CaseLambda.is c.requires.shape.2) fit)) s.3), below_room u w c.args.at below 1 h (2 ^ 43) c.requires.room))),
+    let s = c.requires.shape in (
+      first_of (omega arith, search rules, grind arith),
+      (c.requires.opened, (c.requires.look, (subst (ClausesAtWork a region) (sym c.deref-in-CaseLambda.ensures.value) (as_case_lambda a (λ x. ShapeFits x → ClausesAtWork a region c.in-CaseLambda.clauses.items) c.in-CaseLambda.clauses s.0 (subst (λ (x : code_shape.CoreShape). ShapeFor a x s.0) c.in-CaseLambda.is s.1) (λ ds are fit. (ds, clauses_for a region c.in-CaseLambda.clauses.items ds are (subst (ShapeNamed a region) c.in-CaseLambda.is c.requires.shape.2) fit)) s.3), c.requires.room))),
     )
 
-pub expand_shape-expand_all-requires-in-If : goal.expand_shape-expand_all-requires-in-If
-expand_shape-expand_all-requires-in-If t c =
+pub expand_shape-conditional-requires : goal.expand_shape-conditional-requires
+expand_shape-conditional-requires t c =
     let a = c.args.work.now in
     let region = c.args.region.now in
-    let s = c.requires.shape in
-    let u = c.args.units.now in
-    let w = c.below-in-If.new.units in
-    let below = c.in_ok-below-in-If.below in
-    let h = c.in_ok-below-in-If.ensures in
-    let is : c.args.at.depth ≡ below.depth + 1 = h.2.0 in (
-      first_of (omega (arith, is), omega arith, search rules, grind arith),
-      (c.requires.opened, (below_look u w c.args.at below 1 h a c.requires.look, (subst (AreAtWork a region) (sym c.deref-in-If.ensures.value) (as_if a (λ x. ShapeFits x → AreAtWork a region c.in-If.parts.items) c.in-If.parts s.0 (subst (λ (x : code_shape.CoreShape). ShapeFor a x s.0) c.in-If.is s.1) (λ ts stand fit. (ts, stand, (subst (ShapeNamed a region) c.in-If.is c.requires.shape.2))) s.3), below_room u w c.args.at below 1 h (2 ^ 43) c.requires.room))),
+    let s = c.requires.shape in (
+      first_of (omega arith, search rules, grind arith),
+      (c.requires.opened, (c.requires.look, (subst (AreAtWork a region) (sym c.deref-in-If.ensures.value) (as_if a (λ x. ShapeFits x → AreAtWork a region c.in-If.parts.items) c.in-If.parts s.0 (subst (λ (x : code_shape.CoreShape). ShapeFor a x s.0) c.in-If.is s.1) (λ ts stand fit. (ts, stand, (subst (ShapeNamed a region) c.in-If.is c.requires.shape.2))) s.3), c.requires.room))),
     )
 
-pub expand_shape-expand-requires : goal.expand_shape-expand-requires
-expand_shape-expand-requires t c =
+pub expand_shape-assign-requires : goal.expand_shape-assign-requires
+expand_shape-assign-requires t c =
     let a = c.args.work.now in
     let region = c.args.region.now in
     let s = c.requires.shape in
-    let u = c.args.units.now in
-    let w = c.below-in-Set.new.units in
-    let below = c.in_ok-below-in-Set.below in
-    let h = c.in_ok-below-in-Set.ensures in
-    let is : c.args.at.depth ≡ below.depth + 1 = h.2.0 in (
-      first_of (omega (arith, is), omega arith, search rules, grind arith),
-      (c.requires.opened, (below_look u w c.args.at below 1 h a c.requires.look, (as_set a (λ x. ShapeFits x → IsAtWork a region c.in-Set.value) c.in-Set.name c.in-Set.value s.0 (subst (λ (x : code_shape.CoreShape). ShapeFor a x s.0) c.in-Set.is s.1) (λ n tree name stands fit. ((tree, stands), (subst (ShapeNamed a region) c.in-Set.is c.requires.shape.2))) s.3, below_room u w c.args.at below 1 h (2 ^ 43) c.requires.room))),
+    let for = (subst (λ (x : code_shape.CoreShape). ShapeFor a x s.0) c.in-Set.is s.1) in
+    let name = as_set a (λ x. ShapeFits x → HasNumber a c.in-Set.name) c.in-Set.name c.in-Set.value s.0 for (λ n tree name stands fit. (n, name)) s.3 in
+    let value = as_set a (λ x. ShapeFits x → IsAtWork a region c.in-Set.value) c.in-Set.name c.in-Set.value s.0 for (λ n tree name stands fit. ((tree, stands), (subst (ShapeNamed a region) c.in-Set.is c.requires.shape.2))) s.3 in (
+      first_of (omega arith, search rules, grind arith),
+      (c.requires.opened, (c.requires.look, (name, (value, c.requires.room)))),
     )
 
 pub expand_shape-sequence-requires : goal.expand_shape-sequence-requires
@@ -161,19 +125,8 @@ expand_shape-test_variable-requires-clause-look t c = c.requires.look
 pub expand_shape-test_variable-requires-clause-name : goal.expand_shape-test_variable-requires-clause-name
 expand_shape-test_variable-requires-clause-name t c =
     let a = c.args.work.now in
-    let region = c.args.region.now in
     let s = c.requires.shape in
     as_set a (λ x. ShapeFits x → HasNumber a c.in-Set.name) c.in-Set.name c.in-Set.value s.0 (subst (λ (x : code_shape.CoreShape). ShapeFor a x s.0) c.in-Set.is s.1) (λ n tree name stands fit. (n, name)) s.3
-
-pub expand_shape-target-target-requires-clause-look : goal.expand_shape-target-target-requires-clause-look
-expand_shape-target-target-requires-clause-look t c = subst (λ (k : ℕ). CanLook c.args.work.now c.below-in-Set.new.units k) c.in_ok-below-in-Set.ensures.0 (below_look c.args.units.now c.below-in-Set.new.units c.args.at c.in_ok-below-in-Set.below 1 c.in_ok-below-in-Set.ensures c.args.work.now c.requires.look)
-
-pub expand_shape-target-target-requires-clause-ident : goal.expand_shape-target-target-requires-clause-ident
-expand_shape-target-target-requires-clause-ident t c =
-    let a = c.args.work.now in
-    let region = c.args.region.now in
-    let s = c.requires.shape in
-    as_set a (λ x. ShapeFits x → c.in-Set.name.ident < length a.symbols.idents) c.in-Set.name c.in-Set.value s.0 (subst (λ (x : code_shape.CoreShape). ShapeFor a x s.0) c.in-Set.is s.1) (λ n tree name stands fit. slice_get_within a.symbols.idents c.in-Set.name.ident n.name name.0) s.3
 
 pub expand_shape-returns-in_err-below-in-Quasi-clause-runs : goal.expand_shape-returns-in_err-below-in-Quasi-clause-runs
 expand_shape-returns-in_err-below-in-Quasi-clause-runs t c = λ k m turns keyword for fits left enough.
@@ -187,45 +140,6 @@ expand_shape-returns-in_err-below-in-Quasi-clause-runs t c = λ k m turns keywor
     let f : Shape → Known → Frames → Step ScopedState Core = λ x known fs. core_step (expand (searched known) turns) (searched known) at.depth at.here fs k x in
     runs_err Q a d region u v at.scope c.from_residual.result c.in_err-below-in-Quasi.field-0.0 (f m) c.from_residual.ensures.1
     (as_quasi a (λ x. ShapeFits x → Runs Q a d region u v at.scope (Err c.in_err-below-in-Quasi.field-0.0) (f x)) c.in-Quasi.datum c.in-Quasi.parts c.in-Quasi.places m (subst (λ (x : code_shape.CoreShape). ShapeFor a x m) c.in-Quasi.is for) (λ tree p stands holes there fit. quasi_unbegun a region u v at c.outside.result turns p (c.outside.ensures fit.0 tree p stands (subst (λ (l : List number.Tree). AllParts (StandsFor a) l p.holes) (sym c.deref.ensures.value) holes) fit.1) Q c.in_err-below-in-Quasi.field-0.0 c.in_err-below-in-Quasi.ensures) fits)
-
-pub expand_shape-returns-in_err-below-in-Lambda-clause-runs : goal.expand_shape-returns-in_err-below-in-Lambda-clause-runs
-expand_shape-returns-in_err-below-in-Lambda-clause-runs t c = λ k m turns keyword for fits left enough.
-    let a = c.args.work.now in
-    let d = c.args.work.now in
-    let region = c.args.region.now in
-    let u = c.args.units.now in
-    let v = c.below-in-Lambda.new.units in
-    let at = c.args.at in
-    let Q : List Frames → code_core.Core → Core → Type 0 = λ layout. CoreStands d v.unit v.form.number in
-    let f : Shape → Known → Frames → Step ScopedState Core = λ x known fs. core_step (expand (searched known) turns) (searched known) at.depth at.here fs k x in
-    runs_err Q a d region u v at.scope c.from_residual-in_err-below-in-Lambda.result c.in_err-below-in-Lambda.field-0.0 (f m) c.from_residual-in_err-below-in-Lambda.ensures.1
-    (as_lambda a (λ x. ShapeFits x → Runs Q a d region u v at.scope (Err c.in_err-below-in-Lambda.field-0.0) (f x)) c.in-Lambda.clause m (subst (λ (x : code_shape.CoreShape). ShapeFor a x m) c.in-Lambda.is for) (λ d2 is fit. node_none Q a region u v at 1 c.in_err-below-in-Lambda.field-0.0 (λ known fs depth t1. procedure (expand (searched known) turns) (searched known) depth at.here fs d2 t1 >>= λ q. done (Lambda q.0 q.1)) c.in_err-below-in-Lambda.ensures) fits)
-
-pub expand_shape-returns-in_err-below-in-CaseLambda-clause-runs : goal.expand_shape-returns-in_err-below-in-CaseLambda-clause-runs
-expand_shape-returns-in_err-below-in-CaseLambda-clause-runs t c = λ k m turns keyword for fits left enough.
-    let a = c.args.work.now in
-    let d = c.args.work.now in
-    let region = c.args.region.now in
-    let u = c.args.units.now in
-    let v = c.below-in-CaseLambda.new.units in
-    let at = c.args.at in
-    let Q : List Frames → code_core.Core → Core → Type 0 = λ layout. CoreStands d v.unit v.form.number in
-    let f : Shape → Known → Frames → Step ScopedState Core = λ x known fs. core_step (expand (searched known) turns) (searched known) at.depth at.here fs k x in
-    runs_err Q a d region u v at.scope c.from_residual-in_err-below-in-CaseLambda.result c.in_err-below-in-CaseLambda.field-0.0 (f m) c.from_residual-in_err-below-in-CaseLambda.ensures.1
-    (as_case_lambda a (λ x. ShapeFits x → Runs Q a d region u v at.scope (Err c.in_err-below-in-CaseLambda.field-0.0) (f x)) c.in-CaseLambda.clauses m (subst (λ (x : code_shape.CoreShape). ShapeFor a x m) c.in-CaseLambda.is for) (λ ds are fit. node_none Q a region u v at 1 c.in_err-below-in-CaseLambda.field-0.0 (λ known fs depth t1. clauses (expand (searched known) turns) (searched known) depth at.here fs ds t1 >>= λ q. done (CaseLambda q)) c.in_err-below-in-CaseLambda.ensures) fits)
-
-pub expand_shape-returns-in_err-below-in-If-clause-runs : goal.expand_shape-returns-in_err-below-in-If-clause-runs
-expand_shape-returns-in_err-below-in-If-clause-runs t c = λ k m turns keyword for fits left enough.
-    let a = c.args.work.now in
-    let d = c.args.work.now in
-    let region = c.args.region.now in
-    let u = c.args.units.now in
-    let v = c.below-in-If.new.units in
-    let at = c.args.at in
-    let Q : List Frames → code_core.Core → Core → Type 0 = λ layout. CoreStands d v.unit v.form.number in
-    let f : Shape → Known → Frames → Step ScopedState Core = λ x known fs. core_step (expand (searched known) turns) (searched known) at.depth at.here fs k x in
-    runs_err Q a d region u v at.scope c.from_residual-in_err-below-in-If.result c.in_err-below-in-If.field-0.0 (f m) c.from_residual-in_err-below-in-If.ensures.1
-    (as_if a (λ x. ShapeFits x → Runs Q a d region u v at.scope (Err c.in_err-below-in-If.field-0.0) (f x)) c.in-If.parts m (subst (λ (x : code_shape.CoreShape). ShapeFor a x m) c.in-If.is for) (λ ts stand fit. node_none Q a region u v at 1 c.in_err-below-in-If.field-0.0 (λ known fs depth t1. each (λ x. expand (searched known) turns depth at.here fs (whole x)) ts t1 >>= λ q. done (If q)) c.in_err-below-in-If.ensures) fits)
 
 pub expand_shape-returns-in_err-parts-in-Quasi-clause-runs : goal.expand_shape-returns-in_err-parts-in-Quasi-clause-runs
 expand_shape-returns-in_err-parts-in-Quasi-clause-runs t c = λ k m turns keyword for fits left enough.
@@ -260,104 +174,41 @@ expand_shape-returns-in-Quasi-clause-runs t c = λ k m turns keyword for fits le
     let now = below_enough u w at below c.outside.result h turns enough in
     as_quasi a (λ x. ShapeFits x → Runs Q a d region u v at.scope (Ok (cores.Quasi c.in-Quasi.datum c.in-Quasi.places c.in_ok-parts-in-Quasi.parts)) (f x)) c.in-Quasi.datum c.in-Quasi.parts c.in-Quasi.places m (subst (λ (x : code_shape.CoreShape). ShapeFor a x m) c.in-Quasi.is for) (λ tree p stands holes there fit. let runs = c.in_ok-parts-in-Quasi.ensures.runs p.holes turns (subst (λ (l : List number.Tree). AllMatch (StandsFor a) l p.holes) (sym c.deref-in-Quasi.ensures.value) (parts_match (StandsFor a) c.in-Quasi.parts.items p.holes holes)) now in let after = each_after a d region w v below p.holes c.in_ok-parts-in-Quasi.parts (below_look u w at below c.outside.result h a c.requires.look) (λ turns2 enough2. c.in_ok-parts-in-Quasi.ensures.runs p.holes turns2 (subst (λ (l : List number.Tree). AllMatch (StandsFor a) l p.holes) (sym c.deref-in-Quasi.ensures.value) (parts_match (StandsFor a) c.in-Quasi.parts.items p.holes holes)) enough2) in quasi_runs a d region u w v at below c.outside.result h turns c.in-Quasi.datum tree p (c.outside.ensures fit.0 tree p stands (subst (λ (l : List number.Tree). AllParts (StandsFor a) l p.holes) (sym c.deref.ensures.value) holes) fit.1) fit.0 c.in-Quasi.places c.in_ok-parts-in-Quasi.parts (after.work.trees.trees c.in-Quasi.datum tree stands) fit.1 there runs) fits
 
-pub expand_shape-returns-in_err-procedure-in-Lambda-clause-runs : goal.expand_shape-returns-in_err-procedure-in-Lambda-clause-runs
-expand_shape-returns-in_err-procedure-in-Lambda-clause-runs t c = λ k m turns keyword for fits left enough.
-    let a = c.args.work.now in
-    let d = c.procedure.new.work in
-    let region = c.args.region.now in
-    let u = c.args.units.now in
-    let v = c.procedure.new.units in
-    let at = c.args.at in
-    let Q : List Frames → code_core.Core → Core → Type 0 = λ layout. CoreStands d v.unit v.form.number in
-    let f : Shape → Known → Frames → Step ScopedState Core = λ x known fs. core_step (expand (searched known) turns) (searched known) at.depth at.here fs k x in
-    let w = c.below-in-Lambda.new.units in
-    let below = c.in_ok-below-in-Lambda.below in
-    let h = c.in_ok-below-in-Lambda.ensures in
-    let now = below_enough u w at below 1 h turns enough in
-    runs_err Q a d region u v at.scope c.from_residual-in_err-procedure-in-Lambda.result c.in_err-procedure-in-Lambda.field-0.0 (f m) c.from_residual-in_err-procedure-in-Lambda.ensures.1
-    (as_lambda a (λ x. ShapeFits x → Runs Q a d region u v at.scope (Err c.in_err-procedure-in-Lambda.field-0.0) (f x)) c.in-Lambda.clause m (subst (λ (x : code_shape.CoreShape). ShapeFor a x m) c.in-Lambda.is for) (λ d2 is2 fit. lambda_fails a d region u w v at below h turns d2 Q c.in_err-procedure-in-Lambda.field-0.0 (c.in_err-procedure-in-Lambda.ensures.runs d2 turns (is2, (subst (ShapeNamed a region) c.in-Lambda.is c.requires.shape.2), fit) now)) fits)
-
 pub expand_shape-returns-in-Lambda-clause-runs : goal.expand_shape-returns-in-Lambda-clause-runs
 expand_shape-returns-in-Lambda-clause-runs t c = λ k m turns keyword for fits left enough.
     let a = c.args.work.now in
-    let d = c.procedure.new.work in
+    let d = c.lambda.new.work in
     let region = c.args.region.now in
     let u = c.args.units.now in
-    let v = c.procedure.new.units in
+    let v = c.lambda.new.units in
     let at = c.args.at in
     let Q : List Frames → code_core.Core → Core → Type 0 = λ layout. CoreStands d v.unit v.form.number in
     let f : Shape → Known → Frames → Step ScopedState Core = λ x known fs. core_step (expand (searched known) turns) (searched known) at.depth at.here fs k x in
-    let w = c.below-in-Lambda.new.units in
-    let below = c.in_ok-below-in-Lambda.below in
-    let h = c.in_ok-below-in-Lambda.ensures in
-    let now = below_enough u w at below 1 h turns enough in
-    as_lambda a (λ x. ShapeFits x → Runs Q a d region u v at.scope (Ok (cores.Lambda c.in_ok-procedure-in-Lambda.field-0)) (f x)) c.in-Lambda.clause m (subst (λ (x : code_shape.CoreShape). ShapeFor a x m) c.in-Lambda.is for) (λ d2 is2 fit. lambda_runs a d region u w v at below h turns d2 c.in_ok-procedure-in-Lambda.field-0 (c.in_ok-procedure-in-Lambda.ensures.runs d2 turns (is2, (subst (ShapeNamed a region) c.in-Lambda.is c.requires.shape.2), fit) now)) fits
-
-pub expand_shape-returns-in_err-procedures-in-CaseLambda-clause-runs : goal.expand_shape-returns-in_err-procedures-in-CaseLambda-clause-runs
-expand_shape-returns-in_err-procedures-in-CaseLambda-clause-runs t c = λ k m turns keyword for fits left enough.
-    let a = c.args.work.now in
-    let d = c.procedures.new.work in
-    let region = c.args.region.now in
-    let u = c.args.units.now in
-    let v = c.procedures.new.units in
-    let at = c.args.at in
-    let Q : List Frames → code_core.Core → Core → Type 0 = λ layout. CoreStands d v.unit v.form.number in
-    let f : Shape → Known → Frames → Step ScopedState Core = λ x known fs. core_step (expand (searched known) turns) (searched known) at.depth at.here fs k x in
-    let w = c.below-in-CaseLambda.new.units in
-    let below = c.in_ok-below-in-CaseLambda.below in
-    let h = c.in_ok-below-in-CaseLambda.ensures in
-    let now = below_enough u w at below 1 h turns enough in
-    runs_err Q a d region u v at.scope c.from_residual-in_err-procedures-in-CaseLambda.result c.in_err-procedures-in-CaseLambda.field-0.0 (f m) c.from_residual-in_err-procedures-in-CaseLambda.ensures.1
-    (as_case_lambda a (λ x. ShapeFits x → Runs Q a d region u v at.scope (Err c.in_err-procedures-in-CaseLambda.field-0.0) (f x)) c.in-CaseLambda.clauses m (subst (λ (x : code_shape.CoreShape). ShapeFor a x m) c.in-CaseLambda.is for) (λ ds are fit. node_stops a d region u w v at below 1 h (λ (layout : List Frames) (xs : Vec code_clause.Clause Global). ClausesStand d v.unit v.form.number xs.items) Q (λ known fs depth o. clauses (expand (searched known) turns) (searched known) depth o fs ds) c.in_err-procedures-in-CaseLambda.field-0.0 (λ known fs t1 q. done (CaseLambda q)) (c.in_err-procedures-in-CaseLambda.ensures.runs ds turns (subst (λ (l : List ClauseShape). AllMatch (ClauseFor a region) l ds) (sym c.deref-in-CaseLambda.ensures.value) (clauses_for a region c.in-CaseLambda.clauses.items ds are (subst (ShapeNamed a region) c.in-CaseLambda.is c.requires.shape.2) fit)) now)) fits)
+    as_lambda a (λ x. ShapeFits x → Runs Q a d region u v at.scope c.lambda.result (f x)) c.in-Lambda.clause m (subst (λ (x : code_shape.CoreShape). ShapeFor a x m) c.in-Lambda.is for) (λ e is fit. c.lambda.ensures.runs e turns (is, (subst (ShapeNamed a region) c.in-Lambda.is c.requires.shape.2), fit) enough) fits
 
 pub expand_shape-returns-in-CaseLambda-clause-runs : goal.expand_shape-returns-in-CaseLambda-clause-runs
 expand_shape-returns-in-CaseLambda-clause-runs t c = λ k m turns keyword for fits left enough.
     let a = c.args.work.now in
-    let d = c.procedures.new.work in
+    let d = c.case_lambda.new.work in
     let region = c.args.region.now in
     let u = c.args.units.now in
-    let v = c.procedures.new.units in
+    let v = c.case_lambda.new.units in
     let at = c.args.at in
     let Q : List Frames → code_core.Core → Core → Type 0 = λ layout. CoreStands d v.unit v.form.number in
     let f : Shape → Known → Frames → Step ScopedState Core = λ x known fs. core_step (expand (searched known) turns) (searched known) at.depth at.here fs k x in
-    let w = c.below-in-CaseLambda.new.units in
-    let below = c.in_ok-below-in-CaseLambda.below in
-    let h = c.in_ok-below-in-CaseLambda.ensures in
-    let now = below_enough u w at below 1 h turns enough in
-    as_case_lambda a (λ x. ShapeFits x → Runs Q a d region u v at.scope (Ok (cores.CaseLambda c.in_ok-procedures-in-CaseLambda.field-0)) (f x)) c.in-CaseLambda.clauses m (subst (λ (x : code_shape.CoreShape). ShapeFor a x m) c.in-CaseLambda.is for) (λ ds are fit. node_runs a d region u w v at below 1 h (λ (layout : List Frames) (xs : Vec code_clause.Clause Global). ClausesStand d v.unit v.form.number xs.items) Q (λ known fs depth o. clauses (expand (searched known) turns) (searched known) depth o fs ds) c.in_ok-procedures-in-CaseLambda.field-0 (cores.CaseLambda c.in_ok-procedures-in-CaseLambda.field-0) (λ known fs t1 q. CaseLambda q) (λ known ls s fs layout q e there held. (c.in_ok-procedures-in-CaseLambda.field-0, refl, held)) (c.in_ok-procedures-in-CaseLambda.ensures.runs ds turns (subst (λ (l : List ClauseShape). AllMatch (ClauseFor a region) l ds) (sym c.deref-in-CaseLambda.ensures.value) (clauses_for a region c.in-CaseLambda.clauses.items ds are (subst (ShapeNamed a region) c.in-CaseLambda.is c.requires.shape.2) fit)) now)) fits
-
-pub expand_shape-returns-in_err-expand_all-in-If-clause-runs : goal.expand_shape-returns-in_err-expand_all-in-If-clause-runs
-expand_shape-returns-in_err-expand_all-in-If-clause-runs t c = λ k m turns keyword for fits left enough.
-    let a = c.args.work.now in
-    let d = c.expand_all-in-If.new.work in
-    let region = c.args.region.now in
-    let u = c.args.units.now in
-    let v = c.expand_all-in-If.new.units in
-    let at = c.args.at in
-    let Q : List Frames → code_core.Core → Core → Type 0 = λ layout. CoreStands d v.unit v.form.number in
-    let f : Shape → Known → Frames → Step ScopedState Core = λ x known fs. core_step (expand (searched known) turns) (searched known) at.depth at.here fs k x in
-    let w = c.below-in-If.new.units in
-    let below = c.in_ok-below-in-If.below in
-    let h = c.in_ok-below-in-If.ensures in
-    let now = below_enough u w at below 1 h turns enough in
-    runs_err Q a d region u v at.scope c.from_residual-in_err-expand_all-in-If.result c.in_err-expand_all-in-If.field-0.0 (f m) c.from_residual-in_err-expand_all-in-If.ensures.1
-    (as_if a (λ x. ShapeFits x → Runs Q a d region u v at.scope (Err c.in_err-expand_all-in-If.field-0.0) (f x)) c.in-If.parts m (subst (λ (x : code_shape.CoreShape). ShapeFor a x m) c.in-If.is for) (λ ts stand fit. trees_node_fails a d region u w v at below 1 turns h ts Q c.in_err-expand_all-in-If.field-0.0 If (c.in_err-expand_all-in-If.ensures.runs (trees_in ts) turns (subst (λ (l : List number.Tree). AllMatch (StandsFor a) l (trees_in ts)) (sym c.deref-in-If.ensures.value) (trees_match a c.in-If.parts.items ts stand)) now)) fits)
+    as_case_lambda a (λ x. ShapeFits x → Runs Q a d region u v at.scope c.case_lambda.result (f x)) c.in-CaseLambda.clauses m (subst (λ (x : code_shape.CoreShape). ShapeFor a x m) c.in-CaseLambda.is for) (λ ds are fit. c.case_lambda.ensures.runs ds turns (subst (λ (l : List ClauseShape). AllMatch (ClauseFor a region) l ds) (sym c.deref-in-CaseLambda.ensures.value) (clauses_for a region c.in-CaseLambda.clauses.items ds are (subst (ShapeNamed a region) c.in-CaseLambda.is c.requires.shape.2) fit)) enough) fits
 
 pub expand_shape-returns-in-If-clause-runs : goal.expand_shape-returns-in-If-clause-runs
 expand_shape-returns-in-If-clause-runs t c = λ k m turns keyword for fits left enough.
     let a = c.args.work.now in
-    let d = c.expand_all-in-If.new.work in
+    let d = c.conditional.new.work in
     let region = c.args.region.now in
     let u = c.args.units.now in
-    let v = c.expand_all-in-If.new.units in
+    let v = c.conditional.new.units in
     let at = c.args.at in
     let Q : List Frames → code_core.Core → Core → Type 0 = λ layout. CoreStands d v.unit v.form.number in
     let f : Shape → Known → Frames → Step ScopedState Core = λ x known fs. core_step (expand (searched known) turns) (searched known) at.depth at.here fs k x in
-    let w = c.below-in-If.new.units in
-    let below = c.in_ok-below-in-If.below in
-    let h = c.in_ok-below-in-If.ensures in
-    let now = below_enough u w at below 1 h turns enough in
-    as_if a (λ x. ShapeFits x → Runs Q a d region u v at.scope (Ok (cores.If c.in_ok-expand_all-in-If.field-0)) (f x)) c.in-If.parts m (subst (λ (x : code_shape.CoreShape). ShapeFor a x m) c.in-If.is for) (λ ts stand fit. trees_node a d region u w v at below 1 turns h ts c.in_ok-expand_all-in-If.field-0 (cores.If c.in_ok-expand_all-in-If.field-0) If (λ ms held. (c.in_ok-expand_all-in-If.field-0, refl, held)) (c.in_ok-expand_all-in-If.ensures.runs (trees_in ts) turns (subst (λ (l : List number.Tree). AllMatch (StandsFor a) l (trees_in ts)) (sym c.deref-in-If.ensures.value) (trees_match a c.in-If.parts.items ts stand)) now)) fits
+    as_if a (λ x. ShapeFits x → Runs Q a d region u v at.scope c.conditional.result (f x)) c.in-If.parts m (subst (λ (x : code_shape.CoreShape). ShapeFor a x m) c.in-If.is for) (λ ts stand fit. c.conditional.ensures.runs ts turns (subst (λ (l : List number.Tree). PartsStand a l ts) (sym c.deref-in-If.ensures.value) stand) enough) fits
 
 pub expand_shape-returns-in_err-test_variable-in-Set-clause-runs : goal.expand_shape-returns-in_err-test_variable-in-Set-clause-runs
 expand_shape-returns-in_err-test_variable-in-Set-clause-runs t c = λ k m turns keyword for fits left enough.
@@ -372,81 +223,17 @@ expand_shape-returns-in_err-test_variable-in-Set-clause-runs t c = λ k m turns 
     runs_err Q a d region u v at.scope c.from_residual-in_err-test_variable-in-Set.result c.in_err-test_variable-in-Set.field-0.0 (f m) c.from_residual-in_err-test_variable-in-Set.ensures.1
     (as_set a (λ x. ShapeFits x → Runs Q a d region u v at.scope (Err c.in_err-test_variable-in-Set.field-0.0) (f x)) c.in-Set.name c.in-Set.value m (subst (λ (x : code_shape.CoreShape). ShapeFor a x m) c.in-Set.is for) (λ n tree name stands fit. untested_runs a a region u u at c.in-Set.name n name (CoreStands a u.unit u.form.number) (λ known fs. node (searched known) at.here 1 at.depth (λ below t1. expand (searched known) turns below at.here fs (whole tree) t1 >>= λ x. done (Set (target_of (searched known) fs t1 n.name n.occ) x))) c.in_err-test_variable-in-Set.field-0.0 c.in_err-test_variable-in-Set.ensures) fits)
 
-pub expand_shape-returns-in_err-below-in-Set-clause-runs : goal.expand_shape-returns-in_err-below-in-Set-clause-runs
-expand_shape-returns-in_err-below-in-Set-clause-runs t c = λ k m turns keyword for fits left enough.
-    let a = c.args.work.now in
-    let d = c.args.work.now in
-    let region = c.args.region.now in
-    let u = c.args.units.now in
-    let v = c.below-in-Set.new.units in
-    let at = c.args.at in
-    let Q : List Frames → code_core.Core → Core → Type 0 = λ layout. CoreStands d v.unit v.form.number in
-    let f : Shape → Known → Frames → Step ScopedState Core = λ x known fs. core_step (expand (searched known) turns) (searched known) at.depth at.here fs k x in
-    runs_err Q a d region u v at.scope c.from_residual-in_err-below-in-Set.result c.in_err-below-in-Set.field-0.0 (f m) c.from_residual-in_err-below-in-Set.ensures.1
-    (as_set a (λ x. ShapeFits x → Runs Q a d region u v at.scope (Err c.in_err-below-in-Set.field-0.0) (f x)) c.in-Set.name c.in-Set.value m (subst (λ (x : code_shape.CoreShape). ShapeFor a x m) c.in-Set.is for) (λ n tree name stands fit. tested_runs a a region u v at c.in-Set.name n name Q tt (λ known fs. node (searched known) at.here 1 at.depth (λ below t1. expand (searched known) turns below at.here fs (whole tree) t1 >>= λ x. done (Set (target_of (searched known) fs t1 n.name n.occ) x))) (Err c.in_err-below-in-Set.field-0.0) c.in_ok-test_variable-in-Set.ensures (node_none Q a region u v at 1 c.in_err-below-in-Set.field-0.0 (λ known fs below t1. expand (searched known) turns below at.here fs (whole tree) t1 >>= λ x. done (Set (target_of (searched known) fs t1 n.name n.occ) x)) c.in_err-below-in-Set.ensures)) fits)
-
-pub expand_shape-returns-in_err-value-in-Set-clause-runs : goal.expand_shape-returns-in_err-value-in-Set-clause-runs
-expand_shape-returns-in_err-value-in-Set-clause-runs t c = λ k m turns keyword for fits left enough.
-    let a = c.args.work.now in
-    let d = c.expand.new.work in
-    let region = c.args.region.now in
-    let u = c.args.units.now in
-    let v = c.expand.new.units in
-    let at = c.args.at in
-    let Q : List Frames → code_core.Core → Core → Type 0 = λ layout. CoreStands d v.unit v.form.number in
-    let f : Shape → Known → Frames → Step ScopedState Core = λ x known fs. core_step (expand (searched known) turns) (searched known) at.depth at.here fs k x in
-    let w = c.below-in-Set.new.units in
-    let below = c.in_ok-below-in-Set.below in
-    let h = c.in_ok-below-in-Set.ensures in
-    let now = below_enough u w at below 1 h turns enough in
-    runs_err Q a d region u v at.scope c.from_residual-in_err-value-in-Set.result c.in_err-value-in-Set.field-0.0 (f m) c.from_residual-in_err-value-in-Set.ensures.1
-    (as_set a (λ x. ShapeFits x → Runs Q a d region u v at.scope (Err c.in_err-value-in-Set.field-0.0) (f x)) c.in-Set.name c.in-Set.value m (subst (λ (x : code_shape.CoreShape). ShapeFor a x m) c.in-Set.is for) (λ n tree name stands fit. tested_runs a d region u v at c.in-Set.name n name Q tt (λ known fs. node (searched known) at.here 1 at.depth (λ below t1. expand (searched known) turns below at.here fs (whole tree) t1 >>= λ x. done (Set (target_of (searched known) fs t1 n.name n.occ) x))) (Err c.in_err-value-in-Set.field-0.0) c.in_ok-test_variable-in-Set.ensures (assigned_fails a d region u w v at below h c.in-Set.name n name (λ known fs depth o. expand (searched known) turns depth o fs (whole tree)) Q c.in_err-value-in-Set.field-0.0 (c.in_err-value-in-Set.ensures.runs tree turns stands now))) fits)
-
-pub expand_shape-returns-in_err-new-in-Set-clause-runs : goal.expand_shape-returns-in_err-new-in-Set-clause-runs
-expand_shape-returns-in_err-new-in-Set-clause-runs t c = λ k m turns keyword for fits left enough.
-    let a = c.args.work.now in
-    let d = c.expand.new.work in
-    let region = c.args.region.now in
-    let u = c.args.units.now in
-    let v = c.expand.new.units in
-    let at = c.args.at in
-    let Q : List Frames → code_core.Core → Core → Type 0 = λ layout. CoreStands d v.unit v.form.number in
-    let f : Shape → Known → Frames → Step ScopedState Core = λ x known fs. core_step (expand (searched known) turns) (searched known) at.depth at.here fs k x in
-    let w = c.below-in-Set.new.units in
-    let below = c.in_ok-below-in-Set.below in
-    let h = c.in_ok-below-in-Set.ensures in
-    let now = below_enough u w at below 1 h turns enough in
-    runs_err Q a d region u v at.scope c.from_residual-in_err-new-in-Set.result fault.Memory (f m) c.from_residual-in_err-new-in-Set.ensures.1
-    (as_set a (λ x. ShapeFits x → Runs Q a d region u v at.scope (Err fault.Memory) (f x)) c.in-Set.name c.in-Set.value m (subst (λ (x : code_shape.CoreShape). ShapeFor a x m) c.in-Set.is for) (λ n tree name stands fit. tested_runs a d region u v at c.in-Set.name n name Q tt (λ known fs. node (searched known) at.here 1 at.depth (λ below t1. expand (searched known) turns below at.here fs (whole tree) t1 >>= λ x. done (Set (target_of (searched known) fs t1 n.name n.occ) x))) (Err fault.Memory) c.in_ok-test_variable-in-Set.ensures (assigned_fails a d region u w v at below h c.in-Set.name n name (λ known fs depth o. expand (searched known) turns depth o fs (whole tree)) Q fault.Memory (runs_memory Q Q a d region w v below.scope c.in_ok-value-in-Set.value (λ known fs. expand (searched known) turns below.depth below.here fs (whole tree)) (λ known fs. expand (searched known) turns below.depth below.here fs (whole tree)) (c.in_ok-value-in-Set.ensures.runs tree turns stands now)))) fits)
-
 pub expand_shape-returns-in-Set-clause-runs : goal.expand_shape-returns-in-Set-clause-runs
 expand_shape-returns-in-Set-clause-runs t c = λ k m turns keyword for fits left enough.
     let a = c.args.work.now in
-    let d = c.expand.new.work in
+    let d = c.assign.new.work in
     let region = c.args.region.now in
     let u = c.args.units.now in
-    let v = c.expand.new.units in
+    let v = c.assign.new.units in
     let at = c.args.at in
     let Q : List Frames → code_core.Core → Core → Type 0 = λ layout. CoreStands d v.unit v.form.number in
     let f : Shape → Known → Frames → Step ScopedState Core = λ x known fs. core_step (expand (searched known) turns) (searched known) at.depth at.here fs k x in
-    let w = c.below-in-Set.new.units in
-    let below = c.in_ok-below-in-Set.below in
-    let h = c.in_ok-below-in-Set.ensures in
-    let now = below_enough u w at below 1 h turns enough in
-    as_set a (λ x. ShapeFits x → Runs Q a d region u v at.scope (Ok (cores.Set c.target-target.result c.in_ok-new-in-Set.field-0)) (f x)) c.in-Set.name c.in-Set.value m (subst (λ (x : code_shape.CoreShape). ShapeFor a x m) c.in-Set.is for) (λ n tree name stands fit. let after = expand_after a d region w v below c.in-Set.value c.in_ok-value-in-Set.value (below_look u w at below 1 h a c.requires.look) ((tree, stands), (subst (ShapeNamed a region) c.in-Set.is c.requires.shape.2)) c.in_ok-value-in-Set.ensures.runs in tested_runs a d region u v at c.in-Set.name n name Q tt (λ known fs. node (searched known) at.here 1 at.depth (λ below t1. expand (searched known) turns below at.here fs (whole tree) t1 >>= λ x. done (Set (target_of (searched known) fs t1 n.name n.occ) x))) (Ok (cores.Set c.target-target.result c.in_ok-new-in-Set.field-0)) c.in_ok-test_variable-in-Set.ensures (assigned_runs a d region u w v at below h c.in-Set.name n name (λ known fs depth o. expand (searched known) turns depth o fs (whole tree)) c.target-target.result c.in_ok-new-in-Set.field-0 after.work after.same c.target-target.ensures (subst (λ (q : code_core.Core). Runs Q a d region w v below.scope (Ok q) (λ known fs. expand (searched known) turns below.depth below.here fs (whole tree))) (sym c.in_ok-new-in-Set.ensures.ok) (c.in_ok-value-in-Set.ensures.runs tree turns stands now)))) fits
-
-pub expand_shape-returns-in_err-sequence-in-Begin-clause-runs : goal.expand_shape-returns-in_err-sequence-in-Begin-clause-runs
-expand_shape-returns-in_err-sequence-in-Begin-clause-runs t c = λ k m turns keyword for fits left enough.
-    let a = c.args.work.now in
-    let d = c.sequence.new.work in
-    let region = c.args.region.now in
-    let u = c.args.units.now in
-    let v = c.sequence.new.units in
-    let at = c.args.at in
-    let Q : List Frames → code_core.Core → Core → Type 0 = λ layout. CoreStands d v.unit v.form.number in
-    let f : Shape → Known → Frames → Step ScopedState Core = λ x known fs. core_step (expand (searched known) turns) (searched known) at.depth at.here fs k x in
-    runs_err Q a d region u v at.scope c.from_residual-in_err-sequence-in-Begin.result c.in_err-sequence-in-Begin.field-0.0 (f m) c.from_residual-in_err-sequence-in-Begin.ensures.1
-    (as_sequence a (λ x. ShapeFits x → Runs Q a d region u v at.scope (Err c.in_err-sequence-in-Begin.field-0.0) (f x)) c.in-Begin.forms m (subst (λ (x : code_shape.CoreShape). ShapeFor a x m) c.in-Begin.is for) (λ ts stand fit. c.in_err-sequence-in-Begin.ensures.runs ts turns (subst (λ (l : List number.Tree). PartsStand a l ts) (sym c.deref-in-Begin.ensures.value) stand) enough) fits)
+    as_set a (λ x. ShapeFits x → Runs Q a d region u v at.scope c.assign.result (f x)) c.in-Set.name c.in-Set.value m (subst (λ (x : code_shape.CoreShape). ShapeFor a x m) c.in-Set.is for) (λ n tree name stands fit. tested_runs a d region u v at c.in-Set.name n name Q tt (λ known fs. assignment (searched known) at.depth at.here fs n (λ below. expand (searched known) turns below at.here fs (whole tree))) c.assign.result c.in_ok-test_variable-in-Set.ensures (c.assign.ensures.runs n tree turns name stands enough)) fits
 
 pub expand_shape-returns-in-Begin-clause-runs : goal.expand_shape-returns-in-Begin-clause-runs
 expand_shape-returns-in-Begin-clause-runs t c = λ k m turns keyword for fits left enough.
@@ -458,31 +245,31 @@ expand_shape-returns-in-Begin-clause-runs t c = λ k m turns keyword for fits le
     let at = c.args.at in
     let Q : List Frames → code_core.Core → Core → Type 0 = λ layout. CoreStands d v.unit v.form.number in
     let f : Shape → Known → Frames → Step ScopedState Core = λ x known fs. core_step (expand (searched known) turns) (searched known) at.depth at.here fs k x in
-    as_sequence a (λ x. ShapeFits x → Runs Q a d region u v at.scope (Ok (c.in_ok-sequence-in-Begin.field-0)) (f x)) c.in-Begin.forms m (subst (λ (x : code_shape.CoreShape). ShapeFor a x m) c.in-Begin.is for) (λ ts stand fit. c.in_ok-sequence-in-Begin.ensures.runs ts turns (subst (λ (l : List number.Tree). PartsStand a l ts) (sym c.deref-in-Begin.ensures.value) stand) enough) fits
+    as_sequence a (λ x. ShapeFits x → Runs Q a d region u v at.scope c.sequence.result (f x)) c.in-Begin.forms m (subst (λ (x : code_shape.CoreShape). ShapeFor a x m) c.in-Begin.is for) (λ ts stand fit. c.sequence.ensures.runs ts turns (subst (λ (l : List number.Tree). PartsStand a l ts) (sym c.deref-in-Begin.ensures.value) stand) enough) fits
 
 pub expand_shape-returns-in-Quasi-clause-locals : goal.expand_shape-returns-in-Quasi-clause-locals
 expand_shape-returns-in-Quasi-clause-locals t c = spends_on c.args.units.now c.below.new.units c.expand_all.new.units (below_spends c.args.units.now c.below.new.units c.args.at c.in_ok-below-in-Quasi.below c.outside.result c.in_ok-below-in-Quasi.ensures) c.in_ok-parts-in-Quasi.ensures.locals
 
 pub expand_shape-returns-in-Lambda-clause-locals : goal.expand_shape-returns-in-Lambda-clause-locals
-expand_shape-returns-in-Lambda-clause-locals t c = spends_on c.args.units.now c.below-in-Lambda.new.units c.procedure.new.units (below_spends c.args.units.now c.below-in-Lambda.new.units c.args.at c.in_ok-below-in-Lambda.below 1 c.in_ok-below-in-Lambda.ensures) c.in_ok-procedure-in-Lambda.ensures.locals
+expand_shape-returns-in-Lambda-clause-locals t c = c.lambda.ensures.locals
 
 pub expand_shape-returns-in-CaseLambda-clause-locals : goal.expand_shape-returns-in-CaseLambda-clause-locals
-expand_shape-returns-in-CaseLambda-clause-locals t c = spends_on c.args.units.now c.below-in-CaseLambda.new.units c.procedures.new.units (below_spends c.args.units.now c.below-in-CaseLambda.new.units c.args.at c.in_ok-below-in-CaseLambda.below 1 c.in_ok-below-in-CaseLambda.ensures) c.in_ok-procedures-in-CaseLambda.ensures.locals
+expand_shape-returns-in-CaseLambda-clause-locals t c = c.case_lambda.ensures.locals
 
 pub expand_shape-returns-in-If-clause-locals : goal.expand_shape-returns-in-If-clause-locals
-expand_shape-returns-in-If-clause-locals t c = spends_on c.args.units.now c.below-in-If.new.units c.expand_all-in-If.new.units (below_spends c.args.units.now c.below-in-If.new.units c.args.at c.in_ok-below-in-If.below 1 c.in_ok-below-in-If.ensures) c.in_ok-expand_all-in-If.ensures.locals
+expand_shape-returns-in-If-clause-locals t c = c.conditional.ensures.locals
 
 pub expand_shape-returns-in-Set-clause-locals : goal.expand_shape-returns-in-Set-clause-locals
-expand_shape-returns-in-Set-clause-locals t c = spends_on c.args.units.now c.below-in-Set.new.units c.expand.new.units (below_spends c.args.units.now c.below-in-Set.new.units c.args.at c.in_ok-below-in-Set.below 1 c.in_ok-below-in-Set.ensures) c.in_ok-value-in-Set.ensures.locals
+expand_shape-returns-in-Set-clause-locals t c = c.assign.ensures.locals
 
 pub expand_shape-returns-in-Begin-clause-locals : goal.expand_shape-returns-in-Begin-clause-locals
-expand_shape-returns-in-Begin-clause-locals t c = c.in_ok-sequence-in-Begin.ensures.locals
+expand_shape-returns-in-Begin-clause-locals t c = c.sequence.ensures.locals
 
 pub expand_shape-returns-in-CondExpand-clause-locals : goal.expand_shape-returns-in-CondExpand-clause-locals
-expand_shape-returns-in-CondExpand-clause-locals t c = c.in_ok-sequence-in-CondExpand.ensures.locals
+expand_shape-returns-in-CondExpand-clause-locals t c = c.sequence-in-CondExpand.ensures.locals
 
 pub expand_shape-returns-in-LetSyntax-clause-locals : goal.expand_shape-returns-in-LetSyntax-clause-locals
-expand_shape-returns-in-LetSyntax-clause-locals t c = c.in_ok-local_macros-in-LetSyntax.ensures.locals
+expand_shape-returns-in-LetSyntax-clause-locals t c = c.local_macros.ensures.locals
 
 -- ---- the chosen forms of `cond-expand`
 
@@ -530,27 +317,6 @@ expand_shape-sequence-requires-in-CondExpand t c =
       (c.requires.opened, (c.requires.look, (subst (AreAtWork a region) (sym c.deref-in-CondExpand-2.ensures.value) there, c.requires.room))),
     )
 
-pub expand_shape-returns-in_err-sequence-in-CondExpand-clause-runs : goal.expand_shape-returns-in_err-sequence-in-CondExpand-clause-runs
-expand_shape-returns-in_err-sequence-in-CondExpand-clause-runs t c = λ k m turns keyword for fits left enough.
-    let a = c.args.work.now in
-    let d = c.sequence-in-CondExpand.new.work in
-    let region = c.args.region.now in
-    let u = c.args.units.now in
-    let v = c.sequence-in-CondExpand.new.units in
-    let at = c.args.at in
-    let xs = c.deref-in-CondExpand.result.now in
-    let forms = c.in_ok-forms-in-CondExpand.forms in
-    let e = c.in_err-sequence-in-CondExpand.field-0.0 in
-    let Q : List Frames → code_core.Core → Core → Type 0 = λ layout. CoreStands d v.unit v.form.number in
-    let f : Shape → Known → Frames → Step ScopedState Core = λ x known fs. core_step (expand (searched known) turns) (searched known) at.depth at.here fs k x in
-    runs_err Q a d region u v at.scope c.from_residual-in_err-sequence-in-CondExpand.result e (f m) c.from_residual-in_err-sequence-in-CondExpand.ensures.1
-    (as_choices a (λ x. ShapeFits x → Runs Q a d region u v at.scope (Err e) (f x)) c.in-CondExpand.choices m (subst (λ (x : code_shape.CoreShape). ShapeFor a x m) c.in-CondExpand.is for)
-    (λ ps are fit.
-    let match = subst (λ (l : List Choice). AllParts (IsChoice a) l ps) (sym c.deref-in-CondExpand.ensures.value) are in
-    chosen_runs a region u at turns xs k ps match Q d v forms (Err e)
-    (chosen_here a region u at turns xs k ps match c.judge.result.work.now c.judge.result.libraries.now (Ok forms) c.judge.ensures.work c.judge.ensures.libraries c.in_ok-forms-in-CondExpand.ensures.chosen)
-    (λ ts stand. c.in_err-sequence-in-CondExpand.ensures.runs ts turns (subst (λ (l : List number.Tree). PartsStand a l ts) (sym c.deref-in-CondExpand-2.ensures.value) stand) enough)) fits)
-
 pub expand_shape-returns-in-CondExpand-clause-runs : goal.expand_shape-returns-in-CondExpand-clause-runs
 expand_shape-returns-in-CondExpand-clause-runs t c = λ k m turns keyword for fits left enough.
     let a = c.args.work.now in
@@ -561,15 +327,15 @@ expand_shape-returns-in-CondExpand-clause-runs t c = λ k m turns keyword for fi
     let at = c.args.at in
     let xs = c.deref-in-CondExpand.result.now in
     let forms = c.in_ok-forms-in-CondExpand.forms in
-    let x = c.in_ok-sequence-in-CondExpand.field-0 in
+    let r = c.sequence-in-CondExpand.result in
     let Q : List Frames → code_core.Core → Core → Type 0 = λ layout. CoreStands d v.unit v.form.number in
     let f : Shape → Known → Frames → Step ScopedState Core = λ x known fs. core_step (expand (searched known) turns) (searched known) at.depth at.here fs k x in
-    as_choices a (λ y. ShapeFits y → Runs Q a d region u v at.scope (Ok x) (f y)) c.in-CondExpand.choices m (subst (λ (x : code_shape.CoreShape). ShapeFor a x m) c.in-CondExpand.is for)
+    as_choices a (λ y. ShapeFits y → Runs Q a d region u v at.scope r (f y)) c.in-CondExpand.choices m (subst (λ (x : code_shape.CoreShape). ShapeFor a x m) c.in-CondExpand.is for)
     (λ ps are fit.
     let match = subst (λ (l : List Choice). AllParts (IsChoice a) l ps) (sym c.deref-in-CondExpand.ensures.value) are in
-    chosen_runs a region u at turns xs k ps match Q d v forms (Ok x)
+    chosen_runs a region u at turns xs k ps match Q d v forms r
     (chosen_here a region u at turns xs k ps match c.judge.result.work.now c.judge.result.libraries.now (Ok forms) c.judge.ensures.work c.judge.ensures.libraries c.in_ok-forms-in-CondExpand.ensures.chosen)
-    (λ ts stand. c.in_ok-sequence-in-CondExpand.ensures.runs ts turns (subst (λ (l : List number.Tree). PartsStand a l ts) (sym c.deref-in-CondExpand-2.ensures.value) stand) enough)) fits
+    (λ ts stand. c.sequence-in-CondExpand.ensures.runs ts turns (subst (λ (l : List number.Tree). PartsStand a l ts) (sym c.deref-in-CondExpand-2.ensures.value) stand) enough)) fits
 
 -- ---- local macros, and what has no place
 
@@ -586,24 +352,6 @@ expand_shape-local_macros-requires t c =
       (c.requires.opened, (c.requires.look, (subst (MacrosAtWork a) (sym c.deref-in-LetSyntax.ensures.value) macros, (subst (BodyAtWork a region) (sym c.deref-in-LetSyntax-2.ensures.value) body, c.requires.room)))),
     )
 
-pub expand_shape-returns-in_err-local_macros-in-LetSyntax-clause-runs : goal.expand_shape-returns-in_err-local_macros-in-LetSyntax-clause-runs
-expand_shape-returns-in_err-local_macros-in-LetSyntax-clause-runs t c = λ k m turns keyword for fits left enough.
-    let a = c.args.work.now in
-    let d = c.local_macros.new.work in
-    let region = c.args.region.now in
-    let u = c.args.units.now in
-    let v = c.local_macros.new.units in
-    let at = c.args.at in
-    let again = c.eq-recursive.result in
-    let e = c.in_err-local_macros-in-LetSyntax.field-0.0 in
-    let Q : List Frames → code_core.Core → Core → Type 0 = λ layout. CoreStands d v.unit v.form.number in
-    let f : Shape → Known → Frames → Step ScopedState Core = λ x known fs. core_step (expand (searched known) turns) (searched known) at.depth at.here fs k x in
-    runs_err Q a d region u v at.scope c.from_residual-in_err-local_macros-in-LetSyntax.result e (f m) c.from_residual-in_err-local_macros-in-LetSyntax.ensures.1
-    (as_local a (λ x. ShapeFits x → Runs Q a d region u v at.scope (Err e) (f x)) c.in-LetSyntax.macros c.in-LetSyntax.body m (subst (λ (x : code_shape.CoreShape). ShapeFor a x m) c.in-LetSyntax.is for)
-    (λ l macros stand fit. runs_same Q a d region u v at.scope (Err e) (f (Local l)) (λ known fs. macros_step again (expand (searched known) turns) (searched known) at.depth at.here fs l)
-    (λ known fs s. local_is (expand (searched known) turns) (searched known) at.depth at.here fs l s c.args.core k again keyword (λ is. c.eq-recursive.ensures ∙ true_same keyword_type c.args.core word.LetrecSyntax is) (λ not. c.eq-recursive.ensures ∙ false_same keyword_type tt c.args.core word.LetrecSyntax not))
-    (c.in_err-local_macros-in-LetSyntax.ensures.runs l turns (subst (λ (xs : List LocalMacro). AreMacros a xs l.names l.rules) (sym c.deref-in-LetSyntax.ensures.value) macros) (subst (λ (xs : List number.Tree). PartsStand a xs l.body) (sym c.deref-in-LetSyntax-2.ensures.value) stand) enough)) fits)
-
 pub expand_shape-returns-in-LetSyntax-clause-runs : goal.expand_shape-returns-in-LetSyntax-clause-runs
 expand_shape-returns-in-LetSyntax-clause-runs t c = λ k m turns keyword for fits left enough.
     let a = c.args.work.now in
@@ -613,13 +361,13 @@ expand_shape-returns-in-LetSyntax-clause-runs t c = λ k m turns keyword for fit
     let v = c.local_macros.new.units in
     let at = c.args.at in
     let again = c.eq-recursive.result in
-    let x = c.in_ok-local_macros-in-LetSyntax.field-0 in
+    let r = c.local_macros.result in
     let Q : List Frames → code_core.Core → Core → Type 0 = λ layout. CoreStands d v.unit v.form.number in
     let f : Shape → Known → Frames → Step ScopedState Core = λ x known fs. core_step (expand (searched known) turns) (searched known) at.depth at.here fs k x in
-    as_local a (λ y. ShapeFits y → Runs Q a d region u v at.scope (Ok x) (f y)) c.in-LetSyntax.macros c.in-LetSyntax.body m (subst (λ (x : code_shape.CoreShape). ShapeFor a x m) c.in-LetSyntax.is for)
-    (λ l macros stand fit. runs_same Q a d region u v at.scope (Ok x) (f (Local l)) (λ known fs. macros_step again (expand (searched known) turns) (searched known) at.depth at.here fs l)
+    as_local a (λ y. ShapeFits y → Runs Q a d region u v at.scope r (f y)) c.in-LetSyntax.macros c.in-LetSyntax.body m (subst (λ (x : code_shape.CoreShape). ShapeFor a x m) c.in-LetSyntax.is for)
+    (λ l macros stand fit. runs_same Q a d region u v at.scope r (f (Local l)) (λ known fs. macros_step again (expand (searched known) turns) (searched known) at.depth at.here fs l)
     (λ known fs s. local_is (expand (searched known) turns) (searched known) at.depth at.here fs l s c.args.core k again keyword (λ is. c.eq-recursive.ensures ∙ true_same keyword_type c.args.core word.LetrecSyntax is) (λ not. c.eq-recursive.ensures ∙ false_same keyword_type tt c.args.core word.LetrecSyntax not))
-    (c.in_ok-local_macros-in-LetSyntax.ensures.runs l turns (subst (λ (xs : List LocalMacro). AreMacros a xs l.names l.rules) (sym c.deref-in-LetSyntax.ensures.value) macros) (subst (λ (xs : List number.Tree). PartsStand a xs l.body) (sym c.deref-in-LetSyntax-2.ensures.value) stand) enough)) fits
+    (c.local_macros.ensures.runs l turns (subst (λ (xs : List LocalMacro). AreMacros a xs l.names l.rules) (sym c.deref-in-LetSyntax.ensures.value) macros) (subst (λ (xs : List number.Tree). PartsStand a xs l.body) (sym c.deref-in-LetSyntax-2.ensures.value) stand) enough)) fits
 
 pub expand_shape-returns-clause-runs : goal.expand_shape-returns-clause-runs
 expand_shape-returns-clause-runs t c = λ k m turns keyword for fits left enough.
