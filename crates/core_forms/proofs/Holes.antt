@@ -8,7 +8,7 @@ use Rattle.scheme_model.specs.Trees.{Atom, Tree, name, atom, list, vector, Trees
 use Rattle.scheme_model.specs.ExpansionFaults.{Fault, BadQuasi, ◌>>◌}
 use Rattle.scheme_model.specs.Shapes.{one_of}
 use Rattle.scheme_model.specs.Matching.{behind}
-use Rattle.scheme_model.specs.Quasiquote.{Mark, Nested, Unquoted, Spliced, Pieces, RowPieces, pieces, row_pieces, before, listed, mark_in, hole_behind, is_splice, datum_at, pair_at, tail_at, elements_at}
+use Rattle.scheme_model.specs.Quasiquote.{Mark, Nested, Unquoted, Spliced, Pieces, RowPieces, pieces, row_pieces, before, listed, mark_in, hole_behind, is_splice, pair_at, tail_at, elements_at}
 use Rattle.scheme_model.specs.Ident.{Ident as Identifier}
 use Rattle.syntax_tree.specs.Works.{StandsFor}
 use Rattle.syntax_tree.specs.declared.trees.Work.{Work}

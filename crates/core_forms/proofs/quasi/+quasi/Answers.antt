@@ -1,5 +1,5 @@
 use Rattle.std.proofs.Common.{List, [], ◌∷◌, Some, Result, Ok, Err, ◌+◌, ◌≤◌, ℕ, suc, true, false, Bool, refl, sym, ap, ◌∙◌, subst, add-one, rules, arith}
-use Rattle.scheme_model.specs.Trees.{Tree, name, atom, list, vector, Tail}
+use Rattle.scheme_model.specs.Trees.{Tree, name, atom, vector, Tail}
 use Rattle.scheme_model.specs.ExpansionFaults.{Fault, ◌>>◌}
 use Rattle.scheme_model.specs.Shapes.{one_of}
 use Rattle.std.specs.Prelude.{is_some}
