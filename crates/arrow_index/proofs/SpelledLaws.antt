@@ -1,19 +1,21 @@
 -- The links that the code gathers are those of the definition's program; the order of links.
-use Rattle.std.proofs.Common.{◌≡◌, ◌⊎◌, inl, inr, ◌↔◌, ◌<◌, ℕ, zero, suc, List, [], ◌∷◌, ◌++◌, length, get_or, refl, sym, ap, subst, arith}
+use Rattle.std.proofs.Common.{◌≡◌, ◌⊎◌, inl, inr, ◌↔◌, ◌<◌, ℕ, zero, suc, List, [], ◌∷◌, ◌++◌, length, get_or, cond, Option, Some, None, refl, sym, ap, ◌∙◌, subst, arith}
 use Rattle.std.specs.List.{flat_map}
 use Rattle.scheme_model.specs.declared.Occ.{Occ}
 use Rattle.scheme_model.specs.Cores.{Target}
 use Rattle.scheme_model.specs.Entries.{At}
 use Rattle.scheme_model.specs.Live.{CoreLeaf, NameUse}
-use Rattle.scheme_model.specs.Program.{UnitResult}
+use Rattle.scheme_model.specs.Program.{Placed, Program, UnitResult, WholeFault, is_some_fault}
+use Rattle.scheme_model.specs.Requirements.{LibraryName}
 use Rattle.scheme_model.specs.ProgramArrows.{core_targets, is_live_at}
 use Rattle.scheme_model.specs.Substitution.{Table}
-use Rattle.scheme_model.specs.Spelling.{Link, links_at, links_to_themselves, target_links, name_links, macro_links, links_with}
+use Rattle.scheme_model.specs.Spelling.{Link, links_at, links_to_themselves, target_links, name_links, macro_links, links_with, second_places, second_places_in}
 use Rattle.syntax_tree.specs.declared.trees.Work.{Work}
 use Rattle.core_tree.specs.Names.{AllMatch}
+use Rattle.core_tree.specs.Units.{UnitsStand, unless_broken}
 use Rattle.core_tree.specs.declared.units.Unit.{Unit as CodeUnit}
 use Rattle.arrow_index.specs.Members.{IsIn}
-use Rattle.arrow_index.specs.Sights.{IsNameOf, all_names}
+use Rattle.arrow_index.specs.Sights.{IsNameOf, all_names, all_seconds}
 use Rattle.arrow_index.proofs.AddLaws.{part_match}
 use Rattle.arrow_index.proofs.MemberLaws.{in_left, in_right, in_either, among}
 use Rattle.arrow_index.proofs.LinkLaws.{of_target, targets-append}
@@ -89,6 +91,30 @@ module _ (leaves : List CoreLeaf) (keywords : List Target) (names : List NameUse
             (parts_among v (target_links leaves table rs keywords) (name_links names) (links_to_themselves binders) z v (target_links leaves table rs ts) (name_links ns) (links_to_themselves places) z a (λ q. q)
             (targets_among leaves table rs keywords ts (λ x. (t x).1) a) (names_among names ns (λ x. (n x).1) a) (themselves_among binders places (λ x. (o x).1) a) (λ q. q) (subst (IsIn a) whole_is h)),
       )
+
+-- ---- second identifiers of imports' rename pairs
+
+unless_same : (f : Option WholeFault) (os : List Occ) → unless_broken f os ≡ cond (is_some_fault f) [] os
+unless_same None os = refl
+unless_same (Some f) os = refl
+
+pub seconds_told : (work : Work) (text : LibraryName → List ℕ) (uris : List (List ℕ)) (all : List Placed) (p : Program) (place : ℕ) (cs : List CodeUnit) (rs : List UnitResult) → UnitsStand work text uris all p place cs rs →
+    all_seconds cs ≡ second_places_in rs
+seconds_told work text uris all p place [] [] h = refl
+seconds_told work text uris all p place [] (r ∷ rs) h = absurd h
+seconds_told work text uris all p place (c ∷ cs) [] h = absurd h
+seconds_told work text uris all p place (c ∷ cs) (r ∷ rs) h =
+    let here = flat_map (λ s. second_places s.set) r.unit.specs in
+    ap (λ (q : List Occ). q ++ all_seconds cs) (h.0.seconds ∙ unless_same r.fault here) ∙ ap (λ (q : List Occ). cond (is_some_fault r.fault) [] here ++ q) (seconds_told work text uris all p (suc place) cs rs h.1)
+
+-- the same are members with the same behind them
+pub same_before : (xs ys zs ws : List Occ) → ((o : Occ) → IsIn o xs ↔ IsIn o ys) → zs ≡ ws → (o : Occ) → IsIn o (xs ++ zs) ↔ IsIn o (ys ++ ws)
+same_before xs ys zs ws h e o =
+    subst (λ (q : List Occ). IsIn o (xs ++ zs) ↔ IsIn o (ys ++ q)) e (λ g. by xs ys (h o).0 (in_either o xs zs g), λ g. by ys xs (h o).1 (in_either o ys zs g))
+  where
+    by : (us vs : List Occ) → (IsIn o us → IsIn o vs) → IsIn o us ⊎ IsIn o zs → IsIn o (vs ++ zs)
+    by us vs f (inl k) = in_left o vs zs (f k)
+    by us vs f (inr k) = in_right o vs zs k
 
 -- ---- names of a unit among those of all
 

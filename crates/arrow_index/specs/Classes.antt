@@ -1,5 +1,5 @@
 -- Classes of occurrences: which sets are closed under links, what links join, and what the parts of a class are.
-use Rattle.std.specs.Prelude.{◌≡◌, ◌↔◌, ◌+◌, ℕ, List, [], ◌∷◌, length, Bool, ◌||◌, ◌&&◌, not, false, if◌then◌else◌}
+use Rattle.std.specs.Prelude.{◌≡◌, ◌↔◌, ◌+◌, ℕ, List, [], ◌∷◌, length, Bool, ◌||◌, ◌&&◌, not, if◌then◌else◌}
 use Rattle.std.specs.List.{Contains, list_any, flat_map}
 use Rattle.std.specs.List.Sorted.{IsStrictlySortedBy}
 use Rattle.std.specs.Ordering.{nat_cmp, ordering_then}

@@ -31,6 +31,10 @@ Grows old new more = (o : Occ) → contains occ_cmp new o ≡ (contains occ_cmp 
 abbrev pub all_names : List CodeUnit → List NameUse
 all_names cs = flat_map (λ (c : CodeUnit). c.names) cs
 
+-- the second identifiers of the pairs that the imports of all units rename by
+abbrev pub all_seconds : List CodeUnit → List Occ
+all_seconds cs = flat_map (λ (c : CodeUnit). c.seconds) cs
+
 abbrev pub name_at : Occ → NameUse → Bool
 name_at o n = is_occ o n.target.occ
 

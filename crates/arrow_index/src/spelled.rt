@@ -17,7 +17,7 @@ use crate::binders::binders_in;
 use crate::entries::Entries;
 use crate::links::{Link, link_themselves};
 use crate::sight::Sight;
-use crate::use_links::{link_all_names, link_macros, link_targets, link_uses};
+use crate::use_links::{link_all_names, link_macros, link_seconds, link_targets, link_uses};
 use core_tree::units::Program;
 use ls_base::{Items, Mem};
 use scheme_model::Occ;
@@ -57,6 +57,7 @@ fn all_links(
     )?;
     link_all_names(alloc, work, program.units.as_slice(), &mut links)?;
     link_themselves(alloc, binders, &mut links)?;
+    link_seconds(alloc, program.units.as_slice(), &mut links)?;
     link_macros(
         alloc,
         work,

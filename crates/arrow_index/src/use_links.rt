@@ -5,11 +5,11 @@ ghost use Rattle.scheme_model.specs.Live.{CoreLeaf, NameUse as ModelName};
 ghost use Rattle.scheme_model.specs.Program.{UnitResult};
 ghost use Rattle.scheme_model.specs.ProgramArrows.{is_live_at, core_targets};
 ghost use Rattle.scheme_model.specs.Substitution.{Table};
-ghost use Rattle.scheme_model.specs.Spelling.{links_at, target_origins, target_links, name_links, leaf_targets, macro_links};
+ghost use Rattle.scheme_model.specs.Spelling.{links_at, links_to_themselves, target_origins, target_links, name_links, leaf_targets, macro_links};
 ghost use Rattle.core_tree.specs.Names.{AllMatch, IsTarget, IsLeaf};
 ghost use Rattle.arrow_index.specs.Leaves.{seen_of, IsSeen};
 ghost use Rattle.arrow_index.specs.Placed.{placed_of, use_of, AreAllSeen, IsUseOf};
-ghost use Rattle.arrow_index.specs.Sights.{Sees, IsNameOf, all_names};
+ghost use Rattle.arrow_index.specs.Sights.{Sees, IsNameOf, all_names, all_seconds};
 ghost use Rattle.arrow_index.specs.Entries.{Gives};
 ghost use Rattle.arrow_index.specs.Links.{as_link};
 
@@ -17,7 +17,7 @@ use crate::arrows::is_static;
 use crate::entries::Entries;
 use crate::ident_links::link_ident;
 use crate::leaves::Leaf;
-use crate::links::{Link, add_link, link_arrows, link_origins};
+use crate::links::{Link, add_link, link_arrows, link_origins, link_themselves};
 use crate::sight::{FormNo, PlacedLeaf, PlacedTarget, Sight};
 use crate::variables::add_rules_arrows;
 use core_tree::cores::{RuleLeaf, Target};
@@ -203,6 +203,16 @@ pub fn link_all_names(alloc: Global, work: &Work, units: &[Unit], links: &mut Ve
 {
     for unit in units {
         link_names(alloc, work, unit.names.as_slice(), links)?;
+    }
+    Ok(())
+}
+
+/// Adds the links to themselves of the second identifiers of the pairs that imports of units rename by.
+pub fn link_seconds(alloc: Global, units: &[Unit], links: &mut Vec<Link>) -> Mem<()>
+    ensures { OnOk result (map as_link links.new.items ≡ map as_link links.old.items ++ links_to_themselves (all_seconds units.now)) }
+{
+    for unit in units {
+        link_themselves(alloc, unit.seconds.as_slice(), links)?;
     }
     Ok(())
 }

@@ -4,7 +4,7 @@ use Rattle.std.specs.Prelude.{nat_eq, if◌then◌else◌}
 use Rattle.std.specs.List.{list_any}
 use Rattle.scheme_model.specs.Trees.{Tree, name, atom, list, vector, Trees, no_trees, tree, Tail, proper, dotted}
 use Rattle.scheme_model.specs.ExpansionFaults.{Named, Fault, BadForm, DuplicateBinder, ◌>>◌}
-use Rattle.scheme_model.specs.Shapes.{Clause, FieldShape as ModelField, LocalMacros, RecordShape, is_among, distinct, distinct_from, all_among, list_of, proper_of, some_of, named_tree_of, bindings_of, local_macros_of}
+use Rattle.scheme_model.specs.Shapes.{Clause, FieldShape as ModelField, LocalMacros, RecordShape, is_among, distinct, distinct_from, all_among, list_of, proper_of, some_of, syntax_of, bindings_of, local_macros_of}
 use Rattle.scheme_model.specs.Ident.{Ident as Identifier, same_ident}
 use Rattle.syntax_tree.specs.Names.{AreToldApart}
 use Rattle.syntax_tree.specs.Macros.{IsIdent, AreIdents}
@@ -141,7 +141,7 @@ binding_step (Ok b) (Err e) = refl
 binding_step (Err e) s = refl
 
 list_step : (l : Result (Trees Identifier × Tail Identifier) (Fault Identifier)) (s : Result (List (Named Identifier) × Trees Identifier) (Fault Identifier)) →
-    (l >> λ p. named_tree_of p.0 p.1 >> λ b. s >> λ bs. put_first b bs) ≡ ((l >> λ p. named_tree_of p.0 p.1) >> λ b. s >> λ bs. put_first b bs)
+    (l >> λ p. syntax_of p.0 p.1 >> λ b. s >> λ bs. put_first b bs) ≡ ((l >> λ p. syntax_of p.0 p.1) >> λ b. s >> λ bs. put_first b bs)
 list_step (Ok p) s = refl
 list_step (Err e) s = refl
 

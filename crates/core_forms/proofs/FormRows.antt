@@ -3,7 +3,7 @@ use Rattle.std.proofs.Common.{◌≡◌, [], ◌∷◌, true, false, Option, Som
 use Rattle.std.specs.Prelude.{codes, if◌then◌else◌}
 use Rattle.scheme_model.specs.Trees.{Tree, name, list, Trees, no_trees, tree, proper}
 use Rattle.scheme_model.specs.ExpansionFaults.{named, BadForm, DuplicateBinder, BadPlace, BadRecord, BadQuasi}
-use Rattle.scheme_model.specs.Keywords.{IsLambda, IsIf, IsBegin, IsDefine, IsDefineRecordType, IsQuasiquote, IsCondExpand}
+use Rattle.scheme_model.specs.Keywords.{IsLambda, IsIf, IsBegin, IsDefine, IsDefineRecordType, IsDefineSyntax, IsLetSyntax, IsQuasiquote, IsCondExpand}
 use Rattle.scheme_model.specs.Quasiquote.{Mark, Unquoted, Spliced, pieces}
 use Rattle.scheme_model.specs.Ident.{Ident as Identifier, Written, same_ident}
 use Rattle.core_forms.specs.Forms.{Conditional, Quasi, Choices, shape_of}
@@ -56,6 +56,20 @@ misplaced_record = refl
 
 bad_record : shape_of IsDefineRecordType false mark no_trees proper ≡ Err BadRecord
 bad_record = refl
+
+-- rules are a list before the place is asked, and before the names: `(define-syntax x a)` as an expression, and
+-- `(let-syntax ((x a) (x b)) a)`
+no_rules : shape_of IsDefineSyntax true mark (tree (at x) (one (at a))) proper ≡ Err BadForm
+no_rules = refl
+
+misplaced_rules : shape_of IsDefineSyntax true mark (tree (at x) (one (list (one (at a)) proper None))) proper ≡ Err BadPlace
+misplaced_rules = refl
+
+abbrev binding : Tree Identifier → Tree Identifier → Tree Identifier
+binding n t = list (tree n (one t)) proper None
+
+no_local_rules : shape_of IsLetSyntax true mark (tree (list (tree (binding (at x) (at a)) (one (binding (at x) (at b)))) proper None) (one (at a))) proper ≡ Err BadForm
+no_local_rules = refl
 
 -- `(begin)` as an expression
 no_forms : shape_of IsBegin true mark no_trees proper ≡ Err BadForm

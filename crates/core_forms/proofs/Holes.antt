@@ -1,14 +1,14 @@
 -- What is unquoted in a datum, part by part.
-use Rattle.std.proofs.Common.{◌≡◌, ℕ, zero, suc, ◌+◌, List, [], ◌∷◌, ◌++◌, Bool, true, false, Option, Some, None, Result, Ok, Err, refl, sym, ap, ◌∙◌, subst, append_assoc, arith}
+use Rattle.std.proofs.Common.{◌≡◌, ℕ, zero, suc, ◌+◌, List, [], ◌∷◌, ◌++◌, Bool, true, false, cond, Option, Some, None, Result, Ok, Err, refl, sym, ap, ◌∙◌, subst, append_assoc, arith}
 use Rattle.std.specs.Prelude.{Vec, OnOk}
 use Rattle.std.specs.declared.alloc.Global.{Global}
 use Rattle.std.proofs.lemmas.List.{append-nil}
 use Rattle.scheme_model.specs.declared.Occ.{Occ}
-use Rattle.scheme_model.specs.Trees.{Tree, name, atom, list, vector, Trees, no_trees, tree, Tail, proper, dotted}
+use Rattle.scheme_model.specs.Trees.{Atom, Tree, name, atom, list, vector, Trees, no_trees, tree, Tail, proper, dotted}
 use Rattle.scheme_model.specs.ExpansionFaults.{Fault, BadQuasi, ◌>>◌}
 use Rattle.scheme_model.specs.Shapes.{one_of}
 use Rattle.scheme_model.specs.Matching.{behind}
-use Rattle.scheme_model.specs.Quasiquote.{Mark, Nested, Unquoted, Spliced, Pieces, RowPieces, pieces, row_pieces, before, hole_of, pieces_of, row_of, parts_of, tail_of}
+use Rattle.scheme_model.specs.Quasiquote.{Mark, Nested, Unquoted, Spliced, Pieces, RowPieces, pieces, row_pieces, before, listed, mark_in, hole_behind, is_splice, pair_at, tail_at, elements_at}
 use Rattle.scheme_model.specs.Ident.{Ident as Identifier}
 use Rattle.syntax_tree.specs.Works.{StandsFor}
 use Rattle.syntax_tree.specs.declared.trees.Work.{Work}
@@ -17,7 +17,7 @@ use Rattle.core_forms.specs.declared.fault.CoreFault.{CoreFault}
 use Rattle.core_forms.specs.declared.fault.CoreFault.TheVariants as fault
 use Rattle.core_forms.specs.declared.quasi.Step.TheVariants as step
 use Rattle.core_forms.specs.declared.quasi.Found.{Found}
-use Rattle.core_forms.specs.Marks.{AddsHoles, AddsFound, nodes_in, nodes_among, nodes_behind, passed_in, places_from, mark_of_tree, step_by}
+use Rattle.core_forms.specs.Marks.{AddsHoles, AddsFound, nodes_in, nodes_among, nodes_behind, passed_in, places_from, datum_as, row_as, step_by}
 use Rattle.core_forms.specs.Ends.{Refuses, AddsPieces, AddsRow}
 use Rattle.core_forms.proofs.Reading.{refuses_then, matches_both}
 
@@ -161,27 +161,58 @@ after_after x y (Err e) = refl
 pub after_end : (x : Trace) → both x ([], []) ≡ x
 after_end x = ap (λ (hs : List (Tree Identifier)). (hs, x.1 ++ [])) (append-nil x.0) ∙ ap (λ (bs : List Bool). (x.0, bs)) (append-nil x.1)
 
+-- ---- a datum, by its outermost node
+
+abbrev pub listed_row : Option Occ → Result (RowPieces Identifier) (Fault Identifier) → Result (Pieces Identifier) (Fault Identifier)
+listed_row o s = s >> λ r. Ok (listed o r)
+
+module _ (mark : Identifier → Option Mark) (l : ℕ) where
+  pub name_is : (e : Bool) (i : Identifier) (o : Option Occ) → datum_as mark l e (name i o) ≡ Ok (pieces (name (Some i) o) [])
+  name_is true i o = refl
+  name_is false i o = refl
+
+  pub atom_is : (e : Bool) (a : Atom) (o : Option Occ) → datum_as mark l e (atom a o) ≡ Ok (pieces (atom a o) [])
+  atom_is true a o = refl
+  atom_is false a o = refl
+
+  pub vector_is : (e : Bool) (ts : Trees Identifier) (o : Option Occ) → datum_as mark l e (vector ts o) ≡ (elements_at mark l ts >> λ r. Ok (pieces (vector r.parts o) r.holes))
+  vector_is true ts o = refl
+  vector_is false ts o = refl
+
+  pub list_is : (e : Bool) (ts : Trees Identifier) (tail : Tail Identifier) (o : Option Occ) → datum_as mark l e (list ts tail o) ≡ listed_row o (row_as mark l e ts tail)
+  list_is false ts tail o = refl
+  list_is true no_trees tail o = refl
+  list_is true (tree t ts) tail o =
+      elim (is_splice (mark_in mark t) l) as (λ b.
+      cond b (listed_row o (hole_behind t (one_of ts tail))) (listed_row o (pair_at mark l (tree t ts) tail (tail_at mark tail))) ≡ listed_row o (cond b (hole_behind t (one_of ts tail)) (pair_at mark l (tree t ts) tail (tail_at mark tail)))) [
+        | true ↦ refl
+        | false ↦ refl
+      ]
+
+  -- nothing but a tail
+  pub row_end : (e : Bool) (tail : Tail Identifier) → row_as mark l e no_trees tail ≡ tail_at mark tail l
+  row_end true tail = refl
+  row_end false tail = refl
+
 -- ---- the parts of a list
 
-module _ (mark : Identifier → Option Mark) (us : Trees Identifier) (tail : Tail Identifier) (end : ℕ → Result (RowPieces Identifier) (Fault Identifier)) where
+module _ (mark : Identifier → Option Mark) (us : Trees Identifier) (tail : Tail Identifier) where
   -- a part that is gone into
-  pub into_is : (t : Tree Identifier) (l : ℕ) (e : Bool) → step_by (mark_of_tree mark t) l e ≡ step.Into → row_of mark (tree t us) tail end l e ≡ (pieces_of mark t l true >> λ p. joined p (row_of mark us tail end l false))
-  into_is (name i o) l e h = by (mark i) refl l e h
+  pub into_is : (t : Tree Identifier) (l : ℕ) (e : Bool) → step_by (mark_in mark t) l e ≡ step.Into → row_as mark l e (tree t us) tail ≡ (datum_as mark l true t >> λ p. joined p (row_as mark l false us tail))
+  into_is t l e h = by (mark_in mark t) refl l e h
     where
-      by : (m : Option Mark) → mark i ≡ m → (l : ℕ) (e : Bool) → step_by m l e ≡ step.Into → row_of mark (tree (name i o) us) tail end l e ≡ (pieces_of mark (name i o) l true >> λ p. joined p (row_of mark us tail end l false))
-      by None g l e h = rw g refl
+      by : (m : Option Mark) → mark_in mark t ≡ m → (l : ℕ) (e : Bool) → step_by m l e ≡ step.Into → row_as mark l e (tree t us) tail ≡ (datum_as mark l true t >> λ p. joined p (row_as mark l false us tail))
+      by None g l true h = rw g refl
+      by None g l false h = rw g refl
       by (Some Nested) g l e h = absurd cc
       by (Some Unquoted) g zero e h = absurd cc
       by (Some Unquoted) g (suc l) e h = absurd cc
       by (Some Spliced) g zero true h = absurd cc
       by (Some Spliced) g zero false h = absurd cc
       by (Some Spliced) g (suc l) e h = absurd cc
-  into_is (atom a o) l e h = refl
-  into_is (list ts last o) l e h = refl
-  into_is (vector ts o) l e h = refl
 
   -- a mark that changes the level
-  pub level_is : (t : Tree Identifier) (l m : ℕ) (e : Bool) → step_by (mark_of_tree mark t) l e ≡ step.Level m → row_holes (row_of mark (tree t us) tail end l e) ≡ after ([], true ∷ []) (row_holes (row_of mark us tail end m false))
+  pub level_is : (t : Tree Identifier) (l m : ℕ) (e : Bool) → step_by (mark_in mark t) l e ≡ step.Level m → row_holes (row_as mark l e (tree t us) tail) ≡ after ([], true ∷ []) (row_holes (row_as mark m false us tail))
   level_is (name i o) l m e h = by (mark i) refl l m e h
     where
       same : (l m : ℕ) → step.Level l ≡ step.Level m → l ≡ m
@@ -190,26 +221,30 @@ module _ (mark : Identifier → Option Mark) (us : Trees Identifier) (tail : Tai
       holes_same : (s : Result (RowPieces Identifier) (Fault Identifier)) → row_holes (joined (pieces (name (Some i) o) []) s) ≡ after ([], true ∷ []) (row_holes s)
       holes_same s = joined_holes (pieces (name (Some i) o) []) s
 
-      by : (k : Option Mark) → mark i ≡ k → (l m : ℕ) (e : Bool) → step_by k l e ≡ step.Level m → row_holes (row_of mark (tree (name i o) us) tail end l e) ≡ after ([], true ∷ []) (row_holes (row_of mark us tail end m false))
+      by : (k : Option Mark) → mark i ≡ k → (l m : ℕ) (e : Bool) → step_by k l e ≡ step.Level m → row_holes (row_as mark l e (tree (name i o) us) tail) ≡ after ([], true ∷ []) (row_holes (row_as mark m false us tail))
       by None g l m e h = absurd cc
-      by (Some Nested) g l m e h = rw (g, sym (same (suc l) m h)) (holes_same (row_of mark us tail end (suc l) false))
+      by (Some Nested) g l m true h = rw (g, sym (same (suc l) m h)) (holes_same (row_as mark (suc l) false us tail))
+      by (Some Nested) g l m false h = rw (g, sym (same (suc l) m h)) (holes_same (row_as mark (suc l) false us tail))
       by (Some Unquoted) g zero m e h = absurd cc
-      by (Some Unquoted) g (suc l) m e h = rw (g, sym (same l m h)) (holes_same (row_of mark us tail end l false))
+      by (Some Unquoted) g (suc l) m true h = rw (g, sym (same l m h)) (holes_same (row_as mark l false us tail))
+      by (Some Unquoted) g (suc l) m false h = rw (g, sym (same l m h)) (holes_same (row_as mark l false us tail))
       by (Some Spliced) g zero m true h = absurd cc
       by (Some Spliced) g zero m false h = absurd cc
-      by (Some Spliced) g (suc l) m e h = rw (g, sym (same l m h)) (holes_same (row_of mark us tail end l false))
+      by (Some Spliced) g (suc l) m true h = rw (g, sym (same l m h)) (holes_same (row_as mark l false us tail))
+      by (Some Spliced) g (suc l) m false h = rw (g, sym (same l m h)) (holes_same (row_as mark l false us tail))
   level_is (atom a o) l m e h = absurd cc
   level_is (list ts last o) l m e h = absurd cc
   level_is (vector ts o) l m e h = absurd cc
 
   -- a hole
-  pub hole_is : (t : Tree Identifier) (l : ℕ) (e : Bool) → step_by (mark_of_tree mark t) l e ≡ step.Hole → (i : Identifier) × ((o : Option Occ) × (row_of mark (tree t us) tail end l e ≡ hole_of i o (one_of us tail)))
+  pub hole_is : (t : Tree Identifier) (l : ℕ) (e : Bool) → step_by (mark_in mark t) l e ≡ step.Hole → (i : Identifier) × ((o : Option Occ) × (row_as mark l e (tree t us) tail ≡ hole_behind (name i o) (one_of us tail)))
   hole_is (name i o) l e h = (i, (o, by (mark i) refl l e h))
     where
-      by : (m : Option Mark) → mark i ≡ m → (l : ℕ) (e : Bool) → step_by m l e ≡ step.Hole → row_of mark (tree (name i o) us) tail end l e ≡ hole_of i o (one_of us tail)
+      by : (m : Option Mark) → mark i ≡ m → (l : ℕ) (e : Bool) → step_by m l e ≡ step.Hole → row_as mark l e (tree (name i o) us) tail ≡ hole_behind (name i o) (one_of us tail)
       by None g l e h = absurd cc
       by (Some Nested) g l e h = absurd cc
-      by (Some Unquoted) g zero e h = rw g refl
+      by (Some Unquoted) g zero true h = rw g refl
+      by (Some Unquoted) g zero false h = rw g refl
       by (Some Unquoted) g (suc l) e h = absurd cc
       by (Some Spliced) g zero true h = rw g refl
       by (Some Spliced) g zero false h = absurd cc
@@ -219,10 +254,10 @@ module _ (mark : Identifier → Option Mark) (us : Trees Identifier) (tail : Tai
   hole_is (vector ts o) l e h = absurd cc
 
   -- a splice that is misplaced
-  pub misplaced_is : (t : Tree Identifier) (l : ℕ) (e : Bool) → step_by (mark_of_tree mark t) l e ≡ step.Misplaced → row_of mark (tree t us) tail end l e ≡ Err BadQuasi
-  misplaced_is (name i o) l e h = by (mark i) refl l e h
+  pub misplaced_is : (t : Tree Identifier) (l : ℕ) (e : Bool) → step_by (mark_in mark t) l e ≡ step.Misplaced → row_as mark l e (tree t us) tail ≡ Err BadQuasi
+  misplaced_is t l e h = by (mark_in mark t) refl l e h
     where
-      by : (m : Option Mark) → mark i ≡ m → (l : ℕ) (e : Bool) → step_by m l e ≡ step.Misplaced → row_of mark (tree (name i o) us) tail end l e ≡ Err BadQuasi
+      by : (m : Option Mark) → mark_in mark t ≡ m → (l : ℕ) (e : Bool) → step_by m l e ≡ step.Misplaced → row_as mark l e (tree t us) tail ≡ Err BadQuasi
       by None g l e h = absurd cc
       by (Some Nested) g l e h = absurd cc
       by (Some Unquoted) g zero e h = absurd cc
@@ -230,61 +265,58 @@ module _ (mark : Identifier → Option Mark) (us : Trees Identifier) (tail : Tai
       by (Some Spliced) g zero true h = absurd cc
       by (Some Spliced) g zero false h = rw g refl
       by (Some Spliced) g (suc l) e h = absurd cc
-  misplaced_is (atom a o) l e h = absurd cc
-  misplaced_is (list ts last o) l e h = absurd cc
-  misplaced_is (vector ts o) l e h = absurd cc
 
 -- ---- up to a place of a list
 
 pub record RowUpTo (work : Work) (old now : Found) (mark : Identifier → Option Mark) (ts : Trees Identifier) (tail : Tail Identifier) (level : ℕ) (element : Bool) (k inner : ℕ) (first : Bool) : Type 0 where
   pub holes : Trace
   pub adds : Traces work old now holes
-  pub whole : after holes (row_holes (row_of mark (behind k ts) tail (tail_of mark tail) inner first)) ≡ row_holes (row_of mark ts tail (tail_of mark tail) level element)
+  pub whole : after holes (row_holes (row_as mark inner first (behind k ts) tail)) ≡ row_holes (row_as mark level element ts tail)
 
 module _ (work : Work) (old now : Found) (mark : Identifier → Option Mark) (ts : Trees Identifier) (tail : Tail Identifier) (level : ℕ) (element : Bool) (k inner : ℕ) (first : Bool)
     (p : RowUpTo work old now mark ts tail level element k inner first) (t : Tree Identifier) (split : behind k ts ≡ tree t (behind (suc k) ts)) where
-  whole_row : after p.holes (row_holes (row_of mark (tree t (behind (suc k) ts)) tail (tail_of mark tail) inner first)) ≡ row_holes (row_of mark ts tail (tail_of mark tail) level element)
-  whole_row = sym (ap (λ (x : Trees Identifier). after p.holes (row_holes (row_of mark x tail (tail_of mark tail) inner first))) split) ∙ p.whole
+  whole_row : after p.holes (row_holes (row_as mark inner first (tree t (behind (suc k) ts)) tail)) ≡ row_holes (row_as mark level element ts tail)
+  whole_row = sym (ap (λ (x : Trees Identifier). after p.holes (row_holes (row_as mark inner first x tail))) split) ∙ p.whole
 
   abbrev pub rest : ℕ → Result (RowPieces Identifier) (Fault Identifier)
-  rest l = row_of mark (behind (suc k) ts) tail (tail_of mark tail) l false
+  rest l = row_as mark l false (behind (suc k) ts) tail
 
-  pub row_into : (then : Found) → step_by (mark_of_tree mark t) inner first ≡ step.Into → (q : Pieces Identifier) → pieces_of mark t inner true ≡ Ok q → Traces work now then (piece_trace q) →
+  pub row_into : (then : Found) → step_by (mark_in mark t) inner first ≡ step.Into → (q : Pieces Identifier) → datum_as mark inner true t ≡ Ok q → Traces work now then (piece_trace q) →
       RowUpTo work old then mark ts tail level element (suc k) inner false
   row_into then s q e h =
-      let i = into_is mark (behind (suc k) ts) tail (tail_of mark tail) t inner first s ∙ ap (λ (x : Result (Pieces Identifier) (Fault Identifier)). x >> λ p. joined p (rest inner)) e in
+      let i = into_is mark (behind (suc k) ts) tail t inner first s ∙ ap (λ (x : Result (Pieces Identifier) (Fault Identifier)). x >> λ p. joined p (rest inner)) e in
       record {
         holes = both p.holes (piece_trace q);
         adds = adds_both work old now then p.holes (piece_trace q) p.adds h;
         whole = after_after p.holes (piece_trace q) (row_holes (rest inner)) ∙ ap (after p.holes) (sym (ap row_holes i ∙ joined_holes q (rest inner))) ∙ whole_row;
       }
 
-  pub row_level : (then : Found) (m : ℕ) → step_by (mark_of_tree mark t) inner first ≡ step.Level m → Traces work now then ([], true ∷ []) → RowUpTo work old then mark ts tail level element (suc k) m false
+  pub row_level : (then : Found) (m : ℕ) → step_by (mark_in mark t) inner first ≡ step.Level m → Traces work now then ([], true ∷ []) → RowUpTo work old then mark ts tail level element (suc k) m false
   row_level then m s h =
       record {
         holes = both p.holes ([], true ∷ []);
         adds = adds_both work old now then p.holes ([], true ∷ []) p.adds h;
-        whole = after_after p.holes ([], true ∷ []) (row_holes (rest m)) ∙ ap (after p.holes) (sym (level_is mark (behind (suc k) ts) tail (tail_of mark tail) t inner m first s)) ∙ whole_row;
+        whole = after_after p.holes ([], true ∷ []) (row_holes (rest m)) ∙ ap (after p.holes) (sym (level_is mark (behind (suc k) ts) tail t inner m first s)) ∙ whole_row;
       }
 
   -- the row as a whole by what a part of it gives
-  pub row_refuses : (e : CoreFault) → Refuses work e (row_of mark (tree t (behind (suc k) ts)) tail (tail_of mark tail) inner first) → Refuses work e (row_of mark ts tail (tail_of mark tail) level element)
+  pub row_refuses : (e : CoreFault) → Refuses work e (row_as mark inner first (tree t (behind (suc k) ts)) tail) → Refuses work e (row_as mark level element ts tail)
   row_refuses e h =
-      row_refused work e (row_of mark ts tail (tail_of mark tail) level element) (subst (Refuses work e) whole_row (refuses_after work e p.holes _ (holes_refused work e _ h)))
+      row_refused work e (row_as mark level element ts tail) (subst (Refuses work e) whole_row (refuses_after work e p.holes _ (holes_refused work e _ h)))
 
-  pub row_into_refuses : (e : CoreFault) → step_by (mark_of_tree mark t) inner first ≡ step.Into → Refuses work e (pieces_of mark t inner true) → Refuses work e (row_of mark ts tail (tail_of mark tail) level element)
+  pub row_into_refuses : (e : CoreFault) → step_by (mark_in mark t) inner first ≡ step.Into → Refuses work e (datum_as mark inner true t) → Refuses work e (row_as mark level element ts tail)
   row_into_refuses e s h =
-      row_refuses e (subst (Refuses work e) (sym (into_is mark (behind (suc k) ts) tail (tail_of mark tail) t inner first s)) (refuses_then work e (pieces_of mark t inner true) (λ p. joined p (rest inner)) h))
+      row_refuses e (subst (Refuses work e) (sym (into_is mark (behind (suc k) ts) tail t inner first s)) (refuses_then work e (datum_as mark inner true t) (λ p. joined p (rest inner)) h))
 
-  pub row_done : (then : Found) (q : RowPieces Identifier) → row_of mark (tree t (behind (suc k) ts)) tail (tail_of mark tail) inner first ≡ Ok q → Traces work now then (row_trace q) →
-      (r : RowPieces Identifier) × (row_of mark ts tail (tail_of mark tail) level element ≡ Ok r) × Traces work old then (row_trace r)
+  pub row_done : (then : Found) (q : RowPieces Identifier) → row_as mark inner first (tree t (behind (suc k) ts)) tail ≡ Ok q → Traces work now then (row_trace q) →
+      (r : RowPieces Identifier) × (row_as mark level element ts tail ≡ Ok r) × Traces work old then (row_trace r)
   row_done then q e h =
-      let g = row_had (row_of mark ts tail (tail_of mark tail) level element) (both p.holes (row_trace q)) (sym (sym (ap (λ (x : Result (RowPieces Identifier) (Fault Identifier)). after p.holes (row_holes x)) e) ∙ whole_row)) in
+      let g = row_had (row_as mark level element ts tail) (both p.holes (row_trace q)) (sym (sym (ap (λ (x : Result (RowPieces Identifier) (Fault Identifier)). after p.holes (row_holes x)) e) ∙ whole_row)) in
       (g.0, g.1, subst (Traces work old then) (sym g.2) (adds_both work old now then p.holes (row_trace q) p.adds h))
 
   -- the row as a whole by what the rest of it gives
-  pub row_ends : (then : Found) (z : Result (RowPieces Identifier) (Fault Identifier)) (r : Result (Unit {0}) CoreFault) → row_of mark (tree t (behind (suc k) ts)) tail (tail_of mark tail) inner first ≡ z → AddsRow work now then z r →
-      AddsRow work old then (row_of mark ts tail (tail_of mark tail) level element) r
+  pub row_ends : (then : Found) (z : Result (RowPieces Identifier) (Fault Identifier)) (r : Result (Unit {0}) CoreFault) → row_as mark inner first (tree t (behind (suc k) ts)) tail ≡ z → AddsRow work now then z r →
+      AddsRow work old then (row_as mark level element ts tail) r
   row_ends then z (Ok x) e h = row_done then h.0 (e ∙ h.1) h.2
   row_ends then z (Err f) e h = row_refuses f (subst (Refuses work f) (sym e) h)
 
@@ -299,49 +331,49 @@ row_at work old now then mark ts tail level element k j inner next first a b e h
 
 pub row_start : (work : Work) (old : Found) (mark : Identifier → Option Mark) (ts : Trees Identifier) (tail : Tail Identifier) (level : ℕ) (element : Bool) → RowUpTo work old old mark ts tail level element 0 level element
 row_start work old mark ts tail level element =
-    record { holes = ([], []); adds = adds_none work old; whole = after_none (row_holes (row_of mark ts tail (tail_of mark tail) level element)) }
+    record { holes = ([], []); adds = adds_none work old; whole = after_none (row_holes (row_as mark level element ts tail)) }
 
 module _ (work : Work) (old now : Found) (mark : Identifier → Option Mark) (ts : Trees Identifier) (level : ℕ) (element : Bool) (k inner : ℕ) (first : Bool) where
   pub row_proper : RowUpTo work old now mark ts proper level element k inner first → behind k ts ≡ no_trees →
-      (r : RowPieces Identifier) × (row_of mark ts proper (tail_of mark proper) level element ≡ Ok r) × Traces work old now (row_trace r)
+      (r : RowPieces Identifier) × (row_as mark level element ts proper ≡ Ok r) × Traces work old now (row_trace r)
   row_proper p e =
-      let whole = sym (ap (λ (x : Trees Identifier). after p.holes (row_holes (row_of mark x proper (tail_of mark proper) inner first))) e) ∙ p.whole in
-      let g = row_had (row_of mark ts proper (tail_of mark proper) level element) p.holes (sym whole ∙ ap Ok (after_end p.holes)) in
+      let whole = ap (λ (s : Result (RowPieces Identifier) (Fault Identifier)). after p.holes (row_holes s)) (sym (row_end mark inner first proper)) ∙ sym (ap (λ (x : Trees Identifier). after p.holes (row_holes (row_as mark inner first x proper))) e) ∙ p.whole in
+      let g = row_had (row_as mark level element ts proper) p.holes (sym whole ∙ ap Ok (after_end p.holes)) in
       (g.0, g.1, subst (Traces work old now) (sym g.2) p.adds)
 
   abbrev pub tail_holes : (s : Result (Pieces Identifier) (Fault Identifier)) → Result (RowPieces Identifier) (Fault Identifier)
   tail_holes s = s >> λ q. Ok (row_pieces no_trees (dotted q.datum) q.holes)
 
-  pub row_dotted : (t : Tree Identifier) (then : Found) → RowUpTo work old now mark ts (dotted t) level element k inner first → behind k ts ≡ no_trees → (q : Pieces Identifier) → pieces_of mark t inner false ≡ Ok q → Traces work now then (piece_trace q) →
-      (r : RowPieces Identifier) × (row_of mark ts (dotted t) (tail_of mark (dotted t)) level element ≡ Ok r) × Traces work old then (row_trace r)
+  pub row_dotted : (t : Tree Identifier) (then : Found) → RowUpTo work old now mark ts (dotted t) level element k inner first → behind k ts ≡ no_trees → (q : Pieces Identifier) → datum_as mark inner false t ≡ Ok q → Traces work now then (piece_trace q) →
+      (r : RowPieces Identifier) × (row_as mark level element ts (dotted t) ≡ Ok r) × Traces work old then (row_trace r)
   row_dotted t then p e q s h =
-      let whole = sym (ap (λ (x : Trees Identifier). after p.holes (row_holes (row_of mark x (dotted t) (tail_of mark (dotted t)) inner first))) e) ∙ p.whole in
+      let whole = ap (λ (s : Result (RowPieces Identifier) (Fault Identifier)). after p.holes (row_holes s)) (sym (row_end mark inner first (dotted t))) ∙ sym (ap (λ (x : Trees Identifier). after p.holes (row_holes (row_as mark inner first x (dotted t)))) e) ∙ p.whole in
       let last = ap (λ (x : Result (Pieces Identifier) (Fault Identifier)). after p.holes (row_holes (tail_holes x))) s in
-      let g = row_had (row_of mark ts (dotted t) (tail_of mark (dotted t)) level element) (both p.holes (piece_trace q)) (sym whole ∙ last) in
+      let g = row_had (row_as mark level element ts (dotted t)) (both p.holes (piece_trace q)) (sym whole ∙ last) in
       (g.0, g.1, subst (Traces work old then) (sym g.2) (adds_both work old now then p.holes (piece_trace q) p.adds h))
 
-  pub row_dotted_refuses : (t : Tree Identifier) (f : CoreFault) → RowUpTo work old now mark ts (dotted t) level element k inner first → behind k ts ≡ no_trees → Refuses work f (pieces_of mark t inner false) →
-      Refuses work f (row_of mark ts (dotted t) (tail_of mark (dotted t)) level element)
+  pub row_dotted_refuses : (t : Tree Identifier) (f : CoreFault) → RowUpTo work old now mark ts (dotted t) level element k inner first → behind k ts ≡ no_trees → Refuses work f (datum_as mark inner false t) →
+      Refuses work f (row_as mark level element ts (dotted t))
   row_dotted_refuses t f p e h =
-      let whole = sym (ap (λ (x : Trees Identifier). after p.holes (row_holes (row_of mark x (dotted t) (tail_of mark (dotted t)) inner first))) e) ∙ p.whole in
-      row_refused work f (row_of mark ts (dotted t) (tail_of mark (dotted t)) level element)
-      (subst (Refuses work f) whole (refuses_after work f p.holes _ (holes_refused work f _ (refuses_then work f (pieces_of mark t inner false) (λ q. Ok (row_pieces no_trees (dotted q.datum) q.holes)) h))))
+      let whole = ap (λ (s : Result (RowPieces Identifier) (Fault Identifier)). after p.holes (row_holes s)) (sym (row_end mark inner first (dotted t))) ∙ sym (ap (λ (x : Trees Identifier). after p.holes (row_holes (row_as mark inner first x (dotted t)))) e) ∙ p.whole in
+      row_refused work f (row_as mark level element ts (dotted t))
+      (subst (Refuses work f) whole (refuses_after work f p.holes _ (holes_refused work f _ (refuses_then work f (datum_as mark inner false t) (λ q. Ok (row_pieces no_trees (dotted q.datum) q.holes)) h))))
 
   -- a row to its end, by what its tail is
   pub row_none : (tail : Tail Identifier) → RowUpTo work old now mark ts tail level element k inner first → tail ≡ proper → behind k ts ≡ no_trees →
-      (r : RowPieces Identifier) × (row_of mark ts tail (tail_of mark tail) level element ≡ Ok r) × Traces work old now (row_trace r)
+      (r : RowPieces Identifier) × (row_as mark level element ts tail ≡ Ok r) × Traces work old now (row_trace r)
   row_none proper p g e = row_proper p e
   row_none (dotted t) p g e = absurd cc
 
-  dotted_ends : (t : Tree Identifier) (then : Found) → RowUpTo work old now mark ts (dotted t) level element k inner first → behind k ts ≡ no_trees → (r : Result (Unit {0}) CoreFault) → AddsPieces work now then (pieces_of mark t inner false) r →
-      AddsRow work old then (row_of mark ts (dotted t) (tail_of mark (dotted t)) level element) r
+  dotted_ends : (t : Tree Identifier) (then : Found) → RowUpTo work old now mark ts (dotted t) level element k inner first → behind k ts ≡ no_trees → (r : Result (Unit {0}) CoreFault) → AddsPieces work now then (datum_as mark inner false t) r →
+      AddsRow work old then (row_as mark level element ts (dotted t)) r
   dotted_ends t then p e (Ok x) h = row_dotted t then p e h.0 h.1 h.2
   dotted_ends t then p e (Err f) h = row_dotted_refuses t f p e h
 
   pub row_some : (tail : Tail Identifier) (t : Tree Identifier) (then : Found) → tail ≡ dotted t → RowUpTo work old now mark ts tail level element k inner first → behind k ts ≡ no_trees → (r : Result (Unit {0}) CoreFault) →
-      AddsPieces work now then (pieces_of mark t inner false) r → AddsRow work old then (row_of mark ts tail (tail_of mark tail) level element) r
+      AddsPieces work now then (datum_as mark inner false t) r → AddsRow work old then (row_as mark level element ts tail) r
   row_some tail t then g p e r h =
-      subst (λ (x : Tail Identifier). AddsRow work old then (row_of mark ts x (tail_of mark x) level element) r) (sym g)
+      subst (λ (x : Tail Identifier). AddsRow work old then (row_as mark level element ts x) r) (sym g)
       (dotted_ends t then (subst (λ (x : Tail Identifier). RowUpTo work old now mark ts x level element k inner first) g p) e r h)
 
 -- ---- the parts of a vector
@@ -349,39 +381,39 @@ module _ (work : Work) (old now : Found) (mark : Identifier → Option Mark) (ts
 pub record PartsUpTo (work : Work) (old now : Found) (mark : Identifier → Option Mark) (ts : Trees Identifier) (level k : ℕ) : Type 0 where
   pub holes : Trace
   pub adds : Traces work old now holes
-  pub whole : after holes (row_holes (parts_of mark (behind k ts) level)) ≡ row_holes (parts_of mark ts level)
+  pub whole : after holes (row_holes (elements_at mark level (behind k ts))) ≡ row_holes (elements_at mark level ts)
 
 pub parts_start : (work : Work) (old : Found) (mark : Identifier → Option Mark) (ts : Trees Identifier) (level : ℕ) → PartsUpTo work old old mark ts level 0
-parts_start work old mark ts level = record { holes = ([], []); adds = adds_none work old; whole = after_none (row_holes (parts_of mark ts level)) }
+parts_start work old mark ts level = record { holes = ([], []); adds = adds_none work old; whole = after_none (row_holes (elements_at mark level ts)) }
 
 module _ (work : Work) (old now : Found) (mark : Identifier → Option Mark) (ts : Trees Identifier) (level k : ℕ) (p : PartsUpTo work old now mark ts level k) where
-  pub parts_more : (then : Found) (t : Tree Identifier) → behind k ts ≡ tree t (behind (suc k) ts) → (q : Pieces Identifier) → pieces_of mark t level true ≡ Ok q → Traces work now then (piece_trace q) → PartsUpTo work old then mark ts level (suc k)
+  pub parts_more : (then : Found) (t : Tree Identifier) → behind k ts ≡ tree t (behind (suc k) ts) → (q : Pieces Identifier) → datum_as mark level true t ≡ Ok q → Traces work now then (piece_trace q) → PartsUpTo work old then mark ts level (suc k)
   parts_more then t split q e h =
       let us = behind (suc k) ts in
-      let i = ap (λ (x : Trees Identifier). parts_of mark x level) split ∙ ap (λ (x : Result (Pieces Identifier) (Fault Identifier)). x >> λ p. joined p (parts_of mark us level)) e in
+      let i = ap (λ (x : Trees Identifier). elements_at mark level x) split ∙ ap (λ (x : Result (Pieces Identifier) (Fault Identifier)). x >> λ p. joined p (elements_at mark level us)) e in
       record {
         holes = both p.holes (piece_trace q);
         adds = adds_both work old now then p.holes (piece_trace q) p.adds h;
-        whole = after_after p.holes (piece_trace q) (row_holes (parts_of mark us level)) ∙ ap (after p.holes) (sym (ap row_holes i ∙ joined_holes q (parts_of mark us level))) ∙ p.whole;
+        whole = after_after p.holes (piece_trace q) (row_holes (elements_at mark level us)) ∙ ap (after p.holes) (sym (ap row_holes i ∙ joined_holes q (elements_at mark level us))) ∙ p.whole;
       }
 
-  pub parts_refuse : (f : CoreFault) (t : Tree Identifier) → behind k ts ≡ tree t (behind (suc k) ts) → Refuses work f (pieces_of mark t level true) → Refuses work f (parts_of mark ts level)
+  pub parts_refuse : (f : CoreFault) (t : Tree Identifier) → behind k ts ≡ tree t (behind (suc k) ts) → Refuses work f (datum_as mark level true t) → Refuses work f (elements_at mark level ts)
   parts_refuse f t split h =
       let us = behind (suc k) ts in
-      let whole = sym (ap (λ (x : Trees Identifier). after p.holes (row_holes (parts_of mark x level))) split) ∙ p.whole in
-      row_refused work f (parts_of mark ts level)
-      (subst (Refuses work f) whole (refuses_after work f p.holes _ (holes_refused work f _ (refuses_then work f (pieces_of mark t level true) (λ p. joined p (parts_of mark us level)) h))))
+      let whole = sym (ap (λ (x : Trees Identifier). after p.holes (row_holes (elements_at mark level x))) split) ∙ p.whole in
+      row_refused work f (elements_at mark level ts)
+      (subst (Refuses work f) whole (refuses_after work f p.holes _ (holes_refused work f _ (refuses_then work f (datum_as mark level true t) (λ p. joined p (elements_at mark level us)) h))))
 
-  pub parts_all : behind k ts ≡ no_trees → (r : RowPieces Identifier) × (parts_of mark ts level ≡ Ok r) × Traces work old now (row_trace r)
+  pub parts_all : behind k ts ≡ no_trees → (r : RowPieces Identifier) × (elements_at mark level ts ≡ Ok r) × Traces work old now (row_trace r)
   parts_all e =
-      let whole = sym (ap (λ (x : Trees Identifier). after p.holes (row_holes (parts_of mark x level))) e) ∙ p.whole in
-      let g = row_had (parts_of mark ts level) p.holes (sym whole ∙ ap Ok (after_end p.holes)) in
+      let whole = sym (ap (λ (x : Trees Identifier). after p.holes (row_holes (elements_at mark level x))) e) ∙ p.whole in
+      let g = row_had (elements_at mark level ts) p.holes (sym whole ∙ ap Ok (after_end p.holes)) in
       (g.0, g.1, subst (Traces work old now) (sym g.2) p.adds)
 
 -- the parts of a vector have no tail
-pub parts_proper : (mark : Identifier → Option Mark) (ts : Trees Identifier) (level : ℕ) (r : RowPieces Identifier) → parts_of mark ts level ≡ Ok r → r.tail ≡ proper
+pub parts_proper : (mark : Identifier → Option Mark) (ts : Trees Identifier) (level : ℕ) (r : RowPieces Identifier) → elements_at mark level ts ≡ Ok r → r.tail ≡ proper
 parts_proper mark no_trees level r e = cc
-parts_proper mark (tree t ts) level r e = by (pieces_of mark t level true) (parts_of mark ts level) (parts_proper mark ts level) e
+parts_proper mark (tree t ts) level r e = by (datum_as mark level true t) (elements_at mark level ts) (parts_proper mark ts level) e
   where
     by : (a : Result (Pieces Identifier) (Fault Identifier)) (b : Result (RowPieces Identifier) (Fault Identifier)) → ((q : RowPieces Identifier) → b ≡ Ok q → q.tail ≡ proper) → (a >> λ p. joined p b) ≡ Ok r → r.tail ≡ proper
     by (Ok p) (Ok q) f e = let h = f q refl in let g : before p q ≡ r = cc in ap (λ (x : RowPieces Identifier). x.tail) (sym g) ∙ h

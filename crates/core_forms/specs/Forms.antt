@@ -4,7 +4,7 @@ use Rattle.std.specs.Prelude.{ℕ, List, [], ◌∷◌, Bool, true, false, Resul
 use Rattle.scheme_model.specs.Trees.{Tree, name, atom, list, vector, Trees, no_trees, tree, Tail}
 use Rattle.scheme_model.specs.ExpansionFaults.{Named, Fault, BadForm, BadPlace, ◌>>◌}
 use Rattle.scheme_model.specs.Keywords.{CoreKeyword, IsQuote, IsQuasiquote, IsLambda, IsCaseLambda, IsIf, IsSet, IsBegin, IsDefine, IsDefineValues, IsDefineRecordType, IsDefineSyntax, IsLetSyntax, IsLetrecSyntax, IsCondExpand, IsSyntaxError, IsInclude}
-use Rattle.scheme_model.specs.Shapes.{Formals, Clause, DefinitionShape, RecordShape, LocalMacros, first_of, list_of, one_of, some_of, proper_of, if_of, lambda_of, case_lambda_of, named_tree_of, error_text_of, definition_of, values_of, record_of, local_macros_of}
+use Rattle.scheme_model.specs.Shapes.{Formals, Clause, DefinitionShape, RecordShape, LocalMacros, first_of, list_of, one_of, some_of, proper_of, if_of, lambda_of, case_lambda_of, named_tree_of, syntax_of, error_text_of, definition_of, values_of, record_of, local_macros_of}
 use Rattle.scheme_model.specs.Quasiquote.{Mark, Pieces, quasi_of}
 use Rattle.scheme_model.specs.Ident.{Ident as Identifier, same_ident}
 
@@ -63,7 +63,7 @@ shape_of IsBegin expression mark ts tail = sequence_of expression ts tail >> λ 
 shape_of IsDefine expression mark ts tail = definition_of same_ident ts tail >> λ d. unless_expression expression (Definition d)
 shape_of IsDefineValues expression mark ts tail = values_of same_ident ts tail >> λ d. unless_expression expression (Several d)
 shape_of IsDefineRecordType expression mark ts tail = record_shape_of expression ts tail
-shape_of IsDefineSyntax expression mark ts tail = named_tree_of ts tail >> λ p. unless_expression expression (Syntax p)
+shape_of IsDefineSyntax expression mark ts tail = syntax_of ts tail >> λ p. unless_expression expression (Syntax p)
 shape_of IsLetSyntax expression mark ts tail = local_macros_of same_ident ts tail >> λ m. Ok (Local m)
 shape_of IsLetrecSyntax expression mark ts tail = local_macros_of same_ident ts tail >> λ m. Ok (Local m)
 shape_of IsCondExpand expression mark ts tail = some_of ts tail >> choices_in >> λ cs. Ok (Choices cs)

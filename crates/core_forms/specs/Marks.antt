@@ -1,9 +1,11 @@
 -- The marks of a quasiquotation by number, and what is gone through of its datum (R7RS 4.2.8).
-use Rattle.std.specs.Prelude.{◌≡◌, ℕ, zero, suc, ◌+◌, ◌^◌, ◌<◌, ◌≤◌, List, [], ◌∷◌, ◌++◌, Bool, true, false, nat_eq, Option, Some, None, if◌then◌else◌}
+use Rattle.std.specs.Prelude.{◌≡◌, ℕ, zero, suc, ◌+◌, ◌^◌, ◌<◌, ◌≤◌, List, [], ◌∷◌, ◌++◌, Bool, true, false, nat_eq, Option, Some, None, Result, if◌then◌else◌}
 use Rattle.std.specs.BTreeMap.{BTreeMap, get}
 use Rattle.std.specs.Ordering.{nat_cmp}
 use Rattle.scheme_model.specs.Trees.{Tree, name, atom, list, vector, Trees, no_trees, tree, Tail, proper, dotted}
-use Rattle.scheme_model.specs.Quasiquote.{Mark, Nested, Unquoted, Spliced}
+use Rattle.scheme_model.specs.ExpansionFaults.{Fault}
+use Rattle.scheme_model.specs.Shapes.{one_of}
+use Rattle.scheme_model.specs.Quasiquote.{Mark, Nested, Unquoted, Spliced, Pieces, RowPieces, mark_in, hole_behind, is_splice, element_by, datum_at, pair_at, tail_at}
 use Rattle.scheme_model.specs.Measures.{tree_size, trees_size, tail_size, tree_depth, trees_depth, tail_depth}
 use Rattle.scheme_model.specs.Ident.{Ident as Identifier}
 use Rattle.syntax_tree.specs.Looks.{PartsStand, EndStands}
@@ -82,12 +84,16 @@ pub record CanFindRow (work : Work) (ns : List number.Tree) (end : Option number
   pub tail_deep : tail_depth tail ≤ left
   pub small : level + trees_size parts + tail_size tail < 2 ^ 32
 
--- what a tree marks, where it is an identifier
-abbrev pub mark_of_tree : (Identifier → Option Mark) → Tree Identifier → Option Mark
-mark_of_tree mark (name i o) = mark i
-mark_of_tree mark (atom a o) = None
-mark_of_tree mark (list ts tail o) = None
-mark_of_tree mark (vector ts o) = None
+-- a datum, which may be a splice where it is an element
+abbrev pub datum_as : (Identifier → Option Mark) → ℕ → Bool → Tree Identifier → Result (Pieces Identifier) (Fault Identifier)
+datum_as mark level true t = element_by mark level t (datum_at mark level t)
+datum_as mark level false t = datum_at mark level t
+
+-- a list of these parts and this tail, which may be a splice where it is an element
+abbrev pub row_as : (Identifier → Option Mark) → ℕ → Bool → Trees Identifier → Tail Identifier → Result (RowPieces Identifier) (Fault Identifier)
+row_as mark level false ts tail = pair_at mark level ts tail (tail_at mark tail)
+row_as mark level true no_trees tail = tail_at mark tail level
+row_as mark level true (tree t ts) tail = if is_splice (mark_in mark t) level then hole_behind t (one_of ts tail) else pair_at mark level (tree t ts) tail (tail_at mark tail)
 
 -- what a part of a list asks for, by what it marks
 abbrev pub step_by : Option Mark → ℕ → Bool → Step

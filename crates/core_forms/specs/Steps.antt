@@ -2,7 +2,7 @@
 use Rattle.std.specs.Prelude.{List, map, Result, Ok, Err, if◌then◌else◌}
 use Rattle.scheme_model.specs.Trees.{Tree, Trees, Tail}
 use Rattle.scheme_model.specs.ExpansionFaults.{Named, Fault, BadForm, ◌>>◌}
-use Rattle.scheme_model.specs.Shapes.{Clause, FieldShape, RecordShape, DefinitionShape, Variable, clause_in, list_of, proper_of, first_of, some_of, name_of, names_of, field_with, named_tree_of, constructor_of, fields_of, distinct, all_among}
+use Rattle.scheme_model.specs.Shapes.{Clause, FieldShape, RecordShape, DefinitionShape, Variable, clause_in, list_of, proper_of, first_of, some_of, name_of, names_of, field_with, named_tree_of, syntax_of, constructor_of, fields_of, distinct, all_among}
 use Rattle.core_forms.specs.Forms.{each_of, choices_in}
 use Rattle.scheme_model.specs.Ident.{Ident as Identifier, same_ident}
 
@@ -20,7 +20,7 @@ uses_of ts tail = proper_of ts tail >> λ us. first_of us >> λ p. name_of p.0 >
 
 -- a local macro's name and rules
 abbrev pub binding_of : Tree Identifier → Result (Named Identifier × Tree Identifier) (Fault Identifier)
-binding_of t = list_of t >> λ p. named_tree_of p.0 p.1
+binding_of t = list_of t >> λ p. syntax_of p.0 p.1
 
 -- the definition of a variable, whose name stands first
 abbrev pub variable_of : Trees Identifier → Tail Identifier → Result (DefinitionShape Identifier) (Fault Identifier)

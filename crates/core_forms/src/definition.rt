@@ -1,7 +1,7 @@
 //! Definitions (R7RS 5.3): of a variable, of a procedure, of several names, of a macro; and `set!`, which has the same shape.
 ghost use Rattle.std.specs.Prelude.{IfOk};
 ghost use Rattle.scheme_model.specs.Trees.{Tree as ModelTree, Trees, Tail};
-ghost use Rattle.scheme_model.specs.Shapes.{named_tree_of, definition_of, procedure_of, values_of};
+ghost use Rattle.scheme_model.specs.Shapes.{named_tree_of, syntax_of, definition_of, procedure_of, values_of};
 ghost use Rattle.scheme_model.specs.Ident.{Ident as Identifier, same_ident};
 ghost use Rattle.syntax_tree.specs.Looks.{PartsStand, EndStands, AreStanding, EndIsStanding, AllNamed};
 ghost use Rattle.syntax_tree.specs.Works.{StandsFor, IsStanding};
@@ -19,7 +19,7 @@ use std::alloc::Global;
 use syntax_tree::look::{Look, look_at};
 use syntax_tree::trees::{Tree, Work};
 
-/// A name and a tree, as `set!` and `define-syntax` have them.
+/// A name and a tree, as `set!` has them.
 pub fn named_tree_of(
     work: &Work,
     items: &[Tree],
@@ -37,6 +37,23 @@ pub fn named_tree_of(
             let rules = one_of(work, rest, end)?;
             Ok(LocalMacro { name, rules })
         }
+    }
+}
+
+/// A macro's name and its rules, which are a list.
+pub fn syntax_of(work: &Work, items: &[Tree], end: Option<Tree>) -> Result<LocalMacro, CoreFault>
+    requires parts { AreStanding work.now items.now }
+    requires tail { EndIsStanding work.now end }
+    ensures read { (ts : Trees Identifier) (tail : Tail Identifier) → PartsStand work.now items.now ts → EndStands work.now end tail →
+        Ends work.now (IsMacro work.now) (syntax_of ts tail) result }
+    ensures named { (region : Region) → AllNamed work.now region items.now → IfOk result (MacroNamed work.now region) }
+{
+    let named = named_tree_of(work, items, end)?;
+    match look_at(work, named.rules) {
+        Look::List(_, _) => Ok(named),
+        Look::Name(_) => Err(CoreFault::BadForm),
+        Look::Atom(_) => Err(CoreFault::BadForm),
+        Look::Vector(_) => Err(CoreFault::BadForm),
     }
 }
 

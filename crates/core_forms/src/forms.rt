@@ -5,7 +5,7 @@ ghost use Rattle.scheme_model.specs.Keywords.{CoreKeyword as ModelKeyword, IsQua
 ghost use Rattle.scheme_model.specs.Quasiquote.{Mark};
 ghost use Rattle.scheme_model.specs.Ident.{Ident as Identifier};
 ghost use Rattle.syntax_tree.specs.Looks.{PartsStand, EndStands, AreStanding, EndIsStanding, AllNamed};
-ghost use Rattle.scheme_model.specs.Shapes.{named_tree_of};
+ghost use Rattle.scheme_model.specs.Shapes.{syntax_of};
 ghost use Rattle.core_forms.specs.Forms.{shape_of};
 ghost use Rattle.core_forms.specs.Marks.{AreMarks};
 ghost use Rattle.core_forms.specs.Ends.{keyword_as, Ends, ShapeFor, IsSyntax};
@@ -14,7 +14,7 @@ ghost use Rattle.core_forms.specs.Named.{ShapeNamed};
 ghost use Rattle.syntax_tree.specs.declared.trees.table.Region.{Region};
 
 use crate::conditional::{cond_expand_of, error_text_of, if_of};
-use crate::definition::{definition_of, named_tree_of, values_of};
+use crate::definition::{definition_of, named_tree_of, syntax_of, values_of};
 use crate::fault::CoreFault;
 use crate::local_macros::local_macros_of;
 use crate::procedure::{case_lambda_of, lambda_of};
@@ -153,12 +153,13 @@ fn sequence(
 
 /// `(define-syntax id rules)`.
 fn define_syntax(work: &Work, items: &[Tree], end: Option<Tree>) -> Result<CoreShape, CoreFault>
-    requires { AreStanding work.now items.now }
+    requires parts { AreStanding work.now items.now }
+    requires tail { EndIsStanding work.now end }
     ensures read { (ts : Trees Identifier) (tail : Tail Identifier) → PartsStand work.now items.now ts → EndStands work.now end tail →
-        Ends work.now (IsSyntax work.now) (named_tree_of ts tail) result }
+        Ends work.now (IsSyntax work.now) (syntax_of ts tail) result }
     ensures named { (region : Region) → AllNamed work.now region items.now → IfOk result (ShapeNamed work.now region) }
 {
-    let named = named_tree_of(work, items, end)?;
+    let named = syntax_of(work, items, end)?;
     Ok(CoreShape::DefineSyntax {
         name: named.name,
         rules: named.rules,

@@ -11,7 +11,7 @@ ghost use Rattle.core_forms.specs.Ends.{Ends, IsLocal};
 ghost use Rattle.core_forms.specs.Named.{MacroNamed, MacrosNamed, ShapeNamed};
 ghost use Rattle.syntax_tree.specs.declared.trees.table.Region.{Region};
 
-use crate::definition::named_tree_of;
+use crate::definition::syntax_of;
 use crate::fault::CoreFault;
 use crate::names::distinct;
 use crate::rows::{Row, row_of, some_of};
@@ -85,7 +85,7 @@ fn binding_of(work: &Work, tree: Tree) -> Result<LocalMacro, CoreFault>
     ensures named { (region : Region) → CanName work.now region tree → IfOk result (MacroNamed work.now region) }
 {
     match look_at(work, tree) {
-        Look::List(items, end) => named_tree_of(work, items, end),
+        Look::List(items, end) => syntax_of(work, items, end),
         Look::Name(_) => Err(CoreFault::BadForm),
         Look::Atom(_) => Err(CoreFault::BadForm),
         Look::Vector(_) => Err(CoreFault::BadForm),

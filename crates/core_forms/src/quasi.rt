@@ -1,18 +1,18 @@
-//! Quasiquoted data (R7RS 4.2.8): what is unquoted in them at the outermost level. A mark's form is the rest of the list from the
-//! mark on.
+//! Quasiquoted data (R7RS 4.2.8): what is unquoted in them at the outermost level. A list is its first datum and the rest, so
+//! `(a unquote b)` is `(a . ,b)`.
 ghost use Rattle.std.specs.Prelude.{◌≡◌, ℕ, ◌+◌, ◌^◌, ◌<◌, ◌≤◌, length, Option, IfOk, OnOk};
 ghost use Rattle.std.specs.BTreeMap.{get};
 ghost use Rattle.std.specs.Ordering.{nat_cmp};
 ghost use Rattle.scheme_model.specs.declared.Occ.{Occ};
-ghost use Rattle.scheme_model.specs.Trees.{Tree as ModelTree, Trees, Tail};
+ghost use Rattle.scheme_model.specs.Trees.{Tree as ModelTree, name, Trees, Tail};
 ghost use Rattle.scheme_model.specs.Measures.{tree_size, trees_size, tail_size};
 ghost use Rattle.scheme_model.specs.Shapes.{one_of};
 ghost use Rattle.scheme_model.specs.Matching.{behind};
-ghost use Rattle.scheme_model.specs.Quasiquote.{Mark, hole_of, pieces_of, row_of, parts_of, tail_of, quasi_of};
+ghost use Rattle.scheme_model.specs.Quasiquote.{Mark, mark_in, hole_behind, elements_at, quasi_of};
 ghost use Rattle.scheme_model.specs.Ident.{Ident as Identifier};
 ghost use Rattle.syntax_tree.specs.Looks.{PartsStand, EndStands, AllNamed, EndNamed};
 ghost use Rattle.syntax_tree.specs.Works.{StandsFor, IsStanding, CanName};
-ghost use Rattle.core_forms.specs.Marks.{kind_of, kind_if_any, mark_as, mark_of_tree, step_by, IsNear, keyword_by_number, AreMarks, TellsMarks, CanFind, CanFindParts, CanFindRow};
+ghost use Rattle.core_forms.specs.Marks.{kind_of, kind_if_any, mark_as, datum_as, row_as, step_by, IsNear, keyword_by_number, AreMarks, TellsMarks, CanFind, CanFindParts, CanFindRow};
 ghost use Rattle.core_forms.specs.Ends.{Ends, HasHoles, AddsPieces, AddsRow};
 ghost use Rattle.core_forms.specs.Named.{TreesNamed};
 ghost use Rattle.syntax_tree.specs.declared.trees.table.Region.{Region};
@@ -103,7 +103,7 @@ fn find(
     requires level { CanFind work.now tree level left }
     requires passed { CanFind work.now tree found.old.passed left }
     ensures read { (mark : Identifier → Option Mark) (t : ModelTree Identifier) → TellsMarks work.now told.now mark → StandsFor work.now tree t →
-        AddsPieces work.now found.old found.new (pieces_of mark t level element) result }
+        AddsPieces work.now found.old found.new (datum_as mark level element t) result }
     ensures named { (region : Region) → CanName work.now region tree → AllNamed work.now region found.old.trees.items →
         OnOk result (AllNamed work.now region found.new.trees.items) }
     ensures bounded { (t : ModelTree Identifier) → StandsFor work.now tree t →
@@ -127,7 +127,7 @@ fn find(
     }
 }
 
-/// Adds what is unquoted in the parts of a vector.
+/// Adds what is unquoted in the elements of a vector.
 #[cycle(quasi)]
 fn find_parts(
     work: &Work,
@@ -140,7 +140,7 @@ fn find_parts(
     requires level { CanFindParts work.now items.now level left }
     requires passed { CanFindParts work.now items.now found.old.passed left }
     ensures read { (mark : Identifier → Option Mark) (ts : Trees Identifier) → TellsMarks work.now told.now mark → PartsStand work.now items.now ts →
-        AddsRow work.now found.old found.new (parts_of mark ts level) result }
+        AddsRow work.now found.old found.new (elements_at mark level ts) result }
     ensures named { (region : Region) → AllNamed work.now region items.now → AllNamed work.now region found.old.trees.items →
         OnOk result (AllNamed work.now region found.new.trees.items) }
     ensures bounded { (ts : Trees Identifier) → PartsStand work.now items.now ts →
@@ -168,7 +168,7 @@ fn find_row(
     requires passed { CanFindRow work.now items.now end found.old.passed left }
     ensures read { (mark : Identifier → Option Mark) (ts : Trees Identifier) (tail : Tail Identifier) → TellsMarks work.now told.now mark →
         PartsStand work.now items.now ts → EndStands work.now end tail →
-        AddsRow work.now found.old found.new (row_of mark ts tail (tail_of mark tail) level element) result }
+        AddsRow work.now found.old found.new (row_as mark level element ts tail) result }
     ensures named { (region : Region) → AllNamed work.now region items.now → EndNamed work.now region end → AllNamed work.now region found.old.trees.items →
         OnOk result (AllNamed work.now region found.new.trees.items) }
     ensures bounded { (ts : Trees Identifier) (tail : Tail Identifier) → PartsStand work.now items.now ts → EndStands work.now end tail →
@@ -206,7 +206,7 @@ fn hole_at(
     requires passed { found.old.passed + 1 < 2 ^ 32 }
     ensures read { (i : Identifier) (o : Option Occ) (ts : Trees Identifier) (tail : Tail Identifier) → PartsStand work.now items.now ts →
         EndStands work.now end tail →
-        AddsRow work.now found.old found.new (hole_of i o (one_of (behind at ts) tail)) result }
+        AddsRow work.now found.old found.new (hole_behind (name i o) (one_of (behind at ts) tail)) result }
     ensures named { (region : Region) → AllNamed work.now region items.now → AllNamed work.now region found.old.trees.items →
         OnOk result (AllNamed work.now region found.new.trees.items) }
     ensures bounded { OnOk result (found.new.passed ≤ found.old.passed + 1) }
@@ -237,7 +237,7 @@ fn step_of(
     requires small { level + 1 < 2 ^ 32 }
     ensures near { IsNear level result }
     ensures value { (mark : Identifier → Option Mark) (t : ModelTree Identifier) → TellsMarks work.now told.now mark → StandsFor work.now tree t →
-        result ≡ step_by (mark_of_tree mark t) level element }
+        result ≡ step_by (mark_in mark t) level element }
 {
     match mark_of(work, told, tree) {
         None => Step::Into,
@@ -265,7 +265,7 @@ fn step_of(
 fn mark_of(work: &Work, told: &BTreeMap<IdNo, CoreKeyword>, tree: Tree) -> Option<MarkKind>
     requires { IsStanding work.now tree }
     ensures { (mark : Identifier → Option Mark) (t : ModelTree Identifier) → TellsMarks work.now told.now mark → StandsFor work.now tree t →
-        mark_as result ≡ mark_of_tree mark t }
+        mark_as result ≡ mark_in mark t }
 {
     match look_at(work, tree) {
         Look::Name(id) => kind_at(told, id),

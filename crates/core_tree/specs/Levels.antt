@@ -1,6 +1,6 @@
 -- What the binders of cores bind: those of a unit's own parts are its definitions, all others locals.
 use Rattle.std.specs.Prelude.{List, [], ◌∷◌, Bool, true, false}
-use Rattle.scheme_model.specs.Cores.{Bound, LocalNumber, Definition, Binder, Binders, MacroDef, Core, Ref, Const, Quote, Quasi, Lambda, CaseLambda, If, Set, Call, Body, LetSyntax, Cores, no_cores, core, Clauses, no_clauses, clause, Parts, no_parts, part, Part, Expression, Define, Values, Fields, Syntax}
+use Rattle.scheme_model.specs.Cores.{Bound, LocalNumber, Definition, Binder, MacroDef, Core, Ref, Const, Quote, Quasi, Lambda, CaseLambda, If, Set, Call, Body, LetSyntax, Cores, no_cores, core, Clauses, no_clauses, clause, Parts, no_parts, part, Part, Expression, Define, Values, Fields, Syntax}
 
 -- it binds a local, or a definition of the unit
 abbrev pub BindsAs : (local : Bool) → Bound → Type 0

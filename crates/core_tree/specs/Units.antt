@@ -1,6 +1,7 @@
 -- What the units and the program of the code stand for: for each unit what the definition's program has of it.
 use Rattle.std.specs.Prelude.{◌≡◌, ◌⊎◌, ◌↔◌, ℕ, suc, ◌<◌, nat_le, List, [], ◌∷◌, ◌++◌, map, filter, reverse, length, ◌==◌, Bool, true, false, Option, Some, None, Result, Ok, Err, slice_get, if◌then◌else◌}
-use Rattle.std.specs.List.{Contains, zip}
+use Rattle.std.specs.List.{Contains, zip, flat_map}
+use Rattle.scheme_model.specs.declared.Occ.{Occ}
 use Rattle.scheme_model.specs.Ident.{Written}
 use Rattle.scheme_model.specs.ExpansionFaults.{fault_code}
 use Rattle.scheme_model.specs.Cores.{Parts}
@@ -13,6 +14,7 @@ use Rattle.scheme_model.specs.Entries.{Entry, ImportFault, NotThere, Clash, BadS
 use Rattle.scheme_model.specs.Declarations.{UnitForm, UnitKind, IsLibrary, IsProgram}
 use Rattle.scheme_model.specs.Program.{Placed, Prepared, ExportSpec, WholeFault, whole_code, SetResult, Unknown, Faulty, Gives, ExportFault, NotDefined, SameExport, UnitResult, Program, specs_in, has_name, names_of_unit, max_units}
 use Rattle.scheme_model.specs.Live.{NameUse}
+use Rattle.scheme_model.specs.Spelling.{second_places}
 use Rattle.scheme_model.specs.ProgramArrows.{program_table, unit_names}
 use Rattle.syntax_tree.specs.Names.{Names}
 use Rattle.syntax_tree.specs.Macros.{IsIdent}
@@ -115,6 +117,10 @@ abbrev pub unless_broken : {A : Type 0} → Option WholeFault → List A → Lis
 unless_broken None xs = xs
 unless_broken (Some f) xs = []
 
+-- the places of the second identifiers of the pairs that a unit's imports rename by
+abbrev pub seconds_of : UnitResult → List Occ
+seconds_of r = unless_broken r.fault (flat_map (λ s. second_places s.set) r.unit.specs)
+
 -- the external names of what a unit exports
 abbrev pub externals : Table → UnitResult → List ExportSpec
 externals table r = unless_broken r.fault (given_exports (names_of_unit table r.unit.number r.entries) [] r.unit.exports)
@@ -196,6 +202,7 @@ pub record UnitStands (work : Work) (text : LibraryName → List ℕ) (uris : Li
   pub definitions : AreDefinitions work.symbols (reverse (definitions_from 0 c.forms)) (defined_by place (program_table p))
   pub imports : c.imports ≡ imports_of r.unit
   pub names : AreNames work.symbols place c.names (unit_names all p r) (externals p.table r)
+  pub seconds : c.seconds ≡ seconds_of r
   pub entries : AreEntries work.symbols c.entries r.entries
   pub exports : AreEntries work.symbols c.exports r.exports
   pub errors : map error_as c.errors ≡ unit_errors r

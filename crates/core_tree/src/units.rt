@@ -2,6 +2,7 @@
 use crate::cores::{CorePart, Target};
 use crate::traces::{FormFault, Trace};
 use ls_base::{Items, Text};
+use scheme_model::Occ;
 use syntax_tree::units::{Entry, Origin, UnitKind};
 
 /// A part of a unit, and the nodes that its expansion counted.
@@ -34,8 +35,8 @@ pub struct UnitError {
 }
 
 /// A unit: its document, its kind, a library's name, its forms, the places of the units whose libraries it imports, the
-/// identifiers of its imports and exports, what it imports and exports, and its Errors. The last names are the external names of
-/// its exports, in their order.
+/// identifiers of its imports and exports, the second identifiers of the pairs that its imports rename by, what it imports and
+/// exports, and its Errors. The last names are the external names of its exports, in their order.
 #[derive(Drop)]
 pub struct Unit {
     pub uri: Text,
@@ -44,6 +45,7 @@ pub struct Unit {
     pub forms: Items<UnitForm>,
     pub imports: Items<u32>,
     pub names: Items<NameUse>,
+    pub seconds: Items<Occ>,
     pub entries: Items<Entry>,
     pub exports: Items<Entry>,
     pub errors: Items<UnitError>,

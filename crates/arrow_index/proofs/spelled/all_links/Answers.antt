@@ -1,15 +1,18 @@
-use Rattle.std.proofs.Common.{◌≡◌, ◌++◌, List, [], map, sym, ap, ◌∙◌, subst}
+use Rattle.std.proofs.Common.{◌≡◌, ◌↔◌, ◌++◌, List, [], map, sym, ap, ◌∙◌, subst, append_assoc}
+use Rattle.scheme_model.specs.declared.Occ.{Occ}
 use Rattle.scheme_model.specs.ProgramArrows.{core_targets, is_live_at, binders_in, program_leaves, program_keywords, program_names, program_table}
-use Rattle.scheme_model.specs.Spelling.{Link, target_links, name_links, links_to_themselves, macro_links}
+use Rattle.scheme_model.specs.Spelling.{Link, target_links, name_links, links_to_themselves, macro_links, second_places_in}
 use Rattle.core_tree.specs.Names.{AllMatch}
 use Rattle.core_tree.specs.declared.units.Unit.{Unit as CodeUnit}
 use Rattle.arrow_index.specs.declared.sight.PlacedLeaf.{PlacedLeaf}
 use Rattle.arrow_index.specs.declared.sight.PlacedTarget.{PlacedTarget}
 use Rattle.arrow_index.specs.Placed.{placed_of, use_of, AreAllSeen, IsUseOf}
-use Rattle.arrow_index.specs.Sights.{IsNameOf, all_names}
+use Rattle.arrow_index.specs.Members.{IsIn}
+use Rattle.arrow_index.specs.Sights.{IsNameOf, all_names, all_seconds}
 use Rattle.arrow_index.proofs.ToldLaws.{names_told}
 use Rattle.arrow_index.specs.Links.{as_link}
-use Rattle.arrow_index.proofs.SpelledLaws.{links_law}
+use Rattle.arrow_index.proofs.LinkLaws.{themselves-append}
+use Rattle.arrow_index.proofs.SpelledLaws.{links_law, seconds_told, same_before}
 use Rattle.arrow_index.proofs.spelled.all_links.Goals as goal
 
 pub link_uses-requires-clause-leaves : goal.link_uses-requires-clause-leaves
@@ -40,7 +43,7 @@ pub link_macros-requires-clause-leaves : goal.link_macros-requires-clause-leaves
 link_macros-requires-clause-leaves c =
     let q = c.requires in
     let ls = program_leaves q.3.units in
-    (ls, subst (λ (xs : List PlacedLeaf). AreAllSeen c.args.work.now (map placed_of xs) ls) (sym c.as_slice-4.ensures.value) q.5.leaves_are)
+    (ls, subst (λ (xs : List PlacedLeaf). AreAllSeen c.args.work.now (map placed_of xs) ls) (sym c.as_slice-5.ensures.value) q.5.leaves_are)
 
 pub link_macros-requires-clause-entries : goal.link_macros-requires-clause-entries
 link_macros-requires-clause-entries c = let q = c.requires in (q.3.units, c.in_ok-entries.ensures c.args.work.now q.0 q.1 q.2 q.3 q.4)
@@ -60,15 +63,21 @@ returns c = λ text uris all p h sees are l.
     let seen = subst (λ (xs : List PlacedLeaf). AreAllSeen w (map placed_of xs) ls) (sym c.as_slice.ensures.value) sees.leaves_are in
     let uses = subst (λ (xs : List PlacedTarget). AllMatch (IsUseOf w) (map use_of xs) met.told) (sym c.as_slice-2.ensures.value) met.match in
     let named = subst (λ (xs : List CodeUnit). AllMatch (IsNameOf w) (all_names xs) found.told) (sym c.as_slice-3.ensures) found.match in
-    let again = subst (λ (xs : List PlacedLeaf). AreAllSeen w (map placed_of xs) ls) (sym c.as_slice-4.ensures.value) sees.leaves_are in
+    let again = subst (λ (xs : List PlacedLeaf). AreAllSeen w (map placed_of xs) ls) (sym c.as_slice-5.ensures.value) sees.leaves_are in
     let none : map as_link c.new-links.result.items ≡ [] = ap (map as_link) c.new-links.ensures.items in
     let A = target_links ls table rs (core_targets ls) in
     let B = target_links ls table rs met.told in
     let C = name_links found.told in
+    let S = all_seconds c.args.program.now.units in
+    let places = c.args.binders.now ++ S in
     let D = links_to_themselves c.args.binders.now in
+    let E = links_to_themselves S in
     let one = c.in_ok-link_uses.ensures ls ks ms table rs ls sees gives seen ∙ ap (λ (q : List Link). q ++ A) none in
     let two = c.in_ok-link_targets.ensures ls ks ms table rs met.told sees gives uses ∙ ap (λ (q : List Link). q ++ B) one in
     let three = c.in_ok-link_all_names.ensures found.told named ∙ ap (λ (q : List Link). q ++ C) two in
     let four = c.in_ok-link_themselves.ensures ∙ ap (λ (q : List Link). q ++ D) three in
-    let five = c.in_ok-link_macros.ensures ls ks ms table rs ls sees gives again ∙ ap (λ (q : List Link). q ++ macro_links live ls table rs ls) four in
-    links_law ls ks ms table rs (binders_in p) (map as_link c.link_macros.new.links.items) met.told found.told c.args.binders.now (λ x. (met.there x, met.back x)) (λ x. (found.there x, found.back x)) are five l
+    let more = c.in_ok-link_seconds.ensures ∙ ap (λ (us : List CodeUnit). map as_link c.link_themselves.new.links.items ++ links_to_themselves (all_seconds us)) c.as_slice-4.ensures in
+    let both = more ∙ ap (λ (q : List Link). q ++ E) four ∙ append_assoc ((A ++ B) ++ C) D E ∙ ap (λ (q : List Link). ((A ++ B) ++ C) ++ q) (sym (themselves-append c.args.binders.now S)) in
+    let five = c.in_ok-link_macros.ensures ls ks ms table rs ls sees gives again ∙ ap (λ (q : List Link). q ++ macro_links live ls table rs ls) both in
+    let these : (o : Occ) → IsIn o places ↔ IsIn o (binders_in p ++ second_places_in p.units) = same_before c.args.binders.now (binders_in p) S (second_places_in p.units) are (seconds_told w text uris all p 0 c.args.program.now.units p.units h) in
+    links_law ls ks ms table rs (binders_in p ++ second_places_in p.units) (map as_link c.link_macros.new.links.items) met.told found.told places (λ x. (met.there x, met.back x)) (λ x. (found.there x, found.back x)) these five l

@@ -1,7 +1,7 @@
 use Rattle.std.proofs.Common.{Bool, refl, ap, ◌∙◌, Ok}
 use Rattle.scheme_model.specs.ExpansionFaults.{◌>>◌}
 use Rattle.scheme_model.specs.Keywords.{CoreKeyword, IsQuote, IsQuasiquote, IsLambda, IsCaseLambda, IsIf, IsSet, IsBegin, IsDefine, IsDefineValues, IsDefineRecordType, IsDefineSyntax, IsLetSyntax, IsLetrecSyntax, IsCondExpand, IsSyntaxError, IsInclude}
-use Rattle.scheme_model.specs.Shapes.{one_of, lambda_of, case_lambda_of, if_of, definition_of, values_of, record_of, named_tree_of, local_macros_of, error_text_of}
+use Rattle.scheme_model.specs.Shapes.{one_of, lambda_of, case_lambda_of, if_of, definition_of, values_of, record_of, syntax_of, local_macros_of, error_text_of}
 use Rattle.scheme_model.specs.Ident.{same_ident}
 use Rattle.core_forms.specs.declared.shape.CoreKeyword.TheVariants as word
 use Rattle.core_forms.specs.Forms.{Quoted, Procedure, Procedures, Conditional, Definition, Several, RecordType, Syntax, Local, Choices, ErrorText, Inclusion, shape_of, unless_expression, record_shape_of}
@@ -88,7 +88,7 @@ returns-in_ok-define_syntax-in-DefineSyntax-clause-read c = λ k mark ts tail h 
     let at = ap (λ (m : CoreKeyword). shape_of m c.args.expression mark ts tail) (is_word c.args.keyword word.DefineSyntax k IsDefineSyntax c.in-DefineSyntax.is refl h) in
     let x = c.in_ok-define_syntax-in-DefineSyntax.ensures.read ts tail stands ends in
     ends_same w (ShapeFor w) (shape_of k c.args.expression mark ts tail) (unless_expression c.args.expression (Syntax x.0)) c.unless_expression-in-DefineSyntax.result
-    (at ∙ then_ok (named_tree_of ts tail) (λ x. unless_expression c.args.expression (Syntax x)) x.0 x.1)
+    (at ∙ then_ok (syntax_of ts tail) (λ x. unless_expression c.args.expression (Syntax x)) x.0 x.1)
     (unless_ends w c.args.expression _ (Syntax x.0) c.unless_expression-in-DefineSyntax.result c.unless_expression-in-DefineSyntax.ensures.misplaced c.unless_expression-in-DefineSyntax.ensures.whole x.2)
 
 pub returns-in-LetSyntax-clause-read : goal.returns-in-LetSyntax-clause-read

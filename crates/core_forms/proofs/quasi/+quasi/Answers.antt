@@ -1,19 +1,19 @@
 use Rattle.std.proofs.Common.{List, [], ◌∷◌, Some, Result, Ok, Err, ◌+◌, ◌≤◌, ℕ, suc, true, false, Bool, refl, sym, ap, ◌∙◌, subst, add-one, rules, arith}
-use Rattle.scheme_model.specs.Trees.{Tree, name, atom, list, vector, Tail}
+use Rattle.scheme_model.specs.Trees.{Tree, name, atom, vector, Tail}
 use Rattle.scheme_model.specs.ExpansionFaults.{Fault, ◌>>◌}
 use Rattle.scheme_model.specs.Shapes.{one_of}
 use Rattle.std.specs.Prelude.{is_some}
-use Rattle.scheme_model.specs.Quasiquote.{RowPieces, hole_of, pieces, pieces_of, row_of, parts_of, tail_of}
+use Rattle.scheme_model.specs.Quasiquote.{RowPieces, hole_behind, pieces, listed, elements_at}
 use Rattle.scheme_model.specs.Ident.{Ident as Identifier}
 use Rattle.scheme_model.specs.Matching.{behind}
 use Rattle.syntax_tree.proofs.Looking.{no_end, part_standing, part_there, behind_past, part_named}
 use Rattle.core_forms.specs.declared.fault.CoreFault.TheVariants as fault
 use Rattle.core_forms.specs.Ends.{Refuses}
 use Rattle.core_forms.proofs.Lists.{end_tree}
-use Rattle.core_forms.specs.Marks.{IsNear, AddsFound}
+use Rattle.core_forms.specs.Marks.{IsNear, AddsFound, datum_as, row_as}
 use Rattle.core_forms.specs.declared.quasi.Found.{Found}
 use Rattle.core_forms.proofs.Reading.{ends_err, refuses_then}
-use Rattle.core_forms.proofs.Holes.{parts_start, parts_more, parts_refuse, parts_all, adds_node, adds_both, row_trace, parts_proper, parts_nodes, on_ok, row_start, row_at, row_into, row_level, row_refuses, row_into_refuses, row_ends, row_none, row_some, hole_is, misplaced_is}
+use Rattle.core_forms.proofs.Holes.{listed_row, name_is, atom_is, list_is, vector_is, parts_start, parts_more, parts_refuse, parts_all, adds_node, adds_both, row_trace, parts_proper, parts_nodes, on_ok, row_start, row_at, row_into, row_level, row_refuses, row_into_refuses, row_ends, row_none, row_some, hole_is, misplaced_is}
 use Rattle.scheme_model.specs.Measures.{tail_size}
 use Rattle.core_forms.proofs.Finding.{can_positive, can_pass, into_row, into_parts, past_row, past_parts, part_of_parts, passed_part, parts_passed, part_of_row, room_at, Counted, counted_more, row_passed, mark_within, last_of_row}
 use Rattle.syntax_tree.specs.Looks.{AllNamed, EndNamed}
@@ -55,20 +55,21 @@ find-find_parts-requires t c =
 pub find-returns-in-Name-clause-read : goal.find-returns-in-Name-clause-read
 find-returns-in-Name-clause-read t c = λ mark u tells stands.
     let l = c.in-Name.ensures.look u stands in
-    (pieces (name (Some l.0) l.1) [], ap (λ (x : Tree Identifier). pieces_of mark x c.args.level c.args.element) l.2, adds_node c.args.work.now c.args.found.now _ refl refl refl)
+    (pieces (name (Some l.0) l.1) [], ap (λ (x : Tree Identifier). datum_as mark c.args.level c.args.element x) l.2 ∙ name_is mark c.args.level c.args.element l.0 l.1, adds_node c.args.work.now c.args.found.now _ refl refl refl)
 
 pub find-returns-in-Atom-clause-read : goal.find-returns-in-Atom-clause-read
 find-returns-in-Atom-clause-read t c = λ mark u tells stands.
     let l = c.in-Atom.ensures.look u stands in
-    (pieces (atom l.0 l.1) [], ap (λ (x : Tree Identifier). pieces_of mark x c.args.level c.args.element) l.2, adds_node c.args.work.now c.args.found.now _ refl refl refl)
+    (pieces (atom l.0 l.1) [], ap (λ (x : Tree Identifier). datum_as mark c.args.level c.args.element x) l.2 ∙ atom_is mark c.args.level c.args.element l.0 l.1, adds_node c.args.work.now c.args.found.now _ refl refl refl)
 
 pub find-returns-in_ok-find_row-in-List-clause-read : goal.find-returns-in_ok-find_row-in-List-clause-read
 find-returns-in_ok-find_row-in-List-clause-read t c = λ mark u tells stands.
     let l = c.in-List.ensures.look u stands in
     let r = c.in_ok-find_row-in-List.ensures.read mark l.0 l.1 tells l.4 l.5 in (
-      pieces (list r.0.parts r.0.tail l.2) r.0.holes,
-      ap (λ (x : Tree Identifier). pieces_of mark x c.args.level c.args.element) l.3
-          ∙ ap (λ (x : Result (RowPieces Identifier) (Fault Identifier)). x >> λ r. Ok (pieces (list r.parts r.tail l.2) r.holes)) r.1,
+      listed l.2 r.0,
+      ap (λ (x : Tree Identifier). datum_as mark c.args.level c.args.element x) l.3
+          ∙ list_is mark c.args.level c.args.element l.0 l.1 l.2
+          ∙ ap (listed_row l.2) r.1,
       adds_both c.args.work.now c.args.found.now _ c.find_row.new.found ([], true ∷ []) (row_trace r.0) (adds_node c.args.work.now c.args.found.now _ refl refl refl) r.2,
     )
 
@@ -77,21 +78,31 @@ find-returns-in_err-find_row-in-List-clause-read t c = λ mark u tells stands.
     let w = c.args.work.now in
     let l = c.in-List.ensures.look u stands in
     let e = c.in_err-find_row-in-List.field-0.0 in
-    let a = row_of mark l.0 l.1 (tail_of mark l.1) c.args.level c.args.element in
-    ends_err w _ (pieces_of mark u c.args.level c.args.element) c.from_residual.result e c.from_residual.ensures.1
-    (subst (Refuses w e) (sym (ap (λ (x : Tree Identifier). pieces_of mark x c.args.level c.args.element) l.3))
-    (refuses_then w e a (λ r. Ok (pieces (list r.parts r.tail l.2) r.holes)) (c.in_err-find_row-in-List.ensures.read mark l.0 l.1 tells l.4 l.5)))
+    let a = row_as mark c.args.level c.args.element l.0 l.1 in
+    ends_err w _ (datum_as mark c.args.level c.args.element u) c.from_residual.result e c.from_residual.ensures.1
+    (subst (Refuses w e) (sym (ap (λ (x : Tree Identifier). datum_as mark c.args.level c.args.element x) l.3 ∙ list_is mark c.args.level c.args.element l.0 l.1 l.2))
+    (refuses_then w e a (λ r. Ok (listed l.2 r)) (c.in_err-find_row-in-List.ensures.read mark l.0 l.1 tells l.4 l.5)))
 
 pub find-returns-in_ok-find_parts-in-Vector-clause-read : goal.find-returns-in_ok-find_parts-in-Vector-clause-read
 find-returns-in_ok-find_parts-in-Vector-clause-read t c = λ mark u tells stands.
     let l = c.in-Vector.ensures.look u stands in
     let r = c.in_ok-find_parts-in-Vector.ensures.read mark l.0 tells l.3 in (
       pieces (vector r.0.parts l.1) r.0.holes,
-      ap (λ (x : Tree Identifier). pieces_of mark x c.args.level c.args.element) l.2
+      ap (λ (x : Tree Identifier). datum_as mark c.args.level c.args.element x) l.2
+          ∙ vector_is mark c.args.level c.args.element l.0 l.1
           ∙ ap (λ (x : Result (RowPieces Identifier) (Fault Identifier)). x >> λ r. Ok (pieces (vector r.parts l.1) r.holes)) r.1,
       subst (λ (bs : List Bool). AddsFound c.args.work.now c.args.found.now c.find_parts.new.found r.0.holes (true ∷ bs)) (parts_nodes r.0 (parts_proper mark l.0 c.args.level r.0 r.1))
           (adds_both c.args.work.now c.args.found.now _ c.find_parts.new.found ([], true ∷ []) (row_trace r.0) (adds_node c.args.work.now c.args.found.now _ refl refl refl) r.2),
     )
+
+pub find-returns-in_err-find_parts-in-Vector-clause-read : goal.find-returns-in_err-find_parts-in-Vector-clause-read
+find-returns-in_err-find_parts-in-Vector-clause-read t c = λ mark u tells stands.
+    let w = c.args.work.now in
+    let l = c.in-Vector.ensures.look u stands in
+    let e = c.in_err-find_parts-in-Vector.field-0.0 in
+    ends_err w _ (datum_as mark c.args.level c.args.element u) c.from_residual-in_err-find_parts-in-Vector.result e c.from_residual-in_err-find_parts-in-Vector.ensures.1
+    (subst (Refuses w e) (sym (ap (λ (x : Tree Identifier). datum_as mark c.args.level c.args.element x) l.2 ∙ vector_is mark c.args.level c.args.element l.0 l.1))
+    (refuses_then w e (elements_at mark c.args.level l.0) (λ r. Ok (pieces (vector r.parts l.1) r.holes)) (c.in_err-find_parts-in-Vector.ensures.read mark l.0 tells l.3)))
 
 -- ---- the parts of a vector
 
@@ -115,7 +126,7 @@ find_parts-returns-in_err-find-clause-read t c = λ mark ts tells stands.
     let k = c.loop-k.k in
     let p = part_there w k c.args.items.now ts (record { number = 0 }) stands c.loop-k-test.true in
     let e = c.in_err-find.field-0.0 in
-    ends_err w _ (parts_of mark ts c.args.level) c.from_residual.result e c.from_residual.ensures.1
+    ends_err w _ (elements_at mark c.args.level ts) c.from_residual.result e c.from_residual.ensures.1
     (parts_refuse w c.args.found.now c.loop-k.found mark ts c.args.level k (c.loop-k.invariant.0 mark ts tells stands) e p.part p.split (c.in_err-find.ensures.read mark p.part tells p.stands))
 
 pub find_parts-loop-k-preserved : goal.find_parts-loop-k-preserved
@@ -169,7 +180,7 @@ find_row-returns-in_err-find-in-Into-clause-read t c = λ mark ts tail tells sta
     let p = part_there w k c.args.items.now ts (record { number = 0 }) stands c.loop-k-test.true in
     let s = sym (c.step_of.ensures.value mark p.part tells p.stands) ∙ c.in-Into.is in
     let e = c.in_err-find-in-Into.field-0.0 in
-    ends_err w _ (row_of mark ts tail (tail_of mark tail) c.args.level c.args.element) c.from_residual.result e c.from_residual.ensures.1
+    ends_err w _ (row_as mark c.args.level c.args.element ts tail) c.from_residual.result e c.from_residual.ensures.1
     (row_into_refuses w c.args.found.now c.loop-k.found mark ts tail c.args.level c.args.element k c.loop-k.inner c.loop-k.first (c.loop-k.invariant.1 mark ts tail tells stands ends) p.part p.split e s (c.in_err-find-in-Into.ensures.read mark p.part tells p.stands))
 
 pub find_row-returns-in-Misplaced-clause-read : goal.find_row-returns-in-Misplaced-clause-read
@@ -179,7 +190,7 @@ find_row-returns-in-Misplaced-clause-read t c = λ mark ts tail tells stands end
     let p = part_there w k c.args.items.now ts (record { number = 0 }) stands c.loop-k-test.true in
     let s = sym (c.step_of.ensures.value mark p.part tells p.stands) ∙ c.in-Misplaced.is in
     row_refuses w c.args.found.now c.loop-k.found mark ts tail c.args.level c.args.element k c.loop-k.inner c.loop-k.first (c.loop-k.invariant.1 mark ts tail tells stands ends) p.part p.split fault.BadQuasi
-    (misplaced_is mark (behind (suc k) ts) tail (tail_of mark tail) p.part c.loop-k.inner c.loop-k.first s)
+    (misplaced_is mark (behind (suc k) ts) tail p.part c.loop-k.inner c.loop-k.first s)
 
 pub find_row-returns-in-Hole-clause-read : goal.find_row-returns-in-Hole-clause-read
 find_row-returns-in-Hole-clause-read t c = λ mark ts tail tells stands ends.
@@ -187,9 +198,9 @@ find_row-returns-in-Hole-clause-read t c = λ mark ts tail tells stands ends.
     let k = c.loop-k.k in
     let p = part_there w k c.args.items.now ts (record { number = 0 }) stands c.loop-k-test.true in
     let s = sym (c.step_of.ensures.value mark p.part tells p.stands) ∙ c.in-Hole.is in
-    let i = hole_is mark (behind (suc k) ts) tail (tail_of mark tail) p.part c.loop-k.inner c.loop-k.first s in
+    let i = hole_is mark (behind (suc k) ts) tail p.part c.loop-k.inner c.loop-k.first s in
     row_ends w c.args.found.now c.loop-k.found mark ts tail c.args.level c.args.element k c.loop-k.inner c.loop-k.first (c.loop-k.invariant.1 mark ts tail tells stands ends) p.part p.split _
-    (hole_of i.0 i.1.0 (one_of (behind (k + 1) ts) tail)) _ (i.1.1 ∙ ap (λ (j : ℕ). hole_of i.0 i.1.0 (one_of (behind j ts) tail)) (sym (add-one k))) (c.hole_at.ensures.read i.0 i.1.0 ts tail stands ends)
+    (hole_behind (name i.0 i.1.0) (one_of (behind (k + 1) ts) tail)) _ (i.1.1 ∙ ap (λ (j : ℕ). hole_behind (name i.0 i.1.0) (one_of (behind j ts) tail)) (sym (add-one k))) (c.hole_at.ensures.read i.0 i.1.0 ts tail stands ends)
 
 pub find_row-loop-k-preserved : goal.find_row-loop-k-preserved
 find_row-loop-k-preserved t c =
@@ -257,7 +268,7 @@ find_row-returns-in_err-find-in-Some-clause-read t c = λ mark ts tail tells sta
     let w = c.args.work.now in
     let d = end_tree w c.args.end c.in-Some.last tail c.in-Some.is ends in
     let e = c.in_err-find-in-Some.field-0.0 in
-    ends_err w _ (row_of mark ts tail (tail_of mark tail) c.args.level c.args.element) c.from_residual-in_err-find-in-Some.result e c.from_residual-in_err-find-in-Some.ensures.1
+    ends_err w _ (row_as mark c.args.level c.args.element ts tail) c.from_residual-in_err-find-in-Some.result e c.from_residual-in_err-find-in-Some.ensures.1
     (row_some w c.args.found.now c.loop-k.found mark ts c.args.level c.args.element c.loop-k.k c.loop-k.inner c.loop-k.first tail d.0 c.args.found.now d.1 (c.loop-k.invariant.1 mark ts tail tells stands ends)
     (behind_past w c.loop-k.k c.args.items.now ts stands c.loop-k-test.false) (Err e) (c.in_err-find-in-Some.ensures.read mark d.0 tells d.2))
 

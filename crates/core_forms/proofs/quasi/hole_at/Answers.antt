@@ -1,8 +1,8 @@
 use Rattle.std.proofs.Common.{◌+◌, add-one, refl, sym, ap, ◌∙◌, subst, arith}
-use Rattle.scheme_model.specs.Trees.{Trees, tree, no_trees, Tail}
+use Rattle.scheme_model.specs.Trees.{name, Trees, tree, no_trees, Tail}
 use Rattle.scheme_model.specs.Shapes.{one_of}
 use Rattle.scheme_model.specs.Matching.{behind}
-use Rattle.scheme_model.specs.Quasiquote.{hole_of}
+use Rattle.scheme_model.specs.Quasiquote.{hole_behind}
 use Rattle.scheme_model.specs.Ident.{Ident as Identifier}
 use Rattle.std.specs.Prelude.{is_some}
 use Rattle.syntax_tree.proofs.Looking.{part_there, behind_past, count_stands, no_end, some_end, part_named, named_more}
@@ -15,7 +15,7 @@ pub returns-then-items-at-clause-read : goal.returns-then-items-at-clause-read
 returns-then-items-at-clause-read c = λ i o ts tail stands ends.
     let n = count_stands c.args.work.now c.args.items.now ts stands in
     let m = count_behind c.args.at ts (omega (arith, c.requires.within)) in
-    ap (hole_of i o) (one_not (behind c.args.at ts) tail (λ one. omega arith))
+    ap (hole_behind (name i o)) (one_not (behind c.args.at ts) tail (λ one. omega arith))
 
 pub returns-in_ok-push-in-None-2-clause-read : goal.returns-in_ok-push-in-None-2-clause-read
 returns-in_ok-push-in-None-2-clause-read c = λ i o ts tail stands ends.
@@ -26,12 +26,12 @@ returns-in_ok-push-in-None-2-clause-read c = λ i o ts tail stands ends.
     let gone = no_end w c.args.end tail (ap is_some c.in-None.is) ends in
     let here = p.split ∙ ap (tree p.part) (ap (λ j. behind j ts) (sym (add-one at)) ∙ past) in
     let one = ap (λ (x : Trees Identifier). one_of x tail) here ∙ ap (λ (x : Tail Identifier). one_of (tree p.part no_trees) x) gone in
-    (_, ap (hole_of i o) one, adds_hole w c.args.found.now (record { trees = c.push-in-None.new.self; places = c.push.new.self; passed = c.args.found.now.passed + 1 }) _ p.part c.in_ok-push-in-None-2.ensures.items c.in_ok-push-in-None.ensures.items refl p.stands)
+    (_, ap (hole_behind (name i o)) one, adds_hole w c.args.found.now (record { trees = c.push-in-None.new.self; places = c.push.new.self; passed = c.args.found.now.passed + 1 }) _ p.part c.in_ok-push-in-None-2.ensures.items c.in_ok-push-in-None.ensures.items refl p.stands)
 
 pub returns-in-Some-clause-read : goal.returns-in-Some-clause-read
 returns-in-Some-clause-read c = λ i o ts tail stands ends.
     let there = some_end c.args.work.now c.args.end tail (ap is_some c.in-Some.is) ends in
-    ap (hole_of i o) (ap (λ (x : Tail Identifier). one_of (behind c.args.at ts) x) there.1 ∙ one_dotted (behind c.args.at ts) there.0)
+    ap (hole_behind (name i o)) (ap (λ (x : Tail Identifier). one_of (behind c.args.at ts) x) there.1 ∙ one_dotted (behind c.args.at ts) there.0)
 
 pub returns-in_ok-push-in-None-2-clause-named : goal.returns-in_ok-push-in-None-2-clause-named
 returns-in_ok-push-in-None-2-clause-named c = λ region items holes.
