@@ -174,7 +174,8 @@ fn make_use(
     work.symbols.told_apart();
     let (_, comparisons) = units.compare(alloc, work, at)?;
     let same = held(alloc, &comparisons)?;
-    let Instance { tree, met } = units.apply(alloc, work, region, at, &same)?;
+    let given = units.apply(alloc, work, region, at, &same)?;
+    let Instance { tree, met } = given;
     units.meet(alloc, work, at.scope, &met)?;
     Ok(tree)
 }

@@ -182,7 +182,8 @@ fn pass_use(
     let same = held(alloc, &comparisons)?;
     let applied = units.apply(alloc, work, region, at, &same);
     work.symbols.told_apart();
-    let Instance { tree, met } = applied?;
+    let given = applied?;
+    let Instance { tree, met } = given;
     pending.todo.push(Form {
         here: at.here,
         tree,

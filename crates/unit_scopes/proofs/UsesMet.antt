@@ -9,6 +9,7 @@ use Rattle.scheme_model.specs.Requirements.{Known}
 use Rattle.scheme_model.specs.Order.{WaitingUse, meet_waiting, meet_all}
 use Rattle.scheme_model.specs.ScopedExpansion.{Frames, ScopedState}
 use Rattle.syntax_tree.specs.declared.trees.Work.{Work}
+use Rattle.syntax_tree.specs.declared.trees.table.Region.{Region}
 use Rattle.syntax_tree.proofs.Places.{none_some}
 use Rattle.core_tree.specs.Names.{AllMatch, IsTarget}
 use Rattle.core_tree.specs.declared.cores.Target as code_target
@@ -17,7 +18,7 @@ use Rattle.unit_scopes.specs.State.{Stands}
 use Rattle.unit_scopes.specs.Stepped.{with_met, with_uses}
 use Rattle.unit_scopes.specs.Used.{target_at, met_at}
 use Rattle.unit_scopes.specs.Kept.{WaitsFor}
-use Rattle.unit_scopes.specs.Outcomes.{At, CanLook}
+use Rattle.unit_scopes.specs.Outcomes.{Stays, Leaves}
 use Rattle.unit_scopes.specs.Searched.{searched}
 use Rattle.form_parts.specs.declared.items.WaitingUse as code_waiting
 use Rattle.unit_scopes.specs.declared.scope.UnitScope.{UnitScope}
@@ -54,3 +55,17 @@ waits_on work u v x w same h = subst (λ (n : ℕ). WaitsFor work n v.form.numbe
 -- the list of uses alone has changed, twice
 pub uses_again : (u v w : UnitScope) → v ≡ with_uses u v.form.trace.uses → w ≡ with_uses v w.form.trace.uses → w ≡ with_uses u w.form.trace.uses
 uses_again u v w a b = b ∙ ap (λ (x : UnitScope). with_uses x w.form.trace.uses) a
+
+-- a step, and then uses that are met
+pub met_stays : (old new : Work) (region : Region) (u v w : UnitScope) (ls : List Frames) (t r : ScopedState) → Stays old new region u v ls t → Stands new w ls r → w ≡ with_uses v w.form.trace.uses → Stays old new region u w ls r
+met_stays old new region u v w ls t r h e same =
+    subst (λ (x : UnitScope). Stays old new region u x ls r) (sym same) (record {
+      stands = subst (λ (x : UnitScope). Stands new x ls r) same e;
+      work = h.work;
+      counted = h.counted;
+      same = record { unit = h.same.unit; number = h.same.number; root = h.same.root; libraries = h.same.libraries; roots = h.same.roots; uses = h.same.uses; nodes = h.same.nodes };
+    })
+
+-- want of memory behind a step
+pub left_behind : (old new : Work) (region : Region) (u v : UnitScope) (ls : List Frames) (t : ScopedState) → Stays old new region u v ls t → Leaves old new region u
+left_behind old new region u v ls t h = let counted = h.counted in let few = h.stands.form.few_nodes in record { work = h.work; few = omega (arith, counted, few) }
