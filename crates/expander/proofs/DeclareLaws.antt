@@ -99,9 +99,13 @@ module _ (old new : Work) (region : Region) (u w : UnitScope) (a b : Asked) wher
 
   module _ (ls : List Frames) (spot : code_spot.Spot) (most : ℕ) (last : code_pending.Pending) (p : Pass Identifier FramedIdent × ScopedState) where
     pub sets : (items : List code_item.Item) → items ≡ map item_of last.aside.items → Passes old new region (asking u a) w ls spot [] most last b (Ok tt) p → Sets old new region u back ls (Ok (record { uses = last.uses; items = items })) p
-    sets items is h =
-        (h.0, h.1, stays_back ls p.1 h.2.stays, h.2.notes,
-        record { uses = h.3.uses; items = subst (λ (xs : List code_item.Item). AllMatch (ItemFor new region w.unit w.form.number) xs h.0.items) (sym is) (all_items new region w.unit w.form.number last.aside.items h.0.items h.3.aside) })
+    sets items is h = (
+      h.0,
+      h.1,
+      stays_back ls p.1 h.2.stays,
+      h.2.notes,
+      record { uses = h.3.uses; items = subst (λ (xs : List code_item.Item). AllMatch (ItemFor new region w.unit w.form.number) xs h.0.items) (sym is) (all_items new region w.unit w.form.number last.aside.items h.0.items h.3.aside) },
+    )
 
     pub few_more : most ≤ 2 ^ 40 → Passes old new region (asking u a) w ls spot [] most last b (Ok tt) p → w.form.budget.locals ≤ u.form.budget.locals + 2 ^ 40
     few_more few h = omega (arith, h.4, few)

@@ -128,7 +128,7 @@ module _ (region : Region) (ls : List Frames) (spot : Spot) (fs : Frames) (befor
 
   -- a shape that was misread
   abbrev broken_pass : List (Note FramedIdent) → Here → ScopedState → Fault Identifier → Pass Identifier FramedIdent × ScopedState
-  broken_pass ns at t x = (record { notes = ns; items = Err (record { fault = x; here = at }) }, t)
+  broken_pass ns at t x = (record { notes = ns; left = Err (record { fault = x; here = at }) }, t)
 
   pub goes_misread : {B : Type 0} (known : Known) (work : Work) (u : UnitScope) (s : ScopedState) (unit form : ℕ) (here : Here) (e : ExpandFault) (r : Result B (Fault Identifier)) (p : Pending Identifier FramedIdent)
       (next : Going Identifier FramedIdent ScopedState → B → ScopedState → Pass Identifier FramedIdent × ScopedState) → u.form.budget.nodes ≤ 200000 → s.unit ≡ unit → s.form ≡ form → Stands work u ls s → SpotFor work u ls s spot fs → NotesFor work ls asked p.notes →

@@ -6,6 +6,7 @@ use Rattle.scheme_model.specs.declared.Occ.{Occ}
 use Rattle.scheme_model.specs.Trees.{Tree, name, atom, list, vector, Trees, no_trees, tree, Tail, proper, dotted}
 use Rattle.scheme_model.specs.ExpansionFaults.{Named, named, Fault, ◌>>◌}
 use Rattle.scheme_model.specs.Shapes.{names_of, is_among}
+use Rattle.scheme_model.specs.Building.{is_there}
 use Rattle.scheme_model.specs.Matching.{behind}
 use Rattle.scheme_model.specs.RulesShape.{Rules, Rule, Variable, nowhere, is_dots, escape_of, depth_of, check_rules, rules_in, rules_behind, bad}
 use Rattle.scheme_model.specs.Leaves.{Leaf, rule_leaves, all_rule_leaves, unless, if_escape, template_leaves, template_among, template_behind}
@@ -119,11 +120,11 @@ pub or_neither : (a b : Bool) → a ≡ false → b ≡ false → (a || b) ≡ f
 or_neither a b h g = ap (λ x. x || b) h ∙ g
 
 module _ (dots : Identifier → Bool) (variable : Identifier → Bool) where
-  chosen_some : (b : Bool) (u : Tree Identifier) (p q : List (Leaf Identifier)) → is_some (if b then Some u else None) ≡ true → if_escape b p q ≡ p
+  chosen_some : (b : Bool) (u : Tree Identifier) (p q : List (Leaf Identifier)) → is_some (if b then Some u else None) ≡ true → if_escape (is_there (if b then Some u else None)) p q ≡ p
   chosen_some true u p q h = refl
   chosen_some false u p q h = absurd cc
 
-  chosen_none : (b : Bool) (u : Tree Identifier) (p q : List (Leaf Identifier)) → (if b then Some u else None) ≡ None → if_escape b p q ≡ q
+  chosen_none : (b : Bool) (u : Tree Identifier) (p q : List (Leaf Identifier)) → (if b then Some u else None) ≡ None → if_escape (is_there (if b then Some u else None)) p q ≡ q
   chosen_none true u p q h = absurd cc
   chosen_none false u p q h = refl
 

@@ -204,8 +204,7 @@ pub met_rests : (work : Work) (u u1 v w : UnitScope) (number : ℕ) (budget : Bu
 met_rests work u u1 v w number budget trace traced back ls ns t turn same rest traced_is notes e =
     let asked : v.asked ≡ u.asked = ap (λ (x : UnitScope). x.asked) same ∙ ap (λ (x : UnitScope). x.asked) turn in
     let numbered : v.form.number ≡ number = ap (λ (x : UnitScope). x.form.number) same ∙ ap (λ (x : UnitScope). x.form.number) turn in
-    let counted : v.form.budget ≡ budget = ap (λ (x : UnitScope). x.form.budget) same ∙ ap (λ (x : UnitScope). x.form.budget) turn in
-    (
+    let counted : v.form.budget ≡ budget = ap (λ (x : UnitScope). x.form.budget) same ∙ ap (λ (x : UnitScope). x.form.budget) turn in (
       subst (λ (x : UnitScope). UnitStands work x ls t ns) (sym rest)
           (record { rests = without_form work v (record v.form { trace = back }) ls t e; notes = subst (λ (a : Asked). NotesFor work ls a ns) (sym asked) notes }),
       subst (λ (r : Trace). CountsFor work t number budget r) (sym traced_is) (subst (λ (b : Budget). CountsFor work t number b v.form.trace) counted (form_again work.symbols v.form t number numbered e.form)),

@@ -284,13 +284,7 @@ impl UnitScope {
     }
 
     /// A macro use is met, with what its literals mean by now.
-    pub fn meet(
-        &mut self,
-        alloc: Global,
-        work: &Work,
-        scope: ScopeNo,
-        used: &WaitingUse,
-    ) -> Mem<()>
+    pub fn meet(&mut self, alloc: Global, work: &Work, scope: ScopeNo, used: &WaitingUse) -> Mem<()>
         requires look { CanLook work.now self.old scope }
         requires waits { (w : ModelWaiting Identifier) × WaitsFor work.now self.old.unit self.old.form.number used.now w }
         ensures met { (known : Known) (ls : List Frames) (s : ScopedState) (fs : Frames) (w : ModelWaiting Identifier) → Stands work.now self.old ls s → At ls scope fs →
