@@ -21,7 +21,7 @@ ghost use Rattle.unit_scopes.specs.Outcomes.{CanLook, IsAtWork, IsEnough, IsEnou
 ghost use Rattle.expander.specs.Expanded.{AreAtWork, BodyAtWork, ClauseStands, macros_step, ShapeAtWork, ClauseAtWork, ClausesAtWork, KeptAtWork, AreKeptAtWork, MacrosAtWork};
 
 use crate::bodies::{in_place, keep_all, local_defs, pass_body, test_all_rules};
-use crate::expressions::{At, Ready, below, ready, test_variable};
+use crate::expressions::{At, Ready, below, prepare, test_variable};
 use crate::passes::judge;
 use core_forms::{ClauseShape, CoreKeyword, CoreShape, LocalMacro};
 use core_tree::cores::{Clause, Core, CorePart};
@@ -51,7 +51,7 @@ fn expand(
         Runs (λ ls. CoreStands work.new units.new.unit units.new.form.number) work.old work.new region.now units.old units.new at.scope result (λ known fs. expand (searched known) turns at.depth at.here fs (whole t)) }
     ensures locals { OnOk result (Spends 0 units.old units.new) }
 {
-    let (here, ready) = ready(units, alloc, work, region, at, form)?;
+    let (here, ready) = prepare(units, alloc, work, region, at, form)?;
     let at = in_place(at, here);
     match ready {
         Ready::Core(core) => Ok(core),

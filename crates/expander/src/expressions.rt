@@ -89,7 +89,7 @@ fn call_parts(
 }
 
 /// An expression without a macro at its head, and the place of the innermost form read around it.
-pub(crate) fn ready(
+pub(crate) fn prepare(
     units: &mut UnitScope,
     alloc: Global,
     work: &mut Work,
@@ -137,7 +137,7 @@ fn settle(
     let mut form = form;
     let mut here = here_at(work, form, at.here);
     'uses: loop {
-        match headed(units, work, at.scope, form) {
+        match look_at_head(units, work, at.scope, form) {
             Headed::Macro(keyword) => {
                 let use_at = Use {
                     scope: at.scope,
@@ -181,7 +181,7 @@ fn make_use(
 }
 
 /// What stands at the head of a form.
-fn headed(units: &UnitScope, work: &Work, scope: ScopeNo, form: Tree) -> Headed
+fn look_at_head(units: &UnitScope, work: &Work, scope: ScopeNo, form: Tree) -> Headed
     requires look { CanLook work.now units.now scope }
     requires form { IsStanding work.now form }
     ensures { (known : Known) (ls : List Frames) (s : ScopedState) (fs : Frames) (t : ModelTree Identifier) → Stands work.now units.now ls s → Stand ls scope fs → StandsFor work.now form t →

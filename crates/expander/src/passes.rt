@@ -32,7 +32,9 @@ ghost use Rattle.syntax_tree.specs.declared.trees.Work.{Work as AnyWork};
 ghost use Rattle.unit_scopes.specs.declared.asked.Asked.{Asked as AnyAsked};
 ghost use Rattle.form_parts.specs.declared.items.Spot.{Spot as AnySpot};
 
-use crate::defining::{define_function, define_record, define_syntax, define_values, define_variable};
+use crate::defining::{
+    define_function, define_record, define_syntax, define_values, define_variable,
+};
 use core_forms::{CoreKeyword, CoreShape, NamePart, parse_core};
 use core_tree::cores::Target;
 use feature_requirements::fault::ExpandFault;
@@ -107,7 +109,8 @@ fn pass_form(
     let head = units.head_by(work, keyword.meaning);
     note_head(units, work, spot, name, head, asked)?;
     match head {
-        Head::Core(core) => pass_core(units, alloc, work, spot, here, core, keyword, form, pending, asked,
+        Head::Core(core) => pass_core(
+            units, alloc, work, spot, here, core, keyword, form, pending, asked,
         ),
         Head::Macro => {
             let at = Use {
@@ -317,7 +320,7 @@ pub(crate) fn judge<'a>(units: &'a UnitScope, alloc: Global, work: &'a Work) -> 
     Judge {
         alloc,
         work,
-        libraries: units: &UnitScope.libraries,
+        libraries: &units.libraries,
     }
 }
 

@@ -159,11 +159,16 @@ fn turn(units: &mut UnitScope, number: u32, budget: Budget, trace: &mut Trace)
 {
     units.form.number = number;
     units.form.budget = budget;
-    mem::swap(units: &mut UnitScope.form.trace, trace);
+    mem::swap(&mut units.form.trace, trace);
 }
 
 /// Work leaves the form, with what it has counted and met by now. Each macro use is a step.
-fn rest<L: Ledger>(units: &mut UnitScope, budget: &mut Budget, trace: &mut Trace, steps: &mut Steps<L>)
+fn rest<L: Ledger>(
+    units: &mut UnitScope,
+    budget: &mut Budget,
+    trace: &mut Trace,
+    steps: &mut Steps<L>,
+)
     requires { budget.old.uses ≤ units.old.form.budget.uses }
     ensures scope { units.new ≡ record units.old { form = record units.old.form { trace = trace.old } } }
     ensures budget { budget.new ≡ units.old.form.budget }
@@ -172,7 +177,7 @@ fn rest<L: Ledger>(units: &mut UnitScope, budget: &mut Budget, trace: &mut Trace
 {
     tick(steps, units.form.budget.uses - budget.uses);
     *budget = units.form.budget;
-    mem::swap(units: &mut UnitScope.form.trace, trace);
+    mem::swap(&mut units.form.trace, trace);
 }
 
 /// What is left of the form at work.
@@ -205,7 +210,7 @@ fn declare(
         scope: units.root,
         in_body: false,
     };
-    let mut asked = mem::replace(units: &mut UnitScope.asked, Asked::new(alloc));
+    let mut asked = mem::replace(&mut units.asked, Asked::new(alloc));
     let passed = pass(units, alloc, work, region, spot, &mut pending, &mut asked);
     units.asked = asked;
     passed?;
@@ -245,7 +250,7 @@ fn expand_apart(
         here: None,
         depth: MAX_DEPTH,
     };
-    let before = mem::replace(units: &mut UnitScope.asked, Asked::new(alloc));
+    let before = mem::replace(&mut units.asked, Asked::new(alloc));
     let part = expand_kept_item(units, alloc, work, region, at, &item.kept);
     units.asked = before;
     part

@@ -25,7 +25,7 @@ use crate::defined::number_of;
 use core_tree::traces::{FormFault, Trace};
 use core_tree::units::{ExpandedItem, UnitForm};
 use datum_reader::seed;
-use expander::{Budget, declare_form, expand_item, ExpandFault, Item, UnitScope};
+use expander::{Budget, ExpandFault, Item, UnitScope, declare_form, expand_item};
 use library_table::UnitForm as SourceForm;
 use ls_base::limits::MAX_UNIT_NODES;
 use ls_base::{Items, Mem, Memory, Steps};
@@ -206,7 +206,9 @@ fn declare_tree<L: Ledger>(
         scope,
     } = bench;
     let mut form = blank;
-    match declare_form(scope, work,
+    match declare_form(
+        scope,
+        work,
         region,
         tree,
         number,

@@ -38,10 +38,10 @@ use Rattle.expander.proofs.cores.+core.Goals as goal
 pub expand-returns-in_err-here-clause-runs : goal.expand-returns-in_err-here-clause-runs
 expand-returns-in_err-here-clause-runs t c = λ form turns stands enough.
     let a = c.args.work.now in
-    let b = c.ready.new.work in
+    let b = c.prepare.new.work in
     let region = c.args.region.now in
     let u = c.args.units.now in
-    let w = c.ready.new.units in
+    let w = c.prepare.new.units in
     let at = c.args.at in
     let e = c.in_err-here.field-0.0 in
     let Q : List Frames → code_core.Core → Core → Type 0 = λ layout. CoreStands b w.unit w.form.number in
@@ -50,25 +50,25 @@ expand-returns-in_err-here-clause-runs t c = λ form turns stands enough.
 
 pub expand-returns-in-Core-clause-runs : goal.expand-returns-in-Core-clause-runs
 expand-returns-in-Core-clause-runs t c = λ form turns stands enough.
-    expand_core c.args.work.now c.ready.new.work c.args.region.now c.args.units.now c.ready.new.units c.args.at c.args.form c.requires.form.1 form turns stands enough c.in_ok-here.here c.in_ok-here.ready c.in-Core.core c.in-Core.is c.in_ok-here.ensures.ready
+    expand_core c.args.work.now c.prepare.new.work c.args.region.now c.args.units.now c.prepare.new.units c.args.at c.args.form c.requires.form.1 form turns stands enough c.in_ok-here.here c.in_ok-here.ready c.in-Core.core c.in-Core.is c.in_ok-here.ensures.ready
 
 pub expand-returns-in-Core-clause-locals : goal.expand-returns-in-Core-clause-locals
 expand-returns-in-Core-clause-locals t c =
-    let after = ready_after c.args.work.now c.ready.new.work c.args.region.now c.args.units.now c.ready.new.units c.args.at c.args.form c.requires.look c.requires.form (c.in_ok-here.here, c.in_ok-here.ready) c.in_ok-here.ensures.ready in
-    spends_same c.args.units.now c.ready.new.units c.in_ok-here.ensures.locals after.same
+    let after = ready_after c.args.work.now c.prepare.new.work c.args.region.now c.args.units.now c.prepare.new.units c.args.at c.args.form c.requires.look c.requires.form (c.in_ok-here.here, c.in_ok-here.ready) c.in_ok-here.ensures.ready in
+    spends_same c.args.units.now c.prepare.new.units c.in_ok-here.ensures.locals after.same
 
 pub expand-below-requires : goal.expand-below-requires
 expand-below-requires t c =
-    let after = ready_after c.args.work.now c.ready.new.work c.args.region.now c.args.units.now c.ready.new.units c.args.at c.args.form c.requires.look c.requires.form (c.in_ok-here.here, c.in_ok-here.ready) c.in_ok-here.ensures.ready in
+    let after = ready_after c.args.work.now c.prepare.new.work c.args.region.now c.args.units.now c.prepare.new.units c.args.at c.args.form c.requires.look c.requires.form (c.in_ok-here.here, c.in_ok-here.ready) c.in_ok-here.ensures.ready in
     after.look.stands.form.few_nodes
 
 pub expand-returns-in_err-below-in-Call-clause-runs : goal.expand-returns-in_err-below-in-Call-clause-runs
 expand-returns-in_err-below-in-Call-clause-runs t c = λ form turns stands enough.
     let a = c.args.work.now in
-    let b = c.ready.new.work in
+    let b = c.prepare.new.work in
     let region = c.args.region.now in
     let u = c.args.units.now in
-    let w = c.ready.new.units in
+    let w = c.prepare.new.units in
     let v = c.below.new.units in
     let at = c.args.at in
     let placed = c.in_place-at.result in
@@ -81,10 +81,10 @@ expand-returns-in_err-below-in-Call-clause-runs t c = λ form turns stands enoug
 pub expand-expand_all-requires : goal.expand-expand_all-requires
 expand-expand_all-requires t c =
     let a = c.args.work.now in
-    let b = c.ready.new.work in
+    let b = c.prepare.new.work in
     let region = c.args.region.now in
     let u = c.args.units.now in
-    let w = c.ready.new.units in
+    let w = c.prepare.new.units in
     let v = c.below.new.units in
     let at = c.args.at in
     let placed = c.in_place-at.result in
@@ -100,11 +100,11 @@ expand-expand_all-requires t c =
 pub expand-returns-in_err-expand_all-in-Call-clause-runs : goal.expand-returns-in_err-expand_all-in-Call-clause-runs
 expand-returns-in_err-expand_all-in-Call-clause-runs t c = λ form turns stands enough.
     let a = c.args.work.now in
-    let b = c.ready.new.work in
+    let b = c.prepare.new.work in
     let d = c.expand_all.new.work in
     let region = c.args.region.now in
     let u = c.args.units.now in
-    let w = c.ready.new.units in
+    let w = c.prepare.new.units in
     let w1 = c.below.new.units in
     let v = c.expand_all.new.units in
     let at = c.args.at in
@@ -121,11 +121,11 @@ expand-returns-in_err-expand_all-in-Call-clause-runs t c = λ form turns stands 
 pub expand-returns-in_ok-expand_all-in-Call-clause-runs : goal.expand-returns-in_ok-expand_all-in-Call-clause-runs
 expand-returns-in_ok-expand_all-in-Call-clause-runs t c = λ form turns stands enough.
     let a = c.args.work.now in
-    let b = c.ready.new.work in
+    let b = c.prepare.new.work in
     let d = c.expand_all.new.work in
     let region = c.args.region.now in
     let u = c.args.units.now in
-    let w = c.ready.new.units in
+    let w = c.prepare.new.units in
     let w1 = c.below.new.units in
     let v = c.expand_all.new.units in
     let at = c.args.at in
@@ -141,9 +141,9 @@ expand-returns-in_ok-expand_all-in-Call-clause-runs t c = λ form turns stands e
 pub expand-returns-in_ok-expand_all-in-Call-clause-locals : goal.expand-returns-in_ok-expand_all-in-Call-clause-locals
 expand-returns-in_ok-expand_all-in-Call-clause-locals t c =
     let a = c.args.work.now in
-    let b = c.ready.new.work in
+    let b = c.prepare.new.work in
     let u = c.args.units.now in
-    let w = c.ready.new.units in
+    let w = c.prepare.new.units in
     let w1 = c.below.new.units in
     let v = c.expand_all.new.units in
     let after = ready_after a b c.args.region.now u w c.args.at c.args.form c.requires.look c.requires.form (c.in_ok-here.here, c.in_ok-here.ready) c.in_ok-here.ensures.ready in
@@ -153,10 +153,10 @@ expand-returns-in_ok-expand_all-in-Call-clause-locals t c =
 pub expand-expand_shape-requires : goal.expand-expand_shape-requires
 expand-expand_shape-requires t c =
     let a = c.args.work.now in
-    let b = c.ready.new.work in
+    let b = c.prepare.new.work in
     let region = c.args.region.now in
     let u = c.args.units.now in
-    let w = c.ready.new.units in
+    let w = c.prepare.new.units in
     let at = c.args.at in
     let after = ready_after a b region u w at c.args.form c.requires.look c.requires.form (c.in_ok-here.here, c.in_ok-here.ready) c.in_ok-here.ensures.ready in
     let depth : c.in_place-at.result.depth ≡ at.depth = ap (λ (x : code_at.At). x.depth) c.in_place-at.ensures in
@@ -169,11 +169,11 @@ expand-expand_shape-requires t c =
 pub expand-returns-in_err-expand_shape-in-Shape-clause-runs : goal.expand-returns-in_err-expand_shape-in-Shape-clause-runs
 expand-returns-in_err-expand_shape-in-Shape-clause-runs t c = λ form turns stands enough.
     let a = c.args.work.now in
-    let b = c.ready.new.work in
+    let b = c.prepare.new.work in
     let d = c.expand_shape.new.work in
     let region = c.args.region.now in
     let u = c.args.units.now in
-    let w = c.ready.new.units in
+    let w = c.prepare.new.units in
     let v = c.expand_shape.new.units in
     let at = c.args.at in
     let e = c.in_err-expand_shape-in-Shape.field-0.0 in
@@ -188,14 +188,14 @@ expand-returns-in_ok-expand_shape-in-Shape-clause-runs t c = λ form turns stand
     let v = c.expand_shape.new.units in
     let x = c.in_ok-expand_shape-in-Shape.field-0 in
     let Q : List Frames → code_core.Core → Core → Type 0 = λ layout. CoreStands d v.unit v.form.number in
-    expand_form c.args.work.now c.ready.new.work c.args.region.now c.args.units.now c.ready.new.units c.args.at c.args.form c.requires.form.1 form turns stands enough Q d v c.in_ok-here.here c.in_place-at.result c.in_place-at.ensures (Ok x)
+    expand_form c.args.work.now c.prepare.new.work c.args.region.now c.args.units.now c.prepare.new.units c.args.at c.args.form c.requires.form.1 form turns stands enough Q d v c.in_ok-here.here c.in_place-at.result c.in_place-at.ensures (Ok x)
     c.in_ok-here.ready c.in-Shape.core c.in-Shape.shape c.in-Shape.is c.in_ok-here.ensures.ready (λ k m left keyword for fits rest less. c.in_ok-expand_shape-in-Shape.ensures.runs k m left keyword for fits rest less)
 
 pub expand-returns-in_ok-expand_shape-in-Shape-clause-locals : goal.expand-returns-in_ok-expand_shape-in-Shape-clause-locals
 expand-returns-in_ok-expand_shape-in-Shape-clause-locals t c =
     let u = c.args.units.now in
-    let w = c.ready.new.units in
-    let after = ready_after c.args.work.now c.ready.new.work c.args.region.now u w c.args.at c.args.form c.requires.look c.requires.form (c.in_ok-here.here, c.in_ok-here.ready) c.in_ok-here.ensures.ready in
+    let w = c.prepare.new.units in
+    let after = ready_after c.args.work.now c.prepare.new.work c.args.region.now u w c.args.at c.args.form c.requires.look c.requires.form (c.in_ok-here.here, c.in_ok-here.ready) c.in_ok-here.ensures.ready in
     spends_on u w c.expand_shape.new.units (spends_same u w c.in_ok-here.ensures.locals after.same) c.in_ok-expand_shape-in-Shape.ensures.locals
 
 -- ---- expressions from left to right

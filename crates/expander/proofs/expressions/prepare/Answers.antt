@@ -4,7 +4,7 @@ use Rattle.unit_scopes.specs.Searched.{searched}
 use Rattle.expander.proofs.AfterLaws.{all_known, enough_there}
 use Rattle.expander.proofs.LoopLaws.{knows_on}
 use Rattle.expander.proofs.PrepareLaws.{prepares, prepares_unread, prepares_unsettled, prepares_err, settles_after}
-use Rattle.expander.proofs.expressions.ready.Goals as goal
+use Rattle.expander.proofs.expressions.prepare.Goals as goal
 
 pub returns-in_err-form-clause-ready : goal.returns-in_err-form-clause-ready
 returns-in_err-form-clause-ready c = λ known turns ls s fs t knows e at works enough.

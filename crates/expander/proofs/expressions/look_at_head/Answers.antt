@@ -5,7 +5,7 @@ use Rattle.unit_scopes.specs.Searched.{searched}
 use Rattle.form_parts.specs.declared.heads.Head.TheVariants as heads
 use Rattle.expander.proofs.ReadLaws.{head_named, head_is_macro, head_no_macro, named_settled, nameless_settled}
 use Rattle.expander.proofs.ListLaws.{head_is_core, head_no_core, named_plain, nameless_plain}
-use Rattle.expander.proofs.expressions.headed.Goals as goal
+use Rattle.expander.proofs.expressions.look_at_head.Goals as goal
 
 pub returns-in-Macro : goal.returns-in-Macro
 returns-in-Macro c = λ known ls s fs t e at is.
