@@ -101,7 +101,7 @@ pub fn meet_uses(
     let alloc = units.alloc;
     let root = units.root;
     units.meet_all(alloc, work, root, uses)?;
-    mem::swap(units: &mut UnitScope.form.trace, trace);
+    mem::swap(&mut units.form.trace, trace);
     Ok(())
 }
 

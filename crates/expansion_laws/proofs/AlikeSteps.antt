@@ -140,7 +140,7 @@ module _ {E A L S : Type 0} (ops : Ops E A L S) (k : Likeness ops) where
   pub compared_noted : (e : E) (m : Transformer E A) (ts : Trees A) (tail : Tail A) (s : S) → k.fits s e → k.fits s m.env → Notes s (comparisons ops e m ts tail s)
   compared_noted e m ts tail s h g = by_budget (has_use ops s)
     where
-      abbrev note : A × A → Note L
+      note : A × A → Note L
       note q = Compared (ops.place m.env q.0) (ops.place e q.1) (same_meaning (ops.means m.env s q.0) (ops.means e s q.1))
 
       go : (qs : List (A × A)) → Notes s (map note qs)

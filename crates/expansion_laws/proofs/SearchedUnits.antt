@@ -122,13 +122,13 @@ module _ (w : Era) (known : Known) where
         let two = aside_searched s1 begins r.1 h.0 (turned_bounded w s g r.0) in
         go two (aside_same w known turns fs s1 f begins r.1 h.0)
       where
-        abbrev s1 : ScopedState
+        s1 : ScopedState
         s1 = turned w known r.0 s
 
-        abbrev sought_then : Result Parts Broken → Work ScopedState (List FormResult)
+        sought_then : Result Parts Broken → Work ScopedState (List FormResult)
         sought_then = form_then r.0 (finished (searched known) (expand (searched known) turns) [] fs rs)
 
-        abbrev counted_then : Result Parts Broken → Work ScopedState (List FormResult)
+        counted_then : Result Parts Broken → Work ScopedState (List FormResult)
         counted_then = form_then r.0 (finished (counted known) (expand (counted known) turns) [] fs rs)
 
         go : AsideSearched s1 r.1 → Both (EndedSame w known turns fs) (KeptSame w known turns fs s1) (by_scopes r.1 s1) (by_counts r.1 s1) → (sought r.1 s1 then sought_then) ≡ (by_counts r.1 s1 then counted_then)
