@@ -1,5 +1,5 @@
 -- Macro uses that waited are met, one after another.
-use Rattle.std.proofs.Common.{◌≡◌, ℕ, zero, suc, ◌+◌, ◌≤◌, List, [], ◌∷◌, map, length, take, slice_get, Some, refl, sym, ap, ◌∙◌, subst, arith, add-one}
+use Rattle.std.proofs.Common.{◌≡◌, ℕ, zero, suc, ◌+◌, ◌≤◌, List, [], ◌∷◌, map, length, take, get_or, slice_get, Some, sym, ap, ◌∙◌, subst, arith, add-one}
 use Rattle.std.specs.Prelude.{Vec}
 use Rattle.std.specs.declared.alloc.Global.{Global}
 use Rattle.std.proofs.lemmas.List.{take_all}
@@ -13,7 +13,6 @@ use Rattle.syntax_tree.specs.declared.trees.table.Region.{Region}
 use Rattle.syntax_tree.proofs.Places.{none_some}
 use Rattle.core_tree.specs.Names.{AllMatch, IsTarget}
 use Rattle.core_tree.specs.declared.cores.Target as code_target
-use Rattle.core_tree.specs.declared.traces.MacroUse as code_use
 use Rattle.unit_scopes.specs.State.{Stands}
 use Rattle.unit_scopes.specs.Stepped.{with_met, with_uses}
 use Rattle.unit_scopes.specs.Used.{target_at, met_at}
@@ -47,6 +46,10 @@ module _ (known : Known) (fs : Frames) where
   pub use_met : (work : Work) (u : UnitScope) (ls : List Frames) (s : ScopedState) (x : code_target.Target) (literals : Vec code_target.Target Global) (w : WaitingUse Identifier) → Stands work u ls s → IsTarget work.symbols s.unit s.form x w.keyword →
       AllMatch (IsTarget work.symbols s.unit s.form) literals.items (map (target_at s fs) w.literals) → Stands work (with_met u (record { keyword = x; literals = literals })) ls (meet_waiting (searched known) fs w s)
   use_met work u ls s x literals w e keyword are = use_stands work u ls s (record { keyword = x; literals = literals }) (met_at s fs w) (record { keyword = keyword; literals = are }) e
+
+-- the one at this place in the row waits
+pub item_waits : (work : Work) (unit form : ℕ) (xs : List code_waiting.WaitingUse) (k : ℕ) (x : code_waiting.WaitingUse) (w : WaitingUse Identifier) → x ≡ get_or xs k x → WaitsFor work unit form (get_or xs k x) w → WaitsFor work unit form x w
+item_waits work unit form xs k x w is h = subst (λ (y : code_waiting.WaitingUse). WaitsFor work unit form y w) (sym is) h
 
 -- what waits in a form waits in it where the list of uses alone has changed
 pub waits_on : (work : Work) (u v : UnitScope) (x : code_waiting.WaitingUse) (w : WaitingUse Identifier) → v ≡ with_uses u v.form.trace.uses → WaitsFor work u.unit u.form.number x w → WaitsFor work v.unit v.form.number x w

@@ -44,7 +44,7 @@ begin_use-requires-clause-few c = let few = c.requires.usable.stands.form.few_us
 pub returns-in_err-number-clause-used : goal.returns-in_err-number-clause-used
 returns-in_err-number-clause-used c = λ known ls s fs keyword m ts tail stands there for held.
     let w = c.args.work.now in let u = c.args.self.now in let at = c.args.at in let r = c.args.region.now in
-    here_err (InstanceFor w r u.unit u.form.number) w w r u c.begin_use.new.self ls c.from_residual-in_err-number.result fault.Memory (use_of (searched known) at.here fs keyword m ts tail s) c.from_residual-in_err-number.ensures.1
+    here_err (InstanceFor w r c.begin_use.new.self.unit c.begin_use.new.self.form.number) w w r u c.begin_use.new.self ls c.from_residual-in_err-number.result fault.Memory (use_of (searched known) at.here fs keyword m ts tail s) c.from_residual-in_err-number.ensures.1
     (leaves_itself w r u stands.form.few_nodes)
 
 pub returns-in_default-clause-used : goal.returns-in_default-clause-used
@@ -82,9 +82,9 @@ returns-in_err-tree-clause-used c = λ known ls s fs keyword m ts tail stands th
     let ch = chosen_in w m.rules (match_of_use s fs m ts tail) c.in_ok-matched.matched c.in-Some.matched c.in-Some.is (c.in_ok-matched.ensures.found ls s fs keyword m ts tail stands for (held (begins_within known w u ls s stands few))) in
     let there_then = subst (λ (x : UnitScope). macro_in x.macros x.form.number at.keyword.meaning ≡ Some k.0) (sym begun) k.1 in
     let e = c.in_err-tree.field-0.0 in
-    here_err (InstanceFor new r u.unit u.form.number) w new r u v ls c.from_residual-in_err-tree.result e (use_of (searched known) at.here fs keyword m ts tail s) c.from_residual-in_err-tree.ensures.1
-    (failed_ends known at.here fs keyword m ts tail s w r u ls stands (InstanceFor new r u.unit u.form.number) scope at_scope few new v ch.0 e ch.1 c.instance.ensures.grows
-    (as_built known at.here fs keyword m ts tail s w r u ls stands (InstanceFor new r u.unit u.form.number) scope at_scope few new c.begin_use.new.self v ch.0 (number_of c.in_ok-number.number) (Err e) begun c.in_ok-number.ensures.number
+    here_err (InstanceFor new r v.unit v.form.number) w new r u v ls c.from_residual-in_err-tree.result e (use_of (searched known) at.here fs keyword m ts tail s) c.from_residual-in_err-tree.ensures.1
+    (failed_ends known at.here fs keyword m ts tail s w r u ls stands (InstanceFor new r v.unit v.form.number) scope at_scope few new v ch.0 e ch.1 c.instance.ensures.grows
+    (as_built known at.here fs keyword m ts tail s w r u ls stands (InstanceFor new r v.unit v.form.number) scope at_scope few new c.begin_use.new.self v ch.0 (number_of c.in_ok-number.number) (Err e) begun c.in_ok-number.ensures.number
     (c.in_err-tree.ensures.built k.0 m.rules ch.0 there_then k.2.rules ch.2)))
 
 pub leaf_names-requires : goal.leaf_names-requires
@@ -97,13 +97,13 @@ leaf_names-requires c =
           (leaves_on w c.instance.new.work c.in-Some.matched.literals ns c.instance.ensures.grows.trees h.of_rules.3.match.met),
     )
 
-pub returns-in_err-leaf_names-clause-used : goal.returns-in_err-leaf_names-clause-used
-returns-in_err-leaf_names-clause-used c = λ known ls s fs keyword m ts tail stands there for held.
+pub returns-in_err-literals-clause-used : goal.returns-in_err-literals-clause-used
+returns-in_err-literals-clause-used c = λ known ls s fs keyword m ts tail stands there for held.
     let w = c.args.work.now in let u = c.args.self.now in let at = c.args.at in let r = c.args.region.now in let new = c.instance.new.work in
     let few : u.form.budget.uses < 10000 = let most = stands.form.few_uses in omega (arith, most, c.if-self-eq-MAX_USES.false) in
     let h = has_match_then w r u c.begin_use.new.self at c.in-Some.matched c.macro_scope-scope.result c.in_ok-number.ensures.begun
     (has_match w r u at c.in_ok-matched.matched c.in-Some.matched c.in-Some.is (c.in_ok-matched.ensures.matched r c.requires.named)) in
-    here_err (InstanceFor new r u.unit u.form.number) w new r u c.instance.new.self ls c.from_residual-in_err-leaf_names.result fault.Memory (use_of (searched known) at.here fs keyword m ts tail s) c.from_residual-in_err-leaf_names.ensures.1
+    here_err (InstanceFor new r c.instance.new.self.unit c.instance.new.self.form.number) w new r u c.instance.new.self ls c.from_residual-in_err-literals.result fault.Memory (use_of (searched known) at.here fs keyword m ts tail s) c.from_residual-in_err-literals.ensures.1
     (leaves_then w new r u c.begin_use.new.self c.instance.new.self at c.requires.usable c.macro_scope-scope.result c.in-Some.matched (number_of c.in_ok-number.number) c.in_ok-tree.tree few c.in_ok-number.ensures.begun h c.in_ok-tree.ensures.built c.instance.ensures.grows)
 
 pub returns-clause-used : goal.returns-clause-used
@@ -122,8 +122,8 @@ returns-clause-used c = λ known ls s fs keyword m ts tail stands there for held
     let grows = c.instance.ensures.grows in
     let apart = c.told_apart.ensures.idents in let told = c.told_apart.ensures.symbols in
     let leaves = subst (λ (xs : List number.Tree). AreLeaves new xs ch.0.match.met) (sym c.as_slice.ensures) (leaves_on w new c.in-Some.matched.literals ch.0.match.met grows.trees ch.2.match.met) in
-    subst (λ (x : UnitScope). EndsHere (InstanceFor new r x.unit x.form.number) w new r u x ls (Ok (record { tree = c.in_ok-tree.tree; met = record { keyword = at.keyword; literals = c.in_ok-leaf_names.field-0 } })) (use_of (searched known) at.here fs keyword m ts tail s)) (sym i.4)
-    (use_ends known at.here fs keyword m ts tail s w r u ls stands (λ _ _. Unit {0}) scope at_scope few new grows apart told i.0 i.5 ch.0 c.in_ok-tree.tree at.keyword c.in_ok-leaf_names.field-0 ch.1 i.1 i.2 i.3 i.6 for.target (c.in_ok-leaf_names.ensures ch.0.match.met leaves))
+    subst (λ (x : UnitScope). EndsHere (InstanceFor new r x.unit x.form.number) w new r u x ls (Ok (record { tree = c.in_ok-tree.tree; met = record { keyword = at.keyword; literals = c.in_ok-literals.literals } })) (use_of (searched known) at.here fs keyword m ts tail s)) (sym i.4)
+    (use_ends known at.here fs keyword m ts tail s w r u ls stands (λ _ _. Unit {0}) scope at_scope few new grows apart told i.0 i.5 ch.0 c.in_ok-tree.tree at.keyword c.in_ok-literals.literals ch.1 i.1 i.2 i.3 i.6 for.target (c.in_ok-literals.ensures ch.0.match.met leaves))
 
 pub returns-clause-counted : goal.returns-clause-counted
 returns-clause-counted c =
@@ -147,8 +147,8 @@ returns-in_err-number-clause-scopes c = c.begin_use.ensures.scopes
 pub returns-in_err-tree-clause-scopes : goal.returns-in_err-tree-clause-scopes
 returns-in_err-tree-clause-scopes c = c.instance.ensures.scopes ∙ c.begin_use.ensures.scopes
 
-pub returns-in_err-leaf_names-clause-scopes : goal.returns-in_err-leaf_names-clause-scopes
-returns-in_err-leaf_names-clause-scopes c = c.instance.ensures.scopes ∙ c.begin_use.ensures.scopes
+pub returns-in_err-literals-clause-scopes : goal.returns-in_err-literals-clause-scopes
+returns-in_err-literals-clause-scopes c = c.instance.ensures.scopes ∙ c.begin_use.ensures.scopes
 
 pub returns-clause-scopes : goal.returns-clause-scopes
 returns-clause-scopes c = c.instance.ensures.scopes ∙ c.begin_use.ensures.scopes

@@ -59,7 +59,7 @@ returns c = λ known ls s fs keyword m ts tail stands at for.
     let pairs = subst (λ (ps : List IdPair). ArePairs w ps qs) (sym c.as_slice.ensures) (c.in_ok-pairs.ensures m.rules (list (tree for.head ts) tail for.place) rules for.form) in
     let few : c.args.self.now.form.budget.uses < 10000 = let most = stands.form.few_uses in omega (arith, most, c.if-self-eq-MAX_USES.false) in (
       there,
-      subst (λ (ns : List (Note FramedIdent)). AllMatch (ComparisonFor w ls c.in-Some.used.scope c.args.at.scope) c.in_ok-comparisons.comparisons.items ns) (sym (each_compared known w c.args.self.now ls s fs m ts tail stands few))
+      subst (λ (ns : List (Note FramedIdent)). AllMatch (ComparisonFor w ls c.in-Some.used.now.scope c.args.at.scope) c.in_ok-comparisons.comparisons.items ns) (sym (each_compared known w c.args.self.now ls s fs m ts tail stands few))
           (c.in_ok-comparisons.ensures ls s m.env fs qs stands there at pairs),
     )
 
@@ -69,6 +69,6 @@ returns-then-self-eq-MAX_USES c = λ known ls s fs keyword m ts tail stands at f
     let k = macro_there w c.args.self.now ls s c.args.at keyword m ts tail stands for in
     let same = copied_is c.meaning.result c.in-Some.used k.0 c.in-Some.is (c.meaning.ensures ∙ k.1) in (
       subst (λ (x : Macro). At ls x.scope m.env) same k.2.scope,
-      subst (λ (ns : List (Note FramedIdent)). AllMatch (ComparisonFor w ls c.in-Some.used.scope c.args.at.scope) c.new.result.items ns) (sym (none_compared known w c.args.self.now ls s fs m ts tail stands c.if-self-eq-MAX_USES.true))
-          (subst (λ (cs : List Comparison). AllMatch (ComparisonFor w ls c.in-Some.used.scope c.args.at.scope) cs []) (sym c.new.ensures.items) tt),
+      subst (λ (ns : List (Note FramedIdent)). AllMatch (ComparisonFor w ls c.in-Some.used.now.scope c.args.at.scope) c.new.result.items ns) (sym (none_compared known w c.args.self.now ls s fs m ts tail stands c.if-self-eq-MAX_USES.true))
+          (subst (λ (cs : List Comparison). AllMatch (ComparisonFor w ls c.in-Some.used.now.scope c.args.at.scope) cs []) (sym c.new.ensures.items) tt),
     )

@@ -1,17 +1,12 @@
-use Rattle.std.proofs.Common.{◌≡◌, ◌+◌, ◌≤◌, List, length, take, false, refl, sym, ap, ◌∙◌, subst, arith}
-use Rattle.scheme_model.specs.Ident.{Ident as Identifier}
+use Rattle.std.proofs.Common.{◌≡◌, ◌+◌, ◌≤◌, length, take, false, refl, sym, ◌∙◌, subst, arith}
 use Rattle.scheme_model.specs.Requirements.{Known}
-use Rattle.scheme_model.specs.Order.{WaitingUse, meet_all}
+use Rattle.scheme_model.specs.Order.{meet_all}
 use Rattle.scheme_model.specs.ScopedExpansion.{ScopedState}
-use Rattle.core_tree.specs.Names.{AllMatch}
 use Rattle.unit_scopes.specs.Searched.{searched}
 use Rattle.unit_scopes.specs.State.{Stands}
-use Rattle.unit_scopes.specs.Stepped.{with_uses}
 use Rattle.unit_scopes.specs.Kept.{WaitsFor}
-use Rattle.unit_scopes.specs.declared.scope.UnitScope.{UnitScope}
-use Rattle.unit_scopes.proofs.CallLaws.{all_known}
 use Rattle.unit_scopes.proofs.MatchLists.{match_at, as_long}
-use Rattle.unit_scopes.proofs.UsesMet.{one_more_met, all_met, waits_on, uses_again}
+use Rattle.unit_scopes.proofs.UsesMet.{one_more_met, all_met, item_waits, waits_on, uses_again}
 use Rattle.unit_scopes.proofs.scope.UnitScope.meet_all.Goals as goal
 
 pub meet-requires-clause-look : goal.meet-requires-clause-look
@@ -29,8 +24,8 @@ meet-requires-clause-look c =
 pub meet-requires-clause-waits : goal.meet-requires-clause-waits
 meet-requires-clause-waits c =
     let u = c.args.self.now in
-    let h = match_at (WaitsFor c.args.work.now u.unit u.form.number) c.args.uses.now c.requires.waits.0 c.loop-used.used-index _ c.requires.waits.1 c.loop-used-test.true in
-    (h.0, waits_on c.args.work.now u c.loop-used.self _ h.0 c.loop-used.invariant.rest h.2)
+    let h = match_at (WaitsFor c.args.work.now u.unit u.form.number) c.args.uses.now c.requires.waits.0 c.loop-used.used-index c.used-item.result c.requires.waits.1 c.loop-used-test.true in
+    (h.0, waits_on c.args.work.now u c.loop-used.self c.used-item.result h.0 c.loop-used.invariant.rest (item_waits c.args.work.now u.unit u.form.number c.args.uses.now c.loop-used.used-index c.used-item.result h.0 c.used-item.is h.2))
 
 pub loop-used-preserved : goal.loop-used-preserved
 loop-used-preserved c = record {
@@ -38,9 +33,9 @@ loop-used-preserved c = record {
       let work = c.args.work.now in
       let u = c.args.self.now in
       let k = c.loop-used.used-index in
-      let h = match_at (WaitsFor work u.unit u.form.number) c.args.uses.now us k _ waits c.loop-used-test.true in
+      let h = match_at (WaitsFor work u.unit u.form.number) c.args.uses.now us k c.used-item.result waits c.loop-used-test.true in
       subst (λ (t : ScopedState). Stands work c.meet.new.self ls t) (sym (one_more_met known fs k us s h.0 h.1))
-      (c.in_ok-meet.ensures.met known ls (meet_all (searched known) fs (take k us) s) fs h.0 (c.loop-used.invariant.met known ls s fs us stands at waits) at (waits_on work u c.loop-used.self _ h.0 c.loop-used.invariant.rest h.2));
+      (c.in_ok-meet.ensures.met known ls (meet_all (searched known) fs (take k us) s) fs h.0 (c.loop-used.invariant.met known ls s fs us stands at waits) at (waits_on work u c.loop-used.self c.used-item.result h.0 c.loop-used.invariant.rest (item_waits work u.unit u.form.number c.args.uses.now k c.used-item.result h.0 c.used-item.is h.2)));
   rest = uses_again c.args.self.now c.loop-used.self c.meet.new.self c.loop-used.invariant.rest c.in_ok-meet.ensures.rest;
 }
 
