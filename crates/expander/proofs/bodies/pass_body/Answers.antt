@@ -130,7 +130,7 @@ meet_all-requires-clause-waits c =
     let v = c.pass.new.units in
     let last = c.pass.new.pending in
     let h = pass_inside work region u w c.args.at.scope inner here ns ts todo asked child newest c.sound.ensures none asks forms aside can.stand can.named can.small l.layout l.state l.frames l.at l.stands k.0 (2 ^ 39) new v last c.pass.new.asked (Ok tt) k.1 (omega arith) c.in_ok-pass.ensures in
-    (h.0.uses, subst (λ (xs : List code_waiting.WaitingUse). AllMatch (WaitsFor new v.unit v.form.number) xs h.0.uses) (sym c.as_slice.ensures) h.3.uses)
+    (h.0.uses, subst (λ (xs : List code_waiting.WaitingUse). AllMatch (WaitsFor new v.unit v.form.number) xs h.0.uses) (sym c.as_slice.ensures.value) h.3.uses)
 
 pub returns-in_err-meet_all-clause-passed : goal.returns-in_err-meet_all-clause-passed
 returns-in_err-meet_all-clause-passed c = λ ts turns stand small enough known ls s fs knows stands at.
@@ -181,7 +181,7 @@ returns-clause-passed c = λ ts turns stand small enough known ls s fs knows sta
     let last = c.pass.new.pending in
     let h = pass_inside work region u w c.args.at.scope inner here ns ts todo asked child newest c.sound.ensures none asks forms aside stand named small ls s fs at stands known turns new v last c.pass.new.asked (Ok tt) knows enough c.in_ok-pass.ensures in
     body_ends work region u w c.args.at.scope inner here ns ts todo asked child newest c.sound.ensures none asks forms aside stand named small ls s fs at stands known turns new v last c.pass.new.asked h c.meet_all.new.self c.in_ok-meet_all.ensures.rest
-    (λ known ls s fs us stands at waits. c.in_ok-meet_all.ensures.met known ls s fs us stands at (subst (λ (xs : List code_waiting.WaitingUse). AllMatch (WaitsFor new v.unit v.form.number) xs us) (sym c.as_slice.ensures) waits))
+    (λ known ls s fs us stands at waits. c.in_ok-meet_all.ensures.met known ls s fs us stands at (subst (λ (xs : List code_waiting.WaitingUse). AllMatch (WaitsFor new v.unit v.form.number) xs us) (sym c.as_slice.ensures.value) waits))
 
 pub returns-clause-locals : goal.returns-clause-locals
 returns-clause-locals c =
