@@ -1,14 +1,12 @@
 -- A body that is entered and gone through: its scope, and what was set aside.
 use Rattle.std.proofs.Common.{◌≡◌, ℕ, ◌+◌, ◌*◌, ◌-◌, ◌^◌, ◌<◌, ◌≤◌, List, [], ◌∷◌, ◌++◌, length, map, reverse, true, Result, Ok, Err, refl, sym, ap, subst, arith}
-use Rattle.std.specs.Prelude.{Vec}
-use Rattle.std.specs.declared.alloc.Global.{Global}
 use Rattle.scheme_model.specs.Trees.{Trees, no_trees, tree}
 use Rattle.scheme_model.specs.Measures.{tree_size, trees_size}
 use Rattle.scheme_model.specs.Ident.{Ident as Identifier}
 use Rattle.scheme_model.specs.Requirements.{Known}
-use Rattle.scheme_model.specs.Steps.{Broken, ◌>>=◌, done}
-use Rattle.scheme_model.specs.Order.{Here, Item, Pending, Pass, forms_at, run}
-use Rattle.scheme_model.specs.Expression.{items_of}
+use Rattle.scheme_model.specs.Steps.{Broken, Step, ◌>>=◌, done}
+use Rattle.scheme_model.specs.Order.{Here, Item, WaitingUse, Left, Pending, Pass, meet_all, forms_at, run}
+use Rattle.scheme_model.specs.Expression.{left_of}
 use Rattle.scheme_model.specs.ScopedExpansion.{Frames, FramedIdent, ScopedState, next_number}
 use Rattle.syntax_tree.specs.Looks.{PartsStand, AllNamed}
 use Rattle.syntax_tree.specs.declared.trees.Work.{Work}
@@ -21,10 +19,10 @@ use Rattle.unit_scopes.specs.Asks.{AskedStands}
 use Rattle.expander.specs.Bodies.{BodyFor, body_pass}
 use Rattle.feature_requirements.specs.Judged.{Knows}
 use Rattle.unit_scopes.specs.State.{Stands, most_locals}
-use Rattle.unit_scopes.specs.Stepped.{entered, entered_frames}
+use Rattle.unit_scopes.specs.Stepped.{entered, entered_frames, with_uses}
 use Rattle.form_parts.specs.FormsSeen.{form_at}
-use Rattle.unit_scopes.specs.Kept.{KeptFor, PendingFor, NoteFor, NotesFor, SpotFor, forms_size, left_with}
-use Rattle.unit_scopes.specs.Outcomes.{At, Stays, Moves, Ends}
+use Rattle.unit_scopes.specs.Kept.{KeptFor, WaitsFor, PendingFor, NoteFor, NotesFor, SpotFor, forms_size, left_with}
+use Rattle.unit_scopes.specs.Outcomes.{At, CanLook, Leaves, Stays, Moves, Ends}
 use Rattle.expander.specs.Passed.{CanPass, Passes}
 use Rattle.unit_scopes.specs.Searched.{searched}
 use Rattle.unit_scopes.specs.declared.asked.Asked.{Asked}
@@ -34,9 +32,11 @@ use Rattle.feature_requirements.specs.declared.fault.ExpandFault.TheVariants as 
 use Rattle.form_parts.specs.declared.items.Kept as code_kept
 use Rattle.form_parts.specs.declared.items.Pending as code_pending
 use Rattle.form_parts.specs.declared.items.Spot.{Spot}
+use Rattle.form_parts.specs.declared.items.WaitingUse as code_waiting
 use Rattle.unit_scopes.specs.declared.scope.UnitScope.{UnitScope}
 use Rattle.unit_scopes.proofs.BodiesStand.{body_stands, body_opens}
 use Rattle.unit_scopes.proofs.BodyScopes.{new_binds}
+use Rattle.unit_scopes.proofs.UsesMet.{met_stays, left_behind}
 use Rattle.expander.proofs.FormRows.{todo_stands}
 use Rattle.unit_scopes.proofs.OutcomeLaws.{grows_itself, stays_on, leaves_on, fills_on}
 
@@ -59,12 +59,12 @@ few_locals v w u n h same few = omega (arith, h, same, few)
 
 module _ (work : Work) (region : Region) (u w : UnitScope) (scope inner : ℕ) (here : Here) (ns : List number.Tree) (ts : Trees Identifier) (todo : code_pending.Pending) (asked : Asked)
     (child : w ≡ record u { env = with_child u.env scope }) (newest : inner ≡ length u.env.scopes) (sound : IsSound u.env) (none : asked.notes.items ≡ []) (asks : AskedStands work.symbols asked)
-    (forms : todo.todo.items ≡ map (form_at here) (reverse ns)) (aside : todo.aside.items ≡ []) (stand : PartsStand work ns ts) (named : AllNamed work region ns) (small : trees_size ts ≤ 4194304) where
+    (forms : todo.todo.items ≡ map (form_at here) (reverse ns)) (aside : (todo.aside.items ≡ []) × (todo.uses.items ≡ [])) (stand : PartsStand work ns ts) (named : AllNamed work region ns) (small : trees_size ts ≤ 4194304) where
   abbrev spot : Spot
   spot = record { scope = inner; in_body = true }
 
   abbrev start : Pending Identifier FramedIdent
-  start = record { todo = forms_at here ts; aside = []; notes = [] }
+  start = record { todo = forms_at here ts; aside = []; uses = []; notes = [] }
 
   module _ (ls : List Frames) (s : ScopedState) (fs : Frames) (at : At ls scope fs) (e : Stands work u ls s) where
     abbrev inside : List Frames
@@ -105,7 +105,8 @@ module _ (work : Work) (region : Region) (u w : UnitScope) (scope inner : ℕ) (
     pending_inside : PendingFor work region w.unit w.form.number todo start
     pending_inside = record {
       todo = todo_stands work region here ns ts todo.todo.items forms stand named;
-      aside = subst (λ (xs : List code_kept.Kept). AllMatch (KeptFor work region w.unit w.form.number) xs []) (sym aside) tt;
+      aside = subst (λ (xs : List code_kept.Kept). AllMatch (KeptFor work region w.unit w.form.number) xs []) (sym aside.0) tt;
+      uses = subst (λ (xs : List code_waiting.WaitingUse). AllMatch (WaitsFor work w.unit w.form.number) xs []) (sym aside.1) tt;
     }
 
     notes_inside : NotesFor work inside asked []
@@ -131,46 +132,63 @@ module _ (work : Work) (region : Region) (u w : UnitScope) (scope inner : ℕ) (
           (room_inside u.form.budget.locals (left_with start.todo u.form.budget.uses) (most_locals u.form.budget.nodes) (few_left (forms_size (forms_at here ts)) u.form.budget.uses (trees_size ts) (forms_of_size here ts) small) room);
     }
 
+    moves_inside : (new : Work) (v : UnitScope) (t : ScopedState) → Stays work new region w v inside t → Moves work new region u v ls t
+    moves_inside new v t h = record {
+      layout = inside;
+      kept = λ n gs there. get_front ls (entered_frames s fs ∷ []) n gs there;
+      stays = stays_on work work new region u opened v inside (entered s) t body_stays (subst (λ (x : UnitScope). Stays work new region x v inside t) child h);
+    }
+
+    moves_in : Moves work work region u opened ls (entered s)
+    moves_in = record { layout = inside; kept = λ n gs there. get_front ls (entered_frames s fs ∷ []) n gs there; stays = body_stays }
+
     module _ (known : Known) (turns : ℕ) (new : Work) (v : UnitScope) where
       abbrev went : Pass Identifier FramedIdent × ScopedState
       went = run (searched known) turns (entered_frames s fs) start (entered s)
 
+      abbrev Went : (last : code_pending.Pending) (asked2 : Asked) → Result (Unit {0}) ExpandFault → Type 0
+      Went last asked2 result = Passes work new region w v inside spot (entered_frames s fs) (left_with start.todo w.form.budget.uses) last asked2 result went
+
       -- what the pass says of these forms
-      pub pass_inside : (kept : List code_kept.Kept) (asked2 : Asked) (result : Result (Unit {0}) ExpandFault) → Knows u.libraries known → 2 ^ 39 ≤ turns →
+      pub pass_inside : (last : code_pending.Pending) (asked2 : Asked) (result : Result (Unit {0}) ExpandFault) → Knows u.libraries known → 2 ^ 39 ≤ turns →
           ((known : Known) (ls : List Frames) (s : ScopedState) (fs : Frames) (p : Pending Identifier FramedIdent) (turns : ℕ) → Knows u.libraries known → Stands work w ls s → SpotFor work w ls s spot fs → PendingFor work region w.unit w.form.number todo p →
-          NotesFor work ls asked p.notes → left_with p.todo w.form.budget.uses < turns → Passes work new region w v ls spot fs (left_with p.todo w.form.budget.uses) kept asked2 result (run (searched known) turns fs p s)) →
-          Passes work new region w v inside spot (entered_frames s fs) (left_with start.todo w.form.budget.uses) kept asked2 result went
-      pass_inside kept asked2 result knows enough passes = passes known inside (entered s) (entered_frames s fs) start turns knows inside_stands spot_inside pending_inside notes_inside (turns_inside turns enough)
+          NotesFor work ls asked p.notes → left_with p.todo w.form.budget.uses < turns → Passes work new region w v ls spot fs (left_with p.todo w.form.budget.uses) last asked2 result (run (searched known) turns fs p s)) →
+          Went last asked2 result
+      pass_inside last asked2 result knows enough passes = passes known inside (entered s) (entered_frames s fs) start turns knows inside_stands spot_inside pending_inside notes_inside (turns_inside turns enough)
 
-      stays_inside : (t : ScopedState) → Stays work new region w v inside t → Moves work new region u v ls t
-      stays_inside t h = record {
-        layout = inside;
-        kept = λ n gs there. get_front ls (entered_frames s fs ∷ []) n gs there;
-        stays = stays_on work work new region u opened v inside (entered s) t body_stays (subst (λ (x : UnitScope). Stays work new region x v inside t) child h);
-      }
+      abbrev meeting : Left Identifier → Step ScopedState (Frames × List (Item Identifier))
+      meeting l t = done (entered_frames s fs, l.items) (meet_all (searched known) (entered_frames s fs) l.uses t)
 
-      moves_in : Moves work work region u opened ls (entered s)
-      moves_in = record { layout = inside; kept = λ n gs there. get_front ls (entered_frames s fs ∷ []) n gs there; stays = body_stays }
+      -- its macro uses can be met
+      pub can_meet : (last : code_pending.Pending) (asked2 : Asked) → Went last asked2 (Ok tt) → CanLook new v inner
+      can_meet last asked2 h = record { layout = inside; state = went.1; frames = entered_frames s fs; stands = h.2.stays.stands; at = h.2.placed.at }
 
-      pub body_ends : (kept : Vec code_kept.Kept Global) (asked2 : Asked) → Passes work new region w v inside spot (entered_frames s fs) (left_with start.todo w.form.budget.uses) kept.items asked2 (Ok tt) went →
-          Ends (BodyFor new region v.unit v.form.number) work new region u v ls (Ok (inner, kept)) (body_pass turns here ts known fs s)
-      unfolding stays_inside
-      body_ends kept asked2 h =
-          let end : (items_of went >>= λ is. done (entered_frames s fs, is)) ≡ (Ok (entered_frames s fs, h.0), went.1) = ap (λ (r : Result (List (Item Identifier)) Broken). (r, went.1) >>= λ is. done (entered_frames s fs, is)) h.1 in
-          subst (λ (q : Result (Frames × List (Item Identifier)) Broken × ScopedState). Ends (BodyFor new region v.unit v.form.number) work new region u v ls (Ok (inner, kept)) q) (sym end)
-          ((entered_frames s fs, h.0), stays_inside went.1 h.2.stays, refl, (spot_inside.at, h.3))
+      pub body_ends : (last : code_pending.Pending) (asked2 : Asked) (h : Went last asked2 (Ok tt)) (x : UnitScope) → x ≡ with_uses v x.form.trace.uses → ((known : Known) (ls : List Frames) (s : ScopedState) (fs : Frames) (us : List (WaitingUse Identifier)) → Stands new v ls s → At ls inner fs →
+          AllMatch (WaitsFor new v.unit v.form.number) last.uses.items us → Stands new x ls (meet_all (searched known) fs us s)) →
+          Ends (BodyFor new region x.unit x.form.number) work new region u x ls (Ok (inner, last.aside)) (body_pass turns here ts known fs s)
+      unfolding moves_inside
+      body_ends last asked2 h x same meets =
+          let t = meet_all (searched known) (entered_frames s fs) h.0.uses went.1 in
+          let met = meets known inside went.1 (entered_frames s fs) h.0.uses h.2.stays.stands h.2.placed.at h.3.uses in
+          let end : (left_of went >>= meeting) ≡ (Ok (entered_frames s fs, h.0.items), t) = ap (λ (r : Result (Left Identifier) Broken). (r, went.1) >>= meeting) h.1 in
+          let stays = met_stays work new region w v x inside went.1 t h.2.stays met same in
+          subst (λ (q : Result (Frames × List (Item Identifier)) Broken × ScopedState). Ends (BodyFor new region x.unit x.form.number) work new region u x ls (Ok (inner, last.aside)) q) (sym end)
+          ((entered_frames s fs, h.0.items), moves_inside new x t stays, refl, (spot_inside.at, subst (λ (y : UnitScope). AllMatch (KeptFor new region y.unit y.form.number) last.aside.items h.0.items) (sym same) h.3.aside))
 
-      pub body_fails : {X : Type 0} (kept : List code_kept.Kept) (asked2 : Asked) (Q : List Frames → X → Frames × List (Item Identifier) → Type 0) (x : ExpandFault) → Passes work new region w v inside spot (entered_frames s fs) (left_with start.todo w.form.budget.uses) kept asked2 (Err x) went →
-          Ends Q work new region u v ls (Err x) (body_pass turns here ts known fs s)
-      body_fails {X} kept asked2 Q (fault.At x) h =
-          let end : (items_of went >>= λ is. done (entered_frames s fs, is)) ≡ (Err h.0, went.1) = ap (λ (r : Result (List (Item Identifier)) Broken). (r, went.1) >>= λ is. done (entered_frames s fs, is)) h.1 in
+      -- no memory for the uses
+      pub body_lost : (last : code_pending.Pending) (asked2 : Asked) → Went last asked2 (Ok tt) → Leaves work new region u
+      body_lost last asked2 h = let m = moves_inside new v went.1 h.2.stays in left_behind work new region u v m.layout went.1 m.stays
+
+      pub body_fails : {X : Type 0} (last : code_pending.Pending) (asked2 : Asked) (Q : List Frames → X → Frames × List (Item Identifier) → Type 0) (x : ExpandFault) → Went last asked2 (Err x) → Ends Q work new region u v ls (Err x) (body_pass turns here ts known fs s)
+      body_fails {X} last asked2 Q (fault.At x) h =
+          let end : (left_of went >>= meeting) ≡ (Err h.0, went.1) = ap (λ (r : Result (Left Identifier) Broken). (r, went.1) >>= meeting) h.1 in
           subst (λ (q : Result (Frames × List (Item Identifier)) Broken × ScopedState). Ends Q work new region u v ls (Err (fault.At x)) q) (sym end)
-          (stays_inside went.1 h.2.stays, (h.0, refl, h.3))
-      body_fails kept asked2 Q fault.Full h =
-          let g = subst (λ (x : UnitScope). Passes work new region x v inside spot (entered_frames s fs) (left_with start.todo w.form.budget.uses) kept asked2 (Err fault.Full) went) child h in
+          (moves_inside new v went.1 h.2.stays, (h.0, refl, h.3))
+      body_fails last asked2 Q fault.Full h =
+          let g = subst (λ (x : UnitScope). Passes work new region x v inside spot (entered_frames s fs) (left_with start.todo w.form.budget.uses) last asked2 (Err fault.Full) went) child h in
           (leaves_on work work new region u opened ls (entered s) moves_in g.0, fills_on work work region u opened ls (entered s) moves_in g.1)
-      body_fails kept asked2 Q fault.Memory h =
-          leaves_on work work new region u opened ls (entered s) moves_in (subst (λ (x : UnitScope). Passes work new region x v inside spot (entered_frames s fs) (left_with start.todo w.form.budget.uses) kept asked2 (Err fault.Memory) went) child h)
+      body_fails last asked2 Q fault.Memory h =
+          leaves_on work work new region u opened ls (entered s) moves_in (subst (λ (x : UnitScope). Passes work new region x v inside spot (entered_frames s fs) (left_with start.todo w.form.budget.uses) last asked2 (Err fault.Memory) went) child h)
 
-      pub body_locals : (kept : List code_kept.Kept) (asked2 : Asked) → Passes work new region w v inside spot (entered_frames s fs) (left_with start.todo w.form.budget.uses) kept asked2 (Ok tt) went → v.form.budget.locals ≤ u.form.budget.locals + 2 ^ 38
-      body_locals kept asked2 h = few_locals v.form.budget.locals w.form.budget.locals u.form.budget.locals (left_with start.todo w.form.budget.uses) h.4 (λ j. (child j).form.budget.locals) left_inside
+      pub body_locals : (last : code_pending.Pending) (asked2 : Asked) → Went last asked2 (Ok tt) → v.form.budget.locals ≤ u.form.budget.locals + 2 ^ 38
+      body_locals last asked2 h = few_locals v.form.budget.locals w.form.budget.locals u.form.budget.locals (left_with start.todo w.form.budget.uses) h.4 (λ j. (child j).form.budget.locals) left_inside

@@ -11,8 +11,8 @@ use Rattle.scheme_model.specs.Shapes.{Clause, LocalMacros}
 use Rattle.scheme_model.specs.Cores.{Core, Body, Binder, Binders, LocalNumber, Parts}
 use Rattle.scheme_model.specs.Substitution.{at_form}
 use Rattle.scheme_model.specs.Steps.{Broken, Step, ◌>>=◌, done}
-use Rattle.scheme_model.specs.Order.{Here, Item, forms_at, run}
-use Rattle.scheme_model.specs.Expression.{Expander, body, bound, procedure, expand, item_part, parts, items_of, body_in, local_macros, recursive, numbers}
+use Rattle.scheme_model.specs.Order.{Here, Item, forms_at, run, Left, meet_all}
+use Rattle.scheme_model.specs.Expression.{Expander, body, bound, procedure, expand, item_part, parts, left_of, body_in, local_macros, recursive, numbers}
 use Rattle.scheme_model.specs.CountedExpansion.{counted}
 use Rattle.scheme_model.specs.ScopedExpansion.{Bind, Frames, ScopedState, next_number}
 use Rattle.syntax_tree.specs.Names.{AreToldApart}
@@ -103,14 +103,17 @@ module _ (known : Known) (turns depth : ℕ) (here : Here) (fs : Frames) (ts : T
   abbrev kept_parts : ℕ → Frames × List (Item Identifier) → Step ScopedState Parts
   kept_parts below m = parts (item_part (expand (searched known) turns) (searched known) below m.0) m.1
 
-  split_body : (below : ℕ) (g : Frames) (r : Result (List (Item Identifier)) Broken × ScopedState) →
-      ((r >>= parts (item_part (expand (searched known) turns) (searched known) below g)) >>= λ ps. done (Body ps)) ≡ (((r >>= λ is. done {A = Frames × List (Item Identifier)} (g, is)) >>= kept_parts below) >>= λ ps. done (Body ps))
-  split_body below g (Ok is, s) = refl
+  abbrev meeting : Frames → Left Identifier → Step ScopedState (Frames × List (Item Identifier))
+  meeting g l u = done (g, l.items) (meet_all (searched known) g l.uses u)
+
+  split_body : (below : ℕ) (g : Frames) (r : Result (Left Identifier) Broken × ScopedState) →
+      (r >>= λ l u. parts (item_part (expand (searched known) turns) (searched known) below g) l.items (meet_all (searched known) g l.uses u) >>= λ ps. done (Body ps)) ≡ (((r >>= meeting g) >>= kept_parts below) >>= λ ps. done (Body ps))
+  split_body below g (Ok l, s) = refl
   split_body below g (Err e, s) = refl
 
   pub body_is : (below : ℕ) → body_in (searched known) turns (item_part (expand (searched known) turns) (searched known) below) here (record { env = entered_frames t fs; trees = ts; state = entered t })
       ≡ ((body_pass turns here ts known fs t >>= kept_parts below) >>= λ ps. done (Body ps))
-  body_is below = split_body below (entered_frames t fs) (items_of (run (searched known) turns (entered_frames t fs) (record { todo = forms_at here ts; aside = []; notes = [] }) (entered t)))
+  body_is below = split_body below (entered_frames t fs) (left_of (run (searched known) turns (entered_frames t fs) (record { todo = forms_at here ts; aside = []; uses = []; notes = [] }) (entered t)))
 
 -- ---- local macros
 

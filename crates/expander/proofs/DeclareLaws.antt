@@ -5,26 +5,31 @@ use Rattle.scheme_model.specs.Ident.{Ident as Identifier}
 use Rattle.scheme_model.specs.Measures.{tree_size}
 use Rattle.scheme_model.specs.Trees.{Tree}
 use Rattle.scheme_model.specs.Steps.{Broken}
-use Rattle.scheme_model.specs.Order.{Item, Note, Pass, Pending}
+use Rattle.scheme_model.specs.Order.{Item, WaitingUse, Note, Pass}
+use Rattle.scheme_model.specs.UnitExpansion.{one_form}
 use Rattle.scheme_model.specs.ScopedExpansion.{Frames, FramedIdent, ScopedState}
 use Rattle.syntax_tree.specs.Works.{StandsFor, CanName}
 use Rattle.syntax_tree.specs.declared.trees.Work.{Work}
 use Rattle.syntax_tree.specs.declared.trees.nodes.Tree as number
 use Rattle.syntax_tree.specs.declared.trees.table.Region.{Region}
 use Rattle.core_tree.specs.Names.{AllMatch}
-use Rattle.unit_scopes.specs.Kept.{KeptFor, FormFor, PendingFor, SpotFor}
+use Rattle.unit_scopes.specs.Kept.{KeptFor, WaitsFor, FormFor, PendingFor, SpotFor}
 use Rattle.unit_scopes.specs.Outcomes.{Leaves, SameForm, Stays, Moves, Ends, IsAtWork, HasRoom}
 use Rattle.expander.specs.Passed.{CanPass, Passes}
 use Rattle.form_parts.specs.FormsSeen.{form_at, item_of}
 use Rattle.unit_scopes.specs.State.{Stands}
-use Rattle.unit_scopes.specs.Units.{ItemFor, CanSet, Sets}
+use Rattle.unit_scopes.specs.Units.{form_at as at_form, ItemFor, CanSet, Sets}
 use Rattle.unit_scopes.specs.declared.asked.Asked.{Asked}
 use Rattle.feature_requirements.specs.declared.fault.ExpandFault.{ExpandFault}
 use Rattle.feature_requirements.specs.declared.fault.ExpandFault.TheVariants as fault
 use Rattle.form_parts.specs.declared.items.Item as code_item
 use Rattle.form_parts.specs.declared.items.Kept as code_kept
+use Rattle.form_parts.specs.declared.items.Left as code_left
 use Rattle.form_parts.specs.declared.items.Pending as code_pending
 use Rattle.form_parts.specs.declared.items.Spot as code_spot
+use Rattle.form_parts.specs.declared.items.WaitingUse as code_waiting
+use Rattle.core_tree.specs.declared.traces.Trace.{Trace}
+use Rattle.unit_scopes.specs.declared.scope.Budget.{Budget}
 use Rattle.unit_scopes.specs.declared.scope.UnitScope.{UnitScope}
 use Rattle.unit_scopes.proofs.CallLaws.{with_asked}
 use Rattle.unit_scopes.proofs.OutcomeLaws.{leaves_itself}
@@ -34,14 +39,12 @@ asking u a = record u { asked = a }
 
 -- ---- before
 
-abbrev pub one_form : Tree Identifier → List (Note FramedIdent) → Pending Identifier FramedIdent
-one_form t ns = record { todo = record { here = None; tree = t } ∷ []; aside = []; notes = ns }
-
-pub one_pending : (work : Work) (region : Region) (unit form : ℕ) (todo : code_pending.Pending) (n : number.Tree) (t : Tree Identifier) (ns : List (Note FramedIdent)) → todo.todo.items ≡ map (form_at None) (reverse (n ∷ [])) → todo.aside.items ≡ [] → StandsFor work n t → CanName work region n →
+pub one_pending : (work : Work) (region : Region) (unit form : ℕ) (todo : code_pending.Pending) (n : number.Tree) (t : Tree Identifier) (ns : List (Note FramedIdent)) → todo.todo.items ≡ map (form_at None) (reverse (n ∷ [])) → (todo.aside.items ≡ []) × (todo.uses.items ≡ []) → StandsFor work n t → CanName work region n →
     PendingFor work region unit form todo (one_form t ns)
 one_pending work region unit form todo n t ns is none stands named = record {
   todo = subst (λ xs. AllMatch (FormFor work region) (reverse xs) (record { here = None; tree = t } ∷ [])) (sym is) ((refl, (stands, named)), tt);
-  aside = subst (λ xs. AllMatch (KeptFor work region unit form) xs []) (sym none) tt;
+  aside = subst (λ xs. AllMatch (KeptFor work region unit form) xs []) (sym none.0) tt;
+  uses = subst (λ xs. AllMatch (WaitsFor work unit form) xs []) (sym none.1) tt;
 }
 
 pub at_root : (work : Work) (u : UnitScope) (a : Asked) (ls : List Frames) (s : ScopedState) → Stands work u ls s → SpotFor work (asking u a) ls s (record { scope = u.root; in_body = false }) []
@@ -53,7 +56,7 @@ left_small n uses h = omega (arith, h)
 pub left_enough : (n uses : ℕ) → n < 2 ^ 32 → n + 0 + 4194305 * (10000 - uses) < 2 ^ 64
 left_enough n uses h = let few = left_small n uses h in omega (arith, few)
 
-pub can_pass : (work : Work) (region : Region) (u : UnitScope) (a : Asked) (todo : code_pending.Pending) (n : number.Tree) → todo.todo.items ≡ map (form_at None) (reverse (n ∷ [])) → todo.aside.items ≡ [] → (form : IsAtWork work region n) → tree_size form.0.0 < 2 ^ 32 → HasRoom (2 ^ 43 + 2 ^ 40) u → CanSet work u →
+pub can_pass : (work : Work) (region : Region) (u : UnitScope) (a : Asked) (todo : code_pending.Pending) (n : number.Tree) → todo.todo.items ≡ map (form_at None) (reverse (n ∷ [])) → (todo.aside.items ≡ []) × (todo.uses.items ≡ []) → (form : IsAtWork work region n) → tree_size form.0.0 < 2 ^ 32 → HasRoom (2 ^ 43 + 2 ^ 40) u → CanSet work u →
     CanPass work region (asking u a) (record { scope = u.root; in_body = false }) 0 todo u.asked
 can_pass work region u a todo n is none form small room can =
     let few = left_small (tree_size form.0.0) u.form.budget.uses small in
@@ -94,17 +97,23 @@ module _ (old new : Work) (region : Region) (u w : UnitScope) (a b : Asked) wher
   pub leaves_lost : (ls : List Frames) (t : ScopedState) → Stays old new region (asking u a) w ls t → Leaves old new region u
   leaves_lost ls t h = let few : w.form.budget.nodes ≤ 200000 = h.stands.form.few_nodes in record { work = h.work; few = omega (arith, h.counted, few) }
 
-  module _ (ls : List Frames) (spot : code_spot.Spot) (most : ℕ) (aside : List code_kept.Kept) (p : Pass Identifier FramedIdent × ScopedState) where
-    pub sets : Passes old new region (asking u a) w ls spot [] most aside b (Ok tt) p → Sets old new region u back ls (Ok (map item_of aside)) p
-    sets h = (h.0, h.1, stays_back ls p.1 h.2.stays, h.2.notes, all_items new region w.unit w.form.number aside h.0 h.3)
+  module _ (ls : List Frames) (spot : code_spot.Spot) (most : ℕ) (last : code_pending.Pending) (p : Pass Identifier FramedIdent × ScopedState) where
+    pub sets : (items : List code_item.Item) → items ≡ map item_of last.aside.items → Passes old new region (asking u a) w ls spot [] most last b (Ok tt) p → Sets old new region u back ls (Ok (record { uses = last.uses; items = items })) p
+    sets items is h = (
+      h.0,
+      h.1,
+      stays_back ls p.1 h.2.stays,
+      h.2.notes,
+      record { uses = h.3.uses; items = subst (λ (xs : List code_item.Item). AllMatch (ItemFor new region w.unit w.form.number) xs h.0.items) (sym is) (all_items new region w.unit w.form.number last.aside.items h.0.items h.3.aside) },
+    )
 
-    pub few_more : most ≤ 2 ^ 40 → Passes old new region (asking u a) w ls spot [] most aside b (Ok tt) p → w.form.budget.locals ≤ u.form.budget.locals + 2 ^ 40
+    pub few_more : most ≤ 2 ^ 40 → Passes old new region (asking u a) w ls spot [] most last b (Ok tt) p → w.form.budget.locals ≤ u.form.budget.locals + 2 ^ 40
     few_more few h = omega (arith, h.4, few)
 
-    pub sets_lost : Passes old new region (asking u a) w ls spot [] most aside b (Ok tt) p → Sets old new region u back ls (Err fault.Memory) p
+    pub sets_lost : Passes old new region (asking u a) w ls spot [] most last b (Ok tt) p → Sets old new region u back ls (Err fault.Memory) p
     sets_lost h = leaves_lost ls p.1 h.2.stays
 
-    pub sets_fails : (e : ExpandFault) → Passes old new region (asking u a) w ls spot [] most aside b (Err e) p → Sets old new region u back ls (Err e) p
+    pub sets_fails : (e : ExpandFault) → Passes old new region (asking u a) w ls spot [] most last b (Err e) p → Sets old new region u back ls (Err e) p
     sets_fails (fault.At e) h = (h.0, h.1, stays_back ls p.1 h.2.stays, h.2.notes, h.3)
     sets_fails fault.Full h = (leaves_back h.0, h.1)
     sets_fails fault.Memory h = leaves_back h
@@ -124,6 +133,11 @@ pub sets_none : (work : Work) (region : Region) (u : UnitScope) (ls : List Frame
 sets_none work region u ls s e = leaves_itself work region u e.form.few_nodes
 
 -- a fault is handed on
-pub sets_handed : (old new : Work) (region : Region) (u v : UnitScope) (ls : List Frames) (r : Result (List code_item.Item) ExpandFault) (e : ExpandFault) (p : Pass Identifier FramedIdent × ScopedState) → IsErrAnd r (λ f. f ≡ e) → Sets old new region u v ls (Err e) p → Sets old new region u v ls r p
-sets_handed old new region u v ls (Ok xs) e p same h = absurd same
+pub sets_handed : (old new : Work) (region : Region) (u v : UnitScope) (ls : List Frames) (r : Result code_left.Left ExpandFault) (e : ExpandFault) (p : Pass Identifier FramedIdent × ScopedState) → IsErrAnd r (λ f. f ≡ e) → Sets old new region u v ls (Err e) p → Sets old new region u v ls r p
+sets_handed old new region u v ls (Ok x) e p same h = absurd same
 sets_handed old new region u v ls (Err f) e p same h = subst (λ (g : ExpandFault). Sets old new region u v ls (Err g) p) (sym same) h
+
+-- what waits in the form to which work goes
+pub waits_turned : (work : Work) (u u1 : UnitScope) (number : ℕ) (budget : Budget) (trace : Trace) (xs : List code_waiting.WaitingUse) (us : List (WaitingUse Identifier)) → u1 ≡ record u { form = at_form number budget trace } → AllMatch (WaitsFor work u.unit number) xs us →
+    AllMatch (WaitsFor work u1.unit u1.form.number) xs us
+waits_turned work u u1 number budget trace xs us turn h = subst (λ (x : UnitScope). AllMatch (WaitsFor work x.unit x.form.number) xs us) (sym turn) h

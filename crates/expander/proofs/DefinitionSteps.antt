@@ -1,4 +1,4 @@
--- The steps of definitions: how one is gone on behind, and names that are defined one after another, as forms put first or as a list.
+-- The steps of definitions: how one is gone on behind, and names that are defined one after another.
 use Rattle.std.proofs.Common.{◌≡◌, ℕ, zero, suc, ◌+◌, ◌<◌, ◌≤◌, List, [], ◌∷◌, ◌++◌, append_assoc, append-nil, length, reverse, get_or, drop, Bool, true, false, Option, Some, None, Result, Ok, Err, refl, sym, ap, ◌∙◌, subst, arith}
 use Rattle.std.specs.Prelude.{◌&&◌, nat_le, Vec, IsErrAnd, if◌then◌else◌}
 use Rattle.std.specs.declared.alloc.Global.{Global}
@@ -11,8 +11,8 @@ use Rattle.scheme_model.specs.Trees.{Tree}
 use Rattle.scheme_model.specs.Measures.{tree_size}
 use Rattle.scheme_model.specs.Cores.{LocalNumber, Binder}
 use Rattle.scheme_model.specs.Steps.{Broken, Step, ◌>>=◌, done, fails}
-use Rattle.scheme_model.specs.Order.{Here, Form, Item, Note, Pending, Pass, Going, told, caught, put, first, names_at, binder_at, define_all, define_names, fields_bound, RulesParts, rules_parts, rules_at, is_rules, head_of, given, max_nodes}
-use Rattle.scheme_model.specs.Substitution.{any}
+use Rattle.scheme_model.specs.Order.{Here, Form, Item, Note, Pending, Renamed, Pass, Going, told, caught, put, binder_at, define_all, define_names, fields_bound, RulesParts, rules_parts, rules_at, is_rules, head_of, given, max_nodes}
+use Rattle.scheme_model.specs.Substitution.{any, unchanged}
 use Rattle.scheme_model.specs.CountedExpansion.{counted, refused_here}
 use Rattle.scheme_model.specs.ScopedExpansion.{Frames, FramedIdent, ScopedState, next_number, body_around, definition_added, meaning_next, is_defined}
 use Rattle.syntax_tree.specs.declared.trees.Work.{Work}
@@ -23,7 +23,7 @@ use Rattle.core_tree.specs.declared.cores.Binder as code_binder
 use Rattle.unit_scopes.specs.Binds.{with_locals}
 use Rattle.unit_scopes.specs.Stepped.{taken, bound_binders}
 use Rattle.unit_scopes.specs.Searched.{speaks_of, searched}
-use Rattle.unit_scopes.specs.Kept.{FormFor, PendingFor, NotesFor, SpotFor, KeptFor, left_with}
+use Rattle.unit_scopes.specs.Kept.{FormFor, PendingFor, NotesFor, SpotFor, KeptFor, WaitsFor, left_with}
 use Rattle.unit_scopes.specs.Outcomes.{SameForm, Stays}
 use Rattle.unit_scopes.specs.Defining.{GoesTo, EndsIn, define_each}
 use Rattle.expander.specs.Passed.{GoesOn}
@@ -34,6 +34,7 @@ use Rattle.form_parts.specs.declared.items.Form as code_form
 use Rattle.form_parts.specs.declared.items.Kept as code_kept
 use Rattle.form_parts.specs.declared.items.Pending as code_pending
 use Rattle.form_parts.specs.declared.items.Spot.{Spot}
+use Rattle.form_parts.specs.declared.items.WaitingUse as code_waiting
 use Rattle.unit_scopes.specs.declared.scope.UnitScope.{UnitScope}
 use Rattle.unit_scopes.specs.State.{Stands}
 use Rattle.unit_scopes.proofs.BindersStand.{fields_are}
@@ -47,7 +48,7 @@ pub stays_in : (work : Work) (region : Region) (u v : UnitScope) (ls : List Fram
 stays_in work region u v ls spot fs t h = record { stands = h.stands; work = grows_itself work region; counted = let n = h.same.nodes in omega (arith, n); same = h.same }
 
 module _ {Y : Type 0} (ns : List (Note FramedIdent)) (x : Result Y Broken × ScopedState) where
-  pub caught_fails : (b : Broken) → x.0 ≡ Err b → (go : Y → ScopedState → Pass Identifier FramedIdent × ScopedState) → caught ns x go ≡ (record { notes = ns; items = Err b }, x.1)
+  pub caught_fails : (b : Broken) → x.0 ≡ Err b → (go : Y → ScopedState → Pass Identifier FramedIdent × ScopedState) → caught ns x go ≡ (record { notes = ns; left = Err b }, x.1)
   caught_fails b h go = ap (λ (r : Result Y Broken). caught ns (r, x.1) go) h
 
   pub caught_goes : (y : Y) → x.0 ≡ Ok y → (go : Y → ScopedState → Pass Identifier FramedIdent × ScopedState) → caught ns x go ≡ go y x.1
@@ -69,12 +70,17 @@ module _ (work : Work) (region : Region) (u v : UnitScope) (ls : List Frames) (s
   goes_done y x f q goes is pending notes less locals same =
       (q, x.1, record { stays = stays_in work region u v ls spot fs x.1 goes; placed = goes.placed; pending = pending; notes = notes; less = less; locals = locals }, λ go. caught_goes ns x y is (f go) ∙ same go)
 
+-- what is left to be gone through stays, and so do the uses that wait
+abbrev pub StaysBeside : code_pending.Pending → code_pending.Pending → Type 0
+StaysBeside old new = (new.todo ≡ old.todo) × (new.uses ≡ old.uses)
+
 -- one more was set aside
-pub kept_more : (work : Work) (region : Region) (unit form : ℕ) (old new : code_pending.Pending) (p : Pending Identifier FramedIdent) (k : code_kept.Kept) (m : Item Identifier) → new.todo ≡ old.todo → new.aside.items ≡ old.aside.items ++ k ∷ [] →
+pub kept_more : (work : Work) (region : Region) (unit form : ℕ) (old new : code_pending.Pending) (p : Pending Identifier FramedIdent) (k : code_kept.Kept) (m : Item Identifier) → StaysBeside old new → new.aside.items ≡ old.aside.items ++ k ∷ [] →
     PendingFor work region unit form old p → KeptFor work region unit form k m → PendingFor work region unit form new (put m p)
 kept_more work region unit form old new p k m todo aside h kept = record {
-  todo = subst (λ (t : Vec code_form.Form Global). AllMatch (FormFor work region) (reverse t.items) p.todo) (sym todo) h.todo;
+  todo = subst (λ (t : Vec code_form.Form Global). AllMatch (FormFor work region) (reverse t.items) p.todo) (sym todo.0) h.todo;
   aside = subst (λ (ks : List code_kept.Kept). AllMatch (KeptFor work region unit form) ks (p.aside ++ m ∷ [])) (sym aside) (all_last (KeptFor work region unit form) old.aside.items p.aside k m h.aside kept);
+  uses = subst (λ (us : Vec code_waiting.WaitingUse Global). AllMatch (WaitsFor work unit form) us.items p.uses) (sym todo.1) h.uses;
 }
 
 -- the same match by the words of two crates
@@ -86,41 +92,38 @@ matched_so P (x ∷ xs) (y ∷ ys) h = (h.0, matched_so P xs ys h.1)
 
 -- ---- names are defined
 
-abbrev named_first : Here → List (Named Identifier) → List (Form Identifier) → Pending Identifier FramedIdent → Pending Identifier FramedIdent
-named_first here ns fs p = first (names_at here ns ++ fs) p
-
-abbrev pub with_pending : Pending Identifier FramedIdent → List Binder → Step ScopedState (List Binder × Pending Identifier FramedIdent)
-with_pending q bs = done (bs, q)
+abbrev pub with_made : Pending Identifier FramedIdent → List Binder → Step ScopedState (List Binder × Renamed Identifier FramedIdent)
+with_made p bs = done (bs, unchanged p)
 
 abbrev one_first : Binder → List Binder → Step ScopedState (List Binder)
 one_first b bs = done (b ∷ bs)
 
-abbrev pair_first : Binder → List Binder × Pending Identifier FramedIdent → Step ScopedState (List Binder × Pending Identifier FramedIdent)
+abbrev pair_first : Binder → List Binder × Renamed Identifier FramedIdent → Step ScopedState (List Binder × Renamed Identifier FramedIdent)
 pair_first b more = done (b ∷ more.0, more.1)
 
 -- a definition gives what is left as it was
 abbrev outcome : {A : Type 0} → (refused second : Bool) → Named Identifier → A → ScopedState → ScopedState → Result A (Fault Identifier) × ScopedState
 outcome refused second n a t s = if refused then (Err (KeywordRedefined n), s) else if second then (Err (Duplicate n), s) else (Ok a, t)
 
-turned_about : (b : Binder) (q : Pending Identifier FramedIdent) (r : Result (List Binder) Broken × ScopedState) → ((r >>= with_pending q) >>= pair_first b) ≡ ((r >>= one_first b) >>= with_pending q)
-turned_about b q (Ok bs, s) = refl
-turned_about b q (Err e, s) = refl
+turned_about : (b : Binder) (p : Pending Identifier FramedIdent) (r : Result (List Binder) Broken × ScopedState) → ((r >>= with_made p) >>= pair_first b) ≡ ((r >>= one_first b) >>= with_made p)
+turned_about b p (Ok bs, s) = refl
+turned_about b p (Err e, s) = refl
 
-module _ (here : Here) (n : Named Identifier) (b : Binder) (q r p : Pending Identifier FramedIdent) (t s : ScopedState) (f : Pending Identifier FramedIdent → Step ScopedState (List Binder × Pending Identifier FramedIdent)) (g : Pending Identifier FramedIdent → Step ScopedState (List Binder)) where
-  one_defined : (refused second : Bool) → f r t ≡ (g p t >>= with_pending q) →
-      (told here (outcome refused second n r t s) >>= λ x w. f x w >>= pair_first b) ≡ ((told here (outcome refused second n p t s) >>= λ x w. g x w >>= one_first b) >>= with_pending q)
+module _ (here : Here) (n : Named Identifier) (b : Binder) (p : Pending Identifier FramedIdent) (t s : ScopedState) (f : Renamed Identifier FramedIdent → Step ScopedState (List Binder × Renamed Identifier FramedIdent)) (g : Renamed Identifier FramedIdent → Step ScopedState (List Binder)) where
+  one_defined : (refused second : Bool) → f (unchanged p) t ≡ (g (unchanged p) t >>= with_made p) →
+      (told here (outcome refused second n (unchanged p) t s) >>= λ x w. f x w >>= pair_first b) ≡ ((told here (outcome refused second n (unchanged p) t s) >>= λ x w. g x w >>= one_first b) >>= with_made p)
   one_defined true second h = refl
   one_defined false true h = refl
-  one_defined false false h = ap (λ (x : Result (List Binder × Pending Identifier FramedIdent) Broken × ScopedState). x >>= pair_first b) h ∙ turned_about b q (g p t)
+  one_defined false false h = ap (λ (x : Result (List Binder × Renamed Identifier FramedIdent) Broken × ScopedState). x >>= pair_first b) h ∙ turned_about b p (g (unchanged p) t)
 
--- by scopes nothing is substituted: names put first are the names one after another
-module _ (known : Known) (here : Here) (e : Frames) (fs : List (Form Identifier)) (p : Pending Identifier FramedIdent) where
-  pub names_defined : (ns : List (Named Identifier)) (s : ScopedState) → define_names (searched known) here e ns fs p s ≡ (define_each (searched known) here e ns p s >>= with_pending (first fs p))
+-- by scopes nothing is renamed
+module _ (known : Known) (here : Here) (e : Frames) (p : Pending Identifier FramedIdent) where
+  pub names_defined : (ns : List (Named Identifier)) (s : ScopedState) → define_names (searched known) here e ns p s ≡ (define_each (searched known) here e ns p s >>= with_made p)
   names_defined [] s = refl
   names_defined (n ∷ ns) s =
       let b = body_around e in
       let t = definition_added b n None e s in
-      one_defined here n (binder_at (searched known) e s n) (first fs p) (named_first here ns fs p) p t s (define_all (searched known) here e ns) (λ q w. define_each (searched known) here e ns p w)
+      one_defined here n (binder_at (searched known) e s n) p t s (λ made w. define_all (searched known) here e made.rename ns made.pending w) (λ made w. define_each (searched known) here e ns p w)
       (any (λ note. speaks_of n.name note && refused_here t (meaning_next s b n.name) false note) p.notes) (is_defined s b n.name) (names_defined ns t)
 
 -- ---- fields
@@ -147,14 +150,14 @@ behind_none (Ok bs, s) = refl
 behind_none (Err e, s) = refl
 
 -- a name that is defined, and the names behind it
-one_goes : (x : Result (Pending Identifier FramedIdent) Broken × ScopedState) (f : Pending Identifier FramedIdent → Step ScopedState (List Binder)) (b : Binder) (names : List Binder) (y : Pending Identifier FramedIdent) → x.0 ≡ Ok y →
+one_goes : (x : Result (Renamed Identifier FramedIdent) Broken × ScopedState) (f : Renamed Identifier FramedIdent → Step ScopedState (List Binder)) (b : Binder) (names : List Binder) (y : Renamed Identifier FramedIdent) → x.0 ≡ Ok y →
     ((x >>= λ q w. f q w >>= one_first b) >>= behind names) ≡ (f y x.1 >>= behind (names ++ b ∷ []))
 one_goes x f b names y is =
-    ap (λ (r : Result (Pending Identifier FramedIdent) Broken). ((r, x.1) >>= λ q w. f q w >>= one_first b) >>= behind names) is ∙ behind_one names b (f y x.1)
+    ap (λ (r : Result (Renamed Identifier FramedIdent) Broken). ((r, x.1) >>= λ q w. f q w >>= one_first b) >>= behind names) is ∙ behind_one names b (f y x.1)
 
-one_fails : (x : Result (Pending Identifier FramedIdent) Broken × ScopedState) (f : Pending Identifier FramedIdent → Step ScopedState (List Binder)) (b : Binder) (names : List Binder) (e : Broken) → x.0 ≡ Err e →
+one_fails : (x : Result (Renamed Identifier FramedIdent) Broken × ScopedState) (f : Renamed Identifier FramedIdent → Step ScopedState (List Binder)) (b : Binder) (names : List Binder) (e : Broken) → x.0 ≡ Err e →
     ((x >>= λ q w. f q w >>= one_first b) >>= behind names) ≡ (Err e, x.1)
-one_fails x f b names e is = ap (λ (r : Result (Pending Identifier FramedIdent) Broken). ((r, x.1) >>= λ q w. f q w >>= one_first b) >>= behind names) is
+one_fails x f b names e is = ap (λ (r : Result (Renamed Identifier FramedIdent) Broken). ((r, x.1) >>= λ q w. f q w >>= one_first b) >>= behind names) is
 
 -- what stands beside an element, and behind it
 pub matched_here : {X Y : Type 0} (P : X → Y → Type 0) (xs : List X) (ys : List Y) (k : ℕ) (d : X) → forms.AllMatch P xs ys → k < length xs → (y : Y) × P (get_or xs k d) y × (drop k ys ≡ y ∷ drop (k + 1) ys)
@@ -194,19 +197,19 @@ module _ (work : Work) (known : Known) (here : Here) (u : UnitScope) (ls : List 
   }
 
   module _ (v w : UnitScope) (k : ℕ) (bs : List code_binder.Binder) (n : Named Identifier) (next : drop k ns ≡ n ∷ drop (k + 1) ns) (h : DefinedSoFar v k bs) where
-    abbrev x : Result (Pending Identifier FramedIdent) Broken × ScopedState
+    abbrev x : Result (Renamed Identifier FramedIdent) Broken × ScopedState
     x = told here ((searched known).define n None fs p h.state)
 
     abbrev binder : Binder
     binder = binder_at (searched known) fs h.state n
 
-    abbrev behind_it : Pending Identifier FramedIdent → Step ScopedState (List Binder)
+    abbrev behind_it : Renamed Identifier FramedIdent → Step ScopedState (List Binder)
     behind_it q t = define_each (searched known) here fs (drop (k + 1) ns) p t
 
     split : define_each (searched known) here fs ns p s ≡ ((x >>= λ q t. behind_it q t >>= one_first binder) >>= behind h.names)
     split = h.rest ∙ ap (λ (l : List (Named Identifier)). define_each (searched known) here fs l p h.state >>= behind h.names) next
 
-    pub one_more_defined : (b : code_binder.Binder) → IsBinder work.symbols h.state.unit h.state.form b binder → EndsIn (λ (done : Unit {0}) (q : Pending Identifier FramedIdent). q ≡ p) work v w ls spot fs (Ok tt) x → DefinedSoFar w (k + 1) (bs ++ b ∷ [])
+    pub one_more_defined : (b : code_binder.Binder) → IsBinder work.symbols h.state.unit h.state.form b binder → EndsIn (λ (done : Unit {0}) (made : Renamed Identifier FramedIdent). made ≡ unchanged p) work v w ls spot fs (Ok tt) x → DefinedSoFar w (k + 1) (bs ++ b ∷ [])
     one_more_defined b is ends =
         let unit : h.state.unit ≡ u.unit = sym h.goes.stands.unit ∙ h.goes.same.unit in
         let form : h.state.form ≡ u.form.number = sym h.goes.stands.form.number ∙ h.goes.same.number in
@@ -219,7 +222,7 @@ module _ (work : Work) (known : Known) (here : Here) (u : UnitScope) (ls : List 
           rest = split ∙ one_goes x behind_it binder h.names ends.0 ends.2;
         }
 
-    pub next_fails : {X : Type 0} (Q : X → List Binder → Type 0) (e : ExpandFault) → EndsIn (λ (done : Unit {0}) (q : Pending Identifier FramedIdent). q ≡ p) work v w ls spot fs (Err e) x → EndsIn Q work u w ls spot fs (Err e) (define_each (searched known) here fs ns p s)
+    pub next_fails : {X : Type 0} (Q : X → List Binder → Type 0) (e : ExpandFault) → EndsIn (λ (done : Unit {0}) (made : Renamed Identifier FramedIdent). made ≡ unchanged p) work v w ls spot fs (Err e) x → EndsIn Q work u w ls spot fs (Err e) (define_each (searched known) here fs ns p s)
     next_fails Q (fault.At e) ends =
         subst (λ (r : Result (List Binder) Broken × ScopedState). EndsIn Q work u w ls spot fs (Err (fault.At e)) r) (sym (split ∙ one_fails x behind_it binder h.names ends.1.0 ends.1.1))
         (goes_on v w h.state x.1 h.goes ends.0, (ends.1.0, refl, ends.1.2))
@@ -249,7 +252,7 @@ less_left fs k given u v uses locals le one =
     fewer_by a b m n k given e locals le = omega (arith, e, locals, le)
 
 module _ (work : Work) (region : Region) (u v : UnitScope) (ls : List Frames) (spot : Spot) (fs : Frames) (s : ScopedState) (p : Pending Identifier FramedIdent) (old new : code_pending.Pending) (asked : Asked) (given : ℕ) (m : Item Identifier) (k : code_kept.Kept)
-    (pending : PendingFor work region u.unit u.form.number old p) (notes : NotesFor work ls asked p.notes) (kept : KeptFor work region u.unit u.form.number k m) (todo : new.todo ≡ old.todo) (aside : new.aside.items ≡ old.aside.items ++ k ∷ []) where
+    (pending : PendingFor work region u.unit u.form.number old p) (notes : NotesFor work ls asked p.notes) (kept : KeptFor work region u.unit u.form.number k m) (todo : StaysBeside old new) (aside : new.aside.items ≡ old.aside.items ++ k ∷ []) where
   pub aside_stands : SameForm u v → PendingFor work region v.unit v.form.number new (put m p)
   aside_stands h =
       let there = kept_more work region u.unit u.form.number old new p k m todo aside pending kept in
@@ -296,17 +299,17 @@ in_after_same P work u w v ls spot fs (Err fault.Memory) x same h = h
 pub taken_same : (u : UnitScope) (n : ℕ) → SameForm u (with_locals u (u.form.budget.locals + n))
 taken_same u n = record { unit = refl; number = refl; root = refl; libraries = refl; roots = refl; uses = omega arith; nodes = omega arith }
 
-abbrev pub with_fields : List Binder → List Binder × Pending Identifier FramedIdent → Step ScopedState (List Binder × (List Binder × Pending Identifier FramedIdent))
+abbrev pub with_fields : List Binder → List Binder × Renamed Identifier FramedIdent → Step ScopedState (List Binder × (List Binder × Renamed Identifier FramedIdent))
 with_fields bs q = done (bs, q)
 
 -- the fields take locals, and then the names are defined
 pub record_steps : (known : Known) (here : Here) (fs : Frames) (fields names : List (Named Identifier)) (p : Pending Identifier FramedIdent) (s : ScopedState) →
-    (fields_bound (searched known) fields s >>= λ bs t. define_names (searched known) here fs names [] p t >>= λ q. done {A = List Binder × (List Binder × Pending Identifier FramedIdent)} (bs, q))
-    ≡ ((define_each (searched known) here fs names p (taken (length fields) s) >>= with_pending p) >>= with_fields (bound_binders (next_number s s.locals) fields))
+    (fields_bound (searched known) fields s >>= λ bs t. define_names (searched known) here fs names p t >>= λ q. done {A = List Binder × (List Binder × Renamed Identifier FramedIdent)} (bs, q))
+    ≡ ((define_each (searched known) here fs names p (taken (length fields) s) >>= with_made p) >>= with_fields (bound_binders (next_number s s.locals) fields))
 record_steps known here fs fields names p s =
     let bs = bound_binders (next_number s s.locals) fields in
-    ap (λ (r : Result (List Binder) Broken × ScopedState). r >>= λ cs t. define_names (searched known) here fs names [] p t >>= λ q. done {A = List Binder × (List Binder × Pending Identifier FramedIdent)} (cs, q)) (fields_searched known fields s ∙ fields_are known fields s)
-    ∙ ap (λ (r : Result (List Binder × Pending Identifier FramedIdent) Broken × ScopedState). r >>= with_fields bs) (names_defined known here fs [] p names (taken (length fields) s))
+    ap (λ (r : Result (List Binder) Broken × ScopedState). r >>= λ cs t. define_names (searched known) here fs names p t >>= λ q. done {A = List Binder × (List Binder × Renamed Identifier FramedIdent)} (cs, q)) (fields_searched known fields s ∙ fields_are known fields s)
+    ∙ ap (λ (r : Result (List Binder × Renamed Identifier FramedIdent) Broken × ScopedState). r >>= with_fields bs) (names_defined known here fs p names (taken (length fields) s))
 
 -- ---- macros
 

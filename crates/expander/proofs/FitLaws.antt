@@ -6,7 +6,7 @@ use Rattle.scheme_model.specs.Measures.{tree_size, trees_size, tail_size}
 use Rattle.scheme_model.specs.ExpansionFaults.{Named, named, Fault, ◌>>◌}
 use Rattle.scheme_model.specs.Keywords.{CoreKeyword, IsQuote, IsQuasiquote, IsLambda, IsCaseLambda, IsIf, IsSet, IsBegin, IsDefine, IsDefineValues, IsDefineRecordType, IsDefineSyntax, IsLetSyntax, IsLetrecSyntax, IsCondExpand, IsSyntaxError, IsInclude}
 use Rattle.scheme_model.specs.Quasiquote.{Mark, quasi_of}
-use Rattle.scheme_model.specs.Shapes.{Formals, Clause, DefinitionShape, Variable, Procedure as define_procedure, LocalMacros, first_of, list_of, one_of, some_of, proper_of, if_of, name_of, names_of, formals_in, formals_of, clause_in, clauses_in, distinct, distinct_all, lambda_of, case_lambda_of, named_tree_of, error_text_of, procedure_of, definition_with, definition_of, values_of, record_of, bindings_of, local_macros_of}
+use Rattle.scheme_model.specs.Shapes.{Formals, Clause, DefinitionShape, Variable, Procedure as define_procedure, LocalMacros, first_of, list_of, one_of, some_of, proper_of, if_of, name_of, names_of, formals_in, formals_of, clause_in, clauses_in, distinct, distinct_all, lambda_of, case_lambda_of, named_tree_of, error_text_of, procedure_of, definition_with, definition_of, values_of, record_of, bindings_of, local_macros_of, syntax_of}
 use Rattle.scheme_model.specs.Ident.{Ident as Identifier, same_ident}
 use Rattle.core_forms.specs.Forms.{Shape, Quoted, Quasi, Procedure, Procedures, Conditional, Assignment, Sequence, Definition, Several, RecordType, Syntax, Local, Choices, ErrorText, Inclusion, unless_expression, sequence_of, record_shape_of, choices_in, shape_of}
 use Rattle.unit_scopes.specs.Kept.{ClauseFits}
@@ -142,8 +142,8 @@ bindings_count no_trees p h =
     let e : q ≡ p = cc in
     omega (arith, ap (λ (x : List (Named Identifier) × Trees Identifier). length x.0) e)
 bindings_count (tree t ts) p h =
-    let a = made (list_of t) (λ p. named_tree_of p.0 p.1 >> λ b. bindings_of ts >> λ bs. Ok (b.0 ∷ bs.0, tree b.1 bs.1)) p h in
-    let b = made (named_tree_of a.first.0 a.first.1) (λ b. bindings_of ts >> λ bs. Ok (b.0 ∷ bs.0, tree b.1 bs.1)) p a.then in
+    let a = made (list_of t) (λ p. syntax_of p.0 p.1 >> λ b. bindings_of ts >> λ bs. Ok (b.0 ∷ bs.0, tree b.1 bs.1)) p h in
+    let b = made (syntax_of a.first.0 a.first.1) (λ b. bindings_of ts >> λ bs. Ok (b.0 ∷ bs.0, tree b.1 bs.1)) p a.then in
     let c = made (bindings_of ts) (λ bs. Ok (b.first.0 ∷ bs.0, tree b.first.1 bs.1)) p b.then in
     let at = c.then in
     let q : List (Named Identifier) × Trees Identifier = (b.first.0 ∷ c.first.0, tree b.first.1 c.first.1) in
@@ -246,7 +246,7 @@ shape_fits IsBegin expression mark ts tail m few h = plainly (sequence_of expres
 shape_fits IsDefine expression mark ts tail m few h = placed expression (definition_of same_ident ts tail) Definition m (λ d is. definition_fits ts tail d few is) h
 shape_fits IsDefineValues expression mark ts tail m few h = placed expression (values_of same_ident ts tail) Several m (λ p is. tt) h
 shape_fits IsDefineRecordType expression mark ts tail m few h = record_fits expression ts tail m h
-shape_fits IsDefineSyntax expression mark ts tail m few h = placed expression (named_tree_of ts tail) Syntax m (λ p is. tt) h
+shape_fits IsDefineSyntax expression mark ts tail m few h = placed expression (syntax_of ts tail) Syntax m (λ p is. tt) h
 shape_fits IsLetSyntax expression mark ts tail m few h = fitly (local_macros_of same_ident ts tail) Local m (λ l is. local_fits ts tail l few is) h
 shape_fits IsLetrecSyntax expression mark ts tail m few h = fitly (local_macros_of same_ident ts tail) Local m (λ l is. local_fits ts tail l few is) h
 shape_fits IsCondExpand expression mark ts tail m few h = plainly (some_of ts tail >> choices_in) Choices m (λ cs. tt) h

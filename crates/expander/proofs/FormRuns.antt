@@ -9,7 +9,7 @@ use Rattle.scheme_model.specs.Trees.{Tree, Trees, map_tree}
 use Rattle.scheme_model.specs.Holes.{hole_places}
 use Rattle.scheme_model.specs.Quasiquote.{Mark, Pieces, quasi_of}
 use Rattle.scheme_model.specs.Ident.{Ident as Identifier, symbol_of}
-use Rattle.scheme_model.specs.ExpansionFaults.{Named, Fault, BadForm, BadPlace, fault_code, fault_name, ◌>>◌}
+use Rattle.scheme_model.specs.ExpansionFaults.{Named, Fault, BadForm, BadPlace, fault_code, fault_name, ◌>>◌, error_text}
 use Rattle.scheme_model.specs.Keywords.{CoreKeyword}
 use Rattle.scheme_model.specs.Requirements.{Known}
 use Rattle.scheme_model.specs.Shapes.{Clause}
@@ -28,7 +28,6 @@ use Rattle.core_forms.specs.Parts.{AllMatch as AllParts, IsName, IsChoice, AreTr
 use Rattle.core_forms.specs.declared.shape.Choice.{Choice}
 use Rattle.core_forms.specs.declared.shape.NamePart.{NamePart}
 use Rattle.core_tree.specs.Names.{IsTarget}
-use Rattle.core_tree.specs.Traces.{error_text}
 use Rattle.core_tree.specs.Cores.{CoreStands, PartsStand as PartsOfCores}
 use Rattle.core_tree.specs.declared.cores.Clause as code_clause
 use Rattle.core_tree.specs.declared.cores.Core as code_core

@@ -1,5 +1,5 @@
 -- Of the pairs of a use that are compared those are handed on that held, and these tell exactly which literals mean the same.
-use Rattle.std.proofs.Common.{◌≡◌, ℕ, ◌&&◌, ◌||◌, List, [], ◌∷◌, map, Bool, true, false, cond, Option, refl, sym, ap, ◌∙◌, ◌⊎◌, inl, inr}
+use Rattle.std.proofs.Common.{◌≡◌, ℕ, ◌&&◌, ◌||◌, List, [], ◌∷◌, map, Bool, true, false, cond, Option, refl, sym, ap, ◌∙◌, subst, ◌⊎◌, inl, inr}
 use Rattle.std.specs.List.{list_any, filter}
 use Rattle.std.specs.Option.{option_map_or}
 use Rattle.scheme_model.specs.Ident.{Ident as Identifier, same_ident}
@@ -8,7 +8,7 @@ use Rattle.scheme_model.specs.Meaning.{same_meaning}
 use Rattle.scheme_model.specs.Matching.{compared}
 use Rattle.scheme_model.specs.Requirements.{Known}
 use Rattle.scheme_model.specs.RulesShape.{role_of, dots_of}
-use Rattle.scheme_model.specs.Order.{Note, Compared, Transformer, comparisons}
+use Rattle.scheme_model.specs.Order.{Note, Compared, Transformer, comparisons, has_use}
 use Rattle.scheme_model.specs.CountedExpansion.{means_here}
 use Rattle.scheme_model.specs.ScopedExpansion.{Frames, FramedIdent, ScopedState}
 use Rattle.scheme_model.proofs.IdentLaws.{ident_told}
@@ -139,9 +139,11 @@ module _ (work : Work) (known : Known) (ls : List Frames) (s : ScopedState) (fs 
   tells same whole all are is [] h = tt
   tells same whole all are is (q ∷ qs) h = (ap (λ (ps : List IdPair). means_same work ps q.0 q.1) is ∙ h.0, tells same whole all are is qs h.1)
 
+  -- where a use begins
   pub are_held : (cs : List Comparison) (same : List IdPair) (ts : Trees Identifier) (tail : Tail Identifier) → AllMatch (ComparisonFor work ls literal_scope scope) cs (comparisons (searched known) fs m ts tail s) →
-      same ≡ map (λ c. c.pair) (filter (λ c. c.held) cs) → AreHeld work s m.env fs same (compared (role_of identifiers m.rules) (dots_of identifiers m.rules) m.rules.rules ts tail)
-  are_held cs same ts tail h is =
+      same ≡ map (λ c. c.pair) (filter (λ c. c.held) cs) → has_use (searched known) s ≡ true → AreHeld work s m.env fs same (compared (role_of identifiers m.rules) (dots_of identifiers m.rules) m.rules.rules ts tail)
+  are_held cs same ts tail h is begins =
       let qs = compared (role_of identifiers m.rules) (dots_of identifiers m.rules) m.rules.rules ts tail in
-      let are = pairs_are cs qs h in
+      let all : comparisons (searched known) fs m ts tail s ≡ map note qs = ap (λ b. cond b (map note qs) []) begins in
+      let are = pairs_are cs qs (subst (λ (ns : List (Note FramedIdent)). AllMatch (ComparisonFor work ls literal_scope scope) cs ns) all h) in
       tells same cs qs are is qs (held_tell work mean cs qs are cs qs are (λ q g. g))

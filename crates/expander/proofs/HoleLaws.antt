@@ -1,12 +1,13 @@
 -- The datum of a quasiquotation is its tree with the holes taken out, also with symbols in place of identifiers.
 use Rattle.std.proofs.Common.{◌≡◌, ℕ, zero, suc, ◌+◌, List, [], ◌++◌, Bool, true, false, Option, Some, None, Result, Ok, Err, refl, ap, ◌∙◌, subst}
+use Rattle.std.specs.Prelude.{if◌then◌else◌}
 use Rattle.scheme_model.specs.declared.Occ.{Occ}
 use Rattle.scheme_model.specs.Trees.{Tree, name, atom, list, vector, Trees, no_trees, tree, Tail, proper, dotted, map_tree, map_trees, map_tail}
 use Rattle.scheme_model.specs.ExpansionFaults.{Fault, ◌>>◌}
 use Rattle.scheme_model.specs.Shapes.{one_of}
 use Rattle.scheme_model.specs.Cores.{hole_weight, weight, weights, tail_weight}
 use Rattle.scheme_model.specs.Holes.{places_in, places_among, places_behind, hole_places, IsLike, AreLike, IsTailLike, FillsHole, HasHoles}
-use Rattle.scheme_model.specs.Quasiquote.{Mark, Nested, Unquoted, Spliced, Pieces, RowPieces, pieces, row_pieces, before, hole_of, by_mark, pieces_of, row_of, parts_of, tail_of, quasi_of}
+use Rattle.scheme_model.specs.Quasiquote.{Mark, Nested, Unquoted, Spliced, Pieces, RowPieces, pieces, row_pieces, before, listed, mark_in, level_behind, hole_behind, pair_by, is_splice, element_by, datum_at, pair_at, tail_at, elements_at, quasi_of}
 use Rattle.scheme_model.specs.Expression.{symbol_or_hole}
 use Rattle.scheme_model.specs.Ident.{Ident as Identifier}
 
@@ -45,54 +46,66 @@ part_like t ts (Ok p) (Ok r) h g = (t, ts, refl, h, g)
 part_like t ts (Ok p) (Err e) h g = tt
 part_like t ts (Err e) r h g = tt
 
-first_like : (t : Tree Identifier) (ts : Trees Identifier) (tail : Tail Identifier) (d : Tree (Option Identifier)) (r : Result (RowPieces Identifier) (Fault Identifier)) → IsLike Fills t d → RowLike ts tail r → RowLike (tree t ts) tail (r >> λ r. Ok (before (pieces d []) r))
-first_like t ts tail d (Ok r) w h = ((t, ts, refl, w, h.0), h.1)
-first_like t ts tail d (Err e) w h = tt
-
-hole_like : (i : Identifier) (o : Option Occ) (ts : Trees Identifier) (tail : Tail Identifier) → RowLike (tree (name i o) ts) tail (hole_of i o (one_of ts tail))
+hole_like : (i : Identifier) (o : Option Occ) (ts : Trees Identifier) (tail : Tail Identifier) → RowLike (tree (name i o) ts) tail (hole_behind (name i o) (one_of ts tail))
 hole_like i o no_trees tail = tt
 hole_like i o (tree t no_trees) proper = ((name i o, tree t no_trees, refl, (i, refl, refl), (t, no_trees, refl, tt, refl)), refl)
 hole_like i o (tree t no_trees) (dotted u) = tt
 hole_like i o (tree t (tree u us)) tail = tt
 
-by_mark_like : (m : Option Mark) (level : ℕ) (element : Bool) (i : Identifier) (o : Option Occ) (ts : Trees Identifier) (tail : Tail Identifier) (rest : ℕ → Result (RowPieces Identifier) (Fault Identifier)) → ((l : ℕ) → RowLike ts tail (rest l)) →
-    RowLike (tree (name i o) ts) tail (by_mark m level element i o ts tail rest)
-by_mark_like None level element i o ts tail rest h = first_like (name i o) ts tail (name (Some i) o) (rest level) (i, refl, refl) (h level)
-by_mark_like (Some Nested) level element i o ts tail rest h = first_like (name i o) ts tail (name (Some i) o) (rest (suc level)) (i, refl, refl) (h (suc level))
-by_mark_like (Some Unquoted) zero element i o ts tail rest h = hole_like i o ts tail
-by_mark_like (Some Unquoted) (suc level) element i o ts tail rest h = first_like (name i o) ts tail (name (Some i) o) (rest level) (i, refl, refl) (h level)
-by_mark_like (Some Spliced) zero true i o ts tail rest h = hole_like i o ts tail
-by_mark_like (Some Spliced) zero false i o ts tail rest h = tt
-by_mark_like (Some Spliced) (suc level) element i o ts tail rest h = first_like (name i o) ts tail (name (Some i) o) (rest level) (i, refl, refl) (h level)
+by_mark_like : (m : Option Mark) (level : ℕ) (t : Tree Identifier) (ts : Trees Identifier) (tail : Tail Identifier) (hole rest : Result (RowPieces Identifier) (Fault Identifier)) (first : Result (Pieces Identifier) (Fault Identifier)) →
+    RowLike (tree t ts) tail hole → PiecesLike t first → RowLike ts tail rest → RowLike (tree t ts) tail (pair_by m level hole first rest)
+by_mark_like None level t ts tail hole rest first h p r = before_like t ts tail first rest p r
+by_mark_like (Some Nested) level t ts tail hole rest first h p r = before_like t ts tail first rest p r
+by_mark_like (Some Unquoted) zero t ts tail hole rest first h p r = h
+by_mark_like (Some Unquoted) (suc level) t ts tail hole rest first h p r = before_like t ts tail first rest p r
+by_mark_like (Some Spliced) zero t ts tail hole rest first h p r = tt
+by_mark_like (Some Spliced) (suc level) t ts tail hole rest first h p r = before_like t ts tail first rest p r
 
 end_like : (t : Tree Identifier) (p : Result (Pieces Identifier) (Fault Identifier)) → PiecesLike t p → RowLike no_trees (dotted t) (p >> λ p. Ok (row_pieces no_trees (dotted p.datum) p.holes))
 end_like t (Ok p) h = (refl, (t, refl, h))
 end_like t (Err e) h = tt
 
 module _ (mark : Identifier → Option Mark) where
+  element_like : (level : ℕ) (t : Tree Identifier) (datum : Result (Pieces Identifier) (Fault Identifier)) → PiecesLike t datum → PiecesLike t (element_by mark level t datum)
+  element_like level (name i o) datum h = h
+  element_like level (atom a o) datum h = h
+  element_like level (vector ts o) datum h = h
+  element_like level (list no_trees tail o) datum h = h
+  element_like level (list (tree (name i p) ts) tail o) datum h = go (is_splice (mark i) level)
+    where
+      go : (b : Bool) → PiecesLike (list (tree (name i p) ts) tail o) (if b then (hole_behind (name i p) (one_of ts tail) >> λ r. Ok (listed o r)) else datum)
+      go true = list_like (tree (name i p) ts) tail o (hole_behind (name i p) (one_of ts tail)) (hole_like i p ts tail)
+      go false = h
+  element_like level (list (tree (atom a p) ts) tail o) datum h = h
+  element_like level (list (tree (list us end p) ts) tail o) datum h = h
+  element_like level (list (tree (vector us p) ts) tail o) datum h = h
+
+  pair_like : (level : ℕ) (t : Tree Identifier) (ts : Trees Identifier) (tail : Tail Identifier) (first : Result (Pieces Identifier) (Fault Identifier)) (rest : Result (RowPieces Identifier) (Fault Identifier)) → PiecesLike t first → RowLike ts tail rest →
+      RowLike (tree t ts) tail (pair_by (mark_in mark t) level (hole_behind t (one_of ts tail)) first rest)
+  pair_like level (name i o) ts tail first rest p r = by_mark_like (mark i) level (name i o) ts tail (hole_behind (name i o) (one_of ts tail)) rest first (hole_like i o ts tail) p r
+  pair_like level (atom a o) ts tail first rest p r = before_like (atom a o) ts tail first rest p r
+  pair_like level (list us end o) ts tail first rest p r = before_like (list us end o) ts tail first rest p r
+  pair_like level (vector us o) ts tail first rest p r = before_like (vector us o) ts tail first rest p r
+
   mutual
-    pieces_like : (t : Tree Identifier) (level : ℕ) (element : Bool) → PiecesLike t (pieces_of mark t level element)
-    pieces_like (name i o) level element = (i, refl, refl)
-    pieces_like (atom a o) level element = refl
-    pieces_like (list ts tail o) level element = list_like ts tail o (row_of mark ts tail (tail_of mark tail) level element) (row_like ts tail (tail_of mark tail) (λ l. tail_like tail l) level element)
-    pieces_like (vector ts o) level element = vector_like ts o (parts_of mark ts level) (parts_like ts level)
+    datum_like : (level : ℕ) (t : Tree Identifier) → PiecesLike t (datum_at mark level t)
+    datum_like level (name i o) = (i, refl, refl)
+    datum_like level (atom a o) = refl
+    datum_like level (list ts tail o) = list_like ts tail o (pair_at mark level ts tail (tail_at mark tail)) (row_like level ts tail (tail_at mark tail) (λ l. tail_like tail l))
+    datum_like level (vector ts o) = vector_like ts o (elements_at mark level ts) (elements_like level ts)
 
-    row_like : (ts : Trees Identifier) (tail : Tail Identifier) (end : ℕ → Result (RowPieces Identifier) (Fault Identifier)) → ((l : ℕ) → RowLike no_trees tail (end l)) → (level : ℕ) (element : Bool) → RowLike ts tail (row_of mark ts tail end level element)
-    row_like no_trees tail end h level element = h level
-    row_like (tree (name i o) ts) tail end h level element = by_mark_like (mark i) level element i o ts tail (λ l. row_of mark ts tail end l false) (λ l. row_like ts tail end h l false)
-    row_like (tree (atom a o) ts) tail end h level element = first_like (atom a o) ts tail (atom a o) (row_of mark ts tail end level false) refl (row_like ts tail end h level false)
-    row_like (tree (list us last o) ts) tail end h level element =
-        before_like (list us last o) ts tail (pieces_of mark (list us last o) level true) (row_of mark ts tail end level false) (pieces_like (list us last o) level true) (row_like ts tail end h level false)
-    row_like (tree (vector us o) ts) tail end h level element =
-        before_like (vector us o) ts tail (pieces_of mark (vector us o) level true) (row_of mark ts tail end level false) (pieces_like (vector us o) level true) (row_like ts tail end h level false)
+    row_like : (level : ℕ) (ts : Trees Identifier) (tail : Tail Identifier) (end : ℕ → Result (RowPieces Identifier) (Fault Identifier)) → ((l : ℕ) → RowLike no_trees tail (end l)) → RowLike ts tail (pair_at mark level ts tail end)
+    row_like level no_trees tail end h = h level
+    row_like level (tree t ts) tail end h =
+        pair_like level t ts tail (element_by mark level t (datum_at mark level t)) (pair_at mark (level_behind (mark_in mark t) level) ts tail end) (element_like level t (datum_at mark level t) (datum_like level t)) (row_like (level_behind (mark_in mark t) level) ts tail end h)
 
-    parts_like : (ts : Trees Identifier) (level : ℕ) → PartsLike ts (parts_of mark ts level)
-    parts_like no_trees level = refl
-    parts_like (tree t ts) level = part_like t ts (pieces_of mark t level true) (parts_of mark ts level) (pieces_like t level true) (parts_like ts level)
+    elements_like : (level : ℕ) (ts : Trees Identifier) → PartsLike ts (elements_at mark level ts)
+    elements_like level no_trees = refl
+    elements_like level (tree t ts) = part_like t ts (element_by mark level t (datum_at mark level t)) (elements_at mark level ts) (element_like level t (datum_at mark level t) (datum_like level t)) (elements_like level ts)
 
-    tail_like : (tail : Tail Identifier) (level : ℕ) → RowLike no_trees tail (tail_of mark tail level)
+    tail_like : (tail : Tail Identifier) (level : ℕ) → RowLike no_trees tail (tail_at mark tail level)
     tail_like proper level = (refl, refl)
-    tail_like (dotted t) level = end_like t (pieces_of mark t level false) (pieces_like t level false)
+    tail_like (dotted t) level = end_like t (datum_at mark level t) (datum_like level t)
 
 -- ---- symbols in place of identifiers
 
@@ -151,7 +164,7 @@ module _ (f : Identifier → List ℕ) where
 
   -- what was read of a quasiquotation has its holes, and these their places
   pub quasi_holes : (mark : Identifier → Option Mark) (t : Tree Identifier) (p : Pieces Identifier) → quasi_of mark t ≡ Ok p → HasHoles f t (map_tree (symbol_or_hole f) p.datum)
-  quasi_holes mark t p h = like_map t p.datum (subst (PiecesLike t) h (pieces_like mark t zero false))
+  quasi_holes mark t p h = like_map t p.datum (subst (PiecesLike t) h (datum_like mark zero t))
 
   pub quasi_places : (p : Pieces Identifier) → hole_places (map_tree (symbol_or_hole f) p.datum) ≡ hole_places p.datum
   quasi_places p = places_map 0 p.datum

@@ -9,7 +9,8 @@ use Rattle.scheme_model.specs.Trees.{Tree}
 use Rattle.scheme_model.specs.Cores.{Binder}
 use Rattle.scheme_model.specs.Steps.{Broken, Step, ◌>>=◌, done}
 use Rattle.scheme_model.specs.Expression.{meaning_of}
-use Rattle.scheme_model.specs.Order.{Here, Going, Pass, Pending, Macro, RulesParts, caught, put, noted, told, binder_at, rules_parts_of, rules_parts, rules_note, rules_at, run_syntax}
+use Rattle.scheme_model.specs.Order.{Here, Going, Pass, Pending, Renamed, Macro, RulesParts, caught, put, noted, told, binder_at, rules_parts_of, rules_parts, rules_note, rules_at, run_syntax}
+use Rattle.scheme_model.specs.Substitution.{unchanged}
 use Rattle.scheme_model.specs.ScopedExpansion.{Frames, FramedIdent, ScopedState, body_around, bound_next, meaning_next}
 use Rattle.syntax_tree.specs.Meant.{IsMeaning}
 use Rattle.syntax_tree.specs.declared.meaning.Meaning as code_meaning
@@ -39,7 +40,7 @@ use Rattle.unit_scopes.specs.declared.scope.UnitScope.{UnitScope}
 use Rattle.unit_scopes.proofs.CountingStands.{nodes_stand}
 use Rattle.unit_scopes.proofs.DefineLaws.{is_in_on}
 use Rattle.unit_scopes.proofs.OutcomeLaws.{bound_goes, bound_fails, leaves_itself, stays_itself}
-use Rattle.expander.proofs.DefinitionSteps.{goes_failing, aside_goes, in_fails, in_after_same, rules_there, rules_define_none, binder_here}
+use Rattle.expander.proofs.DefinitionSteps.{StaysBeside, goes_failing, aside_goes, in_fails, in_after_same, rules_there, rules_define_none, binder_here}
 
 -- what was bound means itself
 bound_means : (s : ScopedState) (o : Option Number) (i : Identifier) → meaning_next s o i ≡ meaning_of (bound_next s o) i
@@ -67,7 +68,7 @@ module _ (work : Work) (region : Region) (u : UnitScope) (ls : List Frames) (spo
   with_note = noted (rules_note (searched known) fs s (rules_parts_of t)) p
 
   abbrev then_defined : Rules Identifier → Step ScopedState (Binder × Pending Identifier FramedIdent)
-  then_defined rules w = told here ((searched known).define n (Some rules) fs with_note w) >>= λ q. done (binder_at (searched known) fs w n, q)
+  then_defined rules w = told here ((searched known).define n (Some rules) fs with_note w) >>= λ made. done (binder_at (searched known) fs w n, made.pending)
 
   abbrev then_read : RulesParts Identifier → Step ScopedState (Binder × Pending Identifier FramedIdent)
   then_read r w = rules_at (searched known) here t r w >>= then_defined
@@ -120,14 +121,14 @@ module _ (work : Work) (region : Region) (u : UnitScope) (ls : List Frames) (spo
     read_fails fault.Memory h = h
 
     module _ (k : code_macro.Macro) (h : EndsHere MacroIs work work region u w ls (Ok k) reading) where
-      abbrev defining : Result (Pending Identifier FramedIdent) Broken × ScopedState
+      abbrev defining : Result (Renamed Identifier FramedIdent) Broken × ScopedState
       defining = told here ((searched known).define n (Some h.0) fs with_note reading.1)
 
-      abbrev is_so : Unit {0} → Pending Identifier FramedIdent → Type 0
-      is_so d q = q ≡ with_note
+      abbrev is_so : Unit {0} → Renamed Identifier FramedIdent → Type 0
+      is_so d made = made ≡ unchanged with_note
 
-      abbrev beside : Pending Identifier FramedIdent → Step ScopedState (Binder × Pending Identifier FramedIdent)
-      beside q = done (binder_at (searched known) fs reading.1 n, q)
+      abbrev beside : Renamed Identifier FramedIdent → Step ScopedState (Binder × Pending Identifier FramedIdent)
+      beside made = done (binder_at (searched known) fs reading.1 n, made.pending)
 
       read : whole ≡ (defining >>= beside)
       read = passes ∙ bound_goes reading then_defined h.0 h.2
@@ -141,11 +142,11 @@ module _ (work : Work) (region : Region) (u : UnitScope) (ls : List Frames) (spo
 
       pub macro_goes : (v : UnitScope) (new : code_pending.Pending) (b : code_binder.Binder) (c : code_meaning.Meaning) → EndsIn is_so work w v ls spot fs (Ok tt) defining → Takes 1 w v → PendingFor work region u.unit u.form.number old p →
           IsBinder work.symbols reading.1.unit reading.1.form b (binder_at (searched known) fs reading.1 n) → IsMeaning work.symbols reading.1.unit reading.1.form c (meaning_next reading.1 (body_around fs) n.name) →
-          new.todo ≡ old.todo → new.aside.items ≡ old.aside.items ++ kept.Macro b c ∷ [] → 1 ≤ given → GoesOn work work region u v ls spot fs p.todo given new asked (Ok tt) (λ go. run_syntax (searched known) go here fs p (n, t) s)
+          StaysBeside old new → new.aside.items ≡ old.aside.items ++ kept.Macro b c ∷ [] → 1 ≤ given → GoesOn work work region u v ls spot fs p.todo given new asked (Ok tt) (λ go. run_syntax (searched known) go here fs p (n, t) s)
       macro_goes v new b c ends takes pending binder means todo aside one =
           let first = in_after_same is_so work u w v ls spot fs (Ok tt) defining h.1.same ends in
           let m = binder_at (searched known) fs reading.1 n in
-          let x : Whole = (Ok (m, first.0), defining.1) in
+          let x : Whole = (Ok (m, first.0.pending), defining.1) in
           let same : w.form.budget.locals ≡ u.form.budget.locals = λ j. (counts.2 j).form.budget.locals in
           let uses : w.form.budget.uses ≡ u.form.budget.uses = λ j. (counts.2 j).form.budget.uses in
           let locals = takes.locals in
@@ -155,6 +156,6 @@ module _ (work : Work) (region : Region) (u : UnitScope) (ls : List Frames) (spo
           let kept_binder = subst (λ (f : ℕ). IsBinder work.symbols u.unit f b m) number (subst (λ (x : ℕ). IsBinder work.symbols x w.form.number b m) h.1.same.unit is) in
           let kept_meaning = subst (λ (f : ℕ). IsMeaning work.symbols u.unit f c (meaning_of m.bound m.ident)) number (subst (λ (x : ℕ). IsMeaning work.symbols x w.form.number c (meaning_of m.bound m.ident)) h.1.same.unit meant) in
           by_whole v (Ok tt) new x (read ∙ bound_goes defining beside first.0 first.2)
-          (aside_goes work region u v ls spot fs s with_note old new asked given (Macro m here) (kept.Macro b c) (record { todo = pending.todo; aside = pending.aside }) notes
-          (b, c, refl, kept_binder, kept_meaning) todo aside 1 (m, first.0) x set_aside first.1 refl (takes.uses ∙ uses) (omega (arith, same, locals)) (omega arith) one
-          (λ go. ap (λ (q : Pending Identifier FramedIdent). go (put (Macro m here) q) defining.1) first.3))
+          (aside_goes work region u v ls spot fs s with_note old new asked given (Macro m here) (kept.Macro b c) (record { todo = pending.todo; aside = pending.aside; uses = pending.uses }) notes
+          (b, c, refl, kept_binder, kept_meaning) todo aside 1 (m, first.0.pending) x set_aside first.1 refl (takes.uses ∙ uses) (omega (arith, same, locals)) (omega arith) one
+          (λ go. ap (λ (made : Renamed Identifier FramedIdent). go (put (Macro m here) made.pending) defining.1) first.3))

@@ -48,7 +48,7 @@ use Rattle.form_parts.specs.declared.items.Spot.{Spot}
 use Rattle.unit_scopes.specs.declared.scope.UnitScope.{UnitScope}
 use Rattle.unit_scopes.specs.declared.uses.Use as code_use
 use Rattle.unit_scopes.proofs.CountingStands.{keyword_stands}
-use Rattle.expander.proofs.DefinitionSteps.{aside_now}
+use Rattle.expander.proofs.DefinitionSteps.{StaysBeside, aside_now}
 use Rattle.expander.proofs.FitLaws.{some_node, shape_fits}
 use Rattle.unit_scopes.proofs.NodeLaws.{plain_is}
 use Rattle.unit_scopes.proofs.OutcomeLaws.{grows_itself, leaves_itself}
@@ -113,7 +113,7 @@ module _ (known : Known) (work : Work) (fs : Frames) (s : ScopedState) (m : Form
 -- ---- what is left, with one note more
 
 pub noted_pending : (work : Work) (region : Region) (unit form : ℕ) (todo : code_pending.Pending) (p : Pending Identifier FramedIdent) (ns : List (Note FramedIdent)) → PendingFor work region unit form todo p → PendingFor work region unit form todo (noted ns p)
-noted_pending work region unit form todo p ns h = record { todo = h.todo; aside = h.aside }
+noted_pending work region unit form todo p ns h = record { todo = h.todo; aside = h.aside; uses = h.uses }
 
 pub can_pass_noted : (work : Work) (region : Region) (u : UnitScope) (spot : Spot) (given : ℕ) (todo : code_pending.Pending) (old new : Asked) (can : CanPass work region u spot given todo old) (q : Note FramedIdent) →
     NotesFor work can.layout new (q ∷ can.left.notes) → CanPass work region u spot given todo new
@@ -168,7 +168,7 @@ can_pass_met work region u spot given less todo asked x k can is le =
       left = can.left;
       stands = keyword_stands work u can.layout can.state x k (target_at work.symbols can.state.unit can.state.form u.unit u.form.number x k (sym e.unit) (sym e.form.number) is) e;
       placed = spot_same work u (with_keyword u x) can.layout can.state (met k can.state) spot can.frames refl refl refl can.placed;
-      pending = record { todo = can.pending.todo; aside = can.pending.aside };
+      pending = record { todo = can.pending.todo; aside = can.pending.aside; uses = can.pending.uses };
       notes = can.notes;
       room = less_room (u.form.budget.locals + left_with can.left.todo u.form.budget.uses) given less (most_locals u.form.budget.nodes) can.room le;
     }
@@ -221,7 +221,7 @@ read_is known here p r o next s is = ap (λ (x : Result (Option (Trees Identifie
 
 pub sets_aside : (work : Work) (region : Region) (u : UnitScope) (ls : List Frames) (spot : Spot) (fs : Frames) (s : ScopedState) (p : Pending Identifier FramedIdent) (ns : List (Note FramedIdent)) (old new : code_pending.Pending) (asked : Asked) (m : Form Identifier) (x : code_form.Form)
     (f : Going Identifier FramedIdent ScopedState → Pass Identifier FramedIdent × ScopedState) → ((go : Going Identifier FramedIdent ScopedState) → f go ≡ go (put (Expression m) (noted ns p)) s) → Stands work u ls s → SpotFor work u ls s spot fs → FormFor work region x m →
-    PendingFor work region u.unit u.form.number old p → NotesFor work ls asked (ns ++ p.notes) → new.todo ≡ old.todo → new.aside.items ≡ old.aside.items ++ kept.Expression x ∷ [] →
+    PendingFor work region u.unit u.form.number old p → NotesFor work ls asked (ns ++ p.notes) → StaysBeside old new → new.aside.items ≡ old.aside.items ++ kept.Expression x ∷ [] →
     GoesOn work work region u u ls spot fs p.todo (tree_size m.tree) new asked (Ok tt) f
 sets_aside work region u ls spot fs s p ns old new asked m x f same stands placed on pending notes todo aside =
     goes_so region ls spot fs p.todo (tree_size m.tree) new asked work work u u (Ok tt) f (λ go. go (put (Expression m) (noted ns p)) s) same

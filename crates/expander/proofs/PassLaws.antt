@@ -30,7 +30,7 @@ use Rattle.unit_scopes.specs.State.{Stands}
 use Rattle.unit_scopes.specs.Stepped.{spent}
 use Rattle.form_parts.specs.FormsSeen.{form_at}
 use Rattle.unit_scopes.specs.Told.{Tells}
-use Rattle.unit_scopes.specs.Kept.{FormFor, KeptFor, PendingFor, NoteFor, NotesFor, IsIn, SpotFor, forms_size, left_with}
+use Rattle.unit_scopes.specs.Kept.{FormFor, KeptFor, PendingFor, NoteFor, NotesFor, IsIn, SpotFor, forms_size, left_with, WaitsFor}
 use Rattle.unit_scopes.specs.Outcomes.{Stays}
 use Rattle.expander.specs.Passed.{GoesOn}
 use Rattle.unit_scopes.specs.Searched.{searched}
@@ -43,6 +43,7 @@ use Rattle.form_parts.specs.declared.items.Form as code_form
 use Rattle.form_parts.specs.declared.items.Kept as code_kept
 use Rattle.form_parts.specs.declared.items.Pending as code_pending
 use Rattle.form_parts.specs.declared.items.Spot.{Spot}
+use Rattle.form_parts.specs.declared.items.WaitingUse as code_waiting
 use Rattle.unit_scopes.specs.declared.scope.UnitScope.{UnitScope}
 use Rattle.unit_scopes.specs.declared.uses.Comparison.{Comparison}
 use Rattle.unit_scopes.proofs.BodyScopes.{binds_on}
@@ -127,7 +128,7 @@ module _ (region : Region) (ls : List Frames) (spot : Spot) (fs : Frames) (befor
 
   -- a shape that was misread
   abbrev broken_pass : List (Note FramedIdent) → Here → ScopedState → Fault Identifier → Pass Identifier FramedIdent × ScopedState
-  broken_pass ns at t x = (record { notes = ns; items = Err (record { fault = x; here = at }) }, t)
+  broken_pass ns at t x = (record { notes = ns; left = Err (record { fault = x; here = at }) }, t)
 
   pub goes_misread : {B : Type 0} (known : Known) (work : Work) (u : UnitScope) (s : ScopedState) (unit form : ℕ) (here : Here) (e : ExpandFault) (r : Result B (Fault Identifier)) (p : Pending Identifier FramedIdent)
       (next : Going Identifier FramedIdent ScopedState → B → ScopedState → Pass Identifier FramedIdent × ScopedState) → u.form.budget.nodes ≤ 200000 → s.unit ≡ unit → s.form ≡ form → Stands work u ls s → SpotFor work u ls s spot fs → NotesFor work ls asked p.notes →
@@ -176,7 +177,7 @@ locals_spliced l a b c k given is less = omega (arith, is, less)
 module _ (known : Known) (work : Work) (region : Region) (u v : UnitScope) (ls : List Frames) (s : ScopedState) (spot : Spot) (fs : Frames) (asked : Asked) (here : Here) (ns : List number.Tree) (ts : Trees Identifier) (p : Pending Identifier FramedIdent) (given : ℕ) (old new : code_pending.Pending)
     (e : Stands work u ls s) (placed : SpotFor work u ls s spot fs) (notes : NotesFor work ls asked p.notes) where
   pub splice_goes : PartsStand work ns ts → AllNamed work region ns → PendingFor work region u.unit u.form.number old p → trees_size ts < given → Counts u v here 1 (Ok tt) → new.todo.items ≡ old.todo.items ++ map (form_at here) (reverse ns) →
-      new.aside.items ≡ old.aside.items → GoesOn work work region u v ls spot fs p.todo given new asked (Ok tt) (λ go. splice (searched known) go here p ts s)
+      (new.aside.items ≡ old.aside.items) × (new.uses.items ≡ old.uses.items) → GoesOn work work region u v ls spot fs p.todo given new asked (Ok tt) (λ go. splice (searched known) go here p ts s)
   splice_goes stand named pending less counts todo aside =
       subst (λ (w : UnitScope). GoesOn work work region u w ls spot fs p.todo given new asked (Ok tt) (λ go. splice (searched known) go here p ts s)) (sym counts.1)
       (let w = with_nodes u 1 in
@@ -190,7 +191,8 @@ module _ (known : Known) (work : Work) (region : Region) (u v : UnitScope) (ls :
           placed = spot_same work u w ls s t spot fs refl refl refl placed;
           pending = record {
             todo = todo_first work region here ns ts old.todo.items new.todo.items p.todo stand named todo pending.todo;
-            aside = subst (λ (xs : List code_kept.Kept). AllMatch (KeptFor work region u.unit u.form.number) xs p.aside) (sym aside) pending.aside;
+            aside = subst (λ (xs : List code_kept.Kept). AllMatch (KeptFor work region u.unit u.form.number) xs p.aside) (sym aside.0) pending.aside;
+            uses = subst (λ (xs : List code_waiting.WaitingUse). AllMatch (WaitsFor work u.unit u.form.number) xs p.uses) (sym aside.1) pending.uses;
           };
           notes = notes;
           less = less_spliced (forms_size (forms_at here ts ++ p.todo)) (trees_size ts) (forms_size p.todo) (4194305 * (10000 - u.form.budget.uses)) given size less;

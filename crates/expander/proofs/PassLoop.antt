@@ -5,13 +5,13 @@ use Rattle.std.specs.Result.{IsErrAnd}
 use Rattle.scheme_model.specs.Measures.{tree_size}
 use Rattle.scheme_model.specs.Ident.{Ident as Identifier}
 use Rattle.scheme_model.specs.Requirements.{Known}
-use Rattle.scheme_model.specs.Order.{Form, Pending, Pass, Going, here_at, run, run_next, run_form}
+use Rattle.scheme_model.specs.Order.{Form, Left, Pending, Pass, Going, here_at, run, run_next, run_form}
 use Rattle.scheme_model.specs.ScopedExpansion.{Frames, FramedIdent, ScopedState}
 use Rattle.syntax_tree.specs.declared.trees.Work.{Work}
 use Rattle.syntax_tree.specs.declared.trees.table.Region.{Region}
 use Rattle.core_tree.specs.Names.{AllMatch}
 use Rattle.unit_scopes.specs.State.{Stands, most_locals}
-use Rattle.unit_scopes.specs.Kept.{FormFor, KeptFor, PendingFor, NotesFor, SpotFor, forms_size, left_with}
+use Rattle.unit_scopes.specs.Kept.{FormFor, KeptFor, WaitsFor, PendingFor, NotesFor, SpotFor, forms_size, left_with}
 use Rattle.unit_scopes.specs.Outcomes.{Stays}
 use Rattle.expander.specs.Passed.{CanPass, GoesOn, Passes}
 use Rattle.unit_scopes.specs.Searched.{searched}
@@ -22,6 +22,7 @@ use Rattle.form_parts.specs.declared.items.Form as code_form
 use Rattle.form_parts.specs.declared.items.Kept as code_kept
 use Rattle.form_parts.specs.declared.items.Pending as code_pending
 use Rattle.form_parts.specs.declared.items.Spot.{Spot}
+use Rattle.form_parts.specs.declared.items.WaitingUse as code_waiting
 use Rattle.unit_scopes.specs.declared.scope.UnitScope.{UnitScope}
 use Rattle.expander.proofs.FitLaws.{some_node}
 use Rattle.unit_scopes.proofs.OutcomeLaws.{stays_itself, stays_on, moves_here, leaves_on, fills_on}
@@ -72,14 +73,19 @@ pub next_form : (work : Work) (region : Region) (unit form : ℕ) (old : code_pe
 next_form work region unit form old p f xs is h =
     split_first (FormFor work region) f (reverse xs) p.todo (subst (λ (l : List code_form.Form). AllMatch (FormFor work region) l p.todo) (ap reverse is ∙ reverse-append xs (f ∷ [])) h.todo)
 
-abbrev pub behind_it : Pending Identifier FramedIdent → List (Form Identifier) → Pending Identifier FramedIdent
-behind_it p rest = record { todo = rest; aside = p.aside; notes = p.notes }
+-- what was set aside stays, and so do the uses that wait
+abbrev pub SameBeside : code_pending.Pending → code_pending.Pending → Type 0
+SameBeside old new = (new.aside.items ≡ old.aside.items) × (new.uses.items ≡ old.uses.items)
 
-pub pending_behind : (work : Work) (region : Region) (unit form : ℕ) (old new : code_pending.Pending) (p : Pending Identifier FramedIdent) (f : code_form.Form) (next : Split (FormFor work region) f (reverse new.todo.items) p.todo) → new.aside.items ≡ old.aside.items → PendingFor work region unit form old p →
+abbrev pub behind_it : Pending Identifier FramedIdent → List (Form Identifier) → Pending Identifier FramedIdent
+behind_it p rest = record p { todo = rest }
+
+pub pending_behind : (work : Work) (region : Region) (unit form : ℕ) (old new : code_pending.Pending) (p : Pending Identifier FramedIdent) (f : code_form.Form) (next : Split (FormFor work region) f (reverse new.todo.items) p.todo) → SameBeside old new → PendingFor work region unit form old p →
     PendingFor work region unit form new (behind_it p next.rest)
 pending_behind work region unit form old new p f next aside h = record {
   todo = next.others;
-  aside = subst (λ (xs : List code_kept.Kept). AllMatch (KeptFor work region unit form) xs p.aside) (sym aside) h.aside;
+  aside = subst (λ (xs : List code_kept.Kept). AllMatch (KeptFor work region unit form) xs p.aside) (sym aside.0) h.aside;
+  uses = subst (λ (xs : List code_waiting.WaitingUse). AllMatch (WaitsFor work unit form) xs p.uses) (sym aside.1) h.uses;
 }
 
 -- ---- so far
@@ -145,20 +151,20 @@ module _ (known : Known) (old : Work) (region : Region) (u : UnitScope) (ls : Li
           same = goes_to m.0 m.1 ∙ g.3 (run (searched known) (suc m.0) fs);
         }
 
-    pub next_fails : (after : Work) (w : UnitScope) (todo2 : code_pending.Pending) (asked2 : Asked) (most : ℕ) (aside : List code_kept.Kept) (e : ExpandFault) →
-        GoesOn new after region v w ls spot fs next.rest (tree_size next.head.tree) todo2 asked2 (Err e) step → Passes old after region u w ls spot fs most aside asked2 (Err e) whole
-    next_fails after w todo2 asked2 most aside (fault.At e) g =
+    pub next_fails : (after : Work) (w : UnitScope) (todo2 : code_pending.Pending) (asked2 : Asked) (most : ℕ) (last : code_pending.Pending) (e : ExpandFault) →
+        GoesOn new after region v w ls spot fs next.rest (tree_size next.head.tree) todo2 asked2 (Err e) step → Passes old after region u w ls spot fs most last asked2 (Err e) whole
+    next_fails after w todo2 asked2 most last (fault.At e) g =
         let m = some_more h.more refl in
         let end = goes_to m.0 m.1 ∙ g.5 (run (searched known) (suc m.0) fs) in
-        subst (λ (x : Pass Identifier FramedIdent × ScopedState). Passes old after region u w ls spot fs most aside asked2 (Err (fault.At e)) x) (sym end)
+        subst (λ (x : Pass Identifier FramedIdent × ScopedState). Passes old after region u w ls spot fs most last asked2 (Err (fault.At e)) x) (sym end)
         (g.1, refl, record { stays = stays_on old new after region u v w ls h.state g.2 h.stays g.3.stays; placed = g.3.placed; notes = g.3.notes }, g.4)
-    next_fails after w todo2 asked2 most aside fault.Full g =
+    next_fails after w todo2 asked2 most last fault.Full g =
         let m = moves_here old new region u v ls h.state h.stays in
         (leaves_on old new after region u v ls h.state m g.0, fills_on old new region u v ls h.state m g.1)
-    next_fails after w todo2 asked2 most aside fault.Memory g = leaves_on old new after region u v ls h.state (moves_here old new region u v ls h.state h.stays) g
+    next_fails after w todo2 asked2 most last fault.Memory g = leaves_on old new after region u v ls h.state (moves_here old new region u v ls h.state h.stays) g
 
     -- what the next form demands
-    pub can_pass_next : rest.aside.items ≡ todo.aside.items → u.form.budget.locals + left_with p.todo u.form.budget.uses + 0 ≤ most_locals u.form.budget.nodes → CanPass new region v spot (tree_size next.head.tree) rest asked
+    pub can_pass_next : SameBeside todo rest → u.form.budget.locals + left_with p.todo u.form.budget.uses + 0 ≤ most_locals u.form.budget.nodes → CanPass new region v spot (tree_size next.head.tree) rest asked
     can_pass_next aside room =
         record {
           layout = ls;
@@ -173,23 +179,27 @@ module _ (known : Known) (old : Work) (region : Region) (u : UnitScope) (ls : Li
               taken h.locals room h.stays.same.nodes;
         }
 
-  pub passing_ends : (new : Work) (v : UnitScope) (todo : code_pending.Pending) (asked : Asked) (turn : ℕ) (aside : List code_kept.Kept) → PassedSoFar new v todo asked turn → todo.todo.items ≡ [] → aside ≡ todo.aside.items →
-      Passes old new region u v ls spot fs (left_with p.todo u.form.budget.uses) aside asked (Ok tt) whole
-  passing_ends new v todo asked turn aside h none is =
+  pub passing_ends : (new : Work) (v : UnitScope) (todo : code_pending.Pending) (asked : Asked) (turn : ℕ) (last : code_pending.Pending) → PassedSoFar new v todo asked turn → todo.todo.items ≡ [] → SameBeside todo last →
+      Passes old new region u v ls spot fs (left_with p.todo u.form.budget.uses) last asked (Ok tt) whole
+  passing_ends new v todo asked turn last h none is =
       let nothing = none_left (FormFor new region) h.left.todo (subst (λ (l : List code_form.Form). AllMatch (FormFor new region) (reverse l) h.left.todo) none h.pending.todo) in
-      let end : whole ≡ (record { notes = h.left.notes; items = Ok h.left.aside }, h.state) = h.same ∙ ap (λ (l : List (Form Identifier)). run_next (searched known) (run (searched known) h.more fs) fs l h.left h.state) nothing in
-      subst (λ (x : Pass Identifier FramedIdent × ScopedState). Passes old new region u v ls spot fs (left_with p.todo u.form.budget.uses) aside asked (Ok tt) x) (sym end) (
-        h.left.aside,
+      let l : Left Identifier = record { uses = h.left.uses; items = h.left.aside } in
+      let end : whole ≡ (record { notes = h.left.notes; left = Ok l }, h.state) = h.same ∙ ap (λ (l : List (Form Identifier)). run_next (searched known) (run (searched known) h.more fs) fs l h.left h.state) nothing in
+      subst (λ (x : Pass Identifier FramedIdent × ScopedState). Passes old new region u v ls spot fs (left_with p.todo u.form.budget.uses) last asked (Ok tt) x) (sym end) (
+        l,
         refl,
         record { stays = h.stays; placed = h.placed; notes = h.notes },
-        subst (λ (l : List code_kept.Kept). AllMatch (KeptFor new region v.unit v.form.number) l h.left.aside) (sym is) h.pending.aside,
+        record {
+          aside = subst (λ (l : List code_kept.Kept). AllMatch (KeptFor new region v.unit v.form.number) l h.left.aside) (sym is.0) h.pending.aside;
+          uses = subst (λ (l : List code_waiting.WaitingUse). AllMatch (WaitsFor new v.unit v.form.number) l h.left.uses) (sym is.1) h.pending.uses;
+        },
         only_locals v.form.budget.locals (left_with h.left.todo v.form.budget.uses) (u.form.budget.locals + left_with p.todo u.form.budget.uses) h.locals,
       )
 
-  pub passing_err : (new : Work) (v : UnitScope) (asked : Asked) (most : ℕ) (aside : List code_kept.Kept) (result : Result (Unit {0}) ExpandFault) (e : ExpandFault) → IsErrAnd result (λ x. x ≡ e) → Passes old new region u v ls spot fs most aside asked (Err e) whole →
-      Passes old new region u v ls spot fs most aside asked result whole
-  passing_err new v asked most aside (Ok done) e is h = absurd is
-  passing_err new v asked most aside (Err x) e is h = subst (λ (y : ExpandFault). Passes old new region u v ls spot fs most aside asked (Err y) whole) (sym is) h
+  pub passing_err : (new : Work) (v : UnitScope) (asked : Asked) (most : ℕ) (last : code_pending.Pending) (result : Result (Unit {0}) ExpandFault) (e : ExpandFault) → IsErrAnd result (λ x. x ≡ e) → Passes old new region u v ls spot fs most last asked (Err e) whole →
+      Passes old new region u v ls spot fs most last asked result whole
+  passing_err new v asked most last (Ok done) e is h = absurd is
+  passing_err new v asked most last (Err x) e is h = subst (λ (y : ExpandFault). Passes old new region u v ls spot fs most last asked (Err y) whole) (sym is) h
 
 pub passing_begins : (known : Known) (work : Work) (region : Region) (u : UnitScope) (ls : List Frames) (spot : Spot) (fs : Frames) (s : ScopedState) (p : Pending Identifier FramedIdent) (turns : ℕ) (todo : code_pending.Pending) (asked : Asked) →
     Stands work u ls s → SpotFor work u ls s spot fs → PendingFor work region u.unit u.form.number todo p → NotesFor work ls asked p.notes → left_with p.todo u.form.budget.uses < turns → PassedSoFar known work region u ls spot fs s p turns work u todo asked 0

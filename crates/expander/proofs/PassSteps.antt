@@ -5,7 +5,7 @@ use Rattle.scheme_model.specs.Trees.{Tree, name, atom, list, vector, Trees, no_t
 use Rattle.scheme_model.specs.ExpansionFaults.{Fault, fault_map, BadRules, TwoEllipses, DuplicateVariable, EllipsisDepth, IdleEllipsis, NoRule, EllipsisLength, BadForm, DuplicateBinder, BadPlace, BadRecord, BadQuasi, KeywordRedefined, Duplicate, KeywordAsValue, UseBudget, NodeBudget, DepthBudget, SyntaxError, IncludeRefused, OutOfTurns, ◌>>◌}
 use Rattle.scheme_model.specs.Keywords.{CoreKeyword, IsQuote, IsQuasiquote, IsLambda, IsCaseLambda, IsIf, IsSet, IsBegin, IsDefine, IsDefineValues, IsDefineRecordType, IsDefineSyntax, IsLetSyntax, IsLetrecSyntax, IsCondExpand, IsSyntaxError, IsInclude}
 use Rattle.scheme_model.specs.Quasiquote.{Mark}
-use Rattle.scheme_model.specs.Shapes.{proper_of, some_of, definition_of, values_of, record_of, named_tree_of}
+use Rattle.scheme_model.specs.Shapes.{proper_of, some_of, definition_of, values_of, record_of, syntax_of}
 use Rattle.scheme_model.specs.Requirements.{Known}
 use Rattle.scheme_model.specs.Ident.{Ident as Identifier, same_ident}
 use Rattle.scheme_model.specs.Cores.{Target}
@@ -80,7 +80,7 @@ module _ (known : Known) (go : Going Identifier FramedIdent ScopedState) (here :
   core_is IsDefine k ts tail mark s h = read_as (definition_of same_ident ts tail) Definition (met k s)
   core_is IsDefineValues k ts tail mark s h = read_as (values_of same_ident ts tail) Several (met k s)
   core_is IsDefineRecordType k ts tail mark s h = read_as (record_of same_ident ts tail) RecordType (met k s)
-  core_is IsDefineSyntax k ts tail mark s h = read_as (named_tree_of ts tail) Syntax (met k s)
+  core_is IsDefineSyntax k ts tail mark s h = read_as (syntax_of ts tail) Syntax (met k s)
   core_is IsLetSyntax k ts tail mark s h = absurd cc
   core_is IsLetrecSyntax k ts tail mark s h = absurd cc
   core_is IsCondExpand k ts tail mark s h =

@@ -10,7 +10,7 @@ use Rattle.scheme_model.specs.Requirements.{Known}
 use Rattle.scheme_model.specs.Diagnostics.{fault_occ}
 use Rattle.scheme_model.specs.Cores.{Target}
 use Rattle.scheme_model.specs.Steps.{Broken, Step, fails}
-use Rattle.scheme_model.specs.Order.{Here, Transformer, is_some, head_of, name_in}
+use Rattle.scheme_model.specs.Order.{Here, Transformer, is_some, head_of}
 use Rattle.scheme_model.specs.Expression.{unless_keyword}
 use Rattle.scheme_model.specs.ScopedExpansion.{Frames, ScopedState, macro_at}
 use Rattle.scheme_model.specs.CountedExpansion.{means_here}
@@ -32,7 +32,7 @@ use Rattle.feature_requirements.specs.declared.fault.ExpandFault.TheVariants as 
 use Rattle.syntax_tree.specs.declared.trees.table.Region.{Region}
 use Rattle.unit_scopes.proofs.OutcomeLaws.{stays_itself}
 use Rattle.unit_scopes.specs.Searched.{searched}
-use Rattle.form_parts.specs.FormsSeen.{head_name_of}
+use Rattle.form_parts.specs.FormsSeen.{name_in, head_name_of}
 use Rattle.unit_scopes.specs.State.{Stands}
 use Rattle.unit_scopes.specs.declared.scope.UnitScope.{UnitScope}
 

@@ -9,7 +9,7 @@ use Rattle.scheme_model.specs.Meaning.{Head}
 use Rattle.scheme_model.specs.Requirements.{Known}
 use Rattle.scheme_model.specs.Cores.{Core, Target}
 use Rattle.scheme_model.specs.Steps.{Broken, ◌>>=◌}
-use Rattle.scheme_model.specs.Order.{Transformer, target_of, here_at, use_of}
+use Rattle.scheme_model.specs.Order.{Transformer, Instance, target_of, here_at, use_of, meet_waiting}
 use Rattle.scheme_model.specs.Expression.{Expander, whole, expand, expression, by_head, macro_use}
 use Rattle.scheme_model.specs.ScopedExpansion.{Frames, ScopedState}
 use Rattle.syntax_tree.specs.Works.{StandsFor}
@@ -21,11 +21,12 @@ use Rattle.core_tree.specs.declared.cores.Target as code_target
 use Rattle.unit_scopes.specs.State.{Stands}
 use Rattle.unit_scopes.specs.Used.{UseFor}
 use Rattle.unit_scopes.specs.Outcomes.{Stays, EndsHere, WorksOn, IsEnough}
-use Rattle.expander.specs.Ready.{IsSettled, IsMacroKeyword, Settles, come_to}
+use Rattle.expander.specs.Ready.{use_met, IsSettled, IsMacroKeyword, Settles, come_to}
 use Rattle.unit_scopes.specs.Searched.{searched}
 use Rattle.feature_requirements.specs.declared.fault.ExpandFault.{ExpandFault}
 use Rattle.feature_requirements.specs.declared.fault.ExpandFault.TheVariants as fault
 use Rattle.unit_scopes.specs.declared.scope.UnitScope.{UnitScope}
+use Rattle.expander.proofs.UseSteps.{met_then}
 use Rattle.unit_scopes.proofs.OutcomeLaws.{stays_itself, stays_on, leaves_on, fills_on, moves_here, bound_goes, bound_fails}
 
 abbrev as_it_is : Identifier → Identifier
@@ -78,7 +79,7 @@ pub record UseAt (known : Known) (work : Work) (s : ScopedState) (fs : Frames) (
   pub macro : Transformer Frames Identifier
   pub parts : Trees Identifier
   pub tail : Tail Identifier
-  pub goes : (f : Expander Frames Identifier ScopedState) (depth : ℕ) (here : Option Occ) → expression f (searched known) depth here fs t s ≡ (use_of (searched known) here fs keyword macro parts tail s >>= λ u. f depth here fs (whole u))
+  pub goes : (f : Expander Frames Identifier ScopedState) (depth : ℕ) (here : Option Occ) → expression f (searched known) depth here fs t s ≡ (use_met known here fs keyword macro parts tail s >>= λ u. f depth here fs (whole u))
   pub used : (scope : ℕ) (here : Option Occ) (form : number.Tree) → StandsFor work form t → UseFor work s (record { scope = scope; here = here; keyword = x; form = form }) keyword macro parts tail
 
 pub use_at : (known : Known) (work : Work) (s : ScopedState) (fs : Frames) (t : Tree Identifier) (x : code_target.Target) → IsMacroKeyword work known s fs t (Some x) → UseAt known work s fs t x
@@ -99,7 +100,8 @@ use_at known work s fs t x h =
       goes = λ f depth here.
           ap (λ (u : Tree Identifier). expression f (searched known) depth here fs u s) is
           ∙ (ap (λ (d : Head). by_head f (searched known) depth here fs d (named i p) ts tail s) h.8
-          ∙ ap (λ (d : Option (Transformer Frames Identifier)). macro_use f (searched known) depth here fs k d ts tail s) h.9);
+          ∙ (ap (λ (d : Option (Transformer Frames Identifier)). macro_use f (searched known) depth here fs k d ts tail s) h.9
+          ∙ met_then (use_of (searched known) here fs k m ts tail s) (λ (i : Instance Identifier) u. meet_waiting (searched known) fs i.met u) (λ u. f depth here fs (whole u))));
       used = λ scope here form stands. record {
         target = h.7;
         macro = h.9;
@@ -114,11 +116,11 @@ pub so_far_uses : (known : Known) (depth : ℕ) (old mid new : Work) (region : R
     (so : SoFar known depth old mid region u w ls fs form here p) (at : UseAt known mid so.state fs so.tree x) →
     v.form.budget.uses ≡ w.form.budget.uses + 1 →
     ((t : Tree Identifier) → StandsFor new next t → later ≡ here_at as_it_is t here) →
-    EndsHere (WorksOn new region) mid new region w v ls (Ok next) (use_of (searched known) here fs at.keyword at.macro at.parts at.tail so.state) →
+    EndsHere (WorksOn new region) mid new region w v ls (Ok next) (use_met known here fs at.keyword at.macro at.parts at.tail so.state) →
     SoFar known depth old new region u v ls fs next later p
 so_far_uses known depth old mid new region u w v ls fs form next here later x p so at counted placed h =
     let f = expand (searched known) so.left in
-    let q = use_of (searched known) here fs at.keyword at.macro at.parts at.tail so.state in
+    let q = use_met known here fs at.keyword at.macro at.parts at.tail so.state in
     let t = h.0 in
     let now = h.1.stands in
     let n = more_turns depth w.form.budget.uses so.left so.stays.stands.form.few_uses so.enough in
@@ -135,15 +137,15 @@ so_far_uses known depth old mid new region u w v ls fs form next here later x p 
 -- a use that failed
 pub so_far_fails : (known : Known) (depth turns : ℕ) (old mid new : Work) (region : Region) (u w v : UnitScope) (ls : List Frames) (fs : Frames) (form : number.Tree) (here : Option Occ) (x : code_target.Target) (p : Result Core Broken × ScopedState)
     (so : SoFar known depth old mid region u w ls fs form here p) (at : UseAt known mid so.state fs so.tree x) (r : Result (number.Tree × Option Occ × Option (code_keyword.CoreKeyword × code_target.Target)) ExpandFault) (e : ExpandFault) → IsErrAnd r (λ f. f ≡ e) →
-    EndsHere (WorksOn new region) mid new region w v ls (Err e) (use_of (searched known) here fs at.keyword at.macro at.parts at.tail so.state) →
+    EndsHere (WorksOn new region) mid new region w v ls (Err e) (use_met known here fs at.keyword at.macro at.parts at.tail so.state) →
     Settles known depth turns old new region u v ls fs (come_to r) p
 so_far_fails known depth turns old mid new region u w v ls fs form here x p so at (Ok y) e is h = absurd is
 so_far_fails known depth turns old mid new region u w v ls fs form here x p so at (Err f) e is h =
     subst (λ (g : ExpandFault). Settles known depth turns old new region u v ls fs (Err g) p) (sym is) (go e h)
   where
-    go : (g : ExpandFault) → EndsHere (WorksOn new region) mid new region w v ls (Err g) (use_of (searched known) here fs at.keyword at.macro at.parts at.tail so.state) → Settles known depth turns old new region u v ls fs (Err g) p
+    go : (g : ExpandFault) → EndsHere (WorksOn new region) mid new region w v ls (Err g) (use_met known here fs at.keyword at.macro at.parts at.tail so.state) → Settles known depth turns old new region u v ls fs (Err g) p
     go (fault.At g) h =
-        let q = use_of (searched known) here fs at.keyword at.macro at.parts at.tail so.state in
+        let q = use_met known here fs at.keyword at.macro at.parts at.tail so.state in
         let f = expand (searched known) so.left in
         let all : p ≡ (Err h.1.0, q.1) = so.same ∙ (at.goes f depth here ∙ bound_fails q (λ y. f depth here fs (whole y)) h.1.0 h.1.1) in
         subst (λ (z : Result Core Broken × ScopedState). Settles known depth turns old new region u v ls fs (Err (fault.At g)) z) (sym all)

@@ -4,7 +4,7 @@ use Rattle.scheme_model.specs.Trees.{Tree, Trees, Tail}
 use Rattle.scheme_model.specs.ExpansionFaults.{Fault, BadPlace, ◌>>◌}
 use Rattle.scheme_model.specs.Keywords.{CoreKeyword, IsQuote, IsQuasiquote, IsLambda, IsCaseLambda, IsIf, IsSet, IsBegin, IsDefine, IsDefineValues, IsDefineRecordType, IsDefineSyntax, IsLetSyntax, IsLetrecSyntax, IsCondExpand, IsSyntaxError, IsInclude}
 use Rattle.scheme_model.specs.Quasiquote.{Mark, Pieces, quasi_of}
-use Rattle.scheme_model.specs.Shapes.{one_of, some_of, if_of, lambda_of, case_lambda_of, named_tree_of, error_text_of, definition_of, values_of, local_macros_of}
+use Rattle.scheme_model.specs.Shapes.{one_of, some_of, if_of, lambda_of, case_lambda_of, named_tree_of, error_text_of, definition_of, values_of, local_macros_of, syntax_of}
 use Rattle.scheme_model.specs.Requirements.{Known}
 use Rattle.scheme_model.specs.Ident.{Ident as Identifier, same_ident}
 use Rattle.scheme_model.specs.Cores.{Core}
@@ -72,7 +72,7 @@ module _ (known : Known) (f : Expander Frames Identifier ScopedState) (depth : �
   core_form_is IsDefine ts tail = given_misplaced here (definition_of same_ident ts tail) (steps IsDefine) s
   core_form_is IsDefineValues ts tail = given_misplaced here (values_of same_ident ts tail) (steps IsDefineValues) s
   core_form_is IsDefineRecordType ts tail = refl
-  core_form_is IsDefineSyntax ts tail = given_misplaced here (named_tree_of ts tail) (steps IsDefineSyntax) s
+  core_form_is IsDefineSyntax ts tail = given_misplaced here (syntax_of ts tail) (steps IsDefineSyntax) s
   core_form_is IsLetSyntax ts tail = given_then here (local_macros_of same_ident ts tail) Local (steps IsLetSyntax) s
   core_form_is IsLetrecSyntax ts tail = given_then here (local_macros_of same_ident ts tail) Local (steps IsLetrecSyntax) s
   core_form_is IsCondExpand ts tail =

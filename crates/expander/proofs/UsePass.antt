@@ -7,7 +7,7 @@ use Rattle.scheme_model.specs.Ident.{Ident as Identifier}
 use Rattle.scheme_model.specs.Requirements.{Known}
 use Rattle.scheme_model.specs.Cores.{Target}
 use Rattle.scheme_model.specs.Steps.{Broken}
-use Rattle.scheme_model.specs.Order.{Here, Form, Note, LookedUp, Compared, Pending, Pass, Going, Transformer, first, noted, comparisons, use_of, run_use}
+use Rattle.scheme_model.specs.Order.{Here, Form, Note, LookedUp, Compared, Instance, Pending, Pass, Going, Transformer, first, waiting, noted, comparisons, use_of, run_use}
 use Rattle.scheme_model.specs.ScopedExpansion.{Frames, FramedIdent, ScopedState}
 use Rattle.syntax_tree.specs.Names.{KeepsNames, AreToldApart}
 use Rattle.syntax_tree.specs.declared.trees.Work.{Work}
@@ -15,8 +15,9 @@ use Rattle.syntax_tree.specs.declared.trees.nodes.Tree as number
 use Rattle.syntax_tree.specs.declared.trees.table.Region.{Region}
 use Rattle.core_tree.specs.Names.{AllMatch}
 use Rattle.unit_scopes.specs.State.{Stands}
-use Rattle.unit_scopes.specs.Kept.{FormFor, KeptFor, PendingFor, PlaceFor, NoteFor, NotesFor, SpotFor, forms_size}
-use Rattle.unit_scopes.specs.Outcomes.{Grows, Leaves, Stays, WorksOn, EndsHere}
+use Rattle.unit_scopes.specs.Kept.{FormFor, KeptFor, WaitsFor, PendingFor, PlaceFor, NoteFor, NotesFor, SpotFor, forms_size}
+use Rattle.unit_scopes.specs.Outcomes.{Grows, Stays, EndsHere}
+use Rattle.unit_scopes.specs.Used.{InstanceFor}
 use Rattle.expander.specs.Passed.{GoesOn}
 use Rattle.unit_scopes.specs.Searched.{searched}
 use Rattle.unit_scopes.specs.declared.asked.Asked.{Asked}
@@ -29,9 +30,12 @@ use Rattle.form_parts.specs.declared.items.Form as code_form
 use Rattle.form_parts.specs.declared.items.Kept as code_kept
 use Rattle.form_parts.specs.declared.items.Pending as code_pending
 use Rattle.form_parts.specs.declared.items.Spot.{Spot}
+use Rattle.form_parts.specs.declared.items.WaitingUse as code_waiting
+use Rattle.unit_scopes.specs.declared.uses.Instance as code_instance
 use Rattle.unit_scopes.specs.declared.scope.UnitScope.{UnitScope}
 use Rattle.unit_scopes.proofs.AskLaws.{asked_grows}
-use Rattle.unit_scopes.proofs.CoreStandLaws.{every_on, form_on, kept_on}
+use Rattle.unit_scopes.proofs.CoreStandLaws.{every_on, form_on, kept_on, waits_on}
+use Rattle.unit_scopes.proofs.CountingStands.{all_last}
 use Rattle.expander.proofs.DefinitionSteps.{caught_fails, caught_goes}
 use Rattle.expander.proofs.PassLaws.{spot_on}
 use Rattle.expander.proofs.UseSteps.{use_leaves}
@@ -60,6 +64,7 @@ pending_on old new region unit form later_unit later_form q p g u f h =
     subst (λ (n : ℕ). PendingFor new region n later_form q p) (sym u) (subst (λ (n : ℕ). PendingFor new region unit n q p) (sym f) (record {
       todo = every_on (FormFor old region) (FormFor new region) (form_on old new g.trees g.names unit form region) (reverse q.todo.items) p.todo h.todo;
       aside = every_on (KeptFor old region unit form) (KeptFor new region unit form) (kept_on old new g.trees g.names unit form region) q.aside.items p.aside h.aside;
+      uses = every_on (WaitsFor old unit form) (WaitsFor new unit form) (waits_on old new g.trees g.names unit form) q.uses.items p.uses h.uses;
     }))
 
 -- ---- what is left
@@ -78,42 +83,46 @@ module _ (known : Known) (old new : Work) (region : Region) (u v : UnitScope) (l
   abbrev noted_all : Pending Identifier FramedIdent
   noted_all = noted (comparisons (searched known) fs m ts tail s) p
 
-  abbrev used : Result (Tree Identifier) Broken × ScopedState
+  abbrev used : Result (Instance Identifier) Broken × ScopedState
   used = use_of (searched known) here fs keyword m ts tail s
 
-  abbrev next : Going Identifier FramedIdent ScopedState → Tree Identifier → ScopedState → Pass Identifier FramedIdent × ScopedState
-  next go t = go (first (record { here = here; tree = t } ∷ []) noted_all)
+  abbrev next : Going Identifier FramedIdent ScopedState → Instance Identifier → ScopedState → Pass Identifier FramedIdent × ScopedState
+  next go i = go (first (record { here = here; tree = i.tree } ∷ []) (waiting i.met noted_all))
+
+  abbrev Gives : code_instance.Instance → Instance Identifier → Type 0
+  Gives = InstanceFor new region v.unit v.form.number
 
   spot_after : Stays old new region u v ls used.1 → SpotFor new v ls used.1 spot fs
   spot_after h = spot_on old new u v ls s used.1 spot fs h.work.names apart stands scopes h.same.root (use_leaves known here fs keyword m ts tail s).definitions placed
 
-  pub use_goes : (tree : number.Tree) → EndsHere (WorksOn new region) old new region u v ls (Ok tree) used → v.form.budget.uses ≡ u.form.budget.uses + 1 → v.form.budget.locals ≡ u.form.budget.locals →
-      after.todo.items ≡ before.todo.items ++ record { here = here; tree = tree } ∷ [] → after.aside.items ≡ before.aside.items →
+  pub use_goes : (x : code_instance.Instance) → EndsHere Gives old new region u v ls (Ok x) used → v.form.budget.uses ≡ u.form.budget.uses + 1 → v.form.budget.locals ≡ u.form.budget.locals →
+      after.todo.items ≡ before.todo.items ++ record { here = here; tree = x.tree } ∷ [] → after.aside.items ≡ before.aside.items → after.uses.items ≡ before.uses.items ++ x.met ∷ [] →
       GoesOn old new region u v ls spot fs p.todo given after asked (Ok tt) (λ go. run_use (searched known) go here fs keyword (Some m) form ts tail p s)
-  use_goes tree ends uses locals todo aside =
-      let t = ends.0 in
+  use_goes x ends counted locals todo aside uses =
+      let i = ends.0 in
       let stays = ends.1 in
-      let f : code_form.Form = record { here = here; tree = tree } in
+      let f : code_form.Form = record { here = here; tree = x.tree } in
       let grown = pending_on old new region u.unit u.form.number v.unit v.form.number before p stays.work stays.same.unit stays.same.number pending in
-      let small = (use_leaves known here fs keyword m ts tail s).small t ends.2 in
+      let small = (use_leaves known here fs keyword m ts tail s).small i ends.2 in
       let few = stays.stands.form.few_uses in (
-        first (record { here = here; tree = t } ∷ []) noted_all,
+        first (record { here = here; tree = i.tree } ∷ []) (waiting i.met noted_all),
         used.1,
         record {
           stays = stays;
           placed = spot_after stays;
           pending = record {
-            todo = subst (λ (xs : List code_form.Form). AllMatch (FormFor new region) xs (record { here = here; tree = t } ∷ p.todo)) (sym (ap reverse todo ∙ reverse-append before.todo.items (f ∷ []))) ((refl, ends.3), grown.todo);
+            todo = subst (λ (xs : List code_form.Form). AllMatch (FormFor new region) xs (record { here = here; tree = i.tree } ∷ p.todo)) (sym (ap reverse todo ∙ reverse-append before.todo.items (f ∷ []))) ((refl, ends.3.0), grown.todo);
             aside = subst (λ (xs : List code_kept.Kept). AllMatch (KeptFor new region v.unit v.form.number) xs p.aside) (sym aside) grown.aside;
+            uses = subst (λ (xs : List code_waiting.WaitingUse). AllMatch (WaitsFor new v.unit v.form.number) xs (p.uses ++ i.met ∷ [])) (sym uses) (all_last (WaitsFor new v.unit v.form.number) before.uses.items p.uses x.met i.met grown.uses ends.3.1);
           };
           notes = notes_on old new ls stays.work.names apart asked (comparisons (searched known) fs m ts tail s ++ p.notes) found;
-          less = use_less (tree_size t) (forms_size p.todo) u.form.budget.uses v.form.budget.uses given small uses few;
-          locals = use_locals u.form.budget.locals v.form.budget.locals (tree_size t) (forms_size p.todo) u.form.budget.uses v.form.budget.uses given locals small uses few;
+          less = use_less (tree_size i.tree) (forms_size p.todo) u.form.budget.uses v.form.budget.uses given small counted few;
+          locals = use_locals u.form.budget.locals v.form.budget.locals (tree_size i.tree) (forms_size p.todo) u.form.budget.uses v.form.budget.uses given locals small counted few;
         },
-        λ go. caught_goes noted_all.notes used t ends.2 (next go),
+        λ go. caught_goes noted_all.notes used i ends.2 (next go),
       )
 
-  pub use_fails : (e : ExpandFault) → EndsHere (WorksOn new region) old new region u v ls (Err e) used → GoesOn old new region u v ls spot fs p.todo given after asked (Err e) (λ go. run_use (searched known) go here fs keyword (Some m) form ts tail p s)
+  pub use_fails : (e : ExpandFault) → EndsHere Gives old new region u v ls (Err e) used → GoesOn old new region u v ls spot fs p.todo given after asked (Err e) (λ go. run_use (searched known) go here fs keyword (Some m) form ts tail p s)
   use_fails (fault.At e) ends = (
     noted_all.notes,
     ends.1.0,
@@ -128,10 +137,3 @@ module _ (known : Known) (old new : Work) (region : Region) (u v : UnitScope) (l
   )
   use_fails fault.Full ends = ends
   use_fails fault.Memory ends = ends
-
--- want of memory behind it
-pub use_left : (old new : Work) (region : Region) (u v : UnitScope) (ls : List Frames) (used : Result (Tree Identifier) Broken × ScopedState) (tree : number.Tree) → EndsHere (WorksOn new region) old new region u v ls (Ok tree) used → Leaves old new region u
-use_left old new region u v ls used tree h =
-    let counted = h.1.counted in
-    let few = h.1.stands.form.few_nodes in
-    record { work = h.1.work; few = omega (arith, counted, few) }

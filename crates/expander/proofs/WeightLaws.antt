@@ -8,7 +8,7 @@ use Rattle.scheme_model.specs.ExpansionFaults.{Named, Fault, BadForm, ◌>>◌}
 use Rattle.scheme_model.specs.Keywords.{CoreKeyword, IsQuote, IsQuasiquote, IsLambda, IsCaseLambda, IsIf, IsSet, IsBegin, IsDefine, IsDefineValues, IsDefineRecordType, IsDefineSyntax, IsLetSyntax, IsLetrecSyntax, IsCondExpand, IsSyntaxError, IsInclude}
 use Rattle.scheme_model.specs.Quasiquote.{Mark}
 use Rattle.scheme_model.specs.Requirements.{Known, or_chosen}
-use Rattle.scheme_model.specs.Shapes.{Formals, FieldShape, RecordShape, first_of, list_of, some_of, proper_of, one_of, name_of, names_of, formals_of, distinct, definition_of, values_of, named_tree_of, field_with, fields_of, constructor_of, all_among, record_in, or_bad_record, record_of}
+use Rattle.scheme_model.specs.Shapes.{Formals, FieldShape, RecordShape, first_of, list_of, some_of, proper_of, one_of, name_of, names_of, formals_of, distinct, definition_of, values_of, field_with, fields_of, constructor_of, all_among, record_in, or_bad_record, record_of, syntax_of}
 use Rattle.scheme_model.specs.Ident.{Ident as Identifier, same_ident}
 use Rattle.scheme_model.specs.Order.{modifiers, record_names, or_none}
 use Rattle.core_forms.specs.Forms.{Shape, Sequence, Definition, Several, RecordType, Syntax, Choices, choice_of, choices_in, shape_of}
@@ -209,7 +209,7 @@ weight_within IsBegin mark ts tail m e h = weighs (proper_of ts tail) Sequence m
 weight_within IsDefine mark ts tail m e h = weighs (definition_of same_ident ts tail) Definition m (1 + trees_size ts) (λ d is. omega arith) h
 weight_within IsDefineValues mark ts tail m e h = weighs (values_of same_ident ts tail) Several m (1 + trees_size ts) (λ d is. let few = values_size ts tail d is in omega (arith, few)) h
 weight_within IsDefineRecordType mark ts tail m e h = weighs (record_of same_ident ts tail) RecordType m (1 + trees_size ts) (λ r is. let few = record_size ts tail r is in omega (arith, few)) h
-weight_within IsDefineSyntax mark ts tail m e h = weighs (named_tree_of ts tail) Syntax m (1 + trees_size ts) (λ p is. omega arith) h
+weight_within IsDefineSyntax mark ts tail m e h = weighs (syntax_of ts tail) Syntax m (1 + trees_size ts) (λ p is. omega arith) h
 weight_within IsLetSyntax mark ts tail m e h = absurd cc
 weight_within IsLetrecSyntax mark ts tail m e h = absurd cc
 weight_within IsCondExpand mark ts tail m e h =
@@ -247,7 +247,7 @@ shape_passes IsBegin mark ts tail m e h = passes (proper_of ts tail) Sequence m 
 shape_passes IsDefine mark ts tail m e h = passes (definition_of same_ident ts tail) Definition m (λ b. tt) h
 shape_passes IsDefineValues mark ts tail m e h = passes (values_of same_ident ts tail) Several m (λ b. tt) h
 shape_passes IsDefineRecordType mark ts tail m e h = passes (record_of same_ident ts tail) RecordType m (λ b. tt) h
-shape_passes IsDefineSyntax mark ts tail m e h = passes (named_tree_of ts tail) Syntax m (λ b. tt) h
+shape_passes IsDefineSyntax mark ts tail m e h = passes (syntax_of ts tail) Syntax m (λ b. tt) h
 shape_passes IsLetSyntax mark ts tail m e h = absurd cc
 shape_passes IsLetrecSyntax mark ts tail m e h = absurd cc
 shape_passes IsCondExpand mark ts tail m e h = passes (some_of ts tail >> choices_in) Choices m (λ b. tt) h

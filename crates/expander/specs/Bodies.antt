@@ -9,8 +9,8 @@ use Rattle.scheme_model.specs.Requirements.{Known}
 use Rattle.scheme_model.specs.Trees.{Trees, no_trees, tree}
 use Rattle.scheme_model.specs.Steps.{Step, ◌>>=◌, done}
 use Rattle.scheme_model.specs.Cores.{LocalNumber}
-use Rattle.scheme_model.specs.Order.{Here, Item, RulesParts, forms_at, rules_parts_of, run}
-use Rattle.scheme_model.specs.Expression.{items_of}
+use Rattle.scheme_model.specs.Order.{Here, Item, RulesParts, forms_at, rules_parts_of, meet_all, run}
+use Rattle.scheme_model.specs.Expression.{left_of}
 use Rattle.scheme_model.specs.ScopedExpansion.{Frames, ScopedState}
 use Rattle.syntax_tree.specs.Looks.{PartsStand, AllNamed}
 use Rattle.syntax_tree.specs.declared.trees.Work.{Work}
@@ -30,10 +30,11 @@ use Rattle.unit_scopes.specs.declared.scope.UnitScope.{UnitScope}
 
 -- ---- bodies
 
--- the frames of a body, and what its forms set aside
+-- the frames of a body, and what its forms set aside; its macro uses are met
 abbrev pub body_pass : (turns : ℕ) → Here → Trees Identifier → Known → Frames → Step ScopedState (Frames × List (Item Identifier))
 body_pass turns here ts known fs s =
-    items_of (run (searched known) turns (entered_frames s fs) (record { todo = forms_at here ts; aside = []; notes = [] }) (entered s)) >>= λ is. done (entered_frames s fs, is)
+    left_of (run (searched known) turns (entered_frames s fs) (record { todo = forms_at here ts; aside = []; uses = []; notes = [] }) (entered s)) >>=
+    λ l t. done (entered_frames s fs, l.items) (meet_all (searched known) (entered_frames s fs) l.uses t)
 
 abbrev pub BodyFor : Work → Region → (unit form : ℕ) → List Frames → ℕ × Vec code_kept.Kept Global → Frames × List (Item Identifier) → Type 0
 BodyFor work region unit form ls x m = At ls x.0 m.0 × AllMatch (KeptFor work region unit form) x.1.items m.1

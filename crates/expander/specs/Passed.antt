@@ -7,7 +7,7 @@ use Rattle.scheme_model.specs.Measures.{trees_size}
 use Rattle.scheme_model.specs.Trees.{Tree, Trees}
 use Rattle.scheme_model.specs.Quasiquote.{Mark, quasi_of}
 use Rattle.scheme_model.specs.Shapes.{Clause, Variable as define_variable, Procedure as define_procedure}
-use Rattle.scheme_model.specs.Order.{Here, Item, Note, Pending, Pass, Going, Ops, or_none, read_then, splice, record_names, run_define, run_values, run_record, run_syntax, put, Expression, Form}
+use Rattle.scheme_model.specs.Order.{Here, Left, Note, Pending, Pass, Going, Ops, or_none, read_then, splice, record_names, run_define, run_values, run_record, run_syntax, put, Expression, Form}
 use Rattle.scheme_model.specs.ScopedExpansion.{Frames, FramedIdent, ScopedState}
 use Rattle.syntax_tree.specs.declared.trees.Work.{Work}
 use Rattle.syntax_tree.specs.declared.trees.table.Region.{Region}
@@ -15,13 +15,12 @@ use Rattle.core_forms.specs.Forms.{Shape, Quoted, Quasi, Procedure, Procedures, 
 use Rattle.core_tree.specs.Names.{AllMatch}
 use Rattle.core_tree.specs.Traces.{IsFault}
 use Rattle.feature_requirements.specs.Judged.{chosen_among}
-use Rattle.unit_scopes.specs.Kept.{ClauseFits, KeptFor, PendingFor, NotesFor, SpotFor, left_with}
+use Rattle.unit_scopes.specs.Kept.{ClauseFits, KeptFor, WaitsFor, PendingFor, NotesFor, SpotFor, left_with}
 use Rattle.unit_scopes.specs.Outcomes.{Stays, Leaves, MayFill}
 use Rattle.unit_scopes.specs.State.{Stands, most_locals}
 use Rattle.unit_scopes.specs.declared.asked.Asked.{Asked}
 use Rattle.feature_requirements.specs.declared.fault.ExpandFault.{ExpandFault}
 use Rattle.feature_requirements.specs.declared.fault.ExpandFault.TheVariants as fault
-use Rattle.form_parts.specs.declared.items.Kept as code_kept
 use Rattle.form_parts.specs.declared.items.Pending as code_pending
 use Rattle.form_parts.specs.declared.items.Spot as code_spot
 use Rattle.unit_scopes.specs.declared.scope.UnitScope.{UnitScope}
@@ -65,21 +64,26 @@ GoesOn old new region u v ls spot fs before given todo asked (Ok done) step =
     (q : Pending Identifier FramedIdent) × (t : ScopedState) × Reaches old new region u v ls spot fs before given todo asked q t × ((go : Going Identifier FramedIdent ScopedState) → step go ≡ go q t)
 GoesOn old new region u v ls spot fs before given todo asked (Err (fault.At e)) step =
     (ns : List (Note FramedIdent)) × (b : Broken) × (t : ScopedState) × Stops old new region u v ls spot fs asked ns t × IsFault new.symbols t.unit t.form e b
-    × ((go : Going Identifier FramedIdent ScopedState) → step go ≡ (record { notes = ns; items = Err b }, t))
+    × ((go : Going Identifier FramedIdent ScopedState) → step go ≡ (record { notes = ns; left = Err b }, t))
 GoesOn old new region u v ls spot fs before given todo asked (Err fault.Full) step = Leaves old new region u × MayFill old u
 GoesOn old new region u v ls spot fs before given todo asked (Err fault.Memory) step = Leaves old new region u
 
 -- ---- the whole pass
 
--- what was set aside, or the fault; the notes beside it
-abbrev pub Passes : Work → Work → Region → UnitScope → UnitScope → List Frames → code_spot.Spot → Frames → (most : ℕ) → List code_kept.Kept → Asked → Result (Unit {0}) ExpandFault → Pass Identifier FramedIdent × ScopedState → Type 0
-Passes old new region u v ls spot fs most aside asked (Ok done) p =
-    (is : List (Item Identifier)) × (p.0.items ≡ Ok is) × Stops old new region u v ls spot fs asked p.0.notes p.1 × AllMatch (KeptFor new region v.unit v.form.number) aside is
+-- what is left in the end: what was set aside, and the macro uses that wait
+pub record IsLeftOf (work : Work) (region : Region) (unit form : ℕ) (q : code_pending.Pending) (l : Left Identifier) : Type 0 where
+  pub aside : AllMatch (KeptFor work region unit form) q.aside.items l.items
+  pub uses : AllMatch (WaitsFor work unit form) q.uses.items l.uses
+
+-- what is left, or the fault; the notes beside it
+abbrev pub Passes : Work → Work → Region → UnitScope → UnitScope → List Frames → code_spot.Spot → Frames → (most : ℕ) → code_pending.Pending → Asked → Result (Unit {0}) ExpandFault → Pass Identifier FramedIdent × ScopedState → Type 0
+Passes old new region u v ls spot fs most todo asked (Ok done) p =
+    (l : Left Identifier) × (p.0.left ≡ Ok l) × Stops old new region u v ls spot fs asked p.0.notes p.1 × IsLeftOf new region v.unit v.form.number todo l
     × (v.form.budget.locals ≤ u.form.budget.locals + most)
-Passes old new region u v ls spot fs most aside asked (Err (fault.At e)) p =
-    (b : Broken) × (p.0.items ≡ Err b) × Stops old new region u v ls spot fs asked p.0.notes p.1 × IsFault new.symbols p.1.unit p.1.form e b
-Passes old new region u v ls spot fs most aside asked (Err fault.Full) p = Leaves old new region u × MayFill old u
-Passes old new region u v ls spot fs most aside asked (Err fault.Memory) p = Leaves old new region u
+Passes old new region u v ls spot fs most todo asked (Err (fault.At e)) p =
+    (b : Broken) × (p.0.left ≡ Err b) × Stops old new region u v ls spot fs asked p.0.notes p.1 × IsFault new.symbols p.1.unit p.1.form e b
+Passes old new region u v ls spot fs most todo asked (Err fault.Full) p = Leaves old new region u × MayFill old u
+Passes old new region u v ls spot fs most todo asked (Err fault.Memory) p = Leaves old new region u
 
 -- ---- core forms by their shapes
 

@@ -6,10 +6,10 @@ use Rattle.scheme_model.specs.Keywords.{CoreKeyword}
 use Rattle.scheme_model.specs.Trees.{Tree, name, atom, list, vector, Trees, no_trees, tree, Tail}
 use Rattle.scheme_model.specs.Meaning.{Head, IsCore, IsAuxiliary, IsMacro, IsNone, is_keyword}
 use Rattle.scheme_model.specs.ExpansionFaults.{Named, KeywordAsValue}
-use Rattle.scheme_model.specs.Cores.{Core, Call}
-use Rattle.scheme_model.specs.Steps.{Broken, ◌>>=◌, done}
+use Rattle.scheme_model.specs.Cores.{Target, Core, Call}
+use Rattle.scheme_model.specs.Steps.{Broken, Step, ◌>>=◌, done}
 use Rattle.scheme_model.specs.Requirements.{Known}
-use Rattle.scheme_model.specs.Order.{Transformer, head_of, target_of}
+use Rattle.scheme_model.specs.Order.{Transformer, head_of, target_of, use_of, meet_waiting}
 use Rattle.scheme_model.specs.Expression.{Expander, whole, node, each, expression, expand}
 use Rattle.scheme_model.specs.ScopedExpansion.{Frames, ScopedState, macro_at}
 use Rattle.scheme_model.specs.CountedExpansion.{means_here}
@@ -72,6 +72,10 @@ IsMacroKeyword work known s fs t (Some keyword) =
     (i : Identifier) × (p : Option Occ) × (ts : Trees Identifier) × (tail : Tail Identifier) × (o : Option Occ) × (m : Transformer Frames Identifier)
     × (t ≡ list (tree (name i p) ts) tail o) × IsTarget work.symbols s.unit s.form keyword (target_of (searched known) fs s i p)
     × (head_of (searched known) fs s i ≡ IsMacro (means_here s fs i)) × (macro_at s.macros (means_here s fs i) ≡ Some m)
+
+-- one use of a macro, which is met at once: the tree that it gives
+abbrev pub use_met : Known → Option Occ → Frames → Target → Transformer Frames Identifier → Trees Identifier → Tail Identifier → Step ScopedState (Tree Identifier)
+use_met known here fs keyword m ts tail s = use_of (searched known) here fs keyword m ts tail s >>= λ i t. done i.tree (meet_waiting (searched known) fs i.met t)
 
 -- ---- lists
 

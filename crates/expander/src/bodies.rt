@@ -47,7 +47,7 @@ pub fn in_place(at: At, here: Option<Occ>) -> At
     }
 }
 
-/// Enters a body and goes through its forms: its scope, and what was set aside.
+/// Enters a body and goes through its forms, whose macro uses are met: its scope, and what was set aside.
 pub(crate) fn pass_body(
     units: &mut UnitScope,
     alloc: Global,
@@ -67,6 +67,7 @@ pub(crate) fn pass_body(
     let mut pending = Pending {
         todo: forms_at(alloc, at.here, forms)?,
         aside: Vec::new(alloc),
+        uses: Vec::new(alloc),
     };
     let spot = Spot {
         scope,
@@ -74,7 +75,12 @@ pub(crate) fn pass_body(
     };
     let mut asked = Asked::new(alloc);
     pass(units, alloc, work, region, spot, &mut pending, &mut asked)?;
-    let Pending { todo: _, aside } = pending;
+    let Pending {
+        todo: _,
+        aside,
+        uses,
+    } = pending;
+    units.meet_all(alloc, work, scope, uses.as_slice())?;
     Ok((scope, aside))
 }
 

@@ -4,7 +4,7 @@ ghost use Rattle.scheme_model.specs.ExpansionFaults.{Named};
 ghost use Rattle.scheme_model.specs.Ident.{Ident as Identifier};
 ghost use Rattle.scheme_model.specs.Keywords.{CoreKeyword as ModelKeyword};
 ghost use Rattle.scheme_model.specs.Requirements.{Known};
-ghost use Rattle.scheme_model.specs.Order.{Transformer, head_of, use_of};
+ghost use Rattle.scheme_model.specs.Order.{Transformer, head_of};
 ghost use Rattle.scheme_model.specs.Cores.{Target as ModelTarget, Const};
 ghost use Rattle.scheme_model.specs.Steps.{done};
 ghost use Rattle.unit_scopes.specs.Used.{CanUse, UseFor};
@@ -25,7 +25,7 @@ ghost use Rattle.unit_scopes.specs.State.{Stands};
 ghost use Rattle.unit_scopes.specs.Outcomes.{At as Stand, CanLook, EndsHere, IsAtWork, WorksOn, IsEnough};
 ghost use Rattle.unit_scopes.specs.Defining.{HasNumber};
 ghost use Rattle.unit_scopes.specs.Stepped.{with_keyword};
-ghost use Rattle.expander.specs.Ready.{IsSettled, IsHeaded, HasCore, IsCall, Prepares, Settles, come_to, Reads, TestsVariable, passed, BeginsBelow};
+ghost use Rattle.expander.specs.Ready.{use_met, IsSettled, IsHeaded, HasCore, IsCall, Prepares, Settles, come_to, Reads, TestsVariable, passed, BeginsBelow};
 
 use core_forms::{CoreKeyword, CoreShape, NamePart, parse_core};
 use core_tree::cores::{Core, Target};
@@ -41,7 +41,7 @@ use syntax_tree::look::{Look, look_at};
 use syntax_tree::trees::{Region, Tree, Work};
 use unit_scopes::counting::misread;
 use unit_scopes::scope::UnitScope;
-use unit_scopes::uses::{Use, held};
+use unit_scopes::uses::{Instance, Use, held};
 
 /// Where an expression stands: its scope, the innermost form read from a text around it, and how much depth is left.
 #[derive(Clone, Copy, Debug)]
@@ -154,7 +154,7 @@ fn settle(
     }
 }
 
-/// Makes a macro use: the tree that it gives.
+/// Makes a macro use, which is met at once: the tree that it gives.
 fn make_use(
     units: &mut UnitScope,
     alloc: Global,
@@ -167,14 +167,17 @@ fn make_use(
     requires named { CanName work.old region.now at.form }
     ensures used { (known : Known) (ls : List Frames) (s : ScopedState) (fs : Frames) (keyword : ModelTarget) (m : Transformer Frames Identifier) (ts : Trees Identifier) (tail : Tail Identifier) →
         Stands work.old units.old ls s → Stand ls at.scope fs → UseFor work.old s at keyword m ts tail →
-        EndsHere (WorksOn work.new region.now) work.old work.new region.now units.old units.new ls result (use_of (searched known) at.here fs keyword m ts tail s) }
+        EndsHere (WorksOn work.new region.now) work.old work.new region.now units.old units.new ls result (use_met known at.here fs keyword m ts tail s) }
     ensures counted { OnOk result (units.new.form.budget.uses ≡ units.old.form.budget.uses + 1) }
     ensures locals { OnOk result (units.new.form.budget.locals ≡ units.old.form.budget.locals) }
 {
     work.symbols.told_apart();
     let (_, comparisons) = units.compare(alloc, work, at)?;
     let same = held(alloc, &comparisons)?;
-    units.apply(alloc, work, region, at, &same)
+    let given = units.apply(alloc, work, region, at, &same)?;
+    let Instance { tree, met } = given;
+    units.meet(alloc, work, at.scope, &met)?;
+    Ok(tree)
 }
 
 /// What stands at the head of a form.

@@ -10,6 +10,6 @@ mod passes;
 mod unit;
 
 pub use feature_requirements::{ExpandFault, Libraries};
-pub use form_parts::Item;
-pub use unit::{declare_form, expand_item};
+pub use form_parts::{Item, Left, WaitingUse};
+pub use unit::{declare_form, expand_item, meet_uses};
 pub use unit_scopes::{Budget, Imported, UnitScope, units_go_on};

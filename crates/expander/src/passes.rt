@@ -51,9 +51,9 @@ use syntax_tree::trees::{Region, Tree, Work};
 use unit_scopes::asked::{Asked, Asking, Note};
 use unit_scopes::counting::misread;
 use unit_scopes::scope::UnitScope;
-use unit_scopes::uses::{Comparison, Use, held};
+use unit_scopes::uses::{Comparison, Instance, Use, held};
 
-/// Goes through the forms that are left, in order: what was set aside.
+/// Goes through the forms that are left, in order: what was set aside, and the macro uses that wait.
 pub(crate) fn pass(
     units: &mut UnitScope,
     alloc: Global,
@@ -69,7 +69,7 @@ pub(crate) fn pass(
         Knows units.old.libraries known → Stands work.old units.old ls s → SpotFor work.old units.old ls s spot fs →
         PendingFor work.old region.now units.old.unit units.old.form.number pending.old p → NotesFor work.old ls asked.old p.notes →
         left_with p.todo units.old.form.budget.uses < turns →
-        Passes work.old work.new region.now units.old units.new ls spot fs (left_with p.todo units.old.form.budget.uses) pending.new.aside.items asked.new result (run (searched known) turns fs p s) }
+        Passes work.old work.new region.now units.old units.new ls spot fs (left_with p.todo units.old.form.budget.uses) pending.new asked.new result (run (searched known) turns fs p s) }
 {
     'forms: for _turn in 0..u64::MAX {
         let Some(form) = pending.todo.pop() else {
@@ -160,7 +160,7 @@ fn note_head(
     Ok(())
 }
 
-/// Goes through a macro use: its comparisons are noted, and the tree that it gives comes next.
+/// Goes through a macro use: its comparisons are noted, the tree that it gives comes next, and the use waits.
 fn pass_use(
     units: &mut UnitScope,
     alloc: Global,
@@ -185,11 +185,13 @@ fn pass_use(
     let same = held(alloc, &comparisons)?;
     let applied = units.apply(alloc, work, region, at, &same);
     work.symbols.told_apart();
-    let tree = applied?;
+    let given = applied?;
+    let Instance { tree, met } = given;
     pending.todo.push(Form {
         here: at.here,
         tree,
     })?;
+    pending.uses.push(met)?;
     Ok(())
 }
 

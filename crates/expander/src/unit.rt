@@ -8,16 +8,17 @@ ghost use Rattle.scheme_model.specs.UnitExpansion.{max_depth};
 ghost use Rattle.core_tree.specs.Cores.{PartStands};
 ghost use Rattle.scheme_model.specs.Requirements.{Known};
 ghost use Rattle.scheme_model.specs.Trees.{Tree as ModelTree};
-ghost use Rattle.scheme_model.specs.Order.{Note, Item as ModelItem};
+ghost use Rattle.scheme_model.specs.Order.{Note, Item as ModelItem, WaitingUse as ModelWaiting};
 ghost use Rattle.scheme_model.specs.ScopedExpansion.{Frames, FramedIdent, ScopedState};
 ghost use Rattle.syntax_tree.specs.Names.{KeepsNames};
 ghost use Rattle.syntax_tree.specs.Works.{IsOpened, StandsFor, KeepsTrees, SameRegions, AddsIn, live_count};
 ghost use Rattle.feature_requirements.specs.Judged.{Knows};
 ghost use Rattle.unit_scopes.specs.Outcomes.{IsAtWork, Ends, MayFill, HasRoom, Spends};
 ghost use Rattle.unit_scopes.specs.State.{Stands};
-ghost use Rattle.unit_scopes.specs.Kept.{NotesFor};
+ghost use Rattle.unit_scopes.specs.Kept.{NotesFor, WaitsFor};
+ghost use Rattle.core_tree.specs.Names.{AllMatch};
 ghost use Rattle.unit_scopes.specs.Searched.{searched};
-ghost use Rattle.unit_scopes.specs.Units.{UnitStands, CountsFor, HasSpace, ItemFor, Declares, Expands, CanDeclare, CanSet, Adds, Counts, Sets, form_at, set_aside, declared, expanded};
+ghost use Rattle.unit_scopes.specs.Units.{UnitStands, CountsFor, HasSpace, ItemFor, Declares, Expands, CanDeclare, CanSet, Adds, Counts, Sets, form_at, set_aside, declared, uses_met, expanded};
 
 use crate::cores::expand_kept_item;
 use crate::expressions::At;
@@ -26,7 +27,7 @@ use core_tree::cores::CorePart;
 use core_tree::traces::Trace;
 use core_tree::units::ExpandedItem;
 use feature_requirements::fault::ExpandFault;
-use form_parts::items::{Item, Kept, Pending, Spot, forms_at};
+use form_parts::items::{Item, Kept, Left, Pending, Spot, WaitingUse, forms_at};
 use ls_base::{Items, Mem, Steps};
 use std::alloc::Global;
 use std::mem;
@@ -38,7 +39,7 @@ use unit_scopes::scope::{Budget, UnitScope};
 /// The most that cores may be nested.
 const MAX_DEPTH: u32 = 400;
 
-/// Goes through a form of the open unit: what it sets aside. Its definitions take effect.
+/// Goes through a form of the open unit: what is left of it. Its definitions take effect.
 pub fn declare_form<L: Ledger>(
     units: &mut UnitScope,
     work: &mut Work,
@@ -48,7 +49,7 @@ pub fn declare_form<L: Ledger>(
     budget: &mut Budget,
     trace: &mut Trace,
     steps: &mut Steps<L>,
-) -> Result<Items<Item>, ExpandFault>
+) -> Result<Left, ExpandFault>
     requires opened { IsOpened work.old region.now }
     requires form { IsAtWork work.old region.now form }
     requires stands { CanDeclare work.old units.old number budget.old trace.old }
@@ -67,9 +68,9 @@ pub fn declare_form<L: Ledger>(
 {
     turn(units, number, *budget, trace);
     match declare(units, work, region, form) {
-        Ok(aside) => {
+        Ok(left) => {
             rest(units, budget, trace, steps);
-            Ok(aside)
+            Ok(left)
         }
         Err(ExpandFault::At(fault)) => {
             rest(units, budget, trace, steps);
@@ -78,6 +79,30 @@ pub fn declare_form<L: Ledger>(
         Err(ExpandFault::Full) => Err(ExpandFault::Full),
         Err(ExpandFault::Memory) => Err(ExpandFault::Memory),
     }
+}
+
+/// Meets the macro uses of a form that was gone through, with what their literals mean once all forms of the unit were.
+pub fn meet_uses(
+    units: &mut UnitScope,
+    work: &Work,
+    uses: &[WaitingUse],
+    number: u32,
+    budget: Budget,
+    trace: &mut Trace,
+) -> Mem<()>
+    requires stands { CanDeclare work.now units.old number budget trace.old }
+    requires waits { (us : List (ModelWaiting Identifier)) × AllMatch (WaitsFor work.now units.old.unit number) uses.now us }
+    ensures met { (known : Known) (ls : List Frames) (s : ScopedState) (notes : List (Note FramedIdent)) (us : List (ModelWaiting Identifier)) → UnitStands work.now units.old ls s notes →
+        CountsFor work.now s number budget trace.old → AllMatch (WaitsFor work.now units.old.unit number) uses.now us →
+        OnOk result (UnitStands work.now units.new ls (uses_met known number us s) notes × CountsFor work.now (uses_met known number us s) number budget trace.new) }
+    ensures scope { OnOk result (units.new ≡ record units.old { form = units.new.form }) }
+{
+    turn(units, number, budget, trace);
+    let alloc = units.alloc;
+    let root = units.root;
+    units.meet_all(alloc, work, root, uses)?;
+    mem::swap(&mut units.form.trace, trace);
+    Ok(())
 }
 
 /// Expands what a form set aside.
@@ -155,13 +180,13 @@ fn rest<L: Ledger>(
     mem::swap(&mut units.form.trace, trace);
 }
 
-/// What the form at work sets aside.
+/// What is left of the form at work.
 fn declare(
     units: &mut UnitScope,
     work: &mut Work,
     region: &Region,
     form: Tree,
-) -> Result<Items<Item>, ExpandFault>
+) -> Result<Left, ExpandFault>
     requires opened { IsOpened work.old region.now }
     requires form { IsAtWork work.old region.now form }
     requires can { CanSet work.old units.old }
@@ -179,6 +204,7 @@ fn declare(
     let mut pending = Pending {
         todo: forms_at(alloc, None, &[form])?,
         aside: Vec::new(alloc),
+        uses: Vec::new(alloc),
     };
     let spot = Spot {
         scope: units.root,
@@ -188,8 +214,13 @@ fn declare(
     let passed = pass(units, alloc, work, region, spot, &mut pending, &mut asked);
     units.asked = asked;
     passed?;
-    let Pending { todo: _, aside } = pending;
-    Ok(items(alloc, aside)?)
+    let Pending {
+        todo: _,
+        aside,
+        uses,
+    } = pending;
+    let items = items(alloc, aside)?;
+    Ok(Left { uses, items })
 }
 
 /// What the form at work has set aside, expanded. What the unit was asked stays.

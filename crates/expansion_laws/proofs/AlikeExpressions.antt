@@ -6,16 +6,16 @@ use Rattle.scheme_model.specs.Trees.{Tree, name, atom, list, vector, Trees, no_t
 use Rattle.scheme_model.specs.Measures.{tree_size}
 use Rattle.scheme_model.specs.ExpansionFaults.{Named, named, Fault, BadForm, BadPlace, DepthBudget, SyntaxError, IncludeRefused, OutOfTurns, ◌>>◌}
 use Rattle.scheme_model.specs.Meaning.{Head, IsCore, IsAuxiliary, IsMacro, IsNone}
-use Rattle.scheme_model.specs.Shapes.{Clause, lambda_of, case_lambda_of, if_of, named_tree_of, some_of, one_of, error_text_of, definition_of, values_of, LocalMacros, local_macros_of}
+use Rattle.scheme_model.specs.Shapes.{Clause, lambda_of, case_lambda_of, if_of, named_tree_of, syntax_of, some_of, one_of, error_text_of, definition_of, values_of, LocalMacros, local_macros_of}
 use Rattle.scheme_model.specs.Requirements.{chosen_of}
 use Rattle.scheme_model.specs.Quasiquote.{quasi_of, Pieces}
-use Rattle.scheme_model.specs.Cores.{Target, Core, LetSyntax, outside}
+use Rattle.scheme_model.specs.Cores.{Target, Core, Body, LetSyntax, outside}
 use Rattle.scheme_model.specs.Steps.{Broken, Step, ◌>>=◌, done}
-use Rattle.scheme_model.specs.Order.{Here, Item, Expression, Value, Function, Assigned, AssignedFunction, ValuesOf, Record, Macro, Pass, Transformer, Ops, target_of, head_of, here_at, forms_at, given, RulesParts, rules_parts_of}
-use Rattle.scheme_model.specs.Expression.{Task, whole, body, Expander, node, each, each_of, bound, procedure, lambda, clauses, assignment, item_part, parts, items_of, body_core, expressions, sequence, heads, keep_all, numbers, local_defs, local_macros, recursive, let_syntax, letrec_syntax, mark_of, quasi, quote, unless_keyword, set, reference, call, chosen_sequence, core_form, macro_use, by_head, expression, expand}
+use Rattle.scheme_model.specs.Order.{Here, Item, Expression, Value, Function, Assigned, AssignedFunction, ValuesOf, Record, Macro, Pass, Transformer, Ops, target_of, head_of, here_at, forms_at, given, RulesParts, rules_parts_of, meet_waiting, meet_all}
+use Rattle.scheme_model.specs.Expression.{Task, whole, body, Expander, node, each, each_of, bound, procedure, lambda, clauses, assignment, item_part, parts, left_of, body_core, expressions, sequence, heads, keep_all, numbers, local_defs, local_macros, recursive, let_syntax, letrec_syntax, mark_of, quasi, quote, unless_keyword, set, reference, call, chosen_sequence, core_form, macro_use, by_head, expression, expand}
 use Rattle.scheme_model.proofs.FrameHeads.{IfMacro}
 use Rattle.scheme_model.proofs.CountedForms.{OkAll}
-use Rattle.expansion_laws.proofs.AlikeSteps.{Likeness, other, On, after_then, on_after, alike, Goes, since, alike_bind, goes_same, goes_fails, counting_alike, given_alike, use_alike, parts_alike, rules_alike, Ran, ran}
+use Rattle.expansion_laws.proofs.AlikeSteps.{Likeness, other, On, after_then, on_after, alike, alike_at, Goes, since, alike_bind, met_after, all_met_after, all_met_same, goes_same, goes_fails, counting_alike, given_alike, use_alike, parts_alike, rules_alike, Ran, ran}
 use Rattle.expansion_laws.proofs.AlikeRuns.{run_alike}
 
 module _ {E A L S : Type 0} (ops : Ops E A L S) (k : Likeness ops) where
@@ -123,8 +123,8 @@ module _ {E A L S : Type 0} (ops : Ops E A L S) (k : Likeness ops) where
 
     -- ---- bodies
 
-    items_alike : (s : S) {q q' : Pass A L × S} → Ran ops k s q q' → Goes ops k s (items_of q) (items_of q')
-    items_alike s {q} (ran e a) = alike (ap items_of e) a (any q.0.items)
+    left_alike : (s : S) {q q' : Pass A L × S} → Ran ops k s q q' → Goes ops k s (left_of q) (left_of q')
+    left_alike s {q} (ran e a) = alike (ap left_of e) a (any q.0.left)
       where
         any : {V : Type 0} (r : Result V Broken) → OkAll (λ v. Unit {0}) r
         any (Ok v) = tt
@@ -136,8 +136,13 @@ module _ {E A L S : Type 0} (ops : Ops E A L S) (k : Likeness ops) where
         let r = ops.enter e ts t in
         let a = k.enter t i.0 e i.1 ts in
         since ops k t r.state a.0
-        (made_alike r.state _ (alike_bind ops k r.state _ _ (items_alike r.state (run_alike ops k r.env (k.inside t e ts) turns (record { todo = forms_at here r.trees; aside = []; notes = [] }) r.state (a.0.0, a.1) tt))
-        (λ is u b z. all_items_alike below r.env is u (on_after ops k r.env r.state u (a.0.0, a.1) b))))) s h
+        (alike_bind ops k r.state _ _ (left_alike r.state (run_alike ops k r.env (k.inside t e ts) turns (record { todo = forms_at here r.trees; aside = []; uses = []; notes = [] }) r.state (a.0.0, a.1) tt))
+        (λ l u b z.
+        let v = meet_all ops r.env l.uses u in
+        let c = all_met_after ops k r.env l.uses u b.0 in
+        let on = on_after ops k r.env u v (on_after ops k r.env r.state u (a.0.0, a.1) b) c in
+        alike_at ops k (ap (λ w. parts (item_part G (other ops k) below r.env) l.items w >>= λ ps. done (Body ps)) (all_met_same ops k r.env l.uses u))
+        (since ops k u v c (made_alike v _ (all_items_alike below r.env l.items v on)))))) s h
 
     sequence_alike : (depth : ℕ) (here : Here) (e : E) (ts : Trees A) → StepsAlike e (sequence F ops depth here e ts) (sequence G (other ops k) depth here e ts)
     sequence_alike depth here e ts s h =
@@ -219,7 +224,7 @@ module _ {E A L S : Type 0} (ops : Ops E A L S) (k : Likeness ops) where
     core_alike depth here e IsDefine ts tail s h = read_alike here (definition_of ops.names.same ts tail) e _ _ (λ d u i. goes_fails ops k here BadPlace u i.0) s h
     core_alike depth here e IsDefineValues ts tail s h = read_alike here (values_of ops.names.same ts tail) e _ _ (λ d u i. goes_fails ops k here BadPlace u i.0) s h
     core_alike depth here e IsDefineRecordType ts tail s h = goes_fails ops k here BadPlace s h.0
-    core_alike depth here e IsDefineSyntax ts tail s h = read_alike here (named_tree_of ts tail) e _ _ (λ d u i. goes_fails ops k here BadPlace u i.0) s h
+    core_alike depth here e IsDefineSyntax ts tail s h = read_alike here (syntax_of ts tail) e _ _ (λ d u i. goes_fails ops k here BadPlace u i.0) s h
     core_alike depth here e IsLetSyntax ts tail s h = read_alike here (local_macros_of ops.names.same ts tail) e _ _ (λ m u i. let_alike depth here e m u i) s h
     core_alike depth here e IsLetrecSyntax ts tail s h = read_alike here (local_macros_of ops.names.same ts tail) e _ _ (λ m u i. letrec_alike depth here e m u i) s h
     core_alike depth here e IsCondExpand ts tail s h = read_alike here (chosen_of ops.names.strip ops.known ts tail) e _ _ (λ o u i. chosen_alike depth here e o u i) s h
@@ -231,7 +236,9 @@ module _ {E A L S : Type 0} (ops : Ops E A L S) (k : Likeness ops) where
     macro_alike : (depth : ℕ) (here : Here) (e : E) (t : Target) (o : Option (Transformer E A)) (ts : Trees A) (tail : Tail A) (s : S) → On ops k e s → IfMacro (λ (m : Transformer E A). k.fits s m.env) o
         → Goes ops k s (macro_use F ops depth here e t o ts tail s) (macro_use G (other ops k) depth here e t o ts tail s)
     macro_alike depth here e t None ts tail s h g = goes_fails ops k here BadForm s h.0
-    macro_alike depth here e t (Some m) ts tail s h g = alike_bind ops k s _ _ (use_alike ops k here e t m ts tail s h.0 g) (λ x u a z. law depth here e (whole x) u (on_after ops k e s u h a))
+    macro_alike depth here e t (Some m) ts tail s h g = alike_bind ops k s _ _ (use_alike ops k here e t m ts tail s h.0 g) (λ i u a z.
+        let m = met_after ops k e i.met u a.0 in
+        since ops k u (meet_waiting ops e i.met u) m (law depth here e (whole i.tree) (meet_waiting ops e i.met u) (on_after ops k e u (meet_waiting ops e i.met u) (on_after ops k e s u h a) m)))
 
     head_alike : (depth : ℕ) (here : Here) (e : E) (c : Head) (n : Named A) (ts : Trees A) (tail : Tail A) → StepsAlike e (by_head F ops depth here e c n ts tail) (by_head G (other ops k) depth here e c n ts tail)
     head_alike depth here e (IsCore c) n ts tail s h =

@@ -1,19 +1,19 @@
 -- Two expansions that differ in definitions alone, step by step: while something holds of the states in which definitions are made,
 -- by which both define alike, they come to the same.
 use Rattle.std.proofs.Common.{◌≡◌, ℕ, List, [], ◌∷◌, ◌++◌, map, Bool, true, false, cond, Option, Some, None, Result, Ok, Err, refl, sym, ap, ◌∙◌, subst, ◌-◌, ◌+◌}
-use Rattle.std.specs.Prelude.{nat_le, nat_lt}
+use Rattle.std.specs.Prelude.{nat_le}
 use Rattle.scheme_model.specs.Identifiers.{Number}
 use Rattle.scheme_model.specs.Ident.{Ident}
 use Rattle.scheme_model.specs.Trees.{Tree, Trees, Tail}
 use Rattle.scheme_model.specs.Measures.{tree_size}
-use Rattle.scheme_model.specs.ExpansionFaults.{Named, Fault, NodeBudget, UseBudget, BadForm}
+use Rattle.scheme_model.specs.ExpansionFaults.{Named, named_map, Fault, NodeBudget, UseBudget, BadForm}
 use Rattle.scheme_model.specs.Meaning.{Meaning, same_meaning}
 use Rattle.scheme_model.specs.RulesShape.{Rules, rules_of, role_of, dots_of}
 use Rattle.scheme_model.specs.Matching.{Chosen, matcher, first_match, compared}
 use Rattle.scheme_model.specs.Building.{build}
 use Rattle.scheme_model.specs.Cores.{Target, Binder, MacroUse}
 use Rattle.scheme_model.specs.Steps.{Broken, Step, ◌>>=◌, done, fails}
-use Rattle.scheme_model.specs.Order.{Here, Form, Note, Compared, Pending, Pass, Transformer, Ops, head_of, target_of, counting, given, told, comparisons, used, use_of, name_in, with_rest, next_name, names_at, first, define_next, define_all, define_names, fields_bound, caught, is_rules, RulesParts, rules_parts, rules_note, rules_at, max_uses, max_nodes}
+use Rattle.scheme_model.specs.Order.{Here, Note, Compared, WaitingUse, Pending, Renamed, Pass, Transformer, Ops, head_of, target_of, counting, given, told, has_use, comparisons, used, use_of, meet_waiting, meet_all, define_all, define_names, fields_bound, caught, is_rules, RulesParts, rules_parts, rules_note, rules_at, max_nodes}
 use Rattle.scheme_model.proofs.FrameAsks.{AllOf}
 use Rattle.scheme_model.proofs.FrameHeads.{IfMacro}
 use Rattle.scheme_model.proofs.FrameHeld.{NoteAll, notes_more}
@@ -22,7 +22,7 @@ use Rattle.scheme_model.proofs.CountedForms.{OkAll}
 -- What holds of the states of an expansion and of what stands in them, and goes on to hold of those after them; where definitions are
 -- made; and another way to define, which there is the same.
 pub record Likeness {E A L S : Type 0} (ops : Ops E A L S) : Type 1 where
-  pub define : Named A → Option (Rules A) → E → Pending A L → S → Result (Pending A L) (Fault Ident) × S
+  pub define : Named A → Option (Rules A) → E → Pending A L → S → Result (Renamed A L) (Fault Ident) × S
   pub good : S → Type 0
   pub fits : S → E → Type 0
   pub noted : S → L → Type 0
@@ -45,7 +45,7 @@ pub record Likeness {E A L S : Type 0} (ops : Ops E A L S) : Type 1 where
   pub transformer : (s : S) → good s → (m : Meaning) → IfMacro (λ (t : Transformer E A). fits s t.env) (ops.transformer s m)
   pub same : (s : S) → good s → (e : E) → defines e → fits s e → (n : Named A) (r : Option (Rules A)) (p : Pending A L) → AllOf (NoteAll (noted s)) p.notes → define n r e p s ≡ ops.define n r e p s
   pub defined : (s : S) → good s → (e : E) → defines e → fits s e → (n : Named A) (r : Option (Rules A)) (p : Pending A L) → good (ops.define n r e p s).1 × later s (ops.define n r e p s).1
-  pub left : (s : S) (e : E) (n : Named A) (r : Option (Rules A)) (p : Pending A L) → OkAll (λ (q : Pending A L). q.notes ≡ p.notes) (ops.define n r e p s).0
+  pub left : (s : S) (e : E) (n : Named A) (r : Option (Rules A)) (p : Pending A L) → OkAll (λ (d : Renamed A L). d.pending.notes ≡ p.notes) (ops.define n r e p s).0
 
 module _ {E A L S : Type 0} (ops : Ops E A L S) (k : Likeness ops) where
   -- the expansion that defines the other way
@@ -122,70 +122,73 @@ module _ {E A L S : Type 0} (ops : Ops E A L S) (k : Likeness ops) where
 
   -- ---- macro uses
 
-  used_alike : (here : Here) (e : E) (t : Target) (m : Transformer E A) (n : Number) (o : Option (Chosen A A)) (s : S) → k.good s → Goes s (used ops here e t m n o s) (used other here e t m n o s)
-  used_alike here e t m n None s g = alike refl (here_after s g) tt
-  used_alike here e t m n (Some c) s g =
-      alike_bind s _ _ (given_alike here (build ops.names m.rules (λ i. ops.insert i n) c.rule.template c.match.bindings (max_nodes - (ops.counted s).nodes)) s g)
-      (λ b u a h.
-      let met = ops.meet_use (record { keyword = t; literals = map (λ x. target_of ops e s x.name x.occ) c.match.met }) u in
-      let x = k.meet_use u a.0 (record { keyword = t; literals = map (λ x. target_of ops e s x.name x.occ) c.match.met }) in
-      alike refl (after_then u met (ops.spend b.count met) x (k.spend met x.0 b.count)) tt)
+  used_alike : (here : Here) (t : Target) (m : Transformer E A) (n : Number) (o : Option (Chosen A A)) (s : S) → k.good s → Goes s (used ops here t m n o s) (used other here t m n o s)
+  used_alike here t m n None s g = alike refl (here_after s g) tt
+  used_alike here t m n (Some c) s g =
+      alike_bind s _ _ (given_alike here (build ops.names m.rules (λ i. ops.insert i n) c.rule.template c.match.bindings (max_nodes - (ops.counted s).nodes)) s g) (λ b u a h. alike refl (k.spend u a.0 b.count) tt)
 
   pub use_alike : (here : Here) (e : E) (t : Target) (m : Transformer E A) (ts : Trees A) (tail : Tail A) (s : S) → k.good s → k.fits s m.env → Goes s (use_of ops here e t m ts tail s) (use_of other here e t m ts tail s)
-  use_alike here e t m ts tail s g h = go (nat_lt (ops.counted s).uses max_uses)
+  use_alike here e t m ts tail s g h = go (has_use ops s)
     where
       o : Option (Chosen A A)
       o = first_match (matcher ops.names m.rules (λ l j. same_meaning (ops.means m.env s l) (ops.means e s j))) m.rules.rules ts tail
 
-      go : (b : Bool) → Goes s (cond b (used ops here e t m (ops.next_use s) o (ops.begin_use m.env s)) (fails here UseBudget s)) (cond b (used other here e t m (ops.next_use s) o (ops.begin_use m.env s)) (fails here UseBudget s))
-      go true = let a = k.begin_use s g m.env h in since s (ops.begin_use m.env s) a (used_alike here e t m (ops.next_use s) o (ops.begin_use m.env s) a.0)
+      go : (b : Bool) → Goes s (cond b (used ops here t m (ops.next_use s) o (ops.begin_use m.env s)) (fails here UseBudget s)) (cond b (used other here t m (ops.next_use s) o (ops.begin_use m.env s)) (fails here UseBudget s))
+      go true = let a = k.begin_use s g m.env h in since s (ops.begin_use m.env s) a (used_alike here t m (ops.next_use s) o (ops.begin_use m.env s) a.0)
       go false = goes_fails here UseBudget s g
 
   pub compared_noted : (e : E) (m : Transformer E A) (ts : Trees A) (tail : Tail A) (s : S) → k.fits s e → k.fits s m.env → Notes s (comparisons ops e m ts tail s)
-  compared_noted e m ts tail s h g = go (compared (role_of ops.names m.rules) (dots_of ops.names m.rules) m.rules.rules ts tail)
+  compared_noted e m ts tail s h g = by_budget (has_use ops s)
     where
-      go : (qs : List (A × A)) → Notes s (map (λ (q : A × A). Compared (ops.place m.env q.0) (ops.place e q.1) (same_meaning (ops.means m.env s q.0) (ops.means e s q.1))) qs)
+      note : A × A → Note L
+      note q = Compared (ops.place m.env q.0) (ops.place e q.1) (same_meaning (ops.means m.env s q.0) (ops.means e s q.1))
+
+      go : (qs : List (A × A)) → Notes s (map note qs)
       go [] = tt
       go (q ∷ qs) = ((k.placed s m.env g q.0, k.placed s e h q.1), go qs)
 
+      by_budget : (b : Bool) → Notes s (cond b (map note (compared (role_of ops.names m.rules) (dots_of ops.names m.rules) m.rules.rules ts tail)) [])
+      by_budget true = go (compared (role_of ops.names m.rules) (dots_of ops.names m.rules) m.rules.rules ts tail)
+      by_budget false = tt
+
+  -- uses are met alike
+  pub met_after : (e : E) (w : WaitingUse A) (s : S) → k.good s → After s (meet_waiting ops e w s)
+  met_after e w s g = k.meet_use s g (record { keyword = w.keyword; literals = map (λ x. target_of ops e s x.name x.occ) w.literals })
+
+  pub all_met_after : (e : E) (us : List (WaitingUse A)) (s : S) → k.good s → After s (meet_all ops e us s)
+  all_met_after e [] s g = here_after s g
+  all_met_after e (u ∷ us) s g = let a = met_after e u s g in after_then s (meet_waiting ops e u s) (meet_all ops e us (meet_waiting ops e u s)) a (all_met_after e us (meet_waiting ops e u s) a.0)
+
+  pub all_met_same : (e : E) (us : List (WaitingUse A)) (s : S) → meet_all other e us s ≡ meet_all ops e us s
+  all_met_same e [] s = refl
+  all_met_same e (u ∷ us) s = all_met_same e us (meet_waiting ops e u s)
+
   -- ---- definitions
 
-  abbrev pub Left : S → Pending A L → Type 0
-  Left s p = Notes s p.notes
+  abbrev pub Made : S → Renamed A L → Type 0
+  Made s d = Notes s d.pending.notes
 
-  pub define_alike : (here : Here) (n : Named A) (r : Option (Rules A)) (e : E) → k.defines e → (p : Pending A L) (s : S) → On e s → Notes s p.notes → Alike Left s (told here (ops.define n r e p s)) (told here (other.define n r e p s))
+  pub define_alike : (here : Here) (n : Named A) (r : Option (Rules A)) (e : E) → k.defines e → (p : Pending A L) (s : S) → On e s → Notes s p.notes → Alike Made s (told here (ops.define n r e p s)) (told here (other.define n r e p s))
   define_alike here n r e defines p s h ns =
       alike_at (ap (told here) (k.same s h.0 e defines h.1 n r p ns)) (go (ops.define n r e p s) (k.defined s h.0 e defines h.1 n r p) (k.left s e n r p))
     where
-      go : (q : Result (Pending A L) (Fault Ident) × S) → After s q.1 → OkAll (λ (z : Pending A L). z.notes ≡ p.notes) q.0 → Alike Left s (told here q) (told here q)
+      go : (q : Result (Renamed A L) (Fault Ident) × S) → After s q.1 → OkAll (λ (d : Renamed A L). d.pending.notes ≡ p.notes) q.0 → Alike Made s (told here q) (told here q)
       go (Ok z, t) a d = alike refl a (subst (Notes t) (sym d) (notes_after s t a p.notes ns))
       go (Err x, t) a d = alike refl a tt
 
   -- beside the binders of several definitions
-  abbrev pub Many : S → List Binder × Pending A L → Type 0
-  Many s q = Notes s q.1.notes
+  abbrev pub Many : S → List Binder × Renamed A L → Type 0
+  Many s q = Notes s q.1.pending.notes
 
   module _ (here : Here) (e : E) (defines : k.defines e) where
-    abbrev AllAlike : List (Named A) → Type 0
-    AllAlike ns = (p : Pending A L) (s : S) → On e s → Notes s p.notes → Alike Many s (define_all ops here e ns p s) (define_all other here e ns p s)
+    all_alike : (f : A → A) (ns : List (Named A)) (p : Pending A L) (s : S) → On e s → Notes s p.notes → Alike Many s (define_all ops here e f ns p s) (define_all other here e f ns p s)
+    all_alike f [] p s h l = alike refl (here_after s h.0) l
+    all_alike f (n ∷ ns) p s h l =
+        alike_bind s _ _ (define_alike here (named_map f n) None e defines p s h l)
+        (λ d u a z. alike_bind u _ _ (all_alike (λ i. d.rename (f i)) ns d.pending u (on_after e s u h a) z) (λ more v b y. alike refl (here_after v b.0) y))
 
-    module _ (ns : List (Named A)) (ih : AllAlike ns) (p : Pending A L) (s : S) (h : On e s) (l : Notes s p.notes) where
-      by_name : (fs : List (Form A)) (o : Option (Named A)) → Alike Many s (define_next ops here e (define_all ops here e ns) p (with_rest fs p o) s) (define_next other here e (define_all other here e ns) p (with_rest fs p o) s)
-      by_name fs None = alike refl (here_after s h.0) l
-      by_name fs (Some x) =
-          alike_bind s _ _ (define_alike here x None e defines (record { todo = fs; aside = p.aside; notes = p.notes }) s h l)
-          (λ r u a z. alike_bind u _ _ (ih r u (on_after e s u h a) z) (λ more v b y. alike refl (here_after v b.0) y))
-
-      by_todo : (fs : List (Form A)) → Alike Many s (define_next ops here e (define_all ops here e ns) p (next_name p fs) s) (define_next other here e (define_all other here e ns) p (next_name p fs) s)
-      by_todo [] = alike refl (here_after s h.0) l
-      by_todo (f ∷ fs) = by_name fs (name_in f.tree)
-
-    all_alike : (ns : List (Named A)) → AllAlike ns
-    all_alike [] p s h l = alike refl (here_after s h.0) l
-    all_alike (n ∷ ns) p s h l = by_todo ns (all_alike ns) p s h l p.todo
-
-  pub names_alike : (here : Here) (e : E) → k.defines e → (ns : List (Named A)) (fs : List (Form A)) (p : Pending A L) (s : S) → On e s → Notes s p.notes → Alike Many s (define_names ops here e ns fs p s) (define_names other here e ns fs p s)
-  names_alike here e defines ns fs p s h l = all_alike here e defines ns (first (names_at here ns ++ fs) p) s h l
+  pub names_alike : (here : Here) (e : E) → k.defines e → (ns : List (Named A)) (p : Pending A L) (s : S) → On e s → Notes s p.notes → Alike Many s (define_names ops here e ns p s) (define_names other here e ns p s)
+  names_alike here e defines ns p s h l = all_alike here e defines (λ i. i) ns p s h l
 
   pub fields_alike : (ns : List (Named A)) (s : S) → k.good s → Goes s (fields_bound ops ns s) (fields_bound other ns s)
   fields_alike [] s g = goes_same s [] g

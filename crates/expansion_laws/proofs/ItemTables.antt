@@ -1,20 +1,21 @@
 -- Where what was set aside is expanded only bodies define anything, so the units' definitions are what they were.
-use Rattle.std.proofs.Common.{◌≡◌, ℕ, [], Bool, true, false, cond, Option, Some, None, Result, Ok, Err, refl, ◌∙◌}
+use Rattle.std.proofs.Common.{◌≡◌, ℕ, List, [], Bool, true, false, cond, Option, Some, None, Result, Ok, Err, refl, ◌∙◌}
 use Rattle.scheme_model.specs.Identifiers.{Number}
 use Rattle.scheme_model.specs.Ident.{Ident}
 use Rattle.scheme_model.specs.ExpansionFaults.{Named, Fault, KeywordRedefined, Duplicate}
 use Rattle.scheme_model.specs.Requirements.{Known}
 use Rattle.scheme_model.specs.RulesShape.{Rules}
-use Rattle.scheme_model.specs.Order.{Item, Pending}
+use Rattle.scheme_model.specs.Order.{Item, WaitingUse, Pending, Renamed}
 use Rattle.scheme_model.specs.UnitExpansion.{max_depth}
 use Rattle.scheme_model.specs.Expression.{expand}
 use Rattle.scheme_model.specs.Program.{enough_turns}
+use Rattle.scheme_model.specs.Substitution.{unchanged}
 use Rattle.scheme_model.specs.ScopedExpansion.{Frames, FramedIdent, ScopedState, next_number, body_around, definition_added, is_defined}
 use Rattle.syntax_tree.proofs.Places.{none_some}
 use Rattle.unit_scopes.specs.Searched.{define_searched, searched}
 use Rattle.unit_scopes.specs.Stepped.{turned}
-use Rattle.unit_scopes.specs.Units.{expanded}
-use Rattle.expansion_laws.proofs.AlikeSteps.{Likeness, other, goes_after}
+use Rattle.unit_scopes.specs.Units.{uses_met, expanded}
+use Rattle.expansion_laws.proofs.AlikeSteps.{Likeness, other, goes_after, all_met_after}
 use Rattle.expansion_laws.proofs.AlikeExpressions.{expand_alike, item_alike}
 use Rattle.expansion_laws.proofs.OtherForms.{any_macro, notes_left, is_refused_here}
 
@@ -22,7 +23,7 @@ abbrev IsBodyPlace : Frames → Type 0
 IsBodyPlace fs = (b : Number) × (body_around fs ≡ Some b)
 
 defined_in_body : (s : ScopedState) (o : Option Number) (b : Number) → o ≡ Some b → (n : Named Ident) (r : Option (Rules Ident)) (fs : Frames) (p : Pending Ident FramedIdent) (refused twice : Bool)
-    → let q = cond {A = Result (Pending Ident FramedIdent) (Fault Ident) × ScopedState} refused (Err (KeywordRedefined n), s) (cond twice (Err (Duplicate n), s) (Ok p, definition_added o n r fs s)) in q.1.table ≡ s.table
+    → let q = cond {A = Result (Renamed Ident FramedIdent) (Fault Ident) × ScopedState} refused (Err (KeywordRedefined n), s) (cond twice (Err (Duplicate n), s) (Ok (unchanged p), definition_added o n r fs s)) in q.1.table ≡ s.table
 defined_in_body s None b is n r fs p refused twice = none_some b is
 defined_in_body s (Some v) b is n r fs p true twice = refl
 defined_in_body s (Some v) b is n r fs p false true = refl
@@ -60,3 +61,6 @@ pub expanded_table : (known : Known) (form : ℕ) (i : Item Ident) (s : ScopedSt
 expanded_table known form i s =
     (goes_after (searched known) (same_tables known)
     (item_alike (searched known) (same_tables known) (expand (searched known) enough_turns) (expand (other (searched known) (same_tables known)) enough_turns) (expand_alike (searched known) (same_tables known) enough_turns) max_depth [] i (turned form s) (tt, tt))).1
+
+pub met_table : (known : Known) (form : ℕ) (us : List (WaitingUse Ident)) (s : ScopedState) → (uses_met known form us s).table ≡ s.table
+met_table known form us s = (all_met_after (searched known) (same_tables known) [] us (turned form s) tt).1

@@ -11,11 +11,11 @@ use Rattle.scheme_model.specs.Meaning.{Meaning, Local, Global}
 use Rattle.scheme_model.specs.Requirements.{Known}
 use Rattle.scheme_model.specs.Cores.{Target, MacroUse}
 use Rattle.scheme_model.specs.RulesShape.{Rules}
-use Rattle.scheme_model.specs.Order.{Item, Note, LookedUp, Compared, Pending, Transformer, is_some}
-use Rattle.scheme_model.specs.UnitExpansion.{max_depth}
+use Rattle.scheme_model.specs.Order.{Item, WaitingUse, Note, LookedUp, Compared, Pending, Renamed, Transformer, is_some}
+use Rattle.scheme_model.specs.UnitExpansion.{max_depth, one_form}
 use Rattle.scheme_model.specs.Expression.{expand}
 use Rattle.scheme_model.specs.Program.{enough_turns}
-use Rattle.scheme_model.specs.Substitution.{at_form, any}
+use Rattle.scheme_model.specs.Substitution.{at_form, any, unchanged}
 use Rattle.scheme_model.specs.ScopedExpansion.{Frames, FramedIdent, ScopedState, next_number, macro_added, body_around, definition_added, meaning_next, is_defined}
 use Rattle.scheme_model.specs.CountedExpansion.{refused_here}
 use Rattle.scheme_model.proofs.FrameAsks.{AllOf}
@@ -25,8 +25,8 @@ use Rattle.scheme_model.proofs.CountedForms.{OkAll}
 use Rattle.unit_scopes.specs.Others.{Each, InFront, CountsStay, IsOf, IsOwn, IsOwnMacro, OthersStay}
 use Rattle.unit_scopes.specs.Searched.{speaks_of, define_searched, searched}
 use Rattle.unit_scopes.specs.Stepped.{turned}
-use Rattle.unit_scopes.specs.Units.{declared, expanded}
-use Rattle.expansion_laws.proofs.AlikeSteps.{Likeness, other, ran_after, goes_after}
+use Rattle.unit_scopes.specs.Units.{declared, uses_met, expanded}
+use Rattle.expansion_laws.proofs.AlikeSteps.{Likeness, other, ran_after, goes_after, all_met_after}
 use Rattle.expansion_laws.proofs.AlikeRuns.{run_alike}
 use Rattle.expansion_laws.proofs.AlikeExpressions.{expand_alike, item_alike}
 
@@ -60,7 +60,7 @@ pub any_macro : (o : Option (Transformer Frames Ident)) → IfMacro (λ (t : Tra
 any_macro None = tt
 any_macro (Some t) = tt
 
-pub notes_left : (s t : ScopedState) (n : Named Ident) (p : Pending Ident FramedIdent) (refused twice : Bool) → OkAll (λ (q : Pending Ident FramedIdent). q.notes ≡ p.notes) (cond {A = Result (Pending Ident FramedIdent) (Fault Ident) × ScopedState} refused (Err (KeywordRedefined n), s) (cond twice (Err (Duplicate n), s) (Ok p, t))).0
+pub notes_left : (s t : ScopedState) (n : Named Ident) (p : Pending Ident FramedIdent) (refused twice : Bool) → OkAll (λ (d : Renamed Ident FramedIdent). d.pending.notes ≡ p.notes) (cond {A = Result (Renamed Ident FramedIdent) (Fault Ident) × ScopedState} refused (Err (KeywordRedefined n), s) (cond twice (Err (Duplicate n), s) (Ok (unchanged p), t))).0
 notes_left s t n p true twice = tt
 notes_left s t n p false true = tt
 notes_left s t n p false false = refl
@@ -167,7 +167,7 @@ module _ (form : ℕ) where
     form_added (Some b) n r fs = work
 
     defined_on : (b : Option Number) (n : Named Ident) (r : Option (Rules Ident)) (fs : Frames) (p : Pending Ident FramedIdent) (refused twice : Bool)
-        → let q = cond {A = Result (Pending Ident FramedIdent) (Fault Ident) × ScopedState} refused (Err (KeywordRedefined n), s) (cond twice (Err (Duplicate n), s) (Ok p, definition_added b n r fs s)) in (q.1.form ≡ form) × OthersStay form s q.1
+        → let q = cond {A = Result (Renamed Ident FramedIdent) (Fault Ident) × ScopedState} refused (Err (KeywordRedefined n), s) (cond twice (Err (Duplicate n), s) (Ok (unchanged p), definition_added b n r fs s)) in (q.1.form ≡ form) × OthersStay form s q.1
     defined_on b n r fs p true twice = (work, others_itself s)
     defined_on b n r fs p false true = (work, others_itself s)
     defined_on b n r fs p false false = (form_added b n r fs, added_on b n r fs)
@@ -216,10 +216,13 @@ module _ (form : ℕ) where
   pub declared_stays : (known : Known) (t : Tree Ident) (notes : List (Note FramedIdent)) (s : ScopedState) → OthersStay form s (declared known form t notes s).1
   declared_stays known t notes s =
       of_turned s (declared known form t notes s).1
-      (ran_after (searched known) (staying known) (run_alike (searched known) (staying known) [] tt enough_turns (record { todo = record { here = None; tree = t } ∷ []; aside = []; notes = notes }) (turned form s) (refl, tt) (any_notes notes))).1
+      (ran_after (searched known) (staying known) (run_alike (searched known) (staying known) [] tt enough_turns (one_form t notes) (turned form s) (refl, tt) (any_notes notes))).1
 
   pub expanded_stays : (known : Known) (i : Item Ident) (s : ScopedState) → OthersStay form s (expanded known form i s).1
   expanded_stays known i s =
       of_turned s (expanded known form i s).1
       (goes_after (searched known) (staying known)
       (item_alike (searched known) (staying known) (expand (searched known) enough_turns) (expand (other (searched known) (staying known)) enough_turns) (expand_alike (searched known) (staying known) enough_turns) max_depth [] i (turned form s) (refl, tt))).1
+
+  pub met_stays : (known : Known) (us : List (WaitingUse Ident)) (s : ScopedState) → OthersStay form s (uses_met known form us s)
+  met_stays known us s = of_turned s (uses_met known form us s) (all_met_after (searched known) (staying known) [] us (turned form s) refl).1

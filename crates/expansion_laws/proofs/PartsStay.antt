@@ -4,7 +4,7 @@ use Rattle.scheme_model.specs.Ident.{Ident as Identifier}
 use Rattle.scheme_model.specs.ExpansionFaults.{Named, fault_name}
 use Rattle.scheme_model.specs.Cores.{Parts}
 use Rattle.scheme_model.specs.Steps.{Broken}
-use Rattle.scheme_model.specs.Order.{Counted, Item}
+use Rattle.scheme_model.specs.Order.{Counted, Item, WaitingUse}
 use Rattle.scheme_model.specs.UnitExpansion.{Formed}
 use Rattle.syntax_tree.specs.Names.{Names, KeepsNames}
 use Rattle.syntax_tree.specs.Works.{KeepsTrees}
@@ -17,7 +17,9 @@ use Rattle.core_tree.specs.declared.traces.FormFault.{FormFault}
 use Rattle.core_tree.specs.declared.units.UnitForm.{UnitForm}
 use Rattle.unit_scopes.specs.Units.{ItemFor}
 use Rattle.form_parts.specs.declared.items.Item as code_item
-use Rattle.unit_scopes.proofs.CoreStandLaws.{every_on, target_on, parts_stand_on, kept_on}
+use Rattle.form_parts.specs.declared.items.WaitingUse as code_waiting
+use Rattle.unit_scopes.specs.Kept.{WaitsFor}
+use Rattle.unit_scopes.proofs.CoreStandLaws.{every_on, target_on, parts_stand_on, kept_on, waits_on}
 use Rattle.expansion_laws.proofs.OtherCounts.{use_on}
 
 -- ---- faults
@@ -36,6 +38,9 @@ module _ (old new : Work) (trees : KeepsTrees old new) (names : KeepsNames old.s
 
   pub items_on : (region : Region) (form : ℕ) (xs : List code_item.Item) (is : List (Item Identifier)) → AllMatch (ItemFor old region unit form) xs is → AllMatch (ItemFor new region unit form) xs is
   items_on region form xs is h = every_on (ItemFor old region unit form) (ItemFor new region unit form) (λ x i kept. kept_on old new trees names unit form region x.kept i kept) xs is h
+
+  pub uses_on : (form : ℕ) (xs : List code_waiting.WaitingUse) (us : List (WaitingUse Identifier)) → AllMatch (WaitsFor old unit form) xs us → AllMatch (WaitsFor new unit form) xs us
+  uses_on form xs us h = every_on (WaitsFor old unit form) (WaitsFor new unit form) (λ x u waits. waits_on old new trees names unit form x u waits) xs us h
 
   -- ---- forms
 

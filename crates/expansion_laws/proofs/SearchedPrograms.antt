@@ -13,7 +13,7 @@ use Rattle.scheme_model.specs.CountedExpansion.{counted}
 use Rattle.scheme_model.specs.Entries.{Entry}
 use Rattle.scheme_model.specs.Program.{Placed, Prepared, WholeFault, fault_before, UnitResult, result_at, unit_entries, enough_turns, broken_result, unit_result, is_ready, first_ready, is_standard, prelude_unit}
 use Rattle.scheme_model.specs.ScopedProgram.{ScopedProgress, scoped_unit_over, scoped_start_after, scoped_by_fault, scoped_worked, scoped_work, scoped_before}
-use Rattle.unit_scopes.specs.Searched.{searched, forms_of, searched_unit_over, all_passed, front_passed, front_finished}
+use Rattle.unit_scopes.specs.Searched.{searched, forms_of, searched_unit_over, numbers_of, all_passed, front_passed, front_finished}
 use Rattle.scheme_model.proofs.FrameEras.{Era}
 use Rattle.scheme_model.proofs.FrameAsks.{AllOf, all_of_more, BindersCounted}
 use Rattle.scheme_model.proofs.FrameStates.{MacroFine}
@@ -172,13 +172,13 @@ module _ (all : List Placed) (ps : List Prepared) (known : Known) (n : ℕ) (p :
     }
 
     pub unit_law : searched_unit_over known p start ≡ scoped_unit_over known p start
-    unit_law = unit_searched w known enough_turns (forms_of p) start unit_state between.formed locals held bounded
+    unit_law = unit_searched w known enough_turns (numbers_of p) (forms_of p) start unit_state between.formed locals held bounded
 
     pub passed_law : all_passed (searched known) p start ≡ all_passed (counted known) p start
-    passed_law = units_passed w known enough_turns (forms_of p) start unit_state between.formed locals held bounded
+    passed_law = units_passed w known enough_turns (numbers_of p) (forms_of p) start unit_state between.formed locals held bounded
 
     pub front_passed_law : (k : ℕ) → front_passed (searched known) k p start ≡ front_passed (counted known) k p start
-    front_passed_law k = units_front_passed w known enough_turns (forms_of p) start unit_state between.formed locals held bounded k
+    front_passed_law k = units_front_passed w known enough_turns (numbers_of p) (forms_of p) start unit_state between.formed locals held bounded k
 
-    pub front_finished_law : (k : ℕ) → front_finished (searched known) k (all_passed (counted known) p start) ≡ front_finished (counted known) k (all_passed (counted known) p start)
-    front_finished_law k = units_front_finished w known enough_turns (forms_of p) start unit_state between.formed locals held bounded k
+    pub front_finished_law : (k : ℕ) → front_finished (searched known) k p (all_passed (counted known) p start) ≡ front_finished (counted known) k p (all_passed (counted known) p start)
+    front_finished_law k = units_front_finished w known enough_turns (numbers_of p) (forms_of p) start unit_state between.formed locals held bounded k

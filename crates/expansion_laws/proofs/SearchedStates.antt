@@ -7,8 +7,8 @@ use Rattle.scheme_model.specs.Meaning.{Meaning, Local, Global, same_meaning}
 use Rattle.scheme_model.specs.Requirements.{Known}
 use Rattle.scheme_model.specs.RulesShape.{Rules}
 use Rattle.scheme_model.specs.Cores.{Target, MacroUse}
-use Rattle.scheme_model.specs.Order.{Pending, Transformer, is_some}
-use Rattle.scheme_model.specs.Substitution.{Clock, at_form, any}
+use Rattle.scheme_model.specs.Order.{Pending, Renamed, Transformer, is_some}
+use Rattle.scheme_model.specs.Substitution.{Clock, at_form, any, unchanged}
 use Rattle.scheme_model.specs.ScopedExpansion.{Frames, BodyDefinition, FramedIdent, ScopedMacro, ScopedState, around, next_number, macro_at, macro_added, body_around, definition_added, meaning_next, is_defined, refused_now, scoped}
 use Rattle.unit_scopes.specs.Searched.{speaks_of}
 use Rattle.scheme_model.proofs.OpenBodies.{Leq, Before as Counted}
@@ -84,12 +84,12 @@ module _ (w : Era) where
       (record { unit = g.unit; definitions = (next_old s g, c.definitions); places = c.places; macros = a.macros; entries = g.entries }, le)
 
   pub defined_bounded : (s : ScopedState) → Bounded w s → (fs : Frames) → Fits s fs → (b : Option Number) (n : Named Ident) (r : Option (Rules Ident)) (p : Pending Ident FramedIdent) (refused twice : Bool)
-      → let q = cond {A = Result (Pending Ident FramedIdent) (Fault Ident) × ScopedState} refused (Err (KeywordRedefined n), s) (cond twice (Err (Duplicate n), s) (Ok p, definition_added b n r fs s)) in Bounded w q.1 × Leq s.locals q.1.locals
+      → let q = cond {A = Result (Renamed Ident FramedIdent) (Fault Ident) × ScopedState} refused (Err (KeywordRedefined n), s) (cond twice (Err (Duplicate n), s) (Ok (unchanged p), definition_added b n r fs s)) in Bounded w q.1 × Leq s.locals q.1.locals
   defined_bounded s g fs h b n r p true twice = (g, leq_itself s.locals)
   defined_bounded s g fs h b n r p false true = (g, leq_itself s.locals)
   defined_bounded s g fs h b n r p false false = then_bounded s g fs h b n r
 
-  pub left_same : (s t : ScopedState) (n : Named Ident) (p : Pending Ident FramedIdent) (refused twice : Bool) → OkAll (λ (q : Pending Ident FramedIdent). q.notes ≡ p.notes) (cond {A = Result (Pending Ident FramedIdent) (Fault Ident) × ScopedState} refused (Err (KeywordRedefined n), s) (cond twice (Err (Duplicate n), s) (Ok p, t))).0
+  pub left_same : (s t : ScopedState) (n : Named Ident) (p : Pending Ident FramedIdent) (refused twice : Bool) → OkAll (λ (d : Renamed Ident FramedIdent). d.pending.notes ≡ p.notes) (cond {A = Result (Renamed Ident FramedIdent) (Fault Ident) × ScopedState} refused (Err (KeywordRedefined n), s) (cond twice (Err (Duplicate n), s) (Ok (unchanged p), t))).0
   left_same s t n p true twice = tt
   left_same s t n p false true = tt
   left_same s t n p false false = refl

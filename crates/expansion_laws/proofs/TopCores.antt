@@ -6,19 +6,19 @@ use Rattle.scheme_model.specs.Trees.{Tree, name, atom, list, vector, Trees, no_t
 use Rattle.scheme_model.specs.Measures.{tree_size}
 use Rattle.scheme_model.specs.ExpansionFaults.{Named, named, Fault, SyntaxError, ◌>>◌}
 use Rattle.scheme_model.specs.Meaning.{Head, IsCore, IsAuxiliary, IsMacro, IsNone}
-use Rattle.scheme_model.specs.Shapes.{Clause, LocalMacros, lambda_of, case_lambda_of, if_of, named_tree_of, some_of, one_of, error_text_of, definition_of, values_of, local_macros_of}
+use Rattle.scheme_model.specs.Shapes.{Clause, LocalMacros, lambda_of, case_lambda_of, if_of, named_tree_of, syntax_of, some_of, one_of, error_text_of, definition_of, values_of, local_macros_of}
 use Rattle.scheme_model.specs.Requirements.{chosen_of}
 use Rattle.scheme_model.specs.Quasiquote.{quasi_of, Pieces}
 use Rattle.scheme_model.specs.RulesShape.{Rules}
 use Rattle.scheme_model.specs.Cores.{Target, LocalNumber, Binder, Binders, Core, Quote, Quasi, Lambda, CaseLambda, If, Set, Ref, Const, Call, Body, LetSyntax, core, clause, part, Expression as expression_part, Define as define_part, Values as values_part, outside}
 use Rattle.scheme_model.specs.Steps.{Step, ◌>>=◌, done, fails}
-use Rattle.scheme_model.specs.Order.{Here, Item, Expression, Value, Function, Assigned, AssignedFunction, ValuesOf, Record, Macro, Pending, Region, RulesParts, Transformer, Ops, head_of, target_of, here_at, forms_at, counting, given, use_of, run}
-use Rattle.scheme_model.specs.Expression.{Task, whole, body, Expander, node, each, each_of, bound, procedure, lambda, clauses, macro_with, assignment, item_part, parts, items_of, body_in, body_core, expressions, sequence, heads, keep_all, numbers, local_defs, local_macros, recursive, let_syntax, letrec_syntax, mark_of, symbol_or_hole, quasi, quote, unless_keyword, set, reference, call, misplaced, chosen_sequence, core_form, macro_use, by_head, expression, expand}
+use Rattle.scheme_model.specs.Order.{Here, Item, Expression, Value, Function, Assigned, AssignedFunction, ValuesOf, Record, Macro, Pending, Renamed, Region, RulesParts, Transformer, Ops, head_of, target_of, here_at, forms_at, counting, given, Left, Instance, use_of, meet_waiting, meet_all, run}
+use Rattle.scheme_model.specs.Expression.{Task, whole, body, Expander, node, each, each_of, bound, procedure, lambda, clauses, macro_with, assignment, item_part, parts, left_of, body_in, body_core, expressions, sequence, heads, keep_all, numbers, local_defs, local_macros, recursive, let_syntax, letrec_syntax, mark_of, symbol_or_hole, quasi, quote, unless_keyword, set, reference, call, misplaced, chosen_sequence, core_form, macro_use, by_head, expression, expand}
 use Rattle.core_tree.specs.Levels.{BindsAs, AllBind, AllMacrosBind, BindsLocals, AllBindLocals, ClausesBindLocals, PartsBind, PartBinds}
 use Rattle.expansion_laws.specs.Tops.{OfOk, ItemBinds, ItemsBind}
 use Rattle.expansion_laws.proofs.TopRuns.{then_on, any_of, run_on}
 
-module _ {E A L S : Type 0} (ops : Ops E A L S) (left : (n : Named A) (r : Option (Rules A)) (e : E) (p : Pending A L) (s : S) → OfOk (λ (q : Pending A L). q.aside ≡ p.aside) (ops.define n r e p s).0)
+module _ {E A L S : Type 0} (ops : Ops E A L S) (left : (n : Named A) (r : Option (Rules A)) (e : E) (p : Pending A L) (s : S) → OfOk (λ (d : Renamed A L). d.pending.aside ≡ p.aside) (ops.define n r e p s).0)
     (inside : (e : E) (ts : Trees A) (s t : S) → BindsAs true (ops.next_bound (ops.enter e ts s).env t)) where
   node_on : {B : Type 0} (P : B → Type 0) (here : Here) (n depth : ℕ) (next : ℕ → Step S B) (s : S) → ((below : ℕ) (t : S) → OfOk P (next below t).0) → OfOk P (node ops here n depth next s).0
   node_on P here n zero next s h = tt
@@ -122,10 +122,10 @@ module _ {E A L S : Type 0} (ops : Ops E A L S) (left : (n : Named A) (r : Optio
 
     body_in_on : (turns depth : ℕ) (here : Here) (r : Region E A S) → ((t : S) → BindsAs true (ops.next_bound r.env t)) → OfOk BindsLocals (body_in ops turns (item_part f ops depth) here r).0
     body_in_on turns depth here r next =
-        let p : Pending A L = record { todo = forms_at here r.trees; aside = []; notes = [] } in
-        let q = items_of (run ops turns r.env p r.state) in
-        then_on (PartsBind true) BindsLocals (q >>= parts (item_part f ops depth r.env)) (λ ps. done (Body ps))
-        (then_on (ItemsBind true) (PartsBind true) q (parts (item_part f ops depth r.env)) (run_on ops left true r.env next turns p r.state tt) (λ is t h. parts_on true depth r.env is t h)) (λ ps t x. x)
+        let p : Pending A L = record { todo = forms_at here r.trees; aside = []; uses = []; notes = [] } in
+        let more : Left A → Step S Core = λ l t. parts (item_part f ops depth r.env) l.items (meet_all ops r.env l.uses t) >>= λ ps. done (Body ps) in
+        then_on (λ (l : Left A). ItemsBind true l.items) BindsLocals (left_of (run ops turns r.env p r.state)) more (run_on ops left true r.env next turns p r.state tt)
+        (λ l t h. then_on (PartsBind true) BindsLocals (parts (item_part f ops depth r.env) l.items (meet_all ops r.env l.uses t)) (λ ps. done (Body ps)) (parts_on true depth r.env l.items (meet_all ops r.env l.uses t) h) (λ ps u x. x))
 
     body_on : (turns depth : ℕ) (here : Here) (e : E) (ts : Trees A) (s : S) → OfOk BindsLocals (body_core f ops turns depth here e ts s).0
     body_on turns depth here e ts s = node_on BindsLocals here 1 depth (λ below t. body_in ops turns (item_part f ops below) here (ops.enter e ts t)) s (λ below t. body_in_on turns below here (ops.enter e ts t) (inside e ts t))
@@ -206,7 +206,7 @@ module _ {E A L S : Type 0} (ops : Ops E A L S) (left : (n : Named A) (r : Optio
     core_on depth here e IsDefine ts tail s = given_on BindsLocals here (definition_of ops.names.same ts tail) (misplaced here) s (λ b t. tt)
     core_on depth here e IsDefineValues ts tail s = given_on BindsLocals here (values_of ops.names.same ts tail) (misplaced here) s (λ b t. tt)
     core_on depth here e IsDefineRecordType ts tail s = tt
-    core_on depth here e IsDefineSyntax ts tail s = given_on BindsLocals here (named_tree_of ts tail) (misplaced here) s (λ b t. tt)
+    core_on depth here e IsDefineSyntax ts tail s = given_on BindsLocals here (syntax_of ts tail) (misplaced here) s (λ b t. tt)
     core_on depth here e IsLetSyntax ts tail s = given_on BindsLocals here (local_macros_of ops.names.same ts tail) (let_syntax f ops depth here e) s (let_on depth here e)
     core_on depth here e IsLetrecSyntax ts tail s = given_on BindsLocals here (local_macros_of ops.names.same ts tail) (letrec_syntax f ops depth here e) s (letrec_on depth here e)
     core_on depth here e IsCondExpand ts tail s = given_on BindsLocals here (chosen_of ops.names.strip ops.known ts tail) (chosen_sequence f ops depth here e) s (chosen_on depth here e)
@@ -215,7 +215,8 @@ module _ {E A L S : Type 0} (ops : Ops E A L S) (left : (n : Named A) (r : Optio
 
     use_on : (depth : ℕ) (here : Here) (e : E) (k : Target) (o : Option (Transformer E A)) (ts : Trees A) (tail : Tail A) (s : S) → OfOk BindsLocals (macro_use f ops depth here e k o ts tail s).0
     use_on depth here e k None ts tail s = tt
-    use_on depth here e k (Some m) ts tail s = then_on (λ (t : Tree A). Unit {0}) BindsLocals (use_of ops here e k m ts tail s) (λ t. f depth here e (whole t)) (any_of (use_of ops here e k m ts tail s).0) (λ t u x. law depth here e (whole t) u)
+    use_on depth here e k (Some m) ts tail s = then_on (λ (i : Instance A). Unit {0}) BindsLocals (use_of ops here e k m ts tail s) (λ i t. f depth here e (whole i.tree) (meet_waiting ops e i.met t)) (any_of (use_of ops here e k m ts tail s).0)
+        (λ i u x. law depth here e (whole i.tree) (meet_waiting ops e i.met u))
 
     head_on : (depth : ℕ) (here : Here) (e : E) (d : Head) (n : Named A) (ts : Trees A) (tail : Tail A) (s : S) → OfOk BindsLocals (by_head f ops depth here e d n ts tail s).0
     head_on depth here e (IsCore c) n ts tail s = core_on depth here e c ts tail (ops.meet (target_of ops e s n.name n.occ) s)

@@ -4,7 +4,7 @@ ghost use Rattle.scheme_model.specs.Ident.{Ident as Identifier};
 ghost use Rattle.scheme_model.specs.Trees.{Tree};
 ghost use Rattle.scheme_model.specs.Cores.{Part as ModelPart, Parts as ModelParts};
 ghost use Rattle.scheme_model.specs.Steps.{Broken};
-ghost use Rattle.scheme_model.specs.Order.{Item as ModelItem, Note};
+ghost use Rattle.scheme_model.specs.Order.{Item as ModelItem, WaitingUse, Left, Note};
 ghost use Rattle.scheme_model.specs.UnitExpansion.{Formed};
 ghost use Rattle.scheme_model.specs.ScopedExpansion.{FramedIdent, ScopedState};
 ghost use Rattle.scheme_model.specs.Substitution.{Defined};
@@ -30,8 +30,10 @@ ghost use Rattle.unit_scopes.specs.Outcomes.{Grows};
 ghost use Rattle.unit_scopes.specs.Searched.{searched, searched_unit_over, all_passed, front_passed, front_finished};
 ghost use Rattle.unit_scopes.specs.Stepped.{IsFresh};
 ghost use Rattle.expansion_laws.specs.Tops.{OfOk, ItemBinds, ItemsBind};
-ghost use Rattle.unit_scopes.specs.Units.{CountsFor, HasSpace, ItemFor, declared, expanded};
+ghost use Rattle.unit_scopes.specs.Units.{CountsFor, HasSpace, ItemFor, declared, uses_met, expanded};
+ghost use Rattle.unit_scopes.specs.Kept.{WaitsFor};
 ghost use Rattle.form_parts.specs.declared.items.Item.{Item as AnyItem};
+ghost use Rattle.form_parts.specs.declared.items.WaitingUse.{WaitingUse as AnyWaiting};
 ghost use Rattle.unit_scopes.specs.declared.scope.Budget.{Budget as AnyBudget};
 
 /// Each unit that is ready, whatever was worked on before it, comes to the same forms and the same state where a definition goes
@@ -46,15 +48,17 @@ pub fn notes_are_searched()
         let g = scoped_work all units known n scoped_before in is_ready all units g.results p ≡ true → (k : ℕ) → front_passed (searched known) k p (scoped_start_after all p g) ≡ front_passed (counted known) k p (scoped_start_after all p g) }
     ensures each_finished { (all : List Placed) (units : List Prepared) (known : Known) (n : ℕ) (p : Prepared) →
         let g = scoped_work all units known n scoped_before in is_ready all units g.results p ≡ true → (k : ℕ) →
-        let q = all_passed (counted known) p (scoped_start_after all p g) in front_finished (searched known) k q ≡ front_finished (counted known) k q }
+        let q = all_passed (counted known) p (scoped_start_after all p g) in front_finished (searched known) k p q ≡ front_finished (counted known) k p q }
 {}
 
-/// A step of one form of a unit leaves its other forms as they are, whether the form is gone through or what it set aside is expanded
-/// (R7RS 5.3): only the former defines anything in the unit. What another form counted, met and defined stands for the same
+/// A step of one form of a unit leaves its other forms as they are, whether the form is gone through, its macro uses are met or what it
+/// set aside is expanded (R7RS 5.3): only the former defines anything in the unit. What another form counted, met and defined stands for the same
 /// afterwards, in a work that has only grown; and the unit's definitions stay in the order of their forms.
 pub fn other_forms_stay()
     ensures declared { (known : Known) (n : ℕ) (t : Tree Identifier) (notes : List (Note FramedIdent)) (s : ScopedState) → OthersStay n s (declared known n t notes s).1 }
     ensures expanded { (known : Known) (n : ℕ) (i : ModelItem Identifier) (s : ScopedState) → OthersStay n s (expanded known n i s).1 }
+    ensures met { (known : Known) (n : ℕ) (us : List (WaitingUse Identifier)) (s : ScopedState) → OthersStay n s (uses_met known n us s) }
+    ensures met_table { (known : Known) (n : ℕ) (us : List (WaitingUse Identifier)) (s : ScopedState) → (uses_met known n us s).table ≡ s.table }
     ensures table { (known : Known) (n : ℕ) (i : ModelItem Identifier) (s : ScopedState) → (expanded known n i s).1.table ≡ s.table }
     ensures counts { (old new : AnyWork) (n m : ℕ) (budget : AnyBudget) (trace : AnyTrace) (s t : ScopedState) → (m ≡ n → ⊥) → OthersStay n s t →
         KeepsNames old.symbols new.symbols → CountsFor old s m budget trace → CountsFor new t m budget trace }
@@ -81,12 +85,14 @@ pub fn works_grow()
     ensures same { (old new : AnyWork) → new.trees ≡ old.trees → KeepsNames old.symbols new.symbols → KeepsTrees old new }
 {}
 
-/// What a form set aside it still set aside in a work that has only grown, as it has after each call (R7RS 5.3).
+/// What a form set aside it still set aside in a work that has only grown, as it has after each call, and its uses wait (R7RS 5.3).
 pub fn items_stay()
     ensures item { (old new : AnyWork) (region : AnyRegion) (unit form : ℕ) (x : AnyItem) (i : ModelItem Identifier) → KeepsTrees old new → KeepsNames old.symbols new.symbols →
         ItemFor old region unit form x i → ItemFor new region unit form x i }
     ensures items { (old new : AnyWork) (region : AnyRegion) (unit form : ℕ) (xs : List AnyItem) (ys : List (ModelItem Identifier)) → KeepsTrees old new → KeepsNames old.symbols new.symbols →
         AllMatch (ItemFor old region unit form) xs ys → AllMatch (ItemFor new region unit form) xs ys }
+    ensures uses { (old new : AnyWork) (unit form : ℕ) (xs : List AnyWaiting) (us : List (WaitingUse Identifier)) → KeepsTrees old new → KeepsNames old.symbols new.symbols →
+        AllMatch (WaitsFor old unit form) xs us → AllMatch (WaitsFor new unit form) xs us }
 {}
 
 /// What was expanded stands for the same in a work that has only grown: a part, the parts of a form, a form's fault, and the forms of
@@ -101,6 +107,6 @@ pub fn parts_stay()
 /// What a form of a unit sets aside binds definitions of the unit, and so does each part that comes of it; all that stands inside binds
 /// locals (R7RS 5.3).
 pub fn forms_define_on_top()
-    ensures declared { (known : Known) (n : ℕ) (t : Tree Identifier) (notes : List (Note FramedIdent)) (s : ScopedState) → OfOk (ItemsBind false) (declared known n t notes s).0.items }
+    ensures declared { (known : Known) (n : ℕ) (t : Tree Identifier) (notes : List (Note FramedIdent)) (s : ScopedState) → OfOk (λ (l : Left Identifier). ItemsBind false l.items) (declared known n t notes s).0.left }
     ensures expanded { (known : Known) (n : ℕ) (i : ModelItem Identifier) (s : ScopedState) → ItemBinds false i → OfOk (PartBinds false) (expanded known n i s).0 }
 {}

@@ -5,7 +5,7 @@ use Rattle.std.specs.Option.{option_map}
 use Rattle.std.proofs.lemmas.Option.{same_Some}
 use Rattle.scheme_model.specs.declared.Occ.{Occ}
 use Rattle.scheme_model.specs.Trees.{Atom, Numeral, Quoted, Character, Boolean, Bytes, Tree, atom, list, Trees, no_trees, tree, Tail}
-use Rattle.scheme_model.specs.Order.{Here, or_here, read_name, here_at, name_in}
+use Rattle.scheme_model.specs.Order.{Here, or_here, read_name, here_at}
 use Rattle.scheme_model.specs.Ident.{Ident as Identifier, Written, Inserted}
 use Rattle.syntax_tree.specs.Names.{Names}
 use Rattle.syntax_tree.specs.Macros.{IsIdent}
@@ -21,7 +21,7 @@ use Rattle.syntax_tree.specs.declared.symbols.Ident.TheVariants as idents
 use Rattle.syntax_tree.specs.declared.symbols.UseNo.{UseNo}
 use Rattle.core_forms.specs.Parts.{IsNameIfAny}
 use Rattle.core_forms.proofs.Words.{IsNoName, leaf_name}
-use Rattle.form_parts.specs.FormsSeen.{head_name_of}
+use Rattle.form_parts.specs.FormsSeen.{name_in, head_name_of}
 
 -- the atom of a leaf
 pub record IsAtom (o : Option Occ) (t : Tree Identifier) : Type 0 where

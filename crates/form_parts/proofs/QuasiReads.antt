@@ -12,7 +12,7 @@ use Rattle.scheme_model.specs.ExpansionFaults.{Fault, ◌>>◌}
 use Rattle.scheme_model.specs.Shapes.{one_of}
 use Rattle.scheme_model.specs.Building.{stands_in, stands_among, stands_behind}
 use Rattle.scheme_model.specs.Cores.{weight, weights, tail_weight, hole_weight, outside}
-use Rattle.scheme_model.specs.Quasiquote.{Mark, Nested, Unquoted, Spliced, Pieces, RowPieces, pieces, row_pieces, before, hole_of, behind, by_mark, pieces_of, row_of, parts_of, tail_of, quasi_of}
+use Rattle.scheme_model.specs.Quasiquote.{Mark, Nested, Unquoted, Spliced, Pieces, RowPieces, pieces, row_pieces, before, listed, mark_in, level_behind, hole_behind, pair_by, is_splice, element_by, datum_at, pair_at, tail_at, elements_at, quasi_of}
 use Rattle.scheme_model.specs.Ident.{Ident as Identifier, same_ident}
 use Rattle.syntax_tree.specs.Works.{StandsFor}
 use Rattle.syntax_tree.specs.declared.trees.Work.{Work}
@@ -54,47 +54,48 @@ module _ (f g : Identifier → Option Mark) where
   tail_agrees : (ts : Trees Identifier) (tail : Tail Identifier) (o : Option Occ) → Agree f g (λ i. stands_in same_ident i (list ts tail o)) → Agree f g (λ i. stands_behind same_ident i tail)
   tail_agrees ts tail o h i s = h i (or_right (stands_among same_ident i ts) (stands_behind same_ident i tail) s)
 
-  by_mark_same : (m : Option Mark) (level : ℕ) (element : Bool) (i : Identifier) (o : Option Occ) (ts : Trees Identifier) (tail : Tail Identifier) (p q : ℕ → Result (RowPieces Identifier) (Fault Identifier)) → ((l : ℕ) → p l ≡ q l) →
-      by_mark m level element i o ts tail p ≡ by_mark m level element i o ts tail q
-  by_mark_same None level element i o ts tail p q h = ap (behind i o) (h level)
-  by_mark_same (Some Nested) level element i o ts tail p q h = ap (behind i o) (h (suc level))
-  by_mark_same (Some Unquoted) zero element i o ts tail p q h = refl
-  by_mark_same (Some Unquoted) (suc level) element i o ts tail p q h = ap (behind i o) (h level)
-  by_mark_same (Some Spliced) zero element i o ts tail p q h = refl
-  by_mark_same (Some Spliced) (suc level) element i o ts tail p q h = ap (behind i o) (h level)
+  mark_same : (t : Tree Identifier) → Agree f g (λ i. stands_in same_ident i t) → mark_in f t ≡ mark_in g t
+  mark_same (name i o) h = h i (ident_itself i)
+  mark_same (atom a o) h = refl
+  mark_same (list ts tail o) h = refl
+  mark_same (vector ts o) h = refl
+
+  element_same : (level : ℕ) (t : Tree Identifier) → Agree f g (λ i. stands_in same_ident i t) → (p q : Result (Pieces Identifier) (Fault Identifier)) → p ≡ q → element_by f level t p ≡ element_by g level t q
+  element_same level (name i o) h p q e = e
+  element_same level (atom a o) h p q e = e
+  element_same level (vector ts o) h p q e = e
+  element_same level (list no_trees tail o) h p q e = e
+  element_same level (list (tree t ts) tail o) h p q e =
+      let m = mark_same t (first_agrees t ts (parts_agree (tree t ts) tail o h)) in
+      λ j. if is_splice (m j) level then (hole_behind t (one_of ts tail) >> λ r. Ok (listed o r)) else e j
 
   mutual
-    pieces_same : (t : Tree Identifier) → Agree f g (λ i. stands_in same_ident i t) → (level : ℕ) (element : Bool) → pieces_of f t level element ≡ pieces_of g t level element
-    pieces_same (name i o) h level element = refl
-    pieces_same (atom a o) h level element = refl
-    pieces_same (list ts tail o) h level element =
-        ap (λ (r : Result (RowPieces Identifier) (Fault Identifier)). r >> λ r. Ok (pieces (list r.parts r.tail o) r.holes))
-        (row_same ts tail (tail_of f tail) (tail_of g tail) (λ l. tail_same tail (tail_agrees ts tail o h) l) (parts_agree ts tail o h) level element)
-    pieces_same (vector ts o) h level element = ap (λ (r : Result (RowPieces Identifier) (Fault Identifier)). r >> λ r. Ok (pieces (vector r.parts o) r.holes)) (parts_same ts h level)
+    datum_same : (level : ℕ) (t : Tree Identifier) → Agree f g (λ i. stands_in same_ident i t) → datum_at f level t ≡ datum_at g level t
+    datum_same level (name i o) h = refl
+    datum_same level (atom a o) h = refl
+    datum_same level (list ts tail o) h =
+        ap (λ (r : Result (RowPieces Identifier) (Fault Identifier)). r >> λ r. Ok (listed o r))
+        (pair_same level ts tail (tail_at f tail) (tail_at g tail) (λ l. tail_same tail (tail_agrees ts tail o h) l) (parts_agree ts tail o h))
+    datum_same level (vector ts o) h = ap (λ (r : Result (RowPieces Identifier) (Fault Identifier)). r >> λ r. Ok (pieces (vector r.parts o) r.holes)) (elements_same level ts h)
 
-    row_same : (ts : Trees Identifier) (tail : Tail Identifier) (p q : ℕ → Result (RowPieces Identifier) (Fault Identifier)) → ((l : ℕ) → p l ≡ q l) → Agree f g (λ i. stands_among same_ident i ts) → (level : ℕ) (element : Bool) → row_of f ts tail p level element ≡ row_of g ts tail q level element
-    row_same no_trees tail p q e h level element = e level
-    row_same (tree (name i o) ts) tail p q e h level element =
-        ap (λ (m : Option Mark). by_mark m level element i o ts tail (λ l. row_of f ts tail p l false)) (h i (or_left (same_ident i i) (stands_among same_ident i ts) (ident_itself i)))
-        ∙ by_mark_same (g i) level element i o ts tail (λ l. row_of f ts tail p l false) (λ l. row_of g ts tail q l false) (λ l. row_same ts tail p q e (later_agree (name i o) ts h) l false)
-    row_same (tree (atom a o) ts) tail p q e h level element =
-        ap (λ (r : Result (RowPieces Identifier) (Fault Identifier)). r >> λ r. Ok (before (pieces (atom a o) []) r)) (row_same ts tail p q e (later_agree (atom a o) ts h) level false)
-    row_same (tree (list us last o) ts) tail p q e h level element =
-        ap (λ (x : Result (Pieces Identifier) (Fault Identifier)). x >> λ y. row_of f ts tail p level false >> λ r. Ok (before y r)) (pieces_same (list us last o) (first_agrees (list us last o) ts h) level true)
-        ∙ ap (λ (r : Result (RowPieces Identifier) (Fault Identifier)). pieces_of g (list us last o) level true >> λ y. r >> λ r. Ok (before y r)) (row_same ts tail p q e (later_agree (list us last o) ts h) level false)
-    row_same (tree (vector us o) ts) tail p q e h level element =
-        ap (λ (x : Result (Pieces Identifier) (Fault Identifier)). x >> λ y. row_of f ts tail p level false >> λ r. Ok (before y r)) (pieces_same (vector us o) (first_agrees (vector us o) ts h) level true)
-        ∙ ap (λ (r : Result (RowPieces Identifier) (Fault Identifier)). pieces_of g (vector us o) level true >> λ y. r >> λ r. Ok (before y r)) (row_same ts tail p q e (later_agree (vector us o) ts h) level false)
+    pair_same : (level : ℕ) (ts : Trees Identifier) (tail : Tail Identifier) (p q : ℕ → Result (RowPieces Identifier) (Fault Identifier)) → ((l : ℕ) → p l ≡ q l) → Agree f g (λ i. stands_among same_ident i ts) → pair_at f level ts tail p ≡ pair_at g level ts tail q
+    pair_same level no_trees tail p q e h = e level
+    pair_same level (tree t ts) tail p q e h =
+        let m = mark_same t (first_agrees t ts h) in
+        let one = element_same level t (first_agrees t ts h) (datum_at f level t) (datum_at g level t) (datum_same level t (first_agrees t ts h)) in
+        (λ j. pair_by (m j) level (hole_behind t (one_of ts tail)) (one j) (pair_at f (level_behind (m j) level) ts tail p))
+        ∙ ap (pair_by (mark_in g t) level (hole_behind t (one_of ts tail)) (element_by g level t (datum_at g level t))) (pair_same (level_behind (mark_in g t) level) ts tail p q e (later_agree t ts h))
 
-    parts_same : (ts : Trees Identifier) → Agree f g (λ i. stands_among same_ident i ts) → (level : ℕ) → parts_of f ts level ≡ parts_of g ts level
-    parts_same no_trees h level = refl
-    parts_same (tree t ts) h level =
-        ap (λ (x : Result (Pieces Identifier) (Fault Identifier)). x >> λ y. parts_of f ts level >> λ r. Ok (before y r)) (pieces_same t (first_agrees t ts h) level true)
-        ∙ ap (λ (r : Result (RowPieces Identifier) (Fault Identifier)). pieces_of g t level true >> λ y. r >> λ r. Ok (before y r)) (parts_same ts (later_agree t ts h) level)
+    elements_same : (level : ℕ) (ts : Trees Identifier) → Agree f g (λ i. stands_among same_ident i ts) → elements_at f level ts ≡ elements_at g level ts
+    elements_same level no_trees h = refl
+    elements_same level (tree t ts) h =
+        ap (λ (x : Result (Pieces Identifier) (Fault Identifier)). x >> λ y. elements_at f level ts >> λ r. Ok (before y r))
+        (element_same level t (first_agrees t ts h) (datum_at f level t) (datum_at g level t) (datum_same level t (first_agrees t ts h)))
+        ∙ ap (λ (r : Result (RowPieces Identifier) (Fault Identifier)). element_by g level t (datum_at g level t) >> λ y. r >> λ r. Ok (before y r)) (elements_same level ts (later_agree t ts h))
 
-    tail_same : (tail : Tail Identifier) → Agree f g (λ i. stands_behind same_ident i tail) → (level : ℕ) → tail_of f tail level ≡ tail_of g tail level
+    tail_same : (tail : Tail Identifier) → Agree f g (λ i. stands_behind same_ident i tail) → (level : ℕ) → tail_at f tail level ≡ tail_at g tail level
     tail_same proper h level = refl
-    tail_same (dotted t) h level = ap (λ (x : Result (Pieces Identifier) (Fault Identifier)). x >> λ p. Ok (row_pieces no_trees (dotted p.datum) p.holes)) (pieces_same t h level false)
+    tail_same (dotted t) h level = ap (λ (x : Result (Pieces Identifier) (Fault Identifier)). x >> λ p. Ok (row_pieces no_trees (dotted p.datum) p.holes)) (datum_same level t h)
 
 -- what marks an identifier of a whole, marks it in a part
 within_agrees : (whole : Tree Identifier) (mark : Identifier → Option Mark) (stands : Identifier → Bool) → ((i : Identifier) → stands i ≡ true → stands_in same_ident i whole ≡ true) → Agree (mark_within whole mark) mark stands
@@ -108,9 +109,9 @@ quasi_within head ts tail o mark (tree t (tree u us)) e = refl
 quasi_within head ts proper o mark (tree t no_trees) e =
     let whole = list (tree head ts) proper o in
     ap (λ (r : Result (Pieces Identifier) (Fault Identifier)). r >> λ p. Ok (Quasi t p))
-    (pieces_same (mark_within whole mark) mark t (within_agrees whole mark (λ i. stands_in same_ident i t)
+    (datum_same (mark_within whole mark) mark zero t (within_agrees whole mark (λ i. stands_in same_ident i t)
     (λ i s. or_left (stands_in same_ident i head || stands_among same_ident i ts) false (or_right (stands_in same_ident i head) (stands_among same_ident i ts)
-    (ap (λ (x : Trees Identifier). stands_among same_ident i x) (sym e) ∙ or_left (stands_in same_ident i t) false s)))) zero false)
+    (ap (λ (x : Trees Identifier). stands_among same_ident i x) (sym e) ∙ or_left (stands_in same_ident i t) false s)))))
 
 shape_within : (k : CoreKeyword) (expression : Bool) (mark : Identifier → Option Mark) (head : Tree Identifier) (ts : Trees Identifier) (tail : Tail Identifier) (o : Option Occ) →
     shape_of k expression (mark_within (list (tree head ts) tail o) mark) ts tail ≡ shape_of k expression mark ts tail
@@ -251,62 +252,70 @@ part_fits m n (Ok p) (Ok r) h g = let b = sizes_both p.holes r.holes in omega ar
 part_fits m n (Ok p) (Err e) h g = tt
 part_fits m n (Err e) r h g = tt
 
-atom_fits : (n : ℕ) (d : Tree (Option Identifier)) (r : Result (RowPieces Identifier) (Fault Identifier)) → weight hole_weight d ≡ 1 → RowFits n r → RowFits (1 + n) (r >> λ r. Ok (before (pieces d []) r))
-atom_fits n d (Ok r) w h = omega arith
-atom_fits n d (Err e) w h = tt
-
-hole_fits : (i : Identifier) (o : Option Occ) (ts : Trees Identifier) (tail : Tail Identifier) → RowFits (1 + (trees_size ts + tail_size tail)) (hole_of i o (one_of ts tail))
+hole_fits : (i : Identifier) (o : Option Occ) (ts : Trees Identifier) (tail : Tail Identifier) → RowFits (1 + (trees_size ts + tail_size tail)) (hole_behind (name i o) (one_of ts tail))
 hole_fits i o no_trees tail = tt
 hole_fits i o (tree t no_trees) proper = omega arith
 hole_fits i o (tree t no_trees) (dotted u) = tt
 hole_fits i o (tree t (tree u us)) tail = tt
 
-by_mark_fits : (m : Option Mark) (level : ℕ) (element : Bool) (i : Identifier) (o : Option Occ) (ts : Trees Identifier) (tail : Tail Identifier) (rest : ℕ → Result (RowPieces Identifier) (Fault Identifier)) → ((l : ℕ) → RowFits (trees_size ts + tail_size tail) (rest l)) →
-    RowFits (1 + (trees_size ts + tail_size tail)) (by_mark m level element i o ts tail rest)
-by_mark_fits None level element i o ts tail rest h = atom_fits (trees_size ts + tail_size tail) (name (Some i) o) (rest level) refl (h level)
-by_mark_fits (Some Nested) level element i o ts tail rest h = atom_fits (trees_size ts + tail_size tail) (name (Some i) o) (rest (suc level)) refl (h (suc level))
-by_mark_fits (Some Unquoted) zero element i o ts tail rest h = hole_fits i o ts tail
-by_mark_fits (Some Unquoted) (suc level) element i o ts tail rest h = atom_fits (trees_size ts + tail_size tail) (name (Some i) o) (rest level) refl (h level)
-by_mark_fits (Some Spliced) zero true i o ts tail rest h = hole_fits i o ts tail
-by_mark_fits (Some Spliced) zero false i o ts tail rest h = tt
-by_mark_fits (Some Spliced) (suc level) element i o ts tail rest h = atom_fits (trees_size ts + tail_size tail) (name (Some i) o) (rest level) refl (h level)
+by_mark_fits : (m : Option Mark) (level k n : ℕ) (hole rest : Result (RowPieces Identifier) (Fault Identifier)) (first : Result (Pieces Identifier) (Fault Identifier)) → RowFits (k + n) hole → PiecesFit k first → RowFits n rest →
+    RowFits (k + n) (pair_by m level hole first rest)
+by_mark_fits None level k n hole rest first h p r = before_fits k n first rest p r
+by_mark_fits (Some Nested) level k n hole rest first h p r = before_fits k n first rest p r
+by_mark_fits (Some Unquoted) zero k n hole rest first h p r = h
+by_mark_fits (Some Unquoted) (suc level) k n hole rest first h p r = before_fits k n first rest p r
+by_mark_fits (Some Spliced) zero k n hole rest first h p r = tt
+by_mark_fits (Some Spliced) (suc level) k n hole rest first h p r = before_fits k n first rest p r
 
 row_as : (m n : ℕ) (r : Result (RowPieces Identifier) (Fault Identifier)) → m ≡ n → RowFits m r → RowFits n r
 row_as m n r e h = subst (λ (k : ℕ). RowFits k r) e h
 
 module _ (mark : Identifier → Option Mark) where
+  -- a form that may be a splice
+  element_fits : (level : ℕ) (t : Tree Identifier) (datum : Result (Pieces Identifier) (Fault Identifier)) → PiecesFit (tree_size t) datum → PiecesFit (tree_size t) (element_by mark level t datum)
+  element_fits level (name i o) datum h = h
+  element_fits level (atom a o) datum h = h
+  element_fits level (vector ts o) datum h = h
+  element_fits level (list no_trees tail o) datum h = h
+  element_fits level (list (tree (name i p) ts) tail o) datum h = go (is_splice (mark i) level)
+    where
+      go : (b : Bool) → PiecesFit (tree_size (list (tree (name i p) ts) tail o)) (if b then (hole_behind (name i p) (one_of ts tail) >> λ r. Ok (listed o r)) else datum)
+      go true =
+          list_fits (trees_size (tree (name i p) ts) + tail_size tail) o (hole_behind (name i p) (one_of ts tail))
+          (row_as (1 + (trees_size ts + tail_size tail)) (1 + trees_size ts + tail_size tail) (hole_behind (name i p) (one_of ts tail)) (omega arith) (hole_fits i p ts tail))
+      go false = h
+  element_fits level (list (tree (atom a p) ts) tail o) datum h = h
+  element_fits level (list (tree (list us end p) ts) tail o) datum h = h
+  element_fits level (list (tree (vector us p) ts) tail o) datum h = h
+
+  pair_fits : (level : ℕ) (t : Tree Identifier) (ts : Trees Identifier) (tail : Tail Identifier) (first : Result (Pieces Identifier) (Fault Identifier)) (rest : Result (RowPieces Identifier) (Fault Identifier)) → PiecesFit (tree_size t) first → RowFits (trees_size ts + tail_size tail) rest →
+      RowFits (tree_size t + (trees_size ts + tail_size tail)) (pair_by (mark_in mark t) level (hole_behind t (one_of ts tail)) first rest)
+  pair_fits level (name i o) ts tail first rest p r = by_mark_fits (mark i) level 1 (trees_size ts + tail_size tail) (hole_behind (name i o) (one_of ts tail)) rest first (hole_fits i o ts tail) p r
+  pair_fits level (atom a o) ts tail first rest p r = before_fits 1 (trees_size ts + tail_size tail) first rest p r
+  pair_fits level (list us end o) ts tail first rest p r = before_fits (tree_size (list us end o)) (trees_size ts + tail_size tail) first rest p r
+  pair_fits level (vector us o) ts tail first rest p r = before_fits (tree_size (vector us o)) (trees_size ts + tail_size tail) first rest p r
+
   mutual
-    pieces_fit : (t : Tree Identifier) (level : ℕ) (element : Bool) → PiecesFit (tree_size t) (pieces_of mark t level element)
-    pieces_fit (name i o) level element = refl
-    pieces_fit (atom a o) level element = refl
-    pieces_fit (list ts tail o) level element =
-        list_fits (trees_size ts + tail_size tail) o (row_of mark ts tail (tail_of mark tail) level element) (row_fits ts tail (tail_of mark tail) (λ l. tail_fits tail l) level element)
-    pieces_fit (vector ts o) level element = vector_fits (trees_size ts) o (parts_of mark ts level) (parts_fit ts level)
+    datum_fits : (level : ℕ) (t : Tree Identifier) → PiecesFit (tree_size t) (datum_at mark level t)
+    datum_fits level (name i o) = refl
+    datum_fits level (atom a o) = refl
+    datum_fits level (list ts tail o) = list_fits (trees_size ts + tail_size tail) o (pair_at mark level ts tail (tail_at mark tail)) (row_fits level ts tail (tail_at mark tail) (λ l. tail_fits tail l))
+    datum_fits level (vector ts o) = vector_fits (trees_size ts) o (elements_at mark level ts) (elements_fit level ts)
 
-    row_fits : (ts : Trees Identifier) (tail : Tail Identifier) (end : ℕ → Result (RowPieces Identifier) (Fault Identifier)) → ((l : ℕ) → RowFits (tail_size tail) (end l)) → (level : ℕ) (element : Bool) → RowFits (trees_size ts + tail_size tail) (row_of mark ts tail end level element)
-    row_fits no_trees tail end h level element = row_as (tail_size tail) (0 + tail_size tail) (end level) (omega arith) (h level)
-    row_fits (tree (name i o) ts) tail end h level element =
-        row_as (1 + (trees_size ts + tail_size tail)) (1 + trees_size ts + tail_size tail) (by_mark (mark i) level element i o ts tail (λ l. row_of mark ts tail end l false)) (omega arith)
-        (by_mark_fits (mark i) level element i o ts tail (λ l. row_of mark ts tail end l false) (λ l. row_fits ts tail end h l false))
-    row_fits (tree (atom a o) ts) tail end h level element =
-        row_as (1 + (trees_size ts + tail_size tail)) (1 + trees_size ts + tail_size tail) (row_of mark ts tail end level false >> λ r. Ok (before (pieces (atom a o) []) r)) (omega arith)
-        (atom_fits (trees_size ts + tail_size tail) (atom a o) (row_of mark ts tail end level false) refl (row_fits ts tail end h level false))
-    row_fits (tree (list us last o) ts) tail end h level element =
-        let m = tree_size (list us last o) in
-        row_as (m + (trees_size ts + tail_size tail)) (m + trees_size ts + tail_size tail) (pieces_of mark (list us last o) level true >> λ y. row_of mark ts tail end level false >> λ r. Ok (before y r)) (omega arith)
-        (before_fits m (trees_size ts + tail_size tail) (pieces_of mark (list us last o) level true) (row_of mark ts tail end level false) (pieces_fit (list us last o) level true) (row_fits ts tail end h level false))
-    row_fits (tree (vector us o) ts) tail end h level element =
-        let m = tree_size (vector us o) in
-        row_as (m + (trees_size ts + tail_size tail)) (m + trees_size ts + tail_size tail) (pieces_of mark (vector us o) level true >> λ y. row_of mark ts tail end level false >> λ r. Ok (before y r)) (omega arith)
-        (before_fits m (trees_size ts + tail_size tail) (pieces_of mark (vector us o) level true) (row_of mark ts tail end level false) (pieces_fit (vector us o) level true) (row_fits ts tail end h level false))
+    row_fits : (level : ℕ) (ts : Trees Identifier) (tail : Tail Identifier) (end : ℕ → Result (RowPieces Identifier) (Fault Identifier)) → ((l : ℕ) → RowFits (tail_size tail) (end l)) → RowFits (trees_size ts + tail_size tail) (pair_at mark level ts tail end)
+    row_fits level no_trees tail end h = row_as (tail_size tail) (0 + tail_size tail) (end level) (omega arith) (h level)
+    row_fits level (tree t ts) tail end h =
+        row_as (tree_size t + (trees_size ts + tail_size tail)) (tree_size t + trees_size ts + tail_size tail) (pair_at mark level (tree t ts) tail end) (omega arith)
+        (pair_fits level t ts tail (element_by mark level t (datum_at mark level t)) (pair_at mark (level_behind (mark_in mark t) level) ts tail end) (element_fits level t (datum_at mark level t) (datum_fits level t)) (row_fits (level_behind (mark_in mark t) level) ts tail end h))
 
-    parts_fit : (ts : Trees Identifier) (level : ℕ) → PartsFit (trees_size ts) (parts_of mark ts level)
-    parts_fit no_trees level = refl
-    parts_fit (tree t ts) level = part_fits (tree_size t) (trees_size ts) (pieces_of mark t level true) (parts_of mark ts level) (pieces_fit t level true) (parts_fit ts level)
+    elements_fit : (level : ℕ) (ts : Trees Identifier) → PartsFit (trees_size ts) (elements_at mark level ts)
+    elements_fit level no_trees = refl
+    elements_fit level (tree t ts) =
+        part_fits (tree_size t) (trees_size ts) (element_by mark level t (datum_at mark level t)) (elements_at mark level ts) (element_fits level t (datum_at mark level t) (datum_fits level t)) (elements_fit level ts)
 
-    tail_fits : (tail : Tail Identifier) (level : ℕ) → RowFits (tail_size tail) (tail_of mark tail level)
+    tail_fits : (tail : Tail Identifier) (level : ℕ) → RowFits (tail_size tail) (tail_at mark tail level)
     tail_fits proper level = refl
-    tail_fits (dotted t) level = end_fits (tree_size t) (pieces_of mark t level false) (pieces_fit t level false)
+    tail_fits (dotted t) level = end_fits (tree_size t) (datum_at mark level t) (datum_fits level t)
       where
         end_fits : (n : ℕ) (p : Result (Pieces Identifier) (Fault Identifier)) → PiecesFit n p → RowFits n (p >> λ p. Ok (row_pieces no_trees (dotted p.datum) p.holes))
         end_fits n (Ok p) h = omega arith
@@ -314,7 +323,7 @@ module _ (mark : Identifier → Option Mark) where
 
 -- the nodes of a datum are those outside its holes, and those that stand in them
 pub outside_fits : (mark : Identifier → Option Mark) (t : Tree Identifier) (p : Pieces Identifier) → quasi_of mark t ≡ Ok p → outside p.datum + sizes p.holes ≡ tree_size t
-outside_fits mark t p h = subst (PiecesFit (tree_size t)) h (pieces_fit mark t zero false)
+outside_fits mark t p h = subst (PiecesFit (tree_size t)) h (datum_fits mark zero t)
 
 -- ---- holes one after another
 

@@ -3,10 +3,10 @@ use Rattle.std.specs.Prelude.{ℕ, List, map, Bool, true, false, Option, Some, N
 use Rattle.scheme_model.specs.declared.Occ.{Occ}
 use Rattle.scheme_model.specs.Trees.{Tree, name, atom, list, vector, no_trees, tree}
 use Rattle.scheme_model.specs.Keywords.{CoreKeyword, IsQuote, IsQuasiquote, IsLambda, IsCaseLambda, IsIf, IsSet, IsBegin, IsDefine, IsDefineValues, IsDefineRecordType, IsDefineSyntax, IsLetSyntax, IsLetrecSyntax, IsCondExpand, IsSyntaxError, IsInclude}
-use Rattle.scheme_model.specs.ExpansionFaults.{Named}
+use Rattle.scheme_model.specs.ExpansionFaults.{Named, named}
 use Rattle.scheme_model.specs.Shapes.{FieldShape as ModelField}
 use Rattle.scheme_model.specs.Cores.{FieldUse}
-use Rattle.scheme_model.specs.Order.{name_in, RulesParts, position}
+use Rattle.scheme_model.specs.Order.{RulesParts, position}
 use Rattle.scheme_model.specs.Ident.{Ident as Identifier, same_ident}
 use Rattle.syntax_tree.specs.Names.{Names}
 use Rattle.syntax_tree.specs.Macros.{IsIdent}
@@ -14,6 +14,13 @@ use Rattle.syntax_tree.specs.declared.trees.nodes.Tree as number
 use Rattle.form_parts.specs.declared.items.Form as code
 use Rattle.form_parts.specs.declared.items.Item.{Item}
 use Rattle.form_parts.specs.declared.items.Kept.{Kept}
+
+-- an identifier with its place, where the tree is one
+abbrev pub name_in : {A : Type 0} → Tree A → Option (Named A)
+name_in (name i o) = Some (named i o)
+name_in (atom a o) = None
+name_in (list ts tail o) = None
+name_in (vector ts o) = None
 
 -- the first part of a list, where it is an identifier
 abbrev pub head_name_of : {A : Type 0} → Tree A → Option (Named A)

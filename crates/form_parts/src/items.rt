@@ -3,8 +3,8 @@ ghost use Rattle.std.specs.Prelude.{◌≡◌, map, reverse, IfOk};
 ghost use Rattle.form_parts.specs.FormsSeen.{form_at};
 
 use core_forms::{ClauseShape, LocalMacro, NamePart};
-use core_tree::cores::{Binder, FieldUse};
-use ls_base::Mem;
+use core_tree::cores::{Binder, FieldUse, Target};
+use ls_base::{Items, Mem};
 use scheme_model::Occ;
 use scope_env::ScopeNo;
 use std::alloc::Global;
@@ -41,10 +41,25 @@ pub enum Kept {
     Macro(Binder, Meaning),
 }
 
+/// A macro use that waits to be met: its keyword, and the leaves of the form that met a literal, which mean what they do once all
+/// definitions of their place stand.
+#[derive(Drop)]
+pub struct WaitingUse {
+    pub keyword: Target,
+    pub literals: Vec<NamePart>,
+}
+
 /// What a form of a unit set aside.
 #[derive(Drop)]
 pub struct Item {
     pub kept: Kept,
+}
+
+/// What is left of a form of a unit once it was gone through: the macro uses that wait, and what was set aside.
+#[derive(Drop)]
+pub struct Left {
+    pub uses: Vec<WaitingUse>,
+    pub items: Items<Item>,
 }
 
 /// Where forms are gone through: a unit's own scope, or that of a body.
@@ -54,11 +69,12 @@ pub struct Spot {
     pub in_body: bool,
 }
 
-/// What is left to be gone through, the next form last, and what was set aside.
+/// What is left to be gone through, the next form last, what was set aside, and the macro uses that wait.
 #[derive(Drop)]
 pub struct Pending {
     pub todo: Vec<Form>,
     pub aside: Vec<Kept>,
+    pub uses: Vec<WaitingUse>,
 }
 
 /// The names of local macros.

@@ -8,4 +8,4 @@ pub mod places;
 pub mod quasi;
 pub mod records;
 
-pub use items::Item;
+pub use items::{Item, Left, WaitingUse};

@@ -2,7 +2,7 @@
 ghost use Rattle.std.specs.Prelude.{◌≡◌, Option, Some, List, ◌<◌, ◌-◌};
 ghost use Rattle.scheme_model.specs.declared.Occ.{Occ};
 ghost use Rattle.scheme_model.specs.Trees.{Tree as ModelTree, name};
-ghost use Rattle.scheme_model.specs.Order.{name_in};
+ghost use Rattle.form_parts.specs.FormsSeen.{name_in};
 ghost use Rattle.scheme_model.specs.Ident.{Ident as Identifier};
 ghost use Rattle.syntax_tree.specs.Standing.{leaf_tree};
 ghost use Rattle.syntax_tree.specs.Works.{StandsFor, IsStanding};

@@ -14,7 +14,6 @@ use Rattle.syntax_tree.specs.Works.{live_count}
 use Rattle.syntax_tree.specs.declared.trees.Work.{Work}
 use Rattle.syntax_tree.specs.declared.trees.table.Region.{Region}
 use Rattle.core_tree.specs.Cores.{PartStands}
-use Rattle.core_tree.specs.Names.{AllMatch}
 use Rattle.core_tree.specs.Traces.{IsFault}
 use Rattle.core_tree.specs.declared.cores.CorePart.{CorePart}
 use Rattle.core_tree.specs.declared.traces.FormFault.{FormFault}
@@ -23,12 +22,12 @@ use Rattle.feature_requirements.specs.Judged.{Knows, library_text}
 use Rattle.unit_scopes.specs.Kept.{NotesFor}
 use Rattle.unit_scopes.specs.Outcomes.{At, Leaves, SameForm, Stays, Moves, MayFill, Ends}
 use Rattle.unit_scopes.specs.State.{FormStands, Rests, Stands}
-use Rattle.unit_scopes.specs.Stepped.{turned}
-use Rattle.unit_scopes.specs.Units.{UnitStands, form_at, CountsFor, ItemFor, CanDeclare, CanSet, Goes, Adds, Counts, Sets, Declares, Expands}
+use Rattle.unit_scopes.specs.Stepped.{turned, with_uses}
+use Rattle.unit_scopes.specs.Units.{UnitStands, form_at, CountsFor, LeftFor, CanDeclare, CanSet, Goes, Adds, Counts, Sets, Declares, Expands}
 use Rattle.unit_scopes.specs.declared.asked.Asked.{Asked}
 use Rattle.feature_requirements.specs.declared.fault.ExpandFault.{ExpandFault}
 use Rattle.feature_requirements.specs.declared.fault.ExpandFault.TheVariants as fault
-use Rattle.form_parts.specs.declared.items.Item as code_item
+use Rattle.form_parts.specs.declared.items.Left as code_left
 use Rattle.unit_scopes.specs.declared.scope.Budget.{Budget}
 use Rattle.unit_scopes.specs.declared.scope.FormAtWork.{FormAtWork}
 use Rattle.unit_scopes.specs.declared.scope.UnitScope.{UnitScope}
@@ -170,11 +169,11 @@ module _ (old new : Work) (region : Region) (u u1 v w : UnitScope) (number : ℕ
   fault_here : (ls : List Frames) (t : ScopedState) (e : FormFault) (b : Broken) → Stays old new region u1 v ls t → IsFault new.symbols t.unit t.form e b → IsFault new.symbols t.unit number e b
   fault_here ls t e b m h = subst (λ (n : ℕ). IsFault new.symbols t.unit n e b) (sym m.stands.form.number ∙ numbered m.same) h
 
-  -- ---- what a form sets aside
+  -- ---- what is left of a form
 
-  pub declares : (ls : List Frames) (xs : List code_item.Item) (p : Pass Identifier FramedIdent × ScopedState) → Sets old new region u1 v ls (Ok xs) p → Declares old new region u w budget after ls number traced (Ok xs) p
-  declares ls xs p h =
-      (h.0, h.1, goes ls ls p.0.notes p.1 (λ n fs at. at) h.2 h.3, subst (λ (n : ℕ). AllMatch (ItemFor new region n number) xs h.0) (sym unit_is) (subst (λ (n : ℕ). AllMatch (ItemFor new region v.unit n) xs h.0) (numbered h.2.same) h.4))
+  pub declares : (ls : List Frames) (x : code_left.Left) (p : Pass Identifier FramedIdent × ScopedState) → Sets old new region u1 v ls (Ok x) p → Declares old new region u w budget after ls number traced (Ok x) p
+  declares ls x p h =
+      (h.0, h.1, goes ls ls p.0.notes p.1 (λ n fs at. at) h.2 h.3, subst (λ (n : ℕ). LeftFor new region n number x h.0) (sym unit_is) (subst (λ (n : ℕ). LeftFor new region v.unit n x h.0) (numbered h.2.same) h.4))
 
   pub declares_fault : (ls : List Frames) (e : FormFault) (p : Pass Identifier FramedIdent × ScopedState) → Sets old new region u1 v ls (Err (fault.At e)) p → Declares old new region u w budget after ls number traced (Err (fault.At e)) p
   declares_fault ls e p h = (h.0, h.1, goes ls ls p.0.notes p.1 (λ n fs at. at) h.2 h.3, fault_here ls p.1 e h.0 h.2 h.4)
@@ -197,6 +196,20 @@ module _ (old new : Work) (region : Region) (u u1 v w : UnitScope) (number : ℕ
         Expands old new region u w budget after ls number traced ns (Err (fault.At e)) p
     expands_fault e p h = (h.1.0, h.1.1, went p.1 h.0, fault_here h.0.layout p.1 e h.1.0 h.0.stays h.1.2)
 
+-- ---- a call that changes the state of its form alone
+
+-- work went to a form, and left it with uses that were met
+pub met_rests : (work : Work) (u u1 v w : UnitScope) (number : ℕ) (budget : Budget) (trace traced back : Trace) (ls : List Frames) (ns : List (Note FramedIdent)) (t : ScopedState) → u1 ≡ record u { form = form_at number budget trace } → v ≡ with_uses u1 v.form.trace.uses →
+    w ≡ record v { form = record v.form { trace = back } } → traced ≡ v.form.trace → NotesFor work ls u.asked ns → Stands work v ls t → UnitStands work w ls t ns × CountsFor work t number budget traced
+met_rests work u u1 v w number budget trace traced back ls ns t turn same rest traced_is notes e =
+    let asked : v.asked ≡ u.asked = ap (λ (x : UnitScope). x.asked) same ∙ ap (λ (x : UnitScope). x.asked) turn in
+    let numbered : v.form.number ≡ number = ap (λ (x : UnitScope). x.form.number) same ∙ ap (λ (x : UnitScope). x.form.number) turn in
+    let counted : v.form.budget ≡ budget = ap (λ (x : UnitScope). x.form.budget) same ∙ ap (λ (x : UnitScope). x.form.budget) turn in (
+      subst (λ (x : UnitScope). UnitStands work x ls t ns) (sym rest)
+          (record { rests = without_form work v (record v.form { trace = back }) ls t e; notes = subst (λ (a : Asked). NotesFor work ls a ns) (sym asked) notes }),
+      subst (λ (r : Trace). CountsFor work t number budget r) (sym traced_is) (subst (λ (b : Budget). CountsFor work t number b v.form.trace) counted (form_again work.symbols v.form t number numbered e.form)),
+    )
+
 -- ---- what holds however a call ends
 
 -- the libraries that there are, as the definition knows them
@@ -212,20 +225,20 @@ module _ (old new : Work) (region : Region) (u v : UnitScope) where
       let few : v.form.budget.nodes ≤ 200000 = h.stands.form.few_nodes in
       record { trees = h.work.trees; names = h.work.names; added = h.work.added; regions = h.work.regions; nodes = omega (arith, h.counted, few) }
 
-  pub sets_adds : (ls : List Frames) (r : Result (List code_item.Item) ExpandFault) (p : Pass Identifier FramedIdent × ScopedState) → Sets old new region u v ls r p → Adds old new region u.form.budget
-  sets_adds ls (Ok xs) p h = adds_stays ls p.1 h.2
+  pub sets_adds : (ls : List Frames) (r : Result code_left.Left ExpandFault) (p : Pass Identifier FramedIdent × ScopedState) → Sets old new region u v ls r p → Adds old new region u.form.budget
+  sets_adds ls (Ok x) p h = adds_stays ls p.1 h.2
   sets_adds ls (Err (fault.At e)) p h = adds_stays ls p.1 h.2
   sets_adds ls (Err fault.Full) p h = adds_left h.0
   sets_adds ls (Err fault.Memory) p h = adds_left h
 
-  pub sets_counts : (ls : List Frames) (r : Result (List code_item.Item) ExpandFault) (p : Pass Identifier FramedIdent × ScopedState) → Sets old new region u v ls r p → Counts u v r
-  sets_counts ls (Ok xs) p h = h.2.same
+  pub sets_counts : (ls : List Frames) (r : Result code_left.Left ExpandFault) (p : Pass Identifier FramedIdent × ScopedState) → Sets old new region u v ls r p → Counts u v r
+  sets_counts ls (Ok x) p h = h.2.same
   sets_counts ls (Err (fault.At e)) p h = h.2.same
   sets_counts ls (Err fault.Full) p h = tt
   sets_counts ls (Err fault.Memory) p h = tt
 
-  pub sets_full : (ls : List Frames) (r : Result (List code_item.Item) ExpandFault) (p : Pass Identifier FramedIdent × ScopedState) → Sets old new region u v ls r p → r ≡ Err fault.Full → MayFill old u
-  sets_full ls (Ok xs) p h is = absurd cc
+  pub sets_full : (ls : List Frames) (r : Result code_left.Left ExpandFault) (p : Pass Identifier FramedIdent × ScopedState) → Sets old new region u v ls r p → r ≡ Err fault.Full → MayFill old u
+  sets_full ls (Ok x) p h is = absurd cc
   sets_full ls (Err (fault.At e)) p h is = absurd cc
   sets_full ls (Err fault.Full) p h is = h.1
   sets_full ls (Err fault.Memory) p h is = absurd cc

@@ -6,7 +6,7 @@ use Rattle.scheme_model.specs.Trees.{atom, list, name, tree}
 use Rattle.scheme_model.specs.Ident.{Ident as Identifier}
 use Rattle.scheme_model.specs.RulesShape.{Rule, Rules}
 use Rattle.scheme_model.specs.Shapes.{Clause}
-use Rattle.scheme_model.specs.Order.{Item, Form}
+use Rattle.scheme_model.specs.Order.{Item, Form, WaitingUse}
 use Rattle.scheme_model.specs.Order as model
 use Rattle.scheme_model.specs.Expression.{meaning_of}
 use Rattle.syntax_tree.specs.Names.{KeepsNames}
@@ -33,9 +33,10 @@ use Rattle.core_tree.specs.declared.cores.MacroDef as code_macro
 use Rattle.core_tree.specs.declared.cores.Core as code
 use Rattle.core_tree.specs.declared.cores.Clause as code_clause
 use Rattle.core_tree.specs.declared.cores.CorePart as code_part
-use Rattle.unit_scopes.specs.Kept.{FormFor, ClauseFor, KeptFor}
+use Rattle.unit_scopes.specs.Kept.{FormFor, ClauseFor, KeptFor, WaitsFor}
 use Rattle.form_parts.specs.declared.items.Form as code_form
 use Rattle.form_parts.specs.declared.items.Kept as code_kept
+use Rattle.form_parts.specs.declared.items.WaitingUse as code_waiting
 use Rattle.unit_scopes.proofs.OutcomeLaws.{works_on, all_named_on, parts_on}
 
 pub every_on : {X Y : Type 0} (P Q : X → Y → Type 0) → ((x : X) (y : Y) → P x y → Q x y) → (xs : List X) (ys : List Y) → AllMatch P xs ys → AllMatch Q xs ys
@@ -187,3 +188,6 @@ module _ (old new : Work) (trees : KeepsTrees old new) (names : KeepsNames old.s
     kept_on region k (model.ValuesOf bs m) h = (h.0, h.1, h.2, h.3, (binders_on h.0.items bs.names h.4.0, h.4.1), form_on region h.2 m h.5)
     kept_on region k (model.Record r) h = (h.0, h.1, h.2, h.3, h.4, binders_on h.0.items r.binders h.5, binders_on h.1.items r.fields h.6, h.7, h.8)
     kept_on region k (model.Macro b here) h = (h.0, h.1, h.2, binder_on h.0 b h.3, meaning_on h.1 (meaning_of b.bound b.ident) h.4)
+
+    pub waits_on : (x : code_waiting.WaitingUse) (w : WaitingUse Identifier) → WaitsFor old unit form x w → WaitsFor new unit form x w
+    waits_on x w h = record { keyword = target_on x.keyword w.keyword h.keyword; literals = every_on (IsName old) (IsName new) name_on x.literals.items w.literals h.literals }

@@ -13,9 +13,9 @@ use Rattle.scheme_model.specs.Diagnostics.{fault_occ}
 use Rattle.scheme_model.specs.Meaning as model
 use Rattle.scheme_model.specs.RulesShape.{Rules}
 use Rattle.scheme_model.specs.Steps.{Broken}
-use Rattle.scheme_model.specs.Order.{Here, Note, Pending, is_some, told}
+use Rattle.scheme_model.specs.Order.{Here, Note, Pending, Renamed, is_some, told}
 use Rattle.std.specs.Option.{option_map}
-use Rattle.scheme_model.specs.Substitution.{Defined, defined_in, is_variable, any}
+use Rattle.scheme_model.specs.Substitution.{Defined, defined_in, is_variable, any, unchanged}
 use Rattle.scheme_model.specs.CountedExpansion.{refused_here}
 use Rattle.scheme_model.specs.ScopedExpansion.{Frames, FramedIdent, BodyDefinition, ScopedState, next_number, body_around, bound_next, definition_added, meaning_next, is_defined, assigned}
 use Rattle.scheme_model.proofs.IdentLaws.{bool_same}
@@ -173,21 +173,21 @@ pub refuses : (here : Here) (b : Option Number) (n : Named Identifier) (r : Opti
     changes n.name (definition_added b n r fs s) (meaning_next s b n.name) (is_some r) p.notes ≡ true →
     told here (define_searched b n r fs p s) ≡ (Err (record { fault = KeywordRedefined n; here = here }), s)
 refuses here b n r fs p s h =
-    ap (λ (x : Bool). told here (if x then (Err (KeywordRedefined n), s) else if is_defined s b n.name then (Err (Duplicate n), s) else (Ok p, definition_added b n r fs s))) h
+    ap (λ (x : Bool). told here (if x then (Err (KeywordRedefined n), s) else if is_defined s b n.name then (Err (Duplicate n), s) else (Ok (unchanged p), definition_added b n r fs s))) h
 
 pub is_second : (here : Here) (b : Option Number) (n : Named Identifier) (r : Option (Rules Identifier)) (fs : Frames) (p : Pending Identifier FramedIdent) (s : ScopedState) →
     changes n.name (definition_added b n r fs s) (meaning_next s b n.name) (is_some r) p.notes ≡ false → is_defined s b n.name ≡ true →
     told here (define_searched b n r fs p s) ≡ (Err (record { fault = Duplicate n; here = here }), s)
 is_second here b n r fs p s h k =
-    ap (λ (x : Bool). told here (if x then (Err (KeywordRedefined n), s) else if is_defined s b n.name then (Err (Duplicate n), s) else (Ok p, definition_added b n r fs s))) h
-    ∙ ap (λ (x : Bool). told here (if x then (Err (Duplicate n), s) else (Ok p, definition_added b n r fs s))) k
+    ap (λ (x : Bool). told here (if x then (Err (KeywordRedefined n), s) else if is_defined s b n.name then (Err (Duplicate n), s) else (Ok (unchanged p), definition_added b n r fs s))) h
+    ∙ ap (λ (x : Bool). told here (if x then (Err (Duplicate n), s) else (Ok (unchanged p), definition_added b n r fs s))) k
 
 pub is_made : (here : Here) (b : Option Number) (n : Named Identifier) (r : Option (Rules Identifier)) (fs : Frames) (p : Pending Identifier FramedIdent) (s : ScopedState) →
     changes n.name (definition_added b n r fs s) (meaning_next s b n.name) (is_some r) p.notes ≡ false → is_defined s b n.name ≡ false →
-    told here (define_searched b n r fs p s) ≡ (Ok p, definition_added b n r fs s)
+    told here (define_searched b n r fs p s) ≡ (Ok (unchanged p), definition_added b n r fs s)
 is_made here b n r fs p s h k =
-    ap (λ (x : Bool). told here (if x then (Err (KeywordRedefined n), s) else if is_defined s b n.name then (Err (Duplicate n), s) else (Ok p, definition_added b n r fs s))) h
-    ∙ ap (λ (x : Bool). told here (if x then (Err (Duplicate n), s) else (Ok p, definition_added b n r fs s))) k
+    ap (λ (x : Bool). told here (if x then (Err (KeywordRedefined n), s) else if is_defined s b n.name then (Err (Duplicate n), s) else (Ok (unchanged p), definition_added b n r fs s))) h
+    ∙ ap (λ (x : Bool). told here (if x then (Err (Duplicate n), s) else (Ok (unchanged p), definition_added b n r fs s))) k
 
 -- ---- its faults
 
@@ -251,12 +251,12 @@ module _ (work : Work) (u w : UnitScope) (ls : List Frames) (s : ScopedState) (s
   at_state = definition_added (body_around fs) n r fs s
 
   pub made_ends : (k : Bool) → k ≡ is_some r → changes n.name at_state (meaning_next s (body_around fs) n.name) k p.notes ≡ false → is_defined s (body_around fs) n.name ≡ false → Stands work w ls at_state → SpotFor work w ls at_state spot fs → SamePlace u w →
-      EndsIn (λ (done : Unit {0}) (q : Pending Identifier FramedIdent). q ≡ p) work u w ls spot fs (Ok tt) (told here (define_searched (body_around fs) n r fs p s))
+      EndsIn (λ (done : Unit {0}) (made : Renamed Identifier FramedIdent). made ≡ unchanged p) work u w ls spot fs (Ok tt) (told here (define_searched (body_around fs) n r fs p s))
   made_ends k tells none first stands placed same =
       let no = ap (λ (b : Bool). changes n.name at_state (meaning_next s (body_around fs) n.name) b p.notes) (sym tells) ∙ none in
-      subst (λ (q : Result (Pending Identifier FramedIdent) Broken × ScopedState). EndsIn (λ (done : Unit {0}) (y : Pending Identifier FramedIdent). y ≡ p) work u w ls spot fs (Ok tt) q)
+      subst (λ (q : Result (Renamed Identifier FramedIdent) Broken × ScopedState). EndsIn (λ (done : Unit {0}) (made : Renamed Identifier FramedIdent). made ≡ unchanged p) work u w ls spot fs (Ok tt) q)
       (sym (is_made here (body_around fs) n r fs p s no first))
-      (p, record { stands = stands; placed = placed; same = same.same }, refl, refl)
+      (unchanged p, record { stands = stands; placed = placed; same = same.same }, refl, refl)
 
 -- what is kept is a macro exactly where there are rules
 pub kept_tells : (work : Work) (ls : List Frames) (fs : Frames) (k : Option Macro) (r : Option (Rules Identifier)) → IsKept work ls fs k r → is_kept k ≡ is_some r

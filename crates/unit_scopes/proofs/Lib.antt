@@ -35,6 +35,7 @@ pub mod MatchLists  -- Lists that match one by one, as far as a loop has come
 pub mod MeantSame  -- Equal meanings of the code are those of identifiers that mean the same
 pub mod ChangedNotes  -- What a note asked, and whether a definition that is about to be made would have it told otherwise
 pub mod UseLaws  -- A macro use, step by step
+pub mod UsesMet  -- Macro uses that waited are met, one after another
 pub mod UseSizes  -- A use gives a tree of at most 4,194,304 nodes
 pub mod SyntaxLaws  -- The rules of macros where they are defined, by what the code was told
 pub mod CoreStandLaws  -- What stood for a core, a part, a clause or what was set aside in a work still does in one that grew

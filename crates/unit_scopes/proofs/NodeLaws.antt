@@ -4,7 +4,7 @@ use Rattle.std.proofs.Common.{◌≡◌, ℕ, zero, suc, ◌+◌, ◌<◌, ◌�
 use Rattle.std.proofs.lemmas.Bool.{le-leb, lt-leb}
 use Rattle.scheme_model.specs.declared.Occ.{Occ}
 use Rattle.scheme_model.specs.Ident.{Ident as Identifier}
-use Rattle.scheme_model.specs.ExpansionFaults.{Fault, NodeBudget, DepthBudget, fault_code, fault_name}
+use Rattle.scheme_model.specs.ExpansionFaults.{Fault, NodeBudget, DepthBudget, fault_code, fault_name, error_text}
 use Rattle.scheme_model.specs.Requirements.{Known}
 use Rattle.scheme_model.specs.Steps.{Broken, Step, ◌>>=◌, done, fails}
 use Rattle.scheme_model.specs.Order.{counting, max_nodes}
@@ -14,7 +14,7 @@ use Rattle.scheme_model.specs.Diagnostics.{fault_occ}
 use Rattle.syntax_tree.specs.Names.{Names}
 use Rattle.syntax_tree.specs.declared.trees.Work.{Work}
 use Rattle.syntax_tree.specs.declared.trees.table.Region.{Region}
-use Rattle.core_tree.specs.Traces.{IsFault, IsNamedBy, error_text}
+use Rattle.core_tree.specs.Traces.{IsFault, IsNamedBy}
 use Rattle.feature_requirements.specs.Faults.{plain_fault}
 use Rattle.unit_scopes.specs.Counts.{with_nodes, Counts, FailsToBegin, Begins}
 use Rattle.unit_scopes.specs.State.{Stands}

@@ -15,9 +15,9 @@ use Rattle.scheme_model.specs.RulesShape.{Rules, role_of, dots_of}
 use Rattle.scheme_model.specs.Matching.{Chosen, matcher, first_match, compared}
 use Rattle.scheme_model.specs.Building.{Built}
 use Rattle.scheme_model.specs.Meaning.{same_meaning}
-use Rattle.scheme_model.specs.Cores.{Target, MacroUse}
+use Rattle.scheme_model.specs.Cores.{Target}
 use Rattle.scheme_model.specs.Steps.{Broken, ◌>>=◌, done}
-use Rattle.scheme_model.specs.Order.{Transformer, given, use_of}
+use Rattle.scheme_model.specs.Order.{WaitingUse, Instance, Transformer, given, has_use, comparisons, use_of}
 use Rattle.scheme_model.specs.Order as order
 use Rattle.scheme_model.specs.Diagnostics.{fault_occ}
 use Rattle.scheme_model.specs.CountedExpansion.{means_here}
@@ -38,24 +38,25 @@ use Rattle.rules_build.specs.Builds.{instance, Builds, CountsNodes}
 use Rattle.rules_build.specs.declared.fault.BuildFault.{BuildFault}
 use Rattle.rules_build.specs.declared.fault.BuildFault.TheVariants as builds
 use Rattle.core_forms.specs.declared.shape.NamePart.{NamePart}
+use Rattle.core_forms.specs.Parts.{IsName}
 use Rattle.core_tree.specs.Names.{AllMatch, IsTarget}
 use Rattle.core_tree.specs.Traces.{IsFault}
 use Rattle.core_tree.specs.declared.cores.Target as code_target
-use Rattle.core_tree.specs.declared.traces.MacroUse as code_use
 use Rattle.unit_scopes.specs.Counts.{placed_in, named_fault, with_nodes}
 use Rattle.feature_requirements.specs.Faults.{plain_fault}
 use Rattle.unit_scopes.specs.Macros.{macro_in}
 use Rattle.unit_scopes.specs.Searched.{searched}
 use Rattle.unit_scopes.specs.State.{IsMacro, IsMacroIfAny, Stands}
-use Rattle.unit_scopes.specs.Stepped.{spent, used, met_use, with_use_begun, with_met}
-use Rattle.unit_scopes.specs.Used.{UseFor, CanUse, HasMatch, AreHeld, match_of_use, FindsUse, use_number, target_at, build_fault, FailsToBuild, Instances}
-use Rattle.unit_scopes.specs.Outcomes.{At, CanLook, Grows, Leaves, Stays, MayFill, EndsHere, WorksOn}
+use Rattle.unit_scopes.specs.Stepped.{spent, used, with_use_begun}
+use Rattle.unit_scopes.specs.Used.{UseFor, CanUse, HasMatch, AreHeld, match_of_use, FindsUse, use_number, build_fault, comparison_of, FailsToBuild, InstanceFor, Instances}
+use Rattle.unit_scopes.specs.Outcomes.{At, Grows, Leaves, Stays, MayFill, EndsHere}
 use Rattle.feature_requirements.specs.declared.fault.ExpandFault.{ExpandFault}
 use Rattle.feature_requirements.specs.declared.fault.ExpandFault.TheVariants as fault
 use Rattle.unit_scopes.specs.declared.macros.Macro.{Macro}
 use Rattle.unit_scopes.specs.declared.scope.UnitScope.{UnitScope}
+use Rattle.unit_scopes.specs.declared.uses.Instance as code_instance
 use Rattle.unit_scopes.specs.declared.uses.Use as code
-use Rattle.unit_scopes.proofs.CountingStands.{nodes_stand, use_stands}
+use Rattle.unit_scopes.proofs.CountingStands.{nodes_stand}
 use Rattle.unit_scopes.proofs.GrowthStands.{growth_stands, target_on}
 use Rattle.unit_scopes.proofs.MatchedLaws.{Agree, first_match_same}
 use Rattle.unit_scopes.proofs.OutcomeLaws.{grows_itself, stays_itself}
@@ -155,7 +156,10 @@ instance_fails old new region u v here s left builds.Memory few is b n full = n
 -- ---- the steps of the definition
 
 module _ (known : Known) (here : Option Occ) (fs : Frames) (keyword : Target) (m : Transformer Frames Identifier) (ts : Trees Identifier) (tail : Tail Identifier) (s : ScopedState) where
-  abbrev step : Result (Tree Identifier) Broken × ScopedState
+  abbrev Ends : Type 0
+  Ends = Result (Instance Identifier) Broken × ScopedState
+
+  abbrev step : Ends
   step = use_of (searched known) here fs keyword m ts tail s
 
   abbrev begun : ScopedState
@@ -164,10 +168,10 @@ module _ (known : Known) (here : Option Occ) (fs : Frames) (keyword : Target) (m
   abbrev k : Number
   k = next_number s s.uses
 
-  abbrev matched_step : Option (Chosen Identifier Identifier) → Result (Tree Identifier) Broken × ScopedState
-  matched_step o = order.used (searched known) here fs keyword m k o begun
+  abbrev matched_step : Option (Chosen Identifier Identifier) → Ends
+  matched_step o = order.used (searched known) here keyword m k o begun
 
-  abbrev over : Result (Tree Identifier) Broken × ScopedState
+  abbrev over : Ends
   over = (Err (record { fault = UseBudget; here = here }), s)
 
   use_over : s.uses s.form ≡ 10000 → step ≡ over
@@ -187,21 +191,21 @@ module _ (known : Known) (here : Option Occ) (fs : Frames) (keyword : Target) (m
   abbrev built : Chosen Identifier Identifier → Result (Built (Tree Identifier)) (Fault Identifier)
   built c = instance m.rules k c (200000 - s.nodes s.form)
 
-  abbrev met_now : Chosen Identifier Identifier → MacroUse
-  met_now c = record { keyword = keyword; literals = map (target_at begun fs) c.match.met }
+  abbrev waits_now : Chosen Identifier Identifier → WaitingUse Identifier
+  waits_now c = record { keyword = keyword; literals = c.match.met }
 
-  abbrev built_step : Chosen Identifier Identifier → Result (Built (Tree Identifier)) (Fault Identifier) → Result (Tree Identifier) Broken × ScopedState
-  built_step c r = given (λ (i : Identifier). i) here r begun >>= λ b t. done b.value (spent b.count (met_use (met_now c) t))
+  abbrev built_step : Chosen Identifier Identifier → Result (Built (Tree Identifier)) (Fault Identifier) → Ends
+  built_step c r = given (λ (i : Identifier). i) here r begun >>= λ b t. done (record { tree = b.value; met = waits_now c }) (spent b.count t)
 
   matched_as : (c : Chosen Identifier Identifier) → s.uses s.form < 10000 → match_of_use s fs m ts tail ≡ Some c → step ≡ built_step c (built c)
   matched_as c room found = use_within room ∙ ap matched_step found
 
   -- ---- the code's step
 
-  module _ (work : Work) (region : Region) (u : UnitScope) (ls : List Frames) (e : Stands work u ls s) (P : number.Tree → Tree Identifier → Type 0) where
+  module _ (work : Work) (region : Region) (u : UnitScope) (ls : List Frames) (e : Stands work u ls s) (P : code_instance.Instance → Instance Identifier → Type 0) where
     pub over_ends : u.form.budget.uses ≡ 10000 → EndsHere P work work region u u ls (Err (plain_fault here 44)) step
     over_ends full =
-        subst (λ (q : Result (Tree Identifier) Broken × ScopedState). EndsHere P work work region u u ls (Err (plain_fault here 44)) q) (sym (use_over (sym e.form.uses ∙ full)))
+        subst (λ (q : Ends). EndsHere P work work region u u ls (Err (plain_fault here 44)) q) (sym (use_over (sym e.form.uses ∙ full)))
         (stays_itself work region u ls s e, (record { fault = UseBudget; here = here }, refl, record { code = refl; name = tt; place = refl; text = refl }))
 
     module _ (scope : ℕ) (there : At ls scope m.env) (few : u.form.budget.uses < 10000) where
@@ -222,7 +226,7 @@ module _ (known : Known) (here : Option Occ) (fs : Frames) (keyword : Target) (m
           EndsHere P work work region u (with_use_begun u scope) ls (Err (named_fault u.unit u.form.number here 26 n)) step
       unmatched_ends x n is ident occ none =
           let place : placed_in u.unit u.form.number here n.occ ≡ placed_in s.unit s.form here keyword.occ = λ j. placed_in (e.unit j) (e.form.number j) here ((occ ∙ is.place) j) in
-          subst (λ (q : Result (Tree Identifier) Broken × ScopedState). EndsHere P work work region u (with_use_begun u scope) ls (Err (named_fault u.unit u.form.number here 26 n)) q) (sym (unmatched room none)) (
+          subst (λ (q : Ends). EndsHere P work work region u (with_use_begun u scope) ls (Err (named_fault u.unit u.form.number here 26 n)) q) (sym (unmatched room none)) (
             begun_stays,
             (
               record { fault = NoRule (named keyword.ident keyword.occ); here = here },
@@ -241,7 +245,7 @@ module _ (known : Known) (here : Option Occ) (fs : Frames) (keyword : Target) (m
       broken_as : (c : Chosen Identifier Identifier) (r : Result (Built (Tree Identifier)) (Fault Identifier)) (b : Broken) (which : ℕ) → match_of_use s fs m ts tail ≡ Some c → built c ≡ r → built_step c r ≡ (Err b, begun) →
           IsFault work.symbols s.unit s.form (record { code = which; name = None; occ = here; text = None }) b → EndsHere P work work region u (with_use_begun u scope) ls (Err (plain_fault here which)) step
       broken_as c r b which found is so broken =
-          subst (λ (q : Result (Tree Identifier) Broken × ScopedState). EndsHere P work work region u (with_use_begun u scope) ls (Err (plain_fault here which)) q) (sym (matched_as c room found ∙ ap (built_step c) is ∙ so))
+          subst (λ (q : Ends). EndsHere P work work region u (with_use_begun u scope) ls (Err (plain_fault here which)) q) (sym (matched_as c room found ∙ ap (built_step c) is ∙ so))
           (begun_stays, (b, refl, broken))
 
       broken_by : (c : Chosen Identifier Identifier) (x : ExpandFault) → match_of_use s fs m ts tail ≡ Some c → FailsToBuild here x (built c) → EndsHere P work work region u (with_use_begun u scope) ls (Err x) step
@@ -284,27 +288,43 @@ module _ (known : Known) (here : Option Occ) (fs : Frames) (keyword : Target) (m
         pub grown_stands : Stands new grown ls (spent b.count begun)
         grown_stands = nodes_stand new (with_use_begun u scope) ls begun b.count within (growth_stands work new grows.trees grows.names apart told (with_use_begun u scope) ls begun begun_stands)
 
-        pub use_ends : (c : Chosen Identifier Identifier) (n : number.Tree) (x : code_target.Target) (met : Vec code_target.Target Global) → match_of_use s fs m ts tail ≡ Some c → built c ≡ Ok b → StandsFor new n b.value → CanName new region n → live_count new ≤ live_count work + b.count →
-            IsTarget work.symbols s.unit s.form x keyword → AllMatch (IsTarget new.symbols s.unit s.form) met.items (map (target_at (spent b.count begun) fs) c.match.met) →
-            EndsHere (WorksOn new region) work new region u (with_met grown (record { keyword = x; literals = met })) ls (Ok n) step
-        use_ends c n x met found is stands can few target literals =
-            subst (λ (q : Result (Tree Identifier) Broken × ScopedState). EndsHere (WorksOn new region) work new region u (with_met grown (record { keyword = x; literals = met })) ls (Ok n) q) (sym (matched_as c room found ∙ ap (built_step c) is)) (
-              b.value,
+        pub use_ends : (c : Chosen Identifier Identifier) (n : number.Tree) (x : code_target.Target) (names : Vec NamePart Global) → match_of_use s fs m ts tail ≡ Some c → built c ≡ Ok b → StandsFor new n b.value → CanName new region n → live_count new ≤ live_count work + b.count →
+            IsTarget work.symbols s.unit s.form x keyword → AllMatch (IsName new) names.items c.match.met →
+            EndsHere (InstanceFor new region u.unit u.form.number) work new region u grown ls (Ok (record { tree = n; met = record { keyword = x; literals = names } })) step
+        use_ends c n x names found is stands can few target literals =
+            let now = target_on work new grows.trees grows.names apart told s.unit s.form x keyword target in
+            subst (λ (q : Ends). EndsHere (InstanceFor new region u.unit u.form.number) work new region u grown ls (Ok (record { tree = n; met = record { keyword = x; literals = names } })) q) (sym (matched_as c room found ∙ ap (built_step c) is)) (
+              record { tree = b.value; met = waits_now c },
               record {
-                stands = use_stands new grown ls (spent b.count begun) (record { keyword = x; literals = met }) (met_now c) (record { keyword = target_on work new grows.trees grows.names apart told s.unit s.form x keyword target; literals = literals }) grown_stands;
+                stands = grown_stands;
                 work = grows;
                 counted = omega (arith, few);
                 same = record { unit = refl; number = refl; root = refl; libraries = refl; roots = refl; uses = omega arith; nodes = omega arith };
               },
               refl,
-              (stands, can),
+              (
+                (stands, can),
+                record { keyword = subst (λ (v : ℕ). IsTarget new.symbols v u.form.number x keyword) (sym e.unit) (subst (λ (f : ℕ). IsTarget new.symbols s.unit f x keyword) (sym e.form.number) now); literals = literals },
+              ),
             )
 
--- the code's list of uses has one more
-pub pushed : (v g : UnitScope) (uses : List code_use.MacroUse) (x : code_use.MacroUse) → v ≡ g → uses ≡ v.form.trace.uses ++ x ∷ [] → with_met g x ≡ record v { form = record v.form { trace = record v.form.trace { uses = uses } } }
-pushed v g uses x e h =
-    let more : g.form.trace.uses ++ x ∷ [] ≡ uses = ap (λ (w : UnitScope). w.form.trace.uses ++ x ∷ []) (sym e) ∙ sym h in
-    λ j. record (sym e j) { form = record (sym e j).form { trace = record (sym e j).form.trace { uses = more j } } }
+-- a use that begins is within the budget
+pub begins_within : (known : Known) (work : Work) (u : UnitScope) (ls : List Frames) (s : ScopedState) → Stands work u ls s → u.form.budget.uses < 10000 → has_use (searched known) s ≡ true
+begins_within known work u ls s e few = let same = e.form.uses in let lt : nat_lt (s.uses s.form) 10000 ≡ true = grind (arith, nat_tests) in lt
+
+-- one that the budget refuses compares nothing
+pub none_compared : (known : Known) (work : Work) (u : UnitScope) (ls : List Frames) (s : ScopedState) (fs : Frames) (m : Transformer Frames Identifier) (ts : Trees Identifier) (tail : Tail Identifier) → Stands work u ls s → u.form.budget.uses ≡ 10000 →
+    comparisons (searched known) fs m ts tail s ≡ []
+none_compared known work u ls s fs m ts tail e full =
+    let same = e.form.uses in
+    let out : nat_lt (s.uses s.form) 10000 ≡ false = grind (arith, nat_tests) in
+    ap (λ b. cond b (map (comparison_of s m.env fs) (compared (role_of identifiers m.rules) (dots_of identifiers m.rules) m.rules.rules ts tail)) []) out
+
+-- any other compares each literal
+pub each_compared : (known : Known) (work : Work) (u : UnitScope) (ls : List Frames) (s : ScopedState) (fs : Frames) (m : Transformer Frames Identifier) (ts : Trees Identifier) (tail : Tail Identifier) → Stands work u ls s → u.form.budget.uses < 10000 →
+    comparisons (searched known) fs m ts tail s ≡ map (comparison_of s m.env fs) (compared (role_of identifiers m.rules) (dots_of identifiers m.rules) m.rules.rules ts tail)
+each_compared known work u ls s fs m ts tail e few =
+    ap (λ b. cond b (map (comparison_of s m.env fs) (compared (role_of identifiers m.rules) (dots_of identifiers m.rules) m.rules.rules ts tail)) []) (begins_within known work u ls s e few)
 
 -- ---- what the code knows before it answers
 
@@ -331,20 +351,6 @@ module _ (old new : Work) (region : Region) (u w v : UnitScope) (at : code.Use) 
     -- what is left for want of memory
     pub leaves_then : Grows old new region → Leaves old new region u
     leaves_then grows = record { work = grows; few = omega (arith, within, found.6) }
-
-    -- identifiers can be looked up
-    pub looks_then : ((k : Macro) → macro_in u.macros u.form.number at.keyword.meaning ≡ Some k → scope ≡ k.scope) → Grows old new region → AreToldApart new.symbols.idents → AreToldApart new.symbols.symbols → CanLook new v at.scope
-    looks_then scope_is grows apart told =
-        let k = macro_there old u usable.layout usable.state at usable.keyword usable.transformer usable.parts usable.tail usable.stands usable.used in
-        let there : At usable.layout scope usable.transformer.env = subst (λ (x : ℕ). At usable.layout x usable.transformer.env) (sym (scope_is k.0 k.1)) k.2.scope in
-        record {
-          layout = usable.layout;
-          state = spent found.0.count (used usable.transformer.env usable.state);
-          frames = usable.frames;
-          stands = subst (λ (x : UnitScope). Stands new x usable.layout (spent found.0.count (used usable.transformer.env usable.state))) (sym (found.4 ∙ ap (λ (x : UnitScope). with_nodes x found.0.count) is))
-              (grown_stands (λ _. false) at.here usable.frames usable.keyword usable.transformer usable.parts usable.tail usable.state old region u usable.layout usable.stands (λ _ _. Unit {0}) scope there few new grows apart told found.0 within);
-          at = usable.there;
-        }
 
 -- ---- what a look-up of a macro gave
 

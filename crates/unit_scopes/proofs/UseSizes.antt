@@ -1,5 +1,5 @@
 -- A use gives a tree of at most 4,194,304 nodes.
-use Rattle.std.proofs.Common.{◌≡◌, ℕ, ◌-◌, ◌≤◌, Bool, true, false, ◌&&◌, cond, Option, Some, None, Result, Ok, Err, refl, subst, arith}
+use Rattle.std.proofs.Common.{◌≡◌, ℕ, ◌-◌, ◌≤◌, Bool, true, false, ◌&&◌, cond, Option, Some, None, Result, Ok, Err, refl, ap, subst, arith}
 use Rattle.std.specs.Prelude.{nat_le, nat_lt}
 use Rattle.std.proofs.lemmas.Bool.Decides.{nat_tests}
 use Rattle.scheme_model.specs.declared.Occ.{Occ}
@@ -14,7 +14,7 @@ use Rattle.scheme_model.specs.Matching.{Chosen}
 use Rattle.scheme_model.specs.Building.{Built, build_tree, within, or_lengths}
 use Rattle.scheme_model.specs.Cores.{Target}
 use Rattle.scheme_model.specs.Steps.{Broken, ◌>>=◌, done}
-use Rattle.scheme_model.specs.Order.{Transformer, given, use_of}
+use Rattle.scheme_model.specs.Order.{WaitingUse, Instance, Transformer, given, use_of}
 use Rattle.scheme_model.specs.Order as order
 use Rattle.scheme_model.specs.ScopedExpansion.{Frames, ScopedState, next_number}
 use Rattle.scheme_model.proofs.Distinct.{ok_same}
@@ -50,24 +50,24 @@ small_build (Some b) left c h = small_within left b c h
 small_instance : (r : Rules Identifier) (k : Number) (m : Chosen Identifier Identifier) (left : ℕ) (c : Built (Tree Identifier)) → instance r k m left ≡ Ok c → IsSmall c.value
 small_instance r k m left c h = small_build (build_tree (record { same = same_ident; insert = λ i. Inserted i k }) (dots_of identifiers r) m.rule.template m.match.bindings) left c h
 
-given_ok : (here : Option Occ) (r : Result (Built (Tree Identifier)) (Fault Identifier)) (next : Built (Tree Identifier) → ScopedState → ScopedState) (s : ScopedState) (t : Tree Identifier) →
-    (given (λ (i : Identifier). i) here r s >>= λ b u. done b.value (next b u)).0 ≡ Ok t → (b : Built (Tree Identifier)) × (r ≡ Ok b) × (b.value ≡ t)
-given_ok here (Ok b) next s t h = (b, refl, ok_same Broken b.value t h)
-given_ok here (Err e) next s t h = absurd cc
+given_ok : (here : Option Occ) (r : Result (Built (Tree Identifier)) (Fault Identifier)) (w : WaitingUse Identifier) (next : Built (Tree Identifier) → ScopedState → ScopedState) (s : ScopedState) (i : Instance Identifier) →
+    (given (λ (i : Identifier). i) here r s >>= λ b u. done (record { tree = b.value; met = w }) (next b u)).0 ≡ Ok i → (b : Built (Tree Identifier)) × (r ≡ Ok b) × (b.value ≡ i.tree)
+given_ok here (Ok b) w next s i h = (b, refl, ap (λ (x : Instance Identifier). x.tree) (ok_same Broken (record { tree = b.value; met = w }) i h))
+given_ok here (Err e) w next s i h = absurd cc
 
-module _ (known : Known) (here : Option Occ) (fs : Frames) (keyword : Target) (m : Transformer Frames Identifier) (ts : Trees Identifier) (tail : Tail Identifier) (s : ScopedState) (t : Tree Identifier) where
-  abbrev matched_step : Option (Chosen Identifier Identifier) → Result (Tree Identifier) Broken × ScopedState
-  matched_step o = order.used (searched known) here fs keyword m (next_number s s.uses) o (used m.env s)
+module _ (known : Known) (here : Option Occ) (fs : Frames) (keyword : Target) (m : Transformer Frames Identifier) (ts : Trees Identifier) (tail : Tail Identifier) (s : ScopedState) (i : Instance Identifier) where
+  abbrev matched_step : Option (Chosen Identifier Identifier) → Result (Instance Identifier) Broken × ScopedState
+  matched_step o = order.used (searched known) here keyword m (next_number s s.uses) o (used m.env s)
 
-  small_matched : (o : Option (Chosen Identifier Identifier)) → (matched_step o).0 ≡ Ok t → IsSmall t
+  small_matched : (o : Option (Chosen Identifier Identifier)) → (matched_step o).0 ≡ Ok i → IsSmall i.tree
   small_matched None h = absurd cc
   small_matched (Some c) h =
-      let g = given_ok here (instance m.rules (next_number s s.uses) c (200000 - s.nodes s.form)) _ (used m.env s) t h in
+      let g = given_ok here (instance m.rules (next_number s s.uses) c (200000 - s.nodes s.form)) _ _ (used m.env s) i h in
       subst IsSmall g.2 (small_instance m.rules (next_number s s.uses) c (200000 - s.nodes s.form) g.0 g.1)
 
-  small_by : (b : Bool) → (cond b (matched_step (match_of_use s fs m ts tail)) (Err (record { fault = UseBudget; here = here }), s)).0 ≡ Ok t → IsSmall t
+  small_by : (b : Bool) → (cond b (matched_step (match_of_use s fs m ts tail)) (Err (record { fault = UseBudget; here = here }), s)).0 ≡ Ok i → IsSmall i.tree
   small_by true h = small_matched (match_of_use s fs m ts tail) h
   small_by false h = absurd cc
 
-  pub use_small : (use_of (searched known) here fs keyword m ts tail s).0 ≡ Ok t → tree_size t ≤ 4194304
+  pub use_small : (use_of (searched known) here fs keyword m ts tail s).0 ≡ Ok i → tree_size i.tree ≤ 4194304
   use_small h = small_by (nat_lt (s.uses s.form) 10000) h

@@ -108,4 +108,4 @@ EndsIn P work u v ls spot fs (Err fault.Memory) p = Unit {0}
 -- names are defined one after another, each a variable
 abbrev pub define_each : {E A L S : Type 0} → Ops E A L S → Here → E → List (Named A) → Pending A L → Step S (List Binder)
 define_each ops here e [] p s = done [] s
-define_each ops here e (n ∷ ns) p s = told here (ops.define n None e p s) >>= λ q t. define_each ops here e ns p t >>= λ bs. done (binder_at ops e s n ∷ bs)
+define_each ops here e (n ∷ ns) p s = told here (ops.define n None e p s) >>= λ made t. define_each ops here e ns p t >>= λ bs. done (binder_at ops e s n ∷ bs)

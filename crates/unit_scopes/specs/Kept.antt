@@ -5,7 +5,7 @@ use Rattle.scheme_model.specs.Identifiers.{Number}
 use Rattle.scheme_model.specs.Ident.{Ident as Identifier}
 use Rattle.scheme_model.specs.Measures.{tree_size, trees_size}
 use Rattle.scheme_model.specs.Expression.{meaning_of}
-use Rattle.scheme_model.specs.Order.{Form, Item, Expression, Value, Function, Assigned, AssignedFunction, ValuesOf, Record, Macro, Note, LookedUp, Compared, Pending}
+use Rattle.scheme_model.specs.Order.{Form, Item, Expression, Value, Function, Assigned, AssignedFunction, ValuesOf, Record, Macro, Note, LookedUp, Compared, WaitingUse, Pending}
 use Rattle.scheme_model.specs.Shapes.{Clause}
 use Rattle.scheme_model.specs.ScopedExpansion.{Enter, Frames, FramedIdent, ScopedState}
 use Rattle.syntax_tree.specs.Macros.{IsIdent}
@@ -17,7 +17,7 @@ use Rattle.core_forms.specs.Parts.{IsName, IsClause}
 use Rattle.core_forms.specs.Named.{ClauseNamed}
 use Rattle.core_forms.specs.declared.shape.ClauseShape as code_clause
 use Rattle.core_forms.specs.declared.shape.NamePart as code_name
-use Rattle.core_tree.specs.Names.{AllMatch, IsBinder, IsField}
+use Rattle.core_tree.specs.Names.{AllMatch, IsBinder, IsField, IsTarget}
 use Rattle.core_tree.specs.Cores.{AreBinders}
 use Rattle.core_tree.specs.declared.cores.Binder as code_binder
 use Rattle.core_tree.specs.declared.cores.FieldUse as code_field
@@ -33,6 +33,7 @@ use Rattle.form_parts.specs.declared.items.Kept as code_kept
 use Rattle.form_parts.specs.declared.items.Kept.TheVariants as kept
 use Rattle.form_parts.specs.declared.items.Pending as code_pending
 use Rattle.form_parts.specs.declared.items.Spot as code_spot
+use Rattle.form_parts.specs.declared.items.WaitingUse as code_waiting
 use Rattle.unit_scopes.specs.declared.scope.UnitScope.{UnitScope}
 
 -- ---- forms, and what is set aside
@@ -66,10 +67,16 @@ KeptFor work region unit form k (Record r) =
 KeptFor work region unit form k (Macro b here) =
     (x : code_binder.Binder) × (m : code_meaning.Meaning) × (k ≡ kept.Macro x m) × IsBinder work.symbols unit form x b × IsMeaning work.symbols unit form m (meaning_of b.bound b.ident)
 
+-- a macro use that waits, in a form of a unit
+pub record WaitsFor (work : Work) (unit form : ℕ) (u : code_waiting.WaitingUse) (m : WaitingUse Identifier) : Type 0 where
+  pub keyword : IsTarget work.symbols unit form u.keyword m.keyword
+  pub literals : AllMatch (IsName work) u.literals.items m.literals
+
 -- the next form is the last of the code's list
 pub record PendingFor (work : Work) (region : Region) (unit form : ℕ) (q : code_pending.Pending) (p : Pending Identifier FramedIdent) : Type 0 where
   pub todo : AllMatch (FormFor work region) (reverse q.todo.items) p.todo
   pub aside : AllMatch (KeptFor work region unit form) q.aside.items p.aside
+  pub uses : AllMatch (WaitsFor work unit form) q.uses.items p.uses
 
 -- ---- notes
 

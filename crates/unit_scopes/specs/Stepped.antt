@@ -47,6 +47,10 @@ with_keyword u t = record u { form = record u.form { trace = record u.form.trace
 abbrev pub with_met : UnitScope → code_use.MacroUse → UnitScope
 with_met u k = record u { form = record u.form { trace = record u.form.trace { uses = u.form.trace.uses ++ k ∷ [] } } }
 
+-- the form's list of uses
+abbrev pub with_uses : UnitScope → List code_use.MacroUse → UnitScope
+with_uses u ks = record u { form = record u.form { trace = record u.form.trace { uses = ks } } }
+
 -- ---- binders
 
 abbrev pub after : Number → Number

@@ -1,12 +1,12 @@
 -- The calls of the expander on the forms of units (R7RS 5.1, 5.3, 5.6).
-use Rattle.std.specs.Prelude.{◌≡◌, ℕ, ◌+◌, ◌≤◌, List, [], ◌∷◌, Result, Ok, Err, None}
+use Rattle.std.specs.Prelude.{◌≡◌, ℕ, ◌+◌, ◌≤◌, List, [], Result, Ok, Err}
 use Rattle.scheme_model.specs.Ident.{Ident as Identifier}
 use Rattle.scheme_model.specs.Trees.{Tree}
 use Rattle.scheme_model.specs.Cores.{Part}
 use Rattle.scheme_model.specs.Steps.{Broken}
-use Rattle.scheme_model.specs.Order.{Item, Note, Pass, run}
+use Rattle.scheme_model.specs.Order.{Item, WaitingUse, Left, Note, Pass, meet_all, run}
 use Rattle.scheme_model.specs.Expression.{expand, item_part}
-use Rattle.scheme_model.specs.UnitExpansion.{max_depth}
+use Rattle.scheme_model.specs.UnitExpansion.{max_depth, one_form}
 use Rattle.scheme_model.specs.Program.{enough_turns}
 use Rattle.scheme_model.specs.Requirements.{Known}
 use Rattle.scheme_model.specs.ScopedExpansion.{Frames, FramedIdent, ScopedState}
@@ -19,7 +19,7 @@ use Rattle.core_tree.specs.Names.{AllMatch}
 use Rattle.core_tree.specs.Traces.{IsFault}
 use Rattle.core_tree.specs.declared.traces.Trace.{Trace}
 use Rattle.core_tree.specs.declared.units.ExpandedItem.{ExpandedItem}
-use Rattle.unit_scopes.specs.Kept.{KeptFor, NotesFor}
+use Rattle.unit_scopes.specs.Kept.{KeptFor, NotesFor, WaitsFor}
 use Rattle.unit_scopes.specs.Outcomes.{At, SameForm, Stays, Leaves, MayFill}
 use Rattle.unit_scopes.specs.Searched.{searched}
 use Rattle.unit_scopes.specs.State.{FormStands, Rests, Stands, most_locals}
@@ -27,6 +27,7 @@ use Rattle.unit_scopes.specs.Stepped.{turned}
 use Rattle.feature_requirements.specs.declared.fault.ExpandFault.{ExpandFault}
 use Rattle.feature_requirements.specs.declared.fault.ExpandFault.TheVariants as fault
 use Rattle.form_parts.specs.declared.items.Item as code_item
+use Rattle.form_parts.specs.declared.items.Left as code_left
 use Rattle.unit_scopes.specs.declared.scope.Budget.{Budget}
 use Rattle.unit_scopes.specs.declared.scope.FormAtWork.{FormAtWork}
 use Rattle.unit_scopes.specs.declared.scope.UnitScope.{UnitScope}
@@ -53,6 +54,11 @@ HasSpace more b = b.locals + more ≤ most_locals b.nodes
 -- what a form of the unit set aside
 abbrev pub ItemFor : Work → Region → (unit form : ℕ) → code_item.Item → Item Identifier → Type 0
 ItemFor work region unit form x i = KeptFor work region unit form x.kept i
+
+-- what is left of a form of the unit once it was gone through
+pub record LeftFor (work : Work) (region : Region) (unit form : ℕ) (x : code_left.Left) (l : Left Identifier) : Type 0 where
+  pub uses : AllMatch (WaitsFor work unit form) x.uses.items l.uses
+  pub items : AllMatch (ItemFor work region unit form) x.items l.items
 
 -- ---- what calls leave
 
@@ -81,20 +87,20 @@ Counts u v (Err (fault.At e)) = SameForm u v
 Counts u v (Err fault.Full) = Unit {0}
 Counts u v (Err fault.Memory) = Unit {0}
 
--- what a form sets aside, or its fault
-abbrev pub Declares : Work → Work → Region → UnitScope → UnitScope → Budget → Budget → List Frames → (number : ℕ) → Trace → Result (List code_item.Item) ExpandFault → Pass Identifier FramedIdent × ScopedState → Type 0
-Declares old new region u v before after ls number trace (Ok xs) p =
-    (is : List (Item Identifier)) × (p.0.items ≡ Ok is) × Goes old new region u v before after ls number trace p.0.notes p.1 × AllMatch (ItemFor new region v.unit number) xs is
+-- what is left of a form, or its fault
+abbrev pub Declares : Work → Work → Region → UnitScope → UnitScope → Budget → Budget → List Frames → (number : ℕ) → Trace → Result code_left.Left ExpandFault → Pass Identifier FramedIdent × ScopedState → Type 0
+Declares old new region u v before after ls number trace (Ok x) p =
+    (l : Left Identifier) × (p.0.left ≡ Ok l) × Goes old new region u v before after ls number trace p.0.notes p.1 × LeftFor new region v.unit number x l
 Declares old new region u v before after ls number trace (Err (fault.At e)) p =
-    (b : Broken) × (p.0.items ≡ Err b) × Goes old new region u v before after ls number trace p.0.notes p.1 × IsFault new.symbols p.1.unit number e b
+    (b : Broken) × (p.0.left ≡ Err b) × Goes old new region u v before after ls number trace p.0.notes p.1 × IsFault new.symbols p.1.unit number e b
 Declares old new region u v before after ls number trace (Err fault.Full) p = Unit {0}
 Declares old new region u v before after ls number trace (Err fault.Memory) p = Unit {0}
 
 -- the same while the form is at work
-abbrev pub Sets : Work → Work → Region → UnitScope → UnitScope → List Frames → Result (List code_item.Item) ExpandFault → Pass Identifier FramedIdent × ScopedState → Type 0
-Sets old new region u v ls (Ok xs) p =
-    (is : List (Item Identifier)) × (p.0.items ≡ Ok is) × Stays old new region u v ls p.1 × NotesFor new ls v.asked p.0.notes × AllMatch (ItemFor new region v.unit v.form.number) xs is
-Sets old new region u v ls (Err (fault.At e)) p = (b : Broken) × (p.0.items ≡ Err b) × Stays old new region u v ls p.1 × NotesFor new ls v.asked p.0.notes × IsFault new.symbols p.1.unit p.1.form e b
+abbrev pub Sets : Work → Work → Region → UnitScope → UnitScope → List Frames → Result code_left.Left ExpandFault → Pass Identifier FramedIdent × ScopedState → Type 0
+Sets old new region u v ls (Ok x) p =
+    (l : Left Identifier) × (p.0.left ≡ Ok l) × Stays old new region u v ls p.1 × NotesFor new ls v.asked p.0.notes × LeftFor new region v.unit v.form.number x l
+Sets old new region u v ls (Err (fault.At e)) p = (b : Broken) × (p.0.left ≡ Err b) × Stays old new region u v ls p.1 × NotesFor new ls v.asked p.0.notes × IsFault new.symbols p.1.unit p.1.form e b
 Sets old new region u v ls (Err fault.Full) p = Leaves old new region u × MayFill old u
 Sets old new region u v ls (Err fault.Memory) p = Leaves old new region u
 
@@ -127,10 +133,14 @@ pub record CanSet (work : Work) (u : UnitScope) : Type 0 where
 -- ---- the definition's steps
 
 abbrev pub set_aside : Known → Tree Identifier → List (Note FramedIdent) → ScopedState → Pass Identifier FramedIdent × ScopedState
-set_aside known t notes s = run (searched known) enough_turns [] (record { todo = record { here = None; tree = t } ∷ []; aside = []; notes = notes }) s
+set_aside known t notes s = run (searched known) enough_turns [] (one_form t notes) s
 
 abbrev pub declared : Known → (number : ℕ) → Tree Identifier → List (Note FramedIdent) → ScopedState → Pass Identifier FramedIdent × ScopedState
 declared known number t notes s = set_aside known t notes (turned number s)
+
+-- the macro uses of a form are met
+abbrev pub uses_met : Known → (number : ℕ) → List (WaitingUse Identifier) → ScopedState → ScopedState
+uses_met known number us s = meet_all (searched known) [] us (turned number s)
 
 abbrev pub expanded : Known → (number : ℕ) → Item Identifier → ScopedState → Result Part Broken × ScopedState
 expanded known number i s = item_part (expand (searched known) enough_turns) (searched known) max_depth [] i (turned number s)

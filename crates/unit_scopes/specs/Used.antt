@@ -1,5 +1,5 @@
 -- A macro use in the code, and its comparisons (R7RS 4.3.2).
-use Rattle.std.specs.Prelude.{◌≡◌, ◌⊎◌, ℕ, ◌+◌, ◌-◌, ◌==◌, ◌≤◌, ◌&&◌, List, [], ◌∷◌, Bool, false, Some, None, Option, Result, Ok, Err}
+use Rattle.std.specs.Prelude.{◌≡◌, ◌⊎◌, ℕ, ◌+◌, ◌-◌, ◌==◌, ◌≤◌, ◌&&◌, List, [], ◌∷◌, map, Bool, false, Some, None, Option, Result, Ok, Err}
 use Rattle.scheme_model.specs.declared.Occ.{Occ}
 use Rattle.scheme_model.specs.Identifiers.{Number}
 use Rattle.scheme_model.specs.ExpansionFaults.{Named, Fault, EllipsisLength, NodeBudget, DepthBudget}
@@ -9,8 +9,8 @@ use Rattle.scheme_model.specs.Building.{Built}
 use Rattle.scheme_model.specs.Ident.{Ident as Identifier}
 use Rattle.scheme_model.specs.Trees.{Tree, list, Trees, tree, Tail}
 use Rattle.scheme_model.specs.Meaning.{same_meaning}
-use Rattle.scheme_model.specs.Cores.{Target}
-use Rattle.scheme_model.specs.Order.{Note, Compared, Transformer}
+use Rattle.scheme_model.specs.Cores.{Target, MacroUse}
+use Rattle.scheme_model.specs.Order.{Note, Compared, WaitingUse, Instance, Transformer}
 use Rattle.scheme_model.specs.CountedExpansion.{means_here}
 use Rattle.scheme_model.specs.ScopedExpansion.{Frames, FramedIdent, ScopedState, macro_at}
 use Rattle.syntax_tree.specs.Macros.{identifiers, MatchedFor}
@@ -28,8 +28,8 @@ use Rattle.rules_build.specs.declared.fault.BuildFault.TheVariants as builds
 use Rattle.rules_match.specs.Matches.{means_same}
 use Rattle.core_tree.specs.Names.{IsTarget}
 use Rattle.unit_scopes.specs.State.{Stands}
-use Rattle.unit_scopes.specs.Kept.{NoteFor}
-use Rattle.unit_scopes.specs.Outcomes.{At, MayFill}
+use Rattle.unit_scopes.specs.Kept.{NoteFor, WaitsFor}
+use Rattle.unit_scopes.specs.Outcomes.{At, MayFill, WorksOn}
 use Rattle.feature_requirements.specs.Faults.{plain_fault}
 use Rattle.unit_scopes.specs.Counts.{with_nodes}
 use Rattle.unit_scopes.specs.Macros.{macro_in}
@@ -40,6 +40,7 @@ use Rattle.unit_scopes.specs.declared.asked.Note as code_note
 use Rattle.unit_scopes.specs.declared.asked.Note.TheVariants as notes
 use Rattle.unit_scopes.specs.declared.scope.UnitScope.{UnitScope}
 use Rattle.unit_scopes.specs.declared.uses.Comparison.{Comparison}
+use Rattle.unit_scopes.specs.declared.uses.Instance as code_instance
 use Rattle.unit_scopes.specs.declared.uses.Use as code
 
 -- the keyword means this macro, and these are the parts and the tail behind it
@@ -129,6 +130,14 @@ use_number u = record { unit = u.unit; form = u.form.number; count = u.form.budg
 -- an identifier where it is used
 abbrev pub target_at : ScopedState → Frames → Named Identifier → Target
 target_at s fs n = record { meaning = means_here s fs n.name; ident = n.name; occ = n.occ }
+
+-- a use that waited, with what its literals mean by now
+abbrev pub met_at : ScopedState → Frames → WaitingUse Identifier → MacroUse
+met_at s fs w = record { keyword = w.keyword; literals = map (target_at s fs) w.literals }
+
+-- what a use gives: the instance, and the use, which is still to be met
+abbrev pub InstanceFor : Work → Region → (unit form : ℕ) → code_instance.Instance → Instance Identifier → Type 0
+InstanceFor work region unit form x i = WorksOn work region x.tree i.tree × WaitsFor work unit form x.met i.met
 
 -- why an instance wasn't built
 abbrev pub build_fault : Option Occ → BuildFault → ExpandFault

@@ -8,9 +8,9 @@ ghost use Rattle.scheme_model.specs.Ident.{Ident as Identifier};
 ghost use Rattle.scheme_model.specs.Meaning.{Meaning as ModelMeaning};
 ghost use Rattle.scheme_model.specs.Requirements.{Known};
 ghost use Rattle.scheme_model.specs.RulesShape.{Rules};
-ghost use Rattle.scheme_model.specs.Order.{Note as ModelNote, Pending, binder_at, told};
+ghost use Rattle.scheme_model.specs.Order.{Note as ModelNote, Pending, Renamed, binder_at, told};
 ghost use Rattle.scheme_model.specs.ScopedExpansion.{Frames, FramedIdent, ScopedState, body_around, meaning_next, is_defined, assigned};
-ghost use Rattle.scheme_model.specs.Substitution.{any, differ};
+ghost use Rattle.scheme_model.specs.Substitution.{any, differ, unchanged};
 ghost use Rattle.syntax_tree.specs.Macros.{IsIdent};
 ghost use Rattle.syntax_tree.specs.Meant.{IsMeaning};
 ghost use Rattle.syntax_tree.specs.declared.trees.Work.{Work as AnyWork};
@@ -92,7 +92,7 @@ impl UnitScope {
         requires room { self.old.form.budget.locals + 1 ≤ most_locals self.old.form.budget.nodes }
         ensures defined { (known : Known) (ls : List Frames) (s : ScopedState) (fs : Frames) (n : Named Identifier) (r : Option (Rules Identifier)) (p : Pending Identifier FramedIdent) →
             Stands work.now self.old ls s → SpotFor work.now self.old ls s spot fs → IsName work.now name n → IsKept work.now ls fs kept r → NotesFor work.now ls asked.now p.notes →
-            EndsIn (λ (done : Unit {0}) (q : Pending Identifier FramedIdent). q ≡ p) work.now self.old self.new ls spot fs result (told here ((searched known).define n r fs p s)) }
+            EndsIn (λ (done : Unit {0}) (made : Renamed Identifier FramedIdent). made ≡ unchanged p) work.now self.old self.new ls spot fs result (told here ((searched known).define n r fs p s)) }
         ensures counts { OnOk result (Takes 1 self.old self.new) }
     {
         work.symbols.told_apart();

@@ -1,8 +1,8 @@
 //! Macro uses (R7RS 4.3.2): which literals mean the same, the rule that matches, and the instance of its template.
-ghost use Rattle.std.specs.Prelude.{◌≡◌, map, filter, Option, Some, IfOk, ◌+◌, List, OnOk, ◌≤◌, ◌<◌, ◌-◌, [], ◌∷◌, ◌++◌, length, IfSome};
+ghost use Rattle.std.specs.Prelude.{◌≡◌, ℕ, true, map, filter, Option, Some, IfOk, ◌+◌, List, OnOk, ◌≤◌, ◌<◌, ◌-◌, [], ◌∷◌, ◌++◌, length, IfSome};
 ghost use Rattle.scheme_model.specs.declared.Occ.{Occ};
 ghost use Rattle.scheme_model.specs.Trees.{Trees, Tail, name};
-ghost use Rattle.scheme_model.specs.Order.{Transformer, comparisons, use_of};
+ghost use Rattle.scheme_model.specs.Order.{Transformer, WaitingUse as ModelWaiting, comparisons, has_use, use_of, meet_waiting, meet_all};
 ghost use Rattle.scheme_model.specs.Ident.{Ident as Identifier};
 ghost use Rattle.syntax_tree.specs.Works.{StandsFor, CanName, IsOpened};
 ghost use Rattle.scheme_model.specs.ExpansionFaults.{Named};
@@ -15,22 +15,26 @@ ghost use Rattle.syntax_tree.specs.Macros.{identifiers, IsIdent, RulesFor, Match
 ghost use Rattle.core_tree.specs.Names.{AllMatch, IsTarget};
 ghost use Rattle.unit_scopes.specs.Searched.{searched};
 ghost use Rattle.unit_scopes.specs.State.{Stands};
-ghost use Rattle.unit_scopes.specs.Used.{UseFor, CanUse, ComparisonFor, AreHeld, comparison_of, match_of_use, use_number, target_at, meanings_equal, build_fault, FindsUse, HasMatch, Instances};
-ghost use Rattle.unit_scopes.specs.Outcomes.{At, WorksOn, EndsHere, CanLook, Grows};
+ghost use Rattle.unit_scopes.specs.Used.{UseFor, CanUse, ComparisonFor, AreHeld, comparison_of, match_of_use, use_number, target_at, meanings_equal, build_fault, FindsUse, HasMatch, InstanceFor, Instances};
+ghost use Rattle.unit_scopes.specs.Kept.{WaitsFor};
+ghost use Rattle.core_forms.specs.Parts.{IsName};
+ghost use Rattle.core_forms.specs.declared.shape.NamePart.{NamePart as AnyName};
+ghost use Rattle.unit_scopes.specs.Outcomes.{At, EndsHere, CanLook, Grows};
 ghost use Rattle.syntax_tree.specs.Numbered.{number_of};
 ghost use Rattle.syntax_tree.specs.declared.trees.table.Region.{Region as AnyRegion};
 ghost use Rattle.rules_match.specs.Matches.{ArePairs};
 ghost use Rattle.rules_build.specs.Builds.{instance};
-ghost use Rattle.core_tree.specs.declared.cores.Target.{Target as AnyTarget};
 ghost use Rattle.unit_scopes.specs.Macros.{macro_in};
-ghost use Rattle.unit_scopes.specs.Stepped.{with_use_begun};
+ghost use Rattle.unit_scopes.specs.Stepped.{with_use_begun, with_uses};
 ghost use Rattle.unit_scopes.specs.declared.macros.Macro.{Macro as AnyMacro};
 
 use crate::counting::MAX_NODES;
 use crate::scope::UnitScope;
+use core_forms::NamePart;
 use core_tree::cores::Target;
 use core_tree::traces::MacroUse;
 use feature_requirements::fault::{ExpandFault, code, fails};
+use form_parts::items::WaitingUse;
 use form_parts::names::{name_at, name_of};
 use ls_base::{Items, Mem, Memory};
 use rules_build::{BuildFault, build};
@@ -55,6 +59,13 @@ pub struct Use {
     pub form: Tree,
 }
 
+/// What a macro use gives: its tree, and the use, which is still to be met.
+#[derive(Drop)]
+pub struct Instance {
+    pub tree: Tree,
+    pub met: WaitingUse,
+}
+
 /// A literal of rules and the identifier at its place, and whether they mean the same.
 #[derive(Clone, Copy)]
 pub struct Comparison {
@@ -63,7 +74,7 @@ pub struct Comparison {
 }
 
 impl UnitScope {
-    /// The comparisons of a use, and the scope of its macro.
+    /// The comparisons of a use, and the scope of its macro. One that the budget refuses has none.
     pub fn compare(&self, alloc: Global, work: &Work, at: Use) -> Mem<(ScopeNo, Vec<Comparison>)>
         requires { CanUse work.now self.now at }
         ensures { (known : Known) (ls : List Frames) (s : ScopedState) (fs : Frames) (keyword : ModelTarget) (m : Transformer Frames Identifier) (ts : Trees Identifier) (tail : Tail Identifier) →
@@ -73,6 +84,9 @@ impl UnitScope {
         let Some(used) = self.macros.meaning(self.form.number, at.keyword.meaning) else {
             return Ok((at.scope, Vec::new(alloc)));
         };
+        if self.form.budget.uses == MAX_USES {
+            return Ok((used.scope, Vec::new(alloc)));
+        }
         let pairs = literal_pairs(alloc, work, &used.rules, at.form)?;
         let comparisons = self.compare_each(alloc, work, used.scope, at.scope, pairs.as_slice())?;
         Ok((used.scope, comparisons))
@@ -124,7 +138,7 @@ impl UnitScope {
         }
     }
 
-    /// The tree that a use gives, where these literals mean the same as the identifiers at their places.
+    /// What a use gives, where these literals mean the same as the identifiers at their places.
     pub fn apply(
         &mut self,
         alloc: Global,
@@ -132,14 +146,14 @@ impl UnitScope {
         region: &Region,
         at: Use,
         same: &Items<IdPair>,
-    ) -> Result<Tree, ExpandFault>
+    ) -> Result<Instance, ExpandFault>
         requires opened { IsOpened work.old region.now }
         requires usable { CanUse work.old self.old at }
         requires named { CanName work.old region.now at.form }
         ensures used { (known : Known) (ls : List Frames) (s : ScopedState) (fs : Frames) (keyword : ModelTarget) (m : Transformer Frames Identifier) (ts : Trees Identifier) (tail : Tail Identifier) →
             Stands work.old self.old ls s → At ls at.scope fs → UseFor work.old s at keyword m ts tail →
-            AreHeld work.old s m.env fs same.now (compared (role_of identifiers m.rules) (dots_of identifiers m.rules) m.rules.rules ts tail) →
-            EndsHere (WorksOn work.new region.now) work.old work.new region.now self.old self.new ls result (use_of (searched known) at.here fs keyword m ts tail s) }
+            (has_use (searched known) s ≡ true → AreHeld work.old s m.env fs same.now (compared (role_of identifiers m.rules) (dots_of identifiers m.rules) m.rules.rules ts tail)) →
+            EndsHere (InstanceFor work.new region.now self.new.unit self.new.form.number) work.old work.new region.now self.old self.new ls result (use_of (searched known) at.here fs keyword m ts tail s) }
         ensures counted { OnOk result (self.new.form.budget.uses ≡ self.old.form.budget.uses + 1) }
         ensures locals { OnOk result (self.new.form.budget.locals ≡ self.old.form.budget.locals) }
         ensures scopes { self.new.env.scopes ≡ self.old.env.scopes }
@@ -155,12 +169,14 @@ impl UnitScope {
         };
         let tree = self.instance(alloc, work, region, at, number, &matched)?;
         work.symbols.told_apart();
-        let met = self.met(alloc, work, at.scope, matched.literals.as_slice())?;
-        self.form.trace.uses.push(MacroUse {
-            keyword: at.keyword,
-            literals: met,
-        })?;
-        Ok(tree)
+        let literals = leaf_names(alloc, work, matched.literals.as_slice())?;
+        Ok(Instance {
+            tree,
+            met: WaitingUse {
+                keyword: at.keyword,
+                literals,
+            },
+        })
     }
 
     /// The rule that a use matches, where one does.
@@ -247,33 +263,87 @@ impl UnitScope {
         }
     }
 
-    /// The leaves of a use that met a literal, and what they mean.
-    fn met(&self, alloc: Global, work: &Work, scope: ScopeNo, leaves: &[Tree]) -> Mem<Vec<Target>>
+    /// Identifiers where they are used.
+    fn targets(
+        &self,
+        alloc: Global,
+        work: &Work,
+        scope: ScopeNo,
+        names: &[NamePart],
+    ) -> Mem<Vec<Target>>
         requires look { CanLook work.now self.now scope }
-        requires leaves { (ns : List (Named Identifier)) × AreLeaves work.now leaves.now ns }
-        ensures { (ls : List Frames) (s : ScopedState) (fs : Frames) (ns : List (Named Identifier)) → Stands work.now self.now ls s → At ls scope fs → AreLeaves work.now leaves.now ns →
-            IfOk result (λ met. AllMatch (IsTarget work.now.symbols s.unit s.form) met.items (map (target_at s fs) ns)) }
+        requires names { (ns : List (Named Identifier)) × AllMatch (IsName work.now) names.now ns }
+        ensures { (ls : List Frames) (s : ScopedState) (fs : Frames) (ns : List (Named Identifier)) → Stands work.now self.now ls s → At ls scope fs → AllMatch (IsName work.now) names.now ns →
+            IfOk result (λ targets. AllMatch (IsTarget work.now.symbols s.unit s.form) targets.items (map (target_at s fs) ns)) }
     {
-        let mut met = Vec::new(alloc);
-        for leaf in leaves {
-            self.add_met(work, scope, *leaf, &mut met)?;
+        let mut targets = Vec::new(alloc);
+        for name in names {
+            targets.push(self.target(work, scope, *name))?;
         }
-        Ok(met)
+        Ok(targets)
     }
 
-    /// Adds an identifier with what it means.
-    fn add_met(&self, work: &Work, scope: ScopeNo, leaf: Tree, met: &mut Vec<Target>) -> Mem<()>
-        requires look { CanLook work.now self.now scope }
-        requires leaf { (n : Named Identifier) × StandsFor work.now leaf (name n.name n.occ) }
-        ensures { (ls : List Frames) (s : ScopedState) (fs : Frames) (n : Named Identifier) → Stands work.now self.now ls s → At ls scope fs → StandsFor work.now leaf (name n.name n.occ) →
-            OnOk result ((t : AnyTarget) × (met.new.items ≡ met.old.items ++ t ∷ []) × IsTarget work.now.symbols s.unit s.form t (target_at s fs n)) }
+    /// A macro use is met, with what its literals mean by now.
+    pub fn meet(&mut self, alloc: Global, work: &Work, scope: ScopeNo, used: &WaitingUse) -> Mem<()>
+        requires look { CanLook work.now self.old scope }
+        requires waits { (w : ModelWaiting Identifier) × WaitsFor work.now self.old.unit self.old.form.number used.now w }
+        ensures met { (known : Known) (ls : List Frames) (s : ScopedState) (fs : Frames) (w : ModelWaiting Identifier) → Stands work.now self.old ls s → At ls scope fs →
+            WaitsFor work.now self.old.unit self.old.form.number used.now w →
+            OnOk result (Stands work.now self.new ls (meet_waiting (searched known) fs w s)) }
+        ensures rest { OnOk result (self.new ≡ with_uses self.old self.new.form.trace.uses) }
     {
-        let Some(name) = name_at(work, leaf) else {
-            return Ok(());
-        };
-        met.push(self.target(work, scope, name))?;
+        let literals = self.targets(alloc, work, scope, used.literals.as_slice())?;
+        self.form.trace.uses.push(MacroUse {
+            keyword: used.keyword,
+            literals,
+        })?;
         Ok(())
     }
+
+    /// Macro uses are met, one after another.
+    pub fn meet_all(
+        &mut self,
+        alloc: Global,
+        work: &Work,
+        scope: ScopeNo,
+        uses: &[WaitingUse],
+    ) -> Mem<()>
+        requires look { CanLook work.now self.old scope }
+        requires waits { (us : List (ModelWaiting Identifier)) × AllMatch (WaitsFor work.now self.old.unit self.old.form.number) uses.now us }
+        ensures met { (known : Known) (ls : List Frames) (s : ScopedState) (fs : Frames) (us : List (ModelWaiting Identifier)) → Stands work.now self.old ls s → At ls scope fs →
+            AllMatch (WaitsFor work.now self.old.unit self.old.form.number) uses.now us →
+            OnOk result (Stands work.now self.new ls (meet_all (searched known) fs us s)) }
+        ensures rest { OnOk result (self.new ≡ with_uses self.old self.new.form.trace.uses) }
+    {
+        for used in uses {
+            self.meet(alloc, work, scope, used)?;
+        }
+        Ok(())
+    }
+}
+
+/// The identifiers that leaves are, with their places.
+fn leaf_names(alloc: Global, work: &Work, leaves: &[Tree]) -> Mem<Vec<NamePart>>
+    requires { (ns : List (Named Identifier)) × AreLeaves work.now leaves.now ns }
+    ensures { (ns : List (Named Identifier)) → AreLeaves work.now leaves.now ns → IfOk result (λ names. AllMatch (IsName work.now) names.items ns) }
+{
+    let mut names = Vec::new(alloc);
+    for leaf in leaves {
+        add_name(work, *leaf, &mut names)?;
+    }
+    Ok(names)
+}
+
+/// Adds the identifier that a leaf is.
+fn add_name(work: &Work, leaf: Tree, names: &mut Vec<NamePart>) -> Mem<()>
+    requires { (n : Named Identifier) × StandsFor work.now leaf (name n.name n.occ) }
+    ensures { (n : Named Identifier) → StandsFor work.now leaf (name n.name n.occ) → OnOk result ((x : AnyName) × (names.new.items ≡ names.old.items ++ x ∷ []) × IsName work.now x n) }
+{
+    let Some(name) = name_at(work, leaf) else {
+        return Ok(());
+    };
+    names.push(name)?;
+    Ok(())
 }
 
 /// Whether two identifiers mean the same.

@@ -36,7 +36,7 @@ define-requires c =
     let ns = c.requires.names.0 in
     let names = c.args.names.now in
     let k = c.loop-name.name-index in
-    let p : Pending Identifier FramedIdent = record { todo = []; aside = []; notes = can.found } in
+    let p : Pending Identifier FramedIdent = record { todo = []; aside = []; uses = []; notes = can.found } in
     let so = c.loop-name.invariant.so_far nothing_known can.layout can.state can.frames ns p can.stands can.placed c.requires.names.1 can.notes in
     let n = matched_here (IsName work) names ns k no_part c.requires.names.1 c.loop-name-test.true in
     let takes = c.loop-name.invariant.takes in

@@ -132,12 +132,12 @@ returns c = λ known region ls s fs m p given knows stands placed is pending not
     let places = c.in_ok-places.ensures work m.fields (subst (λ (l : List FieldShape). forms.AllMatch (IsField work) l m.fields) (sym c.deref-3.ensures.value) is.fields) in
     let uses = c.in_ok-uses.ensures work m.used m.fields c.told_apart.ensures.idents (subst (λ (l : List NamePart). forms.AllMatch (IsName work) l m.used) (sym c.deref-4.ensures.value) is.used)
     (subst (λ (l : List FieldShape). forms.AllMatch (IsField work) l m.fields) (sym c.deref-5.ensures.value) is.fields) in
-    let new : code_pending.Pending = record { todo = c.args.pending.now.todo; aside = c.push.new.self } in
+    let new : code_pending.Pending = record c.args.pending.now { aside = c.push.new.self } in
     let counts = c.in_ok-binders.ensures.counts in
     let locals = counts.locals in
     let before : w.form.budget.locals ≡ u.form.budget.locals + length xs = λ j. (taken j).form.budget.locals in
     let same : w.form.budget.uses ≡ u.form.budget.uses = λ j. (taken j).form.budget.uses in
     let one = some_names m in
     record_goes work u ls c.args.spot fs s m xs stands placed names_are room region v known c.args.here p c.args.pending.now c.args.asked.now given notes new bs c.in_ok-fields.fields c.in_ok-places.places c.in_ok-uses.uses (length xs + length ys) ends
-    c.in_ok-fields.ensures.binders places (matched_so IsUse c.in_ok-uses.uses.items (used_fields m.fields m.used) uses) pending refl c.in_ok-push.ensures.items
+    c.in_ok-fields.ensures.binders places (matched_so IsUse c.in_ok-uses.uses.items (used_fields m.fields m.used) uses) pending (refl, refl) c.in_ok-push.ensures.items
     (counts.uses ∙ same) (omega (arith, locals, before)) (omega (arith, count, length_names, few)) (omega (arith, one, few))

@@ -116,7 +116,7 @@ pub returns-in_err-push : goal.returns-in_err-push
 returns-in_err-push c = λ known region ls s fs n t p given knows stands placed is st pending notes one.
     let u = c.args.units.now in
     let step : Step = λ go. run_syntax (searched known) go c.args.here fs p (n, t) s in
-    goes_without c.args.work.now region u c.define.new.self ls c.args.spot fs p.todo given (record { todo = c.args.pending.now.todo; aside = c.push.new.self }) c.note_rules.new.asked c.from_residual-in_err-push.result step c.from_residual-in_err-push.ensures.1 stands.form.few_nodes
+    goes_without c.args.work.now region u c.define.new.self ls c.args.spot fs p.todo given (record c.args.pending.now { aside = c.push.new.self }) c.note_rules.new.asked c.from_residual-in_err-push.result step c.from_residual-in_err-push.ensures.1 stands.form.few_nodes
 
 pub returns : goal.returns
 returns c = λ known region ls s fs n t p given knows stands placed is st pending notes one.
@@ -126,7 +126,7 @@ returns c = λ known region ls s fs n t p given knows stands placed is st pendin
     let v = c.define.new.self in
     let a = c.note_rules.new.asked in
     let old = c.args.pending.now in
-    let new : code_pending.Pending = (record { todo = c.args.pending.now.todo; aside = c.push.new.self }) in
+    let new : code_pending.Pending = (record c.args.pending.now { aside = c.push.new.self }) in
     let seen = c.in_ok-note_rules.ensures.notes known ls s fs t p.notes stands placed.at st notes in
     let y = c.in_ok-test_rules.ensures known ls s fs t stands placed.at st in
     let counts = c.in_ok-defined.ensures.nodes in
@@ -137,4 +137,4 @@ returns c = λ known region ls s fs n t p given knows stands placed is st pendin
     let ends = c.in_ok-define.ensures.defined known ls _ fs n (Some read.0) q read.1.stands there is read.3 seen in
     let binder = c.next_binder-binder.ensures known work ls _ fs n read.1.stands there is in
     let means = c.next_meaning-meaning.ensures.meaning work ls _ fs n.name read.1.stands there is.0 in
-    macro_goes work region u ls c.args.spot fs s known c.args.here n t p old a given stands placed seen y.0 y.1 w counts c.in_ok-defined.defined read v new c.next_binder-binder.result c.next_meaning-meaning.result ends c.in_ok-define.ensures.counts pending binder means refl c.in_ok-push.ensures.items one
+    macro_goes work region u ls c.args.spot fs s known c.args.here n t p old a given stands placed seen y.0 y.1 w counts c.in_ok-defined.defined read v new c.next_binder-binder.result c.next_meaning-meaning.result ends c.in_ok-define.ensures.counts pending binder means (refl, refl) c.in_ok-push.ensures.items one

@@ -1,6 +1,7 @@
 use Rattle.std.proofs.Common.{◌≡◌, Bool, None, Ok, Err, refl, sym, ap, ◌∙◌, subst, arith}
 use Rattle.scheme_model.specs.Ident.{Ident as Identifier}
-use Rattle.scheme_model.specs.Order.{Form, Going, Item, Pass, Pending, Value, Assigned, binder_at, told, put, run_variable}
+use Rattle.scheme_model.specs.Order.{Form, Going, Item, Pass, Pending, Renamed, Value, Assigned, binder_at, told, put, run_variable}
+use Rattle.scheme_model.specs.Substitution.{unchanged}
 use Rattle.scheme_model.specs.ScopedExpansion.{FramedIdent, ScopedState, body_around, assigned}
 use Rattle.unit_scopes.specs.Searched.{searched}
 use Rattle.expander.specs.Passed.{GoesOn}
@@ -19,9 +20,9 @@ returns-then-is_assigned c = λ known region ls s fs n t p given knows stands pl
     let m : Form Identifier = record { here = form.here; tree = t } in
     let step : Bool → Step = λ b go. run_variable (searched known) go form.here fs n t b p s in
     let so = sym (c.is_assigned.ensures work ls s fs n.name stands placed is.0) ∙ c.if-is_assigned.true in
-    subst (λ (f : Step). GoesOn work work region u u ls c.args.spot fs p.todo given (record { todo = c.args.pending.now.todo; aside = c.push.new.self }) c.args.asked.now (Ok tt) f) (sym (ap step so))
-    (aside_now work region u u ls c.args.spot fs s p c.args.pending.now (record { todo = c.args.pending.now.todo; aside = c.push.new.self }) c.args.asked.now given (Assigned n m) (kept.Assigned c.args.name form) pending notes
-    (c.args.name, form, refl, is, (refl, on)) refl c.in_ok-push.ensures.items stands placed refl one)
+    subst (λ (f : Step). GoesOn work work region u u ls c.args.spot fs p.todo given (record c.args.pending.now { aside = c.push.new.self }) c.args.asked.now (Ok tt) f) (sym (ap step so))
+    (aside_now work region u u ls c.args.spot fs s p c.args.pending.now (record c.args.pending.now { aside = c.push.new.self }) c.args.asked.now given (Assigned n m) (kept.Assigned c.args.name form) pending notes
+    (c.args.name, form, refl, is, (refl, on)) (refl, refl) c.in_ok-push.ensures.items stands placed refl one)
 
 pub returns-in_err-define : goal.returns-in_err-define
 returns-in_err-define c = λ known region ls s fs n t p given knows stands placed is on pending notes one.
@@ -35,8 +36,8 @@ returns-in_err-define c = λ known region ls s fs n t p given knows stands place
     let e = c.in_err-define.field-0.0 in
     goes_handed work region u c.define.new.self ls c.args.spot fs p.todo given c.args.pending.now c.args.asked.now c.from_residual-in_err-define.result e (step (assigned s (body_around fs) n.name)) c.from_residual-in_err-define.ensures.1
     (subst (λ (f : Step). GoesOn work work region u c.define.new.self ls c.args.spot fs p.todo given c.args.pending.now c.args.asked.now (Err e) f) (sym (ap step so))
-    (goes_failing work region u c.define.new.self ls c.args.spot fs p.todo given c.args.pending.now c.args.asked.now p.notes (λ (done : Unit {0}) (q : Pending Identifier FramedIdent). q ≡ put m p) e
-    (told form.here ((searched known).define n None fs (put m p) s)) (λ go. go) stands.form.few_nodes ends notes))
+    (goes_failing work region u c.define.new.self ls c.args.spot fs p.todo given c.args.pending.now c.args.asked.now p.notes (λ (done : Unit {0}) (made : Renamed Identifier FramedIdent). made ≡ unchanged (put m p)) e
+    (told form.here ((searched known).define n None fs (put m p) s)) (λ go made. go made.pending) stands.form.few_nodes ends notes))
 
 pub returns : goal.returns
 returns c = λ known region ls s fs n t p given knows stands placed is on pending notes one.
@@ -51,6 +52,6 @@ returns c = λ known region ls s fs n t p given knows stands placed is on pendin
     let so = sym (c.is_assigned.ensures work ls s fs n.name stands placed is.0) ∙ c.if-is_assigned.false in
     let ends = c.in_ok-define.ensures.defined known ls s fs n None (put m p) stands placed is tt notes in
     let binder = binder_here work u ls s c.next_binder-binder.result b stands (c.next_binder-binder.ensures known work ls s fs n stands placed is) in
-    subst (λ (f : Step). GoesOn work work region u v ls c.args.spot fs p.todo given (record { todo = c.args.pending.now.todo; aside = c.push-2.new.self }) c.args.asked.now (Ok tt) f) (sym (ap step so))
-    (aside_goes work region u v ls c.args.spot fs s p c.args.pending.now (record { todo = c.args.pending.now.todo; aside = c.push-2.new.self }) c.args.asked.now given m (kept.Value c.next_binder-binder.result form) pending notes
-    (c.next_binder-binder.result, form, refl, binder, (refl, on)) refl c.in_ok-push-2.ensures.items 1 ends.0 x (λ go. go) ends.1 ends.2 c.in_ok-define.ensures.counts.uses c.in_ok-define.ensures.counts.locals (omega arith) one (λ go. ap (λ (q : Pending Identifier FramedIdent). go q x.1) ends.3))
+    subst (λ (f : Step). GoesOn work work region u v ls c.args.spot fs p.todo given (record c.args.pending.now { aside = c.push-2.new.self }) c.args.asked.now (Ok tt) f) (sym (ap step so))
+    (aside_goes work region u v ls c.args.spot fs s p c.args.pending.now (record c.args.pending.now { aside = c.push-2.new.self }) c.args.asked.now given m (kept.Value c.next_binder-binder.result form) pending notes
+    (c.next_binder-binder.result, form, refl, binder, (refl, on)) (refl, refl) c.in_ok-push-2.ensures.items 1 ends.0 x (λ go made. go made.pending) ends.1 ends.2 c.in_ok-define.ensures.counts.uses c.in_ok-define.ensures.counts.locals (omega arith) one (λ go. ap (λ (made : Renamed Identifier FramedIdent). go made.pending x.1) ends.3))

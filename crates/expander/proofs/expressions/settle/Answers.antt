@@ -1,6 +1,6 @@
 use Rattle.std.proofs.Common.{◌≡◌, ◌+◌, ◌*◌, ◌^◌, ◌≤◌, refl, ◌∙◌, arith}
 use Rattle.scheme_model.specs.Expression.{whole, expand}
-use Rattle.scheme_model.specs.Order.{use_of}
+use Rattle.expander.specs.Ready.{use_met}
 use Rattle.unit_scopes.specs.Searched.{searched}
 use Rattle.expander.proofs.AfterLaws.{all_known, enough_there, stays_after}
 use Rattle.expander.proofs.LoopLaws.{after_itself, after_on}
@@ -87,7 +87,7 @@ uses-preserved c =
     let so = c.uses.invariant.so_far k.0 ((depth + 1) * 2 ^ 40) l.layout l.state l.frames f.0.0 k.1 l.stands l.at (f.0.1, f.1) (enough_there depth u.form.budget.uses) in
     let head = use_at k.0 mid so.state l.frames so.tree c.in-Macro.keyword (c.in-Macro.ensures k.0 l.layout so.state l.frames so.tree so.stays.stands l.at so.works.0) in
     let made = c.in_ok-form-in-Macro.ensures.used k.0 l.layout so.state l.frames head.keyword head.macro head.parts head.tail so.stays.stands l.at (head.used c.args.at.scope c.uses.here c.uses.form so.works.0) in
-    let state = (use_of (searched k.0) c.uses.here l.frames head.keyword head.macro head.parts head.tail so.state).1 in
+    let state = (use_met k.0 c.uses.here l.frames head.keyword head.macro head.parts head.tail so.state).1 in
     record {
       opened = made.1.work.trees.regions region c.uses.invariant.opened;
       after = after_on w mid new region u cu nu c.args.at.scope c.args.at.scope c.uses.invariant.after (stays_after mid new region cu nu c.args.at.scope l.layout l.frames state l.at made.1);

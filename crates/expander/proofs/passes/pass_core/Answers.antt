@@ -73,7 +73,7 @@ pub returns-in_err-push : goal.returns-in_err-push
 returns-in_err-push c = λ known region ls s fs k t m head ts tail o p knows stands placed is target on split pending notes.
     let u = c.args.units.now in
     let step : Step = λ go. run_core (searched known) go c.args.here fs k t m ts tail p s in
-    goes_without c.args.work.now region u u ls c.args.spot fs p.todo (tree_size m.tree) (record { todo = c.args.pending.now.todo; aside = c.push.new.self }) c.args.asked.now c.from_residual.result step c.from_residual.ensures.1 stands.form.few_nodes
+    goes_without c.args.work.now region u u ls c.args.spot fs p.todo (tree_size m.tree) (record c.args.pending.now { aside = c.push.new.self }) c.args.asked.now c.from_residual.result step c.from_residual.ensures.1 stands.form.few_nodes
 
 pub returns-in_err-push-2 : goal.returns-in_err-push-2
 returns-in_err-push-2 c = λ known region ls s fs k t m head ts tail o p knows stands placed is target on split pending notes.
@@ -84,8 +84,8 @@ returns-in_err-push-2 c = λ known region ls s fs k t m head ts tail o p knows s
 pub returns-then-not-is_passed : goal.returns-then-not-is_passed
 returns-then-not-is_passed c = λ known region ls s fs k t m head ts tail o p knows stands placed is target on split pending notes.
     let effect = effect_of _ k false is (sym c.if-not-is_passed.true ∙ c.is_passed.ensures) in
-    sets_aside c.args.work.now region c.args.units.now ls c.args.spot fs s p [] c.args.pending.now (record { todo = c.args.pending.now.todo; aside = c.push.new.self }) c.args.asked.now m c.args.form (λ go. run_core (searched known) go c.args.here fs k t m ts tail p s)
-    (λ go. set_aside known go c.args.here fs m p k t ts tail s effect) stands placed on pending notes refl c.in_ok-push.ensures.items
+    sets_aside c.args.work.now region c.args.units.now ls c.args.spot fs s p [] c.args.pending.now (record c.args.pending.now { aside = c.push.new.self }) c.args.asked.now m c.args.form (λ go. run_core (searched known) go c.args.here fs k t m ts tail p s)
+    (λ go. set_aside known go c.args.here fs m p k t ts tail s effect) stands placed on pending notes (refl, refl) c.in_ok-push.ensures.items
 
 pub returns-in-Err : goal.returns-in-Err
 returns-in-Err c = λ known region ls s fs k t m head ts tail o p knows stands placed is target on split pending notes.

@@ -96,8 +96,8 @@ pub returns-in_default : goal.returns-in_default
 returns-in_default c = λ known ls s fs m p knows stands placed on pending notes.
     let work = c.args.work.now in
     let region = c.args.region.now in
-    sets_aside work region c.args.units.now ls c.args.spot fs s p [] c.args.pending.now (record { todo = c.args.pending.now.todo; aside = c.push.new.self }) c.args.asked.now m c.args.form (λ go. run_form (searched known) go fs (here_at (λ i. i) m.tree m.here) m m.tree p s)
-    (λ go. no_head known go (here_at (λ i. i) m.tree m.here) fs m p work m.tree s (c.in_default.ensures m.tree on.1.0)) stands placed on pending notes refl c.in_ok-push.ensures.items
+    sets_aside work region c.args.units.now ls c.args.spot fs s p [] c.args.pending.now (record c.args.pending.now { aside = c.push.new.self }) c.args.asked.now m c.args.form (λ go. run_form (searched known) go fs (here_at (λ i. i) m.tree m.here) m m.tree p s)
+    (λ go. no_head known go (here_at (λ i. i) m.tree m.here) fs m p work m.tree s (c.in_default.ensures m.tree on.1.0)) stands placed on pending notes (refl, refl) c.in_ok-push.ensures.items
 
 pub returns-in-Core : goal.returns-in-Core
 returns-in-Core c = λ known ls s fs m p knows stands placed on pending notes.
@@ -148,8 +148,8 @@ returns-in_ok-push-in-Auxiliary c = λ known ls s fs m p knows stands placed on 
     let is = c.head_by-head.ensures ls s (means_here s fs n.ident) stands (c.target-keyword.ensures ls s fs (record { name = n.ident; occ = n.place }) stands placed.at n.named).meaning in
     let found = c.in_ok-note_head.ensures ls s fs named (head_in s fs n.ident) p.notes stands placed n.named is notes in
     let a = auxiliary_head c.in-Auxiliary.field-0 (head_in s fs n.ident) (c.in-Auxiliary.ensures ls s (means_here s fs n.ident) stands (c.target-keyword.ensures ls s fs (record { name = n.ident; occ = n.place }) stands placed.at n.named).meaning) in
-    sets_aside work c.args.region.now c.args.units.now ls c.args.spot fs s p (note_in s fs n.ident ∷ []) c.args.pending.now (record { todo = c.args.pending.now.todo; aside = c.push-in-Auxiliary.new.self }) c.note_head.new.asked m c.args.form
-    (λ go. run_form (searched known) go fs (here_at (λ i. i) m.tree m.here) m m.tree p s) (by_auxiliary known work fs s m p c.in-Some.name here is_here n a.0 a.1) stands placed on pending found refl c.in_ok-push-in-Auxiliary.ensures.items
+    sets_aside work c.args.region.now c.args.units.now ls c.args.spot fs s p (note_in s fs n.ident ∷ []) c.args.pending.now (record c.args.pending.now { aside = c.push-in-Auxiliary.new.self }) c.note_head.new.asked m c.args.form
+    (λ go. run_form (searched known) go fs (here_at (λ i. i) m.tree m.here) m m.tree p s) (by_auxiliary known work fs s m p c.in-Some.name here is_here n a.0 a.1) stands placed on pending found (refl, refl) c.in_ok-push-in-Auxiliary.ensures.items
 
 pub returns-in_ok-push-in-Other : goal.returns-in_ok-push-in-Other
 returns-in_ok-push-in-Other c = λ known ls s fs m p knows stands placed on pending notes.
@@ -161,5 +161,5 @@ returns-in_ok-push-in-Other c = λ known ls s fs m p knows stands placed on pend
     let is = c.head_by-head.ensures ls s (means_here s fs n.ident) stands (c.target-keyword.ensures ls s fs (record { name = n.ident; occ = n.place }) stands placed.at n.named).meaning in
     let found = c.in_ok-note_head.ensures ls s fs named (head_in s fs n.ident) p.notes stands placed n.named is notes in
     let a = no_keyword (head_in s fs n.ident) (c.in-Other.ensures ls s (means_here s fs n.ident) stands (c.target-keyword.ensures ls s fs (record { name = n.ident; occ = n.place }) stands placed.at n.named).meaning) in
-    sets_aside work c.args.region.now c.args.units.now ls c.args.spot fs s p (note_in s fs n.ident ∷ []) c.args.pending.now (record { todo = c.args.pending.now.todo; aside = c.push-in-Other.new.self }) c.note_head.new.asked m c.args.form
-    (λ go. run_form (searched known) go fs (here_at (λ i. i) m.tree m.here) m m.tree p s) (by_none known work fs s m p c.in-Some.name here is_here n a) stands placed on pending found refl c.in_ok-push-in-Other.ensures.items
+    sets_aside work c.args.region.now c.args.units.now ls c.args.spot fs s p (note_in s fs n.ident ∷ []) c.args.pending.now (record c.args.pending.now { aside = c.push-in-Other.new.self }) c.note_head.new.asked m c.args.form
+    (λ go. run_form (searched known) go fs (here_at (λ i. i) m.tree m.here) m m.tree p s) (by_none known work fs s m p c.in-Some.name here is_here n a) stands placed on pending found (refl, refl) c.in_ok-push-in-Other.ensures.items

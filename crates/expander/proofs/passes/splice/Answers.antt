@@ -16,5 +16,5 @@ returns-in_err-count c = λ known work region ls s spot fs asked ts p given stan
 pub returns : goal.returns
 returns c = λ known work region ls s spot fs asked ts p given stands placed stand named pending notes less.
     let old = c.args.pending.now in
-    splice_goes known work region c.args.units.now c.count.new.self ls s spot fs asked c.args.here c.args.forms.now ts p given old (record { todo = c.append.new.self; aside = old.aside }) stands placed notes stand named pending less c.in_ok-count.ensures
-    (c.in_ok-append.ensures.items ∙ ap (λ (xs : List code_form.Form). old.todo.items ++ xs) c.in_ok-todo.ensures) refl
+    splice_goes known work region c.args.units.now c.count.new.self ls s spot fs asked c.args.here c.args.forms.now ts p given old (record old { todo = c.append.new.self }) stands placed notes stand named pending less c.in_ok-count.ensures
+    (c.in_ok-append.ensures.items ∙ ap (λ (xs : List code_form.Form). old.todo.items ++ xs) c.in_ok-todo.ensures) (refl, refl)

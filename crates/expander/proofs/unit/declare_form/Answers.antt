@@ -18,7 +18,7 @@ returns-in-Ok-clause-declared g c = λ known ls s notes t knows stands counts fo
     let knows1 = subst (λ (x : UnitScope). Knows x.libraries known) (sym c.turn.ensures) knows in
     let noted = subst (λ (x : UnitScope). NotesFor old ls x.asked notes) (sym c.turn.ensures) stands.notes in
     let h = c.in-Ok.ensures.sets known ls (turned n s) notes t knows1 (turned_to old u u1 n b tr ls s notes c.turn.ensures stands counts) noted for in
-    declares old new region u u1 v c.rest.new.units n b c.rest.new.budget tr c.rest.new.trace c.turn.new.trace c.turn.ensures c.rest.ensures.scope c.rest.ensures.budget c.rest.ensures.trace ls c.in-Ok.aside (declared known n t notes s) h
+    declares old new region u u1 v c.rest.new.units n b c.rest.new.budget tr c.rest.new.trace c.turn.new.trace c.turn.ensures c.rest.ensures.scope c.rest.ensures.budget c.rest.ensures.trace ls c.in-Ok.left (declared known n t notes s) h
 
 pub returns-in-Err-At-clause-declared : goal.returns-in-Err-At-clause-declared
 returns-in-Err-At-clause-declared g c = λ known ls s notes t knows stands counts for.

@@ -1,13 +1,18 @@
-use Rattle.std.proofs.Common.{List, sym, ◌∙◌, subst}
+use Rattle.std.proofs.Common.{◌<◌, List, [], sym, ◌∙◌, subst, arith}
 use Rattle.scheme_model.specs.Trees.{list, tree}
 use Rattle.scheme_model.specs.RulesShape.{role_of, dots_of}
 use Rattle.scheme_model.specs.Matching.{compared}
 use Rattle.syntax_tree.specs.Macros.{identifiers, RulesFor, AreChecked}
 use Rattle.syntax_tree.specs.declared.rules.IdPair.{IdPair}
 use Rattle.rules_match.specs.Matches.{ArePairs}
+use Rattle.scheme_model.specs.Order.{Note}
+use Rattle.scheme_model.specs.ScopedExpansion.{FramedIdent}
+use Rattle.core_tree.specs.Names.{AllMatch}
 use Rattle.unit_scopes.specs.Outcomes.{At}
+use Rattle.unit_scopes.specs.Used.{ComparisonFor}
+use Rattle.unit_scopes.specs.declared.uses.Comparison.{Comparison}
 use Rattle.unit_scopes.specs.declared.macros.Macro.{Macro}
-use Rattle.unit_scopes.proofs.UseLaws.{macro_there, copied_is, copied_some}
+use Rattle.unit_scopes.proofs.UseLaws.{macro_there, copied_is, copied_some, none_compared, each_compared}
 use Rattle.unit_scopes.proofs.scope.UnitScope.compare.Goals as goal
 
 pub returns-in_default : goal.returns-in_default
@@ -52,4 +57,18 @@ returns c = λ known ls s fs keyword m ts tail stands at for.
     let there = subst (λ (x : Macro). At ls x.scope m.env) same k.2.scope in
     let qs = compared (role_of identifiers m.rules) (dots_of identifiers m.rules) m.rules.rules ts tail in
     let pairs = subst (λ (ps : List IdPair). ArePairs w ps qs) (sym c.as_slice.ensures) (c.in_ok-pairs.ensures m.rules (list (tree for.head ts) tail for.place) rules for.form) in
-    (there, c.in_ok-comparisons.ensures ls s m.env fs qs stands there at pairs)
+    let few : c.args.self.now.form.budget.uses < 10000 = let most = stands.form.few_uses in omega (arith, most, c.if-self-eq-MAX_USES.false) in (
+      there,
+      subst (λ (ns : List (Note FramedIdent)). AllMatch (ComparisonFor w ls c.in-Some.used.now.scope c.args.at.scope) c.in_ok-comparisons.comparisons.items ns) (sym (each_compared known w c.args.self.now ls s fs m ts tail stands few))
+          (c.in_ok-comparisons.ensures ls s m.env fs qs stands there at pairs),
+    )
+
+pub returns-then-self-eq-MAX_USES : goal.returns-then-self-eq-MAX_USES
+returns-then-self-eq-MAX_USES c = λ known ls s fs keyword m ts tail stands at for.
+    let w = c.args.work.now in
+    let k = macro_there w c.args.self.now ls s c.args.at keyword m ts tail stands for in
+    let same = copied_is c.meaning.result c.in-Some.used k.0 c.in-Some.is (c.meaning.ensures ∙ k.1) in (
+      subst (λ (x : Macro). At ls x.scope m.env) same k.2.scope,
+      subst (λ (ns : List (Note FramedIdent)). AllMatch (ComparisonFor w ls c.in-Some.used.now.scope c.args.at.scope) c.new.result.items ns) (sym (none_compared known w c.args.self.now ls s fs m ts tail stands c.if-self-eq-MAX_USES.true))
+          (subst (λ (cs : List Comparison). AllMatch (ComparisonFor w ls c.in-Some.used.now.scope c.args.at.scope) cs []) (sym c.new.ensures.items) tt),
+    )

@@ -2,8 +2,9 @@ use Rattle.std.proofs.Common.{◌≡◌, ℕ, ◌<◌, Bool, true, false, Option
 use Rattle.std.specs.Prelude.{is_some as is_kept}
 use Rattle.std.proofs.lemmas.Option.{slice_get_within}
 use Rattle.scheme_model.specs.Ident.{Ident as Identifier}
-use Rattle.scheme_model.specs.Order.{Pending, is_some, told}
+use Rattle.scheme_model.specs.Order.{Pending, Renamed, is_some, told}
 use Rattle.scheme_model.specs.RulesShape.{Rules}
+use Rattle.scheme_model.specs.Substitution.{unchanged}
 use Rattle.scheme_model.specs.ScopedExpansion.{FramedIdent, body_around, meaning_next, definition_added}
 use Rattle.syntax_tree.specs.declared.meaning.Meaning.{Meaning}
 use Rattle.unit_scopes.specs.Macros.{IsBound, Keeps}
@@ -15,8 +16,8 @@ use Rattle.unit_scopes.proofs.CountingStands.{most_fit}
 use Rattle.unit_scopes.proofs.DefineLaws.{comes_so, undefined_here, is_bound_here, changes, refuses, is_second, refused_ends, second_ends, kept_tells, none_kept, some_kept, same_placed, same_kept, variable_stands, macro_stands, in_after, is_in_on, made_ends}
 use Rattle.unit_scopes.proofs.scope.UnitScope.define.Goals as goal
 
-abbrev Same : Unit {0} → Pending Identifier FramedIdent → Pending Identifier FramedIdent → Type 0
-Same done p q = q ≡ p
+abbrev Same : Unit {0} → Pending Identifier FramedIdent → Renamed Identifier FramedIdent → Type 0
+Same done p made = made ≡ unchanged p
 
 pub is_refused-requires : goal.is_refused-requires
 is_refused-requires c =
