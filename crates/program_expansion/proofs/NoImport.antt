@@ -14,7 +14,7 @@ use Rattle.document_units.specs.Places.{bytes_at, start_of}
 use Rattle.unit_imports.specs.SetsGiven.{ImportsAs}
 use Rattle.document_units.specs.UnitSources.{IsSpec}
 use Rattle.program_expansion.specs.UnitsFound.{no_import_diagnostics}
-use Rattle.document_units.specs.Wording.{worded}
+use Rattle.scheme_model.specs.DiagnosticTexts.{worded}
 use Rattle.document_units.proofs.DiagnosedLaws.{adds_more}
 use Rattle.program_expansion.proofs.UnitsFoundLaws.{adds_nothing}
 

@@ -18,7 +18,7 @@ use Rattle.core_tree.specs.declared.cores.Target as code_target
 use Rattle.document_units.specs.declared.findings.At.{At}
 use Rattle.document_units.specs.declared.findings.Finding.{Finding}
 use Rattle.document_units.specs.Places.{bytes_at}
-use Rattle.document_units.specs.Wording.{front, worded}
+use Rattle.scheme_model.specs.DiagnosticTexts.{front, worded}
 use Rattle.program_findings.specs.Unbound.{IsUnbound, unbound_as, unbound_in}
 use Rattle.document_units.specs.Findings.{all_told, errors_in, Adds, at_of}
 use Rattle.document_units.specs.Diagnosed.{free_found, unbound_found}

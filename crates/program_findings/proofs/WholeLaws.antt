@@ -12,7 +12,7 @@ use Rattle.document_units.specs.Broken.{told as told_of}
 use Rattle.document_units.specs.Places.{bytes_at, spans_of}
 use Rattle.document_units.specs.Readings.{Read}
 use Rattle.document_units.specs.UnitFindings.{IsFoundOf}
-use Rattle.document_units.specs.Wording.{worded}
+use Rattle.scheme_model.specs.DiagnosticTexts.{worded}
 use Rattle.document_units.specs.Findings.{diagnostic, told, all_told, is_error, errors_in, Adds}
 use Rattle.document_units.specs.Diagnosed.{IsWhole, whole_at, whole_number}
 

@@ -14,7 +14,7 @@ use Rattle.library_table.specs.declared.units.ExportSpec as code_export
 use Rattle.document_units.specs.declared.findings.At.{At}
 use Rattle.document_units.specs.Findings.{told_at}
 use Rattle.document_units.specs.Places.{bytes_at}
-use Rattle.document_units.specs.Wording.{worded}
+use Rattle.scheme_model.specs.DiagnosticTexts.{worded}
 use Rattle.unit_imports.proofs.GivenLaws.{drop_at}
 use Rattle.unit_imports.proofs.ToldLaws.{told_there, worded_name}
 

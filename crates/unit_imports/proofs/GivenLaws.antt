@@ -39,7 +39,7 @@ use Rattle.document_units.specs.Readings.{Read, span_seen}
 use Rattle.unit_imports.specs.Joining.{GatheredAs, GroupsStand}
 use Rattle.unit_imports.specs.SetsGiven.{AreEntriesIf, AreLibraries, ComesTo, ImportsAs, exports_at, set_exports, with_set}
 use Rattle.document_units.specs.UnitSources.{IsSpec}
-use Rattle.document_units.specs.Wording.{worded}
+use Rattle.scheme_model.specs.DiagnosticTexts.{worded}
 use Rattle.unit_imports.proofs.MeaningLaws.{entries_kept}
 use Rattle.unit_imports.proofs.SetErrors.{no_set_errors, number_is, set_error_next}
 use Rattle.unit_imports.proofs.ToldLaws.{told_there, worded_name}

@@ -20,7 +20,7 @@ use Rattle.document_units.specs.declared.findings.Finding.{Finding}
 use Rattle.unit_imports.specs.Defined.{hidden_in, hidden_at, written_symbol}
 use Rattle.document_units.specs.Findings.{all_told, errors_in, Adds, at_of}
 use Rattle.document_units.specs.Places.{bytes_at}
-use Rattle.document_units.specs.Wording.{worded}
+use Rattle.scheme_model.specs.DiagnosticTexts.{worded}
 use Rattle.unit_imports.specs.Hiding.{hidden_found}
 use Rattle.document_units.proofs.DiagnosedLaws.{told_both, errors_both, adds_more}
 

@@ -13,7 +13,7 @@ use Rattle.document_units.specs.declared.findings.At.{At}
 use Rattle.document_units.specs.declared.findings.Finding.{Finding}
 use Rattle.document_units.specs.Findings.{told, told_at, all_told, errors_in, error_by, is_error}
 use Rattle.document_units.specs.Places.{bytes_at}
-use Rattle.document_units.specs.Wording.{front}
+use Rattle.scheme_model.specs.DiagnosticTexts.{front}
 use Rattle.document_units.proofs.DiagnosedLaws.{errors_both}
 
 -- one more

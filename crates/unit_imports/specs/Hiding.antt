@@ -4,7 +4,7 @@ use Rattle.scheme_model.specs.declared.Occ.{Occ}
 use Rattle.scheme_model.specs.Diagnostics.{Bytes, or_start}
 use Rattle.document_units.specs.declared.listing.WholeFault.TheVariants as code
 use Rattle.document_units.specs.declared.findings.Finding.{Finding}
-use Rattle.document_units.specs.Wording.{worded}
+use Rattle.scheme_model.specs.DiagnosticTexts.{worded}
 use Rattle.document_units.specs.Findings.{at_of}
 
 -- the finding of a definition that hides this name, where it hides one

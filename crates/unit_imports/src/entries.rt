@@ -27,7 +27,7 @@ ghost use Rattle.document_units.specs.Readings.{Read, span_seen};
 ghost use Rattle.unit_imports.specs.Imports.{SetMeans};
 ghost use Rattle.unit_imports.specs.SetsGiven.{AreEntriesIf, AreLibraries, ComesTo, ImportsAs, IsSetFault, exports_at, set_exports, with_set};
 ghost use Rattle.document_units.specs.UnitSources.{IsSpec};
-ghost use Rattle.document_units.specs.Wording.{worded};
+ghost use Rattle.scheme_model.specs.DiagnosticTexts.{worded};
 
 use crate::expanded::Expanded;
 use crate::joining::{Joined, join_all, origin};
