@@ -1,9 +1,8 @@
 -- What the units and the program of the code stand for: for each unit what the definition's program has of it.
 use Rattle.std.specs.Prelude.{◌≡◌, ◌⊎◌, ◌↔◌, ℕ, suc, ◌<◌, nat_le, List, [], ◌∷◌, ◌++◌, map, filter, reverse, length, ◌==◌, Bool, true, false, Option, Some, None, Result, Ok, Err, slice_get, if◌then◌else◌}
 use Rattle.std.specs.List.{Contains, zip}
-use Rattle.scheme_model.specs.declared.Occ.{Occ}
 use Rattle.scheme_model.specs.Ident.{Written}
-use Rattle.scheme_model.specs.ExpansionFaults.{Named, fault_code}
+use Rattle.scheme_model.specs.ExpansionFaults.{fault_code}
 use Rattle.scheme_model.specs.Cores.{Parts}
 use Rattle.scheme_model.specs.Steps.{Broken}
 use Rattle.scheme_model.specs.Order.{Counted}
@@ -12,7 +11,7 @@ use Rattle.scheme_model.specs.Substitution.{Defined, Table}
 use Rattle.scheme_model.specs.Requirements.{LibraryName}
 use Rattle.scheme_model.specs.Entries.{Entry, ImportFault, NotThere, Clash, BadSet}
 use Rattle.scheme_model.specs.Declarations.{UnitForm, UnitKind, IsLibrary, IsProgram}
-use Rattle.scheme_model.specs.Program.{Placed, Prepared, ImportSpec, ExportSpec, WholeFault, whole_code, SetResult, Unknown, Faulty, Gives, ExportFault, NotDefined, SameExport, UnitResult, Program, specs_in, has_name, names_of_unit, max_units}
+use Rattle.scheme_model.specs.Program.{Placed, Prepared, ExportSpec, WholeFault, whole_code, SetResult, Unknown, Faulty, Gives, ExportFault, NotDefined, SameExport, UnitResult, Program, specs_in, has_name, names_of_unit, max_units}
 use Rattle.scheme_model.specs.Live.{NameUse}
 use Rattle.scheme_model.specs.ProgramArrows.{program_table, unit_names}
 use Rattle.syntax_tree.specs.Names.{Names}

@@ -1,7 +1,8 @@
 //! The second identifiers of the pairs that sets rename by (R7RS 5.2).
-ghost use Rattle.std.specs.Prelude.{◌≡◌, ◌++◌, IfOk, OnOk, option_to_list};
+ghost use Rattle.std.specs.Prelude.{◌≡◌, ◌++◌, [], IfOk, OnOk, option_to_list, if◌then◌else◌};
 ghost use Rattle.scheme_model.specs.Entries as model;
 ghost use Rattle.scheme_model.specs.Spelling.{second_places};
+ghost use Rattle.import_sets.specs.Given.{has_bad};
 ghost use Rattle.import_sets.specs.Seconds.{pair_seconds, seconds};
 ghost use Rattle.import_sets.specs.Sets.{IsSet};
 
@@ -47,13 +48,21 @@ fn add_all(places: &mut Items<Occ>, set: &ImportSet) -> Mem<()>
     }
 }
 
+/// Those of a set that has a shape.
+fn seconds_in(alloc: Global, set: &ImportSet) -> Mem<Items<Occ>>
+    ensures { IfOk result (λ places. places ≡ (if has_bad set.now then [] else seconds set.now)) }
+{
+    if has_bad(set) {
+        return Ok(Items::new(alloc));
+    }
+    let mut places = Items::new(alloc);
+    add_all(&mut places, set)?;
+    Ok(places)
+}
+
 /// The places of the second identifiers of all pairs that a set renames by, if it has a shape, whatever its library gives.
 pub fn second_places(alloc: Global, set: &ImportSet) -> Mem<Items<Occ>>
     ensures { (s : model.ImportSet) → IsSet set.now s → IfOk result (λ places. places ≡ second_places s) }
 {
-    let mut places = Items::new(alloc);
-    if !has_bad(set) {
-        add_all(&mut places, set)?;
-    }
-    Ok(places)
+    Ok(seconds_in(alloc, set)?)
 }

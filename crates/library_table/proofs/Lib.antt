@@ -1,4 +1,5 @@
 pub mod NamedLaws  -- Which unit a library's name means
+mod StandardLaws  -- A standard name means no unit, whatever units there are
 pub mod RepeatedLaws  -- A unit is among the repeated ones where the first unit with its name is another
 mod ExportLaws  -- What exports of the code give stands for what the exports give
 pub mod GraphLaws  -- The rows of the code's graph are what the units import; the units stand at their numbers

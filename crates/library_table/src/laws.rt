@@ -1,7 +1,7 @@
 //! Laws of what the calls answer. Each is the contract of a function that does nothing.
 ghost use Rattle.std.specs.Option.{option_map};
-ghost use Rattle.std.specs.Prelude.{◌≡◌, ◌||◌, ◌++◌, [], ℕ, List, Some, length, map, reverse, slice_get};
-ghost use Rattle.scheme_model.specs.Program.{Document, Placed, all_names, has_name, known_in, forms_or_none, prepared, specs_from, is_in, name_if, is_repeated, Progress, work};
+ghost use Rattle.std.specs.Prelude.{◌≡◌, ◌||◌, ◌++◌, [], ℕ, List, Some, None, true, length, map, reverse, slice_get};
+ghost use Rattle.scheme_model.specs.Program.{Document, Placed, all_names, has_name, known_in, forms_or_none, prepared, specs_from, is_in, name_if, unit_named, is_repeated, Progress, work};
 ghost use Rattle.scheme_model.specs.Data.{Datum};
 ghost use Rattle.scheme_model.specs.Declarations.{UnitSource, library_of};
 ghost use Rattle.scheme_model.specs.Requirements.{Known, LibraryName};
@@ -18,6 +18,11 @@ ghost use Rattle.import_sets.specs.InTurn.{in_turn};
 pub fn repeated_are_defined_twice()
     ensures { (all : List Placed) (n : ℕ) (u : Placed) → slice_get all n ≡ Some u →
         is_repeated all (prepared all n u) ≡ (has_standard_name (name_if n u.source) || is_in n (repeated_places all)) }
+{}
+
+/// A standard name means the standard library: it means no unit, whatever units have it (R7RS 5.6).
+pub fn standard_names_mean_no_unit()
+    ensures { (all : List Placed) (n : LibraryName) → has_standard_name (Some n) ≡ true → unit_named n 0 all ≡ None }
 {}
 
 /// Where nothing breaks the units, their turns are the order in which they are expanded (R7RS 5.6).

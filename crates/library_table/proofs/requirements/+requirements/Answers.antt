@@ -35,7 +35,7 @@ list_holds-returns-in-Some t c = λ has k at end o e.
     let r = c.in-Parts.rest.now in
     let w = c.in-Some.word.now in
     reads_same (λ b. b) c.word_holds.result (word_holds has w (trees_at at r)) (holds (λ s. s) has (list (trees_at at ds) end o))
-    (some_word has at ds h r end o c.in-Parts.ensures w (c.in-Some.ensures at) (e ∙ c.if-dotted.false)) (c.word_holds.ensures has k at)
+    (some_word has at ds h r end o c.in-Parts.ensures w (c.in-Some.ensures.word at) (e ∙ c.if-dotted.false)) (c.word_holds.ensures has k at)
 
 pub none_holds-returns-then-not-is_empty : goal.none_holds-returns-then-not-is_empty
 none_holds-returns-then-not-is_empty t c = λ has k at.
