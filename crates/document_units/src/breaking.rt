@@ -20,7 +20,7 @@ use import_sets::firsts::{place_for, place_in};
 use library_table::firsts::first_places;
 use library_table::{ImportSpec, LibraryFault, UnitSource, order, repeated};
 use ls_base::limits::MAX_UNITS;
-use ls_base::{Items, Mem, Memory};
+use ls_base::{Items, Mem, Memory, Text};
 use std::alloc::Global;
 use std::collections::BTreeMap;
 
