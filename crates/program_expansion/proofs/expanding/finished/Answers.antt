@@ -107,7 +107,7 @@ returns-clause-finds c = λ spelled q p imports fs own source are stand told rea
     (subst (λ (bs : List (ℕ × Binder)). AreDefinitions new.symbols (reverse bs) (defined_by unit q.table)) (sym is_too) (definitions_kept old new trees keeps (reverse (definitions_from 0 c.args.forms)) (defined_by unit q.table) told))
     (entries_kept old.symbols new.symbols keeps c.args.given.joined.entries.items imports.0 are) in
     let unbound = c.in_ok-add_unbound_if.ensures.exact reads ends old unit fs places keeps forms in
-    let none = c.in_ok-add_no_import.ensures.exact spelled reads ends r places at (subst (λ (x : Prepared). ImportsAs spelled c.args.source.now x) (sym unit_is) (record { kind = source.kind; specs = source.imports refl })) in
+    let none = c.in_ok-add_no_import.ensures.exact spelled reads ends r places at (subst (λ (x : Prepared). ImportsAs spelled c.args.source.now x) (sym unit_is) (record { kind = source.kind; forms = source.forms; specs = source.imports refl })) in
     all_found reads ends q p imports fs f0 f1 f2 f3 f4 f5 c.none_placed-sets_are_good.result sets
     (subst (λ n. Adds f0 f1 (export_diagnostics bytes (export_all (names_of_unit q.table n imports.0) [] p.exports).faults) (export_errors (export_all (names_of_unit q.table n imports.0) [] p.exports).faults)) (sym own) exports)
     (subst (λ n. Adds f1 f2 (form_diagnostics bytes n fs) (form_errors fs)) (sym own) faults) (subst (λ n. Adds f2 f3 (hiding_diagnostics bytes n imports.0 q.table) []) (sym own) hiding)
