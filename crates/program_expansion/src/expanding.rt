@@ -61,6 +61,7 @@ use unit_imports::entries::{Given, Libraries, given_to, imports_nothing};
 use unit_imports::expanded::Expanded;
 use unit_imports::exported::exports_given;
 use unit_imports::names::names_used;
+use unit_imports::seconds::seconds_in;
 
 /// Expands the units that aren't broken, in an order in which each comes after what it imports. One that counts too many nodes
 /// breaks.
@@ -291,6 +292,7 @@ fn finished(
     let defined = definitions(alloc, slice)?;
     let names = names_of(alloc, &work.symbols, unit, defined.as_slice(), &joined)?;
     let used = names_used(alloc, work, libraries, unit, source, names.as_slice())?;
+    let seconds = seconds_in(alloc, source.imports.as_slice())?;
     let symbols = &work.symbols;
     let exports = exports_given(
         alloc,
@@ -317,6 +319,7 @@ fn finished(
         entries: joined.entries,
         forms,
         names: used,
+        seconds,
         exports,
         findings,
     })
@@ -380,6 +383,7 @@ pub fn broken(
     ensures formed { (work : AnyWork) → IfOk result (λ came. IsFormed work unit came.forms) }
     ensures count { IfOk result (λ came. length came.forms ≡ count) }
     ensures names { IfOk result (λ came. came.names ≡ []) }
+    ensures seconds { IfOk result (λ came. came.seconds ≡ []) }
     ensures entries { IfOk result (λ came. came.entries.items ≡ []) }
     ensures exports { IfOk result (λ came. came.exports ≡ []) }
     ensures findings { IfOk result (λ came. AreFoundIn (length places.entry.documents.now) came.findings.items) }
@@ -393,6 +397,7 @@ pub fn broken(
         entries: Vec::new(alloc),
         forms: blank_forms(alloc, count)?,
         names: Items::new(alloc),
+        seconds: Items::new(alloc),
         exports: Items::new(alloc),
         findings,
     })
