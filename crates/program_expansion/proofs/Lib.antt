@@ -42,3 +42,4 @@ pub mod DocumentsData  -- The data of the documents are those that their texts a
 pub mod HeadsStand  -- The heads of units that were listed are those of the program's units
 pub mod HeadsOf  -- The heads of units have what the units do, as these were listed, judged and worked on
 mod RefusedLaws  -- Forms of which those that include a text are refused stand for those of the definition
+mod UnitWalk  -- Work on a unit one form or item at a time
