@@ -75,6 +75,7 @@ module _ (old new : Work) (trees : KeepsTrees old new) (names : KeepsNames old.s
     count = h.count;
     definitions = definitions_kept (reverse (definitions_from 0 c.forms)) (defined_by r.unit.number p.table) h.definitions;
     names = names_kept r.unit.number c.names (unit_names all p r) (externals p.table r) h.names;
+    seconds = h.seconds;
     exports = entries_kept old.symbols new.symbols names c.exports r.exports h.exports;
   }
 
