@@ -120,3 +120,22 @@ module _ {E A L S : Type 0} (ops : Ops E A L S) (fs : List ℕ) where
               let z : ◌≡◌ {A = Option (List Formed) × S} (Some (record { form = r.0; result = parts; counted = ops.counted u } ∷ rest), v) (Some given, t) = sym (finish_on f e r rs s parts u k ∙ ap (behind (record { form = r.0; result = parts; counted = ops.counted u } ∷ [])) j) ∙ h in
               let same : record { form = r.0; result = parts; counted = ops.counted u } ∷ rest ≡ given = cc in
               sym (ap numbers_given same) ∙ ap (λ (ns : List ℕ). r.0 ∷ ns) (finished_numbers f e rs u v rest j)
+
+  -- what is left of forms has their numbers
+  pub passed_numbers : (turns : ℕ) (e : E) (ts : List (ℕ × Tree A)) (notes : List (Note L)) (s t : S) (rs : List (LeftOf A)) → passes ops turns e fs ts notes s ≡ (Some rs, t) → numbers_left rs ≡ map (λ (u : ℕ × Tree A). u.0) ts
+  passed_numbers turns e [] notes s t rs h = let z : ◌≡◌ {A = Option (List (LeftOf A)) × S} (Some [], s) (Some rs, t) = h in let same : [] ≡ rs = cc in ap numbers_left (sym same)
+  passed_numbers turns e (u ∷ ts) notes s t rs h = go (nat_lt max_total (nodes_in ops fs (gone turns e u ts notes s).1)) refl
+    where
+      p : Pass A L × S
+      p = gone turns e u ts notes s
+
+      go : (b : Bool) → nat_lt max_total (nodes_in ops fs p.1) ≡ b → numbers_left rs ≡ u.0 ∷ map (λ (v : ℕ × Tree A). v.0) ts
+      go true many = let z : ◌≡◌ {A = Option (List (LeftOf A)) × S} (None, p.1) (Some rs, t) = sym (pass_over turns e u ts notes s many) ∙ h in absurd cc
+      go false few = more (passes ops turns e fs ts p.0.notes p.1) refl
+        where
+          more : (q : Option (List (LeftOf A)) × S) → passes ops turns e fs ts p.0.notes p.1 ≡ q → numbers_left rs ≡ u.0 ∷ map (λ (v : ℕ × Tree A). v.0) ts
+          more (None, v) j = let z : ◌≡◌ {A = Option (List (LeftOf A)) × S} (None, v) (Some rs, t) = sym (pass_on turns e u ts notes s few ∙ ap (behind ((u.0, p.0.left) ∷ [])) j) ∙ h in absurd cc
+          more (Some rest, v) j =
+              let z : ◌≡◌ {A = Option (List (LeftOf A)) × S} (Some ((u.0, p.0.left) ∷ rest), v) (Some rs, t) = sym (pass_on turns e u ts notes s few ∙ ap (behind ((u.0, p.0.left) ∷ [])) j) ∙ h in
+              let same : (u.0, p.0.left) ∷ rest ≡ rs = cc in
+              sym (ap numbers_left same) ∙ ap (λ (ns : List ℕ). u.0 ∷ ns) (passed_numbers turns e ts p.0.notes p.1 v rest j)
