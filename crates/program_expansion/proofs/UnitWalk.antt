@@ -15,6 +15,10 @@ abbrev pub behind : {S X : Type 0} → List X → Option (List X) × S → Optio
 behind xs (None, t) = (None, t)
 behind xs (Some ys, t) = (Some (xs ++ ys), t)
 
+pub behind_none : {S X : Type 0} (q : Option (List X) × S) → behind [] q ≡ q
+behind_none (None, t) = refl
+behind_none (Some ys, t) = refl
+
 pub behind_twice : {S X : Type 0} (xs ys : List X) (q : Option (List X) × S) → behind xs (behind ys q) ≡ behind (xs ++ ys) q
 behind_twice xs ys (None, t) = refl
 behind_twice {S} xs ys (Some zs, t) = ap (λ ws. (Some ws, t)) (sym (append_assoc xs ys zs))
