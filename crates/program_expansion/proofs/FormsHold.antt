@@ -1,5 +1,5 @@
 -- Forms that were gone through are held, one more at a time.
-use Rattle.std.proofs.Common.{◌≡◌, ℕ, zero, suc, ◌+◌, ◌≤◌, ◌<◌, List, [], ◌∷◌, ◌++◌, drop, length, get_or, slice_get, Bool, true, false, cond, Some, Ok, refl, sym, ap, ◌∙◌, subst, inl, inr, arith}
+use Rattle.std.proofs.Common.{◌≡◌, ℕ, zero, suc, ◌+◌, ◌≤◌, ◌<◌, List, [], ◌∷◌, ◌++◌, drop, length, get_or, slice_get, Bool, true, false, cond, Option, Some, None, Ok, refl, sym, ap, ◌∙◌, subst, inl, inr, arith}
 use Rattle.std.proofs.lemmas.List.{append_assoc, append-nil, length_push}
 use Rattle.std.proofs.lemmas.Option.{slice_get_within, same_Some}
 use Rattle.scheme_model.specs.Ident.{Ident as Identifier, Written}
@@ -30,8 +30,8 @@ use Rattle.unit_scopes.specs.Searched.{searched}
 use Rattle.unit_scopes.proofs.FreshLaws.{none_in_order}
 use Rattle.expansion_laws.proofs.OtherForms.{declared_stays}
 use Rattle.syntax_tree.specs.Works.{IsOpened}
-use Rattle.program_expansion.specs.Ends.{numbers_of, Rise, IsAmong, Ends}
-use Rattle.program_expansion.specs.Forms.{IsBench, IsBegun, IsUntouched, IsDeclared, AreInOrder, PassesTo, PassesForm, CanPass, FormsHeld, AreFresh, AreDeclared, Passing, Passes, Stays, passed, known_by}
+use Rattle.program_expansion.specs.Ends.{numbers_of, Rise, IsAmong}
+use Rattle.program_expansion.specs.Forms.{IsBench, IsBegun, IsUntouched, IsDeclared, AreInOrder, PassesTo, PassesForm, CanPass, FormsHeld, AreFresh, AreDeclared, Passes, Stays, passed, known_by}
 use Rattle.document_units.specs.WereRead.{WereRead}
 use Rattle.program_expansion.specs.declared.forms.Bench.{Bench}
 use Rattle.program_expansion.specs.declared.forms.Declared as code
