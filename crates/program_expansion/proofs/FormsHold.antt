@@ -36,7 +36,7 @@ use Rattle.document_units.specs.WereRead.{WereRead}
 use Rattle.program_expansion.specs.declared.forms.Bench.{Bench}
 use Rattle.program_expansion.specs.declared.forms.Declared as code
 use Rattle.program_expansion.proofs.DeclaredForms.{declared_on, declared_blank, declared_more}
-use Rattle.program_expansion.proofs.FormSteps.{blank_is}
+use Rattle.program_expansion.proofs.FormSteps.{blank_is, nothing_left}
 use Rattle.program_expansion.proofs.UnitForms.{forms_rise, among, none_counted, step_counted}
 use Rattle.program_expansion.proofs.UnitWalk.{behind, behind_none, behind_twice, pass_over, pass_on}
 
@@ -91,7 +91,7 @@ module _ (b : Bench) (unit : ℕ) (ds : List code.Declared) (h : Holds b unit ds
           number = was.number;
           held = λ m e le at. elim (push_cases ds d m e at) [
             | inl old ↦ was.held m e le old
-            | inr new ↦ (Ok [], subst (λ (x : code.Declared). IsDeclared b.work b.region unit m was.state x (Ok [])) (sym new.1) (blank_is b unit m was.state d none (h.fresh m (omega (arith, new.0)))))
+            | inr new ↦ (Ok nothing_left, subst (λ (x : code.Declared). IsDeclared b.work b.region unit m was.state x (Ok nothing_left)) (sym new.1) (blank_is b unit m was.state d none (h.fresh m (omega (arith, new.0)))))
           ];
           in_order = order_later 0 (length ds) (length (ds ++ d ∷ [])) (omega (arith, longer)) (defined_by was.state.unit was.state.table) was.in_order;
         };
