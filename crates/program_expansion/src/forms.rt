@@ -217,7 +217,8 @@ fn declare_tree<L: Ledger>(
         &mut form.trace,
         steps,
     ) {
-        Ok(Left { uses, items }) => {
+        Ok(left) => {
+            let Left { uses, items } = left;
             form.uses = uses;
             form.aside = items;
             Ok(form)
