@@ -1,17 +1,18 @@
 -- Forms of which those that include a text are refused stand for those of the definition.
 use Rattle.std.proofs.Common.{◌≡◌, ℕ, zero, suc, ◌+◌, ◌<◌, ◌≤◌, ◌⊎◌, inl, inr, Bool, true, false, cond, List, [], ◌∷◌, ◌++◌, map, take, length, slice_get, slice_set, Option, Some, None, Result, Ok, Err, refl, sym, ap, ◌∙◌, subst, arith}
-use Rattle.std.specs.Prelude.{◌&&◌, ◌||◌, codes}
+use Rattle.std.specs.Prelude.{◌&&◌, ◌||◌, codes, reverse}
 use Rattle.std.proofs.lemmas.Option.{same_Some}
 use Rattle.scheme_model.specs.Declarations.{UnitForm, is_headed}
 use Rattle.scheme_model.specs.Program.{is_include, form_trees, refused_form, with_refused}
 use Rattle.scheme_model.specs.UnitExpansion.{Formed}
 use Rattle.syntax_tree.specs.declared.trees.Work.{Work}
-use Rattle.core_tree.specs.Units.{FormsStand, IsBlank, IsResult, definitions_from}
+use Rattle.core_tree.specs.Units.{FormsStand, IsBlank, AreDefinitions, definitions_from}
 use Rattle.core_tree.specs.declared.cores.Binder.{Binder}
 use Rattle.core_tree.specs.declared.units.UnitForm as code
 use Rattle.library_table.specs.UnitsRead.{form_of, forms_of}
 use Rattle.library_table.specs.declared.units.UnitForm as source
 use Rattle.program_expansion.specs.Ends.{numbers_of}
+use Rattle.program_expansion.specs.Forms.{AreFormed}
 use Rattle.program_expansion.specs.Refused.{refused_fault, refused_forms, refused_if}
 
 -- ---- one form more
@@ -44,10 +45,10 @@ refused_step unit i m ss cs s c next here there =
 
 -- ---- what stays
 
-pub refused_length : (unit k : ℕ) (ss : List source.UnitForm) (cs : List code.UnitForm) → length ss ≡ length cs → length (refused_forms unit k ss cs) ≡ length cs
-refused_length unit k [] cs h = refl
-refused_length unit k (s ∷ ss) [] h = refl
-refused_length unit k (s ∷ ss) (c ∷ cs) h = ap suc (refused_length unit (suc k) ss cs (omega arith))
+pub refused_length : (unit k : ℕ) (ss : List source.UnitForm) (cs : List code.UnitForm) → length (refused_forms unit k ss cs) ≡ length cs
+refused_length unit k [] cs = refl
+refused_length unit k (s ∷ ss) [] = refl
+refused_length unit k (s ∷ ss) (c ∷ cs) = ap suc (refused_length unit (suc k) ss cs)
 
 same_trace : (unit n : ℕ) (s : source.UnitForm) (c : code.UnitForm) → (refused_if unit n s c).trace ≡ c.trace
 same_trace unit n s c = go (is_include (form_of s))
@@ -56,11 +57,11 @@ same_trace unit n s c = go (is_include (form_of s))
     go true = refl
     go false = refl
 
-pub refused_definitions : (unit k : ℕ) (ss : List source.UnitForm) (cs : List code.UnitForm) → length ss ≡ length cs → definitions_from k (refused_forms unit k ss cs) ≡ definitions_from k cs
-refused_definitions unit k [] cs h = refl
-refused_definitions unit k (s ∷ ss) [] h = refl
-refused_definitions unit k (s ∷ ss) (c ∷ cs) h =
-    λ j. map (λ (b : Binder). (k, b)) (same_trace unit k s c j).definitions ++ refused_definitions unit (suc k) ss cs (omega arith) j
+pub refused_definitions : (unit k : ℕ) (ss : List source.UnitForm) (cs : List code.UnitForm) → definitions_from k (refused_forms unit k ss cs) ≡ definitions_from k cs
+refused_definitions unit k [] cs = refl
+refused_definitions unit k (s ∷ ss) [] = refl
+refused_definitions unit k (s ∷ ss) (c ∷ cs) =
+    λ j. map (λ (b : Binder). (k, b)) (same_trace unit k s c j).definitions ++ refused_definitions unit (suc k) ss cs j
 
 -- ---- one form of the definition
 
@@ -185,3 +186,13 @@ module _ (work : Work) (unit : ℕ) where
               let both : g.form ∷ formed_numbers gs ≡ k ∷ numbers_of (form_trees unit (suc k) (forms_of ss)) = is ∙ trees_expanded unit k f (forms_of ss) at in
               let rest : formed_numbers gs ≡ numbers_of (form_trees unit (suc k) (forms_of ss)) = cc in
               subst (λ (xs : List Formed). FormsStand work unit k (c ∷ refused_forms unit (suc k) ss cs) xs) (sym (with_expanded unit k f (forms_of ss) g gs e at)) (inr (j.0, j.1, more gs j.2 rest))
+
+pub any_formed : (work : Work) (unit : ℕ) (ss : List source.UnitForm) (cs : List code.UnitForm) → AreFormed work unit cs → length ss ≡ length cs → AreFormed work unit (refused_forms unit 0 ss cs)
+any_formed work unit ss cs h long =
+    let any = any_refused work unit 0 ss cs h.formed h.stand long in
+    record {
+      formed = any.0;
+      stand = any.1;
+      defined = h.defined;
+      definitions = subst (λ (bs : List (ℕ × Binder)). AreDefinitions work.symbols (reverse bs) h.defined) (sym (refused_definitions unit 0 ss cs)) h.definitions;
+    }
