@@ -10,8 +10,9 @@ use Rattle.base_library.specs.Texts.{names_of, SpellsStandard}
 use Rattle.base_library.proofs.TextLaws.{by_name}
 use Rattle.base_library.proofs.StandardTexts as standard_texts
 use Rattle.library_table.specs.Repeated.{has_standard_name}
+use Rattle.library_table.specs.declared.units.UnitSource as code
 use Rattle.document_units.specs.Broken.{has_standard}
-use Rattle.document_units.specs.UnitsListed.{WritesProper}
+use Rattle.document_units.specs.UnitsListed.{WritesProper, without_standard}
 
 same_some : {A : Type 0} (o : Option A) → std.is_some o ≡ order.is_some o
 same_some None = refl
@@ -32,3 +33,11 @@ as_imported spelled None true e name is = absurd cc
 as_imported spelled None false e name is = is
 as_imported spelled (Some n) true e name is = sym (ap (λ (b : Bool). option_map spelled (cond b None (Some n))) e)
 as_imported spelled (Some n) false e name is = is ∙ sym (ap (λ (b : Bool). option_map spelled (cond b None (Some n))) e)
+
+-- all but the name stays
+pub same_forms : (c : code.UnitSource) → (without_standard c).forms ≡ c.forms
+same_forms c = go (has_standard c.name)
+  where
+    go : (b : Bool) → (cond b (record c { name = None }) c).forms ≡ c.forms
+    go true = refl
+    go false = refl
