@@ -5,7 +5,7 @@ use Rattle.std.proofs.lemmas.Bool.{eqb-true, eq-eqb, or_cases}
 use Rattle.std.proofs.lemmas.Bool.Decides.{nat_tests}
 use Rattle.std.proofs.lemmas.Option.{same_Some}
 use Rattle.scheme_model.specs.Requirements.{LibraryName}
-use Rattle.scheme_model.specs.Program.{Placed, Prepared, prepared, prepare, imports_at, is_in, on_circle, name_if, is_named, unit_named}
+use Rattle.scheme_model.specs.Program.{Placed, Prepared, prepared, prepare, imports_at, is_in, on_circle, imported_as, is_named, unit_named}
 use Rattle.import_sets.proofs.ReachLaws.{reached_within}
 use Rattle.library_table.specs.declared.units.UnitSource as code
 use Rattle.library_table.specs.Sources.{TellsNames, AreUnits}
@@ -25,7 +25,7 @@ by_name us n (Some m) = is_at n (unit_named m 0 us)
 
 abbrev has_first : List Placed → ℕ → Option Placed → Bool
 has_first us n None = false
-has_first us n (Some u) = by_name us n (name_if n u.source)
+has_first us n (Some u) = by_name us n (imported_as n u.source)
 
 abbrev named_first : List Placed → ℕ → Bool
 named_first us n = has_first us n (slice_get us n)
@@ -33,7 +33,7 @@ named_first us n = has_first us n (slice_get us n)
 is_first : (us : List Placed) (l : LibraryName) (m : ℕ) → unit_named l 0 us ≡ Some m → named_first us m ≡ true
 is_first us l m h =
     let at = named_at l us 0 m h in
-    ap (has_first us m) (ap (slice_get us) (same at.place at.number) ∙ at.there) ∙ go (name_if m at.unit.source) at.named
+    ap (has_first us m) (ap (slice_get us) (same at.place at.number) ∙ at.there) ∙ go (imported_as m at.unit.source) at.named
   where
     same : (i : ℕ) → m ≡ 0 + i → m ≡ i
     same i e = omega arith
@@ -66,9 +66,9 @@ prepared_at us (v ∷ vs) k (suc i) p h = let r = prepared_at us vs (suc k) i p 
 
 -- a unit on a circle is a library, and the first with its name
 circle_name : (us : List Placed) (n : ℕ) (p : Prepared) → slice_get (with_imports us) n ≡ Some p → on_circle (with_imports us) p ≡ true →
-    (m : LibraryName) × ((name_if p.number p.placed.source ≡ Some m) × (unit_named m 0 us ≡ Some p.number))
+    (m : LibraryName) × ((imported_as p.number p.placed.source ≡ Some m) × (unit_named m 0 us ≡ Some p.number))
 circle_name us n p at h =
-    first_name us p.number (name_if p.number p.placed.source) (sym (ap (has_first us p.number) here) ∙ first)
+    first_name us p.number (imported_as p.number p.placed.source) (sym (ap (has_first us p.number) here) ∙ first)
   where
     own : (p.number ≡ n) × (p.imports ≡ imports_at (with_imports us) n)
     own = all_numbered us n p at
@@ -170,7 +170,7 @@ in_circles us n p at = ap (λ m. is_in m (numbers_of (circles us))) (none_more n
     none_more n = omega arith
 
 places_of : (spelled : LibraryName → List ℕ) (us : List Placed) (find : List ℕ → Option ℕ) → ((l : LibraryName) → find (spelled l) ≡ unit_named l 0 us) → (qs : List Prepared) →
-    ((i : ℕ) (q : Prepared) → slice_get qs i ≡ Some q → (m : LibraryName) × ((name_if q.number q.placed.source ≡ Some m) × (unit_named m 0 us ≡ Some q.number))) →
+    ((i : ℕ) (q : Prepared) → slice_get qs i ≡ Some q → (m : LibraryName) × ((imported_as q.number q.placed.source ≡ Some m) × (unit_named m 0 us ≡ Some q.number))) →
     places_by find (map spelled (names_of qs)) ≡ numbers_of qs
 places_of spelled us find finds [] each = refl
 places_of spelled us find finds (q ∷ qs) each =
@@ -184,7 +184,7 @@ circle_places spelled tells cs us are find named names told n p at =
     ap (λ (l : List (List ℕ)). is_in n (places_by find l)) told
     ∙ ap (is_in n) (places_of spelled us find (λ l. named (spelled l) ∙ place_same spelled tells l 0 cs us are) (circles us) each) ∙ in_circles us n p at
   where
-    each : (i : ℕ) (q : Prepared) → slice_get (circles us) i ≡ Some q → (m : LibraryName) × ((name_if q.number q.placed.source ≡ Some m) × (unit_named m 0 us ≡ Some q.number))
+    each : (i : ℕ) (q : Prepared) → slice_get (circles us) i ≡ Some q → (m : LibraryName) × ((imported_as q.number q.placed.source ≡ Some m) × (unit_named m 0 us ≡ Some q.number))
     each i q here = let r = filter_at (on_circle (with_imports us)) (with_imports us) i q here in circle_name us r.1.0 q r.1.1 r.0
 
 pub no_places : (us : List Placed) → circles us ≡ [] → (n : ℕ) (p : Prepared) → slice_get (with_imports us) n ≡ Some p → false ≡ on_circle (with_imports us) p

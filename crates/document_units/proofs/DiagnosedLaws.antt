@@ -7,13 +7,13 @@ use Rattle.std.proofs.lemmas.List.Elements.{filter-append}
 use Rattle.scheme_model.proofs.RenamingLaws.{map-append}
 use Rattle.scheme_model.specs.declared.Occ.{Occ}
 use Rattle.scheme_model.specs.Ident.{Ident, symbol_of}
-use Rattle.scheme_model.specs.ExpansionFaults.{Named, Fault, fault_code, fault_name, BadRules, TwoEllipses, DuplicateVariable, EllipsisDepth, IdleEllipsis, NoRule, EllipsisLength, BadForm, DuplicateBinder, BadPlace, BadRecord, BadQuasi, KeywordRedefined, Duplicate, KeywordAsValue, UseBudget, NodeBudget, DepthBudget, SyntaxError, IncludeRefused, OutOfTurns}
+use Rattle.scheme_model.specs.ExpansionFaults.{Named, Fault, fault_code, fault_name, error_text, BadRules, TwoEllipses, DuplicateVariable, EllipsisDepth, IdleEllipsis, NoRule, EllipsisLength, BadForm, DuplicateBinder, BadPlace, BadRecord, BadQuasi, KeywordRedefined, Duplicate, KeywordAsValue, UseBudget, NodeBudget, DepthBudget, SyntaxError, IncludeRefused, OutOfTurns}
 use Rattle.scheme_model.specs.Cores.{Parts}
 use Rattle.scheme_model.specs.Steps.{Broken}
 use Rattle.scheme_model.specs.UnitExpansion.{Formed}
-use Rattle.scheme_model.specs.Diagnostics.{Bytes, Diagnostic, fault_occ, fault_text, form_diagnostics, or_start}
+use Rattle.scheme_model.specs.Diagnostics.{Bytes, Diagnostic, fault_names, fault_occ, form_diagnostics, or_start}
 use Rattle.syntax_tree.specs.Names.{Names, KeepsNames}
-use Rattle.core_tree.specs.Traces.{IsFault, IsNamedBy, error_text}
+use Rattle.core_tree.specs.Traces.{IsFault, IsNamedBy}
 use Rattle.core_tree.specs.Units.{FormsStand, IsResult, form_errors}
 use Rattle.core_tree.specs.declared.units.UnitForm.{UnitForm}
 use Rattle.syntax_tree.specs.declared.trees.Work.{Work}
@@ -21,38 +21,35 @@ use Rattle.core_tree.specs.declared.traces.FormFault.{FormFault}
 use Rattle.document_units.specs.declared.findings.At.{At}
 use Rattle.document_units.specs.declared.findings.Finding.{Finding}
 use Rattle.document_units.specs.Places.{bytes_at}
-use Rattle.document_units.specs.Wording.{front, worded}
+use Rattle.scheme_model.specs.DiagnosticTexts.{worded}
 use Rattle.document_units.specs.Findings.{told, all_told, is_error, errors_in, Adds, at_of}
-use Rattle.document_units.specs.Diagnosed.{named_text, fault_names, fault_found, result_found, faults_found}
+use Rattle.document_units.specs.Diagnosed.{named_text, fault_found, result_found, faults_found}
 
--- ---- texts
+-- ---- what a fault names
 
-padded : (xs ys : List ℕ) → xs ++ (ys ++ []) ≡ xs ++ ys
-padded xs ys = ap (λ zs. xs ++ zs) (append-nil ys)
-
--- the wording of a fault is the definition's
-pub fault_worded : (f : Fault Ident) → worded (fault_code f) (fault_names f) ≡ fault_text f
-fault_worded BadRules = refl
-fault_worded TwoEllipses = refl
-fault_worded (DuplicateVariable n) = padded (front 23) (symbol_of n.name)
-fault_worded (EllipsisDepth n) = padded (front 24) (symbol_of n.name)
-fault_worded IdleEllipsis = refl
-fault_worded (NoRule n) = refl
-fault_worded EllipsisLength = refl
-fault_worded BadForm = refl
-fault_worded (DuplicateBinder n) = padded (front 32) (symbol_of n.name)
-fault_worded BadPlace = refl
-fault_worded BadRecord = refl
-fault_worded BadQuasi = refl
-fault_worded (KeywordRedefined n) = padded (front 41) (symbol_of n.name)
-fault_worded (Duplicate n) = padded (front 42) (symbol_of n.name)
-fault_worded (KeywordAsValue n) = padded (front 43) (symbol_of n.name)
-fault_worded UseBudget = refl
-fault_worded NodeBudget = refl
-fault_worded DepthBudget = refl
-fault_worded (SyntaxError text) = padded (front 47) text
-fault_worded IncludeRefused = refl
-fault_worded OutOfTurns = refl
+-- an identifier or a text is what the fault names
+names_told : (f : Fault Ident) → named_text (fault_name f) (error_text f) ≡ fault_names f
+names_told BadRules = refl
+names_told TwoEllipses = refl
+names_told (DuplicateVariable n) = refl
+names_told (EllipsisDepth n) = refl
+names_told IdleEllipsis = refl
+names_told (NoRule n) = refl
+names_told EllipsisLength = refl
+names_told BadForm = refl
+names_told (DuplicateBinder n) = refl
+names_told BadPlace = refl
+names_told BadRecord = refl
+names_told BadQuasi = refl
+names_told (KeywordRedefined n) = refl
+names_told (Duplicate n) = refl
+names_told (KeywordAsValue n) = refl
+names_told UseBudget = refl
+names_told NodeBudget = refl
+names_told DepthBudget = refl
+names_told (SyntaxError text) = refl
+names_told IncludeRefused = refl
+names_told OutOfTurns = refl
 
 -- a fault is an Error
 fault_is_error : (f : Fault Ident) → is_error (fault_code f) ≡ true
@@ -78,15 +75,13 @@ fault_is_error (SyntaxError text) = refl
 fault_is_error IncludeRefused = refl
 fault_is_error OutOfTurns = refl
 
--- ---- what a fault names
-
 module _ (names now : Names) (kept : KeepsNames names now) (text : List ℕ) where
   name_there : (n : ℕ) (m : Option (Named Ident)) (t : Option (List ℕ)) → IsNamedBy names (Some n) m → ((i : Ident) → slice_get now.idents n ≡ Some i → text ≡ symbol_of i) → text ≡ named_text m t
   name_there n None t h is = absurd h
   name_there n (Some i) t h is = is i.name (kept.idents n i.name h)
 
   pub names_it : (e : FormFault) (b : Broken) (unit form n : ℕ) → IsFault names unit form e b → e.name ≡ Some n → ((i : Ident) → slice_get now.idents n ≡ Some i → text ≡ symbol_of i) → text ≡ fault_names b.fault
-  names_it e b unit form n is at told = name_there n (fault_name b.fault) (error_text b.fault) (subst (λ (o : Option ℕ). IsNamedBy names o (fault_name b.fault)) at is.name) told
+  names_it e b unit form n is at told = name_there n (fault_name b.fault) (error_text b.fault) (subst (λ (o : Option ℕ). IsNamedBy names o (fault_name b.fault)) at is.name) told ∙ names_told b.fault
 
 no_name : (names : Names) (m : Option (Named Ident)) (t : Option (List ℕ)) → IsNamedBy names None m → named_text m t ≡ named_text None t
 no_name names None t h = refl
@@ -94,7 +89,7 @@ no_name names (Some i) t h = absurd h
 
 -- it names nothing, but may have a text
 pub names_text : (names : Names) (e : FormFault) (b : Broken) (unit form : ℕ) → IsFault names unit form e b → e.name ≡ None → named_text None e.text ≡ fault_names b.fault
-names_text names e b unit form is none = ap (named_text None) is.text ∙ sym (no_name names (fault_name b.fault) (error_text b.fault) (subst (λ (o : Option ℕ). IsNamedBy names o (fault_name b.fault)) none is.name))
+names_text names e b unit form is none = ap (named_text None) is.text ∙ sym (no_name names (fault_name b.fault) (error_text b.fault) (subst (λ (o : Option ℕ). IsNamedBy names o (fault_name b.fault)) none is.name)) ∙ names_told b.fault
 
 -- ---- findings, one behind the other
 
@@ -137,8 +132,7 @@ pub fault_is_found : (bytes : Occ → Bytes) (unit form : ℕ) (names : Names) (
     bytes_at spot ≡ bytes (or_start unit form fault.occ) → name ≡ fault_names e.fault → (f : Finding) → f ≡ record { at = Some spot; form = form; code = fault.code; message = worded fault.code name } → f ≡ fault_found bytes unit form e
 fault_is_found bytes unit form names fault e is spot name exact named f told_so =
     let place : spot ≡ at_of (bytes (or_start unit form (fault_occ unit form (fault_name e.fault) e.here))) = ap at_of (exact ∙ ap (λ o. bytes (or_start unit form o)) is.place) in
-    let text : worded fault.code name ≡ fault_text e.fault = (λ i. worded (is.code i) (named i)) ∙ fault_worded e.fault in
-    told_so ∙ (λ i. record { at = Some (place i); form = form; code = is.code i; message = text i })
+    told_so ∙ (λ i. record { at = Some (place i); form = form; code = is.code i; message = worded (is.code i) (named i) })
 
 -- what is still to come of forms that stand for others
 pub record ToCome (bytes : Occ → Bytes) (work : Work) (unit place : ℕ) (cs : List UnitForm) (fs : List Formed) (old now : List Finding) : Type 0 where

@@ -14,7 +14,7 @@ exports_told [] [] h k = tt
 exports_told [] (x ∷ xs) h k = absurd h
 exports_told (c ∷ cs) [] h k = absurd h
 exports_told (c ∷ cs) (x ∷ xs) h k =
-    (record { inner = h.0.inner; outer = h.0.outer; renamed = (λ j. not (same_place (h.0.inner j).occ (h.0.outer j).occ)) ∙ k.0 }, exports_told cs xs h.1 k.1)
+    (record { form = h.0.form; inner = h.0.inner; outer = h.0.outer; renamed = (λ j. not (same_place (h.0.inner j).occ (h.0.outer j).occ)) ∙ k.0 }, exports_told cs xs h.1 k.1)
 
 pub exports_read : (cs : List code.ExportSpec) (unit : ℕ) (fs : List UnitForm) → AreDeclaredRead fs → AreExportsRead cs (exports_from unit 0 fs) → AreExports cs (exports_from unit 0 fs)
 exports_read cs unit fs w h = exports_told cs (exports_from unit 0 fs) h (renamed_from unit 0 fs w)

@@ -7,7 +7,7 @@ use Rattle.std.proofs.lemmas.Bool.{and_parts}
 use Rattle.scheme_model.specs.Requirements.{LibraryName}
 use Rattle.scheme_model.specs.Data.{Datum, atom, list, vector, bytes, none, part, tail}
 use Rattle.scheme_model.specs.Declarations.{UnitForm, UnitSource, plain_form, is_headed, symbol_in}
-use Rattle.scheme_model.specs.Program.{Placed, Prepared, prepared, prepare, is_in, imported_units, name_if, is_named, unit_named, WholeFault, fault_before, specs_in, specs_from, exports_in, exports_from, forms_or_none, first_ready}
+use Rattle.scheme_model.specs.Program.{Placed, Prepared, prepared, prepare, is_in, imported_units, name_if, unless_standard, imported_as, is_named, unit_named, WholeFault, fault_before, specs_in, specs_from, exports_in, exports_from, forms_or_none, first_ready}
 use Rattle.syntax_tree.proofs.InternLaws.{bytes_told}
 use Rattle.import_sets.specs.InTurn.{all_in, is_open, and_then, in_turn}
 use Rattle.library_table.specs.declared.units.UnitSource as code
@@ -102,19 +102,22 @@ exports_same : (n : ℕ) (r : Result (List UnitForm) Datum) → exports_from n 0
 exports_same n (Ok fs) = all_exports n 0 fs
 exports_same n (Err d) = refl
 
+imported_alike : (n : ℕ) (u : UnitSource) → imported_as n (without_imports u) ≡ imported_as n u
+imported_alike n u = ap unless_standard (same_name n u)
+
 -- the code's unit without its import sets is the unit without its imports
 pub unit_without : (spelled : LibraryName → List ℕ) (n : ℕ) (c : code.UnitSource) (u : UnitSource) → IsUnit spelled n c u → IsUnit spelled n (record c { imports = [] }) (without_imports u)
 unit_without spelled n c u is = record {
-  name = is.name ∙ ap (option_map spelled) (sym (same_name n u));
+  name = is.name ∙ ap (option_map spelled) (sym (imported_alike n u));
   imports = subst (AreImports spelled []) (sym (imports_none n u.forms)) tt;
   exports = subst (AreExports c.exports) (sym (exports_same n u.forms)) is.exports;
 }
 
 -- ---- where names mean the same units
 
-name_given : (n : ℕ) (o : Option WholeFault) (u : Placed) → name_if n (given_if o u).source ≡ name_if n u.source
+name_given : (n : ℕ) (o : Option WholeFault) (u : Placed) → imported_as n (given_if o u).source ≡ imported_as n u.source
 name_given n None u = refl
-name_given n (Some f) u = same_name n u.source
+name_given n (Some f) u = imported_alike n u.source
 
 given_named : (all : List Placed) (l : LibraryName) (k : ℕ) (us : List Placed) → unit_named l k (handed_from all k us) ≡ unit_named l k us
 given_named all l k [] = refl

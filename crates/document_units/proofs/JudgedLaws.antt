@@ -29,6 +29,7 @@ use Rattle.document_units.specs.declared.listing.WholeFault.{WholeFault}
 use Rattle.document_units.specs.declared.listing.WholeFault.TheVariants as fault
 use Rattle.document_units.specs.Broken.{told, or_fault, broken_if, Breaks, has_standard, BreaksStandard, IsListed, AreListed, IsJudged, AreJudged, importing, FindsImports, without_if, Forgets}
 use Rattle.document_units.specs.Turned.{turns}
+use Rattle.document_units.proofs.StandardNamed.{standard_same}
 use Rattle.document_units.proofs.Handed.{handed, code_given, units_given, turns_handed}
 use Rattle.document_units.proofs.NamedUnits.{named_of_taken, imported_same, prepared_same, taken_same}
 use Rattle.document_units.proofs.TurnGraph.{AreFrom, prepared_from, all_numbered, row_low, all_within, taken_has, as_many}
@@ -115,14 +116,6 @@ module _ (all : List Placed) where
       (λ m i. both_true p.imports m (row_low all n m (ap (is_in m) (sym own) ∙ i)).1 (reached_start ts (length ts) p.imports m i)) p.number h)).1)
 
 -- ---- what breaks a unit
-
-same_some : {A : Type 0} (o : Option A) → std.is_some o ≡ order.is_some o
-same_some None = refl
-same_some (Some a) = refl
-
-standard_same : (spelled : LibraryName → List ℕ) → SpellsStandard spelled → (o : Option LibraryName) → has_standard (option_map spelled o) ≡ has_standard_name o
-standard_same spelled is None = refl
-standard_same spelled is (Some n) = same_some (names_of (spelled n)) ∙ ap (λ (o : Option (List (List ℕ))). order.is_some o) (by_name spelled is (spelled n) n refl)
 
 repeated_same : (us vs : List Placed) → ((l : LibraryName) → unit_named l 0 us ≡ unit_named l 0 vs) → (p : Prepared) (o : Option LibraryName) → name_if p.number p.placed.source ≡ o → is_repeated us p ≡ is_repeated vs p
 repeated_same us vs same p None e = rw e refl

@@ -20,6 +20,7 @@ pub mod TurnGraph  -- Units wait for units that aren't too many, and in no circl
 pub mod BrokenSteps  -- One unit more
 pub mod CircleNames  -- The units on circles are told by the names of their libraries
 pub mod Handed  -- The units as they are put in order
+pub mod StandardNamed  -- Units with a standard name are imported by none
 pub mod JudgedLaws  -- Units are judged as the definition of a program breaks them
 pub mod DiagnosedLaws  -- What is found in forms tells the definition's diagnostics
 pub mod HeadsKept  -- Heads that stay are those of the same units

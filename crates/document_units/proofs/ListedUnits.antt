@@ -10,7 +10,7 @@ use Rattle.scheme_model.specs.Data.{Place, Datum, Data, none, part, tail, place_
 use Rattle.scheme_model.specs.Declarations as source
 use Rattle.scheme_model.specs.Declarations.{UnitForm, UnitKind, IsLibrary, is_library, Flat, library_with, library_of, behind_head, program_in}
 use Rattle.scheme_model.specs.Program as model
-use Rattle.scheme_model.specs.Program.{Placed, prepared, ImportSpec, name_if, max_units, declared_fault, forms_or_none, specs_from, exports_from}
+use Rattle.scheme_model.specs.Program.{Placed, prepared, ImportSpec, name_if, imported_as, unless_standard, max_units, declared_fault, forms_or_none, specs_from, exports_from}
 use Rattle.scheme_model.specs.Requirements.{LibraryName, Known}
 use Rattle.scheme_tokens.specs.LibraryNames.{library_text}
 use Rattle.syntax_tree.specs.declared.units.UnitKind as code_kind
@@ -28,10 +28,10 @@ use Rattle.library_table.specs.declared.units.ImportSpec as code_import
 use Rattle.library_table.specs.declared.units.UnitForm as code_form
 use Rattle.library_table.specs.declared.units.UnitSource.{UnitSource}
 use Rattle.library_table.proofs.SpelledSources.{imports_spelled, source_spelled}
-use Rattle.document_units.specs.Broken.{told}
+use Rattle.document_units.specs.Broken.{told, has_standard}
 use Rattle.document_units.specs.UnitSources.{IsSourceOf, HaveOneIfSame, IsSpec}
 use Rattle.scheme_model.specs.Sites.{names_in_forms}
-use Rattle.document_units.specs.UnitsListed.{WritesProper, IsReadAt, IsReadFor, IsBlankLibrary, IsOne, AreSoFar, placed_in, AddsRead, AreUnitsListed}
+use Rattle.document_units.specs.UnitsListed.{WritesProper, IsReadAt, IsReadFor, IsBlankLibrary, without_standard, IsOne, AreSoFar, placed_in, AddsRead, AreUnitsListed}
 use Rattle.document_units.specs.WereRead.{FormsRead}
 use Rattle.document_units.specs.declared.listing.WholeFault.{WholeFault}
 use Rattle.document_units.specs.declared.listing.WholeFault.TheVariants as fault
@@ -41,6 +41,7 @@ use Rattle.document_units.proofs.ExportsRead.{exports_read}
 use Rattle.document_units.proofs.OneIfSame.{all_from}
 use Rattle.document_units.proofs.RenamedLaws.{AreDeclaredRead}
 use Rattle.document_units.proofs.UnitStarts.{library_token, program_token}
+use Rattle.document_units.proofs.StandardNamed.{standard_told, as_imported}
 
 -- ---- names that units are known by
 
@@ -120,17 +121,37 @@ module _ (spelled : LibraryName → List ℕ) (written : WritesProper spelled) (
         single = all_from n 0 (forms_or_none u.forms);
       }
 
-  -- a library
-  library_at : (known : Known) (d : Datum) (c : UnitSource) (name : Option (List ℕ)) → true ≡ is_library d → FormsRead (forms_of c.forms) → IsSource n c (library_of known d) d → name ≡ option_map library_text (library_of known d).name → IsReadAt spelled n (library_of known d) name c None
-  library_at known d c name lib read h is = record {
-    name = is;
-    spells = λ whole. is ∙ (sym h.name ∙ source_spelled spelled written known n c d h);
-    bad = ap (λ (f : Flat). option_map told (declared_fault f None)) (sym h.forms);
-    named = source_spelled spelled written known n c d h ∙ ap (option_map spelled) (sym (usable_name (library_of known d) (forms_of c.forms) h.forms));
-    span = h.span ∙ library_token known d lib;
-    source = source_of (library_of known d) c d h read;
-    read = read;
-  }
+  -- a library, which has no name where that is standard
+  library_at : (known : Known) (d : Datum) (c : UnitSource) (name : Option (List ℕ)) → true ≡ is_library d → FormsRead (forms_of c.forms) → IsSource n c (library_of known d) d → name ≡ option_map library_text (library_of known d).name → IsReadAt spelled n (library_of known d) name (without_standard c) None
+  library_at known d c name lib read h is = go (has_standard c.name) refl
+    where
+      by_name : (b : Bool) → has_standard c.name ≡ b → cond b None c.name ≡ option_map spelled (imported_as 0 (library_of known d))
+      by_name b e =
+          as_imported spelled (library_of known d).name b (sym (standard_told (library_of known d).name c.name (λ other k. source_spelled other k known n c d h)) ∙ e) c.name (source_spelled spelled written known n c d h)
+          ∙ ap (λ (o : Option LibraryName). option_map spelled (unless_standard o)) (sym (usable_name (library_of known d) (forms_of c.forms) h.forms))
+
+      own : IsSourceOf spelled (prepared [] n (record { document = 0; source = library_of known d })) None c
+      own = source_of (library_of known d) c d h read
+
+      go : (b : Bool) → has_standard c.name ≡ b → IsReadAt spelled n (library_of known d) name (cond b (record c { name = None }) c) None
+      go true e = record {
+        name = is;
+        spells = λ whole. is ∙ (sym h.name ∙ source_spelled spelled written known n c d h);
+        bad = ap (λ (f : Flat). option_map told (declared_fault f None)) (sym h.forms);
+        named = by_name true e;
+        span = h.span ∙ library_token known d lib;
+        source = record { kind = own.kind; forms = own.forms; imports = own.imports; exports = own.exports; single = own.single };
+        read = read;
+      }
+      go false e = record {
+        name = is;
+        spells = λ whole. is ∙ (sym h.name ∙ source_spelled spelled written known n c d h);
+        bad = ap (λ (f : Flat). option_map told (declared_fault f None)) (sym h.forms);
+        named = by_name false e;
+        span = h.span ∙ library_token known d lib;
+        source = own;
+        read = read;
+      }
 
   -- a library that has a bad declaration
   blank_at : (known : Known) (d e : Datum) (c : UnitSource) (span : Span) (name : Option (List ℕ)) → true ≡ is_library d → c.span ≡ first_token d → IsBlankLibrary c → (library_of known d).forms ≡ Err e → span ≡ bytes_of e → name ≡ option_map library_text (library_of known d).name →
@@ -141,7 +162,7 @@ module _ (spelled : LibraryName → List ℕ) (written : WritesProper spelled) (
         name = is;
         spells = λ k. (let z : Some (model.BadDeclaration e) ≡ None = sym (ap (λ (f : Flat). declared_fault f None) bad) ∙ k in absurd cc);
         bad = ap (λ (s : Span). Some (fault.BadDeclaration s)) at ∙ ap (λ (f : Flat). option_map told (declared_fault f None)) (sym bad);
-        named = blank.name ∙ ap (option_map spelled) (sym (no_name_if (library_of known d) e bad));
+        named = blank.name ∙ ap (λ (o : Option LibraryName). option_map spelled (unless_standard o)) (sym (no_name_if (library_of known d) e bad));
         span = token ∙ library_token known d lib;
         source = record {
           kind = ap kind_as blank.kind ∙ sym (library_kind known d (behind_head d));
@@ -163,13 +184,13 @@ module _ (spelled : LibraryName → List ℕ) (written : WritesProper spelled) (
         name = sym (ap (option_map library_text) unnamed);
         spells = λ whole. sym (ap (option_map spelled) unnamed);
         bad = ap (λ (f : Flat). option_map told (declared_fault f None)) (sym h.forms);
-        named = h.name ∙ ap (option_map library_text) unnamed ∙ sym (ap (option_map spelled) (usable_name u (forms_of c.forms) h.forms ∙ unnamed));
+        named = h.name ∙ ap (option_map library_text) unnamed ∙ sym (ap (λ (o : Option LibraryName). option_map spelled (unless_standard o)) (usable_name u (forms_of c.forms) h.forms ∙ unnamed));
         span = h.span ∙ program_token d rest u (ap program_in (sym begins) ∙ one);
         source = source_of u c d h read;
         read = read;
       }
 
-pub library_for : (known : Known) (n : ℕ) (d : Datum) (c : UnitSource) (name : Option (List ℕ)) → true ≡ is_library d → FormsRead (forms_of c.forms) → IsSource n c (library_of known d) d → name ≡ option_map library_text (library_of known d).name → IsReadFor n (library_of known d) name c None
+pub library_for : (known : Known) (n : ℕ) (d : Datum) (c : UnitSource) (name : Option (List ℕ)) → true ≡ is_library d → FormsRead (forms_of c.forms) → IsSource n c (library_of known d) d → name ≡ option_map library_text (library_of known d).name → IsReadFor n (library_of known d) name (without_standard c) None
 library_for known n d c name lib read h is spelled written = library_at spelled written n known d c name lib read h is
 
 pub blank_for : (known : Known) (n : ℕ) (d e : Datum) (c : UnitSource) (span : Span) (name : Option (List ℕ)) → true ≡ is_library d → c.span ≡ first_token d → IsBlankLibrary c → (library_of known d).forms ≡ Err e → span ≡ bytes_of e → name ≡ option_map library_text (library_of known d).name →
@@ -289,7 +310,7 @@ module _ (spelled : LibraryName → List ℕ) (all : List Placed) (u : Units) (f
       let h = head_at n p there in
       let one = far.each n p h.0 c there h.1 at in
       record {
-        name = one.named ∙ ap (option_map spelled) (sym (foremost_name n p.source lt));
+        name = one.named ∙ ap (λ (o : Option LibraryName). option_map spelled (unless_standard o)) (sym (foremost_name n p.source lt));
         imports = imports_back spelled c.imports (specs_from n 0 (forms_or_none p.source.forms)) (one.source.imports refl);
         exports = one.source.exports;
       }

@@ -5,42 +5,42 @@ use Rattle.std.proofs.lemmas.Bool.{eqb-true, or_cases, ltb-true}
 use Rattle.std.proofs.lemmas.Option.{same_Some}
 use Rattle.scheme_model.specs.Requirements.{LibraryName}
 use Rattle.scheme_model.specs.Entries.{library_in}
-use Rattle.scheme_model.specs.Program.{Placed, ImportSpec, Prepared, prepared, prepare, imports_at, imported_units, name_if, is_named, unit_named, is_in, specs_from, forms_or_none}
+use Rattle.scheme_model.specs.Program.{Placed, ImportSpec, Prepared, prepared, prepare, imports_at, imported_units, imported_as, unless_standard, is_named, unit_named, is_in, specs_from, forms_or_none}
 
 one_more : (k i : ℕ) → suc k + i ≡ k + suc i
 one_more k i = omega arith
 
 -- ---- the first unit with a name
 
--- it has that name, and isn't one too many
+-- it is imported by that name, and isn't one too many
 pub record HasName (l : LibraryName) (us : List Placed) (k m : ℕ) : Type 0 where
   pub place : ℕ
   pub unit : Placed
   pub number : m ≡ k + place
   pub there : slice_get us place ≡ Some unit
-  pub named : is_named l (name_if m unit.source) ≡ true
+  pub named : is_named l (imported_as m unit.source) ≡ true
 
 pub named_at : (l : LibraryName) (us : List Placed) (k m : ℕ) → unit_named l k us ≡ Some m → HasName l us k m
 named_at l [] k m h = absurd cc
-named_at l (u ∷ us) k m h = go (named_at l us (suc k) m) (is_named l (name_if k u.source)) refl h
+named_at l (u ∷ us) k m h = go (named_at l us (suc k) m) (is_named l (imported_as k u.source)) refl h
   where
-    go : (unit_named l (suc k) us ≡ Some m → HasName l us (suc k) m) → (b : Bool) → is_named l (name_if k u.source) ≡ b → cond b (Some k) (unit_named l (suc k) us) ≡ Some m → HasName l (u ∷ us) k m
-    go more true e i = let same : k ≡ m = same_Some k m i in record { place = 0; unit = u; number = omega arith; there = refl; named = ap (λ n. is_named l (name_if n u.source)) (sym same) ∙ e }
+    go : (unit_named l (suc k) us ≡ Some m → HasName l us (suc k) m) → (b : Bool) → is_named l (imported_as k u.source) ≡ b → cond b (Some k) (unit_named l (suc k) us) ≡ Some m → HasName l (u ∷ us) k m
+    go more true e i = let same : k ≡ m = same_Some k m i in record { place = 0; unit = u; number = omega arith; there = refl; named = ap (λ n. is_named l (imported_as n u.source)) (sym same) ∙ e }
     go more false e i = let r = more i in record { place = suc r.place; unit = r.unit; number = r.number ∙ one_more k r.place; there = r.there; named = r.named }
 
 -- one that has a name isn't one too many
-pub few_named : (l : LibraryName) (n : ℕ) (u : Placed) → is_named l (name_if n u.source) ≡ true → n < 128
+pub few_named : (l : LibraryName) (n : ℕ) (u : Placed) → is_named l (imported_as n u.source) ≡ true → n < 128
 few_named l n u h = by (nat_lt n 128) refl _ h
   where
-    by : (b : Bool) → nat_lt n 128 ≡ b → (o : Option LibraryName) → is_named l (cond b o None) ≡ true → n < 128
+    by : (b : Bool) → nat_lt n 128 ≡ b → (o : Option LibraryName) → is_named l (unless_standard (cond b o None)) ≡ true → n < 128
     by true low o e = ltb-true n 128 low
     by false low o e = absurd cc
 
 -- from the 129th on no unit has a name
-unnamed : (l : LibraryName) (n : ℕ) (u : Placed) → 128 ≤ n → is_named l (name_if n u.source) ≡ false
-unnamed l n u le = go (is_named l (name_if n u.source)) refl
+unnamed : (l : LibraryName) (n : ℕ) (u : Placed) → 128 ≤ n → is_named l (imported_as n u.source) ≡ false
+unnamed l n u le = go (is_named l (imported_as n u.source)) refl
   where
-    go : (b : Bool) → is_named l (name_if n u.source) ≡ b → is_named l (name_if n u.source) ≡ false
+    go : (b : Bool) → is_named l (imported_as n u.source) ≡ b → is_named l (imported_as n u.source) ≡ false
     go true e = let lt = few_named l n u e in absurd (omega arith)
     go false e = e
 
@@ -52,7 +52,7 @@ none_named l (u ∷ us) k le = ap (λ (b : Bool). cond b (Some k) (unit_named l 
 taken_named : (l : LibraryName) (m : ℕ) (us : List Placed) (k : ℕ) → m + k ≡ 128 → unit_named l k (take m us) ≡ unit_named l k us
 taken_named l zero us k e = sym (none_named l us k (omega arith))
 taken_named l (suc m) [] k e = refl
-taken_named l (suc m) (u ∷ us) k e = ap (cond (is_named l (name_if k u.source)) (Some k)) (taken_named l m us (suc k) (omega arith))
+taken_named l (suc m) (u ∷ us) k e = ap (cond (is_named l (imported_as k u.source)) (Some k)) (taken_named l m us (suc k) (omega arith))
 
 pub named_of_taken : (l : LibraryName) (us : List Placed) → unit_named l 0 (take 128 us) ≡ unit_named l 0 us
 named_of_taken l us = taken_named l 128 us 0 refl

@@ -12,24 +12,24 @@ both : (xs ys : List ExportSpec) → HaveOneIfSame xs → HaveOneIfSame ys → H
 both [] ys h k = k
 both (x ∷ xs) ys h k = (h.0, both xs ys h.1 k)
 
-one_export : (t : Tree (List ℕ)) → HaveOneIfSame (export_of t)
-one_export (name i o) = (λ h. refl, tt)
-one_export (atom a o) = tt
-one_export (vector ts o) = tt
-one_export (list no_trees end o) = tt
-one_export (list (tree r no_trees) end o) = tt
-one_export (list (tree r (tree (name i p) (tree (name j q) ts))) end o) = (λ h. absurd cc, tt)
-one_export (list (tree r (tree (name i p) no_trees)) end o) = tt
-one_export (list (tree r (tree (name i p) (tree (atom b q) ts))) end o) = tt
-one_export (list (tree r (tree (name i p) (tree (list us e q) ts))) end o) = tt
-one_export (list (tree r (tree (name i p) (tree (vector us q) ts))) end o) = tt
-one_export (list (tree r (tree (atom a p) ts)) end o) = tt
-one_export (list (tree r (tree (list us e p) ts)) end o) = tt
-one_export (list (tree r (tree (vector us p) ts)) end o) = tt
+one_export : (form : ℕ) (t : Tree (List ℕ)) → HaveOneIfSame (export_of form t)
+one_export form (name i o) = (λ h. refl, tt)
+one_export form (atom a o) = tt
+one_export form (vector ts o) = tt
+one_export form (list no_trees end o) = tt
+one_export form (list (tree r no_trees) end o) = tt
+one_export form (list (tree r (tree (name i p) (tree (name j q) ts))) end o) = (λ h. absurd cc, tt)
+one_export form (list (tree r (tree (name i p) no_trees)) end o) = tt
+one_export form (list (tree r (tree (name i p) (tree (atom b q) ts))) end o) = tt
+one_export form (list (tree r (tree (name i p) (tree (list us e q) ts))) end o) = tt
+one_export form (list (tree r (tree (name i p) (tree (vector us q) ts))) end o) = tt
+one_export form (list (tree r (tree (atom a p) ts)) end o) = tt
+one_export form (list (tree r (tree (list us e p) ts)) end o) = tt
+one_export form (list (tree r (tree (vector us p) ts)) end o) = tt
 
 all_with : (unit form first : ℕ) (ds : List Datum) → HaveOneIfSame (exports_with unit form first ds)
 all_with unit form first [] = tt
-all_with unit form first (d ∷ ds) = both (export_of (tree_of (λ s. s) (placed_in unit form first) d)) (exports_with unit form first ds) (one_export (tree_of (λ s. s) (placed_in unit form first) d)) (all_with unit form first ds)
+all_with unit form first (d ∷ ds) = both (export_of form (tree_of (λ s. s) (placed_in unit form first) d)) (exports_with unit form first ds) (one_export form (tree_of (λ s. s) (placed_in unit form first) d)) (all_with unit form first ds)
 
 all_in : (unit form : ℕ) (f : UnitForm) (b : Bool) → (f.declared && is_headed (codes "export") f.datum) ≡ b → HaveOneIfSame (exports_in unit form f)
 all_in unit form f true e = rw e (all_with unit form (place_of f.datum).first (behind_first (list_parts f.datum)))

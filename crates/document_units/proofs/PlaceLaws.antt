@@ -4,8 +4,8 @@ use Rattle.std.proofs.lemmas.List.{length-map}
 use Rattle.scheme_model.specs.declared.Occ.{Occ}
 use Rattle.scheme_model.specs.Data.{place_of}
 use Rattle.scheme_model.specs.Declarations.{UnitForm}
-use Rattle.scheme_model.specs.Program.{UnitResult}
-use Rattle.scheme_model.specs.Diagnostics.{Span, Bytes, bytes_of, in_unit, span_at, spans_at, unit_at, unit_start, first_token, or_start}
+use Rattle.scheme_model.specs.Program.{UnitResult, result_at}
+use Rattle.scheme_model.specs.Diagnostics.{Span, Bytes, bytes_of, in_unit, span_at, spans_at, unit_start, first_token, or_start}
 use Rattle.ls_base.specs.declared.places.Span as code_span
 use Rattle.document_units.specs.Readings.{Read, span_seen}
 use Rattle.document_units.specs.declared.documents.Document as code_document
@@ -16,21 +16,21 @@ use Rattle.document_units.specs.Places.{spans_of, start_of, number_at, form_or_s
 module _ (rs : List Read) where
   -- the unit with a number is the one at that place
   found : (k : ℕ) (hs : List Head) (us : List UnitResult) → AreHeads rs k hs us → (n m : ℕ) (h : Head) → m ≡ k + n → slice_get hs n ≡ Some h →
-      (r : UnitResult) × (unit_at us m ≡ Some r) × IsHead rs m h r
+      (r : UnitResult) × (result_at us m ≡ Some r) × IsHead rs m h r
   found k [] us is n m h at get = cc
   found k (g ∷ hs) [] is n m h at get = absurd is
   found k (g ∷ hs) (r ∷ us) is zero m h at get =
       let here : k ≡ m = omega arith in
       let same : g ≡ h = cc in
-      (r, ap (λ b. cond b (Some r) (unit_at us m)) (eq-eqb r.unit.number m (is.0.number ∙ here)), subst (λ x. IsHead rs x h r) here (subst (λ x. IsHead rs k x r) same is.0))
+      (r, ap (λ b. cond b (Some r) (result_at us m)) (eq-eqb r.unit.number m (is.0.number ∙ here)), subst (λ x. IsHead rs x h r) here (subst (λ x. IsHead rs k x r) same is.0))
   found k (g ∷ hs) (r ∷ us) is (suc n) m h at get =
       let number : r.unit.number ≡ k = is.0.number in
       let other : r.unit.number ≡ m → ⊥ = λ e. omega arith in
       let next : m ≡ suc k + n = omega arith in
       let q = found (suc k) hs us is.1 n m h next get in
-      (q.0, ap (λ b. cond b (Some r) (unit_at us m)) (ne_eqb r.unit.number m other) ∙ q.1, q.2)
+      (q.0, ap (λ b. cond b (Some r) (result_at us m)) (ne_eqb r.unit.number m other) ∙ q.1, q.2)
 
-  missing : (k : ℕ) (hs : List Head) (us : List UnitResult) → AreHeads rs k hs us → (n m : ℕ) → m ≡ k + n → slice_get hs n ≡ None → unit_at us m ≡ None
+  missing : (k : ℕ) (hs : List Head) (us : List UnitResult) → AreHeads rs k hs us → (n m : ℕ) → m ≡ k + n → slice_get hs n ≡ None → result_at us m ≡ None
   missing k [] [] is n m at get = refl
   missing k [] (r ∷ us) is n m at get = absurd is
   missing k (g ∷ hs) [] is n m at get = absurd is
@@ -39,7 +39,7 @@ module _ (rs : List Read) where
       let number : r.unit.number ≡ k = is.0.number in
       let other : r.unit.number ≡ m → ⊥ = λ e. omega arith in
       let next : m ≡ suc k + n = omega arith in
-      ap (λ b. cond b (Some r) (unit_at us m)) (ne_eqb r.unit.number m other) ∙ missing (suc k) hs us is.1 n m next get
+      ap (λ b. cond b (Some r) (result_at us m)) (ne_eqb r.unit.number m other) ∙ missing (suc k) hs us is.1 n m next get
 
 firsts_are : (fs : List UnitForm) (n : ℕ) → number_at (map (λ f. (place_of f.datum).first) fs) n ≡ first_token fs n
 firsts_are [] n = refl
@@ -91,30 +91,30 @@ module _ (p : code.Places) (rs : List Read) (us : List UnitResult) (are : ArePla
   at_no_unit o at = ap (λ x. in_unit (spans_of rs) x o) (sym (missing rs 0 p.heads.now us are.heads o.unit o.unit (omega arith) at))
 
   -- a unit that there is begins with its first token
-  pub start_is : (n : ℕ) (h : Head) → slice_get p.heads.now n ≡ Some h → ◌≡◌ {A = Bytes} (record { document = h.document; span = span_seen h.span }) (start_of (spans_of rs) (unit_at us n))
+  pub start_is : (n : ℕ) (h : Head) → slice_get p.heads.now n ≡ Some h → ◌≡◌ {A = Bytes} (record { document = h.document; span = span_seen h.span }) (start_of (spans_of rs) (result_at us n))
   start_is n h at =
       let q = found rs 0 p.heads.now us are.heads n n h (omega arith) at in
       let r : UnitResult = q.0 in
       let e : ◌≡◌ {A = Bytes} (record { document = h.document; span = span_seen h.span }) (unit_start (spans_of rs) r.unit) = λ i. record { document = q.2.document i; span = q.2.span i } in
       e ∙ ap (start_of (spans_of rs)) (sym q.1)
 
-  pub start_no_unit : (n : ℕ) → slice_get p.heads.now n ≡ None → ◌≡◌ {A = Bytes} (record { document = 0; span = record { start = 0; end = 0 } }) (start_of (spans_of rs) (unit_at us n))
+  pub start_no_unit : (n : ℕ) → slice_get p.heads.now n ≡ None → ◌≡◌ {A = Bytes} (record { document = 0; span = record { start = 0; end = 0 } }) (start_of (spans_of rs) (result_at us n))
   start_no_unit n at = ap (start_of (spans_of rs)) (sym (missing rs 0 p.heads.now us are.heads n n (omega arith) at))
 
-  pub form_no_unit : (n form : ℕ) → slice_get p.heads.now n ≡ None → ◌≡◌ {A = Bytes} (record { document = 0; span = record { start = 0; end = 0 } }) (form_or_start (spans_of rs) us (unit_at us n) n form)
+  pub form_no_unit : (n form : ℕ) → slice_get p.heads.now n ≡ None → ◌≡◌ {A = Bytes} (record { document = 0; span = record { start = 0; end = 0 } }) (form_or_start (spans_of rs) us (result_at us n) n form)
   form_no_unit n form at = ap (λ x. form_or_start (spans_of rs) us x n form) (sym (missing rs 0 p.heads.now us are.heads n n (omega arith) at))
 
   -- a form that there is, and one that there isn't
   pub form_is : (b : Bytes) (n form : ℕ) (h : Head) → slice_get p.heads.now n ≡ Some h → nat_lt form (length h.firsts.items) ≡ true → b ≡ bytes_of (spans_of rs) us (or_start n form None) →
-      b ≡ form_or_start (spans_of rs) us (unit_at us n) n form
+      b ≡ form_or_start (spans_of rs) us (result_at us n) n form
   form_is b n form h at less is =
       let q = found rs 0 p.heads.now us are.heads n n h (omega arith) at in
       let r : UnitResult = q.0 in
       let e : nat_lt form (length r.unit.forms) ≡ true = ap (nat_lt form) (sym (ap length q.2.firsts ∙ length-map r.unit.forms (λ f. (place_of f.datum).first))) ∙ less in
       is ∙ ap (λ t. cond t (bytes_of (spans_of rs) us (or_start n form None)) (start_of (spans_of rs) (Some r))) (sym e) ∙ ap (λ x. form_or_start (spans_of rs) us x n form) (sym q.1)
 
-  pub form_isnt : (b : Bytes) (n form : ℕ) (h : Head) → slice_get p.heads.now n ≡ Some h → nat_lt form (length h.firsts.items) ≡ false → b ≡ start_of (spans_of rs) (unit_at us n) →
-      b ≡ form_or_start (spans_of rs) us (unit_at us n) n form
+  pub form_isnt : (b : Bytes) (n form : ℕ) (h : Head) → slice_get p.heads.now n ≡ Some h → nat_lt form (length h.firsts.items) ≡ false → b ≡ start_of (spans_of rs) (result_at us n) →
+      b ≡ form_or_start (spans_of rs) us (result_at us n) n form
   form_isnt b n form h at less is =
       let q = found rs 0 p.heads.now us are.heads n n h (omega arith) at in
       let r : UnitResult = q.0 in

@@ -44,7 +44,7 @@ one_place o =
 -- ---- one export
 
 renamed_in : (unit form first low : ℕ) (o : Option Occ) (ds : Data) → Rise low ds → first ≤ low →
-    TellRenamed (export_of (trees.list (parts_of (λ s. s) (placed_in unit form first) ds) (end_of (λ s. s) (placed_in unit form first) ds) o))
+    TellRenamed (export_of form (trees.list (parts_of (λ s. s) (placed_in unit form first) ds) (end_of (λ s. s) (placed_in unit form first) ds) o))
 renamed_in unit form first low o none rise le = tt
 renamed_in unit form first low o (tail r) rise le = tt
 renamed_in unit form first low o (part r none) rise le = tt
@@ -79,7 +79,7 @@ renamed_in unit form first low o (part r (part (atom p (implied s)) (part (bytes
 renamed_in unit form first low o (part r (part (atom p (implied s)) (part (atom p2 (spelled (Name s2 b2))) ds))) rise le = (refl, tt)
 renamed_in unit form first low o (part r (part (atom p (implied s)) (part (atom p2 (implied s2)) ds))) rise le = absurd rise.1.1.1.1.1.0
 
-renamed_one : (unit form first : ℕ) (d : Datum) → first ≤ (place_of d).first → Inner d → TellRenamed (export_of (tree_of (λ s. s) (placed_in unit form first) d))
+renamed_one : (unit form first : ℕ) (d : Datum) → first ≤ (place_of d).first → Inner d → TellRenamed (export_of form (tree_of (λ s. s) (placed_in unit form first) d))
 renamed_one unit form first (atom p (spelled (Name s b))) le h = (one_place (placed_in unit form first p.first), tt)
 renamed_one unit form first (atom p (spelled (Numeral s))) le h = tt
 renamed_one unit form first (atom p (spelled (Quoted s))) le h = tt
@@ -126,7 +126,7 @@ datum_rises (bytes p s) h = tt
 
 all_with : (unit form first : ℕ) (ds : List Datum) → EachRises first ds → TellRenamed (exports_with unit form first ds)
 all_with unit form first [] h = tt
-all_with unit form first (d ∷ ds) h = both (export_of (tree_of (λ s. s) (placed_in unit form first) d)) (exports_with unit form first ds) (renamed_one unit form first d h.0 h.1.0) (all_with unit form first ds h.1.1)
+all_with unit form first (d ∷ ds) h = both (export_of form (tree_of (λ s. s) (placed_in unit form first) d)) (exports_with unit form first ds) (renamed_one unit form first d h.0 h.1.0) (all_with unit form first ds h.1.1)
 
 first_true : (a b : Bool) → (a && b) ≡ true → a ≡ true
 first_true true b h = refl

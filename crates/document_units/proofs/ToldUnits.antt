@@ -3,8 +3,8 @@ use Rattle.std.proofs.Common.{◌≡◌, ℕ, zero, suc, ◌+◌, ◌<◌, ◌�
 use Rattle.std.proofs.lemmas.List.{length_push}
 use Rattle.std.proofs.lemmas.Option.{same_Some}
 use Rattle.syntax_tree.proofs.Places.{push_cases}
-use Rattle.scheme_model.specs.Program.{Program, UnitResult}
-use Rattle.scheme_model.specs.Diagnostics.{Diagnostic, Span, all_diagnostics, sorted, unit_at, unit_diagnostics}
+use Rattle.scheme_model.specs.Program.{Program, UnitResult, result_at}
+use Rattle.scheme_model.specs.Diagnostics.{Diagnostic, Span, all_diagnostics, sorted, unit_diagnostics}
 use Rattle.core_tree.specs.Units.{error_as, unit_errors}
 use Rattle.core_tree.specs.declared.units.Unit as code
 use Rattle.document_units.specs.declared.findings.At.{At}
@@ -17,13 +17,13 @@ use Rattle.document_units.specs.Places.{AreHeads, spans_of}
 use Rattle.document_units.specs.Readings.{Read}
 
 -- the result at a place is the one with its number
-pub result_of : (rs : List Read) (k : ℕ) (hs : List Head) (us : List UnitResult) → AreHeads rs k hs us → (n m : ℕ) (r : UnitResult) → m ≡ k + n → slice_get us n ≡ Some r → unit_at us m ≡ Some r
+pub result_of : (rs : List Read) (k : ℕ) (hs : List Head) (us : List UnitResult) → AreHeads rs k hs us → (n m : ℕ) (r : UnitResult) → m ≡ k + n → slice_get us n ≡ Some r → result_at us m ≡ Some r
 result_of rs k [] [] are n m r is at = absurd cc
 result_of rs k [] (q ∷ us) are n m r is at = absurd are
 result_of rs k (h ∷ hs) [] are n m r is at = absurd are
-result_of rs k (h ∷ hs) (q ∷ us) are zero m r is at = ap (λ b. cond b (Some q) (unit_at us m)) (eq-eqb q.unit.number m (let e = are.0.number in omega arith)) ∙ at
+result_of rs k (h ∷ hs) (q ∷ us) are zero m r is at = ap (λ b. cond b (Some q) (result_at us m)) (eq-eqb q.unit.number m (let e = are.0.number in omega arith)) ∙ at
 result_of rs k (h ∷ hs) (q ∷ us) are (suc n) m r is at =
-    ap (λ b. cond b (Some q) (unit_at us m)) (ne_eqb q.unit.number m (λ same. let e = are.0.number in omega arith)) ∙ result_of rs (suc k) hs us are.1 n m r (omega arith) at
+    ap (λ b. cond b (Some q) (result_at us m)) (ne_eqb q.unit.number m (λ same. let e = are.0.number in omega arith)) ∙ result_of rs (suc k) hs us are.1 n m r (omega arith) at
 
 -- ---- one unit more
 

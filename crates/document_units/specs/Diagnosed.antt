@@ -1,24 +1,23 @@
 -- What the code finds in forms, beside the definition's diagnostics and Errors.
-use Rattle.std.specs.Prelude.{◌≡◌, ℕ, List, [], ◌∷◌, ◌++◌, Option, Some, None, Result, Ok, Err, codes}
+use Rattle.std.specs.Prelude.{◌≡◌, ℕ, List, [], ◌∷◌, ◌++◌, Option, Some, None, Result, Ok, Err}
 use Rattle.std.specs.BTreeMap.{BTreeMap}
 use Rattle.scheme_model.specs.declared.Occ.{Occ}
 use Rattle.scheme_model.specs.Ident.{Ident, symbol_of}
-use Rattle.scheme_model.specs.ExpansionFaults.{Named, Fault, fault_code, fault_name}
+use Rattle.scheme_model.specs.ExpansionFaults.{Named, fault_code, fault_name}
 use Rattle.scheme_model.specs.Meaning.{Meaning, Local, Global, Standard, Free}
 use Rattle.scheme_model.specs.Cores.{Parts, Target}
 use Rattle.scheme_model.specs.Steps.{Broken}
 use Rattle.scheme_model.specs.UnitExpansion.{Formed}
 use Rattle.scheme_model.specs.Data.{place_of}
 use Rattle.scheme_model.specs.Program as model
-use Rattle.scheme_model.specs.Diagnostics.{Bytes, fault_occ, fault_text, or_start}
-use Rattle.core_tree.specs.Traces.{error_text}
+use Rattle.scheme_model.specs.Diagnostics.{Bytes, fault_names, fault_occ, or_start}
 use Rattle.document_units.specs.declared.listing.WholeFault.{WholeFault}
 use Rattle.document_units.specs.declared.listing.WholeFault.TheVariants as code
 use Rattle.document_units.specs.declared.findings.At.{At}
 use Rattle.document_units.specs.declared.findings.Finding.{Finding}
 use Rattle.document_units.specs.declared.documents.Document.{Document}
 use Rattle.document_units.specs.declared.documents.Unread.{Unread}
-use Rattle.document_units.specs.Wording.{worded}
+use Rattle.scheme_model.specs.DiagnosticTexts.{worded}
 use Rattle.document_units.specs.Findings.{at_of}
 
 -- ---- forms
@@ -29,16 +28,13 @@ named_text None None = []
 named_text None (Some text) = text
 named_text (Some n) text = symbol_of n.name
 
-abbrev pub fault_names : Fault Ident → List ℕ
-fault_names f = named_text (fault_name f) (error_text f)
-
 -- the finding of a broken form
 abbrev pub fault_found : (Occ → Bytes) → (unit form : ℕ) → Broken → Finding
 fault_found bytes unit form e = record {
   at = Some (at_of (bytes (or_start unit form (fault_occ unit form (fault_name e.fault) e.here))));
   form = form;
   code = fault_code e.fault;
-  message = fault_text e.fault;
+  message = worded (fault_code e.fault) (fault_names e.fault);
 }
 
 abbrev pub result_found : (Occ → Bytes) → ℕ → Result Parts Broken → ℕ → List Finding
@@ -57,7 +53,7 @@ free_found bytes m None = []
 free_found bytes (Local v) (Some o) = []
 free_found bytes (Global u i) (Some o) = []
 free_found bytes (Standard s) (Some o) = []
-free_found bytes (Free s) (Some o) = record { at = Some (at_of (bytes o)); form = o.form; code = 103; message = codes "unbound " ++ s } ∷ []
+free_found bytes (Free s) (Some o) = record { at = Some (at_of (bytes o)); form = o.form; code = 103; message = worded 103 s } ∷ []
 
 -- the finding of a use, where it means nothing and stands in a text
 abbrev pub unbound_found : (Occ → Bytes) → Target → List Finding

@@ -1,6 +1,5 @@
 pub mod Readings  -- How the open documents are read (R7RS 7.1.2), and the program that they are (R7RS 5)
 pub mod Findings  -- What is found wrong as the definition's diagnostics, and how the code keeps those of each document
-pub mod Wording  -- The texts of all diagnostics, by their codes and what they name
 pub mod Listed  -- The diagnostics of the open documents (LSP 3.17, Diagnostic)
 pub mod Stored  -- Documents of a store, one by one, and what it refuses
 pub mod WereRead  -- Forms of units that were read from texts

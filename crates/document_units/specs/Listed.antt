@@ -10,7 +10,7 @@ use Rattle.scheme_model.specs.Faults.{Stop}
 use Rattle.scheme_model.specs.Diagnostics.{Diagnostic, all_diagnostics, diagnostics_of}
 use Rattle.document_store.specs.Texts.{Document}
 use Rattle.document_units.specs.Findings.{in_document, kept}
-use Rattle.document_units.specs.Wording.{worded}
+use Rattle.scheme_model.specs.DiagnosticTexts.{worded}
 use Rattle.document_units.specs.Readings.{Read, Reads, Stops, spans_in, program_in}
 
 -- codes below 100 are errors, the others warnings

@@ -1,11 +1,11 @@
 -- The units of the documents as they are listed (R7RS 5.1, 5.6): what each is by what was read, before it is known of the others.
-use Rattle.std.specs.Prelude.{◌≡◌, ℕ, List, [], ◌∷◌, ◌++◌, map, take, length, slice_get, Option, Some, None}
+use Rattle.std.specs.Prelude.{◌≡◌, ℕ, List, [], ◌∷◌, ◌++◌, map, take, length, slice_get, Option, Some, None, if◌then◌else◌}
 use Rattle.std.specs.Option.{option_map}
 use Rattle.ls_base.specs.declared.places.Span.{Span}
 use Rattle.scheme_model.specs.Data.{place_of}
 use Rattle.scheme_model.specs.Requirements.{LibraryName}
 use Rattle.scheme_model.specs.Declarations as source
-use Rattle.scheme_model.specs.Program.{Placed, prepared, name_if, max_units, declared_fault, forms_or_none}
+use Rattle.scheme_model.specs.Program.{Placed, prepared, imported_as, max_units, declared_fault, forms_or_none}
 use Rattle.scheme_tokens.specs.LibraryNames.{library_text, IsProper}
 use Rattle.core_tree.specs.Units.{kind_as}
 use Rattle.datum_reader.specs.FirstTokens.{first_token, opening, span_of}
@@ -13,7 +13,7 @@ use Rattle.library_table.specs.Sources.{AreUnits}
 use Rattle.library_table.specs.UnitsRead.{forms_of}
 use Rattle.library_table.specs.declared.units.UnitSource.{UnitSource}
 use Rattle.syntax_tree.specs.declared.units.UnitKind.TheVariants as kinds
-use Rattle.document_units.specs.Broken.{told, IsListed, AreListed}
+use Rattle.document_units.specs.Broken.{told, has_standard, IsListed, AreListed}
 use Rattle.document_units.specs.UnitSources.{IsSourceOf, AreReadOf}
 use Rattle.document_units.specs.declared.listing.WholeFault.{WholeFault}
 use Rattle.document_units.specs.declared.listing.Head.{Head}
@@ -46,7 +46,7 @@ pub record IsReadAt (spelled : LibraryName → List ℕ) (n : ℕ) (u : source.U
   pub name : called ≡ option_map library_text u.name
   pub spells : declared_fault u.forms None ≡ None → called ≡ option_map spelled u.name
   pub bad : broken ≡ option_map told (declared_fault u.forms None)
-  pub named : c.name ≡ option_map spelled (name_if 0 u)
+  pub named : c.name ≡ option_map spelled (imported_as 0 u)
   pub span : c.span ≡ unit_token u
   pub source : IsSourceOf spelled (prepared [] n (record { document = 0; source = u })) None c
   pub read : FormsRead (forms_of c.forms)
@@ -54,6 +54,10 @@ pub record IsReadAt (spelled : LibraryName → List ℕ) (n : ℕ) (u : source.U
 -- the same, however proper names are told apart by texts that write them as they stand
 abbrev pub IsReadFor : ℕ → source.UnitSource → Option (List ℕ) → UnitSource → Option WholeFault → Type 0
 IsReadFor n u name c bad = (spelled : LibraryName → List ℕ) → WritesProper spelled → IsReadAt spelled n u name c bad
+
+-- a unit with a standard name is imported by none
+abbrev pub without_standard : UnitSource → UnitSource
+without_standard c = if has_standard c.name then record c { name = None } else c
 
 -- nothing is read of a library but that it is one
 pub record IsBlankLibrary (c : UnitSource) : Type 0 where
@@ -75,7 +79,7 @@ pub record IsToldBy (n : ℕ) (u : Placed) (h : Head) : Type 0 where
 pub record IsOne (spelled : LibraryName → List ℕ) (n : ℕ) (u : Placed) (h : Head) (c : UnitSource) : Type 0 where
   pub told : IsToldBy n u h
   pub listed : IsListed spelled n u h
-  pub named : c.name ≡ option_map spelled (name_if 0 u.source)
+  pub named : c.name ≡ option_map spelled (imported_as 0 u.source)
   pub source : IsSourceOf spelled (prepared [] n u) None c
   pub read : FormsRead (forms_of c.forms)
 

@@ -10,11 +10,11 @@ ghost use Rattle.library_table.specs.Orders.{with_imports, AreInTurn, ArePlaces}
 ghost use Rattle.library_table.specs.Sources.{TellsNames, AreUnits};
 ghost use Rattle.document_units.specs.Libraries.{FindsBelow, library_of, places_by};
 ghost use Rattle.document_units.specs.Places.{HeadsStay};
-ghost use Rattle.document_units.specs.Broken.{has_standard, broken_by, broken_if, Breaks, BreaksStandard, FindsImports, Forgets, AreListed, AreJudged, SourcesStay};
+ghost use Rattle.document_units.specs.Broken.{broken_by, broken_if, Breaks, BreaksStandard, FindsImports, Forgets, AreListed, AreJudged, SourcesStay};
 ghost use Rattle.document_units.specs.Turned.{turns};
 
+use crate::known::has_standard_name;
 use crate::listing::{WholeFault, Head, Units};
-use base_library::standard;
 use import_sets::ImportSet;
 use import_sets::firsts::{place_for, place_in};
 use library_table::firsts::first_places;
@@ -149,16 +149,6 @@ fn break_standard(alloc: Global, heads: &mut Vec<Head>) -> Mem<()>
         break_if(&mut heads[place], breaks, WholeFault::DefinedTwice);
     }
     Ok(())
-}
-
-/// Whether a name is standard, where there is one.
-fn has_standard_name(alloc: Global, name: &Option<Text>) -> Mem<bool>
-    ensures { IfOk result (λ is. is ≡ has_standard name.now) }
-{
-    match name {
-        None => Ok(false),
-        Some(name) => Ok(standard(alloc, name.as_str())?.is_some()),
-    }
 }
 
 /// The places of the units that import themselves, directly or not.

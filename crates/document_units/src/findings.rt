@@ -4,7 +4,7 @@ ghost use Rattle.scheme_model.specs.Diagnostics.{is_empty};
 ghost use Rattle.core_tree.specs.Units.{error_as};
 ghost use Rattle.document_units.specs.Findings.{all_told, errors_in};
 ghost use Rattle.document_units.specs.Listed.{severity_of};
-ghost use Rattle.document_units.specs.Wording.{worded};
+ghost use Rattle.scheme_model.specs.DiagnosticTexts.{worded};
 
 use crate::wording::message;
 use core_tree::units::UnitError;

@@ -8,10 +8,12 @@ ghost use Rattle.scheme_model.specs.StandardLibraries.{standard_libraries};
 ghost use Rattle.base_library.specs.Texts.{name_text};
 ghost use Rattle.datum_reader.specs.Views.{datum_of, data_of};
 ghost use Rattle.scheme_tokens.specs.LibraryNames.{library_text};
+ghost use Rattle.document_units.specs.Broken.{has_standard};
 ghost use Rattle.document_units.specs.DataRead.{HaveData};
 ghost use Rattle.document_units.specs.KnownNames.{IsFront, HasParts, name_in, listed_texts};
 
 use crate::documents::Document;
+use base_library::standard;
 use datum_reader::heads::is_headed;
 use datum_reader::look::{Look, look_at};
 use datum_reader::{Datum, Shape};
@@ -83,6 +85,16 @@ fn push_if(names: &mut Items<Text>, name: Option<Text>) -> Mem<()>
     match name {
         None => Ok(()),
         Some(name) => Ok(names.push(name)?),
+    }
+}
+
+/// Whether a name is standard, where there is one.
+pub fn has_standard_name(alloc: Global, name: &Option<Text>) -> Mem<bool>
+    ensures { IfOk result (λ is. is ≡ has_standard name.now) }
+{
+    match name {
+        None => Ok(false),
+        Some(name) => Ok(standard(alloc, name.as_str())?.is_some()),
     }
 }
 

@@ -10,13 +10,13 @@ ghost use Rattle.library_table.specs.PartsRead.{Knows};
 ghost use Rattle.library_table.specs.UnitsRead.{forms_of};
 ghost use Rattle.document_units.specs.Sound.{IsSound};
 ghost use Rattle.document_units.specs.DataRead.{AreReadIn, DataWereRead, HaveData};
-ghost use Rattle.document_units.specs.UnitsListed.{AddsRead, AreUnitsListed, IsBlankLibrary, IsReadFor, WritesProper};
+ghost use Rattle.document_units.specs.UnitsListed.{AddsRead, AreUnitsListed, IsBlankLibrary, IsReadFor, WritesProper, without_standard};
 ghost use Rattle.document_units.specs.WereRead.{WereRead};
 ghost use Rattle.document_units.specs.declared.listing.WholeFault.TheVariants as fault;
 
 use crate::documents::Document;
 use crate::identifiers::names_of;
-use crate::known::library_name;
+use crate::known::{has_standard_name, library_name};
 use datum_reader::Datum;
 use datum_reader::heads::{first_token, is_headed};
 use library_table::{KnownLibraries, LibraryFault, UnitForm, UnitSource, read_program, read_unit};
@@ -114,7 +114,10 @@ fn add_library(
     let name = library_name(alloc, datum)?;
     let number = units.sources.len() as u32;
     match read_unit(alloc, datum, number, known) {
-        Ok(source) => Ok(add(alloc, units, document, name, source, None)?),
+        Ok(source) => {
+            let source = unless_standard(alloc, source)?;
+            Ok(add(alloc, units, document, name, source, None)?)
+        }
         Err(LibraryFault::BadDeclaration(span)) => {
             let bad = Some(WholeFault::BadDeclaration(span));
             let source = unread(alloc, datum);
@@ -122,6 +125,17 @@ fn add_library(
         }
         Err(_) => Err(Memory),
     }
+}
+
+/// The source of a library, without its name where that is standard: such a name means the standard library.
+fn unless_standard(alloc: Global, source: UnitSource) -> Mem<UnitSource>
+    ensures { IfOk result (λ given. given ≡ without_standard source) }
+{
+    let mut source = source;
+    if has_standard_name(alloc, &source.name)? {
+        source.name = None;
+    }
+    Ok(source)
 }
 
 /// The source of a library that isn't read.

@@ -1,7 +1,7 @@
 //! Where occurrences and forms stand.
 ghost use Rattle.std.specs.Prelude.{◌≡◌, ◌<◌, List, length, map, nat_lt, None, Some, if◌then◌else◌};
-ghost use Rattle.scheme_model.specs.Diagnostics.{bytes_of, or_start, span_at, unit_at};
-ghost use Rattle.scheme_model.specs.Program.{UnitResult};
+ghost use Rattle.scheme_model.specs.Diagnostics.{bytes_of, or_start, span_at};
+ghost use Rattle.scheme_model.specs.Program.{UnitResult, result_at};
 ghost use Rattle.document_units.specs.Readings.{Read, span_seen};
 ghost use Rattle.document_units.specs.Places.{ArePlaces, bytes_at, spans_of, start_of, number_at, form_or_start, CanPlace};
 
@@ -48,7 +48,7 @@ impl Places<'_> {
     pub fn start(&self, unit: u32) -> At
         ensures unit { CanPlace self.now → unit < length self.now.heads.now → result.document < length self.now.documents.now }
         ensures inside { CanPlace self.now → 0 < length self.now.documents.now → result.document < length self.now.documents.now }
-        ensures exact { (rs : List Read) (us : List UnitResult) → ArePlaces self.now rs us → bytes_at result ≡ start_of (spans_of rs) (unit_at us unit) }
+        ensures exact { (rs : List Read) (us : List UnitResult) → ArePlaces self.now rs us → bytes_at result ≡ start_of (spans_of rs) (result_at us unit) }
     {
         match self.heads.get(unit as usize) {
             Some(head) => At::new(head.document, head.span),
@@ -76,7 +76,7 @@ impl Places<'_> {
     pub fn form_start(&self, unit: u32, form: u32) -> At
         requires { CanPlace self.now }
         ensures inside { 0 < length self.now.documents.now → result.document < length self.now.documents.now }
-        ensures exact { (rs : List Read) (us : List UnitResult) → ArePlaces self.now rs us → bytes_at result ≡ form_or_start (spans_of rs) us (unit_at us unit) unit form }
+        ensures exact { (rs : List Read) (us : List UnitResult) → ArePlaces self.now rs us → bytes_at result ≡ form_or_start (spans_of rs) us (result_at us unit) unit form }
     {
         let Some(head) = self.heads.get(unit as usize) else {
             return nowhere();

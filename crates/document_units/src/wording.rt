@@ -1,6 +1,6 @@
 //! The wording of all diagnostics.
 ghost use Rattle.std.specs.Prelude.{◌≡◌, IfOk};
-ghost use Rattle.document_units.specs.Wording.{worded, front, back, word_in, reading_words, shape_words, unit_words};
+ghost use Rattle.scheme_model.specs.DiagnosticTexts.{worded, front, back, word_in, reading_words, shape_words, unit_words};
 
 use ls_base::{Mem, Text};
 use std::alloc::Global;

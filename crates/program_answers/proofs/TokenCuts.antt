@@ -10,8 +10,8 @@ use Rattle.text_positions.proofs.Cuts.{length-encodes}
 use Rattle.scheme_tokens.specs.Lexical as lexical
 use Rattle.scheme_tokens.specs.Lexical.{First, IsSpelled, IsSpelledFrom, behind_mark, byte_count, mark_bytes}
 use Rattle.scheme_model.specs.declared.Occ.{Occ}
-use Rattle.scheme_model.specs.Diagnostics.{Bytes, Span, bytes_of, in_unit, span_at, spans_at, unit_at, first_token}
-use Rattle.scheme_model.specs.Program.{UnitResult}
+use Rattle.scheme_model.specs.Diagnostics.{Bytes, Span, bytes_of, in_unit, span_at, spans_at, first_token}
+use Rattle.scheme_model.specs.Program.{UnitResult, result_at}
 use Rattle.datum_reader.specs.Texts.{token_seen}
 use Rattle.document_store.specs.Texts.{Document}
 use Rattle.program_answers.specs.Named.{CanCut}
@@ -132,7 +132,7 @@ document_cut (d ∷ ds) (r ∷ rs) are (suc m) n utf8 = document_cut ds rs are.1
 
 -- the bytes of an occurrence can be cut out of its text
 pub occ_cut : (ds : List (List ℕ × Document)) (rs : List Read) → AreReadAs ds rs → (us : List UnitResult) (o : Occ) (b : Bytes) → b ≡ bytes_of (spans_of rs) us o → IsUtf8 (text_of ds b.document) → CanCut (text_of ds b.document) b.span
-occ_cut ds rs are us o b is utf8 = go (unit_at us o.unit) is
+occ_cut ds rs are us o b is utf8 = go (result_at us o.unit) is
   where
     go : (r : Option UnitResult) → b ≡ in_unit (spans_of rs) r o → CanCut (text_of ds b.document) b.span
     go None e = subst (λ (s : Span). CanCut (text_of ds b.document) s) (sym (ap (λ (x : Bytes). x.span) e)) (nothing_cut (text_of ds b.document) utf8)

@@ -3,8 +3,8 @@ use Rattle.std.specs.Prelude.{◌≡◌, ℕ, ◌-◌, min, List, length, slice_
 use Rattle.ls_base.specs.Positions.{position_of}
 use Rattle.ls_base.specs.declared.encoding.Encoding.{Encoding}
 use Rattle.ls_base.specs.declared.places.Place as told
-use Rattle.scheme_model.specs.Diagnostics.{Bytes, Span, unit_at}
-use Rattle.scheme_model.specs.Program.{UnitResult}
+use Rattle.scheme_model.specs.Diagnostics.{Bytes, Span}
+use Rattle.scheme_model.specs.Program.{UnitResult, result_at}
 use Rattle.document_store.specs.Texts.{Document}
 use Rattle.document_units.specs.declared.findings.At.{At}
 use Rattle.document_units.specs.declared.places.PlacedError.{PlacedError}
@@ -21,7 +21,7 @@ IsIn encoding ds p = (b : Bytes) × IsPlace encoding ds b p
 
 -- the bytes of a form's first token; of the unit's where it has no such form; of the last unit's where there is no such unit
 abbrev pub form_bytes : List (List Span) → List UnitResult → (unit form : ℕ) → Bytes
-form_bytes spans us unit form = form_or_start spans us (unit_at us (min (length us - 1) unit)) (min (length us - 1) unit) form
+form_bytes spans us unit form = form_or_start spans us (result_at us (min (length us - 1) unit)) (min (length us - 1) unit) form
 
 -- an Error at its place with its code, where there is one
 abbrev pub IsErrorAt : Encoding → List (List ℕ × Document) → Option (At × ℕ) → Option PlacedError → Type 0

@@ -5,7 +5,8 @@ use Rattle.scheme_model.specs.Ident.{Ident}
 use Rattle.scheme_model.specs.ExpansionFaults.{Named, Fault, KeywordRedefined, Duplicate}
 use Rattle.scheme_model.specs.Requirements.{Known}
 use Rattle.scheme_model.specs.RulesShape.{Rules}
-use Rattle.scheme_model.specs.Order.{Item, Note, Pending}
+use Rattle.scheme_model.specs.Order.{Item, Note, Pending, Renamed, WaitingUse}
+use Rattle.scheme_model.specs.Substitution.{unchanged}
 use Rattle.scheme_model.specs.UnitExpansion.{max_depth}
 use Rattle.scheme_model.specs.Expression.{expand}
 use Rattle.scheme_model.specs.Program.{enough_turns}
@@ -13,9 +14,9 @@ use Rattle.scheme_model.specs.ScopedExpansion.{Frames, FramedIdent, ScopedState,
 use Rattle.syntax_tree.specs.declared.trees.Work.{Work}
 use Rattle.unit_scopes.specs.Searched.{define_searched, searched}
 use Rattle.unit_scopes.specs.Stepped.{turned}
-use Rattle.unit_scopes.specs.Units.{UnitStands, expanded}
+use Rattle.unit_scopes.specs.Units.{UnitStands, uses_met, expanded}
 use Rattle.unit_scopes.specs.declared.scope.UnitScope.{UnitScope}
-use Rattle.expansion_laws.proofs.AlikeSteps.{Likeness, other, goes_after}
+use Rattle.expansion_laws.proofs.AlikeSteps.{Likeness, other, goes_after, all_met_after}
 use Rattle.expansion_laws.proofs.AlikeExpressions.{expand_alike, item_alike}
 use Rattle.expansion_laws.proofs.OtherForms.{any_macro, notes_left, is_refused_here}
 
@@ -25,7 +26,7 @@ module _ (form : ℕ) where
   form_added s work (Some b) n r fs = work
 
   form_defined : (s t : ScopedState) → s.form ≡ form → t.form ≡ form → (n : Named Ident) (p : Pending Ident FramedIdent) (refused twice : Bool) →
-      (cond {A = Result (Pending Ident FramedIdent) (Fault Ident) × ScopedState} refused (Err (KeywordRedefined n), s) (cond twice (Err (Duplicate n), s) (Ok p, t))).1.form ≡ form
+      (cond {A = Result (Renamed Ident FramedIdent) (Fault Ident) × ScopedState} refused (Err (KeywordRedefined n), s) (cond twice (Err (Duplicate n), s) (Ok (unchanged p), t))).1.form ≡ form
   form_defined s t work then_ n p true twice = work
   form_defined s t work then_ n p false true = work
   form_defined s t work then_ n p false false = then_
@@ -63,6 +64,9 @@ module _ (form : ℕ) where
   item_form known i s =
       (goes_after (searched known) (at_work known)
       (item_alike (searched known) (at_work known) (expand (searched known) enough_turns) (expand (other (searched known) (at_work known)) enough_turns) (expand_alike (searched known) (at_work known) enough_turns) max_depth [] i (turned form s) (refl, tt))).0
+
+  pub met_form : (known : Known) (us : List (WaitingUse Ident)) (s : ScopedState) → (uses_met known form us s).form ≡ form
+  met_form known us s = (all_met_after (searched known) (at_work known) [] us (turned form s) refl).0
 
 -- work stays with the form that it is of
 pub same_turned : (s : ScopedState) (form : ℕ) → s.form ≡ form → turned form s ≡ s

@@ -1,8 +1,7 @@
 -- What a step of one form leaves of the others, and what the form itself has then.
-use Rattle.std.proofs.Common.{◌≡◌, ℕ, ◌+◌, ◌*◌, ◌^◌, ◌≤◌, List, [], ◌∷◌, false, Option, Some, None, Result, Ok, Err, refl, sym, ◌∙◌, subst, arith}
+use Rattle.std.proofs.Common.{◌≡◌, ℕ, ◌+◌, ◌*◌, ◌^◌, ◌≤◌, List, [], ◌∷◌, false, Option, Some, None, Ok, Err, Vec, Global, refl, sym, ◌∙◌, subst, arith}
 use Rattle.scheme_model.specs.Ident.{Ident as Identifier}
-use Rattle.scheme_model.specs.Order.{Item, Pass}
-use Rattle.scheme_model.specs.Steps.{Broken}
+use Rattle.scheme_model.specs.Order.{Item, Left, Pass, WaitingUse}
 use Rattle.scheme_model.specs.ScopedExpansion.{Frames, FramedIdent, ScopedState}
 use Rattle.syntax_tree.specs.Names.{KeepsNames}
 use Rattle.syntax_tree.specs.Works.{KeepsTrees}
@@ -15,28 +14,37 @@ use Rattle.unit_scopes.specs.Others.{OthersStay}
 use Rattle.unit_scopes.specs.State.{IsNumbered, numbered_in}
 use Rattle.unit_scopes.specs.Stepped.{IsFresh}
 use Rattle.expansion_laws.specs.Tops.{OfOk, ItemsBind}
+use Rattle.unit_scopes.specs.Kept.{WaitsFor}
 use Rattle.unit_scopes.specs.Units.{ItemFor, HasSpace, Declares}
 use Rattle.feature_requirements.specs.declared.fault.ExpandFault.TheVariants as fault
 use Rattle.form_parts.specs.declared.items.Item as code_item
+use Rattle.form_parts.specs.declared.items.Left as code_left
+use Rattle.form_parts.specs.declared.items.WaitingUse as code_waiting
 use Rattle.unit_scopes.specs.declared.scope.Budget.{Budget}
 use Rattle.expansion_laws.proofs.OtherForms.{others_itself}
 use Rattle.expansion_laws.proofs.OtherCounts.{others_count, order_stays}
 use Rattle.unit_scopes.proofs.FreshLaws.{none_count, none_has_space}
-use Rattle.expansion_laws.proofs.PartsStay.{fault_on, items_on}
-use Rattle.program_expansion.specs.Forms.{IsUntouched, IsSetAside, HasSpaceLeft, IsDeclared, KeepsOthers, LeavesOthers, PassesTo}
+use Rattle.expansion_laws.proofs.PartsStay.{fault_on, items_on, uses_on}
+use Rattle.program_expansion.specs.Forms.{Passing, IsUntouched, IsSetAside, HasSpaceLeft, IsDeclared, KeepsOthers, LeavesOthers, PassesTo}
 use Rattle.program_expansion.specs.declared.forms.Bench.{Bench}
 use Rattle.program_expansion.specs.declared.forms.Declared as code
 
 -- ---- a form that isn't expanded
 
-pub blank_is : (b : Bench) (unit form : ℕ) (s : ScopedState) (d : code.Declared) → IsUntouched d → IsFresh s form → IsDeclared b.work b.region unit form s d (Ok [])
+abbrev pub nothing_left : Left Identifier
+nothing_left = record { uses = []; items = [] }
+
+pub blank_is : (b : Bench) (unit form : ℕ) (s : ScopedState) (d : code.Declared) → IsUntouched d → IsFresh s form → IsDeclared b.work b.region unit form s d (Ok nothing_left)
 blank_is b unit form s d none fresh =
     let space : d.budget.locals + (2 ^ 43 + 2 ^ 40) ≤ 2 ^ 44 * (d.budget.nodes + 1) = none_has_space d.budget none.locals in
     record {
       counts = none_count b.work s form d.budget d.trace fresh none.uses none.nodes none.locals none.definitions none.keywords none.met;
       set_aside =
-          subst (λ (f : Option FormFault). IsSetAside b.work b.region unit form d f (Ok [])) (sym none.fault)
-          (subst (λ (xs : List code_item.Item). AllMatch (ItemFor b.work b.region unit form) xs []) (sym none.aside) tt);
+          subst (λ (f : Option FormFault). IsSetAside b.work b.region unit form d f (Ok nothing_left)) (sym none.fault)
+          (
+            subst (λ (us : List code_waiting.WaitingUse). AllMatch (WaitsFor b.work unit form) us []) (sym none.waiting) tt,
+            subst (λ (xs : List code_item.Item). AllMatch (ItemFor b.work b.region unit form) xs []) (sym none.aside) tt,
+          );
       tops = tt;
       space = subst (HasSpaceLeft d.budget) (sym none.fault) (omega (arith, space));
     }
@@ -54,10 +62,13 @@ none_matched P [] h = refl
 none_matched P (y ∷ ys) h = absurd h
 
 module _ (b c : Bench) (trees : KeepsTrees b.work c.work) (names : KeepsNames b.work.symbols c.work.symbols) (same : c.region ≡ b.region) (unit : ℕ) where
-  set_aside_on : (m : ℕ) (d : code.Declared) (f : Option FormFault) (r : Result (List (Item Identifier)) Broken) → IsSetAside b.work b.region unit m d f r → IsSetAside c.work c.region unit m d f r
-  set_aside_on m d None (Ok is) h = subst (λ (r : Region). AllMatch (ItemFor c.work r unit m) d.aside is) (sym same) (items_on b.work c.work trees names unit b.region m d.aside is h)
+  set_aside_on : (m : ℕ) (d : code.Declared) (f : Option FormFault) (r : Passing) → IsSetAside b.work b.region unit m d f r → IsSetAside c.work c.region unit m d f r
+  set_aside_on m d None (Ok l) h = (
+    uses_on b.work c.work trees names unit m d.uses.items l.uses h.0,
+    subst (λ (r : Region). AllMatch (ItemFor c.work r unit m) d.aside l.items) (sym same) (items_on b.work c.work trees names unit b.region m d.aside l.items h.1),
+  )
   set_aside_on m d None (Err e) h = h
-  set_aside_on m d (Some e) (Ok is) h = h
+  set_aside_on m d (Some e) (Ok l) h = h
   set_aside_on m d (Some e) (Err x) h = fault_on b.work.symbols c.work.symbols names unit m e x h
 
   module _ (form : ℕ) (s t : ScopedState) (stay : OthersStay form s t) where
@@ -93,31 +104,32 @@ module _ (b c : Bench) (trees : KeepsTrees b.work c.work) (names : KeepsNames b.
 
 -- ---- a form that was gone through
 
-module _ (b c : Bench) (trees : KeepsTrees b.work c.work) (names : KeepsNames b.work.symbols c.work.symbols) (same : c.region ≡ b.region) (form : ℕ) (s : ScopedState) (p : Pass Identifier FramedIdent × ScopedState) (stay : OthersStay form s p.1) (tops : OfOk (ItemsBind false) p.0.items)
+module _ (b c : Bench) (trees : KeepsTrees b.work c.work) (names : KeepsNames b.work.symbols c.work.symbols) (same : c.region ≡ b.region) (form : ℕ) (s : ScopedState) (p : Pass Identifier FramedIdent × ScopedState) (stay : OthersStay form s p.1) (tops : OfOk (λ (l : Left Identifier). ItemsBind false l.items) p.0.left)
     (before after : Budget) (ls : List Frames) (trace : Trace) where
-  pub passes_ok : (xs : List code_item.Item) → HasSpace (2 ^ 43) after → Declares b.work c.work b.region b.scope c.scope before after ls form trace (Ok xs) p →
-      PassesTo b c s.unit form s p (record { budget = after; trace = trace; aside = xs; fault = None })
-  passes_ok xs space h =
+  pub passes_ok : (x : code_left.Left) → HasSpace (2 ^ 43) after → Declares b.work c.work b.region b.scope c.scope before after ls form trace (Ok x) p →
+      PassesTo b c s.unit form s p (record { budget = after; trace = trace; uses = x.uses; aside = x.items; fault = None })
+  passes_ok x space h =
       let goes = h.2 in
       let own : c.scope.unit ≡ s.unit = goes.stands.rests.unit ∙ stay.unit in
-      let items : AllMatch (ItemFor c.work c.region s.unit form) xs h.0 =
-      subst (λ (u : ℕ). AllMatch (ItemFor c.work c.region u form) xs h.0) own
-      (subst (λ (r : Region). AllMatch (ItemFor c.work r c.scope.unit form) xs h.0) (sym same) h.3) in
+      let uses : AllMatch (WaitsFor c.work s.unit form) x.uses.items h.0.uses = subst (λ (u : ℕ). AllMatch (WaitsFor c.work u form) x.uses.items h.0.uses) own h.3.uses in
+      let items : AllMatch (ItemFor c.work c.region s.unit form) x.items h.0.items =
+      subst (λ (u : ℕ). AllMatch (ItemFor c.work c.region u form) x.items h.0.items) own
+      (subst (λ (r : Region). AllMatch (ItemFor c.work r c.scope.unit form) x.items h.0.items) (sym same) h.3.items) in
       record {
         layout = goes.layout;
         stands = goes.stands;
         form_is = record {
           counts = goes.counts;
-          set_aside = subst (λ (r : Result (List (Item Identifier)) Broken). IsSetAside c.work c.region s.unit form (record { budget = after; trace = trace; aside = xs; fault = None }) None r) (sym h.1) items;
+          set_aside = subst (λ (r : Passing). IsSetAside c.work c.region s.unit form (record { budget = after; trace = trace; uses = x.uses; aside = x.items; fault = None }) None r) (sym h.1) (uses, items);
           tops = tops;
           space = space;
         };
         others = others_left b c trees names same s.unit form s p.1 stay refl;
       }
 
-  pub passes_at : (xs : List code_item.Item) (e : FormFault) → Declares b.work c.work b.region b.scope c.scope before after ls form trace (Err (fault.At e)) p →
-      PassesTo b c s.unit form s p (record { budget = after; trace = trace; aside = xs; fault = Some e })
-  passes_at xs e h =
+  pub passes_at : (us : Vec code_waiting.WaitingUse Global) (xs : List code_item.Item) (e : FormFault) → Declares b.work c.work b.region b.scope c.scope before after ls form trace (Err (fault.At e)) p →
+      PassesTo b c s.unit form s p (record { budget = after; trace = trace; uses = us; aside = xs; fault = Some e })
+  passes_at us xs e h =
       let goes = h.2 in
       let is : IsFault c.work.symbols s.unit form e h.0 = subst (λ (u : ℕ). IsFault c.work.symbols u form e h.0) stay.unit h.3 in
       record {
@@ -125,7 +137,7 @@ module _ (b c : Bench) (trees : KeepsTrees b.work c.work) (names : KeepsNames b.
         stands = goes.stands;
         form_is = record {
           counts = goes.counts;
-          set_aside = subst (λ (r : Result (List (Item Identifier)) Broken). IsSetAside c.work c.region s.unit form (record { budget = after; trace = trace; aside = xs; fault = Some e }) (Some e) r) (sym h.1) is;
+          set_aside = subst (λ (r : Passing). IsSetAside c.work c.region s.unit form (record { budget = after; trace = trace; uses = us; aside = xs; fault = Some e }) (Some e) r) (sym h.1) is;
           tops = tops;
           space = tt;
         };

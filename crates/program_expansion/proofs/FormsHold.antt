@@ -1,5 +1,5 @@
 -- Forms that were gone through are held, one more at a time.
-use Rattle.std.proofs.Common.{◌≡◌, ℕ, zero, suc, ◌+◌, ◌≤◌, ◌<◌, List, [], ◌∷◌, ◌++◌, drop, length, get_or, slice_get, Bool, true, false, cond, Some, Ok, refl, sym, ap, ◌∙◌, subst, inl, inr, arith}
+use Rattle.std.proofs.Common.{◌≡◌, ℕ, zero, suc, ◌+◌, ◌≤◌, ◌<◌, List, [], ◌∷◌, ◌++◌, drop, length, get_or, slice_get, Bool, true, false, cond, Option, Some, None, Ok, refl, sym, ap, ◌∙◌, subst, inl, inr, arith}
 use Rattle.std.proofs.lemmas.List.{append_assoc, append-nil, length_push}
 use Rattle.std.proofs.lemmas.Option.{slice_get_within, same_Some}
 use Rattle.scheme_model.specs.Ident.{Ident as Identifier, Written}
@@ -14,7 +14,7 @@ use Rattle.scheme_model.specs.Order.{Pass, Note}
 use Rattle.scheme_model.specs.Requirements.{Known}
 use Rattle.scheme_model.specs.Substitution.{Defined}
 use Rattle.scheme_model.specs.ScopedExpansion.{Frames, FramedIdent, ScopedState}
-use Rattle.scheme_model.specs.UnitExpansion.{max_total, passes, nodes_in, states_passed}
+use Rattle.scheme_model.specs.UnitExpansion.{LeftOf, max_total, passes, nodes_in}
 use Rattle.syntax_tree.proofs.Places.{none_some, push_cases}
 use Rattle.core_tree.specs.Units.{defined_by}
 use Rattle.datum_reader.specs.WellFormed.{WasRead}
@@ -30,15 +30,15 @@ use Rattle.unit_scopes.specs.Searched.{searched}
 use Rattle.unit_scopes.proofs.FreshLaws.{none_in_order}
 use Rattle.expansion_laws.proofs.OtherForms.{declared_stays}
 use Rattle.syntax_tree.specs.Works.{IsOpened}
-use Rattle.program_expansion.specs.Ends.{numbers_of, Rise, IsAmong, Ends}
-use Rattle.program_expansion.specs.Forms.{IsBench, IsBegun, IsUntouched, IsDeclared, AreInOrder, PassesTo, PassesForm, CanPass, FormsHeld, AreFresh, AreDeclared, Passing, Passes, Stays, passed, known_by}
+use Rattle.program_expansion.specs.Ends.{numbers_of, Rise, IsAmong}
+use Rattle.program_expansion.specs.Forms.{IsBench, IsBegun, IsUntouched, IsDeclared, AreInOrder, PassesTo, PassesForm, CanPass, FormsHeld, AreFresh, AreDeclared, Passes, Stays, passed, known_by}
 use Rattle.document_units.specs.WereRead.{WereRead}
 use Rattle.program_expansion.specs.declared.forms.Bench.{Bench}
 use Rattle.program_expansion.specs.declared.forms.Declared as code
 use Rattle.program_expansion.proofs.DeclaredForms.{declared_on, declared_blank, declared_more}
-use Rattle.program_expansion.proofs.FormSteps.{blank_is}
+use Rattle.program_expansion.proofs.FormSteps.{blank_is, nothing_left}
 use Rattle.program_expansion.proofs.UnitForms.{forms_rise, among, none_counted, step_counted}
-use Rattle.program_expansion.proofs.UnitSteps.{notes_after, next_passed, passes_append, notes_append, states_more, states_append, ends_more, ends_anyway, ends_same, none_ends}
+use Rattle.program_expansion.proofs.UnitWalk.{behind, behind_none, behind_twice, pass_over, pass_on}
 
 pub read_at : (fs : List source.UnitForm) (n : ℕ) (f : source.UnitForm) → WereRead (forms_of fs) → slice_get fs n ≡ Some f → f.declared ≡ false → WasRead (datum_of f.datum)
 read_at [] n f h at = none_some f at
@@ -91,7 +91,7 @@ module _ (b : Bench) (unit : ℕ) (ds : List code.Declared) (h : Holds b unit ds
           number = was.number;
           held = λ m e le at. elim (push_cases ds d m e at) [
             | inl old ↦ was.held m e le old
-            | inr new ↦ (Ok [], subst (λ (x : code.Declared). IsDeclared b.work b.region unit m was.state x (Ok [])) (sym new.1) (blank_is b unit m was.state d none (h.fresh m (omega (arith, new.0)))))
+            | inr new ↦ (Ok nothing_left, subst (λ (x : code.Declared). IsDeclared b.work b.region unit m was.state x (Ok nothing_left)) (sym new.1) (blank_is b unit m was.state d none (h.fresh m (omega (arith, new.0)))))
           ];
           in_order = order_later 0 (length ds) (length (ds ++ d ∷ [])) (omega (arith, longer)) (defined_by was.state.unit was.state.table) was.in_order;
         };
@@ -175,21 +175,23 @@ counted_on : (now was total nodes before after : ℕ) → now + before ≡ was +
 counted_on now was total nodes before after moved so none all = omega (arith, moved, so, none, all)
 
 module _ (known : Known) (unit : ℕ) (ts : List (ℕ × Tree Identifier)) (s : ScopedState) where
-  abbrev done : List (ℕ × Tree Identifier) → List (ℕ × Passing) × ScopedState
-  done front = passes (searched known) enough_turns [] front [] s
+  abbrev whole : Option (List (LeftOf Identifier)) × ScopedState
+  whole = passes (searched known) enough_turns [] (numbers_of ts) ts [] s
 
-  abbrev gone : List (ℕ × Tree Identifier) → List ScopedState
-  gone front = states_passed (searched known) enough_turns [] front s
+  -- what is still to come of forms
+  abbrev to_come : List (ℕ × Tree Identifier) → List (Note FramedIdent) → ScopedState → Option (List (LeftOf Identifier)) × ScopedState
+  to_come rest notes t = passes (searched known) enough_turns [] (numbers_of ts) rest notes t
 
-  -- so many are gone through, these are left, and none before the last made the nodes too many
+  -- so many are gone through, these are left: work ended with the last where that made the nodes too many
   pub record PassedSo (b : Bench) (total : ℕ) (ds : List code.Declared) (place : ℕ) (left : List UnitForm) : Type 0 where
     pub base : Holds b unit ds
     pub front : List (ℕ × Tree Identifier)
     pub parted : front ++ forms_over (Written unit) unit place left ≡ ts
-    pub state : base.held.state ≡ (done front).1
-    pub notes : base.held.notes ≡ notes_after (searched known) enough_turns [] front [] s
-    pub forms : AreDeclared b.work b.region unit 0 base.held.state ds (done front).0
-    pub ends : Ends (searched known) (numbers_of ts) (gone front) total base.held.state
+    pub gone : List (LeftOf Identifier)
+    pub forms : AreDeclared b.work b.region unit 0 base.held.state ds gone
+    pub counted : nodes_in (searched known) (numbers_of ts) base.held.state ≡ total
+    pub over : nat_lt max_total total ≡ true → whole ≡ (None, base.held.state)
+    pub on : nat_lt max_total total ≡ false → whole ≡ behind gone (to_come (forms_over (Written unit) unit place left) base.held.notes base.held.state)
 
   pub none_passed : (b : Bench) (ls : List Frames) (left : List UnitForm) → forms_over (Written unit) unit 0 left ≡ ts → IsOpened b.work b.region → UnitStands b.work b.scope ls s [] → s.unit ≡ unit → ((m : ℕ) → IsFresh s m) → PassedSo b 0 [] 0 left
   unfolding none_held
@@ -197,10 +199,11 @@ module _ (known : Known) (unit : ℕ) (ts : List (ℕ × Tree Identifier)) (s : 
     base = none_held b unit (record { region = region; layout = ls; state = s; stands = stands; number = own; fresh = fresh });
     front = [];
     parted = all;
-    state = refl;
-    notes = refl;
+    gone = [];
     forms = tt;
-    ends = none_ends (searched known) (numbers_of ts) 0 s (none_counted (searched known) s (λ m. (fresh m).nodes) (numbers_of ts)) (omega arith);
+    counted = none_counted (searched known) s (λ m. (fresh m).nodes) (numbers_of ts);
+    over = λ many. absurd cc;
+    on = λ few. ap (λ (xs : List (ℕ × Tree Identifier)). to_come xs [] s) (sym all) ∙ sym (behind_none (to_come (forms_over (Written unit) unit 0 left) [] s));
   }
 
   module _ (b : Bench) (total place : ℕ) (ds : List code.Declared) (f : source.UnitForm) (left : List UnitForm) (a : PassedSo b total ds place (form_of f ∷ left)) (at : place ≡ length ds) (d : code.Declared) where
@@ -210,8 +213,11 @@ module _ (known : Known) (unit : ℕ) (ts : List (ℕ × Tree Identifier)) (s : 
     abbrev tree : ℕ × Tree Identifier
     tree = (place, seeded unit place (datum_of f.datum))
 
-    abbrev behind : List (ℕ × Tree Identifier)
-    behind = forms_over (Written unit) unit (suc place) left
+    abbrev others : List (ℕ × Tree Identifier)
+    others = forms_over (Written unit) unit (suc place) left
+
+    abbrev by_declared : Bool → Option (List (LeftOf Identifier)) × ScopedState
+    by_declared q = behind a.gone (to_come (cond q others (tree ∷ others)) a.base.held.notes was)
 
     -- one that isn't expanded
     blank_so : f.declared ≡ true → IsUntouched d → PassedSo b (total + d.budget.nodes) (ds ++ d ∷ []) (suc place) left
@@ -221,11 +227,12 @@ module _ (known : Known) (unit : ℕ) (ts : List (ℕ × Tree Identifier)) (s : 
         record {
           base = blank_held b unit ds a.base d none;
           front = a.front;
-          parted = ap (λ (q : Bool). a.front ++ cond q behind (tree ∷ behind)) (sym off) ∙ a.parted;
-          state = a.state;
-          notes = a.notes;
-          forms = declared_blank b.work b.region unit was 0 ds (done a.front).0 d a.forms none;
-          ends = subst (λ (n : ℕ). Ends (searched known) (numbers_of ts) (gone a.front) n was) same a.ends;
+          parted = ap (λ (q : Bool). a.front ++ cond q others (tree ∷ others)) (sym off) ∙ a.parted;
+          gone = a.gone;
+          forms = declared_blank b.work b.region unit was 0 ds a.gone d a.forms none;
+          counted = a.counted ∙ same;
+          over = λ many. a.over (ap (nat_lt max_total) same ∙ many);
+          on = λ few. a.on (ap (nat_lt max_total) same ∙ few) ∙ ap by_declared off;
         }
 
     -- one that is
@@ -233,30 +240,18 @@ module _ (known : Known) (unit : ℕ) (ts : List (ℕ × Tree Identifier)) (s : 
       abbrev now : Pass Identifier FramedIdent × ScopedState
       now = passed known unit place (datum_of f.datum) a.base.held.notes was
 
-      abbrev with_row : Pass Identifier FramedIdent × ScopedState → List (ℕ × Passing) × ScopedState
-      with_row q = ((done a.front).0 ++ (place, q.0.items) ∷ [], q.1)
-
-      abbrev step_from : List (Note FramedIdent) → ScopedState → Pass Identifier FramedIdent × ScopedState
-      step_from ns u = next_passed (searched known) enough_turns [] tree ns u
-
-      abbrev notes_so : List (Note FramedIdent)
-      notes_so = notes_after (searched known) enough_turns [] a.front [] s
-
-      next_is : step_from notes_so (done a.front).1 ≡ now
-      next_is = ap (λ (ns : List (Note FramedIdent)). step_from ns (done a.front).1) (sym a.notes) ∙ ap (λ (u : ScopedState). step_from a.base.held.notes u) (sym a.state)
-
-      next_done : done (a.front ++ tree ∷ []) ≡ with_row now
-      next_done = passes_append (searched known) enough_turns [] a.front (tree ∷ []) [] s ∙ ap with_row next_is
-
-      parted_so : (a.front ++ tree ∷ []) ++ behind ≡ ts
-      parted_so = append_assoc a.front (tree ∷ []) behind ∙ (ap (λ (q : Bool). a.front ++ cond q behind (tree ∷ behind)) (sym off) ∙ a.parted)
+      parted_so : (a.front ++ tree ∷ []) ++ others ≡ ts
+      parted_so = append_assoc a.front (tree ∷ []) others ∙ (ap (λ (q : Bool). a.front ++ cond q others (tree ∷ others)) (sym off) ∙ a.parted)
 
       counted_so : nodes_in (searched known) (numbers_of ts) now.1 ≡ total + d.budget.nodes
       counted_so =
-          let here : IsAmong place (numbers_of ts) = subst (λ (xs : List (ℕ × Tree Identifier)). IsAmong place (numbers_of xs)) (sym (append_assoc a.front (tree ∷ []) behind) ∙ parted_so) (among a.front behind tree) in
+          let here : IsAmong place (numbers_of ts) = subst (λ (xs : List (ℕ × Tree Identifier)). IsAmong place (numbers_of xs)) (sym (append_assoc a.front (tree ∷ []) others) ∙ parted_so) (among a.front others tree) in
           let stay = declared_stays place known (seeded unit place (datum_of f.datum)) a.base.held.notes was in
           counted_on (nodes_in (searched known) (numbers_of ts) now.1) (nodes_in (searched known) (numbers_of ts) was) total d.budget.nodes (was.nodes place) (now.1.nodes place)
-          (step_counted (searched known) place was now.1 (λ m apart. (stay.counts m apart).nodes) 0 (numbers_of ts) rise here) a.ends.counted (a.base.fresh place (omega (arith, at))).nodes n.form_is.counts.nodes
+          (step_counted (searched known) place was now.1 (λ m apart. (stay.counts m apart).nodes) 0 (numbers_of ts) rise here) a.counted (a.base.fresh place (omega (arith, at))).nodes n.form_is.counts.nodes
+
+      before_it : whole ≡ behind a.gone (to_come (tree ∷ others) a.base.held.notes was)
+      before_it = a.on few ∙ ap by_declared off
 
       next_so : PassedSo c (total + d.budget.nodes) (ds ++ d ∷ []) (suc place) left
       unfolding next_held
@@ -264,16 +259,14 @@ module _ (known : Known) (unit : ℕ) (ts : List (ℕ × Tree Identifier)) (s : 
         base = next_held b unit ds a.base d c now (subst (λ (m : ℕ). PassesTo b c unit m was now d) at n);
         front = a.front ++ tree ∷ [];
         parted = parted_so;
-        state = sym (ap (λ (q : List (ℕ × Passing) × ScopedState). q.1) next_done);
-        notes = sym (notes_append (searched known) enough_turns [] a.front (tree ∷ []) [] s ∙ ap (λ (q : Pass Identifier FramedIdent × ScopedState). q.0.notes) next_is);
-        forms =
-            subst (λ (rs : List (ℕ × Passing)). AreDeclared c.work c.region unit 0 now.1 (ds ++ d ∷ []) rs) (sym (ap (λ (q : List (ℕ × Passing) × ScopedState). q.0) next_done))
-            (declared_more c.work c.region unit now.1 0 ds (done a.front).0 d (place, now.0.items) (omega (arith, at))
-            (declared_on b c unit 0 place was now.1 (λ m e r from low is. n.others.kept m e r (λ same. omega (arith, low, same)) is) 0 ds (done a.front).0 (omega arith) (omega (arith, at)) a.forms) n.form_is);
-        ends =
-            ends_same (searched known) (numbers_of ts)
-            (states_more (searched known) enough_turns [] a.front tree s ∙ ap (λ (u : ScopedState). gone a.front ++ u ∷ []) (ap (λ (q : List (ℕ × Passing) × ScopedState). q.1) next_done))
-            (ends_more (searched known) (numbers_of ts) (gone a.front) total was a.ends few (total + d.budget.nodes) now.1 counted_so);
+        gone = a.gone ++ (place, now.0.left) ∷ [];
+        forms = declared_more c.work c.region unit now.1 0 ds a.gone d (place, now.0.left) (omega (arith, at))
+            (declared_on b c unit 0 place was now.1 (λ m e r from low is. n.others.kept m e r (λ same. omega (arith, low, same)) is) 0 ds a.gone (omega arith) (omega (arith, at)) a.forms) n.form_is;
+        counted = counted_so;
+        over = λ many. before_it ∙ ap (behind a.gone) (pass_over (searched known) (numbers_of ts) enough_turns [] tree others a.base.held.notes was (ap (nat_lt max_total) counted_so ∙ many));
+        on = λ still.
+            before_it ∙ ap (behind a.gone) (pass_on (searched known) (numbers_of ts) enough_turns [] tree others a.base.held.notes was (ap (nat_lt max_total) counted_so ∙ still))
+            ∙ behind_twice a.gone ((place, now.0.left) ∷ []) (to_come others now.0.notes now.1);
       }
 
     -- either
@@ -286,22 +279,19 @@ module _ (known : Known) (unit : ℕ) (ts : List (ℕ × Tree Identifier)) (s : 
         by false off = next_so rise off few c (passes off)
 
   pub all_passed : (b : Bench) (total place : ℕ) (ds : List code.Declared) (left : List UnitForm) → PassedSo b total ds place left → (nat_lt max_total total ≡ false → left ≡ []) → Passes b unit known ts s total ds
-  all_passed b total place ds left a all =
-      let whole : nat_lt max_total total ≡ false → a.front ≡ ts = λ few.
-      sym (append-nil a.front) ∙ (ap (λ (fs : List UnitForm). a.front ++ forms_over (Written unit) unit place fs) (sym (all few)) ∙ a.parted) in
-      record {
-        held = a.base.held;
-        ends = by (nat_lt max_total total) refl whole;
-        state = λ few. a.state ∙ ap (λ (xs : List (ℕ × Tree Identifier)). (done xs).1) (whole few);
-        forms = λ few. subst (λ (xs : List (ℕ × Tree Identifier)). AreDeclared b.work b.region unit 0 a.base.held.state ds (done xs).0) (whole few) a.forms;
-      }
-    where
-      by : (over : Bool) → nat_lt max_total total ≡ over → (nat_lt max_total total ≡ false → a.front ≡ ts) → Ends (searched known) (numbers_of ts) (gone ts) total a.base.held.state
-      by false few whole = subst (λ (xs : List (ℕ × Tree Identifier)). Ends (searched known) (numbers_of ts) (gone xs) total a.base.held.state) (whole few) a.ends
-      by true many whole =
-          let x = states_append (searched known) enough_turns [] a.front (forms_over (Written unit) unit place left) s in
-          subst (λ (xs : List (ℕ × Tree Identifier)). Ends (searched known) (numbers_of ts) (gone xs) total a.base.held.state) a.parted
-          (ends_same (searched known) (numbers_of ts) x.1 (ends_anyway (searched known) (numbers_of ts) (gone a.front) x.0 total a.base.held.state a.ends many))
+  all_passed b total place ds left a all = record {
+    held = a.base.held;
+    comes = record {
+      counted = a.counted;
+      over = a.over;
+      whole = λ few. (
+        a.gone,
+        a.on few ∙ ap (λ (fs : List UnitForm). behind a.gone (to_come (forms_over (Written unit) unit place fs) a.base.held.notes a.base.held.state)) (all few)
+        ∙ ap (λ (rs : List (LeftOf Identifier)). (Some rs, a.base.held.state)) (append-nil a.gone),
+        a.forms,
+      );
+    };
+  }
 
 -- the forms that are expanded, from each state that they may begin in
 abbrev pub PassedFrom : (old b : Bench) (unit total place : ℕ) → List source.UnitForm → List code.Declared → Type 0

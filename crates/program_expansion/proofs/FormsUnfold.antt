@@ -8,7 +8,7 @@ use Rattle.scheme_model.specs.Expression.{expand}
 use Rattle.scheme_model.specs.Declarations.{UnitForm}
 use Rattle.scheme_model.specs.Program.{Prepared, enough_turns}
 use Rattle.scheme_model.specs.ScopedProgram.{forms_over}
-use Rattle.scheme_model.specs.UnitExpansion.{Formed, max_total, passes, finished, nodes_in, first_over, states_passed, states_finished, unit}
+use Rattle.scheme_model.specs.UnitExpansion.{Formed, LeftOf, max_total, passes, finished, nodes_in, unit}
 use Rattle.scheme_model.specs.Requirements.{Known}
 use Rattle.scheme_model.specs.ScopedExpansion.{Frames, FramedIdent, ScopedState}
 use Rattle.core_tree.specs.Units.{FormsStand, AreDefinitions, definitions_from, defined_by}
@@ -16,11 +16,11 @@ use Rattle.core_tree.specs.declared.units.UnitForm as code_form
 use Rattle.unit_scopes.specs.Searched.{searched, searched_unit_over}
 use Rattle.unit_scopes.specs.Units.{UnitStands}
 use Rattle.program_expansion.specs.Ends.{numbers_of, Rise}
-use Rattle.program_expansion.specs.Forms.{Passing, StandsAt, AreUnfolded, Unfolds, Passes, Finishes, CanFinishAll}
+use Rattle.program_expansion.specs.Forms.{StandsAt, AreUnfolded, Unfolds, Passes, Finishes, CanFinishAll}
 use Rattle.program_expansion.specs.declared.forms.Bench.{Bench}
 use Rattle.program_expansion.specs.declared.forms.Declared as code
-use Rattle.program_expansion.proofs.UnitForms.{forms_rise, ends_passing, ends_finishing, goes_through}
-use Rattle.program_expansion.proofs.UnitSteps.{not_over, is_over, numbers_passed}
+use Rattle.program_expansion.proofs.UnitForms.{forms_rise, ends_passing, goes_through}
+use Rattle.program_expansion.proofs.UnitWalk.{passed_numbers}
 
 module _ (b : Bench) (known : Known) (p : Prepared) (s : ScopedState) where
   none_unfolds : (t : ScopedState) (ls : List Frames) (notes : List (Note FramedIdent)) → UnitStands b.work b.scope ls t notes → searched_unit_over known p s ≡ (None, t) → Unfolds b known p s None
@@ -43,8 +43,8 @@ module _ (known : Known) (p : Prepared) (s : ScopedState) (n : ℕ) (own : p.num
   abbrev whole : Option (List Formed) × ScopedState
   whole = unit (searched known) enough_turns [] ts s
 
-  abbrev gone : List (ℕ × Passing) × ScopedState
-  gone = passes (searched known) enough_turns [] ts [] s
+  abbrev gone : Option (List (LeftOf Identifier)) × ScopedState
+  gone = passes (searched known) enough_turns [] (numbers_of ts) ts [] s
 
   unit_is : searched_unit_over known p s ≡ whole
   unit_is =
@@ -54,46 +54,38 @@ module _ (known : Known) (p : Prepared) (s : ScopedState) (n : ℕ) (own : p.num
   -- too many nodes as they were gone through
   pub passing_unfolds : (b : Bench) (total : ℕ) (ds : List code.Declared) → Passes b n known ts s total ds → nat_lt max_total total ≡ true → Unfolds b known p s None
   passing_unfolds b total ds h many =
-      none_unfolds b known p s h.held.state h.held.layout h.held.notes h.held.stands
-      (unit_is ∙ ends_passing (searched known) enough_turns [] ts s h.held.state (is_over (searched known) (numbers_of ts) h.ends many))
+      none_unfolds b known p s h.held.state h.held.layout h.held.notes h.held.stands (unit_is ∙ ends_passing (searched known) enough_turns [] ts s h.held.state (h.comes.over many))
 
   module _ (b : Bench) (total : ℕ) (ds : List code.Declared) (h : Passes b n known ts s total ds) (few : nat_lt max_total total ≡ false) where
-    numbers : numbers_of gone.0 ≡ numbers_of ts
-    numbers = numbers_passed (searched known) enough_turns [] ts [] s
+    -- what is left of the forms
+    pub left : List (LeftOf Identifier)
+    left = (h.comes.whole few).0
 
-    pub can_finish_all : CanFinishAll b n known gone.0 h.held.state total ds
+    numbers : numbers_of left ≡ numbers_of ts
+    numbers = passed_numbers (searched known) (numbers_of ts) enough_turns [] ts [] s h.held.state left (h.comes.whole few).1
+
+    pub can_finish_all : CanFinishAll b n known left h.held.state total ds
     can_finish_all = record {
       few = few;
       rise = subst (λ (ns : List ℕ). Rise 0 ns) (sym numbers) (forms_rise (Written n) n 0 fs);
-      counted = ap (λ (ns : List ℕ). nodes_in (searched known) ns h.held.state) numbers ∙ h.ends.counted;
-      forms = h.forms few;
+      counted = ap (λ (ns : List ℕ). nodes_in (searched known) ns h.held.state) numbers ∙ h.comes.counted;
+      forms = (h.comes.whole few).2;
     }
 
-    module _ (c : Bench) (all : ℕ) (cs : List code_form.UnitForm) (k : Finishes c n known gone.0 h.held.state all cs) where
-      ended : (o : Option ScopedState) → first_over (searched known) (numbers_of gone.0) (states_finished (searched known) enough_turns [] gone.0 h.held.state) ≡ o →
-          first_over (searched known) (numbers_of ts) (states_finished (searched known) enough_turns [] gone.0 gone.1) ≡ o
-      ended o is =
-          ap (λ (ns : List ℕ). first_over (searched known) ns (states_finished (searched known) enough_turns [] gone.0 gone.1)) (sym numbers)
-          ∙ (ap (λ (t : ScopedState). first_over (searched known) (numbers_of gone.0) (states_finished (searched known) enough_turns [] gone.0 t)) (sym (h.state few)) ∙ is)
+    -- the unit is what is left of them, finished
+    finished_is : searched_unit_over known p s ≡ finished (searched known) (expand (searched known) enough_turns) [] (numbers_of left) left h.held.state
+    finished_is =
+        unit_is ∙ goes_through (searched known) enough_turns [] ts s left h.held.state (h.comes.whole few).1
+        ∙ ap (λ (ns : List ℕ). finished (searched known) (expand (searched known) enough_turns) [] ns left h.held.state) (sym numbers)
 
-      none_before : first_over (searched known) (numbers_of ts) (states_passed (searched known) enough_turns [] ts s) ≡ None
-      none_before = not_over (searched known) (numbers_of ts) h.ends few
-
+    module _ (c : Bench) (all : ℕ) (cs : List code_form.UnitForm) (k : Finishes c n known left h.held.state all cs) where
       -- too many as it was expanded
       pub finishing_unfolds : nat_lt max_total all ≡ true → Unfolds c known p s None
-      finishing_unfolds many =
-          none_unfolds c known p s k.last k.layout k.notes k.stands
-          (unit_is ∙ ends_finishing (searched known) enough_turns [] ts s none_before k.last (ended (Some k.last) (is_over (searched known) (numbers_of gone.0) k.ends many)))
+      finishing_unfolds many = none_unfolds c known p s k.last k.layout k.notes k.stands (finished_is ∙ k.comes.over many)
 
       pub all_unfolds : nat_lt max_total all ≡ false → Unfolds c known p s (Some cs)
       all_unfolds still =
-          let f = finished (searched known) (expand (searched known) enough_turns) [] gone.0 h.held.state in
-          let is : searched_unit_over known p s ≡ (Some f.0, k.last) =
-          unit_is
-          ∙ (goes_through (searched known) enough_turns [] ts s none_before (ended None (not_over (searched known) (numbers_of gone.0) k.ends still))
-          ∙ (ap (λ (t : ScopedState). let g = finished (searched known) (expand (searched known) enough_turns) [] gone.0 t in (Some g.0, g.1)) (sym (h.state few))
-          ∙ ap (λ (t : ScopedState). (Some f.0, t)) (sym (k.state still)))) in
-          some_unfolds c known p s k.last k.layout k.notes k.stands cs f.0
-          (subst (λ (m : ℕ). FormsStand c.work m 0 cs f.0) (sym own) (k.forms still))
+          let f = k.comes.whole still in
+          some_unfolds c known p s k.last k.layout k.notes k.stands cs f.0 (subst (λ (m : ℕ). FormsStand c.work m 0 cs f.0) (sym own) f.2)
           (subst (λ (m : ℕ). AreDefinitions c.work.symbols (reverse (definitions_from 0 cs)) (defined_by m k.last.table)) (sym own) (k.definitions still))
-          is
+          (finished_is ∙ f.1)

@@ -41,3 +41,5 @@ pub mod ToldProgram  -- The units of the whole program, by what came of them, wh
 pub mod DocumentsData  -- The data of the documents are those that their texts are read as
 pub mod HeadsStand  -- The heads of units that were listed are those of the program's units
 pub mod HeadsOf  -- The heads of units have what the units do, as these were listed, judged and worked on
+mod RefusedLaws  -- Forms of which those that include a text are refused stand for those of the definition
+mod UnitWalk  -- Work on a unit one form or item at a time

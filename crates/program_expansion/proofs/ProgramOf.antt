@@ -165,6 +165,7 @@ module _ (us : List Placed) (known : Known) where
         entries = h.entries;
         forms = h.forms;
         count = h.count;
+        seconds = h.seconds;
         definitions = subst (λ (t : Table). AreDefinitions work.symbols (reverse (definitions_from 0 c.forms)) (defined_by r.unit.number t)) (sym table_is) h.definitions;
         names = subst (λ (xs : List ExportSpec). AreNames work.symbols r.unit.number c.names (unit_names us whole r) xs) (sym (externals_same us (so_far turned) whole r keeps_turned imports defines))
             (subst (λ (ms : List NameUse). AreNames work.symbols r.unit.number c.names ms (externals turned.table r)) (sym (unit_names_same us (so_far turned) whole r keeps_turned imports defines)) h.names);

@@ -9,7 +9,6 @@ use Rattle.scheme_model.specs.Requirements.{Known}
 use Rattle.scheme_model.specs.Substitution.{Table}
 use Rattle.scheme_model.specs.Program.{Placed, Prepared, prepared, prepare, WholeFault, TooMany, UnitResult, Program, result_at, broken_result, declared_fault, fault_before}
 use Rattle.scheme_model.specs.ScopedProgram.{ScopedProgress, scoped_program_with}
-use Rattle.scheme_model.specs.Diagnostics.{unit_at}
 use Rattle.std.specs.Prelude.{◌==◌}
 use Rattle.syntax_tree.specs.declared.trees.Work.{Work}
 use Rattle.core_tree.specs.Units.{defined_by}
@@ -72,7 +71,7 @@ module _ (us : List Placed) (known : Known) where
       let same : p.0 ≡ u = same_Some p.0 u (sym p.1.0 ∙ at) in
       (r.0, same_at whole.units n ∙ (program_at us known n ∙ r.1), p.1.1 ∙ ap (prepared us n) same)
     where
-      same_at : (rs : List UnitResult) (n : ℕ) → unit_at rs n ≡ result_at rs n
+      same_at : (rs : List UnitResult) (n : ℕ) → result_at rs n ≡ result_at rs n
       same_at [] n = refl
       same_at (r ∷ rs) n = ap (λ (o : Option UnitResult). cond (r.unit.number == n) (Some r) o) (same_at rs n)
 

@@ -7,7 +7,7 @@ use Rattle.scheme_model.specs.Order.{Ops}
 use Rattle.scheme_model.specs.Expression.{expand}
 use Rattle.scheme_model.specs.Declarations.{UnitForm}
 use Rattle.scheme_model.specs.ScopedProgram.{forms_over}
-use Rattle.scheme_model.specs.UnitExpansion.{passes, finished, nodes_in, first_over, states_passed, states_finished, or_ended, some_of, unit}
+use Rattle.scheme_model.specs.UnitExpansion.{Formed, LeftOf, ◌then◌, passes, finished, nodes_in, unit}
 use Rattle.program_expansion.specs.Ends.{numbers_of, Rise, IsAmong}
 
 -- ---- numbers
@@ -77,21 +77,11 @@ module _ {E A L S : Type 0} (ops : Ops E A L S) where
   -- ---- the unit
 
   module _ (turns : ℕ) (e : E) (ts : List (ℕ × Tree A)) (s : S) where
-    pub ends_passing : (t : S) → first_over ops (numbers_of ts) (states_passed ops turns e ts s) ≡ Some t → unit ops turns e ts s ≡ (None, t)
-    ends_passing t over =
-        let q = passes ops turns e ts [] s in
-        ap (λ (o : Option S). or_ended o (or_ended (first_over ops (numbers_of ts) (states_finished ops turns e q.0 q.1)) (some_of (finished ops (expand ops turns) e q.0 q.1)))) over
+    abbrev then_finished : Option (List (LeftOf A)) × S → Option (List Formed) × S
+    then_finished q = q then finished ops (expand ops turns) e (numbers_of ts)
 
-    pub ends_finishing : first_over ops (numbers_of ts) (states_passed ops turns e ts s) ≡ None → (t : S) → (let q = passes ops turns e ts [] s in first_over ops (numbers_of ts) (states_finished ops turns e q.0 q.1)) ≡ Some t →
-        unit ops turns e ts s ≡ (None, t)
-    ends_finishing none t over =
-        let q = passes ops turns e ts [] s in
-        ap (λ (o : Option S). or_ended o (or_ended (first_over ops (numbers_of ts) (states_finished ops turns e q.0 q.1)) (some_of (finished ops (expand ops turns) e q.0 q.1)))) none
-        ∙ ap (λ (o : Option S). or_ended o (some_of (finished ops (expand ops turns) e q.0 q.1))) over
+    pub ends_passing : (t : S) → passes ops turns e (numbers_of ts) ts [] s ≡ (None, t) → unit ops turns e ts s ≡ (None, t)
+    ends_passing t h = ap then_finished h
 
-    pub goes_through : first_over ops (numbers_of ts) (states_passed ops turns e ts s) ≡ None → (let q = passes ops turns e ts [] s in first_over ops (numbers_of ts) (states_finished ops turns e q.0 q.1)) ≡ None →
-        unit ops turns e ts s ≡ (let q = passes ops turns e ts [] s in some_of (finished ops (expand ops turns) e q.0 q.1))
-    goes_through none still =
-        let q = passes ops turns e ts [] s in
-        ap (λ (o : Option S). or_ended o (or_ended (first_over ops (numbers_of ts) (states_finished ops turns e q.0 q.1)) (some_of (finished ops (expand ops turns) e q.0 q.1)))) none
-        ∙ ap (λ (o : Option S). or_ended o (some_of (finished ops (expand ops turns) e q.0 q.1))) still
+    pub goes_through : (rs : List (LeftOf A)) (t : S) → passes ops turns e (numbers_of ts) ts [] s ≡ (Some rs, t) → unit ops turns e ts s ≡ finished ops (expand ops turns) e (numbers_of ts) rs t
+    goes_through rs t h = ap then_finished h

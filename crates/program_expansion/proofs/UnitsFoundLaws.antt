@@ -8,7 +8,7 @@ use Rattle.scheme_model.specs.Live.{unit_leaves}
 use Rattle.scheme_model.specs.Order.{is_some}
 use Rattle.scheme_model.specs.UnitExpansion.{Formed}
 use Rattle.scheme_model.specs.Substitution.{Defined}
-use Rattle.scheme_model.specs.Program.{Prepared, Program, SetResult, ExportFault, UnitResult, WholeFault, result_at, names_of_unit, export_all, unit_result, imports_nothing}
+use Rattle.scheme_model.specs.Program.{Prepared, Program, SetResult, ExportFault, UnitResult, WholeFault, result_at, names_of_unit, export_all, unit_result, with_refused, imports_nothing}
 use Rattle.scheme_model.specs.ScopedProgram.{ScopedProgress}
 use Rattle.scheme_model.specs.Diagnostics.{Diagnostic, at_bytes, bytes_of, export_diagnostics, form_diagnostics, hiding_diagnostics, is_empty, set_diagnostics, unbound_diagnostics, unit_diagnostics}
 use Rattle.core_tree.specs.Units.{defined_by, export_errors, form_errors, set_errors, set_forms, unit_errors}
@@ -46,20 +46,24 @@ module _ (rs : List Read) (us : List UnitResult) (q : Program) (p : Prepared) (i
   abbrev faults : List ExportFault
   faults = (export_all (names_of_unit q.table p.number imports.0) [] p.exports).faults
 
+  -- those that were expanded, and those that are refused
+  abbrev forms : List Formed
+  forms = with_refused p.number 0 p.forms fs
+
   -- sets, exports, forms, definitions that hide, unbound names, no import
-  pub all_found : (f0 f1 f2 f3 f4 f5 : List Finding) (good : Bool) → AreSetsFound rs us p imports.1 f0 → Adds f0 f1 (export_diagnostics (bytes_of (spans_of rs) us) faults) (export_errors faults) →
-      Adds f1 f2 (form_diagnostics (bytes_of (spans_of rs) us) p.number fs) (form_errors fs) → Adds f2 f3 (hiding_diagnostics (bytes_of (spans_of rs) us) p.number imports.0 q.table) [] → good ≡ is_empty (all_told f0) →
-      Adds f3 f4 (cond good (unbound_diagnostics (bytes_of (spans_of rs) us) (unit_leaves fs)) []) [] → Adds f4 f5 (no_import_diagnostics (spans_of rs) p) [] → IsFoundOf rs (in_the_end us q) (unit_result p imports q.table (Some fs)) f5
+  pub all_found : (f0 f1 f2 f3 f4 f5 : List Finding) (good : Bool) → AreSetsFound rs us p imports.1 f0 → Adds f0 f1 (export_diagnostics (bytes_of (spans_of rs) us) p.number faults) (export_errors faults) →
+      Adds f1 f2 (form_diagnostics (bytes_of (spans_of rs) us) p.number forms) (form_errors forms) → Adds f2 f3 (hiding_diagnostics (bytes_of (spans_of rs) us) p.number forms imports.0 q.table) [] → good ≡ is_empty (all_told f0) →
+      Adds f3 f4 (cond good (unbound_diagnostics (bytes_of (spans_of rs) us) (unit_leaves forms)) []) [] → Adds f4 f5 (no_import_diagnostics (spans_of rs) p) [] → IsFoundOf rs (in_the_end us q) (unit_result p imports q.table (Some fs)) f5
   all_found f0 f1 f2 f3 f4 f5 good a b c d same e f =
       let bytes = bytes_of (spans_of rs) us in
-      let ex = export_diagnostics bytes faults in
-      let fo = form_diagnostics bytes p.number fs in
-      let hi = hiding_diagnostics bytes p.number imports.0 q.table in
-      let un = cond good (unbound_diagnostics bytes (unit_leaves fs)) [] in
+      let ex = export_diagnostics bytes p.number faults in
+      let fo = form_diagnostics bytes p.number forms in
+      let hi = hiding_diagnostics bytes p.number forms imports.0 q.table in
+      let un = cond good (unbound_diagnostics bytes (unit_leaves forms)) [] in
       let no = no_import_diagnostics (spans_of rs) p in
       let es = set_errors (zip (set_forms p.number 0 p.forms) imports.1) in
       let ee = export_errors faults in
-      let fe = form_errors fs in
+      let fe = form_errors forms in
       let to1 = adds_then [] f0 f1 sets ex es ee a b in
       let to2 = adds_then [] f1 f2 (sets ++ ex) fo (es ++ ee) fe to1 c in
       let to3 = adds_then [] f2 f3 (sets ++ ex ++ fo) hi (es ++ ee ++ fe) [] to2 d in
@@ -67,7 +71,7 @@ module _ (rs : List Read) (us : List UnitResult) (q : Program) (p : Prepared) (i
       let all = adds_then [] f4 f5 (sets ++ ex ++ fo ++ hi ++ un) no (es ++ ee ++ fe ++ [] ++ []) [] to4 f in
       let good_is : good ≡ is_empty sets = same ∙ ap is_empty a.told in
       record {
-        told = all.told ∙ ap (λ b. sets ++ ex ++ fo ++ hi ++ cond b (unbound_diagnostics bytes (unit_leaves fs)) [] ++ no) good_is;
+        told = all.told ∙ ap (λ b. sets ++ ex ++ fo ++ hi ++ cond b (unbound_diagnostics bytes (unit_leaves forms)) [] ++ no) good_is;
         errors = all.errors ∙ (append-nil (es ++ ee ++ fe ++ [] ++ []) ∙ (append-nil (es ++ ee ++ fe ++ []) ∙ append-nil (es ++ ee ++ fe)));
       }
 
@@ -78,8 +82,8 @@ module _ (rs : List Read) (us : List UnitResult) (a b : Program) (r : UnitResult
   same_by None =
       let bytes = bytes_of (spans_of rs) us in
       let sets = set_diagnostics bytes r.unit.placed.document r.unit.specs r.sets in
-      ap (λ hi. sets ++ export_diagnostics bytes r.export_faults ++ form_diagnostics bytes r.unit.number r.forms ++ hi ++ cond (is_empty sets) (unbound_diagnostics bytes (unit_leaves r.forms)) [] ++ no_import_diagnostics (spans_of rs) r.unit)
-      (sym (hiding_same bytes r.unit.number r.entries a.table b.table h))
+      ap (λ hi. sets ++ export_diagnostics bytes r.unit.number r.export_faults ++ form_diagnostics bytes r.unit.number r.forms ++ hi ++ cond (is_empty sets) (unbound_diagnostics bytes (unit_leaves r.forms)) [] ++ no_import_diagnostics (spans_of rs) r.unit)
+      (sym (hiding_same bytes r.unit.number r.forms r.entries a.table b.table h))
   same_by (Some f) = refl
 
   -- what is found of a unit stays so where no more is defined of it

@@ -148,6 +148,7 @@ module _ (all : List Placed) (rs : List UnitResult) (n : ℕ) (u : Placed) (ther
           entries = h.entries;
           forms = h.forms;
           count = h.count;
+          seconds = h.seconds;
           definitions = subst (λ (ds : List Defined). AreDefinitions work.symbols (reverse (definitions_from 0 c.forms)) ds) (sym (others_define n s.unit.number away old.table now.table front)) h.definitions;
           names =
               subst (λ (xs : List ExportSpec). AreNames work.symbols s.unit.number c.names (unit_names all now s) xs) (sym (externals_same all old now s keep imports defines))
@@ -175,6 +176,7 @@ module _ (all : List Placed) (rs : List UnitResult) (n : ℕ) (u : Placed) (ther
           entries = h.entries;
           forms = h.forms;
           count = h.count;
+          seconds = h.seconds;
           definitions = subst (λ (t : Table). AreDefinitions work.symbols (reverse (definitions_from 0 c.forms)) (defined_by r.unit.number t)) (sym same) h.definitions;
           names =
               subst (λ (xs : List ExportSpec). AreNames work.symbols r.unit.number c.names (unit_names all now r) xs) (sym (externals_same all old now r keep_own imports defines))

@@ -1,10 +1,7 @@
--- Where work on a unit ends, state by state, and how its forms are numbered (R7RS 5.1, 5.3).
-use Rattle.std.specs.Prelude.{◌≡◌, ◌⊎◌, ℕ, suc, ◌≤◌, nat_lt, List, [], ◌∷◌, map, Option, Some, None, Result, Ok, Err, if◌then◌else◌}
-use Rattle.scheme_model.specs.Cores.{Parts}
-use Rattle.scheme_model.specs.Steps.{Broken, ◌>>=◌}
-use Rattle.scheme_model.specs.Order.{Item, Ops}
-use Rattle.scheme_model.specs.Expression.{expand, item_part, parts}
-use Rattle.scheme_model.specs.UnitExpansion.{max_depth, from_items, max_total, nodes_in, first_over, fronts}
+-- Where work on a unit ends, and how its forms are numbered (R7RS 5.1, 5.3).
+use Rattle.std.specs.Prelude.{◌≡◌, ◌⊎◌, ℕ, suc, ◌≤◌, nat_lt, List, [], ◌∷◌, map, true, false, Option, Some, None}
+use Rattle.scheme_model.specs.Order.{Ops}
+use Rattle.scheme_model.specs.UnitExpansion.{max_total, nodes_in}
 
 -- ---- numbers of forms
 
@@ -22,22 +19,9 @@ IsAmong n (f ∷ fs) = (f ≡ n) ⊎ IsAmong n fs
 
 -- ---- where work ends
 
--- the state, if so many nodes are too many
-abbrev pub if_over : {S : Type 0} → ℕ → S → Option S
-if_over total s = if nat_lt max_total total then Some s else None
-
--- the last of some states, in which forms have counted so many nodes: work ends in it if these are too many, and in none before it
-pub record Ends {E A L S : Type 0} (ops : Ops E A L S) (fs : List ℕ) (ss : List S) (total : ℕ) (last : S) : Type 0 where
-  pub over : first_over ops fs ss ≡ if_over total last
+-- forms have counted so many nodes in the last state of work: it ended there if these are too many, and else gave something of
+-- which this holds
+pub record Comes {E A L S X : Type 0} (ops : Ops E A L S) (fs : List ℕ) (work : Option X × S) (total : ℕ) (last : S) (P : X → Type 0) : Type 0 where
   pub counted : nodes_in ops fs last ≡ total
-
--- ---- what a form set aside
-
--- expanded, while the form is at work
-abbrev pub items_expanded : {E A L S : Type 0} → Ops E A L S → ℕ → E → Result (List (Item A)) Broken → S → Result Parts Broken × S
-items_expanded ops turns e r s = from_items r s >>= parts (item_part (expand ops turns) ops max_depth e)
-
--- the states once an item more is expanded
-abbrev pub item_states : {E A L S : Type 0} → Ops E A L S → ℕ → E → Result (List (Item A)) Broken → S → List S
-item_states ops turns e (Ok is) s = map (λ front. (parts (item_part (expand ops turns) ops max_depth e) front s).1) (fronts is)
-item_states ops turns e (Err b) s = []
+  pub over : nat_lt max_total total ≡ true → work ≡ (None, last)
+  pub whole : nat_lt max_total total ≡ false → (x : X) × (work ≡ (Some x, last)) × P x

@@ -7,8 +7,8 @@ use Rattle.scheme_model.specs.Ident.{Ident as Identifier}
 use Rattle.scheme_model.specs.Data.{Datum}
 use Rattle.scheme_model.specs.Cores.{Parts}
 use Rattle.scheme_model.specs.Steps.{Broken}
-use Rattle.scheme_model.specs.Order.{Item, Note, Pass, Counted}
-use Rattle.scheme_model.specs.UnitExpansion.{Formed, passes, finished, max_total, nodes_in, states_passed, states_finished}
+use Rattle.scheme_model.specs.Order.{Left, Note, Pass, Counted}
+use Rattle.scheme_model.specs.UnitExpansion.{Formed, LeftOf, passes, form_parts, finished, max_total, nodes_in}
 use Rattle.scheme_model.specs.Expression.{expand}
 use Rattle.scheme_model.specs.Program.{Prepared, enough_turns}
 use Rattle.scheme_model.specs.Requirements.{Known}
@@ -36,15 +36,16 @@ use Rattle.unit_scopes.specs.State.{IsNumbered, numbered_in}
 use Rattle.unit_scopes.specs.Searched.{searched, searched_unit_over}
 use Rattle.unit_scopes.specs.Stepped.{turned, IsFresh}
 use Rattle.expansion_laws.specs.Tops.{OfOk, ItemsBind}
+use Rattle.unit_scopes.specs.Kept.{WaitsFor}
 use Rattle.unit_scopes.specs.Units.{UnitStands, CountsFor, HasSpace, ItemFor, declared}
 use Rattle.unit_scopes.specs.declared.scope.Budget.{Budget}
-use Rattle.program_expansion.specs.Ends.{numbers_of, Rise, IsAmong, Ends, items_expanded, item_states}
+use Rattle.program_expansion.specs.Ends.{numbers_of, Rise, IsAmong, Comes}
 use Rattle.program_expansion.specs.declared.forms.Bench.{Bench}
 use Rattle.program_expansion.specs.declared.forms.Declared as code
 
--- what a form set aside, or why it is broken
+-- what is left of a form, or why it is broken
 abbrev pub Passing : Type 0
-Passing = Result (List (Item Identifier)) Broken
+Passing = Result (Left Identifier) Broken
 
 -- the libraries that the texts are of
 abbrev pub known_by : BTreeSet (String Global) → Known
@@ -90,14 +91,15 @@ pub record IsUntouched (d : code.Declared) : Type 0 where
   pub definitions : d.trace.definitions ≡ []
   pub keywords : d.trace.keywords ≡ []
   pub met : d.trace.uses ≡ []
+  pub waiting : d.uses.items ≡ []
   pub aside : d.aside ≡ []
   pub fault : d.fault ≡ None
 
--- what a form set aside, or its fault
+-- what is left of a form, or its fault
 abbrev pub IsSetAside : Work → Region → (unit form : ℕ) → code.Declared → Option FormFault → Passing → Type 0
-IsSetAside work region unit form d None (Ok is) = AllMatch (ItemFor work region unit form) d.aside is
+IsSetAside work region unit form d None (Ok l) = AllMatch (WaitsFor work unit form) d.uses.items l.uses × AllMatch (ItemFor work region unit form) d.aside l.items
 IsSetAside work region unit form d None (Err b) = ⊥
-IsSetAside work region unit form d (Some e) (Ok is) = ⊥
+IsSetAside work region unit form d (Some e) (Ok l) = ⊥
 IsSetAside work region unit form d (Some e) (Err b) = IsFault work.symbols unit form e b
 
 -- a form that isn't broken has space for what it set aside
@@ -108,7 +110,7 @@ HasSpaceLeft b (Some e) = Unit {0}
 pub record IsDeclared (work : Work) (region : Region) (unit form : ℕ) (s : ScopedState) (d : code.Declared) (r : Passing) : Type 0 where
   pub counts : CountsFor work s form d.budget d.trace
   pub set_aside : IsSetAside work region unit form d d.fault r
-  pub tops : OfOk (ItemsBind false) r
+  pub tops : OfOk (λ l. ItemsBind false l.items) r
   pub space : HasSpaceLeft d.budget d.fault
 
 -- ---- one form
@@ -154,18 +156,15 @@ pub record LeavesOthers (old new : Bench) (unit form : ℕ) (s t : ScopedState) 
 pub record PassesTo (old new : Bench) (unit form : ℕ) (s : ScopedState) (p : Pass Identifier FramedIdent × ScopedState) (c : code.Declared) : Type 0 where
   pub layout : List Frames
   pub stands : UnitStands new.work new.scope layout p.1 p.0.notes
-  pub form_is : IsDeclared new.work new.region unit form p.1 c p.0.items
+  pub form_is : IsDeclared new.work new.region unit form p.1 c p.0.left
   pub others : LeavesOthers old new unit form s p.1
 
 abbrev pub PassesForm : (old new : Bench) → Known → (unit form : ℕ) → Datum → List (Note FramedIdent) → ScopedState → code.Declared → Type 0
 PassesForm old new known unit form d notes s c = PassesTo old new unit form s (passed known unit form d notes s) c
 
--- what a form set aside is expanded: what came of it, and the states once an item more is
-abbrev pub expanding : Known → (form : ℕ) → Passing → ScopedState → Result Parts Broken × ScopedState
-expanding known form r s = items_expanded (searched known) enough_turns [] r (turned form s)
-
-abbrev pub expanding_states : Known → (form : ℕ) → Passing → ScopedState → List ScopedState
-expanding_states known form r s = item_states (searched known) enough_turns [] r (turned form s)
+-- a form's uses are met, and what it set aside is expanded, while these forms count
+abbrev pub expanding : Known → List ℕ → (form : ℕ) → Passing → ScopedState → Option (Result Parts Broken) × ScopedState
+expanding known fs form r s = form_parts (searched known) (expand (searched known) enough_turns) [] fs r (turned form s)
 
 -- forms with these numbers, among which is this one, have counted so many nodes
 pub record HaveCounted (known : Known) (fs : List ℕ) (form : ℕ) (s : ScopedState) (total : ℕ) : Type 0 where
@@ -173,9 +172,10 @@ pub record HaveCounted (known : Known) (fs : List ℕ) (form : ℕ) (s : ScopedS
   pub among : IsAmong form fs
   pub counted : nodes_in (searched known) fs s ≡ total
 
--- from one state a form went through others to the last: work on the unit ends in it if it makes the nodes too many, and in none before it
-abbrev pub GoesTo : Known → (form : ℕ) → (s : ScopedState) (before : ℕ) → List ScopedState → (after : ℕ) → ScopedState → Type 0
-GoesTo known form s before ss after last = (fs : List ℕ) → HaveCounted known fs form s before → Ends (searched known) fs ss after last
+-- from one state a form came to the last: work on the unit ended there if that makes the nodes too many, and else gave this
+abbrev pub GoesTo : Known → (form : ℕ) → Passing → (s : ScopedState) (before after : ℕ) → (last : ScopedState) → Result Parts Broken → Type 0
+GoesTo known form r s before after last result =
+    (fs : List ℕ) → HaveCounted known fs form s before → Comes (searched known) fs (expanding known fs form r s) after last (λ given. given ≡ result)
 
 -- what a form set aside is being expanded: what came of so much of it, and the state by now
 pub record Finishing (old new : Bench) (known : Known) (unit form : ℕ) (front : Passing) (s : ScopedState) (before after : ℕ) (budget : Budget) (trace : Trace) (items : List ExpandedItem) : Type 0 where
@@ -191,8 +191,7 @@ pub record Finishing (old new : Bench) (known : Known) (unit form : ℕ) (front 
   pub parts : Parts
   pub stand : PartsStand new.work unit form (map (λ i. i.part) items) parts
   pub tops : DefineOnTop parts
-  pub so_far : expanding known form front s ≡ (Ok parts, state)
-  pub ends : GoesTo known form s before (expanding_states known form front s) after state
+  pub so_far : GoesTo known form front s before after state (Ok parts)
 
 -- what a form came to, and the state then: the unit's definitions are those that there were
 pub record FinishesTo (old new : Bench) (unit form : ℕ) (s : ScopedState) (c : code_form.UnitForm) : Type 0 where
@@ -211,8 +210,7 @@ pub record FinishesTo (old new : Bench) (unit form : ℕ) (s : ScopedState) (c :
 -- all that a form set aside is expanded, or as much as it takes to count too many nodes
 pub record FinishesForm (old new : Bench) (known : Known) (unit form : ℕ) (r : Passing) (s : ScopedState) (before after : ℕ) (c : code_form.UnitForm) : Type 0 where
   pub finishes : FinishesTo old new unit form s c
-  pub ends : GoesTo known form s before (expanding_states known form r s) after finishes.state
-  pub whole : nat_lt max_total after ≡ false → expanding known form r s ≡ (finishes.result, finishes.state)
+  pub goes : GoesTo known form r s before after finishes.state finishes.result
   pub counted : finishes.met ≡ (searched known).counted finishes.state
 
 -- ---- all forms
@@ -240,7 +238,7 @@ pub record AreFormed (work : Work) (unit : ℕ) (cs : List code_form.UnitForm) :
   pub definitions : AreDefinitions work.symbols (reverse (definitions_from 0 cs)) defined
 
 -- the forms from a number on: each is the next that was gone through, or isn't expanded
-abbrev pub AreDeclared : Work → Region → (unit form : ℕ) → ScopedState → List code.Declared → List (ℕ × Passing) → Type 0
+abbrev pub AreDeclared : Work → Region → (unit form : ℕ) → ScopedState → List code.Declared → List (LeftOf Identifier) → Type 0
 AreDeclared work region unit form s [] [] = Unit {0}
 AreDeclared work region unit form s [] (r ∷ rs) = ⊥
 AreDeclared work region unit form s (d ∷ ds) [] = IsUntouched d × AreDeclared work region unit (suc form) s ds []
@@ -251,26 +249,22 @@ AreDeclared work region unit form s (d ∷ ds) (r ∷ rs) =
 -- forms with their numbers are gone through: all, or as many as it takes to count too many nodes
 pub record Passes (b : Bench) (unit : ℕ) (known : Known) (ts : List (ℕ × Tree Identifier)) (s : ScopedState) (total : ℕ) (ds : List code.Declared) : Type 0 where
   pub held : FormsHeld b unit 0 ds
-  pub ends : Ends (searched known) (numbers_of ts) (states_passed (searched known) enough_turns [] ts s) total held.state
-  pub state : nat_lt max_total total ≡ false → held.state ≡ (passes (searched known) enough_turns [] ts [] s).1
-  pub forms : nat_lt max_total total ≡ false → AreDeclared b.work b.region unit 0 held.state ds (passes (searched known) enough_turns [] ts [] s).0
+  pub comes : Comes (searched known) (numbers_of ts) (passes (searched known) enough_turns [] (numbers_of ts) ts [] s) total held.state (AreDeclared b.work b.region unit 0 held.state ds)
 
 -- forms that were gone through stand with what each set aside, by numbers that rise, and have counted so many nodes, which aren't too many
-pub record CanFinishAll (b : Bench) (unit : ℕ) (known : Known) (rs : List (ℕ × Passing)) (s : ScopedState) (total : ℕ) (ds : List code.Declared) : Type 0 where
+pub record CanFinishAll (b : Bench) (unit : ℕ) (known : Known) (rs : List (LeftOf Identifier)) (s : ScopedState) (total : ℕ) (ds : List code.Declared) : Type 0 where
   pub few : nat_lt max_total total ≡ false
   pub rise : Rise 0 (numbers_of rs)
   pub counted : nodes_in (searched known) (numbers_of rs) s ≡ total
   pub forms : AreDeclared b.work b.region unit 0 s ds rs
 
 -- what they set aside is expanded: all of it, or as much as it takes to count too many nodes
-pub record Finishes (b : Bench) (unit : ℕ) (known : Known) (rs : List (ℕ × Passing)) (s : ScopedState) (total : ℕ) (cs : List code_form.UnitForm) : Type 0 where
+pub record Finishes (b : Bench) (unit : ℕ) (known : Known) (rs : List (LeftOf Identifier)) (s : ScopedState) (total : ℕ) (cs : List code_form.UnitForm) : Type 0 where
   pub layout : List Frames
   pub last : ScopedState
   pub notes : List (Note FramedIdent)
   pub stands : UnitStands b.work b.scope layout last notes
-  pub ends : Ends (searched known) (numbers_of rs) (states_finished (searched known) enough_turns [] rs s) total last
-  pub state : nat_lt max_total total ≡ false → last ≡ (finished (searched known) (expand (searched known) enough_turns) [] rs s).1
-  pub forms : nat_lt max_total total ≡ false → FormsStand b.work unit 0 cs (finished (searched known) (expand (searched known) enough_turns) [] rs s).0
+  pub comes : Comes (searched known) (numbers_of rs) (finished (searched known) (expand (searched known) enough_turns) [] (numbers_of rs) rs s) total last (FormsStand b.work unit 0 cs)
   pub definitions : nat_lt max_total total ≡ false → AreDefinitions b.work.symbols (reverse (definitions_from 0 cs)) (defined_by unit last.table)
 
 -- ---- the unit

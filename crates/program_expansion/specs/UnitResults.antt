@@ -1,6 +1,7 @@
 -- What units come to by the definition of a program, and what the bench stands for between two of them (R7RS 5.1, 5.6).
 use Rattle.std.specs.Prelude.{◌≡◌, ℕ, List, length, reverse, slice_get, Option, Some, None, String}
 use Rattle.std.specs.declared.alloc.Global.{Global}
+use Rattle.std.specs.List.{flat_map}
 use Rattle.std.specs.BTreeMap.{BTreeMap, get_by_text}
 use Rattle.std.specs.Option.{option_map}
 use Rattle.scheme_model.specs.Requirements.{LibraryName, Known}
@@ -9,6 +10,7 @@ use Rattle.scheme_model.specs.Entries.{Entry}
 use Rattle.scheme_model.specs.UnitExpansion.{Formed}
 use Rattle.scheme_model.specs.Program.{Placed, Prepared, prepared, prepare, unit_named, WholeFault, fault_before, SetResult, UnitResult, Program, result_at, with_entries, broken_result, unit_result}
 use Rattle.scheme_model.specs.ProgramArrows.{unit_names}
+use Rattle.scheme_model.specs.Spelling.{second_places}
 use Rattle.scheme_model.specs.ScopedProgram.{ScopedProgress, scoped_start_of, after_unit}
 use Rattle.syntax_tree.specs.Meant.{AreEntries}
 use Rattle.syntax_tree.specs.declared.trees.Work.{Work}
@@ -43,6 +45,7 @@ pub record CameTo (all : List Placed) (p : Program) (work : Work) (c : Expanded)
   pub count : length c.forms ≡ length r.unit.forms
   pub definitions : AreDefinitions work.symbols (reverse (definitions_from 0 c.forms)) (defined_by r.unit.number p.table)
   pub names : AreNames work.symbols r.unit.number c.names (unit_names all p r) (externals p.table r)
+  pub seconds : c.seconds ≡ flat_map (λ s. second_places s.set) r.unit.specs
   pub exports : AreEntries work.symbols c.exports r.exports
 
 -- nothing came of a unit that is broken

@@ -1,9 +1,9 @@
 -- What is found wrong in units, as the definition's diagnostics and Errors of the program that they come to (R7RS 5.1, 5.6).
-use Rattle.std.specs.Prelude.{◌≡◌, ℕ, List, [], ◌∷◌, length, slice_get, codes, Option, Some, None, if◌then◌else◌}
+use Rattle.std.specs.Prelude.{◌≡◌, ℕ, List, [], ◌∷◌, length, slice_get, Option, Some, None, if◌then◌else◌}
 use Rattle.std.specs.List.{zip}
 use Rattle.scheme_model.specs.Program.{Placed, Prepared, prepared, imports_nothing, SetResult, UnitResult, Program, WholeFault, result_at}
 use Rattle.scheme_model.specs.ScopedProgram.{ScopedProgress}
-use Rattle.scheme_model.specs.Diagnostics.{Span, Diagnostic, at_bytes, bytes_of, set_diagnostics, unit_at, unit_start}
+use Rattle.scheme_model.specs.Diagnostics.{Span, Diagnostic, at_bytes, bytes_of, set_diagnostics, unit_start}
 use Rattle.core_tree.specs.Units.{set_errors, set_forms}
 use Rattle.unit_imports.specs.declared.expanded.Expanded.{Expanded}
 use Rattle.document_units.specs.declared.findings.Finding.{Finding}
@@ -27,13 +27,13 @@ AreSetsFound rs us p sets fs = Adds [] fs (set_diagnostics (bytes_of (spans_of r
 
 -- a program without an import is told
 abbrev pub no_import_diagnostics : List (List Span) → Prepared → List Diagnostic
-no_import_diagnostics spans p = if imports_nothing p then at_bytes (unit_start spans p) 104 (codes "no import, (scheme base) is used") ∷ [] else []
+no_import_diagnostics spans p = if imports_nothing p then at_bytes (unit_start spans p) 104 [] ∷ [] else []
 
 -- ---- all units
 
 -- these are results of the units, each at its number
 abbrev pub AreResultsOf : List Placed → List UnitResult → Type 0
-AreResultsOf all us = (n : ℕ) (u : Placed) → slice_get all n ≡ Some u → (r : UnitResult) × (unit_at us n ≡ Some r) × (r.unit ≡ prepared all n u)
+AreResultsOf all us = (n : ℕ) (u : Placed) → slice_get all n ≡ Some u → (r : UnitResult) × (result_at us n ≡ Some r) × (r.unit ≡ prepared all n u)
 
 -- what is found of the units that came so far
 abbrev pub HaveFound : List Read → List UnitResult → ScopedProgress → List (Option Expanded) → Type 0

@@ -1,9 +1,9 @@
 //! Units one after another (R7RS 5.6), each after what it imports.
 ghost use Rattle.std.specs.Prelude.{◌≡◌, ℕ, ◌<◌, List, [], ◌∷◌, ◌++◌, All, length, replicate, reverse, vec_len, Some, None, IfOk, OnOk, IfSome, true, if◌then◌else◌};
 ghost use Rattle.scheme_model.specs.Entries.{Entry as ModelEntry};
-ghost use Rattle.scheme_model.specs.Diagnostics.{bytes_of, unbound_diagnostics, unit_at};
+ghost use Rattle.scheme_model.specs.Diagnostics.{bytes_of, unbound_diagnostics};
 ghost use Rattle.scheme_model.specs.Live.{unit_leaves};
-ghost use Rattle.scheme_model.specs.Program.{Placed, Prepared, Program, SetResult, UnitResult, WholeFault as Whole, is_in, unit_result};
+ghost use Rattle.scheme_model.specs.Program.{Placed, Prepared, Program, SetResult, UnitResult, WholeFault as Whole, is_in, unit_result, result_at, with_refused};
 ghost use Rattle.scheme_model.specs.Requirements.{Known, LibraryName};
 ghost use Rattle.scheme_model.specs.ScopedProgram.{ScopedProgress, scoped_before};
 ghost use Rattle.scheme_model.specs.UnitExpansion.{Formed};
@@ -39,6 +39,7 @@ ghost use Rattle.document_units.specs.UnitFindings.{IsFoundOf};
 ghost use Rattle.document_units.specs.WereRead.{WereRead};
 
 use crate::forms::{Bench, blank_trace, expand_forms};
+use crate::refused::refuse;
 use core_tree::units::UnitForm;
 use document_units::breaking::{Firsts, break_if};
 use document_units::documents::Document;
@@ -60,6 +61,7 @@ use unit_imports::entries::{Given, Libraries, given_to, imports_nothing};
 use unit_imports::expanded::Expanded;
 use unit_imports::exported::exports_given;
 use unit_imports::names::names_used;
+use unit_imports::seconds::seconds_in;
 
 /// Expands the units that aren't broken, in an order in which each comes after what it imports. One that counts too many nodes
 /// breaks.
@@ -201,7 +203,7 @@ fn expand_unit<L: Ledger>(
     // What is found of it is what the definition has of it, where the program comes to have these units.
     ensures finds { (spelled : LibraryName → List ℕ) (known : Known) (g : ScopedProgress) (p : Prepared) (given_entries : List ModelEntry × List SetResult) → Knows bench.old.scope.libraries known →
         GoesOn bench.old g → p.number ≡ unit → IsSourceOf spelled p None source.now → AreEntries bench.old.work.symbols given.joined.entries.items given_entries.0 →
-        (reads : List Read) (ends : List UnitResult) (r : UnitResult) → ArePlacesOf places.entry reads ends → unit_at ends unit ≡ Some r → r.unit ≡ p → AreSetsFound reads ends p given_entries.1 given.findings.items →
+        (reads : List Read) (ends : List UnitResult) (r : UnitResult) → ArePlacesOf places.entry reads ends → result_at ends unit ≡ Some r → r.unit ≡ p → AreSetsFound reads ends p given_entries.1 given.findings.items →
         IfOk result (λ came. IfSome came (λ came. IsFoundOf reads (in_the_end ends (with_unit g (expanded_after known g p given_entries.0).1))
         (unit_result p given_entries (expanded_after known g p given_entries.0).1.table (expanded_after known g p given_entries.0).0) came.findings.items)) }
 {
@@ -213,6 +215,7 @@ fn expand_unit<L: Ledger>(
     match expanded {
         None => Ok(None),
         Some(forms) => {
+            let forms = refuse(unit, source.forms.as_slice(), forms)?;
             let came = finished(
                 alloc,
                 &mut bench.work,
@@ -272,12 +275,12 @@ fn finished(
     // They are what the definition has of the unit, where forms stand for what it has of them.
     ensures came { (spelled : LibraryName → List ℕ) (us : List Placed) (q : Program) (p : Prepared) (given_entries : List ModelEntry × List SetResult) (fs : List Formed) → p.number ≡ unit → IsSourceOf spelled p None source.now →
         AreLibraries work.old.symbols libraries.entry spelled us q.units → AreEntries work.old.symbols given.joined.entries.items given_entries.0 →
-        length forms ≡ length p.forms → FormsStand work.old unit 0 forms fs → AreDefinitions work.old.symbols (reverse (definitions_from 0 forms)) (defined_by unit q.table) →
+        length forms ≡ length p.forms → FormsStand work.old unit 0 forms (with_refused p.number 0 p.forms fs) → AreDefinitions work.old.symbols (reverse (definitions_from 0 forms)) (defined_by unit q.table) →
         IfOk result (λ came. CameTo us q work.new came (unit_result p given_entries q.table (Some fs))) }
     // What is found is what the definition has of the unit, where the program comes to have these units.
     ensures finds { (spelled : LibraryName → List ℕ) (q : Program) (p : Prepared) (given_entries : List ModelEntry × List SetResult) (fs : List Formed) → p.number ≡ unit → IsSourceOf spelled p None source.now →
-        AreEntries work.old.symbols given.joined.entries.items given_entries.0 → FormsStand work.old unit 0 forms fs → AreDefinitions work.old.symbols (reverse (definitions_from 0 forms)) (defined_by unit q.table) →
-        (reads : List Read) (ends : List UnitResult) (r : UnitResult) → ArePlacesOf places.entry reads ends → unit_at ends unit ≡ Some r → r.unit ≡ p → AreSetsFound reads ends p given_entries.1 given.findings.items →
+        AreEntries work.old.symbols given.joined.entries.items given_entries.0 → FormsStand work.old unit 0 forms (with_refused p.number 0 p.forms fs) → AreDefinitions work.old.symbols (reverse (definitions_from 0 forms)) (defined_by unit q.table) →
+        (reads : List Read) (ends : List UnitResult) (r : UnitResult) → ArePlacesOf places.entry reads ends → result_at ends unit ≡ Some r → r.unit ≡ p → AreSetsFound reads ends p given_entries.1 given.findings.items →
         IfOk result (λ came. IsFoundOf reads (in_the_end ends q) (unit_result p given_entries q.table (Some fs)) came.findings.items) }
 {
     let Given {
@@ -289,14 +292,23 @@ fn finished(
     let defined = definitions(alloc, slice)?;
     let names = names_of(alloc, &work.symbols, unit, defined.as_slice(), &joined)?;
     let used = names_used(alloc, work, libraries, unit, source, names.as_slice())?;
+    let seconds = seconds_in(alloc, source.imports.as_slice())?;
     let symbols = &work.symbols;
-    let exports = exports_given(alloc, places, source, names.as_slice(), &mut findings)?;
+    let exports = exports_given(
+        alloc,
+        places,
+        unit,
+        source,
+        names.as_slice(),
+        &mut findings,
+    )?;
     add_faults(alloc, symbols, places, unit, slice, &mut findings)?;
     add_hiding(
         alloc,
         symbols,
         places,
         unit,
+        slice,
         defined.as_slice(),
         &joined,
         &mut findings,
@@ -307,6 +319,7 @@ fn finished(
         entries: joined.entries,
         forms,
         names: used,
+        seconds,
         exports,
         findings,
     })
@@ -345,7 +358,7 @@ fn add_no_import(
     requires documents { 0 < length places.documents.now }
     requires places { CanPlace places }
     ensures inside { AreFoundIn (length places.entry.documents.now) findings.old.items → OnOk result (AreFoundIn (length places.entry.documents.now) findings.new.items) }
-    ensures exact { (spelled : LibraryName → List ℕ) (rs : List Read) (us : List UnitResult) (r : UnitResult) → ArePlacesOf places.entry rs us → unit_at us unit ≡ Some r → ImportsAs spelled source.now r.unit →
+    ensures exact { (spelled : LibraryName → List ℕ) (rs : List Read) (us : List UnitResult) (r : UnitResult) → ArePlacesOf places.entry rs us → result_at us unit ≡ Some r → ImportsAs spelled source.now r.unit →
         OnOk result (Adds findings.old.items findings.new.items (no_import_diagnostics (spans_of rs) r.unit) []) }
 {
     if imports_nothing(source) {
@@ -370,10 +383,11 @@ pub fn broken(
     ensures formed { (work : AnyWork) → IfOk result (λ came. IsFormed work unit came.forms) }
     ensures count { IfOk result (λ came. length came.forms ≡ count) }
     ensures names { IfOk result (λ came. came.names ≡ []) }
+    ensures seconds { IfOk result (λ came. came.seconds ≡ []) }
     ensures entries { IfOk result (λ came. came.entries.items ≡ []) }
     ensures exports { IfOk result (λ came. came.exports ≡ []) }
     ensures findings { IfOk result (λ came. AreFoundIn (length places.entry.documents.now) came.findings.items) }
-    ensures finds { (rs : List Read) (p : Program) (r : UnitResult) (f : Whole) → ArePlacesOf places.entry rs p.units → unit_at p.units unit ≡ Some r → r.fault ≡ Some f → fault ≡ told f →
+    ensures finds { (rs : List Read) (p : Program) (r : UnitResult) (f : Whole) → ArePlacesOf places.entry rs p.units → result_at p.units unit ≡ Some r → r.fault ≡ Some f → fault ≡ told f →
         IfOk result (λ came. IsFoundOf rs p r came.findings.items) }
 {
     let mut findings = Vec::new(alloc);
@@ -383,6 +397,7 @@ pub fn broken(
         entries: Vec::new(alloc),
         forms: blank_forms(alloc, count)?,
         names: Items::new(alloc),
+        seconds: Items::new(alloc),
         exports: Items::new(alloc),
         findings,
     })

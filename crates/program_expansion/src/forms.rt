@@ -25,7 +25,7 @@ use core_tree::traces::{FormFault, Trace};
 use core_tree::units::{ExpandedItem, UnitForm};
 use datum_reader::seed;
 use document_units::form_numbers::number_of;
-use expander::{Budget, ExpandFault, Item, UnitScope, declare_form, expand_item};
+use expander::{Budget, ExpandFault, Item, Left, UnitScope, WaitingUse, declare_form, expand_item, meet_uses};
 use library_table::UnitForm as SourceForm;
 use ls_base::limits::MAX_UNIT_NODES;
 use ls_base::{Items, Mem, Memory, Steps};
@@ -41,11 +41,13 @@ pub struct Bench {
     pub scope: UnitScope,
 }
 
-/// A form that was gone through: what it has counted and met, what it set aside, and its fault.
+/// A form that was gone through: what it has counted and met, its macro uses that wait for what their literals mean, what it set
+/// aside, and its fault.
 #[derive(Drop)]
 struct Declared {
     budget: Budget,
     trace: Trace,
+    uses: Vec<WaitingUse>,
     aside: Items<Item>,
     fault: Option<FormFault>,
 }
@@ -165,6 +167,7 @@ fn blank(alloc: Global) -> Declared
             locals: 0,
         },
         trace: blank_trace(alloc),
+        uses: Vec::new(alloc),
         aside: Items::new(alloc),
         fault: None,
     }
@@ -216,8 +219,10 @@ fn declare_tree<L: Ledger>(
         &mut form.trace,
         steps,
     ) {
-        Ok(aside) => {
-            form.aside = aside;
+        Ok(left) => {
+            let Left { uses, items } = left;
+            form.uses = uses;
+            form.aside = items;
             Ok(form)
         }
         Err(fault) => {
@@ -267,7 +272,7 @@ fn finish_all<L: Ledger>(
     Ok(forms)
 }
 
-/// Expands what a form set aside. A broken form has nothing but its fault and what it defined.
+/// Meets the uses of a form, and expands what it set aside. A broken form has nothing but its fault and what it defined.
 fn finish<L: Ledger>(
     alloc: Global,
     bench: &mut Bench,
@@ -290,12 +295,15 @@ fn finish<L: Ledger>(
     let Declared {
         mut budget,
         mut trace,
+        uses,
         aside,
         fault,
     } = form;
     if fault.is_some() {
         return Ok(broken(alloc, trace, fault));
     }
+    let Bench { work, scope, .. } = bench;
+    meet_uses(scope, work, uses.as_slice(), number, budget, &mut trace)?;
     let mut items = Items::new(alloc);
     for item in aside.as_slice() {
         if is_large(*total) {

@@ -5,3 +5,4 @@ mod expanding;
 mod forms;
 mod prelude;
 pub mod program;
+mod refused;

@@ -2,8 +2,7 @@
 ghost use Rattle.std.specs.Prelude.{◌≡◌, ℕ, ◌<◌, ◌≤◌, List, length, map, slice_get, vec_len, Some, None, IfOk, IfSome, OnOk};
 ghost use Rattle.std.specs.FinMap.{entries};
 ghost use Rattle.ls_base.specs.Limits.{max_documents};
-ghost use Rattle.scheme_model.specs.Diagnostics.{unit_at};
-ghost use Rattle.scheme_model.specs.Program.{Document as ModelDocument, Program as Model, UnitResult, WholeFault as Whole, known_in, units_of};
+ghost use Rattle.scheme_model.specs.Program.{Document as ModelDocument, Program as Model, UnitResult, WholeFault as Whole, known_in, units_of, result_at};
 ghost use Rattle.scheme_model.specs.Requirements.{LibraryName};
 ghost use Rattle.syntax_tree.specs.declared.trees.Work.{Work as AnyWork};
 ghost use Rattle.core_tree.specs.Units.{error_as};
@@ -199,7 +198,7 @@ fn came_to(
     ensures formed { (work : AnyWork) → IfSome came (λ came. IsFormed work place came.forms) → IfOk result (λ came. IsFormed work place came.forms) }
     ensures some { IfSome came (λ came. IfOk result (λ unit. unit ≡ came)) }
     ensures none { came ≡ None → IfOk result (IsNothing count) }
-    ensures told { (rs : List Read) (p : Model) (h : AnyHead) (r : UnitResult) → ArePlaces places.entry rs p.units → unit_at p.units place ≡ Some r → slice_get places.entry.heads.now place ≡ Some h → IsTold rs p h came r →
+    ensures told { (rs : List Read) (p : Model) (h : AnyHead) (r : UnitResult) → ArePlaces places.entry rs p.units → result_at p.units place ≡ Some r → slice_get places.entry.heads.now place ≡ Some h → IsTold rs p h came r →
         IfOk result (λ came. IsFoundOf rs p r came.findings.items) }
 {
     match came {
@@ -216,7 +215,7 @@ fn broken_at(alloc: Global, places: Places<'_>, place: usize, count: usize) -> M
     ensures found { IfOk result (λ came. AreFoundIn (length places.entry.documents.now) came.findings.items) }
     ensures formed { (work : AnyWork) → IfOk result (λ came. IsFormed work place came.forms) }
     ensures nothing { IfOk result (IsNothing count) }
-    ensures told { (rs : List Read) (p : Model) (h : AnyHead) (r : UnitResult) (f : Whole) → ArePlaces places.entry rs p.units → unit_at p.units place ≡ Some r → slice_get places.entry.heads.now place ≡ Some h →
+    ensures told { (rs : List Read) (p : Model) (h : AnyHead) (r : UnitResult) (f : Whole) → ArePlaces places.entry rs p.units → result_at p.units place ≡ Some r → slice_get places.entry.heads.now place ≡ Some h →
         h.fault ≡ Some (told f) → r.fault ≡ Some f → IfOk result (λ came. IsFoundOf rs p r came.findings.items) }
 {
     let fault = places.heads[place].fault.unwrap_or(WholeFault::TooLarge);

@@ -9,7 +9,7 @@ use Rattle.document_units.specs.declared.documents.Document as code
 use Rattle.document_units.specs.declared.documents.Unread.{Unread}
 use Rattle.document_units.specs.Changed.{Changes}
 use Rattle.document_units.specs.Readings.{Read, Reads, Stops, IsReadAs, AreReadAs, IsReadSo, IsUnread, IsDocument, AreDocuments, program_in, spans_in}
-use Rattle.document_units.specs.Wording.{worded}
+use Rattle.scheme_model.specs.DiagnosticTexts.{worded}
 use Rattle.document_units.specs.Findings.{in_document, kept, AreKept}
 use Rattle.document_units.specs.Listed.{found_of, AreFoundOf}
 use Rattle.document_units.specs.Diagnosed.{TellsStop, TellsStopOf}

@@ -18,7 +18,7 @@ use Rattle.core_tree.specs.declared.cores.Target as code_target
 use Rattle.document_units.specs.declared.findings.At.{At}
 use Rattle.document_units.specs.declared.findings.Finding.{Finding}
 use Rattle.document_units.specs.Places.{bytes_at}
-use Rattle.document_units.specs.Wording.{front, worded}
+use Rattle.scheme_model.specs.DiagnosticTexts.{worded}
 use Rattle.program_findings.specs.Unbound.{IsUnbound, unbound_as, unbound_in}
 use Rattle.document_units.specs.Findings.{all_told, errors_in, Adds, at_of}
 use Rattle.document_units.specs.Diagnosed.{free_found, unbound_found}
@@ -57,7 +57,7 @@ module _ (bytes : Occ → Bytes) (names now : Names) (kept : KeepsNames names no
       let both : Some name ≡ Some s = sym there ∙ kept.symbols symbol s h in
       let text : name ≡ s = cc in
       let place : spot ≡ at_of (bytes o) = ap at_of (exact ∙ ap bytes same) in
-      λ i. record { at = Some (place i); form = (same i).form; code = 103; message = front 103 ++ (ap (λ ys. ys ++ []) text ∙ append-nil s) i } ∷ []
+      λ i. record { at = Some (place i); form = (same i).form; code = 103; message = worded 103 (text i) } ∷ []
 
   -- a use that means nothing
   pub is_free : (t : code_target.Target) (m : Target) → IsUnbound names t m → t.meaning ≡ code.Free symbol → t.occ ≡ Some occ → bytes_at spot ≡ bytes occ → slice_get now.symbols symbol ≡ Some name →

@@ -1,9 +1,9 @@
 -- What is found of a unit that is broken as a whole tells the definition's diagnostic.
 use Rattle.std.proofs.Common.{◌≡◌, ℕ, List, [], ◌∷◌, map, Bool, true, cond, Option, Some, refl, sym, ap, ◌∙◌, subst}
 use Rattle.scheme_model.specs.Program as model
-use Rattle.scheme_model.specs.Program.{Prepared}
+use Rattle.scheme_model.specs.Program.{Prepared, whole_code}
 use Rattle.scheme_model.specs.Diagnostics.{Span, Bytes, Diagnostic, at_bytes, unit_diagnostics, unit_start, whole_fault}
-use Rattle.core_tree.specs.Units.{unit_errors, whole_code}
+use Rattle.core_tree.specs.Units.{unit_errors}
 use Rattle.document_units.specs.declared.listing.WholeFault.{WholeFault}
 use Rattle.document_units.specs.declared.listing.WholeFault.TheVariants as code
 use Rattle.document_units.specs.declared.findings.At.{At}
@@ -12,17 +12,17 @@ use Rattle.document_units.specs.Broken.{told as told_of}
 use Rattle.document_units.specs.Places.{bytes_at, spans_of}
 use Rattle.document_units.specs.Readings.{Read}
 use Rattle.document_units.specs.UnitFindings.{IsFoundOf}
-use Rattle.document_units.specs.Wording.{worded}
+use Rattle.scheme_model.specs.DiagnosticTexts.{worded}
 use Rattle.document_units.specs.Findings.{diagnostic, told, all_told, is_error, errors_in, Adds}
 use Rattle.document_units.specs.Diagnosed.{IsWhole, whole_at, whole_number}
 
 module _ (spans : List (List Span)) (p : Prepared) (start : At) (e : bytes_at start ≡ unit_start spans p) where
   whole_told : (fault : WholeFault) (f : model.WholeFault) → IsWhole fault f → diagnostic (whole_at start fault) (whole_number fault) (worded (whole_number fault) []) ≡ whole_fault spans p f
-  whole_told code.TooMany model.TooMany h = ap (λ b. at_bytes b 67 (worded 67 [])) e
+  whole_told code.TooMany model.TooMany h = ap (λ b. at_bytes b 67 []) e
   whole_told (code.BadDeclaration s) (model.BadDeclaration d) h = λ i. record { document = (e i).document; start = h.0 i; end = h.1 i; code = 61; text = worded 61 [] }
-  whole_told code.DefinedTwice model.DefinedTwice h = ap (λ b. at_bytes b 63 (worded 63 [])) e
-  whole_told code.ImportCycle model.ImportCycle h = ap (λ b. at_bytes b 62 (worded 62 [])) e
-  whole_told code.TooLarge model.TooLarge h = ap (λ b. at_bytes b 66 (worded 66 [])) e
+  whole_told code.DefinedTwice model.DefinedTwice h = ap (λ b. at_bytes b 63 []) e
+  whole_told code.ImportCycle model.ImportCycle h = ap (λ b. at_bytes b 62 []) e
+  whole_told code.TooLarge model.TooLarge h = ap (λ b. at_bytes b 66 []) e
   whole_told code.TooMany (model.BadDeclaration d) h = absurd h
   whole_told code.TooMany model.DefinedTwice h = absurd h
   whole_told code.TooMany model.ImportCycle h = absurd h

@@ -3,20 +3,20 @@ ghost use Rattle.std.specs.Prelude.{◌≡◌, ◌<◌, ◌++◌, ◌∷◌, ℕ
 ghost use Rattle.scheme_model.specs.Ident.{Ident as Identifier, symbol_of};
 ghost use Rattle.scheme_model.specs.Steps.{Broken};
 ghost use Rattle.scheme_model.specs.UnitExpansion.{Formed};
-ghost use Rattle.scheme_model.specs.Program.{UnitResult, WholeFault as Whole};
+ghost use Rattle.scheme_model.specs.Program.{UnitResult, WholeFault as Whole, result_at, whole_code};
 ghost use Rattle.scheme_model.specs.Cores.{Target as CoreTarget};
 ghost use Rattle.scheme_model.specs.Live.{unit_leaves};
-ghost use Rattle.scheme_model.specs.Diagnostics.{bytes_of, unit_at, form_diagnostics, unbound_diagnostics, whole_fault};
+ghost use Rattle.scheme_model.specs.Diagnostics.{bytes_of, fault_names, form_diagnostics, unbound_diagnostics, whole_fault};
 ghost use Rattle.syntax_tree.specs.Names.{Names, KeepsNames};
 ghost use Rattle.syntax_tree.specs.declared.trees.Work.{Work};
 ghost use Rattle.syntax_tree.specs.declared.meaning.Meaning.TheVariants as meant;
 ghost use Rattle.core_tree.specs.declared.traces.FormFault.{FormFault as Fault};
 ghost use Rattle.core_tree.specs.Traces.{IsFault};
-ghost use Rattle.core_tree.specs.Units.{FormsStand, form_errors, whole_code};
+ghost use Rattle.core_tree.specs.Units.{FormsStand, form_errors};
 ghost use Rattle.document_units.specs.declared.findings.At.{At as Found};
 ghost use Rattle.document_units.specs.Readings.{Read};
 ghost use Rattle.document_units.specs.Changed.{Changes};
-ghost use Rattle.document_units.specs.Diagnosed.{IsWhole, fault_names, fault_found, unbound_found, TellsStop, TellsStopOf, whole_at, whole_number};
+ghost use Rattle.document_units.specs.Diagnosed.{IsWhole, fault_found, unbound_found, TellsStop, TellsStopOf, whole_at, whole_number};
 ghost use Rattle.document_units.specs.Findings.{Adds};
 ghost use Rattle.document_units.specs.Places.{AreFoundIn, ArePlaces, CanPlace, spans_of};
 ghost use Rattle.program_findings.specs.StandIn.{StandIn};
@@ -171,7 +171,7 @@ pub fn whole_finding(
     requires documents { 0 < length places.documents.now }
     requires places { CanPlace places }
     ensures inside { IfOk result (λ found. (at : Found) → found.at ≡ Some at → at.document < length places.entry.documents.now) }
-    ensures exact { (rs : List Read) (us : List UnitResult) (r : UnitResult) (f : Whole) → ArePlaces places.entry rs us → unit_at us unit ≡ Some r → IsWhole fault f →
+    ensures exact { (rs : List Read) (us : List UnitResult) (r : UnitResult) (f : Whole) → ArePlaces places.entry rs us → result_at us unit ≡ Some r → IsWhole fault f →
         IfOk result (λ found. Adds [] (found ∷ []) (whole_fault (spans_of rs) r.unit f ∷ []) ((whole_code f, 0) ∷ [])) }
 {
     let at = whole_at(places.start(unit), fault);

@@ -6,7 +6,6 @@ use Rattle.scheme_model.specs.declared.Occ.{Occ}
 use Rattle.scheme_model.specs.Trees.{Tree, name, atom, list, vector, Trees, no_trees, tree, Tail, proper, dotted}
 use Rattle.scheme_model.specs.ExpansionFaults.{Named, named, Fault, ◌>>◌}
 use Rattle.scheme_model.specs.Shapes.{names_of, is_among}
-use Rattle.scheme_model.specs.Building.{is_there}
 use Rattle.scheme_model.specs.Matching.{behind}
 use Rattle.scheme_model.specs.RulesShape.{Rules, Rule, Variable, nowhere, is_dots, escape_of, depth_of, check_rules, rules_in, rules_behind, bad}
 use Rattle.scheme_model.specs.Leaves.{Leaf, rule_leaves, all_rule_leaves, unless, if_escape, template_leaves, template_among, template_behind}

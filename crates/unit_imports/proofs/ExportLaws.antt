@@ -1,10 +1,9 @@
 -- Exports of the code stand for some, and what is wrong in them is the definition's.
 use Rattle.std.proofs.Common.{◌≡◌, ℕ, zero, suc, ◌+◌, List, [], ◌∷◌, ◌++◌, append-nil, append_assoc, length, drop, slice_get, Option, Some, None, refl, sym, ap, ◌∙◌, subst}
-use Rattle.std.specs.Prelude.{codes, not}
-use Rattle.std.specs.Option.{option_map}
+use Rattle.std.specs.Prelude.{not}
 use Rattle.scheme_model.specs.declared.Occ.{Occ}
 use Rattle.scheme_model.specs.Program.{ExportSpec, ExportFault, NotDefined, SameExport}
-use Rattle.scheme_model.specs.Diagnostics.{Diagnostic, Bytes, at_name, export_diagnostics}
+use Rattle.scheme_model.specs.Diagnostics.{Diagnostic, Bytes, at_bytes, export_bytes, export_diagnostics}
 use Rattle.import_sets.specs.Sets.{named}
 use Rattle.import_sets.specs.Given.{same_place}
 use Rattle.library_table.specs.Exports.{IsFault, AreFaults}
@@ -14,15 +13,14 @@ use Rattle.library_table.specs.declared.units.ExportSpec as code_export
 use Rattle.document_units.specs.declared.findings.At.{At}
 use Rattle.document_units.specs.Findings.{told_at}
 use Rattle.document_units.specs.Places.{bytes_at}
-use Rattle.document_units.specs.Wording.{worded}
+use Rattle.scheme_model.specs.DiagnosticTexts.{worded}
 use Rattle.unit_imports.proofs.GivenLaws.{drop_at}
-use Rattle.unit_imports.proofs.ToldLaws.{told_there, worded_name}
 
 pub any_exports : (cs : List code_export.ExportSpec) → (xs : List ExportSpec) × AreExports cs xs
 any_exports [] = ([], tt)
 any_exports (c ∷ cs) =
     let r = any_exports cs in
-    (record { inner = named c.inner; outer = named c.outer; renamed = not (same_place c.inner.occ c.outer.occ) } ∷ r.0, (record { inner = refl; outer = refl; renamed = refl }, r.1))
+    (record { form = c.form; inner = named c.inner; outer = named c.outer; renamed = not (same_place c.inner.occ c.outer.occ) } ∷ r.0, (record { form = refl; inner = refl; outer = refl; renamed = refl }, r.1))
 
 -- ---- exports and their faults
 
@@ -49,19 +47,19 @@ fault_at xs (e ∷ fs) [] h n f at = absurd h
 fault_at xs (e ∷ fs) (g ∷ gs) h zero f at = let same : e ≡ f = cc in record { fault = g; there = refl; is = subst (λ (x : code_fault.ExportFault). IsFault xs x g) same h.0 }
 fault_at xs (e ∷ fs) (g ∷ gs) h (suc n) f at = let r = fault_at xs fs gs h.1 n f at in record { fault = r.fault; there = r.there; is = r.is }
 
-export_next : (bytes : Occ → Bytes) (g : ExportFault) (gs : List ExportFault) → export_diagnostics bytes (g ∷ gs) ≡ export_diagnostics bytes (g ∷ []) ++ export_diagnostics bytes gs
-export_next bytes (NotDefined x) gs = ap (λ (ds : List Diagnostic). ds ++ export_diagnostics bytes gs) (sym (append-nil (at_name bytes x.outer.occ 64 (codes "not defined " ++ x.inner.name))))
-export_next bytes (SameExport x) gs = ap (λ (ds : List Diagnostic). ds ++ export_diagnostics bytes gs) (sym (append-nil (at_name bytes x.outer.occ 65 (codes "exported twice " ++ x.outer.name))))
+export_next : (bytes : Occ → Bytes) (unit : ℕ) (g : ExportFault) (gs : List ExportFault) → export_diagnostics bytes unit (g ∷ gs) ≡ export_diagnostics bytes unit (g ∷ []) ++ export_diagnostics bytes unit gs
+export_next bytes unit (NotDefined x) gs = refl
+export_next bytes unit (SameExport x) gs = refl
 
 -- one fault more is told
-pub faults_next : (bytes : Occ → Bytes) (gs : List ExportFault) (i : ℕ) (g : ExportFault) (now more whole : List Diagnostic) → slice_get gs i ≡ Some g → more ≡ now ++ export_diagnostics bytes (g ∷ []) →
-    now ++ export_diagnostics bytes (drop i gs) ≡ whole → more ++ export_diagnostics bytes (drop (i + 1) gs) ≡ whole
-faults_next bytes gs i g now more whole at e before =
-    ap (λ (ds : List Diagnostic). ds ++ export_diagnostics bytes (drop (i + 1) gs)) e ∙ append_assoc now (export_diagnostics bytes (g ∷ [])) (export_diagnostics bytes (drop (i + 1) gs))
-    ∙ ap (λ (ds : List Diagnostic). now ++ ds) (sym (export_next bytes g (drop (i + 1) gs))) ∙ sym (ap (λ (l : List ExportFault). now ++ export_diagnostics bytes l) (drop_at gs i g at)) ∙ before
+pub faults_next : (bytes : Occ → Bytes) (unit : ℕ) (gs : List ExportFault) (i : ℕ) (g : ExportFault) (now more whole : List Diagnostic) → slice_get gs i ≡ Some g → more ≡ now ++ export_diagnostics bytes unit (g ∷ []) →
+    now ++ export_diagnostics bytes unit (drop i gs) ≡ whole → more ++ export_diagnostics bytes unit (drop (i + 1) gs) ≡ whole
+faults_next bytes unit gs i g now more whole at e before =
+    ap (λ (ds : List Diagnostic). ds ++ export_diagnostics bytes unit (drop (i + 1) gs)) e ∙ append_assoc now (export_diagnostics bytes unit (g ∷ [])) (export_diagnostics bytes unit (drop (i + 1) gs))
+    ∙ ap (λ (ds : List Diagnostic). now ++ ds) (sym (export_next bytes unit g (drop (i + 1) gs))) ∙ sym (ap (λ (l : List ExportFault). now ++ export_diagnostics bytes unit l) (drop_at gs i g at)) ∙ before
 
-pub faults_done : (bytes : Occ → Bytes) (gs : List ExportFault) (i : ℕ) (now whole : List Diagnostic) → drop i gs ≡ [] → now ++ export_diagnostics bytes (drop i gs) ≡ whole → now ≡ whole
-faults_done bytes gs i now whole none h = sym (append-nil now) ∙ ap (λ (l : List ExportFault). now ++ export_diagnostics bytes l) (sym none) ∙ h
+pub faults_done : (bytes : Occ → Bytes) (unit : ℕ) (gs : List ExportFault) (i : ℕ) (now whole : List Diagnostic) → drop i gs ≡ [] → now ++ export_diagnostics bytes unit (drop i gs) ≡ whole → now ≡ whole
+faults_done bytes unit gs i now whole none h = sym (append-nil now) ∙ ap (λ (l : List ExportFault). now ++ export_diagnostics bytes unit l) (sym none) ∙ h
 
 pub as_many_faults : (xs : List ExportSpec) (fs : List code_fault.ExportFault) (gs : List ExportFault) → AreFaults xs fs gs → length fs ≡ length gs
 as_many_faults xs [] [] h = refl
@@ -69,18 +67,11 @@ as_many_faults xs [] (g ∷ gs) h = absurd h
 as_many_faults xs (f ∷ fs) [] h = absurd h
 as_many_faults xs (f ∷ fs) (g ∷ gs) h = ap suc (as_many_faults xs fs gs h.1)
 
--- what is told at the place of an external name
-told_outer : (old new : List Diagnostic) (at : Option At) (o p : Option Occ) (bytes : Occ → Bytes) (code k : ℕ) (name s : List ℕ) → new ≡ old ++ told_at at code (worded code name) → option_map bytes_at at ≡ option_map bytes o → o ≡ p → code ≡ k → name ≡ s →
-    new ≡ old ++ (at_name bytes p k (worded k s) ++ [])
-told_outer old new at o p bytes code k name s e h same c n =
-    e ∙ ap (λ (ds : List Diagnostic). old ++ ds) (told_there at o bytes h code (worded code name) ∙ (λ j. at_name bytes (same j) (c j) (worded (c j) (n j))) ∙ sym (append-nil (at_name bytes p k (worded k s))))
+-- what is told at an export's external name, or at its declaration
+pub told_undefined : (old new : List Diagnostic) (at : At) (bytes : Occ → Bytes) (unit code : ℕ) (name : List ℕ) (x : ExportSpec) → new ≡ old ++ told_at (Some at) code (worded code name) → bytes_at at ≡ export_bytes bytes unit x →
+    code ≡ 64 → name ≡ x.inner.name → new ≡ old ++ export_diagnostics bytes unit (NotDefined x ∷ [])
+told_undefined old new at bytes unit code name x e h c n = e ∙ (λ j. old ++ at_bytes (h j) (c j) (n j) ∷ [])
 
-pub told_undefined : (old new : List Diagnostic) (at : Option At) (o : Option Occ) (bytes : Occ → Bytes) (code : ℕ) (name : List ℕ) (x : ExportSpec) → new ≡ old ++ told_at at code (worded code name) → option_map bytes_at at ≡ option_map bytes o → o ≡ x.outer.occ →
-    code ≡ 64 → name ≡ x.inner.name → new ≡ old ++ export_diagnostics bytes (NotDefined x ∷ [])
-told_undefined old new at o bytes code name x e h same c n =
-    told_outer old new at o x.outer.occ bytes code 64 name x.inner.name e h same c n ∙ ap (λ (t : List ℕ). old ++ (at_name bytes x.outer.occ 64 t ++ [])) (worded_name 64 x.inner.name)
-
-pub told_again : (old new : List Diagnostic) (at : Option At) (o : Option Occ) (bytes : Occ → Bytes) (code : ℕ) (name : List ℕ) (x : ExportSpec) → new ≡ old ++ told_at at code (worded code name) → option_map bytes_at at ≡ option_map bytes o → o ≡ x.outer.occ →
-    code ≡ 65 → name ≡ x.outer.name → new ≡ old ++ export_diagnostics bytes (SameExport x ∷ [])
-told_again old new at o bytes code name x e h same c n =
-    told_outer old new at o x.outer.occ bytes code 65 name x.outer.name e h same c n ∙ ap (λ (t : List ℕ). old ++ (at_name bytes x.outer.occ 65 t ++ [])) (worded_name 65 x.outer.name)
+pub told_again : (old new : List Diagnostic) (at : At) (bytes : Occ → Bytes) (unit code : ℕ) (name : List ℕ) (x : ExportSpec) → new ≡ old ++ told_at (Some at) code (worded code name) → bytes_at at ≡ export_bytes bytes unit x →
+    code ≡ 65 → name ≡ x.outer.name → new ≡ old ++ export_diagnostics bytes unit (SameExport x ∷ [])
+told_again old new at bytes unit code name x e h c n = e ∙ (λ j. old ++ at_bytes (h j) (c j) (n j) ∷ [])

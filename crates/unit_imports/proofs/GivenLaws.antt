@@ -1,16 +1,15 @@
 -- What import sets of the code come to is what the definition's sets come to.
-use Rattle.std.specs.List.{zip}
+use Rattle.std.specs.List.{list_any, zip}
 use Rattle.std.proofs.Common.{◌≡◌, ℕ, zero, suc, ◌+◌, ◌<◌, ◌≤◌, Bool, true, false, cond, List, [], ◌∷◌, ◌++◌, append-nil, append_assoc, map, drop, length, slice_get, get_or, Option, Some, None, Result, Ok, refl, sym, ap, ◌∙◌, subst, arith, add-one}
-use Rattle.std.specs.Prelude.{codes, reverse, ◌&&◌}
-use Rattle.std.specs.Option.{option_map}
+use Rattle.std.specs.Prelude.{reverse, not, ◌&&◌}
 use Rattle.std.specs.BTreeMap.{get_by_text}
 use Rattle.std.proofs.lemmas.Option.{slice_get_read, slice_get_within}
 use Rattle.scheme_model.specs.declared.Occ.{Occ}
 use Rattle.scheme_model.specs.Requirements.{LibraryName}
 use Rattle.scheme_model.specs.StandardLibraries.{standard}
 use Rattle.scheme_model.specs.Entries as model
-use Rattle.scheme_model.specs.Program.{Placed, Prepared, ImportSpec, is_empty, is_program, imports_nothing, base_entries, unit_entries, UnitResult, SetResult, Unknown, Faulty, Gives, standard_entry, unit_exports, unit_named, result_at, exports_if, library_exports, with_exports, of_library, after_set, import_all}
-use Rattle.scheme_model.specs.Diagnostics.{Diagnostic, Bytes, Span, at_bytes, at_name, bytes_of, unit_at, datum_bytes, set_diagnostics, clash_diagnostics, import_fault}
+use Rattle.scheme_model.specs.Program.{Placed, Prepared, ImportSpec, is_import, is_program, imports_nothing, base_entries, unit_entries, UnitResult, SetResult, Unknown, Faulty, Gives, standard_entry, unit_exports, unit_named, result_at, exports_if, library_exports, with_exports, of_library, after_set, import_all}
+use Rattle.scheme_model.specs.Diagnostics.{Diagnostic, Bytes, Span, at_bytes, bytes_of, bytes_or, datum_bytes, set_diagnostics, clash_diagnostics, import_fault}
 use Rattle.syntax_tree.specs.Names.{Names, KeepsNames}
 use Rattle.syntax_tree.specs.Meant.{AreEntries}
 use Rattle.syntax_tree.specs.declared.units.Entry.{Entry}
@@ -25,6 +24,7 @@ use Rattle.import_sets.specs.declared.gather.Group.{Group}
 use Rattle.import_sets.specs.Given.{finished, Gathered, take_all}
 use Rattle.import_sets.specs.Sets.{named, IsSet, IsSetOf, TellsApart, Answers, FailsAs}
 use Rattle.import_sets.proofs.GatherLaws.{gather_stands}
+use Rattle.library_table.specs.UnitsRead.{forms_of}
 use Rattle.library_table.specs.declared.units.ImportSpec as code_spec
 use Rattle.library_table.specs.declared.units.UnitSource as code_source
 use Rattle.unit_imports.specs.declared.entries.Libraries as code
@@ -39,10 +39,9 @@ use Rattle.document_units.specs.Readings.{Read, span_seen}
 use Rattle.unit_imports.specs.Joining.{GatheredAs, GroupsStand}
 use Rattle.unit_imports.specs.SetsGiven.{AreEntriesIf, AreLibraries, ComesTo, ImportsAs, exports_at, set_exports, with_set}
 use Rattle.document_units.specs.UnitSources.{IsSpec}
-use Rattle.document_units.specs.Wording.{worded}
+use Rattle.scheme_model.specs.DiagnosticTexts.{worded}
 use Rattle.unit_imports.proofs.MeaningLaws.{entries_kept}
 use Rattle.unit_imports.proofs.SetErrors.{no_set_errors, number_is, set_error_next}
-use Rattle.unit_imports.proofs.ToldLaws.{told_there, worded_name}
 
 -- ---- the library of a set
 
@@ -199,8 +198,7 @@ drop_at {A} (y ∷ xs) (suc n) x h = let e : suc (n + 1) ≡ suc n + 1 = omega a
 set_next : (bytes : Occ → Bytes) (document : ℕ) (s : ImportSpec) (ss : List ImportSpec) (r : SetResult) (rs : List SetResult) →
     set_diagnostics bytes document (s ∷ ss) (r ∷ rs) ≡ set_diagnostics bytes document (s ∷ []) (r ∷ []) ++ set_diagnostics bytes document ss rs
 set_next bytes document s ss Unknown rs = refl
-set_next bytes document s ss (Faulty f) rs =
-    ap (λ (ds : List Diagnostic). ds ++ set_diagnostics bytes document ss rs) (sym (append-nil (import_fault bytes (datum_bytes document s.whole) f)))
+set_next bytes document s ss (Faulty f) rs = refl
 set_next bytes document s ss (Gives es clashes) rs =
     ap (λ (ds : List Diagnostic). ds ++ set_diagnostics bytes document ss rs) (sym (append-nil (clash_diagnostics (datum_bytes document s.whole) clashes)))
 
@@ -298,24 +296,18 @@ gives_told bytes document spelled c s h es clashes old new e =
     e ∙ ap (λ (b : Bytes). old ++ clash_diagnostics b clashes) (whole_is document spelled c s h) ∙ ap (λ (ds : List Diagnostic). old ++ ds) (sym (append-nil (clash_diagnostics (datum_bytes document s.whole) clashes)))
 
 pub faulty_told : (bytes : Occ → Bytes) (document : ℕ) (spelled : LibraryName → List ℕ) (c : code_spec.ImportSpec) (s : ImportSpec) → IsSpec spelled c s → (f : model.ImportFault) (old new : List Diagnostic) →
-    new ≡ old ++ import_fault bytes (seen_at document c.span) f → new ≡ old ++ set_diagnostics bytes document (s ∷ []) (Faulty f ∷ [])
+    new ≡ old ++ import_fault bytes (seen_at document c.span) f ∷ [] → new ≡ old ++ set_diagnostics bytes document (s ∷ []) (Faulty f ∷ [])
 faulty_told bytes document spelled c s h f old new e =
-    e ∙ ap (λ (b : Bytes). old ++ import_fault bytes b f) (whole_is document spelled c s h) ∙ ap (λ (ds : List Diagnostic). old ++ ds) (sym (append-nil (import_fault bytes (datum_bytes document s.whole) f)))
+    e ∙ ap (λ (b : Bytes). old ++ import_fault bytes b f ∷ []) (whole_is document spelled c s h)
 
 pub unknown_told : (bytes : Occ → Bytes) (document : ℕ) (spelled : LibraryName → List ℕ) (c : code_spec.ImportSpec) (s : ImportSpec) → IsSpec spelled c s → (old new : List Diagnostic) →
-    new ≡ old ++ at_bytes (seen_at document c.library) 102 (codes "library not known") ∷ [] → new ≡ old ++ set_diagnostics bytes document (s ∷ []) (Unknown ∷ [])
-unknown_told bytes document spelled c s h old new e = e ∙ ap (λ (b : Bytes). old ++ at_bytes b 102 (codes "library not known") ∷ []) (ap (seen_at document) h.library)
+    new ≡ old ++ at_bytes (seen_at document c.library) 102 [] ∷ [] → new ≡ old ++ set_diagnostics bytes document (s ∷ []) (Unknown ∷ [])
+unknown_told bytes document spelled c s h old new e = e ∙ ap (λ (b : Bytes). old ++ at_bytes b 102 [] ∷ []) (ap (seen_at document) h.library)
 
 -- ---- a unit
 
-empty_match : {X Y : Type 0} (P : X → Y → Type 0) (xs : List X) (ys : List Y) → AllMatch P xs ys → is_empty xs ≡ is_empty ys
-empty_match P [] [] h = refl
-empty_match P [] (y ∷ ys) h = absurd h
-empty_match P (x ∷ xs) [] h = absurd h
-empty_match P (x ∷ xs) (y ∷ ys) h = refl
-
-pub nothing_same : (spelled : LibraryName → List ℕ) (c : code_source.UnitSource) (p : Prepared) → ImportsAs spelled c p → (is_program (kind_as c.kind) && is_empty c.imports) ≡ imports_nothing p
-nothing_same spelled c p h = (λ j. is_program (h.kind j) && empty_match (IsSpec spelled) c.imports p.specs h.specs j)
+pub nothing_same : (spelled : LibraryName → List ℕ) (c : code_source.UnitSource) (p : Prepared) → ImportsAs spelled c p → (is_program (kind_as c.kind) && not (list_any is_import (forms_of c.forms))) ≡ imports_nothing p
+nothing_same spelled c p h = (λ j. is_program (h.kind j) && not (list_any is_import (sym h.forms j)))
 
 pub base_case : (all : List Placed) (rs : List UnitResult) (p : Prepared) → imports_nothing p ≡ true → unit_entries all rs p ≡ (base_entries, [])
 base_case all rs p h = ap (λ (b : Bool). cond b (base_entries, []) (import_all all rs [] p.specs)) h
@@ -327,66 +319,62 @@ pub no_results : (bytes : Occ → Bytes) (document : ℕ) (ss : List ImportSpec)
 no_results bytes document [] = refl
 no_results bytes document (s ∷ ss) = refl
 
-pub document_is : (at : At) (spans : List (List Span)) (us : List UnitResult) (unit : ℕ) (r : UnitResult) (p : Prepared) → bytes_at at ≡ start_of spans (unit_at us unit) → unit_at us unit ≡ Some r → r.unit ≡ p → at.document ≡ p.placed.document
+pub document_is : (at : At) (spans : List (List Span)) (us : List UnitResult) (unit : ℕ) (r : UnitResult) (p : Prepared) → bytes_at at ≡ start_of spans (result_at us unit) → result_at us unit ≡ Some r → r.unit ≡ p → at.document ≡ p.placed.document
 document_is at spans us unit r p e is same =
     ap (λ (b : Bytes). b.document) e ∙ ap (λ (o : Option UnitResult). (start_of spans o).document) is ∙ ap (λ (q : Prepared). q.placed.document) same
 
 -- ---- what a fault is told as
 
-pub missing_told : (old new : List Diagnostic) (at : Option At) (n : SetName) (name : List ℕ) (bytes : Occ → Bytes) (set : Bytes) (f : model.ImportFault) → f ≡ model.NotThere (named n) → option_map bytes_at at ≡ option_map bytes n.occ → name ≡ n.name →
-    new ≡ old ++ told_at at 51 (worded 51 name) → new ≡ old ++ import_fault bytes set f
+pub missing_told : (old new : List Diagnostic) (at : At) (n : SetName) (name : List ℕ) (bytes : Occ → Bytes) (set : Bytes) (f : model.ImportFault) → f ≡ model.NotThere (named n) → bytes_at at ≡ bytes_or bytes set n.occ → name ≡ n.name →
+    new ≡ old ++ told_at (Some at) 51 (worded 51 name) → new ≡ old ++ import_fault bytes set f ∷ []
 missing_told old new at n name bytes set f is h same e =
-    e
-    ∙ ap (λ (ds : List Diagnostic). old ++ ds)
-    (told_there at n.occ bytes h 51 (worded 51 name) ∙ (λ j. at_name bytes n.occ 51 (worded 51 (same j))) ∙ ap (at_name bytes n.occ 51) (worded_name 51 n.name))
-    ∙ ap (λ (g : model.ImportFault). old ++ import_fault bytes set g) (sym is)
+    e ∙ (λ j. old ++ at_bytes (h j) 51 (same j) ∷ []) ∙ ap (λ (g : model.ImportFault). old ++ import_fault bytes set g ∷ []) (sym is)
 
 pub clash_fault_told : (old new : List Diagnostic) (document : ℕ) (span : code_span.Span) (at : At) (s name : List ℕ) (bytes : Occ → Bytes) (f : model.ImportFault) → f ≡ model.Clash s → at ≡ record { document = document; span = span } → name ≡ s →
-    new ≡ old ++ told_at (Some at) 52 (worded 52 name) → new ≡ old ++ import_fault bytes (seen_at document span) f
+    new ≡ old ++ told_at (Some at) 52 (worded 52 name) → new ≡ old ++ import_fault bytes (seen_at document span) f ∷ []
 clash_fault_told old new document span at s name bytes f is where_is same e =
-    e ∙ (λ j. old ++ diagnostic (where_is j) 52 (worded 52 (same j)) ∷ []) ∙ ap (λ (t : List ℕ). old ++ at_bytes (seen_at document span) 52 t ∷ []) (worded_name 52 s)
-    ∙ ap (λ (g : model.ImportFault). old ++ import_fault bytes (seen_at document span) g) (sym is)
+    e ∙ (λ j. old ++ diagnostic (where_is j) 52 (worded 52 (same j)) ∷ []) ∙ ap (λ (g : model.ImportFault). old ++ import_fault bytes (seen_at document span) g ∷ []) (sym is)
 
 pub bad_set_told : (old new : List Diagnostic) (document : ℕ) (span : code_span.Span) (at : At) (bytes : Occ → Bytes) (f : model.ImportFault) → f ≡ model.BadSet → at ≡ record { document = document; span = span } →
-    new ≡ old ++ told_at (Some at) 53 (codes "bad import set") → new ≡ old ++ import_fault bytes (seen_at document span) f
+    new ≡ old ++ told_at (Some at) 53 (worded 53 []) → new ≡ old ++ import_fault bytes (seen_at document span) f ∷ []
 bad_set_told old new document span at bytes f is where_is e =
-    e ∙ ap (λ (a : At). old ++ diagnostic a 53 (codes "bad import set") ∷ []) where_is ∙ ap (λ (g : model.ImportFault). old ++ import_fault bytes (seen_at document span) g) (sym is)
+    e ∙ ap (λ (a : At). old ++ diagnostic a 53 (worded 53 []) ∷ []) where_is ∙ ap (λ (g : model.ImportFault). old ++ import_fault bytes (seen_at document span) g ∷ []) (sym is)
 
 -- ---- a unit that imports nothing, and one that imports something
 
-pub nothing_is : (spelled : LibraryName → List ℕ) (c : code_source.UnitSource) (p : Prepared) → ImportsAs spelled c p → (b d : Bool) → b ≡ (is_program (kind_as c.kind) && is_empty c.imports) → b ≡ d → imports_nothing p ≡ d
+pub nothing_is : (spelled : LibraryName → List ℕ) (c : code_source.UnitSource) (p : Prepared) → ImportsAs spelled c p → (b d : Bool) → b ≡ (is_program (kind_as c.kind) && not (list_any is_import (forms_of c.forms))) → b ≡ d → imports_nothing p ≡ d
 nothing_is spelled c p im b d e h = sym (nothing_same spelled c p im) ∙ sym e ∙ h
 
-pub base_stands : (names : Names) (gs : List Group) (all : List Placed) (rs : List UnitResult) (p : Prepared) (spelled : LibraryName → List ℕ) (c : code_source.UnitSource) → ImportsAs spelled c p → (b : Bool) → b ≡ (is_program (kind_as c.kind) && is_empty c.imports) → b ≡ true →
+pub base_stands : (names : Names) (gs : List Group) (all : List Placed) (rs : List UnitResult) (p : Prepared) (spelled : LibraryName → List ℕ) (c : code_source.UnitSource) → ImportsAs spelled c p → (b : Bool) → b ≡ (is_program (kind_as c.kind) && not (list_any is_import (forms_of c.forms))) → b ≡ true →
     GroupsStand names gs base_entries → GroupsStand names gs (unit_entries all rs p).0
 base_stands names gs all rs p spelled c im b e h stand =
     subst (λ (q : List model.Entry × List SetResult). GroupsStand names gs q.0) (sym (base_case all rs p (nothing_is spelled c p im b true e h))) stand
 
-pub base_told : (bytes : Occ → Bytes) (ds : List Diagnostic) (all : List Placed) (rs : List UnitResult) (p : Prepared) (spelled : LibraryName → List ℕ) (c : code_source.UnitSource) → ImportsAs spelled c p → (b : Bool) → b ≡ (is_program (kind_as c.kind) && is_empty c.imports) → b ≡ true →
+pub base_told : (bytes : Occ → Bytes) (ds : List Diagnostic) (all : List Placed) (rs : List UnitResult) (p : Prepared) (spelled : LibraryName → List ℕ) (c : code_source.UnitSource) → ImportsAs spelled c p → (b : Bool) → b ≡ (is_program (kind_as c.kind) && not (list_any is_import (forms_of c.forms))) → b ≡ true →
     ds ≡ ds ++ set_diagnostics bytes p.placed.document p.specs (unit_entries all rs p).1
 base_told bytes ds all rs p spelled c im b e h =
     sym (append-nil ds) ∙ ap (λ (xs : List Diagnostic). ds ++ xs) (sym (no_results bytes p.placed.document p.specs))
     ∙ ap (λ (q : List model.Entry × List SetResult). ds ++ set_diagnostics bytes p.placed.document p.specs q.1) (sym (base_case all rs p (nothing_is spelled c p im b true e h)))
 
-pub sets_stand : (names : Names) (gs : List Group) (all : List Placed) (rs : List UnitResult) (p : Prepared) (spelled : LibraryName → List ℕ) (c : code_source.UnitSource) → ImportsAs spelled c p → (b : Bool) → b ≡ (is_program (kind_as c.kind) && is_empty c.imports) → b ≡ false →
+pub sets_stand : (names : Names) (gs : List Group) (all : List Placed) (rs : List UnitResult) (p : Prepared) (spelled : LibraryName → List ℕ) (c : code_source.UnitSource) → ImportsAs spelled c p → (b : Bool) → b ≡ (is_program (kind_as c.kind) && not (list_any is_import (forms_of c.forms))) → b ≡ false →
     GroupsStand names gs (import_all all rs [] p.specs).0 → GroupsStand names gs (unit_entries all rs p).0
 sets_stand names gs all rs p spelled c im b e h stand =
     subst (λ (q : List model.Entry × List SetResult). GroupsStand names gs q.0) (sym (sets_case all rs p (nothing_is spelled c p im b false e h))) stand
 
-pub sets_told : (bytes : Occ → Bytes) (old new : List Diagnostic) (document : ℕ) (all : List Placed) (rs : List UnitResult) (p : Prepared) (spelled : LibraryName → List ℕ) (c : code_source.UnitSource) → ImportsAs spelled c p → (b : Bool) → b ≡ (is_program (kind_as c.kind) && is_empty c.imports) → b ≡ false →
+pub sets_told : (bytes : Occ → Bytes) (old new : List Diagnostic) (document : ℕ) (all : List Placed) (rs : List UnitResult) (p : Prepared) (spelled : LibraryName → List ℕ) (c : code_source.UnitSource) → ImportsAs spelled c p → (b : Bool) → b ≡ (is_program (kind_as c.kind) && not (list_any is_import (forms_of c.forms))) → b ≡ false →
     document ≡ p.placed.document → new ≡ old ++ set_diagnostics bytes document p.specs (import_all all rs [] p.specs).1 → new ≡ old ++ set_diagnostics bytes p.placed.document p.specs (unit_entries all rs p).1
 sets_told bytes old new document all rs p spelled c im b e h here told =
     told ∙ ap (λ (d : ℕ). old ++ set_diagnostics bytes d p.specs (import_all all rs [] p.specs).1) here
     ∙ ap (λ (q : List model.Entry × List SetResult). old ++ set_diagnostics bytes p.placed.document p.specs q.1) (sym (sets_case all rs p (nothing_is spelled c p im b false e h)))
 
 -- the Errors, by the forms of the sets
-pub base_errors : (es : List (ℕ × ℕ)) (all : List Placed) (rs : List UnitResult) (p : Prepared) (spelled : LibraryName → List ℕ) (c : code_source.UnitSource) → ImportsAs spelled c p → (b : Bool) → b ≡ (is_program (kind_as c.kind) && is_empty c.imports) → b ≡ true → (fs : List ℕ) →
+pub base_errors : (es : List (ℕ × ℕ)) (all : List Placed) (rs : List UnitResult) (p : Prepared) (spelled : LibraryName → List ℕ) (c : code_source.UnitSource) → ImportsAs spelled c p → (b : Bool) → b ≡ (is_program (kind_as c.kind) && not (list_any is_import (forms_of c.forms))) → b ≡ true → (fs : List ℕ) →
     es ≡ es ++ set_errors (zip fs (unit_entries all rs p).1)
 base_errors es all rs p spelled c im b e h fs =
     sym (append-nil es) ∙ ap (λ (xs : List (ℕ × ℕ)). es ++ xs) (sym (no_set_errors fs))
     ∙ ap (λ (q : List model.Entry × List SetResult). es ++ set_errors (zip fs q.1)) (sym (base_case all rs p (nothing_is spelled c p im b true e h)))
 
-pub sets_errors : (old new : List (ℕ × ℕ)) (all : List Placed) (rs : List UnitResult) (p : Prepared) (spelled : LibraryName → List ℕ) (c : code_source.UnitSource) → ImportsAs spelled c p → (b : Bool) → b ≡ (is_program (kind_as c.kind) && is_empty c.imports) → b ≡ false → (fs : List ℕ) →
+pub sets_errors : (old new : List (ℕ × ℕ)) (all : List Placed) (rs : List UnitResult) (p : Prepared) (spelled : LibraryName → List ℕ) (c : code_source.UnitSource) → ImportsAs spelled c p → (b : Bool) → b ≡ (is_program (kind_as c.kind) && not (list_any is_import (forms_of c.forms))) → b ≡ false → (fs : List ℕ) →
     new ≡ old ++ set_errors (zip fs (import_all all rs [] p.specs).1) → new ≡ old ++ set_errors (zip fs (unit_entries all rs p).1)
 sets_errors old new all rs p spelled c im b e h fs told =
     told ∙ ap (λ (q : List model.Entry × List SetResult). old ++ set_errors (zip fs q.1)) (sym (sets_case all rs p (nothing_is spelled c p im b false e h)))

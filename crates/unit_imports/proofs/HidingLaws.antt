@@ -1,18 +1,21 @@
 -- What is found of definitions that hide imports tells the definition's diagnostics.
 use Rattle.std.proofs.Common.{◌≡◌, ℕ, zero, suc, ◌<◌, length, arith, List, [], ◌∷◌, ◌++◌, append-nil, append_assoc, Bool, true, false, cond, slice_get, Option, Some, None, refl, sym, ap, ◌∙◌}
-use Rattle.std.specs.Prelude.{◌==◌, ◌&&◌, ◌||◌, codes}
-use Rattle.std.specs.List.{flat_map}
+use Rattle.std.specs.Prelude.{◌==◌, ◌&&◌, ◌||◌, not}
+use Rattle.std.specs.List.{flat_map, list_any}
 use Rattle.std.specs.Str.{bytes_eq}
 use Rattle.std.proofs.lemmas.Grind.{flat_map-append}
 use Rattle.scheme_model.specs.declared.Occ.{Occ}
 use Rattle.scheme_model.specs.Ident.{Ident, Written, Inserted, symbol_of}
 use Rattle.scheme_model.specs.Entries.{Entry}
 use Rattle.scheme_model.specs.Substitution.{Defined, Table}
-use Rattle.scheme_model.specs.Diagnostics.{Bytes, Diagnostic, at_bytes, or_start, hides, hiding_diagnostics}
+use Rattle.scheme_model.specs.UnitExpansion.{Formed}
+use Rattle.scheme_model.specs.Diagnostics.{Bytes, Diagnostic, at_bytes, or_start, hides, is_broken, hiding_diagnostics}
 use Rattle.syntax_tree.specs.Names.{Names}
 use Rattle.syntax_tree.specs.Meant.{AreEntries}
 use Rattle.syntax_tree.specs.declared.units.Entry as code
-use Rattle.core_tree.specs.Units.{AreDefinitions, IsDefinition, defined_by}
+use Rattle.core_tree.specs.Units.{AreDefinitions, FormsStand, IsDefinition, defined_by}
+use Rattle.core_tree.specs.declared.units.UnitForm.{UnitForm}
+use Rattle.syntax_tree.specs.declared.trees.Work.{Work}
 use Rattle.core_tree.specs.declared.cores.Binder.{Binder}
 use Rattle.import_sets.specs.Given.{has_name}
 use Rattle.document_units.specs.declared.findings.At.{At}
@@ -20,33 +23,34 @@ use Rattle.document_units.specs.declared.findings.Finding.{Finding}
 use Rattle.unit_imports.specs.Defined.{hidden_in, hidden_at, written_symbol}
 use Rattle.document_units.specs.Findings.{all_told, errors_in, Adds, at_of}
 use Rattle.document_units.specs.Places.{bytes_at}
-use Rattle.document_units.specs.Wording.{worded}
-use Rattle.unit_imports.specs.Hiding.{hidden_found}
+use Rattle.scheme_model.specs.DiagnosticTexts.{worded}
+use Rattle.unit_imports.proofs.BrokenForms.{broken_same}
+use Rattle.unit_imports.specs.Hiding.{has_fault, hidden_found, unless_broken}
 use Rattle.document_units.proofs.DiagnosedLaws.{told_both, errors_both, adds_more}
 
 -- ---- the definition, of the definitions of one unit
 
-module _ (bytes : Occ → Bytes) (unit : ℕ) (es : List Entry) where
+module _ (bytes : Occ → Bytes) (unit : ℕ) (fs : List Formed) (es : List Entry) where
   abbrev one_told : Bool → Defined → List Diagnostic
-  one_told b d = cond (b && hides es d.ident) (at_bytes (bytes (or_start unit d.form d.occ)) 101 (codes "definition hides import " ++ symbol_of d.ident) ∷ []) []
+  one_told b d = cond (b && (hides es d.ident && not (list_any (is_broken d.form) fs))) (at_bytes (bytes (or_start unit d.form d.occ)) 101 (symbol_of d.ident) ∷ []) []
 
   abbrev own_told : List Defined → List Diagnostic
   own_told [] = []
   own_told (d ∷ ds) = one_told true d ++ own_told ds
 
   -- what other units define hides nothing here
-  pub hiding_own : (table : Table) → hiding_diagnostics bytes unit es table ≡ own_told (defined_by unit table)
+  pub hiding_own : (table : Table) → hiding_diagnostics bytes unit fs es table ≡ own_told (defined_by unit table)
   hiding_own [] = refl
   hiding_own (d ∷ ds) = go (d.unit == unit) refl (hiding_own ds)
     where
-      go : (b : Bool) → (d.unit == unit) ≡ b → hiding_diagnostics bytes unit es ds ≡ own_told (defined_by unit ds) →
-          one_told (d.unit == unit) d ++ hiding_diagnostics bytes unit es ds ≡ own_told (cond (d.unit == unit) (d ∷ defined_by unit ds) (defined_by unit ds))
+      go : (b : Bool) → (d.unit == unit) ≡ b → hiding_diagnostics bytes unit fs es ds ≡ own_told (defined_by unit ds) →
+          one_told (d.unit == unit) d ++ hiding_diagnostics bytes unit fs es ds ≡ own_told (cond (d.unit == unit) (d ∷ defined_by unit ds) (defined_by unit ds))
       go true e rest = (λ i. one_told (e i) d ++ rest i) ∙ ap (λ b. own_told (cond b (d ∷ defined_by unit ds) (defined_by unit ds))) (sym e)
       go false e rest = (λ i. one_told (e i) d ++ rest i) ∙ ap (λ b. own_told (cond b (d ∷ defined_by unit ds) (defined_by unit ds))) (sym e)
 
 -- so it is the same for tables that have the same of a unit
-pub hiding_same : (bytes : Occ → Bytes) (unit : ℕ) (es : List Entry) (old new : Table) → defined_by unit new ≡ defined_by unit old → hiding_diagnostics bytes unit es new ≡ hiding_diagnostics bytes unit es old
-hiding_same bytes unit es old new h = hiding_own bytes unit es new ∙ (ap (own_told bytes unit es) h ∙ sym (hiding_own bytes unit es old))
+pub hiding_same : (bytes : Occ → Bytes) (unit : ℕ) (fs : List Formed) (es : List Entry) (old new : Table) → defined_by unit new ≡ defined_by unit old → hiding_diagnostics bytes unit fs es new ≡ hiding_diagnostics bytes unit fs es old
+hiding_same bytes unit fs es old new h = hiding_own bytes unit fs es new ∙ (ap (own_told bytes unit fs es) h ∙ sym (hiding_own bytes unit fs es old))
 
 -- ---- names that are imported
 
@@ -63,9 +67,16 @@ entry_there names (c ∷ cs) (e ∷ es) h u s = go (bytes_eq e.name s) refl (ent
 
 -- ---- definitions one by one
 
-module _ (bytes : Occ → Bytes) (unit : ℕ) (names : Names) (cs : List code.Entry) where
+-- a definition of a form that isn't broken is told, if it hides something
+with_broken : (broken hidden : Bool) (found : List Finding) (ds : List Diagnostic) → all_told found ≡ cond hidden ds [] → all_told (unless_broken broken found) ≡ cond (hidden && not broken) ds []
+with_broken true true found ds e = refl
+with_broken true false found ds e = refl
+with_broken false true found ds e = e
+with_broken false false found ds e = e
+
+module _ (bytes : Occ → Bytes) (unit : ℕ) (forms : List UnitForm) (names : Names) (cs : List code.Entry) where
   abbrev pub found_one : ℕ × Binder → List Finding
-  found_one b = hidden_found bytes unit b.0 b.1.occ (hidden_at cs (slice_get names.idents b.1.ident))
+  found_one b = unless_broken (has_fault (slice_get forms b.0)) (hidden_found bytes unit b.0 b.1.occ (hidden_at cs (slice_get names.idents b.1.ident)))
 
   abbrev pub all_hidden : List (ℕ × Binder) → List Finding
   all_hidden bs = flat_map found_one bs
@@ -79,36 +90,49 @@ module _ (bytes : Occ → Bytes) (unit : ℕ) (names : Names) (cs : List code.En
   no_error form occ None = refl
   no_error form occ (Some s) = refl
 
+  no_error_if : (broken : Bool) (found : List Finding) → errors_in found ≡ [] → errors_in (unless_broken broken found) ≡ []
+  no_error_if true found e = refl
+  no_error_if false found e = e
+
   no_errors : (bs : List (ℕ × Binder)) → errors_in (all_hidden bs) ≡ []
   no_errors [] = refl
-  no_errors (b ∷ bs) = errors_both (found_one b) (all_hidden bs) ∙ (λ i. no_error b.0 b.1.occ (hidden_at cs (slice_get names.idents b.1.ident)) i ++ no_errors bs i)
+  no_errors (b ∷ bs) = errors_both (found_one b) (all_hidden bs) ∙ (λ i. no_error_if (has_fault (slice_get forms b.0)) (hidden_found bytes unit b.0 b.1.occ (hidden_at cs (slice_get names.idents b.1.ident))) (no_error b.0 b.1.occ (hidden_at cs (slice_get names.idents b.1.ident))) i ++ no_errors bs i)
 
-  module _ (es : List Entry) (are : AreEntries names cs es) where
+  module _ (es : List Entry) (are : AreEntries names cs es) (work : Work) (fs : List Formed) (stand : FormsStand work unit 0 forms fs) where
     by_name : (form : ℕ) (occ : Option Occ) (s : List ℕ) (b : Bool) →
-        all_told (hidden_found bytes unit form occ (cond b (Some s) None)) ≡ cond b (at_bytes (bytes (or_start unit form occ)) 101 (codes "definition hides import " ++ s) ∷ []) []
-    by_name form occ s true = ap (λ t. at_bytes (bytes (or_start unit form occ)) 101 (codes "definition hides import " ++ t) ∷ []) (append-nil s)
+        all_told (hidden_found bytes unit form occ (cond b (Some s) None)) ≡ cond b (at_bytes (bytes (or_start unit form occ)) 101 s ∷ []) []
+    by_name form occ s true = refl
     by_name form occ s false = refl
 
     by_ident : (form : ℕ) (occ : Option Occ) (i : Ident) →
-        all_told (hidden_found bytes unit form occ (hidden_in cs i)) ≡ cond (hides es i) (at_bytes (bytes (or_start unit form occ)) 101 (codes "definition hides import " ++ symbol_of i) ∷ []) []
+        all_told (hidden_found bytes unit form occ (hidden_in cs i)) ≡ cond (hides es i) (at_bytes (bytes (or_start unit form occ)) 101 (symbol_of i) ∷ []) []
     by_ident form occ (Inserted j k) = refl
     by_ident form occ (Written u s) = ap (λ b. all_told (hidden_found bytes unit form occ (cond b (Some s) None))) (sym (entry_there names cs es are u s)) ∙ by_name form occ s (hides es (Written u s))
 
-    definition_told : (n : ℕ) (b : ℕ × Binder) (d : Defined) → IsDefinition names n b d → all_told (found_one b) ≡ one_told bytes unit es true d
-    definition_told n b d h =
+    one_ident : (b : ℕ × Binder) (d : Defined) (n : ℕ) → IsDefinition names n b d →
+        all_told (hidden_found bytes unit b.0 b.1.occ (hidden_at cs (slice_get names.idents b.1.ident))) ≡ cond (hides es d.ident) (at_bytes (bytes (or_start unit d.form d.occ)) 101 (symbol_of d.ident) ∷ []) []
+    one_ident b d n h =
         ap (λ o. all_told (hidden_found bytes unit b.0 b.1.occ (hidden_at cs o))) h.ident
         ∙ ((λ i. all_told (hidden_found bytes unit (h.form i) (h.place i) (hidden_in cs d.ident))) ∙ by_ident d.form d.occ d.ident)
 
-    all_hidden_told : (bs : List (ℕ × Binder)) (ds : List Defined) → AreDefinitions names bs ds → all_told (all_hidden bs) ≡ own_told bytes unit es ds
+    same_fault : (n m : ℕ) → n ≡ m → has_fault (slice_get forms n) ≡ list_any (is_broken m) fs
+    same_fault n m e = ap (λ k. has_fault (slice_get forms k)) e ∙ sym (broken_same work unit forms fs stand m)
+
+    definition_told : (n : ℕ) (b : ℕ × Binder) (d : Defined) → IsDefinition names n b d → all_told (found_one b) ≡ one_told bytes unit fs es true d
+    definition_told n b d h =
+        with_broken (has_fault (slice_get forms b.0)) (hides es d.ident) (hidden_found bytes unit b.0 b.1.occ (hidden_at cs (slice_get names.idents b.1.ident))) (at_bytes (bytes (or_start unit d.form d.occ)) 101 (symbol_of d.ident) ∷ []) (one_ident b d n h)
+        ∙ ap (λ q. cond (hides es d.ident && not q) (at_bytes (bytes (or_start unit d.form d.occ)) 101 (symbol_of d.ident) ∷ []) []) (same_fault b.0 d.form h.form)
+
+    all_hidden_told : (bs : List (ℕ × Binder)) (ds : List Defined) → AreDefinitions names bs ds → all_told (all_hidden bs) ≡ own_told bytes unit fs es ds
     all_hidden_told [] [] h = refl
     all_hidden_told [] (d ∷ ds) h = absurd h
     all_hidden_told (b ∷ bs) [] h = absurd h
     all_hidden_told (b ∷ bs) (d ∷ ds) h = told_both (found_one b) (all_hidden bs) ∙ (λ i. definition_told _ b d h.0 i ++ all_hidden_told bs ds h.1 i)
 
     -- all of them are the definition's
-    pub hidden_adds : (old new : List Finding) (bs : List (ℕ × Binder)) (table : Table) → AreDefinitions names bs (defined_by unit table) → new ≡ old ++ all_hidden bs → Adds old new (hiding_diagnostics bytes unit es table) []
+    pub hidden_adds : (old new : List Finding) (bs : List (ℕ × Binder)) (table : Table) → AreDefinitions names bs (defined_by unit table) → new ≡ old ++ all_hidden bs → Adds old new (hiding_diagnostics bytes unit fs es table) []
     hidden_adds old new bs table h is =
-        adds_more old new (all_hidden bs) (hiding_diagnostics bytes unit es table) [] is (all_hidden_told bs (defined_by unit table) h ∙ sym (hiding_own bytes unit es table)) (no_errors bs)
+        adds_more old new (all_hidden bs) (hiding_diagnostics bytes unit fs es table) [] is (all_hidden_told bs (defined_by unit table) h ∙ sym (hiding_own bytes unit fs es table)) (no_errors bs)
 
 -- ---- one finding
 

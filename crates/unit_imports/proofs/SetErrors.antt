@@ -1,13 +1,13 @@
 -- The Errors of import sets, each with the form that its set stands in.
 use Rattle.std.proofs.Common.{◌≡◌, ℕ, zero, suc, ◌+◌, ◌<◌, List, [], ◌∷◌, ◌++◌, append-nil, append_assoc, map, drop, length, slice_get, Bool, true, false, cond, Some, refl, sym, ap, ◌∙◌, subst, arith}
-use Rattle.std.specs.Prelude.{◌&&◌, codes, not, reverse}
+use Rattle.std.specs.Prelude.{reverse}
 use Rattle.std.specs.List.{zip}
 use Rattle.std.proofs.lemmas.List.{length-map, reverse-append}
 use Rattle.std.proofs.lemmas.Option.{same_Some}
 use Rattle.scheme_model.specs.Data.{Datum, place_of}
-use Rattle.scheme_model.specs.Declarations.{UnitForm, is_headed, list_parts}
+use Rattle.scheme_model.specs.Declarations.{UnitForm, list_parts}
 use Rattle.scheme_model.specs.Entries as model
-use Rattle.scheme_model.specs.Program.{Placed, UnitResult, ImportSpec, SetResult, Unknown, Faulty, Gives, behind_first, import_all, spec_of, specs_in, specs_from}
+use Rattle.scheme_model.specs.Program.{Placed, UnitResult, ImportSpec, SetResult, Unknown, Faulty, Gives, behind_first, is_import, import_all, spec_of, specs_in, specs_from}
 use Rattle.core_tree.specs.Units.{set_errors, set_forms}
 use Rattle.datum_reader.specs.Views.{data_of}
 use Rattle.datum_reader.specs.declared.datum.Datum as code
@@ -23,13 +23,13 @@ same_for n (x ∷ xs) [] long = absurd (omega arith)
 same_for n (x ∷ xs) (y ∷ ys) long = ap (λ ns. n ∷ ns) (same_for n xs ys (omega arith))
 
 -- the sets of a form that is an import declaration, and of another
-pub sets_in : (unit n : ℕ) (f : UnitForm) (ds : List code.Datum) → (f.declared && is_headed (codes "import") f.datum) ≡ true → data_of ds ≡ behind_first (list_parts f.datum) → map (λ (d : code.Datum). n) ds ≡ map (λ (s : ImportSpec). n) (specs_in unit n f)
+pub sets_in : (unit n : ℕ) (f : UnitForm) (ds : List code.Datum) → is_import f ≡ true → data_of ds ≡ behind_first (list_parts f.datum) → map (λ (d : code.Datum). n) ds ≡ map (λ (s : ImportSpec). n) (specs_in unit n f)
 sets_in unit n f ds is parts =
     same_for n ds (map (spec_of unit n (place_of f.datum).first) (behind_first (list_parts f.datum)))
     (sym (length-map ds _) ∙ (ap (λ (xs : List Datum). length xs) parts ∙ sym (length-map (behind_first (list_parts f.datum)) (spec_of unit n (place_of f.datum).first))))
     ∙ ap (λ b. map (λ (s : ImportSpec). n) (cond b (map (spec_of unit n (place_of f.datum).first) (behind_first (list_parts f.datum))) [])) (sym is)
 
-pub no_sets_in : (unit n : ℕ) (f : UnitForm) → (f.declared && is_headed (codes "import") f.datum) ≡ false → [] ≡ map (λ (s : ImportSpec). n) (specs_in unit n f)
+pub no_sets_in : (unit n : ℕ) (f : UnitForm) → is_import f ≡ false → [] ≡ map (λ (s : ImportSpec). n) (specs_in unit n f)
 no_sets_in unit n f is = ap (λ b. map (λ (s : ImportSpec). n) (cond b (map (spec_of unit n (place_of f.datum).first) (behind_first (list_parts f.datum))) [])) (sym is)
 
 -- one form more

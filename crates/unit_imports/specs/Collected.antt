@@ -20,6 +20,7 @@ pub record IsNothing (count : ℕ) (e : Expanded) : Type 0 where
   pub blank : All IsBlank e.forms
   pub as_many : length e.forms ≡ count
   pub names : e.names ≡ []
+  pub seconds : e.seconds ≡ []
   pub entries : e.entries.items ≡ []
   pub exports : e.exports ≡ []
 

@@ -15,6 +15,7 @@ use Rattle.import_sets.specs.Sets.{named}
 use Rattle.import_sets.specs.declared.fault.ImportFault as code_fault
 use Rattle.import_sets.specs.declared.fault.ImportFault.TheVariants as fault
 use Rattle.base_library.specs.Texts.{SpellsStandard}
+use Rattle.library_table.specs.UnitsRead.{forms_of}
 use Rattle.library_table.specs.declared.units.UnitSource as code_source
 use Rattle.unit_imports.specs.declared.expanded.Expanded.{Expanded}
 use Rattle.unit_imports.specs.declared.entries.Libraries as code
@@ -55,6 +56,7 @@ set_exports all rs (Some n) = library_exports all rs n (standard n)
 -- a unit imports what this one does
 pub record ImportsAs (spelled : LibraryName → List ℕ) (c : code_source.UnitSource) (p : Prepared) : Type 0 where
   pub kind : kind_as c.kind ≡ p.placed.source.kind
+  pub forms : p.forms ≡ forms_of c.forms
   pub specs : AllMatch (IsSpec spelled) c.imports p.specs
 
 -- a fault of a set

@@ -7,9 +7,11 @@ ghost use Rattle.scheme_model.specs.Program.{UnitResult, names_of_unit};
 ghost use Rattle.scheme_model.specs.Diagnostics.{bytes_of, hiding_diagnostics};
 ghost use Rattle.scheme_model.specs.Substitution.{Table};
 ghost use Rattle.syntax_tree.specs.Meant.{AreEntries};
-ghost use Rattle.core_tree.specs.Units.{AreDefinitions, defined_by, definitions_from};
+ghost use Rattle.scheme_model.specs.UnitExpansion.{Formed};
+ghost use Rattle.syntax_tree.specs.declared.trees.Work.{Work as TreeWork};
+ghost use Rattle.core_tree.specs.Units.{AreDefinitions, FormsStand, defined_by, definitions_from};
 ghost use Rattle.unit_imports.specs.Defined.{AreKnown, FindsNames, hidden_at, named_all, named_as, symbol_at, symbol_in, written_symbol};
-ghost use Rattle.unit_imports.specs.Hiding.{hidden_found};
+ghost use Rattle.unit_imports.specs.Hiding.{has_fault, hidden_found};
 ghost use Rattle.document_units.specs.Findings.{Adds};
 ghost use Rattle.unit_imports.specs.EntriesMeant.{HaveMeaning};
 ghost use Rattle.document_units.specs.Places.{AreFoundIn, ArePlaces, CanPlace, spans_of};
@@ -141,12 +143,13 @@ fn add_name(
     Ok(())
 }
 
-/// Adds the definitions that hide an import, the latest first.
+/// Adds the definitions that hide an import, the latest first. What a form with a fault defines isn't told.
 pub fn add_hiding(
     alloc: Global,
     symbols: &Symbols,
     places: Places<'_>,
     unit: u32,
+    forms: &[UnitForm],
     defined: &[(u32, Binder)],
     joined: &Joined,
     findings: &mut Vec<Finding>,
@@ -156,14 +159,28 @@ pub fn add_hiding(
     requires places { CanPlace places }
     ensures inside { AreFoundIn (length places.entry.documents.now) findings.old.items → OnOk result (AreFoundIn (length places.entry.documents.now) findings.new.items) }
     ensures exact { (rs : List Read) (us : List UnitResult) (table : Table) (es : List model.Entry) → ArePlaces places.entry rs us → AreDefinitions symbols.now (reverse defined.now) (defined_by unit table) →
-        AreEntries symbols.now joined.now.entries.items es → OnOk result (Adds findings.old.items findings.new.items (hiding_diagnostics (bytes_of (spans_of rs) us) unit es table) []) }
+        AreEntries symbols.now joined.now.entries.items es → (work : TreeWork) (fs : List Formed) → FormsStand work unit 0 forms.now fs →
+        OnOk result (Adds findings.old.items findings.new.items (hiding_diagnostics (bytes_of (spans_of rs) us) unit fs es table) []) }
 {
     for (form, binder) in defined.iter().rev() {
+        if is_broken(forms, *form) {
+            continue;
+        }
         add_hidden(
             alloc, symbols, places, unit, *form, *binder, joined, findings,
         )?;
     }
     Ok(())
+}
+
+/// Whether the form with a number has a fault.
+fn is_broken(forms: &[UnitForm], number: u32) -> bool
+    ensures { result ≡ has_fault (slice_get forms.now number) }
+{
+    match forms.get(number as usize) {
+        None => false,
+        Some(form) => form.fault.is_some(),
+    }
 }
 
 /// Adds a definition, if it hides an import.

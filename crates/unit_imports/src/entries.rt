@@ -1,22 +1,20 @@
 //! What a unit imports (R7RS 5.2, 5.6.1), and what is wrong in its import sets.
 #![tactic(auto, using(crate::proofs::MeaningLaws::names_itself, crate::proofs::MeaningLaws::names_on, crate::proofs::MeaningLaws::mean_kept, crate::proofs::ImportLaws::exports_kept, crate::proofs::ImportLaws::groups_kept))]
 
-ghost use Rattle.std.specs.Prelude.{◌≡◌, ◌<◌, ◌&&◌, ◌++◌, ◌∷◌, ℕ, List, [], codes, map, reverse, length, Option, Some, Result, OnOk, IfOk, IfSome};
-ghost use Rattle.std.specs.List.{zip};
+ghost use Rattle.std.specs.Prelude.{◌≡◌, ◌<◌, ◌&&◌, ◌++◌, ◌∷◌, ℕ, List, [], map, not, reverse, length, Option, Some, Result, OnOk, IfOk, IfSome};
+ghost use Rattle.std.specs.List.{list_any, zip};
 ghost use Rattle.std.specs.Option.{option_map};
 ghost use Rattle.std.specs.BTreeMap.{get_by_text};
 ghost use Rattle.scheme_model.specs.Requirements.{LibraryName};
-ghost use Rattle.scheme_model.specs.Declarations.{is_headed};
 ghost use Rattle.scheme_model.specs.StandardLibraries.{standard};
 ghost use Rattle.scheme_model.specs.Entries as model;
 ghost use Rattle.scheme_model.specs.Program as program;
-ghost use Rattle.scheme_model.specs.Program.{standard_entry, is_program, is_empty, import_all, specs_from, specs_in, unit_entries};
-ghost use Rattle.scheme_model.specs.Diagnostics.{Bytes, bytes_of, clash_diagnostics, import_fault, set_diagnostics, unit_at};
+ghost use Rattle.scheme_model.specs.Program.{standard_entry, is_import, is_program, import_all, result_at, specs_from, specs_in, unit_entries};
+ghost use Rattle.scheme_model.specs.Diagnostics.{Bytes, bytes_of, bytes_or, clash_diagnostics, import_fault, set_diagnostics};
 ghost use Rattle.syntax_tree.specs.Names.{Names, KeepsNames};
 ghost use Rattle.syntax_tree.specs.Meant.{AreEntries, IsEntry};
 ghost use Rattle.core_tree.specs.Names.{AllMatch};
 ghost use Rattle.core_tree.specs.Units.{import_code, kind_as, set_errors, set_forms};
-ghost use Rattle.datum_reader.specs.Views.{datum_of};
 ghost use Rattle.library_table.specs.UnitsRead.{form_of, forms_of};
 ghost use Rattle.import_sets.specs.Sets.{FailsAs, IsSet, IsSetOf, TellsApart};
 ghost use Rattle.unit_imports.specs.Joining.{AreApart, GroupsMean, GroupsStand};
@@ -27,13 +25,13 @@ ghost use Rattle.document_units.specs.Readings.{Read, span_seen};
 ghost use Rattle.unit_imports.specs.Imports.{SetMeans};
 ghost use Rattle.unit_imports.specs.SetsGiven.{AreEntriesIf, AreLibraries, ComesTo, ImportsAs, IsSetFault, exports_at, set_exports, with_set};
 ghost use Rattle.document_units.specs.UnitSources.{IsSpec};
-ghost use Rattle.document_units.specs.Wording.{worded};
+ghost use Rattle.scheme_model.specs.DiagnosticTexts.{worded};
 
 use crate::expanded::Expanded;
 use crate::joining::{Joined, join_all, origin};
 use base_library::standard;
 use datum_reader::Datum;
-use datum_reader::heads::{behind_first, is_headed};
+use datum_reader::heads::behind_first;
 use document_units::breaking::{Firsts, library_in};
 use document_units::findings::{At, Finding};
 use document_units::form_numbers::number_of;
@@ -42,6 +40,7 @@ use import_sets::copy::copy_of_entries;
 use import_sets::firsts::place_for;
 use import_sets::gather::Gathering;
 use import_sets::{ImportFault, ImportSet, entries_of};
+use library_table::declared::{has_import, is_import};
 use library_table::{ImportSpec, UnitForm, UnitSource};
 use ls_base::{Items, Mem, Memory, Span, Text};
 use scheme_model::Occ;
@@ -95,9 +94,9 @@ enum SetGives {
 
 /// Whether a unit is a program without an import, which has `(scheme base)`.
 pub fn imports_nothing(source: &UnitSource) -> bool
-    ensures { result ≡ (is_program (kind_as source.now.kind) && is_empty source.now.imports) }
+    ensures { result ≡ (is_program (kind_as source.now.kind) && not (list_any is_import (forms_of source.now.forms))) }
 {
-    source.kind == UnitKind::Program && source.imports.as_slice().is_empty()
+    source.kind == UnitKind::Program && !has_import(source.forms.as_slice())
 }
 
 /// What a unit imports.
@@ -122,7 +121,7 @@ pub fn given_to(
         IfOk result (λ given. AreEntries work.new.symbols given.joined.entries.items (unit_entries all rs p).0) }
     ensures told { (spelled : LibraryName → List ℕ) → (all : List program.Placed) → (rs : List program.UnitResult) →
         AreLibraries work.old.symbols libraries.entry spelled all rs → (p : program.Prepared) → ImportsAs spelled source.now p →
-        (reads : List Read) → (us : List program.UnitResult) → ArePlaces places.entry reads us → (r : program.UnitResult) → unit_at us unit ≡ Some r → r.unit ≡ p →
+        (reads : List Read) → (us : List program.UnitResult) → ArePlaces places.entry reads us → (r : program.UnitResult) → result_at us unit ≡ Some r → r.unit ≡ p →
         IfOk result (λ given. all_told given.findings.items ≡ set_diagnostics (bytes_of (spans_of reads) us) p.placed.document p.specs (unit_entries all rs p).1) }
     ensures errors { (spelled : LibraryName → List ℕ) → (all : List program.Placed) → (rs : List program.UnitResult) →
         AreLibraries work.old.symbols libraries.entry spelled all rs → (p : program.Prepared) → ImportsAs spelled source.now p → p.forms ≡ forms_of source.now.forms → p.specs ≡ specs_from p.number 0 p.forms →
@@ -167,7 +166,7 @@ fn gathered(
         IfOk result (λ g. GroupsStand symbols.new g.groups.items (unit_entries all rs p).0) }
     ensures told { (spelled : LibraryName → List ℕ) → (all : List program.Placed) → (rs : List program.UnitResult) →
         AreLibraries symbols.old libraries.entry spelled all rs → (p : program.Prepared) → ImportsAs spelled source.now p →
-        (reads : List Read) → (us : List program.UnitResult) → ArePlaces places.entry reads us → (r : program.UnitResult) → unit_at us unit ≡ Some r → r.unit ≡ p →
+        (reads : List Read) → (us : List program.UnitResult) → ArePlaces places.entry reads us → (r : program.UnitResult) → result_at us unit ≡ Some r → r.unit ≡ p →
         OnOk result (all_told findings.new.items
         ≡ all_told findings.old.items ++ set_diagnostics (bytes_of (spans_of reads) us) p.placed.document p.specs (unit_entries all rs p).1) }
     ensures errors { (spelled : LibraryName → List ℕ) → (all : List program.Placed) → (rs : List program.UnitResult) →
@@ -316,13 +315,6 @@ fn add_set_forms(all: &mut Vec<u32>, number: u32, form: &UnitForm) -> Mem<()>
         return Ok(add_for_each(all, number, behind_first(&form.datum))?);
     }
     Ok(())
-}
-
-/// Whether a form is an import declaration.
-fn is_import(form: &UnitForm) -> bool
-    ensures { result ≡ (form.now.declared && is_headed (codes "import") (datum_of form.now.datum)) }
-{
-    form.declared && is_headed("import", &form.datum)
 }
 
 /// Adds a number for each of some data.
@@ -560,14 +552,15 @@ fn add_fault(
     ensures inside { AreFoundIn (length places.entry.documents.now) findings.old.items → OnOk result (AreFoundIn (length places.entry.documents.now) findings.new.items) }
     ensures told { (f : model.ImportFault) → IsSetFault fault f → (reads : List Read) → (us : List program.UnitResult) → ArePlaces places.entry reads us →
         OnOk result (all_told findings.new.items ≡ all_told findings.old.items
-        ++ import_fault (bytes_of (spans_of reads) us) (record { document = set.entry.document; span = span_seen set.entry.spec.now.span }) f) }
+        ++ import_fault (bytes_of (spans_of reads) us) (record { document = set.entry.document; span = span_seen set.entry.spec.now.span }) f ∷ []) }
     ensures errors { (f : model.ImportFault) → IsSetFault fault f → OnOk result (errors_in findings.new.items ≡ errors_in findings.old.items ++ (import_code f, set.entry.form) ∷ []) }
 {
     let whole = set.at(set.spec.span);
     match &fault {
         ImportFault::NotThere(name) => {
-            let at = place_if(places, name.occ);
-            Ok(add_found(alloc, findings, at, set.form, 51, name.name.as_str())?)
+            let at = place_or(places, name.occ, whole);
+            let name = name.name.as_str();
+            Ok(add_found(alloc, findings, Some(at), set.form, 51, name)?)
         }
         ImportFault::Clash(name) => Ok(add_found(
             alloc,
@@ -599,15 +592,16 @@ pub fn add_found(
     Ok(())
 }
 
-/// The bytes of an occurrence, where there is one.
-pub fn place_if(places: Places<'_>, occ: Option<Occ>) -> Option<At>
-    requires { CanPlace places }
-    ensures inside { 0 < length places.entry.documents.now → IsAtIn (length places.entry.documents.now) result }
+/// The bytes of an occurrence, and these where there is none.
+fn place_or(places: Places<'_>, occ: Option<Occ>, found: At) -> At
+    requires places { CanPlace places }
+    requires found { found.document < length places.documents.now }
+    ensures inside { result.document < length places.entry.documents.now }
     ensures exact { (reads : List Read) → (us : List program.UnitResult) → ArePlaces places.entry reads us →
-        option_map bytes_at result ≡ option_map (bytes_of (spans_of reads) us) occ }
+        bytes_at result ≡ bytes_or (bytes_of (spans_of reads) us) (bytes_at found) occ }
 {
     match occ {
-        None => None,
-        Some(occ) => Some(places.at(occ)),
+        None => found,
+        Some(occ) => places.at(occ),
     }
 }

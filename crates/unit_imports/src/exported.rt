@@ -1,28 +1,26 @@
 //! What a unit exports (R7RS 5.6.1), and what is wrong in its exports.
-ghost use Rattle.std.specs.Prelude.{◌≡◌, ◌<◌, ◌++◌, ◌∷◌, [], ℕ, List, length, slice_get, Option, Some, OnOk, IfOk};
+ghost use Rattle.std.specs.Prelude.{◌≡◌, ◌<◌, ◌++◌, ◌∷◌, [], ℕ, List, length, Option, Some, OnOk, IfOk};
 ghost use Rattle.std.specs.Option.{option_map};
 ghost use Rattle.scheme_model.specs.Entries as model;
 ghost use Rattle.scheme_model.specs.Program as program;
 ghost use Rattle.scheme_model.specs.Diagnostics.{bytes_of, export_diagnostics};
 ghost use Rattle.syntax_tree.specs.Names.{Names};
 ghost use Rattle.syntax_tree.specs.Meant.{AreEntries};
-ghost use Rattle.core_tree.specs.Units.{export_errors, form_at};
+ghost use Rattle.core_tree.specs.Units.{export_errors};
 ghost use Rattle.library_table.specs.Exports.{IsFault};
 ghost use Rattle.library_table.specs.Sources.{AreExports};
 ghost use Rattle.library_table.specs.declared.fault.LibraryFault.TheVariants as faults;
-ghost use Rattle.library_table.specs.declared.units.ExportSpec.{ExportSpec as Spec};
 ghost use Rattle.unit_imports.specs.Defined.{FindsNames};
 ghost use Rattle.document_units.specs.Findings.{all_told, errors_in};
 ghost use Rattle.unit_imports.specs.EntriesMeant.{HaveMeaning};
 ghost use Rattle.document_units.specs.Places.{AreFoundIn, ArePlaces, CanPlace, spans_of};
 ghost use Rattle.document_units.specs.Readings.{Read};
 
-use crate::entries::{add_found, place_if};
+use crate::entries::add_found;
 use document_units::findings::Finding;
 use document_units::places::Places;
 use library_table::{ExportFault, ExportSpec, LibraryFault, UnitSource, exports_of};
 use ls_base::{Items, Mem, Memory, Text};
-use scheme_model::Occ;
 use std::alloc::Global;
 use syntax_tree::units::Entry;
 
@@ -30,6 +28,7 @@ use syntax_tree::units::Entry;
 pub fn exports_given(
     alloc: Global,
     places: Places<'_>,
+    unit: u32,
     source: &UnitSource,
     names: &[Entry],
     findings: &mut Vec<Finding>,
@@ -41,7 +40,7 @@ pub fn exports_given(
         IfOk result (λ entries. AreEntries table entries (program.export_all find [] xs).entries) }
     ensures told { (table : Names) → (find : List ℕ → Option model.Entry) → FindsNames table names.now find → (xs : List program.ExportSpec) → AreExports source.now.exports xs →
         (reads : List Read) → (us : List program.UnitResult) → ArePlaces places.entry reads us → OnOk result (all_told findings.new.items
-        ≡ all_told findings.old.items ++ export_diagnostics (bytes_of (spans_of reads) us) (program.export_all find [] xs).faults) }
+        ≡ all_told findings.old.items ++ export_diagnostics (bytes_of (spans_of reads) us) unit (program.export_all find [] xs).faults) }
     ensures errors { (table : Names) → (find : List ℕ → Option model.Entry) → FindsNames table names.now find → (xs : List program.ExportSpec) → AreExports source.now.exports xs →
         OnOk result (errors_in findings.new.items ≡ errors_in findings.old.items ++ export_errors (program.export_all find [] xs).faults) }
     ensures findings { AreFoundIn (length places.entry.documents.now) findings.old.items → OnOk result (AreFoundIn (length places.entry.documents.now) findings.new.items) }
@@ -52,15 +51,16 @@ pub fn exports_given(
     }
     let exports = exports_of(alloc, source, names)?;
     for fault in exports.faults.as_slice() {
-        add_fault(alloc, places, specs, fault, findings)?;
+        add_fault(alloc, places, unit, specs, fault, findings)?;
     }
     Ok(exports.entries)
 }
 
-/// Adds the fault of an export, at its external name.
+/// Adds the fault of an export, at its external name, or its declaration's first token.
 fn add_fault(
     alloc: Global,
     places: Places<'_>,
+    unit: u32,
     specs: &[ExportSpec],
     fault: &ExportFault,
     findings: &mut Vec<Finding>,
@@ -70,34 +70,19 @@ fn add_fault(
     ensures inside { AreFoundIn (length places.entry.documents.now) findings.old.items → OnOk result (AreFoundIn (length places.entry.documents.now) findings.new.items) }
     ensures told { (xs : List program.ExportSpec) → AreExports specs.now xs → (f : program.ExportFault) → IsFault xs fault.now f →
         (reads : List Read) → (us : List program.UnitResult) → ArePlaces places.entry reads us →
-        OnOk result (all_told findings.new.items ≡ all_told findings.old.items ++ export_diagnostics (bytes_of (spans_of reads) us) (f ∷ [])) }
+        OnOk result (all_told findings.new.items ≡ all_told findings.old.items ++ export_diagnostics (bytes_of (spans_of reads) us) unit (f ∷ [])) }
     ensures errors { (xs : List program.ExportSpec) → AreExports specs.now xs → (f : program.ExportFault) → IsFault xs fault.now f →
         OnOk result (errors_in findings.new.items ≡ errors_in findings.old.items ++ export_errors (f ∷ [])) }
 {
     let Some((code, name)) = told(fault) else {
         return Ok(());
     };
-    let occ = outer_place(specs, fault.place);
-    let form = form_of(occ);
-    let at = place_if(places, occ);
-    Ok(add_found(alloc, findings, at, form, code, name.as_str())?)
-}
-
-/// The form of an occurrence, and the first where there is none.
-fn form_of(occ: Option<Occ>) -> u32
-    ensures { result ≡ form_at occ }
-{
-    match occ {
-        Some(occ) => occ.form,
-        None => 0,
-    }
-}
-
-/// Where the external name of the export at a place stands.
-fn outer_place(specs: &[ExportSpec], place: u32) -> Option<Occ>
-    ensures { (c : Spec) → slice_get specs.now place ≡ Some c → result ≡ c.outer.occ }
-{
-    specs.get(place as usize)?.outer.occ
+    let Some(spec) = specs.get(fault.place as usize) else {
+        return Ok(());
+    };
+    let at = places.at_or_form(spec.outer.occ, unit, spec.form);
+    let name = name.as_str();
+    Ok(add_found(alloc, findings, Some(at), spec.form, code, name)?)
 }
 
 /// The code of a fault, and what it names.

@@ -7,3 +7,4 @@ pub mod expanded;
 pub mod exported;
 mod joining;
 pub mod names;
+pub mod seconds;

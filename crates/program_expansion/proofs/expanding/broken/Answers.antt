@@ -1,7 +1,7 @@
 -- The finding stands in a document.
 use Rattle.std.proofs.Common.{◌≡◌, List, [], ◌∷◌, ◌++◌, length, sym, ap, ◌∙◌, subst}
 use Rattle.scheme_model.specs.Diagnostics.{whole_fault}
-use Rattle.core_tree.specs.Units.{whole_code}
+use Rattle.scheme_model.specs.Program.{whole_code}
 use Rattle.document_units.specs.declared.listing.WholeFault.{WholeFault}
 use Rattle.document_units.specs.declared.findings.Finding.{Finding}
 use Rattle.document_units.specs.Diagnosed.{IsWhole}

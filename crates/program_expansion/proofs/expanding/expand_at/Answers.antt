@@ -141,7 +141,7 @@ returns-clause-next g c = λ spelled us known x y order finds up.
     let long : length ls ≡ length us = ap (λ (xs : List (Option Expanded)). length xs) c.as_slice-expanded.ensures.value ∙ up.count in
     let lib : Libraries = record { firsts = c.args.firsts; expanded = c.as_slice-expanded.result } in
     let libraries : AreLibraries b.work.symbols lib spelled us gp.results = libraries_of spelled us gp b.work lib finds come long (done_at us known x (n ∷ y) order) in
-    let given = c.in_ok-given.ensures.exact spelled us gp.results libraries p (record { kind = source.kind; specs = source.imports refl }) in
+    let given = c.in_ok-given.ensures.exact spelled us gp.results libraries p (record { kind = source.kind; forms = source.forms; specs = source.imports refl }) in
     let goes = goes_in b mid gp c.in_ok-given.ensures.trees c.in_ok-given.ensures.names c.told_apart.ensures.idents c.told_apart.ensures.symbols up.goes in
     let expands = c.in_ok-came.ensures.expands spelled us known gp p (unit_entries us gp.results p) up.knows goes refl source (libraries_kept b.work.symbols mid.symbols c.in_ok-given.ensures.names lib spelled us gp.results libraries) given in
     expanded_next spelled us known x y n order b c.args.units.now es up h at whole now _ c.in_ok-came.came (c.in_ok-came.ensures.libraries known up.knows)
@@ -176,14 +176,14 @@ returns-clause-finds g c = λ spelled us known x y order finds up reads ends hea
     let long : length ls ≡ length us = ap (λ (xs : List (Option Expanded)). length xs) c.as_slice-expanded.ensures.value ∙ up.count in
     let lib : Libraries = record { firsts = c.args.firsts; expanded = c.as_slice-expanded.result } in
     let libraries : AreLibraries b.work.symbols lib spelled us gp.results = libraries_of spelled us gp b.work lib finds come long (done_at us known x (n ∷ y) order) in
-    let given = c.in_ok-given.ensures.exact spelled us gp.results libraries p (record { kind = source.kind; specs = source.imports refl }) in
+    let given = c.in_ok-given.ensures.exact spelled us gp.results libraries p (record { kind = source.kind; forms = source.forms; specs = source.imports refl }) in
     let goes = goes_in b mid gp c.in_ok-given.ensures.trees c.in_ok-given.ensures.names c.told_apart.ensures.idents c.told_apart.ensures.symbols up.goes in
     let places : ArePlaces (record { documents = c.args.documents; heads = c.as_slice-heads.result }) reads ends =
     record { heads = subst (λ (ks : List Head). AreHeads reads 0 ks ends) (sym c.as_slice-heads.ensures.value) heads; spans = tokens } in
     let result = results n turn.unit turn.there in
     let told : AreSetsFound reads ends p (unit_entries us gp.results p).1 c.in_ok-given.given.findings.items = record {
-      told = c.in_ok-given.ensures.told spelled us gp.results libraries p (record { kind = source.kind; specs = source.imports refl }) reads ends places result.0 result.1 result.2;
-      errors = c.in_ok-given.ensures.errors spelled us gp.results libraries p (record { kind = source.kind; specs = source.imports refl }) source.forms refl;
+      told = c.in_ok-given.ensures.told spelled us gp.results libraries p (record { kind = source.kind; forms = source.forms; specs = source.imports refl }) reads ends places result.0 result.1 result.2;
+      errors = c.in_ok-given.ensures.errors spelled us gp.results libraries p (record { kind = source.kind; forms = source.forms; specs = source.imports refl }) source.forms refl;
     } in
     let mine = c.in_ok-came.ensures.finds spelled known gp p (unit_entries us gp.results p) up.knows goes refl source given reads ends result.0 places result.1 result.2 told in
     expanded_found spelled us known x y n order b c.args.units.now es up h at reads ends found whole c.in_ok-came.came mine

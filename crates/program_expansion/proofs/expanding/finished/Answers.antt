@@ -2,7 +2,7 @@
 use Rattle.std.proofs.Common.{◌≡◌, ℕ, List, [], refl, sym, ap, ◌∙◌, subst}
 use Rattle.std.specs.Prelude.{reverse}
 use Rattle.scheme_model.specs.Diagnostics.{bytes_of, export_diagnostics, form_diagnostics, hiding_diagnostics, is_empty}
-use Rattle.scheme_model.specs.Program.{Prepared, export_all, names_of_unit}
+use Rattle.scheme_model.specs.Program.{Prepared, export_all, names_of_unit, with_refused}
 use Rattle.syntax_tree.specs.declared.units.Entry.{Entry}
 use Rattle.core_tree.specs.Units.{AreDefinitions, FormsStand, definitions_from, defined_by, export_errors, form_errors}
 use Rattle.core_tree.specs.declared.cores.Binder.{Binder}
@@ -75,8 +75,8 @@ returns-clause-came c = λ spelled us q p imports fs own source libraries are ma
     let names = c.in_ok-names.names.items in
     let used = c.in_ok-used.ensures.exact spelled us q.units libraries p.specs (source.imports refl) find (subst (λ (es : List Entry). FindsNames old.symbols es find) (sym c.as_slice-3.ensures.value) finds) p.exports source.exports source.single in
     let exports = c.in_ok-exports.ensures.exact new.symbols find (subst (λ (es : List Entry). FindsNames new.symbols es find) (sym c.as_slice-4.ensures.value) (finds_kept old.symbols new.symbols keeps names find finds)) p.exports source.exports in
-    came_of us q p imports fs new _ unit own (entries_kept old.symbols new.symbols keeps c.args.given.joined.entries.items imports.0 are) (forms_on old new trees keeps unit c.args.forms fs 0 stand) many
-    (definitions_kept old new trees keeps (reverse (definitions_from 0 c.args.forms)) (defined_by unit q.table) told) used exports
+    came_of us q p imports fs new _ unit own (entries_kept old.symbols new.symbols keeps c.args.given.joined.entries.items imports.0 are) (forms_on old new trees keeps unit c.args.forms (with_refused p.number 0 p.forms fs) 0 stand) many
+    (definitions_kept old new trees keeps (reverse (definitions_from 0 c.args.forms)) (defined_by unit q.table) told) used exports (c.in_ok-seconds.ensures spelled p.specs (source.imports refl))
 
 pub returns-clause-finds : goal.returns-clause-finds
 returns-clause-finds c = λ spelled q p imports fs own source are stand told reads ends r places at unit_is sets.
@@ -87,6 +87,7 @@ returns-clause-finds c = λ spelled q p imports fs own source are stand told rea
     let trees = same_trees old new c.names_used.ensures.trees keeps in
     let bytes = bytes_of (spans_of reads) ends in
     let find = names_of_unit q.table unit imports.0 in
+    let all = with_refused p.number 0 p.forms fs in
     let f0 = c.args.given.findings.items in
     let f1 = c.exports_given.new.findings.items in
     let f2 = c.add_faults.new.findings.items in
@@ -99,16 +100,16 @@ returns-clause-finds c = λ spelled q p imports fs own source are stand told rea
     let finds = c.in_ok-names.ensures.finds q.table (subst (λ (bs : List (ℕ × Binder)). AreDefinitions old.symbols (reverse bs) (defined_by unit q.table)) (sym is) told) imports.0 are in
     let named = subst (λ (es : List Entry). FindsNames old.symbols es find) (sym c.as_slice-4.ensures.value) finds in
     let xfaults = (export_all find [] p.exports).faults in
-    let exports : Adds f0 f1 (export_diagnostics bytes xfaults) (export_errors xfaults) =
+    let exports : Adds f0 f1 (export_diagnostics bytes unit xfaults) (export_errors xfaults) =
     record { told = c.in_ok-exports.ensures.told old.symbols find named p.exports source.exports reads ends places; errors = c.in_ok-exports.ensures.errors old.symbols find named p.exports source.exports } in
-    let forms = subst (λ (cs : List UnitForm). FormsStand old unit 0 cs fs) (sym c.as_slice-slice.ensures) stand in
-    let faults = c.in_ok-add_faults.ensures.exact reads ends old fs places keeps forms in
+    let forms = subst (λ (cs : List UnitForm). FormsStand old unit 0 cs all) (sym c.as_slice-slice.ensures) stand in
+    let faults = c.in_ok-add_faults.ensures.exact reads ends old all places keeps forms in
     let hiding = c.in_ok-add_hiding.ensures.exact reads ends q.table imports.0 places
     (subst (λ (bs : List (ℕ × Binder)). AreDefinitions new.symbols (reverse bs) (defined_by unit q.table)) (sym is_too) (definitions_kept old new trees keeps (reverse (definitions_from 0 c.args.forms)) (defined_by unit q.table) told))
-    (entries_kept old.symbols new.symbols keeps c.args.given.joined.entries.items imports.0 are) in
-    let unbound = c.in_ok-add_unbound_if.ensures.exact reads ends old unit fs places keeps forms in
-    let none = c.in_ok-add_no_import.ensures.exact spelled reads ends r places at (subst (λ (x : Prepared). ImportsAs spelled c.args.source.now x) (sym unit_is) (record { kind = source.kind; specs = source.imports refl })) in
+    (entries_kept old.symbols new.symbols keeps c.args.given.joined.entries.items imports.0 are) old all forms in
+    let unbound = c.in_ok-add_unbound_if.ensures.exact reads ends old unit all places keeps forms in
+    let none = c.in_ok-add_no_import.ensures.exact spelled reads ends r places at (subst (λ (x : Prepared). ImportsAs spelled c.args.source.now x) (sym unit_is) (record { kind = source.kind; forms = source.forms; specs = source.imports refl })) in
     all_found reads ends q p imports fs f0 f1 f2 f3 f4 f5 c.none_placed-sets_are_good.result sets
-    (subst (λ n. Adds f0 f1 (export_diagnostics bytes (export_all (names_of_unit q.table n imports.0) [] p.exports).faults) (export_errors (export_all (names_of_unit q.table n imports.0) [] p.exports).faults)) (sym own) exports)
-    (subst (λ n. Adds f1 f2 (form_diagnostics bytes n fs) (form_errors fs)) (sym own) faults) (subst (λ n. Adds f2 f3 (hiding_diagnostics bytes n imports.0 q.table) []) (sym own) hiding)
+    (subst (λ n. Adds f0 f1 (export_diagnostics bytes n (export_all (names_of_unit q.table n imports.0) [] p.exports).faults) (export_errors (export_all (names_of_unit q.table n imports.0) [] p.exports).faults)) (sym own) exports)
+    (subst (λ n. Adds f1 f2 (form_diagnostics bytes n all) (form_errors all)) (sym own) faults) (subst (λ n. Adds f2 f3 (hiding_diagnostics bytes n all imports.0 q.table) []) (sym own) hiding)
     (c.none_placed-sets_are_good.ensures ∙ ap (λ (xs : List Finding). is_empty (all_told xs)) c.as_slice.ensures.value) unbound (subst (λ (x : Prepared). Adds f4 f5 (no_import_diagnostics (spans_of reads) x) []) unit_is none)

@@ -16,9 +16,9 @@ returns-in-Ok-clause-passes g c = λ known ls s notes t knows stands counts for.
     let b = c.args.bench.now in let d = c.declare_form in let n = c.args.number in
     let k : Bench = record { work = d.new.work; region = b.region; scope = d.new.units } in
     let p = declared known n t notes s in
-    subst (λ (f : Option FormFault). PassesTo b k s.unit n s p (record { budget = d.new.budget; trace = d.new.trace; aside = c.in-Ok.aside; fault = f })) (sym c.requires.blank.fault)
+    subst (λ (f : Option FormFault). PassesTo b k s.unit n s p (record { budget = d.new.budget; trace = d.new.trace; uses = c.in-Ok.left.uses; aside = c.in-Ok.left.items; fault = f })) (sym c.requires.blank.fault)
     (passes_ok b k d.ensures.keeps d.ensures.names refl n s p (declared_stays n known t notes s) (declared_binds known n t notes s) c.args.blank.budget d.new.budget ls d.new.trace
-    c.in-Ok.aside c.in-Ok.ensures.space (c.in-Ok.ensures.declared known ls s notes t knows stands counts for))
+    c.in-Ok.left c.in-Ok.ensures.space (c.in-Ok.ensures.declared known ls s notes t knows stands counts for))
 
 pub returns-in-Ok-clause-stays : goal.returns-in-Ok-clause-stays
 returns-in-Ok-clause-stays g c =
@@ -33,7 +33,7 @@ returns-in_ok-form_fault-in-Err-clause-passes g c = λ known ls s notes t knows 
     let k : Bench = record { work = d.new.work; region = b.region; scope = d.new.units } in
     let p = declared known n t notes s in
     passes_at b k d.ensures.keeps d.ensures.names refl n s p (declared_stays n known t notes s) (declared_binds known n t notes s) c.args.blank.budget d.new.budget ls d.new.trace
-    c.args.blank.aside e
+    c.args.blank.uses c.args.blank.aside e
     (subst (λ (x : ExpandFault). Declares b.work k.work b.region b.scope k.scope c.args.blank.budget d.new.budget ls n d.new.trace (Err x) p) c.in_ok-form_fault-in-Err.ensures (c.in-Err.ensures.declared known ls s notes t knows stands counts for))
 
 pub returns-in_ok-form_fault-in-Err-clause-stays : goal.returns-in_ok-form_fault-in-Err-clause-stays

@@ -2,7 +2,7 @@
 use Rattle.std.proofs.Common.{◌≡◌, ℕ, Option, Some, length, refl, sym, ap, ◌∙◌, subst}
 use Rattle.std.specs.Prelude.{unwrap_or}
 use Rattle.std.proofs.lemmas.Option.{same_Some, slice_get_read}
-use Rattle.scheme_model.specs.Diagnostics.{unit_at}
+use Rattle.scheme_model.specs.Program.{result_at}
 use Rattle.arrow_index.specs.Formed.{IsFormed}
 use Rattle.document_units.specs.Broken.{told as told_as}
 use Rattle.document_units.specs.declared.listing.WholeFault.{WholeFault}
@@ -28,4 +28,4 @@ returns-clause-told c = λ rs p h r f places at head breaks broken.
     let there = c.index-places-place.result in
     let same : there ≡ h = same_Some there h (sym (slice_get_read hs (length hs) c.args.place there refl c.requires.place c.index-places-place.is) ∙ head) in
     let fault : c.unwrap_or-fault.result ≡ told_as f = c.unwrap_or-fault.ensures ∙ (ap (λ (x : Head). unwrap_or x.fault fault.TooLarge) (sym c.index-places-place.is) ∙ ap (λ (x : Head). unwrap_or x.fault fault.TooLarge) same ∙ ap (λ (o : Option WholeFault). unwrap_or o fault.TooLarge) breaks) in
-    c.in_ok-broken.ensures.finds rs p r f places (ap (unit_at p.units) c.in_ok-unit.ensures ∙ at) broken fault
+    c.in_ok-broken.ensures.finds rs p r f places (ap (result_at p.units) c.in_ok-unit.ensures ∙ at) broken fault

@@ -2,7 +2,7 @@
 use Rattle.std.proofs.Common.{◌≡◌, ℕ, List, ◌∷◌, [], Option, ap, sym, ◌∙◌, subst}
 use Rattle.std.specs.BTreeMap.{insert_entry}
 use Rattle.document_units.specs.Diagnosed.{TellsStop}
-use Rattle.document_units.specs.Wording.{worded}
+use Rattle.scheme_model.specs.DiagnosticTexts.{worded}
 use Rattle.document_units.specs.declared.documents.Unread.{Unread}
 use Rattle.document_units.proofs.KeptLaws.{left_cmp}
 use Rattle.program_findings.proofs.diagnosing.tell_stop.Goals as goal

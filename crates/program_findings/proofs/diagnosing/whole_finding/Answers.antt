@@ -1,6 +1,6 @@
 use Rattle.std.proofs.Common.{◌≡◌, ◌∙◌, Some, [], ap}
 use Rattle.document_units.specs.declared.findings.Finding.{Finding}
-use Rattle.document_units.specs.Wording.{worded}
+use Rattle.scheme_model.specs.DiagnosticTexts.{worded}
 use Rattle.document_units.specs.Places.{spans_of, start_of}
 use Rattle.program_findings.proofs.WholeLaws.{whole_adds}
 use Rattle.program_findings.proofs.diagnosing.whole_finding.Goals as goal

@@ -1,10 +1,10 @@
 use Rattle.std.proofs.Common.{◌∷◌, [], ◌++◌, ◌∙◌, length, ap, sym, subst, arith}
-use Rattle.scheme_model.specs.Diagnostics.{bytes_of}
+use Rattle.scheme_model.specs.Diagnostics.{bytes_of, bytes_or}
 use Rattle.scheme_model.specs.Entries as model
 use Rattle.core_tree.specs.Units.{import_code}
 use Rattle.import_sets.specs.declared.fault.ImportFault.{ImportFault}
 use Rattle.document_units.specs.Findings.{all_told, errors_in}
-use Rattle.document_units.specs.Places.{spans_of}
+use Rattle.document_units.specs.Places.{bytes_at, spans_of}
 use Rattle.unit_imports.specs.SetsGiven.{IsSetFault}
 use Rattle.document_units.specs.declared.findings.At.{At}
 use Rattle.document_units.proofs.FoundLaws.{at_in}
@@ -13,8 +13,9 @@ use Rattle.unit_imports.proofs.entries.add_fault.Goals as goal
 
 pub returns-in-NotThere-clause-told : goal.returns-in-NotThere-clause-told
 returns-in-NotThere-clause-told c = λ f is reads us places.
-    missing_told (all_told c.args.findings.now.items) _ c.place_if-at.result c.in-NotThere.name _ (bytes_of (spans_of reads) us) (seen_at c.args.set.document c.args.set.spec.now.span) f
-    (subst (λ (g : ImportFault). IsSetFault g f) c.in-NotThere.is is) (c.place_if-at.ensures.exact reads us places) c.as_str.ensures c.in_ok-add_found-in-NotThere.ensures.told
+    missing_told (all_told c.args.findings.now.items) _ c.place_or-at.result c.in-NotThere.name _ (bytes_of (spans_of reads) us) (seen_at c.args.set.document c.args.set.spec.now.span) f
+    (subst (λ (g : ImportFault). IsSetFault g f) c.in-NotThere.is is)
+    (c.place_or-at.ensures.exact reads us places ∙ ap (λ (a : At). bytes_or (bytes_of (spans_of reads) us) (bytes_at a) c.in-NotThere.name.occ) c.at-whole.ensures) c.as_str-name.ensures c.in_ok-add_found-in-NotThere.ensures.told
 
 pub returns-in-Clash-clause-told : goal.returns-in-Clash-clause-told
 returns-in-Clash-clause-told c = λ f is reads us places.
@@ -27,7 +28,7 @@ returns-in-BadSet-clause-told c = λ f is reads us places.
     (subst (λ (g : ImportFault). IsSetFault g f) c.in-BadSet.is is) c.at-whole.ensures c.in_ok-add_found-in-BadSet.ensures.told
 
 pub returns-in-NotThere-clause-inside : goal.returns-in-NotThere-clause-inside
-returns-in-NotThere-clause-inside c = λ found. c.in_ok-add_found-in-NotThere.ensures.inside (length c.args.places.documents.now) (c.place_if-at.ensures.inside (omega arith)) found
+returns-in-NotThere-clause-inside c = λ found. c.in_ok-add_found-in-NotThere.ensures.inside (length c.args.places.documents.now) (at_in (length c.args.places.documents.now) c.place_or-at.result c.place_or-at.ensures.inside) found
 
 pub returns-in-Clash-clause-inside : goal.returns-in-Clash-clause-inside
 returns-in-Clash-clause-inside c = λ found.

@@ -1,5 +1,5 @@
 use Rattle.std.proofs.Common.{[], ◌∷◌, ◌++◌, append-nil, ap, ◌∙◌, arith}
-use Rattle.std.specs.Prelude.{codes}
+use Rattle.scheme_model.specs.DiagnosticTexts.{worded}
 use Rattle.document_units.specs.declared.findings.At.{At}
 use Rattle.document_units.specs.Findings.{all_told, diagnostic, errors_in}
 use Rattle.document_units.proofs.FoundLaws.{at_in}
@@ -13,7 +13,7 @@ returns-clause-inside c = λ count lt found.
 pub returns-clause-told : goal.returns-clause-told
 returns-clause-told c = λ s spelled is bytes.
     unknown_told bytes c.args.set.document spelled c.args.set.spec.now s is (all_told c.args.findings.now.items) _
-    (c.in_ok-add_found.ensures.told ∙ ap (λ (a : At). all_told c.args.findings.now.items ++ diagnostic a 102 (codes "library not known") ∷ []) c.at-at.ensures)
+    (c.in_ok-add_found.ensures.told ∙ ap (λ (a : At). all_told c.args.findings.now.items ++ diagnostic a 102 (worded 102 []) ∷ []) c.at-at.ensures)
 
 pub returns-clause-errors : goal.returns-clause-errors
 returns-clause-errors c = c.in_ok-add_found.ensures.errors ∙ append-nil (errors_in c.args.findings.now.items)

@@ -23,7 +23,7 @@ loop-fault-preserved c = record {
   told = λ xs are gs faults reads us places.
       let i = c.loop-fault.fault-index in
       let g = fault_at xs c.as_slice-fault-items.result.now gs faults i c.fault-item.result (item_at c.as_slice-fault-items.result.now i c.fault-item.result (omega arith) c.fault-item.is) in
-      faults_next (bytes_of (spans_of reads) us) gs i g.fault (all_told c.loop-fault.findings.items) (all_told c.add_fault.new.findings.items) _ g.there (c.in_ok-add_fault.ensures.told xs are g.fault g.is reads us places)
+      faults_next (bytes_of (spans_of reads) us) c.args.unit gs i g.fault (all_told c.loop-fault.findings.items) (all_told c.add_fault.new.findings.items) _ g.there (c.in_ok-add_fault.ensures.told xs are g.fault g.is reads us places)
       (c.loop-fault.invariant.told xs are gs faults reads us places);
   errors = λ xs are gs faults.
       let i = c.loop-fault.fault-index in
@@ -46,7 +46,7 @@ returns-clause-told c = λ table find finds xs are reads us places.
     let faults = (c.in_ok-exports.ensures table finds.stand finds.are find finds.finds xs are).faults in
     let there : AreFaults xs c.as_slice-fault-items.result.now gs = subst (λ (l : List code_fault.ExportFault). AreFaults xs l gs) (sym c.as_slice-fault-items.ensures) faults in
     let specs : AreExports c.as_slice-specs.result.now xs = subst (λ (l : List code_export.ExportSpec). AreExports l xs) (sym c.as_slice-specs.ensures) are in
-    faults_done (bytes_of (spans_of reads) us) gs c.loop-fault.fault-index (all_told c.loop-fault.findings.items) _
+    faults_done (bytes_of (spans_of reads) us) c.args.unit gs c.loop-fault.fault-index (all_told c.loop-fault.findings.items) _
     (drop_past gs c.loop-fault.fault-index (let e = as_many_faults xs c.as_slice-fault-items.result.now gs there in omega arith)) (c.loop-fault.invariant.told xs specs gs there reads us places)
 
 pub returns-clause-errors : goal.returns-clause-errors

@@ -14,6 +14,6 @@ abbrev pub invariant-loop-fault : goal.invariant-loop-fault
 invariant-loop-fault l = record {
   inside : AreFoundIn (length l.places.documents.now) l.initial.findings.items → AreFoundIn (length l.places.documents.now) l.findings.items;
   told : (xs : List ExportSpec) → AreExports l.specs xs → (gs : List ExportFault) → AreFaults xs l.fault-items gs → (reads : List Read) (us : List UnitResult) → ArePlaces l.places reads us →
-      all_told l.findings.items ++ export_diagnostics (bytes_of (spans_of reads) us) (drop l.fault-index gs) ≡ all_told l.initial.findings.items ++ export_diagnostics (bytes_of (spans_of reads) us) gs;
+      all_told l.findings.items ++ export_diagnostics (bytes_of (spans_of reads) us) l.unit (drop l.fault-index gs) ≡ all_told l.initial.findings.items ++ export_diagnostics (bytes_of (spans_of reads) us) l.unit gs;
   errors : (xs : List ExportSpec) → AreExports l.specs xs → (gs : List ExportFault) → AreFaults xs l.fault-items gs → errors_in l.findings.items ++ export_errors (drop l.fault-index gs) ≡ errors_in l.initial.findings.items ++ export_errors gs;
 }
