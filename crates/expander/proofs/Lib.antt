@@ -10,7 +10,6 @@ pub mod ReadLaws  -- How an expression is read
 pub mod RowLaws  -- Steps in a row, one for each of a list
 pub mod AfterLaws  -- What the code has after a call that was made
 pub mod CoreLaws  -- The parts of expressions, each by the steps that the code takes
-pub mod SettleLaws  -- Macro uses at the head of an expression, one after another
 pub mod PassSteps  -- A form that is gone through
 pub mod WeightLaws  -- A core form that splices or defines hands on fewer nodes, or defines and binds fewer names, than it has nodes
 pub mod PassLaws  -- How steps of forms that are gone through follow one another
@@ -24,6 +23,7 @@ pub mod RulesHeads  -- The heads of the rules of local macros, tested one after 
 pub mod KeepLaws  -- Local macros that are kept under their binders, one after another
 pub mod LocalDefs  -- Local macros with their leaves, one after another
 pub mod UseSteps  -- A macro use gives a tree of at most 4,194,304 nodes, and defines nothing
+pub mod SettleLaws  -- Macro uses at the head of an expression, one after another
 pub mod UsePass  -- A macro use that is gone through
 pub mod CorePass  -- A core form that is gone through
 pub mod ShapePass  -- A core form that splices or defines, by the shape that the code has of it
