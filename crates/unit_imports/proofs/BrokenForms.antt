@@ -64,4 +64,4 @@ module _ (work : Work) (unit : ℕ) where
       or_same (is_broken m f) (list_any (is_broken m) fs) (not_here m f (λ same. omega arith)) ∙ broken_from (suc k) cs fs h.2 n m (omega arith)
 
 pub broken_same : (work : Work) (unit : ℕ) (cs : List UnitForm) (fs : List Formed) → FormsStand work unit 0 cs fs → (n : ℕ) → list_any (is_broken n) fs ≡ has_fault (slice_get cs n)
-broken_same work unit cs fs h n = broken_from work unit 0 cs fs h n n refl
+broken_same work unit cs fs h n = broken_from work unit 0 cs fs h n n (omega arith)
