@@ -1,5 +1,5 @@
 -- Each definition is among the names, and what is found of all is the definition's.
-use Rattle.std.proofs.Common.{◌≡◌, ◌++◌, [], append-nil, length, map, reverse, slice_get, Bool, sym, ap, ◌∙◌}
+use Rattle.std.proofs.Common.{◌++◌, append-nil, length, map, reverse, slice_get, Bool, sym, ap, ◌∙◌}
 use Rattle.std.proofs.lemmas.List.{map_push}
 use Rattle.std.proofs.lemmas.Iterator.Adapters.{YieldsList-from_rev_slice}
 use Rattle.std.proofs.lemmas.Iterator.Consumers.{YieldsList-turn, YieldsList-end}

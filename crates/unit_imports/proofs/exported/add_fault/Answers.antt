@@ -1,17 +1,14 @@
-use Rattle.std.proofs.Common.{◌≡◌, ℕ, List, Option, Some, None, slice_get, [], ◌∷◌, ◌++◌, length, refl, sym, ap, ◌∙◌, subst}
+use Rattle.std.proofs.Common.{◌≡◌, ℕ, List, Option, Some, None, slice_get, [], ◌∷◌, ◌++◌, length, sym, ap, ◌∙◌, subst}
 use Rattle.std.proofs.lemmas.Option.{same_Some}
 use Rattle.document_units.proofs.Nths.{get_some, get_none}
-use Rattle.scheme_model.specs.declared.Occ.{Occ}
-use Rattle.scheme_model.specs.ExpansionFaults.{Named}
-use Rattle.scheme_model.specs.Program as program
-use Rattle.scheme_model.specs.Program.{ExportFault, NotDefined, SameExport}
-use Rattle.scheme_model.specs.Diagnostics.{bytes_of, export_bytes, export_diagnostics, or_start}
+use Rattle.scheme_model.specs.Program.{NotDefined, SameExport}
+use Rattle.scheme_model.specs.Diagnostics.{bytes_of, export_diagnostics, or_start}
 use Rattle.library_table.specs.Exports.{IsFault}
 use Rattle.library_table.specs.Sources.{IsExport}
 use Rattle.library_table.specs.declared.units.ExportSpec.{ExportSpec}
 use Rattle.core_tree.specs.Units.{export_errors}
 use Rattle.document_units.specs.Findings.{all_told, error_by, errors_in}
-use Rattle.document_units.specs.Places.{bytes_at, spans_of}
+use Rattle.document_units.specs.Places.{spans_of}
 use Rattle.document_units.proofs.FoundLaws.{at_in}
 use Rattle.unit_imports.proofs.ExportLaws.{spec_at, told_again, told_undefined}
 use Rattle.unit_imports.proofs.exported.add_fault.Goals as goal

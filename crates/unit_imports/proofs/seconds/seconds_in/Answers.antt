@@ -1,8 +1,6 @@
-use Rattle.std.proofs.Common.{List, ℕ, ◌++◌, ◌∙◌, sym, ap, subst, arith}
+use Rattle.std.proofs.Common.{List, ◌++◌, ◌∙◌, sym, ap, arith}
 use Rattle.std.proofs.lemmas.List.{take_all}
 use Rattle.scheme_model.specs.Program.{ImportSpec}
-use Rattle.scheme_model.specs.declared.Occ.{Occ}
-use Rattle.scheme_model.specs.Spelling.{second_places}
 use Rattle.document_units.specs.UnitSources.{IsSpec}
 use Rattle.unit_imports.proofs.GivenLaws.{item_at, set_as}
 use Rattle.unit_imports.proofs.Matched.{as_many, matched_at}
