@@ -9,8 +9,8 @@ pub mod BaseLaws  -- What `(scheme base)` gives
 pub mod ToldLaws  -- What is found, and the diagnostics that it is
 pub mod GivenLaws  -- What import sets of the code come to is what the definition's sets come to
 pub mod Collecting  -- Units that are put together, one more
-pub mod HidingLaws  -- What is found of definitions that hide imports tells the definition's diagnostics
 pub mod ExportLaws  -- Exports of the code stand for some, and what is wrong in them is the definition's
 pub mod UsedLaws  -- Identifiers of imports and exports that are added one after another
 pub mod BrokenForms  -- The forms of the code that have a fault are those that are broken
+pub mod HidingLaws  -- What is found of definitions that hide imports tells the definition's diagnostics
 mod SecondLaws  -- The second identifiers of the pairs of import sets, one set more at a time
