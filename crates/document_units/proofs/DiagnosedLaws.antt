@@ -1,7 +1,5 @@
 -- What is found in forms tells the definition's diagnostics.
-use Rattle.std.proofs.Common.{◌≡◌, ℕ, zero, suc, ◌⊎◌, inl, inr, List, [], ◌∷◌, ◌++◌, append-nil, append_assoc, map, filter, Option, Some, None, Result, Ok, Err, Bool, true, false, cond, slice_get, drop, length, ◌≤◌, drop_of_length-le, refl, sym, ap, ◌∙◌, subst}
-use Rattle.std.specs.List.{flat_map}
-use Rattle.std.specs.Option.{option_map}
+use Rattle.std.proofs.Common.{◌≡◌, ℕ, zero, suc, inl, inr, List, [], ◌∷◌, ◌++◌, append-nil, append_assoc, map, filter, Option, Some, None, Result, Ok, Err, true, cond, slice_get, drop, length, ◌≤◌, drop_of_length-le, refl, sym, ap, ◌∙◌, subst}
 use Rattle.std.proofs.lemmas.Grind.{flat_map-append}
 use Rattle.std.proofs.lemmas.List.Elements.{filter-append}
 use Rattle.scheme_model.proofs.RenamingLaws.{map-append}

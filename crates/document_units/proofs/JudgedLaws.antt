@@ -6,7 +6,6 @@ use Rattle.std.specs.Option.{option_map}
 use Rattle.std.proofs.lemmas.Bool.{ltb-true, and_parts, cases_lt}
 use Rattle.std.proofs.lemmas.Bool.Decides.{nat_tests}
 use Rattle.std.proofs.lemmas.Option.{same_Some, slice_get_within}
-use Rattle.scheme_model.specs.Order as order
 use Rattle.scheme_model.specs.Data.{Datum}
 use Rattle.scheme_model.specs.Declarations.{UnitForm}
 use Rattle.scheme_model.specs.Requirements.{LibraryName}
@@ -14,8 +13,7 @@ use Rattle.scheme_model.specs.Program as model
 use Rattle.scheme_model.specs.Program.{Placed, Prepared, prepared, prepare, is_in, imports_at, reached, on_circle, name_if, unit_named, imported_units, is_repeated, declared_fault, fault_before, specs_from, forms_or_none}
 use Rattle.core_tree.specs.Units.{imports_of}
 use Rattle.import_sets.proofs.ReachLaws.{IsWithin, same_test, reached_closed, reached_start, reached_within}
-use Rattle.base_library.specs.Texts.{names_of, SpellsStandard}
-use Rattle.base_library.proofs.TextLaws.{by_name}
+use Rattle.base_library.specs.Texts.{SpellsStandard}
 use Rattle.library_table.specs.declared.units.UnitSource as code
 use Rattle.library_table.specs.Sources.{IsUnit, AreUnitsFrom, AreUnits}
 use Rattle.library_table.specs.Named.{place_named}

@@ -4,7 +4,6 @@ use Rattle.std.specs.Option as std
 use Rattle.std.specs.Option.{option_map}
 use Rattle.scheme_model.specs.Order as order
 use Rattle.scheme_model.specs.Requirements.{LibraryName}
-use Rattle.scheme_model.specs.StandardLibraries.{standard}
 use Rattle.scheme_model.specs.Program.{unless_standard}
 use Rattle.base_library.specs.Texts.{names_of, SpellsStandard}
 use Rattle.base_library.proofs.TextLaws.{by_name}

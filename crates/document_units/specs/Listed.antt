@@ -7,7 +7,7 @@ use Rattle.ls_base.specs.declared.encoding.Encoding.{Encoding}
 use Rattle.ls_base.specs.declared.answers.Diagnostic as told
 use Rattle.ls_base.specs.declared.places.Range.{Range}
 use Rattle.scheme_model.specs.Faults.{Stop}
-use Rattle.scheme_model.specs.Diagnostics.{Diagnostic, all_diagnostics, diagnostics_of}
+use Rattle.scheme_model.specs.Diagnostics.{Diagnostic, diagnostics_of}
 use Rattle.document_store.specs.Texts.{Document}
 use Rattle.document_units.specs.Findings.{in_document, kept}
 use Rattle.scheme_model.specs.DiagnosticTexts.{worded}

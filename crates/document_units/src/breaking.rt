@@ -14,7 +14,7 @@ ghost use Rattle.document_units.specs.Broken.{broken_by, broken_if, Breaks, Brea
 ghost use Rattle.document_units.specs.Turned.{turns};
 
 use crate::known::has_standard_name;
-use crate::listing::{WholeFault, Head, Units};
+use crate::listing::{Head, Units, WholeFault};
 use import_sets::ImportSet;
 use import_sets::firsts::{place_for, place_in};
 use library_table::firsts::first_places;

@@ -40,8 +40,7 @@ blank_is b unit form s d none fresh =
     record {
       counts = none_count b.work s form d.budget d.trace fresh none.uses none.nodes none.locals none.definitions none.keywords none.met;
       set_aside =
-          subst (λ (f : Option FormFault). IsSetAside b.work b.region unit form d f (Ok nothing_left)) (sym none.fault)
-          (
+          subst (λ (f : Option FormFault). IsSetAside b.work b.region unit form d f (Ok nothing_left)) (sym none.fault) (
             subst (λ (us : List code_waiting.WaitingUse). AllMatch (WaitsFor b.work unit form) us []) (sym none.waiting) tt,
             subst (λ (xs : List code_item.Item). AllMatch (ItemFor b.work b.region unit form) xs []) (sym none.aside) tt,
           );

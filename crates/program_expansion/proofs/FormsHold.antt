@@ -287,7 +287,7 @@ module _ (known : Known) (unit : ℕ) (ts : List (ℕ × Tree Identifier)) (s : 
       whole = λ few. (
         a.gone,
         a.on few ∙ ap (λ (fs : List UnitForm). behind a.gone (to_come (forms_over (Written unit) unit place fs) a.base.held.notes a.base.held.state)) (all few)
-        ∙ ap (λ (rs : List (LeftOf Identifier)). (Some rs, a.base.held.state)) (append-nil a.gone),
+            ∙ ap (λ (rs : List (LeftOf Identifier)). (Some rs, a.base.held.state)) (append-nil a.gone),
         a.forms,
       );
     };

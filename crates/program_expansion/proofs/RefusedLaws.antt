@@ -136,11 +136,11 @@ module _ (work : Work) (unit : ℕ) where
 
   numbers_above : (k : ℕ) (fs : List UnitForm) (n : ℕ) (ns : List ℕ) → numbers_of (form_trees unit k fs) ≡ n ∷ ns → k ≤ n
   numbers_above k [] n ns h = absurd cc
-  numbers_above k (f ∷ fs) n ns h = go f.declared refl
+  numbers_above k (f ∷ fs) n ns h = go f.declared refl (λ e. numbers_above (suc k) fs n ns e)
     where
-      go : (b : Bool) → f.declared ≡ b → k ≤ n
-      go true e = let le = numbers_above (suc k) fs n ns (sym (trees_declared unit k f fs e) ∙ h) in omega arith
-      go false e = let both : k ∷ numbers_of (form_trees unit (suc k) fs) ≡ n ∷ ns = sym (trees_expanded unit k f fs e) ∙ h in let same : k ≡ n = cc in omega arith
+      go : (b : Bool) → f.declared ≡ b → (numbers_of (form_trees unit (suc k) fs) ≡ n ∷ ns → suc k ≤ n) → k ≤ n
+      go true e more = let le = more (sym (trees_declared unit k f fs e) ∙ h) in omega arith
+      go false e more = let both : k ∷ numbers_of (form_trees unit (suc k) fs) ≡ n ∷ ns = sym (trees_expanded unit k f fs e) ∙ h in let same : k ≡ n = cc in omega arith
 
   blank_here : (k : ℕ) (c : code.UnitForm) (cs : List code.UnitForm) (fs : List Formed) → FormsStand work unit k (c ∷ cs) fs → ((n : ℕ) (ns : List ℕ) → formed_numbers fs ≡ n ∷ ns → suc k ≤ n) → IsBlank c × FormsStand work unit (suc k) cs fs
   blank_here k c cs [] h later = (h.0, h.1)

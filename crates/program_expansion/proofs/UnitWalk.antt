@@ -1,6 +1,7 @@
 -- Work on a unit one form or item at a time: it ended there, or goes on with those behind it (R7RS 5.1, 5.3).
 use Rattle.std.proofs.Common.{◌≡◌, ℕ, Bool, true, false, cond, List, [], ◌∷◌, ◌++◌, append_assoc, map, Option, Some, None, Result, Ok, Err, refl, sym, ap, ◌∙◌}
 use Rattle.std.specs.Prelude.{nat_lt}
+use Rattle.std.proofs.lemmas.Option.{same_Some}
 use Rattle.scheme_model.specs.Trees.{Tree}
 use Rattle.scheme_model.specs.Cores.{Parts, Part, part, no_parts}
 use Rattle.scheme_model.specs.Steps.{Broken, Step}
@@ -39,6 +40,9 @@ parts_twice (p ∷ ps) qs r = ap (with_part p) (parts_twice ps qs r)
 pub before_twice : {S : Type 0} (ps qs : List Part) (q : Option (Result Parts Broken) × S) → before ps (before qs q) ≡ before (ps ++ qs) q
 before_twice ps qs (None, t) = refl
 before_twice ps qs (Some r, t) = ap (λ s. (Some s, t)) (parts_twice ps qs r)
+
+none_isnt : {X : Type 0} (x : X) → ◌≡◌ {A = Option X} None (Some x) → ⊥
+none_isnt x h = let z : None ≡ Some x = h in absurd cc
 
 abbrev pub numbers_given : List Formed → List ℕ
 numbers_given fs = map (λ (f : Formed). f.form) fs
@@ -111,35 +115,36 @@ module _ {E A L S : Type 0} (ops : Ops E A L S) (fs : List ℕ) where
 
   -- the forms that are given have the numbers of those that were left
   pub finished_numbers : (f : Expander E A S) (e : E) (rs : List (LeftOf A)) (s t : S) (given : List Formed) → finished ops f e fs rs s ≡ (Some given, t) → numbers_given given ≡ numbers_left rs
-  finished_numbers f e [] s t given h = let z : ◌≡◌ {A = Option (List Formed) × S} (Some [], s) (Some given, t) = h in let same : [] ≡ given = cc in ap numbers_given (sym same)
-  finished_numbers f e (r ∷ rs) s t given h = go (form_parts ops f e fs r.1 (ops.turn r.0 s)) refl
+  finished_numbers f e [] s t given h = ap numbers_given (sym (same_Some {A = List Formed} [] given (ap (λ (q : Option (List Formed) × S). q.0) h)))
+  finished_numbers f e (r ∷ rs) s t given h = go (form_parts ops f e fs r.1 (ops.turn r.0 s)) refl (λ u v rest j. finished_numbers f e rs u v rest j)
     where
-      go : (w : Option (Result Parts Broken) × S) → form_parts ops f e fs r.1 (ops.turn r.0 s) ≡ w → numbers_given given ≡ numbers_left (r ∷ rs)
-      go (None, u) k = let z : ◌≡◌ {A = Option (List Formed) × S} (None, u) (Some given, t) = sym (finish_over f e r rs s u k) ∙ h in absurd cc
-      go (Some parts, u) k = more (finished ops f e fs rs u) refl
+      go : (w : Option (Result Parts Broken) × S) → form_parts ops f e fs r.1 (ops.turn r.0 s) ≡ w → ((u v : S) (rest : List Formed) → finished ops f e fs rs u ≡ (Some rest, v) → numbers_given rest ≡ numbers_left rs) → numbers_given given ≡ numbers_left (r ∷ rs)
+      go (None, u) k again = absurd (none_isnt {X = List Formed} given (ap (λ (q : Option (List Formed) × S). q.0) (sym (finish_over f e r rs s u k) ∙ h)))
+      go (Some parts, u) k again = more (finished ops f e fs rs u) refl
         where
           more : (q : Option (List Formed) × S) → finished ops f e fs rs u ≡ q → numbers_given given ≡ numbers_left (r ∷ rs)
-          more (None, v) j = let z : ◌≡◌ {A = Option (List Formed) × S} (None, v) (Some given, t) = sym (finish_on f e r rs s parts u k ∙ ap (behind (record { form = r.0; result = parts; counted = ops.counted u } ∷ [])) j) ∙ h in absurd cc
+          more (None, v) j = absurd (none_isnt {X = List Formed} given (ap (λ (q : Option (List Formed) × S). q.0) (sym (finish_on f e r rs s parts u k ∙ ap (behind (record { form = r.0; result = parts; counted = ops.counted u } ∷ [])) j) ∙ h)))
           more (Some rest, v) j =
               let z : ◌≡◌ {A = Option (List Formed) × S} (Some (record { form = r.0; result = parts; counted = ops.counted u } ∷ rest), v) (Some given, t) = sym (finish_on f e r rs s parts u k ∙ ap (behind (record { form = r.0; result = parts; counted = ops.counted u } ∷ [])) j) ∙ h in
-              let same : record { form = r.0; result = parts; counted = ops.counted u } ∷ rest ≡ given = cc in
-              sym (ap numbers_given same) ∙ ap (λ (ns : List ℕ). r.0 ∷ ns) (finished_numbers f e rs u v rest j)
+              let same : record { form = r.0; result = parts; counted = ops.counted u } ∷ rest ≡ given = same_Some {A = List Formed} (record { form = r.0; result = parts; counted = ops.counted u } ∷ rest) given (ap (λ (q : Option (List Formed) × S). q.0) z) in
+              sym (ap numbers_given same) ∙ ap (λ (ns : List ℕ). r.0 ∷ ns) (again u v rest j)
 
   -- what is left of forms has their numbers
   pub passed_numbers : (turns : ℕ) (e : E) (ts : List (ℕ × Tree A)) (notes : List (Note L)) (s t : S) (rs : List (LeftOf A)) → passes ops turns e fs ts notes s ≡ (Some rs, t) → numbers_left rs ≡ map (λ (u : ℕ × Tree A). u.0) ts
-  passed_numbers turns e [] notes s t rs h = let z : ◌≡◌ {A = Option (List (LeftOf A)) × S} (Some [], s) (Some rs, t) = h in let same : [] ≡ rs = cc in ap numbers_left (sym same)
-  passed_numbers turns e (u ∷ ts) notes s t rs h = go (nat_lt max_total (nodes_in ops fs (gone turns e u ts notes s).1)) refl
+  passed_numbers turns e [] notes s t rs h = ap numbers_left (sym (same_Some {A = List (LeftOf A)} [] rs (ap (λ (q : Option (List (LeftOf A)) × S). q.0) h)))
+  passed_numbers turns e (u ∷ ts) notes s t rs h =
+      let q = gone turns e u ts notes s in go (nat_lt max_total (nodes_in ops fs q.1)) refl (λ v rest j. passed_numbers turns e ts q.0.notes q.1 v rest j)
     where
       p : Pass A L × S
       p = gone turns e u ts notes s
 
-      go : (b : Bool) → nat_lt max_total (nodes_in ops fs p.1) ≡ b → numbers_left rs ≡ u.0 ∷ map (λ (v : ℕ × Tree A). v.0) ts
-      go true many = let z : ◌≡◌ {A = Option (List (LeftOf A)) × S} (None, p.1) (Some rs, t) = sym (pass_over turns e u ts notes s many) ∙ h in absurd cc
-      go false few = more (passes ops turns e fs ts p.0.notes p.1) refl
+      go : (b : Bool) → nat_lt max_total (nodes_in ops fs p.1) ≡ b → ((v : S) (rest : List (LeftOf A)) → passes ops turns e fs ts p.0.notes p.1 ≡ (Some rest, v) → numbers_left rest ≡ map (λ (w : ℕ × Tree A). w.0) ts) → numbers_left rs ≡ u.0 ∷ map (λ (v : ℕ × Tree A). v.0) ts
+      go true many again = absurd (none_isnt {X = List (LeftOf A)} rs (ap (λ (q : Option (List (LeftOf A)) × S). q.0) (sym (pass_over turns e u ts notes s many) ∙ h)))
+      go false few again = more (passes ops turns e fs ts p.0.notes p.1) refl
         where
           more : (q : Option (List (LeftOf A)) × S) → passes ops turns e fs ts p.0.notes p.1 ≡ q → numbers_left rs ≡ u.0 ∷ map (λ (v : ℕ × Tree A). v.0) ts
-          more (None, v) j = let z : ◌≡◌ {A = Option (List (LeftOf A)) × S} (None, v) (Some rs, t) = sym (pass_on turns e u ts notes s few ∙ ap (behind ((u.0, p.0.left) ∷ [])) j) ∙ h in absurd cc
+          more (None, v) j = absurd (none_isnt {X = List (LeftOf A)} rs (ap (λ (q : Option (List (LeftOf A)) × S). q.0) (sym (pass_on turns e u ts notes s few ∙ ap (behind ((u.0, p.0.left) ∷ [])) j) ∙ h)))
           more (Some rest, v) j =
               let z : ◌≡◌ {A = Option (List (LeftOf A)) × S} (Some ((u.0, p.0.left) ∷ rest), v) (Some rs, t) = sym (pass_on turns e u ts notes s few ∙ ap (behind ((u.0, p.0.left) ∷ [])) j) ∙ h in
-              let same : (u.0, p.0.left) ∷ rest ≡ rs = cc in
-              sym (ap numbers_left same) ∙ ap (λ (ns : List ℕ). u.0 ∷ ns) (passed_numbers turns e ts p.0.notes p.1 v rest j)
+              let same : (u.0, p.0.left) ∷ rest ≡ rs = same_Some {A = List (LeftOf A)} ((u.0, p.0.left) ∷ rest) rs (ap (λ (q : Option (List (LeftOf A)) × S). q.0) z) in
+              sym (ap numbers_left same) ∙ ap (λ (ns : List ℕ). u.0 ∷ ns) (again v rest j)

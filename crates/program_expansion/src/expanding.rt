@@ -44,8 +44,7 @@ use core_tree::units::UnitForm;
 use document_units::breaking::{Firsts, break_if};
 use document_units::documents::Document;
 use document_units::findings::{Finding, none_placed};
-use document_units::listing::Units;
-use document_units::listing::WholeFault;
+use document_units::listing::{Units, WholeFault};
 use document_units::places::Places;
 use expander::Imported;
 use library_table::UnitSource;
@@ -294,14 +293,7 @@ fn finished(
     let used = names_used(alloc, work, libraries, unit, source, names.as_slice())?;
     let seconds = seconds_in(alloc, source.imports.as_slice())?;
     let symbols = &work.symbols;
-    let exports = exports_given(
-        alloc,
-        places,
-        unit,
-        source,
-        names.as_slice(),
-        &mut findings,
-    )?;
+    let exports = exports_given(alloc, places, unit, source, names.as_slice(), &mut findings)?;
     add_faults(alloc, symbols, places, unit, slice, &mut findings)?;
     add_hiding(
         alloc,

@@ -25,7 +25,9 @@ use core_tree::traces::{FormFault, Trace};
 use core_tree::units::{ExpandedItem, UnitForm};
 use datum_reader::seed;
 use document_units::form_numbers::number_of;
-use expander::{Budget, ExpandFault, Item, Left, UnitScope, WaitingUse, declare_form, expand_item, meet_uses};
+use expander::{
+    Budget, ExpandFault, Item, Left, UnitScope, WaitingUse, declare_form, expand_item, meet_uses,
+};
 use library_table::UnitForm as SourceForm;
 use ls_base::limits::MAX_UNIT_NODES;
 use ls_base::{Items, Mem, Memory, Steps};

@@ -39,7 +39,7 @@ use document_units::documents::{Document, read};
 use document_units::findings::{At, Finding, Sorted, errors};
 use document_units::form_numbers::number_of;
 use document_units::known::known;
-use document_units::listing::{WholeFault, Head, Units, list_units};
+use document_units::listing::{Head, Units, WholeFault, list_units};
 use document_units::places::Places;
 use expander::Libraries;
 use library_table::KnownLibraries;

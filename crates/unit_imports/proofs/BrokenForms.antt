@@ -1,6 +1,6 @@
 -- The forms of the code that have a fault are those that are broken.
-use Rattle.std.proofs.Common.{◌≡◌, ℕ, zero, suc, ◌+◌, ◌<◌, ◌⊎◌, inl, inr, Bool, true, false, List, [], ◌∷◌, slice_get, Option, Some, None, Result, Ok, Err, refl, sym, ap, ◌∙◌, arith, eq-eqb, ne_eqb}
-use Rattle.std.specs.Prelude.{◌==◌, ◌&&◌, ◌||◌}
+use Rattle.std.proofs.Common.{◌≡◌, ℕ, zero, suc, ◌+◌, ◌<◌, inl, inr, Bool, true, false, List, [], ◌∷◌, slice_get, Option, Result, Ok, Err, refl, sym, ap, ◌∙◌, arith, eq-eqb, ne_eqb}
+use Rattle.std.specs.Prelude.{◌&&◌, ◌||◌}
 use Rattle.std.specs.List.{list_any}
 use Rattle.std.specs.Option.{is_some}
 use Rattle.scheme_model.specs.Cores.{Parts}
@@ -64,4 +64,4 @@ module _ (work : Work) (unit : ℕ) where
       or_same (is_broken m f) (list_any (is_broken m) fs) (not_here m f (λ same. omega arith)) ∙ broken_from (suc k) cs fs h.2 n m (omega arith)
 
 pub broken_same : (work : Work) (unit : ℕ) (cs : List UnitForm) (fs : List Formed) → FormsStand work unit 0 cs fs → (n : ℕ) → list_any (is_broken n) fs ≡ has_fault (slice_get cs n)
-broken_same work unit cs fs h n = broken_from work unit 0 cs fs h n n refl
+broken_same work unit cs fs h n = broken_from work unit 0 cs fs h n n (omega arith)

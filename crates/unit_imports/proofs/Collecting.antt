@@ -1,5 +1,5 @@
 -- Units that are put together, one more.
-use Rattle.std.proofs.Common.{◌≡◌, ℕ, zero, suc, ◌+◌, ◌<◌, ◌≤◌, ◌⊎◌, inl, inr, List, [], ◌∷◌, ◌++◌, All, length, map, slice_get, slice_set, Option, Some, None, refl, sym, ap, ◌∙◌, subst, arith}
+use Rattle.std.proofs.Common.{◌≡◌, ℕ, zero, suc, ◌<◌, ◌⊎◌, inl, inr, List, [], ◌∷◌, ◌++◌, All, length, map, slice_get, slice_set, Option, Some, None, refl, sym, ap, ◌∙◌, subst, arith}
 use Rattle.std.proofs.lemmas.Option.{same_Some}
 use Rattle.syntax_tree.proofs.Places.{push_cases}
 use Rattle.core_tree.specs.Units.{IsBlank, FormsStand}
@@ -7,7 +7,7 @@ use Rattle.syntax_tree.specs.declared.trees.Work.{Work}
 use Rattle.core_tree.specs.declared.units.UnitForm.{UnitForm}
 use Rattle.core_tree.specs.declared.units.Unit as code
 use Rattle.library_table.specs.declared.units.UnitSource.{UnitSource}
-use Rattle.unit_imports.specs.Collected.{Has, IsNothing, HasNothing, HasCome, IsCollected}
+use Rattle.unit_imports.specs.Collected.{Has, IsNothing, HasCome, IsCollected}
 use Rattle.unit_imports.specs.declared.expanded.Expanded.{Expanded}
 use Rattle.document_units.specs.declared.listing.Head.{Head}
 

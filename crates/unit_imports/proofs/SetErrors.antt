@@ -1,13 +1,12 @@
 -- The Errors of import sets, each with the form that its set stands in.
-use Rattle.std.proofs.Common.{◌≡◌, ℕ, zero, suc, ◌+◌, ◌<◌, List, [], ◌∷◌, ◌++◌, append-nil, append_assoc, map, drop, length, slice_get, Bool, true, false, cond, Some, refl, sym, ap, ◌∙◌, subst, arith}
+use Rattle.std.proofs.Common.{◌≡◌, ℕ, zero, suc, ◌<◌, List, [], ◌∷◌, ◌++◌, append-nil, append_assoc, map, drop, length, slice_get, true, false, cond, Some, refl, sym, ap, ◌∙◌, arith}
 use Rattle.std.specs.Prelude.{reverse}
 use Rattle.std.specs.List.{zip}
 use Rattle.std.proofs.lemmas.List.{length-map, reverse-append}
 use Rattle.std.proofs.lemmas.Option.{same_Some}
 use Rattle.scheme_model.specs.Data.{Datum, place_of}
 use Rattle.scheme_model.specs.Declarations.{UnitForm, list_parts}
-use Rattle.scheme_model.specs.Entries as model
-use Rattle.scheme_model.specs.Program.{Placed, UnitResult, ImportSpec, SetResult, Unknown, Faulty, Gives, behind_first, is_import, import_all, spec_of, specs_in, specs_from}
+use Rattle.scheme_model.specs.Program.{ImportSpec, SetResult, Unknown, Faulty, Gives, behind_first, is_import, spec_of, specs_in, specs_from}
 use Rattle.core_tree.specs.Units.{set_errors, set_forms}
 use Rattle.datum_reader.specs.Views.{data_of}
 use Rattle.datum_reader.specs.declared.datum.Datum as code

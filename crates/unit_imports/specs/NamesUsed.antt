@@ -9,7 +9,6 @@ use Rattle.scheme_model.specs.Program.{ExportSpec}
 use Rattle.syntax_tree.specs.Names.{Names}
 use Rattle.syntax_tree.specs.Macros.{IsIdent}
 use Rattle.syntax_tree.specs.declared.meaning.Meaning as code_meaning
-use Rattle.syntax_tree.specs.declared.units.Entry.{Entry}
 use Rattle.syntax_tree.specs.declared.units.Origin.{Origin}
 use Rattle.core_tree.specs.Names.{AllMatch}
 use Rattle.core_tree.specs.Units.{IsName}

@@ -1,5 +1,5 @@
 -- The finding stands where the definition does.
-use Rattle.std.proofs.Common.{◌≡◌, ◌++◌, List, length, slice_get, ap, ◌∙◌}
+use Rattle.std.proofs.Common.{◌++◌, List, length, slice_get, ap, ◌∙◌}
 use Rattle.scheme_model.specs.Diagnostics.{bytes_of}
 use Rattle.unit_imports.specs.Defined.{hidden_at}
 use Rattle.document_units.specs.Places.{spans_of}

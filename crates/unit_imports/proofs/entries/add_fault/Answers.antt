@@ -20,7 +20,7 @@ returns-in-NotThere-clause-told c = λ f is reads us places.
 pub returns-in-Clash-clause-told : goal.returns-in-Clash-clause-told
 returns-in-Clash-clause-told c = λ f is reads us places.
     clash_fault_told (all_told c.args.findings.now.items) _ c.args.set.document c.args.set.spec.now.span c.at-whole.result c.in-Clash.name _ (bytes_of (spans_of reads) us) f
-    (subst (λ (g : ImportFault). IsSetFault g f) c.in-Clash.is is) c.at-whole.ensures c.as_str-in-Clash.ensures c.in_ok-add_found-in-Clash.ensures.told
+    (subst (λ (g : ImportFault). IsSetFault g f) c.in-Clash.is is) c.at-whole.ensures c.as_str.ensures c.in_ok-add_found-in-Clash.ensures.told
 
 pub returns-in-BadSet-clause-told : goal.returns-in-BadSet-clause-told
 returns-in-BadSet-clause-told c = λ f is reads us places.

@@ -1,4 +1,4 @@
-use Rattle.std.proofs.Common.{◌<◌, length, sym, ap, ◌∙◌, arith}
+use Rattle.std.proofs.Common.{sym, ap, ◌∙◌, arith}
 use Rattle.scheme_model.specs.Diagnostics.{bytes_of, bytes_or}
 use Rattle.document_units.specs.Places.{bytes_at, spans_of}
 use Rattle.unit_imports.proofs.entries.place_or.Goals as goal

@@ -1,4 +1,4 @@
-use Rattle.std.proofs.Common.{◌≡◌, ℕ, List, [], ◌∷◌, ◌++◌, ◌∙◌, append-nil, length, drop, refl, sym, ap, subst, arith}
+use Rattle.std.proofs.Common.{◌≡◌, ℕ, List, [], ◌∷◌, ◌++◌, ◌∙◌, append-nil, length, drop, sym, ap, subst, arith}
 use Rattle.std.specs.List.{zip}
 use Rattle.scheme_model.specs.Program.{ImportSpec, import_all}
 use Rattle.core_tree.specs.Names.{AllMatch}

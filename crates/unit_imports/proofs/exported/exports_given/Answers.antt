@@ -1,4 +1,4 @@
-use Rattle.std.proofs.Common.{◌≡◌, List, [], ◌+◌, ◌++◌, ◌∙◌, append-nil, length, drop, refl, sym, ap, subst, arith, add-one}
+use Rattle.std.proofs.Common.{List, [], ◌+◌, ◌++◌, ◌∙◌, append-nil, refl, sym, ap, subst, arith, add-one}
 use Rattle.scheme_model.specs.Entries as model
 use Rattle.scheme_model.specs.Program as program
 use Rattle.scheme_model.specs.Diagnostics.{bytes_of}

@@ -1,8 +1,6 @@
-use Rattle.std.proofs.Common.{List, ℕ, ◌++◌, ◌∙◌, sym, ap, subst, arith}
+use Rattle.std.proofs.Common.{List, ◌++◌, ◌∙◌, sym, ap, arith}
 use Rattle.std.proofs.lemmas.List.{take_all}
 use Rattle.scheme_model.specs.Program.{ImportSpec}
-use Rattle.scheme_model.specs.declared.Occ.{Occ}
-use Rattle.scheme_model.specs.Spelling.{second_places}
 use Rattle.document_units.specs.UnitSources.{IsSpec}
 use Rattle.unit_imports.proofs.GivenLaws.{item_at, set_as}
 use Rattle.unit_imports.proofs.Matched.{as_many, matched_at}
@@ -17,7 +15,7 @@ loop-spec-preserved c = λ spelled ss specs.
     let i = c.loop-spec.spec-index in
     let m = matched_at (IsSpec spelled) c.args.specs.now ss i c.spec-item.result specs (item_at c.args.specs.now i c.spec-item.result (omega arith) c.spec-item.is) in
     c.in_ok-add.ensures
-    ∙ (λ j. c.loop-spec.invariant spelled ss specs j ++ c.in_ok-second_places.ensures m.0.set (set_as spelled c.spec-item.result.now.set m.0.set m.2.set) j)
+    ∙ (λ j. c.loop-spec.invariant spelled ss specs j ++ c.in_ok-second_places.ensures m.0.set (set_as spelled c.spec-item.result.set m.0.set m.2.set) j)
     ∙ sym (seconds_more ss i m.0 m.1)
 
 pub returns : goal.returns
